@@ -1,0 +1,11 @@
+pub mod Digits
+pub mod IdentifierOctets
+pub mod Bound
+pub mod Arcs
+pub mod Buffers
+pub mod Outcome
+pub mod References
+pub mod DottedText
+pub mod Orders
+pub mod ArcLists
+pub mod TextReading

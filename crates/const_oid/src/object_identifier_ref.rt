@@ -1,0 +1,70 @@
+//! Borrowed identifiers.
+
+ghost use Rattle.std.specs.Prelude.{◌≡◌, ℕ, ◌<◌, ◌≤◌, true, is_ok, length, slice_get, Result, Ok, IfOk};
+ghost use Rattle.const_oid.specs.Bound.{Bound};
+ghost use Rattle.const_oid.specs.IdentifierOctets.{read_identifier};
+
+use crate::arcs::{self, Arcs};
+use crate::error::{Arc, Result};
+use crate::octets;
+
+/// An identifier by its octets, of which there may be any number.
+#[derive(Clone, Copy, PartialEq, Eq, PartialOrd, Ord, Hash)]
+pub struct ObjectIdentifierRef<'a> {
+    octets: &'a [u8],
+    ghost is_identifier: { is_ok (read_identifier Bound (length octets.now) octets.now) ≡ true },
+}
+
+impl<'a> ObjectIdentifierRef<'a> {
+    ghost use Rattle.std.specs.Result.{result_map_both};
+    ghost use Rattle.const_oid.specs.References.{reference_octets, reference_arcs, remaining_arcs};
+
+    /// The identifier that these octets spell (X.690 8.19).
+    pub fn from_bytes(ber: &'a [u8]) -> Result<Self>
+        ensures read { result_map_both reference_arcs (λ e. e) result ≡ read_identifier Bound (length ber.now) ber.now }
+        ensures octets { IfOk result (λ oid. reference_octets oid ≡ ber.now) }
+    {
+        octets::check(ber)?;
+        Ok(ObjectIdentifierRef { octets: ber })
+    }
+
+    /// The identifier of octets that are known to spell one.
+    #[inline]
+    pub(crate) fn trusted(octets: &'a [u8]) -> Self
+        requires { is_ok (read_identifier Bound (length octets.now) octets.now) ≡ true }
+        ensures { reference_octets result ≡ octets.now }
+    {
+        ObjectIdentifierRef { octets }
+    }
+
+    /// The octets.
+    #[inline]
+    pub fn as_bytes(&self) -> &'a [u8]
+        ensures octets { result.now ≡ reference_octets self.now }
+        ensures read { read_identifier Bound (length result.now) result.now ≡ Ok (reference_arcs self.now) }
+    {
+        self.octets
+    }
+
+    /// The arcs, in order.
+    #[inline]
+    pub fn arcs(&self) -> Arcs<'a>
+        ensures { remaining_arcs result ≡ reference_arcs self.now }
+    {
+        Arcs::of(self.octets)
+    }
+
+    /// The arc at this place, counted from 0, if there is one.
+    pub fn arc(&self, index: usize) -> Option<Arc>
+        ensures { result ≡ slice_get (reference_arcs self.now) index }
+    {
+        arcs::arc_at(self.octets, index)
+    }
+
+    /// How many arcs there are.
+    pub fn len(&self) -> usize
+        ensures { result ≡ length (reference_arcs self.now) }
+    {
+        arcs::count(self.octets)
+    }
+}

@@ -1,0 +1,9 @@
+mod Facts
+mod Windows
+mod TagNumbers
+mod Lengths
+mod Nested
+mod Contents
+mod Steps
+mod Lists
+mod Magnitudes

@@ -1,0 +1,50 @@
+//! Reading of all octets.
+
+ghost use Rattle.std.specs.Prelude.{◌≡◌, [], true, Ok, IfOk};
+ghost use Rattle.der_core_head.specs.Shapes.{Value, Spells};
+ghost use Rattle.der_core_head.specs.Spelling.{is_apart, are_enough};
+ghost use Rattle.der_core_head.specs.Grammar.{whole_at};
+ghost use Rattle.der_core_head.specs.Reading.{Gives};
+
+use crate::decode::Decode;
+use crate::reader::Reader;
+use crate::slice_reader::SliceReader;
+use der_core_head::{Error, ErrorKind};
+use std::alloc::Global;
+
+/// Reads all of the octets.
+#[tactic(auto, unfolding(der_core_head::specs::Grammar::whole_at))]
+fn read_whole<'a, T: Decode<'a, SliceReader<'a>>>(
+    alloc: Global,
+    bytes: &'a [u8],
+) -> Result<T, Error>
+    ensures { Gives (λ v. (T.plain v, [])) result (whole_at T.shape bytes.now) }
+{
+    let mut reader = SliceReader::new(bytes)?;
+    let value = T::decode(alloc, &mut reader)?;
+    if reader.is_finished() {
+        Ok(value)
+    } else {
+        Err(Error::from(ErrorKind::TrailingData))
+    }
+}
+
+/// The value that the octets spell, all of the octets.
+///
+/// # Errors
+/// `Overflow` for 2^32 octets or more, else the first fault from the left, `TrailingData` where
+/// octets are left behind the value, or `OutOfMemory`.
+pub fn from_der<'a, T: Decode<'a, SliceReader<'a>>>(
+    alloc: Global,
+    bytes: &'a [u8],
+) -> Result<T, Error>
+    // What is read is spelled so.
+    ensures spelled { is_apart T.shape ≡ true → IfOk result (λ v. Spells T.shape (T.plain v) bytes.now) }
+    // What is spelled so is read, unless memory runs out.
+    ensures only { (v : Value T.shape) → is_apart T.shape ≡ true → are_enough T.shape 64 ≡ true
+        → Spells T.shape v bytes.now → Gives T.plain result (Ok v) }
+    // Which fault it is.
+    ensures exact { Gives (λ v. (T.plain v, [])) result (whole_at T.shape bytes.now) }
+{
+    read_whole(alloc, bytes)
+}

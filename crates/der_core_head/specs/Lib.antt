@@ -1,0 +1,15 @@
+pub mod Octets
+pub mod Tags
+pub mod Heads
+pub mod Integers
+pub mod BitStrings
+pub mod NamedBits
+pub mod Dates
+pub mod Texts
+pub mod BmpStrings
+pub mod Leaves
+pub mod Shapes
+pub mod Spelling
+pub mod Grammar
+pub mod Writing
+pub mod Reading

@@ -1,0 +1,5 @@
+pub mod Seconds
+pub mod DateTimes
+pub mod Times
+pub mod BitStrings
+pub mod Ints

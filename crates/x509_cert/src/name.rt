@@ -1,0 +1,53 @@
+//! Names.
+
+ghost use Rattle.std.specs.Prelude.{◌≡◌};
+ghost use Rattle.der_core_head.specs.declared.tag.Tag.TheVariants.{Sequence};
+ghost use Rattle.der_core_head.specs.Shapes.{nested, done};
+ghost use Rattle.x509_cert.specs.Views.{name_plain};
+
+use der_core::{
+    DecodeFields, DecodeValue, Error, Fields, FixedTag, Header, Reader, ShapedValue, Tag,
+    read_fields,
+};
+use std::alloc::Global;
+
+/// A name (RFC 5280 4.1.2.4). The empty one is the only one that is read.
+///
+/// ```text
+/// Name ::= SEQUENCE { }
+/// ```
+#[derive(Clone, Copy, Debug, PartialEq, Eq)]
+pub struct Name;
+
+impl FixedTag for Name {
+    ghost fixed_tag = { Sequence };
+
+    fn tag() -> Tag {
+        Tag::Sequence
+    }
+}
+
+impl Fields for Name {
+    ghost fields = { done };
+
+    ghost fields_plain = { name_plain };
+}
+
+impl<'a, R: Reader<'a>> DecodeFields<'a, R> for Name {
+    fn decode_fields(alloc: Global, reader: &mut R) -> Result<Name, Error> {
+        let () = <()>::decode_fields(alloc, reader)?;
+        Ok(Name)
+    }
+}
+
+impl ShapedValue for Name {
+    ghost content = { nested done };
+
+    ghost value_plain = { name_plain };
+}
+
+impl<'a, R: Reader<'a>> DecodeValue<'a, R> for Name {
+    fn decode_value(alloc: Global, reader: &mut R, header: Header) -> Result<Name, Error> {
+        read_fields(alloc, reader, header)
+    }
+}
