@@ -9,7 +9,7 @@ ghost use Rattle.der_core_head.specs.Shapes.{leaf};
 use der_core::{
     DecodeValue, Error, ErrorKind, FixedTag, Header, Leaf, Reader, ShapedValue, Tag, decode_leaf,
 };
-use std::alloc::Global;
+use std::alloc::{AllocError, Global};
 use std::marker::Model;
 
 /// BIT STRING (X.690 8.6, 11.2): octets, of whose last one up to seven bits are unused and zero.
@@ -75,6 +75,20 @@ impl BitString {
                 tag: Tag::BitString,
             }))
         }
+    }
+
+    /// A copy.
+    ///
+    /// # Errors
+    /// Want of memory.
+    pub fn clone(&self, alloc: Global) -> Result<BitString, AllocError>
+        ensures { IfOk result (λ b. b ≡ self.now) }
+    {
+        let bytes = self.bytes.as_slice().to_vec(alloc)?;
+        Ok(BitString {
+            unused_bits: self.unused_bits,
+            bytes,
+        })
     }
 
     /// The number of unused bits, from 0 to 7.

@@ -1,7 +1,8 @@
 -- What contracts see of the types: the plain values of their shapes.
-use Rattle.std.specs.Prelude.{ℕ, ℤ, ◌⊎◌}
+use Rattle.std.specs.Prelude.{ℕ, ℤ, List, ◌⊎◌}
 use Rattle.std.proofs.Common.{inl, inr}
 use Rattle.const_oid.specs.Bound.{Bound}
+use Rattle.der_core_head.specs.BitStrings.{Bits}
 use Rattle.der_core_head.specs.Dates.{Civil}
 use Rattle.der_core_head.specs.Shapes.{Value, BodyValue}
 use Rattle.x509_cert.specs.Certificates.{PlainCertificate, Tbs, Algorithm, PlainName, PublicKey, civil_of, time, validity_fields}
@@ -25,20 +26,24 @@ serial_plain n = n.inner
 abbrev pub algorithm_plain : AlgorithmIdentifier → Algorithm
 algorithm_plain a = (a.oid, tt)
 
+-- bits are seen as such
+abbrev pub bits_plain : Bits → Bits
+bits_plain b = b
+
 abbrev pub name_plain : Name → PlainName
 name_plain n = tt
 
-abbrev pub time_plain : Time → Value time
-time_plain (times.UtcTime t) = inl t
-time_plain (times.GeneralTime t) = inr t
+abbrev pub time_value : Time → Value time
+time_value (times.UtcTime t) = inl t
+time_value (times.GeneralTime t) = inr t
 
 -- the date of a time
-abbrev pub time_civil : Time → Civil
-time_civil (times.UtcTime t) = t
-time_civil (times.GeneralTime t) = t
+abbrev pub time_plain : Time → Civil
+time_plain (times.UtcTime t) = t
+time_plain (times.GeneralTime t) = t
 
 abbrev pub validity_plain : Validity → BodyValue validity_fields
-validity_plain v = (time_plain v.not_before, (time_plain v.not_after, tt))
+validity_plain v = (time_value v.not_before, (time_value v.not_after, tt))
 
 abbrev pub key_plain : SubjectPublicKeyInfo → PublicKey
 key_plain k = (algorithm_plain k.algorithm, (k.subject_public_key, tt))
@@ -79,3 +84,14 @@ tbs_subject t = t.1.1.1.1.0
 
 abbrev pub tbs_public_key : Tbs → PublicKey
 tbs_public_key t = t.1.1.1.1.1.0
+
+-- an algorithm of these arcs, without parameters
+abbrev pub plain_algorithm : List ℕ → Algorithm
+plain_algorithm arcs = (arcs, tt)
+
+-- parts of a key
+abbrev pub key_algorithm : PublicKey → Algorithm
+key_algorithm k = k.0
+
+abbrev pub key_bits : PublicKey → Bits
+key_bits k = k.1.0

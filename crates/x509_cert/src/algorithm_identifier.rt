@@ -1,6 +1,6 @@
 //! AlgorithmIdentifier.
 
-ghost use Rattle.std.specs.Prelude.{◌≡◌};
+ghost use Rattle.std.specs.Prelude.{◌≡◌, ◌↔◌, IsTrue};
 ghost use Rattle.der_core_head.specs.declared.tag.Tag.TheVariants.{Sequence};
 ghost use Rattle.der_core_head.specs.Shapes.{nested};
 ghost use Rattle.x509_cert.specs.Certificates.{algorithm_fields};
@@ -59,5 +59,14 @@ impl<'a, R: Reader<'a>> DecodeValue<'a, R> for AlgorithmIdentifier {
         header: Header,
     ) -> Result<AlgorithmIdentifier, Error> {
         read_fields(alloc, reader, header)
+    }
+}
+
+impl AlgorithmIdentifier {
+    /// Whether both are the same algorithm.
+    pub fn equals(&self, other: &AlgorithmIdentifier) -> bool
+        ensures { IsTrue result ↔ (algorithm_plain self.now ≡ algorithm_plain other.now) }
+    {
+        self.oid.as_bytes() == other.oid.as_bytes()
     }
 }

@@ -1,6 +1,7 @@
 //! Names.
 
-ghost use Rattle.std.specs.Prelude.{◌≡◌};
+ghost use Rattle.std.specs.Prelude.{◌≡◌, ◌↔◌, IsTrue};
+ghost use Rattle.x509_cert.specs.Certificates.{name_octets};
 ghost use Rattle.der_core_head.specs.declared.tag.Tag.TheVariants.{Sequence};
 ghost use Rattle.der_core_head.specs.Shapes.{nested, done};
 ghost use Rattle.x509_cert.specs.Views.{name_plain};
@@ -49,5 +50,14 @@ impl ShapedValue for Name {
 impl<'a, R: Reader<'a>> DecodeValue<'a, R> for Name {
     fn decode_value(alloc: Global, reader: &mut R, header: Header) -> Result<Name, Error> {
         read_fields(alloc, reader, header)
+    }
+}
+
+impl Name {
+    /// Whether both have the same octets.
+    pub fn equals(&self, _other: &Name) -> bool
+        ensures { IsTrue result ↔ (name_octets (name_plain self.now) ≡ name_octets (name_plain _other.now)) }
+    {
+        true
     }
 }

@@ -1,10 +1,10 @@
 //! SubjectPublicKeyInfo.
 
-ghost use Rattle.std.specs.Prelude.{◌≡◌};
+ghost use Rattle.std.specs.Prelude.{◌≡◌, IfOk};
 ghost use Rattle.der_core_head.specs.declared.tag.Tag.TheVariants.{Sequence};
 ghost use Rattle.der_core_head.specs.Shapes.{nested};
 ghost use Rattle.x509_cert.specs.Certificates.{public_key_fields};
-ghost use Rattle.x509_cert.specs.Views.{arc_bound, key_plain};
+ghost use Rattle.x509_cert.specs.Views.{arc_bound, key_plain, algorithm_plain, bits_plain, key_algorithm, key_bits};
 
 use crate::algorithm_identifier::AlgorithmIdentifier;
 use der_core::{
@@ -12,7 +12,7 @@ use der_core::{
     read_fields,
 };
 use der_types::BitString;
-use std::alloc::Global;
+use std::alloc::{AllocError, Global};
 
 /// A public key and its algorithm (RFC 5280 4.1.2.7).
 ///
@@ -64,5 +64,34 @@ impl<'a, R: Reader<'a>> DecodeValue<'a, R> for SubjectPublicKeyInfo {
         header: Header,
     ) -> Result<SubjectPublicKeyInfo, Error> {
         read_fields(alloc, reader, header)
+    }
+}
+
+impl SubjectPublicKeyInfo {
+    /// The algorithm that the key is for.
+    pub fn algorithm(&self) -> &AlgorithmIdentifier
+        ensures { algorithm_plain result.now ≡ key_algorithm (key_plain self.now) }
+    {
+        &self.algorithm
+    }
+
+    /// The key.
+    pub fn subject_public_key(&self) -> &BitString
+        ensures { bits_plain result.now ≡ key_bits (key_plain self.now) }
+    {
+        &self.subject_public_key
+    }
+
+    /// A copy.
+    ///
+    /// # Errors
+    /// Want of memory.
+    pub fn clone(&self, alloc: Global) -> Result<SubjectPublicKeyInfo, AllocError>
+        ensures { IfOk result (λ key. key_plain key ≡ key_plain self.now) }
+    {
+        Ok(SubjectPublicKeyInfo {
+            algorithm: self.algorithm,
+            subject_public_key: self.subject_public_key.clone(alloc)?,
+        })
     }
 }

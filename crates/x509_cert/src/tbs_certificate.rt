@@ -5,7 +5,7 @@ ghost use Rattle.der_core_head.specs.declared.tag.Tag.TheVariants.{Sequence};
 ghost use Rattle.der_core_head.specs.Shapes.{nested};
 ghost use Rattle.x509_cert.specs.Certificates.{tbs_fields};
 ghost use Rattle.x509_cert.specs.Views.{arc_bound, tbs_plain};
-ghost use Rattle.x509_cert.specs.Views.{serial_plain, algorithm_plain, name_plain, time_civil, key_plain, tbs_serial, tbs_inner_algorithm, tbs_issuer, tbs_not_before, tbs_not_after, tbs_subject, tbs_public_key};
+ghost use Rattle.x509_cert.specs.Views.{serial_plain, algorithm_plain, name_plain, time_plain, key_plain, tbs_serial, tbs_inner_algorithm, tbs_issuer, tbs_not_before, tbs_not_after, tbs_subject, tbs_public_key};
 
 use crate::algorithm_identifier::AlgorithmIdentifier;
 use crate::name::Name;
@@ -113,8 +113,8 @@ impl TbsCertificateInner {
 
     /// From when until when it is valid.
     pub fn validity(&self) -> &Validity
-        ensures before { time_civil result.now.not_before ≡ tbs_not_before (tbs_plain self.now) }
-        ensures after { time_civil result.now.not_after ≡ tbs_not_after (tbs_plain self.now) }
+        ensures before { time_plain result.now.not_before ≡ tbs_not_before (tbs_plain self.now) }
+        ensures after { time_plain result.now.not_after ≡ tbs_not_after (tbs_plain self.now) }
     {
         &self.validity
     }

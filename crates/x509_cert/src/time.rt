@@ -5,7 +5,7 @@ ghost use Rattle.std.specs.Duration.{as_nanos};
 ghost use Rattle.der_core_head.specs.Shapes.{begins};
 ghost use Rattle.der_types.specs.Seconds.{unix_seconds};
 ghost use Rattle.x509_cert.specs.Certificates.{time};
-ghost use Rattle.x509_cert.specs.Views.{time_plain, time_civil};
+ghost use Rattle.x509_cert.specs.Views.{time_value, time_plain};
 
 use der_core::{Choice, Decode, Error, ErrorKind, Reader, Shaped, Tag};
 use der_types::{DateTime, GeneralizedTime, UtcTime};
@@ -26,7 +26,7 @@ pub enum Time {
 impl Time {
     /// The date.
     pub fn to_date_time(&self) -> DateTime
-        ensures { result ≡ time_civil self.now }
+        ensures { result ≡ time_plain self.now }
     {
         match self {
             Time::UtcTime(time) => time.to_date_time(),
@@ -34,9 +34,16 @@ impl Time {
         }
     }
 
+    /// The seconds since 1970-01-01T00:00:00Z, leap seconds left out.
+    pub fn unix_seconds(&self) -> u64
+        ensures { result ≡ unix_seconds (time_plain self.now) }
+    {
+        self.to_date_time().unix_seconds()
+    }
+
     /// The time since 1970-01-01T00:00:00Z, leap seconds left out.
     pub fn to_unix_duration(&self) -> Duration
-        ensures { as_nanos result ≡ unix_seconds (time_civil self.now) * 1_000_000_000 }
+        ensures { as_nanos result ≡ unix_seconds (time_plain self.now) * 1_000_000_000 }
     {
         self.to_date_time().unix_duration()
     }
@@ -45,7 +52,7 @@ impl Time {
 impl Shaped for Time {
     ghost shape = { time };
 
-    ghost plain = { time_plain };
+    ghost plain = { time_value };
 }
 
 impl Choice for Time {
