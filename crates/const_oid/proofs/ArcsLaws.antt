@@ -3,12 +3,13 @@ use Rattle.std.proofs.Common.{◌≡◌, ℕ, zero, suc, ◌+◌, ◌*◌, ◌/�
 use Rattle.std.proofs.lemmas.Bool.{lt-ltb, le-ltb, cases_lt, cases_eq}
 use Rattle.std.proofs.Math.Seq.{drop-cons}
 use Rattle.std.proofs.lemmas.List.Sums.{sum_by-cons}
+use Rattle.std.specs.List.{AllByRecursion, flat_map}
 use Rattle.const_oid.specs.declared.error.Error.{Error}
 use Rattle.const_oid.specs.declared.error.Error.TheVariants as errors
-use Rattle.const_oid.specs.IdentifierOctets.{identifier_octets, IsIdentifier, with_arc, read_arcs, read_identifier}
+use Rattle.const_oid.specs.IdentifierOctets.{arc_octets, identifier_octets, IsIdentifier, with_arc, read_arcs, read_identifier}
 use Rattle.const_oid.specs.Arcs.{later_arcs, arcs_of, SpellsIdentifier}
 use Rattle.const_oid.specs.Outcome.{outcome}
-use Rattle.const_oid.proofs.IdentifierLaws.{Step, leading, too_big, last, more, step, read_arcs-end, read_arcs-cut, read_arcs-leading, read_arcs-too_big, read_arcs-last, read_arcs-more, with_arc-ok, identifier_sound, identifier_again}
+use Rattle.const_oid.proofs.IdentifierLaws.{Step, leading, too_big, last, more, step, read_arcs-end, read_arcs-cut, read_arcs-leading, read_arcs-too_big, read_arcs-last, read_arcs-more, with_arc-ok, identifier_sound, identifier_again, arcs_below}
 
 pub later_arcs-last : (value o : ℕ) (w : List ℕ) → o < 128 → later_arcs value (o ∷ w) ≡ (value * 128 + o % 128) ∷ later_arcs 0 w
 unfolding later_arcs
@@ -268,3 +269,28 @@ at_next None s t xs i index m e l k = none_left xs i index (sym e ∙ m.0) l
 at_next (Some x) s t xs i index m e l k =
     let same : i ≡ index = omega arith in
     (next_left xs i x t (sym e ∙ m)).0 ∙ ap (slice_get xs) same
+
+-- spelled octets are below 256
+later_below : (arcs : List ℕ) (i : ℕ) → get_or (flat_map arc_octets arcs) i 0 < 256
+later_below arcs i = at (flat_map arc_octets arcs) i (arcs_below arcs)
+  where
+    at : (w : List ℕ) (i : ℕ) → AllByRecursion (λ o. o < 256) w → get_or w i 0 < 256
+    at [] i all = omega arith
+    at (x ∷ w) zero all = all.0
+    at (x ∷ w) (suc i) all = at w i all.1
+
+pub bytes_of_spelled : (bound : ℕ) (w : List ℕ) → is_ok (read_identifier bound (length w) w) ≡ true → w ≡ identifier_octets (arcs_of w) → (i : ℕ) → get_or w i 0 < 256
+unfolding read_identifier arcs_of identifier_octets
+bytes_of_spelled bound [] ok e i = omega arith
+bytes_of_spelled bound (r ∷ w) ok e zero = by (cases_lt r 120)
+  where
+    by : (r < 120) ⊎ (120 ≤ r) → r < 256
+    by (inl small) = omega arith
+    by (inr large) =
+        let read : read_identifier bound (length (r ∷ w)) (r ∷ w) ≡ Err (errors.ArcInvalid (r / 40)) =
+        rw (le-ltb (length (r ∷ w)) (length (r ∷ w)) (omega arith), le-ltb r 120 large, read_identifier) refl in
+        let bad = ap is_ok read in
+        cc
+bytes_of_spelled bound (r ∷ w) ok e (suc i) =
+    let rest : w ≡ flat_map arc_octets (later_arcs 0 w) = cc in
+    subst (λ (t : List ℕ). get_or t i 0 < 256) (sym rest) (later_below (later_arcs 0 w) i)

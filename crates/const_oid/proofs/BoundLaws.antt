@@ -19,3 +19,6 @@ unchecked m n past l = let large : Bound ≤ n = omega (arith, Bound-is) in rw (
 
 pub fits_type : (n : ℕ) → n < Bound → n < 2 ^ 32
 fits_type n l = omega (arith, Bound-is)
+
+pub below_bound : (n : ℕ) → n < 2 ^ 32 → n < Bound
+below_bound n l = omega (arith, Bound-is)

@@ -75,7 +75,7 @@ pub data IsBegun (value : ℕ) (p : List ℕ) : Type 0 where
   at_border : value ≡ 0 → p ≡ [] → IsBegun value p
   inside : 0 < value → p ≡ map (λ x. 128 + x) (digits 128 value) → IsBegun value p
 
-arc_octets-finish : (value o : ℕ) (p : List ℕ) → IsBegun value p → o < 128 → arc_octets (value * 128 + o % 128) ≡ p ++ (o ∷ [])
+pub arc_octets-finish : (value o : ℕ) (p : List ℕ) → IsBegun value p → o < 128 → arc_octets (value * 128 + o % 128) ≡ p ++ (o ∷ [])
 unfolding arc_octets marked
 arc_octets-finish value o p (at_border v e) l =
     let n : value * 128 + o % 128 ≡ o = omega arith in
@@ -87,7 +87,7 @@ arc_octets-finish value o p (inside some e) l =
     let n : o % 128 ≡ o = omega arith in
     rw (n, digits-push 128 value o (omega arith) some l, marked-push, e) refl
 
-begun-push : (value o : ℕ) (p : List ℕ) → IsBegun value p → ((value ≡ 0) × (o ≡ 128) → ⊥) → 128 ≤ o → o < 256 → IsBegun (value * 128 + o % 128) (p ++ (o ∷ []))
+pub begun-push : (value o : ℕ) (p : List ℕ) → IsBegun value p → ((value ≡ 0) × (o ≡ 128) → ⊥) → 128 ≤ o → o < 256 → IsBegun (value * 128 + o % 128) (p ++ (o ∷ []))
 begun-push value o p (at_border v e) free l k =
     let ne : o ≢ 128 = λ h. free (v, h) in
     let n : value * 128 + o % 128 ≡ o % 128 = omega arith in
@@ -231,7 +231,7 @@ pub arc_octets_below : (n : ℕ) → AllByRecursion (λ o. o < 256) (arc_octets 
 unfolding arc_octets
 arc_octets_below n = marked_below (digits 128 n) (digits-Digits 128 n (omega arith)).below
 
-arcs_below : (arcs : List ℕ) → AllByRecursion (λ o. o < 256) (flat_map arc_octets arcs)
+pub arcs_below : (arcs : List ℕ) → AllByRecursion (λ o. o < 256) (flat_map arc_octets arcs)
 arcs_below [] = tt
 arcs_below (a ∷ arcs) = append_all (λ o. o < 256) (arc_octets a) (flat_map arc_octets arcs) (arc_octets_below a) (arcs_below arcs)
 

@@ -5,4 +5,10 @@ mod BoundLaws
 mod BufferLaws
 mod ReadingLaws
 mod EncodingLaws
+mod TextLaws
+mod NamesLaws
 pub mod DottedLaws
+pub mod PrefixLaws
+pub mod ParentLaws
+pub mod OctetFaultLaws
+pub mod TextRoundLaws

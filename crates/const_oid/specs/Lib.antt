@@ -9,3 +9,6 @@ pub mod DottedText
 pub mod Orders
 pub mod ArcLists
 pub mod TextReading
+pub mod Names
+pub mod Databases
+pub mod OctetFaults

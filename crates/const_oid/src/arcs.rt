@@ -1,9 +1,9 @@
 //! The arcs of an identifier, one after another.
 
-ghost use Rattle.std.specs.Prelude.{◌≡◌, ℕ, ◌∷◌, [], true, is_ok, Option, MatchOption, length, slice_get, count_by, nat_lt, ◌≤◌};
+ghost use Rattle.std.specs.Prelude.{◌≡◌, ℕ, ◌∷◌, [], true, is_ok, Option, MatchOption, ◌<◌, length, slice_get, count_by, nat_lt, ◌≤◌};
 ghost use Rattle.const_oid.specs.Bound.{Bound};
 ghost use Rattle.const_oid.specs.IdentifierOctets.{read_arcs, read_identifier};
-ghost use Rattle.const_oid.specs.Arcs.{later_arcs, arcs_of};
+ghost use Rattle.const_oid.specs.Arcs.{later_arcs, arcs_of, IsLastStart};
 
 use crate::error::Arc;
 
@@ -111,4 +111,16 @@ pub(crate) fn arc_at(octets: &[u8], index: usize) -> Option<Arc>
         };
     }
     arcs.next()
+}
+
+/// Where the octets of the last arc begin: behind the last octet without a mark but one, or at 0 where there is none.
+pub(crate) fn last_start(octets: &[u8]) -> usize
+    requires { 0 < length octets.now }
+    ensures { IsLastStart octets.now result }
+{
+    let mut start = octets.len() - 1;
+    while start > 0 && octets[start - 1] >= 0x80 {
+        start -= 1;
+    }
+    start
 }

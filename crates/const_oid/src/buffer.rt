@@ -1,6 +1,8 @@
 //! Octets in place: a list of at most `SIZE` octets that needs no memory of its own.
 
-ghost use Rattle.std.specs.Prelude.{◌≡◌, ℕ, ◌+◌, ◌<◌, ◌≤◌, ◌==◌, List, [], ◌∷◌, ◌++◌, length, take, nat_eq, refl, Some};
+ghost use Rattle.std.specs.Prelude.{◌≡◌, ℕ, ◌+◌, ◌<◌, ◌≤◌, ◌==◌, List, [], ◌∷◌, ◌++◌, length, take, nat_eq, refl, Some, MatchResult};
+ghost use Rattle.const_oid.specs.IdentifierOctets.{arc_octets};
+ghost use Rattle.const_oid.specs.declared.error.Error.TheVariants as errors;
 ghost use Rattle.std.specs.Ordering.{nat_cmp};
 ghost use Rattle.std.specs.Cmp.{partial_equiv_from_equiv};
 ghost use Rattle.std.specs.Cmp.Lexicographic.{pointwise, slice_cmp, nat_list_eq_equiv, nat_list_cmp_total, texts_po, texts_ties};
@@ -8,8 +10,11 @@ ghost use Rattle.std.specs.Cmp.Rules.{hashing};
 ghost use Rattle.std.specs.Hash as fed;
 ghost use Rattle.std.proofs.Common.{rules};
 
+use crate::arc_octets::{octet_count, write_arc};
+use crate::error::{Arc, Error, Result};
 use std::cmp::Ordering;
 use std::convert::AsSlice;
+use std::fmt;
 use std::hash::{Hash, Hasher};
 use std::marker::Model;
 
@@ -72,6 +77,22 @@ impl<const SIZE: usize> Buffer<SIZE> {
     {
         self.bytes[self.count] = octet;
         self.count += 1;
+    }
+
+    /// The octets of an arc at the end, where there is room.
+    pub(crate) fn push_arc(&mut self, arc: Arc) -> Result<()>
+        ensures { MatchResult result
+            (λ _. (self.new ≡ self.old ++ arc_octets arc) × (length self.old + length (arc_octets arc) ≤ SIZE))
+            (λ e. (e ≡ errors.Length) × (SIZE < length self.old + length (arc_octets arc)) × (self.new ≡ self.old)) }
+    {
+        let count = octet_count(arc);
+        if count > SIZE - self.count {
+            return Err(Error::Length);
+        }
+        let end = self.count + count;
+        write_arc(&mut self.bytes, end, arc);
+        self.count = end;
+        Ok(())
     }
 
     /// The octets.
@@ -155,5 +176,11 @@ impl<const SIZE: usize> Hash for Buffer<SIZE> {
 
     fn hash<H: Hasher>(&self, state: &mut H) {
         self.as_bytes().hash(state);
+    }
+}
+
+impl<const SIZE: usize> fmt::Debug for Buffer<SIZE> {
+    fn fmt<W: fmt::Write>(&self, f: &mut fmt::Formatter<W>) -> fmt::Result {
+        fmt::Debug::fmt(&self.as_bytes(), f)
     }
 }

@@ -1,5 +1,7 @@
 //! What is wrong with octets, texts or arcs that are no identifier.
 
+use std::fmt;
+
 /// An arc of an identifier.
 pub type Arc = u32;
 
@@ -34,3 +36,21 @@ pub enum Error {
 
 /// What a call that may find one of these errors answers.
 pub type Result<T> = std::result::Result<T, Error>;
+
+impl fmt::Display for Error {
+    fn fmt<W: fmt::Write>(&self, f: &mut fmt::Formatter<W>) -> fmt::Result {
+        f.write_str(match self {
+            Error::ArcInvalid { .. } => "OID contains out-of-range arc",
+            Error::ArcTooBig => "OID contains arc which is larger than 32-bits",
+            Error::Base128 => "OID contains arc with invalid base 128 encoding",
+            Error::DigitExpected { .. } => "expected digit",
+            Error::Empty => "OID value is empty",
+            Error::Length => "OID length invalid",
+            Error::Overflow => "internal calculation overflowed",
+            Error::RepeatedDot => "repeated consecutive '..' characters in OID",
+            Error::TrailingDot => "OID ends with invalid trailing '.'",
+        })
+    }
+}
+
+impl std::error::Error for Error {}

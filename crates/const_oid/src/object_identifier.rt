@@ -1,25 +1,29 @@
 //! Owned identifiers.
 
-ghost use Rattle.std.specs.Prelude.{◌≡◌, ℕ, ◌<◌, ◌≤◌, ◌↔◌, IsTrue, nat_eq, refl, Some, length, slice_get, Result, Ok, IfOk, List};
+ghost use Rattle.std.specs.Prelude.{◌≡◌, ℕ, ◌<◌, ◌≤◌, ◌↔◌, IsTrue, is_ok, true, nat_eq, refl, Some, None, IsNone, IfSome, [], ◌∷◌, ◌++◌, nat_lt, if◌then◌else◌, Err, length, slice_get, Result, Ok, IfOk, IfErr, List};
 ghost use Rattle.std.specs.Cmp.{po, on_equiv, on_per, partial_equiv_from_equiv};
 ghost use Rattle.std.specs.Cmp.Lexicographic.{pointwise, nat_list_eq_equiv};
 ghost use Rattle.const_oid.specs.Orders.{owned_cmp, owned_cmp_total, owned_cmp_ties};
 ghost use Rattle.std.specs.Cmp.Rules.{hashing};
 ghost use Rattle.std.specs.Hash as fed;
 ghost use Rattle.std.proofs.Common.{rules};
+ghost use Rattle.const_oid.specs.declared.error.Error.TheVariants as errors;
 ghost use Rattle.const_oid.specs.Bound.{Bound};
 ghost use Rattle.const_oid.specs.IdentifierOctets.{identifier_octets, IsIdentifier, read_identifier};
 ghost use Rattle.const_oid.specs.Arcs.{arcs_of, SpellsIdentifier};
+ghost use Rattle.const_oid.specs.OctetFaults.{IsOctetsFault};
 
-use crate::arcs::Arcs;
+use crate::arcs::{self, Arcs};
 use crate::buffer::Buffer;
+use crate::encoder::Encoder;
 use crate::error::{Arc, Error, Result};
 use crate::object_identifier_ref::ObjectIdentifierRef;
-use crate::octets;
+use crate::{octets, text};
 use std::cmp::Ordering;
 use std::convert::AsSlice;
 use std::hash::{Hash, Hasher};
 use std::marker::Model;
+use std::str::FromStr;
 
 /// An identifier of at most `MAX_SIZE` octets, held in place. A contract sees the list of its arcs.
 #[derive(Clone, Copy)]
@@ -48,8 +52,17 @@ impl<const MAX_SIZE: usize> Model for ObjectIdentifier<MAX_SIZE> {
 impl<const MAX_SIZE: usize> ObjectIdentifier<MAX_SIZE> {
     ghost use Rattle.const_oid.specs.References.{reference_octets, reference_arcs, remaining_arcs};
 
-    /// The identifier that these octets spell (X.690 8.19).
+    /// The identifier that these octets spell (X.690 8.19), or their first fault from the left.
     pub fn from_bytes_sized(ber_bytes: &[u8]) -> Result<Self>
+        ensures read { result ≡ read_identifier Bound MAX_SIZE ber_bytes.now }
+        ensures ok { IfOk result
+            (λ arcs. IsIdentifier Bound arcs × (length ber_bytes.now ≤ MAX_SIZE) × (ber_bytes.now ≡ identifier_octets arcs)) }
+        ensures fault { IfErr result (λ e. IsOctetsFault Bound MAX_SIZE ber_bytes.now e) }
+    {
+        Self::read_octets(ber_bytes)
+    }
+
+    fn read_octets(ber_bytes: &[u8]) -> Result<Self>
         ensures read { result ≡ read_identifier Bound MAX_SIZE ber_bytes.now }
     {
         if ber_bytes.len() > MAX_SIZE {
@@ -59,6 +72,48 @@ impl<const MAX_SIZE: usize> ObjectIdentifier<MAX_SIZE> {
         Ok(ObjectIdentifier {
             octets: Buffer::from_slice(ber_bytes),
         })
+    }
+
+    /// The identifier with one arc more. It answers `Length` where the octets pass the capacity, and no other error.
+    pub fn push_arc(self, arc: Arc) -> Result<Self>
+        ensures { result
+            ≡ (if nat_lt MAX_SIZE (length (identifier_octets (self.entry ++ arc ∷ []))) then Err errors.Length
+            else Ok (self.entry ++ arc ∷ [])) }
+    {
+        let mut octets = self.octets;
+        octets.push_arc(arc)?;
+        Ok(ObjectIdentifier { octets })
+    }
+
+    /// The identifier without its last arc, or `None` where only two are there.
+    pub fn parent(&self) -> Option<Self>
+        ensures none { IsNone result ↔ (length self.now ≡ 2) }
+        ensures some { IfSome result (λ front. (last : ℕ) × (self.now ≡ front ++ last ∷ [])) }
+    {
+        let octets = self.as_bytes();
+        let start = arcs::last_start(octets);
+        if start == 0 {
+            return None;
+        }
+        Some(ObjectIdentifier {
+            octets: Buffer::from_slice(octets.split_at(start).0),
+        })
+    }
+
+    /// Whether the arcs begin with those of `other`.
+    pub fn starts_with<const SIZE: usize>(&self, other: ObjectIdentifier<SIZE>) -> bool
+        ensures { IsTrue result ↔ ((rest : List ℕ) × (self.now ≡ other.entry ++ rest)) }
+    {
+        self.as_bytes().starts_with(other.as_bytes())
+    }
+
+    /// The identifier of octets that are known to spell one.
+    #[inline]
+    pub(crate) fn trusted(octets: Buffer<MAX_SIZE>) -> Self
+        requires { SpellsIdentifier Bound MAX_SIZE octets }
+        ensures { result ≡ arcs_of octets.entry }
+    {
+        ObjectIdentifier { octets }
     }
 
     /// The octets (X.690 8.19).
@@ -159,5 +214,103 @@ impl<const MAX_SIZE: usize> Hash for ObjectIdentifier<MAX_SIZE> {
 
     fn hash<H: Hasher>(&self, state: &mut H) {
         self.as_bytes().hash(state);
+    }
+}
+
+impl ObjectIdentifier<39> {
+    ghost use Rattle.const_oid.specs.TextReading.{read_text};
+
+    /// The greatest number of octets.
+    pub const MAX_SIZE: usize = 39;
+
+    /// The identifier of a dotted text.
+    pub fn new(s: &str) -> Result<Self>
+        ensures read { result ≡ read_text Bound 39 s.now }
+    {
+        text::read(s.as_bytes())
+    }
+
+    /// The identifier of a dotted text that is one.
+    pub fn new_unwrap(s: &str) -> Self
+        requires { is_ok (read_text Bound 39 s.now) ≡ true }
+        ensures { Ok result ≡ read_text Bound 39 s.now }
+    {
+        match Self::new(s) {
+            Ok(oid) => oid,
+            Err(_) => unreachable!(),
+        }
+    }
+
+    /// The identifier that these octets spell (X.690 8.19).
+    pub fn from_bytes(ber_bytes: &[u8]) -> Result<Self>
+        ensures read { result ≡ read_identifier Bound 39 ber_bytes.now }
+        ensures ok { IfOk result
+            (λ arcs. IsIdentifier Bound arcs × (length ber_bytes.now ≤ 39) × (ber_bytes.now ≡ identifier_octets arcs)) }
+        ensures fault { IfErr result (λ e. IsOctetsFault Bound 39 ber_bytes.now e) }
+    {
+        Self::from_bytes_sized(ber_bytes)
+    }
+}
+
+impl ObjectIdentifier<39> {
+    ghost use Rattle.std.specs.Iterator.{IsFiniteIterable, DrainsIf};
+    ghost use Rattle.std.specs.Prelude.{IsOk};
+    ghost use Rattle.const_oid.specs.ArcLists.{gather};
+
+    /// The identifier of these arcs. It takes the items up to the first fault, and all of them where there is none.
+    pub fn from_arcs<I: IntoIterator<Item = Arc>>(arcs: I) -> Result<Self>
+        requires { IsFiniteIterable I.into_iter_gives I.IntoIter.can_next I.IntoIter.remaining arcs }
+        ensures { (it : I.IntoIter) × (xs : List ℕ) × I.into_iter_gives arcs it × DrainsIf I.IntoIter.next_gives (IsOk result) it xs × (result ≡ gather 39 [] xs) }
+    {
+        let mut so_far = Encoder::<39>::new();
+        let mut rest = arcs.into_iter();
+        while let Some(arc) = rest.next() {
+            so_far.add(arc)?;
+        }
+        so_far.finish()
+    }
+}
+
+impl FromStr for ObjectIdentifier<39> {
+    ghost use Rattle.std.specs.Prelude.{◌≡◌};
+    ghost use Rattle.const_oid.specs.Bound.{Bound};
+    ghost use Rattle.const_oid.specs.TextReading.{read_text};
+
+    type Err = Error;
+
+    ghost from_str_gives = { λ text r. r ≡ read_text Bound 39 text };
+
+    fn from_str(s: &str) -> Result<Self> {
+        Self::new(s)
+    }
+}
+
+impl<'a> TryFrom<&'a [u8]> for ObjectIdentifier<39> {
+    ghost use Rattle.std.specs.Prelude.{◌≡◌};
+    ghost use Rattle.const_oid.specs.Bound.{Bound};
+    ghost use Rattle.const_oid.specs.IdentifierOctets.{read_identifier};
+
+    type Error = Error;
+
+    ghost try_from_gives = { λ octets r. r ≡ read_identifier Bound 39 octets.now };
+
+    fn try_from(octets: &'a [u8]) -> Result<Self> {
+        Self::from_bytes(octets)
+    }
+}
+
+/// The same identifier, if its octets are within the capacity.
+impl<'a, const MAX_SIZE: usize> TryFrom<ObjectIdentifierRef<'a>> for ObjectIdentifier<MAX_SIZE> {
+    ghost use Rattle.std.specs.Prelude.{◌≡◌};
+    ghost use Rattle.const_oid.specs.Bound.{Bound};
+    ghost use Rattle.const_oid.specs.IdentifierOctets.{read_identifier};
+    ghost use Rattle.const_oid.specs.References.{reference_octets};
+
+    type Error = Error;
+
+    ghost try_from_gives = { λ oid r. r ≡ read_identifier Bound MAX_SIZE (reference_octets oid) };
+
+    fn try_from(oid: ObjectIdentifierRef<'a>) -> Result<Self> {
+        Self::from_bytes_sized(oid.as_bytes())
     }
 }

@@ -1,18 +1,22 @@
 //! Borrowed identifiers.
 
-ghost use Rattle.std.specs.Prelude.{◌≡◌, ℕ, ◌<◌, ◌≤◌, true, is_ok, length, slice_get, Result, Ok, IfOk};
+ghost use Rattle.std.specs.Prelude.{◌≡◌, ℕ, ◌<◌, ◌↔◌, IsTrue, ◌≤◌, true, is_ok, length, slice_get, Result, Ok, IfOk};
 ghost use Rattle.const_oid.specs.Bound.{Bound};
-ghost use Rattle.const_oid.specs.IdentifierOctets.{read_identifier};
+ghost use Rattle.const_oid.specs.Arcs.{arcs_of};
+ghost use Rattle.const_oid.specs.IdentifierOctets.{identifier_octets, IsIdentifier, read_identifier};
 
 use crate::arcs::{self, Arcs};
 use crate::error::{Arc, Result};
+use crate::object_identifier::ObjectIdentifier;
 use crate::octets;
+use std::convert::AsSlice;
 
 /// An identifier by its octets, of which there may be any number.
 #[derive(Clone, Copy, PartialEq, Eq, PartialOrd, Ord, Hash)]
 pub struct ObjectIdentifierRef<'a> {
     octets: &'a [u8],
     ghost is_identifier: { is_ok (read_identifier Bound (length octets.now) octets.now) ≡ true },
+    ghost is_spelled: { octets.now ≡ identifier_octets (arcs_of octets.now) },
 }
 
 impl<'a> ObjectIdentifierRef<'a> {
@@ -31,7 +35,8 @@ impl<'a> ObjectIdentifierRef<'a> {
     /// The identifier of octets that are known to spell one.
     #[inline]
     pub(crate) fn trusted(octets: &'a [u8]) -> Self
-        requires { is_ok (read_identifier Bound (length octets.now) octets.now) ≡ true }
+        requires identifier { is_ok (read_identifier Bound (length octets.now) octets.now) ≡ true }
+        requires spelled { octets.now ≡ identifier_octets (arcs_of octets.now) }
         ensures { reference_octets result ≡ octets.now }
     {
         ObjectIdentifierRef { octets }
@@ -42,6 +47,8 @@ impl<'a> ObjectIdentifierRef<'a> {
     pub fn as_bytes(&self) -> &'a [u8]
         ensures octets { result.now ≡ reference_octets self.now }
         ensures read { read_identifier Bound (length result.now) result.now ≡ Ok (reference_arcs self.now) }
+        ensures arcs { result.now ≡ identifier_octets (reference_arcs self.now) }
+        ensures identifier { IsIdentifier Bound (reference_arcs self.now) }
     {
         self.octets
     }
@@ -61,10 +68,28 @@ impl<'a> ObjectIdentifierRef<'a> {
         arcs::arc_at(self.octets, index)
     }
 
+    /// Whether it is the same identifier as this owned one.
+    pub fn equals_owned<const MAX_SIZE: usize>(&self, other: &ObjectIdentifier<MAX_SIZE>) -> bool
+        ensures arcs { IsTrue result ↔ (reference_arcs self.now ≡ other.now) }
+    {
+        let octets = self.as_bytes();
+        octets == other.as_bytes()
+    }
+
     /// How many arcs there are.
     pub fn len(&self) -> usize
         ensures { result ≡ length (reference_arcs self.now) }
     {
         arcs::count(self.octets)
+    }
+}
+
+impl AsSlice<u8> for ObjectIdentifierRef<'_> {
+    ghost use Rattle.const_oid.specs.References.{reference_octets};
+
+    ghost items = { reference_octets };
+
+    fn as_slice(&self) -> &[u8] {
+        self.octets
     }
 }

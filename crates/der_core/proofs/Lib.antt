@@ -7,3 +7,6 @@ mod Contents
 mod Steps
 mod Lists
 mod Magnitudes
+mod Members
+mod TagForms
+mod Levels

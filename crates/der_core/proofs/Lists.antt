@@ -68,7 +68,7 @@ at_end [] x (suc n) h = absurd (omega (arith, h))
 at_end (y ∷ ys) x zero h = absurd (omega (arith, h))
 at_end (y ∷ ys) x (suc n) h = at_end ys x n (omega (arith, h))
 
-last_more : {A : Type 0} (o : A → List ℕ) (xs : List A) (x : A) → last_octets o (xs ++ x ∷ []) ≡ Some (o x)
+pub last_more : {A : Type 0} (o : A → List ℕ) (xs : List A) (x : A) → last_octets o (xs ++ x ∷ []) ≡ Some (o x)
 last_more o xs x = ap (plain_option o) (at_end xs x (length (xs ++ x ∷ []) - 1) (omega (arith, length-append xs (x ∷ []))))
 
 rise : {P : Type 0} (o : P → List ℕ) (F : Readings P) (last : Option (List ℕ)) (n i : ℕ) (w : List ℕ) → i < n → w ≢ []

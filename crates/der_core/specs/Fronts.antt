@@ -1,10 +1,14 @@
 -- What stands at the front of octets.
-use Rattle.std.specs.Prelude.{◌≡◌, ◌≤◌, ℕ, List, length, drop, Result, Ok, Err}
+use Rattle.std.specs.Prelude.{◌≡◌, ◌≤◌, ℕ, List, length, drop, Option, Some, None, Result, Ok, Err, nat_lt, if◌then◌else◌}
+use Rattle.std.specs.Borrow.{Bor}
 use Rattle.der_core_head.specs.declared.error.Error.{Error}
 use Rattle.der_core_head.specs.declared.error.ErrorKind.{ErrorKind}
+use Rattle.der_core_head.specs.declared.error.ErrorKind.TheVariants as kinds
 use Rattle.der_core_head.specs.declared.header.Header.{Header}
 use Rattle.der_core_head.specs.Octets.{Readings}
 use Rattle.der_core_head.specs.Heads.{Head}
+use Rattle.der_core_head.specs.Shapes.{Shape, Value}
+use Rattle.der_core_head.specs.Grammar.{read}
 
 abbrev pub head_of : Header → Head
 head_of h = record { tag = h.tag; len = h.length.value }
@@ -18,3 +22,12 @@ Counts view w (Err e) f = f w ≡ Err e.kind
 abbrev pub alone : {P : Type 0} → Result (P × List ℕ) ErrorKind → Result P ErrorKind
 alone (Ok x) = Ok x.0
 alone (Err e) = Err e
+
+-- the octets behind a reference, if there is one
+abbrev pub octets_at : Option (Bor (List ℕ)) → Option (List ℕ)
+octets_at None = None
+octets_at (Some o) = Some o.now
+
+-- a value at the front of octets that a length can count, and the octets behind it
+abbrev pub front_at : (s : Shape) → List ℕ → Result (Value s × List ℕ) ErrorKind
+front_at s w = if nat_lt 4294967295 (length w) then Err kinds.Overflow else read s 64 w

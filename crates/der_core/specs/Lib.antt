@@ -1,3 +1,5 @@
 pub mod Fronts
 pub mod Slices
 pub mod Numbers
+pub mod Outputs
+pub mod Pieces

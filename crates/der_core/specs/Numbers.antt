@@ -1,5 +1,5 @@
 -- Whole numbers as a sign and a number.
-use Rattle.std.specs.Prelude.{◌≡◌, ◌≤◌, ◌^◌, ℕ, ℤ, pos, negsuc, List, Bool, true, false, Option, Some, None, Result, Ok, Err}
+use Rattle.std.specs.Prelude.{◌≡◌, ◌≤◌, ◌^◌, ◌-◌, if◌then◌else◌, ℕ, ℤ, pos, negsuc, List, Bool, true, false, Option, Some, None, Result, Ok, Err}
 use Rattle.der_core_head.specs.declared.error.Error.{Error}
 use Rattle.der_core_head.specs.declared.tag.Tag.{Tag}
 use Rattle.der_core_head.specs.Integers.{complement, shortest_integer}
@@ -9,7 +9,11 @@ abbrev pub signed_number : Bool → ℕ → ℤ
 signed_number false n = pos n
 signed_number true n = negsuc n
 
--- with each bit turned, or not
+-- an octet with each bit turned, or not
+abbrev pub turn : Bool → ℕ → ℕ
+turn b d = if b then 255 - d else d
+
+-- and octets
 abbrev pub turned : Bool → List ℕ → List ℕ
 turned false w = w
 turned true w = complement w

@@ -1,18 +1,20 @@
 //! Whole numbers: two's complement in the fewest octets (X.690 8.3).
 
-ghost use Rattle.std.specs.Prelude.{◌≡◌, ◌↔◌, ◌<◌, ◌≤◌, ◌-◌, ◌^◌, ℕ, ℤ, pos, IsTrue, IfOk};
+ghost use Rattle.std.specs.Prelude.{◌≡◌, ◌↔◌, ◌<◌, ◌≤◌, ◌-◌, ◌^◌, ℕ, ℤ, pos, IsTrue, IfOk, drop};
 ghost use Rattle.std.specs.Int.Digits.{number_from_digits};
 ghost use Rattle.der_core_head.specs.declared.tag.Tag.TheVariants.{Integer as IntegerTag};
 ghost use Rattle.der_core_head.specs.Shapes.{leaf};
-ghost use Rattle.der_core_head.specs.Integers.{Numbers, unsigned, signed, is_redundant, integer_read};
+ghost use Rattle.der_core_head.specs.Integers.{Numbers, unsigned, signed, is_redundant, integer_octets, integer_read};
 ghost use Rattle.der_core_head.specs.Leaves.{integer};
 ghost use Rattle.der_core_head.specs.Reading.{Gives};
-ghost use Rattle.der_core.specs.Numbers.{signed_number, turned, IsMagnitude, IsWholeNumber};
+ghost use Rattle.der_core.specs.Numbers.{signed_number, turn, turned, IsMagnitude, IsWholeNumber};
 
 use crate::decode::{DecodeValue, FixedTag, ShapedValue};
+use crate::encode::EncodeValue;
 use crate::leaves::{Leaf, decode_leaf};
 use crate::reader::Reader;
-use der_core_head::{Error, ErrorKind, Header, Tag};
+use crate::writer::Writer;
+use der_core_head::{Error, ErrorKind, Header, Length, Tag};
 use std::alloc::Global;
 
 /// The least number that no octet may follow within 128 bits: 2^120.
@@ -28,7 +30,7 @@ fn magnitude_of(octets: &[u8], negative: bool) -> Option<u128>
         if number >= LARGE {
             return None;
         }
-        let digit = if negative { 255 - *octet } else { *octet };
+        let digit = turn(*octet, negative);
         number = 256 * number + u128::from(digit);
     }
     Some(number)
@@ -129,6 +131,39 @@ pub trait Integer: Drop {
     /// number that the type doesn't have.
     fn from_integer(tag: Tag, octets: &[u8]) -> Result<Self, Error>
         ensures { Gives number result (integer_read numbers tag octets.now) };
+
+    /// Whether it is negative, and the number n that it is, or of which it is -(n + 1).
+    fn magnitude(&self) -> (bool, u128)
+        ensures { number self.now ≡ signed_number result.0 result.1 };
+}
+
+/// The content of a number n, or of -(n + 1) where it is negative: the last octets of the array,
+/// from a place on.
+fn integer_octets_of(negative: bool, number: u128) -> ([u8; 17], usize)
+    ensures octets { drop result.1 result.0 ≡ integer_octets (signed_number negative number) }
+    ensures some { result.1 < 17 }
+{
+    let mut octets = [0; 17];
+    let mut at = 16;
+    let mut left = number;
+    while left >= 256 {
+        octets[at] = turn((left % 256) as u8, negative);
+        left /= 256;
+        at -= 1;
+    }
+    octets[at] = turn(left as u8, negative);
+    if left >= 128 {
+        at -= 1;
+        octets[at] = turn(0, negative);
+    }
+    (octets, at)
+}
+
+/// An octet, each bit of it turned where a number is negative.
+fn turn(octet: u8, negative: bool) -> u8
+    ensures { result ≡ turn negative octet }
+{
+    if negative { 255 - octet } else { octet }
 }
 
 impl<T: Integer> FixedTag for T {
@@ -161,6 +196,22 @@ impl<'a, R: Reader<'a>, T: Integer> DecodeValue<'a, R> for T {
     }
 }
 
+impl<T: Integer> EncodeValue for T {
+    fn value_len(&self) -> Result<Length, Error> {
+        let (negative, number) = self.magnitude();
+        let (_, start) = integer_octets_of(negative, number);
+        Ok(Length {
+            value: (17 - start) as u32,
+        })
+    }
+
+    fn encode_value<W: Writer>(&self, writer: &mut W) -> Result<(), Error> {
+        let (negative, number) = self.magnitude();
+        let (octets, start) = integer_octets_of(negative, number);
+        writer.write(&octets[start..])
+    }
+}
+
 impl Integer for u8 {
     ghost numbers = { unsigned 8 };
 
@@ -169,6 +220,10 @@ impl Integer for u8 {
     fn from_integer(tag: Tag, octets: &[u8]) -> Result<u8, Error> {
         let number = unsigned_of(tag, octets, 8)?;
         Ok(number as u8)
+    }
+
+    fn magnitude(&self) -> (bool, u128) {
+        (false, u128::from(*self))
     }
 }
 
@@ -181,6 +236,10 @@ impl Integer for u16 {
         let number = unsigned_of(tag, octets, 16)?;
         Ok(number as u16)
     }
+
+    fn magnitude(&self) -> (bool, u128) {
+        (false, u128::from(*self))
+    }
 }
 
 impl Integer for u32 {
@@ -191,6 +250,10 @@ impl Integer for u32 {
     fn from_integer(tag: Tag, octets: &[u8]) -> Result<u32, Error> {
         let number = unsigned_of(tag, octets, 32)?;
         Ok(number as u32)
+    }
+
+    fn magnitude(&self) -> (bool, u128) {
+        (false, u128::from(*self))
     }
 }
 
@@ -203,6 +266,10 @@ impl Integer for u64 {
         let number = unsigned_of(tag, octets, 64)?;
         Ok(number as u64)
     }
+
+    fn magnitude(&self) -> (bool, u128) {
+        (false, u128::from(*self))
+    }
 }
 
 impl Integer for u128 {
@@ -213,6 +280,10 @@ impl Integer for u128 {
     fn from_integer(tag: Tag, octets: &[u8]) -> Result<u128, Error> {
         let number = unsigned_of(tag, octets, 128)?;
         Ok(number)
+    }
+
+    fn magnitude(&self) -> (bool, u128) {
+        (false, *self)
     }
 }
 
@@ -226,6 +297,15 @@ impl Integer for i8 {
         let number = number as i8;
         Ok(if negative { -1 - number } else { number })
     }
+
+    fn magnitude(&self) -> (bool, u128) {
+        let number = *self;
+        if number < 0 {
+            (true, (-1 - number) as u128)
+        } else {
+            (false, number as u128)
+        }
+    }
 }
 
 impl Integer for i16 {
@@ -237,6 +317,15 @@ impl Integer for i16 {
         let (negative, number) = signed_of(tag, octets, 16)?;
         let number = number as i16;
         Ok(if negative { -1 - number } else { number })
+    }
+
+    fn magnitude(&self) -> (bool, u128) {
+        let number = *self;
+        if number < 0 {
+            (true, (-1 - number) as u128)
+        } else {
+            (false, number as u128)
+        }
     }
 }
 
@@ -250,6 +339,15 @@ impl Integer for i32 {
         let number = number as i32;
         Ok(if negative { -1 - number } else { number })
     }
+
+    fn magnitude(&self) -> (bool, u128) {
+        let number = *self;
+        if number < 0 {
+            (true, (-1 - number) as u128)
+        } else {
+            (false, number as u128)
+        }
+    }
 }
 
 impl Integer for i64 {
@@ -262,6 +360,15 @@ impl Integer for i64 {
         let number = number as i64;
         Ok(if negative { -1 - number } else { number })
     }
+
+    fn magnitude(&self) -> (bool, u128) {
+        let number = *self;
+        if number < 0 {
+            (true, (-1 - number) as u128)
+        } else {
+            (false, number as u128)
+        }
+    }
 }
 
 impl Integer for i128 {
@@ -273,5 +380,14 @@ impl Integer for i128 {
         let (negative, number) = signed_of(tag, octets, 128)?;
         let number = number as i128;
         Ok(if negative { -1 - number } else { number })
+    }
+
+    fn magnitude(&self) -> (bool, u128) {
+        let number = *self;
+        if number < 0 {
+            (true, (-1 - number) as u128)
+        } else {
+            (false, number as u128)
+        }
     }
 }

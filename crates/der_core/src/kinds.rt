@@ -1,16 +1,19 @@
 //! Defaults, octet strings, and any value.
 
-ghost use Rattle.std.specs.Prelude.{◌≡◌, List, ℕ, [], ◌∷◌, Ok, bytes_eq, true};
+ghost use Rattle.std.specs.Prelude.{◌≡◌, List, ℕ, [], ◌∷◌, Ok, bytes_eq, length, true};
 ghost use Rattle.der_core_head.specs.declared.tag.Tag.TheVariants.{OctetString};
 ghost use Rattle.der_core_head.specs.Shapes.{leaf, any, begins, defaulted, octets_of};
 ghost use Rattle.der_core_head.specs.Grammar.{read};
 ghost use Rattle.der_core_head.specs.Leaves.{octets};
+ghost use Rattle.der_core_head.specs.Reading.{Gives};
+ghost use Rattle.der_core_head.specs.Writing.{fit_len};
 
 use crate::decode::{Choice, Decode, DecodeValue, FixedTag, Shaped, ShapedValue};
+use crate::encode::{Encode, EncodeValue, encode_header, header_len, sum_len};
 use crate::leaves::{Leaf, decode_leaf};
 use crate::reader::Reader;
-use crate::wrappers::Explicit;
-use der_core_head::{Error, ErrorKind, Header, Tag};
+use crate::writer::Writer;
+use der_core_head::{Error, ErrorKind, Header, Length, Tag};
 use std::alloc::Global;
 
 /// A type with a value that is never written (X.690 11.5).
@@ -150,5 +153,63 @@ impl<'a, R: Reader<'a>> Decode<'a, R> for AnyRef<'a> {
             tag: header.tag,
             bytes,
         })
+    }
+}
+
+/// The number of octets of a slice.
+///
+/// # Errors
+/// `Overflow` from 2^32 on.
+pub fn slice_len(octets: &[u8]) -> Result<Length, Error>
+    ensures { Gives (λ l. l.value) result (fit_len (length octets.now)) }
+{
+    match u32::try_from(octets.len()) {
+        Ok(value) => Ok(Length { value }),
+        Err(_) => Err(Error::from(ErrorKind::Overflow)),
+    }
+}
+
+impl<T: Encode + DefaultValue> Encode for WithDefault<T> {
+    #[tactic(auto, unfolding(der_core_head::specs::Writing::default_len))]
+    fn encoded_len(&self) -> Result<Length, Error> {
+        if self.value.is_default() {
+            Ok(Length { value: 0 })
+        } else {
+            self.value.encoded_len()
+        }
+    }
+
+    #[tactic(auto, unfolding(der_core_head::specs::Writing::default_write))]
+    fn encode<W: Writer>(&self, writer: &mut W) -> Result<(), Error> {
+        if self.value.is_default() {
+            Ok(())
+        } else {
+            self.value.encode(writer)
+        }
+    }
+}
+
+impl<'a> EncodeValue for OctetStringRef<'a> {
+    fn value_len(&self) -> Result<Length, Error> {
+        slice_len(self.bytes)
+    }
+
+    fn encode_value<W: Writer>(&self, writer: &mut W) -> Result<(), Error> {
+        writer.write(self.bytes)
+    }
+}
+
+impl<'a> Encode for AnyRef<'a> {
+    #[tactic(auto, unfolding(der_core_head::specs::Writing::tlv_len, der_core_head::specs::Writing::head_len))]
+    fn encoded_len(&self) -> Result<Length, Error> {
+        let len = slice_len(self.bytes)?;
+        sum_len(header_len(self.tag, len), len)
+    }
+
+    #[tactic(auto, unfolding(der_core_head::specs::Writing::write_tlv))]
+    fn encode<W: Writer>(&self, writer: &mut W) -> Result<(), Error> {
+        let len = slice_len(self.bytes)?;
+        encode_header(writer, self.tag, len)?;
+        writer.write(self.bytes)
     }
 }

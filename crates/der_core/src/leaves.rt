@@ -8,8 +8,10 @@ ghost use Rattle.der_core_head.specs.Reading.{Reads, Gives, TakesContent};
 ghost use Rattle.der_core_head.specs.Leaves.{Leaf as LeafKind, LeafValue, leaf_read, boolean, null};
 
 use crate::decode::{DecodeValue, FixedTag, ShapedValue};
+use crate::encode::EncodeValue;
 use crate::reader::Reader;
-use der_core_head::{Error, ErrorKind, Header, Tag};
+use crate::writer::Writer;
+use der_core_head::{Error, ErrorKind, Header, Length, Tag};
 use std::alloc::Global;
 
 /// A type whose values are read from the octets of their content.
@@ -119,5 +121,25 @@ impl ShapedValue for () {
 impl<'a, R: Reader<'a>> DecodeValue<'a, R> for () {
     fn decode_value(alloc: Global, reader: &mut R, header: Header) -> Result<(), Error> {
         decode_leaf(alloc, reader, header)
+    }
+}
+
+impl EncodeValue for bool {
+    fn value_len(&self) -> Result<Length, Error> {
+        Ok(Length { value: 1 })
+    }
+
+    fn encode_value<W: Writer>(&self, writer: &mut W) -> Result<(), Error> {
+        writer.write_byte(if *self { 255 } else { 0 })
+    }
+}
+
+impl EncodeValue for () {
+    fn value_len(&self) -> Result<Length, Error> {
+        Ok(Length { value: 0 })
+    }
+
+    fn encode_value<W: Writer>(&self, writer: &mut W) -> Result<(), Error> {
+        writer.write(&[])
     }
 }

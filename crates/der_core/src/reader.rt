@@ -1,14 +1,15 @@
 //! Readers.
 
-ghost use Rattle.std.specs.Prelude.{◌≡◌, ◌↔◌, ◌≤◌, ◌<◌, ◌^◌, ℕ, IsTrue, length, [], slice_get, Ok};
+ghost use Rattle.std.specs.Prelude.{◌≡◌, ◌↔◌, ◌≤◌, ◌<◌, ◌^◌, ℕ, IsTrue, length, [], slice_get, Ok, OnOk, IfErr, ◌≢◌, true, false};
 ghost use Rattle.der_core_head.specs.Tags.{tag_at};
 ghost use Rattle.der_core_head.specs.Heads.{head_at};
 ghost use Rattle.der_core_head.specs.Grammar.{slice_at, byte_at, peek_at};
-ghost use Rattle.der_core_head.specs.Reading.{State, ReadsNow, Peeks, Opens, Closes, past, broken};
+ghost use Rattle.der_core_head.specs.Reading.{State, Reads, ReadsNow, Peeks, Opens, Closes, past, broken};
 ghost use Rattle.der_core.specs.Fronts.{head_of, alone};
 
 use crate::header::{header_of, tag_of};
 use der_core_head::{Error, ErrorKind, Header, Length, Tag};
+use std::alloc::Global;
 
 /// What octets are read from: octets up to an end that can be set nearer, and a depth of ends.
 ///
@@ -178,5 +179,34 @@ pub trait Reader<'r>: Drop {
         }
         let (tag, _) = tag_of(octets)?;
         Ok(Some(tag))
+    }
+
+    /// The next octets, copied.
+    ///
+    /// # Errors
+    /// `Incomplete` where fewer are left, or `OutOfMemory`.
+    final fn read_vec(&mut self, alloc: Global, len: Length) -> Result<Vec<u8>, Error>
+        ensures { Reads (λ v. v.items) (state self.old) (state self.new) result (slice_at len.value) }
+    {
+        let octets = self.read_slice(len)?;
+        Ok(octets.to_vec(alloc)?)
+    }
+
+    /// That nothing is left to read.
+    ///
+    /// # Errors
+    /// `Failed` where the reader failed before, `TrailingData` where octets are left.
+    final fn finish(&self) -> Result<(), Error>
+        ensures ok { OnOk result (((state self.now).rest ≡ []) × ((state self.now).failed ≡ false)) }
+        ensures failed { IfErr result (λ e. (state self.now).failed ≡ true → e.kind ≡ ErrorKind.Failed) }
+        ensures left { IfErr result (λ e. (state self.now).failed ≡ false → ((state self.now).rest ≢ []) × (e.kind ≡ ErrorKind.TrailingData)) }
+    {
+        if self.is_failed() {
+            return Err(Error::from(ErrorKind::Failed));
+        }
+        if !self.is_finished() {
+            return Err(Error::from(ErrorKind::TrailingData));
+        }
+        Ok(())
     }
 }

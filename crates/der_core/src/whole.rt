@@ -5,6 +5,7 @@ ghost use Rattle.der_core_head.specs.Shapes.{Value, Spells};
 ghost use Rattle.der_core_head.specs.Spelling.{is_apart, are_enough};
 ghost use Rattle.der_core_head.specs.Grammar.{whole_at};
 ghost use Rattle.der_core_head.specs.Reading.{Gives};
+ghost use Rattle.der_core.specs.Fronts.{front_at};
 
 use crate::decode::Decode;
 use crate::reader::Reader;
@@ -47,4 +48,19 @@ pub fn from_der<'a, T: Decode<'a, SliceReader<'a>>>(
     ensures exact { Gives (λ v. (T.plain v, [])) result (whole_at T.shape bytes.now) }
 {
     read_whole(alloc, bytes)
+}
+
+/// The value at the front of the octets, and the octets behind it.
+///
+/// # Errors
+/// `Overflow` for 2^32 octets or more, else the first fault from the left, or `OutOfMemory`.
+pub fn from_der_partial<'a, T: Decode<'a, SliceReader<'a>>>(
+    alloc: Global,
+    bytes: &'a [u8],
+) -> Result<(T, &'a [u8]), Error>
+    ensures { Gives (λ x. (T.plain x.0, x.1.now)) result (front_at T.shape bytes.now) }
+{
+    let mut reader = SliceReader::new(bytes)?;
+    let value = T::decode(alloc, &mut reader)?;
+    Ok((value, reader.remaining()))
 }

@@ -7,10 +7,12 @@ ghost use Rattle.der_core_head.specs.Shapes.{nested, many, only};
 ghost use Rattle.der_core_head.specs.Grammar.{plain_list};
 
 use crate::decode::{Decode, DecodeValue, FixedTag, Shaped, ShapedValue};
+use crate::encode::{Encode, EncodeValue, sum_len};
 use crate::fields::{DecodeFields, Fields, read_fields};
 use crate::header::is_constructed;
 use crate::reader::Reader;
-use der_core_head::{Error, ErrorKind, Header, Tag, TagNumber};
+use crate::writer::Writer;
+use der_core_head::{Error, ErrorKind, Header, Length, Tag, TagNumber};
 use std::alloc::Global;
 
 impl<T: FixedTag> FixedTag for Box<T> {
@@ -160,5 +162,52 @@ impl<'a, R: Reader<'a>, T: DecodeValue<'a, R>, const N: u32> DecodeValue<'a, R> 
     ) -> Result<Implicit<T, N>, Error> {
         let value = T::decode_value(alloc, reader, header)?;
         Ok(Implicit { value })
+    }
+}
+
+impl<T: EncodeValue> EncodeValue for Box<T> {
+    fn value_len(&self) -> Result<Length, Error> {
+        (**self).value_len()
+    }
+
+    fn encode_value<W: Writer>(&self, writer: &mut W) -> Result<(), Error> {
+        (**self).encode_value(writer)
+    }
+}
+
+impl<T: Encode> EncodeValue for Vec<T> {
+    fn value_len(&self) -> Result<Length, Error> {
+        let mut len = Length { value: 0 };
+        for value in self {
+            len = sum_len(len, value.encoded_len()?)?;
+        }
+        Ok(len)
+    }
+
+    fn encode_value<W: Writer>(&self, writer: &mut W) -> Result<(), Error> {
+        for value in self {
+            value.encode(writer)?;
+        }
+        Ok(())
+    }
+}
+
+impl<T: Encode, const N: u32> EncodeValue for Explicit<T, N> {
+    fn value_len(&self) -> Result<Length, Error> {
+        self.value.encoded_len()
+    }
+
+    fn encode_value<W: Writer>(&self, writer: &mut W) -> Result<(), Error> {
+        self.value.encode(writer)
+    }
+}
+
+impl<T: EncodeValue, const N: u32> EncodeValue for Implicit<T, N> {
+    fn value_len(&self) -> Result<Length, Error> {
+        self.value.value_len()
+    }
+
+    fn encode_value<W: Writer>(&self, writer: &mut W) -> Result<(), Error> {
+        self.value.encode_value(writer)
     }
 }

@@ -17,3 +17,4 @@ pub mod Complete
 pub mod AllOctets
 pub mod Written
 pub mod Below
+pub mod BodyLaws

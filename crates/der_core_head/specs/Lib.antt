@@ -13,3 +13,4 @@ pub mod Spelling
 pub mod Grammar
 pub mod Writing
 pub mod Reading
+pub mod Bodies

@@ -2,12 +2,13 @@
 //!
 //! Each is the contract of a function that does nothing.
 
-ghost use Rattle.std.specs.Prelude.{◌≡◌, ℕ, List, ◌++◌, true, Ok};
+ghost use Rattle.std.specs.Prelude.{◌≡◌, ◌≤◌, ℕ, List, ◌++◌, length, take, drop, true, Ok};
 ghost use Rattle.der_core_head.specs.Octets.{IsOctets};
-ghost use Rattle.der_core_head.specs.Heads.{Fits};
+ghost use Rattle.der_core_head.specs.Heads.{Head, Fits, head_at};
 ghost use Rattle.der_core_head.specs.Shapes.{Shape, Value, IsValid, octets_of};
 ghost use Rattle.der_core_head.specs.Spelling.{is_apart, is_element, are_enough};
 ghost use Rattle.der_core_head.specs.Grammar.{read};
+ghost use Rattle.der_core_head.specs.Bodies.{IsIndefiniteBody, SpellsHead, body_len_at, head_ber_at};
 
 /// No encoding begins another, and no two values have one encoding (X.690 10, 11).
 ///
@@ -34,4 +35,21 @@ pub fn read_is_spelled()
 pub fn spelled_is_read()
     ensures { (s : Shape) (room : ℕ) (v : Value s) (r : List ℕ) → is_element s ≡ true → is_apart s ≡ true → are_enough s room ≡ true
         → IsValid s v → read s room (octets_of s v ++ r) ≡ Ok (v, r) }
+{}
+
+/// Under BER too what is read as a header is spelled so, and what is spelled so is read, whatever
+/// follows; what DER reads, BER reads (X.690 8.1.2, 8.1.3, 8.1.5).
+pub fn ber_headers_are_spelled()
+    ensures spelled { (h : Head) (r w : List ℕ) → IsOctets w → head_ber_at w ≡ Ok (h, r) → SpellsHead h r w }
+    ensures read { (h : Head) (r w : List ℕ) → SpellsHead h r w → head_ber_at w ≡ Ok (h, r) }
+    ensures der { (h : Head) (r w : List ℕ) → head_at w ≡ Ok (h, r) → head_ber_at w ≡ Ok (h, r) }
+{}
+
+/// A body of indefinite length has at least the two octets that end it, and where it ends doesn't
+/// depend on what follows it (X.690 8.1.3.6, 8.1.5).
+pub fn bodies_end_themselves()
+    ensures least { (k : ℕ) (b : List ℕ) → IsIndefiniteBody k b → 2 ≤ length b }
+    ensures body { (b more : List ℕ) → IsIndefiniteBody 64 b → Fits b → body_len_at (b ++ more) ≡ Ok (length b) }
+    ensures header { (h : Head) (n : ℕ) (w more : List ℕ) → IsOctets w → n ≤ length w → head_ber_at w ≡ Ok (h, drop n w)
+        → head_ber_at (take n w ++ (take h.len (drop n w) ++ more)) ≡ Ok (h, take h.len (drop n w) ++ more) }
 {}

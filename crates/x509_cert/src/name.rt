@@ -1,6 +1,6 @@
 //! Names.
 
-ghost use Rattle.std.specs.Prelude.{◌≡◌, ◌↔◌, IsTrue};
+ghost use Rattle.std.specs.Prelude.{◌≡◌, ◌↔◌, IfOk, IsTrue};
 ghost use Rattle.x509_cert.specs.Certificates.{name_octets};
 ghost use Rattle.der_core_head.specs.declared.tag.Tag.TheVariants.{Sequence};
 ghost use Rattle.der_core_head.specs.Shapes.{nested, done};
@@ -10,14 +10,14 @@ use der_core::{
     DecodeFields, DecodeValue, Error, Fields, FixedTag, Header, Reader, ShapedValue, Tag,
     read_fields,
 };
-use std::alloc::Global;
+use std::alloc::{AllocError, Global};
 
 /// A name (RFC 5280 4.1.2.4). The empty one is the only one that is read.
 ///
 /// ```text
 /// Name ::= SEQUENCE { }
 /// ```
-#[derive(Clone, Copy, Debug, PartialEq, Eq)]
+#[derive(Debug, PartialEq, Eq, Drop)]
 pub struct Name;
 
 impl FixedTag for Name {
@@ -59,5 +59,15 @@ impl Name {
         ensures { IsTrue result ↔ (name_octets (name_plain self.now) ≡ name_octets (name_plain _other.now)) }
     {
         true
+    }
+
+    /// A copy.
+    ///
+    /// # Errors
+    /// Want of memory.
+    pub fn clone(&self, _alloc: Global) -> Result<Name, AllocError>
+        ensures { IfOk result (λ name. name_plain name ≡ name_plain self.now) }
+    {
+        Ok(Name)
     }
 }

@@ -1,0 +1,5 @@
+use Rattle.const_oid.proofs.OctetFaultLaws.{wider_read}
+use Rattle.const_oid.proofs.laws.wider_bounds_read_the_same.Goals as goal
+
+pub returns : goal.returns
+returns c = wider_read

@@ -1,0 +1,107 @@
+//! Databases of identifiers and their names, as slices that the caller gives.
+
+ghost use Rattle.std.specs.Prelude.{◌≡◌, ℕ, List, Option};
+
+use crate::error::Result;
+use crate::object_identifier::ObjectIdentifier;
+
+/// An identifier and its name.
+pub type Entry<'a> = (&'a ObjectIdentifier<39>, &'a str);
+
+/// A database of identifiers and their names. Entries may repeat either; the first match is the answer.
+#[derive(Clone, Copy)]
+pub struct Database<'a> {
+    entries: &'a [Entry<'a>],
+}
+
+/// The names of one identifier, in the order of the entries.
+#[derive(Clone, Copy, Drop)]
+pub struct Names<'a> {
+    entries: &'a [Entry<'a>],
+    passed: usize,
+    oid: ObjectIdentifier<39>,
+}
+
+impl<'a> Database<'a> {
+    ghost use Rattle.std.specs.Prelude.{◌≡◌, option_map};
+    ghost use Rattle.const_oid.specs.Databases.{entries_of, remaining_names};
+    ghost use Rattle.const_oid.specs.Names.{names_of, first, by_name, resolved};
+    ghost use Rattle.const_oid.specs.TextReading.{read_text};
+    ghost use Rattle.const_oid.specs.Bound.{Bound};
+    ghost use Rattle.std.specs.Result.{result_map_both};
+
+    /// A database of these entries.
+    #[inline]
+    pub const fn new(entries: &'a [Entry<'a>]) -> Self
+        ensures { entries_of result ≡ entries.now }
+    {
+        Database { entries }
+    }
+
+    /// The names of an identifier, in the order of the entries.
+    #[inline]
+    pub fn find_names_for_oid(&self, oid: ObjectIdentifier<39>) -> Names<'a>
+        ensures { remaining_names result ≡ names_of oid (entries_of self.now) }
+    {
+        Names {
+            entries: self.entries,
+            passed: 0,
+            oid,
+        }
+    }
+
+    /// The first name of an identifier.
+    pub fn by_oid(&self, oid: &ObjectIdentifier<39>) -> Option<&'a str>
+        ensures { option_map (λ name. name.now) result ≡ first (names_of oid.now (entries_of self.now)) }
+    {
+        self.find_names_for_oid(*oid).next()
+    }
+
+    /// The identifier of the first entry of this name, ASCII case put aside.
+    pub fn by_name(&self, name: &str) -> Option<&'a ObjectIdentifier<39>>
+        ensures { option_map (λ oid. oid.now) result ≡ by_name name.now (entries_of self.now) }
+    {
+        for i in 0..self.entries.len() {
+            let (oid, known) = self.entries[i];
+            if known.eq_ignore_ascii_case(name) {
+                return Some(oid);
+            }
+        }
+        None
+    }
+
+    /// The first name of the identifier that a dotted text writes, or the text itself where the identifier has none.
+    pub fn resolve<'b>(&self, oid: &'b str) -> Result<&'b str>
+    where
+        'a: 'b,
+        ensures { result_map_both (λ name. name.now) (λ e. e) result ≡ resolved oid.now (entries_of self.now) (read_text Bound 39 oid.now) }
+    {
+        let identifier = ObjectIdentifier::<39>::new(oid)?;
+        match self.by_oid(&identifier) {
+            Some(name) => Ok(name),
+            None => Ok(oid),
+        }
+    }
+}
+
+impl<'a> Iterator for Names<'a> {
+    ghost use Rattle.std.specs.Iterator.{YieldsFirstBy, item_count};
+    ghost use Rattle.const_oid.specs.Databases.{remaining_names};
+
+    type Item = &'a str;
+
+    ghost next_gives = { YieldsFirstBy (λ name. name.now) remaining_names };
+
+    ghost remaining = { item_count remaining_names };
+
+    fn next(&mut self) -> Option<&'a str> {
+        while self.passed < self.entries.len() {
+            let (known, name) = self.entries[self.passed];
+            self.passed += 1;
+            if *known == self.oid {
+                return Some(name);
+            }
+        }
+        None
+    }
+}

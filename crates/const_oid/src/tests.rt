@@ -1,0 +1,116 @@
+//! Texts and octets of identifiers against worked values.
+
+use super::*;
+
+/// The octets, in hexadecimal.
+fn hex(rt: &HostRuntime, octets: &[u8]) -> std::result::Result<String, std::alloc::AllocError> {
+    let mut text = String::new(rt.alloc());
+    for octet in octets {
+        text.push_str(format!(in rt.alloc(); "{octet:02X}")?.as_str())?;
+    }
+    Ok(text)
+}
+
+#[test]
+fn reads_texts(rt: HostRuntime) {
+    for (text, want) in [
+        ("", Error::Empty),
+        ("1", Error::Empty),
+        (".", Error::DigitExpected { actual: 46 }),
+        (".1.2", Error::DigitExpected { actual: 46 }),
+        ("1.x", Error::DigitExpected { actual: 120 }),
+        ("1..2", Error::RepeatedDot),
+        ("1.2.", Error::TrailingDot),
+        ("1.40", Error::ArcInvalid { arc: 40 }),
+        ("3.1", Error::ArcInvalid { arc: 3 }),
+        ("3", Error::ArcInvalid { arc: 3 }),
+        ("3.2.840.10045.2.1", Error::ArcInvalid { arc: 3 }),
+        ("1.2.4294967296", Error::ArcTooBig),
+    ] {
+        assert!(rt; ObjectIdentifier::<39>::new(text) == Err(want), "{text}");
+    }
+}
+
+#[test]
+fn prints_texts(rt: HostRuntime) -> Result<()> {
+    for (text, octets, printed) in [
+        ("01.02", "2A", "1.2"),
+        ("1.2.4294967295", "2A8FFFFFFF7F", "1.2.4294967295"),
+        ("1.2.840.10045.2.1", "2A8648CE3D0201", "1.2.840.10045.2.1"),
+        ("2.5.4.3", "550403", "2.5.4.3"),
+        ("2.39.128", "778100", "2.39.128"),
+    ] {
+        let oid = ObjectIdentifier::<39>::new(text)?;
+        let shown = format!(in rt.alloc(); "{oid}").expect(&rt, "memory");
+        assert!(rt; shown.as_str() == printed, "{text}");
+        let written = hex(&rt, oid.as_bytes()).expect(&rt, "memory");
+        assert!(rt; written.as_str() == octets, "{text}");
+        assert!(rt;
+            ObjectIdentifier::<39>::from_bytes(oid.as_bytes()) == Ok(oid),
+            "{text}"
+        );
+        assert!(rt; text.parse::<ObjectIdentifier<39>>() == Ok(oid), "{text}");
+        assert!(rt;
+            ObjectIdentifier::<39>::from_arcs(oid.arcs()) == Ok(oid),
+            "{text}"
+        );
+    }
+    Ok(())
+}
+
+#[test]
+fn reads_octets(rt: HostRuntime) {
+    let none: [u8; 0] = [];
+    assert!(rt; ObjectIdentifier::<39>::from_bytes(&none) == Err(Error::Empty));
+    assert!(rt; ObjectIdentifier::<39>::from_bytes(&[0x78]) == Err(Error::ArcInvalid { arc: 3 }));
+    assert!(rt; ObjectIdentifier::<39>::from_bytes(&[0x2a, 0x86]) == Err(Error::Base128));
+    assert!(rt; ObjectIdentifier::<39>::from_bytes(&[0x2a, 0x80, 0x01]) == Err(Error::Base128));
+    assert!(rt;
+        ObjectIdentifier::<39>::from_bytes(&[0x2a, 0x90, 0x80, 0x80, 0x80, 0x00])
+            == Err(Error::ArcTooBig)
+    );
+    assert!(rt; ObjectIdentifier::<39>::from_bytes(&[0x2a; 40]) == Err(Error::Length));
+    assert!(rt; ObjectIdentifier::<39>::from_bytes(&[0x2a]) == ObjectIdentifier::<39>::new("1.2"));
+    assert!(rt; ObjectIdentifierRef::from_bytes(&[0x2a, 0x80, 0x01]).is_err());
+}
+
+#[test]
+fn moves_by_one_arc(rt: HostRuntime) -> Result<()> {
+    let root = ObjectIdentifier::<39>::new("1.2")?;
+    assert!(rt; root.parent().is_none());
+    let long = ObjectIdentifier::<39>::from_bytes(&[0x2a; 39])?;
+    assert!(rt; long.push_arc(1) == Err(Error::Length));
+    let child = root.push_arc(300)?;
+    assert!(rt; child == ObjectIdentifier::<39>::new("1.2.300")?);
+    assert!(rt; child.parent() == Some(root));
+    assert!(rt; child.starts_with(root));
+    assert!(rt; !root.starts_with(child));
+    assert_eq!(rt; child.len(), 3);
+    assert!(rt; child.arc(2) == Some(300));
+    assert!(rt; child.arc(3).is_none());
+    assert!(rt; root < child);
+    assert!(rt; child.as_oid_ref().equals_owned(&child));
+    assert!(rt; ObjectIdentifier::<39>::try_from(child.as_oid_ref()) == Ok(child));
+    Ok(())
+}
+
+#[test]
+fn finds_names(rt: HostRuntime) -> Result<()> {
+    let common = ObjectIdentifier::<39>::new("2.5.4.3")?;
+    let country = ObjectIdentifier::<39>::new("2.5.4.6")?;
+    let entries = [(&common, "CN"), (&country, "C"), (&common, "commonName")];
+    let database = Database::new(&entries);
+    assert!(rt; database.by_oid(&common) == Some("CN"));
+    assert!(rt; database.resolve("2.5.4.6") == Ok("C"));
+    assert!(rt; database.resolve("2.5.4.7") == Ok("2.5.4.7"));
+    assert!(rt; database.resolve("2.5..7") == Err(Error::RepeatedDot));
+    match database.by_name("COMMONname") {
+        Some(oid) => assert!(rt; *oid == common),
+        None => assert!(rt; false),
+    }
+    let mut names = database.find_names_for_oid(common);
+    assert!(rt; names.next() == Some("CN"));
+    assert!(rt; names.next() == Some("commonName"));
+    assert!(rt; names.next().is_none());
+    Ok(())
+}
