@@ -18,8 +18,6 @@ mod scan;
 mod signature_judge;
 mod standing;
 mod status;
-#[cfg(test)]
-mod tests;
 
 pub use anchor::Anchor;
 pub use bundle::Bundle;

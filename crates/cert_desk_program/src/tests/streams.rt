@@ -1,6 +1,6 @@
 //! Streams that are refused before a certificate is whole, and what a bundle answers then.
 
-use crate::{Bundle, BundleError, FaultKind, ReadError, Standing};
+use cert_desk::{Bundle, BundleError, FaultKind, ReadError, Standing};
 use cert_desk_io::MemoryInput;
 use std::test::Fail;
 
