@@ -22,6 +22,9 @@ mod status;
 pub use anchor::Anchor;
 pub use bundle::Bundle;
 pub use bundle_error::{BundleError, ReadError};
+pub use cert_desk_io::{
+    DeviceError, FromRead, Input, MemoryInput, MemoryOutput, Output, ToWrite, write_all,
+};
 pub use checked::{CheckError, Checked, Verdict};
 pub use checking::check;
 pub use digest_judge::DigestJudge;

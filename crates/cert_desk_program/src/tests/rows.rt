@@ -64,6 +64,15 @@ const OTHER_OUTER_ALGORITHM: [u8; 68] = [
     0x03, 0x02, 0x00, 0x00,
 ];
 
+// The same with the first date spelled as GeneralizedTime: 70 octets, of which the 59 from offset 2 on are signed.
+const GENERALIZED_DATE: [u8; 70] = [
+    0x30, 0x44, 0x30, 0x39, 0x02, 0x01, 0x01, 0x30, 0x03, 0x06, 0x01, 0x2a, 0x30, 0x00, 0x30, 0x20,
+    0x18, 0x0f, 0x32, 0x30, 0x30, 0x32, 0x30, 0x31, 0x30, 0x31, 0x31, 0x32, 0x30, 0x31, 0x30, 0x30,
+    0x5a, 0x17, 0x0d, 0x33, 0x30, 0x31, 0x32, 0x33, 0x31, 0x30, 0x38, 0x33, 0x30, 0x30, 0x30, 0x5a,
+    0x30, 0x00, 0x30, 0x09, 0x30, 0x03, 0x06, 0x01, 0x2a, 0x03, 0x02, 0x00, 0x00, 0x30, 0x03, 0x06,
+    0x01, 0x2a, 0x03, 0x02, 0x00, 0x00,
+];
+
 // 2002-01-01T12:01:00Z, the first second of the validity, and 2030-12-31T08:30:00Z, the last one.
 const FIRST_SECOND: u64 = 1009886460;
 
@@ -229,6 +238,14 @@ fn verdicts(rt: HostRuntime) -> Result<(), Fail> {
             verdict: refused(Rule::AlgorithmsDiffer),
             calls: 0,
         },
+        // A date in the other spelling.
+        Row {
+            stream: &GENERALIZED_DATE,
+            piece: 70,
+            moment: FIRST_SECOND,
+            verdict: Verdict::Trusted,
+            calls: 1,
+        },
     ];
     let anchors = [minimal_anchor(alloc)?];
     for row in &rows {
@@ -249,35 +266,38 @@ fn verdicts(rt: HostRuntime) -> Result<(), Fail> {
     Ok(())
 }
 
-// The judge is handed the 57 octets from offset 2.
+// The judge is handed the 57 octets, or the 59, from offset 2.
 #[test]
 fn judge_gets_signed_octets(rt: HostRuntime) -> Result<(), Fail> {
     let alloc = rt.alloc();
     let anchors = [minimal_anchor(alloc)?];
-    let bundle = bundle_of(alloc, &MINIMAL_CERTIFICATE, 68)?;
-    let mut judge = OctetsJudge {
-        octets: &MINIMAL_CERTIFICATE[2..59],
-        questions: 0,
-    };
-    let checked = check(
-        alloc,
-        &bundle,
-        &anchors,
-        FIRST_SECOND,
-        &any_purpose()?,
-        &mut judge,
-    )?;
-    assert_eq!(rt;
-        checked,
-        Checked {
+    let streams = [
+        (MINIMAL_CERTIFICATE.as_slice(), &MINIMAL_CERTIFICATE[2..59]),
+        (GENERALIZED_DATE.as_slice(), &GENERALIZED_DATE[2..61]),
+    ];
+    for (stream, octets) in streams {
+        let bundle = bundle_of(alloc, stream, 100)?;
+        let mut judge = OctetsJudge {
+            octets,
+            questions: 0,
+        };
+        let checked = check(
+            alloc,
+            &bundle,
+            &anchors,
+            FIRST_SECOND,
+            &any_purpose()?,
+            &mut judge,
+        )?;
+        let trusted = Checked {
             verdict: Verdict::Trusted,
-            calls: 1
-        }
-    );
+            calls: 1,
+        };
+        assert_eq!(rt; checked, trusted);
+    }
     Ok(())
 }
 
-// With no anchor nobody is asked.
 #[test]
 fn no_anchor(rt: HostRuntime) -> Result<(), Fail> {
     let alloc = rt.alloc();

@@ -174,3 +174,36 @@ fn input_that_fails(rt: HostRuntime) -> Result<(), Fail> {
     assert_eq!(rt; input.left().len(), 38);
     Ok(())
 }
+
+#[test]
+fn octet_behind_a_certificate(rt: HostRuntime) -> Result<(), Fail> {
+    let mut bundle = Bundle::new(rt.alloc(), 100);
+    bundle.feed(&MINIMAL_CERTIFICATE)?;
+    let fault = BundleError::Fault {
+        place: 1,
+        offset: 68,
+        kind: FaultKind::NoCertificate,
+    };
+    assert_eq!(rt; bundle.feed(&[0]), Err(fault));
+    assert_eq!(rt; bundle.feed(&[0]), Err(BundleError::Failed));
+    assert_eq!(rt; bundle.feed(&[]), Err(BundleError::Failed));
+    assert_eq!(rt; bundle.len(), 1);
+    Ok(())
+}
+
+#[test]
+fn lends_a_certificate(rt: HostRuntime) -> Result<(), Fail> {
+    let mut bundle = Bundle::new(rt.alloc(), 100);
+    for piece in MINIMAL_CERTIFICATE.chunks(30) {
+        bundle.feed(piece)?;
+    }
+    bundle.finish()?;
+    let Some(entry) = bundle.get(0) else {
+        return Err(Fail::from("no certificate"));
+    };
+    assert_eq!(rt; entry.offset, 0);
+    assert_eq!(rt; entry.octets, MINIMAL_CERTIFICATE.as_slice());
+    assert_eq!(rt; entry.signed, &MINIMAL_CERTIFICATE[2..59]);
+    assert_eq!(rt; bundle.get(1).is_none(), true);
+    Ok(())
+}
