@@ -14,7 +14,7 @@ pub data Repertoire : Type 0 where
   ascii : Repertoire  -- those below 128
   any_octet : Repertoire  -- all
 
--- space ' ( ) + , - . / : = ?
+-- the signs of a PrintableString beside letters and digits: space ' ( ) + , - . / : = ? (X.680 41.4)
 abbrev pub printable_signs : List ℕ
 printable_signs = 32 ∷ 39 ∷ 40 ∷ 41 ∷ 43 ∷ 44 ∷ 45 ∷ 46 ∷ 47 ∷ 58 ∷ 61 ∷ 63 ∷ []
 
