@@ -1,14 +1,3 @@
-pub mod Digits
-pub mod IdentifierOctets
-pub mod Bound
-pub mod Arcs
-pub mod Buffers
-pub mod Outcome
-pub mod References
-pub mod DottedText
-pub mod Orders
-pub mod ArcLists
-pub mod TextReading
 pub mod Names
 pub mod Databases
-pub mod OctetFaults
+pub mod LeadingZeros

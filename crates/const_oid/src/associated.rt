@@ -1,6 +1,6 @@
 //! Types that have an identifier.
 
-use crate::object_identifier::ObjectIdentifier;
+use const_oid_identifiers::ObjectIdentifier;
 
 /// A type that has an identifier.
 pub trait AssociatedOid {

@@ -2,8 +2,7 @@
 
 ghost use Rattle.std.specs.Prelude.{◌≡◌, ℕ, List, Option};
 
-use crate::error::Result;
-use crate::object_identifier::ObjectIdentifier;
+use const_oid_identifiers::{ObjectIdentifier, Result};
 
 /// An identifier and its name.
 pub type Entry<'a> = (&'a ObjectIdentifier<39>, &'a str);
@@ -23,11 +22,12 @@ pub struct Names<'a> {
 }
 
 impl<'a> Database<'a> {
-    ghost use Rattle.std.specs.Prelude.{◌≡◌, option_map};
+    ghost use Rattle.std.specs.Prelude.{◌≡◌, option_map, IfErr};
     ghost use Rattle.const_oid.specs.Databases.{entries_of, remaining_names};
     ghost use Rattle.const_oid.specs.Names.{names_of, first, by_name, resolved};
-    ghost use Rattle.const_oid.specs.TextReading.{read_text};
-    ghost use Rattle.const_oid.specs.Bound.{Bound};
+    ghost use Rattle.const_oid_identifiers.specs.TextReading.{read_text};
+    ghost use Rattle.const_oid_identifiers.specs.TextFaults.{IsTextFault};
+    ghost use Rattle.const_oid_identifiers.specs.Bound.{Bound};
     ghost use Rattle.std.specs.Result.{result_map_both};
 
     /// A database of these entries.
@@ -74,7 +74,8 @@ impl<'a> Database<'a> {
     pub fn resolve<'b>(&self, oid: &'b str) -> Result<&'b str>
     where
         'a: 'b,
-        ensures { result_map_both (λ name. name.now) (λ e. e) result ≡ resolved oid.now (entries_of self.now) (read_text Bound 39 oid.now) }
+        ensures name { result_map_both (λ name. name.now) (λ e. e) result ≡ resolved oid.now (entries_of self.now) (read_text Bound 39 oid.now) }
+        ensures fault { IfErr result (λ e. IsTextFault Bound 39 oid.now e) }
     {
         let identifier = ObjectIdentifier::<39>::new(oid)?;
         match self.by_oid(&identifier) {

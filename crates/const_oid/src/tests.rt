@@ -1,6 +1,10 @@
 //! Texts and octets of identifiers against worked values.
 
+ghost use Rattle.std.specs.Prelude.{◌∷◌, []};
+
 use super::*;
+use std::convert::AsSlice;
+use std::hash::{DefaultHasher, Hash, Hasher};
 
 /// The octets, in hexadecimal.
 fn hex(rt: &HostRuntime, octets: &[u8]) -> std::result::Result<String, std::alloc::AllocError> {
@@ -112,5 +116,106 @@ fn finds_names(rt: HostRuntime) -> Result<()> {
     assert!(rt; names.next() == Some("CN"));
     assert!(rt; names.next() == Some("commonName"));
     assert!(rt; names.next().is_none());
+    Ok(())
+}
+
+/// What a hasher makes of a value.
+fn hash_of<T: Hash>(value: &T) -> u64 {
+    let mut state = DefaultHasher::new();
+    value.hash(&mut state);
+    state.finish()
+}
+
+#[test]
+fn lends(rt: HostRuntime) -> Result<()> {
+    let text = "1.2.840.10045.2.1";
+    let octets = [0x2a, 0x86, 0x48, 0xce, 0x3d, 0x02, 0x01];
+    let oid = ObjectIdentifier::<39>::try_from(octets.as_slice())?;
+    let borrowed = ObjectIdentifierRef::try_from(octets.as_slice())?;
+    assert!(rt; ObjectIdentifier::<39>::new(text).is_ok());
+    if ObjectIdentifier::<39>::new(text).is_ok() {
+        assert!(rt; ObjectIdentifier::<39>::new_unwrap(text) == oid);
+    }
+    assert!(rt; oid.as_slice() == octets.as_slice());
+    assert!(rt; borrowed.as_slice() == octets.as_slice());
+    assert!(rt; ObjectIdentifierRef::from(&oid) == borrowed);
+    assert!(rt; ObjectIdentifier::<39>::try_from(borrowed) == Ok(oid));
+    assert!(rt; ObjectIdentifier::<6>::try_from(borrowed) == Err(Error::Length));
+    assert!(rt; borrowed.equals_owned(&oid));
+    let parent = ObjectIdentifierRef::from_bytes(&octets[..6])?;
+    assert!(rt; !parent.equals_owned(&oid));
+    assert!(rt; parent < borrowed);
+    let shorter = ObjectIdentifierRef::from_bytes(&[0x55])?;
+    assert!(rt; borrowed < shorter);
+    assert!(rt; hash_of(&oid) == hash_of(&borrowed));
+    assert_eq!(rt; borrowed.len(), 6);
+    assert!(rt; borrowed.arc(3) == Some(10045));
+    let mut arcs = borrowed.arcs();
+    for want in [1, 2, 840, 10045, 2, 1] {
+        assert!(rt; arcs.next() == Some(want), "{want}");
+    }
+    assert!(rt; arcs.next().is_none());
+    assert!(rt; arcs.next().is_none());
+    Ok(())
+}
+
+#[test]
+fn shows(rt: HostRuntime) -> Result<()> {
+    let oid = ObjectIdentifier::<39>::new("2.5.4.3")?;
+    let borrowed = oid.as_oid_ref();
+    let shown = format!(in rt.alloc(); "{borrowed} {borrowed:?} {oid:?}").expect(&rt, "memory");
+    assert!(rt; shown.as_str() == "2.5.4.3 ObjectIdentifierRef(2.5.4.3) ObjectIdentifier(2.5.4.3)");
+    for (error, want) in [
+        (
+            Error::ArcInvalid { arc: 40 },
+            "OID contains out-of-range arc: 40",
+        ),
+        (
+            Error::ArcTooBig,
+            "OID contains arc which is larger than 32-bits",
+        ),
+        (
+            Error::Base128,
+            "OID contains arc with invalid base 128 encoding",
+        ),
+        (
+            Error::DigitExpected { actual: b'x' },
+            "expected digit, got 'x'",
+        ),
+        (Error::Empty, "OID value is empty"),
+        (Error::Length, "OID length invalid"),
+        (Error::Overflow, "internal calculation overflowed"),
+        (
+            Error::RepeatedDot,
+            "repeated consecutive '..' characters in OID",
+        ),
+        (Error::TrailingDot, "OID ends with invalid trailing '.'"),
+    ] {
+        let text = format!(in rt.alloc(); "{error}").expect(&rt, "memory");
+        assert!(rt; text.as_str() == want);
+    }
+    Ok(())
+}
+
+/// The attribute 2.5.4.3 (X.520 6.2.2).
+struct CommonName;
+
+impl AssociatedOid for CommonName {
+    ghost oid_arcs = { 2 ∷ 5 ∷ 4 ∷ 3 ∷ [] };
+
+    #[tactic(auto, unfolding(const_oid_identifiers::specs::IdentifierOctets::read_identifier, const_oid_identifiers::specs::IdentifierOctets::read_arcs, const_oid_identifiers::specs::Bound::Bound))]
+    fn associated_oid() -> ObjectIdentifier<39> {
+        match ObjectIdentifier::<39>::from_bytes(&[0x55, 0x04, 0x03]) {
+            Ok(oid) => oid,
+            Err(_) => unreachable!(),
+        }
+    }
+}
+
+#[test]
+fn tells_the_identifier_of_a_type(rt: HostRuntime) -> Result<()> {
+    let want = ObjectIdentifier::<39>::new("2.5.4.3")?;
+    assert!(rt; CommonName::associated_oid() == want);
+    assert!(rt; CommonName.oid() == want);
     Ok(())
 }

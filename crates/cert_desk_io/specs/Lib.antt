@@ -1,5 +1,0 @@
-pub mod Devices
-pub mod Readers
-pub mod Writers
-pub mod Pieces
-pub mod Memory

@@ -1,0 +1,49 @@
+-- What lists begin with, and which octets a wider bound of arcs reads newly.
+use Rattle.std.proofs.Common.{◌≡◌, ℕ, suc, ◌<◌, ◌≤◌, ◌⊎◌, inl, inr, List, [], ◌∷◌, ◌++◌, length, get_or, Ok, Err, sym, ap, subst, ◌∙◌, append_assoc, append-nil, arith}
+use Rattle.std.specs.List.{AllByRecursion}
+use Rattle.std.proofs.lemmas.Bool.{cases_lt}
+use Rattle.const_oid_identifiers.specs.declared.error.Error.{Error}
+use Rattle.const_oid_identifiers.specs.IdentifierOctets.{identifier_octets, IsIdentifier, read_identifier}
+use Rattle.const_oid_identifiers.proofs.IdentifierLaws.{identifier_sound, identifier_again}
+
+pub begins_itself : (a : List ℕ) → (rest : List ℕ) × (a ≡ a ++ rest)
+begins_itself a = ([], sym (append-nil a))
+
+pub begins_chained : (a b c : List ℕ) → (rest : List ℕ) × (a ≡ b ++ rest) → (rest : List ℕ) × (b ≡ c ++ rest) → (rest : List ℕ) × (a ≡ c ++ rest)
+begins_chained a b c p q = (q.0 ++ p.0, p.1 ∙ ap (λ t. t ++ p.0) q.1 ∙ append_assoc c q.0 p.0)
+
+-- all numbers are below a bound, or one is not
+all_or_one : (bound : ℕ) (xs : List ℕ) → AllByRecursion (λ n. n < bound) xs ⊎ ((i : ℕ) × (i < length xs) × (bound ≤ get_or xs i 0))
+all_or_one bound [] = inl tt
+all_or_one bound (x ∷ xs) = by (cases_lt x bound) (all_or_one bound xs)
+  where
+    by : (x < bound) ⊎ (bound ≤ x) → AllByRecursion (λ n. n < bound) xs ⊎ ((i : ℕ) × (i < length xs) × (bound ≤ get_or xs i 0))
+        → AllByRecursion (λ n. n < bound) (x ∷ xs) ⊎ ((i : ℕ) × (i < length (x ∷ xs)) × (bound ≤ get_or (x ∷ xs) i 0))
+    by (inr l) _ = inr (0, omega arith, l)
+    by (inl l) (inl all) = inl (l, all)
+    by (inl l) (inr p) = inr (suc p.0, omega (arith, p.1), p.2)
+
+-- an identifier under a wide bound is one under a narrow one, or has a large arc
+narrow : (small large : ℕ) (arcs : List ℕ) → IsIdentifier large arcs → IsIdentifier small arcs ⊎ ((i : ℕ) × (i < length arcs) × (small ≤ get_or arcs i 0))
+unfolding IsIdentifier
+narrow small large [] id = absurd id
+narrow small large (a ∷ []) id = absurd id
+narrow small large (a ∷ b ∷ arcs) id = by (all_or_one small arcs)
+  where
+    by : AllByRecursion (λ n. n < small) arcs ⊎ ((i : ℕ) × (i < length arcs) × (small ≤ get_or arcs i 0)) → IsIdentifier small (a ∷ b ∷ arcs) ⊎ ((i : ℕ) × (i < length (a ∷ b ∷ arcs)) × (small ≤ get_or (a ∷ b ∷ arcs) i 0))
+    by (inl all) = inl (id.0, id.1, all)
+    by (inr p) = inr (suc (suc p.0), omega (arith, p.1), p.2)
+
+pub newly_read : (small large capacity : ℕ) (w arcs : List ℕ) (e : Error) → ((i : ℕ) → get_or w i 0 < 256) → read_identifier large capacity w ≡ Ok arcs → read_identifier small capacity w ≡ Err e
+    → (i : ℕ) × (i < length arcs) × (small ≤ get_or arcs i 0)
+newly_read small large capacity w arcs e bytes read refused = by (narrow small large arcs sound.0)
+  where
+    sound : IsIdentifier large arcs × (length w ≤ capacity) × (w ≡ identifier_octets arcs)
+    sound = identifier_sound large capacity w arcs bytes read
+
+    by : IsIdentifier small arcs ⊎ ((i : ℕ) × (i < length arcs) × (small ≤ get_or arcs i 0)) → (i : ℕ) × (i < length arcs) × (small ≤ get_or arcs i 0)
+    by (inr p) = p
+    by (inl id) =
+        let again = identifier_again small capacity arcs id (subst (λ t. length t ≤ capacity) sound.2 sound.1) in
+        let ok : read_identifier small capacity w ≡ Ok arcs = ap (read_identifier small capacity) sound.2 ∙ again in
+        absurd (cc)

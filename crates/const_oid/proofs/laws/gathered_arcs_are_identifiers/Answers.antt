@@ -1,0 +1,5 @@
+use Rattle.const_oid_identifiers.proofs.ArcFaultLaws.{gathered_are_identifier}
+use Rattle.const_oid.proofs.laws.gathered_arcs_are_identifiers.Goals as goal
+
+pub returns : goal.returns
+returns c = gathered_are_identifier

@@ -1,0 +1,5 @@
+use Rattle.const_oid_identifiers.proofs.TextRoundLaws.{identifier_gathered}
+use Rattle.const_oid.proofs.laws.identifiers_are_gathered.Goals as goal
+
+pub returns : goal.returns
+returns c = identifier_gathered

@@ -1,0 +1,5 @@
+use Rattle.const_oid_identifiers.proofs.TextFaultLaws.{text_read}
+use Rattle.const_oid.proofs.laws.spelled_texts_are_read.Goals as goal
+
+pub returns : goal.returns
+returns c = text_read

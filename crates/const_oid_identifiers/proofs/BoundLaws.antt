@@ -1,0 +1,24 @@
+-- The bound of arcs is where the type of an arc ends. Nothing else rests on its value.
+use Rattle.std.proofs.Common.{◌≡◌, ℕ, ◌^◌, ◌<◌, ◌≤◌, Option, Some, None, ltb, cond, refl, arith}
+use Rattle.std.specs.Option.{SomeIff}
+use Rattle.std.proofs.lemmas.Bool.{lt-ltb, le-ltb}
+use Rattle.const_oid_identifiers.specs.Bound.{Bound}
+
+pub Bound-is : Bound ≡ 2 ^ 32
+unfolding Bound
+Bound-is = refl
+
+-- a sum or product that is checked against the type is checked against the bound
+pub checked : (r : Option ℕ) (n : ℕ) → SomeIff r (n < 2 ^ 32) n → r ≡ cond (ltb n Bound) (Some n) None
+checked None n past = let large : Bound ≤ n = omega (arith, Bound-is) in rw (le-ltb n Bound large) refl
+checked (Some x) n fits = let small : n < Bound = omega (arith, fits.0, Bound-is) in rw (lt-ltb n Bound small, fits.1) refl
+
+-- what is above a number that doesn't fit doesn't fit
+pub unchecked : (m n : ℕ) → (m < 2 ^ 32 → ⊥) → m ≤ n → None ≡ cond (ltb n Bound) (Some n) None
+unchecked m n past l = let large : Bound ≤ n = omega (arith, Bound-is) in rw (le-ltb n Bound large) refl
+
+pub fits_type : (n : ℕ) → n < Bound → n < 2 ^ 32
+fits_type n l = omega (arith, Bound-is)
+
+pub below_bound : (n : ℕ) → n < 2 ^ 32 → n < Bound
+below_bound n l = omega (arith, Bound-is)

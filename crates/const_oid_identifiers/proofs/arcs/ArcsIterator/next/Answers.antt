@@ -1,0 +1,12 @@
+use Rattle.std.proofs.Common.{◌≡◌, List, ℕ, [], ◌++◌, ap, ◌∙◌}
+use Rattle.std.specs.Prelude.{option_to_list}
+use Rattle.const_oid_identifiers.specs.Arcs.{later_arcs}
+use Rattle.const_oid_identifiers.specs.References.{remaining_arcs}
+use Rattle.const_oid_identifiers.proofs.ArcsLaws.{later_arcs-nil}
+use Rattle.const_oid_identifiers.proofs.arcs.ArcsIterator.next.Goals as goal
+
+pub returns-in_default-first_arc-clause-steps : goal.returns-in_default-first_arc-clause-steps
+returns-in_default-first_arc-clause-steps c =
+    let s = c.args.self.now in
+    let none : remaining_arcs s ≡ [] = rw (c.in_default.is, c.in_default-second.is) (later_arcs-nil 0 s.later.now c.in_default-first_arc.ensures) in
+    (none, none)

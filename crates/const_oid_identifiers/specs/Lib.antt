@@ -1,0 +1,16 @@
+pub mod Digits
+pub mod IdentifierOctets
+pub mod Bound
+pub mod Arcs
+pub mod Buffers
+pub mod Outcome
+pub mod References
+pub mod DottedText
+pub mod Orders
+pub mod ArcLists
+pub mod TextReading
+pub mod OctetFaults
+pub mod Comparing
+pub mod Family
+pub mod ArcFaults
+pub mod TextFaults

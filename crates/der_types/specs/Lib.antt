@@ -1,5 +1,0 @@
-pub mod Seconds
-pub mod DateTimes
-pub mod Times
-pub mod BitStrings
-pub mod Ints

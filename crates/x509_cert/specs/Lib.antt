@@ -1,2 +1,0 @@
-pub mod Certificates
-pub mod Views
