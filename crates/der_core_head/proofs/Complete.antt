@@ -1,0 +1,326 @@
+-- What is spelled so is read.
+use Rattle.std.proofs.Common.{◌≡◌, ℕ, zero, suc, ◌-◌, ◌≤◌, Bool, true, false, not, List, [], ◌∷◌, ◌++◌, length, Option, Some, None, Result, Ok, refl, sym, ap, subst, ◌∙◌, append_assoc, arith, inl, inr, ◌⊎◌}
+use mathlib.Core.Bool.{◌&&◌}
+use Rattle.std.proofs.lemmas.Bool.{and_parts, or_left, or_right, or_cases, false≢true, not-true}
+use Rattle.std.proofs.lemmas.List.{append-nil, take_at, drop_at, length-append}
+use Rattle.std.specs.List.{flat_map, AllByRecursion}
+use Rattle.std.specs.Str.{bytes_eq}
+use Rattle.std.specs.Bool.{⊤}
+use Rattle.std.proofs.lemmas.Slice.Eq.{bytes_eq-Decides}
+use Rattle.std.specs.Ordering.{nat_cmp}
+use Rattle.std.specs.declared.cmp.Ordering.TheVariants.{Less}
+use Rattle.std.specs.Cmp.Lexicographic.{slice_cmp}
+use Rattle.der_core_head.specs.declared.error.ErrorKind.{ErrorKind}
+use Rattle.der_core_head.specs.declared.tag.Tag.{Tag}
+use Rattle.der_core_head.specs.Octets.{◌>>=◌, Readings}
+use Rattle.der_core_head.specs.Tags.{IsTag, same_tag, tag_at, tag_octets}
+use Rattle.der_core_head.specs.Heads.{Fits, head_octets, length_octets, tlv}
+use Rattle.der_core_head.specs.Shapes.{Shape, Content, Body, tagged, any, either, optional, defaulted, leaf, nested, done, field, only, many, rising, Value, ContentValue, BodyValue, AnyValue, octets_of, contents, body_octets, unless, IsValid, IsContent, IsBody, AllRising, begins}
+use Rattle.der_core_head.specs.Spelling.{is_apart, is_content_apart, is_body_apart, is_element, is_clear, is_end, none_of, body_begins, are_enough, are_content_enough, are_body_enough}
+use Rattle.der_core_head.specs.Grammar.{whole, read, read_content, read_body, read_many, read_rising, follows_last, tlv_at, any_at, peek_at, chosen, opt_at, default_at, either_at, value_at, slice_at, leaf_at}
+use Rattle.der_core_head.proofs.TagLaws.{tag_again, tag_octets-some, same_tag-refl, same_tag-eq}
+use Rattle.der_core_head.proofs.HeadLaws.{head_again}
+use Rattle.der_core_head.proofs.LeafLaws.{leaf_again}
+use Rattle.der_core_head.proofs.Facts.{value_enough, slice_ok}
+use Rattle.der_core_head.proofs.Fits.{fits_contents}
+
+value_again : {P : Type 0} (F : Readings P) (c r : List ℕ) (p : P) → F c ≡ Ok (p, []) → value_at F (length c) (c ++ r) ≡ Ok (p, r)
+value_again F c r p e =
+    value_enough F (length c) (c ++ r) (omega (arith, length-append c r)) ∙ (rw (take_at c r (length c) refl, drop_at c r (length c) refl, e) refl)
+
+tlv_again : {P : Type 0} (t : Tag) (F : Readings P) (c r : List ℕ) (v : P) → IsTag t → Fits (tlv t c) → F c ≡ Ok (v, []) → tlv_at t F (tlv t c ++ r) ≡ Ok (v, r)
+unfolding tlv_at tlv
+tlv_again t F c r v k h e =
+    ap (tlv_at t F) (append_assoc (head_octets t (length c)) c r) ∙ rw (head_again t (length c) (c ++ r) k (fits_contents t c h), same_tag-refl t) (value_again F c r v e)
+
+any_again : (v : AnyValue) (r : List ℕ) → IsTag v.tag → Fits (tlv v.tag v.contents) → any_at (tlv v.tag v.contents ++ r) ≡ Ok (v, r)
+unfolding any_at tlv
+any_again v r k h =
+    let s : slice_at (length v.contents) (v.contents ++ r) ≡ Ok (v.contents, r) =
+    slice_ok (length v.contents) (v.contents ++ r) (omega (arith, length-append v.contents r)) ∙ rw (take_at v.contents r (length v.contents) refl, drop_at v.contents r (length v.contents) refl) refl in
+    ap any_at (append_assoc (head_octets v.tag (length v.contents)) v.contents r) ∙ rw (head_again v.tag (length v.contents) (v.contents ++ r) k (fits_contents v.tag v.contents h), s) refl
+
+-- a value with a header begins with its tag
+pub tlv_first : (t : Tag) (c : List ℕ) → (w : List ℕ) × (tlv t c ≡ tag_octets t ++ w)
+unfolding tlv head_octets
+tlv_first t c = (length_octets (length c) ++ c, append_assoc (tag_octets t) (length_octets (length c)) c)
+
+-- the octets of a tag stand in front
+abbrev pub StandsFirst : (Tag → Bool) → List ℕ → Type 0
+StandsFirst first b = (t : Tag) × (w : List ℕ) × (b ≡ tag_octets t ++ w) × IsTag t × (first t ≡ true)
+
+abbrev pub Begins : Shape → List ℕ → Type 0
+Begins s b = StandsFirst (begins s) b
+
+-- as they do where more octets follow
+first_more : (first : Tag → Bool) (b r : List ℕ) → StandsFirst first b → StandsFirst first (b ++ r)
+first_more first b r f = (f.0, f.1 ++ r, ap (λ (x : List ℕ). x ++ r) f.2 ∙ append_assoc (tag_octets f.0) f.1 r, f.3, f.4)
+
+pub element_first : (s : Shape) (v : Value s) → is_element s ≡ true → IsValid s v → Begins s (octets_of s v)
+unfolding octets_of IsValid
+element_first (tagged t c) v e h = let f = tlv_first t (contents c v) in (t, f.0, f.1, h.1, same_tag-refl t)
+element_first any v e h = let f = tlv_first v.tag v.contents in (v.tag, f.0, f.1, h.1, refl)
+element_first (either a b) (inl v) e h =
+    let f = element_first a v (and_parts (is_element a) (is_element b) e).0 h in
+    (f.0, f.1, f.2, f.3, or_left (begins a f.0) (begins b f.0) f.4)
+element_first (either a b) (inr v) e h =
+    let f = element_first b v (and_parts (is_element a) (is_element b) e).1 h in
+    (f.0, f.1, f.2, f.3, or_right (begins a f.0) (begins b f.0) f.4)
+element_first (optional s) v e h = absurd (false≢true e)
+element_first (defaulted s d) v e h = absurd (false≢true e)
+
+-- an element takes an octet
+pub element_some : (s : Shape) (v : Value s) → is_element s ≡ true → IsValid s v → (b : ℕ) × (w : List ℕ) × (octets_of s v ≡ b ∷ w)
+element_some s v e h =
+    let f = element_first s v e h in
+    let t = tag_octets-some f.0 in
+    (t.0, t.1 ++ f.1, f.2 ∙ ap (λ (x : List ℕ). x ++ f.1) t.2)
+
+-- a field's octets are none, or begin as its shape may
+pub field_first : (s : Shape) (v : Value s) → is_apart s ≡ true → IsValid s v → ((octets_of s v ≡ []) × (is_element s ≡ false)) ⊎ Begins s (octets_of s v)
+unfolding octets_of IsValid unless
+field_first (tagged t c) v a h = inr (element_first (tagged t c) v refl h)
+field_first any v a h = inr (element_first any v refl h)
+field_first (either x y) v a h = inr (element_first (either x y) v (and_parts (is_element x && is_element y) _ a).0 h)
+field_first (optional s) None a h = inl (refl, refl)
+field_first (optional s) (Some v) a h = inr (element_first s v (and_parts (is_element s) (is_apart s) a).0 h)
+field_first (defaulted s d) v a h = go (bytes_eq (octets_of s v) d)
+  where
+    go : (b : Bool) → ((unless b (octets_of s v) ≡ []) × (is_element (defaulted s d) ≡ false)) ⊎ Begins s (unless b (octets_of s v))
+    go true = inl (refl, refl)
+    go false = inr (element_first s v (and_parts (is_element s) (is_apart s) (and_parts (is_element s && is_apart s) _ a).0).0 h)
+
+-- so do bodies
+pub body_first : (b : Body) (v : BodyValue b) → is_body_apart b ≡ true → IsBody b v → (body_octets b v ≡ []) ⊎ StandsFirst (body_begins b) (body_octets b v)
+unfolding body_octets IsBody
+body_first done v a h = inl refl
+body_first (field s b) v a h =
+    let p = and_parts (is_apart s) (is_body_apart b) (and_parts (is_clear s b) _ a).1 in
+    elim (field_first s v.0 p.0 h.0) [
+      | inr f ↦ let m = first_more (begins s) (octets_of s v.0) (body_octets b v.1) f in inr (m.0, m.1, m.2, m.3, or_left (begins s m.0) _ m.4)
+      | inl n ↦ elim (body_first b v.1 p.1 h.1) [
+        | inl m ↦ inl (ap (λ (x : List ℕ). x ++ body_octets b v.1) n.0 ∙ m)
+        | inr f ↦ inr (f.0, f.1, ap (λ (x : List ℕ). x ++ body_octets b v.1) n.0 ∙ f.2, f.3, or_right (begins s f.0) _ (later (is_element s) (body_begins b f.0) n.1 f.4))
+      ]
+    ]
+  where
+    later : (x y : Bool) → x ≡ false → y ≡ true → (not x && y) ≡ true
+    later x y e f = rw (e, f) refl
+body_first (only s) v a h = inr (element_first s v (and_parts (is_element s) (is_apart s) a).0 h)
+body_first (many s) [] a h = inl refl
+body_first (many s) (x ∷ xs) a h =
+    let p = and_parts (is_element s) (is_apart s) a in
+    inr (first_more (begins s) (octets_of s x) (flat_map (octets_of s) xs) (element_first s x p.0 h.0))
+body_first (rising s) [] a h = inl refl
+body_first (rising s) (x ∷ xs) a h =
+    let p = and_parts (is_element s) (is_apart s) a in
+    inr (first_more (begins s) (octets_of s x) (flat_map (octets_of s) xs) (element_first s x p.0 h.0.0))
+
+-- what the next tag is, if one stands
+pub peek_again : (t : Tag) (r : List ℕ) → IsTag t → peek_at (tag_octets t ++ r) ≡ Ok (Some t)
+peek_again t r h =
+    let f = tag_octets-some t in
+    let is : tag_octets t ++ r ≡ f.0 ∷ (f.1 ++ r) = ap (λ (x : List ℕ). x ++ r) f.2 in
+    let e : tag_at (f.0 ∷ (f.1 ++ r)) ≡ Ok (t, r) = ap tag_at (sym is) ∙ tag_again t r h in
+    ap peek_at is ∙ rw e refl
+
+-- octets that may follow: none, or those of a tag that isn't one of these
+abbrev pub StopsBefore : (Tag → Bool) → List ℕ → Type 0
+StopsBefore first r = (t : Option Tag) × (peek_at r ≡ Ok t) × (chosen first t ≡ None)
+
+abbrev pub Stops : Shape → List ℕ → Type 0
+Stops s r = is_element s ≡ false → StopsBefore (begins s) r
+
+pub stops_end : (s : Shape) → Stops s []
+stops_end s absent = (None, refl, refl)
+
+pub stops_tag : (s : Shape) (t : Tag) (r : List ℕ) → IsTag t → begins s t ≡ false → Stops s (tag_octets t ++ r)
+stops_tag s t r h n absent = (Some t, peek_again t r h, rw n refl)
+
+-- an element stops wherever it ends
+pub stops_element : (s : Shape) (r : List ℕ) → is_element s ≡ true → Stops s r
+stops_element s r e absent = absurd (false≢true (sym absent ∙ e))
+
+pub not_begins : (s : Shape) (f : Tag → Bool) (t : Tag) → none_of s f ≡ true → f t ≡ true → begins s t ≡ false
+not_begins (tagged u c) f t n h = go (same_tag u t) refl
+  where
+    go : (b : Bool) → same_tag u t ≡ b → b ≡ false
+    go true e = absurd (false≢true (sym (not-true (f u) n) ∙ ap f (same_tag-eq u t e) ∙ h))
+    go false e = refl
+not_begins any f t n h = absurd (false≢true n)
+not_begins (either a b) f t n h =
+    let p = and_parts (none_of a f) (none_of b f) n in
+    rw (not_begins a f t p.0 h, not_begins b f t p.1 h) refl
+not_begins (optional s) f t n h = not_begins s f t n h
+not_begins (defaulted s d) f t n h = not_begins s f t n h
+
+pub end_empty : (b : Body) (v : BodyValue b) → is_end b ≡ true → body_octets b v ≡ []
+unfolding body_octets
+end_empty done v e = refl
+end_empty (field s b) v e = absurd (false≢true e)
+end_empty (only s) v e = absurd (false≢true e)
+end_empty (many s) v e = absurd (false≢true e)
+end_empty (rising s) v e = absurd (false≢true e)
+
+-- what follows a field doesn't begin as the field would
+next_stops : (s : Shape) (b : Body) (v : BodyValue b) → is_clear s b ≡ true → is_body_apart b ≡ true → IsBody b v → Stops s (body_octets b v)
+next_stops s b v c a h =
+    elim (or_cases (is_element s) _ c) [
+      | inl e ↦ stops_element s (body_octets b v) e
+      | inr e ↦ elim (or_cases (is_end b) (none_of s (body_begins b)) e) [
+        | inl d ↦ subst (Stops s) (sym (end_empty b v d)) (stops_end s)
+        | inr n ↦ elim (body_first b v a h) [
+          | inl z ↦ subst (Stops s) (sym z) (stops_end s)
+          | inr f ↦ subst (Stops s) (sym f.2) (stops_tag s f.0 f.1 f.3 (not_begins s (body_begins b) f.0 n f.4))
+        ]
+      ]
+    ]
+
+opt_none : {P : Type 0} (first : Tag → Bool) (F : Readings P) (r : List ℕ) → StopsBefore first r → opt_at first F r ≡ Ok (None, r)
+unfolding opt_at
+opt_none first F r h = rw (h.1, h.2) refl
+
+-- a value of one of the first tags is read where it stands
+opt_some : {P : Type 0} (first : Tag → Bool) (F : Readings P) (b : List ℕ) (x : P) (r : List ℕ) → StandsFirst first b → F b ≡ Ok (x, r) → opt_at first F b ≡ Ok (Some x, r)
+unfolding opt_at
+opt_some first F b x r f e = rw (ap peek_at f.2 ∙ peek_again f.0 f.1 f.3, f.4, e) refl
+
+default_none : {P : Type 0} (first : Tag → Bool) (D : Result (P × List ℕ) ErrorKind) (is : P → Bool) (F : Readings P) (v : P) (r : List ℕ) → StopsBefore first r → D ≡ Ok (v, []) → default_at first D is F r ≡ Ok (v, r)
+unfolding default_at
+default_none first D is F v r h e = rw (h.1, h.2, e) refl
+
+default_some : {P : Type 0} (first : Tag → Bool) (D : Result (P × List ℕ) ErrorKind) (is : P → Bool) (F : Readings P) (b : List ℕ) (v : P) (r : List ℕ) → StandsFirst first b → F b ≡ Ok (v, r) → is v ≡ false → default_at first D is F b ≡ Ok (v, r)
+unfolding default_at
+default_some first D is F b v r f e n = rw (ap peek_at f.2 ∙ peek_again f.0 f.1 f.3, f.4, e, n) refl
+
+left_again : {P Q : Type 0} (a b : Tag → Bool) (F : Readings P) (G : Readings Q) (w : List ℕ) (x : P) (r : List ℕ) → StandsFirst a w → F w ≡ Ok (x, r) → either_at a b F G w ≡ Ok (inl x, r)
+unfolding either_at
+left_again a b F G w x r f e = rw (ap tag_at f.2 ∙ tag_again f.0 f.1 f.3, f.4, e) refl
+
+right_again : {P Q : Type 0} (a b : Tag → Bool) (F : Readings P) (G : Readings Q) (w : List ℕ) (x : Q) (r : List ℕ) → (f : StandsFirst b w) → a f.0 ≡ false → G w ≡ Ok (x, r) → either_at a b F G w ≡ Ok (inr x, r)
+unfolding either_at
+right_again a b F G w x r f n e = rw (ap tag_at f.2 ∙ tag_again f.0 f.1 f.3, n, f.4, e) refl
+
+-- what a reader of values owes: a valid value is read from its octets, whatever follows
+abbrev ReadsAgain : {P : Type 0} → Readings P → (P → Type 0) → (P → List ℕ) → Type 0
+ReadsAgain {P} F V o = (x : P) (t : List ℕ) → V x → F (o x ++ t) ≡ Ok (x, t)
+
+abbrev TakesSome : {P : Type 0} → (P → Type 0) → (P → List ℕ) → Type 0
+TakesSome {P} V o = (x : P) → V x → (b : ℕ) × (w : List ℕ) × (o x ≡ b ∷ w)
+
+many_again : {P : Type 0} (F : Readings P) (V : P → Type 0) (o : P → List ℕ) → ReadsAgain F V o → TakesSome V o
+    → (xs : List P) (n : ℕ) → length (flat_map o xs) ≤ n → AllByRecursion V xs → read_many F n (flat_map o xs) ≡ Ok (xs, [])
+unfolding read_many
+many_again F V o each some [] zero l h = refl
+many_again F V o each some [] (suc n) l h = refl
+many_again F V o each some (x ∷ xs) n l h =
+    let f = some x h.0 in
+    let rest = flat_map o xs in
+    let is : o x ++ rest ≡ f.0 ∷ (f.1 ++ rest) = ap (λ (q : List ℕ). q ++ rest) f.2 in
+    let long : length (o x ++ rest) ≡ suc (length (f.1 ++ rest)) = ap length is in
+    let m : n ≡ suc (n - 1) = omega arith in
+    let more = many_again F V o each some xs (n - 1) (omega (arith, length-append f.1 rest)) h.1 in
+    let first : F (f.0 ∷ (f.1 ++ rest)) ≡ Ok (x, rest) = ap F (sym is) ∙ each x rest h.0 in
+    ap (read_many F n) is ∙ ap (λ k. read_many F k (f.0 ∷ (f.1 ++ rest))) m ∙ rw (first, more) refl
+
+abbrev Above : {P : Type 0} → (P → List ℕ) → Option (List ℕ) → List P → Type 0
+Above o last [] = ⊤
+Above o None (x ∷ xs) = ⊤
+Above o (Some a) (x ∷ xs) = slice_cmp nat_cmp a (o x) ≡ Less
+
+after_first : {P : Type 0} (o : P → List ℕ) (x : P) (xs : List P) → AllRising o (x ∷ xs) → Above o (Some (o x)) xs × AllRising o xs
+after_first o x [] h = (tt, tt)
+after_first o x (y ∷ ys) h = h
+
+above_last : {P : Type 0} (o : P → List ℕ) (last : Option (List ℕ)) (x : P) (xs : List P) → Above o last (x ∷ xs) → follows_last last (o x) ≡ Ok tt
+above_last o None x xs h = refl
+above_last o (Some a) x xs h = rw h refl
+
+rising_again : {P : Type 0} (F : Readings P) (V : P → Type 0) (o : P → List ℕ) → ReadsAgain F V o → TakesSome V o
+    → (last : Option (List ℕ)) (xs : List P) (n : ℕ) → length (flat_map o xs) ≤ n → AllByRecursion V xs → Above o last xs → AllRising o xs → read_rising o F last n (flat_map o xs) ≡ Ok (xs, [])
+unfolding read_rising
+rising_again F V o each some last [] zero l h u k = refl
+rising_again F V o each some last [] (suc n) l h u k = refl
+rising_again F V o each some last (x ∷ xs) n l h u k =
+    let f = some x h.0 in
+    let rest = flat_map o xs in
+    let is : o x ++ rest ≡ f.0 ∷ (f.1 ++ rest) = ap (λ (q : List ℕ). q ++ rest) f.2 in
+    let long : length (o x ++ rest) ≡ suc (length (f.1 ++ rest)) = ap length is in
+    let m : n ≡ suc (n - 1) = omega arith in
+    let next = after_first o x xs k in
+    let more = rising_again F V o each some (Some (o x)) xs (n - 1) (omega (arith, length-append f.1 rest)) h.1 next.0 next.1 in
+    let first : F (f.0 ∷ (f.1 ++ rest)) ≡ Ok (x, rest) = ap F (sym is) ∙ each x rest h.0 in
+    ap (read_rising o F last n) is ∙ ap (λ k. read_rising o F last k (f.0 ∷ (f.1 ++ rest))) m ∙ rw (first, above_last o last x xs u, more) refl
+
+above_none : {P : Type 0} (o : P → List ℕ) (xs : List P) → Above o None xs
+above_none o [] = tt
+above_none o (x ∷ xs) = tt
+
+default_again : (s : Shape) (d : List ℕ) (room : ℕ) (v : Value s) (r : List ℕ) (b : Bool) → bytes_eq (octets_of s v) d ≡ b → StopsBefore (begins s) r → Begins s (octets_of s v)
+    → read s room (octets_of s v ++ r) ≡ Ok (v, r) → read s 64 (octets_of s v ++ []) ≡ Ok (v, [])
+    → default_at (begins s) (read s 64 d) (λ v. bytes_eq (octets_of s v) d) (read s room) (unless b (octets_of s v) ++ r) ≡ Ok (v, r)
+unfolding unless
+default_again s d room v r true is stops f now at =
+    let same : octets_of s v ++ [] ≡ d = append-nil (octets_of s v) ∙ (bytes_eq-Decides (octets_of s v) d).0 is in
+    default_none (begins s) (read s 64 d) (λ v. bytes_eq (octets_of s v) d) (read s room) v r stops (ap (read s 64) (sym same) ∙ at)
+default_again s d room v r false is stops f now at =
+    default_some (begins s) (read s 64 d) (λ v. bytes_eq (octets_of s v) d) (read s room) (octets_of s v ++ r) v r (first_more (begins s) (octets_of s v) r f) now is
+
+-- what is spelled so is read
+mutual
+  unfolding octets_of IsValid
+
+  pub complete : (s : Shape) (room : ℕ) (v : Value s) (r : List ℕ) → is_apart s ≡ true → are_enough s room ≡ true → IsValid s v → Stops s r → read s room (octets_of s v ++ r) ≡ Ok (v, r)
+  complete (tagged t c) room v r a n h o = tlv_again t (read_content c t room) (contents c v) r v h.1 h.2 (complete_content c t room v a n h.0)
+  complete any room v r a n h o = any_again v r h.1 h.2
+  complete (either x y) room (inl v) r a n h o =
+      let p = and_parts (is_element x && is_element y) _ a in
+      let e = and_parts (is_element x) (is_element y) p.0 in
+      let q = and_parts (is_apart x) (is_apart y) (and_parts (none_of x (begins y)) _ p.1).1 in
+      let m = and_parts (are_enough x room) (are_enough y room) n in
+      let f = first_more (begins x) (octets_of x v) r (element_first x v e.0 h) in
+      left_again (begins x) (begins y) (read x room) (read y room) (octets_of x v ++ r) v r f (complete x room v r q.0 m.0 h (stops_element x r e.0))
+  complete (either x y) room (inr v) r a n h o =
+      let p = and_parts (is_element x && is_element y) _ a in
+      let e = and_parts (is_element x) (is_element y) p.0 in
+      let c = and_parts (none_of x (begins y)) _ p.1 in
+      let q = and_parts (is_apart x) (is_apart y) c.1 in
+      let m = and_parts (are_enough x room) (are_enough y room) n in
+      let f = first_more (begins y) (octets_of y v) r (element_first y v e.1 h) in
+      right_again (begins x) (begins y) (read x room) (read y room) (octets_of y v ++ r) v r f (not_begins x (begins y) f.0 c.0 f.4) (complete y room v r q.1 m.1 h (stops_element y r e.1))
+  complete (optional s) room None r a n h o = opt_none (begins s) (read s room) r (o refl)
+  complete (optional s) room (Some v) r a n h o =
+      let p = and_parts (is_element s) (is_apart s) a in
+      opt_some (begins s) (read s room) (octets_of s v ++ r) v r (first_more (begins s) (octets_of s v) r (element_first s v p.0 h)) (complete s room v r p.1 n h (stops_element s r p.0))
+  complete (defaulted s d) room v r a n h o =
+      let p = and_parts (is_element s) (is_apart s) (and_parts (is_element s && is_apart s) _ a).0 in
+      let m = and_parts (are_enough s room) (are_enough s 64) n in
+      default_again s d room v r (bytes_eq (octets_of s v) d) refl (o refl) (element_first s v p.0 h) (complete s room v r p.1 m.0 h (stops_element s r p.0)) (complete s 64 v [] p.1 m.1 h (stops_element s [] p.0))
+
+  pub complete_content : (c : Content) (t : Tag) (room : ℕ) (v : ContentValue c) → is_content_apart c ≡ true → are_content_enough c room ≡ true → IsContent c v → read_content c t room (contents c v) ≡ Ok (v, [])
+  complete_content (leaf l) t room v a n h = ap leaf_at (leaf_again l t v h)
+  complete_content (nested b) t zero v a n h = absurd (false≢true n)
+  complete_content (nested b) t (suc room) v a n h = ap (λ x. x >>= whole) (complete_body b room v a n h)
+
+  pub complete_body : (b : Body) (room : ℕ) (v : BodyValue b) → is_body_apart b ≡ true → are_body_enough b room ≡ true → IsBody b v → read_body b room (body_octets b v) ≡ Ok (v, [])
+  complete_body done room v a n h = refl
+  complete_body (field s b) room v a n h =
+      let c = and_parts (is_clear s b) _ a in
+      let p = and_parts (is_apart s) (is_body_apart b) c.1 in
+      let m = and_parts (are_enough s room) (are_body_enough b room) n in
+      let x = complete s room v.0 (body_octets b v.1) p.0 m.0 h.0 (next_stops s b v.1 c.0 p.1 h.1) in
+      let y = complete_body b room v.1 p.1 m.1 h.1 in
+      rw (x, y) refl
+  complete_body (only s) room v a n h =
+      let p = and_parts (is_element s) (is_apart s) a in
+      ap (read s room) (sym (append-nil (octets_of s v))) ∙ complete s room v [] p.1 n h (stops_end s)
+  complete_body (many s) room v a n h =
+      let p = and_parts (is_element s) (is_apart s) a in
+      many_again (read s room) (IsValid s) (octets_of s) (λ x t k. complete s room x t p.1 n k (stops_element s t p.0)) (λ x k. element_some s x p.0 k) v (length (flat_map (octets_of s) v)) (omega arith) h
+  complete_body (rising s) room v a n h =
+      let p = and_parts (is_element s) (is_apart s) a in
+      rising_again (read s room) (IsValid s) (octets_of s) (λ x t k. complete s room x t p.1 n k (stops_element s t p.0)) (λ x k. element_some s x p.0 k) None v (length (flat_map (octets_of s) v)) (omega arith) h.0 (above_none (octets_of s) v) h.1
+
+-- whatever follows
+pub complete_element : (s : Shape) (room : ℕ) (v : Value s) (r : List ℕ) → is_element s ≡ true → is_apart s ≡ true → are_enough s room ≡ true → IsValid s v → read s room (octets_of s v ++ r) ≡ Ok (v, r)
+complete_element s room v r e a n h = complete s room v r a n h (stops_element s r e)

@@ -1,0 +1,92 @@
+-- The contents of a primitive type are of one value, and are read as it.
+use Rattle.std.proofs.Common.{◌≡◌, ℕ, ◌≤◌, Bool, true, false, cond, List, [], ◌∷◌, length, Result, Ok, Err, refl, ap, subst, ◌∙◌, arith, ◌⊎◌, inl, inr}
+use Rattle.std.specs.Prelude.{◌==◌}
+use Rattle.std.proofs.lemmas.Bool.{eqb-true}
+use Rattle.const_oid_identifiers.specs.IdentifierOctets.{read_identifier}
+use Rattle.const_oid_identifiers.specs.declared.error.Error.{Error as OidError}
+use Rattle.const_oid_identifiers.proofs.IdentifierLaws.{identifier_sound, identifier_again, identifier_below}
+use Rattle.der_core_head.specs.declared.error.ErrorKind.TheVariants as kinds
+use Rattle.der_core_head.specs.declared.tag.Tag.{Tag}
+use Rattle.der_core_head.specs.Octets.{IsOctets}
+use Rattle.der_core_head.specs.Leaves.{Leaf, boolean, null, integer, bits, octets, identifier, utc_time, generalized_time, text, utf8, bmp, named, LeafValue, bool_octets, leaf_contents, IsLeafValue, bool_read, null_read, or_malformed, leaf_read}
+use Rattle.der_core_head.proofs.Results.{fine, ok_is, if_ok, either_ok}
+use Rattle.der_core_head.proofs.Bytes.{IsBytes, octets_are}
+use Rattle.der_core_head.proofs.IntegerLaws.{integer_sound, integer_again, integer_octets-below}
+use Rattle.der_core_head.proofs.BitLaws.{bits_sound, bits_again, bit_contents-below}
+use Rattle.der_core_head.proofs.DateLaws.{utc_sound, utc_again, utc_octets-below, generalized_sound, generalized_again, generalized_octets-below}
+use Rattle.der_core_head.proofs.TextLaws.{text_sound, text_again, utf8_sound, utf8_again}
+use Rattle.der_core_head.proofs.BmpLaws.{bmp_sound, bmp_again, bmp_below}
+use Rattle.der_core_head.proofs.NamedLaws.{named_sound, named_again, named_below}
+
+bool_sound : (t : Tag) (w : List ℕ) (v : Bool) → bool_read t w ≡ Ok v → w ≡ bool_octets v
+bool_sound t [] v e = absurd cc
+bool_sound t (b ∷ c ∷ w) v e = absurd cc
+bool_sound t (b ∷ []) v e = by (either_ok (b == 0) (fine false) (cond (b == 255) (fine true) (Err (kinds.Noncanonical t))) (fine v) e)
+  where
+    by : ((b == 0) ≡ true) × (fine false ≡ fine v) ⊎ ((b == 0) ≡ false) × (cond (b == 255) (fine true) (Err (kinds.Noncanonical t)) ≡ fine v) → b ∷ [] ≡ bool_octets v
+    by (inl (first, same)) = ap (λ x. x ∷ []) (eqb-true b 0 first) ∙ ap bool_octets (ok_is false v same)
+    by (inr (other, rest)) =
+        let parts = if_ok (b == 255) (kinds.Noncanonical t) (fine true) v rest in
+        ap (λ x. x ∷ []) (eqb-true b 255 parts.0) ∙ ap bool_octets (ok_is true v parts.1)
+
+bool_again : (t : Tag) (v : Bool) → bool_read t (bool_octets v) ≡ Ok v
+bool_again t true = refl
+bool_again t false = refl
+
+bool_below : (v : Bool) → IsOctets (bool_octets v)
+bool_below true = (omega arith, tt)
+bool_below false = (omega arith, tt)
+
+null_sound : (t : Tag) (w : List ℕ) (v : Unit {0}) → null_read t w ≡ Ok v → w ≡ []
+null_sound t [] v e = refl
+null_sound t (b ∷ w) v e = absurd cc
+
+or_malformed_ok : {A : Type 0} (r : Result A OidError) (x : A) → or_malformed r ≡ Ok x → r ≡ Ok x
+or_malformed_ok (Ok y) x e = cc
+or_malformed_ok (Err d) x e = absurd cc
+
+pub leaf_sound : (l : Leaf) (t : Tag) (w : List ℕ) (v : LeafValue l) → IsBytes w → leaf_read l t w ≡ Ok v → IsLeafValue l v × (w ≡ leaf_contents l v)
+leaf_sound boolean t w v h e = (tt, bool_sound t w v e)
+leaf_sound null t w v h e = (tt, null_sound t w v e)
+leaf_sound (integer r) t w v h e = integer_sound r t w v h e
+leaf_sound bits t w v h e = bits_sound t w v h e
+leaf_sound octets t w v h e =
+    let same = ok_is w v e in
+    (subst IsOctets same (octets_are w h), same)
+leaf_sound (identifier bound capacity) t w v h e =
+    let parts = identifier_sound bound capacity w v h (or_malformed_ok (read_identifier bound capacity w) v e) in
+    ((parts.0, subst (λ (x : List ℕ). length x ≤ capacity) parts.2 parts.1), parts.2)
+leaf_sound utc_time t w v h e = utc_sound t w v e
+leaf_sound generalized_time t w v h e = generalized_sound t w v e
+leaf_sound (text r) t w v h e = text_sound r t w v h e
+leaf_sound utf8 t w v h e = utf8_sound w v h e
+leaf_sound bmp t w v h e = bmp_sound t w v h e
+leaf_sound (named n) t w v h e = named_sound n t w v h e
+
+pub leaf_again : (l : Leaf) (t : Tag) (v : LeafValue l) → IsLeafValue l v → leaf_read l t (leaf_contents l v) ≡ Ok v
+leaf_again boolean t v h = bool_again t v
+leaf_again null t v h = refl
+leaf_again (integer r) t v h = integer_again r t v h
+leaf_again bits t v h = bits_again t v h
+leaf_again octets t v h = refl
+leaf_again (identifier bound capacity) t v h = ap or_malformed (identifier_again bound capacity v h.0 h.1)
+leaf_again utc_time t v h = utc_again t v h
+leaf_again generalized_time t v h = generalized_again t v h
+leaf_again (text r) t v h = text_again r t v h
+leaf_again utf8 t v h = utf8_again v h
+leaf_again bmp t v h = bmp_again t v h
+leaf_again (named n) t v h = named_again n t v h
+
+pub leaf_below : (l : Leaf) (v : LeafValue l) → IsLeafValue l v → IsOctets (leaf_contents l v)
+leaf_below boolean v h = bool_below v
+leaf_below null v h = tt
+leaf_below (integer r) v h = integer_octets-below v
+leaf_below bits v h = bit_contents-below v h
+leaf_below octets v h = h
+leaf_below (identifier bound capacity) v h = identifier_below bound v h.0
+leaf_below utc_time v h = utc_octets-below v h
+leaf_below generalized_time v h = generalized_octets-below v h
+leaf_below (text r) v h = h.octets
+leaf_below utf8 v h = h.octets
+leaf_below bmp v h = bmp_below v h
+leaf_below (named n) v h = named_below v

@@ -1,0 +1,307 @@
+-- The contents of a set of named bits are of one set, and are read as it.
+use Rattle.std.proofs.Common.{◌≡◌, ℕ, zero, suc, ◌+◌, ◌-◌, ◌*◌, ◌/◌, ◌%◌, ◌<◌, ◌≤◌, ◌^◌, true, List, [], ◌∷◌, ◌++◌, get_or, map, reverse, Ok, Err, refl, ap, subst, sym, ◌∙◌, arith, div-add-mod', ◌⊎◌, inl, inr}
+use mathlib.Core.List.{reverse_aux}
+use Rattle.std.specs.Prelude.{nat_lt, ◌==◌, ◌&&◌, not}
+use Rattle.std.specs.Int.{w8, reverse_bits, reverse_bits_onto, bit_at}
+use Rattle.std.specs.Int.Digits.{number_from_digits}
+use Rattle.std.proofs.lemmas.Int.Digits.{number_push}
+use Rattle.std.proofs.lemmas.Bool.{agree_below, agree_below_at, ltb-true, lt-ltb, eqb-true, eqb-false, eq-eqb, ne_eqb, and_parts, and_from, not-true, not_from_false, cases_eq, cases_lt, cond-true, cond-false}
+use Rattle.std.proofs.lemmas.List.{reverse-reverse, reverse-append}
+use Rattle.std.proofs.lemmas.Nat.Bits.{bit_at-trailing_zeros, bit_at-zero, bit_at_cat_low, bit_at_cat_high}
+use Rattle.const_oid_identifiers.specs.Digits.{digits}
+use Rattle.const_oid_identifiers.proofs.DigitLaws.{digits-Digits, digits-one, digits-more, quotient_pos, first_of_digits-pos, digits-number_from_digits}
+use Rattle.der_core_head.specs.declared.error.ErrorKind.TheVariants as kinds
+use Rattle.der_core_head.specs.declared.tag.Tag.{Tag}
+use Rattle.der_core_head.specs.Octets.{IsOctets}
+use Rattle.der_core_head.specs.BitStrings.{last_octet}
+use Rattle.der_core_head.specs.NamedBits.{set_octets, unused_bits, named_octets, set_of, IsNamed, ends_in_one, named_read}
+use Rattle.der_core_head.proofs.Results.{fine, ok_is, if_ok}
+use Rattle.der_core_head.proofs.Bytes.{IsBytes, bytes_tail, octets_are}
+
+-- Turned octets
+
+turned-turned : (o : ℕ) → o < 256 → reverse_bits w8 (reverse_bits w8 o) ≡ o
+unfolding reverse_bits_onto
+turned-turned o l = eqb-true (reverse_bits w8 (reverse_bits w8 o)) o (agree_below_at (λ o. reverse_bits w8 (reverse_bits w8 o) == o) (λ _. true) 256 o refl l)
+
+turned-below : (o : ℕ) → o < 256 → reverse_bits w8 o < 256
+unfolding reverse_bits_onto
+turned-below o l = ltb-true (reverse_bits w8 o) 256 (agree_below_at (λ o. nat_lt (reverse_bits w8 o) 256) (λ _. true) 256 o refl l)
+
+turned-pos : (o : ℕ) → o < 256 → 0 < o → 0 < reverse_bits w8 o
+unfolding reverse_bits_onto
+turned-pos o l some = by (cases_eq (reverse_bits w8 o) 0)
+  where
+    by : (reverse_bits w8 o ≡ 0) ⊎ (reverse_bits w8 o ≡ 0 → ⊥) → 0 < reverse_bits w8 o
+    by (inl e) =
+        let none : o ≡ 0 = sym (turned-turned o l) ∙ ap (reverse_bits w8) e in
+        absurd (omega arith)
+    by (inr n) = omega arith
+
+abbrev turned : List ℕ → List ℕ
+turned w = map (reverse_bits w8) w
+
+all-turned-turned : (w : List ℕ) → IsOctets w → turned (turned w) ≡ w
+all-turned-turned [] h = refl
+all-turned-turned (o ∷ w) h = cc (turned-turned o h.0, all-turned-turned w h.1)
+
+all-turned-below : (w : List ℕ) → IsOctets w → IsOctets (turned w)
+all-turned-below [] h = tt
+all-turned-below (o ∷ w) h = (turned-below o h.0, all-turned-below w h.1)
+
+-- The first and the last
+
+reverse-below : (w : List ℕ) → IsOctets w → IsOctets (reverse w)
+reverse-below w h = onto w [] h tt
+  where
+    onto : (v u : List ℕ) → IsOctets v → IsOctets u → IsOctets (reverse_aux v u)
+    onto [] u p q = q
+    onto (o ∷ v) u p q = onto v (o ∷ u) p.1 (p.0, q)
+
+first-reverse : (w : List ℕ) → get_or (reverse w) 0 0 ≡ last_octet w
+first-reverse [] = refl
+first-reverse (o ∷ w) = onto w o []
+  where
+    onto : (w : List ℕ) (o : ℕ) (u : List ℕ) → get_or (reverse_aux (o ∷ w) u) 0 0 ≡ last_octet (o ∷ w)
+    onto [] o u = refl
+    onto (p ∷ w) o u = onto w p (o ∷ u)
+
+last-reverse : (w : List ℕ) → last_octet (reverse w) ≡ get_or w 0 0
+last-reverse w = sym (first-reverse (reverse w)) ∙ ap (λ x. get_or x 0 0) (reverse-reverse w)
+
+last-turned : (w : List ℕ) → last_octet (turned w) ≡ reverse_bits w8 (last_octet w)
+unfolding reverse_bits_onto
+last-turned [] = refl
+last-turned (o ∷ []) = refl
+last-turned (o ∷ p ∷ w) = last-turned (p ∷ w)
+
+last-below : (w : List ℕ) → IsOctets w → last_octet w < 256
+last-below [] h = omega arith
+last-below (o ∷ []) h = h.0
+last-below (o ∷ p ∷ w) h = last-below (p ∷ w) h.1
+
+-- A set and its octets
+
+set_octets-zero : set_octets 0 ≡ []
+unfolding set_octets
+set_octets-zero = refl
+
+set_octets-pos : (n : ℕ) → 0 < n → set_octets n ≡ turned (reverse (digits 256 n))
+unfolding set_octets
+set_octets-pos n some = cond-false (n == 0) [] (turned (reverse (digits 256 n))) (ne_eqb n 0 (λ e. omega arith))
+
+digits-octets : (n : ℕ) → IsOctets (reverse (digits 256 n))
+digits-octets n = reverse-below (digits 256 n) (digits-Digits 256 n (omega arith)).below
+
+set_of-digits : (w : List ℕ) → set_of w ≡ number_from_digits 256 (reverse (turned w))
+unfolding set_of
+set_of-digits [] = refl
+set_of-digits (b ∷ w) =
+    ap (λ n. n * 256 + reverse_bits w8 b) (set_of-digits w)
+    ∙ sym (ap (number_from_digits 256) (reverse-append (reverse_bits w8 b ∷ []) (turned w)) ∙ number_push 256 (reverse (turned w)) (reverse_bits w8 b))
+
+pub set_of-octets : (n : ℕ) → set_of (set_octets n) ≡ n
+set_of-octets n = by (cases_eq n 0)
+  where
+    by : (n ≡ 0) ⊎ (n ≡ 0 → ⊥) → set_of (set_octets n) ≡ n
+    by (inl e) = set_of-digits (set_octets n) ∙ ap (λ w. number_from_digits 256 (reverse (turned w))) (ap set_octets e ∙ set_octets-zero) ∙ sym e
+    by (inr some) =
+        set_of-digits (set_octets n)
+        ∙ ap (λ w. number_from_digits 256 (reverse (turned w))) (set_octets-pos n (omega arith))
+        ∙ ap (λ w. number_from_digits 256 (reverse w)) (all-turned-turned (reverse (digits 256 n)) (digits-octets n))
+        ∙ ap (number_from_digits 256) (reverse-reverse (digits 256 n))
+        ∙ (digits-Digits 256 n (omega arith)).number
+
+-- the names from the eighth on are those of the octets after the first
+pub set_octets-step : (n : ℕ) → 0 < n → set_octets n ≡ reverse_bits w8 (n % 256) ∷ set_octets (n / 256)
+set_octets-step n some = set_octets-pos n some ∙ by (cases_lt n 256)
+  where
+    by : (n < 256) ⊎ (256 ≤ n) → turned (reverse (digits 256 n)) ≡ reverse_bits w8 (n % 256) ∷ set_octets (n / 256)
+    by (inl l) =
+        let same : n ≡ n % 256 = omega arith in
+        let none : 0 ≡ n / 256 = omega arith in
+        ap (λ w. turned (reverse w)) (digits-one 256 n l)
+        ∙ ap (λ m. reverse_bits w8 m ∷ []) same
+        ∙ ap (λ w. reverse_bits w8 (n % 256) ∷ w) (sym set_octets-zero ∙ ap set_octets none)
+    by (inr l) =
+        ap turned (ap reverse (digits-more 256 n (omega arith) l) ∙ reverse-append (digits 256 (n / 256)) (n % 256 ∷ []))
+        ∙ ap (λ w. reverse_bits w8 (n % 256) ∷ w) (sym (set_octets-pos (n / 256) (quotient_pos 256 n (omega arith) l)))
+
+pub set_octets-below : (n : ℕ) → IsOctets (set_octets n)
+unfolding set_octets
+set_octets-below zero = tt
+set_octets-below (suc k) = subst IsOctets (sym (set_octets-pos (suc k) (omega arith))) (all-turned-below (reverse (digits 256 (suc k))) (digits-octets (suc k)))
+
+last-set_octets : (n : ℕ) → 0 < n → 0 < last_octet (set_octets n)
+last-set_octets n some =
+    let ds = digits 256 n in
+    let below = last-below (reverse ds) (digits-octets n) in
+    let first : last_octet (reverse ds) ≡ get_or ds 0 0 = last-reverse ds in
+    let large = first_of_digits-pos 256 n (omega arith) some in
+    let e : last_octet (set_octets n) ≡ reverse_bits w8 (last_octet (reverse ds)) = ap last_octet (set_octets-pos n some) ∙ last-turned (reverse ds) in
+    let turned_large = turned-pos (last_octet (reverse ds)) below (omega arith) in
+    rw e turned_large
+
+-- octets whose last is not zero are those of their set
+set_octets-of : (w : List ℕ) → IsOctets w → 0 < last_octet w → set_octets (set_of w) ≡ w
+set_octets-of w h some =
+    let ds = reverse (turned w) in
+    let below : IsOctets ds = reverse-below (turned w) (all-turned-below w h) in
+    let first : get_or ds 0 0 ≡ reverse_bits w8 (last_octet w) = first-reverse (turned w) ∙ last-turned w in
+    let large = turned-pos (last_octet w) (last-below w h) some in
+    let back : digits 256 (number_from_digits 256 ds) ≡ ds = digits-number_from_digits 256 ds (omega arith) below (inr (omega arith)) in
+    ap set_octets (set_of-digits w)
+    ∙ set_octets-pos (number_from_digits 256 ds) (positive ds (omega arith) back)
+    ∙ ap (λ x. turned (reverse x)) back
+    ∙ ap turned (reverse-reverse (turned w))
+    ∙ all-turned-turned w h
+  where
+    positive : (ds : List ℕ) → 0 < get_or ds 0 0 → digits 256 (number_from_digits 256 ds) ≡ ds → 0 < number_from_digits 256 ds
+    positive ds large back = by (cases_eq (number_from_digits 256 ds) 0)
+      where
+        by : (number_from_digits 256 ds ≡ 0) ⊎ (number_from_digits 256 ds ≡ 0 → ⊥) → 0 < number_from_digits 256 ds
+        by (inl e) =
+            let none : ds ≡ 0 ∷ [] = sym back ∙ ap (digits 256) e ∙ digits-one 256 0 (omega arith) in
+            let zeroth : get_or ds 0 0 ≡ 0 = ap (λ x. get_or x 0 0) none in
+            absurd (omega arith)
+        by (inr n) = omega arith
+
+-- Contents
+
+ends_in_one-from : (w : List ℕ) → 0 < last_octet w → ends_in_one (unused_bits w) w ≡ true
+ends_in_one-from [] some = absurd (omega arith)
+ends_in_one-from (b ∷ w) some =
+    let last = last_octet (b ∷ w) in
+    and_from (not (last == 0)) (unused_bits (b ∷ w) == unused_bits (b ∷ w))
+    (not_from_false (last == 0) (ne_eqb last 0 (λ e. omega arith)))
+    (eq-eqb (unused_bits (b ∷ w)) (unused_bits (b ∷ w)) refl)
+
+unused_bits-below : (w : List ℕ) → IsOctets w → 0 < last_octet w → unused_bits w < 8
+unused_bits-below [] h some = omega arith
+unused_bits-below (b ∷ w) h some = (bit_at-trailing_zeros w8 (last_octet (b ∷ w)) some (last-below (b ∷ w) h)).0
+
+named_octets-of : (unused : ℕ) (w : List ℕ) → IsOctets w → ends_in_one unused w ≡ true → unused ∷ w ≡ named_octets (set_of w)
+unfolding named_octets set_of set_octets
+named_octets-of unused [] h e = ap (λ u. u ∷ []) (eqb-true unused 0 e)
+named_octets-of unused (b ∷ w) h e =
+    let last = last_octet (b ∷ w) in
+    let tests = and_parts (not (last == 0)) (unused == unused_bits (b ∷ w)) e in
+    let some = eqb-false last 0 (not-true (last == 0) tests.0) in
+    let same = eqb-true unused (unused_bits (b ∷ w)) tests.1 in
+    let back = set_octets-of (b ∷ w) h (omega arith) in
+    ap (λ u. u ∷ b ∷ w) same ∙ ap (λ x. unused_bits x ∷ x) (sym back)
+
+pub named_sound : (names : ℕ) (t : Tag) (w : List ℕ) (n : ℕ) → IsBytes w → named_read names t w ≡ Ok n → IsNamed names n × (w ≡ named_octets n)
+unfolding named_read
+named_sound names t [] n h e = absurd cc
+named_sound names t (unused ∷ w) n h e =
+    let parts = if_ok (ends_in_one unused w && nat_lt (set_of w) (2 ^ names)) (kinds.Value t) (fine (set_of w)) n e in
+    let tests = and_parts (ends_in_one unused w) (nat_lt (set_of w) (2 ^ names)) parts.0 in
+    let same = ok_is (set_of w) n parts.1 in (
+      subst (IsNamed names) same (ltb-true (set_of w) (2 ^ names) tests.1),
+      named_octets-of unused w (octets_are w (bytes_tail unused w h)) tests.0 ∙ ap named_octets same,
+    )
+
+pub named_again : (names : ℕ) (t : Tag) (n : ℕ) → IsNamed names n → named_read names t (named_octets n) ≡ Ok n
+unfolding named_read named_octets
+named_again names t n h =
+    let w = set_octets n in
+    let same : set_of w ≡ n = set_of-octets n in
+    let test : ends_in_one (unused_bits w) w ≡ true = by (cases_eq n 0) in
+    let small : nat_lt (set_of w) (2 ^ names) ≡ true = ap (λ m. nat_lt m (2 ^ names)) same ∙ lt-ltb n (2 ^ names) h in
+    cond-true (ends_in_one (unused_bits w) w && nat_lt (set_of w) (2 ^ names)) (fine (set_of w)) (Err (kinds.Value t)) (and_from (ends_in_one (unused_bits w) w) (nat_lt (set_of w) (2 ^ names)) test small)
+    ∙ ap (λ m. fine m) same
+  where
+    by : (n ≡ 0) ⊎ (n ≡ 0 → ⊥) → ends_in_one (unused_bits (set_octets n)) (set_octets n) ≡ true
+    by (inl e) = ap (λ w. ends_in_one (unused_bits w) w) (ap set_octets e ∙ set_octets-zero)
+    by (inr some) = ends_in_one-from (set_octets n) (last-set_octets n (omega arith))
+
+pub named_below : (n : ℕ) → IsOctets (named_octets n)
+unfolding named_octets
+named_below n = (by (cases_eq n 0), set_octets-below n)
+  where
+    by : (n ≡ 0) ⊎ (n ≡ 0 → ⊥) → unused_bits (set_octets n) < 256
+    by (inl e) =
+        let none : unused_bits (set_octets n) ≡ 0 = ap unused_bits (ap set_octets e ∙ set_octets-zero) in
+        omega arith
+    by (inr some) =
+        let small = unused_bits-below (set_octets n) (set_octets-below n) (last-set_octets n (omega arith)) in
+        omega arith
+
+-- Where each name stands
+
+last-push : (w : List ℕ) (o : ℕ) → last_octet (w ++ (o ∷ [])) ≡ o
+last-push [] o = refl
+last-push (x ∷ []) o = refl
+last-push (x ∷ y ∷ w) o = last-push (y ∷ w) o
+
+lowest_octet : (n : ℕ) → get_or (reverse (digits 256 n)) 0 0 ≡ n % 256
+lowest_octet n = first-reverse (digits 256 n) ∙ by (cases_lt n 256)
+  where
+    by : (n < 256) ⊎ (256 ≤ n) → last_octet (digits 256 n) ≡ n % 256
+    by (inl l) =
+        let same : n ≡ n % 256 = omega arith in
+        ap last_octet (digits-one 256 n l) ∙ same
+    by (inr l) = ap last_octet (digits-more 256 n (omega arith) l) ∙ last-push (digits 256 (n / 256)) (n % 256)
+
+next_octet : (n j : ℕ) → get_or (reverse (digits 256 n)) (suc j) 0 ≡ get_or (reverse (digits 256 (n / 256))) j 0
+next_octet n j = by (cases_lt n 256)
+  where
+    zeros : (j : ℕ) → get_or {A = ℕ} (0 ∷ []) j 0 ≡ 0
+    zeros zero = refl
+    zeros (suc j) = refl
+
+    by : (n < 256) ⊎ (256 ≤ n) → get_or (reverse (digits 256 n)) (suc j) 0 ≡ get_or (reverse (digits 256 (n / 256))) j 0
+    by (inl l) =
+        let none : n / 256 ≡ 0 = omega arith in
+        ap (λ w. get_or (reverse w) (suc j) 0) (digits-one 256 n l)
+        ∙ sym (ap (λ m. get_or (reverse (digits 256 m)) j 0) none ∙ ap (λ w. get_or (reverse w) j 0) (digits-one 256 0 (omega arith)) ∙ zeros j)
+    by (inr l) = ap (λ w. get_or w (suc j) 0) (ap reverse (digits-more 256 n (omega arith) l) ∙ reverse-append (digits 256 (n / 256)) (n % 256 ∷ []))
+
+bit_at-octets : (n j k : ℕ) → k < 8 → bit_at (get_or (reverse (digits 256 n)) j 0) k ≡ bit_at n (8 * j + k)
+bit_at-octets n zero k l =
+    let place : 8 * 0 + k ≡ k = omega arith in
+    ap (λ o. bit_at o k) (lowest_octet n)
+    ∙ sym (ap (bit_at n) place ∙ ap (λ m. bit_at m k) (sym (div-add-mod' n 256)) ∙ bit_at_cat_low (n / 256) 8 (n % 256) k l)
+bit_at-octets n (suc j) k l =
+    let place : 8 * suc j + k - 8 ≡ 8 * j + k = omega arith in
+    ap (λ o. bit_at o k) (next_octet n j)
+    ∙ bit_at-octets (n / 256) j k l
+    ∙ sym (ap (λ m. bit_at m (8 * suc j + k)) (sym (div-add-mod' n 256)) ∙ bit_at_cat_high (n / 256) 8 (n % 256) (8 * suc j + k) (omega arith) (omega arith) ∙ ap (bit_at (n / 256)) place)
+
+octet_at : (w : List ℕ) (j : ℕ) → IsOctets w → get_or w j 0 < 256
+octet_at [] j h = omega arith
+octet_at (o ∷ w) zero h = h.0
+octet_at (o ∷ w) (suc j) h = octet_at w j h.1
+
+turned-at : (w : List ℕ) (j : ℕ) → get_or (turned w) j 0 ≡ reverse_bits w8 (get_or w j 0)
+unfolding reverse_bits_onto
+turned-at [] j = refl
+turned-at (o ∷ w) zero = refl
+turned-at (o ∷ w) (suc j) = turned-at w j
+
+bit_at-turned : (o k : ℕ) → o < 256 → k < 8 → bit_at (reverse_bits w8 o) (7 - k) ≡ bit_at o k
+unfolding reverse_bits_onto
+bit_at-turned o k l m =
+    let each = agree_below_at (λ o. agree_below (λ k. bit_at (reverse_bits w8 o) (7 - k) == bit_at o k) (λ _. true) 8) (λ _. true) 256 o refl l in
+    eqb-true (bit_at (reverse_bits w8 o) (7 - k)) (bit_at o k) (agree_below_at (λ k. bit_at (reverse_bits w8 o) (7 - k) == bit_at o k) (λ _. true) 8 k each m)
+
+-- name i stands in octet i / 8, at the bit i % 8 from the highest
+pub bit_at-set_octets : (n i : ℕ) → bit_at (get_or (set_octets n) (i / 8) 0) (7 - i % 8) ≡ bit_at n i
+bit_at-set_octets n i = by (cases_eq n 0)
+  where
+    nothing : (j k : ℕ) → bit_at (get_or {A = ℕ} [] j 0) k ≡ 0
+    nothing j k = bit_at-zero k
+
+    by : (n ≡ 0) ⊎ (n ≡ 0 → ⊥) → bit_at (get_or (set_octets n) (i / 8) 0) (7 - i % 8) ≡ bit_at n i
+    by (inl e) =
+        ap (λ w. bit_at (get_or w (i / 8) 0) (7 - i % 8)) (ap set_octets e ∙ set_octets-zero)
+        ∙ nothing (i / 8) (7 - i % 8) ∙ sym (ap (λ m. bit_at m i) e ∙ bit_at-zero i)
+    by (inr some) =
+        let w = reverse (digits 256 n) in
+        let place : 8 * (i / 8) + i % 8 ≡ i = omega arith in
+        ap (λ w. bit_at (get_or w (i / 8) 0) (7 - i % 8)) (set_octets-pos n (omega arith))
+        ∙ ap (λ o. bit_at o (7 - i % 8)) (turned-at w (i / 8))
+        ∙ bit_at-turned (get_or w (i / 8) 0) (i % 8) (octet_at w (i / 8) (digits-octets n)) (omega arith)
+        ∙ bit_at-octets n (i / 8) (i % 8) (omega arith)
+        ∙ ap (bit_at n) place

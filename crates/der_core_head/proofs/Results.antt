@@ -1,0 +1,33 @@
+-- What results that are passed on tell of their parts.
+use Rattle.std.proofs.Common.{◌≡◌, Bool, true, false, cond, List, [], ◌∷◌, Result, Ok, Err, refl, ◌⊎◌, inl, inr}
+use Rattle.der_core_head.specs.declared.error.ErrorKind.{ErrorKind}
+use Rattle.der_core_head.specs.Octets.{◌>>=◌}
+use Rattle.der_core_head.specs.Grammar.{whole}
+use Rattle.std.proofs.Common.{ℕ}
+
+abbrev pub fine : {A : Type 0} → A → Result A ErrorKind
+fine x = Ok x
+
+pub ok_is : {A : Type 0} (x y : A) → fine x ≡ fine y → x ≡ y
+ok_is x y e = cc
+
+pub bind_ok : {A B : Type 0} (r : Result A ErrorKind) (f : A → Result B ErrorKind) (y : B) → (r >>= f) ≡ Ok y → (x : A) × (r ≡ Ok x) × (f x ≡ Ok y)
+bind_ok (Ok x) f y e = (x, refl, e)
+bind_ok (Err d) f y e = absurd cc
+
+-- a test that did not fail
+pub if_ok : {A : Type 0} (b : Bool) (d : ErrorKind) (r : Result A ErrorKind) (y : A) → cond b r (Err d) ≡ Ok y → (b ≡ true) × (r ≡ Ok y)
+if_ok true d r y e = (refl, e)
+if_ok false d r y e = absurd cc
+
+pub unless_ok : {A : Type 0} (b : Bool) (d : ErrorKind) (r : Result A ErrorKind) (y : A) → cond b (Err d) r ≡ Ok y → (b ≡ false) × (r ≡ Ok y)
+unless_ok true d r y e = absurd cc
+unless_ok false d r y e = (refl, e)
+
+pub either_ok : {A : Type 0} (b : Bool) (l r : A) (y : A) → cond b l r ≡ y → ((b ≡ true) × (l ≡ y)) ⊎ ((b ≡ false) × (r ≡ y))
+either_ok true l r y e = inl (refl, e)
+either_ok false l r y e = inr (refl, e)
+
+pub whole_ok : {P : Type 0} (x y : P × List ℕ) → whole x ≡ Ok y → (x ≡ y) × (x.1 ≡ [])
+whole_ok (p, []) y e = (ok_is (p, []) y e, refl)
+whole_ok (p, b ∷ w) y e = absurd cc

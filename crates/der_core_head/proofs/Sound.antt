@@ -1,0 +1,277 @@
+-- What is read is spelled so.
+use Rattle.std.proofs.Common.{◌≡◌, ℕ, zero, suc, ◌≤◌, Bool, true, false, cond, ltb, List, [], ◌∷◌, ◌++◌, length, take, drop, take_at, Option, Some, None, Result, Ok, Err, refl, sym, ap, subst, ◌∙◌, append_assoc, arith, inl, inr, ◌⊎◌}
+use mathlib.Core.Bool.{◌&&◌}
+use Rattle.std.proofs.lemmas.Bool.{ltb-false, ltb-true, and_parts}
+use Rattle.std.proofs.lemmas.List.{append-nil, take-append-drop, length-take}
+use Rattle.std.specs.List.{flat_map, AllByRecursion}
+use Rattle.std.specs.Str.{bytes_eq}
+use Rattle.std.specs.Bool.{⊤}
+use Rattle.std.proofs.lemmas.Slice.Eq.{bytes_eq-Decides}
+use Rattle.std.specs.Ordering.{nat_cmp}
+use Rattle.std.specs.declared.cmp.Ordering.{Ordering}
+use Rattle.std.specs.declared.cmp.Ordering.TheVariants.{Less, Equal, Greater}
+use Rattle.std.specs.Cmp.Lexicographic.{slice_cmp}
+use Rattle.der_core_head.specs.declared.error.ErrorKind.{ErrorKind}
+use Rattle.der_core_head.specs.declared.error.ErrorKind.TheVariants as kinds
+use Rattle.der_core_head.specs.declared.tag.Tag.{Tag}
+use Rattle.der_core_head.specs.Octets.{IsOctets, are_octets, ◌>>=◌, Readings}
+use Rattle.der_core_head.specs.Tags.{IsTag, same_tag, tag_at}
+use Rattle.der_core_head.specs.Heads.{Fits, head_at, head_octets, tlv}
+use Rattle.der_core_head.specs.Leaves.{leaf_read}
+use Rattle.der_core_head.specs.Shapes.{Shape, Content, Body, tagged, any, either, optional, defaulted, leaf, nested, done, field, only, many, rising, Value, ContentValue, BodyValue, AnyValue, octets_of, contents, body_octets, unless, IsValid, IsContent, IsBody, AllRising, begins}
+use Rattle.der_core_head.specs.Spelling.{is_apart, is_content_apart, is_body_apart, is_element, is_clear}
+use Rattle.der_core_head.specs.Grammar.{whole, read, read_content, read_body, read_many, read_rising, ordered, follows_last, tlv_at, any_at, peek_at, chosen, opt_after, opt_at, default_after, default_at, either_at, value_at, slice_at, leaf_at}
+use Rattle.der_core_head.proofs.Results.{ok_is, bind_ok, if_ok, unless_ok, either_ok, whole_ok}
+use Rattle.der_core_head.proofs.Bytes.{IsBytes, bytes_take, bytes_rest, octets_are}
+use Rattle.der_core_head.proofs.Fits.{fits_front, fits_rest, fits_contents}
+use Rattle.der_core_head.proofs.TagLaws.{same_tag-eq}
+use Rattle.der_core_head.proofs.HeadLaws.{head_sound}
+use Rattle.der_core_head.proofs.LeafLaws.{leaf_sound}
+
+-- a part in front, and what the rest is
+joined : (a b c rest w : List ℕ) → w ≡ a ++ rest → rest ≡ b ++ c → w ≡ (a ++ b) ++ c
+joined a b c rest w e s = e ∙ ap (λ (x : List ℕ). a ++ x) s ∙ sym (append_assoc a b c)
+
+pair_is : {P : Type 0} (x : P × List ℕ) (p : P) → x.0 ≡ p → x.1 ≡ [] → x ≡ (p, [])
+pair_is (q, w) p e f = cc
+
+-- all of the octets were read, and what they spell is the value
+whole_is : {P : Type 0} (x y : P × List ℕ) (p : P) → whole x ≡ Ok y → y.0 ≡ p → x ≡ (p, [])
+whole_is {P} x y p e same = let o = whole_ok x y e in pair_is x p (ap (λ (q : P × List ℕ). q.0) o.0 ∙ same) o.1
+
+slice_sound : (n : ℕ) (w x r : List ℕ) → slice_at n w ≡ Ok (x, r) → (length x ≡ n) × (w ≡ x ++ r)
+unfolding slice_at
+slice_sound n w x r e =
+    let h = unless_ok (ltb (length w) n) kinds.Incomplete (Ok (take n w, drop n w)) (x, r) e in
+    let P : List ℕ × List ℕ → Type 0 = λ q. (length q.0 ≡ n) × (w ≡ q.0 ++ q.1) in
+    subst P (ok_is (take n w, drop n w) (x, r) h.1) (omega (arith, length-take n w, ltb-false (length w) n h.0), sym (take-append-drop n w))
+
+value_sound : {P : Type 0} (F : Readings P) (n : ℕ) (w : List ℕ) (p : P) (r : List ℕ) → value_at F n w ≡ Ok (p, r) → (n ≤ length w) × (F (take n w) ≡ Ok (p, [])) × (r ≡ drop n w)
+unfolding value_at
+value_sound {P} F n w p r e =
+    let h = unless_ok (ltb (length w) n) kinds.Incomplete (F (take n w) >>= whole >>= λ x. Ok (x.0, drop n w)) (p, r) e in
+    let y = bind_ok (F (take n w) >>= whole) (λ x. Ok (x.0, drop n w)) (p, r) h.1 in
+    let x = bind_ok (F (take n w)) whole y.0 y.1 in
+    let same = ok_is (y.0.0, drop n w) (p, r) y.2 in
+    let value = whole_is x.0 y.0 p x.2 (ap (λ (q : P × List ℕ). q.0) same) in
+    (ltb-false (length w) n h.0, x.1 ∙ ap (λ (q : P × List ℕ). Ok q) value, sym (ap (λ (q : P × List ℕ). q.1) same))
+
+-- a header, and as many octets as it says, are an encoding
+tlv_is : (t : Tag) (n : ℕ) (c r rest w : List ℕ) → w ≡ head_octets t n ++ rest → length c ≡ n → rest ≡ c ++ r → w ≡ tlv t c ++ r
+unfolding tlv
+tlv_is t n c r rest w e l s = joined (head_octets t (length c)) c r rest w (e ∙ ap (λ k. head_octets t k ++ rest) (sym l)) s
+
+tlv_sound : {P : Type 0} (t : Tag) (F : Readings P) (w : List ℕ) (p : P) (r : List ℕ) → IsBytes w → Fits w → tlv_at t F w ≡ Ok (p, r)
+    → (c : List ℕ) × IsBytes c × (F c ≡ Ok (p, [])) × IsTag t × Fits (tlv t c) × (w ≡ tlv t c ++ r)
+unfolding tlv_at
+tlv_sound t F w p r bytes fits e =
+    let h = bind_ok (head_at w) (λ h. cond (same_tag h.0.tag t) (value_at F h.0.len h.1) (Err kinds.TagUnexpected)) (p, r) e in
+    let i = if_ok (same_tag h.0.0.tag t) kinds.TagUnexpected (value_at F h.0.0.len h.0.1) (p, r) h.2 in
+    let hd = head_sound w h.0.0 h.0.1 bytes h.1 in
+    let n = h.0.0.len in
+    let v = value_sound F n h.0.1 p r i.1 in
+    let c = take n h.0.1 in
+    let tag : h.0.0.tag ≡ t = same_tag-eq h.0.0.tag t i.0 in
+    let len : length c ≡ n = omega (arith, length-take n h.0.1, v.0) in
+    let rest : h.0.1 ≡ c ++ r = sym (take-append-drop n h.0.1) ∙ ap (λ (x : List ℕ). c ++ x) (sym v.2) in
+    let is : w ≡ tlv t c ++ r = tlv_is t n c r h.0.1 w (hd.0 ∙ ap (λ k. head_octets k n ++ h.0.1) tag) len rest in
+    (c, bytes_take n h.0.1 (bytes_rest (head_octets h.0.0.tag n) h.0.1 w hd.0 bytes), v.1, subst IsTag tag hd.1, fits_front (tlv t c) r w is fits, is)
+
+bytes_front : (u r w : List ℕ) → w ≡ u ++ r → IsBytes w → IsBytes u
+bytes_front u r w e h = subst IsBytes (ap (take (length u)) e ∙ take_at u r (length u) refl) (bytes_take (length u) w h)
+
+any_sound : (w : List ℕ) (v : AnyValue) (r : List ℕ) → IsBytes w → Fits w → any_at w ≡ Ok (v, r)
+    → IsOctets v.contents × IsTag v.tag × Fits (tlv v.tag v.contents) × (w ≡ tlv v.tag v.contents ++ r)
+unfolding any_at
+any_sound w v r bytes fits e =
+    let h = bind_ok (head_at w) (λ h. slice_at h.0.len h.1 >>= λ x. Ok (record { tag = h.0.tag; contents = x.0 }, x.1)) (v, r) e in
+    let x = bind_ok (slice_at h.0.0.len h.0.1) (λ x. Ok (record { tag = h.0.0.tag; contents = x.0 }, x.1)) (v, r) h.2 in
+    let hd = head_sound w h.0.0 h.0.1 bytes h.1 in
+    let s = slice_sound h.0.0.len h.0.1 x.0.0 x.0.1 x.1 in
+    let is : w ≡ tlv h.0.0.tag x.0.0 ++ x.0.1 = tlv_is h.0.0.tag h.0.0.len x.0.0 x.0.1 h.0.1 w hd.0 s.0 s.1 in
+    let front = bytes_front x.0.0 x.0.1 h.0.1 s.1 (bytes_rest (head_octets h.0.0.tag h.0.0.len) h.0.1 w hd.0 bytes) in
+    let made : AnyValue × List ℕ = (record { tag = h.0.0.tag; contents = x.0.0 }, x.0.1) in
+    let P : AnyValue × List ℕ → Type 0 = λ q. IsOctets q.0.contents × IsTag q.0.tag × Fits (tlv q.0.tag q.0.contents) × (w ≡ tlv q.0.tag q.0.contents ++ q.1) in
+    subst P (ok_is made (v, r) x.2) (octets_are x.0.0 front, hd.1, fits_front (tlv h.0.0.tag x.0.0) x.0.1 w is fits, is)
+
+opt_sound : {P : Type 0} (first : Tag → Bool) (F : Readings P) (w : List ℕ) (p : Option P) (r : List ℕ) → opt_at first F w ≡ Ok (p, r)
+    → ((p ≡ None) × (w ≡ r)) ⊎ ((x : P) × (p ≡ Some x) × (F w ≡ Ok (x, r)))
+unfolding opt_at
+opt_sound {P} first F w p r e = let t = bind_ok (peek_at w) (λ t. opt_after F w (chosen first t)) (p, r) e in after (chosen first t.0) t.2
+  where
+    after : (o : Option Tag) → opt_after F w o ≡ Ok (p, r) → ((p ≡ None) × (w ≡ r)) ⊎ ((x : P) × (p ≡ Some x) × (F w ≡ Ok (x, r)))
+    after None e = let same = ok_is (None, w) (p, r) e in inl (sym (ap (λ (q : Option P × List ℕ). q.0) same), ap (λ (q : Option P × List ℕ). q.1) same)
+    after (Some t) e =
+        let x = bind_ok (F w) (λ x. Ok (Some x.0, x.1)) (p, r) e in
+        let same = ok_is (Some x.0.0, x.0.1) (p, r) x.2 in
+        inr (x.0.0, sym (ap (λ (q : Option P × List ℕ). q.0) same), x.1 ∙ ap (λ (q : Option P × List ℕ). Ok (x.0.0, q.1)) same)
+
+default_sound : {P : Type 0} (first : Tag → Bool) (D : Result (P × List ℕ) ErrorKind) (is : P → Bool) (F : Readings P) (w : List ℕ) (v : P) (r : List ℕ) → default_at first D is F w ≡ Ok (v, r)
+    → ((w ≡ r) × (D ≡ Ok (v, []))) ⊎ ((is v ≡ false) × (F w ≡ Ok (v, r)))
+unfolding default_at
+default_sound {P} first D is F w v r e = let t = bind_ok (peek_at w) (λ t. default_after D is F w (chosen first t)) (v, r) e in after (chosen first t.0) t.2
+  where
+    after : (o : Option Tag) → default_after D is F w o ≡ Ok (v, r) → ((w ≡ r) × (D ≡ Ok (v, []))) ⊎ ((is v ≡ false) × (F w ≡ Ok (v, r)))
+    after None e =
+        let y = bind_ok (D >>= whole) (λ x. Ok (x.0, w)) (v, r) e in
+        let x = bind_ok D whole y.0 y.1 in
+        let same = ok_is (y.0.0, w) (v, r) y.2 in
+        inl (ap (λ (q : P × List ℕ). q.1) same, x.1 ∙ ap (λ (q : P × List ℕ). Ok q) (whole_is x.0 y.0 v x.2 (ap (λ (q : P × List ℕ). q.0) same)))
+    after (Some t) e =
+        let x = bind_ok (F w) (λ x. cond (is x.0) (Err (kinds.Noncanonical t)) (Ok x)) (v, r) e in
+        let h = unless_ok (is x.0.0) (kinds.Noncanonical t) (Ok x.0) (v, r) x.2 in
+        let same = ok_is x.0 (v, r) h.1 in
+        inr (subst (λ (q : P × List ℕ). is q.0 ≡ false) same h.0, x.1 ∙ ap (λ (q : P × List ℕ). Ok q) same)
+
+either_sound : {P Q : Type 0} (a b : Tag → Bool) (F : Readings P) (G : Readings Q) (w : List ℕ) (p : P ⊎ Q) (r : List ℕ) → either_at a b F G w ≡ Ok (p, r)
+    → ((x : P) × (inl x ≡ p) × (F w ≡ Ok (x, r))) ⊎ ((x : Q) × (inr x ≡ p) × (G w ≡ Ok (x, r)))
+unfolding either_at
+either_sound {P} {Q} a b F G w p r e =
+    let left : Result ((P ⊎ Q) × List ℕ) ErrorKind = F w >>= λ x. Ok (inl x.0, x.1) in
+    let right : Result ((P ⊎ Q) × List ℕ) ErrorKind = G w >>= λ x. Ok (inr x.0, x.1) in
+    let t = bind_ok (tag_at w) (λ t. cond (a t.0) left (cond (b t.0) right (Err kinds.TagUnexpected))) (p, r) e in
+    elim (either_ok (a t.0.0) left (cond (b t.0.0) right (Err kinds.TagUnexpected)) (Ok (p, r)) t.2) [
+      | inl h ↦
+          let x = bind_ok (F w) (λ x. Ok (inl x.0, x.1)) (p, r) h.1 in
+          let same = ok_is (inl x.0.0, x.0.1) (p, r) x.2 in
+          inl (x.0.0, ap (λ (q : (P ⊎ Q) × List ℕ). q.0) same, x.1 ∙ ap (λ (q : (P ⊎ Q) × List ℕ). Ok (x.0.0, q.1)) same)
+      | inr h ↦
+          let m = if_ok (b t.0.0) kinds.TagUnexpected right (p, r) h.1 in
+          let x = bind_ok (G w) (λ x. Ok (inr x.0, x.1)) (p, r) m.1 in
+          let same = ok_is (inr x.0.0, x.0.1) (p, r) x.2 in
+          inr (x.0.0, ap (λ (q : (P ⊎ Q) × List ℕ). q.0) same, x.1 ∙ ap (λ (q : (P ⊎ Q) × List ℕ). Ok (x.0.0, q.1)) same)
+    ]
+
+octets_bytes : (d : List ℕ) → are_octets d ≡ true → IsBytes d
+octets_bytes [] h i = omega arith
+octets_bytes (x ∷ xs) h zero = ltb-true x 256 (and_parts (ltb x 256) (are_octets xs) h).0
+octets_bytes (x ∷ xs) h (suc i) = octets_bytes xs (and_parts (ltb x 256) (are_octets xs) h).1 i
+
+leaf_at_ok : {P : Type 0} (o : Result P ErrorKind) (v : P) (r : List ℕ) → leaf_at o ≡ Ok (v, r) → (o ≡ Ok v) × (r ≡ [])
+leaf_at_ok {P} (Ok x) v r e = let same = ok_is (x, []) (v, r) e in (ap (λ (q : P × List ℕ). Ok q.0) same, sym (ap (λ (q : P × List ℕ). q.1) same))
+leaf_at_ok (Err d) v r e = absurd cc
+
+-- what a reader of values may answer: a valid value, whose octets the input begins with
+abbrev pub Found : {P : Type 0} → (P → Type 0) → (P → List ℕ) → List ℕ → P → List ℕ → Type 0
+Found V o w v r = V v × (w ≡ o v ++ r)
+
+abbrev Finds : {P : Type 0} → Readings P → (P → Type 0) → (P → List ℕ) → Type 0
+Finds {P} F V o = (w : List ℕ) (v : P) (r : List ℕ) → IsBytes w → Fits w → F w ≡ Ok (v, r) → Found V o w v r
+
+many_sound : {P : Type 0} (F : Readings P) (V : P → Type 0) (o : P → List ℕ) → Finds F V o
+    → (n : ℕ) (w : List ℕ) (v : List P) (r : List ℕ) → IsBytes w → Fits w → read_many F n w ≡ Ok (v, r) → Found (AllByRecursion V) (flat_map o) w v r
+unfolding read_many
+many_sound {P} F V o each zero [] v r bytes fits e = let same = ok_is ([], []) (v, r) e in subst (λ (q : List P × List ℕ). Found (AllByRecursion V) (flat_map o) [] q.0 q.1) same (tt, refl)
+many_sound F V o each zero (b ∷ w) v r bytes fits e = absurd cc
+many_sound {P} F V o each (suc n) [] v r bytes fits e = let same = ok_is ([], []) (v, r) e in subst (λ (q : List P × List ℕ). Found (AllByRecursion V) (flat_map o) [] q.0 q.1) same (tt, refl)
+many_sound {P} F V o each (suc n) (b ∷ w) v r bytes fits e =
+    let x = bind_ok (F (b ∷ w)) (λ x. read_many F n x.1 >>= λ y. Ok (x.0 ∷ y.0, y.1)) (v, r) e in
+    let y = bind_ok (read_many F n x.0.1) (λ y. Ok (x.0.0 ∷ y.0, y.1)) (v, r) x.2 in
+    let u = each (b ∷ w) x.0.0 x.0.1 bytes fits x.1 in
+    let m = many_sound F V o each n x.0.1 y.0.0 y.0.1 (bytes_rest (o x.0.0) x.0.1 (b ∷ w) u.1 bytes) (fits_rest (o x.0.0) x.0.1 (b ∷ w) u.1 fits) y.1 in
+    let same = ok_is (x.0.0 ∷ y.0.0, y.0.1) (v, r) y.2 in
+    subst (λ (q : List P × List ℕ). Found (AllByRecursion V) (flat_map o) (b ∷ w) q.0 q.1) {x = (x.0.0 ∷ y.0.0, y.0.1)} same
+    ((u.0, m.0), joined (o x.0.0) (flat_map o y.0.0) y.0.1 x.0.1 (b ∷ w) u.1 m.1)
+
+-- and above the octets before
+abbrev RisesFrom : {P : Type 0} → (P → List ℕ) → Option (List ℕ) → List P → Type 0
+RisesFrom o last [] = ⊤
+RisesFrom o None (x ∷ xs) = AllRising o (x ∷ xs)
+RisesFrom o (Some a) (x ∷ xs) = (slice_cmp nat_cmp a (o x) ≡ Less) × AllRising o (x ∷ xs)
+
+rises : {P : Type 0} (o : P → List ℕ) (x : P) (xs : List P) → RisesFrom o (Some (o x)) xs → AllRising o (x ∷ xs)
+rises o x [] h = tt
+rises o x (y ∷ ys) h = h
+
+ordered_ok : (o : Ordering) → ordered o ≡ Ok tt → o ≡ Less
+ordered_ok Less e = refl
+ordered_ok Equal e = absurd cc
+ordered_ok Greater e = absurd cc
+
+rise_on : {P : Type 0} (o : P → List ℕ) (last : Option (List ℕ)) (x : P) (xs : List P) → follows_last last (o x) ≡ Ok tt → RisesFrom o (Some (o x)) xs → RisesFrom o last (x ∷ xs)
+rise_on o None x xs e h = rises o x xs h
+rise_on o (Some a) x xs e h = (ordered_ok (slice_cmp nat_cmp a (o x)) e, rises o x xs h)
+
+rising_sound : {P : Type 0} (F : Readings P) (V : P → Type 0) (o : P → List ℕ) → Finds F V o
+    → (last : Option (List ℕ)) (n : ℕ) (w : List ℕ) (v : List P) (r : List ℕ) → IsBytes w → Fits w → read_rising o F last n w ≡ Ok (v, r) → (AllByRecursion V v × RisesFrom o last v) × (w ≡ flat_map o v ++ r)
+unfolding read_rising
+rising_sound {P} F V o each last zero [] v r bytes fits e = let same = ok_is ([], []) (v, r) e in subst (λ (q : List P × List ℕ). (AllByRecursion V q.0 × RisesFrom o last q.0) × ([] ≡ flat_map o q.0 ++ q.1)) same ((tt, tt), refl)
+rising_sound F V o each last zero (b ∷ w) v r bytes fits e = absurd cc
+rising_sound {P} F V o each last (suc n) [] v r bytes fits e = let same = ok_is ([], []) (v, r) e in subst (λ (q : List P × List ℕ). (AllByRecursion V q.0 × RisesFrom o last q.0) × ([] ≡ flat_map o q.0 ++ q.1)) same ((tt, tt), refl)
+rising_sound {P} F V o each last (suc n) (b ∷ w) v r bytes fits e =
+    let x = bind_ok (F (b ∷ w)) (λ x. follows_last last (o x.0) >>= λ _. read_rising o F (Some (o x.0)) n x.1 >>= λ y. Ok (x.0 ∷ y.0, y.1)) (v, r) e in
+    let g = bind_ok (follows_last last (o x.0.0)) (λ _. read_rising o F (Some (o x.0.0)) n x.0.1 >>= λ y. Ok (x.0.0 ∷ y.0, y.1)) (v, r) x.2 in
+    let f = bind_ok (read_rising o F (Some (o x.0.0)) n x.0.1) (λ y. Ok (x.0.0 ∷ y.0, y.1)) (v, r) g.2 in
+    let u = each (b ∷ w) x.0.0 x.0.1 bytes fits x.1 in
+    let m = rising_sound F V o each (Some (o x.0.0)) n x.0.1 f.0.0 f.0.1 (bytes_rest (o x.0.0) x.0.1 (b ∷ w) u.1 bytes) (fits_rest (o x.0.0) x.0.1 (b ∷ w) u.1 fits) f.1 in
+    let same = ok_is (x.0.0 ∷ f.0.0, f.0.1) (v, r) f.2 in
+    subst (λ (q : List P × List ℕ). (AllByRecursion V q.0 × RisesFrom o last q.0) × (b ∷ w ≡ flat_map o q.0 ++ q.1)) {x = (x.0.0 ∷ f.0.0, f.0.1)} same
+    (((u.0, m.0.0), rise_on o last x.0.0 f.0.0 g.1 m.0.1), joined (o x.0.0) (flat_map o f.0.0) f.0.1 x.0.1 (b ∷ w) u.1 m.1)
+
+from_none : {P : Type 0} (o : P → List ℕ) (xs : List P) → RisesFrom o None xs → AllRising o xs
+from_none o [] h = tt
+from_none o (x ∷ xs) h = h
+
+-- what is read is spelled so
+mutual
+  unfolding octets_of IsValid unless
+
+  pub sound : (s : Shape) (room : ℕ) (w : List ℕ) (v : Value s) (r : List ℕ) → is_apart s ≡ true → IsBytes w → Fits w → read s room w ≡ Ok (v, r) → IsValid s v × (w ≡ octets_of s v ++ r)
+  sound (tagged t c) room w v r a bytes fits e =
+      let h = tlv_sound t (read_content c t room) w v r bytes fits e in
+      let i = sound_content c t room h.0 v [] a h.1 (fits_contents t h.0 h.4) h.2 in
+      ((i.0, h.3, subst (λ (x : List ℕ). Fits (tlv t x)) i.1 h.4), h.5 ∙ ap (λ (x : List ℕ). tlv t x ++ r) i.1)
+  sound any room w v r a bytes fits e = let h = any_sound w v r bytes fits e in ((h.0, h.1, h.2), h.3)
+  sound (either x y) room w v r a bytes fits e =
+      let p = and_parts (is_apart x) (is_apart y) (and_parts _ _ (and_parts _ _ a).1).1 in
+      elim (either_sound (begins x) (begins y) (read x room) (read y room) w v r e) [
+        | inl h ↦ subst (λ q. IsValid (either x y) q × (w ≡ octets_of (either x y) q ++ r)) h.1 (sound x room w h.0 r p.0 bytes fits h.2)
+        | inr h ↦ subst (λ q. IsValid (either x y) q × (w ≡ octets_of (either x y) q ++ r)) h.1 (sound y room w h.0 r p.1 bytes fits h.2)
+      ]
+  sound (optional s) room w v r a bytes fits e =
+      let p = (and_parts _ (is_apart s) a).1 in
+      elim (opt_sound (begins s) (read s room) w v r e) [
+        | inl h ↦ subst (λ q. IsValid (optional s) q × (w ≡ octets_of (optional s) q ++ r)) (sym h.0) (tt, h.1)
+        | inr h ↦ subst (λ q. IsValid (optional s) q × (w ≡ octets_of (optional s) q ++ r)) (sym h.1) (sound s room w h.0 r p bytes fits h.2)
+      ]
+  sound (defaulted s d) room w v r a bytes fits e =
+      let q = and_parts _ (are_octets d && ltb (length d) 4294967296) a in
+      let k = and_parts (are_octets d) (ltb (length d) 4294967296) q.1 in
+      let p = (and_parts _ (is_apart s) q.0).1 in
+      elim (default_sound (begins s) (read s 64 d) (λ v. bytes_eq (octets_of s v) d) (read s room) w v r e) [
+        | inl h ↦
+            let i = sound s 64 d v [] p (octets_bytes d k.0) (ltb-true (length d) 4294967296 k.1) h.1 in
+            let same : bytes_eq (octets_of s v) d ≡ true = (bytes_eq-Decides (octets_of s v) d).1 (sym (i.1 ∙ append-nil (octets_of s v))) in
+            (i.0, h.0 ∙ ap (λ b. unless b (octets_of s v) ++ r) (sym same))
+        | inr h ↦
+            let i = sound s room w v r p bytes fits h.1 in
+            (i.0, i.1 ∙ ap (λ b. unless b (octets_of s v) ++ r) (sym h.0))
+      ]
+
+  pub sound_content : (c : Content) (t : Tag) (room : ℕ) (w : List ℕ) (v : ContentValue c) (r : List ℕ) → is_content_apart c ≡ true → IsBytes w → Fits w → read_content c t room w ≡ Ok (v, r) → IsContent c v × (w ≡ contents c v)
+  sound_content (leaf l) t room w v r a bytes fits e = leaf_sound l t w v bytes (leaf_at_ok (leaf_read l t w) v r e).0
+  sound_content (nested b) t zero w v r a bytes fits e = absurd cc
+  sound_content (nested b) t (suc room) w v r a bytes fits e =
+      let x = bind_ok (read_body b room w) whole (v, r) e in
+      let o = whole_ok x.0 (v, r) x.2 in
+      let h = sound_body b room w v r a bytes fits (x.1 ∙ ap (λ (q : BodyValue b × List ℕ). Ok q) o.0) in
+      let none : r ≡ [] = sym (ap (λ (q : BodyValue b × List ℕ). q.1) o.0) ∙ o.1 in
+      (h.0, h.1 ∙ ap (λ (q : List ℕ). body_octets b v ++ q) none ∙ append-nil (body_octets b v))
+
+  pub sound_body : (b : Body) (room : ℕ) (w : List ℕ) (v : BodyValue b) (r : List ℕ) → is_body_apart b ≡ true → IsBytes w → Fits w → read_body b room w ≡ Ok (v, r) → IsBody b v × (w ≡ body_octets b v ++ r)
+  sound_body done room w v r a bytes fits e = (tt, ap (λ (q : Unit {0} × List ℕ). q.1) (ok_is (tt, w) (v, r) e))
+  sound_body (field s b) room w v r a bytes fits e =
+      let p = and_parts (is_apart s) (is_body_apart b) (and_parts (is_clear s b) _ a).1 in
+      let x = bind_ok (read s room w) (λ x. read_body b room x.1 >>= λ y. Ok ((x.0, y.0), y.1)) (v, r) e in
+      let y = bind_ok (read_body b room x.0.1) (λ y. Ok ((x.0.0, y.0), y.1)) (v, r) x.2 in
+      let u = sound s room w x.0.0 x.0.1 p.0 bytes fits x.1 in
+      let m = sound_body b room x.0.1 y.0.0 y.0.1 p.1 (bytes_rest (octets_of s x.0.0) x.0.1 w u.1 bytes) (fits_rest (octets_of s x.0.0) x.0.1 w u.1 fits) y.1 in
+      let same = ok_is ((x.0.0, y.0.0), y.0.1) (v, r) y.2 in
+      subst (λ (q : BodyValue (field s b) × List ℕ). IsBody (field s b) q.0 × (w ≡ body_octets (field s b) q.0 ++ q.1)) {x = ((x.0.0, y.0.0), y.0.1)} same
+      ((u.0, m.0), joined (octets_of s x.0.0) (body_octets b y.0.0) y.0.1 x.0.1 w u.1 m.1)
+  sound_body (only s) room w v r a bytes fits e = sound s room w v r (and_parts (is_element s) _ a).1 bytes fits e
+  sound_body (many s) room w v r a bytes fits e =
+      many_sound (read s room) (IsValid s) (octets_of s) (λ w v r bytes fits e. sound s room w v r (and_parts (is_element s) _ a).1 bytes fits e) (length w) w v r bytes fits e
+  sound_body (rising s) room w v r a bytes fits e =
+      let h = rising_sound (read s room) (IsValid s) (octets_of s) (λ w v r bytes fits e. sound s room w v r (and_parts (is_element s) _ a).1 bytes fits e) None (length w) w v r bytes fits e in
+      ((h.0.0, from_none (octets_of s) v h.0.1), h.1)

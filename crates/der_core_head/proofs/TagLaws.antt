@@ -1,0 +1,320 @@
+-- A tag is read from its octets, and what is read has these octets (X.690 8.1.2).
+use Rattle.std.proofs.Common.{◌≡◌, ℕ, zero, suc, ◌+◌, ◌*◌, ◌/◌, ◌%◌, ◌<◌, ◌≤◌, Bool, true, false, cond, ltb, eqb, List, [], ◌∷◌, ◌++◌, length, get_or, Option, Some, None, Result, Ok, Err, sym, refl, ap, subst, ◌∙◌, arith, ◌⊎◌, inl, inr}
+use Rattle.std.proofs.lemmas.Bool.{cases_lt, lt-ltb, le-ltb, ltb-true, ltb-false, eq-eqb, ne_eqb, eqb-true, eqb-false, and_parts, and_from, cases_Bool}
+use Rattle.std.specs.List.{find}
+use Rattle.std.specs.Int.Digits.{number_from_digits_after, AllBelowBase}
+use Rattle.std.proofs.lemmas.Int.Digits.{number_after_ge}
+use Rattle.const_oid_identifiers.specs.Digits.{digits, marked}
+use Rattle.const_oid_identifiers.proofs.DigitLaws.{Digits, digits-Digits, first_of_digits-pos, digits-number_from_digits, marked_below}
+use Rattle.der_core_head.specs.declared.error.ErrorKind.{ErrorKind}
+use Rattle.der_core_head.specs.declared.error.ErrorKind.TheVariants as kinds
+use Rattle.der_core_head.specs.declared.tag.Tag.{Tag}
+use Rattle.der_core_head.specs.declared.tag.Tag.TheVariants as tags
+use Rattle.der_core_head.specs.Octets.{◌>>=◌, IsOctets}
+use Rattle.der_core_head.specs.Tags.{leading, low_bits, leading_octet, number_of, number_octets, tag_octets, IsTag, same_tag, universal_tags, universal_tag, class_tag, known_tag, tag_at, digits_at, number_at}
+use Rattle.der_core_head.proofs.Results.{fine, ok_is, bind_ok, if_ok, unless_ok, either_ok}
+use Rattle.der_core_head.proofs.Bytes.{IsBytes, bytes_tail}
+
+-- The parts of a leading octet
+
+low-lt : (n : ℕ) → low_bits n < 32
+low-lt n = elim (cases_lt n 31) [ inl l ↦ rw (lt-ltb n 31 l) (omega arith) | inr l ↦ rw (le-ltb n 31 l) (omega arith) ]
+
+-- the class, whether it is constructed, and the low bits
+record Parts (k : ℕ) (c : Bool) (n octet : ℕ) : Type 0 where
+  pub class : octet / 64 ≡ k
+  pub constructed : eqb ((octet / 32) % 2) 1 ≡ c
+  pub low : octet % 32 ≡ n
+
+leading-Parts : (class : ℕ) (c : Bool) (low : ℕ) → low < 32 → Parts class c low (leading class c low)
+leading-Parts class true low l = record { class = omega arith; constructed = eq-eqb _ 1 (omega arith); low = omega arith }
+leading-Parts class false low l = record { class = omega arith; constructed = ne_eqb _ 1 (λ e. omega arith); low = omega arith }
+
+-- the octet of these parts
+leading-from_parts : (octet : ℕ) → leading (octet / 64) (eqb ((octet / 32) % 2) 1) (octet % 32) ≡ octet
+leading-from_parts octet =
+    elim (cases_lt ((octet / 32) % 2) 1) [
+      | inl l ↦ rw (ne_eqb ((octet / 32) % 2) 1 (λ e. omega arith)) (omega arith)
+      | inr l ↦ rw (eq-eqb ((octet / 32) % 2) 1 (omega arith)) (omega arith)
+    ]
+
+-- The tag of a class, and its parts
+
+leading-class_tag : (class : ℕ) (c : Bool) (n : ℕ) → 0 < class → class < 4 → leading_octet (class_tag class c n) ≡ leading class c (low_bits n)
+leading-class_tag zero c n p q = absurd (omega arith)
+leading-class_tag (suc zero) c n p q = refl
+leading-class_tag (suc (suc zero)) c n p q = refl
+leading-class_tag (suc (suc (suc zero))) c n p q = refl
+leading-class_tag (suc (suc (suc (suc k)))) c n p q = absurd (omega arith)
+
+number-class_tag : (class : ℕ) (c : Bool) (n : ℕ) → number_of (class_tag class c n) ≡ n
+number-class_tag class c n = elim (cases_Bool (eqb class 1)) [
+  | inl e ↦ rw e refl
+  | inr e ↦ rw e (elim (cases_Bool (eqb class 2)) [ inl f ↦ rw f refl | inr f ↦ rw f refl ])
+]
+
+-- Numbers that take octets of their own
+
+-- digits, marked, are read after those of m
+digits_again : (m : ℕ) (ds r : List ℕ) → AllBelowBase 128 ds → 0 < length ds → number_from_digits_after 128 m ds < 4294967296
+    → digits_at m (marked ds ++ r) ≡ Ok (number_from_digits_after 128 m ds, r)
+unfolding digits_at marked
+digits_again m [] r all l h = absurd (omega arith)
+digits_again m (d ∷ []) r all l h =
+    let below : d < 128 = all.0 in
+    let same : 128 * m + d ≡ m * 128 + d = omega arith in
+    rw (lt-ltb (128 * m + d % 128) 4294967296 (omega arith), lt-ltb d 128 below, same) refl
+digits_again m (d ∷ e ∷ ds) r all l h =
+    let below : d < 128 = all.0 in
+    let same : 128 * m + (128 + d) % 128 ≡ m * 128 + d = omega arith in
+    let fits : m * 128 + d < 4294967296 = omega (arith, number_after_ge 128 (m * 128 + d) (e ∷ ds) (omega arith)) in
+    rw (same, lt-ltb (m * 128 + d) 4294967296 fits, le-ltb (128 + d) 128 (omega arith)) (digits_again (m * 128 + d) (e ∷ ds) r all.1 (omega arith) h)
+
+-- the digits of a number from 31, marked, are read as that number
+pub number_again : (n : ℕ) (r : List ℕ) → 31 ≤ n → n < 4294967296 → number_at (marked (digits 128 n) ++ r) ≡ Ok (n, r)
+unfolding number_at marked
+number_again n r large l = go (digits 128 n) (digits-Digits 128 n (omega arith)) (first_of_digits-pos 128 n (omega arith) (omega arith))
+  where
+    go : (ds : List ℕ) → Digits 128 n ds → 0 < get_or ds 0 0 → number_at (marked ds ++ r) ≡ Ok (n, r)
+    go [] d h = absurd (omega arith)
+    go (a ∷ []) d h =
+        let below : a < 128 = d.below.0 in
+        rw (ne_eqb a 128 (λ e. omega arith), digits_again 0 (a ∷ []) r d.below d.some (omega arith), d.number, le-ltb n 31 large) refl
+    go (a ∷ b ∷ ds) d h =
+        rw (ne_eqb (128 + a) 128 (λ e. omega arith), digits_again 0 (a ∷ b ∷ ds) r d.below d.some (omega arith), d.number, le-ltb n 31 large) refl
+
+-- what digits were read after those of m
+record Read (m : ℕ) (w : List ℕ) (n : ℕ) (r ds : List ℕ) : Type 0 where
+  pub below : AllBelowBase 128 ds
+  pub some : 0 < length ds
+  pub octets : w ≡ marked ds ++ r
+  pub number : number_from_digits_after 128 m ds ≡ n
+  pub fits : n < 4294967296
+
+digits_sound : (m : ℕ) (w : List ℕ) (n : ℕ) (r : List ℕ) → IsBytes w → digits_at m w ≡ Ok (n, r) → (ds : List ℕ) × Read m w n r ds
+unfolding digits_at marked
+digits_sound m [] n r bytes e = absurd cc
+digits_sound m (d ∷ w) n r bytes e =
+    let next = 128 * m + d % 128 in
+    let h = if_ok (ltb next 4294967296) kinds.TagNumberInvalid (cond (ltb d 128) (Ok (128 * m + d, w)) (digits_at next w)) (n, r) e in
+    let fits : next < 4294967296 = ltb-true next 4294967296 h.0 in
+    elim (either_ok (ltb d 128) (Ok (128 * m + d, w)) (digits_at next w) (Ok (n, r)) h.1) [
+      | inl last ↦
+          let small : d < 128 = ltb-true d 128 last.0 in
+          let same = ok_is (128 * m + d, w) (n, r) last.1 in
+          let number : 128 * m + d ≡ n = ap (λ (q : ℕ × List ℕ). q.0) same in
+          let rest : w ≡ r = ap (λ (q : ℕ × List ℕ). q.1) same in
+          (d ∷ [], record { below = (small, tt); some = omega arith; octets = ap (λ (q : List ℕ). d ∷ q) rest; number = omega arith; fits = omega arith })
+      | inr more ↦
+          let large : 128 ≤ d = ltb-false d 128 more.0 in
+          let octet : d < 256 = bytes 0 in
+          let i = digits_sound next w n r (bytes_tail d w bytes) more.1 in
+          (d % 128 ∷ i.0, one_more i.0 i.1 large octet)
+    ]
+  where
+    one_more : (ds : List ℕ) → Read (128 * m + d % 128) w n r ds → 128 ≤ d → d < 256 → Read m (d ∷ w) n r (d % 128 ∷ ds)
+    one_more [] i large octet = absurd (omega (arith, i.some))
+    one_more (c ∷ ds) i large octet =
+        let marks : d ≡ 128 + d % 128 = omega arith in
+        let before : m * 128 + d % 128 ≡ 128 * m + d % 128 = omega arith in
+        record {
+          below = (omega arith, i.below);
+          some = omega arith;
+          octets = ap (λ (q : List ℕ). d ∷ q) i.octets ∙ ap (λ x. x ∷ (marked (c ∷ ds) ++ r)) marks;
+          number = ap (λ x. number_from_digits_after 128 x (c ∷ ds)) before ∙ i.number;
+          fits = i.fits;
+        }
+
+-- what is read as a number is its digits, marked, and what follows
+pub number_sound : (w : List ℕ) (n : ℕ) (r : List ℕ) → IsBytes w → number_at w ≡ Ok (n, r)
+    → (w ≡ marked (digits 128 n) ++ r) × (31 ≤ n) × (n < 4294967296)
+unfolding number_at marked
+number_sound [] n r bytes e = absurd cc
+number_sound (d ∷ w) n r bytes e =
+    let h = unless_ok (eqb d 128) kinds.TagNumberInvalid (digits_at 0 (d ∷ w) >>= λ n. cond (ltb n.0 31) (Err kinds.TagNumberInvalid) (Ok n)) (n, r) e in
+    let x = bind_ok (digits_at 0 (d ∷ w)) (λ n. cond (ltb n.0 31) (Err kinds.TagNumberInvalid) (Ok n)) (n, r) h.1 in
+    let k = unless_ok (ltb x.0.0 31) kinds.TagNumberInvalid (Ok x.0) (n, r) x.2 in
+    let same = ok_is x.0 (n, r) k.1 in
+    let i = digits_sound 0 (d ∷ w) n r bytes (x.1 ∙ ap (λ (q : ℕ × List ℕ). Ok q) same) in
+    let large : 31 ≤ n = subst (λ (q : ℕ × List ℕ). 31 ≤ q.0) same (ltb-false x.0.0 31 k.0) in
+    let ds : digits 128 n ≡ i.0 = ap (digits 128) (sym i.1.number) ∙ digits-number_from_digits 128 i.0 (omega arith) i.1.below (no_zero i.0 i.1 h.0) in
+    (i.1.octets ∙ ap (λ (q : List ℕ). marked q ++ r) (sym ds), large, i.1.fits)
+  where
+    no_zero : (ds : List ℕ) → Read 0 (d ∷ w) n r ds → eqb d 128 ≡ false → (length ds ≡ 1) ⊎ (0 < get_or ds 0 0)
+    no_zero [] i other = absurd (omega (arith, i.some))
+    no_zero (a ∷ []) i other = inl refl
+    no_zero (a ∷ b ∷ ds) i other =
+        let first : d ≡ 128 + a = ap (λ (q : List ℕ). get_or q 0 0) i.octets in
+        inr (elim (cases_lt 0 a) [ inl l ↦ l | inr l ↦ absurd (eqb-false d 128 other (omega arith)) ])
+
+-- Tags
+
+-- a tag of another class than the universal one, with its number in the octet or behind it
+tag_at-low : (octet class : ℕ) (c : Bool) (n : ℕ) (w : List ℕ) → Parts class c n octet → 64 ≤ octet → n < 31
+    → tag_at (octet ∷ w) ≡ Ok (class_tag class c n, w)
+unfolding tag_at
+tag_at-low octet class c n w parts large l =
+    rw (le-ltb octet 64 large, ne_eqb (octet % 32) 31 (λ e. omega arith), parts.class, parts.constructed, parts.low) refl
+
+tag_at-high : (octet class : ℕ) (c : Bool) (n : ℕ) (w r : List ℕ) → Parts class c 31 octet → 64 ≤ octet → number_at w ≡ Ok (n, r)
+    → tag_at (octet ∷ w) ≡ Ok (class_tag class c n, r)
+unfolding tag_at
+tag_at-high octet class c n w r parts large e =
+    rw (le-ltb octet 64 large, eq-eqb (octet % 32) 31 parts.low, e, parts.class, parts.constructed) refl
+
+leading-ge : (class : ℕ) (c : Bool) (low : ℕ) → 0 < class → 64 ≤ leading class c low
+leading-ge class true low l = omega arith
+leading-ge class false low l = omega arith
+
+class_again : (class : ℕ) (c : Bool) (n : ℕ) (r : List ℕ) → 0 < class → n < 4294967296
+    → tag_at (leading class c (low_bits n) ∷ (number_octets n ++ r)) ≡ Ok (class_tag class c n, r)
+class_again class c n r some fits =
+    elim (cases_lt n 31) [
+      | inl l ↦ rw (lt-ltb n 31 l) (tag_at-low _ class c n r (leading-Parts class c n (omega arith)) (leading-ge class c n some) l)
+      | inr l ↦ rw (le-ltb n 31 l) (tag_at-high _ class c n _ r (leading-Parts class c 31 (omega arith)) (leading-ge class c 31 some) (number_again n r l fits))
+    ]
+
+-- the octets of a tag, and what follows, are read as that tag
+pub tag_again : (t : Tag) (r : List ℕ) → IsTag t → tag_at (tag_octets t ++ r) ≡ Ok (t, r)
+unfolding tag_octets tag_at universal_tag
+tag_again (tags.Application c number) r h = class_again 1 c number.value r (omega arith) h
+tag_again (tags.ContextSpecific c number) r h = class_again 2 c number.value r (omega arith) h
+tag_again (tags.Private c number) r h = class_again 3 c number.value r (omega arith) h
+tag_again t r h = refl
+
+-- a tag below 64 is universal, and its octet is all
+below_universal : (t : Tag) → leading_octet t < 64 → (tag_octets t ≡ leading_octet t ∷ []) × IsTag t
+unfolding tag_octets
+below_universal (tags.Application c number) l = absurd (omega (arith, leading-ge 1 c (low_bits number.value)))
+below_universal (tags.ContextSpecific c number) l = absurd (omega (arith, leading-ge 2 c (low_bits number.value)))
+below_universal (tags.Private c number) l = absurd (omega (arith, leading-ge 3 c (low_bits number.value)))
+below_universal t l = (refl, omega arith)
+
+-- what is found passes the test
+find_passes : {X : Type 0} (p : X → Bool) (xs : List X) (x : X) → find p xs ≡ Some x → p x ≡ true
+find_passes p [] x e = absurd cc
+find_passes p (y ∷ xs) x e =
+    elim (either_ok (p y) (Some y) (find p xs) (Some x) e) [
+      | inl h ↦ let same : y ≡ x = cc (h.1) in subst (λ z. p z ≡ true) same h.0
+      | inr h ↦ find_passes p xs x h.1
+    ]
+
+-- the tag found for an octet has that octet alone
+universal_sound : (octet : ℕ) (t : Tag) → octet < 64 → universal_tag octet ≡ Some t → (tag_octets t ≡ octet ∷ []) × IsTag t
+unfolding universal_tag
+universal_sound octet t l e =
+    let same : leading_octet t ≡ octet = eqb-true (leading_octet t) octet (find_passes (λ t. eqb (leading_octet t) octet) universal_tags t e) in
+    let universal = below_universal t (omega arith) in
+    (universal.0 ∙ ap (λ x. x ∷ []) same, universal.1)
+
+-- a tag made of an octet and a number has that octet, and the octets of the number
+class_sound : (octet n : ℕ) (w r : List ℕ) (t : Tag) → 64 ≤ octet → octet < 256 → n < 4294967296 → low_bits n ≡ octet % 32 → w ≡ number_octets n ++ r
+    → class_tag (octet / 64) (eqb ((octet / 32) % 2) 1) n ≡ t → (octet ∷ w ≡ tag_octets t ++ r) × IsTag t
+unfolding tag_octets
+class_sound octet n w r t large small fits low e same =
+    let class = octet / 64 in
+    let c = eqb ((octet / 32) % 2) 1 in
+    let first : leading_octet (class_tag class c n) ≡ octet =
+    leading-class_tag class c n (omega arith) (omega arith) ∙ ap (leading class c) low ∙ leading-from_parts octet in
+    let octets : octet ∷ w ≡ leading_octet (class_tag class c n) ∷ (number_octets (number_of (class_tag class c n)) ++ r) =
+    rw (first, number-class_tag class c n, e) refl in
+    let number : number_of (class_tag class c n) < 4294967296 = rw (number-class_tag class c n) fits in
+    subst (λ t. (octet ∷ w ≡ tag_octets t ++ r) × IsTag t) same (octets, number)
+
+-- what is read as a tag is its octets and what follows
+pub tag_sound : (w : List ℕ) (t : Tag) (r : List ℕ) → IsBytes w → tag_at w ≡ Ok (t, r) → (w ≡ tag_octets t ++ r) × IsTag t
+unfolding tag_at
+tag_sound [] t r bytes e = absurd cc
+tag_sound (octet ∷ w) t r bytes e =
+    let behind : Result (Tag × List ℕ) ErrorKind = number_at w >>= λ n. Ok (class n.0, n.1) in
+    let within : Result (Tag × List ℕ) ErrorKind = Ok (class (octet % 32), w) in
+    elim (either_ok (ltb octet 64) (known_tag (universal_tag octet) w) (cond (eqb (octet % 32) 31) behind within) (Ok (t, r)) e) [
+      | inl h ↦ known (universal_tag octet) refl (ltb-true octet 64 h.0) h.1
+      | inr h ↦ elim (either_ok (eqb (octet % 32) 31) behind within (Ok (t, r)) h.1) [
+        | inl k ↦ high (ltb-false octet 64 h.0) (eqb-true (octet % 32) 31 k.0) k.1
+        | inr k ↦ low (ltb-false octet 64 h.0) (eqb-false (octet % 32) 31 k.0) k.1
+      ]
+    ]
+  where
+    class : ℕ → Tag
+    class n = class_tag (octet / 64) (eqb ((octet / 32) % 2) 1) n
+
+    small : octet < 256
+    small = bytes 0
+
+    known : (o : Option Tag) → universal_tag octet ≡ o → octet < 64 → known_tag o w ≡ Ok (t, r) → (octet ∷ w ≡ tag_octets t ++ r) × IsTag t
+    known None is l e = absurd cc
+    known (Some u) is l e =
+        let same = ok_is (u, w) (t, r) e in
+        let universal = universal_sound octet u l is in
+        subst (λ (q : Tag × List ℕ). (octet ∷ w ≡ tag_octets q.0 ++ q.1) × IsTag q.0) same (ap (λ (q : List ℕ). q ++ w) (sym universal.0), universal.1)
+
+    high : 64 ≤ octet → octet % 32 ≡ 31 → ◌>>=◌ {B = Tag × List ℕ} (number_at w) (λ n. Ok (class n.0, n.1)) ≡ Ok (t, r) → (octet ∷ w ≡ tag_octets t ++ r) × IsTag t
+    high large bits e =
+        let x = bind_ok (number_at w) (λ n. Ok (class n.0, n.1)) (t, r) e in
+        let same = ok_is (class x.0.0, x.0.1) (t, r) x.2 in
+        let i = number_sound w x.0.0 x.0.1 (bytes_tail octet w bytes) x.1 in
+        let full : ltb x.0.0 31 ≡ false = le-ltb x.0.0 31 i.1 in
+        let rest : x.0.1 ≡ r = ap (λ (q : Tag × List ℕ). q.1) same in
+        class_sound octet x.0.0 w r t large small i.2 (rw full (sym bits)) (rw full (i.0 ∙ ap (λ (q : List ℕ). marked (digits 128 x.0.0) ++ q) rest))
+        (ap (λ (q : Tag × List ℕ). q.0) same)
+
+    low : 64 ≤ octet → (octet % 32 ≡ 31 → ⊥) → fine {A = Tag × List ℕ} (class (octet % 32), w) ≡ Ok (t, r) → (octet ∷ w ≡ tag_octets t ++ r) × IsTag t
+    low large other e =
+        let same = ok_is (class (octet % 32), w) (t, r) e in
+        let room : ltb (octet % 32) 31 ≡ true = lt-ltb (octet % 32) 31 (omega arith) in
+        let rest : w ≡ r = ap (λ (q : Tag × List ℕ). q.1) same in
+        class_sound octet (octet % 32) w r t large small (omega arith) (rw room refl) (rw room rest) (ap (λ (q : Tag × List ℕ). q.0) same)
+
+-- Tags with the same octets
+
+pub same_tag-refl : (t : Tag) → same_tag t t ≡ true
+same_tag-refl t = and_from _ _ (eq-eqb (leading_octet t) (leading_octet t) refl) (eq-eqb (number_of t) (number_of t) refl)
+
+-- the tag with that leading octet and number
+tag_of : ℕ → ℕ → Option Tag
+tag_of octet n = cond (ltb octet 64) (universal_tag octet) (Some (class_tag (octet / 64) (eqb ((octet / 32) % 2) 1) n))
+
+tag_of-class : (class : ℕ) (c : Bool) (low n : ℕ) → 0 < class → low < 32 → tag_of (leading class c low) n ≡ Some (class_tag class c n)
+unfolding tag_of
+tag_of-class class c low n some l =
+    let parts = leading-Parts class c low l in
+    rw (le-ltb (leading class c low) 64 (leading-ge class c low some), parts.class, parts.constructed) refl
+
+tag_of-same : (t : Tag) → tag_of (leading_octet t) (number_of t) ≡ Some t
+unfolding tag_of universal_tag
+tag_of-same (tags.Application c number) = tag_of-class 1 c (low_bits number.value) number.value (omega arith) (low-lt number.value)
+tag_of-same (tags.ContextSpecific c number) = tag_of-class 2 c (low_bits number.value) number.value (omega arith) (low-lt number.value)
+tag_of-same (tags.Private c number) = tag_of-class 3 c (low_bits number.value) number.value (omega arith) (low-lt number.value)
+tag_of-same t = refl
+
+pub same_tag-eq : (a b : Tag) → same_tag a b ≡ true → a ≡ b
+same_tag-eq a b e =
+    let parts = and_parts _ _ e in
+    let octet : leading_octet a ≡ leading_octet b = eqb-true (leading_octet a) (leading_octet b) parts.0 in
+    let number : number_of a ≡ number_of b = eqb-true (number_of a) (number_of b) parts.1 in
+    let same : Some a ≡ Some b = sym (tag_of-same a) ∙ ap (λ o. tag_of o (number_of a)) octet ∙ ap (tag_of (leading_octet b)) number ∙ tag_of-same b in
+    cc
+
+-- The octets of a tag
+
+pub tag_octets-some : (t : Tag) → (b : ℕ) × (w : List ℕ) × (tag_octets t ≡ b ∷ w)
+unfolding tag_octets
+tag_octets-some t = (leading_octet t, number_octets (number_of t), refl)
+
+leading-lt : (class : ℕ) (c : Bool) (low : ℕ) → class < 4 → low < 32 → leading class c low < 256
+leading-lt class true low l m = omega arith
+leading-lt class false low l m = omega arith
+
+number_octets-below : (n : ℕ) → IsOctets (number_octets n)
+number_octets-below n = elim (cases_lt n 31) [
+  | inl l ↦ rw (lt-ltb n 31 l) tt
+  | inr l ↦ rw (le-ltb n 31 l) (marked_below (digits 128 n) (digits-Digits 128 n (omega arith)).below)
+]
+
+pub tag_octets-below : (t : Tag) → IsTag t → IsOctets (tag_octets t)
+unfolding tag_octets
+tag_octets-below (tags.Application c number) h = (leading-lt 1 c _ (omega arith) (low-lt number.value), number_octets-below number.value)
+tag_octets-below (tags.ContextSpecific c number) h = (leading-lt 2 c _ (omega arith) (low-lt number.value), number_octets-below number.value)
+tag_octets-below (tags.Private c number) h = (leading-lt 3 c _ (omega arith) (low-lt number.value), number_octets-below number.value)
+tag_octets-below t h = (omega arith, tt)

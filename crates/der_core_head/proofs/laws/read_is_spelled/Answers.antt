@@ -1,0 +1,9 @@
+use Rattle.der_core_head.proofs.Below.{bytes_are}
+use Rattle.der_core_head.proofs.Sound.{sound}
+use Rattle.der_core_head.proofs.laws.read_is_spelled.Goals as goal
+
+pub returns : goal.returns
+returns c = record {
+  valid = λ s room w v r apart below fits e. (sound s room w v r apart (bytes_are w below) fits e).0;
+  octets = λ s room w v r apart below fits e. (sound s room w v r apart (bytes_are w below) fits e).1;
+}

@@ -1,0 +1,32 @@
+-- Bit strings: the number of unused bits, and octets whose unused bits are zero (X.690 8.6, 11.2).
+use Rattle.std.specs.Prelude.{◌≡◌, ℕ, ◌%◌, ◌^◌, List, [], ◌∷◌, Bool, true, Result, Ok, Err, nat_lt, ◌==◌, ◌&&◌, if◌then◌else◌}
+use Rattle.der_core_head.specs.declared.error.ErrorKind.{ErrorKind}
+use Rattle.der_core_head.specs.declared.error.ErrorKind.TheVariants as kinds
+use Rattle.der_core_head.specs.declared.tag.Tag.{Tag}
+use Rattle.der_core_head.specs.Octets.{IsOctets}
+
+-- bits: whole octets, of whose last so many bits don't count
+pub record Bits : Type 0 where
+  pub unused : ℕ
+  pub octets : List ℕ
+
+abbrev pub last_octet : List ℕ → ℕ
+last_octet [] = 0
+last_octet (b ∷ []) = b
+last_octet (b ∷ c ∷ w) = last_octet (c ∷ w)
+
+-- at most seven bits are unused, none where there is no octet, and they are zero
+abbrev pub are_bits : ℕ → List ℕ → Bool
+are_bits unused [] = unused == 0
+are_bits unused (b ∷ w) = nat_lt unused 8 && (last_octet (b ∷ w) % (2 ^ unused)) == 0
+
+pub record IsBits (b : Bits) : Type 0 where
+  pub unused : are_bits b.unused b.octets ≡ true
+  pub octets : IsOctets b.octets
+
+abbrev pub bit_contents : Bits → List ℕ
+bit_contents b = b.unused ∷ b.octets
+
+unfoldable pub bits_read : Tag → List ℕ → Result Bits ErrorKind
+bits_read t [] = Err (kinds.Length t)
+bits_read t (unused ∷ w) = if are_bits unused w then Ok (record { unused = unused; octets = w }) else Err (kinds.Value t)

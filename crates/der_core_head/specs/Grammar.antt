@@ -1,0 +1,142 @@
+-- Reading from left to right, with the first fault and the levels that may still be opened.
+use Rattle.std.specs.Prelude.{ℕ, zero, suc, ◌-◌, slice_get, List, [], ◌∷◌, length, take, drop, Bool, Option, Some, None, Result, Ok, Err, nat_lt, bytes_eq, ◌⊎◌, if◌then◌else◌}
+use Rattle.std.proofs.Common.{inl, inr}
+use Rattle.std.specs.Ordering.{nat_cmp}
+use Rattle.std.specs.declared.cmp.Ordering.{Ordering}
+use Rattle.std.specs.declared.cmp.Ordering.TheVariants.{Less, Equal, Greater}
+use Rattle.std.specs.Cmp.Lexicographic.{slice_cmp}
+use Rattle.der_core_head.specs.declared.error.ErrorKind.{ErrorKind}
+use Rattle.der_core_head.specs.declared.error.ErrorKind.TheVariants as kinds
+use Rattle.der_core_head.specs.declared.tag.Tag.{Tag}
+use Rattle.der_core_head.specs.Octets.{◌>>=◌, Readings}
+use Rattle.der_core_head.specs.Tags.{same_tag, tag_at}
+use Rattle.der_core_head.specs.Heads.{head_at}
+use Rattle.der_core_head.specs.Leaves.{leaf_read}
+use Rattle.der_core_head.specs.Shapes.{Shape, Content, Body, tagged, any, either, optional, defaulted, leaf, nested, done, field, only, many, rising, Value, ContentValue, BodyValue, AnyValue, octets_of, begins}
+
+unfoldable pub slice_at : ℕ → Readings (List ℕ)
+slice_at n w = if nat_lt (length w) n then Err kinds.Incomplete else Ok (take n w, drop n w)
+
+abbrev pub byte_at : Readings ℕ
+byte_at [] = Err kinds.Incomplete
+byte_at (b ∷ w) = Ok (b, w)
+
+-- all of the octets have to be read
+abbrev pub whole : {P : Type 0} → P × List ℕ → Result (P × List ℕ) ErrorKind
+whole (p, []) = Ok (p, [])
+whole (p, b ∷ bs) = Err kinds.TrailingData
+
+-- what a reader of content answers on the next n octets
+unfoldable pub value_at : {P : Type 0} → Readings P → ℕ → Readings P
+value_at f n w =
+    if nat_lt (length w) n then Err kinds.Incomplete
+    else (f (take n w) >>= whole >>= λ x. Ok (x.0, drop n w))
+
+-- a header with that tag, and its content
+unfoldable pub tlv_at : {P : Type 0} → Tag → Readings P → Readings P
+tlv_at tag f w = head_at w >>= λ h. if same_tag h.0.tag tag then value_at f h.0.len h.1 else Err kinds.TagUnexpected
+
+-- a header, and its content as it stands
+unfoldable pub any_at : Readings AnyValue
+any_at w = head_at w >>= λ h. slice_at h.0.len h.1 >>= λ x. Ok (record { tag = h.0.tag; contents = x.0 }, x.1)
+
+unfoldable pub read_many : {P : Type 0} → Readings P → ℕ → Readings (List P)
+read_many f n [] = Ok ([], [])
+read_many f zero (b ∷ bs) = Err kinds.TrailingData
+read_many f (suc n) (b ∷ bs) = f (b ∷ bs) >>= λ x. read_many f n x.1 >>= λ y. Ok (x.0 ∷ y.0, y.1)
+
+-- whether octets may follow one another in a set
+abbrev pub ordered : Ordering → Result (Unit {0}) ErrorKind
+ordered Less = Ok tt
+ordered Equal = Err kinds.SetDuplicate
+ordered Greater = Err kinds.SetOrdering
+
+abbrev pub follows : List ℕ → List ℕ → Result (Unit {0}) ErrorKind
+follows a b = ordered (slice_cmp nat_cmp a b)
+
+-- and the octets before, if any
+abbrev pub follows_last : Option (List ℕ) → List ℕ → Result (Unit {0}) ErrorKind
+follows_last None b = Ok tt
+follows_last (Some a) b = follows a b
+
+unfoldable pub read_rising : {P : Type 0} → (P → List ℕ) → Readings P → Option (List ℕ) → ℕ → Readings (List P)
+read_rising o f last n [] = Ok ([], [])
+read_rising o f last zero (b ∷ bs) = Err kinds.TrailingData
+read_rising o f last (suc n) (b ∷ bs) = f (b ∷ bs) >>= λ x. follows_last last (o x.0) >>= λ _. read_rising o f (Some (o x.0)) n x.1 >>= λ y. Ok (x.0 ∷ y.0, y.1)
+
+-- the tag that stands, if one stands
+abbrev pub peek_at : List ℕ → Result (Option Tag) ErrorKind
+peek_at [] = Ok None
+peek_at (b ∷ w) = tag_at (b ∷ w) >>= λ t. Ok (Some t.0)
+
+-- the tag that stands, if it is one of these
+abbrev pub chosen : (Tag → Bool) → Option Tag → Option Tag
+chosen first None = None
+chosen first (Some t) = if first t then Some t else None
+
+abbrev pub opt_after : {P : Type 0} → Readings P → List ℕ → Option Tag → Result (Option P × List ℕ) ErrorKind
+opt_after f w None = Ok (None, w)
+opt_after f w (Some t) = f w >>= λ x. Ok (Some x.0, x.1)
+
+-- a value where one of its first tags stands
+unfoldable pub opt_at : {P : Type 0} → (Tag → Bool) → Readings P → Readings (Option P)
+opt_at first f w = peek_at w >>= λ t. opt_after f w (chosen first t)
+
+-- the default where nothing stands, and never the default where something does
+abbrev pub default_after : {P : Type 0} → Result (P × List ℕ) ErrorKind → (P → Bool) → Readings P → List ℕ → Option Tag → Result (P × List ℕ) ErrorKind
+default_after d is f w None = d >>= whole >>= λ x. Ok (x.0, w)
+default_after d is f w (Some t) = f w >>= λ x. if is x.0 then Err (kinds.Noncanonical t) else Ok x
+
+unfoldable pub default_at : {P : Type 0} → (Tag → Bool) → Result (P × List ℕ) ErrorKind → (P → Bool) → Readings P → Readings P
+default_at first d is f w = peek_at w >>= λ t. default_after d is f w (chosen first t)
+
+-- one of two, by the first tag
+unfoldable pub either_at : {P Q : Type 0} → (Tag → Bool) → (Tag → Bool) → Readings P → Readings Q → Readings (P ⊎ Q)
+either_at a b f g w = tag_at w >>= λ t.
+    if a t.0 then (f w >>= λ x. Ok (inl x.0, x.1)) else if b t.0 then (g w >>= λ x. Ok (inr x.0, x.1)) else Err kinds.TagUnexpected
+
+-- all of the octets, if they are a content
+abbrev pub leaf_at : {P : Type 0} → Result P ErrorKind → Result (P × List ℕ) ErrorKind
+leaf_at (Ok v) = Ok (v, [])
+leaf_at (Err e) = Err e
+
+-- a value, and what is left
+abbrev pub kept : {P : Type 0} → List ℕ → P → Result (P × List ℕ) ErrorKind
+kept r v = Ok (v, r)
+
+-- reading with that many levels to open; a content is read behind its tag
+abbrev mutual
+  pub read : (s : Shape) → ℕ → List ℕ → Result (Value s × List ℕ) ErrorKind
+  read (tagged t c) room w = tlv_at t (read_content c t room) w
+  read any room w = any_at w
+  read (either a b) room w = either_at (begins a) (begins b) (read a room) (read b room) w
+  read (optional s) room w = opt_at (begins s) (read s room) w
+  read (defaulted s d) room w = default_at (begins s) (read s 64 d) (λ v. bytes_eq (octets_of s v) d) (read s room) w
+
+  pub read_content : (c : Content) → Tag → ℕ → List ℕ → Result (ContentValue c × List ℕ) ErrorKind
+  read_content (leaf l) t room w = leaf_at (leaf_read l t w)
+  read_content (nested b) t zero w = Err kinds.NestingDepth
+  read_content (nested b) t (suc room) w = read_body b room w >>= whole
+
+  pub read_body : (b : Body) → ℕ → List ℕ → Result (BodyValue b × List ℕ) ErrorKind
+  read_body done room w = Ok (tt, w)
+  read_body (field s b) room w = read s room w >>= λ x. read_body b room x.1 >>= λ y. Ok ((x.0, y.0), y.1)
+  read_body (only s) room w = read s room w
+  read_body (many s) room w = read_many (read s room) (length w) w
+  read_body (rising s) room w = read_rising (λ v. octets_of s v) (read s room) None (length w) w
+
+abbrev pub plain_option : {A B : Type 0} → (A → B) → Option A → Option B
+plain_option f None = None
+plain_option f (Some x) = Some (f x)
+
+abbrev pub plain_list : {A B : Type 0} → (A → B) → List A → List B
+plain_list f [] = []
+plain_list f (x ∷ xs) = f x ∷ plain_list f xs
+
+-- all of the octets, which a length can count
+unfoldable pub whole_at : (s : Shape) → List ℕ → Result (Value s × List ℕ) ErrorKind
+whole_at s w = if nat_lt 4294967295 (length w) then Err kinds.Overflow else (read s 64 w >>= whole)
+
+-- the octets of the last value, if there is one
+abbrev pub last_octets : {A : Type 0} → (A → List ℕ) → List A → Option (List ℕ)
+last_octets o xs = plain_option o (slice_get xs (length xs - 1))

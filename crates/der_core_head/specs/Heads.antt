@@ -1,0 +1,47 @@
+-- Lengths, headers and whole encodings (X.690 8.1.3, 10.1).
+use Rattle.std.specs.Prelude.{ℕ, ◌+◌, ◌-◌, ◌<◌, List, [], ◌∷◌, ◌++◌, length, take, drop, Result, Ok, Err, nat_lt, bytes_eq, ◌==◌, if◌then◌else◌}
+use Rattle.std.specs.Int.Digits.{number_from_digits}
+use Rattle.const_oid_identifiers.specs.Digits.{digits}
+use Rattle.der_core_head.specs.declared.error.ErrorKind.{ErrorKind}
+use Rattle.der_core_head.specs.declared.error.ErrorKind.TheVariants as kinds
+use Rattle.der_core_head.specs.declared.tag.Tag.{Tag}
+use Rattle.der_core_head.specs.Octets.{◌>>=◌, Readings}
+use Rattle.der_core_head.specs.Tags.{tag_octets, tag_at}
+
+-- one octet below 128; else how many digits there are in base 256, and these digits
+unfoldable pub length_octets : ℕ → List ℕ
+length_octets n = if nat_lt n 128 then n ∷ [] else (128 + length (digits 256 n)) ∷ digits 256 n
+
+-- the header of so many content octets
+unfoldable pub head_octets : Tag → ℕ → List ℕ
+head_octets t n = tag_octets t ++ length_octets n
+
+-- a header and its content
+unfoldable pub tlv : Tag → List ℕ → List ℕ
+tlv t c = head_octets t (length c) ++ c
+
+-- no more octets than a length can count
+abbrev pub Fits : List ℕ → Type 0
+Fits w = length w < 4294967296
+
+pub record Head : Type 0 where
+  pub tag : Tag
+  pub len : ℕ
+
+-- the number that digits spell, where they and the octet before them are its one form
+abbrev pub shortest : Tag → ℕ → List ℕ → List ℕ → Result (ℕ × List ℕ) ErrorKind
+shortest t first ds w =
+    if bytes_eq (length_octets (number_from_digits 256 ds)) (first ∷ ds) then Ok (number_from_digits 256 ds, w) else Err (kinds.Length t)
+
+-- the number of content octets behind a tag
+unfoldable pub length_at : Tag → Readings ℕ
+length_at t [] = Err kinds.Incomplete
+length_at t (n ∷ w) =
+    if nat_lt n 128 then Ok (n, w)
+    else if n == 128 then Err kinds.IndefiniteLength
+    else if nat_lt 132 n then Err kinds.Overlength
+    else if nat_lt (length w) (n - 128) then Err kinds.Incomplete
+    else shortest t n (take (n - 128) w) (drop (n - 128) w)
+
+unfoldable pub head_at : Readings Head
+head_at w = tag_at w >>= λ t. length_at t.0 t.1 >>= λ n. Ok (record { tag = t.0; len = n.0 }, n.1)

@@ -1,0 +1,18 @@
+-- Differences of lengths, and octets and texts that a length can count.
+use Rattle.std.specs.Prelude.{ℕ, ◌-◌, List, length, Result, Ok, Err, nat_lt, if◌then◌else◌}
+use Rattle.der_core_head.specs.declared.error.ErrorKind.{ErrorKind}
+use Rattle.der_core_head.specs.declared.error.ErrorKind.TheVariants as kinds
+use Rattle.der_core_head.specs.Octets.{◌>>=◌}
+use Rattle.der_core_head.specs.Texts.{utf8_read}
+
+-- a difference of lengths
+abbrev pub difference_len : ℕ → ℕ → Result ℕ ErrorKind
+difference_len m n = if nat_lt m n then Err kinds.Overflow else Ok (m - n)
+
+-- octets, if a length can count them
+abbrev pub counted : List ℕ → Result (List ℕ) ErrorKind
+counted w = if nat_lt 4294967295 (length w) then Err kinds.Overflow else Ok w
+
+-- the octets of a text, if a length can count them
+abbrev pub counted_text : List ℕ → Result (List ℕ) ErrorKind
+counted_text w = utf8_read w >>= counted

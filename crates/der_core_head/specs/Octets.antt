@@ -1,0 +1,21 @@
+-- Octets, and results that are passed on.
+use Rattle.std.specs.Prelude.{ℕ, ◌<◌, List, [], ◌∷◌, Bool, true, Result, Ok, Err, nat_lt, ◌&&◌}
+use Rattle.std.specs.List.{AllByRecursion}
+use Rattle.der_core_head.specs.declared.error.ErrorKind.{ErrorKind}
+
+-- each is an octet
+abbrev pub IsOctets : List ℕ → Type 0
+IsOctets w = AllByRecursion (λ b. b < 256) w
+
+abbrev pub are_octets : List ℕ → Bool
+are_octets [] = true
+are_octets (b ∷ w) = nat_lt b 256 && are_octets w
+
+infixl 10 ◌>>=◌
+abbrev pub ◌>>=◌ : {A B : Type 0} → Result A ErrorKind → (A → Result B ErrorKind) → Result B ErrorKind
+(Ok x) >>= f = f x
+(Err e) >>= f = Err e
+
+-- what reads a value from the front of octets: the value and the rest, or the first fault
+abbrev pub Readings : Type 0 → Type 0
+Readings P = List ℕ → Result (P × List ℕ) ErrorKind

@@ -1,0 +1,124 @@
+-- What a reader has left, and what a call did to it.
+use Rattle.std.specs.Prelude.{◌-◌, ◌+◌, ◌<◌, ◌≤◌, length, take, drop, ◌||◌, ◌≡◌, ◌≢◌, ℕ, List, [], ◌++◌, Bool, true, false, Result, Ok, Err}
+use Rattle.der_core_head.specs.declared.error.Error.{Error}
+use Rattle.der_core_head.specs.declared.length.Length.{Length}
+use Rattle.der_core_head.specs.declared.error.ErrorKind.{ErrorKind}
+use Rattle.der_core_head.specs.declared.error.ErrorKind.TheVariants as kinds
+use Rattle.der_core_head.specs.declared.encoding_rules.EncodingRules.{EncodingRules}
+use Rattle.der_core_head.specs.declared.encoding_rules.EncodingRules.TheVariants as encodings
+use Rattle.std.specs.Borrow.{MutBor, Bor}
+use Rattle.std.specs.Fn.{Once, FnOnceReturnsAtMut}
+use Rattle.der_core_head.specs.Shapes.{Body, BodyValue, leaf}
+use Rattle.der_core_head.specs.declared.tag.Tag.{Tag}
+use Rattle.der_core_head.specs.Octets.{◌>>=◌}
+use Rattle.der_core_head.specs.Grammar.{read_body, read_content, value_at, kept}
+use Rattle.der_core_head.specs.Leaves.{Leaf, leaf_read}
+
+-- by which rules an input is read, and how many octets it has
+pub record Source : Type 0 where
+  pub encoding : EncodingRules
+  pub size : ℕ
+
+-- the octets up to the end in force, those behind it, the levels that can still be opened, whether a call failed, and the input
+pub record State : Type 0 where
+  pub rest : List ℕ
+  pub behind : List ℕ
+  pub room : ℕ
+  pub failed : Bool
+  pub source : Source
+
+-- a reader of these octets, by those rules, before any call
+abbrev pub unread : EncodingRules → List ℕ → State
+unread rules w = record { rest = w; behind = []; room = 64; failed = false; source = record { encoding = rules; size = length w } }
+
+-- DER rules, or BER
+abbrev pub IsDer : State → Type 0
+IsDer s = s.source.encoding ≡ encodings.Der
+
+abbrev pub IsBer : State → Type 0
+IsBer s = s.source.encoding ≡ encodings.Ber
+
+-- what a call may answer: the named fault, or that memory ran out
+abbrev pub Fails : {Y : Type 0} → ErrorKind → Result Y ErrorKind → Type 0
+Fails e r = e ≢ kinds.OutOfMemory → r ≡ Err e
+
+-- so many octets further on
+abbrev pub past : ℕ → State → State
+past n s = record s { rest = drop n s.rest }
+
+-- where it was, and failed
+abbrev pub broken : State → State
+broken s = record s { failed = true }
+
+-- The same reader, further on or failed. One that failed stays failed.
+pub record Kept (old new : State) : Type 0 where
+  pub behind : new.behind ≡ old.behind
+  pub room : new.room ≡ old.room
+  pub source : new.source ≡ old.source
+  pub failed : old.failed ≡ true → new.failed ≡ true
+
+-- The call answered what reading gives where DER rules, seen by view, and moved the reader on. A failed reader answers that it failed.
+abbrev pub Reads : {X P : Type 0} → (X → P) → State → State → Result X Error → (List ℕ → Result (P × List ℕ) ErrorKind) → Type 0
+Reads view old new (Ok x) f = (IsDer old → f old.rest ≡ Ok (view x, new.rest)) × (new ≡ record old { rest = new.rest }) × (old.failed ≡ false)
+Reads view old new (Err e) f = (IsDer old → old.failed ≡ false → Fails e.kind (f old.rest)) × Kept old new × (old.failed ≡ true → e.kind ≡ kinds.Failed)
+
+-- The same of a call that takes no memory. After a refusal the reader is where it was, and failed.
+abbrev pub ReadsNow : {X P : Type 0} → (X → P) → State → State → Result X Error → (List ℕ → Result (P × List ℕ) ErrorKind) → Type 0
+ReadsNow view old new (Ok x) f = (f old.rest ≡ Ok (view x, new.rest)) × (new ≡ record old { rest = new.rest }) × (old.failed ≡ false)
+ReadsNow view old new (Err e) f = (old.failed ≡ false → f old.rest ≡ Err e.kind) × (new ≡ broken old) × (old.failed ≡ true → e.kind ≡ kinds.Failed)
+
+-- The same of a call that takes no memory, where those rules rule.
+abbrev pub ReadsBy : {X P : Type 0} → EncodingRules → (X → P) → State → State → Result X Error → (List ℕ → Result (P × List ℕ) ErrorKind) → Type 0
+ReadsBy rules view old new (Ok x) f = (old.source.encoding ≡ rules → f old.rest ≡ Ok (view x, new.rest)) × (new ≡ record old { rest = new.rest }) × (old.failed ≡ false)
+ReadsBy rules view old new (Err e) f = (old.source.encoding ≡ rules → old.failed ≡ false → f old.rest ≡ Err e.kind) × (new ≡ broken old) × (old.failed ≡ true → e.kind ≡ kinds.Failed)
+
+-- The call answered what stands there where those rules rule, seen by view, and left the reader as it was.
+abbrev pub PeeksBy : {X P : Type 0} → EncodingRules → (X → P) → State → Result X Error → Result P ErrorKind → Type 0
+PeeksBy rules view s (Ok x) r = (s.source.encoding ≡ rules → r ≡ Ok (view x)) × (s.failed ≡ false)
+PeeksBy rules view s (Err e) r = (s.source.encoding ≡ rules → s.failed ≡ false → r ≡ Err e.kind) × (s.failed ≡ true → e.kind ≡ kinds.Failed)
+
+-- what a call of f may give at a reader is what reading gives
+abbrev pub ClosureReads : {R T F : Type 0} → (R → State) → Once F (MutBor R × Unit {0}) (Result T Error × (MutBor R × Unit {0})) → F → (b : Body) → (T → BodyValue b) → Type 0
+ClosureReads {R} {T} state g f b view = (old : R) (r : Result T Error) (new : R) → FnOnceReturnsAtMut g f old r new → Reads view (state old) (state new) r (read_body b (state old).room)
+
+abbrev pub HandsBack : {R T F : Type 0} → (R → State) → Once F (MutBor R × Unit {0}) (Result T Error × (MutBor R × Unit {0})) → F → Type 0
+HandsBack {R} {T} state g f = (old : R) (r : Result T Error) (new : R) → FnOnceReturnsAtMut g f old r new → Kept (state old) (state new)
+
+-- the end is set n octets ahead
+abbrev pub entered : ℕ → State → State
+entered n s = record { rest = take n s.rest; behind = drop n s.rest ++ s.behind; room = s.room - 1; failed = s.failed; source = s.source }
+
+-- and k octets are given back
+abbrev pub restored : ℕ → Bool → State → State
+restored k failed s = record { rest = s.rest ++ take k s.behind; behind = drop k s.behind; room = s.room + 1; failed = failed; source = s.source }
+
+-- which refusal it is
+abbrev pub Refuses : ℕ → State → ErrorKind → Type 0
+Refuses n old kinds.Incomplete = length old.rest < n
+Refuses n old kinds.NestingDepth = (n ≤ length old.rest) × (old.room ≡ 0)
+Refuses n old _ = ⊥
+
+-- what setting the end answers: how many octets are behind it that weren't
+abbrev pub Opens : ℕ → State → State → Result Length Error → Type 0
+Opens n old new (Ok taken) = (n + taken.value ≡ length old.rest) × (0 < old.room) × (old.room ≤ 64) × (old.failed ≡ false) × (new ≡ entered n old)
+Opens n old new (Err e) = (old.failed ≡ false → Refuses n old e.kind) × (new ≡ broken old) × (old.failed ≡ true → e.kind ≡ kinds.Failed)
+
+-- what giving octets back answers, after a call that failed or not
+abbrev pub Closes : ℕ → Bool → State → State → Result (Unit {0}) Error → Type 0
+Closes k failed old new (Ok _) = (failed ≡ false → old.rest ≡ []) × (new ≡ restored k (old.failed || failed) old)
+Closes k failed old new (Err e) = (failed ≡ false) × (old.rest ≢ []) × (e.kind ≡ kinds.TrailingData) × (new ≡ restored k true old)
+
+-- What was answered, seen by view, is what reading gives, unless memory ran out.
+abbrev pub Gives : {X P : Type 0} → (X → P) → Result X Error → Result P ErrorKind → Type 0
+Gives view (Ok x) r = r ≡ Ok (view x)
+Gives view (Err e) r = Fails e.kind r
+
+-- The same of a call that takes no memory.
+abbrev pub GivesNow : {X P : Type 0} → (X → P) → Result X Error → Result P ErrorKind → Type 0
+GivesNow view (Ok x) r = r ≡ Ok (view x)
+GivesNow view (Err e) r = r ≡ Err e.kind
+
+-- The octets of a content were read, whatever leaf they are.
+abbrev pub TakesContent : State → State → Result (Bor (List ℕ)) Error → ℕ → Type 0
+TakesContent old new (Ok x) n = ((l : Leaf) (t : Tag) (room : ℕ) → value_at (read_content (leaf l) t room) n old.rest ≡ (leaf_read l t x.now >>= kept new.rest)) × (new ≡ record old { rest = new.rest }) × (old.failed ≡ false)
+TakesContent old new (Err e) n = ((l : Leaf) (t : Tag) (room : ℕ) → old.failed ≡ false → value_at (read_content (leaf l) t room) n old.rest ≡ Err e.kind) × (new ≡ broken old) × (old.failed ≡ true → e.kind ≡ kinds.Failed)

@@ -1,0 +1,140 @@
+-- The universe of shapes: the syntax of a type, its plain values, and the octets that spell them (X.680 24 to 31, X.690).
+-- A shape stands where a value stands, a content behind a header, a body where values stand inside a value.
+use Rattle.std.specs.Prelude.{◌≡◌, ℕ, List, [], ◌∷◌, ◌++◌, Bool, true, false, ◌⊎◌, Option, Some, None, bytes_eq, flat_map, ◌||◌}
+use Rattle.std.proofs.Common.{inl, inr}
+use Rattle.std.specs.List.{AllByRecursion}
+use Rattle.std.specs.Bool.{⊤}
+use Rattle.std.specs.Ordering.{nat_cmp}
+use Rattle.std.specs.declared.cmp.Ordering.TheVariants.{Less}
+use Rattle.std.specs.Cmp.Lexicographic.{slice_cmp}
+use Rattle.der_core_head.specs.declared.tag.Tag.{Tag}
+use Rattle.der_core_head.specs.declared.tag.Tag.TheVariants as tags
+use Rattle.der_core_head.specs.Octets.{IsOctets}
+use Rattle.der_core_head.specs.Tags.{IsTag, same_tag, context}
+use Rattle.der_core_head.specs.Heads.{tlv, Fits}
+use Rattle.der_core_head.specs.Leaves.{Leaf, LeafValue, leaf_contents, IsLeafValue}
+
+mutual
+  -- a value where it stands
+  pub data Shape : Type 0 where
+    tagged : Tag → Content → Shape
+    any : Shape
+    either : Shape → Shape → Shape
+    optional : Shape → Shape
+    defaulted : Shape → List ℕ → Shape  -- the octets are those that never stand
+
+  -- what stands behind a header
+  pub data Content : Type 0 where
+    leaf : Leaf → Content
+    nested : Body → Content
+
+  -- values inside a value
+  pub data Body : Type 0 where
+    done : Body
+    field : Shape → Body → Body
+    only : Shape → Body
+    many : Shape → Body
+    rising : Shape → Body
+
+pub record AnyValue : Type 0 where
+  pub tag : Tag
+  pub contents : List ℕ
+
+abbrev mutual
+  pub Value : Shape → Type 0
+  Value (tagged t c) = ContentValue c
+  Value any = AnyValue
+  Value (either a b) = Value a ⊎ Value b
+  Value (optional s) = Option (Value s)
+  Value (defaulted s d) = Value s
+
+  pub ContentValue : Content → Type 0
+  ContentValue (leaf l) = LeafValue l
+  ContentValue (nested b) = BodyValue b
+
+  pub BodyValue : Body → Type 0
+  BodyValue done = Unit {0}
+  BodyValue (field s b) = Value s × BodyValue b
+  BodyValue (only s) = Value s
+  BodyValue (many s) = List (Value s)
+  BodyValue (rising s) = List (Value s)
+
+-- SEQUENCE, SEQUENCE OF, SET OF, explicit tags; an implicit tag is another tag on the same content
+abbrev pub sequence : Body → Shape
+sequence b = tagged tags.Sequence (nested b)
+
+abbrev pub sequence_of : Shape → Shape
+sequence_of s = tagged tags.Sequence (nested (many s))
+
+abbrev pub set_of : Shape → Shape
+set_of s = tagged tags.Set (nested (rising s))
+
+abbrev pub explicit : ℕ → Shape → Shape
+explicit n s = tagged (context true n) (nested (only s))
+
+unfoldable pub unless : Bool → List ℕ → List ℕ
+unless true w = []
+unless false w = w
+
+-- the octets that spell a value, if it is valid
+unfoldable mutual
+  pub octets_of : (s : Shape) → Value s → List ℕ
+  octets_of (tagged t c) v = tlv t (contents c v)
+  octets_of any v = tlv v.tag v.contents
+  octets_of (either a b) (inl v) = octets_of a v
+  octets_of (either a b) (inr v) = octets_of b v
+  octets_of (optional s) None = []
+  octets_of (optional s) (Some v) = octets_of s v
+  octets_of (defaulted s d) v = unless (bytes_eq (octets_of s v) d) (octets_of s v)
+
+  pub contents : (c : Content) → ContentValue c → List ℕ
+  contents (leaf l) v = leaf_contents l v
+  contents (nested b) v = body_octets b v
+
+  pub body_octets : (b : Body) → BodyValue b → List ℕ
+  body_octets done v = []
+  body_octets (field s b) v = octets_of s v.0 ++ body_octets b v.1
+  body_octets (only s) v = octets_of s v
+  body_octets (many s) v = flat_map (λ x. octets_of s x) v
+  body_octets (rising s) v = flat_map (λ x. octets_of s x) v
+
+-- each encoding is below the next (11.6)
+abbrev pub AllRising : {A : Type 0} → (A → List ℕ) → List A → Type 0
+AllRising f [] = ⊤
+AllRising f (x ∷ []) = ⊤
+AllRising f (x ∷ y ∷ xs) = (slice_cmp nat_cmp (f x) (f y) ≡ Less) × AllRising f (y ∷ xs)
+
+-- what has an encoding: leaves in their ranges, sets in order, and no more octets than a length can count
+unfoldable mutual
+  pub IsValid : (s : Shape) → Value s → Type 0
+  IsValid (tagged t c) v = IsContent c v × IsTag t × Fits (tlv t (contents c v))
+  IsValid any v = IsOctets v.contents × IsTag v.tag × Fits (tlv v.tag v.contents)
+  IsValid (either a b) (inl v) = IsValid a v
+  IsValid (either a b) (inr v) = IsValid b v
+  IsValid (optional s) None = ⊤
+  IsValid (optional s) (Some v) = IsValid s v
+  IsValid (defaulted s d) v = IsValid s v
+
+  pub IsContent : (c : Content) → ContentValue c → Type 0
+  IsContent (leaf l) v = IsLeafValue l v
+  IsContent (nested b) v = IsBody b v
+
+  pub IsBody : (b : Body) → BodyValue b → Type 0
+  IsBody done v = ⊤
+  IsBody (field s b) v = IsValid s v.0 × IsBody b v.1
+  IsBody (only s) v = IsValid s v
+  IsBody (many s) v = AllByRecursion (λ x. IsValid s x) v
+  IsBody (rising s) v = AllByRecursion (λ x. IsValid s x) v × AllRising (λ x. octets_of s x) v
+
+-- the octets spell the value
+pub record Spells (s : Shape) (v : Value s) (b : List ℕ) : Type 0 where
+  pub valid : IsValid s v
+  pub octets : b ≡ octets_of s v
+
+-- the tags that a value of the shape may begin with
+abbrev pub begins : Shape → Tag → Bool
+begins (tagged tag c) t = same_tag tag t
+begins any t = true
+begins (either a b) t = begins a t || begins b t
+begins (optional s) t = begins s t
+begins (defaulted s d) t = begins s t

@@ -1,0 +1,107 @@
+//! Borrowed octets that a length can count.
+
+ghost use Rattle.std.specs.Prelude.{◌≡◌, ◌↔◌, ◌<◌, ◌≤◌, ◌^◌, [], length, take, IsTrue, IfOk, IfErr};
+ghost use Rattle.der_core_head.specs.Lengths.{counted};
+
+use crate::error::{Error, ErrorKind};
+use crate::length::Length;
+use std::convert::AsSlice;
+
+/// Borrowed octets, at most `Length::MAX` of them.
+#[derive(Clone, Copy, Debug, PartialEq, Eq, PartialOrd, Ord, Hash)]
+pub struct BytesRef<'a> {
+    bytes: &'a [u8],
+    ghost short: { length bytes.now < 2 ^ 32 },
+}
+
+impl<'a> BytesRef<'a> {
+    ghost use Rattle.der_core_head.specs.Held.{held_octets};
+    ghost use Rattle.der_core_head.specs.Reading.{GivesNow};
+
+    /// No octets.
+    pub fn empty() -> BytesRef<'a>
+        ensures { held_octets result ≡ [] }
+    {
+        BytesRef { bytes: &[] }
+    }
+
+    /// These octets.
+    ///
+    /// # Errors
+    /// `Overflow` for 2^32 octets or more.
+    pub fn new(bytes: &'a [u8]) -> Result<BytesRef<'a>, Error>
+        ensures { GivesNow held_octets result (counted bytes.now) }
+    {
+        if bytes.len() > 0xffff_ffff {
+            return Err(Error::from(ErrorKind::Overflow));
+        }
+        Ok(BytesRef { bytes })
+    }
+
+    /// The octets.
+    pub fn as_slice(&self) -> &'a [u8]
+        ensures octets { result.now ≡ held_octets self.now }
+        ensures short { length result.now < 2 ^ 32 }
+    {
+        self.bytes
+    }
+
+    /// How many there are.
+    pub fn len(&self) -> Length
+        ensures { result.value ≡ length (held_octets self.now) }
+    {
+        Length {
+            value: self.bytes.len() as u32,
+        }
+    }
+
+    /// Whether there are none.
+    pub fn is_empty(&self) -> bool
+        ensures { IsTrue result ↔ (held_octets self.now ≡ []) }
+    {
+        self.bytes.is_empty()
+    }
+
+    /// The first octets.
+    ///
+    /// # Errors
+    /// `Incomplete` where there are fewer, at the place behind the last one.
+    pub fn prefix(&self, len: Length) -> Result<BytesRef<'a>, Error>
+        ensures ok { IfOk result (λ front. (len.value ≤ length (held_octets self.now)) × (held_octets front ≡ take len.value (held_octets self.now))) }
+        ensures err { IfErr result (λ e. (length (held_octets self.now) < len.value) × (e.kind ≡ ErrorKind.Incomplete)) }
+    {
+        let bytes = self.bytes;
+        let len = len.value as usize;
+        if bytes.len() < len {
+            return Err(Error::incomplete(self.len()));
+        }
+        Ok(BytesRef {
+            bytes: &bytes[..len],
+        })
+    }
+}
+
+impl AsSlice<u8> for BytesRef<'_> {
+    ghost use Rattle.der_core_head.specs.Held.{held_octets};
+
+    ghost items = { held_octets };
+
+    fn as_slice(&self) -> &[u8] {
+        self.bytes
+    }
+}
+
+/// From 2^32 octets on it is `Overflow`.
+impl<'a> TryFrom<&'a [u8]> for BytesRef<'a> {
+    ghost use Rattle.der_core_head.specs.Held.{held_octets};
+    ghost use Rattle.der_core_head.specs.Reading.{GivesNow};
+    ghost use Rattle.der_core_head.specs.Lengths.{counted};
+
+    type Error = Error;
+
+    ghost try_from_gives = { λ bytes r. GivesNow held_octets r (counted bytes.now) };
+
+    fn try_from(bytes: &'a [u8]) -> Result<BytesRef<'a>, Error> {
+        BytesRef::new(bytes)
+    }
+}

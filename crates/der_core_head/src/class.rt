@@ -1,0 +1,76 @@
+//! Classes of tags.
+
+ghost use Rattle.std.specs.Prelude.{◌≡◌, ◌*◌, ◌/◌};
+ghost use Rattle.der_core_head.specs.Classes.{class_number};
+
+use std::fmt;
+
+/// The bits of the universal class in the first octet of a tag (X.690 8.1.2.2, table 1).
+pub const CLASS_UNIVERSAL: u8 = 0x00;
+
+/// Those of the application class.
+pub const CLASS_APPLICATION: u8 = 0x40;
+
+/// Those of the context-specific class.
+pub const CLASS_CONTEXT_SPECIFIC: u8 = 0x80;
+
+/// Those of the private class.
+pub const CLASS_PRIVATE: u8 = 0xc0;
+
+/// The class of a tag: the two highest bits of its first octet (X.690 8.1.2.2).
+#[derive(Clone, Copy, Debug, PartialEq, Eq, PartialOrd, Ord, Hash)]
+pub enum Class {
+    /// Types that mean the same everywhere.
+    Universal,
+    /// Types that an application defines.
+    Application,
+    /// Types that mean something within one type alone.
+    ContextSpecific,
+    /// Types that an organization defines.
+    Private,
+}
+
+impl Class {
+    /// The class's bits where they stand in the first octet of a tag, all others zero.
+    pub fn bits(&self) -> u8
+        ensures { result ≡ 64 * class_number self.now }
+    {
+        match self {
+            Class::Universal => CLASS_UNIVERSAL,
+            Class::Application => CLASS_APPLICATION,
+            Class::ContextSpecific => CLASS_CONTEXT_SPECIFIC,
+            Class::Private => CLASS_PRIVATE,
+        }
+    }
+
+    /// The class of a tag with that first octet; its six lower bits don't matter.
+    pub fn from_bits(bits: u8) -> Class
+        ensures { class_number result ≡ bits / 64 }
+    {
+        match bits / 64 {
+            0 => Class::Universal,
+            1 => Class::Application,
+            2 => Class::ContextSpecific,
+            _ => Class::Private,
+        }
+    }
+}
+
+impl From<u8> for Class {
+    ghost from_gives = { λ bits class. class_number class ≡ bits / 64 };
+
+    fn from(bits: u8) -> Class {
+        Class::from_bits(bits)
+    }
+}
+
+impl fmt::Display for Class {
+    fn fmt<W: fmt::Write>(&self, f: &mut fmt::Formatter<W>) -> fmt::Result {
+        f.write_str(match self {
+            Class::Universal => "UNIVERSAL",
+            Class::Application => "APPLICATION",
+            Class::ContextSpecific => "CONTEXT-SPECIFIC",
+            Class::Private => "PRIVATE",
+        })
+    }
+}

@@ -1,0 +1,55 @@
+//! The laws of reading and spelling, for every shape.
+//!
+//! Each is the contract of a function that does nothing.
+
+ghost use Rattle.std.specs.Prelude.{◌≡◌, ◌≤◌, ℕ, List, ◌++◌, length, take, drop, true, Ok};
+ghost use Rattle.der_core_head.specs.Octets.{IsOctets};
+ghost use Rattle.der_core_head.specs.Heads.{Head, Fits, head_at};
+ghost use Rattle.der_core_head.specs.Shapes.{Shape, Value, IsValid, octets_of};
+ghost use Rattle.der_core_head.specs.Spelling.{is_apart, is_element, are_enough};
+ghost use Rattle.der_core_head.specs.Grammar.{read};
+ghost use Rattle.der_core_head.specs.Bodies.{IsIndefiniteBody, SpellsHead, body_len_at, head_ber_at};
+
+/// No encoding begins another, and no two values have one encoding (X.690 10, 11).
+///
+/// So it is for each shape that has a header and keeps first tags apart, at any number of levels
+/// that is enough for it.
+pub fn apart_is_lawful()
+    ensures { (s : Shape) (room : ℕ) (v w : Value s) (r t : List ℕ) → is_element s ≡ true → is_apart s ≡ true → are_enough s room ≡ true
+        → IsValid s v → IsValid s w → octets_of s v ++ r ≡ octets_of s w ++ t → (v ≡ w) × (r ≡ t) }
+{}
+
+/// What is read is spelled: a value that was read from octets is valid, and the octets are those
+/// that spell it and the rest.
+///
+/// The octets are no more than a length can count. Optional values and defaults are read so too.
+pub fn read_is_spelled()
+    ensures valid { (s : Shape) (room : ℕ) (w : List ℕ) (v : Value s) (r : List ℕ) → is_apart s ≡ true
+        → IsOctets w → Fits w → read s room w ≡ Ok (v, r) → IsValid s v }
+    ensures octets { (s : Shape) (room : ℕ) (w : List ℕ) (v : Value s) (r : List ℕ) → is_apart s ≡ true
+        → IsOctets w → Fits w → read s room w ≡ Ok (v, r) → w ≡ octets_of s v ++ r }
+{}
+
+/// What is spelled is read: from the octets of a valid value, whatever follows them, reading gives
+/// the value and what follows.
+pub fn spelled_is_read()
+    ensures { (s : Shape) (room : ℕ) (v : Value s) (r : List ℕ) → is_element s ≡ true → is_apart s ≡ true → are_enough s room ≡ true
+        → IsValid s v → read s room (octets_of s v ++ r) ≡ Ok (v, r) }
+{}
+
+/// Under BER too what is read as a header is spelled so, and what is spelled so is read, whatever
+/// follows; what DER reads, BER reads (X.690 8.1.2, 8.1.3, 8.1.5).
+pub fn ber_headers_are_spelled()
+    ensures spelled { (h : Head) (r w : List ℕ) → IsOctets w → head_ber_at w ≡ Ok (h, r) → SpellsHead h r w }
+    ensures read { (h : Head) (r w : List ℕ) → SpellsHead h r w → head_ber_at w ≡ Ok (h, r) }
+    ensures der { (h : Head) (r w : List ℕ) → head_at w ≡ Ok (h, r) → head_ber_at w ≡ Ok (h, r) }
+{}
+
+/// A body of indefinite length has at least the two octets that end it, and where it ends doesn't
+/// depend on what follows it (X.690 8.1.3.6, 8.1.5).
+pub fn bodies_end_themselves()
+    ensures least { (k : ℕ) (b : List ℕ) → IsIndefiniteBody k b → 2 ≤ length b }
+    ensures body { (b more : List ℕ) → IsIndefiniteBody 64 b → Fits b → body_len_at (b ++ more) ≡ Ok (length b) }
+    ensures header { (h : Head) (n : ℕ) (w more : List ℕ) → IsOctets w → n ≤ length w → head_ber_at w ≡ Ok (h, drop n w)
+        → head_ber_at (take n w ++ (take h.len (drop n w) ++ more)) ≡ Ok (h, take h.len (drop n w) ++ more) }
+{}

@@ -1,0 +1,91 @@
+//! Borrowed text that a length can count.
+
+ghost use Rattle.std.specs.Prelude.{◌≡◌, ◌↔◌, ◌<◌, ◌^◌, [], length, IsTrue, true};
+ghost use Rattle.std.specs.Str.{is_utf8};
+ghost use Rattle.der_core_head.specs.Lengths.{counted, counted_text};
+
+use crate::error::{Error, ErrorKind};
+use crate::length::Length;
+use std::convert::AsStr;
+use std::str;
+
+/// Borrowed text, at most `Length::MAX` octets of UTF-8.
+#[derive(Clone, Copy, Debug, PartialEq, Eq, PartialOrd, Ord, Hash)]
+pub struct StringRef<'a> {
+    text: &'a str,
+    ghost short: { length text.now < 2 ^ 32 },
+}
+
+impl<'a> StringRef<'a> {
+    ghost use Rattle.der_core_head.specs.Held.{held_text};
+    ghost use Rattle.der_core_head.specs.Reading.{GivesNow};
+
+    /// This text.
+    ///
+    /// # Errors
+    /// `Overflow` for 2^32 octets or more.
+    pub fn new(text: &'a str) -> Result<StringRef<'a>, Error>
+        ensures { GivesNow held_text result (counted text.now) }
+    {
+        if text.len() > 0xffff_ffff {
+            return Err(Error::from(ErrorKind::Overflow));
+        }
+        Ok(StringRef { text })
+    }
+
+    /// The text of these octets.
+    ///
+    /// # Errors
+    /// `Utf8` where they are no UTF-8, then `Overflow` for 2^32 octets or more.
+    #[tactic(auto, using(crate::proofs::Utf8Reads::utf8_reads))]
+    pub fn from_bytes(bytes: &'a [u8]) -> Result<StringRef<'a>, Error>
+        ensures { GivesNow held_text result (counted_text bytes.now) }
+    {
+        let text = str::from_utf8(bytes)?;
+        StringRef::new(text)
+    }
+
+    /// The text.
+    pub fn as_str(&self) -> &'a str
+        ensures text { result.now ≡ held_text self.now }
+        ensures short { length result.now < 2 ^ 32 }
+    {
+        self.text
+    }
+
+    /// Its octets.
+    #[tactic(auto, using(crate::proofs::Utf8Reads::utf8_reads))]
+    pub fn as_bytes(&self) -> &'a [u8]
+        ensures octets { result.now ≡ held_text self.now }
+        ensures utf8 { is_utf8 result.now ≡ true }
+        ensures short { length result.now < 2 ^ 32 }
+    {
+        self.text.as_bytes()
+    }
+
+    /// How many octets there are.
+    pub fn len(&self) -> Length
+        ensures { result.value ≡ length (held_text self.now) }
+    {
+        Length {
+            value: self.text.len() as u32,
+        }
+    }
+
+    /// Whether there are none.
+    pub fn is_empty(&self) -> bool
+        ensures { IsTrue result ↔ (held_text self.now ≡ []) }
+    {
+        self.text.is_empty()
+    }
+}
+
+impl AsStr for StringRef<'_> {
+    ghost use Rattle.der_core_head.specs.Held.{held_text};
+
+    ghost text = { held_text };
+
+    fn as_str(&self) -> &str {
+        self.text
+    }
+}

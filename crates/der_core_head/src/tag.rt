@@ -1,0 +1,276 @@
+//! Tags.
+
+ghost use Rattle.std.specs.Prelude.{◌≡◌, ◌≢◌, ◌<◌, ◌↔◌, IsTrue, IfOk, IfErr};
+ghost use Rattle.der_core_head.specs.Classes.{class_number, tag_class};
+ghost use Rattle.der_core_head.specs.Tags.{leading, low_bits, leading_octet, number_of, is_constructed, same_tag};
+
+use crate::class::Class;
+use crate::error::{Error, ErrorKind};
+use crate::tag_number::TagNumber;
+use std::fmt;
+
+/// A tag: its class, whether the value is constructed, and its number (X.690 8.1.2).
+#[derive(Clone, Copy, Debug, PartialEq, Eq, PartialOrd, Ord)]
+pub enum Tag {
+    Boolean,
+    Integer,
+    BitString,
+    OctetString,
+    Null,
+    ObjectIdentifier,
+    Real,
+    Enumerated,
+    Utf8String,
+    RelativeOid,
+    Sequence,
+    Set,
+    NumericString,
+    PrintableString,
+    TeletexString,
+    VideotexString,
+    Ia5String,
+    UtcTime,
+    GeneralizedTime,
+    VisibleString,
+    GeneralString,
+    BmpString,
+    Application {
+        constructed: bool,
+        number: TagNumber,
+    },
+    ContextSpecific {
+        constructed: bool,
+        number: TagNumber,
+    },
+    Private {
+        constructed: bool,
+        number: TagNumber,
+    },
+}
+
+impl Tag {
+    /// Its class.
+    pub fn class(self) -> Class
+        ensures { class_number result ≡ tag_class self }
+    {
+        Class::from_bits(leading_octet_of(self))
+    }
+
+    /// Its number; that of a tag of the universal class is the number of its type.
+    pub fn number(self) -> TagNumber
+        ensures { result.value ≡ number_of self }
+    {
+        TagNumber {
+            value: number_of(self),
+        }
+    }
+
+    /// Whether the value is constructed (X.690 8.1.2.5).
+    pub fn is_constructed(self) -> bool
+        ensures { result ≡ is_constructed self }
+    {
+        is_constructed(self)
+    }
+
+    /// Whether it is of the universal class.
+    pub fn is_universal(self) -> bool
+        ensures { IsTrue result ↔ (tag_class self ≡ 0) }
+    {
+        matches!(self.class(), Class::Universal)
+    }
+
+    /// Whether it is of the application class.
+    pub fn is_application(self) -> bool
+        ensures { IsTrue result ↔ (tag_class self ≡ 1) }
+    {
+        matches!(self.class(), Class::Application)
+    }
+
+    /// Whether it is context-specific.
+    pub fn is_context_specific(self) -> bool
+        ensures { IsTrue result ↔ (tag_class self ≡ 2) }
+    {
+        matches!(self.class(), Class::ContextSpecific)
+    }
+
+    /// Whether it is private.
+    pub fn is_private(self) -> bool
+        ensures { IsTrue result ↔ (tag_class self ≡ 3) }
+    {
+        matches!(self.class(), Class::Private)
+    }
+
+    /// The tag, if it is the expected one.
+    ///
+    /// # Errors
+    /// `TagUnexpected` for any other.
+    #[tactic(auto, using(crate::proofs::TagEquality::tag_equality))]
+    pub fn assert_eq(self, expected: Tag) -> Result<Tag, Error>
+        ensures ok { IfOk result (λ t. (t ≡ self) × (self ≡ expected)) }
+        ensures err { IfErr result (λ e. (self ≢ expected) × (e.kind ≡ ErrorKind.TagUnexpected)) }
+    {
+        if is_same_tag(self, expected) {
+            Ok(self)
+        } else {
+            Err(Error::from(ErrorKind::TagUnexpected))
+        }
+    }
+
+    /// The error of a length that a value of this tag can't have.
+    pub fn length_error(self) -> ErrorKind
+        ensures { result ≡ ErrorKind.Length self }
+    {
+        ErrorKind::Length { tag: self }
+    }
+
+    /// The error of a value of this tag in a spelling that DER doesn't allow.
+    pub fn non_canonical_error(self) -> ErrorKind
+        ensures { result ≡ ErrorKind.Noncanonical self }
+    {
+        ErrorKind::Noncanonical { tag: self }
+    }
+
+    /// The error of this tag where another must stand: the expected one, if that is known.
+    pub fn unexpected_error(self, _expected: Option<Tag>) -> ErrorKind
+        ensures { result ≡ ErrorKind.TagUnexpected }
+    {
+        ErrorKind::TagUnexpected
+    }
+
+    /// The error of a value that the type of this tag doesn't have.
+    pub fn value_error(self) -> ErrorKind
+        ensures { result ≡ ErrorKind.Value self }
+    {
+        ErrorKind::Value { tag: self }
+    }
+}
+
+/// The first octet of a tag: its class, whether it is constructed, and five bits of its number, all
+/// of them set for a number from 31 on (8.1.2.2, 8.1.2.4.1).
+pub fn leading_octet_of(tag: Tag) -> u8
+    ensures { result ≡ leading_octet tag }
+{
+    let (class, constructed, number) = match tag {
+        Tag::Boolean => return 0x01,
+        Tag::Integer => return 0x02,
+        Tag::BitString => return 0x03,
+        Tag::OctetString => return 0x04,
+        Tag::Null => return 0x05,
+        Tag::ObjectIdentifier => return 0x06,
+        Tag::Real => return 0x09,
+        Tag::Enumerated => return 0x0a,
+        Tag::Utf8String => return 0x0c,
+        Tag::RelativeOid => return 0x0d,
+        Tag::Sequence => return 0x30,
+        Tag::Set => return 0x31,
+        Tag::NumericString => return 0x12,
+        Tag::PrintableString => return 0x13,
+        Tag::TeletexString => return 0x14,
+        Tag::VideotexString => return 0x15,
+        Tag::Ia5String => return 0x16,
+        Tag::UtcTime => return 0x17,
+        Tag::GeneralizedTime => return 0x18,
+        Tag::VisibleString => return 0x1a,
+        Tag::GeneralString => return 0x1b,
+        Tag::BmpString => return 0x1e,
+        Tag::Application {
+            constructed,
+            number,
+        } => (1, constructed, number),
+        Tag::ContextSpecific {
+            constructed,
+            number,
+        } => (2, constructed, number),
+        Tag::Private {
+            constructed,
+            number,
+        } => (3, constructed, number),
+    };
+    class_octet(class, constructed, number)
+}
+
+/// The first octet of a tag of another class than the universal one.
+fn class_octet(class: u8, constructed: bool, number: TagNumber) -> u8
+    requires { class < 4 }
+    ensures { result ≡ leading class constructed (low_bits number.value) }
+{
+    let low = if number.value < 31 {
+        number.value as u8
+    } else {
+        31
+    };
+    64 * class + if constructed { 32 } else { 0 } + low
+}
+
+/// The number of a tag.
+pub fn number_of(tag: Tag) -> u32
+    ensures { result ≡ number_of tag }
+{
+    match tag {
+        Tag::Application { number, .. }
+        | Tag::ContextSpecific { number, .. }
+        | Tag::Private { number, .. } => number.value,
+        _ => u32::from(leading_octet_of(tag) % 32),
+    }
+}
+
+/// Whether a tag is one of a constructed value (8.1.2.5).
+pub fn is_constructed(tag: Tag) -> bool
+    ensures { result ≡ is_constructed tag }
+{
+    match tag {
+        Tag::Sequence | Tag::Set => true,
+        Tag::Application { constructed, .. }
+        | Tag::ContextSpecific { constructed, .. }
+        | Tag::Private { constructed, .. } => constructed,
+        _ => false,
+    }
+}
+
+/// Whether two tags have the same octets.
+pub fn is_same_tag(a: Tag, b: Tag) -> bool
+    ensures { result ≡ same_tag a b }
+{
+    leading_octet_of(a) == leading_octet_of(b) && number_of(a) == number_of(b)
+}
+
+/// The name of its type (X.680), or its class, its number and whether it is constructed.
+impl fmt::Display for Tag {
+    fn fmt<W: fmt::Write>(&self, f: &mut fmt::Formatter<W>) -> fmt::Result {
+        let name = match self {
+            Tag::Boolean => "BOOLEAN",
+            Tag::Integer => "INTEGER",
+            Tag::BitString => "BIT STRING",
+            Tag::OctetString => "OCTET STRING",
+            Tag::Null => "NULL",
+            Tag::ObjectIdentifier => "OBJECT IDENTIFIER",
+            Tag::Real => "REAL",
+            Tag::Enumerated => "ENUMERATED",
+            Tag::Utf8String => "UTF8String",
+            Tag::RelativeOid => "RELATIVE OID",
+            Tag::Sequence => "SEQUENCE",
+            Tag::Set => "SET",
+            Tag::NumericString => "NumericString",
+            Tag::PrintableString => "PrintableString",
+            Tag::TeletexString => "TeletexString",
+            Tag::VideotexString => "VideotexString",
+            Tag::Ia5String => "IA5String",
+            Tag::UtcTime => "UTCTime",
+            Tag::GeneralizedTime => "GeneralizedTime",
+            Tag::VisibleString => "VisibleString",
+            Tag::GeneralString => "GeneralString",
+            Tag::BmpString => "BMPString",
+            Tag::Application { .. } | Tag::ContextSpecific { .. } | Tag::Private { .. } => {
+                let class = self.class();
+                let number = self.number();
+                let form = if self.is_constructed() {
+                    "constructed"
+                } else {
+                    "primitive"
+                };
+                return write!(f, "{class} [{number}] ({form})");
+            }
+        };
+        f.write_str(name)
+    }
+}
