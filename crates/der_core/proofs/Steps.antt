@@ -1,0 +1,53 @@
+-- Reading that goes on where a call before it stopped.
+use Rattle.std.proofs.Common.{◌≡◌, ℕ, Bool, true, false, List, Some, Result, Ok, Err, refl, sym, ap, ◌∙◌}
+use Rattle.der_core_head.specs.declared.error.Error.{Error}
+use Rattle.der_core_head.specs.declared.error.ErrorKind.{ErrorKind}
+use Rattle.der_core_head.specs.declared.error.ErrorKind.TheVariants as kinds
+use Rattle.der_core_head.specs.declared.tag.Tag.{Tag}
+use Rattle.der_core_head.specs.Octets.{Readings}
+use Rattle.der_core_head.specs.Heads.{Head, head_at}
+use Rattle.der_core_head.specs.Tags.{same_tag}
+use Rattle.der_core_head.specs.Grammar.{tlv_at, value_at, peek_at, opt_at}
+use Rattle.der_core_head.specs.Reading.{State, IsDer, Kept, Reads}
+
+-- what is left to a later call is read by it
+pub reads_after : {T P : Type 0} (view : T → P) (old mid new : State) (r : Result T Error) (f g : Readings P)
+    → mid ≡ record old { rest = mid.rest } → old.failed ≡ false → (IsDer old → f old.rest ≡ g mid.rest) → Reads view mid new r g → Reads view old new r f
+reads_after view old mid new (Ok v) f g m ready e h = (
+  λ der. e der ∙ h.0 (ap (λ (s : State). s.source.encoding) m ∙ der),
+  cc (ap (λ (s : State). s.behind) m, ap (λ (s : State). s.room) m, ap (λ (s : State). s.failed) m, ap (λ (s : State). s.source) m, h.1),
+  ready,
+)
+reads_after view old mid new (Err d) f g m ready e h = (
+  λ der _ memory. e der ∙ h.0 (ap (λ (s : State). s.source.encoding) m ∙ der) (ap (λ (s : State). s.failed) m ∙ ready) memory,
+  record { behind = h.1.behind ∙ ap (λ (s : State). s.behind) m; room = h.1.room ∙ ap (λ (s : State). s.room) m; source = h.1.source ∙ ap (λ (s : State). s.source) m; failed = λ o. absurd (cc (o, ready)) },
+  λ o. absurd (cc (o, ready)),
+)
+
+pub tlv_is : {P : Type 0} (tag : Tag) (f : Readings P) (w : List ℕ) (h : Head) (r : List ℕ) → head_at w ≡ Ok (h, r) → same_tag h.tag tag ≡ true → tlv_at tag f w ≡ value_at f h.len r
+unfolding tlv_at
+tlv_is tag f w h r e same = rw (e, same) refl
+
+pub frame_then : (a b d : State) → b ≡ record a { rest = b.rest } → d ≡ record b { rest = d.rest } → d ≡ record a { rest = d.rest }
+frame_then a b d m h = cc (ap (λ (s : State). s.behind) m, ap (λ (s : State). s.room) m, ap (λ (s : State). s.failed) m, ap (λ (s : State). s.source) m, h)
+
+pub kept_then : (a b d : State) → b ≡ record a { rest = b.rest } → Kept b d → Kept a d
+kept_then a b d m k = record {
+  behind = k.behind ∙ ap (λ (s : State). s.behind) m;
+  room = k.room ∙ ap (λ (s : State). s.room) m;
+  source = k.source ∙ ap (λ (s : State). s.source) m;
+  failed = λ o. k.failed (ap (λ (s : State). s.failed) m ∙ o);
+}
+
+pub tlv_none : {P : Type 0} (tag : Tag) (f : Readings P) (w : List ℕ) (k : ErrorKind) → head_at w ≡ Err k → tlv_at tag f w ≡ Err k
+unfolding tlv_at
+tlv_none tag f w k e = rw e refl
+
+pub tlv_other : {P : Type 0} (tag : Tag) (f : Readings P) (w : List ℕ) (h : Head) (r : List ℕ) → head_at w ≡ Ok (h, r) → same_tag h.tag tag ≡ false → tlv_at tag f w ≡ Err kinds.TagUnexpected
+unfolding tlv_at
+tlv_other tag f w h r e other = rw (e, other) refl
+
+-- what stands under one of the first tags is read
+pub opt_stops : {P : Type 0} (first : Tag → Bool) (f : Readings P) (w : List ℕ) (t : Tag) (k : ErrorKind) → peek_at w ≡ Ok (Some t) → first t ≡ true → f w ≡ Err k → opt_at first f w ≡ Err k
+unfolding opt_at
+opt_stops first f w t k e h stops = rw (e, h, stops) refl

@@ -1,0 +1,38 @@
+-- What a writer holds after a call, and what is written to a slice or behind octets.
+use Rattle.std.specs.Prelude.{◌≡◌, ◌+◌, ℕ, List, [], true, false, length, Some, None, Result, Ok, Err, if◌then◌else◌}
+use Rattle.std.specs.Borrow.{MutBor}
+use Rattle.std.specs.Fn.{Once, FnOnceReturnsAtMut}
+use Rattle.der_core_head.specs.declared.error.Error.{Error}
+use Rattle.der_core_head.specs.declared.error.ErrorKind.{ErrorKind}
+use Rattle.der_core_head.specs.declared.error.ErrorKind.TheVariants as kinds
+use Rattle.der_core_head.specs.declared.tag.Tag.TheVariants as tags
+use Rattle.der_core_head.specs.Octets.{◌>>=◌}
+use Rattle.der_core_head.specs.Shapes.{Shape, Value}
+use Rattle.der_core_head.specs.Writing.{Out, put_head, size, write}
+
+-- Nothing was written. A writer that failed stays failed.
+pub record IsRefused (old new : Out) : Type 0 where
+  pub written : new.written ≡ old.written
+  pub room : new.room ≡ old.room
+  pub failed : old.failed ≡ true → new.failed ≡ true
+
+-- so much room, and nothing written yet
+abbrev pub blank : ℕ → Out
+blank room = record { written = []; room = Some room; failed = false }
+
+-- what was written, where no write was refused
+abbrev pub finished : Out → Result (List ℕ) ErrorKind
+finished o = if o.failed then Err kinds.Failed else Ok o.written
+
+-- the number of octets of a value, and octets with the value written behind them
+abbrev pub appended : (s : Shape) → Value s → List ℕ → Result (ℕ × List ℕ) ErrorKind
+appended s v w = size s v >>= λ n. write s v (record { written = w; room = None; failed = false }) >>= λ o. Ok (n, o.written)
+
+-- what writing puts into so much room
+abbrev pub filled : (Out → Result Out ErrorKind) → ℕ → Result (List ℕ) ErrorKind
+filled f room = f (blank room) >>= finished
+
+-- f was called behind the header of a SEQUENCE of n octets, and wrote that many
+abbrev pub Encloses : {W F : Type 0} → (W → Out) → Once F (MutBor W × Unit {0}) (Result (Unit {0}) Error × (MutBor W × Unit {0})) → F → ℕ → Out → Out → Type 0
+Encloses {W} out g f n old new = (inner outer : W) × (put_head tags.Sequence n old ≡ Ok (out inner)) × FnOnceReturnsAtMut g f inner (Ok tt) outer
+    × (out outer ≡ new) × (length new.written ≡ length (out inner).written + n)
