@@ -1,0 +1,43 @@
+-- The order of encodings: that of lists of octets (X.690 11.6).
+use Rattle.std.specs.Prelude.{◌≡◌, ℕ, List, [], ◌++◌, Bool, true, Option, Some, None, Result, Err, ◌⊎◌}
+use Rattle.std.specs.Ordering.{nat_cmp}
+use Rattle.std.specs.declared.cmp.Ordering.{Ordering}
+use Rattle.std.specs.declared.cmp.Ordering.TheVariants.{Less}
+use Rattle.std.specs.Cmp.Lexicographic.{slice_cmp}
+use Rattle.der_core_head.specs.declared.error.Error.{Error}
+use Rattle.der_core_head.specs.declared.error.ErrorKind.{ErrorKind}
+use Rattle.der_core_head.specs.declared.error.ErrorKind.TheVariants as kinds
+use Rattle.der_core_head.specs.declared.tag.Tag.{Tag}
+use Rattle.der_core_head.specs.Tags.{IsTag, tag_octets}
+use Rattle.der_core_head.specs.Shapes.{Shape, Content, Body, Value, ContentValue, BodyValue, octets_of, contents, body_octets}
+
+-- the first octets that differ decide, and where none do the shorter list is the lower one
+abbrev pub octets_cmp : List ℕ → List ℕ → Ordering
+octets_cmp a b = slice_cmp nat_cmp a b
+
+-- the order of whole encodings
+abbrev pub encodings_cmp : (s : Shape) → Value s → Value s → Ordering
+encodings_cmp s v w = octets_cmp (octets_of s v) (octets_of s w)
+
+-- of contents, whatever their lengths
+abbrev pub contents_cmp : (c : Content) → ContentValue c → ContentValue c → Ordering
+contents_cmp c v w = octets_cmp (contents c v) (contents c w)
+
+-- of fields, one after the other
+abbrev pub bodies_cmp : (b : Body) → BodyValue b → BodyValue b → Ordering
+bodies_cmp b v w = octets_cmp (body_octets b v) (body_octets b w)
+
+-- One of two lengths passes what a length can count.
+pub record Overflows (e : Error) (m n : Result ℕ ErrorKind) : Type 0 where
+  pub kind : e.kind ≡ kinds.Overflow
+  pub length : (m ≡ Err kinds.Overflow) ⊎ (n ≡ Err kinds.Overflow)
+
+-- Octets begin with the tag, which is one of these, or there are neither tag nor octets.
+abbrev pub StartsWith : (Tag → Bool) → Option Tag → List ℕ → Type 0
+StartsWith first None b = b ≡ []
+StartsWith first (Some t) b = (w : List ℕ) × (b ≡ tag_octets t ++ w) × IsTag t × (first t ≡ true)
+
+-- The order of octets that begin with one tag, if with any, and of octets that begin with another tag.
+abbrev pub next_cmp : Option Tag → Tag → Ordering
+next_cmp None t = Less
+next_cmp (Some u) t = octets_cmp (tag_octets u) (tag_octets t)
