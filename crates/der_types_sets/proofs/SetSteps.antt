@@ -1,0 +1,208 @@
+-- Members in ascending order, one more at a time.
+use Rattle.std.proofs.Common.{◌≡◌, ℕ, zero, suc, ◌+◌, ◌<◌, ◌≤◌, List, [], ◌∷◌, ◌++◌, length, get_or, take, drop, ltb, refl, ap, sym, subst, ◌∙◌, arith, Result, Ok, true, Option, Some, None}
+use Rattle.std.specs.Prelude.{◌≢◌, ⊤}
+use Rattle.std.specs.List.{AllByRecursion, insert}
+use Rattle.std.specs.Ordering.{ordering_reverse, nat_cmp}
+use Rattle.std.specs.declared.cmp.Ordering.{Ordering}
+use Rattle.std.specs.declared.cmp.Ordering.TheVariants.{Less, Equal, Greater}
+use Rattle.std.specs.Cmp.Lexicographic.{nat_list_cmp_total, slice_cmp}
+use Rattle.std.specs.List.Sorted.{IsPermutation}
+use Rattle.std.proofs.lemmas.List.{get_or_default, take_more, take-append-drop, take_at, length-take, take_all, drop_all, append_assoc}
+use Rattle.std.proofs.lemmas.List.Edits.{length-insert}
+use Rattle.std.proofs.lemmas.List.Elements.{All-take, All-from_recursion, recursion_from_All}
+use Rattle.std.proofs.lemmas.List.Sorted.{All-permutation, IsPermutation-trans, IsPermutation-to_front, IsPermutation-insert, IsPermutation-append_left, IsPermutation-middle, IsPermutation-cons}
+use Rattle.der_core_head.specs.declared.error.Error.{Error}
+use Rattle.der_core_head.specs.declared.error.ErrorKind.TheVariants as kinds
+use Rattle.der_core_head.specs.declared.tag.Tag.{Tag}
+use Rattle.der_core_head.specs.Octets.{Readings, ◌>>=◌}
+use Rattle.der_core_head.specs.Heads.{Fits}
+use Rattle.der_core_head.specs.Shapes.{Shape, Body, nested, many, rising, Value, BodyValue, IsValid, octets_of, AllRising}
+use Rattle.der_core_head.specs.Spelling.{is_apart}
+use Rattle.der_core_head.specs.Grammar.{whole, value_at, read, read_content, read_body, read_many, read_rising, ordered, follows_last, plain_list}
+use Rattle.der_core_head.proofs.Results.{ok_is, bind_ok, unless_ok, whole_ok}
+use Rattle.der_core_head.proofs.Bytes.{IsBytes, bytes_take, bytes_rest}
+use Rattle.der_core_head.proofs.Fits.{fits_front, fits_rest}
+use Rattle.der_core_head.proofs.Sound.{sound}
+use Rattle.der_core_order.specs.Orders.{octets_cmp, encodings_cmp}
+use Rattle.der_types_sets.specs.Sets.{NotAbove, Ascends, AllValid, Behind, Before, IsPlace, TooLong}
+
+pub ascends-insert : {A : Type 0} (s : Shape) (f : A → Value s) (xs : List A) (i : ℕ) (x : A) → Ascends s f xs → i ≤ length xs → Behind s f xs x i → Before s f xs x i → Ascends s f (insert xs i x)
+ascends-insert s f [] zero x asc le p q = tt
+ascends-insert s f (y ∷ ys) zero x asc le p q = (q y (omega arith) refl, asc)
+ascends-insert s f [] (suc i) x asc le p q = absurd (omega arith)
+ascends-insert s f (y ∷ []) (suc zero) x asc le p q = (p y 0 refl refl, tt)
+ascends-insert s f (y ∷ []) (suc (suc i)) x asc le p q = absurd (omega arith)
+ascends-insert s f (y ∷ z ∷ zs) (suc zero) x asc le p q = (p y 0 refl refl, (q z (omega arith) refl, asc.1))
+ascends-insert s f (y ∷ z ∷ zs) (suc (suc i)) x asc le p q =
+    (asc.0, ascends-insert s f (z ∷ zs) (suc i) x asc.1 (omega arith) (λ w k e h. p w (suc k) (ap suc e) h) (λ w lt h. q w (omega arith) h))
+
+pub placed : {A : Type 0} (s : Shape) (f : A → Value s) (xs : List A) (i : ℕ) (x : A) → Ascends s f xs → IsPlace s f xs x i → Ascends s f (insert xs i x)
+placed s f xs i x asc p = ascends-insert s f xs i x asc p.within p.behind p.before
+
+pub behind_here : {A : Type 0} (s : Shape) (f : A → Value s) (xs : List A) (x y : A) (m : ℕ) → m < length xs → y ≡ get_or xs m y → NotAbove s f y x → Behind s f xs x (m + 1)
+behind_here {A} s f xs x y m lt here ok = λ w k e h.
+    let same : k ≡ m = omega arith in
+    let z : y ≡ w = here ∙ get_or_default xs m y w lt ∙ ap (λ j. get_or xs j w) (sym same) ∙ sym h in
+    let P : A → Type 0 = λ v. NotAbove s f v x in
+    subst P z ok
+
+pub before_here : {A : Type 0} (s : Shape) (f : A → Value s) (xs : List A) (x y : A) (m : ℕ) → y ≡ get_or xs m y → NotAbove s f x y → Before s f xs x m
+before_here {A} s f xs x y m here ok = λ w lt h.
+    let z : y ≡ w = here ∙ get_or_default xs m y w lt ∙ sym h in
+    let P : A → Type 0 = λ v. NotAbove s f x v in
+    subst P z ok
+
+-- what a comparison tells
+pub told : {A : Type 0} (s : Shape) (f : A → Value s) (x y : A) (r : Result Ordering Error) (o : Ordering) → r ≡ Ok o → o ≢ Greater
+    → (IsValid s (f x) → IsValid s (f y) → r ≡ Ok (encodings_cmp s (f x) (f y))) → NotAbove s f x y
+told s f x y r o e not h = λ v w above. not (cc (e, h v w, above))
+
+pub told_above : {A : Type 0} (s : Shape) (f : A → Value s) (x y : A) (r : Result Ordering Error) → r ≡ Ok Greater
+    → (IsValid s (f x) → IsValid s (f y) → r ≡ Ok (encodings_cmp s (f x) (f y))) → NotAbove s f y x
+told_above s f x y r e h = λ w v above.
+    let back : octets_cmp (octets_of s (f x)) (octets_of s (f y)) ≡ ordering_reverse Greater = nat_list_cmp_total.antisymm (octets_of s (f x)) (octets_of s (f y)) ∙ ap ordering_reverse above in
+    absurd (cc (e, h v w, back))
+
+pub valid_at : {A : Type 0} (s : Shape) (f : A → Value s) (xs : List A) (m : ℕ) (y : A) → m < length xs → y ≡ get_or xs m y → AllValid s f xs → IsValid s (f y)
+valid_at s f [] m y lt here all = absurd (omega arith)
+valid_at {A} s f (x ∷ xs) zero y lt here all = let P : A → Type 0 = λ v. IsValid s (f v) in subst P (sym here) all.0
+valid_at s f (x ∷ xs) (suc m) y lt here all = valid_at s f xs m y (omega arith) here all.1
+
+-- The last of the first members moved to its place
+
+pub moved_up : {A : Type 0} (xs : List A) (end place : ℕ) (y : A) → end < length xs → y ≡ get_or xs end y → IsPermutation xs (insert (take end xs) place y ++ drop (end + 1) xs)
+moved_up {A} xs end place y lt here =
+    let front = take end xs in
+    let rest = drop (end + 1) xs in
+    let more : front ++ y ∷ [] ≡ take (end + 1) xs = ap (λ z. front ++ z ∷ []) here ∙ sym (take_more xs end y lt) in
+    let all : (front ++ y ∷ []) ++ rest ≡ xs = ap (λ (u : List A). u ++ rest) more ∙ take-append-drop (end + 1) xs in
+    let moved = IsPermutation-append_left rest (front ++ y ∷ []) (insert front place y) (IsPermutation-trans (front ++ y ∷ []) (y ∷ front) (insert front place y) (IsPermutation-to_front front y) (IsPermutation-insert front place y)) in
+    let P : List A → Type 0 = λ u. IsPermutation u (insert front place y ++ rest) in
+    subst P all moved
+
+pub front_ascends : {A : Type 0} (s : Shape) (f : A → Value s) (xs : List A) (end place : ℕ) (y : A) → end < length xs → Ascends s f (take end xs) → IsPlace s f (take end xs) y place
+    → Ascends s f (take (end + 1) (insert (take end xs) place y ++ drop (end + 1) xs))
+front_ascends {A} s f xs end place y lt asc p =
+    let front = take end xs in
+    let long : length (insert front place y) ≡ end + 1 = omega (arith, length-insert front place y p.within, length-take end xs) in
+    rw (take_at (insert front place y) (drop (end + 1) xs) (end + 1) long) (placed s f front place y asc p)
+
+pub last_is : {A : Type 0} (xs : List A) (end : ℕ) (y : A) → end < length xs → y ≡ get_or xs end y → take (end + 1) xs ≡ take end xs ++ y ∷ []
+last_is xs end y lt here = take_more xs end y lt ∙ ap (λ z. take end xs ++ z ∷ []) (sym here)
+
+pub too_long_part : {A : Type 0} (s : Shape) (f : A → Value s) (old xs : List A) (end : ℕ) (y : A) (e : Error) → IsPermutation old xs → end < length xs → y ≡ get_or xs end y
+    → TooLong s f (y ∷ take end xs) e → TooLong s f old e
+too_long_part {A} s f old xs end y e same lt here t =
+    let V : A → Type 0 = λ x. IsValid s (f x) in
+    record {
+      kind = t.kind;
+      some = λ all.
+          let now : AllValid s f xs = recursion_from_All V xs (All-permutation V old xs same (All-from_recursion V old all)) in
+          t.some (valid_at s f xs end y lt here now, recursion_from_All V (take end xs) (All-take V end xs (All-from_recursion V xs now)));
+    }
+
+-- One more at the end
+
+pub ascends-last : {A : Type 0} (s : Shape) (f : A → Value s) (xs : List A) (x : A) → Ascends s f xs → IsPlace s f xs x (length xs) → Ascends s f (xs ++ x ∷ [])
+ascends-last {A} s f xs x asc p =
+    let same : insert xs (length xs) x ≡ xs ++ x ∷ [] = ap (λ (u : List A). u ++ x ∷ drop (length xs) xs) (take_all (length xs) xs (omega arith)) ∙ ap (λ (u : List A). xs ++ x ∷ u) (drop_all (length xs) xs (omega arith)) in
+    subst (Ascends s f) same (placed s f xs (length xs) x asc p)
+
+pub gain_one : {A : Type 0} (old items : List A) (x : A) (now new : List A) → IsPermutation (items ++ old) now → IsPermutation (x ∷ now) new → IsPermutation ((items ++ x ∷ []) ++ old) new
+gain_one {A} old items x now new before one =
+    let to_front : IsPermutation (items ++ x ∷ old) (x ∷ (items ++ old)) = IsPermutation-middle items x old in
+    let all = IsPermutation-trans (items ++ x ∷ old) (x ∷ (items ++ old)) new to_front (IsPermutation-trans (x ∷ (items ++ old)) (x ∷ now) new (IsPermutation-cons x (items ++ old) now before) one) in
+    let P : List A → Type 0 = λ u. IsPermutation u new in
+    subst P (sym (append_assoc items (x ∷ []) old)) all
+
+-- What was read
+
+many_valid : (s : Shape) (room n : ℕ) (w : List ℕ) (v : List (Value s)) (r : List ℕ) → is_apart s ≡ true → IsBytes w → Fits w → read_many (read s room) n w ≡ Ok (v, r) → AllByRecursion (IsValid s) v
+unfolding read_many
+many_valid s room zero [] v r apart bytes fits e = let same = ok_is ([], []) (v, r) e in subst (λ (q : List (Value s) × List ℕ). AllByRecursion (IsValid s) q.0) same tt
+many_valid s room zero (b ∷ w) v r apart bytes fits e = absurd cc
+many_valid s room (suc n) [] v r apart bytes fits e = let same = ok_is ([], []) (v, r) e in subst (λ (q : List (Value s) × List ℕ). AllByRecursion (IsValid s) q.0) same tt
+many_valid s room (suc n) (b ∷ w) v r apart bytes fits e =
+    let x = bind_ok (read s room (b ∷ w)) (λ x. read_many (read s room) n x.1 >>= λ y. Ok (x.0 ∷ y.0, y.1)) (v, r) e in
+    let y = bind_ok (read_many (read s room) n x.0.1) (λ y. Ok (x.0.0 ∷ y.0, y.1)) (v, r) x.2 in
+    let u = sound s room (b ∷ w) x.0.0 x.0.1 apart bytes fits x.1 in
+    let m = many_valid s room n x.0.1 y.0.0 y.0.1 apart (bytes_rest (octets_of s x.0.0) x.0.1 (b ∷ w) u.1 bytes) (fits_rest (octets_of s x.0.0) x.0.1 (b ∷ w) u.1 fits) y.1 in
+    let same = ok_is (x.0.0 ∷ y.0.0, y.0.1) (v, r) y.2 in
+    subst (λ (q : List (Value s) × List ℕ). AllByRecursion (IsValid s) q.0) {x = (x.0.0 ∷ y.0.0, y.0.1)} same (u.0, m)
+
+valid_plain : {A : Type 0} (s : Shape) (f : A → Value s) (xs : List A) → AllByRecursion (IsValid s) (plain_list f xs) → AllValid s f xs
+valid_plain s f [] h = tt
+valid_plain s f (x ∷ xs) h = (h.0, valid_plain s f xs h.1)
+
+-- above the octets before
+abbrev RisesFrom : {P : Type 0} → (P → List ℕ) → Option (List ℕ) → List P → Type 0
+RisesFrom o last [] = ⊤
+RisesFrom o None (x ∷ xs) = AllRising o (x ∷ xs)
+RisesFrom o (Some a) (x ∷ xs) = (slice_cmp nat_cmp a (o x) ≡ Less) × AllRising o (x ∷ xs)
+
+rises : {P : Type 0} (o : P → List ℕ) (x : P) (xs : List P) → RisesFrom o (Some (o x)) xs → AllRising o (x ∷ xs)
+rises o x [] h = tt
+rises o x (y ∷ ys) h = h
+
+ordered_ok : (o : Ordering) → ordered o ≡ Ok tt → o ≡ Less
+ordered_ok Less e = refl
+ordered_ok Equal e = absurd cc
+ordered_ok Greater e = absurd cc
+
+rise_on : {P : Type 0} (o : P → List ℕ) (last : Option (List ℕ)) (x : P) (xs : List P) → follows_last last (o x) ≡ Ok tt → RisesFrom o (Some (o x)) xs → RisesFrom o last (x ∷ xs)
+rise_on o None x xs e h = rises o x xs h
+rise_on o (Some a) x xs e h = (ordered_ok (slice_cmp nat_cmp a (o x)) e, rises o x xs h)
+
+rising_from : {P : Type 0} (o : P → List ℕ) (F : Readings P) (last : Option (List ℕ)) (n : ℕ) (w : List ℕ) (v : List P) (r : List ℕ) → read_rising o F last n w ≡ Ok (v, r) → RisesFrom o last v
+unfolding read_rising
+rising_from {P} o F last zero [] v r e = let same = ok_is ([], []) (v, r) e in subst (λ (q : List P × List ℕ). RisesFrom o last q.0) same tt
+rising_from o F last zero (b ∷ w) v r e = absurd cc
+rising_from {P} o F last (suc n) [] v r e = let same = ok_is ([], []) (v, r) e in subst (λ (q : List P × List ℕ). RisesFrom o last q.0) same tt
+rising_from {P} o F last (suc n) (b ∷ w) v r e =
+    let x = bind_ok (F (b ∷ w)) (λ x. follows_last last (o x.0) >>= λ _. read_rising o F (Some (o x.0)) n x.1 >>= λ y. Ok (x.0 ∷ y.0, y.1)) (v, r) e in
+    let j = bind_ok (follows_last last (o x.0.0)) (λ _. read_rising o F (Some (o x.0.0)) n x.0.1 >>= λ y. Ok (x.0.0 ∷ y.0, y.1)) (v, r) x.2 in
+    let y = bind_ok (read_rising o F (Some (o x.0.0)) n x.0.1) (λ y. Ok (x.0.0 ∷ y.0, y.1)) (v, r) j.2 in
+    let same = ok_is (x.0.0 ∷ y.0.0, y.0.1) (v, r) y.2 in
+    subst (λ (q : List P × List ℕ). RisesFrom o last q.0) {x = (x.0.0 ∷ y.0.0, y.0.1)} same
+    (rise_on o last x.0.0 y.0.0 j.1 (rising_from o F (Some (o x.0.0)) n x.0.1 y.0.0 y.0.1 y.1))
+
+rising_read : {P : Type 0} (o : P → List ℕ) (F : Readings P) (n : ℕ) (w : List ℕ) (v : List P) (r : List ℕ) → read_rising o F None n w ≡ Ok (v, r) → AllRising o v
+rising_read o F n w [] r e = tt
+rising_read o F n w (x ∷ v) r e = rising_from o F None n w (x ∷ v) r e
+
+pub rising-ascends : {A : Type 0} (s : Shape) (f : A → Value s) (xs : List A) → AllRising (octets_of s) (plain_list f xs) → Ascends s f xs
+rising-ascends s f [] h = tt
+rising-ascends s f (x ∷ []) h = tt
+rising-ascends s f (x ∷ y ∷ xs) h = ((λ v w above. absurd (cc (h.0, above))), rising-ascends s f (y ∷ xs) h.1)
+
+-- What was read as a content
+
+inner : (b : Body) (t : Tag) (room : ℕ) (u : List ℕ) (x : BodyValue b × List ℕ) → read_content (nested b) t room u ≡ Ok x → (m : ℕ) × (read_body b m u ≡ Ok x)
+inner b t zero u x e = absurd cc
+inner b t (suc m) u x e =
+    let q = bind_ok (read_body b m u) whole x e in
+    (m, q.1 ∙ ap (λ (p : BodyValue b × List ℕ). Ok p) (whole_ok q.0 x q.2).0)
+
+within : (b : Body) (t : Tag) (room n : ℕ) (w : List ℕ) (v : BodyValue b) (r : List ℕ) → value_at (read_content (nested b) t room) n w ≡ Ok (v, r) → (m : ℕ) × (z : List ℕ) × (read_body b m (take n w) ≡ Ok (v, z))
+unfolding value_at
+within b t room n w v r e =
+    let F = read_content (nested b) t room in
+    let h = unless_ok (ltb (length w) n) kinds.Incomplete (F (take n w) >>= whole >>= λ x. Ok (x.0, drop n w)) (v, r) e in
+    let y = bind_ok (F (take n w) >>= whole) (λ x. Ok (x.0, drop n w)) (v, r) h.1 in
+    let x = bind_ok (F (take n w)) whole y.0 y.1 in
+    let i = inner b t room (take n w) x.0 x.1 in
+    let same : x.0.0 ≡ v = ap (λ (q : BodyValue b × List ℕ). q.0) (whole_ok x.0 y.0 x.2).0 ∙ ap (λ (q : BodyValue b × List ℕ). q.0) (ok_is (y.0.0, drop n w) (v, r) y.2) in
+    (i.0, x.0.1, i.1 ∙ ap (λ (q : BodyValue b). Ok (q, x.0.1)) same)
+
+pub content_valid : {A : Type 0} (s : Shape) (f : A → Value s) (t : Tag) (room n : ℕ) (w : List ℕ) (xs : List A) (r : List ℕ) → is_apart s ≡ true → IsBytes w → Fits w
+    → value_at (read_content (nested (many s)) t room) n w ≡ Ok (plain_list f xs, r) → AllValid s f xs
+content_valid s f t room n w xs r apart bytes fits e =
+    let i = within (many s) t room n w (plain_list f xs) r e in
+    let u = take n w in
+    valid_plain s f xs (many_valid s i.0 (length u) u (plain_list f xs) i.1 apart (bytes_take n w bytes) (fits_front u (drop n w) w (sym (take-append-drop n w)) fits) i.2)
+
+pub content_rises : (s : Shape) (t : Tag) (room n : ℕ) (w : List ℕ) (v : List (Value s)) (r : List ℕ) → value_at (read_content (nested (rising s)) t room) n w ≡ Ok (v, r) → AllRising (octets_of s) v
+content_rises s t room n w v r e =
+    let i = within (rising s) t room n w v r e in
+    let u = take n w in
+    rising_read (octets_of s) (read s i.0) (length u) u v i.1 i.2

@@ -1,0 +1,38 @@
+use Rattle.std.proofs.Common.{Err, ap, sym, ◌∙◌}
+use Rattle.std.proofs.lemmas.Result.{err_from_is_err_and}
+use Rattle.der_core_head.specs.Shapes.{nested, many}
+use Rattle.der_core_head.specs.Grammar.{value_at, read_content}
+use Rattle.der_core.proofs.Nested.{moved_kept}
+use Rattle.der_types_sets.proofs.FewSteps.{few_read, few_refused, few_fault}
+use Rattle.der_types_sets.proofs.sequence_of.SequenceOf.decode_value.Goals as goal
+
+pub returns-in_err-members : goal.returns-in_err-members
+returns-in_err-members g c =
+    let old = g.R.Reader.state c.args.reader.now in
+    let F = value_at (read_content (nested (many g.T.Shaped.shape)) c.args.header.tag old.room) c.args.header.length.value in
+    let p = err_from_is_err_and c.from_residual.result c.from_residual.ensures.1 in
+    rw (p.1, p.2) (λ der ready memory. few_fault g.row.N F old.rest c.in_err-members.field-0.0.kind (c.in_err-members.ensures.0 der ready memory), c.in_err-members.ensures.1, c.in_err-members.ensures.2)
+
+pub returns-in_err-members-2 : goal.returns-in_err-members-2
+returns-in_err-members-2 g c =
+    let old = g.R.Reader.state c.args.reader.now in
+    let new = g.R.Reader.state c.decode_value.new.reader in
+    let F = value_at (read_content (nested (many g.T.Shaped.shape)) c.args.header.tag old.room) c.args.header.length.value in
+    let p = err_from_is_err_and c.from_residual-in_err-members-2.result c.from_residual-in_err-members-2.ensures.1 in
+    let full = c.in_err-members-2.ensures.refused in
+    rw (p.1, p.2) (
+      λ der ready memory. few_refused g.T.Shaped.plain c.in_ok-members.members.items g.row.N F old.rest new.rest (c.in_ok-members.ensures.0 der) full.1 ∙ ap Err (sym full.0),
+      moved_kept old new c.in_ok-members.ensures.1,
+      λ failed. absurd (cc (failed, c.in_ok-members.ensures.2)),
+    )
+
+pub returns : goal.returns
+returns g c =
+    let old = g.R.Reader.state c.args.reader.now in
+    let new = g.R.Reader.state c.decode_value.new.reader in
+    let F = value_at (read_content (nested (many g.T.Shaped.shape)) c.args.header.tag old.room) c.args.header.length.value in
+    rw c.in_ok-members-2.ensures.ok (
+      λ der. few_read g.T.Shaped.plain c.in_ok-members.members.items g.row.N F old.rest new.rest (c.in_ok-members.ensures.0 der) c.in_ok-members-2.ensures.room,
+      c.in_ok-members.ensures.1,
+      c.in_ok-members.ensures.2,
+    )

@@ -1,0 +1,72 @@
+-- Sets as their members in order (X.690 8.12, 11.6). A member has the plain value f x of a shape s.
+use Rattle.std.specs.Prelude.{◌≡◌, ◌≢◌, ℕ, suc, ◌-◌, ◌<◌, ◌≤◌, List, [], ◌∷◌, ◌++◌, length, slice_index_or, flat_map, ⊤, ◌⊎◌, Result, Ok, Err, nat_lt, if◌then◌else◌}
+use Rattle.std.specs.List.{AllByRecursion}
+use Rattle.std.specs.List.Sorted.{IsPermutation}
+use Rattle.std.specs.declared.cmp.Ordering.TheVariants.{Greater}
+use Rattle.der_core_head.specs.declared.error.Error.{Error}
+use Rattle.der_core_head.specs.declared.error.ErrorKind.{ErrorKind}
+use Rattle.der_core_head.specs.declared.error.ErrorKind.TheVariants as kinds
+use Rattle.der_core_head.specs.Octets.{Readings, ◌>>=◌}
+use Rattle.der_core_head.specs.Shapes.{Shape, Value, IsValid, octets_of}
+use Rattle.der_core_order.specs.Orders.{octets_cmp}
+
+-- the encoding of x is not above that of y, where both have one
+abbrev pub NotAbove : {A : Type 0} (s : Shape) → (A → Value s) → A → A → Type 0
+NotAbove s f x y = IsValid s (f x) → IsValid s (f y) → octets_cmp (octets_of s (f x)) (octets_of s (f y)) ≢ Greater
+
+-- no member is above the next one; equal ones are kept
+abbrev pub Ascends : {A : Type 0} (s : Shape) → (A → Value s) → List A → Type 0
+Ascends s f [] = ⊤
+Ascends s f (x ∷ []) = ⊤
+Ascends s f (x ∷ y ∷ xs) = NotAbove s f x y × Ascends s f (y ∷ xs)
+
+-- each has an encoding
+abbrev pub AllValid : {A : Type 0} (s : Shape) → (A → Value s) → List A → Type 0
+AllValid s f xs = AllByRecursion (λ x. IsValid s (f x)) xs
+
+-- The octets join the encodings in any order, and the members are their ascending arrangement.
+pub record Loose (s : Shape) (members : List (Value s)) (octets : List ℕ) : Type 0 where
+  pub spelled : List (Value s)
+  pub valid : AllValid s (λ v. v) spelled
+  pub octets_are : octets ≡ flat_map (octets_of s) spelled
+  pub same : IsPermutation spelled members
+  pub ascend : Ascends s (λ v. v) members
+
+-- what stands before the place i is not above x
+abbrev pub Behind : {A : Type 0} (s : Shape) → (A → Value s) → List A → A → ℕ → Type 0
+Behind {A} s f xs x i = (y : A) (k : ℕ) → i ≡ suc k → y ≡ slice_index_or xs k y → NotAbove s f y x
+
+-- and x is not above what stands there
+abbrev pub Before : {A : Type 0} (s : Shape) → (A → Value s) → List A → A → ℕ → Type 0
+Before {A} s f xs x i = (y : A) → i < length xs → y ≡ slice_index_or xs i y → NotAbove s f x y
+
+-- x may stand at the place i
+pub record IsPlace {A : Type 0} (s : Shape) (f : A → Value s) (xs : List A) (x : A) (i : ℕ) : Type 0 where
+  pub within : i ≤ length xs
+  pub behind : Behind s f xs x i
+  pub before : Before s f xs x i
+
+-- An encoding passes what a length can count, and so not all have one.
+pub record TooLong {A : Type 0} (s : Shape) (f : A → Value s) (xs : List A) (e : Error) : Type 0 where
+  pub kind : e.kind ≡ kinds.Overflow
+  pub some : AllValid s f xs → ⊥
+
+-- That, or want of memory.
+abbrev pub IsRefusal : {A : Type 0} (s : Shape) → (A → Value s) → List A → Error → Type 0
+IsRefusal s f xs e = (e.kind ≡ kinds.OutOfMemory) ⊎ TooLong s f xs e
+
+-- x is below the last member, where both have an encoding
+abbrev pub IsBelowLast : {A : Type 0} (s : Shape) → (A → Value s) → List A → A → Type 0
+IsBelowLast {A} s f xs x = (y : A) → length xs ≢ 0 → y ≡ slice_index_or xs (length xs - 1) y → IsValid s (f y) → IsValid s (f x) → octets_cmp (octets_of s (f y)) (octets_of s (f x)) ≡ Greater
+
+-- the items went into the set, wherever their places are
+abbrev pub Gains : {A : Type 0} → List A → List A → List A → Type 0
+Gains old items new = IsPermutation (items ++ old) new
+
+-- what was read, if there are no more than so many
+abbrev at_most : {P : Type 0} → ℕ → List P × List ℕ → Result (List P × List ℕ) ErrorKind
+at_most n x = if nat_lt n (length x.0) then Err kinds.Overlength else Ok x
+
+-- reading of values, of which there may be so many
+unfoldable pub read_few : {P : Type 0} → ℕ → Readings (List P) → Readings (List P)
+read_few n f w = f w >>= at_most n

@@ -1,0 +1,49 @@
+//! The members of a list, lent one after another.
+
+/// The members of a `SequenceOf`, in order.
+#[derive(Debug, Drop)]
+pub struct SequenceOfIter<'a, T> {
+    pub(crate) left: &'a [T],
+}
+
+/// The members of a set, in ascending order of their encodings.
+#[derive(Debug, Drop)]
+pub struct SetOfIter<'a, T> {
+    pub(crate) left: &'a [T],
+}
+
+impl<'a, T> Iterator for SequenceOfIter<'a, T> {
+    ghost use Rattle.std.specs.Iterator.{YieldsFirstRef, item_count};
+
+    type Item = &'a T;
+
+    ghost next_gives = { YieldsFirstRef (λ it. it.left.now) };
+
+    ghost remaining = { item_count (λ it. it.left.now) };
+
+    fn next(&mut self) -> Option<&'a T> {
+        let [first, left @ ..] = self.left else {
+            return None;
+        };
+        self.left = left;
+        Some(first)
+    }
+}
+
+impl<'a, T> Iterator for SetOfIter<'a, T> {
+    ghost use Rattle.std.specs.Iterator.{YieldsFirstRef, item_count};
+
+    type Item = &'a T;
+
+    ghost next_gives = { YieldsFirstRef (λ it. it.left.now) };
+
+    ghost remaining = { item_count (λ it. it.left.now) };
+
+    fn next(&mut self) -> Option<&'a T> {
+        let [first, left @ ..] = self.left else {
+            return None;
+        };
+        self.left = left;
+        Some(first)
+    }
+}

@@ -1,0 +1,172 @@
+//! SEQUENCE OF with room for so many members.
+
+ghost use Rattle.std.specs.Prelude.{◌≡◌, ◌==◌, ◌↔◌, ◌<◌, [], ◌∷◌, ◌++◌, length, slice_get, IsOk, OnOk, OnErr, IfErr};
+ghost use Rattle.std.specs.Option.{option_copied};
+ghost use Rattle.der_core_head.specs.declared.tag.Tag.TheVariants.{Sequence};
+ghost use Rattle.der_core_head.specs.Shapes.{nested, many};
+ghost use Rattle.der_core_head.specs.Grammar.{plain_list, value_at, read_content};
+ghost use Rattle.der_core_head.specs.Reading.{Reads};
+ghost use Rattle.der_types_sets.specs.Sets.{read_few};
+
+use crate::iter::SequenceOfIter;
+use crate::members::{encode_members, members_len};
+use crate::room::into_array;
+use arrayvec::ArrayVec;
+use der_core::{
+    Decode, DecodeValue, Encode, EncodeValue, Error, ErrorKind, FixedTag, Header, Length, Reader,
+    Shaped, ShapedValue, Tag, Writer,
+};
+use std::alloc::Global;
+use std::marker::Model;
+
+/// SEQUENCE OF (X.690 8.10) with at most `N` members.
+///
+/// Contracts see the list of the members.
+#[derive(Drop)]
+pub struct SequenceOf<T, const N: usize> {
+    members: ArrayVec<T, N>,
+}
+
+impl<T, const N: usize> Model for SequenceOf<T, N> {
+    ghost use Rattle.std.specs.Prelude.{List};
+    ghost use Rattle.std.specs.Coded.{coded_list};
+
+    ghost Value = { List T };
+
+    ghost coded = { coded_list T.code };
+
+    ghost view = { λ s. s.members.items };
+}
+
+impl<T: Default, const N: usize> SequenceOf<T, N> {
+    /// The list without members.
+    pub fn new() -> SequenceOf<T, N>
+        ensures { result ≡ [] }
+    {
+        SequenceOf {
+            members: ArrayVec::new(),
+        }
+    }
+}
+
+impl<T, const N: usize> SequenceOf<T, N> {
+    ghost use Rattle.std.specs.Borrow.{sem};
+    ghost use Rattle.der_types_sets.specs.Lends.{lends_members};
+
+    /// The members, for writing.
+    pub fn as_mut_slice(&mut self) -> &mut [T]
+        ensures* writes_back { sem 𝓛 (lends_members T.row N.row self.entry result) }
+        ensures members { result.now ≡ self.old }
+    {
+        self.members.as_mut_slice()
+    }
+
+    /// The members.
+    pub fn as_slice(&self) -> &[T]
+        ensures { result.now ≡ self.now }
+    {
+        self.members.as_slice()
+    }
+
+    /// The member at an index, if there is one.
+    pub fn get(&self, index: usize) -> Option<&T>
+        ensures { option_copied result ≡ slice_get self.now index }
+    {
+        self.members.as_slice().get(index)
+    }
+
+    /// The members, as a vector of bounded room.
+    pub fn into_inner(self) -> ArrayVec<T, N>
+        ensures { result.items ≡ self }
+    {
+        let SequenceOf { members } = self;
+        members
+    }
+
+    /// The members, lent one after another.
+    pub fn iter(&self) -> SequenceOfIter<'_, T>
+        ensures { result.left.now ≡ self.now }
+    {
+        SequenceOfIter {
+            left: self.members.as_slice(),
+        }
+    }
+
+    /// Whether there is no member.
+    pub fn is_empty(&self) -> bool
+        ensures { result ≡ (length self.now == 0) }
+    {
+        self.members.is_empty()
+    }
+
+    /// The number of members.
+    pub fn len(&self) -> usize
+        ensures { result ≡ length self.now }
+    {
+        self.members.len()
+    }
+}
+
+impl<T: Drop, const N: usize> SequenceOf<T, N> {
+    /// Appends an item.
+    ///
+    /// # Errors
+    /// `Overlength` where there are `N` members. The list stays then.
+    pub fn add(&mut self, item: T) -> Result<(), Error>
+        ensures room { IsOk result ↔ (length self.old < N) }
+        ensures ok { OnOk result (self.new ≡ self.old ++ item ∷ []) }
+        ensures err { OnErr result (self.new ≡ self.old) }
+        ensures full { IfErr result (λ e. e.kind ≡ ErrorKind.Overlength) }
+    {
+        if self.members.is_full() {
+            return Err(Error::from(ErrorKind::Overlength));
+        }
+        self.members.push(item);
+        Ok(())
+    }
+}
+
+impl<T: Default + Drop, const N: usize> SequenceOf<T, N> {
+    /// The members of a content.
+    ///
+    /// # Errors
+    /// The first fault of the members, `Overlength` for more than `N`, or `OutOfMemory`; `Failed`
+    /// where the reader failed before.
+    pub fn decode_value<'a, R: Reader<'a>>(
+        alloc: Global,
+        reader: &mut R,
+        header: Header,
+    ) -> Result<SequenceOf<T, N>, Error>
+    where
+        T: Decode<'a, R>,
+        ensures { Reads (plain_list T.plain) (R.state reader.old) (R.state reader.new) result (read_few N (value_at (read_content (nested (many T.shape)) header.tag (R.state reader.old).room) header.length.value)) }
+    {
+        let members = Vec::<T>::decode_value(alloc, reader, header)?;
+        let members = into_array(members)?;
+        Ok(SequenceOf { members })
+    }
+}
+
+impl<T, const N: usize> FixedTag for SequenceOf<T, N> {
+    ghost fixed_tag = { Sequence };
+
+    fn tag() -> Tag {
+        Tag::Sequence
+    }
+}
+
+impl<T: Shaped, const N: usize> ShapedValue for SequenceOf<T, N> {
+    ghost content = { nested (many T.shape) };
+
+    ghost value_plain = { plain_list T.plain };
+}
+
+impl<T: Encode, const N: usize> EncodeValue for SequenceOf<T, N> {
+    fn value_len(&self) -> Result<Length, Error> {
+        members_len(self.members.as_slice())
+    }
+
+    fn encode_value<W: Writer>(&self, writer: &mut W) -> Result<(), Error> {
+        encode_members(self.members.as_slice(), writer)
+    }
+}

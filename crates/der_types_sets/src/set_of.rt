@@ -1,0 +1,195 @@
+//! SET OF with room for so many members.
+
+ghost use Rattle.std.specs.Prelude.{◌≡◌, ◌⊎◌, List, ◌==◌, [], ◌∷◌, ◌++◌, length, slice_get, IfOk, OnOk, OnErr, IfErr};
+ghost use Rattle.std.specs.Option.{option_copied};
+ghost use Rattle.std.specs.List.Sorted.{IsPermutation};
+ghost use Rattle.der_core_head.specs.declared.tag.Tag.TheVariants.{Set};
+ghost use Rattle.der_core_head.specs.Shapes.{nested, many};
+ghost use Rattle.der_core_head.specs.Grammar.{plain_list, value_at, read_content};
+ghost use Rattle.der_core_head.specs.Reading.{Reads};
+ghost use Rattle.der_types_sets.specs.Sets.{Ascends, TooLong, IsBelowLast, read_few};
+
+use crate::iter::SetOfIter;
+use crate::members::{encode_members, members_len};
+use crate::places::{check_last, place_of};
+use crate::room::into_array;
+use crate::set_of_vec::SetOfVec;
+use arrayvec::ArrayVec;
+use der_core::{
+    Decode, Encode, EncodeValue, Error, ErrorKind, FixedTag, Header, Length, Member, Reader,
+    Shaped, ShapedValue, Tag, Writer,
+};
+use der_core_order::DerOrd;
+use std::alloc::Global;
+use std::marker::Model;
+
+/// SET OF (X.690 8.12) with at most `N` members, in ascending order of their encodings, equal ones
+/// kept.
+///
+/// Contracts see the list of the members.
+#[derive(Drop)]
+pub struct SetOf<T: Shaped, const N: usize> {
+    members: ArrayVec<T, N>,
+}
+
+impl<T: Shaped, const N: usize> Model for SetOf<T, N> {
+    ghost use Rattle.std.specs.Prelude.{List};
+    ghost use Rattle.std.specs.Coded.{coded_list};
+    ghost use Rattle.der_types_sets.specs.Sets.{Ascends};
+
+    ghost Value = { List T };
+
+    ghost coded = { coded_list T.code };
+
+    ghost view = { λ s. s.members.items };
+
+    ghost invariant = { λ s. Ascends T.shape T.plain s.members.items };
+}
+
+impl<T: Shaped + Default, const N: usize> SetOf<T, N> {
+    /// The empty set.
+    pub fn new() -> SetOf<T, N>
+        ensures { result ≡ [] }
+    {
+        SetOf {
+            members: ArrayVec::new(),
+        }
+    }
+}
+
+impl<T: Shaped, const N: usize> SetOf<T, N> {
+    /// The members, in ascending order of their encodings.
+    pub fn as_slice(&self) -> &[T]
+        ensures members { result.now ≡ self.now }
+        ensures ascend { Ascends T.shape T.plain result.now }
+    {
+        self.members.as_slice()
+    }
+
+    /// The member at an index, if there is one.
+    pub fn get(&self, index: usize) -> Option<&T>
+        ensures { option_copied result ≡ slice_get self.now index }
+    {
+        self.members.as_slice().get(index)
+    }
+
+    /// The members, in ascending order of their encodings.
+    pub fn into_inner(self) -> ArrayVec<T, N>
+        ensures members { result.items ≡ self }
+        ensures ascend { Ascends T.shape T.plain result.items }
+    {
+        let SetOf { members } = self;
+        members
+    }
+
+    /// The members, lent one after another.
+    pub fn iter(&self) -> SetOfIter<'_, T>
+        ensures { result.left.now ≡ self.now }
+    {
+        SetOfIter {
+            left: self.members.as_slice(),
+        }
+    }
+
+    /// Whether there is no member.
+    pub fn is_empty(&self) -> bool
+        ensures { result ≡ (length self.now == 0) }
+    {
+        self.members.is_empty()
+    }
+
+    /// The number of members.
+    pub fn len(&self) -> usize
+        ensures { result ≡ length self.now }
+    {
+        self.members.len()
+    }
+}
+
+impl<T: DerOrd + Member + Drop, const N: usize> SetOf<T, N> {
+    /// Places an item in order, behind members that equal it.
+    ///
+    /// # Errors
+    /// `Overlength` where there are `N` members, `Overflow` where an encoding has 2^32 octets or
+    /// more. The set stays then.
+    pub fn insert(&mut self, item: T) -> Result<(), Error>
+        ensures ok { OnOk result (IsPermutation (item ∷ self.old) self.new) }
+        ensures ascend { Ascends T.shape T.plain self.new }
+        ensures err { OnErr result (self.new ≡ self.old) }
+        ensures refused { IfErr result (λ e. ((e.kind ≡ ErrorKind.Overlength) × (length self.old ≡ N)) ⊎ TooLong T.shape T.plain (item ∷ self.old) e) }
+    {
+        if self.members.is_full() {
+            return Err(Error::from(ErrorKind::Overlength));
+        }
+        let place = place_of(self.members.as_slice(), &item)?;
+        self.members.insert(place, item);
+        Ok(())
+    }
+
+    /// Appends an item that isn't below the last member.
+    ///
+    /// # Errors
+    /// `Overlength` where there are `N` members, `SetOrdering` for an item below the last member,
+    /// `Overflow` where an encoding has 2^32 octets or more. The set stays then.
+    pub fn insert_ordered(&mut self, item: T) -> Result<(), Error>
+        ensures ok { OnOk result (self.new ≡ self.old ++ item ∷ []) }
+        ensures ascend { Ascends T.shape T.plain self.new }
+        ensures err { OnErr result (self.new ≡ self.old) }
+        ensures refused { IfErr result (λ e. ((e.kind ≡ ErrorKind.Overlength) × (length self.old ≡ N)) ⊎ ((e.kind ≡ ErrorKind.SetOrdering × IsBelowLast T.shape T.plain self.old item) ⊎ TooLong T.shape T.plain (item ∷ self.old) e)) }
+    {
+        if self.members.is_full() {
+            return Err(Error::from(ErrorKind::Overlength));
+        }
+        check_last(self.members.as_slice(), &item)?;
+        self.members.push(item);
+        Ok(())
+    }
+}
+
+impl<T: DerOrd + Member + Default + Drop, const N: usize> SetOf<T, N> {
+    /// The members of a content, which stand there in any order.
+    ///
+    /// # Errors
+    /// The first fault of the members, `Overlength` for more than `N`, or `OutOfMemory`; `Failed`
+    /// where the reader failed before; by BER `Overflow` too, where an encoding has 2^32 octets or
+    /// more.
+    pub fn decode_value<'a, R: Reader<'a>>(
+        alloc: Global,
+        reader: &mut R,
+        header: Header,
+    ) -> Result<SetOf<T, N>, Error>
+    where
+        T: Decode<'a, R>,
+        // The members that were read, in the order in which they stand there, are those of the set.
+        ensures { (read : List T) × Reads (λ _. plain_list T.plain read) (R.state reader.old) (R.state reader.new) result (read_few N (value_at (read_content (nested (many T.shape)) header.tag (R.state reader.old).room) header.length.value)) × IfOk result (IsPermutation read) }
+    {
+        let ordered = SetOfVec::<T>::decode_value(alloc, reader, header)?;
+        let members = into_array(ordered.into_vec())?;
+        Ok(SetOf { members })
+    }
+}
+
+impl<T: Shaped, const N: usize> FixedTag for SetOf<T, N> {
+    ghost fixed_tag = { Set };
+
+    fn tag() -> Tag {
+        Tag::Set
+    }
+}
+
+/// The encodings of the members, in ascending order.
+impl<T: Shaped, const N: usize> ShapedValue for SetOf<T, N> {
+    ghost content = { nested (many T.shape) };
+
+    ghost value_plain = { plain_list T.plain };
+}
+
+impl<T: Encode, const N: usize> EncodeValue for SetOf<T, N> {
+    fn value_len(&self) -> Result<Length, Error> {
+        members_len(self.members.as_slice())
+    }
+
+    fn encode_value<W: Writer>(&self, writer: &mut W) -> Result<(), Error> {
+        encode_members(self.members.as_slice(), writer)
+    }
+}

@@ -1,0 +1,260 @@
+//! SET OF with any number of members.
+
+ghost use Rattle.std.specs.Prelude.{◌≡◌, ◌⊎◌, List, ◌==◌, ◌≢◌, [], ◌∷◌, ◌++◌, length, slice_get, IfOk, OnOk, OnErr, IfErr};
+ghost use Rattle.std.specs.Option.{option_copied};
+ghost use Rattle.std.specs.List.Sorted.{IsPermutation};
+ghost use Rattle.der_core_head.specs.declared.tag.Tag.TheVariants.{Set};
+ghost use Rattle.der_core_head.specs.Shapes.{nested, many, rising, octets_of, AllRising};
+ghost use Rattle.der_core_head.specs.Grammar.{plain_list, value_at, read_content};
+ghost use Rattle.der_core_head.specs.Reading.{Reads, IsDer};
+ghost use Rattle.der_types_sets.specs.Sets.{Ascends, IsRefusal, TooLong, IsBelowLast, Gains};
+ghost use Rattle.std.specs.Iterator.{IsFinite, ExtendsWithItems, Drains};
+
+use crate::iter::SetOfIter;
+use crate::places::{arrange, check_last, place_of};
+use der_core::{
+    Decode, DecodeValue, Encode, EncodeValue, Error, ErrorKind, FixedTag, Header, Length, Member,
+    Reader, SetOf as StrictSet, Shaped, ShapedValue, Tag, Writer,
+};
+use der_core_order::DerOrd;
+use std::alloc::Global;
+use std::marker::Model;
+
+/// SET OF (X.690 8.12): members in ascending order of their encodings, equal ones kept.
+///
+/// Contracts see the list of the members.
+#[derive(Debug, Drop)]
+pub struct SetOfVec<T: Shaped> {
+    members: Vec<T>,
+}
+
+impl<T: Shaped> Model for SetOfVec<T> {
+    ghost use Rattle.std.specs.Prelude.{List};
+    ghost use Rattle.std.specs.Coded.{coded_list};
+    ghost use Rattle.der_types_sets.specs.Sets.{Ascends};
+
+    ghost Value = { List T };
+
+    ghost coded = { coded_list T.code };
+
+    ghost view = { λ s. s.members.items };
+
+    ghost invariant = { λ s. Ascends T.shape T.plain s.members.items };
+}
+
+impl<T: Shaped> SetOfVec<T> {
+    /// The empty set.
+    pub fn new(alloc: Global) -> SetOfVec<T>
+        ensures { result ≡ [] }
+    {
+        SetOfVec {
+            members: Vec::new(alloc),
+        }
+    }
+
+    /// The members, in ascending order of their encodings.
+    pub fn as_slice(&self) -> &[T]
+        ensures members { result.now ≡ self.now }
+        ensures ascend { Ascends T.shape T.plain result.now }
+    {
+        self.members.as_slice()
+    }
+
+    /// The member at an index, if there is one.
+    pub fn get(&self, index: usize) -> Option<&T>
+        ensures { option_copied result ≡ slice_get self.now index }
+    {
+        self.members.as_slice().get(index)
+    }
+
+    /// The members, in ascending order of their encodings.
+    pub fn into_vec(self) -> Vec<T>
+        ensures members { result.items ≡ self }
+        ensures ascend { Ascends T.shape T.plain result.items }
+    {
+        let SetOfVec { members } = self;
+        members
+    }
+
+    /// The members, lent one after another.
+    pub fn iter(&self) -> SetOfIter<'_, T>
+        ensures { result.left.now ≡ self.now }
+    {
+        SetOfIter {
+            left: self.members.as_slice(),
+        }
+    }
+
+    /// Whether there is no member.
+    pub fn is_empty(&self) -> bool
+        ensures { result ≡ (length self.now == 0) }
+    {
+        self.members.is_empty()
+    }
+
+    /// The number of members.
+    pub fn len(&self) -> usize
+        ensures { result ≡ length self.now }
+    {
+        self.members.len()
+    }
+}
+
+impl<T: DerOrd + Member + Drop> SetOfVec<T> {
+    /// Places an item in order, behind members that equal it.
+    ///
+    /// # Errors
+    /// `Overflow` where an encoding has 2^32 octets or more, or `OutOfMemory`. The set stays then.
+    pub fn insert(&mut self, item: T) -> Result<(), Error>
+        ensures ok { OnOk result (IsPermutation (item ∷ self.old) self.new) }
+        ensures ascend { Ascends T.shape T.plain self.new }
+        ensures err { OnErr result (self.new ≡ self.old) }
+        ensures refused { IfErr result (IsRefusal T.shape T.plain (item ∷ self.old)) }
+    {
+        let place = place_of(self.members.as_slice(), &item)?;
+        self.members.insert(place, item)?;
+        Ok(())
+    }
+
+    /// Appends an item that isn't below the last member.
+    ///
+    /// # Errors
+    /// `SetOrdering` for an item below the last member, `Overflow` where an encoding has 2^32 octets
+    /// or more, or `OutOfMemory`. The set stays then.
+    pub fn insert_ordered(&mut self, item: T) -> Result<(), Error>
+        ensures ok { OnOk result (self.new ≡ self.old ++ item ∷ []) }
+        ensures ascend { Ascends T.shape T.plain self.new }
+        ensures err { OnErr result (self.new ≡ self.old) }
+        ensures refused { IfErr result (λ e. (e.kind ≡ ErrorKind.SetOrdering × IsBelowLast T.shape T.plain self.old item) ⊎ IsRefusal T.shape T.plain (item ∷ self.old) e) }
+    {
+        check_last(self.members.as_slice(), &item)?;
+        self.members.push(item)?;
+        Ok(())
+    }
+
+    /// The set of these members, in ascending order.
+    ///
+    /// # Errors
+    /// `Overflow` where an encoding has 2^32 octets or more. No memory is taken.
+    pub fn from_vec(members: Vec<T>) -> Result<SetOfVec<T>, Error>
+        ensures ok { IfOk result (IsPermutation members.items) }
+        ensures ascend { IfOk result (Ascends T.shape T.plain) }
+        ensures refused { IfErr result (TooLong T.shape T.plain members.items) }
+    {
+        let mut members = members;
+        arrange(members.as_mut_slice())?;
+        Ok(SetOfVec { members })
+    }
+
+    /// Places each of the items in order.
+    ///
+    /// # Errors
+    /// `Overflow` where an encoding has 2^32 octets or more, or `OutOfMemory`. The items before the
+    /// refused one have been placed then.
+    pub fn extend<I: IntoIterator<Item = T>>(&mut self, items: I) -> Result<(), Error>
+        requires { (it : I.IntoIter) → I.into_iter_gives items it → I.IntoIter.can_next it × IsFinite (I.IntoIter.remaining it) }
+        ensures ran { ExtendsWithItems I.into_iter_gives I.IntoIter.next_gives Gains items self.old self.new result }
+        ensures refused { IfErr result (λ e. e.kind ≢ ErrorKind.OutOfMemory → e.kind ≡ ErrorKind.Overflow) }
+    {
+        for item in items {
+            self.insert(item)?;
+        }
+        Ok(())
+    }
+
+    /// The set of the items.
+    ///
+    /// # Errors
+    /// `Overflow` where an encoding has 2^32 octets or more, or `OutOfMemory`.
+    pub fn from_iter<I: IntoIterator<Item = T>>(
+        alloc: Global,
+        items: I,
+    ) -> Result<SetOfVec<T>, Error>
+        requires { (it : I.IntoIter) → I.into_iter_gives items it → I.IntoIter.can_next it × IsFinite (I.IntoIter.remaining it) }
+        ensures ran { IfOk result (λ set. (it : I.IntoIter) × (xs : List T) × I.into_iter_gives items it × Drains I.IntoIter.next_gives it xs × Gains [] xs set) }
+        ensures refused { IfErr result (λ e. e.kind ≢ ErrorKind.OutOfMemory → e.kind ≡ ErrorKind.Overflow) }
+    {
+        let mut set = SetOfVec::new(alloc);
+        set.extend(items)?;
+        Ok(set)
+    }
+}
+
+impl<T: DerOrd + Member + Drop> SetOfVec<T> {
+    /// The members of a content, which stand there in any order.
+    ///
+    /// # Errors
+    /// The first fault of the members, or `OutOfMemory`; `Failed` where the reader failed before;
+    /// by BER `Overflow` too, where an encoding has 2^32 octets or more.
+    pub fn decode_value<'a, R: Reader<'a>>(
+        alloc: Global,
+        reader: &mut R,
+        header: Header,
+    ) -> Result<SetOfVec<T>, Error>
+    where
+        T: Decode<'a, R>,
+        // The members that were read, in the order in which they stand there, are those of the set.
+        ensures { (read : List T) × Reads (λ _. plain_list T.plain read) (R.state reader.old) (R.state reader.new) result (value_at (read_content (nested (many T.shape)) header.tag (R.state reader.old).room) header.length.value) × IfOk result (IsPermutation read) }
+    {
+        // What is read from octets by DER has an encoding.
+        let before = reader.remaining();
+        let _octets = &before[..];
+        let members = Vec::<T>::decode_value(alloc, reader, header)?;
+        let set = SetOfVec::from_vec(members)?;
+        Ok(set)
+    }
+
+    /// The members of a content in which each encoding is above the one before (X.690 11.6).
+    ///
+    /// By BER the octets that stand there rise, and the members are placed in ascending order of
+    /// their own encodings.
+    ///
+    /// # Errors
+    /// The first fault of the members, `SetDuplicate` or `SetOrdering` where one stands wrong, or
+    /// `OutOfMemory`; `Failed` where the reader failed before; by BER `Overflow` too, where an
+    /// encoding has 2^32 octets or more.
+    pub fn decode_value_strict<'a, R: Reader<'a>>(
+        alloc: Global,
+        reader: &mut R,
+        header: Header,
+    ) -> Result<SetOfVec<T>, Error>
+    where
+        T: Decode<'a, R>,
+        ensures reads { Reads (plain_list T.plain) (R.state reader.old) (R.state reader.new) result (value_at (read_content (nested (rising T.shape)) header.tag (R.state reader.old).room) header.length.value) }
+        ensures rising { IsDer (R.state reader.old) → IfOk result (λ set. AllRising (octets_of T.shape) (plain_list T.plain set)) }
+    {
+        let rules = reader.encoding_rules();
+        let rising = StrictSet::<T>::decode_value(alloc, reader, header)?;
+        let StrictSet { values } = rising;
+        if rules.is_der() {
+            return Ok(SetOfVec { members: values });
+        }
+        let set = SetOfVec::from_vec(values)?;
+        Ok(set)
+    }
+}
+
+impl<T: Shaped> FixedTag for SetOfVec<T> {
+    ghost fixed_tag = { Set };
+
+    fn tag() -> Tag {
+        Tag::Set
+    }
+}
+
+/// The encodings of the members, in ascending order.
+impl<T: Shaped> ShapedValue for SetOfVec<T> {
+    ghost content = { nested (many T.shape) };
+
+    ghost value_plain = { plain_list T.plain };
+}
+
+impl<T: Encode> EncodeValue for SetOfVec<T> {
+    fn value_len(&self) -> Result<Length, Error> {
+        self.members.value_len()
+    }
+
+    fn encode_value<W: Writer>(&self, writer: &mut W) -> Result<(), Error> {
+        self.members.encode_value(writer)
+    }
+}

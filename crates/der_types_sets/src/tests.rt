@@ -1,0 +1,275 @@
+//! Sets, lists and named bits from octets written out by hand.
+
+use super::*;
+use der_core::{Error, ErrorKind, Reader, SliceReader, Tag, from_der, to_der};
+use std::alloc::Global;
+use std::test::Fail;
+
+mod key_usages;
+mod small;
+
+use key_usages::KeyUsages;
+use small::Small;
+
+/// The set that octets spell, whose members stand in any order.
+fn loose(alloc: Global, octets: &[u8]) -> Result<SetOfVec<Small>, Error> {
+    let mut reader = SliceReader::new(octets)?;
+    let header = reader.read_header()?;
+    SetOfVec::decode_value(alloc, &mut reader, header)
+}
+
+/// The set that octets spell, whose members rise.
+fn strict(alloc: Global, octets: &[u8]) -> Result<SetOfVec<Small>, Error> {
+    let mut reader = SliceReader::new(octets)?;
+    let header = reader.read_header()?;
+    SetOfVec::decode_value_strict(alloc, &mut reader, header)
+}
+
+/// The set of at most two members that octets spell.
+fn pair(alloc: Global, octets: &[u8]) -> Result<SetOf<Small, 2>, Error> {
+    let mut reader = SliceReader::new(octets)?;
+    let header = reader.read_header()?;
+    SetOf::decode_value(alloc, &mut reader, header)
+}
+
+/// The list of at most two members that octets spell.
+fn short(alloc: Global, octets: &[u8]) -> Result<SequenceOf<Small, 2>, Error> {
+    let mut reader = SliceReader::new(octets)?;
+    let header = reader.read_header()?;
+    SequenceOf::decode_value(alloc, &mut reader, header)
+}
+
+/// The kind of a refusal.
+fn kind<T: Drop>(answer: Result<T, Error>) -> Option<ErrorKind> {
+    answer.err().map(|error| error.kind)
+}
+
+#[test]
+fn sets_in_any_order(rt: HostRuntime) -> Result<(), Fail> {
+    let alloc = rt.alloc();
+    let set = loose(alloc, b"\x31\x06\x02\x01\x02\x02\x01\x01")?;
+    assert_eq!(rt; set.as_slice(), [Small(1), Small(2)].as_slice());
+    assert_eq!(rt;
+        to_der(alloc, &set)?.as_slice(),
+        b"\x31\x06\x02\x01\x01\x02\x01\x02".as_slice()
+    );
+    let twice = loose(alloc, b"\x31\x06\x02\x01\x01\x02\x01\x01")?;
+    assert_eq!(rt; twice.as_slice(), [Small(1), Small(1)].as_slice());
+    let pair = pair(alloc, b"\x31\x06\x02\x01\x02\x02\x01\x01")?;
+    assert_eq!(rt; pair.as_slice(), [Small(1), Small(2)].as_slice());
+    assert_eq!(rt;
+        to_der(alloc, &pair)?.as_slice(),
+        b"\x31\x06\x02\x01\x01\x02\x01\x02".as_slice()
+    );
+    Ok(())
+}
+
+#[test]
+fn strict_sets(rt: HostRuntime) -> Result<(), Fail> {
+    let alloc = rt.alloc();
+    let set = strict(alloc, b"\x31\x06\x02\x01\x01\x02\x01\x02")?;
+    assert_eq!(rt; set.as_slice(), [Small(1), Small(2)].as_slice());
+    let falling = strict(alloc, b"\x31\x06\x02\x01\x02\x02\x01\x01");
+    assert_eq!(rt; kind(falling), Some(ErrorKind::SetOrdering));
+    let twice = strict(alloc, b"\x31\x06\x02\x01\x01\x02\x01\x01");
+    assert_eq!(rt; kind(twice), Some(ErrorKind::SetDuplicate));
+    Ok(())
+}
+
+#[test]
+fn bounded_room(rt: HostRuntime) -> Result<(), Fail> {
+    let alloc = rt.alloc();
+    let list = short(alloc, b"\x30\x06\x02\x01\x02\x02\x01\x01")?;
+    assert_eq!(rt; list.as_slice(), [Small(2), Small(1)].as_slice());
+    assert_eq!(rt;
+        to_der(alloc, &list)?.as_slice(),
+        b"\x30\x06\x02\x01\x02\x02\x01\x01".as_slice()
+    );
+    let three = short(alloc, b"\x30\x09\x02\x01\x02\x02\x01\x01\x02\x01\x00");
+    assert_eq!(rt; kind(three), Some(ErrorKind::Overlength));
+    let three = pair(alloc, b"\x31\x09\x02\x01\x02\x02\x01\x01\x02\x01\x00");
+    assert_eq!(rt; kind(three), Some(ErrorKind::Overlength));
+    Ok(())
+}
+
+#[test]
+fn lists(rt: HostRuntime) -> Result<(), Fail> {
+    let mut list = SequenceOf::<Small, 2>::new();
+    assert!(rt; list.is_empty());
+    list.add(Small(7))?;
+    list.add(Small(5))?;
+    assert_eq!(rt; kind(list.add(Small(6))), Some(ErrorKind::Overlength));
+    assert_eq!(rt; list.len(), 2);
+    assert_eq!(rt; list.get(1).copied(), Some(Small(5)));
+    assert!(rt; list.get(2).is_none());
+    let mut members = list.iter();
+    assert_eq!(rt; members.next().copied(), Some(Small(7)));
+    assert_eq!(rt; members.next().copied(), Some(Small(5)));
+    assert!(rt; members.next().is_none());
+    list.as_mut_slice().reverse();
+    assert_eq!(rt;
+        list.into_inner().as_slice(),
+        [Small(5), Small(7)].as_slice()
+    );
+    Ok(())
+}
+
+#[test]
+fn sets_of_any_room(rt: HostRuntime) -> Result<(), Fail> {
+    let alloc = rt.alloc();
+    let mut set = SetOfVec::<Small>::new(alloc);
+    assert!(rt; set.is_empty());
+    for item in [5, 200, 5, 1] {
+        set.insert(Small(item))?;
+    }
+    // 200 has two octets of content.
+    assert_eq!(rt;
+        set.as_slice(),
+        [Small(1), Small(5), Small(5), Small(200)].as_slice()
+    );
+    assert_eq!(rt;
+        kind(set.insert_ordered(Small(5))),
+        Some(ErrorKind::SetOrdering)
+    );
+    set.insert_ordered(Small(201))?;
+    assert_eq!(rt; set.len(), 5);
+    assert_eq!(rt; set.get(4).copied(), Some(Small(201)));
+    set.extend(vec![in alloc; Small(3), Small(0)]?)?;
+    assert_eq!(rt;
+        set.as_slice(),
+        [
+            Small(0),
+            Small(1),
+            Small(3),
+            Small(5),
+            Small(5),
+            Small(200),
+            Small(201)
+        ]
+        .as_slice()
+    );
+    assert_eq!(rt; set.iter().next().copied(), Some(Small(0)));
+    let other = SetOfVec::from_iter(alloc, set.into_vec())?;
+    assert_eq!(rt; other.len(), 7);
+    let sorted = SetOfVec::from_vec(vec![in alloc; Small(9), Small(8), Small(7)]?)?;
+    assert_eq!(rt;
+        sorted.as_slice(),
+        [Small(7), Small(8), Small(9)].as_slice()
+    );
+    Ok(())
+}
+
+#[test]
+fn sets_of_bounded_room(rt: HostRuntime) -> Result<(), Fail> {
+    let mut set = SetOf::<Small, 3>::new();
+    assert!(rt; set.is_empty());
+    set.insert(Small(5))?;
+    set.insert(Small(1))?;
+    assert_eq!(rt;
+        kind(set.insert_ordered(Small(4))),
+        Some(ErrorKind::SetOrdering)
+    );
+    set.insert_ordered(Small(5))?;
+    assert_eq!(rt; kind(set.insert(Small(9))), Some(ErrorKind::Overlength));
+    assert_eq!(rt; set.len(), 3);
+    assert_eq!(rt; set.get(0).copied(), Some(Small(1)));
+    assert_eq!(rt; set.iter().next().copied(), Some(Small(1)));
+    assert_eq!(rt;
+        set.into_inner().as_slice(),
+        [Small(1), Small(5), Small(5)].as_slice()
+    );
+    Ok(())
+}
+
+#[test]
+fn named_bits(rt: HostRuntime) -> Result<(), Fail> {
+    let alloc = rt.alloc();
+    let signs = FlagSet::from_flag(KeyUsages::KEY_CERT_SIGN);
+    let both = signs.union(FlagSet::from_flag(KeyUsages::CRL_SIGN));
+    assert_eq!(rt;
+        to_der(alloc, &both)?.as_slice(),
+        b"\x03\x02\x01\x06".as_slice()
+    );
+    assert!(rt; both.contains(KeyUsages::CRL_SIGN));
+    assert!(rt; !both.contains(KeyUsages::KEY_AGREEMENT));
+    let eighth = FlagSet::from_flag(KeyUsages::DECIPHER_ONLY);
+    assert_eq!(rt;
+        to_der(alloc, &eighth)?.as_slice(),
+        b"\x03\x03\x07\x00\x80".as_slice()
+    );
+    let none = FlagSet::<KeyUsages>::empty();
+    assert_eq!(rt;
+        to_der(alloc, &none)?.as_slice(),
+        b"\x03\x01\x00".as_slice()
+    );
+    assert!(rt; FlagSet::<KeyUsages>::full().contains(KeyUsages::DECIPHER_ONLY));
+    assert!(rt; from_der::<FlagSet<KeyUsages>>(alloc, b"\x03\x02\x01\x06")? == both);
+    assert!(rt; from_der::<FlagSet<KeyUsages>>(alloc, b"\x03\x01\x00")? == none);
+    Ok(())
+}
+
+#[test]
+fn refused_bits(rt: HostRuntime) -> Result<(), Fail> {
+    let alloc = rt.alloc();
+    let value = ErrorKind::Value {
+        tag: Tag::BitString,
+    };
+    // Zero bits at the end, a bit without a name, unused bits of nothing.
+    for octets in [
+        b"\x03\x02\x00\x06".as_slice(),
+        b"\x03\x03\x06\x00\x40".as_slice(),
+        b"\x03\x01\x01".as_slice(),
+    ] {
+        assert_eq!(rt;
+            kind(from_der::<FlagSet<KeyUsages>>(alloc, octets)),
+            Some(value)
+        );
+    }
+    let empty = from_der::<FlagSet<KeyUsages>>(alloc, b"\x03\x00");
+    assert_eq!(rt;
+        kind(empty),
+        Some(ErrorKind::Length {
+            tag: Tag::BitString
+        })
+    );
+    Ok(())
+}
+
+/// Where one request for memory is refused, the refused call leaves the set, and the same call is
+/// answered then.
+#[test]
+fn refused_memory(rt: HostRuntime) -> Result<(), Fail> {
+    let alloc = rt.alloc();
+    let mut set = SetOfVec::<Small>::new(alloc);
+    for item in [5, 1, 5, 9, 7, 3] {
+        let before = set.len();
+        if let Err(error) = set.insert(Small(item)) {
+            assert_eq!(rt; error.kind, ErrorKind::OutOfMemory);
+            assert_eq!(rt; set.len(), before);
+            set.insert(Small(item))?;
+        }
+    }
+    for item in [9, 10, 11] {
+        let before = set.len();
+        if let Err(error) = set.insert_ordered(Small(item)) {
+            assert_eq!(rt; error.kind, ErrorKind::OutOfMemory);
+            assert_eq!(rt; set.len(), before);
+            set.insert_ordered(Small(item))?;
+        }
+    }
+    let all = [1, 3, 5, 5, 7, 9, 9, 10, 11].map(Small);
+    assert_eq!(rt; set.as_slice(), all.as_slice());
+    let octets = b"\x31\x06\x02\x01\x02\x02\x01\x01";
+    match loose(alloc, octets) {
+        Ok(set) => assert_eq!(rt; set.as_slice(), [Small(1), Small(2)].as_slice()),
+        Err(error) => assert_eq!(rt; error.kind, ErrorKind::OutOfMemory),
+    }
+    match pair(alloc, octets) {
+        Ok(set) => assert_eq!(rt; set.as_slice(), [Small(1), Small(2)].as_slice()),
+        Err(error) => assert_eq!(rt; error.kind, ErrorKind::OutOfMemory),
+    }
+    if let Err(error) = strict(alloc, octets) {
+        assert!(rt; error.kind == ErrorKind::OutOfMemory || error.kind == ErrorKind::SetOrdering);
+    }
+    Ok(())
+}

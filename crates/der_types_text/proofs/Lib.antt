@@ -1,0 +1,4 @@
+pub mod AnyTexts
+pub mod AsciiTexts
+pub mod BmpTexts
+pub mod Utf8Texts

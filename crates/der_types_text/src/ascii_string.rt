@@ -1,0 +1,228 @@
+//! Owned texts of ASCII characters.
+
+ghost use Rattle.std.specs.Prelude.{◌≡◌, ◌↔◌, length, IsTrue, IfOk, [], Some, Ok, string_bytes, nat_eq};
+ghost use Rattle.std.specs.Cmp.{partial_equiv_from_equiv};
+ghost use Rattle.std.specs.Cmp.Lexicographic.{pointwise, nat_list_eq_equiv};
+ghost use Rattle.der_core_head.specs.Leaves.{text};
+ghost use Rattle.der_core_head.specs.Reading.{Gives, GivesNow};
+ghost use Rattle.der_core_head.specs.Shapes.{leaf};
+ghost use Rattle.der_core_head.specs.Texts.{IsText};
+ghost use Rattle.der_types_text.specs.Texts.{text_from};
+
+use crate::ascii_string_ref::AsciiStringRef;
+use crate::ascii_type::AsciiType;
+use der_core::{
+    DecodeValue, EncodeValue, Error, FixedTag, Header, Leaf, Length, Reader, ShapedValue, Tag,
+    Writer, decode_leaf, slice_len,
+};
+use std::alloc::{AllocError, Global};
+use std::convert::AsStr;
+use std::fmt;
+use std::marker::{Model, PhantomData};
+
+/// A text of a character string type whose characters are ASCII.
+///
+/// Contracts see the list of its octets.
+#[derive(Drop)]
+pub struct AsciiString<T: AsciiType> {
+    text: String,
+    kind: PhantomData<T>,
+}
+
+impl<T: AsciiType> Model for AsciiString<T> {
+    ghost use Rattle.std.specs.Prelude.{List, ℕ, string_bytes};
+    ghost use Rattle.der_types_text.specs.Texts.{AreWithin};
+
+    ghost Value = { List ℕ };
+
+    ghost view = { λ a. string_bytes a.text };
+
+    ghost invariant = { λ a. AreWithin T.repertoire (string_bytes a.text) };
+}
+
+impl<T: AsciiType> AsciiString<T> {
+    /// A copy of a borrowed text.
+    pub(crate) fn from_ref(
+        alloc: Global,
+        text: AsciiStringRef<'_, T>,
+    ) -> Result<AsciiString<T>, AllocError>
+        ensures { IfOk result (λ t. t ≡ text.entry.text.now) }
+    {
+        let text = String::from_str(alloc, text.text)?;
+        Ok(AsciiString {
+            text,
+            kind: PhantomData,
+        })
+    }
+
+    /// The text of these octets.
+    ///
+    /// # Errors
+    /// `Overflow` for 2^32 octets or more, `Value` where an octet is no character of the type, or
+    /// `OutOfMemory`.
+    pub fn new(alloc: Global, input: &[u8]) -> Result<AsciiString<T>, Error>
+        ensures ok { IfOk result (λ t. t ≡ input.now) }
+        ensures exact { Gives (λ t. t) result (text_from T.repertoire T.string_tag input.now) }
+    {
+        let text = AsciiStringRef::<T>::new(input)?;
+        let owned = AsciiString::from_ref(alloc, text)?;
+        Ok(owned)
+    }
+
+    /// A copy.
+    ///
+    /// # Errors
+    /// Want of memory.
+    pub fn clone(&self, alloc: Global) -> Result<AsciiString<T>, AllocError>
+        ensures { IfOk result (λ t. t ≡ self.now) }
+    {
+        AsciiString::from_ref(alloc, self.owned_to_ref())
+    }
+
+    /// The text.
+    pub fn as_str(&self) -> &str
+        ensures text { result.now ≡ self.now }
+        ensures valid { IsText T.repertoire result.now }
+    {
+        self.owned_to_ref().as_str()
+    }
+
+    /// The octets of the text.
+    pub fn as_bytes(&self) -> &[u8]
+        ensures { result.now ≡ self.now }
+    {
+        self.text.as_bytes()
+    }
+
+    /// The number of octets.
+    pub fn len(&self) -> usize
+        ensures { result ≡ length self.now }
+    {
+        self.text.len()
+    }
+
+    /// Whether there is no character.
+    pub fn is_empty(&self) -> bool
+        ensures { IsTrue result ↔ (self.now ≡ []) }
+    {
+        self.text.is_empty()
+    }
+
+    /// The text itself.
+    pub fn into_string(self) -> String
+        ensures { string_bytes result ≡ self }
+    {
+        self.text
+    }
+
+    /// The same text, borrowed.
+    pub fn owned_to_ref(&self) -> AsciiStringRef<'_, T>
+        ensures { result.text.now ≡ self.now }
+    {
+        AsciiStringRef {
+            text: self.text.as_str(),
+            kind: PhantomData,
+        }
+    }
+}
+
+/// The same text, where its octets are characters of the type and a length can count them.
+impl<T: AsciiType> TryFrom<String> for AsciiString<T> {
+    type Error = Error;
+
+    ghost try_from_gives = { λ s r. GivesNow (λ t. t) r (text_from T.repertoire T.string_tag (string_bytes s)) };
+
+    fn try_from(text: String) -> Result<AsciiString<T>, Error> {
+        let _ = AsciiStringRef::<T>::new(text.as_bytes())?;
+        Ok(AsciiString {
+            text,
+            kind: PhantomData,
+        })
+    }
+}
+
+impl<T: AsciiType> AsStr for AsciiString<T> {
+    ghost text = { λ t. t };
+
+    fn as_str(&self) -> &str {
+        self.text.as_str()
+    }
+}
+
+impl<T: AsciiType> FixedTag for AsciiString<T> {
+    ghost fixed_tag = { T.string_tag };
+
+    fn tag() -> Tag {
+        T::tag()
+    }
+}
+
+/// The octets of the text.
+impl<'a, T: AsciiType> Leaf<'a> for AsciiString<T> {
+    ghost kind = { text T.repertoire };
+
+    ghost leaf_plain = { λ t. t };
+
+    fn from_content(alloc: Global, tag: Tag, octets: &'a [u8]) -> Result<AsciiString<T>, Error> {
+        let text = AsciiStringRef::<T>::spelled_by(tag, octets)?;
+        let owned = AsciiString::from_ref(alloc, text)?;
+        Ok(owned)
+    }
+}
+
+impl<T: AsciiType> ShapedValue for AsciiString<T> {
+    ghost content = { leaf (text T.repertoire) };
+
+    ghost value_plain = { λ t. t };
+}
+
+impl<'a, R: Reader<'a>, T: AsciiType> DecodeValue<'a, R> for AsciiString<T> {
+    fn decode_value(
+        alloc: Global,
+        reader: &mut R,
+        header: Header,
+    ) -> Result<AsciiString<T>, Error> {
+        decode_leaf(alloc, reader, header)
+    }
+}
+
+impl<T: AsciiType> EncodeValue for AsciiString<T> {
+    fn value_len(&self) -> Result<Length, Error> {
+        slice_len(self.as_bytes())
+    }
+
+    fn encode_value<W: Writer>(&self, writer: &mut W) -> Result<(), Error> {
+        writer.write(self.as_bytes())
+    }
+}
+
+/// Texts are equal where their octets are.
+impl<T: AsciiType> PartialEq for AsciiString<T> {
+    ghost eq = { pointwise nat_eq };
+
+    ghost laws = { partial_equiv_from_equiv nat_list_eq_equiv };
+
+    fn eq(&self, other: &Self) -> bool {
+        self.as_bytes() == other.as_bytes()
+    }
+}
+
+impl<T: AsciiType> Eq for AsciiString<T> {
+    ghost laws = { nat_list_eq_equiv };
+}
+
+impl<T: AsciiType> fmt::Display for AsciiString<T> {
+    ghost output = { λ t. Some t };
+
+    fn fmt<W: fmt::Write>(&self, f: &mut fmt::Formatter<W>) -> fmt::Result {
+        let text = self.as_str();
+        f.pad(text)
+    }
+}
+
+impl<T: AsciiType> fmt::Debug for AsciiString<T> {
+    fn fmt<W: fmt::Write>(&self, f: &mut fmt::Formatter<W>) -> fmt::Result {
+        let text = self.as_str();
+        write!(f, "{}({text:?})", T::name())
+    }
+}

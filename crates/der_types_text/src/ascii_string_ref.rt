@@ -1,0 +1,203 @@
+//! Borrowed texts of ASCII characters.
+
+ghost use Rattle.std.specs.Prelude.{◌≡◌, ◌↔◌, length, IsTrue, IfOk, [], Some, ⊤};
+ghost use Rattle.std.specs.List.{list_all};
+ghost use Rattle.der_core_head.specs.Leaves.{text};
+ghost use Rattle.der_core_head.specs.Reading.{GivesNow};
+ghost use Rattle.der_core_head.specs.Shapes.{leaf};
+ghost use Rattle.der_core_head.specs.Texts.{is_within, text_read, IsText};
+ghost use Rattle.der_types_text.specs.Texts.{AreWithin, text_from};
+
+use crate::ascii_string::AsciiString;
+use crate::ascii_type::AsciiType;
+use der_core::{
+    DecodeValue, EncodeValue, Error, ErrorKind, FixedTag, Header, Leaf, Length, Reader,
+    ShapedValue, Tag, Writer, read_content, slice_len,
+};
+use std::alloc::{AllocError, Global};
+use std::convert::AsStr;
+use std::fmt;
+use std::marker::PhantomData;
+
+/// Whether all octets are characters of the type.
+fn are_characters<T: AsciiType>(octets: &[u8]) -> bool
+    ensures { result ≡ list_all (is_within T.repertoire) octets.now }
+{
+    octets.iter().all(|octet| T::has_character(*octet))
+}
+
+/// A borrowed text of a character string type whose characters are ASCII.
+#[derive_where(PartialEq, Eq)]
+pub struct AsciiStringRef<'a, T: AsciiType> {
+    /// The characters.
+    pub text: &'a str,
+    pub(crate) kind: PhantomData<T>,
+    ghost within: { AreWithin T.repertoire text.now },
+}
+
+impl<'a, T: AsciiType> Clone for AsciiStringRef<'a, T> {
+    ghost is_clone = { λ s r. r ≡ s };
+
+    ghost is_infallible = { λ _. ⊤ };
+
+    fn clone(&self) -> Result<AsciiStringRef<'a, T>, AllocError> {
+        Ok(*self)
+    }
+}
+
+impl<'a, T: AsciiType> Copy for AsciiStringRef<'a, T> {}
+
+impl<'a, T: AsciiType> AsciiStringRef<'a, T> {
+    /// The text that the octets spell behind a tag.
+    ///
+    /// # Errors
+    /// `Value` with the tag where an octet is no character of the type.
+    #[tactic(auto, unfolding(der_core_head::specs::Texts::text_read))]
+    pub(crate) fn spelled_by(tag: Tag, octets: &'a [u8]) -> Result<AsciiStringRef<'a, T>, Error>
+        ensures ok { IfOk result (λ t. t.text.now ≡ octets.now) }
+        ensures exact { GivesNow (λ t. t.text.now) result (text_read T.repertoire tag octets.now) }
+    {
+        if !are_characters::<T>(octets) {
+            return Err(Error::from(ErrorKind::Value { tag }));
+        }
+        let text = unsafe { str::from_utf8_unchecked(octets) };
+        Ok(AsciiStringRef {
+            text,
+            kind: PhantomData,
+        })
+    }
+
+    /// The text of these octets.
+    ///
+    /// # Errors
+    /// `Overflow` for 2^32 octets or more, `Value` where an octet is no character of the type.
+    pub fn new(input: &'a [u8]) -> Result<AsciiStringRef<'a, T>, Error>
+        ensures ok { IfOk result (λ t. t.text.now ≡ input.now) }
+        ensures exact { GivesNow (λ t. t.text.now) result (text_from T.repertoire T.string_tag input.now) }
+    {
+        slice_len(input)?;
+        let text = AsciiStringRef::spelled_by(T::tag(), input)?;
+        Ok(text)
+    }
+
+    /// The text.
+    pub fn as_str(&self) -> &'a str
+        ensures text { result.now ≡ self.now.text.now }
+        ensures valid { IsText T.repertoire result.now }
+    {
+        self.text
+    }
+
+    /// The octets of the text.
+    pub fn as_bytes(&self) -> &'a [u8]
+        ensures { result.now ≡ self.now.text.now }
+    {
+        self.text.as_bytes()
+    }
+
+    /// The number of octets.
+    pub fn len(&self) -> usize
+        ensures { result ≡ length self.now.text.now }
+    {
+        self.text.len()
+    }
+
+    /// Whether there is no character.
+    pub fn is_empty(&self) -> bool
+        ensures { IsTrue result ↔ (self.now.text.now ≡ []) }
+    {
+        self.text.is_empty()
+    }
+
+    /// The same text, owned.
+    ///
+    /// # Errors
+    /// Want of memory.
+    pub fn ref_to_owned(&self, alloc: Global) -> Result<AsciiString<T>, AllocError>
+        ensures { IfOk result (λ t. t ≡ self.now.text.now) }
+    {
+        AsciiString::from_ref(alloc, *self)
+    }
+}
+
+impl<'a, T: AsciiType> From<&'a AsciiString<T>> for AsciiStringRef<'a, T> {
+    ghost from_gives = { λ s t. t.text.now ≡ s.now };
+
+    fn from(text: &'a AsciiString<T>) -> AsciiStringRef<'a, T> {
+        text.owned_to_ref()
+    }
+}
+
+impl<'a, T: AsciiType> AsStr for AsciiStringRef<'a, T> {
+    ghost text = { λ t. t.text.now };
+
+    fn as_str(&self) -> &str {
+        self.text
+    }
+}
+
+impl<'a, T: AsciiType> FixedTag for AsciiStringRef<'a, T> {
+    ghost fixed_tag = { T.string_tag };
+
+    fn tag() -> Tag
+        ensures { result ≡ T.string_tag }
+    {
+        T::tag()
+    }
+}
+
+impl<'a, T: AsciiType> Leaf<'a> for AsciiStringRef<'a, T> {
+    ghost kind = { text T.repertoire };
+
+    ghost leaf_plain = { λ t. t.text.now };
+
+    fn from_content(
+        _alloc: Global,
+        tag: Tag,
+        octets: &'a [u8],
+    ) -> Result<AsciiStringRef<'a, T>, Error> {
+        let text = AsciiStringRef::spelled_by(tag, octets)?;
+        Ok(text)
+    }
+}
+
+impl<'a, T: AsciiType> ShapedValue for AsciiStringRef<'a, T> {
+    ghost content = { leaf (text T.repertoire) };
+
+    ghost value_plain = { λ t. t.text.now };
+}
+
+impl<'a, T: AsciiType, R: Reader<'a>> DecodeValue<'a, R> for AsciiStringRef<'a, T> {
+    fn decode_value(
+        alloc: Global,
+        reader: &mut R,
+        header: Header,
+    ) -> Result<AsciiStringRef<'a, T>, Error> {
+        let octets = read_content(reader, header)?;
+        Self::from_content(alloc, header.tag, octets)
+    }
+}
+
+impl<'a, T: AsciiType> EncodeValue for AsciiStringRef<'a, T> {
+    fn value_len(&self) -> Result<Length, Error> {
+        slice_len(self.as_bytes())
+    }
+
+    fn encode_value<W: Writer>(&self, writer: &mut W) -> Result<(), Error> {
+        writer.write(self.as_bytes())
+    }
+}
+
+impl<'a, T: AsciiType> fmt::Display for AsciiStringRef<'a, T> {
+    ghost output = { λ t. Some t.text.now };
+
+    fn fmt<W: fmt::Write>(&self, f: &mut fmt::Formatter<W>) -> fmt::Result {
+        f.pad(self.text)
+    }
+}
+
+impl<'a, T: AsciiType> fmt::Debug for AsciiStringRef<'a, T> {
+    fn fmt<W: fmt::Write>(&self, f: &mut fmt::Formatter<W>) -> fmt::Result {
+        write!(f, "{}({:?})", T::name(), self.text)
+    }
+}

@@ -1,0 +1,30 @@
+//! Character string types whose characters are ASCII.
+
+ghost use Rattle.std.specs.Prelude.{◌≡◌, ◌<◌, ℕ, true};
+ghost use Rattle.der_core_head.specs.declared.tag.Tag.{Tag};
+ghost use Rattle.der_core_head.specs.Texts.{Repertoire, is_within};
+
+use der_core::Tag;
+
+/// A character string type whose characters are ASCII, one octet each (X.680 41, X.690 8.23): its
+/// tag, and which characters it has.
+pub trait AsciiType {
+    ghost string_tag: { Tag };
+
+    /// The octets of its characters.
+    ghost repertoire: { Repertoire };
+
+    /// The tag of the type.
+    fn tag() -> Tag
+        ensures { result ≡ string_tag };
+
+    /// The name of the type, with which its `Debug` text begins.
+    fn name() -> &'static str;
+
+    /// Whether an octet is a character of the type.
+    fn has_character(octet: u8) -> bool
+        ensures { result ≡ is_within repertoire octet };
+
+    /// The characters are ASCII.
+    ghost is_ascii: { (b : ℕ) → is_within repertoire b ≡ true → b < 128 };
+}

@@ -1,0 +1,110 @@
+//! GeneralString.
+
+ghost use Rattle.std.specs.Prelude.{◌≡◌, ◌↔◌, length, IsTrue, IfOk, []};
+ghost use Rattle.der_core_head.specs.declared.tag.Tag.TheVariants.{GeneralString};
+ghost use Rattle.der_core_head.specs.Leaves.{text};
+ghost use Rattle.der_core_head.specs.Reading.{GivesNow};
+ghost use Rattle.der_core_head.specs.Shapes.{leaf};
+ghost use Rattle.der_core_head.specs.Texts.{any_octet};
+ghost use Rattle.der_types_text.specs.Texts.{octets_from};
+
+use der_core::{
+    DecodeValue, EncodeValue, Error, FixedTag, Header, Leaf, Length, Reader, ShapedValue, Tag,
+    Writer, decode_leaf, slice_len,
+};
+use std::alloc::Global;
+
+/// A borrowed GeneralString (X.680 41, X.690 8.23.5): any octets, whose character sets are left to
+/// the reader.
+#[derive(Clone, Copy, Debug, PartialEq, Eq)]
+pub struct GeneralStringRef<'a> {
+    /// The octets.
+    pub bytes: &'a [u8],
+}
+
+impl<'a> GeneralStringRef<'a> {
+    /// The string of these octets.
+    ///
+    /// # Errors
+    /// `Overflow` for 2^32 octets or more.
+    pub fn new(bytes: &'a [u8]) -> Result<GeneralStringRef<'a>, Error>
+        ensures ok { IfOk result (λ s. s.bytes.now ≡ bytes.now) }
+        ensures exact { GivesNow (λ s. s.bytes.now) result (octets_from bytes.now) }
+    {
+        slice_len(bytes)?;
+        Ok(GeneralStringRef { bytes })
+    }
+
+    /// The octets.
+    pub fn as_bytes(&self) -> &'a [u8]
+        ensures { result.now ≡ self.now.bytes.now }
+    {
+        self.bytes
+    }
+
+    /// The number of octets.
+    pub fn len(&self) -> usize
+        ensures { result ≡ length self.now.bytes.now }
+    {
+        self.bytes.len()
+    }
+
+    /// Whether there is no octet.
+    pub fn is_empty(&self) -> bool
+        ensures { IsTrue result ↔ (self.now.bytes.now ≡ []) }
+    {
+        self.bytes.is_empty()
+    }
+}
+
+impl<'a> FixedTag for GeneralStringRef<'a> {
+    ghost fixed_tag = { GeneralString };
+
+    fn tag() -> Tag
+        ensures { result ≡ GeneralString }
+    {
+        Tag::GeneralString
+    }
+}
+
+/// Any octets.
+impl<'a> Leaf<'a> for GeneralStringRef<'a> {
+    ghost kind = { text any_octet };
+
+    ghost leaf_plain = { λ s. s.bytes.now };
+
+    #[tactic(auto, using(crate::proofs::AnyTexts::any_read))]
+    fn from_content(
+        _alloc: Global,
+        _tag: Tag,
+        octets: &'a [u8],
+    ) -> Result<GeneralStringRef<'a>, Error> {
+        Ok(GeneralStringRef { bytes: octets })
+    }
+}
+
+impl<'a> ShapedValue for GeneralStringRef<'a> {
+    ghost content = { leaf (text any_octet) };
+
+    ghost value_plain = { λ s. s.bytes.now };
+}
+
+impl<'a, R: Reader<'a>> DecodeValue<'a, R> for GeneralStringRef<'a> {
+    fn decode_value(
+        alloc: Global,
+        reader: &mut R,
+        header: Header,
+    ) -> Result<GeneralStringRef<'a>, Error> {
+        decode_leaf(alloc, reader, header)
+    }
+}
+
+impl<'a> EncodeValue for GeneralStringRef<'a> {
+    fn value_len(&self) -> Result<Length, Error> {
+        slice_len(self.bytes)
+    }
+
+    fn encode_value<W: Writer>(&self, writer: &mut W) -> Result<(), Error> {
+        writer.write(self.bytes)
+    }
+}

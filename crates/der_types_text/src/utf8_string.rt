@@ -1,0 +1,179 @@
+//! UTF8String.
+
+ghost use Rattle.std.specs.Prelude.{◌≡◌, ◌↔◌, length, IsTrue, IfOk, [], Some, string_bytes};
+ghost use Rattle.der_core_head.specs.declared.tag.Tag.TheVariants.{Utf8String};
+ghost use Rattle.der_core_head.specs.Leaves.{utf8};
+ghost use Rattle.der_core_head.specs.Reading.{GivesNow};
+ghost use Rattle.der_core_head.specs.Shapes.{leaf};
+ghost use Rattle.der_core_head.specs.Texts.{utf8_read};
+ghost use Rattle.der_types_text.specs.Texts.{octets_from, utf8_from};
+
+use der_core::{
+    DecodeValue, EncodeValue, Error, ErrorKind, FixedTag, Header, Leaf, Length, Reader,
+    ShapedValue, Tag, Writer, decode_leaf, slice_len,
+};
+use std::alloc::{AllocError, Global};
+use std::convert::AsStr;
+use std::fmt;
+
+/// A borrowed UTF8String (X.680 41, X.690 8.23.10): any characters, in UTF-8.
+///
+/// Its owned form is `String`.
+#[derive(Clone, Copy, PartialEq, Eq)]
+pub struct Utf8StringRef<'a> {
+    /// The characters.
+    pub text: &'a str,
+}
+
+/// The text whose UTF-8 the octets are.
+///
+/// # Errors
+/// `Utf8` where they are none.
+fn utf8_of(octets: &[u8]) -> Result<&str, Error>
+    ensures same { IfOk result (λ s. s.now ≡ octets.now) }
+    ensures exact { GivesNow (λ s. s.now) result (utf8_read octets.now) }
+{
+    match str::from_utf8(octets) {
+        Ok(text) => Ok(text),
+        Err(_) => Err(Error::from(ErrorKind::Utf8)),
+    }
+}
+
+impl<'a> Utf8StringRef<'a> {
+    /// The text of these octets.
+    ///
+    /// # Errors
+    /// `Overflow` for 2^32 octets or more, `Utf8` where they aren't UTF-8.
+    pub fn new(input: &'a [u8]) -> Result<Utf8StringRef<'a>, Error>
+        ensures ok { IfOk result (λ t. t.text.now ≡ input.now) }
+        ensures exact { GivesNow (λ t. t.text.now) result (utf8_from input.now) }
+    {
+        slice_len(input)?;
+        let text = utf8_of(input)?;
+        Ok(Utf8StringRef { text })
+    }
+
+    /// The text.
+    pub fn as_str(&self) -> &'a str
+        ensures { result.now ≡ self.now.text.now }
+    {
+        self.text
+    }
+
+    /// The octets of the text.
+    pub fn as_bytes(&self) -> &'a [u8]
+        ensures { result.now ≡ self.now.text.now }
+    {
+        self.text.as_bytes()
+    }
+
+    /// The number of octets.
+    pub fn len(&self) -> usize
+        ensures { result ≡ length self.now.text.now }
+    {
+        self.text.len()
+    }
+
+    /// Whether there is no character.
+    pub fn is_empty(&self) -> bool
+        ensures { IsTrue result ↔ (self.now.text.now ≡ []) }
+    {
+        self.text.is_empty()
+    }
+
+    /// The same text, owned.
+    ///
+    /// # Errors
+    /// Want of memory.
+    pub fn ref_to_owned(&self, alloc: Global) -> Result<String, AllocError>
+        ensures { IfOk result (λ s. string_bytes s ≡ self.now.text.now) }
+    {
+        String::from_str(alloc, self.text)
+    }
+}
+
+/// The same text, where a length can count its octets.
+impl<'a> TryFrom<&'a str> for Utf8StringRef<'a> {
+    type Error = Error;
+
+    ghost try_from_gives = { λ s r. GivesNow (λ t. t.text.now) r (octets_from s.now) };
+
+    fn try_from(text: &'a str) -> Result<Utf8StringRef<'a>, Error> {
+        slice_len(text.as_bytes())?;
+        Ok(Utf8StringRef { text })
+    }
+}
+
+impl<'a> AsStr for Utf8StringRef<'a> {
+    ghost text = { λ t. t.text.now };
+
+    fn as_str(&self) -> &str {
+        self.text
+    }
+}
+
+impl<'a> FixedTag for Utf8StringRef<'a> {
+    ghost fixed_tag = { Utf8String };
+
+    fn tag() -> Tag
+        ensures { result ≡ Utf8String }
+    {
+        Tag::Utf8String
+    }
+}
+
+/// The octets of the text.
+impl<'a> Leaf<'a> for Utf8StringRef<'a> {
+    ghost kind = { utf8 };
+
+    ghost leaf_plain = { λ t. t.text.now };
+
+    fn from_content(
+        _alloc: Global,
+        _tag: Tag,
+        octets: &'a [u8],
+    ) -> Result<Utf8StringRef<'a>, Error> {
+        let text = utf8_of(octets)?;
+        Ok(Utf8StringRef { text })
+    }
+}
+
+impl<'a> ShapedValue for Utf8StringRef<'a> {
+    ghost content = { leaf utf8 };
+
+    ghost value_plain = { λ t. t.text.now };
+}
+
+impl<'a, R: Reader<'a>> DecodeValue<'a, R> for Utf8StringRef<'a> {
+    fn decode_value(
+        alloc: Global,
+        reader: &mut R,
+        header: Header,
+    ) -> Result<Utf8StringRef<'a>, Error> {
+        decode_leaf(alloc, reader, header)
+    }
+}
+
+impl<'a> EncodeValue for Utf8StringRef<'a> {
+    fn value_len(&self) -> Result<Length, Error> {
+        slice_len(self.as_bytes())
+    }
+
+    fn encode_value<W: Writer>(&self, writer: &mut W) -> Result<(), Error> {
+        writer.write(self.as_bytes())
+    }
+}
+
+impl<'a> fmt::Display for Utf8StringRef<'a> {
+    ghost output = { λ t. Some t.text.now };
+
+    fn fmt<W: fmt::Write>(&self, f: &mut fmt::Formatter<W>) -> fmt::Result {
+        f.pad(self.text)
+    }
+}
+
+impl<'a> fmt::Debug for Utf8StringRef<'a> {
+    fn fmt<W: fmt::Write>(&self, f: &mut fmt::Formatter<W>) -> fmt::Result {
+        write!(f, "Utf8String({:?})", self.text)
+    }
+}

@@ -1,0 +1,38 @@
+//! VideotexString.
+
+ghost use Rattle.std.specs.Prelude.{◌≡◌};
+ghost use Rattle.der_core_head.specs.declared.tag.Tag.TheVariants.{VideotexString as VideotexStringTag};
+ghost use Rattle.der_core_head.specs.Texts.{ascii};
+ghost use Rattle.der_types_text.specs.Texts.{ascii_below};
+
+use crate::ascii_string_ref::AsciiStringRef;
+use crate::ascii_type::AsciiType;
+use der_core::Tag;
+
+/// The characters of VideotexString (X.680 41): of its code pages the octets below 80 hex, which are
+/// read as ASCII. Other octets are refused.
+#[derive(Clone, Copy, Debug, PartialEq, Eq)]
+pub struct Videotex;
+
+/// A borrowed VideotexString (X.680 41, X.690 8.23.5).
+pub type VideotexStringRef<'a> = AsciiStringRef<'a, Videotex>;
+
+impl AsciiType for Videotex {
+    ghost string_tag = { VideotexStringTag };
+
+    ghost repertoire = { ascii };
+
+    ghost is_ascii = { ascii_below };
+
+    fn tag() -> Tag {
+        Tag::VideotexString
+    }
+
+    fn name() -> &'static str {
+        "VideotexString"
+    }
+
+    fn has_character(octet: u8) -> bool {
+        octet.is_ascii()
+    }
+}

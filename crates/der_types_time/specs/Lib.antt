@@ -1,0 +1,4 @@
+pub mod Seconds
+pub mod DateTimes
+pub mod Times
+pub mod DateTexts

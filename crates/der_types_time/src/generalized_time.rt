@@ -1,0 +1,156 @@
+//! GeneralizedTime.
+
+ghost use Rattle.std.specs.Prelude.{◌≡◌, ◌*◌, ◌/◌, ◌<◌, ◌↔◌, IsOk, IfOk, IfErr};
+ghost use Rattle.std.specs.Duration.{as_nanos};
+ghost use Rattle.der_core_head.specs.Dates.{generalized_octets};
+ghost use Rattle.der_core_head.specs.declared.tag.Tag.TheVariants.{GeneralizedTime as GeneralizedTimeTag};
+ghost use Rattle.der_core_head.specs.Leaves.{generalized_time};
+ghost use Rattle.der_core_head.specs.Shapes.{leaf};
+ghost use Rattle.der_types_time.specs.Seconds.{unix_seconds};
+
+use crate::date_text::{date_of, two, two_digits};
+use crate::date_time::DateTime;
+use der_core::{
+    DecodeValue, EncodeValue, Error, ErrorKind, FixedTag, Header, Leaf, Length, Reader,
+    ShapedValue, Tag, Writer, decode_leaf,
+};
+use std::alloc::Global;
+use std::marker::Model;
+use std::time::Duration;
+
+/// GeneralizedTime (X.690 11.7, RFC 5280 4.1.2.5.2): `YYYYMMDDHHMMSSZ`, from 1970 to 9999.
+#[derive(Clone, Copy, Debug, PartialEq, Eq)]
+pub struct GeneralizedTime {
+    date_time: DateTime,
+}
+
+impl Model for GeneralizedTime {
+    ghost use Rattle.der_core_head.specs.Dates.{Civil};
+
+    ghost Value = { Civil };
+
+    ghost use Rattle.der_types_time.specs.Times.{generalized_civil, generalized_of};
+
+    ghost view = { generalized_civil };
+
+    ghost inverse = { generalized_of };
+}
+
+impl GeneralizedTime {
+    /// The number of content octets.
+    pub const LENGTH: usize = 15;
+
+    /// The time of a date.
+    pub fn from_date_time(date_time: DateTime) -> GeneralizedTime
+        ensures { result ≡ date_time }
+    {
+        GeneralizedTime { date_time }
+    }
+
+    /// The date.
+    pub fn to_date_time(&self) -> DateTime
+        ensures { result ≡ self.now }
+    {
+        self.date_time
+    }
+
+    /// The time so long after 1970-01-01T00:00:00Z; a fraction of a second is left out.
+    ///
+    /// # Errors
+    /// `DateTime` after 9999-12-31T23:59:59Z.
+    pub fn from_unix_duration(duration: Duration) -> Result<GeneralizedTime, Error>
+        ensures range { IsOk result ↔ (as_nanos duration < 253_402_300_800_000_000_000) }
+        ensures ok { IfOk result (λ t. unix_seconds t ≡ as_nanos duration / 1_000_000_000) }
+        ensures err { IfErr result (λ e. e.kind ≡ ErrorKind.DateTime) }
+    {
+        let date_time = DateTime::from_unix_duration(duration)?;
+        Ok(GeneralizedTime { date_time })
+    }
+
+    /// The time since 1970-01-01T00:00:00Z, leap seconds left out.
+    pub fn to_unix_duration(&self) -> Duration
+        ensures { as_nanos result ≡ unix_seconds self.now * 1_000_000_000 }
+    {
+        self.date_time.unix_duration()
+    }
+
+    /// The content octets.
+    #[tactic(auto, unfolding(der_core_head::specs::Dates::generalized_octets))]
+    pub(crate) fn to_content(&self) -> [u8; 15]
+        ensures { result ≡ generalized_octets self.now }
+    {
+        let date = self.date_time;
+        let [c1, c2] = two_digits((date.year() / 100) as u8);
+        let [y1, y2] = two_digits((date.year() % 100) as u8);
+        let [m1, m2] = two_digits(date.month());
+        let [d1, d2] = two_digits(date.day());
+        let [h1, h2] = two_digits(date.hour());
+        let [n1, n2] = two_digits(date.minutes());
+        let [s1, s2] = two_digits(date.seconds());
+        [c1, c2, y1, y2, m1, m2, d1, d2, h1, h2, n1, n2, s1, s2, b'Z']
+    }
+}
+
+impl FixedTag for GeneralizedTime {
+    ghost fixed_tag = { GeneralizedTimeTag };
+
+    fn tag() -> Tag {
+        Tag::GeneralizedTime
+    }
+}
+
+/// `YYYYMMDDHHMMSSZ`.
+impl<'a> Leaf<'a> for GeneralizedTime {
+    ghost kind = { generalized_time };
+
+    ghost leaf_plain = { λ x. x };
+
+    #[tactic(auto, unfolding(der_core_head::specs::Dates::generalized_read))]
+    fn from_content(_alloc: Global, tag: Tag, octets: &'a [u8]) -> Result<GeneralizedTime, Error> {
+        let Some((century, rest)) = two(octets) else {
+            return Err(Error::from(ErrorKind::Value { tag }));
+        };
+        let Some((year, rest)) = two(rest) else {
+            return Err(Error::from(ErrorKind::Value { tag }));
+        };
+        let Some(date_time) = date_of(100 * u16::from(century) + u16::from(year), rest) else {
+            return Err(Error::from(ErrorKind::Value { tag }));
+        };
+        Ok(GeneralizedTime { date_time })
+    }
+}
+
+impl ShapedValue for GeneralizedTime {
+    ghost content = { leaf (generalized_time) };
+
+    ghost value_plain = { λ x. x };
+}
+
+impl<'a, R: Reader<'a>> DecodeValue<'a, R> for GeneralizedTime {
+    fn decode_value(
+        alloc: Global,
+        reader: &mut R,
+        header: Header,
+    ) -> Result<GeneralizedTime, Error> {
+        decode_leaf(alloc, reader, header)
+    }
+}
+
+impl EncodeValue for GeneralizedTime {
+    #[tactic(auto, unfolding(der_core_head::specs::Dates::generalized_octets))]
+    fn value_len(&self) -> Result<Length, Error> {
+        Ok(Length { value: 15 })
+    }
+
+    fn encode_value<W: Writer>(&self, writer: &mut W) -> Result<(), Error> {
+        writer.write(&self.to_content())
+    }
+}
+
+impl From<DateTime> for GeneralizedTime {
+    ghost from_gives = { λ date_time t. t ≡ date_time };
+
+    fn from(date_time: DateTime) -> GeneralizedTime {
+        GeneralizedTime { date_time }
+    }
+}

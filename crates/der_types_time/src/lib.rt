@@ -1,0 +1,14 @@
+//! Civil dates, and the times of DER.
+#![tactic(auto)]
+
+mod date_text;
+mod date_time;
+mod generalized_time;
+#[cfg(test)]
+mod tests;
+mod utc_time;
+
+pub use date_text::const_contains_u8;
+pub use date_time::DateTime;
+pub use generalized_time::GeneralizedTime;
+pub use utc_time::UtcTime;

@@ -1,0 +1,168 @@
+//! UTCTime.
+
+ghost use Rattle.std.specs.Prelude.{◌≡◌, ◌*◌, ◌/◌, ◌<◌, ◌≤◌, ◌↔◌, Ok, IsOk, IfOk, IfErr, OnErr};
+ghost use Rattle.std.specs.Duration.{as_nanos};
+ghost use Rattle.der_core_head.specs.Dates.{IsUtc, utc_octets};
+ghost use Rattle.der_core_head.specs.declared.tag.Tag.TheVariants.{UtcTime as UtcTimeTag};
+ghost use Rattle.der_core_head.specs.Leaves.{utc_time};
+ghost use Rattle.der_core_head.specs.Shapes.{leaf};
+ghost use Rattle.der_types_time.specs.Seconds.{unix_seconds};
+
+use crate::date_text::{date_of, two, two_digits};
+use crate::date_time::DateTime;
+use der_core::{
+    DecodeValue, EncodeValue, Error, ErrorKind, FixedTag, Header, Leaf, Length, Reader,
+    ShapedValue, Tag, Writer, decode_leaf,
+};
+use std::alloc::Global;
+use std::marker::Model;
+use std::time::Duration;
+
+/// UTCTime (X.690 11.8, RFC 5280 4.1.2.5.1): `YYMMDDHHMMSSZ`, from 1970 to 2049.
+///
+/// The years 00 to 49 are those from 2000, 70 to 99 those from 1970; 50 to 69 are refused.
+#[derive(Clone, Copy, Debug, PartialEq, Eq)]
+pub struct UtcTime {
+    date_time: DateTime,
+}
+
+impl Model for UtcTime {
+    ghost use Rattle.der_core_head.specs.Dates.{Civil};
+
+    ghost Value = { Civil };
+
+    ghost use Rattle.der_types_time.specs.Times.{utc_civil, IsUtcTime, utc_of};
+
+    ghost view = { utc_civil };
+
+    ghost invariant = { IsUtcTime };
+
+    ghost inverse = { utc_of };
+}
+
+impl UtcTime {
+    /// The number of content octets.
+    pub const LENGTH: usize = 13;
+
+    /// The last year that UTCTime spells.
+    pub const MAX_YEAR: u16 = 2049;
+
+    /// The time of a date.
+    ///
+    /// # Errors
+    /// `Value` for a year after 2049.
+    pub fn from_date_time(date_time: DateTime) -> Result<UtcTime, Error>
+        ensures years { IsOk result ↔ (date_time.year ≤ 2049) }
+        ensures seconds { IsOk result ↔ (unix_seconds date_time < 2_524_608_000) }
+        ensures ok { IfOk result (λ t. t ≡ date_time) }
+        ensures err { IfErr result (λ e. e.kind ≡ ErrorKind.Value Tag.UtcTime) }
+    {
+        if !date_time.is_before_2050() {
+            return Err(Error::from(ErrorKind::Value { tag: Tag::UtcTime }));
+        }
+        Ok(UtcTime { date_time })
+    }
+
+    /// The date.
+    pub fn to_date_time(&self) -> DateTime
+        ensures { result ≡ self.now }
+    {
+        self.date_time
+    }
+
+    /// The time so long after 1970-01-01T00:00:00Z; a fraction of a second is left out.
+    ///
+    /// # Errors
+    /// `DateTime` after 9999-12-31T23:59:59Z, `Value` for a year after 2049.
+    pub fn from_unix_duration(duration: Duration) -> Result<UtcTime, Error>
+        ensures range { IsOk result ↔ (as_nanos duration < 2_524_608_000_000_000_000) }
+        ensures ok { IfOk result (λ t. unix_seconds t ≡ as_nanos duration / 1_000_000_000) }
+    {
+        let date_time = DateTime::from_unix_duration(duration)?;
+        UtcTime::from_date_time(date_time)
+    }
+
+    /// The time since 1970-01-01T00:00:00Z, leap seconds left out.
+    pub fn to_unix_duration(&self) -> Duration
+        ensures { as_nanos result ≡ unix_seconds self.now * 1_000_000_000 }
+    {
+        self.date_time.unix_duration()
+    }
+
+    /// The content octets.
+    #[tactic(auto, unfolding(der_core_head::specs::Dates::utc_octets))]
+    pub(crate) fn to_content(&self) -> [u8; 13]
+        ensures { result ≡ utc_octets self.now }
+    {
+        let date = self.date_time;
+        let [y1, y2] = two_digits((date.year() % 100) as u8);
+        let [m1, m2] = two_digits(date.month());
+        let [d1, d2] = two_digits(date.day());
+        let [h1, h2] = two_digits(date.hour());
+        let [n1, n2] = two_digits(date.minutes());
+        let [s1, s2] = two_digits(date.seconds());
+        [y1, y2, m1, m2, d1, d2, h1, h2, n1, n2, s1, s2, b'Z']
+    }
+}
+
+impl FixedTag for UtcTime {
+    ghost fixed_tag = { UtcTimeTag };
+
+    fn tag() -> Tag {
+        Tag::UtcTime
+    }
+}
+
+/// `YYMMDDHHMMSSZ`.
+impl<'a> Leaf<'a> for UtcTime {
+    ghost kind = { utc_time };
+
+    ghost leaf_plain = { λ x. x };
+
+    #[tactic(auto, unfolding(der_core_head::specs::Dates::utc_read))]
+    fn from_content(_alloc: Global, tag: Tag, octets: &'a [u8]) -> Result<UtcTime, Error> {
+        let Some((year, rest)) = two(octets) else {
+            return Err(Error::from(ErrorKind::Value { tag }));
+        };
+        let century = if year < 50 { 2000 } else { 1900 };
+        let Some(date_time) = date_of(century + u16::from(year), rest) else {
+            return Err(Error::from(ErrorKind::Value { tag }));
+        };
+        Ok(UtcTime { date_time })
+    }
+}
+
+impl ShapedValue for UtcTime {
+    ghost content = { leaf (utc_time) };
+
+    ghost value_plain = { λ x. x };
+}
+
+impl<'a, R: Reader<'a>> DecodeValue<'a, R> for UtcTime {
+    fn decode_value(alloc: Global, reader: &mut R, header: Header) -> Result<UtcTime, Error> {
+        decode_leaf(alloc, reader, header)
+    }
+}
+
+impl EncodeValue for UtcTime {
+    #[tactic(auto, unfolding(der_core_head::specs::Dates::utc_octets))]
+    fn value_len(&self) -> Result<Length, Error> {
+        Ok(Length { value: 13 })
+    }
+
+    fn encode_value<W: Writer>(&self, writer: &mut W) -> Result<(), Error> {
+        writer.write(&self.to_content())
+    }
+}
+
+impl TryFrom<DateTime> for UtcTime {
+    ghost use Rattle.der_types_time.specs.Times.{MakesUtcTime};
+
+    type Error = Error;
+
+    ghost try_from_gives = { MakesUtcTime };
+
+    fn try_from(date_time: DateTime) -> Result<UtcTime, Error> {
+        UtcTime::from_date_time(date_time)
+    }
+}

@@ -1,0 +1,8 @@
+mod LastOctet
+mod AllBits
+mod Puts
+mod BitRuns
+mod Shorter
+mod Naturals
+mod AnyLaws
+mod Converted

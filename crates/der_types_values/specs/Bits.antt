@@ -1,0 +1,17 @@
+-- The bits of octets (X.690 8.6.2): the first is the most significant one of the first octet.
+use Rattle.std.specs.Prelude.{ℕ, ◌*◌, ◌-◌, ◌/◌, ◌%◌, ◌^◌, Bool, List, length, map, ◌==◌}
+use Rattle.std.proofs.Common.{get_or}
+use Rattle.std.specs.List.{range_with_len}
+use Rattle.der_core_head.specs.BitStrings.{Bits}
+
+-- the bit at a place, counted from 0
+abbrev pub bit_at : List ℕ → ℕ → Bool
+bit_at w i = (get_or w (i / 8) 0 / 2 ^ (7 - i % 8)) % 2 == 1
+
+-- how many bits count
+abbrev pub bit_count : Bits → ℕ
+bit_count b = 8 * length b.octets - b.unused
+
+-- those bits, in order
+abbrev pub bit_list : Bits → List Bool
+bit_list b = map (bit_at b.octets) (range_with_len 0 (bit_count b))

@@ -1,0 +1,39 @@
+//! Bit strings of some lengths alone.
+
+ghost use Rattle.std.specs.Prelude.{◌≡◌, ◌≤◌, ◌↔◌, ℕ, IsOk, IfErr};
+
+use der_core::{Error, ErrorKind, Tag};
+
+/// A BIT STRING whose number of bits is bounded (X.680 51.5).
+pub trait AllowedLenBitString {
+    /// The least number of bits.
+    ghost least: { ℕ };
+
+    /// The greatest number of bits.
+    ghost greatest: { ℕ };
+
+    /// The least number of bits.
+    fn min_bit_len() -> u16
+        ensures { result ≡ least };
+
+    /// The greatest number of bits.
+    fn max_bit_len() -> u16
+        ensures { result ≡ greatest };
+
+    /// That a number of bits is within the bounds.
+    ///
+    /// # Errors
+    /// `Length` where it is not.
+    fn check_bit_len(bit_len: u16) -> Result<(), Error>
+        ensures within { IsOk result ↔ ((least ≤ bit_len) × (bit_len ≤ greatest)) }
+        ensures refused { IfErr result (λ e. e.kind ≡ ErrorKind.Length Tag.BitString) }
+    {
+        if Self::min_bit_len() <= bit_len && bit_len <= Self::max_bit_len() {
+            Ok(())
+        } else {
+            Err(Error::from(ErrorKind::Length {
+                tag: Tag::BitString,
+            }))
+        }
+    }
+}

@@ -1,0 +1,170 @@
+//! OCTET STRING.
+
+ghost use Rattle.std.specs.Prelude.{◌≡◌, ◌<◌, ◌≤◌, ◌^◌, ◌↔◌, [], length, vec_len, nat_eq, IsTrue, IfOk, IfErr};
+ghost use Rattle.std.specs.Cmp.{partial_equiv_from_equiv};
+ghost use Rattle.std.specs.Cmp.Lexicographic.{pointwise, nat_list_eq_equiv};
+ghost use Rattle.der_core_head.specs.declared.tag.Tag.TheVariants.{OctetString as OctetStringTag};
+ghost use Rattle.der_core_head.specs.Leaves.{octets};
+ghost use Rattle.der_core_head.specs.Shapes.{leaf};
+ghost use Rattle.der_types_values.specs.OctetStrings.{octets_lent};
+
+use crate::octet_string_ref::OctetStringRef;
+use der_core::{
+    DecodeValue, EncodeValue, Error, ErrorKind, FixedTag, Header, Leaf, Length, Reader,
+    ShapedValue, Tag, Writer, decode_leaf, slice_len,
+};
+use std::alloc::{AllocError, Global};
+use std::marker::Model;
+
+/// OCTET STRING (X.690 8.7): any octets, fewer than 2^32.
+///
+/// Contracts see the octets.
+#[derive(Debug, Drop)]
+pub struct OctetString {
+    bytes: Vec<u8>,
+}
+
+impl Model for OctetString {
+    ghost use Rattle.std.specs.Prelude.{List, ℕ};
+
+    ghost Value = { List ℕ };
+
+    ghost use Rattle.der_types_values.specs.OctetStrings.{octets_kept, IsOctetString};
+
+    ghost view = { octets_kept };
+
+    ghost invariant = { IsOctetString };
+}
+
+impl OctetString {
+    /// These octets.
+    ///
+    /// # Errors
+    /// `Overflow` for 2^32 octets or more.
+    pub fn new(bytes: Vec<u8>) -> Result<OctetString, Error>
+        ensures ok { IfOk result (λ o. (vec_len bytes < 2 ^ 32) × (o ≡ bytes.items)) }
+        ensures err { IfErr result (λ e. (2 ^ 32 ≤ vec_len bytes) × (e.kind ≡ ErrorKind.Overflow)) }
+    {
+        if bytes.len() > 0xffff_ffff {
+            return Err(Error::from(ErrorKind::Overflow));
+        }
+        Ok(OctetString { bytes })
+    }
+
+    /// The octets of a borrowed one.
+    pub(crate) fn copy_of(
+        alloc: Global,
+        lent: &OctetStringRef<'_>,
+    ) -> Result<OctetString, AllocError>
+        ensures { IfOk result (λ o. o ≡ octets_lent lent.now) }
+    {
+        let bytes = lent.as_bytes().to_vec(alloc)?;
+        Ok(OctetString { bytes })
+    }
+
+    /// A copy.
+    ///
+    /// # Errors
+    /// Want of memory.
+    pub fn clone(&self, alloc: Global) -> Result<OctetString, AllocError>
+        ensures { IfOk result (λ o. o ≡ self.now) }
+    {
+        let bytes = self.bytes.as_slice().to_vec(alloc)?;
+        Ok(OctetString { bytes })
+    }
+
+    /// The octets.
+    pub fn as_bytes(&self) -> &[u8]
+        ensures { result.now ≡ self.now }
+    {
+        self.bytes.as_slice()
+    }
+
+    /// The octets, given back.
+    pub fn into_bytes(self) -> Vec<u8>
+        ensures { result.items ≡ self }
+    {
+        let OctetString { bytes } = self;
+        bytes
+    }
+
+    /// The number of octets.
+    pub fn len(&self) -> Length
+        ensures { result.value ≡ length self.now }
+    {
+        Length {
+            value: self.bytes.len() as u32,
+        }
+    }
+
+    /// Whether there are no octets.
+    pub fn is_empty(&self) -> bool
+        ensures { IsTrue result ↔ (self.now ≡ []) }
+    {
+        self.bytes.is_empty()
+    }
+
+    /// The same octets, lent.
+    pub fn owned_to_ref(&self) -> OctetStringRef<'_>
+        ensures { octets_lent result ≡ self.now }
+    {
+        OctetStringRef::trusted(self.bytes.as_slice())
+    }
+}
+
+/// Whether the octets are equal.
+impl PartialEq for OctetString {
+    ghost eq = { pointwise nat_eq };
+
+    ghost laws = { partial_equiv_from_equiv nat_list_eq_equiv };
+
+    fn eq(&self, other: &Self) -> bool {
+        self.as_bytes() == other.as_bytes()
+    }
+}
+
+impl Eq for OctetString {
+    ghost laws = { nat_list_eq_equiv };
+}
+
+impl FixedTag for OctetString {
+    ghost fixed_tag = { OctetStringTag };
+
+    fn tag() -> Tag {
+        Tag::OctetString
+    }
+}
+
+/// The octets.
+impl<'a> Leaf<'a> for OctetString {
+    ghost kind = { octets };
+
+    ghost leaf_plain = { λ x. x };
+
+    fn from_content(alloc: Global, _tag: Tag, octets: &'a [u8]) -> Result<OctetString, Error> {
+        let bytes = octets.to_vec(alloc)?;
+        Ok(OctetString { bytes })
+    }
+}
+
+impl ShapedValue for OctetString {
+    ghost content = { leaf octets };
+
+    ghost value_plain = { λ x. x };
+}
+
+impl<'a, R: Reader<'a>> DecodeValue<'a, R> for OctetString {
+    fn decode_value(alloc: Global, reader: &mut R, header: Header) -> Result<OctetString, Error> {
+        decode_leaf(alloc, reader, header)
+    }
+}
+
+impl EncodeValue for OctetString {
+    fn value_len(&self) -> Result<Length, Error> {
+        slice_len(self.as_bytes())
+    }
+
+    fn encode_value<W: Writer>(&self, writer: &mut W) -> Result<(), Error> {
+        writer.write(self.as_bytes())
+    }
+}

@@ -1,0 +1,168 @@
+//! OCTET STRING, borrowed.
+
+ghost use Rattle.std.specs.Prelude.{◌≡◌, ◌<◌, ◌≤◌, ◌^◌, ◌↔◌, [], length, true, Ok, IsTrue, IfOk, IfErr, MatchResult};
+ghost use Rattle.der_core_head.specs.declared.tag.Tag.TheVariants.{OctetString as OctetStringTag};
+ghost use Rattle.der_core_head.specs.Leaves.{octets};
+ghost use Rattle.der_core_head.specs.Shapes.{leaf, Value, Spells};
+ghost use Rattle.der_core_head.specs.Spelling.{is_apart, are_enough};
+ghost use Rattle.der_core_head.specs.Grammar.{whole_at};
+ghost use Rattle.der_core_head.specs.Reading.{Gives};
+
+use crate::octet_string::OctetString;
+use der_core::{
+    Decode, DecodeValue, EncodeValue, Error, ErrorKind, FixedTag, Header, Leaf, Length, Reader,
+    ShapedValue, SliceReader, Tag, Writer, decode_leaf, from_der, slice_len,
+};
+use std::alloc::{AllocError, Global};
+
+/// OCTET STRING (X.690 8.7): any octets, fewer than 2^32, lent.
+#[derive(Clone, Copy, Debug, PartialEq, Eq)]
+pub struct OctetStringRef<'a> {
+    bytes: &'a [u8],
+    ghost short: { length bytes.now < 2 ^ 32 },
+}
+
+impl<'a> OctetStringRef<'a> {
+    ghost use Rattle.der_types_values.specs.OctetStrings.{octets_lent};
+
+    /// These octets.
+    ///
+    /// # Errors
+    /// `Overflow` for 2^32 octets or more.
+    pub fn new(bytes: &'a [u8]) -> Result<OctetStringRef<'a>, Error>
+        ensures ok { IfOk result (λ o. (length bytes.now < 2 ^ 32) × (octets_lent o ≡ bytes.now)) }
+        ensures err { IfErr result (λ e. (2 ^ 32 ≤ length bytes.now) × (e.kind ≡ ErrorKind.Overflow)) }
+    {
+        if bytes.len() > 0xffff_ffff {
+            return Err(Error::from(ErrorKind::Overflow));
+        }
+        Ok(OctetStringRef { bytes })
+    }
+
+    /// Octets that are known to be few enough.
+    pub(crate) fn trusted(bytes: &'a [u8]) -> OctetStringRef<'a>
+        requires { length bytes.now < 2 ^ 32 }
+        ensures { octets_lent result ≡ bytes.now }
+    {
+        OctetStringRef { bytes }
+    }
+
+    /// The octets.
+    pub fn as_bytes(&self) -> &'a [u8]
+        ensures octets { result.now ≡ octets_lent self.now }
+        ensures short { length result.now < 2 ^ 32 }
+    {
+        self.bytes
+    }
+
+    /// The number of octets.
+    pub fn len(&self) -> Length
+        ensures { result.value ≡ length (octets_lent self.now) }
+    {
+        Length {
+            value: self.bytes.len() as u32,
+        }
+    }
+
+    /// Whether there are no octets.
+    pub fn is_empty(&self) -> bool
+        ensures { IsTrue result ↔ (octets_lent self.now ≡ []) }
+    {
+        self.bytes.is_empty()
+    }
+
+    /// The value that the octets spell, all of the octets.
+    ///
+    /// # Errors
+    /// The first fault from the left, `TrailingData` where octets are left behind the value, or
+    /// `OutOfMemory`.
+    pub fn decode_into<T: Decode<'a, SliceReader<'a>>>(&self, alloc: Global) -> Result<T, Error>
+        // What is read is spelled so.
+        ensures spelled { is_apart T.shape ≡ true → IfOk result (λ v. Spells T.shape (T.plain v) (octets_lent self.now)) }
+        // What is spelled so is read, unless memory runs out.
+        ensures only { (v : Value T.shape) → is_apart T.shape ≡ true → are_enough T.shape 64 ≡ true
+            → Spells T.shape v (octets_lent self.now) → Gives T.plain result (Ok v) }
+        // Which fault it is.
+        ensures exact { Gives (λ v. (T.plain v, [])) result (whole_at T.shape (octets_lent self.now)) }
+    {
+        from_der(alloc, self.bytes)
+    }
+
+    /// The same octets, owned.
+    ///
+    /// # Errors
+    /// Want of memory.
+    pub fn ref_to_owned(&self, alloc: Global) -> Result<OctetString, AllocError>
+        ensures { IfOk result (λ o. o ≡ octets_lent self.now) }
+    {
+        OctetString::copy_of(alloc, self)
+    }
+}
+
+/// The octets of a slice, fewer than 2^32.
+impl<'a> TryFrom<&'a [u8]> for OctetStringRef<'a> {
+    ghost use Rattle.std.specs.Prelude.{◌≡◌, ◌<◌, ◌≤◌, ◌^◌, length, MatchResult};
+    ghost use Rattle.der_core_head.specs.declared.error.ErrorKind.TheVariants as kinds;
+    ghost use Rattle.der_types_values.specs.OctetStrings.{octets_lent};
+
+    type Error = Error;
+
+    ghost try_from_gives = { λ bytes r. MatchResult r (λ o. octets_lent o ≡ bytes.now) (λ e. (2 ^ 32 ≤ length bytes.now) × (e.kind ≡ kinds.Overflow)) };
+
+    fn try_from(bytes: &'a [u8]) -> Result<OctetStringRef<'a>, Error> {
+        OctetStringRef::new(bytes)
+    }
+}
+
+impl<'a> FixedTag for OctetStringRef<'a> {
+    ghost fixed_tag = { OctetStringTag };
+
+    fn tag() -> Tag
+        ensures { result ≡ OctetStringTag }
+    {
+        Tag::OctetString
+    }
+}
+
+/// The octets.
+impl<'a> Leaf<'a> for OctetStringRef<'a> {
+    ghost kind = { octets };
+
+    ghost leaf_plain = { λ o. o.bytes.now };
+
+    fn from_content(
+        _alloc: Global,
+        _tag: Tag,
+        octets: &'a [u8],
+    ) -> Result<OctetStringRef<'a>, Error> {
+        Ok(OctetStringRef { bytes: octets })
+    }
+}
+
+impl<'a> ShapedValue for OctetStringRef<'a> {
+    ghost use Rattle.der_types_values.specs.OctetStrings.{octets_lent};
+
+    ghost content = { leaf octets };
+
+    ghost value_plain = { octets_lent };
+}
+
+impl<'a, R: Reader<'a>> DecodeValue<'a, R> for OctetStringRef<'a> {
+    fn decode_value(
+        alloc: Global,
+        reader: &mut R,
+        header: Header,
+    ) -> Result<OctetStringRef<'a>, Error> {
+        decode_leaf(alloc, reader, header)
+    }
+}
+
+impl<'a> EncodeValue for OctetStringRef<'a> {
+    fn value_len(&self) -> Result<Length, Error> {
+        slice_len(self.bytes)
+    }
+
+    fn encode_value<W: Writer>(&self, writer: &mut W) -> Result<(), Error> {
+        writer.write(self.bytes)
+    }
+}

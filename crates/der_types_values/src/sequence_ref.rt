@@ -1,0 +1,115 @@
+//! SEQUENCE, as it stands, borrowed.
+
+ghost use Rattle.std.specs.Prelude.{◌≡◌, ◌<◌, ◌≤◌, ◌^◌, length, IfOk, IfErr};
+ghost use Rattle.der_core_head.specs.declared.tag.Tag.TheVariants.{Sequence as SequenceTag};
+ghost use Rattle.der_core_head.specs.Leaves.{octets};
+ghost use Rattle.der_core_head.specs.Shapes.{leaf};
+
+use der_core::{
+    DecodeValue, EncodeValue, Error, ErrorKind, FixedTag, Header, Leaf, Length, Reader,
+    ShapedValue, Tag, Writer, decode_leaf, slice_len,
+};
+use std::alloc::Global;
+
+/// A type of SEQUENCEs (X.690 8.9, 8.10).
+pub trait Sequence: FixedTag {
+    ghost is_sequence: { Self.fixed_tag ≡ SequenceTag };
+}
+
+/// SEQUENCE (X.690 8.9): the octets of its content, fewer than 2^32, which aren't looked into; lent.
+#[derive(Clone, Copy, Debug, PartialEq, Eq)]
+pub struct SequenceRef<'a> {
+    bytes: &'a [u8],
+    ghost short: { length bytes.now < 2 ^ 32 },
+}
+
+impl<'a> SequenceRef<'a> {
+    ghost use Rattle.der_types_values.specs.Sequences.{fields_lent};
+
+    /// The SEQUENCE of this content.
+    ///
+    /// # Errors
+    /// `Overflow` for 2^32 octets or more.
+    pub fn new(bytes: &'a [u8]) -> Result<SequenceRef<'a>, Error>
+        ensures ok { IfOk result (λ s. (length bytes.now < 2 ^ 32) × (fields_lent s ≡ bytes.now)) }
+        ensures err { IfErr result (λ e. (2 ^ 32 ≤ length bytes.now) × (e.kind ≡ ErrorKind.Overflow)) }
+    {
+        if bytes.len() > 0xffff_ffff {
+            return Err(Error::from(ErrorKind::Overflow));
+        }
+        Ok(SequenceRef { bytes })
+    }
+
+    /// Octets that are known to be few enough.
+    pub(crate) fn trusted(bytes: &'a [u8]) -> SequenceRef<'a>
+        requires { length bytes.now < 2 ^ 32 }
+        ensures { fields_lent result ≡ bytes.now }
+    {
+        SequenceRef { bytes }
+    }
+
+    /// The content octets.
+    pub fn as_bytes(&self) -> &'a [u8]
+        ensures octets { result.now ≡ fields_lent self.now }
+        ensures short { length result.now < 2 ^ 32 }
+    {
+        self.bytes
+    }
+}
+
+impl<'a> FixedTag for SequenceRef<'a> {
+    ghost fixed_tag = { SequenceTag };
+
+    fn tag() -> Tag
+        ensures { result ≡ SequenceTag }
+    {
+        Tag::Sequence
+    }
+}
+
+impl<'a> Sequence for SequenceRef<'a> {
+    ghost use Rattle.std.specs.Prelude.{refl};
+
+    ghost is_sequence = { refl };
+}
+
+/// The content, as it stands.
+impl<'a> Leaf<'a> for SequenceRef<'a> {
+    ghost use Rattle.der_types_values.specs.Sequences.{fields_lent};
+
+    ghost kind = { octets };
+
+    ghost leaf_plain = { fields_lent };
+
+    fn from_content(_alloc: Global, _tag: Tag, octets: &'a [u8]) -> Result<SequenceRef<'a>, Error> {
+        Ok(SequenceRef { bytes: octets })
+    }
+}
+
+impl<'a> ShapedValue for SequenceRef<'a> {
+    ghost use Rattle.der_types_values.specs.Sequences.{fields_lent};
+
+    ghost content = { leaf octets };
+
+    ghost value_plain = { fields_lent };
+}
+
+impl<'a, R: Reader<'a>> DecodeValue<'a, R> for SequenceRef<'a> {
+    fn decode_value(
+        alloc: Global,
+        reader: &mut R,
+        header: Header,
+    ) -> Result<SequenceRef<'a>, Error> {
+        decode_leaf(alloc, reader, header)
+    }
+}
+
+impl<'a> EncodeValue for SequenceRef<'a> {
+    fn value_len(&self) -> Result<Length, Error> {
+        slice_len(self.bytes)
+    }
+
+    fn encode_value<W: Writer>(&self, writer: &mut W) -> Result<(), Error> {
+        writer.write(self.bytes)
+    }
+}
