@@ -1,0 +1,67 @@
+-- A step of a loop over anchors, and names that are compared.
+use Rattle.std.proofs.Common.{◌≡◌, ℕ, ◌+◌, ◌<◌, ◌≤◌, Bool, true, false, cond, ◌&&◌, ◌||◌, List, [], ◌∷◌, length, get_or, map, drop, IsTrue, ◌↔◌, Decides, bytes_eq, refl, sym, ap, ◌∙◌, subst, arith, add_assoc}
+use Rattle.std.specs.List.{list_any}
+use Rattle.std.proofs.lemmas.List.{at_drop_more, at_drop_all}
+use Rattle.std.proofs.lemmas.Slice.Eq.{bytes_eq-Decides}
+use Rattle.std.proofs.lemmas.Bool.Decides.{same_from_decides}
+use Rattle.x509_cert.specs.Certificates.{PlainCertificate, PlainName, name_octets, issuer}
+use Rattle.cert_desk.specs.declared.anchor.Anchor.{Anchor}
+use Rattle.cert_desk.specs.Anchors.{anchor_plain}
+use Rattle.cert_desk.specs.Judging.{Answers, PlainAnchor, same_name, is_named}
+use Rattle.cert_desk.specs.Places.{signs, asked_once, asked_until}
+
+-- names with the same octets
+pub same_name_by : (r : Bool) (a b : PlainName) → IsTrue r ↔ (name_octets a ≡ name_octets b) → r ≡ same_name a b
+same_name_by r a b h = same_from_decides r (bytes_eq (name_octets a) (name_octets b)) h (bytes_eq-Decides (name_octets a) (name_octets b))
+
+-- of a test that compared with another name like the second
+pub same_name_is : (r b : Bool) (m n o : PlainName) → IsTrue r ↔ (name_octets m ≡ name_octets n) → n ≡ o → r ≡ b → same_name m o ≡ b
+same_name_is r b m n o h e t = ap (same_name m) (sym e) ∙ sym (same_name_by r m n h) ∙ t
+
+abbrev any_left : (PlainAnchor → Bool) → List Anchor → Bool
+any_left p xs = list_any p (map anchor_plain xs)
+
+pub any_of_plain : (p : PlainAnchor → Bool) (xs : List Anchor) → list_any (λ a. p (anchor_plain a)) xs ≡ list_any p (map anchor_plain xs)
+any_of_plain p [] = refl
+any_of_plain p (x ∷ xs) = ap (λ b. p (anchor_plain x) || b) (any_of_plain p xs)
+
+pub any_yes : (p : PlainAnchor → Bool) (xs : List Anchor) (i : ℕ) (d : Anchor) → i < length xs → p (anchor_plain (get_or xs i d)) ≡ true
+    → list_any p (map anchor_plain (drop i xs)) ≡ true
+any_yes p xs i d h e = at_drop_more (any_left p) xs i d h ∙ ap (λ b. b || any_left p (drop (i + 1) xs)) e
+
+pub any_no : (p : PlainAnchor → Bool) (xs : List Anchor) (i : ℕ) (d : Anchor) → i < length xs → p (anchor_plain (get_or xs i d)) ≡ false
+    → list_any p (map anchor_plain (drop (i + 1) xs)) ≡ list_any p (map anchor_plain (drop i xs))
+any_no p xs i d h e = sym (at_drop_more (any_left p) xs i d h ∙ ap (λ b. b || any_left p (drop (i + 1) xs)) e)
+
+-- what a judge that answers the same says of an anchor
+pub signs_is : (a b : Answers) (signed : List ℕ) (c : PlainCertificate) (anchor : PlainAnchor) (r t : Bool) → a ≡ b → r ≡ signs a signed c anchor → r ≡ t → signs b signed c anchor ≡ t
+signs_is a b signed c anchor r t e h k = ap (λ x. signs x signed c anchor) (sym e) ∙ sym h ∙ k
+
+-- the questions that are left, where the anchor at a place signs, or doesn't
+module _ (answers : Answers) (signed : List ℕ) (c : PlainCertificate) where
+  abbrev questions_left : List Anchor → ℕ
+  questions_left xs = asked_until answers signed c (map anchor_plain xs)
+
+  once_yes : (named accepts : Bool) (more : ℕ) → (named && accepts) ≡ true → cond named (cond accepts 1 (1 + more)) more ≡ cond named 1 0
+  once_yes true true more e = refl
+  once_yes true false more e = absurd cc
+  once_yes false accepts more e = absurd cc
+
+  once_no : (named accepts : Bool) (more : ℕ) → (named && accepts) ≡ false → cond named (cond accepts 1 (1 + more)) more ≡ cond named 1 0 + more
+  once_no true true more e = absurd cc
+  once_no true false more e = refl
+  once_no false accepts more e = omega arith
+
+  pub asked_until_yes : (xs : List Anchor) (i : ℕ) (d : Anchor) → i < length xs → signs answers signed c (anchor_plain (get_or xs i d)) ≡ true
+      → asked_until answers signed c (map anchor_plain (drop i xs)) ≡ asked_once c (anchor_plain (get_or xs i d))
+  unfolding asked_until asked_once signs
+  asked_until_yes xs i d h e = at_drop_more questions_left xs i d h ∙ once_yes _ _ _ e
+
+  pub asked_until_no : (xs : List Anchor) (i : ℕ) (d : Anchor) → i < length xs → signs answers signed c (anchor_plain (get_or xs i d)) ≡ false
+      → asked_until answers signed c (map anchor_plain (drop i xs)) ≡ asked_once c (anchor_plain (get_or xs i d)) + asked_until answers signed c (map anchor_plain (drop (i + 1) xs))
+  unfolding asked_until asked_once signs
+  asked_until_no xs i d h e = at_drop_more questions_left xs i d h ∙ once_no _ _ _ e
+
+  pub asked_until_none : (xs : List Anchor) (i : ℕ) → length xs ≤ i → asked_until answers signed c (map anchor_plain (drop i xs)) ≡ 0
+  unfolding asked_until
+  asked_until_none xs i h = at_drop_all questions_left xs i h

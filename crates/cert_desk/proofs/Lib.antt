@@ -1,0 +1,17 @@
+pub mod OneEncoding
+pub mod Lengths
+pub mod Scans
+pub mod Readings
+pub mod OneChain
+pub mod FaultStays
+pub mod Inputs
+pub mod Located
+pub mod ChainLaws
+pub mod AnchorSteps
+pub mod Counts
+pub mod Encodings
+pub mod PlaceLaws
+pub mod Outcomes
+pub mod DigestOctets
+pub mod DigestLaws
+pub mod RunLaws

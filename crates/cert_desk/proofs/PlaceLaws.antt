@@ -1,0 +1,153 @@
+-- What the rules say at a place whose certificate is known.
+use Rattle.std.proofs.Common.{◌≡◌, ℕ, zero, suc, ◌+◌, ◌-◌, ◌<◌, List, [], ◌∷◌, Bool, true, false, cond, ◌&&◌, Option, Some, None, IfSome, slice_get, bytes_eq, refl, sym, ap, ◌∙◌, subst, arith, lit<}
+use Rattle.std.specs.List.{AllByRecursion, list_any}
+use Rattle.std.specs.Option.{option_map_or}
+use Rattle.std.proofs.lemmas.Bool.{false_from_ne_true, both_ways, and_parts, and_from, cond-true, cond-false}
+use Rattle.std.proofs.lemmas.Slice.Eq.{bytes_eq-Decides}
+use Rattle.der_core_head.specs.Shapes.{octets_of}
+use Rattle.x509_cert.specs.Certificates.{PlainCertificate, Algorithm, algorithm_identifier, inner_algorithm, outer_algorithm, issuer, subject, public_key}
+use Rattle.cert_desk.specs.declared.entry.Entry.{Entry}
+use Rattle.cert_desk.specs.declared.rule.Rule.{Rule}
+use Rattle.cert_desk.specs.declared.rule.Rule.TheVariants as rules
+use Rattle.cert_desk.specs.Chains.{Stands}
+use Rattle.cert_desk.specs.Entries.{IsEntry}
+use Rattle.cert_desk.specs.Judging.{Terms, PlainAnchor, keeps, keeps_at, number, may_ask, is_linked, is_signed, same_name, signed_part}
+use Rattle.cert_desk.specs.Verdicts.{asked_anchors}
+use Rattle.cert_desk.specs.Places.{accepted, signs, asked_until, asked_signature, asked_at, IsFirstUnsigned}
+use Rattle.cert_desk.proofs.OneEncoding.{one_algorithm}
+use Rattle.cert_desk.proofs.Encodings.{Stands-at, valid_algorithms}
+
+pub entry_at : (bound : ℕ) (cs : List PlainCertificate) (place : ℕ) (o : Option Entry) (e : Entry) → IfSome o (λ e. IsEntry bound cs place e) → o ≡ Some e → IsEntry bound cs place e
+entry_at bound cs place o e h is = subst (λ o. IfSome o (λ e. IsEntry bound cs place e)) is h
+
+pub keeps_at-is : (rule : Rule) (t : Terms) (cs : List PlainCertificate) (stream : List ℕ) (place : ℕ) (c : PlainCertificate) → slice_get cs place ≡ Some c
+    → keeps_at rule t cs stream place ≡ keeps rule t cs stream place c
+keeps_at-is rule t cs stream place c e = ap (λ o. option_map_or (keeps rule t cs stream place) o true) e
+
+before_is : (cs : List PlainCertificate) (n : ℕ) (b : PlainCertificate) → slice_get cs (suc n - 1) ≡ Some b → slice_get cs n ≡ Some b
+before_is cs n b e = let k : n ≡ suc n - 1 = omega arith in ap (slice_get cs) k ∙ e
+
+-- names are linked: at a later place
+pub is_linked-later : (t : Terms) (cs : List PlainCertificate) (place : ℕ) (c b : PlainCertificate) → 0 < place → slice_get cs (place - 1) ≡ Some b
+    → is_linked t cs place c ≡ same_name (issuer c) (subject b)
+is_linked-later t cs zero c b h e = absurd (omega arith)
+is_linked-later t cs (suc n) c b h e = ap (λ o. option_map_or (λ b. same_name (issuer c) (subject b)) o false) (before_is cs n b e)
+
+-- the signature: at a later place, and at the first
+pub is_signed-later : (t : Terms) (cs : List PlainCertificate) (stream : List ℕ) (place : ℕ) (c b : PlainCertificate) → 0 < place → slice_get cs (place - 1) ≡ Some b
+    → is_signed t cs stream place c ≡ accepted t.answers (signed_part t.bound cs stream place c) c (public_key b)
+unfolding accepted
+is_signed-later t cs stream zero c b h e = absurd (omega arith)
+is_signed-later t cs stream (suc n) c b h e =
+    ap (λ o. option_map_or (λ b. accepted t.answers (signed_part t.bound cs stream (suc n) c) c (public_key b)) o false) (before_is cs n b e)
+
+pub is_signed-first : (t : Terms) (cs : List PlainCertificate) (stream : List ℕ) (place : ℕ) (c : PlainCertificate) → place ≡ 0
+    → is_signed t cs stream place c ≡ list_any (signs t.answers (signed_part t.bound cs stream place c) c) t.anchors
+unfolding signs accepted
+is_signed-first t cs stream zero c h = refl
+is_signed-first t cs stream (suc n) c h = absurd cc
+
+-- the questions there
+asked_anchors-is : (t : Terms) (cs : List PlainCertificate) (stream : List ℕ) (c : PlainCertificate) (anchors : List PlainAnchor)
+    → asked_anchors t cs stream c anchors ≡ asked_until t.answers (signed_part t.bound cs stream 0 c) c anchors
+unfolding asked_until accepted
+asked_anchors-is t cs stream c [] = refl
+asked_anchors-is t cs stream c (a ∷ more) =
+    ap (λ n. cond (same_name (issuer c) a.name) (cond (accepted t.answers (signed_part t.bound cs stream 0 c) c a.key) 1 (1 + n)) n) (asked_anchors-is t cs stream c more)
+
+pub asked_signature-first : (t : Terms) (cs : List PlainCertificate) (stream : List ℕ) (place : ℕ) (c : PlainCertificate) → place ≡ 0 → slice_get cs place ≡ Some c
+    → asked_signature t cs stream place ≡ asked_until t.answers (signed_part t.bound cs stream place c) c t.anchors
+asked_signature-first t cs stream zero c h e = ap (λ o. option_map_or (λ c. asked_anchors t cs stream c t.anchors) o 0) e ∙ asked_anchors-is t cs stream c t.anchors
+asked_signature-first t cs stream (suc n) c h e = absurd cc
+
+pub asked_signature-later : (t : Terms) (cs : List PlainCertificate) (stream : List ℕ) (place : ℕ) → 0 < place → asked_signature t cs stream place ≡ 1
+asked_signature-later t cs stream zero h = absurd (omega arith)
+asked_signature-later t cs stream (suc n) h = refl
+
+-- no rule comes before the first
+pub none_before_first : (P : Rule → Type 0) (rule : Rule) → number rule < 1 → P rule
+none_before_first P rules.AlgorithmsDiffer h = absurd (omega arith)
+none_before_first P rules.DuplicateExtension h = absurd (omega arith)
+none_before_first P rules.MalformedExtension h = absurd (omega arith)
+none_before_first P rules.UnweighedCritical h = absurd (omega arith)
+none_before_first P rules.WrongIssuer h = absurd (omega arith)
+none_before_first P rules.NotYetValid h = absurd (omega arith)
+none_before_first P rules.Expired h = absurd (omega arith)
+none_before_first P rules.AgainstPurpose h = absurd (omega arith)
+none_before_first P rules.NotAuthority h = absurd (omega arith)
+none_before_first P rules.PathTooLong h = absurd (omega arith)
+none_before_first P rules.WrongSignature h = absurd (omega arith)
+
+-- algorithms that aren't equal have other octets
+pub algorithms_differ : (t : Terms) (limit : ℕ) (cs : List PlainCertificate) (stream : List ℕ) (place : ℕ) (c : PlainCertificate)
+    → AllByRecursion (Stands t.bound limit) cs → slice_get cs place ≡ Some c → (inner_algorithm c ≡ outer_algorithm c → ⊥)
+    → keeps_at rules.AlgorithmsDiffer t cs stream place ≡ false
+algorithms_differ t limit cs stream place c all e differ =
+    let valid = valid_algorithms t.bound c (Stands-at t.bound limit cs place c all e).valid in
+    let octets_differ : bytes_eq (octets_of (algorithm_identifier t.bound) (inner_algorithm c)) (octets_of (algorithm_identifier t.bound) (outer_algorithm c)) ≡ false =
+    false_from_ne_true _ (λ same. differ (one_algorithm t.bound _ _ valid.0 valid.1 ((bytes_eq-Decides _ _).0 same))) in
+    keeps_at-is rules.AlgorithmsDiffer t cs stream place c e ∙ octets_differ
+
+-- ten tests that all pass
+all_ten : (a b c d e f g h i j : Bool) → (a && (b && (c && (d && (e && (f && (g && (h && (i && j))))))))) ≡ true
+    → (a ≡ true) × (b ≡ true) × (c ≡ true) × (d ≡ true) × (e ≡ true) × (f ≡ true) × (g ≡ true) × (h ≡ true) × (i ≡ true) × (j ≡ true)
+all_ten a b c d e f g h i j p0 =
+    let p1 = and_parts a (b && (c && (d && (e && (f && (g && (h && (i && j)))))))) p0 in
+    let p2 = and_parts b (c && (d && (e && (f && (g && (h && (i && j))))))) p1.1 in
+    let p3 = and_parts c (d && (e && (f && (g && (h && (i && j)))))) p2.1 in
+    let p4 = and_parts d (e && (f && (g && (h && (i && j))))) p3.1 in
+    let p5 = and_parts e (f && (g && (h && (i && j)))) p4.1 in
+    let p6 = and_parts f (g && (h && (i && j))) p5.1 in
+    let p7 = and_parts g (h && (i && j)) p6.1 in
+    let p8 = and_parts h (i && j) p7.1 in
+    let p9 = and_parts i (j) p8.1 in
+    (p1.0, p2.0, p3.0, p4.0, p5.0, p6.0, p7.0, p8.0, p9.0, p9.1)
+
+-- what may be asked about keeps every rule before the signature
+module _ (t : Terms) (cs : List PlainCertificate) (stream : List ℕ) (place : ℕ) (h : may_ask t cs stream place ≡ true) where
+  pub may_ask-kept : (rule : Rule) → number rule < 11 → keeps_at rule t cs stream place ≡ true
+  may_ask-kept rules.AlgorithmsDiffer lt = (all_ten (keeps_at rules.AlgorithmsDiffer t cs stream place) (keeps_at rules.DuplicateExtension t cs stream place) (keeps_at rules.MalformedExtension t cs stream place) (keeps_at rules.UnweighedCritical t cs stream place) (keeps_at rules.WrongIssuer t cs stream place) (keeps_at rules.NotYetValid t cs stream place) (keeps_at rules.Expired t cs stream place) (keeps_at rules.AgainstPurpose t cs stream place) (keeps_at rules.NotAuthority t cs stream place) (keeps_at rules.PathTooLong t cs stream place) h).0
+  may_ask-kept rules.DuplicateExtension lt = (all_ten (keeps_at rules.AlgorithmsDiffer t cs stream place) (keeps_at rules.DuplicateExtension t cs stream place) (keeps_at rules.MalformedExtension t cs stream place) (keeps_at rules.UnweighedCritical t cs stream place) (keeps_at rules.WrongIssuer t cs stream place) (keeps_at rules.NotYetValid t cs stream place) (keeps_at rules.Expired t cs stream place) (keeps_at rules.AgainstPurpose t cs stream place) (keeps_at rules.NotAuthority t cs stream place) (keeps_at rules.PathTooLong t cs stream place) h).1
+  may_ask-kept rules.MalformedExtension lt = (all_ten (keeps_at rules.AlgorithmsDiffer t cs stream place) (keeps_at rules.DuplicateExtension t cs stream place) (keeps_at rules.MalformedExtension t cs stream place) (keeps_at rules.UnweighedCritical t cs stream place) (keeps_at rules.WrongIssuer t cs stream place) (keeps_at rules.NotYetValid t cs stream place) (keeps_at rules.Expired t cs stream place) (keeps_at rules.AgainstPurpose t cs stream place) (keeps_at rules.NotAuthority t cs stream place) (keeps_at rules.PathTooLong t cs stream place) h).2
+  may_ask-kept rules.UnweighedCritical lt = (all_ten (keeps_at rules.AlgorithmsDiffer t cs stream place) (keeps_at rules.DuplicateExtension t cs stream place) (keeps_at rules.MalformedExtension t cs stream place) (keeps_at rules.UnweighedCritical t cs stream place) (keeps_at rules.WrongIssuer t cs stream place) (keeps_at rules.NotYetValid t cs stream place) (keeps_at rules.Expired t cs stream place) (keeps_at rules.AgainstPurpose t cs stream place) (keeps_at rules.NotAuthority t cs stream place) (keeps_at rules.PathTooLong t cs stream place) h).3
+  may_ask-kept rules.WrongIssuer lt = (all_ten (keeps_at rules.AlgorithmsDiffer t cs stream place) (keeps_at rules.DuplicateExtension t cs stream place) (keeps_at rules.MalformedExtension t cs stream place) (keeps_at rules.UnweighedCritical t cs stream place) (keeps_at rules.WrongIssuer t cs stream place) (keeps_at rules.NotYetValid t cs stream place) (keeps_at rules.Expired t cs stream place) (keeps_at rules.AgainstPurpose t cs stream place) (keeps_at rules.NotAuthority t cs stream place) (keeps_at rules.PathTooLong t cs stream place) h).4
+  may_ask-kept rules.NotYetValid lt = (all_ten (keeps_at rules.AlgorithmsDiffer t cs stream place) (keeps_at rules.DuplicateExtension t cs stream place) (keeps_at rules.MalformedExtension t cs stream place) (keeps_at rules.UnweighedCritical t cs stream place) (keeps_at rules.WrongIssuer t cs stream place) (keeps_at rules.NotYetValid t cs stream place) (keeps_at rules.Expired t cs stream place) (keeps_at rules.AgainstPurpose t cs stream place) (keeps_at rules.NotAuthority t cs stream place) (keeps_at rules.PathTooLong t cs stream place) h).5
+  may_ask-kept rules.Expired lt = (all_ten (keeps_at rules.AlgorithmsDiffer t cs stream place) (keeps_at rules.DuplicateExtension t cs stream place) (keeps_at rules.MalformedExtension t cs stream place) (keeps_at rules.UnweighedCritical t cs stream place) (keeps_at rules.WrongIssuer t cs stream place) (keeps_at rules.NotYetValid t cs stream place) (keeps_at rules.Expired t cs stream place) (keeps_at rules.AgainstPurpose t cs stream place) (keeps_at rules.NotAuthority t cs stream place) (keeps_at rules.PathTooLong t cs stream place) h).6
+  may_ask-kept rules.AgainstPurpose lt = (all_ten (keeps_at rules.AlgorithmsDiffer t cs stream place) (keeps_at rules.DuplicateExtension t cs stream place) (keeps_at rules.MalformedExtension t cs stream place) (keeps_at rules.UnweighedCritical t cs stream place) (keeps_at rules.WrongIssuer t cs stream place) (keeps_at rules.NotYetValid t cs stream place) (keeps_at rules.Expired t cs stream place) (keeps_at rules.AgainstPurpose t cs stream place) (keeps_at rules.NotAuthority t cs stream place) (keeps_at rules.PathTooLong t cs stream place) h).7
+  may_ask-kept rules.NotAuthority lt = (all_ten (keeps_at rules.AlgorithmsDiffer t cs stream place) (keeps_at rules.DuplicateExtension t cs stream place) (keeps_at rules.MalformedExtension t cs stream place) (keeps_at rules.UnweighedCritical t cs stream place) (keeps_at rules.WrongIssuer t cs stream place) (keeps_at rules.NotYetValid t cs stream place) (keeps_at rules.Expired t cs stream place) (keeps_at rules.AgainstPurpose t cs stream place) (keeps_at rules.NotAuthority t cs stream place) (keeps_at rules.PathTooLong t cs stream place) h).8
+  may_ask-kept rules.PathTooLong lt = (all_ten (keeps_at rules.AlgorithmsDiffer t cs stream place) (keeps_at rules.DuplicateExtension t cs stream place) (keeps_at rules.MalformedExtension t cs stream place) (keeps_at rules.UnweighedCritical t cs stream place) (keeps_at rules.WrongIssuer t cs stream place) (keeps_at rules.NotYetValid t cs stream place) (keeps_at rules.Expired t cs stream place) (keeps_at rules.AgainstPurpose t cs stream place) (keeps_at rules.NotAuthority t cs stream place) (keeps_at rules.PathTooLong t cs stream place) h).9
+  may_ask-kept rules.WrongSignature lt = absurd (omega arith)
+
+pub may_ask-true : (t : Terms) (cs : List PlainCertificate) (stream : List ℕ) (place : ℕ) → ((rule : Rule) → number rule < 11 → keeps_at rule t cs stream place ≡ true)
+    → may_ask t cs stream place ≡ true
+may_ask-true t cs stream place kept =
+    and_from _ _ (kept rules.AlgorithmsDiffer (lit< tt)) (and_from _ _ (kept rules.DuplicateExtension (lit< tt)) (and_from _ _ (kept rules.MalformedExtension (lit< tt)) (and_from _ _ (kept rules.UnweighedCritical (lit< tt)) (and_from _ _ (kept rules.WrongIssuer (lit< tt)) (and_from _ _ (kept rules.NotYetValid (lit< tt)) (and_from _ _ (kept rules.Expired (lit< tt)) (and_from _ _ (kept rules.AgainstPurpose (lit< tt)) (and_from _ _ (kept rules.NotAuthority (lit< tt)) (kept rules.PathTooLong (lit< tt))))))))))
+
+pub may_ask-false : (t : Terms) (cs : List PlainCertificate) (stream : List ℕ) (place : ℕ) (rule : Rule) → number rule < 11 → keeps_at rule t cs stream place ≡ false
+    → may_ask t cs stream place ≡ false
+may_ask-false t cs stream place rule h broken =
+    false_from_ne_true _ (λ e. both_ways _ broken (may_ask-kept t cs stream place e rule h))
+
+-- where a rule before the signature is broken, nobody is asked
+pub asks_none : (t : Terms) (cs : List PlainCertificate) (stream : List ℕ) (place : ℕ) (rule : Rule) → number rule < 11 → keeps_at rule t cs stream place ≡ false
+    → asked_at t cs stream place ≡ 0
+asks_none t cs stream place rule h broken = cond-false _ _ _ (may_ask-false t cs stream place rule h broken)
+
+pub asks_signature : (t : Terms) (cs : List PlainCertificate) (stream : List ℕ) (place : ℕ) → ((rule : Rule) → number rule < 11 → keeps_at rule t cs stream place ≡ true)
+    → asked_at t cs stream place ≡ asked_signature t cs stream place
+asks_signature t cs stream place kept = cond-true _ _ _ (may_ask-true t cs stream place kept)
+
+-- the rules before the signature, and the signature
+pub all_kept : (t : Terms) (cs : List PlainCertificate) (stream : List ℕ) (place : ℕ) → ((rule : Rule) → number rule < 11 → keeps_at rule t cs stream place ≡ true)
+    → keeps_at rules.WrongSignature t cs stream place ≡ true → (rule : Rule) → keeps_at rule t cs stream place ≡ true
+all_kept t cs stream place kept signed rules.AlgorithmsDiffer = kept rules.AlgorithmsDiffer (lit< tt)
+all_kept t cs stream place kept signed rules.DuplicateExtension = kept rules.DuplicateExtension (lit< tt)
+all_kept t cs stream place kept signed rules.MalformedExtension = kept rules.MalformedExtension (lit< tt)
+all_kept t cs stream place kept signed rules.UnweighedCritical = kept rules.UnweighedCritical (lit< tt)
+all_kept t cs stream place kept signed rules.WrongIssuer = kept rules.WrongIssuer (lit< tt)
+all_kept t cs stream place kept signed rules.NotYetValid = kept rules.NotYetValid (lit< tt)
+all_kept t cs stream place kept signed rules.Expired = kept rules.Expired (lit< tt)
+all_kept t cs stream place kept signed rules.AgainstPurpose = kept rules.AgainstPurpose (lit< tt)
+all_kept t cs stream place kept signed rules.NotAuthority = kept rules.NotAuthority (lit< tt)
+all_kept t cs stream place kept signed rules.PathTooLong = kept rules.PathTooLong (lit< tt)
+all_kept t cs stream place kept signed rules.WrongSignature = signed

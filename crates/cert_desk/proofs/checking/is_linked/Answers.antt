@@ -1,0 +1,23 @@
+use Rattle.std.proofs.Common.{◌<◌, sym, ◌∙◌, ap, arith}
+use Rattle.x509_cert.specs.Views.{certificate_plain, name_plain, tbs_issuer, tbs_subject}
+use Rattle.x509_cert.specs.Certificates.{issuer}
+use Rattle.cert_desk.specs.declared.rule.Rule.TheVariants as rules
+use Rattle.cert_desk.specs.Anchors.{terms_of}
+use Rattle.cert_desk.specs.Judging.{same_name}
+use Rattle.cert_desk.proofs.AnchorSteps.{same_name_by}
+use Rattle.cert_desk.proofs.PlaceLaws.{entry_at, keeps_at-is, is_linked-later}
+use Rattle.cert_desk.proofs.checking.is_linked.Goals as goal
+
+pub returns : goal.returns
+returns c = λ moment purpose answers stream.
+    let t = terms_of c.args.anchors.now moment purpose answers in
+    let cs = c.args.bundle.now.certificates in
+    let entry = entry_at _ _ _ _ _ c.get.ensures.entry c.unwrap-entry.ensures in
+    let before = entry_at _ _ _ _ _ c.get-2.ensures.entry c.unwrap-before.ensures in
+    let this = certificate_plain c.unwrap-entry.result.certificate.now in
+    let earlier = certificate_plain c.unwrap-before.result.certificate.now in
+    let later : 0 < c.args.place = omega arith in
+    same_name_by _ _ _ c.equals.ensures
+    ∙ ap (λ n. same_name n (name_plain c.subject.result.now)) (c.issuer-issuer.ensures ∙ ap tbs_issuer c.tbs_certificate.ensures)
+    ∙ ap (same_name (issuer this)) (c.subject.ensures ∙ ap tbs_subject c.tbs_certificate-2.ensures)
+    ∙ sym (keeps_at-is rules.WrongIssuer t cs stream c.args.place this entry.certificate ∙ is_linked-later t cs c.args.place this earlier later before.certificate)

@@ -1,0 +1,98 @@
+-- The rules of a chain, each by itself (RFC 5280 6.1).
+use Rattle.std.specs.Prelude.{◌≡◌, ℕ, zero, suc, ◌+◌, ◌-◌, List, [], ◌∷◌, length, take, drop, Bool, true, false, Option, Some, None, nat_le, nat_lt, ◌==◌, ◌&&◌, ◌||◌, bytes_eq, slice_get}
+use Rattle.std.specs.List.{list_any}
+use Rattle.std.specs.Option.{option_map_or}
+use Rattle.der_core_head.specs.BitStrings.{Bits}
+use Rattle.der_core_head.specs.Shapes.{octets_of}
+use Rattle.x509_cert.specs.Certificates.{PlainCertificate, PlainName, PublicKey, Algorithm, algorithm_identifier, outer_algorithm, inner_algorithm, signature_bits, issuer, subject, not_before, not_after, public_key, name_octets, signed_start, signed_length}
+use Rattle.der_types_time.specs.Seconds.{unix_seconds}
+use Rattle.cert_desk.specs.declared.rule.Rule.{Rule}
+use Rattle.cert_desk.specs.declared.rule.Rule.TheVariants as rules
+use Rattle.cert_desk.specs.Chains.{offset_at}
+
+-- a name and a key that are trusted
+pub record PlainAnchor : Type 0 where
+  pub name : PlainName
+  pub key : PublicKey
+
+-- the judge's answer on a key, an algorithm, signed octets and a signature's bits
+abbrev pub Answers : Type 0
+Answers = PublicKey → Algorithm → List ℕ → Bits → Bool
+
+-- what a chain is judged under
+pub record Terms : Type 0 where
+  pub bound : ℕ
+  pub anchors : List PlainAnchor
+  pub moment : ℕ
+  pub purpose : List ℕ
+  pub answers : Answers
+
+abbrev pub same_name : PlainName → PlainName → Bool
+same_name a b = bytes_eq (name_octets a) (name_octets b)
+
+-- the place's part of the stream that is signed
+abbrev pub signed_part : ℕ → List PlainCertificate → List ℕ → ℕ → PlainCertificate → List ℕ
+signed_part bound cs stream place c = take (signed_length bound c) (drop (offset_at bound cs place + signed_start bound c) stream)
+
+-- the judge's yes on a certificate, under a key
+abbrev pub says_yes : Terms → List PlainCertificate → List ℕ → ℕ → PlainCertificate → PublicKey → Bool
+says_yes t cs stream place c key = t.answers key (outer_algorithm c) (signed_part t.bound cs stream place c) (signature_bits c)
+
+-- the anchors of the issuer's name
+abbrev pub is_named : PlainCertificate → PlainAnchor → Bool
+is_named c a = same_name (issuer c) a.name
+
+-- the first certificate's issuer is an anchor, another's is the certificate before
+abbrev pub is_linked : Terms → List PlainCertificate → ℕ → PlainCertificate → Bool
+is_linked t cs zero c = list_any (is_named c) t.anchors
+is_linked t cs (suc before) c = option_map_or (λ b. same_name (issuer c) (subject b)) (slice_get cs before) false
+
+-- the judge says yes under the issuer's key; of the first certificate, under the key of an anchor of the issuer's name
+abbrev pub is_signed : Terms → List PlainCertificate → List ℕ → ℕ → PlainCertificate → Bool
+is_signed t cs stream zero c = list_any (λ a. is_named c a && says_yes t cs stream zero c a.key) t.anchors
+is_signed t cs stream (suc before) c = option_map_or (λ b. says_yes t cs stream (suc before) c (public_key b)) (slice_get cs before) false
+
+-- Whether the certificate c at a place keeps a rule. No extension stands in these certificates: so no rule on
+-- extensions can be broken, and no certificate is an authority's.
+abbrev pub keeps : Rule → Terms → List PlainCertificate → List ℕ → ℕ → PlainCertificate → Bool
+keeps rules.AlgorithmsDiffer t cs stream place c = bytes_eq (octets_of (algorithm_identifier t.bound) (inner_algorithm c)) (octets_of (algorithm_identifier t.bound) (outer_algorithm c))
+keeps rules.DuplicateExtension t cs stream place c = true
+keeps rules.MalformedExtension t cs stream place c = true
+keeps rules.UnweighedCritical t cs stream place c = true
+keeps rules.WrongIssuer t cs stream place c = is_linked t cs place c
+keeps rules.NotYetValid t cs stream place c = nat_le (unix_seconds (not_before c)) t.moment
+keeps rules.Expired t cs stream place c = nat_le t.moment (unix_seconds (not_after c))
+keeps rules.AgainstPurpose t cs stream place c = true
+keeps rules.NotAuthority t cs stream place c = (place + 1) == length cs
+keeps rules.PathTooLong t cs stream place c = true
+keeps rules.WrongSignature t cs stream place c = is_signed t cs stream place c
+
+-- the certificate at a place keeps a rule
+abbrev pub keeps_at : Rule → Terms → List PlainCertificate → List ℕ → ℕ → Bool
+keeps_at rule t cs stream place = option_map_or (keeps rule t cs stream place) (slice_get cs place) true
+
+-- the order of the rules
+abbrev pub number : Rule → ℕ
+number rules.AlgorithmsDiffer = 1
+number rules.DuplicateExtension = 2
+number rules.MalformedExtension = 3
+number rules.UnweighedCritical = 4
+number rules.WrongIssuer = 5
+number rules.NotYetValid = 6
+number rules.Expired = 7
+number rules.AgainstPurpose = 8
+number rules.NotAuthority = 9
+number rules.PathTooLong = 10
+number rules.WrongSignature = 11
+
+-- all rules but the signature, which alone asks the judge
+abbrev pub may_ask : Terms → List PlainCertificate → List ℕ → ℕ → Bool
+may_ask t cs stream place =
+    (keeps_at rules.AlgorithmsDiffer t cs stream place && (keeps_at rules.DuplicateExtension t cs stream place
+    && (keeps_at rules.MalformedExtension t cs stream place && (keeps_at rules.UnweighedCritical t cs stream place
+    && (keeps_at rules.WrongIssuer t cs stream place && (keeps_at rules.NotYetValid t cs stream place
+    && (keeps_at rules.Expired t cs stream place && (keeps_at rules.AgainstPurpose t cs stream place
+    && (keeps_at rules.NotAuthority t cs stream place && keeps_at rules.PathTooLong t cs stream place)))))))))
+
+abbrev pub keeps_all : Terms → List PlainCertificate → List ℕ → ℕ → Bool
+keeps_all t cs stream place = may_ask t cs stream place && keeps_at rules.WrongSignature t cs stream place

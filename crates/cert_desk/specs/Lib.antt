@@ -1,0 +1,16 @@
+pub mod Chains
+pub mod Faults
+pub mod Streams
+pub mod Judging
+pub mod Verdicts
+pub mod Entries
+pub mod Headers
+pub mod Locations
+pub mod Steps
+pub mod Laws
+pub mod Anchors
+pub mod Places
+pub mod Digests
+pub mod Lines
+pub mod Reading
+pub mod Runs

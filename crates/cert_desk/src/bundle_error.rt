@@ -1,0 +1,38 @@
+//! Why a bundle takes no piece.
+
+ghost use Rattle.std.specs.Prelude.{◌≡◌};
+ghost use Rattle.cert_desk.specs.declared.bundle_error.ReadError.TheVariants.{Bundle};
+
+use crate::fault_kind::FaultKind;
+
+/// Why a bundle takes no piece, or doesn't end.
+#[derive(Clone, Copy, Debug, PartialEq, Eq)]
+pub enum BundleError {
+    /// The stream has a fault: `place` certificates stand before it, and it begins at `offset`.
+    Fault {
+        place: usize,
+        offset: u64,
+        kind: FaultKind,
+    },
+    /// A growth was refused. The bundle has failed.
+    OutOfMemory,
+    /// The bundle had failed or ended before.
+    Failed,
+}
+
+/// Why a stream wasn't read to its end.
+#[derive(Clone, Copy, Debug, PartialEq, Eq)]
+pub enum ReadError {
+    /// The input failed. The bundle has failed.
+    Device,
+    /// The bundle refused the stream.
+    Bundle(BundleError),
+}
+
+impl From<BundleError> for ReadError {
+    ghost from_gives = { λ e r. r ≡ Bundle e };
+
+    fn from(error: BundleError) -> ReadError {
+        ReadError::Bundle(error)
+    }
+}

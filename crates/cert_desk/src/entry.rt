@@ -1,0 +1,16 @@
+//! A certificate of a stream.
+
+use x509_cert::CertificateInner;
+
+/// A certificate of a stream, where it stands. Nothing is copied.
+#[derive(Clone, Copy, Debug)]
+pub struct Entry<'a> {
+    /// The number of octets of the stream before it.
+    pub offset: u64,
+    /// Its octets.
+    pub octets: &'a [u8],
+    /// The octets of its signed part, inside these.
+    pub signed: &'a [u8],
+    /// The certificate.
+    pub certificate: &'a CertificateInner,
+}

@@ -1,0 +1,18 @@
+//! How a bundle stands.
+
+use crate::fault_kind::FaultKind;
+
+/// How a bundle stands: it takes pieces, its stream is whole, or it failed for good.
+#[derive(Clone, Copy, Debug, PartialEq, Eq)]
+pub enum Standing {
+    /// It takes pieces.
+    Open,
+    /// The stream is whole.
+    Ended,
+    /// The stream has a fault.
+    Faulted(FaultKind),
+    /// There was no memory for the stream.
+    NoMemory,
+    /// The device that the stream came from failed.
+    NoDevice,
+}

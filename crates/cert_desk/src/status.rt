@@ -1,0 +1,32 @@
+//! What a run comes to.
+
+use crate::checked::Checked;
+
+/// The exit status of a run; `as u8` gives its number.
+#[derive(Clone, Copy, Debug, PartialEq, Eq)]
+pub enum Status {
+    /// The stream is trusted.
+    Trusted = 0,
+    /// A certificate breaks a rule.
+    Refused = 1,
+    /// The stream isn't certificates.
+    Faulty = 2,
+    /// The stream is empty.
+    Empty = 3,
+    /// The anchors are malformed.
+    Arguments = 4,
+    /// An input or an output failed.
+    Device = 5,
+    /// There was no memory.
+    Memory = 6,
+}
+
+// What a run finds in its inputs.
+#[derive(Clone, Copy, Debug)]
+pub(crate) enum Outcome {
+    Checked(Checked),
+    // The anchor that begins at this offset is faulty.
+    BadAnchors { offset: u64 },
+    Device,
+    OutOfMemory,
+}

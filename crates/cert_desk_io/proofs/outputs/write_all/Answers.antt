@@ -1,0 +1,19 @@
+use Rattle.std.proofs.Common.{ℕ, arith, ◌∙◌, length-take, length-drop}
+use Rattle.std.proofs.lemmas.List.{take_rest}
+use Rattle.cert_desk_io.proofs.Given.{OnErr-by, gives-take, gives-none}
+use Rattle.cert_desk_io.proofs.outputs.write_all.Goals as goal
+
+pub returns-in_err-sent-clause-beginning : goal.returns-in_err-sent-clause-beginning
+returns-in_err-sent-clause-beginning g c =
+    OnErr-by c.from_residual.result _ (
+      c.loop-sent.sent,
+      omega arith,
+      gives-none g.O.Output.gives g.met.O.Output.gives_in_turn _ _ _ _ c.loop-sent.invariant.given c.in_err-sent.ensures.none_given,
+    )
+
+pub loop-sent-preserved : goal.loop-sent-preserved
+loop-sent-preserved g c = record {
+  within = omega (arith, length-take {A = ℕ}, length-drop {A = ℕ}, c.in_ok-sent.ensures.bound);
+  given = gives-take g.O.Output.gives g.met.O.Output.gives_in_turn _ _ _ c.args.text.now _ c.loop-sent.sent c.in_ok-sent.field-0 (take_rest c.args.text.now c.loop-sent.sent) c.loop-sent.invariant.given c.in_ok-sent.ensures.given;
+  sound = c.in_ok-sent.ensures.sound ∙ c.loop-sent.invariant.sound;
+}

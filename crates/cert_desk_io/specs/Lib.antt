@@ -1,0 +1,5 @@
+pub mod Devices
+pub mod Readers
+pub mod Writers
+pub mod Pieces
+pub mod Memory

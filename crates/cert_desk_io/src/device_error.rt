@@ -1,0 +1,19 @@
+// That a device failed.
+ghost use Rattle.std.specs.Prelude.{Some, codes};
+
+use std::error::Error;
+use std::fmt;
+
+/// A device failed: a reader or a writer answered an error, or a writer took nothing.
+#[derive(Clone, Copy, Debug, PartialEq, Eq)]
+pub struct DeviceError;
+
+impl fmt::Display for DeviceError {
+    ghost output = { λ _. Some (codes "a device failed") };
+
+    fn fmt<W: fmt::Write>(&self, f: &mut fmt::Formatter<W>) -> fmt::Result {
+        write!(f, "a device failed")
+    }
+}
+
+impl Error for DeviceError {}

@@ -1,0 +1,26 @@
+//! The devices that octets come from and go to.
+//!
+//! An [`Input`] gives octets and an [`Output`] takes them, in pieces of any size. A contract over
+//! either speaks of the octets that moved, in turn, and of a count of failures, so that code above
+//! is proved once for every device. [`FromRead`] and [`ToWrite`] make devices of readers and
+//! writers, [`MemoryInput`] and [`MemoryOutput`] of memory, for tests.
+#![tactic(auto)]
+
+pub mod device_error;
+pub mod inputs;
+pub mod memory_inputs;
+pub mod memory_outputs;
+pub mod outputs;
+pub mod readers;
+mod schedule;
+#[cfg(test)]
+mod tests;
+pub mod writers;
+
+pub use device_error::DeviceError;
+pub use inputs::Input;
+pub use memory_inputs::MemoryInput;
+pub use memory_outputs::MemoryOutput;
+pub use outputs::{Output, write_all};
+pub use readers::FromRead;
+pub use writers::ToWrite;

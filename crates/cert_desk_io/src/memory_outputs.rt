@@ -1,0 +1,106 @@
+// An output into memory.
+ghost use Rattle.std.specs.Prelude.{◌≡◌, ◌-◌, ◌<◌, ◌≤◌, ◌↔◌, ◌⊎◌, [], ◌++◌, length, take, drop, min, IsErr, IfOk, OnOk, OnErr};
+ghost use Rattle.std.proofs.Common.{sym, ap, ◌∙◌, append_assoc, append-nil};
+ghost use Rattle.cert_desk_io.specs.Devices.{Rose, one_more};
+ghost use Rattle.cert_desk_io.specs.Pieces.{ArePieceSizes, after_call, next_piece};
+
+use super::schedule::Schedule;
+use super::{DeviceError, Output};
+
+/// An output into lent memory, in pieces of given sizes, of which one write fails. It serves
+/// tests.
+///
+/// Want of room is a failure of the device.
+#[derive(Drop)]
+pub struct MemoryOutput<'a> {
+    room: &'a mut [u8],
+    len: usize,
+    schedule: Schedule<'a>,
+    failures: u64,
+    ghost within: { len ≤ length room.now },
+}
+
+impl<'a> MemoryOutput<'a> {
+    ghost use Rattle.cert_desk_io.specs.Memory.{written, capacity, IsFull, write_sizes, failing_write, write_failures};
+
+    /// An output that keeps as many octets as there is room for. Each write that succeeds takes up
+    /// to the next of these sizes, each at least 1, and after the last size all that it is given.
+    /// The write of this number fails, 1 for the first (no write has the number 0), and nothing goes
+    /// out; later ones go on.
+    pub fn new(room: &'a mut [u8], sizes: &'a [usize], failing: Option<u64>) -> MemoryOutput<'a>
+        requires { ArePieceSizes sizes.now }
+        ensures written { written result ≡ [] }
+        ensures capacity { capacity result ≡ length room.old }
+        ensures sizes { write_sizes result ≡ sizes.now }
+        ensures failing { failing_write result ≡ failing }
+        ensures sound { write_failures result ≡ 0 }
+    {
+        MemoryOutput {
+            room,
+            len: 0,
+            schedule: Schedule::new(sizes, failing),
+            failures: 0,
+        }
+    }
+
+    /// The octets that went out.
+    pub fn written(&self) -> &[u8]
+        ensures { result.now ≡ written self.now }
+    {
+        &self.room[..self.len]
+    }
+
+    /// How many writes failed. The count stays at 2^64 - 1.
+    pub fn failures(&self) -> u64
+        ensures { result ≡ write_failures self.now }
+    {
+        self.failures
+    }
+}
+
+impl Output for MemoryOutput<'_> {
+    ghost use Rattle.cert_desk_io.specs.Memory.{written, capacity, IsFull, write_sizes, failing_write, write_failures};
+
+    ghost gives = { λ a octets b. written b ≡ written a ++ octets };
+
+    ghost failures = { write_failures };
+
+    fn write(&mut self, octets: &[u8]) -> Result<usize, DeviceError>
+        requires some { 0 < length octets.now }
+        ensures moves { IfOk result (λ count. 0 < count) }
+        ensures bound { IfOk result (λ count. count ≤ length octets.now) }
+        ensures given { IfOk result
+            (λ count. written self.new ≡ written self.old ++ take count octets.now) }
+        ensures sound { OnOk result (write_failures self.new ≡ write_failures self.old) }
+
+        // After a failure.
+        ensures none_given { OnErr result (written self.new ≡ written self.old ++ []) }
+        ensures rose { OnErr result (Rose (write_failures self.old) (write_failures self.new)) }
+        ensures one_more { OnErr result
+            (write_failures self.new ≡ one_more (write_failures self.old)) }
+
+        // Which write fails, and how much the others give.
+        ensures fails { IsErr result ↔ ((failing_write self.old ≡ Some 1) ⊎ IsFull self.old) }
+        ensures counted { failing_write self.new ≡ after_call (failing_write self.old) }
+        ensures count { IfOk result (λ count. count ≡ next_piece (write_sizes self.old)
+            (min (length octets.now) (capacity self.old - length (written self.old)))) }
+        ensures used { OnOk result (write_sizes self.new ≡ drop 1 (write_sizes self.old)) }
+        ensures unused { OnErr result (write_sizes self.new ≡ write_sizes self.old) }
+        ensures capacity { capacity self.new ≡ capacity self.old }
+    {
+        let most = octets.len().min(self.room.len() - self.len);
+        let Some(count) = self.schedule.next(most) else {
+            self.failures = self.failures.saturating_add(1);
+            return Err(DeviceError);
+        };
+        let end = self.len + count;
+        self.room[self.len..end].copy_from_slice(&octets[..count]);
+        self.len = end;
+        Ok(count)
+    }
+
+    ghost gives_nothing = { λ a. sym (append-nil (written a)) };
+
+    ghost gives_in_turn = { λ a b c first second p q.
+        q ∙ ap (λ x. x ++ second) p ∙ append_assoc (written a) first second };
+}

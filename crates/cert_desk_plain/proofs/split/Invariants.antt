@@ -1,0 +1,11 @@
+-- The certificates so far begin the stream.
+use Rattle.std.proofs.Common.{◌-◌, length, map}
+use Rattle.x509_cert.specs.Views.{arc_bound, certificate_plain}
+use Rattle.cert_desk_plain.proofs.Fronts.{SoFar}
+use Rattle.cert_desk_plain.proofs.split.Given as goal
+
+abbrev pub invariant-loop-certificates : goal.invariant-loop-certificates
+invariant-loop-certificates l = SoFar arc_bound l.limit l.stream (map certificate_plain l.certificates.items) l.start
+
+abbrev pub decreases-loop-certificates : goal.decreases-loop-certificates
+decreases-loop-certificates l = length l.stream - l.start

@@ -1,0 +1,73 @@
+#!/usr/bin/env python3
+"""Makes the example files beside this script, with nothing but Python's own library.
+
+The certificates are of the grammar that the program reads today: no version, no extensions,
+empty names. They are signed by the stand-in algorithm 1.3.6.1.4.1.32473.2: the signature is the
+SHA-256 of the key's octets followed by the signed octets. It protects nothing; it serves examples.
+"""
+
+import hashlib
+import pathlib
+
+HERE = pathlib.Path(__file__).parent
+
+
+def tlv(tag: int, content: bytes) -> bytes:
+    """A header with the shortest length, and the content (X.690 8.1, 10.1)."""
+    size = len(content)
+    if size < 128:
+        length = bytes([size])
+    else:
+        digits = size.to_bytes((size.bit_length() + 7) // 8, "big")
+        length = bytes([128 + len(digits)]) + digits
+    return bytes([tag]) + length + content
+
+
+def identifier(*arcs: int) -> bytes:
+    """OBJECT IDENTIFIER (X.690 8.19)."""
+    octets = [40 * arcs[0] + arcs[1]]
+    for arc in arcs[2:]:
+        digits = [arc % 128]
+        while arc >= 128:
+            arc //= 128
+            digits.append(128 + arc % 128)
+        octets += reversed(digits)
+    return tlv(0x06, bytes(octets))
+
+
+def bit_string(octets: bytes) -> bytes:
+    return tlv(0x03, b"\x00" + octets)
+
+
+ALGORITHM = tlv(0x30, identifier(1, 3, 6, 1, 4, 1, 32473, 2))
+EMPTY_NAME = tlv(0x30, b"")
+
+
+def validity(not_before: str, not_after: str) -> bytes:
+    """Dates as UTCTime, YYMMDDHHMMSSZ (RFC 5280 4.1.2.5.1)."""
+    return tlv(0x30, tlv(0x17, not_before.encode()) + tlv(0x17, not_after.encode()))
+
+
+def certificate(serial: int, key: bytes, signing_key: bytes, dates: bytes) -> bytes:
+    key_info = tlv(0x30, ALGORITHM + bit_string(key))
+    signed = tlv(
+        0x30,
+        tlv(0x02, bytes([serial])) + ALGORITHM + EMPTY_NAME + dates + EMPTY_NAME + key_info,
+    )
+    signature = hashlib.sha256(signing_key + signed).digest()
+    return tlv(0x30, signed + ALGORITHM + bit_string(signature))
+
+
+DATES = validity("020101120100Z", "301231083000Z")
+ANCHOR = certificate(1, b"anchor key", b"anchor key", DATES)
+TRUSTED = certificate(2, b"server key", b"anchor key", DATES)
+
+(HERE / "anchors.der").write_bytes(ANCHOR)
+# One certificate, signed by the anchor's key.
+(HERE / "trusted.der").write_bytes(TRUSTED)
+# The same with another serial number in the signed part, which the signature isn't over.
+(HERE / "forged.der").write_bytes(TRUSTED.replace(b"\x02\x01\x02", b"\x02\x01\x03", 1))
+# The certificate twice: the first of two has to be an authority's, and none is without extensions.
+(HERE / "two.der").write_bytes(TRUSTED + TRUSTED)
+# The certificate without its last octet.
+(HERE / "cut.der").write_bytes(TRUSTED[:-1])
