@@ -3,6 +3,7 @@
 ghost use Rattle.std.specs.Prelude.{◌≡◌, ◌≢◌, ◌↔◌, ℕ, ◌+◌, ◌*◌, ◌<◌, ◌≤◌, ◌++◌, ◌∷◌, [], List, length, slice_index, count_by, nat_lt, IsTrue, Option, Some, Result, Ok, Err};
 ghost use Rattle.const_oid_identifiers.specs.declared.error.Error.{Error};
 ghost use Rattle.const_oid_identifiers.specs.declared.error.Error.TheVariants as errors;
+ghost use Rattle.const_oid_identifiers.specs.Bound.{Bound};
 ghost use Rattle.const_oid_identifiers.specs.IdentifierOctets.{identifier_octets, IsIdentifier, read_identifier};
 ghost use Rattle.const_oid_identifiers.specs.OctetFaults.{IsOctetsFault};
 ghost use Rattle.const_oid_identifiers.specs.ArcLists.{gather};
@@ -55,6 +56,11 @@ pub fn octets_identify()
 pub fn octets_tell_prefixes()
     ensures { (bound : ℕ) (a b r : List ℕ) → IsIdentifier bound a → IsIdentifier bound b → identifier_octets a ≡ identifier_octets b ++ r
         → (rest : List ℕ) × (a ≡ b ++ rest) }
+{}
+
+/// Every second arc is below the bound of arcs, as the laws about texts ask.
+pub fn second_arcs_are_below_the_bound()
+    ensures { 40 ≤ Bound }
 {}
 
 /// The dotted text of an identifier is read as it, where its octets are within the capacity.
@@ -177,6 +183,7 @@ pub fn are_equal_borrowed(a: &ObjectIdentifierRef<'_>, b: &ObjectIdentifierRef<'
 {
     a == b
 }
+
 /// What is read of a text is spelled by it, is an identifier within the bound, and its octets are within the capacity.
 pub fn read_texts_are_spelled()
     ensures { (bound capacity : ℕ) (w arcs : List ℕ) → read_text bound capacity w ≡ Ok arcs

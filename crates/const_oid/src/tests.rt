@@ -3,6 +3,7 @@
 ghost use Rattle.std.specs.Prelude.{◌∷◌, []};
 
 use super::*;
+use std::cmp::Ordering;
 use std::convert::AsSlice;
 use std::hash::{DefaultHasher, Hash, Hasher};
 
@@ -29,7 +30,15 @@ fn reads_texts(rt: HostRuntime) {
         ("3.1", Error::ArcInvalid { arc: 3 }),
         ("3", Error::ArcInvalid { arc: 3 }),
         ("3.2.840.10045.2.1", Error::ArcInvalid { arc: 3 }),
+        ("3..1", Error::ArcInvalid { arc: 3 }),
+        ("3.", Error::TrailingDot),
+        ("1.40.", Error::TrailingDot),
         ("1.2.4294967296", Error::ArcTooBig),
+        ("1.2.4294967296x", Error::ArcTooBig),
+        (
+            "1.2.1.1.1.1.1.1.1.1.1.1.1.1.1.1.1.1.1.1.1.1.1.1.1.1.1.1.1.1.1.1.1.1.1.1.1.1.1.1.1",
+            Error::Length,
+        ),
     ] {
         assert!(rt; ObjectIdentifier::<39>::new(text) == Err(want), "{text}");
     }
@@ -63,6 +72,22 @@ fn prints_texts(rt: HostRuntime) -> Result<()> {
 }
 
 #[test]
+fn gathers_arcs(rt: HostRuntime) {
+    let none: [u32; 0] = [];
+    for (arcs, want) in [
+        (none.as_slice(), Error::Empty),
+        ([2].as_slice(), Error::Empty),
+        ([3, 40].as_slice(), Error::ArcInvalid { arc: 3 }),
+        ([0, 40, 7].as_slice(), Error::ArcInvalid { arc: 40 }),
+        ([1; 41].as_slice(), Error::Length),
+    ] {
+        assert!(rt; ObjectIdentifier::<39>::from_arcs(arcs.iter().copied()) == Err(want));
+    }
+    let oid = ObjectIdentifier::<39>::from_arcs([2, 5, 4, 3].iter().copied());
+    assert!(rt; oid == ObjectIdentifier::<39>::new("2.5.4.3"));
+}
+
+#[test]
 fn reads_octets(rt: HostRuntime) {
     let none: [u8; 0] = [];
     assert!(rt; ObjectIdentifier::<39>::from_bytes(&none) == Err(Error::Empty));
@@ -73,7 +98,14 @@ fn reads_octets(rt: HostRuntime) {
         ObjectIdentifier::<39>::from_bytes(&[0x2a, 0x90, 0x80, 0x80, 0x80, 0x00])
             == Err(Error::ArcTooBig)
     );
+    assert!(rt;
+        ObjectIdentifier::<39>::from_bytes(&[0x2a, 0x90, 0x80, 0x80, 0x80]) == Err(Error::Base128)
+    );
     assert!(rt; ObjectIdentifier::<39>::from_bytes(&[0x2a; 40]) == Err(Error::Length));
+    assert!(rt; ObjectIdentifier::<39>::from_bytes(&[0x78; 40]) == Err(Error::Length));
+    assert_eq!(rt; ObjectIdentifier::<39>::MAX_SIZE, 39);
+    assert!(rt; ObjectIdentifier::<2>::from_bytes_sized(&[0x2a, 0x03, 0x04]) == Err(Error::Length));
+    assert!(rt; ObjectIdentifierRef::from_bytes(&[0x2a; 40]).is_ok());
     assert!(rt; ObjectIdentifier::<39>::from_bytes(&[0x2a]) == ObjectIdentifier::<39>::new("1.2"));
     assert!(rt; ObjectIdentifierRef::from_bytes(&[0x2a, 0x80, 0x01]).is_err());
 }
@@ -89,10 +121,15 @@ fn moves_by_one_arc(rt: HostRuntime) -> Result<()> {
     assert!(rt; child.parent() == Some(root));
     assert!(rt; child.starts_with(root));
     assert!(rt; !root.starts_with(child));
+    let small = ObjectIdentifier::<3>::from_bytes_sized(&[0x2a, 0x82, 0x2c])?;
+    assert!(rt; child.starts_with(small) && small.starts_with(root));
+    assert!(rt; !ObjectIdentifier::<39>::new("1.2.301")?.starts_with(small));
     assert_eq!(rt; child.len(), 3);
     assert!(rt; child.arc(2) == Some(300));
     assert!(rt; child.arc(3).is_none());
     assert!(rt; root < child);
+    assert!(rt; ObjectIdentifier::<39>::new("2.5")? < child);
+    assert!(rt; child < ObjectIdentifier::<39>::new("1.2.301")?);
     assert!(rt; child.as_oid_ref().equals_owned(&child));
     assert!(rt; ObjectIdentifier::<39>::try_from(child.as_oid_ref()) == Ok(child));
     Ok(())
@@ -105,6 +142,12 @@ fn finds_names(rt: HostRuntime) -> Result<()> {
     let entries = [(&common, "CN"), (&country, "C"), (&common, "commonName")];
     let database = Database::new(&entries);
     assert!(rt; database.by_oid(&common) == Some("CN"));
+    assert!(rt;
+        database
+            .by_oid(&ObjectIdentifier::<39>::new("2.5.4.7")?)
+            .is_none()
+    );
+    assert!(rt; database.by_name("CNN").is_none());
     assert!(rt; database.resolve("2.5.4.6") == Ok("C"));
     assert!(rt; database.resolve("2.5.4.7") == Ok("2.5.4.7"));
     assert!(rt; database.resolve("2.5..7") == Err(Error::RepeatedDot));
@@ -138,15 +181,18 @@ fn lends(rt: HostRuntime) -> Result<()> {
     }
     assert!(rt; oid.as_slice() == octets.as_slice());
     assert!(rt; borrowed.as_slice() == octets.as_slice());
+    assert!(rt; borrowed.as_bytes() == octets.as_slice());
     assert!(rt; ObjectIdentifierRef::from(&oid) == borrowed);
     assert!(rt; ObjectIdentifier::<39>::try_from(borrowed) == Ok(oid));
     assert!(rt; ObjectIdentifier::<6>::try_from(borrowed) == Err(Error::Length));
     assert!(rt; borrowed.equals_owned(&oid));
-    let parent = ObjectIdentifierRef::from_bytes(&octets[..6])?;
+    let parent = ObjectIdentifierRef::from_bytes(&[0x2a, 0x86, 0x48, 0xce, 0x3d, 0x02])?;
     assert!(rt; !parent.equals_owned(&oid));
     assert!(rt; parent < borrowed);
     let shorter = ObjectIdentifierRef::from_bytes(&[0x55])?;
     assert!(rt; borrowed < shorter);
+    assert!(rt; laws::compare_borrowed(&borrowed, &shorter) == Ordering::Less);
+    assert!(rt; !laws::are_equal_borrowed(&borrowed, &shorter));
     assert!(rt; hash_of(&oid) == hash_of(&borrowed));
     assert_eq!(rt; borrowed.len(), 6);
     assert!(rt; borrowed.arc(3) == Some(10045));
@@ -217,5 +263,7 @@ fn tells_the_identifier_of_a_type(rt: HostRuntime) -> Result<()> {
     let want = ObjectIdentifier::<39>::new("2.5.4.3")?;
     assert!(rt; CommonName::associated_oid() == want);
     assert!(rt; CommonName.oid() == want);
+    let value: &dyn DynAssociatedOid = &CommonName;
+    assert!(rt; value.oid() == want);
     Ok(())
 }

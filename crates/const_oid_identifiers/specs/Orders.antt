@@ -1,4 +1,4 @@
--- The order of owned identifiers: by the number of octets, then by the octets.
+-- The order of lists of octets, and with it that of owned identifiers: by the number of octets, then by the octets.
 use Rattle.std.specs.Prelude.{◌≡◌, ℕ, List, length, nat_eq, Bool, true, false}
 use Rattle.std.specs.declared.cmp.Ordering.{Ordering}
 use Rattle.std.specs.declared.cmp.Ordering.TheVariants.{Less, Equal, Greater}
@@ -7,6 +7,12 @@ use Rattle.std.specs.Cmp.{nat_cmp_total, tied_itself, IsTotalOrder, on_total, th
 use Rattle.std.specs.Cmp.Lexicographic.{pointwise, slice_cmp, same_text, texts_ties, nat_list_cmp_total}
 use Rattle.std.proofs.Common.{refl, sym, ap, ◌∙◌}
 use Rattle.const_oid_identifiers.specs.IdentifierOctets.{identifier_octets}
+
+abbrev pub sized_cmp : List ℕ → List ℕ → Ordering
+sized_cmp = then_cmp (on length nat_cmp) (slice_cmp nat_cmp)
+
+pub sized_cmp_total : IsTotalOrder sized_cmp
+sized_cmp_total = then_total (on_total length nat_cmp_total) nat_list_cmp_total
 
 abbrev pub owned_cmp : List ℕ → List ℕ → Ordering
 owned_cmp = then_cmp (on (λ arcs. length (identifier_octets arcs)) nat_cmp) (on identifier_octets (slice_cmp nat_cmp))
@@ -29,3 +35,6 @@ sized_ties xs ys = by (nat_cmp (length xs) (length ys)) refl (pointwise nat_eq x
 
 pub owned_cmp_ties : (a b : List ℕ) → pointwise nat_eq (identifier_octets a) (identifier_octets b) ≡ eq_by_cmp owned_cmp a b
 owned_cmp_ties a b = sized_ties (identifier_octets a) (identifier_octets b)
+
+pub sized_cmp_ties : (a b : List ℕ) → pointwise nat_eq a b ≡ eq_by_cmp sized_cmp a b
+sized_cmp_ties a b = sized_ties a b

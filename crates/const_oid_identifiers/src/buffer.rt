@@ -3,9 +3,9 @@
 ghost use Rattle.std.specs.Prelude.{◌≡◌, ℕ, ◌+◌, ◌<◌, ◌≤◌, ◌==◌, List, [], ◌∷◌, ◌++◌, length, take, nat_eq, refl, Some, MatchResult};
 ghost use Rattle.const_oid_identifiers.specs.IdentifierOctets.{arc_octets};
 ghost use Rattle.const_oid_identifiers.specs.declared.error.Error.TheVariants as errors;
-ghost use Rattle.std.specs.Ordering.{nat_cmp};
-ghost use Rattle.std.specs.Cmp.{partial_equiv_from_equiv};
-ghost use Rattle.std.specs.Cmp.Lexicographic.{pointwise, slice_cmp, nat_list_eq_equiv, nat_list_cmp_total, texts_po, texts_ties};
+ghost use Rattle.const_oid_identifiers.specs.Orders.{sized_cmp, sized_cmp_total, sized_cmp_ties};
+ghost use Rattle.std.specs.Cmp.{po, partial_equiv_from_equiv};
+ghost use Rattle.std.specs.Cmp.Lexicographic.{pointwise, nat_list_eq_equiv};
 ghost use Rattle.std.specs.Cmp.Rules.{hashing};
 ghost use Rattle.std.specs.Hash as fed;
 ghost use Rattle.std.proofs.Common.{rules};
@@ -143,29 +143,33 @@ impl<const SIZE: usize> Eq for Buffer<SIZE> {
     ghost laws = { nat_list_eq_equiv };
 }
 
-/// The order of the octets as a list.
+/// The order of the number of octets, then of the octets.
 impl<const SIZE: usize> PartialOrd for Buffer<SIZE> {
-    ghost partial_cmp = { λ a b. Some (slice_cmp nat_cmp a b) };
+    ghost partial_cmp = { λ a b. Some (sized_cmp a b) };
 
-    ghost laws = { texts_po };
+    ghost laws = { po sized_cmp_total sized_cmp_ties };
 
     fn partial_cmp(&self, other: &Self) -> Option<Ordering> {
         Some(self.cmp(other))
     }
 }
 
-/// The order of the octets as a list.
+/// The order of the number of octets, then of the octets.
 impl<const SIZE: usize> Ord for Buffer<SIZE> {
-    ghost cmp = { slice_cmp nat_cmp };
+    ghost cmp = { sized_cmp };
 
-    ghost total = { nat_list_cmp_total };
+    ghost total = { sized_cmp_total };
 
     ghost matches_partial_cmp = { λ a b. refl };
 
-    ghost matches_eq = { texts_ties };
+    ghost matches_eq = { sized_cmp_ties };
 
     fn cmp(&self, other: &Self) -> Ordering {
-        self.as_bytes().cmp(&other.as_bytes())
+        let (mine, others) = (self.as_bytes(), other.as_bytes());
+        match mine.len().cmp(&others.len()) {
+            Ordering::Equal => mine.cmp(&others),
+            by_length => by_length,
+        }
     }
 }
 

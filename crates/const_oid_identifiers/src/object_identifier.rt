@@ -52,6 +52,7 @@ impl<const MAX_SIZE: usize> Model for ObjectIdentifier<MAX_SIZE> {
 }
 
 impl<const MAX_SIZE: usize> ObjectIdentifier<MAX_SIZE> {
+    ghost use Rattle.std.specs.Prelude.{◌≢◌};
     ghost use Rattle.const_oid_identifiers.specs.References.{reference_octets, reference_arcs, remaining_arcs};
 
     /// The identifier that these octets spell (X.690 8.19), or their first fault from the left.
@@ -59,7 +60,10 @@ impl<const MAX_SIZE: usize> ObjectIdentifier<MAX_SIZE> {
         ensures read { result ≡ read_identifier Bound MAX_SIZE ber_bytes.now }
         ensures ok { IfOk result
             (λ arcs. IsIdentifier Bound arcs × (length ber_bytes.now ≤ MAX_SIZE) × (ber_bytes.now ≡ identifier_octets arcs)) }
+        ensures spelled { (arcs : List ℕ) → ber_bytes.now ≡ identifier_octets arcs → IsIdentifier Bound arcs → length ber_bytes.now ≤ MAX_SIZE
+            → result ≡ Ok arcs }
         ensures fault { IfErr result (λ e. IsOctetsFault Bound MAX_SIZE ber_bytes.now e) }
+        ensures never_overflow { result ≢ Err errors.Overflow }
     {
         Self::read_octets(ber_bytes)
     }
@@ -252,11 +256,13 @@ impl ObjectIdentifier<39> {
         }
     }
 
-    /// The identifier that these octets spell (X.690 8.19).
+    /// The identifier that these octets spell (X.690 8.19), or their first fault from the left.
     pub fn from_bytes(ber_bytes: &[u8]) -> Result<Self>
         ensures read { result ≡ read_identifier Bound 39 ber_bytes.now }
         ensures ok { IfOk result
             (λ arcs. IsIdentifier Bound arcs × (length ber_bytes.now ≤ 39) × (ber_bytes.now ≡ identifier_octets arcs)) }
+        ensures spelled { (arcs : List ℕ) → ber_bytes.now ≡ identifier_octets arcs → IsIdentifier Bound arcs → length ber_bytes.now ≤ 39
+            → result ≡ Ok arcs }
         ensures fault { IfErr result (λ e. IsOctetsFault Bound 39 ber_bytes.now e) }
         ensures never_overflow { result ≢ Err errors.Overflow }
     {
@@ -270,7 +276,8 @@ impl ObjectIdentifier<39> {
     ghost use Rattle.const_oid_identifiers.specs.ArcLists.{gather};
     ghost use Rattle.const_oid_identifiers.specs.ArcFaults.{IsArcsFault};
 
-    /// The identifier of these arcs. It takes the items up to the first fault, and all of them where there is none.
+    /// The identifier of these arcs, or the first fault of their list. It takes the items up to that fault, and all of them
+    /// where there is none.
     pub fn from_arcs<I: IntoIterator<Item = Arc>>(arcs: I) -> Result<Self>
         requires { IsFiniteIterable I.into_iter_gives I.IntoIter.can_next I.IntoIter.remaining arcs }
         ensures gathered { (it : I.IntoIter) × (xs : List ℕ) × I.into_iter_gives arcs it × DrainsIf I.IntoIter.next_gives (IsOk result) it xs × (result ≡ gather 39 [] xs) }
@@ -295,8 +302,9 @@ impl ObjectIdentifier<39> {
     }
 }
 
+/// As `new` reads a text.
 impl FromStr for ObjectIdentifier<39> {
-    ghost use Rattle.std.specs.Prelude.{◌≡◌};
+    ghost use Rattle.std.specs.Prelude.{◌≡◌, ◌≢◌};
     ghost use Rattle.const_oid_identifiers.specs.Bound.{Bound};
     ghost use Rattle.const_oid_identifiers.specs.TextReading.{read_text};
     ghost use Rattle.const_oid_identifiers.specs.TextFaults.{IsText, IsTextFault};
@@ -311,11 +319,13 @@ impl FromStr for ObjectIdentifier<39> {
         ensures spelled { (arcs : List ℕ) → IsText arcs s.now → IsIdentifier Bound arcs → length (identifier_octets arcs) ≤ 39
             → result ≡ Ok arcs }
         ensures fault { IfErr result (λ e. IsTextFault Bound 39 s.now e) }
+        ensures never_overflow { result ≢ Err errors.Overflow }
     {
         Self::new(s)
     }
 }
 
+/// As `from_bytes` reads octets.
 impl<'a> TryFrom<&'a [u8]> for ObjectIdentifier<39> {
     ghost use Rattle.std.specs.Prelude.{◌≡◌};
     ghost use Rattle.const_oid_identifiers.specs.Bound.{Bound};
@@ -330,7 +340,7 @@ impl<'a> TryFrom<&'a [u8]> for ObjectIdentifier<39> {
     }
 }
 
-/// The same identifier, if its octets are within the capacity.
+/// The same identifier, or `Length` where its octets pass the capacity.
 impl<'a, const MAX_SIZE: usize> TryFrom<ObjectIdentifierRef<'a>> for ObjectIdentifier<MAX_SIZE> {
     ghost use Rattle.std.specs.Prelude.{◌≡◌};
     ghost use Rattle.const_oid_identifiers.specs.Bound.{Bound};

@@ -1,6 +1,6 @@
 //! Borrowed identifiers.
 
-ghost use Rattle.std.specs.Prelude.{◌≡◌, ℕ, ◌<◌, ◌↔◌, IsTrue, ◌≤◌, true, is_ok, length, slice_get, Result, Ok, IfOk};
+ghost use Rattle.std.specs.Prelude.{◌≡◌, ℕ, ◌<◌, ◌↔◌, IsTrue, ◌≤◌, true, is_ok, length, slice_get, Result, Ok, IfOk, List};
 ghost use Rattle.const_oid_identifiers.specs.Bound.{Bound};
 ghost use Rattle.const_oid_identifiers.specs.Arcs.{arcs_of};
 ghost use Rattle.const_oid_identifiers.specs.IdentifierOctets.{identifier_octets, IsIdentifier, read_identifier};
@@ -32,6 +32,8 @@ impl<'a> ObjectIdentifierRef<'a> {
         ensures octets { IfOk result (λ oid. reference_octets oid ≡ ber.now) }
         ensures ok { IfOk result
             (λ oid. IsIdentifier Bound (reference_arcs oid) × (ber.now ≡ identifier_octets (reference_arcs oid))) }
+        ensures spelled { (arcs : List ℕ) → ber.now ≡ identifier_octets arcs → IsIdentifier Bound arcs
+            → result_map_both reference_arcs (λ e. e) result ≡ Ok arcs }
 
         // The capacity is the number of octets: none are too many.
         ensures fault { IfErr result (λ e. IsOctetsFault Bound (length ber.now) ber.now e) }
@@ -99,7 +101,7 @@ impl AsSlice<u8> for ObjectIdentifierRef<'_> {
     ghost items = { reference_octets };
 
     fn as_slice(&self) -> &[u8] {
-        self.octets
+        self.as_bytes()
     }
 }
 

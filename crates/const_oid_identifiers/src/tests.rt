@@ -23,6 +23,8 @@ fn keeps_octets_in_place(rt: HostRuntime) {
     assert!(rt; some == Buffer::<3>::from_slice(&[42, 3]));
     assert!(rt; some != Buffer::<3>::from_slice(&[42, 3, 0]));
     assert!(rt; none < some);
+    assert!(rt; Buffer::<3>::from_slice(&[43]) < some);
+    assert!(rt; some < Buffer::<3>::from_slice(&[43, 0]));
     assert!(rt; hash_of(&some) == hash_of(&Buffer::<3>::from_slice(&[42, 3])));
     let shown = format!(in rt.alloc(); "{some:?}").expect(&rt, "memory");
     assert!(rt; shown.as_str() == "[42, 3]");

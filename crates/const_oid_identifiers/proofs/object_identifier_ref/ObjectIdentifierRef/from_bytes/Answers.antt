@@ -1,16 +1,31 @@
-use Rattle.std.proofs.Common.{◌≡◌, length, Err, IfErr, ap, sym, subst, ◌∙◌, arith}
+use Rattle.std.proofs.Common.{◌≡◌, List, ℕ, length, Ok, Err, IfErr, ap, sym, subst, ◌∙◌, arith}
 use Rattle.std.proofs.lemmas.Result.{err_from_is_err_and}
 use Rattle.std.specs.Result.{is_ok}
 use Rattle.const_oid_identifiers.specs.declared.error.Error.TheVariants as errors
 use Rattle.const_oid_identifiers.specs.Bound.{Bound}
 use Rattle.const_oid_identifiers.specs.OctetFaults.{IsOctetsFault}
+use Rattle.const_oid_identifiers.specs.IdentifierOctets.{read_identifier, identifier_octets, IsIdentifier}
+use Rattle.const_oid_identifiers.proofs.IdentifierLaws.{identifier_again}
 use Rattle.const_oid_identifiers.proofs.ArcsLaws.{read_identifier-ok, read_identifier-err, spells_from_read}
 use Rattle.const_oid_identifiers.proofs.OctetFaultLaws.{fault_found}
 use Rattle.const_oid_identifiers.proofs.OverflowLaws.{octets-not_overflow}
 use Rattle.const_oid_identifiers.proofs.object_identifier_ref.ObjectIdentifierRef.from_bytes.Goals as goal
 
+-- octets that spell an identifier are read as it, whatever their number
+read_again : (w arcs : List ℕ) → w ≡ identifier_octets arcs → IsIdentifier Bound arcs → read_identifier Bound (length w) w ≡ Ok arcs
+read_again w arcs octets id =
+    ap (λ (v : List ℕ). read_identifier Bound (length v) v) octets ∙ identifier_again Bound (length (identifier_octets arcs)) arcs id (omega arith)
+
 pub returns-clause-read : goal.returns-clause-read
 returns-clause-read c = sym (read_identifier-ok Bound c.args.ber.now (sym c.in_ok-check.ensures))
+
+pub returns-clause-spelled : goal.returns-clause-spelled
+returns-clause-spelled c arcs octets id = sym (read_identifier-ok Bound c.args.ber.now (sym c.in_ok-check.ensures)) ∙ read_again c.args.ber.now arcs octets id
+
+pub returns-in_err-check-clause-spelled : goal.returns-in_err-check-clause-spelled
+returns-in_err-check-clause-spelled c arcs octets id =
+    let refused = read_identifier-err Bound c.args.ber.now _ (sym c.in_err-check.ensures) in
+    let read = read_again c.args.ber.now arcs octets id in cc
 
 pub returns-clause-ok : goal.returns-clause-ok
 returns-clause-ok c =
