@@ -6,7 +6,7 @@ use Rattle.der_core_head.specs.declared.tag.Tag.{Tag}
 use Rattle.der_core_head.specs.Octets.{IsOctets}
 use Rattle.der_core_head.specs.Tags.{IsTag}
 use Rattle.der_core_head.specs.Heads.{Fits, head_octets, tlv}
-use Rattle.der_core_head.specs.Shapes.{Shape, Content, Body, tagged, any, either, optional, defaulted, leaf, nested, done, field, only, many, rising, Value, ContentValue, BodyValue, octets_of, contents, body_octets, unless, IsValid, IsContent, IsBody}
+use Rattle.der_core_head.specs.Shapes.{Shape, Content, Body, tagged, any, either, optional, defaulted, nothing, leaf, nested, done, field, only, many, exactly, rising, Value, ContentValue, BodyValue, octets_of, contents, body_octets, unless, IsValid, IsContent, IsBody}
 use Rattle.der_core_head.proofs.Bytes.{IsBytes}
 use Rattle.der_core_head.proofs.HeadLaws.{head_octets-below}
 use Rattle.der_core_head.proofs.LeafLaws.{leaf_below}
@@ -46,6 +46,7 @@ mutual
   octets_below (optional s) None h = tt
   octets_below (optional s) (Some v) h = octets_below s v h
   octets_below (defaulted s d) v h = unless_below (bytes_eq (octets_of s v) d) (octets_of s v) (octets_below s v h)
+  octets_below nothing v h = tt
 
   pub contents_below : (c : Content) (v : ContentValue c) → IsContent c v → IsOctets (contents c v)
   contents_below (leaf l) v h = leaf_below l v h
@@ -56,4 +57,5 @@ mutual
   body_below (field s b) v h = below-append (octets_of s v.0) (body_octets b v.1) (octets_below s v.0 h.0) (body_below b v.1 h.1)
   body_below (only s) v h = octets_below s v h
   body_below (many s) v h = below-flat_map (IsValid s) (octets_of s) (λ x k. octets_below s x k) v h
+  body_below (exactly n s) v h = below-flat_map (IsValid s) (octets_of s) (λ x k. octets_below s x k) v h.0
   body_below (rising s) v h = below-flat_map (IsValid s) (octets_of s) (λ x k. octets_below s x k) v h.0

@@ -15,9 +15,9 @@ use Rattle.der_core_head.specs.declared.tag.Tag.{Tag}
 use Rattle.der_core_head.specs.Octets.{◌>>=◌, Readings}
 use Rattle.der_core_head.specs.Tags.{IsTag, same_tag, tag_at, tag_octets}
 use Rattle.der_core_head.specs.Heads.{Fits, head_octets, length_octets, tlv}
-use Rattle.der_core_head.specs.Shapes.{Shape, Content, Body, tagged, any, either, optional, defaulted, leaf, nested, done, field, only, many, rising, Value, ContentValue, BodyValue, AnyValue, octets_of, contents, body_octets, unless, IsValid, IsContent, IsBody, AllRising, begins}
+use Rattle.der_core_head.specs.Shapes.{Shape, Content, Body, tagged, any, either, optional, defaulted, nothing, leaf, nested, done, field, only, many, exactly, rising, Value, ContentValue, BodyValue, AnyValue, octets_of, contents, body_octets, unless, IsValid, IsContent, IsBody, AllRising, begins}
 use Rattle.der_core_head.specs.Spelling.{is_apart, is_content_apart, is_body_apart, is_element, is_clear, is_end, none_of, body_begins, are_enough, are_content_enough, are_body_enough}
-use Rattle.der_core_head.specs.Grammar.{whole, read, read_content, read_body, read_many, read_rising, follows_last, tlv_at, any_at, peek_at, chosen, opt_at, default_at, either_at, value_at, slice_at, leaf_at}
+use Rattle.der_core_head.specs.Grammar.{whole, read, read_content, read_body, read_many, read_exactly, read_rising, follows_last, tlv_at, any_at, peek_at, chosen, opt_at, default_at, either_at, value_at, slice_at, leaf_at}
 use Rattle.der_core_head.proofs.TagLaws.{tag_again, tag_octets-some, same_tag-refl, same_tag-eq}
 use Rattle.der_core_head.proofs.HeadLaws.{head_again}
 use Rattle.der_core_head.proofs.LeafLaws.{leaf_again}
@@ -68,6 +68,7 @@ element_first (either a b) (inr v) e h =
     (f.0, f.1, f.2, f.3, or_right (begins a f.0) (begins b f.0) f.4)
 element_first (optional s) v e h = absurd (false≢true e)
 element_first (defaulted s d) v e h = absurd (false≢true e)
+element_first nothing v e h = absurd (false≢true e)
 
 -- an element takes an octet
 pub element_some : (s : Shape) (v : Value s) → is_element s ≡ true → IsValid s v → (b : ℕ) × (w : List ℕ) × (octets_of s v ≡ b ∷ w)
@@ -84,6 +85,7 @@ field_first any v a h = inr (element_first any v refl h)
 field_first (either x y) v a h = inr (element_first (either x y) v (and_parts (is_element x && is_element y) _ a).0 h)
 field_first (optional s) None a h = inl (refl, refl)
 field_first (optional s) (Some v) a h = inr (element_first s v (and_parts (is_element s) (is_apart s) a).0 h)
+field_first nothing v a h = inl (refl, refl)
 field_first (defaulted s d) v a h = go (bytes_eq (octets_of s v) d)
   where
     go : (b : Bool) → ((unless b (octets_of s v) ≡ []) × (is_element (defaulted s d) ≡ false)) ⊎ Begins s (unless b (octets_of s v))
@@ -111,6 +113,10 @@ body_first (many s) [] a h = inl refl
 body_first (many s) (x ∷ xs) a h =
     let p = and_parts (is_element s) (is_apart s) a in
     inr (first_more (begins s) (octets_of s x) (flat_map (octets_of s) xs) (element_first s x p.0 h.0))
+body_first (exactly n s) [] a h = inl refl
+body_first (exactly n s) (x ∷ xs) a h =
+    let p = and_parts (is_element s) (is_apart s) a in
+    inr (first_more (begins s) (octets_of s x) (flat_map (octets_of s) xs) (element_first s x p.0 h.0.0))
 body_first (rising s) [] a h = inl refl
 body_first (rising s) (x ∷ xs) a h =
     let p = and_parts (is_element s) (is_apart s) a in
@@ -153,6 +159,7 @@ not_begins (either a b) f t n h =
     rw (not_begins a f t p.0 h, not_begins b f t p.1 h) refl
 not_begins (optional s) f t n h = not_begins s f t n h
 not_begins (defaulted s d) f t n h = not_begins s f t n h
+not_begins nothing f t n h = refl
 
 pub end_empty : (b : Body) (v : BodyValue b) → is_end b ≡ true → body_octets b v ≡ []
 unfolding body_octets
@@ -160,6 +167,7 @@ end_empty done v e = refl
 end_empty (field s b) v e = absurd (false≢true e)
 end_empty (only s) v e = absurd (false≢true e)
 end_empty (many s) v e = absurd (false≢true e)
+end_empty (exactly n s) v e = absurd (false≢true e)
 end_empty (rising s) v e = absurd (false≢true e)
 
 -- what follows a field doesn't begin as the field would
@@ -222,6 +230,13 @@ many_again F V o each some (x ∷ xs) n l h =
     let more = many_again F V o each some xs (n - 1) (omega (arith, length-append f.1 rest)) h.1 in
     let first : F (f.0 ∷ (f.1 ++ rest)) ≡ Ok (x, rest) = ap F (sym is) ∙ each x rest h.0 in
     ap (read_many F n) is ∙ ap (λ k. read_many F k (f.0 ∷ (f.1 ++ rest))) m ∙ rw (first, more) refl
+
+exactly_again : {P : Type 0} (F : Readings P) (V : P → Type 0) (o : P → List ℕ) → ReadsAgain F V o → (xs : List P) (n : ℕ) → AllByRecursion V xs → length xs ≡ n → read_exactly F n (flat_map o xs) ≡ Ok (xs, [])
+unfolding read_exactly
+exactly_again F V o each [] zero h l = refl
+exactly_again F V o each [] (suc n) h l = absurd cc
+exactly_again F V o each (x ∷ xs) zero h l = absurd cc
+exactly_again F V o each (x ∷ xs) (suc n) h l = rw (each x (flat_map o xs) h.0, exactly_again F V o each xs n h.1 (omega (arith, l))) refl
 
 abbrev Above : {P : Type 0} → (P → List ℕ) → Option (List ℕ) → List P → Type 0
 Above o last [] = ⊤
@@ -292,6 +307,7 @@ mutual
   complete (optional s) room (Some v) r a n h o =
       let p = and_parts (is_element s) (is_apart s) a in
       opt_some (begins s) (read s room) (octets_of s v ++ r) v r (first_more (begins s) (octets_of s v) r (element_first s v p.0 h)) (complete s room v r p.1 n h (stops_element s r p.0))
+  complete nothing room v r a n h o = refl
   complete (defaulted s d) room v r a n h o =
       let p = and_parts (is_element s) (is_apart s) (and_parts (is_element s && is_apart s) _ a).0 in
       let m = and_parts (are_enough s room) (are_enough s 64) n in
@@ -317,6 +333,9 @@ mutual
   complete_body (many s) room v a n h =
       let p = and_parts (is_element s) (is_apart s) a in
       many_again (read s room) (IsValid s) (octets_of s) (λ x t k. complete s room x t p.1 n k (stops_element s t p.0)) (λ x k. element_some s x p.0 k) v (length (flat_map (octets_of s) v)) (omega arith) h
+  complete_body (exactly k s) room v a n h =
+      let p = and_parts (is_element s) (is_apart s) a in
+      exactly_again (read s room) (IsValid s) (octets_of s) (λ x t q. complete s room x t p.1 n q (stops_element s t p.0)) v k h.0 h.1
   complete_body (rising s) room v a n h =
       let p = and_parts (is_element s) (is_apart s) a in
       rising_again (read s room) (IsValid s) (octets_of s) (λ x t k. complete s room x t p.1 n k (stops_element s t p.0)) (λ x k. element_some s x p.0 k) None v (length (flat_map (octets_of s) v)) (omega arith) h.0 (above_none (octets_of s) v) h.1

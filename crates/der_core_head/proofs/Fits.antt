@@ -4,7 +4,7 @@ use Rattle.std.proofs.lemmas.List.{length-append}
 use Rattle.std.specs.Str.{bytes_eq}
 use Rattle.der_core_head.specs.declared.tag.Tag.{Tag}
 use Rattle.der_core_head.specs.Heads.{Fits, head_octets, tlv}
-use Rattle.der_core_head.specs.Shapes.{Shape, tagged, any, either, optional, defaulted, Value, octets_of, unless, IsValid}
+use Rattle.der_core_head.specs.Shapes.{Shape, tagged, any, either, optional, defaulted, nothing, Value, octets_of, unless, IsValid}
 
 -- a part of what fits fits
 pub fits_front : (u r w : List ℕ) → w ≡ u ++ r → Fits w → Fits u
@@ -26,6 +26,7 @@ valid_fits (either a b) (inl v) h = valid_fits a v h
 valid_fits (either a b) (inr v) h = valid_fits b v h
 valid_fits (optional s) None h = omega arith
 valid_fits (optional s) (Some v) h = valid_fits s v h
+valid_fits nothing v h = omega arith
 valid_fits (defaulted s d) v h = go (bytes_eq (octets_of s v) d) (valid_fits s v h)
   where
     go : (b : Bool) → Fits (octets_of s v) → Fits (unless b (octets_of s v))

@@ -18,9 +18,9 @@ use Rattle.der_core_head.specs.Octets.{IsOctets, are_octets, ◌>>=◌, Readings
 use Rattle.der_core_head.specs.Tags.{IsTag, same_tag, tag_at}
 use Rattle.der_core_head.specs.Heads.{Fits, head_at, head_octets, tlv}
 use Rattle.der_core_head.specs.Leaves.{leaf_read}
-use Rattle.der_core_head.specs.Shapes.{Shape, Content, Body, tagged, any, either, optional, defaulted, leaf, nested, done, field, only, many, rising, Value, ContentValue, BodyValue, AnyValue, octets_of, contents, body_octets, unless, IsValid, IsContent, IsBody, AllRising, begins}
+use Rattle.der_core_head.specs.Shapes.{Shape, Content, Body, tagged, any, either, optional, defaulted, nothing, leaf, nested, done, field, only, many, exactly, rising, Value, ContentValue, BodyValue, AnyValue, octets_of, contents, body_octets, unless, IsValid, IsContent, IsBody, AllRising, begins}
 use Rattle.der_core_head.specs.Spelling.{is_apart, is_content_apart, is_body_apart, is_element, is_clear}
-use Rattle.der_core_head.specs.Grammar.{whole, read, read_content, read_body, read_many, read_rising, ordered, follows_last, tlv_at, any_at, peek_at, chosen, opt_after, opt_at, default_after, default_at, either_at, value_at, slice_at, leaf_at}
+use Rattle.der_core_head.specs.Grammar.{whole, read, read_content, read_body, read_many, read_exactly, read_rising, ordered, follows_last, tlv_at, any_at, peek_at, chosen, opt_after, opt_at, default_after, default_at, either_at, value_at, slice_at, leaf_at}
 use Rattle.der_core_head.proofs.Results.{ok_is, bind_ok, if_ok, unless_ok, either_ok, whole_ok}
 use Rattle.der_core_head.proofs.Bytes.{IsBytes, bytes_take, bytes_rest, octets_are}
 use Rattle.der_core_head.proofs.Fits.{fits_front, fits_rest, fits_contents}
@@ -173,6 +173,19 @@ many_sound {P} F V o each (suc n) (b ∷ w) v r bytes fits e =
     subst (λ (q : List P × List ℕ). Found (AllByRecursion V) (flat_map o) (b ∷ w) q.0 q.1) {x = (x.0.0 ∷ y.0.0, y.0.1)} same
     ((u.0, m.0), joined (o x.0.0) (flat_map o y.0.0) y.0.1 x.0.1 (b ∷ w) u.1 m.1)
 
+exactly_sound : {P : Type 0} (F : Readings P) (V : P → Type 0) (o : P → List ℕ) → Finds F V o
+    → (n : ℕ) (w : List ℕ) (v : List P) (r : List ℕ) → IsBytes w → Fits w → read_exactly F n w ≡ Ok (v, r) → Found (λ v. AllByRecursion V v × (length v ≡ n)) (flat_map o) w v r
+unfolding read_exactly
+exactly_sound {P} F V o each zero w v r bytes fits e = let same = ok_is ([], w) (v, r) e in subst (λ (q : List P × List ℕ). Found (λ v. AllByRecursion V v × (length v ≡ 0)) (flat_map o) w q.0 q.1) same ((tt, refl), refl)
+exactly_sound {P} F V o each (suc n) w v r bytes fits e =
+    let x = bind_ok (F w) (λ x. read_exactly F n x.1 >>= λ y. Ok (x.0 ∷ y.0, y.1)) (v, r) e in
+    let y = bind_ok (read_exactly F n x.0.1) (λ y. Ok (x.0.0 ∷ y.0, y.1)) (v, r) x.2 in
+    let u = each w x.0.0 x.0.1 bytes fits x.1 in
+    let m = exactly_sound F V o each n x.0.1 y.0.0 y.0.1 (bytes_rest (o x.0.0) x.0.1 w u.1 bytes) (fits_rest (o x.0.0) x.0.1 w u.1 fits) y.1 in
+    let same = ok_is (x.0.0 ∷ y.0.0, y.0.1) (v, r) y.2 in
+    subst (λ (q : List P × List ℕ). Found (λ v. AllByRecursion V v × (length v ≡ suc n)) (flat_map o) w q.0 q.1) {x = (x.0.0 ∷ y.0.0, y.0.1)} same
+    (((u.0, m.0.0), ap suc m.0.1), joined (o x.0.0) (flat_map o y.0.0) y.0.1 x.0.1 w u.1 m.1)
+
 -- and above the octets before
 abbrev RisesFrom : {P : Type 0} → (P → List ℕ) → Option (List ℕ) → List P → Type 0
 RisesFrom o last [] = ⊤
@@ -234,6 +247,7 @@ mutual
         | inl h ↦ subst (λ q. IsValid (optional s) q × (w ≡ octets_of (optional s) q ++ r)) (sym h.0) (tt, h.1)
         | inr h ↦ subst (λ q. IsValid (optional s) q × (w ≡ octets_of (optional s) q ++ r)) (sym h.1) (sound s room w h.0 r p bytes fits h.2)
       ]
+  sound nothing room w v r a bytes fits e = (tt, ap (λ (q : Unit {0} × List ℕ). q.1) (ok_is (tt, w) (v, r) e))
   sound (defaulted s d) room w v r a bytes fits e =
       let q = and_parts _ (are_octets d && ltb (length d) 4294967296) a in
       let k = and_parts (are_octets d) (ltb (length d) 4294967296) q.1 in
@@ -272,6 +286,8 @@ mutual
   sound_body (only s) room w v r a bytes fits e = sound s room w v r (and_parts (is_element s) _ a).1 bytes fits e
   sound_body (many s) room w v r a bytes fits e =
       many_sound (read s room) (IsValid s) (octets_of s) (λ w v r bytes fits e. sound s room w v r (and_parts (is_element s) _ a).1 bytes fits e) (length w) w v r bytes fits e
+  sound_body (exactly n s) room w v r a bytes fits e =
+      exactly_sound (read s room) (IsValid s) (octets_of s) (λ w v r bytes fits e. sound s room w v r (and_parts (is_element s) _ a).1 bytes fits e) n w v r bytes fits e
   sound_body (rising s) room w v r a bytes fits e =
       let h = rising_sound (read s room) (IsValid s) (octets_of s) (λ w v r bytes fits e. sound s room w v r (and_parts (is_element s) _ a).1 bytes fits e) None (length w) w v r bytes fits e in
       ((h.0.0, from_none (octets_of s) v h.0.1), h.1)

@@ -10,7 +10,7 @@ use Rattle.der_core_head.specs.declared.tag.Tag.{Tag}
 use Rattle.der_core_head.specs.Tags.{tag_octets}
 use Rattle.der_core_head.specs.Heads.{Fits, head_octets, length_octets, tlv}
 use Rattle.der_core_head.specs.Leaves.{leaf_contents}
-use Rattle.der_core_head.specs.Shapes.{Shape, Content, Body, tagged, any, either, optional, defaulted, leaf, nested, done, field, only, many, rising, Value, ContentValue, BodyValue, octets_of, contents, body_octets, unless, IsValid, IsContent, IsBody}
+use Rattle.der_core_head.specs.Shapes.{Shape, Content, Body, tagged, any, either, optional, defaulted, nothing, leaf, nested, done, field, only, many, exactly, rising, Value, ContentValue, BodyValue, octets_of, contents, body_octets, unless, IsValid, IsContent, IsBody}
 use Rattle.der_core_head.specs.Reading.{Gives}
 use Rattle.der_core_head.specs.Writing.{Out, put, put_head, head_len, sum_len, fit_len, tlv_len, both_len, many_len, default_len, size, size_content, size_body, write_tlv, write_many, default_write, write, write_content, write_body}
 use Rattle.der_core_head.proofs.Results.{ok_is}
@@ -57,6 +57,7 @@ mutual
   sized (optional s) None h = refl
   sized (optional s) (Some v) h = sized s v h
   sized (defaulted s d) v h = default_size (bytes_eq (octets_of s v) d) (octets_of s v) (size s v) (sized s v h)
+  sized nothing v h = refl
 
   pub sized_content : (c : Content) (v : ContentValue c) → IsContent c v → Fits (contents c v) → size_content c v ≡ Ok (length (contents c v))
   sized_content (leaf k) v h l = fit_size (length (leaf_contents k v)) l
@@ -69,6 +70,7 @@ mutual
       rw (sized s v.0 h.0, sized_body b v.1 h.1 (omega (arith, sum, l)), sum_ok (length (octets_of s v.0)) (length (body_octets b v.1)) (omega (arith, sum, l))) (ap (λ k. Ok k) (sym sum))
   sized_body (only s) v h l = sized s v h
   sized_body (many s) v h l = many_sized (size s) (IsValid s) (octets_of s) (λ x k m. sized s x k) v h l
+  sized_body (exactly n s) v h l = many_sized (size s) (IsValid s) (octets_of s) (λ x k m. sized s x k) v h.0 l
   sized_body (rising s) v h l = many_sized (size s) (IsValid s) (octets_of s) (λ x k m. sized s x k) v h.0 l
 
 -- a writer without a limit
@@ -112,6 +114,7 @@ mutual
   written (optional s) None a h = ap (λ w. Ok (out w)) (sym (append-nil a))
   written (optional s) (Some v) a h = written s v a h
   written (defaulted s d) v a h = default_put (bytes_eq (octets_of s v) d) (octets_of s v) a (write s v) (written s v a h)
+  written nothing v a h = ap (λ w. Ok (out w)) (sym (append-nil a))
 
   pub written_content : (c : Content) (v : ContentValue c) (a : List ℕ) → IsContent c v → write_content c v (out a) ≡ Ok (out (a ++ contents c v))
   written_content (leaf k) v a h = put_is (leaf_contents k v) a
@@ -123,6 +126,7 @@ mutual
       rw (written s v.0 a h.0) (written_body b v.1 (a ++ octets_of s v.0) h.1 ∙ ap (λ w. Ok (out w)) (append_assoc a (octets_of s v.0) (body_octets b v.1)))
   written_body (only s) v a h = written s v a h
   written_body (many s) v a h = many_put (write s) (IsValid s) (octets_of s) (λ x a k. written s x a k) v a h
+  written_body (exactly n s) v a h = many_put (write s) (IsValid s) (octets_of s) (λ x a k. written s x a k) v a h.0
   written_body (rising s) v a h = many_put (write s) (IsValid s) (octets_of s) (λ x a k. written s x a k) v a h.0
 
 -- what a call answered that wrote into nothing

@@ -12,7 +12,7 @@ use Rattle.der_core_head.specs.Octets.{◌>>=◌, Readings}
 use Rattle.der_core_head.specs.Tags.{same_tag, tag_at}
 use Rattle.der_core_head.specs.Heads.{head_at}
 use Rattle.der_core_head.specs.Leaves.{leaf_read}
-use Rattle.der_core_head.specs.Shapes.{Shape, Content, Body, tagged, any, either, optional, defaulted, leaf, nested, done, field, only, many, rising, Value, ContentValue, BodyValue, AnyValue, octets_of, begins}
+use Rattle.der_core_head.specs.Shapes.{Shape, Content, Body, tagged, any, either, optional, defaulted, nothing, leaf, nested, done, field, only, many, exactly, rising, Value, ContentValue, BodyValue, AnyValue, octets_of, begins}
 
 unfoldable pub slice_at : ℕ → Readings (List ℕ)
 slice_at n w = if nat_lt (length w) n then Err kinds.Incomplete else Ok (take n w, drop n w)
@@ -44,6 +44,11 @@ unfoldable pub read_many : {P : Type 0} → Readings P → ℕ → Readings (Lis
 read_many f n [] = Ok ([], [])
 read_many f zero (b ∷ bs) = Err kinds.TrailingData
 read_many f (suc n) (b ∷ bs) = f (b ∷ bs) >>= λ x. read_many f n x.1 >>= λ y. Ok (x.0 ∷ y.0, y.1)
+
+-- so many values, one after the other
+unfoldable pub read_exactly : {P : Type 0} → Readings P → ℕ → Readings (List P)
+read_exactly f zero w = Ok ([], w)
+read_exactly f (suc n) w = f w >>= λ x. read_exactly f n x.1 >>= λ y. Ok (x.0 ∷ y.0, y.1)
 
 -- whether octets may follow one another in a set
 abbrev pub ordered : Ordering → Result (Unit {0}) ErrorKind
@@ -112,6 +117,7 @@ abbrev mutual
   read (either a b) room w = either_at (begins a) (begins b) (read a room) (read b room) w
   read (optional s) room w = opt_at (begins s) (read s room) w
   read (defaulted s d) room w = default_at (begins s) (read s 64 d) (λ v. bytes_eq (octets_of s v) d) (read s room) w
+  read nothing room w = Ok (tt, w)
 
   pub read_content : (c : Content) → Tag → ℕ → List ℕ → Result (ContentValue c × List ℕ) ErrorKind
   read_content (leaf l) t room w = leaf_at (leaf_read l t w)
@@ -123,6 +129,7 @@ abbrev mutual
   read_body (field s b) room w = read s room w >>= λ x. read_body b room x.1 >>= λ y. Ok ((x.0, y.0), y.1)
   read_body (only s) room w = read s room w
   read_body (many s) room w = read_many (read s room) (length w) w
+  read_body (exactly n s) room w = read_exactly (read s room) n w
   read_body (rising s) room w = read_rising (λ v. octets_of s v) (read s room) None (length w) w
 
 abbrev pub plain_option : {A B : Type 0} → (A → B) → Option A → Option B

@@ -1,9 +1,13 @@
 -- Differences of lengths, and octets and texts that a length can count.
-use Rattle.std.specs.Prelude.{ℕ, ◌-◌, List, length, Result, Ok, Err, nat_lt, if◌then◌else◌}
+use Rattle.std.specs.Prelude.{◌≡◌, ℕ, ◌-◌, List, length, Result, Ok, Err, nat_lt, if◌then◌else◌}
 use Rattle.der_core_head.specs.declared.error.ErrorKind.{ErrorKind}
 use Rattle.der_core_head.specs.declared.error.ErrorKind.TheVariants as kinds
+use Rattle.der_core_head.specs.declared.error.Error.{Error}
+use Rattle.der_core_head.specs.declared.length.Length.{Length}
 use Rattle.der_core_head.specs.Octets.{◌>>=◌}
+use Rattle.der_core_head.specs.Reading.{GivesNow}
 use Rattle.der_core_head.specs.Texts.{utf8_read}
+use Rattle.der_core_head.specs.Writing.{sum_len}
 
 -- a difference of lengths
 abbrev pub difference_len : ℕ → ℕ → Result ℕ ErrorKind
@@ -16,3 +20,12 @@ counted w = if nat_lt 4294967295 (length w) then Err kinds.Overflow else Ok w
 -- the octets of a text, if a length can count them
 abbrev pub counted_text : List ℕ → Result (List ℕ) ErrorKind
 counted_text w = utf8_read w >>= counted
+
+-- Octets added to what was answered, or taken from it; a refusal stays.
+abbrev pub AddsTo : Result Length Error → Length → Result Length Error → Type 0
+AddsTo (Ok a) b r = GivesNow (λ l. l.value) r (sum_len a.value b.value)
+AddsTo (Err e) b r = r ≡ Err e
+
+abbrev pub TakesFrom : Result Length Error → Length → Result Length Error → Type 0
+TakesFrom (Ok a) b r = GivesNow (λ l. l.value) r (difference_len a.value b.value)
+TakesFrom (Err e) b r = r ≡ Err e

@@ -1,6 +1,6 @@
 -- The universe of shapes: the syntax of a type, its plain values, and the octets that spell them (X.680 24 to 31, X.690).
 -- A shape stands where a value stands, a content behind a header, a body where values stand inside a value.
-use Rattle.std.specs.Prelude.{◌≡◌, ℕ, List, [], ◌∷◌, ◌++◌, Bool, true, false, ◌⊎◌, Option, Some, None, bytes_eq, flat_map, ◌||◌}
+use Rattle.std.specs.Prelude.{◌≡◌, ℕ, List, [], ◌∷◌, ◌++◌, length, Bool, true, false, ◌⊎◌, Option, Some, None, bytes_eq, flat_map, ◌||◌}
 use Rattle.std.proofs.Common.{inl, inr}
 use Rattle.std.specs.List.{AllByRecursion}
 use Rattle.std.specs.Bool.{⊤}
@@ -22,6 +22,7 @@ mutual
     either : Shape → Shape → Shape
     optional : Shape → Shape
     defaulted : Shape → List ℕ → Shape  -- the octets are those that never stand
+    nothing : Shape  -- no octets, where a field stands for none
 
   -- what stands behind a header
   pub data Content : Type 0 where
@@ -34,6 +35,7 @@ mutual
     field : Shape → Body → Body
     only : Shape → Body
     many : Shape → Body
+    exactly : ℕ → Shape → Body
     rising : Shape → Body
 
 pub record AnyValue : Type 0 where
@@ -47,6 +49,7 @@ abbrev mutual
   Value (either a b) = Value a ⊎ Value b
   Value (optional s) = Option (Value s)
   Value (defaulted s d) = Value s
+  Value nothing = Unit {0}
 
   pub ContentValue : Content → Type 0
   ContentValue (leaf l) = LeafValue l
@@ -57,6 +60,7 @@ abbrev mutual
   BodyValue (field s b) = Value s × BodyValue b
   BodyValue (only s) = Value s
   BodyValue (many s) = List (Value s)
+  BodyValue (exactly n s) = List (Value s)
   BodyValue (rising s) = List (Value s)
 
 -- SEQUENCE, SEQUENCE OF, SET OF, explicit tags; an implicit tag is another tag on the same content
@@ -86,6 +90,7 @@ unfoldable mutual
   octets_of (optional s) None = []
   octets_of (optional s) (Some v) = octets_of s v
   octets_of (defaulted s d) v = unless (bytes_eq (octets_of s v) d) (octets_of s v)
+  octets_of nothing v = []
 
   pub contents : (c : Content) → ContentValue c → List ℕ
   contents (leaf l) v = leaf_contents l v
@@ -96,6 +101,7 @@ unfoldable mutual
   body_octets (field s b) v = octets_of s v.0 ++ body_octets b v.1
   body_octets (only s) v = octets_of s v
   body_octets (many s) v = flat_map (λ x. octets_of s x) v
+  body_octets (exactly n s) v = flat_map (λ x. octets_of s x) v
   body_octets (rising s) v = flat_map (λ x. octets_of s x) v
 
 -- each encoding is below the next (11.6)
@@ -114,6 +120,7 @@ unfoldable mutual
   IsValid (optional s) None = ⊤
   IsValid (optional s) (Some v) = IsValid s v
   IsValid (defaulted s d) v = IsValid s v
+  IsValid nothing v = ⊤
 
   pub IsContent : (c : Content) → ContentValue c → Type 0
   IsContent (leaf l) v = IsLeafValue l v
@@ -124,6 +131,7 @@ unfoldable mutual
   IsBody (field s b) v = IsValid s v.0 × IsBody b v.1
   IsBody (only s) v = IsValid s v
   IsBody (many s) v = AllByRecursion (λ x. IsValid s x) v
+  IsBody (exactly n s) v = AllByRecursion (λ x. IsValid s x) v × (length v ≡ n)
   IsBody (rising s) v = AllByRecursion (λ x. IsValid s x) v × AllRising (λ x. octets_of s x) v
 
 -- the octets spell the value
@@ -138,3 +146,4 @@ begins any t = true
 begins (either a b) t = begins a t || begins b t
 begins (optional s) t = begins s t
 begins (defaulted s d) t = begins s t
+begins nothing t = false

@@ -2,7 +2,7 @@
 use Rattle.std.specs.Prelude.{ℕ, zero, suc, length, Bool, true, false, ◌&&◌, ◌||◌, nat_lt, not}
 use Rattle.der_core_head.specs.declared.tag.Tag.{Tag}
 use Rattle.der_core_head.specs.Octets.{are_octets}
-use Rattle.der_core_head.specs.Shapes.{Shape, Content, Body, tagged, any, either, optional, defaulted, leaf, nested, done, field, only, many, rising, begins}
+use Rattle.der_core_head.specs.Shapes.{Shape, Content, Body, tagged, any, either, optional, defaulted, nothing, leaf, nested, done, field, only, many, exactly, rising, begins}
 
 -- so many levels are enough
 abbrev mutual
@@ -12,6 +12,7 @@ abbrev mutual
   are_enough (either a b) room = are_enough a room && are_enough b room
   are_enough (optional s) room = are_enough s room
   are_enough (defaulted s d) room = are_enough s room && are_enough s 64
+  are_enough nothing room = true
 
   pub are_content_enough : Content → ℕ → Bool
   are_content_enough (leaf l) room = true
@@ -23,6 +24,7 @@ abbrev mutual
   are_body_enough (field s b) room = are_enough s room && are_body_enough b room
   are_body_enough (only s) room = are_enough s room
   are_body_enough (many s) room = are_enough s room
+  are_body_enough (exactly n s) room = are_enough s room
   are_body_enough (rising s) room = are_enough s room
 
 -- one header, always there
@@ -32,6 +34,7 @@ is_element any = true
 is_element (either a b) = is_element a && is_element b
 is_element (optional s) = false
 is_element (defaulted s d) = false
+is_element nothing = false
 
 -- no tag that the shape begins with is one of these
 abbrev pub none_of : Shape → (Tag → Bool) → Bool
@@ -40,6 +43,7 @@ none_of any f = false
 none_of (either a b) f = none_of a f && none_of b f
 none_of (optional s) f = none_of s f
 none_of (defaulted s d) f = none_of s f
+none_of nothing f = true
 
 -- the tags that a body may begin with
 abbrev pub body_begins : Body → Tag → Bool
@@ -47,6 +51,7 @@ body_begins done t = false
 body_begins (field s b) t = begins s t || (not (is_element s) && body_begins b t)
 body_begins (only s) t = begins s t
 body_begins (many s) t = begins s t
+body_begins (exactly n s) t = begins s t
 body_begins (rising s) t = begins s t
 
 abbrev pub is_end : Body → Bool
@@ -65,6 +70,7 @@ abbrev mutual
   is_apart (either a b) = (is_element a && is_element b) && (none_of a (begins b) && (is_apart a && is_apart b))
   is_apart (optional s) = is_element s && is_apart s
   is_apart (defaulted s d) = (is_element s && is_apart s) && (are_octets d && nat_lt (length d) 4294967296)
+  is_apart nothing = true
 
   pub is_content_apart : Content → Bool
   is_content_apart (leaf l) = true
@@ -75,4 +81,5 @@ abbrev mutual
   is_body_apart (field s b) = is_clear s b && (is_apart s && is_body_apart b)
   is_body_apart (only s) = is_element s && is_apart s
   is_body_apart (many s) = is_element s && is_apart s
+  is_body_apart (exactly n s) = is_element s && is_apart s
   is_body_apart (rising s) = is_element s && is_apart s

@@ -5,7 +5,7 @@ use Rattle.der_core_head.specs.declared.error.ErrorKind.{ErrorKind}
 use Rattle.der_core_head.specs.declared.error.ErrorKind.TheVariants as kinds
 use Rattle.std.proofs.Common.{inl, inr}
 use Rattle.der_core_head.specs.Leaves.{leaf_contents}
-use Rattle.der_core_head.specs.Shapes.{Shape, Content, Body, tagged, any, either, optional, defaulted, leaf, nested, done, field, only, many, rising, Value, ContentValue, BodyValue, octets_of}
+use Rattle.der_core_head.specs.Shapes.{Shape, Content, Body, tagged, any, either, optional, defaulted, nothing, leaf, nested, done, field, only, many, exactly, rising, Value, ContentValue, BodyValue, octets_of}
 use Rattle.der_core_head.specs.declared.tag.Tag.{Tag}
 use Rattle.der_core_head.specs.Octets.{◌>>=◌}
 use Rattle.der_core_head.specs.Tags.{tag_octets}
@@ -68,6 +68,7 @@ abbrev mutual
   size (optional s) None = Ok 0
   size (optional s) (Some v) = size s v
   size (defaulted s d) v = default_len (bytes_eq (octets_of s v) d) (size s v)
+  size nothing v = Ok 0
 
   pub size_content : (c : Content) → ContentValue c → Result ℕ ErrorKind
   size_content (leaf l) v = fit_len (length (leaf_contents l v))
@@ -78,6 +79,7 @@ abbrev mutual
   size_body (field s b) v = both_len (size s v.0) (size_body b v.1)
   size_body (only s) v = size s v
   size_body (many s) v = many_len (size s) v 0
+  size_body (exactly n s) v = many_len (size s) v 0
   size_body (rising s) v = many_len (size s) v 0
 
 unfoldable pub write_tlv : Tag → Result ℕ ErrorKind → (Out → Result Out ErrorKind) → Out → Result Out ErrorKind
@@ -101,6 +103,7 @@ abbrev mutual
   write (optional s) None o = Ok o
   write (optional s) (Some v) o = write s v o
   write (defaulted s d) v o = default_write (bytes_eq (octets_of s v) d) (write s v) o
+  write nothing v o = Ok o
 
   pub write_content : (c : Content) → ContentValue c → Out → Result Out ErrorKind
   write_content (leaf l) v o = put (leaf_contents l v) o
@@ -111,6 +114,7 @@ abbrev mutual
   write_body (field s b) v o = write s v.0 o >>= write_body b v.1
   write_body (only s) v o = write s v o
   write_body (many s) v o = write_many (write s) v o
+  write_body (exactly n s) v o = write_many (write s) v o
   write_body (rising s) v o = write_many (write s) v o
 
 -- The call did to a writer what writing does.

@@ -67,6 +67,9 @@ pub struct Error {
     pub position: Option<Length>,
 }
 
+/// What a call answers that may be refused.
+pub type Result<T> = std::result::Result<T, Error>;
+
 impl ErrorKind {
     /// The error of this kind at a place in the input.
     pub fn at(self, position: Length) -> Error

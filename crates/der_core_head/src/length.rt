@@ -2,7 +2,7 @@
 
 ghost use Rattle.std.specs.Prelude.{◌≡◌, ◌↔◌, ◌+◌, ◌-◌, ◌≤◌, ◌^◌, ℕ, IsTrue, min, Ok, length};
 ghost use Rattle.der_core_head.specs.Heads.{length_octets, head_octets};
-ghost use Rattle.der_core_head.specs.Lengths.{difference_len};
+ghost use Rattle.der_core_head.specs.Lengths.{difference_len, AddsTo, TakesFrom};
 ghost use Rattle.der_core_head.specs.Reading.{GivesNow};
 ghost use Rattle.der_core_head.specs.Tags.{tag_octets};
 ghost use Rattle.der_core_head.specs.Writing.{fit_len, sum_len};
@@ -127,6 +127,20 @@ impl Add for Length {
     }
 }
 
+/// The sum of what was answered and more octets; a refusal stays.
+impl Add<Length> for Result<Length, Error> {
+    type Output = Result<Length, Error>;
+
+    ghost add_gives = { AddsTo };
+
+    fn add(self, other: Length) -> Result<Length, Error> {
+        match self {
+            Ok(length) => length + other,
+            Err(error) => Err(error),
+        }
+    }
+}
+
 impl Add<u8> for Length {
     type Output = Result<Length, Error>;
 
@@ -180,6 +194,20 @@ impl Sub for Length {
         match self.value.checked_sub(other.value) {
             Some(value) => Ok(Length { value }),
             None => Err(Error::from(ErrorKind::Overflow)),
+        }
+    }
+}
+
+/// What was answered without so many octets; a refusal stays.
+impl Sub<Length> for Result<Length, Error> {
+    type Output = Result<Length, Error>;
+
+    ghost sub_gives = { TakesFrom };
+
+    fn sub(self, other: Length) -> Result<Length, Error> {
+        match self {
+            Ok(length) => length - other,
+            Err(error) => Err(error),
         }
     }
 }

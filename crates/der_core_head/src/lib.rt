@@ -20,7 +20,7 @@ pub use bytes_owned::BytesOwned;
 pub use bytes_ref::BytesRef;
 pub use class::{CLASS_APPLICATION, CLASS_CONTEXT_SPECIFIC, CLASS_PRIVATE, CLASS_UNIVERSAL, Class};
 pub use encoding_rules::EncodingRules;
-pub use error::{Error, ErrorKind};
+pub use error::{Error, ErrorKind, Result};
 pub use header::Header;
 pub use length::{Length, header_len};
 pub use string_owned::StringOwned;
