@@ -1,62 +1,38 @@
-//! Reading and writing of DER: readers, writers, and the traits of what is read and written.
+//! Reading, writing and comparing of DER: readers, writers, and the traits of what is read, written
+//! and compared.
 #![tactic(auto)]
 
-mod bytes;
-mod decode;
-mod encode;
-mod fields;
-mod fronts;
-mod header;
-mod identifiers;
-mod indefinite;
-mod integers;
-mod kinds;
-mod leaves;
-mod nothing;
-mod peeks;
-mod reader;
-pub mod reading;
-mod set_of;
-mod slice_reader;
-mod slice_writer;
-mod sliced;
-mod slices;
-mod tagged;
-mod tagging;
+pub mod laws;
 #[cfg(test)]
 mod tests;
-mod texts;
-mod tuples;
-mod whole;
-mod wrappers;
-mod writer;
 
-pub use bytes::decode_value_parts;
-pub use decode::{Choice, Decode, DecodeValue, FixedTag, Shaped, ShapedValue};
 pub use der_core_head::{
     BytesOwned, BytesRef, CLASS_APPLICATION, CLASS_CONTEXT_SPECIFIC, CLASS_PRIVATE,
-    CLASS_UNIVERSAL, Class, EncodingRules, Error, ErrorKind, Header, Length, StringOwned,
-    StringRef, Tag, TagMode, TagNumber, header_len,
+    CLASS_UNIVERSAL, Class, EncodingRules, Error, ErrorKind, Header, Length, Result, StringOwned,
+    StringRef, Tag, TagMode, TagNumber, header_len, is_constructed, is_same_tag, leading_octet_of,
+    number_of,
 };
-pub use encode::{Encode, EncodeValue, encode_header, sum_len, to_der};
-pub use fields::{DecodeFields, Fields, read_fields};
-pub use header::{
-    header_of, is_constructed, is_same_tag, leading_octet_of, length_of, number_of, tag_of,
+pub use der_core_headers::{
+    header_ber_of, header_of, indefinite_length_of, integer_octets_of, length_of, signed_of,
+    tag_ber_of, tag_of, unsigned_of,
 };
-pub use indefinite::{header_ber_of, indefinite_length_of, tag_ber_of};
-pub use integers::{Integer, integer_octets_of, signed_of, unsigned_of};
-pub use kinds::{DefaultValue, WithDefault, slice_len};
-pub use leaves::{Leaf, decode_leaf, read_content};
-pub use peeks::peek_matches;
-pub use reader::Reader;
-pub use set_of::{Member, SetOf, read_rising};
-pub use slice_reader::SliceReader;
-pub use slice_writer::SliceWriter;
-pub use sliced::decode_sliced;
-pub use slices::{encode_to_slice, encode_to_vec, encode_value_to_slice, value_header};
-pub use tagged::{EncodeValueRef, IsConstructed, Tagged};
-pub use tagging::{encode_explicit, encode_implicit};
-pub use tuples::{EncodeFields, EncodeRef};
-pub use whole::{from_ber, from_der, from_der_partial};
-pub use wrappers::{Explicit, Implicit};
-pub use writer::Writer;
+pub use der_core_input::{Reader, peek_matches};
+pub use der_core_order::{
+    Alternatives, DerOrd, FieldsOrd, FirstTag, OrdIsValueOrd, ValueOrd, der_cmp_by_ord,
+    elements_cmp, header_cmp, iter_cmp, iter_cmp_owned, length_cmp, tag_cmp, value_cmp_behind,
+    value_cmp_by_contents, value_cmp_by_ord,
+};
+pub use der_core_output::{Writer, encode_header, slice_len, sum_len};
+pub use der_core_reading::{SliceReader, from_ber, from_der, from_der_partial, reading};
+pub use der_core_values::{
+    ApartValue, Choice, Decode, DecodeFields, DecodeValue, Element, Encode, EncodeValue, Fields,
+    FixedTag, Integer, Leaf, Member, Shaped, ShapedValue, decode_leaf, decode_value_parts,
+    read_content, read_fields,
+};
+pub use der_core_wrappers::{
+    DefaultValue, Explicit, Implicit, SetOf, WithDefault, decode_sliced, read_rising,
+};
+pub use der_core_writing::{
+    EncodeFields, EncodeRef, EncodeValueRef, IsConstructed, SliceWriter, Tagged, encode_explicit,
+    encode_implicit, encode_to_slice, encode_to_vec, encode_value_to_slice, to_der, value_header,
+};

@@ -2,10 +2,11 @@
 
 use super::*;
 use std::alloc::Global;
+use std::result::Result;
 use std::test::Fail;
 
-mod data;
-mod readers;
+mod lists;
+mod records;
 mod texts;
 
 /// Whether octets read as a value, and the value writes as the octets.
@@ -101,33 +102,6 @@ fn refused_leaves(rt: HostRuntime) {
 }
 
 #[test]
-fn refused_headers(rt: HostRuntime) {
-    let tag = Tag::Sequence;
-    let table = [
-        ([8, 0].as_slice(), ErrorKind::TagUnknown),
-        ([0x30, 0x81, 0x7f].as_slice(), ErrorKind::Length { tag }),
-        ([0x30, 0x85].as_slice(), ErrorKind::Overlength),
-        ([0x30, 0x80].as_slice(), ErrorKind::IndefiniteLength),
-        ([0x9f, 0x1e, 0].as_slice(), ErrorKind::TagNumberInvalid),
-        (
-            [0x9f, 0x80, 0x1f, 0].as_slice(),
-            ErrorKind::TagNumberInvalid,
-        ),
-        ([0xff, 0x03, 0].as_slice(), ErrorKind::TagNumberInvalid),
-        (
-            [0x9f, 0x90, 0x80, 0x80, 0x80, 0].as_slice(),
-            ErrorKind::TagNumberInvalid,
-        ),
-    ];
-    for (octets, kind) in table {
-        assert_eq!(rt;
-            header_of(octets).map(|_| ()).map_err(|e| e.kind),
-            Err(kind)
-        );
-    }
-}
-
-#[test]
 fn refused_lists(rt: HostRuntime) {
     let alloc = rt.alloc();
     assert_eq!(rt;
@@ -216,69 +190,5 @@ fn lengths(rt: HostRuntime) -> Result<(), Fail> {
     for (value, octets) in table {
         assert!(rt; is_header(rt.alloc(), Tag::Null, value, octets)?);
     }
-    Ok(())
-}
-
-#[test]
-fn failed_readers(rt: HostRuntime) -> Result<(), Fail> {
-    let alloc = rt.alloc();
-    let mut reader = SliceReader::new(&[1, 1, 255, 1])?;
-    assert!(rt; bool::decode(alloc, &mut reader)?);
-    assert_eq!(rt;
-        bool::decode(alloc, &mut reader).map_err(|e| e.kind),
-        Err(ErrorKind::Incomplete)
-    );
-    assert!(rt; reader.is_failed());
-    assert_eq!(rt;
-        bool::decode(alloc, &mut reader).map_err(|e| e.kind),
-        Err(ErrorKind::Failed)
-    );
-    assert_eq!(rt;
-        Option::<bool>::decode(alloc, &mut reader).map_err(|e| e.kind),
-        Err(ErrorKind::Failed)
-    );
-    assert_eq!(rt;
-        reader.read_byte().map_err(|e| e.kind),
-        Err(ErrorKind::Failed)
-    );
-    assert_eq!(rt;
-        reader.peek_header().map_err(|e| e.kind),
-        Err(ErrorKind::Failed)
-    );
-    assert_eq!(rt; reader.peek_byte(), Some(1));
-    Ok(())
-}
-
-#[test]
-fn partial(rt: HostRuntime) -> Result<(), Fail> {
-    let (value, rest) = from_der_partial::<u8>(rt.alloc(), &[2, 1, 7, 5, 0])?;
-    assert_eq!(rt; value, 7);
-    assert_eq!(rt; rest, [5, 0].as_slice());
-    let mut reader = SliceReader::new(rest)?;
-    let octets = reader.read_vec(rt.alloc(), Length { value: 2 })?;
-    assert_eq!(rt; octets.as_slice(), [5, 0].as_slice());
-    reader.finish()?;
-    Ok(())
-}
-
-/// A write for which there is no room leaves the writer failed, whatever is written next.
-#[test]
-fn full_writers(rt: HostRuntime) -> Result<(), Fail> {
-    let mut room = [0; 4];
-    let mut writer = SliceWriter::new(&mut room);
-    5u8.encode(&mut writer)?;
-    assert_eq!(rt;
-        writer.write(&[1, 2]).map_err(|e| e.kind),
-        Err(ErrorKind::Overlength)
-    );
-    assert!(rt; writer.is_failed());
-    assert_eq!(rt;
-        writer.write_byte(1).map_err(|e| e.kind),
-        Err(ErrorKind::Failed)
-    );
-    assert_eq!(rt; writer.finish().map_err(|e| e.kind), Err(ErrorKind::Failed));
-    let mut writer = SliceWriter::new(&mut room);
-    true.encode(&mut writer)?;
-    assert_eq!(rt; writer.finish()?, [1, 1, 255].as_slice());
     Ok(())
 }

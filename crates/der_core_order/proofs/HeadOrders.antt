@@ -2,6 +2,8 @@
 use Rattle.std.proofs.Common.{◌≡◌, ℕ, zero, suc, ◌+◌, ◌*◌, ◌/◌, ◌%◌, ◌<◌, ◌≤◌, List, [], ◌∷◌, ◌++◌, length, refl, sym, ap, ◌∙◌, arith, inl, inr}
 use Rattle.std.proofs.lemmas.Bool.{cases_lt, lt-ltb, le-ltb, ne_eqb}
 use Rattle.std.proofs.lemmas.List.{length-append}
+use Rattle.std.proofs.Math.Nat.{mul-le-mul_right, mod-lt}
+use Rattle.std.proofs.lemmas.Nat.{div-add-mod'}
 use Rattle.std.specs.Ordering.{nat_cmp, ordering_then}
 use Rattle.std.specs.declared.cmp.Ordering.{Ordering}
 use Rattle.std.specs.declared.cmp.Ordering.TheVariants.{Less, Equal, Greater}
@@ -29,25 +31,38 @@ nat_cmp-greater m n l = rw (le-ltb m n (omega arith), ne_eqb m n (λ e. omega ar
 pub nat_cmp-same : (m n : ℕ) → m ≡ n → nat_cmp m n ≡ Equal
 nat_cmp-same m n e = ap (nat_cmp m) (sym e) ∙ nat_cmp-self m
 
-push_cmp : (m n d e : ℕ) → d < 256 → e < 256 → nat_cmp (m * 256 + d) (n * 256 + e) ≡ ordering_then (nat_cmp m n) (nat_cmp d e)
-push_cmp m n d e p q =
+-- one digit more
+push_cmp : (base m n d e : ℕ) → d < base → e < base → nat_cmp (m * base + d) (n * base + e) ≡ ordering_then (nat_cmp m n) (nat_cmp d e)
+push_cmp base m n d e p q =
     elim (cases_lt m n) [
-      | inl l ↦ rw (nat_cmp-less m n l, nat_cmp-less (m * 256 + d) (n * 256 + e) (omega arith)) refl
+      | inl l ↦ rw (nat_cmp-less m n l, nat_cmp-less (m * base + d) (n * base + e) (higher m n d e p l)) refl
       | inr l ↦ elim (cases_lt n m) [
-        | inl k ↦ rw (nat_cmp-greater m n k, nat_cmp-greater (m * 256 + d) (n * 256 + e) (omega arith)) refl
+        | inl k ↦ rw (nat_cmp-greater m n k, nat_cmp-greater (m * base + d) (n * base + e) (higher n m e d q k)) refl
         | inr k ↦ rw (nat_cmp-same m n (omega arith)) (digit (omega arith))
       ]
     ]
   where
-    digit : m ≡ n → nat_cmp (m * 256 + d) (n * 256 + e) ≡ nat_cmp d e
+    higher : (m n d e : ℕ) → d < base → m < n → m * base + d < n * base + e
+    higher m n d e p l =
+        let more : suc m * base ≤ n * base = mul-le-mul_right base (omega arith) in
+        omega (arith, more)
+
+    digit : m ≡ n → nat_cmp (m * base + d) (n * base + e) ≡ nat_cmp d e
     digit same =
+        let equal : m * base ≡ n * base = ap (λ k. k * base) same in
         elim (cases_lt d e) [
-          | inl l ↦ nat_cmp-less (m * 256 + d) (n * 256 + e) (omega arith) ∙ sym (nat_cmp-less d e l)
+          | inl l ↦ nat_cmp-less (m * base + d) (n * base + e) (omega (arith, equal)) ∙ sym (nat_cmp-less d e l)
           | inr l ↦ elim (cases_lt e d) [
-            | inl k ↦ nat_cmp-greater (m * 256 + d) (n * 256 + e) (omega arith) ∙ sym (nat_cmp-greater d e k)
-            | inr k ↦ nat_cmp-same (m * 256 + d) (n * 256 + e) (omega arith) ∙ sym (nat_cmp-same d e (omega arith))
+            | inl k ↦ nat_cmp-greater (m * base + d) (n * base + e) (omega (arith, equal)) ∙ sym (nat_cmp-greater d e k)
+            | inr k ↦ nat_cmp-same (m * base + d) (n * base + e) (omega (arith, equal)) ∙ sym (nat_cmp-same d e (omega arith))
           ]
         ]
+
+-- a number is in the order of what it has before its last digit, and then of that digit
+pub split_cmp : (base m n : ℕ) → 0 < base → ordering_then (nat_cmp (m / base) (n / base)) (nat_cmp (m % base) (n % base)) ≡ nat_cmp m n
+split_cmp base m n some =
+    sym (push_cmp base (m / base) (n / base) (m % base) (n % base) (mod-lt m some) (mod-lt n some))
+    ∙ (λ i. nat_cmp (div-add-mod' m base i) (div-add-mod' n base i))
 
 -- as many digits are in the order of their numbers
 after_cmp : (m n : ℕ) (ds es : List ℕ) → AllBelowBase 256 ds → AllBelowBase 256 es → length ds ≡ length es
@@ -57,7 +72,7 @@ after_cmp m n [] (e ∷ es) p q l = absurd (omega arith)
 after_cmp m n (d ∷ ds) [] p q l = absurd (omega arith)
 after_cmp m n (d ∷ ds) (e ∷ es) p q l =
     sym (then_assoc (nat_cmp m n) (nat_cmp d e) (octets_cmp ds es))
-    ∙ ap (λ o. ordering_then o (octets_cmp ds es)) (sym (push_cmp m n d e p.0 q.0))
+    ∙ ap (λ o. ordering_then o (octets_cmp ds es)) (sym (push_cmp 256 m n d e p.0 q.0))
     ∙ after_cmp (m * 256 + d) (n * 256 + e) ds es p.1 q.1 (omega arith)
 
 digits_cmp : (ds es : List ℕ) → AllBelowBase 256 ds → AllBelowBase 256 es → length ds ≡ length es

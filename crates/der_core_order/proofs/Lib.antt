@@ -7,5 +7,7 @@ pub mod TagOrders
 pub mod RowOrders
 pub mod LeafOrders
 pub mod ListOrders
+pub mod IterOrders
+pub mod ChoiceOrders
 pub mod AnyOrders
 pub mod DefaultOrders

@@ -12,7 +12,7 @@ use Rattle.std.proofs.lemmas.Bool.{and_parts, or_cases, false≢true}
 use Rattle.der_core_head.specs.declared.tag.Tag.{Tag}
 use Rattle.der_core_head.specs.Tags.{IsTag, tag_octets}
 use Rattle.der_core_head.specs.Heads.{Fits, tlv}
-use Rattle.der_core_head.specs.Shapes.{Shape, Content, Body, tagged, any, either, optional, defaulted, leaf, nested, done, field, only, many, rising, Value, ContentValue, BodyValue, octets_of, contents, body_octets, unless, IsValid, IsContent, IsBody, begins}
+use Rattle.der_core_head.specs.Shapes.{Shape, Content, Body, tagged, any, either, optional, defaulted, nothing, leaf, nested, done, field, only, many, exactly, rising, Value, ContentValue, BodyValue, octets_of, contents, body_octets, unless, IsValid, IsContent, IsBody, begins}
 use Rattle.der_core_head.specs.Spelling.{is_apart, is_body_apart, is_element, is_clear, is_end, none_of, body_begins}
 use Rattle.der_core_head.proofs.Fits.{fits_contents}
 use Rattle.der_core_head.proofs.TagLaws.{tag_octets-some}
@@ -52,6 +52,7 @@ element_whole (either a b) (inl v) e h = element_whole a v (and_parts (is_elemen
 element_whole (either a b) (inr v) e h = element_whole b v (and_parts (is_element a) (is_element b) e).1 h
 element_whole (optional s) v e h = absurd (false≢true e)
 element_whole (defaulted s d) v e h = absurd (false≢true e)
+element_whole nothing v e h = absurd (false≢true e)
 
 pub element_splits : (s : Shape) (v w : Value s) → is_element s ≡ true → IsValid s v → IsValid s w → Splits (octets_of s v) (octets_of s w)
 element_splits s v w e p q = whole_splits (octets_of s v) (octets_of s w) (element_whole s v e p) (element_whole s w e q)
@@ -64,6 +65,7 @@ field_whole any v a h = inr (element_whole any v refl h)
 field_whole (either x y) v a h = inr (element_whole (either x y) v (and_parts (is_element x && is_element y) _ a).0 h)
 field_whole (optional s) None a h = inl refl
 field_whole (optional s) (Some v) a h = inr (element_whole s v (and_parts (is_element s) (is_apart s) a).0 h)
+field_whole nothing v a h = inl refl
 field_whole (defaulted s d) v a h = go (bytes_eq (octets_of s v) d)
   where
     go : (b : Bool) → (unless b (octets_of s v) ≡ []) ⊎ IsWhole (unless b (octets_of s v))

@@ -7,7 +7,7 @@ use Rattle.der_core_head.specs.declared.error.ErrorKind.TheVariants as kinds
 use Rattle.der_core_head.specs.declared.tag.Tag.{Tag}
 use Rattle.der_core_head.specs.Octets.{◌>>=◌}
 use Rattle.der_core_head.specs.Leaves.{leaf_contents}
-use Rattle.der_core_head.specs.Shapes.{Shape, Content, Body, tagged, any, either, optional, defaulted, leaf, nested, done, field, only, many, rising, Value, ContentValue, BodyValue, octets_of}
+use Rattle.der_core_head.specs.Shapes.{Shape, Content, Body, tagged, any, either, optional, defaulted, nothing, leaf, nested, done, field, only, many, exactly, rising, Value, ContentValue, BodyValue, octets_of}
 use Rattle.der_core_head.specs.Writing.{head_len, sum_len, fit_len, tlv_len, both_len, many_len, default_len, size, size_content, size_body}
 
 abbrev pub OnlyOverflows : Result ℕ ErrorKind → Type 0
@@ -52,6 +52,7 @@ mutual
   size_only (either a b) (inr v) = size_only b v
   size_only (optional s) None = ok_only 0
   size_only (optional s) (Some v) = size_only s v
+  size_only nothing v = ok_only 0
   size_only (defaulted s d) v = default_only (bytes_eq (octets_of s v) d) (size s v) (size_only s v)
 
   pub content_only : (c : Content) (v : ContentValue c) → OnlyOverflows (size_content c v)
@@ -63,6 +64,7 @@ mutual
   body_only (field s b) v = both_only (size s v.0) (size_body b v.1) (size_only s v.0) (body_only b v.1)
   body_only (only s) v = size_only s v
   body_only (many s) v = many_only (size s) (size_only s) v 0
+  body_only (exactly n s) v = many_only (size s) (size_only s) v 0
   body_only (rising s) v = many_only (size s) (size_only s) v 0
 
 -- Where a part is too long, so is the whole

@@ -1,2 +1,3 @@
 pub mod Orders
 pub mod OrdLaws
+pub mod Choices

@@ -6,9 +6,15 @@ use Rattle.std.specs.Cmp.{nat_cmp_total, tied_itself}
 use Rattle.std.specs.declared.cmp.Ordering.TheVariants.{Equal}
 use Rattle.const_oid_identifiers.specs.IdentifierOctets.{identifier_octets}
 use Rattle.const_oid_identifiers.specs.Orders.{owned_cmp}
-use Rattle.der_core_head.specs.Leaves.{boolean, null, identifier}
+use Rattle.der_core_head.specs.Leaves.{Leaf, LeafValue, leaf_contents as octets_of_leaf, boolean, null, identifier}
 use Rattle.der_core_head.specs.Shapes.{leaf, contents, IsContent}
 use Rattle.der_core_order.specs.Orders.{octets_cmp, contents_cmp}
+
+-- a type that is ordered as the octets of its contents
+pub octets_order : (l : Leaf) (v w : LeafValue l) → IsContent (leaf l) v → IsContent (leaf l) w → length (contents (leaf l) v) ≡ length (contents (leaf l) w)
+    → octets_cmp (octets_of_leaf l v) (octets_of_leaf l w) ≡ contents_cmp (leaf l) v w
+unfolding contents
+octets_order l v w p q e = refl
 
 pub bool_order : (v w : Bool) → IsContent (leaf boolean) v → IsContent (leaf boolean) w → length (contents (leaf boolean) v) ≡ length (contents (leaf boolean) w) → bool_cmp v w ≡ contents_cmp (leaf boolean) v w
 unfolding contents

@@ -7,7 +7,8 @@ ghost use Rattle.der_core_order.specs.Orders.{contents_cmp, encodings_cmp, Overf
 
 use crate::headers::length_cmp;
 use const_oid::ObjectIdentifier;
-use der_core::{EncodeValue, Error, FixedTag, ShapedValue};
+use der_core_head::Error;
+use der_core_values::{EncodeValue, FixedTag, ShapedValue};
 use std::cmp::Ordering;
 
 /// A type whose `Ord` is the order of contents of equal length, as lists of octets.
@@ -67,4 +68,19 @@ impl<const MAX_SIZE: usize> OrdIsValueOrd for ObjectIdentifier<MAX_SIZE> {
     ghost use Rattle.der_core_order.specs.OrdLaws.{identifier_order};
 
     ghost order = { identifier_order Bound MAX_SIZE };
+}
+
+impl<'a> OrdIsValueOrd for &'a str {
+    ghost use Rattle.der_core_head.specs.Leaves.{utf8};
+    ghost use Rattle.der_core_order.specs.OrdLaws.{octets_order};
+
+    ghost order = { λ v w. octets_order utf8 v.now w.now };
+}
+
+impl OrdIsValueOrd for String {
+    ghost use Rattle.std.specs.String.{string_bytes};
+    ghost use Rattle.der_core_head.specs.Leaves.{utf8};
+    ghost use Rattle.der_core_order.specs.OrdLaws.{octets_order};
+
+    ghost order = { λ v w. octets_order utf8 (string_bytes v) (string_bytes w) };
 }

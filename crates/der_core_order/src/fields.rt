@@ -9,7 +9,8 @@ ghost use Rattle.der_core_order.specs.Orders.{encodings_cmp, bodies_cmp, next_cm
 
 use crate::headers::tag_cmp;
 use crate::order::{DerOrd, FirstTag};
-use der_core::{Error, Fields, Tag};
+use der_core_head::{Error, Tag};
+use der_core_values::Fields;
 use std::cmp::Ordering;
 
 /// Fields that are compared one after the other.
@@ -30,7 +31,7 @@ pub trait FieldsOrd: Fields {
 }
 
 /// The order of what begins with a tag, or is nothing, and of what begins with another tag.
-fn next_cmp(next: Option<Tag>, tag: Tag) -> Ordering
+pub(crate) fn next_cmp(next: Option<Tag>, tag: Tag) -> Ordering
     ensures { result ≡ next_cmp next tag }
 {
     match next {

@@ -6,7 +6,9 @@ ghost use Rattle.der_core_order.specs.Orders.{octets_cmp};
 
 use crate::order::ValueOrd;
 use const_oid::ObjectIdentifier;
-use der_core::{Error, Integer, integer_octets_of};
+use der_core_head::{BytesOwned, BytesRef, Error, StringOwned, StringRef};
+use der_core_headers::integer_octets_of;
+use der_core_values::Integer;
 use std::cmp::Ordering;
 
 /// False, `00`, is below true, `FF` (X.690 11.1).
@@ -125,6 +127,38 @@ impl<'a> ValueOrd for &'a str {
 
 /// The octets of the text (X.690 8.23.5).
 impl ValueOrd for String {
+    #[tactic(auto, using(crate::proofs::LeafOrders::leaf_contents))]
+    fn value_cmp(&self, other: &Self) -> Result<Ordering, Error> {
+        Ok(self.as_bytes().cmp(other.as_bytes()))
+    }
+}
+
+/// The octets themselves (X.690 8.7).
+impl<'a> ValueOrd for BytesRef<'a> {
+    #[tactic(auto, using(crate::proofs::LeafOrders::leaf_contents))]
+    fn value_cmp(&self, other: &Self) -> Result<Ordering, Error> {
+        Ok(self.as_slice().cmp(other.as_slice()))
+    }
+}
+
+/// The octets themselves (X.690 8.7).
+impl ValueOrd for BytesOwned {
+    #[tactic(auto, using(crate::proofs::LeafOrders::leaf_contents))]
+    fn value_cmp(&self, other: &Self) -> Result<Ordering, Error> {
+        Ok(self.as_slice().cmp(other.as_slice()))
+    }
+}
+
+/// The octets of the text (X.690 8.23.5).
+impl<'a> ValueOrd for StringRef<'a> {
+    #[tactic(auto, using(crate::proofs::LeafOrders::leaf_contents))]
+    fn value_cmp(&self, other: &Self) -> Result<Ordering, Error> {
+        Ok(self.as_bytes().cmp(other.as_bytes()))
+    }
+}
+
+/// The octets of the text (X.690 8.23.5).
+impl ValueOrd for StringOwned {
     #[tactic(auto, using(crate::proofs::LeafOrders::leaf_contents))]
     fn value_cmp(&self, other: &Self) -> Result<Ordering, Error> {
         Ok(self.as_bytes().cmp(other.as_bytes()))

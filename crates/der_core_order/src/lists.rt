@@ -7,8 +7,10 @@ ghost use Rattle.der_core_head.specs.Grammar.{plain_list};
 ghost use Rattle.der_core_head.specs.Writing.{size_body};
 ghost use Rattle.der_core_order.specs.Orders.{bodies_cmp, Overflows};
 
+use crate::iterators::iter_cmp;
 use crate::order::{DerOrd, ValueOrd};
-use der_core::{Error, SetOf};
+use der_core_head::Error;
+use der_core_wrappers::SetOf;
 use std::cmp::Ordering;
 
 /// The order of the joined encodings of values: that of the first that differ, and else of how many
@@ -21,13 +23,7 @@ pub fn elements_cmp<T: DerOrd>(a: &[T], b: &[T]) -> Result<Ordering, Error>
         → result ≡ Ok (bodies_cmp (many T.shape) (plain_list T.plain a.now) (plain_list T.plain b.now)) }
     ensures refused { IfErr result (λ e. Overflows e (size_body (many T.shape) (plain_list T.plain a.now)) (size_body (many T.shape) (plain_list T.plain b.now))) }
 {
-    for (value, other) in a.iter().zip(b) {
-        let order = value.der_cmp(other)?;
-        if order.is_ne() {
-            return Ok(order);
-        }
-    }
-    Ok(a.len().cmp(&b.len()))
+    iter_cmp(a.iter(), b.iter())
 }
 
 /// SEQUENCE OF (X.690 8.10).

@@ -7,7 +7,8 @@ ghost use Rattle.der_core_head.specs.Writing.{size, size_content};
 ghost use Rattle.der_core_order.specs.Orders.{encodings_cmp, contents_cmp, Overflows, StartsWith};
 
 use crate::headers::length_cmp;
-use der_core::{EncodeValue, Error, FixedTag, Shaped, ShapedValue, Tag};
+use der_core_head::{Error, Tag};
+use der_core_values::{EncodeValue, FixedTag, Shaped, ShapedValue};
 use std::cmp::Ordering;
 
 /// A type whose values are compared by their contents.

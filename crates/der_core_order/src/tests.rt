@@ -4,7 +4,9 @@ mod record;
 
 use crate::*;
 use const_oid::ObjectIdentifier;
-use der_core::{Explicit, Header, Implicit, Length, SetOf, Tag, TagNumber, WithDefault};
+use der_core_head::{BytesOwned, BytesRef, Header, Length, StringOwned, StringRef, Tag, TagNumber};
+use der_core_wrappers::{Explicit, Implicit, SetOf, WithDefault};
+use der_core_writing::EncodeValueRef;
 use record::Record;
 use std::cmp::Ordering;
 use std::test::Fail;
@@ -154,5 +156,135 @@ fn records(rt: HostRuntime) -> Result<(), Fail> {
         text: "abc",
     };
     assert_eq!(rt; greater.der_cmp(&present)?, Ordering::Greater);
+    Ok(())
+}
+
+/// Octets of OCTET STRING, with and without one before them: `07 80` and `00 FF`, `00 80` and `7F`.
+#[test]
+fn contents(rt: HostRuntime) -> Result<(), Fail> {
+    assert_eq!(rt; value_cmp_by_contents(b"b", b"aa"), Ordering::Greater);
+    assert_eq!(rt; value_cmp_by_contents(b"a", b"aa"), Ordering::Less);
+    assert_eq!(rt; value_cmp_by_contents(b"", b""), Ordering::Equal);
+    assert_eq!(rt;
+        value_cmp_behind(Some(7), &[128], Some(0), &[255]),
+        Ordering::Greater
+    );
+    assert_eq!(rt;
+        value_cmp_behind(Some(0), &[128], None, &[127]),
+        Ordering::Less
+    );
+    assert_eq!(rt;
+        value_cmp_behind(None, &[127], Some(0), &[128]),
+        Ordering::Greater
+    );
+    assert_eq!(rt;
+        value_cmp_behind(Some(1), &[], None, &[]),
+        Ordering::Greater
+    );
+    assert_eq!(rt;
+        value_cmp_behind(Some(1), &[2], None, &[1, 2]),
+        Ordering::Equal
+    );
+    assert_eq!(rt; value_cmp_behind(None, &[1], None, &[1, 0]), Ordering::Less);
+    Ok(())
+}
+
+#[test]
+fn held_contents(rt: HostRuntime) -> Result<(), Fail> {
+    let alloc = rt.alloc();
+    let (short, long) = (BytesRef::new(b"b")?, BytesRef::new(b"aa")?);
+    assert_eq!(rt; short.value_cmp(&long)?, Ordering::Greater);
+    let (low, high) = (
+        BytesOwned::new(vec![in alloc; 0u8]?)?,
+        BytesOwned::new(vec![in alloc; 255u8]?)?,
+    );
+    assert_eq!(rt; low.value_cmp(&high)?, Ordering::Less);
+    let (low, high) = (StringRef::new("a")?, StringRef::new("b")?);
+    assert_eq!(rt; high.value_cmp(&low)?, Ordering::Greater);
+    assert_eq!(rt; high.value_cmp(&high)?, Ordering::Equal);
+    let (low, high) = (
+        StringOwned::new(String::from_str(alloc, "a")?)?,
+        StringOwned::new(String::from_str(alloc, "ab")?)?,
+    );
+    assert_eq!(rt; low.value_cmp(&high)?, Ordering::Less);
+    // `7F` and `00 80`.
+    let (low, high) = (127u8, 128u8);
+    assert_eq!(rt;
+        EncodeValueRef(&low).value_cmp(&EncodeValueRef(&high))?,
+        Ordering::Greater
+    );
+    // `0C 01 62` and `0C 02 61 61`.
+    assert_eq!(rt; der_cmp_by_ord(&"b", &"aa")?, Ordering::Less);
+    assert_eq!(rt; value_cmp_by_ord(&"b", &"a"), Ordering::Greater);
+    let (low, high) = (String::from_str(alloc, "a")?, String::from_str(alloc, "b")?);
+    assert_eq!(rt; der_cmp_by_ord(&low, &high)?, Ordering::Less);
+    Ok(())
+}
+
+/// `02 01 01`, `02 01 03`, `02 01 7F`, `02 02 00 80`, `02 01 FF`.
+#[test]
+fn iterators(rt: HostRuntime) -> Result<(), Fail> {
+    let alloc = rt.alloc();
+    assert_eq!(rt;
+        iter_cmp([1u8, 3].iter(), [1u8, 2, 5].iter())?,
+        Ordering::Greater
+    );
+    assert_eq!(rt; iter_cmp([1u8].iter(), [1u8, 1].iter())?, Ordering::Less);
+    assert_eq!(rt; iter_cmp([1u8, 1].iter(), [1u8].iter())?, Ordering::Greater);
+    assert_eq!(rt;
+        iter_cmp([127i16, 1].iter(), [128i16].iter())?,
+        Ordering::Less
+    );
+    assert_eq!(rt; iter_cmp([-1i8].iter(), [127i8].iter())?, Ordering::Greater);
+    assert_eq!(rt;
+        iter_cmp(["a", "b"].iter(), ["a", "b"].iter())?,
+        Ordering::Equal
+    );
+    let (fewer, more) = (vec![in alloc; 1u8]?, vec![in alloc; 1u8, 3]?);
+    let same = vec![in alloc; 1u8, 3]?;
+    let greater = vec![in alloc; 2u8]?;
+    assert_eq!(rt;
+        iter_cmp_owned(fewer.into_iter(), more.into_iter())?,
+        Ordering::Less
+    );
+    assert_eq!(rt;
+        iter_cmp_owned(greater.into_iter(), same.into_iter())?,
+        Ordering::Greater
+    );
+    assert_eq!(rt;
+        iter_cmp_owned(Some(5u8).into_iter(), None.into_iter())?,
+        Ordering::Greater
+    );
+    assert_eq!(rt;
+        iter_cmp_owned(Some(5u8).into_iter(), Some(5).into_iter())?,
+        Ordering::Equal
+    );
+    Ok(())
+}
+
+/// `01 01 FF`, `02 01 05`, `0C 01 61`; `A0 03 02 01 05` and `81 01 05`.
+#[test]
+fn choices(rt: HostRuntime) -> Result<(), Fail> {
+    let flag: Alternatives<bool, Alternatives<u8, &str>> = Alternatives::First(true);
+    let number = Alternatives::Second(Alternatives::First(5));
+    let text = Alternatives::Second(Alternatives::Second("a"));
+    let other_text = Alternatives::Second(Alternatives::Second("b"));
+    assert_eq!(rt; flag.der_cmp(&number)?, Ordering::Less);
+    assert_eq!(rt; text.der_cmp(&flag)?, Ordering::Greater);
+    assert_eq!(rt; text.der_cmp(&number)?, Ordering::Greater);
+    assert_eq!(rt; text.der_cmp(&other_text)?, Ordering::Less);
+    assert_eq!(rt; number.der_cmp(&number)?, Ordering::Equal);
+    assert_eq!(rt;
+        flag.der_cmp(&Alternatives::First(false))?,
+        Ordering::Greater
+    );
+    assert_eq!(rt; number.first_tag(), Some(Tag::Integer));
+    assert_eq!(rt; flag.first_tag(), Some(Tag::Boolean));
+    let explicit: Alternatives<Explicit<u8, 0>, Implicit<u8, 1>> = Alternatives::First(Explicit {
+        value: 5,
+    });
+    let implicit = Alternatives::Second(Implicit { value: 5 });
+    assert_eq!(rt; explicit.der_cmp(&implicit)?, Ordering::Greater);
+    assert_eq!(rt; implicit.der_cmp(&explicit)?, Ordering::Less);
     Ok(())
 }

@@ -1,12 +1,21 @@
 //! Comparison of boxed values, of tags around a value, and of defaults.
 
 use crate::order::{DerOrd, FirstTag, ValueOrd};
-use der_core::{DefaultValue, EncodeRef, Error, Explicit, Implicit, Tag, WithDefault};
+use der_core_head::{Error, Tag};
+use der_core_wrappers::{DefaultValue, Explicit, Implicit, WithDefault};
+use der_core_writing::{EncodeRef, EncodeValueRef};
 use std::cmp::Ordering;
 
 impl<T: ValueOrd> ValueOrd for Box<T> {
     fn value_cmp(&self, other: &Self) -> Result<Ordering, Error> {
         (**self).value_cmp(&**other)
+    }
+}
+
+/// The content of the value behind the reference.
+impl<'a, T: ValueOrd> ValueOrd for EncodeValueRef<'a, T> {
+    fn value_cmp(&self, other: &Self) -> Result<Ordering, Error> {
+        self.0.value_cmp(other.0)
     }
 }
 

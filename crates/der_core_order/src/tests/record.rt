@@ -8,9 +8,10 @@ ghost use Rattle.der_core_head.specs.Shapes.{tagged, leaf, nested, field, done, 
 ghost use Rattle.der_core_head.specs.Grammar.{plain_option};
 
 use crate::{FieldsOrd, ValueOrd};
-use der_core::{
-    EncodeFields, EncodeRef, EncodeValue, Error, FixedTag, Length, ShapedValue, Tag, Writer,
-};
+use der_core_head::{Error, Length, Tag};
+use der_core_output::Writer;
+use der_core_values::{EncodeValue, FixedTag, ShapedValue};
+use der_core_writing::{EncodeFields, EncodeRef};
 use std::cmp::Ordering;
 
 #[derive(Debug, Drop)]

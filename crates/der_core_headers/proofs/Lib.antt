@@ -1,0 +1,4 @@
+mod TagNumbers
+mod Lengths
+mod Magnitudes
+mod Levels

@@ -1,0 +1,5 @@
+pub mod Facts
+pub mod Nested
+pub mod Steps
+mod Encodings
+mod Closures

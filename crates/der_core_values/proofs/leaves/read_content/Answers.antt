@@ -1,0 +1,23 @@
+use Rattle.std.proofs.Common.{◌<◌, Ok, Err, Result, List, ℕ, length, arith}
+use Rattle.std.specs.Prelude.{IfOk}
+use Rattle.std.specs.Borrow.{Bor}
+use Rattle.der_core_head.specs.declared.error.Error.{Error}
+use Rattle.der_core_head.specs.Reading.{State, ReadsNow, TakesContent}
+use Rattle.der_core_head.specs.Grammar.{slice_at}
+use Rattle.der_core_values.proofs.Contents.{content_ok, content_err}
+use Rattle.der_core_input.proofs.Facts.{slice_few}
+use Rattle.der_core_values.proofs.leaves.read_content.Goals as goal
+
+takes : (n : ℕ) (old new : State) (r : Result (Bor (List ℕ)) Error) → ReadsNow (λ (s : Bor (List ℕ)). s.now) old new r (slice_at n) → TakesContent old new r n
+takes n old new (Ok x) h = (λ l t room. content_ok l t room n _ _ _ h.0, h.1, h.2)
+takes n old new (Err e) h = (λ l t room ready. content_err l t room n _ _ (h.0 ready), h.1, h.2)
+
+pub returns-clause-takes : goal.returns-clause-takes
+returns-clause-takes g c = takes _ _ _ _ c.read_slice.ensures
+
+few : (n : ℕ) (old new : State) (r : Result (Bor (List ℕ)) Error) → n < 4294967296 → ReadsNow (λ (s : Bor (List ℕ)). s.now) old new r (slice_at n) → IfOk r (λ s. length s.now < 4294967296)
+few n old new (Ok x) l h = let short = slice_few n _ _ _ h.0 in omega arith
+few n old new (Err e) l h = tt
+
+pub returns-clause-short : goal.returns-clause-short
+returns-clause-short g c = few c.args.header.length.value _ _ _ (omega arith) c.read_slice.ensures

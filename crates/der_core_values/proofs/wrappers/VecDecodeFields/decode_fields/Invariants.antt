@@ -1,0 +1,16 @@
+use Rattle.std.proofs.Common.{◌≡◌, ◌-◌}
+use Rattle.der_core_head.specs.Grammar.{read, read_many}
+use Rattle.der_core_head.specs.Reading.{IsDer}
+use Rattle.der_core_values.proofs.Lists.{with_front}
+use Rattle.der_core_values.proofs.wrappers.VecDecodeFields.decode_fields.Given as goal
+
+abbrev pub invariant-loop : goal.invariant-loop
+invariant-loop g l =
+    let state = g.R.Reader.state in
+    let old = state l.fn.reader in
+    let now = state l.reader in
+    let each = read g.T.Shaped.shape old.room in
+    record {
+      same : now ≡ record old { rest = now.rest };
+      total : IsDer old → with_front g.T.Shaped.plain l.values.items (read_many each (l.len - l.counter) now.rest) ≡ read_many each l.len old.rest;
+    }

@@ -1,0 +1,6 @@
+-- Two tests that are true.
+use Rattle.std.specs.Prelude.{◌≡◌, Bool, true, false, ◌&&◌}
+
+pub both_true : {a b : Bool} → a ≡ true → b ≡ true → (a && b) ≡ true
+both_true {a = true} p q = q
+both_true {a = false} p q = p

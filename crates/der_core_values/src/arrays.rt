@@ -1,0 +1,83 @@
+//! SEQUENCE OF with so many values (X.690 8.10).
+
+ghost use Rattle.std.specs.Prelude.{◌≡◌};
+ghost use Rattle.der_core_values.specs.Both.{both_true};
+ghost use Rattle.der_core_head.specs.declared.tag.Tag.TheVariants.{Sequence};
+ghost use Rattle.der_core_head.specs.Shapes.{nested, exactly};
+ghost use Rattle.der_core_head.specs.Grammar.{plain_list};
+
+use crate::decode::{Decode, DecodeValue, FixedTag, Shaped, ShapedValue};
+use crate::elements::{ApartValue, Element, Member};
+use crate::encode::{Encode, EncodeValue};
+use crate::fields::{DecodeFields, Fields, read_fields};
+use der_core_head::{Error, ErrorKind, Header, Length, Tag};
+use der_core_input::Reader;
+use der_core_output::{Writer, sum_len};
+use std::alloc::Global;
+
+impl<T, const N: usize> FixedTag for [T; N] {
+    ghost fixed_tag = { Sequence };
+
+    fn tag() -> Tag {
+        Tag::Sequence
+    }
+}
+
+/// Exactly `N` values.
+impl<T: Shaped, const N: usize> Fields for [T; N] {
+    ghost fields = { exactly N T.shape };
+
+    ghost fields_plain = { λ xs. plain_list T.plain xs };
+}
+
+impl<T: Shaped, const N: usize> ShapedValue for [T; N] {
+    ghost content = { nested (exactly N T.shape) };
+
+    ghost value_plain = { λ xs. plain_list T.plain xs };
+}
+
+impl<T: Element + Member, const N: usize> ApartValue for [T; N] {
+    ghost apart_value = { both_true T.element T.apart };
+}
+
+/// `Incomplete` where fewer values stand. The values wait in a vector, which takes memory.
+impl<'a, R: Reader<'a>, T: Decode<'a, R>, const N: usize> DecodeFields<'a, R> for [T; N] {
+    fn decode_fields(alloc: Global, reader: &mut R) -> Result<[T; N], Error> {
+        if reader.is_failed() {
+            return Err(Error::from(ErrorKind::Failed));
+        }
+        let mut values = Vec::new(alloc);
+        for _ in 0..N {
+            let value = T::decode(alloc, reader)?;
+            values.push(value)?;
+        }
+        match <[T; N]>::try_from(values) {
+            Ok(array) => Ok(array),
+            Err(_) => Err(Error::from(ErrorKind::Reader)),
+        }
+    }
+}
+
+/// `Incomplete` where fewer values stand, and `TrailingData` where more do.
+impl<'a, R: Reader<'a>, T: Decode<'a, R>, const N: usize> DecodeValue<'a, R> for [T; N] {
+    fn decode_value(alloc: Global, reader: &mut R, header: Header) -> Result<[T; N], Error> {
+        read_fields(alloc, reader, header)
+    }
+}
+
+impl<T: Encode, const N: usize> EncodeValue for [T; N] {
+    fn value_len(&self) -> Result<Length, Error> {
+        let mut len = Length { value: 0 };
+        for value in self {
+            len = sum_len(len, value.encoded_len()?)?;
+        }
+        Ok(len)
+    }
+
+    fn encode_value<W: Writer>(&self, writer: &mut W) -> Result<(), Error> {
+        for value in self {
+            value.encode(writer)?;
+        }
+        Ok(())
+    }
+}

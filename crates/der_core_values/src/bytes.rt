@@ -1,0 +1,96 @@
+//! Octets that stand as they are, whatever tag is before them (X.690 8.7).
+
+ghost use Rattle.std.specs.Prelude.{◌≡◌};
+ghost use Rattle.der_core_head.specs.Grammar.{value_at, read_content};
+ghost use Rattle.der_core_head.specs.Held.{held_octets};
+ghost use Rattle.der_core_head.specs.Leaves.{octets};
+ghost use Rattle.der_core_head.specs.Reading.{Reads};
+ghost use Rattle.der_core_head.specs.Shapes.{leaf};
+
+use crate::decode::{DecodeValue, ShapedValue};
+use crate::encode::EncodeValue;
+use crate::leaves::{Leaf, decode_leaf};
+use der_core_head::{BytesOwned, BytesRef, Error, Header, Length, Tag};
+use der_core_input::Reader;
+use der_core_output::Writer;
+use std::alloc::Global;
+
+impl<'a> Leaf<'a> for BytesRef<'a> {
+    ghost kind = { octets };
+
+    ghost leaf_plain = { held_octets };
+
+    fn from_content(_alloc: Global, _tag: Tag, octets: &'a [u8]) -> Result<BytesRef<'a>, Error> {
+        BytesRef::new(octets)
+    }
+}
+
+impl<'a> ShapedValue for BytesRef<'a> {
+    ghost content = { leaf octets };
+
+    ghost value_plain = { held_octets };
+}
+
+impl<'a, R: Reader<'a>> DecodeValue<'a, R> for BytesRef<'a> {
+    fn decode_value(alloc: Global, reader: &mut R, header: Header) -> Result<BytesRef<'a>, Error> {
+        decode_leaf(alloc, reader, header)
+    }
+}
+
+impl<'a> EncodeValue for BytesRef<'a> {
+    fn value_len(&self) -> Result<Length, Error> {
+        Ok(self.len())
+    }
+
+    fn encode_value<W: Writer>(&self, writer: &mut W) -> Result<(), Error> {
+        writer.write(self.as_slice())
+    }
+}
+
+/// Copied.
+impl<'a> Leaf<'a> for BytesOwned {
+    ghost kind = { octets };
+
+    ghost leaf_plain = { λ bytes. bytes };
+
+    fn from_content(alloc: Global, _tag: Tag, octets: &'a [u8]) -> Result<BytesOwned, Error> {
+        let bytes = octets.to_vec(alloc)?;
+        BytesOwned::new(bytes)
+    }
+}
+
+impl ShapedValue for BytesOwned {
+    ghost content = { leaf octets };
+
+    ghost value_plain = { λ bytes. bytes };
+}
+
+impl<'a, R: Reader<'a>> DecodeValue<'a, R> for BytesOwned {
+    fn decode_value(alloc: Global, reader: &mut R, header: Header) -> Result<BytesOwned, Error> {
+        decode_leaf(alloc, reader, header)
+    }
+}
+
+impl EncodeValue for BytesOwned {
+    fn value_len(&self) -> Result<Length, Error> {
+        Ok(self.len())
+    }
+
+    fn encode_value<W: Writer>(&self, writer: &mut W) -> Result<(), Error> {
+        writer.write(self.as_slice())
+    }
+}
+
+/// The octets of the content behind a header, copied, whatever they are.
+///
+/// # Errors
+/// `Incomplete` where there are fewer, or `OutOfMemory`.
+pub fn decode_value_parts<'a, R: Reader<'a>>(
+    alloc: Global,
+    reader: &mut R,
+    header: Header,
+) -> Result<BytesOwned, Error>
+    ensures { Reads (λ bytes. bytes) (R.state reader.old) (R.state reader.new) result (value_at (read_content (leaf octets) header.tag (R.state reader.old).room) header.length.value) }
+{
+    decode_leaf(alloc, reader, header)
+}

@@ -1,0 +1,104 @@
+//! Reading of values.
+
+ghost use Rattle.std.specs.Prelude.{◌≡◌};
+ghost use Rattle.der_core_head.specs.declared.tag.Tag.{Tag};
+ghost use Rattle.der_core_head.specs.Shapes.{Shape, Content, Value, ContentValue, tagged, optional, begins};
+ghost use Rattle.der_core_head.specs.Grammar.{read, read_content, value_at, plain_option};
+ghost use Rattle.der_core_head.specs.Reading.{Reads};
+
+use der_core_head::{Error, ErrorKind, Header, Tag, is_same_tag};
+use der_core_input::Reader;
+use std::alloc::Global;
+
+/// A type whose values have one tag.
+pub trait FixedTag {
+    ghost fixed_tag: { Tag };
+
+    /// That tag.
+    fn tag() -> Tag
+        ensures { result ≡ fixed_tag };
+}
+
+/// What the values of a type are, and which octets spell them.
+pub trait Shaped {
+    ghost shape: { Shape };
+
+    ghost plain: { Self → Value shape };
+}
+
+/// What is read from octets, with its header.
+pub trait Decode<'a, R: Reader<'a>>: Shaped + Drop {
+    /// The value that stands next.
+    ///
+    /// # Errors
+    /// The first fault from the left, or `OutOfMemory`; `Failed` where the reader failed before.
+    fn decode(alloc: Global, reader: &mut R) -> Result<Self, Error>
+        ensures { Reads Self.plain (R.state reader.old) (R.state reader.new) result (read Self.shape (R.state reader.old).room) };
+}
+
+/// What the values of a type are, and which octets spell their contents.
+pub trait ShapedValue {
+    ghost content: { Content };
+
+    ghost value_plain: { Self → ContentValue content };
+}
+
+/// What is read from the octets behind a header.
+pub trait DecodeValue<'a, R: Reader<'a>>: ShapedValue + Drop {
+    /// The value whose content stands next, behind a header that was read.
+    ///
+    /// # Errors
+    /// The first fault from the left, or `OutOfMemory`; `Failed` where the reader failed before.
+    fn decode_value(alloc: Global, reader: &mut R, header: Header) -> Result<Self, Error>
+        ensures { Reads Self.value_plain (R.state reader.old) (R.state reader.new) result (value_at (read_content Self.content header.tag (R.state reader.old).room) header.length.value) };
+}
+
+impl<T: ShapedValue + FixedTag> Shaped for T {
+    ghost shape = { tagged T.fixed_tag T.content };
+
+    ghost plain = { T.value_plain };
+}
+
+impl<'a, R: Reader<'a>, T: DecodeValue<'a, R> + FixedTag> Decode<'a, R> for T {
+    #[tactic(auto, unfolding(der_core_head::specs::Grammar::tlv_at))]
+    fn decode(alloc: Global, reader: &mut R) -> Result<T, Error> {
+        let header = reader.read_header()?;
+        if !is_same_tag(header.tag, T::tag()) {
+            return Err(Error::from(ErrorKind::TagUnexpected));
+        }
+        T::decode_value(alloc, reader, header)
+    }
+}
+
+/// Whether a value may begin with a tag.
+pub trait Choice: Shaped {
+    /// Whether the tag is one of those that a value of the type begins with.
+    fn can_decode(tag: Tag) -> bool
+        ensures { result ≡ begins Self.shape tag };
+}
+
+impl<T: ShapedValue + FixedTag> Choice for T {
+    fn can_decode(tag: Tag) -> bool {
+        is_same_tag(T::tag(), tag)
+    }
+}
+
+impl<T: Shaped> Shaped for Option<T> {
+    ghost shape = { optional T.shape };
+
+    ghost plain = { plain_option T.plain };
+}
+
+impl<'a, R: Reader<'a>, T: Decode<'a, R> + Choice> Decode<'a, R> for Option<T> {
+    #[tactic(auto, unfolding(der_core_head::specs::Grammar::opt_at))]
+    fn decode(alloc: Global, reader: &mut R) -> Result<Option<T>, Error> {
+        let Some(tag) = reader.peek_tag_or_end()? else {
+            return Ok(None);
+        };
+        if T::can_decode(tag) {
+            Ok(Some(T::decode(alloc, reader)?))
+        } else {
+            Ok(None)
+        }
+    }
+}

@@ -1,0 +1,74 @@
+//! Writing of values.
+
+ghost use Rattle.std.specs.Prelude.{◌≡◌};
+ghost use Rattle.der_core_head.specs.Reading.{GivesNow};
+ghost use Rattle.der_core_head.specs.Writing.{Writes, size, write, size_content, write_content};
+
+use crate::decode::{FixedTag, Shaped, ShapedValue};
+use der_core_head::{Error, Length};
+use der_core_output::{Writer, encode_header};
+
+/// What is written as octets, with its header.
+pub trait Encode: Shaped {
+    /// The number of octets of a value.
+    ///
+    /// # Errors
+    /// `Overflow` from 2^32 on.
+    fn encoded_len(&self) -> Result<Length, Error>
+        ensures { GivesNow (λ l. l.value) result (size Self.shape (Self.plain self.now)) };
+
+    /// Writes a value.
+    ///
+    /// # Errors
+    /// `Overflow` where a length passes 2^32 - 1, and those of the writer.
+    fn encode<W: Writer>(&self, writer: &mut W) -> Result<(), Error>
+        ensures { Writes (W.out writer.old) (W.out writer.new) result (write Self.shape (Self.plain self.now)) };
+}
+
+/// What is written behind a header.
+pub trait EncodeValue: ShapedValue {
+    /// The number of octets of the content.
+    ///
+    /// # Errors
+    /// `Overflow` from 2^32 on.
+    fn value_len(&self) -> Result<Length, Error>
+        ensures { GivesNow (λ l. l.value) result (size_content Self.content (Self.value_plain self.now)) };
+
+    /// Writes the content.
+    ///
+    /// # Errors
+    /// `Overflow` where a length passes 2^32 - 1, and those of the writer.
+    fn encode_value<W: Writer>(&self, writer: &mut W) -> Result<(), Error>
+        ensures { Writes (W.out writer.old) (W.out writer.new) result (write_content Self.content (Self.value_plain self.now)) };
+}
+
+impl<T: EncodeValue + FixedTag> Encode for T {
+    #[tactic(auto, unfolding(der_core_head::specs::Writing::tlv_len, der_core_head::specs::Writing::head_len))]
+    fn encoded_len(&self) -> Result<Length, Error> {
+        let len = self.value_len()?;
+        len.for_tlv(T::tag())
+    }
+
+    #[tactic(auto, unfolding(der_core_head::specs::Writing::write_tlv))]
+    fn encode<W: Writer>(&self, writer: &mut W) -> Result<(), Error> {
+        let len = self.value_len()?;
+        encode_header(writer, T::tag(), len)?;
+        self.encode_value(writer)
+    }
+}
+
+impl<T: Encode> Encode for Option<T> {
+    fn encoded_len(&self) -> Result<Length, Error> {
+        match self {
+            Some(value) => value.encoded_len(),
+            None => Ok(Length { value: 0 }),
+        }
+    }
+
+    fn encode<W: Writer>(&self, writer: &mut W) -> Result<(), Error> {
+        match self {
+            Some(value) => value.encode(writer),
+            None => Ok(()),
+        }
+    }
+}

@@ -1,0 +1,45 @@
+//! Values whose content is a list of fields.
+
+ghost use Rattle.std.specs.Prelude.{◌≡◌};
+ghost use Rattle.der_core_head.specs.Shapes.{Body, BodyValue, nested};
+ghost use Rattle.der_core_head.specs.Grammar.{value_at, read_body, read_content};
+ghost use Rattle.der_core_head.specs.Reading.{Reads};
+
+use der_core_head::{Error, Header};
+use der_core_input::Reader;
+use std::alloc::Global;
+
+/// The fields of a type, and what its values are.
+pub trait Fields {
+    ghost fields: { Body };
+
+    ghost fields_plain: { Self → BodyValue fields };
+}
+
+/// What is read as fields, one after the other.
+pub trait DecodeFields<'a, R: Reader<'a>>: Fields + Drop {
+    /// The fields that stand next.
+    ///
+    /// # Errors
+    /// The first fault from the left, or `OutOfMemory`; `Failed` where the reader failed before.
+    fn decode_fields(alloc: Global, reader: &mut R) -> Result<Self, Error>
+        ensures { Reads Self.fields_plain (R.state reader.old) (R.state reader.new) result (read_body Self.fields (R.state reader.old).room) };
+}
+
+/// Reads the fields that a header announces, all of its octets.
+///
+/// # Errors
+/// `Incomplete` where there are fewer octets, `NestingDepth` where 64 levels are open, the first
+/// fault of the fields, `TrailingData` where octets are left behind them, or `OutOfMemory`.
+pub fn read_fields<'a, R: Reader<'a>, T: DecodeFields<'a, R>>(
+    alloc: Global,
+    reader: &mut R,
+    header: Header,
+) -> Result<T, Error>
+    ensures { Reads T.fields_plain (R.state reader.old) (R.state reader.new) result (value_at (read_content (nested T.fields) header.tag (R.state reader.old).room) header.length.value) }
+{
+    let behind = reader.begin_nested(header.length)?;
+    let outcome = T::decode_fields(alloc, reader);
+    reader.end_nested(behind, outcome.is_err())?;
+    outcome
+}

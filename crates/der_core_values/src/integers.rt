@@ -1,0 +1,264 @@
+//! Whole numbers: two's complement in the fewest octets (X.690 8.3).
+
+ghost use Rattle.std.specs.Prelude.{◌≡◌, ℤ, pos};
+ghost use Rattle.der_core_head.specs.declared.tag.Tag.TheVariants.{Integer as IntegerTag};
+ghost use Rattle.der_core_head.specs.Shapes.{leaf};
+ghost use Rattle.der_core_head.specs.Integers.{Numbers, unsigned, signed, integer_read};
+ghost use Rattle.der_core_head.specs.Leaves.{integer};
+ghost use Rattle.der_core_head.specs.Reading.{GivesNow};
+ghost use Rattle.der_core_headers.specs.Numbers.{signed_number};
+
+use crate::decode::{DecodeValue, FixedTag, ShapedValue};
+use crate::encode::EncodeValue;
+use crate::leaves::{Leaf, decode_leaf};
+use der_core_head::{Error, Header, Length, Tag};
+use der_core_headers::{integer_octets_of, signed_of, unsigned_of};
+use der_core_input::Reader;
+use der_core_output::Writer;
+use std::alloc::Global;
+
+/// A type of whole numbers.
+pub trait Integer: Drop {
+    /// Which numbers it has.
+    ghost numbers: { Numbers };
+
+    ghost number: { Self → ℤ };
+
+    /// The number that a content spells.
+    ///
+    /// # Errors
+    /// `Length` for no octets, `Noncanonical` where fewer octets would do, `Value` or `Length` for a
+    /// number that the type doesn't have.
+    fn from_integer(tag: Tag, octets: &[u8]) -> Result<Self, Error>
+        ensures { GivesNow number result (integer_read numbers tag octets.now) };
+
+    /// Whether it is negative, and the number n that it is, or of which it is -(n + 1).
+    fn magnitude(&self) -> (bool, u128)
+        ensures { number self.now ≡ signed_number result.0 result.1 };
+}
+
+impl<T: Integer> FixedTag for T {
+    ghost fixed_tag = { IntegerTag };
+
+    fn tag() -> Tag {
+        Tag::Integer
+    }
+}
+
+impl<'a, T: Integer> Leaf<'a> for T {
+    ghost kind = { integer T.numbers };
+
+    ghost leaf_plain = { T.number };
+
+    fn from_content(_alloc: Global, tag: Tag, octets: &'a [u8]) -> Result<T, Error> {
+        T::from_integer(tag, octets)
+    }
+}
+
+impl<T: Integer> ShapedValue for T {
+    ghost content = { leaf (integer T.numbers) };
+
+    ghost value_plain = { T.number };
+}
+
+impl<'a, R: Reader<'a>, T: Integer> DecodeValue<'a, R> for T {
+    fn decode_value(alloc: Global, reader: &mut R, header: Header) -> Result<T, Error> {
+        decode_leaf(alloc, reader, header)
+    }
+}
+
+impl<T: Integer> EncodeValue for T {
+    fn value_len(&self) -> Result<Length, Error> {
+        let (negative, number) = self.magnitude();
+        let (_, start) = integer_octets_of(negative, number);
+        Ok(Length {
+            value: (17 - start) as u32,
+        })
+    }
+
+    fn encode_value<W: Writer>(&self, writer: &mut W) -> Result<(), Error> {
+        let (negative, number) = self.magnitude();
+        let (octets, start) = integer_octets_of(negative, number);
+        writer.write(&octets[start..])
+    }
+}
+
+impl Integer for u8 {
+    ghost numbers = { unsigned 8 };
+
+    ghost number = { λ n. pos n };
+
+    fn from_integer(tag: Tag, octets: &[u8]) -> Result<u8, Error> {
+        let number = unsigned_of(tag, octets, 8)?;
+        Ok(number as u8)
+    }
+
+    fn magnitude(&self) -> (bool, u128) {
+        (false, u128::from(*self))
+    }
+}
+
+impl Integer for u16 {
+    ghost numbers = { unsigned 16 };
+
+    ghost number = { λ n. pos n };
+
+    fn from_integer(tag: Tag, octets: &[u8]) -> Result<u16, Error> {
+        let number = unsigned_of(tag, octets, 16)?;
+        Ok(number as u16)
+    }
+
+    fn magnitude(&self) -> (bool, u128) {
+        (false, u128::from(*self))
+    }
+}
+
+impl Integer for u32 {
+    ghost numbers = { unsigned 32 };
+
+    ghost number = { λ n. pos n };
+
+    fn from_integer(tag: Tag, octets: &[u8]) -> Result<u32, Error> {
+        let number = unsigned_of(tag, octets, 32)?;
+        Ok(number as u32)
+    }
+
+    fn magnitude(&self) -> (bool, u128) {
+        (false, u128::from(*self))
+    }
+}
+
+impl Integer for u64 {
+    ghost numbers = { unsigned 64 };
+
+    ghost number = { λ n. pos n };
+
+    fn from_integer(tag: Tag, octets: &[u8]) -> Result<u64, Error> {
+        let number = unsigned_of(tag, octets, 64)?;
+        Ok(number as u64)
+    }
+
+    fn magnitude(&self) -> (bool, u128) {
+        (false, u128::from(*self))
+    }
+}
+
+impl Integer for u128 {
+    ghost numbers = { unsigned 128 };
+
+    ghost number = { λ n. pos n };
+
+    fn from_integer(tag: Tag, octets: &[u8]) -> Result<u128, Error> {
+        let number = unsigned_of(tag, octets, 128)?;
+        Ok(number)
+    }
+
+    fn magnitude(&self) -> (bool, u128) {
+        (false, *self)
+    }
+}
+
+impl Integer for i8 {
+    ghost numbers = { signed 8 };
+
+    ghost number = { λ z. z };
+
+    fn from_integer(tag: Tag, octets: &[u8]) -> Result<i8, Error> {
+        let (negative, number) = signed_of(tag, octets, 8)?;
+        let number = number as i8;
+        Ok(if negative { -1 - number } else { number })
+    }
+
+    fn magnitude(&self) -> (bool, u128) {
+        let number = *self;
+        if number < 0 {
+            (true, (-1 - number) as u128)
+        } else {
+            (false, number as u128)
+        }
+    }
+}
+
+impl Integer for i16 {
+    ghost numbers = { signed 16 };
+
+    ghost number = { λ z. z };
+
+    fn from_integer(tag: Tag, octets: &[u8]) -> Result<i16, Error> {
+        let (negative, number) = signed_of(tag, octets, 16)?;
+        let number = number as i16;
+        Ok(if negative { -1 - number } else { number })
+    }
+
+    fn magnitude(&self) -> (bool, u128) {
+        let number = *self;
+        if number < 0 {
+            (true, (-1 - number) as u128)
+        } else {
+            (false, number as u128)
+        }
+    }
+}
+
+impl Integer for i32 {
+    ghost numbers = { signed 32 };
+
+    ghost number = { λ z. z };
+
+    fn from_integer(tag: Tag, octets: &[u8]) -> Result<i32, Error> {
+        let (negative, number) = signed_of(tag, octets, 32)?;
+        let number = number as i32;
+        Ok(if negative { -1 - number } else { number })
+    }
+
+    fn magnitude(&self) -> (bool, u128) {
+        let number = *self;
+        if number < 0 {
+            (true, (-1 - number) as u128)
+        } else {
+            (false, number as u128)
+        }
+    }
+}
+
+impl Integer for i64 {
+    ghost numbers = { signed 64 };
+
+    ghost number = { λ z. z };
+
+    fn from_integer(tag: Tag, octets: &[u8]) -> Result<i64, Error> {
+        let (negative, number) = signed_of(tag, octets, 64)?;
+        let number = number as i64;
+        Ok(if negative { -1 - number } else { number })
+    }
+
+    fn magnitude(&self) -> (bool, u128) {
+        let number = *self;
+        if number < 0 {
+            (true, (-1 - number) as u128)
+        } else {
+            (false, number as u128)
+        }
+    }
+}
+
+impl Integer for i128 {
+    ghost numbers = { signed 128 };
+
+    ghost number = { λ z. z };
+
+    fn from_integer(tag: Tag, octets: &[u8]) -> Result<i128, Error> {
+        let (negative, number) = signed_of(tag, octets, 128)?;
+        let number = number as i128;
+        Ok(if negative { -1 - number } else { number })
+    }
+
+    fn magnitude(&self) -> (bool, u128) {
+        let number = *self;
+        if number < 0 {
+            (true, (-1 - number) as u128)
+        } else {
+            (false, number as u128)
+        }
+    }
+}

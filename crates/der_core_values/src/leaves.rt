@@ -1,0 +1,147 @@
+//! Values whose content is no list of values.
+
+ghost use Rattle.std.specs.Prelude.{◌≡◌, ◌<◌, ◌^◌, length, IfOk};
+ghost use Rattle.der_core_head.specs.declared.tag.Tag.TheVariants.{Boolean, Null};
+ghost use Rattle.der_core_head.specs.Shapes.{leaf};
+ghost use Rattle.der_core_head.specs.Grammar.{value_at, read_content};
+ghost use Rattle.der_core_head.specs.Reading.{Reads, Gives, TakesContent};
+ghost use Rattle.der_core_head.specs.Leaves.{Leaf as LeafKind, LeafValue, leaf_read, boolean, null};
+
+use crate::decode::{DecodeValue, FixedTag, ShapedValue};
+use crate::encode::EncodeValue;
+use der_core_head::{Error, ErrorKind, Header, Length, Tag};
+use der_core_input::Reader;
+use der_core_output::Writer;
+use std::alloc::Global;
+
+/// A type whose values are read from the octets of their content.
+pub trait Leaf<'a>: Drop {
+    /// Which primitive type it is.
+    ghost kind: { LeafKind };
+
+    ghost leaf_plain: { Self → LeafValue kind };
+
+    /// The value whose content the octets behind a tag are, so many as a length can count.
+    ///
+    /// # Errors
+    /// The fault of the octets, or `OutOfMemory`.
+    fn from_content(alloc: Global, tag: Tag, octets: &'a [u8]) -> Result<Self, Error>
+        requires { length octets.now < 2 ^ 32 }
+        ensures { Gives leaf_plain result (leaf_read kind tag octets.now) };
+}
+
+/// The octets of the content behind a header.
+///
+/// # Errors
+/// `Incomplete` where there are fewer.
+pub fn read_content<'a, R: Reader<'a>>(reader: &mut R, header: Header) -> Result<&'a [u8], Error>
+    ensures takes { TakesContent (R.state reader.old) (R.state reader.new) result header.length.value }
+    ensures short { IfOk result (λ octets. length octets.now < 2 ^ 32) }
+{
+    reader.read_slice(header.length)
+}
+
+/// Reads a value from the octets of its content.
+///
+/// # Errors
+/// `Incomplete` where there are fewer octets, their fault, or `OutOfMemory`.
+pub fn decode_leaf<'a, R: Reader<'a>, T: Leaf<'a>>(
+    alloc: Global,
+    reader: &mut R,
+    header: Header,
+) -> Result<T, Error>
+    ensures { Reads T.leaf_plain (R.state reader.old) (R.state reader.new) result (value_at (read_content (leaf T.kind) header.tag (R.state reader.old).room) header.length.value) }
+{
+    let octets = read_content(reader, header)?;
+    T::from_content(alloc, header.tag, octets)
+}
+
+impl FixedTag for bool {
+    ghost fixed_tag = { Boolean };
+
+    fn tag() -> Tag {
+        Tag::Boolean
+    }
+}
+
+/// `00` is false and `FF` true (X.690 8.2, 11.1).
+impl<'a> Leaf<'a> for bool {
+    ghost kind = { boolean };
+
+    ghost leaf_plain = { λ b. b };
+
+    fn from_content(_alloc: Global, tag: Tag, octets: &'a [u8]) -> Result<bool, Error> {
+        match octets {
+            [0] => Ok(false),
+            [255] => Ok(true),
+            _ => Err(Error::from(ErrorKind::Noncanonical { tag })),
+        }
+    }
+}
+
+impl ShapedValue for bool {
+    ghost content = { leaf boolean };
+
+    ghost value_plain = { λ b. b };
+}
+
+impl<'a, R: Reader<'a>> DecodeValue<'a, R> for bool {
+    fn decode_value(alloc: Global, reader: &mut R, header: Header) -> Result<bool, Error> {
+        decode_leaf(alloc, reader, header)
+    }
+}
+
+impl FixedTag for () {
+    ghost fixed_tag = { Null };
+
+    fn tag() -> Tag {
+        Tag::Null
+    }
+}
+
+/// No octets (X.690 8.8).
+impl<'a> Leaf<'a> for () {
+    ghost kind = { null };
+
+    ghost leaf_plain = { λ x. x };
+
+    fn from_content(_alloc: Global, tag: Tag, octets: &'a [u8]) -> Result<(), Error> {
+        if octets.is_empty() {
+            Ok(())
+        } else {
+            Err(Error::from(ErrorKind::Noncanonical { tag }))
+        }
+    }
+}
+
+impl ShapedValue for () {
+    ghost content = { leaf null };
+
+    ghost value_plain = { λ x. x };
+}
+
+impl<'a, R: Reader<'a>> DecodeValue<'a, R> for () {
+    fn decode_value(alloc: Global, reader: &mut R, header: Header) -> Result<(), Error> {
+        decode_leaf(alloc, reader, header)
+    }
+}
+
+impl EncodeValue for bool {
+    fn value_len(&self) -> Result<Length, Error> {
+        Ok(Length { value: 1 })
+    }
+
+    fn encode_value<W: Writer>(&self, writer: &mut W) -> Result<(), Error> {
+        writer.write_byte(if *self { 255 } else { 0 })
+    }
+}
+
+impl EncodeValue for () {
+    fn value_len(&self) -> Result<Length, Error> {
+        Ok(Length { value: 0 })
+    }
+
+    fn encode_value<W: Writer>(&self, writer: &mut W) -> Result<(), Error> {
+        writer.write(&[])
+    }
+}

@@ -1,0 +1,39 @@
+//! Fields in a row: `(A, (B, (C, ())))`.
+
+ghost use Rattle.std.specs.Prelude.{◌≡◌};
+ghost use Rattle.der_core_head.specs.Shapes.{field, done};
+
+use crate::decode::{Decode, Shaped};
+use crate::fields::{DecodeFields, Fields};
+use der_core_head::{Error, ErrorKind};
+use der_core_input::Reader;
+use std::alloc::Global;
+
+impl Fields for () {
+    ghost fields = { done };
+
+    ghost fields_plain = { λ x. x };
+}
+
+impl<A: Shaped, B: Fields> Fields for (A, B) {
+    ghost fields = { field A.shape B.fields };
+
+    ghost fields_plain = { λ x. (A.plain x.0, B.fields_plain x.1) };
+}
+
+impl<'a, R: Reader<'a>> DecodeFields<'a, R> for () {
+    fn decode_fields(_alloc: Global, reader: &mut R) -> Result<(), Error> {
+        if reader.is_failed() {
+            return Err(Error::from(ErrorKind::Failed));
+        }
+        Ok(())
+    }
+}
+
+impl<'a, R: Reader<'a>, A: Decode<'a, R>, B: DecodeFields<'a, R>> DecodeFields<'a, R> for (A, B) {
+    fn decode_fields(alloc: Global, reader: &mut R) -> Result<(A, B), Error> {
+        let first = A::decode(alloc, reader)?;
+        let others = B::decode_fields(alloc, reader)?;
+        Ok((first, others))
+    }
+}
