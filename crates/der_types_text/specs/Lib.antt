@@ -1,3 +1,4 @@
 pub mod BmpChars
 pub mod BmpStrings
+pub mod Orders
 pub mod Texts

@@ -1,23 +1,31 @@
 //! Owned texts of ASCII characters.
 
 ghost use Rattle.std.specs.Prelude.{◌≡◌, ◌↔◌, length, IsTrue, IfOk, [], Some, Ok, string_bytes, nat_eq};
+ghost use Rattle.std.proofs.Common.{refl, rules};
 ghost use Rattle.std.specs.Cmp.{partial_equiv_from_equiv};
-ghost use Rattle.std.specs.Cmp.Lexicographic.{pointwise, nat_list_eq_equiv};
+ghost use Rattle.std.specs.Cmp.Lexicographic.{pointwise, slice_cmp, nat_list_eq_equiv, nat_list_cmp_total, texts_po, texts_ties};
+ghost use Rattle.std.specs.Cmp.Rules.{hashing};
+ghost use Rattle.std.specs.Hash as fed;
+ghost use Rattle.std.specs.Ordering.{nat_cmp};
 ghost use Rattle.der_core_head.specs.Leaves.{text};
 ghost use Rattle.der_core_head.specs.Reading.{Gives, GivesNow};
 ghost use Rattle.der_core_head.specs.Shapes.{leaf};
 ghost use Rattle.der_core_head.specs.Texts.{IsText};
+ghost use Rattle.der_types_text.specs.Orders.{text_order};
 ghost use Rattle.der_types_text.specs.Texts.{text_from};
 
 use crate::ascii_string_ref::AsciiStringRef;
 use crate::ascii_type::AsciiType;
-use der_core::{
-    DecodeValue, EncodeValue, Error, FixedTag, Header, Leaf, Length, Reader, ShapedValue, Tag,
-    Writer, decode_leaf, slice_len,
-};
+use der_core_head::{Error, Header, Length, Tag};
+use der_core_input::Reader;
+use der_core_order::{OrdIsValueOrd, ValueOrd};
+use der_core_output::{Writer, slice_len};
+use der_core_values::{DecodeValue, EncodeValue, FixedTag, Leaf, ShapedValue, decode_leaf};
 use std::alloc::{AllocError, Global};
-use std::convert::AsStr;
+use std::cmp::Ordering;
+use std::convert::{AsSlice, AsStr};
 use std::fmt;
+use std::hash::{Hash, Hasher};
 use std::marker::{Model, PhantomData};
 
 /// A text of a character string type whose characters are ASCII.
@@ -141,6 +149,14 @@ impl<T: AsciiType> TryFrom<String> for AsciiString<T> {
     }
 }
 
+impl<T: AsciiType> AsSlice<u8> for AsciiString<T> {
+    ghost items = { λ t. t };
+
+    fn as_slice(&self) -> &[u8] {
+        self.as_bytes()
+    }
+}
+
 impl<T: AsciiType> AsStr for AsciiString<T> {
     ghost text = { λ t. t };
 
@@ -209,6 +225,53 @@ impl<T: AsciiType> PartialEq for AsciiString<T> {
 
 impl<T: AsciiType> Eq for AsciiString<T> {
     ghost laws = { nat_list_eq_equiv };
+}
+
+/// The order of their octets.
+impl<T: AsciiType> PartialOrd for AsciiString<T> {
+    ghost partial_cmp = { λ a b. Some (slice_cmp nat_cmp a b) };
+
+    ghost laws = { texts_po };
+
+    fn partial_cmp(&self, other: &Self) -> Option<Ordering> {
+        Some(self.cmp(other))
+    }
+}
+
+impl<T: AsciiType> Ord for AsciiString<T> {
+    ghost cmp = { slice_cmp nat_cmp };
+
+    ghost total = { nat_list_cmp_total };
+
+    ghost matches_partial_cmp = { λ a b. refl };
+
+    ghost matches_eq = { texts_ties };
+
+    fn cmp(&self, other: &Self) -> Ordering {
+        self.as_bytes().cmp(other.as_bytes())
+    }
+}
+
+impl<T: AsciiType> Hash for AsciiString<T> {
+    ghost hash_input = { fed.str };
+
+    ghost respects_eq = { Prim.search (hashing, rules) };
+
+    fn hash<H: Hasher>(&self, state: &mut H) {
+        self.text.hash(state);
+    }
+}
+
+/// The octets of the text (X.690 8.23.5).
+impl<T: AsciiType> ValueOrd for AsciiString<T> {
+    #[tactic(auto, using(der_core_order::proofs::LeafOrders::leaf_contents))]
+    fn value_cmp(&self, other: &Self) -> Result<Ordering, Error> {
+        Ok(self.as_bytes().cmp(other.as_bytes()))
+    }
+}
+
+impl<T: AsciiType> OrdIsValueOrd for AsciiString<T> {
+    ghost order = { text_order T.repertoire };
 }
 
 impl<T: AsciiType> fmt::Display for AsciiString<T> {

@@ -6,16 +6,19 @@ ghost use Rattle.der_core_head.specs.Leaves.{text};
 ghost use Rattle.der_core_head.specs.Reading.{GivesNow};
 ghost use Rattle.der_core_head.specs.Shapes.{leaf};
 ghost use Rattle.der_core_head.specs.Texts.{is_within, text_read, IsText};
+ghost use Rattle.der_types_text.specs.Orders.{borrowed_order};
 ghost use Rattle.der_types_text.specs.Texts.{AreWithin, text_from};
 
 use crate::ascii_string::AsciiString;
 use crate::ascii_type::AsciiType;
-use der_core::{
-    DecodeValue, EncodeValue, Error, ErrorKind, FixedTag, Header, Leaf, Length, Reader,
-    ShapedValue, Tag, Writer, read_content, slice_len,
-};
+use der_core_head::{Error, ErrorKind, Header, Length, Tag};
+use der_core_input::Reader;
+use der_core_order::{OrdIsValueOrd, ValueOrd};
+use der_core_output::{Writer, slice_len};
+use der_core_values::{DecodeValue, EncodeValue, FixedTag, Leaf, ShapedValue, read_content};
 use std::alloc::{AllocError, Global};
-use std::convert::AsStr;
+use std::cmp::Ordering;
+use std::convert::{AsSlice, AsStr};
 use std::fmt;
 use std::marker::PhantomData;
 
@@ -27,7 +30,9 @@ fn are_characters<T: AsciiType>(octets: &[u8]) -> bool
 }
 
 /// A borrowed text of a character string type whose characters are ASCII.
-#[derive_where(PartialEq, Eq)]
+///
+/// Texts are equal where their octets are, and in the order of these.
+#[derive_where(PartialEq, Eq, PartialOrd, Ord, Hash)]
 pub struct AsciiStringRef<'a, T: AsciiType> {
     /// The characters.
     pub text: &'a str,
@@ -128,6 +133,22 @@ impl<'a, T: AsciiType> From<&'a AsciiString<T>> for AsciiStringRef<'a, T> {
     }
 }
 
+impl<'a, T: AsciiType> From<&AsciiStringRef<'a, T>> for AsciiStringRef<'a, T> {
+    ghost from_gives = { λ s t. t ≡ s.now };
+
+    fn from(text: &AsciiStringRef<'a, T>) -> AsciiStringRef<'a, T> {
+        *text
+    }
+}
+
+impl<'a, T: AsciiType> AsSlice<u8> for AsciiStringRef<'a, T> {
+    ghost items = { λ t. t.text.now };
+
+    fn as_slice(&self) -> &[u8] {
+        self.as_bytes()
+    }
+}
+
 impl<'a, T: AsciiType> AsStr for AsciiStringRef<'a, T> {
     ghost text = { λ t. t.text.now };
 
@@ -186,6 +207,18 @@ impl<'a, T: AsciiType> EncodeValue for AsciiStringRef<'a, T> {
     fn encode_value<W: Writer>(&self, writer: &mut W) -> Result<(), Error> {
         writer.write(self.as_bytes())
     }
+}
+
+/// The octets of the text (X.690 8.23.5).
+impl<'a, T: AsciiType> ValueOrd for AsciiStringRef<'a, T> {
+    #[tactic(auto, using(der_core_order::proofs::LeafOrders::leaf_contents))]
+    fn value_cmp(&self, other: &Self) -> Result<Ordering, Error> {
+        Ok(self.as_bytes().cmp(other.as_bytes()))
+    }
+}
+
+impl<'a, T: AsciiType> OrdIsValueOrd for AsciiStringRef<'a, T> {
+    ghost order = { λ v w. borrowed_order T.repertoire v.text.now w.text.now };
 }
 
 impl<'a, T: AsciiType> fmt::Display for AsciiStringRef<'a, T> {

@@ -1,8 +1,11 @@
 //! BMPString.
 
-ghost use Rattle.std.specs.Prelude.{◌≡◌, ◌++◌, true, false, nat_eq, IfOk, IsTrue, OnOk, MatchOption};
+ghost use Rattle.std.specs.Prelude.{◌≡◌, ◌++◌, true, false, nat_eq, Some, IfOk, IsTrue, OnOk, MatchOption, encode_utf8_all};
+ghost use Rattle.std.proofs.Common.{refl, ap};
 ghost use Rattle.std.specs.Cmp.{partial_equiv_from_equiv};
-ghost use Rattle.std.specs.Cmp.Lexicographic.{pointwise, nat_list_eq_equiv};
+ghost use Rattle.std.specs.Cmp.Lexicographic.{pointwise, slice_cmp, bytes_decides, nat_list_eq_equiv, nat_list_cmp_total, texts_po, texts_ties};
+ghost use Rattle.std.specs.Hash as fed;
+ghost use Rattle.std.specs.Ordering.{nat_cmp};
 ghost use Rattle.std.specs.List.{list_all};
 ghost use Rattle.std.specs.Str.{chars};
 ghost use Rattle.der_core_head.specs.BmpStrings.{IsBmp, is_unit, unit_octets, bmp_octets, bmp_read, units};
@@ -11,15 +14,19 @@ ghost use Rattle.der_core_head.specs.Leaves.{bmp};
 ghost use Rattle.der_core_head.specs.Reading.{Gives, GivesNow};
 ghost use Rattle.der_core_head.specs.Shapes.{leaf};
 ghost use Rattle.der_types_text.specs.BmpStrings.{are_bmp, bmp_from};
+ghost use Rattle.der_types_text.specs.Orders.{bmp_order};
 
 use crate::bmp_chars::{BmpChars, BmpCodepoints};
-use der_core::{
-    DecodeValue, EncodeValue, Error, ErrorKind, FixedTag, Header, Leaf, Length, Reader,
-    ShapedValue, Tag, Writer, decode_leaf, slice_len,
-};
+use der_core_head::{Error, ErrorKind, Header, Length, Tag};
+use der_core_input::Reader;
+use der_core_order::{OrdIsValueOrd, ValueOrd};
+use der_core_output::{Writer, slice_len};
+use der_core_values::{DecodeValue, EncodeValue, FixedTag, Leaf, ShapedValue, decode_leaf};
 use std::alloc::{AllocError, Global};
+use std::cmp::Ordering;
 use std::convert::AsSlice;
 use std::fmt;
+use std::hash::{Hash, Hasher};
 use std::marker::Model;
 
 /// An owned BMPString (X.680 41, X.690 8.23.8): characters below 10000 hex, two octets each, the
@@ -139,6 +146,16 @@ impl BmpString {
         Ok(BmpString { bytes })
     }
 
+    /// The string of a text's characters, as `from_utf8`.
+    ///
+    /// # Errors
+    /// `Value` for a character from 10000 hex on, or `OutOfMemory`.
+    pub fn from_str(alloc: Global, text: &str) -> Result<BmpString, Error>
+        ensures { Gives (λ s. s) result (bmp_from (chars text.now)) }
+    {
+        BmpString::from_utf8(alloc, text)
+    }
+
     /// A copy.
     ///
     /// # Errors
@@ -248,10 +265,62 @@ impl Eq for BmpString {
     ghost laws = { nat_list_eq_equiv };
 }
 
+/// The order of their characters, which is that of their octets.
+impl PartialOrd for BmpString {
+    ghost partial_cmp = { λ a b. Some (slice_cmp nat_cmp a b) };
+
+    ghost laws = { texts_po };
+
+    fn partial_cmp(&self, other: &Self) -> Option<Ordering> {
+        Some(self.cmp(other))
+    }
+}
+
+impl Ord for BmpString {
+    ghost cmp = { slice_cmp nat_cmp };
+
+    ghost total = { nat_list_cmp_total };
+
+    ghost matches_partial_cmp = { λ a b. refl };
+
+    ghost matches_eq = { texts_ties };
+
+    #[tactic(auto, using(crate::specs::Orders::bmp_octets_cmp))]
+    fn cmp(&self, other: &Self) -> Ordering {
+        self.as_bytes().cmp(other.as_bytes())
+    }
+}
+
+impl Hash for BmpString {
+    ghost hash_input = { λ s. fed.slice fed.u8 (bmp_octets s) };
+
+    ghost respects_eq = { λ a b e. ap (λ s. fed.slice fed.u8 (bmp_octets s)) ((bytes_decides a b).0 e) };
+
+    fn hash<H: Hasher>(&self, state: &mut H) {
+        self.as_bytes().hash(state);
+    }
+}
+
+/// The octets of the characters (X.690 8.23.8).
+impl ValueOrd for BmpString {
+    #[tactic(auto, using(der_core_order::proofs::LeafOrders::leaf_contents))]
+    fn value_cmp(&self, other: &Self) -> Result<Ordering, Error> {
+        Ok(self.as_bytes().cmp(other.as_bytes()))
+    }
+}
+
+impl OrdIsValueOrd for BmpString {
+    ghost order = { bmp_order };
+}
+
+/// Writes the characters.
 impl fmt::Display for BmpString {
+    ghost output = { λ s. Some (encode_utf8_all s) };
+
     fn fmt<W: fmt::Write>(&self, f: &mut fmt::Formatter<W>) -> fmt::Result {
-        for character in self.chars() {
-            write!(f, "{character}")?;
+        let mut characters = self.chars();
+        while let Some(character) = characters.next() {
+            f.write_char(character)?;
         }
         Ok(())
     }

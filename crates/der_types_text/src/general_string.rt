@@ -6,17 +6,21 @@ ghost use Rattle.der_core_head.specs.Leaves.{text};
 ghost use Rattle.der_core_head.specs.Reading.{GivesNow};
 ghost use Rattle.der_core_head.specs.Shapes.{leaf};
 ghost use Rattle.der_core_head.specs.Texts.{any_octet};
+ghost use Rattle.der_types_text.specs.Orders.{text_order};
 ghost use Rattle.der_types_text.specs.Texts.{octets_from};
 
-use der_core::{
-    DecodeValue, EncodeValue, Error, FixedTag, Header, Leaf, Length, Reader, ShapedValue, Tag,
-    Writer, decode_leaf, slice_len,
-};
+use der_core_head::{Error, Header, Length, Tag};
+use der_core_input::Reader;
+use der_core_order::{OrdIsValueOrd, ValueOrd};
+use der_core_output::{Writer, slice_len};
+use der_core_values::{DecodeValue, EncodeValue, FixedTag, Leaf, ShapedValue, decode_leaf};
 use std::alloc::Global;
+use std::cmp::Ordering;
+use std::convert::AsSlice;
 
 /// A borrowed GeneralString (X.680 41, X.690 8.23.5): any octets, whose character sets are left to
 /// the reader.
-#[derive(Clone, Copy, Debug, PartialEq, Eq)]
+#[derive(Clone, Copy, Debug, PartialEq, Eq, PartialOrd, Ord, Hash)]
 pub struct GeneralStringRef<'a> {
     /// The octets.
     pub bytes: &'a [u8],
@@ -54,6 +58,22 @@ impl<'a> GeneralStringRef<'a> {
         ensures { IsTrue result ↔ (self.now.bytes.now ≡ []) }
     {
         self.bytes.is_empty()
+    }
+}
+
+impl<'a> From<&GeneralStringRef<'a>> for GeneralStringRef<'a> {
+    ghost from_gives = { λ s t. t ≡ s.now };
+
+    fn from(text: &GeneralStringRef<'a>) -> GeneralStringRef<'a> {
+        *text
+    }
+}
+
+impl<'a> AsSlice<u8> for GeneralStringRef<'a> {
+    ghost items = { λ s. s.bytes.now };
+
+    fn as_slice(&self) -> &[u8] {
+        self.bytes
     }
 }
 
@@ -107,4 +127,18 @@ impl<'a> EncodeValue for GeneralStringRef<'a> {
     fn encode_value<W: Writer>(&self, writer: &mut W) -> Result<(), Error> {
         writer.write(self.bytes)
     }
+}
+
+/// The octets (X.690 8.23.5).
+impl<'a> ValueOrd for GeneralStringRef<'a> {
+    #[tactic(auto, using(der_core_order::proofs::LeafOrders::leaf_contents))]
+    fn value_cmp(&self, other: &Self) -> Result<Ordering, Error> {
+        Ok(self.bytes.cmp(other.bytes))
+    }
+}
+
+impl<'a> OrdIsValueOrd for GeneralStringRef<'a> {
+    ghost use Rattle.der_core_head.specs.Texts.{any_octet};
+
+    ghost order = { λ v w. text_order any_octet v.bytes.now w.bytes.now };
 }

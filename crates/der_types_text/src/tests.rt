@@ -1,9 +1,15 @@
 //! Octets that OpenSSL and pyasn1 write, at each type, and what is refused.
 
 use super::*;
-use der_core::{Decode, Encode, Error, ErrorKind, SliceReader, Tag, from_der, to_der};
+use der_core_head::{Error, ErrorKind, Tag};
+use der_core_order::{DerOrd, OrdIsValueOrd, ValueOrd, value_cmp_by_ord};
+use der_core_reading::{SliceReader, from_der};
+use der_core_values::{Decode, Encode};
+use der_core_writing::to_der;
 use std::alloc::Global;
+use std::cmp::Ordering;
 use std::convert::{AsSlice, AsStr};
+use std::hash::{DefaultHasher, Hash, Hasher};
 use std::test::Fail;
 
 /// Whether octets read as a value, and the value writes as the octets.
@@ -214,6 +220,100 @@ fn bmp_characters(rt: HostRuntime) -> Result<(), Fail> {
     assert_eq!(rt;
         format!(in alloc; "{euro} {euro:?}")?.as_str(),
         "€ BmpString(\"€\")"
+    );
+    Ok(())
+}
+
+/// What a hasher makes of a value.
+fn hash_of<T: Hash>(value: &T) -> u64 {
+    let mut state = DefaultHasher::new();
+    value.hash(&mut state);
+    state.finish()
+}
+
+/// Whether each order puts the first value below the second, and each hash tells them apart.
+fn stands_below<T: ValueOrd + OrdIsValueOrd + Ord + Hash>(
+    low: &T,
+    high: &T,
+) -> Result<bool, Error> {
+    Ok(
+        low.value_cmp(high)? == Ordering::Less
+            && high.value_cmp(low)? == Ordering::Greater
+            && high.value_cmp(high)? == Ordering::Equal
+            && low.cmp(high) == Ordering::Less
+            && low.partial_cmp(high) == Some(Ordering::Less)
+            && value_cmp_by_ord(high, low) == Ordering::Greater
+            && hash_of(low) == hash_of(low)
+            && hash_of(low) != hash_of(high),
+    )
+}
+
+/// `41 42` is below `61`, and what begins another is below it; a shorter encoding is the lower one.
+#[test]
+fn orders(rt: HostRuntime) -> Result<(), Fail> {
+    let alloc = rt.alloc();
+    let (low, high) = (Ia5StringRef::new(b"AB")?, Ia5StringRef::new(b"a")?);
+    assert!(rt; stands_below(&low, &high)?);
+    assert_eq!(rt; low.der_cmp(&high)?, Ordering::Greater);
+    assert!(rt; stands_below(&low.ref_to_owned(alloc)?, &high.ref_to_owned(alloc)?)?);
+    assert_eq!(rt; hash_of(&low), hash_of(&low.ref_to_owned(alloc)?));
+    let (low, high) = (
+        PrintableStringRef::new(b"Jo")?,
+        PrintableStringRef::new(b"Jones")?,
+    );
+    assert!(rt; stands_below(&low, &high)?);
+    assert!(rt; stands_below(&low.ref_to_owned(alloc)?, &high.ref_to_owned(alloc)?)?);
+    let (low, high) = (TeletexStringRef::new(b"9")?, TeletexStringRef::new(b"A")?);
+    assert!(rt; stands_below(&low, &high)?);
+    assert!(rt; stands_below(&low.ref_to_owned(alloc)?, &high.ref_to_owned(alloc)?)?);
+    let (low, high) = (VideotexStringRef::new(b"")?, VideotexStringRef::new(b"A")?);
+    assert!(rt; stands_below(&low, &high)?);
+    let (low, high) = (Utf8StringRef::try_from("z")?, Utf8StringRef::try_from("é")?);
+    assert!(rt; stands_below(&low, &high)?);
+    assert_eq!(rt; low.der_cmp(&high)?, Ordering::Less);
+    let (low, high) = (
+        GeneralStringRef::new(&[0x7f])?,
+        GeneralStringRef::new(&[0x80])?,
+    );
+    assert!(rt; stands_below(&low, &high)?);
+    // `00 FF` and `01 00`, `01 00` and `20 AC`.
+    let low = BmpString::from_str(alloc, "ÿ")?;
+    let high = BmpString::from_str(alloc, "Ā")?;
+    assert!(rt; stands_below(&low, &high)?);
+    assert!(rt; stands_below(&high, &BmpString::from_utf8(alloc, "€")?)?);
+    Ok(())
+}
+
+#[test]
+fn conversions(rt: HostRuntime) -> Result<(), Fail> {
+    let alloc = rt.alloc();
+    let ia5 = Ia5StringRef::new(b"a@b")?;
+    assert!(rt; Ia5StringRef::from(&ia5) == ia5);
+    assert_eq!(rt; ia5.as_slice(), b"a@b".as_slice());
+    assert_eq!(rt; ia5.ref_to_owned(alloc)?.as_slice(), b"a@b".as_slice());
+    let string = String::from_str(alloc, "Grüße")?;
+    let utf8 = Utf8StringRef::try_from(&string)?;
+    assert!(rt; Utf8StringRef::from(&utf8) == utf8);
+    assert_eq!(rt; utf8.as_slice(), b"Gr\xc3\xbc\xc3\x9fe".as_slice());
+    let general = GeneralStringRef::new(b"Jones\xff")?;
+    assert!(rt; GeneralStringRef::from(&general) == general);
+    assert_eq!(rt; general.as_slice(), b"Jones\xff".as_slice());
+    Ok(())
+}
+
+/// Octets that OpenSSL writes of an empty text, and of U+FFFF.
+#[test]
+fn ends(rt: HostRuntime) -> Result<(), Fail> {
+    let alloc = rt.alloc();
+    assert!(rt; agree(alloc, &[0x16, 0], &Ia5StringRef::new(b"")?)?);
+    assert!(rt; agree(alloc, &[0x1e, 0], &BmpString::from_str(alloc, "")?)?);
+    let last = BmpString::from_str(alloc, "\u{ffff}")?;
+    assert!(rt; agree(alloc, &[0x1e, 2, 0xff, 0xff], &last)?);
+    let clef = BmpString::from_str(alloc, "𝄞");
+    let tag = Tag::BmpString;
+    assert_eq!(rt;
+        clef.map_err(|e| e.kind).err(),
+        Some(ErrorKind::Value { tag })
     );
     Ok(())
 }

@@ -6,20 +6,23 @@ ghost use Rattle.der_core_head.specs.Leaves.{utf8};
 ghost use Rattle.der_core_head.specs.Reading.{GivesNow};
 ghost use Rattle.der_core_head.specs.Shapes.{leaf};
 ghost use Rattle.der_core_head.specs.Texts.{utf8_read};
+ghost use Rattle.der_types_text.specs.Orders.{utf8_order};
 ghost use Rattle.der_types_text.specs.Texts.{octets_from, utf8_from};
 
-use der_core::{
-    DecodeValue, EncodeValue, Error, ErrorKind, FixedTag, Header, Leaf, Length, Reader,
-    ShapedValue, Tag, Writer, decode_leaf, slice_len,
-};
+use der_core_head::{Error, ErrorKind, Header, Length, Tag};
+use der_core_input::Reader;
+use der_core_order::{OrdIsValueOrd, ValueOrd};
+use der_core_output::{Writer, slice_len};
+use der_core_values::{DecodeValue, EncodeValue, FixedTag, Leaf, ShapedValue, decode_leaf};
 use std::alloc::{AllocError, Global};
-use std::convert::AsStr;
+use std::cmp::Ordering;
+use std::convert::{AsSlice, AsStr};
 use std::fmt;
 
 /// A borrowed UTF8String (X.680 41, X.690 8.23.10): any characters, in UTF-8.
 ///
-/// Its owned form is `String`.
-#[derive(Clone, Copy, PartialEq, Eq)]
+/// Its owned form is `String`. Texts are equal where their octets are, and in the order of these.
+#[derive(Clone, Copy, PartialEq, Eq, PartialOrd, Ord, Hash)]
 pub struct Utf8StringRef<'a> {
     /// The characters.
     pub text: &'a str,
@@ -104,6 +107,36 @@ impl<'a> TryFrom<&'a str> for Utf8StringRef<'a> {
     }
 }
 
+/// The same text, where a length can count its octets.
+impl<'a> TryFrom<&'a String> for Utf8StringRef<'a> {
+    type Error = Error;
+
+    ghost try_from_gives = { λ s r. GivesNow (λ t. t.text.now) r (octets_from (string_bytes s.now)) };
+
+    fn try_from(text: &'a String) -> Result<Utf8StringRef<'a>, Error> {
+        slice_len(text.as_bytes())?;
+        Ok(Utf8StringRef {
+            text: text.as_str(),
+        })
+    }
+}
+
+impl<'a> From<&Utf8StringRef<'a>> for Utf8StringRef<'a> {
+    ghost from_gives = { λ s t. t ≡ s.now };
+
+    fn from(text: &Utf8StringRef<'a>) -> Utf8StringRef<'a> {
+        *text
+    }
+}
+
+impl<'a> AsSlice<u8> for Utf8StringRef<'a> {
+    ghost items = { λ t. t.text.now };
+
+    fn as_slice(&self) -> &[u8] {
+        self.as_bytes()
+    }
+}
+
 impl<'a> AsStr for Utf8StringRef<'a> {
     ghost text = { λ t. t.text.now };
 
@@ -162,6 +195,18 @@ impl<'a> EncodeValue for Utf8StringRef<'a> {
     fn encode_value<W: Writer>(&self, writer: &mut W) -> Result<(), Error> {
         writer.write(self.as_bytes())
     }
+}
+
+/// The octets of the text (X.690 8.23.10).
+impl<'a> ValueOrd for Utf8StringRef<'a> {
+    #[tactic(auto, using(der_core_order::proofs::LeafOrders::leaf_contents))]
+    fn value_cmp(&self, other: &Self) -> Result<Ordering, Error> {
+        Ok(self.as_bytes().cmp(other.as_bytes()))
+    }
+}
+
+impl<'a> OrdIsValueOrd for Utf8StringRef<'a> {
+    ghost order = { λ v w. utf8_order v.text.now w.text.now };
 }
 
 impl<'a> fmt::Display for Utf8StringRef<'a> {

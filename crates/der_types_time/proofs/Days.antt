@@ -38,7 +38,7 @@ years_agree (suc n) =
     let before = years_agree n in
     omega arith
 
-day_count_is : (y m d : ℕ) → 1970 ≤ y → 1 ≤ d → day_count (pos y) m d ≡ 4_371_953 + (days_of_years (y - 1970) + days_of_months y (m - 1) + (d - 1))
+pub day_count_is : (y m d : ℕ) → 1970 ≤ y → 1 ≤ d → day_count (pos y) m d ≡ 4_371_953 + (days_of_years (y - 1970) + days_of_months y (m - 1) + (d - 1))
 day_count_is y m d low day =
     let e : y ≡ 1970 + (y - 1970) = omega arith in
     let P : ℕ → Type 0 = λ k. day_count (pos k) 1 1 ≡ 4_371_953 + days_of_years (y - 1970) in

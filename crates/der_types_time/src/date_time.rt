@@ -9,7 +9,7 @@ ghost use Rattle.der_types_time.specs.Seconds.{unix_days, unix_seconds};
 ghost use Rattle.jiff_core.specs.Date.{epoch_day};
 
 use crate::date_text::{date_of_text, two_digits as digits_of};
-use der_core::{Error, ErrorKind};
+use der_core_head::{Error, ErrorKind};
 use jiff_core::civil::Date;
 use std::fmt;
 use std::marker::Model;
@@ -18,8 +18,9 @@ use std::time::Duration;
 
 /// A date to the second in universal time, from 1970-01-01T00:00:00Z to 9999-12-31T23:59:59Z.
 ///
-/// Contracts see its year, month, day, hour, minute and second.
-#[derive(Clone, Copy, Debug, PartialEq, Eq)]
+/// Contracts see its year, month, day, hour, minute and second. Dates are in the order of time. As a
+/// value of DER a date is a GeneralizedTime.
+#[derive(Clone, Copy, Debug, PartialEq, Eq, PartialOrd, Ord, Hash)]
 pub struct DateTime {
     year: u16,
     month: u8,

@@ -4,22 +4,26 @@ ghost use Rattle.std.specs.Prelude.{◌≡◌, ◌*◌, ◌/◌, ◌<◌, ◌↔
 ghost use Rattle.std.specs.Duration.{as_nanos};
 ghost use Rattle.der_core_head.specs.Dates.{generalized_octets};
 ghost use Rattle.der_core_head.specs.declared.tag.Tag.TheVariants.{GeneralizedTime as GeneralizedTimeTag};
-ghost use Rattle.der_core_head.specs.Leaves.{generalized_time};
+ghost use Rattle.der_core_head.specs.Leaves.{generalized_time, leaf_read};
+ghost use Rattle.der_core_head.specs.Reading.{GivesNow};
 ghost use Rattle.der_core_head.specs.Shapes.{leaf};
+ghost use Rattle.der_types_time.specs.DateOrders.{generalized_order};
 ghost use Rattle.der_types_time.specs.Seconds.{unix_seconds};
 
 use crate::date_text::{date_of, two, two_digits};
 use crate::date_time::DateTime;
-use der_core::{
-    DecodeValue, EncodeValue, Error, ErrorKind, FixedTag, Header, Leaf, Length, Reader,
-    ShapedValue, Tag, Writer, decode_leaf,
-};
+use der_core_head::{Error, ErrorKind, Header, Length, Tag};
+use der_core_input::Reader;
+use der_core_order::{OrdIsValueOrd, ValueOrd};
+use der_core_output::Writer;
+use der_core_values::{DecodeValue, EncodeValue, FixedTag, Leaf, ShapedValue, decode_leaf};
 use std::alloc::Global;
+use std::cmp::Ordering;
 use std::marker::Model;
 use std::time::Duration;
 
 /// GeneralizedTime (X.690 11.7, RFC 5280 4.1.2.5.2): `YYYYMMDDHHMMSSZ`, from 1970 to 9999.
-#[derive(Clone, Copy, Debug, PartialEq, Eq)]
+#[derive(Clone, Copy, Debug, PartialEq, Eq, PartialOrd, Ord, Hash)]
 pub struct GeneralizedTime {
     date_time: DateTime,
 }
@@ -74,6 +78,26 @@ impl GeneralizedTime {
         self.date_time.unix_duration()
     }
 
+    /// The time that a content spells behind a tag.
+    ///
+    /// # Errors
+    /// `Value` where the octets spell no date.
+    #[tactic(auto, unfolding(der_core_head::specs::Dates::generalized_read))]
+    pub fn of_content(tag: Tag, octets: &[u8]) -> Result<GeneralizedTime, Error>
+        ensures { GivesNow (λ t. t) result (leaf_read generalized_time tag octets.now) }
+    {
+        let Some((century, rest)) = two(octets) else {
+            return Err(Error::from(ErrorKind::Value { tag }));
+        };
+        let Some((year, rest)) = two(rest) else {
+            return Err(Error::from(ErrorKind::Value { tag }));
+        };
+        let Some(date_time) = date_of(100 * u16::from(century) + u16::from(year), rest) else {
+            return Err(Error::from(ErrorKind::Value { tag }));
+        };
+        Ok(GeneralizedTime { date_time })
+    }
+
     /// The content octets.
     #[tactic(auto, unfolding(der_core_head::specs::Dates::generalized_octets))]
     pub(crate) fn to_content(&self) -> [u8; 15]
@@ -105,18 +129,9 @@ impl<'a> Leaf<'a> for GeneralizedTime {
 
     ghost leaf_plain = { λ x. x };
 
-    #[tactic(auto, unfolding(der_core_head::specs::Dates::generalized_read))]
     fn from_content(_alloc: Global, tag: Tag, octets: &'a [u8]) -> Result<GeneralizedTime, Error> {
-        let Some((century, rest)) = two(octets) else {
-            return Err(Error::from(ErrorKind::Value { tag }));
-        };
-        let Some((year, rest)) = two(rest) else {
-            return Err(Error::from(ErrorKind::Value { tag }));
-        };
-        let Some(date_time) = date_of(100 * u16::from(century) + u16::from(year), rest) else {
-            return Err(Error::from(ErrorKind::Value { tag }));
-        };
-        Ok(GeneralizedTime { date_time })
+        let time = GeneralizedTime::of_content(tag, octets)?;
+        Ok(time)
     }
 }
 
@@ -153,4 +168,104 @@ impl From<DateTime> for GeneralizedTime {
     fn from(date_time: DateTime) -> GeneralizedTime {
         GeneralizedTime { date_time }
     }
+}
+
+impl From<&DateTime> for GeneralizedTime {
+    ghost from_gives = { λ date_time t. t ≡ date_time.now };
+
+    fn from(date_time: &DateTime) -> GeneralizedTime {
+        GeneralizedTime::from_date_time(*date_time)
+    }
+}
+
+impl From<&GeneralizedTime> for GeneralizedTime {
+    ghost from_gives = { λ s t. t ≡ s.now };
+
+    fn from(time: &GeneralizedTime) -> GeneralizedTime {
+        *time
+    }
+}
+
+impl From<GeneralizedTime> for DateTime {
+    ghost from_gives = { λ t date_time. date_time ≡ t };
+
+    fn from(time: GeneralizedTime) -> DateTime {
+        time.date_time
+    }
+}
+
+impl From<&GeneralizedTime> for DateTime {
+    ghost from_gives = { λ t date_time. date_time ≡ t.now };
+
+    fn from(time: &GeneralizedTime) -> DateTime {
+        time.date_time
+    }
+}
+
+/// `YYYYMMDDHHMMSSZ`, which is in the order of time.
+impl ValueOrd for GeneralizedTime {
+    #[tactic(auto, using(der_core_order::proofs::LeafOrders::leaf_contents))]
+    fn value_cmp(&self, other: &Self) -> Result<Ordering, Error> {
+        let octets = self.to_content();
+        let other_octets = other.to_content();
+        Ok(octets.as_slice().cmp(other_octets.as_slice()))
+    }
+}
+
+impl OrdIsValueOrd for GeneralizedTime {
+    ghost order = { generalized_order };
+}
+
+/// A GeneralizedTime.
+impl FixedTag for DateTime {
+    ghost fixed_tag = { GeneralizedTimeTag };
+
+    fn tag() -> Tag {
+        Tag::GeneralizedTime
+    }
+}
+
+/// `YYYYMMDDHHMMSSZ`.
+impl<'a> Leaf<'a> for DateTime {
+    ghost kind = { generalized_time };
+
+    ghost leaf_plain = { λ x. x };
+
+    fn from_content(alloc: Global, tag: Tag, octets: &'a [u8]) -> Result<DateTime, Error> {
+        let time = GeneralizedTime::from_content(alloc, tag, octets)?;
+        Ok(time.date_time)
+    }
+}
+
+impl ShapedValue for DateTime {
+    ghost content = { leaf (generalized_time) };
+
+    ghost value_plain = { λ x. x };
+}
+
+impl<'a, R: Reader<'a>> DecodeValue<'a, R> for DateTime {
+    fn decode_value(alloc: Global, reader: &mut R, header: Header) -> Result<DateTime, Error> {
+        decode_leaf(alloc, reader, header)
+    }
+}
+
+impl EncodeValue for DateTime {
+    fn value_len(&self) -> Result<Length, Error> {
+        GeneralizedTime::from_date_time(*self).value_len()
+    }
+
+    fn encode_value<W: Writer>(&self, writer: &mut W) -> Result<(), Error> {
+        GeneralizedTime::from_date_time(*self).encode_value(writer)
+    }
+}
+
+/// `YYYYMMDDHHMMSSZ`, which is in the order of time.
+impl ValueOrd for DateTime {
+    fn value_cmp(&self, other: &Self) -> Result<Ordering, Error> {
+        GeneralizedTime::from_date_time(*self).value_cmp(&GeneralizedTime::from_date_time(*other))
+    }
+}
+
+impl OrdIsValueOrd for DateTime {
+    ghost order = { generalized_order };
 }

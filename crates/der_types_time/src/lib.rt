@@ -4,6 +4,7 @@
 mod date_text;
 mod date_time;
 mod generalized_time;
+pub mod laws;
 #[cfg(test)]
 mod tests;
 mod utc_time;

@@ -4,24 +4,30 @@ ghost use Rattle.std.specs.Prelude.{◌≡◌, ◌*◌, ◌/◌, ◌<◌, ◌≤
 ghost use Rattle.std.specs.Duration.{as_nanos};
 ghost use Rattle.der_core_head.specs.Dates.{IsUtc, utc_octets};
 ghost use Rattle.der_core_head.specs.declared.tag.Tag.TheVariants.{UtcTime as UtcTimeTag};
-ghost use Rattle.der_core_head.specs.Leaves.{utc_time};
+ghost use Rattle.der_core_head.specs.Leaves.{utc_time, leaf_read};
+ghost use Rattle.der_core_head.specs.Reading.{GivesNow};
 ghost use Rattle.der_core_head.specs.Shapes.{leaf};
 ghost use Rattle.der_types_time.specs.Seconds.{unix_seconds};
 
 use crate::date_text::{date_of, two, two_digits};
 use crate::date_time::DateTime;
-use der_core::{
-    DecodeValue, EncodeValue, Error, ErrorKind, FixedTag, Header, Leaf, Length, Reader,
-    ShapedValue, Tag, Writer, decode_leaf,
-};
+use der_core_head::{Error, ErrorKind, Header, Length, Tag};
+use der_core_input::Reader;
+use der_core_order::ValueOrd;
+use der_core_output::Writer;
+use der_core_values::{DecodeValue, EncodeValue, FixedTag, Leaf, ShapedValue, decode_leaf};
 use std::alloc::Global;
+use std::cmp::Ordering;
 use std::marker::Model;
 use std::time::Duration;
 
 /// UTCTime (X.690 11.8, RFC 5280 4.1.2.5.1): `YYMMDDHHMMSSZ`, from 1970 to 2049.
 ///
 /// The years 00 to 49 are those from 2000, 70 to 99 those from 1970; 50 to 69 are refused.
-#[derive(Clone, Copy, Debug, PartialEq, Eq)]
+///
+/// Its own order is that of time. The order of its contents is another one: `00` of 2000 is below `99`
+/// of 1999.
+#[derive(Clone, Copy, Debug, PartialEq, Eq, PartialOrd, Ord, Hash)]
 pub struct UtcTime {
     date_time: DateTime,
 }
@@ -77,6 +83,8 @@ impl UtcTime {
     pub fn from_unix_duration(duration: Duration) -> Result<UtcTime, Error>
         ensures range { IsOk result ↔ (as_nanos duration < 2_524_608_000_000_000_000) }
         ensures ok { IfOk result (λ t. unix_seconds t ≡ as_nanos duration / 1_000_000_000) }
+        ensures late { as_nanos duration < 253_402_300_800_000_000_000 → IfErr result (λ e. e.kind ≡ ErrorKind.Value Tag.UtcTime) }
+        ensures no_date { 253_402_300_800_000_000_000 ≤ as_nanos duration → IfErr result (λ e. e.kind ≡ ErrorKind.DateTime) }
     {
         let date_time = DateTime::from_unix_duration(duration)?;
         UtcTime::from_date_time(date_time)
@@ -87,6 +95,24 @@ impl UtcTime {
         ensures { as_nanos result ≡ unix_seconds self.now * 1_000_000_000 }
     {
         self.date_time.unix_duration()
+    }
+
+    /// The time that a content spells behind a tag.
+    ///
+    /// # Errors
+    /// `Value` where the octets spell no date.
+    #[tactic(auto, unfolding(der_core_head::specs::Dates::utc_read))]
+    pub fn of_content(tag: Tag, octets: &[u8]) -> Result<UtcTime, Error>
+        ensures { GivesNow (λ t. t) result (leaf_read utc_time tag octets.now) }
+    {
+        let Some((year, rest)) = two(octets) else {
+            return Err(Error::from(ErrorKind::Value { tag }));
+        };
+        let century = if year < 50 { 2000 } else { 1900 };
+        let Some(date_time) = date_of(century + u16::from(year), rest) else {
+            return Err(Error::from(ErrorKind::Value { tag }));
+        };
+        Ok(UtcTime { date_time })
     }
 
     /// The content octets.
@@ -119,16 +145,9 @@ impl<'a> Leaf<'a> for UtcTime {
 
     ghost leaf_plain = { λ x. x };
 
-    #[tactic(auto, unfolding(der_core_head::specs::Dates::utc_read))]
     fn from_content(_alloc: Global, tag: Tag, octets: &'a [u8]) -> Result<UtcTime, Error> {
-        let Some((year, rest)) = two(octets) else {
-            return Err(Error::from(ErrorKind::Value { tag }));
-        };
-        let century = if year < 50 { 2000 } else { 1900 };
-        let Some(date_time) = date_of(century + u16::from(year), rest) else {
-            return Err(Error::from(ErrorKind::Value { tag }));
-        };
-        Ok(UtcTime { date_time })
+        let time = UtcTime::of_content(tag, octets)?;
+        Ok(time)
     }
 }
 
@@ -164,5 +183,52 @@ impl TryFrom<DateTime> for UtcTime {
 
     fn try_from(date_time: DateTime) -> Result<UtcTime, Error> {
         UtcTime::from_date_time(date_time)
+    }
+}
+
+impl TryFrom<&DateTime> for UtcTime {
+    ghost use Rattle.der_types_time.specs.Times.{MakesUtcTime};
+
+    type Error = Error;
+
+    ghost try_from_gives = { λ date_time r. MakesUtcTime date_time.now r };
+
+    fn try_from(date_time: &DateTime) -> Result<UtcTime, Error> {
+        UtcTime::from_date_time(*date_time)
+    }
+}
+
+impl From<&UtcTime> for UtcTime {
+    ghost from_gives = { λ s t. t ≡ s.now };
+
+    fn from(time: &UtcTime) -> UtcTime {
+        *time
+    }
+}
+
+impl From<UtcTime> for DateTime {
+    ghost from_gives = { λ t date_time. date_time ≡ t };
+
+    fn from(time: UtcTime) -> DateTime {
+        time.date_time
+    }
+}
+
+impl From<&UtcTime> for DateTime {
+    ghost from_gives = { λ t date_time. date_time ≡ t.now };
+
+    fn from(time: &UtcTime) -> DateTime {
+        time.date_time
+    }
+}
+
+/// `YYMMDDHHMMSSZ`. It isn't the order of time: the years from 2000 stand before those of the century
+/// before.
+impl ValueOrd for UtcTime {
+    #[tactic(auto, using(der_core_order::proofs::LeafOrders::leaf_contents))]
+    fn value_cmp(&self, other: &Self) -> Result<Ordering, Error> {
+        let octets = self.to_content();
+        let other_octets = other.to_content();
+        Ok(octets.as_slice().cmp(other_octets.as_slice()))
     }
 }
