@@ -4,5 +4,3 @@ mod Puts
 mod BitRuns
 mod Shorter
 mod Naturals
-mod AnyLaws
-mod Converted

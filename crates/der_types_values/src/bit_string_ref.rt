@@ -160,7 +160,7 @@ impl<'a> BitStringRef<'a> {
     /// # Errors
     /// `Length` for no octets, `Value` where bits can't be unused.
     #[tactic(auto, unfolding(der_core_head::specs::BitStrings::bits_read))]
-    pub(crate) fn of_content(tag: Tag, octets: &'a [u8]) -> Result<BitStringRef<'a>, Error>
+    pub fn of_content(tag: Tag, octets: &'a [u8]) -> Result<BitStringRef<'a>, Error>
         requires { length octets.now < 2 ^ 32 }
         ensures { GivesNow bits_lent result (leaf_read bits tag octets.now) }
     {

@@ -2,6 +2,7 @@
 
 ghost use Rattle.std.specs.Prelude.{◌≡◌, ◌<◌, pos, length, false, IfOk};
 ghost use Rattle.std.specs.Int.Digits.{number_from_digits};
+ghost use Rattle.std.specs.List.{cons_option};
 ghost use Rattle.const_oid_identifiers.specs.Digits.{digits};
 ghost use Rattle.der_core_head.specs.Integers.{integer_of, integer_octets, is_redundant};
 ghost use Rattle.der_core_head.specs.Writing.{Writes, put};
@@ -83,6 +84,20 @@ pub fn content_len(octets: &[u8]) -> usize
         octets.len() + 1
     } else {
         octets.len()
+    }
+}
+
+/// The octet that stands before the digits of a number in base 256, if one does: a zero where their
+/// first bit is one.
+#[tactic(auto, using(crate::proofs::Naturals::natural_contents))]
+pub fn lead_of(octets: &[u8]) -> Option<u8>
+    requires { octets.now ≡ digits 256 (number_from_digits 256 octets.now) }
+    ensures { cons_option result octets.now ≡ integer_octets (pos (number_from_digits 256 octets.now)) }
+{
+    if begins_with_one_bit(octets) {
+        Some(0)
+    } else {
+        None
     }
 }
 

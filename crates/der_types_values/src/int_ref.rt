@@ -90,7 +90,7 @@ impl<'a> IntRef<'a> {
     /// # Errors
     /// `Length` for no octets, `Noncanonical` where fewer would do.
     #[tactic(auto, unfolding(der_core_head::specs::Integers::shortest_integer))]
-    pub(crate) fn of_content(tag: Tag, octets: &'a [u8]) -> Result<IntRef<'a>, Error>
+    pub fn of_content(tag: Tag, octets: &'a [u8]) -> Result<IntRef<'a>, Error>
         requires { length octets.now < 2 ^ 32 }
         ensures { GivesNow integer_lent result (leaf_read (integer every) tag octets.now) }
     {

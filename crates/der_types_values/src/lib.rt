@@ -1,15 +1,12 @@
-//! Typed values of DER that are no texts, dates or sets.
+//! Octet strings, bit strings, whole numbers of any size, NULL and raw sequences.
 #![tactic(auto)]
 
 mod allowed_len;
-mod any;
-mod any_ref;
 mod behind;
 mod bit_string;
 mod bit_string_iter;
 mod bit_string_ref;
 mod bits;
-mod conversions;
 mod fewest;
 mod int;
 mod int_ref;
@@ -24,8 +21,6 @@ mod uint;
 mod uint_ref;
 
 pub use allowed_len::AllowedLenBitString;
-pub use any::Any;
-pub use any_ref::AnyRef;
 pub use bit_string::BitString;
 pub use bit_string_iter::BitStringIter;
 pub use bit_string_ref::{AsBitStringRef, BitStringRef};

@@ -108,7 +108,7 @@ impl OctetString {
     pub fn owned_to_ref(&self) -> OctetStringRef<'_>
         ensures { octets_lent result ≡ self.now }
     {
-        OctetStringRef::trusted(self.bytes.as_slice())
+        OctetStringRef::of_content(self.bytes.as_slice())
     }
 }
 

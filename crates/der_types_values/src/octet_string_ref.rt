@@ -39,8 +39,8 @@ impl<'a> OctetStringRef<'a> {
         Ok(OctetStringRef { bytes })
     }
 
-    /// Octets that are known to be few enough.
-    pub(crate) fn trusted(bytes: &'a [u8]) -> OctetStringRef<'a>
+    /// The string of a content that a length can count.
+    pub fn of_content(bytes: &'a [u8]) -> OctetStringRef<'a>
         requires { length bytes.now < 2 ^ 32 }
         ensures { octets_lent result ≡ bytes.now }
     {

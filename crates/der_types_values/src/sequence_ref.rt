@@ -40,8 +40,8 @@ impl<'a> SequenceRef<'a> {
         Ok(SequenceRef { bytes })
     }
 
-    /// Octets that are known to be few enough.
-    pub(crate) fn trusted(bytes: &'a [u8]) -> SequenceRef<'a>
+    /// The SEQUENCE of a content that a length can count.
+    pub fn of_content(bytes: &'a [u8]) -> SequenceRef<'a>
         requires { length bytes.now < 2 ^ 32 }
         ensures { fields_lent result ≡ bytes.now }
     {

@@ -1,12 +1,13 @@
-//! Octets from X.690 and from another program, and a field of each kind in a row.
+//! Octets from X.690 and from another program.
 
 use super::*;
-use const_oid::ObjectIdentifier;
-use der_core::{Decode, Encode, Error, ErrorKind, SliceReader, Tag, from_der, to_der};
+use der_core::{
+    Decode, Encode, Error, ErrorKind, Explicit, Implicit, SliceReader, Tag, from_der, to_der,
+};
+use der_core_order::{DerOrd, ValueOrd};
 use std::alloc::Global;
+use std::cmp::Ordering;
 use std::test::Fail;
-
-mod record;
 
 /// Whether octets read as a value that is written as the same octets.
 fn is_kept<'a, T: Decode<'a, SliceReader<'a>> + Encode + Drop>(
@@ -61,8 +62,6 @@ fn other_values_are_kept(rt: HostRuntime) -> Result<(), Fail> {
     let alloc = rt.alloc();
     assert!(rt; is_kept::<Null>(alloc, &[5, 0])?);
     assert!(rt; is_kept::<SequenceRef>(alloc, &[0x30, 2, 5, 0])?);
-    assert!(rt; is_kept::<Any>(alloc, &[0xa1, 2, 5, 0])?);
-    assert!(rt; is_kept::<AnyRef>(alloc, &[0x9f, 0x1f, 1, 7])?);
     Ok(())
 }
 
@@ -195,62 +194,6 @@ fn octets(rt: HostRuntime) -> Result<(), Fail> {
     Ok(())
 }
 
-#[test]
-fn any_values(rt: HostRuntime) -> Result<(), Fail> {
-    let alloc = rt.alloc();
-    let number = Any::encode_from(alloc, &-128i8)?;
-    assert!(rt; number == AnyRef::new(Tag::Integer, &[128])?.ref_to_owned(alloc)?);
-    assert_eq!(rt; number.decode_as::<i16>(alloc)?, -128);
-    assert_eq!(rt;
-        number.decode_as::<Null>(alloc).map_err(|e| e.kind),
-        Err(ErrorKind::TagUnexpected)
-    );
-    Ok(())
-}
-
-#[test]
-fn converted_numbers(rt: HostRuntime) -> Result<(), Fail> {
-    let number = Any::encode_from(rt.alloc(), &-128i8)?;
-    assert_eq!(rt; number.header().length.value, 1);
-    assert_eq!(rt; i8::try_from(number.to_ref())?, -128);
-    assert_eq!(rt;
-        u8::try_from(number.to_ref()).map_err(|e| e.kind),
-        Err(ErrorKind::Value { tag: Tag::Integer })
-    );
-    Ok(())
-}
-
-#[test]
-fn nulls(rt: HostRuntime) -> Result<(), Fail> {
-    let alloc = rt.alloc();
-    assert!(rt; Any::null(alloc).is_null() && AnyRef::NULL.is_null());
-    assert!(rt;
-        Any::new(Tag::Null, Vec::new(alloc))?
-            .clone(alloc)?
-            .owned_to_ref()
-            == AnyRef::NULL
-    );
-    assert!(rt; AnyRef::from(Null) == AnyRef::NULL);
-    assert_eq!(rt; Null::try_from(AnyRef::NULL)?, Null);
-    Ok(())
-}
-
-#[test]
-fn converted_values(rt: HostRuntime) -> Result<(), Fail> {
-    let text = AnyRef::from(OctetStringRef::new(b"ab")?);
-    assert_eq!(rt;
-        OctetStringRef::try_from(text)?.as_bytes(),
-        b"ab".as_slice()
-    );
-    let identifier = AnyRef::new(Tag::ObjectIdentifier, &[42, 3])?;
-    let arcs = ObjectIdentifier::<39>::try_from(identifier)?;
-    assert_eq!(rt; arcs.as_bytes(), [42, 3].as_slice());
-    let bits = BitStringRef::try_from(AnyRef::new(Tag::BitString, &[7, 128])?)?;
-    assert_eq!(rt; bits.bit_len(), 1);
-    assert!(rt; bool::try_from(AnyRef::new(Tag::Boolean, &[255])?)?);
-    Ok(())
-}
-
 /// Key identifiers of 3 to 9 bits.
 struct Few;
 
@@ -276,4 +219,91 @@ fn lengths(rt: HostRuntime) {
     assert!(rt; Few::check_bit_len(3).is_ok() && Few::check_bit_len(9).is_ok());
     assert_eq!(rt; Few::check_bit_len(2).map_err(|e| e.kind), Err(kind));
     assert_eq!(rt; Few::check_bit_len(10).map_err(|e| e.kind), Err(kind));
+}
+
+/// One bit, and the same behind another tag; a number behind a tag of its own.
+#[test]
+fn tagged_values(rt: HostRuntime) -> Result<(), Fail> {
+    let alloc = rt.alloc();
+    let bits = from_der::<BitString>(alloc, &[3, 2, 7, 0x80])?;
+    assert!(rt; bits.bit_len() == 1 && bits.unused_bits() == 7);
+    assert_eq!(rt; bits.raw_bytes(), [0x80].as_slice());
+    assert!(rt; is_kept::<Implicit<BitStringRef, 1>>(alloc, &[0x81, 2, 7, 0x80])?);
+    assert!(rt; is_kept::<Explicit<Uint, 0>>(alloc, &[0xa0, 3, 2, 1, 2])?);
+    Ok(())
+}
+
+#[test]
+fn lent_bits(rt: HostRuntime) -> Result<(), Fail> {
+    let lent = BitStringRef::of_content(Tag::BitString, &[6, 0xa0, 0x40])?;
+    assert_eq!(rt; lent.raw_bytes(), [0xa0, 0x40].as_slice());
+    assert_eq!(rt; lent.get(0), Some(true));
+    assert_eq!(rt; lent.get(1), Some(false));
+    assert!(rt; lent.has_unused_bits() && lent.as_bytes().is_none() && !lent.is_empty());
+    let mut bits = lent.as_bit_string_ref().bits();
+    bits.next();
+    assert_eq!(rt; bits.len(), 9);
+    Ok(())
+}
+
+#[test]
+fn contents(rt: HostRuntime) -> Result<(), Fail> {
+    let number = IntRef::of_content(Tag::Integer, &[0, 128])?;
+    assert!(rt; number.len().value == 2 && !number.is_empty());
+    let digits = UintRef::of_content(Tag::Integer, &[0, 128])?;
+    assert!(rt; digits.len().value == 1 && !digits.is_empty());
+    assert_eq!(rt; digits.as_bytes(), [128].as_slice());
+    assert_eq!(rt; OctetStringRef::of_content(&[1, 2]).len().value, 2);
+    let content = SequenceRef::of_content(&[5, 0]);
+    assert!(rt; content == SequenceRef::new(&[5, 0])?);
+    assert_eq!(rt; content.as_bytes(), [5, 0].as_slice());
+    Ok(())
+}
+
+/// Contents are compared octet by octet: 127 is `7F`, 128 `00 80`, and -1 `FF` (X.690 8.3).
+#[test]
+fn numbers_ordered(rt: HostRuntime) -> Result<(), Fail> {
+    let alloc = rt.alloc();
+    let last_short = Int::new(alloc, &[127])?;
+    let first_long = Int::new(alloc, &[0, 128])?;
+    let negative = Int::new(alloc, &[255])?;
+    assert_eq!(rt; last_short.value_cmp(&first_long)?, Ordering::Greater);
+    assert_eq!(rt; last_short.der_cmp(&first_long)?, Ordering::Less);
+    assert_eq!(rt; negative.value_cmp(&last_short)?, Ordering::Greater);
+    let lent = last_short.owned_to_ref();
+    assert_eq!(rt;
+        lent.value_cmp(&first_long.owned_to_ref())?,
+        Ordering::Greater
+    );
+    let small = Uint::new(alloc, &[127])?;
+    let great = Uint::new(alloc, &[200])?;
+    assert_eq!(rt; small.value_cmp(&great)?, Ordering::Greater);
+    assert_eq!(rt;
+        great.owned_to_ref().value_cmp(&small.owned_to_ref())?,
+        Ordering::Less
+    );
+    assert_eq!(rt; great.der_cmp(&Uint::new(alloc, &[1, 0])?)?, Ordering::Less);
+    Ok(())
+}
+
+#[test]
+fn strings_ordered(rt: HostRuntime) -> Result<(), Fail> {
+    let alloc = rt.alloc();
+    let bits = BitString::new(6, [0xa0, 0x40].to_vec(alloc)?)?;
+    let whole = BitString::from_bytes([0xa0, 0x40].to_vec(alloc)?)?;
+    assert_eq!(rt; bits.value_cmp(&whole)?, Ordering::Greater);
+    let lent = whole.owned_to_ref();
+    assert_eq!(rt; lent.value_cmp(&bits.owned_to_ref())?, Ordering::Less);
+    let octets = OctetString::new([1, 2].to_vec(alloc)?)?;
+    let longer = OctetString::new([1, 2, 0].to_vec(alloc)?)?;
+    assert_eq!(rt; octets.value_cmp(&longer)?, Ordering::Less);
+    let lent = octets.owned_to_ref();
+    assert_eq!(rt; lent.value_cmp(&longer.owned_to_ref())?, Ordering::Less);
+    assert_eq!(rt; Null.value_cmp(&Null)?, Ordering::Equal);
+    let fields = SequenceRef::new(&[5, 0])?;
+    assert_eq!(rt;
+        fields.value_cmp(&SequenceRef::new(&[5])?)?,
+        Ordering::Greater
+    );
+    Ok(())
 }

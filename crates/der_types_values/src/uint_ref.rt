@@ -96,7 +96,7 @@ impl<'a> UintRef<'a> {
     /// # Errors
     /// `Length` for no octets, `Noncanonical` where fewer would do, `Value` for a negative number.
     #[tactic(auto, using(crate::proofs::Naturals::natural_reads))]
-    pub(crate) fn of_content(tag: Tag, octets: &'a [u8]) -> Result<UintRef<'a>, Error>
+    pub fn of_content(tag: Tag, octets: &'a [u8]) -> Result<UintRef<'a>, Error>
         requires { length octets.now < 2 ^ 32 }
         ensures { GivesNow (λ n. pos (natural_lent n)) result (leaf_read (integer natural) tag octets.now) }
     {

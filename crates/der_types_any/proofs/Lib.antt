@@ -1,0 +1,4 @@
+mod AnyLaws
+mod Converted
+mod SameTags
+mod TextContents

@@ -1,0 +1,29 @@
+-- The content of any value, read as a value of a type.
+use Rattle.std.specs.Prelude.{ℕ, List, [], None, false, Result, Err, if◌then◌else◌}
+use Rattle.der_core_head.specs.declared.error.ErrorKind.{ErrorKind}
+use Rattle.der_core_head.specs.declared.error.ErrorKind.TheVariants as kinds
+use Rattle.der_core_head.specs.declared.tag.Tag.{Tag}
+use Rattle.der_core_head.specs.Octets.{◌>>=◌}
+use Rattle.der_core_head.specs.Tags.{same_tag}
+use Rattle.der_core_head.specs.Leaves.{Leaf, LeafValue, leaf_read}
+use Rattle.der_core_head.specs.Shapes.{AnyValue, Content, ContentValue}
+use Rattle.der_core_head.specs.Grammar.{read_content, whole}
+use Rattle.der_core_head.specs.Writing.{write_content}
+use Rattle.der_core_headers.specs.Fronts.{alone}
+use Rattle.der_types_values.specs.Numbers.{counted}
+
+-- the value, if the tag is that of the type, or the fault
+unfoldable pub content_as : Tag → (c : Content) → AnyValue → Result (ContentValue c) ErrorKind
+content_as t c a = if same_tag a.tag t then alone (read_content c a.tag 64 a.contents >>= whole) else Err kinds.TagUnexpected
+
+-- the same of a type whose content is no list of values
+unfoldable pub leaf_as : Tag → (l : Leaf) → AnyValue → Result (LeafValue l) ErrorKind
+leaf_as t l a = if same_tag a.tag t then leaf_read l a.tag a.contents else Err kinds.TagUnexpected
+
+-- a value's tag and the content that is written
+unfoldable pub written_as : Tag → (c : Content) → ContentValue c → Result AnyValue ErrorKind
+written_as t c v = write_content c v (record { written = []; room = None; failed = false }) >>= λ o. counted o.written (record { tag = t; contents = o.written })
+
+-- a tag and a content, if a length can count its octets
+unfoldable pub any_from : Tag → List ℕ → Result AnyValue ErrorKind
+any_from t w = counted w (record { tag = t; contents = w })

@@ -1,0 +1,285 @@
+//! Any value.
+
+ghost use Rattle.std.specs.Prelude.{◌≡◌, ◌<◌, ◌≤◌, ◌^◌, ◌↔◌, [], length, vec_len, nat_eq, true, false, None, Ok, IsTrue, IfOk, IfErr, IsErrAnd};
+ghost use Rattle.std.specs.Cmp.{partial_equiv_from_equiv, on_equiv, on_per};
+ghost use Rattle.std.specs.Cmp.Lexicographic.{pointwise, nat_list_eq_equiv};
+ghost use Rattle.der_core_head.specs.declared.encoding_rules.EncodingRules.TheVariants.{Der};
+ghost use Rattle.der_core_head.specs.declared.tag.Tag.TheVariants.{Null, Sequence};
+ghost use Rattle.der_core_head.specs.Shapes.{any, tagged, nested, Body, BodyValue, ContentValue, IsValid, Spells, octets_of};
+ghost use Rattle.der_core_head.specs.Spelling.{is_apart, are_enough};
+ghost use Rattle.der_core_head.specs.Tags.{same_tag};
+ghost use Rattle.der_core_head.specs.Reading.{Gives, ClosureReads, HandsBack, unread};
+ghost use Rattle.der_core_input.specs.Nesting.{Answered};
+ghost use Rattle.der_core_head.specs.Writing.{write_content};
+ghost use Rattle.der_types_any.specs.Anys.{any_lent};
+ghost use Rattle.der_types_any.specs.Contents.{content_as, written_as};
+
+use crate::any_ref::AnyRef;
+use der_core::{
+    Choice, Decode, DecodeValue, Encode, EncodeValue, EncodingRules, Error, ErrorKind, FixedTag,
+    Header, Length, Reader, Shaped, SliceReader, Tag, Writer, leading_octet_of, number_of,
+};
+use der_core_order::{DerOrd, FirstTag};
+use std::alloc::{AllocError, Global};
+use std::cmp::Ordering;
+use std::marker::Model;
+
+/// Any value (X.680 3.8.1), as it stands: its tag, and the octets of its content, fewer than 2^32,
+/// which aren't looked into.
+///
+/// Contracts see the tag and the octets.
+#[derive(Debug, Drop)]
+pub struct Any {
+    tag: Tag,
+    bytes: Vec<u8>,
+}
+
+impl Model for Any {
+    ghost use Rattle.der_core_head.specs.Shapes.{AnyValue};
+
+    ghost Value = { AnyValue };
+
+    ghost use Rattle.der_types_any.specs.Anys.{any_kept, IsAny};
+
+    ghost view = { any_kept };
+
+    ghost invariant = { IsAny };
+}
+
+/// The octets that writing the content of a value gives.
+fn content_octets<T: EncodeValue>(alloc: Global, value: &T) -> Result<Vec<u8>, Error>
+    ensures { Gives (λ v. record { written = v.items; room = None; failed = false }) result (write_content T.content (T.value_plain value.now) (record { written = []; room = None; failed = false })) }
+{
+    let mut out = Vec::new(alloc);
+    value.encode_value(&mut out)?;
+    Ok(out)
+}
+
+impl Any {
+    /// The value of a tag and a content.
+    ///
+    /// # Errors
+    /// `Overflow` for 2^32 octets or more.
+    pub fn new(tag: Tag, bytes: Vec<u8>) -> Result<Any, Error>
+        ensures ok { IfOk result (λ a. (vec_len bytes < 2 ^ 32) × (a ≡ record { tag = tag; contents = bytes.items })) }
+        ensures err { IfErr result (λ e. (2 ^ 32 ≤ vec_len bytes) × (e.kind ≡ ErrorKind.Overflow)) }
+    {
+        if bytes.len() > 0xffff_ffff {
+            return Err(Error::from(ErrorKind::Overflow));
+        }
+        Ok(Any { tag, bytes })
+    }
+
+    /// NULL.
+    pub fn null(alloc: Global) -> Any
+        ensures { result ≡ record { tag = Null; contents = [] } }
+    {
+        Any {
+            tag: Tag::Null,
+            bytes: Vec::new(alloc),
+        }
+    }
+
+    /// The tag and the content of a value.
+    ///
+    /// # Errors
+    /// `Overflow` where a length passes 2^32 - 1, or `OutOfMemory`.
+    #[tactic(auto, unfolding(crate::specs::Contents::written_as, der_types_values::specs::Numbers::counted))]
+    pub fn encode_from<T: EncodeValue + FixedTag>(alloc: Global, value: &T) -> Result<Any, Error>
+        ensures { Gives (λ a. a) result (written_as T.fixed_tag T.content (T.value_plain value.now)) }
+    {
+        let bytes = content_octets(alloc, value)?;
+        let any = Any::new(T::tag(), bytes)?;
+        Ok(any)
+    }
+
+    /// The value of a borrowed one.
+    pub(crate) fn copy_of(alloc: Global, lent: &AnyRef<'_>) -> Result<Any, AllocError>
+        ensures { IfOk result (λ a. a ≡ any_lent lent.now) }
+    {
+        let bytes = lent.value().to_vec(alloc)?;
+        Ok(Any {
+            tag: lent.tag(),
+            bytes,
+        })
+    }
+
+    /// A copy.
+    ///
+    /// # Errors
+    /// Want of memory.
+    pub fn clone(&self, alloc: Global) -> Result<Any, AllocError>
+        ensures { IfOk result (λ a. a ≡ self.now) }
+    {
+        Any::copy_of(alloc, &self.to_ref())
+    }
+
+    /// The tag.
+    pub fn tag(&self) -> Tag
+        ensures { result ≡ self.now.tag }
+    {
+        self.tag
+    }
+
+    /// The content octets.
+    pub fn value(&self) -> &[u8]
+        ensures { result.now ≡ self.now.contents }
+    {
+        self.bytes.as_slice()
+    }
+
+    /// The header.
+    pub fn header(&self) -> Header
+        ensures tag { result.tag ≡ self.now.tag }
+        ensures length { result.length.value ≡ length self.now.contents }
+    {
+        self.to_ref().header()
+    }
+
+    /// Whether it is NULL.
+    pub fn is_null(&self) -> bool
+        ensures { IsTrue result ↔ (self.now ≡ record { tag = Null; contents = [] }) }
+    {
+        self.to_ref().is_null()
+    }
+
+    /// The value of a type that has this tag and this content.
+    ///
+    /// # Errors
+    /// `TagUnexpected` for another tag than the type's; else the first fault of the content, or
+    /// `OutOfMemory`.
+    pub fn decode_as<'a, T: DecodeValue<'a, SliceReader<'a>> + FixedTag>(
+        &'a self,
+        alloc: Global,
+    ) -> Result<T, Error>
+        // What is read is spelled by the whole encoding, if there is one.
+        ensures spelled { IsValid any self.now → is_apart (tagged T.fixed_tag T.content) ≡ true
+            → IfOk result (λ v. Spells (tagged T.fixed_tag T.content) (T.value_plain v) (octets_of any self.now)) }
+        // What is spelled by it is read, unless memory runs out.
+        ensures only { (v : ContentValue T.content) → IsValid any self.now → is_apart (tagged T.fixed_tag T.content) ≡ true
+            → are_enough (tagged T.fixed_tag T.content) 64 ≡ true → Spells (tagged T.fixed_tag T.content) v (octets_of any self.now)
+            → Gives T.value_plain result (Ok v) }
+        // Which fault it is.
+        ensures exact { Gives T.value_plain result (content_as T.fixed_tag T.content self.now) }
+    {
+        let value = self.to_ref().decode_as(alloc)?;
+        Ok(value)
+    }
+
+    /// The value of a type that has this tag and this content, in which headers are read by these
+    /// rules. Which value BER gives isn't promised.
+    ///
+    /// # Errors
+    /// `TagUnexpected` for another tag than the type's; else by DER the first fault of the content,
+    /// or `OutOfMemory`.
+    pub fn decode_as_encoding<'a, T: DecodeValue<'a, SliceReader<'a>> + FixedTag>(
+        &'a self,
+        alloc: Global,
+        encoding_rules: EncodingRules,
+    ) -> Result<T, Error>
+        ensures der { encoding_rules ≡ Der → Gives T.value_plain result (content_as T.fixed_tag T.content self.now) }
+        ensures tag { same_tag self.now.tag T.fixed_tag ≡ false → IsErrAnd result (λ e. e.kind ≡ ErrorKind.TagUnexpected) }
+    {
+        let value = self.to_ref().decode_as_encoding(alloc, encoding_rules)?;
+        Ok(value)
+    }
+
+    /// Calls `f` on a reader of the content of this SEQUENCE, and wants all of it read.
+    ///
+    /// # Errors
+    /// `TagUnexpected` where it is no SEQUENCE, what `f` answers, `TrailingData` where `f` leaves
+    /// octets.
+    pub fn sequence<'a, T: Drop, F: FnOnce(&mut SliceReader<'a>) -> Result<T, Error>>(
+        &'a self,
+        f: F,
+    ) -> Result<T, Error>
+        requires callable { F.IsAlwaysCallable f }
+        // The closure gives back the same reader, with the same end, and further on.
+        requires hands_back { HandsBack (λ s. s) F.FnOnce f }
+        // The answer is that of the closure, which left nothing.
+        ensures ran { IfOk result (λ x. Answered (λ s. s) F.FnOnce f (length self.now.contents) (unread Der self.now.contents) x) }
+        ensures tag { same_tag self.now.tag Sequence ≡ false → IsErrAnd result (λ e. e.kind ≡ ErrorKind.TagUnexpected) }
+        // What the closure reads of a body, this reads of the content.
+        ensures reads { (b : Body) (view : T → BodyValue b) → ClosureReads (λ s. s) F.FnOnce f b view
+            → Gives view result (content_as Sequence (nested b) self.now) }
+    {
+        let value = self.to_ref().sequence(f)?;
+        Ok(value)
+    }
+
+    /// The same value, lent.
+    pub fn to_ref(&self) -> AnyRef<'_>
+        ensures { any_lent result ≡ self.now }
+    {
+        AnyRef::trusted(self.tag, self.bytes.as_slice())
+    }
+
+    /// The same value, lent.
+    pub fn owned_to_ref(&self) -> AnyRef<'_>
+        ensures { any_lent result ≡ self.now }
+    {
+        self.to_ref()
+    }
+}
+
+/// Whether tag and content are equal.
+impl PartialEq for Any {
+    ghost use Rattle.der_types_any.specs.Anys.{any_key};
+
+    ghost eq = { λ a b. pointwise nat_eq (any_key a) (any_key b) };
+
+    ghost laws = { on_per any_key (partial_equiv_from_equiv nat_list_eq_equiv) };
+
+    fn eq(&self, other: &Self) -> bool {
+        leading_octet_of(self.tag()) == leading_octet_of(other.tag())
+            && (number_of(self.tag()) == number_of(other.tag()) && self.value() == other.value())
+    }
+}
+
+impl Eq for Any {
+    ghost use Rattle.der_types_any.specs.Anys.{any_key};
+
+    ghost laws = { on_equiv any_key nat_list_eq_equiv };
+}
+
+impl Shaped for Any {
+    ghost shape = { any };
+
+    ghost plain = { λ a. a };
+}
+
+impl Choice for Any {
+    fn can_decode(_tag: Tag) -> bool {
+        true
+    }
+}
+
+impl<'a, R: Reader<'a>> Decode<'a, R> for Any {
+    fn decode(alloc: Global, reader: &mut R) -> Result<Any, Error> {
+        let lent = AnyRef::decode(alloc, reader)?;
+        Ok(Any::copy_of(alloc, &lent)?)
+    }
+}
+
+impl Encode for Any {
+    fn encoded_len(&self) -> Result<Length, Error> {
+        self.to_ref().encoded_len()
+    }
+
+    fn encode<W: Writer>(&self, writer: &mut W) -> Result<(), Error> {
+        self.to_ref().encode(writer)
+    }
+}
+
+/// The tags, then the lengths, then the contents, octet by octet.
+impl DerOrd for Any {
+    fn der_cmp(&self, other: &Self) -> Result<Ordering, Error> {
+        self.to_ref().der_cmp(&other.to_ref())
+    }
+}
+
+impl FirstTag for Any {
+    fn first_tag(&self) -> Option<Tag> {
+        self.to_ref().first_tag()
+    }
+}

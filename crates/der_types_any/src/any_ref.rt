@@ -1,0 +1,256 @@
+//! Any value, borrowed.
+
+ghost use Rattle.std.specs.Prelude.{◌≡◌, ◌<◌, ◌≤◌, ◌^◌, ◌↔◌, [], length, true, false, Ok, IsTrue, IfOk, IfErr, IsErrAnd};
+ghost use Rattle.der_core_head.specs.declared.encoding_rules.EncodingRules.TheVariants.{Der};
+ghost use Rattle.der_core_head.specs.declared.tag.Tag.TheVariants.{Null, Sequence};
+ghost use Rattle.der_core_head.specs.Shapes.{any, tagged, nested, Body, BodyValue, ContentValue, IsValid, Spells, octets_of};
+ghost use Rattle.der_core_head.specs.Spelling.{is_apart, are_enough};
+ghost use Rattle.der_core_head.specs.Tags.{same_tag};
+ghost use Rattle.der_core_head.specs.Reading.{Gives, ClosureReads, HandsBack, unread};
+ghost use Rattle.der_core_input.specs.Nesting.{Answered};
+ghost use Rattle.der_types_any.specs.Contents.{content_as};
+
+use crate::any::Any;
+use der_core::{
+    Choice, Decode, DecodeValue, Encode, EncodingRules, Error, ErrorKind, FixedTag, Header, Length,
+    Reader, Shaped, SliceReader, Tag, Writer, encode_header, header_len, is_same_tag, slice_len,
+    sum_len,
+};
+use der_core_order::{DerOrd, FirstTag, length_cmp, tag_cmp};
+use std::alloc::{AllocError, Global};
+use std::cmp::Ordering;
+
+/// Any value (X.680 3.8.1), as it stands: its tag, and the octets of its content, fewer than 2^32,
+/// which aren't looked into; lent.
+#[derive(Clone, Copy, Debug, PartialEq, Eq)]
+pub struct AnyRef<'a> {
+    tag: Tag,
+    bytes: &'a [u8],
+    ghost short: { length bytes.now < 2 ^ 32 },
+}
+
+impl<'a> AnyRef<'a> {
+    ghost use Rattle.der_types_any.specs.Anys.{any_lent};
+
+    /// NULL.
+    pub const NULL: AnyRef<'static> = AnyRef {
+        tag: Tag::Null,
+        bytes: &[],
+    };
+
+    /// The value of a tag and a content.
+    ///
+    /// # Errors
+    /// `Overflow` for 2^32 octets or more.
+    pub fn new(tag: Tag, bytes: &'a [u8]) -> Result<AnyRef<'a>, Error>
+        ensures ok { IfOk result (λ a. (length bytes.now < 2 ^ 32) × (any_lent a ≡ record { tag = tag; contents = bytes.now })) }
+        ensures err { IfErr result (λ e. (2 ^ 32 ≤ length bytes.now) × (e.kind ≡ ErrorKind.Overflow)) }
+    {
+        if bytes.len() > 0xffff_ffff {
+            return Err(Error::from(ErrorKind::Overflow));
+        }
+        Ok(AnyRef { tag, bytes })
+    }
+
+    /// Octets that are known to be few enough, behind a tag.
+    pub(crate) fn trusted(tag: Tag, bytes: &'a [u8]) -> AnyRef<'a>
+        requires { length bytes.now < 2 ^ 32 }
+        ensures { any_lent result ≡ record { tag = tag; contents = bytes.now } }
+    {
+        AnyRef { tag, bytes }
+    }
+
+    /// The tag.
+    pub fn tag(&self) -> Tag
+        ensures { result ≡ (any_lent self.now).tag }
+    {
+        self.tag
+    }
+
+    /// The content octets.
+    pub fn value(&self) -> &'a [u8]
+        ensures contents { result.now ≡ (any_lent self.now).contents }
+        ensures short { length result.now < 2 ^ 32 }
+    {
+        self.bytes
+    }
+
+    /// The header.
+    pub fn header(&self) -> Header
+        ensures tag { result.tag ≡ (any_lent self.now).tag }
+        ensures length { result.length.value ≡ length (any_lent self.now).contents }
+    {
+        Header {
+            tag: self.tag,
+            length: Length {
+                value: self.bytes.len() as u32,
+            },
+        }
+    }
+
+    /// Whether it is NULL.
+    pub fn is_null(&self) -> bool
+        ensures { IsTrue result ↔ (any_lent self.now ≡ record { tag = Null; contents = [] }) }
+    {
+        match self.tag {
+            Tag::Null => self.bytes.is_empty(),
+            _ => false,
+        }
+    }
+
+    /// The value of a type that has this tag and this content.
+    ///
+    /// # Errors
+    /// `TagUnexpected` for another tag than the type's; else the first fault of the content, or
+    /// `OutOfMemory`.
+    pub fn decode_as<T: DecodeValue<'a, SliceReader<'a>> + FixedTag>(
+        &self,
+        alloc: Global,
+    ) -> Result<T, Error>
+        // What is read is spelled by the whole encoding, if there is one.
+        ensures spelled { IsValid any (any_lent self.now) → is_apart (tagged T.fixed_tag T.content) ≡ true
+            → IfOk result (λ v. Spells (tagged T.fixed_tag T.content) (T.value_plain v) (octets_of any (any_lent self.now))) }
+        // What is spelled by it is read, unless memory runs out.
+        ensures only { (v : ContentValue T.content) → IsValid any (any_lent self.now) → is_apart (tagged T.fixed_tag T.content) ≡ true
+            → are_enough (tagged T.fixed_tag T.content) 64 ≡ true → Spells (tagged T.fixed_tag T.content) v (octets_of any (any_lent self.now))
+            → Gives T.value_plain result (Ok v) }
+        // Which fault it is.
+        ensures exact { Gives T.value_plain result (content_as T.fixed_tag T.content (any_lent self.now)) }
+    {
+        self.decode_as_encoding(alloc, EncodingRules::Der)
+    }
+
+    /// The value of a type that has this tag and this content, in which headers are read by these
+    /// rules. Which value BER gives isn't promised.
+    ///
+    /// # Errors
+    /// `TagUnexpected` for another tag than the type's; else by DER the first fault of the content,
+    /// or `OutOfMemory`.
+    #[tactic(auto, unfolding(crate::specs::Contents::content_as))]
+    pub fn decode_as_encoding<T: DecodeValue<'a, SliceReader<'a>> + FixedTag>(
+        &self,
+        alloc: Global,
+        encoding_rules: EncodingRules,
+    ) -> Result<T, Error>
+        ensures der { encoding_rules ≡ Der → Gives T.value_plain result (content_as T.fixed_tag T.content (any_lent self.now)) }
+        ensures tag { same_tag (any_lent self.now).tag T.fixed_tag ≡ false → IsErrAnd result (λ e. e.kind ≡ ErrorKind.TagUnexpected) }
+    {
+        if !is_same_tag(self.tag, T::tag()) {
+            return Err(Error::from(ErrorKind::TagUnexpected));
+        }
+        let mut reader = SliceReader::new_with_encoding_rules(self.bytes, encoding_rules)?;
+        let value = T::decode_value(alloc, &mut reader, self.header())?;
+        Ok(value)
+    }
+
+    /// Calls `f` on a reader of the content of this SEQUENCE, and wants all of it read.
+    ///
+    /// # Errors
+    /// `TagUnexpected` where it is no SEQUENCE, what `f` answers, `TrailingData` where `f` leaves
+    /// octets.
+    pub fn sequence<T: Drop, F: FnOnce(&mut SliceReader<'a>) -> Result<T, Error>>(
+        &self,
+        f: F,
+    ) -> Result<T, Error>
+        requires callable { F.IsAlwaysCallable f }
+        // The closure gives back the same reader, with the same end, and further on.
+        requires hands_back { HandsBack (λ s. s) F.FnOnce f }
+        // The answer is that of the closure, which left nothing.
+        ensures ran { IfOk result (λ x. Answered (λ s. s) F.FnOnce f (length (any_lent self.now).contents) (unread Der (any_lent self.now).contents) x) }
+        ensures tag { same_tag (any_lent self.now).tag Sequence ≡ false → IsErrAnd result (λ e. e.kind ≡ ErrorKind.TagUnexpected) }
+        // What the closure reads of a body, this reads of the content.
+        ensures reads { (b : Body) (view : T → BodyValue b) → ClosureReads (λ s. s) F.FnOnce f b view
+            → Gives view result (content_as Sequence (nested b) (any_lent self.now)) }
+    {
+        if !is_same_tag(self.tag, Tag::Sequence) {
+            return Err(Error::from(ErrorKind::TagUnexpected));
+        }
+        let mut reader = SliceReader::new(self.bytes)?;
+        let value = reader.read_value(self.header(), f)?;
+        Ok(value)
+    }
+
+    /// The same value, owned.
+    ///
+    /// # Errors
+    /// Want of memory.
+    pub fn ref_to_owned(&self, alloc: Global) -> Result<Any, AllocError>
+        ensures { IfOk result (λ a. a ≡ any_lent self.now) }
+    {
+        Any::copy_of(alloc, self)
+    }
+}
+
+/// The same value, lent.
+impl<'a> From<&'a Any> for AnyRef<'a> {
+    ghost use Rattle.der_types_any.specs.Anys.{any_lent};
+
+    ghost from_gives = { λ a lent. any_lent lent ≡ a.now };
+
+    fn from(any: &'a Any) -> AnyRef<'a> {
+        any.to_ref()
+    }
+}
+
+impl<'a> Shaped for AnyRef<'a> {
+    ghost use Rattle.der_types_any.specs.Anys.{any_lent};
+
+    ghost shape = { any };
+
+    ghost plain = { any_lent };
+}
+
+impl<'a> Choice for AnyRef<'a> {
+    fn can_decode(_tag: Tag) -> bool
+        ensures { result ≡ true }
+    {
+        true
+    }
+}
+
+impl<'a, R: Reader<'a>> Decode<'a, R> for AnyRef<'a> {
+    #[tactic(auto, unfolding(der_core_head::specs::Grammar::any_at))]
+    fn decode(_alloc: Global, reader: &mut R) -> Result<AnyRef<'a>, Error> {
+        let header = reader.read_header()?;
+        let bytes = reader.read_slice(header.length)?;
+        Ok(AnyRef {
+            tag: header.tag,
+            bytes,
+        })
+    }
+}
+
+impl<'a> Encode for AnyRef<'a> {
+    #[tactic(auto, unfolding(der_core_head::specs::Writing::tlv_len, der_core_head::specs::Writing::head_len))]
+    fn encoded_len(&self) -> Result<Length, Error> {
+        let len = slice_len(self.bytes)?;
+        sum_len(header_len(self.tag, len), len)
+    }
+
+    #[tactic(auto, unfolding(der_core_head::specs::Writing::write_tlv))]
+    fn encode<W: Writer>(&self, writer: &mut W) -> Result<(), Error> {
+        let len = slice_len(self.bytes)?;
+        encode_header(writer, self.tag, len)?;
+        writer.write(self.bytes)
+    }
+}
+
+/// The tags, then the lengths, then the contents, octet by octet.
+impl<'a> DerOrd for AnyRef<'a> {
+    fn der_cmp(&self, other: &Self) -> Result<Ordering, Error> {
+        let len = slice_len(self.bytes)?;
+        let other_len = slice_len(other.bytes)?;
+        let headers = tag_cmp(self.tag, other.tag).then(length_cmp(len, other_len));
+        if headers.is_ne() {
+            return Ok(headers);
+        }
+        Ok(self.bytes.cmp(other.bytes))
+    }
+}
+
+impl<'a> FirstTag for AnyRef<'a> {
+    #[tactic(auto, using(der_core_order::proofs::AnyOrders::any_starts))]
+    fn first_tag(&self) -> Option<Tag> {
+        Some(self.tag)
+    }
+}

@@ -1,0 +1,66 @@
+//! Any value as a time.
+
+ghost use Rattle.std.specs.Prelude.{◌≡◌};
+ghost use Rattle.der_core_head.specs.declared.tag.Tag.TheVariants as tags;
+ghost use Rattle.der_core_head.specs.Leaves.{utc_time, generalized_time};
+ghost use Rattle.der_core_head.specs.Reading.{GivesNow};
+ghost use Rattle.der_types_any.specs.Anys.{any_lent};
+ghost use Rattle.der_types_any.specs.Contents.{leaf_as};
+
+use crate::any::Any;
+use crate::any_ref::AnyRef;
+use crate::conversions::check_tag;
+use der_core::{Error, Tag};
+use der_types_time::{GeneralizedTime, UtcTime};
+
+/// The time of a UTCTime.
+impl<'a> TryFrom<AnyRef<'a>> for UtcTime {
+    type Error = Error;
+
+    ghost try_from_gives = { λ a r. GivesNow (λ t. t) r (leaf_as tags.UtcTime utc_time (any_lent a)) };
+
+    #[tactic(auto, unfolding(crate::specs::Contents::leaf_as))]
+    fn try_from(any: AnyRef<'a>) -> Result<UtcTime, Error> {
+        check_tag(any.tag(), Tag::UtcTime)?;
+        let time = UtcTime::of_content(any.tag(), any.value())?;
+        Ok(time)
+    }
+}
+
+/// The same of an owned value.
+impl<'a> TryFrom<&'a Any> for UtcTime {
+    type Error = Error;
+
+    ghost try_from_gives = { λ a r. GivesNow (λ t. t) r (leaf_as tags.UtcTime utc_time a.now) };
+
+    fn try_from(any: &'a Any) -> Result<UtcTime, Error> {
+        let value = UtcTime::try_from(any.to_ref())?;
+        Ok(value)
+    }
+}
+
+/// The time of a GeneralizedTime.
+impl<'a> TryFrom<AnyRef<'a>> for GeneralizedTime {
+    type Error = Error;
+
+    ghost try_from_gives = { λ a r. GivesNow (λ t. t) r (leaf_as tags.GeneralizedTime generalized_time (any_lent a)) };
+
+    #[tactic(auto, unfolding(crate::specs::Contents::leaf_as))]
+    fn try_from(any: AnyRef<'a>) -> Result<GeneralizedTime, Error> {
+        check_tag(any.tag(), Tag::GeneralizedTime)?;
+        let time = GeneralizedTime::of_content(any.tag(), any.value())?;
+        Ok(time)
+    }
+}
+
+/// The same of an owned value.
+impl<'a> TryFrom<&'a Any> for GeneralizedTime {
+    type Error = Error;
+
+    ghost try_from_gives = { λ a r. GivesNow (λ t. t) r (leaf_as tags.GeneralizedTime generalized_time a.now) };
+
+    fn try_from(any: &'a Any) -> Result<GeneralizedTime, Error> {
+        let value = GeneralizedTime::try_from(any.to_ref())?;
+        Ok(value)
+    }
+}

@@ -1,0 +1,15 @@
+//! Any values, and their conversions with values of types.
+#![tactic(auto)]
+
+mod any;
+mod any_ref;
+mod conversions;
+mod dates;
+mod numbers;
+#[cfg(test)]
+mod tests;
+mod texts;
+mod values;
+
+pub use any::Any;
+pub use any_ref::AnyRef;

@@ -1,0 +1,165 @@
+//! Any value as a text, and back.
+
+ghost use Rattle.std.specs.Prelude.{◌≡◌};
+ghost use Rattle.der_core_head.specs.declared.tag.Tag.TheVariants as tags;
+ghost use Rattle.der_core_head.specs.Leaves.{text, utf8};
+ghost use Rattle.der_core_head.specs.Texts.{any_octet};
+ghost use Rattle.der_core_head.specs.Reading.{GivesNow};
+ghost use Rattle.der_types_any.specs.Anys.{any_lent};
+ghost use Rattle.der_types_any.specs.Contents.{leaf_as, any_from};
+
+use crate::any::Any;
+use crate::any_ref::AnyRef;
+use crate::conversions::check_tag;
+use der_core::{Error, Tag};
+use der_types_text::{AsciiStringRef, AsciiType, GeneralStringRef, Utf8StringRef};
+
+/// The text of a character string type whose characters are ASCII.
+impl<'a, T: AsciiType> TryFrom<AnyRef<'a>> for AsciiStringRef<'a, T> {
+    type Error = Error;
+
+    ghost try_from_gives = { λ a r. GivesNow (λ t. t.text.now) r (leaf_as T.string_tag (text T.repertoire) (any_lent a)) };
+
+    #[tactic(auto, unfolding(crate::specs::Contents::leaf_as), using(crate::proofs::TextContents::text_contents))]
+    fn try_from(any: AnyRef<'a>) -> Result<AsciiStringRef<'a, T>, Error> {
+        check_tag(any.tag(), T::tag())?;
+        let text = AsciiStringRef::new(any.value())?;
+        Ok(text)
+    }
+}
+
+/// The same of an owned value.
+impl<'a, T: AsciiType> TryFrom<&'a Any> for AsciiStringRef<'a, T> {
+    type Error = Error;
+
+    ghost try_from_gives = { λ a r. GivesNow (λ t. t.text.now) r (leaf_as T.string_tag (text T.repertoire) a.now) };
+
+    fn try_from(any: &'a Any) -> Result<AsciiStringRef<'a, T>, Error> {
+        let value = AsciiStringRef::try_from(any.to_ref())?;
+        Ok(value)
+    }
+}
+
+/// The text of a UTF8String.
+impl<'a> TryFrom<AnyRef<'a>> for Utf8StringRef<'a> {
+    type Error = Error;
+
+    ghost try_from_gives = { λ a r. GivesNow (λ t. t.text.now) r (leaf_as tags.Utf8String utf8 (any_lent a)) };
+
+    #[tactic(auto, unfolding(crate::specs::Contents::leaf_as), using(crate::proofs::TextContents::text_contents))]
+    fn try_from(any: AnyRef<'a>) -> Result<Utf8StringRef<'a>, Error> {
+        check_tag(any.tag(), Tag::Utf8String)?;
+        let text = Utf8StringRef::new(any.value())?;
+        Ok(text)
+    }
+}
+
+/// The same of an owned value.
+impl<'a> TryFrom<&'a Any> for Utf8StringRef<'a> {
+    type Error = Error;
+
+    ghost try_from_gives = { λ a r. GivesNow (λ t. t.text.now) r (leaf_as tags.Utf8String utf8 a.now) };
+
+    fn try_from(any: &'a Any) -> Result<Utf8StringRef<'a>, Error> {
+        let value = Utf8StringRef::try_from(any.to_ref())?;
+        Ok(value)
+    }
+}
+
+/// The text of a UTF8String.
+impl<'a> TryFrom<AnyRef<'a>> for &'a str {
+    type Error = Error;
+
+    ghost try_from_gives = { λ a r. GivesNow (λ s. s.now) r (leaf_as tags.Utf8String utf8 (any_lent a)) };
+
+    fn try_from(any: AnyRef<'a>) -> Result<&'a str, Error> {
+        let text = Utf8StringRef::try_from(any)?;
+        Ok(text.as_str())
+    }
+}
+
+/// The same of an owned value.
+impl<'a> TryFrom<&'a Any> for &'a str {
+    type Error = Error;
+
+    ghost try_from_gives = { λ a r. GivesNow (λ s. s.now) r (leaf_as tags.Utf8String utf8 a.now) };
+
+    fn try_from(any: &'a Any) -> Result<&'a str, Error> {
+        let value = <&'a str>::try_from(any.to_ref())?;
+        Ok(value)
+    }
+}
+
+/// The octets of a GeneralString.
+impl<'a> TryFrom<AnyRef<'a>> for GeneralStringRef<'a> {
+    type Error = Error;
+
+    ghost try_from_gives = { λ a r. GivesNow (λ s. s.bytes.now) r (leaf_as tags.GeneralString (text any_octet) (any_lent a)) };
+
+    #[tactic(auto, unfolding(crate::specs::Contents::leaf_as), using(crate::proofs::TextContents::text_contents))]
+    fn try_from(any: AnyRef<'a>) -> Result<GeneralStringRef<'a>, Error> {
+        check_tag(any.tag(), Tag::GeneralString)?;
+        let text = GeneralStringRef::new(any.value())?;
+        Ok(text)
+    }
+}
+
+/// The same of an owned value.
+impl<'a> TryFrom<&'a Any> for GeneralStringRef<'a> {
+    type Error = Error;
+
+    ghost try_from_gives = { λ a r. GivesNow (λ s. s.bytes.now) r (leaf_as tags.GeneralString (text any_octet) a.now) };
+
+    fn try_from(any: &'a Any) -> Result<GeneralStringRef<'a>, Error> {
+        let value = GeneralStringRef::try_from(any.to_ref())?;
+        Ok(value)
+    }
+}
+
+/// The same value, where a length can count its octets.
+impl<'a, T: AsciiType> TryFrom<AsciiStringRef<'a, T>> for AnyRef<'a> {
+    type Error = Error;
+
+    ghost try_from_gives = { λ x r. GivesNow any_lent r (any_from T.string_tag x.text.now) };
+
+    #[tactic(auto, unfolding(crate::specs::Contents::any_from, der_types_values::specs::Numbers::counted))]
+    fn try_from(text: AsciiStringRef<'a, T>) -> Result<AnyRef<'a>, Error> {
+        AnyRef::new(T::tag(), text.as_bytes())
+    }
+}
+
+/// The same value, where a length can count its octets.
+impl<'a> TryFrom<Utf8StringRef<'a>> for AnyRef<'a> {
+    type Error = Error;
+
+    ghost try_from_gives = { λ x r. GivesNow any_lent r (any_from tags.Utf8String x.text.now) };
+
+    #[tactic(auto, unfolding(crate::specs::Contents::any_from, der_types_values::specs::Numbers::counted))]
+    fn try_from(text: Utf8StringRef<'a>) -> Result<AnyRef<'a>, Error> {
+        AnyRef::new(Tag::Utf8String, text.as_bytes())
+    }
+}
+
+/// The same value, where a length can count its octets.
+impl<'a> TryFrom<&'a str> for AnyRef<'a> {
+    type Error = Error;
+
+    ghost try_from_gives = { λ x r. GivesNow any_lent r (any_from tags.Utf8String x.now) };
+
+    #[tactic(auto, unfolding(crate::specs::Contents::any_from, der_types_values::specs::Numbers::counted))]
+    fn try_from(text: &'a str) -> Result<AnyRef<'a>, Error> {
+        AnyRef::new(Tag::Utf8String, text.as_bytes())
+    }
+}
+
+/// The same value, where a length can count its octets.
+impl<'a> TryFrom<GeneralStringRef<'a>> for AnyRef<'a> {
+    type Error = Error;
+
+    ghost try_from_gives = { λ x r. GivesNow any_lent r (any_from tags.GeneralString x.bytes.now) };
+
+    #[tactic(auto, unfolding(crate::specs::Contents::any_from, der_types_values::specs::Numbers::counted))]
+    fn try_from(text: GeneralStringRef<'a>) -> Result<AnyRef<'a>, Error> {
+        AnyRef::new(Tag::GeneralString, text.as_bytes())
+    }
+}

@@ -1,0 +1,234 @@
+//! Any value as a truth value, NULL, an identifier, a string of bits or octets or a SEQUENCE, and back.
+
+ghost use Rattle.std.specs.Prelude.{◌≡◌, []};
+ghost use Rattle.const_oid_identifiers.specs.Bound.{Bound};
+ghost use Rattle.der_core_head.specs.declared.tag.Tag.TheVariants as tags;
+ghost use Rattle.der_core_head.specs.Leaves.{boolean, null, bits, octets, identifier};
+ghost use Rattle.der_core_head.specs.Reading.{GivesNow};
+ghost use Rattle.der_types_any.specs.Anys.{any_lent};
+ghost use Rattle.der_types_any.specs.Contents.{leaf_as};
+ghost use Rattle.der_types_values.specs.BitStrings.{bits_lent};
+ghost use Rattle.der_types_values.specs.OctetStrings.{octets_lent};
+ghost use Rattle.der_types_values.specs.Sequences.{fields_lent};
+
+use crate::any::Any;
+use crate::any_ref::AnyRef;
+use crate::conversions::check_tag;
+use const_oid::ObjectIdentifier;
+use der_core::{Error, ErrorKind, Tag};
+use der_types_values::{BitStringRef, Null, OctetStringRef, SequenceRef};
+
+/// The truth value of a BOOLEAN.
+impl<'a> TryFrom<AnyRef<'a>> for bool {
+    type Error = Error;
+
+    ghost try_from_gives = { λ a r. GivesNow (λ b. b) r (leaf_as tags.Boolean boolean (any_lent a)) };
+
+    #[tactic(auto, unfolding(crate::specs::Contents::leaf_as))]
+    fn try_from(any: AnyRef<'a>) -> Result<bool, Error> {
+        let tag = any.tag();
+        check_tag(tag, Tag::Boolean)?;
+        match any.value() {
+            [0] => Ok(false),
+            [255] => Ok(true),
+            _ => Err(Error::from(ErrorKind::Noncanonical { tag })),
+        }
+    }
+}
+
+/// The same of an owned value.
+impl<'a> TryFrom<&'a Any> for bool {
+    type Error = Error;
+
+    ghost try_from_gives = { λ a r. GivesNow (λ b. b) r (leaf_as tags.Boolean boolean a.now) };
+
+    fn try_from(any: &'a Any) -> Result<bool, Error> {
+        let value = bool::try_from(any.to_ref())?;
+        Ok(value)
+    }
+}
+
+/// The value of NULL.
+impl<'a> TryFrom<AnyRef<'a>> for () {
+    type Error = Error;
+
+    ghost try_from_gives = { λ a r. GivesNow (λ x. x) r (leaf_as tags.Null null (any_lent a)) };
+
+    #[tactic(auto, unfolding(crate::specs::Contents::leaf_as))]
+    fn try_from(any: AnyRef<'a>) -> Result<(), Error> {
+        let tag = any.tag();
+        check_tag(tag, Tag::Null)?;
+        if any.value().is_empty() {
+            Ok(())
+        } else {
+            Err(Error::from(ErrorKind::Noncanonical { tag }))
+        }
+    }
+}
+
+/// The same of an owned value.
+impl<'a> TryFrom<&'a Any> for () {
+    type Error = Error;
+
+    ghost try_from_gives = { λ a r. GivesNow (λ x. x) r (leaf_as tags.Null null a.now) };
+
+    fn try_from(any: &'a Any) -> Result<(), Error> {
+        <()>::try_from(any.to_ref())
+    }
+}
+
+/// The value of NULL.
+impl<'a> TryFrom<AnyRef<'a>> for Null {
+    type Error = Error;
+
+    ghost try_from_gives = { λ a r. GivesNow (λ _. tt) r (leaf_as tags.Null null (any_lent a)) };
+
+    fn try_from(any: AnyRef<'a>) -> Result<Null, Error> {
+        <()>::try_from(any)?;
+        Ok(Null)
+    }
+}
+
+/// The same of an owned value.
+impl<'a> TryFrom<&'a Any> for Null {
+    type Error = Error;
+
+    ghost try_from_gives = { λ a r. GivesNow (λ _. tt) r (leaf_as tags.Null null a.now) };
+
+    fn try_from(any: &'a Any) -> Result<Null, Error> {
+        let value = Null::try_from(any.to_ref())?;
+        Ok(value)
+    }
+}
+
+/// The same value.
+impl<'a> From<Null> for AnyRef<'a> {
+    ghost from_gives = { λ _ a. any_lent a ≡ record { tag = tags.Null; contents = [] } };
+
+    fn from(_value: Null) -> AnyRef<'a> {
+        AnyRef::trusted(Tag::Null, &[])
+    }
+}
+
+/// The identifier of an OBJECT IDENTIFIER.
+impl<'a> TryFrom<AnyRef<'a>> for ObjectIdentifier<39> {
+    type Error = Error;
+
+    ghost try_from_gives = { λ a r. GivesNow (λ x. x) r (leaf_as tags.ObjectIdentifier (identifier Bound 39) (any_lent a)) };
+
+    #[tactic(auto, unfolding(crate::specs::Contents::leaf_as))]
+    fn try_from(any: AnyRef<'a>) -> Result<ObjectIdentifier<39>, Error> {
+        check_tag(any.tag(), Tag::ObjectIdentifier)?;
+        match ObjectIdentifier::from_bytes_sized(any.value()) {
+            Ok(identifier) => Ok(identifier),
+            Err(_) => Err(Error::from(ErrorKind::OidMalformed)),
+        }
+    }
+}
+
+/// The same of an owned value.
+impl<'a> TryFrom<&'a Any> for ObjectIdentifier<39> {
+    type Error = Error;
+
+    ghost try_from_gives = { λ a r. GivesNow (λ x. x) r (leaf_as tags.ObjectIdentifier (identifier Bound 39) a.now) };
+
+    fn try_from(any: &'a Any) -> Result<ObjectIdentifier<39>, Error> {
+        let value = ObjectIdentifier::<39>::try_from(any.to_ref())?;
+        Ok(value)
+    }
+}
+
+/// The bits of a BIT STRING.
+impl<'a> TryFrom<AnyRef<'a>> for BitStringRef<'a> {
+    type Error = Error;
+
+    ghost try_from_gives = { λ a r. GivesNow bits_lent r (leaf_as tags.BitString bits (any_lent a)) };
+
+    #[tactic(auto, unfolding(crate::specs::Contents::leaf_as))]
+    fn try_from(any: AnyRef<'a>) -> Result<BitStringRef<'a>, Error> {
+        check_tag(any.tag(), Tag::BitString)?;
+        let value = BitStringRef::of_content(any.tag(), any.value())?;
+        Ok(value)
+    }
+}
+
+/// The same of an owned value.
+impl<'a> TryFrom<&'a Any> for BitStringRef<'a> {
+    type Error = Error;
+
+    ghost try_from_gives = { λ a r. GivesNow bits_lent r (leaf_as tags.BitString bits a.now) };
+
+    fn try_from(any: &'a Any) -> Result<BitStringRef<'a>, Error> {
+        let value = BitStringRef::try_from(any.to_ref())?;
+        Ok(value)
+    }
+}
+
+/// The octets of an OCTET STRING.
+impl<'a> TryFrom<AnyRef<'a>> for OctetStringRef<'a> {
+    type Error = Error;
+
+    ghost try_from_gives = { λ a r. GivesNow octets_lent r (leaf_as tags.OctetString octets (any_lent a)) };
+
+    #[tactic(auto, unfolding(crate::specs::Contents::leaf_as))]
+    fn try_from(any: AnyRef<'a>) -> Result<OctetStringRef<'a>, Error> {
+        check_tag(any.tag(), Tag::OctetString)?;
+        Ok(OctetStringRef::of_content(any.value()))
+    }
+}
+
+/// The same of an owned value.
+impl<'a> TryFrom<&'a Any> for OctetStringRef<'a> {
+    type Error = Error;
+
+    ghost try_from_gives = { λ a r. GivesNow octets_lent r (leaf_as tags.OctetString octets a.now) };
+
+    fn try_from(any: &'a Any) -> Result<OctetStringRef<'a>, Error> {
+        let value = OctetStringRef::try_from(any.to_ref())?;
+        Ok(value)
+    }
+}
+
+/// The same value. A `BitStringRef` isn't lent so, since its number of unused bits is in no slice:
+/// `Any::encode_from` copies it.
+impl<'a> From<OctetStringRef<'a>> for AnyRef<'a> {
+    ghost from_gives = { λ x a. any_lent a ≡ record { tag = tags.OctetString; contents = octets_lent x } };
+
+    fn from(value: OctetStringRef<'a>) -> AnyRef<'a> {
+        AnyRef::trusted(Tag::OctetString, value.as_bytes())
+    }
+}
+
+/// The content of a SEQUENCE.
+impl<'a> TryFrom<AnyRef<'a>> for SequenceRef<'a> {
+    type Error = Error;
+
+    ghost try_from_gives = { λ a r. GivesNow fields_lent r (leaf_as tags.Sequence octets (any_lent a)) };
+
+    #[tactic(auto, unfolding(crate::specs::Contents::leaf_as))]
+    fn try_from(any: AnyRef<'a>) -> Result<SequenceRef<'a>, Error> {
+        check_tag(any.tag(), Tag::Sequence)?;
+        Ok(SequenceRef::of_content(any.value()))
+    }
+}
+
+/// The same of an owned value.
+impl<'a> TryFrom<&'a Any> for SequenceRef<'a> {
+    type Error = Error;
+
+    ghost try_from_gives = { λ a r. GivesNow fields_lent r (leaf_as tags.Sequence octets a.now) };
+
+    fn try_from(any: &'a Any) -> Result<SequenceRef<'a>, Error> {
+        let value = SequenceRef::try_from(any.to_ref())?;
+        Ok(value)
+    }
+}
+
+/// The same value.
+impl<'a> From<SequenceRef<'a>> for AnyRef<'a> {
+    ghost from_gives = { λ x a. any_lent a ≡ record { tag = tags.Sequence; contents = fields_lent x } };
+
+    fn from(value: SequenceRef<'a>) -> AnyRef<'a> {
+        AnyRef::trusted(Tag::Sequence, value.as_bytes())
+    }
+}

@@ -1,8 +1,0 @@
-use Rattle.std.proofs.Common.{arith}
-use Rattle.der_types_values.proofs.AnyLaws.{slice_few}
-use Rattle.der_types_values.proofs.any_ref.AnyRefDecode.decode.Goals as goal
-
-pub invariant_of-result : goal.invariant_of-result
-invariant_of-result g c =
-    let few = slice_few c.in_ok-header.header.length.value _ _ _ c.in_ok-bytes.ensures.0 in
-    record { short = omega arith }
