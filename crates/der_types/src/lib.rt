@@ -1,8 +1,18 @@
 //! Typed values of DER.
 #![tactic(auto)]
 
+pub mod laws;
+#[cfg(test)]
+mod tests;
+
+pub use der_types_any::{Any, AnyRef};
 pub use der_types_sets::{
-    FlagSet, NamedBits, SequenceOf, SequenceOfIter, SetOf, SetOfIter, SetOfVec,
+    FlagSet, NamedBits, SequenceOf, SequenceOfIter, SetOf, SetOfIter, SetOfRef, SetOfRefIter,
+    SetOfVec,
+};
+pub use der_types_tagged::{
+    Application, ApplicationRef, ClassField, ClassFieldRef, ContextSpecific, ContextSpecificRef,
+    Private, PrivateRef,
 };
 pub use der_types_text::{
     AsciiString, AsciiStringRef, AsciiType, BmpChars, BmpCodepoints, BmpString, GeneralStringRef,
@@ -11,7 +21,7 @@ pub use der_types_text::{
 };
 pub use der_types_time::{DateTime, GeneralizedTime, UtcTime, const_contains_u8};
 pub use der_types_values::{
-    AllowedLenBitString, Any, AnyRef, AsBitStringRef, AsIntRef, AsUintRef, BitString,
-    BitStringIter, BitStringRef, Int, IntRef, Null, OctetString, OctetStringRef, Sequence,
-    SequenceRef, Uint, UintRef,
+    AllowedLenBitString, AsBitStringRef, AsIntRef, AsUintRef, BitString, BitStringIter,
+    BitStringRef, Int, IntRef, Null, OctetString, OctetStringRef, Sequence, SequenceRef, Uint,
+    UintRef,
 };

@@ -22,3 +22,6 @@ few_refused f xs n F w r e lt = rw (e, lt-ltb n (length (plain_list f xs)) (omeg
 pub few_fault : {P : Type 0} (n : ℕ) (F : Readings (List P)) (w : List ℕ) (k : ErrorKind) → F w ≡ Err k → read_few n F w ≡ Err k
 unfolding read_few
 few_fault n F w k e = rw e refl
+
+pub few_again : {A P : Type 0} (f : A → P) (xs : List A) (v : List P) (n : ℕ) → v ≡ plain_list f xs → length v ≤ n → n < length xs → ⊥
+few_again f xs v n e le lt = absurd (omega (arith, ap (λ (u : List _). length u) e, length-plain_list f xs))

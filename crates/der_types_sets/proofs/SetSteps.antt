@@ -1,13 +1,13 @@
 -- Members in ascending order, one more at a time.
-use Rattle.std.proofs.Common.{◌≡◌, ℕ, zero, suc, ◌+◌, ◌<◌, ◌≤◌, List, [], ◌∷◌, ◌++◌, length, get_or, take, drop, ltb, refl, ap, sym, subst, ◌∙◌, arith, Result, Ok, true, Option, Some, None}
+use Rattle.std.proofs.Common.{◌≡◌, ℕ, zero, suc, ◌+◌, ◌-◌, ◌<◌, ◌≤◌, List, [], ◌∷◌, ◌++◌, length, get_or, take, drop, ltb, refl, ap, sym, subst, ◌∙◌, arith, Result, Ok, true, Option, Some, None}
 use Rattle.std.specs.Prelude.{◌≢◌, ⊤}
-use Rattle.std.specs.List.{AllByRecursion, insert}
+use Rattle.std.specs.List.{AllByRecursion, AllZip, insert}
 use Rattle.std.specs.Ordering.{ordering_reverse, nat_cmp}
 use Rattle.std.specs.declared.cmp.Ordering.{Ordering}
 use Rattle.std.specs.declared.cmp.Ordering.TheVariants.{Less, Equal, Greater}
 use Rattle.std.specs.Cmp.Lexicographic.{nat_list_cmp_total, slice_cmp}
 use Rattle.std.specs.List.Sorted.{IsPermutation}
-use Rattle.std.proofs.lemmas.List.{get_or_default, take_more, take-append-drop, take_at, length-take, take_all, drop_all, append_assoc}
+use Rattle.std.proofs.lemmas.List.{get_or_default, get_or-take, take_more, take-append-drop, take_at, length-take, take_all, drop_all, append_assoc}
 use Rattle.std.proofs.lemmas.List.Edits.{length-insert}
 use Rattle.std.proofs.lemmas.List.Elements.{All-take, All-from_recursion, recursion_from_All}
 use Rattle.std.proofs.lemmas.List.Sorted.{All-permutation, IsPermutation-trans, IsPermutation-to_front, IsPermutation-insert, IsPermutation-append_left, IsPermutation-middle, IsPermutation-cons}
@@ -24,7 +24,7 @@ use Rattle.der_core_head.proofs.Bytes.{IsBytes, bytes_take, bytes_rest}
 use Rattle.der_core_head.proofs.Fits.{fits_front, fits_rest}
 use Rattle.der_core_head.proofs.Sound.{sound}
 use Rattle.der_core_order.specs.Orders.{octets_cmp, encodings_cmp}
-use Rattle.der_types_sets.specs.Sets.{NotAbove, Ascends, AllValid, Behind, Before, IsPlace, TooLong}
+use Rattle.der_types_sets.specs.Sets.{NotAbove, Ascends, AllValid, Behind, Before, IsPlace, TooLong, IsBelowLast}
 
 pub ascends-insert : {A : Type 0} (s : Shape) (f : A → Value s) (xs : List A) (i : ℕ) (x : A) → Ascends s f xs → i ≤ length xs → Behind s f xs x i → Before s f xs x i → Ascends s f (insert xs i x)
 ascends-insert s f [] zero x asc le p q = tt
@@ -100,6 +100,30 @@ too_long_part {A} s f old xs end y e same lt here t =
           let now : AllValid s f xs = recursion_from_All V xs (All-permutation V old xs same (All-from_recursion V old all)) in
           t.some (valid_at s f xs end y lt here now, recursion_from_All V (take end xs) (All-take V end xs (All-from_recursion V xs now)));
     }
+
+-- Members of which one is below the one before it
+
+ascends-at : {A : Type 0} (s : Shape) (f : A → Value s) (xs : List A) (k : ℕ) (x y : A) → suc k < length xs → x ≡ get_or xs k x → y ≡ get_or xs (suc k) y → Ascends s f xs → NotAbove s f x y
+ascends-at s f [] k x y lt here next asc = absurd (omega arith)
+ascends-at s f (a ∷ []) k x y lt here next asc = absurd (omega arith)
+ascends-at {A} s f (a ∷ b ∷ xs) zero x y lt here next asc =
+    let P : A → Type 0 = λ v. NotAbove s f v y in
+    let Q : A → Type 0 = λ v. NotAbove s f a v in
+    subst P (sym here) (subst Q (sym next) asc.0)
+ascends-at s f (a ∷ b ∷ xs) (suc k) x y lt here next asc = ascends-at s f (b ∷ xs) k x y (omega arith) here next asc.1
+
+pub falls_at : {A : Type 0} (s : Shape) (f : A → Value s) (xs : List A) (end : ℕ) (y : A) → end < length xs → y ≡ get_or xs end y → IsBelowLast s f (take end xs) y → AllValid s f xs → Ascends s f xs → ⊥
+falls_at {A} s f xs end y lt here below all asc =
+    let long : length (take end xs) ≡ end = omega (arith, length-take end xs) in
+    let some : 0 < end = omega (arith, below.0) in
+    let k : ℕ = end - 1 in
+    let next : suc k ≡ end = omega arith in
+    let x : A = get_or xs k y in
+    let at : x ≡ get_or xs k x = get_or_default xs k y x (omega arith) in
+    let last : length (take end xs) - 1 ≡ k = omega arith in
+    let within : x ≡ get_or (take end xs) (length (take end xs) - 1) x = at ∙ sym (get_or-take end xs k x (omega arith)) ∙ ap (λ i. get_or (take end xs) i x) (sym last) in
+    let above = ascends-at s f xs k x y (omega arith) at (here ∙ ap (λ i. get_or xs i y) (sym next)) asc in
+    above (valid_at s f xs k x (omega arith) at all) (valid_at s f xs end y lt here all) (below.1 x within (valid_at s f xs k x (omega arith) at all) (valid_at s f xs end y lt here all))
 
 -- One more at the end
 
@@ -206,3 +230,11 @@ content_rises s t room n w v r e =
     let i = within (rising s) t room n w v r e in
     let u = take n w in
     rising_read (octets_of s) (read s i.0) (length u) u v i.1 i.2
+
+-- Copies
+
+pub same_copies : {A : Type 0} (C : A → A → Type 0) (xs ys : List A) → AllZip C xs ys → ((x y : A) → C x y → y ≡ x) → ys ≡ xs
+same_copies C [] [] h same = refl
+same_copies C [] (y ∷ ys) h same = absurd h
+same_copies C (x ∷ xs) [] h same = absurd h
+same_copies {A} C (x ∷ xs) (y ∷ ys) h same = cc (same x y h.0, same_copies C xs ys h.1 same)

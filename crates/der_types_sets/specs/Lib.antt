@@ -1,2 +1,4 @@
 pub mod Sets
 pub mod Lends
+pub mod Level
+pub mod Lent

@@ -7,7 +7,8 @@ use Rattle.der_core_head.specs.declared.error.Error.{Error}
 use Rattle.der_core_head.specs.declared.error.ErrorKind.{ErrorKind}
 use Rattle.der_core_head.specs.declared.error.ErrorKind.TheVariants as kinds
 use Rattle.der_core_head.specs.Octets.{Readings, ◌>>=◌}
-use Rattle.der_core_head.specs.Shapes.{Shape, Value, IsValid, octets_of}
+use Rattle.der_core_head.specs.declared.tag.Tag.TheVariants as tags
+use Rattle.der_core_head.specs.Shapes.{Shape, Value, tagged, nested, many, Spells, IsValid, octets_of}
 use Rattle.der_core_order.specs.Orders.{octets_cmp}
 
 -- the encoding of x is not above that of y, where both have one
@@ -29,6 +30,13 @@ pub record Loose (s : Shape) (members : List (Value s)) (octets : List ℕ) : Ty
   pub spelled : List (Value s)
   pub valid : AllValid s (λ v. v) spelled
   pub octets_are : octets ≡ flat_map (octets_of s) spelled
+  pub same : IsPermutation spelled members
+  pub ascend : Ascends s (λ v. v) members
+
+-- The octets are a SET with such a content.
+pub record SpellsLoosely (s : Shape) (members : List (Value s)) (octets : List ℕ) : Type 0 where
+  pub spelled : List (Value s)
+  pub spells : Spells (tagged tags.Set (nested (many s))) spelled octets
   pub same : IsPermutation spelled members
   pub ascend : Ascends s (λ v. v) members
 
@@ -55,9 +63,14 @@ pub record TooLong {A : Type 0} (s : Shape) (f : A → Value s) (xs : List A) (e
 abbrev pub IsRefusal : {A : Type 0} (s : Shape) → (A → Value s) → List A → Error → Type 0
 IsRefusal s f xs e = (e.kind ≡ kinds.OutOfMemory) ⊎ TooLong s f xs e
 
--- x is below the last member, where both have an encoding
+-- there is a last member, and x is below it where both have an encoding
 abbrev pub IsBelowLast : {A : Type 0} (s : Shape) → (A → Value s) → List A → A → Type 0
-IsBelowLast {A} s f xs x = (y : A) → length xs ≢ 0 → y ≡ slice_index_or xs (length xs - 1) y → IsValid s (f y) → IsValid s (f x) → octets_cmp (octets_of s (f y)) (octets_of s (f x)) ≡ Greater
+IsBelowLast {A} s f xs x = (length xs ≢ 0) × ((y : A) → y ≡ slice_index_or xs (length xs - 1) y → IsValid s (f y) → IsValid s (f x) → octets_cmp (octets_of s (f y)) (octets_of s (f x)) ≡ Greater)
+
+-- A member is below the one before it, and so they don't ascend where each has an encoding.
+pub record IsOutOfOrder {A : Type 0} (s : Shape) (f : A → Value s) (xs : List A) (e : Error) : Type 0 where
+  pub kind : e.kind ≡ kinds.SetOrdering
+  pub falls : AllValid s f xs → Ascends s f xs → ⊥
 
 -- the items went into the set, wherever their places are
 abbrev pub Gains : {A : Type 0} → List A → List A → List A → Type 0

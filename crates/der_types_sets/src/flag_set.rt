@@ -15,7 +15,9 @@ use der_core::{
     DecodeValue, EncodeValue, Error, ErrorKind, FixedTag, Header, Leaf, Length, Reader,
     ShapedValue, Tag, Writer, decode_leaf,
 };
+use der_core_order::ValueOrd;
 use std::alloc::{AllocError, Global};
+use std::cmp::Ordering;
 
 /// A type of sets of named bits (X.680 22.2): its first bits have a name each, at most 64 of them.
 pub trait NamedBits: Flags + Copy {
@@ -235,5 +237,15 @@ impl<F: NamedBits> EncodeValue for FlagSet<F> {
     fn encode_value<W: Writer>(&self, writer: &mut W) -> Result<(), Error> {
         let (octets, len) = named_octets_of(self.flags.to_number());
         writer.write(&octets[..len])
+    }
+}
+
+/// The count of unused bits, and then the bits.
+impl<F: NamedBits> ValueOrd for FlagSet<F> {
+    #[tactic(auto, using(der_core_order::proofs::LeafOrders::leaf_contents))]
+    fn value_cmp(&self, other: &Self) -> Result<Ordering, Error> {
+        let (octets, len) = named_octets_of(self.flags.to_number());
+        let (others, other_len) = named_octets_of(other.flags.to_number());
+        Ok(octets[..len].cmp(&others[..other_len]))
     }
 }

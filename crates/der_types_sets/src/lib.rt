@@ -1,14 +1,18 @@
 //! Lists of bounded room, sets, and named bits.
 #![tactic(auto)]
 
+mod any_order;
 mod flag_set;
 mod iter;
 pub mod laws;
+mod level;
 mod members;
 mod places;
 mod room;
 mod sequence_of;
 mod set_of;
+mod set_of_ref;
+mod set_of_ref_iter;
 mod set_of_vec;
 #[cfg(test)]
 mod tests;
@@ -17,4 +21,6 @@ pub use flag_set::{FlagSet, NamedBits};
 pub use iter::{SequenceOfIter, SetOfIter};
 pub use sequence_of::SequenceOf;
 pub use set_of::SetOf;
+pub use set_of_ref::SetOfRef;
+pub use set_of_ref_iter::SetOfRefIter;
 pub use set_of_vec::SetOfVec;

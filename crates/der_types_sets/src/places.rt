@@ -3,7 +3,7 @@
 ghost use Rattle.std.specs.Prelude.{◌≡◌, ◌⊎◌, ◌<◌, [], ◌∷◌, ◌++◌, List, length, IfOk, OnOk, IfErr};
 ghost use Rattle.std.specs.List.{insert};
 ghost use Rattle.std.specs.List.Sorted.{IsPermutation};
-ghost use Rattle.der_types_sets.specs.Sets.{Ascends, IsPlace, TooLong, IsBelowLast};
+ghost use Rattle.der_types_sets.specs.Sets.{Ascends, IsPlace, TooLong, IsBelowLast, IsOutOfOrder};
 
 use der_core::{Error, ErrorKind, Member};
 use der_core_order::DerOrd;
@@ -50,6 +50,20 @@ pub(crate) fn check_last<T: DerOrd + Member>(members: &[T], item: &T) -> Result<
         Ordering::Greater => Err(Error::from(ErrorKind::SetOrdering)),
         Ordering::Less | Ordering::Equal => Ok(()),
     }
+}
+
+/// Whether no member is below the one before it. It takes no memory.
+///
+/// # Errors
+/// `SetOrdering` where one is, `Overflow` where an encoding has 2^32 octets or more.
+pub(crate) fn check_ascending<T: DerOrd + Member>(members: &[T]) -> Result<(), Error>
+    ensures ok { OnOk result (Ascends T.shape T.plain members.now) }
+    ensures refused { IfErr result (λ e. IsOutOfOrder T.shape T.plain members.now e ⊎ TooLong T.shape T.plain members.now e) }
+{
+    for end in 0..members.len() {
+        check_last(&members[..end], &members[end])?;
+    }
+    Ok(())
 }
 
 /// Moves the last item to a place, and the items from there on up.

@@ -16,7 +16,10 @@ use der_core::{
     Decode, DecodeValue, Encode, EncodeValue, Error, ErrorKind, FixedTag, Header, Length, Reader,
     Shaped, ShapedValue, Tag, Writer,
 };
+use der_core_order::{DerOrd, ValueOrd, elements_cmp};
 use std::alloc::Global;
+use std::cmp::Ordering;
+use std::convert::AsSlice;
 use std::marker::Model;
 
 /// SEQUENCE OF (X.690 8.10) with at most `N` members.
@@ -168,5 +171,30 @@ impl<T: Encode, const N: usize> EncodeValue for SequenceOf<T, N> {
 
     fn encode_value<W: Writer>(&self, writer: &mut W) -> Result<(), Error> {
         encode_members(self.members.as_slice(), writer)
+    }
+}
+
+/// The encodings of the members, one after the other.
+impl<T: DerOrd, const N: usize> ValueOrd for SequenceOf<T, N> {
+    #[tactic(auto, unfolding(der_core_head::specs::Shapes::contents, der_core_head::specs::Shapes::IsContent))]
+    fn value_cmp(&self, other: &Self) -> Result<Ordering, Error> {
+        elements_cmp(self.members.as_slice(), other.members.as_slice())
+    }
+}
+
+/// The list without members.
+impl<T: Default, const N: usize> Default for SequenceOf<T, N> {
+    ghost is_default = { λ s. s ≡ [] };
+
+    fn default() -> SequenceOf<T, N> {
+        SequenceOf::new()
+    }
+}
+
+impl<T, const N: usize> AsSlice<T> for SequenceOf<T, N> {
+    ghost items = { λ s. s };
+
+    fn as_slice(&self) -> &[T] {
+        self.members.as_slice()
     }
 }

@@ -1,26 +1,31 @@
 //! SET OF with room for so many members.
 
-ghost use Rattle.std.specs.Prelude.{◌≡◌, ◌⊎◌, List, ◌==◌, [], ◌∷◌, ◌++◌, length, slice_get, IfOk, OnOk, OnErr, IfErr};
+ghost use Rattle.std.specs.Prelude.{◌≡◌, ◌⊎◌, ◌≤◌, List, take, true, false, Ok, MatchResult, ◌==◌, [], ◌∷◌, ◌++◌, length, slice_get, IfOk, OnOk, OnErr, IfErr};
 ghost use Rattle.std.specs.Option.{option_copied};
 ghost use Rattle.std.specs.List.Sorted.{IsPermutation};
 ghost use Rattle.der_core_head.specs.declared.tag.Tag.TheVariants.{Set};
-ghost use Rattle.der_core_head.specs.Shapes.{nested, many};
-ghost use Rattle.der_core_head.specs.Grammar.{plain_list, value_at, read_content};
-ghost use Rattle.der_core_head.specs.Reading.{Reads};
-ghost use Rattle.der_types_sets.specs.Sets.{Ascends, TooLong, IsBelowLast, read_few};
+ghost use Rattle.der_core_head.specs.Shapes.{Value, tagged, nested, many};
+ghost use Rattle.der_core_head.specs.Spelling.{is_element, are_enough, are_content_enough};
+ghost use Rattle.der_core_head.specs.Grammar.{plain_list, value_at, read_content, whole_at};
+ghost use Rattle.der_core_head.specs.Reading.{Reads, Gives, Fails, IsDer};
+ghost use Rattle.der_types_sets.specs.Lent.{members_lent};
+ghost use Rattle.der_types_sets.specs.Sets.{Ascends, Loose, SpellsLoosely, TooLong, IsBelowLast, read_few};
 
 use crate::iter::SetOfIter;
 use crate::members::{encode_members, members_len};
-use crate::places::{check_last, place_of};
+use crate::places::{arrange, check_last, place_of};
 use crate::room::into_array;
+use crate::set_of_ref::SetOfRef;
 use crate::set_of_vec::SetOfVec;
 use arrayvec::ArrayVec;
 use der_core::{
     Decode, Encode, EncodeValue, Error, ErrorKind, FixedTag, Header, Length, Member, Reader,
-    Shaped, ShapedValue, Tag, Writer,
+    Shaped, ShapedValue, SliceReader, Tag, Writer,
 };
-use der_core_order::DerOrd;
+use der_core_order::{DerOrd, ValueOrd, elements_cmp};
 use std::alloc::Global;
+use std::cmp::Ordering;
+use std::convert::AsSlice;
 use std::marker::Model;
 
 /// SET OF (X.690 8.12) with at most `N` members, in ascending order of their encodings, equal ones
@@ -89,6 +94,13 @@ impl<T: Shaped, const N: usize> SetOf<T, N> {
         SetOfIter {
             left: self.members.as_slice(),
         }
+    }
+
+    /// The same set, lent.
+    pub fn owned_to_ref(&self) -> SetOfRef<'_, T>
+        ensures { members_lent T.shape T.plain result ≡ plain_list T.plain self.now }
+    {
+        SetOfRef::of_values(self.members.as_slice())
     }
 
     /// Whether there is no member.
@@ -161,9 +173,36 @@ impl<T: DerOrd + Member + Default + Drop, const N: usize> SetOf<T, N> {
     where
         T: Decode<'a, R>,
         // The members that were read, in the order in which they stand there, are those of the set.
-        ensures { (read : List T) × Reads (λ _. plain_list T.plain read) (R.state reader.old) (R.state reader.new) result (read_few N (value_at (read_content (nested (many T.shape)) header.tag (R.state reader.old).room) header.length.value)) × IfOk result (IsPermutation read) }
+        ensures reads { (read : List T) × Reads (λ _. plain_list T.plain read) (R.state reader.old) (R.state reader.new) result (read_few N (value_at (read_content (nested (many T.shape)) header.tag (R.state reader.old).room) header.length.value)) × IfOk result (IsPermutation read) }
+        // What is read is spelled so, in any order.
+        ensures spelled { is_element T.shape ≡ true → IsDer (R.state reader.old) → IfOk result (λ set. Loose T.shape (plain_list T.plain set) (take header.length.value (R.state reader.old).rest)) }
+        // What is spelled so is read, if there is room, unless memory runs out.
+        ensures only { (v : List (Value T.shape)) → is_element T.shape ≡ true → are_content_enough (nested (many T.shape)) (R.state reader.old).room ≡ true
+            → IsDer (R.state reader.old) → (R.state reader.old).failed ≡ false → header.length.value ≤ length (R.state reader.old).rest
+            → Loose T.shape v (take header.length.value (R.state reader.old).rest) → length v ≤ N → Gives (plain_list T.plain) result (Ok v) }
     {
         let ordered = SetOfVec::<T>::decode_value(alloc, reader, header)?;
+        let members = into_array(ordered.into_vec())?;
+        Ok(SetOf { members })
+    }
+
+    /// The set that octets spell by DER, all of the octets, whose members stand in any order.
+    ///
+    /// # Errors
+    /// `Overflow` for 2^32 octets or more, else the first fault from the left, `TrailingData` where
+    /// octets are left behind the set, `Overlength` for more than `N` members, or `OutOfMemory`.
+    pub fn from_der<'a>(alloc: Global, bytes: &'a [u8]) -> Result<SetOf<T, N>, Error>
+    where
+        T: Decode<'a, SliceReader<'a>>,
+        // What is read is spelled so.
+        ensures spelled { is_element T.shape ≡ true → IfOk result (λ set. SpellsLoosely T.shape (plain_list T.plain set) bytes.now) }
+        // What is spelled so is read, if there is room, unless memory runs out.
+        ensures only { (v : List (Value T.shape)) → is_element T.shape ≡ true → are_enough (tagged Set (nested (many T.shape))) 64 ≡ true
+            → SpellsLoosely T.shape v bytes.now → length v ≤ N → Gives (plain_list T.plain) result (Ok v) }
+        // Which fault it is.
+        ensures refused { is_element T.shape ≡ true → IfErr result (λ e. (e.kind ≡ ErrorKind.Overlength) ⊎ Fails e.kind (whole_at (tagged Set (nested (many T.shape))) bytes.now)) }
+    {
+        let ordered = SetOfVec::<T>::from_der(alloc, bytes)?;
         let members = into_array(ordered.into_vec())?;
         Ok(SetOf { members })
     }
@@ -191,5 +230,46 @@ impl<T: Encode, const N: usize> EncodeValue for SetOf<T, N> {
 
     fn encode_value<W: Writer>(&self, writer: &mut W) -> Result<(), Error> {
         encode_members(self.members.as_slice(), writer)
+    }
+}
+
+/// The encodings of the members, one after the other.
+impl<T: DerOrd, const N: usize> ValueOrd for SetOf<T, N> {
+    #[tactic(auto, unfolding(der_core_head::specs::Shapes::contents, der_core_head::specs::Shapes::IsContent))]
+    fn value_cmp(&self, other: &Self) -> Result<Ordering, Error> {
+        elements_cmp(self.members.as_slice(), other.members.as_slice())
+    }
+}
+
+/// The empty set.
+impl<T: Shaped + Default, const N: usize> Default for SetOf<T, N> {
+    ghost is_default = { λ s. s ≡ [] };
+
+    fn default() -> SetOf<T, N> {
+        SetOf::new()
+    }
+}
+
+impl<T: Shaped, const N: usize> AsSlice<T> for SetOf<T, N> {
+    ghost items = { λ s. s };
+
+    fn as_slice(&self) -> &[T] {
+        self.members.as_slice()
+    }
+}
+
+/// These members, in ascending order. No memory is taken.
+///
+/// # Errors
+/// `Overflow` where an encoding has 2^32 octets or more.
+impl<T: DerOrd + Member + Drop, const N: usize> TryFrom<[T; N]> for SetOf<T, N> {
+    type Error = Error;
+
+    ghost try_from_gives = { λ members r. MatchResult r (λ set. IsPermutation members set × Ascends T.shape T.plain set) (TooLong T.shape T.plain members) };
+
+    fn try_from(members: [T; N]) -> Result<SetOf<T, N>, Error> {
+        let mut members = ArrayVec::from(members);
+        arrange(members.as_mut_slice())?;
+        Ok(SetOf { members })
     }
 }

@@ -1,23 +1,30 @@
 //! SET OF with any number of members.
 
-ghost use Rattle.std.specs.Prelude.{◌≡◌, ◌⊎◌, List, ◌==◌, ◌≢◌, [], ◌∷◌, ◌++◌, length, slice_get, IfOk, OnOk, OnErr, IfErr};
+ghost use Rattle.std.specs.Prelude.{◌≡◌, ◌⊎◌, ◌≤◌, MatchResult, List, take, true, false, Ok, ◌==◌, ◌≢◌, [], ◌∷◌, ◌++◌, length, slice_get, IfOk, OnOk, OnErr, IfErr};
 ghost use Rattle.std.specs.Option.{option_copied};
 ghost use Rattle.std.specs.List.Sorted.{IsPermutation};
 ghost use Rattle.der_core_head.specs.declared.tag.Tag.TheVariants.{Set};
-ghost use Rattle.der_core_head.specs.Shapes.{nested, many, rising, octets_of, AllRising};
-ghost use Rattle.der_core_head.specs.Grammar.{plain_list, value_at, read_content};
-ghost use Rattle.der_core_head.specs.Reading.{Reads, IsDer};
-ghost use Rattle.der_types_sets.specs.Sets.{Ascends, IsRefusal, TooLong, IsBelowLast, Gains};
+ghost use Rattle.der_core_head.specs.Shapes.{Value, tagged, nested, many, rising, octets_of, AllRising};
+ghost use Rattle.der_core_head.specs.Spelling.{is_element, are_enough, are_content_enough};
+ghost use Rattle.der_core_head.specs.Grammar.{plain_list, value_at, read_content, whole_at};
+ghost use Rattle.der_core_head.specs.Reading.{Reads, Gives, Fails, IsDer};
+ghost use Rattle.std.specs.Cmp.Lexicographic.{pointwise, lists_per, lists_equiv};
+ghost use Rattle.der_types_sets.specs.Lent.{members_lent};
+ghost use Rattle.der_types_sets.specs.Sets.{Ascends, Loose, SpellsLoosely, IsRefusal, TooLong, IsBelowLast, Gains};
 ghost use Rattle.std.specs.Iterator.{IsFinite, ExtendsWithItems, Drains};
 
+use crate::any_order::AnyOrder;
 use crate::iter::SetOfIter;
 use crate::places::{arrange, check_last, place_of};
+use crate::set_of_ref::SetOfRef;
 use der_core::{
     Decode, DecodeValue, Encode, EncodeValue, Error, ErrorKind, FixedTag, Header, Length, Member,
-    Reader, SetOf as StrictSet, Shaped, ShapedValue, Tag, Writer,
+    Reader, SetOf as StrictSet, Shaped, ShapedValue, SliceReader, Tag, Writer, from_der,
 };
-use der_core_order::DerOrd;
-use std::alloc::Global;
+use der_core_order::{DerOrd, ValueOrd, elements_cmp};
+use std::alloc::{AllocError, Global};
+use std::cmp::Ordering;
+use std::convert::AsSlice;
 use std::marker::Model;
 
 /// SET OF (X.690 8.12): members in ascending order of their encodings, equal ones kept.
@@ -85,6 +92,20 @@ impl<T: Shaped> SetOfVec<T> {
         }
     }
 
+    /// The same set, lent.
+    pub fn owned_to_ref(&self) -> SetOfRef<'_, T>
+        ensures { members_lent T.shape T.plain result ≡ plain_list T.plain self.now }
+    {
+        SetOfRef::of_values(self.members.as_slice())
+    }
+
+    /// The empty set.
+    pub fn default(alloc: Global) -> SetOfVec<T>
+        ensures { result ≡ [] }
+    {
+        SetOfVec::new(alloc)
+    }
+
     /// Whether there is no member.
     pub fn is_empty(&self) -> bool
         ensures { result ≡ (length self.now == 0) }
@@ -97,6 +118,21 @@ impl<T: Shaped> SetOfVec<T> {
         ensures { result ≡ length self.now }
     {
         self.members.len()
+    }
+}
+
+impl<T: Shaped + Clone + Drop> SetOfVec<T> {
+    /// A copy, of a type whose copies are the same.
+    ///
+    /// # Errors
+    /// Want of memory.
+    #[tactic(auto, using(crate::proofs::SetSteps::same_copies))]
+    pub fn clone(&self, _alloc: Global) -> Result<SetOfVec<T>, AllocError>
+        requires { (x y : T) → T.is_clone x y → y ≡ x }
+        ensures { IfOk result (λ set. set ≡ self.now) }
+    {
+        let members = self.members.clone()?;
+        Ok(SetOfVec { members })
     }
 }
 
@@ -194,13 +230,41 @@ impl<T: DerOrd + Member + Drop> SetOfVec<T> {
     where
         T: Decode<'a, R>,
         // The members that were read, in the order in which they stand there, are those of the set.
-        ensures { (read : List T) × Reads (λ _. plain_list T.plain read) (R.state reader.old) (R.state reader.new) result (value_at (read_content (nested (many T.shape)) header.tag (R.state reader.old).room) header.length.value) × IfOk result (IsPermutation read) }
+        ensures reads { (read : List T) × Reads (λ _. plain_list T.plain read) (R.state reader.old) (R.state reader.new) result (value_at (read_content (nested (many T.shape)) header.tag (R.state reader.old).room) header.length.value) × IfOk result (IsPermutation read) }
+        // What is read is spelled so, in any order.
+        ensures spelled { is_element T.shape ≡ true → IsDer (R.state reader.old) → IfOk result (λ set. Loose T.shape (plain_list T.plain set) (take header.length.value (R.state reader.old).rest)) }
+        // What is spelled so is read, unless memory runs out.
+        ensures only { (v : List (Value T.shape)) → is_element T.shape ≡ true → are_content_enough (nested (many T.shape)) (R.state reader.old).room ≡ true
+            → IsDer (R.state reader.old) → (R.state reader.old).failed ≡ false → header.length.value ≤ length (R.state reader.old).rest
+            → Loose T.shape v (take header.length.value (R.state reader.old).rest) → Gives (plain_list T.plain) result (Ok v) }
     {
         // What is read from octets by DER has an encoding.
         let before = reader.remaining();
         let _octets = &before[..];
         let members = Vec::<T>::decode_value(alloc, reader, header)?;
         let set = SetOfVec::from_vec(members)?;
+        Ok(set)
+    }
+
+    /// The set that octets spell by DER, all of the octets, whose members stand in any order.
+    ///
+    /// # Errors
+    /// `Overflow` for 2^32 octets or more, else the first fault from the left, `TrailingData` where
+    /// octets are left behind the set, or `OutOfMemory`.
+    pub fn from_der<'a>(alloc: Global, bytes: &'a [u8]) -> Result<SetOfVec<T>, Error>
+    where
+        T: Decode<'a, SliceReader<'a>>,
+        // What is read is spelled so.
+        ensures spelled { is_element T.shape ≡ true → IfOk result (λ set. SpellsLoosely T.shape (plain_list T.plain set) bytes.now) }
+        // What is spelled so is read, unless memory runs out.
+        ensures only { (v : List (Value T.shape)) → is_element T.shape ≡ true → are_enough (tagged Set (nested (many T.shape))) 64 ≡ true
+            → SpellsLoosely T.shape v bytes.now → Gives (plain_list T.plain) result (Ok v) }
+        // Which fault it is.
+        ensures refused { is_element T.shape ≡ true → IfErr result (λ e. Fails e.kind (whole_at (tagged Set (nested (many T.shape))) bytes.now)) }
+    {
+        let read = from_der::<AnyOrder<T>>(alloc, bytes)?;
+        let AnyOrder { values } = read;
+        let set = SetOfVec::from_vec(values)?;
         Ok(set)
     }
 
@@ -256,5 +320,59 @@ impl<T: Encode> EncodeValue for SetOfVec<T> {
 
     fn encode_value<W: Writer>(&self, writer: &mut W) -> Result<(), Error> {
         self.members.encode_value(writer)
+    }
+}
+
+/// The encodings of the members, one after the other.
+impl<T: DerOrd> ValueOrd for SetOfVec<T> {
+    #[tactic(auto, unfolding(der_core_head::specs::Shapes::contents, der_core_head::specs::Shapes::IsContent))]
+    fn value_cmp(&self, other: &Self) -> Result<Ordering, Error> {
+        elements_cmp(self.members.as_slice(), other.members.as_slice())
+    }
+}
+
+impl<T: Shaped> AsSlice<T> for SetOfVec<T> {
+    ghost items = { λ s. s };
+
+    fn as_slice(&self) -> &[T] {
+        self.members.as_slice()
+    }
+}
+
+/// Whether the members are equal, one by one.
+impl<T: Shaped + PartialEq> PartialEq for SetOfVec<T> {
+    ghost eq = { pointwise T.eq };
+
+    ghost laws = { lists_per T.laws };
+
+    fn eq(&self, other: &Self) -> bool {
+        self.members == other.members
+    }
+}
+
+impl<T: Shaped + Eq> Eq for SetOfVec<T> {
+    ghost laws = { lists_equiv T.Eq.laws };
+}
+
+/// These members, in ascending order. No memory is taken.
+///
+/// # Errors
+/// `Overflow` where an encoding has 2^32 octets or more.
+impl<T: DerOrd + Member + Drop> TryFrom<Vec<T>> for SetOfVec<T> {
+    type Error = Error;
+
+    ghost try_from_gives = { λ members r. MatchResult r (λ set. IsPermutation members.items set × Ascends T.shape T.plain set) (TooLong T.shape T.plain members.items) };
+
+    fn try_from(members: Vec<T>) -> Result<SetOfVec<T>, Error> {
+        SetOfVec::from_vec(members)
+    }
+}
+
+/// The members, in ascending order of their encodings.
+impl<T: Shaped> From<SetOfVec<T>> for Vec<T> {
+    ghost from_gives = { λ set members. members.items ≡ set };
+
+    fn from(set: SetOfVec<T>) -> Vec<T> {
+        set.into_vec()
     }
 }

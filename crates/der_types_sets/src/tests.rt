@@ -2,7 +2,10 @@
 
 use super::*;
 use der_core::{Error, ErrorKind, Reader, SliceReader, Tag, from_der, to_der};
+use der_core_order::{DerOrd, ValueOrd};
 use std::alloc::Global;
+use std::cmp::Ordering;
+use std::convert::AsSlice;
 use std::test::Fail;
 
 mod key_usages;
@@ -37,6 +40,13 @@ fn short(alloc: Global, octets: &[u8]) -> Result<SequenceOf<Small, 2>, Error> {
     let mut reader = SliceReader::new(octets)?;
     let header = reader.read_header()?;
     SequenceOf::decode_value(alloc, &mut reader, header)
+}
+
+/// The set that octets spell, kept as they stand.
+fn lent<'a>(alloc: Global, octets: &'a [u8]) -> Result<SetOfRef<'a, Small>, Error> {
+    let mut reader = SliceReader::new(octets)?;
+    let header = reader.read_header()?;
+    SetOfRef::decode_value(alloc, &mut reader, header)
 }
 
 /// The kind of a refusal.
@@ -270,6 +280,133 @@ fn refused_memory(rt: HostRuntime) -> Result<(), Fail> {
     }
     if let Err(error) = strict(alloc, octets) {
         assert!(rt; error.kind == ErrorKind::OutOfMemory || error.kind == ErrorKind::SetOrdering);
+    }
+    Ok(())
+}
+
+#[test]
+fn borrowed_sets(rt: HostRuntime) -> Result<(), Fail> {
+    let alloc = rt.alloc();
+    let set = lent(alloc, b"\x31\x09\x02\x01\x01\x02\x01\x01\x02\x01\x02")?;
+    assert_eq!(rt; set.len(), 3);
+    assert!(rt; !set.is_empty());
+    let mut members = set.iter(alloc);
+    for expected in [1, 1, 2] {
+        let member = members.next().ok_or("a member is left")?;
+        assert_eq!(rt; member?, Small(expected));
+    }
+    assert!(rt; members.next().is_none());
+    assert_eq!(rt; set.get(alloc, 2)?, Some(Small(2)));
+    assert_eq!(rt; set.get(alloc, 3)?, None);
+    assert!(rt; lent(alloc, b"\x31\x00")?.is_empty());
+    let falling = lent(alloc, b"\x31\x06\x02\x01\x02\x02\x01\x01");
+    assert_eq!(rt; kind(falling), Some(ErrorKind::SetOrdering));
+    let cut = lent(alloc, b"\x31\x06\x02\x01\x02");
+    assert_eq!(rt; kind(cut), Some(ErrorKind::Incomplete));
+    Ok(())
+}
+
+#[test]
+fn lent_values(rt: HostRuntime) -> Result<(), Fail> {
+    let alloc = rt.alloc();
+    let values = [Small(3), Small(3), Small(200)];
+    let set = SetOfRef::<Small>::try_from(values.as_slice())?;
+    assert_eq!(rt; set.len(), 3);
+    let mut members = set.iter(alloc);
+    for expected in values {
+        let member = members.next().ok_or("a member is left")?;
+        assert_eq!(rt; member?, expected);
+    }
+    assert!(rt; members.next().is_none());
+    assert_eq!(rt; set.get(alloc, 0)?, Some(Small(3)));
+    let falling = [Small(200), Small(3)];
+    assert_eq!(rt;
+        kind(SetOfRef::<Small>::try_from(falling.as_slice())),
+        Some(ErrorKind::SetOrdering)
+    );
+    let owned = SetOfVec::try_from(vec![in alloc; Small(9), Small(8)]?)?;
+    assert_eq!(rt; owned.owned_to_ref().get(alloc, 0)?, Some(Small(8)));
+    let few = SetOf::<Small, 2>::try_from([Small(9), Small(8)])?;
+    assert_eq!(rt; few.owned_to_ref().len(), 2);
+    Ok(())
+}
+
+#[test]
+fn whole_sets(rt: HostRuntime) -> Result<(), Fail> {
+    let alloc = rt.alloc();
+    let falling = b"\x31\x06\x02\x01\x02\x02\x01\x01";
+    let set = SetOfVec::<Small>::from_der(alloc, falling)?;
+    assert_eq!(rt; set.as_slice(), [Small(1), Small(2)].as_slice());
+    let few = SetOf::<Small, 2>::from_der(alloc, falling)?;
+    assert_eq!(rt; few.as_slice(), [Small(1), Small(2)].as_slice());
+    let none = SetOf::<Small, 1>::from_der(alloc, falling);
+    assert_eq!(rt; kind(none), Some(ErrorKind::Overlength));
+    let list = SetOfVec::<Small>::from_der(alloc, b"\x30\x03\x02\x01\x02");
+    assert_eq!(rt; kind(list), Some(ErrorKind::TagUnexpected));
+    let more = SetOfVec::<Small>::from_der(alloc, b"\x31\x03\x02\x01\x02\x00");
+    assert_eq!(rt; kind(more), Some(ErrorKind::TrailingData));
+    Ok(())
+}
+
+#[test]
+fn order_of_sets(rt: HostRuntime) -> Result<(), Fail> {
+    let alloc = rt.alloc();
+    // The contents 02 01 01 and 02 01 01 02 01 02.
+    let one = SetOfVec::try_from(vec![in alloc; Small(1)]?)?;
+    let two = SetOfVec::try_from(vec![in alloc; Small(2), Small(1)]?)?;
+    assert_eq!(rt; one.value_cmp(&two)?, Ordering::Less);
+    assert_eq!(rt; two.der_cmp(&one)?, Ordering::Greater);
+    assert!(rt; one != two);
+    assert!(rt; two.clone(alloc)? == two);
+    let few = SetOf::<Small, 2>::try_from([Small(2), Small(1)])?;
+    let others = SetOf::<Small, 2>::try_from([Small(3), Small(1)])?;
+    assert_eq!(rt; few.value_cmp(&others)?, Ordering::Less);
+    let mut list = SequenceOf::<Small, 2>::default();
+    let empty = SequenceOf::<Small, 2>::default();
+    list.add(Small(1))?;
+    assert_eq!(rt; list.value_cmp(&empty)?, Ordering::Greater);
+    assert_eq!(rt; AsSlice::as_slice(&list), [Small(1)].as_slice());
+    assert!(rt; SetOf::<Small, 2>::default().is_empty());
+    assert!(rt; SetOfVec::<Small>::default(alloc).is_empty());
+    assert_eq!(rt; AsSlice::as_slice(&few), [Small(1), Small(2)].as_slice());
+    assert_eq!(rt; AsSlice::as_slice(&two), [Small(1), Small(2)].as_slice());
+    let members = Vec::from(two);
+    assert_eq!(rt; members.len(), 2);
+    // 03 02 01 06 and 03 02 05 20 by their contents 01 06 and 05 20.
+    let signs = FlagSet::from_flag(KeyUsages::KEY_CERT_SIGN);
+    let both = signs.union(FlagSet::from_flag(KeyUsages::CRL_SIGN));
+    assert_eq!(rt;
+        both.value_cmp(&FlagSet::from_flag(KeyUsages::KEY_ENCIPHERMENT))?,
+        Ordering::Less
+    );
+    Ok(())
+}
+
+/// Where one request for memory is refused, what `extend` placed before stays, in order.
+#[test]
+fn refused_extend(rt: HostRuntime) -> Result<(), Fail> {
+    let alloc = rt.alloc();
+    let items = vec![in alloc; Small(5), Small(1), Small(4), Small(2), Small(3)];
+    let Ok(items) = items else {
+        return Ok(());
+    };
+    let mut set = SetOfVec::<Small>::new(alloc);
+    let outcome = set.extend(items);
+    let Err(error) = outcome else {
+        let all = [1, 2, 3, 4, 5].map(Small);
+        assert_eq!(rt; set.as_slice(), all.as_slice());
+        return Ok(());
+    };
+    assert_eq!(rt; error.kind, ErrorKind::OutOfMemory);
+    match set.len() {
+        0 => {}
+        1 => assert_eq!(rt; set.as_slice(), [Small(5)].as_slice()),
+        2 => assert_eq!(rt; set.as_slice(), [Small(1), Small(5)].as_slice()),
+        3 => assert_eq!(rt; set.as_slice(), [Small(1), Small(4), Small(5)].as_slice()),
+        _ => assert_eq!(rt;
+            set.as_slice(),
+            [Small(1), Small(2), Small(4), Small(5)].as_slice()
+        ),
     }
     Ok(())
 }

@@ -3,7 +3,7 @@
 ghost use Rattle.std.specs.Prelude.{pos};
 ghost use Rattle.der_core_head.specs.Integers.{unsigned};
 
-use der_core::{Error, Integer, Member, Tag, unsigned_of};
+use der_core::{Error, Integer, Tag, unsigned_of};
 use der_core_order::ValueOrd;
 use std::cmp::Ordering;
 
@@ -23,12 +23,6 @@ impl Integer for Small {
     fn magnitude(&self) -> (bool, u128) {
         (false, u128::from(self.0))
     }
-}
-
-impl Member for Small {
-    ghost use Rattle.std.specs.Prelude.{refl};
-
-    ghost apart = { refl };
 }
 
 impl ValueOrd for Small {

@@ -1,0 +1,141 @@
+-- Contents whose members never descend, as a reader and an iterator go over them.
+use Rattle.std.proofs.Common.{◌≡◌, ℕ, zero, suc, ◌-◌, ◌<◌, ◌≤◌, Bool, true, false, cond, List, [], ◌∷◌, ◌++◌, length, take, drop, ltb, Result, Ok, Err, refl, sym, ap, subst, ◌∙◌, arith, ◌⊎◌, inl, inr}
+use Rattle.std.specs.Prelude.{◌≢◌, slice_get, Option, Some, None, ◌+◌}
+use Rattle.std.proofs.lemmas.Option.{slice_get_past}
+use Rattle.std.proofs.lemmas.Bool.{le-ltb, lt-ltb, cases_lt}
+use Rattle.std.proofs.lemmas.List.{length-take, length-drop}
+use Rattle.der_core_head.specs.declared.error.Error.{Error}
+use Rattle.der_core_head.specs.declared.error.ErrorKind.{ErrorKind}
+use Rattle.der_core_head.specs.declared.error.ErrorKind.TheVariants as kinds
+use Rattle.der_core_head.specs.Octets.{Readings, ◌>>=◌}
+use Rattle.der_core_head.specs.Heads.{Fits}
+use Rattle.der_core_head.specs.Shapes.{Shape, Value, octets_of}
+use Rattle.der_core_head.specs.Spelling.{is_apart}
+use Rattle.der_core_head.specs.Grammar.{read, slice_at, value_at, whole, plain_list}
+use Rattle.der_core_head.proofs.Results.{ok_is, unless_ok}
+use Rattle.der_core_head.proofs.Bytes.{IsBytes}
+use Rattle.der_core_head.proofs.Fits.{fits_rest}
+use Rattle.der_core_head.proofs.Sound.{sound}
+use Rattle.der_core_headers.specs.Fronts.{front_at}
+use Rattle.der_types_sets.specs.Level.{level_content, first_of, values_at}
+use Rattle.der_types_sets.specs.Lent.{Lent, IsSpelled, members_lent, YieldsMember}
+
+-- the octets of a content, and those behind it
+pub record IsFront (n : ℕ) (w u r : List ℕ) : Type 0 where
+  pub within : n ≤ length w
+  pub front : u ≡ take n w
+  pub behind : r ≡ drop n w
+
+ltb-not : (m n : ℕ) → ltb m n ≡ false → n ≤ m
+ltb-not m n e = go (cases_lt m n)
+  where
+    go : (m < n) ⊎ (n ≤ m) → n ≤ m
+    go (inl lt) = absurd (cc (e, lt-ltb m n lt))
+    go (inr le) = le
+
+pub slice_front : (n : ℕ) (w u r : List ℕ) → slice_at n w ≡ Ok (u, r) → IsFront n w u r
+unfolding slice_at
+slice_front n w u r e =
+    let h = unless_ok (ltb (length w) n) kinds.Incomplete (Ok (take n w, drop n w)) (u, r) e in
+    let same : (take n w, drop n w) ≡ (u, r) = ok_is (take n w, drop n w) (u, r) h.1 in
+    record { within = ltb-not (length w) n h.0; front = sym (ap (λ (q : List ℕ × List ℕ). q.0) same); behind = sym (ap (λ (q : List ℕ × List ℕ). q.1) same) }
+
+pub slice_fits : (n : ℕ) (w u r : List ℕ) → slice_at n w ≡ Ok (u, r) → Fits w → Fits u
+slice_fits n w u r e fits = let h = slice_front n w u r e in omega (arith, h.within, ap (λ (x : List ℕ). length x) h.front, length-take n w)
+
+pub slice_enough : (n : ℕ) (w : List ℕ) (k : ErrorKind) → n ≤ length w → slice_at n w ≡ Err k → ⊥
+unfolding slice_at
+slice_enough n w k le e = absurd (cc (rw (le-ltb (length w) n le) at e))
+
+pub content_read : (s : Shape) (n : ℕ) (w u r : List ℕ) (v : List (Value s)) → slice_at n w ≡ Ok (u, r) → level_content s u ≡ Ok (v, []) → value_at (level_content s) n w ≡ Ok (v, r)
+unfolding value_at
+content_read s n w u r v e all =
+    let h = slice_front n w u r e in
+    let same : level_content s (take n w) ≡ Ok (v, []) = ap (level_content s) (sym h.front) ∙ all in
+    rw (le-ltb (length w) n h.within, same) (ap (λ (x : List ℕ). Ok (v, x)) (sym h.behind))
+
+pub content_fails : (s : Shape) (n : ℕ) (w u r : List ℕ) (k : ErrorKind) → slice_at n w ≡ Ok (u, r) → level_content s u ≡ Err k → value_at (level_content s) n w ≡ Err k
+unfolding value_at
+content_fails s n w u r k e fault =
+    let h = slice_front n w u r e in
+    let same : level_content s (take n w) ≡ Err k = ap (level_content s) (sym h.front) ∙ fault in
+    rw (le-ltb (length w) n h.within, same) refl
+
+slice_short : (n : ℕ) (w : List ℕ) → length w < n → slice_at n w ≡ Err kinds.Incomplete
+unfolding slice_at
+slice_short n w lt = rw (lt-ltb (length w) n lt) refl
+
+pub content_short : (s : Shape) (n : ℕ) (w : List ℕ) (k : ErrorKind) → slice_at n w ≡ Err k → value_at (level_content s) n w ≡ Err k
+unfolding value_at
+content_short s n w k e =
+    elim (cases_lt (length w) n) [
+      | inl lt ↦ let same : kinds.Incomplete ≡ k = cc (slice_short n w lt) in rw (lt-ltb (length w) n lt) (ap (λ x. Err x) same)
+      | inr le ↦ absurd (slice_enough n w k le e)
+    ]
+
+-- One member of those that octets spell
+
+-- the first value, and those behind it
+pub record FirstSpelled (s : Shape) (n : ℕ) (w : List ℕ) (v : Value s) (r : List ℕ) : Type 0 where
+  pub all : values_at (read s 64) n w ≡ v ∷ values_at (read s 64) (n - 1) r
+  pub left : IsSpelled s (n - 1) r
+
+first_read : (s : Shape) (n : ℕ) (w : List ℕ) (v : Value s) (r : List ℕ) → is_apart s ≡ true → IsBytes w → IsSpelled s (suc n) w → read s 64 w ≡ Ok (v, r) → FirstSpelled s (suc n) w v r
+first_read s n w v r apart bytes spelled e =
+    let F = read s 64 in
+    let one : suc n - 1 ≡ n = omega arith in
+    let all : values_at F (suc n) w ≡ v ∷ values_at F n r = ap (λ t. first_of t (values_at F n)) e in
+    let many : suc (length (values_at F n r)) ≡ suc n = sym (ap (λ (t : List (Value s)). length t) all) ∙ spelled.many in
+    let u = sound s 64 w v r apart bytes spelled.short e in
+    let left : IsSpelled s n r = record { many = omega arith; short = fits_rest (octets_of s v) r w u.1 spelled.short } in
+    let P : ℕ → Type 0 = λ m. IsSpelled s m r in
+    record { all = all ∙ ap (λ m. v ∷ values_at F m r) (sym one); left = subst P (sym one) left }
+
+pub first_spelled : (s : Shape) (n : ℕ) (w : List ℕ) (v : Value s) (r : List ℕ) → is_apart s ≡ true → IsBytes w → 0 < n → IsSpelled s n w → front_at s w ≡ Ok (v, r) → FirstSpelled s n w v r
+first_spelled s zero w v r apart bytes some spelled e = absurd (omega arith)
+first_spelled s (suc n) w v r apart bytes some spelled e = first_read s n w v r apart bytes spelled (rw (le-ltb 4294967295 (length w) (omega (arith, spelled.short))) at e)
+
+one_spelled : (s : Shape) (n : ℕ) (w : List ℕ) (x : Result (Value s × List ℕ) ErrorKind) → read s 64 w ≡ x → length (first_of x (values_at (read s 64) n)) ≡ suc n → (y : Value s × List ℕ) × (read s 64 w ≡ Ok y)
+one_spelled s n w (Ok x) e many = (x, e)
+one_spelled s n w (Err k) e many = absurd (omega arith)
+
+-- a fault of a call that can only want memory
+wants_memory : {A : Type 0} (k : ErrorKind) (x : A) (r : Result A ErrorKind) → r ≡ Ok x → (k ≢ kinds.OutOfMemory → r ≡ Err k) → k ≡ kinds.OutOfMemory
+wants_memory kinds.OutOfMemory x r e h = refl
+wants_memory _ x r e h = absurd (cc (e, h (λ q. absurd cc)))
+
+pub spelled_wants : (s : Shape) (n : ℕ) (w : List ℕ) (k : ErrorKind) → 0 < n → IsSpelled s n w → (k ≢ kinds.OutOfMemory → front_at s w ≡ Err k) → k ≡ kinds.OutOfMemory
+spelled_wants s zero w k some spelled h = absurd (omega arith)
+spelled_wants s (suc n) w k some spelled h =
+    let x = one_spelled s n w (read s 64 w) refl spelled.many in
+    let front : front_at s w ≡ Ok x.0 = rw (le-ltb 4294967295 (length w) (omega (arith, spelled.short))) x.1 in
+    wants_memory k x.0 (front_at s w) front h
+
+none_of : {A : Type 0} (xs : List A) → length xs ≡ 0 → xs ≡ []
+none_of [] h = refl
+none_of (x ∷ xs) h = absurd (omega arith)
+
+pub front_lent : {A : Type 0} (s : Shape) (f : A → Value s) (values : List A) (n : ℕ) (w : List ℕ) (v : Value s) (r : List ℕ) → length values ≡ 0 → values_at (read s 64) n w ≡ v ∷ values_at (read s 64) (n - 1) r
+    → plain_list f values ++ values_at (read s 64) n w ≡ v ∷ (plain_list f values ++ values_at (read s 64) (n - 1) r)
+front_lent s f values n w v r none all = rw (none_of values none) all
+
+-- A member at an index
+
+pub record IsNext {A : Type 0} (xs : List A) (i : ℕ) (x : A) (rest : List A) : Type 0 where
+  pub here : slice_get xs i ≡ Some x
+  pub behind : rest ≡ drop (i + 1) xs
+
+pub next_at : {A : Type 0} (xs : List A) (i : ℕ) (x : A) (rest : List A) → drop i xs ≡ x ∷ rest → IsNext xs i x rest
+next_at [] zero x rest e = absurd cc
+next_at [] (suc i) x rest e = absurd cc
+next_at (y ∷ ys) zero x rest e = record { here = cc e; behind = cc e }
+next_at (y ∷ ys) (suc i) x rest e =
+    let h = next_at ys i x rest e in
+    let n : suc (i + 1) ≡ suc i + 1 = omega arith in
+    record { here = h.here; behind = h.behind ∙ ap (λ m. drop m (y ∷ ys)) n }
+
+pub none_at : {A : Type 0} (xs : List A) (i n : ℕ) → drop i xs ≡ [] → i ≤ n → slice_get xs n ≡ None
+none_at xs i n e le = slice_get_past xs n (omega (arith, ap (λ (u : List _). length u) e, length-drop i xs))
+
+pub yielded : {A : Type 0} (s : Shape) (f : A → Value s) (l t : Lent A) (item : Result A Error) (x : A) → item ≡ Ok x → YieldsMember s f l (Some item) t → members_lent s f l ≡ f x ∷ members_lent s f t
+yielded {A} s f l t item x e h = let P : Result A Error → Type 0 = λ u. YieldsMember s f l (Some u) t in subst P e h

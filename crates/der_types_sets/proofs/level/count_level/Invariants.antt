@@ -1,0 +1,16 @@
+use Rattle.std.proofs.Common.{◌≡◌, ◌-◌, length}
+use Rattle.der_core_head.specs.Grammar.{read}
+use Rattle.der_core_head.specs.Shapes.{octets_of}
+use Rattle.der_core_head.specs.Reading.{unread}
+use Rattle.der_core_head.specs.declared.encoding_rules.EncodingRules.TheVariants.{Der}
+use Rattle.der_core_headers.specs.Fronts.{octets_at}
+use Rattle.der_types_sets.specs.Level.{read_level, level_content, counted}
+use Rattle.der_types_sets.proofs.level.count_level.Given as goal
+
+abbrev pub invariant-loop-count : goal.invariant-loop-count
+invariant-loop-count g l =
+    let s = g.T.Shaped.shape in
+    record {
+      same : l.reader ≡ record (unread Der l.octets) { rest = l.reader.rest };
+      total : counted l.count (read_level (octets_of s) (read s 64) (octets_at l.last) (length l.octets - l.count) l.reader.rest) ≡ counted 0 (level_content s l.octets);
+    }

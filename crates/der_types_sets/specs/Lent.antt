@@ -1,0 +1,55 @@
+-- What contracts see of a borrowed set: its members, lent as values or as the octets that spell them.
+use Rattle.std.specs.Prelude.{◌≡◌, ◌≢◌, ℕ, ◌<◌, List, [], ◌++◌, length, Option, Result, MatchOption, MatchResult, refl, ◌∷◌}
+use Rattle.std.specs.Coded.{Coded, code_by, coded×, coded_list, coded_ℕ}
+use Rattle.der_core_head.specs.declared.error.Error.{Error}
+use Rattle.der_core_head.specs.declared.error.ErrorKind.TheVariants as kinds
+use Rattle.der_core_head.specs.Heads.{Fits}
+use Rattle.der_core_head.specs.Shapes.{Shape, Value}
+use Rattle.der_core_head.specs.Grammar.{read, plain_list}
+use Rattle.der_types_sets.specs.Sets.{Ascends}
+use Rattle.der_types_sets.specs.Level.{NeverDescends, values_at}
+
+-- values, and octets that spell so many values behind them; there are never both
+pub record Lent (A : Type 0) : Type 0 where
+  pub values : List A
+  pub octets : List ℕ
+  pub count : ℕ
+
+abbrev pub lent_code : {A : Type 0} → Coded A → Coded (Lent A)
+lent_code {A} c =
+    code_by (List A × (List ℕ × ℕ)) (coded× (coded_list c) (coded× (coded_list coded_ℕ) coded_ℕ)) (λ l. (l.values, (l.octets, l.count)))
+    (λ p. record { values = p.0; octets = p.1.0; count = p.1.1 }) (λ _. refl)
+
+-- the members that octets spell
+abbrev pub members_spelled : {A : Type 0} (s : Shape) → Lent A → List (Value s)
+members_spelled s l = values_at (read s 64) l.count l.octets
+
+-- the plain values of the members
+abbrev pub members_lent : {A : Type 0} (s : Shape) → (A → Value s) → Lent A → List (Value s)
+members_lent s f l = plain_list f l.values ++ members_spelled s l
+
+-- Octets that a length can count begin with so many members.
+pub record IsSpelled (s : Shape) (count : ℕ) (octets : List ℕ) : Type 0 where
+  pub many : length (values_at (read s 64) count octets) ≡ count
+  pub short : Fits octets
+
+-- never both, and the octets spell as many as are said
+pub record HasMembers {A : Type 0} (s : Shape) (l : Lent A) : Type 0 where
+  pub one : 0 < l.count → length l.values ≡ 0
+  pub spelled : IsSpelled s l.count l.octets
+
+-- The members are in order, and no more octets follow.
+pub record IsLent {A : Type 0} (s : Shape) (f : A → Value s) (l : Lent A) : Type 0 where
+  pub has : HasMembers s l
+  pub ascend : Ascends s f l.values
+  pub level : NeverDescends s (members_spelled s l) l.octets
+
+-- a refusal that is want of memory
+abbrev pub IsWantOfMemory : Error → Type 0
+IsWantOfMemory e = e.kind ≡ kinds.OutOfMemory
+
+-- A call from l gave the first member and left the others, or gave None where nothing was left. Where there was no memory it left nothing.
+abbrev pub YieldsMember : {A : Type 0} (s : Shape) → (A → Value s) → Lent A → Option (Result A Error) → Lent A → Type 0
+YieldsMember s f l r t =
+    MatchOption r ((members_lent s f l ≡ []) × (members_lent s f t ≡ []))
+    (λ item. MatchResult item (λ x. members_lent s f l ≡ f x ∷ members_lent s f t) (λ e. (members_lent s f l ≢ []) × (members_lent s f t ≡ []) × IsWantOfMemory e))

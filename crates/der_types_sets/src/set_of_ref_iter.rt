@@ -1,0 +1,122 @@
+//! The members of a borrowed set, one after another.
+
+ghost use Rattle.std.specs.Prelude.{◌≡◌, ◌<◌, ◌-◌, [], ◌∷◌, IfOk, IfErr};
+ghost use Rattle.der_core_head.specs.Grammar.{read};
+ghost use Rattle.der_types_sets.specs.Level.{values_at};
+ghost use Rattle.der_types_sets.specs.Lent.{Lent, HasMembers, IsSpelled, IsWantOfMemory};
+
+use der_core::{Decode, Error, Member, Shaped, SliceReader, from_der_partial};
+use std::alloc::Global;
+use std::marker::Model;
+
+/// The members of a `SetOfRef`, in order. Where there is no memory for one, the error is the last
+/// item.
+#[derive(Drop)]
+pub struct SetOfRefIter<'a, T: Shaped> {
+    alloc: Global,
+    values: &'a [T],
+    octets: &'a [u8],
+    count: usize,
+}
+
+impl<'a, T: Shaped> Model for SetOfRefIter<'a, T> {
+    ghost use Rattle.der_types_sets.specs.Lent.{Lent, HasMembers, lent_code};
+
+    ghost Value = { Lent T };
+
+    ghost coded = { lent_code T.code };
+
+    ghost view = { λ s. record { values = s.values.now; octets = s.octets.now; count = s.count } };
+
+    ghost invariant = { λ s. HasMembers T.shape (record { values = s.values.now; octets = s.octets.now; count = s.count }) };
+}
+
+impl<'a, T: Shaped> SetOfRefIter<'a, T> {
+    /// Over values, and then over so many members that octets spell.
+    pub(crate) fn of(
+        alloc: Global,
+        values: &'a [T],
+        octets: &'a [u8],
+        count: usize,
+    ) -> SetOfRefIter<'a, T>
+        requires { HasMembers T.shape (record { values = values.now; octets = octets.now; count = count }) }
+        ensures { result ≡ record { values = values.now; octets = octets.now; count = count } }
+    {
+        SetOfRefIter {
+            alloc,
+            values,
+            octets,
+            count,
+        }
+    }
+
+    /// Nothing is left.
+    fn stop(&mut self)
+        ensures { self.new ≡ record { values = []; octets = []; count = 0 } }
+    {
+        self.values = &[];
+        self.octets = &[];
+        self.count = 0;
+    }
+}
+
+/// The first of so many members that octets spell, and the octets behind it.
+///
+/// # Errors
+/// `OutOfMemory`.
+fn first_member<'a, T: Decode<'a, SliceReader<'a>> + Member>(
+    alloc: Global,
+    octets: &'a [u8],
+    count: usize,
+) -> Result<(T, &'a [u8]), Error>
+    requires some { 0 < count }
+    requires spelled { IsSpelled T.shape count octets.now }
+    ensures first { IfOk result (λ x. values_at (read T.shape 64) count octets.now ≡ T.plain x.0 ∷ values_at (read T.shape 64) (count - 1) x.1.now) }
+    ensures left { IfOk result (λ x. IsSpelled T.shape (count - 1) x.1.now) }
+    ensures refused { IfErr result IsWantOfMemory }
+{
+    let (value, behind) = from_der_partial::<T>(alloc, octets)?;
+    Ok((value, behind))
+}
+
+impl<'a, T: Decode<'a, SliceReader<'a>> + Member + Clone> Iterator for SetOfRefIter<'a, T> {
+    ghost use Rattle.std.specs.Prelude.{◌≡◌, length};
+    ghost use Rattle.std.specs.Iterator.{at_most};
+    ghost use Rattle.der_types_sets.specs.Lent.{members_lent, YieldsMember};
+
+    type Item = Result<T, Error>;
+
+    // A copy has the plain value of what it is a copy of.
+    ghost can_next = { λ _. (x y : T) → T.is_clone x y → T.plain y ≡ T.plain x };
+
+    ghost next_gives = { YieldsMember T.shape T.plain };
+
+    ghost remaining = { λ it. at_most (length (members_lent T.shape T.plain it)) };
+
+    fn next(&mut self) -> Option<Result<T, Error>> {
+        if let [first, values @ ..] = self.values {
+            self.values = values;
+            return match first.clone() {
+                Ok(value) => Some(Ok(value)),
+                Err(error) => {
+                    self.stop();
+                    Some(Err(Error::from(error)))
+                }
+            };
+        }
+        if self.count == 0 {
+            return None;
+        }
+        match first_member::<T>(self.alloc, self.octets, self.count) {
+            Ok((value, octets)) => {
+                self.octets = octets;
+                self.count -= 1;
+                Some(Ok(value))
+            }
+            Err(error) => {
+                self.stop();
+                Some(Err(error))
+            }
+        }
+    }
+}

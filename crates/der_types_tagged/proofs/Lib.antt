@@ -1,0 +1,3 @@
+mod FieldOrders
+mod Numbers
+mod ReadBack

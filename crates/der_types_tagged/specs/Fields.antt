@@ -1,0 +1,28 @@
+-- Fields behind a tag of a class and a number, in front of the value's own tag or in its place (X.690 8.14).
+-- A class is told by its bits in the first octet of a tag (8.1.2.2).
+use Rattle.std.specs.Prelude.{ℕ, ◌/◌, true, Ok}
+use Rattle.der_core_head.specs.declared.tag.Tag.{Tag}
+use Rattle.der_core_head.specs.declared.tag_mode.TagMode.{TagMode}
+use Rattle.der_core_head.specs.declared.tag_mode.TagMode.TheVariants as modes
+use Rattle.der_core_head.specs.Octets.{◌>>=◌, Readings}
+use Rattle.der_core_head.specs.Tags.{class_tag, is_constructed, number_of}
+use Rattle.der_core_head.specs.Heads.{head_at}
+use Rattle.der_core_head.specs.Shapes.{Shape, Content, Value, tagged, nested, only}
+use Rattle.der_core_head.specs.Grammar.{read}
+
+-- the tag of a field, whose form is that of the value's own tag where it stands in its place
+abbrev pub field_tag : ℕ → TagMode → ℕ → Tag → Tag
+field_tag class modes.Explicit n own = class_tag (class / 64) true n
+field_tag class modes.Implicit n own = class_tag (class / 64) (is_constructed own) n
+
+-- a value's encoding behind a tag (8.14.2)
+abbrev pub explicit_field : ℕ → ℕ → Shape → Shape
+explicit_field class n s = tagged (class_tag (class / 64) true n) (nested (only s))
+
+-- a value's content behind a tag in place of its own (8.14.3)
+abbrev pub implicit_field : ℕ → ℕ → Tag → Content → Shape
+implicit_field class n own c = tagged (class_tag (class / 64) (is_constructed own) n) c
+
+-- a value's encoding behind a tag of a class with the number that stands there, and that number
+unfoldable pub numbered_at : ℕ → (s : Shape) → ℕ → Readings (ℕ × Value s)
+numbered_at class s room w = head_at w >>= λ h. read (explicit_field class (number_of h.0.tag) s) room w >>= λ x. Ok ((number_of h.0.tag, x.0), x.1)

@@ -1,0 +1,275 @@
+//! Values behind tags of one class.
+
+ghost use Rattle.std.specs.Prelude.{◌≡◌, ◌↔◌, ◌/◌, [], Ok, None, false, true, IsTrue, IfOk, IfSome, IfErr};
+ghost use Rattle.der_core_head.specs.declared.tag_mode.TagMode.TheVariants.{Explicit, Implicit};
+ghost use Rattle.der_core_head.specs.Classes.{tag_class};
+ghost use Rattle.der_core_head.specs.Shapes.{nested, only, optional, tagged, IsContent, IsValid, octets_of};
+ghost use Rattle.der_core_head.specs.Spelling.{is_content_apart};
+ghost use Rattle.der_core_head.specs.Grammar.{read, plain_option};
+ghost use Rattle.der_core_head.specs.Reading.{Gives, GivesNow, Reads};
+ghost use Rattle.der_core_head.specs.Writing.{Writes, size, size_content, write, write_content};
+ghost use Rattle.der_core_order.specs.Orders.{contents_cmp, octets_cmp, Overflows};
+ghost use Rattle.der_types_tagged.specs.Fields.{field_tag, explicit_field, implicit_field, numbered_at};
+
+use crate::class_field_ref::ClassFieldRef;
+use crate::fields::{
+    der_cmp_of_fields, der_of_field, encode_field, encode_value_of_field, len_of_field,
+    tag_of_class, tag_of_field, value_cmp_of_fields, value_len_of_field,
+};
+use der_core::reading::{optional_explicit, optional_implicit, read_explicit};
+use der_core::{
+    Decode, DecodeValue, EncodeValue, Error, FixedTag, Length, Reader, Tag, TagMode, TagNumber,
+    Tagged, Writer, is_constructed, leading_octet_of,
+};
+use der_core_order::ValueOrd;
+use std::alloc::Global;
+use std::cmp::Ordering;
+
+/// A value behind a tag of a class, which `CLASS` tells by its bits in the first octet of a tag
+/// (X.690 8.1.2.2): `CLASS_APPLICATION`, `CLASS_CONTEXT_SPECIFIC` or `CLASS_PRIVATE`.
+///
+/// The tag stands in front of the value's own tag or in its place (X.680 31, X.690 8.14).
+#[derive(Debug, Drop, PartialEq, Eq)]
+pub struct ClassField<T, const CLASS: u8> {
+    /// The number of the tag.
+    pub tag_number: TagNumber,
+    /// Where the tag stands.
+    pub tag_mode: TagMode,
+    /// The value.
+    pub value: T,
+}
+
+impl<T, const CLASS: u8> ClassField<T, CLASS> {
+    /// The value behind a tag of that number in front of its own, if that tag stands next
+    /// (X.690 8.14.2). Where another tag or the end stands nothing is read.
+    ///
+    /// # Errors
+    /// The first fault from the left, or `OutOfMemory`; `Failed` where the reader failed before.
+    pub fn decode_explicit<'a, R: Reader<'a>>(
+        alloc: Global,
+        reader: &mut R,
+        tag_number: TagNumber,
+    ) -> Result<Option<ClassField<T, CLASS>>, Error>
+    where
+        T: Decode<'a, R>,
+        ensures reads { Reads (plain_option (λ f. T.plain f.value)) (R.state reader.old) (R.state reader.new) result (read (optional (explicit_field CLASS tag_number.value T.shape)) (R.state reader.old).room) }
+        ensures tag { IfOk result (λ o. IfSome o (λ f. (f.tag_number ≡ tag_number) × (f.tag_mode ≡ Explicit))) }
+    {
+        let tag_mode = TagMode::Explicit;
+        let tag = tag_of_class(CLASS, true, tag_number);
+        let Some(value) = optional_explicit(alloc, reader, tag)? else {
+            return Ok(None);
+        };
+        Ok(Some(ClassField {
+            tag_number,
+            tag_mode,
+            value,
+        }))
+    }
+
+    /// The value behind a tag of that number in place of its own, if that tag stands next, in the
+    /// form of the value's own tag (X.690 8.14.3). Where another tag or the end stands nothing is
+    /// read.
+    ///
+    /// # Errors
+    /// The first fault from the left, or `OutOfMemory`; `Failed` where the reader failed before.
+    pub fn decode_implicit<'a, R: Reader<'a>>(
+        alloc: Global,
+        reader: &mut R,
+        tag_number: TagNumber,
+    ) -> Result<Option<ClassField<T, CLASS>>, Error>
+    where
+        T: DecodeValue<'a, R> + FixedTag,
+        ensures reads { Reads (plain_option (λ f. T.value_plain f.value)) (R.state reader.old) (R.state reader.new) result (read (optional (implicit_field CLASS tag_number.value T.fixed_tag T.content)) (R.state reader.old).room) }
+        ensures tag { IfOk result (λ o. IfSome o (λ f. (f.tag_number ≡ tag_number) × (f.tag_mode ≡ Implicit))) }
+    {
+        let tag_mode = TagMode::Implicit;
+        let tag = tag_of_class(CLASS, is_constructed(T::tag()), tag_number);
+        let Some(value) = optional_implicit(alloc, reader, tag)? else {
+            return Ok(None);
+        };
+        Ok(Some(ClassField {
+            tag_number,
+            tag_mode,
+            value,
+        }))
+    }
+
+    /// The value behind a tag of the class, whatever its number, in front of its own
+    /// (X.690 8.14.2).
+    ///
+    /// # Errors
+    /// `TagUnexpected` behind a tag of another class, or of a primitive value; else the first fault
+    /// from the left, or `OutOfMemory`; `Failed` where the reader failed before.
+    #[tactic(auto, unfolding(crate::specs::Fields::numbered_at))]
+    pub fn decode<'a, R: Reader<'a>>(
+        alloc: Global,
+        reader: &mut R,
+    ) -> Result<ClassField<T, CLASS>, Error>
+    where
+        T: Decode<'a, R>,
+        ensures reads { Reads (λ f. (f.tag_number.value, T.plain f.value)) (R.state reader.old) (R.state reader.new) result (numbered_at CLASS T.shape (R.state reader.old).room) }
+        ensures mode { IfOk result (λ f. f.tag_mode ≡ Explicit) }
+    {
+        let tag_mode = TagMode::Explicit;
+        let header = reader.peek_header()?;
+        let tag_number = header.tag.number();
+        let tag = tag_of_class(CLASS, true, tag_number);
+        let value = read_explicit(alloc, reader, tag)?;
+        Ok(ClassField {
+            tag_number,
+            tag_mode,
+            value,
+        })
+    }
+
+    /// Whether a tag is of the class.
+    pub fn can_decode(tag: Tag) -> bool
+        ensures { IsTrue result ↔ (tag_class tag ≡ CLASS / 64) }
+    {
+        leading_octet_of(tag) / 64 == CLASS / 64
+    }
+
+    /// The same field, lent.
+    pub fn owned_to_ref(&self) -> ClassFieldRef<'_, T, CLASS>
+        ensures number { result.tag_number ≡ self.now.tag_number }
+        ensures mode { result.tag_mode ≡ self.now.tag_mode }
+        ensures value { result.value.now ≡ self.now.value }
+    {
+        ClassFieldRef {
+            tag_number: self.tag_number,
+            tag_mode: self.tag_mode,
+            value: &self.value,
+        }
+    }
+}
+
+/// The tag of the class, in the form that its mode asks for.
+impl<T: Tagged, const CLASS: u8> Tagged for ClassField<T, CLASS> {
+    ghost own_tag = { λ f. field_tag CLASS f.tag_mode f.tag_number.value (T.own_tag f.value) };
+
+    fn tag(&self) -> Tag {
+        tag_of_field(CLASS, self.tag_mode, self.tag_number, self.value.tag())
+    }
+}
+
+impl<T: EncodeValue + FixedTag, const CLASS: u8> ClassField<T, CLASS> {
+    /// The number of content octets.
+    ///
+    /// # Errors
+    /// `Overflow` from 2^32 on.
+    pub fn value_len(&self) -> Result<Length, Error>
+        ensures explicit { self.now.tag_mode ≡ Explicit → GivesNow (λ l. l.value) result (size_content (nested (only (tagged T.fixed_tag T.content))) (T.value_plain self.now.value)) }
+        ensures implicit { self.now.tag_mode ≡ Implicit → GivesNow (λ l. l.value) result (size_content T.content (T.value_plain self.now.value)) }
+    {
+        value_len_of_field(self.tag_mode, &self.value)
+    }
+
+    /// Writes the content.
+    ///
+    /// # Errors
+    /// `Overflow` where a length passes 2^32 - 1, and those of the writer.
+    pub fn encode_value<W: Writer>(&self, writer: &mut W) -> Result<(), Error>
+        ensures explicit { self.now.tag_mode ≡ Explicit → Writes (W.out writer.old) (W.out writer.new) result (write_content (nested (only (tagged T.fixed_tag T.content))) (T.value_plain self.now.value)) }
+        ensures implicit { self.now.tag_mode ≡ Implicit → Writes (W.out writer.old) (W.out writer.new) result (write_content T.content (T.value_plain self.now.value)) }
+    {
+        encode_value_of_field(writer, self.tag_mode, &self.value)
+    }
+
+    /// The number of octets, header and content.
+    ///
+    /// # Errors
+    /// `Overflow` from 2^32 on.
+    pub fn encoded_len(&self) -> Result<Length, Error>
+        ensures explicit { self.now.tag_mode ≡ Explicit → GivesNow (λ l. l.value) result (size (explicit_field CLASS self.now.tag_number.value (tagged T.fixed_tag T.content)) (T.value_plain self.now.value)) }
+        ensures implicit { self.now.tag_mode ≡ Implicit → GivesNow (λ l. l.value) result (size (implicit_field CLASS self.now.tag_number.value T.fixed_tag T.content) (T.value_plain self.now.value)) }
+    {
+        len_of_field(CLASS, self.tag_mode, self.tag_number, &self.value)
+    }
+
+    /// Writes header and content.
+    ///
+    /// # Errors
+    /// `Overflow` where a length passes 2^32 - 1, and those of the writer.
+    pub fn encode<W: Writer>(&self, writer: &mut W) -> Result<(), Error>
+        ensures explicit { self.now.tag_mode ≡ Explicit → Writes (W.out writer.old) (W.out writer.new) result (write (explicit_field CLASS self.now.tag_number.value (tagged T.fixed_tag T.content)) (T.value_plain self.now.value)) }
+        ensures implicit { self.now.tag_mode ≡ Implicit → Writes (W.out writer.old) (W.out writer.new) result (write (implicit_field CLASS self.now.tag_number.value T.fixed_tag T.content) (T.value_plain self.now.value)) }
+    {
+        encode_field(writer, CLASS, self.tag_mode, self.tag_number, &self.value)
+    }
+
+    /// The octets of header and content.
+    ///
+    /// # Errors
+    /// `Overflow` where a length passes 2^32 - 1, or `OutOfMemory`.
+    pub fn to_der(&self, alloc: Global) -> Result<Vec<u8>, Error>
+        // A valid value has an encoding, and it is the answer unless memory runs out.
+        ensures explicit { self.now.tag_mode ≡ Explicit → IsValid (explicit_field CLASS self.now.tag_number.value (tagged T.fixed_tag T.content)) (T.value_plain self.now.value)
+            → Gives (λ v. v.items) result (Ok (octets_of (explicit_field CLASS self.now.tag_number.value (tagged T.fixed_tag T.content)) (T.value_plain self.now.value))) }
+        ensures implicit { self.now.tag_mode ≡ Implicit → IsValid (implicit_field CLASS self.now.tag_number.value T.fixed_tag T.content) (T.value_plain self.now.value)
+            → Gives (λ v. v.items) result (Ok (octets_of (implicit_field CLASS self.now.tag_number.value T.fixed_tag T.content) (T.value_plain self.now.value))) }
+        // Which fault it is.
+        ensures exact_explicit { self.now.tag_mode ≡ Explicit → Gives (λ v. record { written = v.items; room = None; failed = false }) result
+            (write (explicit_field CLASS self.now.tag_number.value (tagged T.fixed_tag T.content)) (T.value_plain self.now.value) (record { written = []; room = None; failed = false })) }
+        ensures exact_implicit { self.now.tag_mode ≡ Implicit → Gives (λ v. record { written = v.items; room = None; failed = false }) result
+            (write (implicit_field CLASS self.now.tag_number.value T.fixed_tag T.content) (T.value_plain self.now.value) (record { written = []; room = None; failed = false })) }
+    {
+        der_of_field(alloc, CLASS, self.tag_mode, self.tag_number, &self.value)
+    }
+}
+
+/// Fields of one mode are compared; another mode would put another content behind the tag.
+impl<T: ValueOrd + EncodeValue + FixedTag, const CLASS: u8> ClassField<T, CLASS> {
+    /// The order of the contents of two fields of one mode, as lists of octets, whatever their
+    /// lengths.
+    ///
+    /// # Errors
+    /// `Overflow` where the content of one of the two has 2^32 octets or more.
+    pub fn value_cmp(&self, other: &ClassField<T, CLASS>) -> Result<Ordering, Error>
+        requires { self.now.tag_mode ≡ other.now.tag_mode }
+        // It is answered wherever both values have a content.
+        ensures explicit { self.now.tag_mode ≡ Explicit → is_content_apart T.content ≡ true
+            → IsContent (nested (only (tagged T.fixed_tag T.content))) (T.value_plain self.now.value) → IsContent (nested (only (tagged T.fixed_tag T.content))) (T.value_plain other.now.value)
+            → result ≡ Ok (contents_cmp (nested (only (tagged T.fixed_tag T.content))) (T.value_plain self.now.value) (T.value_plain other.now.value)) }
+        ensures implicit { self.now.tag_mode ≡ Implicit → is_content_apart T.content ≡ true → IsContent T.content (T.value_plain self.now.value) → IsContent T.content (T.value_plain other.now.value)
+            → result ≡ Ok (contents_cmp T.content (T.value_plain self.now.value) (T.value_plain other.now.value)) }
+        ensures refused_explicit { self.now.tag_mode ≡ Explicit → IfErr result (λ e. Overflows e
+            (size_content (nested (only (tagged T.fixed_tag T.content))) (T.value_plain self.now.value)) (size_content (nested (only (tagged T.fixed_tag T.content))) (T.value_plain other.now.value))) }
+        ensures refused_implicit { self.now.tag_mode ≡ Implicit → IfErr result (λ e. Overflows e (size_content T.content (T.value_plain self.now.value)) (size_content T.content (T.value_plain other.now.value))) }
+    {
+        value_cmp_of_fields(self.tag_mode, &self.value, &other.value)
+    }
+
+    /// The order of the encodings of two fields of one mode, as lists of octets: that of the tags,
+    /// then that of the lengths, then that of the contents (X.690 11.6). No memory is taken.
+    ///
+    /// # Errors
+    /// `Overflow` where the encoding of one of the two has 2^32 octets or more.
+    pub fn der_cmp(&self, other: &ClassField<T, CLASS>) -> Result<Ordering, Error>
+        requires { self.now.tag_mode ≡ other.now.tag_mode }
+        // It is answered wherever both values have an encoding.
+        ensures explicit { self.now.tag_mode ≡ Explicit → is_content_apart T.content ≡ true
+            → IsValid (explicit_field CLASS self.now.tag_number.value (tagged T.fixed_tag T.content)) (T.value_plain self.now.value)
+            → IsValid (explicit_field CLASS other.now.tag_number.value (tagged T.fixed_tag T.content)) (T.value_plain other.now.value)
+            → result ≡ Ok (octets_cmp (octets_of (explicit_field CLASS self.now.tag_number.value (tagged T.fixed_tag T.content)) (T.value_plain self.now.value))
+            (octets_of (explicit_field CLASS other.now.tag_number.value (tagged T.fixed_tag T.content)) (T.value_plain other.now.value))) }
+        ensures implicit { self.now.tag_mode ≡ Implicit → is_content_apart T.content ≡ true
+            → IsValid (implicit_field CLASS self.now.tag_number.value T.fixed_tag T.content) (T.value_plain self.now.value)
+            → IsValid (implicit_field CLASS other.now.tag_number.value T.fixed_tag T.content) (T.value_plain other.now.value)
+            → result ≡ Ok (octets_cmp (octets_of (implicit_field CLASS self.now.tag_number.value T.fixed_tag T.content) (T.value_plain self.now.value))
+            (octets_of (implicit_field CLASS other.now.tag_number.value T.fixed_tag T.content) (T.value_plain other.now.value))) }
+        ensures refused_explicit { self.now.tag_mode ≡ Explicit → IfErr result (λ e. Overflows e (size (explicit_field CLASS self.now.tag_number.value (tagged T.fixed_tag T.content)) (T.value_plain self.now.value))
+            (size (explicit_field CLASS other.now.tag_number.value (tagged T.fixed_tag T.content)) (T.value_plain other.now.value))) }
+        ensures refused_implicit { self.now.tag_mode ≡ Implicit → IfErr result (λ e. Overflows e (size (implicit_field CLASS self.now.tag_number.value T.fixed_tag T.content) (T.value_plain self.now.value))
+            (size (implicit_field CLASS other.now.tag_number.value T.fixed_tag T.content) (T.value_plain other.now.value))) }
+    {
+        der_cmp_of_fields(
+            CLASS,
+            self.tag_mode,
+            self.tag_number,
+            &self.value,
+            other.tag_number,
+            &other.value,
+        )
+    }
+}

@@ -1,0 +1,103 @@
+//! Lent values behind tags of one class.
+
+ghost use Rattle.std.specs.Prelude.{◌≡◌, [], Ok, None, false};
+ghost use Rattle.der_core_head.specs.declared.tag_mode.TagMode.TheVariants.{Explicit, Implicit};
+ghost use Rattle.der_core_head.specs.Shapes.{nested, only, tagged, IsValid, octets_of};
+ghost use Rattle.der_core_head.specs.Reading.{Gives, GivesNow};
+ghost use Rattle.der_core_head.specs.Writing.{Writes, size, size_content, write, write_content};
+ghost use Rattle.der_types_tagged.specs.Fields.{field_tag, explicit_field, implicit_field};
+
+use crate::fields::{
+    der_of_field, encode_field, encode_value_of_field, len_of_field, tag_of_field,
+    value_len_of_field,
+};
+use der_core::{EncodeValue, Error, FixedTag, Length, Tag, TagMode, TagNumber, Tagged, Writer};
+use std::alloc::Global;
+
+/// A lent value behind a tag of a class, which `CLASS` tells by its bits in the first octet of a tag
+/// (X.690 8.1.2.2): `CLASS_APPLICATION`, `CLASS_CONTEXT_SPECIFIC` or `CLASS_PRIVATE`.
+///
+/// The tag stands in front of the value's own tag or in its place (X.680 31, X.690 8.14).
+#[derive(Clone, Copy, Debug, PartialEq, Eq)]
+pub struct ClassFieldRef<'a, T, const CLASS: u8> {
+    /// The number of the tag.
+    pub tag_number: TagNumber,
+    /// Where the tag stands.
+    pub tag_mode: TagMode,
+    /// The value.
+    pub value: &'a T,
+}
+
+/// The tag of the class, in the form that its mode asks for.
+impl<'a, T: Tagged, const CLASS: u8> Tagged for ClassFieldRef<'a, T, CLASS> {
+    ghost own_tag = { λ f. field_tag CLASS f.tag_mode f.tag_number.value (T.own_tag f.value.now) };
+
+    fn tag(&self) -> Tag {
+        tag_of_field(CLASS, self.tag_mode, self.tag_number, self.value.tag())
+    }
+}
+
+impl<'a, T: EncodeValue + FixedTag, const CLASS: u8> ClassFieldRef<'a, T, CLASS> {
+    /// The number of content octets.
+    ///
+    /// # Errors
+    /// `Overflow` from 2^32 on.
+    pub fn value_len(&self) -> Result<Length, Error>
+        ensures explicit { self.now.tag_mode ≡ Explicit → GivesNow (λ l. l.value) result (size_content (nested (only (tagged T.fixed_tag T.content))) (T.value_plain self.now.value.now)) }
+        ensures implicit { self.now.tag_mode ≡ Implicit → GivesNow (λ l. l.value) result (size_content T.content (T.value_plain self.now.value.now)) }
+    {
+        value_len_of_field(self.tag_mode, self.value)
+    }
+
+    /// Writes the content.
+    ///
+    /// # Errors
+    /// `Overflow` where a length passes 2^32 - 1, and those of the writer.
+    pub fn encode_value<W: Writer>(&self, writer: &mut W) -> Result<(), Error>
+        ensures explicit { self.now.tag_mode ≡ Explicit → Writes (W.out writer.old) (W.out writer.new) result (write_content (nested (only (tagged T.fixed_tag T.content))) (T.value_plain self.now.value.now)) }
+        ensures implicit { self.now.tag_mode ≡ Implicit → Writes (W.out writer.old) (W.out writer.new) result (write_content T.content (T.value_plain self.now.value.now)) }
+    {
+        encode_value_of_field(writer, self.tag_mode, self.value)
+    }
+
+    /// The number of octets, header and content.
+    ///
+    /// # Errors
+    /// `Overflow` from 2^32 on.
+    pub fn encoded_len(&self) -> Result<Length, Error>
+        ensures explicit { self.now.tag_mode ≡ Explicit → GivesNow (λ l. l.value) result (size (explicit_field CLASS self.now.tag_number.value (tagged T.fixed_tag T.content)) (T.value_plain self.now.value.now)) }
+        ensures implicit { self.now.tag_mode ≡ Implicit → GivesNow (λ l. l.value) result (size (implicit_field CLASS self.now.tag_number.value T.fixed_tag T.content) (T.value_plain self.now.value.now)) }
+    {
+        len_of_field(CLASS, self.tag_mode, self.tag_number, self.value)
+    }
+
+    /// Writes header and content.
+    ///
+    /// # Errors
+    /// `Overflow` where a length passes 2^32 - 1, and those of the writer.
+    pub fn encode<W: Writer>(&self, writer: &mut W) -> Result<(), Error>
+        ensures explicit { self.now.tag_mode ≡ Explicit → Writes (W.out writer.old) (W.out writer.new) result (write (explicit_field CLASS self.now.tag_number.value (tagged T.fixed_tag T.content)) (T.value_plain self.now.value.now)) }
+        ensures implicit { self.now.tag_mode ≡ Implicit → Writes (W.out writer.old) (W.out writer.new) result (write (implicit_field CLASS self.now.tag_number.value T.fixed_tag T.content) (T.value_plain self.now.value.now)) }
+    {
+        encode_field(writer, CLASS, self.tag_mode, self.tag_number, self.value)
+    }
+
+    /// The octets of header and content.
+    ///
+    /// # Errors
+    /// `Overflow` where a length passes 2^32 - 1, or `OutOfMemory`.
+    pub fn to_der(&self, alloc: Global) -> Result<Vec<u8>, Error>
+        // A valid value has an encoding, and it is the answer unless memory runs out.
+        ensures explicit { self.now.tag_mode ≡ Explicit → IsValid (explicit_field CLASS self.now.tag_number.value (tagged T.fixed_tag T.content)) (T.value_plain self.now.value.now)
+            → Gives (λ v. v.items) result (Ok (octets_of (explicit_field CLASS self.now.tag_number.value (tagged T.fixed_tag T.content)) (T.value_plain self.now.value.now))) }
+        ensures implicit { self.now.tag_mode ≡ Implicit → IsValid (implicit_field CLASS self.now.tag_number.value T.fixed_tag T.content) (T.value_plain self.now.value.now)
+            → Gives (λ v. v.items) result (Ok (octets_of (implicit_field CLASS self.now.tag_number.value T.fixed_tag T.content) (T.value_plain self.now.value.now))) }
+        // Which fault it is.
+        ensures exact_explicit { self.now.tag_mode ≡ Explicit → Gives (λ v. record { written = v.items; room = None; failed = false }) result
+            (write (explicit_field CLASS self.now.tag_number.value (tagged T.fixed_tag T.content)) (T.value_plain self.now.value.now) (record { written = []; room = None; failed = false })) }
+        ensures exact_implicit { self.now.tag_mode ≡ Implicit → Gives (λ v. record { written = v.items; room = None; failed = false }) result
+            (write (implicit_field CLASS self.now.tag_number.value T.fixed_tag T.content) (T.value_plain self.now.value.now) (record { written = []; room = None; failed = false })) }
+    {
+        der_of_field(alloc, CLASS, self.tag_mode, self.tag_number, self.value)
+    }
+}

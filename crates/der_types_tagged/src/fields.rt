@@ -1,0 +1,190 @@
+//! Fields behind tags of a class and a number, by their mode.
+
+ghost use Rattle.std.specs.Prelude.{◌≡◌, ◌/◌, [], Ok, None, false, true, IfErr};
+ghost use Rattle.der_core_head.specs.declared.tag_mode.TagMode.TheVariants.{Explicit, Implicit};
+ghost use Rattle.der_core_head.specs.Tags.{class_tag};
+ghost use Rattle.der_core_head.specs.Shapes.{nested, only, tagged, IsContent, IsValid, octets_of};
+ghost use Rattle.der_core_head.specs.Spelling.{is_content_apart};
+ghost use Rattle.der_core_head.specs.Reading.{Gives, GivesNow};
+ghost use Rattle.der_core_head.specs.Writing.{Writes, size, size_content, write, write_content};
+ghost use Rattle.der_core_order.specs.Orders.{contents_cmp, octets_cmp, Overflows};
+ghost use Rattle.der_types_tagged.specs.Fields.{field_tag, explicit_field, implicit_field};
+
+use crate::behind::{Whole, cmp_behind, der_behind, encode_behind, len_behind};
+use der_core::{
+    Encode, EncodeValue, Error, FixedTag, Length, Tag, TagMode, TagNumber, Writer, is_constructed,
+};
+use der_core_order::ValueOrd;
+use std::alloc::Global;
+use std::cmp::Ordering;
+
+/// The tag of a class, which is told by its bits.
+pub fn tag_of_class(class: u8, constructed: bool, number: TagNumber) -> Tag
+    ensures { result ≡ class_tag (class / 64) constructed number.value }
+{
+    match class / 64 {
+        1 => Tag::Application {
+            constructed,
+            number,
+        },
+        2 => Tag::ContextSpecific {
+            constructed,
+            number,
+        },
+        _ => Tag::Private {
+            constructed,
+            number,
+        },
+    }
+}
+
+/// The tag of a field with a value of that tag.
+pub fn tag_of_field(class: u8, mode: TagMode, number: TagNumber, own: Tag) -> Tag
+    ensures { result ≡ field_tag class mode number.value own }
+{
+    match mode {
+        TagMode::Explicit => tag_of_class(class, true, number),
+        TagMode::Implicit => tag_of_class(class, is_constructed(own), number),
+    }
+}
+
+/// The number of content octets.
+pub fn value_len_of_field<T: EncodeValue + FixedTag>(
+    mode: TagMode,
+    value: &T,
+) -> Result<Length, Error>
+    ensures explicit { mode ≡ Explicit → GivesNow (λ l. l.value) result (size_content (nested (only (tagged T.fixed_tag T.content))) (T.value_plain value.now)) }
+    ensures implicit { mode ≡ Implicit → GivesNow (λ l. l.value) result (size_content T.content (T.value_plain value.now)) }
+{
+    match mode {
+        TagMode::Explicit => value.encoded_len(),
+        TagMode::Implicit => value.value_len(),
+    }
+}
+
+/// Writes the content.
+pub fn encode_value_of_field<W: Writer, T: EncodeValue + FixedTag>(
+    writer: &mut W,
+    mode: TagMode,
+    value: &T,
+) -> Result<(), Error>
+    ensures explicit { mode ≡ Explicit → Writes (W.out writer.old) (W.out writer.new) result (write_content (nested (only (tagged T.fixed_tag T.content))) (T.value_plain value.now)) }
+    ensures implicit { mode ≡ Implicit → Writes (W.out writer.old) (W.out writer.new) result (write_content T.content (T.value_plain value.now)) }
+{
+    match mode {
+        TagMode::Explicit => value.encode(writer),
+        TagMode::Implicit => value.encode_value(writer),
+    }
+}
+
+/// The number of octets.
+pub fn len_of_field<T: EncodeValue + FixedTag>(
+    class: u8,
+    mode: TagMode,
+    number: TagNumber,
+    value: &T,
+) -> Result<Length, Error>
+    ensures explicit { mode ≡ Explicit → GivesNow (λ l. l.value) result (size (explicit_field class number.value (tagged T.fixed_tag T.content)) (T.value_plain value.now)) }
+    ensures implicit { mode ≡ Implicit → GivesNow (λ l. l.value) result (size (implicit_field class number.value T.fixed_tag T.content) (T.value_plain value.now)) }
+{
+    let tag = tag_of_field(class, mode, number, T::tag());
+    match mode {
+        TagMode::Explicit => len_behind(tag, &Whole(value)),
+        TagMode::Implicit => len_behind(tag, value),
+    }
+}
+
+/// Writes a field.
+pub fn encode_field<W: Writer, T: EncodeValue + FixedTag>(
+    writer: &mut W,
+    class: u8,
+    mode: TagMode,
+    number: TagNumber,
+    value: &T,
+) -> Result<(), Error>
+    ensures explicit { mode ≡ Explicit → Writes (W.out writer.old) (W.out writer.new) result (write (explicit_field class number.value (tagged T.fixed_tag T.content)) (T.value_plain value.now)) }
+    ensures implicit { mode ≡ Implicit → Writes (W.out writer.old) (W.out writer.new) result (write (implicit_field class number.value T.fixed_tag T.content) (T.value_plain value.now)) }
+{
+    let tag = tag_of_field(class, mode, number, T::tag());
+    match mode {
+        TagMode::Explicit => encode_behind(writer, tag, &Whole(value)),
+        TagMode::Implicit => encode_behind(writer, tag, value),
+    }
+}
+
+/// The octets of a field.
+pub fn der_of_field<T: EncodeValue + FixedTag>(
+    alloc: Global,
+    class: u8,
+    mode: TagMode,
+    number: TagNumber,
+    value: &T,
+) -> Result<Vec<u8>, Error>
+    ensures explicit { mode ≡ Explicit → IsValid (explicit_field class number.value (tagged T.fixed_tag T.content)) (T.value_plain value.now)
+        → Gives (λ v. v.items) result (Ok (octets_of (explicit_field class number.value (tagged T.fixed_tag T.content)) (T.value_plain value.now))) }
+    ensures implicit { mode ≡ Implicit → IsValid (implicit_field class number.value T.fixed_tag T.content) (T.value_plain value.now)
+        → Gives (λ v. v.items) result (Ok (octets_of (implicit_field class number.value T.fixed_tag T.content) (T.value_plain value.now))) }
+    ensures exact_explicit { mode ≡ Explicit → Gives (λ v. record { written = v.items; room = None; failed = false }) result
+        (write (explicit_field class number.value (tagged T.fixed_tag T.content)) (T.value_plain value.now) (record { written = []; room = None; failed = false })) }
+    ensures exact_implicit { mode ≡ Implicit → Gives (λ v. record { written = v.items; room = None; failed = false }) result
+        (write (implicit_field class number.value T.fixed_tag T.content) (T.value_plain value.now) (record { written = []; room = None; failed = false })) }
+{
+    let tag = tag_of_field(class, mode, number, T::tag());
+    match mode {
+        TagMode::Explicit => der_behind(alloc, tag, &Whole(value)),
+        TagMode::Implicit => der_behind(alloc, tag, value),
+    }
+}
+
+/// The order of the contents of two fields of one mode.
+pub fn value_cmp_of_fields<T: ValueOrd + EncodeValue + FixedTag>(
+    mode: TagMode,
+    value: &T,
+    other: &T,
+) -> Result<Ordering, Error>
+    ensures explicit { mode ≡ Explicit → is_content_apart T.content ≡ true
+        → IsContent (nested (only (tagged T.fixed_tag T.content))) (T.value_plain value.now) → IsContent (nested (only (tagged T.fixed_tag T.content))) (T.value_plain other.now)
+        → result ≡ Ok (contents_cmp (nested (only (tagged T.fixed_tag T.content))) (T.value_plain value.now) (T.value_plain other.now)) }
+    ensures implicit { mode ≡ Implicit → is_content_apart T.content ≡ true → IsContent T.content (T.value_plain value.now) → IsContent T.content (T.value_plain other.now)
+        → result ≡ Ok (contents_cmp T.content (T.value_plain value.now) (T.value_plain other.now)) }
+    ensures refused_explicit { mode ≡ Explicit → IfErr result (λ e. Overflows e
+        (size_content (nested (only (tagged T.fixed_tag T.content))) (T.value_plain value.now)) (size_content (nested (only (tagged T.fixed_tag T.content))) (T.value_plain other.now))) }
+    ensures refused_implicit { mode ≡ Implicit → IfErr result (λ e. Overflows e (size_content T.content (T.value_plain value.now)) (size_content T.content (T.value_plain other.now))) }
+{
+    match mode {
+        TagMode::Explicit => Whole(value).value_cmp(&Whole(other)),
+        TagMode::Implicit => value.value_cmp(other),
+    }
+}
+
+/// The order of two fields of one class and mode.
+pub fn der_cmp_of_fields<T: ValueOrd + EncodeValue + FixedTag>(
+    class: u8,
+    mode: TagMode,
+    number: TagNumber,
+    value: &T,
+    other_number: TagNumber,
+    other: &T,
+) -> Result<Ordering, Error>
+    ensures explicit { mode ≡ Explicit → is_content_apart T.content ≡ true
+        → IsValid (explicit_field class number.value (tagged T.fixed_tag T.content)) (T.value_plain value.now)
+        → IsValid (explicit_field class other_number.value (tagged T.fixed_tag T.content)) (T.value_plain other.now)
+        → result ≡ Ok (octets_cmp (octets_of (explicit_field class number.value (tagged T.fixed_tag T.content)) (T.value_plain value.now))
+        (octets_of (explicit_field class other_number.value (tagged T.fixed_tag T.content)) (T.value_plain other.now))) }
+    ensures implicit { mode ≡ Implicit → is_content_apart T.content ≡ true
+        → IsValid (implicit_field class number.value T.fixed_tag T.content) (T.value_plain value.now)
+        → IsValid (implicit_field class other_number.value T.fixed_tag T.content) (T.value_plain other.now)
+        → result ≡ Ok (octets_cmp (octets_of (implicit_field class number.value T.fixed_tag T.content) (T.value_plain value.now))
+        (octets_of (implicit_field class other_number.value T.fixed_tag T.content) (T.value_plain other.now))) }
+    ensures refused_explicit { mode ≡ Explicit → IfErr result (λ e. Overflows e (size (explicit_field class number.value (tagged T.fixed_tag T.content)) (T.value_plain value.now))
+        (size (explicit_field class other_number.value (tagged T.fixed_tag T.content)) (T.value_plain other.now))) }
+    ensures refused_implicit { mode ≡ Implicit → IfErr result (λ e. Overflows e (size (implicit_field class number.value T.fixed_tag T.content) (T.value_plain value.now))
+        (size (implicit_field class other_number.value T.fixed_tag T.content) (T.value_plain other.now))) }
+{
+    let tag = tag_of_field(class, mode, number, T::tag());
+    let other_tag = tag_of_field(class, mode, other_number, T::tag());
+    match mode {
+        TagMode::Explicit => cmp_behind(tag, &Whole(value), other_tag, &Whole(other)),
+        TagMode::Implicit => cmp_behind(tag, value, other_tag, other),
+    }
+}

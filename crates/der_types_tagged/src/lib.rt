@@ -1,0 +1,19 @@
+//! Values behind tags of the application, context-specific and private classes (X.690 8.14).
+#![tactic(auto)]
+
+mod application;
+mod behind;
+mod class_field;
+mod class_field_ref;
+mod context_specific;
+mod fields;
+pub mod laws;
+mod private;
+#[cfg(test)]
+mod tests;
+
+pub use application::{Application, ApplicationRef};
+pub use class_field::ClassField;
+pub use class_field_ref::ClassFieldRef;
+pub use context_specific::{ContextSpecific, ContextSpecificRef};
+pub use private::{Private, PrivateRef};
