@@ -11,7 +11,7 @@ cp -a "$top/crates" "$top/crates.txt" "$work/"
 mkdir -p "$work"/crates/header_walk/{src,specs,proofs}
 touch "$work"/crates/header_walk/{specs,proofs}/Lib.antt
 cp "$top/bench/headers/main.rt.txt" "$work/crates/header_walk/src/main.rt"
-echo 'header_walk: der_core der_core_head const_oid const_oid_identifiers' >>"$work/crates.txt"
+echo 'header_walk: der_core der_core_order der_core_writing der_core_reading der_core_wrappers der_core_values der_core_output der_core_input der_core_headers der_core_head const_oid const_oid_identifiers' >>"$work/crates.txt"
 git -C "$work" init -q
 
 file=${1:-$work/many.der}
