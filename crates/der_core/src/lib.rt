@@ -7,20 +7,20 @@ pub mod laws;
 mod tests;
 
 pub use der_core_head::{
-    BytesOwned, BytesRef, CLASS_APPLICATION, CLASS_CONTEXT_SPECIFIC, CLASS_PRIVATE,
-    CLASS_UNIVERSAL, Class, EncodingRules, Error, ErrorKind, Header, Length, Result, StringOwned,
-    StringRef, Tag, TagMode, TagNumber, header_len, is_constructed, is_same_tag, leading_octet_of,
-    number_of,
+    CLASS_APPLICATION, CLASS_CONTEXT_SPECIFIC, CLASS_PRIVATE, CLASS_UNIVERSAL, Class,
+    EncodingRules, Error, ErrorKind, Header, Length, Result, Tag, TagMode, TagNumber, header_len,
+    is_constructed, is_same_tag, leading_octet_of, number_of,
 };
 pub use der_core_headers::{
     header_ber_of, header_of, indefinite_length_of, integer_octets_of, length_of, signed_of,
     tag_ber_of, tag_of, unsigned_of,
 };
 pub use der_core_input::{Reader, peek_matches};
+pub use der_core_octets::{BytesOwned, BytesRef, StringOwned, StringRef};
 pub use der_core_order::{
     Alternatives, DerOrd, FieldsOrd, FirstTag, OrdIsValueOrd, ValueOrd, der_cmp_by_ord,
     elements_cmp, header_cmp, iter_cmp, iter_cmp_owned, length_cmp, tag_cmp, value_cmp_behind,
-    value_cmp_by_contents, value_cmp_by_ord,
+    value_cmp_by_contents, value_cmp_by_ord, value_cmp_is_ord,
 };
 pub use der_core_output::{Writer, encode_header, slice_len, sum_len};
 pub use der_core_reading::{SliceReader, from_ber, from_der, from_der_partial, reading};

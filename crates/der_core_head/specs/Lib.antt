@@ -2,7 +2,6 @@ pub mod Octets
 pub mod Tags
 pub mod Classes
 pub mod ModeNames
-pub mod Held
 pub mod Heads
 pub mod Integers
 pub mod BitStrings

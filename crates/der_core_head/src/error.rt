@@ -32,6 +32,8 @@ pub enum ErrorKind {
     Noncanonical { tag: Tag },
     /// An object identifier that is none.
     OidMalformed,
+    /// An object identifier to which the caller's protocol gives no meaning. No call of these crates answers it.
+    OidUnknown,
     /// Want of memory.
     OutOfMemory,
     /// A sum past the greatest length, or a difference below zero.
@@ -204,6 +206,7 @@ impl fmt::Display for ErrorKind {
                 return write!(f, "{tag} is not in the form that DER allows");
             }
             ErrorKind::OidMalformed => "malformed object identifier",
+            ErrorKind::OidUnknown => "unknown object identifier",
             ErrorKind::OutOfMemory => "out of memory",
             ErrorKind::Overflow => "a length passes 32 bits or falls below zero",
             ErrorKind::Overlength => "a length has too many octets",

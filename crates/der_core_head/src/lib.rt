@@ -2,29 +2,21 @@
 //! definitions and laws on which reading and writing of DER rest.
 #![tactic(auto)]
 
-mod bytes_owned;
-mod bytes_ref;
 mod class;
 mod encoding_rules;
 mod error;
 mod header;
 pub mod laws;
 mod length;
-mod string_owned;
-mod string_ref;
 mod tag;
 mod tag_mode;
 mod tag_number;
 
-pub use bytes_owned::BytesOwned;
-pub use bytes_ref::BytesRef;
 pub use class::{CLASS_APPLICATION, CLASS_CONTEXT_SPECIFIC, CLASS_PRIVATE, CLASS_UNIVERSAL, Class};
 pub use encoding_rules::EncodingRules;
 pub use error::{Error, ErrorKind, Result};
 pub use header::Header;
 pub use length::{Length, header_len};
-pub use string_owned::StringOwned;
-pub use string_ref::StringRef;
 pub use tag::{Tag, is_constructed, is_same_tag, leading_octet_of, number_of};
 pub use tag_mode::TagMode;
 pub use tag_number::TagNumber;

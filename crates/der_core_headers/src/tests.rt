@@ -1,9 +1,8 @@
-//! Lengths, tags, classes, modes, rules, errors, octets and texts as data.
+//! Lengths, tags, classes, modes, rules and errors as data.
 
 use der_core_head::{
-    BytesOwned, BytesRef, CLASS_APPLICATION, CLASS_CONTEXT_SPECIFIC, CLASS_PRIVATE,
-    CLASS_UNIVERSAL, Class, EncodingRules, Error, ErrorKind, Header, Length, StringOwned,
-    StringRef, Tag, TagMode, TagNumber,
+    CLASS_APPLICATION, CLASS_CONTEXT_SPECIFIC, CLASS_PRIVATE, CLASS_UNIVERSAL, Class,
+    EncodingRules, Error, ErrorKind, Header, Length, Tag, TagMode, TagNumber,
 };
 use std::alloc::Global;
 use std::fmt::Display;
@@ -163,32 +162,5 @@ fn errors(rt: HostRuntime) -> Result<(), Fail> {
         assert_eq!(rt; kind_of(error), ErrorKind::Overflow);
     }
     assert_eq!(rt; kind_of(const_oid::Error::Base128), ErrorKind::OidMalformed);
-    Ok(())
-}
-
-#[test]
-fn held(rt: HostRuntime) -> Result<(), Fail> {
-    let alloc = rt.alloc();
-    let bytes = BytesRef::new(b"abc").expect(&rt, "few octets");
-    assert_eq!(rt; bytes.len(), Length::new(3));
-    let front = bytes.prefix(Length::new(2)).expect(&rt, "two of them");
-    assert_eq!(rt; front.as_slice(), b"ab".as_slice());
-    assert_eq!(rt;
-        bytes.prefix(Length::new(4)).map_err(|e| e.position),
-        Err(Some(Length::new(3)))
-    );
-    assert!(rt; BytesRef::empty().is_empty());
-    let text = StringRef::from_bytes(b"\xc3\xa9").expect(&rt, "a letter");
-    assert!(rt; text.as_str() == "\u{e9}" && !text.is_empty());
-    assert_eq!(rt; text.len(), Length::new(2));
-    assert_eq!(rt;
-        StringRef::from_bytes(b"\xc3").map_err(|e| e.kind),
-        Err(ErrorKind::Utf8)
-    );
-    let owned = StringOwned::from_bytes(alloc, text.as_bytes())?;
-    assert!(rt; owned.as_str() == text.as_str() && owned.len() == text.len());
-    let owned = BytesOwned::new(bytes.as_slice().to_vec(alloc)?)?;
-    assert_eq!(rt; owned.as_slice(), b"abc".as_slice());
-    assert!(rt; !owned.is_empty() && owned.len() == bytes.len());
     Ok(())
 }

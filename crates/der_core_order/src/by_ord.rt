@@ -1,11 +1,13 @@
 //! Types whose own order is that of their contents.
 
-ghost use Rattle.std.specs.Prelude.{◌≡◌, length, true, Ok, IfErr};
+ghost use Rattle.std.specs.Prelude.{◌≡◌, length, true, Ok, IsOk, IfOk, IfErr};
 ghost use Rattle.der_core_head.specs.Shapes.{tagged, IsContent, IsValid, contents};
-ghost use Rattle.der_core_head.specs.Writing.{size};
+ghost use Rattle.der_core_head.specs.Spelling.{is_content_apart};
+ghost use Rattle.der_core_head.specs.Writing.{size, size_content};
 ghost use Rattle.der_core_order.specs.Orders.{contents_cmp, encodings_cmp, Overflows};
 
 use crate::headers::length_cmp;
+use crate::order::ValueOrd;
 use const_oid::ObjectIdentifier;
 use der_core_head::Error;
 use der_core_values::{EncodeValue, FixedTag, ShapedValue};
@@ -23,11 +25,28 @@ pub trait OrdIsValueOrd: ShapedValue + Ord {
 
 /// The order of the contents of two values, by their `Ord`, where they have the same length.
 pub fn value_cmp_by_ord<T: OrdIsValueOrd>(a: &T, b: &T) -> Ordering
-    ensures { IsContent T.content (T.value_plain a.now) → IsContent T.content (T.value_plain b.now)
+    // It is that of their `Ord` whatever the lengths are.
+    ensures ord { result ≡ T.cmp a.now b.now }
+    ensures order { IsContent T.content (T.value_plain a.now) → IsContent T.content (T.value_plain b.now)
         → length (contents T.content (T.value_plain a.now)) ≡ length (contents T.content (T.value_plain b.now))
         → result ≡ contents_cmp T.content (T.value_plain a.now) (T.value_plain b.now) }
 {
     a.cmp(b)
+}
+
+/// What `value_cmp` answers, which is the `Ord` of the two values where their contents have the same
+/// length.
+///
+/// # Errors
+/// `Overflow` where the content of one of the two has 2^32 octets or more.
+pub fn value_cmp_is_ord<T: ValueOrd + OrdIsValueOrd>(a: &T, b: &T) -> Result<Ordering, Error>
+    ensures order { is_content_apart T.content ≡ true → IsContent T.content (T.value_plain a.now) → IsContent T.content (T.value_plain b.now)
+        → length (contents T.content (T.value_plain a.now)) ≡ length (contents T.content (T.value_plain b.now))
+        → result ≡ Ok (T.cmp a.now b.now) }
+    ensures refused { IfErr result (λ e. Overflows e (size_content T.content (T.value_plain a.now)) (size_content T.content (T.value_plain b.now))) }
+{
+    let order = a.value_cmp(b)?;
+    Ok(order)
 }
 
 /// The order of the encodings of two values: that of their lengths, and then by their `Ord`.
@@ -40,6 +59,8 @@ pub fn der_cmp_by_ord<T: OrdIsValueOrd + EncodeValue + FixedTag>(
 ) -> Result<Ordering, Error>
     ensures order { IsValid (tagged T.fixed_tag T.content) (T.value_plain a.now) → IsValid (tagged T.fixed_tag T.content) (T.value_plain b.now)
         → result ≡ Ok (encodings_cmp (tagged T.fixed_tag T.content) (T.value_plain a.now) (T.value_plain b.now)) }
+    // It isn't answered where a content has no length.
+    ensures answered { IfOk result (λ _. IsOk (size_content T.content (T.value_plain a.now)) × IsOk (size_content T.content (T.value_plain b.now))) }
     ensures refused { IfErr result (λ e. Overflows e (size (tagged T.fixed_tag T.content) (T.value_plain a.now)) (size (tagged T.fixed_tag T.content) (T.value_plain b.now))) }
 {
     let len = a.value_len()?;

@@ -6,8 +6,9 @@ ghost use Rattle.der_core_order.specs.Orders.{octets_cmp};
 
 use crate::order::ValueOrd;
 use const_oid::ObjectIdentifier;
-use der_core_head::{BytesOwned, BytesRef, Error, StringOwned, StringRef};
+use der_core_head::Error;
 use der_core_headers::integer_octets_of;
+use der_core_octets::{BytesOwned, BytesRef, StringOwned, StringRef};
 use der_core_values::Integer;
 use std::cmp::Ordering;
 

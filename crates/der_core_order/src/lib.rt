@@ -17,7 +17,7 @@ mod owned_iterators;
 mod tests;
 mod wrappers;
 
-pub use by_ord::{OrdIsValueOrd, der_cmp_by_ord, value_cmp_by_ord};
+pub use by_ord::{OrdIsValueOrd, der_cmp_by_ord, value_cmp_by_ord, value_cmp_is_ord};
 pub use choices::Alternatives;
 pub use contents::{value_cmp_behind, value_cmp_by_contents};
 pub use fields::FieldsOrd;

@@ -4,7 +4,8 @@ mod record;
 
 use crate::*;
 use const_oid::ObjectIdentifier;
-use der_core_head::{BytesOwned, BytesRef, Header, Length, StringOwned, StringRef, Tag, TagNumber};
+use der_core_head::{Header, Length, Tag, TagNumber};
+use der_core_octets::{BytesOwned, BytesRef, StringOwned, StringRef};
 use der_core_wrappers::{Explicit, Implicit, SetOf, WithDefault};
 use der_core_writing::EncodeValueRef;
 use record::Record;
@@ -216,6 +217,7 @@ fn held_contents(rt: HostRuntime) -> Result<(), Fail> {
     // `0C 01 62` and `0C 02 61 61`.
     assert_eq!(rt; der_cmp_by_ord(&"b", &"aa")?, Ordering::Less);
     assert_eq!(rt; value_cmp_by_ord(&"b", &"a"), Ordering::Greater);
+    assert_eq!(rt; value_cmp_is_ord(&"a", &"b")?, Ordering::Less);
     let (low, high) = (String::from_str(alloc, "a")?, String::from_str(alloc, "b")?);
     assert_eq!(rt; der_cmp_by_ord(&low, &high)?, Ordering::Less);
     Ok(())

@@ -2,7 +2,7 @@
 
 ghost use Rattle.std.specs.Prelude.{◌≡◌};
 ghost use Rattle.der_core_head.specs.Grammar.{value_at, read_content};
-ghost use Rattle.der_core_head.specs.Held.{held_octets};
+ghost use Rattle.der_core_octets.specs.Held.{held_octets};
 ghost use Rattle.der_core_head.specs.Leaves.{octets};
 ghost use Rattle.der_core_head.specs.Reading.{Reads};
 ghost use Rattle.der_core_head.specs.Shapes.{leaf};
@@ -10,8 +10,9 @@ ghost use Rattle.der_core_head.specs.Shapes.{leaf};
 use crate::decode::{DecodeValue, ShapedValue};
 use crate::encode::EncodeValue;
 use crate::leaves::{Leaf, decode_leaf};
-use der_core_head::{BytesOwned, BytesRef, Error, Header, Length, Tag};
+use der_core_head::{Error, Header, Length, Tag};
 use der_core_input::Reader;
+use der_core_octets::{BytesOwned, BytesRef};
 use der_core_output::Writer;
 use std::alloc::Global;
 

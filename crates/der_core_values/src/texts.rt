@@ -3,15 +3,16 @@
 ghost use Rattle.std.specs.Prelude.{◌≡◌};
 ghost use Rattle.std.specs.String.{string_bytes};
 ghost use Rattle.der_core_head.specs.declared.tag.Tag.TheVariants.{Utf8String};
-ghost use Rattle.der_core_head.specs.Held.{held_text};
+ghost use Rattle.der_core_octets.specs.Held.{held_text};
 ghost use Rattle.der_core_head.specs.Shapes.{leaf};
 ghost use Rattle.der_core_head.specs.Leaves.{utf8};
 
 use crate::decode::{DecodeValue, FixedTag, ShapedValue};
 use crate::encode::EncodeValue;
 use crate::leaves::{Leaf, decode_leaf};
-use der_core_head::{Error, Header, Length, StringOwned, StringRef, Tag};
+use der_core_head::{Error, Header, Length, Tag};
 use der_core_input::Reader;
+use der_core_octets::{StringOwned, StringRef};
 use der_core_output::{Writer, slice_len};
 use std::alloc::Global;
 use std::str;

@@ -1,4 +1,4 @@
-use Rattle.std.proofs.Common.{rules, ◌≡◌, true, Ok, ap, sym, ◌∙◌}
+use Rattle.std.proofs.Common.{rules, ◌≡◌, true, Ok, ap, sym, refl, ◌∙◌}
 use Rattle.der_core_order.proofs.TagOrders.{tagged_content, never_long, first_long, second_long, lengths_decide, contents_decide, equal_lengths}
 use Rattle.der_core_order.proofs.by_ord.der_cmp_by_ord.Goals as goal
 
@@ -34,5 +34,11 @@ returns-clause-order g c = λ p q.
     let w = g.T.ShapedValue.value_plain c.args.b.now in
     let same = sym c.is_ne.ensures ∙ c.if-is_ne.false in
     ap (λ o. Ok o)
-    (c.value_cmp_by_ord.ensures (tagged_content t k v p) (tagged_content t k w q) (equal_lengths t k v w _ _ _ p q c.in_ok-len.ensures c.in_ok-other_len.ensures c.length_cmp-lengths.ensures same)
+    (c.value_cmp_by_ord.ensures.order (tagged_content t k v p) (tagged_content t k w q) (equal_lengths t k v w _ _ _ p q c.in_ok-len.ensures c.in_ok-other_len.ensures c.length_cmp-lengths.ensures same)
     ∙ contents_decide t k v w _ _ _ p q c.in_ok-len.ensures c.in_ok-other_len.ensures c.length_cmp-lengths.ensures same)
+
+pub returns-then-is_ne-clause-answered : goal.returns-then-is_ne-clause-answered
+returns-then-is_ne-clause-answered g c = rw (c.in_ok-len.ensures, c.in_ok-other_len.ensures) (refl, refl)
+
+pub returns-clause-answered : goal.returns-clause-answered
+returns-clause-answered g c = rw (c.in_ok-len.ensures, c.in_ok-other_len.ensures) (refl, refl)

@@ -6,9 +6,8 @@ ghost use Rattle.std.specs.Str.{is_utf8};
 ghost use Rattle.der_core_head.specs.Lengths.{counted, counted_text};
 ghost use Rattle.der_core_head.specs.Reading.{Gives, GivesNow};
 
-use crate::error::{Error, ErrorKind};
-use crate::length::Length;
 use crate::string_ref::StringRef;
+use der_core_head::{Error, ErrorKind, Length};
 use std::alloc::Global;
 use std::convert::AsStr;
 use std::marker::Model;
@@ -68,7 +67,7 @@ impl StringOwned {
     }
 
     /// Its octets.
-    #[tactic(auto, using(crate::proofs::Utf8Reads::utf8_reads))]
+    #[tactic(auto, using(der_core_head::proofs::Utf8Reads::utf8_reads))]
     pub fn as_bytes(&self) -> &[u8]
         ensures octets { result.now ≡ self.now }
         ensures utf8 { is_utf8 result.now ≡ true }

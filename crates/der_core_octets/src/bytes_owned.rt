@@ -4,8 +4,7 @@ ghost use Rattle.std.specs.Prelude.{◌≡◌, ◌↔◌, ◌<◌, ◌^◌, [], 
 ghost use Rattle.der_core_head.specs.Lengths.{counted};
 ghost use Rattle.der_core_head.specs.Reading.{GivesNow};
 
-use crate::error::{Error, ErrorKind};
-use crate::length::Length;
+use der_core_head::{Error, ErrorKind, Length};
 use std::convert::AsSlice;
 use std::marker::Model;
 

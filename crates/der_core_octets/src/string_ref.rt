@@ -4,8 +4,7 @@ ghost use Rattle.std.specs.Prelude.{◌≡◌, ◌↔◌, ◌<◌, ◌^◌, [], 
 ghost use Rattle.std.specs.Str.{is_utf8};
 ghost use Rattle.der_core_head.specs.Lengths.{counted, counted_text};
 
-use crate::error::{Error, ErrorKind};
-use crate::length::Length;
+use der_core_head::{Error, ErrorKind, Length};
 use std::convert::AsStr;
 use std::str;
 
@@ -17,7 +16,7 @@ pub struct StringRef<'a> {
 }
 
 impl<'a> StringRef<'a> {
-    ghost use Rattle.der_core_head.specs.Held.{held_text};
+    ghost use Rattle.der_core_octets.specs.Held.{held_text};
     ghost use Rattle.der_core_head.specs.Reading.{GivesNow};
 
     /// This text.
@@ -37,7 +36,7 @@ impl<'a> StringRef<'a> {
     ///
     /// # Errors
     /// `Utf8` where they are no UTF-8, then `Overflow` for 2^32 octets or more.
-    #[tactic(auto, using(crate::proofs::Utf8Reads::utf8_reads))]
+    #[tactic(auto, using(der_core_head::proofs::Utf8Reads::utf8_reads))]
     pub fn from_bytes(bytes: &'a [u8]) -> Result<StringRef<'a>, Error>
         ensures { GivesNow held_text result (counted_text bytes.now) }
     {
@@ -54,7 +53,7 @@ impl<'a> StringRef<'a> {
     }
 
     /// Its octets.
-    #[tactic(auto, using(crate::proofs::Utf8Reads::utf8_reads))]
+    #[tactic(auto, using(der_core_head::proofs::Utf8Reads::utf8_reads))]
     pub fn as_bytes(&self) -> &'a [u8]
         ensures octets { result.now ≡ held_text self.now }
         ensures utf8 { is_utf8 result.now ≡ true }
@@ -81,7 +80,7 @@ impl<'a> StringRef<'a> {
 }
 
 impl AsStr for StringRef<'_> {
-    ghost use Rattle.der_core_head.specs.Held.{held_text};
+    ghost use Rattle.der_core_octets.specs.Held.{held_text};
 
     ghost text = { held_text };
 

@@ -1,7 +1,7 @@
 -- What borrowed octets and borrowed text hold.
 use Rattle.std.specs.Prelude.{ℕ, List}
-use Rattle.der_core_head.specs.declared.bytes_ref.BytesRef.{BytesRef}
-use Rattle.der_core_head.specs.declared.string_ref.StringRef.{StringRef}
+use Rattle.der_core_octets.specs.declared.bytes_ref.BytesRef.{BytesRef}
+use Rattle.der_core_octets.specs.declared.string_ref.StringRef.{StringRef}
 
 -- the octets
 abbrev pub held_octets : BytesRef → List ℕ

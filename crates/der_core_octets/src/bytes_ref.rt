@@ -3,8 +3,7 @@
 ghost use Rattle.std.specs.Prelude.{◌≡◌, ◌↔◌, ◌<◌, ◌≤◌, ◌^◌, [], length, take, IsTrue, IfOk, IfErr};
 ghost use Rattle.der_core_head.specs.Lengths.{counted};
 
-use crate::error::{Error, ErrorKind};
-use crate::length::Length;
+use der_core_head::{Error, ErrorKind, Length};
 use std::convert::AsSlice;
 
 /// Borrowed octets, at most `Length::MAX` of them.
@@ -15,7 +14,7 @@ pub struct BytesRef<'a> {
 }
 
 impl<'a> BytesRef<'a> {
-    ghost use Rattle.der_core_head.specs.Held.{held_octets};
+    ghost use Rattle.der_core_octets.specs.Held.{held_octets};
     ghost use Rattle.der_core_head.specs.Reading.{GivesNow};
 
     /// No octets.
@@ -82,7 +81,7 @@ impl<'a> BytesRef<'a> {
 }
 
 impl AsSlice<u8> for BytesRef<'_> {
-    ghost use Rattle.der_core_head.specs.Held.{held_octets};
+    ghost use Rattle.der_core_octets.specs.Held.{held_octets};
 
     ghost items = { held_octets };
 
@@ -93,7 +92,7 @@ impl AsSlice<u8> for BytesRef<'_> {
 
 /// From 2^32 octets on it is `Overflow`.
 impl<'a> TryFrom<&'a [u8]> for BytesRef<'a> {
-    ghost use Rattle.der_core_head.specs.Held.{held_octets};
+    ghost use Rattle.der_core_octets.specs.Held.{held_octets};
     ghost use Rattle.der_core_head.specs.Reading.{GivesNow};
     ghost use Rattle.der_core_head.specs.Lengths.{counted};
 
