@@ -1,80 +1,87 @@
-// Walks all headers of a file of joined certificates, so many times, with the checks of DER:
-// tags and lengths in their shortest form, no indefinite length, no octet past the end.
-#include <stdbool.h>
+// Walks all headers of a file of joined certificates, so many times, with the checks of DER: tags and
+// lengths in their shortest form, no indefinite length, no octet past the end. A refusal names its kind.
 #include <stddef.h>
 #include <stdint.h>
 #include <stdio.h>
 #include <stdlib.h>
 
+enum fault { NONE, INCOMPLETE, TAG_UNKNOWN, TAG_NUMBER_INVALID, INDEFINITE_LENGTH, OVERLENGTH, LENGTH };
+
 struct reader { const uint8_t *bytes; size_t position, end; };
 struct header { uint8_t first; uint32_t number; uint32_t length; };
 
-// the universal tags that are read, by their octet
-static bool is_universal_read(uint8_t o) {
-    switch (o) {
-    case 1: case 2: case 3: case 4: case 5: case 6: case 9: case 10: case 12: case 13: case 18:
-    case 19: case 20: case 21: case 22: case 23: case 24: case 26: case 27: case 30: case 48: case 49:
-        return true;
-    default:
-        return false;
-    }
-}
+// the universal tags that are read, a bit for the octet of each
+static const uint64_t universal_read =
+    1ull << 1 | 1ull << 2 | 1ull << 3 | 1ull << 4 | 1ull << 5 | 1ull << 6 | 1ull << 9 | 1ull << 10 | 1ull << 12 |
+    1ull << 13 | 1ull << 18 | 1ull << 19 | 1ull << 20 | 1ull << 21 | 1ull << 22 | 1ull << 23 | 1ull << 24 |
+    1ull << 26 | 1ull << 27 | 1ull << 30 | 1ull << 48 | 1ull << 49;
 
-static bool read_header(struct reader *r, struct header *h) {
-    if (r->position == r->end) return false;
-    uint8_t first = r->bytes[r->position++];
+static enum fault read_header(struct reader *r, struct header *h) {
+    const uint8_t *at = r->bytes + r->position, *end = r->bytes + r->end;
+    if (at == end) return INCOMPLETE;
+    uint8_t first = *at++;
     uint32_t number = first & 31;
     if (first < 64) {
-        if (!is_universal_read(first)) return false;
+        if (!(universal_read >> first & 1)) return TAG_UNKNOWN;
     } else if (number == 31) {
-        uint64_t n = 0;
-        for (int i = 0;; i++) {
-            if (i == 5 || r->position == r->end) return false;
-            uint8_t o = r->bytes[r->position++];
-            if (i == 0 && o == 0x80) return false;
-            n = n << 7 | (o & 127);
-            if (n > 0xffffffff) return false;
-            if (o < 128) break;
+        if (at == end) return INCOMPLETE;
+        if (*at == 0x80) return TAG_NUMBER_INVALID;
+        number = 0;
+        for (;;) {
+            if (at == end) return INCOMPLETE;
+            if (number >> 25) return TAG_NUMBER_INVALID;
+            uint8_t digit = *at++;
+            number = number << 7 | (digit & 127);
+            if (digit < 128) break;
         }
-        if (n < 31) return false;
-        number = (uint32_t)n;
+        if (number < 31) return TAG_NUMBER_INVALID;
     }
-    if (r->position == r->end) return false;
-    uint8_t l = r->bytes[r->position++];
-    uint32_t length = l;
-    if (l >= 128) {
-        int k = l - 128;
-        if (k == 0 || k > 4 || r->end - r->position < (size_t)k) return false;
+    if (at == end) return INCOMPLETE;
+    uint32_t length = *at++;
+    if (length >= 128) {
+        size_t k = length - 128;
+        if (k == 0) return INDEFINITE_LENGTH;
+        if (k > 4) return OVERLENGTH;
+        if ((size_t)(end - at) < k) return INCOMPLETE;
+        if (at[0] == 0) return LENGTH;
         length = 0;
-        for (int i = 0; i < k; i++) length = length << 8 | r->bytes[r->position++];
-        if (length < 128 || (k > 1 && length >> 8 * (k - 1) == 0)) return false;
+        for (size_t i = 0; i < k; i++) length = length << 8 | at[i];
+        if (length < 128) return LENGTH;
+        at += k;
     }
+    r->position = at - r->bytes;
     h->first = first;
     h->number = number;
     h->length = length;
-    return true;
+    return NONE;
 }
 
-static bool read_slice(struct reader *r, uint32_t n, const uint8_t **content) {
-    if (r->end - r->position < n) return false;
+static enum fault read_slice(struct reader *r, uint32_t n, const uint8_t **content) {
+    if (r->end - r->position < n) return INCOMPLETE;
     *content = r->bytes + r->position;
     r->position += n;
-    return true;
+    return NONE;
 }
 
-__attribute__((noinline)) static bool walk(const uint8_t *bytes, size_t len, uint64_t *headers, uint64_t *contents) {
+struct counts { uint64_t headers, contents; };
+
+__attribute__((noinline)) static enum fault walk(const uint8_t *bytes, size_t len, struct counts *total) {
     struct reader r = {bytes, 0, len};
+    struct counts counts = *total;
     while (r.position != r.end) {
         struct header h;
-        const uint8_t *content;
-        if (!read_header(&r, &h)) return false;
+        enum fault fault = read_header(&r, &h);
+        if (fault) return fault;
         if (!(h.first & 32)) {
-            if (!read_slice(&r, h.length, &content)) return false;
-            *contents += h.length;
+            const uint8_t *content;
+            fault = read_slice(&r, h.length, &content);
+            if (fault) return fault;
+            counts.contents += h.length;
         }
-        *headers += 1;
+        counts.headers += 1;
     }
-    return true;
+    *total = counts;
+    return NONE;
 }
 
 int main(int argc, char **argv) {
@@ -83,8 +90,8 @@ int main(int argc, char **argv) {
     if (!f) return 1;
     static uint8_t bytes[1 << 24];
     size_t len = fread(bytes, 1, sizeof bytes, f);
-    uint64_t headers = 0, contents = 0;
+    struct counts total = {0, 0};
     for (int rounds = atoi(argv[2]); rounds > 0; rounds--)
-        if (!walk(bytes, len, &headers, &contents)) return 1;
-    printf("%llu headers, %llu octets of content\n", (unsigned long long)headers, (unsigned long long)contents);
+        if (walk(bytes, len, &total)) return 1;
+    printf("%llu headers, %llu octets of content\n", (unsigned long long)total.headers, (unsigned long long)total.contents);
 }

@@ -1,9 +1,13 @@
 -- Lengths of two to five octets.
-use Rattle.std.proofs.Common.{◌≡◌, ℕ, ◌+◌, ◌-◌, ◌*◌, ◌<◌, ◌≤◌, cond, ltb, eqb, List, [], ◌∷◌, length, get_or, drop, Ok, Err, arith, refl, ◌⊎◌, inl, inr}
+use Rattle.std.proofs.Common.{◌≡◌, ℕ, ◌+◌, ◌-◌, ◌*◌, ◌<◌, ◌≤◌, Bool, true, false, cond, ltb, eqb, List, [], ◌∷◌, length, get_or, take, drop, ◌%◌, suc, Result, Ok, Err, arith, refl, ap, ◌∙◌, length-drop, inl, inr}
+use Rattle.std.specs.Prelude.{IsErr, ◌≢◌}
+use Rattle.std.proofs.lemmas.List.{take_all}
+use Rattle.der_core_head.specs.declared.error.ErrorKind.{ErrorKind}
 use Rattle.std.proofs.lemmas.Bool.{cases_lt, le-ltb, lt-ltb, ne_eqb, eq-eqb}
 use Rattle.der_core_head.specs.declared.error.ErrorKind.TheVariants as kinds
 use Rattle.der_core_head.specs.declared.tag.Tag.{Tag}
-use Rattle.der_core_head.specs.Heads.{length_at}
+use Rattle.der_core_head.specs.Tags.{tag_at}
+use Rattle.der_core_head.specs.Heads.{shortest, length_at, head_at}
 use Rattle.der_core_head.proofs.LengthForms.{length_at-1, length_at-2, length_at-3, length_at-4}
 
 pub length_at-cut : (t : Tag) (first : ℕ) (w : List ℕ) → 128 < first → first < 133 → length w < first - 128 → length_at t (first ∷ w) ≡ Err kinds.Incomplete
@@ -73,3 +77,98 @@ zero-more t first w low high l h z =
         | inr four ↦ rw (fewest-4 t first w (omega arith) (omega arith) (h 0) (h 1) (h 2) (h 3), eq-eqb (get_or w 0 0) 0 z) refl
       ]
     ]
+
+-- Why there is no length
+
+pub is_fault : {A : Type 0} (r : Result A ErrorKind) (k : ErrorKind) → r ≡ Err k → IsErr r
+is_fault r k e = rw e refl
+
+pub indefinite : (t : Tag) (first : ℕ) (w : List ℕ) → first ≡ 128 → length_at t (first ∷ w) ≡ Err kinds.IndefiniteLength
+unfolding length_at
+indefinite t first w e = rw (le-ltb first 128 (omega arith), eq-eqb first 128 e) refl
+
+pub too_many : (t : Tag) (first : ℕ) (w : List ℕ) → 132 < first → length_at t (first ∷ w) ≡ Err kinds.Overlength
+unfolding length_at
+too_many t first w l = rw (le-ltb first 128 (omega arith), ne_eqb first 128 (λ e. omega arith), lt-ltb 132 first l) refl
+
+-- an octet below 128 is a length
+pub fault-first : (t : Tag) (first : ℕ) (w : List ℕ) → IsErr (length_at t (first ∷ w)) → 128 ≤ first
+unfolding length_at
+fault-first t first w e =
+    elim (cases_lt first 128) [
+      | inl low ↦ absurd (cc (rw (lt-ltb first 128 low) at e))
+      | inr high ↦ high
+    ]
+
+stands : (t : Tag) (first : ℕ) (w : List ℕ) → 128 < first → first < 133 → first - 128 ≤ length w
+    → length_at t (first ∷ w) ≡ shortest t first (take (first - 128) w) (drop (first - 128) w)
+unfolding length_at
+stands t first w low high l =
+    rw (le-ltb first 128 (omega arith), ne_eqb first 128 (λ z. omega arith), le-ltb 132 first (omega arith), le-ltb (length w) (first - 128) l) refl
+
+-- where the digits stand, it is their form
+pub fault-form : (t : Tag) (first : ℕ) (w : List ℕ) → IsErr (length_at t (first ∷ w)) → 128 < first → first < 133 → first - 128 ≤ length w
+    → length_at t (first ∷ w) ≡ Err (kinds.Length t)
+fault-form t first w e low high l =
+    let is = stands t first w low high l in
+    is ∙ form _ _ (rw is at e)
+  where
+    form : (b : Bool) (y : ℕ × List ℕ) → IsErr (cond b (Ok y) (Err (kinds.Length t))) → cond b (Ok y) (Err (kinds.Length t)) ≡ Err (kinds.Length t)
+    form true y e = absurd cc
+    form false y e = refl
+
+-- by the octet at the front
+
+-- the octets behind it
+abbrev behind : List ℕ → List ℕ
+behind w = take (length w - 1) (drop 1 w)
+
+behind-is : (w : List ℕ) → behind w ≡ drop 1 w
+behind-is w = take_all (length w - 1) (drop 1 w) (omega (arith, length-drop 1 w))
+
+pub longer : (t : Tag) (w : List ℕ) (v : ℕ) → 1 ≤ length w → 128 ≤ get_or w 0 0
+    → length_at t (get_or w 0 0 ∷ behind w) ≡ Ok (v, drop (get_or w 0 0 - 128) (behind w)) → length_at t w ≡ Ok (v, drop (get_or w 0 0 - 127) w)
+longer t [] v l h e = absurd (omega arith)
+longer t (a ∷ w) v l h e =
+    let same : a - 127 ≡ suc (a - 128) = omega arith in
+    rw same (rw (behind-is (a ∷ w)) at e)
+
+pub fault-none : (t : Tag) (w : List ℕ) → length w < 1 → length_at t w ≡ Err kinds.Incomplete
+unfolding length_at
+fault-none t [] l = refl
+fault-none t (a ∷ w) l = absurd (omega arith)
+
+pub fault-indefinite : (t : Tag) (w : List ℕ) → 1 ≤ length w → get_or w 0 0 ≡ 128 → length_at t w ≡ Err kinds.IndefiniteLength
+fault-indefinite t [] l e = absurd (omega arith)
+fault-indefinite t (a ∷ w) l e = indefinite t a w e
+
+pub fault-many : (t : Tag) (w : List ℕ) → 1 ≤ length w → 132 < get_or w 0 0 → length_at t w ≡ Err kinds.Overlength
+fault-many t [] l h = absurd (omega arith)
+fault-many t (a ∷ w) l h = too_many t a w h
+
+pub fault-cut : (t : Tag) (w : List ℕ) → IsErr (length_at t w) → 1 ≤ length w → get_or w 0 0 ≢ 128 → get_or w 0 0 ≤ 132 → length w - 1 < get_or w 0 0 % 128
+    → length_at t w ≡ Err kinds.Incomplete
+fault-cut t [] e l n h s = absurd (omega arith)
+fault-cut t (a ∷ w) e l n h s =
+    let long : 128 < a = omega (arith, fault-first t a w e, n) in
+    length_at-cut t a w long (omega arith) (omega arith)
+
+pub fault-shape : (t : Tag) (w : List ℕ) → IsErr (length_at t w) → 1 ≤ length w → get_or w 0 0 ≢ 128 → get_or w 0 0 ≤ 132 → get_or w 0 0 % 128 ≤ length w - 1
+    → length_at t w ≡ Err (kinds.Length t)
+fault-shape t [] e l n h s = absurd (omega arith)
+fault-shape t (a ∷ w) e l n h s =
+    let long : 128 < a = omega (arith, fault-first t a w e, n) in
+    fault-form t a w e long (omega arith) (omega arith)
+
+-- a header whose tag is one octet
+pub plain : (w : List ℕ) (t : Tag) (n count : ℕ) → 1 ≤ length w → ((r : List ℕ) → tag_at (get_or w 0 0 ∷ r) ≡ Ok (t, r))
+    → length_at t (behind w) ≡ Ok (n, drop count (behind w)) → head_at w ≡ Ok (record { tag = t; len = n }, drop (1 + count) w)
+unfolding head_at
+plain [] t n count l tag len = absurd (omega arith)
+plain (a ∷ w) t n count l tag len =
+    let rest : length_at t w ≡ Ok (n, drop count w) = rw (behind-is (a ∷ w)) at len in
+    let more : 1 + count ≡ suc count = omega arith in
+    rw (tag w, rest, more) refl
+
+pub behind-le : (w : List ℕ) (n : ℕ) → 1 ≤ length w → n ≤ length (behind w) → 1 + n ≤ length w
+behind-le w n l h = omega (arith, ap (λ (u : List ℕ). length u) (behind-is w), length-drop 1 w)

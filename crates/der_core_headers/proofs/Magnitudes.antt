@@ -1,5 +1,5 @@
 -- The number of a content, octet by octet.
-use Rattle.std.proofs.Common.{◌≡◌, ℕ, ◌+◌, ◌*◌, ◌-◌, ◌^◌, ◌<◌, ◌≤◌, Bool, true, false, cond, List, ◌∷◌, length, get_or, drop, refl, ap, subst, sym, ◌∙◌, arith}
+use Rattle.std.proofs.Common.{◌≡◌, ℕ, ◌+◌, ◌*◌, ◌-◌, ◌^◌, ◌<◌, ◌≤◌, Bool, true, false, List, ◌∷◌, length, get_or, drop, refl, ap, subst, sym, ◌∙◌, arith}
 use Rattle.std.proofs.Common.{leb, [], Some, Ok, Err, slice_get, pos, inl, inr}
 use Rattle.std.proofs.lemmas.Bool.{cases_lt, lt-ltb, le-ltb, le-leb, lt-leb}
 use Rattle.std.proofs.Math.Pow.{pow_mono}
@@ -7,12 +7,11 @@ use Rattle.std.proofs.Math.Nat.{pow-suc}
 use Rattle.std.specs.Int.Digits.{number_from_digits, number_from_digits_after, AllBelowBase}
 use Rattle.der_core_head.specs.declared.error.ErrorKind.TheVariants as kinds
 use Rattle.der_core_head.specs.declared.tag.Tag.{Tag}
-use Rattle.der_core_head.specs.Octets.{◌>>=◌}
-use Rattle.der_core_head.specs.Integers.{positive, complement, integer_octets, unsigned, signed, is_redundant, integer_of, shortest_integer, integer_read}
+use Rattle.der_core_head.specs.Integers.{positive, integer_octets, unsigned, signed, is_redundant, integer_of, shortest_integer, integer_read}
 use Rattle.std.proofs.lemmas.Int.Digits.{number_after_ge}
 use Rattle.der_core_headers.specs.Numbers.{signed_number, turn, turned}
 use Rattle.const_oid_identifiers.specs.Digits.{digits}
-use Rattle.const_oid_identifiers.proofs.DigitLaws.{Digits, digits-Digits, digits-one, digits-more}
+use Rattle.const_oid_identifiers.proofs.DigitLaws.{digits-Digits, digits-one, digits-more}
 use Rattle.std.proofs.Common.{zero, suc, ◌/◌, ◌%◌, ◌++◌, append_assoc}
 use Rattle.std.proofs.lemmas.List.{map-append}
 use Rattle.std.proofs.lemmas.Nat.{div_below}

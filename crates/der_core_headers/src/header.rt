@@ -1,6 +1,8 @@
 //! Tags, lengths and headers at the front of octets (X.690 8.1.2, 8.1.3, 10.1).
 
-ghost use Rattle.std.specs.Prelude.{◌≡◌, ◌<◌, ◌∷◌, IfSome, OnSome, Ok};
+ghost use Rattle.std.specs.Prelude.{◌≡◌, ◌+◌, ◌-◌, ◌%◌, ◌<◌, ◌≤◌, ◌∷◌, ℕ, List, length, drop, IfSome, IfNone, OnSome, IsErr, Ok, Err};
+ghost use Rattle.der_core_head.specs.declared.error.ErrorKind.TheVariants.{TagUnknown};
+ghost use Rattle.der_core_head.specs.declared.tag.Tag.{Tag};
 ghost use Rattle.der_core_head.specs.Tags.{universal_tag, class_tag, digits_at, number_at, tag_at};
 ghost use Rattle.der_core_head.specs.Heads.{length_at, head_at};
 ghost use Rattle.der_core_headers.specs.Fronts.{Counts, head_of};
@@ -62,6 +64,24 @@ fn tag_of_class(class: u8, constructed: bool, number: u32) -> Tag
     }
 }
 
+/// The tag that one octet spells, if it is one that is read (X.690 8.1.2.2).
+#[inline(always)]
+#[tactic(auto, unfolding(der_core_head::specs::Tags::tag_at))]
+fn short_tag_of(octet: u8) -> Option<Tag>
+    ensures some { IfSome result (λ t. (w : List ℕ) → tag_at (octet ∷ w) ≡ Ok (t, w)) }
+    ensures unknown { IfNone result (octet < 64 → (w : List ℕ) → tag_at (octet ∷ w) ≡ Err TagUnknown) }
+    // Its number follows.
+    ensures number { IfNone result (64 ≤ octet → octet % 32 ≡ 31) }
+{
+    if let Some(tag) = universal_tag_of(octet) {
+        return Some(tag);
+    }
+    if octet < 64 || octet % 32 == 31 {
+        return None;
+    }
+    Some(tag_of_class(octet / 64, octet / 32 % 2 == 1, u32::from(octet % 32)))
+}
+
 /// The number that digits in base 128 spell, of which all but the last have the high bit, and how
 /// many they are (8.1.2.4.2).
 ///
@@ -119,21 +139,15 @@ pub fn tag_of(octets: &[u8]) -> Result<(Tag, usize), Error>
         return Err(Error::from(ErrorKind::Incomplete));
     };
     let first = *first;
+    if let Some(tag) = short_tag_of(first) {
+        return Ok((tag, 1));
+    }
     if first < 64 {
-        return match universal_tag_of(first) {
-            Some(tag) => Ok((tag, 1)),
-            None => Err(Error::from(ErrorKind::TagUnknown)),
-        };
+        return Err(Error::from(ErrorKind::TagUnknown));
     }
-    let constructed = first / 32 % 2 == 1;
-    if first % 32 == 31 {
-        let (number, count) = tag_number_of(rest)?;
-        return Ok((tag_of_class(first / 64, constructed, number), 1 + count));
-    }
-    Ok((
-        tag_of_class(first / 64, constructed, u32::from(first % 32)),
-        1,
-    ))
+    let (number, count) = tag_number_of(rest)?;
+    let tag = tag_of_class(first / 64, first / 32 % 2 == 1, number);
+    Ok((tag, 1 + count))
 }
 
 /// The length at the front of octets behind a tag, and how many octets it takes (8.1.3, 10.1).
@@ -145,78 +159,108 @@ pub fn tag_of(octets: &[u8]) -> Result<(Tag, usize), Error>
 pub fn length_of(tag: Tag, octets: &[u8]) -> Result<(Length, usize), Error>
     ensures { Counts (λ l. l.value) octets.now result (length_at tag) }
 {
+    match shortest_length_of(octets) {
+        Some(front) => Ok(front),
+        None => Err(Error::from(length_fault(tag, octets))),
+    }
+}
+
+/// The length at the front of octets behind a tag, and how many octets it takes, if a length stands
+/// there in its shortest form.
+#[inline(always)]
+#[tactic(auto, unfolding(der_core_head::specs::Heads::length_at))]
+fn shortest_length_of(octets: &[u8]) -> Option<(Length, usize)>
+    ensures some { IfSome result (λ x. (t : Tag) → length_at t octets.now ≡ Ok (x.0.value, drop x.1 octets.now)) }
+    ensures within { IfSome result (λ x. x.1 ≤ length octets.now) }
+    ensures none { IfNone result ((t : Tag) → IsErr (length_at t octets.now)) }
+{
     let [first, rest @ ..] = octets else {
-        return Err(Error::from(ErrorKind::Incomplete));
+        return None;
     };
     let first = *first;
     if first < 128 {
-        return Ok((
+        return Some((
             Length {
                 value: u32::from(first),
             },
             1,
         ));
     }
-    if first == 128 {
-        return Err(Error::from(ErrorKind::IndefiniteLength));
-    }
-    if first > 132 {
-        return Err(Error::from(ErrorKind::Overlength));
-    }
-    long_length_of(tag, first, rest)
+    let length = long_length_of(first, rest)?;
+    Some((length, usize::from(first) - 127))
 }
 
-/// The length that the octets behind a first octet from 129 to 132 spell.
-fn long_length_of(tag: Tag, first: u8, rest: &[u8]) -> Result<(Length, usize), Error>
-    requires low { 128 < first }
-    requires high { first < 133 }
-    ensures { Counts (λ l. l.value) (first ∷ rest.now) result (length_at tag) }
+/// The length that a first octet from 128 on and those behind it spell, if they are its shortest
+/// form (8.1.3.5, 10.1).
+fn long_length_of(first: u8, rest: &[u8]) -> Option<Length>
+    requires { 127 < first }
+    ensures some { IfSome result (λ l. (t : Tag) → length_at t (first ∷ rest.now) ≡ Ok (l.value, drop (first - 128) rest.now)) }
+    ensures within { OnSome result (first ≤ length rest.now + 128) }
+    ensures none { IfNone result ((t : Tag) → IsErr (length_at t (first ∷ rest.now))) }
 {
+    if first == 128 || first > 132 {
+        return None;
+    }
     let count = usize::from(first - 128);
     if rest.len() < count {
-        return Err(Error::from(ErrorKind::Incomplete));
+        return None;
     }
     let value = u32::from(rest[0]);
     if count == 1 {
         if value < 128 {
-            return Err(Error::from(ErrorKind::Length { tag }));
+            return None;
         }
-        return Ok((Length { value }, 2));
+        return Some(Length { value });
     }
     if value == 0 {
-        return Err(Error::from(ErrorKind::Length { tag }));
+        return None;
     }
     let value = 256 * value + u32::from(rest[1]);
     if count == 2 {
-        return Ok((Length { value }, 3));
+        return Some(Length { value });
     }
     let value = 256 * value + u32::from(rest[2]);
     if count == 3 {
-        return Ok((Length { value }, 4));
+        return Some(Length { value });
     }
     let value = 256 * value + u32::from(rest[3]);
-    Ok((Length { value }, 5))
+    Some(Length { value })
 }
 
-/// The header at the front of octets that is spelled in two: a tag of the universal class, and a
-/// length below 128. It is the usual one.
-#[tactic(auto, unfolding(der_core_head::specs::Heads::head_at, der_core_head::specs::Tags::tag_at, der_core_head::specs::Heads::length_at))]
-fn short_header_of(octets: &[u8]) -> Option<Header>
-    ensures { IfSome result (λ h. Counts head_of octets.now (Ok (h, 2)) head_at) }
+/// Why no length stands at the front of octets behind a tag.
+fn length_fault(tag: Tag, octets: &[u8]) -> ErrorKind
+    requires { IsErr (length_at tag octets.now) }
+    ensures { length_at tag octets.now ≡ Err result }
 {
-    let [first, second, ..] = octets else {
+    let [first, rest @ ..] = octets else {
+        return ErrorKind::Incomplete;
+    };
+    let first = *first;
+    if first == 128 {
+        return ErrorKind::IndefiniteLength;
+    }
+    if first > 132 {
+        return ErrorKind::Overlength;
+    }
+    if rest.len() < usize::from(first % 128) {
+        return ErrorKind::Incomplete;
+    }
+    ErrorKind::Length { tag }
+}
+
+/// The header at the front of octets, and how many octets it takes, if its tag is spelled in one.
+/// Most headers are so, and the loops that read them have no call for it.
+#[tactic(auto, unfolding(der_core_head::specs::Heads::head_at))]
+fn plain_header_of(octets: &[u8]) -> Option<(Header, usize)>
+    ensures { IfSome result (λ x. Counts head_of octets.now (Ok x) head_at) }
+{
+    let [first, rest @ ..] = octets else {
         return None;
     };
-    if *second >= 128 {
-        return None;
-    }
-    let tag = universal_tag_of(*first)?;
-    Some(Header {
-        tag,
-        length: Length {
-            value: u32::from(*second),
-        },
-    })
+    // The length first, so that what a caller then asks of the tag is asked of its octet.
+    let (length, count) = shortest_length_of(rest)?;
+    let tag = short_tag_of(*first)?;
+    Some((Header { tag, length }, 1 + count))
 }
 
 /// The header at the front of octets, and how many octets it takes.
@@ -226,35 +270,23 @@ fn short_header_of(octets: &[u8]) -> Option<Header>
 pub fn header_of(octets: &[u8]) -> Result<(Header, usize), Error>
     ensures { Counts head_of octets.now result head_at }
 {
-    match short_header_of(octets) {
-        Some(header) => Ok((header, 2)),
-        None => long_header_of(octets),
+    match plain_header_of(octets) {
+        Some((header, count)) => Ok((header, count)),
+        None => {
+            let (header, count) = any_header_of(octets)?;
+            Ok((header, count))
+        }
     }
 }
 
 /// The header at the front of octets, of any form. It stays out of the loops that read headers, so
-/// that the usual one costs them little.
+/// that the usual ones cost them little.
 ///
 /// # Errors
 /// Those of its tag, and then of its length.
 #[inline(never)]
-#[tactic(auto, unfolding(der_core_head::specs::Heads::head_at, der_core_head::specs::Tags::tag_at))]
-fn long_header_of(octets: &[u8]) -> Result<(Header, usize), Error>
-    ensures { Counts head_of octets.now result head_at }
-{
-    let [first, rest @ ..] = octets else {
-        return Err(Error::from(ErrorKind::Incomplete));
-    };
-    let Some(tag) = universal_tag_of(*first) else {
-        return class_header_of(octets);
-    };
-    let (length, count) = length_of(tag, rest)?;
-    Ok((Header { tag, length }, 1 + count))
-}
-
-/// The same where the tag may be of any class.
 #[tactic(auto, unfolding(der_core_head::specs::Heads::head_at))]
-fn class_header_of(octets: &[u8]) -> Result<(Header, usize), Error>
+fn any_header_of(octets: &[u8]) -> Result<(Header, usize), Error>
     ensures { Counts head_of octets.now result head_at }
 {
     let (tag, tag_count) = tag_of(octets)?;
@@ -265,6 +297,27 @@ fn class_header_of(octets: &[u8]) -> Result<(Header, usize), Error>
 #[cfg(test)]
 mod tests {
     use super::*;
+
+    /// The tag and the length of a header, and how many octets it takes.
+    fn header(octets: &[u8]) -> Result<(Tag, u32, usize), ErrorKind> {
+        match header_of(octets) {
+            Ok((header, count)) => Ok((header.tag, header.length.value, count)),
+            Err(error) => Err(error.kind),
+        }
+    }
+
+    /// The headers of the examples of X.690 8.14, and the length of the one of 8.1.3.5.
+    #[test]
+    fn headers(rt: HostRuntime) {
+        let number = TagNumber { value: 2 };
+        let two = Tag::ContextSpecific {
+            constructed: true,
+            number,
+        };
+        assert_eq!(rt; header(&[0x1a, 0x05]), Ok((Tag::VisibleString, 5, 2)));
+        assert_eq!(rt; header(&[0xa2, 0x07]), Ok((two, 7, 2)));
+        assert_eq!(rt; header(&[0x04, 0x81, 0xc9]), Ok((Tag::OctetString, 201, 3)));
+    }
 
     #[test]
     fn refused_headers(rt: HostRuntime) {

@@ -1,4 +1,4 @@
-use Rattle.std.proofs.Common.{◌≡◌, ap, sym, ◌∙◌, arith, drop, Ok}
+use Rattle.std.proofs.Common.{sym, ◌∙◌, arith}
 use Rattle.der_core_headers.proofs.TagNumbers.{digits-past, digits-more, digits-last, digits-none}
 use Rattle.der_core_headers.proofs.header.digits_of.Goals as goal
 

@@ -1,5 +1,5 @@
 use Rattle.std.proofs.Common.{arith}
-use Rattle.der_core_headers.proofs.Magnitudes.{magnitude_large, magnitude_more}
+use Rattle.der_core_headers.proofs.Magnitudes.{magnitude_large}
 use Rattle.der_core_headers.proofs.integers.magnitude_of.Goals as goal
 
 pub returns-then-number-ge-LARGE : goal.returns-then-number-ge-LARGE

@@ -1,4 +1,4 @@
-use Rattle.std.proofs.Common.{◌≤◌, ◌^◌, ℕ, Option, None, subst}
+use Rattle.std.proofs.Common.{◌≤◌, ◌^◌, ℕ, Option, subst}
 use Rattle.der_core_headers.specs.Numbers.{IsMagnitude}
 use Rattle.der_core_headers.proofs.Magnitudes.{signed_large}
 use Rattle.der_core_headers.proofs.integers.signed_of.Goals as goal

@@ -1,4 +1,4 @@
-use Rattle.std.proofs.Common.{◌≡◌, ◌≤◌, ◌^◌, ℕ, Ok, pos, Bool, false, Option, None, subst}
+use Rattle.std.proofs.Common.{◌≡◌, ◌≤◌, ◌^◌, ℕ, Ok, pos, Bool, Option, subst}
 use Rattle.der_core_head.specs.Integers.{shortest_integer}
 use Rattle.der_core_headers.specs.Numbers.{IsMagnitude, signed_number}
 use Rattle.der_core_headers.proofs.Magnitudes.{unsigned_large}
