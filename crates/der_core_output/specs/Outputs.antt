@@ -1,5 +1,5 @@
 -- What a writer holds after a call, and what is written to a slice or behind octets.
-use Rattle.std.specs.Prelude.{◌≡◌, ◌+◌, ℕ, List, [], true, false, length, Some, None, Result, Ok, Err, if◌then◌else◌}
+use Rattle.std.specs.Prelude.{◌≡◌, ◌+◌, ℕ, List, [], true, false, length, take, Some, None, Result, Ok, Err, if◌then◌else◌}
 use Rattle.std.specs.Borrow.{MutBor}
 use Rattle.std.specs.Fn.{Once, FnOnceReturnsAtMut}
 use Rattle.der_core_head.specs.declared.error.Error.{Error}
@@ -15,6 +15,14 @@ pub record IsRefused (old new : Out) : Type 0 where
   pub written : new.written ≡ old.written
   pub room : new.room ≡ old.room
   pub failed : old.failed ≡ true → new.failed ≡ true
+
+-- These octets stand at the front of what was written.
+abbrev pub IsFront : List ℕ → Out → Type 0
+IsFront w o = take (length w) o.written ≡ w
+
+-- What was written stays in front, and a writer that failed stays failed.
+abbrev pub Continues : Out → Out → Type 0
+Continues old new = ((w : List ℕ) → IsFront w old → IsFront w new) × (old.failed ≡ true → new.failed ≡ true)
 
 -- so much room, and nothing written yet
 abbrev pub blank : ℕ → Out

@@ -5,6 +5,7 @@ ghost use Rattle.der_core_head.specs.Tags.{tag_octets};
 ghost use Rattle.der_core_head.specs.Heads.{length_octets};
 ghost use Rattle.der_core_head.specs.Reading.{GivesNow};
 ghost use Rattle.der_core_head.specs.Writing.{Writes, put, put_head, sum_len, fit_len};
+ghost use Rattle.der_core_output.specs.Outputs.{Continues};
 
 use crate::writer::Writer;
 use der_core_head::{Error, ErrorKind, Length, Tag, leading_octet_of, number_of};
@@ -22,7 +23,8 @@ pub fn sum_len(a: Length, b: Length) -> Result<Length, Error>
 /// Writes the octets of a tag (X.690 8.1.2).
 #[tactic(auto, using(der_core_head::proofs::TagForms::tag_forms))]
 fn encode_tag<W: Writer>(writer: &mut W, tag: Tag) -> Result<(), Error>
-    ensures { Writes (W.out writer.old) (W.out writer.new) result (put (tag_octets tag)) }
+    ensures exact { Writes (W.out writer.old) (W.out writer.new) result (put (tag_octets tag)) }
+    ensures kept { Continues (W.out writer.old) (W.out writer.new) }
 {
     let first = leading_octet_of(tag);
     let n = number_of(tag);
@@ -52,7 +54,8 @@ fn encode_tag<W: Writer>(writer: &mut W, tag: Tag) -> Result<(), Error>
 /// Writes the octets of a length (X.690 8.1.3, 10.1).
 #[tactic(auto, using(der_core_head::proofs::LengthForms::length_forms))]
 fn encode_length<W: Writer>(writer: &mut W, len: Length) -> Result<(), Error>
-    ensures { Writes (W.out writer.old) (W.out writer.new) result (put (length_octets len.value)) }
+    ensures exact { Writes (W.out writer.old) (W.out writer.new) result (put (length_octets len.value)) }
+    ensures kept { Continues (W.out writer.old) (W.out writer.new) }
 {
     let n = len.value;
     let last = (n % 256) as u8;
@@ -80,7 +83,8 @@ fn encode_length<W: Writer>(writer: &mut W, len: Length) -> Result<(), Error>
 /// Those of the writer.
 #[tactic(auto, unfolding(der_core_head::specs::Writing::put_head))]
 pub fn encode_header<W: Writer>(writer: &mut W, tag: Tag, len: Length) -> Result<(), Error>
-    ensures { Writes (W.out writer.old) (W.out writer.new) result (put_head tag len.value) }
+    ensures exact { Writes (W.out writer.old) (W.out writer.new) result (put_head tag len.value) }
+    ensures kept { Continues (W.out writer.old) (W.out writer.new) }
 {
     encode_tag(writer, tag)?;
     encode_length(writer, len)

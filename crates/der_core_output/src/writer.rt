@@ -2,7 +2,7 @@
 
 ghost use Rattle.std.specs.Prelude.{◌≡◌, [], ◌∷◌, None, length, false, OnErr};
 ghost use Rattle.der_core_head.specs.Writing.{Out, Writes, put};
-ghost use Rattle.der_core_output.specs.Outputs.{IsRefused};
+ghost use Rattle.der_core_output.specs.Outputs.{Continues, IsRefused};
 
 use der_core_head::Error;
 
@@ -17,7 +17,8 @@ pub trait Writer: Drop {
     /// Nothing was written then.
     fn write(&mut self, octets: &[u8]) -> Result<(), Error>
         ensures exact { Writes (out self.old) (out self.new) result (put octets.now) }
-        ensures refused { OnErr result (IsRefused (out self.old) (out self.new)) };
+        ensures refused { OnErr result (IsRefused (out self.old) (out self.new)) }
+        ensures kept { Continues (out self.old) (out self.new) };
 
     /// Appends an octet.
     ///
@@ -26,6 +27,7 @@ pub trait Writer: Drop {
     final fn write_byte(&mut self, octet: u8) -> Result<(), Error>
         ensures exact { Writes (out self.old) (out self.new) result (put (octet ∷ [])) }
         ensures refused { OnErr result (IsRefused (out self.old) (out self.new)) }
+        ensures kept { Continues (out self.old) (out self.new) }
     {
         self.write(&[octet])
     }

@@ -3,6 +3,7 @@
 ghost use Rattle.std.specs.Prelude.{◌≡◌};
 ghost use Rattle.der_core_head.specs.Reading.{GivesNow};
 ghost use Rattle.der_core_head.specs.Writing.{Writes, size, write, size_content, write_content};
+ghost use Rattle.der_core_output.specs.Outputs.{Continues};
 
 use crate::decode::{FixedTag, Shaped, ShapedValue};
 use der_core_head::{Error, Length};
@@ -22,7 +23,8 @@ pub trait Encode: Shaped {
     /// # Errors
     /// `Overflow` where a length passes 2^32 - 1, and those of the writer.
     fn encode<W: Writer>(&self, writer: &mut W) -> Result<(), Error>
-        ensures { Writes (W.out writer.old) (W.out writer.new) result (write Self.shape (Self.plain self.now)) };
+        ensures exact { Writes (W.out writer.old) (W.out writer.new) result (write Self.shape (Self.plain self.now)) }
+        ensures kept { Continues (W.out writer.old) (W.out writer.new) };
 }
 
 /// What is written behind a header.
@@ -39,7 +41,8 @@ pub trait EncodeValue: ShapedValue {
     /// # Errors
     /// `Overflow` where a length passes 2^32 - 1, and those of the writer.
     fn encode_value<W: Writer>(&self, writer: &mut W) -> Result<(), Error>
-        ensures { Writes (W.out writer.old) (W.out writer.new) result (write_content Self.content (Self.value_plain self.now)) };
+        ensures exact { Writes (W.out writer.old) (W.out writer.new) result (write_content Self.content (Self.value_plain self.now)) }
+        ensures kept { Continues (W.out writer.old) (W.out writer.new) };
 }
 
 impl<T: EncodeValue + FixedTag> Encode for T {

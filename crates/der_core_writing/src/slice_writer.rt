@@ -1,11 +1,12 @@
 //! The writer to a slice.
 
-ghost use Rattle.std.specs.Prelude.{◌≡◌, ◌≤◌, ◌-◌, take, length, [], Some, IfOk, IfErr, IfSome, IsErrAnd, OnOk, OnErr, true, false};
+ghost use Rattle.std.specs.Prelude.{◌≡◌, ◌≤◌, ◌<◌, ◌^◌, ◌-◌, take, length, [], Some, IfOk, IfErr, IsSomeAnd, IsNone, IsErrAnd, OnOk, OnErr, true, false};
 ghost use Rattle.der_core_head.specs.declared.tag_mode.TagMode.TheVariants as modes;
 ghost use Rattle.der_core_head.specs.Tags.{context, implicit_tag};
 ghost use Rattle.der_core_head.specs.Shapes.{nested, only, tagged};
 ghost use Rattle.der_core_head.specs.Writing.{Writes, write};
-ghost use Rattle.der_core_output.specs.Outputs.{Encloses};
+ghost use Rattle.der_core_output.specs.Outputs.{Continues, Encloses};
+ghost use Rattle.der_core_writing.specs.Sequences.{RefusesEnclosed};
 
 use crate::tagging::{encode_explicit, encode_implicit};
 use der_core_head::{Error, ErrorKind, Length, Tag, TagMode, TagNumber};
@@ -58,13 +59,16 @@ impl<'a> SliceWriter<'a> {
 }
 
 impl<'a> SliceWriter<'a> {
-    /// An error at the place of the writer, which has failed from then on.
+    /// An error at the place of the writer, which has failed from then on. A place from 2^32 on is
+    /// left out.
     ///
     /// # Errors
     /// Always that error.
     pub fn error<T>(&mut self, kind: ErrorKind) -> Result<T, Error>
         ensures kind { IsErrAnd result (λ e. e.kind ≡ kind) }
-        ensures place { IfErr result (λ e. IfSome e.position (λ p. p.value ≡ length (⟦<SliceWriter<'static> as Writer>⟧.out self.old).written)) }
+        ensures place { length (⟦<SliceWriter<'static> as Writer>⟧.out self.old).written < 2 ^ 32
+            → IfErr result (λ e. IsSomeAnd e.position (λ p. p.value ≡ length (⟦<SliceWriter<'static> as Writer>⟧.out self.old).written)) }
+        ensures far { 2 ^ 32 ≤ length (⟦<SliceWriter<'static> as Writer>⟧.out self.old).written → IfErr result (λ e. IsNone e.position) }
         ensures failed { ⟦<SliceWriter<'static> as Writer>⟧.out self.new ≡ record (⟦<SliceWriter<'static> as Writer>⟧.out self.old) { failed = true } }
     {
         self.failed = true;
@@ -85,6 +89,7 @@ impl<'a> SliceWriter<'a> {
             → Writes (⟦<SliceWriter<'static> as Writer>⟧.out self.old) (⟦<SliceWriter<'static> as Writer>⟧.out self.new) result (write T.shape (T.plain value.now)) }
         ensures failed { (⟦<SliceWriter<'static> as Writer>⟧.out self.old).failed ≡ true → IsErrAnd result (λ e. e.kind ≡ ErrorKind.Failed) }
         ensures refused { OnErr result ((⟦<SliceWriter<'static> as Writer>⟧.out self.new).failed ≡ true) }
+        ensures kept { Continues (⟦<SliceWriter<'static> as Writer>⟧.out self.old) (⟦<SliceWriter<'static> as Writer>⟧.out self.new) }
     {
         if self.failed {
             return Err(Error::from(ErrorKind::Failed));
@@ -120,6 +125,7 @@ impl<'a> SliceWriter<'a> {
             (write (tagged (implicit_tag tag_number.value T.fixed_tag) T.content) (T.value_plain value.now)) }
         ensures failed { (⟦<SliceWriter<'static> as Writer>⟧.out self.old).failed ≡ true → IsErrAnd result (λ e. e.kind ≡ ErrorKind.Failed) }
         ensures refused { OnErr result ((⟦<SliceWriter<'static> as Writer>⟧.out self.new).failed ≡ true) }
+        ensures kept { Continues (⟦<SliceWriter<'static> as Writer>⟧.out self.old) (⟦<SliceWriter<'static> as Writer>⟧.out self.new) }
     {
         if self.failed {
             return Err(Error::from(ErrorKind::Failed));
@@ -151,6 +157,9 @@ impl<'a> SliceWriter<'a> {
         requires { F.IsAlwaysCallable f }
         // The closure was called behind the header, and wrote that many octets.
         ensures ok { OnOk result (Encloses ⟦<SliceWriter<'static> as Writer>⟧.out F.FnOnce f length.value (⟦<SliceWriter<'static> as Writer>⟧.out self.old) (⟦<SliceWriter<'static> as Writer>⟧.out self.new)) }
+        // Which fault it is: of the header, of the closure, or another number of octets.
+        ensures fault { IfErr result (λ e. (⟦<SliceWriter<'static> as Writer>⟧.out self.old).failed ≡ false
+            → RefusesEnclosed ⟦<SliceWriter<'static> as Writer>⟧.out F.FnOnce f length.value (⟦<SliceWriter<'static> as Writer>⟧.out self.old) e) }
         ensures failed { (⟦<SliceWriter<'static> as Writer>⟧.out self.old).failed ≡ true → IsErrAnd result (λ e. e.kind ≡ ErrorKind.Failed) }
         ensures refused { OnErr result ((⟦<SliceWriter<'static> as Writer>⟧.out self.new).failed ≡ true) }
     {
@@ -173,7 +182,8 @@ impl<'a> SliceWriter<'a> {
         f: F,
     ) -> Result<(), Error>
         requires { F.IsAlwaysCallable f }
-        ensures { OnOk result (Encloses ⟦<SliceWriter<'static> as Writer>⟧.out F.FnOnce f length.value (⟦<SliceWriter<'static> as Writer>⟧.out self.old) (⟦<SliceWriter<'static> as Writer>⟧.out self.new)) }
+        ensures ok { OnOk result (Encloses ⟦<SliceWriter<'static> as Writer>⟧.out F.FnOnce f length.value (⟦<SliceWriter<'static> as Writer>⟧.out self.old) (⟦<SliceWriter<'static> as Writer>⟧.out self.new)) }
+        ensures fault { IfErr result (λ e. RefusesEnclosed ⟦<SliceWriter<'static> as Writer>⟧.out F.FnOnce f length.value (⟦<SliceWriter<'static> as Writer>⟧.out self.old) e) }
     {
         let tag = Tag::Sequence;
         encode_header(self, tag, length)?;

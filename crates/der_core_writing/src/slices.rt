@@ -1,6 +1,6 @@
 //! Encodings in slices, and behind other octets.
 
-ghost use Rattle.std.specs.Prelude.{◌≡◌, ◌≤◌, ◌++◌, length, Ok, IfOk, IfErr};
+ghost use Rattle.std.specs.Prelude.{◌≡◌, ◌≤◌, ◌++◌, length, take, Ok, IfOk, IfErr};
 ghost use Rattle.der_core_head.specs.Shapes.{IsValid, octets_of};
 ghost use Rattle.der_core_head.specs.Reading.{Fails, Gives, GivesNow};
 ghost use Rattle.der_core_head.specs.Writing.{write, size_content, write_content};
@@ -63,7 +63,7 @@ pub fn encode_value_to_slice<'a, T: EncodeValue>(
 
 /// Writes a value behind the octets of a vector, and answers how many octets it has.
 ///
-/// After a refusal some of them may stand there.
+/// What stood there stays; after a refusal some octets of the value may stand behind it.
 ///
 /// # Errors
 /// `Overflow` where a length passes 2^32 - 1, or `OutOfMemory`.
@@ -73,6 +73,8 @@ pub fn encode_to_vec<T: Encode>(value: &T, out: &mut Vec<u8>) -> Result<Length, 
         (out.new.items ≡ out.old.items ++ octets_of T.shape (T.plain value.now)) × (len.value ≡ length (octets_of T.shape (T.plain value.now)))) }
     ensures exact { IfOk result (λ len. appended T.shape (T.plain value.now) out.old.items ≡ Ok (len.value, out.new.items)) }
     ensures refused { IfErr result (λ e. Fails e.kind (appended T.shape (T.plain value.now) out.old.items)) }
+    // What stood in the vector stays in front.
+    ensures kept { take (length out.old.items) out.new.items ≡ out.old.items }
 {
     append(value, out)
 }
@@ -81,6 +83,8 @@ pub fn encode_to_vec<T: Encode>(value: &T, out: &mut Vec<u8>) -> Result<Length, 
 fn append<T: Encode>(value: &T, out: &mut Vec<u8>) -> Result<Length, Error>
     ensures exact { IfOk result (λ len. appended T.shape (T.plain value.now) out.old.items ≡ Ok (len.value, out.new.items)) }
     ensures refused { IfErr result (λ e. Fails e.kind (appended T.shape (T.plain value.now) out.old.items)) }
+    // What stood in the vector stays in front.
+    ensures kept { take (length out.old.items) out.new.items ≡ out.old.items }
 {
     let len = value.encoded_len()?;
     value.encode(out)?;

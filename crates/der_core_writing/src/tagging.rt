@@ -4,6 +4,7 @@ ghost use Rattle.std.specs.Prelude.{◌≡◌, true};
 ghost use Rattle.der_core_head.specs.Tags.{context, implicit_tag};
 ghost use Rattle.der_core_head.specs.Shapes.{nested, only, tagged};
 ghost use Rattle.der_core_head.specs.Writing.{Writes, write};
+ghost use Rattle.der_core_output.specs.Outputs.{Continues};
 
 use der_core_head::{Error, Tag, TagNumber, is_constructed};
 use der_core_output::{Writer, encode_header};
@@ -19,7 +20,8 @@ pub fn encode_explicit<W: Writer, T: Encode>(
     number: TagNumber,
     value: &T,
 ) -> Result<(), Error>
-    ensures { Writes (W.out writer.old) (W.out writer.new) result (write (tagged (context true number.value) (nested (only T.shape))) (T.plain value.now)) }
+    ensures exact { Writes (W.out writer.old) (W.out writer.new) result (write (tagged (context true number.value) (nested (only T.shape))) (T.plain value.now)) }
+    ensures kept { Continues (W.out writer.old) (W.out writer.new) }
 {
     let constructed = true;
     let len = value.encoded_len()?;
@@ -44,7 +46,8 @@ pub fn encode_implicit<W: Writer, T: EncodeValue + FixedTag>(
     number: TagNumber,
     value: &T,
 ) -> Result<(), Error>
-    ensures { Writes (W.out writer.old) (W.out writer.new) result (write (tagged (implicit_tag number.value T.fixed_tag) T.content) (T.value_plain value.now)) }
+    ensures exact { Writes (W.out writer.old) (W.out writer.new) result (write (tagged (implicit_tag number.value T.fixed_tag) T.content) (T.value_plain value.now)) }
+    ensures kept { Continues (W.out writer.old) (W.out writer.new) }
 {
     let constructed = is_constructed(T::tag());
     let len = value.value_len()?;

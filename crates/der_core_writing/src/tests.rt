@@ -1,6 +1,6 @@
 //! Writers, and what stands after a refusal.
 
-use crate::SliceWriter;
+use crate::{SliceWriter, encode_to_slice, encode_to_vec, encode_value_to_slice, to_der};
 use der_core_head::{ErrorKind, Length, Tag, TagMode, TagNumber};
 use der_core_output::Writer;
 use der_core_values::Encode;
@@ -66,6 +66,33 @@ fn written_sequences(rt: HostRuntime) -> Result<(), Fail> {
     Ok(())
 }
 
+/// What is written stands at the front of the slice, and the octets behind it are as they were.
+#[test]
+fn fronts_of_slices(rt: HostRuntime) -> Result<(), Fail> {
+    let mut room = [9; 5];
+    assert_eq!(rt; encode_to_slice(&true, &mut room)?, [1, 1, 255].as_slice());
+    assert_eq!(rt; room, [1, 1, 255, 9, 9]);
+    let mut room = [9; 3];
+    assert_eq!(rt; encode_value_to_slice(&7u8, &mut room)?, [7].as_slice());
+    assert_eq!(rt; room, [7, 9, 9]);
+    let mut room = [9; 2];
+    assert_eq!(rt;
+        encode_to_slice(&true, &mut room).map_err(|e| e.kind),
+        Err(ErrorKind::Overlength)
+    );
+    Ok(())
+}
+
+/// An encoding of its own, and behind the octets of a vector.
+#[test]
+fn vectors(rt: HostRuntime) -> Result<(), Fail> {
+    let mut out = to_der(rt.alloc(), &true)?;
+    assert_eq!(rt; out.as_slice(), [1, 1, 255].as_slice());
+    assert_eq!(rt; encode_to_vec(&5u8, &mut out)?, Length { value: 3 });
+    assert_eq!(rt; out.as_slice(), [1, 1, 255, 2, 1, 5].as_slice());
+    Ok(())
+}
+
 /// A write for which there is no room leaves the writer failed, whatever is written next.
 #[test]
 fn full_writers(rt: HostRuntime) -> Result<(), Fail> {
@@ -82,6 +109,7 @@ fn full_writers(rt: HostRuntime) -> Result<(), Fail> {
         Err(ErrorKind::Failed)
     );
     assert_eq!(rt; writer.finish().map_err(|e| e.kind), Err(ErrorKind::Failed));
+    assert_eq!(rt; room, [2, 1, 5, 0]);
     let mut writer = SliceWriter::new(&mut room);
     true.encode(&mut writer)?;
     assert_eq!(rt; writer.finish()?, [1, 1, 255].as_slice());

@@ -3,6 +3,7 @@
 ghost use Rattle.std.specs.Prelude.{◌≡◌};
 ghost use Rattle.der_core_head.specs.Reading.{GivesNow};
 ghost use Rattle.der_core_head.specs.Writing.{Writes, size_body, write_body};
+ghost use Rattle.der_core_output.specs.Outputs.{Continues};
 
 use der_core_head::{Error, Length};
 use der_core_output::{Writer, sum_len};
@@ -22,7 +23,8 @@ pub trait EncodeFields: Fields {
     /// # Errors
     /// `Overflow` where a length passes 2^32 - 1, and those of the writer.
     fn encode_fields<W: Writer>(&self, writer: &mut W) -> Result<(), Error>
-        ensures { Writes (W.out writer.old) (W.out writer.new) result (write_body Self.fields (Self.fields_plain self.now)) };
+        ensures exact { Writes (W.out writer.old) (W.out writer.new) result (write_body Self.fields (Self.fields_plain self.now)) }
+        ensures kept { Continues (W.out writer.old) (W.out writer.new) };
 }
 
 impl EncodeFields for () {
