@@ -10,7 +10,7 @@ use Rattle.der_core_head.specs.Shapes.{AnyValue, Content, ContentValue}
 use Rattle.der_core_head.specs.Grammar.{read_content, whole}
 use Rattle.der_core_head.specs.Writing.{write_content}
 use Rattle.der_core_headers.specs.Fronts.{alone}
-use Rattle.der_types_values.specs.Numbers.{counted}
+use Rattle.der_types_numbers.specs.Numbers.{counted}
 
 -- the value, if the tag is that of the type, or the fault
 unfoldable pub content_as : Tag → (c : Content) → AnyValue → Result (ContentValue c) ErrorKind

@@ -12,6 +12,7 @@ ghost use Rattle.der_core_head.specs.Reading.{Gives, ClosureReads, HandsBack, un
 ghost use Rattle.der_core_input.specs.Nesting.{Answered};
 ghost use Rattle.der_core_head.specs.Writing.{write_content};
 ghost use Rattle.der_types_any.specs.Anys.{any_lent};
+ghost use Rattle.der_core_order.specs.Orders.{octets_cmp};
 ghost use Rattle.der_types_any.specs.Contents.{content_as, written_as};
 
 use crate::any_ref::AnyRef;
@@ -84,7 +85,7 @@ impl Any {
     ///
     /// # Errors
     /// `Overflow` where a length passes 2^32 - 1, or `OutOfMemory`.
-    #[tactic(auto, unfolding(crate::specs::Contents::written_as, der_types_values::specs::Numbers::counted))]
+    #[tactic(auto, unfolding(crate::specs::Contents::written_as, der_types_numbers::specs::Numbers::counted))]
     pub fn encode_from<T: EncodeValue + FixedTag>(alloc: Global, value: &T) -> Result<Any, Error>
         ensures { Gives (λ a. a) result (written_as T.fixed_tag T.content (T.value_plain value.now)) }
     {
@@ -205,6 +206,13 @@ impl Any {
     {
         let value = self.to_ref().sequence(f)?;
         Ok(value)
+    }
+
+    /// The order of two contents as lists of octets, whatever the tags. It is always answered.
+    pub fn value_cmp(&self, other: &Any) -> Result<Ordering, Error>
+        ensures { result ≡ Ok (octets_cmp self.now.contents other.now.contents) }
+    {
+        self.to_ref().value_cmp(&other.to_ref())
     }
 
     /// The same value, lent.

@@ -8,6 +8,7 @@ ghost use Rattle.der_core_head.specs.Spelling.{is_apart, are_enough};
 ghost use Rattle.der_core_head.specs.Tags.{same_tag};
 ghost use Rattle.der_core_head.specs.Reading.{Gives, ClosureReads, HandsBack, unread};
 ghost use Rattle.der_core_input.specs.Nesting.{Answered};
+ghost use Rattle.der_core_order.specs.Orders.{octets_cmp};
 ghost use Rattle.der_types_any.specs.Contents.{content_as};
 
 use crate::any::Any;
@@ -168,6 +169,14 @@ impl<'a> AnyRef<'a> {
         let mut reader = SliceReader::new(self.bytes)?;
         let value = reader.read_value(self.header(), f)?;
         Ok(value)
+    }
+
+    /// The order of two contents as lists of octets, whatever the tags. It is always answered.
+    pub fn value_cmp(&self, other: &AnyRef<'_>) -> Result<Ordering, Error>
+        ensures { result ≡ Ok (octets_cmp (any_lent self.now).contents (any_lent other.now).contents) }
+    {
+        let order = self.bytes.cmp(other.bytes);
+        Ok(order)
     }
 
     /// The same value, owned.

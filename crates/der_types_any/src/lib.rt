@@ -5,6 +5,7 @@ mod any;
 mod any_ref;
 mod conversions;
 mod dates;
+pub mod laws;
 mod numbers;
 #[cfg(test)]
 mod tests;

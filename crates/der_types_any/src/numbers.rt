@@ -7,7 +7,7 @@ ghost use Rattle.der_core_head.specs.Leaves.{integer};
 ghost use Rattle.der_core_head.specs.Reading.{GivesNow};
 ghost use Rattle.der_types_any.specs.Anys.{any_lent};
 ghost use Rattle.der_types_any.specs.Contents.{leaf_as};
-ghost use Rattle.der_types_values.specs.Ints.{integer_lent, natural_lent};
+ghost use Rattle.der_types_numbers.specs.Ints.{integer_lent, natural_lent};
 
 use crate::any::Any;
 use crate::any_ref::AnyRef;

@@ -272,6 +272,10 @@ fn ordered(rt: HostRuntime) -> Result<(), Fail> {
     let text = Any::encode_from(alloc, &"ab")?;
     assert_eq!(rt; number.der_cmp(&text)?, Ordering::Less);
     assert_eq!(rt; text.to_ref().der_cmp(&number.to_ref())?, Ordering::Greater);
+    // 02 01 05 and 0c 02 61 62: contents 05 and 61 62.
+    assert_eq!(rt; text.value_cmp(&number)?, Ordering::Greater);
+    let octets = AnyRef::new(Tag::OctetString, &[5])?;
+    assert_eq!(rt; octets.value_cmp(&number.to_ref())?, Ordering::Equal);
     assert_eq!(rt; number.first_tag(), Some(Tag::Integer));
     assert_eq!(rt; text.to_ref().first_tag(), Some(Tag::Utf8String));
     Ok(())

@@ -122,7 +122,7 @@ impl<'a, T: AsciiType> TryFrom<AsciiStringRef<'a, T>> for AnyRef<'a> {
 
     ghost try_from_gives = { λ x r. GivesNow any_lent r (any_from T.string_tag x.text.now) };
 
-    #[tactic(auto, unfolding(crate::specs::Contents::any_from, der_types_values::specs::Numbers::counted))]
+    #[tactic(auto, unfolding(crate::specs::Contents::any_from, der_types_numbers::specs::Numbers::counted))]
     fn try_from(text: AsciiStringRef<'a, T>) -> Result<AnyRef<'a>, Error> {
         AnyRef::new(T::tag(), text.as_bytes())
     }
@@ -134,7 +134,7 @@ impl<'a> TryFrom<Utf8StringRef<'a>> for AnyRef<'a> {
 
     ghost try_from_gives = { λ x r. GivesNow any_lent r (any_from tags.Utf8String x.text.now) };
 
-    #[tactic(auto, unfolding(crate::specs::Contents::any_from, der_types_values::specs::Numbers::counted))]
+    #[tactic(auto, unfolding(crate::specs::Contents::any_from, der_types_numbers::specs::Numbers::counted))]
     fn try_from(text: Utf8StringRef<'a>) -> Result<AnyRef<'a>, Error> {
         AnyRef::new(Tag::Utf8String, text.as_bytes())
     }
@@ -146,7 +146,7 @@ impl<'a> TryFrom<&'a str> for AnyRef<'a> {
 
     ghost try_from_gives = { λ x r. GivesNow any_lent r (any_from tags.Utf8String x.now) };
 
-    #[tactic(auto, unfolding(crate::specs::Contents::any_from, der_types_values::specs::Numbers::counted))]
+    #[tactic(auto, unfolding(crate::specs::Contents::any_from, der_types_numbers::specs::Numbers::counted))]
     fn try_from(text: &'a str) -> Result<AnyRef<'a>, Error> {
         AnyRef::new(Tag::Utf8String, text.as_bytes())
     }
@@ -158,7 +158,7 @@ impl<'a> TryFrom<GeneralStringRef<'a>> for AnyRef<'a> {
 
     ghost try_from_gives = { λ x r. GivesNow any_lent r (any_from tags.GeneralString x.bytes.now) };
 
-    #[tactic(auto, unfolding(crate::specs::Contents::any_from, der_types_values::specs::Numbers::counted))]
+    #[tactic(auto, unfolding(crate::specs::Contents::any_from, der_types_numbers::specs::Numbers::counted))]
     fn try_from(text: GeneralStringRef<'a>) -> Result<AnyRef<'a>, Error> {
         AnyRef::new(Tag::GeneralString, text.as_bytes())
     }

@@ -7,7 +7,7 @@ ghost use Rattle.der_core_head.specs.Leaves.{boolean, null, bits, octets, identi
 ghost use Rattle.der_core_head.specs.Reading.{GivesNow};
 ghost use Rattle.der_types_any.specs.Anys.{any_lent};
 ghost use Rattle.der_types_any.specs.Contents.{leaf_as};
-ghost use Rattle.der_types_values.specs.BitStrings.{bits_lent};
+ghost use Rattle.der_types_bits.specs.BitStrings.{bits_lent};
 ghost use Rattle.der_types_values.specs.OctetStrings.{octets_lent};
 ghost use Rattle.der_types_values.specs.Sequences.{fields_lent};
 

@@ -1,6 +1,0 @@
-mod LastOctet
-mod AllBits
-mod Puts
-mod BitRuns
-mod Shorter
-mod Naturals

@@ -12,7 +12,7 @@ use der_core::{
 use std::alloc::Global;
 
 /// NULL (X.690 8.8): no octets.
-#[derive(Clone, Copy, Debug, PartialEq, Eq)]
+#[derive(Clone, Copy, Debug, PartialEq, Eq, PartialOrd, Ord, Hash)]
 pub struct Null;
 
 impl FixedTag for Null {

@@ -1,8 +1,11 @@
 //! OCTET STRING.
 
-ghost use Rattle.std.specs.Prelude.{◌≡◌, ◌<◌, ◌≤◌, ◌^◌, ◌↔◌, [], length, vec_len, nat_eq, IsTrue, IfOk, IfErr};
+ghost use Rattle.std.specs.Prelude.{◌≡◌, ◌<◌, ◌≤◌, ◌^◌, ◌↔◌, [], length, vec_len, nat_eq, Some, IsTrue, IfOk, IfErr};
+ghost use Rattle.std.proofs.Common.{refl, ap};
 ghost use Rattle.std.specs.Cmp.{partial_equiv_from_equiv};
-ghost use Rattle.std.specs.Cmp.Lexicographic.{pointwise, nat_list_eq_equiv};
+ghost use Rattle.std.specs.Cmp.Lexicographic.{pointwise, slice_cmp, bytes_decides, nat_list_eq_equiv, nat_list_cmp_total, texts_po, texts_ties};
+ghost use Rattle.std.specs.Hash as fed;
+ghost use Rattle.std.specs.Ordering.{nat_cmp};
 ghost use Rattle.der_core_head.specs.declared.tag.Tag.TheVariants.{OctetString as OctetStringTag};
 ghost use Rattle.der_core_head.specs.Leaves.{octets};
 ghost use Rattle.der_core_head.specs.Shapes.{leaf};
@@ -14,6 +17,8 @@ use der_core::{
     ShapedValue, Tag, Writer, decode_leaf, slice_len,
 };
 use std::alloc::{AllocError, Global};
+use std::cmp::Ordering;
+use std::hash::{Hash, Hasher};
 use std::marker::Model;
 
 /// OCTET STRING (X.690 8.7): any octets, fewer than 2^32.
@@ -125,6 +130,42 @@ impl PartialEq for OctetString {
 
 impl Eq for OctetString {
     ghost laws = { nat_list_eq_equiv };
+}
+
+/// The order of the octets.
+impl PartialOrd for OctetString {
+    ghost partial_cmp = { λ a b. Some (slice_cmp nat_cmp a b) };
+
+    ghost laws = { texts_po };
+
+    fn partial_cmp(&self, other: &Self) -> Option<Ordering> {
+        Some(self.cmp(other))
+    }
+}
+
+impl Ord for OctetString {
+    ghost cmp = { slice_cmp nat_cmp };
+
+    ghost total = { nat_list_cmp_total };
+
+    ghost matches_partial_cmp = { λ a b. refl };
+
+    ghost matches_eq = { texts_ties };
+
+    fn cmp(&self, other: &Self) -> Ordering {
+        self.as_bytes().cmp(other.as_bytes())
+    }
+}
+
+/// The octets.
+impl Hash for OctetString {
+    ghost hash_input = { fed.slice fed.u8 };
+
+    ghost respects_eq = { λ a b e. ap (fed.slice fed.u8) ((bytes_decides a b).0 e) };
+
+    fn hash<H: Hasher>(&self, state: &mut H) {
+        self.as_bytes().hash(state);
+    }
 }
 
 impl FixedTag for OctetString {

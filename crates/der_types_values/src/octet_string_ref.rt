@@ -16,7 +16,7 @@ use der_core::{
 use std::alloc::{AllocError, Global};
 
 /// OCTET STRING (X.690 8.7): any octets, fewer than 2^32, lent.
-#[derive(Clone, Copy, Debug, PartialEq, Eq)]
+#[derive(Clone, Copy, Debug, PartialEq, Eq, PartialOrd, Ord, Hash)]
 pub struct OctetStringRef<'a> {
     bytes: &'a [u8],
     ghost short: { length bytes.now < 2 ^ 32 },

@@ -17,7 +17,7 @@ pub trait Sequence: FixedTag {
 }
 
 /// SEQUENCE (X.690 8.9): the octets of its content, fewer than 2^32, which aren't looked into; lent.
-#[derive(Clone, Copy, Debug, PartialEq, Eq)]
+#[derive(Clone, Copy, Debug, PartialEq, Eq, PartialOrd, Ord, Hash)]
 pub struct SequenceRef<'a> {
     bytes: &'a [u8],
     ghost short: { length bytes.now < 2 ^ 32 },

@@ -1,0 +1,23 @@
+//! The law of any values: a borrowed one and the owned one of the same tag and content are alike.
+//!
+//! It is the contract of a function that does nothing. What `tag`, `value`, `header`, `is_null`, `decode_as` and
+//! `sequence` answer is said at each in the same words.
+
+ghost use Rattle.std.specs.Prelude.{◌≡◌};
+ghost use Rattle.der_core_head.specs.Shapes.{octets_of};
+ghost use Rattle.der_core_order.specs.Orders.{encodings_cmp};
+ghost use Rattle.der_types_any.specs.Anys.{any_lent};
+
+use crate::any::Any;
+use crate::any_ref::AnyRef;
+use der_core::Shaped;
+
+/// Both forms are read and refused alike, for they have one shape; they have the same encoding, and stand in
+/// the same order.
+pub fn any_forms_agree()
+    ensures read { ⟦<AnyRef<'static> as Shaped>⟧.shape ≡ ⟦<Any as Shaped>⟧.shape }
+    ensures encoding { (a : AnyRef) → octets_of ⟦<AnyRef<'static> as Shaped>⟧.shape (⟦<AnyRef<'static> as Shaped>⟧.plain a)
+        ≡ octets_of ⟦<Any as Shaped>⟧.shape (⟦<Any as Shaped>⟧.plain (any_lent a)) }
+    ensures order { (a b : AnyRef) → encodings_cmp ⟦<AnyRef<'static> as Shaped>⟧.shape (⟦<AnyRef<'static> as Shaped>⟧.plain a) (⟦<AnyRef<'static> as Shaped>⟧.plain b)
+        ≡ encodings_cmp ⟦<Any as Shaped>⟧.shape (⟦<Any as Shaped>⟧.plain (any_lent a)) (⟦<Any as Shaped>⟧.plain (any_lent b)) }
+{}

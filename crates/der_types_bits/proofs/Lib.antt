@@ -1,0 +1,3 @@
+mod LastOctet
+mod AllBits
+mod BitRuns

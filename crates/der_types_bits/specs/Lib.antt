@@ -1,0 +1,3 @@
+pub mod Bits
+pub mod BitStrings
+pub mod BitOrders

@@ -1,0 +1,74 @@
+-- The contents of numbers that aren't negative: their digits, behind a zero where the first bit would be one.
+use Rattle.std.proofs.Common.{◌≡◌, ℕ, ◌<◌, ◌≤◌, Bool, true, false, List, [], ◌∷◌, length, Ok, Err, refl, sym, ap, ◌∙◌, arith}
+use Rattle.std.specs.Prelude.{pos, nat_lt}
+use Rattle.std.specs.Int.Digits.{number_from_digits}
+use Rattle.std.proofs.lemmas.Bool.{not-true, not-false}
+use Rattle.const_oid_identifiers.specs.Digits.{digits}
+use Rattle.der_core_head.specs.declared.error.ErrorKind.TheVariants as kinds
+use Rattle.der_core_head.specs.declared.tag.Tag.{Tag}
+use Rattle.der_core_head.specs.Integers.{positive, natural, integer_octets, integer_of, integer_read, is_redundant, shortest_integer}
+use Rattle.der_core_head.proofs.Bytes.{IsBytes}
+use Rattle.der_core_head.proofs.IntegerLaws.{integer_octets-of, integer_octets-some, integer_octets-not_redundant, integer_of-octets}
+use Rattle.der_types_numbers.specs.Numbers.{is_first_bit_set}
+use Rattle.der_types_numbers.specs.NumberOrders.{number-content, digits_cmp}
+
+positive-set : (w : List ℕ) → is_first_bit_set w ≡ true → positive w ≡ 0 ∷ w
+positive-set [] e = absurd cc
+positive-set (d ∷ ds) e = rw (not-true (nat_lt d 128) e) refl
+
+positive-clear : (w : List ℕ) → is_first_bit_set w ≡ false → positive w ≡ w
+positive-clear [] e = refl
+positive-clear (d ∷ ds) e = rw (not-false (nat_lt d 128) e) refl
+
+-- the content of a number, from its digits
+pub content-set : (w : List ℕ) → w ≡ digits 256 (number_from_digits 256 w) → is_first_bit_set w ≡ true → integer_octets (pos (number_from_digits 256 w)) ≡ 0 ∷ w
+unfolding integer_octets
+content-set w e s = ap positive (sym e) ∙ positive-set w s
+
+pub content-clear : (w : List ℕ) → w ≡ digits 256 (number_from_digits 256 w) → is_first_bit_set w ≡ false → integer_octets (pos (number_from_digits 256 w)) ≡ w
+unfolding integer_octets
+content-clear w e s = ap positive (sym e) ∙ positive-clear w s
+
+-- what octets are read as
+pub natural_empty : (t : Tag) (w : List ℕ) → w ≡ [] → integer_read natural t w ≡ Err (kinds.Length t)
+unfolding shortest_integer
+natural_empty t w e = rw e refl
+
+pub natural_redundant : (t : Tag) (w : List ℕ) → 0 < length w → is_redundant w ≡ true → integer_read natural t w ≡ Err (kinds.Noncanonical t)
+unfolding shortest_integer
+natural_redundant t [] some e = absurd (omega arith)
+natural_redundant t (d ∷ ds) some e = rw e refl
+
+pub natural_negative : (t : Tag) (w : List ℕ) → is_redundant w ≡ false → is_first_bit_set w ≡ true → integer_read natural t w ≡ Err (kinds.Value t)
+unfolding shortest_integer integer_of
+natural_negative t [] e s = absurd cc
+natural_negative t (d ∷ ds) e s = rw (e, not-true (nat_lt d 128) s) refl
+
+pub natural_is : (t : Tag) (w : List ℕ) → 0 < length w → is_redundant w ≡ false → is_first_bit_set w ≡ false → integer_read natural t w ≡ Ok (pos (number_from_digits 256 w))
+unfolding shortest_integer integer_of
+natural_is t [] some e s = absurd (omega arith)
+natural_is t (d ∷ ds) some e s = rw (e, not-false (nat_lt d 128) s) refl
+
+integer_of-clear : (w : List ℕ) → 0 < length w → is_first_bit_set w ≡ false → integer_of w ≡ pos (number_from_digits 256 w)
+unfolding integer_of
+integer_of-clear [] some s = absurd (omega arith)
+integer_of-clear (d ∷ ds) some s = rw (not-false (nat_lt d 128) s) refl
+
+pub natural_content : (w : List ℕ) → IsBytes w → 0 < length w → is_redundant w ≡ false → is_first_bit_set w ≡ false → integer_octets (pos (number_from_digits 256 w)) ≡ w
+natural_content w h some e s = ap integer_octets (sym (integer_of-clear w some s)) ∙ integer_octets-of w h some e
+
+-- no more digits than octets of the content
+pub natural_few : (w : List ℕ) → w ≡ digits 256 (number_from_digits 256 w) → length w ≤ length (integer_octets (pos (number_from_digits 256 w)))
+natural_few w e = by (is_first_bit_set w) refl
+  where
+    by : (b : Bool) → is_first_bit_set w ≡ b → length w ≤ length (integer_octets (pos (number_from_digits 256 w)))
+    by true s = omega (arith, ap length (content-set w e s))
+    by false s = omega (arith, ap length (content-clear w e s))
+
+pub ruleset natural_contents = (content-set, content-clear)
+
+pub ruleset natural_reads = (natural_empty, natural_redundant, natural_negative, natural_is)
+
+pub ruleset natural_orders = (digits_cmp)
+
+pub ruleset contents = (integer_octets-some, integer_octets-not_redundant, integer_of-octets, number-content)

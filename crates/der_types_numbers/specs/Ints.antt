@@ -1,0 +1,40 @@
+-- What contracts see of whole numbers of any size: the number.
+use Rattle.std.specs.Prelude.{◌≡◌, ◌<◌, ◌^◌, ℕ, ℤ, pos, List, false, length}
+use Rattle.std.specs.Int.Digits.{number_from_digits}
+use Rattle.const_oid_identifiers.specs.Digits.{digits}
+use Rattle.der_core_head.specs.Integers.{integer_of, integer_octets, is_redundant}
+use Rattle.der_types_numbers.specs.declared.int.Int.TheInside.{Inside}
+use Rattle.der_types_numbers.specs.declared.int_ref.IntRef.{IntRef}
+use Rattle.der_types_numbers.specs.declared.uint.Uint.TheInside.{Inside as UintInside}
+use Rattle.der_types_numbers.specs.declared.uint_ref.UintRef.{UintRef}
+
+abbrev pub integer_kept : Inside → ℤ
+integer_kept n = integer_of n.bytes.items
+
+pub record IsInt (n : Inside) : Type 0 where
+  pub content : n.bytes.items ≡ integer_octets (integer_of n.bytes.items)
+  pub some : 0 < length n.bytes.items
+  pub shortest : is_redundant n.bytes.items ≡ false
+  pub short : length n.bytes.items < 2 ^ 32
+
+abbrev pub integer_lent : IntRef → ℤ
+integer_lent n = integer_of n.bytes.now
+
+abbrev pub natural_kept : UintInside → ℕ
+natural_kept n = number_from_digits 256 n.bytes.items
+
+pub record IsUint (n : UintInside) : Type 0 where
+  pub some : 0 < length n.bytes.items
+  pub spelled : n.bytes.items ≡ integer_octets (pos (number_from_digits 256 n.bytes.items))
+  pub short : length n.bytes.items < 2 ^ 32
+
+abbrev pub natural_lent : UintRef → ℕ
+natural_lent n = number_from_digits 256 n.bytes.now
+
+-- the content octets
+abbrev pub content_lent : IntRef → List ℕ
+content_lent n = integer_octets (integer_lent n)
+
+-- the digits in base 256
+abbrev pub digits_lent : UintRef → List ℕ
+digits_lent n = digits 256 (natural_lent n)

@@ -1,0 +1,3 @@
+pub mod Ints
+pub mod Numbers
+pub mod NumberOrders

@@ -1,0 +1,31 @@
+-- Whole numbers of octets in which some may be left out (X.690 8.3.2).
+use Rattle.std.specs.Prelude.{ℕ, ℤ, pos, List, [], ◌∷◌, length, Bool, false, nat_lt, ◌==◌, not, Result, Ok, Err, if◌then◌else◌}
+use Rattle.std.specs.Int.Digits.{number_from_digits}
+use Rattle.der_core_head.specs.declared.error.ErrorKind.{ErrorKind}
+use Rattle.der_core_head.specs.declared.error.ErrorKind.TheVariants as kinds
+use Rattle.der_core_head.specs.declared.tag.Tag.TheVariants.{Integer}
+use Rattle.der_core_head.specs.Integers.{integer_of, integer_octets}
+
+-- a number, if its content has no more octets than a length can count
+unfoldable pub counted : {A : Type 0} → List ℕ → A → Result A ErrorKind
+counted content n = if nat_lt 4294967295 (length content) then Err kinds.Overflow else Ok n
+
+-- the number that octets spell in two's complement, the fewest or more
+unfoldable pub signed_number : List ℕ → Result ℤ ErrorKind
+signed_number [] = Err (kinds.Length Integer)
+signed_number (d ∷ ds) = counted (integer_octets (integer_of (d ∷ ds))) (integer_of (d ∷ ds))
+
+-- the number of octets that are digits in base 256, with leading zeros or without
+unfoldable pub unsigned_number : List ℕ → Result ℕ ErrorKind
+unsigned_number [] = Err (kinds.Length Integer)
+unsigned_number (d ∷ ds) = counted (integer_octets (pos (number_from_digits 256 (d ∷ ds)))) (number_from_digits 256 (d ∷ ds))
+
+-- a leading zero that isn't the only digit
+abbrev pub has_leading_zero : List ℕ → Bool
+has_leading_zero (d ∷ e ∷ ds) = d == 0
+has_leading_zero w = false
+
+-- whether the first bit is one
+abbrev pub is_first_bit_set : List ℕ → Bool
+is_first_bit_set [] = false
+is_first_bit_set (d ∷ ds) = not (nat_lt d 128)

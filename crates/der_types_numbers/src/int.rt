@@ -1,0 +1,230 @@
+//! INTEGER of any size.
+
+ghost use Rattle.std.specs.Prelude.{◌≡◌, ◌<◌, ◌^◌, pos, false, length, vec_len, nat_eq, Some, IfOk};
+ghost use Rattle.std.proofs.Common.{refl, ap};
+ghost use Rattle.std.specs.Cmp.{po, partial_equiv_from_equiv, on_equiv, on_per};
+ghost use Rattle.std.specs.Cmp.Lexicographic.{pointwise, bytes_decides, nat_list_eq_equiv};
+ghost use Rattle.std.specs.Hash as fed;
+ghost use Rattle.der_core_head.specs.Integers.{every, integer_of, integer_octets, is_redundant};
+ghost use Rattle.der_core_head.specs.declared.tag.Tag.TheVariants.{Integer};
+ghost use Rattle.der_core_head.specs.Leaves.{integer};
+ghost use Rattle.der_core_head.specs.Reading.{Gives};
+ghost use Rattle.der_core_head.specs.Shapes.{leaf};
+ghost use Rattle.der_types_numbers.specs.Ints.{integer_lent};
+ghost use Rattle.der_types_numbers.specs.NumberOrders.{integer_cmp, integer_cmp_total, integer_cmp_ties};
+ghost use Rattle.der_types_numbers.specs.Numbers.{signed_number};
+
+use crate::fewest::sized_cmp;
+use crate::int_ref::{AsIntRef, IntRef};
+use crate::uint::Uint;
+use der_core::{
+    DecodeValue, EncodeValue, Error, FixedTag, Header, Leaf, Length, Reader, ShapedValue, Tag,
+    Writer, decode_leaf,
+};
+use std::alloc::{AllocError, Global};
+use std::cmp::Ordering;
+use std::hash::{Hash, Hasher};
+use std::marker::Model;
+
+/// INTEGER of any size (X.690 8.3): two's complement in the fewest octets, fewer than 2^32.
+///
+/// Contracts see the number.
+#[derive(Debug, Drop)]
+pub struct Int {
+    bytes: Vec<u8>,
+}
+
+impl Model for Int {
+    ghost use Rattle.std.specs.Prelude.{ℤ};
+
+    ghost Value = { ℤ };
+
+    ghost use Rattle.der_types_numbers.specs.Ints.{integer_kept, IsInt};
+
+    ghost view = { integer_kept };
+
+    ghost invariant = { IsInt };
+}
+
+impl Int {
+    /// The number that octets spell in two's complement, the most significant octet first. The
+    /// octets that count for nothing are left out.
+    ///
+    /// # Errors
+    /// `Length` for no octets; `Overflow` where 2^32 octets or more are left; `OutOfMemory`.
+    pub fn new(alloc: Global, bytes: &[u8]) -> Result<Int, Error>
+        ensures { Gives (λ n. n) result (signed_number bytes.now) }
+    {
+        let lent = IntRef::new(bytes)?;
+        Ok(Int::copy_of(alloc, &lent)?)
+    }
+
+    /// The number of a borrowed one.
+    pub(crate) fn copy_of(alloc: Global, lent: &IntRef<'_>) -> Result<Int, AllocError>
+        ensures { IfOk result (λ n. n ≡ integer_lent lent.now) }
+    {
+        let bytes = lent.as_bytes().to_vec(alloc)?;
+        Ok(Int { bytes })
+    }
+
+    /// A copy.
+    ///
+    /// # Errors
+    /// Want of memory.
+    pub fn clone(&self, alloc: Global) -> Result<Int, AllocError>
+        ensures { IfOk result (λ n. n ≡ self.now) }
+    {
+        Int::copy_of(alloc, &self.owned_to_ref())
+    }
+
+    /// The content octets: two's complement, the most significant octet first.
+    pub fn as_bytes(&self) -> &[u8]
+        ensures octets { result.now ≡ integer_octets self.now }
+        ensures number { integer_of result.now ≡ self.now }
+    {
+        self.owned_to_ref().as_bytes()
+    }
+
+    /// The number of content octets.
+    pub fn len(&self) -> Length
+        ensures { result.value ≡ length (integer_octets self.now) }
+    {
+        self.owned_to_ref().len()
+    }
+
+    /// Whether there are no content octets, which never is.
+    pub fn is_empty(&self) -> bool
+        ensures { result ≡ false }
+    {
+        self.bytes.is_empty()
+    }
+
+    /// The same number, lent.
+    pub fn owned_to_ref(&self) -> IntRef<'_>
+        ensures { integer_lent result ≡ self.now }
+    {
+        IntRef::trusted(self.bytes.as_slice())
+    }
+
+    /// Octets that are known to be the content of a number.
+    fn trusted(bytes: Vec<u8>) -> Int
+        requires content { bytes.items ≡ integer_octets (integer_of bytes.items) }
+        requires some { 0 < vec_len bytes }
+        requires shortest { is_redundant bytes.items ≡ false }
+        requires short { vec_len bytes < 2 ^ 32 }
+        ensures { result ≡ integer_of bytes.items }
+    {
+        Int { bytes }
+    }
+}
+
+impl AsIntRef for Int {
+    ghost as_integer = { λ n. n };
+
+    fn as_int_ref(&self) -> IntRef<'_> {
+        self.owned_to_ref()
+    }
+}
+
+/// The same number.
+impl From<Uint> for Int {
+    ghost from_gives = { λ n z. z ≡ pos n };
+
+    #[tactic(auto, using(crate::proofs::Naturals::contents))]
+    fn from(number: Uint) -> Int {
+        Int::trusted(number.into_content())
+    }
+}
+
+/// Whether the numbers are equal.
+impl PartialEq for Int {
+    ghost eq = { λ a b. pointwise nat_eq (integer_octets a) (integer_octets b) };
+
+    ghost laws = { on_per integer_octets (partial_equiv_from_equiv nat_list_eq_equiv) };
+
+    fn eq(&self, other: &Self) -> bool {
+        self.as_bytes() == other.as_bytes()
+    }
+}
+
+impl Eq for Int {
+    ghost laws = { on_equiv integer_octets nat_list_eq_equiv };
+}
+
+/// The order of the number of content octets, and then of the octets.
+impl PartialOrd for Int {
+    ghost partial_cmp = { λ a b. Some (integer_cmp a b) };
+
+    ghost laws = { po integer_cmp_total integer_cmp_ties };
+
+    fn partial_cmp(&self, other: &Self) -> Option<Ordering> {
+        Some(self.cmp(other))
+    }
+}
+
+impl Ord for Int {
+    ghost cmp = { integer_cmp };
+
+    ghost total = { integer_cmp_total };
+
+    ghost matches_partial_cmp = { λ a b. refl };
+
+    ghost matches_eq = { integer_cmp_ties };
+
+    fn cmp(&self, other: &Self) -> Ordering {
+        sized_cmp(self.as_bytes(), other.as_bytes())
+    }
+}
+
+/// The content octets.
+impl Hash for Int {
+    ghost hash_input = { λ n. fed.slice fed.u8 (integer_octets n) };
+
+    ghost respects_eq = { λ a b e. ap (fed.slice fed.u8) ((bytes_decides (integer_octets a) (integer_octets b)).0 e) };
+
+    fn hash<H: Hasher>(&self, state: &mut H) {
+        self.as_bytes().hash(state);
+    }
+}
+
+impl FixedTag for Int {
+    ghost fixed_tag = { Integer };
+
+    fn tag() -> Tag {
+        Tag::Integer
+    }
+}
+
+/// Two's complement in the fewest octets.
+impl<'a> Leaf<'a> for Int {
+    ghost kind = { integer every };
+
+    ghost leaf_plain = { λ x. x };
+
+    fn from_content(alloc: Global, tag: Tag, octets: &'a [u8]) -> Result<Int, Error> {
+        let lent = IntRef::from_content(alloc, tag, octets)?;
+        Ok(Int::copy_of(alloc, &lent)?)
+    }
+}
+
+impl ShapedValue for Int {
+    ghost content = { leaf (integer every) };
+
+    ghost value_plain = { λ x. x };
+}
+
+impl<'a, R: Reader<'a>> DecodeValue<'a, R> for Int {
+    fn decode_value(alloc: Global, reader: &mut R, header: Header) -> Result<Int, Error> {
+        decode_leaf(alloc, reader, header)
+    }
+}
+
+impl EncodeValue for Int {
+    fn value_len(&self) -> Result<Length, Error> {
+        self.owned_to_ref().value_len()
+    }
+
+    fn encode_value<W: Writer>(&self, writer: &mut W) -> Result<(), Error> {
+        self.owned_to_ref().encode_value(writer)
+    }
+}

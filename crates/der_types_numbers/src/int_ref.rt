@@ -1,0 +1,253 @@
+//! INTEGER of any size, borrowed.
+
+ghost use Rattle.std.specs.Prelude.{◌≡◌, ◌<◌, ◌^◌, ◌↔◌, ℤ, length, nat_eq, true, false, Some, IsTrue, IfOk};
+ghost use Rattle.std.proofs.Common.{refl, ap};
+ghost use Rattle.std.specs.Cmp.{po, partial_equiv_from_equiv, on_equiv, on_per, on_total};
+ghost use Rattle.std.specs.Cmp.Lexicographic.{pointwise, bytes_decides, nat_list_eq_equiv};
+ghost use Rattle.std.specs.Hash as fed;
+ghost use Rattle.der_core_head.specs.declared.tag.Tag.TheVariants.{Integer as IntegerTag};
+ghost use Rattle.der_core_head.specs.Integers.{every, integer_of, integer_octets, is_redundant};
+ghost use Rattle.der_core_head.specs.Leaves.{integer, leaf_read};
+ghost use Rattle.der_core_head.specs.Reading.{GivesNow};
+ghost use Rattle.der_core_head.specs.Shapes.{leaf};
+ghost use Rattle.der_types_numbers.specs.NumberOrders.{integer_cmp, integer_cmp_total, integer_cmp_ties};
+ghost use Rattle.der_types_numbers.specs.Numbers.{signed_number};
+
+use crate::fewest::{fewest_signed, has_redundant_octet, sized_cmp};
+use crate::int::Int;
+use der_core::{
+    DecodeValue, EncodeValue, Error, ErrorKind, FixedTag, Header, Leaf, Length, Reader,
+    ShapedValue, Tag, Writer, decode_leaf, slice_len,
+};
+use std::alloc::{AllocError, Global};
+use std::cmp::Ordering;
+use std::hash::{Hash, Hasher};
+
+/// INTEGER of any size (X.690 8.3): two's complement in the fewest octets, fewer than 2^32; lent.
+#[derive(Clone, Copy, Debug)]
+pub struct IntRef<'a> {
+    bytes: &'a [u8],
+    ghost content: { bytes.now ≡ integer_octets (integer_of bytes.now) },
+    ghost some: { 0 < length bytes.now },
+    ghost shortest: { is_redundant bytes.now ≡ false },
+    ghost short: { length bytes.now < 2 ^ 32 },
+}
+
+impl<'a> IntRef<'a> {
+    ghost use Rattle.der_types_numbers.specs.Ints.{integer_lent};
+
+    /// The number that octets spell in two's complement, the most significant octet first. The
+    /// octets that count for nothing are left out.
+    ///
+    /// # Errors
+    /// `Length` for no octets; `Overflow` where 2^32 octets or more are left.
+    #[tactic(auto, unfolding(crate::specs::Numbers::signed_number, crate::specs::Numbers::counted))]
+    pub fn new(bytes: &'a [u8]) -> Result<IntRef<'a>, Error>
+        ensures { GivesNow integer_lent result (signed_number bytes.now) }
+    {
+        if bytes.is_empty() {
+            return Err(Error::from(ErrorKind::Length { tag: Tag::Integer }));
+        }
+        let bytes = fewest_signed(bytes);
+        if bytes.len() > 0xffff_ffff {
+            return Err(Error::from(ErrorKind::Overflow));
+        }
+        Ok(IntRef { bytes })
+    }
+
+    /// The content octets: two's complement, the most significant octet first.
+    pub fn as_bytes(&self) -> &'a [u8]
+        ensures octets { result.now ≡ integer_octets (integer_lent self.now) }
+        ensures number { integer_of result.now ≡ integer_lent self.now }
+        ensures some { 0 < length result.now }
+        ensures shortest { is_redundant result.now ≡ false }
+        ensures short { length result.now < 2 ^ 32 }
+    {
+        self.bytes
+    }
+
+    /// The number of content octets.
+    pub fn len(&self) -> Length
+        ensures { result.value ≡ length (integer_octets (integer_lent self.now)) }
+    {
+        Length {
+            value: self.as_bytes().len() as u32,
+        }
+    }
+
+    /// Whether there are no content octets, which never is.
+    pub fn is_empty(&self) -> bool
+        ensures { result ≡ false }
+    {
+        self.bytes.is_empty()
+    }
+
+    /// The same number, owned.
+    ///
+    /// # Errors
+    /// Want of memory.
+    pub fn ref_to_owned(&self, alloc: Global) -> Result<Int, AllocError>
+        ensures { IfOk result (λ n. n ≡ integer_lent self.now) }
+    {
+        Int::copy_of(alloc, self)
+    }
+
+    /// The number that a content spells behind a tag.
+    ///
+    /// # Errors
+    /// `Length` for no octets, `Noncanonical` where fewer would do.
+    #[tactic(auto, unfolding(der_core_head::specs::Integers::shortest_integer))]
+    pub fn of_content(tag: Tag, octets: &'a [u8]) -> Result<IntRef<'a>, Error>
+        requires { length octets.now < 2 ^ 32 }
+        ensures { GivesNow integer_lent result (leaf_read (integer every) tag octets.now) }
+    {
+        if octets.is_empty() {
+            return Err(Error::from(ErrorKind::Length { tag }));
+        }
+        if has_redundant_octet(octets) {
+            return Err(Error::from(ErrorKind::Noncanonical { tag }));
+        }
+        Ok(IntRef { bytes: octets })
+    }
+
+    /// Octets that are known to be the content of a number.
+    pub(crate) fn trusted(bytes: &'a [u8]) -> IntRef<'a>
+        requires content { bytes.now ≡ integer_octets (integer_of bytes.now) }
+        requires some { 0 < length bytes.now }
+        requires shortest { is_redundant bytes.now ≡ false }
+        requires short { length bytes.now < 2 ^ 32 }
+        ensures { integer_lent result ≡ integer_of bytes.now }
+    {
+        IntRef { bytes }
+    }
+}
+
+/// What is seen as a whole number.
+pub trait AsIntRef {
+    ghost as_integer: { Self → ℤ };
+
+    ghost use Rattle.der_types_numbers.specs.Ints.{integer_lent};
+
+    /// The number.
+    fn as_int_ref(&self) -> IntRef<'_>
+        ensures { integer_lent result ≡ as_integer self.now };
+}
+
+impl<'a> AsIntRef for IntRef<'a> {
+    ghost use Rattle.der_types_numbers.specs.Ints.{integer_lent};
+
+    ghost as_integer = { integer_lent };
+
+    fn as_int_ref(&self) -> IntRef<'_> {
+        *self
+    }
+}
+
+/// Whether the numbers are equal.
+impl<'a> PartialEq for IntRef<'a> {
+    ghost use Rattle.der_types_numbers.specs.Ints.{content_lent};
+
+    ghost eq = { λ a b. pointwise nat_eq (content_lent a) (content_lent b) };
+
+    ghost laws = { on_per content_lent (partial_equiv_from_equiv nat_list_eq_equiv) };
+
+    fn eq(&self, other: &Self) -> bool {
+        self.as_bytes() == other.as_bytes()
+    }
+}
+
+impl<'a> Eq for IntRef<'a> {
+    ghost use Rattle.der_types_numbers.specs.Ints.{content_lent};
+
+    ghost laws = { on_equiv content_lent nat_list_eq_equiv };
+}
+
+/// The order of the number of content octets, and then of the octets.
+impl<'a> PartialOrd for IntRef<'a> {
+    ghost use Rattle.der_types_numbers.specs.Ints.{integer_lent};
+
+    ghost partial_cmp = { λ a b. Some (integer_cmp (integer_lent a) (integer_lent b)) };
+
+    ghost laws = { po (on_total integer_lent integer_cmp_total) (λ a b. integer_cmp_ties (integer_lent a) (integer_lent b)) };
+
+    fn partial_cmp(&self, other: &Self) -> Option<Ordering> {
+        Some(self.cmp(other))
+    }
+}
+
+impl<'a> Ord for IntRef<'a> {
+    ghost use Rattle.der_types_numbers.specs.Ints.{integer_lent};
+
+    ghost cmp = { λ a b. integer_cmp (integer_lent a) (integer_lent b) };
+
+    ghost total = { on_total integer_lent integer_cmp_total };
+
+    ghost matches_partial_cmp = { λ a b. refl };
+
+    ghost matches_eq = { λ a b. integer_cmp_ties (integer_lent a) (integer_lent b) };
+
+    fn cmp(&self, other: &Self) -> Ordering {
+        sized_cmp(self.as_bytes(), other.as_bytes())
+    }
+}
+
+/// The content octets.
+impl<'a> Hash for IntRef<'a> {
+    ghost use Rattle.der_types_numbers.specs.Ints.{content_lent};
+
+    ghost hash_input = { λ n. fed.slice fed.u8 (content_lent n) };
+
+    ghost respects_eq = { λ a b e. ap (fed.slice fed.u8) ((bytes_decides (content_lent a) (content_lent b)).0 e) };
+
+    fn hash<H: Hasher>(&self, state: &mut H) {
+        self.as_bytes().hash(state);
+    }
+}
+
+impl<'a> FixedTag for IntRef<'a> {
+    ghost fixed_tag = { IntegerTag };
+
+    fn tag() -> Tag
+        ensures { result ≡ IntegerTag }
+    {
+        Tag::Integer
+    }
+}
+
+/// Two's complement in the fewest octets.
+impl<'a> Leaf<'a> for IntRef<'a> {
+    ghost use Rattle.der_types_numbers.specs.Ints.{integer_lent};
+
+    ghost kind = { integer every };
+
+    ghost leaf_plain = { integer_lent };
+
+    fn from_content(_alloc: Global, tag: Tag, octets: &'a [u8]) -> Result<IntRef<'a>, Error> {
+        let value = IntRef::of_content(tag, octets)?;
+        Ok(value)
+    }
+}
+
+impl<'a> ShapedValue for IntRef<'a> {
+    ghost use Rattle.der_types_numbers.specs.Ints.{integer_lent};
+
+    ghost content = { leaf (integer every) };
+
+    ghost value_plain = { integer_lent };
+}
+
+impl<'a, R: Reader<'a>> DecodeValue<'a, R> for IntRef<'a> {
+    fn decode_value(alloc: Global, reader: &mut R, header: Header) -> Result<IntRef<'a>, Error> {
+        decode_leaf(alloc, reader, header)
+    }
+}
+
+impl<'a> EncodeValue for IntRef<'a> {
+    fn value_len(&self) -> Result<Length, Error> {
+        slice_len(self.as_bytes())
+    }
+
+    fn encode_value<W: Writer>(&self, writer: &mut W) -> Result<(), Error> {
+        writer.write(self.as_bytes())
+    }
+}

@@ -1,0 +1,53 @@
+//! Laws of whole numbers: a borrowed number and its owned form agree.
+
+ghost use Rattle.std.specs.Prelude.{◌≡◌};
+ghost use Rattle.der_core_head.specs.Shapes.{contents};
+ghost use Rattle.der_types_numbers.specs.Ints.{integer_lent, natural_lent};
+
+use crate::int::Int;
+use crate::int_ref::IntRef;
+use crate::uint::Uint;
+use crate::uint_ref::UintRef;
+use der_core::ShapedValue;
+use std::hash::Hash;
+
+/// A borrowed whole number and its owned form have the same content, are equal to the same numbers, stand in the same order and
+/// are hashed alike. Nothing is done.
+pub fn integer_forms_agree()
+    ensures contents { (n : IntRef) → contents ⟦<IntRef<'static> as ShapedValue>⟧.content (⟦<IntRef<'static> as ShapedValue>⟧.value_plain n)
+        ≡ contents ⟦<Int as ShapedValue>⟧.content (⟦<Int as ShapedValue>⟧.value_plain (integer_lent n)) }
+    ensures equality { (m n : IntRef) → ⟦<IntRef<'static> as PartialEq>⟧.eq m n ≡ ⟦<Int as PartialEq>⟧.eq (integer_lent m) (integer_lent n) }
+    ensures order { (m n : IntRef) → ⟦<IntRef<'static> as Ord>⟧.cmp m n ≡ ⟦<Int as Ord>⟧.cmp (integer_lent m) (integer_lent n) }
+    ensures hash { (n : IntRef) → ⟦<IntRef<'static> as Hash>⟧.hash_input n ≡ ⟦<Int as Hash>⟧.hash_input (integer_lent n) }
+{}
+
+/// A borrowed whole number and an owned one that are the same number answer alike: so it is proved of the calls in the body.
+pub fn integers_answer_alike(lent: &IntRef<'_>, owned: &Int)
+    requires { integer_lent lent.now ≡ owned.now }
+{
+    let octets = lent.as_bytes() == owned.as_bytes();
+    prove!(octets);
+    prove!(lent.len() == owned.len());
+    prove!(lent.is_empty() == owned.is_empty());
+}
+
+/// A borrowed number that isn't negative and its owned form have the same content, are equal to the same numbers, stand in the
+/// same order and are hashed alike. Nothing is done.
+pub fn natural_forms_agree()
+    ensures contents { (n : UintRef) → contents ⟦<UintRef<'static> as ShapedValue>⟧.content (⟦<UintRef<'static> as ShapedValue>⟧.value_plain n)
+        ≡ contents ⟦<Uint as ShapedValue>⟧.content (⟦<Uint as ShapedValue>⟧.value_plain (natural_lent n)) }
+    ensures equality { (m n : UintRef) → ⟦<UintRef<'static> as PartialEq>⟧.eq m n ≡ ⟦<Uint as PartialEq>⟧.eq (natural_lent m) (natural_lent n) }
+    ensures order { (m n : UintRef) → ⟦<UintRef<'static> as Ord>⟧.cmp m n ≡ ⟦<Uint as Ord>⟧.cmp (natural_lent m) (natural_lent n) }
+    ensures hash { (n : UintRef) → ⟦<UintRef<'static> as Hash>⟧.hash_input n ≡ ⟦<Uint as Hash>⟧.hash_input (natural_lent n) }
+{}
+
+/// A borrowed number that isn't negative and an owned one that are the same number answer alike: so it is proved of the calls in
+/// the body.
+pub fn naturals_answer_alike(lent: &UintRef<'_>, owned: &Uint)
+    requires { natural_lent lent.now ≡ owned.now }
+{
+    let digits = lent.as_bytes() == owned.as_bytes();
+    prove!(digits);
+    prove!(lent.len() == owned.len());
+    prove!(lent.is_empty() == owned.is_empty());
+}

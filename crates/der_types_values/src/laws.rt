@@ -1,0 +1,34 @@
+//! Laws of octet strings, of bit strings and of whole numbers: a borrowed value and its owned form agree.
+
+ghost use Rattle.std.specs.Prelude.{◌≡◌};
+ghost use Rattle.der_core_head.specs.Shapes.{contents};
+ghost use Rattle.der_types_values.specs.OctetStrings.{octets_lent};
+
+use crate::octet_string::OctetString;
+use crate::octet_string_ref::OctetStringRef;
+use der_core::ShapedValue;
+pub use der_types_bits::laws::{bit_forms_agree, bits_answer_alike};
+pub use der_types_numbers::laws::{
+    integer_forms_agree, integers_answer_alike, natural_forms_agree, naturals_answer_alike,
+};
+use std::hash::Hash;
+
+/// A borrowed octet string and its owned form have the same content, are equal to the same octet strings, stand in the same
+/// order and are hashed alike. Nothing is done.
+pub fn octet_forms_agree()
+    ensures contents { (o : OctetStringRef) → contents ⟦<OctetStringRef<'static> as ShapedValue>⟧.content (⟦<OctetStringRef<'static> as ShapedValue>⟧.value_plain o)
+        ≡ contents ⟦<OctetString as ShapedValue>⟧.content (⟦<OctetString as ShapedValue>⟧.value_plain (octets_lent o)) }
+    ensures equality { (a b : OctetStringRef) → ⟦<OctetStringRef<'static> as PartialEq>⟧.eq a b ≡ ⟦<OctetString as PartialEq>⟧.eq (octets_lent a) (octets_lent b) }
+    ensures order { (a b : OctetStringRef) → ⟦<OctetStringRef<'static> as Ord>⟧.cmp a b ≡ ⟦<OctetString as Ord>⟧.cmp (octets_lent a) (octets_lent b) }
+    ensures hash { (o : OctetStringRef) → ⟦<OctetStringRef<'static> as Hash>⟧.hash_input o ≡ ⟦<OctetString as Hash>⟧.hash_input (octets_lent o) }
+{}
+
+/// A borrowed octet string and an owned one of the same octets answer alike: so it is proved of the calls in the body.
+pub fn octets_answer_alike(lent: &OctetStringRef<'_>, owned: &OctetString)
+    requires { octets_lent lent.now ≡ owned.now }
+{
+    let octets = lent.as_bytes() == owned.as_bytes();
+    prove!(octets);
+    prove!(lent.len() == owned.len());
+    prove!(lent.is_empty() == owned.is_empty());
+}
