@@ -1,4 +1,3 @@
 pub mod AnyTexts
 pub mod AsciiTexts
-pub mod BmpTexts
 pub mod Utf8Texts

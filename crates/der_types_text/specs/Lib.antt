@@ -1,4 +1,2 @@
-pub mod BmpChars
-pub mod BmpStrings
 pub mod Orders
 pub mod Texts

@@ -11,7 +11,7 @@ ghost use Rattle.der_core_head.specs.Leaves.{text};
 ghost use Rattle.der_core_head.specs.Reading.{Gives, GivesNow};
 ghost use Rattle.der_core_head.specs.Shapes.{leaf};
 ghost use Rattle.der_core_head.specs.Texts.{IsText};
-ghost use Rattle.der_types_text.specs.Orders.{text_order};
+ghost use Rattle.der_core_order.specs.OrdLaws.{octets_order};
 ghost use Rattle.der_types_text.specs.Texts.{text_from};
 
 use crate::ascii_string_ref::AsciiStringRef;
@@ -271,7 +271,7 @@ impl<T: AsciiType> ValueOrd for AsciiString<T> {
 }
 
 impl<T: AsciiType> OrdIsValueOrd for AsciiString<T> {
-    ghost order = { text_order T.repertoire };
+    ghost order = { octets_order (text T.repertoire) };
 }
 
 impl<T: AsciiType> fmt::Display for AsciiString<T> {

@@ -141,6 +141,15 @@ impl<'a, T: AsciiType> From<&AsciiStringRef<'a, T>> for AsciiStringRef<'a, T> {
     }
 }
 
+/// The octets of the text.
+impl<'a, T: AsciiType> From<AsciiStringRef<'a, T>> for &'a [u8] {
+    ghost from_gives = { λ t s. s.now ≡ t.text.now };
+
+    fn from(text: AsciiStringRef<'a, T>) -> &'a [u8] {
+        text.as_bytes()
+    }
+}
+
 impl<'a, T: AsciiType> AsSlice<u8> for AsciiStringRef<'a, T> {
     ghost items = { λ t. t.text.now };
 

@@ -6,7 +6,7 @@ ghost use Rattle.der_core_head.specs.Leaves.{text};
 ghost use Rattle.der_core_head.specs.Reading.{GivesNow};
 ghost use Rattle.der_core_head.specs.Shapes.{leaf};
 ghost use Rattle.der_core_head.specs.Texts.{any_octet};
-ghost use Rattle.der_types_text.specs.Orders.{text_order};
+ghost use Rattle.der_core_order.specs.OrdLaws.{octets_order};
 ghost use Rattle.der_types_text.specs.Texts.{octets_from};
 
 use der_core_head::{Error, Header, Length, Tag};
@@ -138,7 +138,5 @@ impl<'a> ValueOrd for GeneralStringRef<'a> {
 }
 
 impl<'a> OrdIsValueOrd for GeneralStringRef<'a> {
-    ghost use Rattle.der_core_head.specs.Texts.{any_octet};
-
-    ghost order = { λ v w. text_order any_octet v.bytes.now w.bytes.now };
+    ghost order = { λ v w. octets_order (text any_octet) v.bytes.now w.bytes.now };
 }

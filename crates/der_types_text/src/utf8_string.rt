@@ -6,7 +6,7 @@ ghost use Rattle.der_core_head.specs.Leaves.{utf8};
 ghost use Rattle.der_core_head.specs.Reading.{GivesNow};
 ghost use Rattle.der_core_head.specs.Shapes.{leaf};
 ghost use Rattle.der_core_head.specs.Texts.{utf8_read};
-ghost use Rattle.der_types_text.specs.Orders.{utf8_order};
+ghost use Rattle.der_core_order.specs.OrdLaws.{octets_order};
 ghost use Rattle.der_types_text.specs.Texts.{octets_from, utf8_from};
 
 use der_core_head::{Error, ErrorKind, Header, Length, Tag};
@@ -206,7 +206,7 @@ impl<'a> ValueOrd for Utf8StringRef<'a> {
 }
 
 impl<'a> OrdIsValueOrd for Utf8StringRef<'a> {
-    ghost order = { λ v w. utf8_order v.text.now w.text.now };
+    ghost order = { λ v w. octets_order utf8 v.text.now w.text.now };
 }
 
 impl<'a> fmt::Display for Utf8StringRef<'a> {

@@ -1,0 +1,2 @@
+pub mod BmpTexts
+pub mod Characters

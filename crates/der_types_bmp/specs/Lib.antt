@@ -1,0 +1,3 @@
+pub mod BmpChars
+pub mod BmpStrings
+pub mod Orders
