@@ -6,9 +6,9 @@ pub mod laws;
 mod tests;
 
 pub use der_types_any::{Any, AnyRef};
+pub use der_types_flags::{FlagSet, NamedBits};
 pub use der_types_sets::{
-    FlagSet, NamedBits, SequenceOf, SequenceOfIter, SetOf, SetOfIter, SetOfRef, SetOfRefIter,
-    SetOfVec,
+    SequenceOf, SequenceOfIter, SetOf, SetOfIter, SetOfRef, SetOfRefIter, SetOfVec,
 };
 pub use der_types_tagged::{
     Application, ApplicationRef, ClassField, ClassFieldRef, ContextSpecific, ContextSpecificRef,

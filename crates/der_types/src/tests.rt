@@ -1,5 +1,7 @@
 //! Values of several of the crates together.
 
+mod guide;
+
 use crate::*;
 use der_core::{SliceReader, TagMode, TagNumber, from_der};
 use std::test::Fail;

@@ -15,10 +15,10 @@ use Rattle.der_core_head.specs.Shapes.{Shape, Value, octets_of}
 use Rattle.der_core_order.specs.Orders.{octets_cmp}
 use Rattle.der_types_sets.specs.Sets.{Ascends, AllValid}
 
-same_octets : (a b : List ℕ) → octets_cmp a b ≡ Equal → a ≡ b
+pub same_octets : (a b : List ℕ) → octets_cmp a b ≡ Equal → a ≡ b
 same_octets a b e = (bytes_eq-Decides a b).0 (sym (is_eq-slice_cmp a b) ∙ ap is_eq e)
 
-turned : (a b : List ℕ) (r : Ordering) → octets_cmp a b ≡ r → octets_cmp b a ≡ ordering_reverse r
+pub turned : (a b : List ℕ) (r : Ordering) → octets_cmp a b ≡ r → octets_cmp b a ≡ ordering_reverse r
 turned a b r e = nat_list_cmp_total.antisymm b a ∙ ap ordering_reverse e
 
 less_on : (a b c : List ℕ) (r : Ordering) → octets_cmp a b ≡ Less → octets_cmp b c ≡ r → r ≢ Greater → octets_cmp a c ≡ Less

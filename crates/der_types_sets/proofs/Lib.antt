@@ -1,8 +1,11 @@
-pub mod LastOctet
-pub mod NamedSteps
 pub mod SetSteps
 pub mod LevelSteps
 pub mod LentSteps
 pub mod LooseSteps
 pub mod FewSteps
 pub mod Arrangements
+pub mod PutSteps
+pub mod LentWrites
+pub mod LentOwned
+pub mod WriteFaults
+pub mod LentOrders

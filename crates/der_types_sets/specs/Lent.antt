@@ -1,7 +1,8 @@
 -- What contracts see of a borrowed set: its members, lent as values or as the octets that spell them.
-use Rattle.std.specs.Prelude.{◌≡◌, ◌≢◌, ℕ, ◌<◌, List, [], ◌++◌, length, Option, Result, MatchOption, MatchResult, refl, ◌∷◌}
+use Rattle.std.specs.Prelude.{◌≡◌, ◌≢◌, ℕ, ◌<◌, List, [], ◌++◌, length, Option, Result, Err, MatchOption, MatchResult, refl, ◌∷◌, ◌⊎◌}
 use Rattle.std.specs.Coded.{Coded, code_by, coded×, coded_list, coded_ℕ}
 use Rattle.der_core_head.specs.declared.error.Error.{Error}
+use Rattle.der_core_head.specs.declared.error.ErrorKind.{ErrorKind}
 use Rattle.der_core_head.specs.declared.error.ErrorKind.TheVariants as kinds
 use Rattle.der_core_head.specs.Heads.{Fits}
 use Rattle.der_core_head.specs.Shapes.{Shape, Value}
@@ -47,6 +48,10 @@ pub record IsLent {A : Type 0} (s : Shape) (f : A → Value s) (l : Lent A) : Ty
 -- a refusal that is want of memory
 abbrev pub IsWantOfMemory : Error → Type 0
 IsWantOfMemory e = e.kind ≡ kinds.OutOfMemory
+
+-- That, or a length passes what a length can count.
+abbrev pub IsOverlong : Result ℕ ErrorKind → Error → Type 0
+IsOverlong n e = IsWantOfMemory e ⊎ ((e.kind ≡ kinds.Overflow) × (n ≡ Err kinds.Overflow))
 
 -- A call from l gave the first member and left the others, or gave None where nothing was left. Where there was no memory it left nothing.
 abbrev pub YieldsMember : {A : Type 0} (s : Shape) → (A → Value s) → Lent A → Option (Result A Error) → Lent A → Type 0

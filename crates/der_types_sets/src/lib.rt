@@ -1,9 +1,9 @@
-//! Lists of bounded room, sets, and named bits.
+//! Lists of bounded room, and sets.
 #![tactic(auto)]
 
 mod any_order;
-mod flag_set;
 mod iter;
+mod joined;
 pub mod laws;
 mod level;
 mod members;
@@ -17,7 +17,6 @@ mod set_of_vec;
 #[cfg(test)]
 mod tests;
 
-pub use flag_set::{FlagSet, NamedBits};
 pub use iter::{SequenceOfIter, SetOfIter};
 pub use sequence_of::SequenceOf;
 pub use set_of::SetOf;

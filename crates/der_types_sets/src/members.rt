@@ -4,6 +4,7 @@ ghost use Rattle.der_core_head.specs.Shapes.{many};
 ghost use Rattle.der_core_head.specs.Grammar.{plain_list};
 ghost use Rattle.der_core_head.specs.Reading.{GivesNow};
 ghost use Rattle.der_core_head.specs.Writing.{Writes, size_body, write_body};
+ghost use Rattle.der_core_output.specs.Outputs.{Continues};
 
 use der_core::{Encode, Error, Length, Writer, sum_len};
 
@@ -29,7 +30,8 @@ pub(crate) fn encode_members<T: Encode, W: Writer>(
     members: &[T],
     writer: &mut W,
 ) -> Result<(), Error>
-    ensures { Writes (W.out writer.old) (W.out writer.new) result (write_body (many T.shape) (plain_list T.plain members.now)) }
+    ensures exact { Writes (W.out writer.old) (W.out writer.new) result (write_body (many T.shape) (plain_list T.plain members.now)) }
+    ensures kept { Continues (W.out writer.old) (W.out writer.new) }
 {
     for member in members {
         member.encode(writer)?;

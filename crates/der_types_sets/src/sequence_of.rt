@@ -1,7 +1,11 @@
 //! SEQUENCE OF with room for so many members.
 
-ghost use Rattle.std.specs.Prelude.{◌≡◌, ◌==◌, ◌↔◌, ◌<◌, [], ◌∷◌, ◌++◌, length, slice_get, IsOk, OnOk, OnErr, IfErr};
+ghost use Rattle.std.specs.Prelude.{ℕ, ◌≡◌, ◌==◌, ◌↔◌, ◌<◌, [], ◌∷◌, ◌++◌, length, slice_get, slice_index_or, IsOk, OnOk, OnErr, IfErr};
 ghost use Rattle.std.specs.Option.{option_copied};
+ghost use Rattle.std.specs.List.{AllZip};
+ghost use Rattle.std.specs.Cmp.Lexicographic.{pointwise, lists_per, lists_equiv};
+ghost use Rattle.std.specs.Hash as fed;
+ghost use Rattle.std.specs.Hash.{items_Alike};
 ghost use Rattle.der_core_head.specs.declared.tag.Tag.TheVariants.{Sequence};
 ghost use Rattle.der_core_head.specs.Shapes.{nested, many};
 ghost use Rattle.der_core_head.specs.Grammar.{plain_list, value_at, read_content};
@@ -17,9 +21,10 @@ use der_core::{
     Shaped, ShapedValue, Tag, Writer,
 };
 use der_core_order::{DerOrd, ValueOrd, elements_cmp};
-use std::alloc::Global;
+use std::alloc::{AllocError, Global};
 use std::cmp::Ordering;
 use std::convert::AsSlice;
+use std::hash::{Hash, Hasher};
 use std::marker::Model;
 
 /// SEQUENCE OF (X.690 8.10) with at most `N` members.
@@ -196,5 +201,43 @@ impl<T, const N: usize> AsSlice<T> for SequenceOf<T, N> {
 
     fn as_slice(&self) -> &[T] {
         self.members.as_slice()
+    }
+}
+
+/// A copy of each member.
+impl<T: Clone + Default, const N: usize> Clone for SequenceOf<T, N> {
+    ghost is_clone = { AllZip T.is_clone };
+
+    ghost is_infallible = { λ v. (i : ℕ) (d : T) → i < length v → T.is_infallible (slice_index_or v i d) };
+
+    fn clone(&self) -> Result<SequenceOf<T, N>, AllocError> {
+        let members = self.members.clone()?;
+        Ok(SequenceOf { members })
+    }
+}
+
+/// Whether the members are equal, one by one.
+impl<T: PartialEq, const N: usize> PartialEq for SequenceOf<T, N> {
+    ghost eq = { pointwise T.eq };
+
+    ghost laws = { lists_per T.laws };
+
+    fn eq(&self, other: &Self) -> bool {
+        self.members == other.members
+    }
+}
+
+impl<T: Eq, const N: usize> Eq for SequenceOf<T, N> {
+    ghost laws = { lists_equiv T.Eq.laws };
+}
+
+/// How many members there are, and each of them.
+impl<T: Hash, const N: usize> Hash for SequenceOf<T, N> {
+    ghost hash_input = { fed.slice T.hash_input };
+
+    ghost respects_eq = { (items_Alike (record { fed = T.respects_eq })).fed };
+
+    fn hash<H: Hasher>(&self, state: &mut H) {
+        self.members.hash(state);
     }
 }

@@ -8,6 +8,9 @@ ghost use Rattle.der_core_head.specs.Shapes.{Value, tagged, nested, many};
 ghost use Rattle.der_core_head.specs.Spelling.{is_element, are_enough, are_content_enough};
 ghost use Rattle.der_core_head.specs.Grammar.{plain_list, value_at, read_content, whole_at};
 ghost use Rattle.der_core_head.specs.Reading.{Reads, Gives, Fails, IsDer};
+ghost use Rattle.std.specs.Cmp.Lexicographic.{pointwise, slice_cmp, slice_partial_cmp, lists_per, lists_equiv, lists_po, lists_total, lists_agrees, lists_ties};
+ghost use Rattle.std.specs.Hash as fed;
+ghost use Rattle.std.specs.Hash.{items_Alike};
 ghost use Rattle.der_types_sets.specs.Lent.{members_lent};
 ghost use Rattle.der_types_sets.specs.Sets.{Ascends, Loose, SpellsLoosely, TooLong, IsBelowLast, read_few};
 
@@ -23,9 +26,10 @@ use der_core::{
     Shaped, ShapedValue, SliceReader, Tag, Writer,
 };
 use der_core_order::{DerOrd, ValueOrd, elements_cmp};
-use std::alloc::Global;
+use std::alloc::{AllocError, Global};
 use std::cmp::Ordering;
 use std::convert::AsSlice;
+use std::hash::{Hash, Hasher};
 use std::marker::Model;
 
 /// SET OF (X.690 8.12) with at most `N` members, in ascending order of their encodings, equal ones
@@ -115,6 +119,21 @@ impl<T: Shaped, const N: usize> SetOf<T, N> {
         ensures { result ≡ length self.now }
     {
         self.members.len()
+    }
+}
+
+impl<T: Shaped + Clone + Drop + Default, const N: usize> SetOf<T, N> {
+    /// A copy, of a type whose copies are the same.
+    ///
+    /// # Errors
+    /// Want of memory, for the members.
+    #[tactic(auto, using(crate::proofs::SetSteps::same_copies))]
+    pub fn clone(&self, _alloc: Global) -> Result<SetOf<T, N>, AllocError>
+        requires { (x y : T) → T.is_clone x y → y ≡ x }
+        ensures { IfOk result (λ set. set ≡ self.now) }
+    {
+        let members = self.members.clone()?;
+        Ok(SetOf { members })
     }
 }
 
@@ -255,6 +274,57 @@ impl<T: Shaped, const N: usize> AsSlice<T> for SetOf<T, N> {
 
     fn as_slice(&self) -> &[T] {
         self.members.as_slice()
+    }
+}
+
+/// Whether the members are equal, one by one.
+impl<T: Shaped + PartialEq, const N: usize> PartialEq for SetOf<T, N> {
+    ghost eq = { pointwise T.eq };
+
+    ghost laws = { lists_per T.laws };
+
+    fn eq(&self, other: &Self) -> bool {
+        self.members == other.members
+    }
+}
+
+impl<T: Shaped + Eq, const N: usize> Eq for SetOf<T, N> {
+    ghost laws = { lists_equiv T.Eq.laws };
+}
+
+/// The first members that differ decide, by their own order, and else how many there are.
+impl<T: Shaped + PartialOrd, const N: usize> PartialOrd for SetOf<T, N> {
+    ghost partial_cmp = { slice_partial_cmp T.partial_cmp };
+
+    ghost laws = { lists_po T.PartialOrd.laws };
+
+    fn partial_cmp(&self, other: &Self) -> Option<Ordering> {
+        self.members.partial_cmp(&other.members)
+    }
+}
+
+impl<T: Shaped + Ord, const N: usize> Ord for SetOf<T, N> {
+    ghost cmp = { slice_cmp T.cmp };
+
+    ghost total = { lists_total T.total };
+
+    ghost matches_partial_cmp = { lists_agrees T.matches_partial_cmp };
+
+    ghost matches_eq = { lists_ties T.cmp T.matches_eq };
+
+    fn cmp(&self, other: &Self) -> Ordering {
+        self.members.cmp(&other.members)
+    }
+}
+
+/// How many members there are, and each of them.
+impl<T: Shaped + Hash, const N: usize> Hash for SetOf<T, N> {
+    ghost hash_input = { fed.slice T.hash_input };
+
+    ghost respects_eq = { (items_Alike (record { fed = T.respects_eq })).fed };
+
+    fn hash<H: Hasher>(&self, state: &mut H) {
+        self.members.hash(state);
     }
 }
 

@@ -1,21 +1,30 @@
 //! SET OF, borrowed.
 
-ghost use Rattle.std.specs.Prelude.{◌≡◌, ◌⊎◌, ◌==◌, ◌≤◌, ℕ, List, length, take, true, false, slice_get, IfOk, IfErr, Ok, MatchResult};
+ghost use Rattle.std.specs.Prelude.{⊤, ◌≡◌, ◌⊎◌, ◌==◌, ◌≤◌, ℕ, List, length, take, true, false, slice_get, IfOk, IfErr, Ok, MatchResult};
 ghost use Rattle.der_core_head.specs.declared.tag.Tag.TheVariants.{Set};
-ghost use Rattle.der_core_head.specs.Shapes.{Value};
-ghost use Rattle.der_core_head.specs.Spelling.{is_apart, is_element, are_enough};
+ghost use Rattle.der_core_head.specs.Shapes.{Value, tagged, nested, many, IsContent, IsValid};
+ghost use Rattle.der_core_head.specs.Spelling.{is_apart, is_body_apart, is_element, are_enough};
 ghost use Rattle.der_core_head.specs.Grammar.{plain_list, plain_option, value_at};
 ghost use Rattle.der_core_head.specs.Reading.{Gives, Reads};
+ghost use Rattle.der_core_head.specs.Writing.{size, size_body};
+ghost use Rattle.der_core_order.specs.Orders.{contents_cmp, encodings_cmp, Overflows};
 ghost use Rattle.der_types_sets.specs.Sets.{Ascends, IsOutOfOrder, TooLong};
 ghost use Rattle.der_types_sets.specs.Level.{NeverDescends, level_content};
 ghost use Rattle.der_types_sets.specs.Lent.{members_lent, IsWantOfMemory};
 
+use crate::joined::joined_cmp;
 use crate::level::count_level;
+use crate::members::{encode_members, members_len};
 use crate::places::check_ascending;
 use crate::set_of_ref_iter::SetOfRefIter;
-use der_core::{Decode, Error, FixedTag, Header, Member, Reader, Shaped, SliceReader, Tag};
-use der_core_order::DerOrd;
-use std::alloc::Global;
+use crate::set_of_vec::SetOfVec;
+use der_core::{
+    Decode, Encode, EncodeValue, Error, FixedTag, Header, Length, Member, Reader, Shaped,
+    ShapedValue, SliceReader, Tag, Writer,
+};
+use der_core_order::{DerOrd, elements_cmp, length_cmp};
+use std::alloc::{AllocError, Global};
+use std::cmp::Ordering;
 use std::marker::Model;
 
 /// SET OF (X.690 8.12), borrowed: members of which no encoding is below the one before it (X.690
@@ -138,6 +147,48 @@ impl<'a, T: Decode<'a, SliceReader<'a>> + Member + Clone> SetOfRef<'a, T> {
         let member = member?;
         Ok(Some(member))
     }
+
+    /// The set of the same members, read or copied. A copy has the plain value of what it is a copy
+    /// of.
+    ///
+    /// # Errors
+    /// `OutOfMemory`.
+    pub fn ref_to_owned(&self, alloc: Global) -> Result<SetOfVec<T>, Error>
+        requires { (x y : T) → T.is_clone x y → T.plain y ≡ T.plain x }
+        ensures ok { IfOk result (λ set. plain_list T.plain set ≡ members_lent T.shape T.plain self.now) }
+        ensures refused { IfErr result IsWantOfMemory }
+    {
+        let mut members = Vec::with_capacity(alloc, self.len())?;
+        let lent = SetOfRefIter::of(alloc, self.values, self.octets, self.count);
+        for member in lent {
+            members.push(member?)?;
+        }
+        Ok(SetOfVec::of_members(members))
+    }
+}
+
+/// The same loans. No memory is taken.
+impl<'a, T: Shaped> Clone for SetOfRef<'a, T> {
+    ghost is_clone = { λ x y. y ≡ x };
+
+    ghost is_infallible = { λ _. ⊤ };
+
+    fn clone(&self) -> Result<SetOfRef<'a, T>, AllocError> {
+        Ok(SetOfRef::from(self))
+    }
+}
+
+/// The same set.
+impl<'a, 'b, T: Shaped> From<&'b SetOfRef<'a, T>> for SetOfRef<'a, T> {
+    ghost from_gives = { λ set same. same ≡ set.now };
+
+    fn from(set: &'b SetOfRef<'a, T>) -> SetOfRef<'a, T> {
+        SetOfRef {
+            values: set.values,
+            octets: set.octets,
+            count: set.count,
+        }
+    }
 }
 
 /// Values in ascending order, equal ones kept. No memory is taken.
@@ -161,5 +212,78 @@ impl<'a, T: Shaped> FixedTag for SetOfRef<'a, T> {
 
     fn tag() -> Tag {
         Tag::Set
+    }
+}
+
+/// The encodings of the members, in order.
+impl<'a, T: Shaped> ShapedValue for SetOfRef<'a, T> {
+    ghost content = { nested (many T.shape) };
+
+    ghost value_plain = { members_lent T.shape T.plain };
+}
+
+/// The octets of a content are written as they stand.
+impl<'a, T: Encode> EncodeValue for SetOfRef<'a, T> {
+    fn value_len(&self) -> Result<Length, Error> {
+        if self.octets.is_empty() {
+            return members_len(self.values);
+        }
+        Ok(Length {
+            value: self.octets.len() as u32,
+        })
+    }
+
+    fn encode_value<W: Writer>(&self, writer: &mut W) -> Result<(), Error> {
+        if self.octets.is_empty() {
+            return encode_members(self.values, writer);
+        }
+        writer.write(self.octets)
+    }
+}
+
+impl<'a, T: DerOrd + Encode> SetOfRef<'a, T> {
+    /// The order of the contents of two sets, as lists of octets, whatever their lengths. Memory is
+    /// taken where one lends values and the other octets.
+    ///
+    /// # Errors
+    /// `Overflow` where the content of one of the two has 2^32 octets or more, or `OutOfMemory`.
+    pub fn value_cmp(&self, alloc: Global, other: &SetOfRef<'a, T>) -> Result<Ordering, Error>
+        // It is answered wherever both sets have a content, unless memory runs out.
+        ensures order { is_body_apart (many T.shape) ≡ true → IsContent (nested (many T.shape)) (members_lent T.shape T.plain self.now) → IsContent (nested (many T.shape)) (members_lent T.shape T.plain other.now)
+            → Gives (λ o. o) result (Ok (contents_cmp (nested (many T.shape)) (members_lent T.shape T.plain self.now) (members_lent T.shape T.plain other.now))) }
+        ensures refused { IfErr result (λ e. IsWantOfMemory e ⊎ Overflows e (size_body (many T.shape) (members_lent T.shape T.plain self.now)) (size_body (many T.shape) (members_lent T.shape T.plain other.now))) }
+    {
+        if self.octets.is_empty() {
+            if other.octets.is_empty() {
+                return elements_cmp(self.values, other.values);
+            }
+            return joined_cmp(alloc, self.values, other.octets);
+        }
+        if other.octets.is_empty() {
+            let order = joined_cmp(alloc, other.values, self.octets)?;
+            return Ok(order.reverse());
+        }
+        Ok(self.octets.cmp(other.octets))
+    }
+
+    /// The order of the encodings of two sets, as lists of octets: that of the lengths, then that of
+    /// the contents (X.690 11.6). Memory is taken where one lends values and the other octets.
+    ///
+    /// # Errors
+    /// `Overflow` where the encoding of one of the two has 2^32 octets or more, or `OutOfMemory`.
+    pub fn der_cmp(&self, alloc: Global, other: &SetOfRef<'a, T>) -> Result<Ordering, Error>
+        // It is answered wherever both sets have an encoding, unless memory runs out.
+        ensures order { is_body_apart (many T.shape) ≡ true → IsValid (tagged Set (nested (many T.shape))) (members_lent T.shape T.plain self.now) → IsValid (tagged Set (nested (many T.shape))) (members_lent T.shape T.plain other.now)
+            → Gives (λ o. o) result (Ok (encodings_cmp (tagged Set (nested (many T.shape))) (members_lent T.shape T.plain self.now) (members_lent T.shape T.plain other.now))) }
+        ensures refused { IfErr result (λ e. IsWantOfMemory e ⊎ Overflows e (size (tagged Set (nested (many T.shape))) (members_lent T.shape T.plain self.now)) (size (tagged Set (nested (many T.shape))) (members_lent T.shape T.plain other.now))) }
+    {
+        let len = self.value_len()?;
+        let other_len = other.value_len()?;
+        let lengths = length_cmp(len, other_len);
+        if lengths.is_ne() {
+            return Ok(lengths);
+        }
+        let contents = self.value_cmp(alloc, other)?;
+        Ok(contents)
     }
 }

@@ -8,7 +8,9 @@ ghost use Rattle.der_core_head.specs.Shapes.{Value, tagged, nested, many, rising
 ghost use Rattle.der_core_head.specs.Spelling.{is_element, are_enough, are_content_enough};
 ghost use Rattle.der_core_head.specs.Grammar.{plain_list, value_at, read_content, whole_at};
 ghost use Rattle.der_core_head.specs.Reading.{Reads, Gives, Fails, IsDer};
-ghost use Rattle.std.specs.Cmp.Lexicographic.{pointwise, lists_per, lists_equiv};
+ghost use Rattle.std.specs.Cmp.Lexicographic.{pointwise, slice_cmp, slice_partial_cmp, lists_per, lists_equiv, lists_po, lists_total, lists_agrees, lists_ties};
+ghost use Rattle.std.specs.Hash as fed;
+ghost use Rattle.std.specs.Hash.{items_Alike};
 ghost use Rattle.der_types_sets.specs.Lent.{members_lent};
 ghost use Rattle.der_types_sets.specs.Sets.{Ascends, Loose, SpellsLoosely, IsRefusal, TooLong, IsBelowLast, Gains};
 ghost use Rattle.std.specs.Iterator.{IsFinite, ExtendsWithItems, Drains};
@@ -25,6 +27,7 @@ use der_core_order::{DerOrd, ValueOrd, elements_cmp};
 use std::alloc::{AllocError, Global};
 use std::cmp::Ordering;
 use std::convert::AsSlice;
+use std::hash::{Hash, Hasher};
 use std::marker::Model;
 
 /// SET OF (X.690 8.12): members in ascending order of their encodings, equal ones kept.
@@ -50,6 +53,14 @@ impl<T: Shaped> Model for SetOfVec<T> {
 }
 
 impl<T: Shaped> SetOfVec<T> {
+    /// The set of members in ascending order.
+    pub(crate) fn of_members(members: Vec<T>) -> SetOfVec<T>
+        requires { Ascends T.shape T.plain members.items }
+        ensures { result ≡ members.items }
+    {
+        SetOfVec { members }
+    }
+
     /// The empty set.
     pub fn new(alloc: Global) -> SetOfVec<T>
         ensures { result ≡ [] }
@@ -352,6 +363,42 @@ impl<T: Shaped + PartialEq> PartialEq for SetOfVec<T> {
 
 impl<T: Shaped + Eq> Eq for SetOfVec<T> {
     ghost laws = { lists_equiv T.Eq.laws };
+}
+
+/// The first members that differ decide, by their own order, and else how many there are.
+impl<T: Shaped + PartialOrd> PartialOrd for SetOfVec<T> {
+    ghost partial_cmp = { slice_partial_cmp T.partial_cmp };
+
+    ghost laws = { lists_po T.PartialOrd.laws };
+
+    fn partial_cmp(&self, other: &Self) -> Option<Ordering> {
+        self.members.partial_cmp(&other.members)
+    }
+}
+
+impl<T: Shaped + Ord> Ord for SetOfVec<T> {
+    ghost cmp = { slice_cmp T.cmp };
+
+    ghost total = { lists_total T.total };
+
+    ghost matches_partial_cmp = { lists_agrees T.matches_partial_cmp };
+
+    ghost matches_eq = { lists_ties T.cmp T.matches_eq };
+
+    fn cmp(&self, other: &Self) -> Ordering {
+        self.members.cmp(&other.members)
+    }
+}
+
+/// How many members there are, and each of them.
+impl<T: Shaped + Hash> Hash for SetOfVec<T> {
+    ghost hash_input = { fed.slice T.hash_input };
+
+    ghost respects_eq = { (items_Alike (record { fed = T.respects_eq })).fed };
+
+    fn hash<H: Hasher>(&self, state: &mut H) {
+        self.members.hash(state);
+    }
 }
 
 /// These members, in ascending order. No memory is taken.

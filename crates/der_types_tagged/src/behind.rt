@@ -6,6 +6,7 @@ ghost use Rattle.der_core_head.specs.Spelling.{is_content_apart};
 ghost use Rattle.der_core_head.specs.Reading.{Gives, GivesNow};
 ghost use Rattle.der_core_head.specs.Writing.{Writes, size, write};
 ghost use Rattle.der_core_order.specs.Orders.{octets_cmp, Overflows};
+ghost use Rattle.der_core_output.specs.Outputs.{Continues};
 
 use der_core::{
     Encode, EncodeValue, Error, Length, Shaped, ShapedValue, Tag, Writer, encode_header,
@@ -57,7 +58,8 @@ pub fn encode_behind<W: Writer, T: EncodeValue>(
     tag: Tag,
     value: &T,
 ) -> Result<(), Error>
-    ensures { Writes (W.out writer.old) (W.out writer.new) result (write (tagged tag T.content) (T.value_plain value.now)) }
+    ensures exact { Writes (W.out writer.old) (W.out writer.new) result (write (tagged tag T.content) (T.value_plain value.now)) }
+    ensures kept { Continues (W.out writer.old) (W.out writer.new) }
 {
     let len = value.value_len()?;
     encode_header(writer, tag, len)?;

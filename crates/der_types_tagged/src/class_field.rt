@@ -10,6 +10,7 @@ ghost use Rattle.der_core_head.specs.Reading.{Gives, GivesNow, Reads};
 ghost use Rattle.der_core_head.specs.Writing.{Writes, size, size_content, write, write_content};
 ghost use Rattle.der_core_order.specs.Orders.{contents_cmp, octets_cmp, Overflows};
 ghost use Rattle.der_types_tagged.specs.Fields.{field_tag, explicit_field, implicit_field, numbered_at};
+ghost use Rattle.der_core_output.specs.Outputs.{Continues};
 
 use crate::class_field_ref::ClassFieldRef;
 use crate::fields::{
@@ -29,7 +30,7 @@ use std::cmp::Ordering;
 /// (X.690 8.1.2.2): `CLASS_APPLICATION`, `CLASS_CONTEXT_SPECIFIC` or `CLASS_PRIVATE`.
 ///
 /// The tag stands in front of the value's own tag or in its place (X.680 31, X.690 8.14).
-#[derive(Debug, Drop, PartialEq, Eq)]
+#[derive(Clone, Debug, Drop, PartialEq, Eq)]
 pub struct ClassField<T, const CLASS: u8> {
     /// The number of the tag.
     pub tag_number: TagNumber,
@@ -172,6 +173,7 @@ impl<T: EncodeValue + FixedTag, const CLASS: u8> ClassField<T, CLASS> {
     pub fn encode_value<W: Writer>(&self, writer: &mut W) -> Result<(), Error>
         ensures explicit { self.now.tag_mode ≡ Explicit → Writes (W.out writer.old) (W.out writer.new) result (write_content (nested (only (tagged T.fixed_tag T.content))) (T.value_plain self.now.value)) }
         ensures implicit { self.now.tag_mode ≡ Implicit → Writes (W.out writer.old) (W.out writer.new) result (write_content T.content (T.value_plain self.now.value)) }
+        ensures kept { Continues (W.out writer.old) (W.out writer.new) }
     {
         encode_value_of_field(writer, self.tag_mode, &self.value)
     }
@@ -194,6 +196,7 @@ impl<T: EncodeValue + FixedTag, const CLASS: u8> ClassField<T, CLASS> {
     pub fn encode<W: Writer>(&self, writer: &mut W) -> Result<(), Error>
         ensures explicit { self.now.tag_mode ≡ Explicit → Writes (W.out writer.old) (W.out writer.new) result (write (explicit_field CLASS self.now.tag_number.value (tagged T.fixed_tag T.content)) (T.value_plain self.now.value)) }
         ensures implicit { self.now.tag_mode ≡ Implicit → Writes (W.out writer.old) (W.out writer.new) result (write (implicit_field CLASS self.now.tag_number.value T.fixed_tag T.content) (T.value_plain self.now.value)) }
+        ensures kept { Continues (W.out writer.old) (W.out writer.new) }
     {
         encode_field(writer, CLASS, self.tag_mode, self.tag_number, &self.value)
     }

@@ -1,18 +1,20 @@
 //! Lent values behind tags of one class.
 
-ghost use Rattle.std.specs.Prelude.{◌≡◌, [], Ok, None, false};
+ghost use Rattle.std.specs.Prelude.{◌≡◌, [], Ok, None, false, IsOk, IfOk};
 ghost use Rattle.der_core_head.specs.declared.tag_mode.TagMode.TheVariants.{Explicit, Implicit};
 ghost use Rattle.der_core_head.specs.Shapes.{nested, only, tagged, IsValid, octets_of};
 ghost use Rattle.der_core_head.specs.Reading.{Gives, GivesNow};
 ghost use Rattle.der_core_head.specs.Writing.{Writes, size, size_content, write, write_content};
 ghost use Rattle.der_types_tagged.specs.Fields.{field_tag, explicit_field, implicit_field};
+ghost use Rattle.der_core_output.specs.Outputs.{Continues};
 
+use crate::class_field::ClassField;
 use crate::fields::{
     der_of_field, encode_field, encode_value_of_field, len_of_field, tag_of_field,
     value_len_of_field,
 };
 use der_core::{EncodeValue, Error, FixedTag, Length, Tag, TagMode, TagNumber, Tagged, Writer};
-use std::alloc::Global;
+use std::alloc::{AllocError, Global};
 
 /// A lent value behind a tag of a class, which `CLASS` tells by its bits in the first octet of a tag
 /// (X.690 8.1.2.2): `CLASS_APPLICATION`, `CLASS_CONTEXT_SPECIFIC` or `CLASS_PRIVATE`.
@@ -37,6 +39,26 @@ impl<'a, T: Tagged, const CLASS: u8> Tagged for ClassFieldRef<'a, T, CLASS> {
     }
 }
 
+impl<'a, T: Clone, const CLASS: u8> ClassFieldRef<'a, T, CLASS> {
+    /// The same field, with a clone of its value.
+    ///
+    /// # Errors
+    /// Where the clone finds no memory.
+    pub fn ref_to_owned(&self) -> Result<ClassField<T, CLASS>, AllocError>
+        ensures number { IfOk result (λ f. f.tag_number ≡ self.now.tag_number) }
+        ensures mode { IfOk result (λ f. f.tag_mode ≡ self.now.tag_mode) }
+        ensures value { IfOk result (λ f. T.is_clone self.now.value.now f.value) }
+        ensures succeeds { T.is_infallible self.now.value.now → IsOk result }
+    {
+        let value = self.value.clone()?;
+        Ok(ClassField {
+            tag_number: self.tag_number,
+            tag_mode: self.tag_mode,
+            value,
+        })
+    }
+}
+
 impl<'a, T: EncodeValue + FixedTag, const CLASS: u8> ClassFieldRef<'a, T, CLASS> {
     /// The number of content octets.
     ///
@@ -56,6 +78,7 @@ impl<'a, T: EncodeValue + FixedTag, const CLASS: u8> ClassFieldRef<'a, T, CLASS>
     pub fn encode_value<W: Writer>(&self, writer: &mut W) -> Result<(), Error>
         ensures explicit { self.now.tag_mode ≡ Explicit → Writes (W.out writer.old) (W.out writer.new) result (write_content (nested (only (tagged T.fixed_tag T.content))) (T.value_plain self.now.value.now)) }
         ensures implicit { self.now.tag_mode ≡ Implicit → Writes (W.out writer.old) (W.out writer.new) result (write_content T.content (T.value_plain self.now.value.now)) }
+        ensures kept { Continues (W.out writer.old) (W.out writer.new) }
     {
         encode_value_of_field(writer, self.tag_mode, self.value)
     }
@@ -78,6 +101,7 @@ impl<'a, T: EncodeValue + FixedTag, const CLASS: u8> ClassFieldRef<'a, T, CLASS>
     pub fn encode<W: Writer>(&self, writer: &mut W) -> Result<(), Error>
         ensures explicit { self.now.tag_mode ≡ Explicit → Writes (W.out writer.old) (W.out writer.new) result (write (explicit_field CLASS self.now.tag_number.value (tagged T.fixed_tag T.content)) (T.value_plain self.now.value.now)) }
         ensures implicit { self.now.tag_mode ≡ Implicit → Writes (W.out writer.old) (W.out writer.new) result (write (implicit_field CLASS self.now.tag_number.value T.fixed_tag T.content) (T.value_plain self.now.value.now)) }
+        ensures kept { Continues (W.out writer.old) (W.out writer.new) }
     {
         encode_field(writer, CLASS, self.tag_mode, self.tag_number, self.value)
     }

@@ -9,6 +9,7 @@ ghost use Rattle.der_core_head.specs.Reading.{Gives, GivesNow};
 ghost use Rattle.der_core_head.specs.Writing.{Writes, size, size_content, write, write_content};
 ghost use Rattle.der_core_order.specs.Orders.{contents_cmp, octets_cmp, Overflows};
 ghost use Rattle.der_types_tagged.specs.Fields.{field_tag, explicit_field, implicit_field};
+ghost use Rattle.der_core_output.specs.Outputs.{Continues};
 
 use crate::behind::{Whole, cmp_behind, der_behind, encode_behind, len_behind};
 use der_core::{
@@ -70,6 +71,7 @@ pub fn encode_value_of_field<W: Writer, T: EncodeValue + FixedTag>(
 ) -> Result<(), Error>
     ensures explicit { mode ≡ Explicit → Writes (W.out writer.old) (W.out writer.new) result (write_content (nested (only (tagged T.fixed_tag T.content))) (T.value_plain value.now)) }
     ensures implicit { mode ≡ Implicit → Writes (W.out writer.old) (W.out writer.new) result (write_content T.content (T.value_plain value.now)) }
+    ensures kept { Continues (W.out writer.old) (W.out writer.new) }
 {
     match mode {
         TagMode::Explicit => value.encode(writer),
@@ -104,6 +106,7 @@ pub fn encode_field<W: Writer, T: EncodeValue + FixedTag>(
 ) -> Result<(), Error>
     ensures explicit { mode ≡ Explicit → Writes (W.out writer.old) (W.out writer.new) result (write (explicit_field class number.value (tagged T.fixed_tag T.content)) (T.value_plain value.now)) }
     ensures implicit { mode ≡ Implicit → Writes (W.out writer.old) (W.out writer.new) result (write (implicit_field class number.value T.fixed_tag T.content) (T.value_plain value.now)) }
+    ensures kept { Continues (W.out writer.old) (W.out writer.new) }
 {
     let tag = tag_of_field(class, mode, number, T::tag());
     match mode {

@@ -230,6 +230,8 @@ fn lent(rt: HostRuntime) -> Result<(), Fail> {
     place.encode(&mut writer)?;
     place.encode_value(&mut writer)?;
     assert_eq!(rt; writer.finish()?, [0xc3, 1, 2, 2].as_slice());
+    assert!(rt; place.ref_to_owned()? == owned);
+    assert!(rt; owned.clone()? == owned);
     let application: Application<u8> = explicit(0, 2);
     let application: ApplicationRef<u8> = application.owned_to_ref();
     assert_eq!(rt; application.tag(), number(0).application(true));

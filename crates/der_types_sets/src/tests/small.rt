@@ -7,7 +7,7 @@ use der_core::{Error, Integer, Tag, unsigned_of};
 use der_core_order::ValueOrd;
 use std::cmp::Ordering;
 
-#[derive(Clone, Copy, Debug, Default, PartialEq, Eq)]
+#[derive(Clone, Copy, Debug, Default, PartialEq, Eq, PartialOrd, Ord, Hash)]
 pub struct Small(pub u8);
 
 impl Integer for Small {

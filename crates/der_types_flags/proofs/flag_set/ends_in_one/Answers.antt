@@ -1,7 +1,7 @@
 use Rattle.std.proofs.Common.{◌-◌, length, get_or, refl, arith}
 use Rattle.std.proofs.lemmas.Bool.{ne_eqb}
-use Rattle.der_types_sets.proofs.NamedSteps.{ends_some}
-use Rattle.der_types_sets.proofs.flag_set.ends_in_one.Goals as goal
+use Rattle.der_types_flags.proofs.NamedSteps.{ends_some}
+use Rattle.der_types_flags.proofs.flag_set.ends_in_one.Goals as goal
 
 pub returns-then-last-ne0 : goal.returns-then-last-ne0
 returns-then-last-ne0 c =

@@ -1,6 +1,6 @@
 use Rattle.std.proofs.Common.{◌≡◌, ◌-◌, ◌<◌, ◌^◌, length, drop}
 use Rattle.der_core_head.specs.NamedBits.{set_of}
-use Rattle.der_types_sets.proofs.flag_set.number_of.Given as goal
+use Rattle.der_types_flags.proofs.flag_set.number_of.Given as goal
 
 abbrev pub invariant-loop-count : goal.invariant-loop-count
 invariant-loop-count l = record {

@@ -1,5 +1,5 @@
 use Rattle.std.proofs.lemmas.Nat.{or_lt}
-use Rattle.der_types_sets.proofs.flag_set.FlagSet.union.Goals as goal
+use Rattle.der_types_flags.proofs.flag_set.FlagSet.union.Goals as goal
 
 pub invariant_of-result : goal.invariant_of-result
 invariant_of-result g c =

@@ -1,6 +1,6 @@
 use Rattle.std.proofs.Common.{ap, sym, ◌∙◌, arith, Err}
-use Rattle.der_types_sets.proofs.NamedSteps.{content_long}
-use Rattle.der_types_sets.proofs.flag_set.read_named.Goals as goal
+use Rattle.der_types_flags.proofs.NamedSteps.{content_long}
+use Rattle.der_types_flags.proofs.flag_set.read_named.Goals as goal
 
 pub returns-then-octets-gt8-clause-exact : goal.returns-then-octets-gt8-clause-exact
 returns-then-octets-gt8-clause-exact c =

@@ -1,6 +1,6 @@
 use Rattle.std.proofs.Common.{◌≡◌, ◌-◌, ◌<◌, ◌≤◌, ◌^◌, ◌∷◌, ◌++◌, length, take}
 use Rattle.der_core_head.specs.NamedBits.{set_octets}
-use Rattle.der_types_sets.proofs.flag_set.named_octets_of.Given as goal
+use Rattle.der_types_flags.proofs.flag_set.named_octets_of.Given as goal
 
 abbrev pub invariant-loop-left : goal.invariant-loop-left
 invariant-loop-left l = record {

@@ -15,7 +15,7 @@ use Rattle.der_core_head.specs.declared.tag.Tag.{Tag}
 use Rattle.der_core_head.specs.NamedBits.{set_octets, set_of, unused_bits, named_octets, ends_in_one, named_read}
 use Rattle.der_core_head.proofs.Bytes.{IsBytes}
 use Rattle.der_core_head.proofs.NamedLaws.{set_octets-step, named_sound}
-use Rattle.der_types_sets.proofs.LastOctet.{last_octet-get_or}
+use Rattle.der_types_flags.proofs.LastOctet.{last_octet-get_or}
 
 set_octets-zero : set_octets 0 ≡ []
 unfolding set_octets

@@ -1,8 +1,8 @@
 use Rattle.std.proofs.Common.{◌≡◌, ◌+◌, ◌-◌, length, drop, ap, sym, ◌∙◌, arith}
 use Rattle.std.proofs.lemmas.List.{drop_all}
 use Rattle.der_core_head.specs.NamedBits.{set_of}
-use Rattle.der_types_sets.proofs.NamedSteps.{set_of-none, set_of-before, room_more, number_more}
-use Rattle.der_types_sets.proofs.flag_set.number_of.Goals as goal
+use Rattle.der_types_flags.proofs.NamedSteps.{set_of-none, set_of-before, room_more, number_more}
+use Rattle.der_types_flags.proofs.flag_set.number_of.Goals as goal
 
 pub loop-count-init : goal.loop-count-init
 loop-count-init c =

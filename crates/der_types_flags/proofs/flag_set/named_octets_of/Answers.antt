@@ -2,8 +2,8 @@ use Rattle.std.proofs.Common.{◌≡◌, ◌+◌, ◌-◌, ◌<◌, ◌^◌, ◌
 use Rattle.std.specs.Prelude.{slice_set}
 use Rattle.der_core_head.specs.NamedBits.{set_octets}
 use Rattle.std.proofs.lemmas.List.{length-set}
-use Rattle.der_types_sets.proofs.NamedSteps.{left_some, left_next, set_octets-more, named_some, named_none}
-use Rattle.der_types_sets.proofs.flag_set.named_octets_of.Goals as goal
+use Rattle.der_types_flags.proofs.NamedSteps.{left_some, left_next, set_octets-more, named_some, named_none}
+use Rattle.der_types_flags.proofs.flag_set.named_octets_of.Goals as goal
 
 pub loop-left-preserved : goal.loop-left-preserved
 loop-left-preserved c =

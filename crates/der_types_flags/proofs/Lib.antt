@@ -1,0 +1,2 @@
+pub mod LastOctet
+pub mod NamedSteps

@@ -1,0 +1,43 @@
+//! The order of values one after another, and of octets.
+
+ghost use Rattle.std.specs.Prelude.{◌≡◌, Ok, Err, IfErr};
+ghost use Rattle.der_core_head.specs.Shapes.{many, IsBody, body_octets};
+ghost use Rattle.der_core_head.specs.Grammar.{plain_list};
+ghost use Rattle.der_core_head.specs.Reading.{Gives};
+ghost use Rattle.der_core_head.specs.Writing.{size_body};
+ghost use Rattle.der_core_order.specs.Orders.{octets_cmp};
+ghost use Rattle.der_types_sets.specs.Lent.{IsOverlong};
+
+use der_core::{Encode, Error};
+use std::alloc::Global;
+use std::cmp::Ordering;
+
+/// The order of the joined encodings of values, and of octets. One encoding at a time is in memory.
+///
+/// # Errors
+/// `Overflow` where an encoding has 2^32 octets or more, or `OutOfMemory`.
+pub(crate) fn joined_cmp<T: Encode>(
+    alloc: Global,
+    values: &[T],
+    octets: &[u8],
+) -> Result<Ordering, Error>
+    // It is answered wherever the values have encodings, unless memory runs out.
+    ensures order { IsBody (many T.shape) (plain_list T.plain values.now) → Gives (λ o. o) result (Ok (octets_cmp (body_octets (many T.shape) (plain_list T.plain values.now)) octets.now)) }
+    ensures refused { IfErr result (IsOverlong (size_body (many T.shape) (plain_list T.plain values.now))) }
+{
+    let mut left = octets;
+    let mut encoding = Vec::new(alloc);
+    for value in values {
+        encoding.clear();
+        value.encode(&mut encoding)?;
+        let Some(behind) = left.strip_prefix(encoding.as_slice()) else {
+            return Ok(encoding.as_slice().cmp(left));
+        };
+        left = behind;
+    }
+    if left.is_empty() {
+        Ok(Ordering::Equal)
+    } else {
+        Ok(Ordering::Less)
+    }
+}
