@@ -3,6 +3,7 @@
 ghost use Rattle.std.specs.Prelude.{◌≡◌, ◌<◌, ◌≤◌, ◌+◌, ◌*◌, ◌^◌, length};
 
 use crate::bits::bit_of;
+use std::iter::FusedIterator;
 
 /// The bits of a bit string that are yet to come, the most significant one of each octet first.
 #[derive(Clone, Copy, Debug)]
@@ -32,14 +33,6 @@ impl<'a> BitStringIter<'a> {
             left,
         }
     }
-
-    /// The number of bits that are yet to come.
-    #[tactic(auto, using(crate::proofs::BitRuns::runs))]
-    pub fn len(&self) -> usize
-        ensures { result ≡ length (bits_left self.now) }
-    {
-        self.left
-    }
 }
 
 impl<'a> Iterator for BitStringIter<'a> {
@@ -61,4 +54,19 @@ impl<'a> Iterator for BitStringIter<'a> {
         self.left -= 1;
         Some(bit)
     }
+
+    fn size_hint(&self) -> (usize, Option<usize>) {
+        let len = self.len();
+        (len, Some(len))
+    }
 }
+
+impl<'a> ExactSizeIterator for BitStringIter<'a> {
+    /// The number of bits that are yet to come.
+    #[tactic(auto, using(crate::proofs::BitRuns::runs))]
+    fn len(&self) -> usize {
+        self.left
+    }
+}
+
+impl<'a> FusedIterator for BitStringIter<'a> {}

@@ -71,6 +71,7 @@ fn single_bits(rt: HostRuntime) -> Result<(), Fail> {
     assert_eq!(rt; owned.get(9), Some(true));
     assert_eq!(rt; owned.get(10), None);
     assert_eq!(rt; owned.bits().len(), 10);
+    assert_eq!(rt; owned.bits().size_hint(), (10, Some(10)));
     assert_eq!(rt; owned.bits().filter(|bit| *bit).count(), 3);
     assert!(rt; owned.has_unused_bits() && owned.as_bytes().is_none() && !owned.is_empty());
     Ok(())

@@ -28,6 +28,18 @@ impl<'a, T> Iterator for SequenceOfIter<'a, T> {
         self.left = left;
         Some(first)
     }
+
+    fn size_hint(&self) -> (usize, Option<usize>) {
+        let len = self.len();
+        (len, Some(len))
+    }
+}
+
+impl<'a, T> ExactSizeIterator for SequenceOfIter<'a, T> {
+    /// The number of members that are yet to come.
+    fn len(&self) -> usize {
+        self.left.len()
+    }
 }
 
 impl<'a, T> Iterator for SetOfIter<'a, T> {
@@ -45,5 +57,17 @@ impl<'a, T> Iterator for SetOfIter<'a, T> {
         };
         self.left = left;
         Some(first)
+    }
+
+    fn size_hint(&self) -> (usize, Option<usize>) {
+        let len = self.len();
+        (len, Some(len))
+    }
+}
+
+impl<'a, T> ExactSizeIterator for SetOfIter<'a, T> {
+    /// The number of members that are yet to come.
+    fn len(&self) -> usize {
+        self.left.len()
     }
 }

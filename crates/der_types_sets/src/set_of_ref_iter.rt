@@ -119,4 +119,21 @@ impl<'a, T: Decode<'a, SliceReader<'a>> + Member + Clone> Iterator for SetOfRefI
             }
         }
     }
+
+    fn size_hint(&self) -> (usize, Option<usize>) {
+        let len = self.len();
+        (len, Some(len))
+    }
+}
+
+impl<'a, T: Decode<'a, SliceReader<'a>> + Member + Clone> ExactSizeIterator
+    for SetOfRefIter<'a, T> {
+    /// The number of members that are yet to come, where there is memory for each.
+    fn len(&self) -> usize {
+        if self.count == 0 {
+            self.values.len()
+        } else {
+            self.count
+        }
+    }
 }

@@ -114,9 +114,12 @@ fn lists(rt: HostRuntime) -> Result<(), Fail> {
     assert_eq!(rt; list.get(1).copied(), Some(Small(5)));
     assert!(rt; list.get(2).is_none());
     let mut members = list.iter();
+    assert_eq!(rt; members.len(), 2);
     assert_eq!(rt; members.next().copied(), Some(Small(7)));
+    assert_eq!(rt; members.size_hint(), (1, Some(1)));
     assert_eq!(rt; members.next().copied(), Some(Small(5)));
     assert!(rt; members.next().is_none());
+    assert_eq!(rt; members.len(), 0);
     list.as_mut_slice().reverse();
     assert_eq!(rt;
         list.into_inner().as_slice(),
@@ -185,6 +188,7 @@ fn sets_of_bounded_room(rt: HostRuntime) -> Result<(), Fail> {
     assert_eq!(rt; set.len(), 3);
     assert_eq!(rt; set.get(0).copied(), Some(Small(1)));
     assert_eq!(rt; set.iter().next().copied(), Some(Small(1)));
+    assert_eq!(rt; set.iter().len(), 3);
     assert_eq!(rt;
         set.into_inner().as_slice(),
         [Small(1), Small(5), Small(5)].as_slice()
@@ -238,11 +242,13 @@ fn borrowed_sets(rt: HostRuntime) -> Result<(), Fail> {
     assert_eq!(rt; set.len(), 3);
     assert!(rt; !set.is_empty());
     let mut members = set.iter(alloc);
+    assert_eq!(rt; members.size_hint(), (3, Some(3)));
     for expected in [1, 1, 2] {
         let member = members.next().ok_or("a member is left")?;
         assert_eq!(rt; member?, Small(expected));
     }
     assert!(rt; members.next().is_none());
+    assert_eq!(rt; members.len(), 0);
     assert_eq!(rt; set.get(alloc, 2)?, Some(Small(2)));
     assert_eq!(rt; set.get(alloc, 3)?, None);
     assert!(rt; lent(alloc, b"\x31\x00")?.is_empty());
@@ -265,6 +271,7 @@ fn lent_values(rt: HostRuntime) -> Result<(), Fail> {
         assert_eq!(rt; member?, expected);
     }
     assert!(rt; members.next().is_none());
+    assert_eq!(rt; set.iter(alloc).len(), 3);
     assert_eq!(rt; set.get(alloc, 0)?, Some(Small(3)));
     let falling = [Small(200), Small(3)];
     assert_eq!(rt;
