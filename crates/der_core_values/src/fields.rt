@@ -17,7 +17,7 @@ pub trait Fields {
 }
 
 /// What is read as fields, one after the other.
-pub trait DecodeFields<'a, R: Reader<'a>>: Fields + Drop {
+pub trait DecodeFields<'a, R: Reader<'a>>: Fields {
     /// The fields that stand next.
     ///
     /// # Errors
@@ -31,7 +31,7 @@ pub trait DecodeFields<'a, R: Reader<'a>>: Fields + Drop {
 /// # Errors
 /// `Incomplete` where there are fewer octets, `NestingDepth` where 64 levels are open, the first
 /// fault of the fields, `TrailingData` where octets are left behind them, or `OutOfMemory`.
-pub fn read_fields<'a, R: Reader<'a>, T: DecodeFields<'a, R>>(
+pub fn read_fields<'a, R: Reader<'a>, T: DecodeFields<'a, R> + Drop>(
     alloc: Global,
     reader: &mut R,
     header: Header,

@@ -166,16 +166,22 @@ impl EncodeValue for Record {
     }
 
     fn encode_value<W: Writer>(&self, writer: &mut W) -> Result<(), Error> {
-        self.version.encode(writer)?;
-        self.name.encode(writer)?;
-        self.identifier.encode(writer)?;
-        self.flag.encode(writer)?;
-        self.count.encode(writer)?;
-        self.numbers.encode(writer)?;
-        self.mark.encode(writer)?;
-        self.inner.encode(writer)?;
-        self.choice.encode(writer)?;
-        self.members.encode(writer)
+        let last = (
+            EncodeRef(&self.inner),
+            (EncodeRef(&self.choice), (EncodeRef(&self.members), ())),
+        );
+        let middle = (
+            EncodeRef(&self.count),
+            (EncodeRef(&self.numbers), (EncodeRef(&self.mark), last)),
+        );
+        let row = (
+            EncodeRef(&self.version),
+            (
+                EncodeRef(&self.name),
+                (EncodeRef(&self.identifier), (EncodeRef(&self.flag), middle)),
+            ),
+        );
+        row.encode_fields(writer)
     }
 }
 
