@@ -1,5 +1,5 @@
 -- A database of identifiers and their names: first match, and filter.
-use Rattle.std.specs.Prelude.{ℕ, Bool, true, false, List, [], ◌∷◌, Option, Some, None, map, nat_eq, if◌then◌else◌}
+use Rattle.std.specs.Prelude.{ℕ, List, [], ◌∷◌, Option, Some, None, map, nat_eq, if◌then◌else◌}
 use Rattle.std.specs.Prelude.{Result, Ok, Err, unwrap_or}
 use Rattle.const_oid_identifiers.specs.declared.error.Error.{Error}
 use Rattle.std.specs.Borrow.{Bor}

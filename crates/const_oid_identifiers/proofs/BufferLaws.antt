@@ -1,6 +1,6 @@
 -- A buffer keeps zeros past its end.
-use Rattle.std.proofs.Common.{◌≡◌, ℕ, suc, ◌+◌, ◌-◌, ◌<◌, ◌≤◌, List, [], ◌∷◌, ◌++◌, length, get_or, take, drop, replicate, refl, sym, ap, ◌∙◌, arith, add-one, length-append, length-drop}
-use Rattle.std.proofs.Math.ListN.{set, length-set}
+use Rattle.std.proofs.Common.{◌≡◌, ℕ, suc, ◌+◌, ◌-◌, ◌<◌, ◌≤◌, List, ◌∷◌, ◌++◌, length, get_or, drop, replicate, sym, ap, ◌∙◌, arith, add-one, length-append, length-drop}
+use Rattle.std.proofs.Math.ListN.{set}
 use Rattle.std.proofs.lemmas.List.{drop-set-lt, drop-replicate, length-replicate}
 use Rattle.std.proofs.Math.Seq.{drop-append_seam, drop-cons}
 

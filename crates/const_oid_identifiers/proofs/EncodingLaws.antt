@@ -1,5 +1,5 @@
 -- One arc more.
-use Rattle.std.proofs.Common.{◌≡◌, ◌≢◌, ℕ, zero, suc, ◌+◌, ◌*◌, ◌/◌, ◌%◌, ◌<◌, ◌≤◌, ◌⊎◌, inl, inr, Bool, true, false, ltb, cond, List, [], ◌∷◌, ◌++◌, length, map, Result, Ok, Err, Option, None, Some, is_some, eqb, ne_eqb, MatchResult, sym, refl, ap, subst, ◌∙◌, append_assoc, length-append, take, drop, replicate, length-drop, ◌-◌, add-one, length-take-le, arith}
+use Rattle.std.proofs.Common.{◌≡◌, ℕ, zero, suc, ◌+◌, ◌*◌, ◌/◌, ◌%◌, ◌<◌, ◌≤◌, ◌⊎◌, inl, inr, Bool, true, false, ltb, List, [], ◌∷◌, ◌++◌, length, map, Result, Ok, Err, Option, None, Some, is_some, eqb, ne_eqb, MatchResult, sym, refl, ap, subst, ◌∙◌, append_assoc, length-append, take, drop, replicate, length-drop, ◌-◌, add-one, length-take-le, arith}
 use Rattle.std.proofs.Math.ListN.{set}
 use Rattle.std.proofs.lemmas.List.{set_split, take-set-le, drop-set, drop-replicate}
 use Rattle.std.proofs.Math.Seq.{take-append_seam, drop-append_seam}
@@ -11,7 +11,7 @@ use Rattle.const_oid_identifiers.specs.Digits.{digits, marked}
 use Rattle.const_oid_identifiers.specs.IdentifierOctets.{arc_octets, identifier_octets, IsIdentifier}
 use Rattle.const_oid_identifiers.specs.Arcs.{arcs_of, SpellsIdentifier}
 use Rattle.const_oid_identifiers.specs.ArcLists.{is_misplaced, gather, and_then, add_arc, whole_arcs, arcs_so_far, IsSoFar}
-use Rattle.const_oid_identifiers.proofs.DigitLaws.{digits-Digits, digits-one, digits-more, halved, quotient_pos, marked-push, length-marked}
+use Rattle.const_oid_identifiers.proofs.DigitLaws.{digits-Digits, digits-one, digits-more, halved, marked-push, length-marked}
 use Rattle.const_oid_identifiers.proofs.ArcsLaws.{spells_octets, arcs_of-identifier_octets}
 
 -- How many octets an arc has

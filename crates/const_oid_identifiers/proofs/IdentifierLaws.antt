@@ -1,12 +1,12 @@
 -- What is read as an identifier has its octets, and the octets of an identifier are read as it.
-use Rattle.std.proofs.Common.{◌≡◌, ◌≢◌, ℕ, zero, suc, ◌+◌, ◌*◌, ◌/◌, ◌%◌, ◌<◌, ◌≤◌, ◌&&◌, ◌==◌, ◌⊎◌, inl, inr, Bool, true, false, ltb, eqb, List, [], ◌∷◌, ◌++◌, length, get_or, map, Result, Ok, Err, sym, refl, ap, subst, ◌∙◌, arith, div-add-mod', mod-lt, length-append, append_assoc, eq-eqb, ne_eqb}
+use Rattle.std.proofs.Common.{◌≡◌, ◌≢◌, ℕ, zero, suc, ◌+◌, ◌*◌, ◌/◌, ◌%◌, ◌<◌, ◌≤◌, ◌&&◌, ◌==◌, ◌⊎◌, inl, inr, false, eqb, List, [], ◌∷◌, ◌++◌, length, get_or, map, Result, Ok, Err, sym, refl, ap, subst, ◌∙◌, arith, append_assoc, eq-eqb, ne_eqb}
 use Rattle.std.specs.List.{AllByRecursion, flat_map}
-use Rattle.std.proofs.lemmas.Bool.{ltb-true, ltb-false, cases_lt, cases_eq, lt-ltb, le-ltb}
+use Rattle.std.proofs.lemmas.Bool.{cases_lt, cases_eq, lt-ltb, le-ltb}
 use Rattle.const_oid_identifiers.specs.declared.error.Error.{Error}
 use Rattle.const_oid_identifiers.specs.declared.error.Error.TheVariants as errors
 use Rattle.const_oid_identifiers.specs.Digits.{digits, marked}
 use Rattle.const_oid_identifiers.specs.IdentifierOctets.{arc_octets, identifier_octets, IsIdentifier, with_arc, read_arcs, read_identifier}
-use Rattle.const_oid_identifiers.proofs.DigitLaws.{digits-Digits, digits-one, digits-more, digits-push, halved, quotient_pos, marked-push, marked_below}
+use Rattle.const_oid_identifiers.proofs.DigitLaws.{digits-Digits, digits-one, digits-more, digits-push, marked-push, marked_below}
 
 -- One step of reading arcs
 

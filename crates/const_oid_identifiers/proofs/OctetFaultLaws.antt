@@ -1,15 +1,14 @@
 -- Reading answers exactly the fault of the shortest faulty front.
-use Rattle.std.proofs.Common.{◌≡◌, ◌≢◌, ℕ, zero, suc, ◌+◌, ◌*◌, ◌/◌, ◌%◌, ◌<◌, ◌≤◌, ◌⊎◌, inl, inr, Bool, true, false, ltb, List, [], ◌∷◌, ◌++◌, length, get_or, map, Result, Ok, Err, IfOk, IfErr, sym, refl, ap, subst, ◌∙◌, append_assoc, append-nil, length-append, arith}
+use Rattle.std.proofs.Common.{◌≡◌, ℕ, zero, suc, ◌+◌, ◌*◌, ◌/◌, ◌%◌, ◌<◌, ◌≤◌, ◌⊎◌, inl, inr, List, [], ◌∷◌, ◌++◌, length, get_or, Result, Ok, Err, IfOk, IfErr, sym, refl, ap, subst, ◌∙◌, append_assoc, append-nil, arith}
 use Rattle.std.specs.List.{AllByRecursion, flat_map}
 use Rattle.std.proofs.lemmas.Bool.{lt-ltb, le-ltb, cases_lt}
 use Rattle.const_oid_identifiers.specs.declared.error.Error.{Error}
 use Rattle.const_oid_identifiers.specs.declared.error.Error.TheVariants as errors
-use Rattle.const_oid_identifiers.specs.Digits.{digits}
 use Rattle.const_oid_identifiers.specs.IdentifierOctets.{arc_octets, identifier_octets, IsIdentifier, with_arc, read_arcs, read_identifier}
 use Rattle.const_oid_identifiers.specs.OctetFaults.{begun, IsOpen, IsArcFault, leading_zero, too_big, unfinished, IsOctetsFault, no_octet, too_long, root_invalid, arc}
 use Rattle.const_oid_identifiers.proofs.IdentifierLaws.{Step, step, IsBegun, at_border, inside, arc_octets-finish, begun-push, read_arcs-end, read_arcs-cut, read_arcs-leading, read_arcs-too_big, read_arcs-last, read_arcs-more, read_arcs-begun, read_arcs-arc, identifier_sound, identifier_again}
 use Rattle.const_oid_identifiers.proofs.IdentifierLaws as steps
-use Rattle.const_oid_identifiers.proofs.ArcsLaws.{read_identifier-long, read_identifier-within}
+use Rattle.const_oid_identifiers.proofs.ArcsLaws.{read_identifier-long}
 use Rattle.const_oid_identifiers.proofs.EncodingLaws.{identifier_octets-push, IsIdentifier-push}
 
 begun-is : (value : ℕ) → IsBegun value (begun value)

@@ -1,7 +1,7 @@
 -- Octets begin with those of an identifier exactly where the arcs begin with its arcs.
-use Rattle.std.proofs.Common.{◌≡◌, ℕ, zero, suc, ◌+◌, ◌*◌, ◌<◌, ◌≤◌, List, [], ◌∷◌, ◌++◌, length, sym, refl, ap, ◌∙◌, append_assoc, length-append, arith}
+use Rattle.std.proofs.Common.{◌≡◌, ℕ, ◌+◌, ◌*◌, List, [], ◌∷◌, ◌++◌, length, sym, refl, ap, ◌∙◌, append_assoc, length-append, arith}
 use Rattle.std.specs.List.{flat_map}
-use Rattle.const_oid_identifiers.specs.Digits.{digits, marked}
+use Rattle.const_oid_identifiers.specs.Digits.{digits}
 use Rattle.const_oid_identifiers.specs.IdentifierOctets.{arc_octets, identifier_octets, IsIdentifier}
 use Rattle.const_oid_identifiers.proofs.DigitLaws.{digits-Digits, split-marked, same_from_digits}
 use Rattle.const_oid_identifiers.proofs.EncodingLaws.{length-arc_octets, length-digits-pos}

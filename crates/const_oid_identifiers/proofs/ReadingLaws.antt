@@ -1,12 +1,11 @@
 -- One octet more of what is read.
-use Rattle.std.proofs.Common.{◌≡◌, ℕ, zero, suc, ◌+◌, ◌*◌, ◌/◌, ◌%◌, ◌<◌, ◌≤◌, ◌&&◌, ◌==◌, Bool, true, false, cond, ltb, eqb, List, [], ◌∷◌, length, get_or, drop, Result, Ok, Err, if◌then◌else◌, sym, refl, ap, ◌∙◌, arith, add-one, eq-eqb, ne_eqb}
-use Rattle.std.proofs.lemmas.Bool.{lt-ltb, le-ltb, eqb-false, cases_eq}
+use Rattle.std.proofs.Common.{◌≡◌, ℕ, zero, suc, ◌+◌, ◌*◌, ◌/◌, ◌%◌, ◌<◌, ◌≤◌, ◌&&◌, ◌==◌, Bool, true, false, cond, ltb, List, [], ◌∷◌, length, get_or, drop, Result, Ok, Err, if◌then◌else◌, sym, refl, ap, ◌∙◌, arith, add-one, eq-eqb, ne_eqb}
+use Rattle.std.proofs.lemmas.Bool.{lt-ltb, le-ltb}
 use Rattle.std.proofs.Math.Seq.{drop-cons}
 use Rattle.const_oid_identifiers.specs.declared.error.Error.{Error}
 use Rattle.const_oid_identifiers.specs.declared.error.Error.TheVariants as errors
 use Rattle.const_oid_identifiers.specs.IdentifierOctets.{with_arc, read_arcs, read_identifier}
 use Rattle.const_oid_identifiers.specs.Outcome.{outcome, after_octet}
-use Rattle.const_oid_identifiers.proofs.IdentifierLaws.{read_arcs-end, read_arcs-cut}
 
 -- the octets that are left, after a step that succeeds or fails
 abbrev pub on_step : (bound : ℕ) → List ℕ → Result ℕ Error → Result (Unit {0}) Error

@@ -1,11 +1,9 @@
 -- One octet more of a dotted text.
-use Rattle.std.proofs.Common.{◌≡◌, ◌≢◌, ℕ, zero, suc, ◌+◌, ◌-◌, ◌*◌, ◌<◌, ◌≤◌, ◌==◌, ◌&&◌, Bool, true, false, cond, eqb, ltb, List, [], ◌∷◌, length, get_or, drop, Result, Ok, Err, Option, None, Some, unwrap_or, sym, refl, ap, ◌∙◌, add-one, eq-eqb, ne_eqb, arith}
-use Rattle.std.proofs.lemmas.Bool.{lt-ltb, le-ltb, lt-leb, le-leb}
+use Rattle.std.proofs.Common.{◌≡◌, ◌≢◌, ℕ, ◌+◌, ◌<◌, List, [], ◌∷◌, length, get_or, drop, Err, Option, None, Some, sym, refl, ap, ◌∙◌, add-one, eq-eqb, ne_eqb, arith}
 use Rattle.std.proofs.Math.Seq.{drop-cons}
-use Rattle.const_oid_identifiers.specs.declared.error.Error.{Error}
 use Rattle.const_oid_identifiers.specs.declared.error.Error.TheVariants as errors
 use Rattle.const_oid_identifiers.specs.ArcLists.{add_arc, whole_arcs, and_then}
-use Rattle.const_oid_identifiers.specs.TextReading.{with_digit, early_dot, and_value, behind_dot, text_arcs}
+use Rattle.const_oid_identifiers.specs.TextReading.{with_digit, early_dot, and_value, text_arcs}
 
 pub octet_and_rest : (i : ℕ) (w : List ℕ) → i < length w → drop i w ≡ get_or w i 0 ∷ drop (i + 1) w
 octet_and_rest i w l = drop-cons w i 0 l ∙ ap (λ n. get_or w i 0 ∷ drop n w) (sym (add-one i))

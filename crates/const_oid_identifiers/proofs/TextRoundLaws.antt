@@ -1,5 +1,5 @@
 -- The dotted text of a list of arcs is read as the list is.
-use Rattle.std.proofs.Common.{◌≡◌, ◌≢◌, ℕ, zero, suc, ◌+◌, ◌-◌, ◌*◌, ◌/◌, ◌%◌, ◌<◌, ◌≤◌, ◌⊎◌, inl, inr, List, [], ◌∷◌, ◌++◌, length, Result, Ok, Err, Option, None, Some, unwrap_or, sym, refl, ap, subst, ◌∙◌, append_assoc, append-nil, length-append, arith}
+use Rattle.std.proofs.Common.{◌≡◌, ℕ, zero, suc, ◌+◌, ◌-◌, ◌*◌, ◌/◌, ◌%◌, ◌<◌, ◌≤◌, ◌⊎◌, inl, inr, List, [], ◌∷◌, ◌++◌, length, Result, Ok, Err, Option, None, Some, unwrap_or, sym, refl, ap, subst, ◌∙◌, append_assoc, append-nil, length-append, arith}
 use Rattle.std.specs.List.{AllByRecursion, flat_map}
 use Rattle.std.proofs.lemmas.Bool.{lt-ltb, le-ltb, le-leb, cases_lt}
 use Rattle.const_oid_identifiers.specs.declared.error.Error.{Error}
@@ -9,7 +9,7 @@ use Rattle.const_oid_identifiers.specs.TextReading.{with_digit, and_value, text_
 use Rattle.const_oid_identifiers.specs.DottedText.{decimal, dot_decimal, dotted}
 use Rattle.const_oid_identifiers.proofs.DottedLaws.{decimal-one, decimal-more, dotted-cons}
 use Rattle.const_oid_identifiers.proofs.TextLaws.{text-digit, text-dot, text-last}
-use Rattle.const_oid_identifiers.proofs.EncodingLaws.{gather-ok, gather-end, add_arc-ok, placed, whole-many, identifier-many, identifier_octets-push, IsIdentifier-push}
+use Rattle.const_oid_identifiers.proofs.EncodingLaws.{gather-ok, gather-end, add_arc-ok, placed, whole-many, identifier-many, IsIdentifier-push}
 use Rattle.const_oid_identifiers.proofs.PrefixLaws.{prefix_octets}
 
 pub digit_read : (bound : ℕ) (value : Option ℕ) (d : ℕ) → d < 10 → unwrap_or value 0 * 10 + d < bound → with_digit bound value (48 + d) ≡ Ok (unwrap_or value 0 * 10 + d)

@@ -1,6 +1,6 @@
 -- A list held at the front of an array whose rest is zero: its array is found again from the list.
 use Rattle.std.specs.Prelude.{◌≡◌, ℕ, ◌-◌, ◌≤◌, List, ◌++◌, length, take, drop, replicate}
-use Rattle.std.proofs.Common.{refl, sym, ap, ◌∙◌, arith, length-take-le, take-append-drop}
+use Rattle.std.proofs.Common.{sym, ap, ◌∙◌, arith, length-take-le, take-append-drop}
 
 -- the length of the list
 pub length_front : (size count : ℕ) (bytes : List ℕ) → count ≤ size → length bytes ≡ size → length (take count bytes) ≡ count

@@ -1,5 +1,5 @@
 -- What a borrowed identifier and an iterator over arcs stand for.
-use Rattle.std.specs.Prelude.{ℕ, List, [], ◌∷◌, ◌++◌, option_to_list}
+use Rattle.std.specs.Prelude.{ℕ, List, ◌++◌, option_to_list}
 use Rattle.const_oid_identifiers.specs.declared.object_identifier_ref.ObjectIdentifierRef.{ObjectIdentifierRef}
 use Rattle.const_oid_identifiers.specs.declared.arcs.Arcs.{Arcs}
 use Rattle.const_oid_identifiers.specs.Arcs.{later_arcs, arcs_of}

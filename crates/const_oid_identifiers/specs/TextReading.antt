@@ -1,5 +1,5 @@
 -- Reading of dotted texts, with the first fault.
-use Rattle.std.specs.Prelude.{ℕ, ◌+◌, ◌-◌, ◌*◌, ◌==◌, ◌&&◌, Bool, true, false, ltb, nat_lt, nat_le, List, [], ◌∷◌, length, if◌then◌else◌, Result, Ok, Err, Option, Some, None, unwrap_or}
+use Rattle.std.specs.Prelude.{ℕ, ◌+◌, ◌-◌, ◌*◌, ◌==◌, ◌&&◌, true, false, nat_lt, nat_le, List, [], ◌∷◌, if◌then◌else◌, Result, Ok, Err, Option, Some, None, unwrap_or}
 use Rattle.const_oid_identifiers.specs.declared.error.Error.{Error}
 use Rattle.const_oid_identifiers.specs.declared.error.Error.TheVariants as errors
 use Rattle.const_oid_identifiers.specs.ArcLists.{add_arc, whole_arcs, and_then}

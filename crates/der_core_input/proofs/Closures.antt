@@ -1,14 +1,13 @@
 -- What a call of a closure between two ends gives, by cases of what it answered.
-use Rattle.std.proofs.Common.{◌≡◌, ℕ, ◌+◌, ◌-◌, ◌<◌, ◌≤◌, Bool, true, false, List, ◌++◌, length, take, drop, Result, Ok, Err, inl, inr, refl, ap, ◌∙◌, arith}
-use Rattle.std.specs.Prelude.{is_err, OnOk, OnErr, IfOk, IfErr, ◌≢◌, ◌⊎◌}
+use Rattle.std.proofs.Common.{◌≡◌, ℕ, ◌+◌, ◌<◌, Bool, true, false, List, ◌++◌, length, take, drop, Result, Ok, Err, inl, inr, refl, ap, ◌∙◌, arith}
+use Rattle.std.specs.Prelude.{is_err, OnOk, OnErr, IfOk, IfErr, ◌⊎◌}
 use Rattle.std.specs.Borrow.{MutBor}
-use Rattle.std.specs.Fn.{Once, FnOnceReturnsAtMut}
+use Rattle.std.specs.Fn.{Once}
 use Rattle.std.proofs.lemmas.List.{take_at}
-use mathlib.Core.Bool.{◌||◌}
 use Rattle.der_core_head.specs.declared.error.Error.{Error}
 use Rattle.der_core_head.specs.declared.error.ErrorKind.TheVariants as kinds
-use Rattle.der_core_head.specs.Reading.{State, Kept, Refuses, Closes, entered, broken}
-use Rattle.der_core_input.specs.Nesting.{IsNested, Called, Answered, LeavesOctets, RefusesNested}
+use Rattle.der_core_head.specs.Reading.{State, Kept, Refuses, Closes, entered}
+use Rattle.der_core_input.specs.Nesting.{IsNested, Called, Answered, RefusesNested}
 use Rattle.der_core_input.proofs.Nested.{is_kept, at_length}
 
 by_failed : (b : Bool) {A B : Type 0} → (b ≡ false → A) → (b ≡ true → B) → ((b ≡ true) × B) ⊎ ((b ≡ false) × A)

@@ -1,11 +1,10 @@
 -- Whole encodings, as they stand.
-use Rattle.std.proofs.Common.{◌≡◌, ℕ, ◌+◌, ◌-◌, ◌<◌, ◌≤◌, List, length, take, drop, Ok, Err, refl, ap, ◌∙◌, arith}
+use Rattle.std.proofs.Common.{◌≡◌, ℕ, ◌+◌, ◌-◌, ◌<◌, ◌≤◌, List, length, take, drop, Ok, Err, refl, arith}
 use Rattle.std.proofs.lemmas.List.{drop-drop, length-drop}
 use Rattle.der_core_head.specs.declared.error.ErrorKind.{ErrorKind}
 use Rattle.der_core_head.specs.declared.error.ErrorKind.TheVariants as kinds
-use Rattle.der_core_head.specs.Octets.{◌>>=◌, Readings}
+use Rattle.der_core_head.specs.Octets.{Readings}
 use Rattle.der_core_head.specs.Heads.{Head}
-use Rattle.der_core_head.specs.Grammar.{slice_at}
 use Rattle.der_core_input.specs.Places.{encoding_at}
 use Rattle.der_core_input.proofs.Facts.{slice_short, slice_ok}
 

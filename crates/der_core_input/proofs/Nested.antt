@@ -8,7 +8,7 @@ use Rattle.der_core_head.specs.declared.error.ErrorKind.{ErrorKind}
 use Rattle.der_core_head.specs.declared.error.ErrorKind.TheVariants as kinds
 use Rattle.der_core_head.specs.Shapes.{Body, BodyValue, nested}
 use Rattle.der_core_head.specs.declared.tag.Tag.{Tag}
-use Rattle.der_core_head.specs.Octets.{◌>>=◌, Readings}
+use Rattle.der_core_head.specs.Octets.{◌>>=◌}
 use Rattle.der_core_head.specs.Grammar.{whole, value_at, read_content, read_body}
 use Rattle.der_core_head.specs.Reading.{State, IsDer, Kept, Fails, Reads, Refuses, Closes, entered, restored, broken}
 use Rattle.der_core_input.proofs.Facts.{value_short, value_enough, or_false}

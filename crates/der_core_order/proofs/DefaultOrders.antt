@@ -1,12 +1,11 @@
 -- The order of values with a default, which is written as nothing.
-use Rattle.std.proofs.Common.{◌≡◌, ℕ, Bool, true, false, List, [], ◌∷◌, length, Option, Some, None, Result, Ok, Err, sym, ap, ◌∙◌, refl, inl, inr}
-use Rattle.std.specs.Prelude.{◌&&◌, IfErr, nat_lt}
+use Rattle.std.proofs.Common.{◌≡◌, ℕ, true, false, List, [], Option, Result, Ok, refl}
+use Rattle.std.specs.Prelude.{◌&&◌, IfErr}
 use Rattle.std.specs.Str.{bytes_eq}
 use Rattle.std.specs.declared.cmp.Ordering.{Ordering}
 use Rattle.std.specs.declared.cmp.Ordering.TheVariants.{Less, Equal, Greater}
 use Rattle.std.proofs.lemmas.Bool.{and_parts}
 use Rattle.der_core_head.specs.declared.error.Error.{Error}
-use Rattle.der_core_head.specs.Octets.{are_octets}
 use Rattle.der_core_head.specs.Shapes.{Shape, defaulted, Value, octets_of, unless, IsValid, begins}
 use Rattle.der_core_head.specs.Spelling.{is_apart, is_element}
 use Rattle.der_core_head.specs.Writing.{size, default_len}

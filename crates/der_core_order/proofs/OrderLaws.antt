@@ -1,11 +1,11 @@
 -- The order of lists of octets, and of joined lists.
 use Rattle.std.proofs.Common.{◌≡◌, ℕ, ◌<◌, List, [], ◌∷◌, ◌++◌, length, refl, sym, ap, subst, ◌∙◌, arith}
-use Rattle.std.specs.Prelude.{◌≢◌, nat_eq}
+use Rattle.std.specs.Prelude.{◌≢◌}
 use Rattle.std.specs.Bool.{⊤}
-use Rattle.std.specs.Ordering.{nat_cmp, ordering_then, ordering_reverse, is_eq, MatchOrdering}
+use Rattle.std.specs.Ordering.{nat_cmp, ordering_then, is_eq, MatchOrdering}
 use Rattle.std.specs.declared.cmp.Ordering.{Ordering}
 use Rattle.std.specs.declared.cmp.Ordering.TheVariants.{Less, Equal, Greater}
-use Rattle.std.specs.Cmp.Lexicographic.{pointwise, slice_cmp, same_text, texts_ties, nat_list_cmp_total}
+use Rattle.std.specs.Cmp.Lexicographic.{same_text, texts_ties, nat_list_cmp_total}
 use Rattle.std.proofs.lemmas.Cmp.{ranked, tied_itself, nat_cmp_total}
 use Rattle.std.proofs.lemmas.List.{append-nil}
 use Rattle.der_core_order.specs.Orders.{octets_cmp}

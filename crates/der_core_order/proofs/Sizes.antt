@@ -1,5 +1,5 @@
 -- A length is refused only where it passes what a length can count.
-use Rattle.std.proofs.Common.{◌≡◌, ℕ, zero, suc, Bool, true, false, cond, List, [], ◌∷◌, length, Some, None, Result, Ok, Err, refl, arith, inl, inr}
+use Rattle.std.proofs.Common.{◌≡◌, ℕ, zero, suc, Bool, true, false, cond, List, [], ◌∷◌, length, Some, None, Result, Ok, Err, refl, inl, inr}
 use Rattle.std.specs.Prelude.{nat_lt, ◌+◌, slice_get}
 use Rattle.std.specs.Str.{bytes_eq}
 use Rattle.der_core_head.specs.declared.error.ErrorKind.{ErrorKind}

@@ -1,6 +1,6 @@
 -- Reading values one after the other, as a loop does.
 use Rattle.std.proofs.Common.{◌≡◌, ℕ, zero, suc, ◌-◌, ◌+◌, ◌≤◌, ◌<◌, List, [], ◌∷◌, ◌++◌, Result, Ok, Err, refl, sym, ap, ◌∙◌, arith}
-use Rattle.std.specs.Prelude.{◌≢◌, slice_get, length, Option, Some, None}
+use Rattle.std.specs.Prelude.{◌≢◌, slice_get, length, Option, Some}
 use Rattle.std.proofs.lemmas.List.{length-append}
 use Rattle.der_core_head.specs.declared.error.ErrorKind.{ErrorKind}
 use Rattle.der_core_head.specs.declared.error.ErrorKind.TheVariants as kinds

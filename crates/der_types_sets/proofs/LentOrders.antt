@@ -5,7 +5,6 @@ use Rattle.std.specs.List.{AllByRecursion}
 use Rattle.std.specs.Ordering.{nat_cmp, ordering_then, ordering_reverse}
 use Rattle.std.specs.declared.cmp.Ordering.{Ordering}
 use Rattle.std.specs.declared.cmp.Ordering.TheVariants.{Less, Equal, Greater}
-use Rattle.std.specs.Cmp.Lexicographic.{nat_list_cmp_total}
 use Rattle.std.specs.Borrow.{Bor}
 use Rattle.std.specs.Cmp.Lexicographic.{pointwise}
 use Rattle.std.proofs.lemmas.Bool.Decides.{Decides-eqb}
@@ -28,7 +27,6 @@ use Rattle.der_types_sets.specs.Level.{values_at}
 use Rattle.der_types_sets.specs.Lent.{Lent, IsLent, IsWantOfMemory, IsOverlong, members_lent}
 use Rattle.der_types_sets.proofs.Arrangements.{same_octets, turned}
 use Rattle.der_types_sets.proofs.LentWrites.{nothing_in, lent, size_values, spelled_octets}
-use Rattle.der_types_sets.proofs.WriteFaults.{write_faults}
 
 -- Lists of octets
 

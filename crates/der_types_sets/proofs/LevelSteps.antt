@@ -1,10 +1,10 @@
 -- Members that never descend, read one after the other.
-use Rattle.std.proofs.Common.{◌≡◌, ℕ, zero, suc, ◌-◌, ◌+◌, ◌<◌, ◌≤◌, List, [], ◌∷◌, ◌++◌, length, drop, Result, Ok, Err, refl, sym, ap, subst, ◌∙◌, append_assoc, arith, true, Option, Some, None}
+use Rattle.std.proofs.Common.{◌≡◌, ℕ, zero, suc, ◌-◌, ◌+◌, ◌<◌, ◌≤◌, List, [], ◌∷◌, ◌++◌, length, Result, Ok, Err, refl, sym, ap, subst, ◌∙◌, arith, true, Option, Some, None}
 use Rattle.std.specs.Prelude.{◌≢◌, ⊤, flat_map}
 use Rattle.std.specs.List.{AllByRecursion}
 use Rattle.std.specs.declared.cmp.Ordering.{Ordering}
 use Rattle.std.specs.declared.cmp.Ordering.TheVariants.{Less, Equal, Greater}
-use Rattle.std.proofs.lemmas.List.{length-append, append-nil}
+use Rattle.std.proofs.lemmas.List.{length-append}
 use Rattle.der_core_head.specs.declared.error.ErrorKind.{ErrorKind}
 use Rattle.der_core_head.specs.declared.error.ErrorKind.TheVariants as kinds
 use Rattle.der_core_head.specs.Octets.{Readings, ◌>>=◌}
@@ -18,7 +18,6 @@ use Rattle.der_core_head.proofs.Fits.{fits_rest}
 use Rattle.der_core_head.proofs.Sound.{sound}
 use Rattle.der_core_head.proofs.Complete.{complete_element, element_some}
 use Rattle.der_core_order.specs.Orders.{octets_cmp}
-use Rattle.der_types_sets.specs.Sets.{AllValid}
 use Rattle.der_types_sets.specs.Level.{AllLevel, NeverDescends, not_above, behind_last, read_level, level_content, counted, first_of, values_at}
 
 -- As a loop reads them

@@ -1,11 +1,10 @@
 -- Members that stand in any order.
-use Rattle.std.proofs.Common.{◌≡◌, ◌≤◌, ℕ, Bool, true, List, [], ◌∷◌, length, take, drop, ltb, map, Result, Ok, Err, refl, sym, ap, subst, ◌∙◌}
-use Rattle.std.specs.Prelude.{flat_map, ◌&&◌}
+use Rattle.std.proofs.Common.{◌≡◌, ◌≤◌, ℕ, true, List, [], ◌∷◌, length, take, drop, ltb, map, Ok, refl, sym, ap, subst, ◌∙◌}
+use Rattle.std.specs.Prelude.{flat_map}
 use Rattle.std.proofs.lemmas.Bool.{le-ltb}
 use Rattle.std.proofs.lemmas.List.Elements.{All-from_recursion, recursion_from_All}
 use Rattle.std.specs.List.Sorted.{IsPermutation}
 use Rattle.std.proofs.lemmas.List.Sorted.{All-permutation, IsPermutation-sym, IsPermutation-trans, IsPermutation-map}
-use Rattle.der_core_head.specs.declared.error.Error.{Error}
 use Rattle.der_core_head.specs.declared.error.ErrorKind.TheVariants as kinds
 use Rattle.der_core_head.specs.declared.tag.Tag.{Tag}
 use Rattle.der_core_head.specs.declared.tag.Tag.TheVariants as tags
@@ -14,14 +13,13 @@ use Rattle.der_core_head.specs.Heads.{Fits}
 use Rattle.der_core_head.specs.Shapes.{Shape, tagged, nested, many, Value, Spells, IsValid, IsContent, IsBody, octets_of, contents, body_octets}
 use Rattle.der_core_head.specs.Spelling.{is_apart, is_element, is_content_apart, are_enough, are_content_enough}
 use Rattle.der_core_head.specs.Grammar.{whole, value_at, read_content, plain_list}
-use Rattle.der_core_head.specs.Reading.{Gives}
 use Rattle.der_core_head.proofs.Results.{ok_is, bind_ok, unless_ok, whole_ok}
 use Rattle.der_core_head.proofs.Bytes.{IsBytes, bytes_take}
 use Rattle.der_core_head.proofs.Fits.{fits_front}
 use Rattle.der_core_head.proofs.Sound.{sound_content}
 use Rattle.der_core_head.proofs.Complete.{complete_content}
 use Rattle.std.proofs.lemmas.List.{take-append-drop}
-use Rattle.der_types_sets.specs.Sets.{NotAbove, Ascends, AllValid, Loose, SpellsLoosely}
+use Rattle.der_types_sets.specs.Sets.{Ascends, AllValid, Loose, SpellsLoosely}
 use Rattle.der_types_sets.proofs.Arrangements.{one_arrangement}
 
 -- At plain values

@@ -1,12 +1,12 @@
 -- The days of the calendar, as jiff counts them.
 use Rattle.std.proofs.Common.{◌≡◌, ◌<◌, ◌≤◌, ◌-◌, ℕ, zero, suc, ◌+◌, ◌*◌, ◌/◌, ◌%◌, ℤ, pos, ◌≤ℤ◌, ◌<ℤ◌, refl, ap, subst, ◌∙◌, arith, unsigned_abs, sym, Bool, true, false, int_lt, ◌⊎◌, inl, inr}
 use Rattle.std.specs.Prelude.{nat_le, nat_lt, ◌==◌, ◌&&◌, ◌||◌, if◌then◌else◌}
-use Rattle.std.proofs.lemmas.Bool.{and_parts, and_from, ltb-true, leb-true, le-leb, lt-ltb, cases_lt}
-use Rattle.jiff_core.specs.Calendar.{IsCivilDate, day_count, days_from_civil, days_in_month as jiff_month, days_of_months as jiff_months, day_of_year}
+use Rattle.std.proofs.lemmas.Bool.{and_parts, and_from, leb-true, le-leb, lt-ltb, cases_lt}
+use Rattle.jiff_core.specs.Calendar.{IsCivilDate, day_count, days_from_civil, days_in_month as jiff_month, days_of_months as jiff_months}
 use Rattle.jiff_core.proofs.CalendarLemmas.{day_count-epoch, day_count-next_year, day_count-day_of_year, day_count-lt_year, days_from_civil-day_count, days_of_months-zero, days_of_months_more}
-use Rattle.jiff_core.proofs.SignedLemmas.{signed_arith, signed_casts}
+use Rattle.jiff_core.proofs.SignedLemmas.{signed_arith}
 use Rattle.der_core_head.specs.Dates.{Civil, is_leap, days_in_month, is_civil}
-use Rattle.der_core_head.proofs.DateLaws.{Ranges, civil_ranges}
+use Rattle.der_core_head.proofs.DateLaws.{civil_ranges}
 use Rattle.der_types_time.specs.Seconds.{days_of_years, days_of_months, unix_days, unix_seconds}
 
 same_month : (y m : ℕ) → jiff_month (pos y) m ≡ days_in_month y m

@@ -1,10 +1,9 @@
 -- The text of a date is of one date, and is read as it.
-use Rattle.std.proofs.Common.{◌≡◌, ℕ, ◌+◌, ◌*◌, ◌/◌, ◌%◌, ◌<◌, true, List, [], ◌∷◌, ◌++◌, Option, Some, None, refl, ap, subst, sym, ◌∙◌, arith}
-use Rattle.std.specs.Prelude.{◌==◌, ◌&&◌}
-use Rattle.std.specs.Option.{option_and_then}
-use Rattle.std.proofs.lemmas.Bool.{and_parts, eqb-true, cond-true}
+use Rattle.std.proofs.Common.{◌≡◌, ℕ, ◌+◌, ◌*◌, ◌/◌, ◌%◌, true, List, [], ◌∷◌, Some, subst, arith}
+use Rattle.std.specs.Prelude.{◌==◌}
+use Rattle.std.proofs.lemmas.Bool.{eqb-true}
 use Rattle.std.proofs.lemmas.Option.{option_and_then_some, cond_some}
-use Rattle.der_core_head.specs.Dates.{Civil, is_civil, two_digits, two_at, zulu}
+use Rattle.der_core_head.specs.Dates.{Civil, is_civil, two_at}
 use Rattle.der_core_head.proofs.DateLaws.{two_at-again, two_at-sound, civil_ranges, zulu-sound, zulu-again}
 use Rattle.der_types_time.specs.DateTexts.{date_text, mark_at, text_at}
 

@@ -1,5 +1,5 @@
 -- What contracts see of a `DateTime`: a civil date to the second.
-use Rattle.std.specs.Prelude.{◌≡◌, ℕ, true}
+use Rattle.std.specs.Prelude.{◌≡◌, true}
 use Rattle.der_core_head.specs.Dates.{Civil, is_civil}
 use Rattle.der_types_time.specs.declared.date_time.DateTime.TheInside.{Inside}
 

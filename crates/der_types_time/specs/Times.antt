@@ -1,9 +1,9 @@
 -- What contracts see of `UtcTime` and `GeneralizedTime`: civil dates.
-use Rattle.std.specs.Prelude.{◌≡◌, ◌<◌, ◌≤◌, ℕ, true, Result, Ok, Err}
+use Rattle.std.specs.Prelude.{◌≡◌, ◌<◌, ◌≤◌, Result, Ok, Err}
 use Rattle.der_core_head.specs.declared.error.Error.{Error}
 use Rattle.der_core_head.specs.declared.error.ErrorKind.TheVariants as kinds
 use Rattle.der_core_head.specs.declared.tag.Tag.TheVariants as tags
-use Rattle.der_core_head.specs.Dates.{Civil, is_civil, IsUtc}
+use Rattle.der_core_head.specs.Dates.{Civil}
 use Rattle.der_types_time.specs.declared.utc_time.UtcTime.TheInside.{Inside as UtcInside}
 use Rattle.der_types_time.specs.declared.generalized_time.GeneralizedTime.TheInside.{Inside as GeneralizedInside}
 

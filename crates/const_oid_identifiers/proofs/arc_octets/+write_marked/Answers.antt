@@ -1,4 +1,4 @@
-use Rattle.std.proofs.Common.{◌≡◌, ◌<◌, ◌+◌, ◌-◌, ◌/◌, ◌%◌, ◌++◌, ◌∷◌, [], length, map, ap, sym, ◌∙◌, arith}
+use Rattle.std.proofs.Common.{◌≡◌, ◌+◌, ◌-◌, ◌/◌, ◌%◌, ◌∷◌, [], length, map, ap, sym, ◌∙◌, arith}
 use Rattle.std.proofs.Math.ListN.{length-set}
 use Rattle.const_oid_identifiers.specs.Digits.{digits}
 use Rattle.const_oid_identifiers.proofs.EncodingLaws.{length-digits-one, length-digits-more, length-digits-pos, marked_digits-one, marked_digits-more, write_one, write_more}

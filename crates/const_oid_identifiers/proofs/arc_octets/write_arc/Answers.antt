@@ -1,4 +1,4 @@
-use Rattle.std.proofs.Common.{◌≡◌, ◌<◌, ◌+◌, ◌-◌, ◌/◌, ◌%◌, ◌++◌, ◌∷◌, [], length, map, ap, sym, ◌∙◌, arith}
+use Rattle.std.proofs.Common.{◌≡◌, ◌+◌, ◌/◌, ◌%◌, ◌∷◌, [], length, map, ap, sym, ◌∙◌, arith}
 use Rattle.const_oid_identifiers.specs.Digits.{digits}
 use Rattle.const_oid_identifiers.specs.IdentifierOctets.{arc_octets}
 use Rattle.const_oid_identifiers.proofs.EncodingLaws.{length-digits-one, length-digits-more, length-digits-pos, length-arc_octets, arc_octets-one, arc_octets-more, write_one, write_more}

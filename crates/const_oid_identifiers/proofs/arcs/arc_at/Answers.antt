@@ -1,5 +1,4 @@
-use Rattle.std.proofs.Common.{◌≡◌, ◌<◌, ◌≤◌, ℕ, List, Option, drop, slice_get, ap, sym, subst, ◌∙◌, arith}
-use Rattle.std.specs.Iterator.{YieldsFirst}
+use Rattle.std.proofs.Common.{sym, ◌∙◌, arith}
 use Rattle.const_oid_identifiers.specs.Arcs.{arcs_of}
 use Rattle.const_oid_identifiers.specs.References.{remaining_arcs}
 use Rattle.const_oid_identifiers.proofs.ArcsLaws.{none_left, next_left, at_next}

@@ -1,10 +1,10 @@
-use Rattle.std.proofs.Common.{◌≡◌, ◌+◌, ◌*◌, ◌%◌, ◌<◌, get_or, drop, ℕ, zero, suc, ◌∷◌, refl, ap, sym, ◌∙◌, arith}
+use Rattle.std.proofs.Common.{◌≡◌, ◌+◌, ◌*◌, ◌<◌, drop, ℕ, zero, suc, ◌∷◌, refl, ap, sym, ◌∙◌, arith}
 use Rattle.std.specs.Result.{is_ok}
 use Rattle.const_oid_identifiers.specs.Bound.{Bound}
 use Rattle.const_oid_identifiers.specs.IdentifierOctets.{read_arcs}
 use Rattle.const_oid_identifiers.specs.Arcs.{later_arcs}
 use Rattle.const_oid_identifiers.proofs.BoundLaws.{fits_type}
-use Rattle.const_oid_identifiers.proofs.ArcsLaws.{Octet, octet_at, whole_end, drop_past}
+use Rattle.const_oid_identifiers.proofs.ArcsLaws.{octet_at, whole_end, drop_past}
 use Rattle.const_oid_identifiers.proofs.arcs.first_arc.Goals as goal
 
 pub overflow_mul-value : goal.overflow_mul-value

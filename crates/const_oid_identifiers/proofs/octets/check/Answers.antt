@@ -1,4 +1,4 @@
-use Rattle.std.proofs.Common.{◌≡◌, List, ℕ, length, Err, ap, sym, ◌∙◌}
+use Rattle.std.proofs.Common.{length, Err, ap, sym, ◌∙◌}
 use Rattle.const_oid_identifiers.specs.declared.error.Error.TheVariants as errors
 use Rattle.const_oid_identifiers.specs.Bound.{Bound}
 use Rattle.const_oid_identifiers.specs.IdentifierOctets.{read_identifier}

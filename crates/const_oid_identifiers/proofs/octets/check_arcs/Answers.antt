@@ -1,4 +1,4 @@
-use Rattle.std.proofs.Common.{◌≡◌, ◌+◌, drop, Ok, Err, ap, sym, ◌∙◌, rules}
+use Rattle.std.proofs.Common.{◌+◌, drop, ap, sym, ◌∙◌, rules}
 use Rattle.const_oid_identifiers.specs.Bound.{Bound}
 use Rattle.const_oid_identifiers.proofs.ReadingLaws.{on_step, outcome-step, outcome-end_whole, outcome-end_cut}
 use Rattle.const_oid_identifiers.proofs.octets.check_arcs.Goals as goal

@@ -1,4 +1,4 @@
-use Rattle.std.proofs.Common.{◌≡◌, ◌<◌, ◌+◌, ◌∷◌, ℕ, List, get_or, drop, length, length-drop, None, Some, Ok, Err, ap, sym, ◌∙◌, arith}
+use Rattle.std.proofs.Common.{◌≡◌, ◌<◌, ◌+◌, get_or, drop, length, length-drop, None, Some, Err, ap, sym, ◌∙◌, arith}
 use Rattle.std.proofs.lemmas.Result.{err_from_is_err_and}
 use Rattle.const_oid_identifiers.specs.Bound.{Bound}
 use Rattle.const_oid_identifiers.specs.ArcLists.{and_then}

@@ -1,4 +1,4 @@
-use Rattle.std.proofs.Common.{rules, ◌≡◌, true, Ok, ap, sym, refl, ◌∙◌}
+use Rattle.std.proofs.Common.{rules, Ok, ap, sym, refl, ◌∙◌}
 use Rattle.der_core_order.proofs.TagOrders.{tagged_content, never_long, first_long, second_long, lengths_decide, contents_decide, equal_lengths}
 use Rattle.der_core_order.proofs.by_ord.der_cmp_by_ord.Goals as goal
 

@@ -1,13 +1,12 @@
-use Rattle.std.proofs.Common.{◌≡◌, ◌≤◌, ◌-◌, ◌+◌, ℕ, List, [], Some, None, Ok, length, take, sym, ap, subst, ◌∙◌, arith}
+use Rattle.std.proofs.Common.{◌≡◌, ◌≤◌, ◌-◌, [], Some, None, sym, ap, ◌∙◌}
 use Rattle.std.specs.Prelude.{◌≢◌}
 use Rattle.std.proofs.lemmas.Result.{err_from_is_err_and}
 use Rattle.der_core_head.specs.Shapes.{octets_of}
 use Rattle.der_core_head.specs.Grammar.{read, read_rising, last_octets, follows_last}
-use Rattle.der_core_head.specs.Reading.{State, IsDer, Gives}
+use Rattle.der_core_head.specs.Reading.{State, IsDer}
 use Rattle.der_core_headers.specs.Fronts.{octets_at}
 use Rattle.der_core_input.proofs.Steps.{frame_then, kept_then}
 use Rattle.der_core_input.proofs.Nested.{moved_kept}
-use Rattle.der_core_wrappers.proofs.Members.{Consumed, consumed}
 use Rattle.der_core_values.proofs.Lists.{set_on, set_stops, set_refuses, set_done, set_over, last_more}
 use Rattle.der_core_wrappers.proofs.set_of.read_rising.Goals as goal
 use Rattle.der_core_wrappers.proofs.set_of.read_rising.Goals.{else-loop-test, then-loop-test+then-is_finished}

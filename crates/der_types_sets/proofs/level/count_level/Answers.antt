@@ -1,10 +1,9 @@
-use Rattle.std.proofs.Common.{◌≡◌, ◌-◌, ◌+◌, ◌<◌, ◌≤◌, ℕ, List, [], Ok, Err, length, ap, sym, ◌∙◌, arith, false}
+use Rattle.std.proofs.Common.{◌≡◌, ◌-◌, [], Ok, Err, length, ap, sym, ◌∙◌, arith, false}
 use Rattle.std.specs.Prelude.{◌≢◌}
 use Rattle.std.proofs.lemmas.Result.{err_from_is_err_and}
 use Rattle.der_core_head.specs.Shapes.{octets_of}
 use Rattle.der_core_head.specs.Grammar.{read}
-use Rattle.der_core_head.specs.Reading.{State, IsDer, unread}
-use Rattle.der_core_head.specs.declared.encoding_rules.EncodingRules.TheVariants.{Der}
+use Rattle.der_core_head.specs.Reading.{State, IsDer}
 use Rattle.der_core_headers.specs.Fronts.{octets_at}
 use Rattle.der_types_sets.specs.Level.{behind_last, counted, level_content}
 use Rattle.der_types_sets.proofs.LevelSteps.{level_on, level_stops, level_refuses, level_done, level_over}

@@ -1,4 +1,4 @@
-use Rattle.std.proofs.Common.{◌≡◌, ap, sym, ◌∙◌, true, false}
+use Rattle.std.proofs.Common.{sym, ◌∙◌}
 use Rattle.std.proofs.lemmas.Bool.{false≢true}
 use Rattle.const_oid.proofs.NamesLaws.{by_name-match, by_name-pass}
 use Rattle.const_oid.proofs.database.Database.by_name.Goals as goal

@@ -1,5 +1,4 @@
-use Rattle.std.proofs.Common.{◌≡◌, ◌<◌, ◌+◌, ◌∷◌, List, ℕ, length, get_or, drop, ap, sym, ◌∙◌, arith, rules}
-use Rattle.const_oid.specs.Names.{names_of}
+use Rattle.std.proofs.Common.{length, ap, sym, ◌∙◌, arith, rules}
 use Rattle.const_oid.proofs.NamesLaws.{names-match, names-pass}
 use Rattle.const_oid.proofs.database.NamesIterator.next.Goals as goal
 

@@ -1,4 +1,4 @@
-use Rattle.std.proofs.Common.{◌≡◌, ◌-◌, ◌≤◌, drop, length}
+use Rattle.std.proofs.Common.{◌≡◌, ◌-◌, drop, length}
 use Rattle.const_oid.specs.Names.{names_of}
 use Rattle.const_oid.proofs.database.NamesIterator.next.Given as goal
 

@@ -1,4 +1,4 @@
-use Rattle.std.proofs.Common.{◌≡◌, ◌/◌, ◌∷◌, List, ℕ, length, ap, sym, subst, true, ◌∙◌}
+use Rattle.std.proofs.Common.{◌/◌, ◌∷◌, length, ap, sym, ◌∙◌}
 use Rattle.std.specs.Result.{is_ok}
 use Rattle.const_oid_identifiers.specs.Bound.{Bound}
 use Rattle.const_oid_identifiers.specs.IdentifierOctets.{read_identifier}

@@ -1,6 +1,4 @@
-use Rattle.std.proofs.Common.{◌≡◌, List, ℕ, [], ◌++◌, ap, ◌∙◌}
-use Rattle.std.specs.Prelude.{option_to_list}
-use Rattle.const_oid_identifiers.specs.Arcs.{later_arcs}
+use Rattle.std.proofs.Common.{◌≡◌, []}
 use Rattle.const_oid_identifiers.specs.References.{remaining_arcs}
 use Rattle.const_oid_identifiers.proofs.ArcsLaws.{later_arcs-nil}
 use Rattle.const_oid_identifiers.proofs.arcs.ArcsIterator.next.Goals as goal

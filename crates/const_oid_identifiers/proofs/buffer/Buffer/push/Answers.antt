@@ -1,4 +1,4 @@
-use Rattle.std.proofs.Common.{arith, ◌≡◌, ◌<◌, ap, sym, ◌∙◌, length}
+use Rattle.std.proofs.Common.{arith, ◌<◌, ap, ◌∙◌, length}
 use Rattle.std.proofs.Math.ListN.{length-set}
 use Rattle.const_oid_identifiers.specs.Buffers.{length_front}
 use Rattle.const_oid_identifiers.proofs.BufferLaws.{zeros_after_push}

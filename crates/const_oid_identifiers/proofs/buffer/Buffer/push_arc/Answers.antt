@@ -1,4 +1,4 @@
-use Rattle.std.proofs.Common.{◌≡◌, ◌<◌, ◌≤◌, ◌+◌, ◌-◌, ◌++◌, length, take, drop, ap, sym, ◌∙◌, arith}
+use Rattle.std.proofs.Common.{◌≡◌, ◌+◌, ◌-◌, ◌++◌, length, take, drop, ap, ◌∙◌, arith}
 use Rattle.const_oid_identifiers.specs.Buffers.{length_front}
 use Rattle.const_oid_identifiers.specs.IdentifierOctets.{arc_octets}
 use Rattle.const_oid_identifiers.proofs.EncodingLaws.{front_of_written, rest_of_written, length_of_written, drop_zeros}

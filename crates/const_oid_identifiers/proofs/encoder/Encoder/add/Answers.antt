@@ -1,9 +1,9 @@
-use Rattle.std.proofs.Common.{◌≡◌, ◌<◌, ◌≤◌, ◌+◌, ◌*◌, ◌++◌, ◌∷◌, [], ℕ, List, length, Option, Ok, Err, MatchResult, ap, sym, subst, ◌∙◌, arith}
+use Rattle.std.proofs.Common.{◌≡◌, ◌<◌, ℕ, List, length, Option, Ok, Err, MatchResult, ap, sym, subst, ◌∙◌, arith}
 use Rattle.std.proofs.lemmas.Bool.{eqb-true, eqb-false}
 use Rattle.const_oid_identifiers.specs.Bound.{Bound}
 use Rattle.const_oid_identifiers.specs.ArcLists.{add_arc, arcs_so_far, IsSoFar}
 use Rattle.const_oid_identifiers.proofs.BoundLaws.{below_bound}
-use Rattle.const_oid_identifiers.proofs.EncodingLaws.{add_more, add_first, misplaced_first, misplaced_second, second_long, add_second, first_small, one_so_far}
+use Rattle.const_oid_identifiers.proofs.EncodingLaws.{add_more, add_first, misplaced_first, misplaced_second, second_long, add_second, first_small}
 use Rattle.const_oid_identifiers.proofs.encoder.Encoder.add.Goals as goal
 
 pub invariant_of-self : goal.invariant_of-self

@@ -1,4 +1,4 @@
-use Rattle.std.proofs.Common.{◌≡◌, List, ℕ, [], true, false, Bool, subst, sym, ◌∙◌}
+use Rattle.std.proofs.Common.{◌≡◌, List, ℕ, [], true, subst, sym, ◌∙◌}
 use Rattle.const_oid_identifiers.specs.Bound.{Bound}
 use Rattle.const_oid_identifiers.proofs.EncodingLaws.{empty_so_far, some_so_far}
 use Rattle.const_oid_identifiers.proofs.encoder.Encoder.is_empty.Goals as goal

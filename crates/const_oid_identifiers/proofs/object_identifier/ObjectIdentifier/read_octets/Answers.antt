@@ -1,4 +1,4 @@
-use Rattle.std.proofs.Common.{◌≡◌, ◌<◌, ℕ, get_or, Ok, Err, ap, sym, subst, ◌∙◌, arith}
+use Rattle.std.proofs.Common.{Ok, Err, ap, sym, subst, ◌∙◌, arith}
 use Rattle.std.proofs.lemmas.Result.{err_from_is_err_and}
 use Rattle.const_oid_identifiers.specs.Bound.{Bound}
 use Rattle.const_oid_identifiers.specs.Arcs.{arcs_of, SpellsIdentifier}

@@ -1,4 +1,4 @@
-use Rattle.std.proofs.Common.{◌≡◌, length, refl, ap, sym, subst, arith, Ok, Err, Bool}
+use Rattle.std.proofs.Common.{length, refl, ap, subst, arith, Ok, Err, Bool}
 use Rattle.std.proofs.lemmas.Result.{err_from_is_err_and}
 use Rattle.std.specs.Fn.{FnOnceReturnsAtMut}
 use Rattle.der_core_head.specs.Grammar.{read_body}

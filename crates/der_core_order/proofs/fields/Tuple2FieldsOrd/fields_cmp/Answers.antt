@@ -1,4 +1,4 @@
-use Rattle.std.proofs.Common.{Ok, ap, sym, ◌∙◌}
+use Rattle.std.proofs.Common.{Ok, ap, ◌∙◌}
 use Rattle.std.specs.Ordering.{ordering_reverse}
 use Rattle.der_core_order.proofs.RowOrders.{neither_stands, both_stand, first_stands, second_stands, either_long}
 use Rattle.der_core_order.proofs.fields.Tuple2FieldsOrd.fields_cmp.Goals as goal

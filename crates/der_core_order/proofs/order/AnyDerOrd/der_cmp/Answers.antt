@@ -1,4 +1,4 @@
-use Rattle.std.proofs.Common.{rules, ◌≡◌, true, Ok, ap, sym, ◌∙◌}
+use Rattle.std.proofs.Common.{rules, Ok, ap, sym, ◌∙◌}
 use Rattle.der_core_order.proofs.TagOrders.{tagged_content, never_long, first_long, second_long, lengths_decide, contents_decide}
 use Rattle.der_core_order.proofs.order.AnyDerOrd.der_cmp.Goals as goal
 

@@ -1,4 +1,4 @@
-use Rattle.std.proofs.Common.{◌≡◌, ◌≤◌, ℕ, sym, ap, ◌∙◌, arith, drop}
+use Rattle.std.proofs.Common.{◌≡◌, ℕ, sym, ap, ◌∙◌, arith, drop}
 use Rattle.der_types_sets.specs.Lent.{members_lent}
 use Rattle.der_types_sets.proofs.LentSteps.{next_at, none_at, yielded}
 use Rattle.der_types_sets.proofs.set_of_ref.SetOfRef.get.Goals as goal

@@ -1,5 +1,4 @@
-use Rattle.std.proofs.Common.{◌≡◌, ◌+◌, List, length, drop}
-use Rattle.der_core_head.specs.Shapes.{Value}
+use Rattle.std.proofs.Common.{◌≡◌, drop}
 use Rattle.der_types_sets.specs.Lent.{members_lent}
 use Rattle.der_types_sets.proofs.set_of_ref.SetOfRef.get.Given as goal
 

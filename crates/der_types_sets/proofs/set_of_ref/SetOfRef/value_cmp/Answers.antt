@@ -1,10 +1,6 @@
 use Rattle.std.proofs.Common.{sym, ◌∙◌}
 use Rattle.std.proofs.lemmas.Bool.{eqb-true}
 use Rattle.std.proofs.lemmas.Result.{err_from_is_err_and}
-use Rattle.der_core_head.specs.Shapes.{nested, many}
-use Rattle.der_core_head.specs.Writing.{size_body}
-use Rattle.der_core_order.specs.Orders.{contents_cmp}
-use Rattle.der_types_sets.specs.Lent.{members_lent}
 use Rattle.der_types_sets.proofs.LentWrites.{some_at}
 use Rattle.der_types_sets.proofs.LentOrders.{both_values, values_octets, octets_values, octets_values_fault, both_octets, if_overflow, overlong, second_overlong, if_first}
 use Rattle.der_types_sets.proofs.set_of_ref.SetOfRef.value_cmp.Goals as goal

@@ -1,4 +1,4 @@
-use Rattle.std.proofs.Common.{◌≡◌, ◌<◌, List, length, ap, arith}
+use Rattle.std.proofs.Common.{List, length, ap, arith}
 use Rattle.der_core_head.specs.Shapes.{Value}
 use Rattle.der_types_sets.proofs.LentSteps.{front_lent}
 use Rattle.der_types_sets.proofs.set_of_ref_iter.SetOfRefIterIterator.next.Goals as goal

@@ -1,8 +1,6 @@
 use Rattle.std.proofs.Common.{◌≡◌, w16, ℤ, pos, arith, subst, sym, ◌∙◌, ap, to_z, of_z}
-use Rattle.std.proofs.lemmas.Int.{to_z-of_z}
 use Rattle.jiff_core.specs.Calendar.{IsCivilDate, days_from_civil}
-use Rattle.jiff_core.proofs.SignedLemmas.{signed_casts, back_small}
-use Rattle.der_core_head.specs.Dates.{Civil, is_civil}
+use Rattle.jiff_core.proofs.SignedLemmas.{back_small}
 use Rattle.der_core_head.proofs.DateLaws.{civil_ranges}
 use Rattle.der_types_time.specs.Seconds.{unix_days}
 use Rattle.der_types_time.specs.DateTimes.{civil_of}

@@ -1,11 +1,10 @@
-use Rattle.std.proofs.Common.{◌≡◌, ◌≤◌, ◌/◌, ◌%◌, ℤ, pos, ◌≤ℤ◌, w64, arith, subst, sym, ◌∙◌, ap, true}
+use Rattle.std.proofs.Common.{◌≡◌, ◌/◌, ◌%◌, ℤ, pos, ◌≤ℤ◌, w64, arith, subst, sym, ◌∙◌, true}
 use Rattle.std.proofs.lemmas.Int.{to_z_pos}
 use Rattle.std.proofs.lemmas.Result.{IfOk-weaker}
 use Rattle.jiff_core.specs.Calendar.{IsCivilDate, days_from_civil}
 use Rattle.jiff_core.specs.Date.{epoch_day}
 use Rattle.jiff_core.proofs.SignedLemmas.{signed_casts}
 use Rattle.der_core_head.specs.Dates.{Civil, is_civil}
-use Rattle.der_types_time.specs.Seconds.{unix_seconds}
 use Rattle.der_types_time.proofs.Days.{civil_is, year_is, seconds_are}
 use Rattle.der_types_time.proofs.date_time.DateTime.from_unix_seconds.Goals as goal
 

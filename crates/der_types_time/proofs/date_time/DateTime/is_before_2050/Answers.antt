@@ -1,4 +1,4 @@
-use Rattle.std.proofs.Common.{◌<◌, ◌≤◌, IsTrue, subst, arith}
+use Rattle.std.proofs.Common.{◌<◌, IsTrue, subst, arith}
 use Rattle.std.specs.Prelude.{ltb, ◌↔◌}
 use Rattle.std.proofs.lemmas.Bool.{ltb-true, lt-ltb}
 use Rattle.der_core_head.specs.Dates.{Civil}

@@ -1,7 +1,5 @@
 use Rattle.std.proofs.Common.{◌≡◌, Some, None, sym, ap, ◌∙◌}
-use Rattle.std.specs.Prelude.{Option}
-use Rattle.der_core_head.specs.Dates.{Civil}
-use Rattle.der_types_time.specs.DateTexts.{date_text, text_at}
+use Rattle.der_types_time.specs.DateTexts.{text_at}
 use Rattle.der_types_time.proofs.TextLaws.{text_at-sound, text_at-again}
 use Rattle.der_types_time.proofs.date_time.DateTimeFromStr.from_str.Goals as goal
 
