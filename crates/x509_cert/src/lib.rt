@@ -12,7 +12,7 @@ mod validity;
 
 pub use algorithm_identifier::AlgorithmIdentifier;
 pub use certificate::{CertificateInner, read_certificate};
-pub use der_types::BitString;
+pub use der_types_bits::BitString;
 pub use name::Name;
 pub use serial_number::SerialNumber;
 pub use subject_public_key_info::SubjectPublicKeyInfo;

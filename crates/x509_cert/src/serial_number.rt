@@ -8,7 +8,7 @@ ghost use Rattle.der_core_head.specs.Integers.{every, integer_of};
 ghost use Rattle.x509_cert.specs.Views.{serial_plain};
 
 use der_core::{DecodeValue, Error, FixedTag, Header, Reader, ShapedValue, Tag};
-use der_types::Int;
+use der_types_numbers::Int;
 use std::alloc::Global;
 
 /// A certificate's serial number (RFC 5280 4.1.2.2), of one octet or more.

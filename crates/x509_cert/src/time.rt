@@ -8,7 +8,7 @@ ghost use Rattle.x509_cert.specs.Certificates.{time};
 ghost use Rattle.x509_cert.specs.Views.{time_value, time_plain};
 
 use der_core::{Choice, Decode, Error, ErrorKind, Reader, Shaped, Tag};
-use der_types::{DateTime, GeneralizedTime, UtcTime};
+use der_types_time::{DateTime, GeneralizedTime, UtcTime};
 use std::alloc::Global;
 use std::time::Duration;
 
