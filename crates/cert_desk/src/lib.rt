@@ -2,6 +2,7 @@
 #![tactic(auto)]
 
 mod anchor;
+mod arguments;
 mod bundle;
 mod bundle_error;
 mod checked;
@@ -20,6 +21,7 @@ mod standing;
 mod status;
 
 pub use anchor::Anchor;
+pub use arguments::{Arguments, USAGE};
 pub use bundle::Bundle;
 pub use bundle_error::{BundleError, ReadError};
 pub use cert_desk_io::{

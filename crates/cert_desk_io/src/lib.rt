@@ -13,8 +13,6 @@ pub mod memory_outputs;
 pub mod outputs;
 pub mod readers;
 mod schedule;
-#[cfg(test)]
-mod tests;
 pub mod writers;
 
 pub use device_error::DeviceError;

@@ -8,9 +8,6 @@ ghost use Rattle.x509_cert.specs.Views.{arc_bound, certificate_plain};
 ghost use Rattle.cert_desk.specs.Faults.{Split};
 ghost use Rattle.cert_desk_plain.specs.Fronts.{IsFirst};
 
-#[cfg(test)]
-mod tests;
-
 use der_core_head::ErrorKind;
 use std::alloc::{AllocError, Global};
 use x509_cert::{CertificateInner, read_certificate};

@@ -1,19 +1,11 @@
 //! `cert_desk check ANCHORS STREAM MOMENT PURPOSE LIMIT`: whether a stream of certificates is trusted.
 #![tactic(auto)]
 
-mod arguments;
-#[cfg(test)]
-mod tests;
-
-use arguments::Arguments;
-use cert_desk::{DigestJudge, Status, run_check};
+use cert_desk::{Arguments, DigestJudge, Status, USAGE, run_check};
 use cert_desk_io::{FromRead, Output, ToWrite, write_all};
 use std::fs::File;
 use std::process::ExitCode;
 use std::{env, io};
-
-const USAGE: &str =
-    "usage: cert_desk check ANCHORS STREAM MOMENT PURPOSE LIMIT | show KIND FILE | issue ORDERS\n";
 
 const DEVICE: &str = "device\n";
 

@@ -10,6 +10,3 @@ pub use const_oid_identifiers::{
     Arc, Arcs, Buffer, Error, ObjectIdentifier, ObjectIdentifierRef, Result,
 };
 pub use database::{Database, Entry, Names};
-
-#[cfg(test)]
-mod tests;

@@ -17,6 +17,3 @@ pub use buffer::Buffer;
 pub use error::{Arc, Error, Result};
 pub use object_identifier::ObjectIdentifier;
 pub use object_identifier_ref::ObjectIdentifierRef;
-
-#[cfg(test)]
-mod tests;

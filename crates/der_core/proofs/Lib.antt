@@ -1,0 +1,13 @@
+pub mod OrderLaws
+pub mod HeadOrders
+pub mod Sizes
+pub mod ShapeOrders
+pub mod FirstTags
+pub mod TagOrders
+pub mod RowOrders
+pub mod LeafOrders
+pub mod ListOrders
+pub mod IterOrders
+pub mod ChoiceOrders
+pub mod AnyOrders
+pub mod DefaultOrders

@@ -1,0 +1,3 @@
+pub mod Orders
+pub mod OrdLaws
+pub mod Choices

@@ -1,11 +1,46 @@
-//! Laws of shapes, of bodies of indefinite length, and of the order of encodings. Each is a function
-//! with nothing to run, whose contract is the law.
+//! Laws of shapes, of bodies of indefinite length, and of the order of encodings, for every shape.
+//!
+//! Each is the contract of a function that does nothing.
+
+ghost use Rattle.std.specs.Prelude.{◌≡◌, ◌↔◌, ℕ, List, ◌++◌, true};
+ghost use Rattle.std.specs.Ordering.{nat_cmp, ordering_then, ordering_reverse};
+ghost use Rattle.std.specs.declared.cmp.Ordering.{Ordering};
+ghost use Rattle.std.specs.declared.cmp.Ordering.TheVariants.{Less, Equal};
+ghost use Rattle.der_core_head.specs.Heads.{length_octets};
+ghost use Rattle.der_core_head.specs.Shapes.{Shape, Value, IsValid, octets_of};
+ghost use Rattle.der_core_head.specs.Spelling.{is_apart, is_element, are_enough};
+ghost use Rattle.der_core.specs.Orders.{octets_cmp, encodings_cmp};
 
 pub use der_core_head::laws::{
     apart_is_lawful, ber_headers_are_spelled, bodies_end_themselves, read_is_spelled,
     spelled_is_read,
 };
-pub use der_core_order::laws::{
-    equal_octets_alone, equal_values_alone, first_encoding_decides, lengths_in_order,
-    order_is_total,
-};
+
+/// The order is `Equal` exactly where the octets are the same.
+pub fn equal_octets_alone()
+    ensures { (a b : List ℕ) → (octets_cmp a b ≡ Equal) ↔ (a ≡ b) }
+{}
+
+/// The order is total: one way round it is the reverse of the other, and it goes on.
+pub fn order_is_total()
+    ensures reversed { (a b : List ℕ) → octets_cmp a b ≡ ordering_reverse (octets_cmp b a) }
+    ensures goes_on { (a b c : List ℕ) → octets_cmp a b ≡ Less → octets_cmp b c ≡ Less → octets_cmp a c ≡ Less }
+    ensures same { (a b c : List ℕ) → octets_cmp a b ≡ Equal → octets_cmp a c ≡ octets_cmp b c }
+{}
+
+/// Lengths are in the order of their octets (X.690 8.1.3).
+pub fn lengths_in_order()
+    ensures { (m n : ℕ) → octets_cmp (length_octets m) (length_octets n) ≡ nat_cmp m n }
+{}
+
+/// No encoding begins another, so what follows two encodings matters only where these are the same.
+pub fn first_encoding_decides()
+    ensures { (s : Shape) (v w : Value s) (r t : List ℕ) → is_element s ≡ true → IsValid s v → IsValid s w
+        → octets_cmp (octets_of s v ++ r) (octets_of s w ++ t) ≡ ordering_then (encodings_cmp s v w) (octets_cmp r t) }
+{}
+
+/// Two values of a shape are in the order `Equal` exactly where they are one value.
+pub fn equal_values_alone()
+    ensures { (s : Shape) (room : ℕ) (v w : Value s) → is_element s ≡ true → is_apart s ≡ true → are_enough s room ≡ true
+        → IsValid s v → IsValid s w → (encodings_cmp s v w ≡ Equal) ↔ (v ≡ w) }
+{}

@@ -1,1 +1,7 @@
 pub mod Held
+pub mod Fronts
+pub mod Numbers
+pub mod Pieces
+pub mod Places
+pub mod Nesting
+pub mod Outputs

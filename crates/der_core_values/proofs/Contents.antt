@@ -12,8 +12,8 @@ use Rattle.der_core_head.specs.Octets.{◌>>=◌}
 use Rattle.der_core_head.specs.Grammar.{whole, slice_at, value_at, read_content, leaf_at, kept}
 use Rattle.der_core_head.specs.Reading.{State, Reads, Gives}
 use Rattle.der_core_head.proofs.Results.{ok_is}
-use Rattle.der_core_input.proofs.Nested.{moved_kept}
-use Rattle.der_core_input.proofs.Facts.{slice_ok, slice_short, value_enough, value_short}
+use Rattle.der_core_octets.proofs.Nested.{moved_kept}
+use Rattle.der_core_octets.proofs.Facts.{slice_ok, slice_short, value_enough, value_short}
 
 leaf_then : {P : Type 0} (o : Result P ErrorKind) (r : List ℕ) → (leaf_at o >>= whole >>= λ y. Ok (y.0, r)) ≡ (o >>= kept r)
 leaf_then (Ok v) r = refl

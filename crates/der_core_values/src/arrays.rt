@@ -11,8 +11,7 @@ use crate::elements::{ApartValue, Element, Member};
 use crate::encode::{Encode, EncodeValue};
 use crate::fields::{DecodeFields, Fields, read_fields};
 use der_core_head::{Error, ErrorKind, Header, Length, Tag};
-use der_core_input::Reader;
-use der_core_output::{Writer, sum_len};
+use der_core_octets::{Reader, Writer, sum_len};
 use std::alloc::Global;
 
 impl<T, const N: usize> FixedTag for [T; N] {

@@ -11,9 +11,7 @@ use crate::decode::{DecodeValue, ShapedValue};
 use crate::encode::EncodeValue;
 use crate::leaves::{Leaf, decode_leaf};
 use der_core_head::{Error, Header, Length, Tag};
-use der_core_input::Reader;
-use der_core_octets::{BytesOwned, BytesRef};
-use der_core_output::Writer;
+use der_core_octets::{BytesOwned, BytesRef, Reader, Writer};
 use std::alloc::Global;
 
 impl<'a> Leaf<'a> for BytesRef<'a> {

@@ -7,7 +7,7 @@ ghost use Rattle.der_core_head.specs.Grammar.{read, read_content, value_at, plai
 ghost use Rattle.der_core_head.specs.Reading.{Reads};
 
 use der_core_head::{Error, ErrorKind, Header, Tag, is_same_tag};
-use der_core_input::Reader;
+use der_core_octets::Reader;
 use std::alloc::Global;
 
 /// A type whose values have one tag.

@@ -7,8 +7,7 @@ use crate::decode::{Choice, Decode, Shaped};
 use crate::elements::Member;
 use crate::encode::Encode;
 use der_core_head::{Error, ErrorKind, Length, Tag};
-use der_core_input::Reader;
-use der_core_output::Writer;
+use der_core_octets::{Reader, Writer};
 use std::alloc::Global;
 use std::marker::PhantomData;
 

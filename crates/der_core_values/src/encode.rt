@@ -3,11 +3,11 @@
 ghost use Rattle.std.specs.Prelude.{◌≡◌};
 ghost use Rattle.der_core_head.specs.Reading.{GivesNow};
 ghost use Rattle.der_core_head.specs.Writing.{Writes, size, write, size_content, write_content};
-ghost use Rattle.der_core_output.specs.Outputs.{Continues};
+ghost use Rattle.der_core_octets.specs.Outputs.{Continues};
 
 use crate::decode::{FixedTag, Shaped, ShapedValue};
 use der_core_head::{Error, Length};
-use der_core_output::{Writer, encode_header};
+use der_core_octets::{Writer, encode_header};
 
 /// What is written as octets, with its header.
 pub trait Encode: Shaped {

@@ -6,7 +6,7 @@ ghost use Rattle.der_core_head.specs.Grammar.{value_at, read_body, read_content}
 ghost use Rattle.der_core_head.specs.Reading.{Reads};
 
 use der_core_head::{Error, Header};
-use der_core_input::Reader;
+use der_core_octets::Reader;
 use std::alloc::Global;
 
 /// The fields of a type, and what its values are.

@@ -9,10 +9,9 @@ ghost use Rattle.der_core_head.specs.Leaves.{identifier};
 use crate::decode::{DecodeValue, FixedTag, ShapedValue};
 use crate::encode::EncodeValue;
 use crate::leaves::{Leaf, decode_leaf};
-use const_oid::ObjectIdentifier;
+use const_oid_identifiers::ObjectIdentifier;
 use der_core_head::{Error, ErrorKind, Header, Length, Tag};
-use der_core_input::Reader;
-use der_core_output::{Writer, slice_len};
+use der_core_octets::{Reader, Writer, slice_len};
 use std::alloc::Global;
 
 impl<const MAX_SIZE: usize> FixedTag for ObjectIdentifier<MAX_SIZE> {

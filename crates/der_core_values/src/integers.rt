@@ -6,15 +6,13 @@ ghost use Rattle.der_core_head.specs.Shapes.{leaf};
 ghost use Rattle.der_core_head.specs.Integers.{Numbers, unsigned, signed, integer_read};
 ghost use Rattle.der_core_head.specs.Leaves.{integer};
 ghost use Rattle.der_core_head.specs.Reading.{GivesNow};
-ghost use Rattle.der_core_headers.specs.Numbers.{signed_number};
+ghost use Rattle.der_core_octets.specs.Numbers.{signed_number};
 
 use crate::decode::{DecodeValue, FixedTag, ShapedValue};
 use crate::encode::EncodeValue;
 use crate::leaves::{Leaf, decode_leaf};
 use der_core_head::{Error, Header, Length, Tag};
-use der_core_headers::{integer_octets_of, signed_of, unsigned_of};
-use der_core_input::Reader;
-use der_core_output::Writer;
+use der_core_octets::{Reader, Writer, integer_octets_of, signed_of, unsigned_of};
 use std::alloc::Global;
 
 /// A type of whole numbers.

@@ -10,8 +10,7 @@ ghost use Rattle.der_core_head.specs.Leaves.{Leaf as LeafKind, LeafValue, leaf_r
 use crate::decode::{DecodeValue, FixedTag, ShapedValue};
 use crate::encode::EncodeValue;
 use der_core_head::{Error, ErrorKind, Header, Length, Tag};
-use der_core_input::Reader;
-use der_core_output::Writer;
+use der_core_octets::{Reader, Writer};
 use std::alloc::Global;
 
 /// A type whose values are read from the octets of their content.

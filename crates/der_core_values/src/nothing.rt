@@ -5,7 +5,7 @@ ghost use Rattle.der_core_head.specs.Shapes.{done};
 
 use crate::fields::{DecodeFields, Fields};
 use der_core_head::{Error, ErrorKind};
-use der_core_input::Reader;
+use der_core_octets::Reader;
 use std::alloc::Global;
 use std::marker::PhantomData;
 

@@ -11,9 +11,7 @@ use crate::decode::{DecodeValue, FixedTag, ShapedValue};
 use crate::encode::EncodeValue;
 use crate::leaves::{Leaf, decode_leaf};
 use der_core_head::{Error, Header, Length, Tag};
-use der_core_input::Reader;
-use der_core_octets::{StringOwned, StringRef};
-use der_core_output::{Writer, slice_len};
+use der_core_octets::{Reader, StringOwned, StringRef, Writer, slice_len};
 use std::alloc::Global;
 use std::str;
 

@@ -6,7 +6,7 @@ ghost use Rattle.der_core_head.specs.Shapes.{field, done};
 use crate::decode::{Decode, Shaped};
 use crate::fields::{DecodeFields, Fields};
 use der_core_head::{Error, ErrorKind};
-use der_core_input::Reader;
+use der_core_octets::Reader;
 use std::alloc::Global;
 
 impl Fields for () {

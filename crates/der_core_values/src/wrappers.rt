@@ -9,8 +9,7 @@ use crate::decode::{Decode, DecodeValue, FixedTag, Shaped, ShapedValue};
 use crate::encode::{Encode, EncodeValue};
 use crate::fields::{DecodeFields, Fields, read_fields};
 use der_core_head::{Error, ErrorKind, Header, Length, Tag};
-use der_core_input::Reader;
-use der_core_output::{Writer, sum_len};
+use der_core_octets::{Reader, Writer, sum_len};
 use std::alloc::Global;
 
 impl<T: FixedTag> FixedTag for Box<T> {

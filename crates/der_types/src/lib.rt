@@ -2,11 +2,9 @@
 #![tactic(auto)]
 
 pub mod laws;
-#[cfg(test)]
-mod tests;
 
 pub use der_types_any::{Any, AnyRef};
-pub use der_types_flags::{FlagSet, NamedBits};
+pub use der_types_numbers::{AsIntRef, AsUintRef, Int, IntRef, Uint, UintRef};
 pub use der_types_sets::{
     SequenceOf, SequenceOfIter, SetOf, SetOfIter, SetOfRef, SetOfRefIter, SetOfVec,
 };
@@ -21,7 +19,6 @@ pub use der_types_text::{
 };
 pub use der_types_time::{DateTime, GeneralizedTime, UtcTime, const_contains_u8};
 pub use der_types_values::{
-    AllowedLenBitString, AsBitStringRef, AsIntRef, AsUintRef, BitString, BitStringIter,
-    BitStringRef, Int, IntRef, Null, OctetString, OctetStringRef, Sequence, SequenceRef, Uint,
-    UintRef,
+    AllowedLenBitString, AsBitStringRef, BitString, BitStringIter, BitStringRef, FlagSet,
+    NamedBits, Null, OctetString, OctetStringRef, Sequence, SequenceRef,
 };

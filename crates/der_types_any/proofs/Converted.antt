@@ -12,7 +12,7 @@ use Rattle.der_core_head.specs.Shapes.{AnyValue, Content, ContentValue, tagged, 
 use Rattle.der_core_head.specs.Spelling.{is_apart, are_enough}
 use Rattle.der_core_head.specs.Grammar.{read, read_content, whole, whole_at, value_at, tlv_at, kept}
 use Rattle.der_core_head.specs.Reading.{Gives}
-use Rattle.der_core_headers.specs.Fronts.{alone}
+use Rattle.der_core_octets.specs.Fronts.{alone}
 use Rattle.der_core_head.proofs.Bytes.{IsBytes}
 use Rattle.der_core_head.proofs.Fits.{fits_contents}
 use Rattle.der_core_head.proofs.TagLaws.{same_tag-eq}

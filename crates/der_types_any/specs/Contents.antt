@@ -9,7 +9,7 @@ use Rattle.der_core_head.specs.Leaves.{Leaf, LeafValue, leaf_read}
 use Rattle.der_core_head.specs.Shapes.{AnyValue, Content, ContentValue}
 use Rattle.der_core_head.specs.Grammar.{read_content, whole}
 use Rattle.der_core_head.specs.Writing.{write_content}
-use Rattle.der_core_headers.specs.Fronts.{alone}
+use Rattle.der_core_octets.specs.Fronts.{alone}
 use Rattle.der_types_numbers.specs.Numbers.{counted}
 
 -- the value, if the tag is that of the type, or the fault

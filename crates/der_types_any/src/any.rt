@@ -9,18 +9,18 @@ ghost use Rattle.der_core_head.specs.Shapes.{any, tagged, nested, Body, BodyValu
 ghost use Rattle.der_core_head.specs.Spelling.{is_apart, are_enough};
 ghost use Rattle.der_core_head.specs.Tags.{same_tag};
 ghost use Rattle.der_core_head.specs.Reading.{Gives, ClosureReads, HandsBack, unread};
-ghost use Rattle.der_core_input.specs.Nesting.{Answered};
+ghost use Rattle.der_core_octets.specs.Nesting.{Answered};
 ghost use Rattle.der_core_head.specs.Writing.{write_content};
 ghost use Rattle.der_types_any.specs.Anys.{any_lent};
-ghost use Rattle.der_core_order.specs.Orders.{octets_cmp};
+ghost use Rattle.der_core.specs.Orders.{octets_cmp};
 ghost use Rattle.der_types_any.specs.Contents.{content_as, written_as};
 
 use crate::any_ref::AnyRef;
 use der_core::{
-    Choice, Decode, DecodeValue, Encode, EncodeValue, EncodingRules, Error, ErrorKind, FixedTag,
-    Header, Length, Reader, Shaped, SliceReader, Tag, Writer, leading_octet_of, number_of,
+    Choice, Decode, DecodeValue, DerOrd, Encode, EncodeValue, EncodingRules, Error, ErrorKind,
+    FirstTag, FixedTag, Header, Length, Reader, Shaped, SliceReader, Tag, Writer, leading_octet_of,
+    number_of,
 };
-use der_core_order::{DerOrd, FirstTag};
 use std::alloc::{AllocError, Global};
 use std::cmp::Ordering;
 use std::marker::Model;

@@ -7,17 +7,16 @@ ghost use Rattle.der_core_head.specs.Shapes.{any, tagged, nested, Body, BodyValu
 ghost use Rattle.der_core_head.specs.Spelling.{is_apart, are_enough};
 ghost use Rattle.der_core_head.specs.Tags.{same_tag};
 ghost use Rattle.der_core_head.specs.Reading.{Gives, ClosureReads, HandsBack, unread};
-ghost use Rattle.der_core_input.specs.Nesting.{Answered};
-ghost use Rattle.der_core_order.specs.Orders.{octets_cmp};
+ghost use Rattle.der_core_octets.specs.Nesting.{Answered};
+ghost use Rattle.der_core.specs.Orders.{octets_cmp};
 ghost use Rattle.der_types_any.specs.Contents.{content_as};
 
 use crate::any::Any;
 use der_core::{
-    Choice, Decode, DecodeValue, Encode, EncodingRules, Error, ErrorKind, FixedTag, Header, Length,
-    Reader, Shaped, SliceReader, Tag, Writer, encode_header, header_len, is_same_tag, slice_len,
-    sum_len,
+    Choice, Decode, DecodeValue, DerOrd, Encode, EncodingRules, Error, ErrorKind, FirstTag,
+    FixedTag, Header, Length, Reader, Shaped, SliceReader, Tag, Writer, encode_header, header_len,
+    is_same_tag, length_cmp, slice_len, sum_len, tag_cmp,
 };
-use der_core_order::{DerOrd, FirstTag, length_cmp, tag_cmp};
 use std::alloc::{AllocError, Global};
 use std::cmp::Ordering;
 
@@ -258,7 +257,7 @@ impl<'a> DerOrd for AnyRef<'a> {
 }
 
 impl<'a> FirstTag for AnyRef<'a> {
-    #[tactic(auto, using(der_core_order::proofs::AnyOrders::any_starts))]
+    #[tactic(auto, using(der_core::proofs::AnyOrders::any_starts))]
     fn first_tag(&self) -> Option<Tag> {
         Some(self.tag)
     }

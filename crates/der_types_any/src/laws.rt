@@ -5,7 +5,7 @@
 
 ghost use Rattle.std.specs.Prelude.{◌≡◌};
 ghost use Rattle.der_core_head.specs.Shapes.{octets_of};
-ghost use Rattle.der_core_order.specs.Orders.{encodings_cmp};
+ghost use Rattle.der_core.specs.Orders.{encodings_cmp};
 ghost use Rattle.der_types_any.specs.Anys.{any_lent};
 
 use crate::any::Any;

@@ -7,8 +7,6 @@ mod conversions;
 mod dates;
 pub mod laws;
 mod numbers;
-#[cfg(test)]
-mod tests;
 mod texts;
 mod values;
 

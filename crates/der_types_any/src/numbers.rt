@@ -13,7 +13,7 @@ use crate::any::Any;
 use crate::any_ref::AnyRef;
 use crate::conversions::check_tag;
 use der_core::{Error, Integer, Tag};
-use der_types_values::{IntRef, UintRef};
+use der_types_numbers::{IntRef, UintRef};
 
 /// The number of an INTEGER.
 #[tactic(auto, unfolding(crate::specs::Contents::leaf_as))]

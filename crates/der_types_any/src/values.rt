@@ -7,14 +7,14 @@ ghost use Rattle.der_core_head.specs.Leaves.{boolean, null, bits, octets, identi
 ghost use Rattle.der_core_head.specs.Reading.{GivesNow};
 ghost use Rattle.der_types_any.specs.Anys.{any_lent};
 ghost use Rattle.der_types_any.specs.Contents.{leaf_as};
-ghost use Rattle.der_types_bits.specs.BitStrings.{bits_lent};
+ghost use Rattle.der_types_values.specs.BitStrings.{bits_lent};
 ghost use Rattle.der_types_values.specs.OctetStrings.{octets_lent};
 ghost use Rattle.der_types_values.specs.Sequences.{fields_lent};
 
 use crate::any::Any;
 use crate::any_ref::AnyRef;
 use crate::conversions::check_tag;
-use const_oid::ObjectIdentifier;
+use const_oid_identifiers::ObjectIdentifier;
 use der_core::{Error, ErrorKind, Tag};
 use der_types_values::{BitStringRef, Null, OctetStringRef, SequenceRef};
 

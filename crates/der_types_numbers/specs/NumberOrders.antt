@@ -16,9 +16,9 @@ use Rattle.der_core_head.specs.Integers.{every, natural, positive, integer_octet
 use Rattle.der_core_head.specs.Leaves.{integer}
 use Rattle.der_core_head.specs.Shapes.{leaf, contents, IsContent}
 use Rattle.der_core_head.proofs.IntegerLaws.{integer_octets-below}
-use Rattle.der_core_order.specs.Orders.{contents_cmp}
-use Rattle.der_core_order.proofs.HeadOrders.{nat_cmp-less, nat_cmp-greater, nat_cmp-same, split_cmp}
-use Rattle.der_core_order.proofs.OrderLaws.{then_assoc, then_equal, octets_cmp-append, splits_lengths}
+use Rattle.der_core.specs.Orders.{contents_cmp}
+use Rattle.der_core.proofs.HeadOrders.{nat_cmp-less, nat_cmp-greater, nat_cmp-same, split_cmp}
+use Rattle.der_core.proofs.OrderLaws.{then_assoc, then_equal, octets_cmp-append, splits_lengths}
 
 -- The order of whole numbers of either sign: the number of content octets, and then the octets.
 abbrev pub integer_cmp : ℤ → ℤ → Ordering

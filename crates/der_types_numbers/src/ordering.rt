@@ -7,13 +7,12 @@ use crate::int::Int;
 use crate::int_ref::IntRef;
 use crate::uint::Uint;
 use crate::uint_ref::UintRef;
-use der_core::Error;
-use der_core_order::{OrdIsValueOrd, ValueOrd, value_cmp_behind, value_cmp_by_contents};
+use der_core::{Error, OrdIsValueOrd, ValueOrd, value_cmp_behind, value_cmp_by_contents};
 use std::cmp::Ordering;
 
 /// Two's complement in the fewest octets (X.690 8.3), as octets: 128, `00 80`, is below 127, `7F`.
 impl<'a> ValueOrd for IntRef<'a> {
-    #[tactic(auto, using(der_core_order::proofs::LeafOrders::leaf_contents))]
+    #[tactic(auto, using(der_core::proofs::LeafOrders::leaf_contents))]
     fn value_cmp(&self, other: &Self) -> Result<Ordering, Error> {
         Ok(value_cmp_by_contents(self.as_bytes(), other.as_bytes()))
     }
@@ -27,7 +26,7 @@ impl<'a> OrdIsValueOrd for IntRef<'a> {
 
 /// Two's complement in the fewest octets (X.690 8.3), as octets: 128, `00 80`, is below 127, `7F`.
 impl ValueOrd for Int {
-    #[tactic(auto, using(der_core_order::proofs::LeafOrders::leaf_contents))]
+    #[tactic(auto, using(der_core::proofs::LeafOrders::leaf_contents))]
     fn value_cmp(&self, other: &Self) -> Result<Ordering, Error> {
         Ok(value_cmp_by_contents(self.as_bytes(), other.as_bytes()))
     }
@@ -39,7 +38,7 @@ impl OrdIsValueOrd for Int {
 
 /// The digits, behind a zero where their first bit is one (X.690 8.3).
 impl<'a> ValueOrd for UintRef<'a> {
-    #[tactic(auto, using(der_core_order::proofs::LeafOrders::leaf_contents))]
+    #[tactic(auto, using(der_core::proofs::LeafOrders::leaf_contents))]
     fn value_cmp(&self, other: &Self) -> Result<Ordering, Error> {
         Ok(value_cmp_behind(
             lead_of(self.as_bytes()),

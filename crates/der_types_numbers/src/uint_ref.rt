@@ -16,9 +16,8 @@ ghost use Rattle.der_core_head.specs.Shapes.{leaf};
 ghost use Rattle.der_types_numbers.specs.NumberOrders.{digits_ties};
 ghost use Rattle.der_types_numbers.specs.Numbers.{unsigned_number};
 
-use crate::behind::fit;
 use crate::fewest::{
-    begins_with_one_bit, content_len, encode_natural, fewest_unsigned, has_redundant_octet,
+    begins_with_one_bit, content_len, encode_natural, fewest_unsigned, fit, has_redundant_octet,
     sized_cmp,
 };
 use crate::uint::Uint;

@@ -12,7 +12,7 @@ use Rattle.std.proofs.lemmas.List.Sorted.{sum_by-IsPermutation}
 use Rattle.std.proofs.lemmas.Map.Text.{is_eq-slice_cmp}
 use Rattle.std.proofs.lemmas.Slice.Eq.{bytes_eq-Decides}
 use Rattle.der_core_head.specs.Shapes.{Shape, Value, octets_of}
-use Rattle.der_core_order.specs.Orders.{octets_cmp}
+use Rattle.der_core.specs.Orders.{octets_cmp}
 use Rattle.der_types_sets.specs.Sets.{Ascends, AllValid}
 
 pub same_octets : (a b : List ℕ) → octets_cmp a b ≡ Equal → a ≡ b

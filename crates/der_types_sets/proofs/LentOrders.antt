@@ -21,8 +21,8 @@ use Rattle.der_core_head.specs.Writing.{Out, size, size_content, size_body, writ
 use Rattle.der_core_head.proofs.Written.{out, written}
 use Rattle.der_core_head.proofs.Results.{fine, ok_is}
 use Rattle.der_core_head.specs.declared.tag.Tag.{Tag}
-use Rattle.der_core_order.proofs.TagOrders.{long_inside}
-use Rattle.der_core_order.specs.Orders.{octets_cmp, contents_cmp, bodies_cmp, Overflows}
+use Rattle.der_core.proofs.TagOrders.{long_inside}
+use Rattle.der_core.specs.Orders.{octets_cmp, contents_cmp, bodies_cmp, Overflows}
 use Rattle.der_types_sets.specs.Level.{values_at}
 use Rattle.der_types_sets.specs.Lent.{Lent, IsLent, IsWantOfMemory, IsOverlong, members_lent}
 use Rattle.der_types_sets.proofs.Arrangements.{same_octets, turned}

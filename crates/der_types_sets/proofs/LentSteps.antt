@@ -15,7 +15,7 @@ use Rattle.der_core_head.proofs.Results.{ok_is, unless_ok}
 use Rattle.der_core_head.proofs.Bytes.{IsBytes}
 use Rattle.der_core_head.proofs.Fits.{fits_rest}
 use Rattle.der_core_head.proofs.Sound.{sound}
-use Rattle.der_core_headers.specs.Fronts.{front_at}
+use Rattle.der_core_octets.specs.Fronts.{front_at}
 use Rattle.der_types_sets.specs.Level.{level_content, first_of, values_at}
 use Rattle.der_types_sets.specs.Lent.{Lent, IsSpelled, members_lent, YieldsMember}
 

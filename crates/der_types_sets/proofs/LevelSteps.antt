@@ -17,7 +17,7 @@ use Rattle.der_core_head.proofs.Bytes.{IsBytes, bytes_rest}
 use Rattle.der_core_head.proofs.Fits.{fits_rest}
 use Rattle.der_core_head.proofs.Sound.{sound}
 use Rattle.der_core_head.proofs.Complete.{complete_element, element_some}
-use Rattle.der_core_order.specs.Orders.{octets_cmp}
+use Rattle.der_core.specs.Orders.{octets_cmp}
 use Rattle.der_types_sets.specs.Level.{AllLevel, NeverDescends, not_above, behind_last, read_level, level_content, counted, first_of, values_at}
 
 -- As a loop reads them

@@ -23,7 +23,7 @@ use Rattle.der_core_head.proofs.Results.{ok_is, bind_ok, unless_ok, whole_ok}
 use Rattle.der_core_head.proofs.Bytes.{IsBytes, bytes_take, bytes_rest}
 use Rattle.der_core_head.proofs.Fits.{fits_front, fits_rest}
 use Rattle.der_core_head.proofs.Sound.{sound}
-use Rattle.der_core_order.specs.Orders.{octets_cmp, encodings_cmp}
+use Rattle.der_core.specs.Orders.{octets_cmp, encodings_cmp}
 use Rattle.der_types_sets.specs.Sets.{NotAbove, Ascends, AllValid, Behind, Before, IsPlace, TooLong, IsBelowLast}
 
 pub ascends-insert : {A : Type 0} (s : Shape) (f : A → Value s) (xs : List A) (i : ℕ) (x : A) → Ascends s f xs → i ≤ length xs → Behind s f xs x i → Before s f xs x i → Ascends s f (insert xs i x)

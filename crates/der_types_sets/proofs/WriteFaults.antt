@@ -11,7 +11,7 @@ use Rattle.der_core_head.specs.Leaves.{leaf_contents}
 use Rattle.der_core_head.specs.Shapes.{Shape, Content, Body, tagged, any, either, optional, defaulted, nothing, leaf, nested, done, field, only, many, exactly, rising, Value, ContentValue, BodyValue, octets_of}
 use Rattle.der_core_head.specs.Writing.{Out, put, put_head, sum_len, fit_len, tlv_len, both_len, many_len, default_len, size, size_content, size_body, write_tlv, write_many, default_write, write, write_content, write_body}
 use Rattle.der_core_head.proofs.Written.{out}
-use Rattle.der_core_order.proofs.Sizes.{OnlyOverflows, sum_only, size_only, content_only, tlv_over, first_over, second_over, over_or}
+use Rattle.der_core.proofs.Sizes.{OnlyOverflows, sum_only, size_only, content_only, tlv_over, first_over, second_over, over_or}
 
 -- written, or too long
 abbrev pub IsOver : Result Out ErrorKind → Result ℕ ErrorKind → Type 0

@@ -7,7 +7,7 @@ use Rattle.der_core_head.specs.declared.error.ErrorKind.TheVariants as kinds
 use Rattle.der_core_head.specs.Octets.{Readings, ◌>>=◌}
 use Rattle.der_core_head.specs.Shapes.{Shape, Value, octets_of}
 use Rattle.der_core_head.specs.Grammar.{read}
-use Rattle.der_core_order.specs.Orders.{octets_cmp}
+use Rattle.der_core.specs.Orders.{octets_cmp}
 use Rattle.der_types_sets.specs.Sets.{AllValid}
 
 -- none is below the one before it

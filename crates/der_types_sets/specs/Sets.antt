@@ -9,7 +9,7 @@ use Rattle.der_core_head.specs.declared.error.ErrorKind.TheVariants as kinds
 use Rattle.der_core_head.specs.Octets.{Readings, ◌>>=◌}
 use Rattle.der_core_head.specs.declared.tag.Tag.TheVariants as tags
 use Rattle.der_core_head.specs.Shapes.{Shape, Value, tagged, nested, many, Spells, IsValid, octets_of}
-use Rattle.der_core_order.specs.Orders.{octets_cmp}
+use Rattle.der_core.specs.Orders.{octets_cmp}
 
 -- the encoding of x is not above that of y, where both have one
 abbrev pub NotAbove : {A : Type 0} (s : Shape) → (A → Value s) → A → A → Type 0

@@ -5,7 +5,7 @@ ghost use Rattle.der_core_head.specs.Shapes.{many, IsBody, body_octets};
 ghost use Rattle.der_core_head.specs.Grammar.{plain_list};
 ghost use Rattle.der_core_head.specs.Reading.{Gives};
 ghost use Rattle.der_core_head.specs.Writing.{size_body};
-ghost use Rattle.der_core_order.specs.Orders.{octets_cmp};
+ghost use Rattle.der_core.specs.Orders.{octets_cmp};
 ghost use Rattle.der_types_sets.specs.Lent.{IsOverlong};
 
 use der_core::{Encode, Error};

@@ -6,7 +6,7 @@ ghost use Rattle.std.specs.Prelude.{◌≡◌, ℕ, ◌<◌, List, length, slice
 ghost use Rattle.std.specs.List.Sorted.{IsPermutation};
 ghost use Rattle.der_core_head.specs.Shapes.{Shape, Value, nested, many, body_octets};
 ghost use Rattle.der_core_head.specs.Grammar.{plain_list, plain_option};
-ghost use Rattle.der_core_order.specs.Orders.{contents_cmp};
+ghost use Rattle.der_core.specs.Orders.{contents_cmp};
 ghost use Rattle.der_types_sets.specs.Lent.{Lent, IsLent, members_lent};
 ghost use Rattle.der_types_sets.specs.Sets.{Ascends, AllValid};
 

@@ -2,7 +2,7 @@
 
 ghost use Rattle.std.specs.Prelude.{◌<◌, ◌^◌, length};
 ghost use Rattle.der_core_head.specs.Reading.{Gives, GivesNow};
-ghost use Rattle.der_core_headers.specs.Fronts.{octets_at};
+ghost use Rattle.der_core_octets.specs.Fronts.{octets_at};
 ghost use Rattle.der_types_sets.specs.Level.{behind_last, counted, level_content};
 
 use der_core::{Decode, Error, ErrorKind, Member, Reader, SliceReader, decode_sliced};

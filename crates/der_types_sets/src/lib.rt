@@ -14,8 +14,6 @@ mod set_of;
 mod set_of_ref;
 mod set_of_ref_iter;
 mod set_of_vec;
-#[cfg(test)]
-mod tests;
 
 pub use iter::{SequenceOfIter, SetOfIter};
 pub use sequence_of::SequenceOf;

@@ -4,7 +4,7 @@ ghost use Rattle.der_core_head.specs.Shapes.{many};
 ghost use Rattle.der_core_head.specs.Grammar.{plain_list};
 ghost use Rattle.der_core_head.specs.Reading.{GivesNow};
 ghost use Rattle.der_core_head.specs.Writing.{Writes, size_body, write_body};
-ghost use Rattle.der_core_output.specs.Outputs.{Continues};
+ghost use Rattle.der_core_octets.specs.Outputs.{Continues};
 
 use der_core::{Encode, Error, Length, Writer, sum_len};
 

@@ -5,8 +5,7 @@ ghost use Rattle.std.specs.List.{insert};
 ghost use Rattle.std.specs.List.Sorted.{IsPermutation};
 ghost use Rattle.der_types_sets.specs.Sets.{Ascends, IsPlace, TooLong, IsBelowLast, IsOutOfOrder};
 
-use der_core::{Error, ErrorKind, Member};
-use der_core_order::DerOrd;
+use der_core::{DerOrd, Error, ErrorKind, Member};
 use std::cmp::Ordering;
 
 /// The place of an item among members that ascend, behind those that are not above it.

@@ -17,10 +17,9 @@ use crate::members::{encode_members, members_len};
 use crate::room::into_array;
 use arrayvec::ArrayVec;
 use der_core::{
-    Decode, DecodeValue, Encode, EncodeValue, Error, ErrorKind, FixedTag, Header, Length, Reader,
-    Shaped, ShapedValue, Tag, Writer,
+    Decode, DecodeValue, DerOrd, Encode, EncodeValue, Error, ErrorKind, FixedTag, Header, Length,
+    Reader, Shaped, ShapedValue, Tag, ValueOrd, Writer, elements_cmp,
 };
-use der_core_order::{DerOrd, ValueOrd, elements_cmp};
 use std::alloc::{AllocError, Global};
 use std::cmp::Ordering;
 use std::convert::AsSlice;

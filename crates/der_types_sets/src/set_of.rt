@@ -22,10 +22,9 @@ use crate::set_of_ref::SetOfRef;
 use crate::set_of_vec::SetOfVec;
 use arrayvec::ArrayVec;
 use der_core::{
-    Decode, Encode, EncodeValue, Error, ErrorKind, FixedTag, Header, Length, Member, Reader,
-    Shaped, ShapedValue, SliceReader, Tag, Writer,
+    Decode, DerOrd, Encode, EncodeValue, Error, ErrorKind, FixedTag, Header, Length, Member,
+    Reader, Shaped, ShapedValue, SliceReader, Tag, ValueOrd, Writer, elements_cmp,
 };
-use der_core_order::{DerOrd, ValueOrd, elements_cmp};
 use std::alloc::{AllocError, Global};
 use std::cmp::Ordering;
 use std::convert::AsSlice;

@@ -7,7 +7,7 @@ ghost use Rattle.der_core_head.specs.Spelling.{is_apart, is_body_apart, is_eleme
 ghost use Rattle.der_core_head.specs.Grammar.{plain_list, plain_option, value_at};
 ghost use Rattle.der_core_head.specs.Reading.{Gives, Reads};
 ghost use Rattle.der_core_head.specs.Writing.{size, size_body};
-ghost use Rattle.der_core_order.specs.Orders.{contents_cmp, encodings_cmp, Overflows};
+ghost use Rattle.der_core.specs.Orders.{contents_cmp, encodings_cmp, Overflows};
 ghost use Rattle.der_types_sets.specs.Sets.{Ascends, IsOutOfOrder, TooLong};
 ghost use Rattle.der_types_sets.specs.Level.{NeverDescends, level_content};
 ghost use Rattle.der_types_sets.specs.Lent.{members_lent, IsWantOfMemory};
@@ -19,10 +19,9 @@ use crate::places::check_ascending;
 use crate::set_of_ref_iter::SetOfRefIter;
 use crate::set_of_vec::SetOfVec;
 use der_core::{
-    Decode, Encode, EncodeValue, Error, FixedTag, Header, Length, Member, Reader, Shaped,
-    ShapedValue, SliceReader, Tag, Writer,
+    Decode, DerOrd, Encode, EncodeValue, Error, FixedTag, Header, Length, Member, Reader, Shaped,
+    ShapedValue, SliceReader, Tag, Writer, elements_cmp, length_cmp,
 };
-use der_core_order::{DerOrd, elements_cmp, length_cmp};
 use std::alloc::{AllocError, Global};
 use std::cmp::Ordering;
 use std::marker::Model;

@@ -20,10 +20,10 @@ use crate::iter::SetOfIter;
 use crate::places::{arrange, check_last, place_of};
 use crate::set_of_ref::SetOfRef;
 use der_core::{
-    Decode, DecodeValue, Encode, EncodeValue, Error, ErrorKind, FixedTag, Header, Length, Member,
-    Reader, SetOf as StrictSet, Shaped, ShapedValue, SliceReader, Tag, Writer, from_der,
+    Decode, DecodeValue, DerOrd, Encode, EncodeValue, Error, ErrorKind, FixedTag, Header, Length,
+    Member, Reader, SetOf as StrictSet, Shaped, ShapedValue, SliceReader, Tag, ValueOrd, Writer,
+    elements_cmp, from_der,
 };
-use der_core_order::{DerOrd, ValueOrd, elements_cmp};
 use std::alloc::{AllocError, Global};
 use std::cmp::Ordering;
 use std::convert::AsSlice;

@@ -12,12 +12,12 @@ use Rattle.der_core_head.specs.Shapes.{Content, ContentValue, tagged, octets_of,
 use Rattle.der_core_head.specs.Writing.{size, size_content}
 use Rattle.der_core_head.proofs.Results.{ok_is}
 use Rattle.der_core_head.proofs.Fits.{fits_contents}
-use Rattle.der_core_order.specs.Orders.{octets_cmp, contents_cmp, Overflows}
-use Rattle.der_core_order.proofs.OrderLaws.{then_assoc}
-use Rattle.der_core_order.proofs.HeadOrders.{length_octets_cmp, tlv_cmp}
-use Rattle.der_core_order.proofs.Sizes.{content_only, tlv_over}
-use Rattle.der_core_order.proofs.RowOrders.{first_decides, others_decide}
-use Rattle.der_core_order.proofs.TagOrders.{tagged_sized}
+use Rattle.der_core.specs.Orders.{octets_cmp, contents_cmp, Overflows}
+use Rattle.der_core.proofs.OrderLaws.{then_assoc}
+use Rattle.der_core.proofs.HeadOrders.{length_octets_cmp, tlv_cmp}
+use Rattle.der_core.proofs.Sizes.{content_only, tlv_over}
+use Rattle.der_core.proofs.RowOrders.{first_decides, others_decide}
+use Rattle.der_core.proofs.TagOrders.{tagged_sized}
 
 parts : (t : Tag) (c : Content) (v : ContentValue c) → IsValid (tagged t c) v → IsTag t × Fits (contents c v)
 unfolding IsValid

@@ -5,13 +5,13 @@ ghost use Rattle.der_core_head.specs.Shapes.{nested, only, tagged, IsValid, octe
 ghost use Rattle.der_core_head.specs.Spelling.{is_content_apart};
 ghost use Rattle.der_core_head.specs.Reading.{Gives, GivesNow};
 ghost use Rattle.der_core_head.specs.Writing.{Writes, size, write};
-ghost use Rattle.der_core_order.specs.Orders.{octets_cmp, Overflows};
-ghost use Rattle.der_core_output.specs.Outputs.{Continues};
+ghost use Rattle.der_core.specs.Orders.{octets_cmp, Overflows};
+ghost use Rattle.der_core_octets.specs.Outputs.{Continues};
 
 use der_core::{
-    Encode, EncodeValue, Error, Length, Shaped, ShapedValue, Tag, Writer, encode_header,
+    DerOrd, Encode, EncodeValue, Error, Length, Shaped, ShapedValue, Tag, ValueOrd, Writer,
+    encode_header, length_cmp, tag_cmp,
 };
-use der_core_order::{DerOrd, ValueOrd, length_cmp, tag_cmp};
 use std::alloc::Global;
 use std::cmp::Ordering;
 

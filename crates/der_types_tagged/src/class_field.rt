@@ -8,9 +8,9 @@ ghost use Rattle.der_core_head.specs.Spelling.{is_content_apart};
 ghost use Rattle.der_core_head.specs.Grammar.{read, plain_option};
 ghost use Rattle.der_core_head.specs.Reading.{Gives, GivesNow, Reads};
 ghost use Rattle.der_core_head.specs.Writing.{Writes, size, size_content, write, write_content};
-ghost use Rattle.der_core_order.specs.Orders.{contents_cmp, octets_cmp, Overflows};
+ghost use Rattle.der_core.specs.Orders.{contents_cmp, octets_cmp, Overflows};
 ghost use Rattle.der_types_tagged.specs.Fields.{field_tag, explicit_field, implicit_field, numbered_at};
-ghost use Rattle.der_core_output.specs.Outputs.{Continues};
+ghost use Rattle.der_core_octets.specs.Outputs.{Continues};
 
 use crate::class_field_ref::ClassFieldRef;
 use crate::fields::{
@@ -20,9 +20,8 @@ use crate::fields::{
 use der_core::reading::{optional_explicit, optional_implicit, read_explicit};
 use der_core::{
     Decode, DecodeValue, EncodeValue, Error, FixedTag, Length, Reader, Tag, TagMode, TagNumber,
-    Tagged, Writer, is_constructed, leading_octet_of,
+    Tagged, ValueOrd, Writer, is_constructed, leading_octet_of,
 };
-use der_core_order::ValueOrd;
 use std::alloc::Global;
 use std::cmp::Ordering;
 

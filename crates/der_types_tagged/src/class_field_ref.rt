@@ -6,7 +6,7 @@ ghost use Rattle.der_core_head.specs.Shapes.{nested, only, tagged, IsValid, octe
 ghost use Rattle.der_core_head.specs.Reading.{Gives, GivesNow};
 ghost use Rattle.der_core_head.specs.Writing.{Writes, size, size_content, write, write_content};
 ghost use Rattle.der_types_tagged.specs.Fields.{field_tag, explicit_field, implicit_field};
-ghost use Rattle.der_core_output.specs.Outputs.{Continues};
+ghost use Rattle.der_core_octets.specs.Outputs.{Continues};
 
 use crate::class_field::ClassField;
 use crate::fields::{

@@ -7,15 +7,15 @@ ghost use Rattle.der_core_head.specs.Shapes.{nested, only, tagged, IsContent, Is
 ghost use Rattle.der_core_head.specs.Spelling.{is_content_apart};
 ghost use Rattle.der_core_head.specs.Reading.{Gives, GivesNow};
 ghost use Rattle.der_core_head.specs.Writing.{Writes, size, size_content, write, write_content};
-ghost use Rattle.der_core_order.specs.Orders.{contents_cmp, octets_cmp, Overflows};
+ghost use Rattle.der_core.specs.Orders.{contents_cmp, octets_cmp, Overflows};
 ghost use Rattle.der_types_tagged.specs.Fields.{field_tag, explicit_field, implicit_field};
-ghost use Rattle.der_core_output.specs.Outputs.{Continues};
+ghost use Rattle.der_core_octets.specs.Outputs.{Continues};
 
 use crate::behind::{Whole, cmp_behind, der_behind, encode_behind, len_behind};
 use der_core::{
-    Encode, EncodeValue, Error, FixedTag, Length, Tag, TagMode, TagNumber, Writer, is_constructed,
+    Encode, EncodeValue, Error, FixedTag, Length, Tag, TagMode, TagNumber, ValueOrd, Writer,
+    is_constructed,
 };
-use der_core_order::ValueOrd;
 use std::alloc::Global;
 use std::cmp::Ordering;
 

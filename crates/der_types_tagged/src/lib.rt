@@ -9,8 +9,6 @@ mod context_specific;
 mod fields;
 pub mod laws;
 mod private;
-#[cfg(test)]
-mod tests;
 
 pub use application::{Application, ApplicationRef};
 pub use class_field::ClassField;

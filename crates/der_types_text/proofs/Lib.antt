@@ -1,3 +1,5 @@
 pub mod AnyTexts
 pub mod AsciiTexts
 pub mod Utf8Texts
+pub mod BmpTexts
+pub mod Characters

@@ -1,2 +1,5 @@
 pub mod Orders
 pub mod Texts
+pub mod BmpChars
+pub mod BmpStrings
+pub mod BmpOrders

@@ -7,9 +7,9 @@ use Rattle.std.specs.declared.cmp.Ordering.TheVariants.{Equal}
 use Rattle.der_core_head.specs.Leaves.{text}
 use Rattle.der_core_head.specs.Shapes.{leaf, contents, IsContent}
 use Rattle.der_core_head.specs.Texts.{Repertoire}
-use Rattle.der_core_order.specs.Orders.{contents_cmp}
-use Rattle.der_core_order.specs.OrdLaws.{octets_order}
-use Rattle.der_core_order.proofs.OrderLaws.{then_equal}
+use Rattle.der_core.specs.Orders.{contents_cmp}
+use Rattle.der_core.specs.OrdLaws.{octets_order}
+use Rattle.der_core.proofs.OrderLaws.{then_equal}
 
 -- it is that of their contents, whatever their lengths
 pub borrowed_order : (r : Repertoire) (v w : List ℕ) → IsContent (leaf (text r)) v → IsContent (leaf (text r)) w

@@ -11,16 +11,15 @@ ghost use Rattle.der_core_head.specs.Leaves.{text};
 ghost use Rattle.der_core_head.specs.Reading.{Gives, GivesNow};
 ghost use Rattle.der_core_head.specs.Shapes.{leaf};
 ghost use Rattle.der_core_head.specs.Texts.{IsText};
-ghost use Rattle.der_core_order.specs.OrdLaws.{octets_order};
+ghost use Rattle.der_core.specs.OrdLaws.{octets_order};
 ghost use Rattle.der_types_text.specs.Texts.{text_from};
 
 use crate::ascii_string_ref::AsciiStringRef;
 use crate::ascii_type::AsciiType;
-use der_core_head::{Error, Header, Length, Tag};
-use der_core_input::Reader;
-use der_core_order::{OrdIsValueOrd, ValueOrd};
-use der_core_output::{Writer, slice_len};
-use der_core_values::{DecodeValue, EncodeValue, FixedTag, Leaf, ShapedValue, decode_leaf};
+use der_core::{
+    DecodeValue, EncodeValue, Error, FixedTag, Header, Leaf, Length, OrdIsValueOrd, Reader,
+    ShapedValue, Tag, ValueOrd, Writer, decode_leaf, slice_len,
+};
 use std::alloc::{AllocError, Global};
 use std::cmp::Ordering;
 use std::convert::{AsSlice, AsStr};
@@ -264,7 +263,7 @@ impl<T: AsciiType> Hash for AsciiString<T> {
 
 /// The octets of the text (X.690 8.23.5).
 impl<T: AsciiType> ValueOrd for AsciiString<T> {
-    #[tactic(auto, using(der_core_order::proofs::LeafOrders::leaf_contents))]
+    #[tactic(auto, using(der_core::proofs::LeafOrders::leaf_contents))]
     fn value_cmp(&self, other: &Self) -> Result<Ordering, Error> {
         Ok(self.as_bytes().cmp(other.as_bytes()))
     }

@@ -11,11 +11,10 @@ ghost use Rattle.der_types_text.specs.Texts.{AreWithin, text_from};
 
 use crate::ascii_string::AsciiString;
 use crate::ascii_type::AsciiType;
-use der_core_head::{Error, ErrorKind, Header, Length, Tag};
-use der_core_input::Reader;
-use der_core_order::{OrdIsValueOrd, ValueOrd};
-use der_core_output::{Writer, slice_len};
-use der_core_values::{DecodeValue, EncodeValue, FixedTag, Leaf, ShapedValue, read_content};
+use der_core::{
+    DecodeValue, EncodeValue, Error, ErrorKind, FixedTag, Header, Leaf, Length, OrdIsValueOrd,
+    Reader, ShapedValue, Tag, ValueOrd, Writer, read_content, slice_len,
+};
 use std::alloc::{AllocError, Global};
 use std::cmp::Ordering;
 use std::convert::{AsSlice, AsStr};
@@ -220,7 +219,7 @@ impl<'a, T: AsciiType> EncodeValue for AsciiStringRef<'a, T> {
 
 /// The octets of the text (X.690 8.23.5).
 impl<'a, T: AsciiType> ValueOrd for AsciiStringRef<'a, T> {
-    #[tactic(auto, using(der_core_order::proofs::LeafOrders::leaf_contents))]
+    #[tactic(auto, using(der_core::proofs::LeafOrders::leaf_contents))]
     fn value_cmp(&self, other: &Self) -> Result<Ordering, Error> {
         Ok(self.as_bytes().cmp(other.as_bytes()))
     }

@@ -4,7 +4,7 @@ ghost use Rattle.std.specs.Prelude.{◌≡◌, ◌<◌, ℕ, true};
 ghost use Rattle.der_core_head.specs.declared.tag.Tag.{Tag};
 ghost use Rattle.der_core_head.specs.Texts.{Repertoire, is_within};
 
-use der_core_head::Tag;
+use der_core::Tag;
 
 /// A character string type whose characters are ASCII, one octet each (X.680 41, X.690 8.23): its
 /// tag, and which characters it has.

@@ -6,14 +6,13 @@ ghost use Rattle.der_core_head.specs.Leaves.{text};
 ghost use Rattle.der_core_head.specs.Reading.{GivesNow};
 ghost use Rattle.der_core_head.specs.Shapes.{leaf};
 ghost use Rattle.der_core_head.specs.Texts.{any_octet};
-ghost use Rattle.der_core_order.specs.OrdLaws.{octets_order};
+ghost use Rattle.der_core.specs.OrdLaws.{octets_order};
 ghost use Rattle.der_types_text.specs.Texts.{octets_from};
 
-use der_core_head::{Error, Header, Length, Tag};
-use der_core_input::Reader;
-use der_core_order::{OrdIsValueOrd, ValueOrd};
-use der_core_output::{Writer, slice_len};
-use der_core_values::{DecodeValue, EncodeValue, FixedTag, Leaf, ShapedValue, decode_leaf};
+use der_core::{
+    DecodeValue, EncodeValue, Error, FixedTag, Header, Leaf, Length, OrdIsValueOrd, Reader,
+    ShapedValue, Tag, ValueOrd, Writer, decode_leaf, slice_len,
+};
 use std::alloc::Global;
 use std::cmp::Ordering;
 use std::convert::AsSlice;
@@ -131,7 +130,7 @@ impl<'a> EncodeValue for GeneralStringRef<'a> {
 
 /// The octets (X.690 8.23.5).
 impl<'a> ValueOrd for GeneralStringRef<'a> {
-    #[tactic(auto, using(der_core_order::proofs::LeafOrders::leaf_contents))]
+    #[tactic(auto, using(der_core::proofs::LeafOrders::leaf_contents))]
     fn value_cmp(&self, other: &Self) -> Result<Ordering, Error> {
         Ok(self.bytes.cmp(other.bytes))
     }

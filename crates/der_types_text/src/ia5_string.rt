@@ -8,7 +8,7 @@ ghost use Rattle.der_types_text.specs.Texts.{ascii_below};
 use crate::ascii_string::AsciiString;
 use crate::ascii_string_ref::AsciiStringRef;
 use crate::ascii_type::AsciiType;
-use der_core_head::Tag;
+use der_core::Tag;
 
 /// The characters of IA5String (X.680 41): the octets below 80 hex.
 #[derive(Clone, Copy, Debug, PartialEq, Eq)]

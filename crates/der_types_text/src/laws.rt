@@ -6,13 +6,13 @@
 
 ghost use Rattle.std.specs.Prelude.{◌≡◌, string_bytes};
 ghost use Rattle.der_core_head.specs.Shapes.{contents, octets_of};
-ghost use Rattle.der_core_order.specs.Orders.{contents_cmp, encodings_cmp};
+ghost use Rattle.der_core.specs.Orders.{contents_cmp, encodings_cmp};
 
 use crate::ascii_string::AsciiString;
 use crate::ascii_string_ref::AsciiStringRef;
 use crate::ascii_type::AsciiType;
 use crate::utf8_string::Utf8StringRef;
-use der_core_values::{Shaped, ShapedValue};
+use der_core::{Shaped, ShapedValue};
 use std::cmp::{Ord, PartialEq, PartialOrd};
 use std::convert::{AsSlice, AsStr};
 use std::fmt::Display;

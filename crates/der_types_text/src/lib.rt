@@ -4,20 +4,22 @@
 mod ascii_string;
 mod ascii_string_ref;
 mod ascii_type;
+mod bmp_chars;
+pub mod bmp_laws;
+mod bmp_string;
 mod general_string;
 mod ia5_string;
 pub mod laws;
 mod printable_string;
 mod teletex_string;
-#[cfg(test)]
-mod tests;
 mod utf8_string;
 mod videotex_string;
 
 pub use ascii_string::AsciiString;
 pub use ascii_string_ref::AsciiStringRef;
 pub use ascii_type::AsciiType;
-pub use der_types_bmp::{BmpChars, BmpCodepoints, BmpString};
+pub use bmp_chars::{BmpChars, BmpCodepoints};
+pub use bmp_string::BmpString;
 pub use general_string::GeneralStringRef;
 pub use ia5_string::{Ia5, Ia5String, Ia5StringRef};
 pub use printable_string::{Printable, PrintableString, PrintableStringRef};

@@ -8,7 +8,7 @@ ghost use Rattle.der_core_head.proofs.TextLaws.{printable_below};
 use crate::ascii_string::AsciiString;
 use crate::ascii_string_ref::AsciiStringRef;
 use crate::ascii_type::AsciiType;
-use der_core_head::Tag;
+use der_core::Tag;
 
 /// The characters of PrintableString (X.680 41.4): the letters `A` to `Z` and `a` to `z`, the digits,
 /// space, and `' ( ) + , - . / : = ?`.

@@ -6,14 +6,13 @@ ghost use Rattle.der_core_head.specs.Leaves.{utf8};
 ghost use Rattle.der_core_head.specs.Reading.{GivesNow};
 ghost use Rattle.der_core_head.specs.Shapes.{leaf};
 ghost use Rattle.der_core_head.specs.Texts.{utf8_read};
-ghost use Rattle.der_core_order.specs.OrdLaws.{octets_order};
+ghost use Rattle.der_core.specs.OrdLaws.{octets_order};
 ghost use Rattle.der_types_text.specs.Texts.{octets_from, utf8_from};
 
-use der_core_head::{Error, ErrorKind, Header, Length, Tag};
-use der_core_input::Reader;
-use der_core_order::{OrdIsValueOrd, ValueOrd};
-use der_core_output::{Writer, slice_len};
-use der_core_values::{DecodeValue, EncodeValue, FixedTag, Leaf, ShapedValue, decode_leaf};
+use der_core::{
+    DecodeValue, EncodeValue, Error, ErrorKind, FixedTag, Header, Leaf, Length, OrdIsValueOrd,
+    Reader, ShapedValue, Tag, ValueOrd, Writer, decode_leaf, slice_len,
+};
 use std::alloc::{AllocError, Global};
 use std::cmp::Ordering;
 use std::convert::{AsSlice, AsStr};
@@ -199,7 +198,7 @@ impl<'a> EncodeValue for Utf8StringRef<'a> {
 
 /// The octets of the text (X.690 8.23.10).
 impl<'a> ValueOrd for Utf8StringRef<'a> {
-    #[tactic(auto, using(der_core_order::proofs::LeafOrders::leaf_contents))]
+    #[tactic(auto, using(der_core::proofs::LeafOrders::leaf_contents))]
     fn value_cmp(&self, other: &Self) -> Result<Ordering, Error> {
         Ok(self.as_bytes().cmp(other.as_bytes()))
     }

@@ -7,7 +7,7 @@ ghost use Rattle.der_types_text.specs.Texts.{ascii_below};
 
 use crate::ascii_string_ref::AsciiStringRef;
 use crate::ascii_type::AsciiType;
-use der_core_head::Tag;
+use der_core::Tag;
 
 /// The characters of VideotexString (X.680 41): of its code pages the octets below 80 hex, which are
 /// read as ASCII. Other octets are refused.

@@ -9,9 +9,9 @@ use Rattle.std.specs.declared.cmp.Ordering.TheVariants.{Less, Equal, Greater}
 use Rattle.der_core_head.specs.Dates.{Civil, two_digits, after_year, generalized_octets}
 use Rattle.der_core_head.specs.Leaves.{generalized_time}
 use Rattle.der_core_head.specs.Shapes.{leaf, contents, IsContent}
-use Rattle.der_core_order.specs.Orders.{contents_cmp}
-use Rattle.der_core_order.proofs.HeadOrders.{nat_cmp-less, nat_cmp-greater, nat_cmp-same, split_cmp}
-use Rattle.der_core_order.proofs.OrderLaws.{then_assoc, then_equal}
+use Rattle.der_core.specs.Orders.{contents_cmp}
+use Rattle.der_core.proofs.HeadOrders.{nat_cmp-less, nat_cmp-greater, nat_cmp-same, split_cmp}
+use Rattle.der_core.proofs.OrderLaws.{then_assoc, then_equal}
 
 abbrev pub civil_cmp : Civil → Civil → Ordering
 civil_cmp c d =

@@ -30,10 +30,16 @@ abbrev pub mark_at : ℕ → List ℕ → Option (List ℕ)
 mark_at m [] = None
 mark_at m (o ∷ w) = if o == m then Some w else None
 
--- reading, number by number
+-- reading of the time behind a day, number by number
+abbrev pub time_at : ℕ → ℕ → ℕ → List ℕ → Option Civil
+time_at year month day w =
+    option_and_then (λ hour. option_and_then (λ r4. option_and_then (λ minute. option_and_then (λ r5. option_and_then (λ second.
+    zulu (record { year = year; month = month; day = day; hour = hour.0; minute = minute.0; second = second.0 }) second.1)
+    (two_at r5)) (mark_at 58 minute.1)) (two_at r4)) (mark_at 58 hour.1)) (two_at w)
+
+-- reading of a day and the time behind it, number by number
 unfoldable pub text_at : List ℕ → Option Civil
 text_at w =
     option_and_then (λ century. option_and_then (λ year. option_and_then (λ r1. option_and_then (λ month. option_and_then (λ r2. option_and_then (λ day.
-    option_and_then (λ r3. option_and_then (λ hour. option_and_then (λ r4. option_and_then (λ minute. option_and_then (λ r5. option_and_then (λ second.
-    zulu (record { year = 100 * century.0 + year.0; month = month.0; day = day.0; hour = hour.0; minute = minute.0; second = second.0 }) second.1)
-    (two_at r5)) (mark_at 58 minute.1)) (two_at r4)) (mark_at 58 hour.1)) (two_at r3)) (mark_at 84 day.1)) (two_at r2)) (mark_at 45 month.1)) (two_at r1)) (mark_at 45 year.1)) (two_at century.1)) (two_at w)
+    option_and_then (λ r3. time_at (100 * century.0 + year.0) month.0 day.0 r3)
+    (mark_at 84 day.1)) (two_at r2)) (mark_at 45 month.1)) (two_at r1)) (mark_at 45 year.1)) (two_at century.1)) (two_at w)

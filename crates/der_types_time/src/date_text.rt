@@ -2,7 +2,7 @@
 
 ghost use Rattle.std.specs.Prelude.{◌≡◌, ◌<◌, ◌≤◌, ◌↔◌, IsTrue, IfSome, option_map};
 ghost use Rattle.der_core_head.specs.Dates.{digit_at, two_at, civil_at, two_digits};
-ghost use Rattle.der_types_time.specs.DateTexts.{mark_at, text_at, date_text};
+ghost use Rattle.der_types_time.specs.DateTexts.{mark_at, time_at, text_at, date_text};
 ghost use Rattle.der_core_head.specs.declared.tag.Tag.{Tag as AnyTag};
 
 use crate::date_time::DateTime;
@@ -115,7 +115,15 @@ pub(crate) fn date_of_text(text: &[u8]) -> Option<DateTime>
     let Some(rest) = behind(rest, b'T') else {
         return None;
     };
-    let Some((hour, rest)) = two(rest) else {
+    let year = 100 * u16::from(century) + u16::from(year);
+    time_of_text(year, month, day, rest)
+}
+
+/// The date of a day and the text of a time, `HH:MM:SSZ`.
+fn time_of_text(year: u16, month: u8, day: u8, text: &[u8]) -> Option<DateTime>
+    ensures { result ≡ time_at year month day text.now }
+{
+    let Some((hour, rest)) = two(text) else {
         return None;
     };
     let Some(rest) = behind(rest, b':') else {
@@ -133,7 +141,6 @@ pub(crate) fn date_of_text(text: &[u8]) -> Option<DateTime>
     let [b'Z'] = rest else {
         return None;
     };
-    let year = 100 * u16::from(century) + u16::from(year);
     DateTime::new(year, month, day, hour, minutes, seconds).ok()
 }
 

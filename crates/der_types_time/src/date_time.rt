@@ -9,7 +9,7 @@ ghost use Rattle.der_types_time.specs.Seconds.{unix_days, unix_seconds};
 ghost use Rattle.jiff_core.specs.Date.{epoch_day};
 
 use crate::date_text::{date_of_text, two_digits as digits_of};
-use der_core_head::{Error, ErrorKind};
+use der_core::{Error, ErrorKind};
 use jiff_core::civil::Date;
 use std::fmt;
 use std::marker::Model;

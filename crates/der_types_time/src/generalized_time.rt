@@ -12,11 +12,10 @@ ghost use Rattle.der_types_time.specs.Seconds.{unix_seconds};
 
 use crate::date_text::{date_of, two, two_digits};
 use crate::date_time::DateTime;
-use der_core_head::{Error, ErrorKind, Header, Length, Tag};
-use der_core_input::Reader;
-use der_core_order::{OrdIsValueOrd, ValueOrd};
-use der_core_output::Writer;
-use der_core_values::{DecodeValue, EncodeValue, FixedTag, Leaf, ShapedValue, decode_leaf};
+use der_core::{
+    DecodeValue, EncodeValue, Error, ErrorKind, FixedTag, Header, Leaf, Length, OrdIsValueOrd,
+    Reader, ShapedValue, Tag, ValueOrd, Writer, decode_leaf,
+};
 use std::alloc::Global;
 use std::cmp::Ordering;
 use std::marker::Model;
@@ -204,7 +203,7 @@ impl From<&GeneralizedTime> for DateTime {
 
 /// `YYYYMMDDHHMMSSZ`, which is in the order of time.
 impl ValueOrd for GeneralizedTime {
-    #[tactic(auto, using(der_core_order::proofs::LeafOrders::leaf_contents))]
+    #[tactic(auto, using(der_core::proofs::LeafOrders::leaf_contents))]
     fn value_cmp(&self, other: &Self) -> Result<Ordering, Error> {
         let octets = self.to_content();
         let other_octets = other.to_content();

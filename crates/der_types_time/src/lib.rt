@@ -5,8 +5,6 @@ mod date_text;
 mod date_time;
 mod generalized_time;
 pub mod laws;
-#[cfg(test)]
-mod tests;
 mod utc_time;
 
 pub use date_text::const_contains_u8;

@@ -11,11 +11,10 @@ ghost use Rattle.der_types_time.specs.Seconds.{unix_seconds};
 
 use crate::date_text::{date_of, two, two_digits};
 use crate::date_time::DateTime;
-use der_core_head::{Error, ErrorKind, Header, Length, Tag};
-use der_core_input::Reader;
-use der_core_order::ValueOrd;
-use der_core_output::Writer;
-use der_core_values::{DecodeValue, EncodeValue, FixedTag, Leaf, ShapedValue, decode_leaf};
+use der_core::{
+    DecodeValue, EncodeValue, Error, ErrorKind, FixedTag, Header, Leaf, Length, Reader,
+    ShapedValue, Tag, ValueOrd, Writer, decode_leaf,
+};
 use std::alloc::Global;
 use std::cmp::Ordering;
 use std::marker::Model;
@@ -225,7 +224,7 @@ impl From<&UtcTime> for DateTime {
 /// `YYMMDDHHMMSSZ`. It isn't the order of time: the years from 2000 stand before those of the century
 /// before.
 impl ValueOrd for UtcTime {
-    #[tactic(auto, using(der_core_order::proofs::LeafOrders::leaf_contents))]
+    #[tactic(auto, using(der_core::proofs::LeafOrders::leaf_contents))]
     fn value_cmp(&self, other: &Self) -> Result<Ordering, Error> {
         let octets = self.to_content();
         let other_octets = other.to_content();

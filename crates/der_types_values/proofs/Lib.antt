@@ -1,0 +1,4 @@
+mod LastOctet
+mod AllBits
+mod BitRuns
+pub mod NamedSteps

@@ -1,2 +1,5 @@
 pub mod OctetStrings
 pub mod Sequences
+pub mod Bits
+pub mod BitStrings
+pub mod BitOrders

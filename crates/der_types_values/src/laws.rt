@@ -1,16 +1,13 @@
-//! Laws of octet strings, of bit strings and of whole numbers: a borrowed value and its owned form agree.
+//! Laws of octet strings and of bit strings: a borrowed value and its owned form agree.
 
 ghost use Rattle.std.specs.Prelude.{◌≡◌};
 ghost use Rattle.der_core_head.specs.Shapes.{contents};
 ghost use Rattle.der_types_values.specs.OctetStrings.{octets_lent};
 
+pub use crate::bit_laws::{bit_forms_agree, bits_answer_alike};
 use crate::octet_string::OctetString;
 use crate::octet_string_ref::OctetStringRef;
 use der_core::ShapedValue;
-pub use der_types_bits::laws::{bit_forms_agree, bits_answer_alike};
-pub use der_types_numbers::laws::{
-    integer_forms_agree, integers_answer_alike, natural_forms_agree, naturals_answer_alike,
-};
 use std::hash::Hash;
 
 /// A borrowed octet string and its owned form have the same content, are equal to the same octet strings, stand in the same

@@ -1,19 +1,26 @@
-//! Octet strings, bit strings, whole numbers of any size, NULL and raw sequences.
+//! Octet strings, bit strings, named bits, NULL and raw sequences.
 #![tactic(auto)]
 
+mod allowed_len;
+mod bit_laws;
+mod bit_ordering;
+mod bit_string;
+mod bit_string_iter;
+mod bit_string_ref;
+mod bits;
+mod flag_set;
 pub mod laws;
 mod null;
 mod octet_string;
 mod octet_string_ref;
 mod ordering;
 mod sequence_ref;
-#[cfg(test)]
-mod tests;
 
-pub use der_types_bits::{
-    AllowedLenBitString, AsBitStringRef, BitString, BitStringIter, BitStringRef,
-};
-pub use der_types_numbers::{AsIntRef, AsUintRef, Int, IntRef, Uint, UintRef};
+pub use allowed_len::AllowedLenBitString;
+pub use bit_string::BitString;
+pub use bit_string_iter::BitStringIter;
+pub use bit_string_ref::{AsBitStringRef, BitStringRef};
+pub use flag_set::{FlagSet, NamedBits};
 pub use null::Null;
 pub use octet_string::OctetString;
 pub use octet_string_ref::OctetStringRef;

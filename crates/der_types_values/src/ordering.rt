@@ -1,7 +1,7 @@
 //! Comparison of contents.
 
 ghost use Rattle.der_core_head.specs.Leaves.{octets};
-ghost use Rattle.der_core_order.specs.OrdLaws.{octets_order, null_order};
+ghost use Rattle.der_core.specs.OrdLaws.{octets_order, null_order};
 ghost use Rattle.der_types_values.specs.OctetStrings.{octets_lent};
 ghost use Rattle.der_types_values.specs.Sequences.{fields_lent};
 
@@ -9,13 +9,12 @@ use crate::null::Null;
 use crate::octet_string::OctetString;
 use crate::octet_string_ref::OctetStringRef;
 use crate::sequence_ref::SequenceRef;
-use der_core::Error;
-use der_core_order::{OrdIsValueOrd, ValueOrd, value_cmp_by_contents};
+use der_core::{Error, OrdIsValueOrd, ValueOrd, value_cmp_by_contents};
 use std::cmp::Ordering;
 
 /// The octets themselves (X.690 8.7).
 impl<'a> ValueOrd for OctetStringRef<'a> {
-    #[tactic(auto, using(der_core_order::proofs::LeafOrders::leaf_contents))]
+    #[tactic(auto, using(der_core::proofs::LeafOrders::leaf_contents))]
     fn value_cmp(&self, other: &Self) -> Result<Ordering, Error> {
         Ok(value_cmp_by_contents(self.as_bytes(), other.as_bytes()))
     }
@@ -27,7 +26,7 @@ impl<'a> OrdIsValueOrd for OctetStringRef<'a> {
 
 /// The octets themselves (X.690 8.7).
 impl ValueOrd for OctetString {
-    #[tactic(auto, using(der_core_order::proofs::LeafOrders::leaf_contents))]
+    #[tactic(auto, using(der_core::proofs::LeafOrders::leaf_contents))]
     fn value_cmp(&self, other: &Self) -> Result<Ordering, Error> {
         Ok(value_cmp_by_contents(self.as_bytes(), other.as_bytes()))
     }
@@ -39,7 +38,7 @@ impl OrdIsValueOrd for OctetString {
 
 /// There is one content, of no octets.
 impl ValueOrd for Null {
-    #[tactic(auto, using(der_core_order::proofs::LeafOrders::null_contents))]
+    #[tactic(auto, using(der_core::proofs::LeafOrders::null_contents))]
     fn value_cmp(&self, _other: &Self) -> Result<Ordering, Error> {
         Ok(Ordering::Equal)
     }
@@ -51,7 +50,7 @@ impl OrdIsValueOrd for Null {
 
 /// The content, as it stands.
 impl<'a> ValueOrd for SequenceRef<'a> {
-    #[tactic(auto, using(der_core_order::proofs::LeafOrders::leaf_contents))]
+    #[tactic(auto, using(der_core::proofs::LeafOrders::leaf_contents))]
     fn value_cmp(&self, other: &Self) -> Result<Ordering, Error> {
         Ok(value_cmp_by_contents(self.as_bytes(), other.as_bytes()))
     }

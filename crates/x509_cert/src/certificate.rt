@@ -17,7 +17,7 @@ use der_core::{
     Decode, DecodeFields, DecodeValue, Error, Fields, FixedTag, Header, Reader, ShapedValue, Tag,
     from_der, read_fields,
 };
-use der_types_bits::BitString;
+use der_types_values::BitString;
 use std::alloc::Global;
 
 /// A certificate (RFC 5280 4.1).

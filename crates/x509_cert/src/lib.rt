@@ -12,13 +12,10 @@ mod validity;
 
 pub use algorithm_identifier::AlgorithmIdentifier;
 pub use certificate::{CertificateInner, read_certificate};
-pub use der_types_bits::BitString;
+pub use der_types_values::BitString;
 pub use name::Name;
 pub use serial_number::SerialNumber;
 pub use subject_public_key_info::SubjectPublicKeyInfo;
 pub use tbs_certificate::TbsCertificateInner;
 pub use time::Time;
 pub use validity::Validity;
-
-#[cfg(test)]
-mod tests;

@@ -11,7 +11,7 @@ use der_core::{
     Decode, DecodeFields, DecodeValue, Error, Fields, FixedTag, Header, Reader, ShapedValue, Tag,
     read_fields,
 };
-use der_types_bits::BitString;
+use der_types_values::BitString;
 use std::alloc::{AllocError, Global};
 
 /// A public key and its algorithm (RFC 5280 4.1.2.7).

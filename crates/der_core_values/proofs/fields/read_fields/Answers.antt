@@ -2,7 +2,7 @@ use Rattle.std.proofs.Common.{length, refl, ap, subst, arith, Ok, Err, Bool}
 use Rattle.std.proofs.lemmas.Result.{err_from_is_err_and}
 use Rattle.der_core_head.specs.Grammar.{read_body}
 use Rattle.der_core_head.specs.Reading.{State, Reads, Kept, Closes, entered}
-use Rattle.der_core_input.proofs.Nested.{refused, behind_long, gives, trails, reads_kept, broken_kept}
+use Rattle.der_core_octets.proofs.Nested.{refused, behind_long, gives, trails, reads_kept, broken_kept}
 use Rattle.der_core_values.proofs.fields.read_fields.Goals as goal
 
 pub returns-in_err-behind : goal.returns-in_err-behind

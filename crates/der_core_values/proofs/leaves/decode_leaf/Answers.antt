@@ -1,6 +1,6 @@
 use Rattle.std.proofs.lemmas.Result.{err_from_is_err_and}
 use Rattle.der_core_values.proofs.Contents.{leaf_reads}
-use Rattle.der_core_input.proofs.Nested.{broken_kept}
+use Rattle.der_core_octets.proofs.Nested.{broken_kept}
 use Rattle.der_core_values.proofs.leaves.decode_leaf.Goals as goal
 
 pub returns : goal.returns

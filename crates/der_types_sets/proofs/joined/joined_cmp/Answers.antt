@@ -4,7 +4,7 @@ use Rattle.std.proofs.lemmas.Bool.{eqb-true}
 use Rattle.der_core_head.specs.Shapes.{IsBody, body_octets}
 use Rattle.der_core_head.specs.Grammar.{plain_list}
 use Rattle.der_core_head.specs.Writing.{size}
-use Rattle.der_core_order.proofs.Sizes.{size_only, many_over}
+use Rattle.der_core.proofs.Sizes.{size_only, many_over}
 use Rattle.der_types_sets.proofs.WriteFaults.{write_faults}
 use Rattle.der_types_sets.proofs.LentWrites.{nothing_in, some_at}
 use Rattle.der_types_sets.proofs.LentOrders.{remains_here, remains_end, remains_on, remains_unlike, remains_fault, remains_none, remains_some, plain-at, or_memory, starts_with, starts_otherwise}

@@ -4,7 +4,7 @@ use Rattle.std.proofs.lemmas.Result.{err_from_is_err_and}
 use Rattle.der_core_head.specs.Shapes.{octets_of}
 use Rattle.der_core_head.specs.Grammar.{read}
 use Rattle.der_core_head.specs.Reading.{State, IsDer}
-use Rattle.der_core_headers.specs.Fronts.{octets_at}
+use Rattle.der_core_octets.specs.Fronts.{octets_at}
 use Rattle.der_types_sets.specs.Level.{behind_last, counted, level_content}
 use Rattle.der_types_sets.proofs.LevelSteps.{level_on, level_stops, level_refuses, level_done, level_over}
 use Rattle.der_types_sets.proofs.level.count_level.Goals as goal

@@ -3,7 +3,7 @@ use Rattle.der_core_head.specs.Grammar.{read}
 use Rattle.der_core_head.specs.Shapes.{octets_of}
 use Rattle.der_core_head.specs.Reading.{unread}
 use Rattle.der_core_head.specs.declared.encoding_rules.EncodingRules.TheVariants.{Der}
-use Rattle.der_core_headers.specs.Fronts.{octets_at}
+use Rattle.der_core_octets.specs.Fronts.{octets_at}
 use Rattle.der_types_sets.specs.Level.{read_level, level_content, counted}
 use Rattle.der_types_sets.proofs.level.count_level.Given as goal
 

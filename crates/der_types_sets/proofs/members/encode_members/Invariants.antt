@@ -1,7 +1,7 @@
 use Rattle.std.proofs.Common.{◌≡◌, drop}
 use Rattle.der_core_head.specs.Grammar.{plain_list}
 use Rattle.der_core_head.specs.Writing.{write, write_many}
-use Rattle.der_core_output.specs.Outputs.{Continues}
+use Rattle.der_core_octets.specs.Outputs.{Continues}
 use Rattle.der_types_sets.proofs.members.encode_members.Given as goal
 
 abbrev pub invariant-loop-member : goal.invariant-loop-member

@@ -1,6 +1,6 @@
 use Rattle.std.proofs.Common.{rules, Ok, ap, sym, ◌∙◌}
-use Rattle.der_core_order.proofs.OrderLaws.{then_both}
-use Rattle.der_core_order.proofs.TagOrders.{never_long, tagged_content}
+use Rattle.der_core.proofs.OrderLaws.{then_both}
+use Rattle.der_core.proofs.TagOrders.{never_long, tagged_content}
 use Rattle.der_types_tagged.proofs.FieldOrders.{first_over, second_over, headers_decide, contents_decide}
 use Rattle.der_types_tagged.proofs.behind.cmp_behind.Goals as goal
 

@@ -3,9 +3,9 @@ use Rattle.std.specs.Prelude.{◌≢◌}
 use Rattle.std.proofs.lemmas.Result.{err_from_is_err_and}
 use Rattle.der_core_head.specs.Grammar.{read, read_many}
 use Rattle.der_core_head.specs.Reading.{State, IsDer}
-use Rattle.der_core_input.proofs.Steps.{frame_then, kept_then}
+use Rattle.der_core_octets.proofs.Steps.{frame_then, kept_then}
 use Rattle.der_core_values.proofs.Lists.{goes_on, stops, is_done, is_over}
-use Rattle.der_core_input.proofs.Nested.{moved_kept}
+use Rattle.der_core_octets.proofs.Nested.{moved_kept}
 use Rattle.der_core_values.proofs.wrappers.VecDecodeFields.decode_fields.Goals as goal
 use Rattle.der_core_values.proofs.wrappers.VecDecodeFields.decode_fields.Goals.{else-loop-test, then-loop-test+then-is_finished}
 

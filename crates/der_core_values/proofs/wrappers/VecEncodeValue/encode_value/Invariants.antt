@@ -1,7 +1,7 @@
 use Rattle.std.proofs.Common.{◌≡◌, drop}
 use Rattle.der_core_head.specs.Grammar.{plain_list}
 use Rattle.der_core_head.specs.Writing.{write, write_many}
-use Rattle.der_core_output.specs.Outputs.{Continues}
+use Rattle.der_core_octets.specs.Outputs.{Continues}
 use Rattle.der_core_values.proofs.wrappers.VecEncodeValue.encode_value.Given as goal
 
 abbrev pub invariant-loop-value : goal.invariant-loop-value

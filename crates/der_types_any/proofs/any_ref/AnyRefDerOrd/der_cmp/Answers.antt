@@ -1,6 +1,6 @@
 use Rattle.std.proofs.Common.{rules, Ok, ap, sym, ◌∙◌}
-use Rattle.der_core_order.proofs.OrderLaws.{then_both}
-use Rattle.der_core_order.proofs.AnyOrders.{any_never_long, any_first_long, any_second_long, any_headers_decide, any_contents_decide}
+use Rattle.der_core.proofs.OrderLaws.{then_both}
+use Rattle.der_core.proofs.AnyOrders.{any_never_long, any_first_long, any_second_long, any_headers_decide, any_contents_decide}
 use Rattle.der_types_any.proofs.any_ref.AnyRefDerOrd.der_cmp.Goals as goal
 
 pub returns-in_err-len-clause-order : goal.returns-in_err-len-clause-order

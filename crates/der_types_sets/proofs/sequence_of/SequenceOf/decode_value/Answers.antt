@@ -2,7 +2,7 @@ use Rattle.std.proofs.Common.{Err, ap, sym, ◌∙◌}
 use Rattle.std.proofs.lemmas.Result.{err_from_is_err_and}
 use Rattle.der_core_head.specs.Shapes.{nested, many}
 use Rattle.der_core_head.specs.Grammar.{value_at, read_content}
-use Rattle.der_core_input.proofs.Nested.{moved_kept}
+use Rattle.der_core_octets.proofs.Nested.{moved_kept}
 use Rattle.der_types_sets.proofs.FewSteps.{few_read, few_refused, few_fault}
 use Rattle.der_types_sets.proofs.sequence_of.SequenceOf.decode_value.Goals as goal
 

@@ -7,7 +7,7 @@ use Rattle.der_core_head.specs.Grammar.{value_at, read_content, plain_list}
 use Rattle.der_core_head.specs.Shapes.{Value}
 use Rattle.der_core_head.proofs.Results.{ok_is}
 use Rattle.der_types_sets.specs.Sets.{Loose}
-use Rattle.der_core_input.proofs.Nested.{moved_kept}
+use Rattle.der_core_octets.proofs.Nested.{moved_kept}
 use Rattle.der_types_sets.proofs.FewSteps.{few_read, few_refused, few_fault, few_again}
 use Rattle.der_types_sets.proofs.set_of.SetOf.decode_value.Goals as goal
 

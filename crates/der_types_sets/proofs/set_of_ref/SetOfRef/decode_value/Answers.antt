@@ -5,7 +5,7 @@ use Rattle.der_core_head.specs.Shapes.{Value}
 use Rattle.der_core_head.specs.Grammar.{read}
 use Rattle.der_core_head.proofs.Results.{ok_is}
 use Rattle.der_core_head.proofs.Bytes.{IsBytes, bytes_take}
-use Rattle.der_core_input.proofs.Nested.{moved_kept, broken_kept}
+use Rattle.der_core_octets.proofs.Nested.{moved_kept, broken_kept}
 use Rattle.der_types_sets.specs.Level.{NeverDescends, level_content, values_at}
 use Rattle.der_types_sets.proofs.LevelSteps.{Counts, content_counts, content_uncounted, content_level}
 use Rattle.der_types_sets.proofs.LentSteps.{slice_front, slice_fits, slice_enough, content_read, content_fails, content_short}

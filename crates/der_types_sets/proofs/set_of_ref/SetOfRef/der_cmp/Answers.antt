@@ -3,7 +3,7 @@ use Rattle.std.proofs.lemmas.Result.{err_from_is_err_and}
 use Rattle.der_core_head.specs.declared.tag.Tag.TheVariants as tags
 use Rattle.der_core_head.specs.Shapes.{nested, many}
 use Rattle.der_types_sets.specs.Lent.{members_lent}
-use Rattle.der_core_order.proofs.TagOrders.{tagged_content, never_long, first_long, second_long, lengths_decide, contents_decide}
+use Rattle.der_core.proofs.TagOrders.{tagged_content, never_long, first_long, second_long, lengths_decide, contents_decide}
 use Rattle.der_types_sets.proofs.LentOrders.{answered_as, refused_as, inside_long, ok_answer}
 use Rattle.der_types_sets.proofs.set_of_ref.SetOfRef.der_cmp.Goals as goal
 

@@ -2,7 +2,7 @@ use Rattle.std.proofs.Common.{List, [], Ok, subst, ap, arith}
 use Rattle.std.proofs.lemmas.Result.{err_from_is_err_and}
 use Rattle.der_core_head.specs.Heads.{Fits}
 use Rattle.der_core_head.proofs.Bytes.{IsBytes}
-use Rattle.der_core_input.proofs.Nested.{moved_kept}
+use Rattle.der_core_octets.proofs.Nested.{moved_kept}
 use Rattle.der_core_head.specs.Shapes.{Value}
 use Rattle.der_types_sets.proofs.SetSteps.{content_valid}
 use Rattle.der_types_sets.proofs.LooseSteps.{loose_read, loose_only, loose_again}

@@ -1,7 +1,7 @@
 use Rattle.std.proofs.lemmas.Result.{err_from_is_err_and}
 use Rattle.der_core_head.specs.Leaves.{text}
 use Rattle.der_core_values.proofs.Contents.{leaf_reads}
-use Rattle.der_core_input.proofs.Nested.{broken_kept}
+use Rattle.der_core_octets.proofs.Nested.{broken_kept}
 use Rattle.der_types_text.proofs.ascii_string_ref.AsciiStringRefDecodeValue.decode_value.Goals as goal
 
 pub returns : goal.returns

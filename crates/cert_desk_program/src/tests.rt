@@ -1,4 +1,0 @@
-//! Tests that cross crates.
-
-mod rows;
-mod streams;

@@ -1,0 +1,99 @@
+-- The order of values of a choice, and the tags with which they begin.
+use Rattle.std.proofs.Common.{◌≡◌, ℕ, Bool, true, List, [], Option, Some, None, Result, Ok, sym, ap, subst, ◌∙◌, inl, inr, ◌⊎◌}
+use Rattle.std.specs.Prelude.{◌≢◌, ◌&&◌}
+use Rattle.std.specs.Ordering.{ordering_reverse}
+use Rattle.std.specs.declared.cmp.Ordering.{Ordering}
+use Rattle.std.specs.Cmp.Lexicographic.{nat_list_cmp_total}
+use Rattle.std.proofs.lemmas.Bool.{and_parts, or_left, or_right, false≢true}
+use Rattle.der_core_head.specs.declared.error.Error.{Error}
+use Rattle.der_core_head.specs.declared.tag.Tag.{Tag}
+use Rattle.der_core_head.specs.Tags.{tag_octets}
+use Rattle.der_core_head.specs.Shapes.{Shape, either, Value, octets_of, IsValid, begins}
+use Rattle.der_core_head.specs.Spelling.{is_apart, is_element, none_of}
+use Rattle.der_core_head.proofs.Complete.{element_some, not_begins}
+use Rattle.der_core.specs.Orders.{octets_cmp, encodings_cmp, StartsWith, next_cmp}
+use Rattle.der_core.proofs.OrderLaws.{then_first, octets_cmp-append}
+use Rattle.der_core.proofs.HeadOrders.{tag_splits, tag_cmp-equal}
+
+-- both are apart and begin otherwise
+pub record Kept (a b : Shape) : Type 0 where
+  pub first_element : is_element a ≡ true
+  pub second_element : is_element b ≡ true
+  pub other_tags : none_of a (begins b) ≡ true
+  pub first : is_apart a ≡ true
+  pub second : is_apart b ≡ true
+
+pub kept : (a b : Shape) → is_apart (either a b) ≡ true → Kept a b
+kept a b h =
+    let parts = and_parts (is_element a && is_element b) (none_of a (begins b) && (is_apart a && is_apart b)) h in
+    let elements = and_parts (is_element a) (is_element b) parts.0 in
+    let others = and_parts (none_of a (begins b)) (is_apart a && is_apart b) parts.1 in
+    let aparts = and_parts (is_apart a) (is_apart b) others.1 in
+    record { first_element = elements.0; second_element = elements.1; other_tags = others.0; first = aparts.0; second = aparts.1 }
+
+-- Values of one alternative
+
+pub both_first : (a b : Shape) (x y : Value a ⊎ Value b) (v w : Value a) (r : Result Ordering Error) → x ≡ inl v → y ≡ inl w
+    → (is_apart a ≡ true → IsValid a v → IsValid a w → r ≡ Ok (encodings_cmp a v w))
+    → is_apart (either a b) ≡ true → IsValid (either a b) x → IsValid (either a b) y → r ≡ Ok (encodings_cmp (either a b) x y)
+unfolding octets_of IsValid
+both_first a b x y v w r i j h = rw (i, j) (λ apart p q. h (kept a b apart).first p q)
+
+pub both_second : (a b : Shape) (x y : Value a ⊎ Value b) (v w : Value b) (r : Result Ordering Error) → x ≡ inr v → y ≡ inr w
+    → (is_apart b ≡ true → IsValid b v → IsValid b w → r ≡ Ok (encodings_cmp b v w))
+    → is_apart (either a b) ≡ true → IsValid (either a b) x → IsValid (either a b) y → r ≡ Ok (encodings_cmp (either a b) x y)
+unfolding octets_of IsValid
+both_second a b x y v w r i j h = rw (i, j) (λ apart p q. h (kept a b apart).second p q)
+
+-- Values of two alternatives
+
+-- the tags that calls answered
+abbrev pub TagIs : (s : Shape) → Value s → Option Tag → Type 0
+TagIs s v t = IsValid s v → StartsWith (begins s) t (octets_of s v)
+
+-- octets that begin with different tags
+tags_decide : (t u : Tag) (f g : Tag → Bool) (c d : List ℕ) → t ≢ u → StartsWith f (Some t) c → StartsWith g (Some u) d → octets_cmp c d ≡ octets_cmp (tag_octets t) (tag_octets u)
+tags_decide t u f g c d other i j =
+    rw (i.1, j.1)
+    (octets_cmp-append (tag_octets t) (tag_octets u) i.0 j.0 (tag_splits t u i.2 j.2)
+    ∙ then_first (octets_cmp (tag_octets t) (tag_octets u)) (octets_cmp i.0 j.0) (λ e. other (tag_cmp-equal t u i.2 j.2 e)))
+
+absent : (s : Shape) (v : Value s) → is_element s ≡ true → IsValid s v → octets_of s v ≡ [] → ⊥
+absent s v e h nothing = let some = element_some s v e h in let there = some.2 in cc
+
+pub first_below : (a b : Shape) (v : Value a) (w : Value b) (n : Option Tag) (u : Tag) → TagIs a v n → TagIs b w (Some u)
+    → is_apart (either a b) ≡ true → IsValid a v → IsValid b w → next_cmp n u ≡ octets_cmp (octets_of a v) (octets_of b w)
+first_below a b v w None u i j apart p q = absurd (absent a v (kept a b apart).first_element p (i p))
+first_below a b v w (Some t) u i j apart p q =
+    let k = kept a b apart in
+    let first = i p in
+    let second = j q in
+    let other : t ≢ u = λ same. false≢true (sym (not_begins a (begins b) t k.other_tags (subst (λ z. begins b z ≡ true) (sym same) second.3)) ∙ first.3) in
+    sym (tags_decide t u (begins a) (begins b) (octets_of a v) (octets_of b w) other first second)
+
+pub never_absent : (a b : Shape) (v : Value a) (w : Value b) → TagIs b w None → is_apart (either a b) ≡ true → IsValid b w → ⊥
+never_absent a b v w j apart q = absent b w (kept a b apart).second_element q (j q)
+
+pub mixed : (a b : Shape) (x y : Value a ⊎ Value b) (v : Value a) (w : Value b) (o : Ordering) → x ≡ inl v → y ≡ inr w
+    → (is_apart (either a b) ≡ true → IsValid a v → IsValid b w → o ≡ octets_cmp (octets_of a v) (octets_of b w))
+    → is_apart (either a b) ≡ true → IsValid (either a b) x → IsValid (either a b) y → o ≡ encodings_cmp (either a b) x y
+unfolding octets_of IsValid
+mixed a b x y v w o i j h = rw (i, j) h
+
+pub mixed_turned : (a b : Shape) (x y : Value a ⊎ Value b) (v : Value a) (w : Value b) (o : Ordering) → x ≡ inr w → y ≡ inl v
+    → (is_apart (either a b) ≡ true → IsValid a v → IsValid b w → o ≡ octets_cmp (octets_of a v) (octets_of b w))
+    → is_apart (either a b) ≡ true → IsValid (either a b) x → IsValid (either a b) y → ordering_reverse o ≡ encodings_cmp (either a b) x y
+mixed_turned a b x y v w o i j h apart p q =
+    ap ordering_reverse (mixed a b y x v w o j i h apart q p) ∙ sym (nat_list_cmp_total.antisymm (octets_of (either a b) x) (octets_of (either a b) y))
+
+-- The tag of a value
+
+pub first_starts : (a b : Shape) (x : Value a ⊎ Value b) (v : Value a) (t : Option Tag) → x ≡ inl v → TagIs a v t → TagIs (either a b) x t
+unfolding octets_of IsValid
+first_starts a b x v None i h = rw i h
+first_starts a b x v (Some t) i h = rw i (λ p. let s = h p in (s.0, s.1, s.2, or_left (begins a t) (begins b t) s.3))
+
+pub second_starts : (a b : Shape) (x : Value a ⊎ Value b) (w : Value b) (t : Option Tag) → x ≡ inr w → TagIs b w t → TagIs (either a b) x t
+unfolding octets_of IsValid
+second_starts a b x w None i h = rw i h
+second_starts a b x w (Some t) i h = rw i (λ p. let s = h p in (s.0, s.1, s.2, or_right (begins a t) (begins b t) s.3))

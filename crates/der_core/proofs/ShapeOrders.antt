@@ -1,0 +1,141 @@
+-- The order of the encodings of a shape, by its parts.
+use Rattle.std.proofs.Common.{◌≡◌, ℕ, Bool, true, false, List, [], ◌∷◌, ◌++◌, length, Option, Some, None, refl, sym, ap, subst, ◌∙◌, append_assoc, inl, inr, ◌⊎◌}
+use mathlib.Core.Bool.{◌&&◌}
+use Rattle.std.specs.Prelude.{◌≢◌}
+use Rattle.std.specs.List.{flat_map, AllByRecursion}
+use Rattle.std.specs.Str.{bytes_eq}
+use Rattle.std.specs.Ordering.{nat_cmp, ordering_then}
+use Rattle.std.specs.declared.cmp.Ordering.TheVariants.{Less, Equal}
+use Rattle.std.specs.Cmp.Lexicographic.{slice_cmp}
+use Rattle.std.proofs.lemmas.Bool.{and_parts, or_cases, false≢true}
+use Rattle.der_core_head.specs.declared.tag.Tag.{Tag}
+use Rattle.der_core_head.specs.Tags.{IsTag, tag_octets}
+use Rattle.der_core_head.specs.Heads.{Fits, tlv}
+use Rattle.der_core_head.specs.Shapes.{Shape, Content, Body, tagged, any, either, optional, defaulted, nothing, field, Value, ContentValue, BodyValue, octets_of, contents, body_octets, unless, IsValid, IsBody, begins}
+use Rattle.der_core_head.specs.Spelling.{is_apart, is_body_apart, is_element, is_clear, is_end, none_of, body_begins}
+use Rattle.der_core_head.proofs.Fits.{fits_contents}
+use Rattle.der_core_head.proofs.TagLaws.{tag_octets-some}
+use Rattle.der_core_head.proofs.Complete.{element_some, not_begins, end_empty}
+use Rattle.der_core.specs.Orders.{octets_cmp, encodings_cmp, contents_cmp, bodies_cmp, StartsWith, next_cmp}
+use Rattle.der_core.proofs.OrderLaws.{then_first, octets_cmp-append, Splits}
+use Rattle.der_core.proofs.HeadOrders.{tag_splits, tag_cmp-equal, tlv_splits, tlv_cmp-tag}
+
+-- One tag
+
+pub tagged_cmp : (t : Tag) (c : Content) (v w : ContentValue c) → IsValid (tagged t c) v → IsValid (tagged t c) w
+    → encodings_cmp (tagged t c) v w ≡ ordering_then (nat_cmp (length (contents c v)) (length (contents c w))) (contents_cmp c v w)
+unfolding octets_of IsValid
+tagged_cmp t c v w p q = tlv_cmp-tag t (contents c v) (contents c w) p.1 (fits_contents t (contents c v) p.2) (fits_contents t (contents c w) q.2)
+
+-- No encoding begins another
+
+-- octets that are a header and its content
+pub record IsWhole (b : List ℕ) : Type 0 where
+  pub tag : Tag
+  pub contents : List ℕ
+  pub octets : b ≡ tlv tag contents
+  pub is_tag : IsTag tag
+  pub fits : Fits contents
+
+tlv_whole : (t : Tag) (c : List ℕ) → IsTag t → Fits (tlv t c) → IsWhole (tlv t c)
+tlv_whole t c p f = record { tag = t; contents = c; octets = refl; is_tag = p; fits = fits_contents t c f }
+
+whole_splits : (a b : List ℕ) → IsWhole a → IsWhole b → Splits a b
+whole_splits a b p q = rw (p.octets, q.octets) (tlv_splits p.tag q.tag p.contents q.contents p.is_tag q.is_tag p.fits q.fits)
+
+element_whole : (s : Shape) (v : Value s) → is_element s ≡ true → IsValid s v → IsWhole (octets_of s v)
+unfolding octets_of IsValid
+element_whole (tagged t c) v e h = tlv_whole t (contents c v) h.1 h.2
+element_whole any v e h = tlv_whole v.tag v.contents h.1 h.2
+element_whole (either a b) (inl v) e h = element_whole a v (and_parts (is_element a) (is_element b) e).0 h
+element_whole (either a b) (inr v) e h = element_whole b v (and_parts (is_element a) (is_element b) e).1 h
+element_whole (optional s) v e h = absurd (false≢true e)
+element_whole (defaulted s d) v e h = absurd (false≢true e)
+element_whole nothing v e h = absurd (false≢true e)
+
+pub element_splits : (s : Shape) (v w : Value s) → is_element s ≡ true → IsValid s v → IsValid s w → Splits (octets_of s v) (octets_of s w)
+element_splits s v w e p q = whole_splits (octets_of s v) (octets_of s w) (element_whole s v e p) (element_whole s w e q)
+
+-- a field is a whole encoding, or absent
+field_whole : (s : Shape) (v : Value s) → is_apart s ≡ true → IsValid s v → (octets_of s v ≡ []) ⊎ IsWhole (octets_of s v)
+unfolding octets_of IsValid unless
+field_whole (tagged t c) v a h = inr (element_whole (tagged t c) v refl h)
+field_whole any v a h = inr (element_whole any v refl h)
+field_whole (either x y) v a h = inr (element_whole (either x y) v (and_parts (is_element x && is_element y) _ a).0 h)
+field_whole (optional s) None a h = inl refl
+field_whole (optional s) (Some v) a h = inr (element_whole s v (and_parts (is_element s) (is_apart s) a).0 h)
+field_whole nothing v a h = inl refl
+field_whole (defaulted s d) v a h = go (bytes_eq (octets_of s v) d)
+  where
+    go : (b : Bool) → (unless b (octets_of s v) ≡ []) ⊎ IsWhole (unless b (octets_of s v))
+    go true = inl refl
+    go false = inr (element_whole s v (and_parts (is_element s) (is_apart s) (and_parts (is_element s && is_apart s) _ a).0).0 h)
+
+-- what begins with a tag is not nothing
+pub not_nothing : (first : Tag → Bool) (t : Tag) (b : List ℕ) → StartsWith first (Some t) b → b ≢ []
+not_nothing first t b h e =
+    let some = tag_octets-some t in
+    let starts = h.1 in
+    absurd cc
+
+pub present_splits : (s : Shape) (v w : Value s) (t u : Tag) → is_apart s ≡ true → IsValid s v → IsValid s w
+    → StartsWith (begins s) (Some t) (octets_of s v) → StartsWith (begins s) (Some u) (octets_of s w) → Splits (octets_of s v) (octets_of s w)
+present_splits s v w t u a p q i j =
+    elim (field_whole s v a p) [
+      | inl e ↦ absurd (not_nothing (begins s) t (octets_of s v) i e)
+      | inr f ↦ elim (field_whole s w a q) [
+        | inl e ↦ absurd (not_nothing (begins s) u (octets_of s w) j e)
+        | inr g ↦ whole_splits (octets_of s v) (octets_of s w) f g
+      ]
+    ]
+
+pub absent_splits : (a b : List ℕ) → a ≡ [] → b ≡ [] → Splits a b
+absent_splits a b e f = rw (e, f) tt
+
+-- Fields in a row
+
+-- the first fields, and then the others
+pub field_cmp : (s : Shape) (b : Body) (v w : Value s × BodyValue b) → Splits (octets_of s v.0) (octets_of s w.0)
+    → bodies_cmp (field s b) v w ≡ ordering_then (encodings_cmp s v.0 w.0) (bodies_cmp b v.1 w.1)
+unfolding body_octets
+field_cmp s b v w h = octets_cmp-append (octets_of s v.0) (octets_of s w.0) (body_octets b v.1) (body_octets b w.1) h
+
+-- a field that may be absent begins otherwise than what follows it
+other_tag : (s : Shape) (b : Body) (v : Value s) (x : BodyValue b) (t u : Tag) (r : List ℕ) → is_clear s b ≡ true → IsValid s v → octets_of s v ≡ []
+    → body_octets b x ≡ tag_octets u ++ r → begins s t ≡ true → body_begins b u ≡ true → u ≢ t
+other_tag s b v x t u r c h absent starts first next same =
+    elim (or_cases (is_element s) _ c) [
+      | inl e ↦ let some = element_some s v e h in let there = some.2 in absurd cc
+      | inr e ↦ elim (or_cases (is_end b) (none_of s (body_begins b)) e) [
+        | inl d ↦ let empty = end_empty b x d in let some = tag_octets-some u in absurd cc
+        | inr n ↦ false≢true (sym (not_begins s (body_begins b) t n (subst (λ k. body_begins b k ≡ true) same next)) ∙ first)
+      ]
+    ]
+
+nothing_first : (t : Tag) (w : List ℕ) → octets_cmp [] (tag_octets t ++ w) ≡ Less
+nothing_first t w = rw (tag_octets-some t).2 refl
+
+pub absent_first : (s : Shape) (b : Body) (v w : Value s × BodyValue b) (n : Option Tag) (t : Tag) → is_body_apart (field s b) ≡ true
+    → IsBody (field s b) v → IsBody (field s b) w → octets_of s v.0 ≡ [] → StartsWith (begins s) (Some t) (octets_of s w.0) → StartsWith (body_begins b) n (body_octets b v.1)
+    → bodies_cmp (field s b) v w ≡ next_cmp n t
+unfolding body_octets IsBody
+absent_first s b v w None t a p q absent i next =
+    rw (absent, next, i.1, append_assoc (tag_octets t) i.0 (body_octets b w.1)) (nothing_first t (i.0 ++ body_octets b w.1))
+absent_first s b v w (Some u) t a p q absent i next =
+    let c = (and_parts (is_clear s b) _ a).0 in
+    let other : octets_cmp (tag_octets u) (tag_octets t) ≢ Equal = λ e.
+    other_tag s b v.0 v.1 t u next.0 c p.0 absent next.1 i.3 next.3 (tag_cmp-equal u t next.2 i.2 e) in
+    rw (absent, next.1, i.1, append_assoc (tag_octets t) i.0 (body_octets b w.1))
+    (octets_cmp-append (tag_octets u) (tag_octets t) next.0 (i.0 ++ body_octets b w.1) (tag_splits u t next.2 i.2)
+    ∙ then_first (octets_cmp (tag_octets u) (tag_octets t)) (octets_cmp next.0 (i.0 ++ body_octets b w.1)) other)
+
+-- Values one after the other
+
+pub elements_cmp : (s : Shape) (xs ys : List (Value s)) → is_element s ≡ true → AllByRecursion (IsValid s) xs → AllByRecursion (IsValid s) ys
+    → octets_cmp (flat_map (octets_of s) xs) (flat_map (octets_of s) ys) ≡ slice_cmp (encodings_cmp s) xs ys
+elements_cmp s [] [] e p q = refl
+elements_cmp s [] (y ∷ ys) e p q = rw (element_some s y e q.0).2 refl
+elements_cmp s (x ∷ xs) [] e p q = rw (element_some s x e p.0).2 refl
+elements_cmp s (x ∷ xs) (y ∷ ys) e p q =
+    octets_cmp-append (octets_of s x) (octets_of s y) (flat_map (octets_of s) xs) (flat_map (octets_of s) ys) (element_splits s x y e p.0 q.0)
+    ∙ ap (ordering_then (encodings_cmp s x y)) (elements_cmp s xs ys e p.1 q.1)

@@ -1,0 +1,5 @@
+use Rattle.der_core.proofs.HeadOrders.{length_octets_cmp}
+use Rattle.der_core.proofs.laws.lengths_in_order.Goals as goal
+
+pub returns : goal.returns
+returns c = length_octets_cmp

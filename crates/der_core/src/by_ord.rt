@@ -1,0 +1,107 @@
+//! Types whose own order is that of their contents.
+
+ghost use Rattle.std.specs.Prelude.{◌≡◌, length, true, Ok, IsOk, IfOk, IfErr};
+ghost use Rattle.der_core_head.specs.Shapes.{tagged, IsContent, IsValid, contents};
+ghost use Rattle.der_core_head.specs.Spelling.{is_content_apart};
+ghost use Rattle.der_core_head.specs.Writing.{size, size_content};
+ghost use Rattle.der_core.specs.Orders.{contents_cmp, encodings_cmp, Overflows};
+
+use crate::headers::length_cmp;
+use crate::order::ValueOrd;
+use const_oid_identifiers::ObjectIdentifier;
+use der_core_coding::values::{EncodeValue, FixedTag, ShapedValue};
+use der_core_head::Error;
+use std::cmp::Ordering;
+
+/// A type whose `Ord` is the order of contents of equal length, as lists of octets.
+///
+/// Of contents of other lengths it may be another one: identifiers are ordered by the number of their
+/// octets first.
+pub trait OrdIsValueOrd: ShapedValue + Ord {
+    ghost order: { (v w : Self) → IsContent Self.content (Self.value_plain v) → IsContent Self.content (Self.value_plain w)
+        → length (contents Self.content (Self.value_plain v)) ≡ length (contents Self.content (Self.value_plain w))
+        → Self.cmp v w ≡ contents_cmp Self.content (Self.value_plain v) (Self.value_plain w) };
+}
+
+/// The order of the contents of two values, by their `Ord`, where they have the same length.
+pub fn value_cmp_by_ord<T: OrdIsValueOrd>(a: &T, b: &T) -> Ordering
+    // It is that of their `Ord` whatever the lengths are.
+    ensures ord { result ≡ T.cmp a.now b.now }
+    ensures order { IsContent T.content (T.value_plain a.now) → IsContent T.content (T.value_plain b.now)
+        → length (contents T.content (T.value_plain a.now)) ≡ length (contents T.content (T.value_plain b.now))
+        → result ≡ contents_cmp T.content (T.value_plain a.now) (T.value_plain b.now) }
+{
+    a.cmp(b)
+}
+
+/// What `value_cmp` answers, which is the `Ord` of the two values where their contents have the same
+/// length.
+///
+/// # Errors
+/// `Overflow` where the content of one of the two has 2^32 octets or more.
+pub fn value_cmp_is_ord<T: ValueOrd + OrdIsValueOrd>(a: &T, b: &T) -> Result<Ordering, Error>
+    ensures order { is_content_apart T.content ≡ true → IsContent T.content (T.value_plain a.now) → IsContent T.content (T.value_plain b.now)
+        → length (contents T.content (T.value_plain a.now)) ≡ length (contents T.content (T.value_plain b.now))
+        → result ≡ Ok (T.cmp a.now b.now) }
+    ensures refused { IfErr result (λ e. Overflows e (size_content T.content (T.value_plain a.now)) (size_content T.content (T.value_plain b.now))) }
+{
+    let order = a.value_cmp(b)?;
+    Ok(order)
+}
+
+/// The order of the encodings of two values: that of their lengths, and then by their `Ord`.
+///
+/// # Errors
+/// `Overflow` where the encoding of one of the two has 2^32 octets or more.
+pub fn der_cmp_by_ord<T: OrdIsValueOrd + EncodeValue + FixedTag>(
+    a: &T,
+    b: &T,
+) -> Result<Ordering, Error>
+    ensures order { IsValid (tagged T.fixed_tag T.content) (T.value_plain a.now) → IsValid (tagged T.fixed_tag T.content) (T.value_plain b.now)
+        → result ≡ Ok (encodings_cmp (tagged T.fixed_tag T.content) (T.value_plain a.now) (T.value_plain b.now)) }
+    // It isn't answered where a content has no length.
+    ensures answered { IfOk result (λ _. IsOk (size_content T.content (T.value_plain a.now)) × IsOk (size_content T.content (T.value_plain b.now))) }
+    ensures refused { IfErr result (λ e. Overflows e (size (tagged T.fixed_tag T.content) (T.value_plain a.now)) (size (tagged T.fixed_tag T.content) (T.value_plain b.now))) }
+{
+    let len = a.value_len()?;
+    let other_len = b.value_len()?;
+    let lengths = length_cmp(len, other_len);
+    if lengths.is_ne() {
+        return Ok(lengths);
+    }
+    Ok(value_cmp_by_ord(a, b))
+}
+
+impl OrdIsValueOrd for bool {
+    ghost use Rattle.der_core.specs.OrdLaws.{bool_order};
+
+    ghost order = { bool_order };
+}
+
+impl OrdIsValueOrd for () {
+    ghost use Rattle.der_core.specs.OrdLaws.{null_order};
+
+    ghost order = { null_order };
+}
+
+impl<const MAX_SIZE: usize> OrdIsValueOrd for ObjectIdentifier<MAX_SIZE> {
+    ghost use Rattle.const_oid_identifiers.specs.Bound.{Bound};
+    ghost use Rattle.der_core.specs.OrdLaws.{identifier_order};
+
+    ghost order = { identifier_order Bound MAX_SIZE };
+}
+
+impl<'a> OrdIsValueOrd for &'a str {
+    ghost use Rattle.der_core_head.specs.Leaves.{utf8};
+    ghost use Rattle.der_core.specs.OrdLaws.{octets_order};
+
+    ghost order = { λ v w. octets_order utf8 v.now w.now };
+}
+
+impl OrdIsValueOrd for String {
+    ghost use Rattle.std.specs.String.{string_bytes};
+    ghost use Rattle.der_core_head.specs.Leaves.{utf8};
+    ghost use Rattle.der_core.specs.OrdLaws.{octets_order};
+
+    ghost order = { λ v w. octets_order utf8 (string_bytes v) (string_bytes w) };
+}

@@ -1,0 +1,89 @@
+//! Comparison of values by their encodings.
+
+ghost use Rattle.std.specs.Prelude.{◌≡◌, true, Ok, IfErr};
+ghost use Rattle.der_core_head.specs.Shapes.{IsValid, IsContent, octets_of, begins};
+ghost use Rattle.der_core_head.specs.Spelling.{is_apart, is_content_apart};
+ghost use Rattle.der_core_head.specs.Writing.{size, size_content};
+ghost use Rattle.der_core.specs.Orders.{encodings_cmp, contents_cmp, Overflows, StartsWith};
+
+use crate::headers::length_cmp;
+use der_core_coding::values::{EncodeValue, FixedTag, Shaped, ShapedValue};
+use der_core_head::{Error, Tag};
+use std::cmp::Ordering;
+
+/// A type whose values are compared by their contents.
+pub trait ValueOrd: ShapedValue {
+    /// The order of the contents of two values, as lists of octets, whatever their lengths.
+    ///
+    /// # Errors
+    /// `Overflow` where the content of one of the two has 2^32 octets or more.
+    fn value_cmp(&self, other: &Self) -> Result<Ordering, Error>
+        // It is answered wherever both values have a content.
+        ensures order { is_content_apart Self.content ≡ true → IsContent Self.content (Self.value_plain self.now) → IsContent Self.content (Self.value_plain other.now)
+            → result ≡ Ok (contents_cmp Self.content (Self.value_plain self.now) (Self.value_plain other.now)) }
+        ensures refused { IfErr result (λ e. Overflows e (size_content Self.content (Self.value_plain self.now)) (size_content Self.content (Self.value_plain other.now))) };
+}
+
+/// A type whose values are compared by their whole encodings (X.690 11.6).
+pub trait DerOrd: Shaped {
+    /// The order of the encodings of two values, as lists of octets. No memory is taken.
+    ///
+    /// # Errors
+    /// `Overflow` where the encoding of one of the two has 2^32 octets or more.
+    fn der_cmp(&self, other: &Self) -> Result<Ordering, Error>
+        // It is answered wherever both values have an encoding.
+        ensures order { is_apart Self.shape ≡ true → IsValid Self.shape (Self.plain self.now) → IsValid Self.shape (Self.plain other.now)
+            → result ≡ Ok (encodings_cmp Self.shape (Self.plain self.now) (Self.plain other.now)) }
+        ensures refused { IfErr result (λ e. Overflows e (size Self.shape (Self.plain self.now)) (size Self.shape (Self.plain other.now))) };
+}
+
+/// A type that tells the tag of a value's encoding.
+pub trait FirstTag: Shaped {
+    /// The tag with which the encoding begins, or none where the value is written as nothing.
+    fn first_tag(&self) -> Option<Tag>
+        ensures { IsValid Self.shape (Self.plain self.now) → StartsWith (begins Self.shape) result (octets_of Self.shape (Self.plain self.now)) };
+}
+
+/// The header, whose tag is that of the type, then the contents.
+impl<T: ValueOrd + EncodeValue + FixedTag> DerOrd for T {
+    fn der_cmp(&self, other: &Self) -> Result<Ordering, Error> {
+        let len = self.value_len()?;
+        let other_len = other.value_len()?;
+        let lengths = length_cmp(len, other_len);
+        if lengths.is_ne() {
+            return Ok(lengths);
+        }
+        let contents = self.value_cmp(other)?;
+        Ok(contents)
+    }
+}
+
+impl<T: ValueOrd + FixedTag> FirstTag for T {
+    #[tactic(auto, using(crate::proofs::FirstTags::tagged_starts))]
+    fn first_tag(&self) -> Option<Tag> {
+        Some(T::tag())
+    }
+}
+
+/// Nothing is below any encoding.
+impl<T: DerOrd> DerOrd for Option<T> {
+    #[tactic(auto, using(crate::proofs::FirstTags::option_orders))]
+    fn der_cmp(&self, other: &Self) -> Result<Ordering, Error> {
+        match (self, other) {
+            (Some(value), Some(other)) => value.der_cmp(other),
+            (Some(_), None) => Ok(Ordering::Greater),
+            (None, Some(_)) => Ok(Ordering::Less),
+            (None, None) => Ok(Ordering::Equal),
+        }
+    }
+}
+
+impl<T: FirstTag> FirstTag for Option<T> {
+    #[tactic(auto, unfolding(der_core_head::specs::Shapes::octets_of, der_core_head::specs::Shapes::IsValid))]
+    fn first_tag(&self) -> Option<Tag> {
+        match self {
+            Some(value) => value.first_tag(),
+            None => None,
+        }
+    }
+}

@@ -1,0 +1,6 @@
+mod Members
+mod Windows
+mod Appended
+mod Rooms
+mod HeadersWritten
+mod Puts

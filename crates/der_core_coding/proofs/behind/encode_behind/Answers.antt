@@ -1,0 +1,12 @@
+use Rattle.std.proofs.Common.{[], ◌∷◌}
+use Rattle.std.proofs.lemmas.Result.{err_from_is_err_and}
+use Rattle.der_core_coding.proofs.Puts.{first_refused, writes_both}
+use Rattle.der_core_coding.proofs.behind.encode_behind.Goals as goal
+
+pub returns-in_err-write_byte-clause-exact : goal.returns-in_err-write_byte-clause-exact
+returns-in_err-write_byte-clause-exact g c =
+    let p = err_from_is_err_and c.from_residual.result c.from_residual.ensures.1 in
+    rw (p.1, p.2) (first_refused (c.args.first ∷ []) c.args.octets.now _ _ c.in_err-write_byte.ensures.exact)
+
+pub returns-clause-exact : goal.returns-clause-exact
+returns-clause-exact g c = writes_both (c.args.first ∷ []) c.args.octets.now _ _ _ _ c.in_ok-write_byte.ensures.exact c.write.ensures.exact

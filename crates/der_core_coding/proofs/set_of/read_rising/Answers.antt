@@ -1,0 +1,113 @@
+use Rattle.std.proofs.Common.{◌≡◌, ◌≤◌, ◌-◌, [], Some, None, sym, ap, ◌∙◌}
+use Rattle.std.specs.Prelude.{◌≢◌}
+use Rattle.std.proofs.lemmas.Result.{err_from_is_err_and}
+use Rattle.der_core_head.specs.Shapes.{octets_of}
+use Rattle.der_core_head.specs.Grammar.{read, read_rising, last_octets, follows_last}
+use Rattle.der_core_head.specs.Reading.{State, IsDer}
+use Rattle.der_core_octets.specs.Fronts.{octets_at}
+use Rattle.der_core_octets.proofs.Steps.{frame_then, kept_then}
+use Rattle.der_core_octets.proofs.Nested.{moved_kept}
+use Rattle.der_core_values.proofs.Lists.{set_on, set_stops, set_refuses, set_done, set_over, last_more}
+use Rattle.der_core_coding.proofs.set_of.read_rising.Goals as goal
+use Rattle.der_core_coding.proofs.set_of.read_rising.Goals.{else-loop-test, then-loop-test+then-is_finished}
+
+pub returns-in_err-value : goal.returns-in_err-value
+returns-in_err-value g c =
+    let state = g.R.Reader.state in
+    let old = state c.args.reader.now in
+    let now = state c.loop.reader in
+    let each = read g.T.Shaped.shape old.room in
+    let o = octets_of g.T.Shaped.shape in
+    let p = err_from_is_err_and c.from_residual.result c.from_residual.ensures.1 in
+    let same = c.loop.invariant.same in
+    let some : now.rest ≢ [] = λ e. absurd (cc (c.is_finished.ensures.1 e, c.if-is_finished.false)) in
+    let room : now.room ≡ old.room = ap (λ (s : State). s.room) same in
+    let total = λ (der : IsDer old). c.loop.invariant.total der ∙ ap (λ n. read_rising o each None n old.rest) c.remaining_len-len.ensures in
+    rw (p.1, p.2) (
+      λ der ready memory. set_stops g.T.Shaped.plain o each (last_octets (λ v. o (g.T.Shaped.plain v)) c.loop.values.items) c.remaining_len-len.result.value c.loop.counter now.rest c.loop.values.items c.in_err-value.field-0.0.kind _ c.loop-test.true some
+          (ap (λ m. read g.T.Shaped.shape m now.rest) (sym room) ∙ c.in_err-value.ensures.reads.0 (ap (λ (s : State). s.source.encoding) same ∙ der) (ap (λ (s : State). s.failed) same ∙ ready) memory) (total der),
+      kept_then old now _ same c.in_err-value.ensures.reads.1,
+      λ failed. absurd (cc (failed, c.is_failed.ensures, c.if-is_failed.false)),
+    )
+
+pub returns-in_err-check_follows : goal.returns-in_err-check_follows
+returns-in_err-check_follows g c =
+    let state = g.R.Reader.state in
+    let old = state c.args.reader.now in
+    let now = state c.loop.reader in
+    let after = state c.decode_sliced.new.reader in
+    let each = read g.T.Shaped.shape old.room in
+    let o = octets_of g.T.Shaped.shape in
+    let same = c.loop.invariant.same in
+    let room : now.room ≡ old.room = ap (λ (s : State). s.room) same in
+    let some : now.rest ≢ [] = λ e. absurd (cc (c.is_finished.ensures.1 e, c.if-is_finished.false)) in
+    let frame = frame_then old now after same c.in_ok-value.ensures.reads.1 in
+    let v = g.T.Shaped.plain c.in_ok-value.value in
+    let last = last_octets (λ v. o (g.T.Shaped.plain v)) c.loop.values.items in
+    let still : IsDer old → IsDer now = λ der. ap (λ (s : State). s.source.encoding) same ∙ der in
+    let judged : IsDer old → follows_last last (o v) ≡ follows_last (octets_at c.loop.last) c.in_ok-value.octets.now = λ der.
+    ap (λ l. follows_last l (o v)) (sym (c.loop.invariant.last der)) ∙ ap (follows_last (octets_at c.loop.last)) (sym (c.in_ok-value.ensures.octets (still der))) in
+    let p = err_from_is_err_and c.from_residual-in_err-check_follows.result c.from_residual-in_err-check_follows.ensures.1 in
+    let total = λ (der : IsDer old). c.loop.invariant.total der ∙ ap (λ n. read_rising o each None n old.rest) c.remaining_len-len.ensures in
+    rw (p.1, p.2) (
+      λ der ready memory. set_refuses g.T.Shaped.plain o each last c.remaining_len-len.result.value c.loop.counter now.rest after.rest c.loop.values.items v c.in_err-check_follows.field-0.0.kind _ c.loop-test.true some
+          (ap (λ m. read g.T.Shaped.shape m now.rest) (sym room) ∙ c.in_ok-value.ensures.reads.0 (still der)) (judged der ∙ c.in_err-check_follows.ensures memory) (total der),
+      moved_kept old after frame,
+      λ failed. absurd (cc (failed, c.is_failed.ensures, c.if-is_failed.false)),
+    )
+
+pub loop-preserved : goal.loop-preserved
+loop-preserved g c =
+    let state = g.R.Reader.state in
+    let old = state c.args.reader.now in
+    let now = state c.loop.reader in
+    let after = state c.decode_sliced.new.reader in
+    let each = read g.T.Shaped.shape old.room in
+    let o = octets_of g.T.Shaped.shape in
+    let same = c.loop.invariant.same in
+    let room : now.room ≡ old.room = ap (λ (s : State). s.room) same in
+    let some : now.rest ≢ [] = λ e. absurd (cc (c.is_finished.ensures.1 e, c.if-is_finished.false)) in
+    let frame = frame_then old now after same c.in_ok-value.ensures.reads.1 in
+    let v = g.T.Shaped.plain c.in_ok-value.value in
+    let last = last_octets (λ v. o (g.T.Shaped.plain v)) c.loop.values.items in
+    let still : IsDer old → IsDer now = λ der. ap (λ (s : State). s.source.encoding) same ∙ der in
+    let judged : IsDer old → follows_last last (o v) ≡ follows_last (octets_at c.loop.last) c.in_ok-value.octets.now = λ der.
+    ap (λ l. follows_last l (o v)) (sym (c.loop.invariant.last der)) ∙ ap (follows_last (octets_at c.loop.last)) (sym (c.in_ok-value.ensures.octets (still der))) in
+    let len = c.remaining_len-len.result.value in
+    let more = last_more (λ v. o (g.T.Shaped.plain v)) c.loop.values.items c.in_ok-value.value in
+    let total = λ (der : IsDer old). set_on g.T.Shaped.plain o each len c.loop.counter now.rest after.rest c.loop.values.items c.in_ok-value.value (read_rising o each None len old.rest) c.loop-test.true some
+    (ap (λ m. read g.T.Shaped.shape m now.rest) (sym room) ∙ c.in_ok-value.ensures.reads.0 (still der)) (judged der ∙ c.in_ok-check_follows.ensures) (c.loop.invariant.total der) in
+    rw c.in_ok-push.ensures.items (record { same = frame; last = λ der. ap Some (c.in_ok-value.ensures.octets (still der)) ∙ sym more; total = total })
+
+pub returns-then-is_finished-2 : goal.returns-then-is_finished-2
+returns-then-is_finished-2 g c =
+    let state = g.R.Reader.state in
+    let old = state c.args.reader.now in
+    let now = state c.loop.reader in
+    let each = read g.T.Shaped.shape old.room in
+    let o = octets_of g.T.Shaped.shape in
+    let none : now.rest ≡ [] = c.is_finished-2.ensures.0 c.if-is_finished-2.true in
+    let total = λ (der : IsDer old). c.loop.invariant.total der ∙ ap (λ n. read_rising o each None n old.rest) c.remaining_len-len.ensures in (
+      λ der. set_done g.T.Shaped.plain o each (last_octets (λ v. o (g.T.Shaped.plain v)) c.loop.values.items) (c.remaining_len-len.result.value - c.loop.counter) now.rest c.loop.values.items _ none (total der),
+      c.loop.invariant.same,
+      sym c.is_failed.ensures ∙ c.if-is_failed.false,
+    )
+
+pub returns-else-is_finished-2 : goal.returns-else-is_finished-2
+returns-else-is_finished-2 g c =
+    let state = g.R.Reader.state in
+    let old = state c.args.reader.now in
+    let now = state c.loop.reader in
+    let each = read g.T.Shaped.shape old.room in
+    let o = octets_of g.T.Shaped.shape in
+    let some : now.rest ≢ [] = λ e. absurd (cc (c.is_finished-2.ensures.1 e, c.if-is_finished-2.false)) in
+    let past : c.remaining_len-len.result.value ≤ c.loop.counter = elim c.loop-test.branch [
+      | else-loop-test w ↦ w.loop-test.false
+      | then-loop-test+then-is_finished w ↦ absurd (some (w.is_finished.ensures.0 w.if-is_finished.true))
+    ] in
+    let total = λ (der : IsDer old). c.loop.invariant.total der ∙ ap (λ n. read_rising o each None n old.rest) c.remaining_len-len.ensures in
+    rw c.from-else-is_finished-2.ensures (
+      λ der _ _. set_over g.T.Shaped.plain o each (last_octets (λ v. o (g.T.Shaped.plain v)) c.loop.values.items) c.remaining_len-len.result.value c.loop.counter now.rest c.loop.values.items _ past some (total der),
+      moved_kept old now c.loop.invariant.same,
+      λ failed. absurd (cc (failed, c.is_failed.ensures, c.if-is_failed.false)),
+    )

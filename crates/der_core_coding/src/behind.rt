@@ -1,0 +1,31 @@
+//! An octet before octets.
+
+ghost use Rattle.std.specs.Prelude.{◌≡◌, ◌+◌, ◌∷◌};
+ghost use Rattle.der_core_head.specs.Reading.{GivesNow};
+ghost use Rattle.der_core_head.specs.Writing.{Writes, put, fit_len};
+ghost use Rattle.der_core_octets.specs.Outputs.{Continues};
+
+use der_core_head::{Error, Length};
+use der_core_octets::{Writer, sum_len};
+
+/// So many octets and one more.
+///
+/// # Errors
+/// `Overflow` from 2^32 on.
+pub fn len_behind(octets: Length) -> Result<Length, Error>
+    ensures { GivesNow (λ l. l.value) result (fit_len (octets.value + 1)) }
+{
+    sum_len(octets, Length { value: 1 })
+}
+
+/// Writes an octet, and then octets.
+///
+/// # Errors
+/// Those of the writer.
+pub fn encode_behind<W: Writer>(writer: &mut W, first: u8, octets: &[u8]) -> Result<(), Error>
+    ensures exact { Writes (W.out writer.old) (W.out writer.new) result (put (first ∷ octets.now)) }
+    ensures kept { Continues (W.out writer.old) (W.out writer.new) }
+{
+    writer.write_byte(first)?;
+    writer.write(octets)
+}

@@ -1,0 +1,91 @@
+//! Defaults.
+
+ghost use Rattle.std.specs.Prelude.{◌≡◌, List, ℕ, [], ◌∷◌, Ok, bytes_eq};
+ghost use Rattle.der_core_head.specs.Shapes.{defaulted, octets_of};
+ghost use Rattle.der_core_head.specs.Grammar.{read};
+
+use der_core_head::{Error, ErrorKind, Length};
+use der_core_octets::{Reader, Writer};
+use der_core_values::{Choice, Decode, Encode, Shaped};
+use std::alloc::Global;
+
+/// A type with a value that is never written (X.690 11.5).
+pub trait DefaultValue: Shaped {
+    ghost default_octets: { List ℕ };
+
+    /// That value.
+    fn default_value() -> Self
+        ensures { read Self.shape 64 default_octets ≡ Ok (Self.plain result, []) };
+
+    /// Whether a value is that one.
+    fn is_default(&self) -> bool
+        ensures { result ≡ bytes_eq (octets_of Self.shape (Self.plain self.now)) default_octets };
+}
+
+/// False.
+impl DefaultValue for bool {
+    ghost default_octets = { 1 ∷ 1 ∷ 0 ∷ [] };
+
+    #[tactic(auto, unfolding(der_core_head::specs::Grammar::tlv_at, der_core_head::specs::Heads::head_at, der_core_head::specs::Tags::tag_at, der_core_head::specs::Tags::universal_tag, der_core_head::specs::Heads::length_at, der_core_head::specs::Grammar::value_at))]
+    fn default_value() -> bool {
+        false
+    }
+
+    #[tactic(auto, unfolding(der_core_head::specs::Shapes::octets_of, der_core_head::specs::Heads::tlv, der_core_head::specs::Heads::head_octets, der_core_head::specs::Heads::length_octets, der_core_head::specs::Tags::tag_octets))]
+    fn is_default(&self) -> bool {
+        !*self
+    }
+}
+
+/// A value that is absent where it is the default.
+#[derive(Debug, Drop)]
+pub struct WithDefault<T> {
+    pub value: T,
+}
+
+impl<T: DefaultValue> Shaped for WithDefault<T> {
+    ghost shape = { defaulted T.shape T.default_octets };
+
+    ghost plain = { λ x. T.plain x.value };
+}
+
+impl<'a, R: Reader<'a>, T: Decode<'a, R> + Choice + DefaultValue> Decode<'a, R> for WithDefault<T> {
+    #[tactic(auto, unfolding(der_core_head::specs::Grammar::default_at))]
+    fn decode(alloc: Global, reader: &mut R) -> Result<WithDefault<T>, Error> {
+        let Some(tag) = reader.peek_tag_or_end()? else {
+            return Ok(WithDefault {
+                value: T::default_value(),
+            });
+        };
+        if !T::can_decode(tag) {
+            return Ok(WithDefault {
+                value: T::default_value(),
+            });
+        }
+        let value = T::decode(alloc, reader)?;
+        if value.is_default() {
+            return Err(Error::from(ErrorKind::Noncanonical { tag }));
+        }
+        Ok(WithDefault { value })
+    }
+}
+
+impl<T: Encode + DefaultValue> Encode for WithDefault<T> {
+    #[tactic(auto, unfolding(der_core_head::specs::Writing::default_len))]
+    fn encoded_len(&self) -> Result<Length, Error> {
+        if self.value.is_default() {
+            Ok(Length { value: 0 })
+        } else {
+            self.value.encoded_len()
+        }
+    }
+
+    #[tactic(auto, unfolding(der_core_head::specs::Writing::default_write))]
+    fn encode<W: Writer>(&self, writer: &mut W) -> Result<(), Error> {
+        if self.value.is_default() {
+            Ok(())
+        } else {
+            self.value.encode(writer)
+        }
+    }
+}

@@ -1,0 +1,34 @@
+//! Readers and writers of slices, whole encodings, and types around values: tags known when they are
+//! read or written, defaults, fields in a row, and sets in order.
+#![tactic(auto)]
+
+mod behind;
+mod encode;
+mod kinds;
+mod nothing;
+pub mod reading;
+mod set_of;
+mod slice_reader;
+mod slice_writer;
+mod sliced;
+mod slices;
+mod tagged;
+mod tagging;
+mod tuples;
+mod whole;
+mod wrappers;
+
+pub use behind::{encode_behind, len_behind};
+pub use der_core_values as values;
+pub use encode::to_der;
+pub use kinds::{DefaultValue, WithDefault};
+pub use set_of::{SetOf, read_rising};
+pub use slice_reader::SliceReader;
+pub use slice_writer::SliceWriter;
+pub use sliced::decode_sliced;
+pub use slices::{encode_to_slice, encode_to_vec, encode_value_to_slice, value_header};
+pub use tagged::{EncodeValueRef, IsConstructed, Tagged};
+pub use tagging::{encode_explicit, encode_implicit};
+pub use tuples::{EncodeFields, EncodeRef};
+pub use whole::{from_ber, from_der, from_der_partial};
+pub use wrappers::{Explicit, Implicit};

@@ -1,0 +1,165 @@
+//! Calls on a reader by the type of what is read.
+
+ghost use Rattle.std.specs.Prelude.{◌≡◌, OnErr, true};
+ghost use Rattle.der_core_head.specs.declared.tag_mode.TagMode.TheVariants as modes;
+ghost use Rattle.der_core_head.specs.Tags.{context, implicit_tag};
+ghost use Rattle.der_core_head.specs.Shapes.{nested, only, optional, tagged};
+ghost use Rattle.der_core_head.specs.Grammar.{read, read_content, value_at, plain_option};
+ghost use Rattle.der_core_head.specs.Reading.{Reads};
+
+use der_core_head::{
+    Error, ErrorKind, Header, Tag, TagMode, TagNumber, is_constructed, is_same_tag,
+};
+use der_core_octets::Reader;
+use der_core_values::{Decode, DecodeValue, FixedTag};
+use std::alloc::Global;
+
+/// The value that stands next. After a refusal the reader has failed.
+///
+/// # Errors
+/// The first fault from the left, or `OutOfMemory`; `Failed` where the reader failed before.
+pub fn decode<'a, R: Reader<'a>, T: Decode<'a, R>>(
+    alloc: Global,
+    reader: &mut R,
+) -> Result<T, Error>
+    ensures reads { Reads T.plain (R.state reader.old) (R.state reader.new) result (read T.shape (R.state reader.old).room) }
+    ensures refused { OnErr result ((R.state reader.new).failed ≡ true) }
+{
+    match T::decode(alloc, reader) {
+        Ok(value) => Ok(value),
+        Err(error) => {
+            reader.fail();
+            Err(error)
+        }
+    }
+}
+
+/// The value in a content that is its encoding, all of the octets.
+fn read_only<'a, R: Reader<'a>, T: Decode<'a, R>>(
+    alloc: Global,
+    reader: &mut R,
+    header: Header,
+) -> Result<T, Error>
+    ensures { Reads T.plain (R.state reader.old) (R.state reader.new) result (value_at (read_content (nested (only T.shape)) header.tag (R.state reader.old).room) header.length.value) }
+{
+    let behind = reader.begin_nested(header.length)?;
+    let outcome = T::decode(alloc, reader);
+    reader.end_nested(behind, outcome.is_err())?;
+    outcome
+}
+
+/// The value behind a tag in front of its own (X.690 8.14.2).
+///
+/// # Errors
+/// `TagUnexpected` behind another tag; else the first fault from the left, or `OutOfMemory`; `Failed`
+/// where the reader failed before.
+#[tactic(auto, unfolding(der_core_head::specs::Grammar::tlv_at))]
+pub fn read_explicit<'a, R: Reader<'a>, T: Decode<'a, R>>(
+    alloc: Global,
+    reader: &mut R,
+    tag: Tag,
+) -> Result<T, Error>
+    ensures { Reads T.plain (R.state reader.old) (R.state reader.new) result (read (tagged tag (nested (only T.shape))) (R.state reader.old).room) }
+{
+    let header = reader.read_header()?;
+    if !is_same_tag(header.tag, tag) {
+        return Err(Error::from(ErrorKind::TagUnexpected));
+    }
+    read_only(alloc, reader, header)
+}
+
+/// The value behind a tag in place of its own.
+#[tactic(auto, unfolding(der_core_head::specs::Grammar::tlv_at))]
+fn read_implicit<'a, R: Reader<'a>, T: DecodeValue<'a, R>>(
+    alloc: Global,
+    reader: &mut R,
+    tag: Tag,
+) -> Result<T, Error>
+    ensures { Reads T.value_plain (R.state reader.old) (R.state reader.new) result (read (tagged tag T.content) (R.state reader.old).room) }
+{
+    let header = reader.read_header()?;
+    if !is_same_tag(header.tag, tag) {
+        return Err(Error::from(ErrorKind::TagUnexpected));
+    }
+    T::decode_value(alloc, reader, header)
+}
+
+/// The value behind a tag in front of its own, if that tag stands next (X.690 8.14.2).
+///
+/// # Errors
+/// The first fault from the left, or `OutOfMemory`; `Failed` where the reader failed before.
+#[tactic(auto, unfolding(der_core_head::specs::Grammar::opt_at))]
+pub fn optional_explicit<'a, R: Reader<'a>, T: Decode<'a, R>>(
+    alloc: Global,
+    reader: &mut R,
+    tag: Tag,
+) -> Result<Option<T>, Error>
+    ensures { Reads (plain_option T.plain) (R.state reader.old) (R.state reader.new) result (read (optional (tagged tag (nested (only T.shape)))) (R.state reader.old).room) }
+{
+    let Some(first) = reader.peek_tag_or_end()? else {
+        return Ok(None);
+    };
+    if is_same_tag(tag, first) {
+        Ok(Some(read_explicit(alloc, reader, tag)?))
+    } else {
+        Ok(None)
+    }
+}
+
+/// The value behind a tag in place of its own, if that tag stands next (X.690 8.14.3).
+///
+/// # Errors
+/// The first fault from the left, or `OutOfMemory`; `Failed` where the reader failed before.
+#[tactic(auto, unfolding(der_core_head::specs::Grammar::opt_at))]
+pub fn optional_implicit<'a, R: Reader<'a>, T: DecodeValue<'a, R>>(
+    alloc: Global,
+    reader: &mut R,
+    tag: Tag,
+) -> Result<Option<T>, Error>
+    ensures { Reads (plain_option T.value_plain) (R.state reader.old) (R.state reader.new) result (read (optional (tagged tag T.content)) (R.state reader.old).room) }
+{
+    let Some(first) = reader.peek_tag_or_end()? else {
+        return Ok(None);
+    };
+    if is_same_tag(tag, first) {
+        Ok(Some(read_implicit(alloc, reader, tag)?))
+    } else {
+        Ok(None)
+    }
+}
+
+/// The value behind a context-specific tag of that number, if that tag stands next (X.690 8.14).
+///
+/// # Errors
+/// The first fault from the left, or `OutOfMemory`; `Failed` where the reader failed before.
+pub fn context_specific<'a, R: Reader<'a>, T: DecodeValue<'a, R> + FixedTag>(
+    alloc: Global,
+    reader: &mut R,
+    tag_number: TagNumber,
+    tag_mode: TagMode,
+) -> Result<Option<T>, Error>
+    ensures explicit { tag_mode ≡ modes.Explicit → Reads (plain_option T.value_plain) (R.state reader.old) (R.state reader.new) result
+        (read (optional (tagged (context true tag_number.value) (nested (only (tagged T.fixed_tag T.content))))) (R.state reader.old).room) }
+    ensures implicit { tag_mode ≡ modes.Implicit → Reads (plain_option T.value_plain) (R.state reader.old) (R.state reader.new) result
+        (read (optional (tagged (implicit_tag tag_number.value T.fixed_tag) T.content)) (R.state reader.old).room) }
+{
+    let number = tag_number;
+    match tag_mode {
+        TagMode::Explicit => {
+            let constructed = true;
+            let tag = Tag::ContextSpecific {
+                constructed,
+                number,
+            };
+            optional_explicit(alloc, reader, tag)
+        }
+        TagMode::Implicit => {
+            let constructed = is_constructed(T::tag());
+            let tag = Tag::ContextSpecific {
+                constructed,
+                number,
+            };
+            optional_implicit(alloc, reader, tag)
+        }
+    }
+}

@@ -1,0 +1,178 @@
+//! The reader of a slice.
+
+ghost use Rattle.std.specs.Prelude.{◌≡◌, ◌≤◌, ◌<◌, ◌^◌, length, [], false, IfOk, IfErr, IsSomeAnd, ⊤};
+ghost use Rattle.der_core_head.specs.declared.encoding_rules.EncodingRules.TheVariants.{Der};
+ghost use Rattle.der_core_head.specs.Reading.{State, unread, broken};
+ghost use Rattle.der_core_octets.specs.Places.{IsAt};
+
+use der_core_head::{EncodingRules, Error, ErrorKind, Length};
+use der_core_octets::Reader;
+use std::alloc::AllocError;
+use std::marker::Model;
+
+/// The reader of a slice, of at most `Length::MAX` octets.
+#[derive(Drop)]
+pub struct SliceReader<'a> {
+    bytes: &'a [u8],
+    encoding: EncodingRules,
+    position: usize,
+    end: usize,
+    depth: usize,
+    failed: bool,
+}
+
+impl<'a> Model for SliceReader<'a> {
+    ghost use Rattle.der_core_head.specs.Reading.{State};
+
+    ghost Value = { State };
+
+    ghost use Rattle.der_core_coding.specs.Slices.{view_of, IsReader};
+
+    ghost view = { view_of };
+
+    ghost invariant = { IsReader };
+}
+
+impl<'a> SliceReader<'a> {
+    /// A reader of all the octets, by DER.
+    ///
+    /// # Errors
+    /// `Overflow` for 2^32 octets or more.
+    pub fn new(bytes: &'a [u8]) -> Result<SliceReader<'a>, Error>
+        ensures ok { IfOk result (λ r. (length bytes.now < 2 ^ 32) × (r ≡ unread Der bytes.now)) }
+        ensures err { IfErr result (λ e. (2 ^ 32 ≤ length bytes.now) × (e.kind ≡ ErrorKind.Overflow)) }
+    {
+        let reader = SliceReader::new_with_encoding_rules(bytes, EncodingRules::Der)?;
+        Ok(reader)
+    }
+
+    /// A reader of all the octets, by those rules.
+    ///
+    /// # Errors
+    /// `Overflow` for 2^32 octets or more.
+    pub fn new_with_encoding_rules(
+        bytes: &'a [u8],
+        encoding_rules: EncodingRules,
+    ) -> Result<SliceReader<'a>, Error>
+        ensures ok { IfOk result (λ r. (length bytes.now < 2 ^ 32) × (r ≡ unread encoding_rules bytes.now)) }
+        ensures err { IfErr result (λ e. (2 ^ 32 ≤ length bytes.now) × (e.kind ≡ ErrorKind.Overflow)) }
+    {
+        if bytes.len() > 0xffff_ffff {
+            return Err(Error::from(ErrorKind::Overflow));
+        }
+        Ok(SliceReader {
+            bytes,
+            encoding: encoding_rules,
+            position: 0,
+            end: bytes.len(),
+            depth: 0,
+            failed: false,
+        })
+    }
+
+    /// An error at the place of the reader, which has failed from then on.
+    pub fn error(&mut self, kind: ErrorKind) -> Error
+        ensures kind { result.kind ≡ kind }
+        ensures place { IsSomeAnd result.position (λ p. IsAt p.value self.old) }
+        ensures failed { self.new ≡ broken self.old }
+    {
+        self.failed = true;
+        Error {
+            kind,
+            position: Some(Length {
+                value: self.position as u32,
+            }),
+        }
+    }
+}
+
+/// Another reader at the same place, which takes no memory.
+impl<'a> Clone for SliceReader<'a> {
+    ghost is_clone = { λ x y. y ≡ x };
+
+    ghost is_infallible = { λ _. ⊤ };
+
+    fn clone(&self) -> Result<SliceReader<'a>, AllocError> {
+        Ok(SliceReader {
+            bytes: self.bytes,
+            encoding: self.encoding,
+            position: self.position,
+            end: self.end,
+            depth: self.depth,
+            failed: self.failed,
+        })
+    }
+}
+
+impl<'r> Reader<'r> for SliceReader<'r> {
+    ghost state = { λ s. s };
+
+    fn encoding_rules(&self) -> EncodingRules {
+        self.encoding
+    }
+
+    fn input_len(&self) -> Length {
+        Length {
+            value: self.bytes.len() as u32,
+        }
+    }
+
+    fn position(&self) -> Length {
+        Length {
+            value: self.position as u32,
+        }
+    }
+
+    fn is_failed(&self) -> bool {
+        self.failed
+    }
+
+    fn remaining(&self) -> &'r [u8] {
+        &self.bytes[self.position..self.end]
+    }
+
+    fn skip(&mut self, len: usize) {
+        self.position += len;
+    }
+
+    fn fail(&mut self) {
+        self.failed = true;
+    }
+
+    fn begin_nested(&mut self, len: Length) -> Result<Length, Error> {
+        if self.failed {
+            return Err(Error::from(ErrorKind::Failed));
+        }
+        let len = len.value as usize;
+        let left = self.end - self.position;
+        if left < len {
+            self.failed = true;
+            return Err(Error::from(ErrorKind::Incomplete));
+        }
+        if self.depth == 64 {
+            self.failed = true;
+            return Err(Error::from(ErrorKind::NestingDepth));
+        }
+        let behind = left - len;
+        self.end -= behind;
+        self.depth += 1;
+        Ok(Length {
+            value: behind as u32,
+        })
+    }
+
+    fn end_nested(&mut self, behind: Length, failed: bool) -> Result<(), Error> {
+        let finished = self.position == self.end;
+        self.end += behind.value as usize;
+        self.depth -= 1;
+        if failed {
+            self.failed = true;
+            return Ok(());
+        }
+        if !finished {
+            self.failed = true;
+            return Err(Error::from(ErrorKind::TrailingData));
+        }
+        Ok(())
+    }
+}

@@ -1,0 +1,218 @@
+//! The writer to a slice.
+
+ghost use Rattle.std.specs.Prelude.{◌≡◌, ◌≤◌, ◌<◌, ◌^◌, ◌-◌, take, length, [], Some, IfOk, IfErr, IsSomeAnd, IsNone, IsErrAnd, OnOk, OnErr, true, false};
+ghost use Rattle.der_core_head.specs.declared.tag_mode.TagMode.TheVariants as modes;
+ghost use Rattle.der_core_head.specs.Tags.{context, implicit_tag};
+ghost use Rattle.der_core_head.specs.Shapes.{nested, only, tagged};
+ghost use Rattle.der_core_head.specs.Writing.{Writes, write};
+ghost use Rattle.der_core_octets.specs.Outputs.{Continues, Encloses};
+ghost use Rattle.der_core_coding.specs.Sequences.{RefusesEnclosed};
+
+use crate::tagging::{encode_explicit, encode_implicit};
+use der_core_head::{Error, ErrorKind, Length, Tag, TagMode, TagNumber};
+use der_core_octets::{Writer, encode_header};
+use der_core_values::{Encode, EncodeValue, FixedTag};
+
+/// The writer to a slice. After a write for which there was no room it has failed.
+#[derive(Drop)]
+pub struct SliceWriter<'a> {
+    bytes: &'a mut [u8],
+    position: usize,
+    failed: bool,
+    ghost inside: { position ≤ length bytes.now },
+}
+
+impl<'a> SliceWriter<'a> {
+    /// A writer to the whole slice.
+    pub fn new(bytes: &'a mut [u8]) -> SliceWriter<'a>
+        ensures { ⟦<SliceWriter<'static> as Writer>⟧.out result ≡ record { written = []; room = Some (length bytes.entry.now); failed = false } }
+    {
+        SliceWriter {
+            bytes,
+            position: 0,
+            failed: false,
+        }
+    }
+
+    /// Whether a write was refused.
+    pub fn is_failed(&self) -> bool
+        ensures { result ≡ (⟦<SliceWriter<'static> as Writer>⟧.out self.now).failed }
+    {
+        self.failed
+    }
+
+    /// The octets that were written.
+    ///
+    /// # Errors
+    /// `Failed` where a write was refused.
+    pub fn finish(self) -> Result<&'a [u8], Error>
+        ensures ok { IfOk result (λ octets. (octets.now ≡ (⟦<SliceWriter<'static> as Writer>⟧.out self.entry).written) × ((⟦<SliceWriter<'static> as Writer>⟧.out self.entry).failed ≡ false)) }
+        ensures failed { IfErr result (λ e. ((⟦<SliceWriter<'static> as Writer>⟧.out self.entry).failed ≡ true) × (e.kind ≡ ErrorKind.Failed)) }
+    {
+        if self.failed {
+            return Err(Error::from(ErrorKind::Failed));
+        }
+        let len = self.position;
+        let bytes = self.bytes;
+        Ok(&bytes[..len])
+    }
+}
+
+impl<'a> SliceWriter<'a> {
+    /// An error at the place of the writer, which has failed from then on. A place from 2^32 on is
+    /// left out.
+    ///
+    /// # Errors
+    /// Always that error.
+    pub fn error<T>(&mut self, kind: ErrorKind) -> Result<T, Error>
+        ensures kind { IsErrAnd result (λ e. e.kind ≡ kind) }
+        ensures place { length (⟦<SliceWriter<'static> as Writer>⟧.out self.old).written < 2 ^ 32
+            → IfErr result (λ e. IsSomeAnd e.position (λ p. p.value ≡ length (⟦<SliceWriter<'static> as Writer>⟧.out self.old).written)) }
+        ensures far { 2 ^ 32 ≤ length (⟦<SliceWriter<'static> as Writer>⟧.out self.old).written → IfErr result (λ e. IsNone e.position) }
+        ensures failed { ⟦<SliceWriter<'static> as Writer>⟧.out self.new ≡ record (⟦<SliceWriter<'static> as Writer>⟧.out self.old) { failed = true } }
+    {
+        self.failed = true;
+        let position = match u32::try_from(self.position) {
+            Ok(value) => Some(Length { value }),
+            Err(_) => None,
+        };
+        Err(Error { kind, position })
+    }
+
+    /// Writes a value. After a refusal the writer has failed.
+    ///
+    /// # Errors
+    /// `Failed` where the writer failed before, `Overlength` where there is no room, `Overflow`
+    /// where a length passes 2^32 - 1.
+    pub fn encode<T: Encode>(&mut self, value: &T) -> Result<(), Error>
+        ensures writes { (⟦<SliceWriter<'static> as Writer>⟧.out self.old).failed ≡ false
+            → Writes (⟦<SliceWriter<'static> as Writer>⟧.out self.old) (⟦<SliceWriter<'static> as Writer>⟧.out self.new) result (write T.shape (T.plain value.now)) }
+        ensures failed { (⟦<SliceWriter<'static> as Writer>⟧.out self.old).failed ≡ true → IsErrAnd result (λ e. e.kind ≡ ErrorKind.Failed) }
+        ensures refused { OnErr result ((⟦<SliceWriter<'static> as Writer>⟧.out self.new).failed ≡ true) }
+        ensures kept { Continues (⟦<SliceWriter<'static> as Writer>⟧.out self.old) (⟦<SliceWriter<'static> as Writer>⟧.out self.new) }
+    {
+        if self.failed {
+            return Err(Error::from(ErrorKind::Failed));
+        }
+        match value.encode(self) {
+            Ok(()) => Ok(()),
+            Err(error) => {
+                self.failed = true;
+                Err(error)
+            }
+        }
+    }
+}
+
+impl<'a> SliceWriter<'a> {
+    /// Writes a value behind a context-specific tag, in front of its own or in its place
+    /// (X.690 8.14). After a refusal the writer has failed.
+    ///
+    /// # Errors
+    /// `Failed` where the writer failed before, `Overlength` where there is no room, `Overflow`
+    /// where a length passes 2^32 - 1.
+    pub fn context_specific<T: EncodeValue + FixedTag>(
+        &mut self,
+        tag_number: TagNumber,
+        tag_mode: TagMode,
+        value: &T,
+    ) -> Result<(), Error>
+        ensures explicit { tag_mode ≡ modes.Explicit → (⟦<SliceWriter<'static> as Writer>⟧.out self.old).failed ≡ false
+            → Writes (⟦<SliceWriter<'static> as Writer>⟧.out self.old) (⟦<SliceWriter<'static> as Writer>⟧.out self.new) result
+            (write (tagged (context true tag_number.value) (nested (only (tagged T.fixed_tag T.content)))) (T.value_plain value.now)) }
+        ensures implicit { tag_mode ≡ modes.Implicit → (⟦<SliceWriter<'static> as Writer>⟧.out self.old).failed ≡ false
+            → Writes (⟦<SliceWriter<'static> as Writer>⟧.out self.old) (⟦<SliceWriter<'static> as Writer>⟧.out self.new) result
+            (write (tagged (implicit_tag tag_number.value T.fixed_tag) T.content) (T.value_plain value.now)) }
+        ensures failed { (⟦<SliceWriter<'static> as Writer>⟧.out self.old).failed ≡ true → IsErrAnd result (λ e. e.kind ≡ ErrorKind.Failed) }
+        ensures refused { OnErr result ((⟦<SliceWriter<'static> as Writer>⟧.out self.new).failed ≡ true) }
+        ensures kept { Continues (⟦<SliceWriter<'static> as Writer>⟧.out self.old) (⟦<SliceWriter<'static> as Writer>⟧.out self.new) }
+    {
+        if self.failed {
+            return Err(Error::from(ErrorKind::Failed));
+        }
+        let outcome = match tag_mode {
+            TagMode::Explicit => encode_explicit(self, tag_number, value),
+            TagMode::Implicit => encode_implicit(self, tag_number, value),
+        };
+        match outcome {
+            Ok(()) => Ok(()),
+            Err(error) => {
+                self.failed = true;
+                Err(error)
+            }
+        }
+    }
+
+    /// Writes the header of a SEQUENCE of so many octets, and calls `f` to write these. After a
+    /// refusal the writer has failed.
+    ///
+    /// # Errors
+    /// `Failed` where the writer failed before, `Overlength` where there is no room for the header,
+    /// what `f` answers, `Length` where it wrote another number of octets.
+    pub fn sequence<F: FnOnce(&mut SliceWriter<'a>) -> Result<(), Error>>(
+        &mut self,
+        length: Length,
+        f: F,
+    ) -> Result<(), Error>
+        requires { F.IsAlwaysCallable f }
+        // The closure was called behind the header, and wrote that many octets.
+        ensures ok { OnOk result (Encloses ⟦<SliceWriter<'static> as Writer>⟧.out F.FnOnce f length.value (⟦<SliceWriter<'static> as Writer>⟧.out self.old) (⟦<SliceWriter<'static> as Writer>⟧.out self.new)) }
+        // Which fault it is: of the header, of the closure, or another number of octets.
+        ensures fault { IfErr result (λ e. (⟦<SliceWriter<'static> as Writer>⟧.out self.old).failed ≡ false
+            → RefusesEnclosed ⟦<SliceWriter<'static> as Writer>⟧.out F.FnOnce f length.value (⟦<SliceWriter<'static> as Writer>⟧.out self.old) e) }
+        ensures failed { (⟦<SliceWriter<'static> as Writer>⟧.out self.old).failed ≡ true → IsErrAnd result (λ e. e.kind ≡ ErrorKind.Failed) }
+        ensures refused { OnErr result ((⟦<SliceWriter<'static> as Writer>⟧.out self.new).failed ≡ true) }
+    {
+        if self.failed {
+            return Err(Error::from(ErrorKind::Failed));
+        }
+        match self.sequence_of(length, f) {
+            Ok(()) => Ok(()),
+            Err(error) => {
+                self.failed = true;
+                Err(error)
+            }
+        }
+    }
+
+    /// Writes the header of a SEQUENCE of so many octets, and calls `f` to write these.
+    fn sequence_of<F: FnOnce(&mut SliceWriter<'a>) -> Result<(), Error>>(
+        &mut self,
+        length: Length,
+        f: F,
+    ) -> Result<(), Error>
+        requires { F.IsAlwaysCallable f }
+        ensures ok { OnOk result (Encloses ⟦<SliceWriter<'static> as Writer>⟧.out F.FnOnce f length.value (⟦<SliceWriter<'static> as Writer>⟧.out self.old) (⟦<SliceWriter<'static> as Writer>⟧.out self.new)) }
+        ensures fault { IfErr result (λ e. RefusesEnclosed ⟦<SliceWriter<'static> as Writer>⟧.out F.FnOnce f length.value (⟦<SliceWriter<'static> as Writer>⟧.out self.old) e) }
+    {
+        let tag = Tag::Sequence;
+        encode_header(self, tag, length)?;
+        let start = self.position;
+        f(self)?;
+        let len = length.value as usize;
+        if self.position < start || self.position - start != len {
+            return Err(Error::from(ErrorKind::Length { tag }));
+        }
+        Ok(())
+    }
+}
+
+impl<'a> Writer for SliceWriter<'a> {
+    ghost out = { λ w. record { written = take w.position w.bytes.now; room = Some (length w.bytes.now - w.position); failed = w.failed } };
+
+    #[tactic(auto, unfolding(der_core_head::specs::Writing::put))]
+    fn write(&mut self, octets: &[u8]) -> Result<(), Error> {
+        if self.failed {
+            return Err(Error::from(ErrorKind::Failed));
+        }
+        let len = octets.len();
+        if self.bytes.len() - self.position < len {
+            self.failed = true;
+            return Err(Error::from(ErrorKind::Overlength));
+        }
+        let start = self.position;
+        self.bytes[start..start + len].copy_from_slice(octets);
+        self.position = start + len;
+        Ok(())
+    }
+}

@@ -1,0 +1,29 @@
+//! Values beside the octets that they were read from.
+
+ghost use Rattle.std.specs.Prelude.{◌≡◌, IfOk};
+ghost use Rattle.der_core_head.specs.Shapes.{octets_of};
+ghost use Rattle.der_core_head.specs.Grammar.{read};
+ghost use Rattle.der_core_head.specs.Reading.{Reads, IsDer};
+
+use der_core_head::Error;
+use der_core_octets::Reader;
+use der_core_values::{Decode, Member};
+use std::alloc::Global;
+
+/// The value that stands next, and its octets as they stand, which where DER rules are those that
+/// spell it.
+///
+/// # Errors
+/// The first fault from the left, or `OutOfMemory`; `Failed` where the reader failed before.
+pub fn decode_sliced<'a, R: Reader<'a>, T: Decode<'a, R> + Member>(
+    alloc: Global,
+    reader: &mut R,
+) -> Result<(T, &'a [u8]), Error>
+    ensures reads { Reads (λ x. T.plain x.0) (R.state reader.old) (R.state reader.new) result (read T.shape (R.state reader.old).room) }
+    ensures octets { IsDer (R.state reader.old) → IfOk result (λ x. x.1.now ≡ octets_of T.shape (T.plain x.0)) }
+{
+    let before = reader.remaining();
+    let value = T::decode(alloc, reader)?;
+    let octets = &before[..before.len().saturating_sub(reader.remaining().len())];
+    Ok((value, octets))
+}

@@ -1,0 +1,92 @@
+//! Encodings in slices, and behind other octets.
+
+ghost use Rattle.std.specs.Prelude.{◌≡◌, ◌≤◌, ◌++◌, length, take, Ok, IfOk, IfErr};
+ghost use Rattle.der_core_head.specs.Shapes.{IsValid, octets_of};
+ghost use Rattle.der_core_head.specs.Reading.{Fails, Gives, GivesNow};
+ghost use Rattle.der_core_head.specs.Writing.{write, size_content, write_content};
+ghost use Rattle.der_core_octets.specs.Outputs.{appended, filled};
+
+use crate::slice_writer::SliceWriter;
+use crate::tagged::Tagged;
+use der_core_head::{Error, Header, Length};
+use der_core_values::{Encode, EncodeValue};
+
+/// The header of a value: its tag, and the number of octets of its content.
+///
+/// # Errors
+/// `Overflow` from 2^32 octets on.
+pub fn value_header<T: EncodeValue + Tagged>(value: &T) -> Result<Header, Error>
+    ensures length { GivesNow (λ header. header.length.value) result (size_content T.content (T.value_plain value.now)) }
+    ensures tag { IfOk result (λ header. header.tag ≡ T.own_tag value.now) }
+{
+    let length = value.value_len()?;
+    Ok(Header::new(value.tag(), length))
+}
+
+/// Writes a value to the front of a slice, and lends what was written.
+///
+/// # Errors
+/// `Overlength` where the slice is too short, `Overflow` where a length passes 2^32 - 1.
+pub fn encode_to_slice<'a, T: Encode>(value: &T, bytes: &'a mut [u8]) -> Result<&'a [u8], Error>
+    // A valid value is written where there is room for its encoding.
+    ensures spelled { IsValid T.shape (T.plain value.now) → length (octets_of T.shape (T.plain value.now)) ≤ length bytes.entry.now
+        → Gives (λ octets. octets.now) result (Ok (octets_of T.shape (T.plain value.now))) }
+    // Which fault it is.
+    ensures exact { Gives (λ octets. octets.now) result (filled (write T.shape (T.plain value.now)) (length bytes.entry.now)) }
+{
+    fill(value, bytes)
+}
+
+/// Writes a value to the front of a slice.
+fn fill<'a, T: Encode>(value: &T, bytes: &'a mut [u8]) -> Result<&'a [u8], Error>
+    ensures { Gives (λ octets. octets.now) result (filled (write T.shape (T.plain value.now)) (length bytes.entry.now)) }
+{
+    let mut writer = SliceWriter::new(bytes);
+    value.encode(&mut writer)?;
+    writer.finish()
+}
+
+/// Writes the content of a value to the front of a slice, and lends what was written.
+///
+/// # Errors
+/// `Overlength` where the slice is too short, `Overflow` where a length passes 2^32 - 1.
+pub fn encode_value_to_slice<'a, T: EncodeValue>(
+    value: &T,
+    bytes: &'a mut [u8],
+) -> Result<&'a [u8], Error>
+    ensures { Gives (λ octets. octets.now) result (filled (write_content T.content (T.value_plain value.now)) (length bytes.entry.now)) }
+{
+    let mut writer = SliceWriter::new(bytes);
+    value.encode_value(&mut writer)?;
+    writer.finish()
+}
+
+/// Writes a value behind the octets of a vector, and answers how many octets it has.
+///
+/// What stood there stays; after a refusal some octets of the value may stand behind it.
+///
+/// # Errors
+/// `Overflow` where a length passes 2^32 - 1, or `OutOfMemory`.
+pub fn encode_to_vec<T: Encode>(value: &T, out: &mut Vec<u8>) -> Result<Length, Error>
+    // A valid value's encoding stands behind what was there.
+    ensures spelled { IsValid T.shape (T.plain value.now) → IfOk result (λ len.
+        (out.new.items ≡ out.old.items ++ octets_of T.shape (T.plain value.now)) × (len.value ≡ length (octets_of T.shape (T.plain value.now)))) }
+    ensures exact { IfOk result (λ len. appended T.shape (T.plain value.now) out.old.items ≡ Ok (len.value, out.new.items)) }
+    ensures refused { IfErr result (λ e. Fails e.kind (appended T.shape (T.plain value.now) out.old.items)) }
+    // What stood in the vector stays in front.
+    ensures kept { take (length out.old.items) out.new.items ≡ out.old.items }
+{
+    append(value, out)
+}
+
+/// Writes a value behind the octets of a vector.
+fn append<T: Encode>(value: &T, out: &mut Vec<u8>) -> Result<Length, Error>
+    ensures exact { IfOk result (λ len. appended T.shape (T.plain value.now) out.old.items ≡ Ok (len.value, out.new.items)) }
+    ensures refused { IfErr result (λ e. Fails e.kind (appended T.shape (T.plain value.now) out.old.items)) }
+    // What stood in the vector stays in front.
+    ensures kept { take (length out.old.items) out.new.items ≡ out.old.items }
+{
+    let len = value.encoded_len()?;
+    value.encode(out)?;
+    Ok(len)
+}

@@ -1,0 +1,63 @@
+//! Values behind context-specific tags whose number is known when they are written.
+
+ghost use Rattle.std.specs.Prelude.{◌≡◌, true};
+ghost use Rattle.der_core_head.specs.Tags.{context, implicit_tag};
+ghost use Rattle.der_core_head.specs.Shapes.{nested, only, tagged};
+ghost use Rattle.der_core_head.specs.Writing.{Writes, write};
+ghost use Rattle.der_core_octets.specs.Outputs.{Continues};
+
+use der_core_head::{Error, Tag, TagNumber, is_constructed};
+use der_core_octets::{Writer, encode_header};
+use der_core_values::{Encode, EncodeValue, FixedTag};
+
+/// Writes a value behind a context-specific tag in front of its own (X.690 8.14.2).
+///
+/// # Errors
+/// `Overflow` where a length passes 2^32 - 1, and those of the writer.
+#[tactic(auto, unfolding(der_core_head::specs::Writing::write_tlv))]
+pub fn encode_explicit<W: Writer, T: Encode>(
+    writer: &mut W,
+    number: TagNumber,
+    value: &T,
+) -> Result<(), Error>
+    ensures exact { Writes (W.out writer.old) (W.out writer.new) result (write (tagged (context true number.value) (nested (only T.shape))) (T.plain value.now)) }
+    ensures kept { Continues (W.out writer.old) (W.out writer.new) }
+{
+    let constructed = true;
+    let len = value.encoded_len()?;
+    encode_header(
+        writer,
+        Tag::ContextSpecific {
+            constructed,
+            number,
+        },
+        len,
+    )?;
+    value.encode(writer)
+}
+
+/// Writes a value whose own tag is replaced by a context-specific one (X.690 8.14.3).
+///
+/// # Errors
+/// `Overflow` where a length passes 2^32 - 1, and those of the writer.
+#[tactic(auto, unfolding(der_core_head::specs::Writing::write_tlv))]
+pub fn encode_implicit<W: Writer, T: EncodeValue + FixedTag>(
+    writer: &mut W,
+    number: TagNumber,
+    value: &T,
+) -> Result<(), Error>
+    ensures exact { Writes (W.out writer.old) (W.out writer.new) result (write (tagged (implicit_tag number.value T.fixed_tag) T.content) (T.value_plain value.now)) }
+    ensures kept { Continues (W.out writer.old) (W.out writer.new) }
+{
+    let constructed = is_constructed(T::tag());
+    let len = value.value_len()?;
+    encode_header(
+        writer,
+        Tag::ContextSpecific {
+            constructed,
+            number,
+        },
+        len,
+    )?;
+    value.encode_value(writer)
+}

@@ -1,0 +1,88 @@
+//! Fields in a row: `(A, (B, (C, ())))`, and values behind references.
+
+ghost use Rattle.std.specs.Prelude.{◌≡◌};
+ghost use Rattle.der_core_head.specs.Reading.{GivesNow};
+ghost use Rattle.der_core_head.specs.Writing.{Writes, size_body, write_body};
+ghost use Rattle.der_core_octets.specs.Outputs.{Continues};
+
+use der_core_head::{Error, Length};
+use der_core_octets::{Writer, sum_len};
+use der_core_values::{Element, Encode, Fields, Member, Shaped};
+
+/// What is written as fields, one after the other.
+pub trait EncodeFields: Fields {
+    /// The number of octets of the fields.
+    ///
+    /// # Errors
+    /// `Overflow` from 2^32 on.
+    fn fields_len(&self) -> Result<Length, Error>
+        ensures { GivesNow (λ l. l.value) result (size_body Self.fields (Self.fields_plain self.now)) };
+
+    /// Writes the fields.
+    ///
+    /// # Errors
+    /// `Overflow` where a length passes 2^32 - 1, and those of the writer.
+    fn encode_fields<W: Writer>(&self, writer: &mut W) -> Result<(), Error>
+        ensures exact { Writes (W.out writer.old) (W.out writer.new) result (write_body Self.fields (Self.fields_plain self.now)) }
+        ensures kept { Continues (W.out writer.old) (W.out writer.new) };
+}
+
+impl EncodeFields for () {
+    fn fields_len(&self) -> Result<Length, Error> {
+        Ok(Length { value: 0 })
+    }
+
+    fn encode_fields<W: Writer>(&self, _writer: &mut W) -> Result<(), Error> {
+        Ok(())
+    }
+}
+
+impl<A: Encode, B: EncodeFields> EncodeFields for (A, B) {
+    #[tactic(auto, unfolding(der_core_head::specs::Writing::both_len))]
+    fn fields_len(&self) -> Result<Length, Error> {
+        let first = self.0.encoded_len()?;
+        let others = self.1.fields_len()?;
+        sum_len(first, others)
+    }
+
+    fn encode_fields<W: Writer>(&self, writer: &mut W) -> Result<(), Error> {
+        self.0.encode(writer)?;
+        self.1.encode_fields(writer)
+    }
+}
+
+/// A value behind a reference, which is written as the value.
+#[derive(Drop)]
+pub struct EncodeRef<'a, T>(pub &'a T);
+
+impl<'a, T> AsRef<T> for EncodeRef<'a, T> {
+    fn as_ref(&self) -> &T
+        ensures { result.now ≡ self.now.0.now }
+    {
+        self.0
+    }
+}
+
+impl<'a, T: Shaped> Shaped for EncodeRef<'a, T> {
+    ghost shape = { T.shape };
+
+    ghost plain = { λ r. T.plain r.0.now };
+}
+
+impl<'a, T: Encode> Encode for EncodeRef<'a, T> {
+    fn encoded_len(&self) -> Result<Length, Error> {
+        self.0.encoded_len()
+    }
+
+    fn encode<W: Writer>(&self, writer: &mut W) -> Result<(), Error> {
+        self.0.encode(writer)
+    }
+}
+
+impl<'a, T: Element> Element for EncodeRef<'a, T> {
+    ghost element = { T.element };
+}
+
+impl<'a, T: Member> Member for EncodeRef<'a, T> {
+    ghost apart = { T.apart };
+}

@@ -1,0 +1,88 @@
+//! Reading of all octets.
+
+ghost use Rattle.std.specs.Prelude.{◌≡◌, ◌≤◌, ◌^◌, length, [], true, Ok, IfOk, IsErrAnd};
+ghost use Rattle.der_core_head.specs.Shapes.{Value, Spells};
+ghost use Rattle.der_core_head.specs.Spelling.{is_apart, are_enough};
+ghost use Rattle.der_core_head.specs.Grammar.{whole_at};
+ghost use Rattle.der_core_head.specs.Reading.{Gives};
+ghost use Rattle.der_core_octets.specs.Fronts.{front_at};
+
+use crate::slice_reader::SliceReader;
+use der_core_head::{EncodingRules, Error, ErrorKind};
+use der_core_octets::Reader;
+use der_core_values::Decode;
+use std::alloc::Global;
+
+/// Reads all of the octets.
+#[tactic(auto, unfolding(der_core_head::specs::Grammar::whole_at))]
+fn read_whole<'a, T: Decode<'a, SliceReader<'a>>>(
+    alloc: Global,
+    bytes: &'a [u8],
+) -> Result<T, Error>
+    ensures { Gives (λ v. (T.plain v, [])) result (whole_at T.shape bytes.now) }
+{
+    let mut reader = SliceReader::new(bytes)?;
+    let value = T::decode(alloc, &mut reader)?;
+    if reader.is_finished() {
+        Ok(value)
+    } else {
+        Err(Error::from(ErrorKind::TrailingData))
+    }
+}
+
+/// The value that the octets spell, all of the octets.
+///
+/// # Errors
+/// `Overflow` for 2^32 octets or more, else the first fault from the left, `TrailingData` where
+/// octets are left behind the value, or `OutOfMemory`.
+pub fn from_der<'a, T: Decode<'a, SliceReader<'a>>>(
+    alloc: Global,
+    bytes: &'a [u8],
+) -> Result<T, Error>
+    // What is read is spelled so.
+    ensures spelled { is_apart T.shape ≡ true → IfOk result (λ v. Spells T.shape (T.plain v) bytes.now) }
+    // What is spelled so is read, unless memory runs out.
+    ensures only { (v : Value T.shape) → is_apart T.shape ≡ true → are_enough T.shape 64 ≡ true
+        → Spells T.shape v bytes.now → Gives T.plain result (Ok v) }
+    // Which fault it is.
+    ensures exact { Gives (λ v. (T.plain v, [])) result (whole_at T.shape bytes.now) }
+{
+    read_whole(alloc, bytes)
+}
+
+/// The value at the front of the octets, and the octets behind it.
+///
+/// # Errors
+/// `Overflow` for 2^32 octets or more, else the first fault from the left, or `OutOfMemory`.
+pub fn from_der_partial<'a, T: Decode<'a, SliceReader<'a>>>(
+    alloc: Global,
+    bytes: &'a [u8],
+) -> Result<(T, &'a [u8]), Error>
+    ensures { Gives (λ x. (T.plain x.0, x.1.now)) result (front_at T.shape bytes.now) }
+{
+    let mut reader = SliceReader::new(bytes)?;
+    let value = T::decode(alloc, &mut reader)?;
+    Ok((value, reader.remaining()))
+}
+
+/// The value that octets under BER spell, all of the octets (X.690 8).
+///
+/// Headers are read by BER, contents as under DER: what the value is isn't promised.
+///
+/// # Errors
+/// `Overflow` for 2^32 octets or more; a fault, `TrailingData` where octets are left behind the
+/// value, or `OutOfMemory`.
+pub fn from_ber<'a, T: Decode<'a, SliceReader<'a>>>(
+    alloc: Global,
+    bytes: &'a [u8],
+) -> Result<T, Error>
+    ensures too_long { 2 ^ 32 ≤ length bytes.now → IsErrAnd result (λ e. e.kind ≡ ErrorKind.Overflow) }
+{
+    let mut reader = SliceReader::new_with_encoding_rules(bytes, EncodingRules::Ber)?;
+    let value = T::decode(alloc, &mut reader)?;
+    if reader.is_finished() {
+        Ok(value)
+    } else {
+        Err(Error::from(ErrorKind::TrailingData))
+    }
+}

@@ -1,4 +1,0 @@
-mod TagNumbers
-mod Lengths
-mod Magnitudes
-mod Levels

@@ -1,5 +1,0 @@
-pub mod Facts
-pub mod Nested
-pub mod Steps
-mod Encodings
-mod Closures

@@ -1,0 +1,9 @@
+mod TagNumbers
+mod Lengths
+mod Magnitudes
+mod Levels
+pub mod Facts
+pub mod Nested
+pub mod Steps
+mod Encodings
+mod Closures

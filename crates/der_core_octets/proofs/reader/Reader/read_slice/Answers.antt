@@ -1,0 +1,13 @@
+use Rattle.std.proofs.Common.{arith, ap, length, refl}
+use Rattle.der_core_octets.proofs.Facts.{slice_short, slice_ok}
+use Rattle.der_core_octets.proofs.reader.Reader.read_slice.Goals as goal
+
+pub returns-then-octets-len : goal.returns-then-octets-len
+returns-then-octets-len g c =
+    let short = slice_short c.args.len.value (g.Self.Reader.state c.args.self.now).rest (omega (arith, ap length c.remaining-octets.ensures.rest)) in
+    rw c.from-then-octets-len.ensures (λ _. short, c.fail.ensures, λ failed. absurd cc)
+
+pub returns : goal.returns
+returns g c =
+    let all = slice_ok c.args.len.value (g.Self.Reader.state c.args.self.now).rest (omega (arith, ap length c.remaining-octets.ensures.rest)) in
+    rw (c.remaining-octets.ensures.rest, c.skip.ensures) (all, refl, cc)

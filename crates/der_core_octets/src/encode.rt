@@ -1,0 +1,104 @@
+//! Headers as they are written, and numbers of octets.
+
+ghost use Rattle.std.specs.Prelude.{◌≡◌, length};
+ghost use Rattle.der_core_head.specs.Tags.{tag_octets};
+ghost use Rattle.der_core_head.specs.Heads.{length_octets};
+ghost use Rattle.der_core_head.specs.Reading.{GivesNow};
+ghost use Rattle.der_core_head.specs.Writing.{Writes, put, put_head, sum_len, fit_len};
+ghost use Rattle.der_core_octets.specs.Outputs.{Continues};
+
+use crate::writer::Writer;
+use der_core_head::{Error, ErrorKind, Length, Tag, leading_octet_of, number_of};
+
+/// The sum of two lengths.
+///
+/// # Errors
+/// `Overflow` from 2^32 on.
+pub fn sum_len(a: Length, b: Length) -> Result<Length, Error>
+    ensures { GivesNow (λ l. l.value) result (sum_len a.value b.value) }
+{
+    a + b
+}
+
+/// Writes the octets of a tag (X.690 8.1.2).
+#[tactic(auto, using(der_core_head::proofs::TagForms::tag_forms))]
+fn encode_tag<W: Writer>(writer: &mut W, tag: Tag) -> Result<(), Error>
+    ensures exact { Writes (W.out writer.old) (W.out writer.new) result (put (tag_octets tag)) }
+    ensures kept { Continues (W.out writer.old) (W.out writer.new) }
+{
+    let first = leading_octet_of(tag);
+    let n = number_of(tag);
+    let last = (n % 128) as u8;
+    if n < 31 {
+        return writer.write(&[first]);
+    }
+    if n < 0x80 {
+        return writer.write(&[first, last]);
+    }
+    let d1 = 128 + (n / 0x80 % 128) as u8;
+    if n < 0x4000 {
+        return writer.write(&[first, d1, last]);
+    }
+    let d2 = 128 + (n / 0x4000 % 128) as u8;
+    if n < 0x20_0000 {
+        return writer.write(&[first, d2, d1, last]);
+    }
+    let d3 = 128 + (n / 0x20_0000 % 128) as u8;
+    if n < 0x1000_0000 {
+        return writer.write(&[first, d3, d2, d1, last]);
+    }
+    let d4 = 128 + (n / 0x1000_0000) as u8;
+    writer.write(&[first, d4, d3, d2, d1, last])
+}
+
+/// Writes the octets of a length (X.690 8.1.3, 10.1).
+#[tactic(auto, using(der_core_head::proofs::LengthForms::length_forms))]
+fn encode_length<W: Writer>(writer: &mut W, len: Length) -> Result<(), Error>
+    ensures exact { Writes (W.out writer.old) (W.out writer.new) result (put (length_octets len.value)) }
+    ensures kept { Continues (W.out writer.old) (W.out writer.new) }
+{
+    let n = len.value;
+    let last = (n % 256) as u8;
+    if n < 0x80 {
+        return writer.write(&[last]);
+    }
+    if n < 0x100 {
+        return writer.write(&[129, last]);
+    }
+    let d1 = (n / 0x100 % 256) as u8;
+    if n < 0x1_0000 {
+        return writer.write(&[130, d1, last]);
+    }
+    let d2 = (n / 0x1_0000 % 256) as u8;
+    if n < 0x100_0000 {
+        return writer.write(&[131, d2, d1, last]);
+    }
+    let d3 = (n / 0x100_0000) as u8;
+    writer.write(&[132, d3, d2, d1, last])
+}
+
+/// Writes a header.
+///
+/// # Errors
+/// Those of the writer.
+#[tactic(auto, unfolding(der_core_head::specs::Writing::put_head))]
+pub fn encode_header<W: Writer>(writer: &mut W, tag: Tag, len: Length) -> Result<(), Error>
+    ensures exact { Writes (W.out writer.old) (W.out writer.new) result (put_head tag len.value) }
+    ensures kept { Continues (W.out writer.old) (W.out writer.new) }
+{
+    encode_tag(writer, tag)?;
+    encode_length(writer, len)
+}
+
+/// The number of octets of a slice.
+///
+/// # Errors
+/// `Overflow` from 2^32 on.
+pub fn slice_len(octets: &[u8]) -> Result<Length, Error>
+    ensures { GivesNow (λ l. l.value) result (fit_len (length octets.now)) }
+{
+    match u32::try_from(octets.len()) {
+        Ok(value) => Ok(Length { value }),
+        Err(_) => Err(Error::from(ErrorKind::Overflow)),
+    }
+}

@@ -1,0 +1,42 @@
+//! Tags and headers at the front of octets, by either encoding rules.
+
+ghost use Rattle.std.specs.Prelude.{◌≡◌, ◌≤◌, length, IfOk};
+ghost use Rattle.der_core_head.specs.declared.encoding_rules.EncodingRules.TheVariants.{Ber, Der};
+ghost use Rattle.der_core_head.specs.Tags.{tag_at};
+ghost use Rattle.der_core_head.specs.Heads.{head_at};
+ghost use Rattle.der_core_head.specs.Bodies.{tag_ber_at, head_ber_at};
+ghost use Rattle.der_core_octets.specs.Fronts.{Counts, head_of};
+
+use crate::header::{header_of, tag_of};
+use crate::indefinite::{header_ber_of, tag_ber_of};
+use der_core_head::{EncodingRules, Error, Header, Tag};
+
+/// The tag at the front of octets, and how many octets it takes.
+///
+/// # Errors
+/// Those of `tag_of`, and under BER those of `tag_ber_of`.
+pub fn tag_by(rules: EncodingRules, octets: &[u8]) -> Result<(Tag, usize), Error>
+    ensures der { rules ≡ Der → Counts (λ t. t) octets.now result tag_at }
+    ensures ber { rules ≡ Ber → Counts (λ t. t) octets.now result tag_ber_at }
+    ensures within { IfOk result (λ x. x.1 ≤ length octets.now) }
+{
+    match rules {
+        EncodingRules::Ber => tag_ber_of(octets),
+        EncodingRules::Der => tag_of(octets),
+    }
+}
+
+/// The header at the front of octets, and how many octets its tag and length take.
+///
+/// # Errors
+/// Those of `header_of`, and under BER those of `header_ber_of`.
+pub fn header_by(rules: EncodingRules, octets: &[u8]) -> Result<(Header, usize), Error>
+    ensures der { rules ≡ Der → Counts head_of octets.now result head_at }
+    ensures ber { rules ≡ Ber → Counts head_of octets.now result head_ber_at }
+    ensures within { IfOk result (λ x. x.1 ≤ length octets.now) }
+{
+    match rules {
+        EncodingRules::Ber => header_ber_of(octets),
+        EncodingRules::Der => header_of(octets),
+    }
+}

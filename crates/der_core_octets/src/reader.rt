@@ -1,0 +1,426 @@
+//! Readers.
+
+ghost use Rattle.std.specs.Prelude.{◌≡◌, ◌↔◌, ◌+◌, ◌≤◌, ◌<◌, ◌^◌, ℕ, IsTrue, length, take, [], slice_get, Ok, OnOk, OnErr, IfOk, IfErr, IsSomeAnd, ◌≢◌, true, false};
+ghost use Rattle.der_core_head.specs.Tags.{tag_at};
+ghost use Rattle.der_core_head.specs.Heads.{head_at};
+ghost use Rattle.der_core_head.specs.declared.encoding_rules.EncodingRules.TheVariants.{Ber, Der};
+ghost use Rattle.der_core_head.specs.Bodies.{head_ber_at, tag_ber_at};
+ghost use Rattle.der_core_head.specs.declared.tag.Tag.{Tag};
+ghost use Rattle.der_core_head.specs.declared.tag.Tag.TheVariants.{Sequence};
+ghost use Rattle.der_core_head.specs.Shapes.{Body, BodyValue, nested, tagged};
+ghost use Rattle.der_core_head.specs.Grammar.{slice_at, byte_at, peek_at, value_at, read_content, read};
+ghost use Rattle.der_core_head.specs.Reading.{State, Kept, ClosureReads, HandsBack, Reads, ReadsNow, ReadsBy, PeeksBy, Opens, Closes, past, broken};
+ghost use Rattle.der_core_octets.specs.Fronts.{head_of, alone, peek_ber_at};
+ghost use Rattle.der_core_octets.specs.Nesting.{IsNested, Answered, RefusesNested};
+ghost use Rattle.der_core_octets.specs.Places.{IsAt, encoding_at};
+
+use crate::{header_by, tag_by};
+use der_core_head::{EncodingRules, Error, ErrorKind, Header, Length, Tag, is_same_tag};
+use std::alloc::Global;
+
+/// What octets are read from: octets up to an end that can be set nearer, and a depth of ends.
+///
+/// A reader that refused a call of `read_slice`, `read_byte`, `read_header` or `begin_nested` has
+/// failed: from then on each call that reads answers `Failed`.
+pub trait Reader<'r>: Drop {
+    ghost state: { Self → State };
+
+    /// The rules by which headers are read.
+    fn encoding_rules(&self) -> EncodingRules
+        ensures { result ≡ (state self.now).source.encoding };
+
+    /// The number of octets of the whole input.
+    fn input_len(&self) -> Length
+        ensures { result.value ≡ (state self.now).source.size };
+
+    /// How many octets of the whole input were passed over.
+    fn position(&self) -> Length
+        ensures { IsAt result.value (state self.now) };
+
+    /// Whether a call failed before.
+    fn is_failed(&self) -> bool
+        ensures { result ≡ (state self.now).failed };
+
+    /// The octets up to the end in force.
+    fn remaining(&self) -> &'r [u8]
+        ensures rest { result.now ≡ (state self.now).rest }
+        ensures short { length result.now < 2 ^ 32 };
+
+    /// Passes over octets.
+    fn skip(&mut self, len: usize)
+        requires { len ≤ length (state self.old).rest }
+        ensures { state self.new ≡ past len (state self.old) };
+
+    /// Makes the reader a failed one.
+    fn fail(&mut self)
+        ensures { state self.new ≡ broken (state self.old) };
+
+    /// Sets the end `len` octets ahead, and answers how many octets it took from the reader.
+    ///
+    /// # Errors
+    /// `Incomplete` where fewer are left, then `NestingDepth` where 64 ends are set.
+    fn begin_nested(&mut self, len: Length) -> Result<Length, Error>
+        ensures { Opens len.value (state self.old) (state self.new) result };
+
+    /// Gives the octets back that `begin_nested` took, after what was read there failed or didn't.
+    ///
+    /// # Errors
+    /// `TrailingData` where nothing failed and octets are left before the end.
+    fn end_nested(&mut self, behind: Length, failed: bool) -> Result<(), Error>
+        requires behind { behind.value ≤ length (state self.old).behind }
+        requires room { (state self.old).room < 64 }
+        ensures { Closes behind.value failed (state self.old) (state self.new) result };
+
+    /// Whether no octets are left.
+    final fn is_finished(&self) -> bool
+        ensures { IsTrue result ↔ ((state self.now).rest ≡ []) }
+    {
+        self.remaining().is_empty()
+    }
+
+    /// How many octets are left.
+    final fn remaining_len(&self) -> Length
+        ensures { result.value ≡ length (state self.now).rest }
+    {
+        Length {
+            value: self.remaining().len() as u32,
+        }
+    }
+
+    /// The next octet, without passing over it.
+    final fn peek_byte(&self) -> Option<u8>
+        ensures { result ≡ slice_get (state self.now).rest 0 }
+    {
+        self.remaining().first().copied()
+    }
+
+    /// The next octets.
+    ///
+    /// # Errors
+    /// `Incomplete` where fewer are left.
+    final fn read_slice(&mut self, len: Length) -> Result<&'r [u8], Error>
+        ensures { ReadsNow (λ s. s.now) (state self.old) (state self.new) result (slice_at len.value) }
+    {
+        if self.is_failed() {
+            return Err(Error::from(ErrorKind::Failed));
+        }
+        let octets = self.remaining();
+        let len = len.value as usize;
+        if octets.len() < len {
+            self.fail();
+            return Err(Error::from(ErrorKind::Incomplete));
+        }
+        self.skip(len);
+        Ok(&octets[..len])
+    }
+
+    /// The next octet.
+    ///
+    /// # Errors
+    /// `Incomplete` where none is left.
+    final fn read_byte(&mut self) -> Result<u8, Error>
+        ensures { ReadsNow (λ b. b) (state self.old) (state self.new) result byte_at }
+    {
+        if self.is_failed() {
+            return Err(Error::from(ErrorKind::Failed));
+        }
+        let [octet, ..] = self.remaining() else {
+            self.fail();
+            return Err(Error::from(ErrorKind::Incomplete));
+        };
+        self.skip(1);
+        Ok(*octet)
+    }
+
+    /// The next header, by the rules of the reader.
+    ///
+    /// # Errors
+    /// Those of `header_of`, and under BER those of `header_ber_of`.
+    final fn read_header(&mut self) -> Result<Header, Error>
+        ensures der { ReadsBy Der head_of (state self.old) (state self.new) result head_at }
+        ensures ber { ReadsBy Ber head_of (state self.old) (state self.new) result head_ber_at }
+    {
+        if self.is_failed() {
+            return Err(Error::from(ErrorKind::Failed));
+        }
+        match header_by(self.encoding_rules(), self.remaining()) {
+            Ok((header, len)) => {
+                self.skip(len);
+                Ok(header)
+            }
+            Err(error) => {
+                self.fail();
+                Err(error)
+            }
+        }
+    }
+
+    /// The next header, by the rules of the reader, without passing over it.
+    ///
+    /// # Errors
+    /// Those of `read_header`.
+    final fn peek_header(&self) -> Result<Header, Error>
+        ensures der { PeeksBy Der head_of (state self.now) result (alone (head_at (state self.now).rest)) }
+        ensures ber { PeeksBy Ber head_of (state self.now) result (alone (head_ber_at (state self.now).rest)) }
+    {
+        if self.is_failed() {
+            return Err(Error::from(ErrorKind::Failed));
+        }
+        let (header, _) = header_by(self.encoding_rules(), self.remaining())?;
+        Ok(header)
+    }
+
+    /// The next tag, by the rules of the reader, without passing over it.
+    ///
+    /// # Errors
+    /// Those of `tag_of`, and under BER those of `tag_ber_of`.
+    final fn peek_tag(&self) -> Result<Tag, Error>
+        ensures der { PeeksBy Der (λ t. t) (state self.now) result (alone (tag_at (state self.now).rest)) }
+        ensures ber { PeeksBy Ber (λ t. t) (state self.now) result (alone (tag_ber_at (state self.now).rest)) }
+    {
+        if self.is_failed() {
+            return Err(Error::from(ErrorKind::Failed));
+        }
+        let (tag, _) = tag_by(self.encoding_rules(), self.remaining())?;
+        Ok(tag)
+    }
+
+    /// The next tag, by the rules of the reader, without passing over it, if octets are left.
+    ///
+    /// # Errors
+    /// Those of `peek_tag`.
+    final fn peek_tag_or_end(&self) -> Result<Option<Tag>, Error>
+        ensures der { PeeksBy Der (λ t. t) (state self.now) result (peek_at (state self.now).rest) }
+        ensures ber { PeeksBy Ber (λ t. t) (state self.now) result (peek_ber_at (state self.now).rest) }
+    {
+        if self.is_failed() {
+            return Err(Error::from(ErrorKind::Failed));
+        }
+        let octets = self.remaining();
+        if octets.is_empty() {
+            return Ok(None);
+        }
+        let (tag, _) = tag_by(self.encoding_rules(), octets)?;
+        Ok(Some(tag))
+    }
+
+    /// The next octets, copied.
+    ///
+    /// # Errors
+    /// `Incomplete` where fewer are left, or `OutOfMemory`.
+    final fn read_vec(&mut self, alloc: Global, len: Length) -> Result<Vec<u8>, Error>
+        ensures { Reads (λ v. v.items) (state self.old) (state self.new) result (slice_at len.value) }
+    {
+        let octets = self.read_slice(len)?;
+        Ok(octets.to_vec(alloc)?)
+    }
+
+    /// The octets of the next encoding, its header among them, by the rules of the reader. The
+    /// content isn't looked into.
+    ///
+    /// # Errors
+    /// Those of `read_header`, and `Incomplete` where fewer octets of content are left.
+    final fn tlv_bytes(&mut self) -> Result<&'r [u8], Error>
+        ensures der { ReadsBy Der (λ s. s.now) (state self.old) (state self.new) result (encoding_at head_at) }
+        ensures ber { ReadsBy Ber (λ s. s.now) (state self.old) (state self.new) result (encoding_at head_ber_at) }
+    {
+        if self.is_failed() {
+            return Err(Error::from(ErrorKind::Failed));
+        }
+        let octets = self.remaining();
+        let (header, count) = match header_by(self.encoding_rules(), octets) {
+            Ok(front) => front,
+            Err(error) => {
+                self.fail();
+                return Err(error);
+            }
+        };
+        let len = header.length.value as usize;
+        if octets.len() - count < len {
+            self.fail();
+            return Err(Error::from(ErrorKind::Incomplete));
+        }
+        self.skip(count + len);
+        Ok(&octets[..count + len])
+    }
+
+    /// Copies the next octets, as many as there is room for, without passing over them.
+    ///
+    /// # Errors
+    /// `Incomplete` where fewer are left.
+    final fn peek_into(&self, buffer: &mut [u8]) -> Result<(), Error>
+        ensures ok { OnOk result ((buffer.new ≡ take (length buffer.old) (state self.now).rest) × (length buffer.old ≤ length (state self.now).rest) × ((state self.now).failed ≡ false)) }
+        ensures err { OnErr result (buffer.new ≡ buffer.old) }
+        ensures failed { IfErr result (λ e. (state self.now).failed ≡ true → e.kind ≡ ErrorKind.Failed) }
+        ensures short { IfErr result (λ e. (state self.now).failed ≡ false → (length (state self.now).rest < length buffer.old) × (e.kind ≡ ErrorKind.Incomplete)) }
+    {
+        if self.is_failed() {
+            return Err(Error::from(ErrorKind::Failed));
+        }
+        let octets = self.remaining();
+        let len = buffer.len();
+        if octets.len() < len {
+            return Err(Error::from(ErrorKind::Incomplete));
+        }
+        buffer.copy_from_slice(&octets[..len]);
+        Ok(())
+    }
+
+    /// Copies the next octets, as many as there is room for, and passes over them.
+    ///
+    /// # Errors
+    /// `Incomplete` where fewer are left.
+    final fn read_into(&mut self, buffer: &mut [u8]) -> Result<(), Error>
+        ensures reads { ReadsNow (λ _. buffer.new) (state self.old) (state self.new) result (slice_at (length buffer.old)) }
+        ensures err { OnErr result (buffer.new ≡ buffer.old) }
+    {
+        match self.peek_into(buffer) {
+            Ok(()) => {
+                self.skip(buffer.len());
+                Ok(())
+            }
+            Err(error) => {
+                self.fail();
+                Err(error)
+            }
+        }
+    }
+
+    /// Passes over octets.
+    ///
+    /// # Errors
+    /// `Incomplete` where fewer are left.
+    final fn drain(&mut self, amount: Length) -> Result<(), Error>
+        ensures { ReadsNow (λ _. take amount.value (state self.old).rest) (state self.old) (state self.new) result (slice_at amount.value) }
+    {
+        if self.is_failed() {
+            return Err(Error::from(ErrorKind::Failed));
+        }
+        let amount = amount.value as usize;
+        if self.remaining().len() < amount {
+            self.fail();
+            return Err(Error::from(ErrorKind::Incomplete));
+        }
+        self.skip(amount);
+        Ok(())
+    }
+
+    /// How many octets of the whole input were passed over.
+    final fn offset(&self) -> Length
+        ensures { IsAt result.value (state self.now) }
+    {
+        self.position()
+    }
+
+    /// An error at the place of the reader, which has failed from then on.
+    final fn error(&mut self, kind: ErrorKind) -> Error
+        ensures kind { result.kind ≡ kind }
+        ensures place { IsSomeAnd result.position (λ p. IsAt p.value (state self.old)) }
+        ensures failed { state self.new ≡ broken (state self.old) }
+    {
+        let position = self.position();
+        self.fail();
+        Error {
+            kind,
+            position: Some(position),
+        }
+    }
+
+    /// Whether octets can be lent as they stand: they can.
+    final fn can_read_slice() -> bool
+        ensures { IsTrue result }
+    {
+        true
+    }
+
+    /// Calls `f` on the reader with its end set `len` octets ahead, and wants all of these read.
+    ///
+    /// # Errors
+    /// `Incomplete` where fewer are left, `NestingDepth` where 64 ends are set, what `f` answers,
+    /// `TrailingData` where it leaves octets.
+    final fn read_nested<T: Drop, F: FnOnce(&mut Self) -> Result<T, Error>>(
+        &mut self,
+        len: Length,
+        f: F,
+    ) -> Result<T, Error>
+        requires callable { F.IsAlwaysCallable f }
+        // The closure gives back the same reader, with the same end, and further on.
+        requires hands_back { HandsBack state F.FnOnce f }
+        // The octets were passed over, and the end and the levels are those before.
+        ensures moved { OnOk result (IsNested len.value (state self.old) (state self.new)) }
+        // The answer is that of the closure, which left nothing up to the end set for it.
+        ensures ran { IfOk result (λ x. Answered state F.FnOnce f len.value (state self.old) x) }
+        ensures kept { OnErr result (Kept (state self.old) (state self.new)) }
+        ensures refused { IfErr result (RefusesNested state F.FnOnce f len.value (state self.old)) }
+        // What the closure reads of a body, this reads of a content.
+        ensures reads { (t : Tag) (b : Body) (view : T → BodyValue b) → ClosureReads state F.FnOnce f b view
+            → Reads view (state self.old) (state self.new) result (value_at (read_content (nested b) t (state self.old).room) len.value) }
+    {
+        let behind = self.begin_nested(len)?;
+        let outcome = f(self);
+        self.end_nested(behind, outcome.is_err())?;
+        outcome
+    }
+
+    /// Calls `f` on the content behind a header that was read, and wants all of it read.
+    ///
+    /// # Errors
+    /// Those of `read_nested`.
+    final fn read_value<T: Drop, F: FnOnce(&mut Self) -> Result<T, Error>>(
+        &mut self,
+        header: Header,
+        f: F,
+    ) -> Result<T, Error>
+        requires callable { F.IsAlwaysCallable f }
+        requires hands_back { HandsBack state F.FnOnce f }
+        ensures moved { OnOk result (IsNested header.length.value (state self.old) (state self.new)) }
+        ensures ran { IfOk result (λ x. Answered state F.FnOnce f header.length.value (state self.old) x) }
+        ensures kept { OnErr result (Kept (state self.old) (state self.new)) }
+        ensures refused { IfErr result (RefusesNested state F.FnOnce f header.length.value (state self.old)) }
+        ensures reads { (b : Body) (view : T → BodyValue b) → ClosureReads state F.FnOnce f b view
+            → Reads view (state self.old) (state self.new) result (value_at (read_content (nested b) header.tag (state self.old).room) header.length.value) }
+    {
+        let value = self.read_nested(header.length, f)?;
+        Ok(value)
+    }
+
+    /// Calls `f` on the content of the SEQUENCE that stands next, and wants all of it read.
+    ///
+    /// # Errors
+    /// Those of `read_header`, `TagUnexpected` for another tag, and those of `read_nested`.
+    final fn sequence<T: Drop, F: FnOnce(&mut Self) -> Result<T, Error>>(
+        &mut self,
+        f: F,
+    ) -> Result<T, Error>
+        requires callable { F.IsAlwaysCallable f }
+        requires hands_back { HandsBack state F.FnOnce f }
+        ensures kept { Kept (state self.old) (state self.new) }
+        ensures reads { (b : Body) (view : T → BodyValue b) → ClosureReads state F.FnOnce f b view
+            → Reads view (state self.old) (state self.new) result (read (tagged Sequence (nested b)) (state self.old).room) }
+    {
+        let header = self.read_header()?;
+        if !is_same_tag(header.tag, Tag::Sequence) {
+            return Err(self.error(ErrorKind::TagUnexpected));
+        }
+        let value = self.read_nested(header.length, f)?;
+        Ok(value)
+    }
+
+    /// That nothing is left to read.
+    ///
+    /// # Errors
+    /// `Failed` where the reader failed before, `TrailingData` where octets are left.
+    final fn finish(&self) -> Result<(), Error>
+        ensures ok { OnOk result (((state self.now).rest ≡ []) × ((state self.now).failed ≡ false)) }
+        ensures failed { IfErr result (λ e. (state self.now).failed ≡ true → e.kind ≡ ErrorKind.Failed) }
+        ensures left { IfErr result (λ e. (state self.now).failed ≡ false → ((state self.now).rest ≢ []) × (e.kind ≡ ErrorKind.TrailingData)) }
+    {
+        if self.is_failed() {
+            return Err(Error::from(ErrorKind::Failed));
+        }
+        if !self.is_finished() {
+            return Err(Error::from(ErrorKind::TrailingData));
+        }
+        Ok(())
+    }
+}

@@ -1,0 +1,44 @@
+//! Writers.
+
+ghost use Rattle.std.specs.Prelude.{◌≡◌, [], ◌∷◌, None, length, false, OnErr};
+ghost use Rattle.der_core_head.specs.Writing.{Out, Writes, put};
+ghost use Rattle.der_core_octets.specs.Outputs.{Continues, IsRefused};
+
+use der_core_head::Error;
+
+/// What octets are written to.
+pub trait Writer: Drop {
+    ghost out: { Self → Out };
+
+    /// Appends octets.
+    ///
+    /// # Errors
+    /// `Failed` where the writer failed before, `Overlength` where there is no room, `OutOfMemory`.
+    /// Nothing was written then.
+    fn write(&mut self, octets: &[u8]) -> Result<(), Error>
+        ensures exact { Writes (out self.old) (out self.new) result (put octets.now) }
+        ensures refused { OnErr result (IsRefused (out self.old) (out self.new)) }
+        ensures kept { Continues (out self.old) (out self.new) };
+
+    /// Appends an octet.
+    ///
+    /// # Errors
+    /// Those of `write`.
+    final fn write_byte(&mut self, octet: u8) -> Result<(), Error>
+        ensures exact { Writes (out self.old) (out self.new) result (put (octet ∷ [])) }
+        ensures refused { OnErr result (IsRefused (out self.old) (out self.new)) }
+        ensures kept { Continues (out self.old) (out self.new) }
+    {
+        self.write(&[octet])
+    }
+}
+
+impl Writer for Vec<u8> {
+    ghost out = { λ v. record { written = v.items; room = None; failed = false } };
+
+    #[tactic(auto, unfolding(der_core_head::specs::Writing::put))]
+    fn write(&mut self, octets: &[u8]) -> Result<(), Error> {
+        self.extend_from_slice(octets)?;
+        Ok(())
+    }
+}

@@ -1,7 +1,0 @@
-use Rattle.der_core_head.specs.Shapes.{octets_of}
-use Rattle.der_core_order.proofs.OrderLaws.{octets_cmp-append}
-use Rattle.der_core_order.proofs.ShapeOrders.{element_splits}
-use Rattle.der_core_order.proofs.laws.first_encoding_decides.Goals as goal
-
-pub returns : goal.returns
-returns c = λ s v w r t e p q. octets_cmp-append (octets_of s v) (octets_of s w) r t (element_splits s v w e p q)

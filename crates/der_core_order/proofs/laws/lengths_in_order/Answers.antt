@@ -1,5 +1,0 @@
-use Rattle.der_core_order.proofs.HeadOrders.{length_octets_cmp}
-use Rattle.der_core_order.proofs.laws.lengths_in_order.Goals as goal
-
-pub returns : goal.returns
-returns c = length_octets_cmp

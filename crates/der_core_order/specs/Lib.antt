@@ -1,3 +1,0 @@
-pub mod Orders
-pub mod OrdLaws
-pub mod Choices

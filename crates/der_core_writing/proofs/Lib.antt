@@ -1,3 +1,0 @@
-mod Appended
-mod Rooms
-mod HeadersWritten

@@ -1,3 +1,0 @@
-mod LastOctet
-mod AllBits
-mod BitRuns

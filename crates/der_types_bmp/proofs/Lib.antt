@@ -1,2 +1,0 @@
-pub mod BmpTexts
-pub mod Characters

@@ -1,7 +1,0 @@
-use Rattle.der_types_bmp.proofs.BmpTexts.{pointwise-bmp_octets}
-use Rattle.der_types_bmp.proofs.bmp_string.BmpStringPartialEq.eq.Goals as goal
-
-pub returns : goal.returns
-returns c =
-    let same = pointwise-bmp_octets c.args.self.now c.args.other.now in
-    cc (same, c.eq.ensures, c.as_bytes.ensures, c.as_bytes-2.ensures)

@@ -1,3 +1,0 @@
-pub mod BmpChars
-pub mod BmpStrings
-pub mod Orders

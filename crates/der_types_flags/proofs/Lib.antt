@@ -1,2 +1,0 @@
-pub mod LastOctet
-pub mod NamedSteps

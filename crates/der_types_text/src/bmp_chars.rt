@@ -1,0 +1,101 @@
+//! The characters of a BMPString, one after another.
+
+ghost use Rattle.std.specs.Prelude.{◌≡◌, ◌<◌, true, MatchOption};
+ghost use Rattle.std.specs.Iterator.{YieldsFirst, item_count};
+ghost use Rattle.der_core_head.specs.BmpStrings.{IsBmp, is_unit, units};
+
+use std::marker::Model;
+
+/// The characters of a BMPString as numbers, in order.
+#[derive(Debug, Drop)]
+pub struct BmpCodepoints<'a> {
+    octets: &'a [u8],
+}
+
+impl<'a> Model for BmpCodepoints<'a> {
+    ghost use Rattle.std.specs.Prelude.{List, ℕ};
+
+    ghost Value = { List ℕ };
+
+    ghost use Rattle.der_types_text.specs.BmpChars.{codepoints_of};
+
+    ghost view = { codepoints_of };
+}
+
+impl<'a> BmpCodepoints<'a> {
+    /// Those of pairs of octets, the higher first.
+    pub(crate) fn of(octets: &'a [u8]) -> BmpCodepoints<'a>
+        ensures { result ≡ units octets.now }
+    {
+        BmpCodepoints { octets }
+    }
+}
+
+impl<'a> Iterator for BmpCodepoints<'a> {
+    type Item = u16;
+
+    ghost next_gives = { YieldsFirst (λ s. s) };
+
+    ghost remaining = { item_count (λ s. s) };
+
+    fn next(&mut self) -> Option<u16> {
+        let [high, low, octets @ ..] = self.octets else {
+            return None;
+        };
+        self.octets = octets;
+        Some(256 * u16::from(*high) + u16::from(*low))
+    }
+}
+
+/// The characters of a BMPString, in order.
+#[derive(Debug, Drop)]
+pub struct BmpChars<'a> {
+    codepoints: BmpCodepoints<'a>,
+}
+
+impl<'a> Model for BmpChars<'a> {
+    ghost use Rattle.std.specs.Prelude.{List, ℕ};
+
+    ghost Value = { List ℕ };
+
+    ghost use Rattle.der_types_text.specs.BmpChars.{chars_of, AreChars};
+
+    ghost view = { chars_of };
+
+    ghost invariant = { AreChars };
+}
+
+/// The character of a number that is no half of a surrogate pair.
+fn char_of(unit: u16) -> char
+    requires { is_unit unit ≡ true }
+    ensures { result ≡ unit }
+{
+    unsafe { char::from_u32_unchecked(u32::from(unit)) }
+}
+
+impl<'a> BmpChars<'a> {
+    /// Those of pairs of octets, the higher first.
+    pub(crate) fn of(octets: &'a [u8]) -> BmpChars<'a>
+        requires { IsBmp (units octets.now) }
+        ensures { result ≡ units octets.now }
+    {
+        BmpChars {
+            codepoints: BmpCodepoints::of(octets),
+        }
+    }
+}
+
+impl<'a> Iterator for BmpChars<'a> {
+    type Item = char;
+
+    ghost next_gives = { YieldsFirst (λ s. s) };
+
+    ghost remaining = { item_count (λ s. s) };
+
+    fn next(&mut self) -> Option<char> {
+        let Some(unit) = self.codepoints.next() else {
+            return None;
+        };
+        Some(char_of(unit))
+    }
+}

@@ -1,0 +1,332 @@
+//! BMPString.
+
+ghost use Rattle.std.specs.Prelude.{◌≡◌, ◌++◌, true, false, nat_eq, Some, IfOk, IsTrue, OnOk, MatchOption, encode_utf8_all};
+ghost use Rattle.std.proofs.Common.{refl, ap};
+ghost use Rattle.std.specs.Cmp.{partial_equiv_from_equiv};
+ghost use Rattle.std.specs.Cmp.Lexicographic.{pointwise, slice_cmp, bytes_decides, nat_list_eq_equiv, nat_list_cmp_total, texts_po, texts_ties};
+ghost use Rattle.std.specs.Hash as fed;
+ghost use Rattle.std.specs.Ordering.{nat_cmp};
+ghost use Rattle.std.specs.List.{list_all};
+ghost use Rattle.std.specs.Str.{chars};
+ghost use Rattle.der_core_head.specs.BmpStrings.{IsBmp, is_unit, unit_octets, bmp_octets, bmp_read, units};
+ghost use Rattle.der_core_head.specs.declared.tag.Tag.TheVariants.{BmpString as BmpStringTag};
+ghost use Rattle.der_core_head.specs.Leaves.{bmp};
+ghost use Rattle.der_core_head.specs.Reading.{Gives, GivesNow};
+ghost use Rattle.der_core_head.specs.Shapes.{leaf};
+ghost use Rattle.der_types_text.specs.BmpStrings.{are_bmp, bmp_from};
+ghost use Rattle.der_types_text.specs.BmpOrders.{bmp_order};
+
+use crate::bmp_chars::{BmpChars, BmpCodepoints};
+use der_core::{
+    DecodeValue, EncodeValue, Error, ErrorKind, FixedTag, Header, Leaf, Length, OrdIsValueOrd,
+    Reader, ShapedValue, Tag, ValueOrd, Writer, decode_leaf, slice_len,
+};
+use std::alloc::{AllocError, Global};
+use std::cmp::Ordering;
+use std::convert::AsSlice;
+use std::fmt;
+use std::hash::{Hash, Hasher};
+use std::marker::Model;
+
+/// An owned BMPString (X.680 41, X.690 8.23.8): characters below 10000 hex, two octets each, the
+/// higher first. None is a half of a surrogate pair.
+///
+/// Contracts see the list of its characters.
+#[derive(Drop)]
+pub struct BmpString {
+    bytes: Vec<u8>,
+}
+
+impl Model for BmpString {
+    ghost use Rattle.std.specs.Prelude.{List, ℕ};
+
+    ghost Value = { List ℕ };
+
+    ghost use Rattle.der_types_text.specs.BmpStrings.{characters_of, IsBmpString};
+
+    ghost view = { characters_of };
+
+    ghost invariant = { IsBmpString };
+}
+
+/// Whether a number is a character, and no half of a surrogate pair.
+fn is_character(unit: u16) -> bool
+    ensures { result ≡ is_unit unit }
+{
+    !matches!(unit, 0xd800..=0xdfff)
+}
+
+/// Whether the characters of pairs of octets are none of them a half of a surrogate pair.
+fn has_no_half(octets: &[u8]) -> bool
+    ensures { result ≡ list_all is_unit (units octets.now) }
+{
+    for unit in BmpCodepoints::of(octets) {
+        if !is_character(unit) {
+            return false;
+        }
+    }
+    true
+}
+
+/// Whether octets are pairs, each a character.
+#[tactic(auto, using(crate::proofs::BmpTexts::pairs))]
+fn are_characters(octets: &[u8]) -> bool
+    ensures exact { result ≡ are_bmp octets.now }
+    ensures spelled { IsTrue result → octets.now ≡ bmp_octets (units octets.now) }
+    ensures characters { IsTrue result → IsBmp (units octets.now) }
+{
+    octets.len() % 2 == 0 && has_no_half(octets)
+}
+
+/// A character as a number, where it has two octets.
+fn unit_of(character: char) -> Option<u16>
+    ensures { MatchOption result (is_unit character ≡ false) (λ unit. (unit ≡ character) × (is_unit character ≡ true)) }
+{
+    match u16::try_from(u32::from(character)) {
+        Ok(unit) => Some(unit),
+        Err(_) => None,
+    }
+}
+
+/// Appends the octets of a character.
+fn push_unit(octets: &mut Vec<u8>, unit: u16) -> Result<(), AllocError>
+    ensures { OnOk result (octets.new.items ≡ octets.old.items ++ unit_octets unit) }
+{
+    octets.extend_from_slice(&[(unit / 256) as u8, (unit % 256) as u8])?;
+    Ok(())
+}
+
+/// The octets of the characters of a text.
+///
+/// # Errors
+/// `Value` for a character from 10000 hex on, or `OutOfMemory`.
+fn octets_of(alloc: Global, text: &str) -> Result<Vec<u8>, Error>
+    ensures ok { IfOk result (λ v. v.items ≡ bmp_octets (chars text.now)) }
+    ensures exact { Gives (λ v. units v.items) result (bmp_from (chars text.now)) }
+{
+    let mut octets = Vec::new(alloc);
+    for character in text.chars() {
+        let Some(unit) = unit_of(character) else {
+            return Err(Error::from(ErrorKind::Value {
+                tag: Tag::BmpString,
+            }));
+        };
+        push_unit(&mut octets, unit)?;
+    }
+    Ok(octets)
+}
+
+impl BmpString {
+    /// The string of these octets.
+    ///
+    /// # Errors
+    /// `Value` for an odd number of octets, and where a pair is a half of a surrogate pair.
+    #[tactic(auto, unfolding(der_core_head::specs::BmpStrings::bmp_read))]
+    pub fn from_ucs2(bytes: Vec<u8>) -> Result<BmpString, Error>
+        ensures { GivesNow (λ s. s) result (bmp_read BmpStringTag bytes.items) }
+    {
+        if are_characters(bytes.as_slice()) {
+            Ok(BmpString { bytes })
+        } else {
+            Err(Error::from(ErrorKind::Value {
+                tag: Tag::BmpString,
+            }))
+        }
+    }
+
+    /// The string of a text's characters.
+    ///
+    /// # Errors
+    /// `Value` for a character from 10000 hex on, or `OutOfMemory`.
+    pub fn from_utf8(alloc: Global, text: &str) -> Result<BmpString, Error>
+        ensures { Gives (λ s. s) result (bmp_from (chars text.now)) }
+    {
+        let bytes = octets_of(alloc, text)?;
+        Ok(BmpString { bytes })
+    }
+
+    /// The string of a text's characters, as `from_utf8`.
+    ///
+    /// # Errors
+    /// `Value` for a character from 10000 hex on, or `OutOfMemory`.
+    pub fn from_str(alloc: Global, text: &str) -> Result<BmpString, Error>
+        ensures { Gives (λ s. s) result (bmp_from (chars text.now)) }
+    {
+        BmpString::from_utf8(alloc, text)
+    }
+
+    /// A copy.
+    ///
+    /// # Errors
+    /// Want of memory.
+    pub fn clone(&self, alloc: Global) -> Result<BmpString, AllocError>
+        ensures { IfOk result (λ s. s ≡ self.now) }
+    {
+        let bytes = self.bytes.as_slice().to_vec(alloc)?;
+        Ok(BmpString { bytes })
+    }
+
+    /// The content octets: the characters, two octets each, the higher first.
+    pub fn as_bytes(&self) -> &[u8]
+        ensures { result.now ≡ bmp_octets self.now }
+    {
+        self.bytes.as_slice()
+    }
+
+    /// The content octets themselves.
+    pub fn into_bytes(self) -> Vec<u8>
+        ensures { result.items ≡ bmp_octets self }
+    {
+        self.bytes
+    }
+
+    /// The characters, in order.
+    pub fn chars(&self) -> BmpChars<'_>
+        ensures { result ≡ self.now }
+    {
+        BmpChars::of(self.bytes.as_slice())
+    }
+
+    /// The characters as numbers, in order.
+    pub fn codepoints(&self) -> BmpCodepoints<'_>
+        ensures { result ≡ self.now }
+    {
+        BmpCodepoints::of(self.bytes.as_slice())
+    }
+}
+
+impl AsSlice<u8> for BmpString {
+    ghost items = { bmp_octets };
+
+    fn as_slice(&self) -> &[u8] {
+        self.as_bytes()
+    }
+}
+
+impl FixedTag for BmpString {
+    ghost fixed_tag = { BmpStringTag };
+
+    fn tag() -> Tag {
+        Tag::BmpString
+    }
+}
+
+/// The characters, two octets each.
+impl<'a> Leaf<'a> for BmpString {
+    ghost kind = { bmp };
+
+    ghost leaf_plain = { λ s. s };
+
+    #[tactic(auto, unfolding(der_core_head::specs::BmpStrings::bmp_read))]
+    fn from_content(alloc: Global, tag: Tag, octets: &'a [u8]) -> Result<BmpString, Error> {
+        if !are_characters(octets) {
+            return Err(Error::from(ErrorKind::Value { tag }));
+        }
+        let bytes = octets.to_vec(alloc)?;
+        Ok(BmpString { bytes })
+    }
+}
+
+impl ShapedValue for BmpString {
+    ghost content = { leaf bmp };
+
+    ghost value_plain = { λ s. s };
+}
+
+impl<'a, R: Reader<'a>> DecodeValue<'a, R> for BmpString {
+    fn decode_value(alloc: Global, reader: &mut R, header: Header) -> Result<BmpString, Error> {
+        decode_leaf(alloc, reader, header)
+    }
+}
+
+impl EncodeValue for BmpString {
+    fn value_len(&self) -> Result<Length, Error> {
+        slice_len(self.as_bytes())
+    }
+
+    fn encode_value<W: Writer>(&self, writer: &mut W) -> Result<(), Error> {
+        writer.write(self.as_bytes())
+    }
+}
+
+/// Strings are equal where their characters are.
+impl PartialEq for BmpString {
+    ghost eq = { pointwise nat_eq };
+
+    ghost laws = { partial_equiv_from_equiv nat_list_eq_equiv };
+
+    fn eq(&self, other: &Self) -> bool {
+        self.as_bytes() == other.as_bytes()
+    }
+}
+
+impl Eq for BmpString {
+    ghost laws = { nat_list_eq_equiv };
+}
+
+/// The order of their characters, which is that of their octets.
+impl PartialOrd for BmpString {
+    ghost partial_cmp = { λ a b. Some (slice_cmp nat_cmp a b) };
+
+    ghost laws = { texts_po };
+
+    fn partial_cmp(&self, other: &Self) -> Option<Ordering> {
+        Some(self.cmp(other))
+    }
+}
+
+impl Ord for BmpString {
+    ghost cmp = { slice_cmp nat_cmp };
+
+    ghost total = { nat_list_cmp_total };
+
+    ghost matches_partial_cmp = { λ a b. refl };
+
+    ghost matches_eq = { texts_ties };
+
+    #[tactic(auto, using(crate::specs::BmpOrders::bmp_octets_cmp))]
+    fn cmp(&self, other: &Self) -> Ordering {
+        self.as_bytes().cmp(other.as_bytes())
+    }
+}
+
+impl Hash for BmpString {
+    ghost hash_input = { λ s. fed.slice fed.u8 (bmp_octets s) };
+
+    ghost respects_eq = { λ a b e. ap (λ s. fed.slice fed.u8 (bmp_octets s)) ((bytes_decides a b).0 e) };
+
+    fn hash<H: Hasher>(&self, state: &mut H) {
+        self.as_bytes().hash(state);
+    }
+}
+
+/// The octets of the characters (X.690 8.23.8).
+impl ValueOrd for BmpString {
+    #[tactic(auto, using(der_core::proofs::LeafOrders::leaf_contents))]
+    fn value_cmp(&self, other: &Self) -> Result<Ordering, Error> {
+        Ok(self.as_bytes().cmp(other.as_bytes()))
+    }
+}
+
+impl OrdIsValueOrd for BmpString {
+    ghost order = { bmp_order };
+}
+
+/// Writes the characters.
+impl fmt::Display for BmpString {
+    ghost output = { λ s. Some (encode_utf8_all s) };
+
+    fn fmt<W: fmt::Write>(&self, f: &mut fmt::Formatter<W>) -> fmt::Result {
+        let mut characters = self.chars();
+        while let Some(character) = characters.next() {
+            f.write_char(character)?;
+        }
+        Ok(())
+    }
+}
+
+impl fmt::Debug for BmpString {
+    fn fmt<W: fmt::Write>(&self, f: &mut fmt::Formatter<W>) -> fmt::Result {
+        write!(f, "BmpString(\"{self}\")")
+    }
+}

@@ -1,0 +1,151 @@
+-- Sets of named bits, octet by octet.
+use Rattle.std.proofs.Common.{◌≡◌, ℕ, zero, suc, ◌+◌, ◌-◌, ◌*◌, ◌/◌, ◌%◌, ◌<◌, ◌≤◌, ◌^◌, Bool, true, false, List, [], ◌∷◌, ◌++◌, length, get_or, take, drop, refl, ap, sym, subst, ◌∙◌, arith, ◌⊎◌, inl, inr, Ok, Err}
+use Rattle.std.specs.Prelude.{nat_lt, ◌==◌, ◌&&◌, not, slice_set}
+use Rattle.std.specs.Int.{w8, reverse_bits, trailing_zeros}
+use Rattle.std.proofs.lemmas.Bool.{cases_eq, ltb-true}
+use Rattle.std.proofs.lemmas.List.{append-nil}
+use Rattle.std.proofs.lemmas.Nat.{div_below}
+use Rattle.std.proofs.Math.Nat.{pow-suc, pow-le-pow_right}
+use Rattle.std.proofs.lemmas.Grind.{pow_more}
+use Rattle.std.proofs.Math.Pow.{pow_mono}
+use Rattle.std.proofs.Math.Seq.{drop-cons}
+use Rattle.std.proofs.lemmas.List.{take_more_set, take_all, append_assoc}
+use Rattle.der_core_head.specs.declared.error.ErrorKind.TheVariants as kinds
+use Rattle.der_core_head.specs.declared.tag.Tag.{Tag}
+use Rattle.der_core_head.specs.NamedBits.{set_octets, set_of, unused_bits, named_octets, ends_in_one, named_read}
+use Rattle.der_core_head.proofs.Bytes.{IsBytes}
+use Rattle.der_core_head.proofs.NamedLaws.{set_octets-step, named_sound}
+use Rattle.der_types_values.proofs.LastOctet.{last_octet-get_or}
+
+set_octets-zero : set_octets 0 ≡ []
+unfolding set_octets
+set_octets-zero = refl
+
+none_of : (n : ℕ) → n ≡ 0 → length (set_octets n) ≡ 0
+none_of n e = ap (λ m. length (set_octets m)) e ∙ ap (λ (w : List ℕ). length w) set_octets-zero
+
+shorter : (k n : ℕ) → (n ≡ 0) ⊎ (n ≡ 0 → ⊥) → (0 < n → length (set_octets (n / 256)) ≤ k) → length (set_octets n) ≤ suc k
+shorter k n (inl none) next = omega (arith, none_of n none)
+shorter k n (inr some) next =
+    let e = ap (λ (w : List ℕ). length w) (set_octets-step n (omega arith)) in
+    omega (arith, next (omega arith))
+
+-- a number below 256 to the k has at most k octets
+pub set_octets-short : (k n : ℕ) → n < 256 ^ k → length (set_octets n) ≤ k
+set_octets-short zero n h = omega (arith, none_of n (omega arith))
+set_octets-short (suc k) n h = shorter k n (cases_eq n 0) (λ some. set_octets-short k (n / 256) (div_below n 256 (256 ^ k) (omega arith) (rw pow-suc at h)))
+
+-- Reading
+
+pub ends_some : (u : ℕ) (w : List ℕ) → 0 < length w → ends_in_one u w ≡ (not (get_or w (length w - 1) 0 == 0) && (u == trailing_zeros w8 (get_or w (length w - 1) 0)))
+ends_some u [] h = absurd (omega arith)
+ends_some u (b ∷ w) h = ap (λ o. not (o == 0) && (u == trailing_zeros w8 o)) (last_octet-get_or (b ∷ w))
+
+-- the octet before those that were read
+pub set_of-before : (w : List ℕ) (i : ℕ) → i < length w → set_of (drop i w) ≡ set_of (drop (i + 1) w) * 256 + reverse_bits w8 (get_or w i 0)
+unfolding set_of
+set_of-before w i h =
+    let next : suc i ≡ i + 1 = omega arith in
+    ap set_of (drop-cons w i 0 h ∙ ap (λ j. get_or w i 0 ∷ drop j w) next)
+
+step : (names : ℕ) (t : Tag) (u : ℕ) (w : List ℕ) → ends_in_one u w ≡ true → nat_lt (set_of w) (2 ^ names) ≡ true → named_read names t (u ∷ w) ≡ Ok (set_of w)
+unfolding named_read
+step names t u w ends small = rw (ends, small) refl
+
+contents : (u : ℕ) (w : List ℕ) (n : ℕ) → u ∷ w ≡ named_octets n → w ≡ set_octets n
+unfolding named_octets
+contents u w n e = cc
+
+-- more octets than the names have
+pub named_long : (names : ℕ) (t : Tag) (u : ℕ) (w : List ℕ) → names ≤ 64 → IsBytes (u ∷ w) → 8 < length w → ends_in_one u w ≡ true → named_read names t (u ∷ w) ≡ Err (kinds.Value t)
+unfolding named_read
+named_long names t u w few bytes long ends = by (nat_lt (set_of w) (2 ^ names)) refl
+  where
+    by : (b : Bool) → nat_lt (set_of w) (2 ^ names) ≡ b → named_read names t (u ∷ w) ≡ Err (kinds.Value t)
+    by false e = rw (ends, e) refl
+    by true e =
+        let same = contents u w (set_of w) (named_sound names t (u ∷ w) (set_of w) bytes (step names t u w ends e)).1 in
+        let small = ltb-true (set_of w) (2 ^ names) e in
+        let most : 2 ^ names ≤ 2 ^ 64 = pow_mono {i = names} {j = 64} few in
+        let short = set_octets-short 8 (set_of w) (omega arith) in
+        absurd (omega (arith, ap (λ (x : List ℕ). length x) same))
+
+-- the same of a content
+pub content_long : (names : ℕ) (t : Tag) (w : List ℕ) → 0 < length w → names ≤ 64 → IsBytes w → 8 < length (take (length w - 1) (drop 1 w))
+    → ends_in_one (get_or w 0 0) (take (length w - 1) (drop 1 w)) ≡ true → named_read names t w ≡ Err (kinds.Value t)
+content_long names t [] some few bytes long ends = absurd (omega arith)
+content_long names t (u ∷ w) some few bytes long ends =
+    let same : take (length (u ∷ w) - 1) w ≡ w = take_all (length (u ∷ w) - 1) w (omega arith) in
+    named_long names t u w few bytes (rw same at long) (rw same at ends)
+
+pub set_of-none : (w : List ℕ) → w ≡ [] → 0 ≡ set_of w
+unfolding set_of
+set_of-none [] e = refl
+set_of-none (b ∷ w) e = absurd cc
+
+pub room_more : (n count : ℕ) → n < 256 ^ count → count < 8 → n * 256 + 255 < 2 ^ 64
+room_more n count h few =
+    let most : 256 ^ count ≤ 256 ^ 7 = pow-le-pow_right {n = 256} (omega arith) {i = count} {j = 7} (omega arith) in
+    omega arith
+
+pub number_more : (n o count : ℕ) → n < 256 ^ count → o < 256 → n * 256 + o < 256 ^ (count + 1)
+number_more n o count h l =
+    let next : 256 ^ (count + 1) ≡ 256 ^ count * 256 = pow_more 256 count in
+    omega arith
+
+-- Writing
+
+pub left_some : (left k : ℕ) → 0 < left → left < 256 ^ k → 0 < k
+left_some left zero some h = absurd (omega arith)
+left_some left (suc k) some h = omega arith
+
+pub left_next : (left k : ℕ) → 0 < left → left < 256 ^ k → left / 256 < 256 ^ (k - 1)
+left_next left zero some h = absurd (omega arith)
+left_next left (suc k) some h =
+    let next : left / 256 < 256 ^ k = div_below left 256 (256 ^ k) (omega arith) (rw pow-suc at h) in
+    let place : k ≡ suc k - 1 = omega arith in
+    let P : ℕ → Type 0 = λ m. left / 256 < 256 ^ m in
+    subst P place next
+
+pub set_octets-more : (octets : List ℕ) (len left : ℕ) (all : List ℕ) → len < length octets → 0 < left → take len octets ++ set_octets left ≡ all
+    → take (len + 1) (slice_set octets len (reverse_bits w8 (left % 256))) ++ set_octets (left / 256) ≡ all
+set_octets-more octets len left all h some e =
+    ap (λ (u : List ℕ). u ++ set_octets (left / 256)) (take_more_set octets len (reverse_bits w8 (left % 256)) h)
+    ∙ append_assoc (take len octets) (reverse_bits w8 (left % 256) ∷ []) (set_octets (left / 256))
+    ∙ ap (λ (u : List ℕ). take len octets ++ u) (sym (set_octets-step left some))
+    ∙ e
+
+unused_take : (k : ℕ) (w : List ℕ) → k < length w → unused_bits (take (suc k) w) ≡ trailing_zeros w8 (get_or w k 0)
+unused_take k [] h = absurd (omega arith)
+unused_take zero (x ∷ w) h = refl
+unused_take (suc k) (x ∷ []) h = absurd (omega arith)
+unused_take (suc k) (x ∷ y ∷ w) h = unused_take k (y ∷ w) (omega arith)
+
+done : (octets : List ℕ) (len left n : ℕ) → left ≡ 0 → take len octets ++ set_octets left ≡ 0 ∷ set_octets n → take len octets ≡ 0 ∷ set_octets n
+done octets len left n none e =
+    sym (ap (λ m. take len octets ++ set_octets m) none ∙ ap (λ (u : List ℕ). take len octets ++ u) set_octets-zero ∙ append-nil (take len octets)) ∙ e
+
+pub named_some : (octets : List ℕ) (len left n : ℕ) → 1 < len → len ≤ length octets → left ≡ 0 → take len octets ++ set_octets left ≡ 0 ∷ set_octets n
+    → take len (slice_set octets 0 (trailing_zeros w8 (get_or octets (len - 1) 0))) ≡ named_octets n
+unfolding named_octets
+named_some [] len left n one h none e = absurd (omega arith)
+named_some (a ∷ w) zero left n one h none e = absurd (omega arith)
+named_some (a ∷ w) (suc zero) left n one h none e = absurd (omega arith)
+named_some (a ∷ w) (suc (suc k)) left n one h none e =
+    let all = done (a ∷ w) (suc (suc k)) left n none e in
+    let front : take (suc k) w ≡ set_octets n = cc in
+    let place : suc (suc k) - 1 ≡ suc k = omega arith in
+    let last : trailing_zeros w8 (get_or (a ∷ w) (suc (suc k) - 1) 0) ≡ unused_bits (set_octets n) =
+    ap (λ i. trailing_zeros w8 (get_or (a ∷ w) i 0)) place ∙ sym (unused_take k w (omega arith)) ∙ ap unused_bits front in
+    ap (λ t. t ∷ take (suc k) w) last ∙ ap (λ (u : List ℕ). unused_bits (set_octets n) ∷ u) front
+
+pub named_none : (octets : List ℕ) (len left n : ℕ) → len ≡ 1 → len ≤ length octets → left ≡ 0 → take len octets ++ set_octets left ≡ 0 ∷ set_octets n → take len octets ≡ named_octets n
+unfolding named_octets
+named_none [] len left n one h none e = absurd (omega arith)
+named_none (a ∷ w) len left n one h none e =
+    let all = done (a ∷ w) len left n none e in
+    let single : a ∷ [] ≡ 0 ∷ set_octets n = ap (λ i. take i (a ∷ w)) (sym one) ∙ all in
+    let empty : [] ≡ set_octets n = cc in
+    all ∙ ap (λ (m : ℕ). m ∷ set_octets n) (ap unused_bits empty)
+
+pub ruleset ends = (ends_some)

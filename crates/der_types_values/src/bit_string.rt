@@ -1,0 +1,276 @@
+//! BIT STRING.
+
+ghost use Rattle.std.specs.Prelude.{◌≡◌, ◌≢◌, ◌<◌, ◌≤◌, ◌^◌, ◌↔◌, ◌&&◌, [], length, vec_len, true, false, Some, None, nat_eq, ◌==◌, IsTrue, IsOk, IfOk, IfErr, IfSome, IfNone};
+ghost use Rattle.std.proofs.Common.{refl};
+ghost use Rattle.std.specs.Cmp.{po, partial_equiv_from_equiv, on_equiv, on_per};
+ghost use Rattle.std.specs.Cmp.Lexicographic.{pointwise, nat_list_eq_equiv};
+ghost use Rattle.der_core_head.specs.BitStrings.{are_bits, bit_contents};
+ghost use Rattle.der_core_head.specs.declared.tag.Tag.TheVariants.{BitString as BitStringTag};
+ghost use Rattle.der_core_head.specs.Leaves.{bits};
+ghost use Rattle.der_core_head.specs.Shapes.{leaf};
+ghost use Rattle.der_types_values.specs.Bits.{bit_at, bit_count, bit_list};
+ghost use Rattle.der_types_values.specs.BitOrders.{bits_cmp, bits_cmp_total, bits_cmp_ties, bits_fed, bits_fed_alike};
+ghost use Rattle.der_types_values.specs.BitStrings.{bits_lent, bits_left};
+
+use crate::bit_string_iter::BitStringIter;
+use crate::bit_string_ref::{AsBitStringRef, BitStringRef};
+use crate::bits::check_bits;
+use der_core::{
+    DecodeValue, EncodeValue, Error, ErrorKind, FixedTag, Header, Leaf, Length, Reader,
+    ShapedValue, Tag, Writer, decode_leaf,
+};
+use std::alloc::{AllocError, Global};
+use std::cmp::Ordering;
+use std::hash::{Hash, Hasher};
+use std::marker::Model;
+
+/// BIT STRING (X.690 8.6, 11.2): octets, fewer than 2^32, of whose last one up to seven bits are
+/// unused and zero.
+///
+/// Contracts see the number of unused bits and the octets.
+#[derive(Debug, Drop)]
+pub struct BitString {
+    unused_bits: u8,
+    bytes: Vec<u8>,
+}
+
+impl Model for BitString {
+    ghost use Rattle.der_core_head.specs.BitStrings.{Bits};
+
+    ghost Value = { Bits };
+
+    ghost use Rattle.der_types_values.specs.BitStrings.{bits_kept, IsBitString};
+
+    ghost view = { bits_kept };
+
+    ghost invariant = { IsBitString };
+}
+
+impl BitString {
+    /// The greatest number of unused bits.
+    pub const MAX_UNUSED_BITS: u8 = 7;
+
+    /// The bits of these octets but for so many at the end.
+    ///
+    /// # Errors
+    /// `Value` for more than seven unused bits, for unused bits of no octet, and where an unused
+    /// bit isn't zero; then `Overflow` for 2^32 octets or more.
+    pub fn new(unused_bits: u8, bytes: Vec<u8>) -> Result<BitString, Error>
+        ensures bits { IsOk result ↔ ((are_bits unused_bits bytes.items ≡ true) × (vec_len bytes < 2 ^ 32)) }
+        ensures ok { IfOk result (λ b. b ≡ record { unused = unused_bits; octets = bytes.items }) }
+        ensures value { are_bits unused_bits bytes.items ≡ false → IfErr result (λ e. e.kind ≡ ErrorKind.Value Tag.BitString) }
+        ensures long { are_bits unused_bits bytes.items ≡ true → IfErr result (λ e. e.kind ≡ ErrorKind.Overflow) }
+    {
+        check_bits(unused_bits, bytes.as_slice())?;
+        Ok(BitString { unused_bits, bytes })
+    }
+
+    /// All bits of these octets.
+    ///
+    /// # Errors
+    /// `Overflow` for 2^32 octets or more.
+    #[tactic(auto, using(crate::proofs::AllBits::all_bits))]
+    pub fn from_bytes(bytes: Vec<u8>) -> Result<BitString, Error>
+        ensures ok { IfOk result (λ b. (vec_len bytes < 2 ^ 32) × (b ≡ record { unused = 0; octets = bytes.items })) }
+        ensures err { IfErr result (λ e. (2 ^ 32 ≤ vec_len bytes) × (e.kind ≡ ErrorKind.Overflow)) }
+    {
+        if bytes.len() > 0xffff_ffff {
+            return Err(Error::from(ErrorKind::Overflow));
+        }
+        Ok(BitString {
+            unused_bits: 0,
+            bytes,
+        })
+    }
+
+    /// The bits of a borrowed one.
+    pub(crate) fn copy_of(alloc: Global, lent: &BitStringRef<'_>) -> Result<BitString, AllocError>
+        ensures { IfOk result (λ b. b ≡ bits_lent lent.now) }
+    {
+        let bytes = lent.raw_bytes().to_vec(alloc)?;
+        Ok(BitString {
+            unused_bits: lent.unused_bits(),
+            bytes,
+        })
+    }
+
+    /// A copy.
+    ///
+    /// # Errors
+    /// Want of memory.
+    pub fn clone(&self, alloc: Global) -> Result<BitString, AllocError>
+        ensures { IfOk result (λ b. b ≡ self.now) }
+    {
+        let bytes = self.bytes.as_slice().to_vec(alloc)?;
+        Ok(BitString {
+            unused_bits: self.unused_bits,
+            bytes,
+        })
+    }
+
+    /// The number of unused bits, from 0 to 7.
+    pub fn unused_bits(&self) -> u8
+        ensures { result ≡ self.now.unused }
+    {
+        self.unused_bits
+    }
+
+    /// Whether a bit is unused.
+    pub fn has_unused_bits(&self) -> bool
+        ensures { IsTrue result ↔ (self.now.unused ≢ 0) }
+    {
+        self.owned_to_ref().has_unused_bits()
+    }
+
+    /// The number of bits, the unused ones left out.
+    pub fn bit_len(&self) -> usize
+        ensures { result ≡ bit_count self.now }
+    {
+        self.owned_to_ref().bit_len()
+    }
+
+    /// Whether there are no bits.
+    pub fn is_empty(&self) -> bool
+        ensures { IsTrue result ↔ (self.now.octets ≡ []) }
+    {
+        self.bytes.is_empty()
+    }
+
+    /// The octets, if no bit is unused.
+    pub fn as_bytes(&self) -> Option<&[u8]>
+        ensures some { IfSome result (λ w. (self.now.unused ≡ 0) × (w.now ≡ self.now.octets)) }
+        ensures none { IfNone result (self.now.unused ≢ 0) }
+    {
+        self.owned_to_ref().as_bytes()
+    }
+
+    /// The octets, whose unused bits are zero.
+    pub fn raw_bytes(&self) -> &[u8]
+        ensures { result.now ≡ self.now.octets }
+    {
+        self.bytes.as_slice()
+    }
+
+    /// The bits, in order.
+    pub fn bits(&self) -> BitStringIter<'_>
+        ensures { bits_left result ≡ bit_list self.now }
+    {
+        self.owned_to_ref().bits()
+    }
+
+    /// The bit at a place, counted from 0, if there is one.
+    pub fn get(&self, index: usize) -> Option<bool>
+        ensures inside { index < bit_count self.now → result ≡ Some (bit_at self.now.octets index) }
+        ensures outside { bit_count self.now ≤ index → result ≡ None }
+    {
+        self.owned_to_ref().get(index)
+    }
+
+    /// The same bits, lent.
+    pub fn owned_to_ref(&self) -> BitStringRef<'_>
+        ensures { bits_lent result ≡ self.now }
+    {
+        BitStringRef::trusted(self.unused_bits, self.bytes.as_slice())
+    }
+}
+
+/// Whether the contents are equal.
+impl PartialEq for BitString {
+    ghost eq = { λ a b. pointwise nat_eq (bit_contents a) (bit_contents b) };
+
+    ghost laws = { on_per bit_contents (partial_equiv_from_equiv nat_list_eq_equiv) };
+
+    fn eq(&self, other: &Self) -> bool {
+        self.unused_bits() == other.unused_bits() && self.raw_bytes() == other.raw_bytes()
+    }
+}
+
+impl Eq for BitString {
+    ghost laws = { on_equiv bit_contents nat_list_eq_equiv };
+}
+
+/// The order of the numbers of unused bits, and then of the octets: that of the contents.
+impl PartialOrd for BitString {
+    ghost partial_cmp = { λ a b. Some (bits_cmp a b) };
+
+    ghost laws = { po bits_cmp_total bits_cmp_ties };
+
+    fn partial_cmp(&self, other: &Self) -> Option<Ordering> {
+        Some(self.cmp(other))
+    }
+}
+
+impl Ord for BitString {
+    ghost cmp = { bits_cmp };
+
+    ghost total = { bits_cmp_total };
+
+    ghost matches_partial_cmp = { λ a b. refl };
+
+    ghost matches_eq = { bits_cmp_ties };
+
+    fn cmp(&self, other: &Self) -> Ordering {
+        self.owned_to_ref().cmp(&other.owned_to_ref())
+    }
+}
+
+/// The number of unused bits, and then the octets.
+impl Hash for BitString {
+    ghost hash_input = { bits_fed };
+
+    ghost respects_eq = { bits_fed_alike };
+
+    fn hash<H: Hasher>(&self, state: &mut H) {
+        self.owned_to_ref().hash(state);
+    }
+}
+
+impl FixedTag for BitString {
+    ghost fixed_tag = { BitStringTag };
+
+    fn tag() -> Tag {
+        Tag::BitString
+    }
+}
+
+/// The number of unused bits, and the octets.
+impl<'a> Leaf<'a> for BitString {
+    ghost kind = { bits };
+
+    ghost leaf_plain = { λ x. x };
+
+    fn from_content(alloc: Global, tag: Tag, octets: &'a [u8]) -> Result<BitString, Error> {
+        let lent = BitStringRef::from_content(alloc, tag, octets)?;
+        Ok(BitString::copy_of(alloc, &lent)?)
+    }
+}
+
+impl ShapedValue for BitString {
+    ghost content = { leaf bits };
+
+    ghost value_plain = { λ x. x };
+}
+
+impl<'a, R: Reader<'a>> DecodeValue<'a, R> for BitString {
+    fn decode_value(alloc: Global, reader: &mut R, header: Header) -> Result<BitString, Error> {
+        decode_leaf(alloc, reader, header)
+    }
+}
+
+impl EncodeValue for BitString {
+    fn value_len(&self) -> Result<Length, Error> {
+        self.owned_to_ref().value_len()
+    }
+
+    fn encode_value<W: Writer>(&self, writer: &mut W) -> Result<(), Error> {
+        self.owned_to_ref().encode_value(writer)
+    }
+}
+
+impl AsBitStringRef for BitString {
+    ghost as_bits = { λ b. b };
+
+    fn as_bit_string_ref(&self) -> BitStringRef<'_> {
+        self.owned_to_ref()
+    }
+}

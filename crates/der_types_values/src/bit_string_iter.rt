@@ -1,0 +1,72 @@
+//! The bits of a bit string, one after another.
+
+ghost use Rattle.std.specs.Prelude.{◌≡◌, ◌<◌, ◌≤◌, ◌+◌, ◌*◌, ◌^◌, length};
+
+use crate::bits::bit_of;
+use std::iter::FusedIterator;
+
+/// The bits of a bit string that are yet to come, the most significant one of each octet first.
+#[derive(Clone, Copy, Debug)]
+pub struct BitStringIter<'a> {
+    bytes: &'a [u8],
+    position: usize,
+    left: usize,
+    ghost inside: { position + left ≤ 8 * length bytes.now },
+    ghost short: { length bytes.now < 2 ^ 32 },
+}
+
+impl<'a> BitStringIter<'a> {
+    ghost use Rattle.der_types_values.specs.Bits.{bit_at};
+    ghost use Rattle.std.specs.Prelude.{map};
+    ghost use Rattle.std.specs.List.{range_with_len};
+    ghost use Rattle.der_types_values.specs.BitStrings.{bits_left};
+
+    /// The first so many bits of octets.
+    pub(crate) fn of(bytes: &'a [u8], left: usize) -> BitStringIter<'a>
+        requires inside { left ≤ 8 * length bytes.now }
+        requires short { length bytes.now < 2 ^ 32 }
+        ensures { bits_left result ≡ map (bit_at bytes.now) (range_with_len 0 left) }
+    {
+        BitStringIter {
+            bytes,
+            position: 0,
+            left,
+        }
+    }
+}
+
+impl<'a> Iterator for BitStringIter<'a> {
+    ghost use Rattle.std.specs.Iterator.{YieldsFirst, item_count};
+    ghost use Rattle.der_types_values.specs.BitStrings.{bits_left};
+
+    type Item = bool;
+
+    ghost next_gives = { YieldsFirst bits_left };
+
+    ghost remaining = { item_count bits_left };
+
+    fn next(&mut self) -> Option<bool> {
+        if self.left == 0 {
+            return None;
+        }
+        let bit = bit_of(self.bytes, self.position);
+        self.position += 1;
+        self.left -= 1;
+        Some(bit)
+    }
+
+    fn size_hint(&self) -> (usize, Option<usize>) {
+        let len = self.len();
+        (len, Some(len))
+    }
+}
+
+impl<'a> ExactSizeIterator for BitStringIter<'a> {
+    /// The number of bits that are yet to come.
+    #[tactic(auto, using(crate::proofs::BitRuns::runs))]
+    fn len(&self) -> usize {
+        self.left
+    }
+}
+
+impl<'a> FusedIterator for BitStringIter<'a> {}

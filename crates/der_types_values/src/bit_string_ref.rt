@@ -1,0 +1,272 @@
+//! BIT STRING, borrowed.
+
+ghost use Rattle.std.specs.Prelude.{◌≡◌, ◌≢◌, ◌<◌, ◌≤◌, ◌^◌, ◌↔◌, [], length, true, false, Some, None, IsTrue, IsOk, IfOk, IfErr, IfSome, IfNone, MatchResult};
+ghost use Rattle.der_core_head.specs.declared.tag.Tag.TheVariants.{BitString as BitStringTag};
+ghost use Rattle.der_core_head.specs.BitStrings.{Bits, are_bits};
+ghost use Rattle.der_core_head.specs.Leaves.{bits, leaf_read};
+ghost use Rattle.der_core_head.specs.Reading.{GivesNow};
+ghost use Rattle.der_core_head.specs.Shapes.{leaf};
+ghost use Rattle.der_types_values.specs.Bits.{bit_at, bit_count, bit_list};
+
+use crate::bit_string::BitString;
+use crate::bit_string_iter::BitStringIter;
+use crate::bits::{bit_of, check_bits, may_be_unused};
+use der_core::{
+    DecodeValue, EncodeValue, Error, ErrorKind, FixedTag, Header, Leaf, Length, Reader,
+    ShapedValue, Tag, Writer, decode_leaf, encode_behind, len_behind,
+};
+use std::alloc::{AllocError, Global};
+
+/// BIT STRING (X.690 8.6, 11.2): octets, fewer than 2^32, of whose last one up to seven bits are
+/// unused and zero; lent.
+#[derive(Clone, Copy, Debug, PartialEq, Eq, PartialOrd, Ord, Hash)]
+pub struct BitStringRef<'a> {
+    unused_bits: u8,
+    bytes: &'a [u8],
+    ghost unused: { are_bits unused_bits bytes.now ≡ true },
+    ghost short: { length bytes.now < 2 ^ 32 },
+}
+
+impl<'a> BitStringRef<'a> {
+    ghost use Rattle.der_types_values.specs.BitStrings.{bits_lent, bits_left};
+
+    /// The greatest number of unused bits.
+    pub const MAX_UNUSED_BITS: u8 = 7;
+
+    /// The bits of these octets but for so many at the end.
+    ///
+    /// # Errors
+    /// `Value` for more than seven unused bits, for unused bits of no octet, and where an unused
+    /// bit isn't zero; then `Overflow` for 2^32 octets or more.
+    pub fn new(unused_bits: u8, bytes: &'a [u8]) -> Result<BitStringRef<'a>, Error>
+        ensures bits { IsOk result ↔ ((are_bits unused_bits bytes.now ≡ true) × (length bytes.now < 2 ^ 32)) }
+        ensures ok { IfOk result (λ b. bits_lent b ≡ record { unused = unused_bits; octets = bytes.now }) }
+        ensures value { are_bits unused_bits bytes.now ≡ false → IfErr result (λ e. e.kind ≡ ErrorKind.Value Tag.BitString) }
+        ensures long { are_bits unused_bits bytes.now ≡ true → IfErr result (λ e. e.kind ≡ ErrorKind.Overflow) }
+    {
+        check_bits(unused_bits, bytes)?;
+        Ok(BitStringRef { unused_bits, bytes })
+    }
+
+    /// All bits of these octets.
+    ///
+    /// # Errors
+    /// `Overflow` for 2^32 octets or more.
+    #[tactic(auto, using(crate::proofs::AllBits::all_bits))]
+    pub fn from_bytes(bytes: &'a [u8]) -> Result<BitStringRef<'a>, Error>
+        ensures ok { IfOk result (λ b. (length bytes.now < 2 ^ 32) × (bits_lent b ≡ record { unused = 0; octets = bytes.now })) }
+        ensures err { IfErr result (λ e. (2 ^ 32 ≤ length bytes.now) × (e.kind ≡ ErrorKind.Overflow)) }
+    {
+        if bytes.len() > 0xffff_ffff {
+            return Err(Error::from(ErrorKind::Overflow));
+        }
+        Ok(BitStringRef {
+            unused_bits: 0,
+            bytes,
+        })
+    }
+
+    /// The number of unused bits, from 0 to 7.
+    pub fn unused_bits(&self) -> u8
+        ensures { result ≡ (bits_lent self.now).unused }
+    {
+        self.unused_bits
+    }
+
+    /// Whether a bit is unused.
+    pub fn has_unused_bits(&self) -> bool
+        ensures { IsTrue result ↔ ((bits_lent self.now).unused ≢ 0) }
+    {
+        self.unused_bits != 0
+    }
+
+    /// The number of bits, the unused ones left out.
+    #[tactic(auto, using(crate::proofs::AllBits::few_unused))]
+    pub fn bit_len(&self) -> usize
+        ensures { result ≡ bit_count (bits_lent self.now) }
+    {
+        8 * self.bytes.len() - usize::from(self.unused_bits)
+    }
+
+    /// The number of octets.
+    pub fn byte_len(&self) -> Length
+        ensures { result.value ≡ length (bits_lent self.now).octets }
+    {
+        Length {
+            value: self.bytes.len() as u32,
+        }
+    }
+
+    /// Whether there are no bits.
+    pub fn is_empty(&self) -> bool
+        ensures { IsTrue result ↔ ((bits_lent self.now).octets ≡ []) }
+    {
+        self.bytes.is_empty()
+    }
+
+    /// The octets, if no bit is unused.
+    pub fn as_bytes(&self) -> Option<&'a [u8]>
+        ensures some { IfSome result (λ w. ((bits_lent self.now).unused ≡ 0) × (w.now ≡ (bits_lent self.now).octets)) }
+        ensures none { IfNone result ((bits_lent self.now).unused ≢ 0) }
+    {
+        if self.has_unused_bits() {
+            None
+        } else {
+            Some(self.bytes)
+        }
+    }
+
+    /// The octets, whose unused bits are zero.
+    pub fn raw_bytes(&self) -> &'a [u8]
+        ensures octets { result.now ≡ (bits_lent self.now).octets }
+        ensures bits { are_bits (bits_lent self.now).unused result.now ≡ true }
+        ensures short { length result.now < 2 ^ 32 }
+    {
+        self.bytes
+    }
+
+    /// The bits, in order.
+    pub fn bits(&self) -> BitStringIter<'a>
+        ensures { bits_left result ≡ bit_list (bits_lent self.now) }
+    {
+        BitStringIter::of(self.bytes, self.bit_len())
+    }
+
+    /// The bit at a place, counted from 0, if there is one.
+    pub fn get(&self, index: usize) -> Option<bool>
+        ensures inside { index < bit_count (bits_lent self.now) → result ≡ Some (bit_at (bits_lent self.now).octets index) }
+        ensures outside { bit_count (bits_lent self.now) ≤ index → result ≡ None }
+    {
+        if index < self.bit_len() {
+            Some(bit_of(self.bytes, index))
+        } else {
+            None
+        }
+    }
+
+    /// The same bits, owned.
+    ///
+    /// # Errors
+    /// Want of memory.
+    pub fn ref_to_owned(&self, alloc: Global) -> Result<BitString, AllocError>
+        ensures { IfOk result (λ b. b ≡ bits_lent self.now) }
+    {
+        BitString::copy_of(alloc, self)
+    }
+
+    /// The bits that a content spells behind a tag.
+    ///
+    /// # Errors
+    /// `Length` for no octets, `Value` where bits can't be unused.
+    #[tactic(auto, unfolding(der_core_head::specs::BitStrings::bits_read))]
+    pub fn of_content(tag: Tag, octets: &'a [u8]) -> Result<BitStringRef<'a>, Error>
+        requires { length octets.now < 2 ^ 32 }
+        ensures { GivesNow bits_lent result (leaf_read bits tag octets.now) }
+    {
+        let [unused_bits, bytes @ ..] = octets else {
+            return Err(Error::from(ErrorKind::Length { tag }));
+        };
+        let unused_bits = *unused_bits;
+        if !may_be_unused(unused_bits, bytes) {
+            return Err(Error::from(ErrorKind::Value { tag }));
+        }
+        Ok(BitStringRef { unused_bits, bytes })
+    }
+
+    /// Octets whose unused bits are known to be zero.
+    pub(crate) fn trusted(unused_bits: u8, bytes: &'a [u8]) -> BitStringRef<'a>
+        requires unused { are_bits unused_bits bytes.now ≡ true }
+        requires short { length bytes.now < 2 ^ 32 }
+        ensures { bits_lent result ≡ record { unused = unused_bits; octets = bytes.now } }
+    {
+        BitStringRef { unused_bits, bytes }
+    }
+}
+
+/// All bits of a slice of fewer than 2^32 octets.
+impl<'a> TryFrom<&'a [u8]> for BitStringRef<'a> {
+    ghost use Rattle.std.specs.Prelude.{◌≡◌, ◌<◌, ◌≤◌, ◌^◌, length, MatchResult};
+    ghost use Rattle.der_core_head.specs.declared.error.ErrorKind.TheVariants as kinds;
+    ghost use Rattle.der_types_values.specs.BitStrings.{bits_lent};
+
+    type Error = Error;
+
+    ghost try_from_gives = { λ bytes r. MatchResult r (λ b. bits_lent b ≡ record { unused = 0; octets = bytes.now }) (λ e. (2 ^ 32 ≤ length bytes.now) × (e.kind ≡ kinds.Overflow)) };
+
+    fn try_from(bytes: &'a [u8]) -> Result<BitStringRef<'a>, Error> {
+        BitStringRef::from_bytes(bytes)
+    }
+}
+
+impl<'a> FixedTag for BitStringRef<'a> {
+    ghost fixed_tag = { BitStringTag };
+
+    fn tag() -> Tag
+        ensures { result ≡ BitStringTag }
+    {
+        Tag::BitString
+    }
+}
+
+/// The number of unused bits, and the octets.
+impl<'a> Leaf<'a> for BitStringRef<'a> {
+    ghost use Rattle.der_types_values.specs.BitStrings.{bits_lent};
+
+    ghost kind = { bits };
+
+    ghost leaf_plain = { bits_lent };
+
+    fn from_content(_alloc: Global, tag: Tag, octets: &'a [u8]) -> Result<BitStringRef<'a>, Error> {
+        let value = BitStringRef::of_content(tag, octets)?;
+        Ok(value)
+    }
+}
+
+impl<'a> ShapedValue for BitStringRef<'a> {
+    ghost use Rattle.der_types_values.specs.BitStrings.{bits_lent};
+
+    ghost content = { leaf bits };
+
+    ghost value_plain = { bits_lent };
+}
+
+impl<'a, R: Reader<'a>> DecodeValue<'a, R> for BitStringRef<'a> {
+    fn decode_value(
+        alloc: Global,
+        reader: &mut R,
+        header: Header,
+    ) -> Result<BitStringRef<'a>, Error> {
+        decode_leaf(alloc, reader, header)
+    }
+}
+
+impl<'a> EncodeValue for BitStringRef<'a> {
+    fn value_len(&self) -> Result<Length, Error> {
+        len_behind(self.byte_len())
+    }
+
+    fn encode_value<W: Writer>(&self, writer: &mut W) -> Result<(), Error> {
+        encode_behind(writer, self.unused_bits, self.bytes)
+    }
+}
+
+/// What is seen as a bit string.
+pub trait AsBitStringRef {
+    ghost as_bits: { Self → Bits };
+
+    ghost use Rattle.der_types_values.specs.BitStrings.{bits_lent};
+
+    /// The bits.
+    fn as_bit_string_ref(&self) -> BitStringRef<'_>
+        ensures { bits_lent result ≡ as_bits self.now };
+}
+
+impl<'a> AsBitStringRef for BitStringRef<'a> {
+    ghost use Rattle.der_types_values.specs.BitStrings.{bits_lent};
+
+    ghost as_bits = { bits_lent };
+
+    fn as_bit_string_ref(&self) -> BitStringRef<'_> {
+        *self
+    }
+}

@@ -1,0 +1,250 @@
+//! Named bits.
+
+ghost use Rattle.std.specs.Prelude.{⊤, nat_eq, ◌≡◌, ◌==◌, ◌<◌, ◌≤◌, ◌-◌, ◌^◌, ℕ, length, take, nat_lt, IfOk};
+ghost use Rattle.std.specs.Cmp.{on_per, on_equiv, nat_eq_equiv, partial_equiv_from_equiv};
+ghost use Rattle.std.specs.Int.RustNames.{bit_and, bit_or};
+ghost use Rattle.bitflags.specs.Sets.{known_bits};
+ghost use Rattle.der_core_head.specs.declared.tag.Tag.TheVariants.{BitString};
+ghost use Rattle.der_core_head.specs.Shapes.{leaf};
+ghost use Rattle.der_core_head.specs.Leaves.{named};
+ghost use Rattle.der_core_head.specs.NamedBits.{ends_in_one, set_of as set_of_octets, named_octets, named_read};
+ghost use Rattle.der_core_head.specs.Reading.{GivesNow};
+
+use bitflags::Flags;
+use der_core::{
+    DecodeValue, EncodeValue, Error, ErrorKind, FixedTag, Header, Leaf, Length, Reader,
+    ShapedValue, Tag, ValueOrd, Writer, decode_leaf,
+};
+use std::alloc::{AllocError, Global};
+use std::cmp::Ordering;
+
+/// A type of sets of named bits (X.680 22.2): its first bits have a name each, at most 64 of them.
+pub trait NamedBits: Flags + Copy {
+    /// How many names there are.
+    ghost names: { ℕ };
+
+    /// How many names there are, from 0 to 64.
+    fn names() -> u32
+        ensures value { result ≡ names }
+        ensures few { result ≤ 64 };
+
+    /// The number whose bit i tells whether name i is in the set.
+    fn to_number(&self) -> u64
+        ensures { result ≡ Self.set_of self.now };
+
+    /// The set of which a number tells.
+    fn from_number(number: u64) -> Self
+        requires { number < 2 ^ names }
+        ensures { Self.set_of result ≡ number };
+
+    ghost stated: { Self.exact };
+
+    ghost known: { known_bits Self.table ≡ 2 ^ names - 1 };
+}
+
+/// A set of named bits: a BIT STRING whose last bit is one (X.680 22.7; X.690 11.2.2).
+#[derive(Debug)]
+pub struct FlagSet<F: NamedBits> {
+    pub flags: F,
+    ghost named: { F.set_of flags < 2 ^ F.names },
+}
+
+impl<F: NamedBits> Clone for FlagSet<F> {
+    ghost is_clone = { λ x y. y ≡ x };
+
+    ghost is_infallible = { λ _. ⊤ };
+
+    fn clone(&self) -> Result<FlagSet<F>, AllocError> {
+        Ok(*self)
+    }
+}
+
+impl<F: NamedBits> Copy for FlagSet<F> {}
+
+/// The same names.
+impl<F: NamedBits> PartialEq for FlagSet<F> {
+    ghost eq = { λ x y. nat_eq (F.set_of x.flags) (F.set_of y.flags) };
+
+    ghost laws = { on_per (λ x. F.set_of x.flags) {E = nat_eq} (partial_equiv_from_equiv nat_eq_equiv) };
+
+    fn eq(&self, other: &FlagSet<F>) -> bool {
+        self.flags.to_number() == other.flags.to_number()
+    }
+}
+
+impl<F: NamedBits> Eq for FlagSet<F> {
+    ghost laws = { on_equiv (λ x. F.set_of x.flags) nat_eq_equiv };
+}
+
+/// Whether each bit of a number has a name.
+fn are_named(number: u64, names: u32) -> bool
+    requires { names ≤ 64 }
+    ensures { result ≡ nat_lt number (2 ^ names) }
+{
+    names == 64 || number < 1 << names
+}
+
+/// Whether the last bit that counts is one, and of no octets none is unused.
+#[tactic(auto, using(crate::proofs::NamedSteps::ends))]
+fn ends_in_one(unused: u8, octets: &[u8]) -> bool
+    ensures { result ≡ ends_in_one unused octets.now }
+{
+    match octets {
+        [] => unused == 0,
+        [.., last] => *last != 0 && u32::from(unused) == last.trailing_zeros(),
+    }
+}
+
+/// The set of which octets tell, the first name in the highest bit of the first octet.
+fn number_of(octets: &[u8]) -> u64
+    requires { length octets.now ≤ 8 }
+    ensures { result ≡ set_of_octets octets.now }
+{
+    let mut number = 0u64;
+    for count in 0..octets.len() {
+        let octet = octets[octets.len() - 1 - count];
+        number = number * 256 + u64::from(octet.reverse_bits());
+    }
+    number
+}
+
+/// The set of which a content tells, of so many names.
+///
+/// # Errors
+/// `Length` for no octets, `Value` where the last bit isn't one or a bit has no name.
+#[tactic(auto, unfolding(der_core_head::specs::NamedBits::named_read))]
+fn read_named(tag: Tag, octets: &[u8], names: u32) -> Result<u64, Error>
+    requires { names ≤ 64 }
+    ensures exact { GivesNow (λ n. n) result (named_read names tag octets.now) }
+    ensures small { IfOk result (λ n. n < 2 ^ names) }
+{
+    let [unused, octets @ ..] = octets else {
+        return Err(Error::from(ErrorKind::Length { tag }));
+    };
+    if !ends_in_one(*unused, octets) {
+        return Err(Error::from(ErrorKind::Value { tag }));
+    }
+    if octets.len() > 8 {
+        return Err(Error::from(ErrorKind::Value { tag }));
+    }
+    let number = number_of(octets);
+    if !are_named(number, names) {
+        return Err(Error::from(ErrorKind::Value { tag }));
+    }
+    Ok(number)
+}
+
+/// The content of a set: the first octets of the array, so many.
+fn named_octets_of(number: u64) -> ([u8; 9], usize)
+    ensures octets { take result.1 result.0 ≡ named_octets number }
+    ensures few { result.1 ≤ 9 }
+{
+    let mut octets = [0; 9];
+    let mut len = 1;
+    let mut left = number;
+    while left > 0 {
+        octets[len] = ((left % 256) as u8).reverse_bits();
+        len += 1;
+        left /= 256;
+    }
+    if len > 1 {
+        octets[0] = octets[len - 1].trailing_zeros() as u8;
+    }
+    (octets, len)
+}
+
+impl<F: NamedBits> FlagSet<F> {
+    /// No name.
+    pub fn empty() -> FlagSet<F>
+        ensures { F.set_of result.flags ≡ 0 }
+    {
+        FlagSet { flags: F::empty() }
+    }
+
+    /// Every name.
+    pub fn full() -> FlagSet<F>
+        ensures { F.set_of result.flags ≡ 2 ^ F.names - 1 }
+    {
+        FlagSet { flags: F::all() }
+    }
+
+    /// The names of a flag. Each of its bits has a name.
+    pub fn from_flag(flag: F) -> FlagSet<F>
+        requires { F.set_of flag < 2 ^ F.names }
+        ensures { result.flags ≡ flag }
+    {
+        FlagSet { flags: flag }
+    }
+
+    /// Whether each name of a flag is in the set.
+    pub fn contains(&self, flag: F) -> bool
+        ensures { result ≡ (bit_and (F.set_of self.now.flags) (F.set_of flag) == F.set_of flag) }
+    {
+        self.flags.contains(flag)
+    }
+
+    /// The names that either has.
+    pub fn union(self, other: FlagSet<F>) -> FlagSet<F>
+        ensures { F.set_of result.flags ≡ bit_or (F.set_of self.flags) (F.set_of other.flags) }
+    {
+        FlagSet {
+            flags: self.flags.union(other.flags),
+        }
+    }
+}
+
+impl<F: NamedBits> FixedTag for FlagSet<F> {
+    ghost fixed_tag = { BitString };
+
+    fn tag() -> Tag {
+        Tag::BitString
+    }
+}
+
+/// The bits up to the last one, and how many bits of the last octet are unused.
+impl<'a, F: NamedBits> Leaf<'a> for FlagSet<F> {
+    ghost kind = { named F.names };
+
+    ghost leaf_plain = { λ s. F.set_of s.flags };
+
+    fn from_content(_alloc: Global, tag: Tag, octets: &'a [u8]) -> Result<FlagSet<F>, Error> {
+        let number = read_named(tag, octets, F::names())?;
+        Ok(FlagSet {
+            flags: F::from_number(number),
+        })
+    }
+}
+
+impl<F: NamedBits> ShapedValue for FlagSet<F> {
+    ghost content = { leaf (named F.names) };
+
+    ghost value_plain = { λ s. F.set_of s.flags };
+}
+
+impl<'a, R: Reader<'a>, F: NamedBits> DecodeValue<'a, R> for FlagSet<F> {
+    fn decode_value(alloc: Global, reader: &mut R, header: Header) -> Result<FlagSet<F>, Error> {
+        decode_leaf(alloc, reader, header)
+    }
+}
+
+impl<F: NamedBits> EncodeValue for FlagSet<F> {
+    fn value_len(&self) -> Result<Length, Error> {
+        let (_, len) = named_octets_of(self.flags.to_number());
+        Ok(Length { value: len as u32 })
+    }
+
+    fn encode_value<W: Writer>(&self, writer: &mut W) -> Result<(), Error> {
+        let (octets, len) = named_octets_of(self.flags.to_number());
+        writer.write(&octets[..len])
+    }
+}
+
+/// The count of unused bits, and then the bits.
+impl<F: NamedBits> ValueOrd for FlagSet<F> {
+    #[tactic(auto, using(der_core::proofs::LeafOrders::leaf_contents))]
+    fn value_cmp(&self, other: &Self) -> Result<Ordering, Error> {
+        let (octets, len) = named_octets_of(self.flags.to_number());
+        let (others, other_len) = named_octets_of(other.flags.to_number());
+        Ok(octets[..len].cmp(&others[..other_len]))
+    }
+}
