@@ -1,0 +1,76 @@
+//! Bundles, call by call.
+
+ghost use Rattle.std.specs.Prelude.{◌≤◌, IfOk};
+
+use crate::refusals::Refusal;
+use crate::schedules::Schedule;
+use crate::words::{number_of, octets_of, word_of};
+use cert_desk::Bundle;
+use cert_desk_io::MemoryInput;
+use std::alloc::Global;
+use std::fmt::Write;
+
+/// The limit that a word states.
+pub fn limit_of(word: &str) -> Result<u32, Refusal>
+    ensures { IfOk result (λ limit. 6 ≤ limit) }
+{
+    let limit = number_of(word)?;
+    if limit < 6 {
+        return Err(Refusal::Unread);
+    }
+    Ok(limit)
+}
+
+/// The answers to calls, and how the bundle and its input stand then.
+pub fn answer(alloc: Global, rest: &str) -> Result<String, Refusal> {
+    let (limit, rest) = rest.split_once(' ').ok_or(Refusal::Unread)?;
+    let (schedule, rest) = rest.split_once(' ').ok_or(Refusal::Unread)?;
+    let (octets, calls) = rest.split_once(' ').ok_or(Refusal::Unread)?;
+    let limit = limit_of(limit)?;
+    let schedule = Schedule::parse(alloc, schedule)?;
+    let octets = octets_of(alloc, octets)?;
+    let mut input = schedule.input(octets.as_slice());
+    let mut bundle = Bundle::new(alloc, limit);
+    let mut text = String::new(alloc);
+    for call in calls.split(' ') {
+        write_call(alloc, &mut text, &mut bundle, &mut input, call)?;
+    }
+    write_standing(alloc, &mut text, &bundle)?;
+    let (left, failures) = (input.left().len(), input.failures());
+    write!(text, "left={left} failures={failures}")?;
+    Ok(text)
+}
+
+/// Writes what the bundle answers to a call.
+fn write_call(
+    alloc: Global,
+    text: &mut String,
+    bundle: &mut Bundle,
+    input: &mut MemoryInput<'_>,
+    call: &str,
+) -> Result<(), Refusal> {
+    match call {
+        "read" => write!(text, "{:?}; ", bundle.read_from(input))?,
+        "end" => write!(text, "{:?}; ", bundle.finish())?,
+        piece => {
+            let piece = octets_of(alloc, piece)?;
+            write!(text, "{:?}; ", bundle.feed(piece.as_slice()))?;
+        }
+    }
+    Ok(())
+}
+
+/// Writes how a bundle stands, and its certificates: offset, octets, signed octets.
+fn write_standing(alloc: Global, text: &mut String, bundle: &Bundle) -> Result<(), Refusal> {
+    let (len, end) = (bundle.len(), bundle.end_offset());
+    write!(text, "{:?} len={len} end={end}; ", bundle.standing())?;
+    for place in 0..bundle.len() {
+        let Some(entry) = bundle.get(place) else {
+            break;
+        };
+        let octets = word_of(alloc, entry.octets)?;
+        let signed = word_of(alloc, entry.signed)?;
+        write!(text, "{} {octets} {signed}; ", entry.offset)?;
+    }
+    Ok(())
+}

@@ -1,0 +1,21 @@
+//! How a stream splits, as two programs find it.
+
+use crate::bundles::limit_of;
+use crate::refusals::Refusal;
+use crate::words::octets_of;
+use cert_desk::Bundle;
+use cert_desk_plain::split;
+use std::alloc::Global;
+
+/// The number of certificates and of their octets, by the plain split and by a bundle.
+pub fn answer(alloc: Global, rest: &str) -> Result<String, Refusal> {
+    let (limit, octets) = rest.split_once(' ').ok_or(Refusal::Unread)?;
+    let limit = limit_of(limit)?;
+    let octets = octets_of(alloc, octets)?;
+    let (certificates, end) = split(alloc, octets.as_slice(), limit)?;
+    let mut bundle = Bundle::new(alloc, limit);
+    let _ = bundle.feed(octets.as_slice());
+    let (count, read) = (bundle.len(), bundle.end_offset());
+    let text = format!(in alloc; "{} {end}, {count} {read}", certificates.len())?;
+    Ok(text)
+}

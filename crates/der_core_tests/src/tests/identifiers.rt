@@ -1,0 +1,80 @@
+//! Capacities, borrowed identifiers, and types that have an identifier.
+
+ghost use Rattle.std.specs.Prelude.{◌∷◌, []};
+
+use const_oid::{
+    AssociatedOid, DynAssociatedOid, Error, ObjectIdentifier, ObjectIdentifierRef, Result, laws,
+};
+use std::cmp::Ordering;
+use std::convert::AsSlice;
+use std::hash::{DefaultHasher, Hash, Hasher};
+
+type Identifier = ObjectIdentifier<39>;
+
+#[test]
+fn capacities(rt: HostRuntime) -> Result<()> {
+    let text = "1.2.840.10045.2.1";
+    let oid = Identifier::new(text)?;
+    if Identifier::new(text).is_ok() {
+        assert!(rt; Identifier::new_unwrap(text) == oid);
+    }
+    let borrowed = oid.as_oid_ref();
+    let octets = borrowed.as_bytes();
+    assert_eq!(rt; Identifier::MAX_SIZE, 39);
+    assert!(rt; ObjectIdentifier::<6>::from_bytes_sized(octets) == Err(Error::Length));
+    assert!(rt; ObjectIdentifier::<6>::try_from(borrowed) == Err(Error::Length));
+    assert!(rt; Identifier::try_from(borrowed) == Ok(oid));
+    let front = ObjectIdentifier::<3>::from_bytes_sized(&[0x2a, 0x86, 0x48])?;
+    assert!(rt; oid.starts_with(front) && !front.starts_with(oid));
+    let shown = format!(in rt.alloc(); "{}", Error::Overflow).expect(&rt, "memory");
+    assert!(rt; shown.as_str() == "internal calculation overflowed");
+    Ok(())
+}
+
+/// What a hasher makes of a value.
+fn hash_of<T: Hash>(value: &T) -> u64 {
+    let mut state = DefaultHasher::new();
+    value.hash(&mut state);
+    state.finish()
+}
+
+#[test]
+fn borrowed_identifiers(rt: HostRuntime) -> Result<()> {
+    let oid = Identifier::new("1.2.840.10045.2.1")?;
+    let borrowed = ObjectIdentifierRef::from(&oid);
+    assert!(rt; borrowed.equals_owned(&oid) && borrowed.as_slice() == oid.as_slice());
+    assert!(rt; hash_of(&oid) == hash_of(&borrowed));
+    let parent = ObjectIdentifierRef::from_bytes(&[0x2a, 0x86, 0x48, 0xce, 0x3d, 0x02])?;
+    assert!(rt; !parent.equals_owned(&oid) && !laws::are_equal_borrowed(&parent, &borrowed));
+    assert!(rt; laws::compare_borrowed(&parent, &borrowed) == Ordering::Less);
+    assert!(rt; borrowed.len() == 6 && borrowed.arc(3) == Some(10045));
+    let mut arcs = borrowed.arcs();
+    for want in [1, 2, 840, 10045, 2, 1] {
+        assert!(rt; arcs.next() == Some(want), "{want}");
+    }
+    assert!(rt; arcs.next().is_none());
+    assert!(rt; arcs.next().is_none());
+    Ok(())
+}
+
+/// The attribute 2.5.4.3 (X.520 6.2.2).
+struct CommonName;
+
+impl AssociatedOid for CommonName {
+    ghost oid_arcs = { 2 ∷ 5 ∷ 4 ∷ 3 ∷ [] };
+
+    #[tactic(auto, unfolding(const_oid_identifiers::specs::IdentifierOctets::read_identifier, const_oid_identifiers::specs::IdentifierOctets::read_arcs, const_oid_identifiers::specs::Bound::Bound))]
+    fn associated_oid() -> ObjectIdentifier<39> {
+        match ObjectIdentifier::<39>::from_bytes(&[0x55, 0x04, 0x03]) {
+            Ok(oid) => oid,
+            Err(_) => unreachable!(),
+        }
+    }
+}
+
+#[test]
+fn identifiers_of_types(rt: HostRuntime) -> Result<()> {
+    let value: &dyn DynAssociatedOid = &CommonName;
+    assert!(rt; value.oid() == Identifier::new("2.5.4.3")?);
+    Ok(())
+}

@@ -1,0 +1,50 @@
+//! Questions and their answers.
+
+use crate::refusals::Refusal;
+use crate::{any_values, fields, headers, identifiers, kinds, lists, made, times};
+use std::alloc::Global;
+use std::io::Write;
+use std::{io, str};
+
+/// Writes the answer to a line.
+pub fn answer<W: Write>(alloc: Global, line: &[u8], out: &mut W) -> io::Result<()> {
+    if line.is_empty() || line.starts_with(b"#") {
+        out.write_all(line)?;
+        return out.write_all(b"\n");
+    }
+    match answer_of(alloc, line) {
+        Ok(text) if text.is_empty() => out.write_all(b"ok\n"),
+        Ok(text) => writeln!(out, "ok {text}"),
+        Err(refusal) => writeln!(out, "{refusal}"),
+    }
+}
+
+/// What is answered behind `ok`: of `why`, what the refusal of the question behind it prints.
+fn answer_of(alloc: Global, line: &[u8]) -> Result<String, Refusal> {
+    let line = str::from_utf8(line)?;
+    let Some(question) = line.strip_prefix("why ") else {
+        return answer_of_words(alloc, line);
+    };
+    match answer_of_words(alloc, question) {
+        Ok(_) => Err(Refusal::Unread),
+        Err(refusal) => refusal.reason(alloc),
+    }
+}
+
+/// The answer by the first page of words that knows the first word.
+fn answer_of_words(alloc: Global, line: &str) -> Result<String, Refusal> {
+    let (word, rest) = line.split_once(' ').unwrap_or((line, ""));
+    match word {
+        "der" | "ber" | "order" | "contents" | "compare" | "text" => kinds::answer(
+            alloc, word, rest,
+        ),
+        "date" | "seconds" => times::answer_of_dates(alloc, word, rest),
+        "new" => made::of_octets(alloc, rest),
+        "from" => made::of_text(alloc, rest),
+        "explicit" | "implicit" => fields::answer_of_number(alloc, word, rest),
+        _ if word.starts_with("any-") => any_values::answer_of_conversions(alloc, word, rest),
+        _ if word.starts_with("set-") => lists::answer_of_members(alloc, word, rest),
+        _ if word.starts_with("oid") => identifiers::answer(alloc, word, rest),
+        _ => headers::answer(alloc, word, rest),
+    }
+}

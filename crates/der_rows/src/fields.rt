@@ -1,0 +1,222 @@
+//! Fields of sequences, and values behind tags of other classes.
+
+ghost use Rattle.std.specs.Prelude.{◌≡◌, IfOk, IfSome};
+ghost use Rattle.der_core_head.specs.declared.tag_mode.TagMode.TheVariants as modes;
+
+use crate::any_values;
+use crate::entry::Entry;
+use crate::made::written;
+use crate::questions::{Question, name_of};
+use crate::record::Record;
+use crate::refusals::Refusal;
+use der_core::{
+    CLASS_APPLICATION, CLASS_CONTEXT_SPECIFIC, CLASS_PRIVATE, Decode, DecodeValue, Encode,
+    EncodeValue, Error, Explicit, FixedTag, Implicit, Reader, SliceReader, TagMode, TagNumber,
+    WithDefault, from_ber, from_der,
+};
+use der_types_any::AnyRef;
+use der_types_tagged::ClassField;
+use der_types_values::{BitString, OctetStringRef};
+use std::alloc::Global;
+
+/// A field of each kind.
+type EachKind<'a> = (
+    u8,
+    (
+        OctetStringRef<'a>,
+        (
+            Implicit<u8, 1>,
+            (
+                WithDefault<bool>,
+                (Option<Explicit<bool, 31>>, (Option<AnyRef<'a>>, ())),
+            ),
+        ),
+    ),
+);
+
+/// The answer of a type that this page names.
+pub fn answer(alloc: Global, kind: &str, question: Question<'_>) -> Result<String, Refusal> {
+    match kind {
+        "EachKind" => answer_of::<Record<EachKind>>(alloc, question),
+        "Entry" => answer_of::<Entry>(alloc, question),
+        "ContextSpecific<u8>" => answer_of_class::<CLASS_CONTEXT_SPECIFIC>(alloc, question),
+        "Application<u8>" => answer_of_class::<CLASS_APPLICATION>(alloc, question),
+        "Private<u8>" => answer_of_class::<CLASS_PRIVATE>(alloc, question),
+        _ => any_values::answer(alloc, kind, question),
+    }
+}
+
+/// The answer of a SEQUENCE that isn't compared.
+fn answer_of<'a, T: Decode<'a, SliceReader<'a>> + Encode + Drop>(
+    alloc: Global,
+    question: Question<'a>,
+) -> Result<String, Refusal> {
+    match question {
+        Question::Der(octets) => written(alloc, &from_der::<T>(alloc, octets)?),
+        Question::Ber(octets) => written(alloc, &from_ber::<T>(alloc, octets)?),
+        _ => Err(Refusal::Unread),
+    }
+}
+
+/// The answer of a field of any number, whose tag stands in front of the value's own.
+fn answer_of_class<const CLASS: u8>(
+    alloc: Global,
+    question: Question<'_>,
+) -> Result<String, Refusal> {
+    match question {
+        Question::Der(octets) => {
+            let field = of_any_number::<CLASS>(alloc, octets)?;
+            Ok(hex::encode(alloc, field.to_der(alloc)?)?)
+        }
+        Question::Order(first, second) => {
+            let first = of_any_number::<CLASS>(alloc, first)?;
+            let second = of_any_number::<CLASS>(alloc, second)?;
+            Ok(name_of(first.der_cmp(&second)?).to_string(alloc)?)
+        }
+        _ => Err(Refusal::Unread),
+    }
+}
+
+/// The field of any number that octets spell, all of them.
+fn of_any_number<const CLASS: u8>(
+    alloc: Global,
+    octets: &[u8],
+) -> Result<ClassField<u8, CLASS>, Error>
+    ensures { IfOk result (λ f. f.tag_mode ≡ modes.Explicit) }
+{
+    let mut reader = SliceReader::new(octets)?;
+    let field = ClassField::decode(alloc, &mut reader)?;
+    reader.finish()?;
+    Ok(field)
+}
+
+/// A mode and a number, and octets at whose front a field of these may stand.
+#[derive(Clone, Copy)]
+struct Numbered<'a> {
+    mode: TagMode,
+    number: TagNumber,
+    octets: &'a [u8],
+}
+
+/// The answer to a question about fields of a number.
+pub fn answer_of_number(alloc: Global, word: &str, rest: &str) -> Result<String, Refusal> {
+    let (kind, rest) = rest.split_once(' ').ok_or(Refusal::Unread)?;
+    let (number, rest) = rest.split_once(' ').unwrap_or((rest, ""));
+    let (first, second) = rest.split_once(' ').unwrap_or((rest, ""));
+    let first = hex::decode(alloc, first.as_bytes())?;
+    let second = hex::decode(alloc, second.as_bytes())?;
+    let field = Numbered {
+        mode: match word {
+            "explicit" => TagMode::Explicit,
+            _ => TagMode::Implicit,
+        },
+        number: TagNumber {
+            value: number.parse().ok().ok_or(Refusal::Unread)?,
+        },
+        octets: first.as_slice(),
+    };
+    if second.is_empty() {
+        written_of(alloc, kind, field)
+    } else {
+        order_of(alloc, kind, field, second.as_slice())
+    }
+}
+
+/// What is written of the field, by the name of its type.
+fn written_of(alloc: Global, kind: &str, field: Numbered<'_>) -> Result<String, Refusal> {
+    match kind {
+        "ContextSpecific<u8>" => owned(alloc, in_context::<u8>(alloc, field)?),
+        "ContextSpecific<Vec<u8>>" => owned(alloc, in_context::<Vec<u8>>(alloc, field)?),
+        "ContextSpecific<BitString>" => owned(alloc, in_context::<BitString>(alloc, field)?),
+        "ContextSpecificRef<u8>" => lent(alloc, in_context::<u8>(alloc, field)?),
+        "Application<u8>" => owned(alloc, read_field::<u8, CLASS_APPLICATION>(alloc, field)?),
+        "ApplicationRef<u8>" => lent(alloc, read_field::<u8, CLASS_APPLICATION>(alloc, field)?),
+        "Private<u8>" => owned(alloc, read_field::<u8, CLASS_PRIVATE>(alloc, field)?),
+        "PrivateRef<u8>" => lent(alloc, read_field::<u8, CLASS_PRIVATE>(alloc, field)?),
+        _ => Err(Refusal::Unread),
+    }
+}
+
+/// A field, if one stands at the front of octets, and how many octets are left.
+type Front<T, const CLASS: u8> = (Option<ClassField<T, CLASS>>, u32);
+
+/// The field that may stand at the front of octets.
+fn read_field<'a, T: DecodeValue<'a, SliceReader<'a>> + FixedTag + Drop, const CLASS: u8>(
+    alloc: Global,
+    field: Numbered<'a>,
+) -> Result<Front<T, CLASS>, Error>
+    ensures { IfOk result (λ x. IfSome x.0 (λ f. f.tag_mode ≡ field.entry.mode)) }
+{
+    let mut reader = SliceReader::new(field.octets)?;
+    let read = match field.mode {
+        TagMode::Explicit => ClassField::decode_explicit(alloc, &mut reader, field.number)?,
+        TagMode::Implicit => ClassField::decode_implicit(alloc, &mut reader, field.number)?,
+    };
+    Ok((read, reader.remaining_len().value))
+}
+
+/// The context-specific field that may stand at the front of octets.
+fn in_context<'a, T: DecodeValue<'a, SliceReader<'a>> + FixedTag + Drop>(
+    alloc: Global,
+    field: Numbered<'a>,
+) -> Result<Front<T, CLASS_CONTEXT_SPECIFIC>, Error>
+    ensures { IfOk result (λ x. IfSome x.0 (λ f. f.tag_mode ≡ field.entry.mode)) }
+{
+    read_field(alloc, field)
+}
+
+/// What is written of a field that was read.
+fn owned<T: EncodeValue + FixedTag + Drop, const CLASS: u8>(
+    alloc: Global,
+    front: Front<T, CLASS>,
+) -> Result<String, Refusal> {
+    match front {
+        (Some(field), left) => found(alloc, field.to_der(alloc)?, left),
+        (None, left) => absent(alloc, left),
+    }
+}
+
+/// The same of the field, lent.
+fn lent<T: EncodeValue + FixedTag + Drop, const CLASS: u8>(
+    alloc: Global,
+    front: Front<T, CLASS>,
+) -> Result<String, Refusal> {
+    match front {
+        (Some(field), left) => found(alloc, field.owned_to_ref().to_der(alloc)?, left),
+        (None, left) => absent(alloc, left),
+    }
+}
+
+/// The answer of a field that was read, with so many octets left.
+fn found(alloc: Global, octets: Vec<u8>, left: u32) -> Result<String, Refusal> {
+    let octets = hex::encode(alloc, octets)?;
+    Ok(format!(in alloc; "{octets}, {left} left")?)
+}
+
+/// The answer where another tag stands.
+fn absent(alloc: Global, left: u32) -> Result<String, Refusal> {
+    Ok(format!(in alloc; "absent, {left} left")?)
+}
+
+/// The order of two fields of one mode and number, and behind it that of their contents.
+fn order_of(
+    alloc: Global,
+    kind: &str,
+    field: Numbered<'_>,
+    other: &[u8],
+) -> Result<String, Refusal> {
+    if kind != "ContextSpecific<u8>" {
+        return Err(Refusal::Unread);
+    }
+    let other = Numbered {
+        octets: other,
+        ..field
+    };
+    let (first, _) = in_context::<u8>(alloc, field)?;
+    let (second, _) = in_context::<u8>(alloc, other)?;
+    let first = first.ok_or(Refusal::Unread)?;
+    let second = second.ok_or(Refusal::Unread)?;
+    let order = name_of(first.der_cmp(&second)?);
+    let contents = name_of(first.value_cmp(&second)?);
+    Ok(format!(in alloc; "{order} {contents}")?)
+}

@@ -1,0 +1,242 @@
+//! Lists and sets.
+
+use crate::made::written;
+use crate::questions::{Question, answer_as, compared, name_of};
+use crate::refusals::Refusal;
+use crate::small::Small;
+use der_core::{
+    Decode, DerOrd, Encode, EncodeValue, EncodingRules, Error, FixedTag, Header, Member, Reader,
+    SliceReader, Tag, ValueOrd, from_der,
+};
+use der_types_sets::{SequenceOf, SetOf, SetOfRef, SetOfVec};
+use std::alloc::Global;
+use std::hash::Hash;
+
+/// The answer of a type that this page names.
+pub fn answer(alloc: Global, kind: &str, question: Question<'_>) -> Result<String, Refusal> {
+    match kind {
+        "Small" => answer_as::<Small>(alloc, question),
+        "SetOfVec<Small>" => answer_of_set::<SetOfVec<Small>>(alloc, question),
+        "SetOfVec<u16>" => answer_of_set::<SetOfVec<u16>>(alloc, question),
+        "SetOf<Small,2>" => answer_of_set::<SetOf<Small, 2>>(alloc, question),
+        "SequenceOf<Small,2>" => answer_of::<SequenceOf<Small, 2>>(alloc, question),
+        "SetOfRef<Small>" => answer_of_lent(alloc, question),
+        _ => Err(Refusal::Unread),
+    }
+}
+
+/// A set or a list that has its own functions for reading.
+trait Members<'a>: Sized {
+    /// The value that octets spell by these rules, all of the octets.
+    fn read(alloc: Global, octets: &'a [u8], rules: EncodingRules) -> Result<Self, Error>;
+}
+
+impl<'a, T: Decode<'a, SliceReader<'a>> + DerOrd + Member + Drop> Members<'a> for SetOfVec<T> {
+    fn read(alloc: Global, octets: &'a [u8], rules: EncodingRules) -> Result<SetOfVec<T>, Error> {
+        if rules.is_der() {
+            return SetOfVec::from_der(alloc, octets);
+        }
+        loose(alloc, octets, rules)
+    }
+}
+
+impl<'a, T: Decode<'a, SliceReader<'a>> + Default + DerOrd + Member + Drop, const N: usize> Members<
+    'a,
+> for SetOf<T, N> {
+    fn read(alloc: Global, octets: &'a [u8], rules: EncodingRules) -> Result<SetOf<T, N>, Error> {
+        if rules.is_der() {
+            return SetOf::from_der(alloc, octets);
+        }
+        let (mut reader, header) = opened(octets, rules, Tag::Set)?;
+        let set = SetOf::decode_value(alloc, &mut reader, header)?;
+        reader.finish()?;
+        Ok(set)
+    }
+}
+
+impl<'a, T: Decode<'a, SliceReader<'a>> + Default + Drop, const N: usize> Members<'a>
+    for SequenceOf<T, N> {
+    fn read(
+        alloc: Global,
+        octets: &'a [u8],
+        rules: EncodingRules,
+    ) -> Result<SequenceOf<T, N>, Error> {
+        let (mut reader, header) = opened(octets, rules, Tag::Sequence)?;
+        let list = SequenceOf::decode_value(alloc, &mut reader, header)?;
+        reader.finish()?;
+        Ok(list)
+    }
+}
+
+/// A reader behind the header of a value of this tag, and that header.
+fn opened(
+    octets: &[u8],
+    rules: EncodingRules,
+    tag: Tag,
+) -> Result<(SliceReader<'_>, Header), Error> {
+    let mut reader = SliceReader::new_with_encoding_rules(octets, rules)?;
+    let header = reader.read_header()?;
+    header.tag.assert_eq(tag)?;
+    Ok((reader, header))
+}
+
+/// The answer of a set or a list.
+fn answer_of<'a, T: Members<'a> + EncodeValue + FixedTag + ValueOrd + Drop>(
+    alloc: Global,
+    question: Question<'a>,
+) -> Result<String, Refusal> {
+    match question {
+        Question::Der(octets) => written(alloc, &T::read(alloc, octets, EncodingRules::Der)?),
+        Question::Ber(octets) => written(alloc, &T::read(alloc, octets, EncodingRules::Ber)?),
+        Question::Order(first, second) => {
+            let first = T::read(alloc, first, EncodingRules::Der)?;
+            let second = T::read(alloc, second, EncodingRules::Der)?;
+            Ok(name_of(first.der_cmp(&second)?).to_string(alloc)?)
+        }
+        Question::Contents(first, second) => {
+            let first = T::read(alloc, first, EncodingRules::Der)?;
+            let second = T::read(alloc, second, EncodingRules::Der)?;
+            Ok(name_of(first.value_cmp(&second)?).to_string(alloc)?)
+        }
+        _ => Err(Refusal::Unread),
+    }
+}
+
+/// The answer of a set, which has an order of its own, too.
+fn answer_of_set<'a, T: Members<'a> + EncodeValue + FixedTag + Hash + Ord + ValueOrd + Drop>(
+    alloc: Global,
+    question: Question<'a>,
+) -> Result<String, Refusal> {
+    match question {
+        Question::Compare(first, second) => {
+            let first = T::read(alloc, first, EncodingRules::Der)?;
+            let second = T::read(alloc, second, EncodingRules::Der)?;
+            Ok(compared(alloc, &first, &second)?)
+        }
+        _ => answer_of::<T>(alloc, question),
+    }
+}
+
+/// The answer of a borrowed set: of the octets of a SET OF, or of the values of a SEQUENCE OF.
+fn answer_of_lent(alloc: Global, question: Question<'_>) -> Result<String, Refusal> {
+    let (first, second) = match question {
+        Question::Der(octets) | Question::Ber(octets) => (octets, octets),
+        Question::Order(first, second) | Question::Contents(first, second) => (first, second),
+        _ => return Err(Refusal::Unread),
+    };
+    let rules = match question {
+        Question::Ber(_) => EncodingRules::Ber,
+        _ => EncodingRules::Der,
+    };
+    let (first_values, second_values) = (values_of(alloc, first)?, values_of(alloc, second)?);
+    let first = lent(alloc, first, first_values.as_slice(), rules)?;
+    let second = lent(alloc, second, second_values.as_slice(), rules)?;
+    match question {
+        Question::Order(..) => Ok(name_of(first.der_cmp(alloc, &second)?).to_string(alloc)?),
+        Question::Contents(..) => Ok(name_of(first.value_cmp(alloc, &second)?).to_string(alloc)?),
+        _ => written(alloc, &first),
+    }
+}
+
+/// The values of a SEQUENCE OF; none where other octets stand.
+fn values_of(alloc: Global, octets: &[u8]) -> Result<Vec<Small>, Error> {
+    if octets.starts_with(b"\x30") {
+        from_der(alloc, octets)
+    } else {
+        Ok(Vec::new(alloc))
+    }
+}
+
+/// The borrowed set of these octets, or of the values that they spell as a SEQUENCE OF.
+fn lent<'a>(
+    alloc: Global,
+    octets: &'a [u8],
+    values: &'a [Small],
+    rules: EncodingRules,
+) -> Result<SetOfRef<'a, Small>, Error> {
+    if octets.starts_with(b"\x30") {
+        return SetOfRef::try_from(values);
+    }
+    let (mut reader, header) = opened(octets, rules, Tag::Set)?;
+    let set = SetOfRef::decode_value(alloc, &mut reader, header)?;
+    reader.finish()?;
+    Ok(set)
+}
+
+/// The answer to a question about members of a set that are read or placed.
+pub fn answer_of_members(alloc: Global, word: &str, rest: &str) -> Result<String, Refusal> {
+    let (kind, octets) = rest.split_once(' ').ok_or(Refusal::Unread)?;
+    let octets = hex::decode(alloc, octets.as_bytes())?;
+    let octets = octets.as_slice();
+    match kind {
+        "Small" => written(alloc, &set_of::<Small>(alloc, word, octets)?),
+        "u16" => written(alloc, &set_of::<u16>(alloc, word, octets)?),
+        _ => Err(Refusal::Unread),
+    }
+}
+
+/// The set that is read or filled as the word asks.
+fn set_of<'a, T: Decode<'a, SliceReader<'a>> + DerOrd + Member + Drop>(
+    alloc: Global,
+    word: &str,
+    octets: &'a [u8],
+) -> Result<SetOfVec<T>, Refusal> {
+    let set = match word {
+        "set-loose" => loose(alloc, octets, EncodingRules::Der)?,
+        "set-strict" => strict(alloc, octets, EncodingRules::Der)?,
+        "set-strict-ber" => strict(alloc, octets, EncodingRules::Ber)?,
+        "set-from" => SetOfVec::try_from(from_der::<Vec<T>>(alloc, octets)?)?,
+        "set-insert" => inserted(alloc, from_der(alloc, octets)?)?,
+        "set-append" => appended(alloc, from_der(alloc, octets)?)?,
+        _ => return Err(Refusal::Unread),
+    };
+    Ok(set)
+}
+
+/// The set of a content in which the members stand in any order.
+fn loose<'a, T: Decode<'a, SliceReader<'a>> + DerOrd + Member + Drop>(
+    alloc: Global,
+    octets: &'a [u8],
+    rules: EncodingRules,
+) -> Result<SetOfVec<T>, Error> {
+    let (mut reader, header) = opened(octets, rules, Tag::Set)?;
+    let set = SetOfVec::decode_value(alloc, &mut reader, header)?;
+    reader.finish()?;
+    Ok(set)
+}
+
+/// The set of a content in which the members rise.
+fn strict<'a, T: Decode<'a, SliceReader<'a>> + DerOrd + Member + Drop>(
+    alloc: Global,
+    octets: &'a [u8],
+    rules: EncodingRules,
+) -> Result<SetOfVec<T>, Error> {
+    let (mut reader, header) = opened(octets, rules, Tag::Set)?;
+    let set = SetOfVec::decode_value_strict(alloc, &mut reader, header)?;
+    reader.finish()?;
+    Ok(set)
+}
+
+/// The set into which the members were inserted, one after another.
+fn inserted<T: DerOrd + Member + Drop>(
+    alloc: Global,
+    members: Vec<T>,
+) -> Result<SetOfVec<T>, Error> {
+    let mut set = SetOfVec::new(alloc);
+    for member in members {
+        set.insert(member)?;
+    }
+    Ok(set)
+}
+
+/// The set to which the members were appended, one after another.
+fn appended<T: DerOrd + Member + Drop>(
+    alloc: Global,
+    members: Vec<T>,
+) -> Result<SetOfVec<T>, Error> {
+    let mut set = SetOfVec::new(alloc);
+    for member in members {
+        set.insert_ordered(member)?;
+    }
+    Ok(set)
+}

@@ -1,0 +1,83 @@
+//! Answers questions about octets: a line of standard input each, a line of standard output for each.
+//!
+//! | Question | Answer |
+//! |---|---|
+//! | `der TYPE HEX` | `ok HEX`, the octets that the value writes that these spell by DER |
+//! | `ber TYPE HEX` | the same of octets by BER |
+//! | `order TYPE HEX HEX` | `ok Less`, `ok Equal` or `ok Greater`, the order of two encodings |
+//! | `contents TYPE HEX HEX` | the order of two contents, whatever their lengths |
+//! | `compare TYPE HEX HEX` | the order of two values by their type, and behind it whether their hashes are the `same` or `apart` |
+//! | `text TYPE HEX` | `ok TEXT`, what the value prints; of a bit string its bits, of named bits their names, of a time its date |
+//! | `new TYPE HEX` | `ok HEX`, the octets that the value writes that the type makes of these |
+//! | `from TYPE TEXT` | the same of what the type makes of a text, of names, or of seconds since 1970 |
+//! | `date TEXT` | `ok SECONDS`, those from 1970 to a date |
+//! | `seconds SECONDS` | `ok TEXT`, the date so long after 1970 |
+//! | `set-loose TYPE HEX`, `set-strict TYPE HEX` | what is written of the SET OF whose members stand in any order, or rise; by BER `set-strict-ber` |
+//! | `set-insert TYPE HEX`, `set-append TYPE HEX`, `set-from TYPE HEX` | the same of the set of the members of a SEQUENCE OF: inserted one by one, appended one by one, or all at once |
+//! | `oid TEXT`, `oid-arcs ARC..` | `ok HEX`, the octets of the identifier |
+//! | `oid-octets HEX` | `ok TEXT`, the identifier of the octets; `oid-ref HEX` what the borrowed one prints for debugging |
+//! | `oid-parent TEXT`, `oid-child TEXT ARC` | `ok TEXT`, the identifier of one arc less or more; `ok none` where there is no parent |
+//! | `oid-arc TEXT PLACE`, `oid-len TEXT` | `ok NUMBER`, the arc at a place, or how many there are; `ok none` where there is no such arc |
+//! | `oid-starts TEXT TEXT` | `ok true` where the first identifier starts with the second, or `ok false` |
+//! | `oid-order TEXT TEXT`, `oid-ref-order HEX HEX` | the order of two identifiers, owned or borrowed |
+//! | `oid-name TEXT`, `oid-names TEXT`, `oid-named NAME`, `oid-resolved TEXT` | what a database of three names answers |
+//! | `header HEX`, `header-ber HEX` | `ok NUMBER LENGTH HEX NAME`: the octets of the header at the front, its length, what is written for it, and its tag's name |
+//! | `tag HEX` | `ok CLASS NUMBER FORM NAME` of the tag at the front |
+//! | `class HEX` | `ok NAME HEX`, the class of a tag with that first octet, and its bits |
+//! | `mode NAME`, `rules NAME` | `ok NAME true` of the default mode of tags or encoding rules, `ok NAME false` of others |
+//! | `tag-order HEX HEX`, `header-order HEX HEX`, `length-order LENGTH LENGTH` | the order of the octets of two tags, headers or lengths |
+//! | `tlv HEX LENGTH` | `ok LENGTH`, that of an encoding with the tag at the front and so many octets of content |
+//! | `sum LENGTH NUMBER`, `difference LENGTH NUMBER` | `ok LENGTH`; before the words `saturating-` the nearest length |
+//! | `why QUESTION` | `ok TEXT`, what the refusal of the question prints |
+//! | `explicit TYPE NUMBER HEX`, `implicit TYPE NUMBER HEX` | `ok HEX, COUNT left`: what is written of the field of this number that stands first, its tag in front of the value's own or in its place, and how many octets are left behind it; `absent` where another tag stands |
+//! | `explicit TYPE NUMBER HEX HEX`, `implicit TYPE NUMBER HEX HEX` | the order of two such fields, and behind it that of their contents |
+//! | `any-as TYPE HEX`, `any-as-ber TYPE HEX` | what is written of the value that any value was read as, by DER or BER |
+//! | `any-into TYPE HEX`, `any-ref-into TYPE HEX` | the same of the value that any value was converted to, owned or lent |
+//! | `any-from TYPE HEX`, `any-ref-from TYPE HEX` | what is written of any value that was made of a value, owned or lent |
+//! | an empty line, or one that begins with `#` | the same line |
+//! | any other, also one of an unknown type, or of more than 2^20 octets | `?` |
+//!
+//! What is refused is answered `refused KIND`, and ` at PLACE` behind it where the place is known;
+//! `memory` where there is not enough.
+#![tactic(auto)]
+
+mod answers;
+mod any_values;
+mod entry;
+mod fields;
+mod headers;
+mod identifiers;
+mod key_usages;
+mod kinds;
+mod leaves;
+mod lines;
+mod lists;
+mod made;
+mod nested;
+mod questions;
+mod record;
+mod refusals;
+mod small;
+mod ten_fields;
+mod texts;
+mod times;
+
+use answers::answer;
+use lines::{Line, next_line};
+use std::io;
+use std::io::{BufReader, BufWriter, Write};
+
+fn main(rt: HostRuntime) -> io::Result<()> {
+    let alloc = rt.alloc();
+    let mut questions = BufReader::new(alloc, rt.reader())?;
+    let mut out = BufWriter::new(alloc, io::writer(&rt))?;
+    let mut line = Vec::new(alloc);
+    for _ in 0..u64::MAX {
+        match next_line(&mut questions, &mut line)? {
+            Line::Whole => answer(alloc, line.as_slice(), &mut out)?,
+            Line::TooLong => out.write_all(b"?\n")?,
+            Line::End => break,
+        }
+    }
+    out.flush()
+}

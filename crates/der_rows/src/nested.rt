@@ -1,0 +1,62 @@
+//! Lists, arrays, sets, options, tags and fields of the coding core.
+
+use crate::questions::{Question, answer_as, answer_with_contents, answer_with_debug};
+use crate::record::Record;
+use crate::refusals::Refusal;
+use crate::ten_fields;
+use const_oid_identifiers::ObjectIdentifier;
+use der_core::{Explicit, Implicit, SetOf, WithDefault};
+use std::alloc::Global;
+use std::marker::PhantomData;
+
+/// A SEQUENCE of a number, of a flag that may be absent, and of a text.
+type Flagged<'a> = Record<(u8, (Option<bool>, (&'a str, ())))>;
+
+/// The answer of a type that this page names.
+pub fn answer(alloc: Global, kind: &str, question: Question<'_>) -> Result<String, Refusal> {
+    match kind {
+        "Option<bool>" => answer_with_debug::<Option<bool>>(alloc, question),
+        "WithDefault<bool>" => answer_with_debug::<WithDefault<bool>>(alloc, question),
+        "PhantomData<u8>" => answer_as::<PhantomData<u8>>(alloc, question),
+        "Explicit<bool,3>" => answer_as::<Explicit<bool, 3>>(alloc, question),
+        "Explicit<u8,0>" => answer_as::<Explicit<u8, 0>>(alloc, question),
+        "Implicit<u8,0>" => answer_as::<Implicit<u8, 0>>(alloc, question),
+        "Flagged" => answer_with_debug::<Flagged>(alloc, question),
+        "NumberOrText" => ten_fields::answer_of_choice(alloc, question),
+        "TenFields" => ten_fields::answer(alloc, question),
+        _ => answer_of_lists(alloc, kind, question),
+    }
+}
+
+/// The answer of a list or an array.
+fn answer_of_lists(alloc: Global, kind: &str, question: Question<'_>) -> Result<String, Refusal> {
+    match kind {
+        "Vec<bool>" => answer_as::<Vec<bool>>(alloc, question),
+        "Vec<u8>" => answer_with_contents::<Vec<u8>>(alloc, question),
+        "[bool;0]" => answer_as::<[bool; 0]>(alloc, question),
+        "[u8;2]" => answer_with_debug::<[u8; 2]>(alloc, question),
+        "[[bool;1];1]" => answer_as::<[[bool; 1]; 1]>(alloc, question),
+        _ => answer_of_sets(alloc, kind, question),
+    }
+}
+
+/// The answer of a set whose members stand in order.
+fn answer_of_sets(alloc: Global, kind: &str, question: Question<'_>) -> Result<String, Refusal> {
+    match kind {
+        "SetOf<()>" => answer_as::<SetOf<()>>(alloc, question),
+        "SetOf<bool>" => answer_as::<SetOf<bool>>(alloc, question),
+        "SetOf<u8>" => answer_as::<SetOf<u8>>(alloc, question),
+        "SetOf<i128>" => answer_as::<SetOf<i128>>(alloc, question),
+        "SetOf<Box<u64>>" => answer_as::<SetOf<Box<u64>>>(alloc, question),
+        "SetOf<str>" => answer_as::<SetOf<&str>>(alloc, question),
+        "SetOf<String>" => answer_as::<SetOf<String>>(alloc, question),
+        "SetOf<ObjectIdentifier>" => answer_as::<SetOf<ObjectIdentifier<39>>>(alloc, question),
+        "SetOf<Vec<bool>>" => answer_as::<SetOf<Vec<bool>>>(alloc, question),
+        "SetOf<[u8;1]>" => answer_as::<SetOf<[u8; 1]>>(alloc, question),
+        "SetOf<Implicit<bool,0>>" => answer_as::<SetOf<Implicit<bool, 0>>>(alloc, question),
+        "SetOf<Explicit<SetOf<u8>,2>>" => {
+            answer_as::<SetOf<Explicit<SetOf<u8>, 2>>>(alloc, question)
+        }
+        _ => Err(Refusal::Unread),
+    }
+}

@@ -1,0 +1,55 @@
+//! Sequences of fields.
+
+ghost use Rattle.der_core_head.specs.declared.tag.Tag.TheVariants.{Sequence};
+ghost use Rattle.der_core_head.specs.Shapes.{nested};
+
+use der_core::{
+    DecodeFields, DecodeValue, EncodeFields, EncodeValue, Error, Fields, FieldsOrd, FixedTag,
+    Header, Length, Reader, ShapedValue, Tag, ValueOrd, Writer, read_fields,
+};
+use std::alloc::Global;
+use std::cmp::Ordering;
+
+/// A SEQUENCE of the fields of a row, as `(A, (B, ()))`.
+#[derive(Debug, Drop)]
+pub struct Record<F> {
+    fields: F,
+}
+
+impl<F> FixedTag for Record<F> {
+    ghost fixed_tag = { Sequence };
+
+    fn tag() -> Tag {
+        Tag::Sequence
+    }
+}
+
+impl<F: Fields> ShapedValue for Record<F> {
+    ghost content = { nested F.fields };
+
+    ghost value_plain = { λ r. F.fields_plain r.fields };
+}
+
+impl<'a, R: Reader<'a>, F: DecodeFields<'a, R> + Drop> DecodeValue<'a, R> for Record<F> {
+    fn decode_value(alloc: Global, reader: &mut R, header: Header) -> Result<Record<F>, Error> {
+        let fields = read_fields(alloc, reader, header)?;
+        Ok(Record { fields })
+    }
+}
+
+impl<F: EncodeFields> EncodeValue for Record<F> {
+    fn value_len(&self) -> Result<Length, Error> {
+        self.fields.fields_len()
+    }
+
+    fn encode_value<W: Writer>(&self, writer: &mut W) -> Result<(), Error> {
+        self.fields.encode_fields(writer)
+    }
+}
+
+impl<F: FieldsOrd> ValueOrd for Record<F> {
+    #[tactic(auto, unfolding(der_core_head::specs::Shapes::contents, der_core_head::specs::Shapes::IsContent))]
+    fn value_cmp(&self, other: &Record<F>) -> Result<Ordering, Error> {
+        self.fields.fields_cmp(&other.fields)
+    }
+}

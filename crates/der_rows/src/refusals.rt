@@ -1,0 +1,94 @@
+//! Why a question has no other answer.
+
+use der_core::{Error, ErrorKind};
+use hex::FromHexError;
+use std::alloc::{AllocError, AllocFailed, Global};
+use std::fmt;
+use std::num::ParseIntError;
+use std::str::Utf8Error;
+
+/// Why a question has no other answer.
+#[derive(Clone, Copy)]
+pub enum Refusal {
+    /// It is none, or of no type that is known.
+    Unread,
+    /// Want of memory.
+    Memory,
+    /// Its octets spell no value of the type, or its values aren't written.
+    Der(Error),
+    /// Its text, octets or arcs spell no identifier.
+    Identifier(const_oid_identifiers::Error),
+}
+
+impl Refusal {
+    /// What the error behind it prints.
+    pub fn reason(self, alloc: Global) -> Result<String, Refusal> {
+        match self {
+            Refusal::Der(error) => Ok(error.to_string(alloc)?),
+            Refusal::Identifier(error) => Ok(error.to_string(alloc)?),
+            refusal => Err(refusal),
+        }
+    }
+}
+
+impl From<Error> for Refusal {
+    fn from(error: Error) -> Refusal {
+        match error.kind {
+            ErrorKind::OutOfMemory => Refusal::Memory,
+            _ => Refusal::Der(error),
+        }
+    }
+}
+
+impl From<const_oid_identifiers::Error> for Refusal {
+    fn from(error: const_oid_identifiers::Error) -> Refusal {
+        Refusal::Identifier(error)
+    }
+}
+
+impl From<FromHexError> for Refusal {
+    fn from(error: FromHexError) -> Refusal {
+        match error {
+            FromHexError::OutOfMemory => Refusal::Memory,
+            _ => Refusal::Unread,
+        }
+    }
+}
+
+impl From<AllocError> for Refusal {
+    fn from(_error: AllocError) -> Refusal {
+        Refusal::Memory
+    }
+}
+
+impl<T: Drop> From<AllocFailed<T>> for Refusal {
+    fn from(_error: AllocFailed<T>) -> Refusal {
+        Refusal::Memory
+    }
+}
+
+impl From<ParseIntError> for Refusal {
+    fn from(_error: ParseIntError) -> Refusal {
+        Refusal::Unread
+    }
+}
+
+impl From<Utf8Error> for Refusal {
+    fn from(_error: Utf8Error) -> Refusal {
+        Refusal::Unread
+    }
+}
+
+impl fmt::Display for Refusal {
+    fn fmt<W: fmt::Write>(&self, f: &mut fmt::Formatter<W>) -> fmt::Result {
+        match self {
+            Refusal::Unread => f.write_str("?"),
+            Refusal::Memory => f.write_str("memory"),
+            Refusal::Der(error) => match error.position {
+                Some(place) => write!(f, "refused {:?} at {}", error.kind, place.value),
+                None => write!(f, "refused {:?}", error.kind),
+            },
+            Refusal::Identifier(error) => write!(f, "refused {error:?}"),
+        }
+    }
+}

@@ -1,0 +1,32 @@
+//! A type of whole numbers from 0 to 255, of one's own.
+
+ghost use Rattle.std.specs.Prelude.{pos};
+ghost use Rattle.der_core_head.specs.Integers.{unsigned};
+
+use der_core::{Error, Integer, Tag, ValueOrd, unsigned_of};
+use std::cmp::Ordering;
+
+/// A whole number from 0 to 255.
+#[derive(Clone, Copy, Default, PartialEq, Eq, PartialOrd, Ord, Hash)]
+pub struct Small(u8);
+
+impl Integer for Small {
+    ghost numbers = { unsigned 8 };
+
+    ghost number = { λ n. pos n.0 };
+
+    fn from_integer(tag: Tag, octets: &[u8]) -> Result<Small, Error> {
+        let number = unsigned_of(tag, octets, 8)?;
+        Ok(Small(number as u8))
+    }
+
+    fn magnitude(&self) -> (bool, u128) {
+        (false, u128::from(self.0))
+    }
+}
+
+impl ValueOrd for Small {
+    fn value_cmp(&self, other: &Small) -> Result<Ordering, Error> {
+        self.0.value_cmp(&other.0)
+    }
+}

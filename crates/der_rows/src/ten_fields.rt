@@ -1,0 +1,131 @@
+//! A record of ten fields, of all that a field can be.
+
+ghost use Rattle.std.specs.Prelude.{pos};
+ghost use Rattle.std.proofs.Common.{inl, inr};
+ghost use Rattle.std.specs.String.{string_bytes};
+ghost use Rattle.der_core_head.specs.declared.tag.Tag.TheVariants.{Integer, Utf8String};
+ghost use Rattle.der_core_head.specs.Integers.{unsigned};
+ghost use Rattle.der_core_head.specs.Leaves.{integer, utf8};
+ghost use Rattle.der_core_head.specs.Shapes.{tagged, either, leaf};
+ghost use Rattle.der_rows.specs.declared.ten_fields.NumberOrText.TheVariants as choices;
+
+use crate::questions::{Question, name_of};
+use crate::record::Record;
+use crate::refusals::Refusal;
+use const_oid_identifiers::ObjectIdentifier;
+use der_core::{
+    Alternatives, Choice, Decode, DerOrd, Encode, EncodeRef, Error, ErrorKind, Explicit, Implicit,
+    Length, Reader, SetOf, Shaped, Tag, WithDefault, Writer, from_der, to_der,
+};
+use std::alloc::Global;
+
+/// `NumberOrText ::= CHOICE { number INTEGER (0..255), text UTF8String }`
+#[derive(Debug, Drop)]
+enum NumberOrText {
+    Number(u8),
+    Text(String),
+}
+
+impl Shaped for NumberOrText {
+    ghost shape = { either (tagged Integer (leaf (integer (unsigned 8)))) (tagged Utf8String (leaf utf8)) };
+
+    ghost plain = { λ x. elim x [ choices.Number n ↦ inl (pos n) | choices.Text t ↦ inr (string_bytes t) ] };
+}
+
+impl Choice for NumberOrText {
+    fn can_decode(tag: Tag) -> bool {
+        u8::can_decode(tag) || String::can_decode(tag)
+    }
+}
+
+impl<'a, R: Reader<'a>> Decode<'a, R> for NumberOrText {
+    #[tactic(auto, unfolding(der_core_head::specs::Grammar::either_at))]
+    fn decode(alloc: Global, reader: &mut R) -> Result<NumberOrText, Error> {
+        let tag = reader.peek_tag()?;
+        if u8::can_decode(tag) {
+            Ok(NumberOrText::Number(u8::decode(alloc, reader)?))
+        } else if String::can_decode(tag) {
+            Ok(NumberOrText::Text(String::decode(alloc, reader)?))
+        } else {
+            Err(Error::from(ErrorKind::TagUnexpected))
+        }
+    }
+}
+
+impl Encode for NumberOrText {
+    fn encoded_len(&self) -> Result<Length, Error> {
+        match self {
+            NumberOrText::Number(number) => number.encoded_len(),
+            NumberOrText::Text(text) => text.encoded_len(),
+        }
+    }
+
+    fn encode<W: Writer>(&self, writer: &mut W) -> Result<(), Error> {
+        match self {
+            NumberOrText::Number(number) => number.encode(writer),
+            NumberOrText::Text(text) => text.encode(writer),
+        }
+    }
+}
+
+/// ```text
+/// TenFields ::= SEQUENCE {
+///     version     INTEGER (0..255),
+///     name        UTF8String,
+///     identifier  OBJECT IDENTIFIER,
+///     flag        BOOLEAN DEFAULT FALSE,
+///     count       INTEGER (0..4294967295) OPTIONAL,
+///     numbers     SEQUENCE OF INTEGER (0..65535),
+///     mark        [0] IMPLICIT NULL OPTIONAL,
+///     inner       [1] EXPLICIT INTEGER (-2^63..2^63-1),
+///     choice      NumberOrText,
+///     members     SET OF INTEGER (0..255) OPTIONAL }
+/// ```
+type TenFields = Record<
+    (
+        u8,
+        (String, (ObjectIdentifier<39>, (WithDefault<bool>, Behind))),
+    ),
+>;
+
+/// The fields from the fifth on.
+type Behind = (Option<u32>, (Vec<u16>, (Option<Implicit<(), 0>>, Last)));
+
+/// The last three fields.
+type Last = (Explicit<i64, 1>, (NumberOrText, (Option<SetOf<u8>>, ())));
+
+/// The answer of the record, which isn't compared.
+pub fn answer(alloc: Global, question: Question<'_>) -> Result<String, Refusal> {
+    match question {
+        Question::Der(octets) => {
+            let record: TenFields = from_der(alloc, octets)?;
+            Ok(hex::encode(alloc, to_der(alloc, &record)?)?)
+        }
+        Question::Text(octets) => {
+            let record: TenFields = from_der(alloc, octets)?;
+            Ok(format!(in alloc; "{record:?}")?)
+        }
+        _ => Err(Refusal::Unread),
+    }
+}
+
+/// A choice as one that is compared.
+fn alternatives(choice: &NumberOrText) -> Alternatives<EncodeRef<'_, u8>, EncodeRef<'_, String>> {
+    match choice {
+        NumberOrText::Number(number) => Alternatives::First(EncodeRef(number)),
+        NumberOrText::Text(text) => Alternatives::Second(EncodeRef(text)),
+    }
+}
+
+/// The answer of the choice, which is compared alone.
+pub fn answer_of_choice(alloc: Global, question: Question<'_>) -> Result<String, Refusal> {
+    match question {
+        Question::Order(first, second) => {
+            let first: NumberOrText = from_der(alloc, first)?;
+            let second: NumberOrText = from_der(alloc, second)?;
+            let order = alternatives(&first).der_cmp(&alternatives(&second))?;
+            Ok(name_of(order).to_string(alloc)?)
+        }
+        _ => Err(Refusal::Unread),
+    }
+}
