@@ -14,7 +14,7 @@ touch "$walk/specs/Lib.antt"
 cp "$top/bench/headers/main.rt.txt" "$walk/src/main.rt"
 cp -r "$top/bench/headers/proofs" "$walk/"
 for proof in "$walk"/proofs/*.txt "$walk"/proofs/*/*.txt; do mv "$proof" "${proof%.txt}"; done
-echo 'header_walk: der_core der_core_order der_core_writing der_core_reading der_core_wrappers der_core_values der_core_output der_core_input der_core_octets der_core_headers der_core_head const_oid const_oid_identifiers' >>"$work/crates.txt"
+echo 'header_walk: der_core der_core_octets der_core_head const_oid_identifiers' >>"$work/crates.txt"
 git -C "$work" init -q
 
 file=${1:-$work/many.der}
