@@ -1,5 +1,5 @@
-//! Tests of identifiers and of the coding core that need code: states after refusals, closures,
-//! iterators and want of memory. What is a table stands in `der_rows`.
+//! Tests of identifiers and of the coding core that need code: capacities, types that have an
+//! identifier, orders of iterators and of choices. What a table can say stands in `der_rows`.
 #![tactic(auto)]
 
 #[cfg(test)]

@@ -1,7 +1,9 @@
 //! Questions and their answers.
 
 use crate::refusals::Refusal;
-use crate::{any_values, fields, headers, identifiers, kinds, lists, made, times};
+use crate::{
+    any_values, contents, fields, headers, identifiers, kinds, lists, made, readers, times, writers,
+};
 use std::alloc::Global;
 use std::io::Write;
 use std::{io, str};
@@ -42,6 +44,14 @@ fn answer_of_words(alloc: Global, line: &str) -> Result<String, Refusal> {
         "new" => made::of_octets(alloc, rest),
         "from" => made::of_text(alloc, rest),
         "explicit" | "implicit" => fields::answer_of_number(alloc, word, rest),
+        "content" => contents::answer(alloc, rest),
+        "by-ord" => contents::answer_by_ord(alloc, rest),
+        "partial" => contents::answer_of_fronts(alloc, rest),
+        "prefix" => contents::answer_of_prefixes(alloc, rest),
+        "reader" => readers::answer(alloc, rest),
+        "writer" => writers::answer(alloc, rest),
+        "slice" | "slice-value" => writers::answer_of_slices(alloc, word, rest),
+        "vector" => writers::answer_of_vectors(alloc, rest),
         _ if word.starts_with("any-") => any_values::answer_of_conversions(alloc, word, rest),
         _ if word.starts_with("set-") => lists::answer_of_members(alloc, word, rest),
         _ if word.starts_with("oid") => identifiers::answer(alloc, word, rest),

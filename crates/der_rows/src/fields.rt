@@ -10,9 +10,9 @@ use crate::questions::{Question, name_of};
 use crate::record::Record;
 use crate::refusals::Refusal;
 use der_core::{
-    CLASS_APPLICATION, CLASS_CONTEXT_SPECIFIC, CLASS_PRIVATE, Decode, DecodeValue, Encode,
-    EncodeValue, Error, Explicit, FixedTag, Implicit, Reader, SliceReader, TagMode, TagNumber,
-    WithDefault, from_ber, from_der,
+    CLASS_APPLICATION as APPLICATION, CLASS_CONTEXT_SPECIFIC as CONTEXT, CLASS_PRIVATE as PRIVATE,
+    Decode, DecodeValue, Encode, EncodeValue, Error, Explicit, FixedTag, Implicit, Reader,
+    SliceReader, TagMode, TagNumber, WithDefault, from_ber, from_der,
 };
 use der_types_any::AnyRef;
 use der_types_tagged::ClassField;
@@ -37,13 +37,18 @@ type EachKind<'a> = (
 /// The answer of a type that this page names.
 pub fn answer(alloc: Global, kind: &str, question: Question<'_>) -> Result<String, Refusal> {
     match kind {
-        "EachKind" => answer_of::<Record<EachKind>>(alloc, question),
+        "EachKind" => answer_of_each_kind(alloc, question),
         "Entry" => answer_of::<Entry>(alloc, question),
-        "ContextSpecific<u8>" => answer_of_class::<CLASS_CONTEXT_SPECIFIC>(alloc, question),
-        "Application<u8>" => answer_of_class::<CLASS_APPLICATION>(alloc, question),
-        "Private<u8>" => answer_of_class::<CLASS_PRIVATE>(alloc, question),
+        "ContextSpecific<u8>" => answer_of_class::<CONTEXT>(alloc, question),
+        "Application<u8>" => answer_of_class::<APPLICATION>(alloc, question),
+        "Private<u8>" => answer_of_class::<PRIVATE>(alloc, question),
         _ => any_values::answer(alloc, kind, question),
     }
+}
+
+/// The answer of a SEQUENCE with a field of each kind.
+fn answer_of_each_kind(alloc: Global, question: Question<'_>) -> Result<String, Refusal> {
+    answer_of::<Record<EachKind>>(alloc, question)
 }
 
 /// The answer of a SEQUENCE that isn't compared.
@@ -125,14 +130,17 @@ pub fn answer_of_number(alloc: Global, word: &str, rest: &str) -> Result<String,
 /// What is written of the field, by the name of its type.
 fn written_of(alloc: Global, kind: &str, field: Numbered<'_>) -> Result<String, Refusal> {
     match kind {
-        "ContextSpecific<u8>" => owned(alloc, in_context::<u8>(alloc, field)?),
-        "ContextSpecific<Vec<u8>>" => owned(alloc, in_context::<Vec<u8>>(alloc, field)?),
-        "ContextSpecific<BitString>" => owned(alloc, in_context::<BitString>(alloc, field)?),
-        "ContextSpecificRef<u8>" => lent(alloc, in_context::<u8>(alloc, field)?),
-        "Application<u8>" => owned(alloc, read_field::<u8, CLASS_APPLICATION>(alloc, field)?),
-        "ApplicationRef<u8>" => lent(alloc, read_field::<u8, CLASS_APPLICATION>(alloc, field)?),
-        "Private<u8>" => owned(alloc, read_field::<u8, CLASS_PRIVATE>(alloc, field)?),
-        "PrivateRef<u8>" => lent(alloc, read_field::<u8, CLASS_PRIVATE>(alloc, field)?),
+        "ContextSpecific<u8>" => owned(alloc, read_field::<u8, CONTEXT>(alloc, field)?),
+        "ContextSpecific<Vec<u8>>" => owned(alloc, read_field::<Vec<u8>, CONTEXT>(alloc, field)?),
+        "ContextSpecific<BitString>" => owned(
+            alloc,
+            read_field::<BitString, CONTEXT>(alloc, field)?,
+        ),
+        "ContextSpecificRef<u8>" => lent(alloc, read_field::<u8, CONTEXT>(alloc, field)?),
+        "Application<u8>" => owned(alloc, read_field::<u8, APPLICATION>(alloc, field)?),
+        "ApplicationRef<u8>" => lent(alloc, read_field::<u8, APPLICATION>(alloc, field)?),
+        "Private<u8>" => owned(alloc, read_field::<u8, PRIVATE>(alloc, field)?),
+        "PrivateRef<u8>" => lent(alloc, read_field::<u8, PRIVATE>(alloc, field)?),
         _ => Err(Refusal::Unread),
     }
 }
@@ -155,24 +163,15 @@ fn read_field<'a, T: DecodeValue<'a, SliceReader<'a>> + FixedTag + Drop, const C
     Ok((read, reader.remaining_len().value))
 }
 
-/// The context-specific field that may stand at the front of octets.
-fn in_context<'a, T: DecodeValue<'a, SliceReader<'a>> + FixedTag + Drop>(
-    alloc: Global,
-    field: Numbered<'a>,
-) -> Result<Front<T, CLASS_CONTEXT_SPECIFIC>, Error>
-    ensures { IfOk result (λ x. IfSome x.0 (λ f. f.tag_mode ≡ field.entry.mode)) }
-{
-    read_field(alloc, field)
-}
-
 /// What is written of a field that was read.
 fn owned<T: EncodeValue + FixedTag + Drop, const CLASS: u8>(
     alloc: Global,
     front: Front<T, CLASS>,
 ) -> Result<String, Refusal> {
-    match front {
-        (Some(field), left) => found(alloc, field.to_der(alloc)?, left),
-        (None, left) => absent(alloc, left),
+    let (field, left) = front;
+    match field {
+        Some(field) => found(alloc, field.to_der(alloc)?, left),
+        None => absent(alloc, left),
     }
 }
 
@@ -181,9 +180,10 @@ fn lent<T: EncodeValue + FixedTag + Drop, const CLASS: u8>(
     alloc: Global,
     front: Front<T, CLASS>,
 ) -> Result<String, Refusal> {
-    match front {
-        (Some(field), left) => found(alloc, field.owned_to_ref().to_der(alloc)?, left),
-        (None, left) => absent(alloc, left),
+    let (field, left) = front;
+    match field {
+        Some(field) => found(alloc, field.owned_to_ref().to_der(alloc)?, left),
+        None => absent(alloc, left),
     }
 }
 
@@ -212,8 +212,8 @@ fn order_of(
         octets: other,
         ..field
     };
-    let (first, _) = in_context::<u8>(alloc, field)?;
-    let (second, _) = in_context::<u8>(alloc, other)?;
+    let (first, _) = read_field::<u8, CONTEXT>(alloc, field)?;
+    let (second, _) = read_field::<u8, CONTEXT>(alloc, other)?;
     let first = first.ok_or(Refusal::Unread)?;
     let second = second.ok_or(Refusal::Unread)?;
     let order = name_of(first.der_cmp(&second)?);

@@ -3,8 +3,8 @@
 use crate::questions::name_of;
 use crate::refusals::Refusal;
 use der_core::{
-    Class, EncodingRules, Error, Header, Length, Reader, SliceReader, Tag, TagMode, encode_header,
-    header_cmp, header_of, length_cmp, tag_cmp, tag_of,
+    Class, EncodingRules, Error, Header, Length, Reader, SliceReader, Tag, TagMode, TagNumber,
+    encode_header, header_cmp, header_of, length_cmp, tag_cmp, tag_of,
 };
 use std::alloc::Global;
 
@@ -27,6 +27,12 @@ pub fn answer(alloc: Global, word: &str, rest: &str) -> Result<String, Refusal> 
             let content = length_in(second)?;
             Ok(content.for_tlv(tag_in(alloc, first)?)?.to_string(alloc)?)
         }
+        "tag-expected" => {
+            let tag = tag_in(alloc, first)?.assert_eq(tag_in(alloc, second)?)?;
+            Ok(tag.to_string(alloc)?)
+        }
+        "tag-errors" => of_errors(alloc, tag_in(alloc, first)?),
+        "tags" => of_number(alloc, TagNumber::from(first.parse::<u32>()?)),
         "class" => of_class(alloc, first),
         "mode" => of_mode(alloc, first),
         "rules" => of_rules(alloc, first),
@@ -80,6 +86,33 @@ fn of_tag(alloc: Global, tag: Tag) -> Result<String, Refusal> {
         "primitive"
     };
     Ok(format!(in alloc; "{class} {number} {form} {tag}")?)
+}
+
+/// The errors of values of a tag.
+fn of_errors(alloc: Global, tag: Tag) -> Result<String, Refusal> {
+    let (length, form, value) = (
+        tag.length_error(),
+        tag.non_canonical_error(),
+        tag.value_error(),
+    );
+    let unexpected = tag.unexpected_error(None);
+    Ok(format!(in alloc; "{length:?}; {form:?}; {value:?}; {unexpected:?}")?)
+}
+
+/// The tags of a number in the classes that have all numbers, each with whether it is of that class.
+fn of_number(alloc: Global, number: TagNumber) -> Result<String, Refusal> {
+    let tags = [
+        number.application(true),
+        number.context_specific(true),
+        number.private(false),
+    ];
+    let [application, context_specific, private] = tags;
+    let is_application = application.is_application();
+    let is_context_specific = context_specific.is_context_specific();
+    let is_private = private.is_private();
+    Ok(format!(in alloc;
+        "{application} {is_application}; {context_specific} {is_context_specific}; {private} {is_private}"
+    )?)
 }
 
 /// The class of a tag with that first octet, and its bits.

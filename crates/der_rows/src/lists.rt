@@ -169,10 +169,23 @@ pub fn answer_of_members(alloc: Global, word: &str, rest: &str) -> Result<String
     let octets = hex::decode(alloc, octets.as_bytes())?;
     let octets = octets.as_slice();
     match kind {
-        "Small" => written(alloc, &set_of::<Small>(alloc, word, octets)?),
-        "u16" => written(alloc, &set_of::<u16>(alloc, word, octets)?),
+        "Small" => written_set::<Small>(alloc, word, octets),
+        "u16" => written_set::<u16>(alloc, word, octets),
         _ => Err(Refusal::Unread),
     }
+}
+
+/// What is written of the set, or of the list that it is converted to.
+fn written_set<'a, T: Decode<'a, SliceReader<'a>> + DerOrd + Encode + Member + Drop>(
+    alloc: Global,
+    word: &str,
+    octets: &'a [u8],
+) -> Result<String, Refusal> {
+    if word == "set-into" {
+        let set = SetOfVec::<T>::from_der(alloc, octets)?;
+        return written(alloc, &Vec::from(set));
+    }
+    written(alloc, &set_of::<T>(alloc, word, octets)?)
 }
 
 /// The set that is read or filled as the word asks.

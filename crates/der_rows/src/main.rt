@@ -14,6 +14,7 @@
 //! | `seconds SECONDS` | `ok TEXT`, the date so long after 1970 |
 //! | `set-loose TYPE HEX`, `set-strict TYPE HEX` | what is written of the SET OF whose members stand in any order, or rise; by BER `set-strict-ber` |
 //! | `set-insert TYPE HEX`, `set-append TYPE HEX`, `set-from TYPE HEX` | the same of the set of the members of a SEQUENCE OF: inserted one by one, appended one by one, or all at once |
+//! | `set-into TYPE HEX` | what is written of the list that a set was converted to |
 //! | `oid TEXT`, `oid-arcs ARC..` | `ok HEX`, the octets of the identifier |
 //! | `oid-octets HEX` | `ok TEXT`, the identifier of the octets; `oid-ref HEX` what the borrowed one prints for debugging |
 //! | `oid-parent TEXT`, `oid-child TEXT ARC` | `ok TEXT`, the identifier of one arc less or more; `ok none` where there is no parent |
@@ -23,11 +24,22 @@
 //! | `oid-name TEXT`, `oid-names TEXT`, `oid-named NAME`, `oid-resolved TEXT` | what a database of three names answers |
 //! | `header HEX`, `header-ber HEX` | `ok NUMBER LENGTH HEX NAME`: the octets of the header at the front, its length, what is written for it, and its tag's name |
 //! | `tag HEX` | `ok CLASS NUMBER FORM NAME` of the tag at the front |
+//! | `tag-expected HEX HEX` | `ok NAME` where the tag at the front of the first is that of the second |
+//! | `tag-errors HEX` | `ok KIND; KIND; KIND; KIND`, the errors of a length, a form and a value of the tag, and of another tag in its place |
+//! | `tags NUMBER` | `ok NAME BOOL; NAME BOOL; NAME BOOL`, the tags of that number in three classes, and whether they are of these |
 //! | `class HEX` | `ok NAME HEX`, the class of a tag with that first octet, and its bits |
 //! | `mode NAME`, `rules NAME` | `ok NAME true` of the default mode of tags or encoding rules, `ok NAME false` of others |
 //! | `tag-order HEX HEX`, `header-order HEX HEX`, `length-order LENGTH LENGTH` | the order of the octets of two tags, headers or lengths |
 //! | `tlv HEX LENGTH` | `ok LENGTH`, that of an encoding with the tag at the front and so many octets of content |
 //! | `sum LENGTH NUMBER`, `difference LENGTH NUMBER` | `ok LENGTH`; before the words `saturating-` the nearest length |
+//! | `content TYPE HEX HEX` | `ok HEX ORDER HEX`: two contents without a tag, as they are written again, and their order |
+//! | `by-ord TYPE HEX HEX` | `ok ORDER ORDER ORDER`, those by `Ord` of two contents, by both calls, and of the encodings |
+//! | `prefix HEX NUMBER` | `ok HEX`, so many octets of those that are held |
+//! | `partial HEX` | `ok NUMBER HEX`, the number at the front, and the octets behind it |
+//! | `reader HEX STEP..` | `ok ANSWER; ANSWER..`, what a reader answers to each step |
+//! | `writer NUMBER STEP..` | the same of a writer to so many octets, then what it wrote, and then those octets |
+//! | `slice NUMBER HEX`, `slice-value NUMBER HEX` | `ok HEX HEX`, what is written of a number, or of its content, to so many octets, and then those octets |
+//! | `vector HEX HEX` | `ok HEX NUMBER NAME LENGTH`: a number behind octets, how many octets it has, and its header |
 //! | `why QUESTION` | `ok TEXT`, what the refusal of the question prints |
 //! | `explicit TYPE NUMBER HEX`, `implicit TYPE NUMBER HEX` | `ok HEX, COUNT left`: what is written of the field of this number that stands first, its tag in front of the value's own or in its place, and how many octets are left behind it; `absent` where another tag stands |
 //! | `explicit TYPE NUMBER HEX HEX`, `implicit TYPE NUMBER HEX HEX` | the order of two such fields, and behind it that of their contents |
@@ -43,6 +55,7 @@
 
 mod answers;
 mod any_values;
+mod contents;
 mod entry;
 mod fields;
 mod headers;
@@ -55,12 +68,14 @@ mod lists;
 mod made;
 mod nested;
 mod questions;
+mod readers;
 mod record;
 mod refusals;
 mod small;
 mod ten_fields;
 mod texts;
 mod times;
+mod writers;
 
 use answers::answer;
 use lines::{Line, next_line};

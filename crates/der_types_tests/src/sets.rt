@@ -75,7 +75,6 @@ fn sets(rt: HostRuntime) -> Result<(), Fail> {
     assert!(rt; same == set);
     assert_eq!(rt; set.partial_cmp(&same), Some(Ordering::Equal));
     assert_eq!(rt; AsSlice::as_slice(&set), same.as_slice());
-    assert_eq!(rt; Vec::from(same).len(), 5);
     Ok(())
 }
 
@@ -184,35 +183,53 @@ fn is_answered<T: PartialEq + Drop>(answer: Result<T, Error>, expected: T) -> bo
     }
 }
 
-/// Members that take memory: where there is none for one, the error is the last item.
+/// Where there is no memory for a member, the error is the last item.
 #[test]
 fn refused_members(rt: HostRuntime) -> Result<(), Fail> {
     let alloc = rt.alloc();
-    let octets = b"\x31\x06\x0c\x01a\x0c\x01b";
-    let set = match lent::<String>(alloc, octets) {
+    let octets = b"\x31\x06\x02\x01\x01\x02\x01\x02";
+    let set = match lent::<u8>(alloc, octets) {
         Ok(set) => set,
         Err(_) => lent(alloc, octets)?,
     };
     let mut members = set.iter(alloc);
-    for expected in ["a", "b"] {
-        match members.next().ok_or("a member is left")? {
-            Ok(member) => assert_eq!(rt; member.as_str(), expected),
-            Err(error) => {
+    for expected in [1u8, 2] {
+        match members.next() {
+            Some(Ok(member)) => assert_eq!(rt; member, expected),
+            Some(Err(error)) => {
                 assert_eq!(rt; error.kind, ErrorKind::OutOfMemory);
                 break;
             }
+            None => assert!(rt; false, "a member is left"),
         }
     }
     assert!(rt; members.next().is_none());
+    Ok(())
+}
+
+/// Copies of a borrowed set, and orders that write values to compare them.
+#[test]
+fn refused_copies(rt: HostRuntime) -> Result<(), Fail> {
+    let alloc = rt.alloc();
+    let octets = b"\x31\x06\x02\x01\x01\x02\x01\x02";
+    let set = match lent::<u8>(alloc, octets) {
+        Ok(set) => set,
+        Err(_) => lent(alloc, octets)?,
+    };
     let owned = match set.ref_to_owned(alloc) {
         Ok(owned) => owned,
         Err(_) => set.ref_to_owned(alloc)?,
     };
-    let values = owned.owned_to_ref();
-    assert!(rt; is_answered(values.ref_to_owned(alloc).map(|same| same.len()), 2));
-    assert!(rt; is_answered(values.value_cmp(alloc, &set), Ordering::Equal));
-    assert!(rt; is_answered(set.der_cmp(alloc, &values), Ordering::Equal));
-    let first = values.get(alloc, 0).map(|member| member.is_some());
+    assert_eq!(rt; owned.len(), 2);
+    match owned.owned_to_ref().ref_to_owned(alloc) {
+        Ok(same) => assert_eq!(rt; same.len(), 2),
+        Err(error) => assert_eq!(rt; error.kind, ErrorKind::OutOfMemory),
+    }
+    let order = owned.owned_to_ref().value_cmp(alloc, &set);
+    assert!(rt; is_answered(order, Ordering::Equal));
+    let order = set.der_cmp(alloc, &owned.owned_to_ref());
+    assert!(rt; is_answered(order, Ordering::Equal));
+    let first = set.get(alloc, 0).map(|member| member.is_some());
     assert!(rt; is_answered(first, true));
     Ok(())
 }

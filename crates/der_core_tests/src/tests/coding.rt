@@ -1,0 +1,74 @@
+//! Orders of iterators and of choices, and calls that no row makes.
+
+use der_core::{
+    Alternatives, BytesRef, Class, DerOrd, Error, ErrorKind, Explicit, FirstTag, Header, Implicit,
+    IsConstructed, Length, Tag, TagNumber, iter_cmp, iter_cmp_owned, value_cmp_behind,
+};
+use std::cmp::Ordering::{Equal, Greater, Less};
+use std::test::Fail;
+
+/// `02 01 01`, `02 01 03`, `02 01 7F`, `02 02 00 80`, `02 01 FF`.
+#[test]
+fn orders_of_iterators(rt: HostRuntime) -> Result<(), Fail> {
+    let alloc = rt.alloc();
+    for (these, others, order) in [
+        ([1, 3].as_slice(), [1, 2, 5].as_slice(), Greater),
+        (&[1], &[1, 1], Less),
+        (&[1, 1], &[1], Greater),
+        (&[127, 1], &[128], Less),
+        (&[-1], &[127], Greater),
+        (&[1, 2], &[1, 2], Equal),
+    ] {
+        assert_eq!(rt; iter_cmp::<i16, _>(these.iter(), others.iter())?, order);
+        let these = these.to_vec(alloc)?.into_iter();
+        let others = others.to_vec(alloc)?.into_iter();
+        assert_eq!(rt; iter_cmp_owned(these, others)?, order);
+    }
+    let order = iter_cmp_owned(Some(5u8).into_iter(), None.into_iter())?;
+    assert_eq!(rt; order, Greater);
+    Ok(())
+}
+
+/// `01 01 FF`, `02 01 05`, `0C 01 61`; `A0 03 02 01 05` and `81 01 05`.
+#[test]
+fn orders_of_choices(rt: HostRuntime) -> Result<(), Fail> {
+    let flag: Alternatives<bool, Alternatives<u8, &str>> = Alternatives::First(true);
+    let number = Alternatives::Second(Alternatives::First(5));
+    let text = Alternatives::Second(Alternatives::Second("a"));
+    assert_eq!(rt; flag.der_cmp(&number)?, Less);
+    assert_eq!(rt; text.der_cmp(&flag)?, Greater);
+    assert_eq!(rt; text.der_cmp(&number)?, Greater);
+    assert_eq!(rt; flag.der_cmp(&Alternatives::First(false))?, Greater);
+    assert_eq!(rt; number.first_tag(), Some(Tag::Integer));
+    assert_eq!(rt; flag.first_tag(), Some(Tag::Boolean));
+    let explicit: Alternatives<Explicit<u8, 0>, Implicit<u8, 1>> = Alternatives::First(Explicit {
+        value: 5,
+    });
+    let implicit = Alternatives::Second(Implicit { value: 5 });
+    assert_eq!(rt; explicit.der_cmp(&implicit)?, Greater);
+    assert_eq!(rt; implicit.der_cmp(&explicit)?, Less);
+    Ok(())
+}
+
+#[test]
+fn other_calls(rt: HostRuntime) -> Result<(), Fail> {
+    assert_eq!(rt; Class::from_bits(0x7f), Class::Application);
+    assert_eq!(rt; u32::from(TagNumber::new(200)), 200);
+    assert_eq!(rt; u32::from(Length::ONE), 1);
+    assert_eq!(rt; usize::try_from(Length::MAX)?, 4_294_967_295);
+    let header = Header::new(Tag::Set, Length::ONE).with_length(Length::ZERO);
+    assert!(rt; header.is_constructed() && header.length().is_zero());
+    assert!(rt; <Vec<u8> as IsConstructed>::is_constructed());
+    assert!(rt; !<bool as IsConstructed>::is_constructed());
+    let place = Length::new(7);
+    let error = Error::new(ErrorKind::Failed, place);
+    assert_eq!(rt; error, ErrorKind::Failed.at(place));
+    assert!(rt; error.kind() == ErrorKind::Failed && error.position() == Some(place));
+    let text = String::from_utf8([0xc3, 0x28].to_vec(rt.alloc())?).map_err(Error::from);
+    assert_eq!(rt; text, Err(Error::from(ErrorKind::Utf8)));
+    assert!(rt; BytesRef::empty().is_empty());
+    // One octet before none, and before one.
+    assert_eq!(rt; value_cmp_behind(Some(1), &[], None, &[]), Greater);
+    assert_eq!(rt; value_cmp_behind(Some(1), &[2], None, &[1, 2]), Equal);
+    Ok(())
+}

@@ -1,0 +1,103 @@
+//! Contents without a tag, and orders by `Ord`.
+
+use crate::questions::name_of;
+use crate::refusals::Refusal;
+use const_oid_identifiers::ObjectIdentifier;
+use der_core::{
+    BytesOwned, BytesRef, Decode, DecodeValue, EncodeValue, EncodeValueRef, FixedTag, Header,
+    Length, OrdIsValueOrd, SliceReader, StringOwned, StringRef, Tag, ValueOrd, der_cmp_by_ord,
+    from_der, from_der_partial, value_cmp_by_ord, value_cmp_is_ord,
+};
+use std::alloc::Global;
+
+/// The answer to a question about the contents of a type without a tag of its own.
+pub fn answer(alloc: Global, rest: &str) -> Result<String, Refusal> {
+    let (kind, rest) = rest.split_once(' ').ok_or(Refusal::Unread)?;
+    let (first, second) = rest.split_once(' ').unwrap_or((rest, ""));
+    let first = hex::decode(alloc, first.as_bytes())?;
+    let second = hex::decode(alloc, second.as_bytes())?;
+    let (first, second) = (first.as_slice(), second.as_slice());
+    match kind {
+        "BytesRef" => answer_as::<BytesRef>(alloc, first, second),
+        "BytesOwned" => answer_as::<BytesOwned>(alloc, first, second),
+        "StringRef" => answer_as::<StringRef>(alloc, first, second),
+        "StringOwned" => answer_as::<StringOwned>(alloc, first, second),
+        _ => Err(Refusal::Unread),
+    }
+}
+
+/// What is written of two contents, and their order.
+fn answer_as<'a, T: DecodeValue<'a, SliceReader<'a>> + EncodeValue + ValueOrd + Drop>(
+    alloc: Global,
+    first: &'a [u8],
+    second: &'a [u8],
+) -> Result<String, Refusal> {
+    let first: T = value_of(alloc, first)?;
+    let second: T = value_of(alloc, second)?;
+    let order = name_of(EncodeValueRef(&first).value_cmp(&EncodeValueRef(&second))?);
+    let first = written(alloc, &first)?;
+    let second = written(alloc, &second)?;
+    Ok(format!(in alloc; "{first} {order} {second}")?)
+}
+
+/// The value of a content that is all of the octets.
+fn value_of<'a, T: DecodeValue<'a, SliceReader<'a>>>(
+    alloc: Global,
+    octets: &'a [u8],
+) -> Result<T, Refusal> {
+    let mut reader = SliceReader::new(octets)?;
+    let header = Header::new(Tag::OctetString, Length::try_from(octets.len())?);
+    Ok(T::decode_value(alloc, &mut reader, header)?)
+}
+
+/// The octets of the content of a value.
+fn written<T: EncodeValue>(alloc: Global, value: &T) -> Result<String, Refusal> {
+    let mut octets = Vec::new(alloc);
+    value.encode_value(&mut octets)?;
+    Ok(hex::encode(alloc, octets)?)
+}
+
+/// The first octets of octets that are held.
+pub fn answer_of_prefixes(alloc: Global, rest: &str) -> Result<String, Refusal> {
+    let (octets, len) = rest.split_once(' ').ok_or(Refusal::Unread)?;
+    let octets = hex::decode(alloc, octets.as_bytes())?;
+    let prefix = BytesRef::new(octets.as_slice())?.prefix(Length::new(len.parse::<u32>()?))?;
+    Ok(hex::encode(alloc, prefix.as_slice())?)
+}
+
+/// The number at the front of octets, and the octets behind it.
+pub fn answer_of_fronts(alloc: Global, octets: &str) -> Result<String, Refusal> {
+    let octets = hex::decode(alloc, octets.as_bytes())?;
+    let (number, behind) = from_der_partial::<u8>(alloc, octets.as_slice())?;
+    let behind = hex::encode(alloc, behind)?;
+    Ok(format!(in alloc; "{number} {behind}")?)
+}
+
+/// The orders by `Ord` of the contents and of the encodings of two values.
+pub fn answer_by_ord(alloc: Global, rest: &str) -> Result<String, Refusal> {
+    let (kind, rest) = rest.split_once(' ').ok_or(Refusal::Unread)?;
+    let (first, second) = rest.split_once(' ').ok_or(Refusal::Unread)?;
+    let first = hex::decode(alloc, first.as_bytes())?;
+    let second = hex::decode(alloc, second.as_bytes())?;
+    let (first, second) = (first.as_slice(), second.as_slice());
+    match kind {
+        "bool" => orders_by_ord::<bool>(alloc, first, second),
+        "str" => orders_by_ord::<&str>(alloc, first, second),
+        "String" => orders_by_ord::<String>(alloc, first, second),
+        "ObjectIdentifier" => orders_by_ord::<ObjectIdentifier<39>>(alloc, first, second),
+        _ => Err(Refusal::Unread),
+    }
+}
+
+/// The orders by `Ord` of two values that octets spell by DER.
+fn orders_by_ord<
+    'a,
+    T: Decode<'a, SliceReader<'a>> + EncodeValue + FixedTag + OrdIsValueOrd + ValueOrd + Drop,
+>(alloc: Global, first: &'a [u8], second: &'a [u8]) -> Result<String, Refusal> {
+    let first: T = from_der(alloc, first)?;
+    let second: T = from_der(alloc, second)?;
+    let contents = name_of(value_cmp_by_ord(&first, &second));
+    let same_contents = name_of(value_cmp_is_ord(&first, &second)?);
+    let encodings = name_of(der_cmp_by_ord(&first, &second)?);
+    Ok(format!(in alloc; "{contents} {same_contents} {encodings}")?)
+}
