@@ -33,9 +33,17 @@ def processes():
     return found
 
 
-def checks(found):
-    """Each check that runs: its process, crate and kind, and the seconds of it and of the copies of it that run."""
+def is_below(found, pid, gate):
+    """Whether a process was started by the gate."""
+    while pid in found and pid != gate:
+        pid = found[pid][0]
+    return pid == gate
+
+
+def checks(found, gate):
+    """Each check of the gate that runs: its process, crate and kind, and the seconds of it and of the copies of it that run."""
     own = {pid for pid, (_, _, words, _, _) in found.items() if os.path.basename(words[0]) == "rattle" and "--crate-name" in words}
+    own = {pid for pid in own if is_below(found, pid, gate)}
     seconds = collections.Counter()
     first = {}
     for pid in own:
@@ -62,7 +70,7 @@ def run(log):
     seen, began = {}, time.time()
     gate = subprocess.Popen(["rt", "ci"], stdin=subprocess.DEVNULL, stdout=log, stderr=subprocess.STDOUT)
     while gate.poll() is None:
-        for key, crate, kind, seconds in checks(processes()):
+        for key, crate, kind, seconds in checks(processes(), str(gate.pid)):
             seen[key] = (crate, kind, max(seconds, seen.get(key, ("", "", 0))[2]))
         time.sleep(2)
     return gate.returncode, (time.time() - began) / 60, seen.values()
