@@ -183,9 +183,9 @@ fn is_answered<T: PartialEq + Drop>(answer: Result<T, Error>, expected: T) -> bo
     }
 }
 
-/// Where there is no memory for a member, the error is the last item.
+/// Reading a set may find no memory; its members are numbers, and an iterator over them takes none.
 #[test]
-fn refused_members(rt: HostRuntime) -> Result<(), Fail> {
+fn lent_members(rt: HostRuntime) -> Result<(), Fail> {
     let alloc = rt.alloc();
     let octets = b"\x31\x06\x02\x01\x01\x02\x01\x02";
     let set = match lent::<u8>(alloc, octets) {
@@ -194,16 +194,27 @@ fn refused_members(rt: HostRuntime) -> Result<(), Fail> {
     };
     let mut members = set.iter(alloc);
     for expected in [1u8, 2] {
-        match members.next() {
-            Some(Ok(member)) => assert_eq!(rt; member, expected),
-            Some(Err(error)) => {
-                assert_eq!(rt; error.kind, ErrorKind::OutOfMemory);
-                break;
-            }
-            None => assert!(rt; false, "a member is left"),
-        }
+        let member = members.next().ok_or("a member is left")?;
+        assert_eq!(rt; member?, expected);
     }
     assert!(rt; members.next().is_none());
+    Ok(())
+}
+
+/// A set made of items is in order, and its copy equals it; either may find no memory.
+#[test]
+fn refused_gathering(rt: HostRuntime) -> Result<(), Fail> {
+    let alloc = rt.alloc();
+    match SetOfVec::from_iter(alloc, [5u8, 1]) {
+        Ok(set) => {
+            match set.clone(alloc) {
+                Ok(same) => assert!(rt; same == set),
+                Err(error) => assert_eq!(rt; error.kind, ErrorKind::OutOfMemory),
+            }
+            assert_eq!(rt; set.as_slice(), [1, 5].as_slice());
+        }
+        Err(error) => assert_eq!(rt; error.kind, ErrorKind::OutOfMemory),
+    }
     Ok(())
 }
 
