@@ -18,18 +18,18 @@ use std::cmp::Ordering;
 /// Of contents of other lengths it may be another one: identifiers are ordered by the number of their
 /// octets first.
 pub trait OrdIsValueOrd: ShapedValue + Ord {
-    ghost order: { (v w : Self) → IsContent Self.content (Self.value_plain v) → IsContent Self.content (Self.value_plain w)
-        → length (contents Self.content (Self.value_plain v)) ≡ length (contents Self.content (Self.value_plain w))
-        → Self.cmp v w ≡ contents_cmp Self.content (Self.value_plain v) (Self.value_plain w) };
+    ghost order: { (v w : Self) → IsContent Self.content (Self.value_written v) → IsContent Self.content (Self.value_written w)
+        → length (contents Self.content (Self.value_written v)) ≡ length (contents Self.content (Self.value_written w))
+        → Self.cmp v w ≡ contents_cmp Self.content (Self.value_written v) (Self.value_written w) };
 }
 
 /// The order of the contents of two values, by their `Ord`, where they have the same length.
 pub fn value_cmp_by_ord<T: OrdIsValueOrd>(a: &T, b: &T) -> Ordering
     // It is that of their `Ord` whatever the lengths are.
     ensures ord { result ≡ T.cmp a.now b.now }
-    ensures order { IsContent T.content (T.value_plain a.now) → IsContent T.content (T.value_plain b.now)
-        → length (contents T.content (T.value_plain a.now)) ≡ length (contents T.content (T.value_plain b.now))
-        → result ≡ contents_cmp T.content (T.value_plain a.now) (T.value_plain b.now) }
+    ensures order { IsContent T.content (T.value_written a.now) → IsContent T.content (T.value_written b.now)
+        → length (contents T.content (T.value_written a.now)) ≡ length (contents T.content (T.value_written b.now))
+        → result ≡ contents_cmp T.content (T.value_written a.now) (T.value_written b.now) }
 {
     a.cmp(b)
 }
@@ -40,10 +40,10 @@ pub fn value_cmp_by_ord<T: OrdIsValueOrd>(a: &T, b: &T) -> Ordering
 /// # Errors
 /// `Overflow` where the content of one of the two has 2^32 octets or more.
 pub fn value_cmp_is_ord<T: ValueOrd + OrdIsValueOrd>(a: &T, b: &T) -> Result<Ordering, Error>
-    ensures order { is_content_apart T.content ≡ true → IsContent T.content (T.value_plain a.now) → IsContent T.content (T.value_plain b.now)
-        → length (contents T.content (T.value_plain a.now)) ≡ length (contents T.content (T.value_plain b.now))
+    ensures order { is_content_apart T.content ≡ true → IsContent T.content (T.value_written a.now) → IsContent T.content (T.value_written b.now)
+        → length (contents T.content (T.value_written a.now)) ≡ length (contents T.content (T.value_written b.now))
         → result ≡ Ok (T.cmp a.now b.now) }
-    ensures refused { IfErr result (λ e. Overflows e (size_content T.content (T.value_plain a.now)) (size_content T.content (T.value_plain b.now))) }
+    ensures refused { IfErr result (λ e. Overflows e (size_content T.content (T.value_written a.now)) (size_content T.content (T.value_written b.now))) }
 {
     let order = a.value_cmp(b)?;
     Ok(order)
@@ -57,11 +57,11 @@ pub fn der_cmp_by_ord<T: OrdIsValueOrd + EncodeValue + FixedTag>(
     a: &T,
     b: &T,
 ) -> Result<Ordering, Error>
-    ensures order { IsValid (tagged T.fixed_tag T.content) (T.value_plain a.now) → IsValid (tagged T.fixed_tag T.content) (T.value_plain b.now)
-        → result ≡ Ok (encodings_cmp (tagged T.fixed_tag T.content) (T.value_plain a.now) (T.value_plain b.now)) }
+    ensures order { IsValid (tagged T.fixed_tag T.content) (T.value_written a.now) → IsValid (tagged T.fixed_tag T.content) (T.value_written b.now)
+        → result ≡ Ok (encodings_cmp (tagged T.fixed_tag T.content) (T.value_written a.now) (T.value_written b.now)) }
     // It isn't answered where a content has no length.
-    ensures answered { IfOk result (λ _. IsOk (size_content T.content (T.value_plain a.now)) × IsOk (size_content T.content (T.value_plain b.now))) }
-    ensures refused { IfErr result (λ e. Overflows e (size (tagged T.fixed_tag T.content) (T.value_plain a.now)) (size (tagged T.fixed_tag T.content) (T.value_plain b.now))) }
+    ensures answered { IfOk result (λ _. IsOk (size_content T.content (T.value_written a.now)) × IsOk (size_content T.content (T.value_written b.now))) }
+    ensures refused { IfErr result (λ e. Overflows e (size (tagged T.fixed_tag T.content) (T.value_written a.now)) (size (tagged T.fixed_tag T.content) (T.value_written b.now))) }
 {
     let len = a.value_len()?;
     let other_len = b.value_len()?;

@@ -12,8 +12,8 @@ ghost use Rattle.der_core_head.specs.Spelling.{is_apart, is_element, are_enough}
 ghost use Rattle.der_core.specs.Orders.{octets_cmp, encodings_cmp};
 
 pub use der_core_head::laws::{
-    apart_is_lawful, ber_headers_are_spelled, bodies_end_themselves, read_is_spelled,
-    spelled_is_read,
+    apart_is_lawful, ber_headers_are_spelled, bodies_end_themselves, headers_are_spelled,
+    read_is_spelled, spelled_is_read, values_begin_as_stated,
 };
 
 /// The order is `Equal` exactly where the octets are the same.

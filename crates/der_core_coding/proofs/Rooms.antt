@@ -8,11 +8,11 @@ use Rattle.der_core_head.specs.declared.error.Error.{Error}
 use Rattle.der_core_head.specs.declared.error.ErrorKind.{ErrorKind}
 use Rattle.der_core_head.specs.declared.tag.Tag.{Tag}
 use Rattle.der_core_head.specs.Tags.{tag_octets}
-use Rattle.der_core_head.specs.Heads.{head_octets, length_octets, tlv}
+use Rattle.der_core_head.specs.Heads.{Fits, head_octets, length_octets, tlv}
 use Rattle.der_core_head.specs.Leaves.{leaf_contents}
 use Rattle.der_core_head.specs.Shapes.{Shape, Content, Body, tagged, any, either, optional, defaulted, nothing, leaf, nested, done, field, only, many, exactly, rising, Value, ContentValue, BodyValue, octets_of, contents, body_octets, unless, IsValid, IsContent, IsBody}
 use Rattle.der_core_head.specs.Reading.{Gives}
-use Rattle.der_core_head.specs.Writing.{Out, put, put_head, fit_len, size_content, write_tlv, write_many, default_write, write, write_content, write_body}
+use Rattle.der_core_head.specs.Writing.{Out, put, put_head, sum_len, fit_len, size_content, write_tlv, write_many, default_write, write, write_content, write_body}
 use Rattle.der_core_head.proofs.Fits.{fits_contents}
 use Rattle.der_core_head.proofs.Written.{sized_content}
 use Rattle.der_core_octets.specs.Outputs.{blank, filled}
@@ -30,21 +30,24 @@ put_within b a r l =
     let left : r - length a - length b ≡ r - length (a ++ b) = omega (arith, length-append a b) in
     rw (le-ltb (r - length a) (length b) (omega arith)) (ap (λ n. Ok (record { written = a ++ b; room = Some n; failed = false })) left)
 
-head_within : (t : Tag) (n : ℕ) (a : List ℕ) (r : ℕ) → length a + length (head_octets t n) ≤ r → put_head t n (within a r) ≡ Ok (within (a ++ head_octets t n) r)
+sum_fits : (m n : ℕ) → m + n < 4294967296 → sum_len m n ≡ Ok (m + n)
+sum_fits m n h = rw (le-ltb 4294967295 (m + n) (omega arith)) refl
+
+head_within : (t : Tag) (n : ℕ) (a : List ℕ) (r : ℕ) → length (head_octets t n) + n < 4294967296 → length a + length (head_octets t n) ≤ r → put_head t n (within a r) ≡ Ok (within (a ++ head_octets t n) r)
 unfolding put_head head_octets
-head_within t n a r l =
+head_within t n a r h l =
     let sum = length-append (tag_octets t) (length_octets n) in
     let front = length-append a (tag_octets t) in
-    rw (put_within (tag_octets t) a r (omega (arith, sum, l)))
+    rw (sum_fits (length (head_octets t n)) n h, put_within (tag_octets t) a r (omega (arith, sum, l)))
     (put_within (length_octets n) (a ++ tag_octets t) r (omega (arith, sum, front, l)) ∙ ap (λ w. Ok (within w r)) (append_assoc a (tag_octets t) (length_octets n)))
 
-tlv_within : (t : Tag) (c a : List ℕ) (r : ℕ) (n : Result ℕ ErrorKind) (f : Out → Result Out ErrorKind) → n ≡ Ok (length c)
+tlv_within : (t : Tag) (c a : List ℕ) (r : ℕ) (n : Result ℕ ErrorKind) (f : Out → Result Out ErrorKind) → Fits (tlv t c) → n ≡ Ok (length c)
     → ((x : List ℕ) → length x + length c ≤ r → f (within x r) ≡ Ok (within (x ++ c) r)) → length a + length (tlv t c) ≤ r → write_tlv t n f (within a r) ≡ Ok (within (a ++ tlv t c) r)
 unfolding write_tlv tlv
-tlv_within t c a r n f e writes l =
+tlv_within t c a r n f h e writes l =
     let sum = length-append (head_octets t (length c)) c in
     let front = length-append a (head_octets t (length c)) in
-    rw (e, head_within t (length c) a r (omega (arith, sum, l)), writes (a ++ head_octets t (length c)) (omega (arith, sum, front, l))) (ap (λ w. Ok (within w r)) (append_assoc a (head_octets t (length c)) c))
+    rw (e, head_within t (length c) a r (omega (arith, sum, h)) (omega (arith, sum, l)), writes (a ++ head_octets t (length c)) (omega (arith, sum, front, l))) (ap (λ w. Ok (within w r)) (append_assoc a (head_octets t (length c)) c))
 
 many_within : {P : Type 0} (f : P → Out → Result Out ErrorKind) (V : P → Type 0) (o : P → List ℕ) (r : ℕ)
     → ((x : P) (a : List ℕ) → V x → length a + length (o x) ≤ r → f x (within a r) ≡ Ok (within (a ++ o x) r))
@@ -65,8 +68,8 @@ mutual
   unfolding octets_of IsValid
 
   roomed : (s : Shape) (v : Value s) (a : List ℕ) (r : ℕ) → IsValid s v → length a + length (octets_of s v) ≤ r → write s v (within a r) ≡ Ok (within (a ++ octets_of s v) r)
-  roomed (tagged t c) v a r h l = tlv_within t (contents c v) a r (size_content c v) (write_content c v) (sized_content c v h.0 (fits_contents t (contents c v) h.2)) (λ x m. roomed_content c v x r h.0 m) l
-  roomed any v a r h l = tlv_within v.tag v.contents a r (fit_len (length v.contents)) (put v.contents) (fit_size (length v.contents) (fits_contents v.tag v.contents h.2)) (λ x m. put_within v.contents x r m) l
+  roomed (tagged t c) v a r h l = tlv_within t (contents c v) a r (size_content c v) (write_content c v) h.2 (sized_content c v h.0 (fits_contents t (contents c v) h.2)) (λ x m. roomed_content c v x r h.0 m) l
+  roomed any v a r h l = tlv_within v.tag v.contents a r (fit_len (length v.contents)) (put v.contents) h.2 (fit_size (length v.contents) (fits_contents v.tag v.contents h.2)) (λ x m. put_within v.contents x r m) l
   roomed (either x y) (inl v) a r h l = roomed x v a r h l
   roomed (either x y) (inr v) a r h l = roomed y v a r h l
   roomed (optional s) None a r h l = ap (λ w. Ok (within w r)) (sym (append-nil a))

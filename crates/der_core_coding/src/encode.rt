@@ -9,24 +9,25 @@ use der_core_head::Error;
 use der_core_values::Encode;
 use std::alloc::Global;
 
-/// The octets that writing a value gives.
+/// The octets that writing a value gives, in a vector made for that many.
 fn written<T: Encode>(alloc: Global, value: &T) -> Result<Vec<u8>, Error>
-    ensures { Gives (λ v. record { written = v.items; room = None; failed = false }) result (write T.shape (T.plain value.now) (record { written = []; room = None; failed = false })) }
+    ensures { Gives (λ v. record { written = v.items; room = None; failed = false }) result (write T.shape (T.written value.now) (record { written = []; room = None; failed = false })) }
 {
-    let mut out = Vec::new(alloc);
+    let len = value.encoded_len()?;
+    let mut out = Vec::with_capacity(alloc, len.value as usize)?;
     value.encode(&mut out)?;
     Ok(out)
 }
 
-/// The octets that spell a value.
+/// The octets that spell a value. Memory is asked for once, for so many octets.
 ///
 /// # Errors
 /// `Overflow` where a length passes 2^32 - 1, or `OutOfMemory`.
 pub fn to_der<T: Encode>(alloc: Global, value: &T) -> Result<Vec<u8>, Error>
     // A valid value has an encoding, and it is the answer unless memory runs out.
-    ensures spelled { IsValid T.shape (T.plain value.now) → Gives (λ v. v.items) result (Ok (octets_of T.shape (T.plain value.now))) }
+    ensures spelled { IsValid T.shape (T.written value.now) → Gives (λ v. v.items) result (Ok (octets_of T.shape (T.written value.now))) }
     // Which fault it is.
-    ensures exact { Gives (λ v. record { written = v.items; room = None; failed = false }) result (write T.shape (T.plain value.now) (record { written = []; room = None; failed = false })) }
+    ensures exact { Gives (λ v. record { written = v.items; room = None; failed = false }) result (write T.shape (T.written value.now) (record { written = []; room = None; failed = false })) }
 {
     written(alloc, value)
 }

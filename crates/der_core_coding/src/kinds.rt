@@ -1,16 +1,16 @@
 //! Defaults.
 
-ghost use Rattle.std.specs.Prelude.{◌≡◌, List, ℕ, [], ◌∷◌, Ok, bytes_eq};
+ghost use Rattle.std.specs.Prelude.{◌≡◌, List, ℕ, [], ◌∷◌, Ok, bytes_eq, refl};
 ghost use Rattle.der_core_head.specs.Shapes.{defaulted, octets_of};
 ghost use Rattle.der_core_head.specs.Grammar.{read};
 
 use der_core_head::{Error, ErrorKind, Length};
 use der_core_octets::{Reader, Writer};
-use der_core_values::{Choice, Decode, Encode, Shaped};
+use der_core_values::{AsRead, Choice, Decode, Encode, Shaped};
 use std::alloc::Global;
 
-/// A type with a value that is never written (X.690 11.5).
-pub trait DefaultValue: Shaped {
+/// A type with a value that is never written (X.690 11.5), whose values are written as they are read.
+pub trait DefaultValue: Shaped + AsRead {
     ghost default_octets: { List ℕ };
 
     /// That value.
@@ -47,6 +47,12 @@ impl<T: DefaultValue> Shaped for WithDefault<T> {
     ghost shape = { defaulted T.shape T.default_octets };
 
     ghost plain = { λ x. T.plain x.value };
+
+    ghost written = { λ x. T.plain x.value };
+}
+
+impl<T: DefaultValue> AsRead for WithDefault<T> {
+    ghost as_read = { λ _. refl };
 }
 
 impl<'a, R: Reader<'a>, T: Decode<'a, R> + Choice + DefaultValue> Decode<'a, R> for WithDefault<T> {
@@ -62,9 +68,10 @@ impl<'a, R: Reader<'a>, T: Decode<'a, R> + Choice + DefaultValue> Decode<'a, R> 
                 value: T::default_value(),
             });
         }
+        let place = reader.position();
         let value = T::decode(alloc, reader)?;
         if value.is_default() {
-            return Err(Error::from(ErrorKind::Noncanonical { tag }));
+            return Err(ErrorKind::Noncanonical { tag }.at(place));
         }
         Ok(WithDefault { value })
     }

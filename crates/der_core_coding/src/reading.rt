@@ -61,9 +61,10 @@ pub fn read_explicit<'a, R: Reader<'a>, T: Decode<'a, R>>(
 ) -> Result<T, Error>
     ensures { Reads T.plain (R.state reader.old) (R.state reader.new) result (read (tagged tag (nested (only T.shape))) (R.state reader.old).room) }
 {
+    let place = reader.position();
     let header = reader.read_header()?;
     if !is_same_tag(header.tag, tag) {
-        return Err(Error::from(ErrorKind::TagUnexpected));
+        return Err(ErrorKind::TagUnexpected.at(place));
     }
     read_only(alloc, reader, header)
 }
@@ -77,9 +78,10 @@ fn read_implicit<'a, R: Reader<'a>, T: DecodeValue<'a, R>>(
 ) -> Result<T, Error>
     ensures { Reads T.value_plain (R.state reader.old) (R.state reader.new) result (read (tagged tag T.content) (R.state reader.old).room) }
 {
+    let place = reader.position();
     let header = reader.read_header()?;
     if !is_same_tag(header.tag, tag) {
-        return Err(Error::from(ErrorKind::TagUnexpected));
+        return Err(ErrorKind::TagUnexpected.at(place));
     }
     T::decode_value(alloc, reader, header)
 }

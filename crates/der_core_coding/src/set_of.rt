@@ -14,17 +14,17 @@ use crate::sliced::decode_sliced;
 use der_core_head::{Error, ErrorKind, Header, Length, Tag};
 use der_core_octets::{Reader, Writer};
 use der_core_values::{
-    ApartValue, Decode, DecodeFields, DecodeValue, Element, Encode, EncodeValue, Fields, FixedTag,
-    Member, Shaped, ShapedValue, read_fields,
+    ApartValue, AsRead, AsReadValue, Decode, DecodeFields, DecodeValue, Element, Encode,
+    EncodeValue, Fields, FixedTag, Member, Shaped, ShapedValue, read_fields,
 };
 use std::alloc::Global;
 use std::cmp::Ordering;
 
-/// Whether octets may follow those before them in a set.
+/// Whether octets that stand at a place may follow those before them in a set.
 ///
 /// # Errors
 /// `SetDuplicate` for the same octets, `SetOrdering` for lower ones.
-fn check_follows(last: Option<&[u8]>, octets: &[u8]) -> Result<(), Error>
+fn check_follows(last: Option<&[u8]>, octets: &[u8], place: Length) -> Result<(), Error>
     ensures { Gives (λ x. x) result (follows_last (octets_at last.entry) octets.now) }
 {
     let Some(last) = last else {
@@ -32,8 +32,8 @@ fn check_follows(last: Option<&[u8]>, octets: &[u8]) -> Result<(), Error>
     };
     match last.cmp(octets) {
         Ordering::Less => Ok(()),
-        Ordering::Equal => Err(Error::from(ErrorKind::SetDuplicate)),
-        Ordering::Greater => Err(Error::from(ErrorKind::SetOrdering)),
+        Ordering::Equal => Err(ErrorKind::SetDuplicate.at(place)),
+        Ordering::Greater => Err(ErrorKind::SetOrdering.at(place)),
     }
 }
 
@@ -58,8 +58,9 @@ pub fn read_rising<'a, R: Reader<'a>, T: Decode<'a, R> + Member>(
         if reader.is_finished() {
             break;
         }
+        let place = reader.position();
         let (value, octets) = decode_sliced::<R, T>(alloc, reader)?;
-        check_follows(last, octets)?;
+        check_follows(last, octets, place)?;
         last = Some(octets);
         values.push(value)?;
     }
@@ -88,12 +89,16 @@ impl<T: Shaped> Fields for SetOf<T> {
     ghost fields = { rising T.shape };
 
     ghost fields_plain = { λ v. plain_list T.plain v.values.items };
+
+    ghost fields_written = { λ v. plain_list T.written v.values.items };
 }
 
 impl<T: Shaped> ShapedValue for SetOf<T> {
     ghost content = { nested (rising T.shape) };
 
     ghost value_plain = { λ v. plain_list T.plain v.values.items };
+
+    ghost value_written = { λ v. plain_list T.written v.values.items };
 }
 
 impl<'a, R: Reader<'a>, T: Decode<'a, R> + Member> DecodeFields<'a, R> for SetOf<T> {
@@ -123,4 +128,10 @@ impl<T: Element + Member> ApartValue for SetOf<T> {
     ghost use Rattle.der_core_values.specs.Both.{both_true};
 
     ghost apart_value = { both_true T.element T.apart };
+}
+
+impl<T: AsRead> AsReadValue for SetOf<T> {
+    ghost use Rattle.der_core_values.specs.Same.{same_list};
+
+    ghost as_read_value = { λ v. same_list T.as_read v.values.items };
 }

@@ -146,12 +146,10 @@ impl<'r> Reader<'r> for SliceReader<'r> {
         let len = len.value as usize;
         let left = self.end - self.position;
         if left < len {
-            self.failed = true;
-            return Err(Error::from(ErrorKind::Incomplete));
+            return Err(self.error(ErrorKind::Incomplete));
         }
         if self.depth == 64 {
-            self.failed = true;
-            return Err(Error::from(ErrorKind::NestingDepth));
+            return Err(self.error(ErrorKind::NestingDepth));
         }
         let behind = left - len;
         self.end -= behind;
@@ -171,7 +169,8 @@ impl<'r> Reader<'r> for SliceReader<'r> {
         }
         if !finished {
             self.failed = true;
-            return Err(Error::from(ErrorKind::TrailingData));
+            let value = self.position as u32;
+            return Err(ErrorKind::TrailingData.at(Length { value }));
         }
         Ok(())
     }

@@ -86,7 +86,7 @@ impl<'a> SliceWriter<'a> {
     /// where a length passes 2^32 - 1.
     pub fn encode<T: Encode>(&mut self, value: &T) -> Result<(), Error>
         ensures writes { (⟦<SliceWriter<'static> as Writer>⟧.out self.old).failed ≡ false
-            → Writes (⟦<SliceWriter<'static> as Writer>⟧.out self.old) (⟦<SliceWriter<'static> as Writer>⟧.out self.new) result (write T.shape (T.plain value.now)) }
+            → Writes (⟦<SliceWriter<'static> as Writer>⟧.out self.old) (⟦<SliceWriter<'static> as Writer>⟧.out self.new) result (write T.shape (T.written value.now)) }
         ensures failed { (⟦<SliceWriter<'static> as Writer>⟧.out self.old).failed ≡ true → IsErrAnd result (λ e. e.kind ≡ ErrorKind.Failed) }
         ensures refused { OnErr result ((⟦<SliceWriter<'static> as Writer>⟧.out self.new).failed ≡ true) }
         ensures kept { Continues (⟦<SliceWriter<'static> as Writer>⟧.out self.old) (⟦<SliceWriter<'static> as Writer>⟧.out self.new) }
@@ -119,10 +119,10 @@ impl<'a> SliceWriter<'a> {
     ) -> Result<(), Error>
         ensures explicit { tag_mode ≡ modes.Explicit → (⟦<SliceWriter<'static> as Writer>⟧.out self.old).failed ≡ false
             → Writes (⟦<SliceWriter<'static> as Writer>⟧.out self.old) (⟦<SliceWriter<'static> as Writer>⟧.out self.new) result
-            (write (tagged (context true tag_number.value) (nested (only (tagged T.fixed_tag T.content)))) (T.value_plain value.now)) }
+            (write (tagged (context true tag_number.value) (nested (only (tagged T.fixed_tag T.content)))) (T.value_written value.now)) }
         ensures implicit { tag_mode ≡ modes.Implicit → (⟦<SliceWriter<'static> as Writer>⟧.out self.old).failed ≡ false
             → Writes (⟦<SliceWriter<'static> as Writer>⟧.out self.old) (⟦<SliceWriter<'static> as Writer>⟧.out self.new) result
-            (write (tagged (implicit_tag tag_number.value T.fixed_tag) T.content) (T.value_plain value.now)) }
+            (write (tagged (implicit_tag tag_number.value T.fixed_tag) T.content) (T.value_written value.now)) }
         ensures failed { (⟦<SliceWriter<'static> as Writer>⟧.out self.old).failed ≡ true → IsErrAnd result (λ e. e.kind ≡ ErrorKind.Failed) }
         ensures refused { OnErr result ((⟦<SliceWriter<'static> as Writer>⟧.out self.new).failed ≡ true) }
         ensures kept { Continues (⟦<SliceWriter<'static> as Writer>⟧.out self.old) (⟦<SliceWriter<'static> as Writer>⟧.out self.new) }

@@ -16,7 +16,7 @@ use der_core_values::{Encode, EncodeValue};
 /// # Errors
 /// `Overflow` from 2^32 octets on.
 pub fn value_header<T: EncodeValue + Tagged>(value: &T) -> Result<Header, Error>
-    ensures length { GivesNow (λ header. header.length.value) result (size_content T.content (T.value_plain value.now)) }
+    ensures length { GivesNow (λ header. header.length.value) result (size_content T.content (T.value_written value.now)) }
     ensures tag { IfOk result (λ header. header.tag ≡ T.own_tag value.now) }
 {
     let length = value.value_len()?;
@@ -29,17 +29,17 @@ pub fn value_header<T: EncodeValue + Tagged>(value: &T) -> Result<Header, Error>
 /// `Overlength` where the slice is too short, `Overflow` where a length passes 2^32 - 1.
 pub fn encode_to_slice<'a, T: Encode>(value: &T, bytes: &'a mut [u8]) -> Result<&'a [u8], Error>
     // A valid value is written where there is room for its encoding.
-    ensures spelled { IsValid T.shape (T.plain value.now) → length (octets_of T.shape (T.plain value.now)) ≤ length bytes.entry.now
-        → Gives (λ octets. octets.now) result (Ok (octets_of T.shape (T.plain value.now))) }
+    ensures spelled { IsValid T.shape (T.written value.now) → length (octets_of T.shape (T.written value.now)) ≤ length bytes.entry.now
+        → Gives (λ octets. octets.now) result (Ok (octets_of T.shape (T.written value.now))) }
     // Which fault it is.
-    ensures exact { Gives (λ octets. octets.now) result (filled (write T.shape (T.plain value.now)) (length bytes.entry.now)) }
+    ensures exact { Gives (λ octets. octets.now) result (filled (write T.shape (T.written value.now)) (length bytes.entry.now)) }
 {
     fill(value, bytes)
 }
 
 /// Writes a value to the front of a slice.
 fn fill<'a, T: Encode>(value: &T, bytes: &'a mut [u8]) -> Result<&'a [u8], Error>
-    ensures { Gives (λ octets. octets.now) result (filled (write T.shape (T.plain value.now)) (length bytes.entry.now)) }
+    ensures { Gives (λ octets. octets.now) result (filled (write T.shape (T.written value.now)) (length bytes.entry.now)) }
 {
     let mut writer = SliceWriter::new(bytes);
     value.encode(&mut writer)?;
@@ -54,7 +54,7 @@ pub fn encode_value_to_slice<'a, T: EncodeValue>(
     value: &T,
     bytes: &'a mut [u8],
 ) -> Result<&'a [u8], Error>
-    ensures { Gives (λ octets. octets.now) result (filled (write_content T.content (T.value_plain value.now)) (length bytes.entry.now)) }
+    ensures { Gives (λ octets. octets.now) result (filled (write_content T.content (T.value_written value.now)) (length bytes.entry.now)) }
 {
     let mut writer = SliceWriter::new(bytes);
     value.encode_value(&mut writer)?;
@@ -63,30 +63,39 @@ pub fn encode_value_to_slice<'a, T: EncodeValue>(
 
 /// Writes a value behind the octets of a vector, and answers how many octets it has.
 ///
-/// What stood there stays; after a refusal some octets of the value may stand behind it.
+/// What stood there stays; after a refusal nothing else stands there. Memory is asked for once, for so many octets.
 ///
 /// # Errors
 /// `Overflow` where a length passes 2^32 - 1, or `OutOfMemory`.
 pub fn encode_to_vec<T: Encode>(value: &T, out: &mut Vec<u8>) -> Result<Length, Error>
     // A valid value's encoding stands behind what was there.
-    ensures spelled { IsValid T.shape (T.plain value.now) → IfOk result (λ len.
-        (out.new.items ≡ out.old.items ++ octets_of T.shape (T.plain value.now)) × (len.value ≡ length (octets_of T.shape (T.plain value.now)))) }
-    ensures exact { IfOk result (λ len. appended T.shape (T.plain value.now) out.old.items ≡ Ok (len.value, out.new.items)) }
-    ensures refused { IfErr result (λ e. Fails e.kind (appended T.shape (T.plain value.now) out.old.items)) }
-    // What stood in the vector stays in front.
+    ensures spelled { IsValid T.shape (T.written value.now) → IfOk result (λ len.
+        (out.new.items ≡ out.old.items ++ octets_of T.shape (T.written value.now)) × (len.value ≡ length (octets_of T.shape (T.written value.now)))) }
+    ensures exact { IfOk result (λ len. appended T.shape (T.written value.now) out.old.items ≡ Ok (len.value, out.new.items)) }
+    ensures refused { IfErr result (λ e. Fails e.kind (appended T.shape (T.written value.now) out.old.items)) }
+    // What stood in the vector stays in front, and alone after a refusal.
     ensures kept { take (length out.old.items) out.new.items ≡ out.old.items }
+    ensures unchanged { IfErr result (λ _. out.new.items ≡ out.old.items) }
 {
     append(value, out)
 }
 
 /// Writes a value behind the octets of a vector.
 fn append<T: Encode>(value: &T, out: &mut Vec<u8>) -> Result<Length, Error>
-    ensures exact { IfOk result (λ len. appended T.shape (T.plain value.now) out.old.items ≡ Ok (len.value, out.new.items)) }
-    ensures refused { IfErr result (λ e. Fails e.kind (appended T.shape (T.plain value.now) out.old.items)) }
-    // What stood in the vector stays in front.
+    ensures exact { IfOk result (λ len. appended T.shape (T.written value.now) out.old.items ≡ Ok (len.value, out.new.items)) }
+    ensures refused { IfErr result (λ e. Fails e.kind (appended T.shape (T.written value.now) out.old.items)) }
+    // What stood in the vector stays in front, and alone after a refusal.
     ensures kept { take (length out.old.items) out.new.items ≡ out.old.items }
+    ensures unchanged { IfErr result (λ _. out.new.items ≡ out.old.items) }
 {
     let len = value.encoded_len()?;
-    value.encode(out)?;
-    Ok(len)
+    out.reserve_exact(len.value as usize)?;
+    let before = out.len();
+    match value.encode(out) {
+        Ok(()) => Ok(len),
+        Err(error) => {
+            out.truncate(before);
+            Err(error)
+        }
+    }
 }

@@ -8,7 +8,7 @@ ghost use Rattle.der_core_head.specs.Writing.{Writes, size_content, write_conten
 
 use der_core_head::{Error, Length, Tag};
 use der_core_octets::Writer;
-use der_core_values::{ApartValue, EncodeValue, FixedTag, ShapedValue};
+use der_core_values::{ApartValue, AsReadValue, EncodeValue, FixedTag, ShapedValue};
 
 /// What has a tag.
 pub trait Tagged {
@@ -60,6 +60,8 @@ impl<'a, T: ShapedValue> ShapedValue for EncodeValueRef<'a, T> {
     ghost content = { T.content };
 
     ghost value_plain = { λ r. T.value_plain r.0.now };
+
+    ghost value_written = { λ r. T.value_written r.0.now };
 }
 
 impl<'a, T: EncodeValue> EncodeValue for EncodeValueRef<'a, T> {
@@ -82,4 +84,8 @@ impl<'a, T: Tagged> Tagged for EncodeValueRef<'a, T> {
 
 impl<'a, T: ApartValue> ApartValue for EncodeValueRef<'a, T> {
     ghost apart_value = { T.apart_value };
+}
+
+impl<'a, T: AsReadValue> AsReadValue for EncodeValueRef<'a, T> {
+    ghost as_read_value = { λ r. T.as_read_value r.0.now };
 }

@@ -7,7 +7,7 @@ ghost use Rattle.der_core_octets.specs.Outputs.{Continues};
 
 use der_core_head::{Error, Length};
 use der_core_octets::{Writer, sum_len};
-use der_core_values::{Element, Encode, Fields, Member, Shaped};
+use der_core_values::{AsRead, Element, Encode, Fields, Member, Shaped};
 
 /// What is written as fields, one after the other.
 pub trait EncodeFields: Fields {
@@ -16,14 +16,14 @@ pub trait EncodeFields: Fields {
     /// # Errors
     /// `Overflow` from 2^32 on.
     fn fields_len(&self) -> Result<Length, Error>
-        ensures { GivesNow (λ l. l.value) result (size_body Self.fields (Self.fields_plain self.now)) };
+        ensures { GivesNow (λ l. l.value) result (size_body Self.fields (Self.fields_written self.now)) };
 
     /// Writes the fields.
     ///
     /// # Errors
     /// `Overflow` where a length passes 2^32 - 1, and those of the writer.
     fn encode_fields<W: Writer>(&self, writer: &mut W) -> Result<(), Error>
-        ensures exact { Writes (W.out writer.old) (W.out writer.new) result (write_body Self.fields (Self.fields_plain self.now)) }
+        ensures exact { Writes (W.out writer.old) (W.out writer.new) result (write_body Self.fields (Self.fields_written self.now)) }
         ensures kept { Continues (W.out writer.old) (W.out writer.new) };
 }
 
@@ -67,6 +67,8 @@ impl<'a, T: Shaped> Shaped for EncodeRef<'a, T> {
     ghost shape = { T.shape };
 
     ghost plain = { λ r. T.plain r.0.now };
+
+    ghost written = { λ r. T.written r.0.now };
 }
 
 impl<'a, T: Encode> Encode for EncodeRef<'a, T> {
@@ -85,4 +87,8 @@ impl<'a, T: Element> Element for EncodeRef<'a, T> {
 
 impl<'a, T: Member> Member for EncodeRef<'a, T> {
     ghost apart = { T.apart };
+}
+
+impl<'a, T: AsRead> AsRead for EncodeRef<'a, T> {
+    ghost as_read = { λ r. T.as_read r.0.now };
 }

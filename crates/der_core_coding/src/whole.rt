@@ -26,7 +26,7 @@ fn read_whole<'a, T: Decode<'a, SliceReader<'a>>>(
     if reader.is_finished() {
         Ok(value)
     } else {
-        Err(Error::from(ErrorKind::TrailingData))
+        Err(ErrorKind::TrailingData.at(reader.position()))
     }
 }
 
@@ -83,6 +83,6 @@ pub fn from_ber<'a, T: Decode<'a, SliceReader<'a>>>(
     if reader.is_finished() {
         Ok(value)
     } else {
-        Err(Error::from(ErrorKind::TrailingData))
+        Err(ErrorKind::TrailingData.at(reader.position()))
     }
 }

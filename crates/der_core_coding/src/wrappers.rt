@@ -7,8 +7,8 @@ ghost use Rattle.der_core_head.specs.Shapes.{nested, only};
 use der_core_head::{Error, Header, Length, Tag, TagNumber, is_constructed};
 use der_core_octets::{Reader, Writer};
 use der_core_values::{
-    ApartValue, Decode, DecodeFields, DecodeValue, Element, Encode, EncodeValue, Fields, FixedTag,
-    Member, Shaped, ShapedValue, read_fields,
+    ApartValue, AsRead, AsReadValue, Decode, DecodeFields, DecodeValue, Element, Encode,
+    EncodeValue, Fields, FixedTag, Member, Shaped, ShapedValue, read_fields,
 };
 use std::alloc::Global;
 
@@ -33,6 +33,8 @@ impl<T: Shaped, const N: u32> Fields for Explicit<T, N> {
     ghost fields = { only T.shape };
 
     ghost fields_plain = { λ x. T.plain x.value };
+
+    ghost fields_written = { λ x. T.written x.value };
 }
 
 impl<'a, R: Reader<'a>, T: Decode<'a, R>, const N: u32> DecodeFields<'a, R> for Explicit<T, N> {
@@ -46,6 +48,8 @@ impl<T: Shaped, const N: u32> ShapedValue for Explicit<T, N> {
     ghost content = { nested (only T.shape) };
 
     ghost value_plain = { λ x. T.plain x.value };
+
+    ghost value_written = { λ x. T.written x.value };
 }
 
 impl<'a, R: Reader<'a>, T: Decode<'a, R>, const N: u32> DecodeValue<'a, R> for Explicit<T, N> {
@@ -79,6 +83,8 @@ impl<T: ShapedValue, const N: u32> ShapedValue for Implicit<T, N> {
     ghost content = { T.content };
 
     ghost value_plain = { λ x. T.value_plain x.value };
+
+    ghost value_written = { λ x. T.value_written x.value };
 }
 
 impl<'a, R: Reader<'a>, T: DecodeValue<'a, R>, const N: u32> DecodeValue<'a, R> for Implicit<T, N> {
@@ -116,8 +122,16 @@ impl<T: ApartValue, const N: u32> ApartValue for Implicit<T, N> {
     ghost apart_value = { T.apart_value };
 }
 
+impl<T: AsReadValue, const N: u32> AsReadValue for Implicit<T, N> {
+    ghost as_read_value = { λ x. T.as_read_value x.value };
+}
+
 impl<T: Element + Member, const N: u32> ApartValue for Explicit<T, N> {
     ghost use Rattle.der_core_values.specs.Both.{both_true};
 
     ghost apart_value = { both_true T.element T.apart };
+}
+
+impl<T: AsRead, const N: u32> AsReadValue for Explicit<T, N> {
+    ghost as_read_value = { λ x. T.as_read x.value };
 }

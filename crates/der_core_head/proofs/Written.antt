@@ -81,15 +81,16 @@ put_is : (b a : List ℕ) → put b (out a) ≡ Ok (out (a ++ b))
 unfolding put
 put_is b a = refl
 
-head_put : (t : Tag) (n : ℕ) (a : List ℕ) → put_head t n (out a) ≡ Ok (out (a ++ head_octets t n))
+head_put : (t : Tag) (n : ℕ) (a : List ℕ) → length (head_octets t n) + n < 4294967296 → put_head t n (out a) ≡ Ok (out (a ++ head_octets t n))
 unfolding put_head head_octets
-head_put t n a = rw (put_is (tag_octets t) a) (put_is (length_octets n) (a ++ tag_octets t) ∙ ap (λ w. Ok (out w)) (append_assoc a (tag_octets t) (length_octets n)))
+head_put t n a h = rw (sum_ok (length (head_octets t n)) n h, put_is (tag_octets t) a) (put_is (length_octets n) (a ++ tag_octets t) ∙ ap (λ w. Ok (out w)) (append_assoc a (tag_octets t) (length_octets n)))
 
-tlv_put : (t : Tag) (c a : List ℕ) (n : Result ℕ ErrorKind) (f : Out → Result Out ErrorKind) → n ≡ Ok (length c) → ((x : List ℕ) → f (out x) ≡ Ok (out (x ++ c)))
+tlv_put : (t : Tag) (c a : List ℕ) (n : Result ℕ ErrorKind) (f : Out → Result Out ErrorKind) → Fits (tlv t c) → n ≡ Ok (length c) → ((x : List ℕ) → f (out x) ≡ Ok (out (x ++ c)))
     → write_tlv t n f (out a) ≡ Ok (out (a ++ tlv t c))
 unfolding write_tlv tlv
-tlv_put t c a n f e writes =
-    rw (e, head_put t (length c) a, writes (a ++ head_octets t (length c))) (ap (λ w. Ok (out w)) (append_assoc a (head_octets t (length c)) c))
+tlv_put t c a n f h e writes =
+    let sum = length-append (head_octets t (length c)) c in
+    rw (e, head_put t (length c) a (omega (arith, sum, h)), writes (a ++ head_octets t (length c))) (ap (λ w. Ok (out w)) (append_assoc a (head_octets t (length c)) c))
 
 many_put : {P : Type 0} (f : P → Out → Result Out ErrorKind) (V : P → Type 0) (o : P → List ℕ) → ((x : P) (a : List ℕ) → V x → f x (out a) ≡ Ok (out (a ++ o x)))
     → (xs : List P) (a : List ℕ) → AllByRecursion V xs → write_many f xs (out a) ≡ Ok (out (a ++ flat_map o xs))
@@ -107,8 +108,8 @@ mutual
   unfolding octets_of IsValid
 
   pub written : (s : Shape) (v : Value s) (a : List ℕ) → IsValid s v → write s v (out a) ≡ Ok (out (a ++ octets_of s v))
-  written (tagged t c) v a h = tlv_put t (contents c v) a (size_content c v) (write_content c v) (sized_content c v h.0 (fits_contents t (contents c v) h.2)) (λ x. written_content c v x h.0)
-  written any v a h = tlv_put v.tag v.contents a (fit_len (length v.contents)) (put v.contents) (fit_size (length v.contents) (fits_contents v.tag v.contents h.2)) (λ x. put_is v.contents x)
+  written (tagged t c) v a h = tlv_put t (contents c v) a (size_content c v) (write_content c v) h.2 (sized_content c v h.0 (fits_contents t (contents c v) h.2)) (λ x. written_content c v x h.0)
+  written any v a h = tlv_put v.tag v.contents a (fit_len (length v.contents)) (put v.contents) h.2 (fit_size (length v.contents) (fits_contents v.tag v.contents h.2)) (λ x. put_is v.contents x)
   written (either x y) (inl v) a h = written x v a h
   written (either x y) (inr v) a h = written y v a h
   written (optional s) None a h = ap (λ w. Ok (out w)) (sym (append-nil a))
@@ -128,6 +129,29 @@ mutual
   written_body (many s) v a h = many_put (write s) (IsValid s) (octets_of s) (λ x a k. written s x a k) v a h
   written_body (exactly n s) v a h = many_put (write s) (IsValid s) (octets_of s) (λ x a k. written s x a k) v a h.0
   written_body (rising s) v a h = many_put (write s) (IsValid s) (octets_of s) (λ x a k. written s x a k) v a h.0
+
+-- What is too long to be counted isn't written, and is refused alike.
+tlv_unsized : (t : Tag) (n : Result ℕ ErrorKind) (f : Out → Result Out ErrorKind) (o : Out) (k : ErrorKind) → tlv_len t n ≡ Err k → write_tlv t n f o ≡ Err k
+unfolding tlv_len head_len write_tlv put_head
+tlv_unsized t (Ok n) f o k e = rw e refl
+tlv_unsized t (Err d) f o k e =
+    let same : d ≡ k = cc in
+    rw same refl
+
+default_unsized : (b : Bool) (n : Result ℕ ErrorKind) (f : Out → Result Out ErrorKind) (o : Out) (k : ErrorKind) → (n ≡ Err k → f o ≡ Err k) → default_len b n ≡ Err k → default_write b f o ≡ Err k
+unfolding default_len default_write
+default_unsized true n f o k each e = absurd cc
+default_unsized false n f o k each e = each e
+
+pub unsized : (s : Shape) (v : Value s) (o : Out) (k : ErrorKind) → size s v ≡ Err k → write s v o ≡ Err k
+unsized (tagged t c) v o k e = tlv_unsized t (size_content c v) (write_content c v) o k e
+unsized any v o k e = tlv_unsized v.tag (fit_len (length v.contents)) (put v.contents) o k e
+unsized (either a b) (inl v) o k e = unsized a v o k e
+unsized (either a b) (inr v) o k e = unsized b v o k e
+unsized (optional s) None o k e = absurd cc
+unsized (optional s) (Some v) o k e = unsized s v o k e
+unsized (defaulted s d) v o k e = default_unsized (bytes_eq (octets_of s v) d) (size s v) (write s v) o k (unsized s v o k) e
+unsized nothing v o k e = absurd cc
 
 -- what a call answered that wrote into nothing
 pub is_written : {T : Type 0} (s : Shape) (v : Value s) (items : T → List ℕ) (r : Result T Error) → IsValid s v

@@ -33,9 +33,9 @@ put b o = if o.failed then Err kinds.Failed else if lacks o.room (length b) then
 abbrev pub sum_len : ℕ → ℕ → Result ℕ ErrorKind
 sum_len m n = if nat_lt 4294967295 (m + n) then Err kinds.Overflow else Ok (m + n)
 
--- the octets of a header
+-- the octets of a header, where a length can count them with the content behind them
 unfoldable pub put_head : Tag → ℕ → Out → Result Out ErrorKind
-put_head t n o = put (tag_octets t) o >>= put (length_octets n)
+put_head t n o = sum_len (length (head_octets t n)) n >>= λ _. put (tag_octets t) o >>= put (length_octets n)
 
 unfoldable pub head_len : Tag → ℕ → Result ℕ ErrorKind
 head_len t n = Ok (length (head_octets t n))

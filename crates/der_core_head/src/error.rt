@@ -112,6 +112,16 @@ impl Error {
         ErrorKind::Incomplete.at(actual_len)
     }
 
+    /// The error with a place in the input, where it has none. Want of memory has none.
+    pub fn found_at(self, place: Length) -> Error
+        ensures { result.kind ≡ self.kind }
+    {
+        match (self.kind, self.position) {
+            (ErrorKind::OutOfMemory, _) | (_, Some(_)) => self,
+            (kind, None) => kind.at(place),
+        }
+    }
+
     /// What is wrong.
     pub fn kind(self) -> ErrorKind
         ensures { result ≡ self.kind }

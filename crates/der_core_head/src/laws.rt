@@ -2,10 +2,12 @@
 //!
 //! Each is the contract of a function that does nothing.
 
-ghost use Rattle.std.specs.Prelude.{◌≡◌, ◌≤◌, ℕ, List, ◌++◌, length, take, drop, true, Ok};
+ghost use Rattle.std.specs.Prelude.{◌≡◌, ◌≤◌, ◌<◌, ◌⊎◌, ℕ, List, [], ◌++◌, length, take, drop, true, Ok};
 ghost use Rattle.der_core_head.specs.Octets.{IsOctets};
-ghost use Rattle.der_core_head.specs.Heads.{Head, Fits, head_at};
-ghost use Rattle.der_core_head.specs.Shapes.{Shape, Value, IsValid, octets_of};
+ghost use Rattle.der_core_head.specs.declared.tag.Tag.{Tag};
+ghost use Rattle.der_core_head.specs.Tags.{IsTag, tag_octets};
+ghost use Rattle.der_core_head.specs.Heads.{Head, Fits, head_at, head_octets};
+ghost use Rattle.der_core_head.specs.Shapes.{Shape, Value, IsValid, begins, octets_of};
 ghost use Rattle.der_core_head.specs.Spelling.{is_apart, is_element, are_enough};
 ghost use Rattle.der_core_head.specs.Grammar.{read};
 ghost use Rattle.der_core_head.specs.Bodies.{IsIndefiniteBody, SpellsHead, body_len_at, head_ber_at};
@@ -35,6 +37,18 @@ pub fn read_is_spelled()
 pub fn spelled_is_read()
     ensures { (s : Shape) (room : ℕ) (v : Value s) (r : List ℕ) → is_element s ≡ true → is_apart s ≡ true → are_enough s room ≡ true
         → IsValid s v → read s room (octets_of s v ++ r) ≡ Ok (v, r) }
+{}
+
+/// What is read as a header is spelled so, and what is spelled so is read, whatever follows (X.690 8.1.2, 8.1.3, 10.1).
+pub fn headers_are_spelled()
+    ensures spelled { (h : Head) (r w : List ℕ) → IsOctets w → head_at w ≡ Ok (h, r) → (w ≡ head_octets h.tag h.len ++ r) × IsTag h.tag × (h.len < 4294967296) }
+    ensures read { (t : Tag) (n : ℕ) (r : List ℕ) → IsTag t → n < 4294967296 → head_at (head_octets t n ++ r) ≡ Ok (record { tag = t; len = n }, r) }
+{}
+
+/// A value's octets, where there are any, begin with one of the first tags that its shape states.
+pub fn values_begin_as_stated()
+    ensures { (s : Shape) (v : Value s) → is_apart s ≡ true → IsValid s v
+        → (octets_of s v ≡ []) ⊎ ((t : Tag) × (w : List ℕ) × (octets_of s v ≡ tag_octets t ++ w) × IsTag t × (begins s t ≡ true)) }
 {}
 
 /// Under BER too what is read as a header is spelled so, and what is spelled so is read, whatever

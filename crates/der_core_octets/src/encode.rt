@@ -80,12 +80,13 @@ fn encode_length<W: Writer>(writer: &mut W, len: Length) -> Result<(), Error>
 /// Writes a header.
 ///
 /// # Errors
-/// Those of the writer.
+/// `Overflow` where header and content pass 2^32 - 1 octets together, and those of the writer.
 #[tactic(auto, unfolding(der_core_head::specs::Writing::put_head))]
 pub fn encode_header<W: Writer>(writer: &mut W, tag: Tag, len: Length) -> Result<(), Error>
     ensures exact { Writes (W.out writer.old) (W.out writer.new) result (put_head tag len.value) }
     ensures kept { Continues (W.out writer.old) (W.out writer.new) }
 {
+    let _whole = len.for_tlv(tag)?;
     encode_tag(writer, tag)?;
     encode_length(writer, len)
 }

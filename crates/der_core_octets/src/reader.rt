@@ -107,8 +107,7 @@ pub trait Reader<'r>: Drop {
         let octets = self.remaining();
         let len = len.value as usize;
         if octets.len() < len {
-            self.fail();
-            return Err(Error::from(ErrorKind::Incomplete));
+            return Err(self.error(ErrorKind::Incomplete));
         }
         self.skip(len);
         Ok(&octets[..len])
@@ -125,8 +124,7 @@ pub trait Reader<'r>: Drop {
             return Err(Error::from(ErrorKind::Failed));
         }
         let [octet, ..] = self.remaining() else {
-            self.fail();
-            return Err(Error::from(ErrorKind::Incomplete));
+            return Err(self.error(ErrorKind::Incomplete));
         };
         self.skip(1);
         Ok(*octet)
@@ -150,7 +148,7 @@ pub trait Reader<'r>: Drop {
             }
             Err(error) => {
                 self.fail();
-                Err(error)
+                Err(error.found_at(self.position()))
             }
         }
     }
@@ -166,8 +164,11 @@ pub trait Reader<'r>: Drop {
         if self.is_failed() {
             return Err(Error::from(ErrorKind::Failed));
         }
-        let (header, _) = header_by(self.encoding_rules(), self.remaining())?;
-        Ok(header)
+        let front = header_by(self.encoding_rules(), self.remaining());
+        match front {
+            Ok((header, _)) => Ok(header),
+            Err(error) => Err(error.found_at(self.position())),
+        }
     }
 
     /// The next tag, by the rules of the reader, without passing over it.
@@ -181,8 +182,11 @@ pub trait Reader<'r>: Drop {
         if self.is_failed() {
             return Err(Error::from(ErrorKind::Failed));
         }
-        let (tag, _) = tag_by(self.encoding_rules(), self.remaining())?;
-        Ok(tag)
+        let front = tag_by(self.encoding_rules(), self.remaining());
+        match front {
+            Ok((tag, _)) => Ok(tag),
+            Err(error) => Err(error.found_at(self.position())),
+        }
     }
 
     /// The next tag, by the rules of the reader, without passing over it, if octets are left.
@@ -200,8 +204,10 @@ pub trait Reader<'r>: Drop {
         if octets.is_empty() {
             return Ok(None);
         }
-        let (tag, _) = tag_by(self.encoding_rules(), octets)?;
-        Ok(Some(tag))
+        match tag_by(self.encoding_rules(), octets) {
+            Ok((tag, _)) => Ok(Some(tag)),
+            Err(error) => Err(error.found_at(self.position())),
+        }
     }
 
     /// The next octets, copied.
@@ -232,13 +238,12 @@ pub trait Reader<'r>: Drop {
             Ok(front) => front,
             Err(error) => {
                 self.fail();
-                return Err(error);
+                return Err(error.found_at(self.position()));
             }
         };
         let len = header.length.value as usize;
         if octets.len() - count < len {
-            self.fail();
-            return Err(Error::from(ErrorKind::Incomplete));
+            return Err(self.error(ErrorKind::Incomplete));
         }
         self.skip(count + len);
         Ok(&octets[..count + len])
@@ -260,7 +265,7 @@ pub trait Reader<'r>: Drop {
         let octets = self.remaining();
         let len = buffer.len();
         if octets.len() < len {
-            return Err(Error::from(ErrorKind::Incomplete));
+            return Err(ErrorKind::Incomplete.at(self.position()));
         }
         buffer.copy_from_slice(&octets[..len]);
         Ok(())
@@ -298,8 +303,7 @@ pub trait Reader<'r>: Drop {
         }
         let amount = amount.value as usize;
         if self.remaining().len() < amount {
-            self.fail();
-            return Err(Error::from(ErrorKind::Incomplete));
+            return Err(self.error(ErrorKind::Incomplete));
         }
         self.skip(amount);
         Ok(())
@@ -398,9 +402,11 @@ pub trait Reader<'r>: Drop {
         ensures reads { (b : Body) (view : T → BodyValue b) → ClosureReads state F.FnOnce f b view
             → Reads view (state self.old) (state self.new) result (read (tagged Sequence (nested b)) (state self.old).room) }
     {
+        let place = self.position();
         let header = self.read_header()?;
         if !is_same_tag(header.tag, Tag::Sequence) {
-            return Err(self.error(ErrorKind::TagUnexpected));
+            self.fail();
+            return Err(ErrorKind::TagUnexpected.at(place));
         }
         let value = self.read_nested(header.length, f)?;
         Ok(value)
@@ -419,7 +425,7 @@ pub trait Reader<'r>: Drop {
             return Err(Error::from(ErrorKind::Failed));
         }
         if !self.is_finished() {
-            return Err(Error::from(ErrorKind::TrailingData));
+            return Err(ErrorKind::TrailingData.at(self.position()));
         }
         Ok(())
     }

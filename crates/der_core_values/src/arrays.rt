@@ -7,7 +7,7 @@ ghost use Rattle.der_core_head.specs.Shapes.{nested, exactly};
 ghost use Rattle.der_core_head.specs.Grammar.{plain_list};
 
 use crate::decode::{Decode, DecodeValue, FixedTag, Shaped, ShapedValue};
-use crate::elements::{ApartValue, Element, Member};
+use crate::elements::{ApartValue, AsRead, AsReadValue, Element, Member};
 use crate::encode::{Encode, EncodeValue};
 use crate::fields::{DecodeFields, Fields, read_fields};
 use der_core_head::{Error, ErrorKind, Header, Length, Tag};
@@ -27,16 +27,26 @@ impl<T: Shaped, const N: usize> Fields for [T; N] {
     ghost fields = { exactly N T.shape };
 
     ghost fields_plain = { λ xs. plain_list T.plain xs };
+
+    ghost fields_written = { λ xs. plain_list T.written xs };
 }
 
 impl<T: Shaped, const N: usize> ShapedValue for [T; N] {
     ghost content = { nested (exactly N T.shape) };
 
     ghost value_plain = { λ xs. plain_list T.plain xs };
+
+    ghost value_written = { λ xs. plain_list T.written xs };
 }
 
 impl<T: Element + Member, const N: usize> ApartValue for [T; N] {
     ghost apart_value = { both_true T.element T.apart };
+}
+
+impl<T: AsRead, const N: usize> AsReadValue for [T; N] {
+    ghost use Rattle.der_core_values.specs.Same.{same_list};
+
+    ghost as_read_value = { same_list T.as_read };
 }
 
 /// `Incomplete` where fewer values stand. The values wait in a vector, which takes memory.

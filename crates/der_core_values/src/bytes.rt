@@ -28,6 +28,8 @@ impl<'a> ShapedValue for BytesRef<'a> {
     ghost content = { leaf octets };
 
     ghost value_plain = { held_octets };
+
+    ghost value_written = { held_octets };
 }
 
 impl<'a, R: Reader<'a>> DecodeValue<'a, R> for BytesRef<'a> {
@@ -62,6 +64,8 @@ impl ShapedValue for BytesOwned {
     ghost content = { leaf octets };
 
     ghost value_plain = { λ bytes. bytes };
+
+    ghost value_written = { λ bytes. bytes };
 }
 
 impl<'a, R: Reader<'a>> DecodeValue<'a, R> for BytesOwned {

@@ -24,6 +24,9 @@ pub trait Shaped {
     ghost shape: { Shape };
 
     ghost plain: { Self → Value shape };
+
+    /// What is written for a value: itself, unless a profile spells it in another way.
+    ghost written: { Self → Value shape };
 }
 
 /// What is read from octets, with its header.
@@ -41,6 +44,9 @@ pub trait ShapedValue {
     ghost content: { Content };
 
     ghost value_plain: { Self → ContentValue content };
+
+    /// What is written for a value: itself, unless a profile spells it in another way.
+    ghost value_written: { Self → ContentValue content };
 }
 
 /// What is read from the octets behind a header.
@@ -57,16 +63,38 @@ impl<T: ShapedValue + FixedTag> Shaped for T {
     ghost shape = { tagged T.fixed_tag T.content };
 
     ghost plain = { T.value_plain };
+
+    ghost written = { T.value_written };
+}
+
+/// The value of the type's tag that stands next.
+///
+/// # Errors
+/// `TagUnexpected` for another tag; else the first fault from the left, or `OutOfMemory`; `Failed` where
+/// the reader failed before.
+#[inline(always)]
+#[tactic(auto, unfolding(der_core_head::specs::Grammar::tlv_at))]
+fn decode_tagged<'a, R: Reader<'a>, T: DecodeValue<'a, R> + FixedTag>(
+    alloc: Global,
+    reader: &mut R,
+) -> Result<T, Error>
+    ensures { Reads T.value_plain (R.state reader.old) (R.state reader.new) result (read (tagged T.fixed_tag T.content) (R.state reader.old).room) }
+{
+    let header = reader.read_header()?;
+    if !is_same_tag(header.tag, T::tag()) {
+        return Err(Error::from(ErrorKind::TagUnexpected));
+    }
+    T::decode_value(alloc, reader, header)
 }
 
 impl<'a, R: Reader<'a>, T: DecodeValue<'a, R> + FixedTag> Decode<'a, R> for T {
-    #[tactic(auto, unfolding(der_core_head::specs::Grammar::tlv_at))]
+    /// A fault without a place of its own is found at the header.
     fn decode(alloc: Global, reader: &mut R) -> Result<T, Error> {
-        let header = reader.read_header()?;
-        if !is_same_tag(header.tag, T::tag()) {
-            return Err(Error::from(ErrorKind::TagUnexpected));
+        let place = reader.position();
+        match decode_tagged(alloc, reader) {
+            Ok(value) => Ok(value),
+            Err(error) => Err(error.found_at(place)),
         }
-        T::decode_value(alloc, reader, header)
     }
 }
 
@@ -87,6 +115,8 @@ impl<T: Shaped> Shaped for Option<T> {
     ghost shape = { optional T.shape };
 
     ghost plain = { plain_option T.plain };
+
+    ghost written = { plain_option T.written };
 }
 
 impl<'a, R: Reader<'a>, T: Decode<'a, R> + Choice> Decode<'a, R> for Option<T> {

@@ -1,4 +1,4 @@
-//! Types each of whose values has one spelling.
+//! Types each of whose values has one spelling, and types that are written as they are read.
 
 ghost use Rattle.std.specs.Prelude.{◌≡◌, true, refl};
 ghost use Rattle.der_core_head.specs.Spelling.{is_apart, is_element, is_content_apart};
@@ -23,6 +23,16 @@ pub trait Element: Shaped {
     ghost element: { is_element Self.shape ≡ true };
 }
 
+/// A type whose values are written as they are read.
+pub trait AsRead: Shaped {
+    ghost as_read: { (v : Self) → Self.written v ≡ Self.plain v };
+}
+
+/// A type whose contents are written as they are read.
+pub trait AsReadValue: ShapedValue {
+    ghost as_read_value: { (v : Self) → Self.value_written v ≡ Self.value_plain v };
+}
+
 impl<T: ShapedValue + FixedTag> Element for T {
     ghost element = { refl };
 }
@@ -32,52 +42,113 @@ impl<T: ApartValue + FixedTag> Member for T {
     ghost apart = { T.apart_value };
 }
 
+/// Behind one tag values are written as their contents are.
+impl<T: AsReadValue + FixedTag> AsRead for T {
+    ghost as_read = { T.as_read_value };
+}
+
+impl<T: AsRead> AsRead for Option<T> {
+    ghost use Rattle.der_core_values.specs.Same.{same_option};
+
+    ghost as_read = { same_option T.as_read };
+}
+
 impl ApartValue for bool {
     ghost apart_value = { refl };
+}
+
+impl AsReadValue for bool {
+    ghost as_read_value = { λ _. refl };
 }
 
 impl ApartValue for () {
     ghost apart_value = { refl };
 }
 
+impl AsReadValue for () {
+    ghost as_read_value = { λ _. refl };
+}
+
 impl<T: Integer> ApartValue for T {
     ghost apart_value = { refl };
+}
+
+impl<T: Integer> AsReadValue for T {
+    ghost as_read_value = { λ _. refl };
 }
 
 impl<'a> ApartValue for &'a str {
     ghost apart_value = { refl };
 }
 
+impl<'a> AsReadValue for &'a str {
+    ghost as_read_value = { λ _. refl };
+}
+
 impl ApartValue for String {
     ghost apart_value = { refl };
+}
+
+impl AsReadValue for String {
+    ghost as_read_value = { λ _. refl };
 }
 
 impl<'a> ApartValue for StringRef<'a> {
     ghost apart_value = { refl };
 }
 
+impl<'a> AsReadValue for StringRef<'a> {
+    ghost as_read_value = { λ _. refl };
+}
+
 impl ApartValue for StringOwned {
     ghost apart_value = { refl };
+}
+
+impl AsReadValue for StringOwned {
+    ghost as_read_value = { λ _. refl };
 }
 
 impl<'a> ApartValue for BytesRef<'a> {
     ghost apart_value = { refl };
 }
 
+impl<'a> AsReadValue for BytesRef<'a> {
+    ghost as_read_value = { λ _. refl };
+}
+
 impl ApartValue for BytesOwned {
     ghost apart_value = { refl };
+}
+
+impl AsReadValue for BytesOwned {
+    ghost as_read_value = { λ _. refl };
 }
 
 impl<const MAX_SIZE: usize> ApartValue for ObjectIdentifier<MAX_SIZE> {
     ghost apart_value = { refl };
 }
 
+impl<const MAX_SIZE: usize> AsReadValue for ObjectIdentifier<MAX_SIZE> {
+    ghost as_read_value = { λ _. refl };
+}
+
 impl<T: ApartValue> ApartValue for Box<T> {
     ghost apart_value = { T.apart_value };
+}
+
+impl<T: AsReadValue> AsReadValue for Box<T> {
+    ghost as_read_value = { λ b. T.as_read_value b.value };
 }
 
 impl<T: Element + Member> ApartValue for Vec<T> {
     ghost use Rattle.der_core_values.specs.Both.{both_true};
 
     ghost apart_value = { both_true T.element T.apart };
+}
+
+impl<T: AsRead> AsReadValue for Vec<T> {
+    ghost use Rattle.der_core_values.specs.Same.{same_list};
+
+    ghost as_read_value = { λ v. same_list T.as_read v.items };
 }

@@ -4,7 +4,7 @@ ghost use Rattle.std.specs.Prelude.{◌≡◌, refl};
 ghost use Rattle.der_core_head.specs.Shapes.{nothing};
 
 use crate::decode::{Choice, Decode, Shaped};
-use crate::elements::Member;
+use crate::elements::{AsRead, Member};
 use crate::encode::Encode;
 use der_core_head::{Error, ErrorKind, Length, Tag};
 use der_core_octets::{Reader, Writer};
@@ -16,6 +16,8 @@ impl<T> Shaped for PhantomData<T> {
     ghost shape = { nothing };
 
     ghost plain = { λ _. tt };
+
+    ghost written = { λ _. tt };
 }
 
 impl<T> Choice for PhantomData<T> {
@@ -26,6 +28,10 @@ impl<T> Choice for PhantomData<T> {
 
 impl<T> Member for PhantomData<T> {
     ghost apart = { refl };
+}
+
+impl<T> AsRead for PhantomData<T> {
+    ghost as_read = { λ _. refl };
 }
 
 /// Nothing is passed over.

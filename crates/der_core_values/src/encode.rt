@@ -16,14 +16,14 @@ pub trait Encode: Shaped {
     /// # Errors
     /// `Overflow` from 2^32 on.
     fn encoded_len(&self) -> Result<Length, Error>
-        ensures { GivesNow (λ l. l.value) result (size Self.shape (Self.plain self.now)) };
+        ensures { GivesNow (λ l. l.value) result (size Self.shape (Self.written self.now)) };
 
     /// Writes a value.
     ///
     /// # Errors
     /// `Overflow` where a length passes 2^32 - 1, and those of the writer.
     fn encode<W: Writer>(&self, writer: &mut W) -> Result<(), Error>
-        ensures exact { Writes (W.out writer.old) (W.out writer.new) result (write Self.shape (Self.plain self.now)) }
+        ensures exact { Writes (W.out writer.old) (W.out writer.new) result (write Self.shape (Self.written self.now)) }
         ensures kept { Continues (W.out writer.old) (W.out writer.new) };
 }
 
@@ -34,14 +34,14 @@ pub trait EncodeValue: ShapedValue {
     /// # Errors
     /// `Overflow` from 2^32 on.
     fn value_len(&self) -> Result<Length, Error>
-        ensures { GivesNow (λ l. l.value) result (size_content Self.content (Self.value_plain self.now)) };
+        ensures { GivesNow (λ l. l.value) result (size_content Self.content (Self.value_written self.now)) };
 
     /// Writes the content.
     ///
     /// # Errors
     /// `Overflow` where a length passes 2^32 - 1, and those of the writer.
     fn encode_value<W: Writer>(&self, writer: &mut W) -> Result<(), Error>
-        ensures exact { Writes (W.out writer.old) (W.out writer.new) result (write_content Self.content (Self.value_plain self.now)) }
+        ensures exact { Writes (W.out writer.old) (W.out writer.new) result (write_content Self.content (Self.value_written self.now)) }
         ensures kept { Continues (W.out writer.old) (W.out writer.new) };
 }
 

@@ -14,6 +14,9 @@ pub trait Fields {
     ghost fields: { Body };
 
     ghost fields_plain: { Self → BodyValue fields };
+
+    /// What is written for a value: itself, unless a profile spells it in another way.
+    ghost fields_written: { Self → BodyValue fields };
 }
 
 /// What is read as fields, one after the other.

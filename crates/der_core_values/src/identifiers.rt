@@ -44,6 +44,8 @@ impl<const MAX_SIZE: usize> ShapedValue for ObjectIdentifier<MAX_SIZE> {
     ghost content = { leaf (identifier Bound MAX_SIZE) };
 
     ghost value_plain = { λ oid. oid };
+
+    ghost value_written = { λ oid. oid };
 }
 
 impl<'a, R: Reader<'a>, const MAX_SIZE: usize> DecodeValue<'a, R> for ObjectIdentifier<MAX_SIZE> {

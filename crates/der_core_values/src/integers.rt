@@ -57,6 +57,8 @@ impl<T: Integer> ShapedValue for T {
     ghost content = { leaf (integer T.numbers) };
 
     ghost value_plain = { T.number };
+
+    ghost value_written = { T.number };
 }
 
 impl<'a, R: Reader<'a>, T: Integer> DecodeValue<'a, R> for T {

@@ -82,6 +82,8 @@ impl ShapedValue for bool {
     ghost content = { leaf boolean };
 
     ghost value_plain = { λ b. b };
+
+    ghost value_written = { λ b. b };
 }
 
 impl<'a, R: Reader<'a>> DecodeValue<'a, R> for bool {
@@ -117,6 +119,8 @@ impl ShapedValue for () {
     ghost content = { leaf null };
 
     ghost value_plain = { λ x. x };
+
+    ghost value_written = { λ x. x };
 }
 
 impl<'a, R: Reader<'a>> DecodeValue<'a, R> for () {

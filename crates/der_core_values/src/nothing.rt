@@ -14,6 +14,8 @@ impl<T> Fields for PhantomData<T> {
     ghost fields = { done };
 
     ghost fields_plain = { λ _. tt };
+
+    ghost fields_written = { λ _. tt };
 }
 
 impl<'a, R: Reader<'a>, T> DecodeFields<'a, R> for PhantomData<T> {

@@ -42,6 +42,8 @@ impl<'a> ShapedValue for &'a str {
     ghost content = { leaf utf8 };
 
     ghost value_plain = { λ text. text.now };
+
+    ghost value_written = { λ text. text.now };
 }
 
 impl<'a, R: Reader<'a>> DecodeValue<'a, R> for &'a str {
@@ -86,6 +88,8 @@ impl ShapedValue for String {
     ghost content = { leaf utf8 };
 
     ghost value_plain = { string_bytes };
+
+    ghost value_written = { string_bytes };
 }
 
 impl<'a, R: Reader<'a>> DecodeValue<'a, R> for String {
@@ -121,6 +125,8 @@ impl<'a> ShapedValue for StringRef<'a> {
     ghost content = { leaf utf8 };
 
     ghost value_plain = { held_text };
+
+    ghost value_written = { held_text };
 }
 
 impl<'a, R: Reader<'a>> DecodeValue<'a, R> for StringRef<'a> {
@@ -157,6 +163,8 @@ impl ShapedValue for StringOwned {
     ghost content = { leaf utf8 };
 
     ghost value_plain = { λ text. text };
+
+    ghost value_written = { λ text. text };
 }
 
 impl<'a, R: Reader<'a>> DecodeValue<'a, R> for StringOwned {

@@ -13,12 +13,16 @@ impl Fields for () {
     ghost fields = { done };
 
     ghost fields_plain = { λ x. x };
+
+    ghost fields_written = { λ x. x };
 }
 
 impl<A: Shaped, B: Fields> Fields for (A, B) {
     ghost fields = { field A.shape B.fields };
 
     ghost fields_plain = { λ x. (A.plain x.0, B.fields_plain x.1) };
+
+    ghost fields_written = { λ x. (A.written x.0, B.fields_written x.1) };
 }
 
 impl<'a, R: Reader<'a>> DecodeFields<'a, R> for () {

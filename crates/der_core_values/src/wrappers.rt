@@ -24,6 +24,8 @@ impl<T: ShapedValue> ShapedValue for Box<T> {
     ghost content = { T.content };
 
     ghost value_plain = { λ b. T.value_plain b.value };
+
+    ghost value_written = { λ b. T.value_written b.value };
 }
 
 impl<'a, R: Reader<'a>, T: DecodeValue<'a, R>> DecodeValue<'a, R> for Box<T> {
@@ -46,12 +48,16 @@ impl<T: Shaped> Fields for Vec<T> {
     ghost fields = { many T.shape };
 
     ghost fields_plain = { λ v. plain_list T.plain v.items };
+
+    ghost fields_written = { λ v. plain_list T.written v.items };
 }
 
 impl<T: Shaped> ShapedValue for Vec<T> {
     ghost content = { nested (many T.shape) };
 
     ghost value_plain = { λ v. plain_list T.plain v.items };
+
+    ghost value_written = { λ v. plain_list T.written v.items };
 }
 
 impl<'a, R: Reader<'a>, T: Decode<'a, R>> DecodeFields<'a, R> for Vec<T> {

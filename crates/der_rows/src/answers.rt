@@ -21,15 +21,21 @@ pub fn answer<W: Write>(alloc: Global, line: &[u8], out: &mut W) -> io::Result<(
     }
 }
 
-/// What is answered behind `ok`: of `why`, what the refusal of the question behind it prints.
+/// What is answered behind `ok`: of `why` and `place`, what the refusal of the question behind them tells.
 fn answer_of(alloc: Global, line: &[u8]) -> Result<String, Refusal> {
     let line = str::from_utf8(line)?;
-    let Some(question) = line.strip_prefix("why ") else {
-        return answer_of_words(alloc, line);
-    };
+    match line.split_once(' ') {
+        Some(("why", question)) => refusal_of(alloc, question)?.reason(alloc),
+        Some(("place", question)) => refusal_of(alloc, question)?.place(alloc),
+        _ => answer_of_words(alloc, line),
+    }
+}
+
+/// Why a question is refused.
+fn refusal_of(alloc: Global, question: &str) -> Result<Refusal, Refusal> {
     match answer_of_words(alloc, question) {
         Ok(_) => Err(Refusal::Unread),
-        Err(refusal) => refusal.reason(alloc),
+        Err(refusal) => Ok(refusal),
     }
 }
 

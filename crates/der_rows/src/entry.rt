@@ -51,6 +51,9 @@ impl Fields for Entry {
 
     ghost fields_plain = { λ e. ⟦<Row as Fields>⟧.fields_plain
         (e.number, (e.name, (e.since, (e.uses, (e.codes, tt))))) };
+
+    ghost fields_written = { λ e. ⟦<Row as Fields>⟧.fields_written
+        (e.number, (e.name, (e.since, (e.uses, (e.codes, tt))))) };
 }
 
 impl<'a, R: Reader<'a>> DecodeFields<'a, R> for Entry {
@@ -70,6 +73,8 @@ impl ShapedValue for Entry {
     ghost content = { nested ⟦<Entry as Fields>⟧.fields };
 
     ghost value_plain = { ⟦<Entry as Fields>⟧.fields_plain };
+
+    ghost value_written = { ⟦<Entry as Fields>⟧.fields_written };
 }
 
 impl<'a, R: Reader<'a>> DecodeValue<'a, R> for Entry {

@@ -5,8 +5,8 @@ use crate::questions::{Question, answer_as, compared, name_of};
 use crate::refusals::Refusal;
 use crate::small::Small;
 use der_core::{
-    Decode, DerOrd, Encode, EncodeValue, EncodingRules, Error, FixedTag, Header, Member, Reader,
-    SliceReader, Tag, ValueOrd, from_der,
+    AsRead, Decode, DerOrd, Encode, EncodeValue, EncodingRules, Error, FixedTag, Header, Member,
+    Reader, SliceReader, Tag, ValueOrd, from_der,
 };
 use der_types_sets::{SequenceOf, SetOf, SetOfRef, SetOfVec};
 use std::alloc::Global;
@@ -31,7 +31,8 @@ trait Members<'a>: Sized {
     fn read(alloc: Global, octets: &'a [u8], rules: EncodingRules) -> Result<Self, Error>;
 }
 
-impl<'a, T: Decode<'a, SliceReader<'a>> + DerOrd + Member + Drop> Members<'a> for SetOfVec<T> {
+impl<'a, T: AsRead + Decode<'a, SliceReader<'a>> + DerOrd + Member + Drop> Members<'a>
+    for SetOfVec<T> {
     fn read(alloc: Global, octets: &'a [u8], rules: EncodingRules) -> Result<SetOfVec<T>, Error> {
         if rules.is_der() {
             return SetOfVec::from_der(alloc, octets);
@@ -40,9 +41,11 @@ impl<'a, T: Decode<'a, SliceReader<'a>> + DerOrd + Member + Drop> Members<'a> fo
     }
 }
 
-impl<'a, T: Decode<'a, SliceReader<'a>> + Default + DerOrd + Member + Drop, const N: usize> Members<
+impl<
     'a,
-> for SetOf<T, N> {
+    T: AsRead + Decode<'a, SliceReader<'a>> + Default + DerOrd + Member + Drop,
+    const N: usize,
+> Members<'a> for SetOf<T, N> {
     fn read(alloc: Global, octets: &'a [u8], rules: EncodingRules) -> Result<SetOf<T, N>, Error> {
         if rules.is_der() {
             return SetOf::from_der(alloc, octets);
@@ -176,7 +179,7 @@ pub fn answer_of_members(alloc: Global, word: &str, rest: &str) -> Result<String
 }
 
 /// What is written of the set, or of the list that it is converted to.
-fn written_set<'a, T: Decode<'a, SliceReader<'a>> + DerOrd + Encode + Member + Drop>(
+fn written_set<'a, T: AsRead + Decode<'a, SliceReader<'a>> + DerOrd + Encode + Member + Drop>(
     alloc: Global,
     word: &str,
     octets: &'a [u8],
@@ -189,7 +192,7 @@ fn written_set<'a, T: Decode<'a, SliceReader<'a>> + DerOrd + Encode + Member + D
 }
 
 /// The set that is read or filled as the word asks.
-fn set_of<'a, T: Decode<'a, SliceReader<'a>> + DerOrd + Member + Drop>(
+fn set_of<'a, T: AsRead + Decode<'a, SliceReader<'a>> + DerOrd + Member + Drop>(
     alloc: Global,
     word: &str,
     octets: &'a [u8],
@@ -207,7 +210,7 @@ fn set_of<'a, T: Decode<'a, SliceReader<'a>> + DerOrd + Member + Drop>(
 }
 
 /// The set of a content in which the members stand in any order.
-fn loose<'a, T: Decode<'a, SliceReader<'a>> + DerOrd + Member + Drop>(
+fn loose<'a, T: AsRead + Decode<'a, SliceReader<'a>> + DerOrd + Member + Drop>(
     alloc: Global,
     octets: &'a [u8],
     rules: EncodingRules,
@@ -219,7 +222,7 @@ fn loose<'a, T: Decode<'a, SliceReader<'a>> + DerOrd + Member + Drop>(
 }
 
 /// The set of a content in which the members rise.
-fn strict<'a, T: Decode<'a, SliceReader<'a>> + DerOrd + Member + Drop>(
+fn strict<'a, T: AsRead + Decode<'a, SliceReader<'a>> + DerOrd + Member + Drop>(
     alloc: Global,
     octets: &'a [u8],
     rules: EncodingRules,

@@ -40,7 +40,8 @@
 //! | `writer NUMBER STEP..` | the same of a writer to so many octets, then what it wrote, and then those octets |
 //! | `slice NUMBER HEX`, `slice-value NUMBER HEX` | `ok HEX HEX`, what is written of a number, or of its content, to so many octets, and then those octets |
 //! | `vector HEX HEX` | `ok HEX NUMBER NAME LENGTH`: a number behind octets, how many octets it has, and its header |
-//! | `why QUESTION` | `ok TEXT`, what the refusal of the question prints |
+//! | `why QUESTION` | `ok TEXT`, what the kind of the refusal of the question prints |
+//! | `place QUESTION` | `ok PLACE`, the octet of the input where the fault was found that refuses the question, from 0 on; `ok none` where none is known |
 //! | `explicit TYPE NUMBER HEX`, `implicit TYPE NUMBER HEX` | `ok HEX, COUNT left`: what is written of the field of this number that stands first, its tag in front of the value's own or in its place, and how many octets are left behind it; `absent` where another tag stands |
 //! | `explicit TYPE NUMBER HEX HEX`, `implicit TYPE NUMBER HEX HEX` | the order of two such fields, and behind it that of their contents |
 //! | `any-as TYPE HEX`, `any-as-ber TYPE HEX` | what is written of the value that any value was read as, by DER or BER |
@@ -49,8 +50,7 @@
 //! | an empty line, or one that begins with `#` | the same line |
 //! | any other, also one of an unknown type, or of more than 2^20 octets | `?` |
 //!
-//! What is refused is answered `refused KIND`, and ` at PLACE` behind it where the place is known;
-//! `memory` where there is not enough.
+//! What is refused is answered `refused KIND`, and `memory` where there is not enough.
 #![tactic(auto)]
 
 mod answers;

@@ -28,6 +28,8 @@ impl<F: Fields> ShapedValue for Record<F> {
     ghost content = { nested F.fields };
 
     ghost value_plain = { λ r. F.fields_plain r.fields };
+
+    ghost value_written = { λ r. F.fields_written r.fields };
 }
 
 impl<'a, R: Reader<'a>, F: DecodeFields<'a, R> + Drop> DecodeValue<'a, R> for Record<F> {

@@ -21,11 +21,25 @@ pub enum Refusal {
 }
 
 impl Refusal {
-    /// What the error behind it prints.
+    /// What the kind of the error behind it prints.
     pub fn reason(self, alloc: Global) -> Result<String, Refusal> {
         match self {
-            Refusal::Der(error) => Ok(error.to_string(alloc)?),
+            Refusal::Der(error) => Ok(error.kind.to_string(alloc)?),
             Refusal::Identifier(error) => Ok(error.to_string(alloc)?),
+            refusal => Err(refusal),
+        }
+    }
+
+    /// Where in the input the error behind it was found.
+    pub fn place(self, alloc: Global) -> Result<String, Refusal> {
+        match self {
+            Refusal::Der(
+                Error {
+                    position: Some(place),
+                    ..
+                },
+            ) => Ok(place.to_string(alloc)?),
+            Refusal::Der(_) => Ok("none".to_string(alloc)?),
             refusal => Err(refusal),
         }
     }
@@ -84,10 +98,7 @@ impl fmt::Display for Refusal {
         match self {
             Refusal::Unread => f.write_str("?"),
             Refusal::Memory => f.write_str("memory"),
-            Refusal::Der(error) => match error.position {
-                Some(place) => write!(f, "refused {:?} at {}", error.kind, place.value),
-                None => write!(f, "refused {:?}", error.kind),
-            },
+            Refusal::Der(error) => write!(f, "refused {:?}", error.kind),
             Refusal::Identifier(error) => write!(f, "refused {error:?}"),
         }
     }

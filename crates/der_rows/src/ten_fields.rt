@@ -14,8 +14,8 @@ use crate::record::Record;
 use crate::refusals::Refusal;
 use const_oid_identifiers::ObjectIdentifier;
 use der_core::{
-    Alternatives, Choice, Decode, DerOrd, Encode, EncodeRef, Error, ErrorKind, Explicit, Implicit,
-    Length, Reader, SetOf, Shaped, Tag, WithDefault, Writer, from_der, to_der,
+    Choice, Decode, DerOrd, Encode, EncodeRef, Error, ErrorKind, Explicit, Implicit, Length,
+    OneOf2, Reader, SetOf, Shaped, Tag, WithDefault, Writer, from_der, to_der,
 };
 use std::alloc::Global;
 
@@ -30,6 +30,8 @@ impl Shaped for NumberOrText {
     ghost shape = { either (tagged Integer (leaf (integer (unsigned 8)))) (tagged Utf8String (leaf utf8)) };
 
     ghost plain = { λ x. elim x [ choices.Number n ↦ inl (pos n) | choices.Text t ↦ inr (string_bytes t) ] };
+
+    ghost written = { λ x. elim x [ choices.Number n ↦ inl (pos n) | choices.Text t ↦ inr (string_bytes t) ] };
 }
 
 impl Choice for NumberOrText {
@@ -110,10 +112,10 @@ pub fn answer(alloc: Global, question: Question<'_>) -> Result<String, Refusal> 
 }
 
 /// A choice as one that is compared.
-fn alternatives(choice: &NumberOrText) -> Alternatives<EncodeRef<'_, u8>, EncodeRef<'_, String>> {
+fn alternatives(choice: &NumberOrText) -> OneOf2<EncodeRef<'_, u8>, EncodeRef<'_, String>> {
     match choice {
-        NumberOrText::Number(number) => Alternatives::First(EncodeRef(number)),
-        NumberOrText::Text(text) => Alternatives::Second(EncodeRef(text)),
+        NumberOrText::Number(number) => OneOf2::First(EncodeRef(number)),
+        NumberOrText::Text(text) => OneOf2::Second(EncodeRef(text)),
     }
 }
 

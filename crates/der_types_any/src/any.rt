@@ -49,7 +49,7 @@ impl Model for Any {
 
 /// The octets that writing the content of a value gives.
 fn content_octets<T: EncodeValue>(alloc: Global, value: &T) -> Result<Vec<u8>, Error>
-    ensures { Gives (λ v. record { written = v.items; room = None; failed = false }) result (write_content T.content (T.value_plain value.now) (record { written = []; room = None; failed = false })) }
+    ensures { Gives (λ v. record { written = v.items; room = None; failed = false }) result (write_content T.content (T.value_written value.now) (record { written = []; room = None; failed = false })) }
 {
     let mut out = Vec::new(alloc);
     value.encode_value(&mut out)?;
@@ -87,7 +87,7 @@ impl Any {
     /// `Overflow` where a length passes 2^32 - 1, or `OutOfMemory`.
     #[tactic(auto, unfolding(crate::specs::Contents::written_as, der_types_numbers::specs::Numbers::counted))]
     pub fn encode_from<T: EncodeValue + FixedTag>(alloc: Global, value: &T) -> Result<Any, Error>
-        ensures { Gives (λ a. a) result (written_as T.fixed_tag T.content (T.value_plain value.now)) }
+        ensures { Gives (λ a. a) result (written_as T.fixed_tag T.content (T.value_written value.now)) }
     {
         let bytes = content_octets(alloc, value)?;
         let any = Any::new(T::tag(), bytes)?;
@@ -254,6 +254,8 @@ impl Shaped for Any {
     ghost shape = { any };
 
     ghost plain = { λ a. a };
+
+    ghost written = { λ a. a };
 }
 
 impl Choice for Any {

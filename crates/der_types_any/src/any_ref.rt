@@ -206,6 +206,8 @@ impl<'a> Shaped for AnyRef<'a> {
     ghost shape = { any };
 
     ghost plain = { any_lent };
+
+    ghost written = { any_lent };
 }
 
 impl<'a> Choice for AnyRef<'a> {

@@ -211,6 +211,8 @@ impl ShapedValue for Int {
     ghost content = { leaf (integer every) };
 
     ghost value_plain = { λ x. x };
+
+    ghost value_written = { λ x. x };
 }
 
 impl<'a, R: Reader<'a>> DecodeValue<'a, R> for Int {

@@ -234,6 +234,8 @@ impl<'a> ShapedValue for IntRef<'a> {
     ghost content = { leaf (integer every) };
 
     ghost value_plain = { integer_lent };
+
+    ghost value_written = { integer_lent };
 }
 
 impl<'a, R: Reader<'a>> DecodeValue<'a, R> for IntRef<'a> {

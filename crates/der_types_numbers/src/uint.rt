@@ -208,6 +208,8 @@ impl ShapedValue for Uint {
     ghost content = { leaf (integer natural) };
 
     ghost value_plain = { λ n. pos n };
+
+    ghost value_written = { λ n. pos n };
 }
 
 impl<'a, R: Reader<'a>> DecodeValue<'a, R> for Uint {

@@ -246,6 +246,8 @@ impl<'a> ShapedValue for UintRef<'a> {
     ghost content = { leaf (integer natural) };
 
     ghost value_plain = { λ n. pos (natural_lent n) };
+
+    ghost value_written = { λ n. pos (natural_lent n) };
 }
 
 impl<'a, R: Reader<'a>> DecodeValue<'a, R> for UintRef<'a> {

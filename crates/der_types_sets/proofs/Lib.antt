@@ -9,3 +9,4 @@ pub mod LentWrites
 pub mod LentOwned
 pub mod WriteFaults
 pub mod LentOrders
+pub mod ViewSteps

@@ -85,14 +85,15 @@ put_some-append (x ∷ a) [] o = bind-ok (put (x ∷ a) o) ∙ ap (λ (w : List 
 put_some-append (x ∷ a) (y ∷ b) o = put-append (x ∷ a) (y ∷ b) o
 
 -- a header and a content
-tlv_put : (t : Tag) (c : List ℕ) (n : Result ℕ ErrorKind) (f : Out → Result Out ErrorKind) (o : Out) → n ≡ Ok (length c) → ((x : Out) → x.failed ≡ false → f x ≡ put c x)
+tlv_put : (t : Tag) (c : List ℕ) (n : Result ℕ ErrorKind) (f : Out → Result Out ErrorKind) (o : Out) → Fits (tlv t c) → n ≡ Ok (length c) → ((x : Out) → x.failed ≡ false → f x ≡ put c x)
     → write_tlv t n f o ≡ put_some (tlv t c) o
 unfolding write_tlv put_head tlv head_octets
-tlv_put t c n f o e writes =
+tlv_put t c n f o fits e writes =
     let k = length c in
+    let sum = length-append (tag_octets t ++ length_octets k) c in
     let head : (put (tag_octets t) o >>= put (length_octets k)) ≡ put (tag_octets t ++ length_octets k) o = put-append (tag_octets t) (length_octets k) o in
     let first = tag_octets-some t in
-    rw e
+    rw (e, le-ltb 4294967295 (length (tag_octets t ++ length_octets k) + k) (omega (arith, sum, fits)))
     (ap (λ r. r >>= f) head ∙ put-then (tag_octets t ++ length_octets k) o f (put c) writes ∙ put-append (tag_octets t ++ length_octets k) c o
     ∙ ap (λ (w : List ℕ). put ((w ++ length_octets k) ++ c) o) first.2 ∙ sym (ap (λ (w : List ℕ). put_some ((w ++ length_octets k) ++ c) o) first.2))
 
@@ -112,8 +113,8 @@ mutual
 
   pub put_written : (s : Shape) (v : Value s) (o : Out) → IsValid s v → write s v o ≡ put_some (octets_of s v) o
   put_written (tagged t c) v o h =
-      tlv_put t (contents c v) (size_content c v) (write_content c v) o (sized_content c v h.0 (fits_contents t (contents c v) h.2)) (λ x e. put_content c v x e h.0)
-  put_written any v o h = tlv_put v.tag v.contents (fit_len (length v.contents)) (put v.contents) o (any_size v.contents (fits_contents v.tag v.contents h.2)) (λ x e. refl)
+      tlv_put t (contents c v) (size_content c v) (write_content c v) o h.2 (sized_content c v h.0 (fits_contents t (contents c v) h.2)) (λ x e. put_content c v x e h.0)
+  put_written any v o h = tlv_put v.tag v.contents (fit_len (length v.contents)) (put v.contents) o h.2 (any_size v.contents (fits_contents v.tag v.contents h.2)) (λ x e. refl)
     where
       any_size : (w : List ℕ) → Fits w → fit_len (length w) ≡ Ok (length w)
       any_size w fits = let same : length w + 0 ≡ length w = omega arith in rw (le-ltb 4294967295 (length w + 0) (omega (arith, fits))) (ap (λ n. Ok n) same)

@@ -6,10 +6,10 @@ use Rattle.der_core_head.specs.declared.error.ErrorKind.TheVariants as kinds
 use Rattle.der_core_head.specs.declared.tag.Tag.{Tag}
 use Rattle.der_core_head.specs.Octets.{◌>>=◌}
 use Rattle.der_core_head.specs.Tags.{tag_octets}
-use Rattle.der_core_head.specs.Heads.{length_octets}
+use Rattle.der_core_head.specs.Heads.{head_octets, length_octets}
 use Rattle.der_core_head.specs.Leaves.{leaf_contents}
 use Rattle.der_core_head.specs.Shapes.{Shape, Content, Body, tagged, any, either, optional, defaulted, nothing, leaf, nested, done, field, only, many, exactly, rising, Value, ContentValue, BodyValue, octets_of}
-use Rattle.der_core_head.specs.Writing.{Out, put, put_head, sum_len, fit_len, tlv_len, both_len, many_len, default_len, size, size_content, size_body, write_tlv, write_many, default_write, write, write_content, write_body}
+use Rattle.der_core_head.specs.Writing.{Out, put, put_head, head_len, sum_len, fit_len, tlv_len, both_len, many_len, default_len, size, size_content, size_body, write_tlv, write_many, default_write, write, write_content, write_body}
 use Rattle.der_core_head.proofs.Written.{out}
 use Rattle.der_core.proofs.Sizes.{OnlyOverflows, sum_only, size_only, content_only, tlv_over, first_over, second_over, over_or}
 
@@ -22,17 +22,20 @@ put_out : (b w : List ℕ) → put b (out w) ≡ Ok (out (w ++ b))
 unfolding put
 put_out b w = refl
 
-head_out : (t : Tag) (n : ℕ) (w : List ℕ) → put_head t n (out w) ≡ Ok (out ((w ++ tag_octets t) ++ length_octets n))
-unfolding put_head
-head_out t n w = rw (put_out (tag_octets t) w) (put_out (length_octets n) (w ++ tag_octets t))
-
 never_over : (r : Result Out ErrorKind) (n : ℕ) (m : Result ℕ ErrorKind) → IsOver r (Ok n) → IsOver r m
 never_over (Ok x) n m h = h
 never_over (Err k) n m h = absurd (cc h.1)
 
+head_is_over : (t : Tag) (n : ℕ) (f : Out → Result Out ErrorKind) (w : List ℕ) (r : Result ℕ ErrorKind) → OnlyOverflows r → ((x : List ℕ) → IsOver (f (out x)) (Ok n))
+    → IsOver ((r >>= λ _. put (tag_octets t) (out w) >>= put (length_octets n)) >>= f) r
+head_is_over t n f w (Ok m) long writes =
+    let x = (w ++ tag_octets t) ++ length_octets n in
+    rw (put_out (tag_octets t) w, put_out (length_octets n) (w ++ tag_octets t)) (never_over (f (out x)) n (Ok m) (writes x))
+head_is_over t n f w (Err k) long writes = (long k refl, ap (λ e. Err e) (long k refl))
+
 tlv_is_over : (t : Tag) (n : Result ℕ ErrorKind) (f : Out → Result Out ErrorKind) (w : List ℕ) → OnlyOverflows n → ((x : List ℕ) → IsOver (f (out x)) n) → IsOver (write_tlv t n f (out w)) (tlv_len t n)
-unfolding write_tlv
-tlv_is_over t (Ok n) f w long writes = rw (head_out t n w) (never_over (f (out ((w ++ tag_octets t) ++ length_octets n))) n (tlv_len t (Ok n)) (writes ((w ++ tag_octets t) ++ length_octets n)))
+unfolding write_tlv tlv_len head_len put_head
+tlv_is_over t (Ok n) f w long writes = head_is_over t n f w (sum_len (length (head_octets t n)) n) (sum_only (length (head_octets t n)) n) writes
 tlv_is_over t (Err k) f w long writes = (long k refl, tlv_over t (Err k) (ap (λ e. Err e) (long k refl)))
 
 each_over : {P : Type 0} (g : P → Result ℕ ErrorKind) (x : P) (xs : List P) (n : ℕ) (r : Result Out ErrorKind) → OnlyOverflows (g x) → ((m : ℕ) → IsOver r (many_len g xs m)) → IsOver r (many_len g (x ∷ xs) n)

@@ -25,6 +25,8 @@ impl<T: Shaped> ShapedValue for AnyOrder<T> {
     ghost content = { nested (many T.shape) };
 
     ghost value_plain = { λ v. plain_list T.plain v.values.items };
+
+    ghost value_written = { λ v. plain_list T.written v.values.items };
 }
 
 impl<'a, R: Reader<'a>, T: Decode<'a, R>> DecodeValue<'a, R> for AnyOrder<T> {

@@ -23,10 +23,10 @@ pub fn order_of_insertions()
 /// These are the members that `owned_to_ref` and `ref_to_owned` keep.
 pub fn borrowed_and_owned_agree<T: Shaped>()
     // The octets that are lent, if any, are the content of the owned set.
-    ensures contents { (lent : Lent T) (set : List T) → IsLent T.shape T.plain lent → members_lent T.shape T.plain lent ≡ plain_list T.plain set
-        → 0 < length lent.octets → lent.octets ≡ body_octets (many T.shape) (plain_list T.plain set) }
-    ensures order { (lent other : Lent T) (set rest : List T) → members_lent T.shape T.plain lent ≡ plain_list T.plain set → members_lent T.shape T.plain other ≡ plain_list T.plain rest
-        → contents_cmp (nested (many T.shape)) (members_lent T.shape T.plain lent) (members_lent T.shape T.plain other) ≡ contents_cmp (nested (many T.shape)) (plain_list T.plain set) (plain_list T.plain rest) }
+    ensures contents { (lent : Lent T) (set : List T) → IsLent T.shape T.written lent → members_lent T.shape T.written lent ≡ plain_list T.written set
+        → 0 < length lent.octets → lent.octets ≡ body_octets (many T.shape) (plain_list T.written set) }
+    ensures order { (lent other : Lent T) (set rest : List T) → members_lent T.shape T.written lent ≡ plain_list T.written set → members_lent T.shape T.written other ≡ plain_list T.written rest
+        → contents_cmp (nested (many T.shape)) (members_lent T.shape T.written lent) (members_lent T.shape T.written other) ≡ contents_cmp (nested (many T.shape)) (plain_list T.written set) (plain_list T.written rest) }
     ensures number { (lent : Lent T) (set : List T) → members_lent T.shape T.plain lent ≡ plain_list T.plain set → length (members_lent T.shape T.plain lent) ≡ length set }
     ensures member { (lent : Lent T) (set : List T) (i : ℕ) → members_lent T.shape T.plain lent ≡ plain_list T.plain set → slice_get (members_lent T.shape T.plain lent) i ≡ plain_option T.plain (slice_get set i) }
 {}

@@ -13,7 +13,7 @@ use der_core::{Encode, Error, Length, Writer, sum_len};
 /// # Errors
 /// `Overflow` from 2^32 on.
 pub(crate) fn members_len<T: Encode>(members: &[T]) -> Result<Length, Error>
-    ensures { GivesNow (λ l. l.value) result (size_body (many T.shape) (plain_list T.plain members.now)) }
+    ensures { GivesNow (λ l. l.value) result (size_body (many T.shape) (plain_list T.written members.now)) }
 {
     let mut len = Length { value: 0 };
     for member in members {
@@ -30,7 +30,7 @@ pub(crate) fn encode_members<T: Encode, W: Writer>(
     members: &[T],
     writer: &mut W,
 ) -> Result<(), Error>
-    ensures exact { Writes (W.out writer.old) (W.out writer.new) result (write_body (many T.shape) (plain_list T.plain members.now)) }
+    ensures exact { Writes (W.out writer.old) (W.out writer.new) result (write_body (many T.shape) (plain_list T.written members.now)) }
     ensures kept { Continues (W.out writer.old) (W.out writer.new) }
 {
     for member in members {

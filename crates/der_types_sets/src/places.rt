@@ -13,8 +13,8 @@ use std::cmp::Ordering;
 /// # Errors
 /// `Overflow` where an encoding has 2^32 octets or more.
 pub(crate) fn place_of<T: DerOrd + Member>(members: &[T], item: &T) -> Result<usize, Error>
-    ensures place { IfOk result (IsPlace T.shape T.plain members.now item.now) }
-    ensures refused { IfErr result (TooLong T.shape T.plain (item.now ∷ members.now)) }
+    ensures place { IfOk result (IsPlace T.shape T.written members.now item.now) }
+    ensures refused { IfErr result (TooLong T.shape T.written (item.now ∷ members.now)) }
 {
     let mut low = 0;
     let mut high = members.len();
@@ -39,8 +39,8 @@ pub(crate) fn place_of<T: DerOrd + Member>(members: &[T], item: &T) -> Result<us
 /// `SetOrdering` for an item below the last member, `Overflow` where an encoding has 2^32 octets or
 /// more.
 pub(crate) fn check_last<T: DerOrd + Member>(members: &[T], item: &T) -> Result<(), Error>
-    ensures ok { OnOk result (IsPlace T.shape T.plain members.now item.now (length members.now)) }
-    ensures refused { IfErr result (λ e. (e.kind ≡ ErrorKind.SetOrdering × IsBelowLast T.shape T.plain members.now item.now) ⊎ TooLong T.shape T.plain (item.now ∷ members.now) e) }
+    ensures ok { OnOk result (IsPlace T.shape T.written members.now item.now (length members.now)) }
+    ensures refused { IfErr result (λ e. (e.kind ≡ ErrorKind.SetOrdering × IsBelowLast T.shape T.written members.now item.now) ⊎ TooLong T.shape T.written (item.now ∷ members.now) e) }
 {
     if members.is_empty() {
         return Ok(());
@@ -56,8 +56,8 @@ pub(crate) fn check_last<T: DerOrd + Member>(members: &[T], item: &T) -> Result<
 /// # Errors
 /// `SetOrdering` where one is, `Overflow` where an encoding has 2^32 octets or more.
 pub(crate) fn check_ascending<T: DerOrd + Member>(members: &[T]) -> Result<(), Error>
-    ensures ok { OnOk result (Ascends T.shape T.plain members.now) }
-    ensures refused { IfErr result (λ e. IsOutOfOrder T.shape T.plain members.now e ⊎ TooLong T.shape T.plain members.now e) }
+    ensures ok { OnOk result (Ascends T.shape T.written members.now) }
+    ensures refused { IfErr result (λ e. IsOutOfOrder T.shape T.written members.now e ⊎ TooLong T.shape T.written members.now e) }
 {
     for end in 0..members.len() {
         check_last(&members[..end], &members[end])?;
@@ -79,8 +79,8 @@ fn last_to<T>(items: &mut [T], place: usize)
 /// `Overflow` where an encoding has 2^32 octets or more.
 pub(crate) fn arrange<T: DerOrd + Member>(members: &mut [T]) -> Result<(), Error>
     ensures same { IsPermutation members.old members.new }
-    ensures ok { OnOk result (Ascends T.shape T.plain members.new) }
-    ensures refused { IfErr result (TooLong T.shape T.plain members.old) }
+    ensures ok { OnOk result (Ascends T.shape T.written members.new) }
+    ensures refused { IfErr result (TooLong T.shape T.written members.old) }
 {
     for end in 1..members.len() {
         let shared = &members[..];

@@ -166,6 +166,8 @@ impl<T: Shaped, const N: usize> ShapedValue for SequenceOf<T, N> {
     ghost content = { nested (many T.shape) };
 
     ghost value_plain = { plain_list T.plain };
+
+    ghost value_written = { plain_list T.written };
 }
 
 impl<T: Encode, const N: usize> EncodeValue for SequenceOf<T, N> {

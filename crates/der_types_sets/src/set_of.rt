@@ -22,8 +22,8 @@ use crate::set_of_ref::SetOfRef;
 use crate::set_of_vec::SetOfVec;
 use arrayvec::ArrayVec;
 use der_core::{
-    Decode, DerOrd, Encode, EncodeValue, Error, ErrorKind, FixedTag, Header, Length, Member,
-    Reader, Shaped, ShapedValue, SliceReader, Tag, ValueOrd, Writer, elements_cmp,
+    AsRead, Decode, DerOrd, Encode, EncodeValue, Error, ErrorKind, FixedTag, Header, Length,
+    Member, Reader, Shaped, ShapedValue, SliceReader, Tag, ValueOrd, Writer, elements_cmp,
 };
 use std::alloc::{AllocError, Global};
 use std::cmp::Ordering;
@@ -51,7 +51,7 @@ impl<T: Shaped, const N: usize> Model for SetOf<T, N> {
 
     ghost view = { λ s. s.members.items };
 
-    ghost invariant = { λ s. Ascends T.shape T.plain s.members.items };
+    ghost invariant = { λ s. Ascends T.shape T.written s.members.items };
 }
 
 impl<T: Shaped + Default, const N: usize> SetOf<T, N> {
@@ -69,7 +69,7 @@ impl<T: Shaped, const N: usize> SetOf<T, N> {
     /// The members, in ascending order of their encodings.
     pub fn as_slice(&self) -> &[T]
         ensures members { result.now ≡ self.now }
-        ensures ascend { Ascends T.shape T.plain result.now }
+        ensures ascend { Ascends T.shape T.written result.now }
     {
         self.members.as_slice()
     }
@@ -84,7 +84,7 @@ impl<T: Shaped, const N: usize> SetOf<T, N> {
     /// The members, in ascending order of their encodings.
     pub fn into_inner(self) -> ArrayVec<T, N>
         ensures members { result.items ≡ self }
-        ensures ascend { Ascends T.shape T.plain result.items }
+        ensures ascend { Ascends T.shape T.written result.items }
     {
         let SetOf { members } = self;
         members
@@ -101,7 +101,8 @@ impl<T: Shaped, const N: usize> SetOf<T, N> {
 
     /// The same set, lent.
     pub fn owned_to_ref(&self) -> SetOfRef<'_, T>
-        ensures { members_lent T.shape T.plain result ≡ plain_list T.plain self.now }
+        ensures members { members_lent T.shape T.plain result ≡ plain_list T.plain self.now }
+        ensures written { members_lent T.shape T.written result ≡ plain_list T.written self.now }
     {
         SetOfRef::of_values(self.members.as_slice())
     }
@@ -144,9 +145,9 @@ impl<T: DerOrd + Member + Drop, const N: usize> SetOf<T, N> {
     /// more. The set stays then.
     pub fn insert(&mut self, item: T) -> Result<(), Error>
         ensures ok { OnOk result (IsPermutation (item ∷ self.old) self.new) }
-        ensures ascend { Ascends T.shape T.plain self.new }
+        ensures ascend { Ascends T.shape T.written self.new }
         ensures err { OnErr result (self.new ≡ self.old) }
-        ensures refused { IfErr result (λ e. ((e.kind ≡ ErrorKind.Overlength) × (length self.old ≡ N)) ⊎ TooLong T.shape T.plain (item ∷ self.old) e) }
+        ensures refused { IfErr result (λ e. ((e.kind ≡ ErrorKind.Overlength) × (length self.old ≡ N)) ⊎ TooLong T.shape T.written (item ∷ self.old) e) }
     {
         if self.members.is_full() {
             return Err(Error::from(ErrorKind::Overlength));
@@ -163,9 +164,9 @@ impl<T: DerOrd + Member + Drop, const N: usize> SetOf<T, N> {
     /// `Overflow` where an encoding has 2^32 octets or more. The set stays then.
     pub fn insert_ordered(&mut self, item: T) -> Result<(), Error>
         ensures ok { OnOk result (self.new ≡ self.old ++ item ∷ []) }
-        ensures ascend { Ascends T.shape T.plain self.new }
+        ensures ascend { Ascends T.shape T.written self.new }
         ensures err { OnErr result (self.new ≡ self.old) }
-        ensures refused { IfErr result (λ e. ((e.kind ≡ ErrorKind.Overlength) × (length self.old ≡ N)) ⊎ ((e.kind ≡ ErrorKind.SetOrdering × IsBelowLast T.shape T.plain self.old item) ⊎ TooLong T.shape T.plain (item ∷ self.old) e)) }
+        ensures refused { IfErr result (λ e. ((e.kind ≡ ErrorKind.Overlength) × (length self.old ≡ N)) ⊎ ((e.kind ≡ ErrorKind.SetOrdering × IsBelowLast T.shape T.written self.old item) ⊎ TooLong T.shape T.written (item ∷ self.old) e)) }
     {
         if self.members.is_full() {
             return Err(Error::from(ErrorKind::Overlength));
@@ -189,7 +190,7 @@ impl<T: DerOrd + Member + Default + Drop, const N: usize> SetOf<T, N> {
         header: Header,
     ) -> Result<SetOf<T, N>, Error>
     where
-        T: Decode<'a, R>,
+        T: Decode<'a, R> + AsRead,
         // The members that were read, in the order in which they stand there, are those of the set.
         ensures reads { (read : List T) × Reads (λ _. plain_list T.plain read) (R.state reader.old) (R.state reader.new) result (read_few N (value_at (read_content (nested (many T.shape)) header.tag (R.state reader.old).room) header.length.value)) × IfOk result (IsPermutation read) }
         // What is read is spelled so, in any order.
@@ -211,7 +212,7 @@ impl<T: DerOrd + Member + Default + Drop, const N: usize> SetOf<T, N> {
     /// octets are left behind the set, `Overlength` for more than `N` members, or `OutOfMemory`.
     pub fn from_der<'a>(alloc: Global, bytes: &'a [u8]) -> Result<SetOf<T, N>, Error>
     where
-        T: Decode<'a, SliceReader<'a>>,
+        T: Decode<'a, SliceReader<'a>> + AsRead,
         // What is read is spelled so.
         ensures spelled { is_element T.shape ≡ true → IfOk result (λ set. SpellsLoosely T.shape (plain_list T.plain set) bytes.now) }
         // What is spelled so is read, if there is room, unless memory runs out.
@@ -239,6 +240,8 @@ impl<T: Shaped, const N: usize> ShapedValue for SetOf<T, N> {
     ghost content = { nested (many T.shape) };
 
     ghost value_plain = { plain_list T.plain };
+
+    ghost value_written = { plain_list T.written };
 }
 
 impl<T: Encode, const N: usize> EncodeValue for SetOf<T, N> {
@@ -334,7 +337,7 @@ impl<T: Shaped + Hash, const N: usize> Hash for SetOf<T, N> {
 impl<T: DerOrd + Member + Drop, const N: usize> TryFrom<[T; N]> for SetOf<T, N> {
     type Error = Error;
 
-    ghost try_from_gives = { λ members r. MatchResult r (λ set. IsPermutation members set × Ascends T.shape T.plain set) (TooLong T.shape T.plain members) };
+    ghost try_from_gives = { λ members r. MatchResult r (λ set. IsPermutation members set × Ascends T.shape T.written set) (TooLong T.shape T.written members) };
 
     fn try_from(members: [T; N]) -> Result<SetOf<T, N>, Error> {
         let mut members = ArrayVec::from(members);

@@ -19,8 +19,8 @@ use crate::places::check_ascending;
 use crate::set_of_ref_iter::SetOfRefIter;
 use crate::set_of_vec::SetOfVec;
 use der_core::{
-    Decode, DerOrd, Encode, EncodeValue, Error, FixedTag, Header, Length, Member, Reader, Shaped,
-    ShapedValue, SliceReader, Tag, Writer, elements_cmp, length_cmp,
+    AsRead, Decode, DerOrd, Encode, EncodeValue, Error, FixedTag, Header, Length, Member, Reader,
+    Shaped, ShapedValue, SliceReader, Tag, Writer, elements_cmp, length_cmp,
 };
 use std::alloc::{AllocError, Global};
 use std::cmp::Ordering;
@@ -46,14 +46,15 @@ impl<'a, T: Shaped> Model for SetOfRef<'a, T> {
 
     ghost view = { λ s. record { values = s.values.now; octets = s.octets.now; count = s.count } };
 
-    ghost invariant = { λ s. IsLent T.shape T.plain (record { values = s.values.now; octets = s.octets.now; count = s.count }) };
+    ghost invariant = { λ s. IsLent T.shape T.written (record { values = s.values.now; octets = s.octets.now; count = s.count }) };
 }
 
 impl<'a, T: Shaped> SetOfRef<'a, T> {
     /// The set of values in ascending order.
     pub(crate) fn of_values(values: &'a [T]) -> SetOfRef<'a, T>
-        requires { Ascends T.shape T.plain values.now }
-        ensures { members_lent T.shape T.plain result ≡ plain_list T.plain values.now }
+        requires { Ascends T.shape T.written values.now }
+        ensures members { members_lent T.shape T.plain result ≡ plain_list T.plain values.now }
+        ensures written { members_lent T.shape T.written result ≡ plain_list T.written values.now }
     {
         SetOfRef {
             values,
@@ -153,6 +154,8 @@ impl<'a, T: Decode<'a, SliceReader<'a>> + Member + Clone> SetOfRef<'a, T> {
     /// # Errors
     /// `OutOfMemory`.
     pub fn ref_to_owned(&self, alloc: Global) -> Result<SetOfVec<T>, Error>
+    where
+        T: AsRead,
         requires { (x y : T) → T.is_clone x y → T.plain y ≡ T.plain x }
         ensures ok { IfOk result (λ set. plain_list T.plain set ≡ members_lent T.shape T.plain self.now) }
         ensures refused { IfErr result IsWantOfMemory }
@@ -198,7 +201,7 @@ impl<'a, 'b, T: Shaped> From<&'b SetOfRef<'a, T>> for SetOfRef<'a, T> {
 impl<'a, T: DerOrd + Member> TryFrom<&'a [T]> for SetOfRef<'a, T> {
     type Error = Error;
 
-    ghost try_from_gives = { λ values r. MatchResult r (λ set. (members_lent T.shape T.plain set ≡ plain_list T.plain values.now) × Ascends T.shape T.plain values.now) (λ e. IsOutOfOrder T.shape T.plain values.now e ⊎ TooLong T.shape T.plain values.now e) };
+    ghost try_from_gives = { λ values r. MatchResult r (λ set. (members_lent T.shape T.plain set ≡ plain_list T.plain values.now) × (members_lent T.shape T.written set ≡ plain_list T.written values.now) × Ascends T.shape T.written values.now) (λ e. IsOutOfOrder T.shape T.written values.now e ⊎ TooLong T.shape T.written values.now e) };
 
     fn try_from(values: &'a [T]) -> Result<SetOfRef<'a, T>, Error> {
         check_ascending(values)?;
@@ -219,6 +222,8 @@ impl<'a, T: Shaped> ShapedValue for SetOfRef<'a, T> {
     ghost content = { nested (many T.shape) };
 
     ghost value_plain = { members_lent T.shape T.plain };
+
+    ghost value_written = { members_lent T.shape T.written };
 }
 
 /// The octets of a content are written as they stand.
@@ -248,9 +253,9 @@ impl<'a, T: DerOrd + Encode> SetOfRef<'a, T> {
     /// `Overflow` where the content of one of the two has 2^32 octets or more, or `OutOfMemory`.
     pub fn value_cmp(&self, alloc: Global, other: &SetOfRef<'a, T>) -> Result<Ordering, Error>
         // It is answered wherever both sets have a content, unless memory runs out.
-        ensures order { is_body_apart (many T.shape) ≡ true → IsContent (nested (many T.shape)) (members_lent T.shape T.plain self.now) → IsContent (nested (many T.shape)) (members_lent T.shape T.plain other.now)
-            → Gives (λ o. o) result (Ok (contents_cmp (nested (many T.shape)) (members_lent T.shape T.plain self.now) (members_lent T.shape T.plain other.now))) }
-        ensures refused { IfErr result (λ e. IsWantOfMemory e ⊎ Overflows e (size_body (many T.shape) (members_lent T.shape T.plain self.now)) (size_body (many T.shape) (members_lent T.shape T.plain other.now))) }
+        ensures order { is_body_apart (many T.shape) ≡ true → IsContent (nested (many T.shape)) (members_lent T.shape T.written self.now) → IsContent (nested (many T.shape)) (members_lent T.shape T.written other.now)
+            → Gives (λ o. o) result (Ok (contents_cmp (nested (many T.shape)) (members_lent T.shape T.written self.now) (members_lent T.shape T.written other.now))) }
+        ensures refused { IfErr result (λ e. IsWantOfMemory e ⊎ Overflows e (size_body (many T.shape) (members_lent T.shape T.written self.now)) (size_body (many T.shape) (members_lent T.shape T.written other.now))) }
     {
         if self.octets.is_empty() {
             if other.octets.is_empty() {
@@ -272,9 +277,9 @@ impl<'a, T: DerOrd + Encode> SetOfRef<'a, T> {
     /// `Overflow` where the encoding of one of the two has 2^32 octets or more, or `OutOfMemory`.
     pub fn der_cmp(&self, alloc: Global, other: &SetOfRef<'a, T>) -> Result<Ordering, Error>
         // It is answered wherever both sets have an encoding, unless memory runs out.
-        ensures order { is_body_apart (many T.shape) ≡ true → IsValid (tagged Set (nested (many T.shape))) (members_lent T.shape T.plain self.now) → IsValid (tagged Set (nested (many T.shape))) (members_lent T.shape T.plain other.now)
-            → Gives (λ o. o) result (Ok (encodings_cmp (tagged Set (nested (many T.shape))) (members_lent T.shape T.plain self.now) (members_lent T.shape T.plain other.now))) }
-        ensures refused { IfErr result (λ e. IsWantOfMemory e ⊎ Overflows e (size (tagged Set (nested (many T.shape))) (members_lent T.shape T.plain self.now)) (size (tagged Set (nested (many T.shape))) (members_lent T.shape T.plain other.now))) }
+        ensures order { is_body_apart (many T.shape) ≡ true → IsValid (tagged Set (nested (many T.shape))) (members_lent T.shape T.written self.now) → IsValid (tagged Set (nested (many T.shape))) (members_lent T.shape T.written other.now)
+            → Gives (λ o. o) result (Ok (encodings_cmp (tagged Set (nested (many T.shape))) (members_lent T.shape T.written self.now) (members_lent T.shape T.written other.now))) }
+        ensures refused { IfErr result (λ e. IsWantOfMemory e ⊎ Overflows e (size (tagged Set (nested (many T.shape))) (members_lent T.shape T.written self.now)) (size (tagged Set (nested (many T.shape))) (members_lent T.shape T.written other.now))) }
     {
         let len = self.value_len()?;
         let other_len = other.value_len()?;

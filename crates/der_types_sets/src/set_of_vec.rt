@@ -20,9 +20,9 @@ use crate::iter::SetOfIter;
 use crate::places::{arrange, check_last, place_of};
 use crate::set_of_ref::SetOfRef;
 use der_core::{
-    Decode, DecodeValue, DerOrd, Encode, EncodeValue, Error, ErrorKind, FixedTag, Header, Length,
-    Member, Reader, SetOf as StrictSet, Shaped, ShapedValue, SliceReader, Tag, ValueOrd, Writer,
-    elements_cmp, from_der,
+    AsRead, Decode, DecodeValue, DerOrd, Encode, EncodeValue, Error, ErrorKind, FixedTag, Header,
+    Length, Member, Reader, SetOf as StrictSet, Shaped, ShapedValue, SliceReader, Tag, ValueOrd,
+    Writer, elements_cmp, from_der,
 };
 use std::alloc::{AllocError, Global};
 use std::cmp::Ordering;
@@ -49,13 +49,13 @@ impl<T: Shaped> Model for SetOfVec<T> {
 
     ghost view = { λ s. s.members.items };
 
-    ghost invariant = { λ s. Ascends T.shape T.plain s.members.items };
+    ghost invariant = { λ s. Ascends T.shape T.written s.members.items };
 }
 
 impl<T: Shaped> SetOfVec<T> {
     /// The set of members in ascending order.
     pub(crate) fn of_members(members: Vec<T>) -> SetOfVec<T>
-        requires { Ascends T.shape T.plain members.items }
+        requires { Ascends T.shape T.written members.items }
         ensures { result ≡ members.items }
     {
         SetOfVec { members }
@@ -73,7 +73,7 @@ impl<T: Shaped> SetOfVec<T> {
     /// The members, in ascending order of their encodings.
     pub fn as_slice(&self) -> &[T]
         ensures members { result.now ≡ self.now }
-        ensures ascend { Ascends T.shape T.plain result.now }
+        ensures ascend { Ascends T.shape T.written result.now }
     {
         self.members.as_slice()
     }
@@ -88,7 +88,7 @@ impl<T: Shaped> SetOfVec<T> {
     /// The members, in ascending order of their encodings.
     pub fn into_vec(self) -> Vec<T>
         ensures members { result.items ≡ self }
-        ensures ascend { Ascends T.shape T.plain result.items }
+        ensures ascend { Ascends T.shape T.written result.items }
     {
         let SetOfVec { members } = self;
         members
@@ -105,7 +105,8 @@ impl<T: Shaped> SetOfVec<T> {
 
     /// The same set, lent.
     pub fn owned_to_ref(&self) -> SetOfRef<'_, T>
-        ensures { members_lent T.shape T.plain result ≡ plain_list T.plain self.now }
+        ensures members { members_lent T.shape T.plain result ≡ plain_list T.plain self.now }
+        ensures written { members_lent T.shape T.written result ≡ plain_list T.written self.now }
     {
         SetOfRef::of_values(self.members.as_slice())
     }
@@ -154,9 +155,9 @@ impl<T: DerOrd + Member + Drop> SetOfVec<T> {
     /// `Overflow` where an encoding has 2^32 octets or more, or `OutOfMemory`. The set stays then.
     pub fn insert(&mut self, item: T) -> Result<(), Error>
         ensures ok { OnOk result (IsPermutation (item ∷ self.old) self.new) }
-        ensures ascend { Ascends T.shape T.plain self.new }
+        ensures ascend { Ascends T.shape T.written self.new }
         ensures err { OnErr result (self.new ≡ self.old) }
-        ensures refused { IfErr result (IsRefusal T.shape T.plain (item ∷ self.old)) }
+        ensures refused { IfErr result (IsRefusal T.shape T.written (item ∷ self.old)) }
     {
         let place = place_of(self.members.as_slice(), &item)?;
         self.members.insert(place, item)?;
@@ -170,9 +171,9 @@ impl<T: DerOrd + Member + Drop> SetOfVec<T> {
     /// or more, or `OutOfMemory`. The set stays then.
     pub fn insert_ordered(&mut self, item: T) -> Result<(), Error>
         ensures ok { OnOk result (self.new ≡ self.old ++ item ∷ []) }
-        ensures ascend { Ascends T.shape T.plain self.new }
+        ensures ascend { Ascends T.shape T.written self.new }
         ensures err { OnErr result (self.new ≡ self.old) }
-        ensures refused { IfErr result (λ e. (e.kind ≡ ErrorKind.SetOrdering × IsBelowLast T.shape T.plain self.old item) ⊎ IsRefusal T.shape T.plain (item ∷ self.old) e) }
+        ensures refused { IfErr result (λ e. (e.kind ≡ ErrorKind.SetOrdering × IsBelowLast T.shape T.written self.old item) ⊎ IsRefusal T.shape T.written (item ∷ self.old) e) }
     {
         check_last(self.members.as_slice(), &item)?;
         self.members.push(item)?;
@@ -185,8 +186,8 @@ impl<T: DerOrd + Member + Drop> SetOfVec<T> {
     /// `Overflow` where an encoding has 2^32 octets or more. No memory is taken.
     pub fn from_vec(members: Vec<T>) -> Result<SetOfVec<T>, Error>
         ensures ok { IfOk result (IsPermutation members.items) }
-        ensures ascend { IfOk result (Ascends T.shape T.plain) }
-        ensures refused { IfErr result (TooLong T.shape T.plain members.items) }
+        ensures ascend { IfOk result (Ascends T.shape T.written) }
+        ensures refused { IfErr result (TooLong T.shape T.written members.items) }
     {
         let mut members = members;
         arrange(members.as_mut_slice())?;
@@ -239,7 +240,7 @@ impl<T: DerOrd + Member + Drop> SetOfVec<T> {
         header: Header,
     ) -> Result<SetOfVec<T>, Error>
     where
-        T: Decode<'a, R>,
+        T: Decode<'a, R> + AsRead,
         // The members that were read, in the order in which they stand there, are those of the set.
         ensures reads { (read : List T) × Reads (λ _. plain_list T.plain read) (R.state reader.old) (R.state reader.new) result (value_at (read_content (nested (many T.shape)) header.tag (R.state reader.old).room) header.length.value) × IfOk result (IsPermutation read) }
         // What is read is spelled so, in any order.
@@ -264,7 +265,7 @@ impl<T: DerOrd + Member + Drop> SetOfVec<T> {
     /// octets are left behind the set, or `OutOfMemory`.
     pub fn from_der<'a>(alloc: Global, bytes: &'a [u8]) -> Result<SetOfVec<T>, Error>
     where
-        T: Decode<'a, SliceReader<'a>>,
+        T: Decode<'a, SliceReader<'a>> + AsRead,
         // What is read is spelled so.
         ensures spelled { is_element T.shape ≡ true → IfOk result (λ set. SpellsLoosely T.shape (plain_list T.plain set) bytes.now) }
         // What is spelled so is read, unless memory runs out.
@@ -294,7 +295,7 @@ impl<T: DerOrd + Member + Drop> SetOfVec<T> {
         header: Header,
     ) -> Result<SetOfVec<T>, Error>
     where
-        T: Decode<'a, R>,
+        T: Decode<'a, R> + AsRead,
         ensures reads { Reads (plain_list T.plain) (R.state reader.old) (R.state reader.new) result (value_at (read_content (nested (rising T.shape)) header.tag (R.state reader.old).room) header.length.value) }
         ensures rising { IsDer (R.state reader.old) → IfOk result (λ set. AllRising (octets_of T.shape) (plain_list T.plain set)) }
     {
@@ -322,6 +323,8 @@ impl<T: Shaped> ShapedValue for SetOfVec<T> {
     ghost content = { nested (many T.shape) };
 
     ghost value_plain = { plain_list T.plain };
+
+    ghost value_written = { plain_list T.written };
 }
 
 impl<T: Encode> EncodeValue for SetOfVec<T> {
@@ -408,7 +411,7 @@ impl<T: Shaped + Hash> Hash for SetOfVec<T> {
 impl<T: DerOrd + Member + Drop> TryFrom<Vec<T>> for SetOfVec<T> {
     type Error = Error;
 
-    ghost try_from_gives = { λ members r. MatchResult r (λ set. IsPermutation members.items set × Ascends T.shape T.plain set) (TooLong T.shape T.plain members.items) };
+    ghost try_from_gives = { λ members r. MatchResult r (λ set. IsPermutation members.items set × Ascends T.shape T.written set) (TooLong T.shape T.written members.items) };
 
     fn try_from(members: Vec<T>) -> Result<SetOfVec<T>, Error> {
         SetOfVec::from_vec(members)

@@ -23,6 +23,8 @@ impl<'a, T: Shaped> ShapedValue for Whole<'a, T> {
     ghost content = { nested (only T.shape) };
 
     ghost value_plain = { λ w. T.plain w.0.now };
+
+    ghost value_written = { λ w. T.written w.0.now };
 }
 
 impl<'a, T: Encode> EncodeValue for Whole<'a, T> {
@@ -45,7 +47,7 @@ impl<'a, T: DerOrd> ValueOrd for Whole<'a, T> {
 /// The number of octets of a content and its header.
 #[tactic(auto, unfolding(der_core_head::specs::Writing::tlv_len, der_core_head::specs::Writing::head_len))]
 pub fn len_behind<T: EncodeValue>(tag: Tag, value: &T) -> Result<Length, Error>
-    ensures { GivesNow (λ l. l.value) result (size (tagged tag T.content) (T.value_plain value.now)) }
+    ensures { GivesNow (λ l. l.value) result (size (tagged tag T.content) (T.value_written value.now)) }
 {
     let len = value.value_len()?;
     len.for_tlv(tag)
@@ -58,7 +60,7 @@ pub fn encode_behind<W: Writer, T: EncodeValue>(
     tag: Tag,
     value: &T,
 ) -> Result<(), Error>
-    ensures exact { Writes (W.out writer.old) (W.out writer.new) result (write (tagged tag T.content) (T.value_plain value.now)) }
+    ensures exact { Writes (W.out writer.old) (W.out writer.new) result (write (tagged tag T.content) (T.value_written value.now)) }
     ensures kept { Continues (W.out writer.old) (W.out writer.new) }
 {
     let len = value.value_len()?;
@@ -68,7 +70,7 @@ pub fn encode_behind<W: Writer, T: EncodeValue>(
 
 /// The octets that writing a header and a content gives.
 fn written_behind<T: EncodeValue>(alloc: Global, tag: Tag, value: &T) -> Result<Vec<u8>, Error>
-    ensures { Gives (λ v. record { written = v.items; room = None; failed = false }) result (write (tagged tag T.content) (T.value_plain value.now) (record { written = []; room = None; failed = false })) }
+    ensures { Gives (λ v. record { written = v.items; room = None; failed = false }) result (write (tagged tag T.content) (T.value_written value.now) (record { written = []; room = None; failed = false })) }
 {
     let mut out = Vec::new(alloc);
     encode_behind(&mut out, tag, value)?;
@@ -77,8 +79,8 @@ fn written_behind<T: EncodeValue>(alloc: Global, tag: Tag, value: &T) -> Result<
 
 /// A header and a content.
 pub fn der_behind<T: EncodeValue>(alloc: Global, tag: Tag, value: &T) -> Result<Vec<u8>, Error>
-    ensures spelled { IsValid (tagged tag T.content) (T.value_plain value.now) → Gives (λ v. v.items) result (Ok (octets_of (tagged tag T.content) (T.value_plain value.now))) }
-    ensures exact { Gives (λ v. record { written = v.items; room = None; failed = false }) result (write (tagged tag T.content) (T.value_plain value.now) (record { written = []; room = None; failed = false })) }
+    ensures spelled { IsValid (tagged tag T.content) (T.value_written value.now) → Gives (λ v. v.items) result (Ok (octets_of (tagged tag T.content) (T.value_written value.now))) }
+    ensures exact { Gives (λ v. record { written = v.items; room = None; failed = false }) result (write (tagged tag T.content) (T.value_written value.now) (record { written = []; room = None; failed = false })) }
 {
     written_behind(alloc, tag, value)
 }
@@ -90,9 +92,9 @@ pub fn cmp_behind<T: EncodeValue + ValueOrd>(
     other_tag: Tag,
     other: &T,
 ) -> Result<Ordering, Error>
-    ensures order { is_content_apart T.content ≡ true → IsValid (tagged tag T.content) (T.value_plain value.now) → IsValid (tagged other_tag T.content) (T.value_plain other.now)
-        → result ≡ Ok (octets_cmp (octets_of (tagged tag T.content) (T.value_plain value.now)) (octets_of (tagged other_tag T.content) (T.value_plain other.now))) }
-    ensures refused { IfErr result (λ e. Overflows e (size (tagged tag T.content) (T.value_plain value.now)) (size (tagged other_tag T.content) (T.value_plain other.now))) }
+    ensures order { is_content_apart T.content ≡ true → IsValid (tagged tag T.content) (T.value_written value.now) → IsValid (tagged other_tag T.content) (T.value_written other.now)
+        → result ≡ Ok (octets_cmp (octets_of (tagged tag T.content) (T.value_written value.now)) (octets_of (tagged other_tag T.content) (T.value_written other.now))) }
+    ensures refused { IfErr result (λ e. Overflows e (size (tagged tag T.content) (T.value_written value.now)) (size (tagged other_tag T.content) (T.value_written other.now))) }
 {
     let len = value.value_len()?;
     let other_len = other.value_len()?;

@@ -159,8 +159,8 @@ impl<T: EncodeValue + FixedTag, const CLASS: u8> ClassField<T, CLASS> {
     /// # Errors
     /// `Overflow` from 2^32 on.
     pub fn value_len(&self) -> Result<Length, Error>
-        ensures explicit { self.now.tag_mode ≡ Explicit → GivesNow (λ l. l.value) result (size_content (nested (only (tagged T.fixed_tag T.content))) (T.value_plain self.now.value)) }
-        ensures implicit { self.now.tag_mode ≡ Implicit → GivesNow (λ l. l.value) result (size_content T.content (T.value_plain self.now.value)) }
+        ensures explicit { self.now.tag_mode ≡ Explicit → GivesNow (λ l. l.value) result (size_content (nested (only (tagged T.fixed_tag T.content))) (T.value_written self.now.value)) }
+        ensures implicit { self.now.tag_mode ≡ Implicit → GivesNow (λ l. l.value) result (size_content T.content (T.value_written self.now.value)) }
     {
         value_len_of_field(self.tag_mode, &self.value)
     }
@@ -170,8 +170,8 @@ impl<T: EncodeValue + FixedTag, const CLASS: u8> ClassField<T, CLASS> {
     /// # Errors
     /// `Overflow` where a length passes 2^32 - 1, and those of the writer.
     pub fn encode_value<W: Writer>(&self, writer: &mut W) -> Result<(), Error>
-        ensures explicit { self.now.tag_mode ≡ Explicit → Writes (W.out writer.old) (W.out writer.new) result (write_content (nested (only (tagged T.fixed_tag T.content))) (T.value_plain self.now.value)) }
-        ensures implicit { self.now.tag_mode ≡ Implicit → Writes (W.out writer.old) (W.out writer.new) result (write_content T.content (T.value_plain self.now.value)) }
+        ensures explicit { self.now.tag_mode ≡ Explicit → Writes (W.out writer.old) (W.out writer.new) result (write_content (nested (only (tagged T.fixed_tag T.content))) (T.value_written self.now.value)) }
+        ensures implicit { self.now.tag_mode ≡ Implicit → Writes (W.out writer.old) (W.out writer.new) result (write_content T.content (T.value_written self.now.value)) }
         ensures kept { Continues (W.out writer.old) (W.out writer.new) }
     {
         encode_value_of_field(writer, self.tag_mode, &self.value)
@@ -182,8 +182,8 @@ impl<T: EncodeValue + FixedTag, const CLASS: u8> ClassField<T, CLASS> {
     /// # Errors
     /// `Overflow` from 2^32 on.
     pub fn encoded_len(&self) -> Result<Length, Error>
-        ensures explicit { self.now.tag_mode ≡ Explicit → GivesNow (λ l. l.value) result (size (explicit_field CLASS self.now.tag_number.value (tagged T.fixed_tag T.content)) (T.value_plain self.now.value)) }
-        ensures implicit { self.now.tag_mode ≡ Implicit → GivesNow (λ l. l.value) result (size (implicit_field CLASS self.now.tag_number.value T.fixed_tag T.content) (T.value_plain self.now.value)) }
+        ensures explicit { self.now.tag_mode ≡ Explicit → GivesNow (λ l. l.value) result (size (explicit_field CLASS self.now.tag_number.value (tagged T.fixed_tag T.content)) (T.value_written self.now.value)) }
+        ensures implicit { self.now.tag_mode ≡ Implicit → GivesNow (λ l. l.value) result (size (implicit_field CLASS self.now.tag_number.value T.fixed_tag T.content) (T.value_written self.now.value)) }
     {
         len_of_field(CLASS, self.tag_mode, self.tag_number, &self.value)
     }
@@ -193,8 +193,8 @@ impl<T: EncodeValue + FixedTag, const CLASS: u8> ClassField<T, CLASS> {
     /// # Errors
     /// `Overflow` where a length passes 2^32 - 1, and those of the writer.
     pub fn encode<W: Writer>(&self, writer: &mut W) -> Result<(), Error>
-        ensures explicit { self.now.tag_mode ≡ Explicit → Writes (W.out writer.old) (W.out writer.new) result (write (explicit_field CLASS self.now.tag_number.value (tagged T.fixed_tag T.content)) (T.value_plain self.now.value)) }
-        ensures implicit { self.now.tag_mode ≡ Implicit → Writes (W.out writer.old) (W.out writer.new) result (write (implicit_field CLASS self.now.tag_number.value T.fixed_tag T.content) (T.value_plain self.now.value)) }
+        ensures explicit { self.now.tag_mode ≡ Explicit → Writes (W.out writer.old) (W.out writer.new) result (write (explicit_field CLASS self.now.tag_number.value (tagged T.fixed_tag T.content)) (T.value_written self.now.value)) }
+        ensures implicit { self.now.tag_mode ≡ Implicit → Writes (W.out writer.old) (W.out writer.new) result (write (implicit_field CLASS self.now.tag_number.value T.fixed_tag T.content) (T.value_written self.now.value)) }
         ensures kept { Continues (W.out writer.old) (W.out writer.new) }
     {
         encode_field(writer, CLASS, self.tag_mode, self.tag_number, &self.value)
@@ -206,15 +206,15 @@ impl<T: EncodeValue + FixedTag, const CLASS: u8> ClassField<T, CLASS> {
     /// `Overflow` where a length passes 2^32 - 1, or `OutOfMemory`.
     pub fn to_der(&self, alloc: Global) -> Result<Vec<u8>, Error>
         // A valid value has an encoding, and it is the answer unless memory runs out.
-        ensures explicit { self.now.tag_mode ≡ Explicit → IsValid (explicit_field CLASS self.now.tag_number.value (tagged T.fixed_tag T.content)) (T.value_plain self.now.value)
-            → Gives (λ v. v.items) result (Ok (octets_of (explicit_field CLASS self.now.tag_number.value (tagged T.fixed_tag T.content)) (T.value_plain self.now.value))) }
-        ensures implicit { self.now.tag_mode ≡ Implicit → IsValid (implicit_field CLASS self.now.tag_number.value T.fixed_tag T.content) (T.value_plain self.now.value)
-            → Gives (λ v. v.items) result (Ok (octets_of (implicit_field CLASS self.now.tag_number.value T.fixed_tag T.content) (T.value_plain self.now.value))) }
+        ensures explicit { self.now.tag_mode ≡ Explicit → IsValid (explicit_field CLASS self.now.tag_number.value (tagged T.fixed_tag T.content)) (T.value_written self.now.value)
+            → Gives (λ v. v.items) result (Ok (octets_of (explicit_field CLASS self.now.tag_number.value (tagged T.fixed_tag T.content)) (T.value_written self.now.value))) }
+        ensures implicit { self.now.tag_mode ≡ Implicit → IsValid (implicit_field CLASS self.now.tag_number.value T.fixed_tag T.content) (T.value_written self.now.value)
+            → Gives (λ v. v.items) result (Ok (octets_of (implicit_field CLASS self.now.tag_number.value T.fixed_tag T.content) (T.value_written self.now.value))) }
         // Which fault it is.
         ensures exact_explicit { self.now.tag_mode ≡ Explicit → Gives (λ v. record { written = v.items; room = None; failed = false }) result
-            (write (explicit_field CLASS self.now.tag_number.value (tagged T.fixed_tag T.content)) (T.value_plain self.now.value) (record { written = []; room = None; failed = false })) }
+            (write (explicit_field CLASS self.now.tag_number.value (tagged T.fixed_tag T.content)) (T.value_written self.now.value) (record { written = []; room = None; failed = false })) }
         ensures exact_implicit { self.now.tag_mode ≡ Implicit → Gives (λ v. record { written = v.items; room = None; failed = false }) result
-            (write (implicit_field CLASS self.now.tag_number.value T.fixed_tag T.content) (T.value_plain self.now.value) (record { written = []; room = None; failed = false })) }
+            (write (implicit_field CLASS self.now.tag_number.value T.fixed_tag T.content) (T.value_written self.now.value) (record { written = []; room = None; failed = false })) }
     {
         der_of_field(alloc, CLASS, self.tag_mode, self.tag_number, &self.value)
     }
@@ -231,13 +231,13 @@ impl<T: ValueOrd + EncodeValue + FixedTag, const CLASS: u8> ClassField<T, CLASS>
         requires { self.now.tag_mode ≡ other.now.tag_mode }
         // It is answered wherever both values have a content.
         ensures explicit { self.now.tag_mode ≡ Explicit → is_content_apart T.content ≡ true
-            → IsContent (nested (only (tagged T.fixed_tag T.content))) (T.value_plain self.now.value) → IsContent (nested (only (tagged T.fixed_tag T.content))) (T.value_plain other.now.value)
-            → result ≡ Ok (contents_cmp (nested (only (tagged T.fixed_tag T.content))) (T.value_plain self.now.value) (T.value_plain other.now.value)) }
-        ensures implicit { self.now.tag_mode ≡ Implicit → is_content_apart T.content ≡ true → IsContent T.content (T.value_plain self.now.value) → IsContent T.content (T.value_plain other.now.value)
-            → result ≡ Ok (contents_cmp T.content (T.value_plain self.now.value) (T.value_plain other.now.value)) }
+            → IsContent (nested (only (tagged T.fixed_tag T.content))) (T.value_written self.now.value) → IsContent (nested (only (tagged T.fixed_tag T.content))) (T.value_written other.now.value)
+            → result ≡ Ok (contents_cmp (nested (only (tagged T.fixed_tag T.content))) (T.value_written self.now.value) (T.value_written other.now.value)) }
+        ensures implicit { self.now.tag_mode ≡ Implicit → is_content_apart T.content ≡ true → IsContent T.content (T.value_written self.now.value) → IsContent T.content (T.value_written other.now.value)
+            → result ≡ Ok (contents_cmp T.content (T.value_written self.now.value) (T.value_written other.now.value)) }
         ensures refused_explicit { self.now.tag_mode ≡ Explicit → IfErr result (λ e. Overflows e
-            (size_content (nested (only (tagged T.fixed_tag T.content))) (T.value_plain self.now.value)) (size_content (nested (only (tagged T.fixed_tag T.content))) (T.value_plain other.now.value))) }
-        ensures refused_implicit { self.now.tag_mode ≡ Implicit → IfErr result (λ e. Overflows e (size_content T.content (T.value_plain self.now.value)) (size_content T.content (T.value_plain other.now.value))) }
+            (size_content (nested (only (tagged T.fixed_tag T.content))) (T.value_written self.now.value)) (size_content (nested (only (tagged T.fixed_tag T.content))) (T.value_written other.now.value))) }
+        ensures refused_implicit { self.now.tag_mode ≡ Implicit → IfErr result (λ e. Overflows e (size_content T.content (T.value_written self.now.value)) (size_content T.content (T.value_written other.now.value))) }
     {
         value_cmp_of_fields(self.tag_mode, &self.value, &other.value)
     }
@@ -251,19 +251,19 @@ impl<T: ValueOrd + EncodeValue + FixedTag, const CLASS: u8> ClassField<T, CLASS>
         requires { self.now.tag_mode ≡ other.now.tag_mode }
         // It is answered wherever both values have an encoding.
         ensures explicit { self.now.tag_mode ≡ Explicit → is_content_apart T.content ≡ true
-            → IsValid (explicit_field CLASS self.now.tag_number.value (tagged T.fixed_tag T.content)) (T.value_plain self.now.value)
-            → IsValid (explicit_field CLASS other.now.tag_number.value (tagged T.fixed_tag T.content)) (T.value_plain other.now.value)
-            → result ≡ Ok (octets_cmp (octets_of (explicit_field CLASS self.now.tag_number.value (tagged T.fixed_tag T.content)) (T.value_plain self.now.value))
-            (octets_of (explicit_field CLASS other.now.tag_number.value (tagged T.fixed_tag T.content)) (T.value_plain other.now.value))) }
+            → IsValid (explicit_field CLASS self.now.tag_number.value (tagged T.fixed_tag T.content)) (T.value_written self.now.value)
+            → IsValid (explicit_field CLASS other.now.tag_number.value (tagged T.fixed_tag T.content)) (T.value_written other.now.value)
+            → result ≡ Ok (octets_cmp (octets_of (explicit_field CLASS self.now.tag_number.value (tagged T.fixed_tag T.content)) (T.value_written self.now.value))
+            (octets_of (explicit_field CLASS other.now.tag_number.value (tagged T.fixed_tag T.content)) (T.value_written other.now.value))) }
         ensures implicit { self.now.tag_mode ≡ Implicit → is_content_apart T.content ≡ true
-            → IsValid (implicit_field CLASS self.now.tag_number.value T.fixed_tag T.content) (T.value_plain self.now.value)
-            → IsValid (implicit_field CLASS other.now.tag_number.value T.fixed_tag T.content) (T.value_plain other.now.value)
-            → result ≡ Ok (octets_cmp (octets_of (implicit_field CLASS self.now.tag_number.value T.fixed_tag T.content) (T.value_plain self.now.value))
-            (octets_of (implicit_field CLASS other.now.tag_number.value T.fixed_tag T.content) (T.value_plain other.now.value))) }
-        ensures refused_explicit { self.now.tag_mode ≡ Explicit → IfErr result (λ e. Overflows e (size (explicit_field CLASS self.now.tag_number.value (tagged T.fixed_tag T.content)) (T.value_plain self.now.value))
-            (size (explicit_field CLASS other.now.tag_number.value (tagged T.fixed_tag T.content)) (T.value_plain other.now.value))) }
-        ensures refused_implicit { self.now.tag_mode ≡ Implicit → IfErr result (λ e. Overflows e (size (implicit_field CLASS self.now.tag_number.value T.fixed_tag T.content) (T.value_plain self.now.value))
-            (size (implicit_field CLASS other.now.tag_number.value T.fixed_tag T.content) (T.value_plain other.now.value))) }
+            → IsValid (implicit_field CLASS self.now.tag_number.value T.fixed_tag T.content) (T.value_written self.now.value)
+            → IsValid (implicit_field CLASS other.now.tag_number.value T.fixed_tag T.content) (T.value_written other.now.value)
+            → result ≡ Ok (octets_cmp (octets_of (implicit_field CLASS self.now.tag_number.value T.fixed_tag T.content) (T.value_written self.now.value))
+            (octets_of (implicit_field CLASS other.now.tag_number.value T.fixed_tag T.content) (T.value_written other.now.value))) }
+        ensures refused_explicit { self.now.tag_mode ≡ Explicit → IfErr result (λ e. Overflows e (size (explicit_field CLASS self.now.tag_number.value (tagged T.fixed_tag T.content)) (T.value_written self.now.value))
+            (size (explicit_field CLASS other.now.tag_number.value (tagged T.fixed_tag T.content)) (T.value_written other.now.value))) }
+        ensures refused_implicit { self.now.tag_mode ≡ Implicit → IfErr result (λ e. Overflows e (size (implicit_field CLASS self.now.tag_number.value T.fixed_tag T.content) (T.value_written self.now.value))
+            (size (implicit_field CLASS other.now.tag_number.value T.fixed_tag T.content) (T.value_written other.now.value))) }
     {
         der_cmp_of_fields(
             CLASS,

@@ -65,8 +65,8 @@ impl<'a, T: EncodeValue + FixedTag, const CLASS: u8> ClassFieldRef<'a, T, CLASS>
     /// # Errors
     /// `Overflow` from 2^32 on.
     pub fn value_len(&self) -> Result<Length, Error>
-        ensures explicit { self.now.tag_mode ≡ Explicit → GivesNow (λ l. l.value) result (size_content (nested (only (tagged T.fixed_tag T.content))) (T.value_plain self.now.value.now)) }
-        ensures implicit { self.now.tag_mode ≡ Implicit → GivesNow (λ l. l.value) result (size_content T.content (T.value_plain self.now.value.now)) }
+        ensures explicit { self.now.tag_mode ≡ Explicit → GivesNow (λ l. l.value) result (size_content (nested (only (tagged T.fixed_tag T.content))) (T.value_written self.now.value.now)) }
+        ensures implicit { self.now.tag_mode ≡ Implicit → GivesNow (λ l. l.value) result (size_content T.content (T.value_written self.now.value.now)) }
     {
         value_len_of_field(self.tag_mode, self.value)
     }
@@ -76,8 +76,8 @@ impl<'a, T: EncodeValue + FixedTag, const CLASS: u8> ClassFieldRef<'a, T, CLASS>
     /// # Errors
     /// `Overflow` where a length passes 2^32 - 1, and those of the writer.
     pub fn encode_value<W: Writer>(&self, writer: &mut W) -> Result<(), Error>
-        ensures explicit { self.now.tag_mode ≡ Explicit → Writes (W.out writer.old) (W.out writer.new) result (write_content (nested (only (tagged T.fixed_tag T.content))) (T.value_plain self.now.value.now)) }
-        ensures implicit { self.now.tag_mode ≡ Implicit → Writes (W.out writer.old) (W.out writer.new) result (write_content T.content (T.value_plain self.now.value.now)) }
+        ensures explicit { self.now.tag_mode ≡ Explicit → Writes (W.out writer.old) (W.out writer.new) result (write_content (nested (only (tagged T.fixed_tag T.content))) (T.value_written self.now.value.now)) }
+        ensures implicit { self.now.tag_mode ≡ Implicit → Writes (W.out writer.old) (W.out writer.new) result (write_content T.content (T.value_written self.now.value.now)) }
         ensures kept { Continues (W.out writer.old) (W.out writer.new) }
     {
         encode_value_of_field(writer, self.tag_mode, self.value)
@@ -88,8 +88,8 @@ impl<'a, T: EncodeValue + FixedTag, const CLASS: u8> ClassFieldRef<'a, T, CLASS>
     /// # Errors
     /// `Overflow` from 2^32 on.
     pub fn encoded_len(&self) -> Result<Length, Error>
-        ensures explicit { self.now.tag_mode ≡ Explicit → GivesNow (λ l. l.value) result (size (explicit_field CLASS self.now.tag_number.value (tagged T.fixed_tag T.content)) (T.value_plain self.now.value.now)) }
-        ensures implicit { self.now.tag_mode ≡ Implicit → GivesNow (λ l. l.value) result (size (implicit_field CLASS self.now.tag_number.value T.fixed_tag T.content) (T.value_plain self.now.value.now)) }
+        ensures explicit { self.now.tag_mode ≡ Explicit → GivesNow (λ l. l.value) result (size (explicit_field CLASS self.now.tag_number.value (tagged T.fixed_tag T.content)) (T.value_written self.now.value.now)) }
+        ensures implicit { self.now.tag_mode ≡ Implicit → GivesNow (λ l. l.value) result (size (implicit_field CLASS self.now.tag_number.value T.fixed_tag T.content) (T.value_written self.now.value.now)) }
     {
         len_of_field(CLASS, self.tag_mode, self.tag_number, self.value)
     }
@@ -99,8 +99,8 @@ impl<'a, T: EncodeValue + FixedTag, const CLASS: u8> ClassFieldRef<'a, T, CLASS>
     /// # Errors
     /// `Overflow` where a length passes 2^32 - 1, and those of the writer.
     pub fn encode<W: Writer>(&self, writer: &mut W) -> Result<(), Error>
-        ensures explicit { self.now.tag_mode ≡ Explicit → Writes (W.out writer.old) (W.out writer.new) result (write (explicit_field CLASS self.now.tag_number.value (tagged T.fixed_tag T.content)) (T.value_plain self.now.value.now)) }
-        ensures implicit { self.now.tag_mode ≡ Implicit → Writes (W.out writer.old) (W.out writer.new) result (write (implicit_field CLASS self.now.tag_number.value T.fixed_tag T.content) (T.value_plain self.now.value.now)) }
+        ensures explicit { self.now.tag_mode ≡ Explicit → Writes (W.out writer.old) (W.out writer.new) result (write (explicit_field CLASS self.now.tag_number.value (tagged T.fixed_tag T.content)) (T.value_written self.now.value.now)) }
+        ensures implicit { self.now.tag_mode ≡ Implicit → Writes (W.out writer.old) (W.out writer.new) result (write (implicit_field CLASS self.now.tag_number.value T.fixed_tag T.content) (T.value_written self.now.value.now)) }
         ensures kept { Continues (W.out writer.old) (W.out writer.new) }
     {
         encode_field(writer, CLASS, self.tag_mode, self.tag_number, self.value)
@@ -112,15 +112,15 @@ impl<'a, T: EncodeValue + FixedTag, const CLASS: u8> ClassFieldRef<'a, T, CLASS>
     /// `Overflow` where a length passes 2^32 - 1, or `OutOfMemory`.
     pub fn to_der(&self, alloc: Global) -> Result<Vec<u8>, Error>
         // A valid value has an encoding, and it is the answer unless memory runs out.
-        ensures explicit { self.now.tag_mode ≡ Explicit → IsValid (explicit_field CLASS self.now.tag_number.value (tagged T.fixed_tag T.content)) (T.value_plain self.now.value.now)
-            → Gives (λ v. v.items) result (Ok (octets_of (explicit_field CLASS self.now.tag_number.value (tagged T.fixed_tag T.content)) (T.value_plain self.now.value.now))) }
-        ensures implicit { self.now.tag_mode ≡ Implicit → IsValid (implicit_field CLASS self.now.tag_number.value T.fixed_tag T.content) (T.value_plain self.now.value.now)
-            → Gives (λ v. v.items) result (Ok (octets_of (implicit_field CLASS self.now.tag_number.value T.fixed_tag T.content) (T.value_plain self.now.value.now))) }
+        ensures explicit { self.now.tag_mode ≡ Explicit → IsValid (explicit_field CLASS self.now.tag_number.value (tagged T.fixed_tag T.content)) (T.value_written self.now.value.now)
+            → Gives (λ v. v.items) result (Ok (octets_of (explicit_field CLASS self.now.tag_number.value (tagged T.fixed_tag T.content)) (T.value_written self.now.value.now))) }
+        ensures implicit { self.now.tag_mode ≡ Implicit → IsValid (implicit_field CLASS self.now.tag_number.value T.fixed_tag T.content) (T.value_written self.now.value.now)
+            → Gives (λ v. v.items) result (Ok (octets_of (implicit_field CLASS self.now.tag_number.value T.fixed_tag T.content) (T.value_written self.now.value.now))) }
         // Which fault it is.
         ensures exact_explicit { self.now.tag_mode ≡ Explicit → Gives (λ v. record { written = v.items; room = None; failed = false }) result
-            (write (explicit_field CLASS self.now.tag_number.value (tagged T.fixed_tag T.content)) (T.value_plain self.now.value.now) (record { written = []; room = None; failed = false })) }
+            (write (explicit_field CLASS self.now.tag_number.value (tagged T.fixed_tag T.content)) (T.value_written self.now.value.now) (record { written = []; room = None; failed = false })) }
         ensures exact_implicit { self.now.tag_mode ≡ Implicit → Gives (λ v. record { written = v.items; room = None; failed = false }) result
-            (write (implicit_field CLASS self.now.tag_number.value T.fixed_tag T.content) (T.value_plain self.now.value.now) (record { written = []; room = None; failed = false })) }
+            (write (implicit_field CLASS self.now.tag_number.value T.fixed_tag T.content) (T.value_written self.now.value.now) (record { written = []; room = None; failed = false })) }
     {
         der_of_field(alloc, CLASS, self.tag_mode, self.tag_number, self.value)
     }

@@ -189,6 +189,8 @@ impl<T: AsciiType> ShapedValue for AsciiString<T> {
     ghost content = { leaf (text T.repertoire) };
 
     ghost value_plain = { λ t. t };
+
+    ghost value_written = { λ t. t };
 }
 
 impl<'a, R: Reader<'a>, T: AsciiType> DecodeValue<'a, R> for AsciiString<T> {

@@ -194,6 +194,8 @@ impl<'a, T: AsciiType> ShapedValue for AsciiStringRef<'a, T> {
     ghost content = { leaf (text T.repertoire) };
 
     ghost value_plain = { λ t. t.text.now };
+
+    ghost value_written = { λ t. t.text.now };
 }
 
 impl<'a, T: AsciiType, R: Reader<'a>> DecodeValue<'a, R> for AsciiStringRef<'a, T> {

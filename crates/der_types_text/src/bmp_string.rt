@@ -231,6 +231,8 @@ impl ShapedValue for BmpString {
     ghost content = { leaf bmp };
 
     ghost value_plain = { λ s. s };
+
+    ghost value_written = { λ s. s };
 }
 
 impl<'a, R: Reader<'a>> DecodeValue<'a, R> for BmpString {

@@ -106,6 +106,8 @@ impl<'a> ShapedValue for GeneralStringRef<'a> {
     ghost content = { leaf (text any_octet) };
 
     ghost value_plain = { λ s. s.bytes.now };
+
+    ghost value_written = { λ s. s.bytes.now };
 }
 
 impl<'a, R: Reader<'a>> DecodeValue<'a, R> for GeneralStringRef<'a> {

@@ -174,6 +174,8 @@ impl<'a> ShapedValue for Utf8StringRef<'a> {
     ghost content = { leaf utf8 };
 
     ghost value_plain = { λ t. t.text.now };
+
+    ghost value_written = { λ t. t.text.now };
 }
 
 impl<'a, R: Reader<'a>> DecodeValue<'a, R> for Utf8StringRef<'a> {

@@ -138,6 +138,8 @@ impl ShapedValue for GeneralizedTime {
     ghost content = { leaf (generalized_time) };
 
     ghost value_plain = { λ x. x };
+
+    ghost value_written = { λ x. x };
 }
 
 impl<'a, R: Reader<'a>> DecodeValue<'a, R> for GeneralizedTime {
@@ -240,6 +242,8 @@ impl ShapedValue for DateTime {
     ghost content = { leaf (generalized_time) };
 
     ghost value_plain = { λ x. x };
+
+    ghost value_written = { λ x. x };
 }
 
 impl<'a, R: Reader<'a>> DecodeValue<'a, R> for DateTime {

@@ -154,6 +154,8 @@ impl ShapedValue for UtcTime {
     ghost content = { leaf (utc_time) };
 
     ghost value_plain = { λ x. x };
+
+    ghost value_written = { λ x. x };
 }
 
 impl<'a, R: Reader<'a>> DecodeValue<'a, R> for UtcTime {

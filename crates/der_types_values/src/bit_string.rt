@@ -249,6 +249,8 @@ impl ShapedValue for BitString {
     ghost content = { leaf bits };
 
     ghost value_plain = { λ x. x };
+
+    ghost value_written = { λ x. x };
 }
 
 impl<'a, R: Reader<'a>> DecodeValue<'a, R> for BitString {

@@ -228,6 +228,8 @@ impl<'a> ShapedValue for BitStringRef<'a> {
     ghost content = { leaf bits };
 
     ghost value_plain = { bits_lent };
+
+    ghost value_written = { bits_lent };
 }
 
 impl<'a, R: Reader<'a>> DecodeValue<'a, R> for BitStringRef<'a> {

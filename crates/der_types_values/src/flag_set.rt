@@ -219,6 +219,8 @@ impl<F: NamedBits> ShapedValue for FlagSet<F> {
     ghost content = { leaf (named F.names) };
 
     ghost value_plain = { λ s. F.set_of s.flags };
+
+    ghost value_written = { λ s. F.set_of s.flags };
 }
 
 impl<'a, R: Reader<'a>, F: NamedBits> DecodeValue<'a, R> for FlagSet<F> {

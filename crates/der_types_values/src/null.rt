@@ -39,6 +39,8 @@ impl ShapedValue for Null {
     ghost content = { leaf null };
 
     ghost value_plain = { λ _. tt };
+
+    ghost value_written = { λ _. tt };
 }
 
 impl<'a, R: Reader<'a>> DecodeValue<'a, R> for Null {

@@ -192,6 +192,8 @@ impl ShapedValue for OctetString {
     ghost content = { leaf octets };
 
     ghost value_plain = { λ x. x };
+
+    ghost value_written = { λ x. x };
 }
 
 impl<'a, R: Reader<'a>> DecodeValue<'a, R> for OctetString {

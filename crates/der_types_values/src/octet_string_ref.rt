@@ -145,6 +145,8 @@ impl<'a> ShapedValue for OctetStringRef<'a> {
     ghost content = { leaf octets };
 
     ghost value_plain = { octets_lent };
+
+    ghost value_written = { octets_lent };
 }
 
 impl<'a, R: Reader<'a>> DecodeValue<'a, R> for OctetStringRef<'a> {

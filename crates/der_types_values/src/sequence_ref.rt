@@ -92,6 +92,8 @@ impl<'a> ShapedValue for SequenceRef<'a> {
     ghost content = { leaf octets };
 
     ghost value_plain = { fields_lent };
+
+    ghost value_written = { fields_lent };
 }
 
 impl<'a, R: Reader<'a>> DecodeValue<'a, R> for SequenceRef<'a> {

@@ -37,6 +37,8 @@ impl Fields for AlgorithmIdentifier {
     ghost fields = { algorithm_fields arc_bound };
 
     ghost fields_plain = { algorithm_plain };
+
+    ghost fields_written = { algorithm_plain };
 }
 
 impl<'a, R: Reader<'a>> DecodeFields<'a, R> for AlgorithmIdentifier {
@@ -50,6 +52,8 @@ impl ShapedValue for AlgorithmIdentifier {
     ghost content = { nested (algorithm_fields arc_bound) };
 
     ghost value_plain = { algorithm_plain };
+
+    ghost value_written = { algorithm_plain };
 }
 
 impl<'a, R: Reader<'a>> DecodeValue<'a, R> for AlgorithmIdentifier {

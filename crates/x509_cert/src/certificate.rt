@@ -47,6 +47,8 @@ impl Fields for CertificateInner {
     ghost fields = { certificate_fields arc_bound };
 
     ghost fields_plain = { certificate_plain };
+
+    ghost fields_written = { certificate_plain };
 }
 
 impl<'a, R: Reader<'a>> DecodeFields<'a, R> for CertificateInner {
@@ -66,6 +68,8 @@ impl ShapedValue for CertificateInner {
     ghost content = { nested (certificate_fields arc_bound) };
 
     ghost value_plain = { certificate_plain };
+
+    ghost value_written = { certificate_plain };
 }
 
 impl<'a, R: Reader<'a>> DecodeValue<'a, R> for CertificateInner {

@@ -32,6 +32,8 @@ impl Fields for Name {
     ghost fields = { done };
 
     ghost fields_plain = { name_plain };
+
+    ghost fields_written = { name_plain };
 }
 
 impl<'a, R: Reader<'a>> DecodeFields<'a, R> for Name {
@@ -45,6 +47,8 @@ impl ShapedValue for Name {
     ghost content = { nested done };
 
     ghost value_plain = { name_plain };
+
+    ghost value_written = { name_plain };
 }
 
 impl<'a, R: Reader<'a>> DecodeValue<'a, R> for Name {

@@ -42,6 +42,8 @@ impl ShapedValue for SerialNumber {
     ghost content = { leaf (integer every) };
 
     ghost value_plain = { serial_plain };
+
+    ghost value_written = { serial_plain };
 }
 
 impl<'a, R: Reader<'a>> DecodeValue<'a, R> for SerialNumber {

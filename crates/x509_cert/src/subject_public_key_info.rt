@@ -39,6 +39,8 @@ impl Fields for SubjectPublicKeyInfo {
     ghost fields = { public_key_fields arc_bound };
 
     ghost fields_plain = { key_plain };
+
+    ghost fields_written = { key_plain };
 }
 
 impl<'a, R: Reader<'a>> DecodeFields<'a, R> for SubjectPublicKeyInfo {
@@ -55,6 +57,8 @@ impl ShapedValue for SubjectPublicKeyInfo {
     ghost content = { nested (public_key_fields arc_bound) };
 
     ghost value_plain = { key_plain };
+
+    ghost value_written = { key_plain };
 }
 
 impl<'a, R: Reader<'a>> DecodeValue<'a, R> for SubjectPublicKeyInfo {

@@ -54,6 +54,8 @@ impl Fields for TbsCertificateInner {
     ghost fields = { tbs_fields arc_bound };
 
     ghost fields_plain = { tbs_plain };
+
+    ghost fields_written = { tbs_plain };
 }
 
 impl<'a, R: Reader<'a>> DecodeFields<'a, R> for TbsCertificateInner {
@@ -77,6 +79,8 @@ impl ShapedValue for TbsCertificateInner {
     ghost content = { nested (tbs_fields arc_bound) };
 
     ghost value_plain = { tbs_plain };
+
+    ghost value_written = { tbs_plain };
 }
 
 impl<'a, R: Reader<'a>> DecodeValue<'a, R> for TbsCertificateInner {

@@ -53,6 +53,8 @@ impl Shaped for Time {
     ghost shape = { time };
 
     ghost plain = { time_value };
+
+    ghost written = { time_value };
 }
 
 impl Choice for Time {

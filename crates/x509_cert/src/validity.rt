@@ -38,6 +38,8 @@ impl Fields for Validity {
     ghost fields = { validity_fields };
 
     ghost fields_plain = { validity_plain };
+
+    ghost fields_written = { validity_plain };
 }
 
 impl<'a, R: Reader<'a>> DecodeFields<'a, R> for Validity {
@@ -54,6 +56,8 @@ impl ShapedValue for Validity {
     ghost content = { nested (validity_fields) };
 
     ghost value_plain = { validity_plain };
+
+    ghost value_written = { validity_plain };
 }
 
 impl<'a, R: Reader<'a>> DecodeValue<'a, R> for Validity {

@@ -1,8 +1,8 @@
 //! Orders of iterators and of choices, and calls that no row makes.
 
 use der_core::{
-    Alternatives, BytesRef, Class, DerOrd, Error, ErrorKind, Explicit, FirstTag, Header, Implicit,
-    IsConstructed, Length, Tag, TagNumber, iter_cmp, iter_cmp_owned, value_cmp_behind,
+    BytesRef, Class, DerOrd, Error, ErrorKind, Explicit, FirstTag, Header, Implicit, IsConstructed,
+    Length, OneOf2, Tag, TagNumber, iter_cmp, iter_cmp_owned, value_cmp_behind,
 };
 use std::cmp::Ordering::{Equal, Greater, Less};
 use std::test::Fail;
@@ -32,19 +32,17 @@ fn orders_of_iterators(rt: HostRuntime) -> Result<(), Fail> {
 /// `01 01 FF`, `02 01 05`, `0C 01 61`; `A0 03 02 01 05` and `81 01 05`.
 #[test]
 fn orders_of_choices(rt: HostRuntime) -> Result<(), Fail> {
-    let flag: Alternatives<bool, Alternatives<u8, &str>> = Alternatives::First(true);
-    let number = Alternatives::Second(Alternatives::First(5));
-    let text = Alternatives::Second(Alternatives::Second("a"));
+    let flag: OneOf2<bool, OneOf2<u8, &str>> = OneOf2::First(true);
+    let number = OneOf2::Second(OneOf2::First(5));
+    let text = OneOf2::Second(OneOf2::Second("a"));
     assert_eq!(rt; flag.der_cmp(&number)?, Less);
     assert_eq!(rt; text.der_cmp(&flag)?, Greater);
     assert_eq!(rt; text.der_cmp(&number)?, Greater);
-    assert_eq!(rt; flag.der_cmp(&Alternatives::First(false))?, Greater);
+    assert_eq!(rt; flag.der_cmp(&OneOf2::First(false))?, Greater);
     assert_eq!(rt; number.first_tag(), Some(Tag::Integer));
     assert_eq!(rt; flag.first_tag(), Some(Tag::Boolean));
-    let explicit: Alternatives<Explicit<u8, 0>, Implicit<u8, 1>> = Alternatives::First(Explicit {
-        value: 5,
-    });
-    let implicit = Alternatives::Second(Implicit { value: 5 });
+    let explicit: OneOf2<Explicit<u8, 0>, Implicit<u8, 1>> = OneOf2::First(Explicit { value: 5 });
+    let implicit = OneOf2::Second(Implicit { value: 5 });
     assert_eq!(rt; explicit.der_cmp(&implicit)?, Greater);
     assert_eq!(rt; implicit.der_cmp(&explicit)?, Less);
     Ok(())

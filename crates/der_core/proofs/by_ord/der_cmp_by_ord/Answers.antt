@@ -4,34 +4,34 @@ use Rattle.der_core.proofs.by_ord.der_cmp_by_ord.Goals as goal
 
 pub returns-in_err-len-clause-order : goal.returns-in_err-len-clause-order
 returns-in_err-len-clause-order g c = λ p q.
-    absurd (never_long g.T.FixedTag.fixed_tag g.T.ShapedValue.content (g.T.ShapedValue.value_plain c.args.a.now) _ p c.in_err-len.ensures)
+    absurd (never_long g.T.FixedTag.fixed_tag g.T.ShapedValue.content (g.T.ShapedValue.value_written c.args.a.now) _ p c.in_err-len.ensures)
 
 pub returns-in_err-len-clause-refused : goal.returns-in_err-len-clause-refused
 returns-in_err-len-clause-refused g c =
-    let long = first_long g.T.FixedTag.fixed_tag g.T.ShapedValue.content (g.T.ShapedValue.value_plain c.args.a.now) (g.T.ShapedValue.value_plain c.args.b.now) c.in_err-len.field-0.0 c.in_err-len.ensures in
+    let long = first_long g.T.FixedTag.fixed_tag g.T.ShapedValue.content (g.T.ShapedValue.value_written c.args.a.now) (g.T.ShapedValue.value_written c.args.b.now) c.in_err-len.field-0.0 c.in_err-len.ensures in
     search rules
 
 pub returns-in_err-other_len-clause-order : goal.returns-in_err-other_len-clause-order
 returns-in_err-other_len-clause-order g c = λ p q.
-    absurd (never_long g.T.FixedTag.fixed_tag g.T.ShapedValue.content (g.T.ShapedValue.value_plain c.args.b.now) _ q c.in_err-other_len.ensures)
+    absurd (never_long g.T.FixedTag.fixed_tag g.T.ShapedValue.content (g.T.ShapedValue.value_written c.args.b.now) _ q c.in_err-other_len.ensures)
 
 pub returns-in_err-other_len-clause-refused : goal.returns-in_err-other_len-clause-refused
 returns-in_err-other_len-clause-refused g c =
-    let long = second_long g.T.FixedTag.fixed_tag g.T.ShapedValue.content (g.T.ShapedValue.value_plain c.args.a.now) (g.T.ShapedValue.value_plain c.args.b.now) c.in_err-other_len.field-0.0 c.in_err-other_len.ensures in
+    let long = second_long g.T.FixedTag.fixed_tag g.T.ShapedValue.content (g.T.ShapedValue.value_written c.args.a.now) (g.T.ShapedValue.value_written c.args.b.now) c.in_err-other_len.field-0.0 c.in_err-other_len.ensures in
     search rules
 
 pub returns-then-is_ne-clause-order : goal.returns-then-is_ne-clause-order
 returns-then-is_ne-clause-order g c = λ p q.
     ap (λ o. Ok o)
-    (lengths_decide g.T.FixedTag.fixed_tag g.T.ShapedValue.content (g.T.ShapedValue.value_plain c.args.a.now) (g.T.ShapedValue.value_plain c.args.b.now) _ _ _ p q c.in_ok-len.ensures
+    (lengths_decide g.T.FixedTag.fixed_tag g.T.ShapedValue.content (g.T.ShapedValue.value_written c.args.a.now) (g.T.ShapedValue.value_written c.args.b.now) _ _ _ p q c.in_ok-len.ensures
     c.in_ok-other_len.ensures c.length_cmp-lengths.ensures (sym c.is_ne.ensures ∙ c.if-is_ne.true))
 
 pub returns-clause-order : goal.returns-clause-order
 returns-clause-order g c = λ p q.
     let t = g.T.FixedTag.fixed_tag in
     let k = g.T.ShapedValue.content in
-    let v = g.T.ShapedValue.value_plain c.args.a.now in
-    let w = g.T.ShapedValue.value_plain c.args.b.now in
+    let v = g.T.ShapedValue.value_written c.args.a.now in
+    let w = g.T.ShapedValue.value_written c.args.b.now in
     let same = sym c.is_ne.ensures ∙ c.if-is_ne.false in
     ap (λ o. Ok o)
     (c.value_cmp_by_ord.ensures.order (tagged_content t k v p) (tagged_content t k w q) (equal_lengths t k v w _ _ _ p q c.in_ok-len.ensures c.in_ok-other_len.ensures c.length_cmp-lengths.ensures same)

@@ -5,9 +5,9 @@ use Rattle.der_core.proofs.choices.other_cmp.Goals as goal
 pub returns-in-Some : goal.returns-in-Some
 returns-in-Some g c = λ apart p q.
     c.next_cmp.ensures
-    ∙ first_below g.A.Shaped.shape g.B.Shaped.shape (g.A.Shaped.plain c.args.value.now) (g.B.Shaped.plain c.args.other.now) c.first_tag-in-Some.result c.in-Some.tag c.first_tag-in-Some.ensures
+    ∙ first_below g.A.Shaped.shape g.B.Shaped.shape (g.A.Shaped.written c.args.value.now) (g.B.Shaped.written c.args.other.now) c.first_tag-in-Some.result c.in-Some.tag c.first_tag-in-Some.ensures
     c.in-Some.ensures apart p q
 
 pub returns-in-None : goal.returns-in-None
 returns-in-None g c = λ apart p q.
-    absurd (never_absent g.A.Shaped.shape g.B.Shaped.shape (g.A.Shaped.plain c.args.value.now) (g.B.Shaped.plain c.args.other.now) c.in-None.ensures apart q)
+    absurd (never_absent g.A.Shaped.shape g.B.Shaped.shape (g.A.Shaped.written c.args.value.now) (g.B.Shaped.written c.args.other.now) c.in-None.ensures apart q)

@@ -9,5 +9,5 @@ invariant-loop-value g l =
     (goal.iterator-loop-value g).can_next l.value-iterator
     × (goal.iterator-loop-value g).is_finite l.value-iterator
     × g.I.Iterator.can_next l.others
-    × ((xs ys : List (Value g.T.Shaped.shape)) → AlwaysYields g.I.Iterator.next_gives g.T.Shaped.plain l.fn.a xs → AlwaysYields g.I.Iterator.next_gives g.T.Shaped.plain l.fn.b ys
-    → At g.I.Iterator.next_gives g.T.Shaped.shape g.T.Shaped.plain xs ys (length l.yielded) l.value-iterator l.others)
+    × ((xs ys : List (Value g.T.Shaped.shape)) → AlwaysYields g.I.Iterator.next_gives g.T.Shaped.written l.fn.a xs → AlwaysYields g.I.Iterator.next_gives g.T.Shaped.written l.fn.b ys
+    → At g.I.Iterator.next_gives g.T.Shaped.shape g.T.Shaped.written xs ys (length l.yielded) l.value-iterator l.others)

@@ -4,4 +4,4 @@ use Rattle.der_core_coding.proofs.Rooms.{filled_spelled}
 use Rattle.der_core_coding.proofs.slices.encode_to_slice.Goals as goal
 
 pub returns-clause-spelled : goal.returns-clause-spelled
-returns-clause-spelled g c = λ valid room. filled_spelled g.T.Shaped.shape (g.T.Shaped.plain c.args.value.now) (length c.args.bytes.now) (λ (o : Bor (List ℕ)). o.now) c.fill.result c.fill.ensures valid room
+returns-clause-spelled g c = λ valid room. filled_spelled g.T.Shaped.shape (g.T.Shaped.written c.args.value.now) (length c.args.bytes.now) (λ (o : Bor (List ℕ)). o.now) c.fill.result c.fill.ensures valid room

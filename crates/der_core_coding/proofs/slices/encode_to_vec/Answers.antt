@@ -2,4 +2,4 @@ use Rattle.der_core_coding.proofs.Appended.{appended_spelled}
 use Rattle.der_core_coding.proofs.slices.encode_to_vec.Goals as goal
 
 pub returns-clause-spelled : goal.returns-clause-spelled
-returns-clause-spelled g c = λ valid. appended_spelled g.T.Shaped.shape (g.T.Shaped.plain c.args.value.now) c.args.out.now.items c.append.new.out.items c.append.result valid c.append.ensures.exact
+returns-clause-spelled g c = λ valid. appended_spelled g.T.Shaped.shape (g.T.Shaped.written c.args.value.now) c.args.out.now.items c.append.new.out.items c.append.result valid c.append.ensures.exact

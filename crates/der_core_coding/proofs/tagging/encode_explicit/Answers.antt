@@ -10,7 +10,7 @@ returns-in_err-encode_header-clause-exact g c =
     let p = err_from_is_err_and c.from_residual-in_err-encode_header.result c.from_residual-in_err-encode_header.ensures.1 in
     let out = g.W.Writer.out in
     let s = g.T.Shaped.shape in
-    let v = g.T.Shaped.plain c.args.value.now in
+    let v = g.T.Shaped.written c.args.value.now in
     rw (p.1, p.2) (writes_refused (context true c.args.number.value) (size s v) (write s v) (out c.args.writer.now) (out c.encode_header.new.writer) c.in_ok-len.len.value c.in_err-encode_header.field-0.0
     c.in_ok-len.ensures c.in_err-encode_header.ensures.exact)
 
@@ -18,6 +18,6 @@ pub returns-clause-exact : goal.returns-clause-exact
 returns-clause-exact g c =
     let out = g.W.Writer.out in
     let s = g.T.Shaped.shape in
-    let v = g.T.Shaped.plain c.args.value.now in
+    let v = g.T.Shaped.written c.args.value.now in
     writes_after (context true c.args.number.value) (size s v) (write s v) (out c.args.writer.now) (out c.encode_header.new.writer) (out c.encode.new.writer) c.in_ok-len.len.value c.encode.result
     c.in_ok-len.ensures c.in_ok-encode_header.ensures.exact c.encode.ensures.exact

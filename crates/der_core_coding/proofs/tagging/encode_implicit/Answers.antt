@@ -12,7 +12,7 @@ returns-in_err-encode_header-clause-exact g c =
     let p = err_from_is_err_and c.from_residual-in_err-encode_header.result c.from_residual-in_err-encode_header.ensures.1 in
     let out = g.W.Writer.out in
     let s = g.T.ShapedValue.content in
-    let v = g.T.ShapedValue.value_plain c.args.value.now in
+    let v = g.T.ShapedValue.value_written c.args.value.now in
     let m = c.in_ok-len.len.value in
     let e = c.in_err-encode_header.field-0.0 in
     let own : context c.is_constructed-constructed.result c.args.number.value ≡ implicit_tag c.args.number.value g.T.FixedTag.fixed_tag =
@@ -25,7 +25,7 @@ pub returns-clause-exact : goal.returns-clause-exact
 returns-clause-exact g c =
     let out = g.W.Writer.out in
     let s = g.T.ShapedValue.content in
-    let v = g.T.ShapedValue.value_plain c.args.value.now in
+    let v = g.T.ShapedValue.value_written c.args.value.now in
     let m = c.in_ok-len.len.value in
     let mid = out c.encode_header.new.writer in
     let own : context c.is_constructed-constructed.result c.args.number.value ≡ implicit_tag c.args.number.value g.T.FixedTag.fixed_tag =

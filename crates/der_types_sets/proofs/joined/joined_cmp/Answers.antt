@@ -14,7 +14,7 @@ pub returns-in_err-encode-clause-order : goal.returns-in_err-encode-clause-order
 unfolding IsBody body_octets
 returns-in_err-encode-clause-order g c =
     let s = g.T.Shaped.shape in
-    let f = g.T.Shaped.plain in
+    let f = g.T.Shaped.written in
     let v = c.args.values.now in
     let i = c.loop-value.value-index in
     let x = c.value-item.result in
@@ -26,7 +26,7 @@ returns-in_err-encode-clause-order g c =
 pub returns-in_err-encode-clause-refused : goal.returns-in_err-encode-clause-refused
 returns-in_err-encode-clause-refused g c =
     let s = g.T.Shaped.shape in
-    let f = g.T.Shaped.plain in
+    let f = g.T.Shaped.written in
     let v = c.args.values.now in
     let i = c.loop-value.value-index in
     let x = c.value-item.result in
@@ -41,7 +41,7 @@ pub returns-in_default-clause-order : goal.returns-in_default-clause-order
 unfolding IsBody body_octets
 returns-in_default-clause-order g c =
     let s = g.T.Shaped.shape in
-    let f = g.T.Shaped.plain in
+    let f = g.T.Shaped.written in
     let v = c.args.values.now in
     let i = c.loop-value.value-index in
     let x = c.value-item.result in
@@ -56,7 +56,7 @@ returns-in_default-clause-order g c =
 pub loop-value-preserved : goal.loop-value-preserved
 loop-value-preserved g c =
     let s = g.T.Shaped.shape in
-    let f = g.T.Shaped.plain in
+    let f = g.T.Shaped.written in
     let v = c.args.values.now in
     let i = c.loop-value.value-index in
     let x = c.value-item.result in
@@ -70,7 +70,7 @@ pub returns-then-is_empty-clause-order : goal.returns-then-is_empty-clause-order
 unfolding IsBody body_octets
 returns-then-is_empty-clause-order g c =
     let s = g.T.Shaped.shape in
-    let f = g.T.Shaped.plain in
+    let f = g.T.Shaped.written in
     let v = c.args.values.now in
     let none = nothing_in c.loop-value.left.now (eqb-true _ 0 (sym c.is_empty.ensures ∙ c.if-is_empty.true)) in
     λ valid. ap (λ o. Ok o)
@@ -80,7 +80,7 @@ pub returns-clause-order : goal.returns-clause-order
 unfolding IsBody body_octets
 returns-clause-order g c =
     let s = g.T.Shaped.shape in
-    let f = g.T.Shaped.plain in
+    let f = g.T.Shaped.written in
     let v = c.args.values.now in
     let some = some_at _ (sym c.is_empty.ensures ∙ c.if-is_empty.false) in
     λ valid. ap (λ o. Ok o)

@@ -5,4 +5,4 @@ use Rattle.der_types_sets.proofs.joined.joined_cmp.Given as goal
 
 abbrev pub invariant-loop-value : goal.invariant-loop-value
 invariant-loop-value g l =
-    Remains g.T.Shaped.shape (plain_list g.T.Shaped.plain l.values) l.octets (plain_list g.T.Shaped.plain (drop l.value-index l.values)) l.left
+    Remains g.T.Shaped.shape (plain_list g.T.Shaped.written l.values) l.octets (plain_list g.T.Shaped.written (drop l.value-index l.values)) l.left

@@ -7,5 +7,5 @@ use Rattle.der_types_sets.proofs.members.encode_members.Given as goal
 abbrev pub invariant-loop-member : goal.invariant-loop-member
 invariant-loop-member g l =
     let F = write g.T.Shaped.shape in
-    (write_many F (plain_list g.T.Shaped.plain (drop l.member-index l.members)) (g.W.Writer.out l.writer) ≡ write_many F (plain_list g.T.Shaped.plain l.members) (g.W.Writer.out l.fn.writer))
+    (write_many F (plain_list g.T.Shaped.written (drop l.member-index l.members)) (g.W.Writer.out l.writer) ≡ write_many F (plain_list g.T.Shaped.written l.members) (g.W.Writer.out l.fn.writer))
     × Continues (g.W.Writer.out l.fn.writer) (g.W.Writer.out l.writer)

@@ -6,4 +6,4 @@ use Rattle.der_types_sets.proofs.members.members_len.Given as goal
 abbrev pub invariant-loop-member : goal.invariant-loop-member
 invariant-loop-member g l =
     let F = size g.T.Shaped.shape in
-    many_len F (plain_list g.T.Shaped.plain (drop l.member-index l.members)) l.len.value ≡ many_len F (plain_list g.T.Shaped.plain l.members) 0
+    many_len F (plain_list g.T.Shaped.written (drop l.member-index l.members)) l.len.value ≡ many_len F (plain_list g.T.Shaped.written l.members) 0

@@ -8,7 +8,7 @@ pub returns-in_err-place-clause-refused : goal.returns-in_err-place-clause-refus
 returns-in_err-place-clause-refused g c =
     let lt : c.loop-end.end < length c.loop-end.members = omega arith in
     let p = err_from_is_err_and c.from_residual.result c.from_residual.ensures.1 in
-    rw (p.1, p.2) (too_long_part g.T.Shaped.shape g.T.Shaped.plain c.args.members.now c.loop-end.members c.loop-end.end c.index-shared-end.result c.in_err-place.field-0.0 c.loop-end.invariant.same lt c.index-shared-end.is c.in_err-place.ensures.refused)
+    rw (p.1, p.2) (too_long_part g.T.Shaped.shape g.T.Shaped.written c.args.members.now c.loop-end.members c.loop-end.end c.index-shared-end.result c.in_err-place.field-0.0 c.loop-end.invariant.same lt c.index-shared-end.is c.in_err-place.ensures.refused)
 
 pub loop-end-preserved : goal.loop-end-preserved
 loop-end-preserved g c =
@@ -20,5 +20,5 @@ loop-end-preserved g c =
     let moved = c.last_to.ensures (take end xs) y (last_is xs end y lt c.index-shared-end.is) in
     rw moved (record {
       same = IsPermutation-trans c.args.members.now xs _ c.loop-end.invariant.same (moved_up xs end place y lt c.index-shared-end.is);
-      ascend = front_ascends g.T.Shaped.shape g.T.Shaped.plain xs end place y lt c.loop-end.invariant.ascend c.in_ok-place.ensures.place;
+      ascend = front_ascends g.T.Shaped.shape g.T.Shaped.written xs end place y lt c.loop-end.invariant.ascend c.in_ok-place.ensures.place;
     })

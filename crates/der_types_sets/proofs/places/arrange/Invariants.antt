@@ -6,5 +6,5 @@ use Rattle.der_types_sets.proofs.places.arrange.Given as goal
 abbrev pub invariant-loop-end : goal.invariant-loop-end
 invariant-loop-end g l = record {
   same : IsPermutation l.fn.members l.members;
-  ascend : Ascends g.T.Shaped.shape g.T.Shaped.plain (take l.end l.members);
+  ascend : Ascends g.T.Shaped.shape g.T.Shaped.written (take l.end l.members);
 }

@@ -8,7 +8,7 @@ use Rattle.der_types_sets.proofs.places.check_ascending.Goals as goal
 pub returns-in_err-check_last-clause-refused : goal.returns-in_err-check_last-clause-refused
 returns-in_err-check_last-clause-refused g c =
     let s = g.T.Shaped.shape in
-    let f = g.T.Shaped.plain in
+    let f = g.T.Shaped.written in
     let xs = c.args.members.now in
     let end = c.loop-end.end in
     let y = c.index-members-end.result in
@@ -22,7 +22,7 @@ returns-in_err-check_last-clause-refused g c =
 pub loop-end-preserved : goal.loop-end-preserved
 loop-end-preserved g c =
     let s = g.T.Shaped.shape in
-    let f = g.T.Shaped.plain in
+    let f = g.T.Shaped.written in
     let xs = c.args.members.now in
     let end = c.loop-end.end in
     let y = c.index-members-end.result in

@@ -3,4 +3,4 @@ use Rattle.der_types_sets.specs.Sets.{Ascends}
 use Rattle.der_types_sets.proofs.places.check_ascending.Given as goal
 
 abbrev pub invariant-loop-end : goal.invariant-loop-end
-invariant-loop-end g l = Ascends g.T.Shaped.shape g.T.Shaped.plain (take l.end l.members)
+invariant-loop-end g l = Ascends g.T.Shaped.shape g.T.Shaped.written (take l.end l.members)

@@ -7,7 +7,7 @@ use Rattle.der_types_sets.proofs.places.place_of.Goals.{then-high-members, else-
 pub loop-low-preserved-in-Greater : goal.loop-low-preserved-in-Greater
 loop-low-preserved-in-Greater g c =
     let s = g.T.Shaped.shape in
-    let f = g.T.Shaped.plain in
+    let f = g.T.Shaped.written in
     let inv = c.loop-low.invariant in
     let low : c.loop-low.low ≤ c.if-high-members.middle = elim c.if-high-members.branch [ then-high-members w ↦ omega arith | else-high-members w ↦ omega arith ] in
     let high : c.if-high-members.middle < c.loop-low.high = elim c.if-high-members.branch [ then-high-members w ↦ omega arith | else-high-members w ↦ omega arith ] in

@@ -6,8 +6,8 @@ abbrev pub invariant-loop-low : goal.invariant-loop-low
 invariant-loop-low g l = record {
   low : l.low ≤ l.high;
   high : l.high ≤ length l.members;
-  behind : Behind g.T.Shaped.shape g.T.Shaped.plain l.members l.item l.low;
-  before : Before g.T.Shaped.shape g.T.Shaped.plain l.members l.item l.high;
+  behind : Behind g.T.Shaped.shape g.T.Shaped.written l.members l.item l.low;
+  before : Before g.T.Shaped.shape g.T.Shaped.written l.members l.item l.high;
 }
 
 abbrev pub decreases-loop-low : goal.decreases-loop-low

@@ -4,4 +4,4 @@ use Rattle.der_types_tagged.proofs.behind.der_behind.Goals as goal
 
 pub returns-clause-spelled : goal.returns-clause-spelled
 returns-clause-spelled g c = λ valid.
-    is_written (tagged c.args.tag g.T.ShapedValue.content) (g.T.ShapedValue.value_plain c.args.value.now) (λ v. v.items) c.written_behind.result valid c.written_behind.ensures
+    is_written (tagged c.args.tag g.T.ShapedValue.content) (g.T.ShapedValue.value_written c.args.value.now) (λ v. v.items) c.written_behind.result valid c.written_behind.ensures

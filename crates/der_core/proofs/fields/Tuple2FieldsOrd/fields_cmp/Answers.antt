@@ -25,7 +25,7 @@ returns-in-None-None-clause-order g c =
 
 pub returns-in-None-None-clause-refused : goal.returns-in-None-None-clause-refused
 returns-in-None-None-clause-refused g c =
-    either_long g.A.Shaped.shape g.B.Fields.fields (g.A.Shaped.plain c.args.self.now.0, g.B.Fields.fields_plain c.args.self.now.1) (g.A.Shaped.plain c.args.other.now.0, g.B.Fields.fields_plain c.args.other.now.1)
+    either_long g.A.Shaped.shape g.B.Fields.fields (g.A.Shaped.written c.args.self.now.0, g.B.Fields.fields_written c.args.self.now.1) (g.A.Shaped.written c.args.other.now.0, g.B.Fields.fields_written c.args.other.now.1)
     c.fields_cmp.result c.fields_cmp.ensures.refused
 
 pub returns-in-Some-Some-clause-order : goal.returns-in-Some-Some-clause-order

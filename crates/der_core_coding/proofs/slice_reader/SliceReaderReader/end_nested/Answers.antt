@@ -1,5 +1,6 @@
 use mathlib.Core.Bool.{◌||◌}
 use Rattle.std.proofs.Common.{◌≡◌, ◌≤◌, ◌<◌, ◌-◌, length, take, drop, arith, sym, ap, subst, ◌∙◌, true}
+use Rattle.der_core_head.specs.declared.error.Error.{Error}
 use Rattle.der_core_head.specs.Reading.{State, restored}
 use Rattle.der_core_coding.proofs.Windows.{closed, window_length}
 use Rattle.der_core_octets.proofs.Facts.{or_true, or_false}
@@ -25,7 +26,7 @@ returns-then-not-finished c =
     let behind : c.args.behind.value ≤ length (drop i.end i.bytes.now) = let P : State → Type 0 = λ s. c.args.behind.value ≤ length s.behind in subst P (sym c.self.view_is) c.requires.behind in
     let len = window_length i.position i.end i.bytes.now ok.position ok.end in
     let rest : take (i.end - i.position) (drop i.position i.bytes.now) ≡ c.args.self.now.rest = ap (λ (s : State). s.rest) c.self.view_is in
-    (c.if-failed.false, λ e. c.if-not-finished.true (omega (arith, len, ap length (rest ∙ e), ok.position)), c.from.ensures, closed i c.args.behind.value true ok behind (omega arith) ∙ ap (restored c.args.behind.value true) c.self.view_is)
+    (c.if-failed.false, λ e. c.if-not-finished.true (omega (arith, len, ap length (rest ∙ e), ok.position)), ap (λ (e : Error). e.kind) c.at.ensures, closed i c.args.behind.value true ok behind (omega arith) ∙ ap (restored c.args.behind.value true) c.self.view_is)
 
 pub returns : goal.returns
 returns c =

@@ -5,7 +5,7 @@ use Rattle.der_core_octets.proofs.reader.Reader.drain.Goals as goal
 pub returns-then-remaining-amount : goal.returns-then-remaining-amount
 returns-then-remaining-amount g c =
     let short = slice_short c.args.amount.value (g.Self.Reader.state c.args.self.now).rest (omega (arith, ap length c.remaining.ensures.rest)) in
-    rw c.from-then-remaining-amount.ensures (λ _. short, c.fail.ensures, λ failed. absurd cc)
+    rw c.error.ensures.kind (λ _. short, c.error.ensures.failed, λ failed. absurd cc)
 
 pub returns : goal.returns
 returns g c =

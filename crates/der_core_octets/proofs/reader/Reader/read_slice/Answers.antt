@@ -5,7 +5,7 @@ use Rattle.der_core_octets.proofs.reader.Reader.read_slice.Goals as goal
 pub returns-then-octets-len : goal.returns-then-octets-len
 returns-then-octets-len g c =
     let short = slice_short c.args.len.value (g.Self.Reader.state c.args.self.now).rest (omega (arith, ap length c.remaining-octets.ensures.rest)) in
-    rw c.from-then-octets-len.ensures (λ _. short, c.fail.ensures, λ failed. absurd cc)
+    rw c.error.ensures.kind (λ _. short, c.error.ensures.failed, λ failed. absurd cc)
 
 pub returns : goal.returns
 returns g c =

@@ -1,5 +1,6 @@
 use Rattle.std.proofs.Common.{◌≡◌, ℕ, true, false, Ok, Err, sym, subst, ap, ◌∙◌}
 use Rattle.std.proofs.lemmas.Result.{err_from_is_err_and}
+use Rattle.der_core_head.specs.declared.error.Error.{Error}
 use Rattle.der_core_head.specs.declared.error.ErrorKind.{ErrorKind}
 use Rattle.der_core_head.specs.declared.tag.Tag.TheVariants.{Sequence}
 use Rattle.der_core_head.specs.Tags.{same_tag}
@@ -25,8 +26,8 @@ returns-then-not-is_same_tag-clause-reads g c = λ b view calls.
     let front = c.in_ok-header.ensures.der in
     let h = c.in_ok-header.header in
     let other : same_tag h.tag Sequence ≡ false = sym c.is_same_tag.ensures ∙ c.if-not-is_same_tag.true in (
-      λ der ready memory. tlv_other Sequence (read_content (nested b) Sequence old.room) old.rest (head_of h) mid.rest (front.0 der) other ∙ ap (λ (k : ErrorKind). Err k) (sym c.error.ensures.kind),
-      kept_then old mid _ front.1 (broken_kept _ _ c.error.ensures.failed),
+      λ der ready memory. tlv_other Sequence (read_content (nested b) Sequence old.room) old.rest (head_of h) mid.rest (front.0 der) other ∙ ap (λ (e : Error). Err e.kind) (sym c.at.ensures),
+      kept_then old mid _ front.1 (broken_kept _ _ c.fail.ensures),
       λ failed. absurd (cc (failed, front.2)),
     )
 

@@ -1,4 +1,5 @@
-use Rattle.std.proofs.Common.{◌≡◌, ℕ, List, Ok, length, drop, refl, ap, sym, subst, ◌∙◌, arith}
+use Rattle.std.proofs.Common.{◌≡◌, ℕ, List, Ok, Err, length, drop, refl, ap, sym, subst, ◌∙◌, arith}
+use Rattle.der_core_head.specs.declared.error.ErrorKind.{ErrorKind}
 use Rattle.der_core_head.specs.Heads.{head_at}
 use Rattle.der_core_head.specs.Bodies.{head_ber_at}
 use Rattle.der_core_octets.specs.Fronts.{head_of}
@@ -8,7 +9,7 @@ use Rattle.der_core_octets.proofs.reader.Reader.tlv_bytes.Goals as goal
 pub returns-in-Err-clause-der : goal.returns-in-Err-clause-der
 returns-in-Err-clause-der g c =
     let rest = c.remaining-octets.ensures.rest in
-    (λ same ready. no_header head_at _ _ (ap head_at (sym rest) ∙ c.in-Err.ensures.der (c.encoding_rules.ensures ∙ same)), c.fail.ensures, λ failed. absurd cc)
+    (λ same ready. no_header head_at _ _ (ap head_at (sym rest) ∙ c.in-Err.ensures.der (c.encoding_rules.ensures ∙ same)) ∙ ap (λ (k : ErrorKind). Err k) (sym c.found_at.ensures), c.fail.ensures, λ failed. absurd cc)
 
 pub returns-then-octets-count-clause-der : goal.returns-then-octets-count-clause-der
 returns-then-octets-count-clause-der g c =
@@ -16,9 +17,9 @@ returns-then-octets-count-clause-der g c =
     let n = c.in-Ok.front.1 in
     let P : List ℕ → Type 0 = λ w. head_at w ≡ Ok (head_of c.in-Ok.front.0, drop n w) in
     let long = ap length rest in
-    rw c.from-then-octets-count.ensures (
+    rw c.error.ensures.kind (
       λ same ready. no_content head_at _ _ n (subst P rest (c.in-Ok.ensures.der (c.encoding_rules.ensures ∙ same)).0) (omega (arith, long, c.in-Ok.ensures.within)) (omega (arith, long, c.if-octets-count.true)),
-      c.fail-then-octets-count.ensures,
+      c.error.ensures.failed,
       λ failed. absurd cc,
     )
 
@@ -37,7 +38,7 @@ returns-clause-der g c =
 pub returns-in-Err-clause-ber : goal.returns-in-Err-clause-ber
 returns-in-Err-clause-ber g c =
     let rest = c.remaining-octets.ensures.rest in
-    (λ same ready. no_header head_ber_at _ _ (ap head_ber_at (sym rest) ∙ c.in-Err.ensures.ber (c.encoding_rules.ensures ∙ same)), c.fail.ensures, λ failed. absurd cc)
+    (λ same ready. no_header head_ber_at _ _ (ap head_ber_at (sym rest) ∙ c.in-Err.ensures.ber (c.encoding_rules.ensures ∙ same)) ∙ ap (λ (k : ErrorKind). Err k) (sym c.found_at.ensures), c.fail.ensures, λ failed. absurd cc)
 
 pub returns-then-octets-count-clause-ber : goal.returns-then-octets-count-clause-ber
 returns-then-octets-count-clause-ber g c =
@@ -45,9 +46,9 @@ returns-then-octets-count-clause-ber g c =
     let n = c.in-Ok.front.1 in
     let P : List ℕ → Type 0 = λ w. head_ber_at w ≡ Ok (head_of c.in-Ok.front.0, drop n w) in
     let long = ap length rest in
-    rw c.from-then-octets-count.ensures (
+    rw c.error.ensures.kind (
       λ same ready. no_content head_ber_at _ _ n (subst P rest (c.in-Ok.ensures.ber (c.encoding_rules.ensures ∙ same)).0) (omega (arith, long, c.in-Ok.ensures.within)) (omega (arith, long, c.if-octets-count.true)),
-      c.fail-then-octets-count.ensures,
+      c.error.ensures.failed,
       λ failed. absurd cc,
     )
 

@@ -7,5 +7,5 @@ use Rattle.der_core_values.proofs.arrays.ArrayEncodeValue.encode_value.Given as 
 abbrev pub invariant-loop-value : goal.invariant-loop-value
 invariant-loop-value g l =
     let F = write g.T.Shaped.shape in
-    (write_many F (plain_list g.T.Shaped.plain (drop l.value-index l.self)) (g.W.Writer.out l.writer) ≡ write_many F (plain_list g.T.Shaped.plain l.self) (g.W.Writer.out l.fn.writer))
+    (write_many F (plain_list g.T.Shaped.written (drop l.value-index l.self)) (g.W.Writer.out l.writer) ≡ write_many F (plain_list g.T.Shaped.written l.self) (g.W.Writer.out l.fn.writer))
     × Continues (g.W.Writer.out l.fn.writer) (g.W.Writer.out l.writer)

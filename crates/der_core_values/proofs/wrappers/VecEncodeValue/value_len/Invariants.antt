@@ -6,4 +6,4 @@ use Rattle.der_core_values.proofs.wrappers.VecEncodeValue.value_len.Given as goa
 abbrev pub invariant-loop-value : goal.invariant-loop-value
 invariant-loop-value g l =
     let F = size g.T.Shaped.shape in
-    many_len F (plain_list g.T.Shaped.plain (drop l.value-index l.self.items)) l.len.value ≡ many_len F (plain_list g.T.Shaped.plain l.self.items) 0
+    many_len F (plain_list g.T.Shaped.written (drop l.value-index l.self.items)) l.len.value ≡ many_len F (plain_list g.T.Shaped.written l.self.items) 0

@@ -6,6 +6,7 @@ use Rattle.der_core_octets.proofs.Nested.{moved_kept}
 use Rattle.der_core_head.specs.Shapes.{Value}
 use Rattle.der_types_sets.proofs.SetSteps.{content_valid}
 use Rattle.der_types_sets.proofs.LooseSteps.{loose_read, loose_only, loose_again}
+use Rattle.der_types_sets.proofs.ViewSteps.{ascends_as_read, valid_as_written}
 use Rattle.der_types_sets.proofs.set_of_vec.SetOfVec.decode_value.Goals as goal
 
 pub returns-in_err-set-clause-reads : goal.returns-in_err-set-clause-reads
@@ -18,7 +19,7 @@ returns-in_err-set-clause-reads g c =
     rw (p.1, p.2) (
       [],
       (
-        λ der _ _. absurd (c.in_err-set.ensures.refused.some (content_valid g.T.Shaped.shape g.T.Shaped.plain c.args.header.tag old.room c.args.header.length.value old.rest c.in_ok-members.members.items new.rest g.met.T.Member.apart bytes fits (c.in_ok-members.ensures.0 der))),
+        λ der _ _. absurd (c.in_err-set.ensures.refused.some (valid_as_written g.T.Shaped.shape g.T.Shaped.written g.T.Shaped.plain c.in_ok-members.members.items g.met.T.AsRead.as_read (content_valid g.T.Shaped.shape g.T.Shaped.plain c.args.header.tag old.room c.args.header.length.value old.rest c.in_ok-members.members.items new.rest g.met.T.Member.apart bytes fits (c.in_ok-members.ensures.0 der)))),
         moved_kept old new c.in_ok-members.ensures.1,
         λ failed. absurd (cc (failed, c.in_ok-members.ensures.2)),
       ),
@@ -40,7 +41,7 @@ returns-in_err-set-clause-only g c =
     let bytes : IsBytes old.rest = subst IsBytes c.remaining-before.ensures.rest (λ i. omega (arith, c.remaining-before.items_fit i)) in
     let fits : Fits old.rest = subst Fits c.remaining-before.ensures.rest c.remaining-before.ensures.short in
     rw (p.1, p.2) (λ v element enough der ready le loose memory.
-    absurd (c.in_err-set.ensures.refused.some (content_valid g.T.Shaped.shape g.T.Shaped.plain c.args.header.tag old.room c.args.header.length.value old.rest c.in_ok-members.members.items new.rest g.met.T.Member.apart bytes fits (c.in_ok-members.ensures.0 der))))
+    absurd (c.in_err-set.ensures.refused.some (valid_as_written g.T.Shaped.shape g.T.Shaped.written g.T.Shaped.plain c.in_ok-members.members.items g.met.T.AsRead.as_read (content_valid g.T.Shaped.shape g.T.Shaped.plain c.args.header.tag old.room c.args.header.length.value old.rest c.in_ok-members.members.items new.rest g.met.T.Member.apart bytes fits (c.in_ok-members.ensures.0 der)))))
 
 pub returns-clause-spelled : goal.returns-clause-spelled
 returns-clause-spelled g c =
@@ -49,7 +50,7 @@ returns-clause-spelled g c =
     let bytes : IsBytes old.rest = subst IsBytes c.remaining-before.ensures.rest (λ i. omega (arith, c.remaining-before.items_fit i)) in
     let fits : Fits old.rest = subst Fits c.remaining-before.ensures.rest c.remaining-before.ensures.short in
     λ element der. loose_read g.T.Shaped.shape g.T.Shaped.plain c.args.header.tag old.room c.args.header.length.value old.rest c.in_ok-members.members.items c.in_ok-set.set new.rest element g.met.T.Member.apart bytes fits
-    (c.in_ok-members.ensures.0 der) c.in_ok-set.ensures.ok c.in_ok-set.ensures.ascend
+    (c.in_ok-members.ensures.0 der) c.in_ok-set.ensures.ok (ascends_as_read g.T.Shaped.shape g.T.Shaped.written g.T.Shaped.plain c.in_ok-set.set g.met.T.AsRead.as_read c.in_ok-set.ensures.ascend)
 
 pub returns-clause-only : goal.returns-clause-only
 returns-clause-only g c =
@@ -58,4 +59,4 @@ returns-clause-only g c =
     λ v element enough der ready le loose.
     ap (λ (u : List (Value g.T.Shaped.shape)). Ok u)
     (loose_only g.T.Shaped.shape g.T.Shaped.plain c.args.header.tag old.room c.args.header.length.value old.rest c.in_ok-members.members.items c.in_ok-set.set new.rest v element g.met.T.Member.apart enough
-    (c.in_ok-members.ensures.0 der) c.in_ok-set.ensures.ok c.in_ok-set.ensures.ascend loose)
+    (c.in_ok-members.ensures.0 der) c.in_ok-set.ensures.ok (ascends_as_read g.T.Shaped.shape g.T.Shaped.written g.T.Shaped.plain c.in_ok-set.set g.met.T.AsRead.as_read c.in_ok-set.ensures.ascend) loose)

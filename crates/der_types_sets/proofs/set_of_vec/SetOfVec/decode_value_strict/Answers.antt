@@ -2,6 +2,7 @@ use Rattle.std.proofs.Common.{sym, ◌∙◌}
 use Rattle.der_core_head.specs.Grammar.{plain_list}
 use Rattle.der_core_head.specs.Reading.{IsDer}
 use Rattle.der_types_sets.proofs.SetSteps.{content_rises, rising-ascends}
+use Rattle.der_types_sets.proofs.ViewSteps.{ascends_as_written}
 use Rattle.der_types_sets.proofs.set_of_vec.SetOfVec.decode_value_strict.Goals as goal
 
 pub invariant_of-result : goal.invariant_of-result
@@ -12,7 +13,8 @@ invariant_of-result g c =
     let new = g.R.Reader.state c.decode_value.new.reader in
     let items = c.in_ok-rising.rising.values.items in
     let der : IsDer old = sym c.encoding_rules-rules.ensures ∙ c.is_der.ensures.0 c.if-is_der.true in
-    rising-ascends s f items (content_rises s c.args.header.tag old.room c.args.header.length.value old.rest (plain_list f items) new.rest (c.in_ok-rising.ensures.0 der))
+    ascends_as_written s g.T.Shaped.written f items g.met.T.AsRead.as_read
+    (rising-ascends s f items (content_rises s c.args.header.tag old.room c.args.header.length.value old.rest (plain_list f items) new.rest (c.in_ok-rising.ensures.0 der)))
 
 pub returns-then-is_der-clause-rising : goal.returns-then-is_der-clause-rising
 returns-then-is_der-clause-rising g c =

@@ -6,9 +6,9 @@ use Rattle.der_types_sets.proofs.set_of_vec.SetOfVec.insert.Goals as goal
 
 pub invariant_of-self-2 : goal.invariant_of-self-2
 invariant_of-self-2 g c =
-    let P : List g.row.T.Denot → Type 0 = λ xs. IsPlace g.T.Shaped.shape g.T.Shaped.plain xs c.args.item c.in_ok-place.place in
+    let P : List g.row.T.Denot → Type 0 = λ xs. IsPlace g.T.Shaped.shape g.T.Shaped.written xs c.args.item c.in_ok-place.place in
     rw c.in_ok-insert.ensures.items
-    (placed g.T.Shaped.shape g.T.Shaped.plain c.self.inside.members.items c.in_ok-place.place c.args.item c.self.invariant (subst P c.as_slice.ensures.value c.in_ok-place.ensures.place))
+    (placed g.T.Shaped.shape g.T.Shaped.written c.self.inside.members.items c.in_ok-place.place c.args.item c.self.invariant (subst P c.as_slice.ensures.value c.in_ok-place.ensures.place))
 
 pub returns-clause-ok : goal.returns-clause-ok
 returns-clause-ok g c =
@@ -16,6 +16,6 @@ returns-clause-ok g c =
 
 pub returns-clause-ascend : goal.returns-clause-ascend
 returns-clause-ascend g c =
-    let P : List g.row.T.Denot → Type 0 = λ xs. IsPlace g.T.Shaped.shape g.T.Shaped.plain xs c.args.item c.in_ok-place.place in
+    let P : List g.row.T.Denot → Type 0 = λ xs. IsPlace g.T.Shaped.shape g.T.Shaped.written xs c.args.item c.in_ok-place.place in
     rw c.in_ok-insert.ensures.items
-    (placed g.T.Shaped.shape g.T.Shaped.plain c.self.inside.members.items c.in_ok-place.place c.args.item c.self.invariant (subst P c.as_slice.ensures.value c.in_ok-place.ensures.place))
+    (placed g.T.Shaped.shape g.T.Shaped.written c.self.inside.members.items c.in_ok-place.place c.args.item c.self.invariant (subst P c.as_slice.ensures.value c.in_ok-place.ensures.place))

@@ -5,10 +5,10 @@ use Rattle.der_types_sets.proofs.set_of_vec.SetOfVec.insert_ordered.Goals as goa
 
 pub invariant_of-self-2 : goal.invariant_of-self-2
 invariant_of-self-2 g c =
-    let P : List g.row.T.Denot → Type 0 = λ xs. IsPlace g.T.Shaped.shape g.T.Shaped.plain xs c.args.item (length xs) in
-    rw c.in_ok-push.ensures.items (ascends-last g.T.Shaped.shape g.T.Shaped.plain c.self.inside.members.items c.args.item c.self.invariant (subst P c.as_slice.ensures.value c.in_ok-check_last.ensures.ok))
+    let P : List g.row.T.Denot → Type 0 = λ xs. IsPlace g.T.Shaped.shape g.T.Shaped.written xs c.args.item (length xs) in
+    rw c.in_ok-push.ensures.items (ascends-last g.T.Shaped.shape g.T.Shaped.written c.self.inside.members.items c.args.item c.self.invariant (subst P c.as_slice.ensures.value c.in_ok-check_last.ensures.ok))
 
 pub returns-clause-ascend : goal.returns-clause-ascend
 returns-clause-ascend g c =
-    let P : List g.row.T.Denot → Type 0 = λ xs. IsPlace g.T.Shaped.shape g.T.Shaped.plain xs c.args.item (length xs) in
-    rw c.in_ok-push.ensures.items (ascends-last g.T.Shaped.shape g.T.Shaped.plain c.self.inside.members.items c.args.item c.self.invariant (subst P c.as_slice.ensures.value c.in_ok-check_last.ensures.ok))
+    let P : List g.row.T.Denot → Type 0 = λ xs. IsPlace g.T.Shaped.shape g.T.Shaped.written xs c.args.item (length xs) in
+    rw c.in_ok-push.ensures.items (ascends-last g.T.Shaped.shape g.T.Shaped.written c.self.inside.members.items c.args.item c.self.invariant (subst P c.as_slice.ensures.value c.in_ok-check_last.ensures.ok))

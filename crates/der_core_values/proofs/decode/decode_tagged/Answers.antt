@@ -6,7 +6,7 @@ use Rattle.der_core_head.specs.Grammar.{read_content, value_at, tlv_at}
 use Rattle.der_core_head.specs.Reading.{State, Reads}
 use Rattle.der_core_octets.specs.Fronts.{head_of}
 use Rattle.der_core_octets.proofs.Steps.{reads_after, tlv_is}
-use Rattle.der_core_values.proofs.decode.AnyDecode.decode.Goals as goal
+use Rattle.der_core_values.proofs.decode.decode_tagged.Goals as goal
 
 pub returns : goal.returns
 returns g c =

@@ -1,0 +1,9 @@
+use Rattle.der_core_head.proofs.Below.{bytes_are}
+use Rattle.der_core_head.proofs.HeadLaws.{head_again, head_sound}
+use Rattle.der_core_head.proofs.laws.headers_are_spelled.Goals as goal
+
+pub returns : goal.returns
+returns c = record {
+  spelled = λ h r w below e. head_sound w h r (bytes_are w below) e;
+  read = head_again;
+}

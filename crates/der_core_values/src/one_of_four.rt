@@ -1,0 +1,83 @@
+//! One of four alternatives.
+
+ghost use Rattle.std.specs.Prelude.{◌≡◌, true};
+ghost use Rattle.der_core_head.specs.Shapes.{either};
+ghost use Rattle.der_core_values.specs.Both.{both_true};
+ghost use Rattle.der_core_values.specs.Choices.{plain_of_four};
+
+use crate::decode::{Choice, Decode, Shaped};
+use crate::elements::Element;
+use crate::encode::Encode;
+use crate::one_of_three::OneOf3;
+use crate::one_of_two::OneOf2;
+use der_core_head::{Error, Length, Tag};
+use der_core_octets::{Reader, Writer};
+use std::alloc::Global;
+
+/// A value of one of four types that begin with different tags (CHOICE, X.680 29).
+///
+/// The first tag decides which type is read: it is read as a `OneOf2` of the first type and of the
+/// `OneOf3` of the others.
+#[derive(Debug, Drop)]
+pub enum OneOf4<A, B, C, D> {
+    First(A),
+    Second(B),
+    Third(C),
+    Fourth(D),
+}
+
+impl<A: Shaped, B: Shaped, C: Shaped, D: Shaped> Shaped for OneOf4<A, B, C, D> {
+    ghost shape = { either A.shape (either B.shape (either C.shape D.shape)) };
+
+    ghost plain = { plain_of_four A.plain B.plain C.plain D.plain };
+
+    ghost written = { plain_of_four A.written B.written C.written D.written };
+}
+
+impl<A: Choice, B: Choice, C: Choice, D: Choice> Choice for OneOf4<A, B, C, D> {
+    fn can_decode(tag: Tag) -> bool {
+        A::can_decode(tag) || OneOf3::<B, C, D>::can_decode(tag)
+    }
+}
+
+impl<A: Element, B: Element, C: Element, D: Element> Element for OneOf4<A, B, C, D> {
+    ghost element = { both_true A.element (both_true B.element (both_true C.element D.element)) };
+}
+
+impl<
+    'a,
+    R: Reader<'a>,
+    A: Decode<'a, R> + Choice,
+    B: Decode<'a, R> + Choice,
+    C: Decode<'a, R> + Choice,
+    D: Decode<'a, R> + Choice,
+> Decode<'a, R> for OneOf4<A, B, C, D> {
+    fn decode(alloc: Global, reader: &mut R) -> Result<OneOf4<A, B, C, D>, Error> {
+        match OneOf2::<A, OneOf3<B, C, D>>::decode(alloc, reader)? {
+            OneOf2::First(value) => Ok(OneOf4::First(value)),
+            OneOf2::Second(OneOf3::First(value)) => Ok(OneOf4::Second(value)),
+            OneOf2::Second(OneOf3::Second(value)) => Ok(OneOf4::Third(value)),
+            OneOf2::Second(OneOf3::Third(value)) => Ok(OneOf4::Fourth(value)),
+        }
+    }
+}
+
+impl<A: Encode, B: Encode, C: Encode, D: Encode> Encode for OneOf4<A, B, C, D> {
+    fn encoded_len(&self) -> Result<Length, Error> {
+        match self {
+            OneOf4::First(value) => value.encoded_len(),
+            OneOf4::Second(value) => value.encoded_len(),
+            OneOf4::Third(value) => value.encoded_len(),
+            OneOf4::Fourth(value) => value.encoded_len(),
+        }
+    }
+
+    fn encode<W: Writer>(&self, writer: &mut W) -> Result<(), Error> {
+        match self {
+            OneOf4::First(value) => value.encode(writer),
+            OneOf4::Second(value) => value.encode(writer),
+            OneOf4::Third(value) => value.encode(writer),
+            OneOf4::Fourth(value) => value.encode(writer),
+        }
+    }
+}
