@@ -1,12 +1,6 @@
 //! A record of ten fields, of all that a field can be.
 
-ghost use Rattle.std.specs.Prelude.{pos};
-ghost use Rattle.std.proofs.Common.{inl, inr};
-ghost use Rattle.std.specs.String.{string_bytes};
-ghost use Rattle.der_core_head.specs.declared.tag.Tag.TheVariants.{Integer, Utf8String};
-ghost use Rattle.der_core_head.specs.Integers.{unsigned};
-ghost use Rattle.der_core_head.specs.Leaves.{integer, utf8};
-ghost use Rattle.der_core_head.specs.Shapes.{tagged, either, leaf};
+ghost use Rattle.der_core_values.specs.declared.one_of_two.OneOf2.TheVariants as cases;
 ghost use Rattle.der_rows.specs.declared.ten_fields.NumberOrText.TheVariants as choices;
 
 use crate::questions::{Question, name_of};
@@ -14,8 +8,8 @@ use crate::record::Record;
 use crate::refusals::Refusal;
 use const_oid_identifiers::ObjectIdentifier;
 use der_core::{
-    Choice, Decode, DerOrd, Encode, EncodeRef, Error, ErrorKind, Explicit, Implicit, Length,
-    OneOf2, Reader, SetOf, Shaped, Tag, WithDefault, Writer, from_der, to_der,
+    Choice, Decode, DerOrd, Encode, EncodeRef, Error, Explicit, Implicit, Length, OneOf2, Reader,
+    SetOf, Shaped, Tag, WithDefault, Writer, from_der, to_der,
 };
 use std::alloc::Global;
 
@@ -26,30 +20,27 @@ enum NumberOrText {
     Text(String),
 }
 
+type Cases = OneOf2<u8, String>;
+
 impl Shaped for NumberOrText {
-    ghost shape = { either (tagged Integer (leaf (integer (unsigned 8)))) (tagged Utf8String (leaf utf8)) };
+    ghost shape = { ⟦<Cases as Shaped>⟧.shape };
 
-    ghost plain = { λ x. elim x [ choices.Number n ↦ inl (pos n) | choices.Text t ↦ inr (string_bytes t) ] };
+    ghost plain = { λ x. ⟦<Cases as Shaped>⟧.plain (elim x [ choices.Number n ↦ cases.First n | choices.Text t ↦ cases.Second t ]) };
 
-    ghost written = { λ x. elim x [ choices.Number n ↦ inl (pos n) | choices.Text t ↦ inr (string_bytes t) ] };
+    ghost written = { λ x. ⟦<Cases as Shaped>⟧.written (elim x [ choices.Number n ↦ cases.First n | choices.Text t ↦ cases.Second t ]) };
 }
 
 impl Choice for NumberOrText {
     fn can_decode(tag: Tag) -> bool {
-        u8::can_decode(tag) || String::can_decode(tag)
+        Cases::can_decode(tag)
     }
 }
 
 impl<'a, R: Reader<'a>> Decode<'a, R> for NumberOrText {
-    #[tactic(auto, unfolding(der_core_head::specs::Grammar::either_at))]
     fn decode(alloc: Global, reader: &mut R) -> Result<NumberOrText, Error> {
-        let tag = reader.peek_tag()?;
-        if u8::can_decode(tag) {
-            Ok(NumberOrText::Number(u8::decode(alloc, reader)?))
-        } else if String::can_decode(tag) {
-            Ok(NumberOrText::Text(String::decode(alloc, reader)?))
-        } else {
-            Err(Error::from(ErrorKind::TagUnexpected))
+        match Cases::decode(alloc, reader)? {
+            OneOf2::First(number) => Ok(NumberOrText::Number(number)),
+            OneOf2::Second(text) => Ok(NumberOrText::Text(text)),
         }
     }
 }

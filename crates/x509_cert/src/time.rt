@@ -7,7 +7,7 @@ ghost use Rattle.der_types_time.specs.Seconds.{unix_seconds};
 ghost use Rattle.x509_cert.specs.Certificates.{time};
 ghost use Rattle.x509_cert.specs.Views.{time_value, time_plain};
 
-use der_core::{Choice, Decode, Error, ErrorKind, Reader, Shaped, Tag};
+use der_core::{Choice, Decode, Error, OneOf2, Reader, Shaped, Tag};
 use der_types_time::{DateTime, GeneralizedTime, UtcTime};
 use std::alloc::Global;
 use std::time::Duration;
@@ -22,6 +22,8 @@ pub enum Time {
     UtcTime(UtcTime),
     GeneralTime(GeneralizedTime),
 }
+
+type Cases = OneOf2<UtcTime, GeneralizedTime>;
 
 impl Time {
     /// The date.
@@ -59,20 +61,15 @@ impl Shaped for Time {
 
 impl Choice for Time {
     fn can_decode(tag: Tag) -> bool {
-        UtcTime::can_decode(tag) || GeneralizedTime::can_decode(tag)
+        Cases::can_decode(tag)
     }
 }
 
 impl<'a, R: Reader<'a>> Decode<'a, R> for Time {
-    #[tactic(auto, unfolding(der_core_head::specs::Grammar::either_at))]
     fn decode(alloc: Global, reader: &mut R) -> Result<Time, Error> {
-        let tag = reader.peek_tag()?;
-        if UtcTime::can_decode(tag) {
-            Ok(Time::UtcTime(UtcTime::decode(alloc, reader)?))
-        } else if GeneralizedTime::can_decode(tag) {
-            Ok(Time::GeneralTime(GeneralizedTime::decode(alloc, reader)?))
-        } else {
-            Err(Error::from(ErrorKind::TagUnexpected))
+        match Cases::decode(alloc, reader)? {
+            OneOf2::First(time) => Ok(Time::UtcTime(time)),
+            OneOf2::Second(time) => Ok(Time::GeneralTime(time)),
         }
     }
 }
