@@ -1,7 +1,8 @@
 //! Encodings in slices, and behind other octets.
 
-ghost use Rattle.std.specs.Prelude.{◌≡◌, ◌≤◌, ◌++◌, length, take, Ok, IfOk, IfErr};
-ghost use Rattle.der_core_head.specs.Shapes.{IsValid, octets_of};
+ghost use Rattle.std.specs.Prelude.{◌≡◌, ◌≤◌, ◌++◌, ℕ, List, length, take, Ok, IfOk, IfErr};
+ghost use Rattle.der_core_head.specs.Ranges.{IsInRange};
+ghost use Rattle.der_core_head.specs.Shapes.{IsValid, Spells, octets_of};
 ghost use Rattle.der_core_head.specs.Reading.{Fails, Gives, GivesNow};
 ghost use Rattle.der_core_head.specs.Writing.{write, size_content, write_content};
 ghost use Rattle.der_core_octets.specs.Outputs.{appended, filled};
@@ -31,6 +32,8 @@ pub fn encode_to_slice<'a, T: Encode>(value: &T, bytes: &'a mut [u8]) -> Result<
     // A valid value is written where there is room for its encoding.
     ensures spelled { IsValid T.shape (T.written value.now) → length (octets_of T.shape (T.written value.now)) ≤ length bytes.entry.now
         → Gives (λ octets. octets.now) result (Ok (octets_of T.shape (T.written value.now))) }
+    // What is lent is spelled by the value, where its parts are in their ranges.
+    ensures meant { IfOk result (λ octets. IsInRange T.shape (T.written value.now) → Spells T.shape (T.written value.now) octets.now) }
     // Which fault it is.
     ensures exact { Gives (λ octets. octets.now) result (filled (write T.shape (T.written value.now)) (length bytes.entry.now)) }
 {
@@ -71,6 +74,9 @@ pub fn encode_to_vec<T: Encode>(value: &T, out: &mut Vec<u8>) -> Result<Length, 
     // A valid value's encoding stands behind what was there.
     ensures spelled { IsValid T.shape (T.written value.now) → IfOk result (λ len.
         (out.new.items ≡ out.old.items ++ octets_of T.shape (T.written value.now)) × (len.value ≡ length (octets_of T.shape (T.written value.now)))) }
+    // What stands behind it is spelled by the value, where its parts are in their ranges.
+    ensures meant { IfOk result (λ _. IsInRange T.shape (T.written value.now)
+        → (b : List ℕ) × Spells T.shape (T.written value.now) b × (out.new.items ≡ out.old.items ++ b)) }
     ensures exact { IfOk result (λ len. appended T.shape (T.written value.now) out.old.items ≡ Ok (len.value, out.new.items)) }
     ensures refused { IfErr result (λ e. Fails e.kind (appended T.shape (T.written value.now) out.old.items)) }
     // What stood in the vector stays in front, and alone after a refusal.

@@ -13,6 +13,7 @@ pub mod BmpStrings
 pub mod Leaves
 pub mod Shapes
 pub mod Spelling
+pub mod Ranges
 pub mod Grammar
 pub mod Writing
 pub mod Reading
