@@ -37,3 +37,6 @@ pub use running::run_check;
 pub use signature_judge::SignatureJudge;
 pub use standing::Standing;
 pub use status::Status;
+pub use x509_cert::{
+    AlgorithmIdentifier, BitString, CertificateInner, SubjectPublicKeyInfo, Time, read_certificate,
+};

@@ -2,8 +2,8 @@
 
 use crate::refusals::Refusal;
 use crate::words::{octets_of, word_of};
+use cert_desk::{BitString, Time, read_certificate};
 use std::alloc::{AllocError, Global};
-use x509_cert::{BitString, Time, read_certificate};
 
 /// The parts of a certificate in the order in which they stand, without the names, which are empty.
 pub fn answer(alloc: Global, word: &str) -> Result<String, Refusal> {

@@ -2,8 +2,7 @@
 
 ghost use Rattle.std.specs.Prelude.{bytes_eq};
 
-use cert_desk::SignatureJudge;
-use x509_cert::{AlgorithmIdentifier, BitString, SubjectPublicKeyInfo};
+use cert_desk::{AlgorithmIdentifier, BitString, SignatureJudge, SubjectPublicKeyInfo};
 
 /// A judge that always says the same.
 #[derive(Drop)]
