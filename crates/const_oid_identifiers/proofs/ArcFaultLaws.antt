@@ -2,12 +2,13 @@
 use Rattle.std.proofs.Common.{◌≡◌, ◌≢◌, ℕ, ◌<◌, ◌≤◌, ◌⊎◌, inl, inr, false, List, [], ◌∷◌, ◌++◌, length, Result, Ok, Err, IfOk, IfErr, MatchResult, sym, refl, ap, subst, ◌∙◌, append_assoc, append-nil, length-append, arith, Bool, cond, ltb, true}
 use Rattle.std.specs.List.{AllByRecursion, flat_map}
 use Rattle.std.proofs.lemmas.Bool.{lt-ltb, le-ltb, cases_lt}
+use Rattle.std.proofs.lemmas.List.{same_from_push}
 use Rattle.std.proofs.lemmas.Grind.{flat_map-append}
 use Rattle.const_oid_identifiers.specs.declared.error.Error.{Error}
 use Rattle.const_oid_identifiers.specs.declared.error.Error.TheVariants as errors
 use Rattle.const_oid_identifiers.specs.IdentifierOctets.{arc_octets, identifier_octets, IsIdentifier}
 use Rattle.const_oid_identifiers.specs.ArcLists.{is_misplaced, add_arc, whole_arcs, gather}
-use Rattle.const_oid_identifiers.specs.ArcFaults.{ArePlaced, IsFaultless, IsNextFault, first_large, second_large, past_capacity, IsArcsFault, at_arc, too_few}
+use Rattle.const_oid_identifiers.specs.ArcFaults.{ArePlaced, IsFaultless, IsNextFault, first_large, second_large, past_capacity, IsArcsFault, at_arc, too_few, EndsAtFault}
 use Rattle.const_oid_identifiers.proofs.EncodingLaws.{add_arc-misplaced, add_arc-long, add_arc-ok, whole-few, whole-many, gather-ok, gather-err, gather-end}
 
 -- A front of arcs without a fault has none
@@ -176,3 +177,25 @@ answer_fault capacity Q arcs (Err x) e q = q x (arc_fault_found capacity arcs x 
 pub all-push : (bound : ℕ) (arcs : List ℕ) (a : ℕ) → AllByRecursion (λ n. n < bound) arcs → a < bound → AllByRecursion (λ n. n < bound) (arcs ++ (a ∷ []))
 all-push bound [] a all l = (l, tt)
 all-push bound (b ∷ arcs) a all l = (all.0, all-push bound arcs a all.1 l)
+
+-- Taking arcs one after another
+
+-- a front without a fault is what is gathered of it
+pub gather-faultless : (capacity : ℕ) (front more : List ℕ) → IsFaultless capacity front → gather capacity [] (front ++ more) ≡ gather capacity front more
+gather-faultless capacity front more f = gather-front capacity [] front more f
+
+-- an arc that is added leaves no fault
+pub added-faultless : (capacity : ℕ) (front : List ℕ) (a : ℕ) (more : List ℕ) → IsFaultless capacity front → add_arc capacity front a ≡ Ok more
+    → (more ≡ front ++ (a ∷ [])) × IsFaultless capacity (front ++ (a ∷ []))
+added-faultless capacity front a more f ok = by (next capacity front a f.placed)
+  where
+    by : Next capacity front a → (more ≡ front ++ (a ∷ [])) × IsFaultless capacity (front ++ (a ∷ []))
+    by (faulty e fault err) = let h : Ok more ≡ Err e = sym ok ∙ err in cc
+    by (fine g also) = let h : Ok more ≡ Ok (front ++ (a ∷ [])) = sym ok ∙ also in (cc, g)
+
+-- behind a front without a fault at most one arc was taken
+pub ends_at_next : (capacity : ℕ) (front : List ℕ) (a : ℕ) → IsFaultless capacity front → EndsAtFault capacity (front ++ (a ∷ []))
+ends_at_next capacity front a f before last e = subst (IsFaultless capacity) (same_from_push front before a last e).0 f
+
+pub ends_at_none : (capacity : ℕ) (arcs : List ℕ) → IsFaultless capacity arcs → EndsAtFault capacity arcs
+ends_at_none capacity arcs f before last e = faultless_front capacity before (last ∷ []) (subst (IsFaultless capacity) e f)

@@ -27,3 +27,7 @@ pub data IsArcsFault (capacity : ℕ) (arcs : List ℕ) : Error → Type 0 where
   at_arc : (front : List ℕ) (a : ℕ) (rest : List ℕ) (e : Error) → arcs ≡ front ++ (a ∷ rest) → IsFaultless capacity front
       → IsNextFault capacity front a e → IsArcsFault capacity arcs e
   too_few : IsFaultless capacity arcs → length arcs < 2 → IsArcsFault capacity arcs errors.Empty
+
+-- the arcs before the last one have no fault: where there is one, no arc stands behind it
+abbrev pub EndsAtFault : (capacity : ℕ) → List ℕ → Type 0
+EndsAtFault capacity arcs = (front : List ℕ) (last : ℕ) → arcs ≡ front ++ (last ∷ []) → IsFaultless capacity front

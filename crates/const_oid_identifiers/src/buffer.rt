@@ -46,7 +46,7 @@ impl<const SIZE: usize> Model for Buffer<SIZE> {
 impl<const SIZE: usize> Buffer<SIZE> {
     /// The empty list.
     #[inline]
-    pub(crate) fn new() -> Self
+    pub fn new() -> Self
         ensures { result ≡ [] }
     {
         Buffer {
@@ -57,7 +57,7 @@ impl<const SIZE: usize> Buffer<SIZE> {
 
     /// A copy of `octets`, which fit.
     #[inline]
-    pub(crate) fn from_slice(octets: &[u8]) -> Self
+    pub fn from_slice(octets: &[u8]) -> Self
         requires { length octets.now ≤ SIZE }
         ensures { result ≡ octets.now }
     {

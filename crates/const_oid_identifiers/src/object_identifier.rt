@@ -274,7 +274,7 @@ impl ObjectIdentifier<39> {
     ghost use Rattle.std.specs.Iterator.{IsFiniteIterable, DrainsIf};
     ghost use Rattle.std.specs.Prelude.{IsOk, ⊤, ◌≢◌};
     ghost use Rattle.const_oid_identifiers.specs.ArcLists.{gather};
-    ghost use Rattle.const_oid_identifiers.specs.ArcFaults.{IsArcsFault};
+    ghost use Rattle.const_oid_identifiers.specs.ArcFaults.{IsArcsFault, EndsAtFault};
 
     /// The identifier of these arcs, or the first fault of their list. It takes the items up to that fault, and all of them
     /// where there is none.
@@ -287,10 +287,10 @@ impl ObjectIdentifier<39> {
             (λ oid. (it : I.IntoIter) × I.into_iter_gives arcs it × DrainsIf I.IntoIter.next_gives ⊤ it oid
             × IsIdentifier Bound oid × (length (identifier_octets oid) ≤ 39)) }
 
-        // The items that were taken have this fault. Where they are too few, they are all items.
+        // The items that were taken have this fault, and those before the last one have none. Where they are too few, they are all items.
         ensures fault { IfErr result
             (λ e. (it : I.IntoIter) × (xs : List ℕ) × I.into_iter_gives arcs it
-            × DrainsIf I.IntoIter.next_gives (e ≡ errors.Empty) it xs × IsArcsFault 39 xs e) }
+            × DrainsIf I.IntoIter.next_gives (e ≡ errors.Empty) it xs × IsArcsFault 39 xs e × EndsAtFault 39 xs) }
         ensures never_overflow { result ≢ Err errors.Overflow }
     {
         let mut so_far = Encoder::<39>::new();

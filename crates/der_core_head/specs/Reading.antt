@@ -50,26 +50,37 @@ past n s = record s { rest = drop n s.rest }
 abbrev pub broken : State → State
 broken s = record s { failed = true }
 
+-- these octets are a rest of those: what is left of them behind so many
+abbrev pub IsRest : List ℕ → List ℕ → Type 0
+IsRest r w = (n : ℕ) × (r ≡ drop n w)
+
 -- The same reader, further on or failed. One that failed stays failed.
 pub record Kept (old new : State) : Type 0 where
+  pub rest : IsRest new.rest old.rest
   pub behind : new.behind ≡ old.behind
   pub room : new.room ≡ old.room
   pub source : new.source ≡ old.source
   pub failed : old.failed ≡ true → new.failed ≡ true
 
--- The call answered what reading gives where DER rules, seen by view, and moved the reader on. A failed reader answers that it failed.
+-- The call answered what reading gives where DER rules, seen by view, and moved the reader on. After a refusal the reader has failed,
+-- and a failed reader answers that it failed.
 abbrev pub Reads : {X P : Type 0} → (X → P) → State → State → Result X Error → (List ℕ → Result (P × List ℕ) ErrorKind) → Type 0
-Reads view old new (Ok x) f = (IsDer old → f old.rest ≡ Ok (view x, new.rest)) × (new ≡ record old { rest = new.rest }) × (old.failed ≡ false)
-Reads view old new (Err e) f = (IsDer old → old.failed ≡ false → Fails e.kind (f old.rest)) × Kept old new × (old.failed ≡ true → e.kind ≡ kinds.Failed)
+Reads view old new (Ok x) f = (IsDer old → f old.rest ≡ Ok (view x, new.rest)) × (new ≡ record old { rest = new.rest }) × (old.failed ≡ false) × IsRest new.rest old.rest
+Reads view old new (Err e) f = (IsDer old → old.failed ≡ false → Fails e.kind (f old.rest)) × Kept old new × (old.failed ≡ true → e.kind ≡ kinds.Failed) × (new.failed ≡ true)
+
+-- The same by both rules.
+abbrev pub ReadsAlways : {X P : Type 0} → (X → P) → State → State → Result X Error → (List ℕ → Result (P × List ℕ) ErrorKind) → Type 0
+ReadsAlways view old new (Ok x) f = (f old.rest ≡ Ok (view x, new.rest)) × (new ≡ record old { rest = new.rest }) × (old.failed ≡ false) × IsRest new.rest old.rest
+ReadsAlways view old new (Err e) f = (old.failed ≡ false → Fails e.kind (f old.rest)) × Kept old new × (old.failed ≡ true → e.kind ≡ kinds.Failed) × (new.failed ≡ true)
 
 -- The same of a call that takes no memory. After a refusal the reader is where it was, and failed.
 abbrev pub ReadsNow : {X P : Type 0} → (X → P) → State → State → Result X Error → (List ℕ → Result (P × List ℕ) ErrorKind) → Type 0
-ReadsNow view old new (Ok x) f = (f old.rest ≡ Ok (view x, new.rest)) × (new ≡ record old { rest = new.rest }) × (old.failed ≡ false)
+ReadsNow view old new (Ok x) f = (f old.rest ≡ Ok (view x, new.rest)) × (new ≡ record old { rest = new.rest }) × (old.failed ≡ false) × IsRest new.rest old.rest
 ReadsNow view old new (Err e) f = (old.failed ≡ false → f old.rest ≡ Err e.kind) × (new ≡ broken old) × (old.failed ≡ true → e.kind ≡ kinds.Failed)
 
 -- The same of a call that takes no memory, where those rules rule.
 abbrev pub ReadsBy : {X P : Type 0} → EncodingRules → (X → P) → State → State → Result X Error → (List ℕ → Result (P × List ℕ) ErrorKind) → Type 0
-ReadsBy rules view old new (Ok x) f = (old.source.encoding ≡ rules → f old.rest ≡ Ok (view x, new.rest)) × (new ≡ record old { rest = new.rest }) × (old.failed ≡ false)
+ReadsBy rules view old new (Ok x) f = (old.source.encoding ≡ rules → f old.rest ≡ Ok (view x, new.rest)) × (new ≡ record old { rest = new.rest }) × (old.failed ≡ false) × IsRest new.rest old.rest
 ReadsBy rules view old new (Err e) f = (old.source.encoding ≡ rules → old.failed ≡ false → f old.rest ≡ Err e.kind) × (new ≡ broken old) × (old.failed ≡ true → e.kind ≡ kinds.Failed)
 
 -- The call answered what stands there where those rules rule, seen by view, and left the reader as it was.
@@ -120,5 +131,5 @@ GivesNow view (Err e) r = r ≡ Err e.kind
 
 -- The octets of a content were read, whatever leaf they are.
 abbrev pub TakesContent : State → State → Result (Bor (List ℕ)) Error → ℕ → Type 0
-TakesContent old new (Ok x) n = ((l : Leaf) (t : Tag) (room : ℕ) → value_at (read_content (leaf l) t room) n old.rest ≡ (leaf_read l t x.now >>= kept new.rest)) × (new ≡ record old { rest = new.rest }) × (old.failed ≡ false)
+TakesContent old new (Ok x) n = ((l : Leaf) (t : Tag) (room : ℕ) → value_at (read_content (leaf l) t room) n old.rest ≡ (leaf_read l t x.now >>= kept new.rest)) × (new ≡ record old { rest = new.rest }) × (old.failed ≡ false) × IsRest new.rest old.rest
 TakesContent old new (Err e) n = ((l : Leaf) (t : Tag) (room : ℕ) → old.failed ≡ false → value_at (read_content (leaf l) t room) n old.rest ≡ Err e.kind) × (new ≡ broken old) × (old.failed ≡ true → e.kind ≡ kinds.Failed)

@@ -7,10 +7,21 @@ use Rattle.std.proofs.lemmas.List.{take_at}
 use Rattle.der_core_head.specs.declared.error.Error.{Error}
 use Rattle.der_core_head.specs.declared.error.ErrorKind.TheVariants as kinds
 use Rattle.der_core_head.specs.Reading.{State, Kept, Refuses, Closes, entered}
-use Rattle.der_core_octets.specs.Nesting.{IsNested, Called, Answered, RefusesNested}
+use Rattle.der_core_head.specs.declared.encoding_rules.EncodingRules.{EncodingRules}
+use Rattle.der_core_head.specs.declared.encoding_rules.EncodingRules.TheVariants as encodings
+use Rattle.der_core_head.specs.declared.error.ErrorKind.{ErrorKind}
+use Rattle.der_core_head.specs.Heads.{Head, head_at}
+use Rattle.der_core_head.specs.Bodies.{head_ber_at}
+use Rattle.der_core_octets.specs.Nesting.{IsNested, Called, Answered, RefusesNested, head_by}
+use Rattle.der_core_octets.proofs.Facts.{or_true}
 use Rattle.der_core_octets.proofs.Nested.{is_kept, at_length}
 
-by_failed : (b : Bool) {A B : Type 0} → (b ≡ false → A) → (b ≡ true → B) → ((b ≡ true) × B) ⊎ ((b ≡ false) × A)
+-- what holds by each of the rules holds by those in force
+pub by_rules : (rules : EncodingRules) (w : List ℕ) (r : Result (Head × List ℕ) ErrorKind) → (rules ≡ encodings.Der → head_at w ≡ r) → (rules ≡ encodings.Ber → head_ber_at w ≡ r) → head_by rules w ≡ r
+by_rules encodings.Der w r der ber = der refl
+by_rules encodings.Ber w r der ber = ber refl
+
+pub by_failed : (b : Bool) {A B : Type 0} → (b ≡ false → A) → (b ≡ true → B) → ((b ≡ true) × B) ⊎ ((b ≡ false) × A)
 by_failed true a b = inl (refl, b refl)
 by_failed false a b = inr (refl, a refl)
 
@@ -36,6 +47,13 @@ module _ {R T F : Type 0} (state : R → State) (g : Once F (MutBor R × Unit {0
     pub nested_kept : (r : Result T Error) → Closes taken (is_err r) (state outer) new (Ok tt) → OnErr r (Kept old new)
     nested_kept (Ok x) closes = tt
     nested_kept (Err e) closes = is_kept n taken _ old (state outer) new enough room kept closes.1 ready
+
+    pub nested_failed : (r : Result T Error) → Closes taken (is_err r) (state outer) new (Ok tt) → OnErr r (new.failed ≡ true)
+    nested_failed (Ok x) closes = tt
+    nested_failed (Err e) closes = ap (λ (s : State). s.failed) closes.1 ∙ or_true (state outer).failed
+
+    pub left_failed : (r : Result T Error) (e : Error) → Closes taken (is_err r) (state outer) new (Err e) → new.failed ≡ true
+    left_failed r e closes = ap (λ (s : State). s.failed) closes.3
 
     pub left_kept : (r : Result T Error) (e : Error) → Closes taken (is_err r) (state outer) new (Err e) → Kept old new
     left_kept r e closes = is_kept n taken _ old (state outer) new enough room kept closes.3 ready

@@ -7,3 +7,4 @@ pub mod Nested
 pub mod Steps
 mod Encodings
 mod Closures
+mod Spelled

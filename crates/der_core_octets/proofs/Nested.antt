@@ -1,7 +1,7 @@
 -- A call of a closure between two ends is a reading of the octets between them.
-use Rattle.std.proofs.Common.{◌≡◌, ℕ, suc, ◌+◌, ◌-◌, ◌<◌, ◌≤◌, Bool, true, false, List, [], ◌∷◌, ◌++◌, length, take, drop, Result, Ok, Err, refl, sym, ap, ◌∙◌, arith}
+use Rattle.std.proofs.Common.{◌≡◌, ℕ, suc, ◌+◌, ◌-◌, ◌<◌, ◌≤◌, Bool, true, false, List, [], ◌∷◌, ◌++◌, length, take, drop, Result, Ok, Err, refl, ap, ◌∙◌, arith}
 use Rattle.std.specs.Prelude.{is_err, ◌≢◌}
-use Rattle.std.proofs.lemmas.List.{take_at, drop_at, length-drop, length-append}
+use Rattle.std.proofs.lemmas.List.{take_at, drop_at, take-append-drop, length-drop, length-append}
 use mathlib.Core.Bool.{◌||◌}
 use Rattle.der_core_head.specs.declared.error.Error.{Error}
 use Rattle.der_core_head.specs.declared.error.ErrorKind.{ErrorKind}
@@ -10,8 +10,9 @@ use Rattle.der_core_head.specs.Shapes.{Body, BodyValue, nested}
 use Rattle.der_core_head.specs.declared.tag.Tag.{Tag}
 use Rattle.der_core_head.specs.Octets.{◌>>=◌}
 use Rattle.der_core_head.specs.Grammar.{whole, value_at, read_content, read_body}
-use Rattle.der_core_head.specs.Reading.{State, IsDer, Kept, Fails, Reads, Refuses, Closes, entered, restored, broken}
-use Rattle.der_core_octets.proofs.Facts.{value_short, value_enough, or_false}
+use Rattle.der_core_head.specs.Reading.{State, IsDer, IsRest, Kept, Fails, Reads, Refuses, Closes, entered, restored, broken}
+use Rattle.der_core_octets.proofs.Facts.{value_short, value_enough, or_false, or_true}
+use Rattle.der_core_octets.proofs.Steps.{rest_more}
 
 pub refused : (t : Tag) (k : ErrorKind) (n : ℕ) (old : State) (s : Body) → Refuses n old k → Fails k (value_at (read_content (nested s) t old.room) n old.rest)
 refused t kinds.Incomplete n old s h = λ _. value_short (read_content (nested s) t old.room) n old.rest h
@@ -28,11 +29,11 @@ pub behind_long : (n taken : ℕ) (old : State) → n + taken ≡ length old.res
 behind_long n taken old h = omega (arith, length-append (drop n old.rest) old.behind, length-drop n old.rest)
 
 -- a reader that moved on, and one that failed where it was, are kept
-pub moved_kept : (old new : State) → new ≡ record old { rest = new.rest } → Kept old new
-moved_kept old new e = record { behind = ap (λ (s : State). s.behind) e; room = ap (λ (s : State). s.room) e; source = ap (λ (s : State). s.source) e; failed = λ o. ap (λ (s : State). s.failed) e ∙ o }
+pub moved_kept : (old new : State) → new ≡ record old { rest = new.rest } → IsRest new.rest old.rest → Kept old new
+moved_kept old new e passed = record { rest = passed; behind = ap (λ (s : State). s.behind) e; room = ap (λ (s : State). s.room) e; source = ap (λ (s : State). s.source) e; failed = λ o. ap (λ (s : State). s.failed) e ∙ o }
 
 pub broken_kept : (old new : State) → new ≡ broken old → Kept old new
-broken_kept old new e = record { behind = ap (λ (s : State). s.behind) e; room = ap (λ (s : State). s.room) e; source = ap (λ (s : State). s.source) e; failed = λ o. ap (λ (s : State). s.failed) e }
+broken_kept old new e = record { rest = (0, ap (λ (s : State). s.rest) e); behind = ap (λ (s : State). s.behind) e; room = ap (λ (s : State). s.room) e; source = ap (λ (s : State). s.source) e; failed = λ o. ap (λ (s : State). s.failed) e }
 
 left_over : {P : Type 0} (p : P) (w : List ℕ) → w ≢ [] → whole (p, w) ≡ Err kinds.TrailingData
 left_over p [] h = absurd (h refl)
@@ -41,13 +42,24 @@ left_over p (b ∷ w) h = refl
 pub at_length : (n taken : ℕ) (w : List ℕ) → n + taken ≡ length w → length (drop n w) ≡ taken
 at_length n taken w h = omega (arith, length-drop n w)
 
+-- what is left before an end and the octets behind it is a rest of all of them
+pub rest_closed : (n taken : ℕ) (f : Bool) (old outer new : State) → n + taken ≡ length old.rest → Kept (entered n old) outer → new ≡ restored taken f outer → IsRest new.rest old.rest
+rest_closed n taken f old outer new h k e =
+    let behind : take taken outer.behind ≡ drop n old.rest = ap (take taken) k.behind ∙ take_at (drop n old.rest) old.behind taken (at_length n taken old.rest h) in
+    let r = rest_more k.rest.0 (take n old.rest) (drop n old.rest) in
+    (r.0, ap (λ (s : State). s.rest) e ∙ ap (λ (w : List ℕ). outer.rest ++ w) behind ∙ ap (λ (w : List ℕ). w ++ drop n old.rest) k.rest.1 ∙ r.1 ∙ ap (drop r.0) (take-append-drop n old.rest))
+
 pub is_kept : (n taken : ℕ) (f : Bool) (old outer new : State) → n + taken ≡ length old.rest → 0 < old.room → Kept (entered n old) outer → new ≡ restored taken f outer → old.failed ≡ false → Kept old new
 is_kept n taken f old outer new h r k e ready = record {
+  rest = rest_closed n taken f old outer new h k e;
   behind = ap (λ (s : State). s.behind) e ∙ ap (drop taken) k.behind ∙ drop_at (drop n old.rest) old.behind taken (at_length n taken old.rest h);
   room = omega (arith, ap (λ (s : State). s.room) e, k.room);
   source = ap (λ (s : State). s.source) e ∙ k.source;
   failed = λ o. absurd (cc (o, ready));
 }
+
+same_frame : (old new : State) → new.behind ≡ old.behind → new.room ≡ old.room → new.failed ≡ old.failed → new.source ≡ old.source → new ≡ record old { rest = new.rest }
+same_frame old new b r f s = rw (← b, ← r, ← f, ← s) refl
 
 pub gives : {T : Type 0} (t : Tag) (s : Body) (view : T → BodyValue s) (n taken : ℕ) (old outer new : State) (r : Result T Error)
     → n + taken ≡ length old.rest → 0 < old.room → old.failed ≡ false
@@ -59,40 +71,21 @@ gives t s view n taken old outer new (Ok v) h r f reads closes =
     let behind : outer.behind ≡ drop n old.rest ++ old.behind = ap (λ (s : State). s.behind) reads.1 in
     let rest : new.rest ≡ drop n old.rest =
     ap (λ (s : State). s.rest) closes.1 ∙ ap (λ (w : List ℕ). w ++ take taken outer.behind) none ∙ ap (take taken) behind ∙ take_at (drop n old.rest) old.behind taken (at_length n taken old.rest h) in
-    let kept = is_kept n taken (outer.failed || false) old outer new h r (moved_kept _ _ reads.1) closes.1 f in
+    let kept = is_kept n taken (outer.failed || false) old outer new h r (moved_kept _ _ reads.1 reads.3) closes.1 f in
     let failed : new.failed ≡ old.failed = ap (λ (s : State). s.failed) closes.1 ∙ or_false outer.failed ∙ ap (λ (s : State). s.failed) reads.1 in
-    (λ der. rw (nested_is t s n old.room old.rest (omega arith) r, inner der, rest) refl, cc (kept.behind, kept.room, failed), f)
+    (λ der. rw (nested_is t s n old.room old.rest (omega arith) r, inner der, rest) refl, same_frame old new kept.behind kept.room failed kept.source, f, kept.rest)
 gives t s view n taken old outer new (Err e) h r f reads closes =
-    (λ der o m. rw (nested_is t s n old.room old.rest (omega arith) r, reads.0 der o m) refl, is_kept n taken (outer.failed || true) old outer new h r reads.1 closes.1 f, λ o. absurd (cc (o, f)))
+    (λ der o m. rw (nested_is t s n old.room old.rest (omega arith) r, reads.0 der o m) refl, is_kept n taken (outer.failed || true) old outer new h r reads.1 closes.1 f, λ o. absurd (cc (o, f)), ap (λ (s : State). s.failed) closes.1 ∙ or_true outer.failed)
 
 pub trails : {T : Type 0} (t : Tag) (s : Body) (view : T → BodyValue s) (n taken : ℕ) (old outer new : State) (r : Result T Error) (e : Error)
     → n + taken ≡ length old.rest → 0 < old.room → old.failed ≡ false
     → Reads view (entered n old) outer r (read_body s (entered n old).room) → Closes taken (is_err r) outer new (Err e)
     → Reads view old new (Err e) (value_at (read_content (nested s) t old.room) n)
 trails t s view n taken old outer new (Ok v) e h r f reads closes =
-    let k = moved_kept (entered n old) outer reads.1 in
-    (λ der o m. rw (nested_is t s n old.room old.rest (omega arith) r, reads.0 der, left_over (view v) outer.rest closes.1, closes.2) refl, is_kept n taken true old outer new h r k closes.3 f, λ o. absurd (cc (o, f)))
+    let k = moved_kept (entered n old) outer reads.1 reads.3 in
+    (λ der o m. rw (nested_is t s n old.room old.rest (omega arith) r, reads.0 der, left_over (view v) outer.rest closes.1, closes.2) refl, is_kept n taken true old outer new h r k closes.3 f, λ o. absurd (cc (o, f)), ap (λ (s : State). s.failed) closes.3)
 trails t s view n taken old outer new (Err d) e h r f reads closes = absurd cc
 
 pub reads_kept : {T P : Type 0} (view : T → P) (old new : State) (r : Result T Error) (f : List ℕ → Result (P × List ℕ) ErrorKind) → Reads view old new r f → Kept old new
-reads_kept view old new (Ok v) f h = moved_kept old new h.1
+reads_kept view old new (Ok v) f h = moved_kept old new h.1 h.3
 reads_kept view old new (Err e) f h = h.1
-
--- and what passes over octets behind them changes no reading by DER
-pub ended_reads : {T P : Type 0} (view : T → P) (old mid new : State) (r : Result T Error) (f : List ℕ → Result (P × List ℕ) ErrorKind)
-    → Reads view old mid r f → (IsDer mid → new ≡ mid) → new ≡ record mid { rest = new.rest } → Reads view old new r f
-ended_reads view old mid new (Ok v) f reads same moved = (
-  λ der. reads.0 der ∙ ap (λ (s : State). Ok (view v, s.rest)) (sym (same (ap (λ (s : State). s.source.encoding) reads.1 ∙ der))),
-  cc (ap (λ (s : State). s.behind) reads.1, ap (λ (s : State). s.room) reads.1, ap (λ (s : State). s.failed) reads.1, ap (λ (s : State). s.source) reads.1, moved),
-  reads.2,
-)
-ended_reads view old mid new (Err e) f reads same moved = (
-  reads.0,
-  record {
-    behind = ap (λ (s : State). s.behind) moved ∙ reads.1.behind;
-    room = ap (λ (s : State). s.room) moved ∙ reads.1.room;
-    source = ap (λ (s : State). s.source) moved ∙ reads.1.source;
-    failed = λ o. ap (λ (s : State). s.failed) moved ∙ reads.1.failed o;
-  },
-  reads.2,
-)

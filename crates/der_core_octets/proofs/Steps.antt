@@ -1,5 +1,6 @@
 -- Reading that goes on where a call before it stopped.
-use Rattle.std.proofs.Common.{◌≡◌, ℕ, Bool, true, false, List, Some, Result, Ok, Err, refl, ap, ◌∙◌}
+use Rattle.std.proofs.Common.{◌≡◌, ℕ, suc, zero, ◌+◌, Bool, true, false, List, [], ◌∷◌, ◌++◌, drop, Some, Result, Ok, Err, refl, ap, ◌∙◌}
+use Rattle.std.proofs.lemmas.List.{drop-drop}
 use Rattle.der_core_head.specs.declared.error.Error.{Error}
 use Rattle.der_core_head.specs.declared.error.ErrorKind.{ErrorKind}
 use Rattle.der_core_head.specs.declared.error.ErrorKind.TheVariants as kinds
@@ -8,20 +9,34 @@ use Rattle.der_core_head.specs.Octets.{Readings}
 use Rattle.der_core_head.specs.Heads.{Head, head_at}
 use Rattle.der_core_head.specs.Tags.{same_tag}
 use Rattle.der_core_head.specs.Grammar.{tlv_at, value_at, peek_at, opt_at}
-use Rattle.der_core_head.specs.Reading.{State, IsDer, Kept, Reads}
+use Rattle.der_core_head.specs.Reading.{State, IsDer, IsRest, Kept, Reads}
+
+-- a rest of a rest is a rest
+pub rest_then : (a b d : List ℕ) → IsRest b a → IsRest d b → IsRest d a
+rest_then a b d m n = (m.0 + n.0, n.1 ∙ ap (drop n.0) m.1 ∙ drop-drop n.0 m.0 a)
+
+-- and so with the same octets behind both
+pub rest_more : (n : ℕ) (xs ys : List ℕ) → IsRest (drop n xs ++ ys) (xs ++ ys)
+rest_more zero xs ys = (0, refl)
+rest_more (suc n) [] ys = (0, refl)
+rest_more (suc n) (x ∷ xs) ys =
+    let r = rest_more n xs ys in
+    (suc r.0, r.1)
 
 -- what is left to a later call is read by it
 pub reads_after : {T P : Type 0} (view : T → P) (old mid new : State) (r : Result T Error) (f g : Readings P)
-    → mid ≡ record old { rest = mid.rest } → old.failed ≡ false → (IsDer old → f old.rest ≡ g mid.rest) → Reads view mid new r g → Reads view old new r f
-reads_after view old mid new (Ok v) f g m ready e h = (
+    → mid ≡ record old { rest = mid.rest } → old.failed ≡ false → IsRest mid.rest old.rest → (IsDer old → f old.rest ≡ g mid.rest) → Reads view mid new r g → Reads view old new r f
+reads_after view old mid new (Ok v) f g m ready passed e h = (
   λ der. e der ∙ h.0 (ap (λ (s : State). s.source.encoding) m ∙ der),
   cc (ap (λ (s : State). s.behind) m, ap (λ (s : State). s.room) m, ap (λ (s : State). s.failed) m, ap (λ (s : State). s.source) m, h.1),
   ready,
+  rest_then old.rest mid.rest new.rest passed h.3,
 )
-reads_after view old mid new (Err d) f g m ready e h = (
+reads_after view old mid new (Err d) f g m ready passed e h = (
   λ der _ memory. e der ∙ h.0 (ap (λ (s : State). s.source.encoding) m ∙ der) (ap (λ (s : State). s.failed) m ∙ ready) memory,
-  record { behind = h.1.behind ∙ ap (λ (s : State). s.behind) m; room = h.1.room ∙ ap (λ (s : State). s.room) m; source = h.1.source ∙ ap (λ (s : State). s.source) m; failed = λ o. absurd (cc (o, ready)) },
+  record { rest = rest_then old.rest mid.rest new.rest passed h.1.rest; behind = h.1.behind ∙ ap (λ (s : State). s.behind) m; room = h.1.room ∙ ap (λ (s : State). s.room) m; source = h.1.source ∙ ap (λ (s : State). s.source) m; failed = λ o. absurd (cc (o, ready)) },
   λ o. absurd (cc (o, ready)),
+  h.3,
 )
 
 pub tlv_is : {P : Type 0} (tag : Tag) (f : Readings P) (w : List ℕ) (h : Head) (r : List ℕ) → head_at w ≡ Ok (h, r) → same_tag h.tag tag ≡ true → tlv_at tag f w ≡ value_at f h.len r
@@ -31,8 +46,9 @@ tlv_is tag f w h r e same = rw (e, same) refl
 pub frame_then : (a b d : State) → b ≡ record a { rest = b.rest } → d ≡ record b { rest = d.rest } → d ≡ record a { rest = d.rest }
 frame_then a b d m h = cc (ap (λ (s : State). s.behind) m, ap (λ (s : State). s.room) m, ap (λ (s : State). s.failed) m, ap (λ (s : State). s.source) m, h)
 
-pub kept_then : (a b d : State) → b ≡ record a { rest = b.rest } → Kept b d → Kept a d
-kept_then a b d m k = record {
+pub kept_then : (a b d : State) → b ≡ record a { rest = b.rest } → IsRest b.rest a.rest → Kept b d → Kept a d
+kept_then a b d m passed k = record {
+  rest = rest_then a.rest b.rest d.rest passed k.rest;
   behind = k.behind ∙ ap (λ (s : State). s.behind) m;
   room = k.room ∙ ap (λ (s : State). s.room) m;
   source = k.source ∙ ap (λ (s : State). s.source) m;

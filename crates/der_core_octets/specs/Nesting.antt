@@ -4,7 +4,24 @@ use Rattle.std.specs.Borrow.{MutBor}
 use Rattle.std.specs.Fn.{Once, FnOnceReturnsAtMut}
 use Rattle.der_core_head.specs.declared.error.Error.{Error}
 use Rattle.der_core_head.specs.declared.error.ErrorKind.TheVariants as kinds
+use Rattle.der_core_head.specs.declared.encoding_rules.EncodingRules.{EncodingRules}
+use Rattle.der_core_head.specs.declared.encoding_rules.EncodingRules.TheVariants as encodings
+use Rattle.der_core_head.specs.declared.tag.Tag.{Tag}
+use Rattle.der_core_head.specs.Octets.{Readings}
+use Rattle.der_core_head.specs.Heads.{Head, head_at}
+use Rattle.der_core_head.specs.Bodies.{head_ber_at}
 use Rattle.der_core_head.specs.Reading.{State, Kept, Refuses, entered}
+
+-- what reads headers by those rules
+abbrev pub head_by : EncodingRules → Readings Head
+head_by encodings.Der = head_at
+head_by encodings.Ber = head_ber_at
+
+-- a header of that tag and of n content octets stands next, by the rules of the reader, and mid is the reader behind it
+pub record Enters (t : Tag) (n : ℕ) (old mid : State) : Type 0 where
+  pub ready : old.failed ≡ false
+  pub head : head_by old.source.encoding old.rest ≡ Ok (record { tag = t; len = n }, mid.rest)
+  pub moved : mid ≡ record old { rest = mid.rest }
 
 -- the next n octets were passed over, and the end and the levels are those before
 pub record IsNested (n : ℕ) (old new : State) : Type 0 where
@@ -32,3 +49,23 @@ RefusesNested {R} state g f n old e =
     ⊎ (((old.failed ≡ false) × Refuses n old e.kind)
     ⊎ (((outer : R) × Called state g f n old (Err e) outer)
     ⊎ (LeavesOctets state g f n old × (e.kind ≡ kinds.TrailingData))))
+
+-- such a header was passed over, and its content
+abbrev pub IsEnclosed : Tag → State → State → Type 0
+IsEnclosed t old new = (n : ℕ) × (mid : State) × Enters t n old mid × IsNested n mid new
+
+-- f was called at that content, answered x, and left nothing
+abbrev pub AnsweredIn : {R T F : Type 0} → Tag → (R → State) → Once F (MutBor R × Unit {0}) (Result T Error × (MutBor R × Unit {0})) → F → State → T → Type 0
+AnsweredIn t state g f old x = (n : ℕ) × (mid : State) × Enters t n old mid × Answered state g f n mid x
+
+-- another tag stands there
+abbrev pub IsOther : Tag → State → Type 0
+IsOther t old = (s : Tag) × (n : ℕ) × (mid : State) × Enters s n old mid × (s ≢ t)
+
+-- why it was refused: the reader had failed, no header stands there, one of another tag, or f at the content was refused
+abbrev pub RefusesIn : {R T F : Type 0} → Tag → (R → State) → Once F (MutBor R × Unit {0}) (Result T Error × (MutBor R × Unit {0})) → F → State → Error → Type 0
+RefusesIn {R} {T} t state g f old e =
+    ((old.failed ≡ true) × (e.kind ≡ kinds.Failed))
+    ⊎ (((old.failed ≡ false) × (head_by old.source.encoding old.rest ≡ Err e.kind))
+    ⊎ ((IsOther t old × (e.kind ≡ kinds.TagUnexpected))
+    ⊎ ((n : ℕ) × (mid : State) × Enters t n old mid × RefusesNested {R = R} {T = T} state g f n mid e)))

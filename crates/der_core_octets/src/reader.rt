@@ -1,17 +1,17 @@
 //! Readers.
 
-ghost use Rattle.std.specs.Prelude.{◌≡◌, ◌↔◌, ◌+◌, ◌≤◌, ◌<◌, ◌^◌, ℕ, IsTrue, length, take, [], slice_get, Ok, OnOk, OnErr, IfOk, IfErr, IsSomeAnd, ◌≢◌, true, false};
-ghost use Rattle.der_core_head.specs.Tags.{tag_at};
-ghost use Rattle.der_core_head.specs.Heads.{head_at};
+ghost use Rattle.std.specs.Prelude.{◌≡◌, ◌↔◌, ◌+◌, ◌≤◌, ◌<◌, ◌^◌, ◌++◌, ℕ, List, IsTrue, length, take, [], slice_get, Ok, OnOk, OnErr, IfOk, IfErr, IsSomeAnd, ◌≢◌, true, false};
+ghost use Rattle.der_core_head.specs.Tags.{IsTag, tag_at};
+ghost use Rattle.der_core_head.specs.Heads.{head_octets, head_at};
 ghost use Rattle.der_core_head.specs.declared.encoding_rules.EncodingRules.TheVariants.{Ber, Der};
 ghost use Rattle.der_core_head.specs.Bodies.{head_ber_at, tag_ber_at};
 ghost use Rattle.der_core_head.specs.declared.tag.Tag.{Tag};
 ghost use Rattle.der_core_head.specs.declared.tag.Tag.TheVariants.{Sequence};
 ghost use Rattle.der_core_head.specs.Shapes.{Body, BodyValue, nested, tagged};
 ghost use Rattle.der_core_head.specs.Grammar.{slice_at, byte_at, peek_at, value_at, read_content, read};
-ghost use Rattle.der_core_head.specs.Reading.{State, Kept, ClosureReads, HandsBack, Reads, ReadsNow, ReadsBy, PeeksBy, Opens, Closes, past, broken};
+ghost use Rattle.der_core_head.specs.Reading.{State, IsDer, Kept, ClosureReads, HandsBack, Reads, ReadsNow, ReadsBy, ReadsAlways, GivesNow, PeeksBy, Opens, Closes, past, broken};
 ghost use Rattle.der_core_octets.specs.Fronts.{head_of, alone, peek_ber_at};
-ghost use Rattle.der_core_octets.specs.Nesting.{IsNested, Answered, RefusesNested};
+ghost use Rattle.der_core_octets.specs.Nesting.{IsNested, Answered, RefusesNested, IsEnclosed, AnsweredIn, RefusesIn};
 ghost use Rattle.der_core_octets.specs.Places.{IsAt, encoding_at};
 
 use crate::{header_by, tag_by};
@@ -20,8 +20,8 @@ use std::alloc::Global;
 
 /// What octets are read from: octets up to an end that can be set nearer, and a depth of ends.
 ///
-/// A reader that refused a call of `read_slice`, `read_byte`, `read_header` or `begin_nested` has
-/// failed: from then on each call that reads answers `Failed`.
+/// A reader that refused a call that reads has failed: from then on each such call answers `Failed`,
+/// and `is_failed` tells. A call that peeks leaves the reader as it is, also where it is refused.
 pub trait Reader<'r>: Drop {
     ghost state: { Self → State };
 
@@ -87,7 +87,7 @@ pub trait Reader<'r>: Drop {
         }
     }
 
-    /// The next octet, without passing over it.
+    /// The next octet, without passing over it. The reader stays as it is.
     final fn peek_byte(&self) -> Option<u8>
         ensures { result ≡ slice_get (state self.now).rest 0 }
     {
@@ -135,13 +135,21 @@ pub trait Reader<'r>: Drop {
     /// # Errors
     /// Those of `header_of`, and under BER those of `header_ber_of`.
     final fn read_header(&mut self) -> Result<Header, Error>
+        // Where DER rules, what is read is spelled so.
+        ensures spelled { IfOk result (λ h. IsDer (state self.old)
+            → IsTag h.tag × ((state self.old).rest ≡ head_octets h.tag h.length.value ++ (state self.new).rest)) }
+        // What is spelled so is read, whatever follows.
+        ensures only { (t : Tag) (n : ℕ) (r : List ℕ) → IsDer (state self.old) → (state self.old).failed ≡ false → IsTag t → n < 2 ^ 32
+            → (state self.old).rest ≡ head_octets t n ++ r → GivesNow head_of result (Ok (record { tag = t; len = n })) × ((state self.new).rest ≡ r) }
+        // Which fault it is.
         ensures der { ReadsBy Der head_of (state self.old) (state self.new) result head_at }
         ensures ber { ReadsBy Ber head_of (state self.old) (state self.new) result head_ber_at }
     {
         if self.is_failed() {
             return Err(Error::from(ErrorKind::Failed));
         }
-        match header_by(self.encoding_rules(), self.remaining()) {
+        let octets = self.remaining();
+        match header_by(self.encoding_rules(), octets) {
             Ok((header, len)) => {
                 self.skip(len);
                 Ok(header)
@@ -153,7 +161,7 @@ pub trait Reader<'r>: Drop {
         }
     }
 
-    /// The next header, by the rules of the reader, without passing over it.
+    /// The next header, by the rules of the reader, without passing over it. The reader stays as it is.
     ///
     /// # Errors
     /// Those of `read_header`.
@@ -171,7 +179,7 @@ pub trait Reader<'r>: Drop {
         }
     }
 
-    /// The next tag, by the rules of the reader, without passing over it.
+    /// The next tag, by the rules of the reader, without passing over it. The reader stays as it is.
     ///
     /// # Errors
     /// Those of `tag_of`, and under BER those of `tag_ber_of`.
@@ -189,7 +197,8 @@ pub trait Reader<'r>: Drop {
         }
     }
 
-    /// The next tag, by the rules of the reader, without passing over it, if octets are left.
+    /// The next tag, by the rules of the reader, without passing over it, if octets are left. The
+    /// reader stays as it is.
     ///
     /// # Errors
     /// Those of `peek_tag`.
@@ -210,15 +219,60 @@ pub trait Reader<'r>: Drop {
         }
     }
 
+    /// The next tag, by the rules of the reader, without passing over it, where a value has to stand.
+    ///
+    /// # Errors
+    /// Those of `peek_tag`. The reader has failed after them.
+    final fn next_tag(&mut self) -> Result<Tag, Error>
+        ensures der { PeeksBy Der (λ t. t) (state self.old) result (alone (tag_at (state self.old).rest)) }
+        ensures ber { PeeksBy Ber (λ t. t) (state self.old) result (alone (tag_ber_at (state self.old).rest)) }
+        ensures stays { OnOk result (state self.new ≡ state self.old) }
+        ensures failed { OnErr result (state self.new ≡ broken (state self.old)) }
+    {
+        match self.peek_tag() {
+            Ok(tag) => Ok(tag),
+            Err(error) => {
+                self.fail();
+                Err(error)
+            }
+        }
+    }
+
+    /// The next tag, by the rules of the reader, without passing over it, if octets are left where a
+    /// value may stand.
+    ///
+    /// # Errors
+    /// Those of `peek_tag`. The reader has failed after them.
+    final fn next_tag_or_end(&mut self) -> Result<Option<Tag>, Error>
+        ensures der { PeeksBy Der (λ t. t) (state self.old) result (peek_at (state self.old).rest) }
+        ensures ber { PeeksBy Ber (λ t. t) (state self.old) result (peek_ber_at (state self.old).rest) }
+        ensures stays { OnOk result (state self.new ≡ state self.old) }
+        ensures failed { OnErr result (state self.new ≡ broken (state self.old)) }
+    {
+        match self.peek_tag_or_end() {
+            Ok(tag) => Ok(tag),
+            Err(error) => {
+                self.fail();
+                Err(error)
+            }
+        }
+    }
+
     /// The next octets, copied.
     ///
     /// # Errors
     /// `Incomplete` where fewer are left, or `OutOfMemory`.
     final fn read_vec(&mut self, alloc: Global, len: Length) -> Result<Vec<u8>, Error>
-        ensures { Reads (λ v. v.items) (state self.old) (state self.new) result (slice_at len.value) }
+        ensures { ReadsAlways (λ v. v.items) (state self.old) (state self.new) result (slice_at len.value) }
     {
         let octets = self.read_slice(len)?;
-        Ok(octets.to_vec(alloc)?)
+        match octets.to_vec(alloc) {
+            Ok(copy) => Ok(copy),
+            Err(error) => {
+                self.fail();
+                Err(Error::from(error))
+            }
+        }
     }
 
     /// The octets of the next encoding, its header among them, by the rules of the reader. The
@@ -249,7 +303,8 @@ pub trait Reader<'r>: Drop {
         Ok(&octets[..count + len])
     }
 
-    /// Copies the next octets, as many as there is room for, without passing over them.
+    /// Copies the next octets, as many as there is room for, without passing over them. The reader
+    /// stays as it is.
     ///
     /// # Errors
     /// `Incomplete` where fewer are left.
@@ -355,6 +410,7 @@ pub trait Reader<'r>: Drop {
         // The answer is that of the closure, which left nothing up to the end set for it.
         ensures ran { IfOk result (λ x. Answered state F.FnOnce f len.value (state self.old) x) }
         ensures kept { OnErr result (Kept (state self.old) (state self.new)) }
+        ensures failed { OnErr result ((state self.new).failed ≡ true) }
         ensures refused { IfErr result (RefusesNested state F.FnOnce f len.value (state self.old)) }
         // What the closure reads of a body, this reads of a content.
         ensures reads { (t : Tag) (b : Body) (view : T → BodyValue b) → ClosureReads state F.FnOnce f b view
@@ -380,6 +436,7 @@ pub trait Reader<'r>: Drop {
         ensures moved { OnOk result (IsNested header.length.value (state self.old) (state self.new)) }
         ensures ran { IfOk result (λ x. Answered state F.FnOnce f header.length.value (state self.old) x) }
         ensures kept { OnErr result (Kept (state self.old) (state self.new)) }
+        ensures failed { OnErr result ((state self.new).failed ≡ true) }
         ensures refused { IfErr result (RefusesNested state F.FnOnce f header.length.value (state self.old)) }
         ensures reads { (b : Body) (view : T → BodyValue b) → ClosureReads state F.FnOnce f b view
             → Reads view (state self.old) (state self.new) result (value_at (read_content (nested b) header.tag (state self.old).room) header.length.value) }
@@ -398,7 +455,13 @@ pub trait Reader<'r>: Drop {
     ) -> Result<T, Error>
         requires callable { F.IsAlwaysCallable f }
         requires hands_back { HandsBack state F.FnOnce f }
+        // By either rules a header of a SEQUENCE stands there, and it and its content were passed over.
+        ensures moved { OnOk result (IsEnclosed Sequence (state self.old) (state self.new)) }
+        // The answer is that of the closure, which left nothing of the content.
+        ensures ran { IfOk result (λ x. AnsweredIn Sequence state F.FnOnce f (state self.old) x) }
         ensures kept { Kept (state self.old) (state self.new) }
+        ensures failed { OnErr result ((state self.new).failed ≡ true) }
+        ensures refused { IfErr result (RefusesIn Sequence state F.FnOnce f (state self.old)) }
         ensures reads { (b : Body) (view : T → BodyValue b) → ClosureReads state F.FnOnce f b view
             → Reads view (state self.old) (state self.new) result (read (tagged Sequence (nested b)) (state self.old).room) }
     {

@@ -1,4 +1,5 @@
 //! Tests of identifiers and of the coding core.
 
 mod coding;
+mod constants;
 mod identifiers;

@@ -1,10 +1,6 @@
-//! Capacities, borrowed identifiers, and types that have an identifier.
+//! Capacities and borrowed identifiers.
 
-ghost use Rattle.std.specs.Prelude.{◌∷◌, []};
-
-use const_oid::{
-    AssociatedOid, DynAssociatedOid, Error, ObjectIdentifier, ObjectIdentifierRef, Result, laws,
-};
+use const_oid::{Error, ObjectIdentifier, ObjectIdentifierRef, Result, laws};
 use std::cmp::Ordering;
 use std::convert::AsSlice;
 use std::hash::{DefaultHasher, Hash, Hasher};
@@ -15,9 +11,6 @@ type Identifier = ObjectIdentifier<39>;
 fn capacities(rt: HostRuntime) -> Result<()> {
     let text = "1.2.840.10045.2.1";
     let oid = Identifier::new(text)?;
-    if Identifier::new(text).is_ok() {
-        assert!(rt; Identifier::new_unwrap(text) == oid);
-    }
     let borrowed = oid.as_oid_ref();
     let octets = borrowed.as_bytes();
     assert_eq!(rt; Identifier::MAX_SIZE, 39);
@@ -54,27 +47,5 @@ fn borrowed_identifiers(rt: HostRuntime) -> Result<()> {
     }
     assert!(rt; arcs.next().is_none());
     assert!(rt; arcs.next().is_none());
-    Ok(())
-}
-
-/// The attribute 2.5.4.3 (X.520 6.2.2).
-struct CommonName;
-
-impl AssociatedOid for CommonName {
-    ghost oid_arcs = { 2 ∷ 5 ∷ 4 ∷ 3 ∷ [] };
-
-    #[tactic(auto, unfolding(const_oid_identifiers::specs::IdentifierOctets::read_identifier, const_oid_identifiers::specs::IdentifierOctets::read_arcs, const_oid_identifiers::specs::Bound::Bound))]
-    fn associated_oid() -> ObjectIdentifier<39> {
-        match ObjectIdentifier::<39>::from_bytes(&[0x55, 0x04, 0x03]) {
-            Ok(oid) => oid,
-            Err(_) => unreachable!(),
-        }
-    }
-}
-
-#[test]
-fn identifiers_of_types(rt: HostRuntime) -> Result<()> {
-    let value: &dyn DynAssociatedOid = &CommonName;
-    assert!(rt; value.oid() == Identifier::new("2.5.4.3")?);
     Ok(())
 }

@@ -10,4 +10,4 @@ returns-then-remaining-amount g c =
 pub returns : goal.returns
 returns g c =
     let all = slice_ok c.args.amount.value (g.Self.Reader.state c.args.self.now).rest (omega (arith, ap length c.remaining.ensures.rest)) in
-    rw c.skip.ensures (all, refl, cc)
+    rw c.skip.ensures (all, refl, cc, (c.args.amount.value, refl))

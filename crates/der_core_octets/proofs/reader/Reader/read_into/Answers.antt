@@ -11,7 +11,7 @@ returns-in-Ok-clause-reads g c =
     let n = length c.args.buffer.now in
     let same : length c.peek_into.new.buffer ≡ n = omega (arith, ap length ok.0, length-take n old.rest, ok.1) in
     let moved : g.Self.Reader.state c.skip.new.self ≡ past n old = c.skip.ensures ∙ ap (λ k. past k old) same in
-    rw (moved, ok.0) (slice_ok n old.rest ok.1, refl, ok.2)
+    rw (moved, ok.0) (slice_ok n old.rest ok.1, refl, ok.2, (n, refl))
 
 pub returns-in-Err-clause-reads : goal.returns-in-Err-clause-reads
 returns-in-Err-clause-reads g c =

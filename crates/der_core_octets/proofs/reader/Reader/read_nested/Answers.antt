@@ -5,7 +5,7 @@ use Rattle.der_core_head.specs.Grammar.{read_body}
 use Rattle.der_core_head.specs.Reading.{State, Reads, Kept, Closes, entered}
 use Rattle.der_core_octets.specs.Nesting.{Called}
 use Rattle.der_core_octets.proofs.Nested.{refused, behind_long, gives, trails, broken_kept}
-use Rattle.der_core_octets.proofs.Closures.{not_opened, nested_moved, nested_kept, left_kept, nested_ran, nested_refused, left_refused}
+use Rattle.der_core_octets.proofs.Closures.{not_opened, nested_moved, nested_kept, nested_failed, left_failed, left_kept, nested_ran, nested_refused, left_refused}
 use Rattle.der_core_octets.proofs.reader.Reader.read_nested.Goals as goal
 
 pub returns-in_err-behind : goal.returns-in_err-behind
@@ -20,8 +20,9 @@ returns-in_err-behind g c =
       moved = tt;
       ran = tt;
       kept = broken_kept _ _ opens.1;
+      failed = ap (λ (s : State). s.failed) opens.1;
       refused = not_opened state g.F.FnOnce c.args.f n 0 old old e opens.0 opens.2;
-      reads = λ t b view calls. (λ _ ready. refused t e.kind n old b (opens.0 ready), broken_kept _ _ opens.1, opens.2);
+      reads = λ t b view calls. (λ _ ready. refused t e.kind n old b (opens.0 ready), broken_kept _ _ opens.1, opens.2, ap (λ (s : State). s.failed) opens.1);
     })
 
 pub end_nested-requires : goal.end_nested-requires
@@ -56,6 +57,7 @@ returns-in_err-end_nested g c =
       moved = tt;
       ran = tt;
       kept = left_kept state g.F.FnOnce c.args.f n taken old new outer opens.0 opens.1 opens.3 kept r e closes;
+      failed = left_failed state g.F.FnOnce c.args.f n taken old new outer opens.0 opens.1 opens.3 kept r e closes;
       refused = left_refused state g.F.FnOnce c.args.f n taken old new outer opens.0 opens.1 opens.3 kept r e called closes;
       reads = λ t b view calls.
           let met = calls c.begin_nested.new.self r outer call in
@@ -84,6 +86,7 @@ returns g c =
       moved = nested_moved state g.F.FnOnce c.args.f n taken old new outer opens.0 opens.1 opens.3 kept r closes;
       ran = nested_ran state g.F.FnOnce c.args.f n taken old new outer opens.0 opens.1 opens.3 kept r called closes;
       kept = nested_kept state g.F.FnOnce c.args.f n taken old new outer opens.0 opens.1 opens.3 kept r closes;
+      failed = nested_failed state g.F.FnOnce c.args.f n taken old new outer opens.0 opens.1 opens.3 kept r closes;
       refused = nested_refused state g.F.FnOnce c.args.f n taken old new outer opens.0 opens.1 opens.3 kept r called;
       reads = λ t b view calls.
           let met = calls c.begin_nested.new.self r outer call in

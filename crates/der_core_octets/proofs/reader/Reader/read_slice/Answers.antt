@@ -10,4 +10,4 @@ returns-then-octets-len g c =
 pub returns : goal.returns
 returns g c =
     let all = slice_ok c.args.len.value (g.Self.Reader.state c.args.self.now).rest (omega (arith, ap length c.remaining-octets.ensures.rest)) in
-    rw (c.remaining-octets.ensures.rest, c.skip.ensures) (all, refl, cc)
+    rw (c.remaining-octets.ensures.rest, c.skip.ensures) (all, refl, cc, (c.args.len.value, refl))

@@ -1,4 +1,4 @@
-use Rattle.std.proofs.Common.{◌≡◌, ℕ, List, Ok, Err, length, drop, refl, ap, sym, subst, ◌∙◌, arith}
+use Rattle.std.proofs.Common.{◌≡◌, ◌+◌, ℕ, List, Ok, Err, length, drop, refl, ap, sym, subst, ◌∙◌, arith}
 use Rattle.der_core_head.specs.declared.error.ErrorKind.{ErrorKind}
 use Rattle.der_core_head.specs.Heads.{head_at}
 use Rattle.der_core_head.specs.Bodies.{head_ber_at}
@@ -33,6 +33,7 @@ returns-clause-der g c =
       λ same. all_octets head_at _ _ n (subst P rest (c.in-Ok.ensures.der (c.encoding_rules.ensures ∙ same)).0) (omega (arith, long, c.in-Ok.ensures.within)) (omega (arith, long, c.if-octets-count.false)),
       refl,
       cc,
+      (n + c.in-Ok.front.0.length.value, refl),
     )
 
 pub returns-in-Err-clause-ber : goal.returns-in-Err-clause-ber
@@ -62,4 +63,5 @@ returns-clause-ber g c =
       λ same. all_octets head_ber_at _ _ n (subst P rest (c.in-Ok.ensures.ber (c.encoding_rules.ensures ∙ same)).0) (omega (arith, long, c.in-Ok.ensures.within)) (omega (arith, long, c.if-octets-count.false)),
       refl,
       cc,
+      (n + c.in-Ok.front.0.length.value, refl),
     )
