@@ -1,6 +1,7 @@
 pub mod Octets
 pub mod Tags
 pub mod Classes
+pub mod TagNames
 pub mod ModeNames
 pub mod Heads
 pub mod Integers

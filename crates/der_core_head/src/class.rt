@@ -1,7 +1,8 @@
 //! Classes of tags.
 
-ghost use Rattle.std.specs.Prelude.{◌≡◌, ◌*◌, ◌/◌};
+ghost use Rattle.std.specs.Prelude.{◌≡◌, ◌*◌, ◌/◌, Some};
 ghost use Rattle.der_core_head.specs.Classes.{class_number};
+ghost use Rattle.der_core_head.specs.TagNames.{class_name};
 
 use std::fmt;
 
@@ -65,12 +66,14 @@ impl From<u8> for Class {
 }
 
 impl fmt::Display for Class {
+    ghost output = { λ class. Some (class_name class) };
+
     fn fmt<W: fmt::Write>(&self, f: &mut fmt::Formatter<W>) -> fmt::Result {
-        f.write_str(match self {
-            Class::Universal => "UNIVERSAL",
-            Class::Application => "APPLICATION",
-            Class::ContextSpecific => "CONTEXT-SPECIFIC",
-            Class::Private => "PRIVATE",
-        })
+        match self {
+            Class::Universal => f.write_str("UNIVERSAL"),
+            Class::Application => f.write_str("APPLICATION"),
+            Class::ContextSpecific => f.write_str("CONTEXT-SPECIFIC"),
+            Class::Private => f.write_str("PRIVATE"),
+        }
     }
 }

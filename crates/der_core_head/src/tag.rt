@@ -1,7 +1,9 @@
 //! Tags.
 
-ghost use Rattle.std.specs.Prelude.{◌≡◌, ◌≢◌, ◌<◌, ◌↔◌, IsTrue, IfOk, IfErr};
+ghost use Rattle.std.specs.Fmt.{WritesOnOk};
+ghost use Rattle.std.specs.Prelude.{◌≡◌, ◌≢◌, ◌<◌, ◌↔◌, IsTrue, IfOk, IfErr, Some};
 ghost use Rattle.der_core_head.specs.Classes.{class_number, tag_class};
+ghost use Rattle.der_core_head.specs.TagNames.{numbered_name, tag_name};
 ghost use Rattle.der_core_head.specs.Tags.{leading, low_bits, leading_octet, number_of, is_constructed, same_tag};
 
 use crate::class::Class;
@@ -234,43 +236,62 @@ pub fn is_same_tag(a: Tag, b: Tag) -> bool
     leading_octet_of(a) == leading_octet_of(b) && number_of(a) == number_of(b)
 }
 
+/// Writes the name of a tag of another class than the universal one.
+fn write_numbered<W: fmt::Write>(
+    class: Class,
+    number: TagNumber,
+    constructed: bool,
+    f: &mut fmt::Formatter<W>,
+) -> fmt::Result
+    ensures { WritesOnOk W.write_str_gives f.old result (numbered_name class number.value constructed) f.new }
+{
+    if constructed {
+        write!(f, "{class} [{number}] (constructed)")
+    } else {
+        write!(f, "{class} [{number}] (primitive)")
+    }
+}
+
 /// The name of its type (X.680), or its class, its number and whether it is constructed.
 impl fmt::Display for Tag {
+    ghost output = { λ tag. Some (tag_name tag) };
+
     fn fmt<W: fmt::Write>(&self, f: &mut fmt::Formatter<W>) -> fmt::Result {
-        let name = match self {
-            Tag::Boolean => "BOOLEAN",
-            Tag::Integer => "INTEGER",
-            Tag::BitString => "BIT STRING",
-            Tag::OctetString => "OCTET STRING",
-            Tag::Null => "NULL",
-            Tag::ObjectIdentifier => "OBJECT IDENTIFIER",
-            Tag::Real => "REAL",
-            Tag::Enumerated => "ENUMERATED",
-            Tag::Utf8String => "UTF8String",
-            Tag::RelativeOid => "RELATIVE OID",
-            Tag::Sequence => "SEQUENCE",
-            Tag::Set => "SET",
-            Tag::NumericString => "NumericString",
-            Tag::PrintableString => "PrintableString",
-            Tag::TeletexString => "TeletexString",
-            Tag::VideotexString => "VideotexString",
-            Tag::Ia5String => "IA5String",
-            Tag::UtcTime => "UTCTime",
-            Tag::GeneralizedTime => "GeneralizedTime",
-            Tag::VisibleString => "VisibleString",
-            Tag::GeneralString => "GeneralString",
-            Tag::BmpString => "BMPString",
-            Tag::Application { .. } | Tag::ContextSpecific { .. } | Tag::Private { .. } => {
-                let class = self.class();
-                let number = self.number();
-                let form = if self.is_constructed() {
-                    "constructed"
-                } else {
-                    "primitive"
-                };
-                return write!(f, "{class} [{number}] ({form})");
-            }
-        };
-        f.write_str(name)
+        match *self {
+            Tag::Boolean => f.write_str("BOOLEAN"),
+            Tag::Integer => f.write_str("INTEGER"),
+            Tag::BitString => f.write_str("BIT STRING"),
+            Tag::OctetString => f.write_str("OCTET STRING"),
+            Tag::Null => f.write_str("NULL"),
+            Tag::ObjectIdentifier => f.write_str("OBJECT IDENTIFIER"),
+            Tag::Real => f.write_str("REAL"),
+            Tag::Enumerated => f.write_str("ENUMERATED"),
+            Tag::Utf8String => f.write_str("UTF8String"),
+            Tag::RelativeOid => f.write_str("RELATIVE OID"),
+            Tag::Sequence => f.write_str("SEQUENCE"),
+            Tag::Set => f.write_str("SET"),
+            Tag::NumericString => f.write_str("NumericString"),
+            Tag::PrintableString => f.write_str("PrintableString"),
+            Tag::TeletexString => f.write_str("TeletexString"),
+            Tag::VideotexString => f.write_str("VideotexString"),
+            Tag::Ia5String => f.write_str("IA5String"),
+            Tag::UtcTime => f.write_str("UTCTime"),
+            Tag::GeneralizedTime => f.write_str("GeneralizedTime"),
+            Tag::VisibleString => f.write_str("VisibleString"),
+            Tag::GeneralString => f.write_str("GeneralString"),
+            Tag::BmpString => f.write_str("BMPString"),
+            Tag::Application {
+                constructed,
+                number,
+            } => write_numbered(Class::Application, number, constructed, f),
+            Tag::ContextSpecific {
+                constructed,
+                number,
+            } => write_numbered(Class::ContextSpecific, number, constructed, f),
+            Tag::Private {
+                constructed,
+                number,
+            } => write_numbered(Class::Private, number, constructed, f),
+        }
     }
 }

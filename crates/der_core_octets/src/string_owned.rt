@@ -1,6 +1,12 @@
 //! Owned text that a length can count.
 
-ghost use Rattle.std.specs.Prelude.{◌≡◌, ◌↔◌, ◌<◌, ◌^◌, [], length, IsTrue, true};
+ghost use Rattle.std.specs.Prelude.{◌≡◌, ◌↔◌, ◌<◌, ◌^◌, [], length, nat_eq, IsTrue, IfOk, Some, true};
+ghost use Rattle.std.proofs.Common.{refl, rules};
+ghost use Rattle.std.specs.Cmp.{partial_equiv_from_equiv};
+ghost use Rattle.std.specs.Cmp.Lexicographic.{pointwise, slice_cmp, nat_list_eq_equiv, nat_list_cmp_total, texts_po, texts_ties};
+ghost use Rattle.std.specs.Cmp.Rules.{hashing};
+ghost use Rattle.std.specs.Hash as fed;
+ghost use Rattle.std.specs.Ordering.{nat_cmp};
 ghost use Rattle.std.specs.String.{string_bytes};
 ghost use Rattle.std.specs.Str.{is_utf8};
 ghost use Rattle.der_core_head.specs.Lengths.{counted, counted_text};
@@ -8,12 +14,14 @@ ghost use Rattle.der_core_head.specs.Reading.{Gives, GivesNow};
 
 use crate::string_ref::StringRef;
 use der_core_head::{Error, ErrorKind, Length};
-use std::alloc::Global;
+use std::alloc::{AllocError, Global};
+use std::cmp::Ordering;
 use std::convert::AsStr;
+use std::hash::{Hash, Hasher};
 use std::marker::Model;
 
 /// Owned text, at most `Length::MAX` octets of UTF-8. A contract sees its octets.
-#[derive(Drop)]
+#[derive(Debug, Drop)]
 pub struct StringOwned {
     text: String,
 }
@@ -58,6 +66,24 @@ impl StringOwned {
         Ok(StringOwned { text })
     }
 
+    /// A copy.
+    ///
+    /// # Errors
+    /// Want of memory.
+    pub fn clone(&self, alloc: Global) -> Result<StringOwned, AllocError>
+        ensures { IfOk result (λ copy. copy ≡ self.now) }
+    {
+        let text = String::from_str(alloc, self.as_str())?;
+        Ok(StringOwned { text })
+    }
+
+    /// The text, given back.
+    pub fn into_string(self) -> String
+        ensures { string_bytes result ≡ self }
+    {
+        self.text
+    }
+
     /// The text.
     pub fn as_str(&self) -> &str
         ensures text { result.now ≡ self.now }
@@ -98,5 +124,55 @@ impl AsStr for StringOwned {
 
     fn as_str(&self) -> &str {
         self.text.as_str()
+    }
+}
+
+/// Texts are equal where their octets are.
+impl PartialEq for StringOwned {
+    ghost eq = { pointwise nat_eq };
+
+    ghost laws = { partial_equiv_from_equiv nat_list_eq_equiv };
+
+    fn eq(&self, other: &Self) -> bool {
+        self.as_bytes() == other.as_bytes()
+    }
+}
+
+impl Eq for StringOwned {
+    ghost laws = { nat_list_eq_equiv };
+}
+
+/// The order of the octets.
+impl PartialOrd for StringOwned {
+    ghost partial_cmp = { λ a b. Some (slice_cmp nat_cmp a b) };
+
+    ghost laws = { texts_po };
+
+    fn partial_cmp(&self, other: &Self) -> Option<Ordering> {
+        Some(self.cmp(other))
+    }
+}
+
+impl Ord for StringOwned {
+    ghost cmp = { slice_cmp nat_cmp };
+
+    ghost total = { nat_list_cmp_total };
+
+    ghost matches_partial_cmp = { λ a b. refl };
+
+    ghost matches_eq = { texts_ties };
+
+    fn cmp(&self, other: &Self) -> Ordering {
+        self.as_bytes().cmp(other.as_bytes())
+    }
+}
+
+impl Hash for StringOwned {
+    ghost hash_input = { fed.str };
+
+    ghost respects_eq = { Prim.search (hashing, rules) };
+
+    fn hash<H: Hasher>(&self, state: &mut H) {
+        self.as_str().hash(state);
     }
 }

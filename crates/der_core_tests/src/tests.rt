@@ -2,4 +2,6 @@
 
 mod coding;
 mod constants;
+mod held;
 mod identifiers;
+mod kinds;

@@ -1,0 +1,52 @@
+//! What the kinds of errors print.
+
+use der_core::{ErrorKind, Tag};
+use std::test::Fail;
+
+#[test]
+fn texts_of_kinds(rt: HostRuntime) -> Result<(), Fail> {
+    for (kind, text) in [
+        (ErrorKind::DateTime, "no date from 1970 to 9999"),
+        (ErrorKind::EncodingRules, "unknown encoding rules"),
+        (ErrorKind::Failed, "the reader or writer failed before"),
+        (ErrorKind::Incomplete, "the octets end too early"),
+        (
+            ErrorKind::IndefiniteLength,
+            "an indefinite length is not allowed here",
+        ),
+        (
+            ErrorKind::Length { tag: Tag::Integer },
+            "wrong length of INTEGER",
+        ),
+        (ErrorKind::NestingDepth, "too many levels are open"),
+        (
+            ErrorKind::Noncanonical { tag: Tag::Set },
+            "SET is not in the form that DER allows",
+        ),
+        (ErrorKind::OidMalformed, "malformed object identifier"),
+        (ErrorKind::OidUnknown, "unknown object identifier"),
+        (ErrorKind::OutOfMemory, "out of memory"),
+        (
+            ErrorKind::Overflow,
+            "a length passes 32 bits or falls below zero",
+        ),
+        (ErrorKind::Overlength, "a length has too many octets"),
+        (ErrorKind::Reader, "the reader can not do this"),
+        (ErrorKind::SetDuplicate, "a member of a set stands twice"),
+        (
+            ErrorKind::SetOrdering,
+            "the members of a set are out of order",
+        ),
+        (ErrorKind::TagModeUnknown, "unknown tag mode"),
+        (ErrorKind::TagNumberInvalid, "invalid tag number"),
+        (ErrorKind::TagUnexpected, "another tag must stand here"),
+        (ErrorKind::TagUnknown, "unknown tag"),
+        (ErrorKind::TrailingData, "octets are left behind the value"),
+        (ErrorKind::Utf8, "the text is not UTF-8"),
+        (ErrorKind::Value { tag: Tag::Null }, "wrong value of NULL"),
+    ] {
+        let printed = kind.to_string(rt.alloc())?;
+        assert_eq!(rt; printed.as_str(), text);
+    }
+    Ok(())
+}
