@@ -6,5 +6,6 @@ pub mod Facts
 pub mod Nested
 pub mod Steps
 mod Encodings
+mod Wanted
 mod Closures
 mod Spelled

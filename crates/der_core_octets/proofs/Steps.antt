@@ -1,15 +1,16 @@
 -- Reading that goes on where a call before it stopped.
-use Rattle.std.proofs.Common.{◌≡◌, ℕ, suc, zero, ◌+◌, Bool, true, false, List, [], ◌∷◌, ◌++◌, drop, Some, Result, Ok, Err, refl, ap, ◌∙◌}
+use Rattle.std.proofs.Common.{◌≡◌, ℕ, suc, zero, ◌+◌, Bool, true, false, List, [], ◌∷◌, ◌++◌, drop, Some, Result, Ok, Err, refl, ap, ◌∙◌, if◌then◌else◌}
 use Rattle.std.proofs.lemmas.List.{drop-drop}
 use Rattle.der_core_head.specs.declared.error.Error.{Error}
 use Rattle.der_core_head.specs.declared.error.ErrorKind.{ErrorKind}
 use Rattle.der_core_head.specs.declared.error.ErrorKind.TheVariants as kinds
 use Rattle.der_core_head.specs.declared.tag.Tag.{Tag}
-use Rattle.der_core_head.specs.Octets.{Readings}
+use Rattle.der_core_head.specs.Octets.{Readings, ◌>>=◌}
 use Rattle.der_core_head.specs.Heads.{Head, head_at}
 use Rattle.der_core_head.specs.Tags.{same_tag}
 use Rattle.der_core_head.specs.Grammar.{tlv_at, value_at, peek_at, opt_at}
 use Rattle.der_core_head.specs.Reading.{State, IsDer, IsRest, Kept, Reads}
+use Rattle.der_core_octets.specs.Fronts.{wanted_at}
 
 -- a rest of a rest is a rest
 pub rest_then : (a b d : List ℕ) → IsRest b a → IsRest d b → IsRest d a
@@ -42,6 +43,23 @@ reads_after view old mid new (Err d) f g m ready passed e h = (
 pub tlv_is : {P : Type 0} (tag : Tag) (f : Readings P) (w : List ℕ) (h : Head) (r : List ℕ) → head_at w ≡ Ok (h, r) → same_tag h.tag tag ≡ true → tlv_at tag f w ≡ value_at f h.len r
 unfolding tlv_at
 tlv_is tag f w h r e same = rw (e, same) refl
+
+-- a value behind a header of its tag
+behind_tag : {P : Type 0} (b : Bool) (h : Head × List ℕ) (f : Readings P)
+    → (if b then value_at f h.0.len h.1 else Err kinds.TagUnexpected) ≡ ((if b then Ok h else Err kinds.TagUnexpected) >>= λ x. value_at f x.0.len x.1)
+behind_tag true h f = refl
+behind_tag false h f = refl
+
+behind_head : {P : Type 0} (tag : Tag) (f : Readings P) (r : Result (Head × List ℕ) ErrorKind)
+    → (r >>= λ h. if same_tag h.0.tag tag then value_at f h.0.len h.1 else Err kinds.TagUnexpected)
+    ≡ (r >>= λ h. if same_tag h.0.tag tag then Ok h else Err kinds.TagUnexpected) >>= λ x. value_at f x.0.len x.1
+behind_head tag f (Err k) = refl
+behind_head tag f (Ok h) = behind_tag (same_tag h.0.tag tag) h f
+
+-- an encoding is a header of the wanted tag, and its content
+pub tlv_wanted : {P : Type 0} (tag : Tag) (f : Readings P) (w : List ℕ) → tlv_at tag f w ≡ (wanted_at tag head_at w >>= λ h. value_at f h.0.len h.1)
+unfolding tlv_at wanted_at
+tlv_wanted tag f w = behind_head tag f (head_at w)
 
 pub frame_then : (a b d : State) → b ≡ record a { rest = b.rest } → d ≡ record b { rest = d.rest } → d ≡ record a { rest = d.rest }
 frame_then a b d m h = cc (ap (λ (s : State). s.behind) m, ap (λ (s : State). s.room) m, ap (λ (s : State). s.failed) m, ap (λ (s : State). s.source) m, h)

@@ -8,7 +8,7 @@ use Rattle.der_core_head.specs.declared.class.Class.{Class}
 use Rattle.der_core_head.specs.declared.header.Header.{Header}
 use Rattle.der_core_head.specs.declared.tag.Tag.{Tag}
 use Rattle.der_core_head.specs.Classes.{class_number, tag_class}
-use Rattle.der_core_head.specs.Tags.{number_of}
+use Rattle.der_core_head.specs.Tags.{number_of, same_tag}
 use Rattle.der_core_head.specs.Octets.{Readings, ◌>>=◌}
 use Rattle.der_core_head.specs.Heads.{Head}
 use Rattle.der_core_head.specs.Bodies.{tag_ber_at}
@@ -22,6 +22,10 @@ head_of h = record { tag = h.tag; len = h.length.value }
 abbrev pub Counts : {X P : Type 0} → (X → P) → List ℕ → Result (X × ℕ) Error → Readings P → Type 0
 Counts view w (Ok x) f = (f w ≡ Ok (view x.0, drop x.1 w)) × (x.1 ≤ length w)
 Counts view w (Err e) f = f w ≡ Err e.kind
+
+-- a header of a wanted tag, by what reads headers
+unfoldable pub wanted_at : Tag → Readings Head → Readings Head
+wanted_at tag head w = head w >>= λ h. if same_tag h.0.tag tag then Ok h else Err kinds.TagUnexpected
 
 -- what was read, without the rest
 abbrev pub alone : {P : Type 0} → Result (P × List ℕ) ErrorKind → Result P ErrorKind

@@ -7,7 +7,9 @@ ghost use Rattle.der_core_head.specs.Tags.{universal_tag, class_tag, digits_at, 
 ghost use Rattle.der_core_head.specs.Heads.{length_at, head_at};
 ghost use Rattle.der_core_octets.specs.Fronts.{Counts, head_of};
 
-use der_core_head::{Error, ErrorKind, Header, Length, Tag, TagNumber};
+use der_core_head::{
+    Error, ErrorKind, Header, Length, Tag, TagNumber, leading_octet_of, number_of,
+};
 
 /// The tag of the universal class that an octet spells, if it is one that is read.
 #[tactic(auto, unfolding(der_core_head::specs::Tags::universal_tag))]
@@ -260,6 +262,23 @@ fn plain_header_of(octets: &[u8]) -> Option<(Header, usize)>
     // The length first, so that what a caller then asks of the tag is asked of its octet.
     let (length, count) = shortest_length_of(rest)?;
     let tag = short_tag_of(*first)?;
+    Some((Header { tag, length }, 1 + count))
+}
+
+/// The header of a wanted tag at the front of octets, and how many octets it takes, if the tag is
+/// spelled in one octet. One comparison tells it, and the tag isn't made from its octet.
+#[inline(always)]
+pub fn plain_header_of_tag(tag: Tag, octets: &[u8]) -> Option<(Header, usize)>
+    ensures front { IfSome result (λ x. Counts head_of octets.now (Ok x) head_at) }
+    ensures tag { IfSome result (λ x. x.0.tag ≡ tag) }
+{
+    let [first, rest @ ..] = octets else {
+        return None;
+    };
+    if *first != leading_octet_of(tag) || number_of(tag) > 30 {
+        return None;
+    }
+    let (length, count) = shortest_length_of(rest)?;
     Some((Header { tag, length }, 1 + count))
 }
 

@@ -10,11 +10,11 @@ ghost use Rattle.der_core_head.specs.declared.tag.Tag.TheVariants.{Sequence};
 ghost use Rattle.der_core_head.specs.Shapes.{Body, BodyValue, nested, tagged};
 ghost use Rattle.der_core_head.specs.Grammar.{slice_at, byte_at, peek_at, value_at, read_content, read};
 ghost use Rattle.der_core_head.specs.Reading.{State, IsDer, Kept, ClosureReads, HandsBack, Reads, ReadsNow, ReadsBy, ReadsAlways, GivesNow, PeeksBy, Opens, Closes, past, broken};
-ghost use Rattle.der_core_octets.specs.Fronts.{head_of, alone, peek_ber_at};
+ghost use Rattle.der_core_octets.specs.Fronts.{head_of, wanted_at, alone, peek_ber_at};
 ghost use Rattle.der_core_octets.specs.Nesting.{IsNested, Answered, RefusesNested, IsEnclosed, AnsweredIn, RefusesIn};
 ghost use Rattle.der_core_octets.specs.Places.{IsAt, encoding_at};
 
-use crate::{header_by, tag_by};
+use crate::{header_by, header_of_tag_by, tag_by};
 use der_core_head::{EncodingRules, Error, ErrorKind, Header, Length, Tag, is_same_tag};
 use std::alloc::Global;
 
@@ -150,6 +150,31 @@ pub trait Reader<'r>: Drop {
         }
         let octets = self.remaining();
         match header_by(self.encoding_rules(), octets) {
+            Ok((header, len)) => {
+                self.skip(len);
+                Ok(header)
+            }
+            Err(error) => {
+                self.fail();
+                Err(error.found_at(self.position()))
+            }
+        }
+    }
+
+    /// The next header, by the rules of the reader, which has to be one of that tag.
+    ///
+    /// # Errors
+    /// Those of `read_header`, and then `TagUnexpected` for another tag.
+    #[inline(always)]
+    final fn read_header_of(&mut self, tag: Tag) -> Result<Header, Error>
+        ensures der { ReadsBy Der head_of (state self.old) (state self.new) result (wanted_at tag head_at) }
+        ensures ber { ReadsBy Ber head_of (state self.old) (state self.new) result (wanted_at tag head_ber_at) }
+        ensures tag { IfOk result (λ h. h.tag ≡ tag) }
+    {
+        if self.is_failed() {
+            return Err(Error::from(ErrorKind::Failed));
+        }
+        match header_of_tag_by(self.encoding_rules(), tag, self.remaining()) {
             Ok((header, len)) => {
                 self.skip(len);
                 Ok(header)

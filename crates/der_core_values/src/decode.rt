@@ -6,7 +6,7 @@ ghost use Rattle.der_core_head.specs.Shapes.{Shape, Content, Value, ContentValue
 ghost use Rattle.der_core_head.specs.Grammar.{read, read_content, value_at, plain_option};
 ghost use Rattle.der_core_head.specs.Reading.{Reads};
 
-use der_core_head::{Error, ErrorKind, Header, Tag, is_same_tag};
+use der_core_head::{Error, Header, Tag, is_same_tag};
 use der_core_octets::Reader;
 use std::alloc::Global;
 
@@ -80,10 +80,7 @@ fn decode_tagged<'a, R: Reader<'a>, T: DecodeValue<'a, R> + FixedTag>(
 ) -> Result<T, Error>
     ensures { Reads T.value_plain (R.state reader.old) (R.state reader.new) result (read (tagged T.fixed_tag T.content) (R.state reader.old).room) }
 {
-    let header = reader.read_header()?;
-    if !is_same_tag(header.tag, T::tag()) {
-        return Err(Error::from(ErrorKind::TagUnexpected));
-    }
+    let header = reader.read_header_of(T::tag())?;
     T::decode_value(alloc, reader, header)
 }
 
