@@ -9,7 +9,7 @@ ghost use Rattle.der_core.specs.Orders.{bodies_cmp, Overflows};
 
 use crate::iterators::iter_cmp;
 use crate::order::{DerOrd, ValueOrd};
-use der_core_coding::SetOf;
+use der_core_coding::StrictSetOf;
 use der_core_head::Error;
 use std::cmp::Ordering;
 
@@ -35,7 +35,7 @@ impl<T: DerOrd> ValueOrd for Vec<T> {
 }
 
 /// SET OF, whose members are in order (X.690 8.12, 11.6).
-impl<T: DerOrd> ValueOrd for SetOf<T> {
+impl<T: DerOrd> ValueOrd for StrictSetOf<T> {
     #[tactic(auto, unfolding(der_core_head::specs::Shapes::contents, der_core_head::specs::Shapes::IsContent, der_core_head::specs::Shapes::body_octets, der_core_head::specs::Shapes::IsBody))]
     fn value_cmp(&self, other: &Self) -> Result<Ordering, Error> {
         elements_cmp(self.values.as_slice(), other.values.as_slice())

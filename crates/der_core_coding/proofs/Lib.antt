@@ -4,4 +4,4 @@ mod Appended
 mod Rooms
 mod HeadersWritten
 mod Puts
-mod Meant
+mod Encodable

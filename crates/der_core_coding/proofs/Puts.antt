@@ -5,8 +5,7 @@ use Rattle.std.proofs.lemmas.List.{length-append}
 use Rattle.der_core_head.specs.Octets.{◌>>=◌}
 use Rattle.der_core_head.specs.declared.error.Error.{Error}
 use Rattle.der_core_head.specs.declared.error.ErrorKind.{ErrorKind}
-use Rattle.der_core_head.specs.Reading.{Fails}
-use Rattle.der_core_head.specs.Writing.{Out, put, Writes}
+use Rattle.der_core_head.specs.Writing.{Out, put, FailsTaking, Writes}
 
 in_two : (a b w : List ℕ) (r : Option ℕ) (f : Bool) → (put a (record { written = w; room = r; failed = f }) >>= put b) ≡ put (a ++ b) (record { written = w; room = r; failed = f })
 unfolding put
@@ -28,9 +27,9 @@ in_two a b w (Some r) false =
 pub put-append : (a b : List ℕ) (o : Out) → (put a o >>= put b) ≡ put (a ++ b) o
 put-append a b o = in_two a b o.written o.room o.failed
 
-pub first_refused : (a b : List ℕ) (o : Out) (k : ErrorKind) → Fails k (put a o) → Fails k (put (a ++ b) o)
-first_refused a b o k h = λ memory. sym (put-append a b o) ∙ ap (λ r. r >>= put b) (h memory)
+pub first_refused : (memory : Bool) (a b : List ℕ) (o : Out) (k : ErrorKind) → FailsTaking memory k (put a o) → FailsTaking memory k (put (a ++ b) o)
+first_refused memory a b o k h = λ other. sym (put-append a b o) ∙ ap (λ r. r >>= put b) (h other)
 
-pub writes_both : (a b : List ℕ) (old mid new : Out) (r : Result (Unit {0}) Error) → put a old ≡ Ok mid → Writes mid new r (put b) → Writes old new r (put (a ++ b))
-writes_both a b old mid new (Ok x) e h = sym (put-append a b old) ∙ ap (λ r. r >>= put b) e ∙ h
-writes_both a b old mid new (Err x) e h = λ memory. sym (put-append a b old) ∙ ap (λ r. r >>= put b) e ∙ h memory
+pub writes_both : (memory : Bool) (a b : List ℕ) (old mid new : Out) (r : Result (Unit {0}) Error) → put a old ≡ Ok mid → Writes memory mid new r (put b) → Writes memory old new r (put (a ++ b))
+writes_both memory a b old mid new (Ok x) e h = sym (put-append a b old) ∙ ap (λ r. r >>= put b) e ∙ h
+writes_both memory a b old mid new (Err x) e h = λ other. sym (put-append a b old) ∙ ap (λ r. r >>= put b) e ∙ h other

@@ -1,21 +1,25 @@
--- A valid value is written where there is room for it.
-use Rattle.std.proofs.Common.{◌≡◌, ℕ, ◌+◌, ◌-◌, ◌<◌, ◌≤◌, Bool, true, false, List, [], ◌∷◌, ◌++◌, length, Some, None, Result, Ok, refl, sym, ap, subst, ◌∙◌, append_assoc, arith, inl, inr}
+-- What is written to a slice, and that a valid value is written where there is room for it.
+use Rattle.std.proofs.Common.{◌≡◌, ℕ, ◌+◌, ◌-◌, ◌<◌, ◌≤◌, Bool, true, false, List, [], ◌∷◌, ◌++◌, length, Some, None, Result, Ok, Err, refl, sym, ap, ◌∙◌, append_assoc, arith, inl, inr}
 use Rattle.std.proofs.lemmas.Bool.{le-ltb}
 use Rattle.std.proofs.lemmas.List.{append-nil, length-append}
 use Rattle.std.specs.List.{flat_map, AllByRecursion}
 use Rattle.std.specs.Str.{bytes_eq}
 use Rattle.der_core_head.specs.declared.error.Error.{Error}
 use Rattle.der_core_head.specs.declared.error.ErrorKind.{ErrorKind}
+use Rattle.der_core_head.specs.declared.error.ErrorKind.TheVariants as kinds
 use Rattle.der_core_head.specs.declared.tag.Tag.{Tag}
 use Rattle.der_core_head.specs.Tags.{tag_octets}
 use Rattle.der_core_head.specs.Heads.{Fits, head_octets, length_octets, tlv}
 use Rattle.der_core_head.specs.Leaves.{leaf_contents}
 use Rattle.der_core_head.specs.Shapes.{Shape, Content, Body, tagged, any, either, optional, defaulted, nothing, leaf, nested, done, field, only, many, exactly, rising, Value, ContentValue, BodyValue, octets_of, contents, body_octets, unless, IsValid, IsContent, IsBody}
-use Rattle.der_core_head.specs.Reading.{Gives}
+use Rattle.der_core_head.specs.Reading.{GivesNow}
 use Rattle.der_core_head.specs.Writing.{Out, put, put_head, sum_len, fit_len, size_content, write_tlv, write_many, default_write, write, write_content, write_body}
+use Rattle.std.specs.Prelude.{IfOk, IsOkAnd}
 use Rattle.der_core_head.proofs.Fits.{fits_contents}
+use Rattle.der_core_head.proofs.Results.{ok_is, bind_ok, unless_ok}
+use Rattle.der_core_head.proofs.OkOctets.{writes_octets, writes_contents, writes_fitting}
 use Rattle.der_core_head.proofs.Written.{sized_content}
-use Rattle.der_core_octets.specs.Outputs.{blank, filled}
+use Rattle.der_core_octets.specs.Outputs.{blank, finished, filled}
 
 -- octets in so much room
 abbrev within : List ℕ → ℕ → Out
@@ -93,11 +97,43 @@ mutual
   roomed_body (exactly n s) v a r h l = many_within (write s) (IsValid s) (octets_of s) r (λ x a k m. roomed s x a r k m) v a h.0 l
   roomed_body (rising s) v a r h l = many_within (write s) (IsValid s) (octets_of s) r (λ x a k m. roomed s x a r k m) v a h.0 l
 
-pub filled_valid : (s : Shape) (v : Value s) (room : ℕ) → IsValid s v → length (octets_of s v) ≤ room → filled (write s v) room ≡ Ok (octets_of s v)
-filled_valid s v room h l =
-    let start : blank room ≡ within [] room = ap (λ n. record { written = []; room = Some n; failed = false }) (omega arith) in
-    rw (start, roomed s v [] room h (omega arith)) refl
+starts : (room : ℕ) → blank room ≡ within [] room
+starts room = ap (λ n. record { written = []; room = Some n; failed = false }) (omega arith)
 
-pub filled_spelled : {T : Type 0} (s : Shape) (v : Value s) (room : ℕ) (view : T → List ℕ) (r : Result T Error) → Gives view r (filled (write s v) room) → IsValid s v → length (octets_of s v) ≤ room
-    → Gives view r (Ok (octets_of s v))
-filled_spelled {T} s v room view r e h l = let P : Result (List ℕ) ErrorKind → Type 0 = λ x. Gives view r x in subst P (filled_valid s v room h l) e
+filled_valid : (s : Shape) (v : Value s) (room : ℕ) → IsValid s v → length (octets_of s v) ≤ room → filled (write s v) room ≡ Ok (octets_of s v)
+filled_valid s v room h l = rw (starts room, roomed s v [] room h (omega arith)) refl
+
+filled_content : (c : Content) (v : ContentValue c) (room : ℕ) → IsContent c v → length (contents c v) ≤ room → filled (write_content c v) room ≡ Ok (contents c v)
+filled_content c v room h l = rw (starts room, roomed_content c v [] room h (omega arith)) refl
+
+-- what is given is this
+given_is : {T : Type 0} (view : T → List ℕ) (f : Result (List ℕ) ErrorKind) (w : List ℕ) (r : Result T Error) → GivesNow view r f → f ≡ Ok w → IsOkAnd r (λ x. view x ≡ w)
+given_is view f w (Ok x) h e = ok_is (view x) w (sym h ∙ e)
+given_is view f w (Err d) h e = absurd (cc (h, e))
+
+pub filled_spelled : {T : Type 0} (s : Shape) (v : Value s) (room : ℕ) (view : T → List ℕ) (r : Result T Error) → GivesNow view r (filled (write s v) room) → IsValid s v → length (octets_of s v) ≤ room
+    → IsOkAnd r (λ x. view x ≡ octets_of s v)
+filled_spelled s v room view r e h l = given_is view (filled (write s v) room) (octets_of s v) r e (filled_valid s v room h l)
+
+pub content_spelled : {T : Type 0} (c : Content) (v : ContentValue c) (room : ℕ) (view : T → List ℕ) (r : Result T Error) → GivesNow view r (filled (write_content c v) room) → IsContent c v
+    → length (contents c v) ≤ room → IsOkAnd r (λ x. view x ≡ contents c v)
+content_spelled c v room view r e h l = given_is view (filled (write_content c v) room) (contents c v) r e (filled_content c v room h l)
+
+-- what was written is what is given
+finished_is : (f : Out → Result Out ErrorKind) (room : ℕ) (w : List ℕ) → filled f room ≡ Ok w → (z : Out) × (f (blank room) ≡ Ok z) × (z.written ≡ w)
+finished_is f room w e =
+    let h = bind_ok (f (blank room)) finished w e in
+    (h.0, h.1, ok_is h.0.written w (unless_ok h.0.failed kinds.Failed (Ok h.0.written) w h.2).1)
+
+pub filled_octets : {T : Type 0} (s : Shape) (v : Value s) (room : ℕ) (view : T → List ℕ) (r : Result T Error) → GivesNow view r (filled (write s v) room)
+    → IfOk r (λ x. (view x ≡ octets_of s v) × Fits (view x))
+filled_octets s v room view (Ok x) e =
+    let h = finished_is (write s v) room (view x) e in
+    let same = sym h.2 ∙ writes_octets s v (blank room) h.0 h.1 in
+    (same, omega (arith, ap length same, writes_fitting s v (blank room) h.0 h.1))
+filled_octets s v room view (Err e) h = tt
+
+pub filled_contents : {T : Type 0} (c : Content) (v : ContentValue c) (room : ℕ) (view : T → List ℕ) (r : Result T Error) → GivesNow view r (filled (write_content c v) room)
+    → IfOk r (λ x. view x ≡ contents c v)
+filled_contents c v room view (Ok x) e = let h = finished_is (write_content c v) room (view x) e in sym h.2 ∙ writes_contents c v (blank room) h.0 h.1
+filled_contents c v room view (Err e) h = tt

@@ -5,7 +5,6 @@ use Rattle.std.specs.Fn.{Once, FnOnceReturnsAtMut}
 use Rattle.der_core_head.specs.declared.error.Error.{Error}
 use Rattle.der_core_head.specs.declared.error.ErrorKind.TheVariants as kinds
 use Rattle.der_core_head.specs.declared.tag.Tag.TheVariants as tags
-use Rattle.der_core_head.specs.Reading.{Fails}
 use Rattle.der_core_head.specs.Writing.{Out, put_head}
 
 -- f was called behind the header of a SEQUENCE of n octets, answered r, and left the writer so
@@ -15,6 +14,6 @@ Called out g f n old r inner outer = (put_head tags.Sequence n old ≡ Ok (out i
 -- why it was refused: the header couldn't be written, f was refused, or f wrote another number of octets
 abbrev pub RefusesEnclosed : {W F : Type 0} → (W → Out) → Once F (MutBor W × Unit {0}) (Result (Unit {0}) Error × (MutBor W × Unit {0})) → F → ℕ → Out → Error → Type 0
 RefusesEnclosed {W} out g f n old e =
-    Fails e.kind (put_head tags.Sequence n old)
+    (put_head tags.Sequence n old ≡ Err e.kind)
     ⊎ (((inner outer : W) × Called out g f n old (Err e) inner outer)
     ⊎ ((inner outer : W) × Called out g f n old (Ok tt) inner outer × (length (out outer).written ≢ length (out inner).written + n) × (e.kind ≡ kinds.Length tags.Sequence)))

@@ -1,8 +1,9 @@
 //! The octets of a value.
 
 ghost use Rattle.std.specs.Prelude.{◌≡◌, [], Ok, None, false, IfOk};
+ghost use Rattle.der_core_head.specs.Heads.{Fits};
 ghost use Rattle.der_core_head.specs.Ranges.{IsInRange};
-ghost use Rattle.der_core_head.specs.Shapes.{IsValid, Spells, octets_of};
+ghost use Rattle.der_core_head.specs.Shapes.{IsValid, octets_of};
 ghost use Rattle.der_core_head.specs.Reading.{Gives};
 ghost use Rattle.der_core_head.specs.Writing.{write};
 
@@ -25,10 +26,12 @@ fn written<T: Encode>(alloc: Global, value: &T) -> Result<Vec<u8>, Error>
 /// # Errors
 /// `Overflow` where a length passes 2^32 - 1, or `OutOfMemory`.
 pub fn to_der<T: Encode>(alloc: Global, value: &T) -> Result<Vec<u8>, Error>
+    // What an Ok holds are the octets of the value, no more than a length can count.
+    ensures octets { IfOk result (λ v. (v.items ≡ octets_of T.shape (T.written value.now)) × Fits v.items) }
+    // The value has an encoding, where its parts are in their ranges.
+    ensures valid { IfOk result (λ _. IsInRange T.shape (T.written value.now) → IsValid T.shape (T.written value.now)) }
     // A valid value has an encoding, and it is the answer unless memory runs out.
     ensures spelled { IsValid T.shape (T.written value.now) → Gives (λ v. v.items) result (Ok (octets_of T.shape (T.written value.now))) }
-    // What is answered is spelled by the value, where its parts are in their ranges.
-    ensures meant { IfOk result (λ v. IsInRange T.shape (T.written value.now) → Spells T.shape (T.written value.now) v.items) }
     // Which fault it is.
     ensures exact { Gives (λ v. record { written = v.items; room = None; failed = false }) result (write T.shape (T.written value.now) (record { written = []; room = None; failed = false })) }
 {

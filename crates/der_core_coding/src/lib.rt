@@ -22,7 +22,7 @@ pub use behind::{encode_behind, len_behind};
 pub use der_core_values as values;
 pub use encode::to_der;
 pub use kinds::{DefaultValue, WithDefault};
-pub use set_of::{SetOf, read_rising};
+pub use set_of::{StrictSetOf, read_rising};
 pub use slice_reader::SliceReader;
 pub use slice_writer::SliceWriter;
 pub use sliced::decode_sliced;

@@ -1,4 +1,4 @@
-//! SET OF, in order (X.690 8.12, 11.6).
+//! SET OF, whose members rise (X.690 8.12, 11.6).
 
 ghost use Rattle.std.specs.Prelude.{◌≡◌};
 ghost use Rattle.std.specs.Ordering.{nat_cmp};
@@ -73,11 +73,11 @@ pub fn read_rising<'a, R: Reader<'a>, T: Decode<'a, R> + Member>(
 
 /// Values whose encodings rise.
 #[derive(Debug, Drop)]
-pub struct SetOf<T> {
+pub struct StrictSetOf<T> {
     pub values: Vec<T>,
 }
 
-impl<T> FixedTag for SetOf<T> {
+impl<T> FixedTag for StrictSetOf<T> {
     ghost fixed_tag = { Set };
 
     fn tag() -> Tag {
@@ -85,7 +85,7 @@ impl<T> FixedTag for SetOf<T> {
     }
 }
 
-impl<T: Shaped> Fields for SetOf<T> {
+impl<T: Shaped> Fields for StrictSetOf<T> {
     ghost fields = { rising T.shape };
 
     ghost fields_plain = { λ v. plain_list T.plain v.values.items };
@@ -93,7 +93,7 @@ impl<T: Shaped> Fields for SetOf<T> {
     ghost fields_written = { λ v. plain_list T.written v.values.items };
 }
 
-impl<T: Shaped> ShapedValue for SetOf<T> {
+impl<T: Shaped> ShapedValue for StrictSetOf<T> {
     ghost content = { nested (rising T.shape) };
 
     ghost value_plain = { λ v. plain_list T.plain v.values.items };
@@ -101,20 +101,24 @@ impl<T: Shaped> ShapedValue for SetOf<T> {
     ghost value_written = { λ v. plain_list T.written v.values.items };
 }
 
-impl<'a, R: Reader<'a>, T: Decode<'a, R> + Member> DecodeFields<'a, R> for SetOf<T> {
-    fn decode_fields(alloc: Global, reader: &mut R) -> Result<SetOf<T>, Error> {
+impl<'a, R: Reader<'a>, T: Decode<'a, R> + Member> DecodeFields<'a, R> for StrictSetOf<T> {
+    fn decode_fields(alloc: Global, reader: &mut R) -> Result<StrictSetOf<T>, Error> {
         let values = read_rising(alloc, reader)?;
-        Ok(SetOf { values })
+        Ok(StrictSetOf { values })
     }
 }
 
-impl<'a, R: Reader<'a>, T: Decode<'a, R> + Member> DecodeValue<'a, R> for SetOf<T> {
-    fn decode_value(alloc: Global, reader: &mut R, header: Header) -> Result<SetOf<T>, Error> {
+impl<'a, R: Reader<'a>, T: Decode<'a, R> + Member> DecodeValue<'a, R> for StrictSetOf<T> {
+    fn decode_value(
+        alloc: Global,
+        reader: &mut R,
+        header: Header,
+    ) -> Result<StrictSetOf<T>, Error> {
         read_fields(alloc, reader, header)
     }
 }
 
-impl<T: Encode> EncodeValue for SetOf<T> {
+impl<T: Encode> EncodeValue for StrictSetOf<T> {
     fn value_len(&self) -> Result<Length, Error> {
         self.values.value_len()
     }
@@ -124,13 +128,13 @@ impl<T: Encode> EncodeValue for SetOf<T> {
     }
 }
 
-impl<T: Element + Member> ApartValue for SetOf<T> {
+impl<T: Element + Member> ApartValue for StrictSetOf<T> {
     ghost use Rattle.der_core_values.specs.Both.{both_true};
 
     ghost apart_value = { both_true T.element T.apart };
 }
 
-impl<T: AsRead> AsReadValue for SetOf<T> {
+impl<T: AsRead> AsReadValue for StrictSetOf<T> {
     ghost use Rattle.der_core_values.specs.Same.{same_list};
 
     ghost as_read_value = { λ v. same_list T.as_read v.values.items };

@@ -4,7 +4,8 @@ ghost use Rattle.std.specs.Prelude.{◌≡◌, ◌≤◌, ◌<◌, ◌^◌, ◌-
 ghost use Rattle.der_core_head.specs.declared.tag_mode.TagMode.TheVariants as modes;
 ghost use Rattle.der_core_head.specs.Tags.{context, implicit_tag};
 ghost use Rattle.der_core_head.specs.Shapes.{nested, only, tagged};
-ghost use Rattle.der_core_head.specs.Writing.{Writes, write};
+ghost use Rattle.der_core_head.specs.Reading.{GivesNow};
+ghost use Rattle.der_core_head.specs.Writing.{write};
 ghost use Rattle.der_core_octets.specs.Outputs.{Continues, Encloses};
 ghost use Rattle.der_core_coding.specs.Sequences.{RefusesEnclosed};
 
@@ -13,7 +14,8 @@ use der_core_head::{Error, ErrorKind, Length, Tag, TagMode, TagNumber};
 use der_core_octets::{Writer, encode_header};
 use der_core_values::{Encode, EncodeValue, FixedTag};
 
-/// The writer to a slice. After a write for which there was no room it has failed.
+/// The writer to a slice, which takes no memory. After a write for which there was no room it has
+/// failed.
 #[derive(Drop)]
 pub struct SliceWriter<'a> {
     bytes: &'a mut [u8],
@@ -86,7 +88,7 @@ impl<'a> SliceWriter<'a> {
     /// where a length passes 2^32 - 1.
     pub fn encode<T: Encode>(&mut self, value: &T) -> Result<(), Error>
         ensures writes { (⟦<SliceWriter<'static> as Writer>⟧.out self.old).failed ≡ false
-            → Writes (⟦<SliceWriter<'static> as Writer>⟧.out self.old) (⟦<SliceWriter<'static> as Writer>⟧.out self.new) result (write T.shape (T.written value.now)) }
+            → GivesNow (λ _. ⟦<SliceWriter<'static> as Writer>⟧.out self.new) result (write T.shape (T.written value.now) (⟦<SliceWriter<'static> as Writer>⟧.out self.old)) }
         ensures failed { (⟦<SliceWriter<'static> as Writer>⟧.out self.old).failed ≡ true → IsErrAnd result (λ e. e.kind ≡ ErrorKind.Failed) }
         ensures refused { OnErr result ((⟦<SliceWriter<'static> as Writer>⟧.out self.new).failed ≡ true) }
         ensures kept { Continues (⟦<SliceWriter<'static> as Writer>⟧.out self.old) (⟦<SliceWriter<'static> as Writer>⟧.out self.new) }
@@ -118,11 +120,11 @@ impl<'a> SliceWriter<'a> {
         value: &T,
     ) -> Result<(), Error>
         ensures explicit { tag_mode ≡ modes.Explicit → (⟦<SliceWriter<'static> as Writer>⟧.out self.old).failed ≡ false
-            → Writes (⟦<SliceWriter<'static> as Writer>⟧.out self.old) (⟦<SliceWriter<'static> as Writer>⟧.out self.new) result
-            (write (tagged (context true tag_number.value) (nested (only (tagged T.fixed_tag T.content)))) (T.value_written value.now)) }
+            → GivesNow (λ _. ⟦<SliceWriter<'static> as Writer>⟧.out self.new) result
+            (write (tagged (context true tag_number.value) (nested (only (tagged T.fixed_tag T.content)))) (T.value_written value.now) (⟦<SliceWriter<'static> as Writer>⟧.out self.old)) }
         ensures implicit { tag_mode ≡ modes.Implicit → (⟦<SliceWriter<'static> as Writer>⟧.out self.old).failed ≡ false
-            → Writes (⟦<SliceWriter<'static> as Writer>⟧.out self.old) (⟦<SliceWriter<'static> as Writer>⟧.out self.new) result
-            (write (tagged (implicit_tag tag_number.value T.fixed_tag) T.content) (T.value_written value.now)) }
+            → GivesNow (λ _. ⟦<SliceWriter<'static> as Writer>⟧.out self.new) result
+            (write (tagged (implicit_tag tag_number.value T.fixed_tag) T.content) (T.value_written value.now) (⟦<SliceWriter<'static> as Writer>⟧.out self.old)) }
         ensures failed { (⟦<SliceWriter<'static> as Writer>⟧.out self.old).failed ≡ true → IsErrAnd result (λ e. e.kind ≡ ErrorKind.Failed) }
         ensures refused { OnErr result ((⟦<SliceWriter<'static> as Writer>⟧.out self.new).failed ≡ true) }
         ensures kept { Continues (⟦<SliceWriter<'static> as Writer>⟧.out self.old) (⟦<SliceWriter<'static> as Writer>⟧.out self.new) }
@@ -199,6 +201,8 @@ impl<'a> SliceWriter<'a> {
 
 impl<'a> Writer for SliceWriter<'a> {
     ghost out = { λ w. record { written = take w.position w.bytes.now; room = Some (length w.bytes.now - w.position); failed = w.failed } };
+
+    ghost takes_memory = { false };
 
     #[tactic(auto, unfolding(der_core_head::specs::Writing::put))]
     fn write(&mut self, octets: &[u8]) -> Result<(), Error> {

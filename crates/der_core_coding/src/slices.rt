@@ -1,8 +1,9 @@
 //! Encodings in slices, and behind other octets.
 
-ghost use Rattle.std.specs.Prelude.{◌≡◌, ◌≤◌, ◌++◌, ℕ, List, length, take, Ok, IfOk, IfErr};
+ghost use Rattle.std.specs.Prelude.{◌≡◌, ◌≤◌, ◌++◌, length, take, Ok, IfOk, IfErr, IsOkAnd};
+ghost use Rattle.der_core_head.specs.Heads.{Fits};
 ghost use Rattle.der_core_head.specs.Ranges.{IsInRange};
-ghost use Rattle.der_core_head.specs.Shapes.{IsValid, Spells, octets_of};
+ghost use Rattle.der_core_head.specs.Shapes.{IsValid, IsContent, octets_of, contents};
 ghost use Rattle.der_core_head.specs.Reading.{Fails, Gives, GivesNow};
 ghost use Rattle.der_core_head.specs.Writing.{write, size_content, write_content};
 ghost use Rattle.der_core_octets.specs.Outputs.{appended, filled};
@@ -24,32 +25,35 @@ pub fn value_header<T: EncodeValue + Tagged>(value: &T) -> Result<Header, Error>
     Ok(Header::new(value.tag(), length))
 }
 
-/// Writes a value to the front of a slice, and lends what was written.
+/// Writes a value to the front of a slice, and lends what was written. No memory is taken.
 ///
 /// # Errors
 /// `Overlength` where the slice is too short, `Overflow` where a length passes 2^32 - 1.
 pub fn encode_to_slice<'a, T: Encode>(value: &T, bytes: &'a mut [u8]) -> Result<&'a [u8], Error>
+    // What an Ok lends are the octets of the value, no more than a length can count.
+    ensures octets { IfOk result (λ octets. (octets.now ≡ octets_of T.shape (T.written value.now)) × Fits octets.now) }
+    // The value has an encoding, where its parts are in their ranges.
+    ensures valid { IfOk result (λ _. IsInRange T.shape (T.written value.now) → IsValid T.shape (T.written value.now)) }
     // A valid value is written where there is room for its encoding.
     ensures spelled { IsValid T.shape (T.written value.now) → length (octets_of T.shape (T.written value.now)) ≤ length bytes.entry.now
-        → Gives (λ octets. octets.now) result (Ok (octets_of T.shape (T.written value.now))) }
-    // What is lent is spelled by the value, where its parts are in their ranges.
-    ensures meant { IfOk result (λ octets. IsInRange T.shape (T.written value.now) → Spells T.shape (T.written value.now) octets.now) }
+        → IsOkAnd result (λ octets. octets.now ≡ octets_of T.shape (T.written value.now)) }
     // Which fault it is.
-    ensures exact { Gives (λ octets. octets.now) result (filled (write T.shape (T.written value.now)) (length bytes.entry.now)) }
+    ensures exact { GivesNow (λ octets. octets.now) result (filled (write T.shape (T.written value.now)) (length bytes.entry.now)) }
 {
     fill(value, bytes)
 }
 
 /// Writes a value to the front of a slice.
 fn fill<'a, T: Encode>(value: &T, bytes: &'a mut [u8]) -> Result<&'a [u8], Error>
-    ensures { Gives (λ octets. octets.now) result (filled (write T.shape (T.written value.now)) (length bytes.entry.now)) }
+    ensures { GivesNow (λ octets. octets.now) result (filled (write T.shape (T.written value.now)) (length bytes.entry.now)) }
 {
     let mut writer = SliceWriter::new(bytes);
     value.encode(&mut writer)?;
     writer.finish()
 }
 
-/// Writes the content of a value to the front of a slice, and lends what was written.
+/// Writes the content of a value to the front of a slice, and lends what was written. No memory is
+/// taken.
 ///
 /// # Errors
 /// `Overlength` where the slice is too short, `Overflow` where a length passes 2^32 - 1.
@@ -57,7 +61,20 @@ pub fn encode_value_to_slice<'a, T: EncodeValue>(
     value: &T,
     bytes: &'a mut [u8],
 ) -> Result<&'a [u8], Error>
-    ensures { Gives (λ octets. octets.now) result (filled (write_content T.content (T.value_written value.now)) (length bytes.entry.now)) }
+    // What an Ok lends are the octets of the content.
+    ensures octets { IfOk result (λ octets. octets.now ≡ contents T.content (T.value_written value.now)) }
+    // A valid content is written where there is room for it.
+    ensures spelled { IsContent T.content (T.value_written value.now) → length (contents T.content (T.value_written value.now)) ≤ length bytes.entry.now
+        → IsOkAnd result (λ octets. octets.now ≡ contents T.content (T.value_written value.now)) }
+    // Which fault it is.
+    ensures exact { GivesNow (λ octets. octets.now) result (filled (write_content T.content (T.value_written value.now)) (length bytes.entry.now)) }
+{
+    fill_content(value, bytes)
+}
+
+/// Writes the content of a value to the front of a slice.
+fn fill_content<'a, T: EncodeValue>(value: &T, bytes: &'a mut [u8]) -> Result<&'a [u8], Error>
+    ensures { GivesNow (λ octets. octets.now) result (filled (write_content T.content (T.value_written value.now)) (length bytes.entry.now)) }
 {
     let mut writer = SliceWriter::new(bytes);
     value.encode_value(&mut writer)?;
@@ -71,12 +88,13 @@ pub fn encode_value_to_slice<'a, T: EncodeValue>(
 /// # Errors
 /// `Overflow` where a length passes 2^32 - 1, or `OutOfMemory`.
 pub fn encode_to_vec<T: Encode>(value: &T, out: &mut Vec<u8>) -> Result<Length, Error>
-    // A valid value's encoding stands behind what was there.
-    ensures spelled { IsValid T.shape (T.written value.now) → IfOk result (λ len.
+    // What an Ok adds are the octets of the value, as many as it answers.
+    ensures octets { IfOk result (λ len.
         (out.new.items ≡ out.old.items ++ octets_of T.shape (T.written value.now)) × (len.value ≡ length (octets_of T.shape (T.written value.now)))) }
-    // What stands behind it is spelled by the value, where its parts are in their ranges.
-    ensures meant { IfOk result (λ _. IsInRange T.shape (T.written value.now)
-        → (b : List ℕ) × Spells T.shape (T.written value.now) b × (out.new.items ≡ out.old.items ++ b)) }
+    // The value has an encoding, where its parts are in their ranges.
+    ensures valid { IfOk result (λ _. IsInRange T.shape (T.written value.now) → IsValid T.shape (T.written value.now)) }
+    // A valid value is written, unless memory runs out.
+    ensures spelled { IsValid T.shape (T.written value.now) → Gives (λ len. len.value) result (Ok (length (octets_of T.shape (T.written value.now)))) }
     ensures exact { IfOk result (λ len. appended T.shape (T.written value.now) out.old.items ≡ Ok (len.value, out.new.items)) }
     ensures refused { IfErr result (λ e. Fails e.kind (appended T.shape (T.written value.now) out.old.items)) }
     // What stood in the vector stays in front, and alone after a refusal.

@@ -23,7 +23,7 @@ pub trait EncodeFields: Fields {
     /// # Errors
     /// `Overflow` where a length passes 2^32 - 1, and those of the writer.
     fn encode_fields<W: Writer>(&self, writer: &mut W) -> Result<(), Error>
-        ensures exact { Writes (W.out writer.old) (W.out writer.new) result (write_body Self.fields (Self.fields_written self.now)) }
+        ensures exact { Writes W.takes_memory (W.out writer.old) (W.out writer.new) result (write_body Self.fields (Self.fields_written self.now)) }
         ensures kept { Continues (W.out writer.old) (W.out writer.new) };
 }
 

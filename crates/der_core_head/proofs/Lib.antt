@@ -19,7 +19,7 @@ pub mod Sound
 pub mod Complete
 pub mod AllOctets
 pub mod Written
+pub mod OkOctets
 pub mod Counted
-pub mod Roomless
 pub mod Below
 pub mod BodyLaws

@@ -1,5 +1,5 @@
 -- What is written, and how long it is.
-use Rattle.std.specs.Prelude.{◌≡◌, ℕ, ◌+◌, ◌-◌, List, [], ◌∷◌, ◌++◌, length, Bool, true, false, bytes_eq, Option, Some, None, Result, Ok, Err, nat_lt, if◌then◌else◌}
+use Rattle.std.specs.Prelude.{◌≡◌, ◌≢◌, ℕ, ◌+◌, ◌-◌, List, [], ◌∷◌, ◌++◌, length, Bool, true, false, bytes_eq, Option, Some, None, Result, Ok, Err, nat_lt, if◌then◌else◌}
 use Rattle.der_core_head.specs.declared.error.Error.{Error}
 use Rattle.der_core_head.specs.declared.error.ErrorKind.{ErrorKind}
 use Rattle.der_core_head.specs.declared.error.ErrorKind.TheVariants as kinds
@@ -10,7 +10,6 @@ use Rattle.der_core_head.specs.declared.tag.Tag.{Tag}
 use Rattle.der_core_head.specs.Octets.{◌>>=◌}
 use Rattle.der_core_head.specs.Tags.{tag_octets}
 use Rattle.der_core_head.specs.Heads.{length_octets, head_octets}
-use Rattle.der_core_head.specs.Reading.{Fails}
 
 -- what was written, how many octets more there is room for (None: no limit), and whether a write was refused
 pub record Out : Type 0 where
@@ -117,7 +116,11 @@ abbrev mutual
   write_body (exactly n s) v o = write_many (write s) v o
   write_body (rising s) v o = write_many (write s) v o
 
--- The call did to a writer what writing does.
-abbrev pub Writes : Out → Out → Result (Unit {0}) Error → (Out → Result Out ErrorKind) → Type 0
-Writes old new (Ok _) f = f old ≡ Ok new
-Writes old new (Err e) f = Fails e.kind (f old)
+-- what a write may answer: the named fault, or that memory ran out where it takes memory
+abbrev pub FailsTaking : {Y : Type 0} → Bool → ErrorKind → Result Y ErrorKind → Type 0
+FailsTaking memory e r = (memory ≡ true → e ≢ kinds.OutOfMemory) → r ≡ Err e
+
+-- The call did to a writer, which takes memory or not, what writing does.
+abbrev pub Writes : Bool → Out → Out → Result (Unit {0}) Error → (Out → Result Out ErrorKind) → Type 0
+Writes memory old new (Ok _) f = f old ≡ Ok new
+Writes memory old new (Err e) f = FailsTaking memory e.kind (f old)

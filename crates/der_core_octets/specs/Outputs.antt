@@ -1,5 +1,5 @@
 -- What a writer holds after a call, and what is written to a slice or behind octets.
-use Rattle.std.specs.Prelude.{◌≡◌, ◌+◌, ℕ, List, [], true, false, length, take, Some, None, Result, Ok, Err, if◌then◌else◌}
+use Rattle.std.specs.Prelude.{◌≡◌, ◌+◌, ℕ, List, [], Bool, true, false, length, take, Some, None, Result, Ok, Err, if◌then◌else◌}
 use Rattle.std.specs.Borrow.{MutBor}
 use Rattle.std.specs.Fn.{Once, FnOnceReturnsAtMut}
 use Rattle.der_core_head.specs.declared.error.Error.{Error}
@@ -10,11 +10,12 @@ use Rattle.der_core_head.specs.Octets.{◌>>=◌}
 use Rattle.der_core_head.specs.Shapes.{Shape, Value}
 use Rattle.der_core_head.specs.Writing.{Out, put_head, size, write}
 
--- Nothing was written. A writer that failed stays failed.
-pub record IsRefused (old new : Out) : Type 0 where
+-- Nothing was written. A writer that failed stays failed, and one that takes no memory has failed.
+pub record IsRefused (memory : Bool) (old new : Out) : Type 0 where
   pub written : new.written ≡ old.written
   pub room : new.room ≡ old.room
-  pub failed : old.failed ≡ true → new.failed ≡ true
+  pub stays : old.failed ≡ true → new.failed ≡ true
+  pub failed : memory ≡ false → new.failed ≡ true
 
 -- These octets stand at the front of what was written.
 abbrev pub IsFront : List ℕ → Out → Type 0

@@ -23,7 +23,7 @@ pub fn sum_len(a: Length, b: Length) -> Result<Length, Error>
 /// Writes the octets of a tag (X.690 8.1.2).
 #[tactic(auto, using(der_core_head::proofs::TagForms::tag_forms))]
 fn encode_tag<W: Writer>(writer: &mut W, tag: Tag) -> Result<(), Error>
-    ensures exact { Writes (W.out writer.old) (W.out writer.new) result (put (tag_octets tag)) }
+    ensures exact { Writes W.takes_memory (W.out writer.old) (W.out writer.new) result (put (tag_octets tag)) }
     ensures kept { Continues (W.out writer.old) (W.out writer.new) }
 {
     let first = leading_octet_of(tag);
@@ -54,7 +54,7 @@ fn encode_tag<W: Writer>(writer: &mut W, tag: Tag) -> Result<(), Error>
 /// Writes the octets of a length (X.690 8.1.3, 10.1).
 #[tactic(auto, using(der_core_head::proofs::LengthForms::length_forms))]
 fn encode_length<W: Writer>(writer: &mut W, len: Length) -> Result<(), Error>
-    ensures exact { Writes (W.out writer.old) (W.out writer.new) result (put (length_octets len.value)) }
+    ensures exact { Writes W.takes_memory (W.out writer.old) (W.out writer.new) result (put (length_octets len.value)) }
     ensures kept { Continues (W.out writer.old) (W.out writer.new) }
 {
     let n = len.value;
@@ -83,7 +83,7 @@ fn encode_length<W: Writer>(writer: &mut W, len: Length) -> Result<(), Error>
 /// `Overflow` where header and content pass 2^32 - 1 octets together, and those of the writer.
 #[tactic(auto, unfolding(der_core_head::specs::Writing::put_head))]
 pub fn encode_header<W: Writer>(writer: &mut W, tag: Tag, len: Length) -> Result<(), Error>
-    ensures exact { Writes (W.out writer.old) (W.out writer.new) result (put_head tag len.value) }
+    ensures exact { Writes W.takes_memory (W.out writer.old) (W.out writer.new) result (put_head tag len.value) }
     ensures kept { Continues (W.out writer.old) (W.out writer.new) }
 {
     let _whole = len.for_tlv(tag)?;

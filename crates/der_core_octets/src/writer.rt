@@ -1,6 +1,6 @@
 //! Writers.
 
-ghost use Rattle.std.specs.Prelude.{◌≡◌, [], ◌∷◌, None, length, false, OnErr};
+ghost use Rattle.std.specs.Prelude.{◌≡◌, [], ◌∷◌, None, length, Bool, true, false, OnErr};
 ghost use Rattle.der_core_head.specs.Writing.{Out, Writes, put};
 ghost use Rattle.der_core_octets.specs.Outputs.{Continues, IsRefused};
 
@@ -10,14 +10,17 @@ use der_core_head::Error;
 pub trait Writer: Drop {
     ghost out: { Self → Out };
 
+    /// Whether a write may be refused because memory runs out.
+    ghost takes_memory: { Bool };
+
     /// Appends octets.
     ///
     /// # Errors
     /// `Failed` where the writer failed before, `Overlength` where there is no room, `OutOfMemory`.
-    /// Nothing was written then.
+    /// Nothing was written then, and a writer that takes no memory has failed.
     fn write(&mut self, octets: &[u8]) -> Result<(), Error>
-        ensures exact { Writes (out self.old) (out self.new) result (put octets.now) }
-        ensures refused { OnErr result (IsRefused (out self.old) (out self.new)) }
+        ensures exact { Writes takes_memory (out self.old) (out self.new) result (put octets.now) }
+        ensures refused { OnErr result (IsRefused takes_memory (out self.old) (out self.new)) }
         ensures kept { Continues (out self.old) (out self.new) };
 
     /// Appends an octet.
@@ -25,8 +28,8 @@ pub trait Writer: Drop {
     /// # Errors
     /// Those of `write`.
     final fn write_byte(&mut self, octet: u8) -> Result<(), Error>
-        ensures exact { Writes (out self.old) (out self.new) result (put (octet ∷ [])) }
-        ensures refused { OnErr result (IsRefused (out self.old) (out self.new)) }
+        ensures exact { Writes takes_memory (out self.old) (out self.new) result (put (octet ∷ [])) }
+        ensures refused { OnErr result (IsRefused takes_memory (out self.old) (out self.new)) }
         ensures kept { Continues (out self.old) (out self.new) }
     {
         self.write(&[octet])
@@ -35,6 +38,8 @@ pub trait Writer: Drop {
 
 impl Writer for Vec<u8> {
     ghost out = { λ v. record { written = v.items; room = None; failed = false } };
+
+    ghost takes_memory = { true };
 
     #[tactic(auto, unfolding(der_core_head::specs::Writing::put))]
     fn write(&mut self, octets: &[u8]) -> Result<(), Error> {

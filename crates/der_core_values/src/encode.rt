@@ -23,7 +23,7 @@ pub trait Encode: Shaped {
     /// # Errors
     /// `Overflow` where a length passes 2^32 - 1, and those of the writer.
     fn encode<W: Writer>(&self, writer: &mut W) -> Result<(), Error>
-        ensures exact { Writes (W.out writer.old) (W.out writer.new) result (write Self.shape (Self.written self.now)) }
+        ensures exact { Writes W.takes_memory (W.out writer.old) (W.out writer.new) result (write Self.shape (Self.written self.now)) }
         ensures kept { Continues (W.out writer.old) (W.out writer.new) };
 }
 
@@ -41,7 +41,7 @@ pub trait EncodeValue: ShapedValue {
     /// # Errors
     /// `Overflow` where a length passes 2^32 - 1, and those of the writer.
     fn encode_value<W: Writer>(&self, writer: &mut W) -> Result<(), Error>
-        ensures exact { Writes (W.out writer.old) (W.out writer.new) result (write_content Self.content (Self.value_written self.now)) }
+        ensures exact { Writes W.takes_memory (W.out writer.old) (W.out writer.new) result (write_content Self.content (Self.value_written self.now)) }
         ensures kept { Continues (W.out writer.old) (W.out writer.new) };
 }
 

@@ -5,7 +5,7 @@ ghost use Rattle.der_core_head.specs.Shapes.{nested};
 
 use der_core::{
     DecodeFields, DecodeValue, Encode, EncodeFields, EncodeRef, EncodeValue, Error, Fields,
-    FixedTag, Header, Implicit, Length, Reader, SetOf, ShapedValue, Tag, Writer, read_fields,
+    FixedTag, Header, Implicit, Length, Reader, ShapedValue, StrictSetOf, Tag, Writer, read_fields,
 };
 use der_types_numbers::Uint;
 use der_types_text::PrintableString;
@@ -27,14 +27,17 @@ pub struct Entry {
     name: PrintableString,
     since: UtcTime,
     uses: Option<Implicit<BitString, 0>>,
-    codes: SetOf<u16>,
+    codes: StrictSetOf<u16>,
 }
 
 type Row = (
     Uint,
     (
         PrintableString,
-        (UtcTime, (Option<Implicit<BitString, 0>>, (SetOf<u16>, ()))),
+        (
+            UtcTime,
+            (Option<Implicit<BitString, 0>>, (StrictSetOf<u16>, ())),
+        ),
     ),
 );
 

@@ -5,7 +5,7 @@ use crate::record::Record;
 use crate::refusals::Refusal;
 use crate::ten_fields;
 use const_oid_identifiers::ObjectIdentifier;
-use der_core::{Explicit, Implicit, SetOf, WithDefault};
+use der_core::{Explicit, Implicit, StrictSetOf, WithDefault};
 use std::alloc::Global;
 use std::marker::PhantomData;
 
@@ -43,19 +43,23 @@ fn answer_of_lists(alloc: Global, kind: &str, question: Question<'_>) -> Result<
 /// The answer of a set whose members stand in order.
 fn answer_of_sets(alloc: Global, kind: &str, question: Question<'_>) -> Result<String, Refusal> {
     match kind {
-        "SetOf<()>" => answer_as::<SetOf<()>>(alloc, question),
-        "SetOf<bool>" => answer_as::<SetOf<bool>>(alloc, question),
-        "SetOf<u8>" => answer_as::<SetOf<u8>>(alloc, question),
-        "SetOf<i128>" => answer_as::<SetOf<i128>>(alloc, question),
-        "SetOf<Box<u64>>" => answer_as::<SetOf<Box<u64>>>(alloc, question),
-        "SetOf<str>" => answer_as::<SetOf<&str>>(alloc, question),
-        "SetOf<String>" => answer_as::<SetOf<String>>(alloc, question),
-        "SetOf<ObjectIdentifier>" => answer_as::<SetOf<ObjectIdentifier<39>>>(alloc, question),
-        "SetOf<Vec<bool>>" => answer_as::<SetOf<Vec<bool>>>(alloc, question),
-        "SetOf<[u8;1]>" => answer_as::<SetOf<[u8; 1]>>(alloc, question),
-        "SetOf<Implicit<bool,0>>" => answer_as::<SetOf<Implicit<bool, 0>>>(alloc, question),
-        "SetOf<Explicit<SetOf<u8>,2>>" => {
-            answer_as::<SetOf<Explicit<SetOf<u8>, 2>>>(alloc, question)
+        "StrictSetOf<()>" => answer_as::<StrictSetOf<()>>(alloc, question),
+        "StrictSetOf<bool>" => answer_as::<StrictSetOf<bool>>(alloc, question),
+        "StrictSetOf<u8>" => answer_as::<StrictSetOf<u8>>(alloc, question),
+        "StrictSetOf<i128>" => answer_as::<StrictSetOf<i128>>(alloc, question),
+        "StrictSetOf<Box<u64>>" => answer_as::<StrictSetOf<Box<u64>>>(alloc, question),
+        "StrictSetOf<str>" => answer_as::<StrictSetOf<&str>>(alloc, question),
+        "StrictSetOf<String>" => answer_as::<StrictSetOf<String>>(alloc, question),
+        "StrictSetOf<ObjectIdentifier>" => answer_as::<StrictSetOf<ObjectIdentifier<39>>>(
+            alloc, question,
+        ),
+        "StrictSetOf<Vec<bool>>" => answer_as::<StrictSetOf<Vec<bool>>>(alloc, question),
+        "StrictSetOf<[u8;1]>" => answer_as::<StrictSetOf<[u8; 1]>>(alloc, question),
+        "StrictSetOf<Implicit<bool,0>>" => answer_as::<StrictSetOf<Implicit<bool, 0>>>(
+            alloc, question,
+        ),
+        "StrictSetOf<Explicit<StrictSetOf<u8>,2>>" => {
+            answer_as::<StrictSetOf<Explicit<StrictSetOf<u8>, 2>>>(alloc, question)
         }
         _ => Err(Refusal::Unread),
     }

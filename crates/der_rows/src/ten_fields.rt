@@ -9,7 +9,7 @@ use crate::refusals::Refusal;
 use const_oid_identifiers::ObjectIdentifier;
 use der_core::{
     Choice, Decode, DerOrd, Encode, EncodeRef, Error, Explicit, Implicit, Length, OneOf2, Reader,
-    SetOf, Shaped, Tag, WithDefault, Writer, from_der, to_der,
+    Shaped, StrictSetOf, Tag, WithDefault, Writer, from_der, to_der,
 };
 use std::alloc::Global;
 
@@ -85,7 +85,10 @@ type TenFields = Record<
 type Behind = (Option<u32>, (Vec<u16>, (Option<Implicit<(), 0>>, Last)));
 
 /// The last three fields.
-type Last = (Explicit<i64, 1>, (NumberOrText, (Option<SetOf<u8>>, ())));
+type Last = (
+    Explicit<i64, 1>,
+    (NumberOrText, (Option<StrictSetOf<u8>>, ())),
+);
 
 /// The answer of the record, which isn't compared.
 pub fn answer(alloc: Global, question: Question<'_>) -> Result<String, Refusal> {

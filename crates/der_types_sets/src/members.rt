@@ -30,7 +30,7 @@ pub(crate) fn encode_members<T: Encode, W: Writer>(
     members: &[T],
     writer: &mut W,
 ) -> Result<(), Error>
-    ensures exact { Writes (W.out writer.old) (W.out writer.new) result (write_body (many T.shape) (plain_list T.written members.now)) }
+    ensures exact { Writes W.takes_memory (W.out writer.old) (W.out writer.new) result (write_body (many T.shape) (plain_list T.written members.now)) }
     ensures kept { Continues (W.out writer.old) (W.out writer.new) }
 {
     for member in members {

@@ -21,8 +21,8 @@ use crate::places::{arrange, check_last, place_of};
 use crate::set_of_ref::SetOfRef;
 use der_core::{
     AsRead, Decode, DecodeValue, DerOrd, Encode, EncodeValue, Error, ErrorKind, FixedTag, Header,
-    Length, Member, Reader, SetOf as StrictSet, Shaped, ShapedValue, SliceReader, Tag, ValueOrd,
-    Writer, elements_cmp, from_der,
+    Length, Member, Reader, Shaped, ShapedValue, SliceReader, StrictSetOf as StrictSet, Tag,
+    ValueOrd, Writer, elements_cmp, from_der,
 };
 use std::alloc::{AllocError, Global};
 use std::cmp::Ordering;

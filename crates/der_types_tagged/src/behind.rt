@@ -60,7 +60,7 @@ pub fn encode_behind<W: Writer, T: EncodeValue>(
     tag: Tag,
     value: &T,
 ) -> Result<(), Error>
-    ensures exact { Writes (W.out writer.old) (W.out writer.new) result (write (tagged tag T.content) (T.value_written value.now)) }
+    ensures exact { Writes W.takes_memory (W.out writer.old) (W.out writer.new) result (write (tagged tag T.content) (T.value_written value.now)) }
     ensures kept { Continues (W.out writer.old) (W.out writer.new) }
 {
     let len = value.value_len()?;

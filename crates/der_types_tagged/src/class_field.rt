@@ -170,8 +170,8 @@ impl<T: EncodeValue + FixedTag, const CLASS: u8> ClassField<T, CLASS> {
     /// # Errors
     /// `Overflow` where a length passes 2^32 - 1, and those of the writer.
     pub fn encode_value<W: Writer>(&self, writer: &mut W) -> Result<(), Error>
-        ensures explicit { self.now.tag_mode ≡ Explicit → Writes (W.out writer.old) (W.out writer.new) result (write_content (nested (only (tagged T.fixed_tag T.content))) (T.value_written self.now.value)) }
-        ensures implicit { self.now.tag_mode ≡ Implicit → Writes (W.out writer.old) (W.out writer.new) result (write_content T.content (T.value_written self.now.value)) }
+        ensures explicit { self.now.tag_mode ≡ Explicit → Writes W.takes_memory (W.out writer.old) (W.out writer.new) result (write_content (nested (only (tagged T.fixed_tag T.content))) (T.value_written self.now.value)) }
+        ensures implicit { self.now.tag_mode ≡ Implicit → Writes W.takes_memory (W.out writer.old) (W.out writer.new) result (write_content T.content (T.value_written self.now.value)) }
         ensures kept { Continues (W.out writer.old) (W.out writer.new) }
     {
         encode_value_of_field(writer, self.tag_mode, &self.value)
@@ -193,8 +193,8 @@ impl<T: EncodeValue + FixedTag, const CLASS: u8> ClassField<T, CLASS> {
     /// # Errors
     /// `Overflow` where a length passes 2^32 - 1, and those of the writer.
     pub fn encode<W: Writer>(&self, writer: &mut W) -> Result<(), Error>
-        ensures explicit { self.now.tag_mode ≡ Explicit → Writes (W.out writer.old) (W.out writer.new) result (write (explicit_field CLASS self.now.tag_number.value (tagged T.fixed_tag T.content)) (T.value_written self.now.value)) }
-        ensures implicit { self.now.tag_mode ≡ Implicit → Writes (W.out writer.old) (W.out writer.new) result (write (implicit_field CLASS self.now.tag_number.value T.fixed_tag T.content) (T.value_written self.now.value)) }
+        ensures explicit { self.now.tag_mode ≡ Explicit → Writes W.takes_memory (W.out writer.old) (W.out writer.new) result (write (explicit_field CLASS self.now.tag_number.value (tagged T.fixed_tag T.content)) (T.value_written self.now.value)) }
+        ensures implicit { self.now.tag_mode ≡ Implicit → Writes W.takes_memory (W.out writer.old) (W.out writer.new) result (write (implicit_field CLASS self.now.tag_number.value T.fixed_tag T.content) (T.value_written self.now.value)) }
         ensures kept { Continues (W.out writer.old) (W.out writer.new) }
     {
         encode_field(writer, CLASS, self.tag_mode, self.tag_number, &self.value)

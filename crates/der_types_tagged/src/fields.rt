@@ -69,8 +69,8 @@ pub fn encode_value_of_field<W: Writer, T: EncodeValue + FixedTag>(
     mode: TagMode,
     value: &T,
 ) -> Result<(), Error>
-    ensures explicit { mode ≡ Explicit → Writes (W.out writer.old) (W.out writer.new) result (write_content (nested (only (tagged T.fixed_tag T.content))) (T.value_written value.now)) }
-    ensures implicit { mode ≡ Implicit → Writes (W.out writer.old) (W.out writer.new) result (write_content T.content (T.value_written value.now)) }
+    ensures explicit { mode ≡ Explicit → Writes W.takes_memory (W.out writer.old) (W.out writer.new) result (write_content (nested (only (tagged T.fixed_tag T.content))) (T.value_written value.now)) }
+    ensures implicit { mode ≡ Implicit → Writes W.takes_memory (W.out writer.old) (W.out writer.new) result (write_content T.content (T.value_written value.now)) }
     ensures kept { Continues (W.out writer.old) (W.out writer.new) }
 {
     match mode {
@@ -104,8 +104,8 @@ pub fn encode_field<W: Writer, T: EncodeValue + FixedTag>(
     number: TagNumber,
     value: &T,
 ) -> Result<(), Error>
-    ensures explicit { mode ≡ Explicit → Writes (W.out writer.old) (W.out writer.new) result (write (explicit_field class number.value (tagged T.fixed_tag T.content)) (T.value_written value.now)) }
-    ensures implicit { mode ≡ Implicit → Writes (W.out writer.old) (W.out writer.new) result (write (implicit_field class number.value T.fixed_tag T.content) (T.value_written value.now)) }
+    ensures explicit { mode ≡ Explicit → Writes W.takes_memory (W.out writer.old) (W.out writer.new) result (write (explicit_field class number.value (tagged T.fixed_tag T.content)) (T.value_written value.now)) }
+    ensures implicit { mode ≡ Implicit → Writes W.takes_memory (W.out writer.old) (W.out writer.new) result (write (implicit_field class number.value T.fixed_tag T.content) (T.value_written value.now)) }
     ensures kept { Continues (W.out writer.old) (W.out writer.new) }
 {
     let tag = tag_of_field(class, mode, number, T::tag());

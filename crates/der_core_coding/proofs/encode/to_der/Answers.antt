@@ -1,9 +1,13 @@
 use Rattle.der_core_head.proofs.Written.{is_written}
-use Rattle.der_core_coding.proofs.Meant.{all_meant}
+use Rattle.der_core_head.proofs.OkOctets.{ok_octets}
+use Rattle.der_core_coding.proofs.Encodable.{ok_valid}
 use Rattle.der_core_coding.proofs.encode.to_der.Goals as goal
+
+pub returns-clause-octets : goal.returns-clause-octets
+returns-clause-octets g c = ok_octets g.T.Shaped.shape (g.T.Shaped.written c.args.value.now) (λ v. v.items) c.written.result c.written.ensures
 
 pub returns-clause-spelled : goal.returns-clause-spelled
 returns-clause-spelled g c = λ valid. is_written g.T.Shaped.shape (g.T.Shaped.written c.args.value.now) (λ v. v.items) c.written.result valid c.written.ensures
 
-pub returns-clause-meant : goal.returns-clause-meant
-returns-clause-meant g c = all_meant g.T.Shaped.shape (g.T.Shaped.written c.args.value.now) (λ v. v.items) c.written.result c.written.ensures
+pub returns-clause-valid : goal.returns-clause-valid
+returns-clause-valid g c = ok_valid g.T.Shaped.shape (g.T.Shaped.written c.args.value.now) _ c.written.result c.written.ensures

@@ -11,7 +11,7 @@ returns-in_err-encode_header-clause-exact g c =
     let out = g.W.Writer.out in
     let s = g.T.Shaped.shape in
     let v = g.T.Shaped.written c.args.value.now in
-    rw (p.1, p.2) (writes_refused (context true c.args.number.value) (size s v) (write s v) (out c.args.writer.now) (out c.encode_header.new.writer) c.in_ok-len.len.value c.in_err-encode_header.field-0.0
+    rw (p.1, p.2) (writes_refused g.W.Writer.takes_memory (context true c.args.number.value) (size s v) (write s v) (out c.args.writer.now) (out c.encode_header.new.writer) c.in_ok-len.len.value c.in_err-encode_header.field-0.0
     c.in_ok-len.ensures c.in_err-encode_header.ensures.exact)
 
 pub returns-clause-exact : goal.returns-clause-exact
@@ -19,5 +19,5 @@ returns-clause-exact g c =
     let out = g.W.Writer.out in
     let s = g.T.Shaped.shape in
     let v = g.T.Shaped.written c.args.value.now in
-    writes_after (context true c.args.number.value) (size s v) (write s v) (out c.args.writer.now) (out c.encode_header.new.writer) (out c.encode.new.writer) c.in_ok-len.len.value c.encode.result
+    writes_after g.W.Writer.takes_memory (context true c.args.number.value) (size s v) (write s v) (out c.args.writer.now) (out c.encode_header.new.writer) (out c.encode.new.writer) c.in_ok-len.len.value c.encode.result
     c.in_ok-len.ensures c.in_ok-encode_header.ensures.exact c.encode.ensures.exact
