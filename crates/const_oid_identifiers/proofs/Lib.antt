@@ -15,3 +15,4 @@ pub mod FamilyLaws
 pub mod ArcFaultLaws
 pub mod TextFaultLaws
 pub mod OverflowLaws
+pub mod PackedLaws

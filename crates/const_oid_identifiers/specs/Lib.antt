@@ -3,6 +3,7 @@ pub mod IdentifierOctets
 pub mod Bound
 pub mod Arcs
 pub mod Buffers
+pub mod PackedOctets
 pub mod Outcome
 pub mod References
 pub mod DottedText

@@ -10,6 +10,7 @@ mod error;
 mod object_identifier;
 mod object_identifier_ref;
 mod octets;
+mod packed;
 mod text;
 
 pub use arcs::Arcs;

@@ -20,6 +20,7 @@ use crate::buffer::Buffer;
 use crate::encoder::Encoder;
 use crate::error::{Arc, Error, Result};
 use crate::object_identifier_ref::ObjectIdentifierRef;
+use crate::packed::Packed;
 use crate::{octets, text};
 use std::cmp::Ordering;
 use std::convert::AsSlice;
@@ -30,7 +31,7 @@ use std::str::FromStr;
 /// An identifier of at most `MAX_SIZE` octets, held in place. A contract sees the list of its arcs.
 #[derive(Clone, Copy)]
 pub struct ObjectIdentifier<const MAX_SIZE: usize> {
-    octets: Buffer<MAX_SIZE>,
+    octets: Packed<MAX_SIZE>,
 }
 
 impl<const MAX_SIZE: usize> Model for ObjectIdentifier<MAX_SIZE> {
@@ -76,7 +77,7 @@ impl<const MAX_SIZE: usize> ObjectIdentifier<MAX_SIZE> {
         }
         octets::check(ber_bytes)?;
         Ok(ObjectIdentifier {
-            octets: Buffer::from_slice(ber_bytes),
+            octets: Packed::from_slice(ber_bytes),
         })
     }
 
@@ -101,7 +102,7 @@ impl<const MAX_SIZE: usize> ObjectIdentifier<MAX_SIZE> {
             return None;
         }
         Some(ObjectIdentifier {
-            octets: Buffer::from_slice(octets.split_at(start).0),
+            octets: Packed::from_slice(octets.split_at(start).0),
         })
     }
 
@@ -118,7 +119,9 @@ impl<const MAX_SIZE: usize> ObjectIdentifier<MAX_SIZE> {
         requires { SpellsIdentifier Bound MAX_SIZE octets }
         ensures { result ≡ arcs_of octets.entry }
     {
-        ObjectIdentifier { octets }
+        ObjectIdentifier {
+            octets: Packed::from_slice(octets.as_bytes()),
+        }
     }
 
     /// The octets (X.690 8.19).

@@ -1,13 +1,13 @@
 //! Tags and headers at the front of octets, by either encoding rules.
 
-ghost use Rattle.std.specs.Prelude.{◌≡◌, ◌≤◌, length, IfOk};
+ghost use Rattle.std.specs.Prelude.{◌≡◌, ◌≤◌, length, Ok, IfOk, IfSome};
 ghost use Rattle.der_core_head.specs.declared.encoding_rules.EncodingRules.TheVariants.{Ber, Der};
 ghost use Rattle.der_core_head.specs.Tags.{tag_at};
 ghost use Rattle.der_core_head.specs.Heads.{head_at};
 ghost use Rattle.der_core_head.specs.Bodies.{tag_ber_at, head_ber_at};
 ghost use Rattle.der_core_octets.specs.Fronts.{Counts, head_of, wanted_at};
 
-use crate::header::{header_of, plain_header_of_tag, tag_of};
+use crate::header::{header_of, short_header_of_tag, tag_of};
 use crate::indefinite::{header_ber_of, tag_ber_of};
 use der_core_head::{EncodingRules, Error, ErrorKind, Header, Tag, is_same_tag};
 
@@ -41,35 +41,24 @@ pub fn header_by(rules: EncodingRules, octets: &[u8]) -> Result<(Header, usize),
     }
 }
 
+/// The header of a wanted tag at the front of octets, and how many octets it takes, if the tag is
+/// spelled in one octet. It is the same by both rules.
+#[inline(always)]
+pub fn plain_header_of_tag(tag: Tag, octets: &[u8]) -> Option<(Header, usize)>
+    ensures der { IfSome result (λ x. Counts head_of octets.now (Ok x) (wanted_at tag head_at)) }
+    ensures ber { IfSome result (λ x. Counts head_of octets.now (Ok x) (wanted_at tag head_ber_at)) }
+    ensures tag { IfSome result (λ x. x.0.tag ≡ tag) }
+{
+    let front = short_header_of_tag(tag, octets)?;
+    Some(front)
+}
+
 /// The header of a wanted tag at the front of octets, and how many octets its tag and length take.
 ///
 /// # Errors
 /// Those of `header_by`, and then `TagUnexpected` for another tag.
-#[inline(always)]
-pub fn header_of_tag_by(
-    rules: EncodingRules,
-    tag: Tag,
-    octets: &[u8],
-) -> Result<(Header, usize), Error>
-    ensures der { rules ≡ Der → Counts head_of octets.now result (wanted_at tag head_at) }
-    ensures ber { rules ≡ Ber → Counts head_of octets.now result (wanted_at tag head_ber_at) }
-    ensures tag { IfOk result (λ x. x.0.tag ≡ tag) }
-    ensures within { IfOk result (λ x. x.1 ≤ length octets.now) }
-{
-    match plain_header_of_tag(tag, octets) {
-        Some(front) => Ok(front),
-        None => any_header_of_tag(rules, tag, octets),
-    }
-}
-
-/// The header of a wanted tag, of any form. It stays out of the calls that read headers, so that the
-/// usual ones cost them little.
-///
-/// # Errors
-/// Those of `header_by`, and then `TagUnexpected` for another tag.
-#[inline(never)]
 #[tactic(auto, using(der_core_head::proofs::TagEquality::same), unfolding(crate::specs::Fronts::wanted_at))]
-fn any_header_of_tag(
+pub fn any_header_of_tag(
     rules: EncodingRules,
     tag: Tag,
     octets: &[u8],

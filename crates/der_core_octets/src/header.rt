@@ -268,7 +268,7 @@ fn plain_header_of(octets: &[u8]) -> Option<(Header, usize)>
 /// The header of a wanted tag at the front of octets, and how many octets it takes, if the tag is
 /// spelled in one octet. One comparison tells it, and the tag isn't made from its octet.
 #[inline(always)]
-pub fn plain_header_of_tag(tag: Tag, octets: &[u8]) -> Option<(Header, usize)>
+pub fn short_header_of_tag(tag: Tag, octets: &[u8]) -> Option<(Header, usize)>
     ensures front { IfSome result (λ x. Counts head_of octets.now (Ok x) head_at) }
     ensures tag { IfSome result (λ x. x.0.tag ≡ tag) }
 {

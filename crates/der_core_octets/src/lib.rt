@@ -19,7 +19,7 @@ mod writer;
 pub use bytes_owned::BytesOwned;
 pub use bytes_ref::BytesRef;
 pub use encode::{encode_header, slice_len, sum_len};
-pub use fronts::{header_by, header_of_tag_by, tag_by};
+pub use fronts::{header_by, tag_by};
 pub use heads::{header_of, length_of, tag_of};
 pub use indefinite::{header_ber_of, indefinite_length_of, tag_ber_of};
 pub use integers::{integer_octets_of, signed_of, unsigned_of};

@@ -14,7 +14,8 @@ ghost use Rattle.der_core_octets.specs.Fronts.{head_of, wanted_at, alone, peek_b
 ghost use Rattle.der_core_octets.specs.Nesting.{IsNested, Answered, RefusesNested, IsEnclosed, AnsweredIn, RefusesIn};
 ghost use Rattle.der_core_octets.specs.Places.{IsAt, encoding_at};
 
-use crate::{header_by, header_of_tag_by, tag_by};
+use crate::fronts::{any_header_of_tag, plain_header_of_tag};
+use crate::{header_by, tag_by};
 use der_core_head::{EncodingRules, Error, ErrorKind, Header, Length, Tag, is_same_tag};
 use std::alloc::Global;
 
@@ -171,19 +172,14 @@ pub trait Reader<'r>: Drop {
         ensures ber { ReadsBy Ber head_of (state self.old) (state self.new) result (wanted_at tag head_ber_at) }
         ensures tag { IfOk result (λ h. h.tag ≡ tag) }
     {
-        if self.is_failed() {
-            return Err(Error::from(ErrorKind::Failed));
-        }
-        match header_of_tag_by(self.encoding_rules(), tag, self.remaining()) {
-            Ok((header, len)) => {
+        if !self.is_failed() {
+            if let Some((header, len)) = plain_header_of_tag(tag, self.remaining()) {
                 self.skip(len);
-                Ok(header)
-            }
-            Err(error) => {
-                self.fail();
-                Err(error.found_at(self.position()))
+                return Ok(header);
             }
         }
+        let Header { length, .. } = read_any_header_of(self, tag)?;
+        Ok(Header { tag, length })
     }
 
     /// The next header, by the rules of the reader, without passing over it. The reader stays as it is.
@@ -516,5 +512,31 @@ pub trait Reader<'r>: Drop {
             return Err(ErrorKind::TrailingData.at(self.position()));
         }
         Ok(())
+    }
+}
+
+/// The next header of a wanted tag, of any form. It stays out of the calls that read headers, so that
+/// the usual ones cost them little.
+///
+/// # Errors
+/// Those of `read_header_of`.
+#[inline(never)]
+fn read_any_header_of<'r, R: Reader<'r>>(reader: &mut R, tag: Tag) -> Result<Header, Error>
+    ensures der { ReadsBy Der head_of (R.state reader.old) (R.state reader.new) result (wanted_at tag head_at) }
+    ensures ber { ReadsBy Ber head_of (R.state reader.old) (R.state reader.new) result (wanted_at tag head_ber_at) }
+    ensures tag { IfOk result (λ h. h.tag ≡ tag) }
+{
+    if reader.is_failed() {
+        return Err(Error::from(ErrorKind::Failed));
+    }
+    match any_header_of_tag(reader.encoding_rules(), tag, reader.remaining()) {
+        Ok((header, len)) => {
+            reader.skip(len);
+            Ok(header)
+        }
+        Err(error) => {
+            reader.fail();
+            Err(error.found_at(reader.position()))
+        }
     }
 }

@@ -1,18 +1,20 @@
 -- Octets of a content, and what a leaf reads of them.
-use Rattle.std.proofs.Common.{◌≡◌, ℕ, false, List, length, take, drop, Result, Ok, Err, refl, sym, ap, ◌∙◌}
-use Rattle.std.proofs.lemmas.Bool.{cases_lt}
+use Rattle.std.proofs.Common.{◌≡◌, ◌<◌, ℕ, arith, false, List, length, take, drop, Result, Ok, Err, refl, sym, ap, ◌∙◌}
+use Rattle.std.proofs.lemmas.Bool.{cases_lt, le-ltb}
 use Rattle.std.proofs.Common.{inl, inr}
 use Rattle.der_core_head.specs.declared.error.Error.{Error}
 use Rattle.der_core_head.specs.declared.error.ErrorKind.{ErrorKind}
 use Rattle.der_core_head.specs.declared.error.ErrorKind.TheVariants as kinds
-use Rattle.der_core_head.specs.Leaves.{Leaf, LeafValue, leaf_read}
+use Rattle.der_core_head.specs.Lengths.{counted}
+use Rattle.der_core_head.specs.Leaves.{Leaf, LeafValue, leaf_read, octets}
 use Rattle.der_core_head.specs.Shapes.{leaf}
 use Rattle.der_core_head.specs.declared.tag.Tag.{Tag}
 use Rattle.der_core_head.specs.Octets.{◌>>=◌}
 use Rattle.der_core_head.specs.Grammar.{whole, slice_at, value_at, read_content, leaf_at, kept}
-use Rattle.der_core_head.specs.Reading.{State, Reads, Gives}
+use Rattle.der_core_head.specs.Reading.{State, Reads, ReadsAlways, IsRest, Fails, broken}
 use Rattle.der_core_head.proofs.Results.{ok_is}
-use Rattle.der_core_octets.proofs.Nested.{moved_kept}
+use Rattle.der_core_octets.proofs.Nested.{broken_kept}
+use Rattle.der_core_octets.proofs.Steps.{kept_then}
 use Rattle.der_core_octets.proofs.Facts.{slice_ok, slice_short, value_enough, value_short}
 
 leaf_then : {P : Type 0} (o : Result P ErrorKind) (r : List ℕ) → (leaf_at o >>= whole >>= λ y. Ok (y.0, r)) ≡ (o >>= kept r)
@@ -35,9 +37,25 @@ content_err l t room n w k e =
       | inr le ↦ absurd (cc (slice_ok n w le))
     ]
 
-pub leaf_reads : {X : Type 0} (l : Leaf) (t : Tag) (view : X → LeafValue l) (old new : State) (x : List ℕ) (n : ℕ) (r : Result X Error)
-    → ((l : Leaf) (t : Tag) (room : ℕ) → value_at (read_content (leaf l) t room) n old.rest ≡ (leaf_read l t x >>= kept new.rest)) → new ≡ record old { rest = new.rest } → old.failed ≡ false
-    → Gives view r (leaf_read l t x) → Reads view old new r (value_at (read_content (leaf l) t old.room) n)
-leaf_reads l t view old new x n (Ok v) took moved ready says = (λ _. took l t old.room ∙ ap (λ o. o >>= kept new.rest) says, moved, ready)
-leaf_reads l t view old new x n (Err e) took moved ready says =
-    (λ _ _ memory. took l t old.room ∙ ap (λ o. o >>= kept new.rest) (says memory), moved_kept old new moved, λ failed. absurd (cc (failed, ready)))
+module _ {X : Type 0} (l : Leaf) (t : Tag) (view : X → LeafValue l) (old mid : State) (x : List ℕ) (n : ℕ)
+    (took : (l : Leaf) (t : Tag) (room : ℕ) → value_at (read_content (leaf l) t room) n old.rest ≡ (leaf_read l t x >>= kept mid.rest))
+    (moved : mid ≡ record old { rest = mid.rest }) (ready : old.failed ≡ false) (passed : IsRest mid.rest old.rest) where
+  pub leaf_reads : (v : X) → leaf_read l t x ≡ Ok (view v) → Reads view old mid (Ok v) (value_at (read_content (leaf l) t old.room) n)
+  leaf_reads v says = (λ _. took l t old.room ∙ ap (λ o. o >>= kept mid.rest) says, moved, ready, passed)
+
+  -- and the reader fails where they are refused
+  pub leaf_refuses : (new : State) (e : Error) → new ≡ broken mid → Fails e.kind (leaf_read l t x) → Reads view old new (Err e) (value_at (read_content (leaf l) t old.room) n)
+  leaf_refuses new e failed says = (
+    λ _ _ memory. took l t old.room ∙ ap (λ o. o >>= kept mid.rest) (says memory),
+    kept_then old mid new moved passed (broken_kept mid new failed),
+    λ f. absurd (cc (f, ready)),
+    ap (λ (s : State). s.failed) failed,
+  )
+
+pub content_reads : {X : Type 0} (t : Tag) (n : ℕ) (view : X → List ℕ) (old new : State) (r : Result X Error) → ReadsAlways view old new r (slice_at n) → Reads view old new r (value_at (read_content (leaf octets) t old.room) n)
+content_reads t n view old new (Ok v) h = (λ _. content_ok octets t old.room n old.rest (view v) new.rest h.0, h.1, h.2, h.3)
+content_reads t n view old new (Err e) h = (λ _ ready memory. content_err octets t old.room n old.rest e.kind (h.0 ready memory), h.1, h.2, h.3)
+
+-- octets that a length can count
+pub counted_fits : (w : List ℕ) → length w < 4294967296 → counted w ≡ Ok w
+counted_fits w h = rw (le-ltb 4294967295 (length w) (omega arith)) refl

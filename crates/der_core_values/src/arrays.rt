@@ -58,11 +58,20 @@ impl<'a, R: Reader<'a>, T: Decode<'a, R>, const N: usize> DecodeFields<'a, R> fo
         let mut values = Vec::new(alloc);
         for _ in 0..N {
             let value = T::decode(alloc, reader)?;
-            values.push(value)?;
+            match values.push(value) {
+                Ok(()) => {}
+                Err(error) => {
+                    reader.fail();
+                    return Err(Error::from(error));
+                }
+            }
         }
         match <[T; N]>::try_from(values) {
             Ok(array) => Ok(array),
-            Err(_) => Err(Error::from(ErrorKind::Reader)),
+            Err(_) => {
+                reader.fail();
+                Err(Error::from(ErrorKind::Reader))
+            }
         }
     }
 }

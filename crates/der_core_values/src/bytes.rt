@@ -1,10 +1,10 @@
 //! Octets that stand as they are, whatever tag is before them (X.690 8.7).
 
 ghost use Rattle.std.specs.Prelude.{◌≡◌};
-ghost use Rattle.der_core_head.specs.Grammar.{value_at, read_content};
+ghost use Rattle.der_core_head.specs.Grammar.{slice_at, value_at, read_content};
 ghost use Rattle.der_core_octets.specs.Held.{held_octets};
 ghost use Rattle.der_core_head.specs.Leaves.{octets};
-ghost use Rattle.der_core_head.specs.Reading.{Reads};
+ghost use Rattle.der_core_head.specs.Reading.{Reads, ReadsAlways};
 ghost use Rattle.der_core_head.specs.Shapes.{leaf};
 
 use crate::decode::{DecodeValue, ShapedValue};
@@ -84,16 +84,38 @@ impl EncodeValue for BytesOwned {
     }
 }
 
-/// The octets of the content behind a header, copied, whatever they are.
+/// The octets of the content behind a header, copied as they stand, whatever they are, by either
+/// rules. Under BER the content of a string in parts is so the encodings of its parts. After a refusal
+/// the reader has failed.
 ///
 /// # Errors
-/// `Incomplete` where there are fewer, or `OutOfMemory`.
-pub fn decode_value_parts<'a, R: Reader<'a>>(
+/// `Incomplete` where there are fewer, or `OutOfMemory`; `Failed` where the reader failed before.
+pub fn decode_octets<'a, R: Reader<'a>>(
     alloc: Global,
     reader: &mut R,
     header: Header,
 ) -> Result<BytesOwned, Error>
-    ensures { Reads (λ bytes. bytes) (R.state reader.old) (R.state reader.new) result (value_at (read_content (leaf octets) header.tag (R.state reader.old).room) header.length.value) }
+    ensures octets { ReadsAlways (λ bytes. bytes) (R.state reader.old) (R.state reader.new) result (slice_at header.length.value) }
+    // It is what reading a content gives.
+    ensures content { Reads (λ bytes. bytes) (R.state reader.old) (R.state reader.new) result (value_at (read_content (leaf octets) header.tag (R.state reader.old).room) header.length.value) }
 {
-    decode_leaf(alloc, reader, header)
+    copy_content(alloc, reader, header)
+}
+
+/// The octets of the content behind a header, copied.
+fn copy_content<'a, R: Reader<'a>>(
+    alloc: Global,
+    reader: &mut R,
+    header: Header,
+) -> Result<BytesOwned, Error>
+    ensures { ReadsAlways (λ bytes. bytes) (R.state reader.old) (R.state reader.new) result (slice_at header.length.value) }
+{
+    let octets = reader.read_vec(alloc, header.length)?;
+    match BytesOwned::new(octets) {
+        Ok(bytes) => Ok(bytes),
+        Err(error) => {
+            reader.fail();
+            Err(error)
+        }
+    }
 }

@@ -31,7 +31,7 @@ pub trait Shaped {
 
 /// What is read from octets, with its header.
 pub trait Decode<'a, R: Reader<'a>>: Shaped + Drop {
-    /// The value that stands next.
+    /// The value that stands next. After a refusal the reader has failed.
     ///
     /// # Errors
     /// The first fault from the left, or `OutOfMemory`; `Failed` where the reader failed before.
@@ -51,7 +51,8 @@ pub trait ShapedValue {
 
 /// What is read from the octets behind a header.
 pub trait DecodeValue<'a, R: Reader<'a>>: ShapedValue + Drop {
-    /// The value whose content stands next, behind a header that was read.
+    /// The value whose content stands next, behind a header that was read. After a refusal the reader
+    /// has failed.
     ///
     /// # Errors
     /// The first fault from the left, or `OutOfMemory`; `Failed` where the reader failed before.
@@ -119,7 +120,7 @@ impl<T: Shaped> Shaped for Option<T> {
 impl<'a, R: Reader<'a>, T: Decode<'a, R> + Choice> Decode<'a, R> for Option<T> {
     #[tactic(auto, unfolding(der_core_head::specs::Grammar::opt_at))]
     fn decode(alloc: Global, reader: &mut R) -> Result<Option<T>, Error> {
-        let Some(tag) = reader.peek_tag_or_end()? else {
+        let Some(tag) = reader.next_tag_or_end()? else {
             return Ok(None);
         };
         if T::can_decode(tag) {

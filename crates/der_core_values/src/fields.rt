@@ -21,7 +21,7 @@ pub trait Fields {
 
 /// What is read as fields, one after the other.
 pub trait DecodeFields<'a, R: Reader<'a>>: Fields {
-    /// The fields that stand next.
+    /// The fields that stand next. After a refusal the reader has failed.
     ///
     /// # Errors
     /// The first fault from the left, or `OutOfMemory`; `Failed` where the reader failed before.

@@ -40,7 +40,7 @@ pub fn read_content<'a, R: Reader<'a>>(reader: &mut R, header: Header) -> Result
     reader.read_slice(header.length)
 }
 
-/// Reads a value from the octets of its content.
+/// Reads a value from the octets of its content. After a refusal the reader has failed.
 ///
 /// # Errors
 /// `Incomplete` where there are fewer octets, their fault, or `OutOfMemory`.
@@ -52,7 +52,13 @@ pub fn decode_leaf<'a, R: Reader<'a>, T: Leaf<'a>>(
     ensures { Reads T.leaf_plain (R.state reader.old) (R.state reader.new) result (value_at (read_content (leaf T.kind) header.tag (R.state reader.old).room) header.length.value) }
 {
     let octets = read_content(reader, header)?;
-    T::from_content(alloc, header.tag, octets)
+    match T::from_content(alloc, header.tag, octets) {
+        Ok(value) => Ok(value),
+        Err(error) => {
+            reader.fail();
+            Err(error)
+        }
+    }
 }
 
 impl FixedTag for bool {

@@ -25,7 +25,7 @@ mod texts;
 mod tuples;
 mod wrappers;
 
-pub use bytes::decode_value_parts;
+pub use bytes::decode_octets;
 pub use decode::{Choice, Decode, DecodeValue, FixedTag, Shaped, ShapedValue};
 pub use elements::{ApartValue, AsRead, AsReadValue, Element, Member};
 pub use encode::{Encode, EncodeValue};

@@ -47,12 +47,13 @@ impl<'a, R: Reader<'a>, A: Decode<'a, R> + Choice, B: Decode<'a, R> + Choice> De
     for OneOf2<A, B> {
     #[tactic(auto, unfolding(der_core_head::specs::Grammar::either_at))]
     fn decode(alloc: Global, reader: &mut R) -> Result<OneOf2<A, B>, Error> {
-        let tag = reader.peek_tag()?;
+        let tag = reader.next_tag()?;
         if A::can_decode(tag) {
             Ok(OneOf2::First(A::decode(alloc, reader)?))
         } else if B::can_decode(tag) {
             Ok(OneOf2::Second(B::decode(alloc, reader)?))
         } else {
+            reader.fail();
             Err(Error::from(ErrorKind::TagUnexpected))
         }
     }

@@ -31,7 +31,13 @@ impl<T: ShapedValue> ShapedValue for Box<T> {
 impl<'a, R: Reader<'a>, T: DecodeValue<'a, R>> DecodeValue<'a, R> for Box<T> {
     fn decode_value(alloc: Global, reader: &mut R, header: Header) -> Result<Box<T>, Error> {
         let value = T::decode_value(alloc, reader, header)?;
-        Ok(Box::new(alloc, value)?)
+        match Box::new(alloc, value) {
+            Ok(boxed) => Ok(boxed),
+            Err(error) => {
+                reader.fail();
+                Err(Error::from(error))
+            }
+        }
     }
 }
 
@@ -72,11 +78,18 @@ impl<'a, R: Reader<'a>, T: Decode<'a, R>> DecodeFields<'a, R> for Vec<T> {
                 break;
             }
             let value = T::decode(alloc, reader)?;
-            values.push(value)?;
+            match values.push(value) {
+                Ok(()) => {}
+                Err(error) => {
+                    reader.fail();
+                    return Err(Error::from(error));
+                }
+            }
         }
         if reader.is_finished() {
             Ok(values)
         } else {
+            reader.fail();
             Err(Error::from(ErrorKind::TrailingData))
         }
     }

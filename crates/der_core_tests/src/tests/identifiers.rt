@@ -14,6 +14,7 @@ fn capacities(rt: HostRuntime) -> Result<()> {
     let borrowed = oid.as_oid_ref();
     let octets = borrowed.as_bytes();
     assert_eq!(rt; Identifier::MAX_SIZE, 39);
+    assert_eq!(rt; size_of::<Identifier>(), 40);
     assert!(rt; ObjectIdentifier::<6>::from_bytes_sized(octets) == Err(Error::Length));
     assert!(rt; ObjectIdentifier::<6>::try_from(borrowed) == Err(Error::Length));
     assert!(rt; Identifier::try_from(borrowed) == Ok(oid));
@@ -47,5 +48,17 @@ fn borrowed_identifiers(rt: HostRuntime) -> Result<()> {
     }
     assert!(rt; arcs.next().is_none());
     assert!(rt; arcs.next().is_none());
+    Ok(())
+}
+
+/// A capacity above 255 octets.
+#[test]
+fn long_identifiers(rt: HostRuntime) -> Result<()> {
+    let octets = [1; 299];
+    let oid = ObjectIdentifier::<300>::from_bytes_sized(octets.as_slice())?;
+    assert!(rt; oid.as_bytes() == octets.as_slice() && oid.len() == 300);
+    let child = oid.push_arc(5)?;
+    assert!(rt; child.as_bytes().len() == 300 && child.parent() == Some(oid));
+    assert!(rt; child.push_arc(5) == Err(Error::Length));
     Ok(())
 }

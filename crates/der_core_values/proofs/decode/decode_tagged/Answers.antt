@@ -22,6 +22,7 @@ returns-in_err-header g c =
       λ der ready memory. tlv_wanted fixed value old.rest ∙ ap (λ r. r >>= λ x. value_at value x.0.len x.1) (subst Q c.tag.ensures (faulty.0 der ready)),
       broken_kept _ _ faulty.1,
       faulty.2,
+      ap (λ (s : State). s.failed) faulty.1,
     )
 
 pub returns : goal.returns
@@ -42,4 +43,4 @@ returns g c =
     let value = read_content content fixed old.room in
     let Q : Tag → Type 0 = λ t. wanted_at t head_at old.rest ≡ Ok (head_of h, mid.rest) in
     reads_after view old mid new c.decode_value.result (tlv_at fixed value) (value_at value h.length.value)
-    front.1 front.2 (λ der. tlv_wanted fixed value old.rest ∙ ap (λ r. r >>= λ x. value_at value x.0.len x.1) (subst Q c.tag.ensures (front.0 der))) inner
+    front.1 front.2 front.3 (λ der. tlv_wanted fixed value old.rest ∙ ap (λ r. r >>= λ x. value_at value x.0.len x.1) (subst Q c.tag.ensures (front.0 der))) inner

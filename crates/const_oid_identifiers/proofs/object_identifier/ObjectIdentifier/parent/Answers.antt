@@ -7,6 +7,8 @@ use Rattle.const_oid_identifiers.proofs.ParentLaws.{none, some, parent, last_unm
 use Rattle.const_oid_identifiers.specs.Family.{parent_of}
 use Rattle.const_oid_identifiers.proofs.EncodingLaws.{identifier-many}
 use Rattle.const_oid_identifiers.proofs.FamilyLaws.{parent-few, parent-push}
+use Rattle.const_oid_identifiers.specs.PackedOctets.{unmarked_front}
+use Rattle.const_oid_identifiers.proofs.PackedLaws.{front-identifier}
 use Rattle.const_oid_identifiers.proofs.object_identifier.ObjectIdentifier.parent.Goals as goal
 
 pub last_start-start-requires : goal.last_start-start-requires
@@ -26,6 +28,21 @@ returns-clause-none g c =
     elim (parent Bound c.last_start-start.result c.args.self.now c.as_bytes-octets.result.now c.as_bytes-octets.ensures.identifier c.as_bytes-octets.ensures.octets c.last_start-start.ensures) [
       | none e two ↦ absurd (c.if-start-eq0.false e)
       | some l longer front last fid whole t ↦ (λ bad. cc, λ two. absurd (longer two))
+    ]
+
+pub from_slice-requires : goal.from_slice-requires
+from_slice-requires g c =
+    let w = c.as_bytes-octets.result.now in
+    elim (parent Bound c.last_start-start.result c.args.self.now w c.as_bytes-octets.ensures.identifier c.as_bytes-octets.ensures.octets c.last_start-start.ensures) [
+      | none e two ↦ absurd (c.if-start-eq0.false e)
+      | some l longer front last fid whole t ↦
+          let octets : c.split_at.result.0.now ≡ identifier_octets front = c.split_at.ensures.front ∙ t in (
+            omega arith,
+            (
+              omega (arith, ap length c.split_at.ensures.front, length-take-le c.last_start-start.result w (omega (arith, c.last_start-start.ensures.within)), c.last_start-start.ensures.within, ap length c.as_bytes-octets.ensures.octets, c.as_bytes-octets.ensures.fits),
+              ap unmarked_front octets ∙ front-identifier Bound front fid ∙ sym octets,
+            ),
+          )
     ]
 
 pub invariant_of-result : goal.invariant_of-result

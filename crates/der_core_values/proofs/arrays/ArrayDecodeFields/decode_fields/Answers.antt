@@ -2,7 +2,7 @@ use Rattle.std.proofs.Common.{◌≡◌, sym, ap, ◌∙◌, arith}
 use Rattle.std.proofs.lemmas.Result.{err_from_is_err_and}
 use Rattle.der_core_head.specs.Grammar.{read, read_exactly}
 use Rattle.der_core_head.specs.Reading.{State, IsDer}
-use Rattle.der_core_octets.proofs.Steps.{frame_then, kept_then}
+use Rattle.der_core_octets.proofs.Steps.{frame_then, kept_then, rest_then}
 use Rattle.der_core_values.proofs.Lists.{exactly_on, exactly_stops, exactly_done}
 use Rattle.der_core_values.proofs.arrays.ArrayDecodeFields.decode_fields.Goals as goal
 
@@ -18,8 +18,9 @@ returns-in_err-value g c =
     rw (p.1, p.2) (
       λ der ready memory. exactly_stops g.T.Shaped.plain each g.row.N c.loop.counter now.rest c.loop.values.items c.in_err-value.field-0.0.kind _ c.loop-test.true
           (ap (λ m. read g.T.Shaped.shape m now.rest) (sym room) ∙ c.in_err-value.ensures.0 (ap (λ (s : State). s.source.encoding) same ∙ der) (ap (λ (s : State). s.failed) same ∙ ready) memory) (c.loop.invariant.total der),
-      kept_then old now _ same c.in_err-value.ensures.1,
+      kept_then old now _ same c.loop.invariant.passed c.in_err-value.ensures.1,
       λ failed. absurd (cc (failed, c.is_failed.ensures, c.if-is_failed.false)),
+      c.in_err-value.ensures.3,
     )
 
 pub loop-preserved : goal.loop-preserved
@@ -34,14 +35,14 @@ loop-preserved g c =
     let frame = frame_then old now after same c.in_ok-value.ensures.1 in
     let total = λ (der : IsDer old). exactly_on g.T.Shaped.plain each g.row.N c.loop.counter now.rest after.rest c.loop.values.items c.in_ok-value.value (read_exactly each g.row.N old.rest) c.loop-test.true
     (ap (λ m. read g.T.Shaped.shape m now.rest) (sym room) ∙ c.in_ok-value.ensures.0 (ap (λ (s : State). s.source.encoding) same ∙ der)) (c.loop.invariant.total der) in
-    rw c.in_ok-push.ensures.items (record { same = frame; count = omega (arith, c.loop.invariant.count, c.in_ok-push.ensures.len); total = total })
+    rw c.in-Ok.ensures.items (record { same = frame; passed = rest_then old.rest now.rest after.rest c.loop.invariant.passed c.in_ok-value.ensures.3; count = omega (arith, c.loop.invariant.count, c.in-Ok.ensures.len); total = total })
 
-pub returns-in-Ok : goal.returns-in-Ok
-returns-in-Ok g c =
+pub returns-in-Ok-try_from : goal.returns-in-Ok-try_from
+returns-in-Ok-try_from g c =
     let state = g.R.Reader.state in
     let old = state c.args.reader.now in
     let now = state c.loop.reader in
     let each = read g.T.Shaped.shape old.room in
-    let made = c.in-Ok.ensures in
+    let made = c.in-Ok-try_from.ensures in
     let total = λ (der : IsDer old). exactly_done g.T.Shaped.plain each g.row.N c.loop.counter now.rest c.loop.values.items (read_exactly each g.row.N old.rest) c.loop-test.false (c.loop.invariant.total der) in
-    rw made.0 (total, c.loop.invariant.same, sym c.is_failed.ensures ∙ c.if-is_failed.false)
+    rw made.0 (total, c.loop.invariant.same, sym c.is_failed.ensures ∙ c.if-is_failed.false, c.loop.invariant.passed)

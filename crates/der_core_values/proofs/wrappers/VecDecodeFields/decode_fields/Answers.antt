@@ -3,9 +3,9 @@ use Rattle.std.specs.Prelude.{◌≢◌}
 use Rattle.std.proofs.lemmas.Result.{err_from_is_err_and}
 use Rattle.der_core_head.specs.Grammar.{read, read_many}
 use Rattle.der_core_head.specs.Reading.{State, IsDer}
-use Rattle.der_core_octets.proofs.Steps.{frame_then, kept_then}
+use Rattle.der_core_octets.proofs.Steps.{frame_then, kept_then, rest_then}
 use Rattle.der_core_values.proofs.Lists.{goes_on, stops, is_done, is_over}
-use Rattle.der_core_octets.proofs.Nested.{moved_kept}
+use Rattle.der_core_octets.proofs.Nested.{broken_kept}
 use Rattle.der_core_values.proofs.wrappers.VecDecodeFields.decode_fields.Goals as goal
 use Rattle.der_core_values.proofs.wrappers.VecDecodeFields.decode_fields.Goals.{else-loop-test, then-loop-test+then-is_finished}
 
@@ -23,8 +23,9 @@ returns-in_err-value g c =
     rw (p.1, p.2) (
       λ der ready memory. stops g.T.Shaped.plain each c.remaining_len-len.result.value c.loop.counter now.rest c.loop.values.items c.in_err-value.field-0.0.kind _ c.loop-test.true some
           (ap (λ m. read g.T.Shaped.shape m now.rest) (sym room) ∙ c.in_err-value.ensures.0 (ap (λ (s : State). s.source.encoding) same ∙ der) (ap (λ (s : State). s.failed) same ∙ ready) memory) (total der),
-      kept_then old now _ same c.in_err-value.ensures.1,
+      kept_then old now _ same c.loop.invariant.passed c.in_err-value.ensures.1,
       λ failed. absurd (cc (failed, c.is_failed.ensures, c.if-is_failed.false)),
+      c.in_err-value.ensures.3,
     )
 
 pub loop-preserved : goal.loop-preserved
@@ -42,7 +43,7 @@ loop-preserved g c =
     let frame = frame_then old now after same c.in_ok-value.ensures.1 in
     let total = λ (der : IsDer old). goes_on plain each len c.loop.counter now.rest after.rest c.loop.values.items c.in_ok-value.value (read_many each len old.rest) c.loop-test.true some
     (ap (λ m. read g.T.Shaped.shape m now.rest) (sym room) ∙ c.in_ok-value.ensures.0 (ap (λ (s : State). s.source.encoding) same ∙ der)) (c.loop.invariant.total der) in
-    rw c.in_ok-push.ensures.items (record { same = frame; total = total })
+    rw c.in-Ok.ensures.items (record { same = frame; passed = rest_then old.rest now.rest after.rest c.loop.invariant.passed c.in_ok-value.ensures.3; total = total })
 
 pub returns-then-is_finished-2 : goal.returns-then-is_finished-2
 returns-then-is_finished-2 g c =
@@ -52,7 +53,7 @@ returns-then-is_finished-2 g c =
     let each = read g.T.Shaped.shape old.room in
     let none : now.rest ≡ [] = c.is_finished-2.ensures.0 c.if-is_finished-2.true in
     let total = λ (der : IsDer old). c.loop.invariant.total der ∙ ap (λ n. read_many each n old.rest) c.remaining_len-len.ensures in
-    (λ der. is_done g.T.Shaped.plain each (c.remaining_len-len.result.value - c.loop.counter) now.rest c.loop.values.items _ none (total der), c.loop.invariant.same, sym c.is_failed.ensures ∙ c.if-is_failed.false)
+    (λ der. is_done g.T.Shaped.plain each (c.remaining_len-len.result.value - c.loop.counter) now.rest c.loop.values.items _ none (total der), c.loop.invariant.same, sym c.is_failed.ensures ∙ c.if-is_failed.false, c.loop.invariant.passed)
 
 pub returns-else-is_finished-2 : goal.returns-else-is_finished-2
 returns-else-is_finished-2 g c =
@@ -68,6 +69,7 @@ returns-else-is_finished-2 g c =
     let total = λ (der : IsDer old). c.loop.invariant.total der ∙ ap (λ n. read_many each n old.rest) c.remaining_len-len.ensures in
     rw c.from-else-is_finished-2.ensures (
       λ der _ _. is_over g.T.Shaped.plain each c.remaining_len-len.result.value c.loop.counter now.rest c.loop.values.items _ past some (total der),
-      moved_kept old now c.loop.invariant.same,
+      kept_then old now _ c.loop.invariant.same c.loop.invariant.passed (broken_kept _ _ c.fail-else-is_finished-2.ensures),
       λ failed. absurd (cc (failed, c.is_failed.ensures, c.if-is_failed.false)),
+      ap (λ (s : State). s.failed) c.fail-else-is_finished-2.ensures,
     )

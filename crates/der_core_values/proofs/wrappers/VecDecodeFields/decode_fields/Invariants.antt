@@ -1,6 +1,6 @@
 use Rattle.std.proofs.Common.{◌≡◌, ◌-◌}
 use Rattle.der_core_head.specs.Grammar.{read, read_many}
-use Rattle.der_core_head.specs.Reading.{IsDer}
+use Rattle.der_core_head.specs.Reading.{IsDer, IsRest}
 use Rattle.der_core_values.proofs.Lists.{with_front}
 use Rattle.der_core_values.proofs.wrappers.VecDecodeFields.decode_fields.Given as goal
 
@@ -12,5 +12,6 @@ invariant-loop g l =
     let each = read g.T.Shaped.shape old.room in
     record {
       same : now ≡ record old { rest = now.rest };
+      passed : IsRest now.rest old.rest;
       total : IsDer old → with_front g.T.Shaped.plain l.values.items (read_many each (l.len - l.counter) now.rest) ≡ read_many each l.len old.rest;
     }

@@ -1,7 +1,7 @@
 use Rattle.std.proofs.Common.{arith}
 use Rattle.der_core_octets.proofs.Lengths.{plain, behind-le}
 use Rattle.der_core_octets.proofs.Wanted.{by_octet}
-use Rattle.der_core_octets.proofs.header.plain_header_of_tag.Goals as goal
+use Rattle.der_core_octets.proofs.header.short_header_of_tag.Goals as goal
 
 pub returns-clause-front : goal.returns-clause-front
 returns-clause-front c = (

@@ -1,0 +1,18 @@
+-- Octets whose last one has no mark, in an array whose rest is marked: so the array tells where they end.
+use Rattle.std.specs.Prelude.{◌≡◌, ℕ, ◌-◌, ◌≤◌, true, false, ltb, List, [], ◌∷◌, ◌++◌, length, min, replicate}
+
+-- an octet in front of others; with none behind it, it stays where it has no mark
+abbrev pub before : ℕ → List ℕ → List ℕ
+before o [] = elim (ltb o 128) [ true ↦ o ∷ [] | false ↦ [] ]
+before o (x ∷ w) = o ∷ x ∷ w
+
+-- the octets up to the last one without a mark
+unfoldable pub unmarked_front : List ℕ → List ℕ
+unmarked_front [] = []
+unmarked_front (o ∷ w) = before o (unmarked_front w)
+
+-- the array holds them, with the octet 80 in each place behind, and counts them up to 255
+pub record IsPacked (size : ℕ) (bytes : List ℕ) (count : ℕ) : Type 0 where
+  pub fits : length (unmarked_front bytes) ≤ size
+  pub padded : bytes ≡ unmarked_front bytes ++ replicate (size - length (unmarked_front bytes)) 128
+  pub counted : count ≡ min 255 (length (unmarked_front bytes))
