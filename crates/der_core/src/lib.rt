@@ -76,7 +76,7 @@ pub use der_core_coding::values::OneOf9;
 pub use der_core_coding::values::Shaped;
 pub use der_core_coding::values::ShapedValue;
 pub use der_core_coding::values::decode_leaf;
-pub use der_core_coding::values::decode_value_parts;
+pub use der_core_coding::values::decode_octets;
 pub use der_core_coding::values::read_content;
 pub use der_core_coding::values::read_fields;
 pub use der_core_head::CLASS_APPLICATION;

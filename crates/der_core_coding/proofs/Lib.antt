@@ -5,3 +5,4 @@ mod Rooms
 mod HeadersWritten
 mod Puts
 mod Encodable
+mod Fronts

@@ -58,7 +58,7 @@ impl<T: DefaultValue> AsRead for WithDefault<T> {
 impl<'a, R: Reader<'a>, T: Decode<'a, R> + Choice + DefaultValue> Decode<'a, R> for WithDefault<T> {
     #[tactic(auto, unfolding(der_core_head::specs::Grammar::default_at))]
     fn decode(alloc: Global, reader: &mut R) -> Result<WithDefault<T>, Error> {
-        let Some(tag) = reader.peek_tag_or_end()? else {
+        let Some(tag) = reader.next_tag_or_end()? else {
             return Ok(WithDefault {
                 value: T::default_value(),
             });
@@ -71,6 +71,7 @@ impl<'a, R: Reader<'a>, T: Decode<'a, R> + Choice + DefaultValue> Decode<'a, R> 
         let place = reader.position();
         let value = T::decode(alloc, reader)?;
         if value.is_default() {
+            reader.fail();
             return Err(ErrorKind::Noncanonical { tag }.at(place));
         }
         Ok(WithDefault { value })

@@ -25,13 +25,8 @@ pub fn decode<'a, R: Reader<'a>, T: Decode<'a, R>>(
     ensures reads { Reads T.plain (R.state reader.old) (R.state reader.new) result (read T.shape (R.state reader.old).room) }
     ensures refused { OnErr result ((R.state reader.new).failed ≡ true) }
 {
-    match T::decode(alloc, reader) {
-        Ok(value) => Ok(value),
-        Err(error) => {
-            reader.fail();
-            Err(error)
-        }
-    }
+    let value = T::decode(alloc, reader)?;
+    Ok(value)
 }
 
 /// The value in a content that is its encoding, all of the octets.
@@ -64,6 +59,7 @@ pub fn read_explicit<'a, R: Reader<'a>, T: Decode<'a, R>>(
     let place = reader.position();
     let header = reader.read_header()?;
     if !is_same_tag(header.tag, tag) {
+        reader.fail();
         return Err(ErrorKind::TagUnexpected.at(place));
     }
     read_only(alloc, reader, header)
@@ -81,6 +77,7 @@ fn read_implicit<'a, R: Reader<'a>, T: DecodeValue<'a, R>>(
     let place = reader.position();
     let header = reader.read_header()?;
     if !is_same_tag(header.tag, tag) {
+        reader.fail();
         return Err(ErrorKind::TagUnexpected.at(place));
     }
     T::decode_value(alloc, reader, header)
@@ -98,7 +95,7 @@ pub fn optional_explicit<'a, R: Reader<'a>, T: Decode<'a, R>>(
 ) -> Result<Option<T>, Error>
     ensures { Reads (plain_option T.plain) (R.state reader.old) (R.state reader.new) result (read (optional (tagged tag (nested (only T.shape)))) (R.state reader.old).room) }
 {
-    let Some(first) = reader.peek_tag_or_end()? else {
+    let Some(first) = reader.next_tag_or_end()? else {
         return Ok(None);
     };
     if is_same_tag(tag, first) {
@@ -120,7 +117,7 @@ pub fn optional_implicit<'a, R: Reader<'a>, T: DecodeValue<'a, R>>(
 ) -> Result<Option<T>, Error>
     ensures { Reads (plain_option T.value_plain) (R.state reader.old) (R.state reader.new) result (read (optional (tagged tag T.content)) (R.state reader.old).room) }
 {
-    let Some(first) = reader.peek_tag_or_end()? else {
+    let Some(first) = reader.next_tag_or_end()? else {
         return Ok(None);
     };
     if is_same_tag(tag, first) {

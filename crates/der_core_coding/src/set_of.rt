@@ -60,13 +60,26 @@ pub fn read_rising<'a, R: Reader<'a>, T: Decode<'a, R> + Member>(
         }
         let place = reader.position();
         let (value, octets) = decode_sliced::<R, T>(alloc, reader)?;
-        check_follows(last, octets, place)?;
+        match check_follows(last, octets, place) {
+            Ok(()) => {}
+            Err(error) => {
+                reader.fail();
+                return Err(error);
+            }
+        }
         last = Some(octets);
-        values.push(value)?;
+        match values.push(value) {
+            Ok(()) => {}
+            Err(error) => {
+                reader.fail();
+                return Err(Error::from(error));
+            }
+        }
     }
     if reader.is_finished() {
         Ok(values)
     } else {
+        reader.fail();
         Err(Error::from(ErrorKind::TrailingData))
     }
 }

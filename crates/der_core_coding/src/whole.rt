@@ -1,8 +1,8 @@
 //! Reading of all octets.
 
-ghost use Rattle.std.specs.Prelude.{◌≡◌, ◌≤◌, ◌^◌, length, [], true, Ok, IfOk, IsErrAnd};
-ghost use Rattle.der_core_head.specs.Shapes.{Value, Spells};
-ghost use Rattle.der_core_head.specs.Spelling.{is_apart, are_enough};
+ghost use Rattle.std.specs.Prelude.{◌≡◌, ◌≤◌, ◌<◌, ◌^◌, ◌++◌, ℕ, List, length, [], true, Ok, IfOk, IsErrAnd};
+ghost use Rattle.der_core_head.specs.Shapes.{Value, Spells, IsValid, octets_of};
+ghost use Rattle.der_core_head.specs.Spelling.{is_apart, is_element, are_enough};
 ghost use Rattle.der_core_head.specs.Grammar.{whole_at};
 ghost use Rattle.der_core_head.specs.Reading.{Gives};
 ghost use Rattle.der_core_octets.specs.Fronts.{front_at};
@@ -55,6 +55,24 @@ pub fn from_der<'a, T: Decode<'a, SliceReader<'a>>>(
 /// # Errors
 /// `Overflow` for 2^32 octets or more, else the first fault from the left, or `OutOfMemory`.
 pub fn from_der_partial<'a, T: Decode<'a, SliceReader<'a>>>(
+    alloc: Global,
+    bytes: &'a [u8],
+) -> Result<(T, &'a [u8]), Error>
+    // What is read is spelled so, and what is lent follows it.
+    ensures spelled { is_apart T.shape ≡ true → IfOk result (λ x.
+        IsValid T.shape (T.plain x.0) × (bytes.now ≡ octets_of T.shape (T.plain x.0) ++ x.1.now)) }
+    // What is spelled so is read, whatever follows it, unless memory runs out.
+    ensures only { (v : Value T.shape) (r : List ℕ) → is_element T.shape ≡ true → is_apart T.shape ≡ true → are_enough T.shape 64 ≡ true
+        → IsValid T.shape v → bytes.now ≡ octets_of T.shape v ++ r → length bytes.now < 2 ^ 32
+        → Gives {P = Value T.shape × List ℕ} (λ x. (T.plain x.0, x.1.now)) result (Ok (v, r)) }
+    // Which fault it is.
+    ensures exact { Gives (λ x. (T.plain x.0, x.1.now)) result (front_at T.shape bytes.now) }
+{
+    read_front(alloc, bytes)
+}
+
+/// Reads the value at the front of the octets.
+fn read_front<'a, T: Decode<'a, SliceReader<'a>>>(
     alloc: Global,
     bytes: &'a [u8],
 ) -> Result<(T, &'a [u8]), Error>

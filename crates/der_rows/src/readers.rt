@@ -3,7 +3,7 @@
 use crate::refusals::Refusal;
 use der_core::{
     Class, Decode, DecodeFields, Error, ErrorKind, Length, Reader, SliceReader, TagMode, TagNumber,
-    decode_value_parts, peek_matches, reading,
+    decode_octets, peek_matches, reading,
 };
 use std::alloc::Global;
 use std::marker::PhantomData;
@@ -101,7 +101,7 @@ fn answer_of_values<'a>(
         "implicit" => answer_of_tagged(alloc, reader, TagMode::Implicit),
         "parts" => {
             let header = reader.read_header()?;
-            Ok(hex::encode(alloc, decode_value_parts(alloc, reader, header)?)?)
+            Ok(hex::encode(alloc, decode_octets(alloc, reader, header)?)?)
         }
         "universal-4" => {
             let matches = peek_matches(reader, Class::Universal, TagNumber::new(4))?;

@@ -1,5 +1,5 @@
 -- What a lent set writes: its octets, where it has any, and else the encodings of its values.
-use Rattle.std.proofs.Common.{◌≡◌, ℕ, zero, suc, ◌<◌, eqb, false, List, [], ◌∷◌, length, Result, Ok, Err, refl, sym, ap, subst, ◌∙◌, arith}
+use Rattle.std.proofs.Common.{◌≡◌, ℕ, zero, suc, ◌<◌, eqb, Bool, false, List, [], ◌∷◌, length, Result, Ok, Err, refl, sym, ap, subst, ◌∙◌, arith}
 use Rattle.std.specs.Prelude.{flat_map}
 use Rattle.std.specs.List.{AllByRecursion}
 use Rattle.std.proofs.lemmas.List.{append-nil}
@@ -84,14 +84,15 @@ values_sized s f l view r h e gives = subst (λ (x : Result ℕ ErrorKind). Give
 pub octets_sized : {A : Type 0} (s : Shape) (f : A → Value s) (l : Lent A) → IsLent s f l → 0 < length l.octets → many_len (size s) (members_lent s f l) 0 ≡ Ok (length l.octets)
 octets_sized s f l h some = size_octets s f l.values l.octets l.count h some
 
-writes_same : (old new : Out) (r : Result (Unit {0}) Error) (f g : Out → Result Out ErrorKind) → f old ≡ g old → Writes old new r f → Writes old new r g
-writes_same old new (Ok u) f g e h = sym e ∙ h
-writes_same old new (Err d) f g e h = λ memory. sym e ∙ h memory
+writes_same : (memory : Bool) (old new : Out) (r : Result (Unit {0}) Error) (f g : Out → Result Out ErrorKind) → f old ≡ g old → Writes memory old new r f → Writes memory old new r g
+writes_same memory old new (Ok u) f g e h = sym e ∙ h
+writes_same memory old new (Err d) f g e h = λ other. sym e ∙ h other
 
-pub values_written : {A : Type 0} (s : Shape) (f : A → Value s) (l : Lent A) (old new : Out) (r : Result (Unit {0}) Error) → IsLent s f l → length l.octets ≡ 0
-    → Writes old new r (write_many (write s) (plain_list f l.values)) → Writes old new r (write_many (write s) (members_lent s f l))
-values_written s f l old new r h e writes = writes_same old new r (write_many (write s) (plain_list f l.values)) (write_many (write s) (members_lent s f l)) (write_values s f l.values l.octets l.count old h e) writes
+pub values_written : {A : Type 0} (memory : Bool) (s : Shape) (f : A → Value s) (l : Lent A) (old new : Out) (r : Result (Unit {0}) Error) → IsLent s f l → length l.octets ≡ 0
+    → Writes memory old new r (write_many (write s) (plain_list f l.values)) → Writes memory old new r (write_many (write s) (members_lent s f l))
+values_written memory s f l old new r h e writes =
+    writes_same memory old new r (write_many (write s) (plain_list f l.values)) (write_many (write s) (members_lent s f l)) (write_values s f l.values l.octets l.count old h e) writes
 
-pub octets_written : {A : Type 0} (s : Shape) (f : A → Value s) (l : Lent A) (old new : Out) (r : Result (Unit {0}) Error) → IsLent s f l → 0 < length l.octets
-    → Writes old new r (put l.octets) → Writes old new r (write_many (write s) (members_lent s f l))
-octets_written s f l old new r h some writes = writes_same old new r (put l.octets) (write_many (write s) (members_lent s f l)) (write_octets s f l.values l.octets l.count old h some) writes
+pub octets_written : {A : Type 0} (memory : Bool) (s : Shape) (f : A → Value s) (l : Lent A) (old new : Out) (r : Result (Unit {0}) Error) → IsLent s f l → 0 < length l.octets
+    → Writes memory old new r (put l.octets) → Writes memory old new r (write_many (write s) (members_lent s f l))
+octets_written memory s f l old new r h some writes = writes_same memory old new r (put l.octets) (write_many (write s) (members_lent s f l)) (write_octets s f l.values l.octets l.count old h some) writes

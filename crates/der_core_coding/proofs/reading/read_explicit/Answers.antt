@@ -23,4 +23,4 @@ returns g c =
     let P : Tag → ℕ → Type 0 = λ t m. Reads g.T.Shaped.plain mid (state c.read_only.new.reader) c.read_only.result (value_at (read_content content t m) h.length.value) in
     let inner : P fixed old.room = subst (P fixed) room (subst (λ t. P t mid.room) equal c.read_only.ensures) in
     reads_after g.T.Shaped.plain old mid (state c.read_only.new.reader) c.read_only.result (tlv_at fixed (read_content content fixed old.room)) (value_at (read_content content fixed old.room) h.length.value)
-    c.in_ok-header.ensures.der.1 c.in_ok-header.ensures.der.2 (λ der. tlv_is fixed (read_content content fixed old.room) old.rest (head_of h) mid.rest (c.in_ok-header.ensures.der.0 der) same) inner
+    c.in_ok-header.ensures.der.1 c.in_ok-header.ensures.der.2 c.in_ok-header.ensures.der.3 (λ der. tlv_is fixed (read_content content fixed old.room) old.rest (head_of h) mid.rest (c.in_ok-header.ensures.der.0 der) same) inner

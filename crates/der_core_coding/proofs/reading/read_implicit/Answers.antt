@@ -22,4 +22,4 @@ returns g c =
     let P : Tag → ℕ → Type 0 = λ t m. Reads g.T.ShapedValue.value_plain mid (state c.decode_value.new.reader) c.decode_value.result (value_at (read_content content t m) h.length.value) in
     let inner : P fixed old.room = subst (P fixed) room (subst (λ t. P t mid.room) equal c.decode_value.ensures) in
     reads_after g.T.ShapedValue.value_plain old mid (state c.decode_value.new.reader) c.decode_value.result (tlv_at fixed (read_content content fixed old.room)) (value_at (read_content content fixed old.room) h.length.value)
-    c.in_ok-header.ensures.der.1 c.in_ok-header.ensures.der.2 (λ der. tlv_is fixed (read_content content fixed old.room) old.rest (head_of h) mid.rest (c.in_ok-header.ensures.der.0 der) same) inner
+    c.in_ok-header.ensures.der.1 c.in_ok-header.ensures.der.2 c.in_ok-header.ensures.der.3 (λ der. tlv_is fixed (read_content content fixed old.room) old.rest (head_of h) mid.rest (c.in_ok-header.ensures.der.0 der) same) inner

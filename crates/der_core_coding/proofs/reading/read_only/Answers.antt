@@ -9,7 +9,7 @@ use Rattle.der_core_coding.proofs.reading.read_only.Goals as goal
 pub returns-in_err-behind : goal.returns-in_err-behind
 returns-in_err-behind g c =
     let p = err_from_is_err_and c.from_residual.result c.from_residual.ensures.1 in
-    rw (p.1, p.2) (λ _ ready. refused c.args.header.tag c.in_err-behind.field-0.0.kind c.args.header.length.value (g.R.Reader.state c.args.reader.now) (only g.T.Shaped.shape) (c.in_err-behind.ensures.0 ready), broken_kept _ _ c.in_err-behind.ensures.1, c.in_err-behind.ensures.2)
+    rw (p.1, p.2) (λ _ ready. refused c.args.header.tag c.in_err-behind.field-0.0.kind c.args.header.length.value (g.R.Reader.state c.args.reader.now) (only g.T.Shaped.shape) (c.in_err-behind.ensures.0 ready), broken_kept _ _ c.in_err-behind.ensures.1, c.in_err-behind.ensures.2, ap (λ (s : State). s.failed) c.in_err-behind.ensures.1)
 
 pub end_nested-requires : goal.end_nested-requires
 end_nested-requires g c κs =

@@ -5,8 +5,8 @@ use Rattle.der_core_head.specs.Shapes.{octets_of}
 use Rattle.der_core_head.specs.Grammar.{read, read_rising, last_octets, follows_last}
 use Rattle.der_core_head.specs.Reading.{State, IsDer}
 use Rattle.der_core_octets.specs.Fronts.{octets_at}
-use Rattle.der_core_octets.proofs.Steps.{frame_then, kept_then}
-use Rattle.der_core_octets.proofs.Nested.{moved_kept}
+use Rattle.der_core_octets.proofs.Steps.{frame_then, kept_then, rest_then}
+use Rattle.der_core_octets.proofs.Nested.{broken_kept}
 use Rattle.der_core_values.proofs.Lists.{set_on, set_stops, set_refuses, set_done, set_over, last_more}
 use Rattle.der_core_coding.proofs.set_of.read_rising.Goals as goal
 use Rattle.der_core_coding.proofs.set_of.read_rising.Goals.{else-loop-test, then-loop-test+then-is_finished}
@@ -26,12 +26,13 @@ returns-in_err-value g c =
     rw (p.1, p.2) (
       λ der ready memory. set_stops g.T.Shaped.plain o each (last_octets (λ v. o (g.T.Shaped.plain v)) c.loop.values.items) c.remaining_len-len.result.value c.loop.counter now.rest c.loop.values.items c.in_err-value.field-0.0.kind _ c.loop-test.true some
           (ap (λ m. read g.T.Shaped.shape m now.rest) (sym room) ∙ c.in_err-value.ensures.reads.0 (ap (λ (s : State). s.source.encoding) same ∙ der) (ap (λ (s : State). s.failed) same ∙ ready) memory) (total der),
-      kept_then old now _ same c.in_err-value.ensures.reads.1,
+      kept_then old now _ same c.loop.invariant.passed c.in_err-value.ensures.reads.1,
       λ failed. absurd (cc (failed, c.is_failed.ensures, c.if-is_failed.false)),
+      c.in_err-value.ensures.reads.3,
     )
 
-pub returns-in_err-check_follows : goal.returns-in_err-check_follows
-returns-in_err-check_follows g c =
+pub returns-in-Err : goal.returns-in-Err
+returns-in-Err g c =
     let state = g.R.Reader.state in
     let old = state c.args.reader.now in
     let now = state c.loop.reader in
@@ -47,13 +48,12 @@ returns-in_err-check_follows g c =
     let still : IsDer old → IsDer now = λ der. ap (λ (s : State). s.source.encoding) same ∙ der in
     let judged : IsDer old → follows_last last (o v) ≡ follows_last (octets_at c.loop.last) c.in_ok-value.octets.now = λ der.
     ap (λ l. follows_last l (o v)) (sym (c.loop.invariant.last der)) ∙ ap (follows_last (octets_at c.loop.last)) (sym (c.in_ok-value.ensures.octets (still der))) in
-    let p = err_from_is_err_and c.from_residual-in_err-check_follows.result c.from_residual-in_err-check_follows.ensures.1 in
-    let total = λ (der : IsDer old). c.loop.invariant.total der ∙ ap (λ n. read_rising o each None n old.rest) c.remaining_len-len.ensures in
-    rw (p.1, p.2) (
-      λ der ready memory. set_refuses g.T.Shaped.plain o each last c.remaining_len-len.result.value c.loop.counter now.rest after.rest c.loop.values.items v c.in_err-check_follows.field-0.0.kind _ c.loop-test.true some
-          (ap (λ m. read g.T.Shaped.shape m now.rest) (sym room) ∙ c.in_ok-value.ensures.reads.0 (still der)) (judged der ∙ c.in_err-check_follows.ensures memory) (total der),
-      moved_kept old after frame,
+    let total = λ (der : IsDer old). c.loop.invariant.total der ∙ ap (λ n. read_rising o each None n old.rest) c.remaining_len-len.ensures in (
+      λ der ready memory. set_refuses g.T.Shaped.plain o each last c.remaining_len-len.result.value c.loop.counter now.rest after.rest c.loop.values.items v c.in-Err.error.kind _ c.loop-test.true some
+          (ap (λ m. read g.T.Shaped.shape m now.rest) (sym room) ∙ c.in_ok-value.ensures.reads.0 (still der)) (judged der ∙ c.in-Err.ensures memory) (total der),
+      kept_then old after _ frame (rest_then old.rest now.rest after.rest c.loop.invariant.passed c.in_ok-value.ensures.reads.3) (broken_kept _ _ c.fail.ensures),
       λ failed. absurd (cc (failed, c.is_failed.ensures, c.if-is_failed.false)),
+      ap (λ (s : State). s.failed) c.fail.ensures,
     )
 
 pub loop-preserved : goal.loop-preserved
@@ -76,8 +76,8 @@ loop-preserved g c =
     let len = c.remaining_len-len.result.value in
     let more = last_more (λ v. o (g.T.Shaped.plain v)) c.loop.values.items c.in_ok-value.value in
     let total = λ (der : IsDer old). set_on g.T.Shaped.plain o each len c.loop.counter now.rest after.rest c.loop.values.items c.in_ok-value.value (read_rising o each None len old.rest) c.loop-test.true some
-    (ap (λ m. read g.T.Shaped.shape m now.rest) (sym room) ∙ c.in_ok-value.ensures.reads.0 (still der)) (judged der ∙ c.in_ok-check_follows.ensures) (c.loop.invariant.total der) in
-    rw c.in_ok-push.ensures.items (record { same = frame; last = λ der. ap Some (c.in_ok-value.ensures.octets (still der)) ∙ sym more; total = total })
+    (ap (λ m. read g.T.Shaped.shape m now.rest) (sym room) ∙ c.in_ok-value.ensures.reads.0 (still der)) (judged der ∙ c.in-Ok.ensures) (c.loop.invariant.total der) in
+    rw c.in-Ok-push.ensures.items (record { same = frame; passed = rest_then old.rest now.rest after.rest c.loop.invariant.passed c.in_ok-value.ensures.reads.3; last = λ der. ap Some (c.in_ok-value.ensures.octets (still der)) ∙ sym more; total = total })
 
 pub returns-then-is_finished-2 : goal.returns-then-is_finished-2
 returns-then-is_finished-2 g c =
@@ -91,6 +91,7 @@ returns-then-is_finished-2 g c =
       λ der. set_done g.T.Shaped.plain o each (last_octets (λ v. o (g.T.Shaped.plain v)) c.loop.values.items) (c.remaining_len-len.result.value - c.loop.counter) now.rest c.loop.values.items _ none (total der),
       c.loop.invariant.same,
       sym c.is_failed.ensures ∙ c.if-is_failed.false,
+      c.loop.invariant.passed,
     )
 
 pub returns-else-is_finished-2 : goal.returns-else-is_finished-2
@@ -108,6 +109,7 @@ returns-else-is_finished-2 g c =
     let total = λ (der : IsDer old). c.loop.invariant.total der ∙ ap (λ n. read_rising o each None n old.rest) c.remaining_len-len.ensures in
     rw c.from-else-is_finished-2.ensures (
       λ der _ _. set_over g.T.Shaped.plain o each (last_octets (λ v. o (g.T.Shaped.plain v)) c.loop.values.items) c.remaining_len-len.result.value c.loop.counter now.rest c.loop.values.items _ past some (total der),
-      moved_kept old now c.loop.invariant.same,
+      kept_then old now _ c.loop.invariant.same c.loop.invariant.passed (broken_kept _ _ c.fail-else-is_finished-2.ensures),
       λ failed. absurd (cc (failed, c.is_failed.ensures, c.if-is_failed.false)),
+      ap (λ (s : State). s.failed) c.fail-else-is_finished-2.ensures,
     )

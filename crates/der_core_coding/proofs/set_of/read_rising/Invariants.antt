@@ -1,7 +1,7 @@
 use Rattle.std.proofs.Common.{◌≡◌, ◌-◌, None}
 use Rattle.der_core_head.specs.Grammar.{read, read_rising, last_octets}
 use Rattle.der_core_head.specs.Shapes.{octets_of}
-use Rattle.der_core_head.specs.Reading.{IsDer}
+use Rattle.der_core_head.specs.Reading.{IsDer, IsRest}
 use Rattle.der_core_octets.specs.Fronts.{octets_at}
 use Rattle.der_core_values.proofs.Lists.{with_front}
 use Rattle.der_core_coding.proofs.set_of.read_rising.Given as goal
@@ -15,6 +15,7 @@ invariant-loop g l =
     let octets = octets_of g.T.Shaped.shape in
     record {
       same : now ≡ record old { rest = now.rest };
+      passed : IsRest now.rest old.rest;
       last : IsDer old → octets_at l.last ≡ last_octets (λ v. octets (g.T.Shaped.plain v)) l.values.items;
       total : IsDer old → with_front g.T.Shaped.plain l.values.items (read_rising octets each (last_octets (λ v. octets (g.T.Shaped.plain v)) l.values.items) (l.len - l.counter) now.rest) ≡ read_rising octets each None l.len old.rest;
     }

@@ -21,7 +21,7 @@ returns-in_err-encode-clause-order g c =
     let p = err_from_is_err_and c.from_residual.result c.from_residual.ensures.1 in
     let so_far = remains_here s f v i x c.args.octets.now c.loop-value.left.now c.loop-value-test.true c.value-item.is c.loop-value.invariant in
     let refused = rw c.clear.ensures.items at c.in_err-encode.ensures.exact in
-    rw (p.1, p.2) (λ valid memory. absurd (remains_fault s (plain_list f v) c.args.octets.now (f x) _ c.loop-value.left.now _ so_far (refused memory) valid))
+    rw (p.1, p.2) (λ valid memory. absurd (remains_fault s (plain_list f v) c.args.octets.now (f x) _ c.loop-value.left.now _ so_far (refused (λ _. memory)) valid))
 
 pub returns-in_err-encode-clause-refused : goal.returns-in_err-encode-clause-refused
 returns-in_err-encode-clause-refused g c =
@@ -34,7 +34,7 @@ returns-in_err-encode-clause-refused g c =
     let refused = rw c.clear.ensures.items at c.in_err-encode.ensures.exact in
     rw (p.1, p.2)
     (or_memory c.in_err-encode.field-0.0.kind (λ memory.
-    let fault = write_faults s (f x) c.in_err-encode.field-0.0.kind (refused memory) in
+    let fault = write_faults s (f x) c.in_err-encode.field-0.0.kind (refused (λ _. memory)) in
     (fault.0, many_over (size s) (size_only s) (plain_list f v) 0 i (f x) (plain-at f v i x c.loop-value-test.true c.value-item.is) fault.1)))
 
 pub returns-in_default-clause-order : goal.returns-in_default-clause-order
