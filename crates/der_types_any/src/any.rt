@@ -267,7 +267,13 @@ impl Choice for Any {
 impl<'a, R: Reader<'a>> Decode<'a, R> for Any {
     fn decode(alloc: Global, reader: &mut R) -> Result<Any, Error> {
         let lent = AnyRef::decode(alloc, reader)?;
-        Ok(Any::copy_of(alloc, &lent)?)
+        match Any::copy_of(alloc, &lent) {
+            Ok(any) => Ok(any),
+            Err(error) => {
+                reader.fail();
+                Err(Error::from(error))
+            }
+        }
     }
 }
 

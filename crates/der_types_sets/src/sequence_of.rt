@@ -149,8 +149,13 @@ impl<T: Default + Drop, const N: usize> SequenceOf<T, N> {
         ensures { Reads (plain_list T.plain) (R.state reader.old) (R.state reader.new) result (read_few N (value_at (read_content (nested (many T.shape)) header.tag (R.state reader.old).room) header.length.value)) }
     {
         let members = Vec::<T>::decode_value(alloc, reader, header)?;
-        let members = into_array(members)?;
-        Ok(SequenceOf { members })
+        match into_array(members) {
+            Ok(members) => Ok(SequenceOf { members }),
+            Err(error) => {
+                reader.fail();
+                Err(error)
+            }
+        }
     }
 }
 

@@ -201,8 +201,13 @@ impl<T: DerOrd + Member + Default + Drop, const N: usize> SetOf<T, N> {
             → Loose T.shape v (take header.length.value (R.state reader.old).rest) → length v ≤ N → Gives (plain_list T.plain) result (Ok v) }
     {
         let ordered = SetOfVec::<T>::decode_value(alloc, reader, header)?;
-        let members = into_array(ordered.into_vec())?;
-        Ok(SetOf { members })
+        match into_array(ordered.into_vec()) {
+            Ok(members) => Ok(SetOf { members }),
+            Err(error) => {
+                reader.fail();
+                Err(error)
+            }
+        }
     }
 
     /// The set that octets spell by DER, all of the octets, whose members stand in any order.

@@ -114,12 +114,17 @@ impl<'a, T: Decode<'a, SliceReader<'a>> + Member> SetOfRef<'a, T> {
         let before = reader.remaining();
         let _octets = &before[..];
         let octets = reader.read_slice(header.length)?;
-        let count = count_level::<T>(alloc, octets)?;
-        Ok(SetOfRef {
-            values: &[],
-            octets,
-            count,
-        })
+        match count_level::<T>(alloc, octets) {
+            Ok(count) => Ok(SetOfRef {
+                values: &[],
+                octets,
+                count,
+            }),
+            Err(error) => {
+                reader.fail();
+                Err(error)
+            }
+        }
     }
 }
 

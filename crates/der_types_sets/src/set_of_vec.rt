@@ -254,8 +254,13 @@ impl<T: DerOrd + Member + Drop> SetOfVec<T> {
         let before = reader.remaining();
         let _octets = &before[..];
         let members = Vec::<T>::decode_value(alloc, reader, header)?;
-        let set = SetOfVec::from_vec(members)?;
-        Ok(set)
+        match SetOfVec::from_vec(members) {
+            Ok(set) => Ok(set),
+            Err(error) => {
+                reader.fail();
+                Err(error)
+            }
+        }
     }
 
     /// The set that octets spell by DER, all of the octets, whose members stand in any order.
@@ -305,8 +310,13 @@ impl<T: DerOrd + Member + Drop> SetOfVec<T> {
         if rules.is_der() {
             return Ok(SetOfVec { members: values });
         }
-        let set = SetOfVec::from_vec(values)?;
-        Ok(set)
+        match SetOfVec::from_vec(values) {
+            Ok(set) => Ok(set),
+            Err(error) => {
+                reader.fail();
+                Err(error)
+            }
+        }
     }
 }
 

@@ -112,7 +112,13 @@ impl<T, const CLASS: u8> ClassField<T, CLASS> {
         ensures mode { IfOk result (λ f. f.tag_mode ≡ Explicit) }
     {
         let tag_mode = TagMode::Explicit;
-        let header = reader.peek_header()?;
+        let header = match reader.peek_header() {
+            Ok(header) => header,
+            Err(error) => {
+                reader.fail();
+                return Err(error);
+            }
+        };
         let tag_number = header.tag.number();
         let tag = tag_of_class(CLASS, true, tag_number);
         let value = read_explicit(alloc, reader, tag)?;

@@ -205,7 +205,13 @@ impl<'a, T: AsciiType, R: Reader<'a>> DecodeValue<'a, R> for AsciiStringRef<'a, 
         header: Header,
     ) -> Result<AsciiStringRef<'a, T>, Error> {
         let octets = read_content(reader, header)?;
-        Self::from_content(alloc, header.tag, octets)
+        match Self::from_content(alloc, header.tag, octets) {
+            Ok(value) => Ok(value),
+            Err(error) => {
+                reader.fail();
+                Err(error)
+            }
+        }
     }
 }
 

@@ -2,26 +2,27 @@ use Rattle.std.proofs.Common.{List, [], Ok, subst, ap, arith}
 use Rattle.std.proofs.lemmas.Result.{err_from_is_err_and}
 use Rattle.der_core_head.specs.Heads.{Fits}
 use Rattle.der_core_head.proofs.Bytes.{IsBytes}
-use Rattle.der_core_octets.proofs.Nested.{moved_kept}
+use Rattle.der_core_octets.proofs.Nested.{broken_kept}
+use Rattle.der_core_octets.proofs.Steps.{kept_then}
+use Rattle.der_core_head.specs.Reading.{State}
 use Rattle.der_core_head.specs.Shapes.{Value}
 use Rattle.der_types_sets.proofs.SetSteps.{content_valid}
 use Rattle.der_types_sets.proofs.LooseSteps.{loose_read, loose_only, loose_again}
 use Rattle.der_types_sets.proofs.ViewSteps.{ascends_as_read, valid_as_written}
 use Rattle.der_types_sets.proofs.set_of_vec.SetOfVec.decode_value.Goals as goal
 
-pub returns-in_err-set-clause-reads : goal.returns-in_err-set-clause-reads
-returns-in_err-set-clause-reads g c =
+pub returns-in-Err-clause-reads : goal.returns-in-Err-clause-reads
+returns-in-Err-clause-reads g c =
     let old = g.R.Reader.state c.args.reader.now in
     let new = g.R.Reader.state c.decode_value.new.reader in
-    let p = err_from_is_err_and c.from_residual-in_err-set.result c.from_residual-in_err-set.ensures.1 in
     let bytes : IsBytes old.rest = subst IsBytes c.remaining-before.ensures.rest (λ i. omega (arith, c.remaining-before.items_fit i)) in
-    let fits : Fits old.rest = subst Fits c.remaining-before.ensures.rest c.remaining-before.ensures.short in
-    rw (p.1, p.2) (
+    let fits : Fits old.rest = subst Fits c.remaining-before.ensures.rest c.remaining-before.ensures.short in (
       [],
       (
-        λ der _ _. absurd (c.in_err-set.ensures.refused.some (valid_as_written g.T.Shaped.shape g.T.Shaped.written g.T.Shaped.plain c.in_ok-members.members.items g.met.T.AsRead.as_read (content_valid g.T.Shaped.shape g.T.Shaped.plain c.args.header.tag old.room c.args.header.length.value old.rest c.in_ok-members.members.items new.rest g.met.T.Member.apart bytes fits (c.in_ok-members.ensures.0 der)))),
-        moved_kept old new c.in_ok-members.ensures.1,
+        λ der _ _. absurd (c.in-Err.ensures.refused.some (valid_as_written g.T.Shaped.shape g.T.Shaped.written g.T.Shaped.plain c.in_ok-members.members.items g.met.T.AsRead.as_read (content_valid g.T.Shaped.shape g.T.Shaped.plain c.args.header.tag old.room c.args.header.length.value old.rest c.in_ok-members.members.items new.rest g.met.T.Member.apart bytes fits (c.in_ok-members.ensures.0 der)))),
+        kept_then old new _ c.in_ok-members.ensures.1 c.in_ok-members.ensures.3 (broken_kept _ _ c.fail.ensures),
         λ failed. absurd (cc (failed, c.in_ok-members.ensures.2)),
+        ap (λ (s : State). s.failed) c.fail.ensures,
       ),
       tt,
     )
@@ -33,30 +34,29 @@ returns-in_err-members-clause-only g c =
     rw (p.1, p.2) (λ v element enough der ready le loose memory.
     absurd (cc (loose_again g.T.Shaped.shape c.args.header.tag old.room c.args.header.length.value old.rest v element g.met.T.Member.apart enough le loose, c.in_err-members.ensures.0 der ready memory)))
 
-pub returns-in_err-set-clause-only : goal.returns-in_err-set-clause-only
-returns-in_err-set-clause-only g c =
-    let old = g.R.Reader.state c.args.reader.now in
-    let new = g.R.Reader.state c.decode_value.new.reader in
-    let p = err_from_is_err_and c.from_residual-in_err-set.result c.from_residual-in_err-set.ensures.1 in
-    let bytes : IsBytes old.rest = subst IsBytes c.remaining-before.ensures.rest (λ i. omega (arith, c.remaining-before.items_fit i)) in
-    let fits : Fits old.rest = subst Fits c.remaining-before.ensures.rest c.remaining-before.ensures.short in
-    rw (p.1, p.2) (λ v element enough der ready le loose memory.
-    absurd (c.in_err-set.ensures.refused.some (valid_as_written g.T.Shaped.shape g.T.Shaped.written g.T.Shaped.plain c.in_ok-members.members.items g.met.T.AsRead.as_read (content_valid g.T.Shaped.shape g.T.Shaped.plain c.args.header.tag old.room c.args.header.length.value old.rest c.in_ok-members.members.items new.rest g.met.T.Member.apart bytes fits (c.in_ok-members.ensures.0 der)))))
-
-pub returns-clause-spelled : goal.returns-clause-spelled
-returns-clause-spelled g c =
+pub returns-in-Err-clause-only : goal.returns-in-Err-clause-only
+returns-in-Err-clause-only g c =
     let old = g.R.Reader.state c.args.reader.now in
     let new = g.R.Reader.state c.decode_value.new.reader in
     let bytes : IsBytes old.rest = subst IsBytes c.remaining-before.ensures.rest (λ i. omega (arith, c.remaining-before.items_fit i)) in
     let fits : Fits old.rest = subst Fits c.remaining-before.ensures.rest c.remaining-before.ensures.short in
-    λ element der. loose_read g.T.Shaped.shape g.T.Shaped.plain c.args.header.tag old.room c.args.header.length.value old.rest c.in_ok-members.members.items c.in_ok-set.set new.rest element g.met.T.Member.apart bytes fits
-    (c.in_ok-members.ensures.0 der) c.in_ok-set.ensures.ok (ascends_as_read g.T.Shaped.shape g.T.Shaped.written g.T.Shaped.plain c.in_ok-set.set g.met.T.AsRead.as_read c.in_ok-set.ensures.ascend)
+    λ v element enough der ready le loose memory.
+    absurd (c.in-Err.ensures.refused.some (valid_as_written g.T.Shaped.shape g.T.Shaped.written g.T.Shaped.plain c.in_ok-members.members.items g.met.T.AsRead.as_read (content_valid g.T.Shaped.shape g.T.Shaped.plain c.args.header.tag old.room c.args.header.length.value old.rest c.in_ok-members.members.items new.rest g.met.T.Member.apart bytes fits (c.in_ok-members.ensures.0 der))))
 
-pub returns-clause-only : goal.returns-clause-only
-returns-clause-only g c =
+pub returns-in-Ok-clause-spelled : goal.returns-in-Ok-clause-spelled
+returns-in-Ok-clause-spelled g c =
+    let old = g.R.Reader.state c.args.reader.now in
+    let new = g.R.Reader.state c.decode_value.new.reader in
+    let bytes : IsBytes old.rest = subst IsBytes c.remaining-before.ensures.rest (λ i. omega (arith, c.remaining-before.items_fit i)) in
+    let fits : Fits old.rest = subst Fits c.remaining-before.ensures.rest c.remaining-before.ensures.short in
+    λ element der. loose_read g.T.Shaped.shape g.T.Shaped.plain c.args.header.tag old.room c.args.header.length.value old.rest c.in_ok-members.members.items c.in-Ok.set new.rest element g.met.T.Member.apart bytes fits
+    (c.in_ok-members.ensures.0 der) c.in-Ok.ensures.ok (ascends_as_read g.T.Shaped.shape g.T.Shaped.written g.T.Shaped.plain c.in-Ok.set g.met.T.AsRead.as_read c.in-Ok.ensures.ascend)
+
+pub returns-in-Ok-clause-only : goal.returns-in-Ok-clause-only
+returns-in-Ok-clause-only g c =
     let old = g.R.Reader.state c.args.reader.now in
     let new = g.R.Reader.state c.decode_value.new.reader in
     λ v element enough der ready le loose.
     ap (λ (u : List (Value g.T.Shaped.shape)). Ok u)
-    (loose_only g.T.Shaped.shape g.T.Shaped.plain c.args.header.tag old.room c.args.header.length.value old.rest c.in_ok-members.members.items c.in_ok-set.set new.rest v element g.met.T.Member.apart enough
-    (c.in_ok-members.ensures.0 der) c.in_ok-set.ensures.ok (ascends_as_read g.T.Shaped.shape g.T.Shaped.written g.T.Shaped.plain c.in_ok-set.set g.met.T.AsRead.as_read c.in_ok-set.ensures.ascend) loose)
+    (loose_only g.T.Shaped.shape g.T.Shaped.plain c.args.header.tag old.room c.args.header.length.value old.rest c.in_ok-members.members.items c.in-Ok.set new.rest v element g.met.T.Member.apart enough
+    (c.in_ok-members.ensures.0 der) c.in-Ok.ensures.ok (ascends_as_read g.T.Shaped.shape g.T.Shaped.written g.T.Shaped.plain c.in-Ok.set g.met.T.AsRead.as_read c.in-Ok.ensures.ascend) loose)

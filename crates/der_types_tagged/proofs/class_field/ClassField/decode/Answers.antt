@@ -11,12 +11,12 @@ use Rattle.der_types_tagged.proofs.class_field.ClassField.decode.Goals as goal
 
 pub returns-in_err-value-clause-reads : goal.returns-in_err-value-clause-reads
 returns-in_err-value-clause-reads g c =
-    let p = err_from_is_err_and c.from_residual-in_err-value.result c.from_residual-in_err-value.ensures.1 in
+    let p = err_from_is_err_and c.from_residual.result c.from_residual.ensures.1 in
     let old = g.R.Reader.state c.args.reader.now in
     let class = g.row.CLASS in
-    let h = c.in_ok-header.header in
+    let h = c.in-Ok.header in
     let e = c.in_err-value.field-0.0 in
     let own : c.tag_of_class-tag.result ≡ class_tag (class / 64) true (number_of h.tag) = c.tag_of_class-tag.ensures ∙ ap (class_tag (class / 64) true) c.number-tag_number.ensures in
     let P : Tag → Type 0 = λ t. Reads g.T.Shaped.plain old (g.R.Reader.state c.read_explicit.new.reader) (Err e) (read (tagged t (nested (only g.T.Shaped.shape))) old.room) in
     let inner : P (class_tag (class / 64) true (number_of h.tag)) = subst P own c.in_err-value.ensures in
-    rw (p.1, p.2) (λ der ready memory. numbered_stops class g.T.Shaped.shape old.room old.rest (head_of h) e.kind (c.in_ok-header.ensures.der.0 der) (inner.0 der ready memory), inner.1, inner.2)
+    rw (p.1, p.2) (λ der ready memory. numbered_stops class g.T.Shaped.shape old.room old.rest (head_of h) e.kind (c.in-Ok.ensures.der.0 der) (inner.0 der ready memory), inner.1, inner.2, inner.3)
