@@ -12,7 +12,7 @@ use crate::tag_number::TagNumber;
 use std::fmt;
 
 /// A tag: its class, whether the value is constructed, and its number (X.690 8.1.2).
-#[derive(Clone, Copy, Debug, PartialEq, Eq, PartialOrd, Ord)]
+#[derive(Clone, Copy, Debug, PartialEq, Eq, PartialOrd, Ord, Hash)]
 pub enum Tag {
     Boolean,
     Integer,

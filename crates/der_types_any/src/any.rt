@@ -1,7 +1,8 @@
 //! Any value.
 
-ghost use Rattle.std.specs.Prelude.{◌≡◌, ◌<◌, ◌≤◌, ◌^◌, ◌↔◌, [], length, vec_len, nat_eq, true, false, None, Ok, IsTrue, IfOk, IfErr, IsErrAnd};
-ghost use Rattle.std.specs.Cmp.{partial_equiv_from_equiv, on_equiv, on_per};
+ghost use Rattle.std.specs.Prelude.{◌≡◌, ◌<◌, ◌≤◌, ◌^◌, ◌↔◌, [], length, vec_len, nat_eq, true, false, Some, None, Ok, IsTrue, IfOk, IfErr, IsErrAnd};
+ghost use Rattle.std.proofs.Common.{refl};
+ghost use Rattle.std.specs.Cmp.{po, partial_equiv_from_equiv, on_equiv, on_per};
 ghost use Rattle.std.specs.Cmp.Lexicographic.{pointwise, nat_list_eq_equiv};
 ghost use Rattle.der_core_head.specs.declared.encoding_rules.EncodingRules.TheVariants.{Der};
 ghost use Rattle.der_core_head.specs.declared.tag.Tag.TheVariants.{Null, Sequence};
@@ -11,6 +12,7 @@ ghost use Rattle.der_core_head.specs.Tags.{same_tag};
 ghost use Rattle.der_core_head.specs.Reading.{Gives, ClosureReads, HandsBack, unread};
 ghost use Rattle.der_core_octets.specs.Nesting.{Answered};
 ghost use Rattle.der_core_head.specs.Writing.{write_content};
+ghost use Rattle.der_types_any.specs.AnyOrders.{any_cmp, any_cmp_total, any_cmp_ties, any_fed, any_fed_alike};
 ghost use Rattle.der_types_any.specs.Anys.{any_lent};
 ghost use Rattle.der_core.specs.Orders.{octets_cmp};
 ghost use Rattle.der_types_any.specs.Contents.{content_as, written_as};
@@ -18,11 +20,11 @@ ghost use Rattle.der_types_any.specs.Contents.{content_as, written_as};
 use crate::any_ref::AnyRef;
 use der_core::{
     Choice, Decode, DecodeValue, DerOrd, Encode, EncodeValue, EncodingRules, Error, ErrorKind,
-    FirstTag, FixedTag, Header, Length, Reader, Shaped, SliceReader, Tag, Writer, leading_octet_of,
-    number_of,
+    FirstTag, FixedTag, Header, Length, Reader, Shaped, SliceReader, Tag, Writer,
 };
 use std::alloc::{AllocError, Global};
 use std::cmp::Ordering;
+use std::hash::{Hash, Hasher};
 use std::marker::Model;
 
 /// Any value (X.680 3.8.1), as it stands: its tag, and the octets of its content, fewer than 2^32,
@@ -230,24 +232,68 @@ impl Any {
     }
 }
 
+/// A copy, in memory of the same allocator.
+impl Clone for Any {
+    ghost is_clone = { λ x y. y ≡ x };
+
+    fn clone(&self) -> Result<Any, AllocError> {
+        Any::copy_of(*self.bytes.allocator(), &self.to_ref())
+    }
+}
+
 /// Whether tag and content are equal.
 impl PartialEq for Any {
-    ghost use Rattle.der_types_any.specs.Anys.{any_key};
+    ghost use Rattle.der_types_any.specs.AnyOrders.{any_key};
 
     ghost eq = { λ a b. pointwise nat_eq (any_key a) (any_key b) };
 
     ghost laws = { on_per any_key (partial_equiv_from_equiv nat_list_eq_equiv) };
 
     fn eq(&self, other: &Self) -> bool {
-        leading_octet_of(self.tag()) == leading_octet_of(other.tag())
-            && (number_of(self.tag()) == number_of(other.tag()) && self.value() == other.value())
+        self.to_ref() == other.to_ref()
     }
 }
 
 impl Eq for Any {
-    ghost use Rattle.der_types_any.specs.Anys.{any_key};
+    ghost use Rattle.der_types_any.specs.AnyOrders.{any_key};
 
     ghost laws = { on_equiv any_key nat_list_eq_equiv };
+}
+
+/// The order of the tags' leading octets, then of their numbers, then of the contents.
+impl PartialOrd for Any {
+    ghost partial_cmp = { λ a b. Some (any_cmp a b) };
+
+    ghost laws = { po any_cmp_total any_cmp_ties };
+
+    fn partial_cmp(&self, other: &Self) -> Option<Ordering> {
+        Some(self.cmp(other))
+    }
+}
+
+impl Ord for Any {
+    ghost cmp = { any_cmp };
+
+    ghost total = { any_cmp_total };
+
+    ghost matches_partial_cmp = { λ a b. refl };
+
+    ghost matches_eq = { any_cmp_ties };
+
+    fn cmp(&self, other: &Self) -> Ordering {
+        self.to_ref().cmp(&other.to_ref())
+    }
+}
+
+/// The leading octet of the tag, its number, and the content.
+impl Hash for Any {
+    ghost hash_input = { any_fed };
+
+    ghost respects_eq = { any_fed_alike };
+
+    fn hash<H: Hasher>(&self, state: &mut H) {
+        self.to_ref().hash(state);
+    }
 }
 
 impl Shaped for Any {

@@ -1,6 +1,9 @@
 //! Any value, borrowed.
 
-ghost use Rattle.std.specs.Prelude.{◌≡◌, ◌<◌, ◌≤◌, ◌^◌, ◌↔◌, [], length, true, false, Ok, IsTrue, IfOk, IfErr, IsErrAnd};
+ghost use Rattle.std.specs.Prelude.{◌≡◌, ◌<◌, ◌≤◌, ◌^◌, ◌↔◌, [], length, nat_eq, true, false, Some, Ok, IsTrue, IfOk, IfErr, IsErrAnd};
+ghost use Rattle.std.proofs.Common.{refl};
+ghost use Rattle.std.specs.Cmp.{po, partial_equiv_from_equiv, on_equiv, on_per, on_total};
+ghost use Rattle.std.specs.Cmp.Lexicographic.{pointwise, nat_list_eq_equiv};
 ghost use Rattle.der_core_head.specs.declared.encoding_rules.EncodingRules.TheVariants.{Der};
 ghost use Rattle.der_core_head.specs.declared.tag.Tag.TheVariants.{Null, Sequence};
 ghost use Rattle.der_core_head.specs.Shapes.{any, tagged, nested, Body, BodyValue, ContentValue, IsValid, Spells, octets_of};
@@ -9,20 +12,22 @@ ghost use Rattle.der_core_head.specs.Tags.{same_tag};
 ghost use Rattle.der_core_head.specs.Reading.{Gives, ClosureReads, HandsBack, unread};
 ghost use Rattle.der_core_octets.specs.Nesting.{Answered};
 ghost use Rattle.der_core.specs.Orders.{octets_cmp};
+ghost use Rattle.der_types_any.specs.AnyOrders.{any_cmp, any_cmp_total, any_cmp_ties, any_fed, any_fed_alike};
 ghost use Rattle.der_types_any.specs.Contents.{content_as};
 
 use crate::any::Any;
 use der_core::{
     Choice, Decode, DecodeValue, DerOrd, Encode, EncodingRules, Error, ErrorKind, FirstTag,
     FixedTag, Header, Length, Reader, Shaped, SliceReader, Tag, Writer, encode_header, header_len,
-    is_same_tag, length_cmp, slice_len, sum_len, tag_cmp,
+    is_same_tag, leading_octet_of, length_cmp, number_of, slice_len, sum_len, tag_cmp,
 };
 use std::alloc::{AllocError, Global};
 use std::cmp::Ordering;
+use std::hash::{Hash, Hasher};
 
 /// Any value (X.680 3.8.1), as it stands: its tag, and the octets of its content, fewer than 2^32,
 /// which aren't looked into; lent.
-#[derive(Clone, Copy, Debug, PartialEq, Eq)]
+#[derive(Clone, Copy, Debug)]
 pub struct AnyRef<'a> {
     tag: Tag,
     bytes: &'a [u8],
@@ -197,6 +202,72 @@ impl<'a> From<&'a Any> for AnyRef<'a> {
 
     fn from(any: &'a Any) -> AnyRef<'a> {
         any.to_ref()
+    }
+}
+
+/// Whether tag and content are equal.
+impl<'a> PartialEq for AnyRef<'a> {
+    ghost use Rattle.der_types_any.specs.Anys.{key_lent};
+
+    ghost eq = { λ a b. pointwise nat_eq (key_lent a) (key_lent b) };
+
+    ghost laws = { on_per key_lent (partial_equiv_from_equiv nat_list_eq_equiv) };
+
+    fn eq(&self, other: &Self) -> bool {
+        leading_octet_of(self.tag) == leading_octet_of(other.tag)
+            && (number_of(self.tag) == number_of(other.tag) && self.bytes == other.bytes)
+    }
+}
+
+impl<'a> Eq for AnyRef<'a> {
+    ghost use Rattle.der_types_any.specs.Anys.{key_lent};
+
+    ghost laws = { on_equiv key_lent nat_list_eq_equiv };
+}
+
+/// The order of the tags' leading octets, then of their numbers, then of the contents.
+impl<'a> PartialOrd for AnyRef<'a> {
+    ghost use Rattle.der_types_any.specs.Anys.{any_lent};
+
+    ghost partial_cmp = { λ a b. Some (any_cmp (any_lent a) (any_lent b)) };
+
+    ghost laws = { po (on_total any_lent any_cmp_total) (λ a b. any_cmp_ties (any_lent a) (any_lent b)) };
+
+    fn partial_cmp(&self, other: &Self) -> Option<Ordering> {
+        Some(self.cmp(other))
+    }
+}
+
+impl<'a> Ord for AnyRef<'a> {
+    ghost use Rattle.der_types_any.specs.Anys.{any_lent};
+
+    ghost cmp = { λ a b. any_cmp (any_lent a) (any_lent b) };
+
+    ghost total = { on_total any_lent any_cmp_total };
+
+    ghost matches_partial_cmp = { λ a b. refl };
+
+    ghost matches_eq = { λ a b. any_cmp_ties (any_lent a) (any_lent b) };
+
+    fn cmp(&self, other: &Self) -> Ordering {
+        let leading = leading_octet_of(self.tag).cmp(&leading_octet_of(other.tag));
+        let number = number_of(self.tag).cmp(&number_of(other.tag));
+        leading.then(number.then(self.bytes.cmp(other.bytes)))
+    }
+}
+
+/// The leading octet of the tag, its number, and the content.
+impl<'a> Hash for AnyRef<'a> {
+    ghost use Rattle.der_types_any.specs.Anys.{any_lent};
+
+    ghost hash_input = { λ a. any_fed (any_lent a) };
+
+    ghost respects_eq = { λ a b e. any_fed_alike (any_lent a) (any_lent b) e };
+
+    fn hash<H: Hasher>(&self, state: &mut H) {
+        leading_octet_of(self.tag).hash(state);
+        number_of(self.tag).hash(state);
+        self.bytes.hash(state);
     }
 }
 

@@ -11,13 +11,18 @@ ghost use Rattle.der_types_any.specs.Anys.{any_lent};
 use crate::any::Any;
 use crate::any_ref::AnyRef;
 use der_core::Shaped;
+use std::cmp::{Ord, PartialEq};
+use std::hash::Hash;
 
-/// Both forms are read and refused alike, for they have one shape; they have the same encoding, and stand in
-/// the same order.
+/// Both forms are read and refused alike, for they have one shape; they have the same encoding, are equal to the same
+/// values, are hashed alike, and stand in the same orders, their own and that of encodings.
 pub fn any_forms_agree()
     ensures read { ⟦<AnyRef<'static> as Shaped>⟧.shape ≡ ⟦<Any as Shaped>⟧.shape }
     ensures encoding { (a : AnyRef) → octets_of ⟦<AnyRef<'static> as Shaped>⟧.shape (⟦<AnyRef<'static> as Shaped>⟧.plain a)
         ≡ octets_of ⟦<Any as Shaped>⟧.shape (⟦<Any as Shaped>⟧.plain (any_lent a)) }
-    ensures order { (a b : AnyRef) → encodings_cmp ⟦<AnyRef<'static> as Shaped>⟧.shape (⟦<AnyRef<'static> as Shaped>⟧.plain a) (⟦<AnyRef<'static> as Shaped>⟧.plain b)
+    ensures equality { (a b : AnyRef) → ⟦<AnyRef<'static> as PartialEq>⟧.eq a b ≡ ⟦<Any as PartialEq>⟧.eq (any_lent a) (any_lent b) }
+    ensures hash { (a : AnyRef) → ⟦<AnyRef<'static> as Hash>⟧.hash_input a ≡ ⟦<Any as Hash>⟧.hash_input (any_lent a) }
+    ensures order { (a b : AnyRef) → ⟦<AnyRef<'static> as Ord>⟧.cmp a b ≡ ⟦<Any as Ord>⟧.cmp (any_lent a) (any_lent b) }
+    ensures encodings { (a b : AnyRef) → encodings_cmp ⟦<AnyRef<'static> as Shaped>⟧.shape (⟦<AnyRef<'static> as Shaped>⟧.plain a) (⟦<AnyRef<'static> as Shaped>⟧.plain b)
         ≡ encodings_cmp ⟦<Any as Shaped>⟧.shape (⟦<Any as Shaped>⟧.plain (any_lent a)) (⟦<Any as Shaped>⟧.plain (any_lent b)) }
 {}

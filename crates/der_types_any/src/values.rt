@@ -110,14 +110,14 @@ impl<'a> From<Null> for AnyRef<'a> {
     }
 }
 
-/// The identifier of an OBJECT IDENTIFIER.
-impl<'a> TryFrom<AnyRef<'a>> for ObjectIdentifier<39> {
+/// The identifier of an OBJECT IDENTIFIER, whose octets are no more than the capacity.
+impl<'a, const MAX_SIZE: usize> TryFrom<AnyRef<'a>> for ObjectIdentifier<MAX_SIZE> {
     type Error = Error;
 
-    ghost try_from_gives = { λ a r. GivesNow (λ x. x) r (leaf_as tags.ObjectIdentifier (identifier Bound 39) (any_lent a)) };
+    ghost try_from_gives = { λ a r. GivesNow (λ x. x) r (leaf_as tags.ObjectIdentifier (identifier Bound MAX_SIZE) (any_lent a)) };
 
     #[tactic(auto, unfolding(crate::specs::Contents::leaf_as))]
-    fn try_from(any: AnyRef<'a>) -> Result<ObjectIdentifier<39>, Error> {
+    fn try_from(any: AnyRef<'a>) -> Result<ObjectIdentifier<MAX_SIZE>, Error> {
         check_tag(any.tag(), Tag::ObjectIdentifier)?;
         match ObjectIdentifier::from_bytes_sized(any.value()) {
             Ok(identifier) => Ok(identifier),
@@ -127,13 +127,13 @@ impl<'a> TryFrom<AnyRef<'a>> for ObjectIdentifier<39> {
 }
 
 /// The same of an owned value.
-impl<'a> TryFrom<&'a Any> for ObjectIdentifier<39> {
+impl<'a, const MAX_SIZE: usize> TryFrom<&'a Any> for ObjectIdentifier<MAX_SIZE> {
     type Error = Error;
 
-    ghost try_from_gives = { λ a r. GivesNow (λ x. x) r (leaf_as tags.ObjectIdentifier (identifier Bound 39) a.now) };
+    ghost try_from_gives = { λ a r. GivesNow (λ x. x) r (leaf_as tags.ObjectIdentifier (identifier Bound MAX_SIZE) a.now) };
 
-    fn try_from(any: &'a Any) -> Result<ObjectIdentifier<39>, Error> {
-        let value = ObjectIdentifier::<39>::try_from(any.to_ref())?;
+    fn try_from(any: &'a Any) -> Result<ObjectIdentifier<MAX_SIZE>, Error> {
+        let value = ObjectIdentifier::<MAX_SIZE>::try_from(any.to_ref())?;
         Ok(value)
     }
 }

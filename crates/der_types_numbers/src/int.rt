@@ -136,6 +136,15 @@ impl From<Uint> for Int {
     }
 }
 
+/// A copy, in memory of the same allocator.
+impl Clone for Int {
+    ghost is_clone = { λ x y. y ≡ x };
+
+    fn clone(&self) -> Result<Int, AllocError> {
+        Int::copy_of(*self.bytes.allocator(), &self.owned_to_ref())
+    }
+}
+
 /// Whether the numbers are equal.
 impl PartialEq for Int {
     ghost eq = { λ a b. pointwise nat_eq (integer_octets a) (integer_octets b) };

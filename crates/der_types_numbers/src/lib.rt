@@ -1,6 +1,7 @@
 //! Whole numbers of any size.
 #![tactic(auto)]
 
+mod elements;
 mod fewest;
 mod int;
 mod int_ref;

@@ -128,6 +128,15 @@ impl AsUintRef for Uint {
     }
 }
 
+/// A copy, in memory of the same allocator.
+impl Clone for Uint {
+    ghost is_clone = { λ x y. y ≡ x };
+
+    fn clone(&self) -> Result<Uint, AllocError> {
+        Uint::copy_of(*self.bytes.allocator(), &self.owned_to_ref())
+    }
+}
+
 /// Whether the numbers are equal.
 impl PartialEq for Uint {
     ghost eq = { λ a b. pointwise nat_eq (digits 256 a) (digits 256 b) };

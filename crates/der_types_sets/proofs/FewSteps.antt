@@ -7,7 +7,7 @@ use Rattle.der_core_head.specs.Octets.{Readings}
 use Rattle.der_core_head.specs.Grammar.{plain_list}
 use Rattle.der_types_sets.specs.Sets.{read_few}
 
-length-plain_list : {A P : Type 0} (f : A → P) (xs : List A) → length (plain_list f xs) ≡ length xs
+pub length-plain_list : {A P : Type 0} (f : A → P) (xs : List A) → length (plain_list f xs) ≡ length xs
 length-plain_list f [] = refl
 length-plain_list f (x ∷ xs) = ap (λ n. suc n) (length-plain_list f xs)
 

@@ -1,5 +1,6 @@
 -- Sets as their members in order (X.690 8.12, 11.6). A member has the plain value f x of a shape s.
-use Rattle.std.specs.Prelude.{◌≡◌, ◌≢◌, ℕ, suc, ◌-◌, ◌<◌, ◌≤◌, List, [], ◌∷◌, ◌++◌, length, slice_index_or, flat_map, ⊤, ◌⊎◌, Result, Ok, Err, nat_lt, if◌then◌else◌}
+use Rattle.std.specs.Prelude.{◌≡◌, ◌≢◌, ℕ, suc, ◌-◌, ◌<◌, ◌≤◌, List, [], ◌∷◌, ◌++◌, length, slice_index_or, flat_map, ⊤, ◌⊎◌, Option, Some, Result, Ok, Err, nat_lt, if◌then◌else◌}
+use Rattle.std.specs.Iterator.{YieldsThen}
 use Rattle.std.specs.List.{AllByRecursion}
 use Rattle.std.specs.List.Sorted.{IsPermutation}
 use Rattle.std.specs.declared.cmp.Ordering.TheVariants.{Greater}
@@ -75,6 +76,18 @@ pub record IsOutOfOrder {A : Type 0} (s : Shape) (f : A → Value s) (xs : List 
 -- the items went into the set, wherever their places are
 abbrev pub Gains : {A : Type 0} → List A → List A → List A → Type 0
 Gains old items new = IsPermutation (items ++ old) new
+
+-- The first of the items, in their order, went into the set, and then one was refused: for want of memory, or since an encoding passes what a length can count.
+abbrev pub StopsAt : {U T A : Type 0} (s : Shape) → (A → Value s) → (U → T → Type 0) → (T → Option A → T → Type 0) → U → List A → List A → Error → Type 0
+StopsAt {U} {T} {A} s f becomes steps items old new e =
+    (it : T) × (xs : List A) × (x : A) × (rest : T) × becomes items it × YieldsThen steps it xs (Some x) rest × Gains old xs new × IsRefusal s f (x ∷ new) e
+
+-- The octets are a SET of more members than so many.
+pub record HasMore (s : Shape) (n : ℕ) (octets : List ℕ) (e : Error) : Type 0 where
+  pub kind : e.kind ≡ kinds.Overlength
+  pub members : List (Value s)
+  pub spelled : SpellsLoosely s members octets
+  pub more : n < length members
 
 -- what was read, if there are no more than so many
 abbrev at_most : {P : Type 0} → ℕ → List P × List ℕ → Result (List P × List ℕ) ErrorKind

@@ -29,7 +29,7 @@ use std::marker::Model;
 /// SEQUENCE OF (X.690 8.10) with at most `N` members.
 ///
 /// Contracts see the list of the members.
-#[derive(Drop)]
+#[derive(Debug, Drop)]
 pub struct SequenceOf<T, const N: usize> {
     members: ArrayVec<T, N>,
 }

@@ -12,7 +12,7 @@ ghost use Rattle.std.specs.Cmp.Lexicographic.{pointwise, slice_cmp, slice_partia
 ghost use Rattle.std.specs.Hash as fed;
 ghost use Rattle.std.specs.Hash.{items_Alike};
 ghost use Rattle.der_types_sets.specs.Lent.{members_lent};
-ghost use Rattle.der_types_sets.specs.Sets.{Ascends, Loose, SpellsLoosely, TooLong, IsBelowLast, read_few};
+ghost use Rattle.der_types_sets.specs.Sets.{Ascends, Loose, SpellsLoosely, TooLong, IsBelowLast, HasMore, read_few};
 
 use crate::iter::SetOfIter;
 use crate::members::{encode_members, members_len};
@@ -35,7 +35,7 @@ use std::marker::Model;
 /// kept.
 ///
 /// Contracts see the list of the members.
-#[derive(Drop)]
+#[derive(Debug, Drop)]
 pub struct SetOf<T: Shaped, const N: usize> {
     members: ArrayVec<T, N>,
 }
@@ -224,7 +224,7 @@ impl<T: DerOrd + Member + Default + Drop, const N: usize> SetOf<T, N> {
         ensures only { (v : List (Value T.shape)) → is_element T.shape ≡ true → are_enough (tagged Set (nested (many T.shape))) 64 ≡ true
             → SpellsLoosely T.shape v bytes.now → length v ≤ N → Gives (plain_list T.plain) result (Ok v) }
         // Which fault it is.
-        ensures refused { is_element T.shape ≡ true → IfErr result (λ e. (e.kind ≡ ErrorKind.Overlength) ⊎ Fails e.kind (whole_at (tagged Set (nested (many T.shape))) bytes.now)) }
+        ensures refused { is_element T.shape ≡ true → IfErr result (λ e. HasMore T.shape N bytes.now e ⊎ Fails e.kind (whole_at (tagged Set (nested (many T.shape))) bytes.now)) }
     {
         let ordered = SetOfVec::<T>::from_der(alloc, bytes)?;
         let members = into_array(ordered.into_vec())?;

@@ -7,6 +7,7 @@ ghost use Rattle.der_types_sets.specs.Lent.{Lent, HasMembers, IsSpelled, IsWantO
 
 use der_core::{Decode, Error, Member, Shaped, SliceReader, from_der_partial};
 use std::alloc::Global;
+use std::fmt;
 use std::marker::Model;
 
 /// The members of a `SetOfRef`, in order. Where there is no memory for one, the error is the last
@@ -135,5 +136,16 @@ impl<'a, T: Decode<'a, SliceReader<'a>> + Member + Clone> ExactSizeIterator
         } else {
             self.count
         }
+    }
+}
+
+/// The values, the octets and the number of members that are left.
+impl<'a, T: Shaped + fmt::Debug> fmt::Debug for SetOfRefIter<'a, T> {
+    fn fmt<W: fmt::Write>(&self, f: &mut fmt::Formatter<W>) -> fmt::Result {
+        f.debug_struct("SetOfRefIter")
+            .field("values", &self.values)
+            .field("octets", &self.octets)
+            .field("count", &self.count)
+            .finish()
     }
 }

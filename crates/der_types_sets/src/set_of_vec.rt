@@ -1,6 +1,6 @@
 //! SET OF with any number of members.
 
-ghost use Rattle.std.specs.Prelude.{◌≡◌, ◌⊎◌, ◌≤◌, MatchResult, List, take, true, false, Ok, ◌==◌, ◌≢◌, [], ◌∷◌, ◌++◌, length, slice_get, IfOk, OnOk, OnErr, IfErr};
+ghost use Rattle.std.specs.Prelude.{◌≡◌, ◌⊎◌, ◌≤◌, MatchResult, List, take, true, false, Ok, ◌==◌, [], ◌∷◌, ◌++◌, length, slice_get, IfOk, OnOk, OnErr, IfErr};
 ghost use Rattle.std.specs.Option.{option_copied};
 ghost use Rattle.std.specs.List.Sorted.{IsPermutation};
 ghost use Rattle.der_core_head.specs.declared.tag.Tag.TheVariants.{Set};
@@ -12,7 +12,7 @@ ghost use Rattle.std.specs.Cmp.Lexicographic.{pointwise, slice_cmp, slice_partia
 ghost use Rattle.std.specs.Hash as fed;
 ghost use Rattle.std.specs.Hash.{items_Alike};
 ghost use Rattle.der_types_sets.specs.Lent.{members_lent};
-ghost use Rattle.der_types_sets.specs.Sets.{Ascends, Loose, SpellsLoosely, IsRefusal, TooLong, IsBelowLast, Gains};
+ghost use Rattle.der_types_sets.specs.Sets.{Ascends, Loose, SpellsLoosely, IsRefusal, TooLong, IsBelowLast, Gains, StopsAt};
 ghost use Rattle.std.specs.Iterator.{IsFinite, ExtendsWithItems, Drains};
 
 use crate::any_order::AnyOrder;
@@ -197,12 +197,12 @@ impl<T: DerOrd + Member + Drop> SetOfVec<T> {
     /// Places each of the items in order.
     ///
     /// # Errors
-    /// `Overflow` where an encoding has 2^32 octets or more, or `OutOfMemory`. The items before the
-    /// refused one have been placed then.
+    /// `Overflow` where the encoding of an item or of a member has 2^32 octets or more, or
+    /// `OutOfMemory`. The items before the refused one have been placed then.
     pub fn extend<I: IntoIterator<Item = T>>(&mut self, items: I) -> Result<(), Error>
         requires { (it : I.IntoIter) → I.into_iter_gives items it → I.IntoIter.can_next it × IsFinite (I.IntoIter.remaining it) }
         ensures ran { ExtendsWithItems I.into_iter_gives I.IntoIter.next_gives Gains items self.old self.new result }
-        ensures refused { IfErr result (λ e. e.kind ≢ ErrorKind.OutOfMemory → e.kind ≡ ErrorKind.Overflow) }
+        ensures refused { IfErr result (StopsAt T.shape T.written I.into_iter_gives I.IntoIter.next_gives items self.old self.new) }
     {
         for item in items {
             self.insert(item)?;
@@ -220,7 +220,7 @@ impl<T: DerOrd + Member + Drop> SetOfVec<T> {
     ) -> Result<SetOfVec<T>, Error>
         requires { (it : I.IntoIter) → I.into_iter_gives items it → I.IntoIter.can_next it × IsFinite (I.IntoIter.remaining it) }
         ensures ran { IfOk result (λ set. (it : I.IntoIter) × (xs : List T) × I.into_iter_gives items it × Drains I.IntoIter.next_gives it xs × Gains [] xs set) }
-        ensures refused { IfErr result (λ e. e.kind ≢ ErrorKind.OutOfMemory → e.kind ≡ ErrorKind.Overflow) }
+        ensures refused { IfErr result (λ e. (set : List T) × StopsAt T.shape T.written I.into_iter_gives I.IntoIter.next_gives items [] set e) }
     {
         let mut set = SetOfVec::new(alloc);
         set.extend(items)?;

@@ -1,10 +1,10 @@
 -- What contracts see of a `BmpString` and of its iterators: characters.
-use Rattle.std.specs.Prelude.{◌≡◌, ◌&&◌, ℕ, List, Bool, Result, Ok, Err, if◌then◌else◌}
+use Rattle.std.specs.Prelude.{◌≡◌, ◌&&◌, ℕ, List, Bool, length, Result, Ok, Err, nat_lt, if◌then◌else◌}
 use Rattle.std.specs.List.{list_all}
 use Rattle.der_core_head.specs.declared.error.ErrorKind.{ErrorKind}
 use Rattle.der_core_head.specs.declared.error.ErrorKind.TheVariants as kinds
 use Rattle.der_core_head.specs.declared.tag.Tag.TheVariants as tags
-use Rattle.der_core_head.specs.BmpStrings.{is_unit, IsBmp, bmp_octets, are_pairs, units}
+use Rattle.der_core_head.specs.BmpStrings.{is_unit, IsBmp, bmp_octets, bmp_read, are_pairs, units}
 use Rattle.der_types_text.specs.declared.bmp_string.BmpString.TheInside.{Inside}
 
 -- pairs of octets, each a character
@@ -17,6 +17,10 @@ characters_of s = units s.bytes.items
 pub record IsBmpString (s : Inside) : Type 0 where
   pub spelled : s.bytes.items ≡ bmp_octets (units s.bytes.items)
   pub characters : IsBmp (units s.bytes.items)
+
+-- the characters of octets that a length can count, or the fault
+abbrev pub ucs2_from : List ℕ → Result (List ℕ) ErrorKind
+ucs2_from w = if nat_lt 4294967295 (length w) then Err kinds.Overflow else bmp_read tags.BmpString w
 
 -- characters that a BMPString may have, or the fault
 abbrev pub bmp_from : List ℕ → Result (List ℕ) ErrorKind

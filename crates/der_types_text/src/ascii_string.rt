@@ -213,6 +213,15 @@ impl<T: AsciiType> EncodeValue for AsciiString<T> {
     }
 }
 
+/// A copy, in memory of the same allocator.
+impl<T: AsciiType> Clone for AsciiString<T> {
+    ghost is_clone = { λ x y. y ≡ x };
+
+    fn clone(&self) -> Result<AsciiString<T>, AllocError> {
+        AsciiString::from_ref(*self.text.allocator(), self.owned_to_ref())
+    }
+}
+
 /// Texts are equal where their octets are.
 impl<T: AsciiType> PartialEq for AsciiString<T> {
     ghost eq = { pointwise nat_eq };

@@ -13,7 +13,7 @@ ghost use Rattle.der_core_head.specs.declared.tag.Tag.TheVariants.{BmpString as 
 ghost use Rattle.der_core_head.specs.Leaves.{bmp};
 ghost use Rattle.der_core_head.specs.Reading.{Gives, GivesNow};
 ghost use Rattle.der_core_head.specs.Shapes.{leaf};
-ghost use Rattle.der_types_text.specs.BmpStrings.{are_bmp, bmp_from};
+ghost use Rattle.der_types_text.specs.BmpStrings.{are_bmp, bmp_from, ucs2_from};
 ghost use Rattle.der_types_text.specs.BmpOrders.{bmp_order};
 
 use crate::bmp_chars::{BmpChars, BmpCodepoints};
@@ -120,11 +120,15 @@ impl BmpString {
     /// The string of these octets.
     ///
     /// # Errors
-    /// `Value` for an odd number of octets, and where a pair is a half of a surrogate pair.
+    /// `Overflow` for 2^32 octets or more, `Value` for an odd number of octets, and where a pair is a
+    /// half of a surrogate pair.
     #[tactic(auto, unfolding(der_core_head::specs::BmpStrings::bmp_read))]
     pub fn from_ucs2(bytes: Vec<u8>) -> Result<BmpString, Error>
-        ensures { GivesNow (λ s. s) result (bmp_read BmpStringTag bytes.items) }
+        ensures { GivesNow (λ s. s) result (ucs2_from bytes.items) }
     {
+        if bytes.len() > 0xffff_ffff {
+            return Err(Error::from(ErrorKind::Overflow));
+        }
         if are_characters(bytes.as_slice()) {
             Ok(BmpString { bytes })
         } else {
@@ -248,6 +252,16 @@ impl EncodeValue for BmpString {
 
     fn encode_value<W: Writer>(&self, writer: &mut W) -> Result<(), Error> {
         writer.write(self.as_bytes())
+    }
+}
+
+/// A copy, in memory of the same allocator.
+impl Clone for BmpString {
+    ghost is_clone = { λ x y. y ≡ x };
+
+    fn clone(&self) -> Result<BmpString, AllocError> {
+        let bytes = self.bytes.as_slice().to_vec(*self.bytes.allocator())?;
+        Ok(BmpString { bytes })
     }
 }
 

@@ -7,6 +7,7 @@ mod ascii_type;
 mod bmp_chars;
 pub mod bmp_laws;
 mod bmp_string;
+mod elements;
 mod general_string;
 mod ia5_string;
 pub mod laws;

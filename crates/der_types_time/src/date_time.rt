@@ -2,13 +2,11 @@
 
 ghost use Rattle.std.specs.Prelude.{◌≡◌, ◌↔◌, ◌*◌, ◌/◌, ◌≤◌, ◌<◌, true, IsTrue, IsOk, IfOk, IfErr, pos, ◌≤ℤ◌};
 ghost use Rattle.std.specs.Duration.{as_nanos};
-ghost use Rattle.der_core_head.specs.Dates.{Civil, is_leap, days_in_month, is_civil, two_digits};
-ghost use Rattle.std.specs.Fmt.{WritesOnOk};
-ghost use Rattle.der_types_time.specs.DateTexts.{marked, day_text, time_text};
+ghost use Rattle.der_core_head.specs.Dates.{Civil, is_leap, days_in_month, is_civil};
 ghost use Rattle.der_types_time.specs.Seconds.{unix_days, unix_seconds};
 ghost use Rattle.jiff_core.specs.Date.{epoch_day};
 
-use crate::date_text::{date_of_text, two_digits as digits_of};
+use crate::date_text::{date_of_text, text_of_date};
 use der_core::{Error, ErrorKind};
 use jiff_core::civil::Date;
 use std::fmt;
@@ -268,46 +266,6 @@ impl FromStr for DateTime {
     }
 }
 
-/// Writes the two digits of a number below 100.
-fn write_two<W: fmt::Write>(number: u8, f: &mut fmt::Formatter<W>) -> fmt::Result
-    requires { number < 100 }
-    ensures { WritesOnOk W.write_str_gives f.old result (two_digits number) f.new }
-{
-    let [tens, ones] = digits_of(number);
-    f.write_char(char::from(tens))?;
-    f.write_char(char::from(ones))
-}
-
-/// Writes a mark and the two digits of a number below 100.
-fn write_marked<W: fmt::Write>(mark: char, number: u8, f: &mut fmt::Formatter<W>) -> fmt::Result
-    requires mark { mark < 128 }
-    requires number { number < 100 }
-    ensures { WritesOnOk W.write_str_gives f.old result (marked mark number) f.new }
-{
-    f.write_char(mark)?;
-    write_two(number, f)
-}
-
-/// Writes `YYYY-MM-DD`.
-fn write_day<W: fmt::Write>(date: DateTime, f: &mut fmt::Formatter<W>) -> fmt::Result
-    ensures { WritesOnOk W.write_str_gives f.old result (day_text date) f.new }
-{
-    write_two((date.year / 100) as u8, f)?;
-    write_two((date.year % 100) as u8, f)?;
-    write_marked('-', date.month, f)?;
-    write_marked('-', date.day, f)
-}
-
-/// Writes `THH:MM:SSZ`.
-fn write_time<W: fmt::Write>(date: DateTime, f: &mut fmt::Formatter<W>) -> fmt::Result
-    ensures { WritesOnOk W.write_str_gives f.old result (time_text date) f.new }
-{
-    write_marked('T', date.hour, f)?;
-    write_marked(':', date.minutes, f)?;
-    write_marked(':', date.seconds, f)?;
-    f.write_char('Z')
-}
-
 /// Writes the text `YYYY-MM-DDTHH:MM:SSZ`.
 impl fmt::Display for DateTime {
     ghost use Rattle.std.specs.Prelude.{Some};
@@ -315,9 +273,11 @@ impl fmt::Display for DateTime {
 
     ghost output = { λ date. Some (date_text date) };
 
-    #[tactic(auto, unfolding(crate::specs::DateTexts::date_text))]
     fn fmt<W: fmt::Write>(&self, f: &mut fmt::Formatter<W>) -> fmt::Result {
-        write_day(*self, f)?;
-        write_time(*self, f)
+        let octets = text_of_date(*self);
+        match str::from_utf8(&octets) {
+            Ok(text) => f.write_str(text),
+            Err(_) => Err(fmt::Error),
+        }
     }
 }

@@ -5,13 +5,15 @@
 ghost use Rattle.std.specs.Prelude.{◌≡◌, true};
 ghost use Rattle.std.specs.Ordering.{nat_cmp};
 ghost use Rattle.der_core_head.specs.Dates.{Civil, is_civil};
-ghost use Rattle.der_types_time.specs.DateOrders.{civil_cmp};
 ghost use Rattle.der_types_time.specs.DateTexts.{date_text};
 ghost use Rattle.der_types_time.specs.Seconds.{unix_seconds};
 
-/// Dates are in the order of their seconds.
+use crate::date_time::DateTime;
+use std::cmp::Ord;
+
+/// Dates are in the order of their seconds, by `cmp`.
 pub fn order_is_that_of_seconds()
-    ensures { (c d : Civil) → is_civil c ≡ true → is_civil d ≡ true → nat_cmp (unix_seconds c) (unix_seconds d) ≡ civil_cmp c d }
+    ensures { (c d : Civil) → is_civil c ≡ true → is_civil d ≡ true → ⟦<DateTime as Ord>⟧.cmp c d ≡ nat_cmp (unix_seconds c) (unix_seconds d) }
 {}
 
 /// Of one number of seconds there is one date.

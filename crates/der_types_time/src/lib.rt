@@ -3,6 +3,7 @@
 
 mod date_text;
 mod date_time;
+mod elements;
 mod generalized_time;
 pub mod laws;
 mod utc_time;

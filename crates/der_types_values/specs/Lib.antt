@@ -3,3 +3,4 @@ pub mod Sequences
 pub mod Bits
 pub mod BitStrings
 pub mod BitOrders
+pub mod Answers

@@ -174,6 +174,15 @@ impl BitString {
     }
 }
 
+/// A copy, in memory of the same allocator.
+impl Clone for BitString {
+    ghost is_clone = { λ x y. y ≡ x };
+
+    fn clone(&self) -> Result<BitString, AllocError> {
+        BitString::copy_of(*self.bytes.allocator(), &self.owned_to_ref())
+    }
+}
+
 /// Whether the contents are equal.
 impl PartialEq for BitString {
     ghost eq = { λ a b. pointwise nat_eq (bit_contents a) (bit_contents b) };

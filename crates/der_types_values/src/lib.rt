@@ -8,6 +8,7 @@ mod bit_string;
 mod bit_string_iter;
 mod bit_string_ref;
 mod bits;
+mod elements;
 mod flag_set;
 pub mod laws;
 mod null;

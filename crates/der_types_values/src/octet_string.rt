@@ -117,6 +117,15 @@ impl OctetString {
     }
 }
 
+/// A copy, in memory of the same allocator.
+impl Clone for OctetString {
+    ghost is_clone = { λ x y. y ≡ x };
+
+    fn clone(&self) -> Result<OctetString, AllocError> {
+        OctetString::copy_of(*self.bytes.allocator(), &self.owned_to_ref())
+    }
+}
+
 /// Whether the octets are equal.
 impl PartialEq for OctetString {
     ghost eq = { pointwise nat_eq };

@@ -1,0 +1,31 @@
+//! Any value can be a member: it has one spelling, begins with a header, and is written as it is read.
+
+ghost use Rattle.std.specs.Prelude.{refl};
+
+use crate::any::Any;
+use crate::any_ref::AnyRef;
+use der_core::{AsRead, Element, Member};
+
+impl Member for Any {
+    ghost apart = { refl };
+}
+
+impl Element for Any {
+    ghost element = { refl };
+}
+
+impl AsRead for Any {
+    ghost as_read = { λ _. refl };
+}
+
+impl<'a> Member for AnyRef<'a> {
+    ghost apart = { refl };
+}
+
+impl<'a> Element for AnyRef<'a> {
+    ghost element = { refl };
+}
+
+impl<'a> AsRead for AnyRef<'a> {
+    ghost as_read = { λ _. refl };
+}
