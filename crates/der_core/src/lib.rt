@@ -13,117 +13,32 @@ pub mod laws;
 mod leaves;
 mod lists;
 mod longer_choices;
+pub mod making;
 mod order;
 mod owned_iterators;
 mod wrappers;
 
-pub use by_ord::OrdIsValueOrd;
-pub use by_ord::der_cmp_by_ord;
-pub use by_ord::value_cmp_by_ord;
-pub use by_ord::value_cmp_is_ord;
-pub use contents::value_cmp_behind;
-pub use contents::value_cmp_by_contents;
-pub use der_core_coding::DefaultValue;
-pub use der_core_coding::EncodeFields;
-pub use der_core_coding::EncodeRef;
-pub use der_core_coding::EncodeValueRef;
-pub use der_core_coding::Explicit;
-pub use der_core_coding::Implicit;
-pub use der_core_coding::IsConstructed;
-pub use der_core_coding::SliceReader;
-pub use der_core_coding::SliceWriter;
-pub use der_core_coding::StrictSetOf;
-pub use der_core_coding::Tagged;
-pub use der_core_coding::WithDefault;
-pub use der_core_coding::decode_sliced;
-pub use der_core_coding::encode_behind;
-pub use der_core_coding::encode_explicit;
-pub use der_core_coding::encode_implicit;
-pub use der_core_coding::encode_to_slice;
-pub use der_core_coding::encode_to_vec;
-pub use der_core_coding::encode_value_to_slice;
-pub use der_core_coding::from_ber;
-pub use der_core_coding::from_der;
-pub use der_core_coding::from_der_partial;
-pub use der_core_coding::len_behind;
-pub use der_core_coding::read_rising;
-pub use der_core_coding::reading;
-pub use der_core_coding::to_der;
-pub use der_core_coding::value_header;
-pub use der_core_coding::values::ApartValue;
-pub use der_core_coding::values::AsRead;
-pub use der_core_coding::values::AsReadValue;
-pub use der_core_coding::values::Choice;
-pub use der_core_coding::values::Decode;
-pub use der_core_coding::values::DecodeFields;
-pub use der_core_coding::values::DecodeValue;
-pub use der_core_coding::values::Element;
-pub use der_core_coding::values::Encode;
-pub use der_core_coding::values::EncodeValue;
-pub use der_core_coding::values::Fields;
-pub use der_core_coding::values::FixedTag;
-pub use der_core_coding::values::Integer;
-pub use der_core_coding::values::Leaf;
-pub use der_core_coding::values::Member;
-pub use der_core_coding::values::OneOf2;
-pub use der_core_coding::values::OneOf3;
-pub use der_core_coding::values::OneOf4;
-pub use der_core_coding::values::OneOf5;
-pub use der_core_coding::values::OneOf6;
-pub use der_core_coding::values::OneOf7;
-pub use der_core_coding::values::OneOf8;
-pub use der_core_coding::values::OneOf9;
-pub use der_core_coding::values::Shaped;
-pub use der_core_coding::values::ShapedValue;
-pub use der_core_coding::values::decode_leaf;
-pub use der_core_coding::values::decode_octets;
-pub use der_core_coding::values::read_content;
-pub use der_core_coding::values::read_fields;
-pub use der_core_head::CLASS_APPLICATION;
-pub use der_core_head::CLASS_CONTEXT_SPECIFIC;
-pub use der_core_head::CLASS_PRIVATE;
-pub use der_core_head::CLASS_UNIVERSAL;
-pub use der_core_head::Class;
-pub use der_core_head::EncodingRules;
-pub use der_core_head::Error;
-pub use der_core_head::ErrorKind;
-pub use der_core_head::Header;
-pub use der_core_head::Length;
-pub use der_core_head::Result;
-pub use der_core_head::Tag;
-pub use der_core_head::TagMode;
-pub use der_core_head::TagNumber;
-pub use der_core_head::header_len;
-pub use der_core_head::is_constructed;
-pub use der_core_head::is_same_tag;
-pub use der_core_head::leading_octet_of;
-pub use der_core_head::number_of;
-pub use der_core_octets::BytesOwned;
-pub use der_core_octets::BytesRef;
-pub use der_core_octets::Reader;
-pub use der_core_octets::StringOwned;
-pub use der_core_octets::StringRef;
-pub use der_core_octets::Writer;
-pub use der_core_octets::encode_header;
-pub use der_core_octets::header_ber_of;
-pub use der_core_octets::header_of;
-pub use der_core_octets::indefinite_length_of;
-pub use der_core_octets::integer_octets_of;
-pub use der_core_octets::length_of;
-pub use der_core_octets::peek_matches;
-pub use der_core_octets::signed_of;
-pub use der_core_octets::slice_len;
-pub use der_core_octets::sum_len;
-pub use der_core_octets::tag_ber_of;
-pub use der_core_octets::tag_of;
-pub use der_core_octets::unsigned_of;
+pub use by_ord::{OrdIsValueOrd, der_cmp_by_ord, value_cmp_by_ord, value_cmp_is_ord};
+pub use der_core_coding::values::{
+    ApartValue, AsRead, AsReadValue, Choice, Decode, DecodeFields, DecodeValue, Element, Encode,
+    EncodeValue, Fields, FixedTag, Integer, Leaf, Member, OneOf2, OneOf3, OneOf4, OneOf5, OneOf6,
+    OneOf7, OneOf8, OneOf9, Shaped, ShapedValue, decode_octets,
+};
+pub use der_core_coding::{
+    DefaultValue, EncodeFields, EncodeRef, EncodeValueRef, Explicit, Implicit, IsConstructed,
+    SliceReader, SliceWriter, StrictSetOf, Tagged, WithDefault, encode_to_slice, encode_to_vec,
+    encode_value_to_slice, from_ber, from_der, from_der_partial, reading, to_der, value_header,
+};
+pub use der_core_head::{
+    CLASS_APPLICATION, CLASS_CONTEXT_SPECIFIC, CLASS_PRIVATE, CLASS_UNIVERSAL, Class,
+    EncodingRules, Error, ErrorKind, Header, Length, Result, Tag, TagMode, TagNumber,
+};
+pub use der_core_octets::{
+    BytesOwned, BytesRef, Reader, StringOwned, StringRef, Writer, header_ber_of, header_of,
+    indefinite_length_of, length_of, peek_matches, tag_ber_of, tag_of,
+};
 pub use fields::FieldsOrd;
-pub use headers::header_cmp;
-pub use headers::length_cmp;
-pub use headers::tag_cmp;
+pub use headers::{header_cmp, length_cmp, tag_cmp};
 pub use iterators::iter_cmp;
-pub use lists::elements_cmp;
-pub use order::DerOrd;
-pub use order::FirstTag;
-pub use order::ValueOrd;
+pub use order::{DerOrd, FirstTag, ValueOrd};
 pub use owned_iterators::iter_cmp_owned;

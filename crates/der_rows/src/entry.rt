@@ -3,9 +3,10 @@
 ghost use Rattle.der_core_head.specs.declared.tag.Tag.TheVariants.{Sequence};
 ghost use Rattle.der_core_head.specs.Shapes.{nested};
 
+use der_core::making::read_fields;
 use der_core::{
     DecodeFields, DecodeValue, Encode, EncodeFields, EncodeRef, EncodeValue, Error, Fields,
-    FixedTag, Header, Implicit, Length, Reader, ShapedValue, StrictSetOf, Tag, Writer, read_fields,
+    FixedTag, Header, Implicit, Length, Reader, ShapedValue, StrictSetOf, Tag, Writer,
 };
 use der_types_numbers::Uint;
 use der_types_text::PrintableString;

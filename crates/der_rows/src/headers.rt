@@ -2,9 +2,10 @@
 
 use crate::questions::name_of;
 use crate::refusals::Refusal;
+use der_core::making::encode_header;
 use der_core::{
     Class, EncodingRules, Error, Header, Length, Reader, SliceReader, Tag, TagMode, TagNumber,
-    encode_header, header_cmp, header_of, length_cmp, tag_cmp, tag_of,
+    header_cmp, header_of, length_cmp, tag_cmp, tag_of,
 };
 use std::alloc::Global;
 

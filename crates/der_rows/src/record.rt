@@ -3,9 +3,10 @@
 ghost use Rattle.der_core_head.specs.declared.tag.Tag.TheVariants.{Sequence};
 ghost use Rattle.der_core_head.specs.Shapes.{nested};
 
+use der_core::making::read_fields;
 use der_core::{
     DecodeFields, DecodeValue, EncodeFields, EncodeValue, Error, Fields, FieldsOrd, FixedTag,
-    Header, Length, Reader, ShapedValue, Tag, ValueOrd, Writer, read_fields,
+    Header, Length, Reader, ShapedValue, Tag, ValueOrd, Writer,
 };
 use std::alloc::Global;
 use std::cmp::Ordering;

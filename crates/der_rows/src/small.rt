@@ -3,7 +3,8 @@
 ghost use Rattle.std.specs.Prelude.{pos};
 ghost use Rattle.der_core_head.specs.Integers.{unsigned};
 
-use der_core::{Error, Integer, Tag, ValueOrd, unsigned_of};
+use der_core::making::unsigned_of;
+use der_core::{Error, Integer, Tag, ValueOrd};
 use std::cmp::Ordering;
 
 /// A whole number from 0 to 255.

@@ -16,10 +16,12 @@ ghost use Rattle.der_types_any.specs.AnyOrders.{any_cmp, any_cmp_total, any_cmp_
 ghost use Rattle.der_types_any.specs.Contents.{content_as};
 
 use crate::any::Any;
+use der_core::making::{
+    encode_header, header_len, is_same_tag, leading_octet_of, number_of, slice_len, sum_len,
+};
 use der_core::{
     Choice, Decode, DecodeValue, DerOrd, Encode, EncodingRules, Error, ErrorKind, FirstTag,
-    FixedTag, Header, Length, Reader, Shaped, SliceReader, Tag, Writer, encode_header, header_len,
-    is_same_tag, leading_octet_of, length_cmp, number_of, slice_len, sum_len, tag_cmp,
+    FixedTag, Header, Length, Reader, Shaped, SliceReader, Tag, Writer, length_cmp, tag_cmp,
 };
 use std::alloc::{AllocError, Global};
 use std::cmp::Ordering;

@@ -3,7 +3,8 @@
 ghost use Rattle.std.specs.Prelude.{◌≡◌, ◌↔◌, true, IsOk, IfErr, OnOk};
 ghost use Rattle.der_core_head.specs.Tags.{same_tag};
 
-use der_core::{Error, ErrorKind, Tag, is_same_tag};
+use der_core::making::is_same_tag;
+use der_core::{Error, ErrorKind, Tag};
 
 /// That a tag is the one that must stand.
 ///

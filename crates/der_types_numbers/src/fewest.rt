@@ -11,7 +11,8 @@ ghost use Rattle.der_core_head.specs.Writing.{Writes, put, fit_len};
 ghost use Rattle.der_types_numbers.specs.Numbers.{has_leading_zero, is_first_bit_set};
 ghost use Rattle.der_core_octets.specs.Outputs.{Continues};
 
-use der_core::{Error, ErrorKind, Length, Writer, encode_behind};
+use der_core::making::encode_behind;
+use der_core::{Error, ErrorKind, Length, Writer};
 use std::alloc::{AllocError, Global};
 use std::cmp::Ordering;
 

@@ -17,9 +17,10 @@ ghost use Rattle.der_types_numbers.specs.Numbers.{signed_number};
 use crate::fewest::sized_cmp;
 use crate::int_ref::{AsIntRef, IntRef};
 use crate::uint::Uint;
+use der_core::making::decode_leaf;
 use der_core::{
     DecodeValue, EncodeValue, Error, FixedTag, Header, Leaf, Length, Reader, ShapedValue, Tag,
-    Writer, decode_leaf,
+    Writer,
 };
 use std::alloc::{AllocError, Global};
 use std::cmp::Ordering;

@@ -15,9 +15,10 @@ ghost use Rattle.der_types_numbers.specs.Numbers.{signed_number};
 
 use crate::fewest::{fewest_signed, has_redundant_octet, sized_cmp};
 use crate::int::Int;
+use der_core::making::{decode_leaf, slice_len};
 use der_core::{
     DecodeValue, EncodeValue, Error, ErrorKind, FixedTag, Header, Leaf, Length, Reader,
-    ShapedValue, Tag, Writer, decode_leaf, slice_len,
+    ShapedValue, Tag, Writer,
 };
 use std::alloc::{AllocError, Global};
 use std::cmp::Ordering;

@@ -7,7 +7,8 @@ use crate::int::Int;
 use crate::int_ref::IntRef;
 use crate::uint::Uint;
 use crate::uint_ref::UintRef;
-use der_core::{Error, OrdIsValueOrd, ValueOrd, value_cmp_behind, value_cmp_by_contents};
+use der_core::making::{value_cmp_behind, value_cmp_by_contents};
+use der_core::{Error, OrdIsValueOrd, ValueOrd};
 use std::cmp::Ordering;
 
 /// Two's complement in the fewest octets (X.690 8.3), as octets: 128, `00 80`, is below 127, `7F`.

@@ -19,9 +19,10 @@ ghost use Rattle.der_types_numbers.specs.Numbers.{unsigned_number};
 
 use crate::fewest::{content_of, fewest_unsigned, sized_cmp};
 use crate::uint_ref::{AsUintRef, UintRef};
+use der_core::making::{decode_leaf, slice_len};
 use der_core::{
     DecodeValue, EncodeValue, Error, FixedTag, Header, Leaf, Length, Reader, ShapedValue, Tag,
-    Writer, decode_leaf, slice_len,
+    Writer,
 };
 use std::alloc::{AllocError, Global};
 use std::cmp::Ordering;

@@ -21,9 +21,10 @@ use crate::fewest::{
     sized_cmp,
 };
 use crate::uint::Uint;
+use der_core::making::decode_leaf;
 use der_core::{
     DecodeValue, EncodeValue, Error, ErrorKind, FixedTag, Header, Leaf, Length, Reader,
-    ShapedValue, Tag, Writer, decode_leaf,
+    ShapedValue, Tag, Writer,
 };
 use std::alloc::{AllocError, Global};
 use std::cmp::Ordering;

@@ -5,7 +5,8 @@ ghost use Rattle.der_core_head.specs.Reading.{Gives, GivesNow};
 ghost use Rattle.der_core_octets.specs.Fronts.{octets_at};
 ghost use Rattle.der_types_sets.specs.Level.{behind_last, counted, level_content};
 
-use der_core::{Decode, Error, ErrorKind, Member, Reader, SliceReader, decode_sliced};
+use der_core::making::decode_sliced;
+use der_core::{Decode, Error, ErrorKind, Member, Reader, SliceReader};
 use std::alloc::Global;
 use std::cmp::Ordering;
 

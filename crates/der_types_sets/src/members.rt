@@ -6,7 +6,8 @@ ghost use Rattle.der_core_head.specs.Reading.{GivesNow};
 ghost use Rattle.der_core_head.specs.Writing.{Writes, size_body, write_body};
 ghost use Rattle.der_core_octets.specs.Outputs.{Continues};
 
-use der_core::{Encode, Error, Length, Writer, sum_len};
+use der_core::making::sum_len;
+use der_core::{Encode, Error, Length, Writer};
 
 /// The number of octets of the encodings.
 ///

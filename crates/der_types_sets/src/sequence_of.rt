@@ -16,9 +16,10 @@ use crate::iter::SequenceOfIter;
 use crate::members::{encode_members, members_len};
 use crate::room::into_array;
 use arrayvec::ArrayVec;
+use der_core::making::elements_cmp;
 use der_core::{
     Decode, DecodeValue, DerOrd, Encode, EncodeValue, Error, ErrorKind, FixedTag, Header, Length,
-    Reader, Shaped, ShapedValue, Tag, ValueOrd, Writer, elements_cmp,
+    Reader, Shaped, ShapedValue, Tag, ValueOrd, Writer,
 };
 use std::alloc::{AllocError, Global};
 use std::cmp::Ordering;

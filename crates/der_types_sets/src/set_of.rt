@@ -21,9 +21,10 @@ use crate::room::into_array;
 use crate::set_of_ref::SetOfRef;
 use crate::set_of_vec::SetOfVec;
 use arrayvec::ArrayVec;
+use der_core::making::elements_cmp;
 use der_core::{
     AsRead, Decode, DerOrd, Encode, EncodeValue, Error, ErrorKind, FixedTag, Header, Length,
-    Member, Reader, Shaped, ShapedValue, SliceReader, Tag, ValueOrd, Writer, elements_cmp,
+    Member, Reader, Shaped, ShapedValue, SliceReader, Tag, ValueOrd, Writer,
 };
 use std::alloc::{AllocError, Global};
 use std::cmp::Ordering;

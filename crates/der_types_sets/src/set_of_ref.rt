@@ -18,9 +18,10 @@ use crate::members::{encode_members, members_len};
 use crate::places::check_ascending;
 use crate::set_of_ref_iter::SetOfRefIter;
 use crate::set_of_vec::SetOfVec;
+use der_core::making::elements_cmp;
 use der_core::{
     AsRead, Decode, DerOrd, Encode, EncodeValue, Error, FixedTag, Header, Length, Member, Reader,
-    Shaped, ShapedValue, SliceReader, Tag, Writer, elements_cmp, length_cmp,
+    Shaped, ShapedValue, SliceReader, Tag, Writer, length_cmp,
 };
 use std::alloc::{AllocError, Global};
 use std::cmp::Ordering;

@@ -19,10 +19,11 @@ use crate::any_order::AnyOrder;
 use crate::iter::SetOfIter;
 use crate::places::{arrange, check_last, place_of};
 use crate::set_of_ref::SetOfRef;
+use der_core::making::elements_cmp;
 use der_core::{
     AsRead, Decode, DecodeValue, DerOrd, Encode, EncodeValue, Error, ErrorKind, FixedTag, Header,
     Length, Member, Reader, Shaped, ShapedValue, SliceReader, StrictSetOf as StrictSet, Tag,
-    ValueOrd, Writer, elements_cmp, from_der,
+    ValueOrd, Writer, from_der,
 };
 use std::alloc::{AllocError, Global};
 use std::cmp::Ordering;

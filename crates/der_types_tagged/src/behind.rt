@@ -8,9 +8,10 @@ ghost use Rattle.der_core_head.specs.Writing.{Writes, size, write};
 ghost use Rattle.der_core.specs.Orders.{octets_cmp, Overflows};
 ghost use Rattle.der_core_octets.specs.Outputs.{Continues};
 
+use der_core::making::encode_header;
 use der_core::{
     DerOrd, Encode, EncodeValue, Error, Length, Shaped, ShapedValue, Tag, ValueOrd, Writer,
-    encode_header, length_cmp, tag_cmp,
+    length_cmp, tag_cmp,
 };
 use std::alloc::Global;
 use std::cmp::Ordering;

@@ -12,9 +12,9 @@ ghost use Rattle.der_types_tagged.specs.Fields.{field_tag, explicit_field, impli
 ghost use Rattle.der_core_octets.specs.Outputs.{Continues};
 
 use crate::behind::{Whole, cmp_behind, der_behind, encode_behind, len_behind};
+use der_core::making::is_constructed;
 use der_core::{
     Encode, EncodeValue, Error, FixedTag, Length, Tag, TagMode, TagNumber, ValueOrd, Writer,
-    is_constructed,
 };
 use std::alloc::Global;
 use std::cmp::Ordering;

@@ -16,9 +16,10 @@ ghost use Rattle.der_types_text.specs.Texts.{text_from};
 
 use crate::ascii_string_ref::AsciiStringRef;
 use crate::ascii_type::AsciiType;
+use der_core::making::{decode_leaf, slice_len};
 use der_core::{
     DecodeValue, EncodeValue, Error, FixedTag, Header, Leaf, Length, OrdIsValueOrd, Reader,
-    ShapedValue, Tag, ValueOrd, Writer, decode_leaf, slice_len,
+    ShapedValue, Tag, ValueOrd, Writer,
 };
 use std::alloc::{AllocError, Global};
 use std::cmp::Ordering;

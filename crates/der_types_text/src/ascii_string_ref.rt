@@ -11,9 +11,10 @@ ghost use Rattle.der_types_text.specs.Texts.{AreWithin, text_from};
 
 use crate::ascii_string::AsciiString;
 use crate::ascii_type::AsciiType;
+use der_core::making::{read_content, slice_len};
 use der_core::{
     DecodeValue, EncodeValue, Error, ErrorKind, FixedTag, Header, Leaf, Length, OrdIsValueOrd,
-    Reader, ShapedValue, Tag, ValueOrd, Writer, read_content, slice_len,
+    Reader, ShapedValue, Tag, ValueOrd, Writer,
 };
 use std::alloc::{AllocError, Global};
 use std::cmp::Ordering;

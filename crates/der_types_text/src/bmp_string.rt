@@ -17,9 +17,10 @@ ghost use Rattle.der_types_text.specs.BmpStrings.{are_bmp, bmp_from, ucs2_from};
 ghost use Rattle.der_types_text.specs.BmpOrders.{bmp_order};
 
 use crate::bmp_chars::{BmpChars, BmpCodepoints};
+use der_core::making::{decode_leaf, slice_len};
 use der_core::{
     DecodeValue, EncodeValue, Error, ErrorKind, FixedTag, Header, Leaf, Length, OrdIsValueOrd,
-    Reader, ShapedValue, Tag, ValueOrd, Writer, decode_leaf, slice_len,
+    Reader, ShapedValue, Tag, ValueOrd, Writer,
 };
 use std::alloc::{AllocError, Global};
 use std::cmp::Ordering;

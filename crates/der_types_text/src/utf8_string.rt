@@ -9,9 +9,10 @@ ghost use Rattle.der_core_head.specs.Texts.{utf8_read};
 ghost use Rattle.der_core.specs.OrdLaws.{octets_order};
 ghost use Rattle.der_types_text.specs.Texts.{octets_from, utf8_from};
 
+use der_core::making::{decode_leaf, slice_len};
 use der_core::{
     DecodeValue, EncodeValue, Error, ErrorKind, FixedTag, Header, Leaf, Length, OrdIsValueOrd,
-    Reader, ShapedValue, Tag, ValueOrd, Writer, decode_leaf, slice_len,
+    Reader, ShapedValue, Tag, ValueOrd, Writer,
 };
 use std::alloc::{AllocError, Global};
 use std::cmp::Ordering;

@@ -2,7 +2,8 @@
 
 use crate::bit_string::BitString;
 use crate::bit_string_ref::BitStringRef;
-use der_core::{Error, ValueOrd, value_cmp_behind};
+use der_core::making::value_cmp_behind;
+use der_core::{Error, ValueOrd};
 use std::cmp::Ordering;
 
 /// The number of unused bits, then the octets (X.690 8.6.2).

@@ -15,9 +15,10 @@ ghost use Rattle.der_types_values.specs.BitStrings.{bits_lent, bits_left};
 use crate::bit_string_iter::BitStringIter;
 use crate::bit_string_ref::{AsBitStringRef, BitStringRef};
 use crate::bits::check_bits;
+use der_core::making::decode_leaf;
 use der_core::{
     DecodeValue, EncodeValue, Error, ErrorKind, FixedTag, Header, Leaf, Length, Reader,
-    ShapedValue, Tag, Writer, decode_leaf,
+    ShapedValue, Tag, Writer,
 };
 use std::alloc::{AllocError, Global};
 use std::cmp::Ordering;

@@ -11,9 +11,10 @@ ghost use Rattle.der_types_values.specs.Bits.{bit_at, bit_count, bit_list};
 use crate::bit_string::BitString;
 use crate::bit_string_iter::BitStringIter;
 use crate::bits::{bit_of, check_bits, may_be_unused};
+use der_core::making::{decode_leaf, encode_behind, len_behind};
 use der_core::{
     DecodeValue, EncodeValue, Error, ErrorKind, FixedTag, Header, Leaf, Length, Reader,
-    ShapedValue, Tag, Writer, decode_leaf, encode_behind, len_behind,
+    ShapedValue, Tag, Writer,
 };
 use std::alloc::{AllocError, Global};
 

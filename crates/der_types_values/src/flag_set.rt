@@ -11,9 +11,10 @@ ghost use Rattle.der_core_head.specs.NamedBits.{ends_in_one, set_of as set_of_oc
 ghost use Rattle.der_core_head.specs.Reading.{GivesNow};
 
 use bitflags::Flags;
+use der_core::making::decode_leaf;
 use der_core::{
     DecodeValue, EncodeValue, Error, ErrorKind, FixedTag, Header, Leaf, Length, Reader,
-    ShapedValue, Tag, ValueOrd, Writer, decode_leaf,
+    ShapedValue, Tag, ValueOrd, Writer,
 };
 use std::alloc::{AllocError, Global};
 use std::cmp::Ordering;

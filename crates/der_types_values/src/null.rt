@@ -5,9 +5,10 @@ ghost use Rattle.der_core_head.specs.declared.tag.Tag.TheVariants.{Null as NullT
 ghost use Rattle.der_core_head.specs.Leaves.{null};
 ghost use Rattle.der_core_head.specs.Shapes.{leaf};
 
+use der_core::making::decode_leaf;
 use der_core::{
     DecodeValue, EncodeValue, Error, FixedTag, Header, Leaf, Length, Reader, ShapedValue, Tag,
-    Writer, decode_leaf,
+    Writer,
 };
 use std::alloc::Global;
 

@@ -12,9 +12,10 @@ ghost use Rattle.der_core_head.specs.Shapes.{leaf};
 ghost use Rattle.der_types_values.specs.OctetStrings.{octets_lent};
 
 use crate::octet_string_ref::OctetStringRef;
+use der_core::making::{decode_leaf, slice_len};
 use der_core::{
     DecodeValue, EncodeValue, Error, ErrorKind, FixedTag, Header, Leaf, Length, Reader,
-    ShapedValue, Tag, Writer, decode_leaf, slice_len,
+    ShapedValue, Tag, Writer,
 };
 use std::alloc::{AllocError, Global};
 use std::cmp::Ordering;

@@ -9,9 +9,10 @@ ghost use Rattle.der_core_head.specs.Grammar.{whole_at};
 ghost use Rattle.der_core_head.specs.Reading.{Gives};
 
 use crate::octet_string::OctetString;
+use der_core::making::{decode_leaf, slice_len};
 use der_core::{
     Decode, DecodeValue, EncodeValue, Error, ErrorKind, FixedTag, Header, Leaf, Length, Reader,
-    ShapedValue, SliceReader, Tag, Writer, decode_leaf, from_der, slice_len,
+    ShapedValue, SliceReader, Tag, Writer, from_der,
 };
 use std::alloc::{AllocError, Global};
 

@@ -9,7 +9,8 @@ use crate::null::Null;
 use crate::octet_string::OctetString;
 use crate::octet_string_ref::OctetStringRef;
 use crate::sequence_ref::SequenceRef;
-use der_core::{Error, OrdIsValueOrd, ValueOrd, value_cmp_by_contents};
+use der_core::making::value_cmp_by_contents;
+use der_core::{Error, OrdIsValueOrd, ValueOrd};
 use std::cmp::Ordering;
 
 /// The octets themselves (X.690 8.7).

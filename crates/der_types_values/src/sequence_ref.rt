@@ -5,9 +5,10 @@ ghost use Rattle.der_core_head.specs.declared.tag.Tag.TheVariants.{Sequence as S
 ghost use Rattle.der_core_head.specs.Leaves.{octets};
 ghost use Rattle.der_core_head.specs.Shapes.{leaf};
 
+use der_core::making::{decode_leaf, slice_len};
 use der_core::{
     DecodeValue, EncodeValue, Error, ErrorKind, FixedTag, Header, Leaf, Length, Reader,
-    ShapedValue, Tag, Writer, decode_leaf, slice_len,
+    ShapedValue, Tag, Writer,
 };
 use std::alloc::Global;
 

@@ -13,9 +13,10 @@ ghost use Rattle.x509_cert.specs.Views.{algorithm_plain, tbs_plain};
 
 use crate::algorithm_identifier::AlgorithmIdentifier;
 use crate::tbs_certificate::TbsCertificateInner;
+use der_core::making::read_fields;
 use der_core::{
     Decode, DecodeFields, DecodeValue, Error, Fields, FixedTag, Header, Reader, ShapedValue, Tag,
-    from_der, read_fields,
+    from_der,
 };
 use der_types_values::BitString;
 use std::alloc::Global;

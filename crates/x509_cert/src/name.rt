@@ -6,9 +6,9 @@ ghost use Rattle.der_core_head.specs.declared.tag.Tag.TheVariants.{Sequence};
 ghost use Rattle.der_core_head.specs.Shapes.{nested, done};
 ghost use Rattle.x509_cert.specs.Views.{name_plain};
 
+use der_core::making::read_fields;
 use der_core::{
     DecodeFields, DecodeValue, Error, Fields, FixedTag, Header, Reader, ShapedValue, Tag,
-    read_fields,
 };
 use std::alloc::{AllocError, Global};
 

@@ -7,9 +7,9 @@ ghost use Rattle.x509_cert.specs.Certificates.{public_key_fields};
 ghost use Rattle.x509_cert.specs.Views.{arc_bound, key_plain, algorithm_plain, bits_plain, key_algorithm, key_bits};
 
 use crate::algorithm_identifier::AlgorithmIdentifier;
+use der_core::making::read_fields;
 use der_core::{
     Decode, DecodeFields, DecodeValue, Error, Fields, FixedTag, Header, Reader, ShapedValue, Tag,
-    read_fields,
 };
 use der_types_values::BitString;
 use std::alloc::{AllocError, Global};

@@ -12,9 +12,9 @@ use crate::name::Name;
 use crate::serial_number::SerialNumber;
 use crate::subject_public_key_info::SubjectPublicKeyInfo;
 use crate::validity::Validity;
+use der_core::making::read_fields;
 use der_core::{
     Decode, DecodeFields, DecodeValue, Error, Fields, FixedTag, Header, Reader, ShapedValue, Tag,
-    read_fields,
 };
 use std::alloc::Global;
 

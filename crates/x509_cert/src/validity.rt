@@ -7,9 +7,9 @@ ghost use Rattle.x509_cert.specs.Certificates.{validity_fields};
 ghost use Rattle.x509_cert.specs.Views.{validity_plain};
 
 use crate::time::Time;
+use der_core::making::read_fields;
 use der_core::{
     Decode, DecodeFields, DecodeValue, Error, Fields, FixedTag, Header, Reader, ShapedValue, Tag,
-    read_fields,
 };
 use std::alloc::Global;
 

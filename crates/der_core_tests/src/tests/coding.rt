@@ -1,8 +1,9 @@
 //! Orders of iterators and of choices, and calls that no row makes.
 
+use der_core::making::value_cmp_behind;
 use der_core::{
     BytesRef, Class, DerOrd, Error, ErrorKind, Explicit, FirstTag, Header, Implicit, IsConstructed,
-    Length, OneOf2, Tag, TagNumber, iter_cmp, iter_cmp_owned, value_cmp_behind,
+    Length, OneOf2, Tag, TagNumber, iter_cmp, iter_cmp_owned,
 };
 use std::cmp::Ordering::{Equal, Greater, Less};
 use std::test::Fail;
