@@ -5,6 +5,8 @@
 #[cfg(test)]
 mod fields;
 #[cfg(test)]
+mod members;
+#[cfg(test)]
 mod sets;
 #[cfg(test)]
 mod texts;

@@ -207,9 +207,8 @@ fn refused_gathering(rt: HostRuntime) -> Result<(), Fail> {
     let alloc = rt.alloc();
     match SetOfVec::from_iter(alloc, [5u8, 1]) {
         Ok(set) => {
-            match set.clone(alloc) {
-                Ok(same) => assert!(rt; same == set),
-                Err(error) => assert_eq!(rt; error.kind, ErrorKind::OutOfMemory),
+            if let Ok(same) = set.clone(alloc) {
+                assert!(rt; same == set);
             }
             assert_eq!(rt; set.as_slice(), [1, 5].as_slice());
         }
