@@ -1,4 +1,4 @@
--- Values whose parts are in their ranges: what of validity neither a length nor an order decides.
+-- Values whose parts are in their ranges, and whose strict sets rise: what of validity no length decides.
 use Rattle.std.specs.Prelude.{◌≡◌, length, true, Some, None, bytes_eq}
 use Rattle.std.proofs.Common.{inl, inr}
 use Rattle.std.specs.List.{AllByRecursion}
@@ -8,7 +8,7 @@ use Rattle.der_core_head.specs.Tags.{IsTag}
 use Rattle.der_core_head.specs.Leaves.{IsLeafValue}
 use Rattle.der_core_head.specs.Shapes.{Shape, Content, Body, tagged, any, either, optional, defaulted, nothing, leaf, nested, done, field, only, many, exactly, rising, Value, ContentValue, BodyValue, octets_of, IsValid, AllRising}
 
--- leaves in their ranges, tags whose number fits, and so many values as there must be; a default that isn't written is valid
+-- leaves in their ranges, tags whose number fits, so many values as there must be, rising ones in order; a default that isn't written is valid
 unfoldable mutual
   pub IsInRange : (s : Shape) → Value s → Type 0
   IsInRange (tagged t c) v = IsContentInRange c v × IsTag t
