@@ -8,7 +8,7 @@ ghost use Rattle.der_core_head.specs.Writing.{Writes, size_content, write_conten
 
 use der_core_head::{Error, Length, Tag};
 use der_core_octets::Writer;
-use der_core_values::{ApartValue, AsReadValue, EncodeValue, FixedTag, ShapedValue};
+use der_core_values::{ApartValue, AsReadValue, EncodeValue, FixedTag, InRangeValue, ShapedValue};
 
 /// What has a tag.
 pub trait Tagged {
@@ -88,4 +88,10 @@ impl<'a, T: ApartValue> ApartValue for EncodeValueRef<'a, T> {
 
 impl<'a, T: AsReadValue> AsReadValue for EncodeValueRef<'a, T> {
     ghost as_read_value = { λ r. T.as_read_value r.0.now };
+}
+
+impl<'a, T: InRangeValue> InRangeValue for EncodeValueRef<'a, T> {
+    fn value_in_range(&self) {
+        self.0.value_in_range();
+    }
 }

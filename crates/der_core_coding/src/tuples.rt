@@ -7,7 +7,7 @@ ghost use Rattle.der_core_octets.specs.Outputs.{Continues};
 
 use der_core_head::{Error, Length};
 use der_core_octets::{Writer, sum_len};
-use der_core_values::{AsRead, Element, Encode, Fields, Member, Shaped};
+use der_core_values::{AsRead, Element, Encode, Fields, InRange, Member, Shaped};
 
 /// What is written as fields, one after the other.
 pub trait EncodeFields: Fields {
@@ -21,7 +21,8 @@ pub trait EncodeFields: Fields {
     /// Writes the fields.
     ///
     /// # Errors
-    /// `Overflow` where a length passes 2^32 - 1, and those of the writer.
+    /// `Overflow` where a length passes 2^32 - 1, `SetOrdering` and `SetDuplicate` where a strict set in
+    /// a field doesn't rise (X.690 11.6), and those of the writer.
     fn encode_fields<W: Writer>(&self, writer: &mut W) -> Result<(), Error>
         ensures exact { Writes W.takes_memory (W.out writer.old) (W.out writer.new) result (write_body Self.fields (Self.fields_written self.now)) }
         ensures kept { Continues (W.out writer.old) (W.out writer.new) };
@@ -91,4 +92,10 @@ impl<'a, T: Member> Member for EncodeRef<'a, T> {
 
 impl<'a, T: AsRead> AsRead for EncodeRef<'a, T> {
     ghost as_read = { λ r. T.as_read r.0.now };
+}
+
+impl<'a, T: InRange> InRange for EncodeRef<'a, T> {
+    fn in_range(&self) {
+        self.0.in_range();
+    }
 }

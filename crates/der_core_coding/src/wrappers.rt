@@ -8,7 +8,7 @@ use der_core_head::{Error, Header, Length, Tag, TagNumber, is_constructed};
 use der_core_octets::{Reader, Writer};
 use der_core_values::{
     ApartValue, AsRead, AsReadValue, Decode, DecodeFields, DecodeValue, Element, Encode,
-    EncodeValue, Fields, FixedTag, Member, Shaped, ShapedValue, read_fields,
+    EncodeValue, Fields, FixedTag, InRange, InRangeValue, Member, Shaped, ShapedValue, read_fields,
 };
 use std::alloc::Global;
 
@@ -134,4 +134,16 @@ impl<T: Element + Member, const N: u32> ApartValue for Explicit<T, N> {
 
 impl<T: AsRead, const N: u32> AsReadValue for Explicit<T, N> {
     ghost as_read_value = { λ x. T.as_read x.value };
+}
+
+impl<T: InRange, const N: u32> InRangeValue for Explicit<T, N> {
+    fn value_in_range(&self) {
+        self.value.in_range();
+    }
+}
+
+impl<T: InRangeValue, const N: u32> InRangeValue for Implicit<T, N> {
+    fn value_in_range(&self) {
+        self.value.value_in_range();
+    }
 }

@@ -9,7 +9,7 @@ use Rattle.der_core_head.specs.Leaves.{IsLeafValue}
 use Rattle.der_core_head.specs.Shapes.{Shape, Content, Body, tagged, any, either, optional, defaulted, nothing, leaf, nested, done, field, only, many, exactly, rising, Value, ContentValue, BodyValue, octets_of, IsValid, AllRising}
 
 -- leaves in their ranges, tags whose number fits, so many values as there must be, rising ones in order; a default that isn't written is valid
-unfoldable mutual
+abbrev mutual
   pub IsInRange : (s : Shape) → Value s → Type 0
   IsInRange (tagged t c) v = IsContentInRange c v × IsTag t
   IsInRange any v = IsOctets v.contents × IsTag v.tag

@@ -3,7 +3,7 @@
 ghost use Rattle.std.specs.Prelude.{◌≡◌, ℤ, pos};
 ghost use Rattle.der_core_head.specs.declared.tag.Tag.TheVariants.{Integer as IntegerTag};
 ghost use Rattle.der_core_head.specs.Shapes.{leaf};
-ghost use Rattle.der_core_head.specs.Integers.{Numbers, unsigned, signed, integer_read};
+ghost use Rattle.der_core_head.specs.Integers.{Numbers, IsNumber, unsigned, signed, integer_read};
 ghost use Rattle.der_core_head.specs.Leaves.{integer};
 ghost use Rattle.der_core_head.specs.Reading.{GivesNow};
 ghost use Rattle.der_core_octets.specs.Numbers.{signed_number};
@@ -32,7 +32,9 @@ pub trait Integer: Drop {
 
     /// Whether it is negative, and the number n that it is, or of which it is -(n + 1).
     fn magnitude(&self) -> (bool, u128)
-        ensures { number self.now ≡ signed_number result.0 result.1 };
+        ensures value { number self.now ≡ signed_number result.0 result.1 }
+        // The type has it.
+        ensures has { IsNumber numbers (number self.now) };
 }
 
 impl<T: Integer> FixedTag for T {

@@ -1,0 +1,6 @@
+use Rattle.std.proofs.Common.{arith}
+use Rattle.der_core_head.proofs.Bytes.{octets_are}
+use Rattle.der_core_values.proofs.in_range.octets_in_range.Goals as goal
+
+pub returns : goal.returns
+returns c = octets_are c.args.octets.now (λ i. omega (arith, c.type_inv.octets i))

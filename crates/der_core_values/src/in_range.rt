@@ -1,0 +1,159 @@
+//! Types each of whose values has its parts in their ranges, so that an encoding of it can fail only by
+//! its length or by the order of a set.
+//!
+//! Each is a law of the values of a type, and stands as the contract of a call that does nothing.
+
+ghost use Rattle.std.specs.Prelude.{◌≡◌};
+ghost use Rattle.der_core_head.specs.Octets.{IsOctets};
+ghost use Rattle.der_core_head.specs.Texts.{IsUtf8Text};
+ghost use Rattle.der_core_head.specs.Ranges.{IsInRange, IsContentInRange, IsBodyInRange};
+
+use crate::decode::{FixedTag, Shaped, ShapedValue};
+use crate::fields::Fields;
+use crate::integers::Integer;
+use const_oid_identifiers::ObjectIdentifier;
+use der_core_head::number_of;
+use der_core_octets::{BytesOwned, BytesRef, StringOwned, StringRef};
+use std::marker::PhantomData;
+
+/// A type whose values are in range.
+pub trait InRange: Shaped {
+    /// What is written for a value is in range.
+    fn in_range(&self)
+        ensures { IsInRange Self.shape (Self.written self.now) };
+}
+
+/// A type whose contents are in range.
+pub trait InRangeValue: ShapedValue {
+    /// What is written for the content of a value is in range.
+    fn value_in_range(&self)
+        ensures { IsContentInRange Self.content (Self.value_written self.now) };
+}
+
+/// A row of fields that are in range.
+pub trait InRangeFields: Fields {
+    /// What is written for the fields of a value is in range.
+    fn fields_in_range(&self)
+        ensures { IsBodyInRange Self.fields (Self.fields_written self.now) };
+}
+
+/// What a slice holds are octets.
+fn octets_in_range(octets: &[u8])
+    ensures { IsOctets octets.now }
+{}
+
+/// What a text holds are octets of UTF-8.
+fn text_in_range(text: &str)
+    ensures { IsUtf8Text text.now }
+{
+    octets_in_range(text.as_bytes());
+}
+
+/// Behind one tag values are in range as their contents are.
+impl<T: InRangeValue + FixedTag> InRange for T {
+    fn in_range(&self) {
+        let _number = number_of(T::tag());
+        self.value_in_range();
+    }
+}
+
+impl InRangeValue for bool {
+    fn value_in_range(&self) {}
+}
+
+impl InRangeValue for () {
+    fn value_in_range(&self) {}
+}
+
+impl<T: Integer> InRangeValue for T {
+    fn value_in_range(&self) {
+        let _magnitude = self.magnitude();
+    }
+}
+
+impl<'a> InRangeValue for &'a str {
+    fn value_in_range(&self) {
+        text_in_range(self);
+    }
+}
+
+impl InRangeValue for String {
+    fn value_in_range(&self) {
+        text_in_range(self.as_str());
+    }
+}
+
+impl<'a> InRangeValue for StringRef<'a> {
+    fn value_in_range(&self) {
+        text_in_range(self.as_str());
+    }
+}
+
+impl InRangeValue for StringOwned {
+    fn value_in_range(&self) {
+        text_in_range(self.as_str());
+    }
+}
+
+impl<'a> InRangeValue for BytesRef<'a> {
+    fn value_in_range(&self) {
+        octets_in_range(self.as_slice());
+    }
+}
+
+impl InRangeValue for BytesOwned {
+    fn value_in_range(&self) {
+        octets_in_range(self.as_slice());
+    }
+}
+
+impl<const MAX_SIZE: usize> InRangeValue for ObjectIdentifier<MAX_SIZE> {
+    fn value_in_range(&self) {
+        let _octets = self.as_bytes();
+    }
+}
+
+impl<T: InRangeValue> InRangeValue for Box<T> {
+    fn value_in_range(&self) {
+        (**self).value_in_range();
+    }
+}
+
+impl<T: InRange> InRangeValue for Vec<T> {
+    fn value_in_range(&self) {
+        for value in self {
+            value.in_range();
+        }
+    }
+}
+
+impl<T: InRange, const N: usize> InRangeValue for [T; N] {
+    fn value_in_range(&self) {
+        for value in self {
+            value.in_range();
+        }
+    }
+}
+
+impl<T: InRange> InRange for Option<T> {
+    fn in_range(&self) {
+        if let Some(value) = self {
+            value.in_range();
+        }
+    }
+}
+
+impl<T> InRange for PhantomData<T> {
+    fn in_range(&self) {}
+}
+
+impl InRangeFields for () {
+    fn fields_in_range(&self) {}
+}
+
+impl<A: InRange, B: InRangeFields> InRangeFields for (A, B) {
+    fn fields_in_range(&self) {
+        self.0.in_range();
+        self.1.fields_in_range();
+    }
+}
