@@ -1,6 +1,7 @@
 pub mod OrderLaws
 pub mod HeadOrders
 pub mod Sizes
+pub mod Rising
 pub mod ShapeOrders
 pub mod FirstTags
 pub mod TagOrders

@@ -1,5 +1,5 @@
 //! Reading, writing and comparing of DER: readers, writers, the traits of what is read, written and
-//! compared, and the order of encodings (X.690 11.6).
+//! compared, the order of encodings, and sets in that order (X.690 11.6).
 #![tactic(auto)]
 
 mod arrays;
@@ -16,17 +16,19 @@ mod longer_choices;
 pub mod making;
 mod order;
 mod owned_iterators;
+mod strict_set_of;
 mod wrappers;
 
 pub use by_ord::{OrdIsValueOrd, der_cmp_by_ord, value_cmp_by_ord, value_cmp_is_ord};
 pub use der_core_coding::values::{
     ApartValue, AsRead, AsReadValue, Choice, Decode, DecodeFields, DecodeValue, Element, Encode,
-    EncodeValue, Fields, FixedTag, Integer, Leaf, Member, OneOf2, OneOf3, OneOf4, OneOf5, OneOf6,
-    OneOf7, OneOf8, OneOf9, Shaped, ShapedValue, decode_octets,
+    EncodeValue, Fields, FixedTag, InRange, InRangeFields, InRangeValue, Integer, Leaf, Member,
+    OneOf2, OneOf3, OneOf4, OneOf5, OneOf6, OneOf7, OneOf8, OneOf9, Shaped, ShapedValue,
+    decode_octets,
 };
 pub use der_core_coding::{
     DefaultValue, EncodeFields, EncodeRef, EncodeValueRef, Explicit, Implicit, IsConstructed,
-    SliceReader, SliceWriter, StrictSetOf, Tagged, WithDefault, encode_to_slice, encode_to_vec,
+    SliceReader, SliceWriter, Tagged, WithDefault, encode_to_slice, encode_to_vec,
     encode_value_to_slice, from_ber, from_der, from_der_partial, reading, to_der, value_header,
 };
 pub use der_core_head::{
@@ -42,3 +44,4 @@ pub use headers::{header_cmp, length_cmp, tag_cmp};
 pub use iterators::iter_cmp;
 pub use order::{DerOrd, FirstTag, ValueOrd};
 pub use owned_iterators::iter_cmp_owned;
+pub use strict_set_of::StrictSetOf;

@@ -9,7 +9,7 @@ ghost use Rattle.der_core.specs.Orders.{bodies_cmp, Overflows};
 
 use crate::iterators::iter_cmp;
 use crate::order::{DerOrd, ValueOrd};
-use der_core_coding::StrictSetOf;
+use crate::strict_set_of::StrictSetOf;
 use der_core_head::Error;
 use std::cmp::Ordering;
 

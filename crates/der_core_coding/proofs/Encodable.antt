@@ -9,7 +9,7 @@ use Rattle.der_core_head.specs.Reading.{Gives, GivesNow}
 use Rattle.der_core_head.specs.Shapes.{Shape, Value, IsValid}
 use Rattle.der_core_head.specs.Writing.{Out, size, write}
 use Rattle.der_core_head.proofs.Results.{bind_ok}
-use Rattle.der_core_head.proofs.Counted.{counted, written_valid}
+use Rattle.der_core_head.proofs.WrittenValid.{written_valid}
 use Rattle.der_core_head.proofs.Written.{out}
 use Rattle.der_core_octets.specs.Outputs.{appended, blank, filled, finished}
 
@@ -22,5 +22,8 @@ filled_in_range s v room view (Ok x) e = let p = bind_ok (write s v (blank room)
 filled_in_range s v room view (Err d) e = tt
 
 pub appended_in_range : (s : Shape) (v : Value s) (w new : List ℕ) (r : Result Length Error) → IfOk r (λ len. appended s v w ≡ Ok (len.value, new)) → IfOk r (λ _. IsInRange s v → IsValid s v)
-appended_in_range s v w new (Ok len) e = let p = bind_ok (size s v) (λ n. write s v (out w) >>= λ o. Ok (n, o.written)) (len.value, new) e in λ h. counted s v p.0 h p.1
+appended_in_range s v w new (Ok len) e =
+    let p = bind_ok (size s v) (λ n. write s v (out w) >>= λ o. Ok (n, o.written)) (len.value, new) e in
+    let q = bind_ok (write s v (out w)) (λ o. Ok (p.0, o.written)) (len.value, new) p.2 in
+    written_valid s v (out w) q.0 q.1
 appended_in_range s v w new (Err d) e = tt

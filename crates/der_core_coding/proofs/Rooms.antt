@@ -18,7 +18,7 @@ use Rattle.std.specs.Prelude.{IfOk, IsOkAnd}
 use Rattle.der_core_head.proofs.Fits.{fits_contents}
 use Rattle.der_core_head.proofs.Results.{ok_is, bind_ok, unless_ok}
 use Rattle.der_core_head.proofs.OkOctets.{writes_octets, writes_contents, writes_fitting}
-use Rattle.der_core_head.proofs.Written.{sized_content}
+use Rattle.der_core_head.proofs.Written.{sized_content, rising_written}
 use Rattle.der_core_octets.specs.Outputs.{blank, finished, filled}
 
 -- octets in so much room
@@ -95,7 +95,7 @@ mutual
   roomed_body (only s) v a r h l = roomed s v a r h l
   roomed_body (many s) v a r h l = many_within (write s) (IsValid s) (octets_of s) r (λ x a k m. roomed s x a r k m) v a h l
   roomed_body (exactly n s) v a r h l = many_within (write s) (IsValid s) (octets_of s) r (λ x a k m. roomed s x a r k m) v a h.0 l
-  roomed_body (rising s) v a r h l = many_within (write s) (IsValid s) (octets_of s) r (λ x a k m. roomed s x a r k m) v a h.0 l
+  roomed_body (rising s) v a r h l = rising_written (write s) (octets_of s) v (within a r) h.1 ∙ many_within (write s) (IsValid s) (octets_of s) r (λ x a k m. roomed s x a r k m) v a h.0 l
 
 starts : (room : ℕ) → blank room ≡ within [] room
 starts room = ap (λ n. record { written = []; room = Some n; failed = false }) (omega arith)

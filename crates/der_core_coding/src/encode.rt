@@ -24,7 +24,8 @@ fn written<T: Encode>(alloc: Global, value: &T) -> Result<Vec<u8>, Error>
 /// The octets that spell a value. Memory is asked for once, for so many octets.
 ///
 /// # Errors
-/// `Overflow` where a length passes 2^32 - 1, or `OutOfMemory`.
+/// `Overflow` where a length passes 2^32 - 1, `SetOrdering` and `SetDuplicate` where a strict set in the
+/// value doesn't rise (X.690 11.6), or `OutOfMemory`.
 pub fn to_der<T: Encode>(alloc: Global, value: &T) -> Result<Vec<u8>, Error>
     // What an Ok holds are the octets of the value, no more than a length can count.
     ensures octets { IfOk result (λ v. (v.items ≡ octets_of T.shape (T.written value.now)) × Fits v.items) }

@@ -1,5 +1,5 @@
 //! Readers and writers of slices, whole encodings, and types around values: tags known when they are
-//! read or written, defaults, fields in a row, and sets in order.
+//! read or written, defaults, fields in a row, and reading of sets in order.
 #![tactic(auto)]
 
 mod behind;
@@ -22,7 +22,7 @@ pub use behind::{encode_behind, len_behind};
 pub use der_core_values as values;
 pub use encode::to_der;
 pub use kinds::{DefaultValue, WithDefault};
-pub use set_of::{StrictSetOf, read_rising};
+pub use set_of::read_rising;
 pub use slice_reader::SliceReader;
 pub use slice_writer::SliceWriter;
 pub use sliced::decode_sliced;

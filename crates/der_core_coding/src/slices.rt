@@ -28,7 +28,8 @@ pub fn value_header<T: EncodeValue + Tagged>(value: &T) -> Result<Header, Error>
 /// Writes a value to the front of a slice, and lends what was written. No memory is taken.
 ///
 /// # Errors
-/// `Overlength` where the slice is too short, `Overflow` where a length passes 2^32 - 1.
+/// `Overlength` where the slice is too short, `Overflow` where a length passes 2^32 - 1, `SetOrdering` and
+/// `SetDuplicate` where a strict set in the value doesn't rise (X.690 11.6).
 pub fn encode_to_slice<'a, T: Encode>(value: &T, bytes: &'a mut [u8]) -> Result<&'a [u8], Error>
     // What an Ok lends are the octets of the value, no more than a length can count.
     ensures octets { IfOk result (λ octets. (octets.now ≡ octets_of T.shape (T.written value.now)) × Fits octets.now) }
@@ -56,7 +57,8 @@ fn fill<'a, T: Encode>(value: &T, bytes: &'a mut [u8]) -> Result<&'a [u8], Error
 /// taken.
 ///
 /// # Errors
-/// `Overlength` where the slice is too short, `Overflow` where a length passes 2^32 - 1.
+/// `Overlength` where the slice is too short, `Overflow` where a length passes 2^32 - 1, `SetOrdering` and
+/// `SetDuplicate` where a strict set in the value doesn't rise (X.690 11.6).
 pub fn encode_value_to_slice<'a, T: EncodeValue>(
     value: &T,
     bytes: &'a mut [u8],
@@ -86,7 +88,8 @@ fn fill_content<'a, T: EncodeValue>(value: &T, bytes: &'a mut [u8]) -> Result<&'
 /// What stood there stays; after a refusal nothing else stands there. Memory is asked for once, for so many octets.
 ///
 /// # Errors
-/// `Overflow` where a length passes 2^32 - 1, or `OutOfMemory`.
+/// `Overflow` where a length passes 2^32 - 1, `SetOrdering` and `SetDuplicate` where a strict set in the
+/// value doesn't rise (X.690 11.6), or `OutOfMemory`.
 pub fn encode_to_vec<T: Encode>(value: &T, out: &mut Vec<u8>) -> Result<Length, Error>
     // What an Ok adds are the octets of the value, as many as it answers.
     ensures octets { IfOk result (λ len.

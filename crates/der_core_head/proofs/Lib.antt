@@ -20,6 +20,6 @@ pub mod Complete
 pub mod AllOctets
 pub mod Written
 pub mod OkOctets
-pub mod Counted
+pub mod WrittenValid
 pub mod Below
 pub mod BodyLaws

@@ -1,4 +1,4 @@
--- Values whose parts are in their ranges, and whose strict sets rise: what of validity no length decides.
+-- Values whose parts are in their ranges: what of validity neither a length nor an order decides.
 use Rattle.std.specs.Prelude.{◌≡◌, length, true, Some, None, bytes_eq}
 use Rattle.std.proofs.Common.{inl, inr}
 use Rattle.std.specs.List.{AllByRecursion}
@@ -6,9 +6,9 @@ use Rattle.std.specs.Bool.{⊤}
 use Rattle.der_core_head.specs.Octets.{IsOctets}
 use Rattle.der_core_head.specs.Tags.{IsTag}
 use Rattle.der_core_head.specs.Leaves.{IsLeafValue}
-use Rattle.der_core_head.specs.Shapes.{Shape, Content, Body, tagged, any, either, optional, defaulted, nothing, leaf, nested, done, field, only, many, exactly, rising, Value, ContentValue, BodyValue, octets_of, IsValid, AllRising}
+use Rattle.der_core_head.specs.Shapes.{Shape, Content, Body, tagged, any, either, optional, defaulted, nothing, leaf, nested, done, field, only, many, exactly, rising, Value, ContentValue, BodyValue, octets_of, IsValid}
 
--- leaves in their ranges, tags whose number fits, so many values as there must be, rising ones in order; a default that isn't written is valid
+-- leaves in their ranges, tags whose number fits, and so many values as there must be; a default that isn't written is valid
 abbrev mutual
   pub IsInRange : (s : Shape) → Value s → Type 0
   IsInRange (tagged t c) v = IsContentInRange c v × IsTag t
@@ -30,4 +30,4 @@ abbrev mutual
   IsBodyInRange (only s) v = IsInRange s v
   IsBodyInRange (many s) v = AllByRecursion (λ x. IsInRange s x) v
   IsBodyInRange (exactly n s) v = AllByRecursion (λ x. IsInRange s x) v × (length v ≡ n)
-  IsBodyInRange (rising s) v = AllByRecursion (λ x. IsInRange s x) v × AllRising (λ x. octets_of s x) v
+  IsBodyInRange (rising s) v = AllByRecursion (λ x. IsInRange s x) v

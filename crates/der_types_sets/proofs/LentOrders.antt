@@ -24,7 +24,7 @@ use Rattle.der_core_head.specs.declared.tag.Tag.{Tag}
 use Rattle.der_core.proofs.TagOrders.{long_inside}
 use Rattle.der_core.specs.Orders.{octets_cmp, contents_cmp, bodies_cmp, Overflows}
 use Rattle.der_types_sets.specs.Level.{values_at}
-use Rattle.der_types_sets.specs.Lent.{Lent, IsLent, IsWantOfMemory, IsOverlong, members_lent}
+use Rattle.der_types_sets.specs.Lent.{Lent, IsLent, IsMisplaced, IsUnwritten, IsOverlong, members_lent}
 use Rattle.der_types_sets.proofs.Arrangements.{same_octets, turned}
 use Rattle.der_types_sets.proofs.LentWrites.{nothing_in, lent, size_values, spelled_octets}
 
@@ -85,6 +85,15 @@ remains_end s f v i b w le so_far = subst (λ (u : List (Value s)). Remains s (p
 pub or_memory : {P : Type 0} (k : ErrorKind) → (k ≢ kinds.OutOfMemory → P) → (k ≡ kinds.OutOfMemory) ⊎ P
 or_memory kinds.OutOfMemory h = inl refl
 or_memory _ h = inr (h (λ q. absurd cc))
+
+-- and of what was not written
+pub or_unwritten : {P : Type 0} (k : ErrorKind) → (k ≢ kinds.OutOfMemory → IsMisplaced k ⊎ P) → ((k ≡ kinds.OutOfMemory) ⊎ IsMisplaced k) ⊎ P
+or_unwritten {P} k h = go (or_memory k h)
+  where
+    go : (k ≡ kinds.OutOfMemory) ⊎ (IsMisplaced k ⊎ P) → ((k ≡ kinds.OutOfMemory) ⊎ IsMisplaced k) ⊎ P
+    go (inl m) = inl (inl m)
+    go (inr (inl d)) = inl (inr d)
+    go (inr (inr p)) = inr p
 
 pub starts_with : (w items : List ℕ) (behind : Bor (List ℕ)) → (pointwise eqb (take (length items) w) items ≡ true) × (behind.now ≡ drop (length items) w) × (length behind.now + length items ≡ length w) → w ≡ items ++ behind.now
 starts_with w items behind h = strip_prefix_is Decides-eqb w items (Some behind) h
@@ -212,22 +221,22 @@ pub overlong : {A : Type 0} (s : Shape) (f : A → Value s) (l : Lent A) (e : Er
 overlong s f l e p lo (inl memory) = inl memory
 overlong s f l e p lo (inr over) = inr (over.0, sym (size_values s f l.values l.octets l.count p lo) ∙ over.1)
 
-pub first_overlong : (e : Error) (m n : Result ℕ ErrorKind) → IsOverlong m e → IsWantOfMemory e ⊎ Overflows e m n
+pub first_overlong : (e : Error) (m n : Result ℕ ErrorKind) → IsOverlong m e → IsUnwritten e ⊎ Overflows e m n
 first_overlong e m n (inl memory) = inl memory
 first_overlong e m n (inr over) = inr (record { kind = over.0; length = inl over.1 })
 
-pub second_overlong : (e : Error) (m n : Result ℕ ErrorKind) → IsOverlong n e → IsWantOfMemory e ⊎ Overflows e m n
+pub second_overlong : (e : Error) (m n : Result ℕ ErrorKind) → IsOverlong n e → IsUnwritten e ⊎ Overflows e m n
 second_overlong e m n (inl memory) = inl memory
 second_overlong e m n (inr over) = inr (record { kind = over.0; length = inr over.1 })
 
 pub if_overflow : {A : Type 0} (s : Shape) (f : A → Value s) (l k : Lent A) (r : Result Ordering Error) → IsLent s f l → IsLent s f k → length l.octets ≡ 0 → length k.octets ≡ 0
     → IfErr r (λ e. Overflows e (size_body (many s) (plain_list f l.values)) (size_body (many s) (plain_list f k.values)))
-    → IfErr r (λ e. IsWantOfMemory e ⊎ Overflows e (size_body (many s) (members_lent s f l)) (size_body (many s) (members_lent s f k)))
+    → IfErr r (λ e. IsUnwritten e ⊎ Overflows e (size_body (many s) (members_lent s f l)) (size_body (many s) (members_lent s f k)))
 if_overflow s f l k (Ok o) p q lo ko h = h
 if_overflow s f l k (Err e) p q lo ko h = inr (both_overflow s f l k e p q lo ko h)
 
 pub if_first : {A : Type 0} (s : Shape) (f : A → Value s) (l : Lent A) (n : Result ℕ ErrorKind) (r : Result Ordering Error) → IsLent s f l → length l.octets ≡ 0
-    → IfErr r (IsOverlong (size_body (many s) (plain_list f l.values))) → IfErr r (λ e. IsWantOfMemory e ⊎ Overflows e (size_body (many s) (members_lent s f l)) n)
+    → IfErr r (IsOverlong (size_body (many s) (plain_list f l.values))) → IfErr r (λ e. IsUnwritten e ⊎ Overflows e (size_body (many s) (members_lent s f l)) n)
 if_first s f l n (Ok o) p lo h = h
 if_first s f l n (Err e) p lo h = first_overlong e (size_body (many s) (members_lent s f l)) n (overlong s f l e p lo h)
 
@@ -242,7 +251,7 @@ answered_as o m n h e = ap (λ x. Ok x) (sym e) ∙ h
 pub refused_as : (e : Error) (m n : Ordering) → Answers (Err e) m → Answers (Err e) n
 refused_as e m n h = λ memory. absurd (cc (h memory))
 
-pub inside_long : (t : Tag) (c : Content) (v w : ContentValue c) (e : Error) → IsWantOfMemory e ⊎ Overflows e (size_content c v) (size_content c w) → IsWantOfMemory e ⊎ Overflows e (size (tagged t c) v) (size (tagged t c) w)
+pub inside_long : (t : Tag) (c : Content) (v w : ContentValue c) (e : Error) → IsUnwritten e ⊎ Overflows e (size_content c v) (size_content c w) → IsUnwritten e ⊎ Overflows e (size (tagged t c) v) (size (tagged t c) w)
 inside_long t c v w e (inl memory) = inl memory
 inside_long t c v w e (inr over) = inr (long_inside t c v w e over)
 

@@ -14,7 +14,7 @@ use Rattle.der_core_head.specs.Writing.{Out, put, put_head, fit_len, size_conten
 use Rattle.der_core_head.proofs.Results.{fine, ok_is}
 use Rattle.der_core_head.proofs.Fits.{fits_contents}
 use Rattle.der_core_head.proofs.TagLaws.{tag_octets-some}
-use Rattle.der_core_head.proofs.Written.{sized_content}
+use Rattle.der_core_head.proofs.Written.{sized_content, rising_written}
 
 -- octets one after the other, or at once
 joined : (a b w : List ℕ) (room : Option ℕ) (failed : Bool) → (put a (record { written = w; room = room; failed = failed }) >>= put b) ≡ put (a ++ b) (record { written = w; room = room; failed = failed })
@@ -137,7 +137,7 @@ mutual
   put_body (only s) v o h = put_written s v o h
   put_body (many s) v o h = many_put (write s) (IsValid s) (octets_of s) (λ x y k. put_written s x y k) v o h
   put_body (exactly n s) v o h = many_put (write s) (IsValid s) (octets_of s) (λ x y k. put_written s x y k) v o h.0
-  put_body (rising s) v o h = many_put (write s) (IsValid s) (octets_of s) (λ x y k. put_written s x y k) v o h.0
+  put_body (rising s) v o h = rising_written (write s) (octets_of s) v o h.1 ∙ many_put (write s) (IsValid s) (octets_of s) (λ x y k. put_written s x y k) v o h.0
 
 -- values one after the other
 pub members_put : (s : Shape) (v : List (Value s)) (o : Out) → AllByRecursion (IsValid s) v → write_many (write s) v o ≡ put_some (flat_map (octets_of s) v) o

@@ -49,9 +49,17 @@ pub record IsLent {A : Type 0} (s : Shape) (f : A → Value s) (l : Lent A) : Ty
 abbrev pub IsWantOfMemory : Error → Type 0
 IsWantOfMemory e = e.kind ≡ kinds.OutOfMemory
 
+-- a member of a strict set that isn't above the one before
+abbrev pub IsMisplaced : ErrorKind → Type 0
+IsMisplaced k = (k ≡ kinds.SetOrdering) ⊎ (k ≡ kinds.SetDuplicate)
+
+-- A value was not written: for want of memory, or since a strict set in it doesn't rise.
+abbrev pub IsUnwritten : Error → Type 0
+IsUnwritten e = IsWantOfMemory e ⊎ IsMisplaced e.kind
+
 -- That, or a length passes what a length can count.
 abbrev pub IsOverlong : Result ℕ ErrorKind → Error → Type 0
-IsOverlong n e = IsWantOfMemory e ⊎ ((e.kind ≡ kinds.Overflow) × (n ≡ Err kinds.Overflow))
+IsOverlong n e = IsUnwritten e ⊎ ((e.kind ≡ kinds.Overflow) × (n ≡ Err kinds.Overflow))
 
 -- A call from l gave the first member and left the others, or gave None where nothing was left. Where there was no memory it left nothing.
 abbrev pub YieldsMember : {A : Type 0} (s : Shape) → (A → Value s) → Lent A → Option (Result A Error) → Lent A → Type 0

@@ -15,7 +15,8 @@ use std::cmp::Ordering;
 /// The order of the joined encodings of values, and of octets. One encoding at a time is in memory.
 ///
 /// # Errors
-/// `Overflow` where an encoding has 2^32 octets or more, or `OutOfMemory`.
+/// `Overflow` where an encoding has 2^32 octets or more, `SetOrdering` or `SetDuplicate` where a
+/// strict set in a value doesn't rise, or `OutOfMemory`.
 pub(crate) fn joined_cmp<T: Encode>(
     alloc: Global,
     values: &[T],

@@ -10,7 +10,7 @@ ghost use Rattle.der_core_head.specs.Writing.{size, size_body};
 ghost use Rattle.der_core.specs.Orders.{contents_cmp, encodings_cmp, Overflows};
 ghost use Rattle.der_types_sets.specs.Sets.{Ascends, IsOutOfOrder, TooLong};
 ghost use Rattle.der_types_sets.specs.Level.{NeverDescends, level_content};
-ghost use Rattle.der_types_sets.specs.Lent.{members_lent, IsWantOfMemory};
+ghost use Rattle.der_types_sets.specs.Lent.{members_lent, IsWantOfMemory, IsUnwritten};
 
 use crate::joined::joined_cmp;
 use crate::level::count_level;
@@ -256,12 +256,13 @@ impl<'a, T: DerOrd + Encode> SetOfRef<'a, T> {
     /// taken where one lends values and the other octets.
     ///
     /// # Errors
-    /// `Overflow` where the content of one of the two has 2^32 octets or more, or `OutOfMemory`.
+    /// `Overflow` where the content of one of the two has 2^32 octets or more, `SetOrdering` or
+    /// `SetDuplicate` where a strict set in a value doesn't rise, or `OutOfMemory`.
     pub fn value_cmp(&self, alloc: Global, other: &SetOfRef<'a, T>) -> Result<Ordering, Error>
         // It is answered wherever both sets have a content, unless memory runs out.
         ensures order { is_body_apart (many T.shape) ≡ true → IsContent (nested (many T.shape)) (members_lent T.shape T.written self.now) → IsContent (nested (many T.shape)) (members_lent T.shape T.written other.now)
             → Gives (λ o. o) result (Ok (contents_cmp (nested (many T.shape)) (members_lent T.shape T.written self.now) (members_lent T.shape T.written other.now))) }
-        ensures refused { IfErr result (λ e. IsWantOfMemory e ⊎ Overflows e (size_body (many T.shape) (members_lent T.shape T.written self.now)) (size_body (many T.shape) (members_lent T.shape T.written other.now))) }
+        ensures refused { IfErr result (λ e. IsUnwritten e ⊎ Overflows e (size_body (many T.shape) (members_lent T.shape T.written self.now)) (size_body (many T.shape) (members_lent T.shape T.written other.now))) }
     {
         if self.octets.is_empty() {
             if other.octets.is_empty() {
@@ -280,12 +281,13 @@ impl<'a, T: DerOrd + Encode> SetOfRef<'a, T> {
     /// the contents (X.690 11.6). Memory is taken where one lends values and the other octets.
     ///
     /// # Errors
-    /// `Overflow` where the encoding of one of the two has 2^32 octets or more, or `OutOfMemory`.
+    /// `Overflow` where the encoding of one of the two has 2^32 octets or more, `SetOrdering` or
+    /// `SetDuplicate` where a strict set in a value doesn't rise, or `OutOfMemory`.
     pub fn der_cmp(&self, alloc: Global, other: &SetOfRef<'a, T>) -> Result<Ordering, Error>
         // It is answered wherever both sets have an encoding, unless memory runs out.
         ensures order { is_body_apart (many T.shape) ≡ true → IsValid (tagged Set (nested (many T.shape))) (members_lent T.shape T.written self.now) → IsValid (tagged Set (nested (many T.shape))) (members_lent T.shape T.written other.now)
             → Gives (λ o. o) result (Ok (encodings_cmp (tagged Set (nested (many T.shape))) (members_lent T.shape T.written self.now) (members_lent T.shape T.written other.now))) }
-        ensures refused { IfErr result (λ e. IsWantOfMemory e ⊎ Overflows e (size (tagged Set (nested (many T.shape))) (members_lent T.shape T.written self.now)) (size (tagged Set (nested (many T.shape))) (members_lent T.shape T.written other.now))) }
+        ensures refused { IfErr result (λ e. IsUnwritten e ⊎ Overflows e (size (tagged Set (nested (many T.shape))) (members_lent T.shape T.written self.now)) (size (tagged Set (nested (many T.shape))) (members_lent T.shape T.written other.now))) }
     {
         let len = self.value_len()?;
         let other_len = other.value_len()?;

@@ -1,4 +1,4 @@
-use Rattle.std.proofs.Common.{Ok, ap, sym, ◌∙◌}
+use Rattle.std.proofs.Common.{Ok, ap, sym, ◌∙◌, inl, inr}
 use Rattle.std.proofs.lemmas.Result.{err_from_is_err_and}
 use Rattle.std.proofs.lemmas.Bool.{eqb-true}
 use Rattle.der_core_head.specs.Shapes.{IsBody, body_octets}
@@ -7,7 +7,7 @@ use Rattle.der_core_head.specs.Writing.{size}
 use Rattle.der_core.proofs.Sizes.{size_only, many_over}
 use Rattle.der_types_sets.proofs.WriteFaults.{write_faults}
 use Rattle.der_types_sets.proofs.LentWrites.{nothing_in, some_at}
-use Rattle.der_types_sets.proofs.LentOrders.{remains_here, remains_end, remains_on, remains_unlike, remains_fault, remains_none, remains_some, plain-at, or_memory, starts_with, starts_otherwise}
+use Rattle.der_types_sets.proofs.LentOrders.{remains_here, remains_end, remains_on, remains_unlike, remains_fault, remains_none, remains_some, plain-at, or_unwritten, starts_with, starts_otherwise}
 use Rattle.der_types_sets.proofs.joined.joined_cmp.Goals as goal
 
 pub returns-in_err-encode-clause-order : goal.returns-in_err-encode-clause-order
@@ -33,9 +33,11 @@ returns-in_err-encode-clause-refused g c =
     let p = err_from_is_err_and c.from_residual.result c.from_residual.ensures.1 in
     let refused = rw c.clear.ensures.items at c.in_err-encode.ensures.exact in
     rw (p.1, p.2)
-    (or_memory c.in_err-encode.field-0.0.kind (λ memory.
-    let fault = write_faults s (f x) c.in_err-encode.field-0.0.kind (refused (λ _. memory)) in
-    (fault.0, many_over (size s) (size_only s) (plain_list f v) 0 i (f x) (plain-at f v i x c.loop-value-test.true c.value-item.is) fault.1)))
+    (or_unwritten c.in_err-encode.field-0.0.kind (λ memory.
+    elim (write_faults s (f x) c.in_err-encode.field-0.0.kind (refused (λ _. memory))) [
+      | inl misplaced ↦ inl misplaced
+      | inr over ↦ inr (over.0, many_over (size s) (size_only s) (plain_list f v) 0 i (f x) (plain-at f v i x c.loop-value-test.true c.value-item.is) over.1)
+    ]))
 
 pub returns-in_default-clause-order : goal.returns-in_default-clause-order
 unfolding IsBody body_octets

@@ -1,0 +1,8 @@
+use Rattle.der_core_head.specs.Grammar.{plain_list}
+use Rattle.der_core_head.proofs.WrittenValid.{list_valid}
+use Rattle.der_core.proofs.strict_set_of.StrictSetOfEncodeValue.encode_value.Goals as goal
+
+pub check_rising-requires : goal.check_rising-requires
+check_rising-requires g c =
+    rw c.as_slice.ensures.value
+    (list_valid g.T.Shaped.shape (plain_list g.T.Shaped.written c.args.self.now.values.items) _ _ c.in_ok-encode_value.ensures.exact c.value_in_range.ensures)

@@ -1,0 +1,138 @@
+//! SET OF, whose members rise (X.690 8.12, 11.6).
+
+ghost use Rattle.std.specs.Prelude.{◌≡◌, None, IfSome};
+ghost use Rattle.std.specs.List.{AllByRecursion};
+ghost use Rattle.der_core_head.specs.declared.tag.Tag.TheVariants.{Set};
+ghost use Rattle.der_core_head.specs.Shapes.{nested, rising, octets_of, IsValid};
+ghost use Rattle.der_core_head.specs.Grammar.{plain_list, plain_option, follows_last};
+ghost use Rattle.der_core_head.specs.Reading.{GivesNow};
+ghost use Rattle.der_core_head.specs.Writing.{all_follow};
+
+use crate::order::DerOrd;
+use der_core_coding::read_rising;
+use der_core_coding::values::{
+    ApartValue, AsRead, AsReadValue, Decode, DecodeFields, DecodeValue, Element, Encode,
+    EncodeValue, Fields, FixedTag, InRange, InRangeValue, Member, Shaped, ShapedValue, read_fields,
+};
+use der_core_head::{Error, ErrorKind, Header, Length, Tag};
+use der_core_octets::{Reader, Writer};
+use std::alloc::Global;
+use std::cmp::Ordering;
+
+/// Whether a value may follow the one before it in a set.
+///
+/// # Errors
+/// `SetDuplicate` for the same encoding, `SetOrdering` for a lower one.
+fn check_above<T: DerOrd + Member>(last: Option<&T>, value: &T) -> Result<(), Error>
+    requires before { IfSome (plain_option (λ r. T.written r.now) last) (IsValid T.shape) }
+    requires valid { IsValid T.shape (T.written value.now) }
+    ensures { GivesNow (λ x. x) result (follows_last (plain_option (octets_of T.shape) (plain_option (λ r. T.written r.now) last.entry)) (octets_of T.shape (T.written value.now))) }
+{
+    let Some(last) = last else {
+        return Ok(());
+    };
+    match last.der_cmp(value)? {
+        Ordering::Less => Ok(()),
+        Ordering::Equal => Err(Error::from(ErrorKind::SetDuplicate)),
+        Ordering::Greater => Err(Error::from(ErrorKind::SetOrdering)),
+    }
+}
+
+/// Whether the encoding of each value is above that of the one before, where all have one.
+///
+/// # Errors
+/// `SetDuplicate` for the same encoding, `SetOrdering` for a lower one.
+fn check_rising<T: DerOrd + Member>(values: &[T]) -> Result<(), Error>
+    requires { AllByRecursion (λ x. IsValid T.shape x) (plain_list T.written values.now) }
+    ensures { GivesNow (λ x. x) result (all_follow (octets_of T.shape) None (plain_list T.written values.now)) }
+{
+    let mut last = None;
+    for value in values {
+        check_above(last, value)?;
+        last = Some(value);
+    }
+    Ok(())
+}
+
+/// Values whose encodings rise.
+#[derive(Debug, Drop)]
+pub struct StrictSetOf<T> {
+    pub values: Vec<T>,
+}
+
+impl<T> FixedTag for StrictSetOf<T> {
+    ghost fixed_tag = { Set };
+
+    fn tag() -> Tag {
+        Tag::Set
+    }
+}
+
+impl<T: Shaped> Fields for StrictSetOf<T> {
+    ghost fields = { rising T.shape };
+
+    ghost fields_plain = { λ v. plain_list T.plain v.values.items };
+
+    ghost fields_written = { λ v. plain_list T.written v.values.items };
+}
+
+impl<T: Shaped> ShapedValue for StrictSetOf<T> {
+    ghost content = { nested (rising T.shape) };
+
+    ghost value_plain = { λ v. plain_list T.plain v.values.items };
+
+    ghost value_written = { λ v. plain_list T.written v.values.items };
+}
+
+impl<'a, R: Reader<'a>, T: Decode<'a, R> + Member> DecodeFields<'a, R> for StrictSetOf<T> {
+    fn decode_fields(alloc: Global, reader: &mut R) -> Result<StrictSetOf<T>, Error> {
+        let values = read_rising(alloc, reader)?;
+        Ok(StrictSetOf { values })
+    }
+}
+
+impl<'a, R: Reader<'a>, T: Decode<'a, R> + Member> DecodeValue<'a, R> for StrictSetOf<T> {
+    fn decode_value(
+        alloc: Global,
+        reader: &mut R,
+        header: Header,
+    ) -> Result<StrictSetOf<T>, Error> {
+        read_fields(alloc, reader, header)
+    }
+}
+
+/// Writes the members, each of which is above the one before.
+///
+/// The members are written first, and so each has an encoding by which it can be compared.
+impl<T: Encode + DerOrd + Member + InRange> EncodeValue for StrictSetOf<T> {
+    fn value_len(&self) -> Result<Length, Error> {
+        self.values.value_len()
+    }
+
+    /// # Errors
+    /// Those of the members and of the writer; then `SetDuplicate` for the same encoding as the one
+    /// before, `SetOrdering` for a lower one (X.690 11.6).
+    fn encode_value<W: Writer>(&self, writer: &mut W) -> Result<(), Error> {
+        self.values.encode_value(writer)?;
+        self.values.value_in_range();
+        check_rising(self.values.as_slice())
+    }
+}
+
+impl<T: Element + Member> ApartValue for StrictSetOf<T> {
+    ghost use Rattle.der_core_values.specs.Both.{both_true};
+
+    ghost apart_value = { both_true T.element T.apart };
+}
+
+impl<T: AsRead> AsReadValue for StrictSetOf<T> {
+    ghost use Rattle.der_core_values.specs.Same.{same_list};
+
+    ghost as_read_value = { λ v. same_list T.as_read v.values.items };
+}
+
+impl<T: InRange> InRangeValue for StrictSetOf<T> {
+    fn value_in_range(&self) {
+        self.values.value_in_range();
+    }
+}

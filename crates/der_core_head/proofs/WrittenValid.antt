@@ -1,0 +1,95 @@
+-- What was written is valid, where its parts are in their ranges.
+use Rattle.std.proofs.Common.{◌≡◌, ℕ, Bool, true, false, List, [], ◌∷◌, Some, None, Result, Ok, refl, inl, inr}
+use Rattle.std.specs.List.{AllByRecursion}
+use Rattle.std.specs.Ordering.{nat_cmp}
+use Rattle.std.specs.declared.cmp.Ordering.{Ordering}
+use Rattle.std.specs.declared.cmp.Ordering.TheVariants.{Less, Equal, Greater}
+use Rattle.std.specs.Cmp.Lexicographic.{slice_cmp}
+use Rattle.std.specs.Str.{bytes_eq}
+use Rattle.der_core_head.specs.declared.error.ErrorKind.{ErrorKind}
+use Rattle.der_core_head.specs.declared.tag.Tag.{Tag}
+use Rattle.der_core_head.specs.Octets.{◌>>=◌}
+use Rattle.der_core_head.specs.Grammar.{ordered, follows}
+use Rattle.der_core_head.specs.Shapes.{Shape, Content, Body, tagged, any, either, optional, defaulted, nothing, leaf, nested, done, field, only, many, exactly, rising, Value, ContentValue, BodyValue, octets_of, AllRising, IsValid, IsContent, IsBody}
+use Rattle.der_core_head.specs.Ranges.{IsInRange, IsContentInRange, IsBodyInRange}
+use Rattle.der_core_head.specs.Writing.{Out, put_head, size_content, write_tlv, write_many, all_follow, write_rising, default_write, write, write_content, write_body}
+use Rattle.der_core_head.proofs.Results.{bind_ok}
+use Rattle.der_core_head.proofs.OkOctets.{writes_fitting}
+
+-- behind a header the content was written
+content_written : (t : Tag) (n : Result ℕ ErrorKind) (f : Out → Result Out ErrorKind) (o z : Out) → write_tlv t n f o ≡ Ok z → (y : Out) × (f y ≡ Ok z)
+unfolding write_tlv
+content_written t n f o z e =
+    let p = bind_ok n (λ n. put_head t n o >>= f) z e in
+    let q = bind_ok (put_head t p.0 o) f z p.2 in
+    (q.0, q.2)
+
+pub members_written : {P : Type 0} (f : P → Out → Result Out ErrorKind) (R V : P → Type 0) → ((x : P) (o z : Out) → f x o ≡ Ok z → R x → V x)
+    → (xs : List P) (o z : Out) → write_many f xs o ≡ Ok z → AllByRecursion R xs → AllByRecursion V xs
+members_written f R V each [] o z e h = tt
+members_written f R V each (x ∷ xs) o z e h =
+    let p = bind_ok (f x o) (write_many f xs) z e in
+    (each x o p.0 p.1 h.0, members_written f R V each xs p.0 z p.2 h.1)
+
+-- what follows is above
+is_above : (c : Ordering) (y : Unit {0}) → ordered c ≡ Ok y → c ≡ Less
+is_above Less y e = refl
+is_above Equal y e = absurd cc
+is_above Greater y e = absurd cc
+
+follow_rising : {P : Type 0} (w : P → List ℕ) (x : P) (xs : List P) (y : Unit {0}) → all_follow w (Some (w x)) xs ≡ Ok y → AllRising w (x ∷ xs)
+follow_rising w x [] y e = tt
+follow_rising w x (b ∷ xs) y e =
+    let p = bind_ok (follows (w x) (w b)) (λ _. all_follow w (Some (w b)) xs) y e in
+    (is_above (slice_cmp nat_cmp (w x) (w b)) p.0 p.1, follow_rising w b xs y p.2)
+
+rise_all : {P : Type 0} (w : P → List ℕ) (xs : List P) (y : Unit {0}) → all_follow w None xs ≡ Ok y → AllRising w xs
+rise_all w [] y e = tt
+rise_all w (x ∷ xs) y e = follow_rising w x xs y e
+
+-- a set that was written rises
+set_written : {P : Type 0} (f : P → Out → Result Out ErrorKind) (w : P → List ℕ) (xs : List P) (o z : Out) → write_rising f w xs o ≡ Ok z → ((y : Out) × (write_many f xs o ≡ Ok y)) × AllRising w xs
+set_written f w xs o z e =
+    let p = bind_ok (write_many f xs o) (λ y. all_follow w None xs >>= λ _. Ok y) z e in
+    let q = bind_ok (all_follow w None xs) (λ _. Ok p.0) z p.2 in
+    ((p.0, p.1), rise_all w xs q.0 q.1)
+
+default_written : {X : Type 0} (b : Bool) (f : Out → Result Out ErrorKind) (o z : Out) → (b ≡ true → X) → (f o ≡ Ok z → X) → default_write b f o ≡ Ok z → X
+unfolding default_write
+default_written true f o z valid each e = valid refl
+default_written false f o z valid each e = each e
+
+mutual
+  unfolding octets_of IsValid
+
+  pub written_valid : (s : Shape) (v : Value s) (o z : Out) → write s v o ≡ Ok z → IsInRange s v → IsValid s v
+  written_valid (tagged t c) v o z e h =
+      let p = content_written t (size_content c v) (write_content c v) o z e in
+      (content_valid c v p.0 z p.1 h.0, h.1, writes_fitting (tagged t c) v o z e)
+  written_valid any v o z e h = (h.0, h.1, writes_fitting any v o z e)
+  written_valid (either a b) (inl v) o z e h = written_valid a v o z e h
+  written_valid (either a b) (inr v) o z e h = written_valid b v o z e h
+  written_valid (optional s) None o z e h = tt
+  written_valid (optional s) (Some v) o z e h = written_valid s v o z e h
+  written_valid (defaulted s d) v o z e h = default_written (bytes_eq (octets_of s v) d) (write s v) o z h.1 (λ k. written_valid s v o z k h.0) e
+  written_valid nothing v o z e h = tt
+
+  content_valid : (c : Content) (v : ContentValue c) (o z : Out) → write_content c v o ≡ Ok z → IsContentInRange c v → IsContent c v
+  content_valid (leaf l) v o z e h = h
+  content_valid (nested b) v o z e h = body_valid b v o z e h
+
+  body_valid : (b : Body) (v : BodyValue b) (o z : Out) → write_body b v o ≡ Ok z → IsBodyInRange b v → IsBody b v
+  body_valid done v o z e h = tt
+  body_valid (field s b) v o z e h =
+      let p = bind_ok (write s v.0 o) (write_body b v.1) z e in
+      (written_valid s v.0 o p.0 p.1 h.0, body_valid b v.1 p.0 z p.2 h.1)
+  body_valid (only s) v o z e h = written_valid s v o z e h
+  body_valid (many s) v o z e h = members_written (write s) (λ x. IsInRange s x) (λ x. IsValid s x) (λ x o z. written_valid s x o z) v o z e h
+  body_valid (exactly n s) v o z e h = (members_written (write s) (λ x. IsInRange s x) (λ x. IsValid s x) (λ x o z. written_valid s x o z) v o z e h.0, h.1)
+  body_valid (rising s) v o z e h =
+      let p = set_written (write s) (octets_of s) v o z e in
+      (members_written (write s) (λ x. IsInRange s x) (λ x. IsValid s x) (λ x o z. written_valid s x o z) v o p.0.0 p.0.1 h, p.1)
+
+-- the members of what was written one after the other
+pub list_valid : (s : Shape) (v : List (Value s)) (o z : Out) → write_many (write s) v o ≡ Ok z → AllByRecursion (λ x. IsInRange s x) v → AllByRecursion (λ x. IsValid s x) v
+list_valid s v o z e h = members_written (write s) (λ x. IsInRange s x) (λ x. IsValid s x) (λ x o z. written_valid s x o z) v o z e h
