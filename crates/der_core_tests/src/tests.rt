@@ -5,3 +5,4 @@ mod constants;
 mod held;
 mod identifiers;
 mod kinds;
+mod sets;
