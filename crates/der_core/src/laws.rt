@@ -1,20 +1,39 @@
-//! Laws of shapes, of bodies of indefinite length, and of the order of encodings, for every shape.
+//! Laws of shapes, of bodies of indefinite length, and of the order of encodings, for every shape; and of
+//! what is written, for every type whose values are in range.
 //!
 //! Each is the contract of a function that does nothing.
 
-ghost use Rattle.std.specs.Prelude.{◌≡◌, ◌↔◌, ℕ, List, ◌++◌, true};
+ghost use Rattle.std.specs.Prelude.{◌≡◌, ◌↔◌, ℕ, List, [], ◌++◌, true, Ok};
 ghost use Rattle.std.specs.Ordering.{nat_cmp, ordering_then, ordering_reverse};
 ghost use Rattle.std.specs.declared.cmp.Ordering.{Ordering};
 ghost use Rattle.std.specs.declared.cmp.Ordering.TheVariants.{Less, Equal};
 ghost use Rattle.der_core_head.specs.Heads.{length_octets};
+ghost use Rattle.der_core_head.specs.Grammar.{read};
 ghost use Rattle.der_core_head.specs.Shapes.{Shape, Value, IsValid, octets_of};
 ghost use Rattle.der_core_head.specs.Spelling.{is_apart, is_element, are_enough};
+ghost use Rattle.der_core_head.specs.Writing.{Out, write};
 ghost use Rattle.der_core.specs.Orders.{octets_cmp, encodings_cmp};
 
+use der_core_coding::values::{Element, InRange, Member};
 pub use der_core_head::laws::{
     apart_is_lawful, ber_headers_are_spelled, bodies_end_themselves, headers_are_spelled,
-    read_is_spelled, spelled_is_read, values_begin_as_stated,
+    read_is_spelled, spelled_is_read, valid_is_written, values_begin_as_stated, written_is_read,
+    written_is_spelled,
 };
+
+/// What was written of a value has an encoding, where the values of its type are in range, and is
+/// read as that value.
+///
+/// So what `to_der`, `encode_to_slice` and `encode_to_vec` answer spells the value.
+pub fn in_range_is_spelled<T: InRange + Element + Member>(value: &T)
+    ensures valid { (o z : Out) → write T.shape (T.written value.now) o ≡ Ok z → IsValid T.shape (T.written value.now) }
+    ensures read { (room : ℕ) (o z : Out) (r : List ℕ) → are_enough T.shape room ≡ true → o.written ≡ []
+        → write T.shape (T.written value.now) o ≡ Ok z → read T.shape room (z.written ++ r) ≡ Ok (T.written value.now, r) }
+{
+    value.in_range();
+    written_is_spelled();
+    written_is_read();
+}
 
 /// The order is `Equal` exactly where the octets are the same.
 pub fn equal_octets_alone()

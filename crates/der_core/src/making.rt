@@ -3,7 +3,9 @@
 
 pub use crate::contents::{value_cmp_behind, value_cmp_by_contents};
 pub use crate::lists::elements_cmp;
-pub use der_core_coding::values::{decode_leaf, read_content, read_fields};
+pub use der_core_coding::values::{
+    decode_leaf, list_in_range, octets_in_range, read_content, read_fields, text_in_range,
+};
 pub use der_core_coding::{
     decode_sliced, encode_behind, encode_explicit, encode_implicit, len_behind, read_rising,
 };

@@ -4,12 +4,12 @@ use Rattle.std.specs.Prelude.{IfOk}
 use Rattle.der_core_head.specs.declared.error.Error.{Error}
 use Rattle.der_core_head.specs.declared.length.Length.{Length}
 use Rattle.der_core_head.specs.Octets.{◌>>=◌}
-use Rattle.der_core_head.specs.Ranges.{IsInRange}
+use Rattle.der_core_head.specs.Ranges.{IsInRange, IsContentInRange}
 use Rattle.der_core_head.specs.Reading.{Gives, GivesNow}
-use Rattle.der_core_head.specs.Shapes.{Shape, Value, IsValid}
-use Rattle.der_core_head.specs.Writing.{Out, size, write}
+use Rattle.der_core_head.specs.Shapes.{Shape, Value, IsValid, Content, ContentValue, IsContent}
+use Rattle.der_core_head.specs.Writing.{Out, size, write, write_content}
 use Rattle.der_core_head.proofs.Results.{bind_ok}
-use Rattle.der_core_head.proofs.WrittenValid.{written_valid}
+use Rattle.der_core_head.proofs.WrittenValid.{written_valid, content_valid}
 use Rattle.der_core_head.proofs.Written.{out}
 use Rattle.der_core_octets.specs.Outputs.{appended, blank, filled, finished}
 
@@ -20,6 +20,10 @@ ok_valid s v view (Err d) e = tt
 pub filled_in_range : {T : Type 0} (s : Shape) (v : Value s) (room : ℕ) (view : T → List ℕ) (r : Result T Error) → GivesNow view r (filled (write s v) room) → IfOk r (λ _. IsInRange s v → IsValid s v)
 filled_in_range s v room view (Ok x) e = let p = bind_ok (write s v (blank room)) finished (view x) e in written_valid s v (blank room) p.0 p.1
 filled_in_range s v room view (Err d) e = tt
+
+pub content_in_range : {T : Type 0} (c : Content) (v : ContentValue c) (room : ℕ) (view : T → List ℕ) (r : Result T Error) → GivesNow view r (filled (write_content c v) room) → IfOk r (λ _. IsContentInRange c v → IsContent c v)
+content_in_range c v room view (Ok x) e = let p = bind_ok (write_content c v (blank room)) finished (view x) e in content_valid c v (blank room) p.0 p.1
+content_in_range c v room view (Err d) e = tt
 
 pub appended_in_range : (s : Shape) (v : Value s) (w new : List ℕ) (r : Result Length Error) → IfOk r (λ len. appended s v w ≡ Ok (len.value, new)) → IfOk r (λ _. IsInRange s v → IsValid s v)
 appended_in_range s v w new (Ok len) e =

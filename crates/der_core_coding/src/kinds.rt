@@ -1,12 +1,12 @@
 //! Defaults.
 
-ghost use Rattle.std.specs.Prelude.{◌≡◌, List, ℕ, [], ◌∷◌, Ok, bytes_eq, refl};
-ghost use Rattle.der_core_head.specs.Shapes.{defaulted, octets_of};
+ghost use Rattle.std.specs.Prelude.{◌≡◌, List, ℕ, [], ◌∷◌, Ok, true, bytes_eq, refl};
+ghost use Rattle.der_core_head.specs.Shapes.{defaulted, octets_of, IsValid};
 ghost use Rattle.der_core_head.specs.Grammar.{read};
 
 use der_core_head::{Error, ErrorKind, Length};
 use der_core_octets::{Reader, Writer};
-use der_core_values::{AsRead, Choice, Decode, Encode, Shaped};
+use der_core_values::{AsRead, Choice, Decode, Encode, InRange, Shaped};
 use std::alloc::Global;
 
 /// A type with a value that is never written (X.690 11.5), whose values are written as they are read.
@@ -19,7 +19,9 @@ pub trait DefaultValue: Shaped + AsRead {
 
     /// Whether a value is that one.
     fn is_default(&self) -> bool
-        ensures { result ≡ bytes_eq (octets_of Self.shape (Self.plain self.now)) default_octets };
+        ensures value { result ≡ bytes_eq (octets_of Self.shape (Self.plain self.now)) default_octets }
+        // That value has an encoding.
+        ensures valid { result ≡ true → IsValid Self.shape (Self.plain self.now) };
 }
 
 /// False.
@@ -31,7 +33,7 @@ impl DefaultValue for bool {
         false
     }
 
-    #[tactic(auto, unfolding(der_core_head::specs::Shapes::octets_of, der_core_head::specs::Heads::tlv, der_core_head::specs::Heads::head_octets, der_core_head::specs::Heads::length_octets, der_core_head::specs::Tags::tag_octets))]
+    #[tactic(auto, unfolding(der_core_head::specs::Shapes::octets_of, der_core_head::specs::Shapes::IsValid, der_core_head::specs::Heads::tlv, der_core_head::specs::Heads::head_octets, der_core_head::specs::Heads::length_octets, der_core_head::specs::Tags::tag_octets))]
     fn is_default(&self) -> bool {
         !*self
     }
@@ -95,5 +97,13 @@ impl<T: Encode + DefaultValue> Encode for WithDefault<T> {
         } else {
             self.value.encode(writer)
         }
+    }
+}
+
+/// A default has an encoding, though it isn't written.
+impl<T: InRange + DefaultValue> InRange for WithDefault<T> {
+    fn in_range(&self) {
+        self.value.in_range();
+        let _absent = self.value.is_default();
     }
 }

@@ -2,7 +2,7 @@
 
 ghost use Rattle.std.specs.Prelude.{◌≡◌, ◌≤◌, ◌++◌, length, take, Ok, IfOk, IfErr, IsOkAnd};
 ghost use Rattle.der_core_head.specs.Heads.{Fits};
-ghost use Rattle.der_core_head.specs.Ranges.{IsInRange};
+ghost use Rattle.der_core_head.specs.Ranges.{IsInRange, IsContentInRange};
 ghost use Rattle.der_core_head.specs.Shapes.{IsValid, IsContent, octets_of, contents};
 ghost use Rattle.der_core_head.specs.Reading.{Fails, Gives, GivesNow};
 ghost use Rattle.der_core_head.specs.Writing.{write, size_content, write_content};
@@ -65,6 +65,8 @@ pub fn encode_value_to_slice<'a, T: EncodeValue>(
 ) -> Result<&'a [u8], Error>
     // What an Ok lends are the octets of the content.
     ensures octets { IfOk result (λ octets. octets.now ≡ contents T.content (T.value_written value.now)) }
+    // The content is valid, where its parts are in their ranges.
+    ensures valid { IfOk result (λ _. IsContentInRange T.content (T.value_written value.now) → IsContent T.content (T.value_written value.now)) }
     // A valid content is written where there is room for it.
     ensures spelled { IsContent T.content (T.value_written value.now) → length (contents T.content (T.value_written value.now)) ≤ length bytes.entry.now
         → IsOkAnd result (λ octets. octets.now ≡ contents T.content (T.value_written value.now)) }

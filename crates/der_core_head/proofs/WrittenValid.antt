@@ -74,7 +74,7 @@ mutual
   written_valid (defaulted s d) v o z e h = default_written (bytes_eq (octets_of s v) d) (write s v) o z h.1 (λ k. written_valid s v o z k h.0) e
   written_valid nothing v o z e h = tt
 
-  content_valid : (c : Content) (v : ContentValue c) (o z : Out) → write_content c v o ≡ Ok z → IsContentInRange c v → IsContent c v
+  pub content_valid : (c : Content) (v : ContentValue c) (o z : Out) → write_content c v o ≡ Ok z → IsContentInRange c v → IsContent c v
   content_valid (leaf l) v o z e h = h
   content_valid (nested b) v o z e h = body_valid b v o z e h
 
@@ -93,3 +93,36 @@ mutual
 -- the members of what was written one after the other
 pub list_valid : (s : Shape) (v : List (Value s)) (o z : Out) → write_many (write s) v o ≡ Ok z → AllByRecursion (λ x. IsInRange s x) v → AllByRecursion (λ x. IsValid s x) v
 list_valid s v o z e h = members_written (write s) (λ x. IsInRange s x) (λ x. IsValid s x) (λ x o z. written_valid s x o z) v o z e h
+
+-- and what is valid has its parts in their ranges
+each_in_range : {P : Type 0} (V R : P → Type 0) → ((x : P) → V x → R x) → (xs : List P) → AllByRecursion V xs → AllByRecursion R xs
+each_in_range V R each [] h = tt
+each_in_range V R each (x ∷ xs) h = (each x h.0, each_in_range V R each xs h.1)
+
+mutual
+  unfolding IsValid
+
+  pub valid_in_range : (s : Shape) (v : Value s) → IsValid s v → IsInRange s v
+  valid_in_range (tagged t c) v h = (content_in_range c v h.0, h.1)
+  valid_in_range any v h = (h.0, h.1)
+  valid_in_range (either a b) (inl v) h = valid_in_range a v h
+  valid_in_range (either a b) (inr v) h = valid_in_range b v h
+  valid_in_range (optional s) None h = tt
+  valid_in_range (optional s) (Some v) h = valid_in_range s v h
+  valid_in_range (defaulted s d) v h = (valid_in_range s v h, λ _. h)
+  valid_in_range nothing v h = tt
+
+  content_in_range : (c : Content) (v : ContentValue c) → IsContent c v → IsContentInRange c v
+  content_in_range (leaf l) v h = h
+  content_in_range (nested b) v h = body_in_range b v h
+
+  body_in_range : (b : Body) (v : BodyValue b) → IsBody b v → IsBodyInRange b v
+  body_in_range done v h = tt
+  body_in_range (field s b) v h = (valid_in_range s v.0 h.0, body_in_range b v.1 h.1)
+  body_in_range (only s) v h = valid_in_range s v h
+  body_in_range (many s) v h = each_in_range (λ x. IsValid s x) (λ x. IsInRange s x) (λ x k. valid_in_range s x k) v h
+  body_in_range (exactly n s) v h = (each_in_range (λ x. IsValid s x) (λ x. IsInRange s x) (λ x k. valid_in_range s x k) v h.0, h.1)
+  body_in_range (rising s) v h = each_in_range (λ x. IsValid s x) (λ x. IsInRange s x) (λ x k. valid_in_range s x k) v h.0
+
+pub list_in_range : (s : Shape) (v : List (Value s)) → AllByRecursion (λ x. IsValid s x) v → AllByRecursion (λ x. IsInRange s x) v
+list_in_range s v h = each_in_range (λ x. IsValid s x) (λ x. IsInRange s x) (λ x k. valid_in_range s x k) v h

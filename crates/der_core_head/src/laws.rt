@@ -2,7 +2,7 @@
 //!
 //! Each is the contract of a function that does nothing.
 
-ghost use Rattle.std.specs.Prelude.{◌≡◌, ◌≤◌, ◌<◌, ◌⊎◌, ℕ, List, [], ◌++◌, length, take, drop, true, Ok};
+ghost use Rattle.std.specs.Prelude.{◌≡◌, ◌≤◌, ◌<◌, ◌⊎◌, ℕ, List, [], ◌++◌, length, take, drop, true, false, None, Ok};
 ghost use Rattle.der_core_head.specs.Octets.{IsOctets};
 ghost use Rattle.der_core_head.specs.declared.tag.Tag.{Tag};
 ghost use Rattle.der_core_head.specs.Tags.{IsTag, tag_octets};
@@ -10,6 +10,8 @@ ghost use Rattle.der_core_head.specs.Heads.{Head, Fits, head_at, head_octets};
 ghost use Rattle.der_core_head.specs.Shapes.{Shape, Value, IsValid, begins, octets_of};
 ghost use Rattle.der_core_head.specs.Spelling.{is_apart, is_element, are_enough};
 ghost use Rattle.der_core_head.specs.Grammar.{read};
+ghost use Rattle.der_core_head.specs.Ranges.{IsInRange};
+ghost use Rattle.der_core_head.specs.Writing.{Out, write};
 ghost use Rattle.der_core_head.specs.Bodies.{IsIndefiniteBody, SpellsHead, body_len_at, head_ber_at};
 
 /// No encoding begins another, and no two values have one encoding (X.690 10, 11).
@@ -37,6 +39,28 @@ pub fn read_is_spelled()
 pub fn spelled_is_read()
     ensures { (s : Shape) (room : ℕ) (v : Value s) (r : List ℕ) → is_element s ≡ true → is_apart s ≡ true → are_enough s room ≡ true
         → IsValid s v → read s room (octets_of s v ++ r) ≡ Ok (v, r) }
+{}
+
+/// What is written is spelled: behind what stood there stand the octets of the value, no more than a
+/// length can count; and the value has an encoding, where its parts are in their ranges.
+///
+/// So a value that is too long is refused, and one with a set that doesn't rise (X.690 11.6).
+pub fn written_is_spelled()
+    ensures octets { (s : Shape) (v : Value s) (o z : Out) → write s v o ≡ Ok z → (z.written ≡ o.written ++ octets_of s v) × Fits (octets_of s v) }
+    ensures valid { (s : Shape) (v : Value s) (o z : Out) → write s v o ≡ Ok z → IsInRange s v → IsValid s v }
+{}
+
+/// What has an encoding is written, where there is room for any number of octets.
+pub fn valid_is_written()
+    ensures { (s : Shape) (v : Value s) (w : List ℕ) → IsValid s v
+        → write s v (record { written = w; room = None; failed = false }) ≡ Ok (record { written = w ++ octets_of s v; room = None; failed = false }) }
+{}
+
+/// What is written is read: from octets that were written for a value whose parts are in their
+/// ranges, whatever follows them, reading gives the value and what follows.
+pub fn written_is_read()
+    ensures { (s : Shape) (room : ℕ) (v : Value s) (o z : Out) (r : List ℕ) → is_element s ≡ true → is_apart s ≡ true → are_enough s room ≡ true
+        → IsInRange s v → o.written ≡ [] → write s v o ≡ Ok z → read s room (z.written ++ r) ≡ Ok (v, r) }
 {}
 
 /// What is read as a header is spelled so, and what is spelled so is read, whatever follows (X.690 8.1.2, 8.1.3, 10.1).

@@ -4,6 +4,8 @@
 //! Each is a law of the values of a type, and stands as the contract of a call that does nothing.
 
 ghost use Rattle.std.specs.Prelude.{◌≡◌};
+ghost use Rattle.std.specs.List.{AllByRecursion};
+ghost use Rattle.der_core_head.specs.Grammar.{plain_list};
 ghost use Rattle.der_core_head.specs.Octets.{IsOctets};
 ghost use Rattle.der_core_head.specs.Texts.{IsUtf8Text};
 ghost use Rattle.der_core_head.specs.Ranges.{IsInRange, IsContentInRange, IsBodyInRange};
@@ -38,15 +40,24 @@ pub trait InRangeFields: Fields {
 }
 
 /// What a slice holds are octets.
-fn octets_in_range(octets: &[u8])
+pub fn octets_in_range(octets: &[u8])
     ensures { IsOctets octets.now }
 {}
 
 /// What a text holds are octets of UTF-8.
-fn text_in_range(text: &str)
+pub fn text_in_range(text: &str)
     ensures { IsUtf8Text text.now }
 {
     octets_in_range(text.as_bytes());
+}
+
+/// The values of a list are in range.
+pub fn list_in_range<T: InRange>(values: &[T])
+    ensures { AllByRecursion (IsInRange T.shape) (plain_list T.written values.now) }
+{
+    for value in values {
+        value.in_range();
+    }
 }
 
 /// Behind one tag values are in range as their contents are.
@@ -121,17 +132,13 @@ impl<T: InRangeValue> InRangeValue for Box<T> {
 
 impl<T: InRange> InRangeValue for Vec<T> {
     fn value_in_range(&self) {
-        for value in self {
-            value.in_range();
-        }
+        list_in_range(self.as_slice());
     }
 }
 
 impl<T: InRange, const N: usize> InRangeValue for [T; N] {
     fn value_in_range(&self) {
-        for value in self {
-            value.in_range();
-        }
+        list_in_range(self.as_slice());
     }
 }
 

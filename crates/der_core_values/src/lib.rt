@@ -32,7 +32,9 @@ pub use decode::{Choice, Decode, DecodeValue, FixedTag, Shaped, ShapedValue};
 pub use elements::{ApartValue, AsRead, AsReadValue, Element, Member};
 pub use encode::{Encode, EncodeValue};
 pub use fields::{DecodeFields, Fields, read_fields};
-pub use in_range::{InRange, InRangeFields, InRangeValue};
+pub use in_range::{
+    InRange, InRangeFields, InRangeValue, list_in_range, octets_in_range, text_in_range,
+};
 pub use integers::Integer;
 pub use leaves::{Leaf, decode_leaf, read_content};
 pub use one_of_eight::OneOf8;

@@ -1,6 +1,7 @@
 use Rattle.std.specs.Borrow.{Bor}
 use Rattle.std.proofs.Common.{ℕ, List, length}
 use Rattle.der_core_coding.proofs.Rooms.{content_spelled, filled_contents}
+use Rattle.der_core_coding.proofs.Encodable.{content_in_range}
 use Rattle.der_core_coding.proofs.slices.encode_value_to_slice.Goals as goal
 
 pub returns-clause-octets : goal.returns-clause-octets
@@ -9,3 +10,7 @@ returns-clause-octets g c =
 
 pub returns-clause-spelled : goal.returns-clause-spelled
 returns-clause-spelled g c = λ valid room. content_spelled g.T.ShapedValue.content (g.T.ShapedValue.value_written c.args.value.now) (length c.args.bytes.now) (λ (o : Bor (List ℕ)). o.now) c.fill_content.result c.fill_content.ensures valid room
+
+pub returns-clause-valid : goal.returns-clause-valid
+returns-clause-valid g c =
+    content_in_range g.T.ShapedValue.content (g.T.ShapedValue.value_written c.args.value.now) (length c.args.bytes.now) (λ (o : Bor (List ℕ)). o.now) c.fill_content.result c.fill_content.ensures

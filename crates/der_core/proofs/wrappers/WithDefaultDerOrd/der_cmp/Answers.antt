@@ -8,13 +8,13 @@ use Rattle.der_core.proofs.DefaultOrders.{both_default, first_default, second_de
 use Rattle.der_core.proofs.wrappers.WithDefaultDerOrd.der_cmp.Goals as goal
 
 pub returns-in-true-true-clause-order : goal.returns-in-true-true-clause-order
-returns-in-true-true-clause-order g c = λ apart p q. ap (λ o. Ok o) (both_default g.T.Shaped.shape g.T.DefaultValue.default_octets _ _ c.in-true-true.ensures c.in-true-true.ensures')
+returns-in-true-true-clause-order g c = λ apart p q. ap (λ o. Ok o) (both_default g.T.Shaped.shape g.T.DefaultValue.default_octets _ _ c.in-true-true.ensures.value c.in-true-true.ensures'.value)
 
 pub returns-in-true-false-clause-order : goal.returns-in-true-false-clause-order
-returns-in-true-false-clause-order g c = λ apart p q. ap (λ o. Ok o) (first_default g.T.Shaped.shape g.T.DefaultValue.default_octets _ _ c.in-true-false.ensures c.in-true-false.ensures' apart q)
+returns-in-true-false-clause-order g c = λ apart p q. ap (λ o. Ok o) (first_default g.T.Shaped.shape g.T.DefaultValue.default_octets _ _ c.in-true-false.ensures.value c.in-true-false.ensures'.value apart q)
 
 pub returns-in-false-true-clause-order : goal.returns-in-false-true-clause-order
-returns-in-false-true-clause-order g c = λ apart p q. ap (λ o. Ok o) (second_default g.T.Shaped.shape g.T.DefaultValue.default_octets _ _ c.in-false-true.ensures c.in-false-true.ensures' apart p)
+returns-in-false-true-clause-order g c = λ apart p q. ap (λ o. Ok o) (second_default g.T.Shaped.shape g.T.DefaultValue.default_octets _ _ c.in-false-true.ensures.value c.in-false-true.ensures'.value apart p)
 
 pub returns-in-false-false-clause-order : goal.returns-in-false-false-clause-order
 returns-in-false-false-clause-order g c =
@@ -25,7 +25,7 @@ returns-in-false-false-clause-order g c =
     let inner : P (g.T.Shaped.plain c.args.self.now.value) (g.T.Shaped.plain c.args.other.now.value) =
     let Q : Value s → Type 0 = λ v. P v (g.T.Shaped.plain c.args.other.now.value) in
     subst Q a (subst (P (g.T.Shaped.written c.args.self.now.value)) b c.der_cmp.ensures.order) in
-    neither_default g.T.Shaped.shape g.T.DefaultValue.default_octets _ _ c.der_cmp.result c.in-false-false.ensures c.in-false-false.ensures' inner
+    neither_default g.T.Shaped.shape g.T.DefaultValue.default_octets _ _ c.der_cmp.result c.in-false-false.ensures.value c.in-false-false.ensures'.value inner
 
 pub returns-in-false-false-clause-refused : goal.returns-in-false-false-clause-refused
 returns-in-false-false-clause-refused g c =
@@ -36,4 +36,4 @@ returns-in-false-false-clause-refused g c =
     let inner : P (g.T.Shaped.plain c.args.self.now.value) (g.T.Shaped.plain c.args.other.now.value) =
     let Q : Value s → Type 0 = λ v. P v (g.T.Shaped.plain c.args.other.now.value) in
     subst Q a (subst (P (g.T.Shaped.written c.args.self.now.value)) b c.der_cmp.ensures.refused) in
-    default_long g.T.Shaped.shape g.T.DefaultValue.default_octets _ _ c.der_cmp.result c.in-false-false.ensures c.in-false-false.ensures' inner
+    default_long g.T.Shaped.shape g.T.DefaultValue.default_octets _ _ c.der_cmp.result c.in-false-false.ensures.value c.in-false-false.ensures'.value inner
