@@ -24,7 +24,7 @@ use Rattle.der_core_head.specs.declared.tag.Tag.{Tag}
 use Rattle.der_core.proofs.TagOrders.{long_inside}
 use Rattle.der_core.specs.Orders.{octets_cmp, contents_cmp, bodies_cmp, Overflows}
 use Rattle.der_types_sets.specs.Level.{values_at}
-use Rattle.der_types_sets.specs.Lent.{Lent, IsLent, IsMisplaced, IsUnwritten, IsOverlong, members_lent}
+use Rattle.der_types_sets.specs.Lent.{Lent, IsLent, HasFalling, IsUnwritten, IsUncompared, members_spelled, members_lent}
 use Rattle.der_types_sets.proofs.Arrangements.{same_octets, turned}
 use Rattle.der_types_sets.proofs.LentWrites.{nothing_in, lent, size_values, spelled_octets}
 
@@ -86,11 +86,11 @@ pub or_memory : {P : Type 0} (k : ErrorKind) → (k ≢ kinds.OutOfMemory → P)
 or_memory kinds.OutOfMemory h = inl refl
 or_memory _ h = inr (h (λ q. absurd cc))
 
--- and of what was not written
-pub or_unwritten : {P : Type 0} (k : ErrorKind) → (k ≢ kinds.OutOfMemory → IsMisplaced k ⊎ P) → ((k ≡ kinds.OutOfMemory) ⊎ IsMisplaced k) ⊎ P
-or_unwritten {P} k h = go (or_memory k h)
+-- and of two others
+pub or_unwritten : {D P : Type 0} (k : ErrorKind) → (k ≢ kinds.OutOfMemory → D ⊎ P) → ((k ≡ kinds.OutOfMemory) ⊎ D) ⊎ P
+or_unwritten {D} {P} k h = go (or_memory k h)
   where
-    go : (k ≡ kinds.OutOfMemory) ⊎ (IsMisplaced k ⊎ P) → ((k ≡ kinds.OutOfMemory) ⊎ IsMisplaced k) ⊎ P
+    go : (k ≡ kinds.OutOfMemory) ⊎ (D ⊎ P) → ((k ≡ kinds.OutOfMemory) ⊎ D) ⊎ P
     go (inl m) = inl (inl m)
     go (inr (inl d)) = inl (inr d)
     go (inr (inr p)) = inr p
@@ -217,28 +217,45 @@ both_overflow s f l k e p q lo ko over =
       length = elim over.length [ inl m ↦ inl (sym first ∙ m) | inr m ↦ inr (sym second ∙ m) ];
     }
 
-pub overlong : {A : Type 0} (s : Shape) (f : A → Value s) (l : Lent A) (e : Error) → IsLent s f l → length l.octets ≡ 0 → IsOverlong (size_body (many s) (plain_list f l.values)) e → IsOverlong (size_body (many s) (members_lent s f l)) e
-overlong s f l e p lo (inl memory) = inl memory
-overlong s f l e p lo (inr over) = inr (over.0, sym (size_values s f l.values l.octets l.count p lo) ∙ over.1)
+get_more : {P : Type 0} (v w : List P) (i : ℕ) (x : P) → slice_get v i ≡ Some x → slice_get (v ++ w) i ≡ Some x
+get_more [] w i x e = absurd cc
+get_more (y ∷ v) w zero x e = e
+get_more (y ∷ v) w (suc i) x e = get_more v w i x e
 
-pub first_overlong : (e : Error) (m n : Result ℕ ErrorKind) → IsOverlong m e → IsUnwritten e ⊎ Overflows e m n
-first_overlong e m n (inl memory) = inl memory
-first_overlong e m n (inr over) = inr (record { kind = over.0; length = inl over.1 })
+falling_lent : {A : Type 0} (s : Shape) (f : A → Value s) (l : Lent A) (k : ErrorKind) → HasFalling s (plain_list f l.values) k → HasFalling s (members_lent s f l) k
+falling_lent s f l k h = record {
+  misplaced = h.misplaced;
+  index = h.index;
+  value = h.value;
+  here = get_more (plain_list f l.values) (members_spelled s l) h.index h.value h.here;
+  refused = h.refused;
+}
 
-pub second_overlong : (e : Error) (m n : Result ℕ ErrorKind) → IsOverlong n e → IsUnwritten e ⊎ Overflows e m n
-second_overlong e m n (inl memory) = inl memory
-second_overlong e m n (inr over) = inr (record { kind = over.0; length = inr over.1 })
+pub unwritten : {A : Type 0} (s : Shape) (f : A → Value s) (l : Lent A) (e : Error) → IsLent s f l → length l.octets ≡ 0 → IsUnwritten s (plain_list f l.values) e → IsUnwritten s (members_lent s f l) e
+unwritten s f l e p lo (inl (inl memory)) = inl (inl memory)
+unwritten s f l e p lo (inl (inr falling)) = inl (inr (falling_lent s f l e.kind falling))
+unwritten s f l e p lo (inr over) = inr (over.0, sym (size_values s f l.values l.octets l.count p lo) ∙ over.1)
+
+first_unwritten : (s : Shape) (v w : List (Value s)) (e : Error) → IsUnwritten s v e → IsUncompared s v w e ⊎ Overflows e (size_body (many s) v) (size_body (many s) w)
+first_unwritten s v w e (inl (inl memory)) = inl (inl memory)
+first_unwritten s v w e (inl (inr falling)) = inl (inr (inl falling))
+first_unwritten s v w e (inr over) = inr (record { kind = over.0; length = inl over.1 })
+
+pub second_unwritten : (s : Shape) (v w : List (Value s)) (e : Error) → IsUnwritten s w e → IsUncompared s v w e ⊎ Overflows e (size_body (many s) v) (size_body (many s) w)
+second_unwritten s v w e (inl (inl memory)) = inl (inl memory)
+second_unwritten s v w e (inl (inr falling)) = inl (inr (inr falling))
+second_unwritten s v w e (inr over) = inr (record { kind = over.0; length = inr over.1 })
 
 pub if_overflow : {A : Type 0} (s : Shape) (f : A → Value s) (l k : Lent A) (r : Result Ordering Error) → IsLent s f l → IsLent s f k → length l.octets ≡ 0 → length k.octets ≡ 0
     → IfErr r (λ e. Overflows e (size_body (many s) (plain_list f l.values)) (size_body (many s) (plain_list f k.values)))
-    → IfErr r (λ e. IsUnwritten e ⊎ Overflows e (size_body (many s) (members_lent s f l)) (size_body (many s) (members_lent s f k)))
+    → IfErr r (λ e. IsUncompared s (members_lent s f l) (members_lent s f k) e ⊎ Overflows e (size_body (many s) (members_lent s f l)) (size_body (many s) (members_lent s f k)))
 if_overflow s f l k (Ok o) p q lo ko h = h
 if_overflow s f l k (Err e) p q lo ko h = inr (both_overflow s f l k e p q lo ko h)
 
-pub if_first : {A : Type 0} (s : Shape) (f : A → Value s) (l : Lent A) (n : Result ℕ ErrorKind) (r : Result Ordering Error) → IsLent s f l → length l.octets ≡ 0
-    → IfErr r (IsOverlong (size_body (many s) (plain_list f l.values))) → IfErr r (λ e. IsUnwritten e ⊎ Overflows e (size_body (many s) (members_lent s f l)) n)
-if_first s f l n (Ok o) p lo h = h
-if_first s f l n (Err e) p lo h = first_overlong e (size_body (many s) (members_lent s f l)) n (overlong s f l e p lo h)
+pub if_first : {A : Type 0} (s : Shape) (f : A → Value s) (l : Lent A) (w : List (Value s)) (r : Result Ordering Error) → IsLent s f l → length l.octets ≡ 0
+    → IfErr r (IsUnwritten s (plain_list f l.values)) → IfErr r (λ e. IsUncompared s (members_lent s f l) w e ⊎ Overflows e (size_body (many s) (members_lent s f l)) (size_body (many s) w))
+if_first s f l w (Ok o) p lo h = h
+if_first s f l w (Err e) p lo h = first_unwritten s (members_lent s f l) w e (unwritten s f l e p lo h)
 
 -- The order of encodings
 
@@ -251,8 +268,8 @@ answered_as o m n h e = ap (λ x. Ok x) (sym e) ∙ h
 pub refused_as : (e : Error) (m n : Ordering) → Answers (Err e) m → Answers (Err e) n
 refused_as e m n h = λ memory. absurd (cc (h memory))
 
-pub inside_long : (t : Tag) (c : Content) (v w : ContentValue c) (e : Error) → IsUnwritten e ⊎ Overflows e (size_content c v) (size_content c w) → IsUnwritten e ⊎ Overflows e (size (tagged t c) v) (size (tagged t c) w)
-inside_long t c v w e (inl memory) = inl memory
+pub inside_long : {P : Type 0} (t : Tag) (c : Content) (v w : ContentValue c) (e : Error) → P ⊎ Overflows e (size_content c v) (size_content c w) → P ⊎ Overflows e (size (tagged t c) v) (size (tagged t c) w)
+inside_long t c v w e (inl other) = inl other
 inside_long t c v w e (inr over) = inr (long_inside t c v w e over)
 
 -- What is lent and what is owned

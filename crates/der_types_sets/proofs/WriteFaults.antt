@@ -14,7 +14,7 @@ use Rattle.der_core_head.specs.Tags.{tag_octets}
 use Rattle.der_core_head.specs.Heads.{head_octets, length_octets}
 use Rattle.der_core_head.specs.Leaves.{leaf_contents}
 use Rattle.der_core_head.specs.Shapes.{Shape, Content, Body, tagged, any, either, optional, defaulted, nothing, leaf, nested, done, field, only, many, exactly, rising, Value, ContentValue, BodyValue, octets_of}
-use Rattle.der_core_head.specs.Writing.{Out, put, put_head, head_len, sum_len, fit_len, tlv_len, both_len, many_len, default_len, size, size_content, size_body, write_tlv, write_many, all_follow, write_rising, default_write, write, write_content, write_body}
+use Rattle.der_core_head.specs.Writing.{Out, put, put_head, head_len, sum_len, fit_len, tlv_len, both_len, many_len, default_len, size, size_content, size_body, write_tlv, write_many, all_follow, default_write, write, write_content, write_body}
 use Rattle.der_core_head.proofs.Written.{out}
 use Rattle.der_types_sets.specs.Lent.{IsMisplaced}
 use Rattle.der_core.proofs.Sizes.{OnlyOverflows, sum_only, size_only, content_only, tlv_over, first_over, second_over, over_or}

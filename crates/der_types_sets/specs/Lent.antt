@@ -1,12 +1,13 @@
 -- What contracts see of a borrowed set: its members, lent as values or as the octets that spell them.
-use Rattle.std.specs.Prelude.{◌≡◌, ◌≢◌, ℕ, ◌<◌, List, [], ◌++◌, length, Option, Result, Err, MatchOption, MatchResult, refl, ◌∷◌, ◌⊎◌}
+use Rattle.std.specs.Prelude.{◌≡◌, ◌≢◌, ℕ, ◌<◌, List, [], ◌++◌, length, slice_get, Option, None, Some, false, Result, Err, MatchOption, MatchResult, refl, ◌∷◌, ◌⊎◌}
 use Rattle.std.specs.Coded.{Coded, code_by, coded×, coded_list, coded_ℕ}
 use Rattle.der_core_head.specs.declared.error.Error.{Error}
 use Rattle.der_core_head.specs.declared.error.ErrorKind.{ErrorKind}
 use Rattle.der_core_head.specs.declared.error.ErrorKind.TheVariants as kinds
 use Rattle.der_core_head.specs.Heads.{Fits}
-use Rattle.der_core_head.specs.Shapes.{Shape, Value}
+use Rattle.der_core_head.specs.Shapes.{Shape, Value, many}
 use Rattle.der_core_head.specs.Grammar.{read, plain_list}
+use Rattle.der_core_head.specs.Writing.{size_body, write}
 use Rattle.der_types_sets.specs.Sets.{Ascends}
 use Rattle.der_types_sets.specs.Level.{NeverDescends, values_at}
 
@@ -53,13 +54,21 @@ IsWantOfMemory e = e.kind ≡ kinds.OutOfMemory
 abbrev pub IsMisplaced : ErrorKind → Type 0
 IsMisplaced k = (k ≡ kinds.SetOrdering) ⊎ (k ≡ kinds.SetDuplicate)
 
--- A value was not written: for want of memory, or since a strict set in it doesn't rise.
-abbrev pub IsUnwritten : Error → Type 0
-IsUnwritten e = IsWantOfMemory e ⊎ IsMisplaced e.kind
+-- One of the values is refused where it is written, since a strict set in it doesn't rise.
+pub record HasFalling (s : Shape) (v : List (Value s)) (k : ErrorKind) : Type 0 where
+  pub misplaced : IsMisplaced k
+  pub index : ℕ
+  pub value : Value s
+  pub here : slice_get v index ≡ Some value
+  pub refused : write s value (record { written = []; room = None; failed = false }) ≡ Err k
 
--- That, or a length passes what a length can count.
-abbrev pub IsOverlong : Result ℕ ErrorKind → Error → Type 0
-IsOverlong n e = IsUnwritten e ⊎ ((e.kind ≡ kinds.Overflow) × (n ≡ Err kinds.Overflow))
+-- The values were not written: for want of memory, since one of them has such a set, or since a length passes what a length can count.
+abbrev pub IsUnwritten : (s : Shape) → List (Value s) → Error → Type 0
+IsUnwritten s v e = (IsWantOfMemory e ⊎ HasFalling s v e.kind) ⊎ ((e.kind ≡ kinds.Overflow) × (size_body (many s) v ≡ Err kinds.Overflow))
+
+-- There was no memory, or one of the values of two lists has such a set.
+abbrev pub IsUncompared : (s : Shape) → List (Value s) → List (Value s) → Error → Type 0
+IsUncompared s v w e = IsWantOfMemory e ⊎ (HasFalling s v e.kind ⊎ HasFalling s w e.kind)
 
 -- A call from l gave the first member and left the others, or gave None where nothing was left. Where there was no memory it left nothing.
 abbrev pub YieldsMember : {A : Type 0} (s : Shape) → (A → Value s) → Lent A → Option (Result A Error) → Lent A → Type 0

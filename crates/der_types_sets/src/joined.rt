@@ -4,9 +4,8 @@ ghost use Rattle.std.specs.Prelude.{◌≡◌, Ok, Err, IfErr};
 ghost use Rattle.der_core_head.specs.Shapes.{many, IsBody, body_octets};
 ghost use Rattle.der_core_head.specs.Grammar.{plain_list};
 ghost use Rattle.der_core_head.specs.Reading.{Gives};
-ghost use Rattle.der_core_head.specs.Writing.{size_body};
 ghost use Rattle.der_core.specs.Orders.{octets_cmp};
-ghost use Rattle.der_types_sets.specs.Lent.{IsOverlong};
+ghost use Rattle.der_types_sets.specs.Lent.{IsUnwritten};
 
 use der_core::{Encode, Error};
 use std::alloc::Global;
@@ -24,7 +23,7 @@ pub(crate) fn joined_cmp<T: Encode>(
 ) -> Result<Ordering, Error>
     // It is answered wherever the values have encodings, unless memory runs out.
     ensures order { IsBody (many T.shape) (plain_list T.written values.now) → Gives (λ o. o) result (Ok (octets_cmp (body_octets (many T.shape) (plain_list T.written values.now)) octets.now)) }
-    ensures refused { IfErr result (IsOverlong (size_body (many T.shape) (plain_list T.written values.now))) }
+    ensures refused { IfErr result (IsUnwritten T.shape (plain_list T.written values.now)) }
 {
     let mut left = octets;
     let mut encoding = Vec::new(alloc);

@@ -10,7 +10,7 @@ ghost use Rattle.der_core_head.specs.Writing.{size, size_body};
 ghost use Rattle.der_core.specs.Orders.{contents_cmp, encodings_cmp, Overflows};
 ghost use Rattle.der_types_sets.specs.Sets.{Ascends, IsOutOfOrder, TooLong};
 ghost use Rattle.der_types_sets.specs.Level.{NeverDescends, level_content};
-ghost use Rattle.der_types_sets.specs.Lent.{members_lent, IsWantOfMemory, IsUnwritten};
+ghost use Rattle.der_types_sets.specs.Lent.{members_lent, IsWantOfMemory, IsUncompared};
 
 use crate::joined::joined_cmp;
 use crate::level::count_level;
@@ -262,7 +262,7 @@ impl<'a, T: DerOrd + Encode> SetOfRef<'a, T> {
         // It is answered wherever both sets have a content, unless memory runs out.
         ensures order { is_body_apart (many T.shape) ≡ true → IsContent (nested (many T.shape)) (members_lent T.shape T.written self.now) → IsContent (nested (many T.shape)) (members_lent T.shape T.written other.now)
             → Gives (λ o. o) result (Ok (contents_cmp (nested (many T.shape)) (members_lent T.shape T.written self.now) (members_lent T.shape T.written other.now))) }
-        ensures refused { IfErr result (λ e. IsUnwritten e ⊎ Overflows e (size_body (many T.shape) (members_lent T.shape T.written self.now)) (size_body (many T.shape) (members_lent T.shape T.written other.now))) }
+        ensures refused { IfErr result (λ e. IsUncompared T.shape (members_lent T.shape T.written self.now) (members_lent T.shape T.written other.now) e ⊎ Overflows e (size_body (many T.shape) (members_lent T.shape T.written self.now)) (size_body (many T.shape) (members_lent T.shape T.written other.now))) }
     {
         if self.octets.is_empty() {
             if other.octets.is_empty() {
@@ -287,7 +287,7 @@ impl<'a, T: DerOrd + Encode> SetOfRef<'a, T> {
         // It is answered wherever both sets have an encoding, unless memory runs out.
         ensures order { is_body_apart (many T.shape) ≡ true → IsValid (tagged Set (nested (many T.shape))) (members_lent T.shape T.written self.now) → IsValid (tagged Set (nested (many T.shape))) (members_lent T.shape T.written other.now)
             → Gives (λ o. o) result (Ok (encodings_cmp (tagged Set (nested (many T.shape))) (members_lent T.shape T.written self.now) (members_lent T.shape T.written other.now))) }
-        ensures refused { IfErr result (λ e. IsUnwritten e ⊎ Overflows e (size (tagged Set (nested (many T.shape))) (members_lent T.shape T.written self.now)) (size (tagged Set (nested (many T.shape))) (members_lent T.shape T.written other.now))) }
+        ensures refused { IfErr result (λ e. IsUncompared T.shape (members_lent T.shape T.written self.now) (members_lent T.shape T.written other.now) e ⊎ Overflows e (size (tagged Set (nested (many T.shape))) (members_lent T.shape T.written self.now)) (size (tagged Set (nested (many T.shape))) (members_lent T.shape T.written other.now))) }
     {
         let len = self.value_len()?;
         let other_len = other.value_len()?;

@@ -35,7 +35,7 @@ returns-in_err-encode-clause-refused g c =
     rw (p.1, p.2)
     (or_unwritten c.in_err-encode.field-0.0.kind (λ memory.
     elim (write_faults s (f x) c.in_err-encode.field-0.0.kind (refused (λ _. memory))) [
-      | inl misplaced ↦ inl misplaced
+      | inl misplaced ↦ inl (record { misplaced = misplaced; index = i; value = f x; here = plain-at f v i x c.loop-value-test.true c.value-item.is; refused = refused (λ _. memory) })
       | inr over ↦ inr (over.0, many_over (size s) (size_only s) (plain_list f v) 0 i (f x) (plain-at f v i x c.loop-value-test.true c.value-item.is) over.1)
     ]))
 

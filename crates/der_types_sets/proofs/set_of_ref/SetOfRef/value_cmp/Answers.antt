@@ -2,7 +2,7 @@ use Rattle.std.proofs.Common.{sym, ◌∙◌}
 use Rattle.std.proofs.lemmas.Bool.{eqb-true}
 use Rattle.std.proofs.lemmas.Result.{err_from_is_err_and}
 use Rattle.der_types_sets.proofs.LentWrites.{some_at}
-use Rattle.der_types_sets.proofs.LentOrders.{both_values, values_octets, octets_values, octets_values_fault, both_octets, if_overflow, overlong, second_overlong, if_first}
+use Rattle.der_types_sets.proofs.LentOrders.{both_values, values_octets, octets_values, octets_values_fault, both_octets, if_overflow, unwritten, second_unwritten, if_first}
 use Rattle.der_types_sets.proofs.set_of_ref.SetOfRef.value_cmp.Goals as goal
 
 pub returns-then-is_empty-2-clause-order : goal.returns-then-is_empty-2-clause-order
@@ -37,7 +37,7 @@ returns-in_err-order-clause-refused g c =
     let s = g.T.Shaped.shape in
     let f = g.T.Shaped.written in
     let p = err_from_is_err_and c.from_residual.result c.from_residual.ensures.1 in
-    rw (p.1, p.2, ← c.self.view_is, ← c.other.view_is) (second_overlong c.in_err-order.field-0.0 _ _ (overlong s f _ c.in_err-order.field-0.0 c.other.invariant (eqb-true _ 0 (sym c.is_empty-2.ensures ∙ c.if-is_empty-3.true)) c.in_err-order.ensures.refused))
+    rw (p.1, p.2, ← c.self.view_is, ← c.other.view_is) (second_unwritten s _ _ c.in_err-order.field-0.0 (unwritten s f _ c.in_err-order.field-0.0 c.other.invariant (eqb-true _ 0 (sym c.is_empty-2.ensures ∙ c.if-is_empty-3.true)) c.in_err-order.ensures.refused))
 
 pub returns-then-is_empty-3-clause-order : goal.returns-then-is_empty-3-clause-order
 returns-then-is_empty-3-clause-order g c =
