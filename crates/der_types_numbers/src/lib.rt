@@ -3,6 +3,7 @@
 
 mod elements;
 mod fewest;
+mod in_range;
 mod int;
 mod int_ref;
 pub mod laws;

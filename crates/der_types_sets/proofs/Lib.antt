@@ -9,4 +9,5 @@ pub mod LentWrites
 pub mod LentOwned
 pub mod WriteFaults
 pub mod LentOrders
+pub mod LentRanges
 pub mod ViewSteps

@@ -2,6 +2,7 @@
 #![tactic(auto)]
 
 mod any_order;
+mod in_range;
 mod iter;
 mod joined;
 pub mod laws;

@@ -18,10 +18,10 @@ use crate::members::{encode_members, members_len};
 use crate::places::check_ascending;
 use crate::set_of_ref_iter::SetOfRefIter;
 use crate::set_of_vec::SetOfVec;
-use der_core::making::elements_cmp;
+use der_core::making::{elements_cmp, list_in_range};
 use der_core::{
-    AsRead, Decode, DerOrd, Encode, EncodeValue, Error, FixedTag, Header, Length, Member, Reader,
-    Shaped, ShapedValue, SliceReader, Tag, Writer, length_cmp,
+    AsRead, Decode, DerOrd, Encode, EncodeValue, Error, FixedTag, Header, InRange, InRangeValue,
+    Length, Member, Reader, Shaped, ShapedValue, SliceReader, Tag, Writer, length_cmp,
 };
 use std::alloc::{AllocError, Global};
 use std::cmp::Ordering;
@@ -248,6 +248,12 @@ impl<'a, T: Encode> EncodeValue for SetOfRef<'a, T> {
             return encode_members(self.values, writer);
         }
         writer.write(self.octets)
+    }
+}
+
+impl<'a, T: InRange> InRangeValue for SetOfRef<'a, T> {
+    fn value_in_range(&self) {
+        list_in_range(self.values);
     }
 }
 

@@ -5,6 +5,7 @@ mod date_text;
 mod date_time;
 mod elements;
 mod generalized_time;
+mod in_range;
 pub mod laws;
 mod utc_time;
 

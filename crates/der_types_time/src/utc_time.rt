@@ -69,9 +69,10 @@ impl UtcTime {
         Ok(UtcTime { date_time })
     }
 
-    /// The date.
+    /// The date, to 2049.
     pub fn to_date_time(&self) -> DateTime
-        ensures { result ≡ self.now }
+        ensures date { result ≡ self.now }
+        ensures years { result.year ≤ 2049 }
     {
         self.date_time
     }

@@ -10,6 +10,7 @@ mod bit_string_ref;
 mod bits;
 mod elements;
 mod flag_set;
+mod in_range;
 pub mod laws;
 mod null;
 mod octet_string;

@@ -1,0 +1,53 @@
+//! The values of each type are in range: contents are octets, unused bits zero, and set bits named.
+
+ghost use Rattle.std.specs.Prelude.{◌≡◌};
+
+use crate::bit_string::BitString;
+use crate::bit_string_ref::{AsBitStringRef, BitStringRef};
+use crate::flag_set::{FlagSet, NamedBits};
+use crate::null::Null;
+use crate::octet_string::OctetString;
+use crate::octet_string_ref::OctetStringRef;
+use crate::sequence_ref::SequenceRef;
+use der_core::InRangeValue;
+use der_core::making::octets_in_range;
+
+impl<'a> InRangeValue for BitStringRef<'a> {
+    fn value_in_range(&self) {
+        octets_in_range(self.raw_bytes());
+    }
+}
+
+impl InRangeValue for BitString {
+    fn value_in_range(&self) {
+        self.as_bit_string_ref().value_in_range();
+    }
+}
+
+impl<F: NamedBits> InRangeValue for FlagSet<F> {
+    fn value_in_range(&self) {
+        let _set = *self;
+    }
+}
+
+impl InRangeValue for Null {
+    fn value_in_range(&self) {}
+}
+
+impl<'a> InRangeValue for OctetStringRef<'a> {
+    fn value_in_range(&self) {
+        octets_in_range(self.as_bytes());
+    }
+}
+
+impl InRangeValue for OctetString {
+    fn value_in_range(&self) {
+        octets_in_range(self.as_bytes());
+    }
+}
+
+impl<'a> InRangeValue for SequenceRef<'a> {
+    fn value_in_range(&self) {
+        octets_in_range(self.as_bytes());
+    }
+}
