@@ -7,7 +7,7 @@ use Rattle.der_core_head.specs.declared.tag.Tag.{Tag}
 use Rattle.der_core_head.specs.Texts.{any_octet, is_within, text_read}
 use Rattle.der_core_head.proofs.Results.{fine}
 
-all_within : (w : List ℕ) → list_all (is_within any_octet) w ≡ true
+pub all_within : (w : List ℕ) → list_all (is_within any_octet) w ≡ true
 all_within [] = refl
 all_within (b ∷ w) = all_within w
 

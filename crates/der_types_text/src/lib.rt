@@ -10,6 +10,7 @@ mod bmp_string;
 mod elements;
 mod general_string;
 mod ia5_string;
+mod in_range;
 pub mod laws;
 mod printable_string;
 mod teletex_string;
