@@ -4,7 +4,8 @@
 
 pub use der_types_any::laws::any_forms_agree;
 pub use der_types_numbers::laws::{
-    integer_forms_agree, integers_answer_alike, natural_forms_agree, naturals_answer_alike,
+    NumberAnswers, integer_forms_agree, integers_answer_alike, natural_forms_agree,
+    naturals_answer_alike,
 };
 pub use der_types_sets::laws::{borrowed_and_owned_agree, order_of_insertions};
 pub use der_types_tagged::laws::{others_are_absent, written_is_read_back};
@@ -18,5 +19,6 @@ pub use der_types_text::laws::{
 };
 pub use der_types_time::laws::{one_date_by_seconds, one_date_by_text, order_is_that_of_seconds};
 pub use der_types_values::laws::{
-    bit_forms_agree, bits_answer_alike, octet_forms_agree, octets_answer_alike,
+    BitAnswers, OctetAnswers, bit_forms_agree, bits_answer_alike, octet_forms_agree,
+    octets_answer_alike,
 };

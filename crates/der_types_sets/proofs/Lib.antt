@@ -11,3 +11,4 @@ pub mod WriteFaults
 pub mod LentOrders
 pub mod LentRanges
 pub mod ViewSteps
+pub mod ItemSteps

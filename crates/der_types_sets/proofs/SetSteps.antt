@@ -101,6 +101,11 @@ too_long_part {A} s f old xs end y e same lt here t =
           t.some (valid_at s f xs end y lt here now, recursion_from_All V (take end xs) (All-take V end xs (All-from_recursion V xs now)));
     }
 
+pub too_long_moved : {A : Type 0} (s : Shape) (f : A → Value s) (old xs : List A) (e : Error) → IsPermutation old xs → TooLong s f xs e → TooLong s f old e
+too_long_moved {A} s f old xs e same t =
+    let V : A → Type 0 = λ x. IsValid s (f x) in
+    record { kind = t.kind; some = λ all. t.some (recursion_from_All V xs (All-permutation V old xs same (All-from_recursion V old all))) }
+
 -- Members of which one is below the one before it
 
 ascends-at : {A : Type 0} (s : Shape) (f : A → Value s) (xs : List A) (k : ℕ) (x y : A) → suc k < length xs → x ≡ get_or xs k x → y ≡ get_or xs (suc k) y → Ascends s f xs → NotAbove s f x y

@@ -6,6 +6,7 @@ ghost use Rattle.std.specs.List.Sorted.{IsPermutation};
 ghost use Rattle.der_types_sets.specs.Sets.{Ascends, IsPlace, TooLong, IsBelowLast, IsOutOfOrder};
 
 use der_core::{DerOrd, Error, ErrorKind, Member};
+use std::alloc::{AllocError, Global};
 use std::cmp::Ordering;
 
 /// The place of an item among members that ascend, behind those that are not above it.
@@ -63,6 +64,43 @@ pub(crate) fn check_ascending<T: DerOrd + Member>(members: &[T]) -> Result<(), E
         check_last(&members[..end], &members[end])?;
     }
     Ok(())
+}
+
+/// The order of the encodings of two members, where they have one.
+fn order_of<T: DerOrd + Member>(member: &T, other: &T) -> Ordering {
+    match member.der_cmp(other) {
+        Ok(order) => order,
+        Err(_) => Ordering::Equal,
+    }
+}
+
+/// Brings members into ascending order as far as their encodings can be compared, equal ones in
+/// the order in which they stand. It asks for memory once, for more than 20 members that neither
+/// rise nor fall, and moves none where there is none.
+fn sort<T: DerOrd + Member>(alloc: Global, members: &mut [T])
+    ensures { IsPermutation members.old members.new }
+{
+    match members.sort_by(alloc, |member, other| order_of(member, other)) {
+        Ok(()) | Err(AllocError) => {}
+    }
+}
+
+/// Brings members into ascending order, with n log n comparisons and moves where there is memory
+/// for a sort, and with n log n comparisons alone where there is none.
+///
+/// # Errors
+/// `Overflow` where an encoding has 2^32 octets or more.
+pub(crate) fn arrange_all<T: DerOrd + Member>(alloc: Global, members: &mut [T]) -> Result<(), Error>
+    ensures same { IsPermutation members.old members.new }
+    ensures ok { OnOk result (Ascends T.shape T.written members.new) }
+    ensures refused { IfErr result (TooLong T.shape T.written members.old) }
+{
+    if check_ascending(members).is_ok() {
+        return Ok(());
+    }
+    sort(alloc, members);
+    // Members that are in order already stay where they are.
+    arrange(members)
 }
 
 /// Moves the last item to a place, and the items from there on up.

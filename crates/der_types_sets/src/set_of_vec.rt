@@ -17,7 +17,7 @@ ghost use Rattle.std.specs.Iterator.{IsFinite, ExtendsWithItems, Drains};
 
 use crate::any_order::AnyOrder;
 use crate::iter::SetOfIter;
-use crate::places::{arrange, check_last, place_of};
+use crate::places::{arrange_all, check_last, place_of};
 use crate::set_of_ref::SetOfRef;
 use der_core::making::elements_cmp;
 use der_core::{
@@ -183,15 +183,18 @@ impl<T: DerOrd + Member + Drop> SetOfVec<T> {
 
     /// The set of these members, in ascending order.
     ///
+    /// It takes n log n comparisons, and as many moves where there is memory for a sort.
+    ///
     /// # Errors
-    /// `Overflow` where an encoding has 2^32 octets or more. No memory is taken.
+    /// `Overflow` where an encoding has 2^32 octets or more; never `OutOfMemory`.
     pub fn from_vec(members: Vec<T>) -> Result<SetOfVec<T>, Error>
         ensures ok { IfOk result (IsPermutation members.items) }
         ensures ascend { IfOk result (Ascends T.shape T.written) }
         ensures refused { IfErr result (TooLong T.shape T.written members.items) }
     {
         let mut members = members;
-        arrange(members.as_mut_slice())?;
+        let alloc = *members.allocator();
+        arrange_all(alloc, members.as_mut_slice())?;
         Ok(SetOfVec { members })
     }
 
@@ -223,8 +226,11 @@ impl<T: DerOrd + Member + Drop> SetOfVec<T> {
         ensures ran { IfOk result (λ set. (it : I.IntoIter) × (xs : List T) × I.into_iter_gives items it × Drains I.IntoIter.next_gives it xs × Gains [] xs set) }
         ensures refused { IfErr result (λ e. (set : List T) × StopsAt T.shape T.written I.into_iter_gives I.IntoIter.next_gives items [] set e) }
     {
-        let mut set = SetOfVec::new(alloc);
-        set.extend(items)?;
+        let mut members = Vec::new(alloc);
+        for item in items {
+            members.push(item)?;
+        }
+        let set = SetOfVec::from_vec(members)?;
         Ok(set)
     }
 }
@@ -415,7 +421,7 @@ impl<T: Shaped + Hash> Hash for SetOfVec<T> {
     }
 }
 
-/// These members, in ascending order. No memory is taken.
+/// These members, in ascending order, as `from_vec` answers.
 ///
 /// # Errors
 /// `Overflow` where an encoding has 2^32 octets or more.
