@@ -1,0 +1,142 @@
+-- The parts of certificates (RFC 5280 4.1, 4.1.1.2, 4.1.2). A shape that holds an identifier takes the bound of arcs. A serial
+-- number takes the greatest number of content octets that its profile reads, if there is such a number.
+use Rattle.std.specs.Prelude.{ℕ, List, [], ◌∷◌, Bool, Option, Some, None}
+use Rattle.std.proofs.Common.{inl, inr}
+use Rattle.der_core_head.specs.declared.tag.Tag.TheVariants as tags
+use Rattle.der_core_head.specs.BitStrings.{Bits}
+use Rattle.der_core_head.specs.Dates.{Civil}
+use Rattle.der_core_head.specs.Integers.{Numbers, every, within, among}
+use Rattle.der_core_head.specs.Leaves.{boolean, integer, bits, octets, identifier, utc_time, generalized_time}
+use Rattle.der_core_head.specs.Shapes.{Shape, Body, Value, BodyValue, AnyValue, tagged, any, leaf, either, optional, defaulted, field, done, sequence, sequence_of, explicit}
+
+-- OBJECT IDENTIFIER, of at most 39 octets
+abbrev pub object_identifier : ℕ → Shape
+object_identifier bound = tagged tags.ObjectIdentifier (leaf (identifier bound 39))
+
+abbrev pub bit_string : Shape
+bit_string = tagged tags.BitString (leaf bits)
+
+abbrev pub octet_string : Shape
+octet_string = tagged tags.OctetString (leaf octets)
+
+-- AlgorithmIdentifier ::= SEQUENCE { algorithm OBJECT IDENTIFIER, parameters ANY OPTIONAL } (4.1.1.2)
+abbrev pub algorithm_fields : ℕ → Body
+algorithm_fields bound = field (object_identifier bound) (field (optional any) done)
+
+abbrev pub algorithm_identifier : ℕ → Shape
+algorithm_identifier bound = sequence (algorithm_fields bound)
+
+-- SubjectPublicKeyInfo ::= SEQUENCE { algorithm AlgorithmIdentifier, subjectPublicKey BIT STRING } (4.1.2.7)
+abbrev pub public_key_fields : ℕ → Body
+public_key_fields bound = field (algorithm_identifier bound) (field bit_string done)
+
+abbrev pub public_key_info : ℕ → Shape
+public_key_info bound = sequence (public_key_fields bound)
+
+-- Version ::= INTEGER { v1(0), v2(1), v3(2) } (4.1.2.1)
+abbrev pub version_numbers : Numbers
+version_numbers = among (0 ∷ 1 ∷ 2 ∷ [])
+
+abbrev pub version : Shape
+version = tagged tags.Integer (leaf (integer version_numbers))
+
+-- the octets of [0] EXPLICIT Version for v1, which never stand
+abbrev pub first_version_octets : List ℕ
+first_version_octets = 160 ∷ 3 ∷ 2 ∷ 1 ∷ 0 ∷ []
+
+-- [0] EXPLICIT Version DEFAULT v1
+abbrev pub version_field : Shape
+version_field = defaulted (explicit 0 version) first_version_octets
+
+-- the numbers of at most so many content octets, or all
+abbrev pub numbers_within : Option ℕ → Numbers
+numbers_within None = every
+numbers_within (Some n) = within n
+
+-- CertificateSerialNumber ::= INTEGER (4.1.2.2)
+abbrev pub serial_number : Option ℕ → Shape
+serial_number limit = tagged tags.Integer (leaf (integer (numbers_within limit)))
+
+-- Time ::= CHOICE { utcTime UTCTime, generalTime GeneralizedTime } (4.1.2.5)
+abbrev pub time : Shape
+time = either (tagged tags.UtcTime (leaf utc_time)) (tagged tags.GeneralizedTime (leaf generalized_time))
+
+-- Validity ::= SEQUENCE { notBefore Time, notAfter Time } (4.1.2.5)
+abbrev pub validity_fields : Body
+validity_fields = field time (field time done)
+
+abbrev pub validity : Shape
+validity = sequence validity_fields
+
+-- UniqueIdentifier ::= BIT STRING (4.1.2.8)
+abbrev pub unique_identifier : Shape
+unique_identifier = bit_string
+
+-- BOOLEAN DEFAULT FALSE
+abbrev pub false_by_default : Shape
+false_by_default = defaulted (tagged tags.Boolean (leaf boolean)) (1 ∷ 1 ∷ 0 ∷ [])
+
+-- Extension ::= SEQUENCE { extnID OBJECT IDENTIFIER, critical BOOLEAN DEFAULT FALSE, extnValue OCTET STRING } (4.1, 4.2)
+abbrev pub extension_fields : ℕ → Body
+extension_fields bound = field (object_identifier bound) (field false_by_default (field octet_string done))
+
+abbrev pub extension : ℕ → Shape
+extension bound = sequence (extension_fields bound)
+
+-- Extensions ::= SEQUENCE OF Extension; an empty one is read too
+abbrev pub extensions : ℕ → Shape
+extensions bound = sequence_of (extension bound)
+
+-- Plain values, and their parts by name. Neither the bound nor the profile changes what they are.
+abbrev pub Algorithm : Type 0
+Algorithm = Value (algorithm_identifier 0)
+
+-- the arcs of the identifier
+abbrev pub algorithm_arcs : Algorithm → List ℕ
+algorithm_arcs a = a.0
+
+abbrev pub algorithm_parameters : Algorithm → Option AnyValue
+algorithm_parameters a = a.1.0
+
+-- an algorithm of these arcs, without parameters
+abbrev pub plain_algorithm : List ℕ → Algorithm
+plain_algorithm arcs = (arcs, (None, tt))
+
+abbrev pub PublicKey : Type 0
+PublicKey = Value (public_key_info 0)
+
+abbrev pub key_algorithm : PublicKey → Algorithm
+key_algorithm k = k.0
+
+abbrev pub key_bits : PublicKey → Bits
+key_bits k = k.1.0
+
+-- a date and its spelling
+abbrev pub PlainTime : Type 0
+PlainTime = Value time
+
+abbrev pub civil_of : PlainTime → Civil
+civil_of (inl c) = c
+civil_of (inr c) = c
+
+abbrev pub PlainValidity : Type 0
+PlainValidity = BodyValue validity_fields
+
+abbrev pub not_before : PlainValidity → PlainTime
+not_before v = v.0
+
+abbrev pub not_after : PlainValidity → PlainTime
+not_after v = v.1.0
+
+abbrev pub PlainExtension : Type 0
+PlainExtension = Value (extension 0)
+
+-- the arcs of the identifier
+abbrev pub extension_arcs : PlainExtension → List ℕ
+extension_arcs e = e.0
+
+abbrev pub is_critical : PlainExtension → Bool
+is_critical e = e.1.0
+
+abbrev pub extension_octets : PlainExtension → List ℕ
+extension_octets e = e.1.1.0
