@@ -44,6 +44,11 @@ impl GeneralizedTime {
     /// The number of content octets.
     pub const LENGTH: usize = 15;
 
+    /// 9999-12-31T23:59:59Z, the last time, which RFC 5280 4.1.2.5 takes for a certificate without an end.
+    pub const INFINITY: GeneralizedTime = GeneralizedTime {
+        date_time: DateTime::INFINITY,
+    };
+
     /// The time of a date.
     pub fn from_date_time(date_time: DateTime) -> GeneralizedTime
         ensures { result ≡ date_time }

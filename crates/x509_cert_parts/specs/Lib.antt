@@ -1,2 +1,5 @@
 pub mod Grammar
 pub mod Respelling
+pub mod SerialNumbers
+pub mod Times
+pub mod Views

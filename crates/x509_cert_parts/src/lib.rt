@@ -1,9 +1,25 @@
-//! The parts of certificates (RFC 5280).
+//! The parts of certificates (RFC 5280 4.1): algorithms, keys, versions, extensions, serial numbers, dates, and the
+//! profiles by which certificates are read and written.
 #![tactic(auto)]
 
-use der_core_head::Tag;
+mod algorithm_identifier;
+mod algorithm_identifier_ref;
+mod extension;
+mod profile;
+mod serial_number;
+mod subject_public_key_info;
+mod subject_public_key_info_ref;
+mod time;
+mod validity;
+mod version;
 
-/// A tag.
-pub fn a_tag() -> Tag {
-    Tag::Sequence
-}
+pub use algorithm_identifier::AlgorithmIdentifier;
+pub use algorithm_identifier_ref::AlgorithmIdentifierRef;
+pub use extension::{Extension, Extensions};
+pub use profile::{Profile, Raw, Rfc5280};
+pub use serial_number::SerialNumber;
+pub use subject_public_key_info::SubjectPublicKeyInfo;
+pub use subject_public_key_info_ref::SubjectPublicKeyInfoRef;
+pub use time::Time;
+pub use validity::Validity;
+pub use version::Version;

@@ -1,0 +1,32 @@
+-- Serial numbers (RFC 5280 4.1.2.2): what contracts see of them, how they are made, and how they are printed.
+use Rattle.std.specs.Prelude.{ℕ, ℤ, pos, ◌+◌, ◌/◌, ◌%◌, List, [], ◌∷◌, ◌++◌, length, nat_lt, Result, Ok, Err, if◌then◌else◌}
+use Rattle.std.specs.List.{flat_map}
+use Rattle.der_core_head.specs.declared.error.ErrorKind.{ErrorKind}
+use Rattle.der_core_head.specs.declared.error.ErrorKind.TheVariants as kinds
+use Rattle.der_core_head.specs.Integers.{integer_octets}
+use Rattle.der_core_head.specs.Octets.{◌>>=◌}
+use Rattle.der_types_numbers.specs.Numbers.{unsigned_number}
+use Rattle.x509_cert_parts.specs.declared.serial_number.SerialNumber.TheInside.{Inside}
+
+abbrev pub serial_kept : {P : Type 0} → Inside P → ℤ
+serial_kept n = n.inner
+
+-- a number that isn't negative, of at most 20 content octets
+unfoldable pub new_serial : List ℕ → Result ℤ ErrorKind
+new_serial w = unsigned_number w >>= λ n. if nat_lt 20 (length (integer_octets (pos n))) then Err kinds.Overlength else Ok (pos n)
+
+-- a digit in base 16, as 0 to 9 or A to F
+abbrev pub hex_digit : ℕ → ℕ
+hex_digit d = if nat_lt d 10 then 48 + d else 55 + d
+
+abbrev pub hex_pair : ℕ → List ℕ
+hex_pair o = hex_digit (o / 16) ∷ hex_digit (o % 16) ∷ []
+
+-- a colon and a pair
+abbrev pub colon_pair : ℕ → List ℕ
+colon_pair o = 58 ∷ hex_pair o
+
+-- octets as pairs of digits, joined by colons
+abbrev pub colon_pairs : List ℕ → List ℕ
+colon_pairs [] = []
+colon_pairs (o ∷ w) = hex_pair o ++ flat_map colon_pair w

@@ -1,0 +1,24 @@
+-- The time of a date, and of a text.
+use Rattle.std.specs.Prelude.{◌≡◌, ◌≢◌, ℕ, List, true, Result, Ok, Err}
+use Rattle.std.proofs.Common.{inr}
+use Rattle.der_core_head.specs.declared.error.Error.{Error}
+use Rattle.der_core_head.specs.declared.error.ErrorKind.TheVariants as kinds
+use Rattle.der_core_head.specs.Dates.{Civil, is_civil}
+use Rattle.der_types_time.specs.DateTexts.{date_text}
+use Rattle.x509_cert_parts.specs.Grammar.{PlainTime}
+use Rattle.x509_cert_parts.specs.Respelling.{respelled}
+use Rattle.x509_cert_parts.specs.Views.{time_value, time_date}
+use Rattle.x509_cert_parts.specs.declared.time.Time.{Time}
+
+-- a date as a certificate spells it (RFC 5280 4.1.2.5)
+abbrev pub time_of : Civil → PlainTime
+time_of c = respelled (inr c)
+
+-- 9999-12-31T23:59:59Z, the end of a certificate that has none
+abbrev pub without_end : PlainTime
+without_end = inr (record { year = 9999; month = 12; day = 31; hour = 23; minute = 59; second = 59 })
+
+-- what reading a text answers: the time of its date, or that it is the text of no date
+abbrev pub ReadsTime : List ℕ → Result Time Error → Type 0
+ReadsTime text (Ok t) = (text ≡ date_text (time_date t)) × (time_value t ≡ time_of (time_date t))
+ReadsTime text (Err e) = (e.kind ≡ kinds.DateTime) × ((c : Civil) → is_civil c ≡ true → text ≢ date_text c)

@@ -1,0 +1,139 @@
+//! AlgorithmIdentifier.
+
+ghost use Rattle.std.specs.Prelude.{◌≡◌, refl, IfOk};
+ghost use Rattle.der_core_head.specs.declared.tag.Tag.TheVariants.{Sequence};
+ghost use Rattle.der_core_head.specs.Shapes.{nested};
+ghost use Rattle.x509_cert_parts.specs.Grammar.{algorithm_fields};
+ghost use Rattle.x509_cert_parts.specs.Views.{arc_bound, algorithm_plain, algorithm_lent};
+
+use crate::algorithm_identifier_ref::AlgorithmIdentifierRef;
+use const_oid_identifiers::ObjectIdentifier;
+use der_core::making::read_fields;
+use der_core::{
+    ApartValue, AsReadValue, DecodeFields, DecodeValue, EncodeFields, EncodeRef, EncodeValue,
+    Error, Fields, FieldsOrd, FixedTag, Header, Length, Reader, ShapedValue, Tag, ValueOrd, Writer,
+};
+use der_types_any::Any;
+use std::alloc::{AllocError, Global};
+use std::cmp::Ordering;
+
+/// An algorithm and its parameters (RFC 5280 4.1.1.2).
+///
+/// ```text
+/// AlgorithmIdentifier ::= SEQUENCE {
+///     algorithm   OBJECT IDENTIFIER,
+///     parameters  ANY DEFINED BY algorithm OPTIONAL }
+/// ```
+#[derive(Clone, Debug, PartialEq, Eq, Drop)]
+pub struct AlgorithmIdentifier {
+    /// The identifier of the algorithm.
+    pub oid: ObjectIdentifier<39>,
+    /// Its parameters, as they stand. NULL isn't the same as none.
+    pub parameters: Option<Any>,
+}
+
+type Row = (ObjectIdentifier<39>, (Option<Any>, ()));
+
+impl AlgorithmIdentifier {
+    /// A copy.
+    ///
+    /// # Errors
+    /// Want of memory.
+    pub fn clone(&self, alloc: Global) -> Result<AlgorithmIdentifier, AllocError>
+        ensures { IfOk result (λ a. algorithm_plain a ≡ algorithm_plain self.now) }
+    {
+        let parameters = match &self.parameters {
+            Some(parameters) => Some(parameters.clone(alloc)?),
+            None => None,
+        };
+        Ok(AlgorithmIdentifier {
+            oid: self.oid,
+            parameters,
+        })
+    }
+
+    /// The same algorithm, lent.
+    pub fn owned_to_ref(&self) -> AlgorithmIdentifierRef<'_>
+        ensures { algorithm_lent result ≡ algorithm_plain self.now }
+    {
+        let parameters = match &self.parameters {
+            Some(parameters) => Some(parameters.owned_to_ref()),
+            None => None,
+        };
+        AlgorithmIdentifierRef {
+            oid: self.oid,
+            parameters,
+        }
+    }
+}
+
+impl FixedTag for AlgorithmIdentifier {
+    ghost fixed_tag = { Sequence };
+
+    fn tag() -> Tag {
+        Tag::Sequence
+    }
+}
+
+impl Fields for AlgorithmIdentifier {
+    ghost fields = { algorithm_fields arc_bound };
+
+    ghost fields_plain = { algorithm_plain };
+
+    ghost fields_written = { algorithm_plain };
+}
+
+impl<'a, R: Reader<'a>> DecodeFields<'a, R> for AlgorithmIdentifier {
+    fn decode_fields(alloc: Global, reader: &mut R) -> Result<AlgorithmIdentifier, Error> {
+        let (oid, (parameters, ())) = Row::decode_fields(alloc, reader)?;
+        Ok(AlgorithmIdentifier { oid, parameters })
+    }
+}
+
+impl ShapedValue for AlgorithmIdentifier {
+    ghost content = { nested (algorithm_fields arc_bound) };
+
+    ghost value_plain = { algorithm_plain };
+
+    ghost value_written = { algorithm_plain };
+}
+
+impl<'a, R: Reader<'a>> DecodeValue<'a, R> for AlgorithmIdentifier {
+    fn decode_value(
+        alloc: Global,
+        reader: &mut R,
+        header: Header,
+    ) -> Result<AlgorithmIdentifier, Error> {
+        read_fields(alloc, reader, header)
+    }
+}
+
+impl EncodeValue for AlgorithmIdentifier {
+    fn value_len(&self) -> Result<Length, Error> {
+        let row = (EncodeRef(&self.oid), (EncodeRef(&self.parameters), ()));
+        row.fields_len()
+    }
+
+    fn encode_value<W: Writer>(&self, writer: &mut W) -> Result<(), Error> {
+        let row = (EncodeRef(&self.oid), (EncodeRef(&self.parameters), ()));
+        row.encode_fields(writer)
+    }
+}
+
+impl ApartValue for AlgorithmIdentifier {
+    ghost apart_value = { refl };
+}
+
+impl AsReadValue for AlgorithmIdentifier {
+    ghost as_read_value = { λ _. refl };
+}
+
+/// Field after field.
+impl ValueOrd for AlgorithmIdentifier {
+    #[tactic(auto, unfolding(der_core_head::specs::Shapes::contents, der_core_head::specs::Shapes::IsContent))]
+    fn value_cmp(&self, other: &Self) -> Result<Ordering, Error> {
+        let row = (EncodeRef(&self.oid), (EncodeRef(&self.parameters), ()));
+        let other_row = (EncodeRef(&other.oid), (EncodeRef(&other.parameters), ()));
+        row.fields_cmp(&other_row)
+    }
+}

@@ -1,0 +1,82 @@
+//! Profiles of certificates.
+
+ghost use Rattle.std.specs.Prelude.{◌≡◌, ℕ, Option, Some, None, Bool, true, false, IsOkAnd};
+ghost use Rattle.der_core_head.specs.declared.tag.Tag.TheVariants.{Integer};
+ghost use Rattle.der_core_head.specs.Integers.{checked};
+ghost use Rattle.der_core_head.specs.Reading.{GivesNow};
+ghost use Rattle.x509_cert_parts.specs.Grammar.{numbers_within};
+ghost use Rattle.x509_cert_parts.specs.Respelling.{spelled_by};
+ghost use Rattle.x509_cert_parts.specs.Views.{time_value};
+
+use crate::serial_number::SerialNumber;
+use crate::time::Time;
+use der_core::{Error, ErrorKind, Tag};
+use der_types_time::UtcTime;
+
+/// Which serial numbers of certificates are read, and how the dates of a validity are written.
+pub trait Profile {
+    /// The most content octets of a serial number that is read, if there is such a number.
+    ghost serial_limit: { Option ℕ };
+
+    /// Whether dates are written as UTCTime through 2049.
+    ghost respells: { Bool };
+
+    /// What is wanted of a serial number that was read.
+    ///
+    /// # Errors
+    /// `Value` for more content octets than are read.
+    fn check_serial_number(serial: &SerialNumber<Self>) -> Result<(), Error>
+        ensures { GivesNow (λ _. serial.now) result (checked (numbers_within serial_limit) Integer serial.now) };
+
+    /// The same date, as it is written in a validity. It is always answered.
+    fn time_encoding(time: Time) -> Result<Time, Error>
+        ensures { IsOkAnd result (λ t. time_value t ≡ spelled_by respells (time_value time)) };
+}
+
+/// Certificates as RFC 5280 has them: serial numbers of at most 21 content octets are read, and dates are written as UTCTime
+/// through 2049 and as GeneralizedTime later (4.1.2.2, 4.1.2.5).
+///
+/// RFC 5280 wants at most 20 octets. Some count them before the sign's octet is added, so 21 are read.
+#[derive(Clone, Copy, Debug, Default, PartialEq, Eq, PartialOrd, Ord)]
+pub struct Rfc5280;
+
+impl Profile for Rfc5280 {
+    ghost serial_limit = { Some 21 };
+
+    ghost respells = { true };
+
+    fn check_serial_number(serial: &SerialNumber<Rfc5280>) -> Result<(), Error> {
+        if serial.as_bytes().len() > 21 {
+            return Err(Error::from(ErrorKind::Value { tag: Tag::Integer }));
+        }
+        Ok(())
+    }
+
+    fn time_encoding(time: Time) -> Result<Time, Error> {
+        if let Time::GeneralTime(general) = time {
+            let date_time = general.to_date_time();
+            if date_time.year() <= UtcTime::MAX_YEAR {
+                return Ok(Time::UtcTime(UtcTime::from_date_time(date_time)?));
+            }
+        }
+        Ok(time)
+    }
+}
+
+/// Certificates as they stand: serial numbers of any number of octets are read, and dates are written as they were read.
+#[derive(Clone, Copy, Debug, Default, PartialEq, Eq, PartialOrd, Ord)]
+pub struct Raw;
+
+impl Profile for Raw {
+    ghost serial_limit = { None };
+
+    ghost respells = { false };
+
+    fn check_serial_number(_serial: &SerialNumber<Raw>) -> Result<(), Error> {
+        Ok(())
+    }
+
+    fn time_encoding(time: Time) -> Result<Time, Error> {
+        Ok(time)
+    }
+}

@@ -1,0 +1,219 @@
+//! Serial numbers.
+
+ghost use Rattle.std.specs.Prelude.{◌≡◌, ℤ, nat_eq, Some, IfOk};
+ghost use Rattle.std.proofs.Common.{refl};
+ghost use Rattle.std.specs.Cmp.{po, partial_equiv_from_equiv, on_equiv, on_per};
+ghost use Rattle.std.specs.Cmp.Lexicographic.{pointwise, nat_list_eq_equiv};
+ghost use Rattle.der_core_head.specs.declared.tag.Tag.TheVariants.{Integer};
+ghost use Rattle.der_core_head.specs.Integers.{integer_of, integer_octets};
+ghost use Rattle.der_core_head.specs.Leaves.{integer};
+ghost use Rattle.der_core_head.specs.Reading.{Gives};
+ghost use Rattle.der_core_head.specs.Shapes.{leaf};
+ghost use Rattle.der_types_numbers.specs.NumberOrders.{integer_cmp, integer_cmp_total, integer_cmp_ties};
+ghost use Rattle.x509_cert_parts.specs.Grammar.{numbers_within};
+ghost use Rattle.x509_cert_parts.specs.SerialNumbers.{new_serial};
+
+use crate::profile::Profile;
+use der_core::making::{decode_leaf, value_cmp_by_contents};
+use der_core::{
+    ApartValue, AsReadValue, DecodeValue, EncodeValue, Error, ErrorKind, FixedTag, Header, Leaf,
+    Length, Reader, ShapedValue, Tag, ValueOrd, Writer,
+};
+use der_types_numbers::{Int, Uint};
+use std::alloc::{AllocError, Global};
+use std::cmp::Ordering;
+use std::marker::{Model, PhantomData};
+
+/// The serial number of a certificate (RFC 5280 4.1.2.2), of which the profile reads so many content octets. Numbers that are
+/// negative or zero are read too.
+///
+/// Contracts see the number.
+///
+/// ```text
+/// CertificateSerialNumber ::= INTEGER
+/// ```
+#[derive(Drop)]
+#[derive_where(Debug)]
+pub struct SerialNumber<P> {
+    inner: Int,
+    profile: PhantomData<P>,
+}
+
+impl<P> Model for SerialNumber<P> {
+    ghost use Rattle.std.specs.Prelude.{ℤ};
+
+    ghost Value = { ℤ };
+
+    ghost use Rattle.x509_cert_parts.specs.SerialNumbers.{serial_kept};
+
+    ghost view = { serial_kept };
+}
+
+impl<P> SerialNumber<P> {
+    /// The most content octets of a serial number that is made.
+    pub const MAX_LEN: Length = Length { value: 20 };
+
+    /// The number of these digits in base 256, the most significant first. Leading zeros are left out.
+    ///
+    /// # Errors
+    /// `Length` for no octets; `Overlength` for more than 20 content octets, `Overflow` where they are 2^32 or more;
+    /// `OutOfMemory`.
+    #[tactic(auto, unfolding(crate::specs::SerialNumbers::new_serial))]
+    pub fn new(alloc: Global, bytes: &[u8]) -> Result<SerialNumber<P>, Error>
+        ensures { Gives (λ n. n) result (new_serial bytes.now) }
+    {
+        let inner = Int::from(Uint::new(alloc, bytes)?);
+        if inner.len().value > 20 {
+            return Err(Error::from(ErrorKind::Overlength));
+        }
+        Ok(SerialNumber {
+            inner,
+            profile: PhantomData,
+        })
+    }
+
+    /// A copy.
+    ///
+    /// # Errors
+    /// Want of memory.
+    pub fn clone(&self, alloc: Global) -> Result<SerialNumber<P>, AllocError>
+        ensures { IfOk result (λ n. n ≡ self.now) }
+    {
+        let inner = self.inner.clone(alloc)?;
+        Ok(SerialNumber {
+            inner,
+            profile: PhantomData,
+        })
+    }
+
+    /// The content octets: two's complement, the most significant octet first.
+    pub fn as_bytes(&self) -> &[u8]
+        ensures octets { result.now ≡ integer_octets self.now }
+        ensures number { integer_of result.now ≡ self.now }
+    {
+        self.inner.as_bytes()
+    }
+}
+
+/// A copy, in memory of the same allocator.
+impl<P> Clone for SerialNumber<P> {
+    ghost is_clone = { λ x y. y ≡ x };
+
+    fn clone(&self) -> Result<SerialNumber<P>, AllocError> {
+        let inner = Clone::clone(&self.inner)?;
+        Ok(SerialNumber {
+            inner,
+            profile: PhantomData,
+        })
+    }
+}
+
+/// Whether the numbers are equal.
+impl<P> PartialEq for SerialNumber<P> {
+    ghost eq = { λ a b. pointwise nat_eq (integer_octets a) (integer_octets b) };
+
+    ghost laws = { on_per integer_octets (partial_equiv_from_equiv nat_list_eq_equiv) };
+
+    fn eq(&self, other: &Self) -> bool {
+        self.inner == other.inner
+    }
+}
+
+impl<P> Eq for SerialNumber<P> {
+    ghost laws = { on_equiv integer_octets nat_list_eq_equiv };
+}
+
+/// The order of the number of content octets, and then of the octets.
+impl<P> PartialOrd for SerialNumber<P> {
+    ghost partial_cmp = { λ a b. Some (integer_cmp a b) };
+
+    ghost laws = { po integer_cmp_total integer_cmp_ties };
+
+    fn partial_cmp(&self, other: &Self) -> Option<Ordering> {
+        Some(self.cmp(other))
+    }
+}
+
+impl<P> Ord for SerialNumber<P> {
+    ghost cmp = { integer_cmp };
+
+    ghost total = { integer_cmp_total };
+
+    ghost matches_partial_cmp = { λ a b. refl };
+
+    ghost matches_eq = { integer_cmp_ties };
+
+    fn cmp(&self, other: &Self) -> Ordering {
+        self.inner.cmp(&other.inner)
+    }
+}
+
+impl<P> FixedTag for SerialNumber<P> {
+    ghost fixed_tag = { Integer };
+
+    fn tag() -> Tag {
+        Tag::Integer
+    }
+}
+
+/// Two's complement in the fewest octets, no more than the profile reads.
+impl<'a, P: Profile> Leaf<'a> for SerialNumber<P> {
+    ghost kind = { integer (numbers_within P.serial_limit) };
+
+    ghost leaf_plain = { λ n. n };
+
+    fn from_content(alloc: Global, tag: Tag, octets: &'a [u8]) -> Result<SerialNumber<P>, Error> {
+        let serial = SerialNumber {
+            inner: Int::from_content(alloc, tag, octets)?,
+            profile: PhantomData,
+        };
+        match P::check_serial_number(&serial) {
+            Ok(()) => Ok(serial),
+            Err(_) => Err(Error::from(ErrorKind::Value { tag })),
+        }
+    }
+}
+
+impl<P: Profile> ShapedValue for SerialNumber<P> {
+    ghost content = { leaf (integer (numbers_within P.serial_limit)) };
+
+    ghost value_plain = { λ n. n };
+
+    ghost value_written = { λ n. n };
+}
+
+impl<'a, R: Reader<'a>, P: Profile> DecodeValue<'a, R> for SerialNumber<P> {
+    fn decode_value(
+        alloc: Global,
+        reader: &mut R,
+        header: Header,
+    ) -> Result<SerialNumber<P>, Error> {
+        decode_leaf(alloc, reader, header)
+    }
+}
+
+impl<P: Profile> EncodeValue for SerialNumber<P> {
+    fn value_len(&self) -> Result<Length, Error> {
+        self.inner.value_len()
+    }
+
+    fn encode_value<W: Writer>(&self, writer: &mut W) -> Result<(), Error> {
+        self.inner.encode_value(writer)
+    }
+}
+
+impl<P: Profile> ApartValue for SerialNumber<P> {
+    ghost apart_value = { refl };
+}
+
+impl<P: Profile> AsReadValue for SerialNumber<P> {
+    ghost as_read_value = { λ _. refl };
+}
+
+/// The order of the content octets.
+impl<P: Profile> ValueOrd for SerialNumber<P> {
+    #[tactic(auto, using(der_core::proofs::LeafOrders::leaf_contents))]
+    fn value_cmp(&self, other: &Self) -> Result<Ordering, Error> {
+        Ok(value_cmp_by_contents(self.as_bytes(), other.as_bytes()))
+    }
+}

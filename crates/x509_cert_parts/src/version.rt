@@ -1,0 +1,71 @@
+//! Version.
+
+ghost use Rattle.std.specs.Prelude.{◌≡◌, pos};
+ghost use Rattle.x509_cert_parts.specs.Grammar.{version_numbers};
+ghost use Rattle.x509_cert_parts.specs.Views.{version_number};
+
+use der_core::making::unsigned_of;
+use der_core::{Error, ErrorKind, Integer, Tag, ValueOrd};
+use std::cmp::Ordering;
+
+/// The version of a certificate (RFC 5280 4.1.2.1).
+///
+/// ```text
+/// Version ::= INTEGER { v1(0), v2(1), v3(2) }
+/// ```
+#[derive(Clone, Copy, Debug, Default, PartialEq, Eq)]
+pub enum Version {
+    #[default]
+    V1,
+    V2,
+    V3,
+}
+
+impl Version {
+    /// The number that is written.
+    fn number(self) -> u8
+        ensures { pos result ≡ version_number self }
+    {
+        match self {
+            Version::V1 => 0,
+            Version::V2 => 1,
+            Version::V3 => 2,
+        }
+    }
+}
+
+/// Any other number is refused as `Value`.
+impl Integer for Version {
+    ghost numbers = { version_numbers };
+
+    ghost number = { version_number };
+
+    #[tactic(auto, using(crate::proofs::Versions::empty, crate::proofs::Versions::past, crate::proofs::Versions::other))]
+    fn from_integer(tag: Tag, octets: &[u8]) -> Result<Version, Error> {
+        if octets.is_empty() {
+            return Err(Error::from(ErrorKind::Length { tag }));
+        }
+        match unsigned_of(tag, octets, 8) {
+            Ok(0) => Ok(Version::V1),
+            Ok(1) => Ok(Version::V2),
+            Ok(2) => Ok(Version::V3),
+            Ok(_) => Err(Error::from(ErrorKind::Value { tag })),
+            Err(error) => match error.kind {
+                ErrorKind::Length { .. } => Err(Error::from(ErrorKind::Value { tag })),
+                _ => Err(error),
+            },
+        }
+    }
+
+    fn magnitude(&self) -> (bool, u128) {
+        (false, u128::from(self.number()))
+    }
+}
+
+/// The order of the numbers.
+impl ValueOrd for Version {
+    #[tactic(auto, unfolding(der_core_head::specs::Shapes::contents, der_core_head::specs::Shapes::IsContent))]
+    fn value_cmp(&self, other: &Self) -> Result<Ordering, Error> {
+        self.number().value_cmp(&other.number())
+    }
+}
