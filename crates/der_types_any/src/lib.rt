@@ -6,6 +6,7 @@ mod any_ref;
 mod conversions;
 mod dates;
 mod elements;
+mod in_range;
 pub mod laws;
 mod numbers;
 mod texts;
