@@ -29,7 +29,7 @@ unfolding tag_at universal_tag
 tag_at-in_parts w = refl
 
 -- what DER reads, BER reads
-tag_ber_more : (w : List ℕ) (t : Tag) (r : List ℕ) → tag_at w ≡ Ok (t, r) → tag_ber_at w ≡ Ok (t, r)
+pub tag_ber_more : (w : List ℕ) (t : Tag) (r : List ℕ) → tag_at w ≡ Ok (t, r) → tag_ber_at w ≡ Ok (t, r)
 unfolding tag_at tag_ber_at
 tag_ber_more [] t r e = absurd cc
 tag_ber_more (b ∷ w) t r e = elim (cases_Bool (eqb b 0x24)) [

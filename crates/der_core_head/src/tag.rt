@@ -229,7 +229,8 @@ pub fn is_constructed(tag: Tag) -> bool
     }
 }
 
-/// Whether two tags have the same octets.
+/// Whether two tags have the same octets. Inlined, so that against a tag that is known it is one comparison.
+#[inline(always)]
 pub fn is_same_tag(a: Tag, b: Tag) -> bool
     ensures { result ≡ same_tag a b }
 {

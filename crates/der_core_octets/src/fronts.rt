@@ -5,9 +5,9 @@ ghost use Rattle.der_core_head.specs.declared.encoding_rules.EncodingRules.TheVa
 ghost use Rattle.der_core_head.specs.Tags.{tag_at};
 ghost use Rattle.der_core_head.specs.Heads.{head_at};
 ghost use Rattle.der_core_head.specs.Bodies.{tag_ber_at, head_ber_at};
-ghost use Rattle.der_core_octets.specs.Fronts.{Counts, head_of, wanted_at};
+ghost use Rattle.der_core_octets.specs.Fronts.{Counts, head_of, wanted_at, alone};
 
-use crate::header::{header_of, short_header_of_tag, tag_of};
+use crate::header::{header_of, plain_tag_of, short_header_of_tag, tag_of};
 use crate::indefinite::{header_ber_of, tag_ber_of};
 use der_core_head::{EncodingRules, Error, ErrorKind, Header, Tag, is_same_tag};
 
@@ -24,6 +24,16 @@ pub fn tag_by(rules: EncodingRules, octets: &[u8]) -> Result<(Tag, usize), Error
         EncodingRules::Ber => tag_ber_of(octets),
         EncodingRules::Der => tag_of(octets),
     }
+}
+
+/// The tag at the front of octets, if it is spelled in one. It is the same by both rules.
+#[inline(always)]
+pub fn short_tag_by_both(octets: &[u8]) -> Option<Tag>
+    ensures der { IfSome result (λ t. alone (tag_at octets.now) ≡ Ok t) }
+    ensures ber { IfSome result (λ t. alone (tag_ber_at octets.now) ≡ Ok t) }
+{
+    let tag = plain_tag_of(octets)?;
+    Some(tag)
 }
 
 /// The header at the front of octets, and how many octets its tag and length take.

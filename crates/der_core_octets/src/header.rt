@@ -84,6 +84,18 @@ fn short_tag_of(octet: u8) -> Option<Tag>
     Some(tag_of_class(octet / 64, octet / 32 % 2 == 1, u32::from(octet % 32)))
 }
 
+/// The tag at the front of octets, if it is spelled in one.
+#[inline(always)]
+pub fn plain_tag_of(octets: &[u8]) -> Option<Tag>
+    ensures { IfSome result (λ t. tag_at octets.now ≡ Ok (t, drop 1 octets.now)) }
+{
+    let [first, ..] = octets else {
+        return None;
+    };
+    let tag = short_tag_of(*first)?;
+    Some(tag)
+}
+
 /// The number that digits in base 128 spell, of which all but the last have the high bit, and how
 /// many they are (8.1.2.4.2).
 ///

@@ -14,9 +14,9 @@ ghost use Rattle.der_core_octets.specs.Fronts.{head_of, wanted_at, alone, peek_b
 ghost use Rattle.der_core_octets.specs.Nesting.{IsNested, Answered, RefusesNested, IsEnclosed, AnsweredIn, RefusesIn};
 ghost use Rattle.der_core_octets.specs.Places.{IsAt, encoding_at};
 
-use crate::fronts::{any_header_of_tag, plain_header_of_tag};
+use crate::fronts::{any_header_of_tag, plain_header_of_tag, short_tag_by_both};
 use crate::{header_by, tag_by};
-use der_core_head::{EncodingRules, Error, ErrorKind, Header, Length, Tag, is_same_tag};
+use der_core_head::{EncodingRules, Error, ErrorKind, Header, Length, Tag};
 use std::alloc::Global;
 
 /// What octets are read from: octets up to an end that can be set nearer, and a depth of ends.
@@ -244,19 +244,20 @@ pub trait Reader<'r>: Drop {
     ///
     /// # Errors
     /// Those of `peek_tag`. The reader has failed after them.
+    #[inline(always)]
     final fn next_tag(&mut self) -> Result<Tag, Error>
         ensures der { PeeksBy Der (λ t. t) (state self.old) result (alone (tag_at (state self.old).rest)) }
         ensures ber { PeeksBy Ber (λ t. t) (state self.old) result (alone (tag_ber_at (state self.old).rest)) }
         ensures stays { OnOk result (state self.new ≡ state self.old) }
         ensures failed { OnErr result (state self.new ≡ broken (state self.old)) }
     {
-        match self.peek_tag() {
-            Ok(tag) => Ok(tag),
-            Err(error) => {
-                self.fail();
-                Err(error)
+        if !self.is_failed() {
+            if let Some(tag) = short_tag_by_both(self.remaining()) {
+                return Ok(tag);
             }
         }
+        let tag = next_any_tag(self)?;
+        Ok(tag)
     }
 
     /// The next tag, by the rules of the reader, without passing over it, if octets are left where a
@@ -264,19 +265,24 @@ pub trait Reader<'r>: Drop {
     ///
     /// # Errors
     /// Those of `peek_tag`. The reader has failed after them.
+    #[inline(always)]
     final fn next_tag_or_end(&mut self) -> Result<Option<Tag>, Error>
         ensures der { PeeksBy Der (λ t. t) (state self.old) result (peek_at (state self.old).rest) }
         ensures ber { PeeksBy Ber (λ t. t) (state self.old) result (peek_ber_at (state self.old).rest) }
         ensures stays { OnOk result (state self.new ≡ state self.old) }
         ensures failed { OnErr result (state self.new ≡ broken (state self.old)) }
     {
-        match self.peek_tag_or_end() {
-            Ok(tag) => Ok(tag),
-            Err(error) => {
-                self.fail();
-                Err(error)
+        if !self.is_failed() {
+            let octets = self.remaining();
+            if octets.is_empty() {
+                return Ok(None);
+            }
+            if let Some(tag) = short_tag_by_both(octets) {
+                return Ok(Some(tag));
             }
         }
+        let tag = next_any_tag(self)?;
+        Ok(Some(tag))
     }
 
     /// The next octets, copied.
@@ -486,12 +492,7 @@ pub trait Reader<'r>: Drop {
         ensures reads { (b : Body) (view : T → BodyValue b) → ClosureReads state F.FnOnce f b view
             → Reads view (state self.old) (state self.new) result (read (tagged Sequence (nested b)) (state self.old).room) }
     {
-        let place = self.position();
-        let header = self.read_header()?;
-        if !is_same_tag(header.tag, Tag::Sequence) {
-            self.fail();
-            return Err(ErrorKind::TagUnexpected.at(place));
-        }
+        let header = self.read_header_of(Tag::Sequence)?;
         let value = self.read_nested(header.length, f)?;
         Ok(value)
     }
@@ -512,6 +513,27 @@ pub trait Reader<'r>: Drop {
             return Err(ErrorKind::TrailingData.at(self.position()));
         }
         Ok(())
+    }
+}
+
+/// The next tag, of any form, where a value has to stand. It stays out of the calls that choose by a
+/// tag, so that the usual ones cost them little.
+///
+/// # Errors
+/// Those of `peek_tag`. The reader has failed after them.
+#[inline(never)]
+fn next_any_tag<'r, R: Reader<'r>>(reader: &mut R) -> Result<Tag, Error>
+    ensures der { PeeksBy Der (λ t. t) (R.state reader.old) result (alone (tag_at (R.state reader.old).rest)) }
+    ensures ber { PeeksBy Ber (λ t. t) (R.state reader.old) result (alone (tag_ber_at (R.state reader.old).rest)) }
+    ensures stays { OnOk result (R.state reader.new ≡ R.state reader.old) }
+    ensures failed { OnErr result (R.state reader.new ≡ broken (R.state reader.old)) }
+{
+    match reader.peek_tag() {
+        Ok(tag) => Ok(tag),
+        Err(error) => {
+            reader.fail();
+            Err(error)
+        }
     }
 }
 
