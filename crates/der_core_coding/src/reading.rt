@@ -7,9 +7,7 @@ ghost use Rattle.der_core_head.specs.Shapes.{nested, only, optional, tagged};
 ghost use Rattle.der_core_head.specs.Grammar.{read, read_content, value_at, plain_option};
 ghost use Rattle.der_core_head.specs.Reading.{Reads};
 
-use der_core_head::{
-    Error, ErrorKind, Header, Tag, TagMode, TagNumber, is_constructed, is_same_tag,
-};
+use der_core_head::{Error, Header, Tag, TagMode, TagNumber, is_constructed, is_same_tag};
 use der_core_octets::Reader;
 use der_core_values::{Decode, DecodeValue, FixedTag};
 use std::alloc::Global;
@@ -38,9 +36,16 @@ fn read_only<'a, R: Reader<'a>, T: Decode<'a, R>>(
     ensures { Reads T.plain (R.state reader.old) (R.state reader.new) result (value_at (read_content (nested (only T.shape)) header.tag (R.state reader.old).room) header.length.value) }
 {
     let behind = reader.begin_nested(header.length)?;
-    let outcome = T::decode(alloc, reader);
-    reader.end_nested(behind, outcome.is_err())?;
-    outcome
+    match T::decode(alloc, reader) {
+        Ok(value) => {
+            reader.end_nested(behind, false)?;
+            Ok(value)
+        }
+        Err(error) => {
+            reader.end_nested(behind, true)?;
+            Err(error)
+        }
+    }
 }
 
 /// The value behind a tag in front of its own (X.690 8.14.2).
@@ -56,12 +61,7 @@ pub fn read_explicit<'a, R: Reader<'a>, T: Decode<'a, R>>(
 ) -> Result<T, Error>
     ensures { Reads T.plain (R.state reader.old) (R.state reader.new) result (read (tagged tag (nested (only T.shape))) (R.state reader.old).room) }
 {
-    let place = reader.position();
-    let header = reader.read_header()?;
-    if !is_same_tag(header.tag, tag) {
-        reader.fail();
-        return Err(ErrorKind::TagUnexpected.at(place));
-    }
+    let header = reader.read_header_of(tag)?;
     read_only(alloc, reader, header)
 }
 
@@ -74,12 +74,7 @@ fn read_implicit<'a, R: Reader<'a>, T: DecodeValue<'a, R>>(
 ) -> Result<T, Error>
     ensures { Reads T.value_plain (R.state reader.old) (R.state reader.new) result (read (tagged tag T.content) (R.state reader.old).room) }
 {
-    let place = reader.position();
-    let header = reader.read_header()?;
-    if !is_same_tag(header.tag, tag) {
-        reader.fail();
-        return Err(ErrorKind::TagUnexpected.at(place));
-    }
+    let header = reader.read_header_of(tag)?;
     T::decode_value(alloc, reader, header)
 }
 

@@ -42,7 +42,14 @@ pub fn read_fields<'a, R: Reader<'a>, T: DecodeFields<'a, R> + Drop>(
     ensures { Reads T.fields_plain (R.state reader.old) (R.state reader.new) result (value_at (read_content (nested T.fields) header.tag (R.state reader.old).room) header.length.value) }
 {
     let behind = reader.begin_nested(header.length)?;
-    let outcome = T::decode_fields(alloc, reader);
-    reader.end_nested(behind, outcome.is_err())?;
-    outcome
+    match T::decode_fields(alloc, reader) {
+        Ok(fields) => {
+            reader.end_nested(behind, false)?;
+            Ok(fields)
+        }
+        Err(error) => {
+            reader.end_nested(behind, true)?;
+            Err(error)
+        }
+    }
 }
