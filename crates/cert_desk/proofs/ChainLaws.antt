@@ -29,7 +29,7 @@ encoding_is_some bound c w e =
     let longer : [] ≡ 0x30 ∷ (first.0 ++ w) = e ∙ ap (λ x. x ++ w) first.1 in
     absurd cc
 
-chain_is_some : (bound : ℕ) (cs : List PlainCertificate) → 0 < length cs → [] ≡ joined bound cs → ⊥
+pub chain_is_some : (bound : ℕ) (cs : List PlainCertificate) → 0 < length cs → [] ≡ joined bound cs → ⊥
 chain_is_some bound [] h e = absurd (omega arith)
 chain_is_some bound (c ∷ cs) h e = encoding_is_some bound c (joined bound cs) e
 

@@ -1,5 +1,5 @@
 -- What is taken of an input in several reads is read in turn.
-use Rattle.std.proofs.Common.{◌≡◌, ℕ, List, [], ◌++◌, sym, ap, subst, ◌∙◌, append_assoc, append-nil}
+use Rattle.std.proofs.Common.{◌≡◌, ℕ, ◌≤◌, List, [], ◌++◌, length, take, sym, arith, ap, subst, ◌∙◌, append_assoc, append-nil, length-take}
 use Rattle.cert_desk_io.specs.Devices.{Rose}
 use Rattle.x509_cert.specs.Certificates.{PlainCertificate}
 use Rattle.cert_desk.specs.declared.bundle_error.BundleError.{BundleError}
@@ -8,7 +8,7 @@ use Rattle.cert_desk.specs.declared.bundle_error.ReadError.TheVariants as reads
 use Rattle.cert_desk.specs.declared.standing.Standing.{Standing}
 use Rattle.cert_desk.specs.declared.standing.Standing.TheVariants as standings
 use Rattle.cert_desk.specs.Streams.{Kept, Reads, Begins}
-use Rattle.cert_desk.specs.Steps.{ReadsOn, ReadsStill, Grows, HasFailed, Takes, DeviceFails, RefusesPiece, RefusesEnd, RefusesInput}
+use Rattle.cert_desk.specs.Steps.{ReadsOn, ReadsStill, Grows, HasFailed, Takes, DeviceFails, StopsAtOnce, most_read, RefusesPiece, RefusesEnd, RefusesInput}
 
 pub Grows-trans : (a b c : Kept) → Grows a b → Grows b c → Grows a c
 Grows-trans a b c g h = (g.0 ++ h.0, h.1 ∙ ap (λ (cs : List PlainCertificate). cs ++ h.0) g.1 ∙ append_assoc a.certificates g.0 h.0)
@@ -48,29 +48,43 @@ module _ {State : Type 0} (takes : State → List ℕ → State → Type 0)
           );
         }
 
-    pub end-refused : (e : BundleError) → takes mid [] to → is_ended to → RefusesEnd bound now new e → RefusesInput takes is_ended failures from to bound old new (reads.Bundle e)
-    end-refused (errors.Fault place offset kind) taken ended r = record {
+    -- what was taken before the last read was read
+    stops : (piece : List ℕ) → takes mid piece to → length piece ≤ most_read → StopsAtOnce takes from to bound old
+    stops piece taken short = record { before = mid; now = now; is_open = is_open; reads = before; piece = piece; taken = taken; short = short }
+
+    pub end-refused : (e : BundleError) → failures to ≡ failures from → takes mid [] to → is_ended to → RefusesEnd bound now new e → RefusesInput takes is_ended failures from to bound old new (reads.Bundle e)
+    end-refused (errors.Fault place offset kind) sound taken ended r = record {
       was_open = was_open;
       found = r.found;
       ends = λ e. ended;
       reads = Takes-still taken r.reads;
+      stops = stops [] taken (omega arith);
+      sound = sound;
     }
-    end-refused errors.OutOfMemory taken ended r = absurd r
-    end-refused errors.Failed taken ended r =
+    end-refused errors.OutOfMemory sound taken ended r = absurd r
+    end-refused errors.Failed sound taken ended r =
         let failed : ⊥ = subst (λ (s : Standing). HasFailed s) is_open r.failed in absurd failed
 
-    pub piece-refused : (e : BundleError) (piece : List ℕ) → takes mid piece to → RefusesPiece bound now new piece e → RefusesInput takes is_ended failures from to bound old new (reads.Bundle e)
-    piece-refused (errors.Fault place offset kind) piece taken r = record {
+    pub piece-refused : (e : BundleError) (piece : List ℕ) → failures to ≡ failures from → length piece ≤ most_read → takes mid piece to → RefusesPiece bound now new piece e → RefusesInput takes is_ended failures from to bound old new (reads.Bundle e)
+    piece-refused (errors.Fault place offset kind) piece sound short taken r = record {
       was_open = was_open;
       found = r.found;
       ends = λ e. absurd (r.streams e);
       reads = Takes-more piece taken r.reads;
+      stops = stops piece taken short;
+      sound = sound;
     }
-    piece-refused errors.OutOfMemory piece taken r = record {
+    piece-refused errors.OutOfMemory piece sound short taken r = record {
       was_open = was_open;
       standing = r.standing;
       octets = before.0 ++ piece;
       taken = in_turn from mid to before.0 piece before.1 taken;
       begins = λ stream reads. subst (λ (x : List ℕ). Begins bound new.limit new.certificates x) (append_assoc stream before.0 piece) (r.begins (stream ++ before.0) (before.2 stream reads));
+      stops = stops piece taken short;
+      sound = sound;
     }
-    piece-refused errors.Failed piece taken r = absurd (r.was_shut is_open)
+    piece-refused errors.Failed piece sound short taken r = absurd (r.was_shut is_open)
+
+-- what a read put into the buffer is no more than a read takes
+pub short_piece : (count : ℕ) (buffer : List ℕ) → length buffer ≡ most_read → length (take count buffer) ≤ most_read
+short_piece count buffer e = omega (arith, e, length-take count buffer)

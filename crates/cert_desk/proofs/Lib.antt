@@ -7,6 +7,7 @@ pub mod FaultStays
 pub mod Inputs
 pub mod Located
 pub mod ChainLaws
+pub mod OneVerdict
 pub mod AnchorSteps
 pub mod Counts
 pub mod Encodings
@@ -14,4 +15,5 @@ pub mod PlaceLaws
 pub mod Outcomes
 pub mod DigestOctets
 pub mod DigestLaws
+pub mod ArgumentLaws
 pub mod RunLaws

@@ -1,10 +1,13 @@
 -- What holds of every stream.
 use Rattle.std.specs.Prelude.{◌≡◌, ◌≢◌, ℕ, List, ◌++◌}
 use Rattle.x509_cert.specs.Certificates.{PlainCertificate}
+use Rattle.cert_desk.specs.declared.checked.Verdict.{Verdict}
 use Rattle.cert_desk.specs.declared.fault_kind.FaultKind.{FaultKind}
 use Rattle.cert_desk.specs.declared.fault_kind.FaultKind.TheVariants as kinds
 use Rattle.cert_desk.specs.Chains.{Chain}
 use Rattle.cert_desk.specs.Faults.{StreamFault}
+use Rattle.cert_desk.specs.Judging.{Terms}
+use Rattle.cert_desk.specs.Verdicts.{IsVerdict}
 
 -- No stream joins two lists of certificates.
 abbrev pub HasOneChain : Type 0
@@ -29,3 +32,9 @@ abbrev pub FaultStays : Type 0
 FaultStays =
     (bound limit : ℕ) (cs : List PlainCertificate) (kind : FaultKind) (stream more : List ℕ)
     → kind ≢ kinds.Truncated → StreamFault bound limit stream cs kind → StreamFault bound limit (stream ++ more) cs kind
+
+-- No stream has two verdicts under the same terms.
+abbrev pub HasOneVerdict : Type 0
+HasOneVerdict =
+    (t : Terms) (limit : ℕ) (stream : List ℕ) (verdict other : Verdict)
+    → IsVerdict t limit stream verdict → IsVerdict t limit stream other → verdict ≡ other

@@ -12,5 +12,6 @@ pub mod Anchors
 pub mod Places
 pub mod Digests
 pub mod Lines
+pub mod Arguments
 pub mod Reading
 pub mod Runs

@@ -15,7 +15,7 @@ use Rattle.cert_desk.specs.Chains.{Chain, joined}
 use Rattle.cert_desk.specs.Faults.{StreamFault}
 use Rattle.cert_desk.specs.Judging.{PlainAnchor, Answers, Terms}
 use Rattle.cert_desk.specs.Lines.{line_of, anchors_line, device_line, memory_line}
-use Rattle.cert_desk.specs.Reading.{AtEnd}
+use Rattle.cert_desk.specs.Reading.{AtEnd, Stayed}
 use Rattle.cert_desk.specs.Verdicts.{IsVerdict, IsCounted}
 
 -- the most octets of anchors, and of one of their certificates
@@ -32,6 +32,11 @@ pub record AreAnchors (octets : List ℕ) (anchors : List PlainAnchor) : Type 0 
   pub chain : Chain arc_bound most_octets certificates octets
   pub short : length octets < 2 ^ 32
   pub are : anchors ≡ map anchor_of certificates
+
+-- An input gave these anchors, to its end, and no read failed.
+abbrev pub HasAnchors : {A : Type 0} → (A → List ℕ → A → Type 0) → (A → Type 0) → (A → ℕ) → A → A → List PlainAnchor → Type 0
+HasAnchors takes is_ended failures old new anchors =
+    (octets : List ℕ) × takes old octets new × AreAnchors octets anchors × is_ended new × Stayed (failures old) (failures new)
 
 -- The certificate that begins at this offset has this fault.
 pub record AnchorsFault (octets : List ℕ) (offset : ℕ) (kind : FaultKind) : Type 0 where
@@ -55,9 +60,10 @@ IsReadFor verdicts.Empty ended = ended
 -- why an input gave no anchors
 abbrev pub IsNoAnchors : {A : Type 0} → (A → List ℕ → A → Type 0) → (A → Type 0) → (A → ℕ) → A → A → Outcome → Type 0
 IsNoAnchors takes is_ended failures old new (outcomes.Checked checked) = ⊥
-IsNoAnchors takes is_ended failures old new (outcomes.BadAnchors offset) = (octets : List ℕ) × takes old octets new × AreMalformed octets offset (is_ended new)
+IsNoAnchors takes is_ended failures old new (outcomes.BadAnchors offset) =
+    (octets : List ℕ) × takes old octets new × AreMalformed octets offset (is_ended new) × Stayed (failures old) (failures new)
 IsNoAnchors takes is_ended failures old new outcomes.Device = Rose (failures old) (failures new)
-IsNoAnchors takes is_ended failures old new outcomes.OutOfMemory = Unit {0}
+IsNoAnchors takes is_ended failures old new outcomes.OutOfMemory = Stayed (failures old) (failures new)
 
 -- the terms of these anchors
 abbrev pub run_terms : List PlainAnchor → ℕ → List ℕ → Answers → Terms
@@ -71,20 +77,29 @@ status_of (verdicts.Refused place rule) = statuses.Refused
 status_of (verdicts.StreamFault place offset kind) = statuses.Faulty
 status_of verdicts.Empty = statuses.Empty
 
--- What is found in the inputs of anchors and of the stream, from their old states to their new ones.
-abbrev pub IsFound : {A S : Type 0} → (A → List ℕ → A → Type 0) → (A → Type 0) → (A → ℕ) → (S → List ℕ → S → Type 0) → (S → Type 0) → (S → ℕ) → A → A → S → S
-    → ℕ → List ℕ → ℕ → Answers → ℕ → ℕ → Outcome → Type 0
-IsFound gives_anchors anchors_ended anchors_failures gives_stream stream_ended stream_failures old_anchors new_anchors old_stream new_stream moment purpose limit answers old_questions new_questions (outcomes.Checked checked) =
-    (octets : List ℕ) × (anchors : List PlainAnchor) × (stream : List ℕ)
-    × gives_anchors old_anchors octets new_anchors × AreAnchors octets anchors × anchors_ended new_anchors
-    × gives_stream old_stream stream new_stream × IsReadFor checked.verdict (stream_ended new_stream)
-    × IsVerdict (run_terms anchors moment purpose answers) limit stream checked.verdict
-    × IsCounted (run_terms anchors moment purpose answers) limit stream checked old_questions new_questions
-IsFound gives_anchors anchors_ended anchors_failures gives_stream stream_ended stream_failures old_anchors new_anchors old_stream new_stream moment purpose limit answers old_questions new_questions (outcomes.BadAnchors offset) =
-    (octets : List ℕ) × gives_anchors old_anchors octets new_anchors × AreMalformed octets offset (anchors_ended new_anchors) × (new_stream ≡ old_stream)
-IsFound gives_anchors anchors_ended anchors_failures gives_stream stream_ended stream_failures old_anchors new_anchors old_stream new_stream moment purpose limit answers old_questions new_questions outcomes.Device =
-    Rose (anchors_failures old_anchors) (anchors_failures new_anchors) ⊎ Rose (stream_failures old_stream) (stream_failures new_stream)
-IsFound gives_anchors anchors_ended anchors_failures gives_stream stream_ended stream_failures old_anchors new_anchors old_stream new_stream moment purpose limit answers old_questions new_questions outcomes.OutOfMemory = Unit {0}
+-- What is found in the inputs of anchors and of the stream, from their old states to their new ones. Where the anchors, memory or
+-- a device end the run, the judge wasn't asked, and the stream is untouched unless the anchors were read to their end.
+abbrev pub IsFound : {A S J : Type 0} → (A → List ℕ → A → Type 0) → (A → Type 0) → (A → ℕ) → (S → List ℕ → S → Type 0) → (S → Type 0) → (S → ℕ)
+    → (J → Answers) → (J → ℕ) → A → A → S → S → J → J → ℕ → List ℕ → ℕ → Outcome → Type 0
+IsFound gives_anchors anchors_ended anchors_failures gives_stream stream_ended stream_failures answers questions old_anchors new_anchors old_stream new_stream old_judge new_judge moment purpose limit (outcomes.Checked checked) =
+    (anchors : List PlainAnchor) × (stream : List ℕ)
+    × HasAnchors gives_anchors anchors_ended anchors_failures old_anchors new_anchors anchors
+    × gives_stream old_stream stream new_stream × IsReadFor checked.verdict (stream_ended new_stream) × Stayed (stream_failures old_stream) (stream_failures new_stream)
+    × IsVerdict (run_terms anchors moment purpose (answers old_judge)) limit stream checked.verdict
+    × IsCounted (run_terms anchors moment purpose (answers old_judge)) limit stream checked (questions old_judge) (questions new_judge)
+IsFound gives_anchors anchors_ended anchors_failures gives_stream stream_ended stream_failures answers questions old_anchors new_anchors old_stream new_stream old_judge new_judge moment purpose limit (outcomes.BadAnchors offset) =
+    IsNoAnchors gives_anchors anchors_ended anchors_failures old_anchors new_anchors (outcomes.BadAnchors offset)
+    × (new_stream ≡ old_stream) × (new_judge ≡ old_judge)
+IsFound gives_anchors anchors_ended anchors_failures gives_stream stream_ended stream_failures answers questions old_anchors new_anchors old_stream new_stream old_judge new_judge moment purpose limit outcomes.Device =
+    ((Rose (anchors_failures old_anchors) (anchors_failures new_anchors) × (new_stream ≡ old_stream))
+    ⊎ ((anchors : List PlainAnchor) × HasAnchors gives_anchors anchors_ended anchors_failures old_anchors new_anchors anchors
+    × Rose (stream_failures old_stream) (stream_failures new_stream)))
+    × (new_judge ≡ old_judge)
+IsFound gives_anchors anchors_ended anchors_failures gives_stream stream_ended stream_failures answers questions old_anchors new_anchors old_stream new_stream old_judge new_judge moment purpose limit outcomes.OutOfMemory =
+    ((Stayed (anchors_failures old_anchors) (anchors_failures new_anchors) × (new_stream ≡ old_stream))
+    ⊎ ((anchors : List PlainAnchor) × HasAnchors gives_anchors anchors_ended anchors_failures old_anchors new_anchors anchors
+    × Stayed (stream_failures old_stream) (stream_failures new_stream)))
+    × (new_judge ≡ old_judge)
 
 -- a text that was tried once: it went out, or a beginning of it and a failure was counted
 abbrev pub IsTried : {Sink : Type 0} → (Sink → List ℕ → Sink → Type 0) → (Sink → ℕ) → Sink → List ℕ → Sink → Type 0

@@ -1,5 +1,5 @@
 -- How a bundle changes.
-use Rattle.std.specs.Prelude.{◌≡◌, ◌≢◌, ℕ, ◌<◌, ◌^◌, List, [], ◌∷◌, ◌++◌, length, Bool, true, false}
+use Rattle.std.specs.Prelude.{◌≡◌, ◌≢◌, ℕ, ◌≤◌, ◌<◌, ◌^◌, List, [], ◌∷◌, ◌++◌, length, Bool, true, false}
 use Rattle.cert_desk_io.specs.Devices.{Rose}
 use Rattle.x509_cert.specs.Certificates.{PlainCertificate, certificate_octets}
 use Rattle.cert_desk.specs.declared.bundle_error.BundleError.{BundleError}
@@ -121,6 +121,20 @@ RefusesEnd bound old new errors.Failed = HadFailed old new
 abbrev pub Takes : {State : Type 0} → (State → List ℕ → State → Type 0) → State → State → ℕ → Kept → Kept → Type 0
 Takes takes from to bound old new = (octets : List ℕ) × takes from octets to × ReadsOn bound old new octets
 
+-- the most octets that one read takes
+abbrev pub most_read : ℕ
+most_read = 4096
+
+-- All that was taken before the last read is read by a bundle that still takes pieces: no octet was asked for behind what stops it.
+pub record StopsAtOnce {State : Type 0} (takes : State → List ℕ → State → Type 0) (from to : State) (bound : ℕ) (old : Kept) : Type 0 where
+  pub before : State
+  pub now : Kept
+  pub is_open : now.standing ≡ standings.Open
+  pub reads : Takes takes from before bound old now
+  pub piece : List ℕ
+  pub taken : takes before piece to
+  pub short : length piece ≤ most_read
+
 -- The device failed: the certificates are those of the octets before.
 pub record DeviceFails {State : Type 0} (takes : State → List ℕ → State → Type 0) (failures : State → ℕ) (from to : State) (bound : ℕ) (old new : Kept) : Type 0 where
   pub was_open : old.standing ≡ standings.Open
@@ -128,24 +142,28 @@ pub record DeviceFails {State : Type 0} (takes : State → List ℕ → State �
   pub rose : Rose (failures from) (failures to)
   pub reads : Takes takes from to bound old (record new { standing = standings.Open })
 
--- The stream has a fault, or ends inside a certificate.
-pub record InputFaulty {State : Type 0} (takes : State → List ℕ → State → Type 0) (is_ended : State → Type 0) (from to : State) (bound : ℕ) (old new : Kept) (place offset : ℕ) (kind : FaultKind) : Type 0 where
+-- The stream has a fault, or ends inside a certificate. No read failed.
+pub record InputFaulty {State : Type 0} (takes : State → List ℕ → State → Type 0) (is_ended : State → Type 0) (failures : State → ℕ) (from to : State) (bound : ℕ) (old new : Kept) (place offset : ℕ) (kind : FaultKind) : Type 0 where
   pub was_open : old.standing ≡ standings.Open
   pub found : IsFoundAt bound new place offset kind
   pub ends : kind ≡ kinds.Truncated → is_ended to
   pub reads : Takes takes from to bound old new
+  pub stops : StopsAtOnce takes from to bound old
+  pub sound : failures to ≡ failures from
 
--- There was no memory for what was taken.
-pub record InputFitsNot {State : Type 0} (takes : State → List ℕ → State → Type 0) (from to : State) (bound : ℕ) (old new : Kept) : Type 0 where
+-- There was no memory for what was taken. No read failed.
+pub record InputFitsNot {State : Type 0} (takes : State → List ℕ → State → Type 0) (failures : State → ℕ) (from to : State) (bound : ℕ) (old new : Kept) : Type 0 where
   pub was_open : old.standing ≡ standings.Open
   pub standing : new.standing ≡ standings.NoMemory
   pub octets : List ℕ
   pub taken : takes from octets to
   pub begins : (stream : List ℕ) → Reads bound old stream → Begins bound new.limit new.certificates (stream ++ octets)
+  pub stops : StopsAtOnce takes from to bound old
+  pub sound : failures to ≡ failures from
 
 -- why an input isn't read to its end
 abbrev pub RefusesInput : {State : Type 0} → (State → List ℕ → State → Type 0) → (State → Type 0) → (State → ℕ) → State → State → ℕ → Kept → Kept → ReadError → Type 0
 RefusesInput takes is_ended failures from to bound old new reads.Device = DeviceFails takes failures from to bound old new
-RefusesInput takes is_ended failures from to bound old new (reads.Bundle (errors.Fault place offset kind)) = InputFaulty takes is_ended from to bound old new place offset kind
-RefusesInput takes is_ended failures from to bound old new (reads.Bundle errors.OutOfMemory) = InputFitsNot takes from to bound old new
+RefusesInput takes is_ended failures from to bound old new (reads.Bundle (errors.Fault place offset kind)) = InputFaulty takes is_ended failures from to bound old new place offset kind
+RefusesInput takes is_ended failures from to bound old new (reads.Bundle errors.OutOfMemory) = InputFitsNot takes failures from to bound old new
 RefusesInput takes is_ended failures from to bound old new (reads.Bundle errors.Failed) = IsShut old new × (to ≡ from)

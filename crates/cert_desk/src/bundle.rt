@@ -206,7 +206,7 @@ impl Bundle {
     }
 
     /// Takes the octets of an input, to its end or to a fault, and ends the stream. No read is
-    /// repeated.
+    /// repeated, and none follows the one that brings a fault or finds no memory.
     ///
     /// # Errors
     ///
@@ -220,6 +220,7 @@ impl Bundle {
         ensures was_open { OnOk result (self.old.standing ≡ Standing.Open) }
         ensures ended { OnOk result (self.new.standing ≡ Standing.Ended) }
         ensures end { OnOk result (I.is_ended input.new) }
+        ensures sound { OnOk result (I.failures input.new ≡ I.failures input.old) }
         ensures reads { OnOk result (Takes I.takes input.old input.new arc_bound self.old self.new) }
         // An input that isn't.
         ensures refused { IfErr result (RefusesInput I.takes I.is_ended I.failures input.old input.new arc_bound self.old self.new) }

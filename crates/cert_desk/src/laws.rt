@@ -1,5 +1,5 @@
 //! Laws of streams. Each function does nothing: its contract is the law.
-ghost use Rattle.cert_desk.specs.Laws.{HasOneChain, FaultHasNoChain, HasOneFault, FaultStays};
+ghost use Rattle.cert_desk.specs.Laws.{HasOneChain, FaultHasNoChain, HasOneFault, FaultStays, HasOneVerdict};
 
 /// No stream joins two lists of certificates.
 pub fn one_chain()
@@ -20,4 +20,9 @@ pub fn one_fault()
 /// certificate.
 pub fn fault_stays()
     ensures { FaultStays }
+{}
+
+/// No stream has two verdicts under the same terms.
+pub fn one_verdict()
+    ensures { HasOneVerdict }
 {}

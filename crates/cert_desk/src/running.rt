@@ -4,7 +4,7 @@ ghost use Rattle.cert_desk.specs.declared.status.Outcome.{Outcome};
 ghost use Rattle.cert_desk.specs.Anchors.{anchor_plain, purpose_plain};
 ghost use Rattle.cert_desk.specs.Lines.{device_line};
 ghost use Rattle.cert_desk.specs.Reading.{IsFed};
-ghost use Rattle.cert_desk.specs.Runs.{anchor_of, AreAnchors, IsNoAnchors, IsFound, IsTried, IsComplaint, IsAnswer, IsTold, status_of};
+ghost use Rattle.cert_desk.specs.Runs.{anchor_of, HasAnchors, IsNoAnchors, IsFound, IsTried, IsComplaint, IsAnswer, IsTold, status_of};
 
 use crate::anchor::Anchor;
 use crate::bundle::Bundle;
@@ -50,7 +50,7 @@ fn anchors_of(alloc: Global, bundle: &Bundle) -> Result<Vec<Anchor>, AllocError>
 
 // The anchors that joined certificates give, or why there are none.
 fn read_anchors<A: Input>(alloc: Global, input: &mut A) -> Result<Vec<Anchor>, Outcome>
-    ensures read { IfOk result (λ anchors. (octets : List ℕ) × A.takes input.old octets input.new × AreAnchors octets (map anchor_plain anchors.items) × A.is_ended input.new) }
+    ensures read { IfOk result (λ anchors. HasAnchors A.takes A.is_ended A.failures input.old input.new (map anchor_plain anchors.items)) }
     ensures stopped { IfErr result (λ outcome. IsNoAnchors A.takes A.is_ended A.failures input.old input.new outcome) }
 {
     let mut front = Front {
@@ -63,13 +63,15 @@ fn read_anchors<A: Input>(alloc: Global, input: &mut A) -> Result<Vec<Anchor>, O
     match bundle.standing() {
         Standing::NoMemory => return Err(Outcome::OutOfMemory),
         Standing::NoDevice => return Err(Outcome::Device),
-        _ if is_long => return Err(Outcome::BadAnchors { offset: 0 }),
-        Standing::Faulted(_) => {
-            return Err(Outcome::BadAnchors {
-                offset: bundle.end_offset(),
-            });
-        }
-        Standing::Open | Standing::Ended => {}
+        Standing::Open | Standing::Ended | Standing::Faulted(_) => {}
+    }
+    if is_long {
+        return Err(Outcome::BadAnchors { offset: 0 });
+    }
+    if let Standing::Faulted(_) = bundle.standing() {
+        return Err(Outcome::BadAnchors {
+            offset: bundle.end_offset(),
+        });
     }
     match anchors_of(alloc, &bundle) {
         Ok(anchors) => Ok(anchors),
@@ -88,8 +90,8 @@ fn find_outcome<A: Input, S: Input, J: SignatureJudge>(
     judge: &mut J,
 ) -> Outcome
     requires { 6 ≤ limit }
-    ensures found { IsFound A.takes A.is_ended A.failures S.takes S.is_ended S.failures anchors.old anchors.new stream.old stream.new moment (purpose_plain purpose.now) limit
-        (J.answers judge.old) (J.questions judge.old) (J.questions judge.new) result }
+    ensures found { IsFound A.takes A.is_ended A.failures S.takes S.is_ended S.failures J.answers J.questions
+        anchors.old anchors.new stream.old stream.new judge.old judge.new moment (purpose_plain purpose.now) limit result }
     ensures kept { J.answers judge.new ≡ J.answers judge.old }
 {
     let anchors = match read_anchors(alloc, anchors) {
@@ -186,8 +188,8 @@ pub fn run_check<A: Input, S: Input, O: Output, E: Output, J: SignatureJudge>(
     requires { 6 ≤ limit }
     // What is told, and the status, are those of what is found in the octets that were taken.
     ensures told { (outcome : Outcome)
-        × IsFound A.takes A.is_ended A.failures S.takes S.is_ended S.failures anchors.old anchors.new stream.old stream.new moment (purpose_plain purpose.now) limit
-        (J.answers judge.old) (J.questions judge.old) (J.questions judge.new) outcome
+        × IsFound A.takes A.is_ended A.failures S.takes S.is_ended S.failures J.answers J.questions
+        anchors.old anchors.new stream.old stream.new judge.old judge.new moment (purpose_plain purpose.now) limit outcome
         × IsTold O.gives O.failures E.gives E.failures out.old err.old out.new err.new outcome result }
     ensures kept { J.answers judge.new ≡ J.answers judge.old }
 {

@@ -8,6 +8,7 @@ use std::process::ExitCode;
 use std::{env, io};
 
 const DEVICE: &str = "device\n";
+const MEMORY: &str = "memory\n";
 
 fn main(rt: HostRuntime) -> ExitCode {
     ExitCode::from(run(&rt) as u8)
@@ -16,20 +17,23 @@ fn main(rt: HostRuntime) -> ExitCode {
 /// Judges the arguments, opens the files, and runs the check on them.
 fn run(rt: &HostRuntime) -> Status {
     let mut err = ToWrite::new(rt.stderr());
-    let Ok(words) = env::args(rt) else {
-        return complain(&mut err, USAGE, Status::Arguments);
+    let words = match env::args(rt) {
+        Ok(words) => words,
+        Err(error) => return complain_of(&mut err, &error, USAGE, Status::Arguments),
     };
     let Ok(words) = words.collect::<Vec<String>>(rt.alloc()) else {
-        return complain(&mut err, "memory\n", Status::Memory);
+        return complain(&mut err, MEMORY, Status::Memory);
     };
     let Some(arguments) = Arguments::parse(words.as_slice()) else {
         return complain(&mut err, USAGE, Status::Arguments);
     };
-    let (Ok(anchors), Ok(stream)) = (
-        File::open(rt, arguments.anchors),
-        File::open(rt, arguments.stream),
-    ) else {
-        return complain(&mut err, DEVICE, Status::Device);
+    let anchors = match File::open(rt, arguments.anchors) {
+        Ok(anchors) => anchors,
+        Err(error) => return complain_of(&mut err, &error, DEVICE, Status::Device),
+    };
+    let stream = match File::open(rt, arguments.stream) {
+        Ok(stream) => stream,
+        Err(error) => return complain_of(&mut err, &error, DEVICE, Status::Device),
     };
     run_check(
         rt.alloc(),
@@ -42,6 +46,14 @@ fn run(rt: &HostRuntime) -> Status {
         arguments.limit,
         &mut DigestJudge::new(),
     )
+}
+
+/// Tells an error: want of memory as `memory`, any other by this line and status.
+fn complain_of<E: Output>(err: &mut E, error: &io::Error, line: &str, status: Status) -> Status {
+    match error.kind() {
+        io::ErrorKind::OutOfMemory => complain(err, MEMORY, Status::Memory),
+        _ => complain(err, line, status),
+    }
 }
 
 /// Writes a line on the error output. One that can't be written is a failed device, whose word is

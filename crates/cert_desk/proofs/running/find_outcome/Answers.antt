@@ -1,7 +1,7 @@
 use Rattle.std.proofs.Common.{◌≡◌, ℕ, List, map, Ok, Err, sym, ap, ◌∙◌, subst}
 use Rattle.x509_cert.specs.Views.{arc_bound}
 use Rattle.cert_desk.specs.Anchors.{anchor_plain, purpose_plain}
-use Rattle.cert_desk.specs.Runs.{AreAnchors, run_terms}
+use Rattle.cert_desk.specs.Runs.{HasAnchors, run_terms}
 use Rattle.cert_desk.specs.Verdicts.{IsVerdict, IsCounted}
 use Rattle.cert_desk.proofs.RunLaws.{fed_reads}
 use Rattle.cert_desk.proofs.running.find_outcome.Goals as goal
@@ -16,15 +16,14 @@ returns-in-Ok-check-clause-found g c =
     (λ e. (let none = sym ok ∙ c.check.ensures.out_of_memory.1 e in absurd cc))
     (λ e. (let none = sym ok ∙ c.check.ensures.device.1 e in absurd cc))
     c.in-Ok-check.ensures.fault in
-    let anchors = map anchor_plain c.deref.result.now in (
-      read.0,
+    let anchors = map anchor_plain c.deref.result.now in
+    let given = sym c.deref.ensures.value in (
       anchors,
       fed.0,
-      read.1,
-      subst (λ xs. AreAnchors read.0 (map anchor_plain xs)) (sym c.deref.ensures.value) read.2,
-      read.3,
+      subst (λ xs. HasAnchors g.A.Input.takes g.A.Input.is_ended g.A.Input.failures c.args.anchors.now c.read_anchors.new.input (map anchor_plain xs)) given read,
       fed.1,
       fed.3,
+      fed.4,
       subst (λ n. IsVerdict (run_terms anchors c.args.moment (purpose_plain c.args.purpose.now) (g.J.SignatureJudge.answers c.args.judge.now)) n fed.0 c.in-Ok-check.checked.verdict)
           c.read_stream-bundle.ensures.limit (c.in-Ok-check.ensures.verdict fed.0 fed.2),
       subst (λ n. IsCounted (run_terms anchors c.args.moment (purpose_plain c.args.purpose.now) (g.J.SignatureJudge.answers c.args.judge.now)) n fed.0 c.in-Ok-check.checked (g.J.SignatureJudge.questions c.args.judge.now) (g.J.SignatureJudge.questions c.check.new.judge))

@@ -2,7 +2,7 @@
 use Rattle.std.proofs.Common.{◌≡◌, ◌-◌, ◌^◌, length}
 use Rattle.x509_cert.specs.Views.{arc_bound}
 use Rattle.cert_desk.specs.declared.standing.Standing.TheVariants as standings
-use Rattle.cert_desk.specs.Steps.{kept_octets, Grows, Takes}
+use Rattle.cert_desk.specs.Steps.{kept_octets, most_read, Grows, Takes}
 use Rattle.cert_desk.proofs.bundle.Bundle.read_from.Given as goal
 
 abbrev pub invariant-loop-count : goal.invariant-loop-count
@@ -11,6 +11,7 @@ invariant-loop-count g l = record {
   is_open : l.self.standing ≡ standings.Open;
   limit : l.self.limit ≡ l.fn.self.limit;
   grows : Grows l.fn.self l.self;
+  room : length l.buffer ≡ most_read;
   sound : g.I.Input.failures l.input ≡ g.I.Input.failures l.fn.input;
   reads : Takes g.I.Input.takes l.fn.input l.input arc_bound l.fn.self l.self;
 }
