@@ -11,11 +11,12 @@ use Rattle.std.specs.Ordering.{nat_cmp}
 use Rattle.std.specs.declared.cmp.Ordering.TheVariants.{Less}
 use Rattle.std.specs.Cmp.Lexicographic.{slice_cmp}
 use Rattle.der_core_head.specs.declared.error.ErrorKind.{ErrorKind}
+use Rattle.der_core_head.specs.declared.error.ErrorKind.TheVariants as kinds
 use Rattle.der_core_head.specs.declared.tag.Tag.{Tag}
 use Rattle.der_core_head.specs.Octets.{◌>>=◌, Readings}
 use Rattle.der_core_head.specs.Tags.{IsTag, same_tag, tag_at, tag_octets}
 use Rattle.der_core_head.specs.Heads.{Fits, head_octets, length_octets, tlv}
-use Rattle.der_core_head.specs.Shapes.{Shape, Content, Body, tagged, any, either, optional, defaulted, nothing, leaf, nested, done, field, only, many, exactly, rising, Value, ContentValue, BodyValue, AnyValue, octets_of, contents, body_octets, unless, IsValid, IsContent, IsBody, AllRising, begins}
+use Rattle.der_core_head.specs.Shapes.{Shape, Content, Body, tagged, any, either, optional, defaulted, nothing, leaf, nested, done, field, only, many, exactly, few, rising, Value, ContentValue, BodyValue, AnyValue, octets_of, contents, body_octets, unless, IsValid, IsContent, IsBody, AllRising, begins}
 use Rattle.der_core_head.specs.Spelling.{is_apart, is_content_apart, is_body_apart, is_element, is_clear, is_end, none_of, body_begins, are_enough, are_content_enough, are_body_enough}
 use Rattle.der_core_head.specs.Grammar.{whole, read, read_content, read_body, read_many, read_exactly, read_rising, follows_last, tlv_at, any_at, peek_at, chosen, opt_at, default_at, either_at, value_at, slice_at, leaf_at}
 use Rattle.der_core_head.proofs.TagLaws.{tag_again, tag_octets-some, same_tag-refl, same_tag-eq}
@@ -117,6 +118,10 @@ body_first (exactly n s) [] a h = inl refl
 body_first (exactly n s) (x ∷ xs) a h =
     let p = and_parts (is_element s) (is_apart s) a in
     inr (first_more (begins s) (octets_of s x) (flat_map (octets_of s) xs) (element_first s x p.0 h.0.0))
+body_first (few n s) [] a h = inl refl
+body_first (few n s) (x ∷ xs) a h =
+    let p = and_parts (is_element s) (is_apart s) a in
+    inr (first_more (begins s) (octets_of s x) (flat_map (octets_of s) xs) (element_first s x p.0 h.0.0))
 body_first (rising s) [] a h = inl refl
 body_first (rising s) (x ∷ xs) a h =
     let p = and_parts (is_element s) (is_apart s) a in
@@ -168,6 +173,7 @@ end_empty (field s b) v e = absurd (false≢true e)
 end_empty (only s) v e = absurd (false≢true e)
 end_empty (many s) v e = absurd (false≢true e)
 end_empty (exactly n s) v e = absurd (false≢true e)
+end_empty (few n s) v e = absurd (false≢true e)
 end_empty (rising s) v e = absurd (false≢true e)
 
 -- what follows a field doesn't begin as the field would
@@ -216,20 +222,26 @@ ReadsAgain {P} F V o = (x : P) (t : List ℕ) → V x → F (o x ++ t) ≡ Ok (x
 abbrev TakesSome : {P : Type 0} → (P → Type 0) → (P → List ℕ) → Type 0
 TakesSome {P} V o = (x : P) → V x → (b : ℕ) × (w : List ℕ) × (o x ≡ b ∷ w)
 
-many_again : {P : Type 0} (F : Readings P) (V : P → Type 0) (o : P → List ℕ) → ReadsAgain F V o → TakesSome V o
-    → (xs : List P) (n : ℕ) → length (flat_map o xs) ≤ n → AllByRecursion V xs → read_many F n (flat_map o xs) ≡ Ok (xs, [])
+many_again : {P : Type 0} (e : ErrorKind) (F : Readings P) (V : P → Type 0) (o : P → List ℕ) → ReadsAgain F V o → TakesSome V o
+    → (xs : List P) (n : ℕ) → length xs ≤ n → AllByRecursion V xs → read_many e F n (flat_map o xs) ≡ Ok (xs, [])
 unfolding read_many
-many_again F V o each some [] zero l h = refl
-many_again F V o each some [] (suc n) l h = refl
-many_again F V o each some (x ∷ xs) n l h =
+many_again e F V o each some [] zero l h = refl
+many_again e F V o each some [] (suc n) l h = refl
+many_again e F V o each some (x ∷ xs) zero l h = absurd (omega arith)
+many_again e F V o each some (x ∷ xs) (suc n) l h =
     let f = some x h.0 in
     let rest = flat_map o xs in
     let is : o x ++ rest ≡ f.0 ∷ (f.1 ++ rest) = ap (λ (q : List ℕ). q ++ rest) f.2 in
-    let long : length (o x ++ rest) ≡ suc (length (f.1 ++ rest)) = ap length is in
-    let m : n ≡ suc (n - 1) = omega arith in
-    let more = many_again F V o each some xs (n - 1) (omega (arith, length-append f.1 rest)) h.1 in
+    let more = many_again e F V o each some xs n (omega arith) h.1 in
     let first : F (f.0 ∷ (f.1 ++ rest)) ≡ Ok (x, rest) = ap F (sym is) ∙ each x rest h.0 in
-    ap (read_many F n) is ∙ ap (λ k. read_many F k (f.0 ∷ (f.1 ++ rest))) m ∙ rw (first, more) refl
+    ap (read_many e F (suc n)) is ∙ rw (first, more) refl
+
+-- values that take octets are no more than these
+no_more : {P : Type 0} (V : P → Type 0) (o : P → List ℕ) → TakesSome V o → (xs : List P) → AllByRecursion V xs → length xs ≤ length (flat_map o xs)
+no_more V o some [] h = omega arith
+no_more V o some (x ∷ xs) h =
+    let f = some x h.0 in
+    omega (arith, ap length f.2, length-append (o x) (flat_map o xs), no_more V o some xs h.1)
 
 exactly_again : {P : Type 0} (F : Readings P) (V : P → Type 0) (o : P → List ℕ) → ReadsAgain F V o → (xs : List P) (n : ℕ) → AllByRecursion V xs → length xs ≡ n → read_exactly F n (flat_map o xs) ≡ Ok (xs, [])
 unfolding read_exactly
@@ -332,10 +344,14 @@ mutual
       ap (read s room) (sym (append-nil (octets_of s v))) ∙ complete s room v [] p.1 n h (stops_end s)
   complete_body (many s) room v a n h =
       let p = and_parts (is_element s) (is_apart s) a in
-      many_again (read s room) (IsValid s) (octets_of s) (λ x t k. complete s room x t p.1 n k (stops_element s t p.0)) (λ x k. element_some s x p.0 k) v (length (flat_map (octets_of s) v)) (omega arith) h
+      many_again kinds.TrailingData (read s room) (IsValid s) (octets_of s) (λ x t k. complete s room x t p.1 n k (stops_element s t p.0)) (λ x k. element_some s x p.0 k) v (length (flat_map (octets_of s) v))
+      (no_more (IsValid s) (octets_of s) (λ x k. element_some s x p.0 k) v h) h
   complete_body (exactly k s) room v a n h =
       let p = and_parts (is_element s) (is_apart s) a in
       exactly_again (read s room) (IsValid s) (octets_of s) (λ x t q. complete s room x t p.1 n q (stops_element s t p.0)) v k h.0 h.1
+  complete_body (few k s) room v a n h =
+      let p = and_parts (is_element s) (is_apart s) a in
+      many_again kinds.Overlength (read s room) (IsValid s) (octets_of s) (λ x t q. complete s room x t p.1 n q (stops_element s t p.0)) (λ x q. element_some s x p.0 q) v k h.1 h.0
   complete_body (rising s) room v a n h =
       let p = and_parts (is_element s) (is_apart s) a in
       rising_again (read s room) (IsValid s) (octets_of s) (λ x t k. complete s room x t p.1 n k (stops_element s t p.0)) (λ x k. element_some s x p.0 k) None v (length (flat_map (octets_of s) v)) (omega arith) h.0 (above_none (octets_of s) v) h.1

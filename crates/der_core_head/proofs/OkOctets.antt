@@ -13,7 +13,7 @@ use Rattle.der_core_head.specs.Octets.{◌>>=◌}
 use Rattle.der_core_head.specs.Tags.{tag_octets}
 use Rattle.der_core_head.specs.Heads.{Fits, head_octets, length_octets, tlv}
 use Rattle.der_core_head.specs.Leaves.{leaf_contents}
-use Rattle.der_core_head.specs.Shapes.{Shape, Content, Body, tagged, any, either, optional, defaulted, nothing, leaf, nested, done, field, only, many, exactly, rising, Value, ContentValue, BodyValue, octets_of, contents, body_octets, unless}
+use Rattle.der_core_head.specs.Shapes.{Shape, Content, Body, tagged, any, either, optional, defaulted, nothing, leaf, nested, done, field, only, many, exactly, few, rising, Value, ContentValue, BodyValue, octets_of, contents, body_octets, unless}
 use Rattle.der_core_head.specs.Reading.{Gives}
 use Rattle.der_core_head.specs.Writing.{Out, lacks, less, put, put_head, head_len, sum_len, fit_len, tlv_len, both_len, many_len, default_len, size, size_content, size_body, write_tlv, write_many, all_follow, write_rising, default_write, write, write_content, write_body}
 use Rattle.der_core_head.proofs.Results.{ok_is, bind_ok, unless_ok}
@@ -94,6 +94,7 @@ mutual
   counts_body (only s) v = counts_octets s v
   counts_body (many s) v = many_counted (size s) (octets_of s) (λ x. counts_octets s x) v
   counts_body (exactly n s) v = many_counted (size s) (octets_of s) (λ x. counts_octets s x) v
+  counts_body (few n s) v = many_counted (size s) (octets_of s) (λ x. counts_octets s x) v
   counts_body (rising s) v = many_counted (size s) (octets_of s) (λ x. counts_octets s x) v
 
 -- an Ok has these octets behind what was written before
@@ -166,6 +167,7 @@ mutual
   writes_body (only s) v = writes_octets s v
   writes_body (many s) v = many_appended (write s) (octets_of s) (λ x. writes_octets s x) v
   writes_body (exactly n s) v = many_appended (write s) (octets_of s) (λ x. writes_octets s x) v
+  writes_body (few n s) v = many_appended (write s) (octets_of s) (λ x. writes_octets s x) v
   writes_body (rising s) v = rising_appended (write s) (octets_of s) (λ x. writes_octets s x) v
 
 tlv_fits : (t : Tag) (c : List ℕ) (r : Result ℕ ErrorKind) (f : Out → Result Out ErrorKind) (o z : Out) → Counts r c → write_tlv t r f o ≡ Ok z → Fits (tlv t c)

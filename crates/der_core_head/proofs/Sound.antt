@@ -18,7 +18,7 @@ use Rattle.der_core_head.specs.Octets.{IsOctets, are_octets, ◌>>=◌, Readings
 use Rattle.der_core_head.specs.Tags.{IsTag, same_tag, tag_at}
 use Rattle.der_core_head.specs.Heads.{Fits, head_at, head_octets, tlv}
 use Rattle.der_core_head.specs.Leaves.{leaf_read}
-use Rattle.der_core_head.specs.Shapes.{Shape, Content, Body, tagged, any, either, optional, defaulted, nothing, leaf, nested, done, field, only, many, exactly, rising, Value, ContentValue, BodyValue, AnyValue, octets_of, contents, body_octets, unless, IsValid, IsContent, IsBody, AllRising, begins}
+use Rattle.der_core_head.specs.Shapes.{Shape, Content, Body, tagged, any, either, optional, defaulted, nothing, leaf, nested, done, field, only, many, exactly, few, rising, Value, ContentValue, BodyValue, AnyValue, octets_of, contents, body_octets, unless, IsValid, IsContent, IsBody, AllRising, begins}
 use Rattle.der_core_head.specs.Spelling.{is_apart, is_content_apart, is_body_apart, is_element, is_clear}
 use Rattle.der_core_head.specs.Grammar.{whole, read, read_content, read_body, read_many, read_exactly, read_rising, ordered, follows_last, tlv_at, any_at, peek_at, chosen, opt_after, opt_at, default_after, default_at, either_at, value_at, slice_at, leaf_at}
 use Rattle.der_core_head.proofs.Results.{ok_is, bind_ok, if_ok, unless_ok, either_ok, whole_ok}
@@ -158,20 +158,32 @@ Found V o w v r = V v × (w ≡ o v ++ r)
 abbrev Finds : {P : Type 0} → Readings P → (P → Type 0) → (P → List ℕ) → Type 0
 Finds {P} F V o = (w : List ℕ) (v : P) (r : List ℕ) → IsBytes w → Fits w → F w ≡ Ok (v, r) → Found V o w v r
 
-many_sound : {P : Type 0} (F : Readings P) (V : P → Type 0) (o : P → List ℕ) → Finds F V o
-    → (n : ℕ) (w : List ℕ) (v : List P) (r : List ℕ) → IsBytes w → Fits w → read_many F n w ≡ Ok (v, r) → Found (AllByRecursion V) (flat_map o) w v r
+many_sound : {P : Type 0} (k : ErrorKind) (F : Readings P) (V : P → Type 0) (o : P → List ℕ) → Finds F V o
+    → (n : ℕ) (w : List ℕ) (v : List P) (r : List ℕ) → IsBytes w → Fits w → read_many k F n w ≡ Ok (v, r) → Found (AllByRecursion V) (flat_map o) w v r
 unfolding read_many
-many_sound {P} F V o each zero [] v r bytes fits e = let same = ok_is ([], []) (v, r) e in subst (λ (q : List P × List ℕ). Found (AllByRecursion V) (flat_map o) [] q.0 q.1) same (tt, refl)
-many_sound F V o each zero (b ∷ w) v r bytes fits e = absurd cc
-many_sound {P} F V o each (suc n) [] v r bytes fits e = let same = ok_is ([], []) (v, r) e in subst (λ (q : List P × List ℕ). Found (AllByRecursion V) (flat_map o) [] q.0 q.1) same (tt, refl)
-many_sound {P} F V o each (suc n) (b ∷ w) v r bytes fits e =
-    let x = bind_ok (F (b ∷ w)) (λ x. read_many F n x.1 >>= λ y. Ok (x.0 ∷ y.0, y.1)) (v, r) e in
-    let y = bind_ok (read_many F n x.0.1) (λ y. Ok (x.0.0 ∷ y.0, y.1)) (v, r) x.2 in
+many_sound {P} k F V o each zero [] v r bytes fits e = let same = ok_is ([], []) (v, r) e in subst (λ (q : List P × List ℕ). Found (AllByRecursion V) (flat_map o) [] q.0 q.1) same (tt, refl)
+many_sound k F V o each zero (b ∷ w) v r bytes fits e = absurd cc
+many_sound {P} k F V o each (suc n) [] v r bytes fits e = let same = ok_is ([], []) (v, r) e in subst (λ (q : List P × List ℕ). Found (AllByRecursion V) (flat_map o) [] q.0 q.1) same (tt, refl)
+many_sound {P} k F V o each (suc n) (b ∷ w) v r bytes fits e =
+    let x = bind_ok (F (b ∷ w)) (λ x. read_many k F n x.1 >>= λ y. Ok (x.0 ∷ y.0, y.1)) (v, r) e in
+    let y = bind_ok (read_many k F n x.0.1) (λ y. Ok (x.0.0 ∷ y.0, y.1)) (v, r) x.2 in
     let u = each (b ∷ w) x.0.0 x.0.1 bytes fits x.1 in
-    let m = many_sound F V o each n x.0.1 y.0.0 y.0.1 (bytes_rest (o x.0.0) x.0.1 (b ∷ w) u.1 bytes) (fits_rest (o x.0.0) x.0.1 (b ∷ w) u.1 fits) y.1 in
+    let m = many_sound k F V o each n x.0.1 y.0.0 y.0.1 (bytes_rest (o x.0.0) x.0.1 (b ∷ w) u.1 bytes) (fits_rest (o x.0.0) x.0.1 (b ∷ w) u.1 fits) y.1 in
     let same = ok_is (x.0.0 ∷ y.0.0, y.0.1) (v, r) y.2 in
     subst (λ (q : List P × List ℕ). Found (AllByRecursion V) (flat_map o) (b ∷ w) q.0 q.1) {x = (x.0.0 ∷ y.0.0, y.0.1)} same
     ((u.0, m.0), joined (o x.0.0) (flat_map o y.0.0) y.0.1 x.0.1 (b ∷ w) u.1 m.1)
+
+-- and no more than so many
+few_sound : {P : Type 0} (k : ErrorKind) (F : Readings P) (n : ℕ) (w : List ℕ) (v : List P) (r : List ℕ) → read_many k F n w ≡ Ok (v, r) → length v ≤ n
+unfolding read_many
+few_sound {P} k F zero [] v r e = let same = ok_is ([], []) (v, r) e in subst (λ (q : List P × List ℕ). length q.0 ≤ 0) same (omega arith)
+few_sound k F zero (b ∷ w) v r e = absurd cc
+few_sound {P} k F (suc n) [] v r e = let same = ok_is ([], []) (v, r) e in subst (λ (q : List P × List ℕ). length q.0 ≤ suc n) same (omega arith)
+few_sound {P} k F (suc n) (b ∷ w) v r e =
+    let x = bind_ok (F (b ∷ w)) (λ x. read_many k F n x.1 >>= λ y. Ok (x.0 ∷ y.0, y.1)) (v, r) e in
+    let y = bind_ok (read_many k F n x.0.1) (λ y. Ok (x.0.0 ∷ y.0, y.1)) (v, r) x.2 in
+    let same = ok_is (x.0.0 ∷ y.0.0, y.0.1) (v, r) y.2 in
+    subst (λ (q : List P × List ℕ). length q.0 ≤ suc n) {x = (x.0.0 ∷ y.0.0, y.0.1)} same (omega (arith, few_sound k F n x.0.1 y.0.0 y.0.1 y.1))
 
 exactly_sound : {P : Type 0} (F : Readings P) (V : P → Type 0) (o : P → List ℕ) → Finds F V o
     → (n : ℕ) (w : List ℕ) (v : List P) (r : List ℕ) → IsBytes w → Fits w → read_exactly F n w ≡ Ok (v, r) → Found (λ v. AllByRecursion V v × (length v ≡ n)) (flat_map o) w v r
@@ -285,9 +297,12 @@ mutual
       ((u.0, m.0), joined (octets_of s x.0.0) (body_octets b y.0.0) y.0.1 x.0.1 w u.1 m.1)
   sound_body (only s) room w v r a bytes fits e = sound s room w v r (and_parts (is_element s) _ a).1 bytes fits e
   sound_body (many s) room w v r a bytes fits e =
-      many_sound (read s room) (IsValid s) (octets_of s) (λ w v r bytes fits e. sound s room w v r (and_parts (is_element s) _ a).1 bytes fits e) (length w) w v r bytes fits e
+      many_sound kinds.TrailingData (read s room) (IsValid s) (octets_of s) (λ w v r bytes fits e. sound s room w v r (and_parts (is_element s) _ a).1 bytes fits e) (length w) w v r bytes fits e
   sound_body (exactly n s) room w v r a bytes fits e =
       exactly_sound (read s room) (IsValid s) (octets_of s) (λ w v r bytes fits e. sound s room w v r (and_parts (is_element s) _ a).1 bytes fits e) n w v r bytes fits e
+  sound_body (few n s) room w v r a bytes fits e =
+      let h = many_sound kinds.Overlength (read s room) (IsValid s) (octets_of s) (λ w v r bytes fits e. sound s room w v r (and_parts (is_element s) _ a).1 bytes fits e) n w v r bytes fits e in
+      ((h.0, few_sound kinds.Overlength (read s room) n w v r e), h.1)
   sound_body (rising s) room w v r a bytes fits e =
       let h = rising_sound (read s room) (IsValid s) (octets_of s) (λ w v r bytes fits e. sound s room w v r (and_parts (is_element s) _ a).1 bytes fits e) None (length w) w v r bytes fits e in
       ((h.0.0, from_none (octets_of s) v h.0.1), h.1)

@@ -10,7 +10,7 @@ use Rattle.der_core_head.specs.declared.tag.Tag.{Tag}
 use Rattle.der_core_head.specs.Tags.{tag_octets}
 use Rattle.der_core_head.specs.Heads.{Fits, head_octets, length_octets, tlv}
 use Rattle.der_core_head.specs.Leaves.{leaf_contents}
-use Rattle.der_core_head.specs.Shapes.{Shape, Content, Body, tagged, any, either, optional, defaulted, nothing, leaf, nested, done, field, only, many, exactly, rising, Value, ContentValue, BodyValue, octets_of, contents, body_octets, unless, AllRising, IsValid, IsContent, IsBody}
+use Rattle.der_core_head.specs.Shapes.{Shape, Content, Body, tagged, any, either, optional, defaulted, nothing, leaf, nested, done, field, only, many, exactly, few, rising, Value, ContentValue, BodyValue, octets_of, contents, body_octets, unless, AllRising, IsValid, IsContent, IsBody}
 use Rattle.der_core_head.specs.Octets.{◌>>=◌}
 use Rattle.der_core_head.specs.Reading.{Gives}
 use Rattle.der_core_head.specs.Writing.{Out, put, put_head, head_len, sum_len, fit_len, tlv_len, both_len, many_len, default_len, size, size_content, size_body, write_tlv, write_many, all_follow, write_rising, default_write, write, write_content, write_body}
@@ -72,6 +72,7 @@ mutual
   sized_body (only s) v h l = sized s v h
   sized_body (many s) v h l = many_sized (size s) (IsValid s) (octets_of s) (λ x k m. sized s x k) v h l
   sized_body (exactly n s) v h l = many_sized (size s) (IsValid s) (octets_of s) (λ x k m. sized s x k) v h.0 l
+  sized_body (few n s) v h l = many_sized (size s) (IsValid s) (octets_of s) (λ x k m. sized s x k) v h.0 l
   sized_body (rising s) v h l = many_sized (size s) (IsValid s) (octets_of s) (λ x k m. sized s x k) v h.0 l
 
 -- a writer without a limit
@@ -146,6 +147,7 @@ mutual
   written_body (only s) v a h = written s v a h
   written_body (many s) v a h = many_put (write s) (IsValid s) (octets_of s) (λ x a k. written s x a k) v a h
   written_body (exactly n s) v a h = many_put (write s) (IsValid s) (octets_of s) (λ x a k. written s x a k) v a h.0
+  written_body (few n s) v a h = many_put (write s) (IsValid s) (octets_of s) (λ x a k. written s x a k) v a h.0
   written_body (rising s) v a h = rising_written (write s) (octets_of s) v (out a) h.1 ∙ many_put (write s) (IsValid s) (octets_of s) (λ x a k. written s x a k) v a h.0
 
 -- What is too long to be counted isn't written, and is refused alike.

@@ -10,7 +10,7 @@ use Rattle.der_core_head.specs.declared.error.ErrorKind.{ErrorKind}
 use Rattle.der_core_head.specs.declared.tag.Tag.{Tag}
 use Rattle.der_core_head.specs.Octets.{◌>>=◌}
 use Rattle.der_core_head.specs.Grammar.{ordered, follows}
-use Rattle.der_core_head.specs.Shapes.{Shape, Content, Body, tagged, any, either, optional, defaulted, nothing, leaf, nested, done, field, only, many, exactly, rising, Value, ContentValue, BodyValue, octets_of, AllRising, IsValid, IsContent, IsBody}
+use Rattle.der_core_head.specs.Shapes.{Shape, Content, Body, tagged, any, either, optional, defaulted, nothing, leaf, nested, done, field, only, many, exactly, few, rising, Value, ContentValue, BodyValue, octets_of, AllRising, IsValid, IsContent, IsBody}
 use Rattle.der_core_head.specs.Ranges.{IsInRange, IsContentInRange, IsBodyInRange}
 use Rattle.der_core_head.specs.Writing.{Out, put_head, size_content, write_tlv, write_many, all_follow, write_rising, default_write, write, write_content, write_body}
 use Rattle.der_core_head.proofs.Results.{bind_ok}
@@ -86,6 +86,7 @@ mutual
   body_valid (only s) v o z e h = written_valid s v o z e h
   body_valid (many s) v o z e h = members_written (write s) (λ x. IsInRange s x) (λ x. IsValid s x) (λ x o z. written_valid s x o z) v o z e h
   body_valid (exactly n s) v o z e h = (members_written (write s) (λ x. IsInRange s x) (λ x. IsValid s x) (λ x o z. written_valid s x o z) v o z e h.0, h.1)
+  body_valid (few n s) v o z e h = (members_written (write s) (λ x. IsInRange s x) (λ x. IsValid s x) (λ x o z. written_valid s x o z) v o z e h.0, h.1)
   body_valid (rising s) v o z e h =
       let p = set_written (write s) (octets_of s) v o z e in
       (members_written (write s) (λ x. IsInRange s x) (λ x. IsValid s x) (λ x o z. written_valid s x o z) v o p.0.0 p.0.1 h, p.1)
@@ -122,6 +123,7 @@ mutual
   body_in_range (only s) v h = valid_in_range s v h
   body_in_range (many s) v h = each_in_range (λ x. IsValid s x) (λ x. IsInRange s x) (λ x k. valid_in_range s x k) v h
   body_in_range (exactly n s) v h = (each_in_range (λ x. IsValid s x) (λ x. IsInRange s x) (λ x k. valid_in_range s x k) v h.0, h.1)
+  body_in_range (few n s) v h = (each_in_range (λ x. IsValid s x) (λ x. IsInRange s x) (λ x k. valid_in_range s x k) v h.0, h.1)
   body_in_range (rising s) v h = each_in_range (λ x. IsValid s x) (λ x. IsInRange s x) (λ x k. valid_in_range s x k) v h.0
 
 pub list_in_range : (s : Shape) (v : List (Value s)) → AllByRecursion (λ x. IsValid s x) v → AllByRecursion (λ x. IsInRange s x) v

@@ -12,7 +12,7 @@ use Rattle.der_core_head.specs.Octets.{◌>>=◌, Readings}
 use Rattle.der_core_head.specs.Tags.{same_tag, tag_at}
 use Rattle.der_core_head.specs.Heads.{head_at}
 use Rattle.der_core_head.specs.Leaves.{leaf_read}
-use Rattle.der_core_head.specs.Shapes.{Shape, Content, Body, tagged, any, either, optional, defaulted, nothing, leaf, nested, done, field, only, many, exactly, rising, Value, ContentValue, BodyValue, AnyValue, octets_of, begins}
+use Rattle.der_core_head.specs.Shapes.{Shape, Content, Body, tagged, any, either, optional, defaulted, nothing, leaf, nested, done, field, only, many, exactly, few, rising, Value, ContentValue, BodyValue, AnyValue, octets_of, begins}
 
 unfoldable pub slice_at : ℕ → Readings (List ℕ)
 slice_at n w = if nat_lt (length w) n then Err kinds.Incomplete else Ok (take n w, drop n w)
@@ -40,10 +40,11 @@ tlv_at tag f w = head_at w >>= λ h. if same_tag h.0.tag tag then value_at f h.0
 unfoldable pub any_at : Readings AnyValue
 any_at w = head_at w >>= λ h. slice_at h.0.len h.1 >>= λ x. Ok (record { tag = h.0.tag; contents = x.0 }, x.1)
 
-unfoldable pub read_many : {P : Type 0} → Readings P → ℕ → Readings (List P)
-read_many f n [] = Ok ([], [])
-read_many f zero (b ∷ bs) = Err kinds.TrailingData
-read_many f (suc n) (b ∷ bs) = f (b ∷ bs) >>= λ x. read_many f n x.1 >>= λ y. Ok (x.0 ∷ y.0, y.1)
+-- values up to the end, so many at most; octets behind these are refused as e
+unfoldable pub read_many : {P : Type 0} → ErrorKind → Readings P → ℕ → Readings (List P)
+read_many e f n [] = Ok ([], [])
+read_many e f zero (b ∷ bs) = Err e
+read_many e f (suc n) (b ∷ bs) = f (b ∷ bs) >>= λ x. read_many e f n x.1 >>= λ y. Ok (x.0 ∷ y.0, y.1)
 
 -- so many values, one after the other
 unfoldable pub read_exactly : {P : Type 0} → Readings P → ℕ → Readings (List P)
@@ -128,8 +129,9 @@ abbrev mutual
   read_body done room w = Ok (tt, w)
   read_body (field s b) room w = read s room w >>= λ x. read_body b room x.1 >>= λ y. Ok ((x.0, y.0), y.1)
   read_body (only s) room w = read s room w
-  read_body (many s) room w = read_many (read s room) (length w) w
+  read_body (many s) room w = read_many kinds.TrailingData (read s room) (length w) w
   read_body (exactly n s) room w = read_exactly (read s room) n w
+  read_body (few n s) room w = read_many kinds.Overlength (read s room) n w
   read_body (rising s) room w = read_rising (λ v. octets_of s v) (read s room) None (length w) w
 
 abbrev pub plain_option : {A B : Type 0} → (A → B) → Option A → Option B

@@ -1,12 +1,12 @@
 -- Values whose parts are in their ranges: what of validity neither a length nor an order decides.
-use Rattle.std.specs.Prelude.{◌≡◌, length, true, Some, None, bytes_eq}
+use Rattle.std.specs.Prelude.{◌≡◌, ◌≤◌, length, true, Some, None, bytes_eq}
 use Rattle.std.proofs.Common.{inl, inr}
 use Rattle.std.specs.List.{AllByRecursion}
 use Rattle.std.specs.Bool.{⊤}
 use Rattle.der_core_head.specs.Octets.{IsOctets}
 use Rattle.der_core_head.specs.Tags.{IsTag}
 use Rattle.der_core_head.specs.Leaves.{IsLeafValue}
-use Rattle.der_core_head.specs.Shapes.{Shape, Content, Body, tagged, any, either, optional, defaulted, nothing, leaf, nested, done, field, only, many, exactly, rising, Value, ContentValue, BodyValue, octets_of, IsValid}
+use Rattle.der_core_head.specs.Shapes.{Shape, Content, Body, tagged, any, either, optional, defaulted, nothing, leaf, nested, done, field, only, many, exactly, few, rising, Value, ContentValue, BodyValue, octets_of, IsValid}
 
 -- leaves in their ranges, tags whose number fits, and so many values as there must be; a default that isn't written is valid
 abbrev mutual
@@ -30,4 +30,5 @@ abbrev mutual
   IsBodyInRange (only s) v = IsInRange s v
   IsBodyInRange (many s) v = AllByRecursion (λ x. IsInRange s x) v
   IsBodyInRange (exactly n s) v = AllByRecursion (λ x. IsInRange s x) v × (length v ≡ n)
+  IsBodyInRange (few n s) v = AllByRecursion (λ x. IsInRange s x) v × (length v ≤ n)
   IsBodyInRange (rising s) v = AllByRecursion (λ x. IsInRange s x) v

@@ -1,6 +1,6 @@
 -- The universe of shapes: the syntax of a type, its plain values, and the octets that spell them (X.680 24 to 31, X.690).
 -- A shape stands where a value stands, a content behind a header, a body where values stand inside a value.
-use Rattle.std.specs.Prelude.{◌≡◌, ℕ, List, [], ◌∷◌, ◌++◌, length, Bool, true, false, ◌⊎◌, Option, Some, None, bytes_eq, flat_map, ◌||◌}
+use Rattle.std.specs.Prelude.{◌≡◌, ◌≤◌, ℕ, List, [], ◌∷◌, ◌++◌, length, Bool, true, false, ◌⊎◌, Option, Some, None, bytes_eq, flat_map, ◌||◌}
 use Rattle.std.proofs.Common.{inl, inr}
 use Rattle.std.specs.List.{AllByRecursion}
 use Rattle.std.specs.Bool.{⊤}
@@ -36,6 +36,7 @@ mutual
     only : Shape → Body
     many : Shape → Body
     exactly : ℕ → Shape → Body
+    few : ℕ → Shape → Body  -- no more than so many
     rising : Shape → Body
 
 pub record AnyValue : Type 0 where
@@ -61,6 +62,7 @@ abbrev mutual
   BodyValue (only s) = Value s
   BodyValue (many s) = List (Value s)
   BodyValue (exactly n s) = List (Value s)
+  BodyValue (few n s) = List (Value s)
   BodyValue (rising s) = List (Value s)
 
 -- SEQUENCE, SEQUENCE OF, SET OF, explicit tags; an implicit tag is another tag on the same content
@@ -102,6 +104,7 @@ unfoldable mutual
   body_octets (only s) v = octets_of s v
   body_octets (many s) v = flat_map (λ x. octets_of s x) v
   body_octets (exactly n s) v = flat_map (λ x. octets_of s x) v
+  body_octets (few n s) v = flat_map (λ x. octets_of s x) v
   body_octets (rising s) v = flat_map (λ x. octets_of s x) v
 
 -- each encoding is below the next (11.6)
@@ -132,6 +135,7 @@ unfoldable mutual
   IsBody (only s) v = IsValid s v
   IsBody (many s) v = AllByRecursion (λ x. IsValid s x) v
   IsBody (exactly n s) v = AllByRecursion (λ x. IsValid s x) v × (length v ≡ n)
+  IsBody (few n s) v = AllByRecursion (λ x. IsValid s x) v × (length v ≤ n)
   IsBody (rising s) v = AllByRecursion (λ x. IsValid s x) v × AllRising (λ x. octets_of s x) v
 
 -- the octets spell the value

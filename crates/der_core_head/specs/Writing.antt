@@ -5,7 +5,7 @@ use Rattle.der_core_head.specs.declared.error.ErrorKind.{ErrorKind}
 use Rattle.der_core_head.specs.declared.error.ErrorKind.TheVariants as kinds
 use Rattle.std.proofs.Common.{inl, inr}
 use Rattle.der_core_head.specs.Leaves.{leaf_contents}
-use Rattle.der_core_head.specs.Shapes.{Shape, Content, Body, tagged, any, either, optional, defaulted, nothing, leaf, nested, done, field, only, many, exactly, rising, Value, ContentValue, BodyValue, octets_of}
+use Rattle.der_core_head.specs.Shapes.{Shape, Content, Body, tagged, any, either, optional, defaulted, nothing, leaf, nested, done, field, only, many, exactly, few, rising, Value, ContentValue, BodyValue, octets_of}
 use Rattle.der_core_head.specs.declared.tag.Tag.{Tag}
 use Rattle.der_core_head.specs.Octets.{◌>>=◌}
 use Rattle.der_core_head.specs.Grammar.{follows_last}
@@ -80,6 +80,7 @@ abbrev mutual
   size_body (only s) v = size s v
   size_body (many s) v = many_len (size s) v 0
   size_body (exactly n s) v = many_len (size s) v 0
+  size_body (few n s) v = many_len (size s) v 0
   size_body (rising s) v = many_len (size s) v 0
 
 unfoldable pub write_tlv : Tag → Result ℕ ErrorKind → (Out → Result Out ErrorKind) → Out → Result Out ErrorKind
@@ -124,6 +125,7 @@ abbrev mutual
   write_body (only s) v o = write s v o
   write_body (many s) v o = write_many (write s) v o
   write_body (exactly n s) v o = write_many (write s) v o
+  write_body (few n s) v o = write_many (write s) v o
   write_body (rising s) v o = write_rising (write s) (octets_of s) v o
 
 -- what a write may answer: the named fault, or that memory ran out where it takes memory

@@ -27,38 +27,38 @@ regroup : {A P : Type 0} (f : A → P) (xs : List A) (x : A) (r : Result (List P
 regroup f xs x (Ok y) = ap (λ (p : List _). Ok (p, y.1)) (sym (onto_more f xs x y.0))
 regroup f xs x (Err e) = refl
 
-step : {P : Type 0} (F : Readings P) (n i : ℕ) (w : List ℕ) → i < n → w ≢ [] → read_many F (n - i) w ≡ (F w >>= λ x. read_many F (n - (i + 1)) x.1 >>= λ y. Ok (x.0 ∷ y.0, y.1))
+step : {P : Type 0} (z : ErrorKind) (F : Readings P) (n i : ℕ) (w : List ℕ) → i < n → w ≢ [] → read_many z F (n - i) w ≡ (F w >>= λ x. read_many z F (n - (i + 1)) x.1 >>= λ y. Ok (x.0 ∷ y.0, y.1))
 unfolding read_many
-step F n i [] lt some = absurd (some refl)
-step F n i (b ∷ w) lt some = let k : n - i ≡ suc (n - (i + 1)) = omega arith in rw k refl
+step z F n i [] lt some = absurd (some refl)
+step z F n i (b ∷ w) lt some = let k : n - i ≡ suc (n - (i + 1)) = omega arith in rw k refl
 
-pub goes_on : {A P : Type 0} (f : A → P) (F : Readings P) (n i : ℕ) (w after : List ℕ) (xs : List A) (x : A) (total : Result (List P × List ℕ) ErrorKind)
-    → i < n → w ≢ [] → F w ≡ Ok (f x, after) → with_front f xs (read_many F (n - i) w) ≡ total → with_front f (xs ++ x ∷ []) (read_many F (n - (i + 1)) after) ≡ total
-goes_on f F n i w after xs x total lt some e so_far =
-    sym (ap (with_front f xs) (step F n i w lt some ∙ ap (λ r. r >>= λ x. read_many F (n - (i + 1)) x.1 >>= λ y. Ok (x.0 ∷ y.0, y.1)) e) ∙ regroup f xs x (read_many F (n - (i + 1)) after)) ∙ so_far
+pub goes_on : {A P : Type 0} (z : ErrorKind) (f : A → P) (F : Readings P) (n i : ℕ) (w after : List ℕ) (xs : List A) (x : A) (total : Result (List P × List ℕ) ErrorKind)
+    → i < n → w ≢ [] → F w ≡ Ok (f x, after) → with_front f xs (read_many z F (n - i) w) ≡ total → with_front f (xs ++ x ∷ []) (read_many z F (n - (i + 1)) after) ≡ total
+goes_on z f F n i w after xs x total lt some e so_far =
+    sym (ap (with_front f xs) (step z F n i w lt some ∙ ap (λ r. r >>= λ x. read_many z F (n - (i + 1)) x.1 >>= λ y. Ok (x.0 ∷ y.0, y.1)) e) ∙ regroup f xs x (read_many z F (n - (i + 1)) after)) ∙ so_far
 
-pub stops : {A P : Type 0} (f : A → P) (F : Readings P) (n i : ℕ) (w : List ℕ) (xs : List A) (k : ErrorKind) (total : Result (List P × List ℕ) ErrorKind)
-    → i < n → w ≢ [] → F w ≡ Err k → with_front f xs (read_many F (n - i) w) ≡ total → total ≡ Err k
-stops f F n i w xs k total lt some e so_far =
-    sym so_far ∙ ap (with_front f xs) (step F n i w lt some ∙ ap (λ r. r >>= λ x. read_many F (n - (i + 1)) x.1 >>= λ y. Ok (x.0 ∷ y.0, y.1)) e)
+pub stops : {A P : Type 0} (z : ErrorKind) (f : A → P) (F : Readings P) (n i : ℕ) (w : List ℕ) (xs : List A) (k : ErrorKind) (total : Result (List P × List ℕ) ErrorKind)
+    → i < n → w ≢ [] → F w ≡ Err k → with_front f xs (read_many z F (n - i) w) ≡ total → total ≡ Err k
+stops z f F n i w xs k total lt some e so_far =
+    sym so_far ∙ ap (with_front f xs) (step z F n i w lt some ∙ ap (λ r. r >>= λ x. read_many z F (n - (i + 1)) x.1 >>= λ y. Ok (x.0 ∷ y.0, y.1)) e)
 
-pub none_left : {A P : Type 0} (f : A → P) (F : Readings P) (n m : ℕ) (w : List ℕ) (xs : List A) (total : Result (List P × List ℕ) ErrorKind)
-    → w ≡ [] → with_front f xs (read_many F n w) ≡ total → with_front f xs (read_many F m w) ≡ total
+pub none_left : {A P : Type 0} (z : ErrorKind) (f : A → P) (F : Readings P) (n m : ℕ) (w : List ℕ) (xs : List A) (total : Result (List P × List ℕ) ErrorKind)
+    → w ≡ [] → with_front f xs (read_many z F n w) ≡ total → with_front f xs (read_many z F m w) ≡ total
 unfolding read_many
-none_left f F n m [] xs total e so_far = so_far
-none_left f F n m (b ∷ w) xs total e so_far = absurd cc
+none_left z f F n m [] xs total e so_far = so_far
+none_left z f F n m (b ∷ w) xs total e so_far = absurd cc
 
-pub is_done : {A P : Type 0} (f : A → P) (F : Readings P) (n : ℕ) (w : List ℕ) (xs : List A) (total : Result (List P × List ℕ) ErrorKind)
-    → w ≡ [] → with_front f xs (read_many F n w) ≡ total → total ≡ Ok (plain_list f xs, w)
+pub is_done : {A P : Type 0} (z : ErrorKind) (f : A → P) (F : Readings P) (n : ℕ) (w : List ℕ) (xs : List A) (total : Result (List P × List ℕ) ErrorKind)
+    → w ≡ [] → with_front f xs (read_many z F n w) ≡ total → total ≡ Ok (plain_list f xs, w)
 unfolding read_many
-is_done f F n [] xs total e so_far = sym so_far ∙ ap (λ (p : List _). Ok (p, [])) (onto_nothing f xs)
-is_done f F n (b ∷ w) xs total e so_far = absurd cc
+is_done z f F n [] xs total e so_far = sym so_far ∙ ap (λ (p : List _). Ok (p, [])) (onto_nothing f xs)
+is_done z f F n (b ∷ w) xs total e so_far = absurd cc
 
-pub is_over : {A P : Type 0} (f : A → P) (F : Readings P) (n i : ℕ) (w : List ℕ) (xs : List A) (total : Result (List P × List ℕ) ErrorKind)
-    → n ≤ i → w ≢ [] → with_front f xs (read_many F (n - i) w) ≡ total → total ≡ Err kinds.TrailingData
+pub is_over : {A P : Type 0} (z : ErrorKind) (f : A → P) (F : Readings P) (n i : ℕ) (w : List ℕ) (xs : List A) (total : Result (List P × List ℕ) ErrorKind)
+    → n ≤ i → w ≢ [] → with_front f xs (read_many z F (n - i) w) ≡ total → total ≡ Err z
 unfolding read_many
-is_over f F n i [] xs total le some so_far = absurd (some refl)
-is_over f F n i (b ∷ w) xs total le some so_far = let k : n - i ≡ 0 = omega arith in sym so_far ∙ (rw k refl)
+is_over z f F n i [] xs total le some so_far = absurd (some refl)
+is_over z f F n i (b ∷ w) xs total le some so_far = let k : n - i ≡ 0 = omega arith in sym so_far ∙ (rw k refl)
 
 -- The same of so many values.
 

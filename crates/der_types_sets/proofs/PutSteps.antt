@@ -9,7 +9,7 @@ use Rattle.der_core_head.specs.declared.tag.Tag.{Tag}
 use Rattle.der_core_head.specs.Octets.{◌>>=◌}
 use Rattle.der_core_head.specs.Tags.{tag_octets}
 use Rattle.der_core_head.specs.Heads.{Fits, head_octets, length_octets, tlv}
-use Rattle.der_core_head.specs.Shapes.{Shape, Content, Body, tagged, any, either, optional, defaulted, nothing, leaf, nested, done, field, only, many, exactly, rising, Value, ContentValue, BodyValue, octets_of, contents, body_octets, unless, IsValid, IsContent, IsBody}
+use Rattle.der_core_head.specs.Shapes.{Shape, Content, Body, tagged, any, either, optional, defaulted, nothing, leaf, nested, done, field, only, many, exactly, few, rising, Value, ContentValue, BodyValue, octets_of, contents, body_octets, unless, IsValid, IsContent, IsBody}
 use Rattle.der_core_head.specs.Writing.{Out, put, put_head, fit_len, size_content, write_tlv, write_many, default_write, write, write_content, write_body}
 use Rattle.der_core_head.proofs.Results.{fine, ok_is}
 use Rattle.der_core_head.proofs.Fits.{fits_contents}
@@ -137,6 +137,7 @@ mutual
   put_body (only s) v o h = put_written s v o h
   put_body (many s) v o h = many_put (write s) (IsValid s) (octets_of s) (λ x y k. put_written s x y k) v o h
   put_body (exactly n s) v o h = many_put (write s) (IsValid s) (octets_of s) (λ x y k. put_written s x y k) v o h.0
+  put_body (few n s) v o h = many_put (write s) (IsValid s) (octets_of s) (λ x y k. put_written s x y k) v o h.0
   put_body (rising s) v o h = rising_written (write s) (octets_of s) v o h.1 ∙ many_put (write s) (IsValid s) (octets_of s) (λ x y k. put_written s x y k) v o h.0
 
 -- values one after the other

@@ -146,14 +146,14 @@ gain_one {A} old items x now new before one =
 
 -- What was read
 
-many_valid : (s : Shape) (room n : ℕ) (w : List ℕ) (v : List (Value s)) (r : List ℕ) → is_apart s ≡ true → IsBytes w → Fits w → read_many (read s room) n w ≡ Ok (v, r) → AllByRecursion (IsValid s) v
+many_valid : (s : Shape) (room n : ℕ) (w : List ℕ) (v : List (Value s)) (r : List ℕ) → is_apart s ≡ true → IsBytes w → Fits w → read_many kinds.TrailingData (read s room) n w ≡ Ok (v, r) → AllByRecursion (IsValid s) v
 unfolding read_many
 many_valid s room zero [] v r apart bytes fits e = let same = ok_is ([], []) (v, r) e in subst (λ (q : List (Value s) × List ℕ). AllByRecursion (IsValid s) q.0) same tt
 many_valid s room zero (b ∷ w) v r apart bytes fits e = absurd cc
 many_valid s room (suc n) [] v r apart bytes fits e = let same = ok_is ([], []) (v, r) e in subst (λ (q : List (Value s) × List ℕ). AllByRecursion (IsValid s) q.0) same tt
 many_valid s room (suc n) (b ∷ w) v r apart bytes fits e =
-    let x = bind_ok (read s room (b ∷ w)) (λ x. read_many (read s room) n x.1 >>= λ y. Ok (x.0 ∷ y.0, y.1)) (v, r) e in
-    let y = bind_ok (read_many (read s room) n x.0.1) (λ y. Ok (x.0.0 ∷ y.0, y.1)) (v, r) x.2 in
+    let x = bind_ok (read s room (b ∷ w)) (λ x. read_many kinds.TrailingData (read s room) n x.1 >>= λ y. Ok (x.0 ∷ y.0, y.1)) (v, r) e in
+    let y = bind_ok (read_many kinds.TrailingData (read s room) n x.0.1) (λ y. Ok (x.0.0 ∷ y.0, y.1)) (v, r) x.2 in
     let u = sound s room (b ∷ w) x.0.0 x.0.1 apart bytes fits x.1 in
     let m = many_valid s room n x.0.1 y.0.0 y.0.1 apart (bytes_rest (octets_of s x.0.0) x.0.1 (b ∷ w) u.1 bytes) (fits_rest (octets_of s x.0.0) x.0.1 (b ∷ w) u.1 fits) y.1 in
     let same = ok_is (x.0.0 ∷ y.0.0, y.0.1) (v, r) y.2 in

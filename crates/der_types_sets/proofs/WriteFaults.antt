@@ -13,7 +13,7 @@ use Rattle.der_core_head.specs.Grammar.{ordered, follows_last}
 use Rattle.der_core_head.specs.Tags.{tag_octets}
 use Rattle.der_core_head.specs.Heads.{head_octets, length_octets}
 use Rattle.der_core_head.specs.Leaves.{leaf_contents}
-use Rattle.der_core_head.specs.Shapes.{Shape, Content, Body, tagged, any, either, optional, defaulted, nothing, leaf, nested, done, field, only, many, exactly, rising, Value, ContentValue, BodyValue, octets_of}
+use Rattle.der_core_head.specs.Shapes.{Shape, Content, Body, tagged, any, either, optional, defaulted, nothing, leaf, nested, done, field, only, many, exactly, few, rising, Value, ContentValue, BodyValue, octets_of}
 use Rattle.der_core_head.specs.Writing.{Out, put, put_head, head_len, sum_len, fit_len, tlv_len, both_len, many_len, default_len, size, size_content, size_body, write_tlv, write_many, all_follow, default_write, write, write_content, write_body}
 use Rattle.der_core_head.proofs.Written.{out}
 use Rattle.der_types_sets.specs.Lent.{IsMisplaced}
@@ -130,6 +130,7 @@ mutual
   body_over (only s) v w = write_over s v w
   body_over (many s) v w = many_is_over (write s) (size s) (write_over s) (size_only s) v w 0
   body_over (exactly n s) v w = many_is_over (write s) (size s) (write_over s) (size_only s) v w 0
+  body_over (few n s) v w = many_is_over (write s) (size s) (write_over s) (size_only s) v w 0
   body_over (rising s) v w =
       order_over (write_many (write s) v (out w)) (all_follow (octets_of s) None v) (many_len (size s) v 0) (follow_only (octets_of s) None v) (many_is_over (write s) (size s) (write_over s) (size_only s) v w 0)
 

@@ -1,4 +1,5 @@
 use Rattle.std.proofs.Common.{◌≡◌, ◌-◌}
+use Rattle.der_core_head.specs.declared.error.ErrorKind.TheVariants as kinds
 use Rattle.der_core_head.specs.Grammar.{read, read_many}
 use Rattle.der_core_head.specs.Reading.{IsDer, IsRest}
 use Rattle.der_core_values.proofs.Lists.{with_front}
@@ -13,5 +14,5 @@ invariant-loop g l =
     record {
       same : now ≡ record old { rest = now.rest };
       passed : IsRest now.rest old.rest;
-      total : IsDer old → with_front g.T.Shaped.plain l.values.items (read_many each (l.len - l.counter) now.rest) ≡ read_many each l.len old.rest;
+      total : IsDer old → with_front g.T.Shaped.plain l.values.items (read_many kinds.TrailingData each (l.len - l.counter) now.rest) ≡ read_many kinds.TrailingData each l.len old.rest;
     }
