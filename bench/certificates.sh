@@ -1,23 +1,13 @@
 #!/usr/bin/env bash
 # Counts the instructions that reading the example certificate costs, allocation left out, and what of them falls
 # on one of its 17 headers; then the same by function (bench/README.md).
-set -euo pipefail
-top=$(cd "$(dirname "$0")/.." && pwd)
-work=$(mktemp -d)
-trap 'rm -rf "$work"' EXIT
-
-cp -a "$top/crates" "$top/crates.txt" "$work/"
-reads=$work/crates/certificate_reads
-mkdir -p "$reads"/{src,specs}
-touch "$reads/specs/Lib.antt"
-cp "$top/bench/certificates/main.rt.txt" "$reads/src/main.rt"
-echo 'certificate_reads: x509_cert' >>"$work/crates.txt"
-git -C "$work" init -q
+. "$(dirname "$0")/program.sh"
+build certificates certificate_reads x509_cert
 
 file=$top/examples/trusted.der
-(cd "$reads" && rt run -- "$file" 1) | tail -1
+"$program" "$file" 1
 for rounds in 1 1001; do
-    valgrind --tool=callgrind --callgrind-out-file="$work/out" "$reads/out/certificate_reads" "$file" $rounds &>"$work/log"
+    valgrind --tool=callgrind --callgrind-out-file="$work/out" "$program" "$file" $rounds &>"$work/log"
     callgrind_annotate --threshold=100 "$work/out" >"$work/$rounds"
 done
 python3 - "$work/1" "$work/1001" <<'COUNT'

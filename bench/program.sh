@@ -1,0 +1,28 @@
+# What the scripts share that measure a program of their own: a copy of the crates, in which that program is proved and
+# built. To be sourced.
+set -euo pipefail
+top=$(cd "$(dirname "$0")/.." && pwd)
+work=$(mktemp -d)
+trap 'rm -rf "$work"' EXIT
+
+# build FOLDER NAME LIBRARIES: bench/FOLDER as the crate NAME, which stands on these; $program is what is run then
+build() {
+    local crate=$work/crates/$2
+    cp -a "$top/crates" "$top/crates.txt" "$work/"
+    mkdir -p "$crate"/{src,specs}
+    touch "$crate/specs/Lib.antt"
+    cp "$top/bench/$1/main.rt.txt" "$crate/src/main.rt"
+    if [ -d "$top/bench/$1/proofs" ]; then
+        cp -r "$top/bench/$1/proofs" "$crate/"
+        for proof in "$crate"/proofs/*.txt "$crate"/proofs/*/*.txt; do mv "$proof" "${proof%.txt}"; done
+    fi
+    echo "$2: $3" >>"$work/crates.txt"
+    git -C "$work" init -q
+    (cd "$crate" && rt run >"$work/log" 2>&1) || { tail -n 20 "$work/log"; exit 1; }
+    program=$crate/out/$2
+}
+
+# instructions COMMAND..: how many it runs
+instructions() {
+    valgrind --tool=callgrind --callgrind-out-file=/dev/null "$@" 2>&1 >/dev/null | sed -n 's/.*Collected : //p'
+}
