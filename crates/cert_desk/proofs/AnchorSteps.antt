@@ -11,12 +11,12 @@ use Rattle.cert_desk.specs.Judging.{Answers, PlainAnchor, same_name, is_named}
 use Rattle.cert_desk.specs.Places.{signs, asked_once, asked_until}
 
 -- names with the same octets
-pub same_name_by : (r : Bool) (a b : PlainName) → IsTrue r ↔ (name_octets a ≡ name_octets b) → r ≡ same_name a b
-same_name_by r a b h = same_from_decides r (bytes_eq (name_octets a) (name_octets b)) h (bytes_eq-Decides (name_octets a) (name_octets b))
+pub same_name_by : (bound : ℕ) (r : Bool) (a b : PlainName) → IsTrue r ↔ (name_octets bound a ≡ name_octets bound b) → r ≡ same_name bound a b
+same_name_by bound r a b h = same_from_decides r (bytes_eq (name_octets bound a) (name_octets bound b)) h (bytes_eq-Decides (name_octets bound a) (name_octets bound b))
 
 -- of a test that compared with another name like the second
-pub same_name_is : (r b : Bool) (m n o : PlainName) → IsTrue r ↔ (name_octets m ≡ name_octets n) → n ≡ o → r ≡ b → same_name m o ≡ b
-same_name_is r b m n o h e t = ap (same_name m) (sym e) ∙ sym (same_name_by r m n h) ∙ t
+pub same_name_is : (bound : ℕ) (r b : Bool) (m n o : PlainName) → IsTrue r ↔ (name_octets bound m ≡ name_octets bound n) → n ≡ o → r ≡ b → same_name bound m o ≡ b
+same_name_is bound r b m n o h e t = ap (same_name bound m) (sym e) ∙ sym (same_name_by bound r m n h) ∙ t
 
 abbrev any_left : (PlainAnchor → Bool) → List Anchor → Bool
 any_left p xs = list_any p (map anchor_plain xs)
@@ -34,13 +34,13 @@ pub any_no : (p : PlainAnchor → Bool) (xs : List Anchor) (i : ℕ) (d : Anchor
 any_no p xs i d h e = sym (at_drop_more (any_left p) xs i d h ∙ ap (λ b. b || any_left p (drop (i + 1) xs)) e)
 
 -- what a judge that answers the same says of an anchor
-pub signs_is : (a b : Answers) (signed : List ℕ) (c : PlainCertificate) (anchor : PlainAnchor) (r t : Bool) → a ≡ b → r ≡ signs a signed c anchor → r ≡ t → signs b signed c anchor ≡ t
-signs_is a b signed c anchor r t e h k = ap (λ x. signs x signed c anchor) (sym e) ∙ sym h ∙ k
+pub signs_is : (bound : ℕ) (a b : Answers) (signed : List ℕ) (c : PlainCertificate) (anchor : PlainAnchor) (r t : Bool) → a ≡ b → r ≡ signs bound a signed c anchor → r ≡ t → signs bound b signed c anchor ≡ t
+signs_is bound a b signed c anchor r t e h k = ap (λ x. signs bound x signed c anchor) (sym e) ∙ sym h ∙ k
 
 -- the questions that are left, where the anchor at a place signs, or doesn't
-module _ (answers : Answers) (signed : List ℕ) (c : PlainCertificate) where
+module _ (bound : ℕ) (answers : Answers) (signed : List ℕ) (c : PlainCertificate) where
   abbrev questions_left : List Anchor → ℕ
-  questions_left xs = asked_until answers signed c (map anchor_plain xs)
+  questions_left xs = asked_until bound answers signed c (map anchor_plain xs)
 
   once_yes : (named accepts : Bool) (more : ℕ) → (named && accepts) ≡ true → cond named (cond accepts 1 (1 + more)) more ≡ cond named 1 0
   once_yes true true more e = refl
@@ -52,16 +52,16 @@ module _ (answers : Answers) (signed : List ℕ) (c : PlainCertificate) where
   once_no true false more e = refl
   once_no false accepts more e = omega arith
 
-  pub asked_until_yes : (xs : List Anchor) (i : ℕ) (d : Anchor) → i < length xs → signs answers signed c (anchor_plain (get_or xs i d)) ≡ true
-      → asked_until answers signed c (map anchor_plain (drop i xs)) ≡ asked_once c (anchor_plain (get_or xs i d))
+  pub asked_until_yes : (xs : List Anchor) (i : ℕ) (d : Anchor) → i < length xs → signs bound answers signed c (anchor_plain (get_or xs i d)) ≡ true
+      → asked_until bound answers signed c (map anchor_plain (drop i xs)) ≡ asked_once bound c (anchor_plain (get_or xs i d))
   unfolding asked_until asked_once signs
   asked_until_yes xs i d h e = at_drop_more questions_left xs i d h ∙ once_yes _ _ _ e
 
-  pub asked_until_no : (xs : List Anchor) (i : ℕ) (d : Anchor) → i < length xs → signs answers signed c (anchor_plain (get_or xs i d)) ≡ false
-      → asked_until answers signed c (map anchor_plain (drop i xs)) ≡ asked_once c (anchor_plain (get_or xs i d)) + asked_until answers signed c (map anchor_plain (drop (i + 1) xs))
+  pub asked_until_no : (xs : List Anchor) (i : ℕ) (d : Anchor) → i < length xs → signs bound answers signed c (anchor_plain (get_or xs i d)) ≡ false
+      → asked_until bound answers signed c (map anchor_plain (drop i xs)) ≡ asked_once bound c (anchor_plain (get_or xs i d)) + asked_until bound answers signed c (map anchor_plain (drop (i + 1) xs))
   unfolding asked_until asked_once signs
   asked_until_no xs i d h e = at_drop_more questions_left xs i d h ∙ once_no _ _ _ e
 
-  pub asked_until_none : (xs : List Anchor) (i : ℕ) → length xs ≤ i → asked_until answers signed c (map anchor_plain (drop i xs)) ≡ 0
+  pub asked_until_none : (xs : List Anchor) (i : ℕ) → length xs ≤ i → asked_until bound answers signed c (map anchor_plain (drop i xs)) ≡ 0
   unfolding asked_until
   asked_until_none xs i h = at_drop_all questions_left xs i h

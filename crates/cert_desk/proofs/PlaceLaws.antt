@@ -29,9 +29,9 @@ before_is cs n b e = let k : n ≡ suc n - 1 = omega arith in ap (slice_get cs) 
 
 -- names are linked: at a later place
 pub is_linked-later : (t : Terms) (cs : List PlainCertificate) (place : ℕ) (c b : PlainCertificate) → 0 < place → slice_get cs (place - 1) ≡ Some b
-    → is_linked t cs place c ≡ same_name (issuer c) (subject b)
+    → is_linked t cs place c ≡ same_name t.bound (issuer c) (subject b)
 is_linked-later t cs zero c b h e = absurd (omega arith)
-is_linked-later t cs (suc n) c b h e = ap (λ o. option_map_or (λ b. same_name (issuer c) (subject b)) o false) (before_is cs n b e)
+is_linked-later t cs (suc n) c b h e = ap (λ o. option_map_or (λ b. same_name t.bound (issuer c) (subject b)) o false) (before_is cs n b e)
 
 -- the signature: at a later place, and at the first
 pub is_signed-later : (t : Terms) (cs : List PlainCertificate) (stream : List ℕ) (place : ℕ) (c b : PlainCertificate) → 0 < place → slice_get cs (place - 1) ≡ Some b
@@ -42,21 +42,21 @@ is_signed-later t cs stream (suc n) c b h e =
     ap (λ o. option_map_or (λ b. accepted t.answers (signed_part t.bound cs stream (suc n) c) c (public_key b)) o false) (before_is cs n b e)
 
 pub is_signed-first : (t : Terms) (cs : List PlainCertificate) (stream : List ℕ) (place : ℕ) (c : PlainCertificate) → place ≡ 0
-    → is_signed t cs stream place c ≡ list_any (signs t.answers (signed_part t.bound cs stream place c) c) t.anchors
+    → is_signed t cs stream place c ≡ list_any (signs t.bound t.answers (signed_part t.bound cs stream place c) c) t.anchors
 unfolding signs accepted
 is_signed-first t cs stream zero c h = refl
 is_signed-first t cs stream (suc n) c h = absurd cc
 
 -- the questions there
 asked_anchors-is : (t : Terms) (cs : List PlainCertificate) (stream : List ℕ) (c : PlainCertificate) (anchors : List PlainAnchor)
-    → asked_anchors t cs stream c anchors ≡ asked_until t.answers (signed_part t.bound cs stream 0 c) c anchors
+    → asked_anchors t cs stream c anchors ≡ asked_until t.bound t.answers (signed_part t.bound cs stream 0 c) c anchors
 unfolding asked_until accepted
 asked_anchors-is t cs stream c [] = refl
 asked_anchors-is t cs stream c (a ∷ more) =
-    ap (λ n. cond (same_name (issuer c) a.name) (cond (accepted t.answers (signed_part t.bound cs stream 0 c) c a.key) 1 (1 + n)) n) (asked_anchors-is t cs stream c more)
+    ap (λ n. cond (same_name t.bound (issuer c) a.name) (cond (accepted t.answers (signed_part t.bound cs stream 0 c) c a.key) 1 (1 + n)) n) (asked_anchors-is t cs stream c more)
 
 pub asked_signature-first : (t : Terms) (cs : List PlainCertificate) (stream : List ℕ) (place : ℕ) (c : PlainCertificate) → place ≡ 0 → slice_get cs place ≡ Some c
-    → asked_signature t cs stream place ≡ asked_until t.answers (signed_part t.bound cs stream place c) c t.anchors
+    → asked_signature t cs stream place ≡ asked_until t.bound t.answers (signed_part t.bound cs stream place c) c t.anchors
 asked_signature-first t cs stream zero c h e = ap (λ o. option_map_or (λ c. asked_anchors t cs stream c t.anchors) o 0) e ∙ asked_anchors-is t cs stream c t.anchors
 asked_signature-first t cs stream (suc n) c h e = absurd cc
 

@@ -27,8 +27,8 @@ pub record Terms : Type 0 where
   pub purpose : List ℕ
   pub answers : Answers
 
-abbrev pub same_name : PlainName → PlainName → Bool
-same_name a b = bytes_eq (name_octets a) (name_octets b)
+abbrev pub same_name : ℕ → PlainName → PlainName → Bool
+same_name bound a b = bytes_eq (name_octets bound a) (name_octets bound b)
 
 -- the place's part of the stream that is signed
 abbrev pub signed_part : ℕ → List PlainCertificate → List ℕ → ℕ → PlainCertificate → List ℕ
@@ -39,17 +39,17 @@ abbrev pub says_yes : Terms → List PlainCertificate → List ℕ → ℕ → P
 says_yes t cs stream place c key = t.answers key (outer_algorithm c) (signed_part t.bound cs stream place c) (signature_bits c)
 
 -- the anchors of the issuer's name
-abbrev pub is_named : PlainCertificate → PlainAnchor → Bool
-is_named c a = same_name (issuer c) a.name
+abbrev pub is_named : ℕ → PlainCertificate → PlainAnchor → Bool
+is_named bound c a = same_name bound (issuer c) a.name
 
 -- the first certificate's issuer is an anchor, another's is the certificate before
 abbrev pub is_linked : Terms → List PlainCertificate → ℕ → PlainCertificate → Bool
-is_linked t cs zero c = list_any (is_named c) t.anchors
-is_linked t cs (suc before) c = option_map_or (λ b. same_name (issuer c) (subject b)) (slice_get cs before) false
+is_linked t cs zero c = list_any (is_named t.bound c) t.anchors
+is_linked t cs (suc before) c = option_map_or (λ b. same_name t.bound (issuer c) (subject b)) (slice_get cs before) false
 
 -- the judge says yes under the issuer's key; of the first certificate, under the key of an anchor of the issuer's name
 abbrev pub is_signed : Terms → List PlainCertificate → List ℕ → ℕ → PlainCertificate → Bool
-is_signed t cs stream zero c = list_any (λ a. is_named c a && says_yes t cs stream zero c a.key) t.anchors
+is_signed t cs stream zero c = list_any (λ a. is_named t.bound c a && says_yes t cs stream zero c a.key) t.anchors
 is_signed t cs stream (suc before) c = option_map_or (λ b. says_yes t cs stream (suc before) c (public_key b)) (slice_get cs before) false
 
 -- Whether the certificate c at a place keeps a rule. No extension stands in these certificates: so no rule on

@@ -25,19 +25,19 @@ unfoldable pub accepted : Answers → List ℕ → PlainCertificate → PublicKe
 accepted answers signed c key = answers key (outer_algorithm c) signed (signature_bits c)
 
 -- of an anchor: it has the issuer's name, and the answer under its key is yes
-unfoldable pub signs : Answers → List ℕ → PlainCertificate → PlainAnchor → Bool
-signs answers signed c a = is_named c a && accepted answers signed c a.key
+unfoldable pub signs : ℕ → Answers → List ℕ → PlainCertificate → PlainAnchor → Bool
+signs bound answers signed c a = is_named bound c a && accepted answers signed c a.key
 
 -- how often an anchor is asked
-unfoldable pub asked_once : PlainCertificate → PlainAnchor → ℕ
-asked_once c a = if is_named c a then 1 else 0
+unfoldable pub asked_once : ℕ → PlainCertificate → PlainAnchor → ℕ
+asked_once bound c a = if is_named bound c a then 1 else 0
 
 -- how many anchors of the issuer's name are asked, up to the first yes
-unfoldable pub asked_until : Answers → List ℕ → PlainCertificate → List PlainAnchor → ℕ
-asked_until answers signed c [] = 0
-asked_until answers signed c (a ∷ more) =
-    if is_named c a then (if accepted answers signed c a.key then 1 else 1 + asked_until answers signed c more)
-    else asked_until answers signed c more
+unfoldable pub asked_until : ℕ → Answers → List ℕ → PlainCertificate → List PlainAnchor → ℕ
+asked_until bound answers signed c [] = 0
+asked_until bound answers signed c (a ∷ more) =
+    if is_named bound c a then (if accepted answers signed c a.key then 1 else 1 + asked_until bound answers signed c more)
+    else asked_until bound answers signed c more
 
 -- how many questions the signature at a place takes
 abbrev pub asked_signature : Terms → List PlainCertificate → List ℕ → ℕ → ℕ

@@ -47,7 +47,7 @@ IsVerdict t limit stream (verdicts.Refused place rule) = Refused t limit stream 
 abbrev pub asked_anchors : Terms → List PlainCertificate → List ℕ → PlainCertificate → List PlainAnchor → ℕ
 asked_anchors t cs stream c [] = 0
 asked_anchors t cs stream c (a ∷ more) =
-    if is_named c a then (if says_yes t cs stream 0 c a.key then 1 else 1 + asked_anchors t cs stream c more)
+    if is_named t.bound c a then (if says_yes t cs stream 0 c a.key then 1 else 1 + asked_anchors t cs stream c more)
     else asked_anchors t cs stream c more
 
 -- the judge is asked at a place where all rules before the signature are kept there, and all rules at the places before

@@ -98,11 +98,11 @@ fn ask<J: SignatureJudge>(
 
 // Whether an anchor has this name.
 fn is_anchored(name: &Name, anchors: &[Anchor]) -> bool
-    ensures { result ≡ list_any (λ a. same_name (name_plain name.now) a.name) (map anchor_plain anchors.now) }
+    ensures { result ≡ list_any (λ a. same_name arc_bound (name_plain name.now) a.name) (map anchor_plain anchors.now) }
 {
     anchors.iter().any(
         |anchor| -> bool
-            ensures { result ≡ same_name (name_plain name.entry.now) (anchor_plain anchor.now).name }
+            ensures { result ≡ same_name arc_bound (name_plain name.entry.now) (anchor_plain anchor.now).name }
         { name.equals(anchor.name()) },
     )
 }
@@ -117,9 +117,9 @@ fn is_signed_under<J: SignatureJudge>(
     calls: &mut u64,
 ) -> bool
     ensures answered { result
-        ≡ signs (J.answers judge.old) entry.now.signed.now (certificate_plain entry.now.certificate.now) (anchor_plain anchor.now) }
+        ≡ signs arc_bound (J.answers judge.old) entry.now.signed.now (certificate_plain entry.now.certificate.now) (anchor_plain anchor.now) }
     ensures kept { J.answers judge.new ≡ J.answers judge.old }
-    ensures counted { Rises (asked_once (certificate_plain entry.now.certificate.now) (anchor_plain anchor.now))
+    ensures counted { Rises (asked_once arc_bound (certificate_plain entry.now.certificate.now) (anchor_plain anchor.now))
         (J.questions judge.old) calls.old (J.questions judge.new) calls.new }
 {
     let issuer = entry.certificate.tbs_certificate().issuer();
@@ -138,10 +138,10 @@ fn is_signed_by_anchor<J: SignatureJudge>(
     calls: &mut u64,
 ) -> bool
     ensures answered { result
-        ≡ list_any (signs (J.answers judge.old) entry.now.signed.now (certificate_plain entry.now.certificate.now)) (map anchor_plain anchors.now) }
+        ≡ list_any (signs arc_bound (J.answers judge.old) entry.now.signed.now (certificate_plain entry.now.certificate.now)) (map anchor_plain anchors.now) }
     ensures kept { J.answers judge.new ≡ J.answers judge.old }
     ensures counted { Rises
-        (asked_until (J.answers judge.old) entry.now.signed.now (certificate_plain entry.now.certificate.now) (map anchor_plain anchors.now))
+        (asked_until arc_bound (J.answers judge.old) entry.now.signed.now (certificate_plain entry.now.certificate.now) (map anchor_plain anchors.now))
         (J.questions judge.old) calls.old (J.questions judge.new) calls.new }
 {
     for anchor in anchors {

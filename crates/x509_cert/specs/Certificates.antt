@@ -29,8 +29,8 @@ abbrev pub serial_number : Shape
 serial_number = tagged tags.Integer (leaf (integer every))
 
 -- Name ::= SEQUENCE { }
-abbrev pub name : Shape
-name = sequence done
+abbrev pub name : ℕ → Shape
+name bound = sequence done
 
 -- Time ::= CHOICE { utcTime UTCTime, generalTime GeneralizedTime }
 abbrev pub time : Shape
@@ -53,7 +53,7 @@ public_key_info bound = sequence (public_key_fields bound)
 -- TBSCertificate ::= SEQUENCE { serialNumber, signature, issuer, validity, subject, subjectPublicKeyInfo }
 abbrev pub tbs_fields : ℕ → Body
 tbs_fields bound =
-    field serial_number (field (algorithm_identifier bound) (field name (field validity (field name (field (public_key_info bound) done)))))
+    field serial_number (field (algorithm_identifier bound) (field (name bound) (field validity (field (name bound) (field (public_key_info bound) done)))))
 
 abbrev pub tbs_certificate : ℕ → Shape
 tbs_certificate bound = sequence (tbs_fields bound)
@@ -70,7 +70,7 @@ abbrev pub Algorithm : Type 0
 Algorithm = Value (algorithm_identifier 0)
 
 abbrev pub PlainName : Type 0
-PlainName = Value name
+PlainName = Value (name 0)
 
 abbrev pub PublicKey : Type 0
 PublicKey = Value (public_key_info 0)
@@ -114,8 +114,8 @@ abbrev pub public_key : PlainCertificate → PublicKey
 public_key c = c.0.1.1.1.1.1.0
 
 -- the octets of a name
-abbrev pub name_octets : PlainName → List ℕ
-name_octets n = octets_of name n
+abbrev pub name_octets : ℕ → PlainName → List ℕ
+name_octets bound n = octets_of (name bound) n
 
 -- the octets of a certificate
 abbrev pub certificate_octets : ℕ → PlainCertificate → List ℕ

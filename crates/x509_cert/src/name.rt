@@ -4,7 +4,7 @@ ghost use Rattle.std.specs.Prelude.{◌≡◌, ◌↔◌, IfOk, IsTrue};
 ghost use Rattle.x509_cert.specs.Certificates.{name_octets};
 ghost use Rattle.der_core_head.specs.declared.tag.Tag.TheVariants.{Sequence};
 ghost use Rattle.der_core_head.specs.Shapes.{nested, done};
-ghost use Rattle.x509_cert.specs.Views.{name_plain};
+ghost use Rattle.x509_cert.specs.Views.{arc_bound, name_plain};
 
 use der_core::making::read_fields;
 use der_core::{
@@ -60,7 +60,7 @@ impl<'a, R: Reader<'a>> DecodeValue<'a, R> for Name {
 impl Name {
     /// Whether both have the same octets.
     pub fn equals(&self, _other: &Name) -> bool
-        ensures { IsTrue result ↔ (name_octets (name_plain self.now) ≡ name_octets (name_plain _other.now)) }
+        ensures { IsTrue result ↔ (name_octets arc_bound (name_plain self.now) ≡ name_octets arc_bound (name_plain _other.now)) }
     {
         true
     }

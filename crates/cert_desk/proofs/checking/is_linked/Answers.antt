@@ -1,5 +1,5 @@
 use Rattle.std.proofs.Common.{◌<◌, sym, ◌∙◌, ap, arith}
-use Rattle.x509_cert.specs.Views.{certificate_plain, name_plain, tbs_issuer, tbs_subject}
+use Rattle.x509_cert.specs.Views.{arc_bound, certificate_plain, name_plain, tbs_issuer, tbs_subject}
 use Rattle.x509_cert.specs.Certificates.{issuer}
 use Rattle.cert_desk.specs.declared.rule.Rule.TheVariants as rules
 use Rattle.cert_desk.specs.Anchors.{terms_of}
@@ -17,7 +17,7 @@ returns c = λ moment purpose answers stream.
     let this = certificate_plain c.unwrap-entry.result.certificate.now in
     let earlier = certificate_plain c.unwrap-before.result.certificate.now in
     let later : 0 < c.args.place = omega arith in
-    same_name_by _ _ _ c.equals.ensures
-    ∙ ap (λ n. same_name n (name_plain c.subject.result.now)) (c.issuer-issuer.ensures ∙ ap tbs_issuer c.tbs_certificate.ensures)
-    ∙ ap (same_name (issuer this)) (c.subject.ensures ∙ ap tbs_subject c.tbs_certificate-2.ensures)
+    same_name_by arc_bound _ _ _ c.equals.ensures
+    ∙ ap (λ n. same_name arc_bound n (name_plain c.subject.result.now)) (c.issuer-issuer.ensures ∙ ap tbs_issuer c.tbs_certificate.ensures)
+    ∙ ap (same_name arc_bound (issuer this)) (c.subject.ensures ∙ ap tbs_subject c.tbs_certificate-2.ensures)
     ∙ sym (keeps_at-is rules.WrongIssuer t cs stream c.args.place this entry.certificate ∙ is_linked-later t cs c.args.place this earlier later before.certificate)

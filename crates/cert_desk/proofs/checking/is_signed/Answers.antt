@@ -17,7 +17,7 @@ returns-then-place-eq0-clause-answered g c = λ moment purpose.
     let entry = entry_at _ _ _ _ _ c.get.ensures.entry c.unwrap-entry.ensures in
     let this = certificate_plain c.unwrap-entry.result.certificate.now in
     c.is_signed_by_anchor.ensures.answered
-    ∙ ap (λ w. list_any (signs t.answers w this) t.anchors) (entry.signed ∙ sym (signed_part-is arc_bound cs c.args.place this entry.certificate))
+    ∙ ap (λ w. list_any (signs arc_bound t.answers w this) t.anchors) (entry.signed ∙ sym (signed_part-is arc_bound cs c.args.place this entry.certificate))
     ∙ sym (keeps_at-is rules.WrongSignature t cs (joined arc_bound cs) c.args.place this entry.certificate ∙ is_signed-first t cs (joined arc_bound cs) c.args.place this c.if-place-eq0.true)
 
 pub returns-then-place-eq0-clause-counted : goal.returns-then-place-eq0-clause-counted
@@ -27,7 +27,7 @@ returns-then-place-eq0-clause-counted g c = λ moment purpose.
     let entry = entry_at _ _ _ _ _ c.get.ensures.entry c.unwrap-entry.ensures in
     let this = certificate_plain c.unwrap-entry.result.certificate.now in
     Rises-by _ _ _ _ _ _
-    (ap (λ w. asked_until t.answers w this t.anchors) (entry.signed ∙ sym (signed_part-is arc_bound cs c.args.place this entry.certificate))
+    (ap (λ w. asked_until arc_bound t.answers w this t.anchors) (entry.signed ∙ sym (signed_part-is arc_bound cs c.args.place this entry.certificate))
     ∙ sym (asked_signature-first t cs (joined arc_bound cs) c.args.place this c.if-place-eq0.true entry.certificate))
     c.is_signed_by_anchor.ensures.counted
 
