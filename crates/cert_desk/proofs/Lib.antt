@@ -11,6 +11,7 @@ pub mod OneVerdict
 pub mod AnchorSteps
 pub mod Counts
 pub mod Encodings
+pub mod RuleList
 pub mod PlaceLaws
 pub mod Outcomes
 pub mod DigestOctets

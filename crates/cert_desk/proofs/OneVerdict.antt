@@ -1,39 +1,18 @@
 -- A stream has one verdict.
-use Rattle.std.proofs.Common.{◌≡◌, ℕ, ◌<◌, ◌^◌, List, [], length, true, refl, sym, ap, ◌∙◌, subst, arith, ◌⊎◌, inl, inr, cond, eqb}
+use Rattle.std.proofs.Common.{◌≡◌, ℕ, ◌<◌, ◌^◌, List, [], length, true, refl, sym, ap, ◌∙◌, subst, arith, ◌⊎◌, inl, inr}
 use Rattle.std.proofs.lemmas.Bool.{both_ways, cases_order}
 use Rattle.x509_cert.specs.Certificates.{PlainCertificate}
 use Rattle.cert_desk.specs.declared.checked.Verdict.{Verdict}
 use Rattle.cert_desk.specs.declared.checked.Verdict.TheVariants as verdicts
 use Rattle.cert_desk.specs.declared.fault_kind.FaultKind.{FaultKind}
 use Rattle.cert_desk.specs.declared.rule.Rule.{Rule}
-use Rattle.cert_desk.specs.declared.rule.Rule.TheVariants as rules
 use Rattle.cert_desk.specs.Chains.{Chain, joined}
 use Rattle.cert_desk.specs.Faults.{StreamFault}
 use Rattle.cert_desk.specs.Judging.{Terms, keeps_at, number}
 use Rattle.cert_desk.specs.Verdicts.{IsVerdict, Faulty, Refused, Before}
+use Rattle.cert_desk.proofs.RuleList.{one_number}
 use Rattle.cert_desk.proofs.OneChain.{one_chain, one_fault, fault_no_chain}
 use Rattle.cert_desk.proofs.ChainLaws.{chain_is_some, only_trusted}
-
--- the rule of a number
-rule_of : ℕ → Rule
-rule_of n =
-    cond (eqb n 1) rules.AlgorithmsDiffer (cond (eqb n 2) rules.DuplicateExtension (cond (eqb n 3) rules.MalformedExtension (cond (eqb n 4) rules.UnweighedCritical
-    (cond (eqb n 5) rules.WrongIssuer (cond (eqb n 6) rules.NotYetValid (cond (eqb n 7) rules.Expired (cond (eqb n 8) rules.AgainstPurpose
-    (cond (eqb n 9) rules.NotAuthority (cond (eqb n 10) rules.PathTooLong rules.WrongSignature)))))))))
-
-rule_of-number : (rule : Rule) → rule_of (number rule) ≡ rule
-unfolding rule_of
-rule_of-number rules.AlgorithmsDiffer = refl
-rule_of-number rules.DuplicateExtension = refl
-rule_of-number rules.MalformedExtension = refl
-rule_of-number rules.UnweighedCritical = refl
-rule_of-number rules.WrongIssuer = refl
-rule_of-number rules.NotYetValid = refl
-rule_of-number rules.Expired = refl
-rule_of-number rules.AgainstPurpose = refl
-rule_of-number rules.NotAuthority = refl
-rule_of-number rules.PathTooLong = refl
-rule_of-number rules.WrongSignature = refl
 
 -- one is at the other's place, or one comes before
 in_order : (p q : ℕ) (rule other : Rule) → ((p ≡ q) × (rule ≡ other)) ⊎ (Before p rule q other ⊎ Before q other p rule)
@@ -42,7 +21,7 @@ in_order p q rule other =
       | inr (inl below) ↦ inr (inl (inl below))
       | inr (inr above) ↦ inr (inr (inl above))
       | inl same ↦ elim (cases_order (number rule) (number other)) [
-        | inl e ↦ inl (same, sym (rule_of-number rule) ∙ ap rule_of e ∙ rule_of-number other)
+        | inl e ↦ inl (same, one_number rule other e)
         | inr (inl less) ↦ inr (inl (inr (same, less)))
         | inr (inr more) ↦ inr (inr (inr (sym same, more)))
       ]

@@ -15,6 +15,7 @@ use Rattle.cert_desk.specs.Judging.{Terms, PlainAnchor, keeps, keeps_at, number,
 use Rattle.cert_desk.specs.Verdicts.{asked_anchors}
 use Rattle.cert_desk.specs.Places.{accepted, signs, asked_until, asked_signature, asked_at, IsFirstUnsigned}
 use Rattle.cert_desk.proofs.OneEncoding.{one_algorithm}
+use Rattle.cert_desk.proofs.RuleList.{test_of_all, all_of_tests, or_signature}
 use Rattle.cert_desk.proofs.Encodings.{Stands-at, valid_algorithms}
 
 pub entry_at : (bound : ℕ) (cs : List PlainCertificate) (place : ℕ) (o : Option Entry) (e : Entry) → IfSome o (λ e. IsEntry bound cs place e) → o ≡ Some e → IsEntry bound cs place e
@@ -64,20 +65,6 @@ pub asked_signature-later : (t : Terms) (cs : List PlainCertificate) (stream : L
 asked_signature-later t cs stream zero h = absurd (omega arith)
 asked_signature-later t cs stream (suc n) h = refl
 
--- no rule comes before the first
-pub none_before_first : (P : Rule → Type 0) (rule : Rule) → number rule < 1 → P rule
-none_before_first P rules.AlgorithmsDiffer h = absurd (omega arith)
-none_before_first P rules.DuplicateExtension h = absurd (omega arith)
-none_before_first P rules.MalformedExtension h = absurd (omega arith)
-none_before_first P rules.UnweighedCritical h = absurd (omega arith)
-none_before_first P rules.WrongIssuer h = absurd (omega arith)
-none_before_first P rules.NotYetValid h = absurd (omega arith)
-none_before_first P rules.Expired h = absurd (omega arith)
-none_before_first P rules.AgainstPurpose h = absurd (omega arith)
-none_before_first P rules.NotAuthority h = absurd (omega arith)
-none_before_first P rules.PathTooLong h = absurd (omega arith)
-none_before_first P rules.WrongSignature h = absurd (omega arith)
-
 -- algorithms that aren't equal have other octets
 pub algorithms_differ : (t : Terms) (limit : ℕ) (cs : List PlainCertificate) (stream : List ℕ) (place : ℕ) (c : PlainCertificate)
     → AllByRecursion (Stands t.bound limit) cs → slice_get cs place ≡ Some c → (inner_algorithm c ≡ outer_algorithm c → ⊥)
@@ -88,40 +75,14 @@ algorithms_differ t limit cs stream place c all e differ =
     false_from_ne_true _ (λ same. differ (one_algorithm t.bound _ _ valid.0 valid.1 ((bytes_eq-Decides _ _).0 same))) in
     keeps_at-is rules.AlgorithmsDiffer t cs stream place c e ∙ octets_differ
 
--- ten tests that all pass
-all_ten : (a b c d e f g h i j : Bool) → (a && (b && (c && (d && (e && (f && (g && (h && (i && j))))))))) ≡ true
-    → (a ≡ true) × (b ≡ true) × (c ≡ true) × (d ≡ true) × (e ≡ true) × (f ≡ true) × (g ≡ true) × (h ≡ true) × (i ≡ true) × (j ≡ true)
-all_ten a b c d e f g h i j p0 =
-    let p1 = and_parts a (b && (c && (d && (e && (f && (g && (h && (i && j)))))))) p0 in
-    let p2 = and_parts b (c && (d && (e && (f && (g && (h && (i && j))))))) p1.1 in
-    let p3 = and_parts c (d && (e && (f && (g && (h && (i && j)))))) p2.1 in
-    let p4 = and_parts d (e && (f && (g && (h && (i && j))))) p3.1 in
-    let p5 = and_parts e (f && (g && (h && (i && j)))) p4.1 in
-    let p6 = and_parts f (g && (h && (i && j))) p5.1 in
-    let p7 = and_parts g (h && (i && j)) p6.1 in
-    let p8 = and_parts h (i && j) p7.1 in
-    let p9 = and_parts i (j) p8.1 in
-    (p1.0, p2.0, p3.0, p4.0, p5.0, p6.0, p7.0, p8.0, p9.0, p9.1)
-
 -- what may be asked about keeps every rule before the signature
-module _ (t : Terms) (cs : List PlainCertificate) (stream : List ℕ) (place : ℕ) (h : may_ask t cs stream place ≡ true) where
-  pub may_ask-kept : (rule : Rule) → number rule < 11 → keeps_at rule t cs stream place ≡ true
-  may_ask-kept rules.AlgorithmsDiffer lt = (all_ten (keeps_at rules.AlgorithmsDiffer t cs stream place) (keeps_at rules.DuplicateExtension t cs stream place) (keeps_at rules.MalformedExtension t cs stream place) (keeps_at rules.UnweighedCritical t cs stream place) (keeps_at rules.WrongIssuer t cs stream place) (keeps_at rules.NotYetValid t cs stream place) (keeps_at rules.Expired t cs stream place) (keeps_at rules.AgainstPurpose t cs stream place) (keeps_at rules.NotAuthority t cs stream place) (keeps_at rules.PathTooLong t cs stream place) h).0
-  may_ask-kept rules.DuplicateExtension lt = (all_ten (keeps_at rules.AlgorithmsDiffer t cs stream place) (keeps_at rules.DuplicateExtension t cs stream place) (keeps_at rules.MalformedExtension t cs stream place) (keeps_at rules.UnweighedCritical t cs stream place) (keeps_at rules.WrongIssuer t cs stream place) (keeps_at rules.NotYetValid t cs stream place) (keeps_at rules.Expired t cs stream place) (keeps_at rules.AgainstPurpose t cs stream place) (keeps_at rules.NotAuthority t cs stream place) (keeps_at rules.PathTooLong t cs stream place) h).1
-  may_ask-kept rules.MalformedExtension lt = (all_ten (keeps_at rules.AlgorithmsDiffer t cs stream place) (keeps_at rules.DuplicateExtension t cs stream place) (keeps_at rules.MalformedExtension t cs stream place) (keeps_at rules.UnweighedCritical t cs stream place) (keeps_at rules.WrongIssuer t cs stream place) (keeps_at rules.NotYetValid t cs stream place) (keeps_at rules.Expired t cs stream place) (keeps_at rules.AgainstPurpose t cs stream place) (keeps_at rules.NotAuthority t cs stream place) (keeps_at rules.PathTooLong t cs stream place) h).2
-  may_ask-kept rules.UnweighedCritical lt = (all_ten (keeps_at rules.AlgorithmsDiffer t cs stream place) (keeps_at rules.DuplicateExtension t cs stream place) (keeps_at rules.MalformedExtension t cs stream place) (keeps_at rules.UnweighedCritical t cs stream place) (keeps_at rules.WrongIssuer t cs stream place) (keeps_at rules.NotYetValid t cs stream place) (keeps_at rules.Expired t cs stream place) (keeps_at rules.AgainstPurpose t cs stream place) (keeps_at rules.NotAuthority t cs stream place) (keeps_at rules.PathTooLong t cs stream place) h).3
-  may_ask-kept rules.WrongIssuer lt = (all_ten (keeps_at rules.AlgorithmsDiffer t cs stream place) (keeps_at rules.DuplicateExtension t cs stream place) (keeps_at rules.MalformedExtension t cs stream place) (keeps_at rules.UnweighedCritical t cs stream place) (keeps_at rules.WrongIssuer t cs stream place) (keeps_at rules.NotYetValid t cs stream place) (keeps_at rules.Expired t cs stream place) (keeps_at rules.AgainstPurpose t cs stream place) (keeps_at rules.NotAuthority t cs stream place) (keeps_at rules.PathTooLong t cs stream place) h).4
-  may_ask-kept rules.NotYetValid lt = (all_ten (keeps_at rules.AlgorithmsDiffer t cs stream place) (keeps_at rules.DuplicateExtension t cs stream place) (keeps_at rules.MalformedExtension t cs stream place) (keeps_at rules.UnweighedCritical t cs stream place) (keeps_at rules.WrongIssuer t cs stream place) (keeps_at rules.NotYetValid t cs stream place) (keeps_at rules.Expired t cs stream place) (keeps_at rules.AgainstPurpose t cs stream place) (keeps_at rules.NotAuthority t cs stream place) (keeps_at rules.PathTooLong t cs stream place) h).5
-  may_ask-kept rules.Expired lt = (all_ten (keeps_at rules.AlgorithmsDiffer t cs stream place) (keeps_at rules.DuplicateExtension t cs stream place) (keeps_at rules.MalformedExtension t cs stream place) (keeps_at rules.UnweighedCritical t cs stream place) (keeps_at rules.WrongIssuer t cs stream place) (keeps_at rules.NotYetValid t cs stream place) (keeps_at rules.Expired t cs stream place) (keeps_at rules.AgainstPurpose t cs stream place) (keeps_at rules.NotAuthority t cs stream place) (keeps_at rules.PathTooLong t cs stream place) h).6
-  may_ask-kept rules.AgainstPurpose lt = (all_ten (keeps_at rules.AlgorithmsDiffer t cs stream place) (keeps_at rules.DuplicateExtension t cs stream place) (keeps_at rules.MalformedExtension t cs stream place) (keeps_at rules.UnweighedCritical t cs stream place) (keeps_at rules.WrongIssuer t cs stream place) (keeps_at rules.NotYetValid t cs stream place) (keeps_at rules.Expired t cs stream place) (keeps_at rules.AgainstPurpose t cs stream place) (keeps_at rules.NotAuthority t cs stream place) (keeps_at rules.PathTooLong t cs stream place) h).7
-  may_ask-kept rules.NotAuthority lt = (all_ten (keeps_at rules.AlgorithmsDiffer t cs stream place) (keeps_at rules.DuplicateExtension t cs stream place) (keeps_at rules.MalformedExtension t cs stream place) (keeps_at rules.UnweighedCritical t cs stream place) (keeps_at rules.WrongIssuer t cs stream place) (keeps_at rules.NotYetValid t cs stream place) (keeps_at rules.Expired t cs stream place) (keeps_at rules.AgainstPurpose t cs stream place) (keeps_at rules.NotAuthority t cs stream place) (keeps_at rules.PathTooLong t cs stream place) h).8
-  may_ask-kept rules.PathTooLong lt = (all_ten (keeps_at rules.AlgorithmsDiffer t cs stream place) (keeps_at rules.DuplicateExtension t cs stream place) (keeps_at rules.MalformedExtension t cs stream place) (keeps_at rules.UnweighedCritical t cs stream place) (keeps_at rules.WrongIssuer t cs stream place) (keeps_at rules.NotYetValid t cs stream place) (keeps_at rules.Expired t cs stream place) (keeps_at rules.AgainstPurpose t cs stream place) (keeps_at rules.NotAuthority t cs stream place) (keeps_at rules.PathTooLong t cs stream place) h).9
-  may_ask-kept rules.WrongSignature lt = absurd (omega arith)
+pub may_ask-kept : (t : Terms) (cs : List PlainCertificate) (stream : List ℕ) (place : ℕ) → may_ask t cs stream place ≡ true
+    → (rule : Rule) → number rule < 11 → keeps_at rule t cs stream place ≡ true
+may_ask-kept t cs stream place h rule lt = test_of_all (λ rule. keeps_at rule t cs stream place) h rule lt
 
 pub may_ask-true : (t : Terms) (cs : List PlainCertificate) (stream : List ℕ) (place : ℕ) → ((rule : Rule) → number rule < 11 → keeps_at rule t cs stream place ≡ true)
     → may_ask t cs stream place ≡ true
-may_ask-true t cs stream place kept =
-    and_from _ _ (kept rules.AlgorithmsDiffer (lit< tt)) (and_from _ _ (kept rules.DuplicateExtension (lit< tt)) (and_from _ _ (kept rules.MalformedExtension (lit< tt)) (and_from _ _ (kept rules.UnweighedCritical (lit< tt)) (and_from _ _ (kept rules.WrongIssuer (lit< tt)) (and_from _ _ (kept rules.NotYetValid (lit< tt)) (and_from _ _ (kept rules.Expired (lit< tt)) (and_from _ _ (kept rules.AgainstPurpose (lit< tt)) (and_from _ _ (kept rules.NotAuthority (lit< tt)) (kept rules.PathTooLong (lit< tt))))))))))
+may_ask-true t cs stream place kept = all_of_tests (λ rule. keeps_at rule t cs stream place) kept
 
 pub may_ask-false : (t : Terms) (cs : List PlainCertificate) (stream : List ℕ) (place : ℕ) (rule : Rule) → number rule < 11 → keeps_at rule t cs stream place ≡ false
     → may_ask t cs stream place ≡ false
@@ -140,14 +101,4 @@ asks_signature t cs stream place kept = cond-true _ _ _ (may_ask-true t cs strea
 -- the rules before the signature, and the signature
 pub all_kept : (t : Terms) (cs : List PlainCertificate) (stream : List ℕ) (place : ℕ) → ((rule : Rule) → number rule < 11 → keeps_at rule t cs stream place ≡ true)
     → keeps_at rules.WrongSignature t cs stream place ≡ true → (rule : Rule) → keeps_at rule t cs stream place ≡ true
-all_kept t cs stream place kept signed rules.AlgorithmsDiffer = kept rules.AlgorithmsDiffer (lit< tt)
-all_kept t cs stream place kept signed rules.DuplicateExtension = kept rules.DuplicateExtension (lit< tt)
-all_kept t cs stream place kept signed rules.MalformedExtension = kept rules.MalformedExtension (lit< tt)
-all_kept t cs stream place kept signed rules.UnweighedCritical = kept rules.UnweighedCritical (lit< tt)
-all_kept t cs stream place kept signed rules.WrongIssuer = kept rules.WrongIssuer (lit< tt)
-all_kept t cs stream place kept signed rules.NotYetValid = kept rules.NotYetValid (lit< tt)
-all_kept t cs stream place kept signed rules.Expired = kept rules.Expired (lit< tt)
-all_kept t cs stream place kept signed rules.AgainstPurpose = kept rules.AgainstPurpose (lit< tt)
-all_kept t cs stream place kept signed rules.NotAuthority = kept rules.NotAuthority (lit< tt)
-all_kept t cs stream place kept signed rules.PathTooLong = kept rules.PathTooLong (lit< tt)
-all_kept t cs stream place kept signed rules.WrongSignature = signed
+all_kept t cs stream place kept signed = or_signature (λ rule. keeps_at rule t cs stream place ≡ true) kept signed

@@ -1,6 +1,6 @@
 -- The rules of a chain, each by itself (RFC 5280 6.1).
 use Rattle.std.specs.Prelude.{◌≡◌, ℕ, zero, suc, ◌+◌, ◌-◌, List, [], ◌∷◌, length, take, drop, Bool, true, false, Option, Some, None, nat_le, nat_lt, ◌==◌, ◌&&◌, ◌||◌, bytes_eq, slice_get}
-use Rattle.std.specs.List.{list_any}
+use Rattle.std.specs.List.{list_any, list_all}
 use Rattle.std.specs.Option.{option_map_or}
 use Rattle.der_core_head.specs.BitStrings.{Bits}
 use Rattle.der_core_head.specs.Shapes.{octets_of}
@@ -85,14 +85,15 @@ number rules.NotAuthority = 9
 number rules.PathTooLong = 10
 number rules.WrongSignature = 11
 
--- all rules but the signature, which alone asks the judge
+-- the rules before the signature, which alone asks the judge, in the order in which they are judged
+abbrev pub before_signature : List Rule
+before_signature =
+    rules.AlgorithmsDiffer ∷ rules.DuplicateExtension ∷ rules.MalformedExtension ∷ rules.UnweighedCritical ∷ rules.WrongIssuer
+    ∷ rules.NotYetValid ∷ rules.Expired ∷ rules.AgainstPurpose ∷ rules.NotAuthority ∷ rules.PathTooLong ∷ []
+
+-- the judge may be asked where all of them are kept
 abbrev pub may_ask : Terms → List PlainCertificate → List ℕ → ℕ → Bool
-may_ask t cs stream place =
-    (keeps_at rules.AlgorithmsDiffer t cs stream place && (keeps_at rules.DuplicateExtension t cs stream place
-    && (keeps_at rules.MalformedExtension t cs stream place && (keeps_at rules.UnweighedCritical t cs stream place
-    && (keeps_at rules.WrongIssuer t cs stream place && (keeps_at rules.NotYetValid t cs stream place
-    && (keeps_at rules.Expired t cs stream place && (keeps_at rules.AgainstPurpose t cs stream place
-    && (keeps_at rules.NotAuthority t cs stream place && keeps_at rules.PathTooLong t cs stream place)))))))))
+may_ask t cs stream place = list_all (λ rule. keeps_at rule t cs stream place) before_signature
 
 abbrev pub keeps_all : Terms → List PlainCertificate → List ℕ → ℕ → Bool
 keeps_all t cs stream place = may_ask t cs stream place && keeps_at rules.WrongSignature t cs stream place

@@ -4,7 +4,8 @@ use Rattle.x509_cert.specs.Views.{certificate_plain, tbs_inner_algorithm}
 use Rattle.cert_desk.specs.declared.rule.Rule.TheVariants as rules
 use Rattle.cert_desk.specs.Anchors.{terms_of}
 use Rattle.cert_desk.specs.Judging.{keeps_at}
-use Rattle.cert_desk.proofs.PlaceLaws.{entry_at, algorithms_differ, none_before_first}
+use Rattle.cert_desk.proofs.PlaceLaws.{entry_at, algorithms_differ}
+use Rattle.cert_desk.proofs.RuleList.{none_before_first}
 use Rattle.cert_desk.proofs.checking.first_unsigned.Goals as goal
 
 pub returns-then-not-equals : goal.returns-then-not-equals
