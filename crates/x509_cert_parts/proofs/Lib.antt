@@ -1,1 +1,2 @@
-pub mod Versions
+mod Respelled
+mod Versions

@@ -5,6 +5,7 @@
 mod algorithm_identifier;
 mod algorithm_identifier_ref;
 mod extension;
+pub mod laws;
 mod profile;
 mod serial_number;
 mod subject_public_key_info;

@@ -1,6 +1,6 @@
 //! Serial numbers.
 
-ghost use Rattle.std.specs.Prelude.{◌≡◌, ℤ, nat_eq, Some, IfOk};
+ghost use Rattle.std.specs.Prelude.{◌≡◌, pos, nat_eq, Some, Ok, IfOk};
 ghost use Rattle.std.proofs.Common.{refl};
 ghost use Rattle.std.specs.Cmp.{po, partial_equiv_from_equiv, on_equiv, on_per};
 ghost use Rattle.std.specs.Cmp.Lexicographic.{pointwise, nat_list_eq_equiv};
@@ -14,7 +14,7 @@ ghost use Rattle.x509_cert_parts.specs.Grammar.{numbers_within};
 ghost use Rattle.x509_cert_parts.specs.SerialNumbers.{new_serial};
 
 use crate::profile::Profile;
-use der_core::making::{decode_leaf, value_cmp_by_contents};
+use der_core::making::{decode_leaf, integer_octets_of, value_cmp_by_contents};
 use der_core::{
     ApartValue, AsReadValue, DecodeValue, EncodeValue, Error, ErrorKind, FixedTag, Header, Leaf,
     Length, Reader, ShapedValue, Tag, ValueOrd, Writer,
@@ -66,6 +66,21 @@ impl<P> SerialNumber<P> {
         if inner.len().value > 20 {
             return Err(Error::from(ErrorKind::Overlength));
         }
+        Ok(SerialNumber {
+            inner,
+            profile: PhantomData,
+        })
+    }
+
+    /// This number.
+    ///
+    /// # Errors
+    /// Want of memory.
+    pub fn from_u64(alloc: Global, number: u64) -> Result<SerialNumber<P>, Error>
+        ensures { Gives (λ n. n) result (Ok (pos number)) }
+    {
+        let (octets, start) = integer_octets_of(false, u128::from(number));
+        let inner = Int::from_content(alloc, Tag::Integer, &octets[start..])?;
         Ok(SerialNumber {
             inner,
             profile: PhantomData,

@@ -12,5 +12,5 @@ returns-then-is_empty c = search (rules, empty)
 pub returns-in-Length : goal.returns-in-Length
 returns-in-Length c =
     let value : integer_read version_numbers c.args.tag c.args.octets.now ≡ Err (kinds.Value c.args.tag) =
-        past c.args.tag c.in-Length.tag c.args.octets.now (search rules) (c.in-Err.ensures.exact ∙ ap (λ (k : ErrorKind). Err k) c.in-Length.is) in
+    past c.args.tag c.in-Length.tag c.args.octets.now (search rules) (c.in-Err.ensures.exact ∙ ap (λ (k : ErrorKind). Err k) c.in-Length.is) in
     search (rules, value)
