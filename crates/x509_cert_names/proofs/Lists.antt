@@ -1,0 +1,12 @@
+-- Lists of lists, seen by their elements.
+use Rattle.std.proofs.Common.{◌≡◌, List, [], ◌∷◌, ◌++◌, refl, ap, ◌∙◌}
+use Rattle.std.specs.Prelude.{flat_map}
+use Rattle.der_core_head.specs.Grammar.{plain_list}
+
+pub plain_append : {A B : Type 0} (f : A → B) (xs ys : List A) → plain_list f (xs ++ ys) ≡ plain_list f xs ++ plain_list f ys
+plain_append f [] ys = refl
+plain_append f (x ∷ xs) ys = ap (λ zs. f x ∷ zs) (plain_append f xs ys)
+
+pub plain_all : {A B : Type 0} (f : A → B) (xs : List (List A)) → plain_list f (flat_map (λ r. r) xs) ≡ flat_map (λ r. r) (plain_list (plain_list f) xs)
+plain_all f [] = refl
+plain_all f (x ∷ xs) = plain_append f x (flat_map (λ r. r) xs) ∙ ap (λ zs. plain_list f x ++ zs) (plain_all f xs)

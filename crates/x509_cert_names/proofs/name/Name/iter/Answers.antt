@@ -1,0 +1,6 @@
+use Rattle.x509_cert_names.specs.Pairs.{pair_plain}
+use Rattle.x509_cert_names.proofs.Lists.{plain_all}
+use Rattle.x509_cert_names.proofs.name.Name.iter.Goals as goal
+
+pub returns : goal.returns
+returns c = rw c.iter.ensures (plain_all pair_plain c.args.self.now.rdn_sequence.relative_names.items)

@@ -1,0 +1,40 @@
+-- What contracts see of a DirectoryString.
+use Rattle.std.specs.Prelude.{ℕ, List, [], string_bytes, Result, Ok, Err}
+use Rattle.std.proofs.Common.{inl, inr}
+use Rattle.der_core_head.specs.declared.error.ErrorKind.{ErrorKind}
+use Rattle.der_core_head.specs.declared.error.ErrorKind.TheVariants as kinds
+use Rattle.der_core_head.specs.declared.tag.Tag.{Tag}
+use Rattle.der_core_head.specs.declared.tag.Tag.TheVariants as tags
+use Rattle.der_core_head.specs.Octets.{◌>>=◌}
+use Rattle.der_core_head.specs.Leaves.{text, utf8, bmp}
+use Rattle.der_core_head.specs.Texts.{printable, ascii}
+use Rattle.der_core_head.specs.Shapes.{Value, AnyValue, leaf}
+use Rattle.der_types_any.specs.Contents.{content_as}
+use Rattle.x509_cert_names.specs.Names.{directory_string}
+use Rattle.x509_cert_names.specs.declared.directory_string.DirectoryString.{DirectoryString}
+use Rattle.x509_cert_names.specs.declared.directory_string.DirectoryString.TheVariants as strings
+
+abbrev pub directory_plain : DirectoryString → Value directory_string
+directory_plain (strings.PrintableString t) = inl t
+directory_plain (strings.TeletexString t) = inr (inl t)
+directory_plain (strings.Utf8String t) = inr (inr (inl (string_bytes t)))
+directory_plain (strings.BmpString t) = inr (inr (inr t))
+
+-- the octets of its text, where they are those of UTF-8
+abbrev pub directory_text : DirectoryString → List ℕ
+directory_text (strings.PrintableString t) = t
+directory_text (strings.TeletexString t) = t
+directory_text (strings.Utf8String t) = string_bytes t
+directory_text (strings.BmpString t) = []
+
+-- what any value reads as, by its tag
+abbrev pub directory_as : Tag → AnyValue → Result (Value directory_string) ErrorKind
+directory_as tags.PrintableString a = content_as tags.PrintableString (leaf (text printable)) a >>= λ t. Ok (inl t)
+directory_as tags.TeletexString a = content_as tags.TeletexString (leaf (text ascii)) a >>= λ t. Ok (inr (inl t))
+directory_as tags.Utf8String a = content_as tags.Utf8String (leaf utf8) a >>= λ t. Ok (inr (inr (inl t)))
+directory_as tags.BmpString a = content_as tags.BmpString (leaf bmp) a >>= λ t. Ok (inr (inr (inr t)))
+directory_as _ a = Err kinds.TagUnexpected
+
+-- the DirectoryString that any value is, or the fault
+abbrev pub directory_from : AnyValue → Result (Value directory_string) ErrorKind
+directory_from a = directory_as a.tag a

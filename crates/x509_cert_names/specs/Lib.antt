@@ -1,0 +1,5 @@
+pub mod Names
+pub mod Pairs
+pub mod Views
+pub mod DirectoryStrings
+pub mod AttributeTypes

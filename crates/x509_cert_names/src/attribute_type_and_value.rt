@@ -1,0 +1,162 @@
+//! AttributeTypeAndValue.
+
+ghost use Rattle.std.specs.Prelude.{◌≡◌, refl, IfOk};
+ghost use Rattle.der_core_head.specs.declared.tag.Tag.TheVariants.{Sequence};
+ghost use Rattle.der_core_head.specs.Shapes.{nested};
+ghost use Rattle.x509_cert_names.specs.Names.{type_and_value_fields};
+ghost use Rattle.x509_cert_names.specs.Pairs.{arc_bound, pair_plain, same_pair, same_pair_per, same_pair_equiv};
+
+use const_oid_identifiers::ObjectIdentifier;
+use der_core::making::read_fields;
+use der_core::{
+    ApartValue, AsReadValue, DecodeFields, DecodeValue, EncodeFields, EncodeRef, EncodeValue,
+    Error, Fields, FieldsOrd, FixedTag, Header, InRange, InRangeValue, Length, Reader, ShapedValue,
+    Tag, ValueOrd, Writer,
+};
+use der_types_any::Any;
+use std::alloc::{AllocError, Global};
+use std::cmp::Ordering;
+
+/// What an attribute is of (RFC 5280 appendix A.1).
+///
+/// ```text
+/// AttributeType ::= OBJECT IDENTIFIER
+/// ```
+pub type AttributeType = ObjectIdentifier<39>;
+
+/// The value of an attribute (RFC 5280 appendix A.1).
+///
+/// ```text
+/// AttributeValue ::= ANY
+/// ```
+pub type AttributeValue = Any;
+
+/// An attribute with one value (RFC 5280 appendix A.1). In the order the type is compared first.
+///
+/// ```text
+/// AttributeTypeAndValue ::= SEQUENCE { type AttributeType, value AttributeValue }
+/// ```
+#[derive(Debug, Drop, PartialOrd, Ord, Hash)]
+pub struct AttributeTypeAndValue {
+    pub oid: AttributeType,
+    pub value: AttributeValue,
+}
+
+type Row = (AttributeType, (AttributeValue, ()));
+
+impl FixedTag for AttributeTypeAndValue {
+    ghost fixed_tag = { Sequence };
+
+    fn tag() -> Tag {
+        Tag::Sequence
+    }
+}
+
+impl Fields for AttributeTypeAndValue {
+    ghost fields = { type_and_value_fields arc_bound };
+
+    ghost fields_plain = { pair_plain };
+
+    ghost fields_written = { pair_plain };
+}
+
+impl<'a, R: Reader<'a>> DecodeFields<'a, R> for AttributeTypeAndValue {
+    fn decode_fields(alloc: Global, reader: &mut R) -> Result<AttributeTypeAndValue, Error> {
+        let (oid, (value, ())) = Row::decode_fields(alloc, reader)?;
+        Ok(AttributeTypeAndValue { oid, value })
+    }
+}
+
+impl ShapedValue for AttributeTypeAndValue {
+    ghost content = { nested (type_and_value_fields arc_bound) };
+
+    ghost value_plain = { pair_plain };
+
+    ghost value_written = { pair_plain };
+}
+
+impl<'a, R: Reader<'a>> DecodeValue<'a, R> for AttributeTypeAndValue {
+    fn decode_value(
+        alloc: Global,
+        reader: &mut R,
+        header: Header,
+    ) -> Result<AttributeTypeAndValue, Error> {
+        read_fields(alloc, reader, header)
+    }
+}
+
+impl EncodeValue for AttributeTypeAndValue {
+    fn value_len(&self) -> Result<Length, Error> {
+        (EncodeRef(&self.oid), (EncodeRef(&self.value), ())).fields_len()
+    }
+
+    fn encode_value<W: Writer>(&self, writer: &mut W) -> Result<(), Error> {
+        (EncodeRef(&self.oid), (EncodeRef(&self.value), ())).encode_fields(writer)
+    }
+}
+
+impl ApartValue for AttributeTypeAndValue {
+    ghost apart_value = { refl };
+}
+
+impl AsReadValue for AttributeTypeAndValue {
+    ghost as_read_value = { λ _. refl };
+}
+
+impl InRangeValue for AttributeTypeAndValue {
+    fn value_in_range(&self) {
+        self.oid.in_range();
+        self.value.in_range();
+    }
+}
+
+/// Whether type and value are equal.
+impl PartialEq for AttributeTypeAndValue {
+    ghost eq = { same_pair };
+
+    ghost laws = { same_pair_per };
+
+    fn eq(&self, other: &Self) -> bool {
+        self.oid == other.oid && self.value == other.value
+    }
+}
+
+impl Eq for AttributeTypeAndValue {
+    ghost laws = { same_pair_equiv };
+}
+
+/// The order of the types' encodings, then of the values'.
+impl ValueOrd for AttributeTypeAndValue {
+    #[tactic(auto, unfolding(der_core_head::specs::Shapes::contents, der_core_head::specs::Shapes::IsContent))]
+    fn value_cmp(&self, other: &Self) -> Result<Ordering, Error> {
+        let row = (EncodeRef(&self.oid), (EncodeRef(&self.value), ()));
+        row.fields_cmp(&(EncodeRef(&other.oid), (EncodeRef(&other.value), ())))
+    }
+}
+
+impl AttributeTypeAndValue {
+    /// A copy.
+    ///
+    /// # Errors
+    /// Want of memory.
+    pub fn clone(&self, alloc: Global) -> Result<AttributeTypeAndValue, AllocError>
+        ensures { IfOk result (λ a. a ≡ self.now) }
+    {
+        Ok(AttributeTypeAndValue {
+            oid: self.oid,
+            value: self.value.clone(alloc)?,
+        })
+    }
+}
+
+/// A copy, in memory of the same allocator.
+impl Clone for AttributeTypeAndValue {
+    ghost is_clone = { λ x y. y ≡ x };
+
+    fn clone(&self) -> Result<AttributeTypeAndValue, AllocError> {
+        Ok(AttributeTypeAndValue {
+            oid: self.oid,
+            value: <Any as Clone>::clone(&self.value)?,
+        })
+    }
+}

@@ -1,0 +1,137 @@
+//! DirectoryString.
+
+ghost use Rattle.std.specs.Prelude.{◌≡◌, [], refl};
+ghost use Rattle.der_core_head.specs.Shapes.{begins};
+ghost use Rattle.x509_cert_names.specs.Names.{directory_string};
+ghost use Rattle.x509_cert_names.specs.DirectoryStrings.{directory_plain, directory_text, directory_from};
+ghost use Rattle.der_core_head.specs.Reading.{Gives};
+ghost use Rattle.der_core_head.specs.declared.tag.Tag.TheVariants as tags;
+
+use crate::from_any::FromAny;
+use der_core::{
+    AsRead, Choice, Decode, Element, Encode, Error, ErrorKind, Length, Member, OneOf4, Reader,
+    Shaped, Tag, Writer,
+};
+use der_types_any::Any;
+use der_types_text::{BmpString, PrintableString, TeletexString};
+use std::alloc::Global;
+
+/// A text of a name (RFC 5280 4.1.2.4, appendix A.1). UniversalString isn't read.
+///
+/// ```text
+/// DirectoryString ::= CHOICE {
+///     printableString  PrintableString,
+///     teletexString    TeletexString,
+///     utf8String       UTF8String,
+///     bmpString        BMPString }
+/// ```
+#[derive(Debug, Drop, PartialEq, Eq)]
+pub enum DirectoryString {
+    PrintableString(PrintableString),
+    TeletexString(TeletexString),
+    Utf8String(String),
+    BmpString(BmpString),
+}
+
+type Cases = OneOf4<PrintableString, TeletexString, String, BmpString>;
+
+impl Shaped for DirectoryString {
+    ghost shape = { directory_string };
+
+    ghost plain = { directory_plain };
+
+    ghost written = { directory_plain };
+}
+
+impl Choice for DirectoryString {
+    fn can_decode(tag: Tag) -> bool {
+        Cases::can_decode(tag)
+    }
+}
+
+impl<'a, R: Reader<'a>> Decode<'a, R> for DirectoryString {
+    fn decode(alloc: Global, reader: &mut R) -> Result<DirectoryString, Error> {
+        match Cases::decode(alloc, reader)? {
+            OneOf4::First(text) => Ok(DirectoryString::PrintableString(text)),
+            OneOf4::Second(text) => Ok(DirectoryString::TeletexString(text)),
+            OneOf4::Third(text) => Ok(DirectoryString::Utf8String(text)),
+            OneOf4::Fourth(text) => Ok(DirectoryString::BmpString(text)),
+        }
+    }
+}
+
+impl Encode for DirectoryString {
+    fn encoded_len(&self) -> Result<Length, Error> {
+        match self {
+            DirectoryString::PrintableString(text) => text.encoded_len(),
+            DirectoryString::TeletexString(text) => text.encoded_len(),
+            DirectoryString::Utf8String(text) => text.encoded_len(),
+            DirectoryString::BmpString(text) => text.encoded_len(),
+        }
+    }
+
+    fn encode<W: Writer>(&self, writer: &mut W) -> Result<(), Error> {
+        match self {
+            DirectoryString::PrintableString(text) => text.encode(writer),
+            DirectoryString::TeletexString(text) => text.encode(writer),
+            DirectoryString::Utf8String(text) => text.encode(writer),
+            DirectoryString::BmpString(text) => text.encode(writer),
+        }
+    }
+}
+
+impl Element for DirectoryString {
+    ghost element = { refl };
+}
+
+impl Member for DirectoryString {
+    ghost apart = { refl };
+}
+
+impl AsRead for DirectoryString {
+    ghost as_read = { λ _. refl };
+}
+
+impl DirectoryString {
+    /// The text, or the empty one for a BMPString.
+    pub fn as_str(&self) -> &str
+        ensures { result.now ≡ directory_text self.now }
+    {
+        match self {
+            DirectoryString::PrintableString(text) => text.as_str(),
+            DirectoryString::TeletexString(text) => text.as_str(),
+            DirectoryString::Utf8String(text) => text.as_str(),
+            DirectoryString::BmpString(_) => "",
+        }
+    }
+}
+
+/// The text that any value is.
+///
+/// # Errors
+/// `TagUnexpected` for another tag than the four, the first fault of the content, or `OutOfMemory`.
+impl<'a> FromAny<'a> for DirectoryString {
+    ghost any_gives = { λ a r. Gives directory_plain r (directory_from a) };
+
+    fn from_any(alloc: Global, any: &'a Any) -> Result<DirectoryString, Error> {
+        match any.tag() {
+            Tag::PrintableString => {
+                let text = any.decode_as(alloc)?;
+                Ok(DirectoryString::PrintableString(text))
+            }
+            Tag::TeletexString => {
+                let text = any.decode_as(alloc)?;
+                Ok(DirectoryString::TeletexString(text))
+            }
+            Tag::Utf8String => {
+                let text = any.decode_as(alloc)?;
+                Ok(DirectoryString::Utf8String(text))
+            }
+            Tag::BmpString => {
+                let text = any.decode_as(alloc)?;
+                Ok(DirectoryString::BmpString(text))
+            }
+            _ => Err(Error::from(ErrorKind::TagUnexpected)),
+        }
+    }
+}

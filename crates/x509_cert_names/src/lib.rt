@@ -1,0 +1,22 @@
+//! Names of X.509 and the attributes in them (RFC 5280 4.1.2.4, appendix A.1).
+#![tactic(auto)]
+
+mod attribute;
+mod attribute_type_and_value;
+mod attribute_types;
+mod directory_string;
+mod from_any;
+mod members;
+mod name;
+mod name_iter;
+mod rdn_sequence;
+mod relative_distinguished_name;
+
+pub use attribute::{Attribute, Attributes};
+pub use attribute_type_and_value::{AttributeType, AttributeTypeAndValue, AttributeValue};
+pub use directory_string::DirectoryString;
+pub use from_any::FromAny;
+pub use name::Name;
+pub use name_iter::{NameIter, RdnSequenceIter, RelativeNameIter};
+pub use rdn_sequence::{DistinguishedName, RdnSequence};
+pub use relative_distinguished_name::RelativeDistinguishedName;

@@ -1,0 +1,69 @@
+//! Lists of members that ascend by their encodings.
+
+ghost use Rattle.std.specs.Prelude.{◌≡◌, ◌∷◌, true, length, IfOk, IfErr};
+ghost use Rattle.std.specs.List.Sorted.{IsPermutation};
+ghost use Rattle.der_core_head.specs.Grammar.{plain_list, value_at, read_content};
+ghost use Rattle.der_core_head.specs.Reading.{Reads, IsDer};
+ghost use Rattle.der_core_head.specs.Shapes.{nested, rising, octets_of, AllRising};
+ghost use Rattle.der_types_sets.specs.Sets.{Ascends, IsPlace, TooLong};
+
+use der_core::{AsRead, Decode, DerOrd, Error, Header, Member, Reader};
+use der_types_sets::SetOfVec;
+use std::alloc::Global;
+use std::cmp::Ordering;
+
+/// The members of a content in which each encoding is above the one before (X.690 11.6), in ascending
+/// order.
+///
+/// # Errors
+/// Those of `SetOfVec::decode_value_strict`.
+pub(crate) fn decode_members<'a, R: Reader<'a>, T: Decode<'a, R> + DerOrd + Member + AsRead + Drop>(
+    alloc: Global,
+    reader: &mut R,
+    header: Header,
+) -> Result<Vec<T>, Error>
+    ensures reads { Reads (λ v. plain_list T.plain v.items) (R.state reader.old) (R.state reader.new) result (value_at (read_content (nested (rising T.shape)) header.tag (R.state reader.old).room) header.length.value) }
+    ensures ascend { IfOk result (λ v. Ascends T.shape T.written v.items) }
+    ensures rising { IsDer (R.state reader.old) → IfOk result (λ v. AllRising (octets_of T.shape) (plain_list T.plain v.items)) }
+{
+    let set = SetOfVec::<T>::decode_value_strict(alloc, reader, header)?;
+    Ok(set.into_vec())
+}
+
+/// The members in ascending order.
+///
+/// # Errors
+/// `Overflow` where an encoding has 2^32 octets or more. No memory is taken.
+pub(crate) fn arrange<T: DerOrd + Member + Drop>(members: Vec<T>) -> Result<Vec<T>, Error>
+    ensures same { IfOk result (λ v. IsPermutation members.items v.items) }
+    ensures ascend { IfOk result (λ v. Ascends T.shape T.written v.items) }
+    ensures refused { IfErr result (TooLong T.shape T.written members.items) }
+{
+    let set = SetOfVec::from_vec(members)?;
+    Ok(set.into_vec())
+}
+
+/// The place of an item among members that ascend, behind those that are not above it.
+///
+/// # Errors
+/// `Overflow` where an encoding has 2^32 octets or more.
+pub(crate) fn place_of<T: DerOrd + Member>(members: &[T], item: &T) -> Result<usize, Error>
+    ensures place { IfOk result (IsPlace T.shape T.written members.now item.now) }
+    ensures refused { IfErr result (TooLong T.shape T.written (item.now ∷ members.now)) }
+{
+    let mut low = 0;
+    let mut high = members.len();
+    while low < high {
+        // The last member comes first: most items stand behind it.
+        let middle = if high == members.len() {
+            high - 1
+        } else {
+            low + (high - low) / 2
+        };
+        match members[middle].der_cmp(item)? {
+            Ordering::Greater => high = middle,
+            Ordering::Less | Ordering::Equal => low = middle + 1,
+        }
+    }
+    Ok(low)
+}

@@ -1,0 +1,264 @@
+//! Name.
+
+ghost use Rattle.std.specs.Prelude.{◌≡◌, ◌==◌, [], length, refl, IfOk, IfErr};
+ghost use Rattle.der_core_head.specs.declared.tag.Tag.TheVariants.{Sequence};
+ghost use Rattle.der_core_head.specs.Shapes.{nested, many};
+ghost use Rattle.der_core_head.specs.declared.tag.Tag.TheVariants.{PrintableString, Ia5String};
+ghost use Rattle.der_core_head.specs.Grammar.{plain_list};
+ghost use Rattle.der_core_head.specs.Leaves.{text};
+ghost use Rattle.der_core_head.specs.Reading.{Gives, GivesNow};
+ghost use Rattle.der_core_head.specs.Texts.{printable, ascii};
+ghost use Rattle.der_types_any.specs.Contents.{leaf_as};
+ghost use Rattle.x509_cert_names.specs.AttributeTypes.{first_value, FirstGives, x520, email_address};
+ghost use Rattle.x509_cert_names.specs.DirectoryStrings.{directory_plain, directory_from};
+ghost use Rattle.x509_cert_names.specs.Names.{relative_name, all_of};
+ghost use Rattle.x509_cert_names.specs.Pairs.{arc_bound, pair_plain, relative_plain};
+ghost use Rattle.x509_cert_names.specs.Views.{attributes_left, name_plain, sequence_plain};
+
+use crate::attribute_types as types;
+use crate::directory_string::DirectoryString;
+use crate::from_any::FromAny;
+use crate::name_iter::{NameIter, RdnSequenceIter};
+use crate::rdn_sequence::RdnSequence;
+use const_oid_identifiers::ObjectIdentifier;
+use der_core::{
+    ApartValue, AsReadValue, DecodeValue, EncodeValue, Error, FixedTag, Header, InRangeValue,
+    Length, Reader, ShapedValue, Tag, ValueOrd, Writer,
+};
+use der_types_text::{Ia5StringRef, PrintableStringRef};
+use std::alloc::Global;
+use std::cmp::Ordering;
+
+/// A name (RFC 5280 4.1.2.4).
+///
+/// ```text
+/// Name ::= CHOICE { rdnSequence RDNSequence }
+/// ```
+#[derive(Debug, Drop)]
+pub struct Name {
+    rdn_sequence: RdnSequence,
+}
+
+impl Name {
+    /// The empty name.
+    pub fn default(alloc: Global) -> Name
+        ensures { name_plain result ≡ [] }
+    {
+        Name {
+            rdn_sequence: RdnSequence::default(alloc),
+        }
+    }
+
+    /// The name of these relative names, whatever string types their values have. Whether they are
+    /// those that RFC 5280 4.1.2.4 asks for isn't looked at.
+    pub fn hazmat_from_rdn_sequence(value: RdnSequence) -> Name
+        ensures { name_plain result ≡ sequence_plain value }
+    {
+        Name {
+            rdn_sequence: value,
+        }
+    }
+
+    /// Whether there is no relative name.
+    pub fn is_empty(&self) -> bool
+        ensures { result ≡ (length self.now.rdn_sequence.relative_names.items == 0) }
+    {
+        self.rdn_sequence.is_empty()
+    }
+
+    /// The number of relative names.
+    pub fn len(&self) -> usize
+        ensures { result ≡ length self.now.rdn_sequence.relative_names.items }
+    {
+        self.rdn_sequence.len()
+    }
+}
+
+impl Name {
+    /// The attributes, those of the widest relative name first.
+    pub fn iter(&self) -> NameIter<'_>
+        ensures { plain_list pair_plain (attributes_left result) ≡ all_of (name_plain self.now) }
+    {
+        NameIter {
+            attributes: &[],
+            left: self.rdn_sequence.iter().left,
+        }
+    }
+
+    /// The relative names, the widest first.
+    pub fn iter_rdn(&self) -> RdnSequenceIter<'_>
+        ensures { plain_list relative_plain result.left.now ≡ name_plain self.now }
+    {
+        self.rdn_sequence.iter()
+    }
+
+    /// The value of the first attribute of a type, in the order of the name, or none where there is no
+    /// such attribute. `iter` has the others.
+    ///
+    /// # Errors
+    /// Those of `T`: `TagUnexpected` where the value is of another type, ..
+    pub fn by_oid<'a, T: FromAny<'a>>(
+        &'a self,
+        alloc: Global,
+        oid: ObjectIdentifier<39>,
+    ) -> Result<Option<T>, Error>
+        ensures { FirstGives T.any_gives (first_value oid (all_of (name_plain self.now))) result }
+    {
+        for attribute in self.iter() {
+            if attribute.oid == oid {
+                return match T::from_any(alloc, &attribute.value) {
+                    Ok(value) => Ok(Some(value)),
+                    Err(error) => Err(error),
+                };
+            }
+        }
+        Ok(None)
+    }
+
+    /// The first common name (2.5.4.3), or none.
+    ///
+    /// # Errors
+    /// `TagUnexpected` where it is no DirectoryString, the first fault of its content, or
+    /// `OutOfMemory`.
+    pub fn common_name(&self, alloc: Global) -> Result<Option<DirectoryString>, Error>
+        ensures { FirstGives (λ a r. Gives directory_plain r (directory_from a)) (first_value (x520 3) (all_of (name_plain self.now))) result }
+    {
+        self.by_oid(alloc, types::common_name())
+    }
+
+    /// The first country (2.5.4.6), or none.
+    ///
+    /// # Errors
+    /// `TagUnexpected` where it is no PrintableString, or the first fault of its content.
+    pub fn country(&self, alloc: Global) -> Result<Option<PrintableStringRef<'_>>, Error>
+        ensures { FirstGives (λ a r. GivesNow (λ t. t.text.now) r (leaf_as PrintableString (text printable) a)) (first_value (x520 6) (all_of (name_plain self.now))) result }
+    {
+        self.by_oid(alloc, types::country())
+    }
+
+    /// The first state or province (2.5.4.8), or none.
+    ///
+    /// # Errors
+    /// `TagUnexpected` where it is no DirectoryString, the first fault of its content, or
+    /// `OutOfMemory`.
+    pub fn state_or_province(&self, alloc: Global) -> Result<Option<DirectoryString>, Error>
+        ensures { FirstGives (λ a r. Gives directory_plain r (directory_from a)) (first_value (x520 8) (all_of (name_plain self.now))) result }
+    {
+        self.by_oid(alloc, types::state_or_province())
+    }
+
+    /// The first locality (2.5.4.7), or none.
+    ///
+    /// # Errors
+    /// `TagUnexpected` where it is no DirectoryString, the first fault of its content, or
+    /// `OutOfMemory`.
+    pub fn locality(&self, alloc: Global) -> Result<Option<DirectoryString>, Error>
+        ensures { FirstGives (λ a r. Gives directory_plain r (directory_from a)) (first_value (x520 7) (all_of (name_plain self.now))) result }
+    {
+        self.by_oid(alloc, types::locality())
+    }
+
+    /// The first organization (2.5.4.10), or none.
+    ///
+    /// # Errors
+    /// `TagUnexpected` where it is no DirectoryString, the first fault of its content, or
+    /// `OutOfMemory`.
+    pub fn organization(&self, alloc: Global) -> Result<Option<DirectoryString>, Error>
+        ensures { FirstGives (λ a r. Gives directory_plain r (directory_from a)) (first_value (x520 10) (all_of (name_plain self.now))) result }
+    {
+        self.by_oid(alloc, types::organization())
+    }
+
+    /// The first organizational unit (2.5.4.11), or none.
+    ///
+    /// # Errors
+    /// `TagUnexpected` where it is no DirectoryString, the first fault of its content, or
+    /// `OutOfMemory`.
+    pub fn organization_unit(&self, alloc: Global) -> Result<Option<DirectoryString>, Error>
+        ensures { FirstGives (λ a r. Gives directory_plain r (directory_from a)) (first_value (x520 11) (all_of (name_plain self.now))) result }
+    {
+        self.by_oid(alloc, types::organization_unit())
+    }
+
+    /// The first mail address (1.2.840.113549.1.9.1), or none.
+    ///
+    /// # Errors
+    /// `TagUnexpected` where it is no IA5String, or the first fault of its content.
+    pub fn email_address(&self, alloc: Global) -> Result<Option<Ia5StringRef<'_>>, Error>
+        ensures { FirstGives (λ a r. GivesNow (λ t. t.text.now) r (leaf_as Ia5String (text ascii) a)) (first_value email_address (all_of (name_plain self.now))) result }
+    {
+        self.by_oid(alloc, types::email_address())
+    }
+}
+
+/// The relative names.
+impl AsRef<RdnSequence> for Name {
+    fn as_ref(&self) -> &RdnSequence
+        ensures { sequence_plain result.now ≡ name_plain self.now }
+    {
+        &self.rdn_sequence
+    }
+}
+
+/// The relative names of a name.
+impl From<Name> for RdnSequence {
+    ghost from_gives = { λ name sequence. sequence_plain sequence ≡ name_plain name };
+
+    fn from(name: Name) -> RdnSequence {
+        name.rdn_sequence
+    }
+}
+
+impl FixedTag for Name {
+    ghost fixed_tag = { Sequence };
+
+    fn tag() -> Tag {
+        Tag::Sequence
+    }
+}
+
+impl ShapedValue for Name {
+    ghost content = { nested (many (relative_name arc_bound)) };
+
+    ghost value_plain = { name_plain };
+
+    ghost value_written = { name_plain };
+}
+
+impl<'a, R: Reader<'a>> DecodeValue<'a, R> for Name {
+    fn decode_value(alloc: Global, reader: &mut R, header: Header) -> Result<Name, Error> {
+        let rdn_sequence = RdnSequence::decode_value(alloc, reader, header)?;
+        Ok(Name { rdn_sequence })
+    }
+}
+
+impl EncodeValue for Name {
+    fn value_len(&self) -> Result<Length, Error> {
+        self.rdn_sequence.value_len()
+    }
+
+    fn encode_value<W: Writer>(&self, writer: &mut W) -> Result<(), Error> {
+        self.rdn_sequence.encode_value(writer)
+    }
+}
+
+impl ApartValue for Name {
+    ghost apart_value = { refl };
+}
+
+impl AsReadValue for Name {
+    ghost as_read_value = { λ _. refl };
+}
+
+impl InRangeValue for Name {
+    fn value_in_range(&self) {
+        self.rdn_sequence.value_in_range();
+    }
+}
+
+/// The encodings of the relative names, one after the other.
+impl ValueOrd for Name {
+    fn value_cmp(&self, other: &Self) -> Result<Ordering, Error> {
+        self.rdn_sequence.value_cmp(&other.rdn_sequence)
+    }
+}

@@ -1,0 +1,109 @@
+//! The attributes of a name, lent one after another.
+
+use crate::attribute_type_and_value::AttributeTypeAndValue;
+use crate::relative_distinguished_name::RelativeDistinguishedName;
+
+/// The relative names of a name, the widest first.
+#[derive(Debug, Drop)]
+pub struct RdnSequenceIter<'a> {
+    pub(crate) left: &'a [RelativeDistinguishedName],
+}
+
+/// The attributes of a relative name, in ascending order of their encodings.
+#[derive(Debug, Drop)]
+pub struct RelativeNameIter<'a> {
+    pub(crate) left: &'a [AttributeTypeAndValue],
+}
+
+/// The attributes of a name, those of the widest relative name first.
+#[derive(Debug, Drop)]
+pub struct NameIter<'a> {
+    pub(crate) attributes: &'a [AttributeTypeAndValue],
+    pub(crate) left: &'a [RelativeDistinguishedName],
+}
+
+impl<'a> Iterator for RdnSequenceIter<'a> {
+    ghost use Rattle.std.specs.Iterator.{YieldsFirstRef, item_count};
+
+    type Item = &'a RelativeDistinguishedName;
+
+    ghost next_gives = { YieldsFirstRef (λ it. it.left.now) };
+
+    ghost remaining = { item_count (λ it. it.left.now) };
+
+    fn next(&mut self) -> Option<&'a RelativeDistinguishedName> {
+        let [first, left @ ..] = self.left else {
+            return None;
+        };
+        self.left = left;
+        Some(first)
+    }
+
+    fn size_hint(&self) -> (usize, Option<usize>) {
+        let len = self.len();
+        (len, Some(len))
+    }
+}
+
+impl<'a> ExactSizeIterator for RdnSequenceIter<'a> {
+    /// The number of relative names that are yet to come.
+    fn len(&self) -> usize {
+        self.left.len()
+    }
+}
+
+impl<'a> Iterator for RelativeNameIter<'a> {
+    ghost use Rattle.std.specs.Iterator.{YieldsFirstRef, item_count};
+
+    type Item = &'a AttributeTypeAndValue;
+
+    ghost next_gives = { YieldsFirstRef (λ it. it.left.now) };
+
+    ghost remaining = { item_count (λ it. it.left.now) };
+
+    fn next(&mut self) -> Option<&'a AttributeTypeAndValue> {
+        let [first, left @ ..] = self.left else {
+            return None;
+        };
+        self.left = left;
+        Some(first)
+    }
+
+    fn size_hint(&self) -> (usize, Option<usize>) {
+        let len = self.len();
+        (len, Some(len))
+    }
+}
+
+impl<'a> ExactSizeIterator for RelativeNameIter<'a> {
+    /// The number of attributes that are yet to come.
+    fn len(&self) -> usize {
+        self.left.len()
+    }
+}
+
+impl<'a> Iterator for NameIter<'a> {
+    ghost use Rattle.std.specs.Iterator.{YieldsFirstRef, item_count};
+    ghost use Rattle.x509_cert_names.specs.Views.{attributes_left};
+
+    type Item = &'a AttributeTypeAndValue;
+
+    ghost next_gives = { YieldsFirstRef attributes_left };
+
+    ghost remaining = { item_count attributes_left };
+
+    fn next(&mut self) -> Option<&'a AttributeTypeAndValue> {
+        while self.attributes.is_empty() {
+            let [relative, left @ ..] = self.left else {
+                return None;
+            };
+            self.attributes = relative.as_slice();
+            self.left = left;
+        }
+        let [first, attributes @ ..] = self.attributes else {
+            return None;
+        };
+        self.attributes = attributes;
+        Some(first)
+    }
+}

@@ -1,0 +1,207 @@
+//! RelativeDistinguishedName.
+
+ghost use Rattle.std.specs.Prelude.{◌≡◌, ◌∷◌, ◌==◌, [], length, IfOk, IfErr, OnOk, OnErr, IsTrue, ◌↔◌, ◌⊎◌, ◌≢◌, refl};
+ghost use Rattle.std.specs.List.{IsDistinct};
+ghost use Rattle.std.specs.List.Sorted.{IsPermutation};
+ghost use Rattle.der_core_head.specs.declared.tag.Tag.TheVariants.{Set};
+ghost use Rattle.der_core_head.specs.Shapes.{nested, rising};
+ghost use Rattle.der_types_sets.specs.Sets.{Ascends, IsRefusal, TooLong};
+ghost use Rattle.x509_cert_names.specs.Names.{type_and_value};
+ghost use Rattle.x509_cert_names.specs.Pairs.{arc_bound, pair_plain, same_pair, relative_plain};
+
+use crate::attribute_type_and_value::AttributeTypeAndValue;
+use crate::members::{arrange, decode_members, place_of};
+use crate::name_iter::RelativeNameIter;
+use der_core::{
+    ApartValue, AsReadValue, DecodeValue, EncodeValue, Error, ErrorKind, FixedTag, Header,
+    InRangeValue, Length, Reader, ShapedValue, StrictSetOf, Tag, ValueOrd, Writer,
+};
+use std::alloc::{AllocError, Global};
+use std::cmp::Ordering;
+use std::marker::Model;
+
+/// A relative name (RFC 5280 4.1.2.4): a set of attributes, in the order of their encodings, none of
+/// which stands twice. It may be empty.
+///
+/// Contracts see the list of the attributes.
+///
+/// ```text
+/// RelativeDistinguishedName ::= SET OF AttributeTypeAndValue
+/// ```
+#[derive(Debug, Drop)]
+pub struct RelativeDistinguishedName {
+    attributes: StrictSetOf<AttributeTypeAndValue>,
+}
+
+impl Model for RelativeDistinguishedName {
+    ghost use Rattle.std.specs.Prelude.{List};
+    ghost use Rattle.x509_cert_names.specs.declared.attribute_type_and_value.AttributeTypeAndValue.{AttributeTypeAndValue};
+    ghost use Rattle.std.specs.List.{IsDistinct};
+    ghost use Rattle.der_types_sets.specs.Sets.{Ascends};
+    ghost use Rattle.x509_cert_names.specs.Names.{type_and_value};
+    ghost use Rattle.x509_cert_names.specs.Pairs.{arc_bound, pair_plain, same_pair};
+
+    ghost Value = { List AttributeTypeAndValue };
+
+    ghost view = { λ r. r.attributes.values.items };
+
+    ghost invariant = { λ r. IsDistinct same_pair r.attributes.values.items × Ascends (type_and_value arc_bound) pair_plain r.attributes.values.items };
+}
+
+/// Whether no attribute stands twice.
+fn are_distinct(attributes: &[AttributeTypeAndValue]) -> bool
+    ensures { IsTrue result ↔ IsDistinct same_pair attributes.now }
+{
+    for end in 0..attributes.len() {
+        if attributes[..end].contains(&attributes[end]) {
+            return false;
+        }
+    }
+    true
+}
+
+impl RelativeDistinguishedName {
+    /// The relative name without attributes.
+    pub fn default(alloc: Global) -> RelativeDistinguishedName
+        ensures { result ≡ [] }
+    {
+        RelativeDistinguishedName {
+            attributes: StrictSetOf {
+                values: Vec::new(alloc),
+            },
+        }
+    }
+
+    /// The relative name of these attributes, in any order.
+    ///
+    /// # Errors
+    /// `SetDuplicate` where one stands twice, `Overflow` where an encoding has 2^32 octets or more. No
+    /// memory is taken.
+    pub fn try_from_vec(
+        attributes: Vec<AttributeTypeAndValue>,
+    ) -> Result<RelativeDistinguishedName, Error>
+        ensures ok { IfOk result (IsPermutation attributes.items) }
+    {
+        let values = arrange(attributes)?;
+        if !are_distinct(values.as_slice()) {
+            return Err(Error::from(ErrorKind::SetDuplicate));
+        }
+        Ok(RelativeDistinguishedName {
+            attributes: StrictSetOf { values },
+        })
+    }
+
+    /// Places an attribute in order.
+    ///
+    /// # Errors
+    /// `SetDuplicate` where it stands already, `Overflow` where an encoding has 2^32 octets or more, or
+    /// `OutOfMemory`. The relative name stays then.
+    pub fn insert(&mut self, item: AttributeTypeAndValue) -> Result<(), Error>
+        ensures ok { OnOk result (IsPermutation (item ∷ self.old) self.new) }
+        ensures err { OnErr result (self.new ≡ self.old) }
+    {
+        if self.as_slice().contains(&item) {
+            return Err(Error::from(ErrorKind::SetDuplicate));
+        }
+        let place = place_of(self.as_slice(), &item)?;
+        self.attributes.values.insert(place, item)?;
+        Ok(())
+    }
+
+    /// Whether there is no attribute.
+    pub fn is_empty(&self) -> bool
+        ensures { result ≡ (length self.now == 0) }
+    {
+        self.attributes.values.is_empty()
+    }
+
+    /// The number of attributes.
+    pub fn len(&self) -> usize
+        ensures { result ≡ length self.now }
+    {
+        self.attributes.values.len()
+    }
+
+    /// The attributes, in ascending order of their encodings.
+    pub fn iter(&self) -> RelativeNameIter<'_>
+        ensures { result.left.now ≡ self.now }
+    {
+        RelativeNameIter {
+            left: self.as_slice(),
+        }
+    }
+
+    /// The attributes, in ascending order of their encodings.
+    pub fn as_slice(&self) -> &[AttributeTypeAndValue]
+        ensures attributes { result.now ≡ self.now }
+        ensures ascend { Ascends (type_and_value arc_bound) pair_plain result.now }
+        ensures distinct { IsDistinct same_pair result.now }
+    {
+        self.attributes.values.as_slice()
+    }
+}
+
+impl FixedTag for RelativeDistinguishedName {
+    ghost fixed_tag = { Set };
+
+    fn tag() -> Tag {
+        Tag::Set
+    }
+}
+
+impl ShapedValue for RelativeDistinguishedName {
+    ghost content = { nested (rising (type_and_value arc_bound)) };
+
+    ghost value_plain = { relative_plain };
+
+    ghost value_written = { relative_plain };
+}
+
+impl<'a, R: Reader<'a>> DecodeValue<'a, R> for RelativeDistinguishedName {
+    fn decode_value(
+        alloc: Global,
+        reader: &mut R,
+        header: Header,
+    ) -> Result<RelativeDistinguishedName, Error> {
+        let rules = reader.encoding_rules();
+        let values = decode_members(alloc, reader, header)?;
+        if !rules.is_der() && !are_distinct(values.as_slice()) {
+            reader.fail();
+            return Err(Error::from(ErrorKind::SetDuplicate));
+        }
+        Ok(RelativeDistinguishedName {
+            attributes: StrictSetOf { values },
+        })
+    }
+}
+
+impl EncodeValue for RelativeDistinguishedName {
+    fn value_len(&self) -> Result<Length, Error> {
+        self.attributes.value_len()
+    }
+
+    fn encode_value<W: Writer>(&self, writer: &mut W) -> Result<(), Error> {
+        self.attributes.encode_value(writer)
+    }
+}
+
+impl ApartValue for RelativeDistinguishedName {
+    ghost apart_value = { refl };
+}
+
+impl AsReadValue for RelativeDistinguishedName {
+    ghost as_read_value = { λ _. refl };
+}
+
+impl InRangeValue for RelativeDistinguishedName {
+    fn value_in_range(&self) {
+        self.attributes.value_in_range();
+    }
+}
+
+/// The encodings of the attributes, one after the other.
+impl ValueOrd for RelativeDistinguishedName {
+    fn value_cmp(&self, other: &Self) -> Result<Ordering, Error> {
+        self.attributes.value_cmp(&other.attributes)
+    }
+}
