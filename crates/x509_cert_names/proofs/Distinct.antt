@@ -1,11 +1,9 @@
 -- Attributes whose encodings rise are distinct, and stay so with one more.
-use Rattle.std.proofs.Common.{◌≡◌, ℕ, ◌+◌, ◌<◌, length, take, drop, get_or, List, [], ◌∷◌, ◌++◌, Bool, true, false, refl, sym, ap, subst, ◌∙◌}
+use Rattle.std.proofs.Common.{◌≡◌, ℕ, ◌+◌, ◌<◌, length, take, drop, get_or, List, [], ◌∷◌, ◌++◌, Bool, true, false, refl, sym, subst, ◌∙◌}
 use Rattle.std.specs.Prelude.{nat_eq, ◌&&◌, ◌||◌}
-use Rattle.std.specs.Bool.{⊤}
 use Rattle.std.specs.Cmp.{first_so, second_so, nat_eq_equiv}
 use Rattle.std.specs.Cmp.Lexicographic.{pointwise, bytes_decides, nat_list_cmp_total}
 use Rattle.std.specs.List.{AllByRecursion, IsDistinct, list_any, insert}
-use Rattle.std.specs.List.Sorted.{IsPermutation}
 use Rattle.std.specs.declared.cmp.Ordering.TheVariants.{Less, Equal}
 use Rattle.std.proofs.lemmas.List.Sorted.{IsPermutation-insert}
 use Rattle.std.proofs.lemmas.Map.Keys.{IsDistinct-cons, IsDistinct-head, IsDistinct-tail, IsDistinct-push, IsDistinct-IsPermutation}
@@ -16,8 +14,8 @@ use Rattle.der_core.specs.Orders.{octets_cmp}
 use Rattle.der_core.proofs.OrderLaws.{octets_cmp-self}
 use Rattle.der_core_head.specs.Grammar.{plain_list}
 use Rattle.der_core_head.specs.Heads.{tlv}
-use Rattle.der_core_head.specs.Shapes.{AnyValue, AllRising, octets_of, contents, body_octets}
-use Rattle.der_core_head.specs.Tags.{same_tag, leading_octet, number_of}
+use Rattle.der_core_head.specs.Shapes.{AllRising, octets_of, contents, body_octets}
+use Rattle.der_core_head.specs.Tags.{leading_octet, number_of}
 use Rattle.der_core_head.specs.declared.tag.Tag.{Tag}
 use Rattle.der_core_head.specs.declared.tag.Tag.TheVariants as tags
 use Rattle.der_core_head.proofs.TagLaws.{same_tag-eq}

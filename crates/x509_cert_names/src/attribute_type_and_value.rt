@@ -4,7 +4,7 @@ ghost use Rattle.std.specs.Prelude.{◌≡◌, refl, IfOk};
 ghost use Rattle.der_core_head.specs.declared.tag.Tag.TheVariants.{Sequence};
 ghost use Rattle.der_core_head.specs.Shapes.{nested};
 ghost use Rattle.x509_cert_names.specs.Names.{type_and_value_fields};
-ghost use Rattle.x509_cert_names.specs.Pairs.{arc_bound, pair_plain, same_pair, same_pair_per, same_pair_equiv};
+ghost use Rattle.x509_cert_names.specs.Pairs.{arc_bound, pair_plain, same_pair, same_pair_per, same_pair_equiv, pair_fed, pair_fed_alike};
 
 use const_oid_identifiers::ObjectIdentifier;
 use der_core::making::read_fields;
@@ -16,6 +16,7 @@ use der_core::{
 use der_types_any::Any;
 use std::alloc::{AllocError, Global};
 use std::cmp::Ordering;
+use std::hash::{Hash, Hasher};
 
 /// What an attribute is of (RFC 5280 appendix A.1).
 ///
@@ -36,7 +37,7 @@ pub type AttributeValue = Any;
 /// ```text
 /// AttributeTypeAndValue ::= SEQUENCE { type AttributeType, value AttributeValue }
 /// ```
-#[derive(Debug, Drop, PartialOrd, Ord, Hash)]
+#[derive(Debug, Drop, PartialOrd, Ord)]
 pub struct AttributeTypeAndValue {
     pub oid: AttributeType,
     pub value: AttributeValue,
@@ -123,6 +124,18 @@ impl PartialEq for AttributeTypeAndValue {
 
 impl Eq for AttributeTypeAndValue {
     ghost laws = { same_pair_equiv };
+}
+
+/// The octets of the type, and the value.
+impl Hash for AttributeTypeAndValue {
+    ghost hash_input = { pair_fed };
+
+    ghost respects_eq = { pair_fed_alike };
+
+    fn hash<H: Hasher>(&self, state: &mut H) {
+        self.oid.hash(state);
+        self.value.hash(state);
+    }
 }
 
 /// The order of the types' encodings, then of the values'.

@@ -9,7 +9,7 @@ ghost use Rattle.der_types_sets.specs.Sets.{Ascends, IsPlace, TooLong};
 
 use der_core::{AsRead, Decode, DerOrd, Error, Header, Member, Reader};
 use der_types_sets::SetOfVec;
-use std::alloc::Global;
+use std::alloc::{AllocError, Global};
 use std::cmp::Ordering;
 
 /// The members of a content in which each encoding is above the one before (X.690 11.6), in ascending
@@ -66,4 +66,17 @@ pub(crate) fn place_of<T: DerOrd + Member>(members: &[T], item: &T) -> Result<us
         }
     }
     Ok(low)
+}
+
+/// A copy of a list, of a type whose copies are the same.
+///
+/// # Errors
+/// Want of memory.
+#[tactic(auto, using(der_types_sets::proofs::SetSteps::same_copies))]
+pub(crate) fn copy_of<T: Clone + Drop>(members: &Vec<T>) -> Result<Vec<T>, AllocError>
+    requires { (x y : T) → T.is_clone x y → y ≡ x }
+    ensures { IfOk result (λ v. v.items ≡ members.now.items) }
+{
+    let members = members.clone()?;
+    Ok(members)
 }

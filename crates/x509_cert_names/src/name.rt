@@ -26,7 +26,7 @@ use der_core::{
     Length, Reader, ShapedValue, Tag, ValueOrd, Writer,
 };
 use der_types_text::{Ia5StringRef, PrintableStringRef};
-use std::alloc::Global;
+use std::alloc::{AllocError, Global};
 use std::cmp::Ordering;
 
 /// A name (RFC 5280 4.1.2.4).
@@ -34,12 +34,24 @@ use std::cmp::Ordering;
 /// ```text
 /// Name ::= CHOICE { rdnSequence RDNSequence }
 /// ```
-#[derive(Debug, Drop)]
+#[derive(Debug, Drop, PartialEq, Eq, Hash)]
 pub struct Name {
     rdn_sequence: RdnSequence,
 }
 
 impl Name {
+    /// A copy.
+    ///
+    /// # Errors
+    /// Want of memory.
+    pub fn clone(&self, alloc: Global) -> Result<Name, AllocError>
+        ensures { IfOk result (λ name. name_plain name ≡ name_plain self.now) }
+    {
+        Ok(Name {
+            rdn_sequence: self.rdn_sequence.clone(alloc)?,
+        })
+    }
+
     /// The empty name.
     pub fn default(alloc: Global) -> Name
         ensures { name_plain result ≡ [] }
@@ -260,5 +272,16 @@ impl InRangeValue for Name {
 impl ValueOrd for Name {
     fn value_cmp(&self, other: &Self) -> Result<Ordering, Error> {
         self.rdn_sequence.value_cmp(&other.rdn_sequence)
+    }
+}
+
+/// A copy, in memory of the same allocator.
+impl Clone for Name {
+    ghost is_clone = { λ x y. name_plain y ≡ name_plain x };
+
+    fn clone(&self) -> Result<Name, AllocError> {
+        Ok(Name {
+            rdn_sequence: <RdnSequence as Clone>::clone(&self.rdn_sequence)?,
+        })
     }
 }

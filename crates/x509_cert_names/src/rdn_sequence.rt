@@ -7,6 +7,7 @@ ghost use Rattle.x509_cert_names.specs.Names.{relative_name};
 ghost use Rattle.x509_cert_names.specs.Pairs.{arc_bound};
 ghost use Rattle.x509_cert_names.specs.Views.{sequence_plain};
 
+use crate::members::copy_of;
 use crate::name_iter::RdnSequenceIter;
 use crate::relative_distinguished_name::RelativeDistinguishedName;
 use der_core::{
@@ -21,7 +22,7 @@ use std::cmp::Ordering;
 /// ```text
 /// RDNSequence ::= SEQUENCE OF RelativeDistinguishedName
 /// ```
-#[derive(Debug, Drop)]
+#[derive(Debug, Drop, PartialEq, Eq, Hash)]
 pub struct RdnSequence {
     relative_names: Vec<RelativeDistinguishedName>,
 }
@@ -34,6 +35,17 @@ pub struct RdnSequence {
 pub type DistinguishedName = RdnSequence;
 
 impl RdnSequence {
+    /// A copy.
+    ///
+    /// # Errors
+    /// Want of memory.
+    pub fn clone(&self, _alloc: Global) -> Result<RdnSequence, AllocError>
+        ensures { IfOk result (λ s. sequence_plain s ≡ sequence_plain self.now) }
+    {
+        let relative_names = copy_of(&self.relative_names)?;
+        Ok(RdnSequence { relative_names })
+    }
+
     /// The sequence without relative names.
     pub fn default(alloc: Global) -> RdnSequence
         ensures { result.relative_names.items ≡ [] }
@@ -130,5 +142,33 @@ impl InRangeValue for RdnSequence {
 impl ValueOrd for RdnSequence {
     fn value_cmp(&self, other: &Self) -> Result<Ordering, Error> {
         self.relative_names.value_cmp(&other.relative_names)
+    }
+}
+
+/// A copy, in memory of the same allocator.
+impl Clone for RdnSequence {
+    ghost is_clone = { λ x y. y.relative_names.items ≡ x.relative_names.items };
+
+    fn clone(&self) -> Result<RdnSequence, AllocError> {
+        let relative_names = copy_of(&self.relative_names)?;
+        Ok(RdnSequence { relative_names })
+    }
+}
+
+/// These relative names, the widest first.
+impl From<Vec<RelativeDistinguishedName>> for RdnSequence {
+    ghost from_gives = { λ names sequence. sequence.relative_names ≡ names };
+
+    fn from(relative_names: Vec<RelativeDistinguishedName>) -> RdnSequence {
+        RdnSequence { relative_names }
+    }
+}
+
+/// The relative names, the widest first.
+impl From<RdnSequence> for Vec<RelativeDistinguishedName> {
+    ghost from_gives = { λ sequence names. names ≡ sequence.relative_names };
+
+    fn from(sequence: RdnSequence) -> Vec<RelativeDistinguishedName> {
+        sequence.relative_names
     }
 }

@@ -1,16 +1,19 @@
 //! RelativeDistinguishedName.
 
-ghost use Rattle.std.specs.Prelude.{◌≡◌, ◌∷◌, ◌==◌, [], length, IfOk, IfErr, OnOk, OnErr, IsTrue, ◌↔◌, ◌⊎◌, ◌≢◌, refl};
-ghost use Rattle.std.specs.List.{IsDistinct};
+ghost use Rattle.std.specs.Prelude.{◌≡◌, ◌∷◌, ◌==◌, true, [], length, IfOk, IfErr, OnOk, OnErr, IsTrue, ◌↔◌, ◌⊎◌, ◌≢◌, refl};
+ghost use Rattle.std.specs.Cmp.Lexicographic.{pointwise, lists_per, lists_equiv};
+ghost use Rattle.std.specs.Hash as fed;
+ghost use Rattle.std.specs.Hash.{items_Alike};
+ghost use Rattle.std.specs.List.{IsDistinct, list_any};
 ghost use Rattle.std.specs.List.Sorted.{IsPermutation};
 ghost use Rattle.der_core_head.specs.declared.tag.Tag.TheVariants.{Set};
 ghost use Rattle.der_core_head.specs.Shapes.{nested, rising};
 ghost use Rattle.der_types_sets.specs.Sets.{Ascends, IsRefusal, TooLong};
 ghost use Rattle.x509_cert_names.specs.Names.{type_and_value};
-ghost use Rattle.x509_cert_names.specs.Pairs.{arc_bound, pair_plain, same_pair, relative_plain};
+ghost use Rattle.x509_cert_names.specs.Pairs.{arc_bound, pair_plain, same_pair, same_pair_per, same_pair_equiv, pair_fed, pair_fed_alike, relative_plain};
 
 use crate::attribute_type_and_value::AttributeTypeAndValue;
-use crate::members::{arrange, decode_members, place_of};
+use crate::members::{arrange, copy_of, decode_members, place_of};
 use crate::name_iter::RelativeNameIter;
 use der_core::{
     ApartValue, AsReadValue, DecodeValue, EncodeValue, Error, ErrorKind, FixedTag, Header,
@@ -18,6 +21,7 @@ use der_core::{
 };
 use std::alloc::{AllocError, Global};
 use std::cmp::Ordering;
+use std::hash::{Hash, Hasher};
 use std::marker::Model;
 
 /// A relative name (RFC 5280 4.1.2.4): a set of attributes, in the order of their encodings, none of
@@ -61,6 +65,19 @@ fn are_distinct(attributes: &[AttributeTypeAndValue]) -> bool
 }
 
 impl RelativeDistinguishedName {
+    /// A copy.
+    ///
+    /// # Errors
+    /// Want of memory.
+    pub fn clone(&self, _alloc: Global) -> Result<RelativeDistinguishedName, AllocError>
+        ensures { IfOk result (λ r. r ≡ self.now) }
+    {
+        let values = copy_of(&self.attributes.values)?;
+        Ok(RelativeDistinguishedName {
+            attributes: StrictSetOf { values },
+        })
+    }
+
     /// The relative name without attributes.
     pub fn default(alloc: Global) -> RelativeDistinguishedName
         ensures { result ≡ [] }
@@ -81,6 +98,7 @@ impl RelativeDistinguishedName {
         attributes: Vec<AttributeTypeAndValue>,
     ) -> Result<RelativeDistinguishedName, Error>
         ensures ok { IfOk result (IsPermutation attributes.items) }
+        ensures refused { IfErr result (λ e. (e.kind ≡ ErrorKind.SetDuplicate × (IsDistinct same_pair attributes.items → ⊥)) ⊎ TooLong (type_and_value arc_bound) pair_plain attributes.items e) }
     {
         let values = arrange(attributes)?;
         if !are_distinct(values.as_slice()) {
@@ -99,6 +117,7 @@ impl RelativeDistinguishedName {
     pub fn insert(&mut self, item: AttributeTypeAndValue) -> Result<(), Error>
         ensures ok { OnOk result (IsPermutation (item ∷ self.old) self.new) }
         ensures err { OnErr result (self.new ≡ self.old) }
+        ensures refused { IfErr result (λ e. (e.kind ≡ ErrorKind.SetDuplicate × list_any (λ a. same_pair a item) self.old ≡ true) ⊎ IsRefusal (type_and_value arc_bound) pair_plain (item ∷ self.old) e) }
     {
         if self.as_slice().contains(&item) {
             return Err(Error::from(ErrorKind::SetDuplicate));
@@ -203,5 +222,52 @@ impl InRangeValue for RelativeDistinguishedName {
 impl ValueOrd for RelativeDistinguishedName {
     fn value_cmp(&self, other: &Self) -> Result<Ordering, Error> {
         self.attributes.value_cmp(&other.attributes)
+    }
+}
+
+/// A copy, in memory of the same allocator.
+impl Clone for RelativeDistinguishedName {
+    ghost is_clone = { λ x y. y ≡ x };
+
+    fn clone(&self) -> Result<RelativeDistinguishedName, AllocError> {
+        let values = copy_of(&self.attributes.values)?;
+        Ok(RelativeDistinguishedName {
+            attributes: StrictSetOf { values },
+        })
+    }
+}
+
+/// Whether the attributes are equal, one by one.
+impl PartialEq for RelativeDistinguishedName {
+    ghost eq = { pointwise same_pair };
+
+    ghost laws = { lists_per same_pair_per };
+
+    fn eq(&self, other: &Self) -> bool {
+        self.attributes.values == other.attributes.values
+    }
+}
+
+impl Eq for RelativeDistinguishedName {
+    ghost laws = { lists_equiv same_pair_equiv };
+}
+
+/// How many attributes there are, and each of them.
+impl Hash for RelativeDistinguishedName {
+    ghost hash_input = { fed.slice pair_fed };
+
+    ghost respects_eq = { (items_Alike (record { fed = pair_fed_alike })).fed };
+
+    fn hash<H: Hasher>(&self, state: &mut H) {
+        self.attributes.values.hash(state);
+    }
+}
+
+/// The attributes, in ascending order of their encodings.
+impl From<RelativeDistinguishedName> for Vec<AttributeTypeAndValue> {
+    ghost from_gives = { λ name attributes. attributes.items ≡ name };
+
+    fn from(name: RelativeDistinguishedName) -> Vec<AttributeTypeAndValue> {
+        name.attributes.values
     }
 }

@@ -1,4 +1,4 @@
-use Rattle.std.proofs.Common.{◌≡◌, ◌<◌, length, sym, ◌∙◌, arith}
+use Rattle.std.proofs.Common.{◌<◌, length, sym, ◌∙◌, arith}
 use Rattle.x509_cert_names.proofs.Distinct.{none_distinct, twice, one_more}
 use Rattle.x509_cert_names.proofs.relative_distinguished_name.are_distinct.Goals as goal
 

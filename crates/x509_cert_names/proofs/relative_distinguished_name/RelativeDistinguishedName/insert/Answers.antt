@@ -1,4 +1,4 @@
-use Rattle.std.proofs.Common.{◌≡◌, List, false, sym, subst, ◌∙◌}
+use Rattle.std.proofs.Common.{◌≡◌, List, true, false, inl, sym, subst, ◌∙◌}
 use Rattle.std.specs.List.{list_any}
 use Rattle.std.proofs.lemmas.List.Sorted.{IsPermutation-insert}
 use Rattle.der_types_sets.specs.Sets.{IsPlace}
@@ -22,3 +22,8 @@ invariant_of-self-2 c =
 pub returns-clause-ok : goal.returns-clause-ok
 returns-clause-ok c =
     rw (c.in_ok-insert.ensures.items, ← c.self.view_is) (IsPermutation-insert c.self.inside.attributes.values.items c.in_ok-place.place c.args.item)
+
+pub returns-then-contains-clause-refused : goal.returns-then-contains-clause-refused
+returns-then-contains-clause-refused c =
+    let N : List AttributeTypeAndValue → Type 0 = λ xs. list_any (λ y. same_pair y c.args.item) xs ≡ true in
+    inl (search, subst N c.as_slice.ensures.attributes (sym c.contains.ensures.value ∙ c.if-contains.true))
