@@ -1,6 +1,9 @@
 //! Each type as the member of a set.
 
-use der_core::{AsRead, Decode, DerOrd, Encode, Error, Member, SliceReader, to_der};
+use der_core::{
+    AsRead, Decode, DerOrd, Encode, Error, ErrorKind, InRange, Member, SliceReader, StrictSetOf,
+    to_der,
+};
 use der_types::{
     Any, AnyRef, BitString, BitStringRef, BmpString, DateTime, GeneralStringRef, GeneralizedTime,
     Ia5String, Ia5StringRef, Int, IntRef, Null, OctetString, OctetStringRef, PrintableString,
@@ -10,10 +13,11 @@ use der_types::{
 use std::alloc::Global;
 use std::test::Fail;
 
-/// Whether the members that octets spell go into a set, one by one, that is written as these octets.
+/// Whether the members that octets spell go into a set, one by one, that is written as these octets, and
+/// as a strict set too.
 fn goes_into_a_set<'a, T>(alloc: Global, octets: &'a [u8]) -> Result<bool, Error>
 where
-    T: Decode<'a, SliceReader<'a>> + AsRead + DerOrd + Encode + Member + Drop,
+    T: Decode<'a, SliceReader<'a>> + AsRead + DerOrd + Encode + Member + InRange + Drop,
 {
     let read = SetOfVec::<T>::from_der(alloc, octets)?;
     let mut set = SetOfVec::new(alloc);
@@ -21,7 +25,11 @@ where
         set.insert(member)?;
     }
     let written = to_der(alloc, &set)?;
-    Ok(written.as_slice() == octets)
+    let strict = StrictSetOf {
+        values: set.into_vec(),
+    };
+    let strictly = to_der(alloc, &strict)?;
+    Ok(written.as_slice() == octets && strictly.as_slice() == octets)
 }
 
 /// 127 and 128.
@@ -87,5 +95,27 @@ fn any_values(rt: HostRuntime) -> Result<(), Fail> {
     let octets = b"\x31\x06\x01\x01\xff\x80\x01\x07";
     assert!(rt; goes_into_a_set::<Any>(alloc, octets)?);
     assert!(rt; goes_into_a_set::<AnyRef<'_>>(alloc, octets)?);
+    Ok(())
+}
+
+/// `01` and `02`, the other way round and twice.
+#[test]
+fn strings_that_do_not_rise(rt: HostRuntime) -> Result<(), Fail> {
+    let alloc = rt.alloc();
+    for (first, second, fault) in [
+        (2, 1, ErrorKind::SetOrdering),
+        (1, 1, ErrorKind::SetDuplicate),
+    ] {
+        let set = StrictSetOf {
+            values: vec![in alloc;
+                OctetString::new(Vec::from_array(alloc, [first])?)?,
+                OctetString::new(Vec::from_array(alloc, [second])?)?,
+            ]?,
+        };
+        assert_eq!(rt;
+            to_der(alloc, &set).err().map(|error| error.kind()),
+            Some(fault)
+        );
+    }
     Ok(())
 }
