@@ -47,7 +47,7 @@ valid-permutation s xs ys same all = recursion_from_All (IsValid s) ys (All-perm
 pair_is : {P : Type 0} (x : P × List ℕ) (p : P) → x.0 ≡ p → x.1 ≡ [] → x ≡ (p, [])
 pair_is (q, w) p e f = cc
 
-content_at : {P : Type 0} (F : Readings P) (n : ℕ) (w : List ℕ) (v : P) (r : List ℕ) → value_at F n w ≡ Ok (v, r) → F (take n w) ≡ Ok (v, [])
+pub content_at : {P : Type 0} (F : Readings P) (n : ℕ) (w : List ℕ) (v : P) (r : List ℕ) → value_at F n w ≡ Ok (v, r) → F (take n w) ≡ Ok (v, [])
 unfolding value_at
 content_at {P} F n w v r e =
     let h = unless_ok (ltb (length w) n) kinds.Incomplete (F (take n w) >>= whole >>= λ x. Ok (x.0, drop n w)) (v, r) e in
@@ -57,7 +57,7 @@ content_at {P} F n w v r e =
     let same : x.0.0 ≡ v = ap (λ (q : P × List ℕ). q.0) o.0 ∙ ap (λ (q : P × List ℕ). q.0) (ok_is (y.0.0, drop n w) (v, r) y.2) in
     x.1 ∙ ap (λ (q : P × List ℕ). Ok q) (pair_is x.0 v same o.1)
 
-value_is : {P : Type 0} (F : Readings P) (n : ℕ) (w : List ℕ) (v : P) → n ≤ length w → F (take n w) ≡ Ok (v, []) → value_at F n w ≡ Ok (v, drop n w)
+pub value_is : {P : Type 0} (F : Readings P) (n : ℕ) (w : List ℕ) (v : P) → n ≤ length w → F (take n w) ≡ Ok (v, []) → value_at F n w ≡ Ok (v, drop n w)
 unfolding value_at
 value_is F n w v le e = rw (le-ltb (length w) n le, e) refl
 
@@ -92,13 +92,13 @@ loose_read s f t room n w read set r element apart bytes fits e same asc =
     }
 
 -- all of what is spelled so is read, as it stands
-spelled_at : (s : Shape) (t : Tag) (room : ℕ) (v : List (Value s)) → is_element s ≡ true → is_apart s ≡ true → are_content_enough (nested (many s)) room ≡ true → AllValid s (λ x. x) v
+pub spelled_at : (s : Shape) (t : Tag) (room : ℕ) (v : List (Value s)) → is_element s ≡ true → is_apart s ≡ true → are_content_enough (nested (many s)) room ≡ true → AllValid s (λ x. x) v
     → read_content (nested (many s)) t room (flat_map (octets_of s) v) ≡ Ok (v, [])
 spelled_at s t room v element apart enough valid =
     ap (read_content (nested (many s)) t room) (sym (content_octets s v)) ∙ complete_content (nested (many s)) t room v (apart_many s element apart) enough (content_valid s v valid)
 
 -- and has one ascending arrangement
-one_set : (s : Shape) (t : Tag) (room : ℕ) (v w : List (Value s)) → is_element s ≡ true → is_apart s ≡ true → are_content_enough (nested (many s)) room ≡ true
+pub one_set : (s : Shape) (t : Tag) (room : ℕ) (v w : List (Value s)) → is_element s ≡ true → is_apart s ≡ true → are_content_enough (nested (many s)) room ≡ true
     → AllValid s (λ x. x) v → Ascends s (λ x. x) v → Ascends s (λ x. x) w → IsPermutation v w → v ≡ w
 one_set s t room v w element apart enough valid asc other same =
     let valid' = valid-permutation s v w same valid in
@@ -133,7 +133,7 @@ pub whole_loose : {A : Type 0} (s : Shape) (f : A → Value s) (b : List ℕ) (r
     → SpellsLoosely s (plain_list f set) b
 whole_loose s f b read set spells same asc = record { spelled = plain_list f read; spells = spells; same = permutation-plain f read set same; ascend = ascends-plain s f set asc }
 
-members_valid : (s : Shape) (v : List (Value s)) → IsValid (tagged tags.Set (nested (many s))) v → AllValid s (λ x. x) v
+pub members_valid : (s : Shape) (v : List (Value s)) → IsValid (tagged tags.Set (nested (many s))) v → AllValid s (λ x. x) v
 unfolding IsValid
 members_valid s v h = valid_content s v h.0
 

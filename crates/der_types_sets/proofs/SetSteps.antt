@@ -12,11 +12,12 @@ use Rattle.std.proofs.lemmas.List.Edits.{length-insert}
 use Rattle.std.proofs.lemmas.List.Elements.{All-take, All-from_recursion, recursion_from_All}
 use Rattle.std.proofs.lemmas.List.Sorted.{All-permutation, IsPermutation-trans, IsPermutation-to_front, IsPermutation-insert, IsPermutation-append_left, IsPermutation-middle, IsPermutation-cons}
 use Rattle.der_core_head.specs.declared.error.Error.{Error}
+use Rattle.der_core_head.specs.declared.error.ErrorKind.{ErrorKind}
 use Rattle.der_core_head.specs.declared.error.ErrorKind.TheVariants as kinds
 use Rattle.der_core_head.specs.declared.tag.Tag.{Tag}
 use Rattle.der_core_head.specs.Octets.{Readings, ◌>>=◌}
 use Rattle.der_core_head.specs.Heads.{Fits}
-use Rattle.der_core_head.specs.Shapes.{Shape, Body, nested, many, rising, Value, BodyValue, IsValid, octets_of, AllRising}
+use Rattle.der_core_head.specs.Shapes.{Shape, Body, nested, many, few, rising, Value, BodyValue, IsValid, octets_of, AllRising}
 use Rattle.der_core_head.specs.Spelling.{is_apart}
 use Rattle.der_core_head.specs.Grammar.{whole, value_at, read, read_content, read_body, read_many, read_rising, ordered, follows_last, plain_list}
 use Rattle.der_core_head.proofs.Results.{ok_is, bind_ok, unless_ok, whole_ok}
@@ -146,16 +147,16 @@ gain_one {A} old items x now new before one =
 
 -- What was read
 
-many_valid : (s : Shape) (room n : ℕ) (w : List ℕ) (v : List (Value s)) (r : List ℕ) → is_apart s ≡ true → IsBytes w → Fits w → read_many kinds.TrailingData (read s room) n w ≡ Ok (v, r) → AllByRecursion (IsValid s) v
+many_valid : (k : ErrorKind) (s : Shape) (room n : ℕ) (w : List ℕ) (v : List (Value s)) (r : List ℕ) → is_apart s ≡ true → IsBytes w → Fits w → read_many k (read s room) n w ≡ Ok (v, r) → AllByRecursion (IsValid s) v
 unfolding read_many
-many_valid s room zero [] v r apart bytes fits e = let same = ok_is ([], []) (v, r) e in subst (λ (q : List (Value s) × List ℕ). AllByRecursion (IsValid s) q.0) same tt
-many_valid s room zero (b ∷ w) v r apart bytes fits e = absurd cc
-many_valid s room (suc n) [] v r apart bytes fits e = let same = ok_is ([], []) (v, r) e in subst (λ (q : List (Value s) × List ℕ). AllByRecursion (IsValid s) q.0) same tt
-many_valid s room (suc n) (b ∷ w) v r apart bytes fits e =
-    let x = bind_ok (read s room (b ∷ w)) (λ x. read_many kinds.TrailingData (read s room) n x.1 >>= λ y. Ok (x.0 ∷ y.0, y.1)) (v, r) e in
-    let y = bind_ok (read_many kinds.TrailingData (read s room) n x.0.1) (λ y. Ok (x.0.0 ∷ y.0, y.1)) (v, r) x.2 in
+many_valid k s room zero [] v r apart bytes fits e = let same = ok_is ([], []) (v, r) e in subst (λ (q : List (Value s) × List ℕ). AllByRecursion (IsValid s) q.0) same tt
+many_valid k s room zero (b ∷ w) v r apart bytes fits e = absurd cc
+many_valid k s room (suc n) [] v r apart bytes fits e = let same = ok_is ([], []) (v, r) e in subst (λ (q : List (Value s) × List ℕ). AllByRecursion (IsValid s) q.0) same tt
+many_valid k s room (suc n) (b ∷ w) v r apart bytes fits e =
+    let x = bind_ok (read s room (b ∷ w)) (λ x. read_many k (read s room) n x.1 >>= λ y. Ok (x.0 ∷ y.0, y.1)) (v, r) e in
+    let y = bind_ok (read_many k (read s room) n x.0.1) (λ y. Ok (x.0.0 ∷ y.0, y.1)) (v, r) x.2 in
     let u = sound s room (b ∷ w) x.0.0 x.0.1 apart bytes fits x.1 in
-    let m = many_valid s room n x.0.1 y.0.0 y.0.1 apart (bytes_rest (octets_of s x.0.0) x.0.1 (b ∷ w) u.1 bytes) (fits_rest (octets_of s x.0.0) x.0.1 (b ∷ w) u.1 fits) y.1 in
+    let m = many_valid k s room n x.0.1 y.0.0 y.0.1 apart (bytes_rest (octets_of s x.0.0) x.0.1 (b ∷ w) u.1 bytes) (fits_rest (octets_of s x.0.0) x.0.1 (b ∷ w) u.1 fits) y.1 in
     let same = ok_is (x.0.0 ∷ y.0.0, y.0.1) (v, r) y.2 in
     subst (λ (q : List (Value s) × List ℕ). AllByRecursion (IsValid s) q.0) {x = (x.0.0 ∷ y.0.0, y.0.1)} same (u.0, m)
 
@@ -228,7 +229,14 @@ pub content_valid : {A : Type 0} (s : Shape) (f : A → Value s) (t : Tag) (room
 content_valid s f t room n w xs r apart bytes fits e =
     let i = within (many s) t room n w (plain_list f xs) r e in
     let u = take n w in
-    valid_plain s f xs (many_valid s i.0 (length u) u (plain_list f xs) i.1 apart (bytes_take n w bytes) (fits_front u (drop n w) w (sym (take-append-drop n w)) fits) i.2)
+    valid_plain s f xs (many_valid kinds.TrailingData s i.0 (length u) u (plain_list f xs) i.1 apart (bytes_take n w bytes) (fits_front u (drop n w) w (sym (take-append-drop n w)) fits) i.2)
+
+pub few_valid : {A : Type 0} (k : ℕ) (s : Shape) (f : A → Value s) (t : Tag) (room n : ℕ) (w : List ℕ) (xs : List A) (r : List ℕ) → is_apart s ≡ true → IsBytes w → Fits w
+    → value_at (read_content (nested (few k s)) t room) n w ≡ Ok (plain_list f xs, r) → AllValid s f xs
+few_valid k s f t room n w xs r apart bytes fits e =
+    let i = within (few k s) t room n w (plain_list f xs) r e in
+    let u = take n w in
+    valid_plain s f xs (many_valid kinds.Overlength s i.0 k u (plain_list f xs) i.1 apart (bytes_take n w bytes) (fits_front u (drop n w) w (sym (take-append-drop n w)) fits) i.2)
 
 pub content_rises : (s : Shape) (t : Tag) (room n : ℕ) (w : List ℕ) (v : List (Value s)) (r : List ℕ) → value_at (read_content (nested (rising s)) t room) n w ≡ Ok (v, r) → AllRising (octets_of s) v
 content_rises s t room n w v r e =

@@ -1,13 +1,11 @@
 -- Sets as their members in order (X.690 8.12, 11.6). A member has the plain value f x of a shape s.
-use Rattle.std.specs.Prelude.{◌≡◌, ◌≢◌, ℕ, suc, ◌-◌, ◌<◌, ◌≤◌, List, [], ◌∷◌, ◌++◌, length, slice_index_or, flat_map, ⊤, ◌⊎◌, Option, Some, Result, Ok, Err, nat_lt, if◌then◌else◌}
+use Rattle.std.specs.Prelude.{◌≡◌, ◌≢◌, ℕ, suc, ◌-◌, ◌<◌, ◌≤◌, List, [], ◌∷◌, ◌++◌, length, slice_index_or, flat_map, ⊤, ◌⊎◌, Option, Some}
 use Rattle.std.specs.Iterator.{YieldsThen}
 use Rattle.std.specs.List.{AllByRecursion}
 use Rattle.std.specs.List.Sorted.{IsPermutation}
 use Rattle.std.specs.declared.cmp.Ordering.TheVariants.{Greater}
 use Rattle.der_core_head.specs.declared.error.Error.{Error}
-use Rattle.der_core_head.specs.declared.error.ErrorKind.{ErrorKind}
 use Rattle.der_core_head.specs.declared.error.ErrorKind.TheVariants as kinds
-use Rattle.der_core_head.specs.Octets.{Readings, ◌>>=◌}
 use Rattle.der_core_head.specs.declared.tag.Tag.TheVariants as tags
 use Rattle.der_core_head.specs.Shapes.{Shape, Value, tagged, nested, many, Spells, IsValid, octets_of}
 use Rattle.der_core.specs.Orders.{octets_cmp}
@@ -81,18 +79,3 @@ Gains old items new = IsPermutation (items ++ old) new
 abbrev pub StopsAt : {U T A : Type 0} (s : Shape) → (A → Value s) → (U → T → Type 0) → (T → Option A → T → Type 0) → U → List A → List A → Error → Type 0
 StopsAt {U} {T} {A} s f becomes steps items old new e =
     (it : T) × (xs : List A) × (x : A) × (rest : T) × becomes items it × YieldsThen steps it xs (Some x) rest × Gains old xs new × IsRefusal s f (x ∷ new) e
-
--- The octets are a SET of more members than so many.
-pub record HasMore (s : Shape) (n : ℕ) (octets : List ℕ) (e : Error) : Type 0 where
-  pub kind : e.kind ≡ kinds.Overlength
-  pub members : List (Value s)
-  pub spelled : SpellsLoosely s members octets
-  pub more : n < length members
-
--- what was read, if there are no more than so many
-abbrev at_most : {P : Type 0} → ℕ → List P × List ℕ → Result (List P × List ℕ) ErrorKind
-at_most n x = if nat_lt n (length x.0) then Err kinds.Overlength else Ok x
-
--- reading of values, of which there may be so many
-unfoldable pub read_few : {P : Type 0} → ℕ → Readings (List P) → Readings (List P)
-read_few n f w = f w >>= at_most n

@@ -1,6 +1,7 @@
 //! Lists of bounded room, and sets.
 #![tactic(auto)]
 
+mod any_few;
 mod any_order;
 mod in_range;
 mod iter;
@@ -9,7 +10,6 @@ pub mod laws;
 mod level;
 mod members;
 mod places;
-mod room;
 mod sequence_of;
 mod set_of;
 mod set_of_ref;

@@ -7,18 +7,16 @@ ghost use Rattle.std.specs.Cmp.Lexicographic.{pointwise, lists_per, lists_equiv}
 ghost use Rattle.std.specs.Hash as fed;
 ghost use Rattle.std.specs.Hash.{items_Alike};
 ghost use Rattle.der_core_head.specs.declared.tag.Tag.TheVariants.{Sequence};
-ghost use Rattle.der_core_head.specs.Shapes.{nested, many};
-ghost use Rattle.der_core_head.specs.Grammar.{plain_list, value_at, read_content};
-ghost use Rattle.der_core_head.specs.Reading.{Reads};
-ghost use Rattle.der_types_sets.specs.Sets.{read_few};
+ghost use Rattle.der_core_head.specs.Shapes.{nested, few};
+ghost use Rattle.der_core_head.specs.Grammar.{plain_list};
 
 use crate::iter::SequenceOfIter;
-use crate::members::{encode_members, members_len};
-use crate::room::into_array;
+use crate::members::{encode_members, members_in_range, members_len};
 use arrayvec::ArrayVec;
-use der_core::making::elements_cmp;
+use der_core::making::{elements_cmp, read_fields};
 use der_core::{
-    Decode, DecodeValue, DerOrd, Encode, EncodeValue, Error, ErrorKind, FixedTag, Header, Length,
+    ApartValue, AsRead, AsReadValue, Decode, DecodeFields, DecodeValue, DerOrd, Element, Encode,
+    EncodeValue, Error, ErrorKind, Fields, FixedTag, Header, InRange, InRangeValue, Length, Member,
     Reader, Shaped, ShapedValue, Tag, ValueOrd, Writer,
 };
 use std::alloc::{AllocError, Global};
@@ -32,7 +30,7 @@ use std::marker::Model;
 /// Contracts see the list of the members.
 #[derive(Debug, Drop)]
 pub struct SequenceOf<T, const N: usize> {
-    members: ArrayVec<T, N>,
+    pub(crate) members: ArrayVec<T, N>,
 }
 
 impl<T, const N: usize> Model for SequenceOf<T, N> {
@@ -134,32 +132,6 @@ impl<T: Drop, const N: usize> SequenceOf<T, N> {
     }
 }
 
-impl<T: Default + Drop, const N: usize> SequenceOf<T, N> {
-    /// The members of a content.
-    ///
-    /// # Errors
-    /// The first fault of the members, `Overlength` for more than `N`, or `OutOfMemory`; `Failed`
-    /// where the reader failed before.
-    pub fn decode_value<'a, R: Reader<'a>>(
-        alloc: Global,
-        reader: &mut R,
-        header: Header,
-    ) -> Result<SequenceOf<T, N>, Error>
-    where
-        T: Decode<'a, R>,
-        ensures { Reads (plain_list T.plain) (R.state reader.old) (R.state reader.new) result (read_few N (value_at (read_content (nested (many T.shape)) header.tag (R.state reader.old).room) header.length.value)) }
-    {
-        let members = Vec::<T>::decode_value(alloc, reader, header)?;
-        match into_array(members) {
-            Ok(members) => Ok(SequenceOf { members }),
-            Err(error) => {
-                reader.fail();
-                Err(error)
-            }
-        }
-    }
-}
-
 impl<T, const N: usize> FixedTag for SequenceOf<T, N> {
     ghost fixed_tag = { Sequence };
 
@@ -168,12 +140,77 @@ impl<T, const N: usize> FixedTag for SequenceOf<T, N> {
     }
 }
 
+impl<T: Shaped, const N: usize> Fields for SequenceOf<T, N> {
+    ghost fields = { few N T.shape };
+
+    ghost fields_plain = { plain_list T.plain };
+
+    ghost fields_written = { plain_list T.written };
+}
+
 impl<T: Shaped, const N: usize> ShapedValue for SequenceOf<T, N> {
-    ghost content = { nested (many T.shape) };
+    ghost content = { nested (few N T.shape) };
 
     ghost value_plain = { plain_list T.plain };
 
     ghost value_written = { plain_list T.written };
+}
+
+/// No more than `N` values.
+impl<'a, R: Reader<'a>, T: Decode<'a, R> + Default, const N: usize> DecodeFields<'a, R>
+    for SequenceOf<T, N> {
+    /// # Errors
+    /// `Overlength` where more than `N` values stand: the next one isn't looked at.
+    fn decode_fields(alloc: Global, reader: &mut R) -> Result<SequenceOf<T, N>, Error> {
+        if reader.is_failed() {
+            return Err(Error::from(ErrorKind::Failed));
+        }
+        let mut members = ArrayVec::new();
+        for _ in 0..N {
+            if reader.is_finished() {
+                break;
+            }
+            let member = T::decode(alloc, reader)?;
+            members.push(member);
+        }
+        if reader.is_finished() {
+            Ok(SequenceOf { members })
+        } else {
+            let place = reader.position();
+            reader.fail();
+            Err(ErrorKind::Overlength.at(place))
+        }
+    }
+}
+
+impl<'a, R: Reader<'a>, T: Decode<'a, R> + Default, const N: usize> DecodeValue<'a, R>
+    for SequenceOf<T, N> {
+    fn decode_value(
+        alloc: Global,
+        reader: &mut R,
+        header: Header,
+    ) -> Result<SequenceOf<T, N>, Error> {
+        read_fields(alloc, reader, header)
+    }
+}
+
+impl<T: Element + Member, const N: usize> ApartValue for SequenceOf<T, N> {
+    ghost use Rattle.der_core_values.specs.Both.{both_true};
+
+    ghost apart_value = { both_true T.element T.apart };
+}
+
+impl<T: AsRead, const N: usize> AsReadValue for SequenceOf<T, N> {
+    ghost use Rattle.der_core_values.specs.Same.{same_list};
+
+    ghost as_read_value = { same_list T.as_read };
+}
+
+impl<T: InRange, const N: usize> InRangeValue for SequenceOf<T, N> {
+    #[tactic(auto, using(crate::proofs::FewSteps::length_plain_list))]
+    fn value_in_range(&self) {
+        members_in_range(self.members.as_slice());
+    }
 }
 
 impl<T: Encode, const N: usize> EncodeValue for SequenceOf<T, N> {
@@ -188,7 +225,7 @@ impl<T: Encode, const N: usize> EncodeValue for SequenceOf<T, N> {
 
 /// The encodings of the members, one after the other.
 impl<T: DerOrd, const N: usize> ValueOrd for SequenceOf<T, N> {
-    #[tactic(auto, unfolding(der_core_head::specs::Shapes::contents, der_core_head::specs::Shapes::IsContent))]
+    #[tactic(auto, unfolding(der_core_head::specs::Shapes::contents, der_core_head::specs::Shapes::IsContent, der_core_head::specs::Shapes::body_octets, der_core_head::specs::Shapes::IsBody))]
     fn value_cmp(&self, other: &Self) -> Result<Ordering, Error> {
         elements_cmp(self.members.as_slice(), other.members.as_slice())
     }

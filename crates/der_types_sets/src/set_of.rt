@@ -4,7 +4,7 @@ ghost use Rattle.std.specs.Prelude.{◌≡◌, ◌⊎◌, ◌≤◌, List, take,
 ghost use Rattle.std.specs.Option.{option_copied};
 ghost use Rattle.std.specs.List.Sorted.{IsPermutation};
 ghost use Rattle.der_core_head.specs.declared.tag.Tag.TheVariants.{Set};
-ghost use Rattle.der_core_head.specs.Shapes.{Value, tagged, nested, many};
+ghost use Rattle.der_core_head.specs.Shapes.{Value, tagged, nested, few};
 ghost use Rattle.der_core_head.specs.Spelling.{is_element, are_enough, are_content_enough};
 ghost use Rattle.der_core_head.specs.Grammar.{plain_list, value_at, read_content, whole_at};
 ghost use Rattle.der_core_head.specs.Reading.{Reads, Gives, Fails, IsDer};
@@ -12,19 +12,19 @@ ghost use Rattle.std.specs.Cmp.Lexicographic.{pointwise, slice_cmp, slice_partia
 ghost use Rattle.std.specs.Hash as fed;
 ghost use Rattle.std.specs.Hash.{items_Alike};
 ghost use Rattle.der_types_sets.specs.Lent.{members_lent};
-ghost use Rattle.der_types_sets.specs.Sets.{Ascends, Loose, SpellsLoosely, TooLong, IsBelowLast, HasMore, read_few};
+ghost use Rattle.der_types_sets.specs.Sets.{Ascends, Loose, SpellsLoosely, TooLong, IsBelowLast};
 
+use crate::any_few::AnyFew;
 use crate::iter::SetOfIter;
 use crate::members::{encode_members, members_len};
 use crate::places::{arrange, check_last, place_of};
-use crate::room::into_array;
+use crate::sequence_of::SequenceOf;
 use crate::set_of_ref::SetOfRef;
-use crate::set_of_vec::SetOfVec;
 use arrayvec::ArrayVec;
 use der_core::making::elements_cmp;
 use der_core::{
-    AsRead, Decode, DerOrd, Encode, EncodeValue, Error, ErrorKind, FixedTag, Header, Length,
-    Member, Reader, Shaped, ShapedValue, SliceReader, Tag, ValueOrd, Writer,
+    AsRead, Decode, DecodeValue, DerOrd, Encode, EncodeValue, Error, ErrorKind, FixedTag, Header,
+    Length, Member, Reader, Shaped, ShapedValue, SliceReader, Tag, ValueOrd, Writer, from_der,
 };
 use std::alloc::{AllocError, Global};
 use std::cmp::Ordering;
@@ -179,7 +179,8 @@ impl<T: DerOrd + Member + Drop, const N: usize> SetOf<T, N> {
 }
 
 impl<T: DerOrd + Member + Default + Drop, const N: usize> SetOf<T, N> {
-    /// The members of a content, which stand there in any order.
+    /// The members of a content, which stand there in any order. Members past the `N`th aren't looked
+    /// at.
     ///
     /// # Errors
     /// The first fault of the members, `Overlength` for more than `N`, or `OutOfMemory`; `Failed`
@@ -193,17 +194,20 @@ impl<T: DerOrd + Member + Default + Drop, const N: usize> SetOf<T, N> {
     where
         T: Decode<'a, R> + AsRead,
         // The members that were read, in the order in which they stand there, are those of the set.
-        ensures reads { (read : List T) × Reads (λ _. plain_list T.plain read) (R.state reader.old) (R.state reader.new) result (read_few N (value_at (read_content (nested (many T.shape)) header.tag (R.state reader.old).room) header.length.value)) × IfOk result (IsPermutation read) }
+        ensures reads { (read : List T) × Reads (λ _. plain_list T.plain read) (R.state reader.old) (R.state reader.new) result (value_at (read_content (nested (few N T.shape)) header.tag (R.state reader.old).room) header.length.value) × IfOk result (IsPermutation read) }
         // What is read is spelled so, in any order.
         ensures spelled { is_element T.shape ≡ true → IsDer (R.state reader.old) → IfOk result (λ set. Loose T.shape (plain_list T.plain set) (take header.length.value (R.state reader.old).rest)) }
         // What is spelled so is read, if there is room, unless memory runs out.
-        ensures only { (v : List (Value T.shape)) → is_element T.shape ≡ true → are_content_enough (nested (many T.shape)) (R.state reader.old).room ≡ true
+        ensures only { (v : List (Value T.shape)) → is_element T.shape ≡ true → are_content_enough (nested (few N T.shape)) (R.state reader.old).room ≡ true
             → IsDer (R.state reader.old) → (R.state reader.old).failed ≡ false → header.length.value ≤ length (R.state reader.old).rest
             → Loose T.shape v (take header.length.value (R.state reader.old).rest) → length v ≤ N → Gives (plain_list T.plain) result (Ok v) }
     {
-        let ordered = SetOfVec::<T>::decode_value(alloc, reader, header)?;
-        match into_array(ordered.into_vec()) {
-            Ok(members) => Ok(SetOf { members }),
+        // What is read from octets by DER has an encoding.
+        let before = reader.remaining();
+        let _octets = &before[..];
+        let read = SequenceOf::<T, N>::decode_value(alloc, reader, header)?;
+        match SetOf::arranged(read) {
+            Ok(set) => Ok(set),
             Err(error) => {
                 reader.fail();
                 Err(error)
@@ -211,24 +215,41 @@ impl<T: DerOrd + Member + Default + Drop, const N: usize> SetOf<T, N> {
         }
     }
 
-    /// The set that octets spell by DER, all of the octets, whose members stand in any order.
+    /// The set that octets spell by DER, all of the octets, whose members stand in any order. Members
+    /// past the `N`th aren't looked at.
     ///
     /// # Errors
-    /// `Overflow` for 2^32 octets or more, else the first fault from the left, `TrailingData` where
-    /// octets are left behind the set, `Overlength` for more than `N` members, or `OutOfMemory`.
+    /// `Overflow` for 2^32 octets or more, else the first fault from the left, among them
+    /// `Overlength` for more than `N` members, `TrailingData` where octets are left behind the set, or
+    /// `OutOfMemory`.
     pub fn from_der<'a>(alloc: Global, bytes: &'a [u8]) -> Result<SetOf<T, N>, Error>
     where
         T: Decode<'a, SliceReader<'a>> + AsRead,
         // What is read is spelled so.
         ensures spelled { is_element T.shape ≡ true → IfOk result (λ set. SpellsLoosely T.shape (plain_list T.plain set) bytes.now) }
         // What is spelled so is read, if there is room, unless memory runs out.
-        ensures only { (v : List (Value T.shape)) → is_element T.shape ≡ true → are_enough (tagged Set (nested (many T.shape))) 64 ≡ true
+        ensures only { (v : List (Value T.shape)) → is_element T.shape ≡ true → are_enough (tagged Set (nested (few N T.shape))) 64 ≡ true
             → SpellsLoosely T.shape v bytes.now → length v ≤ N → Gives (plain_list T.plain) result (Ok v) }
         // Which fault it is.
-        ensures refused { is_element T.shape ≡ true → IfErr result (λ e. HasMore T.shape N bytes.now e ⊎ Fails e.kind (whole_at (tagged Set (nested (many T.shape))) bytes.now)) }
+        ensures refused { is_element T.shape ≡ true → IfErr result (λ e. Fails e.kind (whole_at (tagged Set (nested (few N T.shape))) bytes.now)) }
     {
-        let ordered = SetOfVec::<T>::from_der(alloc, bytes)?;
-        let members = into_array(ordered.into_vec())?;
+        let read = from_der::<AnyFew<T, N>>(alloc, bytes)?;
+        let AnyFew { members } = read;
+        let set = SetOf::arranged(SequenceOf { members })?;
+        Ok(set)
+    }
+
+    /// The set of the members of a list. No memory is taken.
+    ///
+    /// # Errors
+    /// `Overflow` where an encoding has 2^32 octets or more.
+    fn arranged(list: SequenceOf<T, N>) -> Result<SetOf<T, N>, Error>
+        ensures ok { IfOk result (IsPermutation list) }
+        ensures ascend { IfOk result (Ascends T.shape T.written) }
+        ensures refused { IfErr result (TooLong T.shape T.written list) }
+    {
+        let mut members = list.into_inner();
+        arrange(members.as_mut_slice())?;
         Ok(SetOf { members })
     }
 }
@@ -243,7 +264,7 @@ impl<T: Shaped, const N: usize> FixedTag for SetOf<T, N> {
 
 /// The encodings of the members, in ascending order.
 impl<T: Shaped, const N: usize> ShapedValue for SetOf<T, N> {
-    ghost content = { nested (many T.shape) };
+    ghost content = { nested (few N T.shape) };
 
     ghost value_plain = { plain_list T.plain };
 
@@ -262,7 +283,7 @@ impl<T: Encode, const N: usize> EncodeValue for SetOf<T, N> {
 
 /// The encodings of the members, one after the other.
 impl<T: DerOrd, const N: usize> ValueOrd for SetOf<T, N> {
-    #[tactic(auto, unfolding(der_core_head::specs::Shapes::contents, der_core_head::specs::Shapes::IsContent))]
+    #[tactic(auto, unfolding(der_core_head::specs::Shapes::contents, der_core_head::specs::Shapes::IsContent, der_core_head::specs::Shapes::body_octets, der_core_head::specs::Shapes::IsBody))]
     fn value_cmp(&self, other: &Self) -> Result<Ordering, Error> {
         elements_cmp(self.members.as_slice(), other.members.as_slice())
     }
