@@ -25,15 +25,18 @@ use Rattle.der_core_head.proofs.Bytes.{IsBytes, bytes_take, bytes_rest}
 use Rattle.der_core_head.proofs.Fits.{fits_front, fits_rest}
 use Rattle.der_core_head.proofs.Sound.{sound}
 use Rattle.der_core.specs.Orders.{octets_cmp, encodings_cmp}
-use Rattle.der_types_sets.specs.Sets.{NotAbove, Ascends, AllValid, Behind, Before, IsPlace, TooLong, IsBelowLast}
+use Rattle.der_types_sets.specs.Sets.{NotAbove, IsBelow, Ascends, AllValid, Behind, Before, IsPlace, TooLong, IsBelowLast}
+
+below_not_above : {A : Type 0} (s : Shape) (f : A → Value s) (x y : A) → IsBelow s f x y → NotAbove s f x y
+below_not_above s f x y below v w above = absurd (cc (below v w, above))
 
 pub ascends-insert : {A : Type 0} (s : Shape) (f : A → Value s) (xs : List A) (i : ℕ) (x : A) → Ascends s f xs → i ≤ length xs → Behind s f xs x i → Before s f xs x i → Ascends s f (insert xs i x)
 ascends-insert s f [] zero x asc le p q = tt
-ascends-insert s f (y ∷ ys) zero x asc le p q = (q y (omega arith) refl, asc)
+ascends-insert s f (y ∷ ys) zero x asc le p q = (below_not_above s f x y (q y (omega arith) refl), asc)
 ascends-insert s f [] (suc i) x asc le p q = absurd (omega arith)
 ascends-insert s f (y ∷ []) (suc zero) x asc le p q = (p y 0 refl refl, tt)
 ascends-insert s f (y ∷ []) (suc (suc i)) x asc le p q = absurd (omega arith)
-ascends-insert s f (y ∷ z ∷ zs) (suc zero) x asc le p q = (p y 0 refl refl, (q z (omega arith) refl, asc.1))
+ascends-insert s f (y ∷ z ∷ zs) (suc zero) x asc le p q = (p y 0 refl refl, (below_not_above s f x z (q z (omega arith) refl), asc.1))
 ascends-insert s f (y ∷ z ∷ zs) (suc (suc i)) x asc le p q =
     (asc.0, ascends-insert s f (z ∷ zs) (suc i) x asc.1 (omega arith) (λ w k e h. p w (suc k) (ap suc e) h) (λ w lt h. q w (omega arith) h))
 
@@ -47,10 +50,10 @@ behind_here {A} s f xs x y m lt here ok = λ w k e h.
     let P : A → Type 0 = λ v. NotAbove s f v x in
     subst P z ok
 
-pub before_here : {A : Type 0} (s : Shape) (f : A → Value s) (xs : List A) (x y : A) (m : ℕ) → y ≡ get_or xs m y → NotAbove s f x y → Before s f xs x m
+pub before_here : {A : Type 0} (s : Shape) (f : A → Value s) (xs : List A) (x y : A) (m : ℕ) → y ≡ get_or xs m y → IsBelow s f x y → Before s f xs x m
 before_here {A} s f xs x y m here ok = λ w lt h.
     let z : y ≡ w = here ∙ get_or_default xs m y w lt ∙ sym h in
-    let P : A → Type 0 = λ v. NotAbove s f x v in
+    let P : A → Type 0 = λ v. IsBelow s f x v in
     subst P z ok
 
 -- what a comparison tells
@@ -59,10 +62,10 @@ pub told : {A : Type 0} (s : Shape) (f : A → Value s) (x y : A) (r : Result Or
 told s f x y r o e not h = λ v w above. not (cc (e, h v w, above))
 
 pub told_above : {A : Type 0} (s : Shape) (f : A → Value s) (x y : A) (r : Result Ordering Error) → r ≡ Ok Greater
-    → (IsValid s (f x) → IsValid s (f y) → r ≡ Ok (encodings_cmp s (f x) (f y))) → NotAbove s f y x
-told_above s f x y r e h = λ w v above.
-    let back : octets_cmp (octets_of s (f x)) (octets_of s (f y)) ≡ ordering_reverse Greater = nat_list_cmp_total.antisymm (octets_of s (f x)) (octets_of s (f y)) ∙ ap ordering_reverse above in
-    absurd (cc (e, h v w, back))
+    → (IsValid s (f x) → IsValid s (f y) → r ≡ Ok (encodings_cmp s (f x) (f y))) → IsBelow s f y x
+told_above s f x y r e h = λ w v.
+    let above : octets_cmp (octets_of s (f x)) (octets_of s (f y)) ≡ Greater = cc (e, h v w) in
+    nat_list_cmp_total.antisymm (octets_of s (f y)) (octets_of s (f x)) ∙ ap ordering_reverse above
 
 pub valid_at : {A : Type 0} (s : Shape) (f : A → Value s) (xs : List A) (m : ℕ) (y : A) → m < length xs → y ≡ get_or xs m y → AllValid s f xs → IsValid s (f y)
 valid_at s f [] m y lt here all = absurd (omega arith)

@@ -1,9 +1,9 @@
 -- Sets as their members in order (X.690 8.12, 11.6). A member has the plain value f x of a shape s.
 use Rattle.std.specs.Prelude.{◌≡◌, ◌≢◌, ℕ, suc, ◌-◌, ◌<◌, ◌≤◌, List, [], ◌∷◌, ◌++◌, length, slice_index_or, flat_map, ⊤, ◌⊎◌, Option, Some}
 use Rattle.std.specs.Iterator.{YieldsThen}
-use Rattle.std.specs.List.{AllByRecursion}
+use Rattle.std.specs.List.{AllByRecursion, insert}
 use Rattle.std.specs.List.Sorted.{IsPermutation}
-use Rattle.std.specs.declared.cmp.Ordering.TheVariants.{Greater}
+use Rattle.std.specs.declared.cmp.Ordering.TheVariants.{Less, Greater}
 use Rattle.der_core_head.specs.declared.error.Error.{Error}
 use Rattle.der_core_head.specs.declared.error.ErrorKind.TheVariants as kinds
 use Rattle.der_core_head.specs.declared.tag.Tag.TheVariants as tags
@@ -13,6 +13,10 @@ use Rattle.der_core.specs.Orders.{octets_cmp}
 -- the encoding of x is not above that of y, where both have one
 abbrev pub NotAbove : {A : Type 0} (s : Shape) → (A → Value s) → A → A → Type 0
 NotAbove s f x y = IsValid s (f x) → IsValid s (f y) → octets_cmp (octets_of s (f x)) (octets_of s (f y)) ≢ Greater
+
+-- the encoding of x is below that of y, where both have one
+abbrev pub IsBelow : {A : Type 0} (s : Shape) → (A → Value s) → A → A → Type 0
+IsBelow s f x y = IsValid s (f x) → IsValid s (f y) → octets_cmp (octets_of s (f x)) (octets_of s (f y)) ≡ Less
 
 -- no member is above the next one; equal ones are kept
 abbrev pub Ascends : {A : Type 0} (s : Shape) → (A → Value s) → List A → Type 0
@@ -43,15 +47,19 @@ pub record SpellsLoosely (s : Shape) (members : List (Value s)) (octets : List �
 abbrev pub Behind : {A : Type 0} (s : Shape) → (A → Value s) → List A → A → ℕ → Type 0
 Behind {A} s f xs x i = (y : A) (k : ℕ) → i ≡ suc k → y ≡ slice_index_or xs k y → NotAbove s f y x
 
--- and x is not above what stands there
+-- and x is below what stands there
 abbrev pub Before : {A : Type 0} (s : Shape) → (A → Value s) → List A → A → ℕ → Type 0
-Before {A} s f xs x i = (y : A) → i < length xs → y ≡ slice_index_or xs i y → NotAbove s f x y
+Before {A} s f xs x i = (y : A) → i < length xs → y ≡ slice_index_or xs i y → IsBelow s f x y
 
--- x may stand at the place i
+-- The place of x is i: behind what is not above x, and so behind its equals, and in front of what is above x.
 pub record IsPlace {A : Type 0} (s : Shape) (f : A → Value s) (xs : List A) (x : A) (i : ℕ) : Type 0 where
   pub within : i ≤ length xs
   pub behind : Behind s f xs x i
   pub before : Before s f xs x i
+
+-- The item was put at its place among the members.
+abbrev pub IsPutAtPlace : {A : Type 0} (s : Shape) → (A → Value s) → List A → A → List A → Type 0
+IsPutAtPlace s f old x new = (i : ℕ) × IsPlace s f old x i × (new ≡ insert old i x)
 
 -- An encoding passes what a length can count, and so not all have one.
 pub record TooLong {A : Type 0} (s : Shape) (f : A → Value s) (xs : List A) (e : Error) : Type 0 where

@@ -1,22 +1,16 @@
-//! The values of each list and set are in range, as its members are.
+//! The values of each set are in range, as its members are.
 
 ghost use Rattle.std.specs.Prelude.{◌≡◌};
 
-use crate::sequence_of::SequenceOf;
 use crate::set_of::SetOf;
 use crate::set_of_vec::SetOfVec;
 use der_core::making::list_in_range;
 use der_core::{InRange, InRangeValue};
 
-impl<T: InRange, const N: usize> InRangeValue for SequenceOf<T, N> {
-    fn value_in_range(&self) {
-        list_in_range(self.as_slice());
-    }
-}
-
 impl<T: InRange, const N: usize> InRangeValue for SetOf<T, N> {
+    #[tactic(auto, using(crate::proofs::FewSteps::length_plain_list))]
     fn value_in_range(&self) {
-        list_in_range(self.as_slice());
+        list_in_range(self.members.as_slice());
     }
 }
 

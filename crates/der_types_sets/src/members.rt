@@ -1,15 +1,13 @@
 //! Encodings of members, one after the other.
 
-ghost use Rattle.std.specs.List.{AllByRecursion};
 ghost use Rattle.der_core_head.specs.Shapes.{many};
-ghost use Rattle.der_core_head.specs.Ranges.{IsInRange};
 ghost use Rattle.der_core_head.specs.Grammar.{plain_list};
 ghost use Rattle.der_core_head.specs.Reading.{GivesNow};
 ghost use Rattle.der_core_head.specs.Writing.{Writes, size_body, write_body};
 ghost use Rattle.der_core_octets.specs.Outputs.{Continues};
 
 use der_core::making::sum_len;
-use der_core::{Encode, Error, InRange, Length, Writer};
+use der_core::{Encode, Error, Length, Writer};
 
 /// The number of octets of the encodings.
 ///
@@ -40,13 +38,4 @@ pub(crate) fn encode_members<T: Encode, W: Writer>(
         member.encode(writer)?;
     }
     Ok(())
-}
-
-/// The values are in range.
-pub(crate) fn members_in_range<T: InRange>(members: &[T])
-    ensures { AllByRecursion (λ x. IsInRange T.shape x) (plain_list T.written members.now) }
-{
-    for member in members {
-        member.in_range();
-    }
 }

@@ -11,9 +11,9 @@ ghost use Rattle.der_core_head.specs.Shapes.{nested, few};
 ghost use Rattle.der_core_head.specs.Grammar.{plain_list};
 
 use crate::iter::SequenceOfIter;
-use crate::members::{encode_members, members_in_range, members_len};
+use crate::members::{encode_members, members_len};
 use arrayvec::ArrayVec;
-use der_core::making::{elements_cmp, read_fields};
+use der_core::making::{elements_cmp, list_in_range, read_fields};
 use der_core::{
     ApartValue, AsRead, AsReadValue, Decode, DecodeFields, DecodeValue, DerOrd, Element, Encode,
     EncodeValue, Error, ErrorKind, Fields, FixedTag, Header, InRange, InRangeValue, Length, Member,
@@ -209,7 +209,7 @@ impl<T: AsRead, const N: usize> AsReadValue for SequenceOf<T, N> {
 impl<T: InRange, const N: usize> InRangeValue for SequenceOf<T, N> {
     #[tactic(auto, using(crate::proofs::FewSteps::length_plain_list))]
     fn value_in_range(&self) {
-        members_in_range(self.members.as_slice());
+        list_in_range(self.members.as_slice());
     }
 }
 

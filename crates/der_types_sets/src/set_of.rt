@@ -12,7 +12,7 @@ ghost use Rattle.std.specs.Cmp.Lexicographic.{pointwise, slice_cmp, slice_partia
 ghost use Rattle.std.specs.Hash as fed;
 ghost use Rattle.std.specs.Hash.{items_Alike};
 ghost use Rattle.der_types_sets.specs.Lent.{members_lent};
-ghost use Rattle.der_types_sets.specs.Sets.{Ascends, Loose, SpellsLoosely, TooLong, IsBelowLast};
+ghost use Rattle.der_types_sets.specs.Sets.{Ascends, Loose, SpellsLoosely, TooLong, IsBelowLast, IsPutAtPlace};
 
 use crate::any_few::AnyFew;
 use crate::iter::SetOfIter;
@@ -38,7 +38,7 @@ use std::marker::Model;
 /// Contracts see the list of the members.
 #[derive(Debug, Drop)]
 pub struct SetOf<T: Shaped, const N: usize> {
-    members: ArrayVec<T, N>,
+    pub(crate) members: ArrayVec<T, N>,
 }
 
 impl<T: Shaped, const N: usize> Model for SetOf<T, N> {
@@ -146,6 +146,7 @@ impl<T: DerOrd + Member + Drop, const N: usize> SetOf<T, N> {
     /// more. The set stays then.
     pub fn insert(&mut self, item: T) -> Result<(), Error>
         ensures ok { OnOk result (IsPermutation (item ∷ self.old) self.new) }
+        ensures place { OnOk result (IsPutAtPlace T.shape T.written self.old item self.new) }
         ensures ascend { Ascends T.shape T.written self.new }
         ensures err { OnErr result (self.new ≡ self.old) }
         ensures refused { IfErr result (λ e. ((e.kind ≡ ErrorKind.Overlength) × (length self.old ≡ N)) ⊎ TooLong T.shape T.written (item ∷ self.old) e) }

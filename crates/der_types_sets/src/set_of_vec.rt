@@ -12,7 +12,7 @@ ghost use Rattle.std.specs.Cmp.Lexicographic.{pointwise, slice_cmp, slice_partia
 ghost use Rattle.std.specs.Hash as fed;
 ghost use Rattle.std.specs.Hash.{items_Alike};
 ghost use Rattle.der_types_sets.specs.Lent.{members_lent};
-ghost use Rattle.der_types_sets.specs.Sets.{Ascends, Loose, SpellsLoosely, IsRefusal, TooLong, IsBelowLast, Gains, StopsAt};
+ghost use Rattle.der_types_sets.specs.Sets.{Ascends, Loose, SpellsLoosely, IsRefusal, TooLong, IsBelowLast, IsPutAtPlace, Gains, StopsAt};
 ghost use Rattle.std.specs.Iterator.{IsFinite, ExtendsWithItems, Drains};
 
 use crate::any_order::AnyOrder;
@@ -156,6 +156,7 @@ impl<T: DerOrd + Member + Drop> SetOfVec<T> {
     /// `Overflow` where an encoding has 2^32 octets or more, or `OutOfMemory`. The set stays then.
     pub fn insert(&mut self, item: T) -> Result<(), Error>
         ensures ok { OnOk result (IsPermutation (item ∷ self.old) self.new) }
+        ensures place { OnOk result (IsPutAtPlace T.shape T.written self.old item self.new) }
         ensures ascend { Ascends T.shape T.written self.new }
         ensures err { OnErr result (self.new ≡ self.old) }
         ensures refused { IfErr result (IsRefusal T.shape T.written (item ∷ self.old)) }
