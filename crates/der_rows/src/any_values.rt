@@ -4,12 +4,14 @@ use crate::entry::Entry;
 use crate::made::written;
 use crate::questions::{Question, answer_as, name_of};
 use crate::refusals::Refusal;
+use crate::small::Small;
 use const_oid_identifiers::ObjectIdentifier;
 use der_core::{
     Decode, DecodeValue, Encode, EncodeValue, EncodingRules, Error, FixedTag, SliceReader, from_der,
 };
 use der_types_any::{Any, AnyRef};
 use der_types_numbers::{IntRef, UintRef};
+use der_types_sets::SequenceOf;
 use der_types_text::{
     GeneralStringRef, Ia5StringRef, PrintableStringRef, TeletexStringRef, Utf8StringRef,
     VideotexStringRef,
@@ -62,6 +64,7 @@ fn read_as(alloc: Global, kind: &str, any: &Any, rules: EncodingRules) -> Result
         "Null" => decoded::<Null>(alloc, any, rules),
         "OctetStringRef" => decoded::<OctetStringRef>(alloc, any, rules),
         "Entry" => decoded::<Entry>(alloc, any, rules),
+        "SequenceOf<Small,2>" => decoded::<SequenceOf<Small, 2>>(alloc, any, rules),
         _ => Err(Refusal::Unread),
     }
 }

@@ -6,7 +6,8 @@ ghost use Rattle.der_core_head.specs.Shapes.{nested};
 use der_core::making::read_fields;
 use der_core::{
     DecodeFields, DecodeValue, Encode, EncodeFields, EncodeRef, EncodeValue, Error, Fields,
-    FixedTag, Header, Implicit, Length, Reader, ShapedValue, StrictSetOf, Tag, Writer,
+    FixedTag, Header, Implicit, InRange, InRangeValue, Length, Reader, ShapedValue, StrictSetOf,
+    Tag, Writer,
 };
 use der_types_numbers::Uint;
 use der_types_text::PrintableString;
@@ -103,5 +104,15 @@ impl EncodeValue for Entry {
         self.since.encode(writer)?;
         self.uses.encode(writer)?;
         self.codes.encode(writer)
+    }
+}
+
+impl InRangeValue for Entry {
+    fn value_in_range(&self) {
+        self.number.in_range();
+        self.name.in_range();
+        self.since.in_range();
+        self.uses.in_range();
+        self.codes.in_range();
     }
 }

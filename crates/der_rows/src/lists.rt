@@ -1,7 +1,8 @@
 //! Lists and sets.
 
 use crate::made::written;
-use crate::questions::{Question, answer_as, compared, name_of};
+use crate::questions::{Question, answer_as, answer_with_contents, compared, name_of};
+use crate::record::Record;
 use crate::refusals::Refusal;
 use crate::small::Small;
 use der_core::{
@@ -12,6 +13,12 @@ use der_types_sets::{SequenceOf, SetOf, SetOfRef, SetOfVec};
 use std::alloc::Global;
 use std::hash::Hash;
 
+/// A list of bounded room as a field, and as one that may be absent.
+type FewFields = (
+    SequenceOf<Small, 2>,
+    (Option<SequenceOf<Small, 1>>, (Small, ())),
+);
+
 /// The answer of a type that this page names.
 pub fn answer(alloc: Global, kind: &str, question: Question<'_>) -> Result<String, Refusal> {
     match kind {
@@ -19,7 +26,15 @@ pub fn answer(alloc: Global, kind: &str, question: Question<'_>) -> Result<Strin
         "SetOfVec<Small>" => answer_of_set::<SetOfVec<Small>>(alloc, question),
         "SetOfVec<u16>" => answer_of_set::<SetOfVec<u16>>(alloc, question),
         "SetOf<Small,2>" => answer_of_set::<SetOf<Small, 2>>(alloc, question),
-        "SequenceOf<Small,2>" => answer_of::<SequenceOf<Small, 2>>(alloc, question),
+        "SequenceOf<Small,2>" => answer_with_contents::<SequenceOf<Small, 2>>(alloc, question),
+        "SequenceOf<Small,0>" => answer_with_contents::<SequenceOf<Small, 0>>(alloc, question),
+        "SequenceOf<SequenceOf<Small,1>,2>" => answer_with_contents::<
+            SequenceOf<SequenceOf<Small, 1>, 2>,
+        >(alloc, question),
+        "SetOfVec<SequenceOf<Small,2>>" => answer_of::<SetOfVec<SequenceOf<Small, 2>>>(
+            alloc, question,
+        ),
+        "FewFields" => answer_with_contents::<Record<FewFields>>(alloc, question),
         "SetOfRef<Small>" => answer_of_lent(alloc, question),
         _ => Err(Refusal::Unread),
     }
@@ -54,20 +69,6 @@ impl<
         let set = SetOf::decode_value(alloc, &mut reader, header)?;
         reader.finish()?;
         Ok(set)
-    }
-}
-
-impl<'a, T: Decode<'a, SliceReader<'a>> + Default + Drop, const N: usize> Members<'a>
-    for SequenceOf<T, N> {
-    fn read(
-        alloc: Global,
-        octets: &'a [u8],
-        rules: EncodingRules,
-    ) -> Result<SequenceOf<T, N>, Error> {
-        let (mut reader, header) = opened(octets, rules, Tag::Sequence)?;
-        let list = SequenceOf::decode_value(alloc, &mut reader, header)?;
-        reader.finish()?;
-        Ok(list)
     }
 }
 
