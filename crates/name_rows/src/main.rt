@@ -1,0 +1,32 @@
+//! Answers questions about names: a line of standard input each, a line of standard output for each.
+//!
+//! | Question | Answer |
+//! |---|---|
+//! | `der TYPE HEX`, `ber TYPE HEX` | `ok HEX`, the octets that the value writes that these spell by DER or BER |
+//! | `attributes HEX` | `ok` and for each attribute of the name its type and the octets of its value |
+//! | `first WHICH HEX` | `ok TEXT`, what the name has first of a type: `common-name`, `country`, `state`, `locality`, `organization`, `unit` or `email`; `ok none` where it has none |
+//! | `relative HEX HEX ..` | `ok HEX`, the relative name into which these attributes are inserted one by one |
+//! | `relative-of HEX HEX ..` | the same of the relative name that is made of all of them at once |
+//! | an empty line, or one that begins with `#` | the same line |
+//! | any other | `?` |
+//!
+//! What is refused is answered `refused KIND`, and `memory` where there is not enough.
+#![tactic(auto)]
+
+mod answers;
+mod names;
+mod refusals;
+mod relatives;
+
+use answers::answer;
+use std::io;
+use std::io::{BufWriter, Write};
+
+fn main(rt: HostRuntime) -> io::Result<()> {
+    let alloc = rt.alloc();
+    let mut out = BufWriter::new(alloc, io::writer(&rt))?;
+    for line in rt.lines(alloc) {
+        answer(alloc, line?.as_str(), &mut out)?;
+    }
+    out.flush()
+}

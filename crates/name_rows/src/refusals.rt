@@ -1,0 +1,57 @@
+//! Why a question has no other answer.
+
+use der_core::{Error, ErrorKind};
+use hex::FromHexError;
+use std::alloc::{AllocError, AllocFailed};
+use std::fmt;
+
+/// Why a question has no other answer.
+#[derive(Clone, Copy)]
+pub enum Refusal {
+    /// It is none, or of no type that is known.
+    Unread,
+    /// Want of memory.
+    Memory,
+    /// Its octets spell no value of the type, or its values aren't written.
+    Der(Error),
+}
+
+impl From<Error> for Refusal {
+    fn from(error: Error) -> Refusal {
+        match error.kind {
+            ErrorKind::OutOfMemory => Refusal::Memory,
+            _ => Refusal::Der(error),
+        }
+    }
+}
+
+impl From<FromHexError> for Refusal {
+    fn from(error: FromHexError) -> Refusal {
+        match error {
+            FromHexError::OutOfMemory => Refusal::Memory,
+            _ => Refusal::Unread,
+        }
+    }
+}
+
+impl From<AllocError> for Refusal {
+    fn from(_error: AllocError) -> Refusal {
+        Refusal::Memory
+    }
+}
+
+impl<T: Drop> From<AllocFailed<T>> for Refusal {
+    fn from(_error: AllocFailed<T>) -> Refusal {
+        Refusal::Memory
+    }
+}
+
+impl fmt::Display for Refusal {
+    fn fmt<W: fmt::Write>(&self, f: &mut fmt::Formatter<W>) -> fmt::Result {
+        match self {
+            Refusal::Unread => f.write_str("?"),
+            Refusal::Memory => f.write_str("memory"),
+            Refusal::Der(error) => write!(f, "refused {:?}", error.kind),
+        }
+    }
+}

@@ -1,0 +1,126 @@
+//! Questions and their answers.
+
+use crate::refusals::Refusal;
+use der_core::{Decode, DerOrd, Encode, SliceReader, from_der, to_der};
+use std::alloc::Global;
+use std::io::Write;
+use std::{io, str};
+use x509_cert_parts::{
+    AlgorithmIdentifier, AlgorithmIdentifierRef, Extension, Extensions, Raw, Rfc5280, SerialNumber,
+    SubjectPublicKeyInfo, SubjectPublicKeyInfoRef, Time, Validity, Version,
+};
+
+/// Writes the answer to a line.
+pub fn answer<W: Write>(alloc: Global, line: &[u8], out: &mut W) -> io::Result<()> {
+    if line.is_empty() || line.starts_with(b"#") {
+        out.write_all(line)?;
+        return out.write_all(b"\n");
+    }
+    match answer_of(alloc, line) {
+        Ok(text) => writeln!(out, "ok {text}"),
+        Err(refusal) => writeln!(out, "{refusal}"),
+    }
+}
+
+/// What is answered behind `ok`.
+fn answer_of(alloc: Global, line: &[u8]) -> Result<String, Refusal> {
+    let line = str::from_utf8(line)?;
+    let (word, rest) = line.split_once(' ').ok_or(Refusal::Unread)?;
+    let (kind, values) = rest.split_once(' ').ok_or(Refusal::Unread)?;
+    match word {
+        "der" => rewritten(alloc, kind, values),
+        "order" => order_of(alloc, kind, values),
+        "text" => text_of(alloc, kind, values),
+        "from" => made_of(alloc, kind, values),
+        _ => Err(Refusal::Unread),
+    }
+}
+
+/// What is written of the value of a type.
+fn rewritten(alloc: Global, kind: &str, octets: &str) -> Result<String, Refusal> {
+    let octets = hex::decode(alloc, octets.as_bytes())?;
+    let octets = octets.as_slice();
+    match kind {
+        "AlgorithmIdentifier" => written::<AlgorithmIdentifier>(alloc, octets),
+        "AlgorithmIdentifierRef" => written::<AlgorithmIdentifierRef>(alloc, octets),
+        "SubjectPublicKeyInfo" => written::<SubjectPublicKeyInfo>(alloc, octets),
+        "SubjectPublicKeyInfoRef" => written::<SubjectPublicKeyInfoRef>(alloc, octets),
+        "Version" => written::<Version>(alloc, octets),
+        "Extension" => written::<Extension>(alloc, octets),
+        "Extensions" => written::<Extensions>(alloc, octets),
+        "Time" => written::<Time>(alloc, octets),
+        "SerialNumber" => written::<SerialNumber<Raw>>(alloc, octets),
+        "SerialNumber/Rfc5280" => written::<SerialNumber<Rfc5280>>(alloc, octets),
+        "Validity" => written::<Validity<Raw>>(alloc, octets),
+        "Validity/Rfc5280" => written::<Validity<Rfc5280>>(alloc, octets),
+        _ => Err(Refusal::Unread),
+    }
+}
+
+/// What is written of the value that octets spell.
+fn written<'a, T: Decode<'a, SliceReader<'a>> + Encode + Drop>(
+    alloc: Global,
+    octets: &'a [u8],
+) -> Result<String, Refusal> {
+    let value: T = from_der(alloc, octets)?;
+    Ok(hex::encode(alloc, to_der(alloc, &value)?)?)
+}
+
+/// The order of two encodings of a type.
+fn order_of(alloc: Global, kind: &str, values: &str) -> Result<String, Refusal> {
+    let (first, second) = values.split_once(' ').ok_or(Refusal::Unread)?;
+    let first = hex::decode(alloc, first.as_bytes())?;
+    let second = hex::decode(alloc, second.as_bytes())?;
+    let (first, second) = (first.as_slice(), second.as_slice());
+    match kind {
+        "AlgorithmIdentifier" => compared::<AlgorithmIdentifier>(alloc, first, second),
+        "SubjectPublicKeyInfo" => compared::<SubjectPublicKeyInfo>(alloc, first, second),
+        "Version" => compared::<Version>(alloc, first, second),
+        "Extension" => compared::<Extension>(alloc, first, second),
+        "Time" => compared::<Time>(alloc, first, second),
+        "SerialNumber" => compared::<SerialNumber<Raw>>(alloc, first, second),
+        "Validity" => compared::<Validity<Raw>>(alloc, first, second),
+        "Validity/Rfc5280" => compared::<Validity<Rfc5280>>(alloc, first, second),
+        _ => Err(Refusal::Unread),
+    }
+}
+
+/// The order of the values that octets spell.
+fn compared<'a, T: Decode<'a, SliceReader<'a>> + DerOrd + Drop>(
+    alloc: Global,
+    first: &'a [u8],
+    second: &'a [u8],
+) -> Result<String, Refusal> {
+    let first: T = from_der(alloc, first)?;
+    let second: T = from_der(alloc, second)?;
+    let order = first.der_cmp(&second)?;
+    Ok(format!(in alloc; "{order:?}")?)
+}
+
+/// What the value prints that octets spell.
+fn text_of(alloc: Global, kind: &str, octets: &str) -> Result<String, Refusal> {
+    let octets = hex::decode(alloc, octets.as_bytes())?;
+    match kind {
+        "Time" => {
+            let time: Time = from_der(alloc, octets.as_slice())?;
+            Ok(time.to_string(alloc)?)
+        }
+        _ => Err(Refusal::Unread),
+    }
+}
+
+/// What is written of the value that a type makes of a text, or of octets.
+fn made_of(alloc: Global, kind: &str, text: &str) -> Result<String, Refusal> {
+    match kind {
+        "Time" => {
+            let time: Time = text.parse()?;
+            Ok(hex::encode(alloc, to_der(alloc, &time)?)?)
+        }
+        "SerialNumber" => {
+            let octets = hex::decode(alloc, text.as_bytes())?;
+            let serial = SerialNumber::<Rfc5280>::new(alloc, octets.as_slice())?;
+            Ok(hex::encode(alloc, to_der(alloc, &serial)?)?)
+        }
+        _ => Err(Refusal::Unread),
+    }
+}
