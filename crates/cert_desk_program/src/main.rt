@@ -8,6 +8,7 @@ use std::process::ExitCode;
 use std::{env, io};
 
 const DEVICE: &str = "device\n";
+
 const MEMORY: &str = "memory\n";
 
 fn main(rt: HostRuntime) -> ExitCode {

@@ -60,17 +60,17 @@ returns-in_err-header-clause-refused g c =
     let der = c.in_err-header.ensures.der in
     let ber = c.in_err-header.ensures.ber in
     let stands = λ (ready : old.failed ≡ false).
-        misses_by_rules Sequence old.source.encoding old.rest k (λ r. wanted_err Sequence head_at old.rest k (der.0 r ready)) (λ r. wanted_err Sequence head_ber_at old.rest k (ber.0 r ready)) in
+    misses_by_rules Sequence old.source.encoding old.rest k (λ r. wanted_err Sequence head_at old.rest k (der.0 r ready)) (λ r. wanted_err Sequence head_ber_at old.rest k (ber.0 r ready)) in
     rw (p.1, p.2) (elim (by_failed old.failed stands der.2) [
       | inl h ↦ inl h
       | inr h ↦ inr (elim h.1 [
-            | inl none ↦ inl (h.0, none)
-            | inr other ↦
-                let x = other.0 in
-                let mid : State = record old { rest = x.1 } in
-                let enters : Enters x.0.tag x.0.len old mid = record { ready = h.0; head = other.1; moved = refl } in
-                inr (inl ((x.0.tag, x.0.len, mid, enters, λ e. absurd (cc (other.2, ap (same_tag x.0.tag) (sym e), same_tag-refl x.0.tag))), other.3))
-          ])
+        | inl none ↦ inl (h.0, none)
+        | inr other ↦
+            let x = other.0 in
+            let mid : State = record old { rest = x.1 } in
+            let enters : Enters x.0.tag x.0.len old mid = record { ready = h.0; head = other.1; moved = refl } in
+            inr (inl ((x.0.tag, x.0.len, mid, enters, λ e. absurd (cc (other.2, ap (same_tag x.0.tag) (sym e), same_tag-refl x.0.tag))), other.3))
+      ])
     ])
 
 pub returns-in_err-value-clause-refused : goal.returns-in_err-value-clause-refused
