@@ -31,9 +31,6 @@ pub fn answer(alloc: Global, kind: &str, question: Question<'_>) -> Result<Strin
         "SequenceOf<SequenceOf<Small,1>,2>" => answer_with_contents::<
             SequenceOf<SequenceOf<Small, 1>, 2>,
         >(alloc, question),
-        "SetOfVec<SequenceOf<Small,2>>" => answer_of::<SetOfVec<SequenceOf<Small, 2>>>(
-            alloc, question,
-        ),
         "FewFields" => answer_with_contents::<Record<FewFields>>(alloc, question),
         "SetOfRef<Small>" => answer_of_lent(alloc, question),
         _ => Err(Refusal::Unread),
