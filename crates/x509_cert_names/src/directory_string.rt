@@ -27,9 +27,13 @@ use std::alloc::Global;
 /// ```
 #[derive(Debug, Drop, PartialEq, Eq)]
 pub enum DirectoryString {
+    /// Letters, digits, blanks and a few signs (X.680 41.4).
     PrintableString(PrintableString),
+    /// Octets below 128.
     TeletexString(TeletexString),
+    /// Any text: what RFC 5280 asks new certificates to use, beside PrintableString.
     Utf8String(String),
+    /// Characters of two octets each.
     BmpString(BmpString),
 }
 
