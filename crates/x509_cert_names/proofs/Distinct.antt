@@ -47,7 +47,8 @@ same_joined v w t u c d e k =
     both_alike : (m n : ℕ) → (nat_eq m m && nat_eq n n) ≡ true
     both_alike m n i = nat_eq_equiv.refl m i && nat_eq_equiv.refl n i
 
-same_octets : (a b : AttributeTypeAndValue) → same_pair a b ≡ true → encoded a ≡ encoded b
+-- equal ones have the same octets
+pub same_octets : (a b : AttributeTypeAndValue) → same_pair a b ≡ true → encoded a ≡ encoded b
 same_octets a b e =
     let first = pointwise nat_eq (identifier_octets a.oid) (identifier_octets b.oid) in
     let second = pointwise nat_eq (any_key a.value) (any_key b.value) in

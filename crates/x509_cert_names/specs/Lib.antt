@@ -3,3 +3,4 @@ pub mod Pairs
 pub mod Views
 pub mod DirectoryStrings
 pub mod AttributeTypes
+pub mod Ordered

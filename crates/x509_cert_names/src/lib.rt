@@ -11,6 +11,7 @@ mod name;
 mod name_iter;
 mod rdn_sequence;
 mod relative_distinguished_name;
+mod same_octets;
 
 pub use attribute::{Attribute, Attributes};
 pub use attribute_type_and_value::{AttributeType, AttributeTypeAndValue, AttributeValue};

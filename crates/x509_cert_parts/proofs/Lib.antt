@@ -1,2 +1,3 @@
 mod Respelled
 mod Versions
+mod SameOctets

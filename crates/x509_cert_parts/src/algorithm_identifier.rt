@@ -1,9 +1,9 @@
 //! AlgorithmIdentifier.
 
-ghost use Rattle.std.specs.Prelude.{◌≡◌, refl, IfOk};
+ghost use Rattle.std.specs.Prelude.{◌≡◌, true, refl, IfOk, IsTrue};
 ghost use Rattle.der_core_head.specs.declared.tag.Tag.TheVariants.{Sequence};
-ghost use Rattle.der_core_head.specs.Shapes.{nested};
-ghost use Rattle.x509_cert_parts.specs.Grammar.{algorithm_fields};
+ghost use Rattle.der_core_head.specs.Shapes.{nested, octets_of};
+ghost use Rattle.x509_cert_parts.specs.Grammar.{algorithm_fields, algorithm_identifier};
 ghost use Rattle.x509_cert_parts.specs.Views.{arc_bound, algorithm_plain, algorithm_lent};
 
 use crate::algorithm_identifier_ref::AlgorithmIdentifierRef;
@@ -50,6 +50,23 @@ impl AlgorithmIdentifier {
             oid: self.oid,
             parameters,
         })
+    }
+
+    /// Whether both have the same encoding, octet for octet, as the algorithm in the signed part of a certificate and the one
+    /// outside must (RFC 5280 4.1.1.2). It is known by identifier and parameters: no encoding is made.
+    pub fn has_octets_of(&self, other: &AlgorithmIdentifier) -> bool
+        ensures same { IsTrue result → octets_of (algorithm_identifier arc_bound) (algorithm_plain self.now)
+            ≡ octets_of (algorithm_identifier arc_bound) (algorithm_plain other.now) }
+        ensures differ { algorithm_plain self.now ≡ algorithm_plain other.now → result ≡ true }
+    {
+        if self.oid != other.oid {
+            return false;
+        }
+        match (&self.parameters, &other.parameters) {
+            (Some(parameters), Some(others)) => parameters == others,
+            (None, None) => true,
+            _ => false,
+        }
     }
 
     /// The same algorithm, lent.

@@ -1,0 +1,11 @@
+use Rattle.std.proofs.Common.{sym, ◌∙◌}
+use Rattle.x509_cert_names.proofs.SameOctets.{names_same, names_apart}
+use Rattle.x509_cert_names.proofs.name.Name.has_octets_of.Goals as goal
+
+pub returns-then-eq-clause-same : goal.returns-then-eq-clause-same
+returns-then-eq-clause-same c = λ t. names_same _ _ (sym c.eq.ensures ∙ c.if-eq.true)
+
+pub returns-clause-differ : goal.returns-clause-differ
+returns-clause-differ c = λ valid same.
+    sym c.if-eq.false ∙ c.eq.ensures
+    ∙ names_apart c.args.self.now.rdn_sequence.relative_names.items c.args.other.now.rdn_sequence.relative_names.items c.iter_rdn.result.left.now c.iter_rdn.ensures valid c.in_range.ensures c.in_order.ensures same
