@@ -130,10 +130,10 @@ all_rise (a ∷ []) d s v = tt
 all_rise (a ∷ b ∷ r) d s v =
     let apart : same_pair a b ≡ false = (IsDistinct-head same_pair a (b ∷ r) d).0 in
     let equal : octets_cmp (encoded a) (encoded b) ≡ Equal → ⊥ = λ e.
-        let one = (one_value (type_and_value arc_bound) 64 (pair_plain a) (pair_plain b) [] [] refl refl refl v.0 v.1.0
-            (ap (λ (w : List ℕ). w ++ []) (octets_cmp-equal (encoded a) (encoded b) e))).0 in
-        let same : same_pair a b ≡ true = pair_alike a b one in
-        absurd cc in
+    let one = (one_value (type_and_value arc_bound) 64 (pair_plain a) (pair_plain b) [] [] refl refl refl v.0 v.1.0
+    (ap (λ (w : List ℕ). w ++ []) (octets_cmp-equal (encoded a) (encoded b) e))).0 in
+    let same : same_pair a b ≡ true = pair_alike a b one in
+    absurd cc in
     (below (octets_cmp (encoded a) (encoded b)) (s.0 v.0 v.1.0) equal, all_rise (b ∷ r) (IsDistinct-tail same_pair a (b ∷ r) d) s.1 v.1)
 
 set_valid : (r : Pairs) → IsInRange (relative_name arc_bound) (relative_plain r) → IsOrdered r → Fits (set_encoded r) → IsValid (relative_name arc_bound) (relative_plain r)

@@ -1,0 +1,151 @@
+-- Certificates (RFC 5280 4.1). Each shape takes the bound of arcs and the greatest number of content octets of a serial number, if
+-- there is such a number.
+use Rattle.std.specs.Prelude.{ℕ, ℤ, List, [], length, Bool, false, Option, None}
+use Rattle.std.specs.Option.{option_map_or}
+use Rattle.der_core_head.specs.declared.tag.Tag.TheVariants as tags
+use Rattle.der_core_head.specs.BitStrings.{Bits}
+use Rattle.der_core_head.specs.Dates.{Civil}
+use Rattle.der_core_head.specs.Heads.{head_octets}
+use Rattle.der_core_head.specs.Leaves.{bits}
+use Rattle.der_core_head.specs.Shapes.{Shape, Body, Value, tagged, leaf, optional, field, done, sequence, explicit, octets_of, body_octets}
+use Rattle.der_core_head.specs.Tags.{context}
+use Rattle.x509_cert_names.specs.Names.{PlainName, name}
+use Rattle.x509_cert_parts.specs.Grammar.{Algorithm, PublicKey, PlainValidity, PlainExtension, bit_string, algorithm_identifier, public_key_info, version_field, serial_number, validity, extensions, civil_of}
+use Rattle.x509_cert_parts.specs.Grammar as parts
+use Rattle.x509_cert_parts.specs.Respelling.{validity_by}
+
+-- UniqueIdentifier ::= BIT STRING, behind an implicit tag (4.1.2.8)
+abbrev pub unique_identifier : ℕ → Shape
+unique_identifier n = tagged (context false n) (leaf bits)
+
+-- TBSCertificate ::= SEQUENCE { version [0] EXPLICIT Version DEFAULT v1, serialNumber, signature, issuer, validity, subject,
+--     subjectPublicKeyInfo, issuerUniqueID [1] IMPLICIT OPTIONAL, subjectUniqueID [2] IMPLICIT OPTIONAL,
+--     extensions [3] EXPLICIT Extensions OPTIONAL }
+abbrev pub identity_fields : ℕ → Body → Body
+identity_fields bound behind = field (name bound) (field validity (field (name bound) (field (public_key_info bound) behind)))
+
+abbrev pub optional_fields : ℕ → Body
+optional_fields bound =
+    field (optional (unique_identifier 1)) (field (optional (unique_identifier 2)) (field (optional (explicit 3 (extensions bound))) done))
+
+abbrev pub tbs_fields : ℕ → Option ℕ → Body
+tbs_fields bound limit =
+    field version_field (field (serial_number limit) (field (algorithm_identifier bound) (identity_fields bound (optional_fields bound))))
+
+abbrev pub tbs_certificate : ℕ → Option ℕ → Shape
+tbs_certificate bound limit = sequence (tbs_fields bound limit)
+
+-- Certificate ::= SEQUENCE { tbsCertificate TBSCertificate, signatureAlgorithm AlgorithmIdentifier, signatureValue BIT STRING }
+abbrev pub certificate_fields : ℕ → Option ℕ → Body
+certificate_fields bound limit = field (tbs_certificate bound limit) (field (algorithm_identifier bound) (field bit_string done))
+
+abbrev pub certificate : ℕ → Option ℕ → Shape
+certificate bound limit = sequence (certificate_fields bound limit)
+
+-- as they are read under `Raw`, which reads serial numbers of any number of octets
+abbrev pub raw_tbs_fields : ℕ → Body
+raw_tbs_fields bound = tbs_fields bound None
+
+abbrev pub raw_tbs_certificate : ℕ → Shape
+raw_tbs_certificate bound = tbs_certificate bound None
+
+abbrev pub raw_certificate_fields : ℕ → Body
+raw_certificate_fields bound = certificate_fields bound None
+
+abbrev pub raw_certificate : ℕ → Shape
+raw_certificate bound = certificate bound None
+
+-- Plain values. Neither the bound nor the profile changes what they are.
+abbrev pub Tbs : Type 0
+Tbs = Value (tbs_certificate 0 None)
+
+abbrev pub PlainCertificate : Type 0
+PlainCertificate = Value (certificate 0 None)
+
+-- parts of a signed part
+abbrev pub tbs_version : Tbs → ℤ
+tbs_version t = t.0
+
+abbrev pub tbs_serial : Tbs → ℤ
+tbs_serial t = t.1.0
+
+abbrev pub tbs_inner_algorithm : Tbs → Algorithm
+tbs_inner_algorithm t = t.1.1.0
+
+abbrev pub tbs_issuer : Tbs → PlainName
+tbs_issuer t = t.1.1.1.0
+
+abbrev pub tbs_validity : Tbs → PlainValidity
+tbs_validity t = t.1.1.1.1.0
+
+abbrev pub tbs_subject : Tbs → PlainName
+tbs_subject t = t.1.1.1.1.1.0
+
+abbrev pub tbs_public_key : Tbs → PublicKey
+tbs_public_key t = t.1.1.1.1.1.1.0
+
+abbrev pub tbs_issuer_unique_id : Tbs → Option Bits
+tbs_issuer_unique_id t = t.1.1.1.1.1.1.1.0
+
+abbrev pub tbs_subject_unique_id : Tbs → Option Bits
+tbs_subject_unique_id t = t.1.1.1.1.1.1.1.1.0
+
+abbrev pub tbs_extensions : Tbs → Option (List PlainExtension)
+tbs_extensions t = t.1.1.1.1.1.1.1.1.1.0
+
+abbrev pub tbs_not_before : Tbs → Civil
+tbs_not_before t = civil_of (parts.not_before (tbs_validity t))
+
+abbrev pub tbs_not_after : Tbs → Civil
+tbs_not_after t = civil_of (parts.not_after (tbs_validity t))
+
+-- parts of a certificate
+abbrev pub tbs : PlainCertificate → Tbs
+tbs c = c.0
+
+-- the outer algorithm and the signature's bits
+abbrev pub outer_algorithm : PlainCertificate → Algorithm
+outer_algorithm c = c.1.0
+
+abbrev pub signature_bits : PlainCertificate → Bits
+signature_bits c = c.1.1.0
+
+abbrev pub inner_algorithm : PlainCertificate → Algorithm
+inner_algorithm c = tbs_inner_algorithm (tbs c)
+
+abbrev pub issuer : PlainCertificate → PlainName
+issuer c = tbs_issuer (tbs c)
+
+abbrev pub not_before : PlainCertificate → Civil
+not_before c = tbs_not_before (tbs c)
+
+abbrev pub not_after : PlainCertificate → Civil
+not_after c = tbs_not_after (tbs c)
+
+abbrev pub subject : PlainCertificate → PlainName
+subject c = tbs_subject (tbs c)
+
+abbrev pub public_key : PlainCertificate → PublicKey
+public_key c = tbs_public_key (tbs c)
+
+-- none where the field is absent
+abbrev pub extensions_of : PlainCertificate → List PlainExtension
+extensions_of c = option_map_or (λ es. es) (tbs_extensions (tbs c)) []
+
+-- the octets of a certificate, of whatever profile
+abbrev pub certificate_octets : ℕ → PlainCertificate → List ℕ
+certificate_octets bound c = octets_of (raw_certificate bound) c
+
+-- The place of the signed part in them (4.1.1.3): it stands behind the outer header.
+unfoldable pub signed_start : ℕ → PlainCertificate → ℕ
+signed_start bound c = length (head_octets tags.Sequence (length (body_octets (raw_certificate_fields bound) c)))
+
+unfoldable pub signed_length : ℕ → PlainCertificate → ℕ
+signed_length bound c = length (octets_of (raw_tbs_certificate bound) (tbs c))
+
+-- where the dates of the validity are respelled, or not
+abbrev pub tbs_by : Bool → Tbs → Tbs
+tbs_by r t = (t.0, (t.1.0, (t.1.1.0, (t.1.1.1.0, (validity_by r (tbs_validity t), t.1.1.1.1.1)))))
+
+abbrev pub certificate_by : Bool → PlainCertificate → PlainCertificate
+certificate_by r c = (tbs_by r (tbs c), c.1)

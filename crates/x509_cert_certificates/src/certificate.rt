@@ -1,0 +1,160 @@
+//! Certificates.
+
+ghost use Rattle.std.specs.Prelude.{◌≡◌, ◌≢◌, [], refl, IfOk, IfErr};
+ghost use Rattle.der_core_head.specs.declared.error.ErrorKind.TheVariants.{OutOfMemory};
+ghost use Rattle.der_core_head.specs.declared.tag.Tag.TheVariants.{Sequence};
+ghost use Rattle.der_core_head.specs.Grammar.{whole_at};
+ghost use Rattle.der_core_head.specs.Reading.{Gives};
+ghost use Rattle.der_core_head.specs.Shapes.{nested, Spells};
+ghost use Rattle.x509_cert_parts.specs.Views.{arc_bound, algorithm_plain};
+ghost use Rattle.x509_cert_certificates.specs.Certificates.{PlainCertificate, certificate, certificate_fields, certificate_by, tbs, outer_algorithm, signature_bits};
+ghost use Rattle.x509_cert_certificates.specs.Views.{certificate_plain, tbs_plain};
+
+use crate::tbs_certificate::TbsCertificateInner;
+use der_core::making::read_fields;
+use der_core::{
+    ApartValue, DecodeFields, DecodeValue, EncodeFields, EncodeRef, EncodeValue, Error, Fields,
+    FixedTag, Header, Length, Reader, ShapedValue, Tag, Writer, from_der,
+};
+use der_types_values::BitString;
+use std::alloc::Global;
+use x509_cert_parts::{AlgorithmIdentifier, Profile, Rfc5280};
+
+/// A certificate (RFC 5280 4.1).
+///
+/// ```text
+/// Certificate ::= SEQUENCE {
+///     tbsCertificate      TBSCertificate,
+///     signatureAlgorithm  AlgorithmIdentifier,
+///     signatureValue      BIT STRING }
+/// ```
+#[derive(Drop)]
+#[derive_where(Clone, Debug, PartialEq, Eq)]
+pub struct CertificateInner<P> {
+    tbs_certificate: TbsCertificateInner<P>,
+    signature_algorithm: AlgorithmIdentifier,
+    signature: BitString,
+}
+
+/// A certificate by the profile of RFC 5280.
+pub type Certificate = CertificateInner<Rfc5280>;
+
+type Row<P> = (
+    TbsCertificateInner<P>,
+    (AlgorithmIdentifier, (BitString, ())),
+);
+
+impl<P> FixedTag for CertificateInner<P> {
+    ghost fixed_tag = { Sequence };
+
+    fn tag() -> Tag {
+        Tag::Sequence
+    }
+}
+
+impl<P: Profile> Fields for CertificateInner<P> {
+    ghost fields = { certificate_fields arc_bound P.serial_limit };
+
+    ghost fields_plain = { certificate_plain };
+
+    ghost fields_written = { λ c. certificate_by P.respells (certificate_plain c) };
+}
+
+impl<'a, R: Reader<'a>, P: Profile> DecodeFields<'a, R> for CertificateInner<P> {
+    fn decode_fields(alloc: Global, reader: &mut R) -> Result<CertificateInner<P>, Error> {
+        let (tbs_certificate, (signature_algorithm, (signature, ()))) = <Row<P>>::decode_fields(
+            alloc, reader,
+        )?;
+        Ok(CertificateInner {
+            tbs_certificate,
+            signature_algorithm,
+            signature,
+        })
+    }
+}
+
+impl<P: Profile> ShapedValue for CertificateInner<P> {
+    ghost content = { nested (certificate_fields arc_bound P.serial_limit) };
+
+    ghost value_plain = { certificate_plain };
+
+    ghost value_written = { λ c. certificate_by P.respells (certificate_plain c) };
+}
+
+impl<'a, R: Reader<'a>, P: Profile> DecodeValue<'a, R> for CertificateInner<P> {
+    fn decode_value(
+        alloc: Global,
+        reader: &mut R,
+        header: Header,
+    ) -> Result<CertificateInner<P>, Error> {
+        read_fields(alloc, reader, header)
+    }
+}
+
+impl<P: Profile> EncodeValue for CertificateInner<P> {
+    fn value_len(&self) -> Result<Length, Error> {
+        let row = (
+            EncodeRef(&self.tbs_certificate),
+            (
+                EncodeRef(&self.signature_algorithm),
+                (EncodeRef(&self.signature), ()),
+            ),
+        );
+        row.fields_len()
+    }
+
+    fn encode_value<W: Writer>(&self, writer: &mut W) -> Result<(), Error> {
+        let row = (
+            EncodeRef(&self.tbs_certificate),
+            (
+                EncodeRef(&self.signature_algorithm),
+                (EncodeRef(&self.signature), ()),
+            ),
+        );
+        row.encode_fields(writer)
+    }
+}
+
+impl<P: Profile> ApartValue for CertificateInner<P> {
+    ghost apart_value = { refl };
+}
+
+impl<P: Profile> CertificateInner<P> {
+    /// Reads a certificate, all of the octets.
+    ///
+    /// # Errors
+    /// The first fault from the left, or `OutOfMemory`.
+    pub fn from_der(alloc: Global, bytes: &[u8]) -> Result<CertificateInner<P>, Error>
+        // What is read is spelled so.
+        ensures spelled { IfOk result (λ c. Spells (certificate arc_bound P.serial_limit) (certificate_plain c) bytes.now) }
+        // What is refused for another reason than want of memory is spelled by no certificate.
+        ensures refused { IfErr result (λ e. e.kind ≢ OutOfMemory → (c : PlainCertificate) → Spells (certificate arc_bound P.serial_limit) c bytes.now → ⊥) }
+        // Which fault it is.
+        ensures exact { Gives (λ c. (certificate_plain c, [])) result (whole_at (certificate arc_bound P.serial_limit) bytes.now) }
+    {
+        from_der(alloc, bytes)
+    }
+}
+
+impl<P> CertificateInner<P> {
+    /// The part that is signed.
+    pub fn tbs_certificate(&self) -> &TbsCertificateInner<P>
+        ensures { tbs_plain result.now ≡ tbs (certificate_plain self.now) }
+    {
+        &self.tbs_certificate
+    }
+
+    /// The algorithm of the signature.
+    pub fn signature_algorithm(&self) -> &AlgorithmIdentifier
+        ensures { algorithm_plain result.now ≡ outer_algorithm (certificate_plain self.now) }
+    {
+        &self.signature_algorithm
+    }
+
+    /// The signature.
+    pub fn signature(&self) -> &BitString
+        ensures { result.now ≡ signature_bits (certificate_plain self.now) }
+    {
+        &self.signature
+    }
+}

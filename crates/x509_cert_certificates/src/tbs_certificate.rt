@@ -1,0 +1,309 @@
+//! The signed part of a certificate.
+
+ghost use Rattle.std.specs.Prelude.{◌≡◌, refl};
+ghost use Rattle.der_core_head.specs.declared.tag.Tag.TheVariants.{Sequence};
+ghost use Rattle.der_core_head.specs.Grammar.{plain_option};
+ghost use Rattle.der_core_head.specs.Shapes.{nested};
+ghost use Rattle.x509_cert_names.specs.Views.{name_plain};
+ghost use Rattle.x509_cert_parts.specs.Views.{arc_bound, version_number, validity_plain, algorithm_plain, key_plain, extensions_plain};
+ghost use Rattle.x509_cert_certificates.specs.Certificates.{tbs_fields, tbs_by, tbs_version, tbs_serial, tbs_inner_algorithm, tbs_issuer, tbs_validity, tbs_subject, tbs_public_key, tbs_issuer_unique_id, tbs_subject_unique_id, tbs_extensions};
+ghost use Rattle.x509_cert_certificates.specs.Views.{tbs_plain};
+
+use crate::unique_identifier_ref::UniqueIdentifierRef;
+use crate::version_field::VersionField;
+use der_core::making::read_fields;
+use der_core::{
+    ApartValue, DecodeFields, DecodeValue, EncodeFields, EncodeRef, EncodeValue, Error, Explicit,
+    Fields, FixedTag, Header, Implicit, Length, Reader, ShapedValue, Tag, WithDefault, Writer,
+};
+use der_types_values::BitString;
+use std::alloc::Global;
+use x509_cert_names::Name;
+use x509_cert_parts::{
+    AlgorithmIdentifier, Extensions, Profile, Rfc5280, SerialNumber, SubjectPublicKeyInfo,
+    Validity, Version,
+};
+
+/// The part of a certificate that is signed (RFC 5280 4.1.2). Any version is read beside any fields, and a list of no extensions.
+///
+/// ```text
+/// TBSCertificate ::= SEQUENCE {
+///     version               [0] EXPLICIT Version DEFAULT v1,
+///     serialNumber          CertificateSerialNumber,
+///     signature             AlgorithmIdentifier,
+///     issuer                Name,
+///     validity              Validity,
+///     subject               Name,
+///     subjectPublicKeyInfo  SubjectPublicKeyInfo,
+///     issuerUniqueID        [1] IMPLICIT UniqueIdentifier OPTIONAL,
+///     subjectUniqueID       [2] IMPLICIT UniqueIdentifier OPTIONAL,
+///     extensions            [3] EXPLICIT Extensions OPTIONAL }
+/// ```
+#[derive(Drop)]
+#[derive_where(Clone, Debug, PartialEq, Eq)]
+pub struct TbsCertificateInner<P> {
+    version: Version,
+    serial_number: SerialNumber<P>,
+    signature: AlgorithmIdentifier,
+    issuer: Name,
+    validity: Validity<P>,
+    subject: Name,
+    subject_public_key_info: SubjectPublicKeyInfo,
+    issuer_unique_id: Option<BitString>,
+    subject_unique_id: Option<BitString>,
+    extensions: Option<Extensions>,
+}
+
+/// The signed part by the profile of RFC 5280.
+pub type TbsCertificate = TbsCertificateInner<Rfc5280>;
+
+type Row<P> = (
+    WithDefault<VersionField>,
+    (SerialNumber<P>, (AlgorithmIdentifier, (Name, Behind<P>))),
+);
+
+/// The fields from the validity on.
+type Behind<P> = (Validity<P>, (Name, (SubjectPublicKeyInfo, Last)));
+
+/// The fields that may be absent at the end.
+type Last = (
+    Option<Implicit<BitString, 1>>,
+    (
+        Option<Implicit<BitString, 2>>,
+        (Option<Explicit<Extensions, 3>>, ()),
+    ),
+);
+
+impl<P> FixedTag for TbsCertificateInner<P> {
+    ghost fixed_tag = { Sequence };
+
+    fn tag() -> Tag {
+        Tag::Sequence
+    }
+}
+
+impl<P: Profile> Fields for TbsCertificateInner<P> {
+    ghost fields = { tbs_fields arc_bound P.serial_limit };
+
+    ghost fields_plain = { tbs_plain };
+
+    ghost fields_written = { λ t. tbs_by P.respells (tbs_plain t) };
+}
+
+impl<'a, R: Reader<'a>, P: Profile> DecodeFields<'a, R> for TbsCertificateInner<P> {
+    fn decode_fields(alloc: Global, reader: &mut R) -> Result<TbsCertificateInner<P>, Error> {
+        let (version, (serial_number, (signature, (issuer, behind)))) = <Row<P>>::decode_fields(
+            alloc, reader,
+        )?;
+        let (validity, (subject, (subject_public_key_info, last))) = behind;
+        let (issuer_unique_id, (subject_unique_id, (extensions, ()))) = last;
+        Ok(TbsCertificateInner {
+            version: version.value.version,
+            serial_number,
+            signature,
+            issuer,
+            validity,
+            subject,
+            subject_public_key_info,
+            issuer_unique_id: bits_of(issuer_unique_id),
+            subject_unique_id: bits_of(subject_unique_id),
+            extensions: extensions_of(extensions),
+        })
+    }
+}
+
+/// The bits behind a tag.
+fn bits_of<const N: u32>(field: Option<Implicit<BitString, N>>) -> Option<BitString>
+    ensures { result ≡ plain_option (λ f. f.value) field.entry }
+{
+    match field {
+        Some(field) => Some(field.value),
+        None => None,
+    }
+}
+
+/// The extensions behind a tag.
+fn extensions_of(field: Option<Explicit<Extensions, 3>>) -> Option<Extensions>
+    ensures { result ≡ plain_option (λ f. f.value) field }
+{
+    match field {
+        Some(field) => Some(field.value),
+        None => None,
+    }
+}
+
+impl<P: Profile> ShapedValue for TbsCertificateInner<P> {
+    ghost content = { nested (tbs_fields arc_bound P.serial_limit) };
+
+    ghost value_plain = { tbs_plain };
+
+    ghost value_written = { λ t. tbs_by P.respells (tbs_plain t) };
+}
+
+impl<'a, R: Reader<'a>, P: Profile> DecodeValue<'a, R> for TbsCertificateInner<P> {
+    fn decode_value(
+        alloc: Global,
+        reader: &mut R,
+        header: Header,
+    ) -> Result<TbsCertificateInner<P>, Error> {
+        read_fields(alloc, reader, header)
+    }
+}
+
+/// The bits, behind a tag.
+fn lent<'a, const N: u32>(bits: &'a Option<BitString>) -> Option<UniqueIdentifierRef<'a, N>>
+    ensures { plain_option (λ r. r.bits.now) result ≡ bits.now }
+{
+    match bits {
+        Some(bits) => Some(UniqueIdentifierRef { bits }),
+        None => None,
+    }
+}
+
+/// The extensions, behind a tag.
+fn lent_extensions<'a>(
+    extensions: &'a Option<Extensions>,
+) -> Option<Explicit<EncodeRef<'a, Extensions>, 3>>
+    ensures { plain_option (λ f. extensions_plain f.value.0.now.items) result ≡ plain_option (λ e. extensions_plain e.items) extensions.now }
+{
+    match extensions {
+        Some(extensions) => Some(Explicit {
+            value: EncodeRef(extensions),
+        }),
+        None => None,
+    }
+}
+
+impl<P: Profile> EncodeValue for TbsCertificateInner<P> {
+    fn value_len(&self) -> Result<Length, Error> {
+        let version = WithDefault {
+            value: VersionField {
+                version: self.version,
+            },
+        };
+        let last = (
+            lent::<1>(&self.issuer_unique_id),
+            (
+                lent::<2>(&self.subject_unique_id),
+                (lent_extensions(&self.extensions), ()),
+            ),
+        );
+        let behind = (
+            EncodeRef(&self.validity),
+            (
+                EncodeRef(&self.subject),
+                (EncodeRef(&self.subject_public_key_info), last),
+            ),
+        );
+        let first = (
+            EncodeRef(&self.signature),
+            (EncodeRef(&self.issuer), behind),
+        );
+        let row = (version, (EncodeRef(&self.serial_number), first));
+        row.fields_len()
+    }
+
+    fn encode_value<W: Writer>(&self, writer: &mut W) -> Result<(), Error> {
+        let version = WithDefault {
+            value: VersionField {
+                version: self.version,
+            },
+        };
+        let last = (
+            lent::<1>(&self.issuer_unique_id),
+            (
+                lent::<2>(&self.subject_unique_id),
+                (lent_extensions(&self.extensions), ()),
+            ),
+        );
+        let behind = (
+            EncodeRef(&self.validity),
+            (
+                EncodeRef(&self.subject),
+                (EncodeRef(&self.subject_public_key_info), last),
+            ),
+        );
+        let first = (
+            EncodeRef(&self.signature),
+            (EncodeRef(&self.issuer), behind),
+        );
+        let row = (version, (EncodeRef(&self.serial_number), first));
+        row.encode_fields(writer)
+    }
+}
+
+impl<P: Profile> ApartValue for TbsCertificateInner<P> {
+    ghost apart_value = { refl };
+}
+
+impl<P> TbsCertificateInner<P> {
+    /// Its version.
+    pub fn version(&self) -> Version
+        ensures { version_number result ≡ tbs_version (tbs_plain self.now) }
+    {
+        self.version
+    }
+
+    /// The number that its issuer gave it.
+    pub fn serial_number(&self) -> &SerialNumber<P>
+        ensures { result.now ≡ tbs_serial (tbs_plain self.now) }
+    {
+        &self.serial_number
+    }
+
+    /// The algorithm of the signature, as it is signed.
+    pub fn signature(&self) -> &AlgorithmIdentifier
+        ensures { algorithm_plain result.now ≡ tbs_inner_algorithm (tbs_plain self.now) }
+    {
+        &self.signature
+    }
+
+    /// Who signed the certificate.
+    pub fn issuer(&self) -> &Name
+        ensures { name_plain result.now ≡ tbs_issuer (tbs_plain self.now) }
+    {
+        &self.issuer
+    }
+
+    /// From when until when it is valid.
+    pub fn validity(&self) -> &Validity<P>
+        ensures { validity_plain result.now ≡ tbs_validity (tbs_plain self.now) }
+    {
+        &self.validity
+    }
+
+    /// Whose key it certifies.
+    pub fn subject(&self) -> &Name
+        ensures { name_plain result.now ≡ tbs_subject (tbs_plain self.now) }
+    {
+        &self.subject
+    }
+
+    /// The key that it certifies.
+    pub fn subject_public_key_info(&self) -> &SubjectPublicKeyInfo
+        ensures { key_plain result.now ≡ tbs_public_key (tbs_plain self.now) }
+    {
+        &self.subject_public_key_info
+    }
+
+    /// What tells issuers of one name apart (RFC 5280 4.1.2.8).
+    pub fn issuer_unique_id(&self) -> Option<&BitString>
+        ensures { plain_option (λ r. r.now) result ≡ tbs_issuer_unique_id (tbs_plain self.now) }
+    {
+        self.issuer_unique_id.as_ref()
+    }
+
+    /// What tells subjects of one name apart (RFC 5280 4.1.2.8).
+    pub fn subject_unique_id(&self) -> Option<&BitString>
+        ensures { plain_option (λ r. r.now) result ≡ tbs_subject_unique_id (tbs_plain self.now) }
+    {
+        self.subject_unique_id.as_ref()
+    }
+
+    /// The extensions, in their order (RFC 5280 4.2).
+    pub fn extensions(&self) -> Option<&Extensions>
+        ensures { plain_option (λ r. extensions_plain r.now.items) result ≡ tbs_extensions (tbs_plain self.now) }
+    {
+        self.extensions.as_ref()
+    }
+}
