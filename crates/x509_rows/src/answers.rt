@@ -5,6 +5,7 @@ use der_core::{Decode, DerOrd, Encode, SliceReader, from_der, to_der};
 use std::alloc::Global;
 use std::io::Write;
 use std::{io, str};
+use x509_cert_certificates::{CertificateInner, TbsCertificateInner};
 use x509_cert_parts::{
     AlgorithmIdentifier, AlgorithmIdentifierRef, Extension, Extensions, Raw, Rfc5280, SerialNumber,
     SubjectPublicKeyInfo, SubjectPublicKeyInfoRef, Time, Validity, Version,
@@ -53,6 +54,10 @@ fn rewritten(alloc: Global, kind: &str, octets: &str) -> Result<String, Refusal>
         "SerialNumber/Rfc5280" => written::<SerialNumber<Rfc5280>>(alloc, octets),
         "Validity" => written::<Validity<Raw>>(alloc, octets),
         "Validity/Rfc5280" => written::<Validity<Rfc5280>>(alloc, octets),
+        "TbsCertificate" => written::<TbsCertificateInner<Raw>>(alloc, octets),
+        "TbsCertificate/Rfc5280" => written::<TbsCertificateInner<Rfc5280>>(alloc, octets),
+        "Certificate" => written::<CertificateInner<Raw>>(alloc, octets),
+        "Certificate/Rfc5280" => written::<CertificateInner<Rfc5280>>(alloc, octets),
         _ => Err(Refusal::Unread),
     }
 }

@@ -1,4 +1,4 @@
-//! Answers questions about the parts of certificates: a line of standard input each, a line of standard output for each.
+//! Answers questions about certificates and their parts: a line of standard input each, a line of standard output for each.
 //!
 //! | Question | Answer |
 //! |---|---|
