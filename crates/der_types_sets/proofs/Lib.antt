@@ -12,3 +12,4 @@ pub mod LentOrders
 pub mod LentRanges
 pub mod ViewSteps
 pub mod ItemSteps
+pub mod Arranged

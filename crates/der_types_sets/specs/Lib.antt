@@ -2,3 +2,4 @@ pub mod Sets
 pub mod Lends
 pub mod Level
 pub mod Lent
+pub mod Rearranged

@@ -131,7 +131,7 @@ impl<'a, T: Decode<'a, SliceReader<'a>> + Member> SetOfRef<'a, T> {
 
 impl<'a, T: Decode<'a, SliceReader<'a>> + Member + Clone> SetOfRef<'a, T> {
     /// The member at an index, if there is one, read or copied. A copy has the plain value of what
-    /// it is a copy of.
+    /// it is a copy of. Of the members before it none is copied.
     ///
     /// # Errors
     /// `OutOfMemory`.
@@ -140,6 +140,13 @@ impl<'a, T: Decode<'a, SliceReader<'a>> + Member + Clone> SetOfRef<'a, T> {
         ensures ok { IfOk result (λ member. plain_option T.plain member ≡ slice_get (members_lent T.shape T.plain self.now) index) }
         ensures refused { IfErr result IsWantOfMemory }
     {
+        if self.count == 0 {
+            let Some(value) = self.values.get(index) else {
+                return Ok(None);
+            };
+            let value = value.clone()?;
+            return Ok(Some(value));
+        }
         let mut left = self.iter(alloc);
         for _ in 0..index {
             let Some(member) = left.next() else {
