@@ -1,9 +1,9 @@
 -- Members in another order, in which equal ones keep theirs.
 use Rattle.std.proofs.Common.{◌≡◌, ℕ, ◌+◌, ◌-◌, ◌*◌, ◌<◌, ◌≤◌, zero, suc, cond, Option, Some, None, Bool, true, false, List, [], ◌∷◌, ◌++◌, length, get_or, set, take, drop, refl, ap, sym, subst, ◌∙◌, arith, ◌⊎◌, inl, inr}
-use Rattle.std.specs.Prelude.{◌≢◌, map, bytes_eq, not, ◌&&◌, flat_map}
-use Rattle.std.specs.List.{filter, insert, swap, range_with_len, AllAdjacentBelow}
+use Rattle.std.specs.Prelude.{◌≢◌, map, bytes_eq, not, ◌&&◌}
+use Rattle.std.specs.List.{filter, insert, swap, range_with_len}
 use Rattle.std.specs.List.Sorted.{IsPermutation, IsStableBy, ties}
-use Rattle.std.specs.Ordering.{is_eq, is_lt, ordering_reverse, nat_cmp}
+use Rattle.std.specs.Ordering.{is_eq, is_lt, ordering_reverse}
 use Rattle.std.specs.declared.cmp.Ordering.{Ordering}
 use Rattle.std.specs.declared.cmp.Ordering.TheVariants.{Less, Equal, Greater}
 use Rattle.std.specs.Cmp.Lexicographic.{nat_list_cmp_total}
@@ -21,7 +21,7 @@ use Rattle.der_core_head.specs.declared.error.Error.{Error}
 use Rattle.der_core_head.specs.declared.error.ErrorKind.TheVariants as kinds
 use Rattle.der_core_head.specs.Shapes.{Shape, Value, IsValid, octets_of}
 use Rattle.der_core.specs.Orders.{octets_cmp}
-use Rattle.der_types_sets.specs.Sets.{Ascends, NotAbove, AllValid, IsPlace, KeepsEquals, IsArranged, StopsBehind, StopsIn, TooLong, IsOutOfOrder}
+use Rattle.der_types_sets.specs.Sets.{Ascends, NotAbove, AllValid, IsPlace, IsArranged, StopsBehind, StopsIn, TooLong, IsOutOfOrder}
 use Rattle.der_types_sets.specs.Rearranged.{member_at, members_at, AscendsAt, encoding_at, KeepsPlaces}
 use Rattle.der_types_sets.proofs.Arrangements.{less_on, turned}
 use Rattle.der_types_sets.proofs.SetSteps.{last_is, valid_at}

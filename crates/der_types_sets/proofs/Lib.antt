@@ -1,5 +1,5 @@
 pub mod SetSteps
-pub mod LevelSteps
+pub mod AscendingSteps
 pub mod LentSteps
 pub mod LooseSteps
 pub mod FewSteps

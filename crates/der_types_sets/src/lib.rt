@@ -3,11 +3,11 @@
 
 mod any_few;
 mod any_order;
+mod ascending;
 mod in_range;
 mod iter;
 mod joined;
 pub mod laws;
-mod level;
 pub mod making;
 mod members;
 mod places;

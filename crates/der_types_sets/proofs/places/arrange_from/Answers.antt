@@ -1,5 +1,5 @@
 use Rattle.std.proofs.Common.{◌<◌, length, arith, take, refl}
-use Rattle.std.proofs.lemmas.List.Sorted.{IsPermutation-refl, IsPermutation-trans, length_permutation}
+use Rattle.std.proofs.lemmas.List.Sorted.{IsPermutation-refl, IsPermutation-trans}
 use Rattle.der_types_sets.proofs.SetSteps.{moved_up, front_ascends, last_is}
 use Rattle.der_types_sets.proofs.Arranged.{arranged-refl, arranged_more, behind_more, arranged_whole, stops_behind}
 use Rattle.der_types_sets.proofs.places.arrange_from.Goals as goal

@@ -1,4 +1,4 @@
-use Rattle.std.proofs.Common.{arith, rules, length, ◌<◌}
+use Rattle.std.proofs.Common.{arith, rules}
 use Rattle.der_types_sets.proofs.SetSteps.{told}
 use Rattle.der_types_sets.proofs.Arranged.{ascend_more}
 use Rattle.der_types_sets.proofs.sorting.ascend_at.Goals as goal

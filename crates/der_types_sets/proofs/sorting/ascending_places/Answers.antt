@@ -6,7 +6,7 @@ use Rattle.der_core.specs.Orders.{octets_cmp}
 use Rattle.std.specs.Cmp.Lexicographic.{nat_list_cmp_total}
 use Rattle.std.proofs.lemmas.List.Sorted.{ranks_by}
 use Rattle.std.proofs.lemmas.Fn.{always_returns_same}
-use Rattle.der_types_sets.specs.Rearranged.{encoding_at, KeepsPlaces}
+use Rattle.der_types_sets.specs.Rearranged.{encoding_at}
 use Rattle.der_types_sets.proofs.sorting.ascending_places.Goals as goal
 
 pub returns-then-ascend_at-clause-equals : goal.returns-then-ascend_at-clause-equals

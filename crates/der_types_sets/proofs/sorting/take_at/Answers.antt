@@ -1,9 +1,9 @@
-use Rattle.std.proofs.Common.{ℕ, [], arith, rules, length, ◌<◌, ◌≡◌, List, Option, None, Some, get_or, set, take, map, refl, ap, sym, subst, ◌∙◌}
+use Rattle.std.proofs.Common.{ℕ, arith, rules, length, ◌<◌, ◌≡◌, List, None, Some, get_or, set, refl, ap, sym, ◌∙◌}
 use Rattle.std.specs.List.{range_with_len}
 use Rattle.std.specs.List.Sorted.{IsPermutation}
-use Rattle.std.proofs.lemmas.List.{length-append, length-map, length-set, get_or_default, take_all}
+use Rattle.std.proofs.lemmas.List.{length-set, get_or_default, take_all}
 use Rattle.der_types_sets.specs.Rearranged.{members_at}
-use Rattle.der_types_sets.proofs.Arranged.{places_below, offset_fits, all_apart, untaken_here, untaken_more, taken_more, still_long, as_many}
+use Rattle.der_types_sets.proofs.Arranged.{places_below, offset_fits, all_apart, untaken_here, untaken_more, taken_more, as_many}
 use Rattle.der_types_sets.proofs.sorting.take_at.Goals as goal
 
 pub loop-count-init : goal.loop-count-init

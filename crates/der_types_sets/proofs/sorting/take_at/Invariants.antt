@@ -1,6 +1,5 @@
-use Rattle.std.proofs.Common.{◌≡◌, ◌≤◌, ◌<◌, ◌-◌, ◌+◌, ℕ, List, length, map, take, get_or, Some, None}
-use Rattle.std.specs.Prelude.{◌≢◌}
-use Rattle.std.specs.Vec.{vec_len, vec_capacity}
+use Rattle.std.proofs.Common.{◌≡◌, ◌≤◌, List, length, map, take, Some}
+use Rattle.std.specs.Vec.{vec_capacity}
 use Rattle.der_types_sets.specs.Rearranged.{members_at}
 use Rattle.der_types_sets.proofs.Arranged.{Untaken}
 use Rattle.der_types_sets.proofs.sorting.take_at.Given as goal
