@@ -5,10 +5,10 @@ use der_core::{Decode, DerOrd, Encode, SliceReader, from_der, to_der};
 use std::alloc::Global;
 use std::io::Write;
 use std::{io, str};
-use x509_cert_certificates::{CertificateInner, TbsCertificateInner};
-use x509_cert_parts::{
-    AlgorithmIdentifier, AlgorithmIdentifierRef, Extension, Extensions, Raw, Rfc5280, SerialNumber,
-    SubjectPublicKeyInfo, SubjectPublicKeyInfoRef, Time, Validity, Version,
+use x509_cert_certificates::{
+    AlgorithmIdentifier, AlgorithmIdentifierRef, CertificateInner, Extension, Extensions, Raw,
+    Rfc5280, SerialNumber, SubjectPublicKeyInfo, SubjectPublicKeyInfoRef, TbsCertificateInner,
+    Time, Validity, Version,
 };
 
 /// Writes the answer to a line.
