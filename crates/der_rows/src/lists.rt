@@ -1,5 +1,6 @@
 //! Lists and sets.
 
+use crate::key_usages::KeyUsages;
 use crate::made::written;
 use crate::questions::{Question, answer_as, answer_with_contents, compared, name_of};
 use crate::record::Record;
@@ -10,6 +11,7 @@ use der_core::{
     Reader, SliceReader, Tag, ValueOrd, from_der,
 };
 use der_types_sets::{SequenceOf, SetOf, SetOfRef, SetOfVec};
+use der_types_values::FlagSet;
 use std::alloc::Global;
 use std::hash::Hash;
 
@@ -172,6 +174,7 @@ pub fn answer_of_members(alloc: Global, word: &str, rest: &str) -> Result<String
     match kind {
         "Small" => written_set::<Small>(alloc, word, octets),
         "u16" => written_set::<u16>(alloc, word, octets),
+        "KeyUsages" => written_set::<FlagSet<KeyUsages>>(alloc, word, octets),
         _ => Err(Refusal::Unread),
     }
 }

@@ -21,7 +21,7 @@ same_octets a b e = (bytes_eq-Decides a b).0 (sym (is_eq-slice_cmp a b) ∙ ap i
 pub turned : (a b : List ℕ) (r : Ordering) → octets_cmp a b ≡ r → octets_cmp b a ≡ ordering_reverse r
 turned a b r e = nat_list_cmp_total.antisymm b a ∙ ap ordering_reverse e
 
-less_on : (a b c : List ℕ) (r : Ordering) → octets_cmp a b ≡ Less → octets_cmp b c ≡ r → r ≢ Greater → octets_cmp a c ≡ Less
+pub less_on : (a b c : List ℕ) (r : Ordering) → octets_cmp a b ≡ Less → octets_cmp b c ≡ r → r ≢ Greater → octets_cmp a c ≡ Less
 less_on a b c Less e f not = nat_list_cmp_total.trans a b c e f
 less_on a b c Equal e f not = ap (octets_cmp a) (sym (same_octets b c f)) ∙ e
 less_on a b c Greater e f not = absurd (not refl)

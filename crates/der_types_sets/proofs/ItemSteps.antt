@@ -1,34 +1,54 @@
--- Items that were taken, of which the last is the one that is refused.
-use Rattle.std.proofs.Common.{◌≡◌, List, [], ◌∷◌, ◌++◌, Option, Some, refl, ap, sym, subst, inr}
-use Rattle.std.specs.Iterator.{Yields, YieldsThen}
-use Rattle.std.specs.List.Sorted.{IsPermutation}
-use Rattle.std.proofs.lemmas.List.{append-nil}
-use Rattle.std.proofs.lemmas.List.Sorted.{IsPermutation-refl, IsPermutation-sym, IsPermutation-to_front}
+-- Items that were taken, of which one is refused.
+use Rattle.std.proofs.Common.{◌≡◌, List, [], ◌∷◌, ◌++◌, Option, Some, None, Result, Ok, Err, refl, subst, inl}
+use Rattle.std.specs.Prelude.{OnOk, IfErr}
+use Rattle.std.specs.Iterator.{Yields, YieldsThen, ExtendsWithItems}
 use Rattle.der_core_head.specs.declared.error.Error.{Error}
+use Rattle.der_core_head.specs.declared.error.ErrorKind.TheVariants as kinds
 use Rattle.der_core_head.specs.Shapes.{Shape, Value}
-use Rattle.der_types_sets.specs.Sets.{TooLong, StopsAt}
-use Rattle.der_types_sets.proofs.SetSteps.{too_long_moved}
+use Rattle.der_types_sets.specs.Sets.{StopsAt, StopsIn, Gains}
 
--- what was given ends with the item that was given last
-record EndsWith {S A : Type 0} (steps : S → Option A → S → Type 0) (s t : S) (xs : List A) : Type 0 where
-  front : List A
-  last : A
-  gave : YieldsThen steps s front (Some last) t
-  is : xs ≡ front ++ last ∷ []
+-- what was given begins with these items
+record Begins {S A : Type 0} (steps : S → Option A → S → Type 0) (s : S) (front : List A) (x : A) : Type 0 where
+  rest : S
+  gave : YieldsThen steps s front (Some x) rest
 
-ends_with : {S A : Type 0} (steps : S → Option A → S → Type 0) (s t : S) (x : A) (xs : List A) → Yields steps s (x ∷ xs) t → EndsWith steps s t (x ∷ xs)
-ends_with {S} {A} steps s t x [] h = record { front = []; last = x; gave = (s, refl, subst (λ (u : S). steps s (Some x) u) h.2 h.1); is = refl }
-ends_with steps s t x (y ∷ ys) h =
-    let e = ends_with steps h.0 t y ys h.2 in
-    record { front = x ∷ e.front; last = e.last; gave = (e.gave.0, (h.0, h.1, e.gave.1), e.gave.2); is = ap (λ l. x ∷ l) e.is }
+begins : {S A : Type 0} (steps : S → Option A → S → Type 0) (s t : S) (front : List A) (x : A) (back : List A) → Yields steps s (front ++ x ∷ back) t → Begins steps s front x
+begins steps s t [] x back h = record { rest = h.0; gave = (s, refl, h.1) }
+begins steps s t (y ∷ ys) x back h =
+    let b = begins steps h.0 t ys x back h.2 in
+    record { rest = b.rest; gave = (b.gave.0, (h.0, h.1, b.gave.1), b.gave.2) }
 
--- items that can't all be in one set
-pub all_refused : {U T A : Type 0} (s : Shape) (f : A → Value s) (becomes : U → T → Type 0) (steps : T → Option A → T → Type 0) (items : U) (it rest : T) (xs : List A) (e : Error) → becomes items it
-    → Yields steps it xs rest → TooLong s f xs e → (set : List A) × StopsAt s f becomes steps items [] set e
-all_refused s f becomes steps items it rest [] e b y t = absurd (t.some tt)
-all_refused {U} {T} {A} s f becomes steps items it rest (x ∷ xs) e b y t =
-    let w = ends_with steps it rest x xs y in
-    let same : IsPermutation (w.last ∷ w.front) (x ∷ xs) =
-    subst (λ (l : List A). IsPermutation (w.last ∷ w.front) l) (sym w.is) (IsPermutation-sym (w.front ++ w.last ∷ []) (w.last ∷ w.front) (IsPermutation-to_front w.front w.last)) in
-    let all : IsPermutation (w.front ++ []) w.front = subst (λ (l : List A). IsPermutation l w.front) (sym (append-nil w.front)) (IsPermutation-refl w.front) in
-    (w.front, (it, w.front, w.last, rest, b, w.gave, all, inr (too_long_moved s f (w.last ∷ w.front) (x ∷ xs) e same t)))
+module _ {U T A : Type 0} (s : Shape) (f : A → Value s) (becomes : U → T → Type 0) (steps : T → Option A → T → Type 0) (items : U) (it t : T) (came xs now old new : List A) (took : becomes items it) (gave : Yields steps it xs t) (are : came ≡ xs) (same : now ≡ old) where
+  moved : (P : List A → List A → Type 0) → P now came → P old xs
+  moved P h = subst (λ (u : List A). P u xs) same (subst (P now) are h)
+
+  front_of : (e : Error) (h : StopsIn s f old xs new e) → Begins steps it h.front h.refused
+  front_of e h = begins steps it t h.front h.refused h.back (subst (λ (u : List A). Yields steps it u t) h.are gave)
+
+  -- items that were gathered, of which one was refused then
+  pub stops_at : (e : Error) → StopsIn s f now came new e → StopsAt s f becomes steps items old new e
+  stops_at e k =
+      let h = moved (λ a b. StopsIn s f a b new e) k in
+      let w = front_of e h in
+      (it, h.front, h.refused, w.rest, took, w.gave, h.gains, h.why)
+
+  pub ran_to : (e : Error) → StopsIn s f now came new e → ExtendsWithItems becomes steps (Gains s f) items old new (Err e)
+  ran_to e k =
+      let h = moved (λ a b. StopsIn s f a b new e) k in
+      let w = front_of e h in
+      (it, h.front, took, h.gains, (w.gave.0, w.gave.1))
+
+  -- all went in, and the next one was refused for want of memory
+  pub stops_next : (e : Error) (x : A) (rest : T) → steps t (Some x) rest → Gains s f now came new → e.kind ≡ kinds.OutOfMemory → StopsAt s f becomes steps items old new e
+  stops_next e x rest next gains none = (it, xs, x, rest, took, (t, gave, next), moved (λ a b. Gains s f a b new) gains, inl none)
+
+  pub ran_on : (e : Error) → Gains s f now came new → ExtendsWithItems becomes steps (Gains s f) items old new (Err e)
+  ran_on e gains = (it, xs, took, moved (λ a b. Gains s f a b new) gains, (t, gave))
+
+  pub ran_all : (r : Result (Unit {0}) Error) (rest : T) → steps t None rest → OnOk r (Gains s f now came new) → IfErr r (StopsIn s f now came new) → ExtendsWithItems becomes steps (Gains s f) items old new r
+  ran_all (Ok _) rest done gains stops = (it, xs, took, moved (λ a b. Gains s f a b new) gains, (rest, (t, gave, done)))
+  ran_all (Err e) rest done gains stops = ran_to e stops
+
+  pub refused_all : (r : Result (Unit {0}) Error) → IfErr r (StopsIn s f now came new) → IfErr r (StopsAt s f becomes steps items old new)
+  refused_all (Ok _) stops = tt
+  refused_all (Err e) stops = stops_at e stops

@@ -23,7 +23,7 @@ use Rattle.der_core_head.proofs.Results.{fine, ok_is}
 use Rattle.der_core_head.specs.declared.tag.Tag.{Tag}
 use Rattle.der_core.proofs.TagOrders.{long_inside}
 use Rattle.der_core.specs.Orders.{octets_cmp, contents_cmp, bodies_cmp, Overflows}
-use Rattle.der_types_sets.specs.Level.{values_at}
+use Rattle.der_types_sets.specs.Ascending.{values_at}
 use Rattle.der_types_sets.specs.Lent.{Lent, IsLent, HasFalling, IsUnwritten, IsUncompared, members_spelled, members_lent}
 use Rattle.der_types_sets.proofs.Arrangements.{same_octets, turned}
 use Rattle.der_types_sets.proofs.LentWrites.{nothing_in, lent, size_values, spelled_octets}
@@ -140,7 +140,7 @@ content_values {A} s f v w (suc n) h e =
     subst P (sym none) spelled
 
 content_octets : {A : Type 0} (s : Shape) (f : A → Value s) (v : List A) (w : List ℕ) (n : ℕ) → IsLent s f (lent v w n) → 0 < length w → flat_map (octets_of s) (members_lent s f (lent v w n)) ≡ w
-content_octets s f v w zero h some = absurd (omega (arith, ap (λ (u : List ℕ). length u) h.level.octets_are))
+content_octets s f v w zero h some = absurd (omega (arith, ap (λ (u : List ℕ). length u) h.joined.octets_are))
 content_octets {A} s f v w (suc n) h some =
     let none : v ≡ [] = nothing_in v (h.has.one (omega arith)) in
     let P : List A → Type 0 = λ u. flat_map (octets_of s) (plain_list f u ++ values_at (read s 64) (suc n) w) ≡ w in

@@ -4,7 +4,7 @@ use Rattle.std.proofs.lemmas.List.{append-nil}
 use Rattle.der_core_head.specs.Shapes.{Shape, Value, octets_of}
 use Rattle.der_core_head.specs.Grammar.{read, plain_list}
 use Rattle.der_types_sets.specs.Sets.{Ascends}
-use Rattle.der_types_sets.specs.Level.{AllLevel, values_at}
+use Rattle.der_types_sets.specs.Ascending.{AllAscend, values_at}
 use Rattle.der_types_sets.specs.Lent.{Lent, IsLent, members_lent}
 use Rattle.der_types_sets.proofs.LooseSteps.{ascends-plain}
 use Rattle.der_types_sets.proofs.LentWrites.{nothing_in, lent}
@@ -18,16 +18,16 @@ plain-ascends s f [] h = tt
 plain-ascends s f (x ∷ []) h = tt
 plain-ascends s f (x ∷ y ∷ xs) h = (h.0, plain-ascends s f (y ∷ xs) h.1)
 
-level-ascends : (s : Shape) (v : List (Value s)) → AllLevel (octets_of s) v → Ascends s (λ x. x) v
-level-ascends s [] h = tt
-level-ascends s (x ∷ []) h = tt
-level-ascends s (x ∷ y ∷ v) h = ((λ p q. h.0), level-ascends s (y ∷ v) h.1)
+joined-ascends : (s : Shape) (v : List (Value s)) → AllAscend (octets_of s) v → Ascends s (λ x. x) v
+joined-ascends s [] h = tt
+joined-ascends s (x ∷ []) h = tt
+joined-ascends s (x ∷ y ∷ v) h = ((λ p q. h.0), joined-ascends s (y ∷ v) h.1)
 
 lent-ascends : {A : Type 0} (s : Shape) (f : A → Value s) (v : List A) (w : List ℕ) (n : ℕ) → IsLent s f (lent v w n) → Ascends s (λ x. x) (members_lent s f (lent v w n))
 lent-ascends s f v w zero h = subst (Ascends s (λ x. x)) (sym (append-nil (plain_list f v))) (ascends-plain s f v h.ascend)
 lent-ascends {A} s f v w (suc n) h =
     let P : List A → Type 0 = λ u. Ascends s (λ x. x) (plain_list f u ++ values_at (read s 64) (suc n) w) in
-    subst P (sym (nothing_in v (h.has.one (omega arith)))) (level-ascends s (values_at (read s 64) (suc n) w) h.level.level)
+    subst P (sym (nothing_in v (h.has.one (omega arith)))) (joined-ascends s (values_at (read s 64) (suc n) w) h.joined.ascend)
 
 -- a copy of each member, so far
 pub taken_on : {A P : Type 0} (f : A → P) (xs : List A) (x : A) (left more all : List P) → plain_list f xs ++ left ≡ all → left ≡ f x ∷ more → plain_list f (xs ++ x ∷ []) ++ more ≡ all

@@ -12,4 +12,4 @@ both_all R [] w h k = k
 both_all R (x ∷ v) w h k = (h.0, both_all R v w h.1 k)
 
 pub lent_in_range : {A : Type 0} (s : Shape) (f : A → Value s) (l : Lent A) → IsLent s f l → AllByRecursion (IsInRange s) (plain_list f l.values) → AllByRecursion (IsInRange s) (members_lent s f l)
-lent_in_range s f l h values = both_all (IsInRange s) (plain_list f l.values) (members_spelled s l) values (list_in_range s (members_spelled s l) h.level.valid)
+lent_in_range s f l h values = both_all (IsInRange s) (plain_list f l.values) (members_spelled s l) values (list_in_range s (members_spelled s l) h.joined.valid)

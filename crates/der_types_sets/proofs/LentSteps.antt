@@ -1,4 +1,4 @@
--- Contents whose members never descend, as a reader and an iterator go over them.
+-- Contents whose members ascend, as a reader and an iterator go over them.
 use Rattle.std.proofs.Common.{◌≡◌, ℕ, zero, suc, ◌-◌, ◌<◌, ◌≤◌, true, false, List, [], ◌∷◌, ◌++◌, length, take, drop, ltb, Result, Ok, Err, refl, sym, ap, subst, ◌∙◌, arith, ◌⊎◌, inl, inr}
 use Rattle.std.specs.Prelude.{◌≢◌, slice_get, Some, None, ◌+◌}
 use Rattle.std.proofs.lemmas.Option.{slice_get_past}
@@ -16,7 +16,7 @@ use Rattle.der_core_head.proofs.Bytes.{IsBytes}
 use Rattle.der_core_head.proofs.Fits.{fits_rest}
 use Rattle.der_core_head.proofs.Sound.{sound}
 use Rattle.der_core_octets.specs.Fronts.{front_at}
-use Rattle.der_types_sets.specs.Level.{level_content, first_of, values_at}
+use Rattle.der_types_sets.specs.Ascending.{ascending_content, first_of, values_at}
 use Rattle.der_types_sets.specs.Lent.{Lent, IsSpelled, members_lent, YieldsMember}
 
 -- the octets of a content, and those behind it
@@ -46,25 +46,25 @@ pub slice_enough : (n : ℕ) (w : List ℕ) (k : ErrorKind) → n ≤ length w �
 unfolding slice_at
 slice_enough n w k le e = absurd (cc (rw (le-ltb (length w) n le) at e))
 
-pub content_read : (s : Shape) (n : ℕ) (w u r : List ℕ) (v : List (Value s)) → slice_at n w ≡ Ok (u, r) → level_content s u ≡ Ok (v, []) → value_at (level_content s) n w ≡ Ok (v, r)
+pub content_read : (s : Shape) (n : ℕ) (w u r : List ℕ) (v : List (Value s)) → slice_at n w ≡ Ok (u, r) → ascending_content s u ≡ Ok (v, []) → value_at (ascending_content s) n w ≡ Ok (v, r)
 unfolding value_at
 content_read s n w u r v e all =
     let h = slice_front n w u r e in
-    let same : level_content s (take n w) ≡ Ok (v, []) = ap (level_content s) (sym h.front) ∙ all in
+    let same : ascending_content s (take n w) ≡ Ok (v, []) = ap (ascending_content s) (sym h.front) ∙ all in
     rw (le-ltb (length w) n h.within, same) (ap (λ (x : List ℕ). Ok (v, x)) (sym h.behind))
 
-pub content_fails : (s : Shape) (n : ℕ) (w u r : List ℕ) (k : ErrorKind) → slice_at n w ≡ Ok (u, r) → level_content s u ≡ Err k → value_at (level_content s) n w ≡ Err k
+pub content_fails : (s : Shape) (n : ℕ) (w u r : List ℕ) (k : ErrorKind) → slice_at n w ≡ Ok (u, r) → ascending_content s u ≡ Err k → value_at (ascending_content s) n w ≡ Err k
 unfolding value_at
 content_fails s n w u r k e fault =
     let h = slice_front n w u r e in
-    let same : level_content s (take n w) ≡ Err k = ap (level_content s) (sym h.front) ∙ fault in
+    let same : ascending_content s (take n w) ≡ Err k = ap (ascending_content s) (sym h.front) ∙ fault in
     rw (le-ltb (length w) n h.within, same) refl
 
 slice_short : (n : ℕ) (w : List ℕ) → length w < n → slice_at n w ≡ Err kinds.Incomplete
 unfolding slice_at
 slice_short n w lt = rw (lt-ltb (length w) n lt) refl
 
-pub content_short : (s : Shape) (n : ℕ) (w : List ℕ) (k : ErrorKind) → slice_at n w ≡ Err k → value_at (level_content s) n w ≡ Err k
+pub content_short : (s : Shape) (n : ℕ) (w : List ℕ) (k : ErrorKind) → slice_at n w ≡ Err k → value_at (ascending_content s) n w ≡ Err k
 unfolding value_at
 content_short s n w k e =
     elim (cases_lt (length w) n) [

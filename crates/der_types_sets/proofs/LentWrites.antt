@@ -11,7 +11,7 @@ use Rattle.der_core_head.specs.Grammar.{read, plain_list}
 use Rattle.der_core_head.specs.Reading.{GivesNow}
 use Rattle.der_core_head.specs.Writing.{Out, Writes, put, many_len, size, write_many, write}
 use Rattle.der_core_head.proofs.Written.{sized_body}
-use Rattle.der_types_sets.specs.Level.{values_at}
+use Rattle.der_types_sets.specs.Ascending.{values_at}
 use Rattle.der_types_sets.specs.Lent.{Lent, IsLent, members_lent}
 use Rattle.der_types_sets.proofs.PutSteps.{put_some, members_put}
 
@@ -32,7 +32,7 @@ lent v w n = record { values = v; octets = w; count = n }
 
 -- what octets spell joins to them
 pub spelled_octets : {A : Type 0} (s : Shape) (f : A → Value s) (v : List A) (w : List ℕ) (n : ℕ) → IsLent s f (lent v w n) → flat_map (octets_of s) (values_at (read s 64) n w) ≡ w
-spelled_octets s f v w n h = sym h.level.octets_are
+spelled_octets s f v w n h = sym h.joined.octets_are
 
 spelled_fits : {A : Type 0} (s : Shape) (f : A → Value s) (v : List A) (w : List ℕ) (n : ℕ) → IsLent s f (lent v w n) → Fits (flat_map (octets_of s) (values_at (read s 64) n w))
 spelled_fits s f v w n h = subst Fits (sym (spelled_octets s f v w n h)) h.has.spelled.short
@@ -40,12 +40,12 @@ spelled_fits s f v w n h = subst Fits (sym (spelled_octets s f v w n h)) h.has.s
 some_size : {A : Type 0} (s : Shape) (f : A → Value s) (v : List A) (w : List ℕ) (n : ℕ) → IsLent s f (lent v w (suc n)) → many_len (size s) (members_lent s f (lent v w (suc n))) 0 ≡ Ok (length w)
 some_size s f v w n h =
     rw (nothing_in v (h.has.one (omega arith)))
-    (members_size s (values_at (read s 64) (suc n) w) h.level.valid (spelled_fits s f v w (suc n) h) ∙ ap (λ (u : List ℕ). Ok (length u)) (spelled_octets s f v w (suc n) h))
+    (members_size s (values_at (read s 64) (suc n) w) h.joined.valid (spelled_fits s f v w (suc n) h) ∙ ap (λ (u : List ℕ). Ok (length u)) (spelled_octets s f v w (suc n) h))
 
 some_put : {A : Type 0} (s : Shape) (f : A → Value s) (v : List A) (w : List ℕ) (n : ℕ) (o : Out) → IsLent s f (lent v w (suc n)) → write_many (write s) (members_lent s f (lent v w (suc n))) o ≡ put_some w o
 some_put s f v w n o h =
     rw (nothing_in v (h.has.one (omega arith)))
-    (members_put s (values_at (read s 64) (suc n) w) o h.level.valid ∙ ap (λ (u : List ℕ). put_some u o) (spelled_octets s f v w (suc n) h))
+    (members_put s (values_at (read s 64) (suc n) w) o h.joined.valid ∙ ap (λ (u : List ℕ). put_some u o) (spelled_octets s f v w (suc n) h))
 
 pub size_values : {A : Type 0} (s : Shape) (f : A → Value s) (v : List A) (w : List ℕ) (n : ℕ) → IsLent s f (lent v w n) → length w ≡ 0
     → many_len (size s) (plain_list f v) 0 ≡ many_len (size s) (members_lent s f (lent v w n)) 0
@@ -63,7 +63,7 @@ write_values {A} s f v w (suc n) o h e =
 
 pub size_octets : {A : Type 0} (s : Shape) (f : A → Value s) (v : List A) (w : List ℕ) (n : ℕ) → IsLent s f (lent v w n) → 0 < length w
     → many_len (size s) (members_lent s f (lent v w n)) 0 ≡ Ok (length w)
-size_octets s f v w zero h some = absurd (omega (arith, ap (λ (u : List ℕ). length u) h.level.octets_are))
+size_octets s f v w zero h some = absurd (omega (arith, ap (λ (u : List ℕ). length u) h.joined.octets_are))
 size_octets s f v w (suc n) h some = some_size s f v w n h
 
 put_is : (w : List ℕ) (o : Out) → 0 < length w → put_some w o ≡ put w o
@@ -72,7 +72,7 @@ put_is (b ∷ w) o some = refl
 
 write_octets : {A : Type 0} (s : Shape) (f : A → Value s) (v : List A) (w : List ℕ) (n : ℕ) (o : Out) → IsLent s f (lent v w n) → 0 < length w
     → put w o ≡ write_many (write s) (members_lent s f (lent v w n)) o
-write_octets s f v w zero o h some = absurd (omega (arith, ap (λ (u : List ℕ). length u) h.level.octets_are))
+write_octets s f v w zero o h some = absurd (omega (arith, ap (λ (u : List ℕ). length u) h.joined.octets_are))
 write_octets s f v w (suc n) o h some = sym (some_put s f v w n o h ∙ put_is w o some)
 
 -- As calls answer them

@@ -1,5 +1,5 @@
 pub mod SetSteps
-pub mod LevelSteps
+pub mod AscendingSteps
 pub mod LentSteps
 pub mod LooseSteps
 pub mod FewSteps
@@ -12,3 +12,4 @@ pub mod LentOrders
 pub mod LentRanges
 pub mod ViewSteps
 pub mod ItemSteps
+pub mod Arranged

@@ -9,7 +9,7 @@ use Rattle.der_core_head.specs.Shapes.{Shape, Value, many}
 use Rattle.der_core_head.specs.Grammar.{read, plain_list}
 use Rattle.der_core_head.specs.Writing.{size_body, write}
 use Rattle.der_types_sets.specs.Sets.{Ascends}
-use Rattle.der_types_sets.specs.Level.{NeverDescends, values_at}
+use Rattle.der_types_sets.specs.Ascending.{JoinsAscending, values_at}
 
 -- values, and octets that spell so many values behind them; there are never both
 pub record Lent (A : Type 0) : Type 0 where
@@ -44,7 +44,7 @@ pub record HasMembers {A : Type 0} (s : Shape) (l : Lent A) : Type 0 where
 pub record IsLent {A : Type 0} (s : Shape) (f : A → Value s) (l : Lent A) : Type 0 where
   pub has : HasMembers s l
   pub ascend : Ascends s f l.values
-  pub level : NeverDescends s (members_spelled s l) l.octets
+  pub joined : JoinsAscending s (members_spelled s l) l.octets
 
 -- a refusal that is want of memory
 abbrev pub IsWantOfMemory : Error → Type 0

@@ -1,4 +1,5 @@
 pub mod Sets
 pub mod Lends
-pub mod Level
+pub mod Ascending
 pub mod Lent
+pub mod Rearranged

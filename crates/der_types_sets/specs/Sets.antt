@@ -1,7 +1,7 @@
 -- Sets as their members in order (X.690 8.12, 11.6). A member has the plain value f x of a shape s.
-use Rattle.std.specs.Prelude.{◌≡◌, ◌≢◌, ℕ, suc, ◌-◌, ◌<◌, ◌≤◌, List, [], ◌∷◌, ◌++◌, length, slice_index_or, flat_map, ⊤, ◌⊎◌, Option, Some}
+use Rattle.std.specs.Prelude.{◌≡◌, ◌≢◌, ℕ, suc, ◌-◌, ◌<◌, ◌≤◌, List, [], ◌∷◌, ◌++◌, length, take, slice_index_or, flat_map, bytes_eq, ⊤, ◌⊎◌, Option, Some}
 use Rattle.std.specs.Iterator.{YieldsThen}
-use Rattle.std.specs.List.{AllByRecursion, insert}
+use Rattle.std.specs.List.{AllByRecursion, insert, filter}
 use Rattle.std.specs.List.Sorted.{IsPermutation}
 use Rattle.std.specs.declared.cmp.Ordering.TheVariants.{Less, Greater}
 use Rattle.der_core_head.specs.declared.error.Error.{Error}
@@ -79,11 +79,36 @@ pub record IsOutOfOrder {A : Type 0} (s : Shape) (f : A → Value s) (xs : List 
   pub kind : e.kind ≡ kinds.SetOrdering
   pub falls : AllValid s f xs → Ascends s f xs → ⊥
 
--- the items went into the set, wherever their places are
-abbrev pub Gains : {A : Type 0} → List A → List A → List A → Type 0
-Gains old items new = IsPermutation (items ++ old) new
+-- members of one encoding stand in ys in the order that they have in xs
+abbrev pub KeepsEquals : {A : Type 0} (s : Shape) → (A → Value s) → List A → List A → Type 0
+KeepsEquals s f xs ys = (b : List ℕ) → filter (λ x. bytes_eq (octets_of s (f x)) b) ys ≡ filter (λ x. bytes_eq (octets_of s (f x)) b) xs
+
+-- The members of xs in another order, in which equal ones keep theirs, where each has an encoding.
+pub record IsArranged {A : Type 0} (s : Shape) (f : A → Value s) (xs ys : List A) : Type 0 where
+  pub same : IsPermutation xs ys
+  pub equals : AllValid s f xs → KeepsEquals s f xs ys
+
+-- the items went into the set, behind the members that equal them and in the order in which they came
+abbrev pub Gains : {A : Type 0} (s : Shape) → (A → Value s) → List A → List A → List A → Type 0
+Gains s f old items new = IsArranged s f (old ++ items) new
 
 -- The first of the items, in their order, went into the set, and then one was refused: for want of memory, or since an encoding passes what a length can count.
 abbrev pub StopsAt : {U T A : Type 0} (s : Shape) → (A → Value s) → (U → T → Type 0) → (T → Option A → T → Type 0) → U → List A → List A → Error → Type 0
 StopsAt {U} {T} {A} s f becomes steps items old new e =
-    (it : T) × (xs : List A) × (x : A) × (rest : T) × becomes items it × YieldsThen steps it xs (Some x) rest × Gains old xs new × IsRefusal s f (x ∷ new) e
+    (it : T) × (xs : List A) × (x : A) × (rest : T) × becomes items it × YieldsThen steps it xs (Some x) rest × Gains s f old xs new × IsRefusal s f (x ∷ new) e
+
+-- The same of items that are a list.
+pub record StopsIn {A : Type 0} (s : Shape) (f : A → Value s) (old items new : List A) (e : Error) : Type 0 where
+  pub front : List A
+  pub refused : A
+  pub back : List A
+  pub are : items ≡ front ++ refused ∷ back
+  pub gains : Gains s f old front new
+  pub why : IsRefusal s f (refused ∷ new) e
+
+-- Of old, whose first members were in order, so many are arranged as new, and the next one is refused.
+pub record StopsBehind {A : Type 0} (s : Shape) (f : A → Value s) (first : ℕ) (old new : List A) (count : ℕ) (e : Error) : Type 0 where
+  pub least : first ≤ count
+  pub within : count < length old
+  pub arranged : IsArranged s f (take count old) new
+  pub why : (x : A) → x ≡ slice_index_or old count x → TooLong s f (x ∷ new) e

@@ -3,11 +3,12 @@
 
 mod any_few;
 mod any_order;
+mod ascending;
 mod in_range;
 mod iter;
 mod joined;
 pub mod laws;
-mod level;
+pub mod making;
 mod members;
 mod places;
 mod sequence_of;
@@ -15,6 +16,7 @@ mod set_of;
 mod set_of_ref;
 mod set_of_ref_iter;
 mod set_of_vec;
+mod sorting;
 
 pub use iter::{SequenceOfIter, SetOfIter};
 pub use sequence_of::SequenceOf;

@@ -1,19 +1,18 @@
 //! Places in a list whose members ascend by their encodings.
 
-ghost use Rattle.std.specs.Prelude.{◌≡◌, ◌⊎◌, ◌<◌, [], ◌∷◌, ◌++◌, List, length, IfOk, OnOk, IfErr};
+ghost use Rattle.std.specs.Prelude.{◌≡◌, ◌⊎◌, ◌<◌, ◌≤◌, [], ◌∷◌, ◌++◌, List, length, take, IfOk, OnOk, IfErr};
 ghost use Rattle.std.specs.List.{insert};
 ghost use Rattle.std.specs.List.Sorted.{IsPermutation};
-ghost use Rattle.der_types_sets.specs.Sets.{Ascends, IsPlace, TooLong, IsBelowLast, IsOutOfOrder};
+ghost use Rattle.der_types_sets.specs.Sets.{Ascends, IsPlace, TooLong, IsBelowLast, IsOutOfOrder, IsArranged, StopsBehind};
 
 use der_core::{DerOrd, Error, ErrorKind, Member};
-use std::alloc::{AllocError, Global};
 use std::cmp::Ordering;
 
 /// The place of an item among members that ascend, behind those that are not above it.
 ///
 /// # Errors
 /// `Overflow` where an encoding has 2^32 octets or more.
-pub(crate) fn place_of<T: DerOrd + Member>(members: &[T], item: &T) -> Result<usize, Error>
+pub fn place_of<T: DerOrd + Member>(members: &[T], item: &T) -> Result<usize, Error>
     ensures place { IfOk result (IsPlace T.shape T.written members.now item.now) }
     ensures refused { IfErr result (TooLong T.shape T.written (item.now ∷ members.now)) }
 {
@@ -66,49 +65,40 @@ pub(crate) fn check_ascending<T: DerOrd + Member>(members: &[T]) -> Result<(), E
     Ok(())
 }
 
-/// The order of the encodings of two members, where they have one.
-fn order_of<T: DerOrd + Member>(member: &T, other: &T) -> Ordering {
-    match member.der_cmp(other) {
-        Ok(order) => order,
-        Err(_) => Ordering::Equal,
-    }
-}
-
-/// Brings members into ascending order as far as their encodings can be compared, equal ones in
-/// the order in which they stand. It asks for memory once, for more than 20 members that neither
-/// rise nor fall, and moves none where there is none.
-fn sort<T: DerOrd + Member>(alloc: Global, members: &mut [T])
-    ensures { IsPermutation members.old members.new }
-{
-    match members.sort_by(alloc, |member, other| order_of(member, other)) {
-        Ok(()) | Err(AllocError) => {}
-    }
-}
-
-/// Brings members into ascending order, with n log n comparisons and moves where there is memory
-/// for a sort, and with n log n comparisons alone where there is none.
-///
-/// # Errors
-/// `Overflow` where an encoding has 2^32 octets or more.
-pub(crate) fn arrange_all<T: DerOrd + Member>(alloc: Global, members: &mut [T]) -> Result<(), Error>
-    ensures same { IsPermutation members.old members.new }
-    ensures ok { OnOk result (Ascends T.shape T.written members.new) }
-    ensures refused { IfErr result (TooLong T.shape T.written members.old) }
-{
-    if check_ascending(members).is_ok() {
-        return Ok(());
-    }
-    sort(alloc, members);
-    // Members that are in order already stay where they are.
-    arrange(members)
-}
-
 /// Moves the last item to a place, and the items from there on up.
 fn last_to<T>(items: &mut [T], place: usize)
     requires { place < length items.old }
     ensures { (front : List T) (last : T) → items.old ≡ front ++ last ∷ [] → items.new ≡ insert front place last }
 {
     items[place..].rotate_right(1);
+}
+
+/// Brings members into ascending order, of which the first ones are in order, equal ones as they
+/// stand. It takes no memory.
+///
+/// # Errors
+/// `Overflow` where an encoding has 2^32 octets or more, with the number of members in front of the
+/// one that is refused. These are in order then, and the others where they were.
+pub(crate) fn arrange_from<T: DerOrd + Member>(
+    members: &mut [T],
+    first: usize,
+) -> Result<(), (usize, Error)>
+    requires within { first ≤ length members.old }
+    requires ascend { Ascends T.shape T.written (take first members.old) }
+    ensures same { IsPermutation members.old members.new }
+    ensures arranged { OnOk result (IsArranged T.shape T.written members.old members.new) }
+    ensures ascend { OnOk result (Ascends T.shape T.written members.new) }
+    ensures stopped { IfErr result (λ stop. Ascends T.shape T.written (take stop.0 members.new)) }
+    ensures refused { IfErr result (λ stop. StopsBehind T.shape T.written first members.old (take stop.0 members.new) stop.0 stop.1) }
+{
+    for end in first..members.len() {
+        let shared = &members[..];
+        match place_of(&shared[..end], &shared[end]) {
+            Ok(place) => last_to(&mut members[..=end], place),
+            Err(error) => return Err((end, error)),
+        }
+    }
+    Ok(())
 }
 
 /// Brings members into ascending order. It takes no memory.
@@ -120,10 +110,8 @@ pub(crate) fn arrange<T: DerOrd + Member>(members: &mut [T]) -> Result<(), Error
     ensures ok { OnOk result (Ascends T.shape T.written members.new) }
     ensures refused { IfErr result (TooLong T.shape T.written members.old) }
 {
-    for end in 1..members.len() {
-        let shared = &members[..];
-        let place = place_of(&shared[..end], &shared[end])?;
-        last_to(&mut members[..=end], place);
+    match arrange_from(members, 0) {
+        Ok(()) => Ok(()),
+        Err((_, error)) => Err(error),
     }
-    Ok(())
 }

@@ -9,11 +9,11 @@ ghost use Rattle.der_core_head.specs.Reading.{Gives, Reads};
 ghost use Rattle.der_core_head.specs.Writing.{size, size_body};
 ghost use Rattle.der_core.specs.Orders.{contents_cmp, encodings_cmp, Overflows};
 ghost use Rattle.der_types_sets.specs.Sets.{Ascends, IsOutOfOrder, TooLong};
-ghost use Rattle.der_types_sets.specs.Level.{NeverDescends, level_content};
+ghost use Rattle.der_types_sets.specs.Ascending.{JoinsAscending, ascending_content};
 ghost use Rattle.der_types_sets.specs.Lent.{members_lent, IsWantOfMemory, IsUncompared};
 
+use crate::ascending::count_ascending;
 use crate::joined::joined_cmp;
-use crate::level::count_level;
 use crate::members::{encode_members, members_len};
 use crate::places::check_ascending;
 use crate::set_of_ref_iter::SetOfRefIter;
@@ -91,7 +91,7 @@ impl<'a, T: Shaped> SetOfRef<'a, T> {
 }
 
 impl<'a, T: Decode<'a, SliceReader<'a>> + Member> SetOfRef<'a, T> {
-    /// The set of a content, whose members never descend.
+    /// The set of a content, whose members ascend, equal ones among them.
     ///
     /// The content is read by DER, also where the header was read by BER, since it is kept as it
     /// stands; 64 levels can be opened in it.
@@ -104,18 +104,18 @@ impl<'a, T: Decode<'a, SliceReader<'a>> + Member> SetOfRef<'a, T> {
         reader: &mut R,
         header: Header,
     ) -> Result<SetOfRef<'a, T>, Error>
-        ensures reads { Reads (members_lent T.shape T.plain) (R.state reader.old) (R.state reader.new) result (value_at (level_content T.shape) header.length.value) }
+        ensures reads { Reads (members_lent T.shape T.plain) (R.state reader.old) (R.state reader.new) result (value_at (ascending_content T.shape) header.length.value) }
         // What is read is spelled so.
-        ensures spelled { IfOk result (λ set. NeverDescends T.shape (members_lent T.shape T.plain set) (take header.length.value (R.state reader.old).rest)) }
+        ensures spelled { IfOk result (λ set. JoinsAscending T.shape (members_lent T.shape T.plain set) (take header.length.value (R.state reader.old).rest)) }
         // What is spelled so is read, unless memory runs out.
         ensures only { (v : List (Value T.shape)) → is_element T.shape ≡ true → is_apart T.shape ≡ true → are_enough T.shape 64 ≡ true
             → (R.state reader.old).failed ≡ false → header.length.value ≤ length (R.state reader.old).rest
-            → NeverDescends T.shape v (take header.length.value (R.state reader.old).rest) → Gives (members_lent T.shape T.plain) result (Ok v) }
+            → JoinsAscending T.shape v (take header.length.value (R.state reader.old).rest) → Gives (members_lent T.shape T.plain) result (Ok v) }
     {
         let before = reader.remaining();
         let _octets = &before[..];
         let octets = reader.read_slice(header.length)?;
-        match count_level::<T>(alloc, octets) {
+        match count_ascending::<T>(alloc, octets) {
             Ok(count) => Ok(SetOfRef {
                 values: &[],
                 octets,
@@ -131,7 +131,7 @@ impl<'a, T: Decode<'a, SliceReader<'a>> + Member> SetOfRef<'a, T> {
 
 impl<'a, T: Decode<'a, SliceReader<'a>> + Member + Clone> SetOfRef<'a, T> {
     /// The member at an index, if there is one, read or copied. A copy has the plain value of what
-    /// it is a copy of.
+    /// it is a copy of. Of the members before it none is copied.
     ///
     /// # Errors
     /// `OutOfMemory`.
@@ -140,6 +140,13 @@ impl<'a, T: Decode<'a, SliceReader<'a>> + Member + Clone> SetOfRef<'a, T> {
         ensures ok { IfOk result (λ member. plain_option T.plain member ≡ slice_get (members_lent T.shape T.plain self.now) index) }
         ensures refused { IfErr result IsWantOfMemory }
     {
+        if self.count == 0 {
+            let Some(value) = self.values.get(index) else {
+                return Ok(None);
+            };
+            let value = value.clone()?;
+            return Ok(Some(value));
+        }
         let mut left = self.iter(alloc);
         for _ in 0..index {
             let Some(member) = left.next() else {

@@ -2,7 +2,7 @@
 
 ghost use Rattle.std.specs.Prelude.{◌≡◌, ◌<◌, ◌-◌, [], ◌∷◌, IfOk, IfErr};
 ghost use Rattle.der_core_head.specs.Grammar.{read};
-ghost use Rattle.der_types_sets.specs.Level.{values_at};
+ghost use Rattle.der_types_sets.specs.Ascending.{values_at};
 ghost use Rattle.der_types_sets.specs.Lent.{Lent, HasMembers, IsSpelled, IsWantOfMemory};
 
 use der_core::{Decode, Error, Member, Shaped, SliceReader, from_der_partial};

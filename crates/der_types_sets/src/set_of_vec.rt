@@ -12,13 +12,14 @@ ghost use Rattle.std.specs.Cmp.Lexicographic.{pointwise, slice_cmp, slice_partia
 ghost use Rattle.std.specs.Hash as fed;
 ghost use Rattle.std.specs.Hash.{items_Alike};
 ghost use Rattle.der_types_sets.specs.Lent.{members_lent};
-ghost use Rattle.der_types_sets.specs.Sets.{Ascends, Loose, SpellsLoosely, IsRefusal, TooLong, IsBelowLast, IsPutAtPlace, Gains, StopsAt};
+ghost use Rattle.der_types_sets.specs.Sets.{Ascends, Loose, SpellsLoosely, IsRefusal, TooLong, IsBelowLast, IsPutAtPlace, KeepsEquals, AllValid, Gains, StopsAt, StopsIn};
 ghost use Rattle.std.specs.Iterator.{IsFinite, ExtendsWithItems, Drains};
 
 use crate::any_order::AnyOrder;
 use crate::iter::SetOfIter;
-use crate::places::{arrange_all, check_last, place_of};
+use crate::places::{check_last, place_of};
 use crate::set_of_ref::SetOfRef;
+use crate::sorting::arrange_behind_first;
 use der_core::making::elements_cmp;
 use der_core::{
     AsRead, Decode, DecodeValue, DerOrd, Encode, EncodeValue, Error, ErrorKind, FixedTag, Header,
@@ -182,7 +183,7 @@ impl<T: DerOrd + Member + Drop> SetOfVec<T> {
         Ok(())
     }
 
-    /// The set of these members, in ascending order.
+    /// The set of these members, in ascending order, equal ones in the order in which they stand.
     ///
     /// It takes n log n comparisons, and as many moves where there is memory for a sort.
     ///
@@ -190,32 +191,56 @@ impl<T: DerOrd + Member + Drop> SetOfVec<T> {
     /// `Overflow` where an encoding has 2^32 octets or more; never `OutOfMemory`.
     pub fn from_vec(members: Vec<T>) -> Result<SetOfVec<T>, Error>
         ensures ok { IfOk result (IsPermutation members.items) }
+        ensures equals { IfOk result (λ set. AllValid T.shape T.written members.items → KeepsEquals T.shape T.written members.items set) }
         ensures ascend { IfOk result (Ascends T.shape T.written) }
         ensures refused { IfErr result (TooLong T.shape T.written members.items) }
     {
         let mut members = members;
-        let alloc = *members.allocator();
-        arrange_all(alloc, members.as_mut_slice())?;
+        arrange_behind_first(&mut members, 0)?;
         Ok(SetOfVec { members })
     }
 
-    /// Places each of the items in order.
+    /// Places each of the items in order, behind members that equal it.
+    ///
+    /// It takes n log n comparisons, and as many moves where there is memory for a sort.
     ///
     /// # Errors
     /// `Overflow` where the encoding of an item or of a member has 2^32 octets or more, or
-    /// `OutOfMemory`. The items before the refused one have been placed then.
+    /// `OutOfMemory`. The items before the refused one have been placed then, and no other.
     pub fn extend<I: IntoIterator<Item = T>>(&mut self, items: I) -> Result<(), Error>
         requires { (it : I.IntoIter) → I.into_iter_gives items it → I.IntoIter.can_next it × IsFinite (I.IntoIter.remaining it) }
-        ensures ran { ExtendsWithItems I.into_iter_gives I.IntoIter.next_gives Gains items self.old self.new result }
+        ensures ran { ExtendsWithItems I.into_iter_gives I.IntoIter.next_gives (Gains T.shape T.written) items self.old self.new result }
         ensures refused { IfErr result (StopsAt T.shape T.written I.into_iter_gives I.IntoIter.next_gives items self.old self.new) }
     {
+        let alloc = *self.members.allocator();
+        let mut came = Vec::new(alloc);
         for item in items {
-            self.insert(item)?;
+            match came.push(item) {
+                Ok(()) => {}
+                Err(error) => {
+                    self.gain(came)?;
+                    return Err(Error::from(error));
+                }
+            }
         }
-        Ok(())
+        self.gain(came)
     }
 
-    /// The set of the items.
+    /// Places each of these items in order, behind members that equal it.
+    ///
+    /// # Errors
+    /// As `extend`.
+    fn gain(&mut self, items: Vec<T>) -> Result<(), Error>
+        ensures ok { OnOk result (Gains T.shape T.written self.old items.items self.new) }
+        ensures refused { IfErr result (StopsIn T.shape T.written self.old items.items self.new) }
+    {
+        let first = self.members.len();
+        let mut items = items;
+        self.members.append(&mut items)?;
+        arrange_behind_first(&mut self.members, first)
+    }
+
+    /// The set of the items, equal ones in the order in which they come.
     ///
     /// # Errors
     /// `Overflow` where an encoding has 2^32 octets or more, or `OutOfMemory`.
@@ -224,14 +249,11 @@ impl<T: DerOrd + Member + Drop> SetOfVec<T> {
         items: I,
     ) -> Result<SetOfVec<T>, Error>
         requires { (it : I.IntoIter) → I.into_iter_gives items it → I.IntoIter.can_next it × IsFinite (I.IntoIter.remaining it) }
-        ensures ran { IfOk result (λ set. (it : I.IntoIter) × (xs : List T) × I.into_iter_gives items it × Drains I.IntoIter.next_gives it xs × Gains [] xs set) }
+        ensures ran { IfOk result (λ set. (it : I.IntoIter) × (xs : List T) × I.into_iter_gives items it × Drains I.IntoIter.next_gives it xs × Gains T.shape T.written [] xs set) }
         ensures refused { IfErr result (λ e. (set : List T) × StopsAt T.shape T.written I.into_iter_gives I.IntoIter.next_gives items [] set e) }
     {
-        let mut members = Vec::new(alloc);
-        for item in items {
-            members.push(item)?;
-        }
-        let set = SetOfVec::from_vec(members)?;
+        let mut set = SetOfVec::new(alloc);
+        set.extend(items)?;
         Ok(set)
     }
 }

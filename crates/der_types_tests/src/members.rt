@@ -1,8 +1,10 @@
 //! Each type as the member of a set.
 
+ghost use Rattle.std.specs.Prelude.{◌≡◌};
+
 use der_core::{
-    AsRead, Decode, DerOrd, Encode, Error, ErrorKind, InRange, Member, SliceReader, StrictSetOf,
-    to_der,
+    AsRead, Decode, DerOrd, Encode, Error, ErrorKind, Explicit, Implicit, InRange, Member,
+    SliceReader, StrictSetOf, from_der, to_der,
 };
 use der_types::{
     Any, AnyRef, BitString, BitStringRef, BmpString, DateTime, GeneralStringRef, GeneralizedTime,
@@ -95,6 +97,43 @@ fn any_values(rt: HostRuntime) -> Result<(), Fail> {
     let octets = b"\x31\x06\x01\x01\xff\x80\x01\x07";
     assert!(rt; goes_into_a_set::<Any>(alloc, octets)?);
     assert!(rt; goes_into_a_set::<AnyRef<'_>>(alloc, octets)?);
+    Ok(())
+}
+
+/// A list and a strict set of 5, and 5 behind a tag in front of its own and in its place.
+#[test]
+fn made_of_members(rt: HostRuntime) -> Result<(), Fail> {
+    let alloc = rt.alloc();
+    assert!(rt; goes_into_a_set::<Vec<u8>>(alloc, b"\x31\x05\x30\x03\x02\x01\x05")?);
+    assert!(rt; goes_into_a_set::<StrictSetOf<u8>>(alloc, b"\x31\x05\x31\x03\x02\x01\x05")?);
+    assert!(rt; goes_into_a_set::<Explicit<u8, 0>>(alloc, b"\x31\x05\xa0\x03\x02\x01\x05")?);
+    assert!(rt; goes_into_a_set::<Implicit<u8, 1>>(alloc, b"\x31\x03\x81\x01\x05")?);
+    Ok(())
+}
+
+/// Whether the copies of a value equal it: as an option, in a list and in a set.
+fn copies_equal<T: Clone + DerOrd + Drop + Member + PartialEq>(
+    alloc: Global,
+    value: T,
+) -> Result<bool, Error>
+    requires { (x y : T) → T.is_clone x y → y ≡ x }
+{
+    let some = Some(value.clone()?);
+    let mut list = Vec::new(alloc);
+    list.push(value)?;
+    let first = some.clone()? == some;
+    let second = list.clone()? == list;
+    let set = SetOfVec::from_vec(list)?;
+    Ok(first && second && set.clone(alloc)? == set)
+}
+
+/// 5, its octet, and NULL as any value.
+#[test]
+fn copies(rt: HostRuntime) -> Result<(), Fail> {
+    let alloc = rt.alloc();
+    assert!(rt; copies_equal::<Int>(alloc, from_der(alloc, b"\x02\x01\x05")?)?);
+    assert!(rt; copies_equal::<OctetString>(alloc, from_der(alloc, b"\x04\x01\x05")?)?);
+    assert!(rt; copies_equal::<Any>(alloc, from_der(alloc, b"\x05\x00")?)?);
     Ok(())
 }
 

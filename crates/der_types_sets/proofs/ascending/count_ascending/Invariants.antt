@@ -4,13 +4,13 @@ use Rattle.der_core_head.specs.Shapes.{octets_of}
 use Rattle.der_core_head.specs.Reading.{unread}
 use Rattle.der_core_head.specs.declared.encoding_rules.EncodingRules.TheVariants.{Der}
 use Rattle.der_core_octets.specs.Fronts.{octets_at}
-use Rattle.der_types_sets.specs.Level.{read_level, level_content, counted}
-use Rattle.der_types_sets.proofs.level.count_level.Given as goal
+use Rattle.der_types_sets.specs.Ascending.{read_ascending, ascending_content, counted}
+use Rattle.der_types_sets.proofs.ascending.count_ascending.Given as goal
 
 abbrev pub invariant-loop-count : goal.invariant-loop-count
 invariant-loop-count g l =
     let s = g.T.Shaped.shape in
     record {
       same : l.reader ≡ record (unread Der l.octets) { rest = l.reader.rest };
-      total : counted l.count (read_level (octets_of s) (read s 64) (octets_at l.last) (length l.octets - l.count) l.reader.rest) ≡ counted 0 (level_content s l.octets);
+      total : counted l.count (read_ascending (octets_of s) (read s 64) (octets_at l.last) (length l.octets - l.count) l.reader.rest) ≡ counted 0 (ascending_content s l.octets);
     }

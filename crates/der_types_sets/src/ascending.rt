@@ -1,9 +1,9 @@
-//! Reading of members that never descend.
+//! Reading of members that ascend, equal ones among them.
 
 ghost use Rattle.std.specs.Prelude.{◌<◌, ◌^◌, length};
 ghost use Rattle.der_core_head.specs.Reading.{Gives, GivesNow};
 ghost use Rattle.der_core_octets.specs.Fronts.{octets_at};
-ghost use Rattle.der_types_sets.specs.Level.{behind_last, counted, level_content};
+ghost use Rattle.der_types_sets.specs.Ascending.{behind_last, counted, ascending_content};
 
 use der_core::making::decode_sliced;
 use der_core::{Decode, Error, ErrorKind, Member, Reader, SliceReader};
@@ -30,12 +30,12 @@ fn check_behind(last: Option<&[u8]>, octets: &[u8]) -> Result<(), Error>
 ///
 /// # Errors
 /// The first fault of a member, `SetOrdering` where it stands wrong, or `OutOfMemory`.
-pub(crate) fn count_level<'a, T: Decode<'a, SliceReader<'a>> + Member>(
+pub(crate) fn count_ascending<'a, T: Decode<'a, SliceReader<'a>> + Member>(
     alloc: Global,
     octets: &'a [u8],
 ) -> Result<usize, Error>
     requires { length octets.now < 2 ^ 32 }
-    ensures { Gives (λ n. n) result (counted 0 (level_content T.shape octets.now)) }
+    ensures { Gives (λ n. n) result (counted 0 (ascending_content T.shape octets.now)) }
 {
     let mut reader = SliceReader::new(octets)?;
     let mut last = None;

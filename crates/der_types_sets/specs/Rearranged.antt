@@ -1,0 +1,29 @@
+-- Members that are brought into another order, by the places at which they stood.
+use Rattle.std.specs.Prelude.{ℕ, List, [], ◌∷◌, length, map, slice_index_or}
+use Rattle.std.specs.List.{AllAdjacentBelow, range_with_len}
+use Rattle.std.specs.List.Sorted.{IsStableBy}
+use Rattle.std.specs.Ordering.{is_lt}
+use Rattle.der_core_head.specs.Shapes.{Shape, Value, octets_of}
+use Rattle.der_core.specs.Orders.{octets_cmp}
+use Rattle.der_types_sets.specs.Sets.{NotAbove}
+
+-- the member at a place, where there is one
+abbrev pub member_at : {A : Type 0} → List A → A → ℕ → A
+member_at xs d place = slice_index_or xs place d
+
+-- the members at the places, in turn
+abbrev pub members_at : {A : Type 0} → List A → A → List ℕ → List A
+members_at xs d places = map (member_at xs d) places
+
+-- no member at one of the places is above that at the next place
+abbrev pub AscendsAt : {A : Type 0} (s : Shape) → (A → Value s) → List A → List ℕ → ℕ → Type 0
+AscendsAt {A} s f xs places end = AllAdjacentBelow (λ p q. (d : A) → NotAbove s f (member_at xs d p) (member_at xs d q)) places end
+
+-- the encoding of the member at a place; that of the first one where there is none
+abbrev pub encoding_at : {A : Type 0} (s : Shape) → (A → Value s) → List A → ℕ → List ℕ
+encoding_at s f [] place = []
+encoding_at s f (x ∷ xs) place = octets_of s (f (member_at (x ∷ xs) x place))
+
+-- whether the encoding at a place is below that at another
+abbrev pub KeepsPlaces : {A : Type 0} (s : Shape) → (A → Value s) → List A → List ℕ → Type 0
+KeepsPlaces s f xs places = IsStableBy (λ p q. is_lt (octets_cmp (encoding_at s f xs p) (encoding_at s f xs q))) (range_with_len 0 (length xs)) places

@@ -1,0 +1,185 @@
+//! Sorting of members by the places at which they stand, so that none moves before their order is
+//! known.
+
+ghost use Rattle.std.specs.Prelude.{◌≡◌, ℕ, ◌≤◌, ◌<◌, ◌+◌, List, [], ◌++◌, IsTrue, not, length, map, take, Some, IfSome, IfOk, IfErr, OnOk, OnErr, ⊤};
+ghost use Rattle.std.specs.List.{range_with_len};
+ghost use Rattle.std.specs.List.Sorted.{IsPermutation};
+ghost use Rattle.std.specs.Vec.{vec_len, vec_capacity};
+ghost use Rattle.der_core_head.specs.Shapes.{IsValid};
+ghost use Rattle.der_core.specs.Orders.{octets_cmp, encodings_cmp};
+ghost use Rattle.der_types_sets.specs.Sets.{AllValid, Ascends, IsArranged, StopsBehind};
+ghost use Rattle.der_types_sets.specs.Rearranged.{member_at, members_at, AscendsAt, encoding_at, KeepsPlaces};
+
+use crate::places::{arrange_from, check_ascending};
+use der_core::{DerOrd, Error, Member};
+use std::alloc::{AllocError, Global};
+use std::cmp::Ordering;
+use std::mem;
+
+/// The order of the encodings of two members, where they have one.
+fn order_of<T: DerOrd + Member>(member: &T, other: &T) -> Ordering
+    ensures { IsValid T.shape (T.written member.now) → IsValid T.shape (T.written other.now) → result ≡ encodings_cmp T.shape (T.written member.now) (T.written other.now) }
+{
+    match member.der_cmp(other) {
+        Ok(order) => order,
+        Err(_) => Ordering::Equal,
+    }
+}
+
+/// The member at a place, and another one where there is none.
+fn at<'m, T>(members: &'m [T], place: usize, other: &'m T) -> &'m T
+    ensures { result.now ≡ member_at members.now other.now place }
+{
+    match members.get(place) {
+        Some(member) => member,
+        None => other,
+    }
+}
+
+/// The order of the encodings of the members at two places, where they have one. For a place at
+/// which none stands it is that of the first member.
+fn order_at<T: DerOrd + Member>(members: &[T], place: usize, other: usize) -> Ordering
+    ensures { AllValid T.shape T.written members.now → result ≡ octets_cmp (encoding_at T.shape T.written members.now place) (encoding_at T.shape T.written members.now other) }
+{
+    let [first, ..] = members else {
+        return Ordering::Equal;
+    };
+    order_of(at(members, place, first), at(members, other, first))
+}
+
+/// Whether no member at a place is above that at the next place, where each can be compared.
+fn ascend_at<T: DerOrd + Member>(members: &[T], places: &[usize]) -> bool
+    ensures { IsTrue result → AscendsAt T.shape T.written members.now places.now (length places.now) }
+{
+    for end in 1..places.len() {
+        let (Some(member), Some(next)) = (members.get(places[end - 1]), members.get(places[end]))
+        else {
+            return false;
+        };
+        match member.der_cmp(next) {
+            Ok(Ordering::Less | Ordering::Equal) => {}
+            Ok(Ordering::Greater) | Err(_) => return false,
+        }
+    }
+    true
+}
+
+/// The places of so many members, as they stand.
+fn places(alloc: Global, count: usize) -> Result<Vec<usize>, AllocError>
+    ensures { IfOk result (λ places. places.items ≡ range_with_len 0 count) }
+{
+    (0..count).collect::<Vec<usize>>(alloc)
+}
+
+/// The places of members in ascending order of their encodings, those of equal ones as they stand.
+/// There are none where there is no memory for them, or where members can't be compared.
+fn ascending_places<T: DerOrd + Member>(alloc: Global, members: &[T]) -> Option<Vec<usize>>
+    ensures same { IfSome result (λ places. IsPermutation (range_with_len 0 (length members.now)) places.items) }
+    ensures ascend { IfSome result (λ places. AscendsAt T.shape T.written members.now places.items (length places.items)) }
+    ensures equals { IfSome result (λ places. AllValid T.shape T.written members.now → KeepsPlaces T.shape T.written members.now places.items) }
+{
+    let mut places = places(alloc, members.len()).ok()?;
+    places
+        .sort_by(|place, other| order_at(members, *place, *other))
+        .ok()?;
+    if ascend_at(members, places.as_slice()) {
+        Some(places)
+    } else {
+        None
+    }
+}
+
+/// Puts members where they can be taken one by one.
+fn put_apart<T: Drop>(members: Vec<T>, apart: &mut Vec<Option<T>>)
+    requires { vec_len apart.old + length members.items ≤ vec_capacity apart.old }
+    ensures { apart.new.items ≡ apart.old.items ++ map (λ x. Some x) members.items }
+{
+    for member in members {
+        apart.push_reserved(Some(member));
+    }
+}
+
+/// Takes the members at places, in turn.
+fn take_at<T: Drop>(apart: &mut [Option<T>], places: &[usize], taken: &mut Vec<T>)
+    requires places { IsPermutation (range_with_len 0 (length apart.old)) places.now }
+    requires none { taken.old.items ≡ [] }
+    requires room { length places.now ≤ vec_capacity taken.old }
+    ensures { (xs : List T) (d : T) → apart.old ≡ map (λ x. Some x) xs → taken.new.items ≡ members_at xs d places.now }
+{
+    for count in 0..places.len() {
+        // No place comes twice, so a member still stands there.
+        let Some(member) = apart[places[count]].take() else {
+            return;
+        };
+        taken.push_reserved(member);
+    }
+}
+
+/// Brings members into the order of places, if there is memory.
+fn rearrange<T: Drop>(
+    alloc: Global,
+    members: &mut Vec<T>,
+    places: &[usize],
+) -> Result<(), AllocError>
+    requires { IsPermutation (range_with_len 0 (length members.old.items)) places.now }
+    ensures ok { OnOk result ((d : T) → members.new.items ≡ members_at members.old.items d places.now) }
+    ensures err { OnErr result (members.new.items ≡ members.old.items) }
+{
+    let mut apart = Vec::with_capacity(alloc, members.len())?;
+    let moved = Vec::with_capacity(alloc, members.len())?;
+    put_apart(mem::replace(members, moved), &mut apart);
+    take_at(apart.as_mut_slice(), places, members);
+    Ok(())
+}
+
+/// Sorts members by their encodings, equal ones as they stand, if there is memory and each can be
+/// compared. Else none moves.
+fn sort<T: DerOrd + Member + Drop>(members: &mut Vec<T>) -> bool
+    requires { 0 < length members.old.items }
+    ensures arranged { IsTrue result → IsArranged T.shape T.written members.old.items members.new.items }
+    ensures ascend { IsTrue result → Ascends T.shape T.written members.new.items }
+    ensures unmoved { IsTrue (not result) → members.new.items ≡ members.old.items }
+{
+    let alloc = *members.allocator();
+    let Some(places) = ascending_places(alloc, members.as_slice()) else {
+        return false;
+    };
+    match rearrange(alloc, members, places.as_slice()) {
+        Ok(()) => true,
+        Err(AllocError) => false,
+    }
+}
+
+/// Brings members into ascending order, of which the first ones are in order, equal ones as they
+/// stand.
+///
+/// It takes n log n comparisons, and as many moves where there is memory for a sort. Where there is
+/// none, or where members can't be compared, they are placed one by one.
+///
+/// # Errors
+/// `Overflow` where an encoding has 2^32 octets or more. The members in front of the one that is
+/// refused are in order then, and it and those behind it are gone.
+pub(crate) fn arrange_behind_first<T: DerOrd + Member + Drop>(
+    members: &mut Vec<T>,
+    first: usize,
+) -> Result<(), Error>
+    requires within { first ≤ length members.old.items }
+    requires ascend { Ascends T.shape T.written (take first members.old.items) }
+    ensures ascend { Ascends T.shape T.written members.new.items }
+    ensures arranged { OnOk result (IsArranged T.shape T.written members.old.items members.new.items) }
+    ensures refused { IfErr result (λ e. (count : ℕ) × StopsBehind T.shape T.written first members.old.items members.new.items count e) }
+{
+    let Err(_) = check_ascending(members.as_slice()) else {
+        return Ok(());
+    };
+    if sort(members) {
+        return Ok(());
+    }
+    match arrange_from(members.as_mut_slice(), first) {
+        Ok(()) => Ok(()),
+        Err((count, error)) => {
+            members.truncate(count);
+            Err(error)
+        }
+    }
+}
