@@ -4,3 +4,5 @@ pub mod Views
 pub mod DirectoryStrings
 pub mod AttributeTypes
 pub mod Ordered
+pub mod ValueTexts
+pub mod NameTexts

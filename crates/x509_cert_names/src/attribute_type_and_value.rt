@@ -1,22 +1,32 @@
 //! AttributeTypeAndValue.
 
-ghost use Rattle.std.specs.Prelude.{◌≡◌, refl, IfOk};
+ghost use Rattle.std.specs.Prelude.{◌≡◌, ◌∷◌, ◌++◌, refl, IfOk};
+ghost use Rattle.std.specs.Fmt.{WritesOnOk};
+ghost use Rattle.std.specs.Str.{chars};
+ghost use Rattle.const_oid_identifiers.specs.DottedText.{dotted};
+ghost use Rattle.der_core_head.specs.Reading.{Gives};
+ghost use Rattle.x509_cert_name_texts.specs.Escapes.{escaped, in_hex};
+ghost use Rattle.x509_cert_names.specs.NameTexts.{ReadsAttribute};
+ghost use Rattle.x509_cert_names.specs.ValueTexts.{attribute_read, encoding_of};
 ghost use Rattle.der_core_head.specs.declared.tag.Tag.TheVariants.{Sequence};
 ghost use Rattle.der_core_head.specs.Shapes.{nested};
 ghost use Rattle.x509_cert_names.specs.Names.{type_and_value_fields};
 ghost use Rattle.x509_cert_names.specs.Pairs.{arc_bound, pair_plain, same_pair, same_pair_per, same_pair_equiv, pair_fed, pair_fed_alike};
 
+use crate::value_texts::{text_of, value_of, write_encoding};
 use const_oid_identifiers::ObjectIdentifier;
 use der_core::making::read_fields;
 use der_core::{
     ApartValue, AsReadValue, DecodeFields, DecodeValue, EncodeFields, EncodeRef, EncodeValue,
-    Error, Fields, FieldsOrd, FixedTag, Header, InRange, InRangeValue, Length, Reader, ShapedValue,
-    Tag, ValueOrd, Writer,
+    Error, ErrorKind, Fields, FieldsOrd, FixedTag, Header, InRange, InRangeValue, Length, Reader,
+    ShapedValue, Tag, ValueOrd, Writer,
 };
 use der_types_any::Any;
 use std::alloc::{AllocError, Global};
 use std::cmp::Ordering;
+use std::fmt;
 use std::hash::{Hash, Hasher};
+use x509_cert_name_texts::{FromText, key_of, split_member, type_of_key, write_escaped};
 
 /// What an attribute is of (RFC 5280 appendix A.1).
 ///
@@ -148,6 +158,30 @@ impl ValueOrd for AttributeTypeAndValue {
 }
 
 impl AttributeTypeAndValue {
+    /// The attribute that a text spells (RFC 4514 2.3, 3): a key, the first `=`, a value. The key is the
+    /// name of a type, in capital or small letters, or a dotted identifier. The value is `#` and the hex of
+    /// an encoding, or a text with escapes: content of a PrintableString for a country or a serial number, of
+    /// an IA5String for a domain's component or a mail address, of a UTF8String for any other type, without a
+    /// check of its characters.
+    ///
+    /// # Errors
+    /// `Failed` where there is no `=`, for an escape that is none, and for bad hex; `OidMalformed` for a key
+    /// that is neither a name nor an identifier; those of `from_der` for the encoding; `Overflow` for a
+    /// content of 2^32 octets or more; `OutOfMemory`.
+    #[tactic(auto, unfolding(crate::specs::ValueTexts::attribute_read))]
+    pub fn from_str(alloc: Global, text: &str) -> Result<AttributeTypeAndValue, Error>
+        ensures { Gives (λ a. a) result (attribute_read text.now) }
+    {
+        match split_member(text) {
+            None => Err(Error::from(ErrorKind::Failed)),
+            Some((key, value)) => {
+                let oid = type_of_key(key)?;
+                let value = value_of(alloc, &oid, value)?;
+                Ok(AttributeTypeAndValue { oid, value })
+            }
+        }
+    }
+
     /// A copy.
     ///
     /// # Errors
@@ -160,6 +194,52 @@ impl AttributeTypeAndValue {
             value: self.value.clone(alloc)?,
         })
     }
+}
+
+/// What `from_str` reads.
+impl FromText for AttributeTypeAndValue {
+    ghost reads_text = { ReadsAttribute };
+
+    fn from_text(alloc: Global, text: &str) -> Result<AttributeTypeAndValue, Error> {
+        let attribute = AttributeTypeAndValue::from_str(alloc, text)?;
+        Ok(attribute)
+    }
+}
+
+/// The shortest name of the type in capitals, `=` and the text with escapes, where the type has a name and
+/// the value is a text; else the dotted type, `=#` and the hex of the value's encoding (RFC 4514 2.3, 2.4).
+impl fmt::Display for AttributeTypeAndValue {
+    ghost use Rattle.std.specs.Prelude.{Some};
+    ghost use Rattle.x509_cert_names.specs.ValueTexts.{attribute_printed};
+
+    ghost output = { λ a. Some (attribute_printed a) };
+
+    fn fmt<W: fmt::Write>(&self, f: &mut fmt::Formatter<W>) -> fmt::Result {
+        match (key_of(&self.oid), text_of(&self.value)) {
+            (Some(key), Some(text)) => write_text(key, text, f),
+            _ => write_hex_value(&self.oid, &self.value, f),
+        }
+    }
+}
+
+/// Writes a name and a text.
+fn write_text<W: fmt::Write>(key: &str, text: &str, f: &mut fmt::Formatter<W>) -> fmt::Result
+    ensures { WritesOnOk W.write_str_gives f.old result (key.now ++ 61 ∷ escaped (chars text.now)) f.new }
+{
+    write!(f, "{key}=")?;
+    write_escaped(text, f)
+}
+
+/// Writes a dotted type and the encoding of a value.
+fn write_hex_value<W: fmt::Write>(
+    oid: &AttributeType,
+    value: &AttributeValue,
+    f: &mut fmt::Formatter<W>,
+) -> fmt::Result
+    ensures { WritesOnOk W.write_str_gives f.old result (dotted oid.now ++ 61 ∷ 35 ∷ in_hex (encoding_of value.now)) f.new }
+{
+    write!(f, "{oid}=#")?;
+    write_encoding(value, f)
 }
 
 /// A copy, in memory of the same allocator.

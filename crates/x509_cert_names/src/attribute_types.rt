@@ -1,7 +1,7 @@
 //! The identifiers of the types that names are asked for.
 
 ghost use Rattle.std.specs.Prelude.{◌≡◌};
-ghost use Rattle.x509_cert_names.specs.AttributeTypes.{x520, email_address};
+ghost use Rattle.x509_cert_name_texts.specs.Keys.{x520, pilot, email_address};
 
 use const_oid_identifiers::ObjectIdentifier;
 
@@ -37,7 +37,7 @@ pub(crate) fn state_or_province() -> ObjectIdentifier<39>
     ObjectIdentifier::new_unwrap("2.5.4.8")
 }
 
-/// The type of a organization.
+/// The type of an organization.
 #[tactic(auto, unfolding(const_oid_identifiers::specs::Bound::Bound, const_oid_identifiers::specs::TextReading::text_arcs, const_oid_identifiers::specs::ArcLists::add_arc, const_oid_identifiers::specs::ArcLists::whole_arcs, const_oid_identifiers::specs::IdentifierOctets::identifier_octets, const_oid_identifiers::specs::IdentifierOctets::arc_octets, const_oid_identifiers::specs::Digits::digits, const_oid_identifiers::specs::Digits::digits_within, const_oid_identifiers::specs::Digits::marked))]
 pub(crate) fn organization() -> ObjectIdentifier<39>
     ensures { result ≡ x520 10 }
@@ -45,7 +45,7 @@ pub(crate) fn organization() -> ObjectIdentifier<39>
     ObjectIdentifier::new_unwrap("2.5.4.10")
 }
 
-/// The type of a organizational unit.
+/// The type of an organizational unit.
 #[tactic(auto, unfolding(const_oid_identifiers::specs::Bound::Bound, const_oid_identifiers::specs::TextReading::text_arcs, const_oid_identifiers::specs::ArcLists::add_arc, const_oid_identifiers::specs::ArcLists::whole_arcs, const_oid_identifiers::specs::IdentifierOctets::identifier_octets, const_oid_identifiers::specs::IdentifierOctets::arc_octets, const_oid_identifiers::specs::Digits::digits, const_oid_identifiers::specs::Digits::digits_within, const_oid_identifiers::specs::Digits::marked))]
 pub(crate) fn organization_unit() -> ObjectIdentifier<39>
     ensures { result ≡ x520 11 }
@@ -59,4 +59,20 @@ pub(crate) fn email_address() -> ObjectIdentifier<39>
     ensures { result ≡ email_address }
 {
     ObjectIdentifier::new_unwrap("1.2.840.113549.1.9.1")
+}
+
+/// The type of a serial number.
+#[tactic(auto, unfolding(const_oid_identifiers::specs::Bound::Bound, const_oid_identifiers::specs::TextReading::text_arcs, const_oid_identifiers::specs::ArcLists::add_arc, const_oid_identifiers::specs::ArcLists::whole_arcs, const_oid_identifiers::specs::IdentifierOctets::identifier_octets, const_oid_identifiers::specs::IdentifierOctets::arc_octets, const_oid_identifiers::specs::Digits::digits, const_oid_identifiers::specs::Digits::digits_within, const_oid_identifiers::specs::Digits::marked))]
+pub(crate) fn serial_number() -> ObjectIdentifier<39>
+    ensures { result ≡ x520 5 }
+{
+    ObjectIdentifier::new_unwrap("2.5.4.5")
+}
+
+/// The type of a domain's component.
+#[tactic(auto, unfolding(const_oid_identifiers::specs::Bound::Bound, const_oid_identifiers::specs::TextReading::text_arcs, const_oid_identifiers::specs::ArcLists::add_arc, const_oid_identifiers::specs::ArcLists::whole_arcs, const_oid_identifiers::specs::IdentifierOctets::identifier_octets, const_oid_identifiers::specs::IdentifierOctets::arc_octets, const_oid_identifiers::specs::Digits::digits, const_oid_identifiers::specs::Digits::digits_within, const_oid_identifiers::specs::Digits::marked))]
+pub(crate) fn domain_component() -> ObjectIdentifier<39>
+    ensures { result ≡ pilot 25 }
+{
+    ObjectIdentifier::new_unwrap("0.9.2342.19200300.100.1.25")
 }

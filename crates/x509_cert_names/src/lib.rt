@@ -1,4 +1,4 @@
-//! Names of X.509 and the attributes in them (RFC 5280 4.1.2.4, appendix A.1).
+//! Names of X.509 and the attributes in them (RFC 5280 4.1.2.4, appendix A.1), and their texts (RFC 4514).
 #![tactic(auto)]
 
 mod attribute;
@@ -12,6 +12,7 @@ mod name_iter;
 mod rdn_sequence;
 mod relative_distinguished_name;
 mod same_octets;
+mod value_texts;
 
 pub use attribute::{Attribute, Attributes};
 pub use attribute_type_and_value::{AttributeType, AttributeTypeAndValue, AttributeValue};

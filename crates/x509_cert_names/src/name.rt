@@ -9,7 +9,10 @@ ghost use Rattle.der_core_head.specs.Leaves.{text};
 ghost use Rattle.der_core_head.specs.Reading.{Gives, GivesNow};
 ghost use Rattle.der_core_head.specs.Texts.{printable, ascii};
 ghost use Rattle.der_types_any.specs.Contents.{leaf_as};
-ghost use Rattle.x509_cert_names.specs.AttributeTypes.{first_value, FirstGives, x520, email_address};
+ghost use Rattle.x509_cert_name_texts.specs.Keys.{x520, email_address};
+ghost use Rattle.x509_cert_name_texts.specs.Answers.{GivesBy};
+ghost use Rattle.x509_cert_names.specs.NameTexts.{ReadsName};
+ghost use Rattle.x509_cert_names.specs.AttributeTypes.{first_value, FirstGives};
 ghost use Rattle.x509_cert_names.specs.DirectoryStrings.{directory_plain, directory_from};
 ghost use Rattle.x509_cert_names.specs.Names.{relative_name, all_of};
 ghost use Rattle.x509_cert_names.specs.Pairs.{arc_bound, pair_plain, relative_plain};
@@ -28,6 +31,7 @@ use der_core::{
 use der_types_text::{Ia5StringRef, PrintableStringRef};
 use std::alloc::{AllocError, Global};
 use std::cmp::Ordering;
+use std::fmt;
 
 /// A name (RFC 5280 4.1.2.4).
 ///
@@ -40,6 +44,17 @@ pub struct Name {
 }
 
 impl Name {
+    /// The name that a text spells (RFC 4514), as `RdnSequence::from_str` reads it.
+    ///
+    /// # Errors
+    /// Those of `RdnSequence::from_str`.
+    pub fn from_str(alloc: Global, text: &str) -> Result<Name, Error>
+        ensures { GivesBy (λ n. n.rdn_sequence.relative_names.items) result (ReadsName text.now) }
+    {
+        let rdn_sequence = RdnSequence::from_str(alloc, text)?;
+        Ok(Name { rdn_sequence })
+    }
+
     /// A copy.
     ///
     /// # Errors
@@ -272,6 +287,18 @@ impl InRangeValue for Name {
 impl ValueOrd for Name {
     fn value_cmp(&self, other: &Self) -> Result<Ordering, Error> {
         self.rdn_sequence.value_cmp(&other.rdn_sequence)
+    }
+}
+
+/// The relative names with commas between them, the last one first (RFC 4514 2.1).
+impl fmt::Display for Name {
+    ghost use Rattle.std.specs.Prelude.{Some};
+    ghost use Rattle.x509_cert_names.specs.NameTexts.{name_printed};
+
+    ghost output = { λ n. Some (name_printed n.rdn_sequence.relative_names.items) };
+
+    fn fmt<W: fmt::Write>(&self, f: &mut fmt::Formatter<W>) -> fmt::Result {
+        self.rdn_sequence.fmt(f)
     }
 }
 

@@ -1,10 +1,17 @@
 //! RdnSequence.
 
-ghost use Rattle.std.specs.Prelude.{◌≡◌, ◌∷◌, ◌++◌, ◌==◌, [], length, vec_len, refl, OnOk, OnErr, IfOk, IfErr};
+ghost use Rattle.std.specs.Prelude.{◌≡◌, List, ◌∷◌, ◌++◌, ◌==◌, [], length, reverse, vec_len, refl, OnOk, OnErr, IfOk, IfErr};
+ghost use Rattle.std.specs.Fmt.{WritesOnOk};
+ghost use Rattle.std.specs.List.{flat_map};
 ghost use Rattle.der_core_head.specs.declared.tag.Tag.TheVariants.{Sequence};
 ghost use Rattle.der_core_head.specs.Shapes.{nested, many};
-ghost use Rattle.x509_cert_names.specs.Names.{relative_name};
-ghost use Rattle.x509_cert_names.specs.Pairs.{arc_bound};
+ghost use Rattle.der_core_head.specs.Grammar.{plain_list};
+ghost use Rattle.der_core_head.specs.Shapes.{octets_of};
+ghost use Rattle.x509_cert_name_texts.specs.Answers.{GivesBy};
+ghost use Rattle.x509_cert_names.specs.NameTexts.{ReadsName, relative_printed, name_printed, behind};
+ghost use Rattle.x509_cert_names.specs.Names.{relative_name, name};
+ghost use Rattle.x509_cert_names.specs.declared.attribute_type_and_value.AttributeTypeAndValue.{AttributeTypeAndValue};
+ghost use Rattle.x509_cert_names.specs.Pairs.{arc_bound, relative_plain};
 ghost use Rattle.x509_cert_names.specs.Views.{sequence_plain};
 
 use crate::members::copy_of;
@@ -12,10 +19,12 @@ use crate::name_iter::RdnSequenceIter;
 use crate::relative_distinguished_name::RelativeDistinguishedName;
 use der_core::{
     ApartValue, AsReadValue, DecodeValue, EncodeValue, Error, FixedTag, Header, InRangeValue,
-    Length, Reader, ShapedValue, Tag, ValueOrd, Writer,
+    Length, Reader, ShapedValue, Tag, ValueOrd, Writer, to_der,
 };
 use std::alloc::{AllocError, Global};
 use std::cmp::Ordering;
+use std::fmt;
+use x509_cert_name_texts::read_pieces;
 
 /// Relative names, the widest first (RFC 5280 4.1.2.4).
 ///
@@ -35,6 +44,36 @@ pub struct RdnSequence {
 pub type DistinguishedName = RdnSequence;
 
 impl RdnSequence {
+    /// The relative names that a text spells (RFC 4514 2.1, 3): those between the commas that count, the
+    /// last one first. A comma or `+` counts where the run of backslashes before it is even. The empty text
+    /// spells no relative name.
+    ///
+    /// # Errors
+    /// That of the first relative name from the left which is refused
+    /// (`RelativeDistinguishedName::from_str`), or `OutOfMemory`.
+    pub fn from_str(alloc: Global, text: &str) -> Result<RdnSequence, Error>
+        ensures { GivesBy (λ s. s.relative_names.items) result (ReadsName text.now) }
+    {
+        if text.is_empty() {
+            return Ok(RdnSequence::default(alloc));
+        }
+        let mut relative_names: Vec<RelativeDistinguishedName> = read_pieces(alloc, text, b',')?;
+        relative_names.reverse();
+        Ok(RdnSequence { relative_names })
+    }
+
+    /// The encoding of the relative names that a text spells: `from_str`, then `to_der`.
+    ///
+    /// # Errors
+    /// Those of `from_str`, and of `to_der`.
+    pub fn encode_from_string(alloc: Global, text: &str) -> Result<Vec<u8>, Error>
+        ensures { IfOk result (λ octets. (n : List (List AttributeTypeAndValue)) × ReadsName text.now (Ok n) × (octets.items ≡ octets_of (name arc_bound) (plain_list relative_plain n))) }
+    {
+        let sequence = RdnSequence::from_str(alloc, text)?;
+        let octets = to_der(alloc, &sequence)?;
+        Ok(octets)
+    }
+
     /// A copy.
     ///
     /// # Errors
@@ -143,6 +182,67 @@ impl ValueOrd for RdnSequence {
     fn value_cmp(&self, other: &Self) -> Result<Ordering, Error> {
         self.relative_names.value_cmp(&other.relative_names)
     }
+}
+
+/// The relative names with commas between them, the last one first (RFC 4514 2.1).
+impl fmt::Display for RdnSequence {
+    ghost use Rattle.std.specs.Prelude.{Some};
+    ghost use Rattle.x509_cert_names.specs.NameTexts.{name_printed};
+
+    ghost output = { λ s. Some (name_printed s.relative_names.items) };
+
+    fn fmt<W: fmt::Write>(&self, f: &mut fmt::Formatter<W>) -> fmt::Result {
+        write_names(self.relative_names.as_slice(), f)
+    }
+}
+
+/// Writes relative names with commas between them, the last one first.
+fn write_names<W: fmt::Write>(
+    names: &[RelativeDistinguishedName],
+    f: &mut fmt::Formatter<W>,
+) -> fmt::Result
+    ensures { WritesOnOk W.write_str_gives f.old result (name_printed names.now) f.new }
+{
+    let Some((last, before)) = names.split_last() else {
+        return Ok(());
+    };
+    write_last(last, f)?;
+    write_before(before, f)
+}
+
+/// Writes a relative name.
+fn write_last<W: fmt::Write>(
+    name: &RelativeDistinguishedName,
+    f: &mut fmt::Formatter<W>,
+) -> fmt::Result
+    ensures { WritesOnOk W.write_str_gives f.old result (relative_printed name.now) f.new }
+{
+    write!(f, "{name}")
+}
+
+/// Writes a comma and a relative name.
+fn write_next<W: fmt::Write>(
+    name: &RelativeDistinguishedName,
+    f: &mut fmt::Formatter<W>,
+) -> fmt::Result
+    ensures { WritesOnOk W.write_str_gives f.old result (behind 44 relative_printed name.now) f.new }
+{
+    write!(f, ",{name}")
+}
+
+/// Writes a comma and a relative name for each one, the last one first.
+fn write_before<W: fmt::Write>(
+    names: &[RelativeDistinguishedName],
+    f: &mut fmt::Formatter<W>,
+) -> fmt::Result
+    ensures { WritesOnOk W.write_str_gives f.old result (flat_map (behind 44 relative_printed) (reverse names.now)) f.new }
+{
+    let mut left = names;
+    while let Some((last, before)) = left.split_last() {
+        write_next(last, f)?;
+        left = before;
+    }
+    Ok(())
 }
 
 /// A copy, in memory of the same allocator.

@@ -2,14 +2,19 @@
 
 ghost use Rattle.std.specs.Prelude.{◌≡◌, ◌∷◌, ◌==◌, true, [], length, IfOk, IfErr, OnOk, OnErr, IsTrue, ◌↔◌, ◌⊎◌, ◌≢◌, refl};
 ghost use Rattle.std.specs.Cmp.Lexicographic.{pointwise, lists_per, lists_equiv};
+ghost use Rattle.std.specs.Fmt.{WritesOnOk};
 ghost use Rattle.std.specs.Hash as fed;
 ghost use Rattle.std.specs.Hash.{items_Alike};
-ghost use Rattle.std.specs.List.{IsDistinct, list_any};
+ghost use Rattle.std.specs.List.{IsDistinct, flat_map, list_any};
 ghost use Rattle.std.specs.List.Sorted.{IsPermutation};
 ghost use Rattle.der_core_head.specs.declared.tag.Tag.TheVariants.{Set};
 ghost use Rattle.der_core_head.specs.Shapes.{nested, rising};
 ghost use Rattle.der_types_sets.specs.Sets.{Ascends, IsRefusal, TooLong};
+ghost use Rattle.x509_cert_name_texts.specs.Answers.{GivesBy};
+ghost use Rattle.x509_cert_names.specs.NameTexts.{ReadsRelative, relative_printed, behind};
+ghost use Rattle.x509_cert_names.specs.ValueTexts.{attribute_printed};
 ghost use Rattle.x509_cert_names.specs.Names.{type_and_value};
+ghost use Rattle.x509_cert_names.specs.Ordered.{IsOrdered};
 ghost use Rattle.x509_cert_names.specs.Pairs.{arc_bound, pair_plain, same_pair, same_pair_per, same_pair_equiv, pair_fed, pair_fed_alike, relative_plain};
 
 use crate::attribute_type_and_value::AttributeTypeAndValue;
@@ -21,8 +26,10 @@ use der_core::{
 };
 use std::alloc::{AllocError, Global};
 use std::cmp::Ordering;
+use std::fmt;
 use std::hash::{Hash, Hasher};
 use std::marker::Model;
+use x509_cert_name_texts::{FromText, read_pieces};
 
 /// A relative name (RFC 5280 4.1.2.4): a set of attributes, in the order of their encodings, none of
 /// which stands twice. It may be empty.
@@ -65,6 +72,20 @@ fn are_distinct(attributes: &[AttributeTypeAndValue]) -> bool
 }
 
 impl RelativeDistinguishedName {
+    /// The relative name that a text spells (RFC 4514 2.2, 3): attributes between the `+` that count, none
+    /// of which stands twice.
+    ///
+    /// # Errors
+    /// That of the first attribute which is refused (`AttributeTypeAndValue::from_str`); else `SetDuplicate`
+    /// where one stands twice; `Overflow` where an encoding has 2^32 octets or more; `OutOfMemory`.
+    pub fn from_str(alloc: Global, text: &str) -> Result<RelativeDistinguishedName, Error>
+        ensures { GivesBy (λ r. r) result (ReadsRelative text.now) }
+    {
+        let attributes = read_pieces(alloc, text, b'+')?;
+        let relative = RelativeDistinguishedName::try_from_vec(attributes)?;
+        Ok(relative)
+    }
+
     /// A copy.
     ///
     /// # Errors
@@ -98,6 +119,7 @@ impl RelativeDistinguishedName {
         attributes: Vec<AttributeTypeAndValue>,
     ) -> Result<RelativeDistinguishedName, Error>
         ensures ok { IfOk result (IsPermutation attributes.items) }
+        ensures ordered { IfOk result IsOrdered }
         ensures refused { IfErr result (λ e. (e.kind ≡ ErrorKind.SetDuplicate × (IsDistinct same_pair attributes.items → ⊥)) ⊎ TooLong (type_and_value arc_bound) pair_plain attributes.items e) }
     {
         let values = arrange(attributes)?;
@@ -223,6 +245,75 @@ impl ValueOrd for RelativeDistinguishedName {
     fn value_cmp(&self, other: &Self) -> Result<Ordering, Error> {
         self.attributes.value_cmp(&other.attributes)
     }
+}
+
+/// What `from_str` reads.
+impl FromText for RelativeDistinguishedName {
+    ghost reads_text = { ReadsRelative };
+
+    fn from_text(alloc: Global, text: &str) -> Result<RelativeDistinguishedName, Error> {
+        let relative = RelativeDistinguishedName::from_str(alloc, text)?;
+        Ok(relative)
+    }
+}
+
+/// The attributes, in ascending order of their encodings, with `+` between them (RFC 4514 2.2).
+impl fmt::Display for RelativeDistinguishedName {
+    ghost use Rattle.std.specs.Prelude.{Some};
+    ghost use Rattle.x509_cert_names.specs.NameTexts.{relative_printed};
+
+    ghost output = { λ r. Some (relative_printed r) };
+
+    fn fmt<W: fmt::Write>(&self, f: &mut fmt::Formatter<W>) -> fmt::Result {
+        write_attributes(self.as_slice(), f)
+    }
+}
+
+/// Writes attributes with `+` between them.
+fn write_attributes<W: fmt::Write>(
+    attributes: &[AttributeTypeAndValue],
+    f: &mut fmt::Formatter<W>,
+) -> fmt::Result
+    ensures { WritesOnOk W.write_str_gives f.old result (relative_printed attributes.now) f.new }
+{
+    let Some((first, later)) = attributes.split_first() else {
+        return Ok(());
+    };
+    write_first(first, f)?;
+    write_later(later, f)
+}
+
+/// Writes an attribute.
+fn write_first<W: fmt::Write>(
+    attribute: &AttributeTypeAndValue,
+    f: &mut fmt::Formatter<W>,
+) -> fmt::Result
+    ensures { WritesOnOk W.write_str_gives f.old result (attribute_printed attribute.now) f.new }
+{
+    write!(f, "{attribute}")
+}
+
+/// Writes `+` and an attribute.
+fn write_next<W: fmt::Write>(
+    attribute: &AttributeTypeAndValue,
+    f: &mut fmt::Formatter<W>,
+) -> fmt::Result
+    ensures { WritesOnOk W.write_str_gives f.old result (behind 43 attribute_printed attribute.now) f.new }
+{
+    write!(f, "+{attribute}")
+}
+
+/// Writes `+` and an attribute for each one.
+fn write_later<W: fmt::Write>(
+    attributes: &[AttributeTypeAndValue],
+    f: &mut fmt::Formatter<W>,
+) -> fmt::Result
+    ensures { WritesOnOk W.write_str_gives f.old result (flat_map (behind 43 attribute_printed) attributes.now) f.new }
+{
+    for attribute in attributes {
+        write_next(attribute, f)?;
+    }
+    Ok(())
 }
 
 /// A copy, in memory of the same allocator.

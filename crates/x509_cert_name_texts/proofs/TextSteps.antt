@@ -1,0 +1,22 @@
+-- The characters of a text, one by one.
+use Rattle.std.proofs.Common.{◌≡◌, ℕ, ◌==◌, List, [], ◌∷◌, ◌++◌, length, Bool, true, false, refl, sym, ap, ◌∙◌, ne_eqb, arith}
+use Rattle.std.proofs.lemmas.List.{append-nil}
+use Rattle.std.specs.Str.{chars, IsUtf8}
+use Rattle.std.proofs.lemmas.Str.{chars-nil, encodes-chars, length-le-encodes}
+use lib.Utf8.{encodes}
+use Rattle.x509_cert_name_texts.specs.Escapes.{is_end, escaped_char, escaped_from}
+
+by_characters : (cs w : List ℕ) → encodes cs ≡ w → is_end cs ≡ (length w == 0)
+by_characters [] w e = rw (← e) refl
+by_characters (c ∷ cs) w e = sym (ne_eqb (length w) 0 (λ z. absurd (omega (arith, z, length-le-encodes (c ∷ cs), ap length e))))
+
+-- a text without octets has no characters, and any other has some
+pub is_end-chars : (w : List ℕ) → IsUtf8 w → (length w == 0) ≡ is_end (chars w)
+is_end-chars w u = sym (by_characters (chars w) w (encodes-chars w u))
+
+pub escaped-step : (first last : Bool) (c : ℕ) (old new : List ℕ) → old ≡ c ∷ new → last ≡ is_end new → escaped_char first last c ++ escaped_from false new ≡ escaped_from first old
+escaped-step first last c old new e l = ap (λ b. escaped_char first b c ++ escaped_from false new) l ∙ sym (ap (escaped_from first) e)
+
+pub escaped-end : (first : Bool) (w t : List ℕ) → length w ≡ 0 → t ≡ t ++ escaped_from first (chars w)
+escaped-end first [] t e = rw chars-nil (sym (append-nil t))
+escaped-end first (c ∷ w) t e = absurd (omega arith)

@@ -1,0 +1,11 @@
+use Rattle.std.proofs.Common.{◌≡◌, length}
+use Rattle.x509_cert_name_texts.specs.Escapes.{undone}
+use Rattle.x509_cert_name_texts.proofs.EscapeSteps.{in_front}
+use Rattle.x509_cert_name_texts.proofs.escapes.undo_escapes.Given as goal
+
+-- what was undone, in front of what is left
+abbrev pub invariant-loop-octet : goal.invariant-loop-octet
+invariant-loop-octet l = undone l.text ≡ in_front l.octets.items (undone l.left)
+
+abbrev pub decreases-loop-octet : goal.decreases-loop-octet
+decreases-loop-octet l = length l.left

@@ -1,0 +1,13 @@
+use Rattle.std.proofs.Common.{◌≡◌, ◌==◌, ◌<◌, get_or, length, refl, sym, ap, ◌∙◌, true, arith}
+use Rattle.std.specs.Prelude.{position}
+use Rattle.std.proofs.lemmas.List.Quantifiers.{position-Some}
+use Rattle.std.proofs.lemmas.Str.{IsCharBoundary-before_ascii}
+use Rattle.x509_cert_name_texts.proofs.PieceSteps.{is_equal}
+use Rattle.x509_cert_name_texts.proofs.pieces.split_member.Goals as goal
+
+pub range-requires-clause-end_boundary : goal.range-requires-clause-end_boundary
+range-requires-clause-end_boundary c =
+    let w = c.args.text.now in
+    let i = c.in-Some.i in
+    let found = position-Some (λ o. o == 61) w i 0 (ap (position (λ o. o == 61)) (sym c.as_bytes-octets.ensures.value) ∙ sym c.place_of_equals.ensures ∙ c.in-Some.is) in
+    IsCharBoundary-before_ascii w i found.0 (omega (arith, is_equal (get_or w i 0) 61 found.1))

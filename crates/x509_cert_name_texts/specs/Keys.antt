@@ -1,0 +1,91 @@
+-- The names of attribute types in name texts (RFC 4514 3; RFC 4519 2; RFC 2985 5.2.1, emailAddress).
+use Rattle.std.specs.Prelude.{ℕ, List, [], ◌∷◌, Bool, Option, Some, None, Result, Ok, Err, codes, length, map, nat_eq, nat_lt, if◌then◌else◌}
+use Rattle.std.specs.Char.{to_ascii_lowercase, to_ascii_uppercase}
+use Rattle.std.specs.Cmp.Lexicographic.{pointwise}
+use Rattle.std.specs.List.{find, list_any}
+use Rattle.const_oid_identifiers.specs.Bound.{Bound}
+use Rattle.const_oid_identifiers.specs.Comparing.{owned_eq}
+use Rattle.const_oid_identifiers.specs.TextReading.{read_text}
+use Rattle.const_oid_identifiers.specs.declared.error.Error.{Error}
+use Rattle.der_core_head.specs.declared.error.ErrorKind.{ErrorKind}
+use Rattle.der_core_head.specs.declared.error.ErrorKind.TheVariants as kinds
+
+-- the arcs of a type, and its names
+pub record Named : Type 0 where
+  pub arcs : List ℕ
+  pub names : List (List ℕ)
+
+-- arcs below 2.5.4
+abbrev pub x520 : ℕ → List ℕ
+x520 n = 2 ∷ 5 ∷ 4 ∷ n ∷ []
+
+-- arcs below 0.9.2342.19200300.100.1
+abbrev pub pilot : ℕ → List ℕ
+pilot n = 0 ∷ 9 ∷ 2342 ∷ 19200300 ∷ 100 ∷ 1 ∷ n ∷ []
+
+abbrev pub email_address : List ℕ
+email_address = 1 ∷ 2 ∷ 840 ∷ 113549 ∷ 1 ∷ 9 ∷ 1 ∷ []
+
+-- a type with one name, or with two
+abbrev pub once : List ℕ → List ℕ → Named
+once arcs name = record { arcs = arcs; names = name ∷ [] }
+
+abbrev pub twice : List ℕ → List ℕ → List ℕ → Named
+twice arcs short long = record { arcs = arcs; names = short ∷ long ∷ [] }
+
+-- all names that are known
+unfoldable pub named_types : List Named
+named_types =
+    twice (x520 3) (codes "cn") (codes "commonName")
+    ∷ twice (x520 4) (codes "sn") (codes "surname")
+    ∷ once (x520 5) (codes "serialNumber")
+    ∷ twice (x520 6) (codes "c") (codes "countryName")
+    ∷ twice (x520 7) (codes "l") (codes "localityName")
+    ∷ twice (x520 8) (codes "st") (codes "stateOrProvinceName")
+    ∷ twice (x520 9) (codes "street") (codes "streetAddress")
+    ∷ twice (x520 10) (codes "o") (codes "organizationName")
+    ∷ twice (x520 11) (codes "ou") (codes "organizationalUnitName")
+    ∷ once (x520 17) (codes "postalCode")
+    ∷ twice (x520 42) (codes "gn") (codes "givenName")
+    ∷ twice (pilot 25) (codes "dc") (codes "domainComponent")
+    ∷ twice (pilot 1) (codes "uid") (codes "userId")
+    ∷ once email_address (codes "emailAddress")
+    ∷ []
+
+-- the same letters, capital or small
+abbrev pub is_name : List ℕ → List ℕ → Bool
+is_name key name = pointwise nat_eq (map to_ascii_lowercase name) (map to_ascii_lowercase key)
+
+-- the type that a name names
+unfoldable pub type_named : List ℕ → Option Named
+type_named key = find (λ t. list_any (is_name key) t.names) named_types
+
+-- the arcs of a dotted text
+abbrev pub dotted_arcs : Result (List ℕ) Error → Result (List ℕ) ErrorKind
+dotted_arcs (Ok arcs) = Ok arcs
+dotted_arcs (Err e) = Err kinds.OidMalformed
+
+-- the arcs of a key, which is the name of a type or a dotted text
+abbrev pub arcs_or : Option Named → List ℕ → Result (List ℕ) ErrorKind
+arcs_or (Some t) key = Ok t.arcs
+arcs_or None key = dotted_arcs (read_text Bound 39 key)
+
+abbrev pub key_arcs : List ℕ → Result (List ℕ) ErrorKind
+key_arcs key = arcs_or (type_named key) key
+
+-- the shortest of the names, the first of equals
+abbrev pub shortest : List ℕ → List (List ℕ) → List ℕ
+shortest best [] = best
+shortest best (name ∷ names) = shortest (if nat_lt (length name) (length best) then name else best) names
+
+abbrev pub shortest_name : List (List ℕ) → List ℕ
+shortest_name [] = []
+shortest_name (name ∷ names) = shortest name names
+
+-- what is printed for a type that has a name, in capitals
+abbrev pub printed_name : Option Named → Option (List ℕ)
+printed_name None = None
+printed_name (Some t) = Some (map to_ascii_uppercase (shortest_name t.names))
+
+unfoldable pub key_of : List ℕ → Option (List ℕ)
+key_of arcs = printed_name (find (λ t. owned_eq t.arcs arcs) named_types)

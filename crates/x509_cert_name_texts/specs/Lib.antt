@@ -1,0 +1,5 @@
+pub mod Keys
+pub mod Rows
+pub mod Answers
+pub mod Pieces
+pub mod Escapes

@@ -1,0 +1,41 @@
+-- A text as pieces between separators (RFC 4514 2.1, 2.2, 3).
+use Rattle.std.specs.Prelude.{◌≡◌, ℕ, ◌+◌, ◌%◌, ◌<◌, ◌==◌, List, [], ◌∷◌, ◌++◌, length, take, drop, position, reverse, slice_index, Option, Some, None, Result, Ok, Err, if◌then◌else◌}
+
+-- the number of backslashes at the front
+abbrev pub backslashes : List ℕ → ℕ
+backslashes [] = 0
+backslashes (c ∷ w) = if c == 92 then backslashes w + 1 else 0
+
+-- a separator counts behind these octets: the run of backslashes before it is even
+abbrev pub Counts : List ℕ → Type 0
+Counts front = backslashes (reverse front) % 2 ≡ 0
+
+-- at no place of these octets stands a separator that counts
+abbrev pub HasNone : ℕ → List ℕ → Type 0
+HasNone separator w = (i : ℕ) → i < length w → slice_index w i ≡ separator → Counts (take i w) → ⊥
+
+-- the first piece of a text, and the text behind the separator that ends it, or none where the text ends it
+abbrev pub IsFirstPiece : ℕ → List ℕ → List ℕ → Option (List ℕ) → Type 0
+IsFirstPiece separator text piece None = (text ≡ piece) × HasNone separator piece
+IsFirstPiece separator text piece (Some rest) = (text ≡ piece ++ (separator ∷ rest)) × HasNone separator piece × Counts piece
+
+-- a value in front of those that are read behind it
+abbrev pub before : {A E : Type 0} → A → Result (List A) E → Result (List A) E
+before a (Ok values) = Ok (a ∷ values)
+before a (Err e) = Err e
+
+-- The pieces of a text are read from the left, up to the first that is refused.
+pub data ReadsPieces {A E : Type 0} (separator : ℕ) (reads : List ℕ → Result A E → Type 0) : List ℕ → Result (List A) E → Type 0 where
+  last : (text piece : List ℕ) (a : A) → IsFirstPiece separator text piece None → reads piece (Ok a) → ReadsPieces separator reads text (Ok (a ∷ []))
+  more : (text piece rest : List ℕ) (a : A) (r : Result (List A) E) → IsFirstPiece separator text piece (Some rest) → reads piece (Ok a)
+      → ReadsPieces separator reads rest r → ReadsPieces separator reads text (before a r)
+  refused : (text piece : List ℕ) (left : Option (List ℕ)) (e : E) → IsFirstPiece separator text piece left → reads piece (Err e)
+      → ReadsPieces separator reads text (Err e)
+
+-- what stands in front of the first = and behind it
+abbrev pub halves_at : Option ℕ → List ℕ → Option (List ℕ × List ℕ)
+halves_at None text = None
+halves_at (Some i) text = Some (take i text, drop (i + 1) text)
+
+abbrev pub key_and_value : List ℕ → Option (List ℕ × List ℕ)
+key_and_value text = halves_at (position (λ c. c == 61) text) text

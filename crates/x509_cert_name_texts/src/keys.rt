@@ -1,0 +1,139 @@
+//! The names of attribute types.
+
+ghost use Rattle.std.specs.Prelude.{◌≡◌, option_map};
+ghost use Rattle.std.specs.List.{find};
+ghost use Rattle.der_core_head.specs.Reading.{GivesNow};
+ghost use Rattle.x509_cert_name_texts.specs.Keys.{key_arcs, key_of};
+ghost use Rattle.x509_cert_name_texts.specs.Rows.{row_of, rows, is_called, has_octets};
+
+use const_oid_identifiers::ObjectIdentifier;
+use der_core_head::Error;
+
+/// A type that has a name: the octets of its identifier, its shortest name in capitals, and its
+/// other name. Where there is one name alone it stands twice.
+#[derive(Clone, Copy)]
+struct Named {
+    octets: &'static [u8],
+    short: &'static str,
+    long: &'static str,
+}
+
+/// The types that have names (RFC 4514 3; RFC 4519 2; RFC 2985 5.2.1).
+const NAMED_TYPES: [Named; 14] = [
+    Named {
+        octets: &[0x55, 4, 3],
+        short: "CN",
+        long: "commonName",
+    },
+    Named {
+        octets: &[0x55, 4, 4],
+        short: "SN",
+        long: "surname",
+    },
+    Named {
+        octets: &[0x55, 4, 5],
+        short: "SERIALNUMBER",
+        long: "serialNumber",
+    },
+    Named {
+        octets: &[0x55, 4, 6],
+        short: "C",
+        long: "countryName",
+    },
+    Named {
+        octets: &[0x55, 4, 7],
+        short: "L",
+        long: "localityName",
+    },
+    Named {
+        octets: &[0x55, 4, 8],
+        short: "ST",
+        long: "stateOrProvinceName",
+    },
+    Named {
+        octets: &[0x55, 4, 9],
+        short: "STREET",
+        long: "streetAddress",
+    },
+    Named {
+        octets: &[0x55, 4, 10],
+        short: "O",
+        long: "organizationName",
+    },
+    Named {
+        octets: &[0x55, 4, 11],
+        short: "OU",
+        long: "organizationalUnitName",
+    },
+    Named {
+        octets: &[0x55, 4, 17],
+        short: "POSTALCODE",
+        long: "postalCode",
+    },
+    Named {
+        octets: &[0x55, 4, 42],
+        short: "GN",
+        long: "givenName",
+    },
+    Named {
+        octets: &[0x09, 0x92, 0x26, 0x89, 0x93, 0xf2, 0x2c, 0x64, 0x01, 0x19],
+        short: "DC",
+        long: "domainComponent",
+    },
+    Named {
+        octets: &[0x09, 0x92, 0x26, 0x89, 0x93, 0xf2, 0x2c, 0x64, 0x01, 0x01],
+        short: "UID",
+        long: "userId",
+    },
+    Named {
+        octets: &[0x2a, 0x86, 0x48, 0x86, 0xf7, 0x0d, 0x01, 0x09, 0x01],
+        short: "EMAILADDRESS",
+        long: "emailAddress",
+    },
+];
+
+impl Named {
+    /// Whether a key is one of its names, in capital or small letters.
+    fn is_called(&self, key: &str) -> bool
+        ensures { result ≡ is_called key.now (row_of self.now) }
+    {
+        self.short.eq_ignore_ascii_case(key) || self.long.eq_ignore_ascii_case(key)
+    }
+}
+
+/// The type that has this name, if there is one.
+fn type_called(key: &str) -> Option<&'static Named>
+    ensures { option_map (λ n. row_of n.now) result ≡ find (is_called key.now) rows }
+{
+    NAMED_TYPES.iter().find(|named| named.is_called(key))
+}
+
+/// The type with these octets, if it has a name.
+fn type_with(octets: &[u8]) -> Option<&'static Named>
+    ensures { option_map (λ n. row_of n.now) result ≡ find (has_octets octets.now) rows }
+{
+    NAMED_TYPES.iter().find(|named| named.octets == octets)
+}
+
+/// The type that a key names: that of its name, in capital or small letters, or of a dotted text.
+///
+/// # Errors
+/// `OidMalformed` where it is neither.
+pub fn type_of_key(key: &str) -> Result<ObjectIdentifier<39>, Error>
+    ensures { GivesNow (λ oid. oid) result (key_arcs key.now) }
+{
+    match type_called(key) {
+        Some(named) => Ok(ObjectIdentifier::from_bytes(named.octets)?),
+        None => Ok(ObjectIdentifier::new(key)?),
+    }
+}
+
+/// The shortest name of a type in capitals, or none.
+pub fn key_of(oid: &ObjectIdentifier<39>) -> Option<&'static str>
+    ensures { key_of oid.now ≡ option_map (λ name. name.now) result }
+{
+    match type_with(oid.as_bytes()) {
+        Some(named) => Some(named.short),
+        None => None,
+    }
+}

@@ -1,0 +1,108 @@
+//! The pieces of a text between separators.
+
+ghost use Rattle.std.specs.Prelude.{◌≡◌, ◌<◌, ◌==◌, ◌&&◌, not, length, option_map, position, take, drop, MatchOption, slice_index};
+ghost use Rattle.der_core_head.specs.Reading.{Gives};
+ghost use Rattle.x509_cert_name_texts.specs.Pieces.{IsFirstPiece, HasNone, Counts, ReadsPieces, key_and_value};
+ghost use Rattle.x509_cert_name_texts.specs.Answers.{GivesBy};
+
+use der_core_head::Error;
+use std::alloc::Global;
+
+/// A type that texts are read as, with memory for what they hold.
+pub trait FromText: Sized {
+    ghost use Rattle.std.specs.Prelude.{Result, List, ℕ};
+    ghost use Rattle.der_core_head.specs.declared.error.ErrorKind.{ErrorKind};
+    ghost use Rattle.x509_cert_name_texts.specs.Answers.{GivesBy};
+
+    // What a text is read as, or why it is refused.
+    ghost reads_text: { List ℕ → Result Self ErrorKind → Type 0 };
+
+    /// What the text is read as.
+    ///
+    /// # Errors
+    /// Those of the type, or `OutOfMemory`.
+    fn from_text(alloc: Global, text: &str) -> Result<Self, Error>
+        ensures { GivesBy (λ x. x) result (reads_text text.now) };
+}
+
+/// Whether an octet is a separator that counts, behind an open escape or not.
+fn is_end(octet: u8, separator: u8, escaped: bool) -> bool
+    ensures { result ≡ (octet == separator && not escaped) }
+{
+    octet == separator && !escaped
+}
+
+/// Whether an escape is open behind an octet, which stands behind an open one or not.
+fn opens_escape(octet: u8, escaped: bool) -> bool
+    ensures { result ≡ (octet == 92 && not escaped) }
+{
+    octet == b'\\' && !escaped
+}
+
+/// The place of the first separator that counts.
+fn first_separator(text: &[u8], separator: u8) -> Option<usize>
+    ensures { MatchOption result (HasNone separator text.now) (λ i. (i < length text.now) × (slice_index text.now i ≡ separator) × HasNone separator (take i text.now) × Counts (take i text.now)) }
+{
+    let mut escaped = false;
+    for (i, octet) in text.iter().enumerate() {
+        if is_end(*octet, separator, escaped) {
+            return Some(i);
+        }
+        escaped = opens_escape(*octet, escaped);
+    }
+    None
+}
+
+/// The first piece of a text, and the text behind the separator that ends it, or none where the text ends
+/// it. A separator counts where the run of backslashes before it is even.
+pub fn first_piece(text: &str, separator: u8) -> (&str, Option<&str>)
+    requires { separator < 128 }
+    ensures { IsFirstPiece separator text.now result.0.now (option_map (λ rest. rest.now) result.1) }
+{
+    match first_separator(text.as_bytes(), separator) {
+        None => (text, None),
+        Some(i) => (&text[..i], Some(&text[i + 1..])),
+    }
+}
+
+/// What the pieces of a text are read as, from the left.
+///
+/// # Errors
+/// That of the first piece which is refused, or `OutOfMemory`.
+pub fn read_pieces<T: FromText + Drop>(
+    alloc: Global,
+    text: &str,
+    separator: u8,
+) -> Result<Vec<T>, Error>
+    requires { separator < 128 }
+    ensures { GivesBy (λ v. v.items) result (ReadsPieces separator T.reads_text text.now) }
+{
+    let mut values = Vec::new(alloc);
+    let mut left = text;
+    loop {
+        let (piece, rest) = first_piece(left, separator);
+        values.push(T::from_text(alloc, piece)?)?;
+        let Some(rest) = rest else {
+            return Ok(values);
+        };
+        left = rest;
+    }
+}
+
+/// The place of the first `=`.
+fn place_of_equals(text: &[u8]) -> Option<usize>
+    ensures { result ≡ position (λ c. c == 61) text.now }
+{
+    text.iter().position(|octet| *octet == b'=')
+}
+
+/// The octets in front of the first `=` and those behind it, or none where there is no `=`.
+pub fn split_member(text: &str) -> Option<(&str, &[u8])>
+    ensures { key_and_value text.now ≡ option_map (λ halves. (halves.0.now, halves.1.now)) result }
+{
+    let octets = text.as_bytes();
+    match place_of_equals(octets) {
+        None => None,
+        Some(i) => Some((&text[..i], &octets[i + 1..])),
+    }
+}

@@ -1,0 +1,80 @@
+//! The parts of a printed name.
+
+ghost use Rattle.std.specs.Prelude.{◌≡◌, ◌<◌, ◌∷◌, []};
+ghost use Rattle.std.specs.Fmt.{WritesOnOk};
+ghost use Rattle.std.specs.Str.{chars};
+ghost use Rattle.x509_cert_name_texts.specs.Escapes.{escaped_char, escaped, hex_digits, in_hex, is_escaped_sign};
+
+use std::fmt;
+
+/// Whether a character has a backslash wherever it stands (RFC 4514 2.4).
+fn is_escaped_sign(c: char) -> bool
+    ensures { result ≡ is_escaped_sign c }
+{
+    matches!(c, '"' | '+' | ',' | ';' | '<' | '>' | '\\')
+}
+
+/// Writes two small hex digits.
+fn write_hex_octet<W: fmt::Write>(octet: u8, f: &mut fmt::Formatter<W>) -> fmt::Result
+    ensures { WritesOnOk W.write_str_gives f.old result (hex_digits octet) f.new }
+{
+    write!(f, "{octet:02x}")
+}
+
+/// Writes octets as small hex digits.
+pub fn write_hex<W: fmt::Write>(octets: &[u8], f: &mut fmt::Formatter<W>) -> fmt::Result
+    ensures { WritesOnOk W.write_str_gives f.old result (in_hex octets.now) f.new }
+{
+    for octet in octets {
+        write_hex_octet(*octet, f)?;
+    }
+    Ok(())
+}
+
+/// Writes a backslash and a sign.
+fn write_escaped_sign<W: fmt::Write>(sign: char, f: &mut fmt::Formatter<W>) -> fmt::Result
+    requires { sign < 128 }
+    ensures { WritesOnOk W.write_str_gives f.old result (92 ∷ sign ∷ []) f.new }
+{
+    write!(f, "\\{sign}")
+}
+
+/// Writes a backslash and two small hex digits.
+fn write_escaped_octet<W: fmt::Write>(octet: u8, f: &mut fmt::Formatter<W>) -> fmt::Result
+    ensures { WritesOnOk W.write_str_gives f.old result (92 ∷ hex_digits octet) f.new }
+{
+    write!(f, "\\{octet:02x}")
+}
+
+/// Writes a character of a text, with a backslash where it must have one.
+fn write_escaped_char<W: fmt::Write>(
+    c: char,
+    first: bool,
+    last: bool,
+    f: &mut fmt::Formatter<W>,
+) -> fmt::Result
+    ensures { WritesOnOk W.write_str_gives f.old result (escaped_char first last c) f.new }
+{
+    if is_escaped_sign(c) || (c == '#' && first) || (c == ' ' && (first || last)) {
+        return write_escaped_sign(c, f);
+    }
+    if c < ' ' || c == '\x7f' {
+        return write_escaped_octet(c as u8, f);
+    }
+    write!(f, "{c}")
+}
+
+/// Writes a text (RFC 4514 2.4): with a backslash before each of `"+,;<>\`, a first `#`, a first and a last
+/// blank, and control characters as a backslash and two small hex digits.
+pub fn write_escaped<W: fmt::Write>(text: &str, f: &mut fmt::Formatter<W>) -> fmt::Result
+    ensures { WritesOnOk W.write_str_gives f.old result (escaped (chars text.now)) f.new }
+{
+    let mut left = text.chars();
+    let mut first = true;
+    while let Some(c) = left.next() {
+        let last = left.as_str().is_empty();
+        write_escaped_char(c, first, last, f)?;
+        first = false;
+    }
+    Ok(())
+}

@@ -1,0 +1,120 @@
+//! The values of attributes as texts.
+
+ghost use Rattle.std.specs.Prelude.{◌≡◌, option_map};
+ghost use Rattle.std.specs.Fmt.{WritesOnOk};
+ghost use Rattle.der_core_head.specs.Heads.{head_octets};
+ghost use Rattle.der_core_head.specs.Reading.{Gives, GivesNow};
+ghost use Rattle.x509_cert_name_texts.specs.Escapes.{in_hex};
+ghost use Rattle.x509_cert_names.specs.ValueTexts.{tag_for, encoded_value, text_value, value_read, text_of, encoding_of};
+
+use crate::attribute_type_and_value::{AttributeType, AttributeValue};
+use crate::attribute_types as types;
+use der_core::{Error, Length, SliceWriter, Tag, from_der};
+use der_core_octets::encode_header;
+use der_types_any::Any;
+use der_types_text::{Ia5StringRef, PrintableStringRef, TeletexStringRef};
+use std::alloc::Global;
+use std::fmt;
+use x509_cert_name_texts::{from_hex, undo_escapes, write_hex};
+
+/// The tag of a value that is spelled as a text.
+fn tag_for(oid: &AttributeType) -> Tag
+    ensures { result ≡ tag_for oid.now }
+{
+    if *oid == types::country() || *oid == types::serial_number() {
+        return Tag::PrintableString;
+    }
+    if *oid == types::domain_component() || *oid == types::email_address() {
+        return Tag::Ia5String;
+    }
+    Tag::Utf8String
+}
+
+/// The value whose encoding these hex digits are.
+#[tactic(auto, unfolding(crate::specs::ValueTexts::encoded_value))]
+fn encoded_value(alloc: Global, digits: &[u8]) -> Result<AttributeValue, Error>
+    ensures { Gives (λ a. a) result (encoded_value digits.now) }
+{
+    let octets = from_hex(alloc, digits)?;
+    let value = from_der::<Any>(alloc, octets.as_slice())?;
+    Ok(value)
+}
+
+/// The value with this content, its escapes undone.
+#[tactic(auto, unfolding(crate::specs::ValueTexts::text_value))]
+fn text_value(alloc: Global, oid: &AttributeType, text: &[u8]) -> Result<AttributeValue, Error>
+    ensures { Gives (λ a. a) result (text_value oid.now text.now) }
+{
+    let octets = undo_escapes(alloc, text)?;
+    let value = Any::new(tag_for(oid), octets)?;
+    Ok(value)
+}
+
+/// The value that stands behind the `=` of an attribute.
+#[tactic(auto, unfolding(crate::specs::ValueTexts::value_read))]
+pub(crate) fn value_of(
+    alloc: Global,
+    oid: &AttributeType,
+    text: &[u8],
+) -> Result<AttributeValue, Error>
+    ensures { Gives (λ a. a) result (value_read oid.now text.now) }
+{
+    match text {
+        [b'#', digits @ ..] => encoded_value(alloc, digits),
+        _ => text_value(alloc, oid, text),
+    }
+}
+
+/// The text of a value, where it reads as its PrintableString, UTF8String, IA5String or TeletexString.
+#[tactic(auto, unfolding(crate::specs::ValueTexts::text_of))]
+pub(crate) fn text_of(value: &AttributeValue) -> Option<&str>
+    ensures { text_of value.now ≡ option_map (λ text. text.now) result }
+{
+    match value.tag() {
+        Tag::PrintableString => match PrintableStringRef::try_from(value) {
+            Ok(text) => Some(text.as_str()),
+            Err(_) => None,
+        },
+        Tag::Utf8String => match <&str>::try_from(value) {
+            Ok(text) => Some(text),
+            Err(_) => None,
+        },
+        Tag::Ia5String => match Ia5StringRef::try_from(value) {
+            Ok(text) => Some(text.as_str()),
+            Err(_) => None,
+        },
+        Tag::TeletexString => match TeletexStringRef::try_from(value) {
+            Ok(text) => Some(text.as_str()),
+            Err(_) => None,
+        },
+        _ => None,
+    }
+}
+
+/// Writes a header as small hex digits.
+fn write_head<W: fmt::Write>(tag: Tag, length: Length, f: &mut fmt::Formatter<W>) -> fmt::Result
+    ensures { WritesOnOk W.write_str_gives f.old result (in_hex (head_octets tag length.value)) f.new }
+{
+    let mut octets = [0u8; 11];
+    let mut writer = SliceWriter::new(&mut octets);
+    match encode_header(&mut writer, tag, length) {
+        Ok(()) => {}
+        Err(_) => return Err(fmt::Error),
+    }
+    match writer.finish() {
+        Ok(head) => write_hex(head, f),
+        Err(_) => Err(fmt::Error),
+    }
+}
+
+/// Writes the encoding of a value as small hex digits. A length that none can count is refused.
+pub(crate) fn write_encoding<W: fmt::Write>(
+    value: &AttributeValue,
+    f: &mut fmt::Formatter<W>,
+) -> fmt::Result
+    ensures { WritesOnOk W.write_str_gives f.old result (in_hex (encoding_of value.now)) f.new }
+{
+    let header = value.header();
+    write_head(header.tag(), header.length(), f)?;
+    write_hex(value.value(), f)
+}
