@@ -1,1 +1,3 @@
 mod VersionOctets
+mod Respelled
+mod Places

@@ -30,7 +30,7 @@ use x509_cert_parts::{AlgorithmIdentifier, Profile, Rfc5280};
 /// ```
 #[derive(Drop)]
 #[derive_where(Clone, Debug, PartialEq, Eq)]
-pub struct CertificateInner<P> {
+pub struct CertificateInner<P = Rfc5280> {
     tbs_certificate: TbsCertificateInner<P>,
     signature_algorithm: AlgorithmIdentifier,
     signature: BitString,

@@ -2,6 +2,7 @@
 #![tactic(auto)]
 
 mod certificate;
+pub mod laws;
 mod tbs_certificate;
 mod unique_identifier_ref;
 mod version_field;

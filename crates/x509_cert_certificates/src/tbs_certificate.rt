@@ -41,7 +41,7 @@ use x509_cert_parts::{
 /// ```
 #[derive(Drop)]
 #[derive_where(Clone, Debug, PartialEq, Eq)]
-pub struct TbsCertificateInner<P> {
+pub struct TbsCertificateInner<P = Rfc5280> {
     version: Version,
     serial_number: SerialNumber<P>,
     signature: AlgorithmIdentifier,

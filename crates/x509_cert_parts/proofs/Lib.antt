@@ -1,3 +1,4 @@
-mod Respelled
+pub mod Shorter
+pub mod Respelled
 mod Versions
 mod SameOctets

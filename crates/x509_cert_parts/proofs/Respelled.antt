@@ -1,5 +1,5 @@
 -- Respelled dates: they have an encoding, and which of them are the same.
-use Rattle.std.proofs.Common.{◌≡◌, ℕ, ◌<◌, ◌≤◌, Bool, true, false, cond, List, [], ◌++◌, length, refl, ap, arith, inl, inr}
+use Rattle.std.proofs.Common.{◌≡◌, ℕ, ◌+◌, ◌<◌, ◌≤◌, Bool, true, false, cond, List, [], ◌++◌, length, refl, ap, arith, inl, inr}
 use Rattle.std.specs.Prelude.{nat_lt, ◌↔◌}
 use Rattle.std.proofs.lemmas.Bool.{ltb-false, lt-ltb}
 use Rattle.std.proofs.lemmas.List.{length-append}
@@ -10,6 +10,7 @@ use Rattle.der_core_head.specs.Tags.{tag_octets}
 use Rattle.der_core_head.specs.Shapes.{IsValid, IsContent, IsBody, octets_of, contents, body_octets}
 use Rattle.der_core_head.proofs.AllOctets.{one_value}
 use Rattle.x509_cert_parts.specs.Grammar.{time, validity, validity_fields, PlainTime, PlainValidity, not_before, not_after}
+use Rattle.x509_cert_parts.proofs.Shorter.{tlv_shorter}
 use Rattle.x509_cert_parts.specs.Respelling.{respelled, spelled_by, validity_by, is_early_generalized}
 
 -- one spelling of a date, or the other
@@ -70,6 +71,35 @@ pub validity_valid : (r : Bool) (v : PlainValidity) → IsValid validity v → I
 validity_valid r v h =
     let dates = dates_valid v h in
     validity_of_dates (validity_by r v) (spelled_valid r (not_before v) dates.0) (spelled_valid r (not_after v) dates.1)
+
+-- a date that is respelled is no longer
+utc_shorter : (c : Civil) → length (octets_of time (inl c)) ≤ length (octets_of time (inr c))
+unfolding octets_of contents tlv head_octets length_octets tag_octets utc_octets generalized_octets
+utc_shorter c = omega arith
+
+spelling_shorter : (c : Civil) (b : Bool) → length (octets_of time (spelling b c)) ≤ length (octets_of time (inr c))
+spelling_shorter c true = omega arith
+spelling_shorter c false = utc_shorter c
+
+respelled_shorter : (t : PlainTime) → length (octets_of time (respelled t)) ≤ length (octets_of time t)
+respelled_shorter (inl c) = omega arith
+respelled_shorter (inr c) = spelling_shorter c (nat_lt 2049 c.year)
+
+spelled_shorter : (r : Bool) (t : PlainTime) → length (octets_of time (spelled_by r t)) ≤ length (octets_of time t)
+spelled_shorter true t = respelled_shorter t
+spelled_shorter false t = omega arith
+
+dates_length : (v : PlainValidity) → length (body_octets validity_fields v) ≡ length (octets_of time (not_before v)) + length (octets_of time (not_after v))
+unfolding body_octets
+dates_length v =
+    omega (arith, length-append (octets_of time (not_before v)) (octets_of time (not_after v) ++ []), length-append (octets_of time (not_after v)) [])
+
+pub validity_shorter : (r : Bool) (v : PlainValidity) → length (octets_of validity (validity_by r v)) ≤ length (octets_of validity v)
+unfolding octets_of contents
+validity_shorter r v =
+    tlv_shorter tags.Sequence (body_octets validity_fields (validity_by r v)) (body_octets validity_fields v)
+    (omega (arith, dates_length v, dates_length (validity_by r v), spelled_shorter r (not_before v), spelled_shorter r (not_after v)))
+    (omega (arith, body_short v))
 
 spelling_same : (c : Civil) (b : Bool) → (spelling b c ≡ inr c) ↔ (cond b false true ≡ false)
 spelling_same c true = (λ e. refl, λ e. refl)

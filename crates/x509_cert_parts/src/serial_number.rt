@@ -13,7 +13,7 @@ ghost use Rattle.der_types_numbers.specs.NumberOrders.{integer_cmp, integer_cmp_
 ghost use Rattle.x509_cert_parts.specs.Grammar.{numbers_within};
 ghost use Rattle.x509_cert_parts.specs.SerialNumbers.{new_serial};
 
-use crate::profile::Profile;
+use crate::profile::{Profile, Rfc5280};
 use der_core::making::{decode_leaf, integer_octets_of, value_cmp_by_contents};
 use der_core::{
     ApartValue, AsReadValue, DecodeValue, EncodeValue, Error, ErrorKind, FixedTag, Header, Leaf,
@@ -34,7 +34,7 @@ use std::marker::{Model, PhantomData};
 /// ```
 #[derive(Drop)]
 #[derive_where(Debug)]
-pub struct SerialNumber<P> {
+pub struct SerialNumber<P = Rfc5280> {
     inner: Int,
     profile: PhantomData<P>,
 }

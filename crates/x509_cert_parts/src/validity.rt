@@ -10,7 +10,7 @@ ghost use Rattle.x509_cert_parts.specs.Respelling.{validity_by};
 ghost use Rattle.x509_cert_parts.specs.Times.{time_of, without_end};
 ghost use Rattle.x509_cert_parts.specs.Views.{time_value, time_date, validity_plain};
 
-use crate::profile::Profile;
+use crate::profile::{Profile, Rfc5280};
 use crate::time::Time;
 use der_core::making::read_fields;
 use der_core::{
@@ -30,7 +30,7 @@ use std::time::Duration;
 /// Validity ::= SEQUENCE { notBefore Time, notAfter Time }
 /// ```
 #[derive_where(Clone, Copy, Debug, PartialEq, Eq)]
-pub struct Validity<P> {
+pub struct Validity<P = Rfc5280> {
     pub not_before: Time,
     pub not_after: Time,
     profile: PhantomData<P>,
