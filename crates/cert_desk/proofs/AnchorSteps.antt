@@ -1,13 +1,13 @@
 -- A step of a loop over anchors, and names that are compared.
-use Rattle.std.proofs.Common.{◌≡◌, ℕ, ◌+◌, ◌<◌, ◌≤◌, Bool, true, false, cond, ◌&&◌, ◌||◌, List, [], ◌∷◌, length, get_or, map, drop, IsTrue, ◌↔◌, Decides, bytes_eq, refl, sym, ap, ◌∙◌, subst, arith, add_assoc}
+use Rattle.std.proofs.Common.{◌≡◌, ℕ, ◌+◌, ◌<◌, ◌≤◌, Bool, true, false, cond, ◌&&◌, ◌||◌, List, length, get_or, map, drop, IsTrue, ◌↔◌, bytes_eq, refl, sym, ap, ◌∙◌, arith}
 use Rattle.std.specs.List.{list_any}
 use Rattle.std.proofs.lemmas.List.{at_drop_more, at_drop_all}
 use Rattle.std.proofs.lemmas.Slice.Eq.{bytes_eq-Decides}
 use Rattle.std.proofs.lemmas.Bool.Decides.{same_from_decides}
-use Rattle.x509_cert.specs.Certificates.{PlainCertificate, PlainName, name_octets, issuer}
+use Rattle.x509_cert.specs.Certificates.{PlainCertificate, PlainName, name_octets}
 use Rattle.cert_desk.specs.declared.anchor.Anchor.{Anchor}
 use Rattle.cert_desk.specs.Anchors.{anchor_plain}
-use Rattle.cert_desk.specs.Judging.{Answers, PlainAnchor, same_name, is_named}
+use Rattle.cert_desk.specs.Judging.{Answers, PlainAnchor, same_name}
 use Rattle.cert_desk.specs.Places.{signs, asked_once, asked_until}
 
 -- names with the same octets
@@ -15,15 +15,11 @@ pub same_name_by : (bound : ℕ) (r : Bool) (a b : PlainName) → IsTrue r ↔ (
 same_name_by bound r a b h = same_from_decides r (bytes_eq (name_octets bound a) (name_octets bound b)) h (bytes_eq-Decides (name_octets bound a) (name_octets bound b))
 
 -- of a test that compared with another name like the second
-pub same_name_is : (bound : ℕ) (r b : Bool) (m n o : PlainName) → IsTrue r ↔ (name_octets bound m ≡ name_octets bound n) → n ≡ o → r ≡ b → same_name bound m o ≡ b
-same_name_is bound r b m n o h e t = ap (same_name bound m) (sym e) ∙ sym (same_name_by bound r m n h) ∙ t
+pub same_name_is : (bound : ℕ) (r b : Bool) (m n o : PlainName) → r ≡ same_name bound m n → n ≡ o → r ≡ b → same_name bound m o ≡ b
+same_name_is bound r b m n o h e t = ap (same_name bound m) (sym e) ∙ sym h ∙ t
 
 abbrev any_left : (PlainAnchor → Bool) → List Anchor → Bool
 any_left p xs = list_any p (map anchor_plain xs)
-
-pub any_of_plain : (p : PlainAnchor → Bool) (xs : List Anchor) → list_any (λ a. p (anchor_plain a)) xs ≡ list_any p (map anchor_plain xs)
-any_of_plain p [] = refl
-any_of_plain p (x ∷ xs) = ap (λ b. p (anchor_plain x) || b) (any_of_plain p xs)
 
 pub any_yes : (p : PlainAnchor → Bool) (xs : List Anchor) (i : ℕ) (d : Anchor) → i < length xs → p (anchor_plain (get_or xs i d)) ≡ true
     → list_any p (map anchor_plain (drop i xs)) ≡ true

@@ -1,20 +1,14 @@
 -- What a verdict says of a stream of one chain, and of one with a fault.
-use Rattle.std.proofs.Common.{◌≡◌, ℕ, ◌+◌, ◌-◌, ◌<◌, ◌^◌, min, max, List, [], ◌∷◌, ◌++◌, length, true, false, refl, sym, ap, ◌∙◌, subst, arith, lit<, append_assoc, append-nil, length-append}
-use Rattle.std.specs.List.{AllByRecursion}
+use Rattle.std.proofs.Common.{◌≡◌, ℕ, ◌+◌, ◌-◌, ◌<◌, ◌^◌, min, max, List, [], ◌∷◌, ◌++◌, length, true, refl, sym, ap, ◌∙◌, subst, arith, lit<}
 use Rattle.std.proofs.lemmas.Bool.{both_ways}
-use Rattle.std.proofs.lemmas.List.Concat.{flat_map-append}
-use Rattle.der_core_head.specs.declared.tag.Tag.TheVariants as tags
-use Rattle.der_core_head.specs.Tags.{tag_octets}
-use Rattle.der_core_head.specs.Heads.{head_octets, length_octets}
 use Rattle.x509_cert.specs.Certificates.{PlainCertificate, certificate_octets}
 use Rattle.cert_desk.specs.declared.checked.Checked.{Checked}
 use Rattle.cert_desk.specs.declared.standing.Standing.TheVariants as standings
 use Rattle.cert_desk.specs.declared.checked.Verdict.{Verdict}
 use Rattle.cert_desk.specs.declared.checked.Verdict.TheVariants as verdicts
 use Rattle.cert_desk.specs.declared.fault_kind.FaultKind.{FaultKind}
-use Rattle.cert_desk.specs.declared.fault_kind.FaultKind.TheVariants as kinds
-use Rattle.cert_desk.specs.Chains.{Chain, Stands, joined}
-use Rattle.cert_desk.specs.Faults.{Says, NoneBefore, rank, Split, StreamFault}
+use Rattle.cert_desk.specs.Chains.{Chain, joined}
+use Rattle.cert_desk.specs.Faults.{Split, StreamFault}
 use Rattle.cert_desk.specs.Judging.{Terms, keeps_at}
 use Rattle.cert_desk.specs.Verdicts.{IsVerdict, Trusted, Asks, IsCounted, asked}
 use Rattle.cert_desk.specs.Streams.{Kept, Reads, ReadsAs}

@@ -1,6 +1,6 @@
 -- Counts that rise, and stay at the most that 64 bits hold.
-use Rattle.std.proofs.Common.{◌≡◌, ℕ, ◌+◌, ◌-◌, ◌^◌, min, max, refl, sym, ap, ◌∙◌, arith}
-use Rattle.cert_desk.specs.Verdicts.{capped, raised}
+use Rattle.std.proofs.Common.{◌≡◌, ℕ, ◌+◌, ◌-◌, ◌^◌, min, max, ap, ◌∙◌, arith}
+use Rattle.cert_desk.specs.Verdicts.{raised}
 use Rattle.cert_desk.specs.Places.{Rises}
 
 raised_to : (cap old n m : ℕ) → max (max old (min (old + n) cap)) (min (max old (min (old + n) cap) + m) cap) ≡ max old (min (old + (n + m)) cap)

@@ -10,6 +10,7 @@ pub mod ChainLaws
 pub mod OneVerdict
 pub mod AnchorSteps
 pub mod Counts
+pub mod ExtensionLaws
 pub mod Encodings
 pub mod RuleList
 pub mod PlaceLaws

@@ -1,11 +1,11 @@
 -- Where a certificate stands in the octets of a bundle.
-use Rattle.std.proofs.Common.{◌≡◌, ◌≢◌, ℕ, zero, suc, ◌+◌, ◌-◌, ◌^◌, ◌<◌, ◌≤◌, List, [], ◌∷◌, ◌++◌, length, take, drop, Some, Result, Ok, Err, is_ok, true, false, cond, refl, sym, ap, subst, ◌∙◌, arith, ◌⊎◌, inl, inr, append_assoc, length-append, slice_get}
+use Rattle.std.proofs.Common.{◌≡◌, ◌≢◌, ℕ, zero, suc, ◌+◌, ◌-◌, ◌^◌, ◌<◌, ◌≤◌, List, [], ◌∷◌, ◌++◌, length, take, drop, Some, Result, Ok, Err, is_ok, true, cond, refl, sym, ap, subst, ◌∙◌, arith, ◌⊎◌, inl, inr, append_assoc, length-append, slice_get}
 use Rattle.std.proofs.lemmas.List.{take_at, drop_at, take-append-drop, take-append-le, drop-drop, take-map, map-append, map_push, length-map}
 use Rattle.std.specs.List.{AllByRecursion}
 use Rattle.der_core_head.specs.declared.tag.Tag.TheVariants as tags
 use Rattle.der_core_head.specs.Heads.{length_octets, head_octets, tlv}
 use Rattle.der_core_head.specs.Shapes.{IsValid, IsContent, IsBody, Spells, octets_of, body_octets, contents}
-use Rattle.x509_cert.specs.Certificates.{PlainCertificate, certificate, certificate_fields, tbs_certificate, tbs_fields, algorithm_identifier, bit_string, certificate_octets, tbs, signed_start, signed_length}
+use Rattle.x509_cert.specs.Certificates.{PlainCertificate, raw_certificate, raw_certificate_fields, raw_tbs_certificate, raw_tbs_fields, algorithm_identifier, bit_string, certificate_octets, tbs, signed_start, signed_length}
 use Rattle.x509_cert.specs.Views.{arc_bound}
 use Rattle.cert_desk.specs.declared.bundle.Located.{Located}
 use Rattle.cert_desk.specs.declared.bundle_error.BundleError.{BundleError}
@@ -32,14 +32,14 @@ pub record Parts (bound : ℕ) (c : PlainCertificate) : Type 0 where
   pub more : List ℕ
   pub tbs_body : List ℕ
   pub small : length tbs_body < 2 ^ 32
-  pub signed : octets_of (tbs_certificate bound) (tbs c) ≡ head_octets tags.Sequence (length tbs_body) ++ tbs_body
-  pub octets : certificate_octets bound c ≡ head_octets tags.Sequence number ++ (octets_of (tbs_certificate bound) (tbs c) ++ more)
+  pub signed : octets_of (raw_tbs_certificate bound) (tbs c) ≡ head_octets tags.Sequence (length tbs_body) ++ tbs_body
+  pub octets : certificate_octets bound c ≡ head_octets tags.Sequence number ++ (octets_of (raw_tbs_certificate bound) (tbs c) ++ more)
 
-pub certificate-parts : (bound : ℕ) (c : PlainCertificate) → IsValid (certificate bound) c → Parts bound c
+pub certificate-parts : (bound : ℕ) (c : PlainCertificate) → IsValid (raw_certificate bound) c → Parts bound c
 unfolding octets_of contents body_octets IsValid IsContent IsBody tlv signed_start
 certificate-parts bound c valid =
-    let tbs_body = body_octets (tbs_fields bound) (tbs c) in
-    let body = body_octets (certificate_fields bound) c in
+    let tbs_body = body_octets (raw_tbs_fields bound) (tbs c) in
+    let body = body_octets (raw_certificate_fields bound) c in
     record {
       number = length body;
       number_small = omega (arith, valid.2, length-append (head_octets tags.Sequence (length body)) body);
@@ -51,26 +51,26 @@ certificate-parts bound c valid =
       octets = refl;
     }
 
-signed_length-is : (bound : ℕ) (c : PlainCertificate) → signed_length bound c ≡ length (octets_of (tbs_certificate bound) (tbs c))
+signed_length-is : (bound : ℕ) (c : PlainCertificate) → signed_length bound c ≡ length (octets_of (raw_tbs_certificate bound) (tbs c))
 unfolding signed_length
 signed_length-is bound c = refl
 
 -- the signed part, and what is behind it, in a certificate's octets
-pub behind_header : (bound : ℕ) (c : PlainCertificate) → (p : Parts bound c) → drop (signed_start bound c) (certificate_octets bound c) ≡ octets_of (tbs_certificate bound) (tbs c) ++ p.more
+pub behind_header : (bound : ℕ) (c : PlainCertificate) → (p : Parts bound c) → drop (signed_start bound c) (certificate_octets bound c) ≡ octets_of (raw_tbs_certificate bound) (tbs c) ++ p.more
 behind_header bound c p =
     ap (λ (x : List ℕ). drop (signed_start bound c) x) p.octets
-    ∙ drop_at (head_octets tags.Sequence p.number) (octets_of (tbs_certificate bound) (tbs c) ++ p.more) (signed_start bound c) (sym p.start_is)
+    ∙ drop_at (head_octets tags.Sequence p.number) (octets_of (raw_tbs_certificate bound) (tbs c) ++ p.more) (signed_start bound c) (sym p.start_is)
 
-pub signed_in : (bound : ℕ) (c : PlainCertificate) → IsValid (certificate bound) c → take (signed_length bound c) (drop (signed_start bound c) (certificate_octets bound c)) ≡ octets_of (tbs_certificate bound) (tbs c)
+pub signed_in : (bound : ℕ) (c : PlainCertificate) → IsValid (raw_certificate bound) c → take (signed_length bound c) (drop (signed_start bound c) (certificate_octets bound c)) ≡ octets_of (raw_tbs_certificate bound) (tbs c)
 signed_in bound c valid =
     let p = certificate-parts bound c valid in
     ap (λ (x : List ℕ). take (signed_length bound c) x) (behind_header bound c p)
-    ∙ take_at (octets_of (tbs_certificate bound) (tbs c)) p.more (signed_length bound c) (sym (signed_length-is bound c))
+    ∙ take_at (octets_of (raw_tbs_certificate bound) (tbs c)) p.more (signed_length bound c) (sym (signed_length-is bound c))
 
-pub signed_within : (bound : ℕ) (c : PlainCertificate) → IsValid (certificate bound) c → signed_start bound c + signed_length bound c ≤ length (certificate_octets bound c)
+pub signed_within : (bound : ℕ) (c : PlainCertificate) → IsValid (raw_certificate bound) c → signed_start bound c + signed_length bound c ≤ length (certificate_octets bound c)
 signed_within bound c valid =
     let p = certificate-parts bound c valid in
-    omega (arith, ap length p.octets, length-append (head_octets tags.Sequence p.number) (octets_of (tbs_certificate bound) (tbs c) ++ p.more), length-append (octets_of (tbs_certificate bound) (tbs c)) p.more, p.start_is, signed_length-is bound c)
+    omega (arith, ap length p.octets, length-append (head_octets tags.Sequence p.number) (octets_of (raw_tbs_certificate bound) (tbs c) ++ p.more), length-append (octets_of (raw_tbs_certificate bound) (tbs c)) p.more, p.start_is, signed_length-is bound c)
 
 -- A whole certificate in the rest
 
@@ -91,7 +91,7 @@ module _ (bound limit offset : ℕ) (rest : List ℕ) (header len : ℕ) (w : Ha
   whole_within = omega (arith, w.len_is, w.within)
 
   -- octets that no certificate has
-  pub whole_malformed : ((c : PlainCertificate) → Spells (certificate bound) c (take len rest) → ⊥) → IsFault bound limit offset kinds.Malformed rest
+  pub whole_malformed : ((c : PlainCertificate) → Spells (raw_certificate bound) c (take len rest) → ⊥) → IsFault bound limit offset kinds.Malformed rest
   whole_malformed none =
       let v = length_octets w.number ++ (w.body ++ w.more) in
       record {
@@ -106,7 +106,7 @@ module _ (bound limit offset : ℕ) (rest : List ℕ) (header len : ℕ) (w : Ha
       }
 
   -- a certificate's octets
-  module _ (c : PlainCertificate) (s : Spells (certificate bound) c (take len rest)) where
+  module _ (c : PlainCertificate) (s : Spells (raw_certificate bound) c (take len rest)) where
     pub read-length : length (certificate_octets bound c) ≡ len
     read-length = ap length (sym s.octets ∙ whole-take) ∙ whole-length
 
@@ -119,7 +119,7 @@ module _ (bound limit offset : ℕ) (rest : List ℕ) (header len : ℕ) (w : Ha
     pub read-header : header ≡ signed_start bound c
     read-header =
         let p = certificate-parts bound c s.valid in
-        let body = octets_of (tbs_certificate bound) (tbs c) ++ p.more in
+        let body = octets_of (raw_tbs_certificate bound) (tbs c) ++ p.more in
         let b = begun bound rest c (drop len rest) s.valid read-rest in
         let heads : 0x30 ∷ (length_octets w.number ++ w.body) ≡ 0x30 ∷ (length_octets p.number ++ body) =
         ap (λ (x : List ℕ). x ++ w.body) (sym (head-sequence w.number)) ∙ sym whole-take ∙ s.octets ∙ p.octets ∙ ap (λ (x : List ℕ). x ++ body) (head-sequence p.number) in
@@ -211,7 +211,7 @@ pub record IsHeld (octets : List ℕ) (l : Located) : Type 0 where
   pub ends : l.end ≤ length octets
   pub within : l.header + l.signed ≤ l.end - l.offset
   pub octets_are : take (l.end - l.offset) (drop l.offset octets) ≡ certificate_octets arc_bound (plain_of l)
-  pub signed_are : take l.signed (drop l.header (certificate_octets arc_bound (plain_of l))) ≡ octets_of (tbs_certificate arc_bound) (tbs (plain_of l))
+  pub signed_are : take l.signed (drop l.header (certificate_octets arc_bound (plain_of l))) ≡ octets_of (raw_tbs_certificate arc_bound) (tbs (plain_of l))
 
 -- a list up to a place, there, and behind it
 split_at : (items : List Located) (place : ℕ) (l : Located) → slice_get items place ≡ Some l → items ≡ take place items ++ l ∷ drop (suc place) items

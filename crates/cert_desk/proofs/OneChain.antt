@@ -2,7 +2,7 @@
 use Rattle.std.proofs.Common.{◌≡◌, ℕ, ◌<◌, List, [], ◌∷◌, ◌++◌, length, eqb, refl, sym, ap, subst, ◌∙◌, arith, ◌⊎◌, inl, inr, append_assoc, append-nil, length-append, cond}
 use Rattle.std.proofs.lemmas.Bool.{cases_lt}
 use Rattle.std.specs.List.{AllByRecursion}
-use Rattle.x509_cert.specs.Certificates.{PlainCertificate, certificate, certificate_octets}
+use Rattle.x509_cert.specs.Certificates.{PlainCertificate, raw_certificate, certificate_octets}
 use Rattle.cert_desk.specs.declared.fault_kind.FaultKind.{FaultKind}
 use Rattle.cert_desk.specs.declared.fault_kind.FaultKind.TheVariants as kinds
 use Rattle.cert_desk.specs.Chains.{Stands, Chain, joined}
@@ -17,7 +17,7 @@ certificate-some bound c limit stands =
     omega (arith, b.whole, whole_length-some (length b.body))
 
 same_first : (bound limit : ℕ) (c d : PlainCertificate) (w v : List ℕ) → Stands bound limit c → Stands bound limit d → certificate_octets bound c ++ w ≡ certificate_octets bound d ++ v → (c ≡ d) × (w ≡ v)
-same_first bound limit c d w v p q e = one_value (certificate bound) 64 c d w v refl refl refl p.valid q.valid e
+same_first bound limit c d w v p q e = one_value (raw_certificate bound) 64 c d w v refl refl refl p.valid q.valid e
 
 -- one list goes on from the other, by what is left behind the other
 record GoesOn (bound : ℕ) (cs ds : List PlainCertificate) (r t : List ℕ) : Type 0 where

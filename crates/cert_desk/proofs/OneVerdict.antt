@@ -7,7 +7,6 @@ use Rattle.cert_desk.specs.declared.checked.Verdict.TheVariants as verdicts
 use Rattle.cert_desk.specs.declared.fault_kind.FaultKind.{FaultKind}
 use Rattle.cert_desk.specs.declared.rule.Rule.{Rule}
 use Rattle.cert_desk.specs.Chains.{Chain, joined}
-use Rattle.cert_desk.specs.Faults.{StreamFault}
 use Rattle.cert_desk.specs.Judging.{Terms, keeps_at, number}
 use Rattle.cert_desk.specs.Verdicts.{IsVerdict, Faulty, Refused, Before}
 use Rattle.cert_desk.proofs.RuleList.{one_number}

@@ -1,12 +1,12 @@
 -- From what was found at each place to what is said of the stream.
-use Rattle.std.proofs.Common.{◌≡◌, ℕ, zero, suc, ◌+◌, ◌<◌, ◌≤◌, List, [], ◌∷◌, length, Bool, true, false, cond, ◌&&◌, Option, Some, None, ◌⊎◌, inl, inr, refl, sym, ap, ◌∙◌, subst, arith}
+use Rattle.std.proofs.Common.{◌≡◌, ℕ, zero, suc, ◌+◌, ◌<◌, List, [], ◌∷◌, length, Bool, true, false, cond, ◌&&◌, Some, inl, inr, refl, sym, ap, ◌∙◌, subst, arith}
 use Rattle.std.proofs.lemmas.Bool.{and_parts, and_from, and_left, and_right, both_ways, false_from_ne_true, cond-true, cond-false, cases_order}
 use Rattle.x509_cert.specs.Certificates.{PlainCertificate}
 use Rattle.cert_desk.specs.declared.rule.Rule.{Rule}
 use Rattle.cert_desk.specs.declared.rule.Rule.TheVariants as rules
 use Rattle.cert_desk.specs.Chains.{Chain, joined}
-use Rattle.cert_desk.specs.Judging.{Terms, keeps_at, keeps_all, may_ask, number}
-use Rattle.cert_desk.specs.Verdicts.{Trusted, Refused, Before, all_kept_below, asked, asked_first, asked_later}
+use Rattle.cert_desk.specs.Judging.{Terms, keeps_at, keeps_all, may_ask}
+use Rattle.cert_desk.specs.Verdicts.{Trusted, Refused, all_kept_below, asked, asked_first, asked_later}
 use Rattle.cert_desk.specs.Places.{IsFirstBroken, asked_at, asked_below}
 use Rattle.cert_desk.proofs.PlaceLaws.{may_ask-kept, may_ask-true, all_kept}
 

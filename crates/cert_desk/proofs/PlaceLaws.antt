@@ -1,22 +1,22 @@
 -- What the rules say at a place whose certificate is known.
-use Rattle.std.proofs.Common.{◌≡◌, ℕ, zero, suc, ◌+◌, ◌-◌, ◌<◌, List, [], ◌∷◌, Bool, true, false, cond, ◌&&◌, Option, Some, None, IfSome, slice_get, bytes_eq, refl, sym, ap, ◌∙◌, subst, arith, lit<}
-use Rattle.std.specs.List.{AllByRecursion, list_any}
+use Rattle.std.proofs.Common.{◌≡◌, ℕ, zero, suc, ◌+◌, ◌-◌, ◌<◌, List, [], ◌∷◌, Bool, true, false, cond, IsTrue, Option, Some, IfSome, slice_get, refl, ap, ◌∙◌, subst, arith}
+use Rattle.std.specs.List.{list_any}
 use Rattle.std.specs.Option.{option_map_or}
-use Rattle.std.proofs.lemmas.Bool.{false_from_ne_true, both_ways, and_parts, and_from, cond-true, cond-false}
+use Rattle.std.proofs.lemmas.Bool.{false_from_ne_true, both_ways, cond-true, cond-false}
+use Rattle.std.proofs.lemmas.Bool.Decides.{same_from_decides}
 use Rattle.std.proofs.lemmas.Slice.Eq.{bytes_eq-Decides}
-use Rattle.der_core_head.specs.Shapes.{octets_of}
-use Rattle.x509_cert.specs.Certificates.{PlainCertificate, Algorithm, algorithm_identifier, inner_algorithm, outer_algorithm, issuer, subject, public_key}
+use Rattle.der_core_head.specs.Shapes.{octets_of, IsValid}
+use Rattle.x509_cert.specs.Certificates.{PlainCertificate, raw_certificate, algorithm_identifier, inner_algorithm, outer_algorithm, issuer, subject, public_key}
 use Rattle.cert_desk.specs.declared.entry.Entry.{Entry}
 use Rattle.cert_desk.specs.declared.rule.Rule.{Rule}
 use Rattle.cert_desk.specs.declared.rule.Rule.TheVariants as rules
-use Rattle.cert_desk.specs.Chains.{Stands}
 use Rattle.cert_desk.specs.Entries.{IsEntry}
-use Rattle.cert_desk.specs.Judging.{Terms, PlainAnchor, keeps, keeps_at, number, may_ask, is_linked, is_signed, same_name, signed_part}
+use Rattle.cert_desk.specs.Judging.{Terms, PlainAnchor, has_one_algorithm, keeps, keeps_at, number, may_ask, is_linked, is_signed, same_name, signed_part}
 use Rattle.cert_desk.specs.Verdicts.{asked_anchors}
-use Rattle.cert_desk.specs.Places.{accepted, signs, asked_until, asked_signature, asked_at, IsFirstUnsigned}
+use Rattle.cert_desk.specs.Places.{accepted, signs, asked_until, asked_signature, asked_at}
 use Rattle.cert_desk.proofs.OneEncoding.{one_algorithm}
 use Rattle.cert_desk.proofs.RuleList.{test_of_all, all_of_tests, or_signature}
-use Rattle.cert_desk.proofs.Encodings.{Stands-at, valid_algorithms}
+use Rattle.cert_desk.proofs.Encodings.{valid_algorithms}
 
 pub entry_at : (bound : ℕ) (cs : List PlainCertificate) (place : ℕ) (o : Option Entry) (e : Entry) → IfSome o (λ e. IsEntry bound cs place e) → o ≡ Some e → IsEntry bound cs place e
 entry_at bound cs place o e h is = subst (λ o. IfSome o (λ e. IsEntry bound cs place e)) is h
@@ -65,15 +65,13 @@ pub asked_signature-later : (t : Terms) (cs : List PlainCertificate) (stream : L
 asked_signature-later t cs stream zero h = absurd (omega arith)
 asked_signature-later t cs stream (suc n) h = refl
 
--- algorithms that aren't equal have other octets
-pub algorithms_differ : (t : Terms) (limit : ℕ) (cs : List PlainCertificate) (stream : List ℕ) (place : ℕ) (c : PlainCertificate)
-    → AllByRecursion (Stands t.bound limit) cs → slice_get cs place ≡ Some c → (inner_algorithm c ≡ outer_algorithm c → ⊥)
-    → keeps_at rules.AlgorithmsDiffer t cs stream place ≡ false
-algorithms_differ t limit cs stream place c all e differ =
-    let valid = valid_algorithms t.bound c (Stands-at t.bound limit cs place c all e).valid in
-    let octets_differ : bytes_eq (octets_of (algorithm_identifier t.bound) (inner_algorithm c)) (octets_of (algorithm_identifier t.bound) (outer_algorithm c)) ≡ false =
-    false_from_ne_true _ (λ same. differ (one_algorithm t.bound _ _ valid.0 valid.1 ((bytes_eq-Decides _ _).0 same))) in
-    keeps_at-is rules.AlgorithmsDiffer t cs stream place c e ∙ octets_differ
+-- algorithms are compared by their octets, which say what they are
+pub one_algorithm_by : (bound : ℕ) (r : Bool) (c : PlainCertificate) → IsValid (raw_certificate bound) c
+    → (IsTrue r → octets_of (algorithm_identifier bound) (inner_algorithm c) ≡ octets_of (algorithm_identifier bound) (outer_algorithm c))
+    → (inner_algorithm c ≡ outer_algorithm c → r ≡ true) → r ≡ has_one_algorithm bound c
+one_algorithm_by bound r c h same differ =
+    let valid = valid_algorithms bound c h in
+    same_from_decides r (has_one_algorithm bound c) (same, λ e. differ (one_algorithm bound _ _ valid.0 valid.1 e)) (bytes_eq-Decides _ _)
 
 -- what may be asked about keeps every rule before the signature
 pub may_ask-kept : (t : Terms) (cs : List PlainCertificate) (stream : List ℕ) (place : ℕ) → may_ask t cs stream place ≡ true

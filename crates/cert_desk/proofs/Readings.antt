@@ -9,7 +9,7 @@ use Rattle.cert_desk.specs.declared.fault_kind.FaultKind.TheVariants as kinds
 use Rattle.cert_desk.specs.declared.standing.Standing.{Standing}
 use Rattle.cert_desk.specs.declared.standing.Standing.TheVariants as standings
 use Rattle.cert_desk.specs.Chains.{Stands, Chain, joined}
-use Rattle.cert_desk.specs.Faults.{Split, StreamFault, NoneBefore, IsFault}
+use Rattle.cert_desk.specs.Faults.{Split, StreamFault, IsFault}
 use Rattle.cert_desk.specs.Headers.{IsUnfinished}
 use Rattle.cert_desk.specs.Streams.{Kept, Reads, ReadsAs, Begins}
 use Rattle.cert_desk.specs.Steps.{kept_octets, ReadsOn, Grows, Next, Waits, Finds, Stops, FeedsFault, FeedsNone, RefusesPiece}

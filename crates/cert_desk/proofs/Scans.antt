@@ -8,7 +8,7 @@ use Rattle.der_core_head.specs.Tags.{tag_octets}
 use Rattle.der_core_head.specs.Heads.{length_octets, head_octets, tlv}
 use Rattle.der_core_head.specs.Shapes.{IsValid, octets_of, body_octets, contents}
 use Rattle.der_core_head.proofs.Bytes.{IsBytes, bytes_take, bytes_drop, octets_are}
-use Rattle.x509_cert.specs.Certificates.{PlainCertificate, certificate, certificate_fields, certificate_octets}
+use Rattle.x509_cert.specs.Certificates.{PlainCertificate, raw_certificate, raw_certificate_fields, certificate_octets}
 use Rattle.cert_desk.specs.declared.fault_kind.FaultKind.{FaultKind}
 use Rattle.cert_desk.specs.declared.fault_kind.FaultKind.TheVariants as kinds
 use Rattle.cert_desk.specs.Chains.{Stands}
@@ -183,10 +183,10 @@ pub record IsSequence (octets : List ℕ) : Type 0 where
   pub small : length body < 2 ^ 32
   pub octets_are : octets ≡ head_octets tags.Sequence (length body) ++ body
 
-pub certificate-sequence : (bound : ℕ) (c : PlainCertificate) → IsValid (certificate bound) c → IsSequence (certificate_octets bound c)
+pub certificate-sequence : (bound : ℕ) (c : PlainCertificate) → IsValid (raw_certificate bound) c → IsSequence (certificate_octets bound c)
 unfolding octets_of contents IsValid tlv
 certificate-sequence bound c valid =
-    let body = body_octets (certificate_fields bound) c in
+    let body = body_octets (raw_certificate_fields bound) c in
     record { body = body; small = omega (arith, valid.2, length-append (head_octets tags.Sequence (length body)) body); octets_are = refl }
 
 -- octets that begin with a certificate's
@@ -198,7 +198,7 @@ pub record Begun (bound : ℕ) (rest : List ℕ) (c : PlainCertificate) (more : 
   pub headed : Headed v (length body) (body ++ more)
   pub whole : length (certificate_octets bound c) ≡ whole_length (length body)
 
-pub begun : (bound : ℕ) (rest : List ℕ) (c : PlainCertificate) (more : List ℕ) → IsValid (certificate bound) c → rest ≡ certificate_octets bound c ++ more → Begun bound rest c more
+pub begun : (bound : ℕ) (rest : List ℕ) (c : PlainCertificate) (more : List ℕ) → IsValid (raw_certificate bound) c → rest ≡ certificate_octets bound c ++ more → Begun bound rest c more
 begun bound rest c more valid e =
     let s = certificate-sequence bound c valid in
     let n = length s.body in

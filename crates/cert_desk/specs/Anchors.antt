@@ -1,5 +1,5 @@
 -- What contracts see of an anchor, and the terms that a chain is judged under.
-use Rattle.std.specs.Prelude.{ℕ, List, [], ◌∷◌, map}
+use Rattle.std.specs.Prelude.{ℕ, List, map}
 use Rattle.x509_cert.specs.Views.{arc_bound, name_plain, key_plain}
 use Rattle.cert_desk.specs.declared.anchor.Anchor.{Anchor}
 use Rattle.cert_desk.specs.Judging.{PlainAnchor, Answers, Terms}

@@ -2,11 +2,11 @@
 use Rattle.std.specs.Prelude.{◌≡◌, ℕ, ◌≤◌, ◌<◌, ◌^◌, List, length, take, flat_map}
 use Rattle.std.specs.List.{AllByRecursion}
 use Rattle.der_core_head.specs.Shapes.{IsValid}
-use Rattle.x509_cert.specs.Certificates.{PlainCertificate, certificate, certificate_octets}
+use Rattle.x509_cert.specs.Certificates.{PlainCertificate, raw_certificate, certificate_octets}
 
 -- a certificate that may stand in a stream: it has an encoding, within the limit
 pub record Stands (bound limit : ℕ) (c : PlainCertificate) : Type 0 where
-  pub valid : IsValid (certificate bound) c
+  pub valid : IsValid (raw_certificate bound) c
   pub within : length (certificate_octets bound c) ≤ limit
 
 -- their encodings, in turn

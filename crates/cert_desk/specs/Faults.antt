@@ -1,13 +1,13 @@
 -- What can be wrong with a stream: said of the certificates with which it begins, and of the rest.
-use Rattle.std.specs.Prelude.{◌≡◌, ◌≢◌, ℕ, ◌+◌, ◌-◌, ◌≤◌, ◌<◌, ◌^◌, ◌⊎◌, List, [], ◌∷◌, ◌++◌, length}
+use Rattle.std.specs.Prelude.{◌≡◌, ◌≢◌, ℕ, ◌+◌, ◌≤◌, ◌<◌, ◌^◌, ◌⊎◌, List, [], ◌∷◌, ◌++◌, length}
 use Rattle.std.specs.Int.Digits.{number_from_digits}
 use Rattle.der_core_head.specs.declared.tag.Tag.TheVariants as tags
 use Rattle.der_core_head.specs.Heads.{length_octets, head_octets}
 use Rattle.der_core_head.specs.Shapes.{IsValid}
-use Rattle.x509_cert.specs.Certificates.{PlainCertificate, certificate, certificate_octets}
+use Rattle.x509_cert.specs.Certificates.{PlainCertificate, raw_certificate, certificate_octets}
 use Rattle.cert_desk.specs.declared.fault_kind.FaultKind.{FaultKind}
 use Rattle.cert_desk.specs.declared.fault_kind.FaultKind.TheVariants as kinds
-use Rattle.cert_desk.specs.Chains.{Stands, Chain, joined}
+use Rattle.cert_desk.specs.Chains.{Chain, joined}
 
 -- The octets of a length, shortest or not: one below 128, or 128 + k and k digits in base 256, k from 1 to 4.
 abbrev pub IsLength : List ℕ → Type 0
@@ -37,7 +37,7 @@ Says bound limit offset kinds.TooLarge rest =
     × ((limit < whole_length n) ⊎ (2 ^ 64 ≤ offset + whole_length n))
 Says bound limit offset kinds.Malformed rest =
     (n : ℕ) × (body : List ℕ) × (w : List ℕ) × (n < 2 ^ 32) × (rest ≡ (head_octets tags.Sequence n ++ body) ++ w) × (length body ≡ n)
-    × ((c : PlainCertificate) → IsValid (certificate bound) c → certificate_octets bound c ≡ head_octets tags.Sequence n ++ body → ⊥)
+    × ((c : PlainCertificate) → IsValid (raw_certificate bound) c → certificate_octets bound c ≡ head_octets tags.Sequence n ++ body → ⊥)
 Says bound limit offset kinds.Truncated rest = rest ≢ []
 
 -- the order of the kinds

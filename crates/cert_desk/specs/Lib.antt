@@ -15,3 +15,4 @@ pub mod Lines
 pub mod Arguments
 pub mod Reading
 pub mod Runs
+pub mod Certificates

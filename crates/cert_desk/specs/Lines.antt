@@ -1,6 +1,5 @@
 -- The texts of a run, each one line ended by LF.
-use Rattle.std.specs.Prelude.{ℕ, List, [], ◌∷◌, ◌++◌, codes, decimal}
-use Rattle.cert_desk.specs.declared.checked.Checked.{Checked}
+use Rattle.std.specs.Prelude.{ℕ, List, ◌++◌, codes, decimal}
 use Rattle.cert_desk.specs.declared.checked.Verdict.{Verdict}
 use Rattle.cert_desk.specs.declared.checked.Verdict.TheVariants as verdicts
 use Rattle.cert_desk.specs.declared.fault_kind.FaultKind.{FaultKind}

@@ -1,9 +1,8 @@
 -- What a run finds in its inputs, and what it tells.
-use Rattle.std.specs.Prelude.{◌≡◌, ◌≢◌, ℕ, ◌-◌, ◌<◌, ◌^◌, ◌⊎◌, ◌++◌, List, map, length}
+use Rattle.std.specs.Prelude.{◌≡◌, ℕ, ◌-◌, ◌<◌, ◌^◌, ◌⊎◌, List, map, length}
 use Rattle.cert_desk_io.specs.Devices.{Rose, GivesBeginning}
 use Rattle.x509_cert.specs.Certificates.{PlainCertificate, subject, public_key}
 use Rattle.x509_cert.specs.Views.{arc_bound}
-use Rattle.cert_desk.specs.declared.checked.Checked.{Checked}
 use Rattle.cert_desk.specs.declared.checked.Verdict.{Verdict}
 use Rattle.cert_desk.specs.declared.checked.Verdict.TheVariants as verdicts
 use Rattle.cert_desk.specs.declared.fault_kind.FaultKind.{FaultKind}

@@ -1,5 +1,5 @@
 -- What a bundle keeps, and the streams that it has read.
-use Rattle.std.specs.Prelude.{◌≡◌, ℕ, ◌+◌, ◌++◌, List, [], length, Option, Some, None, take}
+use Rattle.std.specs.Prelude.{◌≡◌, ℕ, ◌++◌, List, length}
 use Rattle.x509_cert.specs.Certificates.{PlainCertificate}
 use Rattle.cert_desk.specs.declared.fault_kind.FaultKind.TheVariants as kinds
 use Rattle.cert_desk.specs.declared.standing.Standing.{Standing}

@@ -15,7 +15,7 @@ use cert_desk_io::Input;
 use der_core_head::ErrorKind;
 use std::alloc::{AllocError, Global};
 use std::marker::Model;
-use x509_cert::{CertificateInner, read_certificate};
+use x509_cert::{CertificateInner, Raw};
 
 // A certificate, and where it stands in the octets.
 #[derive(Drop)]
@@ -26,7 +26,7 @@ pub(crate) struct Located {
     // The octets of the signed part, which stands behind the header.
     signed: usize,
     end: usize,
-    certificate: CertificateInner,
+    certificate: CertificateInner<Raw>,
 }
 
 /// A stream of certificates (RFC 5280 4.1), joined with nothing between them, that comes in pieces.
@@ -270,7 +270,7 @@ impl Bundle {
             Scan::Whole { header, len } => (header, len),
         };
         let octets = &rest[..len];
-        let certificate = match read_certificate(self.alloc, octets) {
+        let certificate = match CertificateInner::<Raw>::from_der(self.alloc, octets) {
             Ok(certificate) => certificate,
             Err(error) => {
                 if let ErrorKind::OutOfMemory = error.kind {

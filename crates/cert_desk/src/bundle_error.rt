@@ -4,6 +4,8 @@ ghost use Rattle.std.specs.Prelude.{◌≡◌};
 ghost use Rattle.cert_desk.specs.declared.bundle_error.ReadError.TheVariants.{Bundle};
 
 use crate::fault_kind::FaultKind;
+use std::error::Error;
+use std::fmt;
 
 /// Why a bundle takes no piece, or doesn't end.
 #[derive(Clone, Copy, Debug, PartialEq, Eq)]
@@ -36,3 +38,30 @@ impl From<BundleError> for ReadError {
         ReadError::Bundle(error)
     }
 }
+
+impl fmt::Display for BundleError {
+    fn fmt<W: fmt::Write>(&self, f: &mut fmt::Formatter<W>) -> fmt::Result {
+        match self {
+            BundleError::Fault {
+                place,
+                offset,
+                kind,
+            } => write!(f, "{kind} at octet {offset}, behind {place} certificates"),
+            BundleError::OutOfMemory => f.write_str("out of memory"),
+            BundleError::Failed => f.write_str("the bundle failed or ended before"),
+        }
+    }
+}
+
+impl Error for BundleError {}
+
+impl fmt::Display for ReadError {
+    fn fmt<W: fmt::Write>(&self, f: &mut fmt::Formatter<W>) -> fmt::Result {
+        match self {
+            ReadError::Device => f.write_str("a device failed"),
+            ReadError::Bundle(error) => write!(f, "{error}"),
+        }
+    }
+}
+
+impl Error for ReadError {}

@@ -2,6 +2,8 @@
 
 use crate::fault_kind::FaultKind;
 use crate::rule::Rule;
+use std::error::Error;
+use std::fmt;
 
 /// The verdict on a stream.
 #[derive(Clone, Copy, Debug, PartialEq, Eq)]
@@ -40,3 +42,15 @@ pub enum CheckError {
     /// The device that the stream came from failed.
     Device,
 }
+
+impl fmt::Display for CheckError {
+    fn fmt<W: fmt::Write>(&self, f: &mut fmt::Formatter<W>) -> fmt::Result {
+        let text = match self {
+            CheckError::OutOfMemory => "out of memory",
+            CheckError::Device => "a device failed",
+        };
+        f.write_str(text)
+    }
+}
+
+impl Error for CheckError {}

@@ -1,12 +1,14 @@
 //! Streams are judged.
-ghost use Rattle.std.specs.Prelude.{◌≡◌, ◌≢◌, ℕ, ◌<◌, ◌↔◌, List, length, map, Option, IfOk, OnErr, true, false, Some};
-ghost use Rattle.cert_desk.specs.declared.fault_kind.FaultKind.{FaultKind};
-ghost use Rattle.std.specs.List.{list_any, AllByRecursion};
+ghost use Rattle.std.specs.Prelude.{◌≡◌, ◌≢◌, ℕ, ◌<◌, ◌↔◌, List, length, map, Option, IfOk, OnErr, true, false, Some, nat_le};
+ghost use Rattle.std.specs.List.{list_any};
+ghost use Rattle.der_core_head.specs.Shapes.{IsValid};
+ghost use Rattle.der_types_time.specs.Seconds.{unix_seconds};
 ghost use Rattle.x509_cert.specs.Views.{arc_bound, certificate_plain, key_plain, name_plain};
-ghost use Rattle.x509_cert.specs.Certificates.{issuer};
+ghost use Rattle.x509_cert.specs.Certificates.{issuer, not_before, not_after, raw_certificate};
+ghost use Rattle.cert_desk.specs.declared.fault_kind.FaultKind.{FaultKind};
 ghost use Rattle.cert_desk.specs.Anchors.{anchor_plain, terms_of};
-ghost use Rattle.cert_desk.specs.Chains.{Chain, Stands, joined};
-ghost use Rattle.cert_desk.specs.Judging.{Answers, keeps_at, same_name};
+ghost use Rattle.cert_desk.specs.Chains.{Chain, joined};
+ghost use Rattle.cert_desk.specs.Judging.{Answers, has_one_algorithm, is_named, keeps_at, same_name};
 ghost use Rattle.cert_desk.specs.Streams.{Reads};
 ghost use Rattle.cert_desk.specs.Verdicts.{IsVerdict, Trusted, IsCounted, asked};
 ghost use Rattle.cert_desk.specs.Places.{IsFirstBroken, IsFirstUnsigned, accepted, signs, asked_once, asked_until, asked_signature, asked_at, Rises};
@@ -15,12 +17,13 @@ use crate::anchor::Anchor;
 use crate::bundle::Bundle;
 use crate::checked::{CheckError, Checked, Verdict};
 use crate::entry::Entry;
+use crate::extensions::{are_distinct, extensions_of, has_unweighed_critical, has_weighed};
 use crate::rule::Rule;
 use crate::signature_judge::SignatureJudge;
 use crate::standing::Standing;
 use const_oid::ObjectIdentifier;
 use std::alloc::Global;
-use x509_cert::{Name, SubjectPublicKeyInfo};
+use x509_cert::{CertificateInner, Name, Raw, SubjectPublicKeyInfo};
 
 /// The verdict on the stream that a bundle has read, and how often the judge was asked for it.
 ///
@@ -96,15 +99,25 @@ fn ask<J: SignatureJudge>(
     )
 }
 
-// Whether an anchor has this name.
-fn is_anchored(name: &Name, anchors: &[Anchor]) -> bool
-    ensures { result ≡ list_any (λ a. same_name arc_bound (name_plain name.now) a.name) (map anchor_plain anchors.now) }
+// Whether the issuer of the certificate has this name, octet for octet.
+fn is_issued_by(certificate: &CertificateInner<Raw>, name: &Name) -> bool
+    requires { IsValid (raw_certificate arc_bound) (certificate_plain certificate.now) }
+    ensures { result ≡ same_name arc_bound (issuer (certificate_plain certificate.now)) (name_plain name.now) }
 {
-    anchors.iter().any(
-        |anchor| -> bool
-            ensures { result ≡ same_name arc_bound (name_plain name.entry.now) (anchor_plain anchor.now).name }
-        { name.equals(anchor.name()) },
-    )
+    certificate.tbs_certificate().issuer().has_octets_of(name)
+}
+
+// Whether an anchor has the issuer's name.
+fn is_anchored(certificate: &CertificateInner<Raw>, anchors: &[Anchor]) -> bool
+    requires { IsValid (raw_certificate arc_bound) (certificate_plain certificate.now) }
+    ensures { result ≡ list_any (is_named arc_bound (certificate_plain certificate.now)) (map anchor_plain anchors.now) }
+{
+    for anchor in anchors {
+        if is_issued_by(certificate, anchor.name()) {
+            return true;
+        }
+    }
+    false
 }
 
 // Whether the anchor has the issuer's name and the judge says yes under its key. An anchor of
@@ -116,14 +129,14 @@ fn is_signed_under<J: SignatureJudge>(
     judge: &mut J,
     calls: &mut u64,
 ) -> bool
+    requires { IsValid (raw_certificate arc_bound) (certificate_plain entry.now.certificate.now) }
     ensures answered { result
         ≡ signs arc_bound (J.answers judge.old) entry.now.signed.now (certificate_plain entry.now.certificate.now) (anchor_plain anchor.now) }
     ensures kept { J.answers judge.new ≡ J.answers judge.old }
     ensures counted { Rises (asked_once arc_bound (certificate_plain entry.now.certificate.now) (anchor_plain anchor.now))
         (J.questions judge.old) calls.old (J.questions judge.new) calls.new }
 {
-    let issuer = entry.certificate.tbs_certificate().issuer();
-    if !issuer.equals(anchor.name()) {
+    if !is_issued_by(entry.certificate, anchor.name()) {
         return false;
     }
     ask(anchor.key(), entry, judge, calls)
@@ -137,6 +150,7 @@ fn is_signed_by_anchor<J: SignatureJudge>(
     judge: &mut J,
     calls: &mut u64,
 ) -> bool
+    requires { IsValid (raw_certificate arc_bound) (certificate_plain entry.now.certificate.now) }
     ensures answered { result
         ≡ list_any (signs arc_bound (J.answers judge.old) entry.now.signed.now (certificate_plain entry.now.certificate.now)) (map anchor_plain anchors.now) }
     ensures kept { J.answers judge.new ≡ J.answers judge.old }
@@ -160,12 +174,14 @@ fn is_linked(bundle: &Bundle, place: usize, anchors: &[Anchor]) -> bool
         → result ≡ keeps_at Rule.WrongIssuer (terms_of anchors.now moment purpose answers) bundle.now.certificates stream place }
 {
     let entry = bundle.get(place).unwrap();
-    let issuer = entry.certificate.tbs_certificate().issuer();
     if place == 0 {
-        return is_anchored(issuer, anchors);
+        return is_anchored(entry.certificate, anchors);
     }
     let before = bundle.get(place - 1).unwrap();
-    issuer.equals(before.certificate.tbs_certificate().subject())
+    is_issued_by(
+        entry.certificate,
+        before.certificate.tbs_certificate().subject(),
+    )
 }
 
 // Whether the judge says yes under the issuer's key: at the first place under that of an anchor of
@@ -197,6 +213,31 @@ fn is_signed<J: SignatureJudge>(
     ask(key, &entry, judge, calls)
 }
 
+// Whether the algorithm outside is the one that is signed, octet for octet (RFC 5280 4.1.1.2).
+fn has_one_algorithm(certificate: &CertificateInner<Raw>) -> bool
+    requires { IsValid (raw_certificate arc_bound) (certificate_plain certificate.now) }
+    ensures { result ≡ has_one_algorithm arc_bound (certificate_plain certificate.now) }
+{
+    let signed = certificate.tbs_certificate().signature();
+    signed.has_octets_of(certificate.signature_algorithm())
+}
+
+// Whether its first moment isn't after this one.
+fn has_begun(certificate: &CertificateInner<Raw>, moment: u64) -> bool
+    ensures { result ≡ nat_le (unix_seconds (not_before (certificate_plain certificate.now))) moment }
+{
+    let validity = certificate.tbs_certificate().validity();
+    validity.not_before.to_date_time().unix_seconds() <= moment
+}
+
+// Whether its last moment isn't before this one.
+fn lasts(certificate: &CertificateInner<Raw>, moment: u64) -> bool
+    ensures { result ≡ nat_le moment (unix_seconds (not_after (certificate_plain certificate.now))) }
+{
+    let validity = certificate.tbs_certificate().validity();
+    moment <= validity.not_after.to_date_time().unix_seconds()
+}
+
 // The first rule before the signature that the certificate at a place breaks.
 fn first_unsigned(
     bundle: &Bundle,
@@ -207,22 +248,29 @@ fn first_unsigned(
 ) -> Option<Rule>
     requires { place < length bundle.now.certificates }
     ensures { (answers : Answers) (stream : List ℕ)
-        → AllByRecursion (Stands arc_bound bundle.now.limit) bundle.now.certificates
         → IsFirstUnsigned (terms_of anchors.now moment _purpose.now answers) bundle.now.certificates stream place result }
 {
     let certificate = bundle.get(place).unwrap().certificate;
-    let signed = certificate.tbs_certificate();
-    let validity = signed.validity();
-    if !signed.signature().equals(certificate.signature_algorithm()) {
+    let extensions = extensions_of(certificate);
+    if !has_one_algorithm(certificate) {
         return Some(Rule::AlgorithmsDiffer);
+    }
+    if !are_distinct(extensions) {
+        return Some(Rule::DuplicateExtension);
+    }
+    if has_weighed(extensions) {
+        return Some(Rule::MalformedExtension);
+    }
+    if has_unweighed_critical(extensions) {
+        return Some(Rule::UnweighedCritical);
     }
     if !is_linked(bundle, place, anchors) {
         return Some(Rule::WrongIssuer);
     }
-    if moment < validity.not_before.unix_seconds() {
+    if !has_begun(certificate, moment) {
         return Some(Rule::NotYetValid);
     }
-    if validity.not_after.unix_seconds() < moment {
+    if !lasts(certificate, moment) {
         return Some(Rule::Expired);
     }
     if place != bundle.len() - 1 {
@@ -243,10 +291,9 @@ fn first_broken<J: SignatureJudge>(
     calls: &mut u64,
 ) -> Option<Rule>
     requires { place < length bundle.now.certificates }
-    ensures judged { AllByRecursion (Stands arc_bound bundle.now.limit) bundle.now.certificates
-        → IsFirstBroken (terms_of anchors.now moment purpose.now (J.answers judge.old)) bundle.now.certificates (joined arc_bound bundle.now.certificates) place result }
+    ensures judged { IsFirstBroken (terms_of anchors.now moment purpose.now (J.answers judge.old)) bundle.now.certificates (joined arc_bound bundle.now.certificates) place result }
     ensures kept { J.answers judge.new ≡ J.answers judge.old }
-    ensures counted { AllByRecursion (Stands arc_bound bundle.now.limit) bundle.now.certificates → Rises
+    ensures counted { Rises
         (asked_at (terms_of anchors.now moment purpose.now (J.answers judge.old)) bundle.now.certificates (joined arc_bound bundle.now.certificates) place)
         (J.questions judge.old) calls.old (J.questions judge.new) calls.new }
 {

@@ -1,7 +1,7 @@
 //! A judge of digests, which stands where an algorithm would.
-ghost use Rattle.std.specs.Prelude.{◌≡◌, ◌↔◌, IsTrue};
-ghost use Rattle.x509_cert.specs.Views.{algorithm_plain, plain_algorithm};
-ghost use Rattle.cert_desk.specs.Digests.{digest_answers, digest_arcs};
+ghost use Rattle.std.specs.Prelude.{◌≡◌};
+ghost use Rattle.x509_cert.specs.Views.{algorithm_plain};
+ghost use Rattle.cert_desk.specs.Digests.{digest_answers, is_digest};
 
 use crate::signature_judge::SignatureJudge;
 use sha2::{Digest, Sha256};
@@ -10,11 +10,14 @@ use x509_cert::{AlgorithmIdentifier, BitString, SubjectPublicKeyInfo};
 // The octets of 1.3.6.1.4.1.32473.2, under the arc for examples (RFC 5612).
 const DIGEST_ALGORITHM: [u8; 9] = [0x2b, 0x06, 0x01, 0x04, 0x01, 0x81, 0xfd, 0x59, 0x02];
 
-// Whether an algorithm is that one.
+// Whether an algorithm is that one, without parameters.
 fn is_digest(algorithm: &AlgorithmIdentifier) -> bool
-    ensures { IsTrue result ↔ (algorithm_plain algorithm.now ≡ plain_algorithm digest_arcs) }
+    ensures { result ≡ is_digest (algorithm_plain algorithm.now) }
 {
-    algorithm.oid.as_bytes() == DIGEST_ALGORITHM.as_slice()
+    match &algorithm.parameters {
+        Some(_) => false,
+        None => algorithm.oid.as_bytes() == DIGEST_ALGORITHM.as_slice(),
+    }
 }
 
 /// A judge that says yes exactly where the algorithm is 1.3.6.1.4.1.32473.2 without parameters and
@@ -57,7 +60,7 @@ impl SignatureJudge for DigestJudge {
             return false;
         }
         let mut hasher = Sha256::new();
-        hasher.update(key.subject_public_key().raw_bytes());
+        hasher.update(key.subject_public_key.raw_bytes());
         hasher.update(signed);
         let digest = hasher.finalize();
         bits.raw_bytes() == digest.as_slice()

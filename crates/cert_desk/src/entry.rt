@@ -1,6 +1,6 @@
 //! A certificate of a stream.
 
-use x509_cert::CertificateInner;
+use x509_cert::{CertificateInner, Raw};
 
 /// A certificate of a stream, where it stands. Nothing is copied.
 #[derive(Clone, Copy, Debug)]
@@ -12,5 +12,5 @@ pub struct Entry<'a> {
     /// The octets of its signed part, inside these.
     pub signed: &'a [u8],
     /// The certificate.
-    pub certificate: &'a CertificateInner,
+    pub certificate: &'a CertificateInner<Raw>,
 }

@@ -9,6 +9,7 @@ mod checked;
 mod checking;
 mod digest_judge;
 mod entry;
+mod extensions;
 mod fault_kind;
 mod front;
 pub mod laws;
@@ -38,5 +39,5 @@ pub use signature_judge::SignatureJudge;
 pub use standing::Standing;
 pub use status::Status;
 pub use x509_cert::{
-    AlgorithmIdentifier, BitString, CertificateInner, SubjectPublicKeyInfo, Time, read_certificate,
+    AlgorithmIdentifier, BitString, CertificateInner, Raw, SubjectPublicKeyInfo, Time,
 };

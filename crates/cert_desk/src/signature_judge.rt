@@ -1,6 +1,6 @@
 //! Who says whether a signature is right.
 ghost use Rattle.std.specs.Prelude.{◌≡◌, ℕ};
-ghost use Rattle.x509_cert.specs.Views.{key_plain, algorithm_plain, bits_plain};
+ghost use Rattle.x509_cert.specs.Views.{key_plain, algorithm_plain};
 ghost use Rattle.cert_desk.specs.Judging.{Answers};
 ghost use Rattle.cert_desk.specs.Verdicts.{raised};
 
@@ -24,7 +24,7 @@ pub trait SignatureJudge {
         bits: &BitString,
     ) -> bool
         ensures answered { result
-            ≡ answers self.old (key_plain key.now) (algorithm_plain algorithm.now) signed.now (bits_plain bits.now) }
+            ≡ answers self.old (key_plain key.now) (algorithm_plain algorithm.now) signed.now bits.now }
         ensures kept { answers self.new ≡ answers self.old }
         ensures counted { questions self.new ≡ raised (questions self.old) 1 };
 }

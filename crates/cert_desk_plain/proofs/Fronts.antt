@@ -2,7 +2,7 @@
 use Rattle.std.proofs.Common.{◌≡◌, ℕ, ◌+◌, ◌^◌, ◌<◌, ◌≤◌, List, [], ◌∷◌, ◌++◌, length, take, drop, refl, sym, ap, ◌∙◌, arith, append_assoc, length-append}
 use Rattle.std.proofs.lemmas.List.{take-append-drop, length-take-le, length-drop, take_at, drop-drop}
 use Rattle.der_core_head.specs.Shapes.{Spells}
-use Rattle.x509_cert.specs.Certificates.{PlainCertificate, certificate, certificate_octets}
+use Rattle.cert_desk.specs.Certificates.{PlainCertificate, raw_certificate, certificate_octets}
 use Rattle.cert_desk.specs.Chains.{Stands, Chain, joined}
 use Rattle.cert_desk.specs.Faults.{Split}
 use Rattle.cert_desk.proofs.Encodings.{certificate_octets-first}
@@ -14,14 +14,14 @@ octets-some : (bound : ℕ) (c : PlainCertificate) → 0 < length (certificate_o
 octets-some bound c = let f = certificate_octets-first bound c in omega (arith, ap length f.1)
 
 -- a front that spells a certificate
-pub front_of : (bound limit : ℕ) (octets : List ℕ) (c : PlainCertificate) (n : ℕ) → n ≤ limit → n ≤ length octets → Spells (certificate bound) c (take n octets) → Front bound limit octets c n
+pub front_of : (bound limit : ℕ) (octets : List ℕ) (c : PlainCertificate) (n : ℕ) → n ≤ limit → n ≤ length octets → Spells (raw_certificate bound) c (take n octets) → Front bound limit octets c n
 front_of bound limit octets c n w t s =
     let some = octets-some bound c in
     record { some = omega (arith, ap length s.octets, length-take-le n octets t); within = w; there = t; spelled = s }
 
 -- where no front within the limit spells a certificate, none that could stand begins the octets
 pub no_front : (bound limit : ℕ) (octets : List ℕ)
-    → ((k : ℕ) → k ≤ limit → k ≤ length octets → (c : PlainCertificate) → Spells (certificate bound) c (take k octets) → ⊥)
+    → ((k : ℕ) → k ≤ limit → k ≤ length octets → (c : PlainCertificate) → Spells (raw_certificate bound) c (take k octets) → ⊥)
     → NoFront bound limit octets
 no_front bound limit octets none c more stands e =
     let n = length (certificate_octets bound c) in

@@ -1,9 +1,7 @@
 -- The certificate that octets begin with.
 use Rattle.std.specs.Prelude.{◌≡◌, ℕ, ◌≤◌, ◌<◌, List, ◌++◌, length, take, Option, Some, None}
 use Rattle.der_core_head.specs.Shapes.{Spells}
-use Rattle.x509_cert.specs.Certificates.{PlainCertificate, certificate, certificate_octets}
-use Rattle.x509_cert.specs.Views.{certificate_plain}
-use Rattle.x509_cert.specs.declared.certificate.CertificateInner.{CertificateInner}
+use Rattle.cert_desk.specs.Certificates.{PlainCertificate, raw_certificate, certificate_octets}
 use Rattle.cert_desk.specs.Chains.{Stands}
 
 -- the first n octets spell the certificate, and are no more than the limit
@@ -11,13 +9,13 @@ pub record Front (bound limit : ℕ) (octets : List ℕ) (c : PlainCertificate) 
   pub some : 0 < n
   pub within : n ≤ limit
   pub there : n ≤ length octets
-  pub spelled : Spells (certificate bound) c (take n octets)
+  pub spelled : Spells (raw_certificate bound) c (take n octets)
 
 -- no certificate that could stand begins the octets
 abbrev pub NoFront : ℕ → ℕ → List ℕ → Type 0
 NoFront bound limit octets = (c : PlainCertificate) (more : List ℕ) → Stands bound limit c → octets ≡ certificate_octets bound c ++ more → ⊥
 
--- the certificate that begins the octets, or that there is none
-abbrev pub IsFirst : ℕ → ℕ → List ℕ → Option (CertificateInner × ℕ) → Type 0
+-- the certificate that begins the octets, with how many it has, or that there is none
+abbrev pub IsFirst : ℕ → ℕ → List ℕ → Option (PlainCertificate × ℕ) → Type 0
 IsFirst bound limit octets None = NoFront bound limit octets
-IsFirst bound limit octets (Some p) = Front bound limit octets (certificate_plain p.0) p.1
+IsFirst bound limit octets (Some p) = Front bound limit octets p.0 p.1

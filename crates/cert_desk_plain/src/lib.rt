@@ -4,13 +4,14 @@
 #![tactic(auto)]
 
 ghost use Rattle.std.specs.Prelude.{◌≤◌, map, drop, length, IfOk};
-ghost use Rattle.x509_cert.specs.Views.{arc_bound, certificate_plain};
+ghost use Rattle.der_core_head.specs.Grammar.{plain_option};
+ghost use Rattle.cert_desk.specs.Certificates.{arc_bound, certificate_plain};
 ghost use Rattle.cert_desk.specs.Faults.{Split};
 ghost use Rattle.cert_desk_plain.specs.Fronts.{IsFirst};
 
+use cert_desk::{CertificateInner, Raw};
 use der_core_head::ErrorKind;
 use std::alloc::{AllocError, Global};
-use x509_cert::{CertificateInner, read_certificate};
 
 /// The certificate that begins the octets and has at most `limit` of them, with its number of
 /// octets.
@@ -24,15 +25,15 @@ pub fn first_certificate(
     alloc: Global,
     octets: &[u8],
     limit: u32,
-) -> Result<Option<(CertificateInner, usize)>, AllocError>
-    ensures { IfOk result (λ first. IsFirst arc_bound limit octets.now first) }
+) -> Result<Option<(CertificateInner<Raw>, usize)>, AllocError>
+    ensures { IfOk result (λ first. IsFirst arc_bound limit octets.now (plain_option (λ p. (certificate_plain p.0, p.1)) first)) }
 {
     let mut most = octets.len();
     if most > limit as usize {
         most = limit as usize;
     }
     for len in 0..most + 1 {
-        match read_certificate(alloc, &octets[..len]) {
+        match CertificateInner::<Raw>::from_der(alloc, &octets[..len]) {
             Ok(certificate) => return Ok(Some((certificate, len))),
             Err(error) => {
                 if let ErrorKind::OutOfMemory = error.kind {
@@ -54,7 +55,7 @@ pub fn split(
     alloc: Global,
     stream: &[u8],
     limit: u32,
-) -> Result<(Vec<CertificateInner>, usize), AllocError>
+) -> Result<(Vec<CertificateInner<Raw>>, usize), AllocError>
     ensures within { IfOk result (λ p. p.1 ≤ length stream.now) }
     ensures split { IfOk result (λ p. Split arc_bound limit stream.now (map certificate_plain p.0.items) (drop p.1 stream.now)) }
 {

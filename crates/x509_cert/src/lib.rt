@@ -1,21 +1,12 @@
-//! X.509 certificates (RFC 5280).
+//! X.509 certificates (RFC 5280): what the inner crates have, under one name.
 #![tactic(auto)]
 
-mod algorithm_identifier;
-mod certificate;
-mod name;
-mod serial_number;
-mod subject_public_key_info;
-mod tbs_certificate;
-mod time;
-mod validity;
-
-pub use algorithm_identifier::AlgorithmIdentifier;
-pub use certificate::{CertificateInner, read_certificate};
-pub use der_types_values::BitString;
-pub use name::Name;
-pub use serial_number::SerialNumber;
-pub use subject_public_key_info::SubjectPublicKeyInfo;
-pub use tbs_certificate::TbsCertificateInner;
-pub use time::Time;
-pub use validity::Validity;
+pub use x509_cert_certificates::laws;
+pub use x509_cert_certificates::{
+    AlgorithmIdentifier, AlgorithmIdentifierRef, Attribute, AttributeType, AttributeTypeAndValue,
+    AttributeValue, Attributes, BitString, Certificate, CertificateInner, DirectoryString,
+    DistinguishedName, Extension, Extensions, FromAny, Name, NameIter, Profile, Raw, RdnSequence,
+    RdnSequenceIter, RelativeDistinguishedName, RelativeNameIter, Rfc5280, SerialNumber,
+    SubjectPublicKeyInfo, SubjectPublicKeyInfoRef, TbsCertificate, TbsCertificateInner, Time,
+    Validity, Version,
+};

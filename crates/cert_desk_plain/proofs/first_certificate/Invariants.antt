@@ -1,9 +1,8 @@
 -- No front that was tried spells a certificate.
 use Rattle.std.proofs.Common.{ℕ, ◌<◌, take}
 use Rattle.der_core_head.specs.Shapes.{Spells}
-use Rattle.x509_cert.specs.Certificates.{PlainCertificate, certificate}
-use Rattle.x509_cert.specs.Views.{arc_bound}
+use Rattle.cert_desk.specs.Certificates.{PlainCertificate, arc_bound, raw_certificate}
 use Rattle.cert_desk_plain.proofs.first_certificate.Given as goal
 
 abbrev pub invariant-loop-len : goal.invariant-loop-len
-invariant-loop-len l = (k : ℕ) → k < l.len → (c : PlainCertificate) → Spells (certificate arc_bound) c (take k l.octets) → ⊥
+invariant-loop-len l = (k : ℕ) → k < l.len → (c : PlainCertificate) → Spells (raw_certificate arc_bound) c (take k l.octets) → ⊥

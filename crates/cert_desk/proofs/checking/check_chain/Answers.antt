@@ -1,4 +1,4 @@
-use Rattle.std.proofs.Common.{◌≡◌, ℕ, suc, ◌+◌, ◌<◌, length, true, Some, None, sym, ap, ◌∙◌, subst, arith}
+use Rattle.std.proofs.Common.{◌≡◌, suc, ◌+◌, length, true, sym, ap, ◌∙◌, subst, arith}
 use Rattle.x509_cert.specs.Views.{arc_bound}
 use Rattle.cert_desk.specs.Anchors.{terms_of}
 use Rattle.cert_desk.specs.Chains.{joined}
@@ -12,8 +12,8 @@ pub returns-in-Some-clause-judged : goal.returns-in-Some-clause-judged
 returns-in-Some-clause-judged g c = λ stream chain.
     let t = terms_of c.args.anchors.now c.args.moment c.args.purpose.now (g.J.SignatureJudge.answers c.args.judge.now) in
     let cs = c.args.bundle.now.certificates in
-    let found = subst (λ a. IsFirstBroken (terms_of c.args.anchors.now c.args.moment c.args.purpose.now a) cs (joined arc_bound cs) c.loop-place.place c.first_broken.result) c.loop-place.invariant.kept (c.first_broken.ensures.judged chain.each) in
-    refused_at t c.args.bundle.now.limit cs c.loop-place.place c.in-Some.rule stream chain (omega arith) (c.loop-place.invariant.judged chain.each)
+    let found = subst (λ a. IsFirstBroken (terms_of c.args.anchors.now c.args.moment c.args.purpose.now a) cs (joined arc_bound cs) c.loop-place.place c.first_broken.result) c.loop-place.invariant.kept c.first_broken.ensures.judged in
+    refused_at t c.args.bundle.now.limit cs c.loop-place.place c.in-Some.rule stream chain (omega arith) c.loop-place.invariant.judged
     (subst (IsFirstBroken t cs (joined arc_bound cs) c.loop-place.place) c.in-Some.is found)
 
 pub returns-in-Some-clause-counted : goal.returns-in-Some-clause-counted
@@ -23,11 +23,11 @@ returns-in-Some-clause-counted g c = λ stream chain.
     let s = joined arc_bound cs in
     let place = c.loop-place.place in
     let found = subst (IsFirstBroken t cs s place) c.in-Some.is
-    (subst (λ a. IsFirstBroken (terms_of c.args.anchors.now c.args.moment c.args.purpose.now a) cs s place c.first_broken.result) c.loop-place.invariant.kept (c.first_broken.ensures.judged chain.each)) in
-    let counted = subst (λ a. Rises (asked_at (terms_of c.args.anchors.now c.args.moment c.args.purpose.now a) cs s place) (g.J.SignatureJudge.questions c.loop-place.judge) c.loop-place.calls (g.J.SignatureJudge.questions c.first_broken.new.judge) c.first_broken.new.calls) c.loop-place.invariant.kept (c.first_broken.ensures.counted chain.each) in
+    (subst (λ a. IsFirstBroken (terms_of c.args.anchors.now c.args.moment c.args.purpose.now a) cs s place c.first_broken.result) c.loop-place.invariant.kept c.first_broken.ensures.judged) in
+    let counted = subst (λ a. Rises (asked_at (terms_of c.args.anchors.now c.args.moment c.args.purpose.now a) cs s place) (g.J.SignatureJudge.questions c.loop-place.judge) c.loop-place.calls (g.J.SignatureJudge.questions c.first_broken.new.judge) c.first_broken.new.calls) c.loop-place.invariant.kept c.first_broken.ensures.counted in
     Rises-more (asked_below t cs s place) (asked_at t cs s place) (asked t cs stream) _ _ _ _ _ _
-    (asked-refused t cs s place c.in-Some.rule (omega arith) (c.loop-place.invariant.judged chain.each) found.0 ∙ ap (asked t cs) (sym chain.joins))
-    (c.loop-place.invariant.counted chain.each) counted
+    (asked-refused t cs s place c.in-Some.rule (omega arith) c.loop-place.invariant.judged found.0 ∙ ap (asked t cs) (sym chain.joins))
+    c.loop-place.invariant.counted counted
 
 pub loop-place-preserved : goal.loop-place-preserved
 loop-place-preserved g c =
@@ -38,15 +38,15 @@ loop-place-preserved g c =
     let next : suc place ≡ place + 1 = omega arith in
     record {
       kept = c.first_broken.ensures.kept ∙ c.loop-place.invariant.kept;
-      judged = λ all.
+      judged =
           (let found = subst (IsFirstBroken t cs s place) c.in_default.is
-          (subst (λ a. IsFirstBroken (terms_of c.args.anchors.now c.args.moment c.args.purpose.now a) cs s place c.first_broken.result) c.loop-place.invariant.kept (c.first_broken.ensures.judged all)) in
-          subst (λ n. all_kept_below t cs s n ≡ true) next (kept_below-more t cs s place (c.loop-place.invariant.judged all) found));
-      counted = λ all.
-          (let counted = subst (λ a. Rises (asked_at (terms_of c.args.anchors.now c.args.moment c.args.purpose.now a) cs s place) (g.J.SignatureJudge.questions c.loop-place.judge) c.loop-place.calls (g.J.SignatureJudge.questions c.first_broken.new.judge) c.first_broken.new.calls) c.loop-place.invariant.kept (c.first_broken.ensures.counted all) in
+          (subst (λ a. IsFirstBroken (terms_of c.args.anchors.now c.args.moment c.args.purpose.now a) cs s place c.first_broken.result) c.loop-place.invariant.kept c.first_broken.ensures.judged) in
+          subst (λ n. all_kept_below t cs s n ≡ true) next (kept_below-more t cs s place c.loop-place.invariant.judged found));
+      counted =
+          (let counted = subst (λ a. Rises (asked_at (terms_of c.args.anchors.now c.args.moment c.args.purpose.now a) cs s place) (g.J.SignatureJudge.questions c.loop-place.judge) c.loop-place.calls (g.J.SignatureJudge.questions c.first_broken.new.judge) c.first_broken.new.calls) c.loop-place.invariant.kept c.first_broken.ensures.counted in
           Rises-more (asked_below t cs s place) (asked_at t cs s place) (asked_below t cs s (place + 1)) _ _ _ _ _ _
-          (asked_below-more t cs s place (c.loop-place.invariant.judged all) ∙ ap (asked_below t cs s) next)
-          (c.loop-place.invariant.counted all) counted);
+          (asked_below-more t cs s place c.loop-place.invariant.judged ∙ ap (asked_below t cs s) next)
+          c.loop-place.invariant.counted counted);
     }
 
 pub returns-then-len-eq0-clause-counted : goal.returns-then-len-eq0-clause-counted
@@ -55,7 +55,7 @@ returns-then-len-eq0-clause-counted g c = λ stream chain.
     let cs = c.args.bundle.now.certificates in
     let end : c.loop-place.place ≡ length cs = omega arith in
     Rises-by _ _ _ _ _ _ (ap (asked_below t cs (joined arc_bound cs)) end ∙ sym (asked-is t cs (joined arc_bound cs)) ∙ ap (asked t cs) (sym chain.joins))
-    (c.loop-place.invariant.counted chain.each)
+    c.loop-place.invariant.counted
 
 pub returns-else-len-eq0-clause-counted : goal.returns-else-len-eq0-clause-counted
 returns-else-len-eq0-clause-counted g c = λ stream chain.
@@ -63,11 +63,11 @@ returns-else-len-eq0-clause-counted g c = λ stream chain.
     let cs = c.args.bundle.now.certificates in
     let end : c.loop-place.place ≡ length cs = omega arith in
     Rises-by _ _ _ _ _ _ (ap (asked_below t cs (joined arc_bound cs)) end ∙ sym (asked-is t cs (joined arc_bound cs)) ∙ ap (asked t cs) (sym chain.joins))
-    (c.loop-place.invariant.counted chain.each)
+    c.loop-place.invariant.counted
 
 pub returns-else-len-eq0-clause-judged : goal.returns-else-len-eq0-clause-judged
 returns-else-len-eq0-clause-judged g c = λ stream chain.
     let t = terms_of c.args.anchors.now c.args.moment c.args.purpose.now (g.J.SignatureJudge.answers c.args.judge.now) in
     let cs = c.args.bundle.now.certificates in
     let end : c.loop-place.place ≡ length cs = omega arith in
-    trusted_by t c.args.bundle.now.limit cs stream chain (omega arith) (subst (λ n. all_kept_below t cs (joined arc_bound cs) n ≡ true) end (c.loop-place.invariant.judged chain.each))
+    trusted_by t c.args.bundle.now.limit cs stream chain (omega arith) (subst (λ n. all_kept_below t cs (joined arc_bound cs) n ≡ true) end c.loop-place.invariant.judged)

@@ -8,15 +8,15 @@ use Rattle.cert_desk.proofs.PlaceLaws.{asks_none}
 use Rattle.cert_desk.proofs.checking.first_broken.Goals as goal
 
 pub returns-in-Some-clause-judged : goal.returns-in-Some-clause-judged
-returns-in-Some-clause-judged g c = λ all.
+returns-in-Some-clause-judged g c =
     let t = terms_of c.args.anchors.now c.args.moment c.args.purpose.now (g.J.SignatureJudge.answers c.args.judge.now) in
     let cs = c.args.bundle.now.certificates in
-    let broken = subst (IsFirstUnsigned t cs (joined arc_bound cs) c.args.place) c.in-Some.is (c.first_unsigned.ensures t.answers (joined arc_bound cs) all) in
+    let broken = subst (IsFirstUnsigned t cs (joined arc_bound cs) c.args.place) c.in-Some.is (c.first_unsigned.ensures t.answers (joined arc_bound cs)) in
     (broken.1, broken.2)
 
 pub returns-in-Some-clause-counted : goal.returns-in-Some-clause-counted
-returns-in-Some-clause-counted g c = λ all.
+returns-in-Some-clause-counted g c =
     let t = terms_of c.args.anchors.now c.args.moment c.args.purpose.now (g.J.SignatureJudge.answers c.args.judge.now) in
     let cs = c.args.bundle.now.certificates in
-    let broken = subst (IsFirstUnsigned t cs (joined arc_bound cs) c.args.place) c.in-Some.is (c.first_unsigned.ensures t.answers (joined arc_bound cs) all) in
+    let broken = subst (IsFirstUnsigned t cs (joined arc_bound cs) c.args.place) c.in-Some.is (c.first_unsigned.ensures t.answers (joined arc_bound cs)) in
     Rises-by _ _ _ _ _ _ (sym (asks_none t cs (joined arc_bound cs) c.args.place c.in-Some.rule broken.0 broken.1)) (Rises-none _ _)

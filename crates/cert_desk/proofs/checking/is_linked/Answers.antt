@@ -1,12 +1,17 @@
 use Rattle.std.proofs.Common.{◌<◌, sym, ◌∙◌, ap, arith}
-use Rattle.x509_cert.specs.Views.{arc_bound, certificate_plain, name_plain, tbs_issuer, tbs_subject}
-use Rattle.x509_cert.specs.Certificates.{issuer}
+use Rattle.x509_cert.specs.Views.{arc_bound, certificate_plain}
+use Rattle.x509_cert.specs.Certificates.{issuer, tbs_subject}
 use Rattle.cert_desk.specs.declared.rule.Rule.TheVariants as rules
 use Rattle.cert_desk.specs.Anchors.{terms_of}
 use Rattle.cert_desk.specs.Judging.{same_name}
-use Rattle.cert_desk.proofs.AnchorSteps.{same_name_by}
 use Rattle.cert_desk.proofs.PlaceLaws.{entry_at, keeps_at-is, is_linked-later}
 use Rattle.cert_desk.proofs.checking.is_linked.Goals as goal
+
+pub is_anchored-requires : goal.is_anchored-requires
+is_anchored-requires c = (entry_at _ _ _ _ _ c.get.ensures.entry c.unwrap-entry.ensures).valid
+
+pub is_issued_by-requires : goal.is_issued_by-requires
+is_issued_by-requires c = (entry_at _ _ _ _ _ c.get.ensures.entry c.unwrap-entry.ensures).valid
 
 pub returns : goal.returns
 returns c = λ moment purpose answers stream.
@@ -17,7 +22,6 @@ returns c = λ moment purpose answers stream.
     let this = certificate_plain c.unwrap-entry.result.certificate.now in
     let earlier = certificate_plain c.unwrap-before.result.certificate.now in
     let later : 0 < c.args.place = omega arith in
-    same_name_by arc_bound _ _ _ c.equals.ensures
-    ∙ ap (λ n. same_name arc_bound n (name_plain c.subject.result.now)) (c.issuer-issuer.ensures ∙ ap tbs_issuer c.tbs_certificate.ensures)
-    ∙ ap (same_name arc_bound (issuer this)) (c.subject.ensures ∙ ap tbs_subject c.tbs_certificate-2.ensures)
+    c.is_issued_by.ensures
+    ∙ ap (same_name arc_bound (issuer this)) (c.subject.ensures ∙ ap tbs_subject c.tbs_certificate.ensures)
     ∙ sym (keeps_at-is rules.WrongIssuer t cs stream c.args.place this entry.certificate ∙ is_linked-later t cs c.args.place this earlier later before.certificate)

@@ -1,6 +1,7 @@
 use Rattle.std.proofs.Common.{◌<◌, sym, ◌∙◌, ap, arith}
 use Rattle.std.specs.List.{list_any}
-use Rattle.x509_cert.specs.Views.{arc_bound, certificate_plain, key_plain, tbs_public_key}
+use Rattle.x509_cert.specs.Views.{arc_bound, certificate_plain, key_plain}
+use Rattle.x509_cert.specs.Certificates.{tbs_public_key}
 use Rattle.cert_desk.specs.declared.rule.Rule.TheVariants as rules
 use Rattle.cert_desk.specs.Anchors.{terms_of}
 use Rattle.cert_desk.specs.Chains.{joined}
@@ -9,6 +10,9 @@ use Rattle.cert_desk.proofs.Counts.{Rises-by}
 use Rattle.cert_desk.proofs.Encodings.{signed_part-is}
 use Rattle.cert_desk.proofs.PlaceLaws.{entry_at, keeps_at-is, is_signed-first, is_signed-later, asked_signature-first}
 use Rattle.cert_desk.proofs.checking.is_signed.Goals as goal
+
+pub is_signed_by_anchor-requires : goal.is_signed_by_anchor-requires
+is_signed_by_anchor-requires g c = (entry_at _ _ _ _ _ c.get.ensures.entry c.unwrap-entry.ensures).valid
 
 pub returns-then-place-eq0-clause-answered : goal.returns-then-place-eq0-clause-answered
 returns-then-place-eq0-clause-answered g c = λ moment purpose.

@@ -1,4 +1,4 @@
-use Rattle.std.proofs.Common.{◌≡◌, ℕ, ◌+◌, ◌<◌, true, false, length, get_or, refl, sym, ◌∙◌, ap, arith}
+use Rattle.std.proofs.Common.{◌+◌, refl, sym, ◌∙◌, ap, arith}
 use Rattle.x509_cert.specs.Views.{arc_bound, certificate_plain}
 use Rattle.cert_desk.specs.declared.anchor.Anchor.{Anchor}
 use Rattle.cert_desk.specs.Anchors.{anchor_plain}

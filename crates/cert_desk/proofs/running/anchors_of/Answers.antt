@@ -1,5 +1,6 @@
 use Rattle.std.proofs.Common.{map, ap, ◌∙◌}
-use Rattle.x509_cert.specs.Views.{certificate_plain, tbs_subject, tbs_public_key}
+use Rattle.x509_cert.specs.Views.{certificate_plain}
+use Rattle.x509_cert.specs.Certificates.{tbs_subject, tbs_public_key}
 use Rattle.cert_desk.specs.Anchors.{anchor_plain}
 use Rattle.cert_desk.proofs.PlaceLaws.{entry_at}
 use Rattle.cert_desk.proofs.RunLaws.{anchor_same, anchors-push}

@@ -1,5 +1,4 @@
-use Rattle.std.proofs.Common.{◌≡◌, ℕ, List, map, Ok, Err, sym, ap, ◌∙◌, subst}
-use Rattle.x509_cert.specs.Views.{arc_bound}
+use Rattle.std.proofs.Common.{map, sym, ◌∙◌, subst}
 use Rattle.cert_desk.specs.Anchors.{anchor_plain, purpose_plain}
 use Rattle.cert_desk.specs.Runs.{HasAnchors, run_terms}
 use Rattle.cert_desk.specs.Verdicts.{IsVerdict, IsCounted}

@@ -8,6 +8,7 @@ use Rattle.cert_desk.specs.declared.bundle.Located.{Located}
 use Rattle.cert_desk.specs.Chains.{offset_at}
 use Rattle.cert_desk.specs.Locations.{plain_of, certificates_of}
 use Rattle.cert_desk.specs.Streams.{Kept}
+use Rattle.cert_desk.proofs.Encodings.{Stands-at}
 use Rattle.cert_desk.proofs.Located.{IsHeld, held}
 use Rattle.cert_desk.proofs.bundle.Bundle.get.Goals as goal
 use Rattle.cert_desk.proofs.bundle.Bundle.get.Goals.{In-Some}
@@ -53,8 +54,10 @@ returns-clause-entry c =
     let kept : c.args.self.now.certificates ≡ certificates_of b.located.items = ap (λ (k : Kept). k.certificates) (sym c.self.view_is) in
     let octets = ap (λ (x : List ℕ). take (l.end - l.offset) (drop l.offset x)) c.deref-2.ensures.value ∙ h.octets_are in
     let count : l.header + l.signed - l.header ≡ l.signed = omega arith in
+    let placed = slice_get-map plain_of b.located.items c.args.place ∙ ap (option_map plain_of) (there i) in
     record {
-      certificate = ap (λ (cs : List PlainCertificate). slice_get cs c.args.place) kept ∙ slice_get-map plain_of b.located.items c.args.place ∙ ap (option_map plain_of) (there i);
+      valid = (Stands-at arc_bound b.limit (certificates_of b.located.items) c.args.place (plain_of l) c.self.invariant.each placed).valid;
+      certificate = ap (λ (cs : List PlainCertificate). slice_get cs c.args.place) kept ∙ placed;
       octets = octets;
       signed = ap (λ (n : ℕ). take n (drop l.header (take (l.end - l.offset) (drop l.offset c.deref-2.result.now)))) count ∙ ap (λ (x : List ℕ). take l.signed (drop l.header x)) octets ∙ h.signed_are;
       offset = (c.self.invariant.places c.args.place l (there i)).offset ∙ ap (λ (cs : List PlainCertificate). offset_at arc_bound cs c.args.place) (sym kept);

@@ -1,8 +1,8 @@
 -- What the header says of the rest, and what reading says of a whole certificate, is the step that the bundle takes.
-use Rattle.std.proofs.Common.{◌≡◌, ◌+◌, ◌<◌, List, [], ◌∷◌, ◌++◌, length, take, drop, refl, sym, ap, subst, arith}
-use Rattle.std.proofs.lemmas.List.{take_rest, length-take}
+use Rattle.std.proofs.Common.{◌≡◌, ◌+◌, List, [], ◌∷◌, ◌++◌, take, drop, refl, sym, ap, subst, arith}
+use Rattle.std.proofs.lemmas.List.{take_rest}
 use Rattle.der_core_head.specs.Shapes.{Spells}
-use Rattle.x509_cert.specs.Certificates.{certificate}
+use Rattle.x509_cert.specs.Certificates.{raw_certificate}
 use Rattle.x509_cert.specs.Views.{arc_bound, certificate_plain}
 use Rattle.cert_desk.specs.declared.bundle.Located.{Located}
 use Rattle.cert_desk.specs.declared.fault_kind.FaultKind.TheVariants as kinds
@@ -49,7 +49,7 @@ is_next c =
     let b = c.self.inside in
     let rest = drop b.start b.octets.items in
     let whole : HasWhole b.limit b.start rest c.in-Whole.header c.in-Whole.len = rw (take_rest, c.deref.ensures.value) at c.in-Whole.ensures in
-    let spelled : Spells (certificate arc_bound) (certificate_plain c.in-Ok.certificate) (take c.in-Whole.len rest) = rw (take_rest, c.deref.ensures.value) at c.in-Ok.ensures.spelled in
+    let spelled : Spells (raw_certificate arc_bound) (certificate_plain c.in-Ok.certificate) (take c.in-Whole.len rest) = rw (take_rest, c.deref.ensures.value) at c.in-Ok.ensures.spelled in
     record {
       stands = read_stands arc_bound b.limit b.start rest c.in-Whole.header c.in-Whole.len whole (certificate_plain c.in-Ok.certificate) spelled;
       rest = read-rest arc_bound b.limit b.start rest c.in-Whole.header c.in-Whole.len whole (certificate_plain c.in-Ok.certificate) spelled;
