@@ -1,7 +1,7 @@
 //! Questions and their answers.
 
 use crate::refusals::Refusal;
-use crate::{bundles, certificates, devices, runs, splits};
+use crate::{bundles, certificates, devices, errors, runs, splits};
 use std::alloc::Global;
 use std::io;
 use std::io::Write;
@@ -19,6 +19,9 @@ pub fn answer<W: Write>(alloc: Global, line: &str, out: &mut W) -> io::Result<()
 
 /// What is answered to a question, by its first word.
 fn answer_of(alloc: Global, line: &str) -> Result<String, Refusal> {
+    if line == "errors" {
+        return errors::answer(alloc);
+    }
     let (word, rest) = line.split_once(' ').ok_or(Refusal::Unread)?;
     match word {
         "certificate" => certificates::answer(alloc, rest),

@@ -2,21 +2,21 @@
 
 use crate::refusals::Refusal;
 use crate::words::{octets_of, word_of};
-use cert_desk::{BitString, Time, read_certificate};
+use cert_desk::{BitString, CertificateInner, Raw, Time};
 use std::alloc::{AllocError, Global};
 
-/// The parts of a certificate in the order in which they stand, without the names, which are empty.
+/// Parts of a certificate, in the order in which they stand: those that have no lists inside.
 pub fn answer(alloc: Global, word: &str) -> Result<String, Refusal> {
     let octets = octets_of(alloc, word)?;
-    let certificate = read_certificate(alloc, octets.as_slice())?;
+    let certificate = CertificateInner::<Raw>::from_der(alloc, octets.as_slice())?;
     let signed = certificate.tbs_certificate();
     let serial = word_of(alloc, signed.serial_number().as_bytes())?;
     let inner = signed.signature().oid;
     let from = seconds(&signed.validity().not_before);
     let until = seconds(&signed.validity().not_after);
     let key = signed.subject_public_key_info();
-    let key_algorithm = key.algorithm().oid;
-    let key = word_of_bits(alloc, key.subject_public_key())?;
+    let key_algorithm = key.algorithm.oid;
+    let key = word_of_bits(alloc, &key.subject_public_key)?;
     let outer = certificate.signature_algorithm().oid;
     let signature = word_of_bits(alloc, certificate.signature())?;
     let text = format!(in alloc;

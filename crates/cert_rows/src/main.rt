@@ -10,6 +10,7 @@
 //! | `split LIMIT HEX` | how many certificates begin the stream, and their octets: as the plain split finds it, and as a bundle does |
 //! | `input SCHEDULE HEX` | the octets that each of six reads of an input gives into room for 4, and how many failed |
 //! | `output SCHEDULE HEX ..` | whether an output with room for 64 octets takes each text, what it took, and how many writes failed |
+//! | `errors` | what each error prints: of a bundle, of its reading, of a check, of a device |
 //! | an empty line, or one that begins with `#` | the same line |
 //! | any other | `?` |
 //!
@@ -24,6 +25,7 @@ mod answers;
 mod bundles;
 mod certificates;
 mod devices;
+mod errors;
 mod judges;
 mod refusals;
 mod runs;
