@@ -8,6 +8,7 @@ mod extension;
 pub mod laws;
 mod profile;
 mod serial_number;
+mod serial_text;
 mod subject_public_key_info;
 mod subject_public_key_info_ref;
 mod time;

@@ -14,6 +14,7 @@ ghost use Rattle.x509_cert_parts.specs.Grammar.{numbers_within};
 ghost use Rattle.x509_cert_parts.specs.SerialNumbers.{new_serial};
 
 use crate::profile::{Profile, Rfc5280};
+use crate::serial_text::write_octets;
 use der_core::making::{decode_leaf, integer_octets_of, value_cmp_by_contents};
 use der_core::{
     ApartValue, AsReadValue, DecodeValue, EncodeValue, Error, ErrorKind, FixedTag, Header, Leaf,
@@ -22,6 +23,7 @@ use der_core::{
 use der_types_numbers::{Int, Uint};
 use std::alloc::{AllocError, Global};
 use std::cmp::Ordering;
+use std::fmt;
 use std::marker::{Model, PhantomData};
 
 /// The serial number of a certificate (RFC 5280 4.1.2.2), of which the profile reads so many content octets. Numbers that are
@@ -223,6 +225,17 @@ impl<P: Profile> ApartValue for SerialNumber<P> {
 
 impl<P: Profile> AsReadValue for SerialNumber<P> {
     ghost as_read_value = { λ _. refl };
+}
+
+/// The content octets as pairs of upper-case digits in base 16, joined by colons.
+impl<P> fmt::Display for SerialNumber<P> {
+    ghost use Rattle.x509_cert_parts.specs.SerialNumbers.{colon_pairs};
+
+    ghost output = { λ n. Some (colon_pairs (integer_octets n)) };
+
+    fn fmt<W: fmt::Write>(&self, f: &mut fmt::Formatter<W>) -> fmt::Result {
+        write_octets(self.as_bytes(), f)
+    }
 }
 
 /// The order of the content octets.

@@ -110,6 +110,10 @@ fn text_of(alloc: Global, kind: &str, octets: &str) -> Result<String, Refusal> {
             let time: Time = from_der(alloc, octets.as_slice())?;
             Ok(time.to_string(alloc)?)
         }
+        "SerialNumber" => {
+            let serial: SerialNumber<Raw> = from_der(alloc, octets.as_slice())?;
+            Ok(serial.to_string(alloc)?)
+        }
         _ => Err(Refusal::Unread),
     }
 }

@@ -1,0 +1,10 @@
+use Rattle.std.proofs.Common.{take}
+use Rattle.std.specs.Fmt.{HasWritten, IsPlainFormatter}
+use Rattle.std.specs.List.{flat_map}
+use Rattle.x509_cert_parts.specs.SerialNumbers.{colon_pair}
+use Rattle.x509_cert_parts.proofs.serial_text.write_later.Given as goal
+
+-- what was written so far
+abbrev pub invariant-loop-octet : goal.invariant-loop-octet
+invariant-loop-octet g l =
+    IsPlainFormatter l.initial.f → HasWritten g.W.Write.write_str_gives l.initial.f (flat_map colon_pair (take l.octet-index l.octets)) l.f
