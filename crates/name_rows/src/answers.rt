@@ -1,7 +1,7 @@
 //! Questions and their answers.
 
 use crate::refusals::Refusal;
-use crate::{names, relatives};
+use crate::{names, relatives, texts};
 use der_core::{Decode, Encode, SliceReader, from_ber, from_der, to_der};
 use std::alloc::Global;
 use std::io;
@@ -32,6 +32,9 @@ fn answer_of(alloc: Global, line: &str) -> Result<String, Refusal> {
         "first" => names::first(alloc, rest),
         "relative" => relatives::inserted(alloc, rest),
         "relative-of" => relatives::made(alloc, rest),
+        "from" => texts::spelled(alloc, rest),
+        "name" => texts::again(alloc, rest),
+        "text" => texts::printed(alloc, rest),
         _ => Err(Refusal::Unread),
     }
 }

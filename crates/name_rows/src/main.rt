@@ -7,6 +7,9 @@
 //! | `first WHICH HEX` | `ok TEXT`, what the name has first of a type: `common-name`, `country`, `state`, `locality`, `organization`, `unit` or `email`; `ok none` where it has none |
 //! | `relative HEX HEX ..` | `ok HEX`, the relative name into which these attributes are inserted one by one |
 //! | `relative-of HEX HEX ..` | the same of the relative name that is made of all of them at once |
+//! | `from TYPE TEXT` | `ok HEX`, the encoding of what the text spells: a `Name`, `RdnSequence`, `RelativeDistinguishedName` or `AttributeTypeAndValue` |
+//! | `name TEXT` | `ok TEXT`, the text that is printed of the name that the text spells |
+//! | `text TYPE HEX` | `ok TEXT`, the text that is printed of the value that the octets spell |
 //! | an empty line, or one that begins with `#` | the same line |
 //! | any other | `?` |
 //!
@@ -17,6 +20,7 @@ mod answers;
 mod names;
 mod refusals;
 mod relatives;
+mod texts;
 
 use answers::answer;
 use std::io;

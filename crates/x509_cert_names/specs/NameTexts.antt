@@ -1,9 +1,11 @@
 -- Names as texts (RFC 4514 2, 3).
-use Rattle.std.specs.Prelude.{◌≡◌, ◌≢◌, ℕ, List, [], ◌∷◌, ◌++◌, reverse, Result, Ok, Err}
+use Rattle.std.specs.Prelude.{◌≡◌, ◌≢◌, ℕ, List, [], ◌∷◌, ◌++◌, reverse, None, false, Result, Ok, Err}
 use Rattle.std.specs.List.{IsDistinct, flat_map}
 use Rattle.std.specs.List.Sorted.{IsPermutation}
 use Rattle.der_core_head.specs.declared.error.ErrorKind.{ErrorKind}
 use Rattle.der_core_head.specs.declared.error.ErrorKind.TheVariants as kinds
+use Rattle.der_core_head.specs.Shapes.{Shape, Value, octets_of}
+use Rattle.der_core_head.specs.Writing.{write}
 use Rattle.der_types_sets.specs.Sets.{Ascends, AllValid}
 use Rattle.x509_cert_name_texts.specs.Pieces.{ReadsPieces}
 use Rattle.x509_cert_names.specs.Names.{type_and_value}
@@ -49,3 +51,10 @@ relative_printed r = joined_by 43 attribute_printed r
 -- a name as it is printed: its relative names between commas, the last one first
 abbrev pub name_printed : List (List AttributeTypeAndValue) → List ℕ
 name_printed n = joined_by 44 relative_printed (reverse n)
+
+-- The encoding of what a text is read as: the octets of its value, or why it isn't read or isn't written.
+pub data ReadsEncoding {A : Type 0} (s : Shape) (plain : A → Value s) (Reads : Result A ErrorKind → Type 0) : Result (List ℕ) ErrorKind → Type 0 where
+  written : (a : A) → Reads (Ok a) → ReadsEncoding s plain Reads (Ok (octets_of s (plain a)))
+  refused : (e : ErrorKind) → Reads (Err e) → ReadsEncoding s plain Reads (Err e)
+  unwritten : (a : A) (e : ErrorKind) → Reads (Ok a) → write s (plain a) (record { written = []; room = None; failed = false }) ≡ Err e
+      → ReadsEncoding s plain Reads (Err e)

@@ -5,12 +5,13 @@ ghost use Rattle.std.specs.Fmt.{WritesOnOk};
 ghost use Rattle.std.specs.Str.{chars};
 ghost use Rattle.const_oid_identifiers.specs.DottedText.{dotted};
 ghost use Rattle.der_core_head.specs.Reading.{Gives};
+ghost use Rattle.x509_cert_name_texts.specs.Answers.{GivesBy};
 ghost use Rattle.x509_cert_name_texts.specs.Escapes.{escaped, in_hex};
-ghost use Rattle.x509_cert_names.specs.NameTexts.{ReadsAttribute};
+ghost use Rattle.x509_cert_names.specs.NameTexts.{ReadsAttribute, ReadsEncoding};
 ghost use Rattle.x509_cert_names.specs.ValueTexts.{attribute_read, encoding_of};
 ghost use Rattle.der_core_head.specs.declared.tag.Tag.TheVariants.{Sequence};
 ghost use Rattle.der_core_head.specs.Shapes.{nested};
-ghost use Rattle.x509_cert_names.specs.Names.{type_and_value_fields};
+ghost use Rattle.x509_cert_names.specs.Names.{type_and_value, type_and_value_fields};
 ghost use Rattle.x509_cert_names.specs.Pairs.{arc_bound, pair_plain, same_pair, same_pair_per, same_pair_equiv, pair_fed, pair_fed_alike};
 
 use crate::value_texts::{text_of, value_of, write_encoding};
@@ -19,7 +20,7 @@ use der_core::making::read_fields;
 use der_core::{
     ApartValue, AsReadValue, DecodeFields, DecodeValue, EncodeFields, EncodeRef, EncodeValue,
     Error, ErrorKind, Fields, FieldsOrd, FixedTag, Header, InRange, InRangeValue, Length, Reader,
-    ShapedValue, Tag, ValueOrd, Writer,
+    ShapedValue, Tag, ValueOrd, Writer, to_der,
 };
 use der_types_any::Any;
 use std::alloc::{AllocError, Global};
@@ -180,6 +181,18 @@ impl AttributeTypeAndValue {
                 Ok(AttributeTypeAndValue { oid, value })
             }
         }
+    }
+
+    /// The encoding of the attribute that a text spells: `from_str`, then `to_der`.
+    ///
+    /// # Errors
+    /// Those of `from_str`, and of `to_der`.
+    pub fn encode_from_string(alloc: Global, text: &str) -> Result<Vec<u8>, Error>
+        ensures { GivesBy (λ octets. octets.items) result (ReadsEncoding (type_and_value arc_bound) pair_plain (ReadsAttribute text.now)) }
+    {
+        let attribute = AttributeTypeAndValue::from_str(alloc, text)?;
+        let octets = to_der(alloc, &attribute)?;
+        Ok(octets)
     }
 
     /// A copy.

@@ -8,7 +8,7 @@ ghost use Rattle.der_core_head.specs.Shapes.{nested, many};
 ghost use Rattle.der_core_head.specs.Grammar.{plain_list};
 ghost use Rattle.der_core_head.specs.Shapes.{octets_of};
 ghost use Rattle.x509_cert_name_texts.specs.Answers.{GivesBy};
-ghost use Rattle.x509_cert_names.specs.NameTexts.{ReadsName, relative_printed, name_printed, behind};
+ghost use Rattle.x509_cert_names.specs.NameTexts.{ReadsName, ReadsEncoding, relative_printed, name_printed, behind};
 ghost use Rattle.x509_cert_names.specs.Names.{relative_name, name};
 ghost use Rattle.x509_cert_names.specs.declared.attribute_type_and_value.AttributeTypeAndValue.{AttributeTypeAndValue};
 ghost use Rattle.x509_cert_names.specs.Pairs.{arc_bound, relative_plain};
@@ -67,7 +67,7 @@ impl RdnSequence {
     /// # Errors
     /// Those of `from_str`, and of `to_der`.
     pub fn encode_from_string(alloc: Global, text: &str) -> Result<Vec<u8>, Error>
-        ensures { IfOk result (λ octets. (n : List (List AttributeTypeAndValue)) × ReadsName text.now (Ok n) × (octets.items ≡ octets_of (name arc_bound) (plain_list relative_plain n))) }
+        ensures { GivesBy (λ octets. octets.items) result (ReadsEncoding (name arc_bound) (plain_list relative_plain) (ReadsName text.now)) }
     {
         let sequence = RdnSequence::from_str(alloc, text)?;
         let octets = to_der(alloc, &sequence)?;
