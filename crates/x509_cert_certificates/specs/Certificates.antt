@@ -9,7 +9,7 @@ use Rattle.der_core_head.specs.Heads.{head_octets}
 use Rattle.der_core_head.specs.Leaves.{bits}
 use Rattle.der_core_head.specs.Shapes.{Shape, Body, Value, tagged, leaf, optional, field, done, sequence, explicit, octets_of, body_octets}
 use Rattle.der_core_head.specs.Tags.{context}
-use Rattle.x509_cert_names.specs.Names.{PlainName, name}
+use Rattle.x509_cert_parts.specs.NameParts.{PlainName, name}
 use Rattle.x509_cert_parts.specs.Grammar.{Algorithm, PublicKey, PlainValidity, PlainExtension, bit_string, algorithm_identifier, public_key_info, version_field, serial_number, validity, extensions, civil_of}
 use Rattle.x509_cert_parts.specs.Grammar as parts
 use Rattle.x509_cert_parts.specs.Respelling.{validity_by}

@@ -16,9 +16,8 @@ use der_core::{
     ApartValue, DecodeFields, DecodeValue, EncodeFields, EncodeRef, EncodeValue, Error, Fields,
     FixedTag, Header, Length, Reader, ShapedValue, Tag, Writer, from_der,
 };
-use der_types_values::BitString;
 use std::alloc::Global;
-use x509_cert_parts::{AlgorithmIdentifier, Profile, Rfc5280};
+use x509_cert_parts::{AlgorithmIdentifier, BitString, Profile, Rfc5280};
 
 /// A certificate (RFC 5280 4.1).
 ///

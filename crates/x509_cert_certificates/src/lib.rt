@@ -3,19 +3,19 @@
 
 mod certificate;
 pub mod laws;
+pub mod making;
 mod tbs_certificate;
 mod unique_identifier_ref;
 mod version_field;
 
 pub use certificate::{Certificate, CertificateInner};
-pub use der_types_values::BitString;
 pub use tbs_certificate::{TbsCertificate, TbsCertificateInner};
-pub use x509_cert_names::{
-    Attribute, AttributeType, AttributeTypeAndValue, AttributeValue, Attributes, DirectoryString,
-    DistinguishedName, FromAny, Name, NameIter, RdnSequence, RdnSequenceIter,
-    RelativeDistinguishedName, RelativeNameIter,
-};
 pub use x509_cert_parts::{
-    AlgorithmIdentifier, AlgorithmIdentifierRef, Extension, Extensions, Profile, Raw, Rfc5280,
-    SerialNumber, SubjectPublicKeyInfo, SubjectPublicKeyInfoRef, Time, Validity, Version,
+    AlgorithmIdentifier, AlgorithmIdentifierRef, Any, AnyRef, Attribute, AttributeType,
+    AttributeTypeAndValue, AttributeValue, Attributes, BitString, DateTime, DirectoryString,
+    DistinguishedName, Extension, Extensions, ExtensionsOf, FlagSet, FromAny, GeneralizedTime,
+    Ia5String, Name, NameIter, NamedBits, OctetString, Profile, Raw, RdnSequence, RdnSequenceIter,
+    RelativeDistinguishedName, RelativeNameIter, Rfc5280, SerialNumber, SetOfVec,
+    SubjectPublicKeyInfo, SubjectPublicKeyInfoRef, Time, Uint, UtcTime, Validity, Version,
+    filter_extensions, get_extension,
 };

@@ -4,24 +4,26 @@ ghost use Rattle.std.specs.Prelude.{◌≡◌, refl};
 ghost use Rattle.der_core_head.specs.declared.tag.Tag.TheVariants.{Sequence};
 ghost use Rattle.der_core_head.specs.Grammar.{plain_option};
 ghost use Rattle.der_core_head.specs.Shapes.{nested};
-ghost use Rattle.x509_cert_names.specs.Views.{name_plain};
+ghost use Rattle.x509_cert_parts.specs.NameParts.{name_plain};
 ghost use Rattle.x509_cert_parts.specs.Views.{arc_bound, version_number, validity_plain, algorithm_plain, key_plain, extensions_plain};
+ghost use Rattle.der_core_head.specs.Reading.{Gives};
+ghost use Rattle.x509_cert_parts.specs.ExtensionSearch.{only_value, listed};
 ghost use Rattle.x509_cert_certificates.specs.Certificates.{tbs_fields, tbs_by, tbs_version, tbs_serial, tbs_inner_algorithm, tbs_issuer, tbs_validity, tbs_subject, tbs_public_key, tbs_issuer_unique_id, tbs_subject_unique_id, tbs_extensions};
 ghost use Rattle.x509_cert_certificates.specs.Views.{tbs_plain};
 
 use crate::unique_identifier_ref::UniqueIdentifierRef;
 use crate::version_field::VersionField;
+use const_oid::AssociatedOid;
 use der_core::making::read_fields;
 use der_core::{
-    ApartValue, DecodeFields, DecodeValue, EncodeFields, EncodeRef, EncodeValue, Error, Explicit,
-    Fields, FixedTag, Header, Implicit, Length, Reader, ShapedValue, Tag, WithDefault, Writer,
+    ApartValue, Decode, DecodeFields, DecodeValue, EncodeFields, EncodeRef, EncodeValue, Error,
+    Explicit, Fields, FixedTag, Header, Implicit, Length, Reader, ShapedValue, SliceReader, Tag,
+    WithDefault, Writer,
 };
-use der_types_values::BitString;
 use std::alloc::Global;
-use x509_cert_names::Name;
 use x509_cert_parts::{
-    AlgorithmIdentifier, Extensions, Profile, Rfc5280, SerialNumber, SubjectPublicKeyInfo,
-    Validity, Version,
+    AlgorithmIdentifier, BitString, Extensions, ExtensionsOf, Name, Profile, Rfc5280, SerialNumber,
+    SubjectPublicKeyInfo, Validity, Version, filter_extensions, get_extension,
 };
 
 /// The part of a certificate that is signed (RFC 5280 4.1.2). Any version is read beside any fields, and a list of no extensions.
@@ -305,5 +307,33 @@ impl<P> TbsCertificateInner<P> {
         ensures { plain_option (λ r. extensions_plain r.now.items) result ≡ tbs_extensions (tbs_plain self.now) }
     {
         self.extensions.as_ref()
+    }
+
+    /// The value of the only extension of the identifier of `T`, and whether it is critical; none where no extension has the
+    /// identifier.
+    ///
+    /// # Errors
+    /// `Failed` where two have it (RFC 5280 4.2 forbids that). Else those of `T`, whose encoding the content has to be, or
+    /// `OutOfMemory`.
+    pub fn get_extension<'a, T: AssociatedOid + Decode<'a, SliceReader<'a>>>(
+        &'a self,
+        alloc: Global,
+    ) -> Result<Option<(bool, T)>, Error>
+        ensures { Gives (plain_option (λ x. (x.0, T.plain x.1))) result (only_value T.shape T.oid_arcs (listed (tbs_extensions (tbs_plain self.now)))) }
+    {
+        match &self.extensions {
+            Some(extensions) => get_extension(alloc, extensions.as_slice()),
+            None => Ok(None),
+        }
+    }
+
+    /// The values of all extensions of the identifier of `T`, each with whether it is critical, in their order.
+    pub fn filter_extensions<'a, T: AssociatedOid>(&'a self, alloc: Global) -> ExtensionsOf<'a, T>
+        ensures { extensions_plain result.left.now ≡ listed (tbs_extensions (tbs_plain self.now)) }
+    {
+        match &self.extensions {
+            Some(extensions) => filter_extensions(alloc, extensions.as_slice()),
+            None => filter_extensions(alloc, &[]),
+        }
     }
 }

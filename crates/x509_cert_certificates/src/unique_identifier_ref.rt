@@ -6,7 +6,7 @@ ghost use Rattle.der_core_head.specs.Tags.{context};
 ghost use Rattle.der_core_head.specs.Shapes.{leaf};
 
 use der_core::{EncodeValue, Error, FixedTag, Length, ShapedValue, Tag, TagNumber, Writer};
-use der_types_values::BitString;
+use x509_cert_parts::BitString;
 
 /// Bits that are lent, behind a tag of number `N` in place of their own (RFC 5280 4.1).
 ///

@@ -6,3 +6,4 @@ pub mod AttributeTypes
 pub mod Ordered
 pub mod ValueTexts
 pub mod NameTexts
+pub mod Values

@@ -9,12 +9,13 @@ ghost use Rattle.der_core_head.specs.declared.tag.Tag.TheVariants as tags;
 
 use crate::from_any::FromAny;
 use der_core::{
-    AsRead, Choice, Decode, Element, Encode, Error, ErrorKind, Length, Member, OneOf4, Reader,
-    Shaped, Tag, Writer,
+    AsRead, Choice, Decode, DerOrd, Element, Encode, EncodeRef, Error, ErrorKind, FirstTag, Length,
+    Member, OneOf4, Reader, Shaped, Tag, Writer,
 };
 use der_types_any::Any;
 use der_types_text::{BmpString, PrintableString, TeletexString};
 use std::alloc::Global;
+use std::cmp::Ordering;
 
 /// A text of a name (RFC 5280 4.1.2.4, appendix A.1). UniversalString isn't read.
 ///
@@ -25,7 +26,7 @@ use std::alloc::Global;
 ///     utf8String       UTF8String,
 ///     bmpString        BMPString }
 /// ```
-#[derive(Debug, Drop, PartialEq, Eq)]
+#[derive(Clone, Debug, Drop, PartialEq, Eq)]
 pub enum DirectoryString {
     /// Letters, digits, blanks and a few signs (X.680 41.4).
     PrintableString(PrintableString),
@@ -38,6 +39,13 @@ pub enum DirectoryString {
 }
 
 type Cases = OneOf4<PrintableString, TeletexString, String, BmpString>;
+
+type CasesRef<'a> = OneOf4<
+    EncodeRef<'a, PrintableString>,
+    EncodeRef<'a, TeletexString>,
+    EncodeRef<'a, String>,
+    EncodeRef<'a, BmpString>,
+>;
 
 impl Shaped for DirectoryString {
     ghost shape = { directory_string };
@@ -66,21 +74,11 @@ impl<'a, R: Reader<'a>> Decode<'a, R> for DirectoryString {
 
 impl Encode for DirectoryString {
     fn encoded_len(&self) -> Result<Length, Error> {
-        match self {
-            DirectoryString::PrintableString(text) => text.encoded_len(),
-            DirectoryString::TeletexString(text) => text.encoded_len(),
-            DirectoryString::Utf8String(text) => text.encoded_len(),
-            DirectoryString::BmpString(text) => text.encoded_len(),
-        }
+        self.cases().encoded_len()
     }
 
     fn encode<W: Writer>(&self, writer: &mut W) -> Result<(), Error> {
-        match self {
-            DirectoryString::PrintableString(text) => text.encode(writer),
-            DirectoryString::TeletexString(text) => text.encode(writer),
-            DirectoryString::Utf8String(text) => text.encode(writer),
-            DirectoryString::BmpString(text) => text.encode(writer),
-        }
+        self.cases().encode(writer)
     }
 }
 
@@ -96,7 +94,32 @@ impl AsRead for DirectoryString {
     ghost as_read = { λ _. refl };
 }
 
+/// The tags, then the contents.
+impl DerOrd for DirectoryString {
+    fn der_cmp(&self, other: &Self) -> Result<Ordering, Error> {
+        self.cases().der_cmp(&other.cases())
+    }
+}
+
+impl FirstTag for DirectoryString {
+    fn first_tag(&self) -> Option<Tag> {
+        self.cases().first_tag()
+    }
+}
+
 impl DirectoryString {
+    /// The same text, lent as a choice.
+    fn cases<'a>(&'a self) -> CasesRef<'a>
+        ensures { ⟦<CasesRef<'a> as Shaped>⟧.written result ≡ directory_plain self.now }
+    {
+        match self {
+            DirectoryString::PrintableString(text) => OneOf4::First(EncodeRef(text)),
+            DirectoryString::TeletexString(text) => OneOf4::Second(EncodeRef(text)),
+            DirectoryString::Utf8String(text) => OneOf4::Third(EncodeRef(text)),
+            DirectoryString::BmpString(text) => OneOf4::Fourth(EncodeRef(text)),
+        }
+    }
+
     /// The text, or the empty one for a BMPString.
     pub fn as_str(&self) -> &str
         ensures { result.now ≡ directory_text self.now }

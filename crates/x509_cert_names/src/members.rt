@@ -1,16 +1,15 @@
 //! Lists of members that ascend by their encodings.
 
-ghost use Rattle.std.specs.Prelude.{◌≡◌, ◌∷◌, true, length, IfOk, IfErr};
+ghost use Rattle.std.specs.Prelude.{◌≡◌, IfOk, IfErr};
 ghost use Rattle.std.specs.List.Sorted.{IsPermutation};
 ghost use Rattle.der_core_head.specs.Grammar.{plain_list, value_at, read_content};
 ghost use Rattle.der_core_head.specs.Reading.{Reads, IsDer};
 ghost use Rattle.der_core_head.specs.Shapes.{nested, rising, octets_of, AllRising};
-ghost use Rattle.der_types_sets.specs.Sets.{Ascends, IsPlace, TooLong};
+ghost use Rattle.der_types_sets.specs.Sets.{Ascends, TooLong};
 
 use der_core::{AsRead, Decode, DerOrd, Error, Header, Member, Reader};
 use der_types_sets::SetOfVec;
 use std::alloc::{AllocError, Global};
-use std::cmp::Ordering;
 
 /// The members of a content in which each encoding is above the one before (X.690 11.6), in ascending
 /// order.
@@ -41,31 +40,6 @@ pub(crate) fn arrange<T: DerOrd + Member + Drop>(members: Vec<T>) -> Result<Vec<
 {
     let set = SetOfVec::from_vec(members)?;
     Ok(set.into_vec())
-}
-
-/// The place of an item among members that ascend, behind those that are not above it.
-///
-/// # Errors
-/// `Overflow` where an encoding has 2^32 octets or more.
-pub(crate) fn place_of<T: DerOrd + Member>(members: &[T], item: &T) -> Result<usize, Error>
-    ensures place { IfOk result (IsPlace T.shape T.written members.now item.now) }
-    ensures refused { IfErr result (TooLong T.shape T.written (item.now ∷ members.now)) }
-{
-    let mut low = 0;
-    let mut high = members.len();
-    while low < high {
-        // The last member comes first: most items stand behind it.
-        let middle = if high == members.len() {
-            high - 1
-        } else {
-            low + (high - low) / 2
-        };
-        match members[middle].der_cmp(item)? {
-            Ordering::Greater => high = middle,
-            Ordering::Less | Ordering::Equal => low = middle + 1,
-        }
-    }
-    Ok(low)
 }
 
 /// A copy of a list, of a type whose copies are the same.

@@ -18,12 +18,13 @@ ghost use Rattle.x509_cert_names.specs.Ordered.{IsOrdered};
 ghost use Rattle.x509_cert_names.specs.Pairs.{arc_bound, pair_plain, same_pair, same_pair_per, same_pair_equiv, pair_fed, pair_fed_alike, relative_plain};
 
 use crate::attribute_type_and_value::AttributeTypeAndValue;
-use crate::members::{arrange, copy_of, decode_members, place_of};
+use crate::members::{arrange, copy_of, decode_members};
 use crate::name_iter::RelativeNameIter;
 use der_core::{
     ApartValue, AsReadValue, DecodeValue, EncodeValue, Error, ErrorKind, FixedTag, Header,
     InRangeValue, Length, Reader, ShapedValue, StrictSetOf, Tag, ValueOrd, Writer,
 };
+use der_types_sets::making::place_of;
 use std::alloc::{AllocError, Global};
 use std::cmp::Ordering;
 use std::fmt;

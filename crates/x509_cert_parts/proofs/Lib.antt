@@ -1,4 +1,4 @@
 pub mod Shorter
 pub mod Respelled
-mod Versions
+mod OctetNumbers
 mod SameOctets

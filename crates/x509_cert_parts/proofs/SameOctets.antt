@@ -9,7 +9,7 @@ use Rattle.der_core_head.specs.Shapes.{AnyValue, octets_of, contents, body_octet
 use Rattle.der_core_head.specs.Tags.{leading_octet, number_of}
 use Rattle.der_core_head.specs.declared.tag.Tag.{Tag}
 use Rattle.der_core_head.proofs.TagLaws.{same_tag-eq}
-use Rattle.der_types_any.specs.AnyOrders.{any_key}
+use Rattle.x509_cert_names.specs.Values.{any_key}
 use Rattle.x509_cert_parts.specs.Grammar.{Algorithm, algorithm_identifier}
 use Rattle.x509_cert_parts.specs.Views.{arc_bound}
 

@@ -3,3 +3,5 @@ pub mod Respelling
 pub mod SerialNumbers
 pub mod Times
 pub mod Views
+pub mod NameParts
+pub mod ExtensionSearch

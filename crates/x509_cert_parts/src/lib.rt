@@ -5,7 +5,11 @@
 mod algorithm_identifier;
 mod algorithm_identifier_ref;
 mod extension;
+mod extension_search;
+mod extensions_of;
 pub mod laws;
+pub mod making;
+mod octet_numbers;
 mod profile;
 mod serial_number;
 mod serial_text;
@@ -17,7 +21,12 @@ mod version;
 
 pub use algorithm_identifier::AlgorithmIdentifier;
 pub use algorithm_identifier_ref::AlgorithmIdentifierRef;
+pub use der_types_numbers::Uint;
+pub use der_types_time::{DateTime, GeneralizedTime, UtcTime};
+pub use der_types_values::{BitString, FlagSet, NamedBits, OctetString};
 pub use extension::{Extension, Extensions};
+pub use extension_search::get_extension;
+pub use extensions_of::{ExtensionsOf, filter_extensions};
 pub use profile::{Profile, Raw, Rfc5280};
 pub use serial_number::SerialNumber;
 pub use subject_public_key_info::SubjectPublicKeyInfo;
@@ -25,3 +34,8 @@ pub use subject_public_key_info_ref::SubjectPublicKeyInfoRef;
 pub use time::Time;
 pub use validity::Validity;
 pub use version::Version;
+pub use x509_cert_names::{
+    Any, AnyRef, Attribute, AttributeType, AttributeTypeAndValue, AttributeValue, Attributes,
+    DirectoryString, DistinguishedName, FromAny, Ia5String, Name, NameIter, RdnSequence,
+    RdnSequenceIter, RelativeDistinguishedName, RelativeNameIter, SetOfVec,
+};

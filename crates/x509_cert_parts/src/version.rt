@@ -4,8 +4,8 @@ ghost use Rattle.std.specs.Prelude.{◌≡◌, pos};
 ghost use Rattle.x509_cert_parts.specs.Grammar.{version_numbers};
 ghost use Rattle.x509_cert_parts.specs.Views.{version_number};
 
-use der_core::making::unsigned_of;
-use der_core::{Error, ErrorKind, Integer, Tag, ValueOrd};
+use crate::octet_numbers::number_among;
+use der_core::{Error, Integer, Tag, ValueOrd};
 use std::cmp::Ordering;
 
 /// The version of a certificate (RFC 5280 4.1.2.1).
@@ -40,20 +40,11 @@ impl Integer for Version {
 
     ghost number = { version_number };
 
-    #[tactic(auto, using(crate::proofs::Versions::empty, crate::proofs::Versions::past, crate::proofs::Versions::other))]
     fn from_integer(tag: Tag, octets: &[u8]) -> Result<Version, Error> {
-        if octets.is_empty() {
-            return Err(Error::from(ErrorKind::Length { tag }));
-        }
-        match unsigned_of(tag, octets, 8) {
-            Ok(0) => Ok(Version::V1),
-            Ok(1) => Ok(Version::V2),
-            Ok(2) => Ok(Version::V3),
-            Ok(_) => Err(Error::from(ErrorKind::Value { tag })),
-            Err(error) => match error.kind {
-                ErrorKind::Length { .. } => Err(Error::from(ErrorKind::Value { tag })),
-                _ => Err(error),
-            },
+        match number_among(tag, octets, &[0, 1, 2])? {
+            0 => Ok(Version::V1),
+            1 => Ok(Version::V2),
+            _ => Ok(Version::V3),
         }
     }
 
