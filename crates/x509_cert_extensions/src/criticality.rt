@@ -1,0 +1,212 @@
+//! Criticality.
+
+ghost use Rattle.std.specs.Prelude.{true, false, length, ◌==◌};
+
+use crate::authority_info_access::AuthorityInfoAccessSyntax;
+use crate::base_crl_number::BaseCrlNumber;
+use crate::crl_distribution_points::CrlDistributionPoints;
+use crate::crl_number::CrlNumber;
+use crate::crl_reason::CrlReason;
+use crate::extended_key_usage::ExtendedKeyUsage;
+use crate::freshest_crl::FreshestCrl;
+use crate::issuer_alt_name::IssuerAltName;
+use crate::key_usage::KeyUsage;
+use crate::subject_alt_name::SubjectAltName;
+use crate::subject_directory_attributes::SubjectDirectoryAttributes;
+use crate::subject_info_access::SubjectInfoAccessSyntax;
+use crate::subject_key_identifier::SubjectKeyIdentifier;
+use x509_cert_policies::{
+    AuthorityKeyIdentifier, BasicConstraints, CertificatePolicies, Extension, InhibitAnyPolicy,
+    IssuingDistributionPoint, Name, NameConstraints, PolicyConstraints, PolicyMappings,
+    PrivateKeyUsagePeriod,
+};
+
+/// Whether an extension is marked as critical where it is added to a certificate or to a list (RFC 5280 4.2).
+pub trait Criticality {
+    ghost use Rattle.std.specs.Prelude.{◌≡◌, Bool, List};
+    ghost use Rattle.x509_cert_policies.specs.Parts.{PlainExtension, PlainName, extensions_plain, name_plain};
+
+    // Whether it is, of a subject and the extensions that are there.
+    ghost is_critical: { Self → PlainName → List PlainExtension → Bool };
+
+    /// Whether it is, beside a subject's name and the extensions that are there.
+    fn criticality(&self, subject: &Name, extensions: &[Extension]) -> bool
+        ensures { result ≡ is_critical self.now (name_plain subject.now) (extensions_plain extensions.now) };
+}
+
+/// Critical where the subject has no name (RFC 5280 4.2.1.6).
+impl Criticality for SubjectAltName {
+    ghost is_critical = { λ _ subject _. length subject == 0 };
+
+    fn criticality(&self, subject: &Name, _extensions: &[Extension]) -> bool {
+        subject.is_empty()
+    }
+}
+
+impl Criticality for AuthorityInfoAccessSyntax {
+    ghost is_critical = { λ _ _ _. false };
+
+    fn criticality(&self, _subject: &Name, _extensions: &[Extension]) -> bool {
+        false
+    }
+}
+
+impl Criticality for AuthorityKeyIdentifier {
+    ghost is_critical = { λ _ _ _. false };
+
+    fn criticality(&self, _subject: &Name, _extensions: &[Extension]) -> bool {
+        false
+    }
+}
+
+impl Criticality for BaseCrlNumber {
+    ghost is_critical = { λ _ _ _. true };
+
+    fn criticality(&self, _subject: &Name, _extensions: &[Extension]) -> bool {
+        true
+    }
+}
+
+impl Criticality for BasicConstraints {
+    ghost is_critical = { λ _ _ _. true };
+
+    fn criticality(&self, _subject: &Name, _extensions: &[Extension]) -> bool {
+        true
+    }
+}
+
+impl Criticality for CertificatePolicies {
+    ghost is_critical = { λ _ _ _. false };
+
+    fn criticality(&self, _subject: &Name, _extensions: &[Extension]) -> bool {
+        false
+    }
+}
+
+impl Criticality for CrlDistributionPoints {
+    ghost is_critical = { λ _ _ _. false };
+
+    fn criticality(&self, _subject: &Name, _extensions: &[Extension]) -> bool {
+        false
+    }
+}
+
+impl Criticality for CrlNumber {
+    ghost is_critical = { λ _ _ _. false };
+
+    fn criticality(&self, _subject: &Name, _extensions: &[Extension]) -> bool {
+        false
+    }
+}
+
+impl Criticality for ExtendedKeyUsage {
+    ghost is_critical = { λ _ _ _. false };
+
+    fn criticality(&self, _subject: &Name, _extensions: &[Extension]) -> bool {
+        false
+    }
+}
+
+impl Criticality for FreshestCrl {
+    ghost is_critical = { λ _ _ _. false };
+
+    fn criticality(&self, _subject: &Name, _extensions: &[Extension]) -> bool {
+        false
+    }
+}
+
+impl Criticality for InhibitAnyPolicy {
+    ghost is_critical = { λ _ _ _. true };
+
+    fn criticality(&self, _subject: &Name, _extensions: &[Extension]) -> bool {
+        true
+    }
+}
+
+impl Criticality for IssuerAltName {
+    ghost is_critical = { λ _ _ _. false };
+
+    fn criticality(&self, _subject: &Name, _extensions: &[Extension]) -> bool {
+        false
+    }
+}
+
+impl Criticality for IssuingDistributionPoint {
+    ghost is_critical = { λ _ _ _. true };
+
+    fn criticality(&self, _subject: &Name, _extensions: &[Extension]) -> bool {
+        true
+    }
+}
+
+impl Criticality for KeyUsage {
+    ghost is_critical = { λ _ _ _. true };
+
+    fn criticality(&self, _subject: &Name, _extensions: &[Extension]) -> bool {
+        true
+    }
+}
+
+impl Criticality for NameConstraints {
+    ghost is_critical = { λ _ _ _. true };
+
+    fn criticality(&self, _subject: &Name, _extensions: &[Extension]) -> bool {
+        true
+    }
+}
+
+impl Criticality for PolicyConstraints {
+    ghost is_critical = { λ _ _ _. true };
+
+    fn criticality(&self, _subject: &Name, _extensions: &[Extension]) -> bool {
+        true
+    }
+}
+
+impl Criticality for PolicyMappings {
+    ghost is_critical = { λ _ _ _. true };
+
+    fn criticality(&self, _subject: &Name, _extensions: &[Extension]) -> bool {
+        true
+    }
+}
+
+impl Criticality for PrivateKeyUsagePeriod {
+    ghost is_critical = { λ _ _ _. false };
+
+    fn criticality(&self, _subject: &Name, _extensions: &[Extension]) -> bool {
+        false
+    }
+}
+
+impl Criticality for SubjectInfoAccessSyntax {
+    ghost is_critical = { λ _ _ _. false };
+
+    fn criticality(&self, _subject: &Name, _extensions: &[Extension]) -> bool {
+        false
+    }
+}
+
+impl Criticality for SubjectKeyIdentifier {
+    ghost is_critical = { λ _ _ _. false };
+
+    fn criticality(&self, _subject: &Name, _extensions: &[Extension]) -> bool {
+        false
+    }
+}
+
+impl Criticality for CrlReason {
+    ghost is_critical = { λ _ _ _. false };
+
+    fn criticality(&self, _subject: &Name, _extensions: &[Extension]) -> bool {
+        false
+    }
+}
+
+impl Criticality for SubjectDirectoryAttributes {
+    ghost is_critical = { λ _ _ _. false };
+
+    fn criticality(&self, _subject: &Name, _extensions: &[Extension]) -> bool {
+        false
+    }
+}

@@ -1,0 +1,98 @@
+//! CrlDistributionPoints.
+
+ghost use Rattle.std.specs.Prelude.{◌≡◌, refl};
+ghost use Rattle.der_core_head.specs.declared.tag.Tag.TheVariants.{Sequence};
+ghost use Rattle.der_core_head.specs.Grammar.{plain_list};
+ghost use Rattle.der_core_head.specs.Shapes.{nested, many, sequence};
+ghost use Rattle.x509_cert_policies.specs.Parts.{distribution_point_fields, arc_bound, distribution_point_plain};
+
+use der_core::{
+    ApartValue, AsReadValue, DecodeValue, EncodeValue, Error, FixedTag, Header, Length, Reader,
+    ShapedValue, Tag, ValueOrd, Writer,
+};
+use std::alloc::Global;
+use std::cmp::Ordering;
+use x509_cert_policies::DistributionPoint;
+
+/// Where lists of revoked certificates are had (RFC 5280 4.2.1.13).
+///
+/// ```text
+/// CRLDistributionPoints ::= SEQUENCE SIZE (1..MAX) OF DistributionPoint
+/// ```
+#[derive(Clone, Debug, Drop, PartialEq, Eq)]
+pub struct CrlDistributionPoints(pub Vec<DistributionPoint>);
+
+impl FixedTag for CrlDistributionPoints {
+    ghost fixed_tag = { Sequence };
+
+    fn tag() -> Tag {
+        Tag::Sequence
+    }
+}
+
+impl ShapedValue for CrlDistributionPoints {
+    ghost content = { nested (many (sequence (distribution_point_fields arc_bound))) };
+
+    ghost value_plain = { λ x. plain_list distribution_point_plain x.0.items };
+
+    ghost value_written = { λ x. plain_list distribution_point_plain x.0.items };
+}
+
+impl<'a, R: Reader<'a>> DecodeValue<'a, R> for CrlDistributionPoints {
+    fn decode_value(
+        alloc: Global,
+        reader: &mut R,
+        header: Header,
+    ) -> Result<CrlDistributionPoints, Error> {
+        let value = <Vec<DistributionPoint>>::decode_value(alloc, reader, header)?;
+        Ok(CrlDistributionPoints(value))
+    }
+}
+
+impl EncodeValue for CrlDistributionPoints {
+    fn value_len(&self) -> Result<Length, Error> {
+        self.0.value_len()
+    }
+
+    fn encode_value<W: Writer>(&self, writer: &mut W) -> Result<(), Error> {
+        self.0.encode_value(writer)
+    }
+}
+
+impl ApartValue for CrlDistributionPoints {
+    ghost apart_value = { refl };
+}
+
+impl AsReadValue for CrlDistributionPoints {
+    ghost as_read_value = { λ _. refl };
+}
+
+impl ValueOrd for CrlDistributionPoints {
+    fn value_cmp(&self, other: &Self) -> Result<Ordering, Error> {
+        self.0.value_cmp(&other.0)
+    }
+}
+
+impl From<Vec<DistributionPoint>> for CrlDistributionPoints {
+    ghost from_gives = { λ v x. x.0 ≡ v };
+
+    fn from(value: Vec<DistributionPoint>) -> CrlDistributionPoints {
+        CrlDistributionPoints(value)
+    }
+}
+
+impl From<CrlDistributionPoints> for Vec<DistributionPoint> {
+    ghost from_gives = { λ x v. v ≡ x.0 };
+
+    fn from(value: CrlDistributionPoints) -> Vec<DistributionPoint> {
+        value.0
+    }
+}
+
+impl AsRef<Vec<DistributionPoint>> for CrlDistributionPoints {
+    fn as_ref(&self) -> &Vec<DistributionPoint>
+        ensures { result.now ≡ self.now.0 }
+    {
+        &self.0
+    }
+}

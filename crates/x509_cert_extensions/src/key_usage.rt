@@ -1,0 +1,223 @@
+//! KeyUsage.
+
+ghost use Rattle.std.specs.Prelude.{◌≡◌, ⊤, [], ◌∷◌, codes, refl};
+ghost use Rattle.bitflags.specs.Sets.{known_from};
+ghost use Rattle.der_core_head.specs.declared.tag.Tag.TheVariants.{BitString};
+ghost use Rattle.der_core_head.specs.Leaves.{named};
+ghost use Rattle.der_core_head.specs.Shapes.{leaf};
+ghost use Rattle.x509_cert_extensions.specs.NamedBits.{has_bit};
+
+use bitflags::{Flag, Flags, bitflag_items};
+use der_core::{
+    ApartValue, AsReadValue, DecodeValue, EncodeValue, Error, FixedTag, Header, Length, Reader,
+    ShapedValue, Tag, ValueOrd, Writer,
+};
+use std::alloc::Global;
+use std::cmp::Ordering;
+use x509_cert_policies::{FlagSet, NamedBits};
+
+/// What a key is for, the first use the lowest bit (RFC 5280 4.2.1.3).
+#[derive(Clone, Copy, Debug, PartialEq, Eq)]
+pub struct KeyUsages(u16);
+
+bitflag_items! {
+    impl KeyUsages: u16 {
+        const DIGITAL_SIGNATURE = 1;
+        const NON_REPUDIATION = 2;
+        const KEY_ENCIPHERMENT = 4;
+        const DATA_ENCIPHERMENT = 8;
+        const KEY_AGREEMENT = 16;
+        const KEY_CERT_SIGN = 32;
+        const CRL_SIGN = 64;
+        const ENCIPHER_ONLY = 128;
+        const DECIPHER_ONLY = 256;
+    }
+}
+
+impl Flags for KeyUsages {
+    type Bits = u16;
+
+    ghost exact = { ⊤ };
+
+    ghost table = { (codes "DIGITAL_SIGNATURE", 1) ∷ (codes "NON_REPUDIATION", 2) ∷ (codes "KEY_ENCIPHERMENT", 4) ∷ (codes "DATA_ENCIPHERMENT", 8) ∷ (codes "KEY_AGREEMENT", 16) ∷ (codes "KEY_CERT_SIGN", 32) ∷ (codes "CRL_SIGN", 64) ∷ (codes "ENCIPHER_ONLY", 128) ∷ (codes "DECIPHER_ONLY", 256) ∷ [] };
+
+    ghost set_of = { λ x. x.0 };
+
+    fn flags<'a>() -> &'a [Flag<KeyUsages>] {
+        KeyUsages::FLAGS
+    }
+
+    fn bits(&self) -> u16 {
+        self.0
+    }
+
+    fn from_bits_retain(bits: u16) -> KeyUsages {
+        KeyUsages(bits)
+    }
+}
+
+impl NamedBits for KeyUsages {
+    ghost names = { 9 };
+
+    fn names() -> u32 {
+        9
+    }
+
+    fn to_number(&self) -> u64 {
+        u64::from(self.0)
+    }
+
+    fn from_number(number: u64) -> KeyUsages {
+        KeyUsages(number as u16)
+    }
+
+    ghost stated = { tt };
+
+    ghost known = { unfold known_from in refl };
+}
+
+/// What the certified key is for (RFC 5280 4.2.1.3).
+///
+/// ```text
+/// KeyUsage ::= BIT STRING {
+///     digitalSignature (0), nonRepudiation (1), keyEncipherment (2), dataEncipherment (3), keyAgreement (4),
+///     keyCertSign (5), cRLSign (6), encipherOnly (7), decipherOnly (8) }
+/// ```
+#[derive(Clone, Copy, Debug, PartialEq, Eq)]
+pub struct KeyUsage(pub FlagSet<KeyUsages>);
+
+impl KeyUsage {
+    /// Whether data are signed with the key, but for certificates and lists.
+    pub fn digital_signature(&self) -> bool
+        ensures { result ≡ has_bit 0 self.now.0.flags.0 }
+    {
+        self.0.contains(KeyUsages::DIGITAL_SIGNATURE)
+    }
+
+    /// Whether signatures with the key bind their signer.
+    pub fn non_repudiation(&self) -> bool
+        ensures { result ≡ has_bit 1 self.now.0.flags.0 }
+    {
+        self.0.contains(KeyUsages::NON_REPUDIATION)
+    }
+
+    /// Whether keys are enciphered with it.
+    pub fn key_encipherment(&self) -> bool
+        ensures { result ≡ has_bit 2 self.now.0.flags.0 }
+    {
+        self.0.contains(KeyUsages::KEY_ENCIPHERMENT)
+    }
+
+    /// Whether data are enciphered with it.
+    pub fn data_encipherment(&self) -> bool
+        ensures { result ≡ has_bit 3 self.now.0.flags.0 }
+    {
+        self.0.contains(KeyUsages::DATA_ENCIPHERMENT)
+    }
+
+    /// Whether keys are agreed upon with it.
+    pub fn key_agreement(&self) -> bool
+        ensures { result ≡ has_bit 4 self.now.0.flags.0 }
+    {
+        self.0.contains(KeyUsages::KEY_AGREEMENT)
+    }
+
+    /// Whether certificates are signed with it.
+    pub fn key_cert_sign(&self) -> bool
+        ensures { result ≡ has_bit 5 self.now.0.flags.0 }
+    {
+        self.0.contains(KeyUsages::KEY_CERT_SIGN)
+    }
+
+    /// Whether lists of revoked certificates are signed with it.
+    pub fn crl_sign(&self) -> bool
+        ensures { result ≡ has_bit 6 self.now.0.flags.0 }
+    {
+        self.0.contains(KeyUsages::CRL_SIGN)
+    }
+
+    /// Whether a key that is agreed upon only enciphers.
+    pub fn encipher_only(&self) -> bool
+        ensures { result ≡ has_bit 7 self.now.0.flags.0 }
+    {
+        self.0.contains(KeyUsages::ENCIPHER_ONLY)
+    }
+
+    /// Whether a key that is agreed upon only deciphers.
+    pub fn decipher_only(&self) -> bool
+        ensures { result ≡ has_bit 8 self.now.0.flags.0 }
+    {
+        self.0.contains(KeyUsages::DECIPHER_ONLY)
+    }
+}
+
+impl FixedTag for KeyUsage {
+    ghost fixed_tag = { BitString };
+
+    fn tag() -> Tag {
+        Tag::BitString
+    }
+}
+
+impl ShapedValue for KeyUsage {
+    ghost content = { leaf (named 9) };
+
+    ghost value_plain = { λ x. x.0.flags.0 };
+
+    ghost value_written = { λ x. x.0.flags.0 };
+}
+
+impl<'a, R: Reader<'a>> DecodeValue<'a, R> for KeyUsage {
+    fn decode_value(alloc: Global, reader: &mut R, header: Header) -> Result<KeyUsage, Error> {
+        let value = <FlagSet<KeyUsages>>::decode_value(alloc, reader, header)?;
+        Ok(KeyUsage(value))
+    }
+}
+
+impl EncodeValue for KeyUsage {
+    fn value_len(&self) -> Result<Length, Error> {
+        self.0.value_len()
+    }
+
+    fn encode_value<W: Writer>(&self, writer: &mut W) -> Result<(), Error> {
+        self.0.encode_value(writer)
+    }
+}
+
+impl ApartValue for KeyUsage {
+    ghost apart_value = { refl };
+}
+
+impl AsReadValue for KeyUsage {
+    ghost as_read_value = { λ _. refl };
+}
+
+impl ValueOrd for KeyUsage {
+    fn value_cmp(&self, other: &Self) -> Result<Ordering, Error> {
+        self.0.value_cmp(&other.0)
+    }
+}
+
+impl From<FlagSet<KeyUsages>> for KeyUsage {
+    ghost from_gives = { λ v x. x.0 ≡ v };
+
+    fn from(value: FlagSet<KeyUsages>) -> KeyUsage {
+        KeyUsage(value)
+    }
+}
+
+impl From<KeyUsage> for FlagSet<KeyUsages> {
+    ghost from_gives = { λ x v. v ≡ x.0 };
+
+    fn from(value: KeyUsage) -> FlagSet<KeyUsages> {
+        value.0
+    }
+}
+
+impl AsRef<FlagSet<KeyUsages>> for KeyUsage {
+    fn as_ref(&self) -> &FlagSet<KeyUsages>
+        ensures { result.now ≡ self.now.0 }
+    {
+        &self.0
+    }
+}

@@ -1,0 +1,9 @@
+use Rattle.x509_cert_certificates.specs.Parts.{arc_bound}
+use Rattle.x509_cert_general_names.specs.Grammar.{distribution_point_name}
+use Rattle.x509_cert_general_names.specs.Views.{distribution_point_name_plain}
+use Rattle.x509_cert_general_names.proofs.Rows.{compared}
+use Rattle.x509_cert_general_names.proofs.distribution_point_name.DistributionPointNameDerOrd.der_cmp.Goals as goal
+
+pub returns-clause-order : goal.returns-clause-order
+returns-clause-order c =
+    λ apart. compared (distribution_point_name arc_bound) _ _ (distribution_point_name_plain c.args.self.now) (distribution_point_name_plain c.args.other.now) c.der_cmp.result c.cases.ensures c.cases-2.ensures (c.der_cmp.ensures.order apart)

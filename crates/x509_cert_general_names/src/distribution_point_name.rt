@@ -1,0 +1,112 @@
+//! DistributionPointName.
+
+ghost use Rattle.std.specs.Prelude.{◌≡◌, refl};
+ghost use Rattle.x509_cert_certificates.specs.Parts.{arc_bound};
+ghost use Rattle.x509_cert_general_names.specs.Grammar.{distribution_point_name};
+ghost use Rattle.x509_cert_general_names.specs.Views.{distribution_point_name_plain};
+
+use crate::general_name::GeneralNames;
+use crate::implicit_ref::ImplicitRef;
+use der_core::{
+    AsRead, Choice, Decode, DerOrd, Element, Encode, Error, FirstTag, Implicit, Length, Member,
+    OneOf2, Reader, Shaped, Tag, Writer,
+};
+use std::alloc::Global;
+use std::cmp::Ordering;
+use x509_cert_certificates::RelativeDistinguishedName;
+
+/// The name of a place where a list is had (RFC 5280 4.2.1.13).
+///
+/// ```text
+/// DistributionPointName ::= CHOICE {
+///     fullName                 [0] GeneralNames,
+///     nameRelativeToCRLIssuer  [1] RelativeDistinguishedName }
+/// ```
+#[derive(Clone, Debug, Drop, PartialEq, Eq)]
+pub enum DistributionPointName {
+    /// The name.
+    FullName(GeneralNames),
+    /// What follows the name of the list's issuer.
+    NameRelativeToCRLIssuer(RelativeDistinguishedName),
+}
+
+type Cases = OneOf2<Implicit<GeneralNames, 0>, Implicit<RelativeDistinguishedName, 1>>;
+
+type CasesRef<'a> = OneOf2<
+    ImplicitRef<'a, GeneralNames, 0>,
+    ImplicitRef<'a, RelativeDistinguishedName, 1>,
+>;
+
+impl DistributionPointName {
+    /// The same alternative, lent.
+    fn cases<'a>(&'a self) -> CasesRef<'a>
+        ensures { ⟦<CasesRef<'a> as Shaped>⟧.written result ≡ distribution_point_name_plain self.now }
+    {
+        match self {
+            DistributionPointName::FullName(value) => OneOf2::First(ImplicitRef { value: value }),
+            DistributionPointName::NameRelativeToCRLIssuer(value) => OneOf2::Second(ImplicitRef {
+                value: value,
+            }),
+        }
+    }
+}
+
+impl Shaped for DistributionPointName {
+    ghost shape = { distribution_point_name arc_bound };
+
+    ghost plain = { distribution_point_name_plain };
+
+    ghost written = { distribution_point_name_plain };
+}
+
+impl Choice for DistributionPointName {
+    fn can_decode(tag: Tag) -> bool {
+        Cases::can_decode(tag)
+    }
+}
+
+impl<'a, R: Reader<'a>> Decode<'a, R> for DistributionPointName {
+    fn decode(alloc: Global, reader: &mut R) -> Result<DistributionPointName, Error> {
+        match Cases::decode(alloc, reader)? {
+            OneOf2::First(value) => Ok(DistributionPointName::FullName(value.value)),
+            OneOf2::Second(value) => Ok(DistributionPointName::NameRelativeToCRLIssuer(
+                value.value,
+            )),
+        }
+    }
+}
+
+impl Encode for DistributionPointName {
+    fn encoded_len(&self) -> Result<Length, Error> {
+        self.cases().encoded_len()
+    }
+
+    fn encode<W: Writer>(&self, writer: &mut W) -> Result<(), Error> {
+        self.cases().encode(writer)
+    }
+}
+
+impl Element for DistributionPointName {
+    ghost element = { refl };
+}
+
+impl Member for DistributionPointName {
+    ghost apart = { refl };
+}
+
+impl AsRead for DistributionPointName {
+    ghost as_read = { λ _. refl };
+}
+
+/// The tags, then the contents.
+impl DerOrd for DistributionPointName {
+    fn der_cmp(&self, other: &Self) -> Result<Ordering, Error> {
+        self.cases().der_cmp(&other.cases())
+    }
+}
+
+impl FirstTag for DistributionPointName {
+    fn first_tag(&self) -> Option<Tag> {
+        self.cases().first_tag()
+    }
+}

@@ -1,0 +1,166 @@
+//! GeneralName.
+
+ghost use Rattle.std.specs.Prelude.{◌≡◌, refl};
+ghost use Rattle.x509_cert_certificates.specs.Parts.{arc_bound};
+ghost use Rattle.x509_cert_general_names.specs.Grammar.{general_name};
+ghost use Rattle.x509_cert_general_names.specs.Views.{general_name_plain};
+
+use crate::edi_party_name::EdiPartyName;
+use crate::implicit_ref::ImplicitRef;
+use crate::other_name::OtherName;
+use const_oid_identifiers::ObjectIdentifier;
+use der_core::{
+    AsRead, Choice, Decode, DerOrd, Element, Encode, EncodeRef, Error, Explicit, FirstTag,
+    Implicit, Length, Member, OneOf8, Reader, Shaped, Tag, Writer,
+};
+use std::alloc::Global;
+use std::cmp::Ordering;
+use x509_cert_certificates::{Ia5String, Name, OctetString};
+
+/// A name of one of the kinds that a certificate can give (RFC 5280 4.2.1.6). An address of X.400 isn't read.
+///
+/// ```text
+/// GeneralName ::= CHOICE {
+///     otherName                  [0] OtherName,
+///     rfc822Name                 [1] IA5String,
+///     dNSName                    [2] IA5String,
+///     directoryName              [4] Name,
+///     ediPartyName               [5] EDIPartyName,
+///     uniformResourceIdentifier  [6] IA5String,
+///     iPAddress                  [7] OCTET STRING,
+///     registeredID               [8] OBJECT IDENTIFIER }
+/// ```
+#[derive(Clone, Debug, Drop, PartialEq, Eq)]
+pub enum GeneralName {
+    /// Of a kind that an identifier tells.
+    OtherName(OtherName),
+    /// A mail address.
+    Rfc822Name(Ia5String),
+    /// The name of a host.
+    DnsName(Ia5String),
+    /// A name as a subject or an issuer has.
+    DirectoryName(Name),
+    /// A party of electronic data interchange.
+    EdiPartyName(EdiPartyName),
+    /// A resource.
+    UniformResourceIdentifier(Ia5String),
+    /// An address, or an address and a mask.
+    IpAddress(OctetString),
+    /// An identifier.
+    RegisteredId(ObjectIdentifier<39>),
+}
+
+type Cases = OneOf8<
+    Implicit<OtherName, 0>,
+    Implicit<Ia5String, 1>,
+    Implicit<Ia5String, 2>,
+    Explicit<Name, 4>,
+    Implicit<EdiPartyName, 5>,
+    Implicit<Ia5String, 6>,
+    Implicit<OctetString, 7>,
+    Implicit<ObjectIdentifier<39>, 8>,
+>;
+
+type CasesRef<'a> = OneOf8<
+    ImplicitRef<'a, OtherName, 0>,
+    ImplicitRef<'a, Ia5String, 1>,
+    ImplicitRef<'a, Ia5String, 2>,
+    Explicit<EncodeRef<'a, Name>, 4>,
+    ImplicitRef<'a, EdiPartyName, 5>,
+    ImplicitRef<'a, Ia5String, 6>,
+    ImplicitRef<'a, OctetString, 7>,
+    ImplicitRef<'a, ObjectIdentifier<39>, 8>,
+>;
+
+impl GeneralName {
+    /// The same alternative, lent.
+    fn cases<'a>(&'a self) -> CasesRef<'a>
+        ensures { ⟦<CasesRef<'a> as Shaped>⟧.written result ≡ general_name_plain self.now }
+    {
+        match self {
+            GeneralName::OtherName(value) => OneOf8::First(ImplicitRef { value: value }),
+            GeneralName::Rfc822Name(value) => OneOf8::Second(ImplicitRef { value: value }),
+            GeneralName::DnsName(value) => OneOf8::Third(ImplicitRef { value: value }),
+            GeneralName::DirectoryName(value) => OneOf8::Fourth(Explicit {
+                value: EncodeRef(value),
+            }),
+            GeneralName::EdiPartyName(value) => OneOf8::Fifth(ImplicitRef { value: value }),
+            GeneralName::UniformResourceIdentifier(value) => OneOf8::Sixth(ImplicitRef {
+                value: value,
+            }),
+            GeneralName::IpAddress(value) => OneOf8::Seventh(ImplicitRef { value: value }),
+            GeneralName::RegisteredId(value) => OneOf8::Eighth(ImplicitRef { value: value }),
+        }
+    }
+}
+
+impl Shaped for GeneralName {
+    ghost shape = { general_name arc_bound };
+
+    ghost plain = { general_name_plain };
+
+    ghost written = { general_name_plain };
+}
+
+impl Choice for GeneralName {
+    fn can_decode(tag: Tag) -> bool {
+        Cases::can_decode(tag)
+    }
+}
+
+impl<'a, R: Reader<'a>> Decode<'a, R> for GeneralName {
+    fn decode(alloc: Global, reader: &mut R) -> Result<GeneralName, Error> {
+        match Cases::decode(alloc, reader)? {
+            OneOf8::First(value) => Ok(GeneralName::OtherName(value.value)),
+            OneOf8::Second(value) => Ok(GeneralName::Rfc822Name(value.value)),
+            OneOf8::Third(value) => Ok(GeneralName::DnsName(value.value)),
+            OneOf8::Fourth(value) => Ok(GeneralName::DirectoryName(value.value)),
+            OneOf8::Fifth(value) => Ok(GeneralName::EdiPartyName(value.value)),
+            OneOf8::Sixth(value) => Ok(GeneralName::UniformResourceIdentifier(value.value)),
+            OneOf8::Seventh(value) => Ok(GeneralName::IpAddress(value.value)),
+            OneOf8::Eighth(value) => Ok(GeneralName::RegisteredId(value.value)),
+        }
+    }
+}
+
+impl Encode for GeneralName {
+    fn encoded_len(&self) -> Result<Length, Error> {
+        self.cases().encoded_len()
+    }
+
+    fn encode<W: Writer>(&self, writer: &mut W) -> Result<(), Error> {
+        self.cases().encode(writer)
+    }
+}
+
+impl Element for GeneralName {
+    ghost element = { refl };
+}
+
+impl Member for GeneralName {
+    ghost apart = { refl };
+}
+
+impl AsRead for GeneralName {
+    ghost as_read = { λ _. refl };
+}
+
+/// The tags, then the contents.
+impl DerOrd for GeneralName {
+    fn der_cmp(&self, other: &Self) -> Result<Ordering, Error> {
+        self.cases().der_cmp(&other.cases())
+    }
+}
+
+impl FirstTag for GeneralName {
+    fn first_tag(&self) -> Option<Tag> {
+        self.cases().first_tag()
+    }
+}
+
+/// Names of one subject or issuer (RFC 5280 4.2.1.6). There may be none.
+///
+/// ```text
+/// GeneralNames ::= SEQUENCE SIZE (1..MAX) OF GeneralName
+/// ```
+pub type GeneralNames = Vec<GeneralName>;

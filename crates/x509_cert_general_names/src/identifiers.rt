@@ -1,0 +1,44 @@
+//! The identifiers of extensions (RFC 5280 4.2.1, 5.2).
+#![tactic(auto, unfolding(const_oid_identifiers::specs::Bound::Bound, const_oid_identifiers::specs::TextReading::text_arcs, const_oid_identifiers::specs::ArcLists::add_arc, const_oid_identifiers::specs::ArcLists::whole_arcs, const_oid_identifiers::specs::IdentifierOctets::identifier_octets, const_oid_identifiers::specs::IdentifierOctets::arc_octets, const_oid_identifiers::specs::Digits::digits, const_oid_identifiers::specs::Digits::digits_within, const_oid_identifiers::specs::Digits::marked))]
+
+ghost use Rattle.std.specs.Prelude.{◌∷◌, []};
+
+use crate::authority_key_identifier::AuthorityKeyIdentifier;
+use crate::hardware_module_name::HardwareModuleName;
+use crate::issuing_distribution_point::IssuingDistributionPoint;
+use crate::name_constraints::NameConstraints;
+use const_oid::AssociatedOid;
+use const_oid_identifiers::ObjectIdentifier;
+
+impl AssociatedOid for AuthorityKeyIdentifier {
+    ghost oid_arcs = { 2 ∷ 5 ∷ 29 ∷ 35 ∷ [] };
+
+    fn associated_oid() -> ObjectIdentifier<39> {
+        ObjectIdentifier::new_unwrap("2.5.29.35")
+    }
+}
+
+impl AssociatedOid for IssuingDistributionPoint {
+    ghost oid_arcs = { 2 ∷ 5 ∷ 29 ∷ 28 ∷ [] };
+
+    fn associated_oid() -> ObjectIdentifier<39> {
+        ObjectIdentifier::new_unwrap("2.5.29.28")
+    }
+}
+
+impl AssociatedOid for NameConstraints {
+    ghost oid_arcs = { 2 ∷ 5 ∷ 29 ∷ 30 ∷ [] };
+
+    fn associated_oid() -> ObjectIdentifier<39> {
+        ObjectIdentifier::new_unwrap("2.5.29.30")
+    }
+}
+
+/// The identifier behind which it is held as `OtherName` (RFC 4108 5).
+impl AssociatedOid for HardwareModuleName {
+    ghost oid_arcs = { 1 ∷ 3 ∷ 6 ∷ 1 ∷ 5 ∷ 5 ∷ 7 ∷ 8 ∷ 4 ∷ [] };
+
+    fn associated_oid() -> ObjectIdentifier<39> {
+        ObjectIdentifier::new_unwrap("1.3.6.1.5.5.7.8.4")
+    }
+}

@@ -1,0 +1,76 @@
+//! Reasons.
+
+ghost use Rattle.std.specs.Prelude.{⊤, [], ◌∷◌, codes, refl};
+ghost use Rattle.bitflags.specs.Sets.{known_from};
+
+use bitflags::{Flag, Flags, bitflag_items};
+use x509_cert_certificates::{FlagSet, NamedBits};
+
+/// Why certificates are revoked, the first bit the lowest (RFC 5280 4.2.1.13).
+#[derive(Clone, Copy, Debug, PartialEq, Eq)]
+pub struct Reasons(u16);
+
+bitflag_items! {
+    impl Reasons: u16 {
+        const UNUSED = 1;
+        const KEY_COMPROMISE = 2;
+        const CA_COMPROMISE = 4;
+        const AFFILIATION_CHANGED = 8;
+        const SUPERSEDED = 16;
+        const CESSATION_OF_OPERATION = 32;
+        const CERTIFICATE_HOLD = 64;
+        const PRIVILEGE_WITHDRAWN = 128;
+        const AA_COMPROMISE = 256;
+    }
+}
+
+impl Flags for Reasons {
+    type Bits = u16;
+
+    ghost exact = { ⊤ };
+
+    ghost table = { (codes "UNUSED", 1) ∷ (codes "KEY_COMPROMISE", 2) ∷ (codes "CA_COMPROMISE", 4) ∷ (codes "AFFILIATION_CHANGED", 8) ∷ (codes "SUPERSEDED", 16) ∷ (codes "CESSATION_OF_OPERATION", 32) ∷ (codes "CERTIFICATE_HOLD", 64) ∷ (codes "PRIVILEGE_WITHDRAWN", 128) ∷ (codes "AA_COMPROMISE", 256) ∷ [] };
+
+    ghost set_of = { λ x. x.0 };
+
+    fn flags<'a>() -> &'a [Flag<Reasons>] {
+        Reasons::FLAGS
+    }
+
+    fn bits(&self) -> u16 {
+        self.0
+    }
+
+    fn from_bits_retain(bits: u16) -> Reasons {
+        Reasons(bits)
+    }
+}
+
+impl NamedBits for Reasons {
+    ghost names = { 9 };
+
+    fn names() -> u32 {
+        9
+    }
+
+    fn to_number(&self) -> u64 {
+        u64::from(self.0)
+    }
+
+    fn from_number(number: u64) -> Reasons {
+        Reasons(number as u16)
+    }
+
+    ghost stated = { tt };
+
+    ghost known = { unfold known_from in refl };
+}
+
+/// Reasons for which certificates are revoked (RFC 5280 4.2.1.13).
+///
+/// ```text
+/// ReasonFlags ::= BIT STRING {
+///     unused (0), keyCompromise (1), cACompromise (2), affiliationChanged (3), superseded (4),
+///     cessationOfOperation (5), certificateHold (6), privilegeWithdrawn (7), aACompromise (8) }
+/// ```
+pub type ReasonFlags = FlagSet<Reasons>;

@@ -1,0 +1,61 @@
+//! The identifiers of extensions (RFC 5280 4.2.1; RFC 3280 4.2.1.4).
+#![tactic(auto, unfolding(const_oid_identifiers::specs::Bound::Bound, const_oid_identifiers::specs::TextReading::text_arcs, const_oid_identifiers::specs::ArcLists::add_arc, const_oid_identifiers::specs::ArcLists::whole_arcs, const_oid_identifiers::specs::IdentifierOctets::identifier_octets, const_oid_identifiers::specs::IdentifierOctets::arc_octets, const_oid_identifiers::specs::Digits::digits, const_oid_identifiers::specs::Digits::digits_within, const_oid_identifiers::specs::Digits::marked))]
+
+ghost use Rattle.std.specs.Prelude.{◌∷◌, []};
+
+use crate::basic_constraints::BasicConstraints;
+use crate::certificate_policies::CertificatePolicies;
+use crate::inhibit_any_policy::InhibitAnyPolicy;
+use crate::policy_constraints::PolicyConstraints;
+use crate::policy_mappings::PolicyMappings;
+use crate::private_key_usage_period::PrivateKeyUsagePeriod;
+use const_oid::AssociatedOid;
+use const_oid_identifiers::ObjectIdentifier;
+
+impl AssociatedOid for BasicConstraints {
+    ghost oid_arcs = { 2 ∷ 5 ∷ 29 ∷ 19 ∷ [] };
+
+    fn associated_oid() -> ObjectIdentifier<39> {
+        ObjectIdentifier::new_unwrap("2.5.29.19")
+    }
+}
+
+impl AssociatedOid for CertificatePolicies {
+    ghost oid_arcs = { 2 ∷ 5 ∷ 29 ∷ 32 ∷ [] };
+
+    fn associated_oid() -> ObjectIdentifier<39> {
+        ObjectIdentifier::new_unwrap("2.5.29.32")
+    }
+}
+
+impl AssociatedOid for InhibitAnyPolicy {
+    ghost oid_arcs = { 2 ∷ 5 ∷ 29 ∷ 54 ∷ [] };
+
+    fn associated_oid() -> ObjectIdentifier<39> {
+        ObjectIdentifier::new_unwrap("2.5.29.54")
+    }
+}
+
+impl AssociatedOid for PolicyConstraints {
+    ghost oid_arcs = { 2 ∷ 5 ∷ 29 ∷ 36 ∷ [] };
+
+    fn associated_oid() -> ObjectIdentifier<39> {
+        ObjectIdentifier::new_unwrap("2.5.29.36")
+    }
+}
+
+impl AssociatedOid for PolicyMappings {
+    ghost oid_arcs = { 2 ∷ 5 ∷ 29 ∷ 33 ∷ [] };
+
+    fn associated_oid() -> ObjectIdentifier<39> {
+        ObjectIdentifier::new_unwrap("2.5.29.33")
+    }
+}
+
+impl AssociatedOid for PrivateKeyUsagePeriod {
+    ghost oid_arcs = { 2 ∷ 5 ∷ 29 ∷ 16 ∷ [] };
+
+    fn associated_oid() -> ObjectIdentifier<39> {
+        ObjectIdentifier::new_unwrap("2.5.29.16")
+    }
+}

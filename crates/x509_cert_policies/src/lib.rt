@@ -1,0 +1,44 @@
+//! Policies of certificates, constraints on paths, and notices (RFC 5280 4.2).
+#![tactic(auto)]
+
+mod basic_constraints;
+mod certificate_policies;
+mod cps_uri;
+mod display_text;
+mod identifiers;
+mod inhibit_any_policy;
+pub mod making;
+mod notice_reference;
+mod policy_constraints;
+mod policy_information;
+mod policy_mapping;
+mod policy_mappings;
+mod policy_qualifier_info;
+mod private_key_usage_period;
+mod user_notice;
+
+pub use basic_constraints::BasicConstraints;
+pub use certificate_policies::CertificatePolicies;
+pub use cps_uri::CpsUri;
+pub use display_text::DisplayText;
+pub use inhibit_any_policy::InhibitAnyPolicy;
+pub use notice_reference::NoticeReference;
+pub use policy_constraints::PolicyConstraints;
+pub use policy_information::PolicyInformation;
+pub use policy_mapping::PolicyMapping;
+pub use policy_mappings::PolicyMappings;
+pub use policy_qualifier_info::PolicyQualifierInfo;
+pub use private_key_usage_period::PrivateKeyUsagePeriod;
+pub use user_notice::UserNotice;
+pub use x509_cert_general_names::{
+    AccessDescription, AlgorithmIdentifier, AlgorithmIdentifierRef, Any, AnyRef, Attribute,
+    AttributeType, AttributeTypeAndValue, AttributeValue, Attributes, AuthorityKeyIdentifier,
+    BitString, Certificate, CertificateInner, DateTime, DirectoryString, DistinguishedName,
+    DistributionPoint, DistributionPointName, EdiPartyName, Extension, Extensions, ExtensionsOf,
+    FlagSet, FromAny, GeneralName, GeneralNames, GeneralSubtree, GeneralSubtrees, GeneralizedTime,
+    HardwareModuleName, Ia5String, IssuingDistributionPoint, Name, NameConstraints, NameIter,
+    NamedBits, OctetString, OtherName, Profile, Raw, RdnSequence, RdnSequenceIter, ReasonFlags,
+    Reasons, RelativeDistinguishedName, RelativeNameIter, Rfc5280, SerialNumber, SetOfVec,
+    SubjectPublicKeyInfo, SubjectPublicKeyInfoRef, TbsCertificate, TbsCertificateInner, Time, Uint,
+    UtcTime, Validity, Version, filter_extensions, get_extension, laws,
+};
