@@ -1,0 +1,3 @@
+pub mod Options
+pub mod Rows
+pub mod VersionOctets

@@ -1,0 +1,21 @@
+-- The octets of a version.
+use Rattle.std.proofs.Common.{◌≡◌, [], ◌∷◌, refl, arith}
+use Rattle.std.specs.Prelude.{pos}
+use Rattle.const_oid_identifiers.proofs.DigitLaws.{digits-one}
+use Rattle.der_core_head.specs.Heads.{tlv, head_octets, length_octets}
+use Rattle.der_core_head.specs.Integers.{integer_octets}
+use Rattle.der_core_head.specs.Shapes.{octets_of, contents, IsValid, IsContent}
+use Rattle.der_core_head.specs.Tags.{tag_octets}
+use Rattle.x509_cert_anchors.specs.Grammar.{anchor_version, first_version_octets}
+
+one : integer_octets (pos 1) ≡ 1 ∷ []
+unfolding integer_octets
+one = rw (digits-one 256 1 (omega arith)) refl
+
+pub one_octets : octets_of anchor_version (pos 1) ≡ first_version_octets
+unfolding octets_of contents tlv head_octets length_octets tag_octets
+one_octets = rw one refl
+
+pub one_valid : IsValid anchor_version (pos 1)
+unfolding IsValid IsContent contents tlv head_octets length_octets tag_octets
+one_valid = rw one ((0, omega arith, refl), omega arith, omega arith)

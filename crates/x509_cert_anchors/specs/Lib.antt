@@ -1,0 +1,4 @@
+pub mod Certificates
+pub mod Grammar
+pub mod Parts
+pub mod Views

@@ -1,0 +1,69 @@
+//! What a trust anchor wants of policies.
+
+ghost use Rattle.std.specs.Prelude.{⊤, [], ◌∷◌, codes, refl};
+ghost use Rattle.bitflags.specs.Sets.{known_from};
+
+use bitflags::{Flag, Flags, bitflag_items};
+use x509_cert_lists::{FlagSet, NamedBits};
+
+/// What is wanted of policies on a path, the first bit the lowest (RFC 5914 2.5).
+#[derive(Clone, Copy, Debug, PartialEq, Eq)]
+pub struct CertPolicies(u8);
+
+bitflag_items! {
+    impl CertPolicies: u8 {
+        const INHIBIT_POLICY_MAPPING = 1;
+        const REQUIRE_EXPLICIT_POLICY = 2;
+        const INHIBIT_ANY_POLICY = 4;
+    }
+}
+
+impl Flags for CertPolicies {
+    type Bits = u8;
+
+    ghost exact = { ⊤ };
+
+    ghost table = { (codes "INHIBIT_POLICY_MAPPING", 1) ∷ (codes "REQUIRE_EXPLICIT_POLICY", 2) ∷ (codes "INHIBIT_ANY_POLICY", 4) ∷ [] };
+
+    ghost set_of = { λ x. x.0 };
+
+    fn flags<'a>() -> &'a [Flag<CertPolicies>] {
+        CertPolicies::FLAGS
+    }
+
+    fn bits(&self) -> u8 {
+        self.0
+    }
+
+    fn from_bits_retain(bits: u8) -> CertPolicies {
+        CertPolicies(bits)
+    }
+}
+
+impl NamedBits for CertPolicies {
+    ghost names = { 3 };
+
+    fn names() -> u32 {
+        3
+    }
+
+    fn to_number(&self) -> u64 {
+        u64::from(self.0)
+    }
+
+    fn from_number(number: u64) -> CertPolicies {
+        CertPolicies(number as u8)
+    }
+
+    ghost stated = { tt };
+
+    ghost known = { unfold known_from in refl };
+}
+
+/// What a trust anchor wants of policies on a path (RFC 5914 2.5).
+///
+/// ```text
+/// CertPolicyFlags ::= BIT STRING {
+///     inhibitPolicyMapping (0), requireExplicitPolicy (1), inhibitAnyPolicy (2) }
+/// ```
+pub type CertPolicyFlags = FlagSet<CertPolicies>;

@@ -1,0 +1,104 @@
+//! Trust anchors.
+
+ghost use Rattle.std.specs.Prelude.{◌≡◌, refl};
+ghost use Rattle.x509_cert_lists.specs.Parts.{arc_bound};
+ghost use Rattle.x509_cert_anchors.specs.Grammar.{trust_anchor_choice, trust_anchor_by};
+ghost use Rattle.x509_cert_anchors.specs.Views.{trust_anchor_plain};
+
+use crate::trust_anchor_info::TrustAnchorInfo;
+use der_core::{
+    Choice, Decode, Element, Encode, EncodeRef, Error, Explicit, Length, Member, OneOf3, Reader,
+    Shaped, Tag, Writer,
+};
+use std::alloc::Global;
+use x509_cert_lists::{CertificateInner, Profile, Rfc5280, TbsCertificateInner};
+
+/// A trust anchor (RFC 5914 2).
+///
+/// ```text
+/// TrustAnchorChoice ::= CHOICE {
+///     certificate  Certificate,
+///     tbsCert      [1] EXPLICIT TBSCertificate,
+///     taInfo       [2] EXPLICIT TrustAnchorInfo }
+/// ```
+#[derive(Drop)]
+#[derive_where(Clone, Debug, PartialEq, Eq)]
+pub enum TrustAnchorChoice<P = Rfc5280> {
+    /// By a certificate.
+    Certificate(CertificateInner<P>),
+    /// By a certificate without a signature.
+    TbsCertificate(TbsCertificateInner<P>),
+    /// By its key.
+    TaInfo(TrustAnchorInfo<P>),
+}
+
+type Cases<P> = OneOf3<
+    CertificateInner<P>,
+    Explicit<TbsCertificateInner<P>, 1>,
+    Explicit<TrustAnchorInfo<P>, 2>,
+>;
+
+type CasesRef<'a, P> = OneOf3<
+    EncodeRef<'a, CertificateInner<P>>,
+    Explicit<EncodeRef<'a, TbsCertificateInner<P>>, 1>,
+    Explicit<EncodeRef<'a, TrustAnchorInfo<P>>, 2>,
+>;
+
+impl<P: Profile> TrustAnchorChoice<P> {
+    /// The same alternative, lent.
+    fn cases<'a>(&'a self) -> CasesRef<'a, P>
+        ensures { ⟦<CasesRef<'a, P> as Shaped>⟧.written result ≡ trust_anchor_by P.respells (trust_anchor_plain self.now) }
+    {
+        match self {
+            TrustAnchorChoice::Certificate(value) => OneOf3::First(EncodeRef(value)),
+            TrustAnchorChoice::TbsCertificate(value) => OneOf3::Second(Explicit {
+                value: EncodeRef(value),
+            }),
+            TrustAnchorChoice::TaInfo(value) => OneOf3::Third(Explicit {
+                value: EncodeRef(value),
+            }),
+        }
+    }
+}
+
+impl<P: Profile> Shaped for TrustAnchorChoice<P> {
+    ghost shape = { trust_anchor_choice arc_bound P.serial_limit };
+
+    ghost plain = { trust_anchor_plain };
+
+    ghost written = { λ x. trust_anchor_by P.respells (trust_anchor_plain x) };
+}
+
+impl<P: Profile> Choice for TrustAnchorChoice<P> {
+    fn can_decode(tag: Tag) -> bool {
+        <Cases<P>>::can_decode(tag)
+    }
+}
+
+impl<'a, R: Reader<'a>, P: Profile> Decode<'a, R> for TrustAnchorChoice<P> {
+    fn decode(alloc: Global, reader: &mut R) -> Result<TrustAnchorChoice<P>, Error> {
+        match <Cases<P>>::decode(alloc, reader)? {
+            OneOf3::First(value) => Ok(TrustAnchorChoice::Certificate(value)),
+            OneOf3::Second(value) => Ok(TrustAnchorChoice::TbsCertificate(value.value)),
+            OneOf3::Third(value) => Ok(TrustAnchorChoice::TaInfo(value.value)),
+        }
+    }
+}
+
+impl<P: Profile> Encode for TrustAnchorChoice<P> {
+    fn encoded_len(&self) -> Result<Length, Error> {
+        self.cases().encoded_len()
+    }
+
+    fn encode<W: Writer>(&self, writer: &mut W) -> Result<(), Error> {
+        self.cases().encode(writer)
+    }
+}
+
+impl<P: Profile> Element for TrustAnchorChoice<P> {
+    ghost element = { refl };
+}
+
+impl<P: Profile> Member for TrustAnchorChoice<P> {
+    ghost apart = { refl };
+}

@@ -1,0 +1,10 @@
+-- What holds of the fields that a record lends holds of its own.
+use Rattle.std.proofs.Common.{◌≡◌, Bool, Result, subst}
+use Rattle.der_core_head.specs.declared.error.Error.{Error}
+use Rattle.der_core_head.specs.Shapes.{Body, BodyValue, nested}
+use Rattle.der_core_head.specs.Writing.{Out, Writes, write_content}
+
+-- the writing of the fields
+pub written : (b : Body) (v w : BodyValue b) (memory : Bool) (from to : Out) (r : Result (Unit {0}) Error) → v ≡ w
+    → Writes memory from to r (write_content (nested b) v) → Writes memory from to r (write_content (nested b) w)
+written b v w memory from to r e h = subst (λ (x : BodyValue b). Writes memory from to r (write_content (nested b) x)) e h

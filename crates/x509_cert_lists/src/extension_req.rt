@@ -1,0 +1,141 @@
+//! Requests for extensions.
+
+ghost use Rattle.std.specs.Prelude.{◌≡◌, [], ◌∷◌, refl};
+ghost use Rattle.der_core_head.specs.declared.tag.Tag.TheVariants.{Sequence};
+ghost use Rattle.der_core_head.specs.Reading.{Gives};
+ghost use Rattle.x509_cert_extensions.specs.Parts.{attribute_plain, arc_bound, extensions_plain};
+ghost use Rattle.x509_cert_lists.specs.Grammar.{extension_req_content, extension_req_arcs, extension_req_attribute};
+
+use const_oid::{AssociatedOid, ObjectIdentifier};
+use der_core::{
+    ApartValue, AsReadValue, DecodeValue, EncodeValue, Error, FixedTag, Header, Length, Reader,
+    ShapedValue, StrictSetOf, Tag, ValueOrd, Writer,
+};
+use std::alloc::Global;
+use std::cmp::Ordering;
+use x509_cert_extensions::{Any, Attribute, Extension};
+
+/// The extensions that a certification request asks for, as the value of an attribute (RFC 2985 5.4.2). There may be none.
+///
+/// ```text
+/// ExtensionRequest ::= Extensions
+/// ```
+#[derive(Clone, Debug, Drop, PartialEq, Eq)]
+pub struct ExtensionReq(pub Vec<Extension>);
+
+impl ExtensionReq {
+    /// No extensions.
+    pub fn default(alloc: Global) -> ExtensionReq
+        ensures { result.0.items ≡ [] }
+    {
+        ExtensionReq(Vec::new(alloc))
+    }
+}
+
+/// `extensionRequest`.
+impl AssociatedOid for ExtensionReq {
+    ghost oid_arcs = { extension_req_arcs };
+
+    #[tactic(auto, unfolding(const_oid_identifiers::specs::Bound::Bound, const_oid_identifiers::specs::TextReading::text_arcs, const_oid_identifiers::specs::ArcLists::add_arc, const_oid_identifiers::specs::ArcLists::whole_arcs, const_oid_identifiers::specs::IdentifierOctets::identifier_octets, const_oid_identifiers::specs::IdentifierOctets::arc_octets, const_oid_identifiers::specs::Digits::digits, const_oid_identifiers::specs::Digits::digits_within, const_oid_identifiers::specs::Digits::marked))]
+    fn associated_oid() -> ObjectIdentifier<39> {
+        ObjectIdentifier::new_unwrap("1.2.840.113549.1.9.14")
+    }
+}
+
+impl FixedTag for ExtensionReq {
+    ghost fixed_tag = { Sequence };
+
+    fn tag() -> Tag {
+        Tag::Sequence
+    }
+}
+
+impl ShapedValue for ExtensionReq {
+    ghost content = { extension_req_content arc_bound };
+
+    ghost value_plain = { λ x. extensions_plain x.0.items };
+
+    ghost value_written = { λ x. extensions_plain x.0.items };
+}
+
+impl<'a, R: Reader<'a>> DecodeValue<'a, R> for ExtensionReq {
+    fn decode_value(alloc: Global, reader: &mut R, header: Header) -> Result<ExtensionReq, Error> {
+        let value = <Vec<Extension>>::decode_value(alloc, reader, header)?;
+        Ok(ExtensionReq(value))
+    }
+}
+
+impl EncodeValue for ExtensionReq {
+    fn value_len(&self) -> Result<Length, Error> {
+        self.0.value_len()
+    }
+
+    fn encode_value<W: Writer>(&self, writer: &mut W) -> Result<(), Error> {
+        self.0.encode_value(writer)
+    }
+}
+
+impl ApartValue for ExtensionReq {
+    ghost apart_value = { refl };
+}
+
+impl AsReadValue for ExtensionReq {
+    ghost as_read_value = { λ _. refl };
+}
+
+impl ValueOrd for ExtensionReq {
+    fn value_cmp(&self, other: &Self) -> Result<Ordering, Error> {
+        self.0.value_cmp(&other.0)
+    }
+}
+
+impl From<Vec<Extension>> for ExtensionReq {
+    ghost from_gives = { λ v x. x.0 ≡ v };
+
+    fn from(value: Vec<Extension>) -> ExtensionReq {
+        ExtensionReq(value)
+    }
+}
+
+impl From<ExtensionReq> for Vec<Extension> {
+    ghost from_gives = { λ x v. v ≡ x.0 };
+
+    fn from(value: ExtensionReq) -> Vec<Extension> {
+        value.0
+    }
+}
+
+impl AsRef<Vec<Extension>> for ExtensionReq {
+    fn as_ref(&self) -> &Vec<Extension>
+        ensures { result.now ≡ self.now.0 }
+    {
+        &self.0
+    }
+}
+
+/// What a request for extensions is made into.
+pub trait TryFromExtensionReq: Sized {
+    /// What stands for the request.
+    ///
+    /// # Errors
+    /// Those of the type, and `OutOfMemory`.
+    fn try_from_extension_req(alloc: Global, request: ExtensionReq) -> Result<Self, Error>;
+}
+
+impl TryFromExtensionReq for Attribute {
+    /// The attribute `extensionRequest` whose one value is the list of the extensions.
+    ///
+    /// # Errors
+    /// `Overflow` where the list has 2^32 octets or more, or `OutOfMemory`.
+    fn try_from_extension_req(alloc: Global, request: ExtensionReq) -> Result<Attribute, Error>
+        ensures { Gives attribute_plain result (extension_req_attribute arc_bound (extensions_plain request.0.items)) }
+    {
+        let value = Any::encode_from(alloc, &request)?;
+        let mut values = Vec::new(alloc);
+        values.push(value)?;
+        Ok(Attribute {
+            oid: ExtensionReq::associated_oid(),
+            values: StrictSetOf { values },
+        })
+    }
+}
