@@ -1,0 +1,36 @@
+//! Questions and their answers.
+
+use crate::lists::{list_of, members_of};
+use crate::refusals::Refusal;
+use crate::timestamps::{date_of, parts_of};
+use crate::values::rewritten;
+use std::alloc::Global;
+use std::io::Write;
+use std::{io, str};
+
+/// Writes the answer to a line.
+pub fn answer<W: Write>(alloc: Global, line: &[u8], out: &mut W) -> io::Result<()> {
+    if line.is_empty() || line.starts_with(b"#") {
+        out.write_all(line)?;
+        return out.write_all(b"\n");
+    }
+    match answer_of(alloc, line) {
+        Ok(text) if text.is_empty() => out.write_all(b"ok\n"),
+        Ok(text) => writeln!(out, "ok {text}"),
+        Err(refusal) => writeln!(out, "{refusal}"),
+    }
+}
+
+/// What is answered behind `ok`.
+fn answer_of(alloc: Global, line: &[u8]) -> Result<String, Refusal> {
+    let line = str::from_utf8(line)?;
+    let (word, rest) = line.split_once(' ').unwrap_or((line, ""));
+    match word {
+        "tls" => rewritten(alloc, rest),
+        "members" => members_of(alloc, rest),
+        "list" => list_of(alloc, rest),
+        "stamp" => parts_of(alloc, rest),
+        "date" => date_of(alloc, rest),
+        _ => Err(Refusal::Unread),
+    }
+}

@@ -1,0 +1,33 @@
+//! Lists of timestamps.
+
+use crate::octets::{octets_of, text_of};
+use crate::refusals::Refusal;
+use der_core::{from_der, to_der};
+use std::alloc::Global;
+use x509_cert_timestamps::{SerializedSct, SignedCertificateTimestampList};
+
+/// The octets of each timestamp of the list that octets spell.
+pub fn members_of(alloc: Global, octets: &str) -> Result<String, Refusal> {
+    let octets = octets_of(alloc, octets)?;
+    let list: SignedCertificateTimestampList = from_der(alloc, octets.as_slice())?;
+    let members = list.parse_timestamps(alloc)?;
+    let mut text = String::new(alloc);
+    for member in &members {
+        if !text.is_empty() {
+            text.push(' ')?;
+        }
+        text.push_str(text_of(alloc, member.data.as_slice())?.as_str())?;
+    }
+    Ok(text)
+}
+
+/// What is written of the list of timestamps of these octets.
+pub fn list_of(alloc: Global, members: &str) -> Result<String, Refusal> {
+    let mut timestamps = Vec::new(alloc);
+    for octets in members.split_whitespace() {
+        let data = octets_of(alloc, octets)?;
+        timestamps.push(SerializedSct { data })?;
+    }
+    let list = SignedCertificateTimestampList::new(alloc, timestamps.as_slice())?;
+    Ok(hex::encode(alloc, to_der(alloc, &list)?)?)
+}

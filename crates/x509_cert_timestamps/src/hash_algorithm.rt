@@ -1,0 +1,88 @@
+//! HashAlgorithm.
+
+ghost use Rattle.x509_cert_timestamps.specs.Forms.{named};
+ghost use Rattle.x509_cert_timestamps.specs.Numbers.{hash_number, hash_numbers};
+
+use crate::numbered::{Numbered, append_named, read_named};
+use crate::tls_error::TlsError;
+use crate::tls_value::TlsValue;
+use std::alloc::Global;
+
+/// The hash of a signature (RFC 5246 7.4.1.4.1, RFC 8422 5.1.3).
+///
+/// ```text
+/// enum { none(0), md5(1), sha1(2), sha224(3), sha256(4), sha384(5), sha512(6), Intrinsic(8), (255) } HashAlgorithm;
+/// ```
+#[derive(Debug, Drop, PartialEq)]
+pub enum HashAlgorithm {
+    /// No hash.
+    None,
+    /// MD5.
+    Md5,
+    /// SHA-1.
+    Sha1,
+    /// SHA-224.
+    Sha224,
+    /// SHA-256.
+    Sha256,
+    /// SHA-384.
+    Sha384,
+    /// SHA-512.
+    Sha512,
+    /// The hash is part of the signature algorithm.
+    Intrinsic,
+}
+
+impl Numbered for HashAlgorithm {
+    ghost numbers = { hash_numbers };
+
+    ghost number = { hash_number };
+
+    fn from_number(octet: u8) -> Option<HashAlgorithm> {
+        match octet {
+            0 => Some(HashAlgorithm::None),
+            1 => Some(HashAlgorithm::Md5),
+            2 => Some(HashAlgorithm::Sha1),
+            3 => Some(HashAlgorithm::Sha224),
+            4 => Some(HashAlgorithm::Sha256),
+            5 => Some(HashAlgorithm::Sha384),
+            6 => Some(HashAlgorithm::Sha512),
+            8 => Some(HashAlgorithm::Intrinsic),
+            _ => None,
+        }
+    }
+
+    fn to_number(&self) -> u8 {
+        match self {
+            HashAlgorithm::None => 0,
+            HashAlgorithm::Md5 => 1,
+            HashAlgorithm::Sha1 => 2,
+            HashAlgorithm::Sha224 => 3,
+            HashAlgorithm::Sha256 => 4,
+            HashAlgorithm::Sha384 => 5,
+            HashAlgorithm::Sha512 => 6,
+            HashAlgorithm::Intrinsic => 8,
+        }
+    }
+}
+
+impl TlsValue for HashAlgorithm {
+    ghost form = { named hash_numbers };
+
+    ghost plain = { hash_number };
+
+    fn tls_deserialize_bytes(
+        _alloc: Global,
+        input: &[u8],
+    ) -> Result<(HashAlgorithm, &[u8]), TlsError> {
+        read_named(input)
+    }
+
+    fn append_to(&self, output: &mut Vec<u8>) -> Result<(), TlsError> {
+        append_named(self, output)
+    }
+
+    fn tls_serialized_len(&self) -> usize {
+        1
+    }
+}

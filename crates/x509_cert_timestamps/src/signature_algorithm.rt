@@ -1,0 +1,80 @@
+//! SignatureAlgorithm.
+
+ghost use Rattle.x509_cert_timestamps.specs.Forms.{named};
+ghost use Rattle.x509_cert_timestamps.specs.Numbers.{signature_number, signature_numbers};
+
+use crate::numbered::{Numbered, append_named, read_named};
+use crate::tls_error::TlsError;
+use crate::tls_value::TlsValue;
+use std::alloc::Global;
+
+/// The algorithm of a signature (RFC 5246 7.4.1.4.1, RFC 8422 5.1.3).
+///
+/// ```text
+/// enum { anonymous(0), rsa(1), dsa(2), ecdsa(3), ed25519(7), ed448(8), (255) } SignatureAlgorithm;
+/// ```
+#[derive(Debug, Drop, PartialEq)]
+pub enum SignatureAlgorithm {
+    /// No signature.
+    Anonymous,
+    /// RSA.
+    Rsa,
+    /// DSA.
+    Dsa,
+    /// ECDSA.
+    Ecdsa,
+    /// Ed25519.
+    Ed25519,
+    /// Ed448.
+    Ed448,
+}
+
+impl Numbered for SignatureAlgorithm {
+    ghost numbers = { signature_numbers };
+
+    ghost number = { signature_number };
+
+    fn from_number(octet: u8) -> Option<SignatureAlgorithm> {
+        match octet {
+            0 => Some(SignatureAlgorithm::Anonymous),
+            1 => Some(SignatureAlgorithm::Rsa),
+            2 => Some(SignatureAlgorithm::Dsa),
+            3 => Some(SignatureAlgorithm::Ecdsa),
+            7 => Some(SignatureAlgorithm::Ed25519),
+            8 => Some(SignatureAlgorithm::Ed448),
+            _ => None,
+        }
+    }
+
+    fn to_number(&self) -> u8 {
+        match self {
+            SignatureAlgorithm::Anonymous => 0,
+            SignatureAlgorithm::Rsa => 1,
+            SignatureAlgorithm::Dsa => 2,
+            SignatureAlgorithm::Ecdsa => 3,
+            SignatureAlgorithm::Ed25519 => 7,
+            SignatureAlgorithm::Ed448 => 8,
+        }
+    }
+}
+
+impl TlsValue for SignatureAlgorithm {
+    ghost form = { named signature_numbers };
+
+    ghost plain = { signature_number };
+
+    fn tls_deserialize_bytes(
+        _alloc: Global,
+        input: &[u8],
+    ) -> Result<(SignatureAlgorithm, &[u8]), TlsError> {
+        read_named(input)
+    }
+
+    fn append_to(&self, output: &mut Vec<u8>) -> Result<(), TlsError> {
+        append_named(self, output)
+    }
+
+    fn tls_serialized_len(&self) -> usize {
+        1
+    }
+}

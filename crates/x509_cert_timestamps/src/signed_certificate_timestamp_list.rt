@@ -1,0 +1,176 @@
+//! SignedCertificateTimestampList.
+
+ghost use Rattle.std.specs.Prelude.{◌≡◌, IfOk, IfErr, refl, flat_map, All};
+ghost use Rattle.der_core_head.specs.declared.tag.Tag.TheVariants.{OctetString};
+ghost use Rattle.der_core_head.specs.Leaves.{octets};
+ghost use Rattle.der_core_head.specs.Shapes.{leaf};
+ghost use Rattle.x509_cert_timestamps.specs.Lists.{IsMember, sct_octets, SpellsList, ReadsNoList, MakesNoList, ReadsNoMembers, MakesNoMembers};
+
+use crate::error::Error;
+use crate::serialized_sct::SerializedSct;
+use crate::tls_error::TlsError;
+use crate::tls_value::TlsValue;
+use crate::vectors::{append_vector, split_vector};
+use der_core::{
+    ApartValue, AsReadValue, DecodeValue, EncodeValue, FixedTag, Header, Length, Reader,
+    ShapedValue, Tag, ValueOrd, Writer,
+};
+use der_types_values::OctetString;
+use std::alloc::Global;
+use std::cmp::Ordering;
+
+/// The timestamps of a certificate, an extension of 1.3.6.1.4.1.11129.2.4.2 (RFC 6962 3.3).
+///
+/// ```text
+/// SignedCertificateTimestampList ::= OCTET STRING
+///
+/// struct {
+///     SerializedSCT sct_list<1..2^16-1>;
+/// } SignedCertificateTimestampList;
+/// ```
+///
+/// The empty list is read and written too.
+#[derive(Debug, Drop, PartialEq)]
+pub struct SignedCertificateTimestampList(pub OctetString);
+
+/// Puts the members of a list behind one another.
+fn append_members(alloc: Global, serialized_scts: &[SerializedSct]) -> Result<Vec<u8>, TlsError>
+    ensures ok { IfOk result (λ v. v.items ≡ flat_map sct_octets serialized_scts.now) }
+    ensures value { IfOk result (λ _. All IsMember serialized_scts.now) }
+    ensures err { IfErr result (λ e. MakesNoMembers serialized_scts.now e) }
+{
+    let mut body = Vec::new(alloc);
+    for sct in serialized_scts {
+        sct.append_to(&mut body)?;
+    }
+    Ok(body)
+}
+
+/// The members that stand behind one another.
+fn read_members(alloc: Global, body: &[u8]) -> Result<Vec<SerializedSct>, TlsError>
+    ensures ok { IfOk result (λ v. body.now ≡ flat_map sct_octets v.items) }
+    ensures value { IfOk result (λ v. All IsMember v.items) }
+    ensures err { IfErr result (λ e. ReadsNoMembers body.now e) }
+{
+    let mut scts = Vec::new(alloc);
+    let mut more = body;
+    while !more.is_empty() {
+        let (sct, rest) = SerializedSct::tls_deserialize_bytes(alloc, more)?;
+        scts.push(sct)?;
+        more = rest;
+    }
+    Ok(scts)
+}
+
+impl SignedCertificateTimestampList {
+    /// The list of these.
+    ///
+    /// # Errors
+    /// `InvalidVectorLength` where one of them has more than 65535 octets, or all have with their lengths;
+    /// `OutOfMemory`.
+    pub fn new(
+        alloc: Global,
+        serialized_scts: &[SerializedSct],
+    ) -> Result<SignedCertificateTimestampList, Error>
+        ensures ok { IfOk result (λ l. SpellsList serialized_scts.now l.0) }
+        ensures err { IfErr result (λ e. MakesNoList serialized_scts.now e) }
+    {
+        let body = append_members(alloc, serialized_scts)?;
+        let mut output = Vec::new(alloc);
+        append_vector(body.as_slice(), &mut output)?;
+        let list = OctetString::new(output)?;
+        Ok(SignedCertificateTimestampList(list))
+    }
+
+    /// The members of the list, whose octets aren't looked into.
+    ///
+    /// # Errors
+    /// What the first fault is: `EndOfStream`, or `TrailingData` for octets behind the list;
+    /// `OutOfMemory`.
+    pub fn parse_timestamps(&self, alloc: Global) -> Result<Vec<SerializedSct>, Error>
+        ensures ok { IfOk result (λ v. SpellsList v.items self.now.0) }
+        ensures err { IfErr result (λ e. ReadsNoList self.now.0 e) }
+    {
+        let (body, rest) = split_vector(self.0.as_bytes())?;
+        if !rest.is_empty() {
+            return Err(Error::Tls(TlsError::TrailingData));
+        }
+        let scts = read_members(alloc, body)?;
+        Ok(scts)
+    }
+}
+
+impl FixedTag for SignedCertificateTimestampList {
+    ghost fixed_tag = { OctetString };
+
+    fn tag() -> Tag {
+        Tag::OctetString
+    }
+}
+
+impl ShapedValue for SignedCertificateTimestampList {
+    ghost content = { leaf octets };
+
+    ghost value_plain = { λ x. x.0 };
+
+    ghost value_written = { λ x. x.0 };
+}
+
+impl<'a, R: Reader<'a>> DecodeValue<'a, R> for SignedCertificateTimestampList {
+    fn decode_value(
+        alloc: Global,
+        reader: &mut R,
+        header: Header,
+    ) -> Result<SignedCertificateTimestampList, der_core::Error> {
+        let value = <OctetString>::decode_value(alloc, reader, header)?;
+        Ok(SignedCertificateTimestampList(value))
+    }
+}
+
+impl EncodeValue for SignedCertificateTimestampList {
+    fn value_len(&self) -> Result<Length, der_core::Error> {
+        self.0.value_len()
+    }
+
+    fn encode_value<W: Writer>(&self, writer: &mut W) -> Result<(), der_core::Error> {
+        self.0.encode_value(writer)
+    }
+}
+
+impl ApartValue for SignedCertificateTimestampList {
+    ghost apart_value = { refl };
+}
+
+impl AsReadValue for SignedCertificateTimestampList {
+    ghost as_read_value = { λ _. refl };
+}
+
+impl ValueOrd for SignedCertificateTimestampList {
+    fn value_cmp(&self, other: &Self) -> Result<Ordering, der_core::Error> {
+        self.0.value_cmp(&other.0)
+    }
+}
+
+impl From<OctetString> for SignedCertificateTimestampList {
+    ghost from_gives = { λ v x. x.0 ≡ v };
+
+    fn from(value: OctetString) -> SignedCertificateTimestampList {
+        SignedCertificateTimestampList(value)
+    }
+}
+
+impl From<SignedCertificateTimestampList> for OctetString {
+    ghost from_gives = { λ x v. v ≡ x.0 };
+
+    fn from(value: SignedCertificateTimestampList) -> OctetString {
+        value.0
+    }
+}
+
+impl AsRef<OctetString> for SignedCertificateTimestampList {
+    fn as_ref(&self) -> &OctetString
+        ensures { result.now ≡ self.now.0 }
+    {
+        &self.0
+    }
+}

@@ -1,0 +1,56 @@
+//! Vectors of octets with a length of two octets (RFC 5246 4.3).
+
+ghost use Rattle.std.specs.Prelude.{◌≡◌, ◌-◌, ◌^◌, min, length, IfOk, IfErr, OnOk};
+ghost use Rattle.x509_cert_timestamps.specs.Forms.{vector, Spells, Refuses, FailsOn, Appends, CannotWrite, octets};
+
+use crate::numbers::split_short;
+use crate::tls_error::TlsError;
+use std::alloc::Global;
+
+/// The octets of the vector that the octets begin with, and the octets behind it.
+pub(crate) fn split_vector(input: &[u8]) -> Result<(&[u8], &[u8]), TlsError>
+    ensures ok { IfOk result (λ p. Spells vector p.0.now input.now p.1.now) }
+    ensures err { IfErr result (λ e. Refuses vector input.now e) }
+{
+    let Some((len, behind)) = split_short(input) else {
+        return Err(TlsError::EndOfStream);
+    };
+    let len = usize::from(len);
+    if behind.len() < len {
+        return Err(TlsError::EndOfStream);
+    }
+    Ok(behind.split_at(len))
+}
+
+/// The vector that the octets begin with, and the octets behind it.
+pub(crate) fn read_vector(alloc: Global, input: &[u8]) -> Result<(Vec<u8>, &[u8]), TlsError>
+    ensures ok { IfOk result (λ p. Spells vector p.0.items input.now p.1.now) }
+    ensures err { IfErr result (λ e. FailsOn vector input.now e) }
+{
+    let (front, rest) = split_vector(input)?;
+    let items = front.to_vec(alloc)?;
+    Ok((items, rest))
+}
+
+/// Puts a vector behind other octets.
+#[tactic(auto, unfolding(crate::specs::Forms::short_octets))]
+pub(crate) fn append_vector(items: &[u8], output: &mut Vec<u8>) -> Result<(), TlsError>
+    ensures ok { OnOk result (Appends vector items.now output.old.items output.new.items) }
+    ensures err { IfErr result (λ e. CannotWrite vector items.now e) }
+{
+    if items.len() > 0xffff {
+        return Err(TlsError::InvalidVectorLength);
+    }
+    let len = items.len() as u16;
+    output.extend_from_slice(&len.to_be_bytes())?;
+    output.extend_from_slice(items)?;
+    Ok(())
+}
+
+/// How many octets spell a vector, or `usize::MAX` if there are more.
+#[tactic(auto, using(crate::proofs::NumberOctets::vector_length))]
+pub(crate) fn vector_len(items: &[u8]) -> usize
+    ensures { result ≡ min (length (octets vector items.now)) (2 ^ 64 - 1) }
+{
+    items.len().saturating_add(2)
+}
