@@ -1,11 +1,36 @@
-//! X.509 certificates (RFC 5280): what the inner crates have, under one name.
+//! X.509 certificates, their extensions, revocation lists, requests, trust anchors and timestamps (RFC 5280, RFC 2986, RFC 5914,
+//! RFC 6962): what the inner crates have, under one name.
 #![tactic(auto)]
 
-pub use x509_cert_certificates::{
-    AlgorithmIdentifier, AlgorithmIdentifierRef, Attribute, AttributeType, AttributeTypeAndValue,
-    AttributeValue, Attributes, BitString, Certificate, CertificateInner, DirectoryString,
-    DistinguishedName, Extension, Extensions, FromAny, Name, NameIter, Profile, Raw, RdnSequence,
-    RdnSequenceIter, RelativeDistinguishedName, RelativeNameIter, Rfc5280, SerialNumber,
-    SubjectPublicKeyInfo, SubjectPublicKeyInfoRef, TbsCertificate, TbsCertificateInner, Time,
-    Validity, Version, laws,
+pub mod timestamps;
+
+// Certificates.
+pub use x509_cert_anchors::{
+    AlgorithmIdentifier, AlgorithmIdentifierRef, Any, AnyRef, Attribute, AttributeType,
+    AttributeTypeAndValue, AttributeValue, Attributes, BitString, Certificate, CertificateInner,
+    DateTime, DirectoryString, DistinguishedName, Extension, Extensions, ExtensionsOf, FlagSet,
+    FromAny, GeneralizedTime, Ia5String, Name, NameIter, NamedBits, OctetString, Profile, Raw,
+    RdnSequence, RdnSequenceIter, RelativeDistinguishedName, RelativeNameIter, Rfc5280,
+    SerialNumber, SetOfVec, SubjectPublicKeyInfo, SubjectPublicKeyInfoRef, TbsCertificate,
+    TbsCertificateInner, Time, Uint, UtcTime, Validity, Version, filter_extensions, get_extension,
+};
+
+// Contents of extensions.
+pub use x509_cert_anchors::{
+    AccessDescription, AuthorityInfoAccessSyntax, AuthorityKeyIdentifier, BaseCrlNumber,
+    BasicConstraints, CertificatePolicies, CpsUri, Criticality, CrlDistributionPoints, CrlNumber,
+    CrlReason, DisplayText, DistributionPoint, DistributionPointName, EdiPartyName,
+    ExtendedKeyUsage, FreshestCrl, GeneralName, GeneralNames, GeneralSubtree, GeneralSubtrees,
+    HardwareModuleName, InhibitAnyPolicy, IssuerAltName, IssuingDistributionPoint, KeyUsage,
+    KeyUsages, NameConstraints, NoticeReference, OtherName, PolicyConstraints, PolicyInformation,
+    PolicyMapping, PolicyMappings, PolicyQualifierInfo, PrivateKeyUsagePeriod, ReasonFlags,
+    Reasons, SubjectAltName, SubjectDirectoryAttributes, SubjectInfoAccessSyntax,
+    SubjectKeyIdentifier, ToExtension, UserNotice, laws,
+};
+
+// Lists, requests and anchors.
+pub use x509_cert_anchors::{
+    CertPathControls, CertPolicies, CertPolicyFlags, CertReq, CertReqInfo, CertificateList,
+    ExtensionReq, RevokedCert, TbsCertList, TrustAnchorChoice, TrustAnchorInfo,
+    TryFromExtensionReq, anchor, request,
 };

@@ -1,11 +1,15 @@
 //! Questions and their answers.
 
+use crate::extensions;
+use crate::names::names_of;
 use crate::refusals::Refusal;
-use der_core::{Decode, DerOrd, Encode, SliceReader, from_der, to_der};
+use crate::values::{compared, written};
+use crate::whole_extensions::{extension_of, got_of, usages_of};
+use der_core::{from_der, to_der};
 use std::alloc::Global;
 use std::io::Write;
 use std::{io, str};
-use x509_cert_certificates::{
+use x509_cert::{
     AlgorithmIdentifier, AlgorithmIdentifierRef, CertificateInner, Extension, Extensions, Raw,
     Rfc5280, SerialNumber, SubjectPublicKeyInfo, SubjectPublicKeyInfoRef, TbsCertificateInner,
     Time, Validity, Version,
@@ -27,12 +31,19 @@ pub fn answer<W: Write>(alloc: Global, line: &[u8], out: &mut W) -> io::Result<(
 fn answer_of(alloc: Global, line: &[u8]) -> Result<String, Refusal> {
     let line = str::from_utf8(line)?;
     let (word, rest) = line.split_once(' ').ok_or(Refusal::Unread)?;
+    if word == "usages" {
+        return usages_of(alloc, rest);
+    }
     let (kind, values) = rest.split_once(' ').ok_or(Refusal::Unread)?;
     match word {
         "der" => rewritten(alloc, kind, values),
         "order" => order_of(alloc, kind, values),
         "text" => text_of(alloc, kind, values),
         "from" => made_of(alloc, kind, values),
+        "names" => names_of(alloc, kind, values),
+        "debug" => extensions::debug_of(alloc, kind, values),
+        "extension" => extension_of(alloc, kind, values),
+        "get" => got_of(alloc, kind, values),
         _ => Err(Refusal::Unread),
     }
 }
@@ -58,17 +69,8 @@ fn rewritten(alloc: Global, kind: &str, octets: &str) -> Result<String, Refusal>
         "TbsCertificate/Rfc5280" => written::<TbsCertificateInner<Rfc5280>>(alloc, octets),
         "Certificate" => written::<CertificateInner<Raw>>(alloc, octets),
         "Certificate/Rfc5280" => written::<CertificateInner<Rfc5280>>(alloc, octets),
-        _ => Err(Refusal::Unread),
+        _ => extensions::rewritten(alloc, kind, octets),
     }
-}
-
-/// What is written of the value that octets spell.
-fn written<'a, T: Decode<'a, SliceReader<'a>> + Encode + Drop>(
-    alloc: Global,
-    octets: &'a [u8],
-) -> Result<String, Refusal> {
-    let value: T = from_der(alloc, octets)?;
-    Ok(hex::encode(alloc, to_der(alloc, &value)?)?)
 }
 
 /// The order of two encodings of a type.
@@ -86,20 +88,8 @@ fn order_of(alloc: Global, kind: &str, values: &str) -> Result<String, Refusal> 
         "SerialNumber" => compared::<SerialNumber<Raw>>(alloc, first, second),
         "Validity" => compared::<Validity<Raw>>(alloc, first, second),
         "Validity/Rfc5280" => compared::<Validity<Rfc5280>>(alloc, first, second),
-        _ => Err(Refusal::Unread),
+        _ => extensions::order_of(alloc, kind, first, second),
     }
-}
-
-/// The order of the values that octets spell.
-fn compared<'a, T: Decode<'a, SliceReader<'a>> + DerOrd + Drop>(
-    alloc: Global,
-    first: &'a [u8],
-    second: &'a [u8],
-) -> Result<String, Refusal> {
-    let first: T = from_der(alloc, first)?;
-    let second: T = from_der(alloc, second)?;
-    let order = first.der_cmp(&second)?;
-    Ok(format!(in alloc; "{order:?}")?)
 }
 
 /// What the value prints that octets spell.

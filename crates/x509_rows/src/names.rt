@@ -1,0 +1,67 @@
+//! Questions about the usages of a key and the names of a subject.
+
+use crate::refusals::Refusal;
+use der_core::from_der;
+use std::alloc::{AllocError, Global};
+use x509_cert::{GeneralName, KeyUsage, SubjectAltName};
+
+/// The usages of a key, or the names of a subject.
+pub fn names_of(alloc: Global, kind: &str, octets: &str) -> Result<String, Refusal> {
+    let octets = hex::decode(alloc, octets.as_bytes())?;
+    match kind {
+        "KeyUsage" => Ok(usages_of(alloc, from_der(alloc, octets.as_slice())?)?),
+        "SubjectAltName" => Ok(subjects_of(alloc, &from_der(alloc, octets.as_slice())?)?),
+        _ => Err(Refusal::Unread),
+    }
+}
+
+/// What a key is used for.
+fn usages_of(alloc: Global, usage: KeyUsage) -> Result<String, AllocError> {
+    let usages = [
+        (usage.digital_signature(), "digital_signature"),
+        (usage.non_repudiation(), "non_repudiation"),
+        (usage.key_encipherment(), "key_encipherment"),
+        (usage.data_encipherment(), "data_encipherment"),
+        (usage.key_agreement(), "key_agreement"),
+        (usage.key_cert_sign(), "key_cert_sign"),
+        (usage.crl_sign(), "crl_sign"),
+        (usage.encipher_only(), "encipher_only"),
+        (usage.decipher_only(), "decipher_only"),
+    ];
+    let mut text = String::new(alloc);
+    for (is_used, word) in usages {
+        if is_used {
+            if !text.is_empty() {
+                text.push(' ')?;
+            }
+            text.push_str(word)?;
+        }
+    }
+    Ok(text)
+}
+
+/// The names of a subject, behind the words that OpenSSL has for their kinds.
+fn subjects_of(alloc: Global, names: &SubjectAltName) -> Result<String, AllocError> {
+    let mut text = String::new(alloc);
+    for name in &names.0 {
+        if !text.is_empty() {
+            text.push_str(", ")?;
+        }
+        text.push_str(subject_of(alloc, name)?.as_str())?;
+    }
+    Ok(text)
+}
+
+/// The name of a subject, behind the word that OpenSSL has for its kind.
+fn subject_of(alloc: Global, name: &GeneralName) -> Result<String, AllocError> {
+    match name {
+        GeneralName::Rfc822Name(name) => format!(in alloc; "email:{}", name.as_str()),
+        GeneralName::DnsName(name) => format!(in alloc; "DNS:{}", name.as_str()),
+        GeneralName::UniformResourceIdentifier(name) => format!(in alloc; "URI:{}", name.as_str()),
+        GeneralName::RegisteredId(name) => format!(in alloc; "Registered ID:{name}"),
+        GeneralName::DirectoryName(name) => format!(in alloc; "DirName:{name}"),
+        GeneralName::OtherName(name) => format!(in alloc; "othername:{}", name.type_id),
+        GeneralName::IpAddress(_) => "IP Address".to_string(alloc),
+        GeneralName::EdiPartyName(_) => "EdiPartyName".to_string(alloc),
+    }
+}
