@@ -1,7 +1,7 @@
 #!/usr/bin/env bash
 # Reads the roots of Debian's ca-certificates with x509_cert and with mbedTLS (libmbedtls-dev), and walks their headers with a plain
-# C loop: instructions and calls for memory, the mean of a certificate. Then every root is written again, and the script says how many differ
-# (bench/README.md).
+# C loop: instructions and calls for memory, the mean of a certificate. `weighed` reads key usage, alternative names, basic constraints and
+# purposes too. Then every root is written again, and the script says how many differ (bench/README.md).
 . "$(dirname "$0")/program.sh"
 build roots root_reads 'x509_cert der_core'
 
@@ -30,8 +30,11 @@ memory() {
 echo "$count roots"
 each 'x509_cert, read' "$program" read "$work/roots.der"
 each 'x509_cert, read and written' "$program" write "$work/roots.der"
+each 'x509_cert, read and weighed' "$program" weigh "$work/roots.der"
 each 'mbedTLS, read' "$work/mbedtls" "$work/roots.der"
 each 'headers in C' "$work/walk" "$work/roots.der"
 memory 'x509_cert, read' "$program" read "$work/roots.der"
+memory 'x509_cert, read and weighed' "$program" weigh "$work/roots.der"
 memory 'mbedTLS, read' "$work/mbedtls" "$work/roots.der"
 echo "read and differ: $("$program" write "$work/roots.der" 1)"
+echo "read and hold an extension that is refused: $("$program" weigh "$work/roots.der" 1)"
