@@ -1,43 +1,9 @@
-//! Streams of certificates, read and judged.
+//! Streams of certificates, read and judged: what the inner crates have, under one name.
 #![tactic(auto)]
 
-mod anchor;
-mod arguments;
-mod bundle;
-mod bundle_error;
-mod checked;
-mod checking;
-mod digest_judge;
-mod entry;
-mod extensions;
-mod fault_kind;
-mod front;
-pub mod laws;
-mod lines;
-mod rule;
-mod running;
-mod scan;
-mod signature_judge;
-mod standing;
-mod status;
-
-pub use anchor::Anchor;
-pub use arguments::{Arguments, USAGE};
-pub use bundle::Bundle;
-pub use bundle_error::{BundleError, ReadError};
-pub use cert_desk_io::{
-    DeviceError, FromRead, Input, MemoryInput, MemoryOutput, Output, ToWrite, write_all,
-};
-pub use checked::{CheckError, Checked, Verdict};
-pub use checking::check;
-pub use digest_judge::DigestJudge;
-pub use entry::Entry;
-pub use fault_kind::FaultKind;
-pub use rule::Rule;
-pub use running::run_check;
-pub use signature_judge::SignatureJudge;
-pub use standing::Standing;
-pub use status::Status;
-pub use x509_cert::{
-    AlgorithmIdentifier, BitString, CertificateInner, Raw, SubjectPublicKeyInfo, Time,
+pub use cert_desk_checking::{
+    AlgorithmIdentifier, Anchor, Arguments, BitString, Bundle, BundleError, CertificateInner,
+    CheckError, Checked, DeviceError, DigestJudge, Entry, FaultKind, FromRead, Input, MemoryInput,
+    MemoryOutput, Output, Raw, ReadError, Rule, SignatureJudge, Standing, Status,
+    SubjectPublicKeyInfo, Time, ToWrite, USAGE, Verdict, check, laws, run_check, write_all,
 };

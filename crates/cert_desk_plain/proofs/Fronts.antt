@@ -2,11 +2,11 @@
 use Rattle.std.proofs.Common.{◌≡◌, ℕ, ◌+◌, ◌^◌, ◌<◌, ◌≤◌, List, [], ◌∷◌, ◌++◌, length, take, drop, refl, sym, ap, ◌∙◌, arith, append_assoc, length-append}
 use Rattle.std.proofs.lemmas.List.{take-append-drop, length-take-le, length-drop, take_at, drop-drop}
 use Rattle.der_core_head.specs.Shapes.{Spells}
-use Rattle.cert_desk.specs.Certificates.{PlainCertificate, raw_certificate, certificate_octets}
-use Rattle.cert_desk.specs.Chains.{Stands, Chain, joined}
-use Rattle.cert_desk.specs.Faults.{Split}
-use Rattle.cert_desk.proofs.Encodings.{certificate_octets-first}
-use Rattle.cert_desk.proofs.Readings.{joined-more, each-last, Chain-more}
+use Rattle.cert_desk_checking.specs.Certificates.{PlainCertificate, raw_certificate, certificate_octets}
+use Rattle.cert_desk_checking.specs.Chains.{Stands, Chain, joined}
+use Rattle.cert_desk_checking.specs.Faults.{Split}
+use Rattle.cert_desk_checking.proofs.Encodings.{certificate_octets-first}
+use Rattle.cert_desk_checking.proofs.Readings.{joined-more, each-last, Chain-more}
 use Rattle.cert_desk_plain.specs.Fronts.{Front, NoFront}
 
 -- a certificate has octets

@@ -1,8 +1,8 @@
 -- The certificate that octets begin with.
 use Rattle.std.specs.Prelude.{◌≡◌, ℕ, ◌≤◌, ◌<◌, List, ◌++◌, length, take, Option, Some, None}
 use Rattle.der_core_head.specs.Shapes.{Spells}
-use Rattle.cert_desk.specs.Certificates.{PlainCertificate, raw_certificate, certificate_octets}
-use Rattle.cert_desk.specs.Chains.{Stands}
+use Rattle.cert_desk_checking.specs.Certificates.{PlainCertificate, raw_certificate, certificate_octets}
+use Rattle.cert_desk_checking.specs.Chains.{Stands}
 
 -- the first n octets spell the certificate, and are no more than the limit
 pub record Front (bound limit : ℕ) (octets : List ℕ) (c : PlainCertificate) (n : ℕ) : Type 0 where

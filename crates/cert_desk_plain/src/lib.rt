@@ -5,11 +5,11 @@
 
 ghost use Rattle.std.specs.Prelude.{◌≤◌, map, drop, length, IfOk};
 ghost use Rattle.der_core_head.specs.Grammar.{plain_option};
-ghost use Rattle.cert_desk.specs.Certificates.{arc_bound, certificate_plain};
-ghost use Rattle.cert_desk.specs.Faults.{Split};
+ghost use Rattle.cert_desk_checking.specs.Certificates.{arc_bound, certificate_plain};
+ghost use Rattle.cert_desk_checking.specs.Faults.{Split};
 ghost use Rattle.cert_desk_plain.specs.Fronts.{IsFirst};
 
-use cert_desk::{CertificateInner, Raw};
+use cert_desk_checking::{CertificateInner, Raw};
 use der_core_head::ErrorKind;
 use std::alloc::{AllocError, Global};
 

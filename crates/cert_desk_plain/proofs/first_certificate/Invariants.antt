@@ -1,7 +1,7 @@
 -- No front that was tried spells a certificate.
 use Rattle.std.proofs.Common.{ℕ, ◌<◌, take}
 use Rattle.der_core_head.specs.Shapes.{Spells}
-use Rattle.cert_desk.specs.Certificates.{PlainCertificate, arc_bound, raw_certificate}
+use Rattle.cert_desk_checking.specs.Certificates.{PlainCertificate, arc_bound, raw_certificate}
 use Rattle.cert_desk_plain.proofs.first_certificate.Given as goal
 
 abbrev pub invariant-loop-len : goal.invariant-loop-len

@@ -1,8 +1,0 @@
--- The extensions so far stand alone: the answer is that of those that are left.
-use Rattle.std.proofs.Common.{◌≡◌, drop}
-use Rattle.x509_cert.specs.Views.{extensions_plain}
-use Rattle.cert_desk.specs.Judging.{are_distinct}
-use Rattle.cert_desk.proofs.extensions.are_distinct.Given as goal
-
-abbrev pub invariant-loop-place : goal.invariant-loop-place
-invariant-loop-place l = are_distinct (extensions_plain (drop l.place l.extensions)) ≡ are_distinct (extensions_plain l.extensions)

@@ -1,5 +1,0 @@
-use Rattle.cert_desk.proofs.FaultStays.{fault_stays}
-use Rattle.cert_desk.proofs.laws.fault_stays.Goals as goal
-
-pub returns : goal.returns
-returns c = fault_stays

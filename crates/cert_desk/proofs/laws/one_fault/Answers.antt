@@ -1,5 +1,0 @@
-use Rattle.cert_desk.proofs.OneChain.{one_fault}
-use Rattle.cert_desk.proofs.laws.one_fault.Goals as goal
-
-pub returns : goal.returns
-returns c = one_fault

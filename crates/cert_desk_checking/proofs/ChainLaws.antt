@@ -1,0 +1,78 @@
+-- What a verdict says of a stream of one chain, and of one with a fault.
+use Rattle.std.proofs.Common.{◌≡◌, ℕ, ◌+◌, ◌-◌, ◌<◌, ◌^◌, min, max, List, [], ◌∷◌, ◌++◌, length, true, refl, sym, ap, ◌∙◌, subst, arith, lit<}
+use Rattle.std.proofs.lemmas.Bool.{both_ways}
+use Rattle.x509_cert.specs.Certificates.{PlainCertificate, certificate_octets}
+use Rattle.cert_desk_checking.specs.declared.checked.Checked.{Checked}
+use Rattle.cert_desk_checking.specs.declared.standing.Standing.TheVariants as standings
+use Rattle.cert_desk_checking.specs.declared.checked.Verdict.{Verdict}
+use Rattle.cert_desk_checking.specs.declared.checked.Verdict.TheVariants as verdicts
+use Rattle.cert_desk_checking.specs.declared.fault_kind.FaultKind.{FaultKind}
+use Rattle.cert_desk_checking.specs.Chains.{Chain, joined}
+use Rattle.cert_desk_checking.specs.Faults.{Split, StreamFault}
+use Rattle.cert_desk_checking.specs.Judging.{Terms, keeps_at}
+use Rattle.cert_desk_checking.specs.Verdicts.{IsVerdict, Trusted, Asks, IsCounted, asked}
+use Rattle.cert_desk_checking.specs.Streams.{Kept, Reads, ReadsAs}
+use Rattle.cert_desk_checking.specs.Places.{Rises}
+use Rattle.cert_desk_checking.proofs.OneChain.{one_chain, fault_no_chain}
+use Rattle.cert_desk_checking.proofs.Encodings.{certificate_octets-first}
+
+-- an encoding isn't empty
+pub encoding_is_some : (bound : ℕ) (c : PlainCertificate) (w : List ℕ) → [] ≡ certificate_octets bound c ++ w → ⊥
+encoding_is_some bound c w e =
+    let first = certificate_octets-first bound c in
+    let longer : [] ≡ 0x30 ∷ (first.0 ++ w) = e ∙ ap (λ x. x ++ w) first.1 in
+    absurd cc
+
+pub chain_is_some : (bound : ℕ) (cs : List PlainCertificate) → 0 < length cs → [] ≡ joined bound cs → ⊥
+chain_is_some bound [] h e = absurd (omega arith)
+chain_is_some bound (c ∷ cs) h e = encoding_is_some bound c (joined bound cs) e
+
+-- a trusted stream has no other verdict
+pub only_trusted : (t : Terms) (limit : ℕ) (stream : List ℕ) (verdict : Verdict) → IsVerdict t limit stream verdict → Trusted t limit stream → verdict ≡ verdicts.Trusted
+only_trusted t limit stream (verdicts.StreamFault place offset kind) v k = absurd (fault_no_chain t.bound limit v.certificates k.certificates kind stream v.found k.chain)
+only_trusted t limit stream verdicts.Empty v k = absurd (chain_is_some t.bound k.certificates k.some (sym v ∙ k.chain.joins))
+only_trusted t limit stream verdicts.Trusted v k = refl
+only_trusted t limit stream (verdicts.Refused place rule) v k =
+    let same = one_chain t.bound limit v.certificates k.certificates stream v.chain k.chain in
+    let within = subst (λ cs. place < length cs) same v.within in
+    absurd (both_ways _ v.broken (subst (λ cs. keeps_at rule t cs stream place ≡ true) (sym same) (k.kept place rule within)))
+
+-- the questions about a chain, and about a stream with a fault
+pub Asks-chain : (t : Terms) (limit : ℕ) (cs : List PlainCertificate) (stream : List ℕ) (verdict : Verdict) → Chain t.bound limit cs stream → Asks t limit stream verdict (asked t cs stream)
+Asks-chain t limit cs stream verdict h = record {
+  chain = λ ds k. ap (λ xs. asked t xs stream) (one_chain t.bound limit cs ds stream h k);
+  fault = λ none. absurd (none cs h);
+}
+
+pub Asks-fault : (t : Terms) (limit : ℕ) (cs : List PlainCertificate) (stream : List ℕ) (verdict : Verdict) (kind : FaultKind) → StreamFault t.bound limit stream cs kind → Asks t limit stream verdict 0
+Asks-fault t limit cs stream verdict kind h = record {
+  chain = λ ds k. absurd (fault_no_chain t.bound limit cs ds kind stream h k);
+  fault = λ _. refl;
+}
+
+-- no octets are split into no certificates and no rest
+pub Split-none : (bound limit : ℕ) → Split bound limit [] [] []
+Split-none bound limit = record {
+  front = record { each = tt; joins = refl; fits = lit< tt };
+  whole = refl;
+  longest = λ c more chain e. encoding_is_some bound c more e;
+}
+
+-- what an ended bundle and a faulted one have read
+pub reads_chain : (bound : ℕ) (b : Kept) (stream : List ℕ) → standings.Ended ≡ b.standing → Reads bound b stream → Chain bound b.limit b.certificates stream
+reads_chain bound b stream e h = subst (λ s. ReadsAs bound s b stream) (sym e) h
+
+pub reads_fault : (bound : ℕ) (b : Kept) (stream : List ℕ) (kind : FaultKind) → standings.Faulted kind ≡ b.standing → Reads bound b stream → StreamFault bound b.limit stream b.certificates kind
+reads_fault bound b stream kind e h = subst (λ s. ReadsAs bound s b stream) (sym e) h
+
+capped_from_none : (cap n : ℕ) → max 0 (min (0 + n) cap) ≡ min n cap
+capped_from_none cap n = omega arith
+
+pub counted_by : (t : Terms) (limit : ℕ) (stream : List ℕ) (checked : Checked) (n q r : ℕ) → Asks t limit stream checked.verdict n → Rises n q 0 r checked.calls
+    → IsCounted t limit stream checked q r
+counted_by t limit stream checked n q r asks rises = record {
+  number_asked = n;
+  asks = asks;
+  calls = rises.calls ∙ capped_from_none (2 ^ 64 - 1) n;
+  questions = rises.questions;
+}

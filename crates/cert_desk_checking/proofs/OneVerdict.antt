@@ -1,0 +1,79 @@
+-- A stream has one verdict.
+use Rattle.std.proofs.Common.{◌≡◌, ℕ, ◌<◌, ◌^◌, List, [], length, true, refl, sym, ap, ◌∙◌, subst, arith, ◌⊎◌, inl, inr}
+use Rattle.std.proofs.lemmas.Bool.{both_ways, cases_order}
+use Rattle.x509_cert.specs.Certificates.{PlainCertificate}
+use Rattle.cert_desk_checking.specs.declared.checked.Verdict.{Verdict}
+use Rattle.cert_desk_checking.specs.declared.checked.Verdict.TheVariants as verdicts
+use Rattle.cert_desk_checking.specs.declared.fault_kind.FaultKind.{FaultKind}
+use Rattle.cert_desk_checking.specs.declared.rule.Rule.{Rule}
+use Rattle.cert_desk_checking.specs.Chains.{Chain, joined}
+use Rattle.cert_desk_checking.specs.Judging.{Terms, keeps_at, number}
+use Rattle.cert_desk_checking.specs.Verdicts.{IsVerdict, Faulty, Refused, Before}
+use Rattle.cert_desk_checking.proofs.RuleList.{one_number}
+use Rattle.cert_desk_checking.proofs.OneChain.{one_chain, one_fault, fault_no_chain}
+use Rattle.cert_desk_checking.proofs.ChainLaws.{chain_is_some, only_trusted}
+
+-- one is at the other's place, or one comes before
+in_order : (p q : ℕ) (rule other : Rule) → ((p ≡ q) × (rule ≡ other)) ⊎ (Before p rule q other ⊎ Before q other p rule)
+in_order p q rule other =
+    elim (cases_order p q) [
+      | inr (inl below) ↦ inr (inl (inl below))
+      | inr (inr above) ↦ inr (inr (inl above))
+      | inl same ↦ elim (cases_order (number rule) (number other)) [
+        | inl e ↦ inl (same, one_number rule other e)
+        | inr (inl less) ↦ inr (inl (inr (same, less)))
+        | inr (inr more) ↦ inr (inr (inr (sym same, more)))
+      ]
+    ]
+
+module _ (t : Terms) (limit : ℕ) (stream : List ℕ) where
+  -- of two broken rules neither comes before the other
+  none_before : (p q : ℕ) (rule other : Rule) → Refused t limit stream p rule → Refused t limit stream q other → Before p rule q other → ⊥
+  none_before p q rule other f g before =
+      let same = one_chain t.bound limit f.certificates g.certificates stream f.chain g.chain in
+      let kept = g.least p rule (subst (λ (cs : List PlainCertificate). p < length cs) same f.within) before in
+      both_ways _ f.broken (subst (λ (cs : List PlainCertificate). keeps_at rule t cs stream p ≡ true) (sym same) kept)
+
+  one_refusal : (p q : ℕ) (rule other : Rule) → Refused t limit stream p rule → Refused t limit stream q other → verdicts.Refused p rule ≡ verdicts.Refused q other
+  one_refusal p q rule other f g =
+      elim (in_order p q rule other) [
+        | inl (e, r) ↦ ap (λ n. verdicts.Refused n rule) e ∙ ap (λ x. verdicts.Refused q x) r
+        | inr (inl before) ↦ absurd (none_before p q rule other f g before)
+        | inr (inr before) ↦ absurd (none_before q p other rule g f before)
+      ]
+
+  one_faulty : (p o q n : ℕ) (kind other : FaultKind) → Faulty t limit stream p o kind → Faulty t limit stream q n other
+      → verdicts.StreamFault p o kind ≡ verdicts.StreamFault q n other
+  one_faulty p o q n kind other f g =
+      let same = one_fault t.bound limit f.certificates g.certificates kind other stream f.found g.found in
+      let place : p ≡ q = f.place_is ∙ ap (λ (cs : List PlainCertificate). length cs) same.0 ∙ sym g.place_is in
+      let offset : o ≡ n = f.offset_is ∙ ap (λ (cs : List PlainCertificate). length (joined t.bound cs)) same.0 ∙ sym g.offset_is in
+      ap (λ x. verdicts.StreamFault x o kind) place ∙ ap (λ x. verdicts.StreamFault q x kind) offset ∙ ap (λ x. verdicts.StreamFault q n x) same.1
+
+  -- no octets are a chain of no certificates, and of none else
+  empty_chain : stream ≡ [] → Chain t.bound limit [] stream
+  empty_chain e = record { each = tt; joins = e; fits = subst (λ (s : List ℕ). length s < 2 ^ 64) (sym e) (omega arith) }
+
+  empty_refused : (p : ℕ) (rule : Rule) → stream ≡ [] → Refused t limit stream p rule → ⊥
+  empty_refused p rule e f = chain_is_some t.bound f.certificates (omega (arith, f.within)) (sym e ∙ f.chain.joins)
+
+  empty_faulty : (p o : ℕ) (kind : FaultKind) → stream ≡ [] → Faulty t limit stream p o kind → ⊥
+  empty_faulty p o kind e f = fault_no_chain t.bound limit f.certificates [] kind stream f.found (empty_chain e)
+
+  faulty_refused : (p o q : ℕ) (kind : FaultKind) (rule : Rule) → Faulty t limit stream p o kind → Refused t limit stream q rule → ⊥
+  faulty_refused p o q kind rule f g = fault_no_chain t.bound limit f.certificates g.certificates kind stream f.found g.chain
+
+pub one_verdict : (t : Terms) (limit : ℕ) (stream : List ℕ) (verdict other : Verdict) → IsVerdict t limit stream verdict → IsVerdict t limit stream other → verdict ≡ other
+one_verdict t limit stream verdicts.Trusted other v w = sym (only_trusted t limit stream other w v)
+one_verdict t limit stream (verdicts.StreamFault p o kind) verdicts.Trusted v w = only_trusted t limit stream (verdicts.StreamFault p o kind) v w
+one_verdict t limit stream (verdicts.StreamFault p o kind) verdicts.Empty v w = absurd (empty_faulty t limit stream p o kind w v)
+one_verdict t limit stream (verdicts.StreamFault p o kind) (verdicts.StreamFault q n other) v w = one_faulty t limit stream p o q n kind other v w
+one_verdict t limit stream (verdicts.StreamFault p o kind) (verdicts.Refused q rule) v w = absurd (faulty_refused t limit stream p o q kind rule v w)
+one_verdict t limit stream verdicts.Empty verdicts.Trusted v w = only_trusted t limit stream verdicts.Empty v w
+one_verdict t limit stream verdicts.Empty verdicts.Empty v w = refl
+one_verdict t limit stream verdicts.Empty (verdicts.StreamFault q n other) v w = absurd (empty_faulty t limit stream q n other v w)
+one_verdict t limit stream verdicts.Empty (verdicts.Refused q rule) v w = absurd (empty_refused t limit stream q rule v w)
+one_verdict t limit stream (verdicts.Refused p rule) verdicts.Trusted v w = only_trusted t limit stream (verdicts.Refused p rule) v w
+one_verdict t limit stream (verdicts.Refused p rule) verdicts.Empty v w = absurd (empty_refused t limit stream p rule w v)
+one_verdict t limit stream (verdicts.Refused p rule) (verdicts.StreamFault q n other) v w = absurd (faulty_refused t limit stream q n p other rule w v)
+one_verdict t limit stream (verdicts.Refused p rule) (verdicts.Refused q other) v w = one_refusal t limit stream p q rule other v w

@@ -1,0 +1,95 @@
+-- Anchors of certificates.
+use Rattle.std.proofs.Common.{◌≡◌, ℕ, ◌+◌, List, [], ◌∷◌, ◌++◌, Result, Ok, Err, OnOk, IfErr, take, map, Some, slice_get, refl, subst, sym, ap, ◌∙◌}
+use Rattle.std.proofs.lemmas.List.{take_more, map-append}
+use Rattle.std.proofs.lemmas.Option.{slice_get_within, get_or_from_slice_get}
+use Rattle.x509_cert.specs.Certificates.{PlainCertificate, subject, public_key}
+use Rattle.cert_desk_checking.specs.declared.anchor.Anchor.{Anchor}
+use Rattle.cert_desk_checking.specs.Anchors.{anchor_plain}
+use Rattle.cert_desk_checking.specs.Judging.{PlainAnchor}
+use Rattle.x509_cert.specs.Views.{arc_bound}
+use Rattle.cert_desk_checking.specs.declared.checked.Verdict.{Verdict}
+use Rattle.cert_desk_checking.specs.declared.checked.Verdict.TheVariants as verdicts
+use Rattle.cert_desk_checking.specs.declared.fault_kind.FaultKind.{FaultKind}
+use Rattle.cert_desk_checking.specs.declared.fault_kind.FaultKind.TheVariants as kinds
+use Rattle.cert_desk_checking.specs.declared.standing.Standing.{Standing}
+use Rattle.cert_desk_checking.specs.declared.standing.Standing.TheVariants as standings
+use Rattle.cert_desk_checking.specs.Streams.{Kept, Reads}
+use Rattle.cert_desk_checking.specs.declared.bundle_error.BundleError.TheVariants as errors
+use Rattle.cert_desk_checking.specs.declared.bundle_error.ReadError.{ReadError}
+use Rattle.cert_desk_checking.specs.declared.bundle_error.ReadError.TheVariants as read_errors
+use Rattle.cert_desk_checking.specs.Reading.{AtEnd, Stayed, FedUnder, IsFed}
+use Rattle.cert_desk_checking.specs.Steps.{Takes, RefusesInput}
+use Rattle.cert_desk_checking.specs.Runs.{anchor_of, IsReadFor}
+
+pub anchor_same : (p : PlainAnchor) (c : PlainCertificate) → p.name ≡ subject c → p.key ≡ public_key c → p ≡ anchor_of c
+anchor_same p c e f =
+    let named : PlainAnchor = record { name = subject c; key = p.key } in
+    let first : p ≡ named = ap (λ n. record { name = n; key = p.key }) e in
+    let second : named ≡ anchor_of c = ap (λ k. record { name = subject c; key = k }) f in
+    first ∙ second
+
+-- one anchor more
+pub anchors-push : (anchors : List Anchor) (anchor : Anchor) (cs : List PlainCertificate) (place : ℕ) (c : PlainCertificate) → slice_get cs place ≡ Some c
+    → map anchor_plain anchors ≡ map anchor_of (take place cs) → anchor_plain anchor ≡ anchor_of c
+    → map anchor_plain (anchors ++ anchor ∷ []) ≡ map anchor_of (take (place + 1) cs)
+anchors-push anchors anchor cs place c is before same =
+    map-append anchor_plain anchors (anchor ∷ [])
+    ∙ ap (λ w. w ++ anchor_plain anchor ∷ []) before
+    ∙ ap (λ p. map anchor_of (take place cs) ++ p ∷ []) same
+    ∙ sym (ap (map anchor_of) (take_more cs place c (slice_get_within cs place c is) ∙ ap (λ d. take place cs ++ d ∷ []) (get_or_from_slice_get cs place c c is))
+    ∙ map-append anchor_of (take place cs) (c ∷ []))
+
+at_end : (kind : FaultKind) (ended : Type 0) → ended → AtEnd kind ended
+at_end kinds.NoCertificate ended h = tt
+at_end kinds.Indefinite ended h = tt
+at_end kinds.LengthTooWide ended h = tt
+at_end kinds.LengthNotShortest ended h = tt
+at_end kinds.TooLarge ended h = tt
+at_end kinds.Malformed ended h = tt
+at_end kinds.Truncated ended h = h
+
+at_end_if : (kind : FaultKind) (ended : Type 0) → (kind ≡ kinds.Truncated → ended) → AtEnd kind ended
+at_end_if kinds.NoCertificate ended h = tt
+at_end_if kinds.Indefinite ended h = tt
+at_end_if kinds.LengthTooWide ended h = tt
+at_end_if kinds.LengthNotShortest ended h = tt
+at_end_if kinds.TooLarge ended h = tt
+at_end_if kinds.Malformed ended h = tt
+at_end_if kinds.Truncated ended h = h refl
+
+-- what a new bundle was fed, by what reading answered
+module _ {Source : Type 0} (takes : Source → List ℕ → Source → Type 0) (is_ended : Source → Type 0) (failures : Source → ℕ) (from to : Source) (old new : Kept)
+    (opened : old.standing ≡ standings.Open) (empty : Reads arc_bound old []) where
+  fed_under : (standing : Standing) → new.standing ≡ standing → FedUnder takes is_ended failures from to new standing → IsFed takes is_ended failures from to new
+  fed_under standing e h = subst (λ (s : Standing). FedUnder takes is_ended failures from to new s) (sym e) h
+
+  fed_refused : (e : ReadError) → RefusesInput takes is_ended failures from to arc_bound old new e → IsFed takes is_ended failures from to new
+  fed_refused read_errors.Device r = fed_under standings.NoDevice r.standing (r.rose, (r.reads.0, r.reads.1))
+  fed_refused (read_errors.Bundle (errors.Fault place offset kind)) r =
+      fed_under (standings.Faulted kind) r.found.standing (r.reads.0, r.reads.1, r.reads.2 [] empty, at_end_if kind (is_ended to) r.ends, record { same = r.sound })
+  fed_refused (read_errors.Bundle errors.OutOfMemory) r = fed_under standings.NoMemory r.standing (record { same = r.sound }, (r.octets, r.taken))
+  fed_refused (read_errors.Bundle errors.Failed) r = absurd (r.0.was_shut opened)
+
+  pub fed_by : {T : Type 0} (r : Result T ReadError) → OnOk r (new.standing ≡ standings.Ended) → OnOk r (is_ended to) → OnOk r (failures to ≡ failures from)
+      → OnOk r (Takes takes from to arc_bound old new) → IfErr r (RefusesInput takes is_ended failures from to arc_bound old new) → IsFed takes is_ended failures from to new
+  fed_by (Ok x) standing ended sound reads refused = fed_under standings.Ended standing (reads.0, reads.1, reads.2 [] empty, ended, record { same = sound })
+  fed_by (Err e) standing ended sound reads refused = fed_refused e refused
+
+read_for : (verdict : Verdict) (ended : Type 0) → ended → IsReadFor verdict ended
+read_for verdicts.Trusted ended h = h
+read_for (verdicts.Refused place rule) ended h = h
+read_for (verdicts.StreamFault place offset kind) ended h = at_end kind ended h
+read_for verdicts.Empty ended h = h
+
+-- what a bundle was fed that neither want of memory nor a device stopped
+pub fed_reads : {Source : Type 0} (takes : Source → List ℕ → Source → Type 0) (is_ended : Source → Type 0) (failures : Source → ℕ) (old new : Source) (b : Kept)
+    (standing : Standing) (verdict : Verdict) (place offset : ℕ)
+    → FedUnder takes is_ended failures old new b standing → (standing ≡ standings.NoMemory → ⊥) → (standing ≡ standings.NoDevice → ⊥)
+    → ((kind : FaultKind) → standing ≡ standings.Faulted kind → verdict ≡ verdicts.StreamFault place offset kind)
+    → (octets : List ℕ) × takes old octets new × Reads arc_bound b octets × IsReadFor verdict (is_ended new) × Stayed (failures old) (failures new)
+fed_reads takes is_ended failures old new b standings.Open verdict place offset h m d f = absurd h
+fed_reads takes is_ended failures old new b standings.Ended verdict place offset h m d f = (h.0, h.1, h.2, read_for verdict (is_ended new) h.3, h.4)
+fed_reads takes is_ended failures old new b (standings.Faulted kind) verdict place offset h m d f =
+    (h.0, h.1, h.2, subst (λ v. IsReadFor v (is_ended new)) (sym (f kind refl)) h.3, h.4)
+fed_reads takes is_ended failures old new b standings.NoMemory verdict place offset h m d f = absurd (m refl)
+fed_reads takes is_ended failures old new b standings.NoDevice verdict place offset h m d f = absurd (d refl)

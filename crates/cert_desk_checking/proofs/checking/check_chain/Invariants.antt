@@ -1,0 +1,16 @@
+-- Every place so far keeps all rules, and the questions are those of these places.
+use Rattle.std.proofs.Common.{◌≡◌, true}
+use Rattle.x509_cert.specs.Views.{arc_bound}
+use Rattle.cert_desk_checking.specs.Anchors.{terms_of}
+use Rattle.cert_desk_checking.specs.Chains.{joined}
+use Rattle.cert_desk_checking.specs.Verdicts.{all_kept_below}
+use Rattle.cert_desk_checking.specs.Places.{asked_below, Rises}
+use Rattle.cert_desk_checking.proofs.checking.check_chain.Given as goal
+
+abbrev pub invariant-loop-place : goal.invariant-loop-place
+invariant-loop-place g l = record {
+  kept : g.J.SignatureJudge.answers l.judge ≡ g.J.SignatureJudge.answers l.fn.judge;
+  judged : all_kept_below (terms_of l.anchors l.moment l.purpose (g.J.SignatureJudge.answers l.fn.judge)) l.bundle.certificates (joined arc_bound l.bundle.certificates) l.place ≡ true;
+  counted : Rises (asked_below (terms_of l.anchors l.moment l.purpose (g.J.SignatureJudge.answers l.fn.judge)) l.bundle.certificates (joined arc_bound l.bundle.certificates) l.place)
+      (g.J.SignatureJudge.questions l.fn.judge) 0 (g.J.SignatureJudge.questions l.judge) l.calls;
+}

@@ -1,0 +1,16 @@
+use Rattle.std.proofs.Common.{◌≡◌, sym, ap, ◌∙◌, subst}
+use Rattle.der_core_head.specs.Shapes.{IsValid}
+use Rattle.x509_cert.specs.Views.{arc_bound, certificate_plain, name_plain}
+use Rattle.x509_cert.specs.Certificates.{PlainName, issuer, name, name_octets, tbs_issuer}
+use Rattle.cert_desk_checking.proofs.AnchorSteps.{same_name_by}
+use Rattle.cert_desk_checking.proofs.Encodings.{valid_issuer}
+use Rattle.cert_desk_checking.proofs.checking.is_issued_by.Goals as goal
+
+pub returns : goal.returns
+returns c =
+    let this = certificate_plain c.args.certificate.now in
+    let named : name_plain c.issuer.result.now ≡ issuer this = c.issuer.ensures ∙ ap tbs_issuer c.tbs_certificate.ensures in
+    same_name_by arc_bound _ (issuer this) (name_plain c.args.name.now) (
+      λ t. ap (λ (n : PlainName). name_octets arc_bound n) (sym named) ∙ c.has_octets_of.ensures.same t,
+      λ e. c.has_octets_of.ensures.differ (subst (λ (n : PlainName). IsValid (name arc_bound) n) (sym named) (valid_issuer arc_bound this c.requires)) (ap (λ (n : PlainName). name_octets arc_bound n) named ∙ e),
+    )

@@ -1,0 +1,5 @@
+use Rattle.cert_desk_checking.proofs.OneChain.{fault_no_chain}
+use Rattle.cert_desk_checking.proofs.laws.no_chain_with_a_fault.Goals as goal
+
+pub returns : goal.returns
+returns c = fault_no_chain

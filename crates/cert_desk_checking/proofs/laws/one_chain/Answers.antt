@@ -1,0 +1,5 @@
+use Rattle.cert_desk_checking.proofs.OneChain.{one_chain}
+use Rattle.cert_desk_checking.proofs.laws.one_chain.Goals as goal
+
+pub returns : goal.returns
+returns c = one_chain

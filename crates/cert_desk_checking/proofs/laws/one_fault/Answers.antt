@@ -1,0 +1,5 @@
+use Rattle.cert_desk_checking.proofs.OneChain.{one_fault}
+use Rattle.cert_desk_checking.proofs.laws.one_fault.Goals as goal
+
+pub returns : goal.returns
+returns c = one_fault

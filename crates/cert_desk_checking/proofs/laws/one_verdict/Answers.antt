@@ -1,0 +1,5 @@
+use Rattle.cert_desk_checking.proofs.OneVerdict.{one_verdict}
+use Rattle.cert_desk_checking.proofs.laws.one_verdict.Goals as goal
+
+pub returns : goal.returns
+returns c = one_verdict

@@ -1,0 +1,64 @@
+-- What stands where a length or a certificate should: too few octets, a fault, or all of it (X.690 8.1.3, 10.1).
+use Rattle.std.specs.Prelude.{◌≡◌, ◌≢◌, ℕ, ◌+◌, ◌≤◌, ◌<◌, ◌^◌, List, ◌∷◌, ◌++◌, length}
+use Rattle.der_core_head.specs.declared.tag.Tag.TheVariants as tags
+use Rattle.der_core_head.specs.Heads.{length_octets, head_octets}
+use Rattle.x509_cert.specs.Certificates.{PlainCertificate, certificate_octets}
+use Rattle.cert_desk_checking.specs.declared.fault_kind.FaultKind.{FaultKind}
+use Rattle.cert_desk_checking.specs.declared.fault_kind.FaultKind.TheVariants as kinds
+use Rattle.cert_desk_checking.specs.declared.scan.LengthAt.{LengthAt}
+use Rattle.cert_desk_checking.specs.declared.scan.LengthAt.TheVariants as lengths
+use Rattle.cert_desk_checking.specs.declared.scan.Scan.{Scan}
+use Rattle.cert_desk_checking.specs.declared.scan.Scan.TheVariants as scans
+use Rattle.cert_desk_checking.specs.Chains.{Stands}
+use Rattle.cert_desk_checking.specs.Faults.{IsLength, spelled_length, whole_length, IsFault, NoneBefore}
+
+-- No length begins these octets, and the first one announces one of one to four digits.
+pub record IsCut (octets : List ℕ) : Type 0 where
+  pub none : (ls w : List ℕ) → IsLength ls → octets ≡ ls ++ w → ⊥
+  pub announced : (n : ℕ) (w : List ℕ) → octets ≡ n ∷ w → (128 < n) × (n < 133)
+
+-- what is wrong with the length with which these octets begin
+abbrev pub LengthFault : FaultKind → List ℕ → Type 0
+LengthFault kinds.NoCertificate octets = ⊥
+LengthFault kinds.Indefinite octets = (w : List ℕ) × (octets ≡ 0x80 ∷ w)
+LengthFault kinds.LengthTooWide octets = (n : ℕ) × (w : List ℕ) × (octets ≡ n ∷ w) × (0x85 ≤ n)
+LengthFault kinds.LengthNotShortest octets =
+    (ls : List ℕ) × (w : List ℕ) × (octets ≡ ls ++ w) × IsLength ls × (ls ≢ length_octets (spelled_length ls))
+LengthFault kinds.TooLarge octets = ⊥
+LengthFault kinds.Malformed octets = ⊥
+LengthFault kinds.Truncated octets = ⊥
+
+-- these octets begin with the shortest form of this number, which has so many octets
+pub record HasLength (octets : List ℕ) (count number : ℕ) : Type 0 where
+  pub more : List ℕ
+  pub small : number < 2 ^ 32
+  pub begins : octets ≡ length_octets number ++ more
+  pub count_is : count ≡ length (length_octets number)
+
+abbrev pub IsLengthAt : List ℕ → LengthAt → Type 0
+IsLengthAt octets lengths.Cut = IsCut octets
+IsLengthAt octets (lengths.Refused kind) = LengthFault kind octets
+IsLengthAt octets (lengths.Is count number) = HasLength octets count number
+
+-- no certificate begins these octets that could stand here, and no kind of fault is true of them
+pub record IsUnfinished (bound limit offset : ℕ) (rest : List ℕ) : Type 0 where
+  pub sound : NoneBefore bound limit offset kinds.Truncated rest
+  pub none : (c : PlainCertificate) (more : List ℕ) → Stands bound limit c → rest ≡ certificate_octets bound c ++ more → ⊥
+
+-- these octets begin with a SEQUENCE of so many octets, so many of them its header's, that may stand here
+pub record HasWhole (limit offset : ℕ) (rest : List ℕ) (header len : ℕ) : Type 0 where
+  pub number : ℕ
+  pub body : List ℕ
+  pub more : List ℕ
+  pub small : number < 2 ^ 32
+  pub octets : rest ≡ (head_octets tags.Sequence number ++ body) ++ more
+  pub content : length body ≡ number
+  pub header_is : header ≡ length (head_octets tags.Sequence number)
+  pub len_is : len ≡ whole_length number
+  pub within : whole_length number ≤ limit
+  pub fits : offset + whole_length number < 2 ^ 64
+
+abbrev pub IsScan : ℕ → ℕ → List ℕ → Scan → Type 0
+IsScan limit offset rest scans.Wait = (bound : ℕ) → IsUnfinished bound limit offset rest
+IsScan limit offset rest (scans.Refused kind) = (kind ≢ kinds.Malformed) × (kind ≢ kinds.Truncated) × ((bound : ℕ) → IsFault bound limit offset kind rest)
+IsScan limit offset rest (scans.Whole header len) = HasWhole limit offset rest header len

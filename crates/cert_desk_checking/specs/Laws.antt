@@ -1,0 +1,40 @@
+-- What holds of every stream.
+use Rattle.std.specs.Prelude.{◌≡◌, ◌≢◌, ℕ, List, ◌++◌}
+use Rattle.x509_cert.specs.Certificates.{PlainCertificate}
+use Rattle.cert_desk_checking.specs.declared.checked.Verdict.{Verdict}
+use Rattle.cert_desk_checking.specs.declared.fault_kind.FaultKind.{FaultKind}
+use Rattle.cert_desk_checking.specs.declared.fault_kind.FaultKind.TheVariants as kinds
+use Rattle.cert_desk_checking.specs.Chains.{Chain}
+use Rattle.cert_desk_checking.specs.Faults.{StreamFault}
+use Rattle.cert_desk_checking.specs.Judging.{Terms}
+use Rattle.cert_desk_checking.specs.Verdicts.{IsVerdict}
+
+-- No stream joins two lists of certificates.
+abbrev pub HasOneChain : Type 0
+HasOneChain =
+    (bound limit : ℕ) (cs ds : List PlainCertificate) (stream : List ℕ)
+    → Chain bound limit cs stream → Chain bound limit ds stream → cs ≡ ds
+
+-- A stream with a fault joins no list of certificates.
+abbrev pub FaultHasNoChain : Type 0
+FaultHasNoChain =
+    (bound limit : ℕ) (cs ds : List PlainCertificate) (kind : FaultKind) (stream : List ℕ)
+    → StreamFault bound limit stream cs kind → Chain bound limit ds stream → ⊥
+
+-- No stream has two faults.
+abbrev pub HasOneFault : Type 0
+HasOneFault =
+    (bound limit : ℕ) (cs ds : List PlainCertificate) (kind other : FaultKind) (stream : List ℕ)
+    → StreamFault bound limit stream cs kind → StreamFault bound limit stream ds other → (cs ≡ ds) × (kind ≡ other)
+
+-- A stream's fault is that of every longer stream, unless the stream only ends too early.
+abbrev pub FaultStays : Type 0
+FaultStays =
+    (bound limit : ℕ) (cs : List PlainCertificate) (kind : FaultKind) (stream more : List ℕ)
+    → kind ≢ kinds.Truncated → StreamFault bound limit stream cs kind → StreamFault bound limit (stream ++ more) cs kind
+
+-- No stream has two verdicts under the same terms.
+abbrev pub HasOneVerdict : Type 0
+HasOneVerdict =
+    (t : Terms) (limit : ℕ) (stream : List ℕ) (verdict other : Verdict)
+    → IsVerdict t limit stream verdict → IsVerdict t limit stream other → verdict ≡ other

@@ -1,0 +1,169 @@
+-- How a bundle changes.
+use Rattle.std.specs.Prelude.{◌≡◌, ◌≢◌, ℕ, ◌≤◌, ◌<◌, ◌^◌, List, [], ◌∷◌, ◌++◌, length, Bool, true, false}
+use Rattle.cert_desk_io.specs.Devices.{Rose}
+use Rattle.x509_cert.specs.Certificates.{PlainCertificate, certificate_octets}
+use Rattle.cert_desk_checking.specs.declared.bundle_error.BundleError.{BundleError}
+use Rattle.cert_desk_checking.specs.declared.bundle_error.BundleError.TheVariants as errors
+use Rattle.cert_desk_checking.specs.declared.bundle_error.ReadError.{ReadError}
+use Rattle.cert_desk_checking.specs.declared.bundle_error.ReadError.TheVariants as reads
+use Rattle.cert_desk_checking.specs.declared.fault_kind.FaultKind.{FaultKind}
+use Rattle.cert_desk_checking.specs.declared.fault_kind.FaultKind.TheVariants as kinds
+use Rattle.cert_desk_checking.specs.declared.standing.Standing.{Standing}
+use Rattle.cert_desk_checking.specs.declared.standing.Standing.TheVariants as standings
+use Rattle.cert_desk_checking.specs.Chains.{Stands, joined}
+use Rattle.cert_desk_checking.specs.Faults.{IsFault}
+use Rattle.cert_desk_checking.specs.Headers.{IsUnfinished}
+use Rattle.cert_desk_checking.specs.Streams.{Kept, Reads, Begins}
+
+-- the octets that a bundle keeps
+abbrev pub kept_octets : ℕ → Kept → List ℕ
+kept_octets bound b = joined bound b.certificates ++ b.rest
+
+-- for every stream that the old bundle reads the new one reads it and these octets
+abbrev pub ReadsOn : ℕ → Kept → Kept → List ℕ → Type 0
+ReadsOn bound old new octets = (stream : List ℕ) → Reads bound old stream → Reads bound new (stream ++ octets)
+
+-- the certificates stay, and others may follow
+abbrev pub Grows : Kept → Kept → Type 0
+Grows old new = (more : List PlainCertificate) × (new.certificates ≡ old.certificates ++ more)
+
+-- One certificate more is read.
+pub record Next (bound : ℕ) (old new : Kept) : Type 0 where
+  pub certificate : PlainCertificate
+  pub stands : Stands bound old.limit certificate
+  pub certificates : new.certificates ≡ old.certificates ++ certificate ∷ []
+  pub rest : old.rest ≡ certificate_octets bound certificate ++ new.rest
+  pub fits : length (joined bound new.certificates) < 2 ^ 64
+  pub standing : new.standing ≡ old.standing
+  pub limit : new.limit ≡ old.limit
+
+-- No certificate is read: octets are missing.
+pub record Waits (bound : ℕ) (old new : Kept) : Type 0 where
+  pub unfinished : IsUnfinished bound old.limit (length (joined bound old.certificates)) old.rest
+  pub same : new ≡ old
+
+abbrev pub Advances : ℕ → Kept → Kept → Bool → Type 0
+Advances bound old new true = Next bound old new
+Advances bound old new false = Waits bound old new
+
+-- where a fault stands: so many certificates and octets are before it
+pub record IsFoundAt (bound : ℕ) (b : Kept) (place offset : ℕ) (kind : FaultKind) : Type 0 where
+  pub standing : b.standing ≡ standings.Faulted kind
+  pub place_is : place ≡ length b.certificates
+  pub offset_is : offset ≡ length (joined bound b.certificates)
+
+pub record Finds (bound : ℕ) (old new : Kept) (place offset : ℕ) (kind : FaultKind) : Type 0 where
+  pub found : IsFoundAt bound new place offset kind
+  pub streams : kind ≢ kinds.Truncated
+  pub fault : IsFault bound old.limit (length (joined bound old.certificates)) kind old.rest
+  pub same : new ≡ record old { standing = standings.Faulted kind }
+
+-- what stops the reading of the next certificate
+abbrev pub Stops : ℕ → Kept → Kept → BundleError → Type 0
+Stops bound old new (errors.Fault place offset kind) = Finds bound old new place offset kind
+Stops bound old new errors.OutOfMemory = new ≡ record old { standing = standings.NoMemory }
+Stops bound old new errors.Failed = ⊥
+
+-- A piece has a fault, or what comes before it in the stream and it.
+pub record FeedsFault (bound : ℕ) (old new : Kept) (piece : List ℕ) (place offset : ℕ) (kind : FaultKind) : Type 0 where
+  pub was_open : old.standing ≡ standings.Open
+  pub found : IsFoundAt bound new place offset kind
+  pub streams : kind ≢ kinds.Truncated
+  pub reads : ReadsOn bound old new piece
+
+-- There was no memory for a piece.
+pub record FeedsNone (bound : ℕ) (old new : Kept) (piece : List ℕ) : Type 0 where
+  pub was_open : old.standing ≡ standings.Open
+  pub standing : new.standing ≡ standings.NoMemory
+  pub begins : (stream : List ℕ) → Reads bound old stream → Begins bound new.limit new.certificates (stream ++ piece)
+
+-- it wasn't open, and nothing changed
+pub record IsShut (old new : Kept) : Type 0 where
+  pub was_shut : old.standing ≢ standings.Open
+  pub same : new ≡ old
+
+-- why a piece is refused
+abbrev pub RefusesPiece : ℕ → Kept → Kept → List ℕ → BundleError → Type 0
+RefusesPiece bound old new piece (errors.Fault place offset kind) = FeedsFault bound old new piece place offset kind
+RefusesPiece bound old new piece errors.OutOfMemory = FeedsNone bound old new piece
+RefusesPiece bound old new piece errors.Failed = IsShut old new
+
+-- every stream that the old bundle reads the new one reads
+abbrev pub ReadsStill : ℕ → Kept → Kept → Type 0
+ReadsStill bound old new = (stream : List ℕ) → Reads bound old stream → Reads bound new stream
+
+-- The stream ends inside a certificate.
+pub record EndsInside (bound : ℕ) (old new : Kept) (place offset : ℕ) (kind : FaultKind) : Type 0 where
+  pub was_open : old.standing ≡ standings.Open
+  pub found : IsFoundAt bound new place offset kind
+  pub ends : kind ≡ kinds.Truncated
+  pub reads : ReadsStill bound old new
+
+abbrev pub HasFailed : Standing → Type 0
+HasFailed standings.Open = ⊥
+HasFailed standings.Ended = ⊥
+HasFailed (standings.Faulted kind) = Unit {0}
+HasFailed standings.NoMemory = Unit {0}
+HasFailed standings.NoDevice = Unit {0}
+
+-- it had failed, and nothing changed
+pub record HadFailed (old new : Kept) : Type 0 where
+  pub failed : HasFailed old.standing
+  pub same : new ≡ old
+
+-- why a bundle doesn't end
+abbrev pub RefusesEnd : ℕ → Kept → Kept → BundleError → Type 0
+RefusesEnd bound old new (errors.Fault place offset kind) = EndsInside bound old new place offset kind
+RefusesEnd bound old new errors.OutOfMemory = ⊥
+RefusesEnd bound old new errors.Failed = HadFailed old new
+
+-- Octets were taken, and for every stream that the old bundle reads the new one reads it and them.
+abbrev pub Takes : {State : Type 0} → (State → List ℕ → State → Type 0) → State → State → ℕ → Kept → Kept → Type 0
+Takes takes from to bound old new = (octets : List ℕ) × takes from octets to × ReadsOn bound old new octets
+
+-- the most octets that one read takes
+abbrev pub most_read : ℕ
+most_read = 4096
+
+-- All that was taken before the last read is read by a bundle that still takes pieces: no octet was asked for behind what stops it.
+pub record StopsAtOnce {State : Type 0} (takes : State → List ℕ → State → Type 0) (from to : State) (bound : ℕ) (old : Kept) : Type 0 where
+  pub before : State
+  pub now : Kept
+  pub is_open : now.standing ≡ standings.Open
+  pub reads : Takes takes from before bound old now
+  pub piece : List ℕ
+  pub taken : takes before piece to
+  pub short : length piece ≤ most_read
+
+-- The device failed: the certificates are those of the octets before.
+pub record DeviceFails {State : Type 0} (takes : State → List ℕ → State → Type 0) (failures : State → ℕ) (from to : State) (bound : ℕ) (old new : Kept) : Type 0 where
+  pub was_open : old.standing ≡ standings.Open
+  pub standing : new.standing ≡ standings.NoDevice
+  pub rose : Rose (failures from) (failures to)
+  pub reads : Takes takes from to bound old (record new { standing = standings.Open })
+
+-- The stream has a fault, or ends inside a certificate. No read failed.
+pub record InputFaulty {State : Type 0} (takes : State → List ℕ → State → Type 0) (is_ended : State → Type 0) (failures : State → ℕ) (from to : State) (bound : ℕ) (old new : Kept) (place offset : ℕ) (kind : FaultKind) : Type 0 where
+  pub was_open : old.standing ≡ standings.Open
+  pub found : IsFoundAt bound new place offset kind
+  pub ends : kind ≡ kinds.Truncated → is_ended to
+  pub reads : Takes takes from to bound old new
+  pub stops : StopsAtOnce takes from to bound old
+  pub sound : failures to ≡ failures from
+
+-- There was no memory for what was taken. No read failed.
+pub record InputFitsNot {State : Type 0} (takes : State → List ℕ → State → Type 0) (failures : State → ℕ) (from to : State) (bound : ℕ) (old new : Kept) : Type 0 where
+  pub was_open : old.standing ≡ standings.Open
+  pub standing : new.standing ≡ standings.NoMemory
+  pub octets : List ℕ
+  pub taken : takes from octets to
+  pub begins : (stream : List ℕ) → Reads bound old stream → Begins bound new.limit new.certificates (stream ++ octets)
+  pub stops : StopsAtOnce takes from to bound old
+  pub sound : failures to ≡ failures from
+
+-- why an input isn't read to its end
+abbrev pub RefusesInput : {State : Type 0} → (State → List ℕ → State → Type 0) → (State → Type 0) → (State → ℕ) → State → State → ℕ → Kept → Kept → ReadError → Type 0
+RefusesInput takes is_ended failures from to bound old new reads.Device = DeviceFails takes failures from to bound old new
+RefusesInput takes is_ended failures from to bound old new (reads.Bundle (errors.Fault place offset kind)) = InputFaulty takes is_ended failures from to bound old new place offset kind
+RefusesInput takes is_ended failures from to bound old new (reads.Bundle errors.OutOfMemory) = InputFitsNot takes failures from to bound old new
+RefusesInput takes is_ended failures from to bound old new (reads.Bundle errors.Failed) = IsShut old new × (to ≡ from)

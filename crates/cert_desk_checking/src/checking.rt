@@ -1,0 +1,342 @@
+//! Streams are judged.
+ghost use Rattle.std.specs.Prelude.{◌≡◌, ◌≢◌, ℕ, ◌<◌, ◌↔◌, List, length, map, Option, IfOk, OnErr, true, false, Some, nat_le};
+ghost use Rattle.std.specs.List.{list_any};
+ghost use Rattle.der_core_head.specs.Shapes.{IsValid};
+ghost use Rattle.der_types_time.specs.Seconds.{unix_seconds};
+ghost use Rattle.x509_cert.specs.Views.{arc_bound, certificate_plain, key_plain, name_plain};
+ghost use Rattle.x509_cert.specs.Certificates.{issuer, not_before, not_after, raw_certificate};
+ghost use Rattle.cert_desk_checking.specs.declared.fault_kind.FaultKind.{FaultKind};
+ghost use Rattle.cert_desk_checking.specs.Anchors.{anchor_plain, terms_of};
+ghost use Rattle.cert_desk_checking.specs.Chains.{Chain, joined};
+ghost use Rattle.cert_desk_checking.specs.Judging.{Answers, has_one_algorithm, is_named, keeps_at, same_name};
+ghost use Rattle.cert_desk_checking.specs.Streams.{Reads};
+ghost use Rattle.cert_desk_checking.specs.Verdicts.{IsVerdict, Trusted, IsCounted, asked};
+ghost use Rattle.cert_desk_checking.specs.Places.{IsFirstBroken, IsFirstUnsigned, accepted, signs, asked_once, asked_until, asked_signature, asked_at, Rises};
+
+use crate::anchor::Anchor;
+use crate::bundle::Bundle;
+use crate::checked::{CheckError, Checked, Verdict};
+use crate::entry::Entry;
+use crate::extensions::{are_distinct, extensions_of, has_unweighed_critical, has_weighed};
+use crate::rule::Rule;
+use crate::signature_judge::SignatureJudge;
+use crate::standing::Standing;
+use const_oid::ObjectIdentifier;
+use std::alloc::Global;
+use x509_cert::{CertificateInner, Name, Raw, SubjectPublicKeyInfo};
+
+/// The verdict on the stream that a bundle has read, and how often the judge was asked for it.
+///
+/// The stream is trusted where it joins one certificate or more, and each keeps every rule under
+/// these anchors, at this moment (seconds since 1970-01-01T00:00:00Z), for this purpose. Else the
+/// verdict names the fault of the stream, that there is no certificate, or the first certificate
+/// that breaks a rule, with its first one. The judge is handed the stream's own octets, and is
+/// asked only where all rules before the signature are kept.
+///
+/// # Errors
+///
+/// `CheckError` where want of memory or a device had failed the bundle. The judge wasn't asked.
+pub fn check<J: SignatureJudge>(
+    _alloc: Global,
+    bundle: &Bundle,
+    anchors: &[Anchor],
+    moment: u64,
+    purpose: &ObjectIdentifier<39>,
+    judge: &mut J,
+) -> Result<Checked, CheckError>
+    requires { bundle.now.standing ≢ Standing.Open }
+    ensures verdict { IfOk result (λ checked. (stream : List ℕ) → Reads arc_bound bundle.now stream
+        → IsVerdict (terms_of anchors.now moment purpose.now (J.answers judge.old)) bundle.now.limit stream checked.verdict) }
+    ensures trusted { IfOk result (λ checked. (stream : List ℕ) → Reads arc_bound bundle.now stream
+        → Trusted (terms_of anchors.now moment purpose.now (J.answers judge.old)) bundle.now.limit stream → checked.verdict ≡ Verdict.Trusted) }
+    ensures fault { IfOk result (λ checked. (kind : FaultKind) → bundle.now.standing ≡ Standing.Faulted kind
+        → checked.verdict ≡ Verdict.StreamFault (length bundle.now.certificates) (length (joined arc_bound bundle.now.certificates)) kind) }
+    ensures counted { IfOk result (λ checked. (stream : List ℕ) → Reads arc_bound bundle.now stream
+        → IsCounted (terms_of anchors.now moment purpose.now (J.answers judge.old)) bundle.now.limit stream checked (J.questions judge.old) (J.questions judge.new)) }
+    ensures kept { J.answers judge.new ≡ J.answers judge.old }
+
+    // Where nothing is said.
+    ensures out_of_memory { (result ≡ Err CheckError.OutOfMemory) ↔ (bundle.now.standing ≡ Standing.NoMemory) }
+    ensures device { (result ≡ Err CheckError.Device) ↔ (bundle.now.standing ≡ Standing.NoDevice) }
+    ensures untouched { OnErr result (judge.new ≡ judge.old) }
+{
+    match bundle.standing() {
+        Standing::Open => unreachable!(),
+        Standing::Ended => Ok(check_chain(bundle, anchors, moment, purpose, judge)),
+        Standing::Faulted(kind) => Ok(Checked {
+            verdict: Verdict::StreamFault {
+                place: bundle.len(),
+                offset: bundle.end_offset(),
+                kind,
+            },
+            calls: 0,
+        }),
+        Standing::NoMemory => Err(CheckError::OutOfMemory),
+        Standing::NoDevice => Err(CheckError::Device),
+    }
+}
+
+// Asks the judge about a certificate, over the stream's own octets.
+#[tactic(auto, unfolding(crate::specs::Places::accepted))]
+fn ask<J: SignatureJudge>(
+    key: &SubjectPublicKeyInfo,
+    entry: &Entry<'_>,
+    judge: &mut J,
+    calls: &mut u64,
+) -> bool
+    ensures answered { result
+        ≡ accepted (J.answers judge.old) entry.now.signed.now (certificate_plain entry.now.certificate.now) (key_plain key.now) }
+    ensures kept { J.answers judge.new ≡ J.answers judge.old }
+    ensures counted { Rises 1 (J.questions judge.old) calls.old (J.questions judge.new) calls.new }
+{
+    *calls = calls.saturating_add(1);
+    let certificate = entry.certificate;
+    judge.accepts(
+        key,
+        certificate.signature_algorithm(),
+        entry.signed,
+        certificate.signature(),
+    )
+}
+
+// Whether the issuer of the certificate has this name, octet for octet.
+fn is_issued_by(certificate: &CertificateInner<Raw>, name: &Name) -> bool
+    requires { IsValid (raw_certificate arc_bound) (certificate_plain certificate.now) }
+    ensures { result ≡ same_name arc_bound (issuer (certificate_plain certificate.now)) (name_plain name.now) }
+{
+    certificate.tbs_certificate().issuer().has_octets_of(name)
+}
+
+// Whether an anchor has the issuer's name.
+fn is_anchored(certificate: &CertificateInner<Raw>, anchors: &[Anchor]) -> bool
+    requires { IsValid (raw_certificate arc_bound) (certificate_plain certificate.now) }
+    ensures { result ≡ list_any (is_named arc_bound (certificate_plain certificate.now)) (map anchor_plain anchors.now) }
+{
+    for anchor in anchors {
+        if is_issued_by(certificate, anchor.name()) {
+            return true;
+        }
+    }
+    false
+}
+
+// Whether the anchor has the issuer's name and the judge says yes under its key. An anchor of
+// another name isn't asked.
+#[tactic(auto, unfolding(crate::specs::Places::signs, crate::specs::Places::asked_once, crate::specs::Anchors::anchor_plain))]
+fn is_signed_under<J: SignatureJudge>(
+    anchor: &Anchor,
+    entry: &Entry<'_>,
+    judge: &mut J,
+    calls: &mut u64,
+) -> bool
+    requires { IsValid (raw_certificate arc_bound) (certificate_plain entry.now.certificate.now) }
+    ensures answered { result
+        ≡ signs arc_bound (J.answers judge.old) entry.now.signed.now (certificate_plain entry.now.certificate.now) (anchor_plain anchor.now) }
+    ensures kept { J.answers judge.new ≡ J.answers judge.old }
+    ensures counted { Rises (asked_once arc_bound (certificate_plain entry.now.certificate.now) (anchor_plain anchor.now))
+        (J.questions judge.old) calls.old (J.questions judge.new) calls.new }
+{
+    if !is_issued_by(entry.certificate, anchor.name()) {
+        return false;
+    }
+    ask(anchor.key(), entry, judge, calls)
+}
+
+// Whether the judge says yes under the key of an anchor of the issuer's name. The anchors are asked
+// in turn, up to the first yes.
+fn is_signed_by_anchor<J: SignatureJudge>(
+    anchors: &[Anchor],
+    entry: &Entry<'_>,
+    judge: &mut J,
+    calls: &mut u64,
+) -> bool
+    requires { IsValid (raw_certificate arc_bound) (certificate_plain entry.now.certificate.now) }
+    ensures answered { result
+        ≡ list_any (signs arc_bound (J.answers judge.old) entry.now.signed.now (certificate_plain entry.now.certificate.now)) (map anchor_plain anchors.now) }
+    ensures kept { J.answers judge.new ≡ J.answers judge.old }
+    ensures counted { Rises
+        (asked_until arc_bound (J.answers judge.old) entry.now.signed.now (certificate_plain entry.now.certificate.now) (map anchor_plain anchors.now))
+        (J.questions judge.old) calls.old (J.questions judge.new) calls.new }
+{
+    for anchor in anchors {
+        if is_signed_under(anchor, entry, judge, calls) {
+            return true;
+        }
+    }
+    false
+}
+
+// Whether the issuer of the certificate at a place has the name of an anchor, at the first place,
+// or of the certificate before.
+fn is_linked(bundle: &Bundle, place: usize, anchors: &[Anchor]) -> bool
+    requires { place < length bundle.now.certificates }
+    ensures { (moment : ℕ) (purpose : List ℕ) (answers : Answers) (stream : List ℕ)
+        → result ≡ keeps_at Rule.WrongIssuer (terms_of anchors.now moment purpose answers) bundle.now.certificates stream place }
+{
+    let entry = bundle.get(place).unwrap();
+    if place == 0 {
+        return is_anchored(entry.certificate, anchors);
+    }
+    let before = bundle.get(place - 1).unwrap();
+    is_issued_by(
+        entry.certificate,
+        before.certificate.tbs_certificate().subject(),
+    )
+}
+
+// Whether the judge says yes under the issuer's key: at the first place under that of an anchor of
+// the issuer's name, else under that of the certificate before.
+fn is_signed<J: SignatureJudge>(
+    bundle: &Bundle,
+    place: usize,
+    anchors: &[Anchor],
+    judge: &mut J,
+    calls: &mut u64,
+) -> bool
+    requires { place < length bundle.now.certificates }
+    ensures answered { (moment : ℕ) (purpose : List ℕ)
+        → result ≡ keeps_at Rule.WrongSignature (terms_of anchors.now moment purpose (J.answers judge.old)) bundle.now.certificates (joined arc_bound bundle.now.certificates) place }
+    ensures kept { J.answers judge.new ≡ J.answers judge.old }
+    ensures counted { (moment : ℕ) (purpose : List ℕ) → Rises
+        (asked_signature (terms_of anchors.now moment purpose (J.answers judge.old)) bundle.now.certificates (joined arc_bound bundle.now.certificates) place)
+        (J.questions judge.old) calls.old (J.questions judge.new) calls.new }
+{
+    let entry = bundle.get(place).unwrap();
+    if place == 0 {
+        return is_signed_by_anchor(anchors, &entry, judge, calls);
+    }
+    let before = bundle.get(place - 1).unwrap();
+    let key = before
+        .certificate
+        .tbs_certificate()
+        .subject_public_key_info();
+    ask(key, &entry, judge, calls)
+}
+
+// Whether the algorithm outside is the one that is signed, octet for octet (RFC 5280 4.1.1.2).
+fn has_one_algorithm(certificate: &CertificateInner<Raw>) -> bool
+    requires { IsValid (raw_certificate arc_bound) (certificate_plain certificate.now) }
+    ensures { result ≡ has_one_algorithm arc_bound (certificate_plain certificate.now) }
+{
+    let signed = certificate.tbs_certificate().signature();
+    signed.has_octets_of(certificate.signature_algorithm())
+}
+
+// Whether its first moment isn't after this one.
+fn has_begun(certificate: &CertificateInner<Raw>, moment: u64) -> bool
+    ensures { result ≡ nat_le (unix_seconds (not_before (certificate_plain certificate.now))) moment }
+{
+    let validity = certificate.tbs_certificate().validity();
+    validity.not_before.to_date_time().unix_seconds() <= moment
+}
+
+// Whether its last moment isn't before this one.
+fn lasts(certificate: &CertificateInner<Raw>, moment: u64) -> bool
+    ensures { result ≡ nat_le moment (unix_seconds (not_after (certificate_plain certificate.now))) }
+{
+    let validity = certificate.tbs_certificate().validity();
+    moment <= validity.not_after.to_date_time().unix_seconds()
+}
+
+// The first rule before the signature that the certificate at a place breaks.
+fn first_unsigned(
+    bundle: &Bundle,
+    place: usize,
+    anchors: &[Anchor],
+    moment: u64,
+    _purpose: &ObjectIdentifier<39>,
+) -> Option<Rule>
+    requires { place < length bundle.now.certificates }
+    ensures { (answers : Answers) (stream : List ℕ)
+        → IsFirstUnsigned (terms_of anchors.now moment _purpose.now answers) bundle.now.certificates stream place result }
+{
+    let certificate = bundle.get(place).unwrap().certificate;
+    let extensions = extensions_of(certificate);
+    if !has_one_algorithm(certificate) {
+        return Some(Rule::AlgorithmsDiffer);
+    }
+    if !are_distinct(extensions) {
+        return Some(Rule::DuplicateExtension);
+    }
+    if has_weighed(extensions) {
+        return Some(Rule::MalformedExtension);
+    }
+    if has_unweighed_critical(extensions) {
+        return Some(Rule::UnweighedCritical);
+    }
+    if !is_linked(bundle, place, anchors) {
+        return Some(Rule::WrongIssuer);
+    }
+    if !has_begun(certificate, moment) {
+        return Some(Rule::NotYetValid);
+    }
+    if !lasts(certificate, moment) {
+        return Some(Rule::Expired);
+    }
+    if place != bundle.len() - 1 {
+        return Some(Rule::NotAuthority);
+    }
+    None
+}
+
+// The first rule that the certificate at a place breaks. The judge is asked only where all rules
+// before the signature are kept.
+fn first_broken<J: SignatureJudge>(
+    bundle: &Bundle,
+    place: usize,
+    anchors: &[Anchor],
+    moment: u64,
+    purpose: &ObjectIdentifier<39>,
+    judge: &mut J,
+    calls: &mut u64,
+) -> Option<Rule>
+    requires { place < length bundle.now.certificates }
+    ensures judged { IsFirstBroken (terms_of anchors.now moment purpose.now (J.answers judge.old)) bundle.now.certificates (joined arc_bound bundle.now.certificates) place result }
+    ensures kept { J.answers judge.new ≡ J.answers judge.old }
+    ensures counted { Rises
+        (asked_at (terms_of anchors.now moment purpose.now (J.answers judge.old)) bundle.now.certificates (joined arc_bound bundle.now.certificates) place)
+        (J.questions judge.old) calls.old (J.questions judge.new) calls.new }
+{
+    if let Some(rule) = first_unsigned(bundle, place, anchors, moment, purpose) {
+        return Some(rule);
+    }
+    if is_signed(bundle, place, anchors, judge, calls) {
+        None
+    } else {
+        Some(Rule::WrongSignature)
+    }
+}
+
+// What is said of a whole chain: the places are judged in turn, up to the first that breaks a rule.
+fn check_chain<J: SignatureJudge>(
+    bundle: &Bundle,
+    anchors: &[Anchor],
+    moment: u64,
+    purpose: &ObjectIdentifier<39>,
+    judge: &mut J,
+) -> Checked
+    ensures judged { (stream : List ℕ) → Chain arc_bound bundle.now.limit bundle.now.certificates stream
+        → IsVerdict (terms_of anchors.now moment purpose.now (J.answers judge.old)) bundle.now.limit stream result.verdict }
+    ensures kept { J.answers judge.new ≡ J.answers judge.old }
+    ensures counted { (stream : List ℕ) → Chain arc_bound bundle.now.limit bundle.now.certificates stream → Rises
+        (asked (terms_of anchors.now moment purpose.now (J.answers judge.old)) bundle.now.certificates stream)
+        (J.questions judge.old) 0 (J.questions judge.new) result.calls }
+{
+    let mut calls = 0;
+    for place in 0..bundle.len() {
+        if let Some(rule) = first_broken(
+            bundle, place, anchors, moment, purpose, judge, &mut calls,
+        ) {
+            return Checked {
+                verdict: Verdict::Refused { place, rule },
+                calls,
+            };
+        }
+    }
+    let verdict = if bundle.len() == 0 {
+        Verdict::Empty
+    } else {
+        Verdict::Trusted
+    };
+    Checked { verdict, calls }
+}

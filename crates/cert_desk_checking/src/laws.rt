@@ -1,0 +1,28 @@
+//! Laws of streams. Each function does nothing: its contract is the law.
+ghost use Rattle.cert_desk_checking.specs.Laws.{HasOneChain, FaultHasNoChain, HasOneFault, FaultStays, HasOneVerdict};
+
+/// No stream joins two lists of certificates.
+pub fn one_chain()
+    ensures { HasOneChain }
+{}
+
+/// A stream with a fault joins no list of certificates.
+pub fn no_chain_with_a_fault()
+    ensures { FaultHasNoChain }
+{}
+
+/// No stream has two faults.
+pub fn one_fault()
+    ensures { HasOneFault }
+{}
+
+/// A stream's fault is that of every longer stream, unless the stream only ends inside a
+/// certificate.
+pub fn fault_stays()
+    ensures { FaultStays }
+{}
+
+/// No stream has two verdicts under the same terms.
+pub fn one_verdict()
+    ensures { HasOneVerdict }
+{}
