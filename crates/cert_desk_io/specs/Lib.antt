@@ -3,3 +3,4 @@ pub mod Readers
 pub mod Writers
 pub mod Pieces
 pub mod Memory
+pub mod Whole

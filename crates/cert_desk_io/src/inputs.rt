@@ -1,8 +1,10 @@
 // What octets come from.
-ghost use Rattle.std.specs.Prelude.{◌≡◌, ℕ, ◌<◌, ◌≤◌, ◌↔◌, List, [], ◌++◌, length, take, IfOk, OnOk, OnErr};
+ghost use Rattle.std.specs.Prelude.{◌≡◌, ℕ, ◌<◌, ◌≤◌, ◌↔◌, List, [], ◌++◌, length, take, IfOk, IfErr, OnOk, OnErr};
 ghost use Rattle.cert_desk_io.specs.Devices.{Rose};
+ghost use Rattle.cert_desk_io.specs.Whole.{IsUnread};
 
-use super::DeviceError;
+use super::{DeviceError, ReadAllError};
+use std::alloc::Global;
 
 /// What octets come from, in pieces of any size.
 pub trait Input {
@@ -54,4 +56,37 @@ impl<I: Input> Input for &mut I {
     ghost takes_nothing = { λ a. I.takes_nothing a.now };
 
     ghost takes_in_turn = { λ a b c. I.takes_in_turn a.now b.now c.now };
+}
+
+/// Reads an input to its end: all of its octets, `most` of them at most.
+///
+/// # Errors
+///
+/// `TooMuch` where it gives more, of which one is taken, `Device` where a read failed, and
+/// `OutOfMemory`. No read is tried again.
+pub fn read_all<I: Input>(alloc: Global, input: &mut I, most: u32) -> Result<Vec<u8>, ReadAllError>
+    ensures within { IfOk result (λ octets. length octets.items ≤ most) }
+    ensures taken { IfOk result (λ octets. I.takes input.old octets.items input.new) }
+    ensures end { OnOk result (I.is_ended input.new) }
+    ensures sound { OnOk result (I.failures input.new ≡ I.failures input.old) }
+    ensures refused { IfErr result (IsUnread I.takes I.failures input.old input.new most) }
+{
+    let most = most as usize;
+    let mut octets = Vec::new(alloc);
+    let mut buffer = [0; 4096];
+    loop {
+        let room = (most + 1 - octets.len()).min(buffer.len());
+        let Ok(count) = input.read(&mut buffer[..room]) else {
+            return Err(ReadAllError::Device);
+        };
+        if count == 0 {
+            return Ok(octets);
+        }
+        if octets.extend_from_slice(&buffer[..count]).is_err() {
+            return Err(ReadAllError::OutOfMemory);
+        }
+        if octets.len() > most {
+            return Err(ReadAllError::TooMuch);
+        }
+    }
 }

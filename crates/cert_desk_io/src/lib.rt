@@ -11,14 +11,16 @@ pub mod inputs;
 pub mod memory_inputs;
 pub mod memory_outputs;
 pub mod outputs;
+pub mod read_all_error;
 pub mod readers;
 mod schedule;
 pub mod writers;
 
 pub use device_error::DeviceError;
-pub use inputs::Input;
+pub use inputs::{Input, read_all};
 pub use memory_inputs::MemoryInput;
 pub use memory_outputs::MemoryOutput;
 pub use outputs::{Output, write_all};
+pub use read_all_error::ReadAllError;
 pub use readers::FromRead;
 pub use writers::ToWrite;

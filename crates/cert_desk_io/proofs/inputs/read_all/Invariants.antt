@@ -1,0 +1,14 @@
+-- The octets so far were taken, with no failure, and there are no more than the most.
+use Rattle.std.proofs.Common.{◌≡◌, ◌≤◌, ◌+◌, ◌-◌, length}
+use Rattle.cert_desk_io.proofs.inputs.read_all.Given as goal
+
+abbrev pub invariant-loop-count : goal.invariant-loop-count
+invariant-loop-count g l = record {
+  within : length l.octets.items ≤ l.most;
+  room : length l.buffer ≡ 4096;
+  taken : g.I.Input.takes l.fn.input l.octets.items l.input;
+  sound : g.I.Input.failures l.input ≡ g.I.Input.failures l.fn.input;
+}
+
+abbrev pub decreases-loop-count : goal.decreases-loop-count
+decreases-loop-count g l = l.most + 1 - length l.octets.items
