@@ -7,7 +7,8 @@ use Rattle.const_oid_identifiers.specs.IdentifierOctets.{arc_octets, identifier_
 use Rattle.const_oid_identifiers.proofs.DigitLaws.{digits-one}
 use Rattle.der_core_head.specs.Grammar.{plain_list}
 use Rattle.x509_cert.specs.Certificates.{PlainExtension}
-use Rattle.cert_desk_checking.specs.Judging.{are_distinct, certificate_extension, is_alone}
+use Rattle.cert_desk_checking.specs.Judging.{are_distinct, is_alone}
+use Rattle.cert_desk_checking.specs.Weighing.{any_purpose, certificate_extension}
 
 -- an arc of less than 128 is one octet
 arc_octets-small : (n : ℕ) → n < 128 → arc_octets n ≡ n ∷ []
@@ -20,6 +21,14 @@ unfolding identifier_octets
 numbered_octets n h =
     ap (λ (w : List ℕ). 0x55 ∷ (w ++ (arc_octets n ++ []))) (arc_octets-small 29 (omega arith))
     ∙ ap (λ (w : List ℕ). 0x55 ∷ 0x1d ∷ (w ++ [])) (arc_octets-small n h)
+
+-- the purpose that stands for any
+pub any_octets : identifier_octets any_purpose ≡ 0x55 ∷ 0x1d ∷ 0x25 ∷ 0x00 ∷ []
+unfolding identifier_octets
+any_octets =
+    ap (λ (w : List ℕ). 0x55 ∷ (w ++ (arc_octets 37 ++ (arc_octets 0 ++ [])))) (arc_octets-small 29 (omega arith))
+    ∙ ap (λ (w : List ℕ). 0x55 ∷ 0x1d ∷ (w ++ (arc_octets 0 ++ []))) (arc_octets-small 37 (omega arith))
+    ∙ ap (λ (w : List ℕ). 0x55 ∷ 0x1d ∷ 0x25 ∷ (w ++ [])) (arc_octets-small 0 (omega arith))
 
 -- One of a list, seen by its plain values.
 pub any_of_list : {A B : Type 0} (plain : A → B) (test : B → Bool) (xs : List A) → list_any (λ x. test (plain x)) xs ≡ list_any test (plain_list plain xs)

@@ -12,9 +12,14 @@ pub mod AnchorSteps
 pub mod Counts
 pub mod ExtensionLaws
 pub mod Encodings
+pub mod Folds
+pub mod FoundLaws
+pub mod PathLaws
 pub mod RuleList
 pub mod PlaceLaws
+pub mod KeptLaws
 pub mod Outcomes
+pub mod BreachLaws
 pub mod DigestOctets
 pub mod DigestLaws
 pub mod ArgumentLaws

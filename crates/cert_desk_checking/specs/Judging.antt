@@ -1,15 +1,17 @@
 -- The rules of a chain, each by itself (RFC 5280 6.1).
-use Rattle.std.specs.Prelude.{ℕ, zero, suc, ◌+◌, List, [], ◌∷◌, length, take, drop, Bool, true, false, not, nat_le, ◌==◌, ◌&&◌, bytes_eq, slice_get}
+use Rattle.std.specs.Prelude.{ℕ, zero, suc, ◌+◌, List, [], ◌∷◌, take, drop, Bool, true, false, not, nat_le, ◌&&◌, ◌||◌, bytes_eq, slice_get}
 use Rattle.std.specs.List.{list_any, list_all}
 use Rattle.std.specs.Option.{option_map_or}
 use Rattle.const_oid_identifiers.specs.Comparing.{owned_eq}
 use Rattle.der_core_head.specs.BitStrings.{Bits}
 use Rattle.der_core_head.specs.Shapes.{octets_of}
-use Rattle.x509_cert.specs.Certificates.{PlainCertificate, PlainExtension, PlainName, PublicKey, Algorithm, algorithm_identifier, outer_algorithm, inner_algorithm, signature_bits, issuer, subject, not_before, not_after, public_key, extensions_of, extension_arcs, is_critical, name_octets, signed_start, signed_length}
+use Rattle.x509_cert.specs.Certificates.{PlainCertificate, PlainExtension, PlainName, PublicKey, Algorithm, algorithm_identifier, outer_algorithm, inner_algorithm, signature_bits, issuer, subject, not_before, not_after, public_key, extensions_of, extension_arcs, name_octets, signed_start, signed_length}
 use Rattle.der_types_time.specs.Seconds.{unix_seconds}
 use Rattle.cert_desk_checking.specs.declared.rule.Rule.{Rule}
 use Rattle.cert_desk_checking.specs.declared.rule.Rule.TheVariants as rules
 use Rattle.cert_desk_checking.specs.Chains.{offset_at}
+use Rattle.cert_desk_checking.specs.Paths.{is_last, is_within_lengths}
+use Rattle.cert_desk_checking.specs.Weighing.{is_authority, is_malformed, is_unweighed_critical, may_certify, serves, weigh}
 
 -- a name and a key that are trusted
 pub record PlainAnchor : Type 0 where
@@ -57,22 +59,6 @@ abbrev pub is_signed : Terms → List PlainCertificate → List ℕ → ℕ → 
 is_signed t cs stream zero c = list_any (λ a. is_named t.bound c a && says_yes t cs stream zero c a.key) t.anchors
 is_signed t cs stream (suc before) c = option_map_or (λ b. says_yes t cs stream (suc before) c (public_key b)) (slice_get cs before) false
 
--- arcs below 2.5.29
-abbrev pub certificate_extension : ℕ → List ℕ
-certificate_extension n = 2 ∷ 5 ∷ 29 ∷ n ∷ []
-
--- key usage, subject alternative name, basic constraints and extended key usage (RFC 5280 4.2.1.3, 4.2.1.6, 4.2.1.9, 4.2.1.12)
-abbrev pub weighed_kinds : List (List ℕ)
-weighed_kinds = certificate_extension 15 ∷ certificate_extension 17 ∷ certificate_extension 19 ∷ certificate_extension 37 ∷ []
-
--- an extension of a kind that is weighed
-abbrev pub is_weighed : PlainExtension → Bool
-is_weighed e = list_any (owned_eq (extension_arcs e)) weighed_kinds
-
--- a critical one of another kind
-abbrev pub is_unweighed_critical : PlainExtension → Bool
-is_unweighed_critical e = is_critical e && not (is_weighed e)
-
 -- the extension has the identifier of no other
 abbrev pub is_alone : PlainExtension → List PlainExtension → Bool
 is_alone e others = not (list_any (λ other. owned_eq (extension_arcs e) (extension_arcs other)) others)
@@ -82,19 +68,22 @@ abbrev pub are_distinct : List PlainExtension → Bool
 are_distinct [] = true
 are_distinct (e ∷ others) = is_alone e others && are_distinct others
 
--- Whether the certificate c at a place keeps a rule. The content of no extension is looked into: one of a kind that is
--- weighed counts as malformed. So no certificate is an authority's, and nothing is against a purpose.
+-- each certificate but the last is an authority's, whose key may sign certificates (6.1.4 (k), (n))
+abbrev pub has_authority : ℕ → PlainCertificate → Bool
+has_authority bound c = list_any (λ e. is_authority (weigh bound e)) (extensions_of c) && list_all (λ e. may_certify (weigh bound e)) (extensions_of c)
+
+-- Whether the certificate c at a place keeps a rule.
 abbrev pub keeps : Rule → Terms → List PlainCertificate → List ℕ → ℕ → PlainCertificate → Bool
 keeps rules.AlgorithmsDiffer t cs stream place c = has_one_algorithm t.bound c
 keeps rules.DuplicateExtension t cs stream place c = are_distinct (extensions_of c)
-keeps rules.MalformedExtension t cs stream place c = not (list_any is_weighed (extensions_of c))
-keeps rules.UnweighedCritical t cs stream place c = not (list_any is_unweighed_critical (extensions_of c))
+keeps rules.MalformedExtension t cs stream place c = not (list_any (λ e. is_malformed (weigh t.bound e)) (extensions_of c))
+keeps rules.UnweighedCritical t cs stream place c = not (list_any (is_unweighed_critical t.bound) (extensions_of c))
 keeps rules.WrongIssuer t cs stream place c = is_linked t cs place c
 keeps rules.NotYetValid t cs stream place c = nat_le (unix_seconds (not_before c)) t.moment
 keeps rules.Expired t cs stream place c = nat_le t.moment (unix_seconds (not_after c))
-keeps rules.AgainstPurpose t cs stream place c = true
-keeps rules.NotAuthority t cs stream place c = (place + 1) == length cs
-keeps rules.PathTooLong t cs stream place c = true
+keeps rules.AgainstPurpose t cs stream place c = list_all (λ e. serves t.purpose (weigh t.bound e)) (extensions_of c)
+keeps rules.NotAuthority t cs stream place c = is_last cs place || has_authority t.bound c
+keeps rules.PathTooLong t cs stream place c = is_within_lengths t.bound cs place
 keeps rules.WrongSignature t cs stream place c = is_signed t cs stream place c
 
 -- the certificate at a place keeps a rule

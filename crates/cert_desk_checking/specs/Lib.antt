@@ -1,7 +1,11 @@
 pub mod Chains
 pub mod Faults
 pub mod Streams
+pub mod Weighing
+pub mod Paths
+pub mod Findings
 pub mod Judging
+pub mod KeptRules
 pub mod Verdicts
 pub mod Entries
 pub mod Headers
@@ -10,6 +14,7 @@ pub mod Steps
 pub mod Laws
 pub mod Anchors
 pub mod Places
+pub mod Breaches
 pub mod Digests
 pub mod Lines
 pub mod Arguments

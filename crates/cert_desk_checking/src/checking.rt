@@ -1,5 +1,5 @@
 //! Streams are judged.
-ghost use Rattle.std.specs.Prelude.{◌≡◌, ◌≢◌, ℕ, ◌<◌, ◌↔◌, List, length, map, Option, IfOk, OnErr, true, false, Some, nat_le};
+ghost use Rattle.std.specs.Prelude.{◌≡◌, ◌≢◌, ℕ, ◌+◌, ◌<◌, ◌≤◌, ◌↔◌, ◌⊎◌, List, length, map, Option, IfOk, OnErr, true, false, Some, None, nat_le, not, ◌&&◌};
 ghost use Rattle.std.specs.List.{list_any};
 ghost use Rattle.der_core_head.specs.Shapes.{IsValid};
 ghost use Rattle.der_types_time.specs.Seconds.{unix_seconds};
@@ -8,21 +8,27 @@ ghost use Rattle.x509_cert.specs.Certificates.{issuer, not_before, not_after, ra
 ghost use Rattle.cert_desk_checking.specs.declared.fault_kind.FaultKind.{FaultKind};
 ghost use Rattle.cert_desk_checking.specs.Anchors.{anchor_plain, terms_of};
 ghost use Rattle.cert_desk_checking.specs.Chains.{Chain, joined};
+ghost use Rattle.cert_desk_checking.specs.Breaches.{AreUnsignedKept, IsFirstBreach, IsFirstRefused, asked_up_to, until_by, verdict_by};
+ghost use Rattle.cert_desk_checking.specs.Findings.{IsCount};
+ghost use Rattle.cert_desk_checking.specs.Paths.{is_self_issued};
 ghost use Rattle.cert_desk_checking.specs.Judging.{Answers, has_one_algorithm, is_named, keeps_at, same_name};
 ghost use Rattle.cert_desk_checking.specs.Streams.{Reads};
 ghost use Rattle.cert_desk_checking.specs.Verdicts.{IsVerdict, Trusted, IsCounted, asked};
-ghost use Rattle.cert_desk_checking.specs.Places.{IsFirstBroken, IsFirstUnsigned, accepted, signs, asked_once, asked_until, asked_signature, asked_at, Rises};
+ghost use Rattle.cert_desk_checking.specs.Places.{IsFirstUnsigned, accepted, signs, asked_once, asked_until, asked_signature, asked_at, Rises};
 
 use crate::anchor::Anchor;
 use crate::bundle::Bundle;
 use crate::checked::{CheckError, Checked, Verdict};
 use crate::entry::Entry;
-use crate::extensions::{are_distinct, extensions_of, has_unweighed_critical, has_weighed};
+use crate::extensions::{are_distinct, extensions_of};
+use crate::kept_rules::KeptRules;
+use crate::path_count::PathCount;
 use crate::rule::Rule;
 use crate::signature_judge::SignatureJudge;
 use crate::standing::Standing;
+use crate::weighing::findings_of;
 use const_oid::ObjectIdentifier;
-use std::alloc::Global;
+use std::alloc::{AllocError, Global};
 use x509_cert::{CertificateInner, Name, Raw, SubjectPublicKeyInfo};
 
 /// The verdict on the stream that a bundle has read, and how often the judge was asked for it.
@@ -35,9 +41,10 @@ use x509_cert::{CertificateInner, Name, Raw, SubjectPublicKeyInfo};
 ///
 /// # Errors
 ///
-/// `CheckError` where want of memory or a device had failed the bundle. The judge wasn't asked.
+/// `Device` where a device had failed the bundle; `OutOfMemory` where want of memory had, or where
+/// there was none for the contents of an extension. The judge wasn't asked.
 pub fn check<J: SignatureJudge>(
-    _alloc: Global,
+    alloc: Global,
     bundle: &Bundle,
     anchors: &[Anchor],
     moment: u64,
@@ -56,13 +63,17 @@ pub fn check<J: SignatureJudge>(
     ensures kept { J.answers judge.new ≡ J.answers judge.old }
 
     // Where nothing is said.
-    ensures out_of_memory { (result ≡ Err CheckError.OutOfMemory) ↔ (bundle.now.standing ≡ Standing.NoMemory) }
+    ensures no_memory { bundle.now.standing ≡ Standing.NoMemory → result ≡ Err CheckError.OutOfMemory }
+    ensures out_of_memory { result ≡ Err CheckError.OutOfMemory → (bundle.now.standing ≡ Standing.NoMemory) ⊎ (bundle.now.standing ≡ Standing.Ended) }
     ensures device { (result ≡ Err CheckError.Device) ↔ (bundle.now.standing ≡ Standing.NoDevice) }
     ensures untouched { OnErr result (judge.new ≡ judge.old) }
 {
     match bundle.standing() {
         Standing::Open => unreachable!(),
-        Standing::Ended => Ok(check_chain(bundle, anchors, moment, purpose, judge)),
+        Standing::Ended => match check_chain(alloc, bundle, anchors, moment, purpose, judge) {
+            Ok(checked) => Ok(checked),
+            Err(AllocError) => Err(CheckError::OutOfMemory),
+        },
         Standing::Faulted(kind) => Ok(Checked {
             verdict: Verdict::StreamFault {
                 place: bundle.len(),
@@ -238,105 +249,169 @@ fn lasts(certificate: &CertificateInner<Raw>, moment: u64) -> bool
     moment <= validity.not_after.to_date_time().unix_seconds()
 }
 
-// The first rule before the signature that the certificate at a place breaks.
+// Whether issuer and subject have the same octets.
+fn is_self_issued(certificate: &CertificateInner<Raw>) -> bool
+    requires { IsValid (raw_certificate arc_bound) (certificate_plain certificate.now) }
+    ensures { result ≡ is_self_issued arc_bound (certificate_plain certificate.now) }
+{
+    is_issued_by(certificate, certificate.tbs_certificate().subject())
+}
+
+// Whether a place counts: it isn't the last, and isn't self-issued.
+fn counts(certificate: &CertificateInner<Raw>, is_last: bool) -> bool
+    requires { IsValid (raw_certificate arc_bound) (certificate_plain certificate.now) }
+    ensures { result ≡ (not is_last && not (is_self_issued arc_bound (certificate_plain certificate.now))) }
+{
+    !is_last && !is_self_issued(certificate)
+}
+
+// The first rule before the signature that the certificate at a place breaks. The place is added to
+// the count of the path.
 fn first_unsigned(
+    alloc: Global,
     bundle: &Bundle,
     place: usize,
     anchors: &[Anchor],
     moment: u64,
-    _purpose: &ObjectIdentifier<39>,
-) -> Option<Rule>
-    requires { place < length bundle.now.certificates }
-    ensures { (answers : Answers) (stream : List ℕ)
-        → IsFirstUnsigned (terms_of anchors.now moment _purpose.now answers) bundle.now.certificates stream place result }
+    purpose: &ObjectIdentifier<39>,
+    paths: &mut PathCount,
+) -> Result<Option<Rule>, AllocError>
+    requires within { place < length bundle.now.certificates }
+    requires counted { IsCount arc_bound bundle.now.certificates place paths.old }
+    ensures judged { IfOk result (λ broken. (answers : Answers) (stream : List ℕ)
+        → IsFirstUnsigned (terms_of anchors.now moment purpose.now answers) bundle.now.certificates stream place broken) }
+    ensures counted { IfOk result (λ _. IsCount arc_bound bundle.now.certificates (place + 1) paths.new) }
 {
     let certificate = bundle.get(place).unwrap().certificate;
     let extensions = extensions_of(certificate);
-    if !has_one_algorithm(certificate) {
-        return Some(Rule::AlgorithmsDiffer);
+    let findings = findings_of(alloc, extensions, purpose)?;
+    let len = bundle.len();
+    let is_last = place + 1 == len;
+    let counts = counts(certificate, is_last);
+    let kept = KeptRules {
+        one_algorithm: has_one_algorithm(certificate),
+        distinct: are_distinct(extensions),
+        well_formed: !findings.malformed,
+        known: !findings.unweighed_critical,
+        linked: is_linked(bundle, place, anchors),
+        begun: has_begun(certificate, moment),
+        lasting: lasts(certificate, moment),
+        serving: findings.serves,
+        issuing: findings.may_issue(is_last),
+        within_lengths: paths.admits(counts),
+    };
+    paths.add(counts, findings.path_len);
+    Ok(kept.first_broken())
+}
+
+// A place that breaks a rule, and its first one.
+#[derive(Clone, Copy)]
+struct Breach {
+    place: usize,
+    rule: Rule,
+}
+
+// The first place that breaks a rule before the signature.
+fn first_breach(
+    alloc: Global,
+    bundle: &Bundle,
+    anchors: &[Anchor],
+    moment: u64,
+    purpose: &ObjectIdentifier<39>,
+) -> Result<Option<Breach>, AllocError>
+    ensures { IfOk result (λ breach. (answers : Answers) (stream : List ℕ)
+        → IsFirstBreach (terms_of anchors.now moment purpose.now answers) bundle.now.certificates stream breach) }
+{
+    let mut paths = PathCount::new();
+    for place in 0..bundle.len() {
+        let broken = first_unsigned(alloc, bundle, place, anchors, moment, purpose, &mut paths)?;
+        if let Some(rule) = broken {
+            return Ok(Some(Breach { place, rule }));
+        }
     }
-    if !are_distinct(extensions) {
-        return Some(Rule::DuplicateExtension);
-    }
-    if has_weighed(extensions) {
-        return Some(Rule::MalformedExtension);
-    }
-    if has_unweighed_critical(extensions) {
-        return Some(Rule::UnweighedCritical);
-    }
-    if !is_linked(bundle, place, anchors) {
-        return Some(Rule::WrongIssuer);
-    }
-    if !has_begun(certificate, moment) {
-        return Some(Rule::NotYetValid);
-    }
-    if !lasts(certificate, moment) {
-        return Some(Rule::Expired);
-    }
-    if place != bundle.len() - 1 {
-        return Some(Rule::NotAuthority);
+    Ok(None)
+}
+
+// The first of so many places about whose signature the judge says no. The places are asked about
+// in turn.
+fn first_refused<J: SignatureJudge>(
+    bundle: &Bundle,
+    until: usize,
+    anchors: &[Anchor],
+    judge: &mut J,
+    calls: &mut u64,
+) -> Option<usize>
+    requires { until ≤ length bundle.now.certificates }
+    ensures judged { (moment : ℕ) (purpose : List ℕ)
+        → AreUnsignedKept (terms_of anchors.now moment purpose (J.answers judge.old)) bundle.now.certificates (joined arc_bound bundle.now.certificates) until
+        → IsFirstRefused (terms_of anchors.now moment purpose (J.answers judge.old)) bundle.now.certificates (joined arc_bound bundle.now.certificates) until result }
+    ensures kept { J.answers judge.new ≡ J.answers judge.old }
+    ensures counted { (moment : ℕ) (purpose : List ℕ)
+        → AreUnsignedKept (terms_of anchors.now moment purpose (J.answers judge.old)) bundle.now.certificates (joined arc_bound bundle.now.certificates) until
+        → Rises (asked_up_to (terms_of anchors.now moment purpose (J.answers judge.old)) bundle.now.certificates (joined arc_bound bundle.now.certificates) until result)
+        (J.questions judge.old) calls.old (J.questions judge.new) calls.new }
+{
+    for place in 0..until {
+        if !is_signed(bundle, place, anchors, judge, calls) {
+            return Some(place);
+        }
     }
     None
 }
 
-// The first rule that the certificate at a place breaks. The judge is asked only where all rules
-// before the signature are kept.
-fn first_broken<J: SignatureJudge>(
+// What is said of a whole chain. The places are judged in turn by the rules before the signature,
+// up to the first that breaks one; and the judge is asked about the places before it.
+fn check_chain<J: SignatureJudge>(
+    alloc: Global,
     bundle: &Bundle,
-    place: usize,
     anchors: &[Anchor],
     moment: u64,
     purpose: &ObjectIdentifier<39>,
     judge: &mut J,
-    calls: &mut u64,
-) -> Option<Rule>
-    requires { place < length bundle.now.certificates }
-    ensures judged { IsFirstBroken (terms_of anchors.now moment purpose.now (J.answers judge.old)) bundle.now.certificates (joined arc_bound bundle.now.certificates) place result }
+) -> Result<Checked, AllocError>
+    ensures judged { IfOk result (λ checked. (stream : List ℕ) → Chain arc_bound bundle.now.limit bundle.now.certificates stream
+        → IsVerdict (terms_of anchors.now moment purpose.now (J.answers judge.old)) bundle.now.limit stream checked.verdict) }
     ensures kept { J.answers judge.new ≡ J.answers judge.old }
-    ensures counted { Rises
-        (asked_at (terms_of anchors.now moment purpose.now (J.answers judge.old)) bundle.now.certificates (joined arc_bound bundle.now.certificates) place)
-        (J.questions judge.old) calls.old (J.questions judge.new) calls.new }
+    ensures counted { IfOk result (λ checked. (stream : List ℕ) → Chain arc_bound bundle.now.limit bundle.now.certificates stream → Rises
+        (asked (terms_of anchors.now moment purpose.now (J.answers judge.old)) bundle.now.certificates stream)
+        (J.questions judge.old) 0 (J.questions judge.new) checked.calls) }
+    ensures untouched { OnErr result (judge.new ≡ judge.old) }
 {
-    if let Some(rule) = first_unsigned(bundle, place, anchors, moment, purpose) {
-        return Some(rule);
-    }
-    if is_signed(bundle, place, anchors, judge, calls) {
-        None
-    } else {
-        Some(Rule::WrongSignature)
+    let breach = first_breach(alloc, bundle, anchors, moment, purpose)?;
+    let until = until_of(bundle.len(), breach);
+    let mut calls = 0;
+    let refused = first_refused(bundle, until, anchors, judge, &mut calls);
+    let verdict = verdict_of(bundle.len(), breach, refused);
+    Ok(Checked { verdict, calls })
+}
+
+// Up to which place the judge is asked in a chain of so many certificates.
+fn until_of(len: usize, breach: Option<Breach>) -> usize
+    ensures { result ≡ until_by len breach }
+{
+    match breach {
+        Some(breach) => breach.place,
+        None => len,
     }
 }
 
-// What is said of a whole chain: the places are judged in turn, up to the first that breaks a rule.
-fn check_chain<J: SignatureJudge>(
-    bundle: &Bundle,
-    anchors: &[Anchor],
-    moment: u64,
-    purpose: &ObjectIdentifier<39>,
-    judge: &mut J,
-) -> Checked
-    ensures judged { (stream : List ℕ) → Chain arc_bound bundle.now.limit bundle.now.certificates stream
-        → IsVerdict (terms_of anchors.now moment purpose.now (J.answers judge.old)) bundle.now.limit stream result.verdict }
-    ensures kept { J.answers judge.new ≡ J.answers judge.old }
-    ensures counted { (stream : List ℕ) → Chain arc_bound bundle.now.limit bundle.now.certificates stream → Rises
-        (asked (terms_of anchors.now moment purpose.now (J.answers judge.old)) bundle.now.certificates stream)
-        (J.questions judge.old) 0 (J.questions judge.new) result.calls }
+// The verdict on a chain of so many certificates, whose first place that breaks a rule before the
+// signature is this one, and the first one before whose signature is refused is that one.
+fn verdict_of(len: usize, breach: Option<Breach>, refused: Option<usize>) -> Verdict
+    ensures { result ≡ verdict_by len breach refused }
 {
-    let mut calls = 0;
-    for place in 0..bundle.len() {
-        if let Some(rule) = first_broken(
-            bundle, place, anchors, moment, purpose, judge, &mut calls,
-        ) {
-            return Checked {
-                verdict: Verdict::Refused { place, rule },
-                calls,
-            };
-        }
+    if let Some(place) = refused {
+        return Verdict::Refused {
+            place,
+            rule: Rule::WrongSignature,
+        };
     }
-    let verdict = if bundle.len() == 0 {
+    if let Some(Breach { place, rule }) = breach {
+        return Verdict::Refused { place, rule };
+    }
+    if len == 0 {
         Verdict::Empty
     } else {
         Verdict::Trusted
-    };
-    Checked { verdict, calls }
+    }
 }

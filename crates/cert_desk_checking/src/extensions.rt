@@ -1,22 +1,22 @@
-//! What is asked of a certificate's extensions (RFC 5280 4.2). No content is looked into.
+//! The extensions of a certificate, and their identifiers (RFC 5280 4.2).
 
 ghost use Rattle.std.specs.Prelude.{◌≡◌, ◌<◌};
-ghost use Rattle.std.specs.List.{list_any};
 ghost use Rattle.const_oid_identifiers.specs.Comparing.{owned_eq};
 ghost use Rattle.x509_cert.specs.Certificates.{extension_arcs, extensions_of};
 ghost use Rattle.x509_cert.specs.Views.{certificate_plain, extension_plain, extensions_plain};
-ghost use Rattle.cert_desk_checking.specs.Judging.{are_distinct, certificate_extension, is_alone, is_unweighed_critical, is_weighed};
+ghost use Rattle.cert_desk_checking.specs.Judging.{are_distinct, is_alone};
+ghost use Rattle.cert_desk_checking.specs.Weighing.{certificate_extension};
 
 use x509_cert::{CertificateInner, Extension, Raw};
 
 // Below 2.5.29 (RFC 5280 4.2.1.3, 4.2.1.6, 4.2.1.9, 4.2.1.12).
-const KEY_USAGE: u8 = 15;
+pub(crate) const KEY_USAGE: u8 = 15;
 
-const SUBJECT_ALT_NAME: u8 = 17;
+pub(crate) const SUBJECT_ALT_NAME: u8 = 17;
 
-const BASIC_CONSTRAINTS: u8 = 19;
+pub(crate) const BASIC_CONSTRAINTS: u8 = 19;
 
-const EXT_KEY_USAGE: u8 = 37;
+pub(crate) const EXT_KEY_USAGE: u8 = 37;
 
 // The extensions, in their order. Where the field is absent there are none.
 pub fn extensions_of(certificate: &CertificateInner<Raw>) -> &[Extension]
@@ -40,22 +40,6 @@ pub fn are_distinct(extensions: &[Extension]) -> bool
     true
 }
 
-// Whether an extension is of a kind that is weighed.
-pub fn has_weighed(extensions: &[Extension]) -> bool
-    ensures { result ≡ list_any is_weighed (extensions_plain extensions.now) }
-{
-    extensions.iter().any(|extension| is_weighed(extension))
-}
-
-// Whether an extension is critical, and of a kind that isn't weighed.
-pub fn has_unweighed_critical(extensions: &[Extension]) -> bool
-    ensures { result ≡ list_any is_unweighed_critical (extensions_plain extensions.now) }
-{
-    extensions
-        .iter()
-        .any(|extension| extension.critical && !is_weighed(extension))
-}
-
 // Whether none of the others has the extension's identifier.
 fn is_alone(extension: &Extension, others: &[Extension]) -> bool
     ensures { result ≡ is_alone (extension_plain extension.now) (extensions_plain others.now) }
@@ -65,18 +49,8 @@ fn is_alone(extension: &Extension, others: &[Extension]) -> bool
         .any(|other| extension.extn_id == other.extn_id)
 }
 
-// Whether the extension is of a kind that is weighed.
-fn is_weighed(extension: &Extension) -> bool
-    ensures { result ≡ is_weighed (extension_plain extension.now) }
-{
-    is_numbered(extension, KEY_USAGE)
-        || is_numbered(extension, SUBJECT_ALT_NAME)
-        || is_numbered(extension, BASIC_CONSTRAINTS)
-        || is_numbered(extension, EXT_KEY_USAGE)
-}
-
 // Whether its identifier is this number below 2.5.29.
-fn is_numbered(extension: &Extension, number: u8) -> bool
+pub(crate) fn is_numbered(extension: &Extension, number: u8) -> bool
     requires { number < 128 }
     ensures { result ≡ owned_eq (extension_arcs (extension_plain extension.now)) (certificate_extension number) }
 {

@@ -8,19 +8,19 @@ use Rattle.cert_desk_checking.proofs.OneChain.{fault_no_chain}
 use Rattle.cert_desk_checking.proofs.ChainLaws.{only_trusted, reads_chain, reads_fault, Asks-chain, Asks-fault, counted_by}
 use Rattle.cert_desk_checking.proofs.checking.check.Goals as goal
 
-pub returns-in-Ended-clause-trusted : goal.returns-in-Ended-clause-trusted
-returns-in-Ended-clause-trusted g c = λ stream reads trusted.
+pub returns-in-Ok-clause-trusted : goal.returns-in-Ok-clause-trusted
+returns-in-Ok-clause-trusted g c = λ stream reads trusted.
     let t = terms_of c.args.anchors.now c.args.moment c.args.purpose.now (g.J.SignatureJudge.answers c.args.judge.now) in
     let chain = reads_chain arc_bound c.args.bundle.now stream (sym c.in-Ended.is ∙ c.standing.ensures) reads in
-    only_trusted t c.args.bundle.now.limit stream c.check_chain.result.verdict (c.check_chain.ensures.judged stream chain) trusted
+    only_trusted t c.args.bundle.now.limit stream c.in-Ok.checked.verdict (c.in-Ok.ensures.judged stream chain) trusted
 
-pub returns-in-Ended-clause-counted : goal.returns-in-Ended-clause-counted
-returns-in-Ended-clause-counted g c = λ stream reads.
+pub returns-in-Ok-clause-counted : goal.returns-in-Ok-clause-counted
+returns-in-Ok-clause-counted g c = λ stream reads.
     let t = terms_of c.args.anchors.now c.args.moment c.args.purpose.now (g.J.SignatureJudge.answers c.args.judge.now) in
     let chain = reads_chain arc_bound c.args.bundle.now stream (sym c.in-Ended.is ∙ c.standing.ensures) reads in
-    counted_by t c.args.bundle.now.limit stream c.check_chain.result (asked t c.args.bundle.now.certificates stream) _ _
-    (Asks-chain t c.args.bundle.now.limit c.args.bundle.now.certificates stream c.check_chain.result.verdict chain)
-    (c.check_chain.ensures.counted stream chain)
+    counted_by t c.args.bundle.now.limit stream c.in-Ok.checked (asked t c.args.bundle.now.certificates stream) _ _
+    (Asks-chain t c.args.bundle.now.limit c.args.bundle.now.certificates stream c.in-Ok.checked.verdict chain)
+    (c.in-Ok.ensures.counted stream chain)
 
 pub returns-in-Faulted-clause-trusted : goal.returns-in-Faulted-clause-trusted
 returns-in-Faulted-clause-trusted g c = λ stream reads trusted.

@@ -1,73 +1,46 @@
-use Rattle.std.proofs.Common.{◌≡◌, suc, ◌+◌, length, true, sym, ap, ◌∙◌, subst, arith}
+use Rattle.std.proofs.Common.{◌≤◌, length, sym, ap, ◌∙◌, subst}
 use Rattle.x509_cert.specs.Views.{arc_bound}
 use Rattle.cert_desk_checking.specs.Anchors.{terms_of}
+use Rattle.cert_desk_checking.specs.Breaches.{IsFirstRefused, AreUnsignedKept, asked_up_to, until_by, verdict_by}
 use Rattle.cert_desk_checking.specs.Chains.{joined}
-use Rattle.cert_desk_checking.specs.Verdicts.{all_kept_below, asked}
-use Rattle.cert_desk_checking.specs.Places.{IsFirstBroken, asked_at, asked_below, Rises}
-use Rattle.cert_desk_checking.proofs.Counts.{Rises-more, Rises-by}
-use Rattle.cert_desk_checking.proofs.Outcomes.{kept_below-more, refused_at, trusted_by, asked-is, asked-refused, asked_below-more}
+use Rattle.cert_desk_checking.specs.Verdicts.{IsVerdict, asked}
+use Rattle.cert_desk_checking.proofs.BreachLaws.{are_unsigned_kept, asked_in_all, until_within, verdict_is}
+use Rattle.cert_desk_checking.proofs.Counts.{Rises-by}
 use Rattle.cert_desk_checking.proofs.checking.check_chain.Goals as goal
 
-pub returns-in-Some-clause-judged : goal.returns-in-Some-clause-judged
-returns-in-Some-clause-judged g c = λ stream chain.
+pub first_refused-refused-requires : goal.first_refused-refused-requires
+first_refused-refused-requires g c =
     let t = terms_of c.args.anchors.now c.args.moment c.args.purpose.now (g.J.SignatureJudge.answers c.args.judge.now) in
     let cs = c.args.bundle.now.certificates in
-    let found = subst (λ a. IsFirstBroken (terms_of c.args.anchors.now c.args.moment c.args.purpose.now a) cs (joined arc_bound cs) c.loop-place.place c.first_broken.result) c.loop-place.invariant.kept c.first_broken.ensures.judged in
-    refused_at t c.args.bundle.now.limit cs c.loop-place.place c.in-Some.rule stream chain (omega arith) c.loop-place.invariant.judged
-    (subst (IsFirstBroken t cs (joined arc_bound cs) c.loop-place.place) c.in-Some.is found)
+    let until = c.until_of-until.ensures ∙ ap (λ n. until_by n c.in_ok-breach.breach) c.len.ensures in
+    subst (λ n. n ≤ length cs) (sym until) (until_within t cs (joined arc_bound cs) c.in_ok-breach.breach (c.in_ok-breach.ensures t.answers (joined arc_bound cs)))
 
-pub returns-in-Some-clause-counted : goal.returns-in-Some-clause-counted
-returns-in-Some-clause-counted g c = λ stream chain.
+pub returns-clause-judged : goal.returns-clause-judged
+returns-clause-judged g c = λ stream chain.
     let t = terms_of c.args.anchors.now c.args.moment c.args.purpose.now (g.J.SignatureJudge.answers c.args.judge.now) in
     let cs = c.args.bundle.now.certificates in
     let s = joined arc_bound cs in
-    let place = c.loop-place.place in
-    let found = subst (IsFirstBroken t cs s place) c.in-Some.is
-    (subst (λ a. IsFirstBroken (terms_of c.args.anchors.now c.args.moment c.args.purpose.now a) cs s place c.first_broken.result) c.loop-place.invariant.kept c.first_broken.ensures.judged) in
-    let counted = subst (λ a. Rises (asked_at (terms_of c.args.anchors.now c.args.moment c.args.purpose.now a) cs s place) (g.J.SignatureJudge.questions c.loop-place.judge) c.loop-place.calls (g.J.SignatureJudge.questions c.first_broken.new.judge) c.first_broken.new.calls) c.loop-place.invariant.kept c.first_broken.ensures.counted in
-    Rises-more (asked_below t cs s place) (asked_at t cs s place) (asked t cs stream) _ _ _ _ _ _
-    (asked-refused t cs s place c.in-Some.rule (omega arith) c.loop-place.invariant.judged found.0 ∙ ap (asked t cs) (sym chain.joins))
-    c.loop-place.invariant.counted counted
+    let breach = c.in_ok-breach.breach in
+    let found = c.in_ok-breach.ensures t.answers s in
+    let until = c.until_of-until.ensures ∙ ap (λ n. until_by n breach) c.len.ensures in
+    let kept = subst (λ n. AreUnsignedKept t cs s n) (sym until) (are_unsigned_kept t cs s breach found) in
+    let refused = subst (λ n. IsFirstRefused t cs s n c.first_refused-refused.result) until (c.first_refused-refused.ensures.judged c.args.moment c.args.purpose.now kept) in
+    let verdict = c.verdict_of-verdict.ensures ∙ ap (λ n. verdict_by n breach c.first_refused-refused.result) c.len-2.ensures in
+    subst (λ v. IsVerdict t c.args.bundle.now.limit stream v) (sym verdict)
+    (verdict_is t c.args.bundle.now.limit cs stream chain breach c.first_refused-refused.result found refused)
 
-pub loop-place-preserved : goal.loop-place-preserved
-loop-place-preserved g c =
+pub returns-clause-counted : goal.returns-clause-counted
+returns-clause-counted g c = λ stream chain.
     let t = terms_of c.args.anchors.now c.args.moment c.args.purpose.now (g.J.SignatureJudge.answers c.args.judge.now) in
     let cs = c.args.bundle.now.certificates in
     let s = joined arc_bound cs in
-    let place = c.loop-place.place in
-    let next : suc place ≡ place + 1 = omega arith in
-    record {
-      kept = c.first_broken.ensures.kept ∙ c.loop-place.invariant.kept;
-      judged =
-          (let found = subst (IsFirstBroken t cs s place) c.in_default.is
-          (subst (λ a. IsFirstBroken (terms_of c.args.anchors.now c.args.moment c.args.purpose.now a) cs s place c.first_broken.result) c.loop-place.invariant.kept c.first_broken.ensures.judged) in
-          subst (λ n. all_kept_below t cs s n ≡ true) next (kept_below-more t cs s place c.loop-place.invariant.judged found));
-      counted =
-          (let counted = subst (λ a. Rises (asked_at (terms_of c.args.anchors.now c.args.moment c.args.purpose.now a) cs s place) (g.J.SignatureJudge.questions c.loop-place.judge) c.loop-place.calls (g.J.SignatureJudge.questions c.first_broken.new.judge) c.first_broken.new.calls) c.loop-place.invariant.kept c.first_broken.ensures.counted in
-          Rises-more (asked_below t cs s place) (asked_at t cs s place) (asked_below t cs s (place + 1)) _ _ _ _ _ _
-          (asked_below-more t cs s place c.loop-place.invariant.judged ∙ ap (asked_below t cs s) next)
-          c.loop-place.invariant.counted counted);
-    }
-
-pub returns-then-len-eq0-clause-counted : goal.returns-then-len-eq0-clause-counted
-returns-then-len-eq0-clause-counted g c = λ stream chain.
-    let t = terms_of c.args.anchors.now c.args.moment c.args.purpose.now (g.J.SignatureJudge.answers c.args.judge.now) in
-    let cs = c.args.bundle.now.certificates in
-    let end : c.loop-place.place ≡ length cs = omega arith in
-    Rises-by _ _ _ _ _ _ (ap (asked_below t cs (joined arc_bound cs)) end ∙ sym (asked-is t cs (joined arc_bound cs)) ∙ ap (asked t cs) (sym chain.joins))
-    c.loop-place.invariant.counted
-
-pub returns-else-len-eq0-clause-counted : goal.returns-else-len-eq0-clause-counted
-returns-else-len-eq0-clause-counted g c = λ stream chain.
-    let t = terms_of c.args.anchors.now c.args.moment c.args.purpose.now (g.J.SignatureJudge.answers c.args.judge.now) in
-    let cs = c.args.bundle.now.certificates in
-    let end : c.loop-place.place ≡ length cs = omega arith in
-    Rises-by _ _ _ _ _ _ (ap (asked_below t cs (joined arc_bound cs)) end ∙ sym (asked-is t cs (joined arc_bound cs)) ∙ ap (asked t cs) (sym chain.joins))
-    c.loop-place.invariant.counted
-
-pub returns-else-len-eq0-clause-judged : goal.returns-else-len-eq0-clause-judged
-returns-else-len-eq0-clause-judged g c = λ stream chain.
-    let t = terms_of c.args.anchors.now c.args.moment c.args.purpose.now (g.J.SignatureJudge.answers c.args.judge.now) in
-    let cs = c.args.bundle.now.certificates in
-    let end : c.loop-place.place ≡ length cs = omega arith in
-    trusted_by t c.args.bundle.now.limit cs stream chain (omega arith) (subst (λ n. all_kept_below t cs (joined arc_bound cs) n ≡ true) end c.loop-place.invariant.judged)
+    let breach = c.in_ok-breach.breach in
+    let found = c.in_ok-breach.ensures t.answers s in
+    let until = c.until_of-until.ensures ∙ ap (λ n. until_by n breach) c.len.ensures in
+    let kept = subst (λ n. AreUnsignedKept t cs s n) (sym until) (are_unsigned_kept t cs s breach found) in
+    let refused = subst (λ n. IsFirstRefused t cs s n c.first_refused-refused.result) until (c.first_refused-refused.ensures.judged c.args.moment c.args.purpose.now kept) in
+    Rises-by _ _ _ _ _ _
+    (ap (λ n. asked_up_to t cs s n c.first_refused-refused.result) until
+    ∙ asked_in_all t cs s breach c.first_refused-refused.result found refused
+    ∙ ap (asked t cs) (sym chain.joins))
+    (c.first_refused-refused.ensures.counted c.args.moment c.args.purpose.now kept)

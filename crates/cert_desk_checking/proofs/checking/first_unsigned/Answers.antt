@@ -1,5 +1,62 @@
-use Rattle.cert_desk_checking.proofs.PlaceLaws.{entry_at}
+use Rattle.std.specs.Prelude.{◌==◌}
+use Rattle.std.proofs.Common.{◌+◌, ◌&&◌, ◌||◌, not, List, refl, subst, sym, ◌∙◌, ap, arith}
+use Rattle.x509_cert.specs.Certificates.{PlainExtension}
+use Rattle.x509_cert.specs.Views.{arc_bound, certificate_plain}
+use Rattle.cert_desk_checking.specs.declared.rule.Rule.TheVariants as rules
+use Rattle.cert_desk_checking.specs.Anchors.{terms_of}
+use Rattle.cert_desk_checking.specs.Findings.{IsCount, add_place, found}
+use Rattle.cert_desk_checking.specs.Judging.{are_distinct}
+use Rattle.cert_desk_checking.specs.Paths.{is_self_issued}
+use Rattle.cert_desk_checking.proofs.KeptLaws.{counts-is, first_unsigned_by, keeps_issuing, keeps_known, keeps_serving, keeps_well_formed, keeps_within, tests_say}
+use Rattle.cert_desk_checking.proofs.PathLaws.{IsCount-more, counted_within}
+use Rattle.cert_desk_checking.proofs.PlaceLaws.{entry_at, keeps_at-is}
 use Rattle.cert_desk_checking.proofs.checking.first_unsigned.Goals as goal
 
 pub has_one_algorithm-requires : goal.has_one_algorithm-requires
 has_one_algorithm-requires c = (entry_at _ _ _ _ _ c.get.ensures.entry c.unwrap.ensures).valid
+
+pub counts-counts-requires : goal.counts-counts-requires
+counts-counts-requires c = (entry_at _ _ _ _ _ c.get.ensures.entry c.unwrap.ensures).valid
+
+pub add-requires : goal.add-requires
+add-requires c =
+    let few = counted_within arc_bound c.args.bundle.now.certificates c.args.place in
+    omega (arith, few, c.requires.counted.counted)
+
+pub returns-clause-judged : goal.returns-clause-judged
+returns-clause-judged c = λ answers stream.
+    let t = terms_of c.args.anchors.now c.args.moment c.args.purpose.now answers in
+    let cs = c.args.bundle.now.certificates in
+    let place = c.args.place in
+    let entry = entry_at _ _ _ _ _ c.get.ensures.entry c.unwrap.ensures in
+    let this = certificate_plain c.unwrap.result.certificate.now in
+    let gathered = c.in_ok-findings.ensures ∙ ap (λ (es : List PlainExtension). found arc_bound c.args.purpose.now es) c.extensions_of-extensions.ensures in
+    let last = ap (λ n. (place + 1) == n) c.len-len.ensures in
+    let counted = c.counts-counts.ensures ∙ ap (λ b. not b && not (is_self_issued arc_bound this)) last ∙ sym (counts-is arc_bound cs place this entry.certificate) in
+    let few = counted_within arc_bound cs place in
+    first_unsigned_by _ t cs stream place c.first_broken.result
+    (tests_say _ t cs stream place
+    (c.has_one_algorithm.ensures ∙ sym (keeps_at-is rules.AlgorithmsDiffer t cs stream place this entry.certificate))
+    (c.are_distinct.ensures ∙ ap are_distinct c.extensions_of-extensions.ensures ∙ sym (keeps_at-is rules.DuplicateExtension t cs stream place this entry.certificate))
+    (keeps_well_formed t cs stream place this entry.certificate _ gathered)
+    (keeps_known t cs stream place this entry.certificate _ gathered)
+    (c.is_linked.ensures c.args.moment c.args.purpose.now answers stream)
+    (c.has_begun.ensures ∙ sym (keeps_at-is rules.NotYetValid t cs stream place this entry.certificate))
+    (c.lasts.ensures ∙ sym (keeps_at-is rules.Expired t cs stream place this entry.certificate))
+    (keeps_serving t cs stream place this entry.certificate _ gathered)
+    (c.may_issue.ensures ∙ ap (λ b. b || (c.in_ok-findings.findings.ca && c.in_ok-findings.findings.certifies)) last ∙ keeps_issuing t cs stream place this entry.certificate _ gathered)
+    (c.admits.ensures ∙ keeps_within t cs stream place this entry.certificate _ gathered _ _ counted c.requires.counted (omega (arith, few, c.requires.counted.counted))))
+    c.first_broken.ensures
+
+pub returns-clause-counted : goal.returns-clause-counted
+returns-clause-counted c =
+    let cs = c.args.bundle.now.certificates in
+    let place = c.args.place in
+    let entry = entry_at _ _ _ _ _ c.get.ensures.entry c.unwrap.ensures in
+    let this = certificate_plain c.unwrap.result.certificate.now in
+    let gathered = c.in_ok-findings.ensures ∙ ap (λ (es : List PlainExtension). found arc_bound c.args.purpose.now es) c.extensions_of-extensions.ensures in
+    let last = ap (λ n. (place + 1) == n) c.len-len.ensures in
+    let counted = c.counts-counts.ensures ∙ ap (λ b. not b && not (is_self_issued arc_bound this)) last ∙ sym (counts-is arc_bound cs place this entry.certificate) in
+    subst (λ p. IsCount arc_bound cs (place + 1) p) (sym c.add.ensures ∙ refl)
+    (subst (λ b. IsCount arc_bound cs (place + 1) (add_place c.args.paths.now b c.in_ok-findings.findings.path_len)) (sym counted)
+    (IsCount-more arc_bound c.args.purpose.now cs place this c.args.paths.now _ entry.certificate c.requires.counted (ap (λ f. f.path_len) gathered)))

@@ -1,7 +1,7 @@
 use Rattle.std.proofs.Common.{◌≡◌, List, ℕ, sym, ap, ◌∙◌}
 use Rattle.std.specs.Prelude.{bytes_eq}
 use Rattle.const_oid_identifiers.specs.IdentifierOctets.{identifier_octets}
-use Rattle.cert_desk_checking.specs.Judging.{certificate_extension}
+use Rattle.cert_desk_checking.specs.Weighing.{certificate_extension}
 use Rattle.cert_desk_checking.proofs.ExtensionLaws.{numbered_octets}
 use Rattle.cert_desk_checking.proofs.extensions.is_numbered.Goals as goal
 

@@ -12,7 +12,7 @@ returns-in-Ok-check-clause-found g c =
     let ok = c.in-Ok-check.is in
     let fed = fed_reads g.S.Input.takes g.S.Input.is_ended g.S.Input.failures c.args.stream.now c.read_stream-bundle.new.input bundle bundle.standing
     c.in-Ok-check.checked.verdict _ _ c.read_stream-bundle.ensures.fed
-    (λ e. (let none = sym ok ∙ c.check.ensures.out_of_memory.1 e in absurd cc))
+    (λ e. (let none = sym ok ∙ c.check.ensures.no_memory e in absurd cc))
     (λ e. (let none = sym ok ∙ c.check.ensures.device.1 e in absurd cc))
     c.in-Ok-check.ensures.fault in
     let anchors = map anchor_plain c.deref.result.now in

@@ -1,0 +1,105 @@
+-- What the extensions say by which a chain is judged (RFC 5280 4.2.1.3, 4.2.1.6, 4.2.1.9, 4.2.1.12).
+use Rattle.std.specs.Prelude.{ℕ, List, [], ◌∷◌, Bool, true, false, Option, None, Result, Ok, Err, if◌then◌else◌, ◌&&◌, ◌||◌, ◌==◌, ◌^◌}
+use Rattle.std.specs.Int.RustNames.{bit_and, unsigned_abs}
+use Rattle.std.specs.List.{list_any}
+use Rattle.const_oid_identifiers.specs.Comparing.{owned_eq}
+use Rattle.der_core_head.specs.declared.error.ErrorKind.{ErrorKind}
+use Rattle.der_core_head.specs.declared.tag.Tag.TheVariants as tags
+use Rattle.der_core_head.specs.Grammar.{plain_option, whole_at}
+use Rattle.der_core_head.specs.Leaves.{named}
+use Rattle.der_core_head.specs.Shapes.{Shape, BodyValue, Value, leaf, sequence, sequence_of, tagged}
+use Rattle.x509_cert.specs.Certificates.{PlainExtension, extension_arcs, extension_octets, is_critical}
+use Rattle.x509_cert.specs.Extensions.{basic_constraints_fields, general_name, general_names, object_identifier}
+
+-- arcs below 2.5.29
+abbrev pub certificate_extension : ℕ → List ℕ
+certificate_extension n = 2 ∷ 5 ∷ 29 ∷ n ∷ []
+
+-- KeyUsage ::= BIT STRING { digitalSignature (0), .. keyCertSign (5), .. decipherOnly (8) } (4.2.1.3)
+abbrev pub key_usage : Shape
+key_usage = tagged tags.BitString (leaf (named 9))
+
+-- SubjectAltName ::= GeneralNames (4.2.1.6)
+abbrev pub subject_alt_name : ℕ → Shape
+subject_alt_name bound = general_names bound
+
+-- BasicConstraints ::= SEQUENCE { cA BOOLEAN DEFAULT FALSE, pathLenConstraint INTEGER (0..255) OPTIONAL } (4.2.1.9)
+abbrev pub basic_constraints : Shape
+basic_constraints = sequence basic_constraints_fields
+
+-- ExtKeyUsageSyntax ::= SEQUENCE OF KeyPurposeId (4.2.1.12)
+abbrev pub extended_key_usage : ℕ → Shape
+extended_key_usage bound = sequence_of (object_identifier bound)
+
+-- What an extension says. Neither the bound of arcs nor the profile changes what it is.
+pub data Meaning : Type 0 where
+  uses : ℕ → Meaning  -- of a key: a set of named bits
+  other_names : List (Value (general_name 0)) → Meaning  -- of the subject
+  constraints : Bool → Option ℕ → Meaning  -- whether the subject is an authority, and how long a path below it may be
+  purposes : List (List ℕ) → Meaning  -- of a key: identifiers
+  malformed : Meaning  -- of a kind that is weighed, and not one value of it
+  unweighed : Meaning  -- of another kind
+
+abbrev pub constraints_of : BodyValue basic_constraints_fields → Meaning
+constraints_of v = constraints v.0 (plain_option unsigned_abs v.1.0)
+
+-- what all of the octets spell, if they spell one value
+abbrev pub meaning_of : {P Q : Type 0} → (P → Meaning) → Result (P × Q) ErrorKind → Meaning
+meaning_of says (Ok read) = says read.0
+meaning_of says (Err fault) = malformed
+
+abbrev pub meaning_by : (s : Shape) → (Value s → Meaning) → List ℕ → Meaning
+meaning_by s says octets = meaning_of says (whole_at s octets)
+
+-- the kind is known by the identifier, wherever the extension stands, critical or not
+abbrev pub weigh_octets : ℕ → List ℕ → List ℕ → Meaning
+weigh_octets bound arcs octets =
+    if owned_eq arcs (certificate_extension 15) then meaning_by key_usage uses octets
+    else if owned_eq arcs (certificate_extension 17) then meaning_by (subject_alt_name bound) other_names octets
+    else if owned_eq arcs (certificate_extension 19) then meaning_by basic_constraints constraints_of octets
+    else if owned_eq arcs (certificate_extension 37) then meaning_by (extended_key_usage bound) purposes octets
+    else unweighed
+
+abbrev pub weigh : ℕ → PlainExtension → Meaning
+weigh bound e = weigh_octets bound (extension_arcs e) (extension_octets e)
+
+-- an extension of a weighed kind that isn't one value of it
+abbrev pub is_malformed : Meaning → Bool
+is_malformed malformed = true
+is_malformed _ = false
+
+abbrev pub is_unweighed : Meaning → Bool
+is_unweighed unweighed = true
+is_unweighed _ = false
+
+-- a critical extension of another kind (4.2)
+abbrev pub is_unweighed_critical : ℕ → PlainExtension → Bool
+is_unweighed_critical bound e = is_critical e && is_unweighed (weigh bound e)
+
+-- anyExtendedKeyUsage ::= { extKeyUsage 0 } (4.2.1.12)
+abbrev pub any_purpose : List ℕ
+any_purpose = 2 ∷ 5 ∷ 29 ∷ 37 ∷ 0 ∷ []
+
+-- purposes, where they are listed, name this one, or any (4.2.1.12)
+abbrev pub serves : List ℕ → Meaning → Bool
+serves purpose (purposes listed) = list_any (λ one. owned_eq one purpose || owned_eq one any_purpose) listed
+serves purpose _ = true
+
+-- constraints that make the subject an authority (4.2.1.9)
+abbrev pub is_authority : Meaning → Bool
+is_authority (constraints ca path_length) = ca
+is_authority _ = false
+
+-- whether name i is in a set, the first the lowest bit (X.680 22.2)
+abbrev pub has_bit : ℕ → ℕ → Bool
+has_bit i set = bit_and set (2 ^ i) == 2 ^ i
+
+-- a key's uses, if they are listed, have the signing of certificates: keyCertSign (5) (4.2.1.3)
+abbrev pub may_certify : Meaning → Bool
+may_certify (uses set) = has_bit 5 set
+may_certify _ = true
+
+-- how many counted places may follow (4.2.1.9)
+abbrev pub path_length : Meaning → Option ℕ
+path_length (constraints ca n) = n
+path_length _ = None

@@ -1,0 +1,76 @@
+//! What a certificate's extensions weigh together.
+ghost use Rattle.std.specs.Prelude.{◌≡◌, ◌&&◌, ◌||◌};
+ghost use Rattle.cert_desk_checking.specs.Findings.{add, no_findings, shorter};
+
+use crate::weight::Weight;
+
+/// What is found in a certificate's extensions.
+#[derive(Clone, Copy)]
+pub(crate) struct Findings {
+    /// One of a kind that is weighed isn't one value of it.
+    pub(crate) malformed: bool,
+    /// A critical one is of another kind.
+    pub(crate) unweighed_critical: bool,
+    /// None lists purposes without the one that is asked for.
+    pub(crate) serves: bool,
+    /// One makes the subject an authority.
+    pub(crate) ca: bool,
+    /// None lists uses of the key without the signing of certificates.
+    pub(crate) certifies: bool,
+    /// The least path length.
+    pub(crate) path_len: Option<u8>,
+}
+
+impl Findings {
+    /// What is found in no extensions.
+    pub(crate) fn none() -> Findings
+        ensures { result ≡ no_findings }
+    {
+        Findings {
+            malformed: false,
+            unweighed_critical: false,
+            serves: true,
+            ca: false,
+            certifies: true,
+            path_len: None,
+        }
+    }
+
+    /// What is found with one extension more.
+    pub(crate) fn add(&mut self, critical: bool, weight: Weight)
+        ensures { self.new ≡ add self.old critical weight }
+    {
+        match weight {
+            Weight::Unweighed => {
+                self.unweighed_critical = self.unweighed_critical || critical;
+            }
+            Weight::Malformed => self.malformed = true,
+            Weight::KeyUsage { certifies } => self.certifies = self.certifies && certifies,
+            Weight::AlternativeNames => {}
+            Weight::Constraints { ca, path_len } => {
+                self.ca = self.ca || ca;
+                self.path_len = shorter(self.path_len, path_len);
+            }
+            Weight::Purposes { serves } => self.serves = self.serves && serves,
+        }
+    }
+
+    /// Whether they are those of the last place of a chain, or of an authority whose key may sign
+    /// certificates.
+    pub(crate) fn may_issue(&self, is_last: bool) -> bool
+        ensures { result ≡ (is_last || (self.now.ca && self.now.certifies)) }
+    {
+        is_last || (self.ca && self.certifies)
+    }
+}
+
+// The shorter one of two path lengths, which needn't be there.
+fn shorter(one: Option<u8>, other: Option<u8>) -> Option<u8>
+    ensures { result ≡ shorter one other }
+{
+    match (one, other) {
+        (None, length) => length,
+        (length, None) => length,
+        (Some(one), Some(other)) => Some(if one <= other { one } else { other }),
+    }
+}

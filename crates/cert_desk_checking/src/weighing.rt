@@ -1,0 +1,135 @@
+//! The extensions by which a chain is judged, read (RFC 5280 4.2.1.3, 4.2.1.6, 4.2.1.9, 4.2.1.12).
+ghost use Rattle.std.specs.Prelude.{◌≡◌, ◌≢◌, ℕ, List, IfOk};
+ghost use Rattle.const_oid_identifiers.specs.Comparing.{owned_eq};
+ghost use Rattle.der_core_head.specs.declared.error.ErrorKind.{ErrorKind};
+ghost use Rattle.x509_cert.specs.Views.{arc_bound, extension_plain, extensions_plain};
+ghost use Rattle.cert_desk_checking.specs.Findings.{found, weight_of};
+ghost use Rattle.cert_desk_checking.specs.Weighing.{any_purpose, basic_constraints, constraints_of, extended_key_usage, key_usage, meaning_by, other_names, purposes, serves, subject_alt_name, uses, weigh};
+
+use crate::extensions::{
+    BASIC_CONSTRAINTS, EXT_KEY_USAGE, KEY_USAGE, SUBJECT_ALT_NAME, is_numbered,
+};
+use crate::findings::Findings;
+use crate::weight::Weight;
+use const_oid::ObjectIdentifier;
+use der_core::{Error, ErrorKind, from_der};
+use std::alloc::{AllocError, Global};
+use x509_cert::{BasicConstraints, ExtendedKeyUsage, Extension, KeyUsage, SubjectAltName};
+
+/// What is found in the extensions of a certificate. Each is read once.
+///
+/// # Errors
+/// Want of memory.
+pub(crate) fn findings_of(
+    alloc: Global,
+    extensions: &[Extension],
+    purpose: &ObjectIdentifier<39>,
+) -> Result<Findings, AllocError>
+    ensures { IfOk result (λ findings. findings ≡ found arc_bound purpose.now (extensions_plain extensions.now)) }
+{
+    let mut findings = Findings::none();
+    for extension in extensions {
+        let weight = weigh(alloc, extension, purpose)?;
+        findings.add(extension.critical, weight);
+    }
+    Ok(findings)
+}
+
+// What an extension weighs.
+fn weigh(
+    alloc: Global,
+    extension: &Extension,
+    purpose: &ObjectIdentifier<39>,
+) -> Result<Weight, AllocError>
+    ensures { IfOk result (λ weight. weight ≡ weight_of purpose.now (weigh arc_bound (extension_plain extension.now))) }
+{
+    let octets = extension.extn_value.as_bytes();
+    if is_numbered(extension, KEY_USAGE) {
+        return weigh_key_usage(alloc, octets);
+    }
+    if is_numbered(extension, SUBJECT_ALT_NAME) {
+        return weigh_names(alloc, octets);
+    }
+    if is_numbered(extension, BASIC_CONSTRAINTS) {
+        return weigh_constraints(alloc, octets);
+    }
+    if is_numbered(extension, EXT_KEY_USAGE) {
+        return weigh_purposes(alloc, octets, purpose);
+    }
+    Ok(Weight::Unweighed)
+}
+
+// What a key usage weighs.
+fn weigh_key_usage(alloc: Global, octets: &[u8]) -> Result<Weight, AllocError>
+    ensures { IfOk result (λ weight. (purpose : List ℕ) → weight ≡ weight_of purpose (meaning_by key_usage uses octets.now)) }
+{
+    match from_der::<KeyUsage>(alloc, octets) {
+        Ok(usage) => Ok(Weight::KeyUsage {
+            certifies: usage.key_cert_sign(),
+        }),
+        Err(error) => malformed(error),
+    }
+}
+
+// What other names of the subject weigh.
+fn weigh_names(alloc: Global, octets: &[u8]) -> Result<Weight, AllocError>
+    ensures { IfOk result (λ weight. (purpose : List ℕ) → weight ≡ weight_of purpose (meaning_by (subject_alt_name arc_bound) other_names octets.now)) }
+{
+    match from_der::<SubjectAltName>(alloc, octets) {
+        Ok(_) => Ok(Weight::AlternativeNames),
+        Err(error) => malformed(error),
+    }
+}
+
+// What basic constraints weigh.
+fn weigh_constraints(alloc: Global, octets: &[u8]) -> Result<Weight, AllocError>
+    ensures { IfOk result (λ weight. (purpose : List ℕ) → weight ≡ weight_of purpose (meaning_by basic_constraints constraints_of octets.now)) }
+{
+    match from_der::<BasicConstraints>(alloc, octets) {
+        Ok(constraints) => Ok(Weight::Constraints {
+            ca: constraints.ca,
+            path_len: constraints.path_len_constraint,
+        }),
+        Err(error) => malformed(error),
+    }
+}
+
+// What purposes weigh.
+fn weigh_purposes(
+    alloc: Global,
+    octets: &[u8],
+    purpose: &ObjectIdentifier<39>,
+) -> Result<Weight, AllocError>
+    ensures { IfOk result (λ weight. weight ≡ weight_of purpose.now (meaning_by (extended_key_usage arc_bound) purposes octets.now)) }
+{
+    match from_der::<ExtendedKeyUsage>(alloc, octets) {
+        Ok(usage) => Ok(Weight::Purposes {
+            serves: is_listed(purpose, usage.0.as_slice()),
+        }),
+        Err(error) => malformed(error),
+    }
+}
+
+// Whether purposes name this one, or any.
+fn is_listed(purpose: &ObjectIdentifier<39>, listed: &[ObjectIdentifier<39>]) -> bool
+    ensures { result ≡ serves purpose.now (purposes listed.now) }
+{
+    listed.iter().any(|one| *one == *purpose || is_any(one))
+}
+
+// Whether it is the purpose that stands for any.
+fn is_any(purpose: &ObjectIdentifier<39>) -> bool
+    ensures { result ≡ owned_eq purpose.now any_purpose }
+{
+    purpose.as_bytes() == [0x55, 0x1d, 0x25, 0x00].as_slice()
+}
+
+// An extension that was refused is malformed, unless memory was wanting.
+fn malformed(error: Error) -> Result<Weight, AllocError>
+    ensures { IfOk result (λ weight. (weight ≡ Weight.Malformed) × (error.kind ≢ ErrorKind.OutOfMemory)) }
+{
+    match error.kind {
+        ErrorKind::OutOfMemory => Err(AllocError),
+        _ => Ok(Weight::Malformed),
+    }
+}
