@@ -62,7 +62,22 @@ DATES = validity("020101120100Z", "301231083000Z")
 ANCHOR = certificate(1, b"anchor key", b"anchor key", DATES)
 TRUSTED = certificate(2, b"server key", b"anchor key", DATES)
 
+
+
+def named_key(key: bytes, name: bytes | None, *limits: bytes) -> bytes:
+    """A trust anchor that is told by its key: taInfo [2] EXPLICIT TrustAnchorInfo (RFC 5914 2)."""
+    path = b"" if name is None else tlv(0x30, name + b"".join(limits))
+    key_info = tlv(0x30, ALGORITHM + bit_string(key))
+    return tlv(0xA2, tlv(0x30, key_info + tlv(0x04, b"") + path))
+
+
 (HERE / "anchors.der").write_bytes(ANCHOR)
+# The same key with the empty name, without a certificate.
+(HERE / "key.der").write_bytes(named_key(b"anchor key", EMPTY_NAME))
+# The anchor, and behind it a key without a name.
+(HERE / "nameless.der").write_bytes(ANCHOR + named_key(b"anchor key", None))
+# A key from which a path may have no further authority (pathLenConstraint [4], 0).
+(HERE / "limited.der").write_bytes(named_key(b"anchor key", EMPTY_NAME, b"\x84\x01\x00"))
 # One certificate, signed by the anchor's key.
 (HERE / "trusted.der").write_bytes(TRUSTED)
 # The same with another serial number in the signed part, which the signature isn't over.

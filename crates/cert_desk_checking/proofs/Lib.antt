@@ -24,3 +24,5 @@ pub mod DigestOctets
 pub mod DigestLaws
 pub mod ArgumentLaws
 pub mod RunLaws
+pub mod AnchorLaws
+pub mod OneAnchorFile

@@ -1,11 +1,5 @@
--- Anchors of certificates.
-use Rattle.std.proofs.Common.{◌≡◌, ℕ, ◌+◌, List, [], ◌∷◌, ◌++◌, Result, Ok, Err, OnOk, IfErr, take, map, Some, slice_get, refl, subst, sym, ap, ◌∙◌}
-use Rattle.std.proofs.lemmas.List.{take_more, map-append}
-use Rattle.std.proofs.lemmas.Option.{slice_get_within, get_or_from_slice_get}
-use Rattle.x509_cert.specs.Certificates.{PlainCertificate, subject, public_key}
-use Rattle.cert_desk_checking.specs.declared.anchor.Anchor.{Anchor}
-use Rattle.cert_desk_checking.specs.Anchors.{anchor_plain}
-use Rattle.cert_desk_checking.specs.Judging.{PlainAnchor}
+-- What a run reads.
+use Rattle.std.proofs.Common.{◌≡◌, ℕ, List, [], Result, Ok, Err, OnOk, IfErr, refl, subst, sym}
 use Rattle.x509_cert.specs.Views.{arc_bound}
 use Rattle.cert_desk_checking.specs.declared.checked.Verdict.{Verdict}
 use Rattle.cert_desk_checking.specs.declared.checked.Verdict.TheVariants as verdicts
@@ -19,25 +13,7 @@ use Rattle.cert_desk_checking.specs.declared.bundle_error.ReadError.{ReadError}
 use Rattle.cert_desk_checking.specs.declared.bundle_error.ReadError.TheVariants as read_errors
 use Rattle.cert_desk_checking.specs.Reading.{AtEnd, Stayed, FedUnder, IsFed}
 use Rattle.cert_desk_checking.specs.Steps.{Takes, RefusesInput}
-use Rattle.cert_desk_checking.specs.Runs.{anchor_of, IsReadFor}
-
-pub anchor_same : (p : PlainAnchor) (c : PlainCertificate) → p.name ≡ subject c → p.key ≡ public_key c → p ≡ anchor_of c
-anchor_same p c e f =
-    let named : PlainAnchor = record { name = subject c; key = p.key } in
-    let first : p ≡ named = ap (λ n. record { name = n; key = p.key }) e in
-    let second : named ≡ anchor_of c = ap (λ k. record { name = subject c; key = k }) f in
-    first ∙ second
-
--- one anchor more
-pub anchors-push : (anchors : List Anchor) (anchor : Anchor) (cs : List PlainCertificate) (place : ℕ) (c : PlainCertificate) → slice_get cs place ≡ Some c
-    → map anchor_plain anchors ≡ map anchor_of (take place cs) → anchor_plain anchor ≡ anchor_of c
-    → map anchor_plain (anchors ++ anchor ∷ []) ≡ map anchor_of (take (place + 1) cs)
-anchors-push anchors anchor cs place c is before same =
-    map-append anchor_plain anchors (anchor ∷ [])
-    ∙ ap (λ w. w ++ anchor_plain anchor ∷ []) before
-    ∙ ap (λ p. map anchor_of (take place cs) ++ p ∷ []) same
-    ∙ sym (ap (map anchor_of) (take_more cs place c (slice_get_within cs place c is) ∙ ap (λ d. take place cs ++ d ∷ []) (get_or_from_slice_get cs place c c is))
-    ∙ map-append anchor_of (take place cs) (c ∷ []))
+use Rattle.cert_desk_checking.specs.Runs.{IsReadFor}
 
 at_end : (kind : FaultKind) (ended : Type 0) → ended → AtEnd kind ended
 at_end kinds.NoCertificate ended h = tt

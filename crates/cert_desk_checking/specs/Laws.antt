@@ -1,12 +1,14 @@
 -- What holds of every stream.
-use Rattle.std.specs.Prelude.{◌≡◌, ◌≢◌, ℕ, List, ◌++◌}
+use Rattle.std.specs.Prelude.{◌≡◌, ◌≢◌, ℕ, List, ◌++◌, Result}
 use Rattle.x509_cert.specs.Certificates.{PlainCertificate}
 use Rattle.cert_desk_checking.specs.declared.checked.Verdict.{Verdict}
 use Rattle.cert_desk_checking.specs.declared.fault_kind.FaultKind.{FaultKind}
 use Rattle.cert_desk_checking.specs.declared.fault_kind.FaultKind.TheVariants as kinds
+use Rattle.cert_desk_checking.specs.declared.status.AnchorFault.{AnchorFault}
+use Rattle.cert_desk_checking.specs.AnchorFiles.{SaysAsFile}
 use Rattle.cert_desk_checking.specs.Chains.{Chain}
 use Rattle.cert_desk_checking.specs.Faults.{StreamFault}
-use Rattle.cert_desk_checking.specs.Judging.{Terms}
+use Rattle.cert_desk_checking.specs.Judging.{PlainAnchor, Terms}
 use Rattle.cert_desk_checking.specs.Verdicts.{IsVerdict}
 
 -- No stream joins two lists of certificates.
@@ -38,3 +40,7 @@ abbrev pub HasOneVerdict : Type 0
 HasOneVerdict =
     (t : Terms) (limit : ℕ) (stream : List ℕ) (verdict other : Verdict)
     → IsVerdict t limit stream verdict → IsVerdict t limit stream other → verdict ≡ other
+
+-- No file of anchors says two things.
+abbrev pub HasOneAnchorFile : Type 0
+HasOneAnchorFile = (octets : List ℕ) (said other : Result (List PlainAnchor) (ℕ × AnchorFault)) → SaysAsFile octets said → SaysAsFile octets other → said ≡ other

@@ -13,6 +13,8 @@ pub mod Locations
 pub mod Steps
 pub mod Laws
 pub mod Anchors
+pub mod AnchorFiles
+pub mod AnchorReading
 pub mod Places
 pub mod Breaches
 pub mod Digests

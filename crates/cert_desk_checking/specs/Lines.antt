@@ -4,6 +4,8 @@ use Rattle.cert_desk_checking.specs.declared.checked.Verdict.{Verdict}
 use Rattle.cert_desk_checking.specs.declared.checked.Verdict.TheVariants as verdicts
 use Rattle.cert_desk_checking.specs.declared.fault_kind.FaultKind.{FaultKind}
 use Rattle.cert_desk_checking.specs.declared.fault_kind.FaultKind.TheVariants as kinds
+use Rattle.cert_desk_checking.specs.declared.status.AnchorFault.{AnchorFault}
+use Rattle.cert_desk_checking.specs.declared.status.AnchorFault.TheVariants as faults
 use Rattle.cert_desk_checking.specs.declared.rule.Rule.{Rule}
 use Rattle.cert_desk_checking.specs.declared.rule.Rule.TheVariants as rules
 
@@ -36,9 +38,14 @@ line_of (verdicts.Refused place rule) calls = codes "refused " ++ decimal place 
 line_of (verdicts.StreamFault place offset kind) calls = codes "fault " ++ decimal place ++ codes " " ++ decimal offset ++ codes " " ++ kind_name kind ++ codes "\n"
 line_of verdicts.Empty calls = codes "empty\n"
 
--- what is said of anchors of which the one that begins there is faulty
-abbrev pub anchors_line : ℕ → List ℕ
-anchors_line offset = codes "anchors: malformed at " ++ decimal offset ++ codes "\n"
+abbrev pub fault_name : AnchorFault → List ℕ
+fault_name faults.Malformed = codes "malformed"
+fault_name faults.NoName = codes "no name"
+fault_name faults.PathControls = codes "path controls"
+
+-- what is said of anchors of which the one that begins there has this fault
+abbrev pub anchors_line : ℕ → AnchorFault → List ℕ
+anchors_line offset fault = codes "anchors: " ++ fault_name fault ++ codes " at " ++ decimal offset ++ codes "\n"
 
 abbrev pub device_line : List ℕ
 device_line = codes "device\n"

@@ -1,53 +1,31 @@
 -- What a run finds in its inputs, and what it tells.
-use Rattle.std.specs.Prelude.{◌≡◌, ℕ, ◌-◌, ◌<◌, ◌^◌, ◌⊎◌, List, map, length}
+use Rattle.std.specs.Prelude.{◌≡◌, ℕ, ◌<◌, ◌^◌, ◌⊎◌, List, length}
 use Rattle.cert_desk_io.specs.Devices.{Rose, GivesBeginning}
-use Rattle.x509_cert.specs.Certificates.{PlainCertificate, subject, public_key}
 use Rattle.x509_cert.specs.Views.{arc_bound}
 use Rattle.cert_desk_checking.specs.declared.checked.Verdict.{Verdict}
 use Rattle.cert_desk_checking.specs.declared.checked.Verdict.TheVariants as verdicts
-use Rattle.cert_desk_checking.specs.declared.fault_kind.FaultKind.{FaultKind}
+use Rattle.cert_desk_checking.specs.declared.status.AnchorFault.{AnchorFault}
+use Rattle.cert_desk_checking.specs.declared.status.AnchorFault.TheVariants as faults
 use Rattle.cert_desk_checking.specs.declared.status.Status.{Status}
 use Rattle.cert_desk_checking.specs.declared.status.Status.TheVariants as statuses
 use Rattle.cert_desk_checking.specs.declared.status.Outcome.{Outcome}
 use Rattle.cert_desk_checking.specs.declared.status.Outcome.TheVariants as outcomes
-use Rattle.cert_desk_checking.specs.Chains.{Chain, joined}
-use Rattle.cert_desk_checking.specs.Faults.{StreamFault}
+use Rattle.cert_desk_checking.specs.AnchorFiles.{IsAnchorFile, HasFirstFault}
 use Rattle.cert_desk_checking.specs.Judging.{PlainAnchor, Answers, Terms}
 use Rattle.cert_desk_checking.specs.Lines.{line_of, anchors_line, device_line, memory_line}
 use Rattle.cert_desk_checking.specs.Reading.{AtEnd, Stayed}
 use Rattle.cert_desk_checking.specs.Verdicts.{IsVerdict, IsCounted}
 
--- the most octets of anchors, and of one of their certificates
-abbrev pub most_octets : ℕ
-most_octets = 4294967295
-
--- the anchor that a certificate gives
-abbrev pub anchor_of : PlainCertificate → PlainAnchor
-anchor_of c = record { name = subject c; key = public_key c }
-
--- These octets join certificates that give these anchors.
-pub record AreAnchors (octets : List ℕ) (anchors : List PlainAnchor) : Type 0 where
-  pub certificates : List PlainCertificate
-  pub chain : Chain arc_bound most_octets certificates octets
-  pub short : length octets < 2 ^ 32
-  pub are : anchors ≡ map anchor_of certificates
-
 -- An input gave these anchors, to its end, and no read failed.
 abbrev pub HasAnchors : {A : Type 0} → (A → List ℕ → A → Type 0) → (A → Type 0) → (A → ℕ) → A → A → List PlainAnchor → Type 0
 HasAnchors takes is_ended failures old new anchors =
-    (octets : List ℕ) × takes old octets new × AreAnchors octets anchors × is_ended new × Stayed (failures old) (failures new)
+    (octets : List ℕ) × takes old octets new × (length octets < 2 ^ 32) × IsAnchorFile octets anchors × is_ended new × Stayed (failures old) (failures new)
 
--- The certificate that begins at this offset has this fault.
-pub record AnchorsFault (octets : List ℕ) (offset : ℕ) (kind : FaultKind) : Type 0 where
-  pub certificates : List PlainCertificate
-  pub fault : StreamFault arc_bound most_octets octets certificates kind
-  pub offset_is : offset ≡ length (joined arc_bound certificates)
-
--- A certificate is faulty, and where it breaks off the input has ended; or there are more octets than anchors may have, and
--- the offset is 0.
-abbrev pub AreMalformed : List ℕ → ℕ → Type 0 → Type 0
-AreMalformed octets offset ended =
-    ((kind : FaultKind) × AnchorsFault octets offset kind × AtEnd kind ended) ⊎ ((2 ^ 32 - 1 < length octets) × (offset ≡ 0))
+-- One of the anchors is faulty, and the input has ended; or there is one octet more than anchors may have, and no more was taken.
+abbrev pub AreFaulty : List ℕ → ℕ → AnchorFault → Type 0 → Type 0
+AreFaulty octets offset fault ended =
+    ((length octets < 2 ^ 32) × HasFirstFault octets offset fault × ended)
+    ⊎ ((length octets ≡ 2 ^ 32) × (offset ≡ 0) × (fault ≡ faults.Malformed))
 
 -- what has to be read for a verdict: to the end, but for a fault that is told before
 abbrev pub IsReadFor : Verdict → Type 0 → Type 0
@@ -59,8 +37,8 @@ IsReadFor verdicts.Empty ended = ended
 -- why an input gave no anchors
 abbrev pub IsNoAnchors : {A : Type 0} → (A → List ℕ → A → Type 0) → (A → Type 0) → (A → ℕ) → A → A → Outcome → Type 0
 IsNoAnchors takes is_ended failures old new (outcomes.Checked checked) = ⊥
-IsNoAnchors takes is_ended failures old new (outcomes.BadAnchors offset) =
-    (octets : List ℕ) × takes old octets new × AreMalformed octets offset (is_ended new) × Stayed (failures old) (failures new)
+IsNoAnchors takes is_ended failures old new (outcomes.BadAnchors offset fault) =
+    (octets : List ℕ) × takes old octets new × AreFaulty octets offset fault (is_ended new) × Stayed (failures old) (failures new)
 IsNoAnchors takes is_ended failures old new outcomes.Device = Rose (failures old) (failures new)
 IsNoAnchors takes is_ended failures old new outcomes.OutOfMemory = Stayed (failures old) (failures new)
 
@@ -86,8 +64,8 @@ IsFound gives_anchors anchors_ended anchors_failures gives_stream stream_ended s
     × gives_stream old_stream stream new_stream × IsReadFor checked.verdict (stream_ended new_stream) × Stayed (stream_failures old_stream) (stream_failures new_stream)
     × IsVerdict (run_terms anchors moment purpose (answers old_judge)) limit stream checked.verdict
     × IsCounted (run_terms anchors moment purpose (answers old_judge)) limit stream checked (questions old_judge) (questions new_judge)
-IsFound gives_anchors anchors_ended anchors_failures gives_stream stream_ended stream_failures answers questions old_anchors new_anchors old_stream new_stream old_judge new_judge moment purpose limit (outcomes.BadAnchors offset) =
-    IsNoAnchors gives_anchors anchors_ended anchors_failures old_anchors new_anchors (outcomes.BadAnchors offset)
+IsFound gives_anchors anchors_ended anchors_failures gives_stream stream_ended stream_failures answers questions old_anchors new_anchors old_stream new_stream old_judge new_judge moment purpose limit (outcomes.BadAnchors offset fault) =
+    IsNoAnchors gives_anchors anchors_ended anchors_failures old_anchors new_anchors (outcomes.BadAnchors offset fault)
     × (new_stream ≡ old_stream) × (new_judge ≡ old_judge)
 IsFound gives_anchors anchors_ended anchors_failures gives_stream stream_ended stream_failures answers questions old_anchors new_anchors old_stream new_stream old_judge new_judge moment purpose limit outcomes.Device =
     ((Rose (anchors_failures old_anchors) (anchors_failures new_anchors) × (new_stream ≡ old_stream))
@@ -128,8 +106,8 @@ abbrev pub IsTold : {O E : Type 0} → (O → List ℕ → O → Type 0) → (O 
 IsTold gives_out out_failures gives_err err_failures old_out old_err new_out new_err (outcomes.Checked checked) answer =
     IsAnswer gives_out out_failures gives_err err_failures old_out old_err (line_of checked.verdict checked.calls) (status_of checked.verdict) new_out new_err answer
     ⊎ IsMemory gives_err err_failures old_out old_err new_out new_err answer
-IsTold gives_out out_failures gives_err err_failures old_out old_err new_out new_err (outcomes.BadAnchors offset) answer =
-    ((new_out ≡ old_out) × IsComplaint gives_err err_failures old_err (anchors_line offset) statuses.Arguments new_err answer)
+IsTold gives_out out_failures gives_err err_failures old_out old_err new_out new_err (outcomes.BadAnchors offset fault) answer =
+    ((new_out ≡ old_out) × IsComplaint gives_err err_failures old_err (anchors_line offset fault) statuses.Arguments new_err answer)
     ⊎ IsMemory gives_err err_failures old_out old_err new_out new_err answer
 IsTold gives_out out_failures gives_err err_failures old_out old_err new_out new_err outcomes.Device answer =
     (new_out ≡ old_out) × (answer ≡ statuses.Device) × IsTried gives_err err_failures old_err device_line new_err

@@ -1,6 +1,12 @@
 //! What a chain may rest on.
+ghost use Rattle.std.specs.Prelude.{◌≡◌, ◌≢◌, Ok, Err, IfOk, IfErr};
+ghost use Rattle.x509_cert.specs.Views.{name_plain, key_plain};
+ghost use Rattle.x509_cert.specs.Anchors.{cert_path_controls_plain, trust_anchor_plain};
+ghost use Rattle.cert_desk_checking.specs.Anchors.{anchor_plain, has_only_name, given_by};
 
-use x509_cert::{Name, SubjectPublicKeyInfo};
+use crate::anchor_error::AnchorError;
+use std::alloc::Global;
+use x509_cert::{CertPathControls, Name, Raw, SubjectPublicKeyInfo, TrustAnchorChoice};
 
 /// A name and a key that are trusted without a certificate.
 #[derive(Debug, Drop)]
@@ -11,16 +17,46 @@ pub struct Anchor {
 
 #[tactic(auto, unfolding(crate::specs::Anchors::anchor_plain))]
 impl Anchor {
-    ghost use Rattle.std.specs.Prelude.{◌≡◌};
-    ghost use Rattle.x509_cert.specs.Views.{name_plain, key_plain};
-    ghost use Rattle.cert_desk_checking.specs.Anchors.{anchor_plain};
-
     /// An anchor of this name and this key.
     pub fn new(name: Name, key: SubjectPublicKeyInfo) -> Anchor
         ensures name { (anchor_plain result).name ≡ name_plain name }
         ensures key { (anchor_plain result).key ≡ key_plain key }
     {
         Anchor { name, key }
+    }
+
+    /// The anchor that a trust anchor gives (RFC 5914 2): the subject and the key of a certificate, or
+    /// of a signed part alone, or a key with its name. What else stands there isn't looked at.
+    ///
+    /// # Errors
+    ///
+    /// For a trust anchor that is told by its key `NoName` without a name, and `PathControls` where
+    /// a path from it must meet more; `OutOfMemory` for any, since name and key are copied.
+    pub fn from_choice(
+        alloc: Global,
+        choice: &TrustAnchorChoice<Raw>,
+    ) -> Result<Anchor, AnchorError>
+        ensures given { IfOk result (λ anchor. given_by (trust_anchor_plain choice.now) ≡ Ok (anchor_plain anchor)) }
+        ensures refused { IfErr result (λ error. error ≢ AnchorError.OutOfMemory → given_by (trust_anchor_plain choice.now) ≡ Err error) }
+    {
+        match choice {
+            TrustAnchorChoice::Certificate(certificate) => {
+                let signed = certificate.tbs_certificate();
+                copied(alloc, signed.subject(), signed.subject_public_key_info())
+            }
+            TrustAnchorChoice::TbsCertificate(signed) => {
+                copied(alloc, signed.subject(), signed.subject_public_key_info())
+            }
+            TrustAnchorChoice::TaInfo(info) => {
+                let Some(controls) = &info.cert_path else {
+                    return Err(AnchorError::NoName);
+                };
+                if !has_only_name(controls) {
+                    return Err(AnchorError::PathControls);
+                }
+                copied(alloc, &controls.ta_name, &info.pub_key)
+            }
+        }
     }
 
     /// The name. The first certificate of a chain names it as its issuer.
@@ -36,4 +72,26 @@ impl Anchor {
     {
         &self.key
     }
+}
+
+// Whether nothing but the name stands in what a path must meet.
+fn has_only_name(controls: &CertPathControls<Raw>) -> bool
+    ensures { result ≡ has_only_name (cert_path_controls_plain controls.now) }
+{
+    controls.certificate.is_none()
+        && controls.policy_set.is_none()
+        && controls.policy_flags.is_none()
+        && controls.name_constr.is_none()
+        && controls.path_len_constraint.is_none()
+}
+
+// An anchor of a copy of the name and of the key.
+#[tactic(auto, unfolding(crate::specs::Anchors::anchor_plain))]
+fn copied(alloc: Global, name: &Name, key: &SubjectPublicKeyInfo) -> Result<Anchor, AnchorError>
+    ensures copied { IfOk result (λ anchor. anchor_plain anchor ≡ record { name = name_plain name.now; key = key_plain key.now }) }
+    ensures refused { IfErr result (λ error. error ≡ AnchorError.OutOfMemory) }
+{
+    let name = name.clone(alloc)?;
+    let key = key.clone(alloc)?;
+    Ok(Anchor::new(name, key))
 }

@@ -17,7 +17,7 @@ const MOST_LIMIT: u64 = 0xffff_ffff;
 /// The arguments of `check`.
 #[derive(Clone, Copy)]
 pub struct Arguments<'a> {
-    /// The file of the anchors: joined certificates.
+    /// The file of the anchors: joined trust anchors.
     pub anchors: &'a str,
     /// The file of the stream.
     pub stream: &'a str,

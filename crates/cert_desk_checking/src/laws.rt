@@ -1,5 +1,5 @@
-//! Laws of streams. Each function does nothing: its contract is the law.
-ghost use Rattle.cert_desk_checking.specs.Laws.{HasOneChain, FaultHasNoChain, HasOneFault, FaultStays, HasOneVerdict};
+//! Laws of streams and of files of anchors. Each function does nothing: its contract is the law.
+ghost use Rattle.cert_desk_checking.specs.Laws.{HasOneChain, FaultHasNoChain, HasOneFault, FaultStays, HasOneVerdict, HasOneAnchorFile};
 
 /// No stream joins two lists of certificates.
 pub fn one_chain()
@@ -25,4 +25,9 @@ pub fn fault_stays()
 /// No stream has two verdicts under the same terms.
 pub fn one_verdict()
     ensures { HasOneVerdict }
+{}
+
+/// No file of anchors gives two lists of anchors, or has two first faults, or both.
+pub fn one_anchor_file()
+    ensures { HasOneAnchorFile }
 {}

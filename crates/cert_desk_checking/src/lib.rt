@@ -2,6 +2,8 @@
 #![tactic(auto)]
 
 mod anchor;
+mod anchor_error;
+mod anchor_files;
 mod arguments;
 mod bundle;
 mod bundle_error;
@@ -12,7 +14,6 @@ mod entry;
 mod extensions;
 mod fault_kind;
 mod findings;
-mod front;
 mod kept_rules;
 pub mod laws;
 mod lines;
@@ -27,11 +28,13 @@ mod weighing;
 mod weight;
 
 pub use anchor::Anchor;
+pub use anchor_error::AnchorError;
 pub use arguments::{Arguments, USAGE};
 pub use bundle::Bundle;
 pub use bundle_error::{BundleError, ReadError};
 pub use cert_desk_io::{
-    DeviceError, FromRead, Input, MemoryInput, MemoryOutput, Output, ToWrite, write_all,
+    DeviceError, FromRead, Input, MemoryInput, MemoryOutput, Output, ReadAllError, ToWrite,
+    read_all, write_all,
 };
 pub use checked::{CheckError, Checked, Verdict};
 pub use checking::check;
@@ -45,4 +48,5 @@ pub use standing::Standing;
 pub use status::Status;
 pub use x509_cert::{
     AlgorithmIdentifier, BitString, CertificateInner, Raw, SubjectPublicKeyInfo, Time,
+    TrustAnchorChoice,
 };

@@ -1,10 +1,11 @@
 //! The texts of a run.
 ghost use Rattle.std.specs.Prelude.{◌≡◌, IfOk, Some, string_bytes};
-ghost use Rattle.cert_desk_checking.specs.Lines.{kind_name, rule_name, line_of, anchors_line};
+ghost use Rattle.cert_desk_checking.specs.Lines.{kind_name, rule_name, fault_name, line_of, anchors_line};
 
 use crate::checked::{Checked, Verdict};
 use crate::fault_kind::FaultKind;
 use crate::rule::Rule;
+use crate::status::AnchorFault;
 use std::alloc::{AllocError, Global};
 use std::fmt;
 
@@ -46,6 +47,19 @@ impl fmt::Display for Rule {
     }
 }
 
+impl fmt::Display for AnchorFault {
+    ghost output = { λ fault. Some (fault_name fault) };
+
+    fn fmt<W: fmt::Write>(&self, f: &mut fmt::Formatter<W>) -> fmt::Result {
+        let name = match self {
+            AnchorFault::Malformed => "malformed",
+            AnchorFault::NoName => "no name",
+            AnchorFault::PathControls => "path controls",
+        };
+        f.write_str(name)
+    }
+}
+
 // What is said of a stream.
 pub(crate) fn verdict_line(alloc: Global, checked: Checked) -> Result<String, AllocError>
     ensures { IfOk result (λ line. string_bytes line ≡ line_of checked.verdict checked.calls) }
@@ -65,9 +79,13 @@ pub(crate) fn verdict_line(alloc: Global, checked: Checked) -> Result<String, Al
     }
 }
 
-// What is said of anchors of which the one that begins at this offset is faulty.
-pub(crate) fn malformed_line(alloc: Global, offset: u64) -> Result<String, AllocError>
-    ensures { IfOk result (λ line. string_bytes line ≡ anchors_line offset) }
+// What is said of anchors of which the one that begins at this offset has this fault.
+pub(crate) fn anchors_line(
+    alloc: Global,
+    offset: u64,
+    fault: AnchorFault,
+) -> Result<String, AllocError>
+    ensures { IfOk result (λ line. string_bytes line ≡ anchors_line offset fault) }
 {
-    format!(in alloc; "anchors: malformed at {offset}\n")
+    format!(in alloc; "anchors: {fault} at {offset}\n")
 }

@@ -1,26 +1,23 @@
 //! A whole run, over any inputs and outputs.
 ghost use Rattle.std.specs.Prelude.{◌≡◌, ◌≢◌, ℕ, ◌<◌, ◌≤◌, List, map, IfOk, IfErr};
+ghost use Rattle.cert_desk_checking.specs.declared.standing.Standing.{Standing};
 ghost use Rattle.cert_desk_checking.specs.declared.status.Outcome.{Outcome};
 ghost use Rattle.cert_desk_checking.specs.Anchors.{anchor_plain, purpose_plain};
 ghost use Rattle.cert_desk_checking.specs.Lines.{device_line};
 ghost use Rattle.cert_desk_checking.specs.Reading.{IsFed};
-ghost use Rattle.cert_desk_checking.specs.Runs.{anchor_of, HasAnchors, IsNoAnchors, IsFound, IsTried, IsComplaint, IsAnswer, IsTold, status_of};
+ghost use Rattle.cert_desk_checking.specs.Runs.{HasAnchors, IsNoAnchors, IsFound, IsTried, IsComplaint, IsAnswer, IsTold, status_of};
 
 use crate::anchor::Anchor;
+use crate::anchor_files::anchors_in;
 use crate::bundle::Bundle;
 use crate::checked::{CheckError, Checked, Verdict};
 use crate::checking::check;
-use crate::front::Front;
-use crate::lines::{malformed_line, verdict_line};
+use crate::lines::{anchors_line, verdict_line};
 use crate::signature_judge::SignatureJudge;
-use crate::standing::Standing;
-use crate::status::{Outcome, Status};
-use cert_desk_io::{Input, Output, write_all};
+use crate::status::{AnchorFault, Outcome, Status};
+use cert_desk_io::{Input, Output, ReadAllError, read_all, write_all};
 use const_oid::ObjectIdentifier;
-use std::alloc::{AllocError, Global};
-
-// How many octets anchors don't have.
-const TOO_MANY: u64 = 4294967296;
+use std::alloc::Global;
 
 // A bundle that was fed what an input gives.
 fn read_stream<I: Input>(alloc: Global, limit: u32, input: &mut I) -> Bundle
@@ -34,52 +31,29 @@ fn read_stream<I: Input>(alloc: Global, limit: u32, input: &mut I) -> Bundle
     bundle
 }
 
-// The subject and the key of each certificate.
-fn anchors_of(alloc: Global, bundle: &Bundle) -> Result<Vec<Anchor>, AllocError>
-    ensures { IfOk result (λ anchors. map anchor_plain anchors.items ≡ map anchor_of bundle.now.certificates) }
-{
-    let mut anchors = Vec::new(alloc);
-    for place in 0..bundle.len() {
-        let signed = bundle.get(place).unwrap().certificate.tbs_certificate();
-        let name = signed.subject().clone(alloc)?;
-        let key = signed.subject_public_key_info().clone(alloc)?;
-        anchors.push(Anchor::new(name, key))?;
-    }
-    Ok(anchors)
-}
-
-// The anchors that joined certificates give, or why there are none.
+// The anchors that an input gives, or why there are none.
 fn read_anchors<A: Input>(alloc: Global, input: &mut A) -> Result<Vec<Anchor>, Outcome>
     ensures read { IfOk result (λ anchors. HasAnchors A.takes A.is_ended A.failures input.old input.new (map anchor_plain anchors.items)) }
     ensures stopped { IfErr result (λ outcome. IsNoAnchors A.takes A.is_ended A.failures input.old input.new outcome) }
 {
-    let mut front = Front {
-        input,
-        left: TOO_MANY,
-        has_ended: false,
+    let octets = match read_all(alloc, input, u32::MAX) {
+        Ok(octets) => octets,
+        Err(ReadAllError::TooMuch) => {
+            return Err(Outcome::BadAnchors {
+                offset: 0,
+                fault: AnchorFault::Malformed,
+            });
+        }
+        Err(ReadAllError::Device) => return Err(Outcome::Device),
+        Err(ReadAllError::OutOfMemory) => return Err(Outcome::OutOfMemory),
     };
-    let bundle = read_stream(alloc, u32::MAX, &mut front);
-    let is_long = front.left == 0;
-    match bundle.standing() {
-        Standing::NoMemory => return Err(Outcome::OutOfMemory),
-        Standing::NoDevice => return Err(Outcome::Device),
-        Standing::Open | Standing::Ended | Standing::Faulted(_) => {}
-    }
-    if is_long {
-        return Err(Outcome::BadAnchors { offset: 0 });
-    }
-    if let Standing::Faulted(_) = bundle.standing() {
-        return Err(Outcome::BadAnchors {
-            offset: bundle.end_offset(),
-        });
-    }
-    match anchors_of(alloc, &bundle) {
+    match anchors_in(alloc, octets.as_slice()) {
         Ok(anchors) => Ok(anchors),
-        Err(_) => Err(Outcome::OutOfMemory),
+        Err(outcome) => Err(outcome),
     }
 }
 
-// What is found in the inputs. The stream isn't read where the anchors are malformed.
+// What is found in the inputs. The stream isn't read where the anchors are faulty.
 fn find_outcome<A: Input, S: Input, J: SignatureJudge>(
     alloc: Global,
     anchors: &mut A,
@@ -155,7 +129,7 @@ fn tell<O: Output, E: Output>(alloc: Global, outcome: Outcome, out: &mut O, err:
             Ok(line) => answer(out, err, line.as_bytes(), status_of(checked.verdict)),
             Err(_) => complain(err, b"memory\n", Status::Memory),
         },
-        Outcome::BadAnchors { offset } => match malformed_line(alloc, offset) {
+        Outcome::BadAnchors { offset, fault } => match anchors_line(alloc, offset, fault) {
             Ok(line) => complain(err, line.as_bytes(), Status::Arguments),
             Err(_) => complain(err, b"memory\n", Status::Memory),
         },
@@ -167,13 +141,15 @@ fn tell<O: Output, E: Output>(alloc: Global, outcome: Outcome, out: &mut O, err:
 /// Judges the stream of one input under the anchors of another, tells the verdict in one line, and
 /// answers the exit status.
 ///
-/// The anchors are joined certificates, of 2^32 - 1 octets at most, and each gives its subject and
-/// its key. They are read first, to the first faulty one. `limit` bounds the octets of each
-/// certificate of the stream, and of none of the anchors.
+/// The anchors are trust anchors (RFC 5914 2), one behind the other, of 2^32 - 1 octets at most, and
+/// each gives a name and a key as `Anchor::from_choice` says. They are read first, to their end, and
+/// the first faulty one is told. `limit` bounds the octets of each certificate of the stream, and of
+/// none of the anchors.
 ///
 /// To `out` go `trusted calls=N`, `refused PLACE RULE calls=N`, `fault PLACE OFFSET KIND` and
-/// `empty`, to `err` go `anchors: malformed at OFFSET`, `device` and `memory`. A text that can't be
-/// written is `Status::Device`, whose word is tried once.
+/// `empty`, to `err` go `anchors: malformed at OFFSET`, `anchors: no name at OFFSET`,
+/// `anchors: path controls at OFFSET`, `device` and `memory`. A text that can't be written is
+/// `Status::Device`, whose word is tried once.
 pub fn run_check<A: Input, S: Input, O: Output, E: Output, J: SignatureJudge>(
     alloc: Global,
     anchors: &mut A,

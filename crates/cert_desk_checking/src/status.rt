@@ -13,7 +13,7 @@ pub enum Status {
     Faulty = 2,
     /// The stream is empty.
     Empty = 3,
-    /// The anchors are malformed.
+    /// An anchor is faulty.
     Arguments = 4,
     /// An input or an output failed.
     Device = 5,
@@ -21,12 +21,23 @@ pub enum Status {
     Memory = 6,
 }
 
+// What is wrong with a trust anchor in a file.
+#[derive(Clone, Copy, Debug)]
+pub(crate) enum AnchorFault {
+    // No trust anchor begins there.
+    Malformed,
+    // It is told by its key, without a name.
+    NoName,
+    // A path from it must meet more than its name.
+    PathControls,
+}
+
 // What a run finds in its inputs.
 #[derive(Clone, Copy, Debug)]
 pub(crate) enum Outcome {
     Checked(Checked),
-    // The anchor that begins at this offset is faulty.
-    BadAnchors { offset: u64 },
+    // The trust anchor that begins at this offset is faulty.
+    BadAnchors { offset: u64, fault: AnchorFault },
     Device,
     OutOfMemory,
 }

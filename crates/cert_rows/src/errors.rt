@@ -1,10 +1,13 @@
 //! The texts of errors.
 
 use crate::refusals::Refusal;
-use cert_desk::{BundleError, CheckError, DeviceError, FaultKind, ReadError};
+use cert_desk::{
+    AnchorError, BundleError, CheckError, DeviceError, FaultKind, ReadAllError, ReadError,
+};
 use std::alloc::Global;
 
-/// What each error prints: of a bundle, of its reading, of a check, of a device.
+/// What each error prints: of a bundle, of its reading, of a check, of a device, of an
+/// anchor, of an input that is read whole.
 pub fn answer(alloc: Global) -> Result<String, Refusal> {
     let fault = BundleError::Fault {
         place: 1,
@@ -17,6 +20,18 @@ pub fn answer(alloc: Global) -> Result<String, Refusal> {
     let reading = format!(in alloc; "{device}; {fault}")?;
     let [memory, device] = [CheckError::OutOfMemory, CheckError::Device];
     let error = DeviceError;
-    let text = format!(in alloc; "{bundle} | {reading} | {memory}; {device} | {error}")?;
+    let before = format!(in alloc; "{bundle} | {reading} | {memory}; {device} | {error}")?;
+    let [name, controls, memory] = [
+        AnchorError::NoName,
+        AnchorError::PathControls,
+        AnchorError::OutOfMemory,
+    ];
+    let anchor = format!(in alloc; "{name}; {controls}; {memory}")?;
+    let [much, device, memory] = [
+        ReadAllError::TooMuch,
+        ReadAllError::Device,
+        ReadAllError::OutOfMemory,
+    ];
+    let text = format!(in alloc; "{before} | {anchor} | {much}; {device}; {memory}")?;
     Ok(text)
 }

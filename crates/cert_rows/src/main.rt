@@ -4,13 +4,14 @@
 //! | Question | Answer |
 //! |---|---|
 //! | `certificate HEX` | `ok` and the parts of the certificate that these octets spell |
+//! | `anchor HEX` | `ok` and the name and the key that the trust anchor gives that these octets spell |
 //! | `JUDGE check ANCHORS STREAM MOMENT PURPOSE LIMIT` | `STATUS OUTPUT ERRORS`, what the program answers to these arguments, where octets stand for the files |
 //! | `pieces SCHEDULE/SCHEDULE/SCHEDULE/SCHEDULE JUDGE check ..` | the same, where anchors, stream, output and error output move octets so |
 //! | `bundle LIMIT SCHEDULE HEX CALL ..` | what a bundle answers to each call in turn, and how it and its input stand then: `HEX` takes a piece, `end` ends the stream, `read` takes the input |
 //! | `split LIMIT HEX` | how many certificates begin the stream, and their octets: as the plain split finds it, and as a bundle does |
 //! | `input SCHEDULE HEX` | the octets that each of six reads of an input gives into room for 4, and how many failed |
 //! | `output SCHEDULE HEX ..` | whether an output with room for 64 octets takes each text, what it took, and how many writes failed |
-//! | `errors` | what each error prints: of a bundle, of its reading, of a check, of a device |
+//! | `errors` | what each error prints: of a bundle, of its reading, of a check, of a device, of an anchor, of an input that is read whole |
 //! | an empty line, or one that begins with `#` | the same line |
 //! | any other | `?` |
 //!
@@ -21,6 +22,7 @@
 //! is answered `refused KIND`, and `memory` where there is not enough.
 #![tactic(auto)]
 
+mod anchors;
 mod answers;
 mod bundles;
 mod certificates;

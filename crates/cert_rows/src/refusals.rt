@@ -1,5 +1,6 @@
 //! Why a question has no other answer.
 
+use cert_desk::AnchorError;
 use der_core_head::{Error, ErrorKind};
 use hex::FromHexError;
 use std::alloc::AllocError;
@@ -13,8 +14,10 @@ pub enum Refusal {
     Unread,
     /// Want of memory.
     Memory,
-    /// Its octets spell no certificate.
+    /// Its octets spell no certificate, or no trust anchor.
     Der(ErrorKind),
+    /// Its trust anchor gives none.
+    Anchor(AnchorError),
 }
 
 impl From<Error> for Refusal {
@@ -22,6 +25,15 @@ impl From<Error> for Refusal {
         match error.kind {
             ErrorKind::OutOfMemory => Refusal::Memory,
             kind => Refusal::Der(kind),
+        }
+    }
+}
+
+impl From<AnchorError> for Refusal {
+    fn from(error: AnchorError) -> Refusal {
+        match error {
+            AnchorError::OutOfMemory => Refusal::Memory,
+            error => Refusal::Anchor(error),
         }
     }
 }
@@ -53,6 +65,7 @@ impl fmt::Display for Refusal {
             Refusal::Unread => f.write_str("?"),
             Refusal::Memory => f.write_str("memory"),
             Refusal::Der(kind) => write!(f, "refused {kind:?}"),
+            Refusal::Anchor(error) => write!(f, "refused {error:?}"),
         }
     }
 }

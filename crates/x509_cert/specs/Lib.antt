@@ -1,3 +1,4 @@
 pub mod Certificates
 pub mod Extensions
 pub mod Views
+pub mod Anchors

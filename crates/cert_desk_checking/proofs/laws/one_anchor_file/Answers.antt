@@ -1,0 +1,5 @@
+use Rattle.cert_desk_checking.proofs.OneAnchorFile.{one_anchor_file}
+use Rattle.cert_desk_checking.proofs.laws.one_anchor_file.Goals as goal
+
+pub returns : goal.returns
+returns c = one_anchor_file

@@ -1,0 +1,50 @@
+-- How a file of anchors is read, one trust anchor after the other.
+use Rattle.std.specs.Prelude.{◌≡◌, ℕ, ◌+◌, List, ◌++◌, drop, length, Ok, Err}
+use Rattle.der_core_head.specs.Shapes.{IsValid}
+use Rattle.x509_cert.specs.Anchors.{PlainAnchor as PlainChoice}
+use Rattle.cert_desk_checking.specs.declared.anchor_error.AnchorError.TheVariants as errors
+use Rattle.cert_desk_checking.specs.declared.status.AnchorFault.{AnchorFault}
+use Rattle.cert_desk_checking.specs.declared.status.AnchorFault.TheVariants as faults
+use Rattle.cert_desk_checking.specs.declared.status.Outcome.{Outcome}
+use Rattle.cert_desk_checking.specs.declared.status.Outcome.TheVariants as outcomes
+use Rattle.cert_desk_checking.specs.Anchors.{given_by}
+use Rattle.cert_desk_checking.specs.AnchorFiles.{raw_choice, choice_octets, IsFaulty, HasFirstFault}
+use Rattle.cert_desk_checking.specs.Judging.{PlainAnchor}
+
+-- From the start to the end stands this trust anchor.
+pub record StandsAt (octets : List ℕ) (start end : ℕ) (c : PlainChoice) : Type 0 where
+  pub valid : IsValid raw_choice c
+  pub whole : drop start octets ≡ choice_octets c ++ drop end octets
+  pub end_is : end ≡ start + length (choice_octets c)
+
+-- It gives this anchor.
+pub record GivesAt (octets : List ℕ) (start end : ℕ) (anchor : PlainAnchor) : Type 0 where
+  pub choice : PlainChoice
+  pub stands : StandsAt octets start end choice
+  pub given : given_by choice ≡ Ok anchor
+
+-- why a trust anchor that begins at the start gives none: it is of a kind that doesn't, or there was no memory
+abbrev pub UngivenFor : PlainChoice → AnchorFault → Type 0
+UngivenFor c faults.Malformed = ⊥
+UngivenFor c faults.NoName = given_by c ≡ Err errors.NoName
+UngivenFor c faults.PathControls = given_by c ≡ Err errors.PathControls
+
+abbrev pub IsUngiven : PlainChoice → ℕ → Outcome → Type 0
+IsUngiven c start (outcomes.Checked checked) = ⊥
+IsUngiven c start (outcomes.BadAnchors offset fault) = (offset ≡ start) × UngivenFor c fault
+IsUngiven c start outcomes.Device = ⊥
+IsUngiven c start outcomes.OutOfMemory = Unit {0}
+
+-- why no anchor begins at the start: what stands there is faulty, or there was no memory
+abbrev pub GivesNone : List ℕ → ℕ → Outcome → Type 0
+GivesNone octets start (outcomes.Checked checked) = ⊥
+GivesNone octets start (outcomes.BadAnchors offset fault) = (offset ≡ start) × IsFaulty fault (drop start octets)
+GivesNone octets start outcomes.Device = ⊥
+GivesNone octets start outcomes.OutOfMemory = Unit {0}
+
+-- why a file gives no anchors: one of them is faulty, or there was no memory
+abbrev pub IsNoAnchorFile : List ℕ → Outcome → Type 0
+IsNoAnchorFile octets (outcomes.Checked checked) = ⊥
+IsNoAnchorFile octets (outcomes.BadAnchors offset fault) = HasFirstFault octets offset fault
+IsNoAnchorFile octets outcomes.Device = ⊥
+IsNoAnchorFile octets outcomes.OutOfMemory = Unit {0}

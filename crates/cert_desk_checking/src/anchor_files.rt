@@ -1,0 +1,97 @@
+//! Files of anchors.
+ghost use Rattle.std.specs.Prelude.{◌≡◌, ◌<◌, ◌^◌, length, map, IfOk, IfErr};
+ghost use Rattle.x509_cert.specs.Anchors.{trust_anchor_plain};
+ghost use Rattle.cert_desk_checking.specs.Anchors.{anchor_plain, given_by};
+ghost use Rattle.cert_desk_checking.specs.AnchorFiles.{IsAnchorFile};
+ghost use Rattle.cert_desk_checking.specs.AnchorReading.{StandsAt, GivesAt, IsUngiven, GivesNone, IsNoAnchorFile};
+
+use crate::anchor::Anchor;
+use crate::anchor_error::AnchorError;
+use crate::status::{AnchorFault, Outcome};
+use der_core::from_der_partial;
+use der_core_head::ErrorKind;
+use std::alloc::Global;
+use x509_cert::{Raw, TrustAnchorChoice};
+
+// That the trust anchor that begins at the start is faulty.
+fn faulty(start: usize, fault: AnchorFault) -> Outcome
+    ensures { result ≡ Outcome.BadAnchors start fault }
+{
+    Outcome::BadAnchors {
+        offset: start as u64,
+        fault,
+    }
+}
+
+// The trust anchor that begins at the start, and where it ends.
+fn choice_at(
+    alloc: Global,
+    octets: &[u8],
+    start: usize,
+) -> Result<(TrustAnchorChoice<Raw>, usize), Outcome>
+    requires some { start < length octets.now }
+    requires short { length octets.now < 2 ^ 32 }
+    ensures stands { IfOk result (λ p. StandsAt octets.now start p.1 (trust_anchor_plain p.0)) }
+    ensures none { IfErr result (GivesNone octets.now start) }
+{
+    match from_der_partial::<TrustAnchorChoice<Raw>>(alloc, &octets[start..]) {
+        Ok((choice, behind)) => Ok((choice, octets.len() - behind.len())),
+        Err(error) => {
+            if let ErrorKind::OutOfMemory = error.kind {
+                return Err(Outcome::OutOfMemory);
+            }
+            Err(faulty(start, AnchorFault::Malformed))
+        }
+    }
+}
+
+// The anchor that a trust anchor gives, which begins at the start.
+fn given(alloc: Global, choice: &TrustAnchorChoice<Raw>, start: usize) -> Result<Anchor, Outcome>
+    ensures given { IfOk result (λ anchor. given_by (trust_anchor_plain choice.now) ≡ Ok (anchor_plain anchor)) }
+    ensures ungiven { IfErr result (IsUngiven (trust_anchor_plain choice.now) start) }
+{
+    match Anchor::from_choice(alloc, choice) {
+        Ok(anchor) => Ok(anchor),
+        Err(AnchorError::NoName) => Err(faulty(start, AnchorFault::NoName)),
+        Err(AnchorError::PathControls) => Err(faulty(start, AnchorFault::PathControls)),
+        Err(AnchorError::OutOfMemory) => Err(Outcome::OutOfMemory),
+    }
+}
+
+// The anchor that is given at the start, and where the next one begins.
+fn anchor_at(alloc: Global, octets: &[u8], start: usize) -> Result<(Anchor, usize), Outcome>
+    requires some { start < length octets.now }
+    requires short { length octets.now < 2 ^ 32 }
+    ensures given { IfOk result (λ p. GivesAt octets.now start p.1 (anchor_plain p.0)) }
+    ensures none { IfErr result (GivesNone octets.now start) }
+{
+    let (choice, end) = match choice_at(alloc, octets, start) {
+        Ok(read) => read,
+        Err(outcome) => return Err(outcome),
+    };
+    match given(alloc, &choice, start) {
+        Ok(anchor) => Ok((anchor, end)),
+        Err(outcome) => Err(outcome),
+    }
+}
+
+// The anchors that the trust anchors of a file give, or why there are none.
+pub(crate) fn anchors_in(alloc: Global, octets: &[u8]) -> Result<Vec<Anchor>, Outcome>
+    requires { length octets.now < 2 ^ 32 }
+    ensures read { IfOk result (λ anchors. IsAnchorFile octets.now (map anchor_plain anchors.items)) }
+    ensures refused { IfErr result (IsNoAnchorFile octets.now) }
+{
+    let mut anchors = Vec::new(alloc);
+    let mut start = 0;
+    while start < octets.len() {
+        let (anchor, end) = match anchor_at(alloc, octets, start) {
+            Ok(read) => read,
+            Err(outcome) => return Err(outcome),
+        };
+        if anchors.push(anchor).is_err() {
+            return Err(Outcome::OutOfMemory);
+        }
+        start = end;
+    }
+    Ok(anchors)
+}
