@@ -1,0 +1,27 @@
+#!/usr/bin/env bash
+# Shows the roots of Debian's ca-certificates with cert_desk_listing and with OpenSSL (libssl-dev), which prints the same parts:
+# instructions, the mean of a certificate, with the reading of it, and without (bench/README.md).
+. "$(dirname "$0")/program.sh"
+build show root_listings 'cert_desk_listing x509_cert_lists cert_desk_io der_core'
+
+for root in /usr/share/ca-certificates/mozilla/*.crt; do openssl x509 -in "$root" -outform DER; done >"$work/roots.der"
+gcc -O2 -o "$work/openssl" "$top/bench/show/openssl.c" -lcrypto
+count=$("$work/openssl" "$work/roots.der" count)
+
+# each NAME COMMAND..: what a certificate costs, by the difference of 11 rounds and one
+each() {
+    local name=$1 few many
+    shift
+    few=$(instructions "$@" 1)
+    many=$(instructions "$@" 11)
+    echo "$name: $(((many - few) / (10 * count))) instructions"
+}
+
+echo "$count roots, $("$program" "$work/roots.der" 1 | wc -c) octets of listings"
+each 'cert_desk_listing, read and shown' "$program" "$work/roots.der"
+each 'OpenSSL, read and shown' "$work/openssl" "$work/roots.der"
+
+# the same names, in the same order, as OpenSSL prints them
+"$program" "$work/roots.der" 1 | sed -n 's/^\(issuer\|subject\) /\1=/p' >"$work/ours"
+"$work/openssl" "$work/roots.der" 1 | grep -E '^(issuer|subject)=' >"$work/theirs"
+echo "names that are printed otherwise: $(diff "$work/ours" "$work/theirs" | grep -c '^<' || true)"

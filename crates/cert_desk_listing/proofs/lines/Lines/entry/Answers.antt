@@ -1,0 +1,14 @@
+use Rattle.std.proofs.Common.{◌++◌, codes, string_bytes, ap, sym, ◌∙◌}
+use Rattle.der_types_time.specs.DateTexts.{date_text}
+use Rattle.x509_cert_parts.specs.Views.{time_date}
+use Rattle.cert_desk_listing.specs.Listing.{serial_text, labelled}
+use Rattle.cert_desk_listing.proofs.Texts.{time_text_is, entry_text}
+use Rattle.cert_desk_listing.proofs.lines.Lines.entry.Goals as goal
+
+pub returns : goal.returns
+returns g c =
+    let number = serial_text c.args.entry.now.serial_number in
+    let date = c.args.entry.now.revocation_date in
+    c.in_ok-writeln.ensures.bytes
+    ∙ ap (λ t. string_bytes c.args.self.now.text ++ (codes "revoked " ++ t)) (entry_text number (date_text (time_date date)))
+    ∙ ap (λ t. string_bytes c.args.self.now.text ++ labelled (codes "revoked") (number ++ codes " " ++ t)) (sym (time_text_is date))

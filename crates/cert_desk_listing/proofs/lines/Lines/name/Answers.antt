@@ -1,0 +1,9 @@
+use Rattle.std.proofs.Common.{◌++◌, string_bytes, ap, sym, ◌∙◌}
+use Rattle.cert_desk_listing.specs.Listing.{labelled}
+use Rattle.cert_desk_listing.proofs.Texts.{name_text_is}
+use Rattle.cert_desk_listing.proofs.lines.Lines.name.Goals as goal
+
+pub returns : goal.returns
+returns c =
+    c.in_ok-labelled.ensures
+    ∙ ap (λ t. string_bytes c.args.self.now.text ++ labelled c.args.label.now t) (sym (name_text_is c.args.name.now.rdn_sequence.relative_names.items))

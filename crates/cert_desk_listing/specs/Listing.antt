@@ -1,0 +1,109 @@
+-- Listings of certificates, revocation lists and requests, line by line.
+use Rattle.std.specs.Prelude.{ℕ, ℤ, List, [], ◌++◌, map, codes, Option, Some, None, Result, Ok, Err, if◌then◌else◌}
+use Rattle.std.proofs.Common.{inl, inr}
+use Rattle.std.specs.List.{flat_map}
+use Rattle.const_oid_identifiers.specs.Comparing.{owned_eq}
+use Rattle.const_oid_identifiers.specs.DottedText.{dotted}
+use Rattle.der_core_head.specs.declared.error.ErrorKind.{ErrorKind}
+use Rattle.der_core_head.specs.declared.tag.Tag.TheVariants as tags
+use Rattle.der_core_head.specs.Integers.{integer_octets}
+use Rattle.der_core_head.specs.Shapes.{AnyValue}
+use Rattle.der_types_any.specs.Contents.{content_as}
+use Rattle.der_types_time.specs.DateTexts.{date_text}
+use Rattle.x509_cert_names.specs.Names.{TypeAndValue, type_of, value_of}
+use Rattle.x509_cert_names.specs.NameTexts.{name_printed}
+use Rattle.x509_cert_names.specs.declared.attribute_type_and_value.AttributeTypeAndValue.{AttributeTypeAndValue}
+use Rattle.x509_cert_parts.specs.SerialNumbers.{colon_pairs}
+use Rattle.x509_cert_lists.specs.Certificates.{PlainCertificate, issuer, subject}
+use Rattle.x509_cert_lists.specs.Grammar.{extension_req_arcs, extension_req_content}
+use Rattle.x509_cert_lists.specs.Parts.{PlainName, PlainAttribute, PlainExtension, extension_arcs, is_critical, arc_bound}
+use Rattle.cert_desk_listing.specs.Parts.{serial, not_before, not_after, extensions_of, PlainTime, PlainList, PlainRevoked, list_issuer, this_update, next_update, revoked, list_extensions, revoked_serial, revoked_date, PlainRequest, request_subject, request_attributes, attribute_arcs, attribute_values}
+
+-- Texts.
+
+-- an attribute of a name
+abbrev pub attribute_of : TypeAndValue → AttributeTypeAndValue
+attribute_of a = record { oid = type_of a; value = value_of a }
+
+-- a name as it is printed (RFC 4514 2)
+unfoldable pub name_text : PlainName → List ℕ
+name_text n = name_printed (map (map attribute_of) n)
+
+-- the content octets of a serial number, as pairs of digits in base 16 with colons between them
+abbrev pub serial_text : ℤ → List ℕ
+serial_text n = colon_pairs (integer_octets n)
+
+-- YYYY-MM-DDTHH:MM:SSZ, of either spelling
+unfoldable pub time_text : PlainTime → List ℕ
+time_text (inl date) = date_text date
+time_text (inr date) = date_text date
+
+-- Lines.
+
+-- a label
+abbrev pub alone : List ℕ → List ℕ
+alone label = label ++ codes "\n"
+
+-- a label, a blank and a text
+abbrev pub labelled : List ℕ → List ℕ → List ℕ
+labelled label text = label ++ codes " " ++ text ++ codes "\n"
+
+-- an identifier, and whether the extension is critical
+abbrev pub extension_line : PlainExtension → List ℕ
+extension_line e = labelled (codes "extension") (if is_critical e then dotted (extension_arcs e) ++ codes " critical" else dotted (extension_arcs e))
+
+abbrev pub extension_lines : List PlainExtension → List ℕ
+extension_lines es = flat_map extension_line es
+
+-- of a certificate
+unfoldable pub certificate_lines : PlainCertificate → List ℕ
+certificate_lines c =
+    alone (codes "certificate")
+    ++ labelled (codes "serial") (serial_text (serial c))
+    ++ labelled (codes "issuer") (name_text (issuer c))
+    ++ labelled (codes "not-before") (time_text (not_before c))
+    ++ labelled (codes "not-after") (time_text (not_after c))
+    ++ labelled (codes "subject") (name_text (subject c))
+    ++ extension_lines (extensions_of c)
+
+abbrev pub next_update_line : Option PlainTime → List ℕ
+next_update_line None = []
+next_update_line (Some date) = labelled (codes "next-update") (time_text date)
+
+-- a serial number, and since when it is revoked
+abbrev pub revoked_line : PlainRevoked → List ℕ
+revoked_line r = labelled (codes "revoked") (serial_text (revoked_serial r) ++ codes " " ++ time_text (revoked_date r))
+
+abbrev pub revoked_lines : List PlainRevoked → List ℕ
+revoked_lines rs = flat_map revoked_line rs
+
+-- of a revocation list
+unfoldable pub list_lines : PlainList → List ℕ
+list_lines l =
+    alone (codes "list")
+    ++ labelled (codes "issuer") (name_text (list_issuer l))
+    ++ labelled (codes "this-update") (time_text (this_update l))
+    ++ next_update_line (next_update l)
+    ++ revoked_lines (revoked l)
+    ++ extension_lines (list_extensions l)
+
+-- of a value that is read as extensions
+abbrev pub lines_of_read : Result (List PlainExtension) ErrorKind → List ℕ
+lines_of_read (Ok es) = extension_lines es
+lines_of_read (Err e) = []
+
+abbrev pub value_lines : AnyValue → List ℕ
+value_lines v = lines_of_read (content_as tags.Sequence (extension_req_content arc_bound) v)
+
+-- an identifier, and behind that of a request for extensions (RFC 2985 5.4.2) the extensions of its values
+abbrev pub attribute_lines : PlainAttribute → List ℕ
+attribute_lines a =
+    labelled (codes "attribute") (dotted (attribute_arcs a))
+    ++ (if owned_eq (attribute_arcs a) extension_req_arcs then flat_map value_lines (attribute_values a) else [])
+
+-- of a certification request
+unfoldable pub request_lines : PlainRequest → List ℕ
+request_lines r =
+    alone (codes "request")
+    ++ labelled (codes "subject") (name_text (request_subject r))
+    ++ flat_map attribute_lines (request_attributes r)

@@ -1,0 +1,143 @@
+//! Listings on outputs.
+ghost use Rattle.std.specs.Prelude.{◌≡◌, IfOk, IfErr, OnOk, string_bytes};
+ghost use Rattle.x509_cert_lists.specs.Certificates.{certificate_plain};
+ghost use Rattle.x509_cert_lists.specs.Views.{certificate_list_plain, cert_req_plain};
+ghost use Rattle.cert_desk_listing.specs.Listing.{certificate_lines, list_lines, request_lines};
+ghost use Rattle.cert_desk_listing.specs.Shown.{IsUnshown};
+
+use crate::lines::Lines;
+use crate::show_error::ShowError;
+use cert_desk_io::{Output, write_all};
+use std::alloc::{AllocError, Global};
+use x509_cert_lists::{CertReq, CertificateInner, CertificateList, Profile};
+
+/// The lines of a certificate.
+pub(crate) fn of_certificate<P: Profile>(
+    alloc: Global,
+    certificate: &CertificateInner<P>,
+) -> Result<Lines, AllocError>
+    ensures { IfOk result (λ lines. string_bytes lines.text ≡ certificate_lines (certificate_plain certificate.now)) }
+{
+    let signed = certificate.tbs_certificate();
+    let validity = signed.validity();
+    let mut lines = Lines::new(alloc, "certificate")?;
+    lines.serial(signed.serial_number())?;
+    lines.name("issuer", signed.issuer())?;
+    lines.date("not-before", &validity.not_before)?;
+    lines.date("not-after", &validity.not_after)?;
+    lines.name("subject", signed.subject())?;
+    let Some(extensions) = signed.extensions() else {
+        return Ok(lines);
+    };
+    lines.extensions(extensions.as_slice())?;
+    Ok(lines)
+}
+
+/// The lines of a revocation list.
+pub(crate) fn of_list<P: Profile>(
+    alloc: Global,
+    list: &CertificateList<P>,
+) -> Result<Lines, AllocError>
+    ensures { IfOk result (λ lines. string_bytes lines.text ≡ list_lines (certificate_list_plain list.now)) }
+{
+    let signed = &list.tbs_cert_list;
+    let mut lines = Lines::new(alloc, "list")?;
+    lines.name("issuer", &signed.issuer)?;
+    lines.date("this-update", &signed.this_update)?;
+    lines.next_update(&signed.next_update)?;
+    lines.any_entries(&signed.revoked_certificates)?;
+    lines.any_extensions(&signed.crl_extensions)?;
+    Ok(lines)
+}
+
+/// The lines of a certification request.
+pub(crate) fn of_request(alloc: Global, request: &CertReq) -> Result<Lines, AllocError>
+    ensures { IfOk result (λ lines. string_bytes lines.text ≡ request_lines (cert_req_plain request.now)) }
+{
+    let info = &request.info;
+    let mut lines = Lines::new(alloc, "request")?;
+    lines.name("subject", &info.subject)?;
+    lines.attributes(alloc, info.attributes.values.as_slice())?;
+    Ok(lines)
+}
+
+// Writes lines, by a loop over `write`.
+fn give<O: Output>(output: &mut O, lines: &Lines) -> Result<(), ShowError>
+    ensures listed { OnOk result (O.gives output.old (string_bytes lines.now.text) output.new) }
+    ensures sound { OnOk result (O.failures output.new ≡ O.failures output.old) }
+    ensures refused { IfErr result (IsUnshown O.gives O.failures output.old (string_bytes lines.now.text) output.new) }
+{
+    if write_all(output, lines.text.as_bytes()).is_err() {
+        return Err(ShowError::Device);
+    }
+    Ok(())
+}
+
+/// Writes the listing of a certificate: `certificate`, `serial`, `issuer`, `not-before`, `not-after`,
+/// `subject`, and `extension` for each extension, with ` critical` behind those that are.
+///
+/// Behind each label but the first stand a blank and a text, and each line ends with LF. Names are
+/// printed by RFC 4514, serial numbers as their content octets in base 16 with colons between them,
+/// dates as `YYYY-MM-DDTHH:MM:SSZ`, identifiers dotted.
+///
+/// # Errors
+/// `OutOfMemory` before anything goes out, `Device` where the output failed.
+pub fn show_certificate<P: Profile, O: Output>(
+    alloc: Global,
+    certificate: &CertificateInner<P>,
+    output: &mut O,
+) -> Result<(), ShowError>
+    ensures listed { OnOk result (O.gives output.old (certificate_lines (certificate_plain certificate.now)) output.new) }
+    ensures sound { OnOk result (O.failures output.new ≡ O.failures output.old) }
+    ensures refused { IfErr result (IsUnshown O.gives O.failures output.old (certificate_lines (certificate_plain certificate.now)) output.new) }
+{
+    let Ok(lines) = of_certificate(alloc, certificate) else {
+        return Err(ShowError::OutOfMemory);
+    };
+    give(output, &lines)?;
+    Ok(())
+}
+
+/// Writes the listing of a revocation list: `list`, `issuer`, `this-update`, `next-update` where it
+/// is said, `revoked SERIAL DATE` for each entry, and the extensions of the list as those of a
+/// certificate.
+///
+/// # Errors
+/// `OutOfMemory` before anything goes out, `Device` where the output failed.
+pub fn show_list<P: Profile, O: Output>(
+    alloc: Global,
+    list: &CertificateList<P>,
+    output: &mut O,
+) -> Result<(), ShowError>
+    ensures listed { OnOk result (O.gives output.old (list_lines (certificate_list_plain list.now)) output.new) }
+    ensures sound { OnOk result (O.failures output.new ≡ O.failures output.old) }
+    ensures refused { IfErr result (IsUnshown O.gives O.failures output.old (list_lines (certificate_list_plain list.now)) output.new) }
+{
+    let Ok(lines) = of_list(alloc, list) else {
+        return Err(ShowError::OutOfMemory);
+    };
+    give(output, &lines)?;
+    Ok(())
+}
+
+/// Writes the listing of a certification request: `request`, `subject`, `attribute` for each
+/// attribute, and behind that of a request for extensions (1.2.840.113549.1.9.14) the extensions of
+/// each value that is read as extensions, as those of a certificate.
+///
+/// # Errors
+/// `OutOfMemory` before anything goes out, `Device` where the output failed.
+pub fn show_request<O: Output>(
+    alloc: Global,
+    request: &CertReq,
+    output: &mut O,
+) -> Result<(), ShowError>
+    ensures listed { OnOk result (O.gives output.old (request_lines (cert_req_plain request.now)) output.new) }
+    ensures sound { OnOk result (O.failures output.new ≡ O.failures output.old) }
+    ensures refused { IfErr result (IsUnshown O.gives O.failures output.old (request_lines (cert_req_plain request.now)) output.new) }
+{
+    let Ok(lines) = of_request(alloc, request) else {
+        return Err(ShowError::OutOfMemory);
+    };
+    give(output, &lines)?;
+    Ok(())
+}

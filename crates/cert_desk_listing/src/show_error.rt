@@ -1,0 +1,30 @@
+//! Why a listing didn't go out.
+ghost use Rattle.std.specs.Prelude.{Some};
+ghost use Rattle.cert_desk_listing.specs.Shown.{show_error_text};
+
+use std::alloc::AllocError;
+use std::error::Error;
+use std::fmt;
+
+/// Why a listing didn't go out.
+#[derive(Clone, Copy, Debug, PartialEq, Eq)]
+pub enum ShowError {
+    /// The output failed. A beginning of the listing went out.
+    Device,
+    /// There was no memory for the listing. Nothing went out.
+    OutOfMemory,
+}
+
+impl fmt::Display for ShowError {
+    ghost output = { λ error. Some (show_error_text error) };
+
+    fn fmt<W: fmt::Write>(&self, f: &mut fmt::Formatter<W>) -> fmt::Result {
+        let text = match self {
+            ShowError::Device => "a device failed",
+            ShowError::OutOfMemory => "out of memory",
+        };
+        f.write_str(text)
+    }
+}
+
+impl Error for ShowError {}

@@ -1,0 +1,35 @@
+//! Questions and their answers.
+
+use crate::refusals::Refusal;
+use crate::{calls, runs};
+use std::alloc::Global;
+use std::io;
+use std::io::Write;
+
+/// Writes the answer to a line.
+pub fn answer<W: Write>(alloc: Global, line: &str, out: &mut W) -> io::Result<()> {
+    if line.is_empty() || line.starts_with('#') {
+        return writeln!(out, "{line}");
+    }
+    match answer_of(alloc, line) {
+        Ok(text) => writeln!(out, "{text}"),
+        Err(refusal) => writeln!(out, "{refusal}"),
+    }
+}
+
+/// What is answered to a question, by its first word.
+fn answer_of(alloc: Global, line: &str) -> Result<String, Refusal> {
+    let (word, rest) = line.split_once(' ').ok_or(Refusal::Unread)?;
+    match word {
+        "show" => runs::answer(alloc, "-/-/-", rest),
+        "pieces" => {
+            let (schedules, rest) = rest.split_once(' ').ok_or(Refusal::Unread)?;
+            runs::answer(alloc, schedules, rest)
+        }
+        "call" => {
+            let (schedule, rest) = rest.split_once(' ').ok_or(Refusal::Unread)?;
+            calls::answer(alloc, schedule, rest)
+        }
+        _ => Err(Refusal::Unread),
+    }
+}
