@@ -1,0 +1,4 @@
+mod Lists
+mod NamingSteps
+mod SameParts
+mod VersionOctets

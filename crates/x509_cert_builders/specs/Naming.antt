@@ -1,0 +1,117 @@
+-- The naming rules of authorities (CA/Browser Forum, Baseline Requirements 7.1.4.1, 7.1.2.10.2).
+use Rattle.std.specs.Prelude.{◌≡◌, ◌⊎◌, ℕ, ◌<◌, List, [], ◌∷◌, ◌++◌, length, take, get_or, Bool, true, false, ◌&&◌, ◌||◌, nat_lt, not, Option, Some, None, Result, Ok, Err, IsOk, if◌then◌else◌}
+use Rattle.std.specs.List.{find, list_any, list_all, position_or_len}
+use Rattle.const_oid_identifiers.specs.Comparing.{owned_eq}
+use Rattle.der_core_head.specs.Shapes.{AnyValue}
+use Rattle.der_core_head.specs.declared.error.ErrorKind.TheVariants as kinds
+use Rattle.x509_cert_lists.specs.Parts.{PlainName}
+use Rattle.x509_cert_builders.specs.declared.error.Error.{Error}
+use Rattle.x509_cert_builders.specs.declared.error.Error.TheVariants as errors
+
+-- an attribute: the arcs of its type, and its value
+abbrev pub TypeAndValue : Type 0
+TypeAndValue = List ℕ × (AnyValue × Unit {0})
+
+-- the types of attributes
+abbrev pub types_of : List TypeAndValue → List (List ℕ)
+types_of [] = []
+types_of (a ∷ more) = a.0 ∷ types_of more
+
+-- the types of a name, relative name by relative name
+abbrev pub name_types : PlainName → List (List ℕ)
+name_types [] = []
+name_types (r ∷ rs) = types_of r ++ name_types rs
+
+-- arcs below 2.5.4
+abbrev pub x520 : ℕ → List ℕ
+x520 n = 2 ∷ 5 ∷ 4 ∷ n ∷ []
+
+abbrev pub domain_component : List ℕ
+domain_component = 0 ∷ 9 ∷ 2342 ∷ 19200300 ∷ 100 ∷ 1 ∷ 25 ∷ []
+
+abbrev pub country : List ℕ
+country = x520 6
+
+abbrev pub organization : List ℕ
+organization = x520 10
+
+abbrev pub common_name : List ℕ
+common_name = x520 3
+
+-- The types whose order is laid down, in that order: domainComponent, countryName, stateOrProvinceName, localityName, postalCode,
+-- streetAddress, organizationName, surname, givenName, organizationalUnitName, commonName (7.1.4.2)
+abbrev pub ordered_types : List (List ℕ)
+ordered_types =
+    domain_component ∷ country ∷ x520 8 ∷ x520 7 ∷ x520 17 ∷ x520 9 ∷ organization ∷ x520 4 ∷ x520 42 ∷ x520 11 ∷ common_name ∷ []
+
+-- whether a type is among these
+abbrev pub is_among : List (List ℕ) → List ℕ → Bool
+is_among types t = list_any (λ u. owned_eq u t) types
+
+-- how many of the types whose order is laid down stand before a type; all of them where it is none of them
+abbrev pub rank_of : List ℕ → ℕ
+rank_of t = position_or_len (λ u. owned_eq u t) ordered_types
+
+abbrev pub is_ordered : List ℕ → Bool
+is_ordered t = nat_lt (rank_of t) (length ordered_types)
+
+-- whether a type may stand behind one that stands before it in a name
+abbrev pub may_follow : List ℕ → List ℕ → Bool
+may_follow t before = not (is_ordered t) || not (is_ordered before) || nat_lt (rank_of before) (rank_of t)
+
+-- the type of a relative name's attribute, behind attributes of these types; or why the relative name may not stand there
+abbrev pub type_behind : Bool → List (List ℕ) → List TypeAndValue → Result (List ℕ) Error
+type_behind repeats before [] = Err errors.NonUniqueRdn
+type_behind repeats before (a ∷ []) =
+    if not repeats && is_among before a.0 then Err errors.NonUniqueATV
+    else if list_all (may_follow a.0) before then Ok a.0 else Err (errors.InvalidAttribute a.0)
+type_behind repeats before (a ∷ b ∷ more) = Err errors.NonUniqueRdn
+
+-- the same of the relative name at a place of a name, behind those before it
+abbrev pub type_at : Bool → PlainName → ℕ → Result (List ℕ) Error
+type_at repeats n i = type_behind repeats (name_types (take i n)) (get_or n i [])
+
+-- every relative name may stand where it stands
+abbrev pub IsNamed : Bool → PlainName → Type 0
+IsNamed repeats n = (i : ℕ) → i < length n → IsOk (type_at repeats n i)
+
+-- why the first relative name may not that may not
+abbrev pub IsFirstFault : Bool → PlainName → Error → Type 0
+IsFirstFault repeats n e = (i : ℕ) × (i < length n) × ((j : ℕ) → j < i → IsOk (type_at repeats n j)) × (type_at repeats n i ≡ Err e)
+
+-- want of memory
+abbrev pub IsWantOfMemory : Error → Type 0
+IsWantOfMemory (errors.Asn1 e) = e.kind ≡ kinds.OutOfMemory
+IsWantOfMemory (errors.Signature e) = ⊥
+IsWantOfMemory errors.NonUniqueRdn = ⊥
+IsWantOfMemory errors.NonUniqueATV = ⊥
+IsWantOfMemory (errors.InvalidAttribute t) = ⊥
+IsWantOfMemory errors.MissingAttributes = ⊥
+IsWantOfMemory errors.Unsupported = ⊥
+
+-- what checking the rules of all names answers
+abbrev pub Names : {X : Type 0} → Bool → PlainName → Result X Error → Type 0
+Names repeats n (Ok _) = IsNamed repeats n
+Names repeats n (Err e) = IsFirstFault repeats n e ⊎ IsWantOfMemory e
+
+-- the types that the name of an authority may have (7.1.2.10.2), and those that it must have
+abbrev pub authority_types : List (List ℕ)
+authority_types = country ∷ x520 8 ∷ x520 7 ∷ x520 17 ∷ x520 9 ∷ organization ∷ common_name ∷ []
+
+abbrev pub has_required : List (List ℕ) → Bool
+has_required types = is_among types country && is_among types organization && is_among types common_name
+
+-- the first of these types that an authority may not have
+abbrev pub foreign_type : List (List ℕ) → Option (List ℕ)
+foreign_type types = find (λ t. not (is_among authority_types t)) types
+
+-- why attributes of these types, each once, are no name of an authority
+abbrev pub IsAuthorityFault : List (List ℕ) → Error → Type 0
+IsAuthorityFault types e =
+    ((t : List ℕ) × (foreign_type types ≡ Some t) × (e ≡ errors.InvalidAttribute t))
+    ⊎ ((foreign_type types ≡ None) × (has_required types ≡ false) × (e ≡ errors.MissingAttributes))
+
+-- what checking the name of an authority answers
+abbrev pub NamesAuthority : {X : Type 0} → PlainName → Result X Error → Type 0
+NamesAuthority n (Ok _) = IsNamed false n × (foreign_type (name_types n) ≡ None) × (has_required (name_types n) ≡ true)
+NamesAuthority n (Err e) = IsFirstFault false n e ⊎ (IsNamed false n × IsAuthorityFault (name_types n) e) ⊎ IsWantOfMemory e

@@ -1,0 +1,169 @@
+//! The naming rules of authorities (CA/Browser Forum, Baseline Requirements 7.1.4.1, 7.1.2.10.2).
+
+ghost use Rattle.std.specs.Prelude.{◌≡◌, ◌≤◌, Ok, Err, length, nat_lt, not, true, Option, Some, None, IfOk};
+ghost use Rattle.std.specs.List.{find, list_all, position_or_len};
+ghost use Rattle.const_oid_identifiers.specs.Comparing.{owned_eq};
+ghost use Rattle.x509_cert_lists.specs.Parts.{name_plain};
+ghost use Rattle.x509_cert_builders.specs.Naming.{ordered_types, authority_types, is_among, may_follow, type_behind, name_types, has_required, Names, NamesAuthority};
+ghost use Rattle.x509_cert_names.specs.Pairs.{relative_plain};
+
+use crate::attribute_types as types;
+use crate::error::Error;
+use const_oid_identifiers::ObjectIdentifier;
+use std::alloc::Global;
+use x509_cert_lists::{Name, RelativeDistinguishedName};
+
+/// Whether a type is among these.
+fn is_among(types: &[ObjectIdentifier<39>], oid: &ObjectIdentifier<39>) -> bool
+    ensures { result ≡ is_among types.now oid.now }
+{
+    for place in 0..types.len() {
+        if types[place] == *oid {
+            return true;
+        }
+    }
+    false
+}
+
+/// How many of these types stand before a type; all of them where it is none of them.
+fn rank_among(types: &[ObjectIdentifier<39>], oid: &ObjectIdentifier<39>) -> usize
+    ensures { result ≡ position_or_len (λ u. owned_eq u oid.now) types.now }
+{
+    for place in 0..types.len() {
+        if types[place] == *oid {
+            return place;
+        }
+    }
+    types.len()
+}
+
+/// Whether a type may stand behind one that stands before it in a name.
+fn may_follow(
+    ordered: &[ObjectIdentifier<39>],
+    oid: &ObjectIdentifier<39>,
+    before: &ObjectIdentifier<39>,
+) -> bool
+    ensures { ordered.now ≡ ordered_types → result ≡ may_follow oid.now before.now }
+{
+    let rank = rank_among(ordered, oid);
+    let earlier = rank_among(ordered, before);
+    rank >= ordered.len() || earlier >= ordered.len() || earlier < rank
+}
+
+/// Whether a type may stand behind all of these.
+fn may_follow_all(
+    ordered: &[ObjectIdentifier<39>],
+    oid: &ObjectIdentifier<39>,
+    before: &[ObjectIdentifier<39>],
+) -> bool
+    ensures { ordered.now ≡ ordered_types → result ≡ list_all (may_follow oid.now) before.now }
+{
+    for place in 0..before.len() {
+        if !may_follow(ordered, oid, &before[place]) {
+            return false;
+        }
+    }
+    true
+}
+
+/// The type of a relative name's attribute, behind attributes of these types.
+fn type_behind(
+    ordered: &[ObjectIdentifier<39>],
+    before: &[ObjectIdentifier<39>],
+    relative: &RelativeDistinguishedName,
+    multiple_allowed: bool,
+) -> Result<ObjectIdentifier<39>, Error>
+    ensures { ordered.now ≡ ordered_types → result ≡ type_behind multiple_allowed before.now (relative_plain relative.now) }
+{
+    let [attribute] = relative.as_slice() else {
+        return Err(Error::NonUniqueRdn);
+    };
+    let oid = attribute.oid;
+    if !multiple_allowed && is_among(before, &oid) {
+        return Err(Error::NonUniqueATV);
+    }
+    if !may_follow_all(ordered, &oid, before) {
+        return Err(Error::InvalidAttribute { oid });
+    }
+    Ok(oid)
+}
+
+/// The types of a name that keeps the rules of all names, in its order.
+#[tactic(auto, using(crate::proofs::NamingSteps::checked_none, crate::proofs::NamingSteps::checked_more, crate::proofs::NamingSteps::checked_fault, crate::proofs::NamingSteps::checked_all))]
+fn types_of(
+    alloc: Global,
+    name: &Name,
+    multiple_allowed: bool,
+) -> Result<Vec<ObjectIdentifier<39>>, Error>
+    ensures rules { Names multiple_allowed (name_plain name.now) result }
+    ensures types { IfOk result (λ v. v.items ≡ name_types (name_plain name.now)) }
+{
+    let ordered = types::ordered_types();
+    let mut found = Vec::new(alloc);
+    for relative in name.iter_rdn() {
+        let oid = match type_behind(&ordered, found.as_slice(), relative, multiple_allowed) {
+            Ok(oid) => oid,
+            Err(error) => return Err(error),
+        };
+        found.push(oid)?;
+    }
+    Ok(found)
+}
+
+/// Checks the rules of all names (7.1.4.1): each relative name has exactly one attribute, no type stands twice but where that is
+/// allowed, and the types whose order is laid down stand in that order, each at most once.
+///
+/// # Errors
+/// At the first relative name that breaks a rule: `NonUniqueRdn`, `NonUniqueATV`, or `InvalidAttribute` with its type; or want of
+/// memory.
+pub fn check_names_encoding(alloc: Global, name: &Name, multiple_allowed: bool) -> Result<(), Error>
+    ensures { Names multiple_allowed (name_plain name.now) result }
+{
+    types_of(alloc, name, multiple_allowed)?;
+    Ok(())
+}
+
+/// The first type that the name of an authority may not have.
+fn foreign_type(
+    allowed: &[ObjectIdentifier<39>],
+    found: &[ObjectIdentifier<39>],
+) -> Option<ObjectIdentifier<39>>
+    ensures { result ≡ find (λ u. not (is_among allowed.now u)) found.now }
+{
+    for place in 0..found.len() {
+        if !is_among(allowed, &found[place]) {
+            return Some(found[place]);
+        }
+    }
+    None
+}
+
+/// Whether these are all types that the name of an authority must have.
+fn has_required(found: &[ObjectIdentifier<39>]) -> bool
+    ensures { result ≡ has_required found.now }
+{
+    is_among(found, &types::country())
+        && is_among(found, &types::organization())
+        && is_among(found, &types::common_name())
+}
+
+/// Checks the name of an authority (7.1.2.10.2): it keeps the rules of all names, with no type twice, has country, organization and
+/// common name, and besides at most state or province, locality, postal code and street.
+///
+/// # Errors
+/// That of `check_names_encoding`; `InvalidAttribute` with the first type that it may not have; `MissingAttributes`; or want of
+/// memory.
+#[tactic(auto, using(crate::proofs::NamingSteps::lacking))]
+pub fn ca_certificate_naming(alloc: Global, subject: &Name) -> Result<(), Error>
+    ensures { NamesAuthority (name_plain subject.now) result }
+{
+    let found = types_of(alloc, subject, false)?;
+    match foreign_type(&types::authority_types(), found.as_slice()) {
+        Some(oid) => return Err(Error::InvalidAttribute { oid }),
+        None => {}
+    }
+    if has_required(found.as_slice()) {
+        return Ok(());
+    }
+    Err(Error::MissingAttributes)
+}
