@@ -1,7 +1,7 @@
 //! Questions and their answers.
 
 use crate::refusals::Refusal;
-use crate::{anchors, bundles, certificates, devices, errors, runs, splits};
+use crate::{bundles, certificates, devices, errors, runs, splits};
 use std::alloc::Global;
 use std::io;
 use std::io::Write;
@@ -25,7 +25,6 @@ fn answer_of(alloc: Global, line: &str) -> Result<String, Refusal> {
     let (word, rest) = line.split_once(' ').ok_or(Refusal::Unread)?;
     match word {
         "certificate" => certificates::answer(alloc, rest),
-        "anchor" => anchors::answer(alloc, rest),
         "pieces" => {
             let (schedules, line) = rest.split_once(' ').ok_or(Refusal::Unread)?;
             runs::answer(alloc, schedules, line)

@@ -1,9 +1,9 @@
 //! Certificates and their parts.
 
 use crate::refusals::Refusal;
-use crate::words::{octets_of, word_of, word_of_bits};
-use cert_desk::{CertificateInner, Raw, Time};
-use std::alloc::Global;
+use crate::words::{octets_of, word_of};
+use cert_desk::{BitString, CertificateInner, Raw, Time};
+use std::alloc::{AllocError, Global};
 
 /// Parts of a certificate, in the order in which they stand: those that have no lists inside.
 pub fn answer(alloc: Global, word: &str) -> Result<String, Refusal> {
@@ -28,4 +28,11 @@ pub fn answer(alloc: Global, word: &str) -> Result<String, Refusal> {
 /// The seconds since 1970-01-01T00:00:00Z.
 fn seconds(time: &Time) -> u64 {
     time.to_unix_duration().as_secs()
+}
+
+/// The octets of a bit string, and how many bits of the last one are unused.
+fn word_of_bits(alloc: Global, bits: &BitString) -> Result<String, AllocError> {
+    let octets = word_of(alloc, bits.raw_bytes())?;
+    let unused = bits.unused_bits();
+    format!(in alloc; "{octets}-{unused}")
 }

@@ -4,7 +4,6 @@
 //! | Question | Answer |
 //! |---|---|
 //! | `certificate HEX` | `ok` and the parts of the certificate that these octets spell |
-//! | `anchor HEX` | `ok` and the name and the key that the trust anchor gives that these octets spell |
 //! | `JUDGE check ANCHORS STREAM MOMENT PURPOSE LIMIT` | `STATUS OUTPUT ERRORS`, what the program answers to these arguments, where octets stand for the files |
 //! | `pieces SCHEDULE/SCHEDULE/SCHEDULE/SCHEDULE JUDGE check ..` | the same, where anchors, stream, output and error output move octets so |
 //! | `bundle LIMIT SCHEDULE HEX CALL ..` | what a bundle answers to each call in turn, and how it and its input stand then: `HEX` takes a piece, `end` ends the stream, `read` takes the input |
@@ -22,7 +21,6 @@
 //! is answered `refused KIND`, and `memory` where there is not enough.
 #![tactic(auto)]
 
-mod anchors;
 mod answers;
 mod bundles;
 mod certificates;

@@ -1,6 +1,5 @@
 //! Why a question has no other answer.
 
-use cert_desk::AnchorError;
 use der_core_head::{Error, ErrorKind};
 use hex::FromHexError;
 use std::alloc::AllocError;
@@ -14,10 +13,8 @@ pub enum Refusal {
     Unread,
     /// Want of memory.
     Memory,
-    /// Its octets spell no certificate, or no trust anchor.
+    /// Its octets spell no certificate.
     Der(ErrorKind),
-    /// Its trust anchor gives none.
-    Anchor(AnchorError),
 }
 
 impl From<Error> for Refusal {
@@ -25,15 +22,6 @@ impl From<Error> for Refusal {
         match error.kind {
             ErrorKind::OutOfMemory => Refusal::Memory,
             kind => Refusal::Der(kind),
-        }
-    }
-}
-
-impl From<AnchorError> for Refusal {
-    fn from(error: AnchorError) -> Refusal {
-        match error {
-            AnchorError::OutOfMemory => Refusal::Memory,
-            error => Refusal::Anchor(error),
         }
     }
 }
@@ -65,7 +53,6 @@ impl fmt::Display for Refusal {
             Refusal::Unread => f.write_str("?"),
             Refusal::Memory => f.write_str("memory"),
             Refusal::Der(kind) => write!(f, "refused {kind:?}"),
-            Refusal::Anchor(error) => write!(f, "refused {error:?}"),
         }
     }
 }

@@ -1,7 +1,6 @@
 //! Octets and numbers as words.
 
 use crate::refusals::Refusal;
-use cert_desk::BitString;
 use std::alloc::{AllocError, Global};
 
 /// The octets that a word spells in hexadecimal; `-` is none.
@@ -18,13 +17,6 @@ pub fn word_of(alloc: Global, octets: &[u8]) -> Result<String, AllocError> {
         return "-".to_string(alloc);
     }
     hex::encode(alloc, octets)
-}
-
-/// The octets of a bit string, and how many bits of the last one are unused.
-pub fn word_of_bits(alloc: Global, bits: &BitString) -> Result<String, AllocError> {
-    let octets = word_of(alloc, bits.raw_bytes())?;
-    let unused = bits.unused_bits();
-    format!(in alloc; "{octets}-{unused}")
 }
 
 /// The number that a word spells in decimal.
