@@ -2,7 +2,8 @@
 use Rattle.std.proofs.Common.{◌≡◌, ℕ, ℤ, List, ◌++◌, codes, ap, ◌∙◌}
 use Rattle.x509_cert_lists.specs.Certificates.{PlainCertificate, issuer, subject}
 use Rattle.x509_cert_lists.specs.Parts.{PlainName, PlainExtension}
-use Rattle.cert_desk_listing.specs.Listing.{name_text, serial_text, time_text, alone, labelled, extension_lines, certificate_lines}
+use Rattle.x509_cert_lists.specs.Texts.{name_text, serial_text, time_text}
+use Rattle.cert_desk_listing.specs.Listing.{alone, labelled, extension_lines, certificate_lines}
 use Rattle.cert_desk_listing.specs.Parts.{PlainTime, serial, not_before, not_after, extensions_of}
 
 -- the lines of these parts

@@ -1,44 +1,16 @@
 -- Listings of certificates, revocation lists and requests, line by line.
-use Rattle.std.specs.Prelude.{ℕ, ℤ, List, [], ◌++◌, map, codes, Option, Some, None, Result, Ok, Err, if◌then◌else◌}
-use Rattle.std.proofs.Common.{inl, inr}
+use Rattle.std.specs.Prelude.{ℕ, List, [], ◌++◌, codes, Option, Some, None, Result, Ok, Err, if◌then◌else◌}
 use Rattle.std.specs.List.{flat_map}
 use Rattle.const_oid_identifiers.specs.Comparing.{owned_eq}
 use Rattle.const_oid_identifiers.specs.DottedText.{dotted}
 use Rattle.der_core_head.specs.declared.error.ErrorKind.{ErrorKind}
 use Rattle.der_core_head.specs.declared.tag.Tag.TheVariants as tags
-use Rattle.der_core_head.specs.Integers.{integer_octets}
 use Rattle.der_core_head.specs.Shapes.{AnyValue}
-use Rattle.der_types_any.specs.Contents.{content_as}
-use Rattle.der_types_time.specs.DateTexts.{date_text}
-use Rattle.x509_cert_names.specs.Names.{TypeAndValue, type_of, value_of}
-use Rattle.x509_cert_names.specs.NameTexts.{name_printed}
-use Rattle.x509_cert_names.specs.declared.attribute_type_and_value.AttributeTypeAndValue.{AttributeTypeAndValue}
-use Rattle.x509_cert_parts.specs.SerialNumbers.{colon_pairs}
 use Rattle.x509_cert_lists.specs.Certificates.{PlainCertificate, issuer, subject}
 use Rattle.x509_cert_lists.specs.Grammar.{extension_req_arcs, extension_req_content}
-use Rattle.x509_cert_lists.specs.Parts.{PlainName, PlainAttribute, PlainExtension, extension_arcs, is_critical, arc_bound}
+use Rattle.x509_cert_lists.specs.Parts.{PlainName, PlainAttribute, PlainExtension, extension_arcs, is_critical, arc_bound, content_as}
+use Rattle.x509_cert_lists.specs.Texts.{name_text, serial_text, time_text}
 use Rattle.cert_desk_listing.specs.Parts.{serial, not_before, not_after, extensions_of, PlainTime, PlainList, PlainRevoked, list_issuer, this_update, next_update, revoked, list_extensions, revoked_serial, revoked_date, PlainRequest, request_subject, request_attributes, attribute_arcs, attribute_values}
-
--- Texts.
-
--- an attribute of a name
-abbrev pub attribute_of : TypeAndValue → AttributeTypeAndValue
-attribute_of a = record { oid = type_of a; value = value_of a }
-
--- a name as it is printed (RFC 4514 2)
-unfoldable pub name_text : PlainName → List ℕ
-name_text n = name_printed (map (map attribute_of) n)
-
--- the content octets of a serial number, as pairs of digits in base 16 with colons between them
-abbrev pub serial_text : ℤ → List ℕ
-serial_text n = colon_pairs (integer_octets n)
-
--- YYYY-MM-DDTHH:MM:SSZ, of either spelling
-unfoldable pub time_text : PlainTime → List ℕ
-time_text (inl date) = date_text date
-time_text (inr date) = date_text date
-
--- Lines.
 
 -- a label
 abbrev pub alone : List ℕ → List ℕ

@@ -4,7 +4,8 @@ ghost use Rattle.std.specs.List.{flat_map};
 ghost use Rattle.der_core_head.specs.Grammar.{plain_option, plain_list};
 ghost use Rattle.x509_cert_lists.specs.Parts.{name_plain, attribute_plain, extension_plain, extensions_plain, time_value};
 ghost use Rattle.x509_cert_lists.specs.Views.{revoked_cert_plain};
-ghost use Rattle.cert_desk_listing.specs.Listing.{name_text, serial_text, time_text, alone, labelled, extension_line, extension_lines, next_update_line, revoked_line, revoked_lines, value_lines, attribute_lines};
+ghost use Rattle.x509_cert_lists.specs.Texts.{name_text, serial_text, time_text};
+ghost use Rattle.cert_desk_listing.specs.Listing.{alone, labelled, extension_line, extension_lines, next_update_line, revoked_line, revoked_lines, value_lines, attribute_lines};
 ghost use Rattle.cert_desk_listing.specs.Parts.{listed};
 
 use const_oid::AssociatedOid;

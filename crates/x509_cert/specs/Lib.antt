@@ -1,4 +1,5 @@
 pub mod Certificates
 pub mod Extensions
 pub mod Views
+pub mod Texts
 pub mod Anchors

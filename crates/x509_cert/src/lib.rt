@@ -2,7 +2,9 @@
 //! RFC 6962): what the inner crates have, under one name.
 #![tactic(auto)]
 
-pub mod timestamps;
+mod pki_path;
+
+pub use pki_path::PkiPath;
 
 // Certificates.
 pub use x509_cert_anchors::{
@@ -18,19 +20,19 @@ pub use x509_cert_anchors::{
 // Contents of extensions.
 pub use x509_cert_anchors::{
     AccessDescription, AuthorityInfoAccessSyntax, AuthorityKeyIdentifier, BaseCrlNumber,
-    BasicConstraints, CertificatePolicies, CpsUri, Criticality, CrlDistributionPoints, CrlNumber,
-    CrlReason, DisplayText, DistributionPoint, DistributionPointName, EdiPartyName,
+    BasicConstraints, CertDigest, CertificatePolicies, CpsUri, Criticality, CrlDistributionPoints,
+    CrlNumber, CrlReason, DisplayText, DistributionPoint, DistributionPointName, EdiPartyName,
     ExtendedKeyUsage, FreshestCrl, GeneralName, GeneralNames, GeneralSubtree, GeneralSubtrees,
     HardwareModuleName, InhibitAnyPolicy, IssuerAltName, IssuingDistributionPoint, KeyUsage,
     KeyUsages, NameConstraints, NoticeReference, OtherName, PolicyConstraints, PolicyInformation,
     PolicyMapping, PolicyMappings, PolicyQualifierInfo, PrivateKeyUsagePeriod, ReasonFlags,
     Reasons, SubjectAltName, SubjectDirectoryAttributes, SubjectInfoAccessSyntax,
-    SubjectKeyIdentifier, ToExtension, UserNotice, laws,
+    SubjectKeyIdentifier, ToExtension, TryFromKey, UserNotice, hash, laws, timestamps,
 };
 
 // Lists, requests and anchors.
 pub use x509_cert_anchors::{
-    CertPathControls, CertPolicies, CertPolicyFlags, CertReq, CertReqInfo, CertificateList,
-    ExtensionReq, RevokedCert, TbsCertList, TrustAnchorChoice, TrustAnchorInfo,
-    TryFromExtensionReq, anchor, request,
+    AsAttribute, CertPathControls, CertPolicies, CertPolicyFlags, CertReq, CertReqInfo,
+    CertificateList, ChallengePassword, ExtensionReq, RevokedCert, TbsCertList, TrustAnchorChoice,
+    TrustAnchorInfo, TryFromExtensionReq, anchor, request,
 };

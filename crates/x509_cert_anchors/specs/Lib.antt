@@ -1,4 +1,5 @@
 pub mod Certificates
 pub mod Grammar
 pub mod Parts
+pub mod Texts
 pub mod Views

@@ -26,18 +26,18 @@ pub use x509_cert_lists::{
 // Contents of extensions.
 pub use x509_cert_lists::{
     AccessDescription, AuthorityInfoAccessSyntax, AuthorityKeyIdentifier, BaseCrlNumber,
-    BasicConstraints, CertificatePolicies, CpsUri, Criticality, CrlDistributionPoints, CrlNumber,
-    CrlReason, DisplayText, DistributionPoint, DistributionPointName, EdiPartyName,
+    BasicConstraints, CertDigest, CertificatePolicies, CpsUri, Criticality, CrlDistributionPoints,
+    CrlNumber, CrlReason, DisplayText, DistributionPoint, DistributionPointName, EdiPartyName,
     ExtendedKeyUsage, FreshestCrl, GeneralName, GeneralNames, GeneralSubtree, GeneralSubtrees,
     HardwareModuleName, InhibitAnyPolicy, IssuerAltName, IssuingDistributionPoint, KeyUsage,
     KeyUsages, NameConstraints, NoticeReference, OtherName, PolicyConstraints, PolicyInformation,
     PolicyMapping, PolicyMappings, PolicyQualifierInfo, PrivateKeyUsagePeriod, ReasonFlags,
     Reasons, SubjectAltName, SubjectDirectoryAttributes, SubjectInfoAccessSyntax,
-    SubjectKeyIdentifier, ToExtension, UserNotice, laws,
+    SubjectKeyIdentifier, ToExtension, TryFromKey, UserNotice, hash, laws, timestamps,
 };
 
 // Lists and requests.
 pub use x509_cert_lists::{
-    CertReq, CertReqInfo, CertificateList, ExtensionReq, RevokedCert, TbsCertList,
-    TryFromExtensionReq, request,
+    AsAttribute, CertReq, CertReqInfo, CertificateList, ChallengePassword, ExtensionReq,
+    RevokedCert, TbsCertList, TryFromExtensionReq, request,
 };

@@ -1,3 +1,4 @@
 pub mod Certificates
 pub mod Parts
+pub mod Texts
 pub mod Views

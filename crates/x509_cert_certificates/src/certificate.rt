@@ -30,9 +30,12 @@ use x509_cert_parts::{AlgorithmIdentifier, BitString, Profile, Rfc5280};
 #[derive(Drop)]
 #[derive_where(Clone, Debug, PartialEq, Eq)]
 pub struct CertificateInner<P = Rfc5280> {
-    tbs_certificate: TbsCertificateInner<P>,
-    signature_algorithm: AlgorithmIdentifier,
-    signature: BitString,
+    /// What is signed.
+    pub tbs_certificate: TbsCertificateInner<P>,
+    /// The algorithm by which it is signed.
+    pub signature_algorithm: AlgorithmIdentifier,
+    /// The issuer's signature of the octets of what is signed.
+    pub signature: BitString,
 }
 
 /// A certificate by the profile of RFC 5280.

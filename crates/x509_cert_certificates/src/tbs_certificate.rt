@@ -44,16 +44,26 @@ use x509_cert_parts::{
 #[derive(Drop)]
 #[derive_where(Clone, Debug, PartialEq, Eq)]
 pub struct TbsCertificateInner<P = Rfc5280> {
-    version: Version,
-    serial_number: SerialNumber<P>,
-    signature: AlgorithmIdentifier,
-    issuer: Name,
-    validity: Validity<P>,
-    subject: Name,
-    subject_public_key_info: SubjectPublicKeyInfo,
-    issuer_unique_id: Option<BitString>,
-    subject_unique_id: Option<BitString>,
-    extensions: Option<Extensions>,
+    /// Its version, which says which fields it may have.
+    pub version: Version,
+    /// Its number, which its issuer gives once.
+    pub serial_number: SerialNumber<P>,
+    /// The algorithm by which it is signed, the same as outside the signed part.
+    pub signature: AlgorithmIdentifier,
+    /// The name of who signs it.
+    pub issuer: Name,
+    /// From when until when it is valid.
+    pub validity: Validity<P>,
+    /// The name of whom the key belongs to.
+    pub subject: Name,
+    /// The key that is certified.
+    pub subject_public_key_info: SubjectPublicKeyInfo,
+    /// Bits that tell the issuer from others of the name.
+    pub issuer_unique_id: Option<BitString>,
+    /// Bits that tell the subject from others of the name.
+    pub subject_unique_id: Option<BitString>,
+    /// What else is said of it.
+    pub extensions: Option<Extensions>,
 }
 
 /// The signed part by the profile of RFC 5280.

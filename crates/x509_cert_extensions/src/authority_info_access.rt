@@ -1,6 +1,6 @@
 //! AuthorityInfoAccessSyntax.
 
-ghost use Rattle.std.specs.Prelude.{◌≡◌, refl};
+ghost use Rattle.std.specs.Prelude.{◌≡◌, [], refl};
 ghost use Rattle.der_core_head.specs.declared.tag.Tag.TheVariants.{Sequence};
 ghost use Rattle.der_core_head.specs.Grammar.{plain_list};
 ghost use Rattle.der_core_head.specs.Shapes.{nested, many, sequence};
@@ -21,6 +21,15 @@ use x509_cert_policies::AccessDescription;
 /// ```
 #[derive(Clone, Debug, Drop, PartialEq, Eq)]
 pub struct AuthorityInfoAccessSyntax(pub Vec<AccessDescription>);
+
+impl AuthorityInfoAccessSyntax {
+    /// No descriptions.
+    pub fn default(alloc: Global) -> AuthorityInfoAccessSyntax
+        ensures { result.0.items ≡ [] }
+    {
+        AuthorityInfoAccessSyntax(Vec::new(alloc))
+    }
+}
 
 impl FixedTag for AuthorityInfoAccessSyntax {
     ghost fixed_tag = { Sequence };

@@ -20,6 +20,7 @@ use x509_cert_policies::{
     IssuingDistributionPoint, Name, NameConstraints, PolicyConstraints, PolicyMappings,
     PrivateKeyUsagePeriod,
 };
+use x509_cert_timestamps::SignedCertificateTimestampList;
 
 /// Whether an extension is marked as critical where it is added to a certificate or to a list (RFC 5280 4.2).
 pub trait Criticality {
@@ -196,6 +197,15 @@ impl Criticality for SubjectKeyIdentifier {
 }
 
 impl Criticality for CrlReason {
+    ghost is_critical = { λ _ _ _. false };
+
+    fn criticality(&self, _subject: &Name, _extensions: &[Extension]) -> bool {
+        false
+    }
+}
+
+/// A non-critical extension (RFC 6962 3.3).
+impl Criticality for SignedCertificateTimestampList {
     ghost is_critical = { λ _ _ _. false };
 
     fn criticality(&self, _subject: &Name, _extensions: &[Extension]) -> bool {

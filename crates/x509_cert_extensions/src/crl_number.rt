@@ -1,14 +1,16 @@
 //! CrlNumber.
 
-ghost use Rattle.std.specs.Prelude.{◌≡◌, pos, refl};
+ghost use Rattle.std.specs.Prelude.{◌≡◌, pos, refl, Ok};
 ghost use Rattle.der_core_head.specs.declared.tag.Tag.TheVariants.{Integer};
 ghost use Rattle.der_core_head.specs.Leaves.{integer};
 ghost use Rattle.der_core_head.specs.Integers.{natural};
+ghost use Rattle.der_core_head.specs.Reading.{Gives};
 ghost use Rattle.der_core_head.specs.Shapes.{leaf};
 
+use der_core::making::integer_octets_of;
 use der_core::{
-    ApartValue, AsReadValue, DecodeValue, EncodeValue, Error, FixedTag, Header, Length, Reader,
-    ShapedValue, Tag, ValueOrd, Writer,
+    ApartValue, AsReadValue, DecodeValue, EncodeValue, Error, FixedTag, Header, Leaf, Length,
+    Reader, ShapedValue, Tag, ValueOrd, Writer,
 };
 use std::alloc::Global;
 use std::cmp::Ordering;
@@ -21,6 +23,20 @@ use x509_cert_policies::Uint;
 /// ```
 #[derive(Clone, Debug, Drop, PartialEq, Eq)]
 pub struct CrlNumber(pub Uint);
+
+impl CrlNumber {
+    /// This number. A list may have one of up to 20 octets (RFC 5280 5.2.3): `From<Uint>` makes those of more than 16.
+    ///
+    /// # Errors
+    /// Want of memory.
+    pub fn try_from_u128(alloc: Global, number: u128) -> Result<CrlNumber, Error>
+        ensures { Gives (λ n. pos n.0) result (Ok (pos number)) }
+    {
+        let (octets, start) = integer_octets_of(false, number);
+        let inner = Uint::from_content(alloc, Tag::Integer, &octets[start..])?;
+        Ok(CrlNumber(inner))
+    }
+}
 
 impl FixedTag for CrlNumber {
     ghost fixed_tag = { Integer };

@@ -1,6 +1,6 @@
 //! FreshestCrl.
 
-ghost use Rattle.std.specs.Prelude.{◌≡◌, refl};
+ghost use Rattle.std.specs.Prelude.{◌≡◌, [], refl};
 ghost use Rattle.der_core_head.specs.declared.tag.Tag.TheVariants.{Sequence};
 ghost use Rattle.der_core_head.specs.Grammar.{plain_list};
 ghost use Rattle.der_core_head.specs.Shapes.{nested, many, sequence};
@@ -21,6 +21,15 @@ use x509_cert_policies::DistributionPoint;
 /// ```
 #[derive(Clone, Debug, Drop, PartialEq, Eq)]
 pub struct FreshestCrl(pub Vec<DistributionPoint>);
+
+impl FreshestCrl {
+    /// No points.
+    pub fn default(alloc: Global) -> FreshestCrl
+        ensures { result.0.items ≡ [] }
+    {
+        FreshestCrl(Vec::new(alloc))
+    }
+}
 
 impl FixedTag for FreshestCrl {
     ghost fixed_tag = { Sequence };

@@ -1,6 +1,6 @@
 //! IssuerAltName.
 
-ghost use Rattle.std.specs.Prelude.{◌≡◌, refl};
+ghost use Rattle.std.specs.Prelude.{◌≡◌, [], refl};
 ghost use Rattle.der_core_head.specs.declared.tag.Tag.TheVariants.{Sequence};
 ghost use Rattle.der_core_head.specs.Grammar.{plain_list};
 ghost use Rattle.der_core_head.specs.Shapes.{nested, many};
@@ -21,6 +21,15 @@ use x509_cert_policies::GeneralNames;
 /// ```
 #[derive(Clone, Debug, Drop, PartialEq, Eq)]
 pub struct IssuerAltName(pub GeneralNames);
+
+impl IssuerAltName {
+    /// No names.
+    pub fn default(alloc: Global) -> IssuerAltName
+        ensures { result.0.items ≡ [] }
+    {
+        IssuerAltName(Vec::new(alloc))
+    }
+}
 
 impl FixedTag for IssuerAltName {
     ghost fixed_tag = { Sequence };

@@ -3,6 +3,7 @@
 
 mod authority_info_access;
 mod base_crl_number;
+mod cert_digest;
 mod criticality;
 mod crl_distribution_points;
 mod crl_number;
@@ -11,16 +12,19 @@ mod extended_key_usage;
 mod freshest_crl;
 mod identifiers;
 mod issuer_alt_name;
+mod key_identifier;
 mod key_usage;
 pub mod making;
 mod subject_alt_name;
 mod subject_directory_attributes;
 mod subject_info_access;
 mod subject_key_identifier;
+pub mod timestamps;
 mod to_extension;
 
 pub use authority_info_access::AuthorityInfoAccessSyntax;
 pub use base_crl_number::BaseCrlNumber;
+pub use cert_digest::{CertDigest, hash};
 pub use criticality::Criticality;
 pub use crl_distribution_points::CrlDistributionPoints;
 pub use crl_number::CrlNumber;
@@ -28,6 +32,7 @@ pub use crl_reason::CrlReason;
 pub use extended_key_usage::ExtendedKeyUsage;
 pub use freshest_crl::FreshestCrl;
 pub use issuer_alt_name::IssuerAltName;
+pub use key_identifier::TryFromKey;
 pub use key_usage::{KeyUsage, KeyUsages};
 pub use subject_alt_name::SubjectAltName;
 pub use subject_directory_attributes::SubjectDirectoryAttributes;

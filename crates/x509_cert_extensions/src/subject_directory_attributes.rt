@@ -1,6 +1,6 @@
 //! SubjectDirectoryAttributes.
 
-ghost use Rattle.std.specs.Prelude.{◌≡◌, refl};
+ghost use Rattle.std.specs.Prelude.{◌≡◌, [], refl};
 ghost use Rattle.der_core_head.specs.declared.tag.Tag.TheVariants.{Sequence};
 ghost use Rattle.der_core_head.specs.Grammar.{plain_list};
 ghost use Rattle.der_core_head.specs.Shapes.{nested, many};
@@ -21,6 +21,15 @@ use x509_cert_policies::Attribute;
 /// ```
 #[derive(Drop)]
 pub struct SubjectDirectoryAttributes(pub Vec<Attribute>);
+
+impl SubjectDirectoryAttributes {
+    /// No attributes.
+    pub fn default(alloc: Global) -> SubjectDirectoryAttributes
+        ensures { result.0.items ≡ [] }
+    {
+        SubjectDirectoryAttributes(Vec::new(alloc))
+    }
+}
 
 impl FixedTag for SubjectDirectoryAttributes {
     ghost fixed_tag = { Sequence };

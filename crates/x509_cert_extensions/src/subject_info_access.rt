@@ -1,6 +1,6 @@
 //! SubjectInfoAccessSyntax.
 
-ghost use Rattle.std.specs.Prelude.{◌≡◌, refl};
+ghost use Rattle.std.specs.Prelude.{◌≡◌, [], refl};
 ghost use Rattle.der_core_head.specs.declared.tag.Tag.TheVariants.{Sequence};
 ghost use Rattle.der_core_head.specs.Grammar.{plain_list};
 ghost use Rattle.der_core_head.specs.Shapes.{nested, many, sequence};
@@ -21,6 +21,15 @@ use x509_cert_policies::AccessDescription;
 /// ```
 #[derive(Clone, Debug, Drop, PartialEq, Eq)]
 pub struct SubjectInfoAccessSyntax(pub Vec<AccessDescription>);
+
+impl SubjectInfoAccessSyntax {
+    /// No descriptions.
+    pub fn default(alloc: Global) -> SubjectInfoAccessSyntax
+        ensures { result.0.items ≡ [] }
+    {
+        SubjectInfoAccessSyntax(Vec::new(alloc))
+    }
+}
 
 impl FixedTag for SubjectInfoAccessSyntax {
     ghost fixed_tag = { Sequence };

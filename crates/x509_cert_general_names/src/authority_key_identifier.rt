@@ -29,7 +29,7 @@ use x509_cert_certificates::{OctetString, SerialNumber};
 ///
 /// KeyIdentifier ::= OCTET STRING
 /// ```
-#[derive(Clone, Debug, Drop, PartialEq, Eq)]
+#[derive(Clone, Debug, Default, Drop, PartialEq, Eq)]
 pub struct AuthorityKeyIdentifier {
     /// The identifier of the key.
     pub key_identifier: Option<OctetString>,

@@ -1,9 +1,12 @@
 //! GeneralName.
 
-ghost use Rattle.std.specs.Prelude.{◌≡◌, refl};
+ghost use Rattle.std.specs.Prelude.{◌≡◌, ◌≤◌, vec_len, refl, IfOk, IfErr};
+ghost use Rattle.der_core_head.specs.declared.error.ErrorKind.TheVariants.{OutOfMemory};
 ghost use Rattle.x509_cert_certificates.specs.Parts.{arc_bound};
+ghost use Rattle.x509_cert_general_names.specs.Addresses.{address_octets};
 ghost use Rattle.x509_cert_general_names.specs.Grammar.{general_name};
 ghost use Rattle.x509_cert_general_names.specs.Views.{general_name_plain};
+ghost use Rattle.x509_cert_general_names.specs.declared.general_name.GeneralName.TheVariants as names;
 
 use crate::edi_party_name::EdiPartyName;
 use crate::implicit_ref::ImplicitRef;
@@ -13,8 +16,9 @@ use der_core::{
     AsRead, Choice, Decode, DerOrd, Element, Encode, EncodeRef, Error, Explicit, FirstTag,
     Implicit, Length, Member, OneOf8, Reader, Shaped, Tag, Writer,
 };
-use std::alloc::Global;
+use std::alloc::{AllocError, Global};
 use std::cmp::Ordering;
+use std::net::IpAddr;
 use x509_cert_certificates::{Ia5String, Name, OctetString};
 
 /// A name of one of the kinds that a certificate can give (RFC 5280 4.2.1.6). An address of X.400 isn't read.
@@ -72,7 +76,37 @@ type CasesRef<'a> = OneOf8<
     ImplicitRef<'a, ObjectIdentifier<39>, 8>,
 >;
 
+/// The octets of an address, in the order of the network.
+fn octets_of(alloc: Global, address: IpAddr) -> Result<Vec<u8>, AllocError>
+    ensures octets { IfOk result (λ v. v.items ≡ address_octets address) }
+    ensures few { IfOk result (λ v. vec_len v ≤ 16) }
+{
+    match address {
+        IpAddr::V4(address) => {
+            let octets = address.octets().as_slice().to_vec(alloc)?;
+            Ok(octets)
+        }
+        IpAddr::V6(address) => {
+            let octets = address.octets().as_slice().to_vec(alloc)?;
+            Ok(octets)
+        }
+    }
+}
+
 impl GeneralName {
+    /// The name of an address: its four octets (RFC 791 3.1), or its sixteen (RFC 4291 2).
+    ///
+    /// # Errors
+    /// Want of memory.
+    pub fn from_ip(alloc: Global, address: IpAddr) -> Result<GeneralName, Error>
+        ensures ok { IfOk result (λ n. n ≡ names.IpAddress (address_octets address)) }
+        ensures err { IfErr result (λ e. e.kind ≡ OutOfMemory) }
+    {
+        let octets = octets_of(alloc, address)?;
+        let octets = OctetString::new(octets)?;
+        Ok(GeneralName::IpAddress(octets))
+    }
+
     /// The same alternative, lent.
     fn cases<'a>(&'a self) -> CasesRef<'a>
         ensures { ⟦<CasesRef<'a> as Shaped>⟧.written result ≡ general_name_plain self.now }

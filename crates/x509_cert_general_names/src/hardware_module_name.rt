@@ -1,12 +1,17 @@
 //! HardwareModuleName.
 
-ghost use Rattle.std.specs.Prelude.{◌≡◌, refl};
+ghost use Rattle.std.specs.Prelude.{◌≡◌, true, false, Ok, Some, None, IsSome, IfOk, IfSome, refl};
 ghost use Rattle.der_core_head.specs.declared.tag.Tag.TheVariants.{Sequence};
+ghost use Rattle.der_core_head.specs.Grammar.{plain_option};
+ghost use Rattle.der_core_head.specs.Reading.{Gives};
 ghost use Rattle.der_core_head.specs.Shapes.{nested};
 ghost use Rattle.x509_cert_certificates.specs.Parts.{arc_bound};
 ghost use Rattle.x509_cert_general_names.specs.Grammar.{hardware_module_name_fields};
-ghost use Rattle.x509_cert_general_names.specs.Views.{hardware_module_name_plain};
+ghost use Rattle.x509_cert_general_names.specs.Modules.{PlainModule, is_of_module, HasEncoding, HoldsModule};
+ghost use Rattle.x509_cert_general_names.specs.Views.{hardware_module_name_plain, other_name_plain};
 
+use crate::other_name::OtherName;
+use const_oid::AssociatedOid;
 use const_oid_identifiers::ObjectIdentifier;
 use der_core::making::read_fields;
 use der_core::{
@@ -40,6 +45,32 @@ type RowRef<'a> = (
 );
 
 impl HardwareModuleName {
+    /// The module that another name holds; none where it is of another kind.
+    ///
+    /// # Errors
+    /// `TagUnexpected` where the value of the name is no SEQUENCE, the first fault of its content, or `OutOfMemory`.
+    pub fn from_other_name(
+        alloc: Global,
+        other_name: &OtherName,
+    ) -> Result<Option<HardwareModuleName>, Error>
+        // A name of another kind holds none.
+        ensures other { is_of_module (other_name_plain other_name.now) ≡ false → result ≡ Ok None }
+        // One of this kind holds a module, or is refused.
+        ensures held { is_of_module (other_name_plain other_name.now) ≡ true → IfOk result IsSome }
+        // The module that is answered is spelled by the value.
+        ensures spelled { HasEncoding (other_name_plain other_name.now)
+            → IfOk result (λ o. IfSome o (λ m. HoldsModule arc_bound (other_name_plain other_name.now) (hardware_module_name_plain m))) }
+        // A module that is spelled by the value is answered, unless memory runs out.
+        ensures only { (m : PlainModule) → is_of_module (other_name_plain other_name.now) ≡ true → HasEncoding (other_name_plain other_name.now)
+            → HoldsModule arc_bound (other_name_plain other_name.now) m → Gives (plain_option hardware_module_name_plain) result (Ok (Some m)) }
+    {
+        if other_name.type_id == HardwareModuleName::associated_oid() {
+            let module: HardwareModuleName = other_name.value.decode_as(alloc)?;
+            return Ok(Some(module));
+        }
+        Ok(None)
+    }
+
     /// Its fields, lent.
     fn row<'a>(&'a self) -> RowRef<'a>
         ensures { ⟦<RowRef<'a> as Fields>⟧.fields_written result ≡ hardware_module_name_plain self.now }

@@ -2,6 +2,7 @@
 #![tactic(auto, unfolding(const_oid_identifiers::specs::Bound::Bound, const_oid_identifiers::specs::TextReading::text_arcs, const_oid_identifiers::specs::ArcLists::add_arc, const_oid_identifiers::specs::ArcLists::whole_arcs, const_oid_identifiers::specs::IdentifierOctets::identifier_octets, const_oid_identifiers::specs::IdentifierOctets::arc_octets, const_oid_identifiers::specs::Digits::digits, const_oid_identifiers::specs::Digits::digits_within, const_oid_identifiers::specs::Digits::marked))]
 
 ghost use Rattle.std.specs.Prelude.{◌∷◌, []};
+ghost use Rattle.x509_cert_general_names.specs.Modules.{module_arcs};
 
 use crate::authority_key_identifier::AuthorityKeyIdentifier;
 use crate::hardware_module_name::HardwareModuleName;
@@ -36,7 +37,7 @@ impl AssociatedOid for NameConstraints {
 
 /// The identifier behind which it is held as `OtherName` (RFC 4108 5).
 impl AssociatedOid for HardwareModuleName {
-    ghost oid_arcs = { 1 ∷ 3 ∷ 6 ∷ 1 ∷ 5 ∷ 5 ∷ 7 ∷ 8 ∷ 4 ∷ [] };
+    ghost oid_arcs = { module_arcs };
 
     fn associated_oid() -> ObjectIdentifier<39> {
         ObjectIdentifier::new_unwrap("1.3.6.1.5.5.7.8.4")

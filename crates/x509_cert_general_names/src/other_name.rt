@@ -2,11 +2,15 @@
 
 ghost use Rattle.std.specs.Prelude.{◌≡◌, refl};
 ghost use Rattle.der_core_head.specs.declared.tag.Tag.TheVariants.{Sequence};
+ghost use Rattle.der_core_head.specs.Reading.{Gives};
 ghost use Rattle.der_core_head.specs.Shapes.{nested};
 ghost use Rattle.x509_cert_certificates.specs.Parts.{arc_bound};
 ghost use Rattle.x509_cert_general_names.specs.Grammar.{other_name_fields};
-ghost use Rattle.x509_cert_general_names.specs.Views.{other_name_plain};
+ghost use Rattle.x509_cert_general_names.specs.Modules.{module_held};
+ghost use Rattle.x509_cert_general_names.specs.Views.{hardware_module_name_plain, other_name_plain};
 
+use crate::hardware_module_name::HardwareModuleName;
+use const_oid::AssociatedOid;
 use const_oid_identifiers::ObjectIdentifier;
 use der_core::making::read_fields;
 use der_core::{
@@ -41,6 +45,20 @@ type RowRef<'a> = (
 );
 
 impl OtherName {
+    /// The name that holds this module.
+    ///
+    /// # Errors
+    /// `Overflow` where the module has 2^32 octets or more, or `OutOfMemory`.
+    pub fn try_from(alloc: Global, named: &HardwareModuleName) -> Result<OtherName, Error>
+        ensures { Gives other_name_plain result (module_held arc_bound (hardware_module_name_plain named.now)) }
+    {
+        let value = Any::encode_from(alloc, named)?;
+        Ok(OtherName {
+            type_id: HardwareModuleName::associated_oid(),
+            value,
+        })
+    }
+
     /// Its fields, lent.
     fn row<'a>(&'a self) -> RowRef<'a>
         ensures { ⟦<RowRef<'a> as Fields>⟧.fields_written result ≡ other_name_plain self.now }

@@ -1,4 +1,6 @@
+pub mod Attributes
 pub mod Certificates
 pub mod Grammar
 pub mod Parts
+pub mod Texts
 pub mod Views

@@ -6,4 +6,5 @@ pub mod AttributeTypes
 pub mod Ordered
 pub mod ValueTexts
 pub mod NameTexts
+pub mod PlainTexts
 pub mod Values

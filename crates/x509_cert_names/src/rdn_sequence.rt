@@ -264,6 +264,15 @@ impl From<Vec<RelativeDistinguishedName>> for RdnSequence {
     }
 }
 
+/// The list of relative names.
+impl AsRef<Vec<RelativeDistinguishedName>> for RdnSequence {
+    fn as_ref(&self) -> &Vec<RelativeDistinguishedName>
+        ensures { result.now ≡ self.now.relative_names }
+    {
+        &self.relative_names
+    }
+}
+
 /// The relative names, the widest first.
 impl From<RdnSequence> for Vec<RelativeDistinguishedName> {
     ghost from_gives = { λ sequence names. names ≡ sequence.relative_names };

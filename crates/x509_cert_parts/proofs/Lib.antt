@@ -1,4 +1,5 @@
 pub mod Shorter
 pub mod Respelled
+mod Fills
 mod OctetNumbers
 mod SameOctets

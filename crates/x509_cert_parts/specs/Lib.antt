@@ -1,6 +1,8 @@
 pub mod Grammar
 pub mod Respelling
 pub mod SerialNumbers
+pub mod Drawing
+pub mod Texts
 pub mod Times
 pub mod Views
 pub mod NameParts

@@ -3,4 +3,4 @@ pub use Rattle.x509_cert_names.specs.DirectoryStrings.{directory_plain}
 pub use Rattle.x509_cert_names.specs.Names.{PlainName, PlainAttribute, name, name_octets, type_and_value, attribute, directory_string}
 pub use Rattle.x509_cert_names.specs.Pairs.{relative_plain}
 pub use Rattle.x509_cert_names.specs.Views.{name_plain, attribute_plain}
-pub use Rattle.x509_cert_names.specs.Values.{written_as}
+pub use Rattle.x509_cert_names.specs.Values.{any_lent, content_as, written_as}

@@ -4,6 +4,7 @@
 
 mod algorithm_identifier;
 mod algorithm_identifier_ref;
+mod drawing;
 mod extension;
 mod extension_search;
 mod extensions_of;

@@ -1,6 +1,6 @@
 //! Serial numbers.
 
-ghost use Rattle.std.specs.Prelude.{◌≡◌, pos, nat_eq, Some, Ok, IfOk};
+ghost use Rattle.std.specs.Prelude.{◌≡◌, ◌++◌, [], pos, nat_eq, Some, Ok, IfOk};
 ghost use Rattle.std.proofs.Common.{refl};
 ghost use Rattle.std.specs.Cmp.{po, partial_equiv_from_equiv, on_equiv, on_per};
 ghost use Rattle.std.specs.Cmp.Lexicographic.{pointwise, nat_list_eq_equiv};
@@ -10,9 +10,11 @@ ghost use Rattle.der_core_head.specs.Leaves.{integer};
 ghost use Rattle.der_core_head.specs.Reading.{Gives};
 ghost use Rattle.der_core_head.specs.Shapes.{leaf};
 ghost use Rattle.der_types_numbers.specs.NumberOrders.{integer_cmp, integer_cmp_total, integer_cmp_ties};
+ghost use Rattle.x509_cert_parts.specs.Drawing.{drawn_serial};
 ghost use Rattle.x509_cert_parts.specs.Grammar.{numbers_within};
 ghost use Rattle.x509_cert_parts.specs.SerialNumbers.{new_serial};
 
+use crate::drawing::fill_without_zero;
 use crate::profile::{Profile, Rfc5280};
 use crate::serial_text::write_octets;
 use der_core::making::{decode_leaf, integer_octets_of, value_cmp_by_contents};
@@ -21,6 +23,7 @@ use der_core::{
     Length, Reader, ShapedValue, Tag, ValueOrd, Writer,
 };
 use der_types_numbers::{Int, Uint};
+use rand_core::CryptoRng;
 use std::alloc::{AllocError, Global};
 use std::cmp::Ordering;
 use std::fmt;
@@ -87,6 +90,63 @@ impl<P> SerialNumber<P> {
             inner,
             profile: PhantomData,
         })
+    }
+
+    /// A number of 17 random octets, of which the first isn't 0.
+    ///
+    /// # Errors
+    /// `Failed` where sixteen fills in turn began with 0; `OutOfMemory`, with the generator as after the fills.
+    pub fn generate<R: CryptoRng>(alloc: Global, rng: &mut R) -> Result<SerialNumber<P>, Error>
+        ensures number { Gives (λ n. n) result (drawn_serial [] 17 (R.stream rng.old)).0 }
+        ensures left { R.stream rng.new ≡ (drawn_serial [] 17 (R.stream rng.old)).1 }
+    {
+        let serial = SerialNumber::generate_with_prefix(alloc, &[], 17, rng)?;
+        Ok(serial)
+    }
+
+    /// A number of these octets with so many random ones behind them, of which the first isn't 0. For each fill all of the random
+    /// ones are drawn again.
+    ///
+    /// # Errors
+    /// `Failed` for fewer than 8 random octets, for more than 19 octets in all, and where sixteen fills in turn began with 0;
+    /// `OutOfMemory`, with the generator as after the fills.
+    #[tactic(auto, unfolding(crate::specs::Drawing::drawn_serial))]
+    pub fn generate_with_prefix<R: CryptoRng>(
+        alloc: Global,
+        prefix: &[u8],
+        rand_len: usize,
+        rng: &mut R,
+    ) -> Result<SerialNumber<P>, Error>
+        ensures number { Gives (λ n. n) result (drawn_serial prefix.now rand_len (R.stream rng.old)).0 }
+        ensures left { R.stream rng.new ≡ (drawn_serial prefix.now rand_len (R.stream rng.old)).1 }
+    {
+        if rand_len < 8 {
+            return Err(Error::from(ErrorKind::Failed));
+        }
+        if prefix.len() > 19 {
+            return Err(Error::from(ErrorKind::Failed));
+        }
+        if rand_len > 19 - prefix.len() {
+            return Err(Error::from(ErrorKind::Failed));
+        }
+        let mut octets = [0; 19];
+        let random = &mut octets[..rand_len];
+        if !fill_without_zero(rng, random) {
+            return Err(Error::from(ErrorKind::Failed));
+        }
+        let serial = SerialNumber::of_parts(alloc, prefix, random)?;
+        Ok(serial)
+    }
+
+    /// The number of the octets of both.
+    fn of_parts(alloc: Global, first: &[u8], last: &[u8]) -> Result<SerialNumber<P>, Error>
+        ensures { Gives (λ n. n) result (new_serial (first.now ++ last.now)) }
+    {
+        let mut octets = Vec::new(alloc);
+        octets.extend_from_slice(first)?;
+        octets.extend_from_slice(last)?;
+        let serial = SerialNumber::new(alloc, octets.as_slice())?;
+        Ok(serial)
     }
 
     /// A copy.

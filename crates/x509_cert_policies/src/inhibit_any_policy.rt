@@ -20,7 +20,7 @@ use std::cmp::Ordering;
 ///
 /// SkipCerts ::= INTEGER (0..MAX)
 /// ```
-#[derive(Clone, Copy, Debug, PartialEq, Eq)]
+#[derive(Clone, Copy, Debug, Default, PartialEq, Eq)]
 pub struct InhibitAnyPolicy(pub u32);
 
 impl FixedTag for InhibitAnyPolicy {

@@ -1,0 +1,36 @@
+-- The name of a module of hardware, held as a name of a kind that an identifier tells (RFC 4108 5).
+use Rattle.std.specs.Prelude.{ℕ, List, [], ◌∷◌, Bool, Result, Ok}
+use Rattle.const_oid_identifiers.specs.Comparing.{owned_eq}
+use Rattle.der_core_head.specs.declared.error.ErrorKind.{ErrorKind}
+use Rattle.der_core_head.specs.declared.tag.Tag.TheVariants.{Sequence}
+use Rattle.der_core_head.specs.Octets.{◌>>=◌}
+use Rattle.der_core_head.specs.Shapes.{BodyValue, any, nested, sequence, octets_of, IsValid, Spells}
+use Rattle.x509_cert_certificates.specs.Parts.{written_as}
+use Rattle.x509_cert_general_names.specs.Grammar.{other_name_fields, hardware_module_name_fields}
+
+-- what is held, and what holds it
+abbrev pub PlainModule : Type 0
+PlainModule = BodyValue (hardware_module_name_fields 0)
+
+abbrev pub PlainOther : Type 0
+PlainOther = BodyValue (other_name_fields 0)
+
+-- id-on-hardwareModuleName is 1.3.6.1.5.5.7.8.4
+abbrev pub module_arcs : List ℕ
+module_arcs = 1 ∷ 3 ∷ 6 ∷ 1 ∷ 5 ∷ 5 ∷ 7 ∷ 8 ∷ 4 ∷ []
+
+-- whether a name is of that kind
+abbrev pub is_of_module : PlainOther → Bool
+is_of_module n = owned_eq n.0 module_arcs
+
+-- whether the value of a name has an encoding
+abbrev pub HasEncoding : PlainOther → Type 0
+HasEncoding n = IsValid any n.1.0
+
+-- the value of a name spells a module
+abbrev pub HoldsModule : ℕ → PlainOther → PlainModule → Type 0
+HoldsModule bound n m = Spells (sequence (hardware_module_name_fields bound)) m (octets_of any n.1.0)
+
+-- the name that holds a module, if a length can count its octets
+abbrev pub module_held : ℕ → PlainModule → Result PlainOther ErrorKind
+module_held bound m = written_as Sequence (nested (hardware_module_name_fields bound)) m >>= λ v. Ok (module_arcs, (v, tt))

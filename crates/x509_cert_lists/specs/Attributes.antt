@@ -1,0 +1,26 @@
+-- Attributes of certification requests that hold one value (RFC 2986 4.1).
+use Rattle.std.specs.Prelude.{ℕ, List, [], ◌∷◌, Result, Ok, Err}
+use Rattle.std.proofs.Common.{inl, inr}
+use Rattle.der_core_head.specs.declared.error.ErrorKind.{ErrorKind}
+use Rattle.der_core_head.specs.declared.error.ErrorKind.TheVariants as kinds
+use Rattle.der_core_head.specs.Octets.{◌>>=◌}
+use Rattle.der_core_head.specs.Shapes.{Shape, Value, AnyValue, tagged, any, either, optional, defaulted, nothing}
+use Rattle.x509_cert_extensions.specs.Parts.{written_as, PlainAttribute}
+
+-- a value's tag and content, if a length can count its octets; a field that may be absent has none
+abbrev pub any_of : (s : Shape) → Value s → Result AnyValue ErrorKind
+any_of (tagged t c) v = written_as t c v
+any_of any v = Ok v
+any_of (either a b) (inl v) = any_of a v
+any_of (either a b) (inr v) = any_of b v
+any_of (optional s) v = Err kinds.Failed
+any_of (defaulted s d) v = Err kinds.Failed
+any_of nothing v = Err kinds.Failed
+
+-- the attribute of a type whose one value is this
+abbrev pub attribute_of : List ℕ → Result AnyValue ErrorKind → Result PlainAttribute ErrorKind
+attribute_of arcs r = r >>= λ (v : AnyValue). Ok (arcs, (v ∷ [], tt))
+
+-- challengePassword is 1.2.840.113549.1.9.7
+abbrev pub challenge_password_arcs : List ℕ
+challenge_password_arcs = 1 ∷ 2 ∷ 840 ∷ 113549 ∷ 1 ∷ 9 ∷ 7 ∷ []

@@ -1,0 +1,36 @@
+//! Values of attributes.
+
+use const_oid::AssociatedOid;
+use der_core::{Encode, Error, StrictSetOf};
+use std::alloc::Global;
+use x509_cert_extensions::{Any, Attribute};
+
+/// What an attribute of a certification request holds as its one value (RFC 2986 4.1).
+pub trait AsAttribute: AssociatedOid + Encode {
+    ghost use Rattle.der_core_head.specs.Reading.{Gives};
+    ghost use Rattle.x509_cert_extensions.specs.Parts.{attribute_plain};
+    ghost use Rattle.x509_cert_lists.specs.Attributes.{any_of, attribute_of};
+
+    /// The tag and the content of the value.
+    ///
+    /// # Errors
+    /// `Overflow` where it has 2^32 octets or more, or `OutOfMemory`.
+    fn to_any(&self, alloc: Global) -> Result<Any, Error>
+        ensures { Gives (λ a. a) result (any_of Self.shape (Self.written self.now)) };
+
+    /// The attribute of the type's identifier that holds the value alone.
+    ///
+    /// # Errors
+    /// Those of `to_any`.
+    fn to_attribute(&self, alloc: Global) -> Result<Attribute, Error>
+        ensures { Gives attribute_plain result (attribute_of Self.oid_arcs (any_of Self.shape (Self.written self.now))) }
+    {
+        let value = self.to_any(alloc)?;
+        let mut values = Vec::new(alloc);
+        values.push(value)?;
+        Ok(Attribute {
+            oid: Self::associated_oid(),
+            values: StrictSetOf { values },
+        })
+    }
+}

@@ -1,0 +1,72 @@
+//! ChallengePassword.
+
+ghost use Rattle.x509_cert_lists.specs.Attributes.{challenge_password_arcs};
+
+use crate::as_attribute::AsAttribute;
+use const_oid::{AssociatedOid, ObjectIdentifier};
+use der_core::{Encode, Error, Length, Shaped, Writer};
+use std::alloc::Global;
+use x509_cert_extensions::{Any, DirectoryString};
+
+/// A password by which an entity may ask for its certificate to be revoked, as the value of an attribute of a certification
+/// request (RFC 2985 5.4.1).
+///
+/// ```text
+/// challengePassword ATTRIBUTE ::= {
+///     WITH SYNTAX DirectoryString {pkcs-9-ub-challengePassword}
+///     SINGLE VALUE TRUE
+///     ID pkcs-9-at-challengePassword }
+/// ```
+#[derive(Debug, Drop)]
+pub struct ChallengePassword(pub DirectoryString);
+
+/// `challengePassword`.
+impl AssociatedOid for ChallengePassword {
+    ghost oid_arcs = { challenge_password_arcs };
+
+    #[tactic(auto, unfolding(const_oid_identifiers::specs::Bound::Bound, const_oid_identifiers::specs::TextReading::text_arcs, const_oid_identifiers::specs::ArcLists::add_arc, const_oid_identifiers::specs::ArcLists::whole_arcs, const_oid_identifiers::specs::IdentifierOctets::identifier_octets, const_oid_identifiers::specs::IdentifierOctets::arc_octets, const_oid_identifiers::specs::Digits::digits, const_oid_identifiers::specs::Digits::digits_within, const_oid_identifiers::specs::Digits::marked))]
+    fn associated_oid() -> ObjectIdentifier<39> {
+        ObjectIdentifier::new_unwrap("1.2.840.113549.1.9.7")
+    }
+}
+
+impl Shaped for ChallengePassword {
+    ghost shape = { ⟦<DirectoryString as Shaped>⟧.shape };
+
+    ghost plain = { λ x. ⟦<DirectoryString as Shaped>⟧.plain x.0 };
+
+    ghost written = { λ x. ⟦<DirectoryString as Shaped>⟧.written x.0 };
+}
+
+impl Encode for ChallengePassword {
+    fn encoded_len(&self) -> Result<Length, Error> {
+        self.0.encoded_len()
+    }
+
+    fn encode<W: Writer>(&self, writer: &mut W) -> Result<(), Error> {
+        self.0.encode(writer)
+    }
+}
+
+impl AsAttribute for ChallengePassword {
+    fn to_any(&self, alloc: Global) -> Result<Any, Error> {
+        match &self.0 {
+            DirectoryString::PrintableString(text) => {
+                let any = Any::encode_from(alloc, text)?;
+                Ok(any)
+            }
+            DirectoryString::TeletexString(text) => {
+                let any = Any::encode_from(alloc, text)?;
+                Ok(any)
+            }
+            DirectoryString::Utf8String(text) => {
+                let any = Any::encode_from(alloc, text)?;
+                Ok(any)
+            }
+            DirectoryString::BmpString(text) => {
+                let any = Any::encode_from(alloc, text)?;
+                Ok(any)
+            }
+        }
+    }
+}

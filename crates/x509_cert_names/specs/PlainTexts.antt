@@ -1,0 +1,30 @@
+-- The text of a name by its plain value.
+use Rattle.std.specs.Prelude.{◌≡◌, ℕ, List, [], ◌∷◌, map}
+use Rattle.std.proofs.Common.{refl, ap, ◌∙◌}
+use Rattle.der_core_head.specs.Grammar.{plain_list}
+use Rattle.x509_cert_names.specs.Names.{PlainName, TypeAndValue, type_of, value_of}
+use Rattle.x509_cert_names.specs.Pairs.{relative_plain}
+use Rattle.x509_cert_names.specs.declared.attribute_type_and_value.AttributeTypeAndValue.{AttributeTypeAndValue}
+pub use Rattle.x509_cert_name_texts.specs.Answers.{GivesBy}
+pub use Rattle.x509_cert_names.specs.NameTexts.{ReadsName, name_printed}
+
+-- an attribute of a name
+abbrev pub attribute_of : TypeAndValue → AttributeTypeAndValue
+attribute_of a = record { oid = type_of a; value = value_of a }
+
+-- a name as it is printed (RFC 4514 2)
+unfoldable pub name_text : PlainName → List ℕ
+name_text n = name_printed (map (map attribute_of) n)
+
+attributes_back : (r : List AttributeTypeAndValue) → map attribute_of (relative_plain r) ≡ r
+attributes_back [] = refl
+attributes_back (a ∷ r) = ap (λ x. a ∷ x) (attributes_back r)
+
+names_back : (n : List (List AttributeTypeAndValue)) → map (map attribute_of) (plain_list relative_plain n) ≡ n
+names_back [] = refl
+names_back (r ∷ n) = ap (λ x. x ∷ map (map attribute_of) (plain_list relative_plain n)) (attributes_back r) ∙ ap (λ x. r ∷ x) (names_back n)
+
+-- what is printed of a name is the text of its plain value
+pub name_text_is : (n : List (List AttributeTypeAndValue)) → name_text (plain_list relative_plain n) ≡ name_printed n
+unfolding name_text
+name_text_is n = ap name_printed (names_back n)

@@ -1,0 +1,18 @@
+-- One fill after the other.
+use Rattle.std.proofs.Common.{◌≡◌, ℕ, suc, ◌+◌, ◌-◌, ◌<◌, ◌≤◌, Some, None, refl, arith}
+use Rattle.std.specs.Prelude.{if◌then◌else◌}
+use Rattle.rand_core.specs.Stream.{Stream, fill_bytes}
+use Rattle.x509_cert_parts.specs.Drawing.{begins_with_zero, first_fill}
+
+pub next_fill : (k n : ℕ) (s : Stream) → k < 16
+    → first_fill (16 - k) n s ≡ (if begins_with_zero (fill_bytes n s).0 then first_fill (16 - (k + 1)) n (fill_bytes n s).1 else (Some (fill_bytes n s).0, (fill_bytes n s).1))
+next_fill k n s h = turn (16 - k) (16 - (k + 1)) (omega (arith, h))
+  where
+    turn : (i j : ℕ) → i ≡ suc j → first_fill i n s ≡ (if begins_with_zero (fill_bytes n s).0 then first_fill j n (fill_bytes n s).1 else (Some (fill_bytes n s).0, (fill_bytes n s).1))
+    turn i j e = rw e refl
+
+pub no_fill : (k n : ℕ) (s : Stream) → 16 ≤ k → first_fill (16 - k) n s ≡ (None, s)
+no_fill k n s h = ended (16 - k) (omega (arith, h))
+  where
+    ended : (i : ℕ) → i ≡ 0 → first_fill i n s ≡ (None, s)
+    ended i e = rw e refl
