@@ -5,7 +5,9 @@ use Rattle.std.proofs.Math.Seq.{drop-cons}
 use Rattle.const_oid_identifiers.specs.declared.error.Error.{Error}
 use Rattle.const_oid_identifiers.specs.declared.error.Error.TheVariants as errors
 use Rattle.const_oid_identifiers.specs.IdentifierOctets.{with_arc, read_arcs, read_identifier}
+use Rattle.const_oid_identifiers.specs.Bound.{Bound}
 use Rattle.const_oid_identifiers.specs.Outcome.{outcome, after_octet}
+use Rattle.const_oid_identifiers.proofs.BoundLaws.{below_bound}
 
 -- the octets that are left, after a step that succeeds or fails
 abbrev pub on_step : (bound : ℕ) → List ℕ → Result ℕ Error → Result (Unit {0}) Error
@@ -27,6 +29,13 @@ outcome-cons bound value o w = by ((value == 0) && (o == 128)) (ltb (value * 128
     by false false c = refl
     by false true true = outcome-with_arc (value * 128 + o % 128) (read_arcs bound 0 w)
     by false true false = refl
+
+-- an octet without a mark, where no arc is unfinished, leaves none
+pub one_octet : (value o : ℕ) → value ≡ 0 → o < 128 → after_octet Bound value o ≡ Ok value
+one_octet value o none low =
+    let whole : (o == 128) ≡ false = ne_eqb o 128 (λ e. omega (arith, e)) in
+    let fits : ltb (0 * 128 + o % 128) Bound ≡ true = lt-ltb (0 * 128 + o % 128) Bound (below_bound (0 * 128 + o % 128) (omega arith)) in
+    rw (none, whole, fits, lt-ltb o 128 low) refl
 
 -- at the place i of a list
 pub outcome-step : (bound value i : ℕ) (w : List ℕ) → i < length w

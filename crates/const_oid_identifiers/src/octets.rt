@@ -53,7 +53,10 @@ fn check_arcs(octets: &[u8]) -> Result<()>
 {
     let mut value: Arc = 0;
     for octet in octets {
-        value = after_octet(value, *octet)?;
+        // An arc of one octet leaves nothing unfinished.
+        if value != 0 || *octet >= 0x80 {
+            value = after_octet(value, *octet)?;
+        }
     }
     if value == 0 {
         Ok(())

@@ -16,10 +16,12 @@ pub(crate) struct Packed<const SIZE: usize> {
     bytes: [u8; SIZE],
     // How many octets there are, or 255 for that many and more.
     count: u8,
+    // None; with it the list lies as words do, and is moved in few of them.
+    words: [u64; 0],
 }
 
 impl<const SIZE: usize> Model for Packed<SIZE> {
-    ghost use Rattle.std.specs.Prelude.{ℕ, ◌-◌, ◌++◌, List, length, min, replicate};
+    ghost use Rattle.std.specs.Prelude.{◌≡◌, ℕ, ◌-◌, ◌++◌, List, [], length, min, replicate};
     ghost use Rattle.std.proofs.Common.{sym};
     ghost use Rattle.const_oid_identifiers.specs.PackedOctets.{unmarked_front, IsPacked};
 
@@ -27,15 +29,16 @@ impl<const SIZE: usize> Model for Packed<SIZE> {
 
     ghost view = { λ p. unmarked_front p.bytes };
 
-    ghost invariant = { λ p. IsPacked SIZE p.bytes p.count };
+    ghost invariant = { λ p. IsPacked SIZE p.bytes p.count × (p.words ≡ []) };
 
-    ghost inverse = { λ octets. record { bytes = octets ++ replicate (SIZE - length octets) 128; count = min 255 (length octets) } };
+    ghost inverse = { λ octets. record { bytes = octets ++ replicate (SIZE - length octets) 128; count = min 255 (length octets); words = [] } };
 
-    ghost inverse_ok = { λ p h i. record { bytes = sym h.padded i; count = sym h.counted i } };
+    ghost inverse_ok = { λ p h i. record { bytes = sym h.0.padded i; count = sym h.0.counted i; words = sym h.1 i } };
 }
 
 impl<const SIZE: usize> Packed<SIZE> {
-    /// A copy of `octets`, which fit.
+    /// A copy of `octets`, which fit. It isn't inlined, so that it is made where the caller wants it, and moved less.
+    #[inline(never)]
     pub(crate) fn from_slice(octets: &[u8]) -> Self
         requires fits { length octets.now ≤ SIZE }
         requires whole { unmarked_front octets.now ≡ octets.now }
@@ -44,7 +47,11 @@ impl<const SIZE: usize> Packed<SIZE> {
         let mut bytes = [0x80; SIZE];
         bytes[..octets.len()].copy_from_slice(octets);
         let count = counted(octets.len());
-        Packed { bytes, count }
+        Packed {
+            bytes,
+            count,
+            words: [],
+        }
     }
 
     /// The octets.

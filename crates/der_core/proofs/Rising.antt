@@ -3,11 +3,11 @@ use Rattle.std.proofs.Common.{◌≡◌, ℕ, List, drop, Option, None}
 use Rattle.std.specs.Prelude.{IfSome}
 use Rattle.std.specs.List.{AllByRecursion}
 use Rattle.der_core_head.specs.Grammar.{plain_list, plain_option}
-use Rattle.der_core_head.specs.Shapes.{Shape, Value, octets_of, IsValid}
+use Rattle.der_core_head.specs.Shapes.{above, Shape, Value, octets_of, IsValid}
 use Rattle.der_core_head.specs.Writing.{all_follow}
 
 -- what is left of a list is compared as all of it is
 pub record Left {A : Type 0} (s : Shape) (f : A → Value s) (v : List A) (i : ℕ) (last : Option (Value s)) : Type 0 where
   pub valid : AllByRecursion (λ x. IsValid s x) (plain_list f (drop i v))
   pub before : IfSome last (IsValid s)
-  pub order : all_follow (octets_of s) (plain_option (octets_of s) last) (plain_list f (drop i v)) ≡ all_follow (octets_of s) None (plain_list f v)
+  pub order : all_follow above (octets_of s) (plain_option (octets_of s) last) (plain_list f (drop i v)) ≡ all_follow above (octets_of s) None (plain_list f v)

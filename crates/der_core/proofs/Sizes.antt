@@ -7,7 +7,7 @@ use Rattle.der_core_head.specs.declared.error.ErrorKind.TheVariants as kinds
 use Rattle.der_core_head.specs.declared.tag.Tag.{Tag}
 use Rattle.der_core_head.specs.Octets.{◌>>=◌}
 use Rattle.der_core_head.specs.Leaves.{leaf_contents}
-use Rattle.der_core_head.specs.Shapes.{Shape, Content, Body, tagged, any, either, optional, defaulted, nothing, leaf, nested, done, field, only, many, exactly, few, rising, Value, ContentValue, BodyValue, octets_of}
+use Rattle.der_core_head.specs.Shapes.{Shape, Content, Body, tagged, any, either, optional, defaulted, nothing, leaf, nested, done, field, only, many, exactly, few, in_order, Value, ContentValue, BodyValue, octets_of}
 use Rattle.der_core_head.specs.Writing.{head_len, sum_len, fit_len, tlv_len, both_len, many_len, default_len, size, size_content, size_body}
 
 abbrev pub OnlyOverflows : Result ℕ ErrorKind → Type 0
@@ -66,7 +66,7 @@ mutual
   body_only (many s) v = many_only (size s) (size_only s) v 0
   body_only (exactly n s) v = many_only (size s) (size_only s) v 0
   body_only (few n s) v = many_only (size s) (size_only s) v 0
-  body_only (rising s) v = many_only (size s) (size_only s) v 0
+  body_only (in_order how s) v = many_only (size s) (size_only s) v 0
 
 -- Where a part is too long, so is the whole
 

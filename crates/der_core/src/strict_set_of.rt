@@ -3,7 +3,7 @@
 ghost use Rattle.std.specs.Prelude.{◌≡◌, None, IfSome};
 ghost use Rattle.std.specs.List.{AllByRecursion};
 ghost use Rattle.der_core_head.specs.declared.tag.Tag.TheVariants.{Set};
-ghost use Rattle.der_core_head.specs.Shapes.{nested, rising, octets_of, IsValid};
+ghost use Rattle.der_core_head.specs.Shapes.{above, nested, rising, octets_of, IsValid};
 ghost use Rattle.der_core_head.specs.Grammar.{plain_list, plain_option, follows_last};
 ghost use Rattle.der_core_head.specs.Reading.{GivesNow};
 ghost use Rattle.der_core_head.specs.Writing.{all_follow};
@@ -26,7 +26,7 @@ use std::cmp::Ordering;
 fn check_above<T: DerOrd + Member>(last: Option<&T>, value: &T) -> Result<(), Error>
     requires before { IfSome (plain_option (λ r. T.written r.now) last) (IsValid T.shape) }
     requires valid { IsValid T.shape (T.written value.now) }
-    ensures { GivesNow (λ x. x) result (follows_last (plain_option (octets_of T.shape) (plain_option (λ r. T.written r.now) last.entry)) (octets_of T.shape (T.written value.now))) }
+    ensures { GivesNow (λ x. x) result (follows_last above (plain_option (octets_of T.shape) (plain_option (λ r. T.written r.now) last.entry)) (octets_of T.shape (T.written value.now))) }
 {
     let Some(last) = last else {
         return Ok(());
@@ -44,7 +44,7 @@ fn check_above<T: DerOrd + Member>(last: Option<&T>, value: &T) -> Result<(), Er
 /// `SetDuplicate` for the same encoding, `SetOrdering` for a lower one.
 fn check_rising<T: DerOrd + Member>(values: &[T]) -> Result<(), Error>
     requires { AllByRecursion (λ x. IsValid T.shape x) (plain_list T.written values.now) }
-    ensures { GivesNow (λ x. x) result (all_follow (octets_of T.shape) None (plain_list T.written values.now)) }
+    ensures { GivesNow (λ x. x) result (all_follow above (octets_of T.shape) None (plain_list T.written values.now)) }
 {
     let mut last = None;
     for value in values {
@@ -55,7 +55,7 @@ fn check_rising<T: DerOrd + Member>(values: &[T]) -> Result<(), Error>
 }
 
 /// Values whose encodings rise.
-#[derive(Debug, Drop)]
+#[derive(Clone, Debug, Drop, PartialEq, Eq)]
 pub struct StrictSetOf<T> {
     pub values: Vec<T>,
 }

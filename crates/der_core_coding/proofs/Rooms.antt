@@ -11,14 +11,14 @@ use Rattle.der_core_head.specs.declared.tag.Tag.{Tag}
 use Rattle.der_core_head.specs.Tags.{tag_octets}
 use Rattle.der_core_head.specs.Heads.{Fits, head_octets, length_octets, tlv}
 use Rattle.der_core_head.specs.Leaves.{leaf_contents}
-use Rattle.der_core_head.specs.Shapes.{Shape, Content, Body, tagged, any, either, optional, defaulted, nothing, leaf, nested, done, field, only, many, exactly, few, rising, Value, ContentValue, BodyValue, octets_of, contents, body_octets, unless, IsValid, IsContent, IsBody}
+use Rattle.der_core_head.specs.Shapes.{Shape, Content, Body, tagged, any, either, optional, defaulted, nothing, leaf, nested, done, field, only, many, exactly, few, in_order, Value, ContentValue, BodyValue, octets_of, contents, body_octets, unless, IsValid, IsContent, IsBody}
 use Rattle.der_core_head.specs.Reading.{GivesNow}
 use Rattle.der_core_head.specs.Writing.{Out, put, put_head, sum_len, fit_len, size_content, write_tlv, write_many, default_write, write, write_content, write_body}
 use Rattle.std.specs.Prelude.{IfOk, IsOkAnd}
 use Rattle.der_core_head.proofs.Fits.{fits_contents}
 use Rattle.der_core_head.proofs.Results.{ok_is, bind_ok, unless_ok}
 use Rattle.der_core_head.proofs.OkOctets.{writes_octets, writes_contents, writes_fitting}
-use Rattle.der_core_head.proofs.Written.{sized_content, rising_written}
+use Rattle.der_core_head.proofs.Written.{sized_content, ordered_written}
 use Rattle.der_core_octets.specs.Outputs.{blank, finished, filled}
 
 -- octets in so much room
@@ -96,7 +96,7 @@ mutual
   roomed_body (many s) v a r h l = many_within (write s) (IsValid s) (octets_of s) r (λ x a k m. roomed s x a r k m) v a h l
   roomed_body (exactly n s) v a r h l = many_within (write s) (IsValid s) (octets_of s) r (λ x a k m. roomed s x a r k m) v a h.0 l
   roomed_body (few n s) v a r h l = many_within (write s) (IsValid s) (octets_of s) r (λ x a k m. roomed s x a r k m) v a h.0 l
-  roomed_body (rising s) v a r h l = rising_written (write s) (octets_of s) v (within a r) h.1 ∙ many_within (write s) (IsValid s) (octets_of s) r (λ x a k m. roomed s x a r k m) v a h.0 l
+  roomed_body (in_order how s) v a r h l = ordered_written how (write s) (octets_of s) v (within a r) h.1 ∙ many_within (write s) (IsValid s) (octets_of s) r (λ x a k m. roomed s x a r k m) v a h.0 l
 
 starts : (room : ℕ) → blank room ≡ within [] room
 starts room = ap (λ n. record { written = []; room = Some n; failed = false }) (omega arith)

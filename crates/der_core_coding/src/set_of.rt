@@ -3,7 +3,7 @@
 ghost use Rattle.std.specs.Prelude.{◌≡◌};
 ghost use Rattle.std.specs.Ordering.{nat_cmp};
 ghost use Rattle.std.specs.Cmp.Lexicographic.{slice_cmp};
-ghost use Rattle.der_core_head.specs.Shapes.{rising};
+ghost use Rattle.der_core_head.specs.Shapes.{above, rising};
 ghost use Rattle.der_core_head.specs.Grammar.{read_body, plain_list, follows_last};
 ghost use Rattle.der_core_head.specs.Reading.{Reads};
 ghost use Rattle.der_core_octets.specs.Fronts.{octets_at};
@@ -21,7 +21,7 @@ use std::cmp::Ordering;
 /// # Errors
 /// `SetDuplicate` for the same octets, `SetOrdering` for lower ones.
 fn check_follows(last: Option<&[u8]>, octets: &[u8], place: Length) -> Result<(), Error>
-    ensures { Gives (λ x. x) result (follows_last (octets_at last.entry) octets.now) }
+    ensures { Gives (λ x. x) result (follows_last above (octets_at last.entry) octets.now) }
 {
     let Some(last) = last else {
         return Ok(());
@@ -47,7 +47,14 @@ pub fn read_rising<'a, R: Reader<'a>, T: Decode<'a, R> + Member>(
     if reader.is_failed() {
         return Err(Error::from(ErrorKind::Failed));
     }
-    let mut values = Vec::new(alloc);
+    // Most sets have one member, and a list that grows from none takes room for four.
+    let mut values = match Vec::with_capacity(alloc, 1) {
+        Ok(values) => values,
+        Err(error) => {
+            reader.fail();
+            return Err(Error::from(error));
+        }
+    };
     let mut last = None;
     let len = reader.remaining_len().value;
     for _ in 0..len {

@@ -3,6 +3,7 @@
 ghost use Rattle.std.specs.Prelude.{◌≡◌, ◌≤◌, ◌<◌, ◌^◌, length, [], false, IfOk, IfErr, IsSomeAnd, ⊤};
 ghost use Rattle.der_core_head.specs.declared.encoding_rules.EncodingRules.TheVariants.{Der};
 ghost use Rattle.der_core_head.specs.Reading.{State, unread, broken};
+ghost use Rattle.der_core_coding.specs.Slices.{unread_within};
 ghost use Rattle.der_core_octets.specs.Places.{IsAt};
 
 use der_core_head::{EncodingRules, Error, ErrorKind, Length};
@@ -70,6 +71,20 @@ impl<'a> SliceReader<'a> {
         })
     }
 
+    /// A reader of all the octets, by DER, in which so many ends can be set, one within the other.
+    ///
+    /// # Errors
+    /// `Overflow` for 2^32 octets or more.
+    pub fn new_with_levels(bytes: &'a [u8], levels: usize) -> Result<SliceReader<'a>, Error>
+        requires { levels ≤ 64 }
+        ensures ok { IfOk result (λ r. (length bytes.now < 2 ^ 32) × (r ≡ unread_within levels bytes.now)) }
+        ensures err { IfErr result (λ e. (2 ^ 32 ≤ length bytes.now) × (e.kind ≡ ErrorKind.Overflow)) }
+    {
+        let mut reader = SliceReader::new(bytes)?;
+        reader.depth = 64 - levels;
+        Ok(reader)
+    }
+
     /// An error at the place of the reader, which has failed from then on.
     pub fn error(&mut self, kind: ErrorKind) -> Error
         ensures kind { result.kind ≡ kind }
@@ -121,6 +136,10 @@ impl<'r> Reader<'r> for SliceReader<'r> {
         Length {
             value: self.position as u32,
         }
+    }
+
+    fn levels_left(&self) -> usize {
+        64 - self.depth
     }
 
     fn is_failed(&self) -> bool {

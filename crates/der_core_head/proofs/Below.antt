@@ -6,7 +6,7 @@ use Rattle.der_core_head.specs.declared.tag.Tag.{Tag}
 use Rattle.der_core_head.specs.Octets.{IsOctets}
 use Rattle.der_core_head.specs.Tags.{IsTag}
 use Rattle.der_core_head.specs.Heads.{Fits, head_octets, tlv}
-use Rattle.der_core_head.specs.Shapes.{Shape, Content, Body, tagged, any, either, optional, defaulted, nothing, leaf, nested, done, field, only, many, exactly, few, rising, Value, ContentValue, BodyValue, octets_of, contents, body_octets, unless, IsValid, IsContent, IsBody}
+use Rattle.der_core_head.specs.Shapes.{Shape, Content, Body, tagged, any, either, optional, defaulted, nothing, leaf, nested, done, field, only, many, exactly, few, in_order, Value, ContentValue, BodyValue, octets_of, contents, body_octets, unless, IsValid, IsContent, IsBody}
 use Rattle.der_core_head.proofs.Bytes.{IsBytes}
 use Rattle.der_core_head.proofs.HeadLaws.{head_octets-below}
 use Rattle.der_core_head.proofs.LeafLaws.{leaf_below}
@@ -59,4 +59,4 @@ mutual
   body_below (many s) v h = below-flat_map (IsValid s) (octets_of s) (λ x k. octets_below s x k) v h
   body_below (exactly n s) v h = below-flat_map (IsValid s) (octets_of s) (λ x k. octets_below s x k) v h.0
   body_below (few n s) v h = below-flat_map (IsValid s) (octets_of s) (λ x k. octets_below s x k) v h.0
-  body_below (rising s) v h = below-flat_map (IsValid s) (octets_of s) (λ x k. octets_below s x k) v h.0
+  body_below (in_order how s) v h = below-flat_map (IsValid s) (octets_of s) (λ x k. octets_below s x k) v h.0

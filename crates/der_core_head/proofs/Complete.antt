@@ -16,14 +16,15 @@ use Rattle.der_core_head.specs.declared.tag.Tag.{Tag}
 use Rattle.der_core_head.specs.Octets.{◌>>=◌, Readings}
 use Rattle.der_core_head.specs.Tags.{IsTag, same_tag, tag_at, tag_octets}
 use Rattle.der_core_head.specs.Heads.{Fits, head_octets, length_octets, tlv}
-use Rattle.der_core_head.specs.Shapes.{Shape, Content, Body, tagged, any, either, optional, defaulted, nothing, leaf, nested, done, field, only, many, exactly, few, rising, Value, ContentValue, BodyValue, AnyValue, octets_of, contents, body_octets, unless, IsValid, IsContent, IsBody, AllRising, begins}
+use Rattle.der_core_head.specs.Shapes.{Step, Shape, Content, Body, tagged, any, either, optional, defaulted, nothing, leaf, nested, done, field, only, many, exactly, few, in_order, Value, ContentValue, BodyValue, AnyValue, octets_of, contents, body_octets, unless, IsValid, IsContent, IsBody, Follows, AllInOrder, begins}
 use Rattle.der_core_head.specs.Spelling.{is_apart, is_content_apart, is_body_apart, is_element, is_clear, is_end, none_of, body_begins, are_enough, are_content_enough, are_body_enough}
-use Rattle.der_core_head.specs.Grammar.{whole, read, read_content, read_body, read_many, read_exactly, read_rising, follows_last, tlv_at, any_at, peek_at, chosen, opt_at, default_at, either_at, value_at, slice_at, leaf_at}
+use Rattle.der_core_head.specs.Grammar.{whole, read, read_content, read_body, read_many, read_exactly, read_in_order, follows_last, tlv_at, any_at, peek_at, chosen, opt_at, default_at, either_at, value_at, slice_at, leaf_at}
 use Rattle.der_core_head.proofs.TagLaws.{tag_again, tag_octets-some, same_tag-refl, same_tag-eq}
 use Rattle.der_core_head.proofs.HeadLaws.{head_again}
 use Rattle.der_core_head.proofs.LeafLaws.{leaf_again}
 use Rattle.der_core_head.proofs.Facts.{value_enough, slice_ok}
 use Rattle.der_core_head.proofs.Fits.{fits_contents}
+use Rattle.der_core_head.proofs.Steps.{follows_ok}
 
 value_again : {P : Type 0} (F : Readings P) (c r : List ℕ) (p : P) → F c ≡ Ok (p, []) → value_at F (length c) (c ++ r) ≡ Ok (p, r)
 value_again F c r p e =
@@ -122,8 +123,8 @@ body_first (few n s) [] a h = inl refl
 body_first (few n s) (x ∷ xs) a h =
     let p = and_parts (is_element s) (is_apart s) a in
     inr (first_more (begins s) (octets_of s x) (flat_map (octets_of s) xs) (element_first s x p.0 h.0.0))
-body_first (rising s) [] a h = inl refl
-body_first (rising s) (x ∷ xs) a h =
+body_first (in_order how s) [] a h = inl refl
+body_first (in_order how s) (x ∷ xs) a h =
     let p = and_parts (is_element s) (is_apart s) a in
     inr (first_more (begins s) (octets_of s x) (flat_map (octets_of s) xs) (element_first s x p.0 h.0.0))
 
@@ -174,7 +175,7 @@ end_empty (only s) v e = absurd (false≢true e)
 end_empty (many s) v e = absurd (false≢true e)
 end_empty (exactly n s) v e = absurd (false≢true e)
 end_empty (few n s) v e = absurd (false≢true e)
-end_empty (rising s) v e = absurd (false≢true e)
+end_empty (in_order how s) v e = absurd (false≢true e)
 
 -- what follows a field doesn't begin as the field would
 next_stops : (s : Shape) (b : Body) (v : BodyValue b) → is_clear s b ≡ true → is_body_apart b ≡ true → IsBody b v → Stops s (body_octets b v)
@@ -250,38 +251,38 @@ exactly_again F V o each [] (suc n) h l = absurd cc
 exactly_again F V o each (x ∷ xs) zero h l = absurd cc
 exactly_again F V o each (x ∷ xs) (suc n) h l = rw (each x (flat_map o xs) h.0, exactly_again F V o each xs n h.1 (omega (arith, l))) refl
 
-abbrev Above : {P : Type 0} → (P → List ℕ) → Option (List ℕ) → List P → Type 0
-Above o last [] = ⊤
-Above o None (x ∷ xs) = ⊤
-Above o (Some a) (x ∷ xs) = slice_cmp nat_cmp a (o x) ≡ Less
+abbrev Behind : {P : Type 0} → Step → (P → List ℕ) → Option (List ℕ) → List P → Type 0
+Behind how o last [] = ⊤
+Behind how o None (x ∷ xs) = ⊤
+Behind how o (Some a) (x ∷ xs) = Follows how a (o x)
 
-after_first : {P : Type 0} (o : P → List ℕ) (x : P) (xs : List P) → AllRising o (x ∷ xs) → Above o (Some (o x)) xs × AllRising o xs
-after_first o x [] h = (tt, tt)
-after_first o x (y ∷ ys) h = h
+after_first : {P : Type 0} (how : Step) (o : P → List ℕ) (x : P) (xs : List P) → AllInOrder how o (x ∷ xs) → Behind how o (Some (o x)) xs × AllInOrder how o xs
+after_first how o x [] h = (tt, tt)
+after_first how o x (y ∷ ys) h = h
 
-above_last : {P : Type 0} (o : P → List ℕ) (last : Option (List ℕ)) (x : P) (xs : List P) → Above o last (x ∷ xs) → follows_last last (o x) ≡ Ok tt
-above_last o None x xs h = refl
-above_last o (Some a) x xs h = rw h refl
+behind_last : {P : Type 0} (how : Step) (o : P → List ℕ) (last : Option (List ℕ)) (x : P) (xs : List P) → Behind how o last (x ∷ xs) → follows_last how last (o x) ≡ Ok tt
+behind_last how o None x xs h = refl
+behind_last how o (Some a) x xs h = follows_ok how a (o x) h
 
-rising_again : {P : Type 0} (F : Readings P) (V : P → Type 0) (o : P → List ℕ) → ReadsAgain F V o → TakesSome V o
-    → (last : Option (List ℕ)) (xs : List P) (n : ℕ) → length (flat_map o xs) ≤ n → AllByRecursion V xs → Above o last xs → AllRising o xs → read_rising o F last n (flat_map o xs) ≡ Ok (xs, [])
-unfolding read_rising
-rising_again F V o each some last [] zero l h u k = refl
-rising_again F V o each some last [] (suc n) l h u k = refl
-rising_again F V o each some last (x ∷ xs) n l h u k =
+ordered_again : {P : Type 0} (how : Step) (F : Readings P) (V : P → Type 0) (o : P → List ℕ) → ReadsAgain F V o → TakesSome V o
+    → (last : Option (List ℕ)) (xs : List P) (n : ℕ) → length (flat_map o xs) ≤ n → AllByRecursion V xs → Behind how o last xs → AllInOrder how o xs → read_in_order how o F last n (flat_map o xs) ≡ Ok (xs, [])
+unfolding read_in_order
+ordered_again how F V o each some last [] zero l h u k = refl
+ordered_again how F V o each some last [] (suc n) l h u k = refl
+ordered_again how F V o each some last (x ∷ xs) n l h u k =
     let f = some x h.0 in
     let rest = flat_map o xs in
     let is : o x ++ rest ≡ f.0 ∷ (f.1 ++ rest) = ap (λ (q : List ℕ). q ++ rest) f.2 in
     let long : length (o x ++ rest) ≡ suc (length (f.1 ++ rest)) = ap length is in
     let m : n ≡ suc (n - 1) = omega arith in
-    let next = after_first o x xs k in
-    let more = rising_again F V o each some (Some (o x)) xs (n - 1) (omega (arith, length-append f.1 rest)) h.1 next.0 next.1 in
+    let next = after_first how o x xs k in
+    let more = ordered_again how F V o each some (Some (o x)) xs (n - 1) (omega (arith, length-append f.1 rest)) h.1 next.0 next.1 in
     let first : F (f.0 ∷ (f.1 ++ rest)) ≡ Ok (x, rest) = ap F (sym is) ∙ each x rest h.0 in
-    ap (read_rising o F last n) is ∙ ap (λ k. read_rising o F last k (f.0 ∷ (f.1 ++ rest))) m ∙ rw (first, above_last o last x xs u, more) refl
+    ap (read_in_order how o F last n) is ∙ ap (λ k. read_in_order how o F last k (f.0 ∷ (f.1 ++ rest))) m ∙ rw (first, behind_last how o last x xs u, more) refl
 
-above_none : {P : Type 0} (o : P → List ℕ) (xs : List P) → Above o None xs
-above_none o [] = tt
-above_none o (x ∷ xs) = tt
+none_behind : {P : Type 0} (how : Step) (o : P → List ℕ) (xs : List P) → Behind how o None xs
+none_behind how o [] = tt
+none_behind how o (x ∷ xs) = tt
 
 default_again : (s : Shape) (d : List ℕ) (room : ℕ) (v : Value s) (r : List ℕ) (b : Bool) → bytes_eq (octets_of s v) d ≡ b → StopsBefore (begins s) r → Begins s (octets_of s v)
     → read s room (octets_of s v ++ r) ≡ Ok (v, r) → read s 64 (octets_of s v ++ []) ≡ Ok (v, [])
@@ -352,9 +353,9 @@ mutual
   complete_body (few k s) room v a n h =
       let p = and_parts (is_element s) (is_apart s) a in
       many_again kinds.Overlength (read s room) (IsValid s) (octets_of s) (λ x t q. complete s room x t p.1 n q (stops_element s t p.0)) (λ x q. element_some s x p.0 q) v k h.1 h.0
-  complete_body (rising s) room v a n h =
+  complete_body (in_order how s) room v a n h =
       let p = and_parts (is_element s) (is_apart s) a in
-      rising_again (read s room) (IsValid s) (octets_of s) (λ x t k. complete s room x t p.1 n k (stops_element s t p.0)) (λ x k. element_some s x p.0 k) None v (length (flat_map (octets_of s) v)) (omega arith) h.0 (above_none (octets_of s) v) h.1
+      ordered_again how (read s room) (IsValid s) (octets_of s) (λ x t k. complete s room x t p.1 n k (stops_element s t p.0)) (λ x k. element_some s x p.0 k) None v (length (flat_map (octets_of s) v)) (omega arith) h.0 (none_behind how (octets_of s) v) h.1
 
 -- whatever follows
 pub complete_element : (s : Shape) (room : ℕ) (v : Value s) (r : List ℕ) → is_element s ≡ true → is_apart s ≡ true → are_enough s room ≡ true → IsValid s v → read s room (octets_of s v ++ r) ≡ Ok (v, r)

@@ -14,6 +14,8 @@ pub mod BmpLaws
 pub mod NamedLaws
 pub mod LeafLaws
 pub mod Fits
+pub mod Steps
+pub mod MoreLevels
 pub mod Facts
 pub mod Sound
 pub mod Complete

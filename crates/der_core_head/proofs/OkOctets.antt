@@ -13,9 +13,9 @@ use Rattle.der_core_head.specs.Octets.{◌>>=◌}
 use Rattle.der_core_head.specs.Tags.{tag_octets}
 use Rattle.der_core_head.specs.Heads.{Fits, head_octets, length_octets, tlv}
 use Rattle.der_core_head.specs.Leaves.{leaf_contents}
-use Rattle.der_core_head.specs.Shapes.{Shape, Content, Body, tagged, any, either, optional, defaulted, nothing, leaf, nested, done, field, only, many, exactly, few, rising, Value, ContentValue, BodyValue, octets_of, contents, body_octets, unless}
+use Rattle.der_core_head.specs.Shapes.{Step, Shape, Content, Body, tagged, any, either, optional, defaulted, nothing, leaf, nested, done, field, only, many, exactly, few, in_order, Value, ContentValue, BodyValue, octets_of, contents, body_octets, unless}
 use Rattle.der_core_head.specs.Reading.{Gives}
-use Rattle.der_core_head.specs.Writing.{Out, lacks, less, put, put_head, head_len, sum_len, fit_len, tlv_len, both_len, many_len, default_len, size, size_content, size_body, write_tlv, write_many, all_follow, write_rising, default_write, write, write_content, write_body}
+use Rattle.der_core_head.specs.Writing.{Out, lacks, less, put, put_head, head_len, sum_len, fit_len, tlv_len, both_len, many_len, default_len, size, size_content, size_body, write_tlv, write_many, all_follow, write_in_order, default_write, write, write_content, write_body}
 use Rattle.der_core_head.proofs.Results.{ok_is, bind_ok, unless_ok}
 
 -- an Ok is the number of these octets, and a length can count them
@@ -95,7 +95,7 @@ mutual
   counts_body (many s) v = many_counted (size s) (octets_of s) (λ x. counts_octets s x) v
   counts_body (exactly n s) v = many_counted (size s) (octets_of s) (λ x. counts_octets s x) v
   counts_body (few n s) v = many_counted (size s) (octets_of s) (λ x. counts_octets s x) v
-  counts_body (rising s) v = many_counted (size s) (octets_of s) (λ x. counts_octets s x) v
+  counts_body (in_order how s) v = many_counted (size s) (octets_of s) (λ x. counts_octets s x) v
 
 -- an Ok has these octets behind what was written before
 abbrev Appends : (Out → Result Out ErrorKind) → List ℕ → Type 0
@@ -133,10 +133,10 @@ many_appended : {P : Type 0} (f : P → Out → Result Out ErrorKind) (w : P →
 many_appended f w each [] = none_appended
 many_appended f w each (x ∷ xs) = two_appended (f x) (write_many f xs) (w x) (flat_map w xs) (each x) (many_appended f w each xs)
 
-rising_appended : {P : Type 0} (f : P → Out → Result Out ErrorKind) (w : P → List ℕ) → ((x : P) → Appends (f x) (w x)) → (xs : List P) → Appends (write_rising f w xs) (flat_map w xs)
-rising_appended f w each xs o z e =
-    let h = bind_ok (write_many f xs o) (λ y. all_follow w None xs >>= λ _. Ok y) z e in
-    let k = bind_ok (all_follow w None xs) (λ _. Ok h.0) z h.2 in
+ordered_appended : {P : Type 0} (how : Step) (f : P → Out → Result Out ErrorKind) (w : P → List ℕ) → ((x : P) → Appends (f x) (w x)) → (xs : List P) → Appends (write_in_order how f w xs) (flat_map w xs)
+ordered_appended how f w each xs o z e =
+    let h = bind_ok (write_many f xs o) (λ y. all_follow how w None xs >>= λ _. Ok y) z e in
+    let k = bind_ok (all_follow how w None xs) (λ _. Ok h.0) z h.2 in
     many_appended f w each xs o z (h.1 ∙ k.2)
 
 default_appended : (b : Bool) (w : List ℕ) (f : Out → Result Out ErrorKind) → Appends f w → Appends (default_write b f) (unless b w)
@@ -168,7 +168,7 @@ mutual
   writes_body (many s) v = many_appended (write s) (octets_of s) (λ x. writes_octets s x) v
   writes_body (exactly n s) v = many_appended (write s) (octets_of s) (λ x. writes_octets s x) v
   writes_body (few n s) v = many_appended (write s) (octets_of s) (λ x. writes_octets s x) v
-  writes_body (rising s) v = rising_appended (write s) (octets_of s) (λ x. writes_octets s x) v
+  writes_body (in_order how s) v = ordered_appended how (write s) (octets_of s) (λ x. writes_octets s x) v
 
 tlv_fits : (t : Tag) (c : List ℕ) (r : Result ℕ ErrorKind) (f : Out → Result Out ErrorKind) (o z : Out) → Counts r c → write_tlv t r f o ≡ Ok z → Fits (tlv t c)
 unfolding write_tlv put_head tlv

@@ -18,15 +18,16 @@ use Rattle.der_core_head.specs.Octets.{IsOctets, are_octets, ◌>>=◌, Readings
 use Rattle.der_core_head.specs.Tags.{IsTag, same_tag, tag_at}
 use Rattle.der_core_head.specs.Heads.{Fits, head_at, head_octets, tlv}
 use Rattle.der_core_head.specs.Leaves.{leaf_read}
-use Rattle.der_core_head.specs.Shapes.{Shape, Content, Body, tagged, any, either, optional, defaulted, nothing, leaf, nested, done, field, only, many, exactly, few, rising, Value, ContentValue, BodyValue, AnyValue, octets_of, contents, body_octets, unless, IsValid, IsContent, IsBody, AllRising, begins}
+use Rattle.der_core_head.specs.Shapes.{Step, Shape, Content, Body, tagged, any, either, optional, defaulted, nothing, leaf, nested, done, field, only, many, exactly, few, in_order, Value, ContentValue, BodyValue, AnyValue, octets_of, contents, body_octets, unless, IsValid, IsContent, IsBody, Follows, AllInOrder, begins}
 use Rattle.der_core_head.specs.Spelling.{is_apart, is_content_apart, is_body_apart, is_element, is_clear}
-use Rattle.der_core_head.specs.Grammar.{whole, read, read_content, read_body, read_many, read_exactly, read_rising, ordered, follows_last, tlv_at, any_at, peek_at, chosen, opt_after, opt_at, default_after, default_at, either_at, value_at, slice_at, leaf_at}
+use Rattle.der_core_head.specs.Grammar.{whole, read, read_content, read_body, read_many, read_exactly, read_in_order, follows_last, tlv_at, any_at, peek_at, chosen, opt_after, opt_at, default_after, default_at, either_at, value_at, slice_at, leaf_at}
 use Rattle.der_core_head.proofs.Results.{ok_is, bind_ok, if_ok, unless_ok, either_ok, whole_ok}
 use Rattle.der_core_head.proofs.Bytes.{IsBytes, bytes_take, bytes_rest, octets_are}
 use Rattle.der_core_head.proofs.Fits.{fits_front, fits_rest, fits_contents}
 use Rattle.der_core_head.proofs.TagLaws.{same_tag-eq}
 use Rattle.der_core_head.proofs.HeadLaws.{head_sound}
 use Rattle.der_core_head.proofs.LeafLaws.{leaf_sound}
+use Rattle.der_core_head.proofs.Steps.{ok_follows}
 
 -- a part in front, and what the rest is
 joined : (a b c rest w : List ℕ) → w ≡ a ++ rest → rest ≡ b ++ c → w ≡ (a ++ b) ++ c
@@ -198,44 +199,39 @@ exactly_sound {P} F V o each (suc n) w v r bytes fits e =
     subst (λ (q : List P × List ℕ). Found (λ v. AllByRecursion V v × (length v ≡ suc n)) (flat_map o) w q.0 q.1) {x = (x.0.0 ∷ y.0.0, y.0.1)} same
     (((u.0, m.0.0), ap suc m.0.1), joined (o x.0.0) (flat_map o y.0.0) y.0.1 x.0.1 w u.1 m.1)
 
--- and above the octets before
-abbrev RisesFrom : {P : Type 0} → (P → List ℕ) → Option (List ℕ) → List P → Type 0
-RisesFrom o last [] = ⊤
-RisesFrom o None (x ∷ xs) = AllRising o (x ∷ xs)
-RisesFrom o (Some a) (x ∷ xs) = (slice_cmp nat_cmp a (o x) ≡ Less) × AllRising o (x ∷ xs)
+-- and in order behind the octets before
+abbrev pub OrderedFrom : {P : Type 0} → Step → (P → List ℕ) → Option (List ℕ) → List P → Type 0
+OrderedFrom how o last [] = ⊤
+OrderedFrom how o None (x ∷ xs) = AllInOrder how o (x ∷ xs)
+OrderedFrom how o (Some a) (x ∷ xs) = Follows how a (o x) × AllInOrder how o (x ∷ xs)
 
-rises : {P : Type 0} (o : P → List ℕ) (x : P) (xs : List P) → RisesFrom o (Some (o x)) xs → AllRising o (x ∷ xs)
-rises o x [] h = tt
-rises o x (y ∷ ys) h = h
+ordered_behind : {P : Type 0} (how : Step) (o : P → List ℕ) (x : P) (xs : List P) → OrderedFrom how o (Some (o x)) xs → AllInOrder how o (x ∷ xs)
+ordered_behind how o x [] h = tt
+ordered_behind how o x (y ∷ ys) h = h
 
-ordered_ok : (o : Ordering) → ordered o ≡ Ok tt → o ≡ Less
-ordered_ok Less e = refl
-ordered_ok Equal e = absurd cc
-ordered_ok Greater e = absurd cc
+pub order_on : {P : Type 0} (how : Step) (o : P → List ℕ) (last : Option (List ℕ)) (x : P) (xs : List P) → follows_last how last (o x) ≡ Ok tt → OrderedFrom how o (Some (o x)) xs → OrderedFrom how o last (x ∷ xs)
+order_on how o None x xs e h = ordered_behind how o x xs h
+order_on how o (Some a) x xs e h = (ok_follows how a (o x) tt e, ordered_behind how o x xs h)
 
-rise_on : {P : Type 0} (o : P → List ℕ) (last : Option (List ℕ)) (x : P) (xs : List P) → follows_last last (o x) ≡ Ok tt → RisesFrom o (Some (o x)) xs → RisesFrom o last (x ∷ xs)
-rise_on o None x xs e h = rises o x xs h
-rise_on o (Some a) x xs e h = (ordered_ok (slice_cmp nat_cmp a (o x)) e, rises o x xs h)
-
-rising_sound : {P : Type 0} (F : Readings P) (V : P → Type 0) (o : P → List ℕ) → Finds F V o
-    → (last : Option (List ℕ)) (n : ℕ) (w : List ℕ) (v : List P) (r : List ℕ) → IsBytes w → Fits w → read_rising o F last n w ≡ Ok (v, r) → (AllByRecursion V v × RisesFrom o last v) × (w ≡ flat_map o v ++ r)
-unfolding read_rising
-rising_sound {P} F V o each last zero [] v r bytes fits e = let same = ok_is ([], []) (v, r) e in subst (λ (q : List P × List ℕ). (AllByRecursion V q.0 × RisesFrom o last q.0) × ([] ≡ flat_map o q.0 ++ q.1)) same ((tt, tt), refl)
-rising_sound F V o each last zero (b ∷ w) v r bytes fits e = absurd cc
-rising_sound {P} F V o each last (suc n) [] v r bytes fits e = let same = ok_is ([], []) (v, r) e in subst (λ (q : List P × List ℕ). (AllByRecursion V q.0 × RisesFrom o last q.0) × ([] ≡ flat_map o q.0 ++ q.1)) same ((tt, tt), refl)
-rising_sound {P} F V o each last (suc n) (b ∷ w) v r bytes fits e =
-    let x = bind_ok (F (b ∷ w)) (λ x. follows_last last (o x.0) >>= λ _. read_rising o F (Some (o x.0)) n x.1 >>= λ y. Ok (x.0 ∷ y.0, y.1)) (v, r) e in
-    let g = bind_ok (follows_last last (o x.0.0)) (λ _. read_rising o F (Some (o x.0.0)) n x.0.1 >>= λ y. Ok (x.0.0 ∷ y.0, y.1)) (v, r) x.2 in
-    let f = bind_ok (read_rising o F (Some (o x.0.0)) n x.0.1) (λ y. Ok (x.0.0 ∷ y.0, y.1)) (v, r) g.2 in
+ordered_sound : {P : Type 0} (how : Step) (F : Readings P) (V : P → Type 0) (o : P → List ℕ) → Finds F V o
+    → (last : Option (List ℕ)) (n : ℕ) (w : List ℕ) (v : List P) (r : List ℕ) → IsBytes w → Fits w → read_in_order how o F last n w ≡ Ok (v, r) → (AllByRecursion V v × OrderedFrom how o last v) × (w ≡ flat_map o v ++ r)
+unfolding read_in_order
+ordered_sound {P} how F V o each last zero [] v r bytes fits e = let same = ok_is ([], []) (v, r) e in subst (λ (q : List P × List ℕ). (AllByRecursion V q.0 × OrderedFrom how o last q.0) × ([] ≡ flat_map o q.0 ++ q.1)) same ((tt, tt), refl)
+ordered_sound how F V o each last zero (b ∷ w) v r bytes fits e = absurd cc
+ordered_sound {P} how F V o each last (suc n) [] v r bytes fits e = let same = ok_is ([], []) (v, r) e in subst (λ (q : List P × List ℕ). (AllByRecursion V q.0 × OrderedFrom how o last q.0) × ([] ≡ flat_map o q.0 ++ q.1)) same ((tt, tt), refl)
+ordered_sound {P} how F V o each last (suc n) (b ∷ w) v r bytes fits e =
+    let x = bind_ok (F (b ∷ w)) (λ x. follows_last how last (o x.0) >>= λ _. read_in_order how o F (Some (o x.0)) n x.1 >>= λ y. Ok (x.0 ∷ y.0, y.1)) (v, r) e in
+    let g = bind_ok (follows_last how last (o x.0.0)) (λ _. read_in_order how o F (Some (o x.0.0)) n x.0.1 >>= λ y. Ok (x.0.0 ∷ y.0, y.1)) (v, r) x.2 in
+    let f = bind_ok (read_in_order how o F (Some (o x.0.0)) n x.0.1) (λ y. Ok (x.0.0 ∷ y.0, y.1)) (v, r) g.2 in
     let u = each (b ∷ w) x.0.0 x.0.1 bytes fits x.1 in
-    let m = rising_sound F V o each (Some (o x.0.0)) n x.0.1 f.0.0 f.0.1 (bytes_rest (o x.0.0) x.0.1 (b ∷ w) u.1 bytes) (fits_rest (o x.0.0) x.0.1 (b ∷ w) u.1 fits) f.1 in
+    let m = ordered_sound how F V o each (Some (o x.0.0)) n x.0.1 f.0.0 f.0.1 (bytes_rest (o x.0.0) x.0.1 (b ∷ w) u.1 bytes) (fits_rest (o x.0.0) x.0.1 (b ∷ w) u.1 fits) f.1 in
     let same = ok_is (x.0.0 ∷ f.0.0, f.0.1) (v, r) f.2 in
-    subst (λ (q : List P × List ℕ). (AllByRecursion V q.0 × RisesFrom o last q.0) × (b ∷ w ≡ flat_map o q.0 ++ q.1)) {x = (x.0.0 ∷ f.0.0, f.0.1)} same
-    (((u.0, m.0.0), rise_on o last x.0.0 f.0.0 g.1 m.0.1), joined (o x.0.0) (flat_map o f.0.0) f.0.1 x.0.1 (b ∷ w) u.1 m.1)
+    subst (λ (q : List P × List ℕ). (AllByRecursion V q.0 × OrderedFrom how o last q.0) × (b ∷ w ≡ flat_map o q.0 ++ q.1)) {x = (x.0.0 ∷ f.0.0, f.0.1)} same
+    (((u.0, m.0.0), order_on how o last x.0.0 f.0.0 g.1 m.0.1), joined (o x.0.0) (flat_map o f.0.0) f.0.1 x.0.1 (b ∷ w) u.1 m.1)
 
-from_none : {P : Type 0} (o : P → List ℕ) (xs : List P) → RisesFrom o None xs → AllRising o xs
-from_none o [] h = tt
-from_none o (x ∷ xs) h = h
+pub from_none : {P : Type 0} (how : Step) (o : P → List ℕ) (xs : List P) → OrderedFrom how o None xs → AllInOrder how o xs
+from_none how o [] h = tt
+from_none how o (x ∷ xs) h = h
 
 -- what is read is spelled so
 mutual
@@ -303,6 +299,6 @@ mutual
   sound_body (few n s) room w v r a bytes fits e =
       let h = many_sound kinds.Overlength (read s room) (IsValid s) (octets_of s) (λ w v r bytes fits e. sound s room w v r (and_parts (is_element s) _ a).1 bytes fits e) n w v r bytes fits e in
       ((h.0, few_sound kinds.Overlength (read s room) n w v r e), h.1)
-  sound_body (rising s) room w v r a bytes fits e =
-      let h = rising_sound (read s room) (IsValid s) (octets_of s) (λ w v r bytes fits e. sound s room w v r (and_parts (is_element s) _ a).1 bytes fits e) None (length w) w v r bytes fits e in
-      ((h.0.0, from_none (octets_of s) v h.0.1), h.1)
+  sound_body (in_order how s) room w v r a bytes fits e =
+      let h = ordered_sound how (read s room) (IsValid s) (octets_of s) (λ w v r bytes fits e. sound s room w v r (and_parts (is_element s) _ a).1 bytes fits e) None (length w) w v r bytes fits e in
+      ((h.0.0, from_none how (octets_of s) v h.0.1), h.1)

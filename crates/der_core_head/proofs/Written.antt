@@ -10,12 +10,13 @@ use Rattle.der_core_head.specs.declared.tag.Tag.{Tag}
 use Rattle.der_core_head.specs.Tags.{tag_octets}
 use Rattle.der_core_head.specs.Heads.{Fits, head_octets, length_octets, tlv}
 use Rattle.der_core_head.specs.Leaves.{leaf_contents}
-use Rattle.der_core_head.specs.Shapes.{Shape, Content, Body, tagged, any, either, optional, defaulted, nothing, leaf, nested, done, field, only, many, exactly, few, rising, Value, ContentValue, BodyValue, octets_of, contents, body_octets, unless, AllRising, IsValid, IsContent, IsBody}
+use Rattle.der_core_head.specs.Shapes.{Step, Shape, Content, Body, tagged, any, either, optional, defaulted, nothing, leaf, nested, done, field, only, many, exactly, few, in_order, Value, ContentValue, BodyValue, octets_of, contents, body_octets, unless, AllInOrder, IsValid, IsContent, IsBody}
 use Rattle.der_core_head.specs.Octets.{◌>>=◌}
 use Rattle.der_core_head.specs.Reading.{Gives}
-use Rattle.der_core_head.specs.Writing.{Out, put, put_head, head_len, sum_len, fit_len, tlv_len, both_len, many_len, default_len, size, size_content, size_body, write_tlv, write_many, all_follow, write_rising, default_write, write, write_content, write_body}
+use Rattle.der_core_head.specs.Writing.{Out, put, put_head, head_len, sum_len, fit_len, tlv_len, both_len, many_len, default_len, size, size_content, size_body, write_tlv, write_many, all_follow, write_in_order, default_write, write, write_content, write_body}
 use Rattle.der_core_head.proofs.Results.{ok_is}
 use Rattle.der_core_head.proofs.Fits.{fits_contents}
+use Rattle.der_core_head.proofs.Steps.{follows_ok}
 
 sum_ok : (m n : ℕ) → m + n < 4294967296 → sum_len m n ≡ Ok (m + n)
 sum_ok m n h = rw (le-ltb 4294967295 (m + n) (omega arith)) refl
@@ -73,7 +74,7 @@ mutual
   sized_body (many s) v h l = many_sized (size s) (IsValid s) (octets_of s) (λ x k m. sized s x k) v h l
   sized_body (exactly n s) v h l = many_sized (size s) (IsValid s) (octets_of s) (λ x k m. sized s x k) v h.0 l
   sized_body (few n s) v h l = many_sized (size s) (IsValid s) (octets_of s) (λ x k m. sized s x k) v h.0 l
-  sized_body (rising s) v h l = many_sized (size s) (IsValid s) (octets_of s) (λ x k m. sized s x k) v h.0 l
+  sized_body (in_order how s) v h l = many_sized (size s) (IsValid s) (octets_of s) (λ x k m. sized s x k) v h.0 l
 
 -- a writer without a limit
 abbrev pub out : List ℕ → Out
@@ -101,17 +102,17 @@ many_put f V o each (x ∷ xs) a h =
     rw (each x a h.0) (many_put f V o each xs (a ++ o x) h.1 ∙ ap (λ w. Ok (out w)) (append_assoc a (o x) (flat_map o xs)))
 
 -- members in order follow one another
-pub rising_follow : {P : Type 0} (w : P → List ℕ) (x : P) (xs : List P) → AllRising w (x ∷ xs) → all_follow w (Some (w x)) xs ≡ Ok tt
-rising_follow w x [] h = refl
-rising_follow w x (y ∷ xs) h = rw h.0 (rising_follow w y xs h.1)
+pub members_follow : {P : Type 0} (how : Step) (w : P → List ℕ) (x : P) (xs : List P) → AllInOrder how w (x ∷ xs) → all_follow how w (Some (w x)) xs ≡ Ok tt
+members_follow how w x [] h = refl
+members_follow how w x (y ∷ xs) h = rw (follows_ok how (w x) (w y) h.0) (members_follow how w y xs h.1)
 
-pub all_rise : {P : Type 0} (w : P → List ℕ) (xs : List P) → AllRising w xs → all_follow w None xs ≡ Ok tt
-all_rise w [] h = refl
-all_rise w (x ∷ xs) h = rising_follow w x xs h
+pub order_followed : {P : Type 0} (how : Step) (w : P → List ℕ) (xs : List P) → AllInOrder how w xs → all_follow how w None xs ≡ Ok tt
+order_followed how w [] h = refl
+order_followed how w (x ∷ xs) h = members_follow how w x xs h
 
 -- a set in order is written as its members are
-pub rising_written : {P : Type 0} (f : P → Out → Result Out ErrorKind) (w : P → List ℕ) (xs : List P) (o : Out) → AllRising w xs → write_rising f w xs o ≡ write_many f xs o
-rising_written f w xs o h = rw (all_rise w xs h) (go (write_many f xs o))
+pub ordered_written : {P : Type 0} (how : Step) (f : P → Out → Result Out ErrorKind) (w : P → List ℕ) (xs : List P) (o : Out) → AllInOrder how w xs → write_in_order how f w xs o ≡ write_many f xs o
+ordered_written how f w xs o h = rw (order_followed how w xs h) (go (write_many f xs o))
   where
     go : (r : Result Out ErrorKind) → (r >>= λ z. Ok z) ≡ r
     go (Ok z) = refl
@@ -148,7 +149,7 @@ mutual
   written_body (many s) v a h = many_put (write s) (IsValid s) (octets_of s) (λ x a k. written s x a k) v a h
   written_body (exactly n s) v a h = many_put (write s) (IsValid s) (octets_of s) (λ x a k. written s x a k) v a h.0
   written_body (few n s) v a h = many_put (write s) (IsValid s) (octets_of s) (λ x a k. written s x a k) v a h.0
-  written_body (rising s) v a h = rising_written (write s) (octets_of s) v (out a) h.1 ∙ many_put (write s) (IsValid s) (octets_of s) (λ x a k. written s x a k) v a h.0
+  written_body (in_order how s) v a h = ordered_written how (write s) (octets_of s) v (out a) h.1 ∙ many_put (write s) (IsValid s) (octets_of s) (λ x a k. written s x a k) v a h.0
 
 -- What is too long to be counted isn't written, and is refused alike.
 tlv_unsized : (t : Tag) (n : Result ℕ ErrorKind) (f : Out → Result Out ErrorKind) (o : Out) (k : ErrorKind) → tlv_len t n ≡ Err k → write_tlv t n f o ≡ Err k

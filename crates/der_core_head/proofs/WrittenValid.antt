@@ -9,12 +9,13 @@ use Rattle.std.specs.Str.{bytes_eq}
 use Rattle.der_core_head.specs.declared.error.ErrorKind.{ErrorKind}
 use Rattle.der_core_head.specs.declared.tag.Tag.{Tag}
 use Rattle.der_core_head.specs.Octets.{◌>>=◌}
-use Rattle.der_core_head.specs.Grammar.{ordered, follows}
-use Rattle.der_core_head.specs.Shapes.{Shape, Content, Body, tagged, any, either, optional, defaulted, nothing, leaf, nested, done, field, only, many, exactly, few, rising, Value, ContentValue, BodyValue, octets_of, AllRising, IsValid, IsContent, IsBody}
+use Rattle.der_core_head.specs.Grammar.{follows}
+use Rattle.der_core_head.specs.Shapes.{Step, Shape, Content, Body, tagged, any, either, optional, defaulted, nothing, leaf, nested, done, field, only, many, exactly, few, in_order, Value, ContentValue, BodyValue, octets_of, AllInOrder, IsValid, IsContent, IsBody}
 use Rattle.der_core_head.specs.Ranges.{IsInRange, IsContentInRange, IsBodyInRange}
-use Rattle.der_core_head.specs.Writing.{Out, put_head, size_content, write_tlv, write_many, all_follow, write_rising, default_write, write, write_content, write_body}
+use Rattle.der_core_head.specs.Writing.{Out, put_head, size_content, write_tlv, write_many, all_follow, write_in_order, default_write, write, write_content, write_body}
 use Rattle.der_core_head.proofs.Results.{bind_ok}
 use Rattle.der_core_head.proofs.OkOctets.{writes_fitting}
+use Rattle.der_core_head.proofs.Steps.{ok_follows}
 
 -- behind a header the content was written
 content_written : (t : Tag) (n : Result ℕ ErrorKind) (f : Out → Result Out ErrorKind) (o z : Out) → write_tlv t n f o ≡ Ok z → (y : Out) × (f y ≡ Ok z)
@@ -31,28 +32,22 @@ members_written f R V each (x ∷ xs) o z e h =
     let p = bind_ok (f x o) (write_many f xs) z e in
     (each x o p.0 p.1 h.0, members_written f R V each xs p.0 z p.2 h.1)
 
--- what follows is above
-is_above : (c : Ordering) (y : Unit {0}) → ordered c ≡ Ok y → c ≡ Less
-is_above Less y e = refl
-is_above Equal y e = absurd cc
-is_above Greater y e = absurd cc
+follow_all : {P : Type 0} (how : Step) (w : P → List ℕ) (x : P) (xs : List P) (y : Unit {0}) → all_follow how w (Some (w x)) xs ≡ Ok y → AllInOrder how w (x ∷ xs)
+follow_all how w x [] y e = tt
+follow_all how w x (b ∷ xs) y e =
+    let p = bind_ok (follows how (w x) (w b)) (λ _. all_follow how w (Some (w b)) xs) y e in
+    (ok_follows how (w x) (w b) p.0 p.1, follow_all how w b xs y p.2)
 
-follow_rising : {P : Type 0} (w : P → List ℕ) (x : P) (xs : List P) (y : Unit {0}) → all_follow w (Some (w x)) xs ≡ Ok y → AllRising w (x ∷ xs)
-follow_rising w x [] y e = tt
-follow_rising w x (b ∷ xs) y e =
-    let p = bind_ok (follows (w x) (w b)) (λ _. all_follow w (Some (w b)) xs) y e in
-    (is_above (slice_cmp nat_cmp (w x) (w b)) p.0 p.1, follow_rising w b xs y p.2)
+all_in_order : {P : Type 0} (how : Step) (w : P → List ℕ) (xs : List P) (y : Unit {0}) → all_follow how w None xs ≡ Ok y → AllInOrder how w xs
+all_in_order how w [] y e = tt
+all_in_order how w (x ∷ xs) y e = follow_all how w x xs y e
 
-rise_all : {P : Type 0} (w : P → List ℕ) (xs : List P) (y : Unit {0}) → all_follow w None xs ≡ Ok y → AllRising w xs
-rise_all w [] y e = tt
-rise_all w (x ∷ xs) y e = follow_rising w x xs y e
-
--- a set that was written rises
-set_written : {P : Type 0} (f : P → Out → Result Out ErrorKind) (w : P → List ℕ) (xs : List P) (o z : Out) → write_rising f w xs o ≡ Ok z → ((y : Out) × (write_many f xs o ≡ Ok y)) × AllRising w xs
-set_written f w xs o z e =
-    let p = bind_ok (write_many f xs o) (λ y. all_follow w None xs >>= λ _. Ok y) z e in
-    let q = bind_ok (all_follow w None xs) (λ _. Ok p.0) z p.2 in
-    ((p.0, p.1), rise_all w xs q.0 q.1)
+-- a set that was written is in order
+set_written : {P : Type 0} (how : Step) (f : P → Out → Result Out ErrorKind) (w : P → List ℕ) (xs : List P) (o z : Out) → write_in_order how f w xs o ≡ Ok z → ((y : Out) × (write_many f xs o ≡ Ok y)) × AllInOrder how w xs
+set_written how f w xs o z e =
+    let p = bind_ok (write_many f xs o) (λ y. all_follow how w None xs >>= λ _. Ok y) z e in
+    let q = bind_ok (all_follow how w None xs) (λ _. Ok p.0) z p.2 in
+    ((p.0, p.1), all_in_order how w xs q.0 q.1)
 
 default_written : {X : Type 0} (b : Bool) (f : Out → Result Out ErrorKind) (o z : Out) → (b ≡ true → X) → (f o ≡ Ok z → X) → default_write b f o ≡ Ok z → X
 unfolding default_write
@@ -87,8 +82,8 @@ mutual
   body_valid (many s) v o z e h = members_written (write s) (λ x. IsInRange s x) (λ x. IsValid s x) (λ x o z. written_valid s x o z) v o z e h
   body_valid (exactly n s) v o z e h = (members_written (write s) (λ x. IsInRange s x) (λ x. IsValid s x) (λ x o z. written_valid s x o z) v o z e h.0, h.1)
   body_valid (few n s) v o z e h = (members_written (write s) (λ x. IsInRange s x) (λ x. IsValid s x) (λ x o z. written_valid s x o z) v o z e h.0, h.1)
-  body_valid (rising s) v o z e h =
-      let p = set_written (write s) (octets_of s) v o z e in
+  body_valid (in_order how s) v o z e h =
+      let p = set_written how (write s) (octets_of s) v o z e in
       (members_written (write s) (λ x. IsInRange s x) (λ x. IsValid s x) (λ x o z. written_valid s x o z) v o p.0.0 p.0.1 h, p.1)
 
 -- the members of what was written one after the other
@@ -124,7 +119,7 @@ mutual
   body_in_range (many s) v h = each_in_range (λ x. IsValid s x) (λ x. IsInRange s x) (λ x k. valid_in_range s x k) v h
   body_in_range (exactly n s) v h = (each_in_range (λ x. IsValid s x) (λ x. IsInRange s x) (λ x k. valid_in_range s x k) v h.0, h.1)
   body_in_range (few n s) v h = (each_in_range (λ x. IsValid s x) (λ x. IsInRange s x) (λ x k. valid_in_range s x k) v h.0, h.1)
-  body_in_range (rising s) v h = each_in_range (λ x. IsValid s x) (λ x. IsInRange s x) (λ x k. valid_in_range s x k) v h.0
+  body_in_range (in_order how s) v h = each_in_range (λ x. IsValid s x) (λ x. IsInRange s x) (λ x k. valid_in_range s x k) v h.0
 
 pub list_in_range : (s : Shape) (v : List (Value s)) → AllByRecursion (λ x. IsValid s x) v → AllByRecursion (λ x. IsInRange s x) v
 list_in_range s v h = each_in_range (λ x. IsValid s x) (λ x. IsInRange s x) (λ x k. valid_in_range s x k) v h

@@ -12,7 +12,7 @@ use Rattle.der_core_head.specs.Octets.{◌>>=◌, Readings}
 use Rattle.der_core_head.specs.Tags.{same_tag, tag_at}
 use Rattle.der_core_head.specs.Heads.{head_at}
 use Rattle.der_core_head.specs.Leaves.{leaf_read}
-use Rattle.der_core_head.specs.Shapes.{Shape, Content, Body, tagged, any, either, optional, defaulted, nothing, leaf, nested, done, field, only, many, exactly, few, rising, Value, ContentValue, BodyValue, AnyValue, octets_of, begins}
+use Rattle.der_core_head.specs.Shapes.{Step, above, not_below, Shape, Content, Body, tagged, any, either, optional, defaulted, nothing, leaf, nested, done, field, only, many, exactly, few, in_order, Value, ContentValue, BodyValue, AnyValue, octets_of, begins}
 
 unfoldable pub slice_at : ℕ → Readings (List ℕ)
 slice_at n w = if nat_lt (length w) n then Err kinds.Incomplete else Ok (take n w, drop n w)
@@ -52,23 +52,26 @@ read_exactly f zero w = Ok ([], w)
 read_exactly f (suc n) w = f w >>= λ x. read_exactly f n x.1 >>= λ y. Ok (x.0 ∷ y.0, y.1)
 
 -- whether octets may follow one another in a set
-abbrev pub ordered : Ordering → Result (Unit {0}) ErrorKind
-ordered Less = Ok tt
-ordered Equal = Err kinds.SetDuplicate
-ordered Greater = Err kinds.SetOrdering
+abbrev pub ordered : Step → Ordering → Result (Unit {0}) ErrorKind
+ordered above Less = Ok tt
+ordered above Equal = Err kinds.SetDuplicate
+ordered above Greater = Err kinds.SetOrdering
+ordered not_below Less = Ok tt
+ordered not_below Equal = Ok tt
+ordered not_below Greater = Err kinds.SetOrdering
 
-abbrev pub follows : List ℕ → List ℕ → Result (Unit {0}) ErrorKind
-follows a b = ordered (slice_cmp nat_cmp a b)
+abbrev pub follows : Step → List ℕ → List ℕ → Result (Unit {0}) ErrorKind
+follows how a b = ordered how (slice_cmp nat_cmp a b)
 
 -- and the octets before, if any
-abbrev pub follows_last : Option (List ℕ) → List ℕ → Result (Unit {0}) ErrorKind
-follows_last None b = Ok tt
-follows_last (Some a) b = follows a b
+abbrev pub follows_last : Step → Option (List ℕ) → List ℕ → Result (Unit {0}) ErrorKind
+follows_last how None b = Ok tt
+follows_last how (Some a) b = follows how a b
 
-unfoldable pub read_rising : {P : Type 0} → (P → List ℕ) → Readings P → Option (List ℕ) → ℕ → Readings (List P)
-read_rising o f last n [] = Ok ([], [])
-read_rising o f last zero (b ∷ bs) = Err kinds.TrailingData
-read_rising o f last (suc n) (b ∷ bs) = f (b ∷ bs) >>= λ x. follows_last last (o x.0) >>= λ _. read_rising o f (Some (o x.0)) n x.1 >>= λ y. Ok (x.0 ∷ y.0, y.1)
+unfoldable pub read_in_order : {P : Type 0} → Step → (P → List ℕ) → Readings P → Option (List ℕ) → ℕ → Readings (List P)
+read_in_order how o f last n [] = Ok ([], [])
+read_in_order how o f last zero (b ∷ bs) = Err kinds.TrailingData
+read_in_order how o f last (suc n) (b ∷ bs) = f (b ∷ bs) >>= λ x. follows_last how last (o x.0) >>= λ _. read_in_order how o f (Some (o x.0)) n x.1 >>= λ y. Ok (x.0 ∷ y.0, y.1)
 
 -- the tag that stands, if one stands
 abbrev pub peek_at : List ℕ → Result (Option Tag) ErrorKind
@@ -132,7 +135,7 @@ abbrev mutual
   read_body (many s) room w = read_many kinds.TrailingData (read s room) (length w) w
   read_body (exactly n s) room w = read_exactly (read s room) n w
   read_body (few n s) room w = read_many kinds.Overlength (read s room) n w
-  read_body (rising s) room w = read_rising (λ v. octets_of s v) (read s room) None (length w) w
+  read_body (in_order how s) room w = read_in_order how (λ v. octets_of s v) (read s room) None (length w) w
 
 abbrev pub plain_option : {A B : Type 0} → (A → B) → Option A → Option B
 plain_option f None = None

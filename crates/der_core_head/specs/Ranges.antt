@@ -6,7 +6,7 @@ use Rattle.std.specs.Bool.{⊤}
 use Rattle.der_core_head.specs.Octets.{IsOctets}
 use Rattle.der_core_head.specs.Tags.{IsTag}
 use Rattle.der_core_head.specs.Leaves.{IsLeafValue}
-use Rattle.der_core_head.specs.Shapes.{Shape, Content, Body, tagged, any, either, optional, defaulted, nothing, leaf, nested, done, field, only, many, exactly, few, rising, Value, ContentValue, BodyValue, octets_of, IsValid}
+use Rattle.der_core_head.specs.Shapes.{Shape, Content, Body, tagged, any, either, optional, defaulted, nothing, leaf, nested, done, field, only, many, exactly, few, in_order, Value, ContentValue, BodyValue, octets_of, IsValid}
 
 -- leaves in their ranges, tags whose number fits, and so many values as there must be; a default that isn't written is valid
 abbrev mutual
@@ -31,4 +31,4 @@ abbrev mutual
   IsBodyInRange (many s) v = AllByRecursion (λ x. IsInRange s x) v
   IsBodyInRange (exactly n s) v = AllByRecursion (λ x. IsInRange s x) v × (length v ≡ n)
   IsBodyInRange (few n s) v = AllByRecursion (λ x. IsInRange s x) v × (length v ≤ n)
-  IsBodyInRange (rising s) v = AllByRecursion (λ x. IsInRange s x) v
+  IsBodyInRange (in_order how s) v = AllByRecursion (λ x. IsInRange s x) v

@@ -1,11 +1,11 @@
 -- The universe of shapes: the syntax of a type, its plain values, and the octets that spell them (X.680 24 to 31, X.690).
 -- A shape stands where a value stands, a content behind a header, a body where values stand inside a value.
-use Rattle.std.specs.Prelude.{◌≡◌, ◌≤◌, ℕ, List, [], ◌∷◌, ◌++◌, length, Bool, true, false, ◌⊎◌, Option, Some, None, bytes_eq, flat_map, ◌||◌}
+use Rattle.std.specs.Prelude.{◌≡◌, ◌≢◌, ◌≤◌, ℕ, List, [], ◌∷◌, ◌++◌, length, Bool, true, false, ◌⊎◌, Option, Some, None, bytes_eq, flat_map, ◌||◌}
 use Rattle.std.proofs.Common.{inl, inr}
 use Rattle.std.specs.List.{AllByRecursion}
 use Rattle.std.specs.Bool.{⊤}
 use Rattle.std.specs.Ordering.{nat_cmp}
-use Rattle.std.specs.declared.cmp.Ordering.TheVariants.{Less}
+use Rattle.std.specs.declared.cmp.Ordering.TheVariants.{Less, Greater}
 use Rattle.std.specs.Cmp.Lexicographic.{slice_cmp}
 use Rattle.der_core_head.specs.declared.tag.Tag.{Tag}
 use Rattle.der_core_head.specs.declared.tag.Tag.TheVariants as tags
@@ -13,6 +13,11 @@ use Rattle.der_core_head.specs.Octets.{IsOctets}
 use Rattle.der_core_head.specs.Tags.{IsTag, same_tag, context}
 use Rattle.der_core_head.specs.Heads.{tlv, Fits}
 use Rattle.der_core_head.specs.Leaves.{Leaf, LeafValue, leaf_contents, IsLeafValue}
+
+-- how a member of a set stands to the one before it: its encoding is above that one's, or not below it (11.6)
+pub data Step : Type 0 where
+  above : Step
+  not_below : Step
 
 mutual
   -- a value where it stands
@@ -37,7 +42,7 @@ mutual
     many : Shape → Body
     exactly : ℕ → Shape → Body
     few : ℕ → Shape → Body  -- no more than so many
-    rising : Shape → Body
+    in_order : Step → Shape → Body  -- each member so behind the one before
 
 pub record AnyValue : Type 0 where
   pub tag : Tag
@@ -63,7 +68,14 @@ abbrev mutual
   BodyValue (many s) = List (Value s)
   BodyValue (exactly n s) = List (Value s)
   BodyValue (few n s) = List (Value s)
-  BodyValue (rising s) = List (Value s)
+  BodyValue (in_order how s) = List (Value s)
+
+-- members that rise, and members that ascend, equal ones among them
+abbrev pub rising : Shape → Body
+rising s = in_order above s
+
+abbrev pub ascending : Shape → Body
+ascending s = in_order not_below s
 
 -- SEQUENCE, SEQUENCE OF, SET OF, explicit tags; an implicit tag is another tag on the same content
 abbrev pub sequence : Body → Shape
@@ -105,13 +117,26 @@ unfoldable mutual
   body_octets (many s) v = flat_map (λ x. octets_of s x) v
   body_octets (exactly n s) v = flat_map (λ x. octets_of s x) v
   body_octets (few n s) v = flat_map (λ x. octets_of s x) v
-  body_octets (rising s) v = flat_map (λ x. octets_of s x) v
+  body_octets (in_order how s) v = flat_map (λ x. octets_of s x) v
 
--- each encoding is below the next (11.6)
+-- octets stand so behind others
+abbrev pub Follows : Step → List ℕ → List ℕ → Type 0
+Follows above a b = slice_cmp nat_cmp a b ≡ Less
+Follows not_below a b = slice_cmp nat_cmp a b ≢ Greater
+
+-- each encoding stands so behind the one before (11.6)
+abbrev pub AllInOrder : {A : Type 0} → Step → (A → List ℕ) → List A → Type 0
+AllInOrder how f [] = ⊤
+AllInOrder how f (x ∷ []) = ⊤
+AllInOrder how f (x ∷ y ∷ xs) = Follows how (f x) (f y) × AllInOrder how f (y ∷ xs)
+
+-- each is below the next
 abbrev pub AllRising : {A : Type 0} → (A → List ℕ) → List A → Type 0
-AllRising f [] = ⊤
-AllRising f (x ∷ []) = ⊤
-AllRising f (x ∷ y ∷ xs) = (slice_cmp nat_cmp (f x) (f y) ≡ Less) × AllRising f (y ∷ xs)
+AllRising f xs = AllInOrder above f xs
+
+-- none is above the next
+abbrev pub AllAscending : {A : Type 0} → (A → List ℕ) → List A → Type 0
+AllAscending f xs = AllInOrder not_below f xs
 
 -- what has an encoding: leaves in their ranges, sets in order, and no more octets than a length can count
 unfoldable mutual
@@ -136,7 +161,7 @@ unfoldable mutual
   IsBody (many s) v = AllByRecursion (λ x. IsValid s x) v
   IsBody (exactly n s) v = AllByRecursion (λ x. IsValid s x) v × (length v ≡ n)
   IsBody (few n s) v = AllByRecursion (λ x. IsValid s x) v × (length v ≤ n)
-  IsBody (rising s) v = AllByRecursion (λ x. IsValid s x) v × AllRising (λ x. octets_of s x) v
+  IsBody (in_order how s) v = AllByRecursion (λ x. IsValid s x) v × AllInOrder how (λ x. octets_of s x) v
 
 -- the octets spell the value
 pub record Spells (s : Shape) (v : Value s) (b : List ℕ) : Type 0 where

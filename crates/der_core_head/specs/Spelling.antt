@@ -2,7 +2,7 @@
 use Rattle.std.specs.Prelude.{ℕ, zero, suc, length, Bool, true, false, ◌&&◌, ◌||◌, nat_lt, not}
 use Rattle.der_core_head.specs.declared.tag.Tag.{Tag}
 use Rattle.der_core_head.specs.Octets.{are_octets}
-use Rattle.der_core_head.specs.Shapes.{Shape, Content, Body, tagged, any, either, optional, defaulted, nothing, leaf, nested, done, field, only, many, exactly, few, rising, begins}
+use Rattle.der_core_head.specs.Shapes.{Shape, Content, Body, tagged, any, either, optional, defaulted, nothing, leaf, nested, done, field, only, many, exactly, few, in_order, begins}
 
 -- so many levels are enough
 abbrev mutual
@@ -26,7 +26,7 @@ abbrev mutual
   are_body_enough (many s) room = are_enough s room
   are_body_enough (exactly n s) room = are_enough s room
   are_body_enough (few n s) room = are_enough s room
-  are_body_enough (rising s) room = are_enough s room
+  are_body_enough (in_order how s) room = are_enough s room
 
 -- one header, always there
 abbrev pub is_element : Shape → Bool
@@ -54,7 +54,7 @@ body_begins (only s) t = begins s t
 body_begins (many s) t = begins s t
 body_begins (exactly n s) t = begins s t
 body_begins (few n s) t = begins s t
-body_begins (rising s) t = begins s t
+body_begins (in_order how s) t = begins s t
 
 abbrev pub is_end : Body → Bool
 is_end done = true
@@ -85,4 +85,4 @@ abbrev mutual
   is_body_apart (many s) = is_element s && is_apart s
   is_body_apart (exactly n s) = is_element s && is_apart s
   is_body_apart (few n s) = is_element s && is_apart s
-  is_body_apart (rising s) = is_element s && is_apart s
+  is_body_apart (in_order how s) = is_element s && is_apart s

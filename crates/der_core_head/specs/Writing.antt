@@ -5,7 +5,7 @@ use Rattle.der_core_head.specs.declared.error.ErrorKind.{ErrorKind}
 use Rattle.der_core_head.specs.declared.error.ErrorKind.TheVariants as kinds
 use Rattle.std.proofs.Common.{inl, inr}
 use Rattle.der_core_head.specs.Leaves.{leaf_contents}
-use Rattle.der_core_head.specs.Shapes.{Shape, Content, Body, tagged, any, either, optional, defaulted, nothing, leaf, nested, done, field, only, many, exactly, few, rising, Value, ContentValue, BodyValue, octets_of}
+use Rattle.der_core_head.specs.Shapes.{Step, Shape, Content, Body, tagged, any, either, optional, defaulted, nothing, leaf, nested, done, field, only, many, exactly, few, in_order, Value, ContentValue, BodyValue, octets_of}
 use Rattle.der_core_head.specs.declared.tag.Tag.{Tag}
 use Rattle.der_core_head.specs.Octets.{◌>>=◌}
 use Rattle.der_core_head.specs.Grammar.{follows_last}
@@ -81,7 +81,7 @@ abbrev mutual
   size_body (many s) v = many_len (size s) v 0
   size_body (exactly n s) v = many_len (size s) v 0
   size_body (few n s) v = many_len (size s) v 0
-  size_body (rising s) v = many_len (size s) v 0
+  size_body (in_order how s) v = many_len (size s) v 0
 
 unfoldable pub write_tlv : Tag → Result ℕ ErrorKind → (Out → Result Out ErrorKind) → Out → Result Out ErrorKind
 write_tlv t n f o = n >>= λ n. put_head t n o >>= f
@@ -90,14 +90,14 @@ abbrev pub write_many : {P : Type 0} → (P → Out → Result Out ErrorKind) �
 write_many f [] o = Ok o
 write_many f (x ∷ xs) o = f x o >>= write_many f xs
 
--- each encoding is above the one before (11.6)
-abbrev pub all_follow : {P : Type 0} → (P → List ℕ) → Option (List ℕ) → List P → Result (Unit {0}) ErrorKind
-all_follow w last [] = Ok tt
-all_follow w last (x ∷ xs) = follows_last last (w x) >>= λ _. all_follow w (Some (w x)) xs
+-- each encoding stands so behind the one before (11.6)
+abbrev pub all_follow : {P : Type 0} → Step → (P → List ℕ) → Option (List ℕ) → List P → Result (Unit {0}) ErrorKind
+all_follow how w last [] = Ok tt
+all_follow how w last (x ∷ xs) = follows_last how last (w x) >>= λ _. all_follow how w (Some (w x)) xs
 
 -- the members of a set, and then their order is asked for
-abbrev pub write_rising : {P : Type 0} → (P → Out → Result Out ErrorKind) → (P → List ℕ) → List P → Out → Result Out ErrorKind
-write_rising f w xs o = write_many f xs o >>= λ z. all_follow w None xs >>= λ _. Ok z
+abbrev pub write_in_order : {P : Type 0} → Step → (P → Out → Result Out ErrorKind) → (P → List ℕ) → List P → Out → Result Out ErrorKind
+write_in_order how f w xs o = write_many f xs o >>= λ z. all_follow how w None xs >>= λ _. Ok z
 
 unfoldable pub default_write : Bool → (Out → Result Out ErrorKind) → Out → Result Out ErrorKind
 default_write true f o = Ok o
@@ -126,7 +126,7 @@ abbrev mutual
   write_body (many s) v o = write_many (write s) v o
   write_body (exactly n s) v o = write_many (write s) v o
   write_body (few n s) v o = write_many (write s) v o
-  write_body (rising s) v o = write_rising (write s) (octets_of s) v o
+  write_body (in_order how s) v o = write_in_order how (write s) (octets_of s) v o
 
 -- what a write may answer: the named fault, or that memory ran out where it takes memory
 abbrev pub FailsTaking : {Y : Type 0} → Bool → ErrorKind → Result Y ErrorKind → Type 0

@@ -113,6 +113,9 @@ impl Error {
     }
 
     /// The error with a place in the input, where it has none. Want of memory has none.
+    ///
+    /// It isn't inlined, so that a value that was read isn't moved in the pieces of an error.
+    #[inline(never)]
     pub fn found_at(self, place: Length) -> Error
         ensures { result.kind ≡ self.kind }
     {

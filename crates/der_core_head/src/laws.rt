@@ -41,6 +41,11 @@ pub fn spelled_is_read()
         → IsValid s v → read s room (octets_of s v ++ r) ≡ Ok (v, r) }
 {}
 
+/// What is read with so many levels is read alike with more.
+pub fn more_levels_read_alike()
+    ensures { (s : Shape) (room more : ℕ) (w : List ℕ) (v : Value s) (r : List ℕ) → room ≤ more → read s room w ≡ Ok (v, r) → read s more w ≡ Ok (v, r) }
+{}
+
 /// What is written is spelled: behind what stood there stand the octets of the value, no more than a
 /// length can count; and the value has an encoding, where its parts are in their ranges.
 ///

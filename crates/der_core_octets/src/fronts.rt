@@ -7,7 +7,7 @@ ghost use Rattle.der_core_head.specs.Heads.{head_at};
 ghost use Rattle.der_core_head.specs.Bodies.{tag_ber_at, head_ber_at};
 ghost use Rattle.der_core_octets.specs.Fronts.{Counts, head_of, wanted_at, alone};
 
-use crate::header::{header_of, plain_tag_of, short_header_of_tag, tag_of};
+use crate::header::{header_of, plain_header_of, plain_tag_of, short_header_of_tag, tag_of};
 use crate::indefinite::{header_ber_of, tag_ber_of};
 use der_core_head::{EncodingRules, Error, ErrorKind, Header, Tag, is_same_tag};
 
@@ -49,6 +49,17 @@ pub fn header_by(rules: EncodingRules, octets: &[u8]) -> Result<(Header, usize),
         EncodingRules::Ber => header_ber_of(octets),
         EncodingRules::Der => header_of(octets),
     }
+}
+
+/// The header at the front of octets, and how many octets it takes, if its tag is spelled in one octet
+/// and its length in its shortest form. It is the same by both rules.
+#[inline(always)]
+pub fn plain_header_by_both(octets: &[u8]) -> Option<(Header, usize)>
+    ensures der { IfSome result (λ x. Counts head_of octets.now (Ok x) head_at) }
+    ensures ber { IfSome result (λ x. Counts head_of octets.now (Ok x) head_ber_at) }
+{
+    let front = plain_header_of(octets)?;
+    Some(front)
 }
 
 /// The header of a wanted tag at the front of octets, and how many octets it takes, if the tag is

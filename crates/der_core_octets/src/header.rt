@@ -264,8 +264,9 @@ fn length_fault(tag: Tag, octets: &[u8]) -> ErrorKind
 
 /// The header at the front of octets, and how many octets it takes, if its tag is spelled in one.
 /// Most headers are so, and the loops that read them have no call for it.
+#[inline(always)]
 #[tactic(auto, unfolding(der_core_head::specs::Heads::head_at))]
-fn plain_header_of(octets: &[u8]) -> Option<(Header, usize)>
+pub fn plain_header_of(octets: &[u8]) -> Option<(Header, usize)>
     ensures { IfSome result (λ x. Counts head_of octets.now (Ok x) head_at) }
 {
     let [first, rest @ ..] = octets else {

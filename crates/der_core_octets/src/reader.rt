@@ -14,7 +14,9 @@ ghost use Rattle.der_core_octets.specs.Fronts.{head_of, wanted_at, alone, peek_b
 ghost use Rattle.der_core_octets.specs.Nesting.{IsNested, Answered, RefusesNested, IsEnclosed, AnsweredIn, RefusesIn};
 ghost use Rattle.der_core_octets.specs.Places.{IsAt, encoding_at};
 
-use crate::fronts::{any_header_of_tag, plain_header_of_tag, short_tag_by_both};
+use crate::fronts::{
+    any_header_of_tag, plain_header_by_both, plain_header_of_tag, short_tag_by_both,
+};
 use crate::{header_by, tag_by};
 use der_core_head::{EncodingRules, Error, ErrorKind, Header, Length, Tag};
 use std::alloc::Global;
@@ -37,6 +39,11 @@ pub trait Reader<'r>: Drop {
     /// How many octets of the whole input were passed over.
     fn position(&self) -> Length
         ensures { IsAt result.value (state self.now) };
+
+    /// How many more ends can be set, one within the other.
+    fn levels_left(&self) -> usize
+        ensures left { result ≡ (state self.now).room }
+        ensures most { result ≤ 64 };
 
     /// Whether a call failed before.
     fn is_failed(&self) -> bool
@@ -135,6 +142,7 @@ pub trait Reader<'r>: Drop {
     ///
     /// # Errors
     /// Those of `header_of`, and under BER those of `header_ber_of`.
+    #[inline(always)]
     final fn read_header(&mut self) -> Result<Header, Error>
         // Where DER rules, what is read is spelled so.
         ensures spelled { IfOk result (λ h. IsDer (state self.old)
@@ -146,20 +154,15 @@ pub trait Reader<'r>: Drop {
         ensures der { ReadsBy Der head_of (state self.old) (state self.new) result head_at }
         ensures ber { ReadsBy Ber head_of (state self.old) (state self.new) result head_ber_at }
     {
-        if self.is_failed() {
-            return Err(Error::from(ErrorKind::Failed));
-        }
-        let octets = self.remaining();
-        match header_by(self.encoding_rules(), octets) {
-            Ok((header, len)) => {
+        if !self.is_failed() {
+            let octets = self.remaining();
+            if let Some((header, len)) = plain_header_by_both(octets) {
                 self.skip(len);
-                Ok(header)
-            }
-            Err(error) => {
-                self.fail();
-                Err(error.found_at(self.position()))
+                return Ok(header);
             }
         }
+        let header = read_any_header(self)?;
+        Ok(header)
     }
 
     /// The next header, by the rules of the reader, which has to be one of that tag.
@@ -533,6 +536,34 @@ fn next_any_tag<'r, R: Reader<'r>>(reader: &mut R) -> Result<Tag, Error>
         Err(error) => {
             reader.fail();
             Err(error)
+        }
+    }
+}
+
+/// The next header, of any form. It stays out of the calls that read headers, so that the usual ones cost
+/// them little.
+///
+/// # Errors
+/// Those of `read_header`.
+#[inline(never)]
+fn read_any_header<'r, R: Reader<'r>>(reader: &mut R) -> Result<Header, Error>
+    ensures spelled { IfOk result (λ h. IsDer (R.state reader.old)
+        → IsTag h.tag × ((R.state reader.old).rest ≡ head_octets h.tag h.length.value ++ (R.state reader.new).rest)) }
+    ensures der { ReadsBy Der head_of (R.state reader.old) (R.state reader.new) result head_at }
+    ensures ber { ReadsBy Ber head_of (R.state reader.old) (R.state reader.new) result head_ber_at }
+{
+    if reader.is_failed() {
+        return Err(Error::from(ErrorKind::Failed));
+    }
+    let octets = reader.remaining();
+    match header_by(reader.encoding_rules(), octets) {
+        Ok((header, len)) => {
+            reader.skip(len);
+            Ok(header)
+        }
+        Err(error) => {
+            reader.fail();
+            Err(error.found_at(reader.position()))
         }
     }
 }

@@ -5,7 +5,8 @@ use Rattle.std.proofs.lemmas.List.{length-append}
 use Rattle.der_core_head.specs.declared.error.ErrorKind.{ErrorKind}
 use Rattle.der_core_head.specs.declared.error.ErrorKind.TheVariants as kinds
 use Rattle.der_core_head.specs.Octets.{◌>>=◌, Readings}
-use Rattle.der_core_head.specs.Grammar.{read_many, read_exactly, read_rising, follows_last, last_octets, plain_option, plain_list}
+use Rattle.der_core_head.specs.Shapes.{Step}
+use Rattle.der_core_head.specs.Grammar.{read_many, read_exactly, read_in_order, follows_last, last_octets, plain_option, plain_list}
 
 abbrev pub onto : {A P : Type 0} → (A → P) → List A → List P → List P
 onto f [] p = p
@@ -83,7 +84,7 @@ exactly_done f F n i w xs total le so_far =
     let k : n - i ≡ 0 = omega arith in
     sym so_far ∙ ap (λ m. with_front f xs (read_exactly F m w)) k ∙ ap (λ (p : List _). Ok (p, w)) (onto_nothing f xs)
 
--- The same of a set, whose octets rise.
+-- The same of a set, whose octets are in order.
 
 at_end : {A : Type 0} (xs : List A) (x : A) (n : ℕ) → n ≡ length xs → slice_get (xs ++ x ∷ []) n ≡ Some x
 at_end [] x zero h = refl
@@ -94,55 +95,55 @@ at_end (y ∷ ys) x (suc n) h = at_end ys x n (omega (arith, h))
 pub last_more : {A : Type 0} (o : A → List ℕ) (xs : List A) (x : A) → last_octets o (xs ++ x ∷ []) ≡ Some (o x)
 last_more o xs x = ap (plain_option o) (at_end xs x (length (xs ++ x ∷ []) - 1) (omega (arith, length-append xs (x ∷ []))))
 
-rise : {P : Type 0} (o : P → List ℕ) (F : Readings P) (last : Option (List ℕ)) (n i : ℕ) (w : List ℕ) → i < n → w ≢ []
-    → read_rising o F last (n - i) w ≡ (F w >>= λ x. follows_last last (o x.0) >>= λ _. read_rising o F (Some (o x.0)) (n - (i + 1)) x.1 >>= λ y. Ok (x.0 ∷ y.0, y.1))
-unfolding read_rising
-rise o F last n i [] lt some = absurd (some refl)
-rise o F last n i (b ∷ w) lt some = let k : n - i ≡ suc (n - (i + 1)) = omega arith in rw k refl
+next_in_order : {P : Type 0} (how : Step) (o : P → List ℕ) (F : Readings P) (last : Option (List ℕ)) (n i : ℕ) (w : List ℕ) → i < n → w ≢ []
+    → read_in_order how o F last (n - i) w ≡ (F w >>= λ x. follows_last how last (o x.0) >>= λ _. read_in_order how o F (Some (o x.0)) (n - (i + 1)) x.1 >>= λ y. Ok (x.0 ∷ y.0, y.1))
+unfolding read_in_order
+next_in_order how o F last n i [] lt some = absurd (some refl)
+next_in_order how o F last n i (b ∷ w) lt some = let k : n - i ≡ suc (n - (i + 1)) = omega arith in rw k refl
 
-pub set_on : {A P : Type 0} (f : A → P) (o : P → List ℕ) (F : Readings P) (n i : ℕ) (w after : List ℕ) (xs : List A) (x : A) (total : Result (List P × List ℕ) ErrorKind)
-    → i < n → w ≢ [] → F w ≡ Ok (f x, after) → follows_last (last_octets (λ v. o (f v)) xs) (o (f x)) ≡ Ok tt
-    → with_front f xs (read_rising o F (last_octets (λ v. o (f v)) xs) (n - i) w) ≡ total
-    → with_front f (xs ++ x ∷ []) (read_rising o F (last_octets (λ v. o (f v)) (xs ++ x ∷ [])) (n - (i + 1)) after) ≡ total
-set_on f o F n i w after xs x total lt some e ok so_far =
+pub set_on : {A P : Type 0} (how : Step) (f : A → P) (o : P → List ℕ) (F : Readings P) (n i : ℕ) (w after : List ℕ) (xs : List A) (x : A) (total : Result (List P × List ℕ) ErrorKind)
+    → i < n → w ≢ [] → F w ≡ Ok (f x, after) → follows_last how (last_octets (λ v. o (f v)) xs) (o (f x)) ≡ Ok tt
+    → with_front f xs (read_in_order how o F (last_octets (λ v. o (f v)) xs) (n - i) w) ≡ total
+    → with_front f (xs ++ x ∷ []) (read_in_order how o F (last_octets (λ v. o (f v)) (xs ++ x ∷ [])) (n - (i + 1)) after) ≡ total
+set_on how f o F n i w after xs x total lt some e ok so_far =
     let last = last_octets (λ v. o (f v)) xs in
-    let now : read_rising o F last (n - i) w ≡ (read_rising o F (Some (o (f x))) (n - (i + 1)) after >>= λ y. Ok (f x ∷ y.0, y.1)) =
-    rise o F last n i w lt some ∙ rw (e, ok) refl in
-    ap (λ l. with_front f (xs ++ x ∷ []) (read_rising o F l (n - (i + 1)) after)) (last_more (λ v. o (f v)) xs x)
-    ∙ sym (ap (with_front f xs) now ∙ regroup f xs x (read_rising o F (Some (o (f x))) (n - (i + 1)) after)) ∙ so_far
+    let now : read_in_order how o F last (n - i) w ≡ (read_in_order how o F (Some (o (f x))) (n - (i + 1)) after >>= λ y. Ok (f x ∷ y.0, y.1)) =
+    next_in_order how o F last n i w lt some ∙ rw (e, ok) refl in
+    ap (λ l. with_front f (xs ++ x ∷ []) (read_in_order how o F l (n - (i + 1)) after)) (last_more (λ v. o (f v)) xs x)
+    ∙ sym (ap (with_front f xs) now ∙ regroup f xs x (read_in_order how o F (Some (o (f x))) (n - (i + 1)) after)) ∙ so_far
 
-set_first : {A P : Type 0} (f : A → P) (o : P → List ℕ) (F : Readings P) (last : Option (List ℕ)) (n i : ℕ) (w : List ℕ) (xs : List A) (k : ErrorKind)
-    → i < n → w ≢ [] → F w ≡ Err k → with_front f xs (read_rising o F last (n - i) w) ≡ Err k
-set_first f o F last n i w xs k lt some e = rw (rise o F last n i w lt some, e) refl
+set_first : {A P : Type 0} (how : Step) (f : A → P) (o : P → List ℕ) (F : Readings P) (last : Option (List ℕ)) (n i : ℕ) (w : List ℕ) (xs : List A) (k : ErrorKind)
+    → i < n → w ≢ [] → F w ≡ Err k → with_front f xs (read_in_order how o F last (n - i) w) ≡ Err k
+set_first how f o F last n i w xs k lt some e = rw (next_in_order how o F last n i w lt some, e) refl
 
-set_bad : {A P : Type 0} (f : A → P) (o : P → List ℕ) (F : Readings P) (last : Option (List ℕ)) (n i : ℕ) (w after : List ℕ) (xs : List A) (x : P) (k : ErrorKind)
-    → i < n → w ≢ [] → F w ≡ Ok (x, after) → follows_last last (o x) ≡ Err k → with_front f xs (read_rising o F last (n - i) w) ≡ Err k
-set_bad f o F last n i w after xs x k lt some e bad = rw (rise o F last n i w lt some, e, bad) refl
+set_bad : {A P : Type 0} (how : Step) (f : A → P) (o : P → List ℕ) (F : Readings P) (last : Option (List ℕ)) (n i : ℕ) (w after : List ℕ) (xs : List A) (x : P) (k : ErrorKind)
+    → i < n → w ≢ [] → F w ≡ Ok (x, after) → follows_last how last (o x) ≡ Err k → with_front f xs (read_in_order how o F last (n - i) w) ≡ Err k
+set_bad how f o F last n i w after xs x k lt some e bad = rw (next_in_order how o F last n i w lt some, e, bad) refl
 
-pub set_stops : {A P : Type 0} (f : A → P) (o : P → List ℕ) (F : Readings P) (last : Option (List ℕ)) (n i : ℕ) (w : List ℕ) (xs : List A) (k : ErrorKind) (total : Result (List P × List ℕ) ErrorKind)
-    → i < n → w ≢ [] → F w ≡ Err k → with_front f xs (read_rising o F last (n - i) w) ≡ total → total ≡ Err k
-set_stops f o F last n i w xs k total lt some e so_far =
-    sym so_far ∙ set_first f o F last n i w xs k lt some e
+pub set_stops : {A P : Type 0} (how : Step) (f : A → P) (o : P → List ℕ) (F : Readings P) (last : Option (List ℕ)) (n i : ℕ) (w : List ℕ) (xs : List A) (k : ErrorKind) (total : Result (List P × List ℕ) ErrorKind)
+    → i < n → w ≢ [] → F w ≡ Err k → with_front f xs (read_in_order how o F last (n - i) w) ≡ total → total ≡ Err k
+set_stops how f o F last n i w xs k total lt some e so_far =
+    sym so_far ∙ set_first how f o F last n i w xs k lt some e
 
-pub set_refuses : {A P : Type 0} (f : A → P) (o : P → List ℕ) (F : Readings P) (last : Option (List ℕ)) (n i : ℕ) (w after : List ℕ) (xs : List A) (x : P) (k : ErrorKind) (total : Result (List P × List ℕ) ErrorKind)
-    → i < n → w ≢ [] → F w ≡ Ok (x, after) → follows_last last (o x) ≡ Err k → with_front f xs (read_rising o F last (n - i) w) ≡ total → total ≡ Err k
-set_refuses f o F last n i w after xs x k total lt some e bad so_far =
-    sym so_far ∙ set_bad f o F last n i w after xs x k lt some e bad
+pub set_refuses : {A P : Type 0} (how : Step) (f : A → P) (o : P → List ℕ) (F : Readings P) (last : Option (List ℕ)) (n i : ℕ) (w after : List ℕ) (xs : List A) (x : P) (k : ErrorKind) (total : Result (List P × List ℕ) ErrorKind)
+    → i < n → w ≢ [] → F w ≡ Ok (x, after) → follows_last how last (o x) ≡ Err k → with_front f xs (read_in_order how o F last (n - i) w) ≡ total → total ≡ Err k
+set_refuses how f o F last n i w after xs x k total lt some e bad so_far =
+    sym so_far ∙ set_bad how f o F last n i w after xs x k lt some e bad
 
-pub set_none_left : {A P : Type 0} (f : A → P) (o : P → List ℕ) (F : Readings P) (last : Option (List ℕ)) (n m : ℕ) (w : List ℕ) (xs : List A) (total : Result (List P × List ℕ) ErrorKind)
-    → w ≡ [] → with_front f xs (read_rising o F last n w) ≡ total → with_front f xs (read_rising o F last m w) ≡ total
-unfolding read_rising
-set_none_left f o F last n m [] xs total e so_far = so_far
-set_none_left f o F last n m (b ∷ w) xs total e so_far = absurd cc
+pub set_none_left : {A P : Type 0} (how : Step) (f : A → P) (o : P → List ℕ) (F : Readings P) (last : Option (List ℕ)) (n m : ℕ) (w : List ℕ) (xs : List A) (total : Result (List P × List ℕ) ErrorKind)
+    → w ≡ [] → with_front f xs (read_in_order how o F last n w) ≡ total → with_front f xs (read_in_order how o F last m w) ≡ total
+unfolding read_in_order
+set_none_left how f o F last n m [] xs total e so_far = so_far
+set_none_left how f o F last n m (b ∷ w) xs total e so_far = absurd cc
 
-pub set_done : {A P : Type 0} (f : A → P) (o : P → List ℕ) (F : Readings P) (last : Option (List ℕ)) (n : ℕ) (w : List ℕ) (xs : List A) (total : Result (List P × List ℕ) ErrorKind)
-    → w ≡ [] → with_front f xs (read_rising o F last n w) ≡ total → total ≡ Ok (plain_list f xs, w)
-unfolding read_rising
-set_done f o F last n [] xs total e so_far = sym so_far ∙ ap (λ (p : List _). Ok (p, [])) (onto_nothing f xs)
-set_done f o F last n (b ∷ w) xs total e so_far = absurd cc
+pub set_done : {A P : Type 0} (how : Step) (f : A → P) (o : P → List ℕ) (F : Readings P) (last : Option (List ℕ)) (n : ℕ) (w : List ℕ) (xs : List A) (total : Result (List P × List ℕ) ErrorKind)
+    → w ≡ [] → with_front f xs (read_in_order how o F last n w) ≡ total → total ≡ Ok (plain_list f xs, w)
+unfolding read_in_order
+set_done how f o F last n [] xs total e so_far = sym so_far ∙ ap (λ (p : List _). Ok (p, [])) (onto_nothing f xs)
+set_done how f o F last n (b ∷ w) xs total e so_far = absurd cc
 
-pub set_over : {A P : Type 0} (f : A → P) (o : P → List ℕ) (F : Readings P) (last : Option (List ℕ)) (n i : ℕ) (w : List ℕ) (xs : List A) (total : Result (List P × List ℕ) ErrorKind)
-    → n ≤ i → w ≢ [] → with_front f xs (read_rising o F last (n - i) w) ≡ total → total ≡ Err kinds.TrailingData
-unfolding read_rising
-set_over f o F last n i [] xs total le some so_far = absurd (some refl)
-set_over f o F last n i (b ∷ w) xs total le some so_far = let k : n - i ≡ 0 = omega arith in sym so_far ∙ (rw k refl)
+pub set_over : {A P : Type 0} (how : Step) (f : A → P) (o : P → List ℕ) (F : Readings P) (last : Option (List ℕ)) (n i : ℕ) (w : List ℕ) (xs : List A) (total : Result (List P × List ℕ) ErrorKind)
+    → n ≤ i → w ≢ [] → with_front f xs (read_in_order how o F last (n - i) w) ≡ total → total ≡ Err kinds.TrailingData
+unfolding read_in_order
+set_over how f o F last n i [] xs total le some so_far = absurd (some refl)
+set_over how f o F last n i (b ∷ w) xs total le some so_far = let k : n - i ≡ 0 = omega arith in sym so_far ∙ (rw k refl)

@@ -49,6 +49,8 @@ impl<const MAX_SIZE: usize> ShapedValue for ObjectIdentifier<MAX_SIZE> {
 }
 
 impl<'a, R: Reader<'a>, const MAX_SIZE: usize> DecodeValue<'a, R> for ObjectIdentifier<MAX_SIZE> {
+    // Inlined, so that an identifier is moved less often.
+    #[inline(always)]
     fn decode_value(
         alloc: Global,
         reader: &mut R,

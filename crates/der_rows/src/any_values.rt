@@ -11,7 +11,7 @@ use der_core::{
 };
 use der_types_any::{Any, AnyRef};
 use der_types_numbers::{IntRef, UintRef};
-use der_types_sets::SequenceOf;
+use der_types_sets::{SequenceOf, SetOfRef};
 use der_types_text::{
     GeneralStringRef, Ia5StringRef, PrintableStringRef, TeletexStringRef, Utf8StringRef,
     VideotexStringRef,
@@ -21,7 +21,7 @@ use der_types_values::{BitStringRef, Null, OctetStringRef, SequenceRef};
 use std::alloc::Global;
 
 /// The answer of a type that this page names.
-pub fn answer(alloc: Global, kind: &str, question: Question<'_>) -> Result<String, Refusal> {
+pub fn answer(alloc: Global, kind: &str, question: &Question<'_>) -> Result<String, Refusal> {
     match kind {
         "Any" => answer_of_any(alloc, question),
         "AnyRef" => answer_as::<AnyRef>(alloc, question),
@@ -30,8 +30,8 @@ pub fn answer(alloc: Global, kind: &str, question: Question<'_>) -> Result<Strin
 }
 
 /// The answer of any values, whose contents are compared whatever their tags.
-fn answer_of_any(alloc: Global, question: Question<'_>) -> Result<String, Refusal> {
-    match question {
+fn answer_of_any(alloc: Global, question: &Question<'_>) -> Result<String, Refusal> {
+    match *question {
         Question::Contents(first, second) => {
             let first: Any = from_der(alloc, first)?;
             let second: Any = from_der(alloc, second)?;
@@ -65,6 +65,7 @@ fn read_as(alloc: Global, kind: &str, any: &Any, rules: EncodingRules) -> Result
         "OctetStringRef" => decoded::<OctetStringRef>(alloc, any, rules),
         "Entry" => decoded::<Entry>(alloc, any, rules),
         "SequenceOf<Small,2>" => decoded::<SequenceOf<Small, 2>>(alloc, any, rules),
+        "SetOfRef<Small>" => decoded::<SetOfRef<Small>>(alloc, any, rules),
         _ => Err(Refusal::Unread),
     }
 }

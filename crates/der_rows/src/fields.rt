@@ -5,14 +5,13 @@ ghost use Rattle.der_core_head.specs.declared.tag_mode.TagMode.TheVariants as mo
 
 use crate::any_values;
 use crate::entry::Entry;
-use crate::made::written;
-use crate::questions::{Question, name_of};
+use crate::questions::{Question, answer_of_value, name_of};
 use crate::record::Record;
 use crate::refusals::Refusal;
 use der_core::{
     CLASS_APPLICATION as APPLICATION, CLASS_CONTEXT_SPECIFIC as CONTEXT, CLASS_PRIVATE as PRIVATE,
-    Decode, DecodeValue, Encode, EncodeValue, Error, Explicit, FixedTag, Implicit, Reader,
-    SliceReader, TagMode, TagNumber, WithDefault, from_ber, from_der,
+    Decode, DecodeValue, EncodeValue, Error, Explicit, FixedTag, Implicit, Reader, SliceReader,
+    TagMode, TagNumber, WithDefault,
 };
 use der_types_any::AnyRef;
 use der_types_tagged::ClassField;
@@ -34,11 +33,11 @@ type EachKind<'a> = (
     ),
 );
 
-/// The answer of a type that this page names.
-pub fn answer(alloc: Global, kind: &str, question: Question<'_>) -> Result<String, Refusal> {
+/// The answer of a type that this page names, or one behind it.
+pub fn answer(alloc: Global, kind: &str, question: &Question<'_>) -> Result<String, Refusal> {
     match kind {
-        "EachKind" => answer_of_each_kind(alloc, question),
-        "Entry" => answer_of::<Entry>(alloc, question),
+        "EachKind" => answer_of_value::<Record<EachKind>>(alloc, question),
+        "Entry" => answer_of_value::<Entry>(alloc, question),
         "ContextSpecific<u8>" => answer_of_class::<CONTEXT>(alloc, question),
         "Application<u8>" => answer_of_class::<APPLICATION>(alloc, question),
         "Private<u8>" => answer_of_class::<PRIVATE>(alloc, question),
@@ -46,29 +45,12 @@ pub fn answer(alloc: Global, kind: &str, question: Question<'_>) -> Result<Strin
     }
 }
 
-/// The answer of a SEQUENCE with a field of each kind.
-fn answer_of_each_kind(alloc: Global, question: Question<'_>) -> Result<String, Refusal> {
-    answer_of::<Record<EachKind>>(alloc, question)
-}
-
-/// The answer of a SEQUENCE that isn't compared.
-fn answer_of<'a, T: Decode<'a, SliceReader<'a>> + Encode + Drop>(
-    alloc: Global,
-    question: Question<'a>,
-) -> Result<String, Refusal> {
-    match question {
-        Question::Der(octets) => written(alloc, &from_der::<T>(alloc, octets)?),
-        Question::Ber(octets) => written(alloc, &from_ber::<T>(alloc, octets)?),
-        _ => Err(Refusal::Unread),
-    }
-}
-
 /// The answer of a field of any number, whose tag stands in front of the value's own.
 fn answer_of_class<const CLASS: u8>(
     alloc: Global,
-    question: Question<'_>,
+    question: &Question<'_>,
 ) -> Result<String, Refusal> {
-    match question {
+    match *question {
         Question::Der(octets) => {
             let field = of_any_number::<CLASS>(alloc, octets)?;
             Ok(hex::encode(alloc, field.to_der(alloc)?)?)
@@ -121,14 +103,14 @@ pub fn answer_of_number(alloc: Global, word: &str, rest: &str) -> Result<String,
         octets: first.as_slice(),
     };
     if second.is_empty() {
-        written_of(alloc, kind, field)
+        written_of(alloc, kind, &field)
     } else {
-        order_of(alloc, kind, field, second.as_slice())
+        order_of(alloc, kind, &field, second.as_slice())
     }
 }
 
 /// What is written of the field, by the name of its type.
-fn written_of(alloc: Global, kind: &str, field: Numbered<'_>) -> Result<String, Refusal> {
+fn written_of(alloc: Global, kind: &str, field: &Numbered<'_>) -> Result<String, Refusal> {
     match kind {
         "ContextSpecific<u8>" => owned(alloc, read_field::<u8, CONTEXT>(alloc, field)?),
         "ContextSpecific<Vec<u8>>" => owned(alloc, read_field::<Vec<u8>, CONTEXT>(alloc, field)?),
@@ -136,11 +118,11 @@ fn written_of(alloc: Global, kind: &str, field: Numbered<'_>) -> Result<String, 
             alloc,
             read_field::<BitString, CONTEXT>(alloc, field)?,
         ),
-        "ContextSpecificRef<u8>" => lent(alloc, read_field::<u8, CONTEXT>(alloc, field)?),
+        "ContextSpecificRef<u8>" => lent::<CONTEXT>(alloc, field),
         "Application<u8>" => owned(alloc, read_field::<u8, APPLICATION>(alloc, field)?),
-        "ApplicationRef<u8>" => lent(alloc, read_field::<u8, APPLICATION>(alloc, field)?),
+        "ApplicationRef<u8>" => lent::<APPLICATION>(alloc, field),
         "Private<u8>" => owned(alloc, read_field::<u8, PRIVATE>(alloc, field)?),
-        "PrivateRef<u8>" => lent(alloc, read_field::<u8, PRIVATE>(alloc, field)?),
+        "PrivateRef<u8>" => lent::<PRIVATE>(alloc, field),
         _ => Err(Refusal::Unread),
     }
 }
@@ -151,9 +133,9 @@ type Front<T, const CLASS: u8> = (Option<ClassField<T, CLASS>>, u32);
 /// The field that may stand at the front of octets.
 fn read_field<'a, T: DecodeValue<'a, SliceReader<'a>> + FixedTag + Drop, const CLASS: u8>(
     alloc: Global,
-    field: Numbered<'a>,
+    field: &Numbered<'a>,
 ) -> Result<Front<T, CLASS>, Error>
-    ensures { IfOk result (λ x. IfSome x.0 (λ f. f.tag_mode ≡ field.entry.mode)) }
+    ensures { IfOk result (λ x. IfSome x.0 (λ f. f.tag_mode ≡ field.now.mode)) }
 {
     let mut reader = SliceReader::new(field.octets)?;
     let read = match field.mode {
@@ -175,12 +157,9 @@ fn owned<T: EncodeValue + FixedTag + Drop, const CLASS: u8>(
     }
 }
 
-/// The same of the field, lent.
-fn lent<T: EncodeValue + FixedTag + Drop, const CLASS: u8>(
-    alloc: Global,
-    front: Front<T, CLASS>,
-) -> Result<String, Refusal> {
-    let (field, left) = front;
+/// The same of the field of a number, lent.
+fn lent<const CLASS: u8>(alloc: Global, field: &Numbered<'_>) -> Result<String, Refusal> {
+    let (field, left) = read_field::<u8, CLASS>(alloc, field)?;
     match field {
         Some(field) => found(alloc, field.owned_to_ref().to_der(alloc)?, left),
         None => absent(alloc, left),
@@ -202,7 +181,7 @@ fn absent(alloc: Global, left: u32) -> Result<String, Refusal> {
 fn order_of(
     alloc: Global,
     kind: &str,
-    field: Numbered<'_>,
+    field: &Numbered<'_>,
     other: &[u8],
 ) -> Result<String, Refusal> {
     if kind != "ContextSpecific<u8>" {
@@ -210,10 +189,10 @@ fn order_of(
     }
     let other = Numbered {
         octets: other,
-        ..field
+        ..*field
     };
     let (first, _) = read_field::<u8, CONTEXT>(alloc, field)?;
-    let (second, _) = read_field::<u8, CONTEXT>(alloc, other)?;
+    let (second, _) = read_field::<u8, CONTEXT>(alloc, &other)?;
     let first = first.ok_or(Refusal::Unread)?;
     let second = second.ok_or(Refusal::Unread)?;
     let order = name_of(first.der_cmp(&second)?);

@@ -84,7 +84,11 @@ fn named(alloc: Global, word: &str, text: &str) -> Result<String, Refusal> {
         (&country_name, "C"),
         (&common_name, "commonName"),
     ];
-    let database = Database::new(&entries);
+    told(alloc, word, text, &Database::new(&entries))
+}
+
+/// What a database tells.
+fn told(alloc: Global, word: &str, text: &str, database: &Database<'_>) -> Result<String, Refusal> {
     match word {
         "oid-name" => or_none(alloc, database.by_oid(&Identifier::new(text)?)),
         "oid-named" => or_none(alloc, database.by_name(text)),

@@ -71,8 +71,8 @@ impl NamedBits for KeyUsages {
 }
 
 /// The answer of sets of key usages, whose text is their names.
-pub fn answer(alloc: Global, question: Question<'_>) -> Result<String, Refusal> {
-    match question {
+pub fn answer(alloc: Global, question: &Question<'_>) -> Result<String, Refusal> {
+    match *question {
         Question::Text(octets) => {
             let usages: FlagSet<KeyUsages> = from_der(alloc, octets)?;
             Ok(names_of(alloc, usages)?)

@@ -1,8 +1,8 @@
 //! Types by their names.
 
+use crate::leaves;
 use crate::questions::Question;
 use crate::refusals::Refusal;
-use crate::{fields, leaves, lists, nested, texts, times};
 use std::alloc::Global;
 
 /// The answer to a question about a type.
@@ -12,7 +12,7 @@ pub fn answer(alloc: Global, word: &str, rest: &str) -> Result<String, Refusal> 
     let first = hex::decode(alloc, first.as_bytes())?;
     let second = hex::decode(alloc, second.as_bytes())?;
     let question = question_of(word, first.as_slice(), second.as_slice())?;
-    answer_of(alloc, kind, question)
+    leaves::answer(alloc, kind, &question)
 }
 
 /// What a word asks of the values of octets.
@@ -26,29 +26,4 @@ fn question_of<'a>(word: &str, first: &'a [u8], second: &'a [u8]) -> Result<Ques
         "text" => Ok(Question::Text(first)),
         _ => Err(Refusal::Unread),
     }
-}
-
-/// The answer by the first page of types that knows the name.
-fn answer_of(alloc: Global, kind: &str, question: Question<'_>) -> Result<String, Refusal> {
-    match leaves::answer(alloc, kind, question) {
-        Err(Refusal::Unread) => (),
-        answer => return answer,
-    }
-    match texts::answer(alloc, kind, question) {
-        Err(Refusal::Unread) => (),
-        answer => return answer,
-    }
-    match times::answer(alloc, kind, question) {
-        Err(Refusal::Unread) => (),
-        answer => return answer,
-    }
-    match nested::answer(alloc, kind, question) {
-        Err(Refusal::Unread) => (),
-        answer => return answer,
-    }
-    match lists::answer(alloc, kind, question) {
-        Err(Refusal::Unread) => (),
-        answer => return answer,
-    }
-    fields::answer(alloc, kind, question)
 }

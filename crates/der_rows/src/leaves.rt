@@ -1,23 +1,36 @@
 //! Values without others inside.
 
-use crate::key_usages;
 use crate::questions::{
-    Question, answer_as, answer_with_contents, answer_with_debug, answer_with_order,
+    Question, answer_of_plain, answer_of_value, answer_with_contents, answer_with_order,
 };
 use crate::refusals::Refusal;
+use crate::{key_usages, texts};
 use const_oid_identifiers::ObjectIdentifier;
-use der_core::{Decode, DerOrd, Encode, Explicit, Implicit, SliceReader, ValueOrd, from_der};
+use der_core::{Explicit, Implicit, from_der};
 use der_types_numbers::{Int, IntRef, Uint, UintRef};
 use der_types_values::{BitString, BitStringRef, Null, OctetString, OctetStringRef, SequenceRef};
 use std::alloc::Global;
-use std::fmt::Debug;
 
-/// The answer of a type that this page names.
-pub fn answer(alloc: Global, kind: &str, question: Question<'_>) -> Result<String, Refusal> {
+/// The answer of a type that this page names, or one behind it.
+pub fn answer(alloc: Global, kind: &str, question: &Question<'_>) -> Result<String, Refusal> {
     match kind {
-        "()" => answer_of_plain::<()>(alloc, question),
+        "()" => answer_with_contents::<()>(alloc, question),
         "bool" => answer_of_plain::<bool>(alloc, question),
         "u8" => answer_of_plain::<u8>(alloc, question),
+        "str" => answer_of_plain::<&str>(alloc, question),
+        "String" => answer_of_plain::<String>(alloc, question),
+        "ObjectIdentifier" => answer_of_plain::<ObjectIdentifier<39>>(alloc, question),
+        _ => answer_of_integers(alloc, kind, question),
+    }
+}
+
+/// The answer of a whole number of the language.
+fn answer_of_integers(
+    alloc: Global,
+    kind: &str,
+    question: &Question<'_>,
+) -> Result<String, Refusal> {
+    match kind {
         "u16" => answer_of_plain::<u16>(alloc, question),
         "u32" => answer_of_plain::<u32>(alloc, question),
         "u64" => answer_of_plain::<u64>(alloc, question),
@@ -27,63 +40,60 @@ pub fn answer(alloc: Global, kind: &str, question: Question<'_>) -> Result<Strin
         "i32" => answer_of_plain::<i32>(alloc, question),
         "i64" => answer_of_plain::<i64>(alloc, question),
         "i128" => answer_of_plain::<i128>(alloc, question),
-        "Box<u8>" => answer_of_plain::<Box<u8>>(alloc, question),
-        "str" => answer_of_plain::<&str>(alloc, question),
-        "String" => answer_of_plain::<String>(alloc, question),
-        "ObjectIdentifier" => answer_of_plain::<ObjectIdentifier<39>>(alloc, question),
+        "Box<u8>" => answer_with_contents::<Box<u8>>(alloc, question),
         _ => answer_of_numbers(alloc, kind, question),
     }
 }
 
-/// The answer of a type of the language, or of identifiers.
-fn answer_of_plain<'a, T: Decode<'a, SliceReader<'a>> + Debug + DerOrd + Encode + ValueOrd + Drop>(
-    alloc: Global,
-    question: Question<'a>,
-) -> Result<String, Refusal> {
-    match question {
-        Question::Contents(..) => answer_with_contents::<T>(alloc, question),
-        _ => answer_with_debug::<T>(alloc, question),
-    }
-}
-
 /// The answer of a number of any size.
-fn answer_of_numbers(alloc: Global, kind: &str, question: Question<'_>) -> Result<String, Refusal> {
+fn answer_of_numbers(
+    alloc: Global,
+    kind: &str,
+    question: &Question<'_>,
+) -> Result<String, Refusal> {
     match kind {
         "Int" => answer_with_order::<Int>(alloc, question),
         "IntRef" => answer_with_order::<IntRef>(alloc, question),
         "Uint" => answer_with_order::<Uint>(alloc, question),
         "UintRef" => answer_with_order::<UintRef>(alloc, question),
-        "Explicit<Uint,0>" => answer_as::<Explicit<Uint, 0>>(alloc, question),
+        "Explicit<Uint,0>" => answer_of_value::<Explicit<Uint, 0>>(alloc, question),
         _ => answer_of_strings(alloc, kind, question),
     }
 }
 
 /// The answer of a string of octets or bits.
-fn answer_of_strings(alloc: Global, kind: &str, question: Question<'_>) -> Result<String, Refusal> {
+fn answer_of_strings(
+    alloc: Global,
+    kind: &str,
+    question: &Question<'_>,
+) -> Result<String, Refusal> {
     match kind {
         "BitString" => answer_of_bits(alloc, question),
         "BitStringRef" => answer_with_order::<BitStringRef>(alloc, question),
-        "Implicit<BitStringRef,1>" => answer_as::<Implicit<BitStringRef, 1>>(alloc, question),
+        "Implicit<BitStringRef,1>" => answer_of_value::<Implicit<BitStringRef, 1>>(alloc, question),
         "KeyUsages" => key_usages::answer(alloc, question),
         "OctetString" => answer_with_order::<OctetString>(alloc, question),
         "OctetStringRef" => answer_with_order::<OctetStringRef>(alloc, question),
         "Null" => answer_with_order::<Null>(alloc, question),
         "SequenceRef" => answer_with_order::<SequenceRef>(alloc, question),
-        _ => Err(Refusal::Unread),
+        _ => texts::answer(alloc, kind, question),
     }
 }
 
 /// The answer of bit strings, whose text is their bits.
-fn answer_of_bits(alloc: Global, question: Question<'_>) -> Result<String, Refusal> {
-    match question {
-        Question::Text(octets) => {
-            let string: BitString = from_der(alloc, octets)?;
-            let mut text = String::new(alloc);
-            for bit in string.bits() {
-                text.push(if bit { '1' } else { '0' })?;
-            }
-            Ok(text)
-        }
+fn answer_of_bits(alloc: Global, question: &Question<'_>) -> Result<String, Refusal> {
+    match *question {
+        Question::Text(octets) => bits_of(alloc, octets),
         _ => answer_with_order::<BitString>(alloc, question),
     }
+}
+
+/// The bits of the string that octets spell.
+fn bits_of(alloc: Global, octets: &[u8]) -> Result<String, Refusal> {
+    let string: BitString = from_der(alloc, octets)?;
+    let mut text = String::new(alloc);
+    for bit in string.bits() {
+        text.push(if bit { '1' } else { '0' })?;
+    }
+    Ok(text)
 }

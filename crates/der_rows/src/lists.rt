@@ -1,17 +1,18 @@
 //! Lists and sets.
 
+use crate::fields;
 use crate::key_usages::KeyUsages;
 use crate::made::written;
-use crate::questions::{Question, answer_as, answer_with_contents, compared, name_of};
+use crate::questions::{Question, answer_of_value, answer_with_contents, compared, name_of};
 use crate::record::Record;
 use crate::refusals::Refusal;
 use crate::small::Small;
 use der_core::{
-    AsRead, Decode, DerOrd, Encode, EncodeValue, EncodingRules, Error, FixedTag, Header, Member,
-    Reader, SliceReader, Tag, ValueOrd, from_der,
+    AsRead, Decode, DerOrd, Encode, EncodeValue, EncodingRules, Error, FixedTag, Header, InRange,
+    Member, Reader, SliceReader, Tag, ValueOrd, from_ber, from_der,
 };
 use der_types_sets::{SequenceOf, SetOf, SetOfRef, SetOfVec};
-use der_types_values::FlagSet;
+use der_types_values::{FlagSet, OctetStringRef};
 use std::alloc::Global;
 use std::hash::Hash;
 
@@ -21,21 +22,30 @@ type FewFields = (
     (Option<SequenceOf<Small, 1>>, (Small, ())),
 );
 
-/// The answer of a type that this page names.
-pub fn answer(alloc: Global, kind: &str, question: Question<'_>) -> Result<String, Refusal> {
+/// A set that is lent as a field, and as one that may be absent.
+type LentFields<'a> = (
+    SetOfRef<'a, Small>,
+    (Option<SetOfRef<'a, Small>>, (Small, ())),
+);
+
+/// The answer of a type that this page names, or one behind it.
+pub fn answer(alloc: Global, kind: &str, question: &Question<'_>) -> Result<String, Refusal> {
     match kind {
-        "Small" => answer_as::<Small>(alloc, question),
+        "Small" => answer_with_contents::<Small>(alloc, question),
         "SetOfVec<Small>" => answer_of_set::<SetOfVec<Small>>(alloc, question),
-        "SetOfVec<u16>" => answer_of_set::<SetOfVec<u16>>(alloc, question),
+        "SetOfVec<u16>" => answer_of_members_read::<SetOfVec<u16>>(alloc, question),
         "SetOf<Small,2>" => answer_of_set::<SetOf<Small, 2>>(alloc, question),
         "SequenceOf<Small,2>" => answer_with_contents::<SequenceOf<Small, 2>>(alloc, question),
-        "SequenceOf<Small,0>" => answer_with_contents::<SequenceOf<Small, 0>>(alloc, question),
-        "SequenceOf<SequenceOf<Small,1>,2>" => answer_with_contents::<
+        "SequenceOf<Small,0>" => answer_of_value::<SequenceOf<Small, 0>>(alloc, question),
+        "SequenceOf<SequenceOf<Small,1>,2>" => answer_of_value::<
             SequenceOf<SequenceOf<Small, 1>, 2>,
         >(alloc, question),
-        "FewFields" => answer_with_contents::<Record<FewFields>>(alloc, question),
+        "FewFields" => answer_of_value::<Record<FewFields>>(alloc, question),
         "SetOfRef<Small>" => answer_of_lent(alloc, question),
-        _ => Err(Refusal::Unread),
+        "Vec<SetOfRef<Small>>" => answer_of_value::<Vec<SetOfRef<Small>>>(alloc, question),
+        "SetOfRef<SetOfRef<Small>>" => answer_of_lent_members::<SetOfRef<Small>>(alloc, question),
+        "LentFields" => answer_of_value::<Record<LentFields>>(alloc, question),
+        _ => fields::answer(alloc, kind, question),
     }
 }
 
@@ -83,14 +93,24 @@ fn opened(
     Ok((reader, header))
 }
 
-/// The answer of a set or a list.
-fn answer_of<'a, T: Members<'a> + EncodeValue + FixedTag + ValueOrd + Drop>(
+/// The answer of a set or a list that is read and written.
+fn answer_of_members_read<'a, T: Members<'a> + Encode + Drop>(
     alloc: Global,
-    question: Question<'a>,
+    question: &Question<'a>,
 ) -> Result<String, Refusal> {
-    match question {
+    match *question {
         Question::Der(octets) => written(alloc, &T::read(alloc, octets, EncodingRules::Der)?),
         Question::Ber(octets) => written(alloc, &T::read(alloc, octets, EncodingRules::Ber)?),
+        _ => Err(Refusal::Unread),
+    }
+}
+
+/// The answer of a set, which is compared, and has an order of its own.
+fn answer_of_set<'a, T: Members<'a> + EncodeValue + FixedTag + Hash + Ord + ValueOrd + Drop>(
+    alloc: Global,
+    question: &Question<'a>,
+) -> Result<String, Refusal> {
+    match *question {
         Question::Order(first, second) => {
             let first = T::read(alloc, first, EncodingRules::Der)?;
             let second = T::read(alloc, second, EncodingRules::Der)?;
@@ -101,40 +121,39 @@ fn answer_of<'a, T: Members<'a> + EncodeValue + FixedTag + ValueOrd + Drop>(
             let second = T::read(alloc, second, EncodingRules::Der)?;
             Ok(name_of(first.value_cmp(&second)?).to_string(alloc)?)
         }
-        _ => Err(Refusal::Unread),
-    }
-}
-
-/// The answer of a set, which has an order of its own, too.
-fn answer_of_set<'a, T: Members<'a> + EncodeValue + FixedTag + Hash + Ord + ValueOrd + Drop>(
-    alloc: Global,
-    question: Question<'a>,
-) -> Result<String, Refusal> {
-    match question {
         Question::Compare(first, second) => {
             let first = T::read(alloc, first, EncodingRules::Der)?;
             let second = T::read(alloc, second, EncodingRules::Der)?;
             Ok(compared(alloc, &first, &second)?)
         }
-        _ => answer_of::<T>(alloc, question),
+        _ => answer_of_members_read::<T>(alloc, question),
     }
 }
 
+/// The answer of a borrowed set of members of a type. A function that names a borrowed set of borrowed sets
+/// gets no proof, and so the set is named here, as one of any members.
+fn answer_of_lent_members<'a, T: Decode<'a, SliceReader<'a>> + Encode + InRange + Member + 'a>(
+    alloc: Global,
+    question: &Question<'a>,
+) -> Result<String, Refusal> {
+    answer_of_value::<SetOfRef<T>>(alloc, question)
+}
+
 /// The answer of a borrowed set: of the octets of a SET OF, or of the values of a SEQUENCE OF.
-fn answer_of_lent(alloc: Global, question: Question<'_>) -> Result<String, Refusal> {
-    let (first, second) = match question {
+fn answer_of_lent(alloc: Global, question: &Question<'_>) -> Result<String, Refusal> {
+    let (first, second) = match *question {
         Question::Der(octets) | Question::Ber(octets) => (octets, octets),
         Question::Order(first, second) | Question::Contents(first, second) => (first, second),
         _ => return Err(Refusal::Unread),
     };
-    let rules = match question {
+    let rules = match *question {
         Question::Ber(_) => EncodingRules::Ber,
         _ => EncodingRules::Der,
     };
     let (first_values, second_values) = (values_of(alloc, first)?, values_of(alloc, second)?);
     let first = lent(alloc, first, first_values.as_slice(), rules)?;
     let second = lent(alloc, second, second_values.as_slice(), rules)?;
-    match question {
+    match *question {
         Question::Order(..) => Ok(name_of(first.der_cmp(alloc, &second)?).to_string(alloc)?),
         Question::Contents(..) => Ok(name_of(first.value_cmp(alloc, &second)?).to_string(alloc)?),
         _ => written(alloc, &first),
@@ -160,10 +179,10 @@ fn lent<'a>(
     if octets.starts_with(b"\x30") {
         return SetOfRef::try_from(values);
     }
-    let (mut reader, header) = opened(octets, rules, Tag::Set)?;
-    let set = SetOfRef::decode_value(alloc, &mut reader, header)?;
-    reader.finish()?;
-    Ok(set)
+    if rules.is_der() {
+        return from_der(alloc, octets);
+    }
+    from_ber(alloc, octets)
 }
 
 /// The answer to a question about members of a set that are read or placed.
@@ -175,6 +194,7 @@ pub fn answer_of_members(alloc: Global, word: &str, rest: &str) -> Result<String
         "Small" => written_set::<Small>(alloc, word, octets),
         "u16" => written_set::<u16>(alloc, word, octets),
         "KeyUsages" => written_set::<FlagSet<KeyUsages>>(alloc, word, octets),
+        "OctetStringRef" => written_set::<OctetStringRef>(alloc, word, octets),
         _ => Err(Refusal::Unread),
     }
 }

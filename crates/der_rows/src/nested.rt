@@ -1,9 +1,12 @@
 //! Lists, arrays, sets, options, tags and fields of the coding core.
 
-use crate::questions::{Question, answer_as, answer_with_contents, answer_with_debug};
+use crate::questions::{
+    Question, answer_as_with_debug, answer_of, answer_of_plain, answer_of_value,
+    answer_with_contents, answer_with_debug,
+};
 use crate::record::Record;
 use crate::refusals::Refusal;
-use crate::ten_fields;
+use crate::{lists, ten_fields};
 use const_oid_identifiers::ObjectIdentifier;
 use der_core::{Explicit, Implicit, StrictSetOf, WithDefault};
 use std::alloc::Global;
@@ -12,16 +15,16 @@ use std::marker::PhantomData;
 /// A SEQUENCE of a number, of a flag that may be absent, and of a text.
 type Flagged<'a> = Record<(u8, (Option<bool>, (&'a str, ())))>;
 
-/// The answer of a type that this page names.
-pub fn answer(alloc: Global, kind: &str, question: Question<'_>) -> Result<String, Refusal> {
+/// The answer of a type that this page names, or one behind it.
+pub fn answer(alloc: Global, kind: &str, question: &Question<'_>) -> Result<String, Refusal> {
     match kind {
-        "Option<bool>" => answer_with_debug::<Option<bool>>(alloc, question),
-        "WithDefault<bool>" => answer_with_debug::<WithDefault<bool>>(alloc, question),
-        "PhantomData<u8>" => answer_as::<PhantomData<u8>>(alloc, question),
-        "Explicit<bool,3>" => answer_as::<Explicit<bool, 3>>(alloc, question),
-        "Explicit<u8,0>" => answer_as::<Explicit<u8, 0>>(alloc, question),
-        "Implicit<u8,0>" => answer_as::<Implicit<u8, 0>>(alloc, question),
-        "Flagged" => answer_with_debug::<Flagged>(alloc, question),
+        "Option<bool>" => answer_as_with_debug::<Option<bool>>(alloc, question),
+        "WithDefault<bool>" => answer_as_with_debug::<WithDefault<bool>>(alloc, question),
+        "PhantomData<u8>" => answer_of::<PhantomData<u8>>(alloc, question),
+        "Explicit<bool,3>" => answer_of_value::<Explicit<bool, 3>>(alloc, question),
+        "Explicit<u8,0>" => answer_with_contents::<Explicit<u8, 0>>(alloc, question),
+        "Implicit<u8,0>" => answer_with_contents::<Implicit<u8, 0>>(alloc, question),
+        "Flagged" => answer_of_plain::<Flagged>(alloc, question),
         "NumberOrText" => ten_fields::answer_of_choice(alloc, question),
         "TenFields" => ten_fields::answer(alloc, question),
         _ => answer_of_lists(alloc, kind, question),
@@ -29,38 +32,38 @@ pub fn answer(alloc: Global, kind: &str, question: Question<'_>) -> Result<Strin
 }
 
 /// The answer of a list or an array.
-fn answer_of_lists(alloc: Global, kind: &str, question: Question<'_>) -> Result<String, Refusal> {
+fn answer_of_lists(alloc: Global, kind: &str, question: &Question<'_>) -> Result<String, Refusal> {
     match kind {
-        "Vec<bool>" => answer_as::<Vec<bool>>(alloc, question),
+        "Vec<bool>" => answer_of_value::<Vec<bool>>(alloc, question),
         "Vec<u8>" => answer_with_contents::<Vec<u8>>(alloc, question),
-        "[bool;0]" => answer_as::<[bool; 0]>(alloc, question),
+        "[bool;0]" => answer_of_value::<[bool; 0]>(alloc, question),
         "[u8;2]" => answer_with_debug::<[u8; 2]>(alloc, question),
-        "[[bool;1];1]" => answer_as::<[[bool; 1]; 1]>(alloc, question),
+        "[[bool;1];1]" => answer_of_value::<[[bool; 1]; 1]>(alloc, question),
         _ => answer_of_sets(alloc, kind, question),
     }
 }
 
 /// The answer of a set whose members stand in order.
-fn answer_of_sets(alloc: Global, kind: &str, question: Question<'_>) -> Result<String, Refusal> {
+fn answer_of_sets(alloc: Global, kind: &str, question: &Question<'_>) -> Result<String, Refusal> {
     match kind {
-        "StrictSetOf<()>" => answer_as::<StrictSetOf<()>>(alloc, question),
-        "StrictSetOf<bool>" => answer_as::<StrictSetOf<bool>>(alloc, question),
-        "StrictSetOf<u8>" => answer_as::<StrictSetOf<u8>>(alloc, question),
-        "StrictSetOf<i128>" => answer_as::<StrictSetOf<i128>>(alloc, question),
-        "StrictSetOf<Box<u64>>" => answer_as::<StrictSetOf<Box<u64>>>(alloc, question),
-        "StrictSetOf<str>" => answer_as::<StrictSetOf<&str>>(alloc, question),
-        "StrictSetOf<String>" => answer_as::<StrictSetOf<String>>(alloc, question),
-        "StrictSetOf<ObjectIdentifier>" => answer_as::<StrictSetOf<ObjectIdentifier<39>>>(
+        "StrictSetOf<()>" => answer_of_value::<StrictSetOf<()>>(alloc, question),
+        "StrictSetOf<bool>" => answer_with_contents::<StrictSetOf<bool>>(alloc, question),
+        "StrictSetOf<u8>" => answer_of_value::<StrictSetOf<u8>>(alloc, question),
+        "StrictSetOf<i128>" => answer_of_value::<StrictSetOf<i128>>(alloc, question),
+        "StrictSetOf<Box<u64>>" => answer_of_value::<StrictSetOf<Box<u64>>>(alloc, question),
+        "StrictSetOf<str>" => answer_of_value::<StrictSetOf<&str>>(alloc, question),
+        "StrictSetOf<String>" => answer_of_value::<StrictSetOf<String>>(alloc, question),
+        "StrictSetOf<ObjectIdentifier>" => answer_of_value::<StrictSetOf<ObjectIdentifier<39>>>(
             alloc, question,
         ),
-        "StrictSetOf<Vec<bool>>" => answer_as::<StrictSetOf<Vec<bool>>>(alloc, question),
-        "StrictSetOf<[u8;1]>" => answer_as::<StrictSetOf<[u8; 1]>>(alloc, question),
-        "StrictSetOf<Implicit<bool,0>>" => answer_as::<StrictSetOf<Implicit<bool, 0>>>(
+        "StrictSetOf<Vec<bool>>" => answer_of_value::<StrictSetOf<Vec<bool>>>(alloc, question),
+        "StrictSetOf<[u8;1]>" => answer_of_value::<StrictSetOf<[u8; 1]>>(alloc, question),
+        "StrictSetOf<Implicit<bool,0>>" => answer_of_value::<StrictSetOf<Implicit<bool, 0>>>(
             alloc, question,
         ),
         "StrictSetOf<Explicit<StrictSetOf<u8>,2>>" => {
-            answer_as::<StrictSetOf<Explicit<StrictSetOf<u8>, 2>>>(alloc, question)
+            answer_of_value::<StrictSetOf<Explicit<StrictSetOf<u8>, 2>>>(alloc, question)
         }
-        _ => Err(Refusal::Unread),
+        _ => lists::answer(alloc, kind, question),
     }
 }

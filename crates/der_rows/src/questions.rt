@@ -1,10 +1,14 @@
 //! What is asked of the values of a type.
 
+use crate::made::written;
 use crate::refusals::Refusal;
-use der_core::{Decode, DerOrd, Encode, SliceReader, ValueOrd, from_ber, from_der, to_der};
+use der_core::{
+    Decode, DecodeValue, DerOrd, Encode, EncodeValue, FixedTag, SliceReader, ValueOrd, from_ber,
+    from_der,
+};
 use std::alloc::{AllocError, Global};
 use std::cmp::Ordering;
-use std::fmt;
+use std::fmt::{Debug, Display};
 use std::hash::{DefaultHasher, Hash, Hasher};
 
 /// What is asked of the values of a type.
@@ -24,35 +28,76 @@ pub enum Question<'a> {
     Text(&'a [u8]),
 }
 
-/// The answer of a type that is read, written and compared.
+/// The answer of a type that is read and written.
+pub fn answer_of<'a, T: Decode<'a, SliceReader<'a>> + Encode + Drop>(
+    alloc: Global,
+    question: &Question<'a>,
+) -> Result<String, Refusal> {
+    match *question {
+        Question::Der(octets) => written(alloc, &from_der::<T>(alloc, octets)?),
+        Question::Ber(octets) => written(alloc, &from_ber::<T>(alloc, octets)?),
+        _ => Err(Refusal::Unread),
+    }
+}
+
+/// The answer of a type that is compared, too.
 pub fn answer_as<'a, T: Decode<'a, SliceReader<'a>> + DerOrd + Encode + Drop>(
     alloc: Global,
-    question: Question<'a>,
+    question: &Question<'a>,
 ) -> Result<String, Refusal> {
-    match question {
-        Question::Der(octets) => {
-            let value: T = from_der(alloc, octets)?;
-            Ok(hex::encode(alloc, to_der(alloc, &value)?)?)
-        }
-        Question::Ber(octets) => {
-            let value: T = from_ber(alloc, octets)?;
-            Ok(hex::encode(alloc, to_der(alloc, &value)?)?)
-        }
+    match *question {
         Question::Order(first, second) => {
             let first: T = from_der(alloc, first)?;
             let second: T = from_der(alloc, second)?;
             Ok(name_of(first.der_cmp(&second)?).to_string(alloc)?)
         }
-        Question::Contents(..) | Question::Compare(..) | Question::Text(_) => Err(Refusal::Unread),
+        _ => answer_of::<T>(alloc, question),
     }
 }
 
-/// The answer of a type whose contents are compared too.
-pub fn answer_with_contents<'a, T: Decode<'a, SliceReader<'a>> + DerOrd + Encode + ValueOrd + Drop>(
+/// The answer of a type that is compared, and prints for debugging.
+pub fn answer_as_with_debug<'a, T: Decode<'a, SliceReader<'a>> + DerOrd + Encode + Debug + Drop>(
     alloc: Global,
-    question: Question<'a>,
+    question: &Question<'a>,
 ) -> Result<String, Refusal> {
-    match question {
+    match *question {
+        Question::Text(octets) => {
+            let value: T = from_der(alloc, octets)?;
+            Ok(format!(in alloc; "{value:?}")?)
+        }
+        _ => answer_as::<T>(alloc, question),
+    }
+}
+
+/// The answer of a type with one tag. Of such a type the traits of its contents are asked for, since
+/// each that is asked for costs the check of every type that is named.
+pub fn answer_of_value<'a, T: DecodeValue<'a, SliceReader<'a>> + EncodeValue + FixedTag + Drop>(
+    alloc: Global,
+    question: &Question<'a>,
+) -> Result<String, Refusal> {
+    answer_of::<T>(alloc, question)
+}
+
+/// The answer of a type with one tag that prints for debugging, too.
+pub fn answer_with_debug<
+    'a,
+    T: DecodeValue<'a, SliceReader<'a>> + EncodeValue + FixedTag + Debug + Drop,
+>(alloc: Global, question: &Question<'a>) -> Result<String, Refusal> {
+    match *question {
+        Question::Text(octets) => {
+            let value: T = from_der(alloc, octets)?;
+            Ok(format!(in alloc; "{value:?}")?)
+        }
+        _ => answer_of::<T>(alloc, question),
+    }
+}
+
+/// The answer of a type with one tag whose contents are compared too.
+pub fn answer_with_contents<
+    'a,
+    T: DecodeValue<'a, SliceReader<'a>> + EncodeValue + FixedTag + ValueOrd + Drop,
+>(alloc: Global, question: &Question<'a>) -> Result<String, Refusal> {
+    match *question {
         Question::Contents(first, second) => {
             let first: T = from_der(alloc, first)?;
             let second: T = from_der(alloc, second)?;
@@ -62,18 +107,50 @@ pub fn answer_with_contents<'a, T: Decode<'a, SliceReader<'a>> + DerOrd + Encode
     }
 }
 
-/// The answer of a type that has an order of its own, too.
+/// The answer of a type with one tag that is compared, and prints for debugging.
+pub fn answer_of_plain<
+    'a,
+    T: DecodeValue<'a, SliceReader<'a>> + EncodeValue + FixedTag + ValueOrd + Debug + Drop,
+>(alloc: Global, question: &Question<'a>) -> Result<String, Refusal> {
+    match *question {
+        Question::Text(_) => answer_with_debug::<T>(alloc, question),
+        _ => answer_with_contents::<T>(alloc, question),
+    }
+}
+
+/// The answer of a type with one tag that has an order of its own, too.
 pub fn answer_with_order<
     'a,
-    T: Decode<'a, SliceReader<'a>> + DerOrd + Encode + Hash + Ord + ValueOrd + Drop,
->(alloc: Global, question: Question<'a>) -> Result<String, Refusal> {
-    match question {
+    T: DecodeValue<'a, SliceReader<'a>> + EncodeValue + FixedTag + Hash + Ord + ValueOrd + Drop,
+>(alloc: Global, question: &Question<'a>) -> Result<String, Refusal> {
+    match *question {
         Question::Compare(first, second) => {
             let first: T = from_der(alloc, first)?;
             let second: T = from_der(alloc, second)?;
             Ok(compared(alloc, &first, &second)?)
         }
         _ => answer_with_contents::<T>(alloc, question),
+    }
+}
+
+/// The answer of a type with one tag that has an order of its own, and prints.
+pub fn answer_with_text<
+    'a,
+    T: DecodeValue<'a, SliceReader<'a>>
+        + EncodeValue
+        + FixedTag
+        + Hash
+        + Ord
+        + ValueOrd
+        + Display
+        + Drop,
+>(alloc: Global, question: &Question<'a>) -> Result<String, Refusal> {
+    match *question {
+        Question::Text(octets) => {
+            let value: T = from_der(alloc, octets)?;
+            Ok(value.to_string(alloc)?)
+        }
+        _ => answer_with_order::<T>(alloc, question),
     }
 }
 
@@ -93,34 +170,6 @@ fn hash_of<T: Hash>(value: &T) -> u64 {
     let mut state = DefaultHasher::new();
     value.hash(&mut state);
     state.finish()
-}
-
-/// The answer of a type that also prints.
-pub fn answer_with_text<'a, T: Decode<'a, SliceReader<'a>> + DerOrd + Encode + fmt::Display + Drop>(
-    alloc: Global,
-    question: Question<'a>,
-) -> Result<String, Refusal> {
-    match question {
-        Question::Text(octets) => {
-            let value: T = from_der(alloc, octets)?;
-            Ok(value.to_string(alloc)?)
-        }
-        _ => answer_as::<T>(alloc, question),
-    }
-}
-
-/// The answer of a type that prints for debugging alone.
-pub fn answer_with_debug<'a, T: Decode<'a, SliceReader<'a>> + DerOrd + Encode + fmt::Debug + Drop>(
-    alloc: Global,
-    question: Question<'a>,
-) -> Result<String, Refusal> {
-    match question {
-        Question::Text(octets) => {
-            let value: T = from_der(alloc, octets)?;
-            Ok(format!(in alloc; "{value:?}")?)
-        }
-        _ => answer_as::<T>(alloc, question),
-    }
 }
 
 /// The name of an order.

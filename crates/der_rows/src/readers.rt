@@ -1,10 +1,12 @@
 //! Readers that take steps: what one answers after what the steps before it left.
 
 use crate::refusals::Refusal;
+use crate::small::Small;
 use der_core::{
-    Class, Decode, DecodeFields, Error, ErrorKind, Length, Reader, SliceReader, TagMode, TagNumber,
-    decode_octets, peek_matches, reading,
+    Class, Decode, DecodeFields, Error, ErrorKind, Length, Member, Reader, SliceReader, TagMode,
+    TagNumber, decode_octets, peek_matches, reading,
 };
+use der_types_sets::SetOfRef;
 use std::alloc::Global;
 use std::marker::PhantomData;
 
@@ -63,6 +65,7 @@ fn answer_of_name(
         "input" => Ok(reader.input_len().to_string(alloc)?),
         "position" => Ok(reader.position().to_string(alloc)?),
         "offset" => Ok(reader.offset().to_string(alloc)?),
+        "levels" => Ok(reader.levels_left().to_string(alloc)?),
         "failed" => Ok(reader.is_failed().to_string(alloc)?),
         "finish" => done(alloc, reader.finish()),
         "error" => Err(Refusal::from(reader.error(ErrorKind::DateTime))),
@@ -85,6 +88,8 @@ fn answer_of_values<'a>(
         "bool" => Ok(bool::decode(alloc, reader)?.to_string(alloc)?),
         "u8" => Ok(u8::decode(alloc, reader)?.to_string(alloc)?),
         "option" => Ok(format!(in alloc; "{:?}", Option::<bool>::decode(alloc, reader)?)?),
+        "lent" => answer_of_lent::<Small>(alloc, reader),
+        "lent-of-lent" => answer_of_lent::<SetOfRef<Small>>(alloc, reader),
         "nothing" => done(alloc, PhantomData::<u8>::decode(alloc, reader).map(|_| ())),
         "decode" => {
             let flag: bool = reading::decode(alloc, reader)?;
@@ -113,6 +118,15 @@ fn answer_of_values<'a>(
         }
         _ => Err(Refusal::Unread),
     }
+}
+
+/// How many members the set has that stands next, and is lent.
+fn answer_of_lent<'a, T: Decode<'a, SliceReader<'a>> + Member + 'a>(
+    alloc: Global,
+    reader: &mut SliceReader<'a>,
+) -> Result<String, Refusal> {
+    let set = SetOfRef::<T>::decode(alloc, reader)?;
+    Ok(set.len().to_string(alloc)?)
 }
 
 /// The number behind the context-specific tag 0, if that stands next.

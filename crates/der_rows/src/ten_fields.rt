@@ -3,13 +3,13 @@
 ghost use Rattle.der_core_values.specs.declared.one_of_two.OneOf2.TheVariants as cases;
 ghost use Rattle.der_rows.specs.declared.ten_fields.NumberOrText.TheVariants as choices;
 
-use crate::questions::{Question, name_of};
+use crate::questions::{Question, answer_with_debug, name_of};
 use crate::record::Record;
 use crate::refusals::Refusal;
 use const_oid_identifiers::ObjectIdentifier;
 use der_core::{
     Choice, Decode, DerOrd, Encode, EncodeRef, Error, Explicit, Implicit, Length, OneOf2, Reader,
-    Shaped, StrictSetOf, Tag, WithDefault, Writer, from_der, to_der,
+    Shaped, StrictSetOf, Tag, WithDefault, Writer, from_der,
 };
 use std::alloc::Global;
 
@@ -91,18 +91,8 @@ type Last = (
 );
 
 /// The answer of the record, which isn't compared.
-pub fn answer(alloc: Global, question: Question<'_>) -> Result<String, Refusal> {
-    match question {
-        Question::Der(octets) => {
-            let record: TenFields = from_der(alloc, octets)?;
-            Ok(hex::encode(alloc, to_der(alloc, &record)?)?)
-        }
-        Question::Text(octets) => {
-            let record: TenFields = from_der(alloc, octets)?;
-            Ok(format!(in alloc; "{record:?}")?)
-        }
-        _ => Err(Refusal::Unread),
-    }
+pub fn answer(alloc: Global, question: &Question<'_>) -> Result<String, Refusal> {
+    answer_with_debug::<TenFields>(alloc, question)
 }
 
 /// A choice as one that is compared.
@@ -114,8 +104,8 @@ fn alternatives(choice: &NumberOrText) -> OneOf2<EncodeRef<'_, u8>, EncodeRef<'_
 }
 
 /// The answer of the choice, which is compared alone.
-pub fn answer_of_choice(alloc: Global, question: Question<'_>) -> Result<String, Refusal> {
-    match question {
+pub fn answer_of_choice(alloc: Global, question: &Question<'_>) -> Result<String, Refusal> {
+    match *question {
         Question::Order(first, second) => {
             let first: NumberOrText = from_der(alloc, first)?;
             let second: NumberOrText = from_der(alloc, second)?;

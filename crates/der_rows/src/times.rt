@@ -1,35 +1,36 @@
 //! Dates and times.
 
+use crate::nested;
 use crate::questions::{Question, answer_with_order};
 use crate::refusals::Refusal;
-use der_core::{Decode, DerOrd, Encode, SliceReader, ValueOrd, from_der};
+use der_core::{DecodeValue, EncodeValue, FixedTag, SliceReader, ValueOrd, from_der};
 use der_types_time::{DateTime, GeneralizedTime, UtcTime};
 use std::alloc::Global;
 use std::hash::Hash;
 
-/// The answer of a type that this page names.
-pub fn answer(alloc: Global, kind: &str, question: Question<'_>) -> Result<String, Refusal> {
+/// The answer of a type that this page names, or one behind it.
+pub fn answer(alloc: Global, kind: &str, question: &Question<'_>) -> Result<String, Refusal> {
     match kind {
         "UtcTime" => answer_of_time::<UtcTime>(alloc, question),
         "GeneralizedTime" => answer_of_time::<GeneralizedTime>(alloc, question),
         "DateTime" => answer_of_time::<DateTime>(alloc, question),
-        _ => Err(Refusal::Unread),
+        _ => nested::answer(alloc, kind, question),
     }
 }
 
 /// The answer of a time, whose text is that of its date.
 fn answer_of_time<
     'a,
-    T: Decode<'a, SliceReader<'a>>
-        + DerOrd
-        + Encode
+    T: DecodeValue<'a, SliceReader<'a>>
+        + EncodeValue
+        + FixedTag
         + Hash
         + Into<DateTime>
         + Ord
         + ValueOrd
         + Drop,
->(alloc: Global, question: Question<'a>) -> Result<String, Refusal> {
-    match question {
+>(alloc: Global, question: &Question<'a>) -> Result<String, Refusal> {
+    match *question {
         Question::Text(octets) => {
             let time: T = from_der(alloc, octets)?;
             let date: DateTime = time.into();

@@ -1,10 +1,10 @@
 -- The members of a lent set, in a list of their own.
 use Rattle.std.proofs.Common.{◌≡◌, ℕ, zero, suc, List, [], ◌∷◌, ◌++◌, refl, sym, ap, subst, ◌∙◌, append_assoc, arith}
 use Rattle.std.proofs.lemmas.List.{append-nil}
-use Rattle.der_core_head.specs.Shapes.{Shape, Value, octets_of}
+use Rattle.der_core_head.specs.Shapes.{Shape, Value, octets_of, AllAscending}
 use Rattle.der_core_head.specs.Grammar.{read, plain_list}
 use Rattle.der_types_sets.specs.Sets.{Ascends}
-use Rattle.der_types_sets.specs.Ascending.{AllAscend, values_at}
+use Rattle.der_types_sets.specs.Ascending.{values_at}
 use Rattle.der_types_sets.specs.Lent.{Lent, IsLent, members_lent}
 use Rattle.der_types_sets.proofs.LooseSteps.{ascends-plain}
 use Rattle.der_types_sets.proofs.LentWrites.{nothing_in, lent}
@@ -18,7 +18,7 @@ plain-ascends s f [] h = tt
 plain-ascends s f (x ∷ []) h = tt
 plain-ascends s f (x ∷ y ∷ xs) h = (h.0, plain-ascends s f (y ∷ xs) h.1)
 
-joined-ascends : (s : Shape) (v : List (Value s)) → AllAscend (octets_of s) v → Ascends s (λ x. x) v
+joined-ascends : (s : Shape) (v : List (Value s)) → AllAscending (octets_of s) v → Ascends s (λ x. x) v
 joined-ascends s [] h = tt
 joined-ascends s (x ∷ []) h = tt
 joined-ascends s (x ∷ y ∷ v) h = ((λ p q. h.0), joined-ascends s (y ∷ v) h.1)

@@ -1,76 +1,21 @@
 -- Contents whose members ascend, as a reader and an iterator go over them.
-use Rattle.std.proofs.Common.{◌≡◌, ℕ, zero, suc, ◌-◌, ◌<◌, ◌≤◌, true, false, List, [], ◌∷◌, ◌++◌, length, take, drop, ltb, Result, Ok, Err, refl, sym, ap, subst, ◌∙◌, arith, ◌⊎◌, inl, inr}
+use Rattle.std.proofs.Common.{◌≡◌, ℕ, zero, suc, ◌-◌, ◌<◌, ◌≤◌, true, List, [], ◌∷◌, ◌++◌, length, drop, Result, Ok, Err, refl, sym, ap, subst, ◌∙◌, arith}
 use Rattle.std.specs.Prelude.{◌≢◌, slice_get, Some, None, ◌+◌}
 use Rattle.std.proofs.lemmas.Option.{slice_get_past}
-use Rattle.std.proofs.lemmas.Bool.{le-ltb, lt-ltb, cases_lt}
-use Rattle.std.proofs.lemmas.List.{length-take, length-drop}
+use Rattle.std.proofs.lemmas.Bool.{le-ltb}
+use Rattle.std.proofs.lemmas.List.{length-drop}
 use Rattle.der_core_head.specs.declared.error.Error.{Error}
 use Rattle.der_core_head.specs.declared.error.ErrorKind.{ErrorKind}
 use Rattle.der_core_head.specs.declared.error.ErrorKind.TheVariants as kinds
-use Rattle.der_core_head.specs.Heads.{Fits}
 use Rattle.der_core_head.specs.Shapes.{Shape, Value, octets_of}
 use Rattle.der_core_head.specs.Spelling.{is_apart}
-use Rattle.der_core_head.specs.Grammar.{read, slice_at, value_at, plain_list}
-use Rattle.der_core_head.proofs.Results.{ok_is, unless_ok}
+use Rattle.der_core_head.specs.Grammar.{read, plain_list}
 use Rattle.der_core_head.proofs.Bytes.{IsBytes}
 use Rattle.der_core_head.proofs.Fits.{fits_rest}
 use Rattle.der_core_head.proofs.Sound.{sound}
 use Rattle.der_core_octets.specs.Fronts.{front_at}
-use Rattle.der_types_sets.specs.Ascending.{ascending_content, first_of, values_at}
+use Rattle.der_types_sets.specs.Ascending.{first_of, values_at}
 use Rattle.der_types_sets.specs.Lent.{Lent, IsSpelled, members_lent, YieldsMember}
-
--- the octets of a content, and those behind it
-pub record IsFront (n : ℕ) (w u r : List ℕ) : Type 0 where
-  pub within : n ≤ length w
-  pub front : u ≡ take n w
-  pub behind : r ≡ drop n w
-
-ltb-not : (m n : ℕ) → ltb m n ≡ false → n ≤ m
-ltb-not m n e = go (cases_lt m n)
-  where
-    go : (m < n) ⊎ (n ≤ m) → n ≤ m
-    go (inl lt) = absurd (cc (e, lt-ltb m n lt))
-    go (inr le) = le
-
-pub slice_front : (n : ℕ) (w u r : List ℕ) → slice_at n w ≡ Ok (u, r) → IsFront n w u r
-unfolding slice_at
-slice_front n w u r e =
-    let h = unless_ok (ltb (length w) n) kinds.Incomplete (Ok (take n w, drop n w)) (u, r) e in
-    let same : (take n w, drop n w) ≡ (u, r) = ok_is (take n w, drop n w) (u, r) h.1 in
-    record { within = ltb-not (length w) n h.0; front = sym (ap (λ (q : List ℕ × List ℕ). q.0) same); behind = sym (ap (λ (q : List ℕ × List ℕ). q.1) same) }
-
-pub slice_fits : (n : ℕ) (w u r : List ℕ) → slice_at n w ≡ Ok (u, r) → Fits w → Fits u
-slice_fits n w u r e fits = let h = slice_front n w u r e in omega (arith, h.within, ap (λ (x : List ℕ). length x) h.front, length-take n w)
-
-pub slice_enough : (n : ℕ) (w : List ℕ) (k : ErrorKind) → n ≤ length w → slice_at n w ≡ Err k → ⊥
-unfolding slice_at
-slice_enough n w k le e = absurd (cc (rw (le-ltb (length w) n le) at e))
-
-pub content_read : (s : Shape) (n : ℕ) (w u r : List ℕ) (v : List (Value s)) → slice_at n w ≡ Ok (u, r) → ascending_content s u ≡ Ok (v, []) → value_at (ascending_content s) n w ≡ Ok (v, r)
-unfolding value_at
-content_read s n w u r v e all =
-    let h = slice_front n w u r e in
-    let same : ascending_content s (take n w) ≡ Ok (v, []) = ap (ascending_content s) (sym h.front) ∙ all in
-    rw (le-ltb (length w) n h.within, same) (ap (λ (x : List ℕ). Ok (v, x)) (sym h.behind))
-
-pub content_fails : (s : Shape) (n : ℕ) (w u r : List ℕ) (k : ErrorKind) → slice_at n w ≡ Ok (u, r) → ascending_content s u ≡ Err k → value_at (ascending_content s) n w ≡ Err k
-unfolding value_at
-content_fails s n w u r k e fault =
-    let h = slice_front n w u r e in
-    let same : ascending_content s (take n w) ≡ Err k = ap (ascending_content s) (sym h.front) ∙ fault in
-    rw (le-ltb (length w) n h.within, same) refl
-
-slice_short : (n : ℕ) (w : List ℕ) → length w < n → slice_at n w ≡ Err kinds.Incomplete
-unfolding slice_at
-slice_short n w lt = rw (lt-ltb (length w) n lt) refl
-
-pub content_short : (s : Shape) (n : ℕ) (w : List ℕ) (k : ErrorKind) → slice_at n w ≡ Err k → value_at (ascending_content s) n w ≡ Err k
-unfolding value_at
-content_short s n w k e =
-    elim (cases_lt (length w) n) [
-      | inl lt ↦ let same : kinds.Incomplete ≡ k = cc (slice_short n w lt) in rw (lt-ltb (length w) n lt) (ap (λ x. Err x) same)
-      | inr le ↦ absurd (slice_enough n w k le e)
-    ]
 
 -- One member of those that octets spell
 

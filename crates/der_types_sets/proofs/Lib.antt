@@ -13,3 +13,4 @@ pub mod LentRanges
 pub mod ViewSteps
 pub mod ItemSteps
 pub mod Arranged
+pub mod RisingSteps

@@ -9,12 +9,12 @@ use Rattle.der_core_head.specs.declared.tag.Tag.{Tag}
 use Rattle.der_core_head.specs.Octets.{◌>>=◌}
 use Rattle.der_core_head.specs.Tags.{tag_octets}
 use Rattle.der_core_head.specs.Heads.{Fits, head_octets, length_octets, tlv}
-use Rattle.der_core_head.specs.Shapes.{Shape, Content, Body, tagged, any, either, optional, defaulted, nothing, leaf, nested, done, field, only, many, exactly, few, rising, Value, ContentValue, BodyValue, octets_of, contents, body_octets, unless, IsValid, IsContent, IsBody}
+use Rattle.der_core_head.specs.Shapes.{Shape, Content, Body, tagged, any, either, optional, defaulted, nothing, leaf, nested, done, field, only, many, exactly, few, in_order, Value, ContentValue, BodyValue, octets_of, contents, body_octets, unless, IsValid, IsContent, IsBody}
 use Rattle.der_core_head.specs.Writing.{Out, put, put_head, fit_len, size_content, write_tlv, write_many, default_write, write, write_content, write_body}
 use Rattle.der_core_head.proofs.Results.{fine, ok_is}
 use Rattle.der_core_head.proofs.Fits.{fits_contents}
 use Rattle.der_core_head.proofs.TagLaws.{tag_octets-some}
-use Rattle.der_core_head.proofs.Written.{sized_content, rising_written}
+use Rattle.der_core_head.proofs.Written.{sized_content, ordered_written}
 
 -- octets one after the other, or at once
 joined : (a b w : List ℕ) (room : Option ℕ) (failed : Bool) → (put a (record { written = w; room = room; failed = failed }) >>= put b) ≡ put (a ++ b) (record { written = w; room = room; failed = failed })
@@ -138,7 +138,7 @@ mutual
   put_body (many s) v o h = many_put (write s) (IsValid s) (octets_of s) (λ x y k. put_written s x y k) v o h
   put_body (exactly n s) v o h = many_put (write s) (IsValid s) (octets_of s) (λ x y k. put_written s x y k) v o h.0
   put_body (few n s) v o h = many_put (write s) (IsValid s) (octets_of s) (λ x y k. put_written s x y k) v o h.0
-  put_body (rising s) v o h = rising_written (write s) (octets_of s) v o h.1 ∙ many_put (write s) (IsValid s) (octets_of s) (λ x y k. put_written s x y k) v o h.0
+  put_body (in_order how s) v o h = ordered_written how (write s) (octets_of s) v o h.1 ∙ many_put (write s) (IsValid s) (octets_of s) (λ x y k. put_written s x y k) v o h.0
 
 -- values one after the other
 pub members_put : (s : Shape) (v : List (Value s)) (o : Out) → AllByRecursion (IsValid s) v → write_many (write s) v o ≡ put_some (flat_map (octets_of s) v) o

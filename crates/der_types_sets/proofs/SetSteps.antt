@@ -1,11 +1,11 @@
 -- Members in ascending order, one more at a time.
 use Rattle.std.proofs.Common.{◌≡◌, ℕ, zero, suc, ◌+◌, ◌-◌, ◌<◌, ◌≤◌, List, [], ◌∷◌, ◌++◌, length, get_or, take, drop, ltb, refl, ap, sym, subst, ◌∙◌, arith, Result, Ok, true, Option, Some, None}
-use Rattle.std.specs.Prelude.{◌≢◌, ⊤}
+use Rattle.std.specs.Prelude.{◌≢◌}
 use Rattle.std.specs.List.{AllByRecursion, AllZip, insert}
-use Rattle.std.specs.Ordering.{ordering_reverse, nat_cmp}
+use Rattle.std.specs.Ordering.{ordering_reverse}
 use Rattle.std.specs.declared.cmp.Ordering.{Ordering}
-use Rattle.std.specs.declared.cmp.Ordering.TheVariants.{Less, Equal, Greater}
-use Rattle.std.specs.Cmp.Lexicographic.{nat_list_cmp_total, slice_cmp}
+use Rattle.std.specs.declared.cmp.Ordering.TheVariants.{Greater}
+use Rattle.std.specs.Cmp.Lexicographic.{nat_list_cmp_total}
 use Rattle.std.specs.List.Sorted.{IsPermutation}
 use Rattle.std.proofs.lemmas.List.{get_or_default, get_or-take, take_more, take-append-drop, take_at, length-take, take_all, drop_all, append_assoc}
 use Rattle.std.proofs.lemmas.List.Edits.{length-insert}
@@ -17,18 +17,18 @@ use Rattle.der_core_head.specs.declared.error.ErrorKind.TheVariants as kinds
 use Rattle.der_core_head.specs.declared.tag.Tag.{Tag}
 use Rattle.der_core_head.specs.Octets.{Readings, ◌>>=◌}
 use Rattle.der_core_head.specs.Heads.{Fits}
-use Rattle.der_core_head.specs.Shapes.{Shape, Body, nested, many, few, rising, Value, BodyValue, IsValid, octets_of, AllRising}
+use Rattle.der_core_head.specs.Shapes.{above, Shape, Body, nested, many, few, rising, Value, BodyValue, IsValid, octets_of, AllRising}
 use Rattle.der_core_head.specs.Spelling.{is_apart}
-use Rattle.der_core_head.specs.Grammar.{whole, value_at, read, read_content, read_body, read_many, read_rising, ordered, follows_last, plain_list}
+use Rattle.der_core_head.specs.Grammar.{whole, value_at, read, read_content, read_body, read_many, read_in_order, follows_last, plain_list}
 use Rattle.der_core_head.proofs.Results.{ok_is, bind_ok, unless_ok, whole_ok}
 use Rattle.der_core_head.proofs.Bytes.{IsBytes, bytes_take, bytes_rest}
 use Rattle.der_core_head.proofs.Fits.{fits_front, fits_rest}
-use Rattle.der_core_head.proofs.Sound.{sound}
+use Rattle.der_core_head.proofs.Sound.{sound, OrderedFrom, order_on, from_none}
 use Rattle.der_core.specs.Orders.{octets_cmp, encodings_cmp}
 use Rattle.der_types_sets.specs.Sets.{NotAbove, IsBelow, Ascends, AllValid, Behind, Before, IsPlace, TooLong, IsBelowLast}
 
 below_not_above : {A : Type 0} (s : Shape) (f : A → Value s) (x y : A) → IsBelow s f x y → NotAbove s f x y
-below_not_above s f x y below v w above = absurd (cc (below v w, above))
+below_not_above s f x y below v w greater = absurd (cc (below v w, greater))
 
 pub ascends-insert : {A : Type 0} (s : Shape) (f : A → Value s) (xs : List A) (i : ℕ) (x : A) → Ascends s f xs → i ≤ length xs → Behind s f xs x i → Before s f xs x i → Ascends s f (insert xs i x)
 ascends-insert s f [] zero x asc le p q = tt
@@ -59,13 +59,13 @@ before_here {A} s f xs x y m here ok = λ w lt h.
 -- what a comparison tells
 pub told : {A : Type 0} (s : Shape) (f : A → Value s) (x y : A) (r : Result Ordering Error) (o : Ordering) → r ≡ Ok o → o ≢ Greater
     → (IsValid s (f x) → IsValid s (f y) → r ≡ Ok (encodings_cmp s (f x) (f y))) → NotAbove s f x y
-told s f x y r o e not h = λ v w above. not (cc (e, h v w, above))
+told s f x y r o e not h = λ v w greater. not (cc (e, h v w, greater))
 
 pub told_above : {A : Type 0} (s : Shape) (f : A → Value s) (x y : A) (r : Result Ordering Error) → r ≡ Ok Greater
     → (IsValid s (f x) → IsValid s (f y) → r ≡ Ok (encodings_cmp s (f x) (f y))) → IsBelow s f y x
 told_above s f x y r e h = λ w v.
-    let above : octets_cmp (octets_of s (f x)) (octets_of s (f y)) ≡ Greater = cc (e, h v w) in
-    nat_list_cmp_total.antisymm (octets_of s (f y)) (octets_of s (f x)) ∙ ap ordering_reverse above
+    let greater : octets_cmp (octets_of s (f x)) (octets_of s (f y)) ≡ Greater = cc (e, h v w) in
+    nat_list_cmp_total.antisymm (octets_of s (f y)) (octets_of s (f x)) ∙ ap ordering_reverse greater
 
 pub valid_at : {A : Type 0} (s : Shape) (f : A → Value s) (xs : List A) (m : ℕ) (y : A) → m < length xs → y ≡ get_or xs m y → AllValid s f xs → IsValid s (f y)
 valid_at s f [] m y lt here all = absurd (omega arith)
@@ -131,8 +131,8 @@ falls_at {A} s f xs end y lt here below all asc =
     let at : x ≡ get_or xs k x = get_or_default xs k y x (omega arith) in
     let last : length (take end xs) - 1 ≡ k = omega arith in
     let within : x ≡ get_or (take end xs) (length (take end xs) - 1) x = at ∙ sym (get_or-take end xs k x (omega arith)) ∙ ap (λ i. get_or (take end xs) i x) (sym last) in
-    let above = ascends-at s f xs k x y (omega arith) at (here ∙ ap (λ i. get_or xs i y) (sym next)) asc in
-    above (valid_at s f xs k x (omega arith) at all) (valid_at s f xs end y lt here all) (below.1 x within (valid_at s f xs k x (omega arith) at all) (valid_at s f xs end y lt here all))
+    let step = ascends-at s f xs k x y (omega arith) at (here ∙ ap (λ i. get_or xs i y) (sym next)) asc in
+    step (valid_at s f xs k x (omega arith) at all) (valid_at s f xs end y lt here all) (below.1 x within (valid_at s f xs k x (omega arith) at all) (valid_at s f xs end y lt here all))
 
 -- One more at the end
 
@@ -167,46 +167,26 @@ valid_plain : {A : Type 0} (s : Shape) (f : A → Value s) (xs : List A) → All
 valid_plain s f [] h = tt
 valid_plain s f (x ∷ xs) h = (h.0, valid_plain s f xs h.1)
 
--- above the octets before
-abbrev RisesFrom : {P : Type 0} → (P → List ℕ) → Option (List ℕ) → List P → Type 0
-RisesFrom o last [] = ⊤
-RisesFrom o None (x ∷ xs) = AllRising o (x ∷ xs)
-RisesFrom o (Some a) (x ∷ xs) = (slice_cmp nat_cmp a (o x) ≡ Less) × AllRising o (x ∷ xs)
-
-rises : {P : Type 0} (o : P → List ℕ) (x : P) (xs : List P) → RisesFrom o (Some (o x)) xs → AllRising o (x ∷ xs)
-rises o x [] h = tt
-rises o x (y ∷ ys) h = h
-
-ordered_ok : (o : Ordering) → ordered o ≡ Ok tt → o ≡ Less
-ordered_ok Less e = refl
-ordered_ok Equal e = absurd cc
-ordered_ok Greater e = absurd cc
-
-rise_on : {P : Type 0} (o : P → List ℕ) (last : Option (List ℕ)) (x : P) (xs : List P) → follows_last last (o x) ≡ Ok tt → RisesFrom o (Some (o x)) xs → RisesFrom o last (x ∷ xs)
-rise_on o None x xs e h = rises o x xs h
-rise_on o (Some a) x xs e h = (ordered_ok (slice_cmp nat_cmp a (o x)) e, rises o x xs h)
-
-rising_from : {P : Type 0} (o : P → List ℕ) (F : Readings P) (last : Option (List ℕ)) (n : ℕ) (w : List ℕ) (v : List P) (r : List ℕ) → read_rising o F last n w ≡ Ok (v, r) → RisesFrom o last v
-unfolding read_rising
-rising_from {P} o F last zero [] v r e = let same = ok_is ([], []) (v, r) e in subst (λ (q : List P × List ℕ). RisesFrom o last q.0) same tt
+rising_from : {P : Type 0} (o : P → List ℕ) (F : Readings P) (last : Option (List ℕ)) (n : ℕ) (w : List ℕ) (v : List P) (r : List ℕ) → read_in_order above o F last n w ≡ Ok (v, r) → OrderedFrom above o last v
+unfolding read_in_order
+rising_from {P} o F last zero [] v r e = let same = ok_is ([], []) (v, r) e in subst (λ (q : List P × List ℕ). OrderedFrom above o last q.0) same tt
 rising_from o F last zero (b ∷ w) v r e = absurd cc
-rising_from {P} o F last (suc n) [] v r e = let same = ok_is ([], []) (v, r) e in subst (λ (q : List P × List ℕ). RisesFrom o last q.0) same tt
+rising_from {P} o F last (suc n) [] v r e = let same = ok_is ([], []) (v, r) e in subst (λ (q : List P × List ℕ). OrderedFrom above o last q.0) same tt
 rising_from {P} o F last (suc n) (b ∷ w) v r e =
-    let x = bind_ok (F (b ∷ w)) (λ x. follows_last last (o x.0) >>= λ _. read_rising o F (Some (o x.0)) n x.1 >>= λ y. Ok (x.0 ∷ y.0, y.1)) (v, r) e in
-    let j = bind_ok (follows_last last (o x.0.0)) (λ _. read_rising o F (Some (o x.0.0)) n x.0.1 >>= λ y. Ok (x.0.0 ∷ y.0, y.1)) (v, r) x.2 in
-    let y = bind_ok (read_rising o F (Some (o x.0.0)) n x.0.1) (λ y. Ok (x.0.0 ∷ y.0, y.1)) (v, r) j.2 in
+    let x = bind_ok (F (b ∷ w)) (λ x. follows_last above last (o x.0) >>= λ _. read_in_order above o F (Some (o x.0)) n x.1 >>= λ y. Ok (x.0 ∷ y.0, y.1)) (v, r) e in
+    let j = bind_ok (follows_last above last (o x.0.0)) (λ _. read_in_order above o F (Some (o x.0.0)) n x.0.1 >>= λ y. Ok (x.0.0 ∷ y.0, y.1)) (v, r) x.2 in
+    let y = bind_ok (read_in_order above o F (Some (o x.0.0)) n x.0.1) (λ y. Ok (x.0.0 ∷ y.0, y.1)) (v, r) j.2 in
     let same = ok_is (x.0.0 ∷ y.0.0, y.0.1) (v, r) y.2 in
-    subst (λ (q : List P × List ℕ). RisesFrom o last q.0) {x = (x.0.0 ∷ y.0.0, y.0.1)} same
-    (rise_on o last x.0.0 y.0.0 j.1 (rising_from o F (Some (o x.0.0)) n x.0.1 y.0.0 y.0.1 y.1))
+    subst (λ (q : List P × List ℕ). OrderedFrom above o last q.0) {x = (x.0.0 ∷ y.0.0, y.0.1)} same
+    (order_on above o last x.0.0 y.0.0 j.1 (rising_from o F (Some (o x.0.0)) n x.0.1 y.0.0 y.0.1 y.1))
 
-rising_read : {P : Type 0} (o : P → List ℕ) (F : Readings P) (n : ℕ) (w : List ℕ) (v : List P) (r : List ℕ) → read_rising o F None n w ≡ Ok (v, r) → AllRising o v
-rising_read o F n w [] r e = tt
-rising_read o F n w (x ∷ v) r e = rising_from o F None n w (x ∷ v) r e
+rising_read : {P : Type 0} (o : P → List ℕ) (F : Readings P) (n : ℕ) (w : List ℕ) (v : List P) (r : List ℕ) → read_in_order above o F None n w ≡ Ok (v, r) → AllRising o v
+rising_read o F n w v r e = from_none above o v (rising_from o F None n w v r e)
 
 pub rising-ascends : {A : Type 0} (s : Shape) (f : A → Value s) (xs : List A) → AllRising (octets_of s) (plain_list f xs) → Ascends s f xs
 rising-ascends s f [] h = tt
 rising-ascends s f (x ∷ []) h = tt
-rising-ascends s f (x ∷ y ∷ xs) h = ((λ v w above. absurd (cc (h.0, above))), rising-ascends s f (y ∷ xs) h.1)
+rising-ascends s f (x ∷ y ∷ xs) h = ((λ v w greater. absurd (cc (h.0, greater))), rising-ascends s f (y ∷ xs) h.1)
 
 -- What was read as a content
 

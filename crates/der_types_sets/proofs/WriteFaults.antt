@@ -13,7 +13,7 @@ use Rattle.der_core_head.specs.Grammar.{ordered, follows_last}
 use Rattle.der_core_head.specs.Tags.{tag_octets}
 use Rattle.der_core_head.specs.Heads.{head_octets, length_octets}
 use Rattle.der_core_head.specs.Leaves.{leaf_contents}
-use Rattle.der_core_head.specs.Shapes.{Shape, Content, Body, tagged, any, either, optional, defaulted, nothing, leaf, nested, done, field, only, many, exactly, few, rising, Value, ContentValue, BodyValue, octets_of}
+use Rattle.der_core_head.specs.Shapes.{Step, above, not_below, Shape, Content, Body, tagged, any, either, optional, defaulted, nothing, leaf, nested, done, field, only, many, exactly, few, in_order, Value, ContentValue, BodyValue, octets_of}
 use Rattle.der_core_head.specs.Writing.{Out, put, put_head, head_len, sum_len, fit_len, tlv_len, both_len, many_len, default_len, size, size_content, size_body, write_tlv, write_many, all_follow, default_write, write, write_content, write_body}
 use Rattle.der_core_head.proofs.Written.{out}
 use Rattle.der_types_sets.specs.Lent.{IsMisplaced}
@@ -79,22 +79,25 @@ both_over (Ok x) m n f long h rest = rw h.1 (go (f (out h.0)) (rest h.0))
 both_over (Err k) m n f long (inl d) rest = inl d
 both_over (Err k) m n f long (inr h) rest = inr (h.0, first_over m n h.1)
 
-ordered_only : (c : Ordering) (k : ErrorKind) → ordered c ≡ Err k → IsMisplaced k
-ordered_only Less k e = absurd cc
-ordered_only Equal k e = inr cc
-ordered_only Greater k e = inl cc
+ordered_only : (how : Step) (c : Ordering) (k : ErrorKind) → ordered how c ≡ Err k → IsMisplaced k
+ordered_only above Less k e = absurd cc
+ordered_only above Equal k e = inr cc
+ordered_only above Greater k e = inl cc
+ordered_only not_below Less k e = absurd cc
+ordered_only not_below Equal k e = absurd cc
+ordered_only not_below Greater k e = inl cc
 
-last_only : (last : Option (List ℕ)) (b : List ℕ) (k : ErrorKind) → follows_last last b ≡ Err k → IsMisplaced k
-last_only None b k e = absurd cc
-last_only (Some a) b k e = ordered_only (slice_cmp nat_cmp a b) k e
+last_only : (how : Step) (last : Option (List ℕ)) (b : List ℕ) (k : ErrorKind) → follows_last how last b ≡ Err k → IsMisplaced k
+last_only how None b k e = absurd cc
+last_only how (Some a) b k e = ordered_only how (slice_cmp nat_cmp a b) k e
 
 step_only : (r q : Result (Unit {0}) ErrorKind) (k : ErrorKind) → (r ≡ Err k → IsMisplaced k) → (q ≡ Err k → IsMisplaced k) → (r >>= λ _. q) ≡ Err k → IsMisplaced k
 step_only (Ok x) q k first second e = second e
 step_only (Err d) q k first second e = first e
 
-follow_only : {P : Type 0} (w : P → List ℕ) (last : Option (List ℕ)) (xs : List P) (k : ErrorKind) → all_follow w last xs ≡ Err k → IsMisplaced k
-follow_only w last [] k e = absurd cc
-follow_only w last (x ∷ xs) k e = step_only (follows_last last (w x)) (all_follow w (Some (w x)) xs) k (last_only last (w x) k) (follow_only w (Some (w x)) xs k) e
+follow_only : {P : Type 0} (how : Step) (w : P → List ℕ) (last : Option (List ℕ)) (xs : List P) (k : ErrorKind) → all_follow how w last xs ≡ Err k → IsMisplaced k
+follow_only how w last [] k e = absurd cc
+follow_only how w last (x ∷ xs) k e = step_only (follows_last how last (w x)) (all_follow how w (Some (w x)) xs) k (last_only how last (w x) k) (follow_only how w (Some (w x)) xs k) e
 
 order_over : (r : Result Out ErrorKind) (q : Result (Unit {0}) ErrorKind) (n : Result ℕ ErrorKind) → ((k : ErrorKind) → q ≡ Err k → IsMisplaced k) → IsOver r n → IsOver (r >>= λ z. q >>= λ _. Ok z) n
 order_over (Ok y) (Ok u) n placed h = h
@@ -131,8 +134,8 @@ mutual
   body_over (many s) v w = many_is_over (write s) (size s) (write_over s) (size_only s) v w 0
   body_over (exactly n s) v w = many_is_over (write s) (size s) (write_over s) (size_only s) v w 0
   body_over (few n s) v w = many_is_over (write s) (size s) (write_over s) (size_only s) v w 0
-  body_over (rising s) v w =
-      order_over (write_many (write s) v (out w)) (all_follow (octets_of s) None v) (many_len (size s) v 0) (follow_only (octets_of s) None v) (many_is_over (write s) (size s) (write_over s) (size_only s) v w 0)
+  body_over (in_order how s) v w =
+      order_over (write_many (write s) v (out w)) (all_follow how (octets_of s) None v) (many_len (size s) v 0) (follow_only how (octets_of s) None v) (many_is_over (write s) (size s) (write_over s) (size_only s) v w 0)
 
 -- which fault it is, where nothing was written before
 pub write_faults : (s : Shape) (v : Value s) (k : ErrorKind) → write s v (out []) ≡ Err k → IsMisplaced k ⊎ ((k ≡ kinds.Overflow) × (size s v ≡ Err kinds.Overflow))

@@ -1,5 +1,6 @@
 -- What contracts see of a borrowed set: its members, lent as values or as the octets that spell them.
 use Rattle.std.specs.Prelude.{◌≡◌, ◌≢◌, ℕ, ◌<◌, List, [], ◌++◌, length, slice_get, Option, None, Some, false, Result, Err, MatchOption, MatchResult, refl, ◌∷◌, ◌⊎◌}
+use Rattle.std.proofs.Common.{ap}
 use Rattle.std.specs.Coded.{Coded, code_by, coded×, coded_list, coded_ℕ}
 use Rattle.der_core_head.specs.declared.error.Error.{Error}
 use Rattle.der_core_head.specs.declared.error.ErrorKind.{ErrorKind}
@@ -8,6 +9,7 @@ use Rattle.der_core_head.specs.Heads.{Fits}
 use Rattle.der_core_head.specs.Shapes.{Shape, Value, many}
 use Rattle.der_core_head.specs.Grammar.{read, plain_list}
 use Rattle.der_core_head.specs.Writing.{size_body, write}
+use Rattle.der_core_values.specs.Same.{same_list}
 use Rattle.der_types_sets.specs.Sets.{Ascends}
 use Rattle.der_types_sets.specs.Ascending.{JoinsAscending, values_at}
 
@@ -29,6 +31,10 @@ members_spelled s l = values_at (read s 64) l.count l.octets
 -- the plain values of the members
 abbrev pub members_lent : {A : Type 0} (s : Shape) → (A → Value s) → Lent A → List (Value s)
 members_lent s f l = plain_list f l.values ++ members_spelled s l
+
+-- the members are the same where those of the values are
+pub same_lent : {A : Type 0} (s : Shape) {f g : A → Value s} → ((x : A) → f x ≡ g x) → (l : Lent A) → members_lent s f l ≡ members_lent s g l
+same_lent s h l = ap (λ v. v ++ members_spelled s l) (same_list h l.values)
 
 -- Octets that a length can count begin with so many members.
 pub record IsSpelled (s : Shape) (count : ℕ) (octets : List ℕ) : Type 0 where

@@ -1,50 +1,56 @@
 //! Reading of members that ascend, equal ones among them.
 
-ghost use Rattle.std.specs.Prelude.{◌<◌, ◌^◌, length};
+ghost use Rattle.std.specs.Prelude.{◌≤◌, ◌<◌, ◌^◌, length};
+ghost use Rattle.der_core_head.specs.Shapes.{not_below, ascending};
+ghost use Rattle.der_core_head.specs.Grammar.{follows_last, read_body};
 ghost use Rattle.der_core_head.specs.Reading.{Gives, GivesNow};
 ghost use Rattle.der_core_octets.specs.Fronts.{octets_at};
-ghost use Rattle.der_types_sets.specs.Ascending.{behind_last, counted, ascending_content};
+ghost use Rattle.der_types_sets.specs.Ascending.{counted};
 
 use der_core::making::decode_sliced;
-use der_core::{Decode, Error, ErrorKind, Member, Reader, SliceReader};
+use der_core::{Decode, Error, ErrorKind, Length, Member, Reader, SliceReader};
 use std::alloc::Global;
 use std::cmp::Ordering;
 
-/// Whether octets may follow those before them.
+/// Whether octets that stand at a place may follow those before them.
 ///
 /// # Errors
 /// `SetOrdering` for lower ones.
-fn check_behind(last: Option<&[u8]>, octets: &[u8]) -> Result<(), Error>
-    ensures { GivesNow (λ x. x) result (behind_last (octets_at last.entry) octets.now) }
+fn check_behind(last: Option<&[u8]>, octets: &[u8], place: Length) -> Result<(), Error>
+    ensures { GivesNow (λ x. x) result (follows_last not_below (octets_at last.entry) octets.now) }
 {
     let Some(last) = last else {
         return Ok(());
     };
     match last.cmp(octets) {
         Ordering::Less | Ordering::Equal => Ok(()),
-        Ordering::Greater => Err(Error::from(ErrorKind::SetOrdering)),
+        Ordering::Greater => Err(ErrorKind::SetOrdering.at(place)),
     }
 }
 
-/// How many members a content has, of which none is below the one before it.
+/// How many members octets have by DER, of which none is below the one before it, where so many
+/// levels can be opened in them.
 ///
 /// # Errors
 /// The first fault of a member, `SetOrdering` where it stands wrong, or `OutOfMemory`.
 pub(crate) fn count_ascending<'a, T: Decode<'a, SliceReader<'a>> + Member>(
     alloc: Global,
     octets: &'a [u8],
+    levels: usize,
 ) -> Result<usize, Error>
-    requires { length octets.now < 2 ^ 32 }
-    ensures { Gives (λ n. n) result (counted 0 (ascending_content T.shape octets.now)) }
+    requires short { length octets.now < 2 ^ 32 }
+    requires levels { levels ≤ 64 }
+    ensures { Gives (λ n. n) result (counted 0 (read_body (ascending T.shape) levels octets.now)) }
 {
-    let mut reader = SliceReader::new(octets)?;
+    let mut reader = SliceReader::new_with_levels(octets, levels)?;
     let mut last = None;
     for count in 0..octets.len() {
         if reader.is_finished() {
             return Ok(count);
         }
+        let place = reader.position();
         let (_value, encoding) = decode_sliced::<SliceReader, T>(alloc, &mut reader)?;
-        check_behind(last, encoding)?;
+        check_behind(last, encoding, place)?;
         last = Some(encoding);
     }
     if reader.is_finished() {

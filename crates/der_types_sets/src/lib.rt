@@ -11,6 +11,7 @@ pub mod laws;
 pub mod making;
 mod members;
 mod places;
+mod rising;
 mod sequence_of;
 mod set_of;
 mod set_of_ref;

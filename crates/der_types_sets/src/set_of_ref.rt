@@ -1,15 +1,15 @@
 //! SET OF, borrowed.
 
-ghost use Rattle.std.specs.Prelude.{⊤, ◌≡◌, ◌⊎◌, ◌==◌, ◌≤◌, ℕ, List, length, take, true, false, slice_get, IfOk, IfErr, Ok, MatchResult};
+ghost use Rattle.std.specs.Prelude.{⊤, ◌≡◌, ◌⊎◌, ◌==◌, List, length, true, false, slice_get, IfOk, IfErr, Ok, MatchResult};
 ghost use Rattle.der_core_head.specs.declared.tag.Tag.TheVariants.{Set};
-ghost use Rattle.der_core_head.specs.Shapes.{Value, tagged, nested, many, IsContent, IsValid};
+ghost use Rattle.der_core_head.specs.Shapes.{Value, tagged, nested, many, ascending, IsContent, IsValid};
 ghost use Rattle.der_core_head.specs.Spelling.{is_apart, is_body_apart, is_element, are_enough};
-ghost use Rattle.der_core_head.specs.Grammar.{plain_list, plain_option, value_at};
-ghost use Rattle.der_core_head.specs.Reading.{Gives, Reads};
+ghost use Rattle.der_core_head.specs.Grammar.{plain_list, plain_option, read_body};
+ghost use Rattle.der_core_head.specs.Reading.{Gives, GivesNow, ReadsAlways};
 ghost use Rattle.der_core_head.specs.Writing.{size, size_body};
 ghost use Rattle.der_core.specs.Orders.{contents_cmp, encodings_cmp, Overflows};
 ghost use Rattle.der_types_sets.specs.Sets.{Ascends, IsOutOfOrder, TooLong};
-ghost use Rattle.der_types_sets.specs.Ascending.{JoinsAscending, ascending_content};
+ghost use Rattle.der_types_sets.specs.Ascending.{JoinsAscending};
 ghost use Rattle.der_types_sets.specs.Lent.{members_lent, IsWantOfMemory, IsUncompared};
 
 use crate::ascending::count_ascending;
@@ -18,10 +18,11 @@ use crate::members::{encode_members, members_len};
 use crate::places::check_ascending;
 use crate::set_of_ref_iter::SetOfRefIter;
 use crate::set_of_vec::SetOfVec;
-use der_core::making::{elements_cmp, list_in_range};
+use der_core::making::{elements_cmp, list_in_range, read_fields};
 use der_core::{
-    AsRead, Decode, DerOrd, Encode, EncodeValue, Error, FixedTag, Header, InRange, InRangeValue,
-    Length, Member, Reader, Shaped, ShapedValue, SliceReader, Tag, Writer, length_cmp,
+    ApartValue, AsRead, AsReadValue, Decode, DecodeFields, DecodeValue, DerOrd, Element, Encode,
+    EncodeValue, Error, ErrorKind, Fields, FixedTag, Header, InRange, InRangeValue, Length, Member,
+    Reader, Shaped, ShapedValue, SliceReader, Tag, Writer, length_cmp,
 };
 use std::alloc::{AllocError, Global};
 use std::cmp::Ordering;
@@ -90,40 +91,56 @@ impl<'a, T: Shaped> SetOfRef<'a, T> {
     }
 }
 
+/// An error in octets that stand at a place of the input: its own place counts from there.
+pub(crate) fn further_on(error: Error, place: Length) -> Error
+    ensures { result.kind ≡ error.kind }
+{
+    let Some(position) = error.position else {
+        return error.found_at(place);
+    };
+    let value = place.value.saturating_add(position.value);
+    error.kind.at(Length { value })
+}
+
 impl<'a, T: Decode<'a, SliceReader<'a>> + Member> SetOfRef<'a, T> {
-    /// The set of a content, whose members ascend, equal ones among them.
+    /// The set of the members that stand up to the end in force, which ascend, equal ones among them.
     ///
-    /// The content is read by DER, also where the header was read by BER, since it is kept as it
-    /// stands; 64 levels can be opened in it.
+    /// The octets are read by DER, also where the reader reads by BER, since they are kept as they
+    /// stand; the levels that the reader has left can be opened in them.
     ///
     /// # Errors
-    /// `Incomplete` where fewer octets are left; the first fault of the members, `SetOrdering` where
-    /// one is below the one before it, or `OutOfMemory`; `Failed` where the reader failed before.
-    pub fn decode_value<R: Reader<'a>>(
+    /// The first fault of the members, `SetOrdering` where one is below the one before it, or
+    /// `OutOfMemory`; `Failed` where the reader failed before.
+    pub fn decode_members<R: Reader<'a>>(
         alloc: Global,
         reader: &mut R,
-        header: Header,
     ) -> Result<SetOfRef<'a, T>, Error>
-        ensures reads { Reads (members_lent T.shape T.plain) (R.state reader.old) (R.state reader.new) result (value_at (ascending_content T.shape) header.length.value) }
+        ensures reads { ReadsAlways (members_lent T.shape T.plain) (R.state reader.old) (R.state reader.new) result (read_body (ascending T.shape) (R.state reader.old).room) }
         // What is read is spelled so.
-        ensures spelled { IfOk result (λ set. JoinsAscending T.shape (members_lent T.shape T.plain set) (take header.length.value (R.state reader.old).rest)) }
+        ensures spelled { IfOk result (λ set. JoinsAscending T.shape (members_lent T.shape T.plain set) (R.state reader.old).rest) }
         // What is spelled so is read, unless memory runs out.
-        ensures only { (v : List (Value T.shape)) → is_element T.shape ≡ true → is_apart T.shape ≡ true → are_enough T.shape 64 ≡ true
-            → (R.state reader.old).failed ≡ false → header.length.value ≤ length (R.state reader.old).rest
-            → JoinsAscending T.shape v (take header.length.value (R.state reader.old).rest) → Gives (members_lent T.shape T.plain) result (Ok v) }
+        ensures only { (v : List (Value T.shape)) → is_element T.shape ≡ true → is_apart T.shape ≡ true → are_enough T.shape (R.state reader.old).room ≡ true
+            → (R.state reader.old).failed ≡ false → JoinsAscending T.shape v (R.state reader.old).rest → Gives (members_lent T.shape T.plain) result (Ok v) }
     {
-        let before = reader.remaining();
-        let _octets = &before[..];
-        let octets = reader.read_slice(header.length)?;
-        match count_ascending::<T>(alloc, octets) {
-            Ok(count) => Ok(SetOfRef {
-                values: &[],
-                octets,
-                count,
-            }),
+        if reader.is_failed() {
+            return Err(Error::from(ErrorKind::Failed));
+        }
+        let place = reader.position();
+        // What is read from octets has an encoding.
+        let octets = reader.remaining();
+        let _octets = &octets[..];
+        match count_ascending::<T>(alloc, octets, reader.levels_left()) {
+            Ok(count) => {
+                reader.skip(octets.len());
+                Ok(SetOfRef {
+                    values: &[],
+                    octets,
+                    count,
+                })
+            }
             Err(error) => {
                 reader.fail();
-                Err(error)
+                Err(further_on(error, place))
             }
         }
     }
@@ -230,18 +247,63 @@ impl<'a, T: Shaped> FixedTag for SetOfRef<'a, T> {
     }
 }
 
-/// The encodings of the members, in order.
+/// The encodings of the members, none of which is below the one before it.
 impl<'a, T: Shaped> ShapedValue for SetOfRef<'a, T> {
-    ghost content = { nested (many T.shape) };
+    ghost content = { nested (ascending T.shape) };
 
     ghost value_plain = { members_lent T.shape T.plain };
 
     ghost value_written = { members_lent T.shape T.written };
 }
 
-/// The octets of a content are written as they stand.
-impl<'a, T: Encode> EncodeValue for SetOfRef<'a, T> {
-    fn value_len(&self) -> Result<Length, Error> {
+impl<'a, T: Shaped> Fields for SetOfRef<'a, T> {
+    ghost fields = { ascending T.shape };
+
+    ghost fields_plain = { members_lent T.shape T.plain };
+
+    ghost fields_written = { members_lent T.shape T.written };
+}
+
+impl<'a, R: Reader<'a>, T: Decode<'a, SliceReader<'a>> + Member> DecodeFields<'a, R>
+    for SetOfRef<'a, T> {
+    fn decode_fields(alloc: Global, reader: &mut R) -> Result<SetOfRef<'a, T>, Error> {
+        let set = SetOfRef::decode_members(alloc, reader)?;
+        Ok(set)
+    }
+}
+
+/// The content is one of the 64 levels.
+impl<'a, R: Reader<'a>, T: Decode<'a, SliceReader<'a>> + Member> DecodeValue<'a, R>
+    for SetOfRef<'a, T> {
+    fn decode_value(
+        alloc: Global,
+        reader: &mut R,
+        header: Header,
+    ) -> Result<SetOfRef<'a, T>, Error> {
+        read_fields(alloc, reader, header)
+    }
+}
+
+impl<'a, T: Element + Member> ApartValue for SetOfRef<'a, T> {
+    ghost use Rattle.der_core_values.specs.Both.{both_true};
+
+    ghost apart_value = { both_true T.element T.apart };
+}
+
+impl<'a, T: AsRead> AsReadValue for SetOfRef<'a, T> {
+    ghost use Rattle.der_types_sets.specs.Lent.{same_lent};
+
+    ghost as_read_value = { same_lent T.shape T.as_read };
+}
+
+impl<'a, T: Encode> SetOfRef<'a, T> {
+    /// The number of octets of the content.
+    ///
+    /// # Errors
+    /// `Overflow` from 2^32 on.
+    fn content_len(&self) -> Result<Length, Error>
+        ensures { GivesNow (λ l. l.value) result (size_body (many T.shape) (members_lent T.shape T.written self.now)) }
+    {
         if self.octets.is_empty() {
             return members_len(self.values);
         }
@@ -249,9 +311,19 @@ impl<'a, T: Encode> EncodeValue for SetOfRef<'a, T> {
             value: self.octets.len() as u32,
         })
     }
+}
+
+/// The octets of a content are written as they stand.
+///
+/// Values ascend since they were compared, and so their order isn't looked at again.
+impl<'a, T: Encode + InRange> EncodeValue for SetOfRef<'a, T> {
+    fn value_len(&self) -> Result<Length, Error> {
+        self.content_len()
+    }
 
     fn encode_value<W: Writer>(&self, writer: &mut W) -> Result<(), Error> {
         if self.octets.is_empty() {
+            list_in_range(self.values);
             return encode_members(self.values, writer);
         }
         writer.write(self.octets)
@@ -302,8 +374,8 @@ impl<'a, T: DerOrd + Encode> SetOfRef<'a, T> {
             → Gives (λ o. o) result (Ok (encodings_cmp (tagged Set (nested (many T.shape))) (members_lent T.shape T.written self.now) (members_lent T.shape T.written other.now))) }
         ensures refused { IfErr result (λ e. IsUncompared T.shape (members_lent T.shape T.written self.now) (members_lent T.shape T.written other.now) e ⊎ Overflows e (size (tagged Set (nested (many T.shape))) (members_lent T.shape T.written self.now)) (size (tagged Set (nested (many T.shape))) (members_lent T.shape T.written other.now))) }
     {
-        let len = self.value_len()?;
-        let other_len = other.value_len()?;
+        let len = self.content_len()?;
+        let other_len = other.content_len()?;
         let lengths = length_cmp(len, other_len);
         if lengths.is_ne() {
             return Ok(lengths);

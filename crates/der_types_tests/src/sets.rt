@@ -2,7 +2,7 @@
 //!
 //! Want of memory is met by `rt try --test --fail-alloc N`: each request in turn is refused.
 
-use der_core::{Decode, Encode, EncodeValue, Error, ErrorKind, Member, Reader, SliceReader};
+use der_core::{Decode, Encode, EncodeValue, Error, ErrorKind, Member, SliceReader, from_der};
 use der_types::{SequenceOf, SetOf, SetOfRef, SetOfVec};
 use std::alloc::Global;
 use std::cmp::Ordering;
@@ -27,9 +27,7 @@ fn lent<'a, T: Decode<'a, SliceReader<'a>> + Member>(
     alloc: Global,
     octets: &'a [u8],
 ) -> Result<SetOfRef<'a, T>, Error> {
-    let mut reader = SliceReader::new(octets)?;
-    let header = reader.read_header()?;
-    SetOfRef::decode_value(alloc, &mut reader, header)
+    from_der(alloc, octets)
 }
 
 /// A refused `add` leaves the list.

@@ -45,6 +45,7 @@ pub(crate) fn two(octets: &[u8]) -> Option<(u8, &[u8])>
 }
 
 /// The date of a year whose month, day, hour, minute and second are spelled by ten digits and `Z`.
+#[inline(always)]
 #[tactic(auto, unfolding(der_core_head::specs::Dates::civil_at))]
 pub(crate) fn date_of(year: u16, octets: &[u8]) -> Option<DateTime>
     ensures value { result ≡ civil_at year octets.now }

@@ -32,6 +32,7 @@ fn a_set_is_written_where_it_rises(rt: HostRuntime) -> Result<(), Fail> {
     );
     let again: StrictSetOf<u8> = from_der(alloc, octets.as_slice())?;
     assert_eq!(rt; again.values.as_slice(), [1, 2].as_slice());
+    assert!(rt; again == set && again.clone()? == set);
     Ok(())
 }
 

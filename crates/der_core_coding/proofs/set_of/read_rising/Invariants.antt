@@ -1,6 +1,6 @@
 use Rattle.std.proofs.Common.{◌≡◌, ◌-◌, None}
-use Rattle.der_core_head.specs.Grammar.{read, read_rising, last_octets}
-use Rattle.der_core_head.specs.Shapes.{octets_of}
+use Rattle.der_core_head.specs.Grammar.{read, read_in_order, last_octets}
+use Rattle.der_core_head.specs.Shapes.{above, octets_of}
 use Rattle.der_core_head.specs.Reading.{IsDer, IsRest}
 use Rattle.der_core_octets.specs.Fronts.{octets_at}
 use Rattle.der_core_values.proofs.Lists.{with_front}
@@ -17,5 +17,5 @@ invariant-loop g l =
       same : now ≡ record old { rest = now.rest };
       passed : IsRest now.rest old.rest;
       last : IsDer old → octets_at l.last ≡ last_octets (λ v. octets (g.T.Shaped.plain v)) l.values.items;
-      total : IsDer old → with_front g.T.Shaped.plain l.values.items (read_rising octets each (last_octets (λ v. octets (g.T.Shaped.plain v)) l.values.items) (l.len - l.counter) now.rest) ≡ read_rising octets each None l.len old.rest;
+      total : IsDer old → with_front g.T.Shaped.plain l.values.items (read_in_order above octets each (last_octets (λ v. octets (g.T.Shaped.plain v)) l.values.items) (l.len - l.counter) now.rest) ≡ read_in_order above octets each None l.len old.rest;
     }

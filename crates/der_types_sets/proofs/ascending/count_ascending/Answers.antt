@@ -1,12 +1,12 @@
 use Rattle.std.proofs.Common.{◌≡◌, ◌-◌, [], Ok, Err, length, ap, sym, ◌∙◌, arith, false}
 use Rattle.std.specs.Prelude.{◌≢◌}
 use Rattle.std.proofs.lemmas.Result.{err_from_is_err_and}
-use Rattle.der_core_head.specs.Shapes.{octets_of}
-use Rattle.der_core_head.specs.Grammar.{read}
+use Rattle.der_core_head.specs.Shapes.{not_below, ascending, octets_of}
+use Rattle.der_core_head.specs.Grammar.{read, read_body, follows_last}
 use Rattle.der_core_head.specs.Reading.{State, IsDer}
 use Rattle.der_core_octets.specs.Fronts.{octets_at}
-use Rattle.der_types_sets.specs.Ascending.{behind_last, counted, ascending_content}
-use Rattle.der_types_sets.proofs.AscendingSteps.{ascending_on, ascending_stops, ascending_refuses, ascending_done, ascending_over}
+use Rattle.der_types_sets.specs.Ascending.{counted}
+use Rattle.der_types_sets.proofs.AscendingSteps.{counted_on, counted_stops, counted_refuses, counted_done, counted_over}
 use Rattle.der_types_sets.proofs.ascending.count_ascending.Goals as goal
 
 pub returns-then-is_finished : goal.returns-then-is_finished
@@ -14,7 +14,7 @@ returns-then-is_finished g c =
     let s = g.T.Shaped.shape in
     let now = c.loop-count.reader in
     let none : now.rest ≡ [] = c.is_finished.ensures.0 c.if-is_finished.true in
-    ascending_done (octets_of s) (read s 64) (octets_at c.loop-count.last) (length c.args.octets.now - c.loop-count.count) c.loop-count.count now.rest _ none c.loop-count.invariant.total
+    counted_done not_below (octets_of s) (read s c.args.levels) (octets_at c.loop-count.last) (length c.args.octets.now - c.loop-count.count) c.loop-count.count now.rest _ none c.loop-count.invariant.total
 
 pub returns-in_err-_value : goal.returns-in_err-_value
 returns-in_err-_value g c =
@@ -22,11 +22,11 @@ returns-in_err-_value g c =
     let now = c.loop-count.reader in
     let same = c.loop-count.invariant.same in
     let some : now.rest ≢ [] = λ e. absurd (cc (c.is_finished.ensures.1 e, c.if-is_finished.false)) in
-    let room : now.room ≡ 64 = ap (λ (r : State). r.room) same in
+    let room : now.room ≡ c.args.levels = ap (λ (r : State). r.room) same in
     let der : IsDer now = ap (λ (r : State). r.source.encoding) same in
     let ready : now.failed ≡ false = ap (λ (r : State). r.failed) same in
     let p = err_from_is_err_and c.from_residual-in_err-_value.result c.from_residual-in_err-_value.ensures.1 in
-    rw (p.1, p.2) (λ memory. ascending_stops (octets_of s) (read s 64) (octets_at c.loop-count.last) (length c.args.octets.now) c.loop-count.count now.rest c.in_err-_value.field-0.0.kind _ c.loop-count-test.true some
+    rw (p.1, p.2) (λ memory. counted_stops not_below (octets_of s) (read s c.args.levels) (octets_at c.loop-count.last) (length c.args.octets.now) c.loop-count.count now.rest c.in_err-_value.field-0.0.kind _ c.loop-count-test.true some
     (ap (λ m. read s m now.rest) (sym room) ∙ c.in_err-_value.ensures.reads.0 der ready memory) c.loop-count.invariant.total)
 
 pub returns-in_err-check_behind : goal.returns-in_err-check_behind
@@ -36,12 +36,12 @@ returns-in_err-check_behind g c =
     let after = c.decode_sliced.new.reader in
     let same = c.loop-count.invariant.same in
     let some : now.rest ≢ [] = λ e. absurd (cc (c.is_finished.ensures.1 e, c.if-is_finished.false)) in
-    let room : now.room ≡ 64 = ap (λ (r : State). r.room) same in
+    let room : now.room ≡ c.args.levels = ap (λ (r : State). r.room) same in
     let der : IsDer now = ap (λ (r : State). r.source.encoding) same in
     let v = g.T.Shaped.plain c.in_ok-_value._value in
-    let judged : behind_last (octets_at c.loop-count.last) (octets_of s v) ≡ behind_last (octets_at c.loop-count.last) c.in_ok-_value.encoding.now = ap (behind_last (octets_at c.loop-count.last)) (sym (c.in_ok-_value.ensures.octets der)) in
+    let judged : follows_last not_below (octets_at c.loop-count.last) (octets_of s v) ≡ follows_last not_below (octets_at c.loop-count.last) c.in_ok-_value.encoding.now = ap (follows_last not_below (octets_at c.loop-count.last)) (sym (c.in_ok-_value.ensures.octets der)) in
     let p = err_from_is_err_and c.from_residual-in_err-check_behind.result c.from_residual-in_err-check_behind.ensures.1 in
-    rw (p.1, p.2) (λ _. ascending_refuses (octets_of s) (read s 64) (octets_at c.loop-count.last) (length c.args.octets.now) c.loop-count.count now.rest after.rest v c.in_err-check_behind.field-0.0.kind _ c.loop-count-test.true some
+    rw (p.1, p.2) (λ _. counted_refuses not_below (octets_of s) (read s c.args.levels) (octets_at c.loop-count.last) (length c.args.octets.now) c.loop-count.count now.rest after.rest v c.in_err-check_behind.field-0.0.kind _ c.loop-count-test.true some
     (ap (λ m. read s m now.rest) (sym room) ∙ c.in_ok-_value.ensures.reads.0 der) (judged ∙ c.in_err-check_behind.ensures) c.loop-count.invariant.total)
 
 pub loop-count-preserved : goal.loop-count-preserved
@@ -51,11 +51,11 @@ loop-count-preserved g c =
     let after = c.decode_sliced.new.reader in
     let same = c.loop-count.invariant.same in
     let some : now.rest ≢ [] = λ e. absurd (cc (c.is_finished.ensures.1 e, c.if-is_finished.false)) in
-    let room : now.room ≡ 64 = ap (λ (r : State). r.room) same in
+    let room : now.room ≡ c.args.levels = ap (λ (r : State). r.room) same in
     let der : IsDer now = ap (λ (r : State). r.source.encoding) same in
     let v = g.T.Shaped.plain c.in_ok-_value._value in
-    let judged : behind_last (octets_at c.loop-count.last) (octets_of s v) ≡ behind_last (octets_at c.loop-count.last) c.in_ok-_value.encoding.now = ap (behind_last (octets_at c.loop-count.last)) (sym (c.in_ok-_value.ensures.octets der)) in
-    let on = ascending_on (octets_of s) (read s 64) (octets_at c.loop-count.last) (length c.args.octets.now) c.loop-count.count now.rest after.rest v (counted 0 (ascending_content s c.args.octets.now)) c.loop-count-test.true some
+    let judged : follows_last not_below (octets_at c.loop-count.last) (octets_of s v) ≡ follows_last not_below (octets_at c.loop-count.last) c.in_ok-_value.encoding.now = ap (follows_last not_below (octets_at c.loop-count.last)) (sym (c.in_ok-_value.ensures.octets der)) in
+    let on = counted_on not_below (octets_of s) (read s c.args.levels) (octets_at c.loop-count.last) (length c.args.octets.now) c.loop-count.count now.rest after.rest v (counted 0 (read_body (ascending s) c.args.levels c.args.octets.now)) c.loop-count-test.true some
     (ap (λ m. read s m now.rest) (sym room) ∙ c.in_ok-_value.ensures.reads.0 der) (judged ∙ c.in_ok-check_behind.ensures) c.loop-count.invariant.total in
     record {
       same = cc (
@@ -74,11 +74,11 @@ returns-then-is_finished-2 g c =
     let now = c.loop-count.reader in
     let none : now.rest ≡ [] = c.is_finished-2.ensures.0 c.if-is_finished-2.true in
     let all : c.loop-count.count ≡ length c.args.octets.now = omega arith in
-    ascending_done (octets_of s) (read s 64) (octets_at c.loop-count.last) (length c.args.octets.now - c.loop-count.count) c.loop-count.count now.rest _ none c.loop-count.invariant.total ∙ ap (λ n. Ok n) all
+    counted_done not_below (octets_of s) (read s c.args.levels) (octets_at c.loop-count.last) (length c.args.octets.now - c.loop-count.count) c.loop-count.count now.rest _ none c.loop-count.invariant.total ∙ ap (λ n. Ok n) all
 
 pub returns-else-is_finished-2 : goal.returns-else-is_finished-2
 returns-else-is_finished-2 g c =
     let s = g.T.Shaped.shape in
     let now = c.loop-count.reader in
     let some : now.rest ≢ [] = λ e. absurd (cc (c.is_finished-2.ensures.1 e, c.if-is_finished-2.false)) in
-    λ _. ascending_over (octets_of s) (read s 64) (octets_at c.loop-count.last) (length c.args.octets.now) c.loop-count.count now.rest _ (omega arith) some c.loop-count.invariant.total ∙ ap (λ k. Err k) (sym c.from.ensures)
+    λ _. counted_over not_below (octets_of s) (read s c.args.levels) (octets_at c.loop-count.last) (length c.args.octets.now) c.loop-count.count now.rest _ (omega arith) some c.loop-count.invariant.total ∙ ap (λ k. Err k) (sym c.from.ensures)

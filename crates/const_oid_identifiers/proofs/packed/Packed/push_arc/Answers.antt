@@ -11,7 +11,7 @@ invariant_of-self g c =
     let at : end ≡ length (unmarked_front old.bytes) + length (arc_octets c.args.arc) =
     omega (arith, ap length c.as_bytes-start.ensures.octets, ap length c.self.view_is, c.octet_count-count.ensures.value) in
     let within : end ≤ g.row.SIZE = omega arith in
-    (packed_push g.row.SIZE old.count end c.counted-self-inside.result c.args.arc old.bytes c.write_arc.new.bytes c.self.invariant at within c.counted-self-inside.ensures c.write_arc.ensures).0
+    ((packed_push g.row.SIZE old.count end c.counted-self-inside.result c.args.arc old.bytes c.write_arc.new.bytes c.self.invariant.0 at within c.counted-self-inside.ensures c.write_arc.ensures).0, c.self.invariant.1)
 
 pub returns : goal.returns
 returns g c =
@@ -20,5 +20,5 @@ returns g c =
     let at : end ≡ length (unmarked_front old.bytes) + length (arc_octets c.args.arc) =
     omega (arith, ap length c.as_bytes-start.ensures.octets, ap length c.self.view_is, c.octet_count-count.ensures.value) in
     let within : end ≤ g.row.SIZE = omega arith in
-    let pushed = packed_push g.row.SIZE old.count end c.counted-self-inside.result c.args.arc old.bytes c.write_arc.new.bytes c.self.invariant at within c.counted-self-inside.ensures c.write_arc.ensures in
+    let pushed = packed_push g.row.SIZE old.count end c.counted-self-inside.result c.args.arc old.bytes c.write_arc.new.bytes c.self.invariant.0 at within c.counted-self-inside.ensures c.write_arc.ensures in
     (pushed.1 ∙ ap (λ t. t ++ arc_octets c.args.arc) c.self.view_is, omega (arith, at, within, ap length c.self.view_is))

@@ -5,7 +5,7 @@ use Rattle.der_types_sets.proofs.set_of_ref.SetOfRefEncodeValue.encode_value.Goa
 
 pub returns-then-is_empty-clause-exact : goal.returns-then-is_empty-clause-exact
 returns-then-is_empty-clause-exact g c =
-    rw (← c.self.view_is) (values_written g.W.Writer.takes_memory g.T.Shaped.shape g.T.Shaped.written _ (g.W.Writer.out c.args.writer.now) (g.W.Writer.out c.encode_members.new.writer) c.encode_members.result c.self.invariant (eqb-true _ 0 (sym c.is_empty.ensures ∙ c.if-is_empty.true)) c.encode_members.ensures.exact)
+    rw (← c.self.view_is) (values_written g.W.Writer.takes_memory g.T.Shaped.shape g.T.Shaped.written _ (g.W.Writer.out c.args.writer.now) (g.W.Writer.out c.encode_members.new.writer) c.encode_members.result c.self.invariant (eqb-true _ 0 (sym c.is_empty.ensures ∙ c.if-is_empty.true)) c.list_in_range.ensures c.encode_members.ensures.exact)
 
 pub returns-clause-exact : goal.returns-clause-exact
 returns-clause-exact g c =

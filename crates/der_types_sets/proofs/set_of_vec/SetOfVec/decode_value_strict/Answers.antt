@@ -1,4 +1,5 @@
 use Rattle.std.proofs.Common.{sym, ◌∙◌}
+use Rattle.std.proofs.lemmas.List.Sorted.{length_permutation}
 use Rattle.der_core_head.specs.Grammar.{plain_list}
 use Rattle.der_core_head.specs.Reading.{IsDer}
 use Rattle.der_types_sets.proofs.SetSteps.{content_rises, rising-ascends}
@@ -23,3 +24,8 @@ returns-then-is_der-clause-rising g c =
     let new = g.R.Reader.state c.decode_value.new.reader in
     let items = c.in_ok-rising.rising.values.items in
     λ der. content_rises s c.args.header.tag old.room c.args.header.length.value old.rest (plain_list g.T.Shaped.plain items) new.rest (c.in_ok-rising.ensures.0 der)
+
+pub returns-in-Ok-clause-rise : goal.returns-in-Ok-clause-rise
+returns-in-Ok-clause-rise g c = λ ber.
+    let rise = c.in_ok-members.ensures.rise in
+    (rise.0, rise.1, rise.2 ∙ sym (length_permutation c.in_ok-members.members.items c.in-Ok.set c.in-Ok.ensures.ok))

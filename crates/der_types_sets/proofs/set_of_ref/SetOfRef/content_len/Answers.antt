@@ -1,7 +1,7 @@
 use Rattle.std.proofs.Common.{sym, ◌∙◌}
 use Rattle.std.proofs.lemmas.Bool.{eqb-true}
 use Rattle.der_types_sets.proofs.LentWrites.{some_at, values_sized, octets_sized}
-use Rattle.der_types_sets.proofs.set_of_ref.SetOfRefEncodeValue.value_len.Goals as goal
+use Rattle.der_types_sets.proofs.set_of_ref.SetOfRef.content_len.Goals as goal
 
 pub returns-then-is_empty : goal.returns-then-is_empty
 returns-then-is_empty g c = rw (← c.self.view_is) (values_sized g.T.Shaped.shape g.T.Shaped.written _ (λ l. l.value) c.members_len.result c.self.invariant (eqb-true _ 0 (sym c.is_empty.ensures ∙ c.if-is_empty.true)) c.members_len.ensures)
