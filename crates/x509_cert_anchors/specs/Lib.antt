@@ -3,3 +3,4 @@ pub mod Grammar
 pub mod Parts
 pub mod Texts
 pub mod Views
+pub mod Lists

@@ -4,6 +4,7 @@
 pub mod anchor;
 mod cert_path_controls;
 mod cert_policies;
+pub mod laws;
 mod trust_anchor_choice;
 mod trust_anchor_info;
 
@@ -33,7 +34,7 @@ pub use x509_cert_lists::{
     KeyUsages, NameConstraints, NoticeReference, OtherName, PolicyConstraints, PolicyInformation,
     PolicyMapping, PolicyMappings, PolicyQualifierInfo, PrivateKeyUsagePeriod, ReasonFlags,
     Reasons, SubjectAltName, SubjectDirectoryAttributes, SubjectInfoAccessSyntax,
-    SubjectKeyIdentifier, ToExtension, TryFromKey, UserNotice, hash, laws, timestamps,
+    SubjectKeyIdentifier, ToExtension, TryFromKey, UserNotice, hash, timestamps,
 };
 
 // Lists and requests.

@@ -1,3 +1,4 @@
 mod VersionOctets
-mod Respelled
+pub mod Respelled
 mod Places
+pub mod Passed

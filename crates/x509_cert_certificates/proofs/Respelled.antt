@@ -40,13 +40,13 @@ module _ (bound : ℕ) (limit : Option ℕ) (r : Bool) where
       (behind_same (name bound) (from_validity bound) t.1.1.1.0 new.1.1.1.1 t.1.1.1.1
       (before_same validity (from_subject bound) (validity_by r (tbs_validity t)) (tbs_validity t) t.1.1.1.1.1 (validity_shorter r (tbs_validity t))))))
 
-  tbs_shorter : (t : Tbs) → IsValid (tbs_certificate bound limit) t → length (octets_of (tbs_certificate bound limit) (tbs_by r t)) ≤ length (octets_of (tbs_certificate bound limit) t)
+  pub tbs_shorter : (t : Tbs) → IsValid (tbs_certificate bound limit) t → length (octets_of (tbs_certificate bound limit) (tbs_by r t)) ≤ length (octets_of (tbs_certificate bound limit) t)
   unfolding IsValid octets_of contents
   tbs_shorter t h =
       let old = body_octets (tbs_fields bound limit) t in
       tlv_shorter tags.Sequence (body_octets (tbs_fields bound limit) (tbs_by r t)) old (fields_shorter t) (content_fits tags.Sequence old h.2)
 
-  tbs_valid : (t : Tbs) → IsValid (tbs_certificate bound limit) t → IsValid (tbs_certificate bound limit) (tbs_by r t)
+  pub tbs_valid : (t : Tbs) → IsValid (tbs_certificate bound limit) t → IsValid (tbs_certificate bound limit) (tbs_by r t)
   unfolding IsValid IsContent IsBody contents
   tbs_valid t h =
       let b = h.0 in
@@ -56,7 +56,7 @@ module _ (bound : ℕ) (limit : Option ℕ) (r : Bool) where
         tlv_fits tags.Sequence (body_octets (tbs_fields bound limit) (tbs_by r t)) (body_octets (tbs_fields bound limit) t) (fields_shorter t) h.2,
       )
 
-  certificate_fields_shorter : (c : PlainCertificate) → IsValid (tbs_certificate bound limit) (tbs c)
+  pub certificate_fields_shorter : (c : PlainCertificate) → IsValid (tbs_certificate bound limit) (tbs c)
       → length (body_octets (certificate_fields bound limit) (certificate_by r c)) ≤ length (body_octets (certificate_fields bound limit) c)
   certificate_fields_shorter c h =
       before_same (tbs_certificate bound limit) (behind_tbs bound) (tbs_by r (tbs c)) (tbs c) c.1 (tbs_shorter (tbs c) h)

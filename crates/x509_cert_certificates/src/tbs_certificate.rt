@@ -103,6 +103,8 @@ impl<P: Profile> Fields for TbsCertificateInner<P> {
 }
 
 impl<'a, R: Reader<'a>, P: Profile> DecodeFields<'a, R> for TbsCertificateInner<P> {
+    // Not inlined, so that its fields are moved into their places once.
+    #[inline(never)]
     fn decode_fields(alloc: Global, reader: &mut R) -> Result<TbsCertificateInner<P>, Error> {
         let (version, (serial_number, (signature, (issuer, behind)))) = <Row<P>>::decode_fields(
             alloc, reader,

@@ -19,7 +19,7 @@ use x509_cert_policies::Attribute;
 /// ```text
 /// SubjectDirectoryAttributes ::= SEQUENCE SIZE (1..MAX) OF Attribute
 /// ```
-#[derive(Drop)]
+#[derive(Clone, Debug, Drop, PartialEq, Eq)]
 pub struct SubjectDirectoryAttributes(pub Vec<Attribute>);
 
 impl SubjectDirectoryAttributes {

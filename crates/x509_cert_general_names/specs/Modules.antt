@@ -1,11 +1,11 @@
 -- The name of a module of hardware, held as a name of a kind that an identifier tells (RFC 4108 5).
-use Rattle.std.specs.Prelude.{ℕ, List, [], ◌∷◌, Bool, Result, Ok}
+use Rattle.std.specs.Prelude.{ℕ, List, [], ◌∷◌, Bool, Option, Some, Result, Ok}
 use Rattle.const_oid_identifiers.specs.Comparing.{owned_eq}
 use Rattle.der_core_head.specs.declared.error.ErrorKind.{ErrorKind}
 use Rattle.der_core_head.specs.declared.tag.Tag.TheVariants.{Sequence}
 use Rattle.der_core_head.specs.Octets.{◌>>=◌}
 use Rattle.der_core_head.specs.Shapes.{BodyValue, any, nested, sequence, octets_of, IsValid, Spells}
-use Rattle.x509_cert_certificates.specs.Parts.{written_as}
+use Rattle.x509_cert_certificates.specs.Parts.{content_as, written_as}
 use Rattle.x509_cert_general_names.specs.Grammar.{other_name_fields, hardware_module_name_fields}
 
 -- what is held, and what holds it
@@ -30,6 +30,10 @@ HasEncoding n = IsValid any n.1.0
 -- the value of a name spells a module
 abbrev pub HoldsModule : ℕ → PlainOther → PlainModule → Type 0
 HoldsModule bound n m = Spells (sequence (hardware_module_name_fields bound)) m (octets_of any n.1.0)
+
+-- the module that the value of a name is read as, or its first fault
+abbrev pub module_read : ℕ → PlainOther → Result (Option PlainModule) ErrorKind
+module_read bound n = content_as Sequence (nested (hardware_module_name_fields bound)) n.1.0 >>= λ m. Ok (Some m)
 
 -- the name that holds a module, if a length can count its octets
 abbrev pub module_held : ℕ → PlainModule → Result PlainOther ErrorKind

@@ -7,7 +7,7 @@ ghost use Rattle.der_core_head.specs.Reading.{Gives};
 ghost use Rattle.der_core_head.specs.Shapes.{nested};
 ghost use Rattle.x509_cert_certificates.specs.Parts.{arc_bound};
 ghost use Rattle.x509_cert_general_names.specs.Grammar.{hardware_module_name_fields};
-ghost use Rattle.x509_cert_general_names.specs.Modules.{PlainModule, is_of_module, HasEncoding, HoldsModule};
+ghost use Rattle.x509_cert_general_names.specs.Modules.{PlainModule, is_of_module, HasEncoding, HoldsModule, module_read};
 ghost use Rattle.x509_cert_general_names.specs.Views.{hardware_module_name_plain, other_name_plain};
 
 use crate::other_name::OtherName;
@@ -63,6 +63,9 @@ impl HardwareModuleName {
         // A module that is spelled by the value is answered, unless memory runs out.
         ensures only { (m : PlainModule) → is_of_module (other_name_plain other_name.now) ≡ true → HasEncoding (other_name_plain other_name.now)
             → HoldsModule arc_bound (other_name_plain other_name.now) m → Gives (plain_option hardware_module_name_plain) result (Ok (Some m)) }
+        // Which fault it is.
+        ensures exact { is_of_module (other_name_plain other_name.now) ≡ true
+            → Gives (plain_option hardware_module_name_plain) result (module_read arc_bound (other_name_plain other_name.now)) }
     {
         if other_name.type_id == HardwareModuleName::associated_oid() {
             let module: HardwareModuleName = other_name.value.decode_as(alloc)?;

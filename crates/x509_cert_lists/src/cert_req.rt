@@ -27,7 +27,7 @@ use x509_cert_extensions::{AlgorithmIdentifier, BitString};
 ///     signatureAlgorithm        AlgorithmIdentifier,
 ///     signature                 BIT STRING }
 /// ```
-#[derive(Debug, Drop)]
+#[derive(Clone, Debug, Drop, PartialEq, Eq)]
 pub struct CertReq {
     /// The part that is signed.
     pub info: CertReqInfo,

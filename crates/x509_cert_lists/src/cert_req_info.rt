@@ -26,7 +26,7 @@ use x509_cert_extensions::{Attributes, Name, SubjectPublicKeyInfo};
 ///     subjectPKInfo  SubjectPublicKeyInfo,
 ///     attributes     [0] IMPLICIT Attributes }
 /// ```
-#[derive(Debug, Drop)]
+#[derive(Clone, Debug, Drop, PartialEq, Eq)]
 pub struct CertReqInfo {
     /// Its version.
     pub version: Version,

@@ -1,5 +1,5 @@
 -- The text of a name by its plain value.
-use Rattle.std.specs.Prelude.{◌≡◌, ℕ, List, [], ◌∷◌, map}
+use Rattle.std.specs.Prelude.{◌≡◌, ℕ, List, [], ◌∷◌, map, Ok}
 use Rattle.std.proofs.Common.{refl, ap, ◌∙◌}
 use Rattle.der_core_head.specs.Grammar.{plain_list}
 use Rattle.x509_cert_names.specs.Names.{PlainName, TypeAndValue, type_of, value_of}
@@ -15,6 +15,11 @@ attribute_of a = record { oid = type_of a; value = value_of a }
 -- a name as it is printed (RFC 4514 2)
 unfoldable pub name_text : PlainName → List ℕ
 name_text n = name_printed (map (map attribute_of) n)
+
+-- the text of a name spells this one (RFC 4514 2, 3)
+abbrev pub SpellsName : List ℕ → PlainName → Type 0
+SpellsName text n =
+    (relative_names : List (List AttributeTypeAndValue)) × ReadsName text (Ok relative_names) × (n ≡ plain_list relative_plain relative_names)
 
 attributes_back : (r : List AttributeTypeAndValue) → map attribute_of (relative_plain r) ≡ r
 attributes_back [] = refl

@@ -22,7 +22,7 @@ use std::cmp::Ordering;
 /// ```text
 /// Attribute ::= SEQUENCE { type AttributeType, values SET OF AttributeValue }
 /// ```
-#[derive(Debug, Drop)]
+#[derive(Clone, Debug, Drop, PartialEq, Eq)]
 pub struct Attribute {
     pub oid: AttributeType,
     pub values: StrictSetOf<AttributeValue>,

@@ -78,6 +78,8 @@ impl Fields for Extension {
 }
 
 impl<'a, R: Reader<'a>> DecodeFields<'a, R> for Extension {
+    // Not inlined, so that its fields are moved into their places once.
+    #[inline(never)]
     fn decode_fields(alloc: Global, reader: &mut R) -> Result<Extension, Error> {
         let (extn_id, (critical, (extn_value, ()))) = Row::decode_fields(alloc, reader)?;
         Ok(Extension {

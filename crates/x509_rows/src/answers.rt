@@ -1,11 +1,13 @@
 //! Questions and their answers.
 
-use crate::extensions;
+use crate::drawn::{drawn, generated};
+use crate::made::{default_of, digest_of, made_of};
 use crate::names::names_of;
 use crate::refusals::Refusal;
 use crate::values::{compared, written};
 use crate::whole_extensions::{extension_of, got_of, usages_of};
-use der_core::{from_der, to_der};
+use crate::{extensions, lists};
+use der_core::from_der;
 use std::alloc::Global;
 use std::io::Write;
 use std::{io, str};
@@ -31,8 +33,10 @@ pub fn answer<W: Write>(alloc: Global, line: &[u8], out: &mut W) -> io::Result<(
 fn answer_of(alloc: Global, line: &[u8]) -> Result<String, Refusal> {
     let line = str::from_utf8(line)?;
     let (word, rest) = line.split_once(' ').ok_or(Refusal::Unread)?;
-    if word == "usages" {
-        return usages_of(alloc, rest);
+    match word {
+        "usages" => return usages_of(alloc, rest),
+        "default" => return default_of(alloc, rest),
+        _ => {}
     }
     let (kind, values) = rest.split_once(' ').ok_or(Refusal::Unread)?;
     match word {
@@ -42,8 +46,12 @@ fn answer_of(alloc: Global, line: &[u8]) -> Result<String, Refusal> {
         "from" => made_of(alloc, kind, values),
         "names" => names_of(alloc, kind, values),
         "debug" => extensions::debug_of(alloc, kind, values),
+        "copy" => lists::copied_of(alloc, kind, values),
         "extension" => extension_of(alloc, kind, values),
         "get" => got_of(alloc, kind, values),
+        "sha1" => digest_of(alloc, kind, values),
+        "generate" => generated(alloc, kind, values),
+        "draw" => drawn(alloc, kind, values),
         _ => Err(Refusal::Unread),
     }
 }
@@ -103,22 +111,6 @@ fn text_of(alloc: Global, kind: &str, octets: &str) -> Result<String, Refusal> {
         "SerialNumber" => {
             let serial: SerialNumber<Raw> = from_der(alloc, octets.as_slice())?;
             Ok(serial.to_string(alloc)?)
-        }
-        _ => Err(Refusal::Unread),
-    }
-}
-
-/// What is written of the value that a type makes of a text, or of octets.
-fn made_of(alloc: Global, kind: &str, text: &str) -> Result<String, Refusal> {
-    match kind {
-        "Time" => {
-            let time: Time = text.parse()?;
-            Ok(hex::encode(alloc, to_der(alloc, &time)?)?)
-        }
-        "SerialNumber" => {
-            let octets = hex::decode(alloc, text.as_bytes())?;
-            let serial = SerialNumber::<Rfc5280>::new(alloc, octets.as_slice())?;
-            Ok(hex::encode(alloc, to_der(alloc, &serial)?)?)
         }
         _ => Err(Refusal::Unread),
     }

@@ -14,6 +14,19 @@ pub fn written<'a, T: Decode<'a, SliceReader<'a>> + Encode + Drop>(
     Ok(hex::encode(alloc, to_der(alloc, &value)?)?)
 }
 
+/// What is written of a copy of the value that octets spell, if it is equal to the value.
+pub fn copied<'a, T: Decode<'a, SliceReader<'a>> + Encode + Clone + PartialEq + Drop>(
+    alloc: Global,
+    octets: &'a [u8],
+) -> Result<String, Refusal> {
+    let value: T = from_der(alloc, octets)?;
+    let copy = value.clone()?;
+    if copy != value {
+        return Err(Refusal::Unread);
+    }
+    Ok(hex::encode(alloc, to_der(alloc, &copy)?)?)
+}
+
 /// The order of the values that octets spell.
 pub fn compared<'a, T: Decode<'a, SliceReader<'a>> + DerOrd + Drop>(
     alloc: Global,

@@ -4,6 +4,7 @@ use crate::refusals::Refusal;
 use const_oid::AssociatedOid;
 use der_core::{Decode, Encode, SliceReader, from_der, to_der};
 use std::alloc::Global;
+use x509_cert::timestamps::SignedCertificateTimestampList;
 use x509_cert::{
     AuthorityInfoAccessSyntax, AuthorityKeyIdentifier, BaseCrlNumber, BasicConstraints,
     CertificateInner, CertificatePolicies, Criticality, CrlDistributionPoints, CrlNumber,
@@ -45,6 +46,9 @@ pub fn extension_of(alloc: Global, kind: &str, values: &str) -> Result<String, R
         "InhibitAnyPolicy" => given::<InhibitAnyPolicy>(alloc, subject, octets),
         "AuthorityInfoAccessSyntax" => given::<AuthorityInfoAccessSyntax>(alloc, subject, octets),
         "SubjectInfoAccessSyntax" => given::<SubjectInfoAccessSyntax>(alloc, subject, octets),
+        "SignedCertificateTimestampList" => {
+            given::<SignedCertificateTimestampList>(alloc, subject, octets)
+        }
         _ => Err(Refusal::Unread),
     }
 }

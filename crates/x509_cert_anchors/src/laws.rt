@@ -1,0 +1,18 @@
+//! Laws of trust anchors, for every bound of arcs and every profile, beside those of certificates.
+//!
+//! Each is the contract of a function that does nothing.
+
+ghost use Rattle.std.specs.Prelude.{ℕ, Option, Bool};
+ghost use Rattle.der_core_head.specs.Shapes.{IsValid};
+ghost use Rattle.x509_cert_anchors.specs.Grammar.{PlainAnchor, trust_anchor_choice, trust_anchor_by};
+
+pub use x509_cert_lists::laws::{
+    certificates_are_apart, dates_by_profile, parts_are_apart, respelled_certificates_are_spelled,
+    respelled_dates_are_spelled, serial_numbers_by_profile, signed_part_stands_in_place,
+};
+
+/// A trust anchor that has an encoding has one where the dates of its certificates are respelled (RFC 5280 4.1.2.5).
+pub fn respelled_anchors_are_spelled()
+    ensures { (bound : ℕ) (limit : Option ℕ) (r : Bool) (a : PlainAnchor)
+        → IsValid (trust_anchor_choice bound limit) a → IsValid (trust_anchor_choice bound limit) (trust_anchor_by r a) }
+{}
