@@ -1,8 +1,9 @@
 //! Questions and their answers.
 
+use crate::making::Manner;
 use crate::names::{authority_answer, name_answer};
+use crate::profiles::{key_answer, profile_answer};
 use crate::refusals::Refusal;
-use crate::roots::{certificate_answer, extended_answer, key_answer, root_answer};
 use std::alloc::Global;
 use std::io::Write;
 use std::{io, str};
@@ -29,9 +30,10 @@ fn answer_of(alloc: Global, line: &[u8]) -> Result<String, Refusal> {
         "repeats" => name_answer(alloc, true, rest),
         "authority" => authority_answer(alloc, rest),
         "key" => key_answer(alloc, rest),
-        "root" => root_answer(alloc, rest),
-        "extended" => extended_answer(alloc, rest),
-        "certificate" => certificate_answer(alloc, rest),
+        "part" => profile_answer(alloc, Manner::Part, rest),
+        "whole" => profile_answer(alloc, Manner::Whole, rest),
+        "unready" => profile_answer(alloc, Manner::Unready, rest),
+        "late" => profile_answer(alloc, Manner::Late, rest),
         _ => Err(Refusal::Unread),
     }
 }

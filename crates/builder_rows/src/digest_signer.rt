@@ -3,19 +3,21 @@
 use rand_core::CryptoRng;
 use sha2::{Digest, Sha256};
 use std::alloc::Global;
+use x509_cert_builders::types::{AlgorithmIdentifier, BitString, SubjectPublicKeyInfo};
 use x509_cert_builders::{SignError, Signer};
-use x509_cert_lists::{AlgorithmIdentifier, BitString, SubjectPublicKeyInfo};
 
 /// A signer whose bits are the SHA-256 digest of its key's octets and the signed ones. It protects nothing.
 #[derive(Drop)]
 pub struct DigestSigner {
     pub key: SubjectPublicKeyInfo,
     pub algorithm: AlgorithmIdentifier,
+    /// Whether it refuses all octets.
+    pub refuses: bool,
 }
 
 impl Signer for DigestSigner {
-    ghost use Rattle.std.specs.Prelude.{⊤};
-    ghost use Rattle.x509_cert_lists.specs.Parts.{algorithm_plain, key_plain};
+    ghost use Rattle.std.specs.Prelude.{◌≡◌, true, ⊤};
+    ghost use Rattle.x509_cert_builders.specs.Parts.{algorithm_plain, key_plain};
 
     ghost public_key = { λ s. key_plain s.key };
 
@@ -23,7 +25,7 @@ impl Signer for DigestSigner {
 
     ghost signs = { λ _ _ _. ⊤ };
 
-    ghost may_refuse = { λ _ _. ⊥ };
+    ghost may_refuse = { λ s _. s.refuses ≡ true };
 
     fn key_info(&self) -> &SubjectPublicKeyInfo {
         &self.key
@@ -34,6 +36,9 @@ impl Signer for DigestSigner {
     }
 
     fn sign(&self, alloc: Global, octets: &[u8]) -> Result<BitString, SignError> {
+        if self.refuses {
+            return Err(SignError::Refused);
+        }
         let mut hasher = Sha256::new();
         hasher.update(self.key.subject_public_key.raw_bytes());
         hasher.update(octets);

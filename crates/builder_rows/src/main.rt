@@ -6,22 +6,36 @@
 //! | `repeats NAME` | the same, where types may stand twice |
 //! | `authority NAME` | `ok` where a name is one of an authority |
 //! | `key KEY` | `ok HEX HEX`, the identifier of a key, and the encoding of the authority key identifier |
-//! | `root OCSP SERIAL FROM UNTIL KEY NAME` | `ok HEX`, what is signed of a root; `OCSP` is `ocsp`, or a dash |
-//! | `certificate OCSP SERIAL FROM UNTIL KEY NAME` | `ok HEX`, the root, signed with the digest of key and signed octets |
-//! | `extended HEX OCSP SERIAL FROM UNTIL KEY NAME` | `ok HEX`, what is signed of a root to which an extension was added first |
+//! | `part PROFILE` | `ok HEX`, what is signed, made twice; `changed` where both differ |
+//! | `whole PROFILE` | `ok HEX`, the certificate, whose bits are the digest of the signer's key and the signed octets |
+//! | `unready PROFILE` | the same, assembled before anything is made |
+//! | `late PROFILE` | `ok HEX`, the certificate of what was made before the extension was added, with the bits of no octets |
 //! | an empty line, or one that begins with `#` | the same line |
 //! | any other, or one of more than 2^20 octets | `?` |
 //!
-//! What is signed is made twice; `changed` would be answered where both differ. What is refused is answered `refused KIND`, and
-//! `memory` where there is not enough.
+//! | `PROFILE` | |
+//! |---|---|
+//! | `root FLAGS SETTLED SUBJECT` | a root |
+//! | `subordinate FLAGS PATH SETTLED ISSUER\|SUBJECT` | an authority below one, a path length or a dash |
+//! | `subscriber FLAGS KIND SETTLED ISSUER\|SUBJECT` | a server; its kind is `domain`, `individual`, `organization` or `extended` |
+//! | `device FLAGS NAMES SETTLED ISSUER\|SUBJECT` | a device; the encoding of its alternative names in hex, or a dash |
+//! | `module FLAGS VERSION OCTETS SETTLED ISSUER\|SUBJECT` | a device with a module `1.2` or `2.0` of this serial number |
+//!
+//! `FLAGS` are letters, or a dash: `o` answers about the state of certificates are signed, `c` clients are certified, `d` data are
+//! enciphered, `k` keys are, `a` keys are agreed upon, `r` the signer refuses. `SETTLED` is `SERIAL FROM UNTIL KEY SIGNER ADDED`: octets,
+//! two dates, the certified key, that of the signer, and an extension that is added, or a dash; octets are in hex.
+//!
+//! What is refused is answered `refused KIND`, and `memory` where there is not enough.
 #![tactic(auto)]
 
 mod answers;
 mod digest_signer;
 mod lines;
+mod making;
 mod names;
+mod profiles;
 mod refusals;
-mod roots;
+mod words;
 
 use answers::answer;
 use lines::{Line, next_line};

@@ -5,7 +5,7 @@ use hex::FromHexError;
 use std::alloc::{AllocError, AllocFailed};
 use std::fmt;
 use std::str::Utf8Error;
-use x509_cert_builders::Error;
+use x509_cert_builders::{Error, SignError};
 
 /// Why a question has no other answer.
 #[derive(Drop)]
@@ -35,6 +35,12 @@ impl From<der_core::Error> for Refusal {
             ErrorKind::OutOfMemory => Refusal::Memory,
             _ => Refusal::Refused(Error::Asn1(error)),
         }
+    }
+}
+
+impl From<SignError> for Refusal {
+    fn from(error: SignError) -> Refusal {
+        Refusal::Refused(Error::Signature(error))
     }
 }
 

@@ -3,3 +3,5 @@ pub mod Extensions
 pub mod Views
 pub mod Texts
 pub mod Anchors
+pub mod Builders
+pub mod Parts

@@ -2,12 +2,13 @@
 //! RFC 6962): what the inner crates have, under one name.
 #![tactic(auto)]
 
+pub mod builder;
 mod pki_path;
 
 pub use pki_path::PkiPath;
 
 // Certificates.
-pub use x509_cert_anchors::{
+pub use x509_cert_list_builders::types::{
     AlgorithmIdentifier, AlgorithmIdentifierRef, Any, AnyRef, Attribute, AttributeType,
     AttributeTypeAndValue, AttributeValue, Attributes, BitString, Certificate, CertificateInner,
     DateTime, DirectoryString, DistinguishedName, Extension, Extensions, ExtensionsOf, FlagSet,
@@ -18,7 +19,7 @@ pub use x509_cert_anchors::{
 };
 
 // Contents of extensions.
-pub use x509_cert_anchors::{
+pub use x509_cert_list_builders::types::{
     AccessDescription, AuthorityInfoAccessSyntax, AuthorityKeyIdentifier, BaseCrlNumber,
     BasicConstraints, CertDigest, CertificatePolicies, CpsUri, Criticality, CrlDistributionPoints,
     CrlNumber, CrlReason, DisplayText, DistributionPoint, DistributionPointName, EdiPartyName,
@@ -31,7 +32,7 @@ pub use x509_cert_anchors::{
 };
 
 // Lists, requests and anchors.
-pub use x509_cert_anchors::{
+pub use x509_cert_list_builders::types::{
     AsAttribute, CertPathControls, CertPolicies, CertPolicyFlags, CertReq, CertReqInfo,
     CertificateList, ChallengePassword, ExtensionReq, RevokedCert, TbsCertList, TrustAnchorChoice,
     TrustAnchorInfo, TryFromExtensionReq, anchor, request,

@@ -1,4 +1,7 @@
+mod Encodable
 mod Lists
+mod Modules
 mod NamingSteps
-mod SameParts
-mod VersionOctets
+mod SignedOctets
+mod Subjects
+mod UseSums

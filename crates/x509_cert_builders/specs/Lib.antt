@@ -1,6 +1,12 @@
-pub mod Assembling
+pub mod Devices
 pub mod Naming
 pub mod Profiles
 pub mod Refusals
 pub mod SignedParts
 pub mod States
+pub mod Subscribers
+pub mod Parts
+pub mod Certificates
+pub mod Texts
+pub mod Anchors
+pub mod Lists

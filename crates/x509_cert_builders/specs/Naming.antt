@@ -3,10 +3,10 @@ use Rattle.std.specs.Prelude.{◌≡◌, ◌⊎◌, ℕ, ◌<◌, List, [], ◌�
 use Rattle.std.specs.List.{find, list_any, list_all, position_or_len}
 use Rattle.const_oid_identifiers.specs.Comparing.{owned_eq}
 use Rattle.der_core_head.specs.Shapes.{AnyValue}
-use Rattle.der_core_head.specs.declared.error.ErrorKind.TheVariants as kinds
-use Rattle.x509_cert_lists.specs.Parts.{PlainName}
+use Rattle.x509_cert_anchors.specs.Parts.{PlainName}
 use Rattle.x509_cert_builders.specs.declared.error.Error.{Error}
 use Rattle.x509_cert_builders.specs.declared.error.Error.TheVariants as errors
+use Rattle.x509_cert_builders.specs.Refusals.{IsWantOfMemory}
 
 -- an attribute: the arcs of its type, and its value
 abbrev pub TypeAndValue : Type 0
@@ -78,16 +78,6 @@ IsNamed repeats n = (i : ℕ) → i < length n → IsOk (type_at repeats n i)
 -- why the first relative name may not that may not
 abbrev pub IsFirstFault : Bool → PlainName → Error → Type 0
 IsFirstFault repeats n e = (i : ℕ) × (i < length n) × ((j : ℕ) → j < i → IsOk (type_at repeats n j)) × (type_at repeats n i ≡ Err e)
-
--- want of memory
-abbrev pub IsWantOfMemory : Error → Type 0
-IsWantOfMemory (errors.Asn1 e) = e.kind ≡ kinds.OutOfMemory
-IsWantOfMemory (errors.Signature e) = ⊥
-IsWantOfMemory errors.NonUniqueRdn = ⊥
-IsWantOfMemory errors.NonUniqueATV = ⊥
-IsWantOfMemory (errors.InvalidAttribute t) = ⊥
-IsWantOfMemory errors.MissingAttributes = ⊥
-IsWantOfMemory errors.Unsupported = ⊥
 
 -- what checking the rules of all names answers
 abbrev pub Names : {X : Type 0} → Bool → PlainName → Result X Error → Type 0

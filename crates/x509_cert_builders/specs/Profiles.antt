@@ -1,10 +1,11 @@
 -- The extensions that profiles add (RFC 5280 4.2; CA/Browser Forum, Baseline Requirements 7.1.2).
-use Rattle.std.specs.Prelude.{ℕ, ℤ, ◌+◌, ◌^◌, List, [], ◌∷◌, Bool, true, false, Option, Some, None, if◌then◌else◌}
+use Rattle.std.specs.Prelude.{ℕ, ℤ, ◌+◌, ◌^◌, List, [], ◌∷◌, Bool, true, false, ◌&&◌, Option, Some, None, if◌then◌else◌}
+use Rattle.const_oid_identifiers.specs.Comparing.{owned_eq}
 use Rattle.der_core_head.specs.declared.tag.Tag.TheVariants as tags
 use Rattle.der_core_head.specs.Leaves.{named}
-use Rattle.der_core_head.specs.Shapes.{Shape, Value, tagged, leaf, sequence, octets_of}
+use Rattle.der_core_head.specs.Shapes.{Shape, Value, tagged, leaf, sequence, sequence_of, octets_of}
 use Rattle.sha1.specs.Sha1.{sha1}
-use Rattle.x509_cert_lists.specs.Parts.{PublicKey, PlainExtension, arc_bound, authority_key_identifier_fields, basic_constraints_fields, key_bits, octet_string}
+use Rattle.x509_cert_anchors.specs.Parts.{PublicKey, PlainExtension, algorithm_arcs, arc_bound, authority_key_identifier_fields, basic_constraints_fields, key_algorithm, key_bits, object_identifier, octet_string}
 
 -- the identifier of a key: the SHA-1 digest of its octets (4.2.1.2, method 1)
 abbrev pub key_identifier : PublicKey → List ℕ
@@ -45,3 +46,54 @@ authority_uses answers = if answers then cert_and_crl_sign + digital_signature e
 abbrev pub root_extensions : Bool → PublicKey → List PlainExtension
 root_extensions answers key =
     authority_key_extension key ∷ constraints_extension true None ∷ usage_extension (authority_uses answers) ∷ subject_key_extension key ∷ []
+
+-- arcs below id-kp (RFC 5280 4.2.1.12)
+abbrev pub id_kp : ℕ → List ℕ
+id_kp n = 1 ∷ 3 ∷ 6 ∷ 1 ∷ 5 ∷ 5 ∷ 7 ∷ 3 ∷ n ∷ []
+
+-- serverAuth, and where clients are certified too, clientAuth
+abbrev pub purposes : Bool → List (List ℕ)
+purposes clients = if clients then id_kp 1 ∷ id_kp 2 ∷ [] else id_kp 1 ∷ []
+
+-- ExtendedKeyUsage (4.2.1.12)
+abbrev pub purposes_extension : Bool → PlainExtension
+purposes_extension clients = standard_extension 37 false (sequence_of (object_identifier arc_bound)) (purposes clients)
+
+-- a subordinate authority (7.1.2.6.1)
+abbrev pub subordinate_extensions : Bool → Bool → Option ℤ → PublicKey → PublicKey → List PlainExtension
+subordinate_extensions answers clients path key issuer_key =
+    authority_key_extension issuer_key
+    ∷ constraints_extension true path
+    ∷ usage_extension (authority_uses answers)
+    ∷ subject_key_extension key
+    ∷ purposes_extension clients
+    ∷ []
+
+-- rsaEncryption (RFC 3279 2.3.1), id-ecPublicKey (RFC 5480 2.1.1)
+abbrev pub rsa_encryption : List ℕ
+rsa_encryption = 1 ∷ 2 ∷ 840 ∷ 113549 ∷ 1 ∷ 1 ∷ 1 ∷ []
+
+abbrev pub elliptic_curve_key : List ℕ
+elliptic_curve_key = 1 ∷ 2 ∷ 840 ∷ 10045 ∷ 2 ∷ 1 ∷ []
+
+-- whether a key is of an algorithm
+abbrev pub is_of : List ℕ → PublicKey → Bool
+is_of arcs k = owned_eq (algorithm_arcs (key_algorithm k)) arcs
+
+-- a use, where it stands
+abbrev pub use_where : Bool → ℕ → ℕ
+use_where stands n = if stands then 2 ^ n else 0
+
+-- what a subscriber's key is for (7.1.2.7.11): digitalSignature; where they are enabled, dataEncipherment and keyEncipherment of an RSA
+-- key, and keyAgreement of one on an elliptic curve
+abbrev pub subscriber_uses : Bool → Bool → Bool → PublicKey → ℕ
+subscriber_uses data_enciphered keys_enciphered agreement k =
+    digital_signature
+    + use_where (data_enciphered && is_of rsa_encryption k) 3
+    + use_where (keys_enciphered && is_of rsa_encryption k) 2
+    + use_where (agreement && is_of elliptic_curve_key k) 4
+
+-- a subscriber, whose key has these uses (7.1.2.7.6)
+abbrev pub subscriber_extensions : Bool → ℕ → PublicKey → List PlainExtension
+subscriber_extensions clients uses issuer_key =
+    authority_key_extension issuer_key ∷ purposes_extension clients ∷ constraints_extension false None ∷ usage_extension uses ∷ []

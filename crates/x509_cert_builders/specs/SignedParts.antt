@@ -1,10 +1,8 @@
 -- What a builder of certificates signs (RFC 5280 4.1.2).
 use Rattle.std.specs.Prelude.{ℕ, ℤ, pos, List, [], ◌∷◌, Bool, true, false, Option, Some, None, if◌then◌else◌}
-use Rattle.der_core_head.specs.Shapes.{Shape, Body, BodyValue, tagged, any, either, optional, defaulted, nothing, leaf, nested, field, done, octets_of}
-use Rattle.x509_cert_lists.specs.Certificates.{Tbs, tbs_certificate, tbs_by}
-use Rattle.x509_cert_lists.specs.Parts.{Algorithm, PublicKey, PlainExtension, PlainName, arc_bound, algorithm_plain, extensions_plain, key_plain, name_plain, time, validity_plain}
-use Rattle.x509_cert_builders.specs.declared.certificate_fields.CertificateFields.{CertificateFields}
-use Rattle.x509_cert_builders.specs.declared.signed_part.SignedPart.{SignedPart}
+use Rattle.der_core_head.specs.Shapes.{BodyValue, field, done, octets_of, IsValid}
+use Rattle.x509_cert_anchors.specs.Certificates.{Tbs, tbs_certificate, tbs_by, tbs_issuer, tbs_validity, tbs_subject, tbs_public_key}
+use Rattle.x509_cert_anchors.specs.Parts.{Algorithm, PublicKey, PlainExtension, PlainName, arc_bound, time}
 
 -- two dates, each with its spelling (4.1.2.5)
 abbrev pub PlainDates : Type 0
@@ -18,13 +16,13 @@ pub record PlainFields : Type 0 where
   pub subject : PlainName
   pub key : PublicKey
 
-abbrev pub fields_plain : CertificateFields → PlainFields
-fields_plain f = record {
-  serial = f.serial_number;
-  issuer = name_plain f.issuer;
-  validity = validity_plain f.validity;
-  subject = name_plain f.subject;
-  key = key_plain f.subject_public_key_info;
+abbrev pub fields_of : Tbs → PlainFields
+fields_of t = record {
+  serial = t.1.0;
+  issuer = tbs_issuer t;
+  validity = tbs_validity t;
+  subject = tbs_subject t;
+  key = tbs_public_key t;
 }
 
 -- the number of version 3, or that of version 1 (4.1.2.1)
@@ -36,6 +34,10 @@ abbrev pub tbs_of : Bool → PlainFields → Algorithm → Option (List PlainExt
 tbs_of third f a extensions =
     (version_of third, (f.serial, (a, (f.issuer, (f.validity, (f.subject, (f.key, (None, (None, (extensions, tt))))))))))
 
+-- the part that a profile is handed: of version 3, and without extensions
+abbrev pub bare_part : PlainFields → Algorithm → Tbs
+bare_part f a = tbs_of true f a None
+
 -- whether there is an extension
 abbrev pub has_any : List PlainExtension → Bool
 has_any [] = false
@@ -46,31 +48,22 @@ abbrev pub listed : List PlainExtension → Option (List PlainExtension)
 listed [] = None
 listed (e ∷ more) = Some (e ∷ more)
 
+abbrev pub unlisted : Option (List PlainExtension) → List PlainExtension
+unlisted None = []
+unlisted (Some es) = es
+
+-- the extensions of a part; none where the field is absent
+abbrev pub extensions_in : Tbs → List PlainExtension
+extensions_in t = unlisted t.1.1.1.1.1.1.1.1.1.0
+
 -- version 3 where there are extensions, else version 1 (4.1.2.1)
 abbrev pub signed_part : PlainFields → Algorithm → List PlainExtension → Tbs
 signed_part f a extensions = tbs_of (has_any extensions) f a (listed extensions)
 
--- the fields of a sequence
-abbrev pub fields_of : Shape → Body
-fields_of (tagged t (nested b)) = b
-fields_of (tagged t (leaf l)) = done
-fields_of any = done
-fields_of (either a b) = done
-fields_of (optional s) = done
-fields_of (defaulted s d) = done
-fields_of nothing = done
-
--- TBSCertificate, by the profile of RFC 5280
-abbrev pub tbs_shape : Shape
-tbs_shape = tbs_certificate arc_bound (Some 21)
-
-abbrev pub tbs_fields : Body
-tbs_fields = fields_of tbs_shape
-
 -- its octets, with dates as RFC 5280 has them
 abbrev pub signed_octets : PlainFields → Algorithm → List PlainExtension → List ℕ
-signed_octets f a extensions = octets_of tbs_shape (tbs_by true (signed_part f a extensions))
+signed_octets f a extensions = octets_of (tbs_certificate arc_bound (Some 21)) (tbs_by true (signed_part f a extensions))
 
--- what is signed of what a builder lends
-abbrev pub part_plain : SignedPart → Tbs
-part_plain p = signed_part (fields_plain p.fields.now) (algorithm_plain p.algorithm.now) (extensions_plain p.extensions.now.items)
+-- it has no encoding, as where a length passes 2^32 - 1
+abbrev pub HasNoOctets : PlainFields → Algorithm → List PlainExtension → Type 0
+HasNoOctets f a extensions = IsValid (tbs_certificate arc_bound (Some 21)) (tbs_by true (signed_part f a extensions)) → ⊥

@@ -1,11 +1,11 @@
 -- What contracts see of builders, and of what they make.
-use Rattle.std.specs.Prelude.{ℕ, List, take, drop, Option}
+use Rattle.std.specs.Prelude.{ℕ, List, take, drop, Option, Some, None, true}
 use Rattle.der_core_head.specs.Grammar.{plain_option}
-use Rattle.x509_cert_lists.specs.Certificates.{PlainCertificate, certificate_octets, signed_start, signed_length}
-use Rattle.x509_cert_lists.specs.Parts.{Algorithm, PlainExtension, algorithm_plain, arc_bound, extensions_plain}
-use Rattle.x509_cert_builders.specs.SignedParts.{PlainFields, fields_plain}
+use Rattle.x509_cert_anchors.specs.Certificates.{PlainCertificate, certificate_by, certificate_octets, signed_start, signed_length, tbs_plain}
+use Rattle.x509_cert_anchors.specs.Parts.{Algorithm, PlainExtension, algorithm_plain, arc_bound, extensions_plain}
+use Rattle.x509_cert_builders.specs.SignedParts.{PlainFields, fields_of, signed_octets}
 use Rattle.x509_cert_builders.specs.declared.certificate_builder.CertificateBuilder.TheInside.{Inside}
-use Rattle.x509_cert_builders.specs.declared.builder.Finalized.{Finalized}
+use Rattle.x509_cert_builders.specs.declared.certificate_builder.Finalized.{Finalized}
 
 -- a builder of certificates: its profile, what is settled, the extensions that were added, and the algorithm and the octets of the
 -- part that was made last, if there is one
@@ -15,17 +15,26 @@ pub record CertificateState (P : Type 0) : Type 0 where
   pub added : List PlainExtension
   pub finalized : Option (Algorithm × List ℕ)
 
-abbrev pub finalized_plain : Finalized → Algorithm × List ℕ
-finalized_plain f = (algorithm_plain f.algorithm, f.octets.items)
+abbrev pub finalized_plain : PlainFields → Finalized → Algorithm × List ℕ
+finalized_plain f p = let a = algorithm_plain p.algorithm in (a, signed_octets f a (extensions_plain p.extensions.items))
 
 abbrev pub certificate_state : {P : Type 0} → Inside P → CertificateState P
-certificate_state b = record {
-  profile = b.profile;
-  fields = fields_plain b.fields;
-  added = extensions_plain b.extensions.items;
-  finalized = plain_option finalized_plain b.finalized;
-}
+certificate_state b =
+    let f = fields_of (tbs_plain b.part) in
+    record {
+      profile = b.profile;
+      fields = f;
+      added = extensions_plain b.extensions.items;
+      finalized = plain_option (finalized_plain f) b.finalized;
+    }
 
--- the octets at the place of a certificate's signed part
+-- the algorithm of the part that was made last, or where there is none this one
+abbrev pub algorithm_of_last : Option (Algorithm × List ℕ) → Algorithm → Algorithm
+algorithm_of_last None a = a
+algorithm_of_last (Some f) a = f.0
+
+-- the octets at the place of the signed part in what is written of a certificate
 abbrev pub octets_in_place : PlainCertificate → List ℕ
-octets_in_place c = take (signed_length arc_bound c) (drop (signed_start arc_bound c) (certificate_octets arc_bound c))
+octets_in_place c =
+    let w = certificate_by true c in
+    take (signed_length arc_bound w) (drop (signed_start arc_bound w) (certificate_octets arc_bound w))

@@ -1,17 +1,19 @@
 //! Profiles of certificates.
 
-use crate::certificate_fields::CertificateFields;
 use crate::error::Error;
+use der_core::Fields;
 use std::alloc::Global;
-use x509_cert_lists::{Extensions, Name, SubjectPublicKeyInfo};
+use x509_cert_anchors::{Extensions, Name, SubjectPublicKeyInfoRef, TbsCertificate};
 
 /// Which names and which extensions a certificate has that is made.
 ///
 /// Want of memory and the profile's own refusals aside, each answer is a function of what is handed in.
 pub trait BuilderProfile {
-    ghost use Rattle.std.specs.Prelude.{◌≡◌, List, IfOk};
-    ghost use Rattle.x509_cert_lists.specs.Parts.{PlainExtension, PlainName, PublicKey, extensions_plain, key_plain, name_plain};
-    ghost use Rattle.x509_cert_builders.specs.SignedParts.{PlainFields, fields_plain};
+    ghost use Rattle.std.specs.Prelude.{◌≡◌, ◌⊎◌, List, IfOk, IfErr};
+    ghost use Rattle.x509_cert_builders.specs.declared.error.Error.{Error};
+    ghost use Rattle.x509_cert_builders.specs.Refusals.{IsWantOfMemory};
+    ghost use Rattle.x509_cert_anchors.specs.Certificates.{Tbs, tbs_plain};
+    ghost use Rattle.x509_cert_anchors.specs.Parts.{PlainExtension, PlainName, PublicKey, extensions_plain, name_plain};
 
     // The issuer's name, of the subject's.
     ghost issuer_name: { Self → PlainName → PlainName };
@@ -19,33 +21,41 @@ pub trait BuilderProfile {
     // The subject's name.
     ghost subject_name: { Self → PlainName };
 
-    // The extensions, of the certified key, the issuer's key, and what else is settled.
-    ghost extensions: { Self → PublicKey → PublicKey → PlainFields → List PlainExtension };
+    // The extensions, of the certified key, the issuer's key, and the part that is to be signed, without any.
+    ghost extensions: { Self → PublicKey → PublicKey → Tbs → List PlainExtension };
+
+    // Why it may refuse, besides want of memory.
+    ghost refuses: { Self → Error → Type 0 };
 
     /// The issuer's name.
     ///
     /// # Errors
     /// Those of the profile, and want of memory.
     fn get_issuer(&self, alloc: Global, subject: &Name) -> Result<Name, Error>
-        ensures { IfOk result (λ n. name_plain n ≡ issuer_name self.now (name_plain subject.now)) };
+        ensures name { IfOk result (λ n. name_plain n ≡ issuer_name self.now (name_plain subject.now)) }
+        ensures refused { IfErr result (λ e. IsWantOfMemory e ⊎ refuses self.now e) };
 
     /// The subject's name.
     ///
     /// # Errors
     /// Those of the profile, and want of memory.
     fn get_subject(&self, alloc: Global) -> Result<Name, Error>
-        ensures { IfOk result (λ n. name_plain n ≡ subject_name self.now) };
+        ensures name { IfOk result (λ n. name_plain n ≡ subject_name self.now) }
+        ensures refused { IfErr result (λ e. IsWantOfMemory e ⊎ refuses self.now e) };
 
-    /// The extensions that the profile adds, in their order.
+    /// The extensions that the profile adds, in their order. A builder hands in the part that is to be signed, of version 3 and without
+    /// extensions.
     ///
     /// # Errors
     /// Those of the profile, and want of memory.
-    fn build_extensions(
+    fn build_extensions<'a, 'b>(
         &self,
         alloc: Global,
-        key: &SubjectPublicKeyInfo,
-        issuer_key: &SubjectPublicKeyInfo,
-        fields: &CertificateFields,
+        spk: &SubjectPublicKeyInfoRef<'a>,
+        issuer_spk: &SubjectPublicKeyInfoRef<'b>,
+        tbs: &TbsCertificate,
     ) -> Result<Extensions, Error>
-        ensures { IfOk result (λ v. extensions_plain v.items ≡ extensions self.now (key_plain key.now) (key_plain issuer_key.now) (fields_plain fields.now)) };
+        ensures made { IfOk result (λ v. extensions_plain v.items
+            ≡ extensions self.now (⟦<SubjectPublicKeyInfoRef<'a> as Fields>⟧.fields_plain spk.now) (⟦<SubjectPublicKeyInfoRef<'b> as Fields>⟧.fields_plain issuer_spk.now) (tbs_plain tbs.now)) }
+        ensures refused { IfErr result (λ e. IsWantOfMemory e ⊎ refuses self.now e) };
 }

@@ -1,27 +1,28 @@
 //! Builders of certificates.
 
-ghost use Rattle.std.specs.Prelude.{◌≡◌, ◌++◌, ◌∷◌, [], None, IfOk, IfErr, OnOk, OnErr};
-ghost use Rattle.x509_cert_lists.specs.Certificates.{certificate_plain, outer_algorithm, signature_bits};
-ghost use Rattle.x509_cert_lists.specs.Parts.{algorithm_plain, extension_plain, key_plain, name_plain, validity_plain};
-ghost use Rattle.x509_cert_builders.specs.SignedParts.{signed_octets};
-ghost use Rattle.x509_cert_builders.specs.States.{octets_in_place};
+ghost use Rattle.std.specs.Prelude.{◌≡◌, ◌⊎◌, ◌++◌, ◌∷◌, [], None, IfOk, IfErr, OnOk, OnErr};
+ghost use Rattle.der_core_head.specs.Grammar.{plain_option};
+ghost use Rattle.x509_cert_anchors.specs.Certificates.{certificate_plain, outer_algorithm, signature_bits, tbs_plain, tbs_public_key};
+ghost use Rattle.x509_cert_anchors.specs.Parts.{extensions_plain, key_plain, validity_plain};
+ghost use Rattle.x509_cert_builders.specs.SignedParts.{HasNoOctets, bare_part, signed_octets};
+ghost use Rattle.x509_cert_builders.specs.States.{algorithm_of_last, octets_in_place};
+ghost use Rattle.x509_cert_builders.specs.Refusals.{IsWantOfMemory};
 
 use crate::added_extensions::joined;
-use crate::assembled::Assembled;
-use crate::builder::{Builder, Finalized};
+use crate::builder::Builder;
 use crate::builder_profile::BuilderProfile;
-use crate::certificate_fields::CertificateFields;
 use crate::error::Error;
-use crate::signed_part::SignedPart;
+use crate::identifiers::no_algorithm;
+use crate::signed_part::{complete, lay_bare, take_extensions};
 use crate::signer::Signer;
-use der_core::{ErrorKind, InRangeValue, from_der, to_der};
+use der_core::{ErrorKind, to_der};
 use rand_core::CryptoRng;
 use std::alloc::Global;
 use std::marker::Model;
-use x509_cert_lists::laws::signed_part_stands_in_place;
-use x509_cert_lists::{
-    AnyRef, BitString, Certificate, Extensions, Name, SerialNumber, SubjectPublicKeyInfo,
-    ToExtension, Validity,
+use x509_cert_anchors::laws::signed_part_stands_in_place;
+use x509_cert_anchors::{
+    AlgorithmIdentifier, BitString, Certificate, Extensions, SerialNumber, SubjectPublicKeyInfo,
+    TbsCertificate, ToExtension, Validity, Version,
 };
 
 /// A builder of certificates (RFC 5280 4.1), whose names and extensions its profile tells. Extensions that are added stand before
@@ -31,9 +32,16 @@ use x509_cert_lists::{
 #[derive(Drop)]
 pub struct CertificateBuilder<P> {
     profile: P,
-    fields: CertificateFields,
+    part: TbsCertificate,
     extensions: Extensions,
     finalized: Option<Finalized>,
+}
+
+/// What the part that was made last has besides what is settled: the algorithm by which it is signed, and its extensions.
+#[derive(Drop)]
+struct Finalized {
+    algorithm: AlgorithmIdentifier,
+    extensions: Extensions,
 }
 
 impl<P> Model for CertificateBuilder<P> {
@@ -56,7 +64,7 @@ impl<P: BuilderProfile + Drop> CertificateBuilder<P> {
         validity: Validity,
         subject_public_key_info: SubjectPublicKeyInfo,
     ) -> Result<CertificateBuilder<P>, Error>
-        ensures { IfOk result (λ b. b ≡ record {
+        ensures made { IfOk result (λ b. b ≡ record {
           profile = profile;
           fields = record {
             serial = serial_number;
@@ -68,19 +76,25 @@ impl<P: BuilderProfile + Drop> CertificateBuilder<P> {
           added = [];
           finalized = None;
         }) }
+        ensures refused { IfErr result (λ e. IsWantOfMemory e ⊎ P.refuses profile e) }
     {
         let subject = profile.get_subject(alloc)?;
         let issuer = profile.get_issuer(alloc, &subject)?;
-        let fields = CertificateFields {
+        let part = TbsCertificate {
+            version: Version::V3,
             serial_number,
+            signature: no_algorithm(),
             issuer,
             validity,
             subject,
             subject_public_key_info,
+            issuer_unique_id: None,
+            subject_unique_id: None,
+            extensions: None,
         };
         Ok(CertificateBuilder {
             profile,
-            fields,
+            part,
             extensions: Vec::new(alloc),
             finalized: None,
         })
@@ -98,42 +112,42 @@ impl<P: BuilderProfile + Drop> CertificateBuilder<P> {
         ensures added { OnOk result (self.new ≡ record self.old { added = self.old.added ++ E.made extension self.old.fields.subject self.old.added ∷ [] }) }
         ensures kept { OnErr result (self.new ≡ self.old) }
     {
-        let made = extension.to_extension(alloc, &self.fields.subject, self.extensions.as_slice())?;
+        let made = extension.to_extension(alloc, &self.part.subject, self.extensions.as_slice())?;
         match self.extensions.push(made) {
             Ok(()) => Ok(()),
             Err(error) => Err(E::Error::from(der_core::Error::from(error))),
         }
     }
+}
 
-    /// What is signed by a signer of this key and algorithm.
-    fn part_for<S: Signer>(&self, alloc: Global, signer: &S) -> Result<Finalized, Error>
-        ensures octets { IfOk result (λ f. f.octets.items ≡ signed_octets self.now.fields (S.signs_by signer.now)
-            (self.now.added ++ P.extensions self.now.profile self.now.fields.key (S.public_key signer.now) self.now.fields)) }
-        ensures algorithm { IfOk result (λ f. algorithm_plain f.algorithm ≡ S.signs_by signer.now) }
-    {
-        let fields = &self.fields;
-        let key = &fields.subject_public_key_info;
-        let more = self
-            .profile
-            .build_extensions(alloc, key, signer.key_info(), fields)?;
-        let extensions = joined(alloc, self.extensions.as_slice(), more)?;
-        let algorithm = signer.algorithm().clone(alloc)?;
-        let part = SignedPart {
-            fields,
-            algorithm: &algorithm,
-            extensions: &extensions,
-        };
-        let octets = to_der(alloc, &part)?;
-        Ok(Finalized { algorithm, octets })
-    }
+/// The extensions that a profile adds to a part, of this signer.
+fn profiled<P: BuilderProfile, S: Signer>(
+    alloc: Global,
+    profile: &P,
+    part: &TbsCertificate,
+    signer: &S,
+) -> Result<Extensions, Error>
+    ensures made { IfOk result (λ v. extensions_plain v.items ≡ P.extensions profile.now (tbs_public_key (tbs_plain part.now)) (S.public_key signer.now) (tbs_plain part.now)) }
+    ensures refused { IfErr result (λ e. IsWantOfMemory e ⊎ P.refuses profile.now e) }
+{
+    let key = part.subject_public_key_info.owned_to_ref();
+    let issuer_key = signer.key_info().owned_to_ref();
+    let more = profile.build_extensions(alloc, &key, &issuer_key, part)?;
+    Ok(more)
 }
 
 impl<P: BuilderProfile + Drop> Builder for CertificateBuilder<P> {
     type Output = Certificate;
 
-    ghost to_sign = { λ b key algorithm. signed_octets b.fields algorithm (b.added ++ P.extensions b.profile b.fields.key key b.fields) };
+    ghost to_sign = { λ b key algorithm. signed_octets b.fields algorithm (b.added ++ P.extensions b.profile b.fields.key key (bare_part b.fields algorithm)) };
 
-    ghost finalized = { λ b. b.finalized };
+    // The profile refuses, or a length passes what can be counted.
+    ghost faults = { λ b key algorithm e. P.refuses b.profile e ⊎ HasNoOctets b.fields algorithm (b.added ++ P.extensions b.profile b.fields.key key (bare_part b.fields algorithm)) };
+
+    ghost finalized = { λ b. plain_option (λ f. f.1) b.finalized };
+
+    // A certificate bears the algorithm of its signed part (RFC 5280 4.1.1.2).
+    ghost algorithm_for = { λ b a. algorithm_of_last b.finalized a };
 
     ghost signed_octets = { λ c. octets_in_place (certificate_plain c) };
 
@@ -141,10 +155,19 @@ impl<P: BuilderProfile + Drop> Builder for CertificateBuilder<P> {
 
     ghost bits = { λ c. signature_bits (certificate_plain c) };
 
+    #[tactic(auto, using(crate::proofs::Lists::listed_back))]
     fn finalize<S: Signer>(&mut self, alloc: Global, signer: &S) -> Result<Vec<u8>, Error> {
-        let part = self.part_for(alloc, signer)?;
-        let octets = part.octets.as_slice().to_vec(alloc)?;
-        self.finalized = Some(part);
+        let algorithm = signer.algorithm().clone(alloc)?;
+        lay_bare(&mut self.part, algorithm.clone(alloc)?);
+        let more = profiled(alloc, &self.profile, &self.part, signer)?;
+        let extensions = joined(alloc, self.extensions.as_slice(), more)?;
+        complete(&mut self.part, extensions);
+        let octets = to_der(alloc, &self.part)?;
+        let extensions = take_extensions(alloc, &mut self.part);
+        self.finalized = Some(Finalized {
+            algorithm,
+            extensions,
+        });
         Ok(octets)
     }
 
@@ -154,11 +177,22 @@ impl<P: BuilderProfile + Drop> Builder for CertificateBuilder<P> {
         signature: BitString,
         _signer: &S,
     ) -> Result<Certificate, Error> {
-        let Some(part) = &self.finalized else {
+        let CertificateBuilder {
+            mut part,
+            finalized,
+            ..
+        } = self;
+        let Some(finalized) = finalized else {
             return Err(Error::Asn1(der_core::Error::from(ErrorKind::Failed)));
         };
-        let certificate = certificate_of(alloc, part, &signature)?;
-        Ok(certificate)
+        lay_bare(&mut part, finalized.algorithm.clone(alloc)?);
+        complete(&mut part, finalized.extensions);
+        signed_part_stands_in_place();
+        Ok(Certificate {
+            tbs_certificate: part,
+            signature_algorithm: finalized.algorithm,
+            signature,
+        })
     }
 
     fn build<S: Signer>(mut self, alloc: Global, signer: &S) -> Result<Certificate, Error> {
@@ -179,27 +213,4 @@ impl<P: BuilderProfile + Drop> Builder for CertificateBuilder<P> {
         let certificate = self.assemble(alloc, signature, signer)?;
         Ok(certificate)
     }
-}
-
-/// The certificate of a signed part and a signature, whose octets are these, one after the other.
-fn certificate_of(
-    alloc: Global,
-    part: &Finalized,
-    signature: &BitString,
-) -> Result<Certificate, Error>
-    ensures octets { IfOk result (λ c. octets_in_place (certificate_plain c) ≡ part.now.octets.items) }
-    ensures signature { IfOk result (λ c. signature_bits (certificate_plain c) ≡ signature.now) }
-    ensures algorithm { IfOk result (λ c. outer_algorithm (certificate_plain c) ≡ algorithm_plain part.now.algorithm) }
-{
-    let signed: AnyRef<'_> = from_der(alloc, part.octets.as_slice())?;
-    let whole = Assembled {
-        signed,
-        algorithm: &part.algorithm,
-        signature,
-    };
-    whole.value_in_range();
-    let octets = to_der(alloc, &whole)?;
-    let certificate = Certificate::from_der(alloc, octets.as_slice())?;
-    signed_part_stands_in_place();
-    Ok(certificate)
 }

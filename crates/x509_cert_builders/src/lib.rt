@@ -2,28 +2,42 @@
 #![tactic(auto)]
 
 mod added_extensions;
-mod assembled;
 mod attribute_types;
 mod builder;
 mod builder_profile;
 mod certificate_builder;
-mod certificate_fields;
+mod certificate_type;
+mod dev_id;
+mod domain_validated;
 mod error;
-mod key_identifiers;
+mod identifiers;
 mod naming;
 mod root;
 mod sign_error;
 mod signed_part;
 mod signer;
-mod version_field;
+mod subordinate;
+mod subscriber;
+mod tls12_options;
+mod tpm_version;
+mod uses;
 
 pub use builder::Builder;
 pub use builder_profile::BuilderProfile;
 pub use certificate_builder::CertificateBuilder;
-pub use certificate_fields::CertificateFields;
+pub use certificate_type::CertificateType;
+pub use dev_id::DevId;
+pub use domain_validated::DomainValidated;
 pub use error::Error;
-pub use key_identifiers::TryFromKey;
+pub use identifiers::{tcg_sv_tpm_12, tcg_sv_tpm_20};
 pub use naming::{ca_certificate_naming, check_names_encoding};
 pub use root::Root;
 pub use sign_error::SignError;
 pub use signer::Signer;
+pub use subordinate::Subordinate;
+pub use subscriber::Subscriber;
+pub use tls12_options::Tls12Options;
+pub use tpm_version::TpmVersion;
+
+// What they make, and of what.
+pub use x509_cert_anchors as types;

@@ -1,21 +1,17 @@
 //! Roots.
 
 ghost use Rattle.std.specs.Prelude.{◌≡◌, IfOk};
-ghost use Rattle.x509_cert_lists.specs.Parts.{name_plain};
+ghost use Rattle.x509_cert_anchors.specs.Parts.{name_plain};
 ghost use Rattle.x509_cert_builders.specs.Naming.{NamesAuthority};
-ghost use Rattle.x509_cert_builders.specs.Profiles.{authority_uses, root_extensions};
+ghost use Rattle.x509_cert_builders.specs.Profiles.{root_extensions};
 
-use crate::added_extensions::add;
+use crate::added_extensions::{add_authority, add_constraints, add_identifier, add_usage};
 use crate::builder_profile::BuilderProfile;
-use crate::certificate_fields::CertificateFields;
 use crate::error::Error;
-use crate::key_identifiers::TryFromKey;
 use crate::naming::ca_certificate_naming;
+use crate::uses::authority_usage;
 use std::alloc::Global;
-use x509_cert_lists::{
-    AuthorityKeyIdentifier, BasicConstraints, Extensions, FlagSet, KeyUsage, KeyUsages, Name,
-    SubjectKeyIdentifier, SubjectPublicKeyInfo,
-};
+use x509_cert_anchors::{Extensions, Name, SubjectPublicKeyInfoRef, TbsCertificate};
 
 /// The certificate of an authority that signed it itself (CA/Browser Forum, Baseline Requirements 7.1.2.1).
 #[derive(Drop)]
@@ -43,24 +39,14 @@ impl Root {
     }
 }
 
-/// What an authority's key is for: it signs certificates and lists, and maybe answers about the state of certificates.
-pub(crate) fn authority_usage(emits_ocsp_response: bool) -> KeyUsage
-    ensures { result.0.flags.0 ≡ authority_uses emits_ocsp_response }
-{
-    let certificates = FlagSet::from_flag(KeyUsages::KEY_CERT_SIGN);
-    let uses = certificates.union(FlagSet::from_flag(KeyUsages::CRL_SIGN));
-    if emits_ocsp_response {
-        return KeyUsage(uses.union(FlagSet::from_flag(KeyUsages::DIGITAL_SIGNATURE)));
-    }
-    KeyUsage(uses)
-}
-
 impl BuilderProfile for Root {
     ghost issuer_name = { λ _ subject. subject };
 
     ghost subject_name = { λ root. name_plain root.subject };
 
     ghost extensions = { λ root key _ _. root_extensions root.emits_ocsp_response key };
+
+    ghost refuses = { λ _ _. ⊥ };
 
     fn get_issuer(&self, alloc: Global, subject: &Name) -> Result<Name, Error> {
         let issuer = subject.clone(alloc)?;
@@ -72,26 +58,20 @@ impl BuilderProfile for Root {
         Ok(subject)
     }
 
-    fn build_extensions(
+    fn build_extensions<'a, 'b>(
         &self,
         alloc: Global,
-        key: &SubjectPublicKeyInfo,
-        _issuer_key: &SubjectPublicKeyInfo,
-        fields: &CertificateFields,
+        spk: &SubjectPublicKeyInfoRef<'a>,
+        _issuer_spk: &SubjectPublicKeyInfoRef<'b>,
+        tbs: &TbsCertificate,
     ) -> Result<Extensions, Error> {
-        let subject = &fields.subject;
+        let subject = &tbs.subject;
         let mut extensions = Vec::new(alloc);
-        let authority = AuthorityKeyIdentifier::try_from_key(alloc, key)?;
-        add(alloc, &mut extensions, subject, &authority)?;
-        let constraints = BasicConstraints {
-            ca: true,
-            path_len_constraint: None,
-        };
-        add(alloc, &mut extensions, subject, &constraints)?;
+        add_authority(alloc, &mut extensions, subject, spk)?;
+        add_constraints(alloc, &mut extensions, subject, true, None)?;
         let usage = authority_usage(self.emits_ocsp_response);
-        add(alloc, &mut extensions, subject, &usage)?;
-        let identifier = SubjectKeyIdentifier::try_from_key(alloc, key)?;
-        add(alloc, &mut extensions, subject, &identifier)?;
+        add_usage(alloc, &mut extensions, subject, usage)?;
+        add_identifier(alloc, &mut extensions, subject, spk)?;
         Ok(extensions)
     }
 }

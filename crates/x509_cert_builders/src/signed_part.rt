@@ -1,136 +1,63 @@
-//! The part of a certificate that is signed, as a builder lends it.
+//! The part of a certificate that is signed, while it is made.
 
-ghost use Rattle.std.specs.Prelude.{◌≡◌, true};
+ghost use Rattle.std.specs.Prelude.{◌≡◌};
 ghost use Rattle.der_core_head.specs.Grammar.{plain_option};
-ghost use Rattle.der_core_head.specs.declared.tag.Tag.TheVariants.{Sequence};
-ghost use Rattle.der_core_head.specs.Shapes.{nested};
-ghost use Rattle.x509_cert_lists.specs.Certificates.{tbs_by};
-ghost use Rattle.x509_cert_lists.specs.Parts.{extensions_plain, validity_plain};
-ghost use Rattle.x509_cert_builders.specs.SignedParts.{part_plain, tbs_fields, has_any, listed};
+ghost use Rattle.x509_cert_anchors.specs.Certificates.{tbs_inner_algorithm, tbs_plain};
+ghost use Rattle.x509_cert_anchors.specs.Parts.{algorithm_plain, extensions_plain, version_number};
+ghost use Rattle.x509_cert_builders.specs.SignedParts.{bare_part, extensions_in, fields_of, has_any, listed, signed_part, version_of};
 
-use crate::certificate_fields::CertificateFields;
-use crate::version_field::VersionField;
-use der_core::{
-    EncodeFields, EncodeRef, EncodeValue, Error, Explicit, FixedTag, Implicit, Length, ShapedValue,
-    Tag, WithDefault, Writer,
-};
-use x509_cert_lists::{AlgorithmIdentifier, BitString, Extensions, Rfc5280, Validity};
+use std::alloc::Global;
+use x509_cert_anchors::{AlgorithmIdentifier, Extensions, TbsCertificate, Version};
 
-/// The part of a certificate that is signed (RFC 5280 4.1.2), lent: its version is 3 where there are extensions, and else 1, since it
-/// has no unique identifiers. Its dates are written as RFC 5280 has them.
-///
-/// ```text
-/// TBSCertificate ::= SEQUENCE {
-///     version               [0] EXPLICIT Version DEFAULT v1,
-///     serialNumber          CertificateSerialNumber,
-///     signature             AlgorithmIdentifier,
-///     issuer                Name,
-///     validity              Validity,
-///     subject               Name,
-///     subjectPublicKeyInfo  SubjectPublicKeyInfo,
-///     issuerUniqueID        [1] IMPLICIT UniqueIdentifier OPTIONAL,
-///     subjectUniqueID       [2] IMPLICIT UniqueIdentifier OPTIONAL,
-///     extensions            [3] EXPLICIT Extensions OPTIONAL }
-/// ```
-#[derive(Drop)]
-pub(crate) struct SignedPart<'a> {
-    pub(crate) fields: &'a CertificateFields,
-    pub(crate) algorithm: &'a AlgorithmIdentifier,
-    pub(crate) extensions: &'a Extensions,
+/// Makes the part what a profile is handed: of version 3, by this algorithm, and without extensions. Unique identifiers are never made
+/// (RFC 5280 4.1.2.8).
+pub(crate) fn lay_bare(part: &mut TbsCertificate, algorithm: AlgorithmIdentifier)
+    ensures { tbs_plain part.new ≡ bare_part (fields_of (tbs_plain part.old)) (algorithm_plain algorithm) }
+{
+    part.version = Version::V3;
+    part.signature = algorithm;
+    part.issuer_unique_id = None;
+    part.subject_unique_id = None;
+    part.extensions = None;
 }
 
-/// The fields that may be absent at the end.
-type Last<'a> = (
-    Option<Implicit<BitString, 1>>,
-    (
-        Option<Implicit<BitString, 2>>,
-        (Option<Explicit<EncodeRef<'a, Extensions>, 3>>, ()),
-    ),
-);
-
-impl<'a> SignedPart<'a> {
-    /// Its version.
-    fn version(&self) -> WithDefault<VersionField>
-        ensures { result.value.is_third ≡ has_any (extensions_plain self.now.extensions.now.items) }
-    {
-        let is_third = !self.extensions.is_empty();
-        WithDefault {
-            value: VersionField { is_third },
-        }
+/// The extensions, where there is one (4.1.2.9).
+fn listed(extensions: Extensions) -> Option<Extensions>
+    ensures { plain_option (λ v. extensions_plain v.items) result ≡ listed (extensions_plain extensions.items) }
+{
+    if extensions.is_empty() {
+        return None;
     }
-
-    /// From when until when it is valid. The profile says how dates are written.
-    fn validity(&self) -> Validity<Rfc5280>
-        ensures { validity_plain result ≡ validity_plain self.now.fields.now.validity }
-    {
-        self.fields.validity
-    }
-
-    /// Its extensions, behind their tag.
-    fn extensions(&self) -> Option<Explicit<EncodeRef<'a, Extensions>, 3>>
-        ensures { plain_option (λ f. extensions_plain f.value.0.now.items) result ≡ listed (extensions_plain self.now.extensions.now.items) }
-    {
-        if self.extensions.is_empty() {
-            return None;
-        }
-        Some(Explicit {
-            value: EncodeRef(self.extensions),
-        })
-    }
+    Some(extensions)
 }
 
-impl<'a> FixedTag for SignedPart<'a> {
-    ghost fixed_tag = { Sequence };
-
-    fn tag() -> Tag
-        ensures { result ≡ Sequence }
-    {
-        Tag::Sequence
+/// The version of a part of so many extensions (4.1.2.1).
+fn version_for(extensions: &Extensions) -> Version
+    ensures { version_number result ≡ version_of (has_any (extensions_plain extensions.now.items)) }
+{
+    if extensions.is_empty() {
+        return Version::V1;
     }
+    Version::V3
 }
 
-impl<'a> ShapedValue for SignedPart<'a> {
-    ghost content = { nested tbs_fields };
-
-    ghost value_plain = { part_plain };
-
-    ghost value_written = { λ p. tbs_by true (part_plain p) };
+/// Puts the extensions into a part that was laid bare.
+pub(crate) fn complete(part: &mut TbsCertificate, extensions: Extensions)
+    ensures { tbs_plain part.new ≡ signed_part (fields_of (tbs_plain part.old)) (tbs_inner_algorithm (tbs_plain part.old)) (extensions_plain extensions.items) }
+{
+    part.version = version_for(&extensions);
+    part.issuer_unique_id = None;
+    part.subject_unique_id = None;
+    part.extensions = listed(extensions);
 }
 
-impl<'a> EncodeValue for SignedPart<'a> {
-    fn value_len(&self) -> Result<Length, Error> {
-        let fields = self.fields;
-        let last: Last<'_> = (None, (None, (self.extensions(), ())));
-        let behind = (
-            self.validity(),
-            (
-                EncodeRef(&fields.subject),
-                (EncodeRef(&fields.subject_public_key_info), last),
-            ),
-        );
-        let first = (
-            EncodeRef(self.algorithm),
-            (EncodeRef(&fields.issuer), behind),
-        );
-        let row = (self.version(), (EncodeRef(&fields.serial_number), first));
-        row.fields_len()
-    }
-
-    fn encode_value<W: Writer>(&self, writer: &mut W) -> Result<(), Error> {
-        let fields = self.fields;
-        let last: Last<'_> = (None, (None, (self.extensions(), ())));
-        let behind = (
-            self.validity(),
-            (
-                EncodeRef(&fields.subject),
-                (EncodeRef(&fields.subject_public_key_info), last),
-            ),
-        );
-        let first = (
-            EncodeRef(self.algorithm),
-            (EncodeRef(&fields.issuer), behind),
-        );
-        let row = (self.version(), (EncodeRef(&fields.serial_number), first));
-        row.encode_fields(writer)
+/// Takes the extensions out of a part again.
+pub(crate) fn take_extensions(alloc: Global, part: &mut TbsCertificate) -> Extensions
+    ensures taken { extensions_plain result.items ≡ extensions_in (tbs_plain part.old) }
+    ensures fields { fields_of (tbs_plain part.new) ≡ fields_of (tbs_plain part.old) }
+{
+    match part.extensions.take() {
+        Some(extensions) => extensions,
+        None => Vec::new(alloc),
     }
 }

@@ -3,7 +3,7 @@
 use crate::sign_error::SignError;
 use rand_core::CryptoRng;
 use std::alloc::Global;
-use x509_cert_lists::{AlgorithmIdentifier, BitString, SubjectPublicKeyInfo};
+use x509_cert_anchors::{AlgorithmIdentifier, BitString, SubjectPublicKeyInfo};
 
 /// A key that signs, wherever it is kept: in memory, in a device, behind a process.
 ///
@@ -12,7 +12,7 @@ use x509_cert_lists::{AlgorithmIdentifier, BitString, SubjectPublicKeyInfo};
 pub trait Signer {
     ghost use Rattle.std.specs.Prelude.{◌≡◌, ℕ, List, IfOk, IfErr};
     ghost use Rattle.der_core_head.specs.BitStrings.{Bits};
-    ghost use Rattle.x509_cert_lists.specs.Parts.{Algorithm, PublicKey, algorithm_plain, key_plain};
+    ghost use Rattle.x509_cert_anchors.specs.Parts.{Algorithm, PublicKey, algorithm_plain, key_plain};
     ghost use Rattle.x509_cert_builders.specs.declared.sign_error.SignError.TheVariants.{Refused};
 
     /// The key under which the bits are judged.

@@ -1,0 +1,56 @@
+//! A signer of digests.
+
+use rand_core::CryptoRng;
+use sha2::{Digest, Sha256};
+use std::alloc::Global;
+use x509_cert_list_builders::types::{AlgorithmIdentifier, BitString, SubjectPublicKeyInfo};
+use x509_cert_list_builders::{SignError, Signer};
+
+/// A signer whose bits are the SHA-256 digest of its key's octets and the signed ones. It protects nothing.
+#[derive(Drop)]
+pub struct DigestSigner {
+    pub key: SubjectPublicKeyInfo,
+    pub algorithm: AlgorithmIdentifier,
+}
+
+impl Signer for DigestSigner {
+    ghost use Rattle.std.specs.Prelude.{⊤};
+    ghost use Rattle.x509_cert_list_builders.specs.Parts.{algorithm_plain, key_plain};
+
+    ghost public_key = { λ s. key_plain s.key };
+
+    ghost signs_by = { λ s. algorithm_plain s.algorithm };
+
+    ghost signs = { λ _ _ _. ⊤ };
+
+    ghost may_refuse = { λ _ _. ⊥ };
+
+    fn key_info(&self) -> &SubjectPublicKeyInfo {
+        &self.key
+    }
+
+    fn algorithm(&self) -> &AlgorithmIdentifier {
+        &self.algorithm
+    }
+
+    fn sign(&self, alloc: Global, octets: &[u8]) -> Result<BitString, SignError> {
+        let mut hasher = Sha256::new();
+        hasher.update(self.key.subject_public_key.raw_bytes());
+        hasher.update(octets);
+        let digest = hasher.finalize().as_slice().to_vec(alloc)?;
+        match BitString::from_bytes(digest) {
+            Ok(bits) => Ok(bits),
+            Err(_) => Err(SignError::OutOfMemory),
+        }
+    }
+
+    fn sign_with_rng<R: CryptoRng>(
+        &self,
+        alloc: Global,
+        _rng: &mut R,
+        octets: &[u8],
+    ) -> Result<BitString, SignError> {
+        let bits = self.sign(alloc, octets)?;
+        Ok(bits)
+    }
+}

@@ -1,0 +1,91 @@
+//! Why a question has no other answer.
+
+use der_core::ErrorKind;
+use hex::FromHexError;
+use std::alloc::{AllocError, AllocFailed};
+use std::fmt;
+use std::str::Utf8Error;
+use x509_cert_list_builders::{Error, SignError};
+
+/// Why a question has no other answer.
+#[derive(Drop)]
+pub enum Refusal {
+    /// It is none.
+    Unread,
+    /// Want of memory.
+    Memory,
+    /// What was made first isn't made again.
+    Changed,
+    /// A fault in DER, or of the builder.
+    Refused(Error),
+}
+
+impl From<Error> for Refusal {
+    fn from(error: Error) -> Refusal {
+        match error {
+            Error::Asn1(error) => Refusal::from(error),
+            error => Refusal::Refused(error),
+        }
+    }
+}
+
+impl From<SignError> for Refusal {
+    fn from(error: SignError) -> Refusal {
+        Refusal::Refused(Error::Signature(error))
+    }
+}
+
+impl From<der_core::Error> for Refusal {
+    fn from(error: der_core::Error) -> Refusal {
+        match error.kind {
+            ErrorKind::OutOfMemory => Refusal::Memory,
+            _ => Refusal::Refused(Error::Asn1(error)),
+        }
+    }
+}
+
+impl From<FromHexError> for Refusal {
+    fn from(error: FromHexError) -> Refusal {
+        match error {
+            FromHexError::OutOfMemory => Refusal::Memory,
+            _ => Refusal::Unread,
+        }
+    }
+}
+
+impl From<AllocError> for Refusal {
+    fn from(_error: AllocError) -> Refusal {
+        Refusal::Memory
+    }
+}
+
+impl<T: Drop> From<AllocFailed<T>> for Refusal {
+    fn from(_error: AllocFailed<T>) -> Refusal {
+        Refusal::Memory
+    }
+}
+
+impl From<Utf8Error> for Refusal {
+    fn from(_error: Utf8Error) -> Refusal {
+        Refusal::Unread
+    }
+}
+
+impl fmt::Display for Refusal {
+    fn fmt<W: fmt::Write>(&self, f: &mut fmt::Formatter<W>) -> fmt::Result {
+        match self {
+            Refusal::Unread => f.write_str("?"),
+            Refusal::Memory => f.write_str("memory"),
+            Refusal::Changed => f.write_str("changed"),
+            Refusal::Refused(Error::Asn1(error)) => write!(f, "refused {:?}", error.kind),
+            Refusal::Refused(Error::Signature(error)) => write!(f, "refused {error:?}"),
+            Refusal::Refused(Error::NonUniqueRdn) => f.write_str("refused NonUniqueRdn"),
+            Refusal::Refused(Error::NonUniqueATV) => f.write_str("refused NonUniqueATV"),
+            Refusal::Refused(Error::InvalidAttribute { oid }) => {
+                write!(f, "refused InvalidAttribute {oid}")
+            }
+            Refusal::Refused(Error::MissingAttributes) => f.write_str("refused MissingAttributes"),
+            Refusal::Refused(Error::Unsupported) => f.write_str("refused Unsupported"),
+        }
+    }
+}

@@ -1,0 +1,149 @@
+-- The contents that profiles put into extensions have encodings.
+use Rattle.std.proofs.Common.{◌≡◌, ◌+◌, ◌++◌, ℕ, suc, ◌<◌, ◌≤◌, ◌%◌, List, [], ◌∷◌, Bool, true, false, Option, Some, None, length, refl, sym, subst, arith}
+use Rattle.std.specs.Prelude.{⊤, pos, ◌==◌, nat_lt, map, reverse, if◌then◌else◌}
+use Rattle.std.specs.Int.{reverse_bits, w8}
+use Rattle.std.proofs.lemmas.Bool.{lt-ltb}
+use Rattle.std.proofs.lemmas.List.{length-append, length-map, length-reverse}
+use Rattle.const_oid_identifiers.specs.Bound.{Bound}
+use Rattle.const_oid_identifiers.specs.IdentifierOctets.{IsIdentifier, identifier_octets, arc_octets}
+use Rattle.const_oid_identifiers.specs.Digits.{digits, digits_within, marked}
+use Rattle.der_core_head.proofs.LengthForms.{length-digits-le}
+use Rattle.der_core_head.specs.declared.tag.Tag.{Tag}
+use Rattle.der_core_head.specs.declared.tag.Tag.TheVariants as tags
+use Rattle.der_core_head.specs.Grammar.{plain_option}
+use Rattle.der_core_head.specs.Heads.{Fits, tlv, head_octets, length_octets}
+use Rattle.der_core_head.specs.Integers.{unsigned, integer_octets, positive}
+use Rattle.der_core_head.specs.Leaves.{boolean, integer, named}
+use Rattle.der_core_head.specs.NamedBits.{named_octets, set_octets}
+use Rattle.der_core_head.specs.Octets.{IsOctets}
+use Rattle.der_core_head.specs.Shapes.{Value, leaf, tagged, defaulted, sequence, sequence_of, octets_of, contents, body_octets, IsValid, IsContent, IsBody, unless}
+use Rattle.der_core_head.specs.Tags.{tag_octets, context}
+use Rattle.sha1.specs.Sha1.{sha1, digest_bytes}
+use Rattle.x509_cert_anchors.specs.Parts.{arc_bound, authority_key_identifier_fields, basic_constraints_fields, false_by_default, object_identifier, octet_string, number_of}
+use Rattle.x509_cert_builders.specs.Profiles.{id_kp, purposes}
+
+digest_length : (m : List ℕ) → length (sha1 m) ≡ 20
+unfolding sha1 digest_bytes
+digest_length m = refl
+
+below : (n : ℕ) → n % 256 < 256
+below n = omega arith
+
+digest_octets : (m : List ℕ) → IsOctets (sha1 m)
+unfolding sha1 digest_bytes
+digest_octets m = (below _, (below _, (below _, (below _, (below _, (below _, (below _, (below _, (below _, (below _, (below _, (below _, (below _, (below _, (below _, (below _, (below _, (below _, (below _, (below _, tt))))))))))))))))))))
+
+key_fits : (w : List ℕ) → IsOctets w → length w ≡ 20 → IsValid octet_string w
+unfolding IsValid IsContent tlv head_octets length_octets tag_octets contents
+key_fits w o e = (o, omega arith, rw e omega arith)
+
+none_valid : (ca : Bool) → IsValid (sequence basic_constraints_fields) (ca, (None, tt))
+unfolding IsValid IsContent IsBody tlv head_octets length_octets tag_octets contents body_octets octets_of unless
+none_valid true = (((tt, omega arith, omega arith), (tt, tt)), omega arith, omega arith)
+none_valid false = (((tt, omega arith, omega arith), (tt, tt)), omega arith, omega arith)
+
+-- a short content fits behind its header
+small : (t : Tag) (c : List ℕ) → length (tag_octets t) ≤ 5 → length c < 128 → Fits (tlv t c)
+unfolding tlv head_octets length_octets
+small t c h l =
+    rw (lt-ltb (length c) 128 l) (omega (arith, h, l, length-append (tag_octets t) (length c ∷ []), length-append (tag_octets t ++ length c ∷ []) c))
+
+short_tlv : (t : Tag) (c : List ℕ) → length c < 128 → length (tlv t c) ≡ length (tag_octets t) + 1 + length c
+unfolding tlv head_octets length_octets
+short_tlv t c l =
+    rw (lt-ltb (length c) 128 l) (omega (arith, length-append (tag_octets t) (length c ∷ []), length-append (tag_octets t ++ length c ∷ []) c))
+
+authority_fits : (w : List ℕ) → IsOctets w → length w ≡ 20 → IsValid (sequence (authority_key_identifier_fields arc_bound)) (Some w, (None, (None, tt)))
+unfolding IsValid IsContent IsBody contents body_octets octets_of tag_octets
+authority_fits w o e =
+    let key = tlv (context false 0) w in
+    let long : length key ≡ 1 + 1 + length w = short_tlv (context false 0) w (omega (arith, e)) in (
+      ((o, omega arith, omega (arith, long, e)), (tt, (tt, tt))),
+      omega arith,
+      small tags.Sequence (key ++ []) (omega arith) (omega (arith, length-append key [], long, e)),
+    )
+
+few_octets : (n : ℕ) → n < 512 → length (set_octets n) ≤ 4
+unfolding set_octets
+few_octets n h = by (n == 0)
+  where
+    turned : List ℕ
+    turned = map (reverse_bits w8) (reverse (digits 256 n))
+
+    few : length turned ≤ 4
+    few = omega (arith, length-map (reverse (digits 256 n)) (reverse_bits w8), length-reverse (digits 256 n), length-digits-le n (omega (arith, h)))
+
+    by : (b : Bool) → length (if b then [] else turned) ≤ 4
+    by true = omega arith
+    by false = few
+
+pub use_valid : (n : ℕ) → n < 512 → IsValid (tagged tags.BitString (leaf (named 9))) n
+unfolding IsValid IsContent contents named_octets tag_octets
+use_valid n h = (h, omega arith, small tags.BitString (named_octets n) (omega arith) (omega (arith, few_octets n h)))
+
+short_positive : (w : List ℕ) → length (positive w) ≤ length w + 1
+short_positive [] = omega arith
+short_positive (d ∷ ds) = by (nat_lt d 128)
+  where
+    by : (b : Bool) → length (if b then d ∷ ds else 0 ∷ d ∷ ds) ≤ suc (length ds) + 1
+    by true = omega arith
+    by false = omega arith
+
+number_short : (n : ℕ) → n < 256 → length (integer_octets (pos n)) ≤ 5
+unfolding integer_octets
+number_short n h = omega (arith, short_positive (digits 256 n), length-digits-le n (omega (arith, h)))
+
+number_valid : (n : ℕ) → n < 256 → IsValid (number_of 8) (pos n)
+unfolding IsValid IsContent contents tag_octets
+number_valid n h = (h, omega arith, small tags.Integer (integer_octets (pos n)) (omega arith) (omega (arith, number_short n h)))
+
+short_number : (n : ℕ) → n < 256 → length (octets_of (number_of 8) (pos n)) ≤ 8
+unfolding octets_of contents tlv head_octets length_octets tag_octets
+short_number n h =
+    let few = number_short n h in
+    rw (lt-ltb (length (integer_octets (pos n))) 128 (omega (arith, few))) (omega (arith, few))
+
+short_fields : (ca : Bool) (path : List ℕ) → length path ≤ 8 → Fits (tlv tags.Sequence (octets_of false_by_default ca ++ (path ++ [])))
+unfolding octets_of contents tlv head_octets length_octets tag_octets unless
+short_fields true path h = small tags.Sequence (1 ∷ 1 ∷ 255 ∷ (path ++ [])) (omega arith) (omega (arith, length-append path [], h))
+short_fields false path h = small tags.Sequence (path ++ []) (omega arith) (omega (arith, length-append path [], h))
+
+bool_valid : (ca : Bool) → IsValid false_by_default ca
+unfolding IsValid IsContent contents tlv head_octets length_octets tag_octets
+bool_valid true = (tt, omega arith, omega arith)
+bool_valid false = (tt, omega arith, omega arith)
+
+path_valid : (ca : Bool) (n : ℕ) → n < 256 → IsValid (sequence basic_constraints_fields) (ca, (Some (pos n), tt))
+unfolding IsValid IsContent IsBody contents body_octets octets_of
+path_valid ca n h = ((bool_valid ca, (number_valid n h, tt)), omega arith, short_fields ca (octets_of (number_of 8) (pos n)) (short_number n h))
+
+-- a path length is below 256
+abbrev IsPath : Option ℕ → Type 0
+IsPath None = ⊤
+IsPath (Some n) = n < 256
+
+pub constraints_valid : (ca : Bool) (path : Option ℕ) → IsPath path → IsValid (sequence basic_constraints_fields) (ca, (plain_option (λ n. pos n) path, tt))
+constraints_valid ca None h = none_valid ca
+constraints_valid ca (Some n) h = path_valid ca n h
+
+first_purpose : IsValid (object_identifier arc_bound) (id_kp 1)
+unfolding IsValid IsContent tlv head_octets length_octets tag_octets contents IsIdentifier identifier_octets arc_octets digits digits_within marked Bound
+first_purpose = (((omega arith, omega arith, (omega arith, (omega arith, (omega arith, (omega arith, (omega arith, (omega arith, (omega arith, tt)))))))), omega arith), omega arith, omega arith)
+
+second_purpose : IsValid (object_identifier arc_bound) (id_kp 2)
+unfolding IsValid IsContent tlv head_octets length_octets tag_octets contents IsIdentifier identifier_octets arc_octets digits digits_within marked Bound
+second_purpose = (((omega arith, omega arith, (omega arith, (omega arith, (omega arith, (omega arith, (omega arith, (omega arith, (omega arith, tt)))))))), omega arith), omega arith, omega arith)
+
+pub purposes_valid : (clients : Bool) → IsValid (sequence_of (object_identifier arc_bound)) (purposes clients)
+unfolding IsValid IsContent IsBody tlv head_octets length_octets tag_octets contents body_octets octets_of identifier_octets arc_octets digits digits_within marked
+purposes_valid true = ((first_purpose, (second_purpose, tt)), omega arith, omega arith)
+purposes_valid false = ((first_purpose, tt), omega arith, omega arith)
+
+-- what holds a digest, and nothing else
+pub authority_valid : (m : List ℕ) (i : Value (sequence (authority_key_identifier_fields arc_bound)))
+    → i ≡ (Some (sha1 m), (None, (None, tt))) → IsValid (sequence (authority_key_identifier_fields arc_bound)) i
+authority_valid m i e =
+    subst (λ j. IsValid (sequence (authority_key_identifier_fields arc_bound)) j) (sym e) (authority_fits (sha1 m) (digest_octets m) (digest_length m))
+
+pub identifier_valid : (m w : List ℕ) → w ≡ sha1 m → IsValid octet_string w
+identifier_valid m w e = subst (λ v. IsValid octet_string v) (sym e) (key_fits (sha1 m) (digest_octets m) (digest_length m))

@@ -1,0 +1,7 @@
+use Rattle.der_core_head.specs.Grammar.{plain_list}
+use Rattle.x509_cert_anchors.specs.Parts.{name_plain, relative_plain}
+use Rattle.x509_cert_builders.proofs.Subjects.{IsLeft}
+use Rattle.x509_cert_builders.proofs.certificate_type.name_left.Given as goal
+
+abbrev pub invariant-loop-relative : goal.invariant-loop-relative
+invariant-loop-relative l = IsLeft (name_plain l.name) (plain_list relative_plain l.kept.relative_names.items) (plain_list relative_plain l.relative-iterator.left.now)

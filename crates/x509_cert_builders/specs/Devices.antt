@@ -1,0 +1,81 @@
+-- Devices that have an identity of their own (IEEE 802.1AR 8).
+use Rattle.std.specs.Prelude.{ℕ, List, [], ◌∷◌, length, ◌==◌, Bool, true, false, Option, Some, None, Result, Ok, Err, if◌then◌else◌}
+use Rattle.std.specs.List.{list_any}
+use Rattle.std.proofs.Common.{inl, inr}
+use Rattle.const_oid_identifiers.specs.Comparing.{owned_eq}
+use Rattle.der_core_head.specs.declared.error.ErrorKind.{ErrorKind}
+use Rattle.der_core_head.specs.declared.error.ErrorKind.TheVariants as kinds
+use Rattle.der_core_head.specs.declared.tag.Tag.TheVariants.{Sequence}
+use Rattle.der_core_head.specs.Grammar.{plain_list, plain_option}
+use Rattle.der_core_head.specs.Octets.{◌>>=◌}
+use Rattle.der_core_head.specs.Shapes.{BodyValue, Value, nested, sequence_of, IsValid}
+use Rattle.x509_cert_anchors.specs.Parts.{PlainName, PlainExtension, PublicKey, arc_bound, content_as, general_name, general_name_plain, hardware_module_name_fields, written_as}
+use Rattle.x509_cert_builders.specs.Profiles.{authority_key_extension, digital_signature, standard_extension, usage_extension}
+use Rattle.x509_cert_builders.specs.Refusals.{FailsAs}
+use Rattle.x509_cert_builders.specs.declared.error.Error.{Error}
+use Rattle.x509_cert_builders.specs.declared.dev_id.DevId.{DevId}
+use Rattle.x509_cert_builders.specs.declared.tpm_version.TpmVersion.{TpmVersion}
+use Rattle.x509_cert_builders.specs.declared.tpm_version.TpmVersion.TheVariants as versions
+
+abbrev pub PlainGeneralName : Type 0
+PlainGeneralName = Value (general_name 0)
+
+-- id-on-hardwareModuleName (RFC 4108 5)
+abbrev pub module_arcs : List ℕ
+module_arcs = 1 ∷ 3 ∷ 6 ∷ 1 ∷ 5 ∷ 5 ∷ 7 ∷ 8 ∷ 4 ∷ []
+
+-- whether a name is that of a module of hardware
+abbrev pub is_of_module : PlainGeneralName → Bool
+is_of_module (inl n) = owned_eq n.0 module_arcs
+is_of_module (inr n) = false
+
+-- whether a device may have these alternative names: where there are any, one is that of a module (IEEE 802.1AR 8.10.4)
+abbrev pub may_name : Option (List PlainGeneralName) → Bool
+may_name None = true
+may_name (Some names) = list_any is_of_module names
+
+abbrev pub PlainModule : Type 0
+PlainModule = BodyValue (hardware_module_name_fields 0)
+
+-- the module that a name of this kind holds, or its first fault; other names hold none
+abbrev pub module_of : PlainGeneralName → Result PlainModule ErrorKind
+module_of (inl n) = content_as Sequence (nested (hardware_module_name_fields arc_bound)) n.1.0
+module_of (inr n) = Err kinds.Failed
+
+-- the same of the first name of this kind
+abbrev pub first_module : List PlainGeneralName → Result PlainModule ErrorKind
+first_module [] = Err kinds.Failed
+first_module (n ∷ more) = if is_of_module n then module_of n else first_module more
+
+-- the first name of a module holds none, for this reason; or want of memory
+abbrev pub IsFaulty : Option (List PlainGeneralName) → Error → Type 0
+IsFaulty None e = ⊥
+IsFaulty (Some names) e = FailsAs (first_module names) e
+
+-- the name of a module of this type and this serial number, if a length can count its octets
+abbrev pub module_name : List ℕ → List ℕ → Result PlainGeneralName ErrorKind
+module_name arcs serial = written_as Sequence (nested (hardware_module_name_fields arc_bound)) (arcs, (serial, tt)) >>= λ v. Ok (inl (module_arcs, (v, tt)))
+
+-- the identifier of a version of the Trusted Platform Module
+abbrev pub version_arcs : TpmVersion → List ℕ
+version_arcs versions.Tpm12 = 2 ∷ 23 ∷ 133 ∷ 1 ∷ 0 ∷ []
+version_arcs versions.Tpm20 = 2 ∷ 23 ∷ 133 ∷ 1 ∷ 2 ∷ []
+version_arcs (versions.Other oid) = oid
+
+-- SubjectAltName, critical where the subject has no name (RFC 5280 4.2.1.6)
+abbrev pub alternatives : PlainName → Option (List PlainGeneralName) → List PlainExtension
+alternatives subject None = []
+alternatives subject (Some names) = standard_extension 17 (length subject == 0) (sequence_of (general_name arc_bound)) names ∷ []
+
+-- a device (8.10)
+abbrev pub device_extensions : Option (List PlainGeneralName) → PlainName → PublicKey → List PlainExtension
+device_extensions names subject issuer_key = authority_key_extension issuer_key ∷ usage_extension digital_signature ∷ alternatives subject names
+
+-- the alternative names of a device
+abbrev pub device_names : DevId → Option (List PlainGeneralName)
+device_names d = plain_option (λ v. plain_list general_name_plain v.0.items) d.subject_alt_name
+
+-- they have no encoding, as where a length passes 2^32 - 1
+abbrev pub IsUnnameable : Option (List PlainGeneralName) → Type 0
+IsUnnameable None = ⊥
+IsUnnameable (Some names) = IsValid (sequence_of (general_name arc_bound)) names → ⊥

@@ -1,0 +1,55 @@
+-- Subscribers (CA/Browser Forum, Baseline Requirements 7.1.2.7).
+use Rattle.std.specs.Prelude.{⊤, List, [], ◌∷◌, Bool, true, false, if◌then◌else◌}
+use Rattle.std.specs.List.{list_all}
+use Rattle.std.specs.List.Sorted.{IsPermutation}
+use Rattle.x509_cert_anchors.specs.Parts.{PlainName, name_plain}
+use Rattle.x509_cert_builders.specs.Naming.{TypeAndValue, common_name, country, is_among}
+use Rattle.x509_cert_builders.specs.declared.certificate_type.CertificateType.{CertificateType}
+use Rattle.x509_cert_builders.specs.declared.certificate_type.CertificateType.TheVariants as types
+
+-- the subject of a kind of subscriber; other kinds than the first have none
+abbrev pub type_subject : CertificateType → PlainName
+type_subject (types.DomainValidated v) = name_plain v.subject
+type_subject types.IndividualValidated = []
+type_subject types.OrganizationValidated = []
+type_subject types.ExtendedValidation = []
+
+abbrev pub is_domain_validated : CertificateType → Bool
+is_domain_validated (types.DomainValidated v) = true
+is_domain_validated types.IndividualValidated = false
+is_domain_validated types.OrganizationValidated = false
+is_domain_validated types.ExtendedValidation = false
+
+-- whether the subject of a subscriber whose domains were validated may have an attribute: it is a country or a common name (7.1.2.7.2)
+abbrev pub may_stay : TypeAndValue → Bool
+may_stay a = is_among (country ∷ common_name ∷ []) a.0
+
+-- what is left of a relative name
+abbrev pub left_of : List TypeAndValue → List TypeAndValue
+left_of [] = []
+left_of (a ∷ more) = if may_stay a then a ∷ left_of more else left_of more
+
+-- the relative names of which something is left, behind those that stand behind
+abbrev pub before : List TypeAndValue → PlainName → PlainName
+before [] more = more
+before (a ∷ r) more = (a ∷ r) ∷ more
+
+-- what is left of a name, relative name by relative name
+abbrev pub domain_subject : PlainName → PlainName
+domain_subject [] = []
+domain_subject (r ∷ more) = before (left_of r) (domain_subject more)
+
+-- the relative names have the same attributes, each in its own order
+abbrev pub SameAttributes : PlainName → PlainName → Type 0
+SameAttributes [] [] = ⊤
+SameAttributes [] (s ∷ ss) = ⊥
+SameAttributes (r ∷ rs) [] = ⊥
+SameAttributes (r ∷ rs) (s ∷ ss) = IsPermutation r s × SameAttributes rs ss
+
+-- whether all of a name stays
+abbrev pub stays : List TypeAndValue → Bool
+stays [] = false
+stays (a ∷ more) = list_all may_stay (a ∷ more)
+
+abbrev pub all_stays : PlainName → Bool
+all_stays n = list_all stays n

@@ -1,0 +1,124 @@
+//! Kinds of subscribers.
+
+ghost use Rattle.std.specs.Prelude.{◌≡◌, ◌∷◌, [], true, IfOk, IfErr};
+ghost use Rattle.std.specs.List.{list_all};
+ghost use Rattle.std.specs.List.Sorted.{IsPermutation};
+ghost use Rattle.x509_cert_anchors.specs.Parts.{name_plain, relative_plain};
+ghost use Rattle.x509_cert_builders.specs.Naming.{common_name, country, is_among};
+ghost use Rattle.x509_cert_builders.specs.Refusals.{IsWantOfMemory};
+ghost use Rattle.x509_cert_builders.specs.Subscribers.{SameAttributes, all_stays, domain_subject, is_domain_validated, left_of, may_stay, type_subject};
+
+use crate::attribute_types as types;
+use crate::domain_validated::DomainValidated;
+use crate::error::Error;
+use const_oid_identifiers::ObjectIdentifier;
+use std::alloc::Global;
+use x509_cert_anchors::{
+    AttributeTypeAndValue, GeneralNames, Name, RdnSequence, RelativeDistinguishedName,
+};
+
+/// How it was found out who a subscriber is (CA/Browser Forum, Baseline Requirements 7.1.2.7.1).
+#[derive(Clone, Debug, Drop, PartialEq)]
+pub enum CertificateType {
+    /// Its domains were validated.
+    DomainValidated(DomainValidated),
+    /// The person was.
+    IndividualValidated,
+    /// The organization was.
+    OrganizationValidated,
+    /// The organization was, by the guidelines of extended validation.
+    ExtendedValidation,
+}
+
+/// Whether the subject of a subscriber whose domains were validated may have attributes of this type (7.1.2.7.2).
+fn may_stay(oid: &ObjectIdentifier<39>) -> bool
+    ensures { result ≡ is_among (country ∷ common_name ∷ []) oid.now }
+{
+    *oid == types::country() || *oid == types::common_name()
+}
+
+/// Whether all of a relative name stays.
+fn all_stay(relative: &RelativeDistinguishedName) -> bool
+    ensures { result ≡ list_all may_stay (relative_plain relative.now) }
+{
+    for attribute in relative.iter() {
+        if !may_stay(&attribute.oid) {
+            return false;
+        }
+    }
+    true
+}
+
+/// The attributes of a relative name that stay.
+#[tactic(auto, using(crate::proofs::Lists::plain_pushed, crate::proofs::Subjects::left_more, crate::proofs::Subjects::left_same))]
+fn attributes_left(
+    alloc: Global,
+    relative: &RelativeDistinguishedName,
+) -> Result<Vec<AttributeTypeAndValue>, Error>
+    ensures { IfOk result (λ v. relative_plain v.items ≡ left_of (relative_plain relative.now)) }
+{
+    let mut attributes = Vec::new(alloc);
+    for attribute in relative.iter() {
+        if may_stay(&attribute.oid) {
+            attributes.push(attribute.clone(alloc)?)?;
+        }
+    }
+    Ok(attributes)
+}
+
+/// What is left of a relative name.
+#[tactic(auto, using(crate::proofs::Subjects::plain_permutation, crate::proofs::Subjects::left_whole))]
+fn left_of(
+    alloc: Global,
+    relative: &RelativeDistinguishedName,
+) -> Result<RelativeDistinguishedName, Error>
+    ensures left { IfOk result (λ r. IsPermutation (left_of (relative_plain relative.now)) (relative_plain r)) }
+    ensures same { list_all may_stay (relative_plain relative.now) ≡ true → IfOk result (λ r. relative_plain r ≡ relative_plain relative.now) }
+    ensures refused { list_all may_stay (relative_plain relative.now) ≡ true → IfErr result IsWantOfMemory }
+{
+    if all_stay(relative) {
+        let whole = relative.clone(alloc)?;
+        return Ok(whole);
+    }
+    let attributes = attributes_left(alloc, relative)?;
+    let left = RelativeDistinguishedName::try_from_vec(attributes)?;
+    Ok(left)
+}
+
+/// What is left of a name: the relative names of which something is left.
+#[tactic(auto, using(crate::proofs::Subjects::left_none, crate::proofs::Subjects::left_all))]
+fn name_left(alloc: Global, name: &Name) -> Result<Name, Error>
+    ensures left { IfOk result (λ n. SameAttributes (domain_subject (name_plain name.now)) (name_plain n)) }
+    ensures same { all_stays (name_plain name.now) ≡ true → IfOk result (λ n. name_plain n ≡ name_plain name.now) }
+    ensures refused { all_stays (name_plain name.now) ≡ true → IfErr result IsWantOfMemory }
+{
+    let mut kept = RdnSequence::default(alloc);
+    for relative in name.iter_rdn() {
+        let left = left_of(alloc, relative)?;
+        if !left.is_empty() {
+            kept.push(left)?;
+        }
+    }
+    Ok(Name::hazmat_from_rdn_sequence(kept))
+}
+
+impl CertificateType {
+    /// A subscriber of this name whose domains were validated. Attributes but countries and common names are left out, and relative
+    /// names of which nothing is left (7.1.2.7.2). The domains stand in a certificate only where they are added to its builder.
+    ///
+    /// # Errors
+    /// Want of memory, or `Asn1` with `Overflow` where an attribute has 2^32 octets or more.
+    pub fn domain_validated(
+        alloc: Global,
+        subject: Name,
+        names: GeneralNames,
+    ) -> Result<CertificateType, Error>
+        ensures kind { IfOk result (λ t. is_domain_validated t ≡ true) }
+        ensures subject { IfOk result (λ t. SameAttributes (domain_subject (name_plain subject)) (type_subject t)) }
+        ensures same { all_stays (name_plain subject) ≡ true → IfOk result (λ t. type_subject t ≡ name_plain subject) }
+        ensures refused { all_stays (name_plain subject) ≡ true → IfErr result IsWantOfMemory }
+    {
+        let subject = name_left(alloc, &subject)?;
+        Ok(CertificateType::DomainValidated(DomainValidated { subject, names }))
+    }
+}

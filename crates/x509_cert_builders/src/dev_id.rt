@@ -1,0 +1,179 @@
+//! Devices.
+
+ghost use Rattle.std.specs.Prelude.{◌≡◌, ◌⊎◌, ◌∷◌, ◌++◌, [], true, false, Ok, Some, IfOk, IfErr, OnOk};
+ghost use Rattle.std.specs.List.{list_any};
+ghost use Rattle.der_core_head.specs.Grammar.{plain_list, plain_option};
+ghost use Rattle.x509_cert_anchors.specs.Certificates.{tbs_subject};
+ghost use Rattle.x509_cert_anchors.specs.Parts.{extensions_plain, general_name_plain, name_plain};
+ghost use Rattle.x509_cert_builders.specs.Devices.{IsFaulty, IsUnnameable, PlainGeneralName, alternatives, device_extensions, device_names, first_module, is_of_module, may_name, module_name, module_of, version_arcs};
+ghost use Rattle.x509_cert_builders.specs.Refusals.{FailsAs, IsFailed, IsWantOfMemory};
+
+use crate::added_extensions::{add, add_authority, add_usage};
+use crate::builder_profile::BuilderProfile;
+use crate::error::Error;
+use crate::tpm_version::TpmVersion;
+use crate::uses::signing_usage;
+use der_core::ErrorKind;
+use std::alloc::Global;
+use x509_cert_anchors::{
+    Extensions, GeneralName, GeneralNames, HardwareModuleName, Name, OctetString, OtherName,
+    SubjectAltName, SubjectPublicKeyInfoRef, TbsCertificate,
+};
+
+/// The certificate of a device that has an identity of its own (IEEE 802.1AR 8).
+#[derive(Drop)]
+pub struct DevId {
+    /// Who signs it.
+    pub issuer: Name,
+    pub(crate) subject: Name,
+    pub(crate) subject_alt_name: Option<SubjectAltName>,
+}
+
+/// Whether a name is that of a module of hardware.
+fn is_of_module(alloc: Global, name: &GeneralName) -> Result<bool, Error>
+    ensures other { is_of_module (general_name_plain name.now) ≡ false → result ≡ Ok false }
+    ensures held { is_of_module (general_name_plain name.now) ≡ true → IfOk result (λ b. b ≡ true) }
+    ensures faulty { is_of_module (general_name_plain name.now) ≡ true → IfErr result (FailsAs (module_of (general_name_plain name.now))) }
+{
+    let GeneralName::OtherName(other) = name else {
+        return Ok(false);
+    };
+    let module = HardwareModuleName::from_other_name(alloc, other)?;
+    Ok(module.is_some())
+}
+
+/// Whether one of the names is that of a module of hardware.
+fn has_module(alloc: Global, names: &[GeneralName]) -> Result<bool, Error>
+    ensures other { list_any is_of_module (plain_list general_name_plain names.now) ≡ false → result ≡ Ok false }
+    ensures held { list_any is_of_module (plain_list general_name_plain names.now) ≡ true → IfOk result (λ b. b ≡ true) }
+    ensures faulty { list_any is_of_module (plain_list general_name_plain names.now) ≡ true → IfErr result (FailsAs (first_module (plain_list general_name_plain names.now))) }
+{
+    for place in 0..names.len() {
+        if is_of_module(alloc, &names[place])? {
+            return Ok(true);
+        }
+    }
+    Ok(false)
+}
+
+impl DevId {
+    /// The profile of a device of this name. Where it has alternative names, one of them is the name of its module of hardware (8.10.4).
+    ///
+    /// # Errors
+    /// `Asn1` with `Failed` where there are names, none of them that of a module; that of the first name of a module which is none
+    /// (`HardwareModuleName::from_other_name`); want of memory.
+    pub fn new(
+        alloc: Global,
+        issuer: Name,
+        subject: Name,
+        alt_names: Option<GeneralNames>,
+    ) -> Result<DevId, Error>
+        ensures module { IfOk result (λ _. may_name (plain_option (λ v. plain_list general_name_plain v.items) alt_names) ≡ true) }
+        ensures refused { may_name (plain_option (λ v. plain_list general_name_plain v.items) alt_names) ≡ false → IfErr result IsFailed }
+        ensures faulty { may_name (plain_option (λ v. plain_list general_name_plain v.items) alt_names) ≡ true → IfErr result (IsFaulty (plain_option (λ v. plain_list general_name_plain v.items) alt_names)) }
+        ensures issuer { IfOk result (λ d. name_plain d.issuer ≡ name_plain issuer) }
+        ensures subject { IfOk result (λ d. ⟦<DevId as BuilderProfile>⟧.subject_name d ≡ name_plain subject) }
+        ensures names { IfOk result (λ d. device_names d ≡ plain_option (λ v. plain_list general_name_plain v.items) alt_names) }
+    {
+        let Some(names) = alt_names else {
+            return Ok(DevId {
+                issuer,
+                subject,
+                subject_alt_name: None,
+            });
+        };
+        if !has_module(alloc, names.as_slice())? {
+            return Err(Error::Asn1(der_core::Error::from(ErrorKind::Failed)));
+        }
+        Ok(DevId {
+            issuer,
+            subject,
+            subject_alt_name: Some(SubjectAltName(names)),
+        })
+    }
+
+    /// The profile of a device whose key, the first that it had, is kept in a Trusted Platform Module of this version and this serial
+    /// number (TPM 2.0 Keys for Device Identity and Attestation).
+    ///
+    /// # Errors
+    /// `Asn1` with `Overflow` where a length passes 2^32 - 1, and with `OutOfMemory`.
+    #[tactic(auto, using(crate::proofs::Modules::want_fails))]
+    pub fn idevid_tpm(
+        alloc: Global,
+        issuer: Name,
+        subject: Name,
+        hw_type: TpmVersion,
+        serial_number: OctetString,
+    ) -> Result<DevId, Error>
+        ensures issuer { IfOk result (λ d. name_plain d.issuer ≡ name_plain issuer) }
+        ensures subject { IfOk result (λ d. ⟦<DevId as BuilderProfile>⟧.subject_name d ≡ name_plain subject) }
+        ensures module { IfOk result (λ d. (n : PlainGeneralName) × (module_name (version_arcs hw_type) serial_number ≡ Ok n) × (device_names d ≡ Some (n ∷ []))) }
+        ensures refused { IfErr result (FailsAs (module_name (version_arcs hw_type) serial_number)) }
+    {
+        let module = HardwareModuleName {
+            hw_type: hw_type.to_oid(),
+            hw_serial_num: serial_number,
+        };
+        let other = OtherName::try_from(alloc, &module)?;
+        let mut names = Vec::new(alloc);
+        names.push(GeneralName::OtherName(other))?;
+        Ok(DevId {
+            issuer,
+            subject,
+            subject_alt_name: Some(SubjectAltName(names)),
+        })
+    }
+}
+
+/// The alternative names, where there are any.
+fn add_alternatives(
+    alloc: Global,
+    extensions: &mut Extensions,
+    subject: &Name,
+    names: &Option<SubjectAltName>,
+) -> Result<(), Error>
+    ensures added { OnOk result (extensions_plain extensions.new.items ≡ extensions_plain extensions.old.items
+        ++ alternatives (name_plain subject.now) (plain_option (λ v. plain_list general_name_plain v.0.items) names.now)) }
+    ensures refused { IfErr result (λ e. IsWantOfMemory e ⊎ IsUnnameable (plain_option (λ v. plain_list general_name_plain v.0.items) names.now)) }
+{
+    match names {
+        Some(names) => add(alloc, extensions, subject, names),
+        None => Ok(()),
+    }
+}
+
+impl BuilderProfile for DevId {
+    ghost issuer_name = { λ device _. name_plain device.issuer };
+
+    ghost subject_name = { λ device. name_plain device.subject };
+
+    ghost extensions = { λ device _ issuer_key t. device_extensions (device_names device) (tbs_subject t) issuer_key };
+
+    // Its alternative names have no encoding.
+    ghost refuses = { λ device _. IsUnnameable (device_names device) };
+
+    fn get_issuer(&self, alloc: Global, _subject: &Name) -> Result<Name, Error> {
+        let issuer = self.issuer.clone(alloc)?;
+        Ok(issuer)
+    }
+
+    fn get_subject(&self, alloc: Global) -> Result<Name, Error> {
+        let subject = self.subject.clone(alloc)?;
+        Ok(subject)
+    }
+
+    fn build_extensions<'a, 'b>(
+        &self,
+        alloc: Global,
+        _spk: &SubjectPublicKeyInfoRef<'a>,
+        issuer_spk: &SubjectPublicKeyInfoRef<'b>,
+        tbs: &TbsCertificate,
+    ) -> Result<Extensions, Error> {
+        let subject = &tbs.subject;
+        let mut extensions = Vec::new(alloc);
+        add_authority(alloc, &mut extensions, subject, issuer_spk)?;
+        add_usage(alloc, &mut extensions, subject, signing_usage())?;
+        add_alternatives(alloc, &mut extensions, subject, &self.subject_alt_name)?;
+        Ok(extensions)
+    }
+}

@@ -1,0 +1,58 @@
+//! Identifiers of purposes, of kinds of keys, and of modules.
+#![tactic(auto, unfolding(const_oid_identifiers::specs::Bound::Bound, const_oid_identifiers::specs::TextReading::text_arcs, const_oid_identifiers::specs::ArcLists::add_arc, const_oid_identifiers::specs::ArcLists::whole_arcs, const_oid_identifiers::specs::IdentifierOctets::identifier_octets, const_oid_identifiers::specs::IdentifierOctets::arc_octets, const_oid_identifiers::specs::Digits::digits, const_oid_identifiers::specs::Digits::digits_within, const_oid_identifiers::specs::Digits::marked))]
+
+ghost use Rattle.std.specs.Prelude.{◌≡◌, ◌∷◌, []};
+ghost use Rattle.x509_cert_builders.specs.Profiles.{id_kp, rsa_encryption, elliptic_curve_key};
+
+use const_oid_identifiers::ObjectIdentifier;
+use x509_cert_anchors::AlgorithmIdentifier;
+
+/// What stands in place of an algorithm until one is told.
+pub(crate) fn no_algorithm() -> AlgorithmIdentifier {
+    AlgorithmIdentifier {
+        oid: ObjectIdentifier::new_unwrap("0.0"),
+        parameters: None,
+    }
+}
+
+/// `id-kp-serverAuth` (RFC 5280 4.2.1.12).
+pub(crate) fn server_auth() -> ObjectIdentifier<39>
+    ensures { result ≡ id_kp 1 }
+{
+    ObjectIdentifier::new_unwrap("1.3.6.1.5.5.7.3.1")
+}
+
+/// `id-kp-clientAuth`.
+pub(crate) fn client_auth() -> ObjectIdentifier<39>
+    ensures { result ≡ id_kp 2 }
+{
+    ObjectIdentifier::new_unwrap("1.3.6.1.5.5.7.3.2")
+}
+
+/// `rsaEncryption` (RFC 3279 2.3.1).
+pub(crate) fn rsa_encryption() -> ObjectIdentifier<39>
+    ensures { result ≡ rsa_encryption }
+{
+    ObjectIdentifier::new_unwrap("1.2.840.113549.1.1.1")
+}
+
+/// `id-ecPublicKey` (RFC 5480 2.1.1).
+pub(crate) fn elliptic_curve_key() -> ObjectIdentifier<39>
+    ensures { result ≡ elliptic_curve_key }
+{
+    ObjectIdentifier::new_unwrap("1.2.840.10045.2.1")
+}
+
+/// Version 1.2 of the Trusted Platform Module, 2.23.133.1.0.
+pub fn tcg_sv_tpm_12() -> ObjectIdentifier<39>
+    ensures { result ≡ 2 ∷ 23 ∷ 133 ∷ 1 ∷ 0 ∷ [] }
+{
+    ObjectIdentifier::new_unwrap("2.23.133.1.0")
+}
+
+/// Version 2.0 of the Trusted Platform Module, 2.23.133.1.2.
+pub fn tcg_sv_tpm_20() -> ObjectIdentifier<39>
+    ensures { result ≡ 2 ∷ 23 ∷ 133 ∷ 1 ∷ 2 ∷ [] }
+{
+    ObjectIdentifier::new_unwrap("2.23.133.1.2")
+}

@@ -1,0 +1,74 @@
+//! Subordinate authorities.
+
+ghost use Rattle.std.specs.Prelude.{pos};
+ghost use Rattle.der_core_head.specs.Grammar.{plain_option};
+ghost use Rattle.x509_cert_anchors.specs.Parts.{name_plain};
+ghost use Rattle.x509_cert_builders.specs.Profiles.{subordinate_extensions};
+
+use crate::added_extensions::{
+    add_authority, add_constraints, add_identifier, add_purposes, add_usage,
+};
+use crate::builder_profile::BuilderProfile;
+use crate::error::Error;
+use crate::uses::authority_usage;
+use std::alloc::Global;
+use x509_cert_anchors::{Extensions, Name, SubjectPublicKeyInfoRef, TbsCertificate};
+
+/// The certificate of an authority whose key signs certificates of servers (CA/Browser Forum, Baseline Requirements 7.1.2.6).
+#[derive(Drop)]
+pub struct Subordinate {
+    /// Who signs it.
+    pub issuer: Name,
+    /// Whose certificate it is.
+    pub subject: Name,
+    /// How many authorities may stand below it, if that is bounded.
+    pub path_len_constraint: Option<u8>,
+    /// Whether its key signs answers about the state of certificates, too.
+    pub emits_ocsp_response: bool,
+    /// Whether its key signs certificates of clients, too.
+    pub client_auth: bool,
+}
+
+impl BuilderProfile for Subordinate {
+    ghost issuer_name = { λ profile _. name_plain profile.issuer };
+
+    ghost subject_name = { λ profile. name_plain profile.subject };
+
+    ghost extensions = { λ profile key issuer_key _. subordinate_extensions profile.emits_ocsp_response profile.client_auth (plain_option (λ n. pos n) profile.path_len_constraint) key issuer_key };
+
+    ghost refuses = { λ _ _. ⊥ };
+
+    fn get_issuer(&self, alloc: Global, _subject: &Name) -> Result<Name, Error> {
+        let issuer = self.issuer.clone(alloc)?;
+        Ok(issuer)
+    }
+
+    fn get_subject(&self, alloc: Global) -> Result<Name, Error> {
+        let subject = self.subject.clone(alloc)?;
+        Ok(subject)
+    }
+
+    fn build_extensions<'a, 'b>(
+        &self,
+        alloc: Global,
+        spk: &SubjectPublicKeyInfoRef<'a>,
+        issuer_spk: &SubjectPublicKeyInfoRef<'b>,
+        tbs: &TbsCertificate,
+    ) -> Result<Extensions, Error> {
+        let subject = &tbs.subject;
+        let mut extensions = Vec::new(alloc);
+        add_authority(alloc, &mut extensions, subject, issuer_spk)?;
+        add_constraints(
+            alloc,
+            &mut extensions,
+            subject,
+            true,
+            self.path_len_constraint,
+        )?;
+        let usage = authority_usage(self.emits_ocsp_response);
+        add_usage(alloc, &mut extensions, subject, usage)?;
+        add_identifier(alloc, &mut extensions, subject, spk)?;
+        add_purposes(alloc, &mut extensions, subject, self.client_auth)?;
+        Ok(extensions)
+    }
+}

@@ -1,0 +1,108 @@
+//! Subscribers.
+
+ghost use Rattle.std.specs.Prelude.{◌≡◌, ◌<◌, ◌^◌, bit_or, false, if◌then◌else◌};
+ghost use Rattle.x509_cert_anchors.specs.Parts.{name_plain};
+ghost use Rattle.x509_cert_builders.specs.Profiles.{subscriber_extensions, subscriber_uses};
+ghost use Rattle.x509_cert_builders.specs.Subscribers.{is_domain_validated, type_subject};
+ghost use Rattle.x509_cert_builders.specs.declared.error.Error.TheVariants.{Unsupported};
+
+use crate::added_extensions::{add_authority, add_constraints, add_purposes, add_usage};
+use crate::builder_profile::BuilderProfile;
+use crate::certificate_type::CertificateType;
+use crate::error::Error;
+use crate::identifiers::{elliptic_curve_key, rsa_encryption};
+use crate::tls12_options::Tls12Options;
+use der_core::Fields;
+use std::alloc::Global;
+use x509_cert_anchors::{
+    Extensions, FlagSet, KeyUsage, KeyUsages, Name, SubjectPublicKeyInfoRef, TbsCertificate,
+};
+
+/// The certificate of a server (CA/Browser Forum, Baseline Requirements 7.1.2.7). Its domains are added to the builder, as
+/// `SubjectAltName`.
+#[derive(Drop)]
+pub struct Subscriber {
+    /// How it was found out whose certificate it is.
+    pub certificate_type: CertificateType,
+    /// Who signs it.
+    pub issuer: Name,
+    /// Whether the key proves who a client is, too.
+    pub client_auth: bool,
+    /// What TLS 1.2 needs besides.
+    pub tls12_options: Tls12Options,
+    /// Whether an RSA key enciphers data.
+    pub enable_data_encipherment: bool,
+}
+
+/// These uses, and this one where it stands.
+fn with_use(uses: FlagSet<KeyUsages>, more: KeyUsages, stands: bool) -> FlagSet<KeyUsages>
+    requires { more.0 < 2 ^ 9 }
+    ensures { result.flags.0 ≡ (if stands then bit_or uses.flags.0 more.0 else uses.flags.0) }
+{
+    if stands {
+        return uses.union(FlagSet::from_flag(more));
+    }
+    uses
+}
+
+impl Subscriber {
+    /// What its key is for.
+    #[tactic(auto, using(crate::proofs::UseSums::joined_uses))]
+    fn usage<'a>(&self, key: &SubjectPublicKeyInfoRef<'a>) -> KeyUsage
+        ensures { result.0.flags.0 ≡ subscriber_uses self.now.enable_data_encipherment self.now.tls12_options.enable_key_encipherment self.now.tls12_options.enable_key_agreement (⟦<SubjectPublicKeyInfoRef<'a> as Fields>⟧.fields_plain key.now) }
+    {
+        let is_rsa = key.algorithm.oid == rsa_encryption();
+        let is_elliptic = key.algorithm.oid == elliptic_curve_key();
+        let options = &self.tls12_options;
+        let uses = FlagSet::from_flag(KeyUsages::DIGITAL_SIGNATURE);
+        let data = self.enable_data_encipherment && is_rsa;
+        let uses = with_use(uses, KeyUsages::DATA_ENCIPHERMENT, data);
+        let keys = options.enable_key_encipherment && is_rsa;
+        let uses = with_use(uses, KeyUsages::KEY_ENCIPHERMENT, keys);
+        let agreement = options.enable_key_agreement && is_elliptic;
+        let uses = with_use(uses, KeyUsages::KEY_AGREEMENT, agreement);
+        KeyUsage(uses)
+    }
+}
+
+impl BuilderProfile for Subscriber {
+    ghost issuer_name = { λ profile _. name_plain profile.issuer };
+
+    ghost subject_name = { λ profile. type_subject profile.certificate_type };
+
+    ghost extensions = { λ profile key issuer_key _. subscriber_extensions profile.client_auth (subscriber_uses profile.enable_data_encipherment profile.tls12_options.enable_key_encipherment profile.tls12_options.enable_key_agreement key) issuer_key };
+
+    ghost refuses = { λ profile e. (is_domain_validated profile.certificate_type ≡ false) × (e ≡ Unsupported) };
+
+    fn get_issuer(&self, alloc: Global, _subject: &Name) -> Result<Name, Error> {
+        let issuer = self.issuer.clone(alloc)?;
+        Ok(issuer)
+    }
+
+    /// # Errors
+    /// `Unsupported` for all kinds but `DomainValidated`, and want of memory.
+    fn get_subject(&self, alloc: Global) -> Result<Name, Error> {
+        let CertificateType::DomainValidated(validated) = &self.certificate_type else {
+            return Err(Error::Unsupported);
+        };
+        let subject = validated.subject.clone(alloc)?;
+        Ok(subject)
+    }
+
+    fn build_extensions<'a, 'b>(
+        &self,
+        alloc: Global,
+        spk: &SubjectPublicKeyInfoRef<'a>,
+        issuer_spk: &SubjectPublicKeyInfoRef<'b>,
+        tbs: &TbsCertificate,
+    ) -> Result<Extensions, Error> {
+        let subject = &tbs.subject;
+        let mut extensions = Vec::new(alloc);
+        add_authority(alloc, &mut extensions, subject, issuer_spk)?;
+        add_purposes(alloc, &mut extensions, subject, self.client_auth)?;
+        add_constraints(alloc, &mut extensions, subject, false, None)?;
+        let usage = self.usage(spk);
+        add_usage(alloc, &mut extensions, subject, usage)?;
+        Ok(extensions)
+    }
+}

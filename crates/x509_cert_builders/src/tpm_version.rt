@@ -1,0 +1,31 @@
+//! Versions of the Trusted Platform Module.
+
+ghost use Rattle.std.specs.Prelude.{◌≡◌};
+ghost use Rattle.x509_cert_builders.specs.Devices.{version_arcs};
+
+use crate::identifiers::{tcg_sv_tpm_12, tcg_sv_tpm_20};
+use const_oid_identifiers::ObjectIdentifier;
+
+/// A version of the Trusted Platform Module in which a device keeps its key.
+#[derive(Clone, Debug, Drop, PartialEq)]
+pub enum TpmVersion {
+    /// 1.2.
+    Tpm12,
+    /// 2.0.
+    Tpm20,
+    /// Another, by its identifier.
+    Other(ObjectIdentifier<39>),
+}
+
+impl TpmVersion {
+    /// Its identifier.
+    pub(crate) fn to_oid(&self) -> ObjectIdentifier<39>
+        ensures { result ≡ version_arcs self.now }
+    {
+        match self {
+            TpmVersion::Tpm12 => tcg_sv_tpm_12(),
+            TpmVersion::Tpm20 => tcg_sv_tpm_20(),
+            TpmVersion::Other(oid) => *oid,
+        }
+    }
+}

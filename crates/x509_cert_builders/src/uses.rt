@@ -1,0 +1,43 @@
+//! What keys are for.
+
+ghost use Rattle.std.specs.Prelude.{◌≡◌, IfOk, IfErr};
+ghost use Rattle.der_core_head.specs.Grammar.{plain_list};
+ghost use Rattle.x509_cert_builders.specs.Profiles.{authority_uses, digital_signature, purposes};
+ghost use Rattle.x509_cert_builders.specs.Refusals.{IsWantOfMemory};
+
+use crate::error::Error;
+use crate::identifiers::{client_auth, server_auth};
+use std::alloc::Global;
+use x509_cert_anchors::{ExtendedKeyUsage, FlagSet, KeyUsage, KeyUsages};
+
+/// What an authority's key is for: it signs certificates and lists, and maybe answers about the state of certificates.
+pub(crate) fn authority_usage(emits_ocsp_response: bool) -> KeyUsage
+    ensures { result.0.flags.0 ≡ authority_uses emits_ocsp_response }
+{
+    let certificates = FlagSet::from_flag(KeyUsages::KEY_CERT_SIGN);
+    let uses = certificates.union(FlagSet::from_flag(KeyUsages::CRL_SIGN));
+    if emits_ocsp_response {
+        return KeyUsage(uses.union(FlagSet::from_flag(KeyUsages::DIGITAL_SIGNATURE)));
+    }
+    KeyUsage(uses)
+}
+
+/// It signs data.
+pub(crate) fn signing_usage() -> KeyUsage
+    ensures { result.0.flags.0 ≡ digital_signature }
+{
+    KeyUsage(FlagSet::from_flag(KeyUsages::DIGITAL_SIGNATURE))
+}
+
+/// It, or what stands below it, proves who a server is, and maybe who a client is.
+pub(crate) fn purposes_of(alloc: Global, clients: bool) -> Result<ExtendedKeyUsage, Error>
+    ensures purposes { IfOk result (λ u. plain_list (λ a. a) u.0.items ≡ purposes clients) }
+    ensures refused { IfErr result IsWantOfMemory }
+{
+    let mut purposes = Vec::new(alloc);
+    purposes.push(server_auth())?;
+    if clients {
+        purposes.push(client_auth())?;
+    }
+    Ok(ExtendedKeyUsage(purposes))
+}

@@ -1,0 +1,5 @@
+mod Entries
+mod Places
+mod Placing
+mod RequestParts
+mod Valid

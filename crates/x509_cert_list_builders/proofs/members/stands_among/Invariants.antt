@@ -1,0 +1,14 @@
+use Rattle.std.proofs.Common.{◌≡◌, take, false}
+use Rattle.std.specs.List.{AllByRecursion}
+use Rattle.der_core_head.specs.Grammar.{plain_list}
+use Rattle.der_core_head.specs.Shapes.{IsValid}
+use Rattle.x509_cert_list_builders.specs.Requests.{stands_among}
+use Rattle.std.proofs.Common.{drop}
+use Rattle.x509_cert_list_builders.proofs.members.stands_among.Given as goal
+
+abbrev pub invariant-loop-place : goal.invariant-loop-place
+invariant-loop-place g l =
+    let s = g.T.Shaped.shape in
+    let f = g.T.Shaped.written in
+    AllByRecursion (λ x. IsValid s (f x)) l.values → IsValid s (f l.item)
+    → stands_among s (f l.item) (plain_list f l.values) ≡ stands_among s (f l.item) (plain_list f (drop l.place l.values))

@@ -1,0 +1,9 @@
+pub mod Lists
+pub mod Requests
+pub mod Signed
+pub mod States
+pub mod Parts
+pub mod Certificates
+pub mod Texts
+pub mod Anchors
+pub mod Builders

@@ -1,0 +1,73 @@
+-- What a builder of revocation lists signs (RFC 5280 5.1.2).
+use Rattle.std.specs.Prelude.{◌≡◌, ℕ, List, [], ◌∷◌, ◌++◌, Bool, false, pos, Option, Some, None, Result, Ok}
+use Rattle.der_core_head.specs.declared.error.ErrorKind.{ErrorKind}
+use Rattle.der_core_head.specs.declared.tag.Tag.TheVariants as tags
+use Rattle.der_core_head.specs.Integers.{natural}
+use Rattle.der_core_head.specs.Leaves.{integer}
+use Rattle.der_core_head.specs.Octets.{◌>>=◌}
+use Rattle.der_core_head.specs.Shapes.{Shape, Value, BodyValue, IsValid, tagged, leaf, sequence, octets_of}
+use Rattle.sha1.specs.Sha1.{sha1}
+use Rattle.x509_cert_builders.specs.Certificates.{Tbs, tbs_public_key}
+use Rattle.x509_cert_builders.specs.Lists.{revoked_cert_fields, tbs_cert_list_fields}
+use Rattle.x509_cert_builders.specs.Parts.{Algorithm, PlainExtension, PlainName, PublicKey, arc_bound, authority_key_identifier_fields, key_bits, time}
+use Rattle.x509_cert_builders.specs.Parts.{only_value, listed}
+
+-- a date and its spelling
+abbrev pub PlainTime : Type 0
+PlainTime = Value time
+
+-- a certificate that was revoked (5.1.2.6)
+abbrev pub PlainEntry : Type 0
+PlainEntry = BodyValue (revoked_cert_fields 0 None)
+
+-- the part of a list that is signed
+abbrev pub PlainList : Type 0
+PlainList = BodyValue (tbs_cert_list_fields 0 None)
+
+-- TBSCertList, whose serial numbers have at most so many content octets, if there is such a number
+abbrev pub list_part : Option ℕ → Shape
+list_part limit = sequence (tbs_cert_list_fields arc_bound limit)
+
+-- AuthorityKeyIdentifier (4.2.1.1)
+abbrev pub PlainAuthority : Type 0
+PlainAuthority = BodyValue (authority_key_identifier_fields 0)
+
+abbrev pub authority_key : Shape
+authority_key = sequence (authority_key_identifier_fields arc_bound)
+
+abbrev pub authority_key_arcs : List ℕ
+authority_key_arcs = 2 ∷ 5 ∷ 29 ∷ 35 ∷ []
+
+-- that of a certificate, where it has one, or else the identifier of the certified key alone: the SHA-1 digest of its octets (4.2.1.2)
+abbrev pub given_or_made : PublicKey → Option (Bool × PlainAuthority) → PlainAuthority
+given_or_made k None = (Some (sha1 (key_bits k).octets), (None, (None, tt)))
+given_or_made k (Some found) = found.1
+
+-- The key under which an issuer signs lists: its own authority key identifier. Two are refused, and one whose content isn't an encoding.
+abbrev pub issuing_key : Tbs → Result PlainAuthority ErrorKind
+issuing_key t =
+    only_value authority_key authority_key_arcs (listed t.1.1.1.1.1.1.1.1.1.0) >>= λ (found : Option (Bool × PlainAuthority)). Ok (given_or_made (tbs_public_key t) found)
+
+-- an extension that isn't critical, whose content is the encoding of a value
+abbrev pub extension_with : List ℕ → (s : Shape) → Value s → PlainExtension
+extension_with arcs s v = (arcs, (false, (octets_of s v, tt)))
+
+-- CRLNumber ::= INTEGER (0..MAX) (5.2.3)
+abbrev pub crl_number : Shape
+crl_number = tagged tags.Integer (leaf (integer natural))
+
+abbrev pub number_extension : ℕ → PlainExtension
+number_extension n = extension_with (2 ∷ 5 ∷ 29 ∷ 20 ∷ []) crl_number (pos n)
+
+-- the key under which the list is signed (5.2.1)
+abbrev pub key_extension : PlainAuthority → PlainExtension
+key_extension a = extension_with authority_key_arcs authority_key a
+
+-- one of the two has no encoding, as where a length passes 2^32 - 1
+abbrev pub HasNoExtensions : ℕ → Result PlainAuthority ErrorKind → Type 0
+HasNoExtensions n r = (key : PlainAuthority) → r ≡ Ok key → IsValid crl_number (pos n) → IsValid authority_key key → ⊥
+
+-- the certificates of a list; where the field is absent there are none
+abbrev pub entries : Option (List PlainEntry) → List PlainEntry
+entries None = []
+entries (Some es) = es

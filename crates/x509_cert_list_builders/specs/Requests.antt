@@ -1,0 +1,66 @@
+-- What a builder of certification requests signs (RFC 2986 4.1).
+use Rattle.std.specs.Prelude.{◌≡◌, List, [], ◌∷◌, pos, Bool, true, false, Result, Ok, Err, IsOk, if◌then◌else◌}
+use Rattle.std.specs.List.{list_any}
+use Rattle.std.specs.declared.cmp.Ordering.{Ordering}
+use Rattle.std.specs.declared.cmp.Ordering.TheVariants.{Less, Equal, Greater}
+use Rattle.der_core.specs.Orders.{encodings_cmp}
+use Rattle.der_core_head.specs.declared.error.ErrorKind.{ErrorKind}
+use Rattle.der_core_head.specs.Shapes.{Shape, Value, BodyValue, IsValid, sequence}
+use Rattle.x509_cert_builders.specs.Lists.{cert_req_info_fields, extension_req_attribute}
+use Rattle.x509_cert_builders.specs.Parts.{PlainAttribute, PlainExtension, PlainName, PublicKey, arc_bound, attribute}
+
+-- the part of a request that is signed
+abbrev pub PlainInfo : Type 0
+PlainInfo = BodyValue (cert_req_info_fields 0)
+
+-- CertificationRequestInfo
+abbrev pub request_part : Shape
+request_part = sequence (cert_req_info_fields arc_bound)
+
+-- whether an order is this one
+abbrev pub is_less : Ordering → Bool
+is_less Less = true
+is_less Equal = false
+is_less Greater = false
+
+abbrev pub is_equal : Ordering → Bool
+is_equal Less = false
+is_equal Equal = true
+is_equal Greater = false
+
+-- whether the encoding of a value is below that of another one, or the same
+abbrev pub is_below : (s : Shape) → Value s → Value s → Bool
+is_below s v w = is_less (encodings_cmp s v w)
+
+abbrev pub is_same : (s : Shape) → Value s → Value s → Bool
+is_same s v w = is_equal (encodings_cmp s v w)
+
+-- one more in a list, in front of the first before which it goes
+abbrev pub put : {P : Type 0} → (P → P → Bool) → P → List P → List P
+put goes_before x [] = x ∷ []
+put goes_before x (y ∷ left) = if goes_before x y then x ∷ y ∷ left else y ∷ put goes_before x left
+
+-- a value among others, in front of the first whose encoding is above its own (X.690 11.6)
+abbrev pub placed : (s : Shape) → Value s → List (Value s) → List (Value s)
+placed s v others = put (is_below s) v others
+
+-- whether one of the others has its encoding
+abbrev pub stands_among : (s : Shape) → Value s → List (Value s) → Bool
+stands_among s v others = list_any (λ w. is_same s v w) others
+
+-- there is no attribute, or it has no encoding, as where it has 2^32 octets or more, or it stands among these
+abbrev pub IsNoneToAdd : Result PlainAttribute ErrorKind → List PlainAttribute → Type 0
+IsNoneToAdd r others = (a : PlainAttribute) → r ≡ Ok a → IsValid (attribute arc_bound) a → stands_among (attribute arc_bound) a others ≡ true
+
+-- the other attributes with the request for extensions among them, where a length can count its octets (RFC 2985 5.4.2)
+abbrev pub with_request : Result PlainAttribute ErrorKind → List PlainAttribute → List PlainAttribute
+with_request (Ok a) others = placed (attribute arc_bound) a others
+with_request (Err e) others = others
+
+-- the part that a signer of a key signs: version 1, with the request for extensions among the attributes
+abbrev pub request_of : PlainName → List PlainExtension → List PlainAttribute → PublicKey → PlainInfo
+request_of subject extensions attributes key = (pos 0, (subject, (key, (with_request (extension_req_attribute arc_bound extensions) attributes, tt))))
+
+-- there is no request for these extensions, or the part has no encoding, as where a length passes 2^32 - 1 or an attribute stands twice
+abbrev pub HasNoOctets : List PlainExtension → PlainInfo → Type 0
+HasNoOctets es i = IsOk (extension_req_attribute arc_bound es) → IsValid request_part i → ⊥

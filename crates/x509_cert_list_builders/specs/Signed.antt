@@ -1,0 +1,27 @@
+-- What is signed, and where it stands in what is made of it (RFC 5280 5.1.1; RFC 2986 4.2).
+use Rattle.std.specs.Prelude.{ℕ, List, length, take, drop}
+use Rattle.der_core_head.specs.declared.tag.Tag.TheVariants as tags
+use Rattle.der_core_head.specs.Heads.{head_octets}
+use Rattle.der_core_head.specs.Shapes.{Shape, Body, BodyValue, field, done, sequence, octets_of, body_octets}
+use Rattle.x509_cert_builders.specs.Parts.{algorithm_identifier, arc_bound, bit_string}
+
+-- SIGNED{ToBeSigned} ::= SEQUENCE { toBeSigned ToBeSigned, algorithmIdentifier AlgorithmIdentifier, signature BIT STRING }, of whatever
+-- shape is to be signed
+abbrev pub signed_fields : Shape → Body
+signed_fields s = field s (field (algorithm_identifier arc_bound) (field bit_string done))
+
+-- the octets of the whole
+abbrev pub whole_octets : (s : Shape) → BodyValue (signed_fields s) → List ℕ
+whole_octets s v = octets_of (sequence (signed_fields s)) v
+
+-- What is signed stands in them behind the outer header,
+unfoldable pub signed_start : (s : Shape) → BodyValue (signed_fields s) → ℕ
+signed_start s v = length (head_octets tags.Sequence (length (body_octets (signed_fields s) v)))
+
+-- and has so many octets.
+unfoldable pub signed_length : (s : Shape) → BodyValue (signed_fields s) → ℕ
+signed_length s v = length (octets_of s v.0)
+
+-- the octets at that place
+abbrev pub octets_in_place : (s : Shape) → BodyValue (signed_fields s) → List ℕ
+octets_in_place s v = take (signed_length s v) (drop (signed_start s v) (whole_octets s v))

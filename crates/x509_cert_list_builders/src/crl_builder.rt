@@ -1,0 +1,272 @@
+//! Builders of revocation lists.
+
+ghost use Rattle.std.specs.Prelude.{◌≡◌, ◌⊎◌, ◌++◌, ◌∷◌, [], Ok, Err, Some, None, IfOk, IfErr, OnOk, OnErr};
+ghost use Rattle.std.specs.Iterator.{IsFinite};
+ghost use Rattle.std.specs.Iterator.Runs.{WholeRun};
+ghost use Rattle.der_core_head.specs.declared.error.ErrorKind.TheVariants.{OutOfMemory};
+ghost use Rattle.der_core_head.specs.Grammar.{plain_list, plain_option};
+ghost use Rattle.der_core_head.specs.Reading.{Gives};
+ghost use Rattle.der_core_head.specs.Shapes.{IsValid, octets_of};
+ghost use Rattle.x509_cert_builders.specs.Certificates.{tbs_plain, tbs_subject};
+ghost use Rattle.x509_cert_builders.specs.Parts.{algorithm_plain, authority_key_identifier_plain, key_plain, time_value};
+ghost use Rattle.x509_cert_builders.specs.Lists.{certificate_list_plain, revoked_cert_plain, tbs_cert_list_plain};
+ghost use Rattle.x509_cert_builders.specs.Refusals.{IsWantOfMemory};
+ghost use Rattle.x509_cert_list_builders.specs.Lists.{HasNoExtensions, PlainAuthority, entries, given_or_made, issuing_key, key_extension, list_part, number_extension};
+ghost use Rattle.x509_cert_list_builders.specs.Signed.{octets_in_place};
+ghost use Rattle.x509_cert_list_builders.specs.States.{algorithm_of_last, list_of};
+
+use crate::copies::{copies_of_entries, copies_of_extensions};
+use crate::laws::signed_part_stands_in_place;
+use der_core::{ErrorKind, to_der};
+use rand_core::CryptoRng;
+use std::alloc::Global;
+use std::marker::Model;
+use x509_cert_builders::types::{
+    AlgorithmIdentifier, AlgorithmIdentifierRef, AuthorityKeyIdentifier, BitString, Certificate,
+    CertificateList, CrlNumber, Extensions, Name, Profile, RevokedCert, Rfc5280,
+    SubjectPublicKeyInfo, SubjectPublicKeyInfoRef, TbsCertList, TbsCertificate, Time, ToExtension,
+    TryFromKey, Version,
+};
+use x509_cert_builders::{Builder, Error, Signer};
+
+/// A builder of revocation lists (RFC 5280 5.1). The list has version 2, a number, and the identifier of the key under which it is
+/// signed.
+///
+/// Contracts see what is settled of the list, and the part that was made last.
+#[derive(Drop)]
+pub struct CrlBuilder<P = Rfc5280> {
+    issuer: Name,
+    this_update: Time,
+    next_update: Option<Time>,
+    revoked_certificates: Option<Vec<RevokedCert<P>>>,
+    crl_extensions: Extensions,
+    finalized: Option<TbsCertList<P>>,
+}
+
+impl<P> Model for CrlBuilder<P> {
+    ghost use Rattle.x509_cert_list_builders.specs.States.{ListState, list_state};
+
+    ghost Value = { ListState };
+
+    ghost view = { list_state };
+}
+
+/// The identifier of a key alone.
+fn identifier_of(
+    alloc: Global,
+    key: &SubjectPublicKeyInfo,
+) -> Result<AuthorityKeyIdentifier, der_core::Error>
+    ensures { Gives authority_key_identifier_plain result (Ok (given_or_made (key_plain key.now) None)) }
+{
+    let algorithm: AlgorithmIdentifierRef<'_> = key.algorithm.owned_to_ref();
+    let key: SubjectPublicKeyInfoRef<'_> = SubjectPublicKeyInfoRef {
+        algorithm,
+        subject_public_key: key.subject_public_key.owned_to_ref(),
+    };
+    let identifier = AuthorityKeyIdentifier::try_from_key(alloc, &key)?;
+    Ok(identifier)
+}
+
+/// The key under which an issuer signs: its own authority key identifier, or else one of its key.
+fn issuing_key(
+    alloc: Global,
+    issuer: &TbsCertificate,
+) -> Result<AuthorityKeyIdentifier, der_core::Error>
+    ensures { Gives authority_key_identifier_plain result (issuing_key (tbs_plain issuer.now)) }
+{
+    let found = issuer.get_extension::<AuthorityKeyIdentifier>(alloc)?;
+    let Some((_, identifier)) = found else {
+        let identifier = identifier_of(alloc, &issuer.subject_public_key_info)?;
+        return Ok(identifier);
+    };
+    Ok(identifier)
+}
+
+impl<P: Profile> CrlBuilder<P> {
+    /// A builder of a list that this issuer makes at this time, with this number, of no certificates.
+    ///
+    /// The key under which it is signed is told by the issuer's own authority key identifier; where it has none, by the digest of
+    /// its key.
+    ///
+    /// # Errors
+    /// `Failed` where the issuer has two authority key identifiers; the first fault of its one; `Overflow` where a length passes
+    /// 2^32 - 1; `OutOfMemory`.
+    pub fn new_with_this_update(
+        alloc: Global,
+        issuer: &Certificate,
+        crl_number: CrlNumber,
+        this_update: Time,
+    ) -> Result<CrlBuilder<P>, der_core::Error>
+        ensures made { IfOk result (λ b. (key : PlainAuthority) × (issuing_key (tbs_plain issuer.now.tbs_certificate) ≡ Ok key) × (b ≡ record {
+          issuer = tbs_subject (tbs_plain issuer.now.tbs_certificate);
+          this_update = time_value this_update;
+          next_update = None;
+          revoked = None;
+          extensions = number_extension crl_number.0 ∷ key_extension key ∷ [];
+          finalized = None;
+        })) }
+        ensures refused { IfErr result (λ e. (e.kind ≡ OutOfMemory) ⊎ (issuing_key (tbs_plain issuer.now.tbs_certificate) ≡ Err e.kind)
+            ⊎ HasNoExtensions crl_number.0 (issuing_key (tbs_plain issuer.now.tbs_certificate))) }
+    {
+        let tbs = &issuer.tbs_certificate;
+        let key = issuing_key(alloc, tbs)?;
+        let mut crl_extensions = Vec::new(alloc);
+        let number = (&crl_number).to_extension(alloc, &tbs.subject, crl_extensions.as_slice())?;
+        crl_extensions.push(number)?;
+        let authority = (&key).to_extension(alloc, &tbs.subject, crl_extensions.as_slice())?;
+        crl_extensions.push(authority)?;
+        let issuer = tbs.subject.clone(alloc)?;
+        Ok(CrlBuilder {
+            issuer,
+            this_update,
+            next_update: None,
+            revoked_certificates: None,
+            crl_extensions,
+            finalized: None,
+        })
+    }
+
+    /// The builder of the same list, which says when the next one is made at the latest, or doesn't say it.
+    pub fn with_next_update(mut self, next_update: Option<Time>) -> CrlBuilder<P>
+        ensures { result ≡ record self { next_update = plain_option time_value next_update } }
+    {
+        self.next_update = next_update;
+        self
+    }
+
+    /// Adds certificates that were revoked, behind those that are there, in the order in which they come. The field then stands in the
+    /// list, also where there are none.
+    ///
+    /// # Errors
+    /// Want of memory. The builder is then as it was.
+    pub fn with_certificates<I: Iterator<Item = RevokedCert<P>>>(
+        &mut self,
+        alloc: Global,
+        revoked: I,
+    ) -> Result<(), Error>
+        requires { I.can_next revoked × IsFinite (I.remaining revoked) }
+        ensures added { OnOk result (WholeRun I.next_gives revoked (λ run. self.new ≡ record self.old { revoked = Some (entries self.old.revoked ++ plain_list revoked_cert_plain run.items) })) }
+        ensures kept { OnErr result (self.new ≡ self.old) }
+        ensures refused { IfErr result IsWantOfMemory }
+    {
+        let more: Vec<RevokedCert<P>> = revoked.collect(alloc)?;
+        self.append(more)?;
+        Ok(())
+    }
+
+    /// Appends certificates to those of the list, which then has that field.
+    fn append(&mut self, mut more: Vec<RevokedCert<P>>) -> Result<(), Error>
+        ensures added { OnOk result (self.new ≡ record self.old { revoked = Some (entries self.old.revoked ++ plain_list revoked_cert_plain more.items) }) }
+        ensures kept { OnErr result (self.new ≡ self.old) }
+        ensures refused { IfErr result IsWantOfMemory }
+    {
+        match &mut self.revoked_certificates {
+            Some(certificates) => certificates.append(&mut more)?,
+            None => self.revoked_certificates = Some(more),
+        }
+        Ok(())
+    }
+
+    /// The certificates of the list, copied.
+    fn certificates(&self, alloc: Global) -> Result<Option<Vec<RevokedCert<P>>>, Error>
+        ensures copied { IfOk result (λ v. plain_option (λ rs. plain_list revoked_cert_plain rs.items) v ≡ self.now.revoked) }
+        ensures refused { IfErr result IsWantOfMemory }
+    {
+        match &self.revoked_certificates {
+            Some(certificates) => {
+                let copies = copies_of_entries(alloc, certificates.as_slice())?;
+                Ok(Some(copies))
+            }
+            None => Ok(None),
+        }
+    }
+
+    /// The part that a signer of this algorithm signs.
+    fn part_for(
+        &self,
+        alloc: Global,
+        algorithm: &AlgorithmIdentifier,
+    ) -> Result<TbsCertList<P>, Error>
+        ensures made { IfOk result (λ t. tbs_cert_list_plain t ≡ list_of self.now (algorithm_plain algorithm.now)) }
+        ensures refused { IfErr result IsWantOfMemory }
+    {
+        let signature = algorithm.clone(alloc)?;
+        let issuer = self.issuer.clone(alloc)?;
+        let revoked_certificates = self.certificates(alloc)?;
+        let crl_extensions = copies_of_extensions(alloc, self.crl_extensions.as_slice())?;
+        Ok(TbsCertList {
+            version: Version::V2,
+            signature,
+            issuer,
+            this_update: self.this_update,
+            next_update: self.next_update,
+            revoked_certificates,
+            crl_extensions: Some(crl_extensions),
+        })
+    }
+}
+
+impl<P: Profile> Builder for CrlBuilder<P> {
+    type Output = CertificateList<P>;
+
+    ghost to_sign = { λ b _ algorithm. octets_of (list_part P.serial_limit) (list_of b algorithm) };
+
+    // The part has no encoding.
+    ghost faults = { λ b _ algorithm _. IsValid (list_part P.serial_limit) (list_of b algorithm) → ⊥ };
+
+    ghost finalized = { λ b. plain_option (λ t. octets_of (list_part P.serial_limit) t) b.finalized };
+
+    // A list bears the algorithm of its signed part (RFC 5280 5.1.1.2).
+    ghost algorithm_for = { λ b a. algorithm_of_last b.finalized a };
+
+    ghost signed_octets = { λ c. octets_in_place (list_part P.serial_limit) (certificate_list_plain c) };
+
+    ghost outer_algorithm = { λ c. algorithm_plain c.signature_algorithm };
+
+    ghost bits = { λ c. c.signature };
+
+    fn finalize<S: Signer>(&mut self, alloc: Global, signer: &S) -> Result<Vec<u8>, Error> {
+        let part = self.part_for(alloc, signer.algorithm())?;
+        let octets = to_der(alloc, &part)?;
+        self.finalized = Some(part);
+        Ok(octets)
+    }
+
+    fn assemble<S: Signer>(
+        self,
+        alloc: Global,
+        signature: BitString,
+        _signer: &S,
+    ) -> Result<CertificateList<P>, Error> {
+        let CrlBuilder { finalized, .. } = self;
+        let Some(tbs_cert_list) = finalized else {
+            return Err(Error::Asn1(der_core::Error::from(ErrorKind::Failed)));
+        };
+        let signature_algorithm = tbs_cert_list.signature.clone(alloc)?;
+        signed_part_stands_in_place();
+        Ok(CertificateList {
+            tbs_cert_list,
+            signature_algorithm,
+            signature,
+        })
+    }
+
+    fn build<S: Signer>(mut self, alloc: Global, signer: &S) -> Result<CertificateList<P>, Error> {
+        let octets = self.finalize(alloc, signer)?;
+        let signature = signer.sign(alloc, octets.as_slice())?;
+        let list = self.assemble(alloc, signature, signer)?;
+        Ok(list)
+    }
+
+    fn build_with_rng<S: Signer, R: CryptoRng>(
+        mut self,
+        alloc: Global,
+        signer: &S,
+        rng: &mut R,
+    ) -> Result<CertificateList<P>, Error> {
+        let octets = self.finalize(alloc, signer)?;
+        let signature = signer.sign_with_rng(alloc, rng, octets.as_slice())?;
+        let list = self.assemble(alloc, signature, signer)?;
+        Ok(list)
+    }
+}

@@ -1,0 +1,21 @@
+//! Builders of revocation lists (RFC 5280 5.1) and of certification requests (RFC 2986).
+#![tactic(auto)]
+
+mod copies;
+mod crl_builder;
+pub mod laws;
+mod members;
+mod request_builder;
+
+pub use crl_builder::CrlBuilder;
+pub use request_builder::RequestBuilder;
+
+// What both are, who signs, and the builder of certificates.
+pub use x509_cert_builders::{
+    Builder, BuilderProfile, CertificateBuilder, CertificateType, DevId, DomainValidated, Error,
+    Root, SignError, Signer, Subordinate, Subscriber, Tls12Options, TpmVersion,
+    ca_certificate_naming, check_names_encoding, tcg_sv_tpm_12, tcg_sv_tpm_20,
+};
+
+// What they make, and of what.
+pub use x509_cert_builders::types;

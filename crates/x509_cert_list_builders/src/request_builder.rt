@@ -1,0 +1,212 @@
+//! Builders of certification requests.
+
+ghost use Rattle.std.specs.Prelude.{◌≡◌, ◌⊎◌, ◌++◌, ◌∷◌, [], false, Ok, Some, None, IfOk, IfErr, OnOk, OnErr, IsOk};
+ghost use Rattle.der_core_head.specs.Grammar.{plain_option};
+ghost use Rattle.der_core_head.specs.Ranges.{IsBodyInRange};
+ghost use Rattle.der_core_head.specs.Shapes.{IsValid, octets_of};
+ghost use Rattle.x509_cert_builders.specs.Lists.{any_of, attribute_of};
+ghost use Rattle.x509_cert_builders.specs.Lists.{cert_req_info_fields};
+ghost use Rattle.x509_cert_builders.specs.Parts.{PlainAttribute, algorithm_plain, arc_bound, attribute, key_plain, name_plain};
+ghost use Rattle.x509_cert_builders.specs.Lists.{cert_req_info_plain, cert_req_plain};
+ghost use Rattle.x509_cert_builders.specs.Refusals.{IsWantOfMemory};
+ghost use Rattle.x509_cert_list_builders.specs.Requests.{HasNoOctets, IsNoneToAdd, placed, request_of, request_part, stands_among};
+ghost use Rattle.x509_cert_list_builders.specs.Signed.{octets_in_place};
+
+use crate::copies::{copies_of_attributes, copies_of_extensions};
+use crate::laws::signed_part_stands_in_place;
+use crate::members::{place_of, stands_among};
+use der_core::{ErrorKind, InRange, InRangeValue, StrictSetOf, to_der};
+use rand_core::CryptoRng;
+use std::alloc::Global;
+use std::marker::Model;
+use x509_cert_builders::types::request::Version;
+use x509_cert_builders::types::{
+    AsAttribute, Attribute, BitString, CertReq, CertReqInfo, ExtensionReq, Name,
+    SubjectPublicKeyInfo, ToExtension, TryFromExtensionReq,
+};
+use x509_cert_builders::{Builder, Error, Signer};
+
+/// A builder of certification requests (RFC 2986). The extensions that are asked for stand in one attribute, which is made at each
+/// `finalize`.
+///
+/// Contracts see whose key it is, the extensions that are asked for, the other attributes, and the part that was made last.
+#[derive(Drop)]
+pub struct RequestBuilder {
+    subject: Name,
+    extensions: ExtensionReq,
+    attributes: Vec<Attribute>,
+    finalized: Option<CertReqInfo>,
+}
+
+impl Model for RequestBuilder {
+    ghost use Rattle.std.specs.List.{AllByRecursion};
+    ghost use Rattle.der_core_head.specs.Shapes.{IsValid};
+    ghost use Rattle.x509_cert_builders.specs.Parts.{arc_bound, attribute, attribute_plain};
+    ghost use Rattle.x509_cert_list_builders.specs.States.{RequestState, request_state};
+
+    ghost Value = { RequestState };
+
+    ghost view = { request_state };
+
+    ghost invariant = { λ b. AllByRecursion (λ a. IsValid (attribute arc_bound) (attribute_plain a)) b.attributes.items };
+}
+
+/// The parts of what is signed are in their ranges.
+fn parts_in_range(info: &CertReqInfo)
+    ensures { IsBodyInRange (cert_req_info_fields arc_bound) (cert_req_info_plain info.now) }
+{
+    info.subject.in_range();
+    info.public_key.algorithm.oid.in_range();
+    info.public_key.algorithm.parameters.in_range();
+    info.public_key.subject_public_key.in_range();
+    info.attributes.value_in_range();
+}
+
+impl RequestBuilder {
+    /// A builder of a request for a certificate of this subject, that asks for no extension.
+    pub fn new(alloc: Global, subject: Name) -> Result<RequestBuilder, Error>
+        ensures made { IfOk result (λ b. b ≡ record {
+          subject = name_plain subject;
+          extensions = [];
+          attributes = [];
+          finalized = None;
+        }) }
+        ensures never_refused { IsOk result }
+    {
+        Ok(RequestBuilder {
+            subject,
+            extensions: ExtensionReq::default(alloc),
+            attributes: Vec::new(alloc),
+            finalized: None,
+        })
+    }
+
+    /// Asks for the extension that a value gives, behind those that are asked for.
+    ///
+    /// # Errors
+    /// Those of the value, and want of memory. The builder is then as it was.
+    pub fn add_extension<E: ToExtension>(
+        &mut self,
+        alloc: Global,
+        extension: E,
+    ) -> Result<(), E::Error>
+        ensures added { OnOk result (self.new ≡ record self.old { extensions = self.old.extensions ++ E.made extension self.old.subject self.old.extensions ∷ [] }) }
+        ensures kept { OnErr result (self.new ≡ self.old) }
+    {
+        let made = extension.to_extension(alloc, &self.subject, self.extensions.0.as_slice())?;
+        match self.extensions.0.push(made) {
+            Ok(()) => Ok(()),
+            Err(error) => Err(E::Error::from(der_core::Error::from(error))),
+        }
+    }
+
+    /// Adds an attribute that holds a value, at its place in the ascending order of encodings.
+    ///
+    /// # Errors
+    /// `SetDuplicate` where it stands there, `Overflow` where it has 2^32 octets or more, and want of memory. The builder is then as it
+    /// was.
+    pub fn add_attribute<A: AsAttribute>(&mut self, alloc: Global, value: &A) -> Result<(), Error>
+        ensures added { OnOk result ((a : PlainAttribute) × (attribute_of A.oid_arcs (any_of A.shape (A.written value.now)) ≡ Ok a) × (self.new ≡ record self.old { attributes = placed (attribute arc_bound) a self.old.attributes })) }
+        ensures once { OnOk result ((a : PlainAttribute) → attribute_of A.oid_arcs (any_of A.shape (A.written value.now)) ≡ Ok a → stands_among (attribute arc_bound) a self.old.attributes ≡ false) }
+        ensures kept { OnErr result (self.new ≡ self.old) }
+        ensures refused { IfErr result (λ e. IsWantOfMemory e ⊎ IsNoneToAdd (attribute_of A.oid_arcs (any_of A.shape (A.written value.now))) self.old.attributes) }
+    {
+        let made = value.to_attribute(alloc)?;
+        made.in_range();
+        let _octets = to_der(alloc, &made)?;
+        if stands_among(self.attributes.as_slice(), &made)? {
+            return Err(Error::Asn1(der_core::Error::from(ErrorKind::SetDuplicate)));
+        }
+        let place = place_of(self.attributes.as_slice(), &made)?;
+        self.attributes.insert(place, made)?;
+        Ok(())
+    }
+
+    /// The part that a signer of this key signs.
+    fn part_for(&self, alloc: Global, key: &SubjectPublicKeyInfo) -> Result<CertReqInfo, Error>
+        // Where one of the two has an encoding, both are the same.
+        ensures made { IfOk result (λ i. IsValid request_part (cert_req_info_plain i) ⊎ IsValid request_part (request_of self.now.subject self.now.extensions self.now.attributes (key_plain key.now))
+            → cert_req_info_plain i ≡ request_of self.now.subject self.now.extensions self.now.attributes (key_plain key.now)) }
+        ensures refused { IfErr result (λ e. IsWantOfMemory e ⊎ HasNoOctets self.now.extensions (request_of self.now.subject self.now.extensions self.now.attributes (key_plain key.now))) }
+    {
+        let extensions = copies_of_extensions(alloc, self.extensions.0.as_slice())?;
+        let request = Attribute::try_from_extension_req(alloc, ExtensionReq(extensions))?;
+        let mut values = copies_of_attributes(alloc, self.attributes.as_slice())?;
+        let place = place_of(values.as_slice(), &request)?;
+        values.insert(place, request)?;
+        let subject = self.subject.clone(alloc)?;
+        let public_key = key.clone(alloc)?;
+        Ok(CertReqInfo {
+            version: Version::V1,
+            subject,
+            public_key,
+            attributes: StrictSetOf { values },
+        })
+    }
+}
+
+impl Builder for RequestBuilder {
+    type Output = CertReq;
+
+    ghost to_sign = { λ b key _. octets_of request_part (request_of b.subject b.extensions b.attributes key) };
+
+    // The extensions that are asked for, or the part, have no encoding.
+    ghost faults = { λ b key _ _. HasNoOctets b.extensions (request_of b.subject b.extensions b.attributes key) };
+
+    ghost finalized = { λ b. plain_option (λ i. octets_of request_part i) b.finalized };
+
+    // The signed part of a request holds no algorithm (RFC 2986 4.1): the signature's is that of its signer.
+    ghost algorithm_for = { λ _ signer. signer };
+
+    ghost signed_octets = { λ r. octets_in_place request_part (cert_req_plain r) };
+
+    ghost outer_algorithm = { λ r. algorithm_plain r.algorithm };
+
+    ghost bits = { λ r. r.signature };
+
+    fn finalize<S: Signer>(&mut self, alloc: Global, signer: &S) -> Result<Vec<u8>, Error> {
+        let part = self.part_for(alloc, signer.key_info())?;
+        let octets = to_der(alloc, &part)?;
+        parts_in_range(&part);
+        self.finalized = Some(part);
+        Ok(octets)
+    }
+
+    fn assemble<S: Signer>(
+        self,
+        alloc: Global,
+        signature: BitString,
+        signer: &S,
+    ) -> Result<CertReq, Error> {
+        let RequestBuilder { finalized, .. } = self;
+        let Some(info) = finalized else {
+            return Err(Error::Asn1(der_core::Error::from(ErrorKind::Failed)));
+        };
+        let algorithm = signer.algorithm().clone(alloc)?;
+        signed_part_stands_in_place();
+        Ok(CertReq {
+            info,
+            algorithm,
+            signature,
+        })
+    }
+
+    fn build<S: Signer>(mut self, alloc: Global, signer: &S) -> Result<CertReq, Error> {
+        let octets = self.finalize(alloc, signer)?;
+        let signature = signer.sign(alloc, octets.as_slice())?;
+        let request = self.assemble(alloc, signature, signer)?;
+        Ok(request)
+    }
+
+    fn build_with_rng<S: Signer, R: CryptoRng>(
+        mut self,
+        alloc: Global,
+        signer: &S,
+        rng: &mut R,
+    ) -> Result<CertReq, Error> {
+        let octets = self.finalize(alloc, signer)?;
+        let signature = signer.sign_with_rng(alloc, rng, octets.as_slice())?;
+        let request = self.assemble(alloc, signature, signer)?;
+        Ok(request)
+    }
+}
