@@ -11,12 +11,27 @@ pub record AskShow (words : List (List ℕ)) (kind : Kind) (file : List ℕ) : T
   pub name : List ℕ
   pub are : words ≡ name ∷ codes "show" ∷ kind_word kind ∷ file ∷ []
 
+-- the words, behind the program's name, ask for the chain of an orders file
+pub record AskIssue (words : List (List ℕ)) (orders : List ℕ) : Type 0 where
+  pub name : List ℕ
+  pub are : words ≡ name ∷ codes "issue" ∷ orders ∷ []
+
+-- they ask for no listing
+abbrev pub AskNoListing : List (List ℕ) → Type 0
+AskNoListing words = (kind : Kind) (file : List ℕ) → AskShow words kind file → ⊥
+
+-- they ask for no chain
+abbrev pub AskNoChain : List (List ℕ) → Type 0
+AskNoChain words = (orders : List ℕ) → AskIssue words orders → ⊥
+
 -- they ask for this
 abbrev pub AsksFor : List (List ℕ) → Command → Type 0
 AsksFor words (commands.Check a) = AskCheck words a.anchors.now a.stream.now a.moment a.purpose a.limit
 AsksFor words (commands.Show kind file) = AskShow words kind file.now
+AsksFor words (commands.Issue orders) = AskIssue words orders.now
 
 -- the limit of a check has room for a certificate
 abbrev pub HasLimit : Command → Type 0
 HasLimit (commands.Check a) = 6 ≤ a.limit
 HasLimit (commands.Show kind file) = Unit {0}
+HasLimit (commands.Issue orders) = Unit {0}

@@ -1,8 +1,7 @@
 //! What the program is asked for.
-ghost use Rattle.std.specs.Prelude.{◌≡◌, ◌≤◌, ℕ, List, map, IfSome, IfNone, string_bytes};
+ghost use Rattle.std.specs.Prelude.{map, IfSome, IfNone, string_bytes};
 ghost use Rattle.cert_desk_checking.specs.Arguments.{AskNoCheck};
-ghost use Rattle.cert_desk_listing.specs.declared.kind.Kind.{Kind};
-ghost use Rattle.cert_desk.specs.Commands.{AsksFor, AskShow, HasLimit};
+ghost use Rattle.cert_desk.specs.Commands.{AsksFor, AskShow, AskIssue, AskNoListing, AskNoChain, HasLimit};
 
 use cert_desk_checking::Arguments;
 use cert_desk_listing::Kind;
@@ -19,33 +18,64 @@ pub enum Command<'a> {
         /// Its name.
         file: &'a str,
     },
+    /// The chain that an orders file asks for.
+    Issue {
+        /// The name of the file.
+        orders: &'a str,
+    },
 }
 
 impl<'a> Command<'a> {
     /// The command in these words, of which the first is the program's name: `check ANCHORS STREAM
-    /// MOMENT PURPOSE LIMIT`, as `Arguments::parse` reads them, or `show KIND FILE`, where the kind is
-    /// `certificate`, `list` or `request`.
+    /// MOMENT PURPOSE LIMIT`, as `Arguments::parse` reads them, `show KIND FILE`, where the kind is
+    /// `certificate`, `list` or `request`, or `issue ORDERS`.
     pub fn parse(words: &'a [String]) -> Option<Command<'a>>
         ensures read { IfSome result (AsksFor (map string_bytes words.now)) }
         ensures limit { IfSome result HasLimit }
         ensures no_check { IfNone result (AskNoCheck (map string_bytes words.now)) }
-        ensures no_listing { IfNone result ((kind : Kind) (file : List ℕ) → AskShow (map string_bytes words.now) kind file → ⊥) }
+        ensures no_listing { IfNone result (AskNoListing (map string_bytes words.now)) }
+        ensures no_issuing { IfNone result (AskNoChain (map string_bytes words.now)) }
     {
-        let [_, command, kind, file] = words else {
-            let Some(arguments) = Arguments::parse(words) else {
-                return None;
-            };
+        if let Some(arguments) = Arguments::parse(words) {
             return Some(Command::Check(arguments));
-        };
-        if command.as_str() != "show" {
-            return None;
         }
-        let Some(kind) = Kind::named(kind.as_str()) else {
+        if let Some((kind, file)) = listing_asked(words) {
+            return Some(Command::Show { kind, file });
+        }
+        let Some(orders) = chain_asked(words) else {
             return None;
         };
-        Some(Command::Show {
-            kind,
-            file: file.as_str(),
-        })
+        Some(Command::Issue { orders })
     }
+}
+
+// The kind and the file of `show KIND FILE`.
+fn listing_asked<'a>(words: &'a [String]) -> Option<(Kind, &'a str)>
+    ensures read { IfSome result (λ r. AskShow (map string_bytes words.now) r.0 r.1.now) }
+    ensures refused { IfNone result (AskNoListing (map string_bytes words.now)) }
+{
+    let [_, command, kind, file] = words else {
+        return None;
+    };
+    if command.as_str() != "show" {
+        return None;
+    }
+    let Some(kind) = Kind::named(kind.as_str()) else {
+        return None;
+    };
+    Some((kind, file.as_str()))
+}
+
+// The orders file of `issue ORDERS`.
+fn chain_asked<'a>(words: &'a [String]) -> Option<&'a str>
+    ensures read { IfSome result (λ r. AskIssue (map string_bytes words.now) r.now) }
+    ensures refused { IfNone result (AskNoChain (map string_bytes words.now)) }
+{
+    let [_, command, orders] = words else {
+        return None;
+    };
+    if command.as_str() != "issue" {
+        return None;
+    }
+    Some(orders.as_str())
 }

@@ -1,10 +1,13 @@
 //! `cert_desk check ANCHORS STREAM MOMENT PURPOSE LIMIT`: whether a stream of certificates is trusted.
 //! `cert_desk show KIND FILE`: what a certificate, a list or a request says.
+//! `cert_desk issue ORDERS`: the chain that an orders file asks for.
 #![tactic(auto)]
 
 ghost use Rattle.std.specs.Prelude.{◌≤◌};
 
-use cert_desk::{Arguments, Command, DigestJudge, Kind, Status, USAGE, run_check, run_show};
+use cert_desk::{
+    Arguments, Command, DigestJudge, Kind, Status, USAGE, run_check, run_orders, run_show,
+};
 use cert_desk_io::{FromRead, Output, ToWrite, write_all};
 use std::fs::File;
 use std::process::ExitCode;
@@ -31,6 +34,7 @@ fn run(rt: &HostRuntime) -> u8 {
     match Command::parse(words.as_slice()) {
         Some(Command::Check(arguments)) => check(rt, &arguments, &mut err),
         Some(Command::Show { kind, file }) => show(rt, kind, file, &mut err),
+        Some(Command::Issue { orders }) => issue(rt, orders, &mut err),
         None => complain(&mut err, USAGE, Status::Arguments),
     }
 }
@@ -73,6 +77,21 @@ fn show<E: Output>(rt: &HostRuntime, kind: Kind, file: &str, err: &mut E) -> u8 
         &mut ToWrite::new(io::writer(rt)),
         err,
         kind,
+    );
+    status as u8
+}
+
+/// Opens an orders file, and issues the chain that it asks for.
+fn issue<E: Output>(rt: &HostRuntime, orders: &str, err: &mut E) -> u8 {
+    let orders = match File::open(rt, orders) {
+        Ok(orders) => orders,
+        Err(error) => return complain_of(err, &error, DEVICE, Status::Device),
+    };
+    let status = run_orders(
+        rt.alloc(),
+        &mut FromRead::new(orders),
+        &mut ToWrite::new(io::writer(rt)),
+        err,
     );
     status as u8
 }

@@ -1,7 +1,7 @@
 use Rattle.std.proofs.Common.{rules, ◌≡◌, ◌∷◌, [], codes, string_bytes, ap, sym, ◌∙◌}
 use Rattle.cert_desk_listing.specs.Kinds.{kind_word}
 use Rattle.cert_desk.proofs.Words.{four_words}
-use Rattle.cert_desk.proofs.command.Command.parse.Goals as goal
+use Rattle.cert_desk.proofs.command.listing_asked.Goals as goal
 
 pub returns-clause-read : goal.returns-clause-read
 returns-clause-read c =
@@ -12,6 +12,6 @@ returns-clause-read c =
       name = words.0;
       are = words.1
           ∙ ap (λ x. words.0 ∷ x ∷ string_bytes c.kind-item.result ∷ string_bytes c.file-item.result ∷ []) show
-          ∙ ap (λ x. words.0 ∷ codes "show" ∷ x ∷ string_bytes c.file-item.result ∷ []) (sym c.as_str-2.ensures.value ∙ c.in-Some-named.ensures.read)
-          ∙ ap (λ x. words.0 ∷ codes "show" ∷ kind_word c.in-Some-named.kind ∷ x ∷ []) (sym c.as_str-3.ensures.value);
+          ∙ ap (λ x. words.0 ∷ codes "show" ∷ x ∷ string_bytes c.file-item.result ∷ []) (sym c.as_str-2.ensures.value ∙ c.in-Some.ensures.read)
+          ∙ ap (λ x. words.0 ∷ codes "show" ∷ kind_word c.in-Some.kind ∷ x ∷ []) (sym c.as_str-3.ensures.value);
     }

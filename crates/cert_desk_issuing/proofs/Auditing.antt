@@ -1,0 +1,104 @@
+-- A stream that was issued is judged under its own root.
+use Rattle.std.proofs.Common.{◌≡◌, ◌≢◌, ℕ, ◌-◌, ◌^◌, ◌<◌, List, [], ◌∷◌, ◌++◌, length, map, Some, slice_get, refl, sym, ap, ◌∙◌, subst, arith}
+use Rattle.x509_cert.specs.Certificates.{PlainCertificate, PlainName, PublicKey, public_key}
+use Rattle.x509_cert.specs.Views.{arc_bound}
+use Rattle.cert_desk_checking.specs.declared.bundle_error.BundleError.{BundleError}
+use Rattle.cert_desk_checking.specs.declared.bundle_error.BundleError.TheVariants as refusals
+use Rattle.cert_desk_checking.specs.declared.checked.CheckError.{CheckError}
+use Rattle.cert_desk_checking.specs.declared.checked.CheckError.TheVariants as errors
+use Rattle.cert_desk_checking.specs.declared.checked.Verdict.{Verdict}
+use Rattle.cert_desk_checking.specs.declared.checked.Verdict.TheVariants as verdicts
+use Rattle.cert_desk_checking.specs.declared.standing.Standing.TheVariants as standings
+use Rattle.cert_desk_checking.specs.Chains.{Chain}
+use Rattle.cert_desk_checking.specs.Judging.{Answers, PlainAnchor, Terms}
+use Rattle.cert_desk_checking.specs.Steps.{HasFailed, RefusesEnd, RefusesPiece}
+use Rattle.cert_desk_checking.specs.Streams.{Kept, Reads}
+use Rattle.cert_desk_checking.specs.Verdicts.{IsVerdict, Trusted}
+use Rattle.cert_desk_checking.proofs.ChainLaws.{only_trusted}
+use Rattle.cert_desk_checking.proofs.OneChain.{one_chain}
+use Rattle.cert_desk_issuing.specs.Auditing.{root_anchor, root_anchors}
+use Rattle.cert_desk_issuing.specs.Chains.{HoldsOrders}
+use Rattle.cert_desk_issuing.specs.Laws.{Permits, anchor_of, terms_for}
+use Rattle.cert_desk_issuing.specs.PlainOrders.{PlainOrder}
+use Rattle.cert_desk_issuing.proofs.Held.{key_is, subject_is}
+use Rattle.cert_desk_issuing.proofs.Places.{some_same}
+use Rattle.cert_desk_issuing.proofs.TrustLaws.{held_is_trusted, trusted_is_permitted}
+
+-- What is known of a bundle that takes no more pieces.
+pub record IsClosed (b : Kept) (stream : List ℕ) : Type 0 where
+  pub closed : b.standing ≢ standings.Open
+  pub sound : b.standing ≢ standings.NoDevice
+  pub reads : b.standing ≢ standings.NoMemory → Reads arc_bound b stream
+
+-- a piece that is refused, and an end
+pub refused_piece : (old new : Kept) (piece : List ℕ) (e : BundleError) → old.standing ≡ standings.Open → Reads arc_bound old [] → RefusesPiece arc_bound old new piece e → IsClosed new piece
+refused_piece old new piece (refusals.Fault place offset kind) is_open read h = record {
+  closed = λ e. (let is = h.found.standing in absurd cc);
+  sound = λ e. (let is = h.found.standing in absurd cc);
+  reads = λ _. h.reads [] read;
+}
+refused_piece old new piece refusals.OutOfMemory is_open read h = record {
+  closed = λ e. (let is = h.standing in absurd cc);
+  sound = λ e. (let is = h.standing in absurd cc);
+  reads = λ n. absurd (n h.standing);
+}
+refused_piece old new piece refusals.Failed is_open read h = absurd (h.was_shut is_open)
+
+pub refused_end : (old new : Kept) (stream : List ℕ) (e : BundleError) → old.standing ≡ standings.Open → Reads arc_bound old stream → RefusesEnd arc_bound old new e → IsClosed new stream
+refused_end old new stream (refusals.Fault place offset kind) is_open read h = record {
+  closed = λ e. (let is = h.found.standing in absurd cc);
+  sound = λ e. (let is = h.found.standing in absurd cc);
+  reads = λ _. h.reads stream read;
+}
+refused_end old new stream refusals.OutOfMemory is_open read h = absurd h
+refused_end old new stream refusals.Failed is_open read h = absurd (subst HasFailed is_open h.failed)
+
+pub is_ended : (b : Kept) (stream : List ℕ) → b.standing ≡ standings.Ended → Reads arc_bound b stream → IsClosed b stream
+is_ended b stream is read = record {
+  closed = λ e. absurd cc;
+  sound = λ e. absurd cc;
+  reads = λ _. read;
+}
+
+-- one anchor
+abbrev anchor_alone : PlainName → PublicKey → List PlainAnchor
+anchor_alone name key = record { name = name; key = key } ∷ []
+
+-- the anchor is that of the root's order
+module _ (root : PlainOrder) (below : List PlainOrder) (cs own : List PlainCertificate) (stream : List ℕ) (h : HoldsOrders (root ∷ below) cs stream) (chain : Chain arc_bound (2 ^ 32 - 1) own stream) where
+  first_anchor : (ds : List PlainCertificate) → (c : PlainCertificate) → slice_get ds 0 ≡ Some c → root_anchors ds ≡ root_anchor c ∷ []
+  first_anchor [] c e = absurd cc
+  first_anchor (d ∷ ds) c e = ap (λ x. root_anchor x ∷ []) (some_same d c e)
+
+  pub anchors_are : root_anchors own ≡ anchor_of root ∷ []
+  anchors_are =
+      let some : 0 < length cs = omega (arith, h.count) in
+      let here = h.held 0 some in
+      let first : here.order ≡ root = some_same here.order root (sym here.order_is) in
+      let named = subject_is (root ∷ below) cs 0 here ∙ ap (λ (p : PlainOrder). p.subject) first in
+      let keyed = key_is (root ∷ below) cs 0 here ∙ ap (λ (p : PlainOrder). p.key) first in
+      ap root_anchors (one_chain arc_bound (2 ^ 32 - 1) own cs stream chain h.chain)
+      ∙ first_anchor cs here.certificate here.certificate_is
+      ∙ ap (λ (n : PlainName). anchor_alone n (public_key here.certificate)) named
+      ∙ ap (λ (k : PublicKey). anchor_alone root.subject k) keyed
+
+  -- what is said under the anchors of the stream's own certificates is said under that of the root's order
+  pub under_root : (anchors : List PlainAnchor) (moment : ℕ) (purpose : List ℕ) (answers : Answers) (n limit : ℕ) (P : Terms → ℕ → Type 0) → anchors ≡ root_anchors own → n ≡ limit
+      → P (record { bound = arc_bound; anchors = anchors; moment = moment; purpose = purpose; answers = answers }) n → P (terms_for root moment purpose answers) limit
+  under_root anchors moment purpose answers n limit P same_anchors same_limit p =
+      subst (λ k. P (terms_for root moment purpose answers) k) same_limit
+      (subst (λ (xs : List PlainAnchor). P (record { bound = arc_bound; anchors = xs; moment = moment; purpose = purpose; answers = answers }) n) (same_anchors ∙ anchors_are) p)
+
+-- trusted exactly where it is permitted
+pub exactly : (root : PlainOrder) (below : List PlainOrder) (cs : List PlainCertificate) (stream : List ℕ) (limit moment : ℕ) (purpose : List ℕ) (answers : Answers) (v : Verdict)
+    → HoldsOrders (root ∷ below) cs stream → IsVerdict (terms_for root moment purpose answers) limit stream v
+    → (v ≡ verdicts.Trusted → Permits limit moment purpose answers (root ∷ below) cs) × (Permits limit moment purpose answers (root ∷ below) cs → v ≡ verdicts.Trusted)
+exactly root below cs stream limit moment purpose answers v h is = (
+  λ e. trusted_is_permitted root below cs stream limit moment purpose answers h (subst (λ w. IsVerdict (terms_for root moment purpose answers) limit stream w) e is),
+  λ p. only_trusted (terms_for root moment purpose answers) limit stream v is (held_is_trusted root below cs stream limit moment purpose answers h p),
+)
+
+-- an error that isn't a device's
+pub only_memory : (e : CheckError) → (e ≡ errors.Device → ⊥) → e ≡ errors.OutOfMemory
+only_memory errors.OutOfMemory no_device = refl
+only_memory errors.Device no_device = absurd (no_device refl)

@@ -1,0 +1,16 @@
+pub mod AcceptedFronts
+pub mod Auditing
+pub mod DigestRuns
+pub mod DigestSigns
+pub mod DnsNames
+pub mod Held
+pub mod IssuedBreaks
+pub mod IssuedFronts
+pub mod IssuedTrusted
+pub mod Meanings
+pub mod Places
+pub mod SignedLaws
+pub mod SignedParts
+pub mod Told
+pub mod TrustLaws
+pub mod Trusting

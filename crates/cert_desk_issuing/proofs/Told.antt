@@ -1,0 +1,144 @@
+-- What all extensions of an ordered certificate say, and what the rules find in it.
+use Rattle.std.proofs.Common.{◌≡◌, ◌≢◌, ℕ, ◌<◌, ◌^◌, List, [], ◌∷◌, map, length, Bool, true, false, not, ◌&&◌, ◌||◌, Option, Some, None, refl, sym, ap, ◌∙◌, arith, ◌==◌}
+use Rattle.std.specs.List.{list_all, list_any}
+use Rattle.const_oid_identifiers.specs.Comparing.{owned_eq}
+use Rattle.const_oid_identifiers.specs.Digits.{digits, digits_within, marked}
+use Rattle.const_oid_identifiers.specs.IdentifierOctets.{identifier_octets, arc_octets}
+use Rattle.der_core_head.specs.Heads.{Fits}
+use Rattle.der_core_head.specs.Shapes.{octets_of}
+use Rattle.x509_cert.specs.Builders.{authority_key_extension, authority_uses, constraints_extension, digital_signature, purposes_extension, subject_key_extension, usage_extension}
+use Rattle.x509_cert.specs.Builders as profiles
+use Rattle.x509_cert.specs.Certificates.{PlainExtension, PublicKey, is_critical}
+use Rattle.x509_cert.specs.Views.{arc_bound}
+use Rattle.x509_cert.specs.Extensions.{general_names}
+use Rattle.cert_desk_checking.specs.Judging.{are_distinct}
+use Rattle.cert_desk_checking.specs.Paths.{is_within}
+use Rattle.cert_desk_checking.specs.Weighing.{Meaning, uses, constraints, other_names, purposes, unweighed, any_purpose, is_authority, is_malformed, is_unweighed, is_unweighed_critical, may_certify, path_length, serves, weigh}
+use Rattle.cert_desk_issuing.specs.declared.role.Role.{Role}
+use Rattle.cert_desk_issuing.specs.declared.role.Role.TheVariants as roles
+use Rattle.cert_desk_checking.proofs.Folds.{and_yes, or_no}
+use Rattle.cert_desk_issuing.specs.Allowances.{allows_one, path_in}
+use Rattle.cert_desk_issuing.specs.Ordered.{dns_names, extensions_for, names_extension}
+use Rattle.cert_desk_issuing.specs.PlainOrders.{IsRight, PlainOrder}
+use Rattle.cert_desk_issuing.specs.Weighed.{Told, told, told_for}
+use Rattle.cert_desk_issuing.proofs.Meanings.{authority_key_says, authority_says, constraints_say, names_say, purposes_say, signature_says, subject_key_says}
+
+-- where the names have an encoding
+abbrev pub FitsFor : Role → PlainOrder → Type 0
+FitsFor roles.Root p = Unit {0}
+FitsFor roles.Subordinate p = Unit {0}
+FitsFor roles.Subscriber p = Fits (octets_of (general_names arc_bound) (dns_names p.dns))
+
+told_by : (critical : Bool) (m n : Meaning) (more rest : List Told) → m ≡ n → more ≡ rest → (critical, m) ∷ more ≡ (critical, n) ∷ rest
+told_by critical m n more rest e f = ap (λ (x : Meaning). (critical, x) ∷ more) e ∙ ap (λ xs. (critical, n) ∷ xs) f
+
+pub told_is : (role : Role) (p : PlainOrder) (k : PublicKey) → IsRight role p → FitsFor role p → map told (extensions_for role p k) ≡ told_for role p
+told_is roles.Root p k right fits =
+    told_by false _ _ _ _ (authority_key_says p.key) (told_by true _ _ _ _ (constraints_say true None tt) (told_by true _ _ _ _ (authority_says p.answers)
+    (told_by false _ _ _ _ (subject_key_says p.key) refl)))
+told_is roles.Subordinate p k right fits =
+    told_by false _ _ _ _ (authority_key_says k) (told_by true _ _ _ _ (constraints_say true p.path right.short) (told_by true _ _ _ _ (authority_says p.answers)
+    (told_by false _ _ _ _ (subject_key_says p.key) (told_by false _ _ _ _ (purposes_say p.clients) refl))))
+told_is roles.Subscriber p k right fits =
+    told_by (length p.subject == 0) _ _ _ _ (names_say p.subject p.dns fits right.names.1) (told_by false _ _ _ _ (authority_key_says k) (told_by false _ _ _ _ (purposes_say p.clients)
+    (told_by true _ _ _ _ (constraints_say false None tt) (told_by true _ _ _ _ signature_says refl))))
+
+any_told : (test : Told → Bool) (es : List PlainExtension) → list_any (λ e. test (told e)) es ≡ list_any test (map told es)
+any_told test [] = refl
+any_told test (e ∷ es) = ap (λ b. test (told e) || b) (any_told test es)
+
+all_told : (test : Told → Bool) (es : List PlainExtension) → list_all (λ e. test (told e)) es ≡ list_all test (map told es)
+all_told test [] = refl
+all_told test (e ∷ es) = ap (λ b. test (told e) && b) (all_told test es)
+
+-- a root lists no purposes
+abbrev pub allows_in : Role → List ℕ → PlainOrder → Bool
+allows_in roles.Root purpose p = true
+allows_in roles.Subordinate purpose p = allows_one purpose p
+allows_in roles.Subscriber purpose p = allows_one purpose p
+
+one_of : (a : Bool) → ((a || false) || false) ≡ (a || false)
+one_of true = refl
+one_of false = refl
+
+two_of : (a b : Bool) → ((a || false) || ((b || false) || false)) ≡ (a || b)
+two_of true b = refl
+two_of false true = refl
+two_of false false = refl
+
+serving : (purpose : List ℕ) (clients : Bool) → serves purpose (purposes (profiles.purposes clients)) ≡ (owned_eq (profiles.id_kp 1) purpose || (clients && owned_eq (profiles.id_kp 2) purpose))
+unfolding identifier_octets arc_octets digits digits_within marked
+serving purpose true = two_of (owned_eq (profiles.id_kp 1) purpose) (owned_eq (profiles.id_kp 2) purpose)
+serving purpose false = one_of (owned_eq (profiles.id_kp 1) purpose)
+
+-- What the rules find in the extensions of a role.
+module _ (role : Role) (p : PlainOrder) (k : PublicKey) (right : IsRight role p) (fits : FitsFor role p) where
+  any_is : (test : Told → Bool) → list_any (λ e. test (told e)) (extensions_for role p k) ≡ list_any test (told_for role p)
+  any_is test = any_told test (extensions_for role p k) ∙ ap (list_any test) (told_is role p k right fits)
+
+  all_is : (test : Told → Bool) → list_all (λ e. test (told e)) (extensions_for role p k) ≡ list_all test (told_for role p)
+  all_is test = all_told test (extensions_for role p k) ∙ ap (list_all test) (told_is role p k right fits)
+
+  none_malformed : (r : Role) → list_any (λ (t : Told). is_malformed t.1) (told_for r p) ≡ false
+  none_malformed roles.Root = refl
+  none_malformed roles.Subordinate = refl
+  none_malformed roles.Subscriber = refl
+
+  pub well_formed : list_any (λ e. is_malformed (weigh arc_bound e)) (extensions_for role p k) ≡ false
+  well_formed = any_is (λ t. is_malformed t.1) ∙ none_malformed role
+
+  no_and : (b : Bool) → (b && false) ≡ false
+  no_and true = refl
+  no_and false = refl
+
+  none_unweighed : (r : Role) → list_any (λ (t : Told). t.0 && is_unweighed t.1) (told_for r p) ≡ false
+  none_unweighed roles.Root = refl
+  none_unweighed roles.Subordinate = refl
+  none_unweighed roles.Subscriber = ap (λ b. b || false) (no_and (length p.subject == 0))
+
+  pub all_weighed : list_any (is_unweighed_critical arc_bound) (extensions_for role p k) ≡ false
+  all_weighed = any_is (λ t. t.0 && is_unweighed t.1) ∙ none_unweighed role
+
+  certifying : (answers : Bool) → may_certify (uses (authority_uses answers)) ≡ true
+  certifying true = refl
+  certifying false = refl
+
+  authority_by : (r : Role) → r ≢ roles.Subscriber → (list_any (λ (t : Told). is_authority t.1) (told_for r p) && list_all (λ (t : Told). may_certify t.1) (told_for r p)) ≡ true
+  authority_by roles.Root other = ap (λ b. b && true) (certifying p.answers)
+  authority_by roles.Subordinate other = ap (λ b. b && true) (certifying p.answers)
+  authority_by roles.Subscriber other = absurd (other refl)
+
+  -- a root's certificate and those between are authorities', whose keys may sign certificates
+  pub authority : role ≢ roles.Subscriber
+      → (list_any (λ e. is_authority (weigh arc_bound e)) (extensions_for role p k) && list_all (λ e. may_certify (weigh arc_bound e)) (extensions_for role p k)) ≡ true
+  authority other =
+      ap (λ b. b && list_all (λ e. may_certify (weigh arc_bound e)) (extensions_for role p k)) (any_is (λ t. is_authority t.1))
+      ∙ ap (λ b. list_any (λ (t : Told). is_authority t.1) (told_for role p) && b) (all_is (λ t. may_certify t.1))
+      ∙ authority_by role other
+
+  lengths_by : (r : Role) (n : ℕ) → list_all (λ (t : Told). is_within n (path_length t.1)) (told_for r p) ≡ is_within n (path_in r p)
+  lengths_by roles.Root n = refl
+  lengths_by roles.Subordinate n = sym (and_yes (is_within n p.path))
+  lengths_by roles.Subscriber n = refl
+
+  -- a path length is that of the order
+  pub lengths : (n : ℕ) → list_all (λ e. is_within n (path_length (weigh arc_bound e))) (extensions_for role p k) ≡ is_within n (path_in role p)
+  lengths n = all_is (λ t. is_within n (path_length t.1)) ∙ lengths_by role n
+
+  -- purposes are those of the order
+  serves_by : (r : Role) (purpose : List ℕ) → list_all (λ (t : Told). serves purpose t.1) (told_for r p) ≡ allows_in r purpose p
+  serves_by roles.Root purpose = refl
+  serves_by roles.Subordinate purpose = sym (and_yes (serves purpose (purposes (profiles.purposes p.clients)))) ∙ serving purpose p.clients
+  serves_by roles.Subscriber purpose = sym (and_yes (serves purpose (purposes (profiles.purposes p.clients)))) ∙ serving purpose p.clients
+
+  pub serves_as : (purpose : List ℕ) → list_all (λ e. serves purpose (weigh arc_bound e)) (extensions_for role p k) ≡ allows_in role purpose p
+  serves_as purpose = all_is (λ t. serves purpose t.1) ∙ serves_by role purpose
+
+  distinct_by : (r : Role) → are_distinct (extensions_for r p k) ≡ true
+  unfolding identifier_octets arc_octets digits digits_within marked
+  distinct_by roles.Root = refl
+  distinct_by roles.Subordinate = refl
+  distinct_by roles.Subscriber = refl
+
+  pub distinct : are_distinct (extensions_for role p k) ≡ true
+  distinct = distinct_by role

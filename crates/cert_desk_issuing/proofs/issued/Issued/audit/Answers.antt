@@ -1,0 +1,43 @@
+use Rattle.std.proofs.Common.{ℕ, List, map, sym, ap, ◌∙◌, subst}
+use Rattle.x509_cert.specs.Views.{arc_bound}
+use Rattle.cert_desk_checking.specs.Anchors.{anchor_plain}
+use Rattle.cert_desk_checking.specs.Judging.{Terms}
+use Rattle.cert_desk_checking.specs.Streams.{Reads}
+use Rattle.cert_desk_checking.specs.Verdicts.{IsCounted, IsVerdict}
+use Rattle.cert_desk_issuing.specs.Auditing.{root_anchors}
+use Rattle.cert_desk_issuing.proofs.Auditing.{exactly, under_root}
+use Rattle.cert_desk_issuing.proofs.issued.Issued.audit.Goals as goal
+
+pub returns-clause-verdict : goal.returns-clause-verdict
+returns-clause-verdict g c = λ root below cs h.
+    let own = c.args.self.now.certificates in
+    let stream = c.args.self.now.stream in
+    let answers = g.J.SignatureJudge.answers c.args.judge.now in
+    let reads = subst (λ (w : List ℕ). Reads arc_bound c.read-bundle.result w) c.stream.ensures.octets
+    (c.read-bundle.ensures.reads (λ e. (let none = sym c.in_ok-checked.was ∙ c.check.ensures.no_memory e in absurd cc))) in
+    let given = ap (map anchor_plain) c.as_slice.ensures.value ∙ c.in_ok-anchors.ensures.copied ∙ ap root_anchors c.certificates.ensures in
+    under_root root below cs own stream h c.stream.ensures.chain (map anchor_plain c.as_slice.result.now) c.args.moment c.args.purpose.now answers c.read-bundle.result.limit c.args.limit
+    (λ (t : Terms) (n : ℕ). IsVerdict t n stream c.in_ok-checked.checked.verdict) given c.read-bundle.ensures.limit (c.in_ok-checked.ensures.verdict stream reads)
+
+pub returns-clause-trusted : goal.returns-clause-trusted
+returns-clause-trusted g c = λ root below cs h.
+    let own = c.args.self.now.certificates in
+    let stream = c.args.self.now.stream in
+    let answers = g.J.SignatureJudge.answers c.args.judge.now in
+    let reads = subst (λ (w : List ℕ). Reads arc_bound c.read-bundle.result w) c.stream.ensures.octets
+    (c.read-bundle.ensures.reads (λ e. (let none = sym c.in_ok-checked.was ∙ c.check.ensures.no_memory e in absurd cc))) in
+    let given = ap (map anchor_plain) c.as_slice.ensures.value ∙ c.in_ok-anchors.ensures.copied ∙ ap root_anchors c.certificates.ensures in
+    exactly root below cs stream c.args.limit c.args.moment c.args.purpose.now answers c.in_ok-checked.checked.verdict h
+    (under_root root below cs own stream h c.stream.ensures.chain (map anchor_plain c.as_slice.result.now) c.args.moment c.args.purpose.now answers c.read-bundle.result.limit c.args.limit
+    (λ (t : Terms) (n : ℕ). IsVerdict t n stream c.in_ok-checked.checked.verdict) given c.read-bundle.ensures.limit (c.in_ok-checked.ensures.verdict stream reads))
+
+pub returns-clause-counted : goal.returns-clause-counted
+returns-clause-counted g c = λ root below cs h.
+    let own = c.args.self.now.certificates in
+    let stream = c.args.self.now.stream in
+    let answers = g.J.SignatureJudge.answers c.args.judge.now in
+    let reads = subst (λ (w : List ℕ). Reads arc_bound c.read-bundle.result w) c.stream.ensures.octets
+    (c.read-bundle.ensures.reads (λ e. (let none = sym c.in_ok-checked.was ∙ c.check.ensures.no_memory e in absurd cc))) in
+    let given = ap (map anchor_plain) c.as_slice.ensures.value ∙ c.in_ok-anchors.ensures.copied ∙ ap root_anchors c.certificates.ensures in
+    under_root root below cs own stream h c.stream.ensures.chain (map anchor_plain c.as_slice.result.now) c.args.moment c.args.purpose.now answers c.read-bundle.result.limit c.args.limit
+    (λ (t : Terms) (n : ℕ). IsCounted t n stream c.in_ok-checked.checked (g.J.SignatureJudge.questions c.args.judge.now) (g.J.SignatureJudge.questions c.check.new.judge)) given c.read-bundle.ensures.limit (c.in_ok-checked.ensures.counted stream reads)

@@ -1,0 +1,20 @@
+use Rattle.std.proofs.Common.{List, map, ap, ◌∙◌, subst}
+use Rattle.x509_cert.specs.Certificates.{PublicKey}
+use Rattle.cert_desk_issuing.specs.Chains.{IssuedChain}
+use Rattle.cert_desk_issuing.specs.DigestSigners.{digest_algorithm, IsDigestOf}
+use Rattle.cert_desk_issuing.specs.Refusals.{Refuses}
+use Rattle.cert_desk_issuing.specs.Runs.{signer_key}
+use Rattle.cert_desk_issuing.proofs.DigestRuns.{issued_by_keys, refused_by_keys}
+use Rattle.cert_desk_issuing.proofs.running.find_issued.Goals as goal
+
+pub returns-in-Ok-issue : goal.returns-in-Ok-issue
+returns-in-Ok-issue c =
+    let keys = ap (map signer_key) c.as_slice.ensures.value ∙ c.in-Ok.ensures in
+    subst (λ (ks : List PublicKey). IssuedChain (λ (k : PublicKey). k) (λ k. digest_algorithm) IsDigestOf c.args.orders.now ks c.in-Ok-issue.issued.stream) keys
+    (issued_by_keys signer_key digest_algorithm IsDigestOf c.args.orders.now c.as_slice.result.now c.in-Ok-issue.issued.stream c.in-Ok-issue.ensures.issued)
+
+pub returns : goal.returns
+returns c =
+    let keys = ap (map signer_key) c.as_slice.ensures.value ∙ c.in-Ok.ensures in
+    subst (λ (ks : List PublicKey). Refuses (λ (k : PublicKey). k) (λ k. digest_algorithm) IsDigestOf (λ k octets. ⊥) c.args.orders.now ks c.in-Err.error) keys
+    (refused_by_keys signer_key digest_algorithm IsDigestOf c.args.orders.now c.as_slice.result.now c.in-Err.error c.in-Err.ensures.refused)

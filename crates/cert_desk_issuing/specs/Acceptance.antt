@@ -1,0 +1,80 @@
+-- Which orders are accepted.
+use Rattle.std.specs.Prelude.{◌≡◌, ℕ, ◌≤◌, ◌<◌, List, [], ◌∷◌, length, Bool, true, Option, Some, Ok, nat_lt, slice_get, string_bytes}
+use Rattle.std.specs.Bool.{⊤}
+use Rattle.std.specs.List.{list_all}
+use Rattle.der_core_head.specs.Grammar.{plain_list}
+use Rattle.der_core_head.specs.Shapes.{octets_of}
+use Rattle.der_types_time.specs.DateTexts.{date_text}
+use Rattle.der_types_time.specs.Seconds.{unix_seconds}
+use Rattle.x509_cert.specs.Builders.{NamesAuthority}
+use Rattle.x509_cert.specs.Builders.{may_stay}
+use Rattle.x509_cert.specs.Certificates.{PlainName, PublicKey, public_key_info}
+use Rattle.x509_cert.specs.Views.{arc_bound, key_plain}
+use Rattle.x509_cert.specs.Texts.{SpellsName}
+use Rattle.x509_cert.specs.Parts.{relative_plain}
+use Rattle.x509_cert_parts.specs.Grammar.{PlainValidity, not_after, not_before}
+use Rattle.x509_cert.specs.Parts.{civil_of}
+use Rattle.x509_cert.specs.Parts.{time_of}
+use Rattle.x509_cert.specs.Texts.{new_serial}
+use Rattle.cert_desk_orders.specs.declared.order.Order.{Order}
+use Rattle.cert_desk_issuing.specs.declared.role.Role.{Role}
+use Rattle.cert_desk_issuing.specs.declared.role.Role.TheVariants as roles
+use Rattle.cert_desk_issuing.specs.PlainOrders.{IsRight, PlainOrder}
+use Rattle.cert_desk_issuing.specs.Roles.{role_at, signers_for}
+
+-- a subscriber's name has countries and common names alone (CA/Browser Forum, Baseline Requirements 7.1.2.7.2)
+abbrev pub names_subscriber : PlainName → Bool
+names_subscriber n = list_all (λ r. list_all may_stay r) n
+
+-- the name is one that the certificate of a role may have
+abbrev pub IsNamedFor : Role → PlainName → Type 0
+IsNamedFor roles.Root n = NamesAuthority {X = Unit {0}} n (Ok tt)
+IsNamedFor roles.Subordinate n = ⊤
+IsNamedFor roles.Subscriber n = names_subscriber n ≡ true
+
+-- the texts are those of two dates, of which the second isn't before the first, spelled as RFC 5280 has them
+pub record SpellDates (before after : List ℕ) (v : PlainValidity) : Type 0 where
+  pub first : before ≡ date_text (civil_of (not_before v))
+  pub last : after ≡ date_text (civil_of (not_after v))
+  pub spelled : v ≡ (time_of (civil_of (not_before v)), (time_of (civil_of (not_after v)), tt))
+  pub in_order : unix_seconds (civil_of (not_before v)) ≤ unix_seconds (civil_of (not_after v))
+
+-- the key of the signer at the order's place, if it needs one, has the octets of the order's
+abbrev pub SameKey : PublicKey → PublicKey → Type 0
+SameKey k other = octets_of (public_key_info arc_bound) k ≡ octets_of (public_key_info arc_bound) other
+
+abbrev pub IsKeyOf : Option PublicKey → PublicKey → Type 0
+IsKeyOf (Some signer_key) k = SameKey signer_key k
+IsKeyOf _ k = ⊤
+
+-- The order is accepted in this role, and asks for this.
+pub record IsAccepted (role : Role) (signer_key : Option PublicKey) (o : Order) (p : PlainOrder) : Type 0 where
+  pub name : SpellsName (string_bytes o.name) p.subject
+  pub naming : IsNamedFor role p.subject
+  pub serial : new_serial o.serial.items ≡ Ok p.serial
+  pub dates : SpellDates (string_bytes o.not_before) (string_bytes o.not_after) p.validity
+  pub right : IsRight role p
+  pub key : IsKeyOf signer_key p.key
+  -- what else it says itself
+  pub key_is : p.key ≡ key_plain o.key
+  pub path_is : p.path ≡ o.path_len
+  pub dns_is : p.dns ≡ plain_list string_bytes o.dns.items
+  pub clients_is : p.clients ≡ o.client_auth
+  pub answers_is : p.answers ≡ o.ocsp
+
+-- the order at a place is accepted
+pub record IsAcceptedAt (orders : List Order) (keys : List PublicKey) (place : ℕ) (p : PlainOrder) : Type 0 where
+  pub order : Order
+  pub stands : slice_get orders place ≡ Some order
+  pub accepted : IsAccepted (role_at (length orders) place) (slice_get keys place) order p
+
+-- so many orders, from the first on, are accepted, and ask for these
+pub record AcceptsFront (orders : List Order) (keys : List PublicKey) (ps : List PlainOrder) : Type 0 where
+  pub each : (place : ℕ) → place < length ps → (p : PlainOrder) × (slice_get ps place ≡ Some p) × IsAcceptedAt orders keys place p
+
+-- All orders are accepted, with signers of these keys, and ask for these.
+pub record AcceptedOrders (orders : List Order) (keys : List PublicKey) (ps : List PlainOrder) : Type 0 where
+  pub some : 0 < length orders
+  pub signers : length keys ≡ signers_for (length orders)
+  pub all : length ps ≡ length orders
+  pub front : AcceptsFront orders keys ps

@@ -1,0 +1,15 @@
+pub mod Acceptance
+pub mod Allowances
+pub mod Assembling
+pub mod Auditing
+pub mod Chains
+pub mod DigestSigners
+pub mod Laws
+pub mod Making
+pub mod Lines
+pub mod Ordered
+pub mod PlainOrders
+pub mod Refusals
+pub mod Roles
+pub mod Runs
+pub mod Weighed

@@ -1,0 +1,46 @@
+-- What contracts see of certificates that are made, and of chains that are issued.
+use Rattle.std.specs.Prelude.{ℕ, ◌-◌, ◌^◌, List, true}
+use Rattle.der_core_head.specs.Grammar.{plain_list}
+use Rattle.der_core_head.specs.Ranges.{IsInRange}
+use Rattle.der_core_head.specs.Shapes.{Shape, explicit, optional}
+use Rattle.x509_cert.specs.Certificates.{PlainCertificate, Tbs, algorithm_identifier, name, public_key_info, tbs_inner_algorithm, tbs_issuer, tbs_public_key, tbs_subject, tbs_validity}
+use Rattle.x509_cert.specs.Parts.{certificate_by}
+use Rattle.x509_cert.specs.Views.{certificate_plain}
+use Rattle.x509_cert.specs.Views.{arc_bound}
+use Rattle.x509_cert_parts.specs.Grammar.{extensions, validity}
+use Rattle.x509_cert_certificates.specs.declared.certificate.CertificateInner.{CertificateInner}
+use Rattle.cert_desk_checking.specs.Chains.{Chain}
+use Rattle.cert_desk_issuing.specs.declared.issued.Issued.TheInside.{Inside}
+use Rattle.cert_desk_issuing.specs.declared.making.Made.{Made}
+
+-- a certificate as it is written
+abbrev pub written_plain : {P : Type 0} → CertificateInner P → PlainCertificate
+written_plain c = certificate_by true (certificate_plain c)
+
+abbrev pub made_plain : Made → PlainCertificate
+made_plain m = written_plain m.certificate
+
+-- the field of extensions in a signed part
+abbrev pub extensions_field : Shape
+extensions_field = optional (explicit 3 (extensions arc_bound))
+
+-- The parts of a signed part are in their ranges, the version, the serial number and unique identifiers aside.
+pub record IsPartInRange (t : Tbs) : Type 0 where
+  pub algorithm : IsInRange (algorithm_identifier arc_bound) (tbs_inner_algorithm t)
+  pub issuer : IsInRange (name arc_bound) (tbs_issuer t)
+  pub dates : IsInRange validity (tbs_validity t)
+  pub subject : IsInRange (name arc_bound) (tbs_subject t)
+  pub key : IsInRange (public_key_info arc_bound) (tbs_public_key t)
+  pub extensions : IsInRange extensions_field t.1.1.1.1.1.1.1.1.1.0
+
+-- the certificates of a chain, and their stream
+pub record PlainIssued : Type 0 where
+  pub certificates : List PlainCertificate
+  pub stream : List ℕ
+
+abbrev pub issued_plain : Inside → PlainIssued
+issued_plain i = record { certificates = plain_list written_plain i.certificates.items; stream = i.stream.items }
+
+-- the stream joins the certificates
+abbrev pub IsJoined : Inside → Type 0
+IsJoined i = Chain arc_bound (2 ^ 32 - 1) (plain_list written_plain i.certificates.items) i.stream.items

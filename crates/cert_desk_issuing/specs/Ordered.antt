@@ -1,0 +1,48 @@
+-- Which certificate is ordered at each place (RFC 5280 4.1.2; CA/Browser Forum, Baseline Requirements 7.1.2).
+use Rattle.std.specs.Prelude.{ℕ, pos, List, [], ◌∷◌, length, Option, Some, None, ◌==◌}
+use Rattle.std.proofs.Common.{inl, inr}
+use Rattle.der_core_head.specs.Grammar.{plain_list, plain_option}
+use Rattle.der_core_head.specs.Shapes.{Value, octets_of}
+use Rattle.x509_cert.specs.Builders.{digital_signature, root_extensions, standard_extension, subordinate_extensions, subscriber_extensions}
+use Rattle.x509_cert.specs.Certificates.{Tbs}
+use Rattle.x509_cert.specs.Parts.{tbs_certificate}
+use Rattle.x509_cert.specs.Certificates.{Algorithm, PlainExtension, PlainName, PublicKey}
+use Rattle.x509_cert.specs.Views.{arc_bound}
+use Rattle.x509_cert.specs.Extensions.{general_name, general_names}
+use Rattle.cert_desk_issuing.specs.declared.role.Role.{Role}
+use Rattle.cert_desk_issuing.specs.declared.role.Role.TheVariants as roles
+use Rattle.cert_desk_issuing.specs.PlainOrders.{PlainOrder}
+
+-- dNSName (4.2.1.6)
+abbrev pub dns_name : List ℕ → Value (general_name 0)
+dns_name text = inr (inr (inl text))
+
+abbrev pub dns_names : List (List ℕ) → List (Value (general_name 0))
+dns_names texts = plain_list dns_name texts
+
+-- SubjectAltName, critical where the subject has no name (4.2.1.6)
+abbrev pub names_extension : PlainName → List (List ℕ) → PlainExtension
+names_extension subject dns = standard_extension 17 (length subject == 0) (general_names arc_bound) (dns_names dns)
+
+-- the extensions of the certificate that an order asks for in a role, below a key
+abbrev pub extensions_for : Role → PlainOrder → PublicKey → List PlainExtension
+extensions_for roles.Root p above = root_extensions p.answers p.key
+extensions_for roles.Subordinate p above = subordinate_extensions p.answers p.clients (plain_option (λ n. pos n) p.path) p.key above
+extensions_for roles.Subscriber p above = names_extension p.subject p.dns ∷ subscriber_extensions p.clients digital_signature above
+
+-- a signed part of version 3, without unique identifiers, and so far without extensions
+abbrev pub bare_part : Algorithm → PlainName → PlainOrder → Tbs
+bare_part a issuer p = (pos 2, (p.serial, (a, (issuer, (p.validity, (p.subject, (p.key, (None, (None, (None, tt))))))))))
+
+-- a signed part with these extensions
+abbrev pub with_extensions : Tbs → List PlainExtension → Tbs
+with_extensions t es =
+    (t.0, (t.1.0, (t.1.1.0, (t.1.1.1.0, (t.1.1.1.1.0, (t.1.1.1.1.1.0, (t.1.1.1.1.1.1.0, (t.1.1.1.1.1.1.1.0, (t.1.1.1.1.1.1.1.1.0, (Some es, tt))))))))))
+
+-- what is ordered in a role, below what another order asks for
+abbrev pub ordered_part : Role → PlainOrder → PlainOrder → Algorithm → Tbs
+ordered_part role p above a = with_extensions (bare_part a above.subject p) (extensions_for role p above.key)
+
+-- its octets
+abbrev pub part_octets : Tbs → List ℕ
+part_octets t = octets_of (tbs_certificate arc_bound None) t

@@ -1,0 +1,271 @@
+//! Which orders are accepted.
+
+ghost use Rattle.std.specs.Prelude.{◌≡◌, ◌↔◌, ◌<◌, ◌^◌, ◌∷◌, [], true, false, string_bytes, nat_lt, Option, None, Ok, IsTrue, IfOk, IfErr, IfSome, OnOk};
+ghost use Rattle.std.specs.List.{list_all};
+ghost use Rattle.der_core_head.specs.Grammar.{plain_list, plain_option};
+ghost use Rattle.x509_cert.specs.Builders.{IsWantOfMemory, common_name, country, is_among, may_stay};
+ghost use Rattle.x509_cert.specs.Certificates.{PublicKey};
+ghost use Rattle.x509_cert.specs.Parts.{relative_plain, time_of};
+ghost use Rattle.x509_cert.specs.Texts.{SpellsName, date_text, new_serial};
+ghost use Rattle.x509_cert.specs.Views.{key_plain, name_plain, time_date, time_value, validity_plain};
+ghost use Rattle.cert_desk_issuing.specs.Acceptance.{IsAccepted, IsKeyOf, IsNamedFor, SameKey, SpellDates, names_subscriber};
+ghost use Rattle.cert_desk_issuing.specs.PlainOrders.{HasNamesFor, accepted_plain};
+ghost use Rattle.cert_desk_issuing.specs.Refusals.{HasFaultyDates, HasName, IsNoDate, IsOtherKey, RefusesName, RefusesOrder};
+
+use crate::accepted::Accepted;
+use crate::attribute_types as types;
+use crate::fault::Fault;
+use crate::role::Role;
+use cert_desk_orders::Order;
+use const_oid_identifiers::ObjectIdentifier;
+use der_core::ErrorKind;
+use std::alloc::Global;
+use std::str::FromStr;
+use x509_cert::builder::{Error, SignError, ca_certificate_naming};
+use x509_cert::{
+    Name, RelativeDistinguishedName, SerialNumber, SubjectPublicKeyInfo, Time, Validity,
+};
+
+/// The name that the text of an order spells.
+fn name_of(alloc: Global, order: &Order) -> Result<Name, Fault>
+    ensures spelled { IfOk result (λ n. SpellsName (string_bytes order.now.name) (name_plain n)) }
+    ensures refused { (role : Role) (key : Option PublicKey) → IfErr result (λ f. RefusesOrder role key order.now f) }
+{
+    match Name::from_str(alloc, order.name.as_str()) {
+        Ok(name) => Ok(name),
+        Err(error) => {
+            if let ErrorKind::OutOfMemory = error.kind {
+                return Err(Fault::OutOfMemory);
+            }
+            Err(Fault::Name)
+        }
+    }
+}
+
+/// Whether an error says that memory ran out.
+fn is_want_of_memory(error: &Error) -> bool
+    ensures { IsTrue result ↔ IsWantOfMemory error.now }
+{
+    match error {
+        Error::Asn1(error) => {
+            if let ErrorKind::OutOfMemory = error.kind {
+                return true;
+            }
+            false
+        }
+        Error::Signature(SignError::OutOfMemory) => true,
+        _ => false,
+    }
+}
+
+/// Whether the name of a subscriber may have an attribute of this type.
+fn may_stay(oid: &ObjectIdentifier<39>) -> bool
+    ensures { result ≡ is_among (country ∷ common_name ∷ []) oid.now }
+{
+    types::country() == *oid || types::common_name() == *oid
+}
+
+/// Whether it may have a relative name.
+fn all_may_stay(relative: &RelativeDistinguishedName) -> bool
+    ensures { result ≡ list_all may_stay (relative_plain relative.now) }
+{
+    for attribute in relative.iter() {
+        if !may_stay(&attribute.oid) {
+            return false;
+        }
+    }
+    true
+}
+
+/// Whether a name is one of a subscriber.
+fn names_subscriber(subject: &Name) -> bool
+    ensures { result ≡ names_subscriber (name_plain subject.now) }
+{
+    for relative in subject.iter_rdn() {
+        if !all_may_stay(relative) {
+            return false;
+        }
+    }
+    true
+}
+
+/// The name is one that the certificate of a role may have.
+fn check_name(alloc: Global, role: Role, subject: &Name) -> Result<(), Fault>
+    ensures right { OnOk result (IsNamedFor role (name_plain subject.now)) }
+    ensures refused { IfErr result (λ f. RefusesName role (name_plain subject.now) f) }
+{
+    match role {
+        Role::Root => match ca_certificate_naming(alloc, subject) {
+            Ok(()) => Ok(()),
+            Err(error) => {
+                if is_want_of_memory(&error) {
+                    return Err(Fault::OutOfMemory);
+                }
+                Err(Fault::RootName(error))
+            }
+        },
+        Role::Subordinate => Ok(()),
+        Role::Subscriber => {
+            if names_subscriber(subject) {
+                return Ok(());
+            }
+            Err(Fault::SubscriberName)
+        }
+    }
+}
+
+/// The subject that an order names.
+fn subject_of(alloc: Global, role: Role, order: &Order) -> Result<Name, Fault>
+    ensures spelled { IfOk result (λ n. SpellsName (string_bytes order.now.name) (name_plain n)) }
+    ensures right { IfOk result (λ n. IsNamedFor role (name_plain n)) }
+    ensures refused { (key : Option PublicKey) → IfErr result (λ f. RefusesOrder role key order.now f) }
+{
+    let subject = match name_of(alloc, order) {
+        Ok(subject) => subject,
+        Err(fault) => return Err(fault),
+    };
+    match check_name(alloc, role, &subject) {
+        Ok(()) => Ok(subject),
+        Err(fault) => Err(fault),
+    }
+}
+
+/// The serial number of an order whose name is right.
+fn serial_of(alloc: Global, order: &Order) -> Result<SerialNumber, Fault>
+    ensures number { IfOk result (λ n. new_serial order.now.serial.items ≡ Ok n) }
+    ensures refused { (role : Role) (key : Option PublicKey) → HasName role order.now → IfErr result (λ f. RefusesOrder role key order.now f) }
+{
+    match SerialNumber::new(alloc, order.serial.as_slice()) {
+        Ok(serial) => Ok(serial),
+        Err(error) => {
+            if let ErrorKind::OutOfMemory = error.kind {
+                return Err(Fault::OutOfMemory);
+            }
+            Err(Fault::Serial)
+        }
+    }
+}
+
+/// The date that a text spells.
+fn date_of(text: &str) -> Option<Time>
+    ensures some { IfSome result (λ t. (text.now ≡ date_text (time_date t)) × (time_value t ≡ time_of (time_date t))) }
+    ensures none { result ≡ None → IsNoDate text.now }
+{
+    match Time::from_str(text) {
+        Ok(time) => Some(time),
+        Err(_) => None,
+    }
+}
+
+/// The dates of an order.
+fn validity_of(order: &Order) -> Option<Validity>
+    ensures dates { IfSome result (λ v. SpellDates (string_bytes order.now.not_before) (string_bytes order.now.not_after) (validity_plain v)) }
+    ensures faulty { result ≡ None → HasFaultyDates order.now }
+{
+    let Some(not_before) = date_of(order.not_before.as_str()) else {
+        return None;
+    };
+    let Some(not_after) = date_of(order.not_after.as_str()) else {
+        return None;
+    };
+    if not_after.to_date_time().unix_seconds() < not_before.to_date_time().unix_seconds() {
+        return None;
+    }
+    Some(Validity::new(not_before, not_after))
+}
+
+/// Whether a text is ASCII.
+fn is_ascii(text: &str) -> bool
+    ensures { result ≡ list_all (λ o. nat_lt o 128) text.now }
+{
+    for octet in text.as_bytes() {
+        if *octet >= 128 {
+            return false;
+        }
+    }
+    true
+}
+
+/// Whether each text is ASCII.
+fn are_ascii(texts: &[String]) -> bool
+    ensures { result ≡ list_all (λ text. list_all (λ o. nat_lt o 128) text) (plain_list string_bytes texts.now) }
+{
+    for text in texts {
+        if !is_ascii(text.as_str()) {
+            return false;
+        }
+    }
+    true
+}
+
+/// Whether an order has DNS names that its certificate may have.
+fn has_dns_names(role: Role, texts: &[String]) -> bool
+    ensures { IsTrue result ↔ HasNamesFor role (plain_list string_bytes texts.now) }
+{
+    match role {
+        Role::Root => true,
+        Role::Subordinate => true,
+        Role::Subscriber => !texts.is_empty() && are_ascii(texts),
+    }
+}
+
+/// A path length is one octet.
+fn path_in_range(path: Option<u8>)
+    ensures { IfSome path (λ n. n < 2 ^ 8) }
+{}
+
+/// Whether both keys have the same encoding, octet for octet.
+fn is_same_key(one: &SubjectPublicKeyInfo, other: &SubjectPublicKeyInfo) -> bool
+    ensures same { IsTrue result → SameKey (key_plain one.now) (key_plain other.now) }
+    ensures differ { key_plain one.now ≡ key_plain other.now → result ≡ true }
+{
+    one.algorithm.has_octets_of(&other.algorithm)
+        && one.subject_public_key == other.subject_public_key
+}
+
+/// Whether the key of an order is its signer's, if it needs one.
+fn is_key_of(signer_key: Option<&SubjectPublicKeyInfo>, key: &SubjectPublicKeyInfo) -> bool
+    ensures same { IsTrue result → IsKeyOf (plain_option (λ k. key_plain k.now) signer_key.entry) (key_plain key.now) }
+    ensures other { result ≡ false → IsOtherKey (plain_option (λ k. key_plain k.now) signer_key.entry) (key_plain key.now) }
+{
+    match signer_key {
+        Some(signer_key) => is_same_key(signer_key, key),
+        None => true,
+    }
+}
+
+/// An order, where it is accepted in a role: the key of its signer, if it needs one, is its own.
+pub(crate) fn accept_one<'a>(
+    alloc: Global,
+    role: Role,
+    order: &'a Order,
+    signer_key: Option<&SubjectPublicKeyInfo>,
+) -> Result<Accepted<'a>, Fault>
+    ensures accepted { IfOk result (λ a. IsAccepted role (plain_option (λ k. key_plain k.now) signer_key.entry) order.now (accepted_plain a)) }
+    ensures refused { IfErr result (λ f. RefusesOrder role (plain_option (λ k. key_plain k.now) signer_key.entry) order.now f) }
+{
+    let subject = match subject_of(alloc, role, order) {
+        Ok(subject) => subject,
+        Err(fault) => return Err(fault),
+    };
+    let serial_number = match serial_of(alloc, order) {
+        Ok(serial_number) => serial_number,
+        Err(fault) => return Err(fault),
+    };
+    let Some(validity) = validity_of(order) else {
+        return Err(Fault::Dates);
+    };
+    if !has_dns_names(role, order.dns.as_slice()) {
+        return Err(Fault::DnsName);
+    }
+    if !is_key_of(signer_key, &order.key) {
+        return Err(Fault::KeyMismatch);
+    }
+    path_in_range(order.path_len);
+    Ok(Accepted {
+        order,
+        subject,
+        serial_number,
+        validity,
+    })
+}

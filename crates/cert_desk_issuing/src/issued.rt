@@ -1,0 +1,46 @@
+//! Chains that were issued.
+
+ghost use Rattle.std.specs.Prelude.{◌≡◌, ◌-◌, ◌^◌};
+ghost use Rattle.der_core_head.specs.Grammar.{plain_list};
+ghost use Rattle.x509_cert.specs.Views.{arc_bound};
+ghost use Rattle.cert_desk_checking.specs.Chains.{Chain};
+ghost use Rattle.cert_desk_issuing.specs.Making.{written_plain};
+
+use std::marker::Model;
+use x509_cert::Certificate;
+
+/// A chain that was issued: its certificates, the root first, and the stream that joins their encodings.
+///
+/// Contracts see both. The certificates are seen as they are written.
+#[derive(Drop)]
+pub struct Issued {
+    pub(crate) certificates: Vec<Certificate>,
+    pub(crate) stream: Vec<u8>,
+}
+
+impl Model for Issued {
+    ghost use Rattle.cert_desk_issuing.specs.Making.{PlainIssued, issued_plain, IsJoined};
+
+    ghost Value = { PlainIssued };
+
+    ghost view = { issued_plain };
+
+    ghost invariant = { IsJoined };
+}
+
+impl Issued {
+    /// The certificates, the root first.
+    pub fn certificates(&self) -> &[Certificate]
+        ensures { plain_list written_plain result.now ≡ self.now.certificates }
+    {
+        self.certificates.as_slice()
+    }
+
+    /// The encodings of the certificates, joined.
+    pub fn stream(&self) -> &[u8]
+        ensures octets { result.now ≡ self.now.stream }
+        ensures chain { Chain arc_bound (2 ^ 32 - 1) self.now.certificates self.now.stream }
+    {
+        self.stream.as_slice()
+    }
+}

@@ -1,0 +1,38 @@
+//! Laws of chains that hold orders. Each function does nothing: its contract is the law.
+ghost use Rattle.cert_desk_issuing.specs.Laws.{HeldIsTrusted, TrustedIsPermitted, HeldIsRefusedFor, IssuedIsTrusted, SignedIsSliced, SaysAsOrdered};
+
+use x509_cert::builder::Signer;
+
+/// A chain that holds orders is trusted under its own root, at each moment within all dates, for
+/// each purpose that the orders allow, where their path lengths are enough, each certificate is
+/// within the limit, and the judge says yes to each signature under the ordered key.
+pub fn held_is_trusted()
+    ensures { HeldIsTrusted }
+{}
+
+/// It is trusted nowhere else.
+pub fn trusted_is_permitted()
+    ensures { TrustedIsPermitted }
+{}
+
+/// No other rule is broken in it: where it is refused, the moment, the purpose, a path length or
+/// the answer is the reason, at the place that is told.
+pub fn held_is_refused_for()
+    ensures { HeldIsRefusedFor }
+{}
+
+/// What was issued is so trusted under a judge that says yes to whatever the signers may answer.
+pub fn issued_is_trusted<S: Signer>()
+    ensures { IssuedIsTrusted S.public_key S.signs_by S.signs }
+{}
+
+/// What a judge is handed of the stream, at any place, is octet for octet what was signed there.
+pub fn signed_is_sliced()
+    ensures { SignedIsSliced }
+{}
+
+/// Each extension says what was ordered: the key's uses, the names, whether it is an authority's
+/// and with which path length, the purposes; and it is critical where the standard says so.
+pub fn says_as_ordered()
+    ensures { SaysAsOrdered }
+{}

@@ -1,0 +1,33 @@
+//! Orders become a chain of certificates that holds them.
+#![tactic(auto)]
+
+mod accepted;
+mod accepting;
+mod assembled;
+mod attribute_types;
+mod audit;
+mod digest_signer;
+mod extending;
+mod fault;
+mod in_range;
+mod issue_error;
+mod issue_status;
+mod issued;
+mod issuing;
+pub mod laws;
+mod lines;
+mod making;
+mod outcome;
+mod part;
+mod role;
+mod running;
+mod stop;
+
+pub use cert_desk_orders::{Order, OrdersError, orders_in};
+pub use digest_signer::DigestSigner;
+pub use issue_error::IssueError;
+pub use issue_status::IssueStatus;
+pub use issued::Issued;
+pub use issuing::issue;
+pub use running::{run_issue, run_orders};
+pub use x509_cert::builder::{SignError, Signer};

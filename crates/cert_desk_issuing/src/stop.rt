@@ -1,0 +1,60 @@
+//! Why a certificate isn't made.
+
+ghost use Rattle.std.specs.Prelude.{◌≡◌};
+ghost use Rattle.cert_desk_issuing.specs.declared.stop.Stop.TheVariants.{OutOfMemory};
+ghost use Rattle.cert_desk_issuing.specs.Refusals.{IsStopOf, stop_at};
+
+use crate::issue_error::IssueError;
+use der_core::{Error, ErrorKind};
+use std::alloc::{AllocError, AllocFailed};
+
+/// Why a certificate isn't made, wherever in a chain it would stand.
+#[derive(Clone, Copy, Debug, PartialEq, Eq)]
+pub(crate) enum Stop {
+    /// The signer refuses.
+    Refused,
+    /// A length passes 2^32 - 1.
+    TooLong,
+    /// Want of memory.
+    OutOfMemory,
+}
+
+impl Stop {
+    /// The same, of the order at a place.
+    pub(crate) fn at(self, place: usize) -> IssueError
+        ensures { result ≡ stop_at place self }
+    {
+        match self {
+            Stop::Refused => IssueError::Signer { place },
+            Stop::TooLong => IssueError::TooLong { place },
+            Stop::OutOfMemory => IssueError::OutOfMemory,
+        }
+    }
+}
+
+impl From<Error> for Stop {
+    ghost from_gives = { λ e s. IsStopOf e.kind s };
+
+    fn from(error: Error) -> Stop {
+        if let ErrorKind::OutOfMemory = error.kind {
+            return Stop::OutOfMemory;
+        }
+        Stop::TooLong
+    }
+}
+
+impl From<AllocError> for Stop {
+    ghost from_gives = { λ _ s. s ≡ OutOfMemory };
+
+    fn from(_error: AllocError) -> Stop {
+        Stop::OutOfMemory
+    }
+}
+
+impl<T: Drop> From<AllocFailed<T>> for Stop {
+    ghost from_gives = { λ _ s. s ≡ OutOfMemory };
+
+    fn from(_error: AllocFailed<T>) -> Stop {
+        Stop::OutOfMemory
+    }
+}

@@ -1,0 +1,16 @@
+//! Orders files on one line.
+
+use crate::refusals::Refusal;
+use std::alloc::Global;
+
+/// The octets of a file: `0x` and base 16, or its lines, with a bar for each LF.
+pub fn file_of(alloc: Global, text: &str) -> Result<Vec<u8>, Refusal> {
+    if let Some(octets) = text.strip_prefix("0x") {
+        return Ok(hex::decode(alloc, octets)?);
+    }
+    let mut file = Vec::new(alloc);
+    for octet in text.as_bytes() {
+        file.push(if *octet == b'|' { b'\n' } else { *octet })?;
+    }
+    Ok(file)
+}
