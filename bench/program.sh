@@ -5,10 +5,10 @@ top=$(cd "$(dirname "$0")/.." && pwd)
 work=$(mktemp -d)
 trap 'rm -rf "$work"' EXIT
 
-# build FOLDER NAME LIBRARIES: bench/FOLDER as the crate NAME, which stands on these; $program is what is run then
+# build FOLDER NAME LIBRARIES: bench/FOLDER as the crate NAME, which stands on these; $program is what is run then. A script may build more than one.
 build() {
     local crate=$work/crates/$2
-    cp -a "$top/crates" "$top/crates.txt" "$work/"
+    [ -d "$work/crates" ] || cp -a "$top/crates" "$top/crates.txt" "$work/"
     mkdir -p "$crate"/{src,specs}
     touch "$crate/specs/Lib.antt"
     cp "$top/bench/$1/main.rt.txt" "$crate/src/main.rt"
@@ -25,4 +25,13 @@ build() {
 # instructions COMMAND..: how many it runs
 instructions() {
     valgrind --tool=callgrind --callgrind-out-file=/dev/null "$@" 2>&1 >/dev/null | sed -n 's/.*Collected : //p'
+}
+
+# each NAME COMMAND..: what one of the $count that COMMAND goes over costs, by the difference of 11 rounds and one
+each() {
+    local name=$1 few many
+    shift
+    few=$(instructions "$@" 1)
+    many=$(instructions "$@" 11)
+    echo "$name: $(((many - few) / (10 * count))) instructions"
 }

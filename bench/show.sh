@@ -8,15 +8,6 @@ for root in /usr/share/ca-certificates/mozilla/*.crt; do openssl x509 -in "$root
 gcc -O2 -o "$work/openssl" "$top/bench/show/openssl.c" -lcrypto
 count=$("$work/openssl" "$work/roots.der" count)
 
-# each NAME COMMAND..: what a certificate costs, by the difference of 11 rounds and one
-each() {
-    local name=$1 few many
-    shift
-    few=$(instructions "$@" 1)
-    many=$(instructions "$@" 11)
-    echo "$name: $(((many - few) / (10 * count))) instructions"
-}
-
 echo "$count roots, $("$program" "$work/roots.der" 1 | wc -c) octets of listings"
 each 'cert_desk_listing, read and shown' "$program" "$work/roots.der"
 each 'OpenSSL, read and shown' "$work/openssl" "$work/roots.der"
