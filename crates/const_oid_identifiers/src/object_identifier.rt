@@ -57,6 +57,7 @@ impl<const MAX_SIZE: usize> ObjectIdentifier<MAX_SIZE> {
     ghost use Rattle.const_oid_identifiers.specs.References.{reference_octets, reference_arcs, remaining_arcs};
 
     /// The identifier that these octets spell (X.690 8.19), or their first fault from the left.
+    #[inline(always)]
     pub fn from_bytes_sized(ber_bytes: &[u8]) -> Result<Self>
         ensures read { result ≡ read_identifier Bound MAX_SIZE ber_bytes.now }
         ensures ok { IfOk result

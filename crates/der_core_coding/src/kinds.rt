@@ -58,6 +58,8 @@ impl<T: DefaultValue> AsRead for WithDefault<T> {
 }
 
 impl<'a, R: Reader<'a>, T: Decode<'a, R> + Choice + DefaultValue> Decode<'a, R> for WithDefault<T> {
+    // Inlined, since a default that is absent is told by one octet.
+    #[inline(always)]
     #[tactic(auto, unfolding(der_core_head::specs::Grammar::default_at))]
     fn decode(alloc: Global, reader: &mut R) -> Result<WithDefault<T>, Error> {
         let Some(tag) = reader.next_tag_or_end()? else {

@@ -87,6 +87,7 @@ fn decode_tagged<'a, R: Reader<'a>, T: DecodeValue<'a, R> + FixedTag>(
 
 impl<'a, R: Reader<'a>, T: DecodeValue<'a, R> + FixedTag> Decode<'a, R> for T {
     /// A fault without a place of its own is found at the header.
+    #[inline(always)]
     fn decode(alloc: Global, reader: &mut R) -> Result<T, Error> {
         let place = reader.position();
         match decode_tagged(alloc, reader) {

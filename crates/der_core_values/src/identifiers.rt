@@ -28,6 +28,8 @@ impl<'a, const MAX_SIZE: usize> Leaf<'a> for ObjectIdentifier<MAX_SIZE> {
 
     ghost leaf_plain = { λ oid. oid };
 
+    // Inlined for the same reason as `decode_value`.
+    #[inline(always)]
     fn from_content(
         _alloc: Global,
         _tag: Tag,

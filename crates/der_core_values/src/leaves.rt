@@ -44,6 +44,7 @@ pub fn read_content<'a, R: Reader<'a>>(reader: &mut R, header: Header) -> Result
 ///
 /// # Errors
 /// `Incomplete` where there are fewer octets, their fault, or `OutOfMemory`.
+#[inline(always)]
 pub fn decode_leaf<'a, R: Reader<'a>, T: Leaf<'a>>(
     alloc: Global,
     reader: &mut R,

@@ -311,6 +311,8 @@ impl Choice for Any {
 }
 
 impl<'a, R: Reader<'a>> Decode<'a, R> for Any {
+    // Inlined, so that the value is moved less often.
+    #[inline(always)]
     fn decode(alloc: Global, reader: &mut R) -> Result<Any, Error> {
         let lent = AnyRef::decode(alloc, reader)?;
         match Any::copy_of(alloc, &lent) {

@@ -116,6 +116,8 @@ impl ShapedValue for AlgorithmIdentifier {
 }
 
 impl<'a, R: Reader<'a>> DecodeValue<'a, R> for AlgorithmIdentifier {
+    // Inlined, so that its fields are moved less often.
+    #[inline(always)]
     fn decode_value(
         alloc: Global,
         reader: &mut R,
