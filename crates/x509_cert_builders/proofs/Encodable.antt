@@ -12,15 +12,15 @@ use Rattle.der_core_head.specs.declared.tag.Tag.{Tag}
 use Rattle.der_core_head.specs.declared.tag.Tag.TheVariants as tags
 use Rattle.der_core_head.specs.Grammar.{plain_option}
 use Rattle.der_core_head.specs.Heads.{Fits, tlv, head_octets, length_octets}
-use Rattle.der_core_head.specs.Integers.{unsigned, integer_octets, positive}
-use Rattle.der_core_head.specs.Leaves.{boolean, integer, named}
+use Rattle.der_core_head.specs.Integers.{integer_octets, positive}
+use Rattle.der_core_head.specs.Leaves.{named}
 use Rattle.der_core_head.specs.NamedBits.{named_octets, set_octets}
 use Rattle.der_core_head.specs.Octets.{IsOctets}
-use Rattle.der_core_head.specs.Shapes.{Value, leaf, tagged, defaulted, sequence, sequence_of, octets_of, contents, body_octets, IsValid, IsContent, IsBody, unless}
+use Rattle.der_core_head.specs.Shapes.{leaf, tagged, sequence, sequence_of, octets_of, contents, body_octets, IsValid, IsContent, IsBody, unless}
 use Rattle.der_core_head.specs.Tags.{tag_octets, context}
 use Rattle.sha1.specs.Sha1.{sha1, digest_bytes}
 use Rattle.x509_cert_anchors.specs.Parts.{arc_bound, authority_key_identifier_fields, basic_constraints_fields, false_by_default, object_identifier, octet_string, number_of}
-use Rattle.x509_cert_builders.specs.Profiles.{id_kp, purposes}
+use Rattle.x509_cert_builders.specs.Profiles.{IsDigest, id_kp, purposes}
 
 digest_length : (m : List ℕ) → length (sha1 m) ≡ 20
 unfolding sha1 digest_bytes
@@ -140,10 +140,12 @@ purposes_valid true = ((first_purpose, (second_purpose, tt)), omega arith, omega
 purposes_valid false = ((first_purpose, tt), omega arith, omega arith)
 
 -- what holds a digest, and nothing else
-pub authority_valid : (m : List ℕ) (i : Value (sequence (authority_key_identifier_fields arc_bound)))
-    → i ≡ (Some (sha1 m), (None, (None, tt))) → IsValid (sequence (authority_key_identifier_fields arc_bound)) i
-authority_valid m i e =
-    subst (λ j. IsValid (sequence (authority_key_identifier_fields arc_bound)) j) (sym e) (authority_fits (sha1 m) (digest_octets m) (digest_length m))
+pub authority_valid : (w : List ℕ) → IsDigest w → IsValid (sequence (authority_key_identifier_fields arc_bound)) (Some w, (None, (None, tt)))
+authority_valid w d =
+    subst (λ v. IsValid (sequence (authority_key_identifier_fields arc_bound)) (Some v, (None, (None, tt)))) (sym d.1) (authority_fits (sha1 d.0) (digest_octets d.0) (digest_length d.0))
 
-pub identifier_valid : (m w : List ℕ) → w ≡ sha1 m → IsValid octet_string w
-identifier_valid m w e = subst (λ v. IsValid octet_string v) (sym e) (key_fits (sha1 m) (digest_octets m) (digest_length m))
+pub identifier_valid : (w : List ℕ) → IsDigest w → IsValid octet_string w
+identifier_valid w d = subst (λ v. IsValid octet_string v) (sym d.1) (key_fits (sha1 d.0) (digest_octets d.0) (digest_length d.0))
+
+pub is_digest : (m w : List ℕ) → w ≡ sha1 m → IsDigest w
+is_digest m w e = (m, e)

@@ -2,6 +2,7 @@ mod Encodable
 mod Lists
 mod Modules
 mod NamingSteps
+mod ShortArcs
 mod SignedOctets
 mod Subjects
 mod UseSums

@@ -1,5 +1,5 @@
 -- The extensions that profiles add (RFC 5280 4.2; CA/Browser Forum, Baseline Requirements 7.1.2).
-use Rattle.std.specs.Prelude.{ℕ, ℤ, ◌+◌, ◌^◌, List, [], ◌∷◌, Bool, true, false, ◌&&◌, Option, Some, None, if◌then◌else◌}
+use Rattle.std.specs.Prelude.{◌≡◌, ℕ, ℤ, ◌+◌, ◌^◌, List, [], ◌∷◌, Bool, true, false, ◌&&◌, Option, Some, None, if◌then◌else◌}
 use Rattle.const_oid_identifiers.specs.Comparing.{owned_eq}
 use Rattle.der_core_head.specs.declared.tag.Tag.TheVariants as tags
 use Rattle.der_core_head.specs.Leaves.{named}
@@ -10,6 +10,10 @@ use Rattle.x509_cert_anchors.specs.Parts.{PublicKey, PlainExtension, algorithm_a
 -- the identifier of a key: the SHA-1 digest of its octets (4.2.1.2, method 1)
 abbrev pub key_identifier : PublicKey → List ℕ
 key_identifier k = sha1 (key_bits k).octets
+
+-- octets that are such a digest
+abbrev pub IsDigest : List ℕ → Type 0
+IsDigest w = (m : List ℕ) × (w ≡ sha1 m)
 
 -- an extension of the arc id-ce, whose content is the encoding of a value
 abbrev pub standard_extension : ℕ → Bool → (s : Shape) → Value s → PlainExtension

@@ -1,5 +1,6 @@
 -- Why builders refuse.
 use Rattle.std.specs.Prelude.{◌≡◌, Result}
+use Rattle.der_core_head.specs.declared.error.Error.{Error as DerError}
 use Rattle.der_core_head.specs.declared.error.ErrorKind.{ErrorKind}
 use Rattle.der_core_head.specs.declared.error.ErrorKind.TheVariants as kinds
 use Rattle.der_core_head.specs.Reading.{Fails}
@@ -16,6 +17,10 @@ IsWantOfMemory errors.NonUniqueATV = ⊥
 IsWantOfMemory (errors.InvalidAttribute t) = ⊥
 IsWantOfMemory errors.MissingAttributes = ⊥
 IsWantOfMemory errors.Unsupported = ⊥
+
+-- what becomes of want of memory, where this is what becomes of a fault in DER
+abbrev pub IsWantOfMemoryAs : {E : Type 0} → (DerError → E → Type 0) → E → Type 0
+IsWantOfMemoryAs becomes e = (w : DerError) × (w.kind ≡ kinds.OutOfMemory) × becomes w e
 
 -- a fault that has no kind of its own
 abbrev pub IsFailed : Error → Type 0

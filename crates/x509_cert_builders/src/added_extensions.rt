@@ -1,68 +1,93 @@
 //! Extensions, one after the other.
 
-ghost use Rattle.std.specs.Prelude.{◌≡◌, ◌++◌, ◌∷◌, [], pos, OnOk, IfOk, IfErr};
+ghost use Rattle.std.specs.Prelude.{◌≡◌, ◌<◌, ◌++◌, ◌∷◌, [], false, pos, Some, None, OnOk, IfOk, IfErr};
 ghost use Rattle.der_core_head.specs.Grammar.{plain_option};
-ghost use Rattle.der_core_head.specs.Shapes.{octets_of, IsValid};
-ghost use Rattle.x509_cert_anchors.specs.Parts.{extensions_plain, name_plain};
-ghost use Rattle.x509_cert_builders.specs.Profiles.{authority_key_extension, constraints_extension, purposes_extension, subject_key_extension, usage_extension};
+ghost use Rattle.der_core_head.specs.Shapes.{IsValid, sequence};
+ghost use Rattle.x509_cert_anchors.specs.Parts.{arc_bound, authority_key_identifier_fields, extensions_plain, name_plain, octet_string};
+ghost use Rattle.x509_cert_builders.specs.Profiles.{IsDigest, constraints_extension, key_identifier, purposes_extension, standard_extension, usage_extension};
 ghost use Rattle.x509_cert_builders.specs.Refusals.{IsWantOfMemory};
 
 use crate::error::Error;
+use crate::identifiers::standard;
 use crate::uses::purposes_of;
-use const_oid::AssociatedOid;
 use der_core::{Encode, Fields};
 use std::alloc::Global;
 use x509_cert_anchors::{
     AuthorityKeyIdentifier, BasicConstraints, Criticality, Extension, Extensions, KeyUsage, Name,
-    SubjectKeyIdentifier, SubjectPublicKeyInfoRef, ToExtension, TryFromKey,
+    OctetString, SubjectKeyIdentifier, SubjectPublicKeyInfoRef, ToExtension, TryFromKey,
 };
 
-/// Adds the extension of a value, with the identifier and the criticality of its type.
+/// Adds the extension of a value, of this number below `id-ce`, with the criticality of its type.
 #[tactic(auto, using(crate::proofs::Lists::plain_pushed))]
-pub(crate) fn add<T: Encode + AssociatedOid + Criticality>(
+pub(crate) fn add<T: Encode + Criticality>(
     alloc: Global,
     extensions: &mut Extensions,
     subject: &Name,
+    number: u8,
     value: &T,
 ) -> Result<(), Error>
+    requires { number < 128 }
     ensures added { OnOk result (extensions_plain extensions.new.items ≡ extensions_plain extensions.old.items
-        ++ (T.oid_arcs, (T.is_critical value.now (name_plain subject.now) (extensions_plain extensions.old.items), (octets_of T.shape (T.written value.now), tt))) ∷ []) }
+        ++ standard_extension number (T.is_critical value.now (name_plain subject.now) (extensions_plain extensions.old.items)) T.shape (T.written value.now) ∷ []) }
     ensures refused { IsValid T.shape (T.written value.now) → IfErr result IsWantOfMemory }
 {
-    let extension = value.to_extension(alloc, subject, extensions.as_slice())?;
+    let named = (standard(number), value);
+    let extension = named.to_extension(alloc, subject, extensions.as_slice())?;
     extensions.push(extension)?;
     Ok(())
 }
 
-/// Adds the identifier of the key by which a certificate is signed (RFC 5280 4.2.1.1).
-pub(crate) fn add_authority<'a>(
+/// The identifier of a key: the digest of its octets (RFC 5280 4.2.1.2, method 1).
+#[tactic(auto, using(crate::proofs::Encodable::is_digest))]
+pub(crate) fn identifier_of<'a>(
+    alloc: Global,
+    key: &SubjectPublicKeyInfoRef<'a>,
+) -> Result<OctetString, Error>
+    ensures identifier { IfOk result (λ i. i ≡ key_identifier (⟦<SubjectPublicKeyInfoRef<'a> as Fields>⟧.fields_plain key.now)) }
+    ensures digest { IfOk result IsDigest }
+    ensures refused { IfErr result IsWantOfMemory }
+{
+    let identifier = SubjectKeyIdentifier::try_from_key(alloc, key)?;
+    Ok(identifier.0)
+}
+
+/// Adds the identifier of the key by which a certificate is signed (4.2.1.1).
+#[tactic(auto, using(crate::proofs::Encodable::authority_valid))]
+pub(crate) fn add_authority(
     alloc: Global,
     extensions: &mut Extensions,
     subject: &Name,
-    key: &SubjectPublicKeyInfoRef<'a>,
+    identifier: OctetString,
 ) -> Result<(), Error>
+    requires { IsDigest identifier }
     ensures added { OnOk result (extensions_plain extensions.new.items ≡ extensions_plain extensions.old.items
-        ++ authority_key_extension (⟦<SubjectPublicKeyInfoRef<'a> as Fields>⟧.fields_plain key.now) ∷ []) }
+        ++ standard_extension 35 false (sequence (authority_key_identifier_fields arc_bound)) (Some identifier, (None, (None, tt))) ∷ []) }
     ensures refused { IfErr result IsWantOfMemory }
 {
-    let identifier = AuthorityKeyIdentifier::try_from_key(alloc, key)?;
-    add(alloc, extensions, subject, &identifier)?;
+    let authority = AuthorityKeyIdentifier {
+        key_identifier: Some(identifier),
+        authority_cert_issuer: None,
+        authority_cert_serial_number: None,
+    };
+    add(alloc, extensions, subject, 35, &authority)?;
     Ok(())
 }
 
 /// Adds the identifier of the certified key (4.2.1.2).
-pub(crate) fn add_identifier<'a>(
+#[tactic(auto, using(crate::proofs::Encodable::identifier_valid))]
+pub(crate) fn add_identifier(
     alloc: Global,
     extensions: &mut Extensions,
     subject: &Name,
-    key: &SubjectPublicKeyInfoRef<'a>,
+    identifier: OctetString,
 ) -> Result<(), Error>
+    requires { IsDigest identifier }
     ensures added { OnOk result (extensions_plain extensions.new.items ≡ extensions_plain extensions.old.items
-        ++ subject_key_extension (⟦<SubjectPublicKeyInfoRef<'a> as Fields>⟧.fields_plain key.now) ∷ []) }
+        ++ standard_extension 14 false octet_string identifier ∷ []) }
     ensures refused { IfErr result IsWantOfMemory }
 {
-    let identifier = SubjectKeyIdentifier::try_from_key(alloc, key)?;
-    add(alloc, extensions, subject, &identifier)?;
+    let identifier = SubjectKeyIdentifier(identifier);
+    add(alloc, extensions, subject, 14, &identifier)?;
     Ok(())
 }
 
@@ -83,7 +108,7 @@ pub(crate) fn add_constraints(
         ca,
         path_len_constraint,
     };
-    add(alloc, extensions, subject, &constraints)?;
+    add(alloc, extensions, subject, 19, &constraints)?;
     Ok(())
 }
 
@@ -98,7 +123,7 @@ pub(crate) fn add_usage(
     ensures added { OnOk result (extensions_plain extensions.new.items ≡ extensions_plain extensions.old.items ++ usage_extension usage.0.flags.0 ∷ []) }
     ensures refused { IfErr result IsWantOfMemory }
 {
-    add(alloc, extensions, subject, &usage)?;
+    add(alloc, extensions, subject, 15, &usage)?;
     Ok(())
 }
 
@@ -114,7 +139,7 @@ pub(crate) fn add_purposes(
     ensures refused { IfErr result IsWantOfMemory }
 {
     let purposes = purposes_of(alloc, clients)?;
-    add(alloc, extensions, subject, &purposes)?;
+    add(alloc, extensions, subject, 37, &purposes)?;
     Ok(())
 }
 
@@ -127,6 +152,9 @@ pub(crate) fn joined(
     ensures joined { IfOk result (λ v. extensions_plain v.items ≡ extensions_plain added.now ++ extensions_plain more.items) }
     ensures refused { IfErr result IsWantOfMemory }
 {
+    if added.is_empty() {
+        return Ok(more);
+    }
     let mut all = Vec::with_capacity(alloc, added.len())?;
     for place in 0..added.len() {
         let extension = added[place].clone(alloc)?;

@@ -6,7 +6,7 @@ ghost use Rattle.x509_cert_anchors.specs.Certificates.{certificate_plain, outer_
 ghost use Rattle.x509_cert_anchors.specs.Parts.{extensions_plain, key_plain, validity_plain};
 ghost use Rattle.x509_cert_builders.specs.SignedParts.{HasNoOctets, bare_part, signed_octets};
 ghost use Rattle.x509_cert_builders.specs.States.{algorithm_of_last, octets_in_place};
-ghost use Rattle.x509_cert_builders.specs.Refusals.{IsWantOfMemory};
+ghost use Rattle.x509_cert_builders.specs.Refusals.{IsWantOfMemory, IsWantOfMemoryAs};
 
 use crate::added_extensions::joined;
 use crate::builder::Builder;
@@ -111,6 +111,7 @@ impl<P: BuilderProfile + Drop> CertificateBuilder<P> {
     ) -> Result<(), E::Error>
         ensures added { OnOk result (self.new ≡ record self.old { added = self.old.added ++ E.made extension self.old.fields.subject self.old.added ∷ [] }) }
         ensures kept { OnErr result (self.new ≡ self.old) }
+        ensures refused { IfErr result (λ e. E.refused extension e ⊎ IsWantOfMemoryAs E.Error.from_gives e) }
     {
         let made = extension.to_extension(alloc, &self.part.subject, self.extensions.as_slice())?;
         match self.extensions.push(made) {

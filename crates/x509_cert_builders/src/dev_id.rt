@@ -8,7 +8,7 @@ ghost use Rattle.x509_cert_anchors.specs.Parts.{extensions_plain, general_name_p
 ghost use Rattle.x509_cert_builders.specs.Devices.{IsFaulty, IsUnnameable, PlainGeneralName, alternatives, device_extensions, device_names, first_module, is_of_module, may_name, module_name, module_of, version_arcs};
 ghost use Rattle.x509_cert_builders.specs.Refusals.{FailsAs, IsFailed, IsWantOfMemory};
 
-use crate::added_extensions::{add, add_authority, add_usage};
+use crate::added_extensions::{add, add_authority, add_usage, identifier_of};
 use crate::builder_profile::BuilderProfile;
 use crate::error::Error;
 use crate::tpm_version::TpmVersion;
@@ -137,7 +137,7 @@ fn add_alternatives(
     ensures refused { IfErr result (λ e. IsWantOfMemory e ⊎ IsUnnameable (plain_option (λ v. plain_list general_name_plain v.0.items) names.now)) }
 {
     match names {
-        Some(names) => add(alloc, extensions, subject, names),
+        Some(names) => add(alloc, extensions, subject, 17, names),
         None => Ok(()),
     }
 }
@@ -171,7 +171,8 @@ impl BuilderProfile for DevId {
     ) -> Result<Extensions, Error> {
         let subject = &tbs.subject;
         let mut extensions = Vec::new(alloc);
-        add_authority(alloc, &mut extensions, subject, issuer_spk)?;
+        let authority = identifier_of(alloc, issuer_spk)?;
+        add_authority(alloc, &mut extensions, subject, authority)?;
         add_usage(alloc, &mut extensions, subject, signing_usage())?;
         add_alternatives(alloc, &mut extensions, subject, &self.subject_alt_name)?;
         Ok(extensions)

@@ -1,7 +1,7 @@
 //! Identifiers of purposes, of kinds of keys, and of modules.
 #![tactic(auto, unfolding(const_oid_identifiers::specs::Bound::Bound, const_oid_identifiers::specs::TextReading::text_arcs, const_oid_identifiers::specs::ArcLists::add_arc, const_oid_identifiers::specs::ArcLists::whole_arcs, const_oid_identifiers::specs::IdentifierOctets::identifier_octets, const_oid_identifiers::specs::IdentifierOctets::arc_octets, const_oid_identifiers::specs::Digits::digits, const_oid_identifiers::specs::Digits::digits_within, const_oid_identifiers::specs::Digits::marked))]
 
-ghost use Rattle.std.specs.Prelude.{◌≡◌, ◌∷◌, []};
+ghost use Rattle.std.specs.Prelude.{◌≡◌, ◌<◌, ◌∷◌, []};
 ghost use Rattle.x509_cert_builders.specs.Profiles.{id_kp, rsa_encryption, elliptic_curve_key};
 
 use const_oid_identifiers::ObjectIdentifier;
@@ -15,18 +15,26 @@ pub(crate) fn no_algorithm() -> AlgorithmIdentifier {
     }
 }
 
-/// `id-kp-serverAuth` (RFC 5280 4.2.1.12).
-pub(crate) fn server_auth() -> ObjectIdentifier<39>
-    ensures { result ≡ id_kp 1 }
+/// The identifier of this number below `id-ce` (RFC 5280 4.2).
+pub(crate) fn standard(number: u8) -> ObjectIdentifier<39>
+    requires { number < 128 }
+    ensures { result ≡ 2 ∷ 5 ∷ 29 ∷ number ∷ [] }
 {
-    ObjectIdentifier::new_unwrap("1.3.6.1.5.5.7.3.1")
+    match ObjectIdentifier::from_bytes(&[0x55, 0x1d, number]) {
+        Ok(oid) => oid,
+        Err(_) => unreachable!(),
+    }
 }
 
-/// `id-kp-clientAuth`.
-pub(crate) fn client_auth() -> ObjectIdentifier<39>
-    ensures { result ≡ id_kp 2 }
+/// The identifier of this number below `id-kp` (4.2.1.12).
+pub(crate) fn purpose(number: u8) -> ObjectIdentifier<39>
+    requires { number < 128 }
+    ensures { result ≡ id_kp number }
 {
-    ObjectIdentifier::new_unwrap("1.3.6.1.5.5.7.3.2")
+    match ObjectIdentifier::from_bytes(&[0x2b, 6, 1, 5, 5, 7, 3, number]) {
+        Ok(oid) => oid,
+        Err(_) => unreachable!(),
+    }
 }
 
 /// `rsaEncryption` (RFC 3279 2.3.1).

@@ -5,7 +5,9 @@ ghost use Rattle.x509_cert_anchors.specs.Parts.{name_plain};
 ghost use Rattle.x509_cert_builders.specs.Naming.{NamesAuthority};
 ghost use Rattle.x509_cert_builders.specs.Profiles.{root_extensions};
 
-use crate::added_extensions::{add_authority, add_constraints, add_identifier, add_usage};
+use crate::added_extensions::{
+    add_authority, add_constraints, add_identifier, add_usage, identifier_of,
+};
 use crate::builder_profile::BuilderProfile;
 use crate::error::Error;
 use crate::naming::ca_certificate_naming;
@@ -66,12 +68,13 @@ impl BuilderProfile for Root {
         tbs: &TbsCertificate,
     ) -> Result<Extensions, Error> {
         let subject = &tbs.subject;
+        let identifier = identifier_of(alloc, spk)?;
         let mut extensions = Vec::new(alloc);
-        add_authority(alloc, &mut extensions, subject, spk)?;
+        add_authority(alloc, &mut extensions, subject, identifier.clone(alloc)?)?;
         add_constraints(alloc, &mut extensions, subject, true, None)?;
         let usage = authority_usage(self.emits_ocsp_response);
         add_usage(alloc, &mut extensions, subject, usage)?;
-        add_identifier(alloc, &mut extensions, subject, spk)?;
+        add_identifier(alloc, &mut extensions, subject, identifier)?;
         Ok(extensions)
     }
 }

@@ -6,7 +6,7 @@ ghost use Rattle.x509_cert_anchors.specs.Parts.{name_plain};
 ghost use Rattle.x509_cert_builders.specs.Profiles.{subordinate_extensions};
 
 use crate::added_extensions::{
-    add_authority, add_constraints, add_identifier, add_purposes, add_usage,
+    add_authority, add_constraints, add_identifier, add_purposes, add_usage, identifier_of,
 };
 use crate::builder_profile::BuilderProfile;
 use crate::error::Error;
@@ -57,7 +57,8 @@ impl BuilderProfile for Subordinate {
     ) -> Result<Extensions, Error> {
         let subject = &tbs.subject;
         let mut extensions = Vec::new(alloc);
-        add_authority(alloc, &mut extensions, subject, issuer_spk)?;
+        let authority = identifier_of(alloc, issuer_spk)?;
+        add_authority(alloc, &mut extensions, subject, authority)?;
         add_constraints(
             alloc,
             &mut extensions,
@@ -67,7 +68,8 @@ impl BuilderProfile for Subordinate {
         )?;
         let usage = authority_usage(self.emits_ocsp_response);
         add_usage(alloc, &mut extensions, subject, usage)?;
-        add_identifier(alloc, &mut extensions, subject, spk)?;
+        let identifier = identifier_of(alloc, spk)?;
+        add_identifier(alloc, &mut extensions, subject, identifier)?;
         add_purposes(alloc, &mut extensions, subject, self.client_auth)?;
         Ok(extensions)
     }

@@ -6,7 +6,9 @@ ghost use Rattle.x509_cert_builders.specs.Profiles.{subscriber_extensions, subsc
 ghost use Rattle.x509_cert_builders.specs.Subscribers.{is_domain_validated, type_subject};
 ghost use Rattle.x509_cert_builders.specs.declared.error.Error.TheVariants.{Unsupported};
 
-use crate::added_extensions::{add_authority, add_constraints, add_purposes, add_usage};
+use crate::added_extensions::{
+    add_authority, add_constraints, add_purposes, add_usage, identifier_of,
+};
 use crate::builder_profile::BuilderProfile;
 use crate::certificate_type::CertificateType;
 use crate::error::Error;
@@ -98,7 +100,8 @@ impl BuilderProfile for Subscriber {
     ) -> Result<Extensions, Error> {
         let subject = &tbs.subject;
         let mut extensions = Vec::new(alloc);
-        add_authority(alloc, &mut extensions, subject, issuer_spk)?;
+        let authority = identifier_of(alloc, issuer_spk)?;
+        add_authority(alloc, &mut extensions, subject, authority)?;
         add_purposes(alloc, &mut extensions, subject, self.client_auth)?;
         add_constraints(alloc, &mut extensions, subject, false, None)?;
         let usage = self.usage(spk);

@@ -6,9 +6,14 @@ ghost use Rattle.x509_cert_builders.specs.Profiles.{authority_uses, digital_sign
 ghost use Rattle.x509_cert_builders.specs.Refusals.{IsWantOfMemory};
 
 use crate::error::Error;
-use crate::identifiers::{client_auth, server_auth};
+use crate::identifiers::purpose;
 use std::alloc::Global;
 use x509_cert_anchors::{ExtendedKeyUsage, FlagSet, KeyUsage, KeyUsages};
+
+/// `id-kp-serverAuth` and `id-kp-clientAuth`, as numbers below `id-kp` (RFC 5280 4.2.1.12).
+const SERVER_AUTH: u8 = 1;
+
+const CLIENT_AUTH: u8 = 2;
 
 /// What an authority's key is for: it signs certificates and lists, and maybe answers about the state of certificates.
 pub(crate) fn authority_usage(emits_ocsp_response: bool) -> KeyUsage
@@ -35,9 +40,9 @@ pub(crate) fn purposes_of(alloc: Global, clients: bool) -> Result<ExtendedKeyUsa
     ensures refused { IfErr result IsWantOfMemory }
 {
     let mut purposes = Vec::new(alloc);
-    purposes.push(server_auth())?;
+    purposes.push(purpose(SERVER_AUTH))?;
     if clients {
-        purposes.push(client_auth())?;
+        purposes.push(purpose(CLIENT_AUTH))?;
     }
     Ok(ExtendedKeyUsage(purposes))
 }
