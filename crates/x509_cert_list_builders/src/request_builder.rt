@@ -8,7 +8,7 @@ ghost use Rattle.x509_cert_builders.specs.Lists.{any_of, attribute_of};
 ghost use Rattle.x509_cert_builders.specs.Lists.{cert_req_info_fields};
 ghost use Rattle.x509_cert_builders.specs.Parts.{PlainAttribute, algorithm_plain, arc_bound, attribute, key_plain, name_plain};
 ghost use Rattle.x509_cert_builders.specs.Lists.{cert_req_info_plain, cert_req_plain};
-ghost use Rattle.x509_cert_builders.specs.Refusals.{IsWantOfMemory};
+ghost use Rattle.x509_cert_builders.specs.Refusals.{IsWantOfMemory, IsWantOfMemoryAs};
 ghost use Rattle.x509_cert_list_builders.specs.Requests.{HasNoOctets, IsNoneToAdd, placed, request_of, request_part, stands_among};
 ghost use Rattle.x509_cert_list_builders.specs.Signed.{octets_in_place};
 
@@ -92,6 +92,7 @@ impl RequestBuilder {
     ) -> Result<(), E::Error>
         ensures added { OnOk result (self.new ≡ record self.old { extensions = self.old.extensions ++ E.made extension self.old.subject self.old.extensions ∷ [] }) }
         ensures kept { OnErr result (self.new ≡ self.old) }
+        ensures refused { IfErr result (λ e. E.refused extension e ⊎ IsWantOfMemoryAs E.Error.from_gives e) }
     {
         let made = extension.to_extension(alloc, &self.subject, self.extensions.0.as_slice())?;
         match self.extensions.0.push(made) {
