@@ -1,6 +1,11 @@
 pub mod OneEncoding
 pub mod Lengths
 pub mod Scans
+pub mod SeriesLaws
+pub mod SeriesReading
+pub mod WholeValues
+pub mod FileLaws
+pub mod FileReading
 pub mod Readings
 pub mod OneChain
 pub mod FaultStays

@@ -4,7 +4,7 @@ use Rattle.std.proofs.lemmas.List.{take_at, drop_at, take-append-drop, take-appe
 use Rattle.std.specs.List.{AllByRecursion}
 use Rattle.der_core_head.specs.declared.tag.Tag.TheVariants as tags
 use Rattle.der_core_head.specs.Heads.{length_octets, head_octets, tlv}
-use Rattle.der_core_head.specs.Shapes.{IsValid, IsContent, IsBody, Spells, octets_of, body_octets, contents}
+use Rattle.der_core_head.specs.Shapes.{Body, IsValid, IsContent, IsBody, Spells, octets_of, body_octets, contents, sequence}
 use Rattle.x509_cert.specs.Certificates.{PlainCertificate, raw_certificate, raw_certificate_fields, raw_tbs_certificate, raw_tbs_fields, algorithm_identifier, bit_string, certificate_octets, tbs, signed_start, signed_length}
 use Rattle.x509_cert.specs.Views.{arc_bound}
 use Rattle.cert_desk_checking.specs.declared.bundle.Located.{Located}
@@ -14,13 +14,15 @@ use Rattle.cert_desk_checking.specs.declared.fault_kind.FaultKind.{FaultKind}
 use Rattle.cert_desk_checking.specs.declared.fault_kind.FaultKind.TheVariants as kinds
 use Rattle.cert_desk_checking.specs.declared.standing.Standing.TheVariants as standings
 use Rattle.cert_desk_checking.specs.Chains.{Stands, joined, offset_at}
-use Rattle.cert_desk_checking.specs.Faults.{whole_length, NoneBefore, IsFault}
+use Rattle.cert_desk_checking.specs.Faults.{whole_length, IsFault}
 use Rattle.cert_desk_checking.specs.Headers.{IsUnfinished, HasWhole}
 use Rattle.cert_desk_checking.specs.Locations.{plain_of, certificates_of, IsLocated, AreKept}
 use Rattle.cert_desk_checking.specs.Streams.{Kept}
 use Rattle.cert_desk_checking.specs.Steps.{Next, Waits, Stops, Finds}
-use Rattle.cert_desk_checking.proofs.Scans.{Headed, one_header, head-sequence, NoneBefore-by, not_other, header_not_indefinite, header_not_wide, header_not_longer, header_not_large, begun}
-use Rattle.cert_desk_checking.proofs.Readings.{joined-append, joined-more, each-more}
+use Rattle.cert_desk_checking.proofs.Scans.{one_header, head-sequence}
+use Rattle.cert_desk_checking.proofs.SeriesLaws.{encodings-append, each-more}
+use Rattle.cert_desk_checking.proofs.WholeValues.{whole-take}
+use Rattle.cert_desk_checking.proofs.Readings.{joined-more}
 
 -- The parts of a certificate
 
@@ -72,67 +74,28 @@ signed_within bound c valid =
     let p = certificate-parts bound c valid in
     omega (arith, ap length p.octets, length-append (head_octets tags.Sequence p.number) (octets_of (raw_tbs_certificate bound) (tbs c) ++ p.more), length-append (octets_of (raw_tbs_certificate bound) (tbs c)) p.more, p.start_is, signed_length-is bound c)
 
--- A whole certificate in the rest
+-- Where a certificate's signed part stands, of which the header was read
 
-module _ (bound limit offset : ℕ) (rest : List ℕ) (header len : ℕ) (w : HasWhole limit offset rest header len) where
-  whole_is : rest ≡ 0x30 ∷ (length_octets w.number ++ (w.body ++ w.more))
-  whole_is = w.octets ∙ append_assoc (head_octets tags.Sequence w.number) w.body w.more ∙ ap (λ (x : List ℕ). x ++ (w.body ++ w.more)) (head-sequence w.number)
+module _ (bound limit offset : ℕ) (rest : List ℕ) (header len : ℕ) (w : HasWhole limit offset rest header len) (c : PlainCertificate) (s : Spells (raw_certificate bound) c (take len rest)) where
+  at_front : take len rest ≡ head_octets tags.Sequence w.number ++ w.body
+  at_front = whole-take (raw_certificate_fields bound) limit offset rest header len w
 
-  whole_headed : Headed (length_octets w.number ++ (w.body ++ w.more)) w.number (w.body ++ w.more)
-  whole_headed = record { small = w.small; octets = refl }
+  pub read-header : header ≡ signed_start bound c
+  read-header =
+      let p = certificate-parts bound c s.valid in
+      let body = octets_of (raw_tbs_certificate bound) (tbs c) ++ p.more in
+      let heads : 0x30 ∷ (length_octets w.number ++ w.body) ≡ 0x30 ∷ (length_octets p.number ++ body) =
+      ap (λ (x : List ℕ). x ++ w.body) (sym (head-sequence w.number)) ∙ sym at_front ∙ s.octets ∙ p.octets ∙ ap (λ (x : List ℕ). x ++ body) (head-sequence p.number) in
+      let same = one_header (length_octets w.number ++ w.body) w.number p.number w.body body (record { small = w.small; octets = refl }) (record { small = p.number_small; octets = ap (λ (x : List ℕ). drop 1 x) heads }) in
+      w.header_is ∙ ap (λ (n : ℕ). length (head_octets tags.Sequence n)) same.0 ∙ sym p.start_is
 
-  whole-length : length (head_octets tags.Sequence w.number ++ w.body) ≡ len
-  whole-length = omega (arith, length-append (head_octets tags.Sequence w.number) w.body, w.content, w.len_is)
-
-  pub whole-take : take len rest ≡ head_octets tags.Sequence w.number ++ w.body
-  whole-take = ap (λ (x : List ℕ). take len x) w.octets ∙ take_at (head_octets tags.Sequence w.number ++ w.body) w.more len whole-length
-
-  pub whole_within : len ≤ limit
-  whole_within = omega (arith, w.len_is, w.within)
-
-  -- octets that no certificate has
-  pub whole_malformed : ((c : PlainCertificate) → Spells (raw_certificate bound) c (take len rest) → ⊥) → IsFault bound limit offset kinds.Malformed rest
-  whole_malformed none =
-      let v = length_octets w.number ++ (w.body ++ w.more) in
-      record {
-        says = (w.number, w.body, w.more, w.small, w.octets, w.content, λ c valid e. none c (record { valid = valid; octets = whole-take ∙ sym e }));
-        first = subst (λ (x : List ℕ). NoneBefore bound limit offset kinds.Malformed x) (sym whole_is)
-            (NoneBefore-by bound limit offset kinds.Malformed (0x30 ∷ v) (λ x. not_other bound limit offset v)
-            (λ x. header_not_indefinite bound limit offset v w.number (w.body ++ w.more) whole_headed)
-            (λ x. header_not_wide bound limit offset v w.number (w.body ++ w.more) whole_headed)
-            (λ x. header_not_longer bound limit offset v w.number (w.body ++ w.more) whole_headed)
-            (λ x. header_not_large bound limit offset v w.number (w.body ++ w.more) whole_headed w.within w.fits)
-            (λ x s. absurd (omega arith)));
-      }
-
-  -- a certificate's octets
-  module _ (c : PlainCertificate) (s : Spells (raw_certificate bound) c (take len rest)) where
-    pub read-length : length (certificate_octets bound c) ≡ len
-    read-length = ap length (sym s.octets ∙ whole-take) ∙ whole-length
-
-    pub read_stands : Stands bound limit c
-    read_stands = record { valid = s.valid; within = omega (arith, read-length, whole_within) }
-
-    pub read-rest : rest ≡ certificate_octets bound c ++ drop len rest
-    read-rest = sym (take-append-drop len rest) ∙ ap (λ (x : List ℕ). x ++ drop len rest) s.octets
-
-    pub read-header : header ≡ signed_start bound c
-    read-header =
-        let p = certificate-parts bound c s.valid in
-        let body = octets_of (raw_tbs_certificate bound) (tbs c) ++ p.more in
-        let b = begun bound rest c (drop len rest) s.valid read-rest in
-        let heads : 0x30 ∷ (length_octets w.number ++ w.body) ≡ 0x30 ∷ (length_octets p.number ++ body) =
-        ap (λ (x : List ℕ). x ++ w.body) (sym (head-sequence w.number)) ∙ sym whole-take ∙ s.octets ∙ p.octets ∙ ap (λ (x : List ℕ). x ++ body) (head-sequence p.number) in
-        let same = one_header (length_octets w.number ++ w.body) w.number p.number w.body body (record { small = w.small; octets = refl }) (record { small = p.number_small; octets = ap (λ (x : List ℕ). drop 1 x) heads }) in
-        w.header_is ∙ ap (λ (n : ℕ). length (head_octets tags.Sequence n)) same.0 ∙ sym p.start_is
-
-    pub read-signed : (signed : ℕ) → ((n : ℕ) (x : List ℕ) → n < 2 ^ 32 → drop header (take len rest) ≡ head_octets tags.Sequence n ++ x → signed ≡ whole_length n) → signed ≡ signed_length bound c
-    read-signed signed is =
-        let p = certificate-parts bound c s.valid in
-        let there : drop header (take len rest) ≡ head_octets tags.Sequence (length p.tbs_body) ++ (p.tbs_body ++ p.more) =
-        ap (λ (x : List ℕ). drop header x) s.octets ∙ ap (λ (n : ℕ). drop n (certificate_octets bound c)) read-header ∙ behind_header bound c p
-        ∙ ap (λ (x : List ℕ). x ++ p.more) p.signed ∙ append_assoc (head_octets tags.Sequence (length p.tbs_body)) p.tbs_body p.more in
-        omega (arith, is (length p.tbs_body) (p.tbs_body ++ p.more) p.small there, signed_length-is bound c, ap length p.signed, length-append (head_octets tags.Sequence (length p.tbs_body)) p.tbs_body)
+  pub read-signed : (signed : ℕ) → ((n : ℕ) (x : List ℕ) → n < 2 ^ 32 → drop header (take len rest) ≡ head_octets tags.Sequence n ++ x → signed ≡ whole_length n) → signed ≡ signed_length bound c
+  read-signed signed is =
+      let p = certificate-parts bound c s.valid in
+      let there : drop header (take len rest) ≡ head_octets tags.Sequence (length p.tbs_body) ++ (p.tbs_body ++ p.more) =
+      ap (λ (x : List ℕ). drop header x) s.octets ∙ ap (λ (n : ℕ). drop n (certificate_octets bound c)) read-header ∙ behind_header bound c p
+      ∙ ap (λ (x : List ℕ). x ++ p.more) p.signed ∙ append_assoc (head_octets tags.Sequence (length p.tbs_body)) p.tbs_body p.more in
+      omega (arith, is (length p.tbs_body) (p.tbs_body ++ p.more) p.small there, signed_length-is bound c, ap length p.signed, length-append (head_octets tags.Sequence (length p.tbs_body)) p.tbs_body)
 
 -- One certificate more
 
@@ -236,7 +199,7 @@ held limit octets start items place l k e =
     ap certificates_of (split_at items place l e) ∙ map-append plain_of (take place items) (l ∷ drop (suc place) items) in
     let whole : octets ≡ joined arc_bound front ++ (own ++ behind) =
     k.whole ∙ ap (λ (cs : List PlainCertificate). joined arc_bound cs ++ drop start octets) all
-    ∙ ap (λ (x : List ℕ). x ++ drop start octets) (joined-append arc_bound front (plain_of l ∷ certificates_of (drop (suc place) items)))
+    ∙ ap (λ (x : List ℕ). x ++ drop start octets) (encodings-append (raw_certificate arc_bound) front (plain_of l ∷ certificates_of (drop (suc place) items)))
     ∙ append_assoc (joined arc_bound front) (own ++ joined arc_bound (certificates_of (drop (suc place) items))) (drop start octets)
     ∙ ap (λ (x : List ℕ). joined arc_bound front ++ x) (append_assoc own (joined arc_bound (certificates_of (drop (suc place) items))) (drop start octets)) in
     let i = k.places place l e in
@@ -265,13 +228,13 @@ module _ (limit : ℕ) (octets : List ℕ) (start : ℕ) (items : List Located) 
   start-joined : start ≡ length (joined arc_bound old.certificates)
   start-joined = k.start_is ∙ ap (λ (cs : List PlainCertificate). length (joined arc_bound cs)) (sym b)
 
-  pub waits : ((bound : ℕ) → IsUnfinished bound limit start (drop start octets)) → Waits arc_bound old old
+  pub waits : ((fields : Body) → IsUnfinished (sequence fields) limit start (drop start octets)) → Waits arc_bound old old
   waits u = record {
-    unfinished = rw (a, ← start-joined, c) (u arc_bound);
+    unfinished = rw (a, ← start-joined, c) (u (raw_certificate_fields arc_bound));
     same = refl;
   }
 
-  pub finds : (kind : FaultKind) → kind ≢ kinds.Truncated → IsFault arc_bound limit start kind (drop start octets) → (new : Kept) → new ≡ record old { standing = standings.Faulted kind }
+  pub finds : (kind : FaultKind) → kind ≢ kinds.Truncated → IsFault (raw_certificate arc_bound) limit start kind (drop start octets) → (new : Kept) → new ≡ record old { standing = standings.Faulted kind }
       → (e : BundleError) → e ≡ errors.Fault (length old.certificates) (length (joined arc_bound old.certificates)) kind → Stops arc_bound old new e
   finds kind ne f new s e i =
       let found : Finds arc_bound old new (length old.certificates) (length (joined arc_bound old.certificates)) kind = record {

@@ -1,63 +1,33 @@
 -- A bundle reads the stream before and a piece: the piece is appended, and certificates are read while they are whole.
-use Rattle.std.proofs.Common.{◌≡◌, ◌≢◌, ℕ, ◌+◌, ◌^◌, ◌<◌, List, [], ◌∷◌, ◌++◌, length, refl, sym, ap, subst, ◌∙◌, arith, append_assoc, append-nil, length-append}
-use Rattle.std.specs.List.{AllByRecursion}
-use Rattle.x509_cert.specs.Certificates.{PlainCertificate, certificate_octets}
+use Rattle.std.proofs.Common.{◌≡◌, ℕ, ◌^◌, ◌<◌, List, [], ◌∷◌, ◌++◌, length, refl, sym, ap, subst, ◌∙◌, arith, append_assoc, append-nil, length-append}
+use Rattle.x509_cert.specs.Certificates.{PlainCertificate, raw_certificate, raw_certificate_fields, certificate_octets}
 use Rattle.cert_desk_checking.specs.declared.bundle_error.BundleError.{BundleError}
 use Rattle.cert_desk_checking.specs.declared.bundle_error.BundleError.TheVariants as errors
 use Rattle.cert_desk_checking.specs.declared.fault_kind.FaultKind.{FaultKind}
-use Rattle.cert_desk_checking.specs.declared.fault_kind.FaultKind.TheVariants as kinds
 use Rattle.cert_desk_checking.specs.declared.standing.Standing.{Standing}
 use Rattle.cert_desk_checking.specs.declared.standing.Standing.TheVariants as standings
 use Rattle.cert_desk_checking.specs.Chains.{Stands, Chain, joined}
-use Rattle.cert_desk_checking.specs.Faults.{Split, StreamFault, IsFault}
-use Rattle.cert_desk_checking.specs.Headers.{IsUnfinished}
+use Rattle.cert_desk_checking.specs.Faults.{Split, StreamFault}
 use Rattle.cert_desk_checking.specs.Streams.{Kept, Reads, ReadsAs, Begins}
 use Rattle.cert_desk_checking.specs.Steps.{kept_octets, ReadsOn, Grows, Next, Waits, Finds, Stops, FeedsFault, FeedsNone, RefusesPiece}
-use Rattle.cert_desk_checking.proofs.Scans.{unfinished_none, fault_none, begun, whole_length-some}
+use Rattle.cert_desk_checking.proofs.Scans.{begun, whole_length-some}
+use Rattle.cert_desk_checking.proofs.SeriesLaws.{encodings-more, Series-more}
+use Rattle.cert_desk_checking.proofs.SeriesReading.{reads_nothing, reads_unfinished, reads_fault}
+pub use Rattle.cert_desk_checking.proofs.SeriesLaws.{each-last}
 
 -- Chains
 
-pub joined-append : (bound : ℕ) (cs ds : List PlainCertificate) → joined bound (cs ++ ds) ≡ joined bound cs ++ joined bound ds
-joined-append bound [] ds = refl
-joined-append bound (c ∷ cs) ds = ap (λ (x : List ℕ). certificate_octets bound c ++ x) (joined-append bound cs ds) ∙ sym (append_assoc (certificate_octets bound c) (joined bound cs) (joined bound ds))
-
 pub joined-more : (bound : ℕ) (cs : List PlainCertificate) (c : PlainCertificate) → joined bound (cs ++ c ∷ []) ≡ joined bound cs ++ certificate_octets bound c
-joined-more bound cs c = joined-append bound cs (c ∷ []) ∙ ap (λ (x : List ℕ). joined bound cs ++ x) (append-nil (certificate_octets bound c))
-
-pub each-more : (P : PlainCertificate → Type 0) (cs : List PlainCertificate) (c : PlainCertificate) → AllByRecursion P cs → P c → AllByRecursion P (cs ++ c ∷ [])
-each-more P [] c all p = (p, tt)
-each-more P (b ∷ cs) c all p = (all.0, each-more P cs c all.1 p)
-
-pub each-last : (P : PlainCertificate → Type 0) (cs : List PlainCertificate) (c : PlainCertificate) → AllByRecursion P (cs ++ c ∷ []) → P c
-each-last P [] c all = all.0
-each-last P (b ∷ cs) c all = each-last P cs c all.1
+joined-more bound cs c = encodings-more (raw_certificate bound) cs c
 
 pub Chain-more : (bound limit : ℕ) (cs : List PlainCertificate) (c : PlainCertificate) → Chain bound limit cs (joined bound cs) → Stands bound limit c
     → length (joined bound (cs ++ c ∷ [])) < 2 ^ 64 → Chain bound limit (cs ++ c ∷ []) (joined bound (cs ++ c ∷ []))
-Chain-more bound limit cs c chain stands fits = record { each = each-more (Stands bound limit) cs c chain.each stands; joins = refl; fits = fits }
-
--- the rest begins with no further certificate that could stand
-abbrev pub Longest : ℕ → ℕ → List PlainCertificate → List ℕ → Type 0
-Longest bound limit cs rest =
-    (c : PlainCertificate) (more : List ℕ) → Chain bound limit (cs ++ c ∷ []) (joined bound (cs ++ c ∷ [])) → rest ≡ certificate_octets bound c ++ more → ⊥
-
--- what an unfinished rest, or a faulty one, says of the chain
-module _ (bound limit : ℕ) (cs : List PlainCertificate) (rest : List ℕ) where
-  pub unfinished-longest : IsUnfinished bound limit (length (joined bound cs)) rest → Longest bound limit cs rest
-  unfinished-longest u c more chain e = u.none c more (each-last (Stands bound limit) cs c chain.each) e
-
-  pub fault-longest : (kind : FaultKind) → kind ≢ kinds.Truncated → IsFault bound limit (length (joined bound cs)) kind rest → Longest bound limit cs rest
-  fault-longest kind ne f c more chain e =
-      let fits : length (joined bound cs) + length (certificate_octets bound c) < 2 ^ 64 =
-      omega (arith, chain.fits, ap length (joined-more bound cs c), length-append (joined bound cs) (certificate_octets bound c)) in
-      fault_none bound limit (length (joined bound cs)) kind rest ne f.says c more (each-last (Stands bound limit) cs c chain.each) fits e
+Chain-more bound limit cs c chain stands fits = Series-more (raw_certificate bound) limit cs c chain stands fits
 
 -- The empty stream
 
 pub Reads-nil : (bound limit : ℕ) → Reads bound (record { limit = limit; certificates = []; rest = []; standing = standings.Open }) []
-Reads-nil bound limit =
-    let u = unfinished_none bound limit 0 [] (omega arith) in
-    (record { front = record { each = tt; joins = refl; fits = omega arith }; whole = refl; longest = unfinished-longest bound limit [] [] u }, u.sound)
+Reads-nil bound limit = reads_nothing (raw_certificate_fields bound) limit
 
 -- The loop that reads a piece
 
@@ -105,7 +75,7 @@ feeding-next bound old now new piece f n =
 -- what is left gets shorter
 pub rest-smaller : (bound : ℕ) (now new : Kept) → Next bound now new → length new.rest < length now.rest
 rest-smaller bound now new n =
-    let b = begun bound now.rest n.certificate new.rest n.stands.valid n.rest in
+    let b = begun (raw_certificate_fields bound) now.rest n.certificate new.rest n.stands.valid n.rest in
     let some = whole_length-some (length b.body) in
     omega (arith, ap length n.rest, length-append (certificate_octets bound n.certificate) new.rest, b.whole)
 
@@ -124,14 +94,8 @@ pub feeding-waits : (bound : ℕ) (old now new : Kept) (piece : List ℕ) → Fe
 feeding-waits bound old now new piece f w stream reads =
     let split = open_split bound old stream f.was_open reads in
     let opened : Reads bound now (stream ++ piece) =
-    subst (λ (s : Standing). ReadsAs bound s now (stream ++ piece)) (sym f.is_open) (
-      record {
-        front = rw f.limit (f.front split.front);
-        whole = whole-piece bound old now piece stream f reads;
-        longest = unfinished-longest bound now.limit now.certificates now.rest w.unfinished;
-      },
-      w.unfinished.sound,
-    ) in
+    subst (λ (s : Standing). ReadsAs bound s now (stream ++ piece)) (sym f.is_open)
+    (reads_unfinished (raw_certificate bound) now.limit now.certificates now.rest (stream ++ piece) (rw f.limit (f.front split.front)) (whole-piece bound old now piece stream f reads) w.unfinished) in
     subst (λ (b : Kept). Reads bound b (stream ++ piece)) (sym w.same) opened
 
 pub feeding-finds : (bound : ℕ) (old now new : Kept) (piece : List ℕ) (place offset : ℕ) (kind : FaultKind) → Feeding bound old piece now → Finds bound now new place offset kind → FeedsFault bound old new piece place offset kind
@@ -141,15 +105,8 @@ feeding-finds bound old now new piece place offset kind f w = record {
   streams = w.streams;
   reads = λ stream reads.
       let split = open_split bound old stream f.was_open reads in
-      let faulted : StreamFault bound now.limit (stream ++ piece) now.certificates kind = record {
-        rest = now.rest;
-        split = record {
-          front = rw f.limit (f.front split.front);
-          whole = whole-piece bound old now piece stream f reads;
-          longest = fault-longest bound now.limit now.certificates now.rest kind w.streams w.fault;
-        };
-        fault = w.fault;
-      } in
+      let faulted : StreamFault bound now.limit (stream ++ piece) now.certificates kind =
+      reads_fault (raw_certificate_fields bound) now.limit now.certificates now.rest (stream ++ piece) (rw f.limit (f.front split.front)) (whole-piece bound old now piece stream f reads) kind w.streams w.fault in
       subst (λ (b : Kept). Reads bound b (stream ++ piece)) (sym w.same) faulted;
 }
 

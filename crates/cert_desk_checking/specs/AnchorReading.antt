@@ -1,6 +1,5 @@
 -- How a file of anchors is read, one trust anchor after the other.
-use Rattle.std.specs.Prelude.{◌≡◌, ℕ, ◌+◌, List, ◌++◌, drop, length, Ok, Err}
-use Rattle.der_core_head.specs.Shapes.{IsValid}
+use Rattle.std.specs.Prelude.{◌≡◌, ℕ, List, drop, Err}
 use Rattle.x509_cert.specs.Anchors.{PlainAnchor as PlainChoice}
 use Rattle.cert_desk_checking.specs.declared.anchor_error.AnchorError.TheVariants as errors
 use Rattle.cert_desk_checking.specs.declared.status.AnchorFault.{AnchorFault}
@@ -8,20 +7,17 @@ use Rattle.cert_desk_checking.specs.declared.status.AnchorFault.TheVariants as f
 use Rattle.cert_desk_checking.specs.declared.status.Outcome.{Outcome}
 use Rattle.cert_desk_checking.specs.declared.status.Outcome.TheVariants as outcomes
 use Rattle.cert_desk_checking.specs.Anchors.{given_by}
-use Rattle.cert_desk_checking.specs.AnchorFiles.{raw_choice, choice_octets, IsFaulty, HasFirstFault}
+use Rattle.cert_desk_checking.specs.AnchorFiles.{raw_choice, IsFaulty, HasFirstFault}
+use Rattle.cert_desk_checking.specs.Files as files
 use Rattle.cert_desk_checking.specs.Judging.{PlainAnchor}
 
 -- From the start to the end stands this trust anchor.
-pub record StandsAt (octets : List ℕ) (start end : ℕ) (c : PlainChoice) : Type 0 where
-  pub valid : IsValid raw_choice c
-  pub whole : drop start octets ≡ choice_octets c ++ drop end octets
-  pub end_is : end ≡ start + length (choice_octets c)
+abbrev pub StandsAt : List ℕ → ℕ → ℕ → PlainChoice → Type 0
+StandsAt octets start end c = files.StandsAt raw_choice octets start end c
 
--- It gives this anchor.
-pub record GivesAt (octets : List ℕ) (start end : ℕ) (anchor : PlainAnchor) : Type 0 where
-  pub choice : PlainChoice
-  pub stands : StandsAt octets start end choice
-  pub given : given_by choice ≡ Ok anchor
+-- One stands there that gives this anchor.
+abbrev pub GivesAt : List ℕ → ℕ → ℕ → PlainAnchor → Type 0
+GivesAt octets start end anchor = files.GivesAt raw_choice given_by octets start end anchor
 
 -- why a trust anchor that begins at the start gives none: it is of a kind that doesn't, or there was no memory
 abbrev pub UngivenFor : PlainChoice → AnchorFault → Type 0

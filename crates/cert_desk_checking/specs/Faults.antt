@@ -1,13 +1,14 @@
--- What can be wrong with a stream: said of the certificates with which it begins, and of the rest.
+-- What can be wrong where a value of a shape should begin that stands behind a SEQUENCE tag; and with a stream: said of the values with
+-- which it begins, and of the rest.
 use Rattle.std.specs.Prelude.{◌≡◌, ◌≢◌, ℕ, ◌+◌, ◌≤◌, ◌<◌, ◌^◌, ◌⊎◌, List, [], ◌∷◌, ◌++◌, length}
 use Rattle.std.specs.Int.Digits.{number_from_digits}
 use Rattle.der_core_head.specs.declared.tag.Tag.TheVariants as tags
 use Rattle.der_core_head.specs.Heads.{length_octets, head_octets}
-use Rattle.der_core_head.specs.Shapes.{IsValid}
-use Rattle.x509_cert.specs.Certificates.{PlainCertificate, raw_certificate, certificate_octets}
+use Rattle.der_core_head.specs.Shapes.{Shape, Value, octets_of, IsValid}
+use Rattle.x509_cert.specs.Certificates.{PlainCertificate, raw_certificate}
 use Rattle.cert_desk_checking.specs.declared.fault_kind.FaultKind.{FaultKind}
 use Rattle.cert_desk_checking.specs.declared.fault_kind.FaultKind.TheVariants as kinds
-use Rattle.cert_desk_checking.specs.Chains.{Chain, joined}
+use Rattle.cert_desk_checking.specs.Series.{SeriesSplit, encodings}
 
 -- The octets of a length, shortest or not: one below 128, or 128 + k and k digits in base 256, k from 1 to 4.
 abbrev pub IsLength : List ℕ → Type 0
@@ -21,24 +22,24 @@ spelled_length [] = 0
 spelled_length (n ∷ []) = n
 spelled_length (n ∷ d ∷ ds) = number_from_digits 256 (d ∷ ds)
 
--- how many octets a certificate has whose content has so many
+-- how many octets a SEQUENCE has whose content has so many
 abbrev pub whole_length : ℕ → ℕ
 whole_length n = length (head_octets tags.Sequence n) + n
 
--- What each kind says of the octets that begin where a certificate should, at an offset of the stream.
-abbrev pub Says : ℕ → ℕ → ℕ → FaultKind → List ℕ → Type 0
-Says bound limit offset kinds.NoCertificate rest = (b : ℕ) × (w : List ℕ) × (rest ≡ b ∷ w) × (b ≢ 0x30)
-Says bound limit offset kinds.Indefinite rest = (w : List ℕ) × (rest ≡ 0x30 ∷ 0x80 ∷ w)
-Says bound limit offset kinds.LengthTooWide rest = (n : ℕ) × (w : List ℕ) × (rest ≡ 0x30 ∷ n ∷ w) × (0x85 ≤ n)
-Says bound limit offset kinds.LengthNotShortest rest =
+-- What each kind says of the octets that begin where a value should, at an offset of the stream.
+abbrev pub Says : Shape → ℕ → ℕ → FaultKind → List ℕ → Type 0
+Says s limit offset kinds.NoCertificate rest = (b : ℕ) × (w : List ℕ) × (rest ≡ b ∷ w) × (b ≢ 0x30)
+Says s limit offset kinds.Indefinite rest = (w : List ℕ) × (rest ≡ 0x30 ∷ 0x80 ∷ w)
+Says s limit offset kinds.LengthTooWide rest = (n : ℕ) × (w : List ℕ) × (rest ≡ 0x30 ∷ n ∷ w) × (0x85 ≤ n)
+Says s limit offset kinds.LengthNotShortest rest =
     (ls : List ℕ) × (w : List ℕ) × (rest ≡ 0x30 ∷ (ls ++ w)) × IsLength ls × (ls ≢ length_octets (spelled_length ls))
-Says bound limit offset kinds.TooLarge rest =
+Says s limit offset kinds.TooLarge rest =
     (n : ℕ) × (w : List ℕ) × (n < 2 ^ 32) × (rest ≡ head_octets tags.Sequence n ++ w)
     × ((limit < whole_length n) ⊎ (2 ^ 64 ≤ offset + whole_length n))
-Says bound limit offset kinds.Malformed rest =
+Says s limit offset kinds.Malformed rest =
     (n : ℕ) × (body : List ℕ) × (w : List ℕ) × (n < 2 ^ 32) × (rest ≡ (head_octets tags.Sequence n ++ body) ++ w) × (length body ≡ n)
-    × ((c : PlainCertificate) → IsValid (raw_certificate bound) c → certificate_octets bound c ≡ head_octets tags.Sequence n ++ body → ⊥)
-Says bound limit offset kinds.Truncated rest = rest ≢ []
+    × ((v : Value s) → IsValid s v → octets_of s v ≡ head_octets tags.Sequence n ++ body → ⊥)
+Says s limit offset kinds.Truncated rest = rest ≢ []
 
 -- the order of the kinds
 abbrev pub rank : FaultKind → ℕ
@@ -51,22 +52,24 @@ rank kinds.Malformed = 6
 rank kinds.Truncated = 7
 
 -- no kind before this one says anything
-abbrev pub NoneBefore : ℕ → ℕ → ℕ → FaultKind → List ℕ → Type 0
-NoneBefore bound limit offset kind rest = (other : FaultKind) → rank other < rank kind → Says bound limit offset other rest → ⊥
+abbrev pub NoneBefore : Shape → ℕ → ℕ → FaultKind → List ℕ → Type 0
+NoneBefore s limit offset kind rest = (other : FaultKind) → rank other < rank kind → Says s limit offset other rest → ⊥
 
 -- the first kind that says something
-pub record IsFault (bound limit offset : ℕ) (kind : FaultKind) (rest : List ℕ) : Type 0 where
-  pub says : Says bound limit offset kind rest
-  pub first : NoneBefore bound limit offset kind rest
+pub record IsFault (s : Shape) (limit offset : ℕ) (kind : FaultKind) (rest : List ℕ) : Type 0 where
+  pub says : Says s limit offset kind rest
+  pub first : NoneBefore s limit offset kind rest
 
--- The stream begins with these certificates, and the rest begins with no further one that could stand.
-pub record Split (bound limit : ℕ) (stream : List ℕ) (cs : List PlainCertificate) (rest : List ℕ) : Type 0 where
-  pub front : Chain bound limit cs (joined bound cs)
-  pub whole : stream ≡ joined bound cs ++ rest
-  pub longest : (c : PlainCertificate) (more : List ℕ) → Chain bound limit (cs ++ c ∷ []) (joined bound (cs ++ c ∷ [])) → rest ≡ certificate_octets bound c ++ more → ⊥
-
--- the fault of a stream that goes on: of the first six kinds
-pub record StreamFault (bound limit : ℕ) (stream : List ℕ) (cs : List PlainCertificate) (kind : FaultKind) : Type 0 where
+-- the fault of a stream of values that goes on: of the first six kinds
+pub record SeriesFault (s : Shape) (limit : ℕ) (stream : List ℕ) (vs : List (Value s)) (kind : FaultKind) : Type 0 where
   pub rest : List ℕ
-  pub split : Split bound limit stream cs rest
-  pub fault : IsFault bound limit (length (joined bound cs)) kind rest
+  pub split : SeriesSplit s limit stream vs rest
+  pub fault : IsFault s limit (length (encodings s vs)) kind rest
+
+-- of certificates: The stream begins with these, and the rest begins with no further one that could stand.
+abbrev pub Split : ℕ → ℕ → List ℕ → List PlainCertificate → List ℕ → Type 0
+Split bound limit stream cs rest = SeriesSplit (raw_certificate bound) limit stream cs rest
+
+-- the fault of a stream of certificates that goes on
+abbrev pub StreamFault : ℕ → ℕ → List ℕ → List PlainCertificate → FaultKind → Type 0
+StreamFault bound limit stream cs kind = SeriesFault (raw_certificate bound) limit stream cs kind

@@ -1,15 +1,15 @@
--- What stands where a length or a certificate should: too few octets, a fault, or all of it (X.690 8.1.3, 10.1).
+-- What stands where a length, or a value behind a SEQUENCE tag, should: too few octets, a fault, or all of it (X.690 8.1.3, 10.1).
 use Rattle.std.specs.Prelude.{◌≡◌, ◌≢◌, ℕ, ◌+◌, ◌≤◌, ◌<◌, ◌^◌, List, ◌∷◌, ◌++◌, length}
 use Rattle.der_core_head.specs.declared.tag.Tag.TheVariants as tags
 use Rattle.der_core_head.specs.Heads.{length_octets, head_octets}
-use Rattle.x509_cert.specs.Certificates.{PlainCertificate, certificate_octets}
+use Rattle.der_core_head.specs.Shapes.{Shape, Body, Value, octets_of, sequence}
 use Rattle.cert_desk_checking.specs.declared.fault_kind.FaultKind.{FaultKind}
 use Rattle.cert_desk_checking.specs.declared.fault_kind.FaultKind.TheVariants as kinds
 use Rattle.cert_desk_checking.specs.declared.scan.LengthAt.{LengthAt}
 use Rattle.cert_desk_checking.specs.declared.scan.LengthAt.TheVariants as lengths
 use Rattle.cert_desk_checking.specs.declared.scan.Scan.{Scan}
 use Rattle.cert_desk_checking.specs.declared.scan.Scan.TheVariants as scans
-use Rattle.cert_desk_checking.specs.Chains.{Stands}
+use Rattle.cert_desk_checking.specs.Series.{MayStand}
 use Rattle.cert_desk_checking.specs.Faults.{IsLength, spelled_length, whole_length, IsFault, NoneBefore}
 
 -- No length begins these octets, and the first one announces one of one to four digits.
@@ -40,10 +40,10 @@ IsLengthAt octets lengths.Cut = IsCut octets
 IsLengthAt octets (lengths.Refused kind) = LengthFault kind octets
 IsLengthAt octets (lengths.Is count number) = HasLength octets count number
 
--- no certificate begins these octets that could stand here, and no kind of fault is true of them
-pub record IsUnfinished (bound limit offset : ℕ) (rest : List ℕ) : Type 0 where
-  pub sound : NoneBefore bound limit offset kinds.Truncated rest
-  pub none : (c : PlainCertificate) (more : List ℕ) → Stands bound limit c → rest ≡ certificate_octets bound c ++ more → ⊥
+-- no value begins these octets that could stand here, and no kind of fault is true of them
+pub record IsUnfinished (s : Shape) (limit offset : ℕ) (rest : List ℕ) : Type 0 where
+  pub sound : NoneBefore s limit offset kinds.Truncated rest
+  pub none : (v : Value s) (more : List ℕ) → MayStand s limit v → rest ≡ octets_of s v ++ more → ⊥
 
 -- these octets begin with a SEQUENCE of so many octets, so many of them its header's, that may stand here
 pub record HasWhole (limit offset : ℕ) (rest : List ℕ) (header len : ℕ) : Type 0 where
@@ -58,7 +58,8 @@ pub record HasWhole (limit offset : ℕ) (rest : List ℕ) (header len : ℕ) : 
   pub within : whole_length number ≤ limit
   pub fits : offset + whole_length number < 2 ^ 64
 
+-- the same of every SEQUENCE, whatever stands in it
 abbrev pub IsScan : ℕ → ℕ → List ℕ → Scan → Type 0
-IsScan limit offset rest scans.Wait = (bound : ℕ) → IsUnfinished bound limit offset rest
-IsScan limit offset rest (scans.Refused kind) = (kind ≢ kinds.Malformed) × (kind ≢ kinds.Truncated) × ((bound : ℕ) → IsFault bound limit offset kind rest)
+IsScan limit offset rest scans.Wait = (b : Body) → IsUnfinished (sequence b) limit offset rest
+IsScan limit offset rest (scans.Refused kind) = (kind ≢ kinds.Malformed) × (kind ≢ kinds.Truncated) × ((b : Body) → IsFault (sequence b) limit offset kind rest)
 IsScan limit offset rest (scans.Whole header len) = HasWhole limit offset rest header len

@@ -1,5 +1,6 @@
 -- What holds of every stream.
 use Rattle.std.specs.Prelude.{◌≡◌, ◌≢◌, ℕ, List, ◌++◌, Result}
+use Rattle.der_core_head.specs.Shapes.{Shape, Value}
 use Rattle.x509_cert.specs.Certificates.{PlainCertificate}
 use Rattle.cert_desk_checking.specs.declared.checked.Verdict.{Verdict}
 use Rattle.cert_desk_checking.specs.declared.fault_kind.FaultKind.{FaultKind}
@@ -7,9 +8,22 @@ use Rattle.cert_desk_checking.specs.declared.fault_kind.FaultKind.TheVariants as
 use Rattle.cert_desk_checking.specs.declared.status.AnchorFault.{AnchorFault}
 use Rattle.cert_desk_checking.specs.AnchorFiles.{SaysAsFile}
 use Rattle.cert_desk_checking.specs.Chains.{Chain}
-use Rattle.cert_desk_checking.specs.Faults.{StreamFault}
+use Rattle.cert_desk_checking.specs.Faults.{SeriesFault, StreamFault}
 use Rattle.cert_desk_checking.specs.Judging.{PlainAnchor, Terms}
+use Rattle.cert_desk_checking.specs.Series.{IsUnambiguous, Series}
 use Rattle.cert_desk_checking.specs.Verdicts.{IsVerdict}
+
+-- No stream joins two lists of values of a shape whose values are told apart.
+abbrev pub HasOneSeries : Type 0
+HasOneSeries =
+    (s : Shape) (limit : ℕ) (vs ws : List (Value s)) (stream : List ℕ)
+    → IsUnambiguous s → Series s limit vs stream → Series s limit ws stream → vs ≡ ws
+
+-- No stream of them has two faults.
+abbrev pub HasOneSeriesFault : Type 0
+HasOneSeriesFault =
+    (s : Shape) (limit : ℕ) (vs ws : List (Value s)) (kind other : FaultKind) (stream : List ℕ)
+    → IsUnambiguous s → SeriesFault s limit stream vs kind → SeriesFault s limit stream ws other → (vs ≡ ws) × (kind ≡ other)
 
 -- No stream joins two lists of certificates.
 abbrev pub HasOneChain : Type 0

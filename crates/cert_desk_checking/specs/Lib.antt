@@ -1,3 +1,5 @@
+pub mod Series
+pub mod Files
 pub mod Chains
 pub mod Faults
 pub mod Streams

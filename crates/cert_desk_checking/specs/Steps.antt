@@ -1,7 +1,7 @@
 -- How a bundle changes.
 use Rattle.std.specs.Prelude.{◌≡◌, ◌≢◌, ℕ, ◌≤◌, ◌<◌, ◌^◌, List, [], ◌∷◌, ◌++◌, length, Bool, true, false}
 use Rattle.cert_desk_io.specs.Devices.{Rose}
-use Rattle.x509_cert.specs.Certificates.{PlainCertificate, certificate_octets}
+use Rattle.x509_cert.specs.Certificates.{PlainCertificate, raw_certificate, certificate_octets}
 use Rattle.cert_desk_checking.specs.declared.bundle_error.BundleError.{BundleError}
 use Rattle.cert_desk_checking.specs.declared.bundle_error.BundleError.TheVariants as errors
 use Rattle.cert_desk_checking.specs.declared.bundle_error.ReadError.{ReadError}
@@ -39,7 +39,7 @@ pub record Next (bound : ℕ) (old new : Kept) : Type 0 where
 
 -- No certificate is read: octets are missing.
 pub record Waits (bound : ℕ) (old new : Kept) : Type 0 where
-  pub unfinished : IsUnfinished bound old.limit (length (joined bound old.certificates)) old.rest
+  pub unfinished : IsUnfinished (raw_certificate bound) old.limit (length (joined bound old.certificates)) old.rest
   pub same : new ≡ old
 
 abbrev pub Advances : ℕ → Kept → Kept → Bool → Type 0
@@ -55,7 +55,7 @@ pub record IsFoundAt (bound : ℕ) (b : Kept) (place offset : ℕ) (kind : Fault
 pub record Finds (bound : ℕ) (old new : Kept) (place offset : ℕ) (kind : FaultKind) : Type 0 where
   pub found : IsFoundAt bound new place offset kind
   pub streams : kind ≢ kinds.Truncated
-  pub fault : IsFault bound old.limit (length (joined bound old.certificates)) kind old.rest
+  pub fault : IsFault (raw_certificate bound) old.limit (length (joined bound old.certificates)) kind old.rest
   pub same : new ≡ record old { standing = standings.Faulted kind }
 
 -- what stops the reading of the next certificate

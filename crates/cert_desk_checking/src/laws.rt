@@ -1,5 +1,18 @@
 //! Laws of streams and of files of anchors. Each function does nothing: its contract is the law.
-ghost use Rattle.cert_desk_checking.specs.Laws.{HasOneChain, FaultHasNoChain, HasOneFault, FaultStays, HasOneVerdict, HasOneAnchorFile};
+ghost use Rattle.cert_desk_checking.specs.Laws.{HasOneSeries, HasOneSeriesFault, HasOneChain, FaultHasNoChain, HasOneFault, FaultStays, HasOneVerdict, HasOneAnchorFile};
+
+/// No stream joins two lists of values of a shape whose values are told apart: each has a header, and
+/// first tags are kept apart.
+///
+/// Certificates are such values, and trust anchors.
+pub fn one_series()
+    ensures { HasOneSeries }
+{}
+
+/// No stream of such values has two faults.
+pub fn one_series_fault()
+    ensures { HasOneSeriesFault }
+{}
 
 /// No stream joins two lists of certificates.
 pub fn one_chain()

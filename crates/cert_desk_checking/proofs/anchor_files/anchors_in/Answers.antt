@@ -1,15 +1,17 @@
 -- Each anchor that is read makes the file so far longer by one.
 use Rattle.std.proofs.Common.{◌≡◌, map, [], ◌∷◌, ◌++◌, ap, ◌∙◌, arith}
 use Rattle.std.proofs.lemmas.List.{map-append}
-use Rattle.cert_desk_checking.specs.Anchors.{anchor_plain}
-use Rattle.cert_desk_checking.proofs.AnchorLaws.{stands-later, so_far-more}
+use Rattle.cert_desk_checking.specs.Anchors.{anchor_plain, given_by}
+use Rattle.cert_desk_checking.specs.AnchorFiles.{raw_choice}
+use Rattle.cert_desk_checking.proofs.AnchorLaws.{choices_told}
+use Rattle.cert_desk_checking.proofs.FileReading.{stands-later, so_far-more}
 use Rattle.cert_desk_checking.proofs.Located.{pushed}
 use Rattle.cert_desk_checking.proofs.anchor_files.anchors_in.Goals as goal
 
 pub loop-start-smaller : goal.loop-start-smaller
 loop-start-smaller c =
     let given = c.in-Ok.ensures.given in
-    let later = stands-later c.args.octets.now c.loop-start.start c.in-Ok.read.1 given.choice given.stands in
+    let later = stands-later raw_choice c.args.octets.now c.loop-start.start c.in-Ok.read.1 given.value given.stands choices_told in
     omega (arith, later, c.loop-start-test.true)
 
 pub loop-start-preserved : goal.loop-start-preserved
@@ -19,4 +21,4 @@ loop-start-preserved c =
     let items : map anchor_plain c.push.new.self.items ≡ map anchor_plain before ++ anchor_plain anchor ∷ [] =
     ap (map anchor_plain) (pushed c.push.result _ _ _ c.push.ensures.items c.if-is_err.ensures.negation) ∙ map-append anchor_plain before (anchor ∷ []) in
     rw items
-    (so_far-more c.args.octets.now (map anchor_plain before) c.loop-start.start c.in-Ok.read.1 (anchor_plain anchor) c.loop-start.invariant c.in-Ok.ensures.given)
+    (so_far-more raw_choice given_by c.args.octets.now (map anchor_plain before) c.loop-start.start c.loop-start.invariant c.in-Ok.read.1 (anchor_plain anchor) c.in-Ok.ensures.given)

@@ -4,7 +4,7 @@ use Rattle.std.proofs.lemmas.List.{take_rest}
 use Rattle.der_core_head.specs.Shapes.{IsValid}
 use Rattle.x509_cert.specs.Anchors.{trust_anchor_plain}
 use Rattle.cert_desk_checking.specs.AnchorFiles.{raw_choice, choice_octets}
-use Rattle.cert_desk_checking.proofs.AnchorLaws.{stands_at}
+use Rattle.cert_desk_checking.proofs.FileReading.{stands_at}
 use Rattle.cert_desk_checking.proofs.anchor_files.choice_at.Goals as goal
 
 pub returns-in-Ok-clause-stands : goal.returns-in-Ok-clause-stands
@@ -12,4 +12,4 @@ returns-in-Ok-clause-stands c =
     let octets = c.args.octets.now in
     let choice = trust_anchor_plain c.in-Ok.choice in
     let spelled : IsValid raw_choice choice × (drop c.args.start octets ≡ choice_octets choice ++ c.in-Ok.behind.now) = rw take_rest at c.in-Ok.ensures.spelled refl in
-    stands_at octets c.args.start choice c.in-Ok.behind.now (omega (arith, c.requires.some)) spelled.0 spelled.1
+    stands_at raw_choice octets c.args.start choice c.in-Ok.behind.now (omega (arith, c.requires.some)) spelled.0 spelled.1

@@ -6,7 +6,7 @@ use Rattle.cert_desk_checking.proofs.scan.scan_header.Goals as goal
 use Rattle.cert_desk_checking.proofs.scan.scan_header.Goals.{then-len-from-via-then-len-from, then-len-from-via-else-len-from+then-len-offset}
 
 pub returns-in_default : goal.returns-in_default
-returns-in_default c = λ bound. unfinished_none bound c.args.limit c.args.offset c.args.rest.now c.in_default.len_below
+returns-in_default c = λ fields. unfinished_none fields c.args.limit c.args.offset c.args.rest.now c.in_default.len_below
 
 pub returns-in-Cut : goal.returns-in-Cut
 returns-in-Cut c = scan_cut c.args.limit c.args.offset c.args.rest.now c.in-len1-up.len_at_least c.if-first-ne48.false (rw take_rest at c.in-Cut.ensures)

@@ -1,0 +1,5 @@
+use Rattle.cert_desk_checking.proofs.SeriesLaws.{one_series_fault}
+use Rattle.cert_desk_checking.proofs.laws.one_series_fault.Goals as goal
+
+pub returns : goal.returns
+returns c = λ s limit vs ws kind other stream u p q. one_series_fault s u limit vs ws kind other stream p q
