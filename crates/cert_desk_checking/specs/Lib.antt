@@ -20,6 +20,11 @@ pub mod AnchorReading
 pub mod Places
 pub mod Breaches
 pub mod Digests
+pub mod Builders
+pub mod Extensions
+pub mod Parts
+pub mod Texts
+pub mod Views
 pub mod Lines
 pub mod Arguments
 pub mod Reading

@@ -50,3 +50,6 @@ pub use x509_cert::{
     AlgorithmIdentifier, BitString, CertificateInner, Raw, SubjectPublicKeyInfo, Time,
     TrustAnchorChoice,
 };
+
+// What all of these are made of.
+pub use x509_cert as types;

@@ -1,0 +1,2 @@
+-- The grammar of dates, versions and extensions, passed on.
+pub use Rattle.x509_cert_parts.specs.Grammar.{PlainTime, PlainValidity, extension, extensions, false_by_default, not_after, not_before, time, validity, version_field}
