@@ -1,29 +1,24 @@
 -- Orders are accepted in turn, up to the first that is refused.
 use Rattle.std.proofs.Common.{◌≡◌, ℕ, ℤ, zero, suc, ◌+◌, ◌-◌, ◌<◌, ◌≤◌, List, [], ◌∷◌, ◌++◌, length, map, Bool, true, false, Option, Some, None, Ok, Err, Result, refl, sym, ap, ◌∙◌, subst, arith, inl, inr, slice_get, length-append}
-use Rattle.std.proofs.lemmas.Slice.Eq.{bytes_eq-Decides}
-use Rattle.std.specs.Prelude.{◌≢◌, pos, nat_lt, option_map, IfOk, IfErr, string_bytes, bytes_eq, ◌==◌, ◌&&◌, if◌then◌else◌}
-use Rattle.std.proofs.lemmas.Bool.{and_parts, cases_lt, eqb-true, le-ltb, lt-ltb, ltb-false}
+use Rattle.std.specs.Prelude.{◌≢◌, pos, nat_lt, option_map, IfOk, IfErr, string_bytes, if◌then◌else◌}
+use Rattle.std.proofs.lemmas.Bool.{cases_lt, le-ltb, lt-ltb, ltb-false}
 use Rattle.std.proofs.lemmas.List.{length-map}
 use Rattle.std.proofs.lemmas.Option.{same_Some, slice_get-map, slice_get_past, slice_get_within}
 use Rattle.der_core_head.specs.BitStrings.{Bits}
 use Rattle.der_core_head.specs.declared.error.ErrorKind.{ErrorKind}
 use Rattle.der_core_head.specs.declared.error.ErrorKind.TheVariants as kinds
-use Rattle.der_core_head.specs.declared.tag.Tag.TheVariants as tags
 use Rattle.der_core_head.specs.Grammar.{plain_list}
-use Rattle.der_core_head.specs.Heads.{tlv}
 use Rattle.der_core_head.specs.Integers.{integer_octets}
 use Rattle.der_core_head.specs.Octets.{◌>>=◌}
-use Rattle.der_core_head.specs.Shapes.{body_octets, contents, octets_of}
-use Rattle.x509_cert.specs.Certificates.{Algorithm, PlainName, PublicKey, algorithm_identifier, bit_string, key_algorithm, key_bits}
+use Rattle.x509_cert.specs.Certificates.{Algorithm, PlainName, PublicKey}
 use Rattle.x509_cert.specs.Texts.{SpellsName}
-use Rattle.x509_cert.specs.Views.{arc_bound}
 use Rattle.x509_cert_parts.specs.SerialNumbers.{new_serial}
 use Rattle.cert_desk_orders.specs.declared.order.Order.{Order}
 use Rattle.cert_desk_issuing.specs.declared.accepted.Accepted.{Accepted}
 use Rattle.cert_desk_issuing.specs.declared.fault.Fault.{Fault}
 use Rattle.cert_desk_issuing.specs.declared.fault.Fault.TheVariants as faults
 use Rattle.cert_desk_issuing.specs.declared.role.Role.{Role}
-use Rattle.cert_desk_issuing.specs.Acceptance.{AcceptedOrders, AcceptsFront, IsAccepted, IsAcceptedAt, SameKey}
+use Rattle.cert_desk_issuing.specs.Acceptance.{AcceptedOrders, AcceptsFront, IsAccepted, IsAcceptedAt}
 use Rattle.cert_desk_issuing.specs.PlainOrders.{AreReady, IsReady, PlainOrder, accepted_plain, orders_plain}
 use Rattle.cert_desk_issuing.specs.Refusals.{IsRefusedAt, Refuses, RefusesAt, RefusesName, RefusesOrder, fault_at}
 use Rattle.cert_desk_issuing.specs.Roles.{place_above, role_at, signers_for}
@@ -157,23 +152,6 @@ are_ready orders keys ps a place p e =
     let same = same_Some at.0 p (sym at.1 ∙ e) in
     let here = subst (λ (q : PlainOrder). IsAcceptedAt orders keys place q) same at.2 in
     subst (λ n. IsReady (role_at n place) p) (sym a.all) (ready (role_at (length orders) place) (slice_get keys place) here.order p here.accepted)
-
--- keys whose algorithms have the same octets, with the same bits, have the same octets
-pub same_key : (k l : PublicKey) → octets_of (algorithm_identifier arc_bound) (key_algorithm k) ≡ octets_of (algorithm_identifier arc_bound) (key_algorithm l) → key_bits k ≡ key_bits l → SameKey k l
-unfolding octets_of contents body_octets
-same_key k l e f =
-    ap (λ (w : List ℕ). tlv tags.Sequence (w ++ (octets_of bit_string (key_bits k) ++ []))) e
-    ∙ ap (λ (b : Bits). tlv tags.Sequence (octets_of (algorithm_identifier arc_bound) (key_algorithm l) ++ (octets_of bit_string b ++ []))) f
-
-abbrev made : ℕ → List ℕ → Bits
-made unused octets = record { unused = unused; octets = octets }
-
-pub same_bits : (a b : Bits) → ((a.unused == b.unused) && bytes_eq a.octets b.octets) ≡ true → a ≡ b
-same_bits a b e =
-    let both = and_parts (a.unused == b.unused) (bytes_eq a.octets b.octets) e in
-    let unused : a.unused ≡ b.unused = eqb-true a.unused b.unused both.0 in
-    let octets : a.octets ≡ b.octets = (bytes_eq-Decides a.octets b.octets).0 both.1 in
-    ap (λ n. made n a.octets) unused ∙ ap (λ w. made b.unused w) octets
 
 -- why a name is refused is why its order is
 pub refused_name : (role : Role) (key : Option PublicKey) (o : Order) (n : PlainName) (f : Fault) → SpellsName (string_bytes o.name) n → RefusesName role n f → RefusesOrder role key o f

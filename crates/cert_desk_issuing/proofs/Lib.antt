@@ -8,6 +8,11 @@ pub mod IssuedBreaks
 pub mod IssuedFronts
 pub mod IssuedTrusted
 pub mod Meanings
+pub mod OneAsked
+pub mod OneKey
+pub mod OneName
+pub mod OneReading
+pub mod OnlyMemory
 pub mod Places
 pub mod SignedLaws
 pub mod SignedParts

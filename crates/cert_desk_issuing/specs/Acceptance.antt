@@ -1,15 +1,15 @@
 -- Which orders are accepted.
-use Rattle.std.specs.Prelude.{◌≡◌, ℕ, ◌≤◌, ◌<◌, List, [], ◌∷◌, length, Bool, true, Option, Some, Ok, nat_lt, slice_get, string_bytes}
+use Rattle.std.specs.Prelude.{◌≡◌, ℕ, ◌≤◌, ◌<◌, List, length, Bool, true, Option, Some, None, Ok, slice_get, string_bytes}
 use Rattle.std.specs.Bool.{⊤}
 use Rattle.std.specs.List.{list_all}
+use Rattle.der_core_head.specs.Dates.{Civil, is_civil}
 use Rattle.der_core_head.specs.Grammar.{plain_list}
-use Rattle.der_core_head.specs.Shapes.{octets_of}
 use Rattle.der_types_time.specs.DateTexts.{date_text}
 use Rattle.der_types_time.specs.Seconds.{unix_seconds}
 use Rattle.x509_cert.specs.Builders.{NamesAuthority}
 use Rattle.x509_cert.specs.Builders.{may_stay}
-use Rattle.x509_cert.specs.Certificates.{PlainName, PublicKey, public_key_info}
-use Rattle.x509_cert.specs.Views.{arc_bound, key_plain}
+use Rattle.x509_cert.specs.Certificates.{PlainName, PublicKey}
+use Rattle.x509_cert.specs.Views.{key_plain}
 use Rattle.x509_cert.specs.Texts.{SpellsName}
 use Rattle.x509_cert.specs.Parts.{relative_plain}
 use Rattle.x509_cert_parts.specs.Grammar.{PlainValidity, not_after, not_before}
@@ -32,20 +32,21 @@ IsNamedFor roles.Root n = NamesAuthority {X = Unit {0}} n (Ok tt)
 IsNamedFor roles.Subordinate n = ⊤
 IsNamedFor roles.Subscriber n = names_subscriber n ≡ true
 
+-- the text is that of a date
+abbrev pub IsTextOf : List ℕ → Civil → Type 0
+IsTextOf text c = (is_civil c ≡ true) × (text ≡ date_text c)
+
 -- the texts are those of two dates, of which the second isn't before the first, spelled as RFC 5280 has them
 pub record SpellDates (before after : List ℕ) (v : PlainValidity) : Type 0 where
-  pub first : before ≡ date_text (civil_of (not_before v))
-  pub last : after ≡ date_text (civil_of (not_after v))
+  pub first : IsTextOf before (civil_of (not_before v))
+  pub last : IsTextOf after (civil_of (not_after v))
   pub spelled : v ≡ (time_of (civil_of (not_before v)), (time_of (civil_of (not_after v)), tt))
   pub in_order : unix_seconds (civil_of (not_before v)) ≤ unix_seconds (civil_of (not_after v))
 
--- the key of the signer at the order's place, if it needs one, has the octets of the order's
-abbrev pub SameKey : PublicKey → PublicKey → Type 0
-SameKey k other = octets_of (public_key_info arc_bound) k ≡ octets_of (public_key_info arc_bound) other
-
+-- the key of the signer at the order's place, if it needs one, is the order's
 abbrev pub IsKeyOf : Option PublicKey → PublicKey → Type 0
-IsKeyOf (Some signer_key) k = SameKey signer_key k
-IsKeyOf _ k = ⊤
+IsKeyOf (Some signer_key) k = signer_key ≡ k
+IsKeyOf None k = ⊤
 
 -- The order is accepted in this role, and asks for this.
 pub record IsAccepted (role : Role) (signer_key : Option PublicKey) (o : Order) (p : PlainOrder) : Type 0 where

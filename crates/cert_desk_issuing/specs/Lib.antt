@@ -4,6 +4,7 @@ pub mod Assembling
 pub mod Auditing
 pub mod Chains
 pub mod DigestSigners
+pub mod Issuable
 pub mod Laws
 pub mod Making
 pub mod Lines

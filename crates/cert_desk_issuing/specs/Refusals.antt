@@ -29,7 +29,7 @@ use Rattle.cert_desk_issuing.specs.declared.role.Role.{Role}
 use Rattle.cert_desk_issuing.specs.declared.role.Role.TheVariants as roles
 use Rattle.cert_desk_issuing.specs.declared.stop.Stop.{Stop}
 use Rattle.cert_desk_issuing.specs.declared.stop.Stop.TheVariants as stops
-use Rattle.cert_desk_issuing.specs.Acceptance.{AcceptedOrders, AcceptsFront, IsNamedFor, SpellDates, names_subscriber}
+use Rattle.cert_desk_issuing.specs.Acceptance.{AcceptedOrders, AcceptsFront, IsNamedFor, IsTextOf, SpellDates, names_subscriber}
 use Rattle.cert_desk_issuing.specs.Ordered.{dns_names, ordered_part, part_octets}
 use Rattle.cert_desk_issuing.specs.PlainOrders.{HasNamesFor, PlainOrder}
 use Rattle.cert_desk_issuing.specs.Roles.{place_above, role_at, signers_for}
@@ -55,7 +55,7 @@ IsNoDate text = (c : Civil) → is_civil c ≡ true → text ≢ date_text c
 abbrev pub HasFaultyDates : Order → Type 0
 HasFaultyDates o =
     IsNoDate (string_bytes o.not_before) ⊎ IsNoDate (string_bytes o.not_after)
-    ⊎ ((before : Civil) × (after : Civil) × (string_bytes o.not_before ≡ date_text before) × (string_bytes o.not_after ≡ date_text after)
+    ⊎ ((before : Civil) × (after : Civil) × IsTextOf (string_bytes o.not_before) before × IsTextOf (string_bytes o.not_after) after
     × (unix_seconds after < unix_seconds before))
 
 abbrev pub IsOtherKey : Option PublicKey → PublicKey → Type 0

@@ -11,6 +11,7 @@ use Rattle.cert_desk_issuing.specs.declared.outcome.Outcome.{Outcome}
 use Rattle.cert_desk_issuing.specs.declared.outcome.Outcome.TheVariants as outcomes
 use Rattle.cert_desk_issuing.specs.Chains.{IssuedChain}
 use Rattle.cert_desk_issuing.specs.DigestSigners.{digest_algorithm, IsDigestOf}
+use Rattle.cert_desk_issuing.specs.Issuable.{AreIssuable}
 use Rattle.cert_desk_issuing.specs.Lines.{refusal_line, fault_line, device_line, memory_line}
 use Rattle.cert_desk_issuing.specs.Refusals.{Refuses}
 use Rattle.cert_desk_issuing.specs.Roles.{signers_for}
@@ -26,10 +27,13 @@ signer_key s = key_plain s.key
 abbrev pub signing_keys : List Order → List PublicKey
 signing_keys orders = map key_of (take (signers_for (length orders)) orders)
 
--- What becomes of orders whose own keys sign, each by digests: a chain that holds them, or why there is none. No such signer refuses.
+-- What becomes of orders whose own keys sign, each by digests: a chain that holds them, or why there is none. No such signer refuses, and
+-- orders that are accepted and whose lengths fit aren't refused.
 abbrev pub IsFound : List Order → Outcome → Type 0
 IsFound orders (outcomes.Issued issued) = IssuedChain (λ k. k) (λ k. digest_algorithm) IsDigestOf orders (signing_keys orders) issued.stream
-IsFound orders (outcomes.Refused error) = Refuses (λ k. k) (λ k. digest_algorithm) IsDigestOf (λ k octets. ⊥) orders (signing_keys orders) error
+IsFound orders (outcomes.Refused error) =
+    Refuses (λ k. k) (λ k. digest_algorithm) IsDigestOf (λ k octets. ⊥) orders (signing_keys orders) error
+    × (AreIssuable (λ k. k) (λ k. digest_algorithm) IsDigestOf (λ k octets. ⊥) orders (signing_keys orders) → ⊥)
 IsFound orders (outcomes.BadLine line) = ⊥
 IsFound orders outcomes.Device = ⊥
 IsFound orders outcomes.OutOfMemory = Unit {0}

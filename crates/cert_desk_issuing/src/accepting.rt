@@ -6,15 +6,16 @@ ghost use Rattle.der_core_head.specs.Grammar.{plain_list, plain_option};
 ghost use Rattle.x509_cert.specs.Builders.{IsWantOfMemory, common_name, country, is_among, may_stay};
 ghost use Rattle.x509_cert.specs.Certificates.{PublicKey};
 ghost use Rattle.x509_cert.specs.Parts.{relative_plain, time_of};
-ghost use Rattle.x509_cert.specs.Texts.{SpellsName, date_text, new_serial};
+ghost use Rattle.x509_cert.specs.Texts.{SpellsName, new_serial};
 ghost use Rattle.x509_cert.specs.Views.{key_plain, name_plain, time_date, time_value, validity_plain};
-ghost use Rattle.cert_desk_issuing.specs.Acceptance.{IsAccepted, IsKeyOf, IsNamedFor, SameKey, SpellDates, names_subscriber};
+ghost use Rattle.cert_desk_issuing.specs.Acceptance.{IsAccepted, IsKeyOf, IsNamedFor, IsTextOf, SpellDates, names_subscriber};
 ghost use Rattle.cert_desk_issuing.specs.PlainOrders.{HasNamesFor, accepted_plain};
 ghost use Rattle.cert_desk_issuing.specs.Refusals.{HasFaultyDates, HasName, IsNoDate, IsOtherKey, RefusesName, RefusesOrder};
 
 use crate::accepted::Accepted;
 use crate::attribute_types as types;
 use crate::fault::Fault;
+use crate::in_range::{key_in_range, time_in_range};
 use crate::role::Role;
 use cert_desk_orders::Order;
 use const_oid_identifiers::ObjectIdentifier;
@@ -148,11 +149,15 @@ fn serial_of(alloc: Global, order: &Order) -> Result<SerialNumber, Fault>
 
 /// The date that a text spells.
 fn date_of(text: &str) -> Option<Time>
-    ensures some { IfSome result (λ t. (text.now ≡ date_text (time_date t)) × (time_value t ≡ time_of (time_date t))) }
+    ensures date { IfSome result (λ t. IsTextOf text.now (time_date t)) }
+    ensures spelled { IfSome result (λ t. time_value t ≡ time_of (time_date t)) }
     ensures none { result ≡ None → IsNoDate text.now }
 {
     match Time::from_str(text) {
-        Ok(time) => Some(time),
+        Ok(time) => {
+            time_in_range(&time);
+            Some(time)
+        }
         Err(_) => None,
     }
 }
@@ -214,13 +219,13 @@ fn path_in_range(path: Option<u8>)
     ensures { IfSome path (λ n. n < 2 ^ 8) }
 {}
 
-/// Whether both keys have the same encoding, octet for octet.
+/// Whether both keys are one: with the same algorithm, the same parameters and the same bits.
 fn is_same_key(one: &SubjectPublicKeyInfo, other: &SubjectPublicKeyInfo) -> bool
-    ensures same { IsTrue result → SameKey (key_plain one.now) (key_plain other.now) }
-    ensures differ { key_plain one.now ≡ key_plain other.now → result ≡ true }
+    ensures { IsTrue result ↔ (key_plain one.now ≡ key_plain other.now) }
 {
-    one.algorithm.has_octets_of(&other.algorithm)
-        && one.subject_public_key == other.subject_public_key
+    key_in_range(one);
+    key_in_range(other);
+    one == other
 }
 
 /// Whether the key of an order is its signer's, if it needs one.

@@ -23,14 +23,16 @@ fn algorithm_in_range(algorithm: &AlgorithmIdentifier)
     algorithm.parameters.in_range();
 }
 
-fn key_in_range(key: &SubjectPublicKeyInfo)
+/// The parts of a key are.
+pub(crate) fn key_in_range(key: &SubjectPublicKeyInfo)
     ensures { IsInRange (public_key_info arc_bound) (key_plain key.now) }
 {
     algorithm_in_range(&key.algorithm);
     key.subject_public_key.in_range();
 }
 
-fn time_in_range(spelled: &Time)
+/// A date is.
+pub(crate) fn time_in_range(spelled: &Time)
     ensures { IsInRange time (time_value spelled.now) }
 {
     match spelled {

@@ -7,6 +7,7 @@ ghost use Rattle.x509_cert.specs.Views.{arc_bound, key_plain};
 ghost use Rattle.cert_desk_checking.specs.Chains.{Stands};
 ghost use Rattle.cert_desk_issuing.specs.Acceptance.{AcceptedOrders, AcceptsFront, IsAcceptedAt};
 ghost use Rattle.cert_desk_issuing.specs.Chains.{AreSigned, HoldsOrders, IsOrderedAt, IsSignedBy, IssuedChain};
+ghost use Rattle.cert_desk_issuing.specs.Issuable.{AreIssuable};
 ghost use Rattle.cert_desk_issuing.specs.Making.{made_plain};
 ghost use Rattle.cert_desk_issuing.specs.PlainOrders.{AreReady, accepted_plain, orders_plain};
 ghost use Rattle.cert_desk_issuing.specs.Refusals.{IsRefusedAt, IsStoppedAt, Refuses};
@@ -40,6 +41,8 @@ pub fn issue<S: Signer>(
 ) -> Result<Issued, IssueError>
     ensures issued { IfOk result (λ i. IssuedChain S.public_key S.signs_by S.signs orders.now signers.now i.stream) }
     ensures refused { IfErr result (λ e. Refuses S.public_key S.signs_by S.signs S.may_refuse orders.now signers.now e) }
+    // Orders that are accepted, of which no signer may refuse a part, and whose lengths fit, are issued wherever memory is there.
+    ensures complete { AreIssuable S.public_key S.signs_by S.signs S.may_refuse orders.now signers.now → IfErr result (λ e. e ≡ IssueError.OutOfMemory) }
 {
     if orders.is_empty() {
         return Err(IssueError::NoOrders);

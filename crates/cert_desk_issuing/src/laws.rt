@@ -1,7 +1,14 @@
 //! Laws of chains that hold orders. Each function does nothing: its contract is the law.
+ghost use Rattle.cert_desk_issuing.specs.Issuable.{IssuableIsIssued};
 ghost use Rattle.cert_desk_issuing.specs.Laws.{HeldIsTrusted, TrustedIsPermitted, HeldIsRefusedFor, IssuedIsTrusted, SignedIsSliced, SaysAsOrdered};
 
 use x509_cert::builder::Signer;
+
+/// Of orders that are accepted, of which no signer may refuse a part, and whose lengths fit, none of
+/// the reasons to refuse them holds: only memory can be wanting.
+pub fn issuable_is_issued<S: Signer>()
+    ensures { IssuableIsIssued S.public_key S.signs_by S.signs S.may_refuse }
+{}
 
 /// A chain that holds orders is trusted under its own root, at each moment within all dates, for
 /// each purpose that the orders allow, where their path lengths are enough, each certificate is

@@ -1,5 +1,5 @@
 //! Whole runs of `issue`, over any input and outputs.
-ghost use Rattle.std.specs.Prelude.{◌≡◌, length, map, take, IfOk};
+ghost use Rattle.std.specs.Prelude.{◌≡◌, ◌↔◌, length, map, take, IfOk, IsTrue};
 ghost use Rattle.cert_desk_issuing.specs.declared.issue_status.IssueStatus.TheVariants as statuses;
 ghost use Rattle.cert_desk_issuing.specs.declared.outcome.Outcome.{Outcome};
 ghost use Rattle.cert_desk_issuing.specs.Lines.{device_line};
@@ -39,6 +39,16 @@ fn signers_of(alloc: Global, orders: &[Order]) -> Result<Vec<DigestSigner>, Allo
     Ok(signers)
 }
 
+/// Whether an error says that memory ran out.
+fn is_want_of_memory(error: &IssueError) -> bool
+    ensures { IsTrue result ↔ (error.now ≡ IssueError.OutOfMemory) }
+{
+    match error {
+        IssueError::OutOfMemory => true,
+        _ => false,
+    }
+}
+
 /// What becomes of orders, signed by digests of their own keys.
 fn find_issued(alloc: Global, orders: &[Order]) -> Outcome
     ensures { IsFound orders.now result }
@@ -48,8 +58,12 @@ fn find_issued(alloc: Global, orders: &[Order]) -> Outcome
     };
     match issue(alloc, orders, signers.as_slice()) {
         Ok(issued) => Outcome::Issued(issued),
-        Err(IssueError::OutOfMemory) => Outcome::OutOfMemory,
-        Err(error) => Outcome::Refused(error),
+        Err(error) => {
+            if is_want_of_memory(&error) {
+                return Outcome::OutOfMemory;
+            }
+            Outcome::Refused(error)
+        }
     }
 }
 

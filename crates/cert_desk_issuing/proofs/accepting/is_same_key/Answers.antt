@@ -1,9 +1,12 @@
 use Rattle.std.proofs.Common.{sym, ◌∙◌}
-use Rattle.x509_cert.specs.Views.{key_plain}
-use Rattle.cert_desk_issuing.proofs.AcceptedFronts.{same_bits, same_key}
+use Rattle.cert_desk_issuing.proofs.OneKey.{key_again, one_key}
 use Rattle.cert_desk_issuing.proofs.accepting.is_same_key.Goals as goal
 
-pub returns-then-has_octets_of-clause-same : goal.returns-then-has_octets_of-clause-same
-returns-then-has_octets_of-clause-same c = λ e.
-    same_key (key_plain c.args.one.now) (key_plain c.args.other.now) (c.has_octets_of.ensures.same c.if-has_octets_of.true)
-    (same_bits c.args.one.now.subject_public_key c.args.other.now.subject_public_key (sym c.eq.ensures ∙ e))
+pub returns : goal.returns
+returns c =
+    let one = c.args.one.now in
+    let other = c.args.other.now in (
+      λ e. one_key one.algorithm.oid other.algorithm.oid one.algorithm.parameters other.algorithm.parameters one.subject_public_key other.subject_public_key
+          c.key_in_range.ensures.0.0.0.0.0.0 c.key_in_range-2.ensures.0.0.0.0.0.0 (sym c.eq.ensures ∙ e),
+      λ e. c.eq.ensures ∙ key_again one.algorithm.oid other.algorithm.oid one.algorithm.parameters other.algorithm.parameters one.subject_public_key other.subject_public_key e,
+    )

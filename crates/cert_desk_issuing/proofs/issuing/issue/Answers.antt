@@ -4,6 +4,7 @@ use Rattle.cert_desk_issuing.specs.Acceptance.{AcceptedOrders}
 use Rattle.cert_desk_issuing.specs.Chains.{HoldsOrders}
 use Rattle.cert_desk_issuing.specs.PlainOrders.{AreReady, orders_plain}
 use Rattle.cert_desk_issuing.proofs.AcceptedFronts.{all_accepted, are_ready}
+use Rattle.cert_desk_issuing.proofs.OnlyMemory.{issuable_is_issued}
 use Rattle.cert_desk_issuing.proofs.issuing.issue.Goals as goal
 
 pub issue_all-requires-clause-ready : goal.issue_all-requires-clause-ready
@@ -39,3 +40,13 @@ returns-clause-refused g c =
     let all = all_accepted key orders signers c.in-Ok.accepted.items some (c.if-signers-signers_for.false ∙ c.signers_for.ensures) c.in-Ok.ensures.all c.in-Ok.ensures.accepted in
     c.in-Err-issue_all.ensures.stopped orders
     (subst (λ (xs : List Accepted). AcceptedOrders orders (map key signers) (orders_plain xs)) (sym c.as_slice.ensures.value) all)
+
+pub returns-in-Err-clause-complete : goal.returns-in-Err-clause-complete
+returns-in-Err-clause-complete g c = λ issuable.
+    let s = g.S.Signer in
+    issuable_is_issued s.public_key s.signs_by s.signs s.may_refuse c.args.orders.now c.args.signers.now c.in-Err.error issuable c.in-Err.ensures.refused
+
+pub returns-clause-complete : goal.returns-clause-complete
+returns-clause-complete g c = λ issuable.
+    let s = g.S.Signer in
+    issuable_is_issued s.public_key s.signs_by s.signs s.may_refuse c.args.orders.now c.args.signers.now c.in-Err-issue_all.error issuable (returns-clause-refused g c)

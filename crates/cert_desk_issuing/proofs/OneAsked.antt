@@ -1,0 +1,132 @@
+-- Orders that are accepted ask for one thing, and no reason to refuse one of them holds.
+use Rattle.std.proofs.Common.{◌≡◌, ℕ, ◌<◌, ◌≤◌, List, [], ◌∷◌, length, true, false, Option, Some, None, refl, sym, ap, ◌∙◌, subst, arith, inl, inr, ◌⊎◌, slice_get, string_bytes}
+use Rattle.std.proofs.lemmas.Option.{same_Some, slice_get_within}
+use Rattle.der_core_head.specs.Dates.{Civil}
+use Rattle.der_core_head.specs.Grammar.{plain_list}
+use Rattle.der_core_head.specs.Shapes.{IsBody, IsContent, IsValid}
+use Rattle.der_types_time.proofs.SecondsOrders.{one_by_text}
+use Rattle.der_types_time.specs.Seconds.{unix_seconds}
+use Rattle.x509_cert.specs.Certificates.{Algorithm, PlainName, PublicKey, name}
+use Rattle.x509_cert.specs.Parts.{civil_of, tbs_certificate, time_of}
+use Rattle.x509_cert.specs.Texts.{SpellsName}
+use Rattle.x509_cert.specs.Views.{arc_bound, key_plain}
+use Rattle.x509_cert_parts.specs.Grammar.{PlainValidity, not_after, not_before}
+use Rattle.cert_desk_orders.specs.declared.order.Order.{Order}
+use Rattle.cert_desk_issuing.specs.declared.fault.Fault.{Fault}
+use Rattle.cert_desk_issuing.specs.declared.fault.Fault.TheVariants as faults
+use Rattle.cert_desk_issuing.specs.declared.role.Role.{Role}
+use Rattle.cert_desk_issuing.specs.declared.role.Role.TheVariants as roles
+use Rattle.cert_desk_issuing.specs.Acceptance.{IsAccepted, IsAcceptedAt, IsKeyOf, IsNamedFor, IsTextOf, SpellDates, names_subscriber}
+use Rattle.cert_desk_issuing.specs.Ordered.{ordered_part}
+use Rattle.cert_desk_issuing.specs.PlainOrders.{HasNamesFor, PlainOrder}
+use Rattle.cert_desk_issuing.specs.Refusals.{HasFaultyDates, IsOtherKey, IsRefusedAt, RefusesName, RefusesOrder}
+use Rattle.cert_desk_issuing.specs.Roles.{role_at}
+use Rattle.cert_desk_issuing.proofs.OneName.{one_spelled, spelled_stands}
+
+-- what has an encoding where a signed part has one
+pub subject_valid : (role : Role) (p above : PlainOrder) (a : Algorithm) → IsValid (tbs_certificate arc_bound None) (ordered_part role p above a) → IsValid (name arc_bound) p.subject
+unfolding IsValid IsContent IsBody
+subject_valid role p above a v = v.0.1.1.1.1.1.0
+
+pub issuer_valid : (role : Role) (p above : PlainOrder) (a : Algorithm) → IsValid (tbs_certificate arc_bound None) (ordered_part role p above a) → IsValid (name arc_bound) above.subject
+unfolding IsValid IsContent IsBody
+issuer_valid role p above a v = v.0.1.1.1.0
+
+-- a text is that of one date
+one_date : (text : List ℕ) (c d : Civil) → IsTextOf text c → IsTextOf text d → c ≡ d
+one_date text c d h k = one_by_text c d h.0 k.0 (sym h.1 ∙ k.1)
+
+abbrev validity_of : Civil → Civil → PlainValidity
+validity_of before after = (time_of before, (time_of after, tt))
+
+one_validity : (before after : List ℕ) (v w : PlainValidity) → SpellDates before after v → SpellDates before after w → v ≡ w
+one_validity before after v w h k =
+    let first = one_date before (civil_of (not_before v)) (civil_of (not_before w)) h.first k.first in
+    let last = one_date after (civil_of (not_after v)) (civil_of (not_after w)) h.last k.last in
+    h.spelled ∙ ap (λ c. validity_of c (civil_of (not_after v))) first ∙ ap (λ c. validity_of (civil_of (not_before w)) c) last ∙ sym k.spelled
+
+dates_stand : (o : Order) (v : PlainValidity) → SpellDates (string_bytes o.not_before) (string_bytes o.not_after) v → HasFaultyDates o → ⊥
+dates_stand o v h (inl none) = none (civil_of (not_before v)) h.first.0 h.first.1
+dates_stand o v h (inr (inl none)) = none (civil_of (not_after v)) h.last.0 h.last.1
+dates_stand o v h (inr (inr late)) =
+    let first = ap unix_seconds (one_date (string_bytes o.not_before) (civil_of (not_before v)) late.0 h.first late.2) in
+    let last = ap unix_seconds (one_date (string_bytes o.not_after) (civil_of (not_after v)) late.1 h.last late.3) in
+    let lt = late.4 in
+    let le = h.in_order in
+    omega (arith, first, last, lt, le)
+
+key_stands : (key : Option PublicKey) (k : PublicKey) → IsKeyOf key k → IsOtherKey key k → ⊥
+key_stands (Some s) k h other = other h
+key_stands None k h other = other
+
+-- a name that may stand there isn't refused
+name_stands : (role : Role) (n : PlainName) (f : Fault) → IsNamedFor role n → RefusesName role n f → f ≡ faults.OutOfMemory
+name_stands role n (faults.RootName e) h (root, inl first, memory) =
+    let named = subst (λ x. IsNamedFor x n) root h in
+    let good = named.0 first.0 first.1 in
+    let bad = rw first.3 at good in
+    cc bad
+name_stands role n (faults.RootName e) h (root, inr (inl (named, inl foreign)), memory) =
+    let right = subst (λ x. IsNamedFor x n) root h in
+    let clash = sym right.1 ∙ foreign.1 in
+    cc clash
+name_stands role n (faults.RootName e) h (root, inr (inl (named, inr lacking)), memory) =
+    let right = subst (λ x. IsNamedFor x n) root h in
+    let clash : true ≡ false = sym right.2 ∙ lacking.1 in
+    cc clash
+name_stands role n (faults.RootName e) h (root, inr (inr want), memory) = absurd (memory want)
+name_stands role n faults.SubscriberName h (subscriber, fault) =
+    let right : names_subscriber n ≡ true = subst (λ x. IsNamedFor x n) subscriber h in
+    let clash : true ≡ false = sym right ∙ fault in
+    cc clash
+name_stands role n faults.OutOfMemory h r = refl
+name_stands role n faults.Name h r = absurd r
+name_stands role n faults.Serial h r = absurd r
+name_stands role n faults.Dates h r = absurd r
+name_stands role n faults.DnsName h r = absurd r
+name_stands role n faults.KeyMismatch h r = absurd r
+
+module _ (role : Role) (key : Option PublicKey) (o : Order) (p : PlainOrder) (a : IsAccepted role key o p) (valid : IsValid (name arc_bound) p.subject) where
+  -- what an order asks for
+  pub one_order : (q : PlainOrder) → IsAccepted role key o q → p ≡ q
+  one_order q b =
+      let subject = one_spelled (string_bytes o.name) p.subject q.subject a.name b.name valid in
+      let serial : p.serial ≡ q.serial = cc (a.serial, b.serial) in
+      let validity = one_validity (string_bytes o.not_before) (string_bytes o.not_after) p.validity q.validity a.dates b.dates in
+      let same_key = a.key_is ∙ sym b.key_is in
+      let path = a.path_is ∙ sym b.path_is in
+      let dns = a.dns_is ∙ sym b.dns_is in
+      let clients = a.clients_is ∙ sym b.clients_is in
+      let answers = a.answers_is ∙ sym b.answers_is in
+      λ i. record { subject = subject i; serial = serial i; validity = validity i; key = same_key i; path = path i; dns = dns i; clients = clients i; answers = answers i }
+
+  named : (n : PlainName) → SpellsName (string_bytes o.name) n → IsNamedFor role n
+  named n s = subst (λ x. IsNamedFor role x) (one_spelled (string_bytes o.name) p.subject n a.name s valid) a.naming
+
+  -- and that it isn't refused
+  pub order_stands : (f : Fault) → RefusesOrder role key o f → f ≡ faults.OutOfMemory
+  order_stands faults.Name r = absurd (spelled_stands (string_bytes o.name) p.subject r.0 a.name r.1 valid)
+  order_stands (faults.RootName e) r =
+      name_stands role r.0 (faults.RootName e) (named r.0 r.1) r.2
+  order_stands faults.SubscriberName r = name_stands role r.0 faults.SubscriberName (named r.0 r.1) r.2
+  order_stands faults.Serial r = absurd (cc (a.serial, r.1.1))
+  order_stands faults.Dates r = absurd (dates_stand o p.validity a.dates r.2)
+  order_stands faults.DnsName r = absurd (r.3 (subst (λ names. HasNamesFor role names) a.dns_is a.right.names))
+  order_stands faults.KeyMismatch r = absurd (key_stands key (key_plain o.key) (subst (λ k. IsKeyOf key k) a.key_is a.key) r.4)
+  order_stands faults.OutOfMemory r = refl
+
+-- the same at a place
+module _ (orders : List Order) (keys : List PublicKey) (place : ℕ) (p : PlainOrder) (a : IsAcceptedAt orders keys place p) (valid : IsValid (name arc_bound) p.subject) where
+  pub one_at : (q : PlainOrder) → IsAcceptedAt orders keys place q → p ≡ q
+  one_at q b =
+      let role = role_at (length orders) place in
+      let key = slice_get keys place in
+      let same : b.order ≡ a.order = same_Some b.order a.order (sym b.stands ∙ a.stands) in
+      one_order role key a.order p a.accepted valid q (subst (λ (o : Order). IsAccepted role key o q) same b.accepted)
+
+  pub stands_at : (f : Fault) → IsRefusedAt orders keys place f → f ≡ faults.OutOfMemory
+  stands_at f r =
+      let role = role_at (length orders) place in
+      let key = slice_get keys place in
+      let same : r.order ≡ a.order = same_Some r.order a.order (sym r.stands ∙ a.stands) in
+      order_stands role key a.order p a.accepted valid f (subst (λ (o : Order). RefusesOrder role key o f) same r.refused)

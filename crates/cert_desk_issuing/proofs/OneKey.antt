@@ -1,0 +1,83 @@
+-- Keys that are equal part by part are one.
+use Rattle.std.proofs.Common.{◌≡◌, ℕ, List, Bool, true, Option, Some, None, refl, ap, subst}
+use Rattle.std.specs.Prelude.{nat_eq, ◌&&◌}
+use Rattle.std.specs.Cmp.{nat_eq_equiv}
+use Rattle.std.specs.Cmp.Lexicographic.{pointwise, bytes_decides, nat_list_eq_equiv}
+use Rattle.std.specs.Option.{option_eq}
+use Rattle.std.proofs.lemmas.Bool.{and_parts}
+use Rattle.const_oid_identifiers.proofs.PrefixLaws.{same_octets}
+use Rattle.const_oid_identifiers.specs.IdentifierOctets.{IsIdentifier, identifier_octets}
+use Rattle.der_core_head.proofs.TagLaws.{same_tag-eq}
+use Rattle.der_core_head.specs.BitStrings.{Bits, bit_contents}
+use Rattle.der_core_head.specs.declared.tag.Tag.{Tag}
+use Rattle.der_core_head.specs.Grammar.{plain_option}
+use Rattle.der_core_head.specs.Shapes.{AnyValue}
+use Rattle.der_core_head.specs.Tags.{leading_octet, number_of}
+use Rattle.x509_cert.specs.Certificates.{PublicKey}
+use Rattle.x509_cert.specs.Views.{arc_bound}
+use Rattle.x509_cert_names.specs.Values.{any_key}
+
+abbrev pub any_eq : AnyValue → AnyValue → Bool
+any_eq x y = pointwise nat_eq (any_key x) (any_key y)
+
+abbrev pub same_parts : List ℕ → List ℕ → Option AnyValue → Option AnyValue → Bits → Bits → Bool
+same_parts a b p q x y = (pointwise nat_eq (identifier_octets a) (identifier_octets b) && option_eq any_eq p q) && pointwise nat_eq (bit_contents x) (bit_contents y)
+
+abbrev pub key_by : List ℕ → Option AnyValue → Bits → PublicKey
+key_by a p x = ((a, (plain_option (λ v. v) p, tt)), (x, tt))
+
+both_alike : (m n : ℕ) → (nat_eq m m && nat_eq n n) ≡ true
+both_alike m n i = nat_eq_equiv.refl m i && nat_eq_equiv.refl n i
+
+one_tag : (t u : Tag) → leading_octet t ≡ leading_octet u → number_of t ≡ number_of u → t ≡ u
+one_tag t u leading number = same_tag-eq t u (rw (leading, number) (both_alike (leading_octet u) (number_of u)))
+
+one_any : (x y : AnyValue) → any_eq x y ≡ true → x ≡ y
+one_any x y e =
+    let keys : any_key x ≡ any_key y = (bytes_decides (any_key x) (any_key y)).0 e in
+    let leading : leading_octet x.tag ≡ leading_octet y.tag = cc in
+    let number : number_of x.tag ≡ number_of y.tag = cc in
+    let content : x.contents ≡ y.contents = cc in
+    let tag : x.tag ≡ y.tag = one_tag x.tag y.tag leading number in
+    λ i. record { tag = tag i; contents = content i }
+
+one_parameters : (p q : Option AnyValue) → option_eq any_eq p q ≡ true → p ≡ q
+one_parameters None None e = refl
+one_parameters None (Some y) e = cc
+one_parameters (Some x) None e = cc
+one_parameters (Some x) (Some y) e = ap (λ (v : AnyValue). Some v) (one_any x y e)
+
+one_bits : (x y : Bits) → pointwise nat_eq (bit_contents x) (bit_contents y) ≡ true → x ≡ y
+one_bits x y e =
+    let same : bit_contents x ≡ bit_contents y = (bytes_decides (bit_contents x) (bit_contents y)).0 e in
+    let unused : x.unused ≡ y.unused = cc in
+    let octets : x.octets ≡ y.octets = cc in
+    λ i. record { unused = unused i; octets = octets i }
+
+pub one_key : (a b : List ℕ) (p q : Option AnyValue) (x y : Bits) → IsIdentifier arc_bound a → IsIdentifier arc_bound b → same_parts a b p q x y ≡ true → key_by a p x ≡ key_by b q y
+one_key a b p q x y left right e =
+    let whole = and_parts (pointwise nat_eq (identifier_octets a) (identifier_octets b) && option_eq any_eq p q) (pointwise nat_eq (bit_contents x) (bit_contents y)) e in
+    let algorithm = and_parts (pointwise nat_eq (identifier_octets a) (identifier_octets b)) (option_eq any_eq p q) whole.0 in
+    let arcs : a ≡ b = same_octets arc_bound a b left right ((bytes_decides (identifier_octets a) (identifier_octets b)).0 algorithm.0) in
+    let parameters : p ≡ q = one_parameters p q algorithm.1 in
+    let bits : x ≡ y = one_bits x y whole.1 in
+    rw (arcs, parameters, bits) refl
+
+parameters_itself : (p : Option AnyValue) → option_eq any_eq p p ≡ true
+parameters_itself None = refl
+parameters_itself (Some x) = nat_list_eq_equiv.refl (any_key x)
+
+key_itself : (a : List ℕ) (p : Option AnyValue) (x : Bits) → same_parts a a p p x x ≡ true
+key_itself a p x i = (nat_list_eq_equiv.refl (identifier_octets a) i && parameters_itself p i) && nat_list_eq_equiv.refl (bit_contents x) i
+
+plain_itself : (p : Option AnyValue) → plain_option (λ v. v) p ≡ p
+plain_itself None = refl
+plain_itself (Some x) = refl
+
+pub key_again : (a b : List ℕ) (p q : Option AnyValue) (x y : Bits) → key_by a p x ≡ key_by b q y → same_parts a b p q x y ≡ true
+key_again a b p q x y e =
+    let arcs : a ≡ b = ap (λ (k : PublicKey). k.0.0) e in
+    let plain : plain_option (λ v. v) p ≡ plain_option (λ v. v) q = ap (λ (k : PublicKey). k.0.1.0) e in
+    let parameters : p ≡ q = cc (plain_itself p, plain_itself q, plain) in
+    let bits : x ≡ y = ap (λ (k : PublicKey). k.1.0) e in
+    subst (λ b. same_parts a b p q x y ≡ true) arcs (subst (λ q. same_parts a a p q x y ≡ true) parameters (subst (λ y. same_parts a a p p x y ≡ true) bits (key_itself a p x)))
