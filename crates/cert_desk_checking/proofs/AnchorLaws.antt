@@ -1,13 +1,15 @@
 -- A file of anchors, one trust anchor after the other.
-use Rattle.std.proofs.Common.{ℕ, List, drop, refl, subst, sym}
+use Rattle.std.proofs.Common.{◌≡◌, ℕ, List, drop, Result, Ok, Err, refl, subst, sym}
+use Rattle.std.specs.Prelude.{IfOk, IfErr}
 use Rattle.x509_cert.specs.Anchors.{PlainAnchor as PlainChoice}
+use Rattle.cert_desk_checking.specs.declared.anchor.Anchor.{Anchor}
 use Rattle.cert_desk_checking.specs.declared.status.AnchorFault.{AnchorFault}
 use Rattle.cert_desk_checking.specs.declared.status.AnchorFault.TheVariants as faults
 use Rattle.cert_desk_checking.specs.declared.status.Outcome.{Outcome}
 use Rattle.cert_desk_checking.specs.declared.status.Outcome.TheVariants as outcomes
-use Rattle.cert_desk_checking.specs.Anchors.{given_by}
+use Rattle.cert_desk_checking.specs.Anchors.{anchor_plain, given_by}
 use Rattle.cert_desk_checking.specs.AnchorFiles.{raw_choice, IsFaulty, HasFirstFault}
-use Rattle.cert_desk_checking.specs.AnchorReading.{StandsAt, UngivenFor, IsUngiven, GivesNone, IsNoAnchorFile}
+use Rattle.cert_desk_checking.specs.AnchorReading.{StandsAt, GivesAt, UngivenFor, IsUngiven, GivesNone, IsNoAnchorFile}
 use Rattle.cert_desk_checking.specs.Judging.{PlainAnchor}
 use Rattle.cert_desk_checking.specs.Series.{IsUnambiguous, BeginsWith}
 use Rattle.cert_desk_checking.proofs.FileReading.{SoFar, begins_with, so_far-wrong}
@@ -26,6 +28,14 @@ gives_none octets start end c (outcomes.Checked checked) s h = absurd h
 gives_none octets start end c (outcomes.BadAnchors offset fault) s h = (h.0, ungiven (drop start octets) c fault (begins_with raw_choice octets start end c s) h.1)
 gives_none octets start end c outcomes.Device s h = absurd h
 gives_none octets start end c outcomes.OutOfMemory s h = tt
+
+-- what is given of the trust anchor that stands there is given there
+pub given_there : (octets : List ℕ) (start end : ℕ) (c : PlainChoice) (r : Result (Anchor × ℕ) Outcome) → StandsAt octets start end c
+    → IfOk r (λ p. given_by c ≡ Ok (anchor_plain p.0)) → IfOk r (λ p. p.1 ≡ end) → IfErr r (IsUngiven c start)
+    → IfOk r (λ p. GivesAt octets start p.1 (anchor_plain p.0)) × IfErr r (GivesNone octets start)
+given_there octets start end c (Ok p) s given ends ungiven =
+    (subst (λ (n : ℕ). GivesAt octets start n (anchor_plain p.0)) (sym ends) (record { value = c; stands = s; given = given }), tt)
+given_there octets start end c (Err outcome) s given ends ungiven = (tt, gives_none octets start end c outcome s ungiven)
 
 -- the anchors so far are those of the trust anchors up to the start
 abbrev pub AnchorsSoFar : List ℕ → List PlainAnchor → ℕ → Type 0

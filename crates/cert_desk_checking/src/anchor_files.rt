@@ -45,13 +45,19 @@ fn choice_at(
     }
 }
 
-// The anchor that a trust anchor gives, which begins at the start.
-fn given(alloc: Global, choice: &TrustAnchorChoice<Raw>, start: usize) -> Result<Anchor, Outcome>
-    ensures given { IfOk result (λ anchor. given_by (trust_anchor_plain choice.now) ≡ Ok (anchor_plain anchor)) }
+// The anchor that a trust anchor gives, which stands from the start to the end, and that end.
+fn given(
+    alloc: Global,
+    choice: &TrustAnchorChoice<Raw>,
+    start: usize,
+    end: usize,
+) -> Result<(Anchor, usize), Outcome>
+    ensures given { IfOk result (λ p. given_by (trust_anchor_plain choice.now) ≡ Ok (anchor_plain p.0)) }
+    ensures end { IfOk result (λ p. p.1 ≡ end) }
     ensures ungiven { IfErr result (IsUngiven (trust_anchor_plain choice.now) start) }
 {
     match Anchor::from_choice(alloc, choice) {
-        Ok(anchor) => Ok(anchor),
+        Ok(anchor) => Ok((anchor, end)),
         Err(AnchorError::NoName) => Err(faulty(start, AnchorFault::NoName)),
         Err(AnchorError::PathControls) => Err(faulty(start, AnchorFault::PathControls)),
         Err(AnchorError::OutOfMemory) => Err(Outcome::OutOfMemory),
@@ -65,12 +71,8 @@ fn anchor_at(alloc: Global, octets: &[u8], start: usize) -> Result<(Anchor, usiz
     ensures given { IfOk result (λ p. GivesAt octets.now start p.1 (anchor_plain p.0)) }
     ensures none { IfErr result (GivesNone octets.now start) }
 {
-    let (choice, end) = match choice_at(alloc, octets, start) {
-        Ok(read) => read,
-        Err(outcome) => return Err(outcome),
-    };
-    match given(alloc, &choice, start) {
-        Ok(anchor) => Ok((anchor, end)),
+    match choice_at(alloc, octets, start) {
+        Ok((choice, end)) => given(alloc, &choice, start, end),
         Err(outcome) => Err(outcome),
     }
 }
