@@ -4,16 +4,13 @@
 mod command;
 pub mod laws;
 
-pub use cert_desk_checking::{
-    AlgorithmIdentifier, Anchor, AnchorError, Arguments, BitString, Bundle, BundleError,
-    CertificateInner, CheckError, Checked, DeviceError, DigestJudge, Entry, FaultKind, FromRead,
-    Input, MemoryInput, MemoryOutput, Output, Raw, ReadAllError, ReadError, Rule, SignatureJudge,
-    Standing, Status, SubjectPublicKeyInfo, Time, ToWrite, TrustAnchorChoice, USAGE, Verdict,
-    check, read_all, run_check, write_all,
-};
 pub use cert_desk_issuing::{
-    DigestSigner, IssueError, IssueStatus, Issued, Order, OrdersError, SignError, Signer, issue,
-    orders_in, run_issue, run_orders,
+    AlgorithmIdentifier, Anchor, AnchorError, Arguments, BitString, Bundle, BundleError,
+    CertificateInner, CheckError, Checked, DeviceError, DigestJudge, DigestSigner, Entry,
+    FaultKind, FromRead, Input, IssueError, IssueStatus, Issued, MemoryInput, MemoryOutput, Order,
+    OrdersError, Output, Raw, ReadAllError, ReadError, Rule, SignError, SignatureJudge, Signer,
+    Standing, Status, SubjectPublicKeyInfo, Time, ToWrite, TrustAnchorChoice, USAGE, Verdict,
+    check, issue, orders_in, read_all, run_check, run_issue, run_orders, write_all,
 };
 pub use cert_desk_listing::{
     CertReq, CertificateList, Kind, ShowError, ShowStatus, run_show, show_certificate, show_list,

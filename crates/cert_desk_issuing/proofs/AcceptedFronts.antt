@@ -10,9 +10,9 @@ use Rattle.der_core_head.specs.declared.error.ErrorKind.TheVariants as kinds
 use Rattle.der_core_head.specs.Grammar.{plain_list}
 use Rattle.der_core_head.specs.Integers.{integer_octets}
 use Rattle.der_core_head.specs.Octets.{◌>>=◌}
-use Rattle.x509_cert.specs.Certificates.{Algorithm, PlainName, PublicKey}
-use Rattle.x509_cert.specs.Texts.{SpellsName}
-use Rattle.x509_cert_parts.specs.SerialNumbers.{new_serial}
+use Rattle.cert_desk_checking.specs.Certificates.{Algorithm, PlainName, PublicKey}
+use Rattle.cert_desk_checking.specs.Texts.{SpellsName}
+use Rattle.cert_desk_orders.specs.SerialNumbers.{new_serial}
 use Rattle.cert_desk_orders.specs.declared.order.Order.{Order}
 use Rattle.cert_desk_issuing.specs.declared.accepted.Accepted.{Accepted}
 use Rattle.cert_desk_issuing.specs.declared.fault.Fault.{Fault}

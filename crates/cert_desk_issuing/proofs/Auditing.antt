@@ -1,7 +1,7 @@
 -- A stream that was issued is judged under its own root.
 use Rattle.std.proofs.Common.{◌≡◌, ◌≢◌, ℕ, ◌-◌, ◌^◌, ◌<◌, List, [], ◌∷◌, ◌++◌, length, map, Some, slice_get, refl, sym, ap, ◌∙◌, subst, arith}
-use Rattle.x509_cert.specs.Certificates.{PlainCertificate, PlainName, PublicKey, public_key}
-use Rattle.x509_cert.specs.Views.{arc_bound}
+use Rattle.cert_desk_checking.specs.Certificates.{PlainCertificate, PlainName, PublicKey, public_key}
+use Rattle.cert_desk_checking.specs.Views.{arc_bound}
 use Rattle.cert_desk_checking.specs.declared.bundle_error.BundleError.{BundleError}
 use Rattle.cert_desk_checking.specs.declared.bundle_error.BundleError.TheVariants as refusals
 use Rattle.cert_desk_checking.specs.declared.checked.CheckError.{CheckError}

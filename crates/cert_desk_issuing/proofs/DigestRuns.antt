@@ -4,7 +4,7 @@ use Rattle.std.proofs.lemmas.List.{length-map, map-id}
 use Rattle.std.proofs.lemmas.Option.{slice_get-map}
 use Rattle.std.specs.Option.{option_map}
 use Rattle.der_core_head.specs.BitStrings.{Bits}
-use Rattle.x509_cert.specs.Certificates.{Algorithm, PublicKey}
+use Rattle.cert_desk_checking.specs.Certificates.{Algorithm, PublicKey}
 use Rattle.cert_desk_orders.specs.declared.order.Order.{Order}
 use Rattle.cert_desk_issuing.specs.declared.fault.Fault.{Fault}
 use Rattle.cert_desk_issuing.specs.declared.fault.Fault.TheVariants as faults

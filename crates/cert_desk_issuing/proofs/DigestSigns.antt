@@ -3,7 +3,7 @@ use Rattle.std.proofs.Common.{◌≡◌, ℕ, List, ◌++◌, true, bytes_eq, re
 use Rattle.std.proofs.lemmas.Slice.Eq.{bytes_eq-Decides}
 use Rattle.der_core_head.specs.BitStrings.{Bits}
 use Rattle.sha2.specs.Sha256.{sha256}
-use Rattle.x509_cert.specs.Certificates.{PublicKey, key_bits}
+use Rattle.cert_desk_checking.specs.Certificates.{PublicKey, key_bits}
 use Rattle.cert_desk_checking.proofs.DigestLaws.{yes_by_digest}
 use Rattle.cert_desk_issuing.specs.DigestSigners.{digest_algorithm, IsDigestOf}
 

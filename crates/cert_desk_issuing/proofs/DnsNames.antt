@@ -12,8 +12,8 @@ use Rattle.der_core_head.specs.Heads.{Fits}
 use Rattle.der_core_head.specs.Shapes.{IsBody, IsContent, IsValid, contents, octets_of}
 use Rattle.der_core_head.specs.Tags.{context}
 use Rattle.der_core_head.specs.Texts.{ascii, text_read}
-use Rattle.x509_cert.specs.Extensions.{general_name, general_names}
-use Rattle.x509_cert.specs.Views.{arc_bound}
+use Rattle.cert_desk_checking.specs.Extensions.{general_name, general_names}
+use Rattle.cert_desk_checking.specs.Views.{arc_bound}
 use Rattle.cert_desk_issuing.specs.Ordered.{dns_name, dns_names}
 
 -- what is read of octets as text in ASCII, where a length can count them

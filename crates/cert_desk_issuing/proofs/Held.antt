@@ -8,11 +8,11 @@ use Rattle.der_core_head.proofs.Fits.{fits_contents}
 use Rattle.der_core_head.specs.declared.tag.Tag.TheVariants as tags
 use Rattle.der_core_head.specs.Heads.{Fits}
 use Rattle.der_core_head.specs.Shapes.{IsValid, IsContent, IsBody, octets_of}
-use Rattle.x509_cert.specs.Certificates.{PlainCertificate, Tbs, extensions_of, inner_algorithm, issuer, not_after, not_before, outer_algorithm, public_key, raw_certificate, raw_tbs_certificate, subject, tbs}
-use Rattle.x509_cert.specs.Certificates.{Algorithm}
-use Rattle.x509_cert.specs.Views.{arc_bound}
-use Rattle.x509_cert.specs.Extensions.{general_names}
-use Rattle.x509_cert.specs.Parts.{civil_of}
+use Rattle.cert_desk_checking.specs.Certificates.{PlainCertificate, Tbs, extensions_of, inner_algorithm, issuer, not_after, not_before, outer_algorithm, public_key, raw_certificate, raw_tbs_certificate, subject, tbs}
+use Rattle.cert_desk_checking.specs.Certificates.{Algorithm}
+use Rattle.cert_desk_checking.specs.Views.{arc_bound}
+use Rattle.cert_desk_checking.specs.Extensions.{general_names}
+use Rattle.cert_desk_checking.specs.Parts.{civil_of}
 use Rattle.cert_desk_issuing.specs.declared.role.Role.{Role}
 use Rattle.cert_desk_issuing.specs.declared.role.Role.TheVariants as roles
 use Rattle.cert_desk_issuing.specs.Chains.{IsHeldAt}

@@ -10,9 +10,8 @@ use Rattle.der_core_head.specs.BitStrings.{Bits}
 use Rattle.der_core_head.specs.Grammar.{plain_list}
 use Rattle.der_core_head.specs.Heads.{Fits}
 use Rattle.der_core_head.specs.Shapes.{IsValid}
-use Rattle.x509_cert.specs.Certificates.{Algorithm, PlainCertificate, PublicKey, certificate_octets, outer_algorithm, raw_certificate, signature_bits, tbs}
-use Rattle.x509_cert.specs.Views.{arc_bound}
-use Rattle.x509_cert_certificates.specs.declared.certificate.CertificateInner.{CertificateInner}
+use Rattle.cert_desk_checking.specs.Certificates.{Algorithm, PlainCertificate, PublicKey, certificate_octets, outer_algorithm, raw_certificate, signature_bits, tbs}
+use Rattle.cert_desk_checking.specs.Views.{arc_bound}
 use Rattle.cert_desk_checking.specs.Chains.{Chain, Stands, joined}
 use Rattle.cert_desk_orders.specs.declared.order.Order.{Order}
 use Rattle.cert_desk_issuing.specs.declared.accepted.Accepted.{Accepted}
@@ -22,7 +21,7 @@ use Rattle.cert_desk_issuing.specs.declared.stop.Stop.{Stop}
 use Rattle.cert_desk_issuing.specs.declared.stop.Stop.TheVariants as stops
 use Rattle.cert_desk_issuing.specs.Acceptance.{AcceptedOrders}
 use Rattle.cert_desk_issuing.specs.Chains.{AreSigned, HoldFront, HoldsOrders, IsHeldAt, IsOrderedAt, IsSignedAt, IsSignedBy}
-use Rattle.cert_desk_issuing.specs.Making.{made_plain, written_plain}
+use Rattle.cert_desk_issuing.specs.Making.{made_plain}
 use Rattle.cert_desk_issuing.specs.Ordered.{ordered_part, part_octets}
 use Rattle.cert_desk_issuing.specs.PlainOrders.{AreReady, IsReady, PlainOrder, accepted_plain, orders_plain}
 use Rattle.cert_desk_issuing.specs.Refusals.{IsStoppedAt, Refuses, Stops, stop_at}
@@ -111,18 +110,18 @@ module _ {S : Type 0} (algorithm : S → Algorithm) (signs : S → List ℕ → 
   }
 
 -- the same of what code has of certificates
-pub made_more : {S : Type 0} (algorithm : S → Algorithm) (signs : S → List ℕ → Bits → Type 0) (ps : List PlainOrder) (signers : List S) {P : Type 0} (xs ys : List (CertificateInner P)) (x : CertificateInner P) (place : ℕ) (stream longer octets : List ℕ)
-    → ys ≡ xs ++ x ∷ [] → longer ≡ stream ++ octets → length xs ≡ place → IsFront algorithm signs ps signers (plain_list written_plain xs) stream
-    → IsOrderedAt ps place (written_plain x) → IsSignedBy algorithm signs signers place (written_plain x) → Stands arc_bound (2 ^ 32 - 1) (written_plain x) → octets ≡ certificate_octets arc_bound (written_plain x)
-    → (length ys ≡ place + 1) × IsFront algorithm signs ps signers (plain_list written_plain ys) longer
-made_more algorithm signs ps signers xs ys x place stream longer octets e f n front ordered signed stands same =
+pub made_more : {S : Type 0} (algorithm : S → Algorithm) (signs : S → List ℕ → Bits → Type 0) (ps : List PlainOrder) (signers : List S) {C : Type 0} (plain : C → PlainCertificate) (xs ys : List C) (x : C) (place : ℕ) (stream longer octets : List ℕ)
+    → ys ≡ xs ++ x ∷ [] → longer ≡ stream ++ octets → length xs ≡ place → IsFront algorithm signs ps signers (plain_list plain xs) stream
+    → IsOrderedAt ps place (plain x) → IsSignedBy algorithm signs signers place (plain x) → Stands arc_bound (2 ^ 32 - 1) (plain x) → octets ≡ certificate_octets arc_bound (plain x)
+    → (length ys ≡ place + 1) × IsFront algorithm signs ps signers (plain_list plain ys) longer
+made_more algorithm signs ps signers plain xs ys x place stream longer octets e f n front ordered signed stands same =
     let count : length (xs ++ x ∷ []) ≡ place + 1 = omega (arith, n, length-append xs (x ∷ [])) in
-    let here = sym (plain_length written_plain xs ∙ n) in
-    let more = issued_more algorithm signs ps signers (plain_list written_plain xs) (written_plain x) stream octets front
-    (subst (λ m. IsOrderedAt ps m (written_plain x)) here ordered) (subst (λ m. IsSignedBy algorithm signs signers m (written_plain x)) here signed) stands same in (
+    let here = sym (plain_length plain xs ∙ n) in
+    let more = issued_more algorithm signs ps signers (plain_list plain xs) (plain x) stream octets front
+    (subst (λ m. IsOrderedAt ps m (plain x)) here ordered) (subst (λ m. IsSignedBy algorithm signs signers m (plain x)) here signed) stands same in (
       ap length e ∙ count,
-      subst (λ w. IsFront algorithm signs ps signers (plain_list written_plain ys) w) (sym f)
-          (subst (λ cs. IsFront algorithm signs ps signers cs (stream ++ octets)) (sym (ap (plain_list written_plain) e ∙ plain_pushed written_plain xs x)) more),
+      subst (λ w. IsFront algorithm signs ps signers (plain_list plain ys) w) (sym f)
+          (subst (λ cs. IsFront algorithm signs ps signers cs (stream ++ octets)) (sym (ap (plain_list plain) e ∙ plain_pushed plain xs x)) more),
     )
 
 -- What is made at a place, of what code has of orders.
@@ -174,10 +173,10 @@ stands_at (Ok m) v = within_all (made_plain m) v
 stands_at (Err t) v = tt
 
 -- all are issued
-pub all_held : {S : Type 0} (algorithm : S → Algorithm) (signs : S → List ℕ → Bits → Type 0) (xs : List Accepted) (signers : List S) {P : Type 0} (certificates : List (CertificateInner P)) (stream : List ℕ) → length stream < 2 ^ 64
-    → length certificates ≡ length xs → IsFront algorithm signs (orders_plain xs) signers (plain_list written_plain certificates) stream → HoldsOrders (orders_plain xs) (plain_list written_plain certificates) stream
-all_held algorithm signs xs signers certificates stream fits n front = record {
-  count = plain_length written_plain certificates ∙ n ∙ sym (plain_length accepted_plain xs);
+pub all_held : {S : Type 0} (algorithm : S → Algorithm) (signs : S → List ℕ → Bits → Type 0) (xs : List Accepted) (signers : List S) {C : Type 0} (plain : C → PlainCertificate) (certificates : List C) (stream : List ℕ) → length stream < 2 ^ 64
+    → length certificates ≡ length xs → IsFront algorithm signs (orders_plain xs) signers (plain_list plain certificates) stream → HoldsOrders (orders_plain xs) (plain_list plain certificates) stream
+all_held algorithm signs xs signers plain certificates stream fits n front = record {
+  count = plain_length plain certificates ∙ n ∙ sym (plain_length accepted_plain xs);
   chain = record { each = front.each; joins = front.joins; fits = fits };
   held = front.held;
 }

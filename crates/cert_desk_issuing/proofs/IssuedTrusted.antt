@@ -2,8 +2,8 @@
 use Rattle.std.proofs.Common.{◌≡◌, ℕ, List, ◌∷◌, length, true, Some, slice_get, refl, sym, ap, ◌∙◌, subst}
 use Rattle.std.proofs.lemmas.Option.{slice_get_within}
 use Rattle.der_core_head.specs.BitStrings.{Bits}
-use Rattle.x509_cert.specs.Certificates.{PlainCertificate, outer_algorithm, signature_bits, tbs}
-use Rattle.x509_cert.specs.Certificates.{Algorithm, PublicKey}
+use Rattle.cert_desk_checking.specs.Certificates.{PlainCertificate, outer_algorithm, signature_bits, tbs}
+use Rattle.cert_desk_checking.specs.Certificates.{Algorithm, PublicKey}
 use Rattle.cert_desk_checking.specs.Judging.{Answers}
 use Rattle.cert_desk_checking.specs.Verdicts.{Trusted}
 use Rattle.cert_desk_issuing.specs.Chains.{AreSigned, HoldsOrders, IssuedChain}

@@ -19,13 +19,13 @@ use Rattle.der_core_head.specs.Shapes.{Shape, Value, IsValid, IsContent, IsBody,
 use Rattle.der_core_head.specs.Spelling.{is_apart, are_enough}
 use Rattle.der_core_head.specs.Tags.{context, tag_octets}
 use Rattle.der_core_head.specs.Octets.{IsOctets}
-use Rattle.x509_cert.specs.Builders.{authority_key_extension, authority_uses, constraints_extension, digital_signature, purposes, purposes_extension, subject_key_extension, usage_extension}
-use Rattle.x509_cert.specs.Certificates.{PlainName, PublicKey}
-use Rattle.x509_cert.specs.Views.{arc_bound}
-use Rattle.x509_cert.specs.Extensions.{general_name, general_names}
-use Rattle.x509_cert.specs.Parts.{number_of}
+use Rattle.cert_desk_checking.specs.Builders.{authority_key_extension, authority_uses, constraints_extension, digital_signature, purposes, purposes_extension, subject_key_extension, usage_extension}
+use Rattle.cert_desk_checking.specs.Certificates.{PlainName, PublicKey}
+use Rattle.cert_desk_checking.specs.Views.{arc_bound}
+use Rattle.cert_desk_checking.specs.Extensions.{general_name, general_names}
+use Rattle.cert_desk_checking.specs.Parts.{number_of}
 use Rattle.cert_desk_issuing.specs.Ordered.{dns_names, names_extension}
-use Rattle.x509_cert.specs.Parts.{false_by_default}
+use Rattle.cert_desk_checking.specs.Parts.{false_by_default}
 use Rattle.cert_desk_checking.specs.Weighing.{Meaning, uses, constraints, other_names, unweighed, basic_constraints, constraints_of, key_usage, extended_key_usage, meaning_by, meaning_of, weigh, weigh_octets}
 use Rattle.cert_desk_checking.specs.Weighing as weighing
 

@@ -6,11 +6,11 @@ use Rattle.der_core_head.specs.Grammar.{plain_list}
 use Rattle.der_core_head.specs.Shapes.{IsBody, IsContent, IsValid}
 use Rattle.der_types_time.proofs.SecondsOrders.{one_by_text}
 use Rattle.der_types_time.specs.Seconds.{unix_seconds}
-use Rattle.x509_cert.specs.Certificates.{Algorithm, PlainName, PublicKey, name}
-use Rattle.x509_cert.specs.Parts.{civil_of, tbs_certificate, time_of}
-use Rattle.x509_cert.specs.Texts.{SpellsName}
-use Rattle.x509_cert.specs.Views.{arc_bound, key_plain}
-use Rattle.x509_cert_parts.specs.Grammar.{PlainValidity, not_after, not_before}
+use Rattle.cert_desk_checking.specs.Certificates.{Algorithm, PlainName, PublicKey, name}
+use Rattle.cert_desk_checking.specs.Parts.{civil_of, tbs_certificate, time_of}
+use Rattle.cert_desk_checking.specs.Texts.{SpellsName}
+use Rattle.cert_desk_checking.specs.Views.{arc_bound, key_plain}
+use Rattle.cert_desk_orders.specs.Grammar.{PlainValidity, not_after, not_before}
 use Rattle.cert_desk_orders.specs.declared.order.Order.{Order}
 use Rattle.cert_desk_issuing.specs.declared.fault.Fault.{Fault}
 use Rattle.cert_desk_issuing.specs.declared.fault.Fault.TheVariants as faults

@@ -13,8 +13,8 @@ use Rattle.der_core_head.specs.declared.tag.Tag.{Tag}
 use Rattle.der_core_head.specs.Grammar.{plain_option}
 use Rattle.der_core_head.specs.Shapes.{AnyValue}
 use Rattle.der_core_head.specs.Tags.{leading_octet, number_of}
-use Rattle.x509_cert.specs.Certificates.{PublicKey}
-use Rattle.x509_cert.specs.Views.{arc_bound}
+use Rattle.cert_desk_checking.specs.Certificates.{PublicKey}
+use Rattle.cert_desk_checking.specs.Views.{arc_bound}
 use Rattle.x509_cert_names.specs.Values.{any_key}
 
 abbrev pub any_eq : AnyValue → AnyValue → Bool

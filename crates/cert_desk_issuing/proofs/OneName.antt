@@ -18,7 +18,7 @@ use Rattle.x509_cert_names.specs.declared.attribute_type_and_value.AttributeType
 use Rattle.x509_cert_names.specs.Names.{PlainName, name, relative_name, type_and_value}
 use Rattle.x509_cert_names.specs.NameTexts.{ReadsAttribute, ReadsName, ReadsRelative}
 use Rattle.x509_cert_names.specs.Pairs.{arc_bound, pair_plain, relative_plain, same_pair, same_pair_equiv}
-use Rattle.x509_cert.specs.Texts.{SpellsName}
+use Rattle.cert_desk_checking.specs.Texts.{SpellsName}
 use Rattle.cert_desk_issuing.proofs.AcceptedFronts.{plain_pushed}
 use Rattle.cert_desk_issuing.proofs.OneReading.{AllSame, AnyOdd, agree}
 

@@ -4,7 +4,7 @@ use Rattle.std.specs.Prelude.{◌≢◌, ◌⊎◌}
 use Rattle.std.proofs.lemmas.List.{length-map}
 use Rattle.std.proofs.lemmas.Option.{same_Some, slice_get_within}
 use Rattle.der_core_head.specs.BitStrings.{Bits}
-use Rattle.x509_cert.specs.Certificates.{Algorithm, PublicKey, Tbs, name}
+use Rattle.cert_desk_checking.specs.Certificates.{Algorithm, PublicKey, Tbs, name}
 use Rattle.cert_desk_orders.specs.declared.order.Order.{Order}
 use Rattle.cert_desk_issuing.specs.declared.fault.Fault.{Fault}
 use Rattle.cert_desk_issuing.specs.declared.fault.Fault.TheVariants as faults

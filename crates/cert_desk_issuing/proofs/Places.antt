@@ -3,9 +3,9 @@ use Rattle.std.proofs.Common.{◌≡◌, ◌≢◌, ℕ, zero, suc, ◌+◌, ◌
 use Rattle.std.specs.List.{list_all, list_any}
 use Rattle.std.specs.Option.{option_map_or}
 use Rattle.std.proofs.lemmas.Bool.{and_from, and_parts, cases_lt, le-leb, leb-true}
-use Rattle.x509_cert.specs.Certificates.{PlainCertificate, extensions_of, issuer, subject}
-use Rattle.x509_cert.specs.Certificates.{PlainName}
-use Rattle.x509_cert.specs.Views.{arc_bound}
+use Rattle.cert_desk_checking.specs.Certificates.{PlainCertificate, extensions_of, issuer, subject}
+use Rattle.cert_desk_checking.specs.Certificates.{PlainName}
+use Rattle.cert_desk_checking.specs.Views.{arc_bound}
 use Rattle.cert_desk_checking.specs.Judging.{same_name}
 use Rattle.cert_desk_checking.specs.Paths.{counted, counts, extensions_at, is_last, is_self_issued, is_within, is_within_lengths, keep_lengths, keeps_length}
 use Rattle.cert_desk_checking.proofs.Folds.{or_yes}

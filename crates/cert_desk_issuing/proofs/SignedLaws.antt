@@ -1,8 +1,8 @@
 -- What a chain that holds orders hands to a judge, and what its extensions say.
 use Rattle.std.proofs.Common.{◌≡◌, ℕ, ◌<◌, List, ◌∷◌, length, map, Some, slice_get, sym, ap, ◌∙◌}
 use Rattle.std.proofs.lemmas.Option.{slice_get_within}
-use Rattle.x509_cert.specs.Certificates.{PlainCertificate, extensions_of}
-use Rattle.x509_cert.specs.Views.{arc_bound}
+use Rattle.cert_desk_checking.specs.Certificates.{PlainCertificate, extensions_of}
+use Rattle.cert_desk_checking.specs.Views.{arc_bound}
 use Rattle.cert_desk_checking.specs.Judging.{signed_part}
 use Rattle.cert_desk_checking.proofs.Encodings.{signed_part-is}
 use Rattle.cert_desk_issuing.specs.Laws.{SaysAsOrdered, SignedIsSliced}

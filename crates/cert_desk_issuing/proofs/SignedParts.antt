@@ -15,12 +15,12 @@ use Rattle.der_core_head.specs.Ranges.{IsInRange}
 use Rattle.der_core_head.specs.Reading.{Gives}
 use Rattle.der_core_head.specs.Shapes.{AnyValue, IsBody, IsContent, IsValid, Shape, Spells, Value, any, body_octets, contents, nested, octets_of}
 use Rattle.der_core_head.specs.Tags.{tag_octets}
-use Rattle.x509_cert.specs.Certificates.{Algorithm, PlainCertificate, Tbs, algorithm_identifier, bit_string, certificate_octets, raw_certificate, raw_tbs_fields}
-use Rattle.x509_cert.specs.Extensions.{general_names}
-use Rattle.x509_cert.specs.Parts.{certificate, certificate_by, tbs_certificate, time_of}
-use Rattle.x509_cert.specs.Views.{arc_bound}
-use Rattle.x509_cert_parts.specs.Grammar.{PlainTime, PlainValidity, false_by_default, version_field}
-use Rattle.x509_cert_parts.specs.Respelling.{respelled, validity_by}
+use Rattle.cert_desk_checking.specs.Certificates.{Algorithm, PlainCertificate, Tbs, algorithm_identifier, bit_string, certificate_octets, raw_certificate, raw_tbs_fields}
+use Rattle.cert_desk_checking.specs.Extensions.{general_names}
+use Rattle.cert_desk_checking.specs.Parts.{certificate, certificate_by, tbs_certificate, time_of}
+use Rattle.cert_desk_checking.specs.Views.{arc_bound}
+use Rattle.cert_desk_orders.specs.Grammar.{PlainTime, PlainValidity, false_by_default, version_field}
+use Rattle.cert_desk_orders.specs.Respelling.{respelled, validity_by}
 use Rattle.cert_desk_issuing.specs.declared.role.Role.{Role}
 use Rattle.cert_desk_issuing.specs.declared.stop.Stop.{Stop}
 use Rattle.cert_desk_issuing.specs.declared.stop.Stop.TheVariants as stops

@@ -6,11 +6,11 @@ use Rattle.const_oid_identifiers.specs.Digits.{digits, digits_within, marked}
 use Rattle.const_oid_identifiers.specs.IdentifierOctets.{identifier_octets, arc_octets}
 use Rattle.der_core_head.specs.Heads.{Fits}
 use Rattle.der_core_head.specs.Shapes.{octets_of}
-use Rattle.x509_cert.specs.Builders.{authority_key_extension, authority_uses, constraints_extension, digital_signature, purposes_extension, subject_key_extension, usage_extension}
-use Rattle.x509_cert.specs.Builders as profiles
-use Rattle.x509_cert.specs.Certificates.{PlainExtension, PublicKey, is_critical}
-use Rattle.x509_cert.specs.Views.{arc_bound}
-use Rattle.x509_cert.specs.Extensions.{general_names}
+use Rattle.cert_desk_checking.specs.Builders.{authority_key_extension, authority_uses, constraints_extension, digital_signature, purposes_extension, subject_key_extension, usage_extension}
+use Rattle.cert_desk_checking.specs.Builders as profiles
+use Rattle.cert_desk_checking.specs.Certificates.{PlainExtension, PublicKey, is_critical}
+use Rattle.cert_desk_checking.specs.Views.{arc_bound}
+use Rattle.cert_desk_checking.specs.Extensions.{general_names}
 use Rattle.cert_desk_checking.specs.Judging.{are_distinct}
 use Rattle.cert_desk_checking.specs.Paths.{is_within}
 use Rattle.cert_desk_checking.specs.Weighing.{Meaning, uses, constraints, other_names, purposes, unweighed, any_purpose, is_authority, is_malformed, is_unweighed, is_unweighed_critical, may_certify, path_length, serves, weigh}

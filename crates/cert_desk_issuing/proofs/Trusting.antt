@@ -6,9 +6,9 @@ use Rattle.std.specs.Option.{option_map_or}
 use Rattle.std.proofs.lemmas.Bool.{and_parts, le-leb, leb-true}
 use Rattle.der_core_head.specs.Shapes.{IsValid, octets_of}
 use Rattle.der_types_time.specs.Seconds.{unix_seconds}
-use Rattle.x509_cert.specs.Certificates.{PlainCertificate, certificate_octets, extensions_of, issuer, not_after, not_before, outer_algorithm, public_key, raw_certificate, raw_tbs_certificate, signature_bits, subject, tbs}
-use Rattle.x509_cert.specs.Certificates.{algorithm_identifier, name_octets}
-use Rattle.x509_cert.specs.Views.{arc_bound}
+use Rattle.cert_desk_checking.specs.Certificates.{PlainCertificate, certificate_octets, extensions_of, issuer, not_after, not_before, outer_algorithm, public_key, raw_certificate, raw_tbs_certificate, signature_bits, subject, tbs}
+use Rattle.cert_desk_checking.specs.Certificates.{algorithm_identifier, name_octets}
+use Rattle.cert_desk_checking.specs.Views.{arc_bound}
 use Rattle.cert_desk_checking.specs.declared.rule.Rule.{Rule}
 use Rattle.cert_desk_checking.specs.declared.rule.Rule.TheVariants as rules
 use Rattle.cert_desk_checking.specs.Chains.{Chain, Stands, joined}

@@ -6,16 +6,16 @@ use Rattle.der_core_head.specs.Dates.{Civil, is_civil}
 use Rattle.der_core_head.specs.Grammar.{plain_list}
 use Rattle.der_types_time.specs.DateTexts.{date_text}
 use Rattle.der_types_time.specs.Seconds.{unix_seconds}
-use Rattle.x509_cert.specs.Builders.{NamesAuthority}
-use Rattle.x509_cert.specs.Builders.{may_stay}
-use Rattle.x509_cert.specs.Certificates.{PlainName, PublicKey}
-use Rattle.x509_cert.specs.Views.{key_plain}
-use Rattle.x509_cert.specs.Texts.{SpellsName}
-use Rattle.x509_cert.specs.Parts.{relative_plain}
-use Rattle.x509_cert_parts.specs.Grammar.{PlainValidity, not_after, not_before}
-use Rattle.x509_cert.specs.Parts.{civil_of}
-use Rattle.x509_cert.specs.Parts.{time_of}
-use Rattle.x509_cert.specs.Texts.{new_serial}
+use Rattle.cert_desk_checking.specs.Builders.{NamesAuthority}
+use Rattle.cert_desk_checking.specs.Builders.{may_stay}
+use Rattle.cert_desk_checking.specs.Certificates.{PlainName, PublicKey}
+use Rattle.cert_desk_checking.specs.Views.{key_plain}
+use Rattle.cert_desk_checking.specs.Texts.{SpellsName}
+use Rattle.cert_desk_checking.specs.Parts.{relative_plain}
+use Rattle.cert_desk_orders.specs.Grammar.{PlainValidity, not_after, not_before}
+use Rattle.cert_desk_checking.specs.Parts.{civil_of}
+use Rattle.cert_desk_checking.specs.Parts.{time_of}
+use Rattle.cert_desk_orders.specs.SerialNumbers.{new_serial}
 use Rattle.cert_desk_orders.specs.declared.order.Order.{Order}
 use Rattle.cert_desk_issuing.specs.declared.role.Role.{Role}
 use Rattle.cert_desk_issuing.specs.declared.role.Role.TheVariants as roles

@@ -4,9 +4,9 @@ use Rattle.std.specs.List.{list_all}
 use Rattle.std.specs.Option.{option_map_or}
 use Rattle.const_oid_identifiers.specs.Comparing.{owned_eq}
 use Rattle.der_types_time.specs.Seconds.{unix_seconds}
-use Rattle.x509_cert.specs.Builders.{id_kp}
-use Rattle.x509_cert.specs.Certificates.{PlainName}
-use Rattle.x509_cert.specs.Views.{arc_bound}
+use Rattle.cert_desk_checking.specs.Builders.{id_kp}
+use Rattle.cert_desk_checking.specs.Certificates.{PlainName}
+use Rattle.cert_desk_checking.specs.Views.{arc_bound}
 use Rattle.cert_desk_checking.specs.Judging.{same_name}
 use Rattle.cert_desk_checking.specs.Paths.{is_within}
 use Rattle.cert_desk_issuing.specs.declared.role.Role.{Role}

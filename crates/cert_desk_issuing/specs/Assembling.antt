@@ -1,9 +1,9 @@
 -- What is made of a signed part, its algorithm and its signature (RFC 5280 4.1, 5.1; RFC 2986 4.2).
 use Rattle.der_core_head.specs.Shapes.{Body, BodyValue, Shape, any, field, done, sequence}
-use Rattle.x509_cert.specs.Certificates.{algorithm_identifier, bit_string}
-use Rattle.x509_cert.specs.Views.{algorithm_plain, arc_bound}
+use Rattle.cert_desk_checking.specs.Certificates.{algorithm_identifier, bit_string}
+use Rattle.cert_desk_checking.specs.Views.{algorithm_plain, arc_bound}
 use Rattle.cert_desk_issuing.specs.declared.assembled.Assembled.{Assembled}
-use Rattle.x509_cert.specs.Parts.{any_lent}
+use Rattle.cert_desk_checking.specs.Parts.{any_lent}
 
 -- SIGNED{ToBeSigned} ::= SEQUENCE { toBeSigned ToBeSigned, algorithmIdentifier AlgorithmIdentifier, signature BIT STRING }, whatever is
 -- to be signed

@@ -1,6 +1,6 @@
 -- What an issued chain is judged under.
 use Rattle.std.specs.Prelude.{List, [], ◌∷◌}
-use Rattle.x509_cert.specs.Certificates.{PlainCertificate, public_key, subject}
+use Rattle.cert_desk_checking.specs.Certificates.{PlainCertificate, public_key, subject}
 use Rattle.cert_desk_checking.specs.Judging.{PlainAnchor}
 
 -- a certificate, as an anchor

@@ -1,9 +1,9 @@
 -- Chains that were issued.
 use Rattle.std.specs.Prelude.{◌≡◌, ℕ, ◌-◌, ◌^◌, ◌<◌, List, length, map, Some, slice_get}
 use Rattle.der_core_head.specs.BitStrings.{Bits}
-use Rattle.x509_cert.specs.Certificates.{PlainCertificate, outer_algorithm, signature_bits, tbs}
-use Rattle.x509_cert.specs.Certificates.{Algorithm, PublicKey}
-use Rattle.x509_cert.specs.Views.{arc_bound}
+use Rattle.cert_desk_checking.specs.Certificates.{PlainCertificate, outer_algorithm, signature_bits, tbs}
+use Rattle.cert_desk_checking.specs.Certificates.{Algorithm, PublicKey}
+use Rattle.cert_desk_checking.specs.Views.{arc_bound}
 use Rattle.cert_desk_checking.specs.Chains.{Chain}
 use Rattle.cert_desk_orders.specs.declared.order.Order.{Order}
 use Rattle.cert_desk_issuing.specs.Acceptance.{AcceptedOrders}

@@ -2,10 +2,10 @@
 use Rattle.std.specs.Prelude.{◌≡◌, ℕ, ◌<◌, List, length, map, None, Some, slice_get}
 use Rattle.der_core_head.specs.BitStrings.{Bits}
 use Rattle.der_core_head.specs.Shapes.{IsValid}
-use Rattle.x509_cert.specs.Certificates.{Algorithm, PublicKey, Tbs}
-use Rattle.x509_cert.specs.Extensions.{general_names}
-use Rattle.x509_cert.specs.Parts.{certificate, tbs_certificate}
-use Rattle.x509_cert.specs.Views.{arc_bound}
+use Rattle.cert_desk_checking.specs.Certificates.{Algorithm, PublicKey, Tbs}
+use Rattle.cert_desk_checking.specs.Extensions.{general_names}
+use Rattle.cert_desk_checking.specs.Parts.{certificate, tbs_certificate}
+use Rattle.cert_desk_checking.specs.Views.{arc_bound}
 use Rattle.cert_desk_orders.specs.declared.order.Order.{Order}
 use Rattle.cert_desk_issuing.specs.declared.issue_error.IssueError.{IssueError}
 use Rattle.cert_desk_issuing.specs.declared.issue_error.IssueError.TheVariants as errors

@@ -2,9 +2,9 @@
 use Rattle.std.specs.Prelude.{◌≡◌, ℕ, ◌+◌, ◌-◌, ◌≤◌, ◌<◌, List, [], ◌∷◌, length, map, true, false, Some, slice_get}
 use Rattle.der_core_head.specs.BitStrings.{Bits}
 use Rattle.der_types_time.specs.Seconds.{unix_seconds}
-use Rattle.x509_cert.specs.Certificates.{PlainCertificate, certificate_octets, extensions_of, outer_algorithm, signature_bits, tbs}
-use Rattle.x509_cert.specs.Certificates.{Algorithm, PublicKey}
-use Rattle.x509_cert.specs.Views.{arc_bound}
+use Rattle.cert_desk_checking.specs.Certificates.{PlainCertificate, certificate_octets, extensions_of, outer_algorithm, signature_bits, tbs}
+use Rattle.cert_desk_checking.specs.Certificates.{Algorithm, PublicKey}
+use Rattle.cert_desk_checking.specs.Views.{arc_bound}
 use Rattle.cert_desk_checking.specs.declared.rule.Rule.{Rule}
 use Rattle.cert_desk_checking.specs.declared.rule.Rule.TheVariants as rules
 use Rattle.cert_desk_checking.specs.Judging.{Answers, PlainAnchor, Terms, signed_part}

@@ -14,3 +14,4 @@ pub mod Refusals
 pub mod Roles
 pub mod Runs
 pub mod Weighed
+pub mod Arguments

@@ -3,22 +3,21 @@ use Rattle.std.specs.Prelude.{ℕ, ◌-◌, ◌^◌, List, true}
 use Rattle.der_core_head.specs.Grammar.{plain_list}
 use Rattle.der_core_head.specs.Ranges.{IsInRange}
 use Rattle.der_core_head.specs.Shapes.{Shape, explicit, optional}
-use Rattle.x509_cert.specs.Certificates.{PlainCertificate, Tbs, algorithm_identifier, name, public_key_info, tbs_inner_algorithm, tbs_issuer, tbs_public_key, tbs_subject, tbs_validity}
-use Rattle.x509_cert.specs.Parts.{certificate_by}
-use Rattle.x509_cert.specs.Views.{certificate_plain}
-use Rattle.x509_cert.specs.Views.{arc_bound}
-use Rattle.x509_cert_parts.specs.Grammar.{extensions, validity}
-use Rattle.x509_cert_certificates.specs.declared.certificate.CertificateInner.{CertificateInner}
+use Rattle.cert_desk_checking.specs.Certificates.{PlainCertificate, Tbs, algorithm_identifier, name, public_key_info, tbs_inner_algorithm, tbs_issuer, tbs_public_key, tbs_subject, tbs_validity}
+use Rattle.cert_desk_checking.specs.Parts.{certificate_by}
+use Rattle.cert_desk_checking.specs.Views.{certificate_plain}
+use Rattle.cert_desk_checking.specs.Views.{arc_bound}
+use Rattle.cert_desk_orders.specs.Grammar.{extensions, validity}
 use Rattle.cert_desk_checking.specs.Chains.{Chain}
 use Rattle.cert_desk_issuing.specs.declared.issued.Issued.TheInside.{Inside}
 use Rattle.cert_desk_issuing.specs.declared.making.Made.{Made}
 
 -- a certificate as it is written
-abbrev pub written_plain : {P : Type 0} → CertificateInner P → PlainCertificate
-written_plain c = certificate_by true (certificate_plain c)
+abbrev pub as_written : PlainCertificate → PlainCertificate
+as_written c = certificate_by true c
 
 abbrev pub made_plain : Made → PlainCertificate
-made_plain m = written_plain m.certificate
+made_plain m = as_written (certificate_plain m.certificate)
 
 -- the field of extensions in a signed part
 abbrev pub extensions_field : Shape
@@ -39,8 +38,8 @@ pub record PlainIssued : Type 0 where
   pub stream : List ℕ
 
 abbrev pub issued_plain : Inside → PlainIssued
-issued_plain i = record { certificates = plain_list written_plain i.certificates.items; stream = i.stream.items }
+issued_plain i = record { certificates = plain_list (λ c. as_written (certificate_plain c)) i.certificates.items; stream = i.stream.items }
 
 -- the stream joins the certificates
 abbrev pub IsJoined : Inside → Type 0
-IsJoined i = Chain arc_bound (2 ^ 32 - 1) (plain_list written_plain i.certificates.items) i.stream.items
+IsJoined i = Chain arc_bound (2 ^ 32 - 1) (plain_list (λ c. as_written (certificate_plain c)) i.certificates.items) i.stream.items

@@ -3,12 +3,12 @@ use Rattle.std.specs.Prelude.{ℕ, pos, List, [], ◌∷◌, length, Option, Som
 use Rattle.std.proofs.Common.{inl, inr}
 use Rattle.der_core_head.specs.Grammar.{plain_list, plain_option}
 use Rattle.der_core_head.specs.Shapes.{Value, octets_of}
-use Rattle.x509_cert.specs.Builders.{digital_signature, root_extensions, standard_extension, subordinate_extensions, subscriber_extensions}
-use Rattle.x509_cert.specs.Certificates.{Tbs}
-use Rattle.x509_cert.specs.Parts.{tbs_certificate}
-use Rattle.x509_cert.specs.Certificates.{Algorithm, PlainExtension, PlainName, PublicKey}
-use Rattle.x509_cert.specs.Views.{arc_bound}
-use Rattle.x509_cert.specs.Extensions.{general_name, general_names}
+use Rattle.cert_desk_checking.specs.Builders.{digital_signature, root_extensions, standard_extension, subordinate_extensions, subscriber_extensions}
+use Rattle.cert_desk_checking.specs.Certificates.{Tbs}
+use Rattle.cert_desk_checking.specs.Parts.{tbs_certificate}
+use Rattle.cert_desk_checking.specs.Certificates.{Algorithm, PlainExtension, PlainName, PublicKey}
+use Rattle.cert_desk_checking.specs.Views.{arc_bound}
+use Rattle.cert_desk_checking.specs.Extensions.{general_name, general_names}
 use Rattle.cert_desk_issuing.specs.declared.role.Role.{Role}
 use Rattle.cert_desk_issuing.specs.declared.role.Role.TheVariants as roles
 use Rattle.cert_desk_issuing.specs.PlainOrders.{PlainOrder}

@@ -5,11 +5,11 @@ use Rattle.std.specs.List.{list_all}
 use Rattle.der_core_head.specs.Dates.{Civil}
 use Rattle.der_core_head.specs.Grammar.{plain_list}
 use Rattle.der_core_head.specs.Integers.{integer_octets}
-use Rattle.x509_cert.specs.Certificates.{PlainName, PublicKey}
-use Rattle.x509_cert.specs.Views.{key_plain, name_plain, validity_plain}
-use Rattle.x509_cert.specs.Parts.{time_of}
-use Rattle.x509_cert_parts.specs.Grammar.{PlainValidity, not_after, not_before}
-use Rattle.x509_cert.specs.Parts.{civil_of}
+use Rattle.cert_desk_checking.specs.Certificates.{PlainName, PublicKey}
+use Rattle.cert_desk_checking.specs.Views.{key_plain, name_plain, validity_plain}
+use Rattle.cert_desk_checking.specs.Parts.{time_of}
+use Rattle.cert_desk_orders.specs.Grammar.{PlainValidity, not_after, not_before}
+use Rattle.cert_desk_checking.specs.Parts.{civil_of}
 use Rattle.cert_desk_issuing.specs.declared.accepted.Accepted.{Accepted}
 use Rattle.cert_desk_issuing.specs.declared.role.Role.{Role}
 use Rattle.cert_desk_issuing.specs.declared.role.Role.TheVariants as roles

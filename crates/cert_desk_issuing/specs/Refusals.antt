@@ -10,16 +10,16 @@ use Rattle.der_core_head.specs.declared.error.ErrorKind.TheVariants as kinds
 use Rattle.der_core_head.specs.Shapes.{IsValid, Shape, Value}
 use Rattle.der_types_time.specs.DateTexts.{date_text}
 use Rattle.der_types_time.specs.Seconds.{unix_seconds}
-use Rattle.x509_cert.specs.Builders.{NamesAuthority}
-use Rattle.x509_cert.specs.Builders.{IsWantOfMemory}
-use Rattle.x509_cert.specs.Certificates.{Tbs}
-use Rattle.x509_cert.specs.Parts.{certificate, tbs_certificate}
-use Rattle.x509_cert.specs.Certificates.{Algorithm, PlainName, PublicKey}
-use Rattle.x509_cert.specs.Views.{arc_bound, key_plain}
-use Rattle.x509_cert.specs.Extensions.{general_names}
-use Rattle.x509_cert.specs.Texts.{ReadsName, SpellsName}
-use Rattle.x509_cert_parts.specs.Grammar.{PlainValidity}
-use Rattle.x509_cert.specs.Texts.{new_serial}
+use Rattle.cert_desk_checking.specs.Builders.{NamesAuthority}
+use Rattle.cert_desk_checking.specs.Builders.{IsWantOfMemory}
+use Rattle.cert_desk_checking.specs.Certificates.{Tbs}
+use Rattle.cert_desk_checking.specs.Parts.{certificate, tbs_certificate}
+use Rattle.cert_desk_checking.specs.Certificates.{Algorithm, PlainName, PublicKey}
+use Rattle.cert_desk_checking.specs.Views.{arc_bound, key_plain}
+use Rattle.cert_desk_checking.specs.Extensions.{general_names}
+use Rattle.cert_desk_checking.specs.Texts.{ReadsName, SpellsName}
+use Rattle.cert_desk_orders.specs.Grammar.{PlainValidity}
+use Rattle.cert_desk_orders.specs.SerialNumbers.{new_serial}
 use Rattle.cert_desk_orders.specs.declared.order.Order.{Order}
 use Rattle.cert_desk_issuing.specs.declared.fault.Fault.{Fault}
 use Rattle.cert_desk_issuing.specs.declared.fault.Fault.TheVariants as faults

@@ -1,8 +1,8 @@
 -- What a run of `issue` finds, and what it tells.
 use Rattle.std.specs.Prelude.{◌≡◌, ℕ, ◌^◌, ◌⊎◌, List, length, map, take}
 use Rattle.cert_desk_io.specs.Devices.{Rose, GivesBeginning}
-use Rattle.x509_cert.specs.Certificates.{PublicKey}
-use Rattle.x509_cert.specs.Views.{key_plain}
+use Rattle.cert_desk_checking.specs.Certificates.{PublicKey}
+use Rattle.cert_desk_checking.specs.Views.{key_plain}
 use Rattle.cert_desk_orders.specs.declared.order.Order.{Order}
 use Rattle.cert_desk_issuing.specs.declared.digest_signer.DigestSigner.{DigestSigner}
 use Rattle.cert_desk_issuing.specs.declared.issue_status.IssueStatus.{IssueStatus}

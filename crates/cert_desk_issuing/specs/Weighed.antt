@@ -1,9 +1,9 @@
 -- What the extensions of an ordered certificate say.
 use Rattle.std.specs.Prelude.{ℕ, List, [], ◌∷◌, length, Bool, true, false, Option, None, ◌==◌}
-use Rattle.x509_cert.specs.Builders.{authority_uses, digital_signature}
-use Rattle.x509_cert.specs.Builders as profiles
-use Rattle.x509_cert.specs.Certificates.{PlainExtension, is_critical}
-use Rattle.x509_cert.specs.Views.{arc_bound}
+use Rattle.cert_desk_checking.specs.Builders.{authority_uses, digital_signature}
+use Rattle.cert_desk_checking.specs.Builders as profiles
+use Rattle.cert_desk_checking.specs.Certificates.{PlainExtension, is_critical}
+use Rattle.cert_desk_checking.specs.Views.{arc_bound}
 use Rattle.cert_desk_checking.specs.Weighing.{Meaning, constraints, other_names, purposes, unweighed, uses, weigh}
 use Rattle.cert_desk_issuing.specs.declared.role.Role.{Role}
 use Rattle.cert_desk_issuing.specs.declared.role.Role.TheVariants as roles

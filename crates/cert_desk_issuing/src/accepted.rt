@@ -1,7 +1,7 @@
 //! Orders that were accepted.
 
+use cert_desk_checking::types::{Name, SerialNumber, Validity};
 use cert_desk_orders::Order;
-use x509_cert::{Name, SerialNumber, Validity};
 
 /// An order that was accepted, and what its texts spell.
 #[derive(Drop)]

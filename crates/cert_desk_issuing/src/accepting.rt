@@ -3,11 +3,12 @@
 ghost use Rattle.std.specs.Prelude.{◌≡◌, ◌↔◌, ◌<◌, ◌^◌, ◌∷◌, [], true, false, string_bytes, nat_lt, Option, None, Ok, IsTrue, IfOk, IfErr, IfSome, OnOk};
 ghost use Rattle.std.specs.List.{list_all};
 ghost use Rattle.der_core_head.specs.Grammar.{plain_list, plain_option};
-ghost use Rattle.x509_cert.specs.Builders.{IsWantOfMemory, common_name, country, is_among, may_stay};
-ghost use Rattle.x509_cert.specs.Certificates.{PublicKey};
-ghost use Rattle.x509_cert.specs.Parts.{relative_plain, time_of};
-ghost use Rattle.x509_cert.specs.Texts.{SpellsName, new_serial};
-ghost use Rattle.x509_cert.specs.Views.{key_plain, name_plain, time_date, time_value, validity_plain};
+ghost use Rattle.cert_desk_checking.specs.Builders.{IsWantOfMemory, common_name, country, is_among, may_stay};
+ghost use Rattle.cert_desk_checking.specs.Certificates.{PublicKey};
+ghost use Rattle.cert_desk_checking.specs.Parts.{relative_plain, time_of};
+ghost use Rattle.cert_desk_orders.specs.SerialNumbers.{new_serial};
+ghost use Rattle.cert_desk_checking.specs.Texts.{SpellsName};
+ghost use Rattle.cert_desk_checking.specs.Views.{key_plain, name_plain, time_date, time_value, validity_plain};
 ghost use Rattle.cert_desk_issuing.specs.Acceptance.{IsAccepted, IsKeyOf, IsNamedFor, IsTextOf, SpellDates, names_subscriber};
 ghost use Rattle.cert_desk_issuing.specs.PlainOrders.{HasNamesFor, accepted_plain};
 ghost use Rattle.cert_desk_issuing.specs.Refusals.{HasFaultyDates, HasName, IsNoDate, IsOtherKey, RefusesName, RefusesOrder};
@@ -17,15 +18,15 @@ use crate::attribute_types as types;
 use crate::fault::Fault;
 use crate::in_range::{key_in_range, time_in_range};
 use crate::role::Role;
+use cert_desk_checking::types::builder::{Error, SignError, ca_certificate_naming};
+use cert_desk_checking::types::{
+    Name, RelativeDistinguishedName, SerialNumber, SubjectPublicKeyInfo, Time, Validity,
+};
 use cert_desk_orders::Order;
 use const_oid_identifiers::ObjectIdentifier;
 use der_core::ErrorKind;
 use std::alloc::Global;
 use std::str::FromStr;
-use x509_cert::builder::{Error, SignError, ca_certificate_naming};
-use x509_cert::{
-    Name, RelativeDistinguishedName, SerialNumber, SubjectPublicKeyInfo, Time, Validity,
-};
 
 /// The name that the text of an order spells.
 fn name_of(alloc: Global, order: &Order) -> Result<Name, Fault>

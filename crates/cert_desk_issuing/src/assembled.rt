@@ -5,11 +5,11 @@ ghost use Rattle.der_core_head.specs.declared.tag.Tag.TheVariants.{Sequence};
 ghost use Rattle.der_core_head.specs.Shapes.{nested};
 ghost use Rattle.cert_desk_issuing.specs.Assembling.{assembled_fields, assembled_plain};
 
+use cert_desk_checking::types::{AlgorithmIdentifier, AnyRef, BitString};
 use der_core::{
     EncodeFields, EncodeRef, EncodeValue, Error, FixedTag, InRange, InRangeValue, Length,
     ShapedValue, Tag, Writer,
 };
-use x509_cert::{AlgorithmIdentifier, AnyRef, BitString};
 
 /// What is signed as it stands, the algorithm, and the signature (RFC 5280 4.1, 5.1; RFC 2986 4.2), lent.
 ///

@@ -2,8 +2,8 @@
 
 ghost use Rattle.std.specs.Prelude.{◌≡◌, ◌≢◌, ◌≤◌, ◌↔◌, ℕ, List, ◌∷◌, map, IfOk, IfErr, OnErr};
 ghost use Rattle.der_core_head.specs.Grammar.{plain_list};
-ghost use Rattle.x509_cert.specs.Certificates.{PlainCertificate};
-ghost use Rattle.x509_cert.specs.Views.{arc_bound};
+ghost use Rattle.cert_desk_checking.specs.Certificates.{PlainCertificate};
+ghost use Rattle.cert_desk_checking.specs.Views.{arc_bound, certificate_plain};
 ghost use Rattle.cert_desk_checking.specs.declared.checked.CheckError.TheVariants as errors;
 ghost use Rattle.cert_desk_checking.specs.declared.checked.Verdict.TheVariants as verdicts;
 ghost use Rattle.cert_desk_checking.specs.declared.standing.Standing.TheVariants as standings;
@@ -13,14 +13,14 @@ ghost use Rattle.cert_desk_checking.specs.Verdicts.{IsCounted, IsVerdict};
 ghost use Rattle.cert_desk_issuing.specs.Auditing.{root_anchor, root_anchors};
 ghost use Rattle.cert_desk_issuing.specs.Chains.{HoldsOrders};
 ghost use Rattle.cert_desk_issuing.specs.Laws.{Permits, terms_for};
-ghost use Rattle.cert_desk_issuing.specs.Making.{written_plain};
+ghost use Rattle.cert_desk_issuing.specs.Making.{as_written};
 ghost use Rattle.cert_desk_issuing.specs.PlainOrders.{PlainOrder};
 
 use crate::issued::Issued;
+use cert_desk_checking::types::Certificate;
 use cert_desk_checking::{Anchor, Bundle, CheckError, Checked, SignatureJudge, check};
 use const_oid_identifiers::ObjectIdentifier;
 use std::alloc::Global;
-use x509_cert::Certificate;
 
 impl Issued {
     /// The verdict of `check` on the stream, with the first certificate as the only anchor.
@@ -61,7 +61,7 @@ impl Issued {
 
 /// A certificate, as an anchor.
 fn anchor_of(alloc: Global, root: &Certificate) -> Result<Anchor, CheckError>
-    ensures copied { IfOk result (λ a. anchor_plain a ≡ root_anchor (written_plain root.now)) }
+    ensures copied { IfOk result (λ a. anchor_plain a ≡ root_anchor (as_written (certificate_plain root.now))) }
     ensures refused { IfErr result (λ e. e ≡ errors.OutOfMemory) }
 {
     let signed = root.tbs_certificate();
@@ -76,7 +76,7 @@ fn anchor_of(alloc: Global, root: &Certificate) -> Result<Anchor, CheckError>
 
 /// The first certificate, as the only anchor.
 fn anchors_of(alloc: Global, certificates: &[Certificate]) -> Result<Vec<Anchor>, CheckError>
-    ensures copied { IfOk result (λ v. map anchor_plain v.items ≡ root_anchors (plain_list written_plain certificates.now)) }
+    ensures copied { IfOk result (λ v. map anchor_plain v.items ≡ root_anchors (plain_list (λ c. as_written (certificate_plain c)) certificates.now)) }
     ensures refused { IfErr result (λ e. e ≡ errors.OutOfMemory) }
 {
     let mut anchors = Vec::new(alloc);

@@ -1,16 +1,16 @@
 //! A signer of digests, which stands where an algorithm would.
 ghost use Rattle.std.specs.Prelude.{◌≡◌, ◌↔◌, ℕ, List};
 ghost use Rattle.der_core_head.specs.BitStrings.{Bits};
-ghost use Rattle.x509_cert.specs.Views.{algorithm_plain, key_plain};
+ghost use Rattle.cert_desk_checking.specs.Views.{algorithm_plain, key_plain};
 ghost use Rattle.cert_desk_checking.specs.Digests.{digest_arcs};
 ghost use Rattle.cert_desk_issuing.specs.DigestSigners.{digest_algorithm, IsDigestOf};
 
+use cert_desk_checking::types::builder::{SignError, Signer};
 use cert_desk_checking::{AlgorithmIdentifier, BitString, SubjectPublicKeyInfo};
 use const_oid::ObjectIdentifier;
 use rand_core::CryptoRng;
 use sha2::{Digest, Sha256};
 use std::alloc::Global;
-use x509_cert::builder::{SignError, Signer};
 
 // 1.3.6.1.4.1.32473.2, under the arc for examples (RFC 5612).
 #[tactic(auto, unfolding(const_oid_identifiers::specs::Bound::Bound, const_oid_identifiers::specs::TextReading::text_arcs, const_oid_identifiers::specs::ArcLists::add_arc, const_oid_identifiers::specs::ArcLists::whole_arcs, const_oid_identifiers::specs::IdentifierOctets::identifier_octets, const_oid_identifiers::specs::IdentifierOctets::arc_octets, const_oid_identifiers::specs::Digits::digits, const_oid_identifiers::specs::Digits::digits_within, const_oid_identifiers::specs::Digits::marked))]
@@ -57,7 +57,7 @@ impl DigestSigner {
 }
 
 impl Signer for DigestSigner {
-    ghost use Rattle.x509_cert.specs.Views.{algorithm_plain, key_plain};
+    ghost use Rattle.cert_desk_checking.specs.Views.{algorithm_plain, key_plain};
     ghost use Rattle.cert_desk_issuing.specs.DigestSigners.{digest_algorithm, IsDigestOf};
 
     ghost public_key = { λ s. key_plain s.key };

@@ -4,9 +4,9 @@ ghost use Rattle.std.specs.Prelude.{◌≡◌, Ok, IfOk, IfErr, string_bytes};
 ghost use Rattle.der_core_head.specs.declared.error.ErrorKind.TheVariants.{OutOfMemory};
 ghost use Rattle.der_core_head.specs.Grammar.{plain_list};
 ghost use Rattle.der_core_head.specs.Shapes.{IsValid};
-ghost use Rattle.x509_cert.specs.Builders.{digital_signature, root_extensions, subscriber_extensions};
-ghost use Rattle.x509_cert.specs.Views.{arc_bound, extension_plain, extensions_plain, key_plain, name_plain, tbs_plain};
-ghost use Rattle.x509_cert.specs.Extensions.{general_name_plain, general_names};
+ghost use Rattle.cert_desk_checking.specs.Builders.{digital_signature, root_extensions, subscriber_extensions};
+ghost use Rattle.cert_desk_checking.specs.Views.{arc_bound, extension_plain, extensions_plain, key_plain, name_plain, tbs_plain};
+ghost use Rattle.cert_desk_checking.specs.Extensions.{general_name_plain, general_names};
 ghost use Rattle.cert_desk_issuing.specs.Ordered.{dns_names, extensions_for, names_extension};
 ghost use Rattle.cert_desk_issuing.specs.PlainOrders.{accepted_plain};
 ghost use Rattle.cert_desk_issuing.specs.Refusals.{StopsEncoding};
@@ -14,16 +14,16 @@ ghost use Rattle.cert_desk_issuing.specs.Refusals.{StopsEncoding};
 use crate::accepted::Accepted;
 use crate::role::Role;
 use crate::stop::Stop;
-use der_core::Error;
-use std::alloc::Global;
-use x509_cert::builder::{
+use cert_desk_checking::types::builder::{
     BuilderProfile, CertificateType, Error as BuilderError, Root, Subordinate, Subscriber,
     Tls12Options,
 };
-use x509_cert::{
+use cert_desk_checking::types::{
     Extension, Extensions, GeneralName, Ia5String, SubjectAltName, SubjectPublicKeyInfo,
     TbsCertificate, ToExtension,
 };
+use der_core::Error;
+use std::alloc::Global;
 
 /// The extensions that a profile adds to a part, of a key and its issuer's.
 fn extensions_by<P: BuilderProfile>(

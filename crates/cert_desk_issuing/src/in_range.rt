@@ -5,16 +5,16 @@
 ghost use Rattle.std.specs.List.{AllByRecursion};
 ghost use Rattle.der_core_head.specs.Grammar.{plain_option};
 ghost use Rattle.der_core_head.specs.Ranges.{IsInRange};
-ghost use Rattle.x509_cert.specs.Certificates.{algorithm_identifier, public_key_info};
-ghost use Rattle.x509_cert.specs.Views.{algorithm_plain, arc_bound, extension_plain, extensions_plain, key_plain, tbs_plain, time_value, validity_plain};
-ghost use Rattle.x509_cert_parts.specs.Grammar.{extension, time, validity};
+ghost use Rattle.cert_desk_checking.specs.Certificates.{algorithm_identifier, public_key_info};
+ghost use Rattle.cert_desk_checking.specs.Views.{algorithm_plain, arc_bound, extension_plain, extensions_plain, key_plain, tbs_plain, time_value, validity_plain};
+ghost use Rattle.cert_desk_orders.specs.Grammar.{extension, time, validity};
 ghost use Rattle.cert_desk_issuing.specs.Making.{IsPartInRange, extensions_field};
 
-use der_core::InRange;
-use x509_cert::{
+use cert_desk_checking::types::{
     AlgorithmIdentifier, Extension, Extensions, SubjectPublicKeyInfo, TbsCertificate, Time,
     Validity,
 };
+use der_core::InRange;
 
 fn algorithm_in_range(algorithm: &AlgorithmIdentifier)
     ensures { IsInRange (algorithm_identifier arc_bound) (algorithm_plain algorithm.now) }

@@ -1,7 +1,7 @@
 //! Why no chain is issued.
 
+use cert_desk_checking::types::builder::Error;
 use std::{error, fmt};
-use x509_cert::builder::Error;
 
 /// Why no chain is issued. A place is that of the order, counted from 0.
 #[derive(Debug, Drop)]

@@ -2,12 +2,12 @@
 
 ghost use Rattle.std.specs.Prelude.{◌≡◌, ◌-◌, ◌^◌};
 ghost use Rattle.der_core_head.specs.Grammar.{plain_list};
-ghost use Rattle.x509_cert.specs.Views.{arc_bound};
+ghost use Rattle.cert_desk_checking.specs.Views.{arc_bound, certificate_plain};
 ghost use Rattle.cert_desk_checking.specs.Chains.{Chain};
-ghost use Rattle.cert_desk_issuing.specs.Making.{written_plain};
+ghost use Rattle.cert_desk_issuing.specs.Making.{as_written};
 
+use cert_desk_checking::types::Certificate;
 use std::marker::Model;
-use x509_cert::Certificate;
 
 /// A chain that was issued: its certificates, the root first, and the stream that joins their encodings.
 ///
@@ -31,7 +31,7 @@ impl Model for Issued {
 impl Issued {
     /// The certificates, the root first.
     pub fn certificates(&self) -> &[Certificate]
-        ensures { plain_list written_plain result.now ≡ self.now.certificates }
+        ensures { plain_list (λ c. as_written (certificate_plain c)) result.now ≡ self.now.certificates }
     {
         self.certificates.as_slice()
     }

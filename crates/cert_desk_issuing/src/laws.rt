@@ -2,7 +2,11 @@
 ghost use Rattle.cert_desk_issuing.specs.Issuable.{IssuableIsIssued};
 ghost use Rattle.cert_desk_issuing.specs.Laws.{HeldIsTrusted, TrustedIsPermitted, HeldIsRefusedFor, IssuedIsTrusted, SignedIsSliced, SaysAsOrdered};
 
-use x509_cert::builder::Signer;
+pub use cert_desk_checking::laws::{
+    fault_stays, no_chain_with_a_fault, one_anchor_file, one_chain, one_fault, one_series,
+    one_series_fault, one_verdict,
+};
+use cert_desk_checking::types::builder::Signer;
 
 /// Of orders that are accepted, of which no signer may refuse a part, and whose lengths fit, none of
 /// the reasons to refuse them holds: only memory can be wanting.

@@ -23,6 +23,7 @@ mod role;
 mod running;
 mod stop;
 
+pub use cert_desk_checking::types::builder::{SignError, Signer};
 pub use cert_desk_orders::{Order, OrdersError, orders_in};
 pub use digest_signer::DigestSigner;
 pub use issue_error::IssueError;
@@ -30,4 +31,12 @@ pub use issue_status::IssueStatus;
 pub use issued::Issued;
 pub use issuing::issue;
 pub use running::{run_issue, run_orders};
-pub use x509_cert::builder::{SignError, Signer};
+
+// What judges a chain.
+pub use cert_desk_checking::{
+    AlgorithmIdentifier, Anchor, AnchorError, Arguments, BitString, Bundle, BundleError,
+    CertificateInner, CheckError, Checked, DeviceError, DigestJudge, Entry, FaultKind, FromRead,
+    Input, MemoryInput, MemoryOutput, Output, Raw, ReadAllError, ReadError, Rule, SignatureJudge,
+    Standing, Status, SubjectPublicKeyInfo, Time, ToWrite, TrustAnchorChoice, USAGE, Verdict,
+    check, read_all, run_check, write_all,
+};

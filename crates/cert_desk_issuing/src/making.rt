@@ -4,10 +4,10 @@ ghost use Rattle.std.specs.Prelude.{◌≡◌, ℕ, List, None, IfOk, IfErr, str
 ghost use Rattle.der_core_head.specs.declared.error.ErrorKind.TheVariants.{OutOfMemory};
 ghost use Rattle.der_core_head.specs.Grammar.{plain_list};
 ghost use Rattle.der_core_head.specs.Shapes.{IsValid, Spells, any};
-ghost use Rattle.x509_cert.specs.Certificates.{Tbs, certificate_octets, outer_algorithm, raw_certificate, signature_bits, tbs};
-ghost use Rattle.x509_cert.specs.Extensions.{general_names};
-ghost use Rattle.x509_cert.specs.Parts.{any_lent, tbs_certificate};
-ghost use Rattle.x509_cert.specs.Views.{algorithm_plain, arc_bound, tbs_plain};
+ghost use Rattle.cert_desk_checking.specs.Certificates.{Tbs, certificate_octets, outer_algorithm, raw_certificate, signature_bits, tbs};
+ghost use Rattle.cert_desk_checking.specs.Extensions.{general_names};
+ghost use Rattle.cert_desk_checking.specs.Parts.{any_lent, tbs_certificate};
+ghost use Rattle.cert_desk_checking.specs.Views.{algorithm_plain, arc_bound, tbs_plain};
 ghost use Rattle.cert_desk_issuing.specs.Making.{made_plain};
 ghost use Rattle.cert_desk_issuing.specs.Ordered.{dns_names, ordered_part, part_octets};
 ghost use Rattle.cert_desk_issuing.specs.PlainOrders.{IsReady, accepted_plain};
@@ -20,11 +20,13 @@ use crate::in_range::part_in_range;
 use crate::part::{bare_part, extended};
 use crate::role::Role;
 use crate::stop::Stop;
+use cert_desk_checking::types::builder::{SignError, Signer};
+use cert_desk_checking::types::{
+    AlgorithmIdentifier, AnyRef, BitString, Certificate, TbsCertificate,
+};
 use der_core::making::octets_in_range;
 use der_core::{Error, InRange, from_der, to_der};
 use std::alloc::Global;
-use x509_cert::builder::{SignError, Signer};
-use x509_cert::{AlgorithmIdentifier, AnyRef, BitString, Certificate, TbsCertificate};
 
 /// A certificate, and its octets.
 #[derive(Drop)]

@@ -1,14 +1,14 @@
 //! The signed parts of certificates.
 
 ghost use Rattle.std.specs.Prelude.{◌≡◌, IfOk};
-ghost use Rattle.x509_cert.specs.Views.{tbs_plain};
-ghost use Rattle.x509_cert.specs.Views.{algorithm_plain, extensions_plain, name_plain};
+ghost use Rattle.cert_desk_checking.specs.Views.{tbs_plain};
+ghost use Rattle.cert_desk_checking.specs.Views.{algorithm_plain, extensions_plain, name_plain};
 ghost use Rattle.cert_desk_issuing.specs.Ordered.{bare_part, with_extensions};
 ghost use Rattle.cert_desk_issuing.specs.PlainOrders.{accepted_plain};
 
 use crate::accepted::Accepted;
+use cert_desk_checking::types::{AlgorithmIdentifier, Extensions, Name, TbsCertificate, Version};
 use std::alloc::{AllocError, Global};
-use x509_cert::{AlgorithmIdentifier, Extensions, Name, TbsCertificate, Version};
 
 /// The part that is to be signed of the certificate that an order asks for, but for its extensions. Unique identifiers are never made
 /// (RFC 5280 4.1.2.8).

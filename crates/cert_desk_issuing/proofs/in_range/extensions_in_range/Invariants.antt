@@ -2,8 +2,8 @@
 use Rattle.std.proofs.Common.{drop}
 use Rattle.std.specs.List.{AllByRecursion}
 use Rattle.der_core_head.specs.Ranges.{IsInRange}
-use Rattle.x509_cert.specs.Views.{arc_bound, extensions_plain}
-use Rattle.x509_cert_parts.specs.Grammar.{extension}
+use Rattle.cert_desk_checking.specs.Views.{arc_bound, extensions_plain}
+use Rattle.cert_desk_orders.specs.Grammar.{extension}
 use Rattle.cert_desk_issuing.proofs.in_range.extensions_in_range.Given as goal
 
 abbrev pub invariant-loop-one : goal.invariant-loop-one

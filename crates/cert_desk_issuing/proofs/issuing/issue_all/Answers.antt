@@ -1,5 +1,7 @@
 use Rattle.std.proofs.Common.{sym, subst}
 use Rattle.cert_desk_issuing.specs.declared.issue_error.IssueError.{IssueError}
+use Rattle.cert_desk_checking.specs.Views.{certificate_plain}
+use Rattle.cert_desk_issuing.specs.Making.{as_written}
 use Rattle.cert_desk_issuing.specs.PlainOrders.{orders_plain}
 use Rattle.cert_desk_issuing.specs.Refusals.{Refuses}
 use Rattle.cert_desk_issuing.proofs.IssuedFronts.{made_more, stopped}
@@ -14,7 +16,7 @@ returns-in-Err-clause-stopped g c = λ orders accepted.
 
 pub loop-place-preserved : goal.loop-place-preserved
 loop-place-preserved g c =
-    let more = made_more g.S.Signer.signs_by g.S.Signer.signs (orders_plain c.args.accepted.now) c.args.signers.now c.loop-place.certificates.items c.push.new.self.items c.in-Ok.made.certificate c.loop-place.place
+    let more = made_more g.S.Signer.signs_by g.S.Signer.signs (orders_plain c.args.accepted.now) c.args.signers.now (λ c. as_written (certificate_plain c)) c.loop-place.certificates.items c.push.new.self.items c.in-Ok.made.certificate c.loop-place.place
     c.loop-place.stream.items c.append.new.self.items c.in-Ok.made.octets.items c.in-Ok-push.ensures.items c.in-Ok-append.ensures.items c.loop-place.invariant.count c.loop-place.invariant.front
     c.in-Ok.ensures.ordered c.in-Ok.ensures.signed c.in-Ok.ensures.stands c.in-Ok.ensures.octets in
     record { count = more.0; front = more.1 }

@@ -1,7 +1,8 @@
 -- So many certificates are issued.
 use Rattle.std.proofs.Common.{◌≡◌, length}
 use Rattle.der_core_head.specs.Grammar.{plain_list}
-use Rattle.cert_desk_issuing.specs.Making.{written_plain}
+use Rattle.cert_desk_checking.specs.Views.{certificate_plain}
+use Rattle.cert_desk_issuing.specs.Making.{as_written}
 use Rattle.cert_desk_issuing.specs.PlainOrders.{orders_plain}
 use Rattle.cert_desk_issuing.proofs.IssuedFronts.{IsFront}
 use Rattle.cert_desk_issuing.proofs.issuing.issue_all.Given as goal
@@ -9,5 +10,5 @@ use Rattle.cert_desk_issuing.proofs.issuing.issue_all.Given as goal
 abbrev pub invariant-loop-place : goal.invariant-loop-place
 invariant-loop-place g l = record {
   count : length l.certificates.items ≡ l.place;
-  front : IsFront g.S.Signer.signs_by g.S.Signer.signs (orders_plain l.accepted) l.signers (plain_list written_plain l.certificates.items) l.stream.items;
+  front : IsFront g.S.Signer.signs_by g.S.Signer.signs (orders_plain l.accepted) l.signers (plain_list (λ c. as_written (certificate_plain c)) l.certificates.items) l.stream.items;
 }

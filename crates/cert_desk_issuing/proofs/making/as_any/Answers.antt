@@ -1,5 +1,5 @@
 use Rattle.std.proofs.Common.{refl}
-use Rattle.x509_cert.specs.Parts.{any_lent}
+use Rattle.cert_desk_checking.specs.Parts.{any_lent}
 use Rattle.cert_desk_issuing.proofs.SignedParts.{given_err, part_any, part_spelled}
 use Rattle.cert_desk_issuing.proofs.making.as_any.Goals as goal
 

@@ -1,8 +1,8 @@
 use Rattle.std.proofs.Common.{◌≡◌, ℕ, List, refl, sym, ap, ◌∙◌, subst, string_bytes}
 use Rattle.der_core_head.specs.Grammar.{plain_list}
 use Rattle.der_core_head.specs.Shapes.{IsValid}
-use Rattle.x509_cert.specs.Certificates.{Algorithm, PlainCertificate, certificate_octets, raw_certificate, tbs}
-use Rattle.x509_cert.specs.Views.{algorithm_plain, arc_bound, tbs_plain}
+use Rattle.cert_desk_checking.specs.Certificates.{Algorithm, PlainCertificate, certificate_octets, raw_certificate, tbs}
+use Rattle.cert_desk_checking.specs.Views.{algorithm_plain, arc_bound, tbs_plain}
 use Rattle.cert_desk_issuing.specs.Ordered.{ordered_part, part_octets}
 use Rattle.cert_desk_issuing.specs.PlainOrders.{accepted_plain}
 use Rattle.cert_desk_issuing.specs.Refusals.{Stops}

@@ -1,6 +1,6 @@
 use Rattle.std.proofs.Common.{List, ap, ◌∙◌}
-use Rattle.x509_cert.specs.Certificates.{PlainExtension, Tbs, tbs_subject}
-use Rattle.x509_cert.specs.Views.{algorithm_plain, extensions_plain}
+use Rattle.cert_desk_checking.specs.Certificates.{PlainExtension, Tbs, tbs_subject}
+use Rattle.cert_desk_checking.specs.Views.{algorithm_plain, extensions_plain}
 use Rattle.cert_desk_issuing.specs.Ordered.{bare_part, with_extensions}
 use Rattle.cert_desk_issuing.specs.PlainOrders.{accepted_plain}
 use Rattle.cert_desk_issuing.proofs.making.part_for.Goals as goal

@@ -1,9 +1,9 @@
 use Rattle.std.proofs.Common.{Ok, refl, sym, ◌∙◌}
 use Rattle.std.proofs.lemmas.Result.{err_from_is_err_and}
 use Rattle.der_core_head.specs.Shapes.{octets_of}
-use Rattle.x509_cert.specs.Certificates.{raw_certificate}
-use Rattle.x509_cert.specs.Parts.{any_lent}
-use Rattle.x509_cert.specs.Views.{algorithm_plain, arc_bound}
+use Rattle.cert_desk_checking.specs.Certificates.{raw_certificate}
+use Rattle.cert_desk_checking.specs.Parts.{any_lent}
+use Rattle.cert_desk_checking.specs.Views.{algorithm_plain, arc_bound}
 use Rattle.cert_desk_issuing.specs.Assembling.{assembled}
 use Rattle.cert_desk_issuing.proofs.SignedParts.{assembled_valid, only_memory, stops_encoding, whole_octets, whole_valid}
 use Rattle.cert_desk_issuing.proofs.making.whole_of.Goals as goal

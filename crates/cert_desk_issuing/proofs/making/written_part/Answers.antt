@@ -2,8 +2,8 @@ use Rattle.std.proofs.Common.{Ok, Some, None, refl, string_bytes}
 use Rattle.std.proofs.lemmas.Result.{err_from_is_err_and}
 use Rattle.der_core_head.specs.Grammar.{plain_list}
 use Rattle.der_core_head.specs.Shapes.{octets_of}
-use Rattle.x509_cert.specs.Parts.{tbs_certificate}
-use Rattle.x509_cert.specs.Views.{algorithm_plain, arc_bound, tbs_plain}
+use Rattle.cert_desk_checking.specs.Parts.{tbs_certificate}
+use Rattle.cert_desk_checking.specs.Views.{algorithm_plain, arc_bound, tbs_plain}
 use Rattle.cert_desk_issuing.specs.Ordered.{ordered_part}
 use Rattle.cert_desk_issuing.specs.PlainOrders.{accepted_plain}
 use Rattle.cert_desk_issuing.proofs.SignedParts.{names_stop, part_spelled_out, part_stops, part_valid, part_written, respelled_part, stops_encoding}

@@ -1,5 +1,5 @@
 use Rattle.std.proofs.Common.{◌≡◌, List, map, true, ap, ◌∙◌, subst}
-use Rattle.x509_cert.specs.Certificates.{PublicKey}
+use Rattle.cert_desk_checking.specs.Certificates.{PublicKey}
 use Rattle.cert_desk_issuing.specs.Chains.{IssuedChain}
 use Rattle.cert_desk_issuing.specs.DigestSigners.{digest_algorithm, IsDigestOf}
 use Rattle.cert_desk_issuing.specs.Issuable.{AreIssuable}

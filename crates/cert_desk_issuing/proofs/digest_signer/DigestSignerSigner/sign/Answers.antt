@@ -1,7 +1,7 @@
 use Rattle.std.proofs.Common.{◌≡◌, [], ◌++◌, ap, ◌∙◌}
 use Rattle.sha2.specs.Sha256.{sha256}
-use Rattle.x509_cert.specs.Certificates.{key_bits}
-use Rattle.x509_cert.specs.Views.{key_plain}
+use Rattle.cert_desk_checking.specs.Certificates.{key_bits}
+use Rattle.cert_desk_checking.specs.Views.{key_plain}
 use Rattle.cert_desk_issuing.proofs.DigestSigns.{digest_signs}
 use Rattle.cert_desk_issuing.proofs.digest_signer.DigestSignerSigner.sign.Goals as goal
 

@@ -1,0 +1,2 @@
+-- What words ask for a check, passed on.
+pub use Rattle.cert_desk_checking.specs.Arguments.{AskCheck, AskNoCheck}
