@@ -1,14 +1,21 @@
 -- Extensions that are looked for by their identifiers.
-use Rattle.std.proofs.Common.{◌≡◌, ℕ, ◌+◌, ◌<◌, ◌≤◌, List, [], ◌∷◌, ◌++◌, Bool, true, false, ◌&&◌, ◌||◌, length, get_or, drop, refl, sym, ap, ◌∙◌, arith}
+use Rattle.std.proofs.Common.{◌≡◌, ℕ, ◌+◌, ◌<◌, ◌≤◌, List, [], ◌∷◌, ◌++◌, Bool, true, false, ◌&&◌, ◌||◌, Result, Ok, Err, length, get_or, slice_index_or, drop, refl, sym, ap, ◌∙◌, arith}
+use Rattle.std.specs.Cmp.Lexicographic.{bytes_decides}
 use Rattle.std.specs.List.{list_any}
+use Rattle.std.specs.Prelude.{nat_eq, bytes_eq, IfOk}
+use Rattle.const_oid_identifiers.specs.Comparing.{owned_eq}
 use Rattle.std.proofs.lemmas.List.{at_drop_more, at_drop_all}
 use Rattle.const_oid_identifiers.specs.Digits.{marked}
 use Rattle.const_oid_identifiers.specs.IdentifierOctets.{arc_octets, identifier_octets}
 use Rattle.const_oid_identifiers.proofs.DigitLaws.{digits-one}
 use Rattle.der_core_head.specs.Grammar.{plain_list}
 use Rattle.x509_cert.specs.Certificates.{PlainExtension}
+use Rattle.cert_desk_checking.specs.declared.weight.Weight.{Weight}
+use Rattle.cert_desk_checking.specs.declared.weight.Weight.TheVariants as weights
+use Rattle.cert_desk_checking.specs.Findings.{weight_of}
 use Rattle.cert_desk_checking.specs.Judging.{are_distinct, is_alone}
-use Rattle.cert_desk_checking.specs.Weighing.{any_purpose, certificate_extension}
+use Rattle.cert_desk_checking.specs.Weighing.{Meaning, any_purpose, certificate_extension, malformed}
+use Rattle.cert_desk_checking.proofs.Folds.{and_yes}
 
 -- an arc of less than 128 is one octet
 arc_octets-small : (n : ℕ) → n < 128 → arc_octets n ≡ n ∷ []
@@ -21,6 +28,37 @@ unfolding identifier_octets
 numbered_octets n h =
     ap (λ (w : List ℕ). 0x55 ∷ (w ++ (arc_octets n ++ []))) (arc_octets-small 29 (omega arith))
     ∙ ap (λ (w : List ℕ). 0x55 ∷ 0x1d ∷ (w ++ [])) (arc_octets-small n h)
+
+-- an identifier, known by its octets
+by_octets : (arcs w : List ℕ) (n : ℕ) → w ≡ identifier_octets arcs → n < 128 → owned_eq arcs (certificate_extension n) ≡ bytes_eq w (0x55 ∷ 0x1d ∷ n ∷ [])
+by_octets arcs w n is h = ap (λ (v : List ℕ). bytes_eq v (identifier_octets (certificate_extension n))) (sym is) ∙ ap (bytes_eq w) (numbered_octets n h)
+
+third : (w : List ℕ) (n : ℕ) → length w ≡ 3 → slice_index_or w 0 0 ≡ 0x55 → slice_index_or w 1 0 ≡ 0x1d → bytes_eq w (0x55 ∷ 0x1d ∷ n ∷ []) ≡ nat_eq (slice_index_or w 2 0) n
+third [] n l a b = absurd (omega (arith, l))
+third (x ∷ []) n l a b = absurd (omega (arith, l))
+third (x ∷ y ∷ []) n l a b = absurd (omega (arith, l))
+third (x ∷ y ∷ z ∷ []) n l a b =
+    ap (λ m. nat_eq m 0x55 && (nat_eq y 0x1d && (nat_eq z n && true))) a ∙ ap (λ m. nat_eq m 0x1d && (nat_eq z n && true)) b ∙ sym (and_yes (nat_eq z n))
+third (x ∷ y ∷ z ∷ t ∷ w) n l a b = absurd (omega (arith, l))
+
+-- it is the number of its third octet below 2.5.29
+pub numbered_by : (arcs w : List ℕ) (n : ℕ) → w ≡ identifier_octets arcs → n < 128 → length w ≡ 3 → slice_index_or w 0 0 ≡ 0x55 → slice_index_or w 1 0 ≡ 0x1d
+    → owned_eq arcs (certificate_extension n) ≡ nat_eq (slice_index_or w 2 0) n
+numbered_by arcs w n is h l a b = by_octets arcs w n is h ∙ third w n l a b
+
+not_so : (b : Bool) → (b ≡ true → ⊥) → b ≡ false
+not_so true h = absurd (h refl)
+not_so false h = refl
+
+-- it is none
+pub not_numbered : (arcs w : List ℕ) (n : ℕ) → w ≡ identifier_octets arcs → n < 128 → (w ≡ 0x55 ∷ 0x1d ∷ n ∷ [] → ⊥) → owned_eq arcs (certificate_extension n) ≡ false
+not_numbered arcs w n is h other = by_octets arcs w n is h ∙ not_so (bytes_eq w (0x55 ∷ 0x1d ∷ n ∷ [])) (λ e. other ((bytes_decides w (0x55 ∷ 0x1d ∷ n ∷ [])).0 e))
+
+-- the weight of what was refused
+pub malformed_as : {E P : Type 0} (r : Result Weight E) (m : Meaning) → IfOk r (λ weight. (weight ≡ weights.Malformed) × P) → (P → m ≡ malformed)
+    → IfOk r (λ weight. (p : List ℕ) → weight ≡ weight_of p m)
+malformed_as (Ok weight) m h k = λ p. h.0 ∙ ap (weight_of p) (sym (k h.1))
+malformed_as (Err fault) m h k = h
 
 -- the purpose that stands for any
 pub any_octets : identifier_octets any_purpose ≡ 0x55 ∷ 0x1d ∷ 0x25 ∷ 0x00 ∷ []

@@ -1,5 +1,5 @@
 -- Tests on what a fold gathers, and on whole numbers.
-use Rattle.std.proofs.Common.{◌≡◌, ℕ, ◌+◌, ◌≤◌, List, [], ◌∷◌, Bool, true, false, ◌&&◌, ◌||◌, min, inl, inr, refl, sym, ap, ◌∙◌, arith}
+use Rattle.std.proofs.Common.{◌≡◌, ℕ, ◌≤◌, List, [], ◌∷◌, Bool, true, false, ◌&&◌, ◌||◌, min, inl, inr, refl, sym, ap, ◌∙◌, arith}
 use Rattle.std.specs.Prelude.{nat_le}
 use Rattle.std.specs.List.{fold, list_all, list_any}
 use Rattle.std.proofs.lemmas.Bool.{le-leb, lt-leb}
@@ -42,11 +42,6 @@ fold_and told test step adds s [] = and_yes (told s)
 fold_and told test step adds s (x ∷ xs) =
     fold_and told test step adds (step s x) xs ∙ ap (λ b. b && list_all test xs) (adds s x) ∙ and_in_turn (told s) (test x) (list_all test xs)
 
--- two tests that say the same of each
-pub all_same : {A : Type 0} (test other : A → Bool) (xs : List A) → ((x : A) → test x ≡ other x) → list_all test xs ≡ list_all other xs
-all_same test other [] same = refl
-all_same test other (x ∷ xs) same = ap (λ b. b && list_all test xs) (same x) ∙ ap (λ b. other x && b) (all_same test other xs same)
-
 -- tests on numbers that say the same
 pub le_same : (a b c d : ℕ) → (a ≤ b → c ≤ d) → (c ≤ d → a ≤ b) → nat_le a b ≡ nat_le c d
 le_same a b c d on back =
@@ -58,22 +53,9 @@ le_same a b c d on back =
       ]
     ]
 
-pub le_shifted : (c a b : ℕ) → nat_le a b ≡ nat_le (c + a) (c + b)
-le_shifted c a b = le_same a b (c + a) (c + b) (λ h. omega (arith, h)) (λ h. omega (arith, h))
-
 pub le_min : (n a b : ℕ) → nat_le n (min a b) ≡ (nat_le n a && nat_le n b)
 le_min n a b =
     elim (leb_tells n a) [
       | inl below ↦ le_same n (min a b) n b (λ h. omega (arith, h)) (λ h. omega (arith, h, below.1)) ∙ ap (λ c. c && nat_le n b) (sym below.0)
       | inr above ↦ lt-leb n (min a b) (omega (arith, above.1)) ∙ ap (λ c. c && nat_le n b) (sym above.0)
     ]
-
--- a greatest number changes nothing below it
-pub le_capped : (cap n a : ℕ) → n ≤ cap → nat_le n (min a cap) ≡ nat_le n a
-le_capped cap n a h = le_same n (min a cap) n a (λ k. omega (arith, k)) (λ k. omega (arith, k, h))
-
-pub le_top : (top n : ℕ) → n ≤ top → nat_le n top ≡ true
-le_top top n h = le-leb n top h
-
-pub min_behind : (c a b : ℕ) → (c + min a b) ≡ min (c + a) (c + b)
-min_behind c a b = omega arith

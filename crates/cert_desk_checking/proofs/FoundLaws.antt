@@ -1,13 +1,12 @@
 -- What was gathered of extensions, by the definitions of what they say.
-use Rattle.std.proofs.Common.{◌≡◌, ℕ, ◌+◌, List, Bool, ◌&&◌, ◌||◌, Option, Some, None, nat_le, refl, ap, ◌∙◌}
+use Rattle.std.proofs.Common.{◌≡◌, ℕ, List, Bool, ◌&&◌, ◌||◌, Option, Some, None, nat_le, refl, ap, ◌∙◌}
 use Rattle.std.specs.List.{list_all, list_any}
-use Rattle.der_core_head.specs.Grammar.{plain_option}
 use Rattle.x509_cert.specs.Certificates.{PlainExtension, is_critical}
 use Rattle.cert_desk_checking.specs.declared.findings.Findings.{Findings}
 use Rattle.cert_desk_checking.specs.Findings.{add, add_extension, found, no_findings, shorter, weight_of}
 use Rattle.cert_desk_checking.specs.Paths.{is_within}
 use Rattle.cert_desk_checking.specs.Weighing.{Meaning, uses, other_names, constraints, purposes, malformed, unweighed, is_authority, is_malformed, is_unweighed, is_unweighed_critical, may_certify, path_length, serves, weigh}
-use Rattle.cert_desk_checking.proofs.Folds.{and_no, and_yes, fold_and, fold_or, le_min, min_behind, or_no, or_yes}
+use Rattle.cert_desk_checking.proofs.Folds.{and_no, and_yes, fold_and, fold_or, le_min, or_no, or_yes}
 
 -- what one extension more adds
 module _ (purpose : List ℕ) (f : Findings) (critical : Bool) where
@@ -51,23 +50,19 @@ module _ (purpose : List ℕ) (f : Findings) (critical : Bool) where
   adds_certifies malformed = and_yes f.certifies
   adds_certifies unweighed = and_yes f.certifies
 
--- so many places, of which some came before, are within a path length
-abbrev pub fits : ℕ → ℕ → Option ℕ → Bool
-fits before n p = is_within n (plain_option (λ most. before + most) p)
+pub within_shorter : (n : ℕ) (p q : Option ℕ) → is_within n (shorter p q) ≡ (is_within n p && is_within n q)
+within_shorter n None q = refl
+within_shorter n (Some p) None = and_yes (nat_le n p)
+within_shorter n (Some p) (Some q) = le_min n p q
 
-fits_shorter : (before n : ℕ) (p q : Option ℕ) → fits before n (shorter p q) ≡ (fits before n p && fits before n q)
-fits_shorter before n None q = refl
-fits_shorter before n (Some p) None = and_yes (nat_le n (before + p))
-fits_shorter before n (Some p) (Some q) = ap (λ m. nat_le n m) (min_behind before p q) ∙ le_min n (before + p) (before + q)
-
-adds_length : (purpose : List ℕ) (before n : ℕ) (f : Findings) (critical : Bool) (m : Meaning)
-    → fits before n (add f critical (weight_of purpose m)).path_len ≡ (fits before n f.path_len && fits before n (path_length m))
-adds_length purpose before n f critical (uses set) = and_yes (fits before n f.path_len)
-adds_length purpose before n f critical (other_names names) = and_yes (fits before n f.path_len)
-adds_length purpose before n f critical (constraints ca p) = fits_shorter before n f.path_len p
-adds_length purpose before n f critical (purposes listed) = and_yes (fits before n f.path_len)
-adds_length purpose before n f critical malformed = and_yes (fits before n f.path_len)
-adds_length purpose before n f critical unweighed = and_yes (fits before n f.path_len)
+adds_length : (purpose : List ℕ) (n : ℕ) (f : Findings) (critical : Bool) (m : Meaning)
+    → is_within n (add f critical (weight_of purpose m)).path_len ≡ (is_within n f.path_len && is_within n (path_length m))
+adds_length purpose n f critical (uses set) = and_yes (is_within n f.path_len)
+adds_length purpose n f critical (other_names names) = and_yes (is_within n f.path_len)
+adds_length purpose n f critical (constraints ca p) = within_shorter n f.path_len p
+adds_length purpose n f critical (purposes listed) = and_yes (is_within n f.path_len)
+adds_length purpose n f critical malformed = and_yes (is_within n f.path_len)
+adds_length purpose n f critical unweighed = and_yes (is_within n f.path_len)
 
 -- all of them
 module _ (bound : ℕ) (purpose : List ℕ) (es : List PlainExtension) where
@@ -91,7 +86,6 @@ module _ (bound : ℕ) (purpose : List ℕ) (es : List PlainExtension) where
   found_certifies =
       fold_and (λ f. f.certifies) (λ e. may_certify (weigh bound e)) (add_extension bound purpose) (λ f e. adds_certifies purpose f (is_critical e) (weigh bound e)) no_findings es
 
-  pub found_length : (before n : ℕ) → fits before n (found bound purpose es).path_len ≡ list_all (λ e. fits before n (path_length (weigh bound e))) es
-  found_length before n =
-      fold_and (λ f. fits before n f.path_len) (λ e. fits before n (path_length (weigh bound e))) (add_extension bound purpose)
-      (λ f e. adds_length purpose before n f (is_critical e) (weigh bound e)) no_findings es
+  pub found_length : (n : ℕ) → is_within n (found bound purpose es).path_len ≡ list_all (λ e. is_within n (path_length (weigh bound e))) es
+  found_length n =
+      fold_and (λ f. is_within n f.path_len) (λ e. is_within n (path_length (weigh bound e))) (add_extension bound purpose) (λ f e. adds_length purpose n f (is_critical e) (weigh bound e)) no_findings es

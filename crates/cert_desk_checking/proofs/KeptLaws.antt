@@ -1,21 +1,21 @@
 -- The rules that a certificate keeps, by what was found in it and in the places before.
-use Rattle.std.proofs.Common.{◌≡◌, ℕ, ◌+◌, ◌<◌, ◌^◌, List, Bool, true, false, not, ◌&&◌, ◌||◌, Option, Some, None, nat_lt, slice_get, sym, ap, ◌∙◌, arith}
+use Rattle.std.proofs.Common.{◌≡◌, ℕ, ◌<◌, List, Bool, true, false, not, ◌&&◌, ◌||◌, Option, Some, None, slice_get, sym, ap, ◌∙◌, arith}
 use Rattle.std.specs.List.{list_any}
 use Rattle.std.specs.Option.{option_map_or}
 use Rattle.x509_cert.specs.Certificates.{PlainCertificate, extensions_of}
 use Rattle.cert_desk_checking.specs.declared.findings.Findings.{Findings}
 use Rattle.cert_desk_checking.specs.declared.kept_rules.KeptRules.{KeptRules}
-use Rattle.cert_desk_checking.specs.declared.path_count.PathCount.{PathCount}
+use Rattle.cert_desk_checking.specs.declared.path_room.PathRoom.{PathRoom}
 use Rattle.cert_desk_checking.specs.declared.rule.Rule.{Rule}
 use Rattle.cert_desk_checking.specs.declared.rule.Rule.TheVariants as rules
-use Rattle.cert_desk_checking.specs.Findings.{IsCount, found}
+use Rattle.cert_desk_checking.specs.Findings.{IsRoom, found}
 use Rattle.cert_desk_checking.specs.Judging.{Terms, keeps_at, number}
 use Rattle.cert_desk_checking.specs.KeptRules.{IsFirstOf, kept_by}
-use Rattle.cert_desk_checking.specs.Paths.{counts, is_last, is_self_issued, is_within_lengths}
+use Rattle.cert_desk_checking.specs.Paths.{counts, is_last, is_self_issued, is_within}
 use Rattle.cert_desk_checking.specs.Places.{IsFirstUnsigned}
 use Rattle.cert_desk_checking.specs.Weighing.{is_authority, weigh}
 use Rattle.cert_desk_checking.proofs.FoundLaws.{found_ca, found_certifies, found_malformed, found_serves, found_unweighed}
-use Rattle.cert_desk_checking.proofs.PathLaws.{counted_has_room, not_counted}
+use Rattle.cert_desk_checking.proofs.PathLaws.{within_room}
 use Rattle.cert_desk_checking.proofs.PlaceLaws.{keeps_at-is}
 
 -- what was tested is what the rules say
@@ -49,13 +49,7 @@ pub counts-is : (bound : ℕ) (cs : List PlainCertificate) (place : ℕ) (c : Pl
     → counts bound cs place ≡ (not (is_last cs place) && not (is_self_issued bound c))
 counts-is bound cs place c e = ap (λ o. not (is_last cs place) && option_map_or (λ c. not (is_self_issued bound c)) o false) e
 
--- a count of the path that has room where it needs it
-has_room : (bound : ℕ) (cs : List PlainCertificate) (place : ℕ) (paths : PathCount) (b : Bool) → counts bound cs place ≡ b → IsCount bound cs place paths → paths.counted + 1 < 2 ^ 64
-    → is_within_lengths bound cs place ≡ (not b || nat_lt paths.counted paths.most)
-has_room bound cs place paths true e h fits = counted_has_room bound cs place paths h fits e
-has_room bound cs place paths false e h fits = not_counted bound cs place e
-
--- what the extensions and the count say of the rules
+-- what the extensions and the room say of the rules
 module _ (t : Terms) (cs : List PlainCertificate) (stream : List ℕ) (place : ℕ) (c : PlainCertificate) (is : slice_get cs place ≡ Some c) (f : Findings) (e : f ≡ found t.bound t.purpose (extensions_of c)) where
   pub keeps_well_formed : not f.malformed ≡ keeps_at rules.MalformedExtension t cs stream place
   keeps_well_formed =
@@ -76,7 +70,6 @@ module _ (t : Terms) (cs : List PlainCertificate) (stream : List ℕ) (place : �
       ∙ ap (λ b. is_last cs place || (list_any (λ x. is_authority (weigh t.bound x)) (extensions_of c) && b)) (found_certifies t.bound t.purpose (extensions_of c))
       ∙ sym (keeps_at-is rules.NotAuthority t cs stream place c is)
 
-  pub keeps_within : (paths : PathCount) (b : Bool) → b ≡ counts t.bound cs place → IsCount t.bound cs place paths → paths.counted + 1 < 2 ^ 64
-      → (not b || nat_lt paths.counted paths.most) ≡ keeps_at rules.PathTooLong t cs stream place
-  keeps_within paths b same h fits =
-      sym (has_room t.bound cs place paths b (sym same) h fits) ∙ sym (keeps_at-is rules.PathTooLong t cs stream place c is)
+  pub keeps_within : (room : PathRoom) (b : Bool) → b ≡ counts t.bound cs place → IsRoom t.bound cs place room
+      → (not b || is_within 1 room.left) ≡ keeps_at rules.PathTooLong t cs stream place
+  keeps_within room b same h = sym (within_room t.bound cs place room b (sym same) h) ∙ sym (keeps_at-is rules.PathTooLong t cs stream place c is)

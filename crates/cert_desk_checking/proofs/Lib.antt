@@ -31,3 +31,4 @@ pub mod ArgumentLaws
 pub mod RunLaws
 pub mod AnchorLaws
 pub mod OneAnchorFile
+pub mod SameNames

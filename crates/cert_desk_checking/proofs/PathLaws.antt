@@ -1,103 +1,91 @@
--- The count of a path, and the path lengths counted afresh at each place.
-use Rattle.std.proofs.Common.{◌≡◌, ℕ, zero, suc, ◌+◌, ◌-◌, ◌<◌, ◌≤◌, ◌^◌, List, [], Bool, true, false, cond, not, ◌&&◌, ◌||◌, min, Option, Some, None, nat_le, nat_lt, slice_get, refl, sym, ap, ◌∙◌, subst, arith}
+-- The room that path lengths leave, and the places that count behind each of them.
+use Rattle.std.proofs.Common.{◌≡◌, ℕ, zero, suc, ◌+◌, ◌-◌, ◌<◌, List, [], Bool, true, false, cond, not, ◌&&◌, ◌||◌, Option, Some, None, nat_le, slice_get, refl, sym, ap, ◌∙◌, subst, arith}
 use Rattle.std.specs.List.{list_all}
-use Rattle.std.specs.Option.{option_map_or}
+use Rattle.std.specs.Option.{is_some, option_map_or}
+use Rattle.std.proofs.lemmas.Bool.{leb-true}
 use Rattle.x509_cert.specs.Certificates.{PlainCertificate, extensions_of}
-use Rattle.cert_desk_checking.specs.declared.path_count.PathCount.{PathCount}
-use Rattle.cert_desk_checking.specs.Findings.{IsCount, add_place, allows_at, allows_below, counted_below, found, most_behind, no_places}
+use Rattle.cert_desk_checking.specs.declared.path_room.PathRoom.{PathRoom}
+use Rattle.cert_desk_checking.specs.Findings.{IsRoom, add_place, allow, found, left_by, no_places, shorter}
 use Rattle.cert_desk_checking.specs.Paths.{counted, counts, extensions_at, is_within, is_within_lengths, keep_lengths, keeps_length}
 use Rattle.cert_desk_checking.specs.Weighing.{path_length, weigh}
-use Rattle.cert_desk_checking.proofs.Folds.{all_same, and_yes, le_capped, le_min, le_shifted, le_top}
-use Rattle.cert_desk_checking.proofs.FoundLaws.{fits, found_length}
+use Rattle.cert_desk_checking.proofs.Folds.{le_same, or_yes}
+use Rattle.cert_desk_checking.proofs.FoundLaws.{found_length, within_shorter}
 
--- counted from a place on, and up to it
-counted_in_turn : (bound : ℕ) (cs : List PlainCertificate) (from n : ℕ) → counted_below bound cs (from + n) ≡ counted_below bound cs from + counted bound cs from n
-counted_in_turn bound cs from zero =
+-- of the places from one on, that one and those behind it
+counted_first : (bound : ℕ) (cs : List PlainCertificate) (from n : ℕ) → counted bound cs from (suc n) ≡ cond (counts bound cs from) 1 0 + counted bound cs (suc from) n
+counted_first bound cs from zero =
     let same : from + 0 ≡ from = omega arith in
-    ap (counted_below bound cs) same ∙ omega arith
-counted_in_turn bound cs from (suc n) =
-    let next : from + suc n ≡ suc (from + n) = omega arith in
-    let before = counted_in_turn bound cs from n in
-    ap (counted_below bound cs) next ∙ omega (arith, before)
-
-counted_small : (n : ℕ) (b : Bool) → cond b 1 0 ≤ 1
-counted_small n true = omega arith
-counted_small n false = omega arith
-
-pub counted_within : (bound : ℕ) (cs : List PlainCertificate) (place : ℕ) → counted_below bound cs place ≤ place
-counted_within bound cs zero = omega arith
-counted_within bound cs (suc place) =
-    let before = counted_within bound cs place in
-    let here = counted_small place (counts bound cs place) in
-    omega (arith, before, here)
-
--- of the places up to another one, those behind a place
-counted_behind : (bound : ℕ) (cs : List PlainCertificate) (place other : ℕ) → place < suc other
-    → counted_below bound cs (suc other) ≡ counted_below bound cs (suc place) + counted bound cs (place + 1) (other - place)
-counted_behind bound cs place other h =
-    let up_to : suc other ≡ suc place + (other - place) = omega (arith, h) in
-    let behind : suc place ≡ place + 1 = omega arith in
-    ap (counted_below bound cs) up_to ∙ counted_in_turn bound cs (suc place) (other - place)
-    ∙ ap (λ m. counted_below bound cs (suc place) + counted bound cs m (other - place)) behind
-
-within_shifted : (before n all : ℕ) (p : Option ℕ) → all ≡ before + n → is_within n p ≡ fits before all p
-within_shifted before n all None e = refl
-within_shifted before n all (Some most) e = le_shifted before n most ∙ ap (λ m. nat_le m (before + most)) (sym e)
+    ap (λ m. 0 + cond (counts bound cs m) 1 0) same ∙ omega arith
+counted_first bound cs from (suc n) =
+    let next : from + suc n ≡ suc from + n = omega arith in
+    let before = counted_first bound cs from n in
+    ap (λ m. counted bound cs from (suc n) + cond (counts bound cs m) 1 0) next ∙ omega (arith, before)
 
 keep_lengths-is : (bound : ℕ) (cs : List PlainCertificate) (place other : ℕ) → place < suc other
-    → keep_lengths bound cs place other ≡ allows_below bound cs place (counted_below bound cs (suc other))
+    → keep_lengths bound cs place other ≡ allow bound cs place (counted bound cs place (suc other - place))
 keep_lengths-is bound cs zero other h = refl
 keep_lengths-is bound cs (suc place) other h =
-    let below : place < suc other = omega (arith, h) in
-    let all = counted_below bound cs (suc other) in
-    let here : keeps_length bound cs place other ≡ allows_at bound cs place all =
-    all_same (λ e. is_within (counted bound cs (place + 1) (other - place)) (path_length (weigh bound e))) (λ e. fits (counted_below bound cs (suc place)) all (path_length (weigh bound e)))
-    (extensions_at cs place)
-    (λ e. within_shifted (counted_below bound cs (suc place)) (counted bound cs (place + 1) (other - place)) all (path_length (weigh bound e)) (counted_behind bound cs place other below)) in
-    ap (λ b. b && keeps_length bound cs place other) (keep_lengths-is bound cs place other below)
-    ∙ ap (λ b. allows_below bound cs place all && b) here
+    let one : ℕ = cond (counts bound cs place) 1 0 in
+    let behind : ℕ = counted bound cs (suc place) (suc other - suc place) in
+    let next : place + 1 ≡ suc place = omega arith in
+    let many : other - place ≡ suc other - suc place = omega arith in
+    let more : suc other - place ≡ suc (suc other - suc place) = omega (arith, h) in
+    let same : counted bound cs (place + 1) (other - place) ≡ behind = ap (λ m. counted bound cs m (other - place)) next ∙ ap (counted bound cs (suc place)) many in
+    let all : counted bound cs place (suc other - place) ≡ one + behind = ap (counted bound cs place) more ∙ counted_first bound cs place (suc other - suc place) in
+    ap (λ b. b && keeps_length bound cs place other) (keep_lengths-is bound cs place other (omega (arith, h)) ∙ ap (allow bound cs place) all)
+    ∙ ap (λ n. allow bound cs place (one + behind) && list_all (λ e. is_within n (path_length (weigh bound e))) (extensions_at cs place)) same
 
-counted_yes : (bound : ℕ) (cs : List PlainCertificate) (place : ℕ) → counts bound cs place ≡ true → counted_below bound cs (suc place) ≡ suc (counted_below bound cs place)
-counted_yes bound cs place e = ap (λ b. counted_below bound cs place + cond b 1 0) e ∙ omega arith
-
--- a place that doesn't count is within the path lengths; one that does, where the count has room
-pub not_counted : (bound : ℕ) (cs : List PlainCertificate) (place : ℕ) → counts bound cs place ≡ false → is_within_lengths bound cs place ≡ true
-not_counted bound cs place e = ap (λ b. not b || keep_lengths bound cs place place) e
-
-pub counted_has_room : (bound : ℕ) (cs : List PlainCertificate) (place : ℕ) (paths : PathCount) → IsCount bound cs place paths → paths.counted + 1 < 2 ^ 64
-    → counts bound cs place ≡ true → is_within_lengths bound cs place ≡ nat_lt paths.counted paths.most
-counted_has_room bound cs place paths h fits e =
+-- a place that doesn't count is within the path lengths; one that does, where there is room
+pub within_room : (bound : ℕ) (cs : List PlainCertificate) (place : ℕ) (room : PathRoom) (b : Bool) → counts bound cs place ≡ b → IsRoom bound cs place room
+    → is_within_lengths bound cs place ≡ (not b || is_within 1 room.left)
+within_room bound cs place room false e h = ap (λ b. not b || keep_lengths bound cs place place) e
+within_room bound cs place room true e h =
+    let few : suc place - place ≡ suc zero = omega arith in
+    let same : place + 0 ≡ place = omega arith in
+    let one : counted bound cs place (suc place - place) ≡ 1 =
+    ap (counted bound cs place) few ∙ ap (λ m. 0 + cond (counts bound cs m) 1 0) same ∙ ap (λ b. 0 + cond b 1 0) e in
     ap (λ b. not b || keep_lengths bound cs place place) e
     ∙ keep_lengths-is bound cs place place (omega arith)
-    ∙ ap (allows_below bound cs place) (counted_yes bound cs place e ∙ ap (λ n. suc n) (sym h.counted))
-    ∙ sym (h.most (suc paths.counted) (omega (arith, fits)))
+    ∙ ap (allow bound cs place) one
+    ∙ h 1
 
 -- no places
-pub IsCount-none : (bound : ℕ) (cs : List PlainCertificate) → IsCount bound cs 0 no_places
-IsCount-none bound cs = record { counted = refl; most = λ n h. le_top (2 ^ 64 - 1) n (omega (arith, h)) }
+pub IsRoom-none : (bound : ℕ) (cs : List PlainCertificate) → IsRoom bound cs 0 no_places
+IsRoom-none bound cs = λ n. refl
 
--- a place more
-most_is : (before most n : ℕ) (p : Option ℕ) → n < 2 ^ 64 → nat_le n (most_behind before most p) ≡ (nat_le n most && fits before n p)
-most_is before most n None h = and_yes (nat_le n most)
-most_is before most n (Some p) h = le_min n most (min (before + p) (2 ^ 64 - 1)) ∙ ap (λ b. nat_le n most && b) (le_capped (2 ^ 64 - 1) n (before + p) (omega (arith, h)))
+-- a place more, for which there is room
+within_left : (left : Option ℕ) (b : Bool) (n : ℕ) → (not b || is_within 1 left) ≡ true → is_within (cond b 1 0 + n) left ≡ is_within n (left_by left b)
+within_left None b n h = refl
+within_left (Some most) false n h = le_same (0 + n) most n (most - 0) (λ k. omega (arith, k)) (λ k. omega (arith, k))
+within_left (Some most) true n h =
+    let room = leb-true 1 most h in
+    le_same (1 + n) most n (most - 1) (λ k. omega (arith, k)) (λ k. omega (arith, k, room))
 
-pub IsCount-more : (bound : ℕ) (purpose : List ℕ) (cs : List PlainCertificate) (place : ℕ) (c : PlainCertificate) (paths : PathCount) (p : Option ℕ) → slice_get cs place ≡ Some c
-    → IsCount bound cs place paths → p ≡ (found bound purpose (extensions_of c)).path_len
-    → IsCount bound cs (place + 1) (add_place paths (counts bound cs place) p)
-IsCount-more bound purpose cs place c paths p is h e =
+pub IsRoom-more : (bound : ℕ) (purpose : List ℕ) (cs : List PlainCertificate) (place : ℕ) (c : PlainCertificate) (room : PathRoom) (b : Bool) (p : Option ℕ) → slice_get cs place ≡ Some c
+    → b ≡ counts bound cs place → IsRoom bound cs place room → (not b || is_within 1 room.left) ≡ true → p ≡ (found bound purpose (extensions_of c)).path_len
+    → IsRoom bound cs (place + 1) (add_place room b p)
+IsRoom-more bound purpose cs place c room b p is same h enough e =
     let next : suc place ≡ place + 1 = omega arith in
     let here : extensions_of c ≡ extensions_at cs place = ap (λ o. option_map_or extensions_of o []) (sym is) in
-    let total = paths.counted + cond (counts bound cs place) 1 0 in
-    let total_is : total ≡ counted_below bound cs (suc place) = ap (λ n. n + cond (counts bound cs place) 1 0) h.counted in
-    subst (λ n. IsCount bound cs n (add_place paths (counts bound cs place) p)) next (record {
-      counted = total_is;
-      most = λ n small.
-          most_is total paths.most n p small
-          ∙ ap (λ b. b && fits total n p) (h.most n small)
-          ∙ ap (λ b. allows_below bound cs place n && b) (
-          ap (λ q. fits total n q) e
-          ∙ found_length bound purpose (extensions_of c) total n
-          ∙ ap (λ es. list_all (λ x. fits total n (path_length (weigh bound x))) es) here
-          ∙ ap (λ m. list_all (λ x. fits m n (path_length (weigh bound x))) (extensions_at cs place)) total_is
-          );
-    })
+    subst (λ n. IsRoom bound cs n (add_place room b p)) next (λ n.
+    let lengths : Bool = list_all (λ e. is_within n (path_length (weigh bound e))) (extensions_at cs place) in
+    ap (λ c. allow bound cs place (cond c 1 0 + n) && lengths) (sym same)
+    ∙ ap (λ c. c && lengths) (h (cond b 1 0 + n) ∙ within_left room.left b n enough)
+    ∙ ap (λ c. is_within n (left_by room.left b) && c) (sym (
+    ap (is_within n) e ∙ found_length bound purpose (extensions_of c) n ∙ ap (list_all (λ e. is_within n (path_length (weigh bound e)))) here))
+    ∙ sym (within_shorter n (left_by room.left b) p))
+
+-- where no path length is in force, it doesn't matter whether a place counts
+pub admits_any : (left : Option ℕ) (b : Bool) → (not (is_some left && b) || is_within 1 left) ≡ (not b || is_within 1 left)
+admits_any None b = or_yes (not b)
+admits_any (Some most) b = refl
+
+left_by_any : (left : Option ℕ) (b : Bool) → left_by left (is_some left && b) ≡ left_by left b
+left_by_any None b = refl
+left_by_any (Some most) b = refl
+
+abbrev with_left : Option ℕ → PathRoom
+with_left left = record { left = left }
+
+pub add_place_any : (room : PathRoom) (b : Bool) (p : Option ℕ) → add_place room (is_some room.left && b) p ≡ add_place room b p
+add_place_any room b p = ap (λ left. with_left (shorter left p)) (left_by_any room.left b)

@@ -1,10 +1,9 @@
 -- What is gathered of a certificate's extensions, each weighed once, and of the places of a chain.
-use Rattle.std.specs.Prelude.{◌≡◌, ℕ, zero, suc, ◌+◌, ◌-◌, ◌<◌, ◌^◌, List, Bool, true, false, Option, Some, None, nat_le, min, if◌then◌else◌, ◌&&◌, ◌||◌}
+use Rattle.std.specs.Prelude.{◌≡◌, ℕ, zero, suc, ◌+◌, ◌-◌, List, Bool, true, false, Option, Some, None, min, if◌then◌else◌, ◌&&◌, ◌||◌}
 use Rattle.std.specs.List.{fold, list_all}
-use Rattle.der_core_head.specs.Grammar.{plain_option}
 use Rattle.x509_cert.specs.Certificates.{PlainCertificate, PlainExtension, is_critical}
 use Rattle.cert_desk_checking.specs.declared.findings.Findings.{Findings}
-use Rattle.cert_desk_checking.specs.declared.path_count.PathCount.{PathCount}
+use Rattle.cert_desk_checking.specs.declared.path_room.PathRoom.{PathRoom}
 use Rattle.cert_desk_checking.specs.declared.weight.Weight.{Weight}
 use Rattle.cert_desk_checking.specs.declared.weight.Weight.TheVariants as weights
 use Rattle.cert_desk_checking.specs.Paths.{counts, extensions_at, is_within}
@@ -45,33 +44,25 @@ abbrev pub found : ℕ → List ℕ → List PlainExtension → Findings
 found bound purpose es = fold (add_extension bound purpose) no_findings es
 
 -- before the first place
-abbrev pub no_places : PathCount
-no_places = record { counted = 0; most = 2 ^ 64 - 1 }
+abbrev pub no_places : PathRoom
+no_places = record { left = None }
+
+-- what a place that counts, or doesn't, leaves
+abbrev pub left_by : Option ℕ → Bool → Option ℕ
+left_by None counts = None
+left_by (Some n) counts = Some (n - (if counts then 1 else 0))
 
 -- behind one place more
-abbrev pub most_behind : ℕ → ℕ → Option ℕ → ℕ
-most_behind counted most None = most
-most_behind counted most (Some n) = min most (min (counted + n) (2 ^ 64 - 1))
+abbrev pub add_place : PathRoom → Bool → Option ℕ → PathRoom
+add_place room counts n = record { left = shorter (left_by room.left counts) n }
 
-abbrev pub add_place : PathCount → Bool → Option ℕ → PathCount
-add_place paths counts n =
-    let counted = paths.counted + (if counts then 1 else 0) in
-    record { counted = counted; most = most_behind counted paths.most n }
+-- whether the path lengths of the first places let so many places more count
+abbrev pub allow : ℕ → List PlainCertificate → ℕ → ℕ → Bool
+allow bound cs zero n = true
+allow bound cs (suc place) n =
+    allow bound cs place ((if counts bound cs place then 1 else 0) + n)
+    && list_all (λ e. is_within n (path_length (weigh bound e))) (extensions_at cs place)
 
--- how many of the first places count
-abbrev pub counted_below : ℕ → List PlainCertificate → ℕ → ℕ
-counted_below bound cs zero = 0
-counted_below bound cs (suc place) = counted_below bound cs place + (if counts bound cs place then 1 else 0)
-
--- whether the path lengths of the first places let so many places count in all
-abbrev pub allows_at : ℕ → List PlainCertificate → ℕ → ℕ → Bool
-allows_at bound cs place n = list_all (λ e. is_within n (plain_option (λ most. counted_below bound cs (suc place) + most) (path_length (weigh bound e)))) (extensions_at cs place)
-
-abbrev pub allows_below : ℕ → List PlainCertificate → ℕ → ℕ → Bool
-allows_below bound cs zero n = true
-allows_below bound cs (suc place) n = allows_below bound cs place n && allows_at bound cs place n
-
--- what is gathered of the places before this one
-pub record IsCount (bound : ℕ) (cs : List PlainCertificate) (place : ℕ) (paths : PathCount) : Type 0 where
-  pub counted : paths.counted ≡ counted_below bound cs place
-  pub most : (n : ℕ) → n < 2 ^ 64 → nat_le n paths.most ≡ allows_below bound cs place n
+-- the room that the places before this one leave
+abbrev pub IsRoom : ℕ → List PlainCertificate → ℕ → PathRoom → Type 0
+IsRoom bound cs place room = (n : ℕ) → allow bound cs place n ≡ is_within n room.left

@@ -30,3 +30,4 @@ pub mod Arguments
 pub mod Reading
 pub mod Runs
 pub mod Certificates
+pub mod SameNames

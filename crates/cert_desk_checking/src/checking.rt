@@ -1,6 +1,7 @@
 //! Streams are judged.
 ghost use Rattle.std.specs.Prelude.{◌≡◌, ◌≢◌, ℕ, ◌+◌, ◌<◌, ◌≤◌, ◌↔◌, ◌⊎◌, List, length, map, Option, IfOk, OnErr, true, false, Some, None, nat_le, not, ◌&&◌};
 ghost use Rattle.std.specs.List.{list_any};
+ghost use Rattle.std.specs.Option.{is_some};
 ghost use Rattle.der_core_head.specs.Shapes.{IsValid};
 ghost use Rattle.der_types_time.specs.Seconds.{unix_seconds};
 ghost use Rattle.x509_cert.specs.Views.{arc_bound, certificate_plain, key_plain, name_plain};
@@ -9,7 +10,7 @@ ghost use Rattle.cert_desk_checking.specs.declared.fault_kind.FaultKind.{FaultKi
 ghost use Rattle.cert_desk_checking.specs.Anchors.{anchor_plain, terms_of};
 ghost use Rattle.cert_desk_checking.specs.Chains.{Chain, joined};
 ghost use Rattle.cert_desk_checking.specs.Breaches.{AreUnsignedKept, IsFirstBreach, IsFirstRefused, asked_up_to, until_by, verdict_by};
-ghost use Rattle.cert_desk_checking.specs.Findings.{IsCount};
+ghost use Rattle.cert_desk_checking.specs.Findings.{IsRoom};
 ghost use Rattle.cert_desk_checking.specs.Paths.{is_self_issued};
 ghost use Rattle.cert_desk_checking.specs.Judging.{Answers, has_one_algorithm, is_named, keeps_at, same_name};
 ghost use Rattle.cert_desk_checking.specs.Streams.{Reads};
@@ -22,8 +23,9 @@ use crate::checked::{CheckError, Checked, Verdict};
 use crate::entry::Entry;
 use crate::extensions::{are_distinct, extensions_of};
 use crate::kept_rules::KeptRules;
-use crate::path_count::PathCount;
+use crate::path_room::PathRoom;
 use crate::rule::Rule;
+use crate::same_names::are_alike;
 use crate::signature_judge::SignatureJudge;
 use crate::standing::Standing;
 use crate::weighing::findings_of;
@@ -118,6 +120,17 @@ fn is_issued_by(certificate: &CertificateInner<Raw>, name: &Name) -> bool
     certificate.tbs_certificate().issuer().has_octets_of(name)
 }
 
+// The same of a name that it has in most chains: then the attributes tell it.
+fn is_linked_by(certificate: &CertificateInner<Raw>, name: &Name) -> bool
+    requires { IsValid (raw_certificate arc_bound) (certificate_plain certificate.now) }
+    ensures { result ≡ same_name arc_bound (issuer (certificate_plain certificate.now)) (name_plain name.now) }
+{
+    if are_alike(certificate.tbs_certificate().issuer(), name) {
+        return true;
+    }
+    is_issued_by(certificate, name)
+}
+
 // Whether an anchor has the issuer's name.
 fn is_anchored(certificate: &CertificateInner<Raw>, anchors: &[Anchor]) -> bool
     requires { IsValid (raw_certificate arc_bound) (certificate_plain certificate.now) }
@@ -189,7 +202,7 @@ fn is_linked(bundle: &Bundle, place: usize, anchors: &[Anchor]) -> bool
         return is_anchored(entry.certificate, anchors);
     }
     let before = bundle.get(place - 1).unwrap();
-    is_issued_by(
+    is_linked_by(
         entry.certificate,
         before.certificate.tbs_certificate().subject(),
     )
@@ -257,16 +270,16 @@ fn is_self_issued(certificate: &CertificateInner<Raw>) -> bool
     is_issued_by(certificate, certificate.tbs_certificate().subject())
 }
 
-// Whether a place counts: it isn't the last, and isn't self-issued.
-fn counts(certificate: &CertificateInner<Raw>, is_last: bool) -> bool
+// Whether a place takes of the room that path lengths leave: there is one, and the place isn't the last, and isn't self-issued.
+fn takes_room(certificate: &CertificateInner<Raw>, is_last: bool, room: &PathRoom) -> bool
     requires { IsValid (raw_certificate arc_bound) (certificate_plain certificate.now) }
-    ensures { result ≡ (not is_last && not (is_self_issued arc_bound (certificate_plain certificate.now))) }
+    ensures { result ≡ (is_some room.now.left && (not is_last && not (is_self_issued arc_bound (certificate_plain certificate.now)))) }
 {
-    !is_last && !is_self_issued(certificate)
+    room.is_limited() && (!is_last && !is_self_issued(certificate))
 }
 
-// The first rule before the signature that the certificate at a place breaks. The place is added to
-// the count of the path.
+// The first rule before the signature that the certificate at a place breaks. Where it breaks none, the room that path lengths leave
+// is what is left behind it.
 fn first_unsigned(
     alloc: Global,
     bundle: &Bundle,
@@ -274,20 +287,20 @@ fn first_unsigned(
     anchors: &[Anchor],
     moment: u64,
     purpose: &ObjectIdentifier<39>,
-    paths: &mut PathCount,
+    room: &mut PathRoom,
 ) -> Result<Option<Rule>, AllocError>
     requires within { place < length bundle.now.certificates }
-    requires counted { IsCount arc_bound bundle.now.certificates place paths.old }
+    requires room { IsRoom arc_bound bundle.now.certificates place room.old }
     ensures judged { IfOk result (λ broken. (answers : Answers) (stream : List ℕ)
         → IsFirstUnsigned (terms_of anchors.now moment purpose.now answers) bundle.now.certificates stream place broken) }
-    ensures counted { IfOk result (λ _. IsCount arc_bound bundle.now.certificates (place + 1) paths.new) }
+    ensures room { IfOk result (λ broken. broken ≡ None → IsRoom arc_bound bundle.now.certificates (place + 1) room.new) }
 {
     let certificate = bundle.get(place).unwrap().certificate;
     let extensions = extensions_of(certificate);
     let findings = findings_of(alloc, extensions, purpose)?;
     let len = bundle.len();
     let is_last = place + 1 == len;
-    let counts = counts(certificate, is_last);
+    let counts = takes_room(certificate, is_last, room);
     let kept = KeptRules {
         one_algorithm: has_one_algorithm(certificate),
         distinct: are_distinct(extensions),
@@ -298,9 +311,9 @@ fn first_unsigned(
         lasting: lasts(certificate, moment),
         serving: findings.serves,
         issuing: findings.may_issue(is_last),
-        within_lengths: paths.admits(counts),
+        within_lengths: room.admits(counts),
     };
-    paths.add(counts, findings.path_len);
+    room.add(counts, findings.path_len);
     Ok(kept.first_broken())
 }
 
@@ -322,9 +335,9 @@ fn first_breach(
     ensures { IfOk result (λ breach. (answers : Answers) (stream : List ℕ)
         → IsFirstBreach (terms_of anchors.now moment purpose.now answers) bundle.now.certificates stream breach) }
 {
-    let mut paths = PathCount::new();
+    let mut room = PathRoom::new();
     for place in 0..bundle.len() {
-        let broken = first_unsigned(alloc, bundle, place, anchors, moment, purpose, &mut paths)?;
+        let broken = first_unsigned(alloc, bundle, place, anchors, moment, purpose, &mut room)?;
         if let Some(rule) = broken {
             return Ok(Some(Breach { place, rule }));
         }

@@ -1,12 +1,14 @@
 //! The extensions of a certificate, and their identifiers (RFC 5280 4.2).
 
-ghost use Rattle.std.specs.Prelude.{◌≡◌, ◌<◌};
+ghost use Rattle.std.specs.Prelude.{◌≡◌, ◌<◌, ℕ, false, nat_eq};
+ghost use Rattle.std.specs.Option.{option_map_or};
 ghost use Rattle.const_oid_identifiers.specs.Comparing.{owned_eq};
-ghost use Rattle.x509_cert.specs.Certificates.{extension_arcs, extensions_of};
+ghost use Rattle.x509_cert.specs.Certificates.{extensions_of};
 ghost use Rattle.x509_cert.specs.Views.{certificate_plain, extension_plain, extensions_plain};
 ghost use Rattle.cert_desk_checking.specs.Judging.{are_distinct, is_alone};
 ghost use Rattle.cert_desk_checking.specs.Weighing.{certificate_extension};
 
+use const_oid::ObjectIdentifier;
 use x509_cert::{CertificateInner, Extension, Raw};
 
 // Below 2.5.29 (RFC 5280 4.2.1.3, 4.2.1.6, 4.2.1.9, 4.2.1.12).
@@ -46,13 +48,25 @@ fn is_alone(extension: &Extension, others: &[Extension]) -> bool
 {
     !others
         .iter()
-        .any(|other| extension.extn_id == other.extn_id)
+        .any(|other| are_equal(&extension.extn_id, &other.extn_id))
 }
 
-// Whether its identifier is this number below 2.5.29.
-pub(crate) fn is_numbered(extension: &Extension, number: u8) -> bool
-    requires { number < 128 }
-    ensures { result ≡ owned_eq (extension_arcs (extension_plain extension.now)) (certificate_extension number) }
+// The number of an identifier below 2.5.29, where that is one octet.
+pub(crate) fn number_of(identifier: &ObjectIdentifier<39>) -> Option<u8>
+    ensures { (n : ℕ) → n < 128 → owned_eq identifier.now (certificate_extension n) ≡ option_map_or (λ number. nat_eq number n) result false }
 {
-    extension.extn_id.as_bytes() == [0x55, 0x1d, number].as_slice()
+    let octets = identifier.as_bytes();
+    if octets.len() != 3 || octets[0] != 0x55 || octets[1] != 0x1d {
+        return None;
+    }
+    Some(octets[2])
+}
+
+// Whether two identifiers are equal. Their last octets are looked at first, since what stands in one place mostly differs there.
+fn are_equal(one: &ObjectIdentifier<39>, other: &ObjectIdentifier<39>) -> bool
+    ensures { result ≡ owned_eq one.now other.now }
+{
+    let octets = one.as_bytes();
+    let others = other.as_bytes();
+    octets.last() == others.last() && octets == others
 }

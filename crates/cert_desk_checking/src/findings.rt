@@ -64,8 +64,8 @@ impl Findings {
     }
 }
 
-// The shorter one of two path lengths, which needn't be there.
-fn shorter(one: Option<u8>, other: Option<u8>) -> Option<u8>
+/// The shorter one of two path lengths, which needn't be there.
+pub(crate) fn shorter(one: Option<u8>, other: Option<u8>) -> Option<u8>
     ensures { result ≡ shorter one other }
 {
     match (one, other) {

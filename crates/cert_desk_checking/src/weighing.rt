@@ -6,15 +6,29 @@ ghost use Rattle.x509_cert.specs.Views.{arc_bound, extension_plain, extensions_p
 ghost use Rattle.cert_desk_checking.specs.Findings.{found, weight_of};
 ghost use Rattle.cert_desk_checking.specs.Weighing.{any_purpose, basic_constraints, constraints_of, extended_key_usage, key_usage, meaning_by, other_names, purposes, serves, subject_alt_name, uses, weigh};
 
-use crate::extensions::{
-    BASIC_CONSTRAINTS, EXT_KEY_USAGE, KEY_USAGE, SUBJECT_ALT_NAME, is_numbered,
-};
+use crate::extensions::{BASIC_CONSTRAINTS, EXT_KEY_USAGE, KEY_USAGE, SUBJECT_ALT_NAME, number_of};
 use crate::findings::Findings;
 use crate::weight::Weight;
 use const_oid::ObjectIdentifier;
-use der_core::{Error, ErrorKind, from_der};
+use der_core::{Error, ErrorKind, Explicit, Implicit, OneOf8, from_der};
+use der_types_text::Ia5StringRef;
+use der_types_values::OctetStringRef;
 use std::alloc::{AllocError, Global};
-use x509_cert::{BasicConstraints, ExtendedKeyUsage, Extension, KeyUsage, SubjectAltName};
+use x509_cert::{
+    BasicConstraints, EdiPartyName, ExtendedKeyUsage, Extension, KeyUsage, Name, OtherName,
+};
+
+// A name that the octets lend where it is a text or octets.
+type NameLent<'a> = OneOf8<
+    Implicit<OtherName, 0>,
+    Implicit<Ia5StringRef<'a>, 1>,
+    Implicit<Ia5StringRef<'a>, 2>,
+    Explicit<Name, 4>,
+    Implicit<EdiPartyName, 5>,
+    Implicit<Ia5StringRef<'a>, 6>,
+    Implicit<OctetStringRef<'a>, 7>,
+    Implicit<ObjectIdentifier<39>, 8>,
+>;
 
 /// What is found in the extensions of a certificate. Each is read once.
 ///
@@ -44,16 +58,19 @@ fn weigh(
     ensures { IfOk result (λ weight. weight ≡ weight_of purpose.now (weigh arc_bound (extension_plain extension.now))) }
 {
     let octets = extension.extn_value.as_bytes();
-    if is_numbered(extension, KEY_USAGE) {
+    let Some(number) = number_of(&extension.extn_id) else {
+        return Ok(Weight::Unweighed);
+    };
+    if number == KEY_USAGE {
         return weigh_key_usage(alloc, octets);
     }
-    if is_numbered(extension, SUBJECT_ALT_NAME) {
+    if number == SUBJECT_ALT_NAME {
         return weigh_names(alloc, octets);
     }
-    if is_numbered(extension, BASIC_CONSTRAINTS) {
+    if number == BASIC_CONSTRAINTS {
         return weigh_constraints(alloc, octets);
     }
-    if is_numbered(extension, EXT_KEY_USAGE) {
+    if number == EXT_KEY_USAGE {
         return weigh_purposes(alloc, octets, purpose);
     }
     Ok(Weight::Unweighed)
@@ -75,7 +92,7 @@ fn weigh_key_usage(alloc: Global, octets: &[u8]) -> Result<Weight, AllocError>
 fn weigh_names(alloc: Global, octets: &[u8]) -> Result<Weight, AllocError>
     ensures { IfOk result (λ weight. (purpose : List ℕ) → weight ≡ weight_of purpose (meaning_by (subject_alt_name arc_bound) other_names octets.now)) }
 {
-    match from_der::<SubjectAltName>(alloc, octets) {
+    match from_der::<Vec<NameLent<'_>>>(alloc, octets) {
         Ok(_) => Ok(Weight::AlternativeNames),
         Err(error) => malformed(error),
     }

@@ -21,5 +21,5 @@ loop-place-preserved c = record {
       let cs = c.args.bundle.now.certificates in
       unsigned_more t cs stream c.loop-place.place (c.loop-place.invariant.judged answers stream)
       (subst (IsFirstUnsigned t cs stream c.loop-place.place) c.in_default.is (c.in_ok-broken.ensures.judged answers stream)));
-  counted = c.in_ok-broken.ensures.counted;
+  room = c.in_ok-broken.ensures.room c.in_default.is;
 }

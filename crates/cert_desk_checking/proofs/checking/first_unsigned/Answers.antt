@@ -1,27 +1,24 @@
 use Rattle.std.specs.Prelude.{◌==◌}
-use Rattle.std.proofs.Common.{◌+◌, ◌&&◌, ◌||◌, not, List, refl, subst, sym, ◌∙◌, ap, arith}
+use Rattle.std.proofs.Common.{◌+◌, ◌&&◌, ◌||◌, not, List, refl, subst, sym, ◌∙◌, ap}
+use Rattle.std.specs.Option.{is_some}
 use Rattle.x509_cert.specs.Certificates.{PlainExtension}
 use Rattle.x509_cert.specs.Views.{arc_bound, certificate_plain}
 use Rattle.cert_desk_checking.specs.declared.rule.Rule.TheVariants as rules
 use Rattle.cert_desk_checking.specs.Anchors.{terms_of}
-use Rattle.cert_desk_checking.specs.Findings.{IsCount, add_place, found}
+use Rattle.cert_desk_checking.specs.Findings.{IsRoom, add_place, found}
 use Rattle.cert_desk_checking.specs.Judging.{are_distinct}
-use Rattle.cert_desk_checking.specs.Paths.{is_self_issued}
+use Rattle.cert_desk_checking.specs.KeptRules.{IsFirstOf}
+use Rattle.cert_desk_checking.specs.Paths.{counts, is_self_issued, is_within}
 use Rattle.cert_desk_checking.proofs.KeptLaws.{counts-is, first_unsigned_by, keeps_issuing, keeps_known, keeps_serving, keeps_well_formed, keeps_within, tests_say}
-use Rattle.cert_desk_checking.proofs.PathLaws.{IsCount-more, counted_within}
+use Rattle.cert_desk_checking.proofs.PathLaws.{IsRoom-more, add_place_any, admits_any}
 use Rattle.cert_desk_checking.proofs.PlaceLaws.{entry_at, keeps_at-is}
 use Rattle.cert_desk_checking.proofs.checking.first_unsigned.Goals as goal
 
 pub has_one_algorithm-requires : goal.has_one_algorithm-requires
 has_one_algorithm-requires c = (entry_at _ _ _ _ _ c.get.ensures.entry c.unwrap.ensures).valid
 
-pub counts-counts-requires : goal.counts-counts-requires
-counts-counts-requires c = (entry_at _ _ _ _ _ c.get.ensures.entry c.unwrap.ensures).valid
-
-pub add-requires : goal.add-requires
-add-requires c =
-    let few = counted_within arc_bound c.args.bundle.now.certificates c.args.place in
-    omega (arith, few, c.requires.counted.counted)
+pub takes_room-counts-requires : goal.takes_room-counts-requires
+takes_room-counts-requires c = (entry_at _ _ _ _ _ c.get.ensures.entry c.unwrap.ensures).valid
 
 pub returns-clause-judged : goal.returns-clause-judged
 returns-clause-judged c = λ answers stream.
@@ -32,8 +29,9 @@ returns-clause-judged c = λ answers stream.
     let this = certificate_plain c.unwrap.result.certificate.now in
     let gathered = c.in_ok-findings.ensures ∙ ap (λ (es : List PlainExtension). found arc_bound c.args.purpose.now es) c.extensions_of-extensions.ensures in
     let last = ap (λ n. (place + 1) == n) c.len-len.ensures in
-    let counted = c.counts-counts.ensures ∙ ap (λ b. not b && not (is_self_issued arc_bound this)) last ∙ sym (counts-is arc_bound cs place this entry.certificate) in
-    let few = counted_within arc_bound cs place in
+    let left = c.args.room.now.left in
+    let known = ap (λ b. not b && not (is_self_issued arc_bound this)) last ∙ sym (counts-is arc_bound cs place this entry.certificate) in
+    let takes = c.takes_room-counts.ensures ∙ ap (λ b. is_some left && b) known in
     first_unsigned_by _ t cs stream place c.first_broken.result
     (tests_say _ t cs stream place
     (c.has_one_algorithm.ensures ∙ sym (keeps_at-is rules.AlgorithmsDiffer t cs stream place this entry.certificate))
@@ -45,18 +43,23 @@ returns-clause-judged c = λ answers stream.
     (c.lasts.ensures ∙ sym (keeps_at-is rules.Expired t cs stream place this entry.certificate))
     (keeps_serving t cs stream place this entry.certificate _ gathered)
     (c.may_issue.ensures ∙ ap (λ b. b || (c.in_ok-findings.findings.ca && c.in_ok-findings.findings.certifies)) last ∙ keeps_issuing t cs stream place this entry.certificate _ gathered)
-    (c.admits.ensures ∙ keeps_within t cs stream place this entry.certificate _ gathered _ _ counted c.requires.counted (omega (arith, few, c.requires.counted.counted))))
+    (c.admits.ensures ∙ ap (λ b. not b || is_within 1 left) takes ∙ admits_any left (counts arc_bound cs place)
+    ∙ keeps_within t cs stream place this entry.certificate _ gathered c.args.room.now (counts arc_bound cs place) refl c.requires.room))
     c.first_broken.ensures
 
-pub returns-clause-counted : goal.returns-clause-counted
-returns-clause-counted c =
+pub returns-clause-room : goal.returns-clause-room
+returns-clause-room c = λ none.
     let cs = c.args.bundle.now.certificates in
     let place = c.args.place in
     let entry = entry_at _ _ _ _ _ c.get.ensures.entry c.unwrap.ensures in
     let this = certificate_plain c.unwrap.result.certificate.now in
     let gathered = c.in_ok-findings.ensures ∙ ap (λ (es : List PlainExtension). found arc_bound c.args.purpose.now es) c.extensions_of-extensions.ensures in
     let last = ap (λ n. (place + 1) == n) c.len-len.ensures in
-    let counted = c.counts-counts.ensures ∙ ap (λ b. not b && not (is_self_issued arc_bound this)) last ∙ sym (counts-is arc_bound cs place this entry.certificate) in
-    subst (λ p. IsCount arc_bound cs (place + 1) p) (sym c.add.ensures ∙ refl)
-    (subst (λ b. IsCount arc_bound cs (place + 1) (add_place c.args.paths.now b c.in_ok-findings.findings.path_len)) (sym counted)
-    (IsCount-more arc_bound c.args.purpose.now cs place this c.args.paths.now _ entry.certificate c.requires.counted (ap (λ f. f.path_len) gathered)))
+    let left = c.args.room.now.left in
+    let known = ap (λ b. not b && not (is_self_issued arc_bound this)) last ∙ sym (counts-is arc_bound cs place this entry.certificate) in
+    let takes = c.takes_room-counts.ensures ∙ ap (λ b. is_some left && b) known in
+    let enough = sym (admits_any left (counts arc_bound cs place)) ∙ ap (λ b. not b || is_within 1 left) (sym takes) ∙ sym c.admits.ensures
+    ∙ (subst (IsFirstOf _) none c.first_broken.ensures) rules.PathTooLong in
+    let behind = c.add.ensures ∙ ap (λ b. add_place c.args.room.now b c.in_ok-findings.findings.path_len) takes ∙ add_place_any c.args.room.now (counts arc_bound cs place) c.in_ok-findings.findings.path_len in
+    subst (λ r. IsRoom arc_bound cs (place + 1) r) (sym behind)
+    (IsRoom-more arc_bound c.args.purpose.now cs place this c.args.room.now (counts arc_bound cs place) c.in_ok-findings.findings.path_len entry.certificate refl c.requires.room enough (ap (λ f. f.path_len) gathered))

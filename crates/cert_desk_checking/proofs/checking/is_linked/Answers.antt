@@ -10,8 +10,8 @@ use Rattle.cert_desk_checking.proofs.checking.is_linked.Goals as goal
 pub is_anchored-requires : goal.is_anchored-requires
 is_anchored-requires c = (entry_at _ _ _ _ _ c.get.ensures.entry c.unwrap-entry.ensures).valid
 
-pub is_issued_by-requires : goal.is_issued_by-requires
-is_issued_by-requires c = (entry_at _ _ _ _ _ c.get.ensures.entry c.unwrap-entry.ensures).valid
+pub is_linked_by-requires : goal.is_linked_by-requires
+is_linked_by-requires c = (entry_at _ _ _ _ _ c.get.ensures.entry c.unwrap-entry.ensures).valid
 
 pub returns : goal.returns
 returns c = λ moment purpose answers stream.
@@ -22,6 +22,6 @@ returns c = λ moment purpose answers stream.
     let this = certificate_plain c.unwrap-entry.result.certificate.now in
     let earlier = certificate_plain c.unwrap-before.result.certificate.now in
     let later : 0 < c.args.place = omega arith in
-    c.is_issued_by.ensures
+    c.is_linked_by.ensures
     ∙ ap (same_name arc_bound (issuer this)) (c.subject.ensures ∙ ap tbs_subject c.tbs_certificate.ensures)
     ∙ sym (keeps_at-is rules.WrongIssuer t cs stream c.args.place this entry.certificate ∙ is_linked-later t cs c.args.place this earlier later before.certificate)
