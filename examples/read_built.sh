@@ -1,7 +1,6 @@
 #!/usr/bin/env bash
-# Has OpenSSL 3 read what crates/build_certificates, crates/builder_rows and crates/list_builder_rows build, and compares the fields with
-# those that were asked for: run `rt run` in crates/build_certificates first, and `rt run < stdin` in the other two. It is no part of the
-# gate.
+# Has OpenSSL 3 read what crates/build_certificates and crates/builder_rows build, and compares the fields with those that were asked
+# for: run `rt run` in the first, and `rt run < stdin` in the second, before. It is no part of the gate.
 set -euo pipefail
 top=$(cd "$(dirname "$0")/.." && pwd)
 faults=0
@@ -44,10 +43,10 @@ asked 'module' "$(text "$(built 'module - 2.0')")" 'Issuer: CN=m' 'serialNumber=
 asked 'subordinate' "$(text "$(built 'subordinate o 1')")" 'CA:TRUE, pathlen:1' 'Digital Signature, Certificate Sign, CRL Sign'
 asked 'subscriber' "$(text "$(built 'subscriber - domain')")" 'CA:FALSE' 'DNS:s.example'
 
-# whole WORD PLACE: what list_builder_rows builds of its question of this place that begins so
+# whole WORD PLACE: what it builds of the question of this place that begins so
 whole() {
-    local rows=$top/crates/list_builder_rows
-    grep "^$1 whole" "$rows/stdin" | sed -n "$2p" | "$rows/out/list_builder_rows" | sed -n 's/^ok //p'
+    local rows=$top/crates/builder_rows
+    grep "^$1 whole" "$rows/stdin" | sed -n "$2p" | "$rows/out/builder_rows" | sed -n 's/^ok //p'
 }
 asked 'list of two' "$(text_of crl "$(whole list 2)")" 'Issuer: CN=r,O=o,C=US' 'Serial Number: 05' 'Serial Number: 01' 'X509v3 CRL Reason Code'
 asked 'request with passwords' "$(text_of req "$(whole request 3)")" 'Subject: C=US' 'challengePassword' 'CA:TRUE'

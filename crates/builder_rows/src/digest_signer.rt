@@ -3,8 +3,8 @@
 use rand_core::CryptoRng;
 use sha2::{Digest, Sha256};
 use std::alloc::Global;
-use x509_cert_builders::types::{AlgorithmIdentifier, BitString, SubjectPublicKeyInfo};
-use x509_cert_builders::{SignError, Signer};
+use x509_cert_list_builders::types::{AlgorithmIdentifier, BitString, SubjectPublicKeyInfo};
+use x509_cert_list_builders::{SignError, Signer};
 
 /// A signer whose bits are the SHA-256 digest of its key's octets and the signed ones. It protects nothing.
 #[derive(Drop)]
@@ -17,7 +17,7 @@ pub struct DigestSigner {
 
 impl Signer for DigestSigner {
     ghost use Rattle.std.specs.Prelude.{◌≡◌, true, ⊤};
-    ghost use Rattle.x509_cert_builders.specs.Parts.{algorithm_plain, key_plain};
+    ghost use Rattle.x509_cert_list_builders.specs.Parts.{algorithm_plain, key_plain};
 
     ghost public_key = { λ s. key_plain s.key };
 

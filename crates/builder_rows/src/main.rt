@@ -6,12 +6,24 @@
 //! | `repeats NAME` | the same, where types may stand twice |
 //! | `authority NAME` | `ok` where a name is one of an authority |
 //! | `key KEY` | `ok HEX HEX`, the identifier of a key, and the encoding of the authority key identifier |
-//! | `part PROFILE` | `ok HEX`, what is signed, made twice; `changed` where both differ |
-//! | `whole PROFILE` | `ok HEX`, the certificate, whose bits are the digest of the signer's key and the signed octets |
-//! | `unready PROFILE` | the same, assembled before anything is made |
-//! | `late PROFILE` | `ok HEX`, the certificate of what was made before the extension was added, with the bits of no octets |
+//! | `HOW PROFILE` | what `HOW` asks for of the certificate of this profile |
+//! | `list HOW KEY ISSUER NUMBER THIS NEXT ENTRIES` | what `HOW` asks for of the list that this issuer makes |
+//! | `request HOW KEY EXTENSIONS PASSWORDS NAME` | what `HOW` asks for of the request of this name |
 //! | an empty line, or one that begins with `#` | the same line |
-//! | any other, or one of more than 2^20 octets | `?` |
+//! | any other | `?` |
+//!
+//! What is made is answered `ok HEX`, what is refused `refused KIND`, and `memory` where there is not enough.
+//!
+//! | `HOW` | |
+//! |---|---|
+//! | `part`, `signed` | what is signed, made twice; `changed` where both differ |
+//! | `whole` | the whole, whose bits are the digest of the signer's key and the signed octets |
+//! | `unready` | the same, assembled before anything is finalized |
+//! | `late` | assembled after the builder was changed behind what it has finalized, with the bits of no octets |
+//! | `later` | assembled after the builder was changed, finalized and changed once more |
+//! | `other` | assembled by a signer of another algorithm than the part was made for |
+//!
+//! To be changed is to be given the extension of a certificate, the entries of a list, or the extensions of a request.
 //!
 //! | `PROFILE` | |
 //! |---|---|
@@ -23,36 +35,32 @@
 //!
 //! `FLAGS` are letters, or a dash: `o` answers about the state of certificates are signed, `c` clients are certified, `d` data are
 //! enciphered, `k` keys are, `a` keys are agreed upon, `r` the signer refuses. `SETTLED` is `SERIAL FROM UNTIL KEY SIGNER ADDED`: octets,
-//! two dates, the certified key, that of the signer, and an extension that is added, or a dash; octets are in hex.
+//! two dates, the certified key, that of the signer, and an extension that is added, or a dash.
 //!
-//! What is refused is answered `refused KIND`, and `memory` where there is not enough.
+//! Keys, issuers, entries, extensions and passwords are encodings in hex, of `SubjectPublicKeyInfo`, `Certificate`, `RevokedCert`,
+//! `Extension` and `DirectoryString`; several are joined by commas. A dash stands for none, and `empty` for an empty list of entries.
 #![tactic(auto)]
 
 mod answers;
+mod builders;
+mod certificates;
 mod digest_signer;
-mod lines;
-mod making;
+mod keys;
+mod lists;
 mod names;
-mod profiles;
 mod refusals;
+mod requests;
 mod words;
 
 use answers::answer;
-use lines::{Line, next_line};
 use std::io;
-use std::io::{BufReader, BufWriter, Write};
+use std::io::{BufWriter, Write};
 
 fn main(rt: HostRuntime) -> io::Result<()> {
     let alloc = rt.alloc();
-    let mut questions = BufReader::new(alloc, rt.reader())?;
     let mut out = BufWriter::new(alloc, io::writer(&rt))?;
-    let mut line = Vec::new(alloc);
-    for _ in 0..u64::MAX {
-        match next_line(&mut questions, &mut line)? {
-            Line::Whole => answer(alloc, line.as_slice(), &mut out)?,
-            Line::TooLong => out.write_all(b"?\n")?,
-            Line::End => break,
-        }
+    for line in rt.lines(alloc) {
+        answer(alloc, line?.as_str(), &mut out)?;
     }
     out.flush()
 }

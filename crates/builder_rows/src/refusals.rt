@@ -4,8 +4,7 @@ use der_core::ErrorKind;
 use hex::FromHexError;
 use std::alloc::{AllocError, AllocFailed};
 use std::fmt;
-use std::str::Utf8Error;
-use x509_cert_builders::{Error, SignError};
+use x509_cert_list_builders::{Error, SignError};
 
 /// Why a question has no other answer.
 #[derive(Drop)]
@@ -62,12 +61,6 @@ impl From<AllocError> for Refusal {
 impl<T: Drop> From<AllocFailed<T>> for Refusal {
     fn from(_error: AllocFailed<T>) -> Refusal {
         Refusal::Memory
-    }
-}
-
-impl From<Utf8Error> for Refusal {
-    fn from(_error: Utf8Error) -> Refusal {
-        Refusal::Unread
     }
 }
 

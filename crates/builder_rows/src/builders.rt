@@ -1,0 +1,159 @@
+//! How builders are used.
+
+use crate::digest_signer::DigestSigner;
+use crate::refusals::Refusal;
+use crate::words::signer_of;
+use std::alloc::Global;
+use x509_cert_list_builders::{Builder, Signer};
+
+/// How a builder is used.
+#[derive(Clone, Copy)]
+pub enum Manner {
+    /// What is signed, made twice.
+    Part,
+    /// It is built.
+    Whole,
+    /// It is assembled at once.
+    Unready,
+    /// It is finalized, and changed behind that.
+    Late,
+    /// It is changed, finalized, and changed once more.
+    Later,
+    /// It is changed, finalized for a signer, and assembled by another.
+    Other,
+}
+
+impl Manner {
+    /// The manner that a word names.
+    pub fn parse(word: &str) -> Result<Manner, Refusal> {
+        match word {
+            "part" | "signed" => Ok(Manner::Part),
+            "whole" => Ok(Manner::Whole),
+            "unready" => Ok(Manner::Unready),
+            "late" => Ok(Manner::Late),
+            "later" => Ok(Manner::Later),
+            "other" => Ok(Manner::Other),
+            _ => Err(Refusal::Unread),
+        }
+    }
+}
+
+/// What a line asks of a builder.
+#[derive(Clone, Copy)]
+pub struct Asked<'a> {
+    pub manner: Manner,
+    /// What changes the builder.
+    pub change: &'a str,
+    /// The key of the signer.
+    pub key: &'a str,
+    /// Whether the signer refuses all octets.
+    pub refuses: bool,
+}
+
+impl Asked<'_> {
+    /// The signer.
+    fn signer(&self, alloc: Global) -> Result<DigestSigner, Refusal> {
+        signer_of(alloc, self.key, "1.3.6.1.4.1.32473.2", self.refuses)
+    }
+
+    /// The signer of another algorithm.
+    fn other_signer(&self, alloc: Global) -> Result<DigestSigner, Refusal> {
+        signer_of(alloc, self.key, "1.3.6.1.4.1.32473.3", self.refuses)
+    }
+}
+
+/// A builder that words change.
+pub trait Change: Builder {
+    /// Gives it what a word tells.
+    fn change(&mut self, alloc: Global, word: &str) -> Result<(), Refusal>;
+}
+
+/// What is signed, twice the same.
+pub fn part_of<B: Change + Drop>(
+    alloc: Global,
+    mut builder: B,
+    asked: &Asked<'_>,
+) -> Result<Vec<u8>, Refusal> {
+    let signer = asked.signer(alloc)?;
+    builder.change(alloc, asked.change)?;
+    let octets = builder.finalize(alloc, &signer)?;
+    let again = builder.finalize(alloc, &signer)?;
+    if octets.as_slice() != again.as_slice() {
+        return Err(Refusal::Changed);
+    }
+    Ok(octets)
+}
+
+/// What is made in another manner.
+pub fn whole_of<B: Change + Drop>(
+    alloc: Global,
+    builder: B,
+    asked: &Asked<'_>,
+) -> Result<B::Output, Refusal> {
+    let signer = asked.signer(alloc)?;
+    match asked.manner {
+        Manner::Part | Manner::Whole => built(alloc, builder, asked, &signer),
+        Manner::Unready => assembled(alloc, builder, &[], &signer),
+        Manner::Late => late(alloc, builder, asked, &signer),
+        Manner::Later => later(alloc, builder, asked, &signer),
+        Manner::Other => other(alloc, builder, asked, &signer),
+    }
+}
+
+fn built<B: Change + Drop>(
+    alloc: Global,
+    mut builder: B,
+    asked: &Asked<'_>,
+    signer: &DigestSigner,
+) -> Result<B::Output, Refusal> {
+    builder.change(alloc, asked.change)?;
+    let made = builder.build(alloc, signer)?;
+    Ok(made)
+}
+
+fn late<B: Change + Drop>(
+    alloc: Global,
+    mut builder: B,
+    asked: &Asked<'_>,
+    signer: &DigestSigner,
+) -> Result<B::Output, Refusal> {
+    let _octets = builder.finalize(alloc, signer)?;
+    builder.change(alloc, asked.change)?;
+    assembled(alloc, builder, &[], signer)
+}
+
+fn later<B: Change + Drop>(
+    alloc: Global,
+    mut builder: B,
+    asked: &Asked<'_>,
+    signer: &DigestSigner,
+) -> Result<B::Output, Refusal> {
+    builder.change(alloc, asked.change)?;
+    let octets = builder.finalize(alloc, signer)?;
+    builder.change(alloc, asked.change)?;
+    assembled(alloc, builder, octets.as_slice(), signer)
+}
+
+fn other<B: Change + Drop>(
+    alloc: Global,
+    mut builder: B,
+    asked: &Asked<'_>,
+    signer: &DigestSigner,
+) -> Result<B::Output, Refusal> {
+    builder.change(alloc, asked.change)?;
+    let octets = builder.finalize(alloc, signer)?;
+    let other = asked.other_signer(alloc)?;
+    assembled(alloc, builder, octets.as_slice(), &other)
+}
+
+/// What stands finalized, with a signature of these octets.
+fn assembled<B: Change + Drop>(
+    alloc: Global,
+    builder: B,
+    octets: &[u8],
+    signer: &DigestSigner,
+) -> Result<B::Output, Refusal> {
+    let signature = signer.sign(alloc, octets)?;
+    let made = builder.assemble(alloc, signature, signer)?;
+    Ok(made)
+}

@@ -1,0 +1,257 @@
+//! Certificates of each profile.
+
+use crate::builders::{Asked, Change, Manner, part_of, whole_of};
+use crate::refusals::Refusal;
+use crate::words::{Words, extension_of, key_of, octets_of, time_of};
+use der_core::{from_der, to_der};
+use std::alloc::Global;
+use std::str::FromStr;
+use x509_cert_list_builders::types::{
+    Certificate, GeneralNames, Name, OctetString, SerialNumber, Validity,
+};
+use x509_cert_list_builders::{
+    BuilderProfile, CertificateBuilder, CertificateType, DevId, Root, Subordinate, Subscriber,
+    Tls12Options, TpmVersion,
+};
+
+impl<P: BuilderProfile + Drop> Change for CertificateBuilder<P> {
+    fn change(&mut self, alloc: Global, word: &str) -> Result<(), Refusal> {
+        if word == "-" {
+            return Ok(());
+        }
+        let extension = extension_of(alloc, word)?;
+        self.add_extension(alloc, extension)?;
+        Ok(())
+    }
+}
+
+/// What a certificate has whatever its profile, and what is asked of its builder.
+#[derive(Clone, Copy)]
+struct Settled<'a> {
+    serial: &'a str,
+    from: &'a str,
+    until: &'a str,
+    key: &'a str,
+    asked: Asked<'a>,
+}
+
+impl<'a> Settled<'a> {
+    /// The next words: `SERIAL FROM UNTIL KEY SIGNER ADDED`.
+    fn parse(manner: Manner, flags: &str, words: &mut Words<'a>) -> Result<Settled<'a>, Refusal> {
+        let serial = words.next()?;
+        let from = words.next()?;
+        let until = words.next()?;
+        let key = words.next()?;
+        let signer = words.next()?;
+        let change = words.next()?;
+        Ok(Settled {
+            serial,
+            from,
+            until,
+            key,
+            asked: Asked {
+                manner,
+                change,
+                key: signer,
+                refuses: flags.contains('r'),
+            },
+        })
+    }
+
+    /// The builder of a profile.
+    fn builder<P: BuilderProfile + Drop>(
+        &self,
+        alloc: Global,
+        profile: P,
+    ) -> Result<CertificateBuilder<P>, Refusal> {
+        let octets = octets_of(alloc, self.serial)?;
+        let serial = SerialNumber::new(alloc, octets.as_slice())?;
+        let validity = Validity::new(time_of(self.from)?, time_of(self.until)?);
+        let key = key_of(alloc, self.key)?;
+        let builder = CertificateBuilder::new(alloc, profile, serial, validity, key)?;
+        Ok(builder)
+    }
+
+    /// What is made of a profile.
+    fn made<P: BuilderProfile + Drop>(
+        &self,
+        alloc: Global,
+        profile: P,
+    ) -> Result<Vec<u8>, Refusal> {
+        let builder = self.builder(alloc, profile)?;
+        if let Manner::Part = self.asked.manner {
+            return part_of(alloc, builder, &self.asked);
+        }
+        let certificate: Certificate = whole_of(alloc, builder, &self.asked)?;
+        let octets = to_der(alloc, &certificate)?;
+        Ok(octets)
+    }
+}
+
+/// What is made of the profile that the first word names.
+pub fn answer(alloc: Global, manner: Manner, rest: &str) -> Result<Vec<u8>, Refusal> {
+    let mut words = Words { rest };
+    let kind = words.next()?;
+    let flags = words.next()?;
+    match kind {
+        "root" => root(alloc, manner, flags, &mut words),
+        "subordinate" => subordinate(alloc, manner, flags, &mut words),
+        "subscriber" => subscriber(alloc, manner, flags, &mut words),
+        "device" => {
+            let told = DeviceWords::Names(words.next()?);
+            device(alloc, manner, flags, &told, &mut words)
+        }
+        "module" => {
+            let version = words.next()?;
+            let told = DeviceWords::Module(version, words.next()?);
+            device(alloc, manner, flags, &told, &mut words)
+        }
+        _ => Err(Refusal::Unread),
+    }
+}
+
+/// A root: last `SUBJECT`.
+fn root(
+    alloc: Global,
+    manner: Manner,
+    flags: &str,
+    words: &mut Words<'_>,
+) -> Result<Vec<u8>, Refusal> {
+    let settled = Settled::parse(manner, flags, words)?;
+    let subject = words.name(alloc)?;
+    let profile = Root::new(alloc, flags.contains('o'), subject)?;
+    settled.made(alloc, profile)
+}
+
+/// The path length that a word tells, or none.
+fn path_of(word: &str) -> Result<Option<u8>, Refusal> {
+    if word == "-" {
+        return Ok(None);
+    }
+    let Ok(path) = u8::from_str(word) else {
+        return Err(Refusal::Unread);
+    };
+    Ok(Some(path))
+}
+
+/// An authority below one: `PATH` first, and last `ISSUER|SUBJECT`.
+fn subordinate(
+    alloc: Global,
+    manner: Manner,
+    flags: &str,
+    words: &mut Words<'_>,
+) -> Result<Vec<u8>, Refusal> {
+    let path_len_constraint = path_of(words.next()?)?;
+    let settled = Settled::parse(manner, flags, words)?;
+    let issuer = words.name(alloc)?;
+    let subject = words.name(alloc)?;
+    let profile = Subordinate {
+        issuer,
+        subject,
+        path_len_constraint,
+        emits_ocsp_response: flags.contains('o'),
+        client_auth: flags.contains('c'),
+    };
+    settled.made(alloc, profile)
+}
+
+/// The kind of subscriber that a word names.
+fn type_of(alloc: Global, word: &str, subject: Name) -> Result<CertificateType, Refusal> {
+    match word {
+        "domain" => {
+            let kind = CertificateType::domain_validated(alloc, subject, Vec::new(alloc))?;
+            Ok(kind)
+        }
+        "individual" => Ok(CertificateType::IndividualValidated),
+        "organization" => Ok(CertificateType::OrganizationValidated),
+        "extended" => Ok(CertificateType::ExtendedValidation),
+        _ => Err(Refusal::Unread),
+    }
+}
+
+/// A server: its kind first, and last `ISSUER|SUBJECT`.
+fn subscriber(
+    alloc: Global,
+    manner: Manner,
+    flags: &str,
+    words: &mut Words<'_>,
+) -> Result<Vec<u8>, Refusal> {
+    let kind = words.next()?;
+    let settled = Settled::parse(manner, flags, words)?;
+    let issuer = words.name(alloc)?;
+    let subject = words.name(alloc)?;
+    let certificate_type = type_of(alloc, kind, subject)?;
+    let profile = Subscriber {
+        certificate_type,
+        issuer,
+        client_auth: flags.contains('c'),
+        tls12_options: Tls12Options {
+            enable_key_encipherment: flags.contains('k'),
+            enable_key_agreement: flags.contains('a'),
+        },
+        enable_data_encipherment: flags.contains('d'),
+    };
+    settled.made(alloc, profile)
+}
+
+/// The version that a word names.
+fn version_of(word: &str) -> Result<TpmVersion, Refusal> {
+    match word {
+        "1.2" => Ok(TpmVersion::Tpm12),
+        "2.0" => Ok(TpmVersion::Tpm20),
+        _ => Err(Refusal::Unread),
+    }
+}
+
+/// The alternative names that a word tells, or none.
+fn names_of(alloc: Global, word: &str) -> Result<Option<GeneralNames>, Refusal> {
+    if word == "-" {
+        return Ok(None);
+    }
+    let octets = octets_of(alloc, word)?;
+    let names: GeneralNames = from_der(alloc, octets.as_slice())?;
+    Ok(Some(names))
+}
+
+/// What a device is told by.
+#[derive(Clone, Copy)]
+enum DeviceWords<'a> {
+    /// Its alternative names, or none.
+    Names(&'a str),
+    /// The version and the serial number of its module.
+    Module(&'a str, &'a str),
+}
+
+impl DeviceWords<'_> {
+    /// Its profile.
+    fn profile(&self, alloc: Global, issuer: Name, subject: Name) -> Result<DevId, Refusal> {
+        match self {
+            DeviceWords::Names(word) => {
+                let names = names_of(alloc, word)?;
+                let profile = DevId::new(alloc, issuer, subject, names)?;
+                Ok(profile)
+            }
+            DeviceWords::Module(version, word) => {
+                let version = version_of(version)?;
+                let serial = OctetString::new(octets_of(alloc, word)?)?;
+                let profile = DevId::idevid_tpm(alloc, issuer, subject, version, serial)?;
+                Ok(profile)
+            }
+        }
+    }
+}
+
+/// A device: last `ISSUER|SUBJECT`.
+fn device(
+    alloc: Global,
+    manner: Manner,
+    flags: &str,
+    device: &DeviceWords<'_>,
+    words: &mut Words<'_>,
+) -> Result<Vec<u8>, Refusal> {
+    let settled = Settled::parse(manner, flags, words)?;
+    let issuer = words.name(alloc)?;
+    let subject = words.name(alloc)?;
+    let profile = device.profile(alloc, issuer, subject)?;
+    settled.made(alloc, profile)
+}

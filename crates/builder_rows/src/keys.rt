@@ -1,0 +1,53 @@
+//! Keys, and what tells them.
+
+use crate::refusals::Refusal;
+use crate::words::key_of;
+use der_core::to_der;
+use std::alloc::Global;
+use x509_cert_list_builders::types::{
+    AlgorithmIdentifierRef, AuthorityKeyIdentifier, SubjectKeyIdentifier, SubjectPublicKeyInfoRef,
+    TryFromKey,
+};
+
+/// The identifier of a key, and the encoding of the authority key identifier.
+pub fn answer(alloc: Global, word: &str) -> Result<String, Refusal> {
+    let key = key_of(alloc, word)?;
+    let algorithm: AlgorithmIdentifierRef<'_> = key.algorithm.owned_to_ref();
+    let lent: SubjectPublicKeyInfoRef<'_> = SubjectPublicKeyInfoRef {
+        algorithm,
+        subject_public_key: key.subject_public_key.owned_to_ref(),
+    };
+    let mut text = "ok ".to_string(alloc)?;
+    add_subject(alloc, &mut text, &lent)?;
+    text.push_str(" ")?;
+    add_authority(alloc, &mut text, &lent)?;
+    Ok(text)
+}
+
+/// Adds octets in hex to a text.
+fn add(alloc: Global, text: &mut String, octets: &[u8]) -> Result<(), Refusal> {
+    let word = hex::encode(alloc, octets)?;
+    text.push_str(word.as_str())?;
+    Ok(())
+}
+
+/// Adds the identifier of a subject's key.
+fn add_subject(
+    alloc: Global,
+    text: &mut String,
+    key: &SubjectPublicKeyInfoRef<'_>,
+) -> Result<(), Refusal> {
+    let identifier = SubjectKeyIdentifier::try_from_key(alloc, key)?;
+    add(alloc, text, identifier.0.as_bytes())
+}
+
+/// Adds the encoding of the identifier of an authority's key.
+fn add_authority(
+    alloc: Global,
+    text: &mut String,
+    key: &SubjectPublicKeyInfoRef<'_>,
+) -> Result<(), Refusal> {
+    let identifier = AuthorityKeyIdentifier::try_from_key(alloc, key)?;
+    let octets = to_der(alloc, &identifier)?;
+    add(alloc, text, octets.as_slice())
+}

@@ -1,0 +1,95 @@
+//! Lists.
+
+use crate::builders::{Asked, Change, Manner, part_of, whole_of};
+use crate::refusals::Refusal;
+use crate::words::{Words, octets_of, time_of};
+use der_core::{from_der, to_der};
+use std::alloc::Global;
+use std::str::FromStr;
+use x509_cert_list_builders::CrlBuilder;
+use x509_cert_list_builders::types::{Certificate, CertificateList, CrlNumber, RevokedCert, Time};
+
+/// The entry of a list that is the encoding of these octets.
+fn entry_of(alloc: Global, word: &str) -> Result<RevokedCert, Refusal> {
+    let octets = octets_of(alloc, word)?;
+    let entry = from_der(alloc, octets.as_slice())?;
+    Ok(entry)
+}
+
+impl Change for CrlBuilder {
+    fn change(&mut self, alloc: Global, word: &str) -> Result<(), Refusal> {
+        if word == "-" {
+            return Ok(());
+        }
+        let mut entries = Vec::new(alloc);
+        if word != "empty" {
+            for text in word.split(',') {
+                entries.push(entry_of(alloc, text)?)?;
+            }
+        }
+        self.with_certificates(alloc, entries.into_iter())?;
+        Ok(())
+    }
+}
+
+/// The issuer whose certificate has this encoding.
+fn issuer_of(alloc: Global, word: &str) -> Result<Certificate, Refusal> {
+    let octets = octets_of(alloc, word)?;
+    let issuer = Certificate::from_der(alloc, octets.as_slice())?;
+    Ok(issuer)
+}
+
+/// The number of a list that a word tells.
+fn number_of(alloc: Global, word: &str) -> Result<CrlNumber, Refusal> {
+    let Ok(number) = u128::from_str(word) else {
+        return Err(Refusal::Unread);
+    };
+    let number = CrlNumber::try_from_u128(alloc, number)?;
+    Ok(number)
+}
+
+/// The date of the next list that a word tells, or none.
+fn next_of(word: &str) -> Result<Option<Time>, Refusal> {
+    if word == "-" {
+        return Ok(None);
+    }
+    let time = Time::from_str(word)?;
+    Ok(Some(time))
+}
+
+/// The next words: `ISSUER NUMBER THIS NEXT`, the builder of the list.
+fn builder_of(alloc: Global, words: &mut Words<'_>) -> Result<CrlBuilder, Refusal> {
+    let issuer = words.next()?;
+    let number = words.next()?;
+    let this_update = time_of(words.next()?)?;
+    let next_update = next_of(words.next()?)?;
+    let issuer = issuer_of(alloc, issuer)?;
+    let number = number_of(alloc, number)?;
+    let builder = CrlBuilder::new_with_this_update(alloc, &issuer, number, this_update)?;
+    Ok(builder.with_next_update(next_update))
+}
+
+/// What is asked for of a list.
+pub fn answer(alloc: Global, rest: &str) -> Result<Vec<u8>, Refusal> {
+    let mut words = Words { rest };
+    let manner = Manner::parse(words.next()?)?;
+    let key = words.next()?;
+    let builder = builder_of(alloc, &mut words)?;
+    let asked = Asked {
+        manner,
+        change: words.rest,
+        key,
+        refuses: false,
+    };
+    made(alloc, builder, &asked)
+}
+
+/// What is made by a builder.
+fn made(alloc: Global, builder: CrlBuilder, asked: &Asked<'_>) -> Result<Vec<u8>, Refusal> {
+    if let Manner::Part = asked.manner {
+        return part_of(alloc, builder, asked);
+    }
+    let list: CertificateList = whole_of(alloc, builder, asked)?;
+    let octets = to_der(alloc, &list)?;
+    Ok(octets)
+}

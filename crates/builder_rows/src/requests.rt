@@ -1,0 +1,74 @@
+//! Requests.
+
+use crate::builders::{Asked, Change, Manner, part_of, whole_of};
+use crate::refusals::Refusal;
+use crate::words::{Words, extension_of, octets_of};
+use der_core::{from_der, to_der};
+use std::alloc::Global;
+use x509_cert_list_builders::RequestBuilder;
+use x509_cert_list_builders::types::{CertReq, ChallengePassword, DirectoryString};
+
+impl Change for RequestBuilder {
+    fn change(&mut self, alloc: Global, word: &str) -> Result<(), Refusal> {
+        if word == "-" {
+            return Ok(());
+        }
+        for text in word.split(',') {
+            let extension = extension_of(alloc, text)?;
+            self.add_extension(alloc, extension)?;
+        }
+        Ok(())
+    }
+}
+
+/// The password that is the encoding of these octets.
+fn password_of(alloc: Global, word: &str) -> Result<ChallengePassword, Refusal> {
+    let octets = octets_of(alloc, word)?;
+    let text: DirectoryString = from_der(alloc, octets.as_slice())?;
+    Ok(ChallengePassword(text))
+}
+
+/// The builder of a request of these passwords and this name.
+fn builder_of(
+    alloc: Global,
+    passwords: &str,
+    words: &mut Words<'_>,
+) -> Result<RequestBuilder, Refusal> {
+    let name = words.name(alloc)?;
+    let mut builder = RequestBuilder::new(alloc, name)?;
+    if passwords == "-" {
+        return Ok(builder);
+    }
+    for text in passwords.split(',') {
+        let password = password_of(alloc, text)?;
+        builder.add_attribute(alloc, &password)?;
+    }
+    Ok(builder)
+}
+
+/// What is asked for of a request.
+pub fn answer(alloc: Global, rest: &str) -> Result<Vec<u8>, Refusal> {
+    let mut words = Words { rest };
+    let manner = Manner::parse(words.next()?)?;
+    let key = words.next()?;
+    let change = words.next()?;
+    let passwords = words.next()?;
+    let builder = builder_of(alloc, passwords, &mut words)?;
+    let asked = Asked {
+        manner,
+        change,
+        key,
+        refuses: false,
+    };
+    made(alloc, builder, &asked)
+}
+
+/// What is made by a builder.
+fn made(alloc: Global, builder: RequestBuilder, asked: &Asked<'_>) -> Result<Vec<u8>, Refusal> {
+    if let Manner::Part = asked.manner {
+        return part_of(alloc, builder, asked);
+    }
+    let request: CertReq = whole_of(alloc, builder, asked)?;
+    let octets = to_der(alloc, &request)?;
+    Ok(octets)
+}
