@@ -1,17 +1,12 @@
 //! A signer of digests.
 
 use const_oid_identifiers::ObjectIdentifier;
+use der_core::Error;
 use rand_core::CryptoRng;
 use sha2::{Digest, Sha256};
 use std::alloc::Global;
 use x509_cert::builder::{SignError, Signer};
 use x509_cert::{AlgorithmIdentifier, BitString, SubjectPublicKeyInfo};
-
-// 1.3.6.1.4.1.32473.2, under the arc for examples (RFC 5612).
-#[tactic(auto, unfolding(const_oid_identifiers::specs::Bound::Bound, const_oid_identifiers::specs::TextReading::text_arcs, const_oid_identifiers::specs::ArcLists::add_arc, const_oid_identifiers::specs::ArcLists::whole_arcs, const_oid_identifiers::specs::IdentifierOctets::identifier_octets, const_oid_identifiers::specs::IdentifierOctets::arc_octets, const_oid_identifiers::specs::Digits::digits, const_oid_identifiers::specs::Digits::digits_within, const_oid_identifiers::specs::Digits::marked))]
-fn digest_identifier() -> ObjectIdentifier<39> {
-    ObjectIdentifier::new_unwrap("1.3.6.1.4.1.32473.2")
-}
 
 /// A signer whose bits are the SHA-256 digest of its key's octets and the signed ones. It protects nothing: it stands where a key in
 /// memory, in a device or behind a process stands.
@@ -22,15 +17,14 @@ pub struct DigestSigner {
 }
 
 impl DigestSigner {
-    /// The signer of this key.
-    pub fn new(key: SubjectPublicKeyInfo) -> DigestSigner {
-        DigestSigner {
-            key,
-            algorithm: AlgorithmIdentifier {
-                oid: digest_identifier(),
-                parameters: None,
-            },
-        }
+    /// The signer of this key, by an algorithm under the arc for examples (RFC 5612).
+    pub fn new(key: SubjectPublicKeyInfo) -> Result<DigestSigner, Error> {
+        let oid = ObjectIdentifier::new("1.3.6.1.4.1.32473.2")?;
+        let algorithm = AlgorithmIdentifier {
+            oid,
+            parameters: None,
+        };
+        Ok(DigestSigner { key, algorithm })
     }
 }
 

@@ -10,12 +10,12 @@ use std::alloc::Global;
 use std::io;
 use std::str::FromStr;
 use x509_cert::builder::{
-    Builder, CertificateBuilder, CertificateType, CrlBuilder, Error, RequestBuilder, Root,
-    Subordinate, Subscriber, Tls12Options,
+    Builder, BuilderProfile, CertificateBuilder, CertificateType, CrlBuilder, Error,
+    RequestBuilder, Root, Subordinate, Subscriber, Tls12Options,
 };
 use x509_cert::{
     CertReq, Certificate, CertificateList, CrlNumber, GeneralName, Ia5String, Name, RevokedCert,
-    SerialNumber, SubjectAltName, Time, Validity,
+    SerialNumber, SubjectAltName, SubjectPublicKeyInfo, Time, Validity,
 };
 
 /// The key of the root, on P-256: the encoding of its `SubjectPublicKeyInfo`.
@@ -37,6 +37,12 @@ fn main(rt: HostRuntime) -> io::Result<()> {
     }
 }
 
+/// The key that is the encoding of these octets.
+fn key_of(alloc: Global, octets: &[u8]) -> Result<SubjectPublicKeyInfo, Error> {
+    let key = from_der(alloc, octets)?;
+    Ok(key)
+}
+
 /// From when until when all of them are valid.
 fn validity() -> Result<Validity, Error> {
     let from = Time::from_str("2026-01-01T00:00:00Z")?;
@@ -44,18 +50,24 @@ fn validity() -> Result<Validity, Error> {
     Ok(Validity::new(from, until))
 }
 
+/// The builder of a certificate of this profile, number and key.
+fn builder_of<P: BuilderProfile + Drop>(
+    alloc: Global,
+    profile: P,
+    number: u8,
+    key: &[u8],
+) -> Result<CertificateBuilder<P>, Error> {
+    let serial = SerialNumber::new(alloc, &[number])?;
+    let key = key_of(alloc, key)?;
+    let builder = CertificateBuilder::new(alloc, profile, serial, validity()?, key)?;
+    Ok(builder)
+}
+
 /// A root (CA/Browser Forum, Baseline Requirements 7.1.2.1). Its issuer is itself.
 fn root(alloc: Global, signer: &DigestSigner) -> Result<Certificate, Error> {
     let subject = Name::from_str(alloc, "CN=Example Root,O=Example,C=US")?;
     let profile = Root::new(alloc, false, subject)?;
-    let serial = SerialNumber::new(alloc, &[1])?;
-    let builder = CertificateBuilder::new(
-        alloc,
-        profile,
-        serial,
-        validity()?,
-        from_der(alloc, ROOT)?,
-    )?;
+    let builder = builder_of(alloc, profile, 1, ROOT)?;
     let certificate = builder.build(alloc, signer)?;
     Ok(certificate)
 }
@@ -66,23 +78,40 @@ fn authority(
     root: &Certificate,
     signer: &DigestSigner,
 ) -> Result<Certificate, Error> {
+    let issuer = root.tbs_certificate().subject().clone(alloc)?;
+    let subject = Name::from_str(alloc, "CN=Example Authority,O=Example,C=US")?;
     let profile = Subordinate {
-        issuer: root.tbs_certificate().subject().clone(alloc)?,
-        subject: Name::from_str(alloc, "CN=Example Authority,O=Example,C=US")?,
+        issuer,
+        subject,
         path_len_constraint: Some(0),
         emits_ocsp_response: false,
         client_auth: true,
     };
-    let serial = SerialNumber::new(alloc, &[2])?;
-    let builder = CertificateBuilder::new(
-        alloc,
-        profile,
-        serial,
-        validity()?,
-        from_der(alloc, AUTHORITY)?,
-    )?;
+    let builder = builder_of(alloc, profile, 2, AUTHORITY)?;
     let certificate = builder.build(alloc, signer)?;
     Ok(certificate)
+}
+
+/// The server's one domain.
+fn domain(alloc: Global) -> Result<SubjectAltName, Error> {
+    let name = Ia5String::new(alloc, b"server.example")?;
+    let mut names = Vec::new(alloc);
+    names.push(GeneralName::DnsName(name))?;
+    Ok(SubjectAltName(names))
+}
+
+/// The profile of a server whose domain was validated.
+fn profile_of_server(alloc: Global, authority: &Certificate) -> Result<Subscriber, Error> {
+    let issuer = authority.tbs_certificate().subject().clone(alloc)?;
+    let subject = Name::from_str(alloc, "CN=server.example")?;
+    let certificate_type = CertificateType::domain_validated(alloc, subject, Vec::new(alloc))?;
+    Ok(Subscriber {
+        certificate_type,
+        issuer,
+        client_auth: false,
+        tls12_options: Tls12Options::default(),
+        enable_data_encipherment: false,
+    })
 }
 
 /// A server with one domain (7.1.2.7). Alternative names are added to the builder; the profile adds the rest behind them.
@@ -91,27 +120,22 @@ fn server(
     authority: &Certificate,
     signer: &DigestSigner,
 ) -> Result<Certificate, Error> {
-    let subject = Name::from_str(alloc, "CN=server.example")?;
-    let profile = Subscriber {
-        certificate_type: CertificateType::domain_validated(alloc, subject, Vec::new(alloc))?,
-        issuer: authority.tbs_certificate().subject().clone(alloc)?,
-        client_auth: false,
-        tls12_options: Tls12Options::default(),
-        enable_data_encipherment: false,
-    };
-    let serial = SerialNumber::new(alloc, &[3])?;
-    let mut builder = CertificateBuilder::new(
-        alloc,
-        profile,
-        serial,
-        validity()?,
-        from_der(alloc, SERVER)?,
-    )?;
-    let mut domains = Vec::new(alloc);
-    domains.push(GeneralName::DnsName(Ia5String::new(alloc, b"server.example")?))?;
-    builder.add_extension(alloc, &SubjectAltName(domains))?;
+    let profile = profile_of_server(alloc, authority)?;
+    let mut builder = builder_of(alloc, profile, 3, SERVER)?;
+    builder.add_extension(alloc, &domain(alloc)?)?;
     let certificate = builder.build(alloc, signer)?;
     Ok(certificate)
+}
+
+/// What a list says of the server's certificate.
+fn entry(alloc: Global) -> Result<RevokedCert, Error> {
+    let revocation_date = Time::from_str("2026-01-15T12:00:00Z")?;
+    let serial_number = SerialNumber::new(alloc, &[3])?;
+    Ok(RevokedCert {
+        serial_number,
+        revocation_date,
+        crl_entry_extensions: None,
+    })
 }
 
 /// The first list of an authority, by which the server's certificate is revoked (RFC 5280 5.1).
@@ -120,16 +144,13 @@ fn list(
     authority: &Certificate,
     signer: &DigestSigner,
 ) -> Result<CertificateList, Error> {
-    let number = CrlNumber::try_from_u128(alloc, 1)?;
     let this_update = Time::from_str("2026-02-01T00:00:00Z")?;
+    let next_update = Time::from_str("2026-03-01T00:00:00Z")?;
+    let number = CrlNumber::try_from_u128(alloc, 1)?;
     let mut builder = CrlBuilder::new_with_this_update(alloc, authority, number, this_update)?;
-    builder = builder.with_next_update(Some(Time::from_str("2026-03-01T00:00:00Z")?));
+    builder = builder.with_next_update(Some(next_update));
     let mut revoked = Vec::new(alloc);
-    revoked.push(RevokedCert {
-        serial_number: SerialNumber::new(alloc, &[3])?,
-        revocation_date: Time::from_str("2026-01-15T12:00:00Z")?,
-        crl_entry_extensions: None,
-    })?;
+    revoked.push(entry(alloc)?)?;
     builder.with_certificates(alloc, revoked.into_iter())?;
     let list = builder.build(alloc, signer)?;
     Ok(list)
@@ -139,34 +160,62 @@ fn list(
 fn request(alloc: Global, signer: &DigestSigner) -> Result<CertReq, Error> {
     let subject = Name::from_str(alloc, "CN=server.example")?;
     let mut builder = RequestBuilder::new(alloc, subject)?;
-    let mut domains = Vec::new(alloc);
-    domains.push(GeneralName::DnsName(Ia5String::new(alloc, b"server.example")?))?;
-    builder.add_extension(alloc, &SubjectAltName(domains))?;
+    builder.add_extension(alloc, &domain(alloc)?)?;
     let request = builder.build(alloc, signer)?;
     Ok(request)
 }
 
-/// What was made as a line of hex.
-fn line_of<T: Encode>(alloc: Global, made: &T) -> Result<String, Error> {
+/// The signer of the key that is the encoding of these octets.
+fn signer_of(alloc: Global, key: &[u8]) -> Result<DigestSigner, Error> {
+    let key = key_of(alloc, key)?;
+    let signer = DigestSigner::new(key)?;
+    Ok(signer)
+}
+
+/// Adds what was made to a text, as a line of hex.
+fn add_line<T: Encode>(alloc: Global, text: &mut String, made: &T) -> Result<(), Error> {
     let octets = to_der(alloc, made)?;
-    let mut line = hex::encode(alloc, octets.as_slice())?;
-    line.push_str("\n")?;
-    Ok(line)
+    let line = hex::encode(alloc, octets.as_slice())?;
+    text.push_str(line.as_str())?;
+    text.push_str("\n")?;
+    Ok(())
+}
+
+/// Adds a certificate.
+fn add_certificate(
+    alloc: Global,
+    text: &mut String,
+    certificate: &Certificate,
+) -> Result<(), Error> {
+    add_line(alloc, text, certificate)
+}
+
+/// Adds the root, and what stands below it.
+fn add_root(alloc: Global, text: &mut String) -> Result<(), Error> {
+    let signer = signer_of(alloc, ROOT)?;
+    let root = root(alloc, &signer)?;
+    add_certificate(alloc, text, &root)?;
+    add_authority(alloc, text, &authority(alloc, &root, &signer)?)
+}
+
+/// Adds the authority, the server that it certifies, and its list.
+fn add_authority(alloc: Global, text: &mut String, authority: &Certificate) -> Result<(), Error> {
+    add_certificate(alloc, text, authority)?;
+    let signer = signer_of(alloc, AUTHORITY)?;
+    add_certificate(alloc, text, &server(alloc, authority, &signer)?)?;
+    add_line(alloc, text, &list(alloc, authority, &signer)?)
+}
+
+/// Adds the server's request.
+fn add_request(alloc: Global, text: &mut String) -> Result<(), Error> {
+    let signer = signer_of(alloc, SERVER)?;
+    add_line(alloc, text, &request(alloc, &signer)?)
 }
 
 /// All of them, each a line.
 fn chain(alloc: Global) -> Result<String, Error> {
-    let at_root = DigestSigner::new(from_der(alloc, ROOT)?);
-    let root = root(alloc, &at_root)?;
-    let at_authority = DigestSigner::new(from_der(alloc, AUTHORITY)?);
-    let authority = authority(alloc, &root, &at_root)?;
-    let server = server(alloc, &authority, &at_authority)?;
-    let list = list(alloc, &authority, &at_authority)?;
-    let request = request(alloc, &DigestSigner::new(from_der(alloc, SERVER)?))?;
-    let mut text = line_of(alloc, &root)?;
-    text.push_str(line_of(alloc, &authority)?.as_str())?;
-    text.push_str(line_of(alloc, &server)?.as_str())?;
-    text.push_str(line_of(alloc, &list)?.as_str())?;
-    text.push_str(line_of(alloc, &request)?.as_str())?;
+    let mut text = String::new(alloc);
+    add_root(alloc, &mut text)?;
+    add_request(alloc, &mut text)?;
     Ok(text)
 }
