@@ -1,18 +1,18 @@
 //! Questions and their answers.
 
 use crate::refusals::Refusal;
+use crate::shown::front_of;
 use crate::{
     any_values, contents, fields, headers, identifiers, kinds, lists, made, readers, times, writers,
 };
 use std::alloc::Global;
+use std::io;
 use std::io::Write;
-use std::{io, str};
 
 /// Writes the answer to a line.
-pub fn answer<W: Write>(alloc: Global, line: &[u8], out: &mut W) -> io::Result<()> {
-    if line.is_empty() || line.starts_with(b"#") {
-        out.write_all(line)?;
-        return out.write_all(b"\n");
+pub fn answer<W: Write>(alloc: Global, line: &str, out: &mut W) -> io::Result<()> {
+    if line.is_empty() || line.starts_with('#') {
+        return writeln!(out, "{line}");
     }
     match answer_of(alloc, line) {
         Ok(text) if text.is_empty() => out.write_all(b"ok\n"),
@@ -22,8 +22,7 @@ pub fn answer<W: Write>(alloc: Global, line: &[u8], out: &mut W) -> io::Result<(
 }
 
 /// What is answered behind `ok`: of `why` and `place`, what the refusal of the question behind them tells.
-fn answer_of(alloc: Global, line: &[u8]) -> Result<String, Refusal> {
-    let line = str::from_utf8(line)?;
+fn answer_of(alloc: Global, line: &str) -> Result<String, Refusal> {
     match line.split_once(' ') {
         Some(("why", question)) => refusal_of(alloc, question)?.reason(alloc),
         Some(("place", question)) => refusal_of(alloc, question)?.place(alloc),
@@ -41,7 +40,7 @@ fn refusal_of(alloc: Global, question: &str) -> Result<Refusal, Refusal> {
 
 /// The answer by the first page of words that knows the first word.
 fn answer_of_words(alloc: Global, line: &str) -> Result<String, Refusal> {
-    let (word, rest) = line.split_once(' ').unwrap_or((line, ""));
+    let (word, rest) = front_of(line);
     match word {
         "der" | "ber" | "order" | "contents" | "compare" | "text" => kinds::answer(
             alloc, word, rest,

@@ -1,9 +1,9 @@
 //! Any values, and what they are read as.
 
 use crate::entry::Entry;
-use crate::made::written;
-use crate::questions::{Question, answer_as, name_of};
+use crate::questions::{Asked, Question, answer_as};
 use crate::refusals::Refusal;
+use crate::shown::{named, octets_of, written_in};
 use crate::small::Small;
 use const_oid_identifiers::ObjectIdentifier;
 use der_core::{
@@ -31,11 +31,11 @@ pub fn answer(alloc: Global, kind: &str, question: &Question<'_>) -> Result<Stri
 
 /// The answer of any values, whose contents are compared whatever their tags.
 fn answer_of_any(alloc: Global, question: &Question<'_>) -> Result<String, Refusal> {
-    match *question {
-        Question::Contents(first, second) => {
-            let first: Any = from_der(alloc, first)?;
-            let second: Any = from_der(alloc, second)?;
-            Ok(name_of(first.value_cmp(&second)?).to_string(alloc)?)
+    match question.asked {
+        Asked::Contents => {
+            let first: Any = from_der(alloc, question.first)?;
+            let second: Any = from_der(alloc, question.second)?;
+            named(alloc, first.value_cmp(&second))
         }
         _ => answer_as::<Any>(alloc, question),
     }
@@ -44,15 +44,24 @@ fn answer_of_any(alloc: Global, question: &Question<'_>) -> Result<String, Refus
 /// The answer to a question about what any value is read as, or is made of.
 pub fn answer_of_conversions(alloc: Global, word: &str, rest: &str) -> Result<String, Refusal> {
     let (kind, octets) = rest.split_once(' ').ok_or(Refusal::Unread)?;
-    let octets = hex::decode(alloc, octets.as_bytes())?;
+    let octets = octets_of(alloc, octets)?;
     if word == "any-ref-from" {
-        return written(alloc, &lent_from(alloc, kind, octets.as_slice())?);
+        return lent_from(alloc, kind, octets.as_slice());
     }
-    let any: Any = from_der(alloc, octets.as_slice())?;
+    answer_of_conversion(alloc, word, kind, &from_der(alloc, octets.as_slice())?)
+}
+
+/// The answer to a question about what any value is read as, or is converted to.
+fn answer_of_conversion(
+    alloc: Global,
+    word: &str,
+    kind: &str,
+    any: &Any,
+) -> Result<String, Refusal> {
     match word {
-        "any-as" => read_as(alloc, kind, &any, EncodingRules::Der),
-        "any-as-ber" => read_as(alloc, kind, &any, EncodingRules::Ber),
-        _ => number_from(alloc, kind, word, &any),
+        "any-as" => read_as(alloc, kind, any, EncodingRules::Der),
+        "any-as-ber" => read_as(alloc, kind, any, EncodingRules::Ber),
+        _ => number_from(alloc, kind, word, any),
     }
 }
 
@@ -77,9 +86,9 @@ fn decoded<'a, T: DecodeValue<'a, SliceReader<'a>> + EncodeValue + FixedTag + Dr
     rules: EncodingRules,
 ) -> Result<String, Refusal> {
     if rules.is_der() {
-        return written(alloc, &any.decode_as::<T>(alloc)?);
+        return written_in(alloc, any.decode_as::<T>(alloc));
     }
-    written(alloc, &any.decode_as_encoding::<T>(alloc, rules)?)
+    written_in(alloc, any.decode_as_encoding::<T>(alloc, rules))
 }
 
 /// What is written of the number that any value is converted to.
@@ -142,25 +151,51 @@ fn converted<
         + Drop,
 >(alloc: Global, word: &str, any: &'a Any) -> Result<String, Refusal> {
     match word {
-        "any-into" => written(alloc, &T::try_from(any)?),
-        "any-ref-into" => written(alloc, &T::try_from(any.to_ref())?),
-        "any-from" => written(alloc, &Any::encode_from(alloc, &T::try_from(any)?)?),
+        "any-into" => written_in(alloc, T::try_from(any)),
+        "any-ref-into" => written_in(alloc, T::try_from(any.to_ref())),
+        "any-from" => written_in(alloc, again::<T>(alloc, any)),
         _ => Err(Refusal::Unread),
     }
 }
 
-/// Any value that is made of the value that octets spell, and lends what that lends.
-fn lent_from<'a>(alloc: Global, kind: &str, octets: &'a [u8]) -> Result<AnyRef<'a>, Refusal> {
-    let any = match kind {
-        "IntRef" => AnyRef::from(from_der::<IntRef>(alloc, octets)?),
-        "Null" => AnyRef::from(from_der::<Null>(alloc, octets)?),
-        "OctetStringRef" => AnyRef::from(from_der::<OctetStringRef>(alloc, octets)?),
-        "SequenceRef" => AnyRef::from(from_der::<SequenceRef>(alloc, octets)?),
-        "PrintableStringRef" => AnyRef::try_from(from_der::<PrintableStringRef>(alloc, octets)?)?,
-        "GeneralStringRef" => AnyRef::try_from(from_der::<GeneralStringRef>(alloc, octets)?)?,
-        "Utf8StringRef" => AnyRef::try_from(from_der::<Utf8StringRef>(alloc, octets)?)?,
-        "str" => AnyRef::try_from(from_der::<&str>(alloc, octets)?)?,
-        _ => return Err(Refusal::Unread),
-    };
-    Ok(any)
+/// Any value that is made of the value that another was converted to.
+fn again<'a, T: TryFrom<&'a Any, Error = Error> + EncodeValue + FixedTag + Drop>(
+    alloc: Global,
+    any: &'a Any,
+) -> Result<Any, Error> {
+    Any::encode_from(alloc, &T::try_from(any)?)
+}
+
+/// What is written of any value that is made of the value that octets spell, and lends what that lends.
+fn lent_from(alloc: Global, kind: &str, octets: &[u8]) -> Result<String, Refusal> {
+    match kind {
+        "IntRef" => lent_from_value::<IntRef>(alloc, octets),
+        "Null" => lent_from_value::<Null>(alloc, octets),
+        "OctetStringRef" => lent_from_value::<OctetStringRef>(alloc, octets),
+        "SequenceRef" => lent_from_value::<SequenceRef>(alloc, octets),
+        "PrintableStringRef" => lent_from_text::<PrintableStringRef>(alloc, octets),
+        "GeneralStringRef" => lent_from_text::<GeneralStringRef>(alloc, octets),
+        "Utf8StringRef" => lent_from_text::<Utf8StringRef>(alloc, octets),
+        "str" => lent_from_text::<&str>(alloc, octets),
+        _ => Err(Refusal::Unread),
+    }
+}
+
+/// What is written of any value that is made of a value.
+fn lent_from_value<'a, T: Decode<'a, SliceReader<'a>> + Into<AnyRef<'a>>>(
+    alloc: Global,
+    octets: &'a [u8],
+) -> Result<String, Refusal> {
+    let value: T = from_der(alloc, octets)?;
+    let any: AnyRef<'a> = value.into();
+    written_in(alloc, Ok(any))
+}
+
+/// What is written of any value that is made of a text.
+fn lent_from_text<'a, T: Decode<'a, SliceReader<'a>> + TryInto<AnyRef<'a>, Error = Error>>(
+    alloc: Global,
+    octets: &'a [u8],
+) -> Result<String, Refusal> {
+    let value: T = from_der(alloc, octets)?;
+    written_in(alloc, value.try_into())
 }

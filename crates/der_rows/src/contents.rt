@@ -1,7 +1,7 @@
 //! Contents without a tag, and orders by `Ord`.
 
-use crate::questions::name_of;
 use crate::refusals::Refusal;
+use crate::shown::{hex_of, name_of, octets_of};
 use const_oid_identifiers::ObjectIdentifier;
 use der_core::{
     BytesOwned, BytesRef, Decode, DecodeValue, EncodeValue, EncodeValueRef, FixedTag, Header,
@@ -14,8 +14,8 @@ use std::alloc::Global;
 pub fn answer(alloc: Global, rest: &str) -> Result<String, Refusal> {
     let (kind, rest) = rest.split_once(' ').ok_or(Refusal::Unread)?;
     let (first, second) = rest.split_once(' ').unwrap_or((rest, ""));
-    let first = hex::decode(alloc, first.as_bytes())?;
-    let second = hex::decode(alloc, second.as_bytes())?;
+    let first = octets_of(alloc, first)?;
+    let second = octets_of(alloc, second)?;
     let (first, second) = (first.as_slice(), second.as_slice());
     match kind {
         "BytesRef" => answer_as::<BytesRef>(alloc, first, second),
@@ -34,9 +34,18 @@ fn answer_as<'a, T: DecodeValue<'a, SliceReader<'a>> + EncodeValue + ValueOrd + 
 ) -> Result<String, Refusal> {
     let first: T = value_of(alloc, first)?;
     let second: T = value_of(alloc, second)?;
-    let order = name_of(EncodeValueRef(&first).value_cmp(&EncodeValueRef(&second))?);
-    let first = written(alloc, &first)?;
-    let second = written(alloc, &second)?;
+    both_written(alloc, &first, &second)
+}
+
+/// What is written of two contents, and their order.
+fn both_written<T: EncodeValue + ValueOrd>(
+    alloc: Global,
+    first: &T,
+    second: &T,
+) -> Result<String, Refusal> {
+    let order = name_of(EncodeValueRef(first).value_cmp(&EncodeValueRef(second))?);
+    let first = content_of(alloc, first)?;
+    let second = content_of(alloc, second)?;
     Ok(format!(in alloc; "{first} {order} {second}")?)
 }
 
@@ -51,25 +60,26 @@ fn value_of<'a, T: DecodeValue<'a, SliceReader<'a>>>(
 }
 
 /// The octets of the content of a value.
-fn written<T: EncodeValue>(alloc: Global, value: &T) -> Result<String, Refusal> {
+fn content_of<T: EncodeValue>(alloc: Global, value: &T) -> Result<String, Refusal> {
     let mut octets = Vec::new(alloc);
     value.encode_value(&mut octets)?;
-    Ok(hex::encode(alloc, octets)?)
+    hex_of(alloc, octets.as_slice())
 }
 
 /// The first octets of octets that are held.
 pub fn answer_of_prefixes(alloc: Global, rest: &str) -> Result<String, Refusal> {
     let (octets, len) = rest.split_once(' ').ok_or(Refusal::Unread)?;
-    let octets = hex::decode(alloc, octets.as_bytes())?;
-    let prefix = BytesRef::new(octets.as_slice())?.prefix(Length::new(len.parse::<u32>()?))?;
-    Ok(hex::encode(alloc, prefix.as_slice())?)
+    let len = Length::new(len.parse::<u32>()?);
+    let octets = octets_of(alloc, octets)?;
+    let prefix = BytesRef::new(octets.as_slice())?.prefix(len)?;
+    hex_of(alloc, prefix.as_slice())
 }
 
 /// The number at the front of octets, and the octets behind it.
 pub fn answer_of_fronts(alloc: Global, octets: &str) -> Result<String, Refusal> {
-    let octets = hex::decode(alloc, octets.as_bytes())?;
+    let octets = octets_of(alloc, octets)?;
     let (number, behind) = from_der_partial::<u8>(alloc, octets.as_slice())?;
-    let behind = hex::encode(alloc, behind)?;
+    let behind = hex_of(alloc, behind)?;
     Ok(format!(in alloc; "{number} {behind}")?)
 }
 
@@ -77,8 +87,8 @@ pub fn answer_of_fronts(alloc: Global, octets: &str) -> Result<String, Refusal> 
 pub fn answer_by_ord(alloc: Global, rest: &str) -> Result<String, Refusal> {
     let (kind, rest) = rest.split_once(' ').ok_or(Refusal::Unread)?;
     let (first, second) = rest.split_once(' ').ok_or(Refusal::Unread)?;
-    let first = hex::decode(alloc, first.as_bytes())?;
-    let second = hex::decode(alloc, second.as_bytes())?;
+    let first = octets_of(alloc, first)?;
+    let second = octets_of(alloc, second)?;
     let (first, second) = (first.as_slice(), second.as_slice());
     match kind {
         "bool" => orders_by_ord::<bool>(alloc, first, second),
@@ -96,8 +106,17 @@ fn orders_by_ord<
 >(alloc: Global, first: &'a [u8], second: &'a [u8]) -> Result<String, Refusal> {
     let first: T = from_der(alloc, first)?;
     let second: T = from_der(alloc, second)?;
-    let contents = name_of(value_cmp_by_ord(&first, &second));
-    let same_contents = name_of(value_cmp_is_ord(&first, &second)?);
-    let encodings = name_of(der_cmp_by_ord(&first, &second)?);
+    orders_of(alloc, &first, &second)
+}
+
+/// The orders by `Ord` of the contents and of the encodings of two values.
+fn orders_of<T: EncodeValue + FixedTag + OrdIsValueOrd + ValueOrd>(
+    alloc: Global,
+    first: &T,
+    second: &T,
+) -> Result<String, Refusal> {
+    let contents = name_of(value_cmp_by_ord(first, second));
+    let same_contents = name_of(value_cmp_is_ord(first, second)?);
+    let encodings = name_of(der_cmp_by_ord(first, second)?);
     Ok(format!(in alloc; "{contents} {same_contents} {encodings}")?)
 }

@@ -5,9 +5,10 @@ ghost use Rattle.der_core_head.specs.declared.tag_mode.TagMode.TheVariants as mo
 
 use crate::any_values;
 use crate::entry::Entry;
-use crate::questions::{Question, answer_of_value, name_of};
+use crate::questions::{Asked, Question, answer_of_value};
 use crate::record::Record;
 use crate::refusals::Refusal;
+use crate::shown::{front_of, hex_in, name_of, named, octets_of};
 use der_core::{
     CLASS_APPLICATION as APPLICATION, CLASS_CONTEXT_SPECIFIC as CONTEXT, CLASS_PRIVATE as PRIVATE,
     Decode, DecodeValue, EncodeValue, Error, Explicit, FixedTag, Implicit, Reader, SliceReader,
@@ -50,15 +51,15 @@ fn answer_of_class<const CLASS: u8>(
     alloc: Global,
     question: &Question<'_>,
 ) -> Result<String, Refusal> {
-    match *question {
-        Question::Der(octets) => {
-            let field = of_any_number::<CLASS>(alloc, octets)?;
-            Ok(hex::encode(alloc, field.to_der(alloc)?)?)
+    match question.asked {
+        Asked::Der => {
+            let field = of_any_number::<CLASS>(alloc, question.first)?;
+            hex_in(alloc, field.to_der(alloc))
         }
-        Question::Order(first, second) => {
-            let first = of_any_number::<CLASS>(alloc, first)?;
-            let second = of_any_number::<CLASS>(alloc, second)?;
-            Ok(name_of(first.der_cmp(&second)?).to_string(alloc)?)
+        Asked::Order => {
+            let first = of_any_number::<CLASS>(alloc, question.first)?;
+            let second = of_any_number::<CLASS>(alloc, question.second)?;
+            named(alloc, first.der_cmp(&second))
         }
         _ => Err(Refusal::Unread),
     }
@@ -88,18 +89,20 @@ struct Numbered<'a> {
 /// The answer to a question about fields of a number.
 pub fn answer_of_number(alloc: Global, word: &str, rest: &str) -> Result<String, Refusal> {
     let (kind, rest) = rest.split_once(' ').ok_or(Refusal::Unread)?;
-    let (number, rest) = rest.split_once(' ').unwrap_or((rest, ""));
-    let (first, second) = rest.split_once(' ').unwrap_or((rest, ""));
-    let first = hex::decode(alloc, first.as_bytes())?;
-    let second = hex::decode(alloc, second.as_bytes())?;
+    let (number, rest) = front_of(rest);
+    let (first, second) = front_of(rest);
+    let number = TagNumber {
+        value: number.parse().ok().ok_or(Refusal::Unread)?,
+    };
+    let mode = match word {
+        "explicit" => TagMode::Explicit,
+        _ => TagMode::Implicit,
+    };
+    let first = octets_of(alloc, first)?;
+    let second = octets_of(alloc, second)?;
     let field = Numbered {
-        mode: match word {
-            "explicit" => TagMode::Explicit,
-            _ => TagMode::Implicit,
-        },
-        number: TagNumber {
-            value: number.parse().ok().ok_or(Refusal::Unread)?,
-        },
+        mode,
+        number,
         octets: first.as_slice(),
     };
     if second.is_empty() {
@@ -112,16 +115,16 @@ pub fn answer_of_number(alloc: Global, word: &str, rest: &str) -> Result<String,
 /// What is written of the field, by the name of its type.
 fn written_of(alloc: Global, kind: &str, field: &Numbered<'_>) -> Result<String, Refusal> {
     match kind {
-        "ContextSpecific<u8>" => owned(alloc, read_field::<u8, CONTEXT>(alloc, field)?),
-        "ContextSpecific<Vec<u8>>" => owned(alloc, read_field::<Vec<u8>, CONTEXT>(alloc, field)?),
+        "ContextSpecific<u8>" => owned(alloc, read_field::<u8, CONTEXT>(alloc, field)),
+        "ContextSpecific<Vec<u8>>" => owned(alloc, read_field::<Vec<u8>, CONTEXT>(alloc, field)),
         "ContextSpecific<BitString>" => owned(
             alloc,
-            read_field::<BitString, CONTEXT>(alloc, field)?,
+            read_field::<BitString, CONTEXT>(alloc, field),
         ),
         "ContextSpecificRef<u8>" => lent::<CONTEXT>(alloc, field),
-        "Application<u8>" => owned(alloc, read_field::<u8, APPLICATION>(alloc, field)?),
+        "Application<u8>" => owned(alloc, read_field::<u8, APPLICATION>(alloc, field)),
         "ApplicationRef<u8>" => lent::<APPLICATION>(alloc, field),
-        "Private<u8>" => owned(alloc, read_field::<u8, PRIVATE>(alloc, field)?),
+        "Private<u8>" => owned(alloc, read_field::<u8, PRIVATE>(alloc, field)),
         "PrivateRef<u8>" => lent::<PRIVATE>(alloc, field),
         _ => Err(Refusal::Unread),
     }
@@ -145,14 +148,14 @@ fn read_field<'a, T: DecodeValue<'a, SliceReader<'a>> + FixedTag + Drop, const C
     Ok((read, reader.remaining_len().value))
 }
 
-/// What is written of a field that was read.
+/// What is written of the field that was read, if one stands there.
 fn owned<T: EncodeValue + FixedTag + Drop, const CLASS: u8>(
     alloc: Global,
-    front: Front<T, CLASS>,
+    outcome: Result<Front<T, CLASS>, Error>,
 ) -> Result<String, Refusal> {
-    let (field, left) = front;
+    let (field, left) = outcome?;
     match field {
-        Some(field) => found(alloc, field.to_der(alloc)?, left),
+        Some(field) => found(alloc, field.to_der(alloc), left),
         None => absent(alloc, left),
     }
 }
@@ -161,14 +164,14 @@ fn owned<T: EncodeValue + FixedTag + Drop, const CLASS: u8>(
 fn lent<const CLASS: u8>(alloc: Global, field: &Numbered<'_>) -> Result<String, Refusal> {
     let (field, left) = read_field::<u8, CLASS>(alloc, field)?;
     match field {
-        Some(field) => found(alloc, field.owned_to_ref().to_der(alloc)?, left),
+        Some(field) => found(alloc, field.owned_to_ref().to_der(alloc), left),
         None => absent(alloc, left),
     }
 }
 
 /// The answer of a field that was read, with so many octets left.
-fn found(alloc: Global, octets: Vec<u8>, left: u32) -> Result<String, Refusal> {
-    let octets = hex::encode(alloc, octets)?;
+fn found(alloc: Global, octets: Result<Vec<u8>, Error>, left: u32) -> Result<String, Refusal> {
+    let octets = hex_in(alloc, octets)?;
     Ok(format!(in alloc; "{octets}, {left} left")?)
 }
 

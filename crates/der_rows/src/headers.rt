@@ -1,7 +1,7 @@
 //! Tags, lengths and headers.
 
-use crate::questions::name_of;
 use crate::refusals::Refusal;
+use crate::shown::{front_of, hex_of, name_of, octets_of, printed, shown};
 use der_core::making::encode_header;
 use der_core::{
     Class, EncodingRules, Error, Header, Length, Reader, SliceReader, Tag, TagMode, TagNumber,
@@ -11,63 +11,77 @@ use std::alloc::Global;
 
 /// The answer to a question of these words.
 pub fn answer(alloc: Global, word: &str, rest: &str) -> Result<String, Refusal> {
-    let (first, second) = rest.split_once(' ').unwrap_or((rest, ""));
+    let (first, second) = front_of(rest);
     match word {
         "header" => of_header(alloc, EncodingRules::Der, first),
         "header-ber" => of_header(alloc, EncodingRules::Ber, first),
-        "header-order" => {
-            let order = header_cmp(header_in(alloc, first)?, header_in(alloc, second)?);
-            Ok(name_of(order).to_string(alloc)?)
-        }
-        "tag" => of_tag(alloc, tag_in(alloc, first)?),
-        "tag-order" => {
-            let order = tag_cmp(tag_in(alloc, first)?, tag_in(alloc, second)?);
-            Ok(name_of(order).to_string(alloc)?)
-        }
-        "tlv" => {
-            let content = length_in(second)?;
-            Ok(content.for_tlv(tag_in(alloc, first)?)?.to_string(alloc)?)
-        }
-        "tag-expected" => {
-            let tag = tag_in(alloc, first)?.assert_eq(tag_in(alloc, second)?)?;
-            Ok(tag.to_string(alloc)?)
-        }
-        "tag-errors" => of_errors(alloc, tag_in(alloc, first)?),
+        "header-order" => order_of_headers(alloc, first, second),
         "tags" => of_number(alloc, TagNumber::from(first.parse::<u32>()?)),
         "class" => of_class(alloc, first),
         "mode" => of_mode(alloc, first),
         "rules" => of_rules(alloc, first),
+        "tag" | "tag-order" | "tag-expected" | "tag-errors" | "tlv" => {
+            answer_of_tag(alloc, word, tag_in(alloc, first)?, second)
+        }
         _ => of_lengths(alloc, word, length_in(first)?, second),
     }
 }
 
+/// The answer to a question about a tag.
+fn answer_of_tag(alloc: Global, word: &str, tag: Tag, second: &str) -> Result<String, Refusal> {
+    match word {
+        "tag" => of_tag(alloc, tag),
+        "tag-order" => shown(alloc, name_of(tag_cmp(tag, tag_in(alloc, second)?))),
+        "tag-expected" => printed(alloc, tag.assert_eq(tag_in(alloc, second)?)),
+        "tag-errors" => of_errors(alloc, tag),
+        "tlv" => printed(alloc, length_in(second)?.for_tlv(tag)),
+        _ => Err(Refusal::Unread),
+    }
+}
+
 /// What a header says that is read by those rules, and what is written for it.
-fn of_header(alloc: Global, rules: EncodingRules, text: &str) -> Result<String, Refusal> {
-    let octets = hex::decode(alloc, text.as_bytes())?;
-    let mut reader = SliceReader::new_with_encoding_rules(octets.as_slice(), rules)?;
+fn of_header(alloc: Global, rules: EncodingRules, digits: &str) -> Result<String, Refusal> {
+    let octets = octets_of(alloc, digits)?;
+    let (header, position) = header_by(rules, octets.as_slice())?;
+    let Header { tag, length } = header;
+    let written = header_written(alloc, header)?;
+    Ok(format!(in alloc; "{position} {length} {written} {tag}")?)
+}
+
+/// The header at the front of octets, and its length, if it is also the one that stands there before it is read.
+fn header_by(rules: EncodingRules, octets: &[u8]) -> Result<(Header, Length), Refusal> {
+    let mut reader = SliceReader::new_with_encoding_rules(octets, rules)?;
     let peeked = reader.peek_header();
     let read = reader.read_header();
     if peeked != read {
         return Err(Refusal::Unread);
     }
-    let Header { tag, length } = read?;
+    Ok((read?, reader.position()))
+}
+
+/// What is written for a header.
+fn header_written(alloc: Global, header: Header) -> Result<String, Refusal> {
     let mut out = Vec::new(alloc);
-    encode_header(&mut out, tag, length)?;
-    let written = hex::encode(alloc, out)?;
-    let position = reader.position();
-    Ok(format!(in alloc; "{position} {length} {written} {tag}")?)
+    encode_header(&mut out, header.tag, header.length)?;
+    hex_of(alloc, out.as_slice())
+}
+
+/// The order of two headers.
+fn order_of_headers(alloc: Global, first: &str, second: &str) -> Result<String, Refusal> {
+    let order = header_cmp(header_in(alloc, first)?, header_in(alloc, second)?);
+    shown(alloc, name_of(order))
 }
 
 /// The header at the front of octets.
-fn header_in(alloc: Global, text: &str) -> Result<Header, Refusal> {
-    let octets = hex::decode(alloc, text.as_bytes())?;
+fn header_in(alloc: Global, digits: &str) -> Result<Header, Refusal> {
+    let octets = octets_of(alloc, digits)?;
     let (header, _) = header_of(octets.as_slice())?;
     Ok(header)
 }
 
 /// The tag at the front of octets.
-fn tag_in(alloc: Global, text: &str) -> Result<Tag, Refusal> {
-    let octets = hex::decode(alloc, text.as_bytes())?;
+fn tag_in(alloc: Global, digits: &str) -> Result<Tag, Refusal> {
+    let octets = octets_of(alloc, digits)?;
     let (tag, _) = tag_of(octets.as_slice())?;
     Ok(tag)
 }
@@ -118,7 +132,7 @@ fn of_number(alloc: Global, number: TagNumber) -> Result<String, Refusal> {
 
 /// The class of a tag with that first octet, and its bits.
 fn of_class(alloc: Global, text: &str) -> Result<String, Refusal> {
-    let octets = hex::decode(alloc, text.as_bytes())?;
+    let octets = octets_of(alloc, text)?;
     let [octet] = octets.as_slice() else {
         return Err(Refusal::Unread);
     };
@@ -144,17 +158,14 @@ fn of_rules(alloc: Global, text: &str) -> Result<String, Refusal> {
 /// The answer to a question about two lengths.
 fn of_lengths(alloc: Global, word: &str, first: Length, second: &str) -> Result<String, Refusal> {
     let number = second.parse::<usize>()?;
-    let answer = match word {
-        "length-order" => {
-            return Ok(name_of(length_cmp(first, length_in(second)?)).to_string(alloc)?);
-        }
-        "sum" => sum(first, number)?,
-        "difference" => difference(first, number)?,
-        "saturating-sum" => first.saturating_add(length_in(second)?),
-        "saturating-difference" => first.saturating_sub(length_in(second)?),
-        _ => return Err(Refusal::Unread),
-    };
-    Ok(answer.to_string(alloc)?)
+    match word {
+        "length-order" => shown(alloc, name_of(length_cmp(first, Length::try_from(number)?))),
+        "sum" => printed(alloc, sum(first, number)),
+        "difference" => printed(alloc, difference(first, number)),
+        "saturating-sum" => shown(alloc, first.saturating_add(Length::try_from(number)?)),
+        "saturating-difference" => shown(alloc, first.saturating_sub(Length::try_from(number)?)),
+        _ => Err(Refusal::Unread),
+    }
 }
 
 /// The sum of a length and a number, of the least type that holds it.

@@ -1,7 +1,7 @@
 //! Object identifiers: their octets, texts and arcs.
 
-use crate::questions::name_of;
 use crate::refusals::Refusal;
+use crate::shown::{debugged, hex_of, name_of, octets_of, shown};
 use const_oid::Database;
 use const_oid_identifiers::{ObjectIdentifier, ObjectIdentifierRef};
 use std::alloc::Global;
@@ -12,27 +12,34 @@ type Identifier = ObjectIdentifier<39>;
 /// The answer to a question of these words.
 pub fn answer(alloc: Global, word: &str, rest: &str) -> Result<String, Refusal> {
     match word {
-        "oid" => octets_of(alloc, &rest.parse::<Identifier>()?),
+        "oid" => octets_in(alloc, rest.parse()),
         "oid-arcs" => of_arcs(alloc, rest),
-        "oid-octets" => {
-            let octets = hex::decode(alloc, rest.as_bytes())?;
-            let identifier = Identifier::try_from(octets.as_slice())?;
-            Ok(identifier.to_string(alloc)?)
-        }
-        "oid-ref" => {
-            let octets = hex::decode(alloc, rest.as_bytes())?;
-            let identifier = ObjectIdentifierRef::try_from(octets.as_slice())?;
-            Ok(format!(in alloc; "{identifier:?}")?)
-        }
+        "oid-octets" => of_octets(alloc, rest),
+        "oid-ref" => debug_of(alloc, rest),
         "oid-ref-order" => order_of_refs(alloc, rest),
         "oid-name" | "oid-names" | "oid-named" | "oid-resolved" => named(alloc, word, rest),
         _ => of_text(alloc, word, rest),
     }
 }
 
-/// The octets of an identifier.
-fn octets_of(alloc: Global, identifier: &Identifier) -> Result<String, Refusal> {
-    Ok(hex::encode(alloc, identifier.as_bytes())?)
+/// The octets of the identifier of an outcome.
+fn octets_in(
+    alloc: Global,
+    outcome: const_oid_identifiers::Result<Identifier>,
+) -> Result<String, Refusal> {
+    hex_of(alloc, outcome?.as_bytes())
+}
+
+/// The identifier of octets.
+fn of_octets(alloc: Global, digits: &str) -> Result<String, Refusal> {
+    let octets = octets_of(alloc, digits)?;
+    shown(alloc, Identifier::try_from(octets.as_slice())?)
+}
+
+/// What the identifier prints for debugging that octets lend.
+fn debug_of(alloc: Global, digits: &str) -> Result<String, Refusal> {
+    let octets = octets_of(alloc, digits)?;
+    debugged(alloc, Ok(ObjectIdentifierRef::try_from(octets.as_slice())?))
 }
 
 /// The octets of the identifier of arcs with spaces between them.
@@ -41,7 +48,7 @@ fn of_arcs(alloc: Global, text: &str) -> Result<String, Refusal> {
     for arc in text.split_whitespace() {
         arcs.push(arc.parse::<u32>()?)?;
     }
-    octets_of(alloc, &Identifier::from_arcs(arcs.iter().copied())?)
+    octets_in(alloc, Identifier::from_arcs(arcs.iter().copied()))
 }
 
 /// The answer to a question about the identifier of a text, and about what stands behind the text.
@@ -50,17 +57,11 @@ fn of_text(alloc: Global, word: &str, rest: &str) -> Result<String, Refusal> {
     let identifier = Identifier::new(text)?;
     match word {
         "oid-arc" => or_none(alloc, identifier.arc(other.parse()?)),
-        "oid-child" => Ok(identifier.push_arc(other.parse()?)?.to_string(alloc)?),
-        "oid-len" => Ok(identifier.len().to_string(alloc)?),
-        "oid-order" => {
-            let other = Identifier::new(other)?;
-            Ok(name_of(identifier.cmp(&other)).to_string(alloc)?)
-        }
+        "oid-child" => shown(alloc, identifier.push_arc(other.parse()?)?),
+        "oid-len" => shown(alloc, identifier.len()),
+        "oid-order" => shown(alloc, name_of(identifier.cmp(&Identifier::new(other)?))),
         "oid-parent" => or_none(alloc, identifier.parent()),
-        "oid-starts" => {
-            let other = Identifier::new(other)?;
-            Ok(identifier.starts_with(other).to_string(alloc)?)
-        }
+        "oid-starts" => shown(alloc, identifier.starts_with(Identifier::new(other)?)),
         _ => Err(Refusal::Unread),
     }
 }
@@ -68,11 +69,11 @@ fn of_text(alloc: Global, word: &str, rest: &str) -> Result<String, Refusal> {
 /// The order of two identifiers that are lent as octets.
 fn order_of_refs(alloc: Global, rest: &str) -> Result<String, Refusal> {
     let (first, second) = rest.split_once(' ').ok_or(Refusal::Unread)?;
-    let first = hex::decode(alloc, first.as_bytes())?;
-    let second = hex::decode(alloc, second.as_bytes())?;
+    let first = octets_of(alloc, first)?;
+    let second = octets_of(alloc, second)?;
     let first = ObjectIdentifierRef::from_bytes(first.as_slice())?;
     let second = ObjectIdentifierRef::from_bytes(second.as_slice())?;
-    Ok(name_of(first.cmp(&second)).to_string(alloc)?)
+    shown(alloc, name_of(first.cmp(&second)))
 }
 
 /// What a database of three entries tells.
@@ -92,24 +93,31 @@ fn told(alloc: Global, word: &str, text: &str, database: &Database<'_>) -> Resul
     match word {
         "oid-name" => or_none(alloc, database.by_oid(&Identifier::new(text)?)),
         "oid-named" => or_none(alloc, database.by_name(text)),
-        "oid-resolved" => Ok(database.resolve(text)?.to_string(alloc)?),
-        _ => {
-            let mut names = String::new(alloc);
-            for name in database.find_names_for_oid(Identifier::new(text)?) {
-                if !names.is_empty() {
-                    names.push_str(" ")?;
-                }
-                names.push_str(name)?;
-            }
-            Ok(names)
-        }
+        "oid-resolved" => shown(alloc, database.resolve(text)?),
+        _ => names_of(alloc, &Identifier::new(text)?, database),
     }
+}
+
+/// The names of an identifier, with blanks between them.
+fn names_of(
+    alloc: Global,
+    identifier: &Identifier,
+    database: &Database<'_>,
+) -> Result<String, Refusal> {
+    let mut names = String::new(alloc);
+    for name in database.find_names_for_oid(*identifier) {
+        if !names.is_empty() {
+            names.push_str(" ")?;
+        }
+        names.push_str(name)?;
+    }
+    Ok(names)
 }
 
 /// What stands, or `none`.
 fn or_none<T: Display + Drop>(alloc: Global, value: Option<T>) -> Result<String, Refusal> {
     match value {
-        Some(value) => Ok(value.to_string(alloc)?),
-        None => Ok("none".to_string(alloc)?),
+        Some(value) => shown(alloc, value),
+        None => shown(alloc, "none"),
     }
 }

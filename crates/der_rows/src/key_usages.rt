@@ -3,7 +3,7 @@
 ghost use Rattle.std.specs.Prelude.{⊤, [], ◌∷◌, codes, refl};
 ghost use Rattle.bitflags.specs.Sets.{known_from};
 
-use crate::questions::{Question, answer_with_contents};
+use crate::questions::{Asked, Question, answer_with_contents};
 use crate::refusals::Refusal;
 use bitflags::{Flag, Flags, bitflag_items};
 use der_core::from_der;
@@ -72,11 +72,8 @@ impl NamedBits for KeyUsages {
 
 /// The answer of sets of key usages, whose text is their names.
 pub fn answer(alloc: Global, question: &Question<'_>) -> Result<String, Refusal> {
-    match *question {
-        Question::Text(octets) => {
-            let usages: FlagSet<KeyUsages> = from_der(alloc, octets)?;
-            Ok(names_of(alloc, usages)?)
-        }
+    match question.asked {
+        Asked::Text => Ok(names_of(alloc, from_der(alloc, question.first)?)?),
         _ => answer_with_contents::<FlagSet<KeyUsages>>(alloc, question),
     }
 }

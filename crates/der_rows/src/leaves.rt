@@ -1,7 +1,7 @@
 //! Values without others inside.
 
 use crate::questions::{
-    Question, answer_of_plain, answer_of_value, answer_with_contents, answer_with_order,
+    Asked, Question, answer_of_plain, answer_of_value, answer_with_contents, answer_with_order,
 };
 use crate::refusals::Refusal;
 use crate::{key_usages, texts};
@@ -82,8 +82,8 @@ fn answer_of_strings(
 
 /// The answer of bit strings, whose text is their bits.
 fn answer_of_bits(alloc: Global, question: &Question<'_>) -> Result<String, Refusal> {
-    match *question {
-        Question::Text(octets) => bits_of(alloc, octets),
+    match question.asked {
+        Asked::Text => bits_of(alloc, question.first),
         _ => answer_with_order::<BitString>(alloc, question),
     }
 }

@@ -2,10 +2,10 @@
 
 use crate::fields;
 use crate::key_usages::KeyUsages;
-use crate::made::written;
-use crate::questions::{Question, answer_of_value, answer_with_contents, compared, name_of};
+use crate::questions::{Asked, Question, answer_of_value, answer_with_contents, compared};
 use crate::record::Record;
 use crate::refusals::Refusal;
+use crate::shown::{named, octets_of, written, written_in};
 use crate::small::Small;
 use der_core::{
     AsRead, Decode, DerOrd, Encode, EncodeValue, EncodingRules, Error, FixedTag, Header, InRange,
@@ -98,11 +98,12 @@ fn answer_of_members_read<'a, T: Members<'a> + Encode + Drop>(
     alloc: Global,
     question: &Question<'a>,
 ) -> Result<String, Refusal> {
-    match *question {
-        Question::Der(octets) => written(alloc, &T::read(alloc, octets, EncodingRules::Der)?),
-        Question::Ber(octets) => written(alloc, &T::read(alloc, octets, EncodingRules::Ber)?),
-        _ => Err(Refusal::Unread),
-    }
+    let rules = match question.asked {
+        Asked::Der => EncodingRules::Der,
+        Asked::Ber => EncodingRules::Ber,
+        _ => return Err(Refusal::Unread),
+    };
+    written_in(alloc, T::read(alloc, question.first, rules))
 }
 
 /// The answer of a set, which is compared, and has an order of its own.
@@ -110,23 +111,28 @@ fn answer_of_set<'a, T: Members<'a> + EncodeValue + FixedTag + Hash + Ord + Valu
     alloc: Global,
     question: &Question<'a>,
 ) -> Result<String, Refusal> {
-    match *question {
-        Question::Order(first, second) => {
-            let first = T::read(alloc, first, EncodingRules::Der)?;
-            let second = T::read(alloc, second, EncodingRules::Der)?;
-            Ok(name_of(first.der_cmp(&second)?).to_string(alloc)?)
+    match question.asked {
+        Asked::Der | Asked::Ber => answer_of_members_read::<T>(alloc, question),
+        _ => {
+            let first = T::read(alloc, question.first, EncodingRules::Der)?;
+            let second = T::read(alloc, question.second, EncodingRules::Der)?;
+            order_of_sets(alloc, question.asked, &first, &second)
         }
-        Question::Contents(first, second) => {
-            let first = T::read(alloc, first, EncodingRules::Der)?;
-            let second = T::read(alloc, second, EncodingRules::Der)?;
-            Ok(name_of(first.value_cmp(&second)?).to_string(alloc)?)
-        }
-        Question::Compare(first, second) => {
-            let first = T::read(alloc, first, EncodingRules::Der)?;
-            let second = T::read(alloc, second, EncodingRules::Der)?;
-            Ok(compared(alloc, &first, &second)?)
-        }
-        _ => answer_of_members_read::<T>(alloc, question),
+    }
+}
+
+/// The order of two sets.
+fn order_of_sets<T: EncodeValue + FixedTag + Hash + Ord + ValueOrd>(
+    alloc: Global,
+    asked: Asked,
+    first: &T,
+    second: &T,
+) -> Result<String, Refusal> {
+    match asked {
+        Asked::Order => named(alloc, first.der_cmp(second)),
+        Asked::Contents => named(alloc, first.value_cmp(second)),
+        Asked::Compare => compared(alloc, first, second),
+        _ => Err(Refusal::Unread),
     }
 }
 
@@ -141,22 +147,33 @@ fn answer_of_lent_members<'a, T: Decode<'a, SliceReader<'a>> + Encode + InRange 
 
 /// The answer of a borrowed set: of the octets of a SET OF, or of the values of a SEQUENCE OF.
 fn answer_of_lent(alloc: Global, question: &Question<'_>) -> Result<String, Refusal> {
-    let (first, second) = match *question {
-        Question::Der(octets) | Question::Ber(octets) => (octets, octets),
-        Question::Order(first, second) | Question::Contents(first, second) => (first, second),
-        _ => return Err(Refusal::Unread),
-    };
-    let rules = match *question {
-        Question::Ber(_) => EncodingRules::Ber,
+    let first_values = values_of(alloc, question.first)?;
+    let second_values = values_of(alloc, question.second)?;
+    let rules = match question.asked {
+        Asked::Ber => EncodingRules::Ber,
         _ => EncodingRules::Der,
     };
-    let (first_values, second_values) = (values_of(alloc, first)?, values_of(alloc, second)?);
-    let first = lent(alloc, first, first_values.as_slice(), rules)?;
-    let second = lent(alloc, second, second_values.as_slice(), rules)?;
-    match *question {
-        Question::Order(..) => Ok(name_of(first.der_cmp(alloc, &second)?).to_string(alloc)?),
-        Question::Contents(..) => Ok(name_of(first.value_cmp(alloc, &second)?).to_string(alloc)?),
-        _ => written(alloc, &first),
+    let first = lent(alloc, question.first, first_values.as_slice(), rules)?;
+    match question.asked {
+        Asked::Der | Asked::Ber => written(alloc, &first),
+        _ => {
+            let second = lent(alloc, question.second, second_values.as_slice(), rules)?;
+            order_of_lent(alloc, question.asked, &first, &second)
+        }
+    }
+}
+
+/// The order of two borrowed sets.
+fn order_of_lent(
+    alloc: Global,
+    asked: Asked,
+    first: &SetOfRef<'_, Small>,
+    second: &SetOfRef<'_, Small>,
+) -> Result<String, Refusal> {
+    match asked {
+        Asked::Order => named(alloc, first.der_cmp(alloc, second)),
+        Asked::Contents => named(alloc, first.value_cmp(alloc, second)),
+        _ => Err(Refusal::Unread),
     }
 }
 
@@ -188,7 +205,7 @@ fn lent<'a>(
 /// The answer to a question about members of a set that are read or placed.
 pub fn answer_of_members(alloc: Global, word: &str, rest: &str) -> Result<String, Refusal> {
     let (kind, octets) = rest.split_once(' ').ok_or(Refusal::Unread)?;
-    let octets = hex::decode(alloc, octets.as_bytes())?;
+    let octets = octets_of(alloc, octets)?;
     let octets = octets.as_slice();
     match kind {
         "Small" => written_set::<Small>(alloc, word, octets),
@@ -205,29 +222,37 @@ fn written_set<'a, T: AsRead + Decode<'a, SliceReader<'a>> + DerOrd + Encode + M
     word: &str,
     octets: &'a [u8],
 ) -> Result<String, Refusal> {
-    if word == "set-into" {
-        let set = SetOfVec::<T>::from_der(alloc, octets)?;
-        return written(alloc, &Vec::from(set));
+    match word {
+        "set-into" => listed(alloc, SetOfVec::<T>::from_der(alloc, octets)),
+        "set-loose" => written_in(alloc, loose::<T>(alloc, octets, EncodingRules::Der)),
+        "set-strict" => written_in(alloc, strict::<T>(alloc, octets, EncodingRules::Der)),
+        "set-strict-ber" => written_in(alloc, strict::<T>(alloc, octets, EncodingRules::Ber)),
+        "set-from" | "set-insert" | "set-append" => {
+            written_in(alloc, gathered::<T>(alloc, word, from_der(alloc, octets)?))
+        }
+        _ => Err(Refusal::Unread),
     }
-    written(alloc, &set_of::<T>(alloc, word, octets)?)
 }
 
-/// The set that is read or filled as the word asks.
-fn set_of<'a, T: AsRead + Decode<'a, SliceReader<'a>> + DerOrd + Member + Drop>(
+/// What is written of the list that a set is converted to.
+fn listed<T: Encode + Member + Drop>(
+    alloc: Global,
+    outcome: Result<SetOfVec<T>, Error>,
+) -> Result<String, Refusal> {
+    written(alloc, &Vec::from(outcome?))
+}
+
+/// The set that is filled as the word asks.
+fn gathered<T: DerOrd + Member + Drop>(
     alloc: Global,
     word: &str,
-    octets: &'a [u8],
-) -> Result<SetOfVec<T>, Refusal> {
-    let set = match word {
-        "set-loose" => loose(alloc, octets, EncodingRules::Der)?,
-        "set-strict" => strict(alloc, octets, EncodingRules::Der)?,
-        "set-strict-ber" => strict(alloc, octets, EncodingRules::Ber)?,
-        "set-from" => SetOfVec::try_from(from_der::<Vec<T>>(alloc, octets)?)?,
-        "set-insert" => inserted(alloc, from_der(alloc, octets)?)?,
-        "set-append" => appended(alloc, from_der(alloc, octets)?)?,
-        _ => return Err(Refusal::Unread),
-    };
-    Ok(set)
+    members: Vec<T>,
+) -> Result<SetOfVec<T>, Error> {
+    match word {
+        "set-from" => SetOfVec::try_from(members),
+        "set-insert" => inserted(alloc, members),
+        _ => appended(alloc, members),
+    }
 }
 
 /// The set of a content in which the members stand in any order.

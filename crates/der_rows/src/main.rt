@@ -48,7 +48,7 @@
 //! | `any-into TYPE HEX`, `any-ref-into TYPE HEX` | the same of the value that any value was converted to, owned or lent |
 //! | `any-from TYPE HEX`, `any-ref-from TYPE HEX` | what is written of any value that was made of a value, owned or lent |
 //! | an empty line, or one that begins with `#` | the same line |
-//! | any other, also one of an unknown type, or of more than 2^20 octets | `?` |
+//! | any other, also one of an unknown type | `?` |
 //!
 //! What is refused is answered `refused KIND`, and `memory` where there is not enough.
 #![tactic(auto)]
@@ -63,7 +63,6 @@ mod identifiers;
 mod key_usages;
 mod kinds;
 mod leaves;
-mod lines;
 mod lists;
 mod made;
 mod nested;
@@ -71,6 +70,7 @@ mod questions;
 mod readers;
 mod record;
 mod refusals;
+mod shown;
 mod small;
 mod ten_fields;
 mod texts;
@@ -78,21 +78,14 @@ mod times;
 mod writers;
 
 use answers::answer;
-use lines::{Line, next_line};
 use std::io;
-use std::io::{BufReader, BufWriter, Write};
+use std::io::{BufWriter, Write};
 
 fn main(rt: HostRuntime) -> io::Result<()> {
     let alloc = rt.alloc();
-    let mut questions = BufReader::new(alloc, rt.reader())?;
     let mut out = BufWriter::new(alloc, io::writer(&rt))?;
-    let mut line = Vec::new(alloc);
-    for _ in 0..u64::MAX {
-        match next_line(&mut questions, &mut line)? {
-            Line::Whole => answer(alloc, line.as_slice(), &mut out)?,
-            Line::TooLong => out.write_all(b"?\n")?,
-            Line::End => break,
-        }
+    for line in rt.lines(alloc) {
+        answer(alloc, line?.as_str(), &mut out)?;
     }
     out.flush()
 }

@@ -1,31 +1,61 @@
 //! What is asked of the values of a type.
 
-use crate::made::written;
 use crate::refusals::Refusal;
+use crate::shown::{debugged, name_of, named, printed, written_in};
 use der_core::{
-    Decode, DecodeValue, DerOrd, Encode, EncodeValue, FixedTag, SliceReader, ValueOrd, from_ber,
-    from_der,
+    Decode, DecodeValue, DerOrd, Encode, EncodeValue, Error, FixedTag, SliceReader, ValueOrd,
+    from_ber, from_der,
 };
-use std::alloc::{AllocError, Global};
-use std::cmp::Ordering;
+use std::alloc::Global;
 use std::fmt::{Debug, Display};
 use std::hash::{DefaultHasher, Hash, Hasher};
 
-/// What is asked of the values of a type.
+/// What is asked of values.
 #[derive(Clone, Copy)]
-pub enum Question<'a> {
+pub enum Asked {
     /// What is written of the value that octets spell by DER.
-    Der(&'a [u8]),
+    Der,
     /// What is written of the value that octets spell by BER.
-    Ber(&'a [u8]),
+    Ber,
     /// The order of the values that octets spell by DER, as that of their encodings.
-    Order(&'a [u8], &'a [u8]),
+    Order,
     /// The order of the values that octets spell by DER, as that of their contents.
-    Contents(&'a [u8], &'a [u8]),
+    Contents,
     /// The order of the values that octets spell by DER, as that of their type, and their hashes.
-    Compare(&'a [u8], &'a [u8]),
+    Compare,
     /// What the value prints that octets spell by DER.
-    Text(&'a [u8]),
+    Text,
+}
+
+/// A question about the values that octets spell: the second are none where one value is asked about.
+#[derive(Clone, Copy)]
+pub struct Question<'a> {
+    pub asked: Asked,
+    pub first: &'a [u8],
+    pub second: &'a [u8],
+}
+
+/// What a word asks of values.
+pub fn asked_by(word: &str) -> Result<Asked, Refusal> {
+    match word {
+        "der" => Ok(Asked::Der),
+        "ber" => Ok(Asked::Ber),
+        "order" => Ok(Asked::Order),
+        "contents" => Ok(Asked::Contents),
+        "compare" => Ok(Asked::Compare),
+        "text" => Ok(Asked::Text),
+        _ => Err(Refusal::Unread),
+    }
+}
+
+/// The two values that the octets of a question spell by DER.
+fn values_of<'a, T: Decode<'a, SliceReader<'a>> + Drop>(
+    alloc: Global,
+    question: &Question<'a>,
+) -> Result<(T, T), Error> {
+    let first = from_der(alloc, question.first)?;
+    let second = from_der(alloc, question.second)?;
+    Ok((first, second))
 }
 
 /// The answer of a type that is read and written.
@@ -33,9 +63,9 @@ pub fn answer_of<'a, T: Decode<'a, SliceReader<'a>> + Encode + Drop>(
     alloc: Global,
     question: &Question<'a>,
 ) -> Result<String, Refusal> {
-    match *question {
-        Question::Der(octets) => written(alloc, &from_der::<T>(alloc, octets)?),
-        Question::Ber(octets) => written(alloc, &from_ber::<T>(alloc, octets)?),
+    match question.asked {
+        Asked::Der => written_in(alloc, from_der::<T>(alloc, question.first)),
+        Asked::Ber => written_in(alloc, from_ber::<T>(alloc, question.first)),
         _ => Err(Refusal::Unread),
     }
 }
@@ -45,11 +75,10 @@ pub fn answer_as<'a, T: Decode<'a, SliceReader<'a>> + DerOrd + Encode + Drop>(
     alloc: Global,
     question: &Question<'a>,
 ) -> Result<String, Refusal> {
-    match *question {
-        Question::Order(first, second) => {
-            let first: T = from_der(alloc, first)?;
-            let second: T = from_der(alloc, second)?;
-            Ok(name_of(first.der_cmp(&second)?).to_string(alloc)?)
+    match question.asked {
+        Asked::Order => {
+            let (first, second) = values_of::<T>(alloc, question)?;
+            named(alloc, first.der_cmp(&second))
         }
         _ => answer_of::<T>(alloc, question),
     }
@@ -60,11 +89,8 @@ pub fn answer_as_with_debug<'a, T: Decode<'a, SliceReader<'a>> + DerOrd + Encode
     alloc: Global,
     question: &Question<'a>,
 ) -> Result<String, Refusal> {
-    match *question {
-        Question::Text(octets) => {
-            let value: T = from_der(alloc, octets)?;
-            Ok(format!(in alloc; "{value:?}")?)
-        }
+    match question.asked {
+        Asked::Text => debugged(alloc, from_der::<T>(alloc, question.first)),
         _ => answer_as::<T>(alloc, question),
     }
 }
@@ -83,11 +109,8 @@ pub fn answer_with_debug<
     'a,
     T: DecodeValue<'a, SliceReader<'a>> + EncodeValue + FixedTag + Debug + Drop,
 >(alloc: Global, question: &Question<'a>) -> Result<String, Refusal> {
-    match *question {
-        Question::Text(octets) => {
-            let value: T = from_der(alloc, octets)?;
-            Ok(format!(in alloc; "{value:?}")?)
-        }
+    match question.asked {
+        Asked::Text => debugged(alloc, from_der::<T>(alloc, question.first)),
         _ => answer_of::<T>(alloc, question),
     }
 }
@@ -97,11 +120,10 @@ pub fn answer_with_contents<
     'a,
     T: DecodeValue<'a, SliceReader<'a>> + EncodeValue + FixedTag + ValueOrd + Drop,
 >(alloc: Global, question: &Question<'a>) -> Result<String, Refusal> {
-    match *question {
-        Question::Contents(first, second) => {
-            let first: T = from_der(alloc, first)?;
-            let second: T = from_der(alloc, second)?;
-            Ok(name_of(first.value_cmp(&second)?).to_string(alloc)?)
+    match question.asked {
+        Asked::Contents => {
+            let (first, second) = values_of::<T>(alloc, question)?;
+            named(alloc, first.value_cmp(&second))
         }
         _ => answer_as::<T>(alloc, question),
     }
@@ -112,8 +134,8 @@ pub fn answer_of_plain<
     'a,
     T: DecodeValue<'a, SliceReader<'a>> + EncodeValue + FixedTag + ValueOrd + Debug + Drop,
 >(alloc: Global, question: &Question<'a>) -> Result<String, Refusal> {
-    match *question {
-        Question::Text(_) => answer_with_debug::<T>(alloc, question),
+    match question.asked {
+        Asked::Text => debugged(alloc, from_der::<T>(alloc, question.first)),
         _ => answer_with_contents::<T>(alloc, question),
     }
 }
@@ -123,11 +145,10 @@ pub fn answer_with_order<
     'a,
     T: DecodeValue<'a, SliceReader<'a>> + EncodeValue + FixedTag + Hash + Ord + ValueOrd + Drop,
 >(alloc: Global, question: &Question<'a>) -> Result<String, Refusal> {
-    match *question {
-        Question::Compare(first, second) => {
-            let first: T = from_der(alloc, first)?;
-            let second: T = from_der(alloc, second)?;
-            Ok(compared(alloc, &first, &second)?)
+    match question.asked {
+        Asked::Compare => {
+            let (first, second) = values_of::<T>(alloc, question)?;
+            compared(alloc, &first, &second)
         }
         _ => answer_with_contents::<T>(alloc, question),
     }
@@ -145,24 +166,21 @@ pub fn answer_with_text<
         + Display
         + Drop,
 >(alloc: Global, question: &Question<'a>) -> Result<String, Refusal> {
-    match *question {
-        Question::Text(octets) => {
-            let value: T = from_der(alloc, octets)?;
-            Ok(value.to_string(alloc)?)
-        }
+    match question.asked {
+        Asked::Text => printed(alloc, from_der::<T>(alloc, question.first)),
         _ => answer_with_order::<T>(alloc, question),
     }
 }
 
 /// The order of two values by their type, and whether their hashes are the same.
-pub fn compared<T: Hash + Ord>(alloc: Global, first: &T, second: &T) -> Result<String, AllocError> {
+pub fn compared<T: Hash + Ord>(alloc: Global, first: &T, second: &T) -> Result<String, Refusal> {
     let order = name_of(first.cmp(second));
     let hashes = if hash_of(first) == hash_of(second) {
         "same"
     } else {
         "apart"
     };
-    format!(in alloc; "{order} {hashes}")
+    Ok(format!(in alloc; "{order} {hashes}")?)
 }
 
 /// What a hasher makes of a value.
@@ -170,13 +188,4 @@ fn hash_of<T: Hash>(value: &T) -> u64 {
     let mut state = DefaultHasher::new();
     value.hash(&mut state);
     state.finish()
-}
-
-/// The name of an order.
-pub fn name_of(order: Ordering) -> &'static str {
-    match order {
-        Ordering::Less => "Less",
-        Ordering::Equal => "Equal",
-        Ordering::Greater => "Greater",
-    }
 }

@@ -1,6 +1,7 @@
 //! Readers that take steps: what one answers after what the steps before it left.
 
 use crate::refusals::Refusal;
+use crate::shown::{debugged, done, hex_in, hex_of, octets_of, printed, shown};
 use crate::small::Small;
 use der_core::{
     Class, Decode, DecodeFields, Error, ErrorKind, Length, Member, Reader, SliceReader, TagMode,
@@ -13,19 +14,39 @@ use std::marker::PhantomData;
 /// What the steps answer that a reader of octets takes.
 pub fn answer(alloc: Global, rest: &str) -> Result<String, Refusal> {
     let (octets, steps) = rest.split_once(' ').ok_or(Refusal::Unread)?;
-    let octets = hex::decode(alloc, octets.as_bytes())?;
-    let mut reader = SliceReader::new(octets.as_slice())?;
+    let octets = octets_of(alloc, octets)?;
+    answers_of(alloc, octets.as_slice(), steps)
+}
+
+/// What the steps answer, one behind another.
+fn answers_of(alloc: Global, octets: &[u8], steps: &str) -> Result<String, Refusal> {
+    let mut reader = SliceReader::new(octets)?;
     let mut answers = String::new(alloc);
     for step in steps.split_whitespace() {
-        if !answers.is_empty() {
-            answers.push_str("; ")?;
-        }
-        match answer_of_step(alloc, &mut reader, step) {
-            Ok(answer) => answers.push_str(answer.as_str())?,
-            Err(refusal) => answers.push_str(refusal.to_string(alloc)?.as_str())?,
-        }
+        let answer = answer_or_refusal(alloc, &mut reader, step)?;
+        add(&mut answers, answer.as_str())?;
     }
     Ok(answers)
+}
+
+/// Adds an answer behind those before it.
+fn add(answers: &mut String, answer: &str) -> Result<(), Refusal> {
+    if !answers.is_empty() {
+        answers.push_str("; ")?;
+    }
+    Ok(answers.push_str(answer)?)
+}
+
+/// What a step answers, or why it is refused.
+fn answer_or_refusal(
+    alloc: Global,
+    reader: &mut SliceReader<'_>,
+    step: &str,
+) -> Result<String, Refusal> {
+    match answer_of_step(alloc, reader, step) {
+        Err(refusal) => shown(alloc, refusal),
+        answer => answer,
+    }
 }
 
 /// What a step answers: a name, and behind a colon how many octets it is about.
@@ -34,46 +55,74 @@ fn answer_of_step(
     reader: &mut SliceReader<'_>,
     step: &str,
 ) -> Result<String, Refusal> {
-    let Some((name, count)) = step.split_once(':') else {
-        return answer_of_name(alloc, reader, step);
-    };
-    let len = Length::new(count.parse::<u32>()?);
+    match step.split_once(':') {
+        Some((name, count)) => answer_of_count(alloc, reader, name, Length::new(count.parse()?)),
+        None => answer_of_name(alloc, reader, step),
+    }
+}
+
+/// What a step answers that is about so many octets.
+fn answer_of_count(
+    alloc: Global,
+    reader: &mut SliceReader<'_>,
+    name: &str,
+    len: Length,
+) -> Result<String, Refusal> {
     match name {
         "drain" => done(alloc, reader.drain(len)),
-        "nest" => Ok(reader.begin_nested(len)?.to_string(alloc)?),
-        "vec" => Ok(hex::encode(alloc, reader.read_vec(alloc, len)?)?),
+        "nest" => printed(alloc, reader.begin_nested(len)),
+        "vec" => hex_in(alloc, reader.read_vec(alloc, len)),
         _ => {
             let mut octets = vec![in alloc; 0u8; len.value as usize]?;
-            match name {
-                "peek-into" => reader.peek_into(octets.as_mut_slice())?,
-                "read-into" => reader.read_into(octets.as_mut_slice())?,
-                _ => return Err(Refusal::Unread),
-            }
-            Ok(hex::encode(alloc, octets)?)
+            fill(reader, name, octets.as_mut_slice())?;
+            hex_of(alloc, octets.as_slice())
         }
     }
 }
 
-/// What a step answers that is about the reader as it stands, or about what stands next.
+/// Fills octets with those that stand next.
+fn fill(reader: &mut SliceReader<'_>, name: &str, octets: &mut [u8]) -> Result<(), Refusal> {
+    match name {
+        "peek-into" => Ok(reader.peek_into(octets)?),
+        "read-into" => Ok(reader.read_into(octets)?),
+        _ => Err(Refusal::Unread),
+    }
+}
+
+/// What a step answers that is about the reader as it stands.
 fn answer_of_name(
     alloc: Global,
     reader: &mut SliceReader<'_>,
     name: &str,
 ) -> Result<String, Refusal> {
     match name {
-        "rules" => Ok(reader.encoding_rules().to_string(alloc)?),
-        "input" => Ok(reader.input_len().to_string(alloc)?),
-        "position" => Ok(reader.position().to_string(alloc)?),
-        "offset" => Ok(reader.offset().to_string(alloc)?),
-        "levels" => Ok(reader.levels_left().to_string(alloc)?),
-        "failed" => Ok(reader.is_failed().to_string(alloc)?),
+        "rules" => shown(alloc, reader.encoding_rules()),
+        "input" => shown(alloc, reader.input_len()),
+        "position" => shown(alloc, reader.position()),
+        "offset" => shown(alloc, reader.offset()),
+        "levels" => shown(alloc, reader.levels_left()),
+        "failed" => shown(alloc, reader.is_failed()),
         "finish" => done(alloc, reader.finish()),
         "error" => Err(Refusal::from(reader.error(ErrorKind::DateTime))),
-        "peek" => Ok(format!(in alloc; "{:?}", reader.peek_byte())?),
-        "peek-header" => Ok(reader.peek_header()?.length.to_string(alloc)?),
-        "byte" => Ok(reader.read_byte()?.to_string(alloc)?),
-        "tlv" => Ok(hex::encode(alloc, reader.tlv_bytes()?)?),
-        "pair" => Ok(format!(in alloc; "{:?}", two_octets(reader)?)?),
+        _ => answer_of_octets(alloc, reader, name),
+    }
+}
+
+/// What a step answers that is about the octets that stand next.
+fn answer_of_octets(
+    alloc: Global,
+    reader: &mut SliceReader<'_>,
+    name: &str,
+) -> Result<String, Refusal> {
+    match name {
+        "peek" => debugged(alloc, Ok(reader.peek_byte())),
+        "peek-header" => shown(alloc, reader.peek_header()?.length),
+        "byte" => printed(alloc, reader.read_byte()),
+        "tlv" => hex_of(alloc, reader.tlv_bytes()?),
+        "pair" => debugged(alloc, two_octets(reader)),
+        "parts" => parts_of(alloc, reader),
+        "universal-4" => matches(alloc, reader, Class::Universal),
+        "private-4" => matches(alloc, reader, Class::Private),
         _ => answer_of_values(alloc, reader, name),
     }
 }
@@ -85,37 +134,16 @@ fn answer_of_values<'a>(
     name: &str,
 ) -> Result<String, Refusal> {
     match name {
-        "bool" => Ok(bool::decode(alloc, reader)?.to_string(alloc)?),
-        "u8" => Ok(u8::decode(alloc, reader)?.to_string(alloc)?),
-        "option" => Ok(format!(in alloc; "{:?}", Option::<bool>::decode(alloc, reader)?)?),
+        "bool" => printed(alloc, bool::decode(alloc, reader)),
+        "u8" => printed(alloc, u8::decode(alloc, reader)),
+        "option" => debugged(alloc, Option::<bool>::decode(alloc, reader)),
         "lent" => answer_of_lent::<Small>(alloc, reader),
         "lent-of-lent" => answer_of_lent::<SetOfRef<Small>>(alloc, reader),
-        "nothing" => done(alloc, PhantomData::<u8>::decode(alloc, reader).map(|_| ())),
-        "decode" => {
-            let flag: bool = reading::decode(alloc, reader)?;
-            Ok(flag.to_string(alloc)?)
-        }
-        "fields" => {
-            let (PhantomData, (number, PhantomData)) = <(
-                PhantomData<bool>,
-                (u8, PhantomData<bool>),
-            )>::decode_fields(alloc, reader)?;
-            Ok(number.to_string(alloc)?)
-        }
+        "nothing" => nothing(alloc, reader),
+        "decode" => flag_of(alloc, reader),
+        "fields" => fields_of(alloc, reader),
         "explicit" => answer_of_tagged(alloc, reader, TagMode::Explicit),
         "implicit" => answer_of_tagged(alloc, reader, TagMode::Implicit),
-        "parts" => {
-            let header = reader.read_header()?;
-            Ok(hex::encode(alloc, decode_octets(alloc, reader, header)?)?)
-        }
-        "universal-4" => {
-            let matches = peek_matches(reader, Class::Universal, TagNumber::new(4))?;
-            Ok(matches.to_string(alloc)?)
-        }
-        "private-4" => {
-            let matches = peek_matches(reader, Class::Private, TagNumber::new(4))?;
-            Ok(matches.to_string(alloc)?)
-        }
         _ => Err(Refusal::Unread),
     }
 }
@@ -126,7 +154,40 @@ fn answer_of_lent<'a, T: Decode<'a, SliceReader<'a>> + Member + 'a>(
     reader: &mut SliceReader<'a>,
 ) -> Result<String, Refusal> {
     let set = SetOfRef::<T>::decode(alloc, reader)?;
-    Ok(set.len().to_string(alloc)?)
+    shown(alloc, set.len())
+}
+
+/// The value that has no octets.
+fn nothing(alloc: Global, reader: &mut SliceReader<'_>) -> Result<String, Refusal> {
+    let PhantomData = PhantomData::<u8>::decode(alloc, reader)?;
+    done(alloc, Ok(()))
+}
+
+/// The flag that stands next.
+fn flag_of(alloc: Global, reader: &mut SliceReader<'_>) -> Result<String, Refusal> {
+    let flag: bool = reading::decode(alloc, reader)?;
+    shown(alloc, flag)
+}
+
+/// The number that stands between fields of no octets.
+fn fields_of(alloc: Global, reader: &mut SliceReader<'_>) -> Result<String, Refusal> {
+    let (PhantomData, (number, PhantomData)) = <(
+        PhantomData<bool>,
+        (u8, PhantomData<bool>),
+    )>::decode_fields(alloc, reader)?;
+    shown(alloc, number)
+}
+
+/// The octets of the string that stands next, put together of its parts.
+fn parts_of(alloc: Global, reader: &mut SliceReader<'_>) -> Result<String, Refusal> {
+    let header = reader.read_header()?;
+    let octets = decode_octets(alloc, reader, header)?;
+    hex_of(alloc, octets.as_slice())
+}
+
+/// Whether the tag of this class stands next that has the number 4.
+fn matches(alloc: Global, reader: &mut SliceReader<'_>, class: Class) -> Result<String, Refusal> {
+    printed(alloc, peek_matches(reader, class, TagNumber::new(4)))
 }
 
 /// The number behind the context-specific tag 0, if that stands next.
@@ -136,7 +197,7 @@ fn answer_of_tagged(
     mode: TagMode,
 ) -> Result<String, Refusal> {
     let number: Option<u8> = reading::context_specific(alloc, reader, TagNumber::new(0), mode)?;
-    Ok(format!(in alloc; "{number:?}")?)
+    debugged(alloc, Ok(number))
 }
 
 /// The two octets of a SEQUENCE of 2 octets.
@@ -146,10 +207,4 @@ fn two_octets(reader: &mut SliceReader<'_>) -> Result<(u8, u8), Error> {
         let second = inner.read_byte()?;
         Ok((first, second))
     })
-}
-
-/// What is answered of a step that gives nothing.
-fn done(alloc: Global, outcome: Result<(), Error>) -> Result<String, Refusal> {
-    outcome?;
-    Ok("done".to_string(alloc)?)
 }

@@ -1,11 +1,11 @@
 //! Why a question has no other answer.
 
+use crate::shown::shown;
 use der_core::{Error, ErrorKind};
 use hex::FromHexError;
 use std::alloc::{AllocError, AllocFailed, Global};
 use std::fmt;
 use std::num::ParseIntError;
-use std::str::Utf8Error;
 
 /// Why a question has no other answer.
 #[derive(Clone, Copy)]
@@ -24,8 +24,8 @@ impl Refusal {
     /// What the kind of the error behind it prints.
     pub fn reason(self, alloc: Global) -> Result<String, Refusal> {
         match self {
-            Refusal::Der(error) => Ok(error.kind.to_string(alloc)?),
-            Refusal::Identifier(error) => Ok(error.to_string(alloc)?),
+            Refusal::Der(error) => shown(alloc, error.kind),
+            Refusal::Identifier(error) => shown(alloc, error),
             refusal => Err(refusal),
         }
     }
@@ -38,8 +38,8 @@ impl Refusal {
                     position: Some(place),
                     ..
                 },
-            ) => Ok(place.to_string(alloc)?),
-            Refusal::Der(_) => Ok("none".to_string(alloc)?),
+            ) => shown(alloc, place),
+            Refusal::Der(_) => shown(alloc, "none"),
             refusal => Err(refusal),
         }
     }
@@ -83,12 +83,6 @@ impl<T: Drop> From<AllocFailed<T>> for Refusal {
 
 impl From<ParseIntError> for Refusal {
     fn from(_error: ParseIntError) -> Refusal {
-        Refusal::Unread
-    }
-}
-
-impl From<Utf8Error> for Refusal {
-    fn from(_error: Utf8Error) -> Refusal {
         Refusal::Unread
     }
 }

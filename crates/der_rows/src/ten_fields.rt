@@ -3,9 +3,10 @@
 ghost use Rattle.der_core_values.specs.declared.one_of_two.OneOf2.TheVariants as cases;
 ghost use Rattle.der_rows.specs.declared.ten_fields.NumberOrText.TheVariants as choices;
 
-use crate::questions::{Question, answer_with_debug, name_of};
+use crate::questions::{Asked, Question, answer_with_debug};
 use crate::record::Record;
 use crate::refusals::Refusal;
+use crate::shown::named;
 use const_oid_identifiers::ObjectIdentifier;
 use der_core::{
     Choice, Decode, DerOrd, Encode, EncodeRef, Error, Explicit, Implicit, Length, OneOf2, Reader,
@@ -105,12 +106,11 @@ fn alternatives(choice: &NumberOrText) -> OneOf2<EncodeRef<'_, u8>, EncodeRef<'_
 
 /// The answer of the choice, which is compared alone.
 pub fn answer_of_choice(alloc: Global, question: &Question<'_>) -> Result<String, Refusal> {
-    match *question {
-        Question::Order(first, second) => {
-            let first: NumberOrText = from_der(alloc, first)?;
-            let second: NumberOrText = from_der(alloc, second)?;
-            let order = alternatives(&first).der_cmp(&alternatives(&second))?;
-            Ok(name_of(order).to_string(alloc)?)
+    match question.asked {
+        Asked::Order => {
+            let first: NumberOrText = from_der(alloc, question.first)?;
+            let second: NumberOrText = from_der(alloc, question.second)?;
+            named(alloc, alternatives(&first).der_cmp(&alternatives(&second)))
         }
         _ => Err(Refusal::Unread),
     }

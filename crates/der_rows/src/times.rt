@@ -1,8 +1,9 @@
 //! Dates and times.
 
 use crate::nested;
-use crate::questions::{Question, answer_with_order};
+use crate::questions::{Asked, Question, answer_with_order};
 use crate::refusals::Refusal;
+use crate::shown::{printed, shown};
 use der_core::{DecodeValue, EncodeValue, FixedTag, SliceReader, ValueOrd, from_der};
 use der_types_time::{DateTime, GeneralizedTime, UtcTime};
 use std::alloc::Global;
@@ -30,11 +31,11 @@ fn answer_of_time<
         + ValueOrd
         + Drop,
 >(alloc: Global, question: &Question<'a>) -> Result<String, Refusal> {
-    match *question {
-        Question::Text(octets) => {
-            let time: T = from_der(alloc, octets)?;
+    match question.asked {
+        Asked::Text => {
+            let time: T = from_der(alloc, question.first)?;
             let date: DateTime = time.into();
-            Ok(date.to_string(alloc)?)
+            shown(alloc, date)
         }
         _ => answer_with_order::<T>(alloc, question),
     }
@@ -46,12 +47,9 @@ pub fn answer_of_dates(alloc: Global, word: &str, rest: &str) -> Result<String, 
     match word {
         "date" => {
             let date: DateTime = rest.parse()?;
-            Ok(date.unix_seconds().to_string(alloc)?)
+            shown(alloc, date.unix_seconds())
         }
-        "seconds" => {
-            let date = DateTime::from_unix_seconds(seconds_of(rest)?)?;
-            Ok(date.to_string(alloc)?)
-        }
+        "seconds" => printed(alloc, DateTime::from_unix_seconds(seconds_of(rest)?)),
         _ => Err(Refusal::Unread),
     }
 }

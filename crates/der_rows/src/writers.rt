@@ -1,8 +1,9 @@
 //! Writers that take steps, and values that are written to slices.
 
 use crate::refusals::Refusal;
+use crate::shown::{hex_of, octets_of, shown};
 use der_core::{
-    Encode, EncodeValueRef, ErrorKind, Length, SliceWriter, TagMode, TagNumber, Writer,
+    Encode, EncodeValueRef, Error, ErrorKind, Length, SliceWriter, TagMode, TagNumber, Writer,
     encode_to_slice, encode_to_vec, encode_value_to_slice, from_der, value_header,
 };
 use std::alloc::Global;
@@ -12,65 +13,139 @@ use std::alloc::Global;
 pub fn answer(alloc: Global, rest: &str) -> Result<String, Refusal> {
     let (room, steps) = rest.split_once(' ').ok_or(Refusal::Unread)?;
     let mut octets = vec![in alloc; 0u8; room.parse::<usize>()?]?;
-    let mut writer = SliceWriter::new(octets.as_mut_slice());
-    let mut answers = String::new(alloc);
-    for step in steps.split_whitespace() {
-        match answer_of_step(alloc, &mut writer, step) {
-            Ok(answer) => answers.push_str(answer)?,
-            Err(refusal) => answers.push_str(refusal.to_string(alloc)?.as_str())?,
-        }
-        answers.push_str("; ")?;
-    }
-    match writer.finish() {
-        Ok(written) => answers.push_str(hex::encode(alloc, written)?.as_str())?,
-        Err(error) => answers.push_str(Refusal::from(error).to_string(alloc)?.as_str())?,
-    }
-    let octets = hex::encode(alloc, octets)?;
-    Ok(format!(in alloc; "{answers}; {octets}")?)
+    let answers = answers_of(alloc, octets.as_mut_slice(), steps)?;
+    beside(alloc, answers.as_str(), "; ", octets.as_slice())
 }
 
-/// What a step answers: a name, and behind a colon the octets that it is about.
-fn answer_of_step(
+/// A text, and octets behind it.
+fn beside(alloc: Global, text: &str, between: &str, octets: &[u8]) -> Result<String, Refusal> {
+    let octets = hex_of(alloc, octets)?;
+    Ok(format!(in alloc; "{text}{between}{octets}")?)
+}
+
+/// What the steps answer, one behind another, and then what was written.
+fn answers_of(alloc: Global, octets: &mut [u8], steps: &str) -> Result<String, Refusal> {
+    let mut writer = SliceWriter::new(octets);
+    let mut answers = String::new(alloc);
+    for step in steps.split_whitespace() {
+        let answer = answer_or_refusal(alloc, &mut writer, step)?;
+        answers.push_str(answer.as_str())?;
+        answers.push_str("; ")?;
+    }
+    let written = octets_written(alloc, writer.finish())?;
+    answers.push_str(written.as_str())?;
+    Ok(answers)
+}
+
+/// What was written, or why there is nothing.
+fn octets_written(alloc: Global, outcome: Result<&[u8], Error>) -> Result<String, Refusal> {
+    match outcome {
+        Ok(written) => hex_of(alloc, written),
+        Err(error) => shown(alloc, Refusal::from(error)),
+    }
+}
+
+/// What a step answers, or why it is refused.
+fn answer_or_refusal(
     alloc: Global,
     writer: &mut SliceWriter<'_>,
     step: &str,
-) -> Result<&'static str, Refusal> {
+) -> Result<String, Refusal> {
     let (name, octets) = step.split_once(':').unwrap_or((step, ""));
-    let octets = hex::decode(alloc, octets.as_bytes())?;
-    match (name, octets.as_slice()) {
-        ("write", octets) => writer.write(octets)?,
-        ("byte", [octet]) => writer.write_byte(*octet)?,
-        ("plain-u8", [number]) => number.encode(writer)?,
-        ("u8", [number]) => writer.encode(number)?,
-        ("true", []) => writer.encode(&true)?,
-        ("none", []) => writer.encode(&None::<bool>)?,
-        ("null", []) => writer.encode(&())?,
-        ("explicit", [number]) => {
-            writer.context_specific(TagNumber::new(0), TagMode::Explicit, number)?
-        }
-        ("implicit", [number]) => {
-            writer.context_specific(TagNumber::new(0), TagMode::Implicit, number)?
-        }
-        ("sequence", [len, content @ ..]) => {
-            writer.sequence(Length::from(*len), |inner| inner.write(content))?
-        }
-        ("error", []) => writer.error::<()>(ErrorKind::DateTime)?,
-        ("failed", []) => return Ok(if writer.is_failed() { "true" } else { "false" }),
-        _ => return Err(Refusal::Unread),
+    match octets_of(alloc, octets) {
+        Ok(octets) => taken(alloc, writer, name, octets.as_slice()),
+        Err(refusal) => shown(alloc, refusal),
     }
+}
+
+/// What a step answers that is about these octets, or why it is refused.
+fn taken(
+    alloc: Global,
+    writer: &mut SliceWriter<'_>,
+    name: &str,
+    octets: &[u8],
+) -> Result<String, Refusal> {
+    match answer_of_step(writer, name, octets) {
+        Ok(answer) => shown(alloc, answer),
+        Err(refusal) => shown(alloc, refusal),
+    }
+}
+
+/// What a step answers: a name, and the octets that it is about.
+fn answer_of_step(
+    writer: &mut SliceWriter<'_>,
+    name: &str,
+    octets: &[u8],
+) -> Result<&'static str, Refusal> {
+    match name {
+        "write" => done(writer.write(octets)),
+        "sequence" => sequence_of(writer, octets),
+        _ => match octets {
+            [] => answer_of_name(writer, name),
+            [number] => answer_of_number(writer, name, number),
+            _ => Err(Refusal::Unread),
+        },
+    }
+}
+
+/// What a step answers that gives nothing.
+fn done(outcome: Result<(), Error>) -> Result<&'static str, Refusal> {
+    outcome?;
     Ok("done")
+}
+
+/// What a step answers that has no octets.
+fn answer_of_name(writer: &mut SliceWriter<'_>, name: &str) -> Result<&'static str, Refusal> {
+    match name {
+        "true" => done(writer.encode(&true)),
+        "none" => done(writer.encode(&None::<bool>)),
+        "null" => done(writer.encode(&())),
+        "error" => done(writer.error::<()>(ErrorKind::DateTime)),
+        "failed" if writer.is_failed() => Ok("true"),
+        "failed" => Ok("false"),
+        _ => Err(Refusal::Unread),
+    }
+}
+
+/// What a step answers that is about a number.
+fn answer_of_number(
+    writer: &mut SliceWriter<'_>,
+    name: &str,
+    number: &u8,
+) -> Result<&'static str, Refusal> {
+    let zero = TagNumber::new(0);
+    match name {
+        "byte" => done(writer.write_byte(*number)),
+        "plain-u8" => done(number.encode(writer)),
+        "u8" => done(writer.encode(number)),
+        "explicit" => done(writer.context_specific(zero, TagMode::Explicit, number)),
+        "implicit" => done(writer.context_specific(zero, TagMode::Implicit, number)),
+        _ => Err(Refusal::Unread),
+    }
+}
+
+/// What the step answers that writes a SEQUENCE whose length is the first octet, and whose content the others are.
+fn sequence_of(writer: &mut SliceWriter<'_>, octets: &[u8]) -> Result<&'static str, Refusal> {
+    let [len, content @ ..] = octets else {
+        return Err(Refusal::Unread);
+    };
+    done(writer.sequence(Length::from(*len), |inner| inner.write(content)))
 }
 
 /// What of a number is written to a slice of so many octets, which are 09 before, and what then stands
 /// there.
 pub fn answer_of_slices(alloc: Global, word: &str, rest: &str) -> Result<String, Refusal> {
     let (room, octets) = rest.split_once(' ').ok_or(Refusal::Unread)?;
-    let octets = hex::decode(alloc, octets.as_bytes())?;
-    let number: u8 = from_der(alloc, octets.as_slice())?;
+    let number = number_of(alloc, octets)?;
     let mut room = vec![in alloc; 9u8; room.parse::<usize>()?]?;
-    let written = hex::encode(alloc, written_to(word, number, room.as_mut_slice())?)?;
-    let room = hex::encode(alloc, room)?;
-    Ok(format!(in alloc; "{written} {room}")?)
+    let written = hex_of(alloc, written_to(word, number, room.as_mut_slice())?)?;
+    beside(alloc, written.as_str(), " ", room.as_slice())
+}
+
+/// The number that octets spell.
+fn number_of(alloc: Global, octets: &str) -> Result<u8, Refusal> {
+    let octets = octets_of(alloc, octets)?;
+    Ok(from_der(alloc, octets.as_slice())?)
 }
 
 /// What is written of a number to the front of a slice, with its header or without.
@@ -86,11 +161,10 @@ fn written_to<'a>(word: &str, number: u8, room: &'a mut [u8]) -> Result<&'a [u8]
 /// has.
 pub fn answer_of_vectors(alloc: Global, rest: &str) -> Result<String, Refusal> {
     let (octets, number) = rest.split_once(' ').ok_or(Refusal::Unread)?;
-    let mut octets = hex::decode(alloc, octets.as_bytes())?;
-    let number = hex::decode(alloc, number.as_bytes())?;
-    let number: u8 = from_der(alloc, number.as_slice())?;
-    let len = encode_to_vec(&number, &mut octets)?;
+    let number = number_of(alloc, number)?;
     let header = value_header(&EncodeValueRef(&number))?;
-    let octets = hex::encode(alloc, octets)?;
+    let mut octets = octets_of(alloc, octets)?;
+    let len = encode_to_vec(&number, &mut octets)?;
+    let octets = hex_of(alloc, octets.as_slice())?;
     Ok(format!(in alloc; "{octets} {len} {} {}", header.tag(), header.length())?)
 }

@@ -1,0 +1,85 @@
+//! What is answered of values, and of outcomes that may be refusals.
+//!
+//! Each answer is one call. A `?` costs the check more than a call, and most where a value is held that has
+//! to be dropped.
+
+use crate::refusals::Refusal;
+use der_core::{Encode, Error, to_der};
+use std::alloc::Global;
+use std::cmp::Ordering;
+use std::fmt::{Debug, Display};
+
+/// What a value prints.
+pub fn shown<T: Display + Drop>(alloc: Global, value: T) -> Result<String, Refusal> {
+    Ok(value.to_string(alloc)?)
+}
+
+/// What the value of an outcome prints.
+pub fn printed<T: Display + Drop>(
+    alloc: Global,
+    outcome: Result<T, Error>,
+) -> Result<String, Refusal> {
+    shown(alloc, outcome?)
+}
+
+/// What the value of an outcome prints for debugging.
+pub fn debugged<T: Debug + Drop>(
+    alloc: Global,
+    outcome: Result<T, Error>,
+) -> Result<String, Refusal> {
+    let value = outcome?;
+    Ok(format!(in alloc; "{value:?}")?)
+}
+
+/// Octets, in hex.
+pub fn hex_of(alloc: Global, octets: &[u8]) -> Result<String, Refusal> {
+    Ok(hex::encode(alloc, octets)?)
+}
+
+/// The octets of an outcome, in hex.
+pub fn hex_in(alloc: Global, outcome: Result<Vec<u8>, Error>) -> Result<String, Refusal> {
+    hex_of(alloc, outcome?.as_slice())
+}
+
+/// The octets of a value, in hex.
+pub fn written<T: Encode>(alloc: Global, value: &T) -> Result<String, Refusal> {
+    hex_in(alloc, to_der(alloc, value))
+}
+
+/// The octets of the value of an outcome, in hex.
+pub fn written_in<T: Encode + Drop>(
+    alloc: Global,
+    outcome: Result<T, Error>,
+) -> Result<String, Refusal> {
+    written(alloc, &outcome?)
+}
+
+/// What is answered of an outcome that gives nothing.
+pub fn done(alloc: Global, outcome: Result<(), Error>) -> Result<String, Refusal> {
+    outcome?;
+    shown(alloc, "done")
+}
+
+/// The name of the order of an outcome.
+pub fn named(alloc: Global, outcome: Result<Ordering, Error>) -> Result<String, Refusal> {
+    shown(alloc, name_of(outcome?))
+}
+
+/// The name of an order.
+pub fn name_of(order: Ordering) -> &'static str {
+    match order {
+        Ordering::Less => "Less",
+        Ordering::Equal => "Equal",
+        Ordering::Greater => "Greater",
+    }
+}
+
+/// The octets that hexadecimal digits spell.
+pub fn octets_of(alloc: Global, digits: &str) -> Result<Vec<u8>, Refusal> {
+    Ok(hex::decode(alloc, digits.as_bytes())?)
+}
+
+/// A text up to its first blank, and what stands behind that.
+pub fn front_of(text: &str) -> (&str, &str) {
+    text.split_once(' ').unwrap_or((text, ""))
+}
