@@ -137,6 +137,14 @@ fn copies(rt: HostRuntime) -> Result<(), Fail> {
     Ok(())
 }
 
+/// Whether what is written is refused so.
+fn is_refused(answer: Result<Vec<u8>, Error>, kind: ErrorKind) -> bool {
+    match answer {
+        Ok(_) => false,
+        Err(error) => error.kind() == kind,
+    }
+}
+
 /// `01` and `02`, the other way round and twice.
 #[test]
 fn strings_that_do_not_rise(rt: HostRuntime) -> Result<(), Fail> {
@@ -151,10 +159,7 @@ fn strings_that_do_not_rise(rt: HostRuntime) -> Result<(), Fail> {
                 OctetString::new(Vec::from_array(alloc, [second])?)?,
             ]?,
         };
-        assert_eq!(rt;
-            to_der(alloc, &set).err().map(|error| error.kind()),
-            Some(fault)
-        );
+        assert!(rt; is_refused(to_der(alloc, &set), fault));
     }
     Ok(())
 }

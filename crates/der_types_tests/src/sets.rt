@@ -1,6 +1,8 @@
 //! Sets and lists of bounded room: states after refusals, iterators and want of memory.
 //!
-//! Want of memory is met by `rt try --test --fail-alloc N`: each request in turn is refused.
+//! What a test asks stands in functions over what it lends, so that a value that has to be dropped is held
+//! by a function that seldom returns early. Want of memory is met by `rt try --test --fail-alloc N`: each
+//! request in turn is refused.
 
 use der_core::{Decode, Encode, EncodeValue, Error, ErrorKind, Member, SliceReader, from_der};
 use der_types::{SequenceOf, SetOf, SetOfRef, SetOfVec};
@@ -10,9 +12,12 @@ use std::convert::AsSlice;
 use std::hash::{DefaultHasher, Hash, Hasher};
 use std::test::Fail;
 
-/// The kind of a refusal.
-fn kind<T: Drop>(answer: Result<T, Error>) -> Option<ErrorKind> {
-    answer.err().map(|error| error.kind)
+/// Whether an answer is a refusal of this kind.
+fn is_refused<T: Drop>(answer: Result<T, Error>, kind: ErrorKind) -> bool {
+    match answer {
+        Ok(_) => false,
+        Err(error) => error.kind == kind,
+    }
 }
 
 /// What a hasher makes of a value.
@@ -30,128 +35,212 @@ fn lent<'a, T: Decode<'a, SliceReader<'a>> + Member>(
     from_der(alloc, octets)
 }
 
-/// A refused `add` leaves the list.
-#[test]
-fn lists(rt: HostRuntime) -> Result<(), Fail> {
-    let mut list = SequenceOf::<u8, 2>::default();
-    assert!(rt; list.is_empty());
+/// A list with room for two.
+type Few = SequenceOf<u8, 2>;
+
+/// Whether a list takes 7 and 5, and a refused `add` leaves it.
+fn is_filled(list: &mut Few) -> Result<bool, Error> {
+    let was_empty = list.is_empty();
     list.add(7)?;
     list.add(5)?;
-    assert_eq!(rt; kind(list.add(6)), Some(ErrorKind::Overlength));
-    assert_eq!(rt; list.len(), 2);
-    assert_eq!(rt; list.get(1).copied(), Some(5));
-    assert!(rt; list.get(2).is_none());
-    let turned = list.clone()?;
-    assert!(rt; list == turned && hash_of(&list) == hash_of(&turned));
+    let refused = is_refused(list.add(6), ErrorKind::Overlength);
+    let members = list.get(1).copied() == Some(5) && list.get(2).is_none();
+    Ok(was_empty && refused && members && list.len() == 2)
+}
+
+/// Whether a list equals its copy, and no longer once it is turned.
+fn is_turned(list: &mut Few) -> Result<bool, Error> {
+    let copy = list.clone()?;
+    let same = *list == copy && hash_of(list) == hash_of(&copy);
     list.as_mut_slice().reverse();
-    assert!(rt; list != turned && hash_of(&list) != hash_of(&turned));
+    Ok(same && *list != copy && hash_of(list) != hash_of(&copy))
+}
+
+/// Whether the iterator of a list gives 5 and 7.
+fn gives_members(list: &Few) -> bool {
     let mut members = list.iter();
-    assert_eq!(rt; members.next().copied(), Some(5));
-    assert_eq!(rt; members.size_hint(), (1, Some(1)));
-    assert_eq!(rt; members.next().copied(), Some(7));
-    assert!(rt; members.next().is_none());
-    assert_eq!(rt; members.len(), 0);
-    assert_eq!(rt; AsSlice::as_slice(&list), list.as_slice());
-    assert_eq!(rt; list.into_inner().as_slice(), [5, 7].as_slice());
+    let first = members.next().copied();
+    let left = members.size_hint();
+    let second = members.next().copied();
+    let ended = members.next().is_none() && members.len() == 0;
+    first == Some(5) && left == (1, Some(1)) && second == Some(7) && ended
+}
+
+#[test]
+fn lists(rt: HostRuntime) -> Result<(), Fail> {
+    let mut list = Few::default();
+    assert!(rt; is_filled(&mut list)?);
+    assert!(rt; is_turned(&mut list)?);
+    assert!(rt; gives_members(&list));
+    assert!(rt; AsSlice::as_slice(&list) == list.as_slice());
+    assert!(rt; list.into_inner().as_slice() == [5, 7].as_slice());
     Ok(())
 }
 
-/// A refused member leaves the set; 200 has two octets of content, and stands behind 5.
+/// Whether a set takes members in any order, and a refused one leaves it; 200 has two octets of content,
+/// and stands behind 5.
+fn is_extended(set: &mut SetOfVec<u8>) -> Result<bool, Error> {
+    let was_empty = set.is_empty();
+    set.extend([5, 200, 5, 1])?;
+    let refused = is_refused(set.insert_ordered(5), ErrorKind::SetOrdering);
+    let members = set.as_slice() == [1, 5, 5, 200].as_slice();
+    set.insert_ordered(201)?;
+    let last = set.get(4).copied() == Some(201) && set.get(5).is_none();
+    Ok(was_empty && refused && members && last && set.len() == 5)
+}
+
+/// Whether two sets are the same, by each comparison.
+fn are_same(set: &SetOfVec<u8>, same: &SetOfVec<u8>) -> bool {
+    let order = set.partial_cmp(same) == Some(Ordering::Equal);
+    set == same && order && AsSlice::as_slice(set) == same.as_slice()
+}
+
 #[test]
 fn sets(rt: HostRuntime) -> Result<(), Fail> {
     let alloc = rt.alloc();
     let mut set = SetOfVec::<u8>::default(alloc);
-    assert!(rt; set.is_empty());
-    set.extend([5, 200, 5, 1])?;
-    assert_eq!(rt; kind(set.insert_ordered(5)), Some(ErrorKind::SetOrdering));
-    assert_eq!(rt; set.as_slice(), [1, 5, 5, 200].as_slice());
-    set.insert_ordered(201)?;
-    assert_eq!(rt; set.len(), 5);
-    assert_eq!(rt; set.get(4).copied(), Some(201));
-    assert!(rt; set.get(5).is_none());
+    assert!(rt; is_extended(&mut set)?);
     let same = SetOfVec::from_iter(alloc, set.clone(alloc)?.into_vec())?;
-    assert!(rt; same == set);
-    assert_eq!(rt; set.partial_cmp(&same), Some(Ordering::Equal));
-    assert_eq!(rt; AsSlice::as_slice(&set), same.as_slice());
+    assert!(rt; are_same(&set, &same));
     Ok(())
 }
 
-/// The same of a set with room for three members.
-#[test]
-fn sets_of_bounded_room(rt: HostRuntime) -> Result<(), Fail> {
-    let alloc = rt.alloc();
-    let mut set = SetOf::<u8, 3>::default();
-    assert!(rt; set.is_empty());
+/// A set with room for three.
+type Three = SetOf<u8, 3>;
+
+/// Whether a set of bounded room takes 5, 1 and 5, and refused members leave it.
+fn is_inserted(set: &mut Three) -> Result<bool, Error> {
+    let was_empty = set.is_empty();
     set.insert(5)?;
     set.insert(1)?;
-    assert_eq!(rt; kind(set.insert_ordered(4)), Some(ErrorKind::SetOrdering));
+    let falls = is_refused(set.insert_ordered(4), ErrorKind::SetOrdering);
     set.insert_ordered(5)?;
-    assert_eq!(rt; kind(set.insert(9)), Some(ErrorKind::Overlength));
-    assert_eq!(rt; kind(set.insert_ordered(9)), Some(ErrorKind::Overlength));
-    assert_eq!(rt; set.len(), 3);
-    assert_eq!(rt; set.get(0).copied(), Some(1));
+    let full = is_refused(set.insert(9), ErrorKind::Overlength);
+    let full_behind = is_refused(set.insert_ordered(9), ErrorKind::Overlength);
+    let first = set.get(0).copied() == Some(1);
+    Ok(was_empty && falls && full && full_behind && first && set.len() == 3)
+}
+
+/// Whether the iterator of a set gives 1, and has two more.
+fn gives_first(set: &Three) -> bool {
     let mut members = set.iter();
-    assert_eq!(rt; members.next().copied(), Some(1));
-    assert_eq!(rt; members.size_hint(), (2, Some(2)));
+    members.next().copied() == Some(1) && members.size_hint() == (2, Some(2))
+}
+
+/// Whether a set equals the one that is made of its members, and its copy.
+fn is_same(alloc: Global, set: &Three) -> Result<bool, Error> {
     let same = SetOf::try_from([5, 1, 5])?;
-    assert!(rt; same == set && same.clone(alloc)? == set);
-    assert_eq!(rt; set.partial_cmp(&same), Some(Ordering::Equal));
-    assert_eq!(rt; AsSlice::as_slice(&set), set.as_slice());
-    assert_eq!(rt; set.into_inner().as_slice(), [1, 5, 5].as_slice());
+    let order = set.partial_cmp(&same) == Some(Ordering::Equal);
+    Ok(same == *set && order && same.clone(alloc)? == *set)
+}
+
+#[test]
+fn sets_of_bounded_room(rt: HostRuntime) -> Result<(), Fail> {
+    let mut set = Three::default();
+    assert!(rt; is_inserted(&mut set)?);
+    assert!(rt; gives_first(&set));
+    assert!(rt; is_same(rt.alloc(), &set)?);
+    assert!(rt; AsSlice::as_slice(&set) == set.as_slice());
+    assert!(rt; set.into_inner().as_slice() == [1, 5, 5].as_slice());
     Ok(())
 }
 
-/// A set that lends octets, and one that lends values: equal members are kept.
+/// Whether the iterator of a borrowed set gives these, and has no more.
+fn gives(alloc: Global, set: &SetOfRef<'_, u8>, numbers: &[u8]) -> Result<bool, Error> {
+    let mut members = set.iter(alloc);
+    let mut are_these = members.size_hint() == (numbers.len(), Some(numbers.len()));
+    for number in numbers {
+        are_these = are_these && members.next() == Some(Ok(*number));
+    }
+    Ok(are_these && members.next().is_none() && members.len() == 0)
+}
+
+/// Whether a borrowed set has 1, 1 and 2: equal members are kept.
+fn has_three(alloc: Global, set: &SetOfRef<'_, u8>) -> Result<bool, Error> {
+    let lens = set.len() == 3 && set.value_len()?.value == 9 && set.encoded_len()?.value == 11;
+    let last = set.get(alloc, 2)? == Some(2) && set.get(alloc, 3)?.is_none();
+    Ok(lens && last && gives(alloc, set, &[1, 1, 2])?)
+}
+
+/// A set that lends octets, and one that lends values.
 #[test]
 fn borrowed_sets(rt: HostRuntime) -> Result<(), Fail> {
     let alloc = rt.alloc();
     let octets = lent::<u8>(alloc, b"\x31\x09\x02\x01\x01\x02\x01\x01\x02\x01\x02")?;
     let owned = octets.ref_to_owned(alloc)?;
-    assert_eq!(rt; owned.as_slice(), [1, 1, 2].as_slice());
-    for set in [octets.clone()?, owned.owned_to_ref()] {
-        assert_eq!(rt; set.len(), 3);
-        assert_eq!(rt; set.value_len()?.value, 9);
-        assert_eq!(rt; set.encoded_len()?.value, 11);
-        let mut members = set.iter(alloc);
-        assert_eq!(rt; members.size_hint(), (3, Some(3)));
-        for expected in [1, 1, 2] {
-            let member = members.next().ok_or("a member is left")?;
-            assert_eq!(rt; member?, expected);
-        }
-        assert!(rt; members.next().is_none());
-        assert_eq!(rt; members.len(), 0);
-        assert_eq!(rt; set.get(alloc, 2)?, Some(2));
-        assert_eq!(rt; set.get(alloc, 3)?, None);
-        assert!(rt; SetOfRef::from(&set).ref_to_owned(alloc)? == owned);
-    }
-    assert!(rt; lent::<u8>(alloc, b"\x31\x00")?.is_empty());
-    let few = SetOf::<u8, 2>::try_from([9, 8])?;
-    assert_eq!(rt; few.owned_to_ref().get(alloc, 0)?, Some(8));
+    assert!(rt; owned.as_slice() == [1, 1, 2].as_slice());
+    assert!(rt; has_three(alloc, &octets.clone()?)?);
+    assert!(rt; has_three(alloc, &owned.owned_to_ref())?);
+    assert!(rt; SetOfRef::from(&octets).ref_to_owned(alloc)? == owned);
     Ok(())
 }
 
-/// A call that finds no memory leaves the set, and is answered when it is repeated.
+/// A set of no members, and the first of a set of bounded room.
+#[test]
+fn members_of_borrowed_sets(rt: HostRuntime) -> Result<(), Fail> {
+    let alloc = rt.alloc();
+    assert!(rt; lent::<u8>(alloc, b"\x31\x00")?.is_empty());
+    let few = SetOf::<u8, 2>::try_from([9, 8])?;
+    assert!(rt; few.owned_to_ref().get(alloc, 0)? == Some(8));
+    Ok(())
+}
+
+/// Whether a member goes into a set; a call that finds no memory leaves the set, and is answered when it is repeated.
+fn goes_in(set: &mut SetOfVec<u8>, item: u8, is_last: bool) -> Result<bool, Error> {
+    let before = set.len();
+    let answer = if is_last {
+        set.insert_ordered(item)
+    } else {
+        set.insert(item)
+    };
+    let Err(error) = answer else {
+        return Ok(true);
+    };
+    let is_left = error.kind == ErrorKind::OutOfMemory && set.len() == before;
+    if is_last {
+        set.insert_ordered(item)?;
+    } else {
+        set.insert(item)?;
+    }
+    Ok(is_left)
+}
+
 #[test]
 fn refused_insertions(rt: HostRuntime) -> Result<(), Fail> {
     let mut set = SetOfVec::<u8>::new(rt.alloc());
-    for item in [5, 1, 5, 9, 7, 3] {
-        let before = set.len();
-        if let Err(error) = set.insert(item) {
-            assert_eq!(rt; error.kind, ErrorKind::OutOfMemory);
-            assert_eq!(rt; set.len(), before);
-            set.insert(item)?;
-        }
+    for (item, is_last) in [
+        (5, false),
+        (1, false),
+        (5, false),
+        (9, false),
+        (7, false),
+        (3, false),
+        (9, true),
+        (10, true),
+        (11, true),
+    ] {
+        assert!(rt; goes_in(&mut set, item, is_last)?);
     }
-    for item in [9, 10, 11] {
-        let before = set.len();
-        if let Err(error) = set.insert_ordered(item) {
-            assert_eq!(rt; error.kind, ErrorKind::OutOfMemory);
-            assert_eq!(rt; set.len(), before);
-            set.insert_ordered(item)?;
-        }
-    }
-    assert_eq!(rt; set.as_slice(), [1, 3, 5, 5, 7, 9, 9, 10, 11].as_slice());
+    assert!(rt; set.as_slice() == [1, 3, 5, 5, 7, 9, 9, 10, 11].as_slice());
     Ok(())
+}
+
+/// Inserts members one by one, each once more where it finds no memory.
+fn insert_each(set: &mut SetOfVec<u8>, items: &[u8]) -> Result<(), Error> {
+    for item in items {
+        if set.insert(*item).is_err() {
+            set.insert(*item)?;
+        }
+    }
+    Ok(())
+}
+
+/// Whether a set takes all items, or finds no memory.
+fn is_extended_by(set: &mut SetOfVec<u8>, items: [u8; 10]) -> bool {
+    match set.extend(items) {
+        Ok(()) => set.len() == 10,
+        Err(error) => error.kind == ErrorKind::OutOfMemory,
+    }
 }
 
 /// Where `extend` finds no memory, what it placed before stays, in order.
@@ -159,16 +248,12 @@ fn refused_insertions(rt: HostRuntime) -> Result<(), Fail> {
 fn refused_extension(rt: HostRuntime) -> Result<(), Fail> {
     let items = [5, 1, 4, 2, 3, 9, 8, 7, 6, 0];
     let mut set = SetOfVec::<u8>::new(rt.alloc());
-    match set.extend(items) {
-        Ok(()) => assert_eq!(rt; set.len(), 10),
-        Err(error) => assert_eq!(rt; error.kind, ErrorKind::OutOfMemory),
-    }
+    assert!(rt; is_extended_by(&mut set, items));
     let mut placed = SetOfVec::new(rt.alloc());
-    for item in items.iter().take(set.len()) {
-        if placed.insert(*item).is_err() {
-            placed.insert(*item)?;
-        }
-    }
+    insert_each(
+        &mut placed,
+        items.as_slice().get(..set.len()).unwrap_or(&[]),
+    )?;
     assert!(rt; set == placed);
     Ok(())
 }
@@ -181,22 +266,30 @@ fn is_answered<T: PartialEq + Drop>(answer: Result<T, Error>, expected: T) -> bo
     }
 }
 
+/// The set of 1 and 2, that may find no memory once.
+fn of_one_and_two(alloc: Global) -> Result<SetOfRef<'static, u8>, Error> {
+    let octets = b"\x31\x06\x02\x01\x01\x02\x01\x02";
+    match lent(alloc, octets) {
+        Ok(set) => Ok(set),
+        Err(_) => lent(alloc, octets),
+    }
+}
+
 /// Reading a set may find no memory; its members are numbers, and an iterator over them takes none.
 #[test]
 fn lent_members(rt: HostRuntime) -> Result<(), Fail> {
     let alloc = rt.alloc();
-    let octets = b"\x31\x06\x02\x01\x01\x02\x01\x02";
-    let set = match lent::<u8>(alloc, octets) {
-        Ok(set) => set,
-        Err(_) => lent(alloc, octets)?,
-    };
-    let mut members = set.iter(alloc);
-    for expected in [1u8, 2] {
-        let member = members.next().ok_or("a member is left")?;
-        assert_eq!(rt; member?, expected);
-    }
-    assert!(rt; members.next().is_none());
+    let set = of_one_and_two(alloc)?;
+    assert!(rt; gives(alloc, &set, &[1, 2])?);
     Ok(())
+}
+
+/// Whether the copy of a set equals it, or finds no memory.
+fn equals_copy(alloc: Global, set: &SetOfVec<u8>) -> bool {
+    match set.clone(alloc) {
+        Ok(same) => same == *set,
+        Err(_) => true,
+    }
 }
 
 /// A set made of items is in order, and its copy equals it; either may find no memory.
@@ -205,39 +298,40 @@ fn refused_gathering(rt: HostRuntime) -> Result<(), Fail> {
     let alloc = rt.alloc();
     match SetOfVec::from_iter(alloc, [5u8, 1]) {
         Ok(set) => {
-            if let Ok(same) = set.clone(alloc) {
-                assert!(rt; same == set);
-            }
-            assert_eq!(rt; set.as_slice(), [1, 5].as_slice());
+            assert!(rt; set.as_slice() == [1, 5].as_slice());
+            assert!(rt; equals_copy(alloc, &set));
         }
-        Err(error) => assert_eq!(rt; error.kind, ErrorKind::OutOfMemory),
+        Err(error) => assert!(rt; error.kind == ErrorKind::OutOfMemory),
     }
     Ok(())
+}
+
+/// The owned form of a set, that may find no memory once.
+fn owned_form(alloc: Global, set: &SetOfRef<'_, u8>) -> Result<SetOfVec<u8>, Error> {
+    match set.ref_to_owned(alloc) {
+        Ok(owned) => Ok(owned),
+        Err(_) => set.ref_to_owned(alloc),
+    }
+}
+
+/// Whether a set has two members, or found no memory.
+fn has_two(answer: Result<SetOfVec<u8>, Error>) -> bool {
+    match answer {
+        Ok(set) => set.len() == 2,
+        Err(error) => error.kind == ErrorKind::OutOfMemory,
+    }
 }
 
 /// Copies of a borrowed set, and orders that write values to compare them.
 #[test]
 fn refused_copies(rt: HostRuntime) -> Result<(), Fail> {
     let alloc = rt.alloc();
-    let octets = b"\x31\x06\x02\x01\x01\x02\x01\x02";
-    let set = match lent::<u8>(alloc, octets) {
-        Ok(set) => set,
-        Err(_) => lent(alloc, octets)?,
-    };
-    let owned = match set.ref_to_owned(alloc) {
-        Ok(owned) => owned,
-        Err(_) => set.ref_to_owned(alloc)?,
-    };
-    assert_eq!(rt; owned.len(), 2);
-    match owned.owned_to_ref().ref_to_owned(alloc) {
-        Ok(same) => assert_eq!(rt; same.len(), 2),
-        Err(error) => assert_eq!(rt; error.kind, ErrorKind::OutOfMemory),
-    }
-    let order = owned.owned_to_ref().value_cmp(alloc, &set);
-    assert!(rt; is_answered(order, Ordering::Equal));
-    let order = set.der_cmp(alloc, &owned.owned_to_ref());
-    assert!(rt; is_answered(order, Ordering::Equal));
-    let first = set.get(alloc, 0).map(|member| member.is_some());
-    assert!(rt; is_answered(first, true));
+    let set = of_one_and_two(alloc)?;
+    let owned = owned_form(alloc, &set)?;
+    let lent = owned.owned_to_ref();
+    assert!(rt; owned.len() == 2 && has_two(lent.ref_to_owned(alloc)));
+    assert!(rt; is_answered(lent.value_cmp(alloc, &set), Ordering::Equal));
+    assert!(rt; is_answered(set.der_cmp(alloc, &lent), Ordering::Equal));
+    assert!(rt; is_answered(set.get(alloc, 0), Some(1)));
     Ok(())
 }

@@ -1,14 +1,21 @@
 //! Numbers, octet strings and bit strings: both forms of each, and bits in turn.
 
-use der_core::Tag;
+use der_core::{Error, Tag};
 use der_types::laws::{
     bits_answer_alike, integers_answer_alike, naturals_answer_alike, octets_answer_alike,
 };
 use der_types::{
     AllowedLenBitString, AsBitStringRef, AsIntRef, AsUintRef, BitString, BitStringRef, Int, IntRef,
-    OctetStringRef, SequenceRef, Uint, UintRef,
+    OctetString, OctetStringRef, SequenceRef, Uint, UintRef,
 };
+use std::alloc::Global;
 use std::test::Fail;
+
+/// Whether the owned form of a number lends it, and equals its copy.
+fn lends_integer(alloc: Global, owned: &Int, lent: IntRef<'_>) -> Result<bool, Error> {
+    let same = owned.as_int_ref() == lent && owned.clone(alloc)? == *owned;
+    Ok(same && owned.as_bytes() == [0, 128].as_slice() && owned.len().value == 2)
+}
 
 /// 128 in both forms, and as a number that isn't negative.
 #[test]
@@ -17,11 +24,15 @@ fn integers(rt: HostRuntime) -> Result<(), Fail> {
     let lent = IntRef::new(&[0, 0, 128])?;
     let owned = lent.ref_to_owned(alloc)?;
     integers_answer_alike(&lent, &owned);
-    assert_eq!(rt; owned.as_bytes(), [0, 128].as_slice());
-    assert!(rt; owned.as_int_ref() == lent && owned.clone(alloc)? == owned);
-    assert!(rt; owned.len().value == 2 && !owned.is_empty());
+    assert!(rt; lends_integer(alloc, &owned, lent)? && !owned.is_empty());
     assert!(rt; Int::from(Uint::new(alloc, &[128])?) == owned);
     Ok(())
+}
+
+/// Whether the owned form of a number that isn't negative lends it, and equals its copy.
+fn lends_natural(alloc: Global, owned: &Uint, lent: UintRef<'_>) -> Result<bool, Error> {
+    let same = owned.as_uint_ref() == lent && owned.clone(alloc)? == *owned;
+    Ok(same && owned.as_bytes() == [128].as_slice() && owned.len().value == 1)
 }
 
 #[test]
@@ -30,10 +41,14 @@ fn naturals(rt: HostRuntime) -> Result<(), Fail> {
     let lent = UintRef::of_content(Tag::Integer, &[0, 128])?;
     let owned = lent.ref_to_owned(alloc)?;
     naturals_answer_alike(&lent, &owned);
-    assert_eq!(rt; owned.as_bytes(), [128].as_slice());
-    assert!(rt; owned.as_uint_ref() == lent && owned.clone(alloc)? == owned);
-    assert!(rt; owned.len().value == 1 && !owned.is_empty());
+    assert!(rt; lends_natural(alloc, &owned, lent)? && !owned.is_empty());
     Ok(())
+}
+
+/// Whether the owned form of a string lends these octets, and equals its copy.
+fn lends_octets(alloc: Global, owned: &OctetString, octets: &[u8]) -> Result<bool, Error> {
+    let same = owned.owned_to_ref() == OctetStringRef::of_content(octets);
+    Ok(same && owned.clone(alloc)? == *owned && owned.len().value == 3 && !owned.is_empty())
 }
 
 #[test]
@@ -43,11 +58,19 @@ fn octets(rt: HostRuntime) -> Result<(), Fail> {
     let lent = OctetStringRef::try_from(octets.as_slice())?;
     let owned = lent.ref_to_owned(alloc)?;
     octets_answer_alike(&lent, &owned);
-    assert!(rt; owned.owned_to_ref() == OctetStringRef::of_content(&octets));
-    assert!(rt; owned.clone(alloc)? == owned && owned.len().value == 3 && !owned.is_empty());
+    assert!(rt; lends_octets(alloc, &owned, &octets)?);
     let content = SequenceRef::of_content(&octets);
-    assert_eq!(rt; content.as_bytes(), owned.into_bytes().as_slice());
+    assert!(rt; content.as_bytes() == owned.into_bytes().as_slice());
     Ok(())
+}
+
+/// Whether both forms of a string of ten bits tell the same.
+fn has_ten_bits(alloc: Global, owned: &BitString, lent: BitStringRef<'_>) -> Result<bool, Error> {
+    let same = owned.as_bit_string_ref() == lent && owned.clone(alloc)? == *owned;
+    let lens = owned.bit_len() == 10 && lent.byte_len().value == 2 && owned.as_bytes().is_none();
+    let bits = owned.get(9) == Some(true) && owned.get(10).is_none();
+    let unused = owned.unused_bits() == 6 && owned.has_unused_bits() && !owned.is_empty();
+    Ok(same && lens && bits && unused && lent.ref_to_owned(alloc)? == *owned)
 }
 
 /// `10100000 01`.
@@ -57,11 +80,7 @@ fn bits(rt: HostRuntime) -> Result<(), Fail> {
     let lent = BitStringRef::new(6, &[0xa0, 0x40])?;
     let owned = BitString::new(6, [0xa0, 0x40].to_vec(alloc)?)?;
     bits_answer_alike(&lent, &owned, 2);
-    assert!(rt; lent.ref_to_owned(alloc)? == owned && owned.clone(alloc)? == owned);
-    assert!(rt; owned.as_bit_string_ref() == lent);
-    assert!(rt; owned.bit_len() == 10 && lent.byte_len().value == 2 && owned.as_bytes().is_none());
-    assert!(rt; owned.unused_bits() == 6 && owned.has_unused_bits() && !owned.is_empty());
-    assert_eq!(rt; (owned.get(9), owned.get(10)), (Some(true), None));
+    assert!(rt; has_ten_bits(alloc, &owned, lent)?);
     Ok(())
 }
 
@@ -69,12 +88,11 @@ fn bits(rt: HostRuntime) -> Result<(), Fail> {
 fn bits_in_turn(rt: HostRuntime) -> Result<(), Fail> {
     let lent = BitStringRef::new(6, &[0xa0, 0x40])?;
     let mut bits = lent.bits();
-    assert_eq!(rt; bits.size_hint(), (10, Some(10)));
-    assert_eq!(rt; bits.next(), Some(true));
-    assert_eq!(rt; bits.len(), 9);
+    assert!(rt; bits.size_hint() == (10, Some(10)));
+    assert!(rt; bits.next() == Some(true) && bits.len() == 9);
     let octets = [0xa0, 0x40];
     let whole = BitStringRef::try_from(octets.as_slice())?;
-    assert_eq!(rt; whole.as_bytes(), Some(octets.as_slice()));
+    assert!(rt; whole.as_bytes() == Some(octets.as_slice()));
     Ok(())
 }
 
@@ -99,5 +117,5 @@ impl AllowedLenBitString for Few {
 fn lengths_of_bits(rt: HostRuntime) {
     assert!(rt; Few::check_bit_len(3).is_ok() && Few::check_bit_len(9).is_ok());
     assert!(rt; Few::check_bit_len(2).is_err() && Few::check_bit_len(10).is_err());
-    assert_eq!(rt; BitString::MAX_UNUSED_BITS, BitStringRef::MAX_UNUSED_BITS);
+    assert!(rt; BitString::MAX_UNUSED_BITS == BitStringRef::MAX_UNUSED_BITS);
 }

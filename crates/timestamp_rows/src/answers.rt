@@ -5,14 +5,13 @@ use crate::refusals::Refusal;
 use crate::timestamps::{date_of, parts_of};
 use crate::values::rewritten;
 use std::alloc::Global;
+use std::io;
 use std::io::Write;
-use std::{io, str};
 
 /// Writes the answer to a line.
-pub fn answer<W: Write>(alloc: Global, line: &[u8], out: &mut W) -> io::Result<()> {
-    if line.is_empty() || line.starts_with(b"#") {
-        out.write_all(line)?;
-        return out.write_all(b"\n");
+pub fn answer<W: Write>(alloc: Global, line: &str, out: &mut W) -> io::Result<()> {
+    if line.is_empty() || line.starts_with('#') {
+        return writeln!(out, "{line}");
     }
     match answer_of(alloc, line) {
         Ok(text) if text.is_empty() => out.write_all(b"ok\n"),
@@ -22,8 +21,7 @@ pub fn answer<W: Write>(alloc: Global, line: &[u8], out: &mut W) -> io::Result<(
 }
 
 /// What is answered behind `ok`.
-fn answer_of(alloc: Global, line: &[u8]) -> Result<String, Refusal> {
-    let line = str::from_utf8(line)?;
+fn answer_of(alloc: Global, line: &str) -> Result<String, Refusal> {
     let (word, rest) = line.split_once(' ').unwrap_or((line, ""));
     match word {
         "tls" => rewritten(alloc, rest),

@@ -11,8 +11,13 @@ pub fn members_of(alloc: Global, octets: &str) -> Result<String, Refusal> {
     let octets = octets_of(alloc, octets)?;
     let list: SignedCertificateTimestampList = from_der(alloc, octets.as_slice())?;
     let members = list.parse_timestamps(alloc)?;
+    members_in(alloc, members.as_slice())
+}
+
+/// The octets of each of these timestamps.
+fn members_in(alloc: Global, members: &[SerializedSct]) -> Result<String, Refusal> {
     let mut text = String::new(alloc);
-    for member in &members {
+    for member in members {
         if !text.is_empty() {
             text.push(' ')?;
         }

@@ -8,14 +8,13 @@
 //! | `stamp HEX` | `ok` and the version, log, milliseconds, date, extensions, hash, algorithm and signature of the timestamp that is all of these |
 //! | `date NUMBER` | `ok DATE`, that of a timestamp of so many milliseconds |
 //! | an empty line, or one that begins with `#` | the same line |
-//! | any other, also one of an unknown type, or of more than 2^20 octets | `?` |
+//! | any other, also one of an unknown type | `?` |
 //!
 //! A dash stands for no octets. What is refused is answered `refused KIND`, behind which stands a number that has no meaning; and
 //! `memory` where there is not enough. `length` would be answered of a value that says it writes another number of octets.
 #![tactic(auto)]
 
 mod answers;
-mod lines;
 mod lists;
 mod octets;
 mod refusals;
@@ -23,21 +22,14 @@ mod timestamps;
 mod values;
 
 use answers::answer;
-use lines::{Line, next_line};
 use std::io;
-use std::io::{BufReader, BufWriter, Write};
+use std::io::{BufWriter, Write};
 
 fn main(rt: HostRuntime) -> io::Result<()> {
     let alloc = rt.alloc();
-    let mut questions = BufReader::new(alloc, rt.reader())?;
     let mut out = BufWriter::new(alloc, io::writer(&rt))?;
-    let mut line = Vec::new(alloc);
-    for _ in 0..u64::MAX {
-        match next_line(&mut questions, &mut line)? {
-            Line::Whole => answer(alloc, line.as_slice(), &mut out)?,
-            Line::TooLong => out.write_all(b"?\n")?,
-            Line::End => break,
-        }
+    for line in rt.lines(alloc) {
+        answer(alloc, line?.as_str(), &mut out)?;
     }
     out.flush()
 }

@@ -5,7 +5,6 @@ use hex::FromHexError;
 use std::alloc::{AllocError, AllocFailed};
 use std::fmt;
 use std::num::ParseIntError;
-use std::str::Utf8Error;
 use x509_cert_timestamps::{Error, TlsError};
 
 /// Why a question has no other answer.
@@ -73,12 +72,6 @@ impl<T: Drop> From<AllocFailed<T>> for Refusal {
 
 impl From<ParseIntError> for Refusal {
     fn from(_error: ParseIntError) -> Refusal {
-        Refusal::Unread
-    }
-}
-
-impl From<Utf8Error> for Refusal {
-    fn from(_error: Utf8Error) -> Refusal {
         Refusal::Unread
     }
 }

@@ -12,10 +12,15 @@ use x509_cert_timestamps::{
 pub fn parts_of(alloc: Global, octets: &str) -> Result<String, Refusal> {
     let data = octets_of(alloc, octets)?;
     let timestamp = SerializedSct { data }.parse_timestamp(alloc)?;
+    parts_in(alloc, &timestamp)
+}
+
+/// The parts of a timestamp.
+fn parts_in(alloc: Global, timestamp: &SignedCertificateTimestamp) -> Result<String, Refusal> {
+    let date = timestamp.timestamp()?;
     let version = &timestamp.version;
     let log = text_of(alloc, timestamp.log_id.key_id.as_slice())?;
     let milliseconds = timestamp.timestamp;
-    let date = timestamp.timestamp()?;
     let extensions = text_of(alloc, timestamp.extensions.as_slice())?;
     let algorithm = &timestamp.signature.algorithm;
     let (hash, signature) = (&algorithm.hash, &algorithm.signature);

@@ -5,8 +5,17 @@ use der_core::{
     BytesRef, Class, DerOrd, Error, ErrorKind, Explicit, FirstTag, Header, Implicit, IsConstructed,
     Length, OneOf2, Tag, TagNumber, iter_cmp, iter_cmp_owned,
 };
+use std::alloc::Global;
+use std::cmp::Ordering;
 use std::cmp::Ordering::{Equal, Greater, Less};
 use std::test::Fail;
+
+/// The order of two lists that are given away.
+fn order_of_owned(alloc: Global, these: &[i16], others: &[i16]) -> Result<Ordering, Error> {
+    let these = these.to_vec(alloc)?;
+    let others = others.to_vec(alloc)?;
+    iter_cmp_owned(these.into_iter(), others.into_iter())
+}
 
 /// `02 01 01`, `02 01 03`, `02 01 7F`, `02 02 00 80`, `02 01 FF`.
 #[test]
@@ -20,13 +29,10 @@ fn orders_of_iterators(rt: HostRuntime) -> Result<(), Fail> {
         (&[-1], &[127], Greater),
         (&[1, 2], &[1, 2], Equal),
     ] {
-        assert_eq!(rt; iter_cmp::<i16, _>(these.iter(), others.iter())?, order);
-        let these = these.to_vec(alloc)?.into_iter();
-        let others = others.to_vec(alloc)?.into_iter();
-        assert_eq!(rt; iter_cmp_owned(these, others)?, order);
+        assert!(rt; iter_cmp::<i16, _>(these.iter(), others.iter())? == order);
+        assert!(rt; order_of_owned(alloc, these, others)? == order);
     }
-    let order = iter_cmp_owned(Some(5u8).into_iter(), None.into_iter())?;
-    assert_eq!(rt; order, Greater);
+    assert!(rt; iter_cmp_owned(Some(5u8).into_iter(), None.into_iter())? == Greater);
     Ok(())
 }
 
@@ -36,38 +42,46 @@ fn orders_of_choices(rt: HostRuntime) -> Result<(), Fail> {
     let flag: OneOf2<bool, OneOf2<u8, &str>> = OneOf2::First(true);
     let number = OneOf2::Second(OneOf2::First(5));
     let text = OneOf2::Second(OneOf2::Second("a"));
-    assert_eq!(rt; flag.der_cmp(&number)?, Less);
-    assert_eq!(rt; text.der_cmp(&flag)?, Greater);
-    assert_eq!(rt; text.der_cmp(&number)?, Greater);
-    assert_eq!(rt; flag.der_cmp(&OneOf2::First(false))?, Greater);
-    assert_eq!(rt; number.first_tag(), Some(Tag::Integer));
-    assert_eq!(rt; flag.first_tag(), Some(Tag::Boolean));
+    assert!(rt; flag.der_cmp(&number)? == Less);
+    assert!(rt; text.der_cmp(&flag)? == Greater);
+    assert!(rt; text.der_cmp(&number)? == Greater);
+    assert!(rt; flag.der_cmp(&OneOf2::First(false))? == Greater);
+    assert!(rt; number.first_tag() == Some(Tag::Integer));
+    assert!(rt; flag.first_tag() == Some(Tag::Boolean));
     let explicit: OneOf2<Explicit<u8, 0>, Implicit<u8, 1>> = OneOf2::First(Explicit { value: 5 });
     let implicit = OneOf2::Second(Implicit { value: 5 });
-    assert_eq!(rt; explicit.der_cmp(&implicit)?, Greater);
-    assert_eq!(rt; implicit.der_cmp(&explicit)?, Less);
+    assert!(rt; explicit.der_cmp(&implicit)? == Greater);
+    assert!(rt; implicit.der_cmp(&explicit)? == Less);
     Ok(())
 }
 
 #[test]
 fn other_calls(rt: HostRuntime) -> Result<(), Fail> {
-    assert_eq!(rt; Class::from_bits(0x7f), Class::Application);
-    assert_eq!(rt; u32::from(TagNumber::new(200)), 200);
-    assert_eq!(rt; u32::from(Length::ONE), 1);
-    assert_eq!(rt; usize::try_from(Length::MAX)?, 4_294_967_295);
+    assert!(rt; Class::from_bits(0x7f) == Class::Application);
+    assert!(rt; u32::from(TagNumber::new(200)) == 200 && u32::from(Length::ONE) == 1);
+    assert!(rt; usize::try_from(Length::MAX)? == 4_294_967_295);
     let header = Header::new(Tag::Set, Length::ONE).with_length(Length::ZERO);
     assert!(rt; header.is_constructed() && header.length().is_zero());
     assert!(rt; <Vec<u8> as IsConstructed>::is_constructed());
     assert!(rt; !<bool as IsConstructed>::is_constructed());
     let place = Length::new(7);
     let error = Error::new(ErrorKind::Failed, place);
-    assert_eq!(rt; error, ErrorKind::Failed.at(place));
+    assert!(rt; error == ErrorKind::Failed.at(place));
     assert!(rt; error.kind() == ErrorKind::Failed && error.position() == Some(place));
-    let text = String::from_utf8([0xc3, 0x28].to_vec(rt.alloc())?).map_err(Error::from);
-    assert_eq!(rt; text, Err(Error::from(ErrorKind::Utf8)));
     assert!(rt; BytesRef::empty().is_empty());
     // One octet before none, and before one.
-    assert_eq!(rt; value_cmp_behind(Some(1), &[], None, &[]), Greater);
-    assert_eq!(rt; value_cmp_behind(Some(1), &[2], None, &[1, 2]), Equal);
+    assert!(rt; value_cmp_behind(Some(1), &[], None, &[]) == Greater);
+    assert!(rt; value_cmp_behind(Some(1), &[2], None, &[1, 2]) == Equal);
+    Ok(())
+}
+
+/// The error of octets that are no text.
+#[test]
+fn octets_of_no_text(rt: HostRuntime) -> Result<(), Fail> {
+    let octets = [0xc3, 0x28].to_vec(rt.alloc())?;
+    match String::from_utf8(octets) {
+        Ok(_) => assert!(rt; false),
+        Err(error) => assert!(rt; Error::from(error) == Error::from(ErrorKind::Utf8)),
+    }
     Ok(())
 }

@@ -1,6 +1,6 @@
 //! Octets and texts that are held.
 
-use der_core::{BytesOwned, BytesRef, StringOwned, StringRef};
+use der_core::{BytesOwned, BytesRef, Error, StringOwned, StringRef};
 use std::cmp::Ordering::Less;
 use std::hash::{DefaultHasher, Hash, Hasher};
 use std::test::Fail;
@@ -12,19 +12,37 @@ fn hash_of<T: Hash>(value: &T) -> u64 {
     state.finish()
 }
 
+/// Whether octets are the same, or less than longer ones.
+fn are_octets(octets: &BytesOwned, copy: &BytesOwned, longer: &BytesOwned) -> bool {
+    copy == octets && longer != octets && octets.cmp(longer) == Less
+}
+
+/// Whether lent octets hash as those that are held.
+fn octets_hash(octets: &BytesOwned) -> Result<bool, Error> {
+    Ok(hash_of(octets) == hash_of(&BytesRef::new(octets.as_slice())?))
+}
+
 #[test]
 fn held_octets(rt: HostRuntime) -> Result<(), Fail> {
     let alloc = rt.alloc();
     let octets = BytesOwned::new([1, 2].to_vec(alloc)?)?;
     let longer = BytesOwned::new([1, 2, 0].to_vec(alloc)?)?;
     let copy = octets.clone(alloc)?;
-    assert!(rt; copy == octets && longer != octets && octets.cmp(&longer) == Less);
-    let lent = BytesRef::new(octets.as_slice()).expect(&rt, "short");
-    assert_eq!(rt; hash_of(&copy), hash_of(&lent));
+    assert!(rt; are_octets(&octets, &copy, &longer) && octets_hash(&copy)?);
     let shown = format!(in alloc; "{octets:?}")?;
-    assert_eq!(rt; shown.as_str(), "BytesOwned { bytes: [1, 2] }");
-    assert_eq!(rt; copy.into_vec().as_slice(), [1, 2].as_slice());
+    assert!(rt; shown.as_str() == "BytesOwned { bytes: [1, 2] }");
+    assert!(rt; copy.into_vec().as_slice() == [1, 2].as_slice());
     Ok(())
+}
+
+/// Whether texts are the same, or less than longer ones.
+fn are_texts(text: &StringOwned, copy: &StringOwned, longer: &StringOwned) -> bool {
+    copy == text && longer != text && text.cmp(longer) == Less
+}
+
+/// Whether a lent text hashes as one that is held.
+fn texts_hash(text: &StringOwned) -> Result<bool, Error> {
+    Ok(hash_of(text) == hash_of(&StringRef::new(text.as_str())?))
 }
 
 #[test]
@@ -33,11 +51,9 @@ fn held_texts(rt: HostRuntime) -> Result<(), Fail> {
     let text = StringOwned::from_bytes(alloc, b"ab")?;
     let longer = StringOwned::from_bytes(alloc, b"abc")?;
     let copy = text.clone(alloc)?;
-    assert!(rt; copy == text && longer != text && text.cmp(&longer) == Less);
-    let lent = StringRef::new(text.as_str()).expect(&rt, "short");
-    assert_eq!(rt; hash_of(&copy), hash_of(&lent));
+    assert!(rt; are_texts(&text, &copy, &longer) && texts_hash(&copy)?);
     let shown = format!(in alloc; "{text:?}")?;
-    assert_eq!(rt; shown.as_str(), "StringOwned { text: \"ab\" }");
-    assert_eq!(rt; copy.into_string().as_str(), "ab");
+    assert!(rt; shown.as_str() == "StringOwned { text: \"ab\" }");
+    assert!(rt; copy.into_string().as_str() == "ab");
     Ok(())
 }
