@@ -1,8 +1,8 @@
 //! Questions about serial numbers with random octets.
 
 use crate::given_words::GivenWords;
-use crate::made::spelled;
 use crate::refusals::Refusal;
+use crate::shown::{octets_of, written_in};
 use rand_chacha::ChaCha20Rng;
 use rand_core::SeedableRng;
 use std::alloc::Global;
@@ -10,20 +10,24 @@ use x509_cert::{Rfc5280, SerialNumber};
 
 /// What is written of the serial number that a generator gives.
 pub fn generated(alloc: Global, kind: &str, octets: &str) -> Result<String, Refusal> {
-    let octets = hex::decode(alloc, octets.as_bytes())?;
+    let octets = octets_of(alloc, octets)?;
     match kind {
         "words" => {
             let mut generator = GivenWords {
                 left: octets.as_slice(),
             };
-            let serial: SerialNumber<Rfc5280> = SerialNumber::generate(alloc, &mut generator)?;
-            spelled(alloc, &serial)
+            written_in(
+                alloc,
+                SerialNumber::<Rfc5280>::generate(alloc, &mut generator),
+            )
         }
         "chacha20" => {
             let seed = <[u8; 32]>::try_from(octets.as_slice()).map_err(|_| Refusal::Unread)?;
             let mut generator = ChaCha20Rng::from_seed(seed);
-            let serial: SerialNumber<Rfc5280> = SerialNumber::generate(alloc, &mut generator)?;
-            spelled(alloc, &serial)
+            written_in(
+                alloc,
+                SerialNumber::<Rfc5280>::generate(alloc, &mut generator),
+            )
         }
         _ => Err(Refusal::Unread),
     }
@@ -32,20 +36,20 @@ pub fn generated(alloc: Global, kind: &str, octets: &str) -> Result<String, Refu
 /// What is written of the serial number of a prefix, and of so many octets that a generator of given words gives.
 pub fn drawn(alloc: Global, prefix: &str, values: &str) -> Result<String, Refusal> {
     let (count, octets) = values.split_once(' ').ok_or(Refusal::Unread)?;
-    let count: usize = count.parse().map_err(|_| Refusal::Unread)?;
+    let count: usize = count.parse()?;
     let prefix = match prefix {
         "-" => Vec::new(alloc),
-        _ => hex::decode(alloc, prefix.as_bytes())?,
+        _ => octets_of(alloc, prefix)?,
     };
-    let octets = hex::decode(alloc, octets.as_bytes())?;
+    let octets = octets_of(alloc, octets)?;
     let mut generator = GivenWords {
         left: octets.as_slice(),
     };
-    let serial: SerialNumber<Rfc5280> = SerialNumber::generate_with_prefix(
+    let serial = SerialNumber::<Rfc5280>::generate_with_prefix(
         alloc,
         prefix.as_slice(),
         count,
         &mut generator,
-    )?;
-    spelled(alloc, &serial)
+    );
+    written_in(alloc, serial)
 }

@@ -1,9 +1,12 @@
 //! Questions about contents of extensions, and about what stands in them.
 
 use crate::lists;
+use crate::questions::{
+    Question, answer_of, answer_of_content, answer_with_both, answer_with_debug, answer_with_order,
+};
 use crate::refusals::Refusal;
-use crate::values::{compared, debug, written};
 use std::alloc::Global;
+use x509_cert::timestamps::SignedCertificateTimestampList;
 use x509_cert::{
     AccessDescription, AuthorityInfoAccessSyntax, AuthorityKeyIdentifier, BaseCrlNumber,
     BasicConstraints, CertificatePolicies, CpsUri, CrlDistributionPoints, CrlNumber, CrlReason,
@@ -15,83 +18,75 @@ use x509_cert::{
     SubjectDirectoryAttributes, SubjectInfoAccessSyntax, SubjectKeyIdentifier, UserNotice,
 };
 
-/// What is written of the content of an extension, or of the value of a part.
-pub fn rewritten(alloc: Global, kind: &str, octets: &[u8]) -> Result<String, Refusal> {
+/// The answer of the content of an extension, or of a part.
+pub fn answer(alloc: Global, kind: &str, question: &Question<'_>) -> Result<String, Refusal> {
     match kind {
-        "SubjectDirectoryAttributes" => written::<SubjectDirectoryAttributes>(alloc, octets),
-        "SubjectKeyIdentifier" => written::<SubjectKeyIdentifier>(alloc, octets),
-        "KeyUsage" => written::<KeyUsage>(alloc, octets),
-        "PrivateKeyUsagePeriod" => written::<PrivateKeyUsagePeriod>(alloc, octets),
-        "SubjectAltName" => written::<SubjectAltName>(alloc, octets),
-        "IssuerAltName" => written::<IssuerAltName>(alloc, octets),
-        "BasicConstraints" => written::<BasicConstraints>(alloc, octets),
-        "CrlNumber" => written::<CrlNumber>(alloc, octets),
-        "CrlReason" => written::<CrlReason>(alloc, octets),
-        "BaseCrlNumber" => written::<BaseCrlNumber>(alloc, octets),
-        "IssuingDistributionPoint" => written::<IssuingDistributionPoint>(alloc, octets),
-        "NameConstraints" => written::<NameConstraints>(alloc, octets),
-        "CrlDistributionPoints" => written::<CrlDistributionPoints>(alloc, octets),
-        "CertificatePolicies" => written::<CertificatePolicies>(alloc, octets),
-        "PolicyMappings" => written::<PolicyMappings>(alloc, octets),
-        "AuthorityKeyIdentifier" => written::<AuthorityKeyIdentifier>(alloc, octets),
-        "PolicyConstraints" => written::<PolicyConstraints>(alloc, octets),
-        "ExtendedKeyUsage" => written::<ExtendedKeyUsage>(alloc, octets),
-        "FreshestCrl" => written::<FreshestCrl>(alloc, octets),
-        "InhibitAnyPolicy" => written::<InhibitAnyPolicy>(alloc, octets),
-        "AuthorityInfoAccessSyntax" => written::<AuthorityInfoAccessSyntax>(alloc, octets),
-        "SubjectInfoAccessSyntax" => written::<SubjectInfoAccessSyntax>(alloc, octets),
-        _ => part_rewritten(alloc, kind, octets),
+        "SubjectDirectoryAttributes" => answer_of_content::<SubjectDirectoryAttributes>(
+            alloc, question,
+        ),
+        "SubjectKeyIdentifier" => answer_of_content::<SubjectKeyIdentifier>(alloc, question),
+        "KeyUsage" => answer_of_content::<KeyUsage>(alloc, question),
+        "PrivateKeyUsagePeriod" => answer_of_content::<PrivateKeyUsagePeriod>(alloc, question),
+        "SubjectAltName" => answer_of_content::<SubjectAltName>(alloc, question),
+        "IssuerAltName" => answer_of_content::<IssuerAltName>(alloc, question),
+        "BasicConstraints" => answer_with_both::<BasicConstraints>(alloc, question),
+        "CrlNumber" => answer_of_content::<CrlNumber>(alloc, question),
+        "CrlReason" => answer_with_both::<CrlReason>(alloc, question),
+        "BaseCrlNumber" => answer_of_content::<BaseCrlNumber>(alloc, question),
+        "IssuingDistributionPoint" => answer_with_debug::<IssuingDistributionPoint>(
+            alloc, question,
+        ),
+        _ => answer_of_constraints(alloc, kind, question),
     }
 }
 
-/// What is written of the value of a part.
-fn part_rewritten(alloc: Global, kind: &str, octets: &[u8]) -> Result<String, Refusal> {
+/// The answer of the content of one of the other extensions, or of a part.
+fn answer_of_constraints(
+    alloc: Global,
+    kind: &str,
+    question: &Question<'_>,
+) -> Result<String, Refusal> {
     match kind {
-        "GeneralName" => written::<GeneralName>(alloc, octets),
-        "OtherName" => written::<OtherName>(alloc, octets),
-        "HardwareModuleName" => written::<HardwareModuleName>(alloc, octets),
-        "EdiPartyName" => written::<EdiPartyName>(alloc, octets),
-        "DirectoryString" => written::<DirectoryString>(alloc, octets),
-        "GeneralSubtree" => written::<GeneralSubtree>(alloc, octets),
-        "DistributionPoint" => written::<DistributionPoint>(alloc, octets),
-        "DistributionPointName" => written::<DistributionPointName>(alloc, octets),
-        "ReasonFlags" => written::<ReasonFlags>(alloc, octets),
-        "AccessDescription" => written::<AccessDescription>(alloc, octets),
-        "PolicyInformation" => written::<PolicyInformation>(alloc, octets),
-        "PolicyQualifierInfo" => written::<PolicyQualifierInfo>(alloc, octets),
-        "PolicyMapping" => written::<PolicyMapping>(alloc, octets),
-        "CpsUri" => written::<CpsUri>(alloc, octets),
-        "UserNotice" => written::<UserNotice>(alloc, octets),
-        "NoticeReference" => written::<NoticeReference>(alloc, octets),
-        "DisplayText" => written::<DisplayText>(alloc, octets),
-        _ => lists::rewritten(alloc, kind, octets),
+        "NameConstraints" => answer_of_content::<NameConstraints>(alloc, question),
+        "CrlDistributionPoints" => answer_of_content::<CrlDistributionPoints>(alloc, question),
+        "CertificatePolicies" => answer_of_content::<CertificatePolicies>(alloc, question),
+        "PolicyMappings" => answer_of_content::<PolicyMappings>(alloc, question),
+        "AuthorityKeyIdentifier" => answer_of_content::<AuthorityKeyIdentifier>(alloc, question),
+        "PolicyConstraints" => answer_with_debug::<PolicyConstraints>(alloc, question),
+        "ExtendedKeyUsage" => answer_of_content::<ExtendedKeyUsage>(alloc, question),
+        "FreshestCrl" => answer_of_content::<FreshestCrl>(alloc, question),
+        "InhibitAnyPolicy" => answer_of_content::<InhibitAnyPolicy>(alloc, question),
+        "AuthorityInfoAccessSyntax" => answer_of_content::<AuthorityInfoAccessSyntax>(
+            alloc, question,
+        ),
+        "SubjectInfoAccessSyntax" => answer_of_content::<SubjectInfoAccessSyntax>(alloc, question),
+        "SignedCertificateTimestampList" => answer_of_content::<SignedCertificateTimestampList>(
+            alloc, question,
+        ),
+        _ => answer_of_parts(alloc, kind, question),
     }
 }
 
-/// The order of two encodings of a type.
-pub fn order_of(alloc: Global, kind: &str, first: &[u8], second: &[u8]) -> Result<String, Refusal> {
+/// The answer of a part.
+fn answer_of_parts(alloc: Global, kind: &str, question: &Question<'_>) -> Result<String, Refusal> {
     match kind {
-        "BasicConstraints" => compared::<BasicConstraints>(alloc, first, second),
-        "CrlReason" => compared::<CrlReason>(alloc, first, second),
-        "DirectoryString" => compared::<DirectoryString>(alloc, first, second),
-        "DisplayText" => compared::<DisplayText>(alloc, first, second),
-        "DistributionPointName" => compared::<DistributionPointName>(alloc, first, second),
-        "GeneralName" => compared::<GeneralName>(alloc, first, second),
-        "GeneralSubtree" => compared::<GeneralSubtree>(alloc, first, second),
-        "ReasonFlags" => compared::<ReasonFlags>(alloc, first, second),
-        _ => Err(Refusal::Unread),
-    }
-}
-
-/// The value as `{:?}` prints it.
-pub fn debug_of(alloc: Global, kind: &str, octets: &str) -> Result<String, Refusal> {
-    let octets = hex::decode(alloc, octets.as_bytes())?;
-    let octets = octets.as_slice();
-    match kind {
-        "BasicConstraints" => debug::<BasicConstraints>(alloc, octets),
-        "CrlReason" => debug::<CrlReason>(alloc, octets),
-        "IssuingDistributionPoint" => debug::<IssuingDistributionPoint>(alloc, octets),
-        "PolicyConstraints" => debug::<PolicyConstraints>(alloc, octets),
-        _ => Err(Refusal::Unread),
+        "GeneralName" => answer_with_order::<GeneralName>(alloc, question),
+        "OtherName" => answer_of::<OtherName>(alloc, question),
+        "HardwareModuleName" => answer_of::<HardwareModuleName>(alloc, question),
+        "EdiPartyName" => answer_of::<EdiPartyName>(alloc, question),
+        "DirectoryString" => answer_with_order::<DirectoryString>(alloc, question),
+        "GeneralSubtree" => answer_with_order::<GeneralSubtree>(alloc, question),
+        "DistributionPoint" => answer_of::<DistributionPoint>(alloc, question),
+        "DistributionPointName" => answer_with_order::<DistributionPointName>(alloc, question),
+        "ReasonFlags" => answer_with_order::<ReasonFlags>(alloc, question),
+        "AccessDescription" => answer_of::<AccessDescription>(alloc, question),
+        "PolicyInformation" => answer_of::<PolicyInformation>(alloc, question),
+        "PolicyQualifierInfo" => answer_of::<PolicyQualifierInfo>(alloc, question),
+        "PolicyMapping" => answer_of::<PolicyMapping>(alloc, question),
+        "CpsUri" => answer_of::<CpsUri>(alloc, question),
+        "UserNotice" => answer_of::<UserNotice>(alloc, question),
+        "NoticeReference" => answer_of::<NoticeReference>(alloc, question),
+        "DisplayText" => answer_with_order::<DisplayText>(alloc, question),
+        _ => lists::answer(alloc, kind, question),
     }
 }

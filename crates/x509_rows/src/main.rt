@@ -18,7 +18,7 @@
 //! | `draw HEX COUNT HEX` | `ok HEX`, the serial number of a prefix (`-`: none) and so many octets of such a generator of words |
 //! | `usages HEX` | `ok` and what `get` would answer of each key usage of a certificate, whether it is the only one or not |
 //! | an empty line, or one that begins with `#` | the same line |
-//! | any other, also one of an unknown type, or of more than 2^20 octets | `?` |
+//! | any other, also one of an unknown type | `?` |
 //!
 //! A type that a profile changes is read under `Raw`, and behind `/Rfc5280` under that profile. What is refused is answered
 //! `refused KIND`, and `memory` where there is not enough.
@@ -28,30 +28,23 @@ mod answers;
 mod drawn;
 mod extensions;
 mod given_words;
-mod lines;
 mod lists;
 mod made;
 mod names;
+mod questions;
 mod refusals;
-mod values;
+mod shown;
 mod whole_extensions;
 
 use answers::answer;
-use lines::{Line, next_line};
 use std::io;
-use std::io::{BufReader, BufWriter, Write};
+use std::io::{BufWriter, Write};
 
 fn main(rt: HostRuntime) -> io::Result<()> {
     let alloc = rt.alloc();
-    let mut questions = BufReader::new(alloc, rt.reader())?;
     let mut out = BufWriter::new(alloc, io::writer(&rt))?;
-    let mut line = Vec::new(alloc);
-    for _ in 0..u64::MAX {
-        match next_line(&mut questions, &mut line)? {
-            Line::Whole => answer(alloc, line.as_slice(), &mut out)?,
-            Line::TooLong => out.write_all(b"?\n")?,
-            Line::End => break,
-        }
+    for line in rt.lines(alloc) {
+        answer(alloc, line?.as_str(), &mut out)?;
     }
     out.flush()
 }

@@ -1,18 +1,29 @@
 //! Questions about the usages of a key and the names of a subject.
 
 use crate::refusals::Refusal;
+use crate::shown::octets_of;
 use der_core::from_der;
 use std::alloc::{AllocError, Global};
 use x509_cert::{GeneralName, KeyUsage, SubjectAltName};
 
 /// The usages of a key, or the names of a subject.
 pub fn names_of(alloc: Global, kind: &str, octets: &str) -> Result<String, Refusal> {
-    let octets = hex::decode(alloc, octets.as_bytes())?;
+    let octets = octets_of(alloc, octets)?;
     match kind {
-        "KeyUsage" => Ok(usages_of(alloc, from_der(alloc, octets.as_slice())?)?),
-        "SubjectAltName" => Ok(subjects_of(alloc, &from_der(alloc, octets.as_slice())?)?),
+        "KeyUsage" => usages_in(alloc, octets.as_slice()),
+        "SubjectAltName" => subjects_in(alloc, octets.as_slice()),
         _ => Err(Refusal::Unread),
     }
+}
+
+/// What the key is used for whose usage octets spell.
+fn usages_in(alloc: Global, octets: &[u8]) -> Result<String, Refusal> {
+    Ok(usages_of(alloc, from_der(alloc, octets)?)?)
+}
+
+/// The names of the subject that octets spell.
+fn subjects_in(alloc: Global, octets: &[u8]) -> Result<String, Refusal> {
+    Ok(subjects_of(alloc, &from_der(alloc, octets)?)?)
 }
 
 /// What a key is used for.

@@ -4,7 +4,7 @@ use der_core::{Error, ErrorKind};
 use hex::FromHexError;
 use std::alloc::{AllocError, AllocFailed};
 use std::fmt;
-use std::str::Utf8Error;
+use std::num::ParseIntError;
 
 /// Why a question has no other answer.
 #[derive(Clone, Copy)]
@@ -47,8 +47,8 @@ impl<T: Drop> From<AllocFailed<T>> for Refusal {
     }
 }
 
-impl From<Utf8Error> for Refusal {
-    fn from(_error: Utf8Error) -> Refusal {
+impl From<ParseIntError> for Refusal {
+    fn from(_error: ParseIntError) -> Refusal {
         Refusal::Unread
     }
 }

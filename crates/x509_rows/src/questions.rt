@@ -1,0 +1,148 @@
+//! What is asked of the values of a type.
+
+use crate::refusals::Refusal;
+use crate::shown::{written, written_in};
+use const_oid::AssociatedOid;
+use der_core::{Decode, DerOrd, Encode, Error, SliceReader, from_der};
+use std::alloc::Global;
+use std::cmp::Ordering;
+use std::fmt::Debug;
+use x509_cert::{Criticality, Name, ToExtension};
+
+/// What is asked of values.
+#[derive(Clone, Copy)]
+pub enum Asked {
+    /// What is written of the value that octets spell.
+    Der,
+    /// The order of the values that octets spell.
+    Order,
+    /// The value that octets spell, as `{:?}` prints it.
+    Debug,
+    /// The extension that the value of the second octets gives the certificate of the subject whose name the first spell.
+    Extension,
+}
+
+/// A question about the values that octets spell: the second are none where one value is asked about.
+#[derive(Clone, Copy)]
+pub struct Question<'a> {
+    pub asked: Asked,
+    pub first: &'a [u8],
+    pub second: &'a [u8],
+}
+
+/// What a word asks of values.
+pub fn asked_by(word: &str) -> Result<Asked, Refusal> {
+    match word {
+        "der" => Ok(Asked::Der),
+        "order" => Ok(Asked::Order),
+        "debug" => Ok(Asked::Debug),
+        "extension" => Ok(Asked::Extension),
+        _ => Err(Refusal::Unread),
+    }
+}
+
+/// The answer of a type that is read and written.
+pub fn answer_of<'a, T: Decode<'a, SliceReader<'a>> + Encode + Drop>(
+    alloc: Global,
+    question: &Question<'a>,
+) -> Result<String, Refusal> {
+    match question.asked {
+        Asked::Der => written_in(alloc, from_der::<T>(alloc, question.first)),
+        _ => Err(Refusal::Unread),
+    }
+}
+
+/// The answer of a type that is compared, too.
+pub fn answer_with_order<'a, T: Decode<'a, SliceReader<'a>> + DerOrd + Encode + Drop>(
+    alloc: Global,
+    question: &Question<'a>,
+) -> Result<String, Refusal> {
+    match question.asked {
+        Asked::Order => order_of::<T>(alloc, question),
+        _ => answer_of::<T>(alloc, question),
+    }
+}
+
+/// The answer of a type that is the content of an extension.
+pub fn answer_of_content<
+    'a,
+    T: Decode<'a, SliceReader<'a>> + Encode + AssociatedOid + Criticality + Drop,
+>(alloc: Global, question: &Question<'a>) -> Result<String, Refusal> {
+    match question.asked {
+        Asked::Extension => {
+            let subject: Name = from_der(alloc, question.first)?;
+            given(alloc, &subject, &from_der::<T>(alloc, question.second)?)
+        }
+        _ => answer_of::<T>(alloc, question),
+    }
+}
+
+/// The answer of such a type that prints for debugging, too.
+pub fn answer_with_debug<
+    'a,
+    T: Decode<'a, SliceReader<'a>> + Encode + AssociatedOid + Criticality + Debug + Drop,
+>(alloc: Global, question: &Question<'a>) -> Result<String, Refusal> {
+    match question.asked {
+        Asked::Debug => {
+            let value: T = from_der(alloc, question.first)?;
+            Ok(format!(in alloc; "{value:?}")?)
+        }
+        _ => answer_of_content::<T>(alloc, question),
+    }
+}
+
+/// The answer of such a type that is compared, too.
+pub fn answer_with_both<
+    'a,
+    T: Decode<'a, SliceReader<'a>> + DerOrd + Encode + AssociatedOid + Criticality + Debug + Drop,
+>(alloc: Global, question: &Question<'a>) -> Result<String, Refusal> {
+    match question.asked {
+        Asked::Order => order_of::<T>(alloc, question),
+        _ => answer_with_debug::<T>(alloc, question),
+    }
+}
+
+/// The extension that a value gives.
+fn given<T: Encode + AssociatedOid + Criticality>(
+    alloc: Global,
+    subject: &Name,
+    value: &T,
+) -> Result<String, Refusal> {
+    written_in(alloc, value.to_extension(alloc, subject, &[]))
+}
+
+/// The order of the values that octets spell.
+fn order_of<'a, T: Decode<'a, SliceReader<'a>> + DerOrd + Drop>(
+    alloc: Global,
+    question: &Question<'a>,
+) -> Result<String, Refusal> {
+    let first: T = from_der(alloc, question.first)?;
+    let second: T = from_der(alloc, question.second)?;
+    name_of(alloc, first.der_cmp(&second))
+}
+
+/// The name of the order of an outcome.
+fn name_of(alloc: Global, outcome: Result<Ordering, Error>) -> Result<String, Refusal> {
+    let order = outcome?;
+    Ok(format!(in alloc; "{order:?}")?)
+}
+
+/// What is written of a copy of the value that octets spell, if it is equal to the value.
+pub fn copied<'a, T: Decode<'a, SliceReader<'a>> + Encode + Clone + PartialEq + Drop>(
+    alloc: Global,
+    octets: &'a [u8],
+) -> Result<String, Refusal> {
+    copy_written(alloc, &from_der::<T>(alloc, octets)?)
+}
+
+/// What is written of a copy of a value, if it is equal to the value.
+fn copy_written<T: Encode + Clone + PartialEq + Drop>(
+    alloc: Global,
+    value: &T,
+) -> Result<String, Refusal> {
+    let copy = value.clone()?;
+    if copy != *value {
+        return Err(Refusal::Unread);
+    }
+    written(alloc, &copy)
+}
