@@ -1,5 +1,6 @@
 #!/usr/bin/env python3
-"""issue_rows.py FOLDER: writes the rows of issue_rows, FOLDER/stdin and FOLDER/stdout.
+"""issue_rows.py FOLDER: writes the rows of cert_rows about orders and what is issued, with which its stdin and stdout end, as
+FOLDER/stdin and FOLDER/stdout.
 
 The certificates in the answers are put together here, with nothing but Python's own library, from RFC 5280 and X.690; the lines and
 statuses are written out by hand. Nothing comes from the program."""
@@ -20,7 +21,7 @@ def say(text=""):
 
 
 def ask(question, answer):
-    questions.append(question)
+    questions.append(f"issue {question}")
     answers.append(answer)
 
 

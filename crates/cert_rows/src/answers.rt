@@ -1,7 +1,10 @@
 //! Questions and their answers.
 
 use crate::refusals::Refusal;
-use crate::{bundles, certificates, devices, errors, runs, splits};
+use crate::{
+    audits, bundles, certificates, chains, checks, devices, digests, errors, issues, listings,
+    readings, splits,
+};
 use std::alloc::Global;
 use std::io;
 use std::io::Write;
@@ -27,12 +30,49 @@ fn answer_of(alloc: Global, line: &str) -> Result<String, Refusal> {
         "certificate" => certificates::answer(alloc, rest),
         "pieces" => {
             let (schedules, line) = rest.split_once(' ').ok_or(Refusal::Unread)?;
-            runs::answer(alloc, schedules, line)
+            checks::answer(alloc, schedules, line)
         }
         "bundle" => bundles::answer(alloc, rest),
         "split" => splits::answer(alloc, rest),
         "input" => devices::answer_of_input(alloc, rest),
         "output" => devices::answer_of_output(alloc, rest),
-        _ => runs::answer(alloc, "-/-/-/-", line),
+        "listing" => answer_of_listing(alloc, rest),
+        "issue" => answer_of_issue(alloc, rest),
+        _ => checks::answer(alloc, "-/-/-/-", line),
+    }
+}
+
+/// What is answered to a question about listings.
+fn answer_of_listing(alloc: Global, line: &str) -> Result<String, Refusal> {
+    let (word, rest) = line.split_once(' ').ok_or(Refusal::Unread)?;
+    match word {
+        "show" => listings::answer(alloc, "-/-/-", rest),
+        "pieces" => {
+            let (schedules, rest) = rest.split_once(' ').ok_or(Refusal::Unread)?;
+            listings::answer(alloc, schedules, rest)
+        }
+        "call" => {
+            let (schedule, rest) = rest.split_once(' ').ok_or(Refusal::Unread)?;
+            listings::answer_of_call(alloc, schedule, rest)
+        }
+        _ => Err(Refusal::Unread),
+    }
+}
+
+/// What is answered to a question about orders and what is issued.
+fn answer_of_issue(alloc: Global, line: &str) -> Result<String, Refusal> {
+    let (word, rest) = line.split_once(' ').ok_or(Refusal::Unread)?;
+    match word {
+        "read" => readings::answer(alloc, rest),
+        "run" => issues::answer(alloc, "-/-/-", rest),
+        "pieces" => {
+            let (schedules, file) = rest.split_once(' ').ok_or(Refusal::Unread)?;
+            issues::answer(alloc, schedules, file)
+        }
+        "digest" => digests::answer(alloc, rest),
+        "audit" => audits::answer(alloc, rest),
+        "check" => chains::answer_of_check(alloc, rest),
+        "show" => chains::answer_of_show(alloc, rest),
+        _ => Err(Refusal::Unread),
     }
 }

@@ -4,7 +4,7 @@ ghost use Rattle.std.specs.Prelude.{◌≤◌, IfOk};
 
 use crate::refusals::Refusal;
 use crate::schedules::Schedule;
-use crate::words::{number_of, octets_of, word_of};
+use crate::words::{Word, number_of, octets_of};
 use cert_desk::Bundle;
 use cert_desk_io::MemoryInput;
 use std::alloc::Global;
@@ -35,7 +35,7 @@ pub fn answer(alloc: Global, rest: &str) -> Result<String, Refusal> {
     for call in calls.split(' ') {
         write_call(alloc, &mut text, &mut bundle, &mut input, call)?;
     }
-    write_standing(alloc, &mut text, &bundle)?;
+    write_standing(&mut text, &bundle)?;
     let (left, failures) = (input.left().len(), input.failures());
     write!(text, "left={left} failures={failures}")?;
     Ok(text)
@@ -61,15 +61,14 @@ fn write_call(
 }
 
 /// Writes how a bundle stands, and its certificates: offset, octets, signed octets.
-fn write_standing(alloc: Global, text: &mut String, bundle: &Bundle) -> Result<(), Refusal> {
+fn write_standing(text: &mut String, bundle: &Bundle) -> Result<(), Refusal> {
     let (len, end) = (bundle.len(), bundle.end_offset());
     write!(text, "{:?} len={len} end={end}; ", bundle.standing())?;
     for place in 0..bundle.len() {
         let Some(entry) = bundle.get(place) else {
             break;
         };
-        let octets = word_of(alloc, entry.octets)?;
-        let signed = word_of(alloc, entry.signed)?;
+        let (octets, signed) = (Word(entry.octets), Word(entry.signed));
         write!(text, "{} {octets} {signed}; ", entry.offset)?;
     }
     Ok(())

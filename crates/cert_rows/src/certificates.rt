@@ -1,28 +1,44 @@
 //! Certificates and their parts.
 
 use crate::refusals::Refusal;
-use crate::words::{octets_of, word_of};
+use crate::words::{Word, octets_of};
 use cert_desk::{BitString, CertificateInner, Raw, Time};
 use std::alloc::{AllocError, Global};
+use std::fmt;
+use std::fmt::Write;
 
 /// Parts of a certificate, in the order in which they stand: those that have no lists inside.
 pub fn answer(alloc: Global, word: &str) -> Result<String, Refusal> {
     let octets = octets_of(alloc, word)?;
     let certificate = CertificateInner::<Raw>::from_der(alloc, octets.as_slice())?;
+    let mut text = String::new(alloc);
+    write_signed(&mut text, &certificate)?;
+    write_signature(&mut text, &certificate)?;
+    Ok(text)
+}
+
+/// Writes parts of what is signed.
+fn write_signed(text: &mut String, certificate: &CertificateInner<Raw>) -> Result<(), AllocError> {
     let signed = certificate.tbs_certificate();
-    let serial = word_of(alloc, signed.serial_number().as_bytes())?;
+    let serial = Word(signed.serial_number().as_bytes());
     let inner = signed.signature().oid;
+    write!(text, "ok serial={serial} algorithm={inner}")?;
     let from = seconds(&signed.validity().not_before);
     let until = seconds(&signed.validity().not_after);
+    write!(text, " from={from} until={until}")?;
     let key = signed.subject_public_key_info();
-    let key_algorithm = key.algorithm.oid;
-    let key = word_of_bits(alloc, &key.subject_public_key)?;
+    let bits = Bits(&key.subject_public_key);
+    write!(text, " key={}:{bits}", key.algorithm.oid)
+}
+
+/// Writes the signature and its algorithm.
+fn write_signature(
+    text: &mut String,
+    certificate: &CertificateInner<Raw>,
+) -> Result<(), AllocError> {
     let outer = certificate.signature_algorithm().oid;
-    let signature = word_of_bits(alloc, certificate.signature())?;
-    let text = format!(in alloc;
-        "ok serial={serial} algorithm={inner} from={from} until={until} key={key_algorithm}:{key} algorithm={outer} signature={signature}"
-    )?;
-    Ok(text)
+    let bits = Bits(certificate.signature());
+    write!(text, " algorithm={outer} signature={bits}")
 }
 
 /// The seconds since 1970-01-01T00:00:00Z.
@@ -31,8 +47,11 @@ fn seconds(time: &Time) -> u64 {
 }
 
 /// The octets of a bit string, and how many bits of the last one are unused.
-fn word_of_bits(alloc: Global, bits: &BitString) -> Result<String, AllocError> {
-    let octets = word_of(alloc, bits.raw_bytes())?;
-    let unused = bits.unused_bits();
-    format!(in alloc; "{octets}-{unused}")
+#[derive(Clone, Copy)]
+struct Bits<'a>(&'a BitString);
+
+impl fmt::Display for Bits<'_> {
+    fn fmt<W: fmt::Write>(&self, f: &mut fmt::Formatter<W>) -> fmt::Result {
+        write!(f, "{}-{}", Word(self.0.raw_bytes()), self.0.unused_bits())
+    }
 }

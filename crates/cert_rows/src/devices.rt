@@ -2,9 +2,9 @@
 
 use crate::refusals::Refusal;
 use crate::schedules::Schedule;
-use crate::words::{octets_of, word_of};
+use crate::words::{Word, octets_of};
 use cert_desk_io::{Input, write_all};
-use std::alloc::Global;
+use std::alloc::{AllocError, Global};
 use std::fmt::Write;
 
 /// What each of six reads gives into room for 4 octets.
@@ -16,11 +16,11 @@ pub fn answer_of_input(alloc: Global, rest: &str) -> Result<String, Refusal> {
     let mut text = String::new(alloc);
     for _ in 0..6 {
         let mut buffer = [0; 4];
-        let answer = match input.read(&mut buffer) {
-            Ok(count) => word_of(alloc, &buffer[..count])?,
-            Err(error) => error.to_string(alloc)?,
-        };
-        write!(text, "{answer}, ")?;
+        match input.read(&mut buffer) {
+            Ok(count) => write_word(&mut text, &buffer[..count])?,
+            Err(error) => write!(text, "{error}")?,
+        }
+        text.push_str(", ")?;
     }
     write!(text, "failures={}", input.failures())?;
     Ok(text)
@@ -35,13 +35,17 @@ pub fn answer_of_output(alloc: Global, rest: &str) -> Result<String, Refusal> {
     let mut text = String::new(alloc);
     for octets in texts.split(' ') {
         let octets = octets_of(alloc, octets)?;
-        let answer = match write_all(&mut output, octets.as_slice()) {
-            Ok(()) => "ok".to_string(alloc)?,
-            Err(error) => error.to_string(alloc)?,
-        };
-        write!(text, "{answer}, ")?;
+        match write_all(&mut output, octets.as_slice()) {
+            Ok(()) => text.push_str("ok, ")?,
+            Err(error) => write!(text, "{error}, ")?,
+        }
     }
-    let written = word_of(alloc, output.written())?;
-    write!(text, "{written}, failures={}", output.failures())?;
+    write_word(&mut text, output.written())?;
+    write!(text, ", failures={}", output.failures())?;
     Ok(text)
+}
+
+/// Writes the word that spells these octets.
+fn write_word(text: &mut String, octets: &[u8]) -> Result<(), AllocError> {
+    write!(text, "{}", Word(octets))
 }

@@ -1,4 +1,4 @@
-//! Answers questions about certificates: a line of standard input each, a line of standard output
+//! Answers questions about certificates, listings and what is issued: a line of standard input each, a line of standard output
 //! for each.
 //!
 //! | Question | Answer |
@@ -11,24 +11,46 @@
 //! | `input SCHEDULE HEX` | the octets that each of six reads of an input gives into room for 4, and how many failed |
 //! | `output SCHEDULE HEX ..` | whether an output with room for 64 octets takes each text, what it took, and how many writes failed |
 //! | `errors` | what each error prints: of a bundle, of its reading, of a check, of a device, of an anchor, of an input that is read whole |
+//! | `listing show KIND HEX` | `STATUS OUTPUT ERRORS`, what a run of `show` tells, where octets stand for the file |
+//! | `listing pieces SCHEDULE/SCHEDULE/SCHEDULE KIND HEX` | the same, where input, output and error output move octets so |
+//! | `listing call SCHEDULE KIND HEX` | what the call for one value answers, and what an output has that moves octets so |
+//! | `issue read FILE` | `ok N`, how many orders a file has, and each of them; or the error |
+//! | `issue run FILE` | `STATUS OUTPUT ERRORS`, what a run of `issue` tells, the output in base 16 |
+//! | `issue pieces SCHEDULE/SCHEDULE/SCHEDULE FILE` | the same, where input, output and error output move octets so |
+//! | `issue digest KEY HEX` | the bits of a signer of digests of this key, over these octets |
+//! | `issue audit SIGNERS LIMIT MOMENT PURPOSE FILE` | the verdict on the chain that is issued of the file's orders, by the judge of digests; or why none is issued |
+//! | `issue check LIMIT MOMENT PURPOSE FILE` | `STATUS OUTPUT ERRORS`, what a run of `check` tells of the chain that a run of `issue` wrote, under its first certificate |
+//! | `issue show PLACE FILE` | `STATUS OUTPUT ERRORS`, what a run of `show` tells of the certificate at a place of that chain |
 //! | an empty line, or one that begins with `#` | the same line |
 //! | any other | `?` |
 //!
-//! `HEX`, `ANCHORS` and `STREAM` are octets, `-` for none. A `SCHEDULE` is the sizes of the first
-//! pieces, joined by commas, `-` for none, and `!N` behind them where the Nth call fails. A `JUDGE`
-//! is `digest` (the program's), `yes`, `no`, or `octets:HEX`, which says yes to these signed octets
-//! alone; behind the answer under the last three stands how often they were asked. What is refused
-//! is answered `refused KIND`, and `memory` where there is not enough.
+//! `HEX`, `KEY`, `ANCHORS` and `STREAM` are octets in base 16, `-` for none, and `HEX*N` is `HEX` so many times. A `KIND` is
+//! `certificate`, `list` or `request`. A `FILE` is the lines of an orders file with `|` between them, or `0x` and its octets in base 16.
+//! A `SCHEDULE` is the sizes of the first pieces, joined by commas, `-` for none, and `!N` behind them where the Nth call fails.
+//!
+//! A `JUDGE` is `digest` (the program's), `yes`, `no`, or `octets:HEX`, which says yes to these signed octets alone; behind the answer
+//! under the last three stands how often they were asked. `SIGNERS` are `digest`, for signers of digests of the orders' keys; or
+//! `refuses:HEX` or `memory:HEX`, for such that sign nothing that has these octets; or `empty`, whose bits are none; or `stranger:N`,
+//! where the signer at place N has another key; or `count:N`, for so many signers. What is refused is answered `refused KIND`, and
+//! `memory` where there is not enough.
 #![tactic(auto)]
 
 mod answers;
+mod audits;
 mod bundles;
 mod certificates;
+mod chains;
+mod checks;
 mod devices;
+mod digests;
 mod errors;
+mod files;
+mod issues;
 mod judges;
+mod listings;
+mod odd_signer;
+mod readings;
 mod refusals;
-mod runs;
 mod schedules;
 mod splits;
 mod words;

@@ -1,8 +1,8 @@
 //! Why a question has no other answer.
 
-use der_core_head::{Error, ErrorKind};
+use der_core::{Error, ErrorKind};
 use hex::FromHexError;
-use std::alloc::AllocError;
+use std::alloc::{AllocError, AllocFailed};
 use std::fmt;
 use std::str::Utf8Error;
 
@@ -13,7 +13,7 @@ pub enum Refusal {
     Unread,
     /// Want of memory.
     Memory,
-    /// Its octets spell no certificate.
+    /// Its octets spell no value of the kind.
     Der(ErrorKind),
 }
 
@@ -37,6 +37,12 @@ impl From<FromHexError> for Refusal {
 
 impl From<AllocError> for Refusal {
     fn from(_error: AllocError) -> Refusal {
+        Refusal::Memory
+    }
+}
+
+impl<T: Drop> From<AllocFailed<T>> for Refusal {
+    fn from(_error: AllocFailed<T>) -> Refusal {
         Refusal::Memory
     }
 }

@@ -42,6 +42,27 @@ impl Schedule {
     }
 }
 
+/// How the three devices of a run move octets.
+#[derive(Drop)]
+pub struct Devices {
+    pub input: Schedule,
+    pub output: Schedule,
+    pub errors: Schedule,
+}
+
+impl Devices {
+    /// The schedules that a word spells, with slashes between them.
+    pub fn parse(alloc: Global, word: &str) -> Result<Devices, Refusal> {
+        let (input, rest) = word.split_once('/').ok_or(Refusal::Unread)?;
+        let (output, errors) = rest.split_once('/').ok_or(Refusal::Unread)?;
+        Ok(Devices {
+            input: Schedule::parse(alloc, input)?,
+            output: Schedule::parse(alloc, output)?,
+            errors: Schedule::parse(alloc, errors)?,
+        })
+    }
+}
+
 // The numbers of a word, joined by commas; `-` is none.
 fn numbers(alloc: Global, word: &str) -> Result<Vec<usize>, Refusal> {
     if word == "-" {

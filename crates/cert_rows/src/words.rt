@@ -1,25 +1,83 @@
-//! Octets and numbers as words.
+//! Octets, numbers, keys, purposes and kinds as words.
 
 use crate::refusals::Refusal;
-use std::alloc::{AllocError, Global};
+use cert_desk::{Kind, SubjectPublicKeyInfo};
+use const_oid::ObjectIdentifier;
+use der_core::from_der;
+use std::alloc::Global;
+use std::{fmt, str};
 
-/// The octets that a word spells in hexadecimal; `-` is none.
+/// The octets that a word spells in base 16; `-` is none, and `*N` behind them repeats them.
 pub fn octets_of(alloc: Global, word: &str) -> Result<Vec<u8>, Refusal> {
     if word == "-" {
         return Ok(Vec::new(alloc));
     }
-    Ok(hex::decode(alloc, word)?)
+    let Some((word, times)) = word.split_once('*') else {
+        return Ok(hex::decode(alloc, word)?);
+    };
+    let piece = hex::decode(alloc, word)?;
+    let mut octets = Vec::new(alloc);
+    for _ in 0..number_of(times)? {
+        octets.extend_from_slice(piece.as_slice())?;
+    }
+    Ok(octets)
 }
 
-/// The word that spells these octets.
-pub fn word_of(alloc: Global, octets: &[u8]) -> Result<String, AllocError> {
-    if octets.is_empty() {
-        return "-".to_string(alloc);
+/// Octets in base 16.
+#[derive(Clone, Copy)]
+pub struct Octets<'a>(pub &'a [u8]);
+
+impl fmt::Display for Octets<'_> {
+    fn fmt<W: fmt::Write>(&self, f: &mut fmt::Formatter<W>) -> fmt::Result {
+        for octet in self.0 {
+            write!(f, "{octet:02x}")?;
+        }
+        Ok(())
     }
-    hex::encode(alloc, octets)
+}
+
+/// The word that spells these octets; `-` for none.
+#[derive(Clone, Copy)]
+pub struct Word<'a>(pub &'a [u8]);
+
+impl fmt::Display for Word<'_> {
+    fn fmt<W: fmt::Write>(&self, f: &mut fmt::Formatter<W>) -> fmt::Result {
+        if self.0.is_empty() {
+            return f.write_str("-");
+        }
+        write!(f, "{}", Octets(self.0))
+    }
 }
 
 /// The number that a word spells in decimal.
 pub fn number_of(word: &str) -> Result<u32, Refusal> {
     word.parse().ok().ok_or(Refusal::Unread)
+}
+
+/// The key whose encoding a word spells in base 16.
+pub fn key_of(alloc: Global, word: &str) -> Result<SubjectPublicKeyInfo, Refusal> {
+    let octets = octets_of(alloc, word)?;
+    Ok(from_der(alloc, octets.as_slice())?)
+}
+
+/// The purpose that a word spells, as dotted arcs.
+pub fn purpose_of(word: &str) -> Result<ObjectIdentifier<39>, Refusal> {
+    ObjectIdentifier::new(word).ok().ok_or(Refusal::Unread)
+}
+
+/// The kind that a word names.
+pub fn kind_of(word: &str) -> Result<Kind, Refusal> {
+    match word {
+        "certificate" => Ok(Kind::Certificate),
+        "list" => Ok(Kind::List),
+        "request" => Ok(Kind::Request),
+        _ => Err(Refusal::Unread),
+    }
+}
+
+/// What a run tells: its status, and the texts on both outputs.
+pub fn told(alloc: Global, status: u8, out: &[u8], err: &[u8]) -> Result<String, Refusal> {
+    let out = str::from_utf8(out)?;
+    let err = str::from_utf8(err)?;
+    Ok(format!(in alloc; "{status} {out:?} {err:?}")?)
 }

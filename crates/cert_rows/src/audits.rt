@@ -2,14 +2,16 @@
 
 ghost use Rattle.std.specs.Prelude.{◌≤◌};
 
+use crate::bundles::limit_of;
 use crate::files::file_of;
 use crate::odd_signer::{OddSigner, Oddity};
 use crate::refusals::Refusal;
 use crate::words::{key_of, number_of, octets_of, purpose_of};
 use cert_desk::{
-    Checked, DigestJudge, DigestSigner, IssueError, Issued, Order, SubjectPublicKeyInfo, Verdict,
-    issue, orders_in,
+    DigestJudge, DigestSigner, IssueError, Issued, Order, SubjectPublicKeyInfo, Verdict, issue,
+    orders_in,
 };
+use const_oid::ObjectIdentifier;
 use std::alloc::Global;
 
 /// The key of a stranger: a bit string of no octets.
@@ -30,21 +32,16 @@ impl Signers {
     /// The signers that a word tells.
     fn parse(alloc: Global, word: &str) -> Result<Signers, Refusal> {
         let (word, more) = word.split_once(':').unwrap_or((word, "-"));
-        let mut signers = Signers {
-            oddity: Oddity::None,
-            stranger: None,
-            count: None,
+        let (stranger, count) = match word {
+            "stranger" => (Some(number_of(more)? as usize), None),
+            "count" => (None, Some(number_of(more)? as usize)),
+            _ => (None, None),
         };
-        match word {
-            "digest" => {}
-            "refuses" => signers.oddity = Oddity::Refuses(octets_of(alloc, more)?),
-            "memory" => signers.oddity = Oddity::Forgets(octets_of(alloc, more)?),
-            "empty" => signers.oddity = Oddity::IsEmpty,
-            "stranger" => signers.stranger = Some(number_of(more)? as usize),
-            "count" => signers.count = Some(number_of(more)? as usize),
-            _ => return Err(Refusal::Unread),
-        }
-        Ok(signers)
+        Ok(Signers {
+            oddity: oddity_of(alloc, word, more)?,
+            stranger,
+            count,
+        })
     }
 
     /// The key of the signer at a place.
@@ -75,26 +72,62 @@ impl Signers {
     }
 }
 
+/// What signers do that are told by these words.
+fn oddity_of(alloc: Global, word: &str, more: &str) -> Result<Oddity, Refusal> {
+    match word {
+        "digest" | "stranger" | "count" => Ok(Oddity::None),
+        "refuses" => Ok(Oddity::Refuses(octets_of(alloc, more)?)),
+        "memory" => Ok(Oddity::Forgets(octets_of(alloc, more)?)),
+        "empty" => Ok(Oddity::IsEmpty),
+        _ => Err(Refusal::Unread),
+    }
+}
+
 /// The verdict on the chain of a file's orders, or why there is none.
 pub fn answer(alloc: Global, rest: &str) -> Result<String, Refusal> {
     let (signer, rest) = rest.split_once(' ').ok_or(Refusal::Unread)?;
     let (limit, rest) = rest.split_once(' ').ok_or(Refusal::Unread)?;
     let (moment, rest) = rest.split_once(' ').ok_or(Refusal::Unread)?;
     let (purpose, file) = rest.split_once(' ').ok_or(Refusal::Unread)?;
+    let limit = limit_of(limit)?;
+    let moment = moment.parse().ok().ok_or(Refusal::Unread)?;
+    let purpose = purpose_of(purpose)?;
+    match chain_of(alloc, signer, file)? {
+        Ok(issued) => audit(alloc, &issued, limit, moment, &purpose),
+        Err(IssueError::OutOfMemory) => Err(Refusal::Memory),
+        Err(error) => Ok(format!(in alloc; "{error:?}")?),
+    }
+}
+
+/// The chain of a file's orders by these signers.
+fn chain_of(
+    alloc: Global,
+    signers: &str,
+    file: &str,
+) -> Result<Result<Issued, IssueError>, Refusal> {
     let file = file_of(alloc, file)?;
-    let signers = Signers::parse(alloc, signer)?;
     let Ok(orders) = orders_in(alloc, file.as_slice()) else {
         return Err(Refusal::Unread);
     };
+    let signers = Signers::parse(alloc, signers)?;
     let signers = signers.for_orders(alloc, orders.as_slice())?;
-    let issued = match issue(alloc, orders.as_slice(), signers.as_slice()) {
-        Ok(issued) => issued,
-        Err(IssueError::OutOfMemory) => return Err(Refusal::Memory),
-        Err(error) => return Ok(format!(in alloc; "{error:?}")?),
+    Ok(issue(alloc, orders.as_slice(), signers.as_slice()))
+}
+
+/// What an audit says, by the judge of digests.
+fn audit(
+    alloc: Global,
+    issued: &Issued,
+    limit: u32,
+    moment: u64,
+    purpose: &ObjectIdentifier<39>,
+) -> Result<String, Refusal>
+    requires { 6 ≤ limit }
+{
+    let mut judge = DigestJudge::new();
+    let Ok(checked) = issued.audit(alloc, limit, moment, purpose, &mut judge) else {
+        return Err(Refusal::Memory);
     };
-    let limit = limit.parse().ok().ok_or(Refusal::Unread)?;
-    let moment = moment.parse().ok().ok_or(Refusal::Unread)?;
-    let checked = audited(alloc, &issued, limit, moment, purpose)?;
     let places = issued.certificates().len();
     let calls = checked.calls;
     match checked.verdict {
@@ -102,23 +135,5 @@ pub fn answer(alloc: Global, rest: &str) -> Result<String, Refusal> {
             Ok(format!(in alloc; "{places}: refused {place} {rule} calls={calls}")?)
         }
         verdict => Ok(format!(in alloc; "{places}: {verdict:?} calls={calls}")?),
-    }
-}
-
-/// What an audit says, by the judge of digests.
-fn audited(
-    alloc: Global,
-    issued: &Issued,
-    limit: u32,
-    moment: u64,
-    purpose: &str,
-) -> Result<Checked, Refusal> {
-    let purpose = purpose_of(purpose)?;
-    if limit < 6 {
-        return Err(Refusal::Unread);
-    }
-    match issued.audit(alloc, limit, moment, &purpose, &mut DigestJudge::new()) {
-        Ok(checked) => Ok(checked),
-        Err(_) => Err(Refusal::Memory),
     }
 }

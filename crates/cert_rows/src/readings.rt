@@ -2,8 +2,9 @@
 
 use crate::files::file_of;
 use crate::refusals::Refusal;
+use crate::words::Octets;
 use cert_desk::{Order, orders_in};
-use std::alloc::Global;
+use std::alloc::{AllocError, Global};
 use std::fmt::Write;
 
 /// How many orders a file has, and each of them; or why it has none.
@@ -15,15 +16,15 @@ pub fn answer(alloc: Global, text: &str) -> Result<String, Refusal> {
     };
     let mut answer = format!(in alloc; "ok {}", orders.len())?;
     for order in &orders {
-        tell(alloc, order, &mut answer)?;
+        tell(order, &mut answer)?;
     }
     Ok(answer)
 }
 
 /// Tells an order.
-fn tell(alloc: Global, order: &Order, answer: &mut String) -> Result<(), Refusal> {
-    let serial = hex::encode(alloc, order.serial.as_slice())?;
-    let key = hex::encode(alloc, order.key.subject_public_key.raw_bytes())?;
+fn tell(order: &Order, answer: &mut String) -> Result<(), AllocError> {
+    let serial = Octets(order.serial.as_slice());
+    let key = Octets(order.key.subject_public_key.raw_bytes());
     write!(
         answer,
         "; {:?} {:?} {:?} {serial} {key}",
@@ -33,6 +34,5 @@ fn tell(alloc: Global, order: &Order, answer: &mut String) -> Result<(), Refusal
         answer,
         " {:?} {:?} {} {}",
         order.path_len, order.dns, order.client_auth, order.ocsp
-    )?;
-    Ok(())
+    )
 }

@@ -1,0 +1,58 @@
+//! What other runs tell of a chain that a run of `issue` wrote.
+
+use crate::bundles::limit_of;
+use crate::files::file_of;
+use crate::refusals::Refusal;
+use crate::words::{number_of, purpose_of};
+use crate::{checks, issues, listings};
+use cert_desk::{Bundle, DigestJudge, Kind};
+use std::alloc::Global;
+
+/// The stream that a run writes for a file, where it does.
+fn stream_of(alloc: Global, file: &str) -> Result<Vec<u8>, Refusal> {
+    let file = file_of(alloc, file)?;
+    let told = issues::run(alloc, "-/-/-", file.as_slice())?;
+    if told.status != 0 {
+        return Err(Refusal::Unread);
+    }
+    Ok(told.out)
+}
+
+/// The octets of the certificate at a place of a stream.
+fn certificate_of(alloc: Global, stream: &[u8], place: usize) -> Result<Vec<u8>, Refusal> {
+    let mut bundle = Bundle::new(alloc, u32::MAX);
+    if bundle.feed(stream).is_err() {
+        return Err(Refusal::Unread);
+    }
+    let entry = bundle.get(place).ok_or(Refusal::Unread)?;
+    Ok(entry.octets.to_vec(alloc)?)
+}
+
+/// What a run of `check` tells.
+pub fn answer_of_check(alloc: Global, rest: &str) -> Result<String, Refusal> {
+    let (limit, rest) = rest.split_once(' ').ok_or(Refusal::Unread)?;
+    let (moment, rest) = rest.split_once(' ').ok_or(Refusal::Unread)?;
+    let (purpose, file) = rest.split_once(' ').ok_or(Refusal::Unread)?;
+    let limit = limit_of(limit)?;
+    let moment = moment.parse().ok().ok_or(Refusal::Unread)?;
+    let purpose = purpose_of(purpose)?;
+    let stream = stream_of(alloc, file)?;
+    let root = certificate_of(alloc, stream.as_slice(), 0)?;
+    let asked = checks::Asked {
+        anchors: root.as_slice(),
+        stream: stream.as_slice(),
+        moment,
+        purpose: &purpose,
+        limit,
+    };
+    checks::run(alloc, "-/-/-/-", &asked, &mut DigestJudge::new())
+}
+
+/// What a run of `show` tells.
+pub fn answer_of_show(alloc: Global, rest: &str) -> Result<String, Refusal> {
+    let (place, file) = rest.split_once(' ').ok_or(Refusal::Unread)?;
+    let place = number_of(place)? as usize;
+    let stream = stream_of(alloc, file)?;
+    let certificate = certificate_of(alloc, stream.as_slice(), place)?;
+    listings::run(alloc, "-/-/-", Kind::Certificate, certificate.as_slice())
+}

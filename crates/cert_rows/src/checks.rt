@@ -1,0 +1,106 @@
+//! Runs of `check` over devices in memory.
+
+ghost use Rattle.std.specs.Prelude.{◌≤◌};
+
+use crate::judges::{FixedJudge, OctetsJudge};
+use crate::refusals::Refusal;
+use crate::schedules::{Devices, Schedule};
+use crate::words::{octets_of, told};
+use cert_desk::{Arguments, DigestJudge, SignatureJudge, Status, USAGE, run_check};
+use const_oid::ObjectIdentifier;
+use std::alloc::Global;
+
+/// What a run is asked, where octets stand for the files.
+#[derive(Clone, Copy)]
+pub struct Asked<'a> {
+    pub anchors: &'a [u8],
+    pub stream: &'a [u8],
+    pub moment: u64,
+    pub purpose: &'a ObjectIdentifier<39>,
+    pub limit: u32,
+}
+
+/// What a run tells, where four devices move octets by these schedules.
+pub fn run<J: SignatureJudge>(
+    alloc: Global,
+    schedules: &str,
+    asked: &Asked<'_>,
+    judge: &mut J,
+) -> Result<String, Refusal>
+    requires { 6 ≤ asked.now.limit }
+{
+    let (anchors, rest) = schedules.split_once('/').ok_or(Refusal::Unread)?;
+    let anchors = Schedule::parse(alloc, anchors)?;
+    let Devices {
+        input,
+        output,
+        errors,
+    } = Devices::parse(alloc, rest)?;
+    let mut out_room = [0; 64];
+    let mut err_room = [0; 64];
+    let mut out = output.output(&mut out_room);
+    let mut err = errors.output(&mut err_room);
+    let status = run_check(
+        alloc,
+        &mut anchors.input(asked.anchors),
+        &mut input.input(asked.stream),
+        &mut out,
+        &mut err,
+        asked.moment,
+        asked.purpose,
+        asked.limit,
+        judge,
+    );
+    told(alloc, status as u8, out.written(), err.written())
+}
+
+/// The answer to the words of a line, of which the first, where the program's name would stand,
+/// names the judge. Behind that of a judge of this crate stands how often it was asked.
+pub fn answer(alloc: Global, schedules: &str, line: &str) -> Result<String, Refusal> {
+    let (name, _) = line.split_once(' ').ok_or(Refusal::Unread)?;
+    let words: Vec<String> = line
+        .split(' ')
+        .map(|word| word.to_string(alloc))
+        .try_collect(alloc)?;
+    let Some(arguments) = Arguments::parse(words.as_slice()) else {
+        return told(alloc, Status::Arguments as u8, b"", USAGE.as_bytes());
+    };
+    let anchors = octets_of(alloc, arguments.anchors)?;
+    let stream = octets_of(alloc, arguments.stream)?;
+    let asked = Asked {
+        anchors: anchors.as_slice(),
+        stream: stream.as_slice(),
+        moment: arguments.moment,
+        purpose: &arguments.purpose,
+        limit: arguments.limit,
+    };
+    judged(alloc, schedules, name, &asked)
+}
+
+/// The answer by a judge.
+fn judged(alloc: Global, schedules: &str, name: &str, asked: &Asked<'_>) -> Result<String, Refusal>
+    requires { 6 ≤ asked.now.limit }
+{
+    let (judge, octets) = name.split_once(':').unwrap_or((name, "-"));
+    match judge {
+        "digest" => run(alloc, schedules, asked, &mut DigestJudge::new()),
+        "yes" | "no" => {
+            let mut judge = FixedJudge {
+                answer: judge == "yes",
+                questions: 0,
+            };
+            let text = run(alloc, schedules, asked, &mut judge)?;
+            Ok(format!(in alloc; "{text} asked={}", judge.questions)?)
+        }
+        "octets" => {
+            let octets = octets_of(alloc, octets)?;
+            let mut judge = OctetsJudge {
+                octets: octets.as_slice(),
+                questions: 0,
+            };
+            let text = run(alloc, schedules, asked, &mut judge)?;
+            Ok(format!(in alloc; "{text} asked={}", judge.questions)?)
+        }
+        _ => Err(Refusal::Unread),
+    }
+}

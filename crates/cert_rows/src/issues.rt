@@ -1,0 +1,43 @@
+//! Runs of `issue` over devices in memory.
+
+use crate::files::file_of;
+use crate::refusals::Refusal;
+use crate::schedules::Devices;
+use cert_desk::run_orders;
+use std::alloc::Global;
+use std::str;
+
+/// What a run tells.
+#[derive(Drop)]
+pub struct Told {
+    pub status: u8,
+    pub out: Vec<u8>,
+    pub err: Vec<u8>,
+}
+
+/// What a run on this file tells, where three devices move octets by these schedules.
+pub fn run(alloc: Global, schedules: &str, file: &[u8]) -> Result<Told, Refusal> {
+    let Devices {
+        input,
+        output,
+        errors,
+    } = Devices::parse(alloc, schedules)?;
+    let mut out_room = [0; 4096];
+    let mut err_room = [0; 64];
+    let mut out = output.output(&mut out_room);
+    let mut err = errors.output(&mut err_room);
+    let mut input = input.input(file);
+    let status = run_orders(alloc, &mut input, &mut out, &mut err) as u8;
+    let out = out.written().to_vec(alloc)?;
+    let err = err.written().to_vec(alloc)?;
+    Ok(Told { status, out, err })
+}
+
+/// What a run tells, its output in base 16.
+pub fn answer(alloc: Global, schedules: &str, file: &str) -> Result<String, Refusal> {
+    let file = file_of(alloc, file)?;
+    let told = run(alloc, schedules, file.as_slice())?;
+    let issued = hex::encode(alloc, told.out.as_slice())?;
+    let complained = str::from_utf8(told.err.as_slice())?;
+    Ok(format!(in alloc; "{} {issued:?} {complained:?}", told.status)?)
+}

@@ -1,0 +1,76 @@
+//! Listings of a value, by a run of `show` and by a call.
+
+use crate::refusals::Refusal;
+use crate::schedules::{Devices, Schedule};
+use crate::words::{kind_of, octets_of, told};
+use cert_desk::{
+    CertReq, CertificateInner, CertificateList, Kind, Raw, ShowError, run_show, show_certificate,
+    show_list, show_request,
+};
+use cert_desk_io::MemoryOutput;
+use der_core::from_der;
+use std::alloc::Global;
+use std::str;
+
+/// What a run tells, where octets stand for the file and three devices move octets by these schedules.
+pub fn run(alloc: Global, schedules: &str, kind: Kind, octets: &[u8]) -> Result<String, Refusal> {
+    let Devices {
+        input,
+        output,
+        errors,
+    } = Devices::parse(alloc, schedules)?;
+    let mut out_room = [0; 2048];
+    let mut err_room = [0; 64];
+    let mut out = output.output(&mut out_room);
+    let mut err = errors.output(&mut err_room);
+    let mut input = input.input(octets);
+    let status = run_show(alloc, &mut input, &mut out, &mut err, kind);
+    told(alloc, status as u8, out.written(), err.written())
+}
+
+/// What a run tells of a kind and octets.
+pub fn answer(alloc: Global, schedules: &str, rest: &str) -> Result<String, Refusal> {
+    let (kind, octets) = rest.split_once(' ').ok_or(Refusal::Unread)?;
+    let kind = kind_of(kind)?;
+    let octets = octets_of(alloc, octets)?;
+    run(alloc, schedules, kind, octets.as_slice())
+}
+
+/// What the call for a value answers, and what an output has that moves octets by this schedule.
+pub fn answer_of_call(alloc: Global, schedule: &str, rest: &str) -> Result<String, Refusal> {
+    let schedule = Schedule::parse(alloc, schedule)?;
+    let (kind, octets) = rest.split_once(' ').ok_or(Refusal::Unread)?;
+    let kind = kind_of(kind)?;
+    let octets = octets_of(alloc, octets)?;
+    let mut room = [0; 2048];
+    let mut output = schedule.output(&mut room);
+    let answer = call(alloc, kind, octets.as_slice(), &mut output)?;
+    let told = str::from_utf8(output.written())?;
+    match answer {
+        Ok(()) => Ok(format!(in alloc; "ok {told:?}")?),
+        Err(error) => Ok(format!(in alloc; "{error} {told:?}")?),
+    }
+}
+
+// Writes the listing of the value of this kind that the octets spell.
+fn call(
+    alloc: Global,
+    kind: Kind,
+    octets: &[u8],
+    output: &mut MemoryOutput<'_>,
+) -> Result<Result<(), ShowError>, Refusal> {
+    match kind {
+        Kind::Certificate => {
+            let certificate = CertificateInner::<Raw>::from_der(alloc, octets)?;
+            Ok(show_certificate(alloc, &certificate, output))
+        }
+        Kind::List => {
+            let list = from_der::<CertificateList<Raw>>(alloc, octets)?;
+            Ok(show_list(alloc, &list, output))
+        }
+        Kind::Request => {
+            let request = CertReq::try_from_bytes(alloc, octets)?;
+            Ok(show_request(alloc, &request, output))
+        }
+    }
+}
