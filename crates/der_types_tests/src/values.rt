@@ -45,9 +45,13 @@ fn naturals(rt: HostRuntime) -> Result<(), Fail> {
     Ok(())
 }
 
-/// Whether the owned form of a string lends these octets, and equals its copy.
-fn lends_octets(alloc: Global, owned: &OctetString, octets: &[u8]) -> Result<bool, Error> {
-    let same = owned.owned_to_ref() == OctetStringRef::of_content(octets);
+/// Whether the owned form of a string lends what this one lends, and equals its copy.
+fn lends_octets(
+    alloc: Global,
+    owned: &OctetString,
+    lent: OctetStringRef<'_>,
+) -> Result<bool, Error> {
+    let same = owned.owned_to_ref() == lent;
     Ok(same && owned.clone(alloc)? == *owned && owned.len().value == 3 && !owned.is_empty())
 }
 
@@ -58,7 +62,7 @@ fn octets(rt: HostRuntime) -> Result<(), Fail> {
     let lent = OctetStringRef::try_from(octets.as_slice())?;
     let owned = lent.ref_to_owned(alloc)?;
     octets_answer_alike(&lent, &owned);
-    assert!(rt; lends_octets(alloc, &owned, &octets)?);
+    assert!(rt; lends_octets(alloc, &owned, OctetStringRef::of_content(&octets))?);
     let content = SequenceRef::of_content(&octets);
     assert!(rt; content.as_bytes() == owned.into_bytes().as_slice());
     Ok(())
