@@ -83,6 +83,8 @@ impl<'a, R: Reader<'a>, T: Decode<'a, R> + Choice + DefaultValue> Decode<'a, R> 
 }
 
 impl<T: Encode + DefaultValue> Encode for WithDefault<T> {
+    // Inlined, so that what is answered isn't moved.
+    #[inline(always)]
     #[tactic(auto, unfolding(der_core_head::specs::Writing::default_len))]
     fn encoded_len(&self) -> Result<Length, Error> {
         if self.value.is_default() {
@@ -92,6 +94,8 @@ impl<T: Encode + DefaultValue> Encode for WithDefault<T> {
         }
     }
 
+    // Inlined, so that what is answered isn't moved.
+    #[inline(always)]
     #[tactic(auto, unfolding(der_core_head::specs::Writing::default_write))]
     fn encode<W: Writer>(&self, writer: &mut W) -> Result<(), Error> {
         if self.value.is_default() {

@@ -73,10 +73,14 @@ impl<'a, T: Shaped> Shaped for EncodeRef<'a, T> {
 }
 
 impl<'a, T: Encode> Encode for EncodeRef<'a, T> {
+    // Inlined, so that what is answered isn't moved.
+    #[inline(always)]
     fn encoded_len(&self) -> Result<Length, Error> {
         self.0.encoded_len()
     }
 
+    // Inlined, so that what is answered isn't moved.
+    #[inline(always)]
     fn encode<W: Writer>(&self, writer: &mut W) -> Result<(), Error> {
         self.0.encode(writer)
     }

@@ -21,6 +21,8 @@ pub fn sum_len(a: Length, b: Length) -> Result<Length, Error>
 }
 
 /// Writes the octets of a tag (X.690 8.1.2).
+// Inlined, so that a known tag is one octet and nothing that is answered is moved.
+#[inline(always)]
 #[tactic(auto, using(der_core_head::proofs::TagForms::tag_forms))]
 fn encode_tag<W: Writer>(writer: &mut W, tag: Tag) -> Result<(), Error>
     ensures exact { Writes W.takes_memory (W.out writer.old) (W.out writer.new) result (put (tag_octets tag)) }
@@ -52,6 +54,8 @@ fn encode_tag<W: Writer>(writer: &mut W, tag: Tag) -> Result<(), Error>
 }
 
 /// Writes the octets of a length (X.690 8.1.3, 10.1).
+// Inlined, so that a known tag is one octet and nothing that is answered is moved.
+#[inline(always)]
 #[tactic(auto, using(der_core_head::proofs::LengthForms::length_forms))]
 fn encode_length<W: Writer>(writer: &mut W, len: Length) -> Result<(), Error>
     ensures exact { Writes W.takes_memory (W.out writer.old) (W.out writer.new) result (put (length_octets len.value)) }
@@ -81,6 +85,8 @@ fn encode_length<W: Writer>(writer: &mut W, len: Length) -> Result<(), Error>
 ///
 /// # Errors
 /// `Overflow` where header and content pass 2^32 - 1 octets together, and those of the writer.
+// Inlined, so that a known tag is one octet and nothing that is answered is moved.
+#[inline(always)]
 #[tactic(auto, unfolding(der_core_head::specs::Writing::put_head))]
 pub fn encode_header<W: Writer>(writer: &mut W, tag: Tag, len: Length) -> Result<(), Error>
     ensures exact { Writes W.takes_memory (W.out writer.old) (W.out writer.new) result (put_head tag len.value) }

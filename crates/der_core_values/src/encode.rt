@@ -48,12 +48,16 @@ pub trait EncodeValue: ShapedValue {
 }
 
 impl<T: EncodeValue + FixedTag> Encode for T {
+    // Inlined, so that what is answered isn't moved.
+    #[inline(always)]
     #[tactic(auto, unfolding(der_core_head::specs::Writing::tlv_len, der_core_head::specs::Writing::head_len))]
     fn encoded_len(&self) -> Result<Length, Error> {
         let len = self.value_len()?;
         len.for_tlv(T::tag())
     }
 
+    // Inlined, so that what is answered isn't moved.
+    #[inline(always)]
     #[tactic(auto, unfolding(der_core_head::specs::Writing::write_tlv))]
     fn encode<W: Writer>(&self, writer: &mut W) -> Result<(), Error> {
         let len = self.value_len()?;
@@ -63,6 +67,8 @@ impl<T: EncodeValue + FixedTag> Encode for T {
 }
 
 impl<T: Encode> Encode for Option<T> {
+    // Inlined, so that what is answered isn't moved.
+    #[inline(always)]
     fn encoded_len(&self) -> Result<Length, Error> {
         match self {
             Some(value) => value.encoded_len(),
@@ -70,6 +76,8 @@ impl<T: Encode> Encode for Option<T> {
         }
     }
 
+    // Inlined, so that what is answered isn't moved.
+    #[inline(always)]
     fn encode<W: Writer>(&self, writer: &mut W) -> Result<(), Error> {
         match self {
             Some(value) => value.encode(writer),

@@ -326,10 +326,14 @@ impl<'a, R: Reader<'a>> Decode<'a, R> for Any {
 }
 
 impl Encode for Any {
+    // Inlined, so that what is answered isn't moved.
+    #[inline(always)]
     fn encoded_len(&self) -> Result<Length, Error> {
         self.to_ref().encoded_len()
     }
 
+    // Inlined, so that what is answered isn't moved.
+    #[inline(always)]
     fn encode<W: Writer>(&self, writer: &mut W) -> Result<(), Error> {
         self.to_ref().encode(writer)
     }

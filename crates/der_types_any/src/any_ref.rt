@@ -304,12 +304,16 @@ impl<'a, R: Reader<'a>> Decode<'a, R> for AnyRef<'a> {
 }
 
 impl<'a> Encode for AnyRef<'a> {
+    // Inlined, so that what is answered isn't moved.
+    #[inline(always)]
     #[tactic(auto, unfolding(der_core_head::specs::Writing::tlv_len, der_core_head::specs::Writing::head_len))]
     fn encoded_len(&self) -> Result<Length, Error> {
         let len = slice_len(self.bytes)?;
         sum_len(header_len(self.tag, len), len)
     }
 
+    // Inlined, so that what is answered isn't moved.
+    #[inline(always)]
     #[tactic(auto, unfolding(der_core_head::specs::Writing::write_tlv))]
     fn encode<W: Writer>(&self, writer: &mut W) -> Result<(), Error> {
         let len = slice_len(self.bytes)?;

@@ -89,6 +89,8 @@ impl<'a, R: Reader<'a>> Decode<'a, R> for Time {
 }
 
 impl Encode for Time {
+    // Inlined, so that what is answered isn't moved.
+    #[inline(always)]
     fn encoded_len(&self) -> Result<Length, Error> {
         match self {
             Time::UtcTime(time) => time.encoded_len(),
@@ -96,6 +98,8 @@ impl Encode for Time {
         }
     }
 
+    // Inlined, so that what is answered isn't moved.
+    #[inline(always)]
     fn encode<W: Writer>(&self, writer: &mut W) -> Result<(), Error> {
         match self {
             Time::UtcTime(time) => time.encode(writer),
