@@ -60,10 +60,16 @@ extensions_in t = unlisted t.1.1.1.1.1.1.1.1.1.0
 abbrev pub signed_part : PlainFields → Algorithm → List PlainExtension → Tbs
 signed_part f a extensions = tbs_of (has_any extensions) f a (listed extensions)
 
--- its octets, with dates as RFC 5280 has them
-abbrev pub signed_octets : PlainFields → Algorithm → List PlainExtension → List ℕ
-signed_octets f a extensions = octets_of (tbs_certificate arc_bound (Some 21)) (tbs_by true (signed_part f a extensions))
+-- the octets of a part, with dates as RFC 5280 has them
+abbrev pub part_octets : Tbs → List ℕ
+part_octets t = octets_of (tbs_certificate arc_bound (Some 21)) (tbs_by true t)
 
--- it has no encoding, as where a length passes 2^32 - 1
+-- a part has no encoding, as where a length passes 2^32 - 1
+abbrev pub IsUnwritable : Tbs → Type 0
+IsUnwritable t = IsValid (tbs_certificate arc_bound (Some 21)) (tbs_by true t) → ⊥
+
+abbrev pub signed_octets : PlainFields → Algorithm → List PlainExtension → List ℕ
+signed_octets f a extensions = part_octets (signed_part f a extensions)
+
 abbrev pub HasNoOctets : PlainFields → Algorithm → List PlainExtension → Type 0
-HasNoOctets f a extensions = IsValid (tbs_certificate arc_bound (Some 21)) (tbs_by true (signed_part f a extensions)) → ⊥
+HasNoOctets f a extensions = IsUnwritable (signed_part f a extensions)

@@ -42,13 +42,13 @@ pub(crate) fn add<T: Encode + Criticality>(
 pub(crate) fn identifier_of<'a>(
     alloc: Global,
     key: &SubjectPublicKeyInfoRef<'a>,
-) -> Result<OctetString, Error>
-    ensures identifier { IfOk result (λ i. i ≡ key_identifier (⟦<SubjectPublicKeyInfoRef<'a> as Fields>⟧.fields_plain key.now)) }
-    ensures digest { IfOk result IsDigest }
+) -> Result<SubjectKeyIdentifier, Error>
+    ensures identifier { IfOk result (λ i. i.0 ≡ key_identifier (⟦<SubjectPublicKeyInfoRef<'a> as Fields>⟧.fields_plain key.now)) }
+    ensures digest { IfOk result (λ i. IsDigest i.0) }
     ensures refused { IfErr result IsWantOfMemory }
 {
     let identifier = SubjectKeyIdentifier::try_from_key(alloc, key)?;
-    Ok(identifier.0)
+    Ok(identifier)
 }
 
 /// Adds the identifier of the key by which a certificate is signed (4.2.1.1).
@@ -79,15 +79,14 @@ pub(crate) fn add_identifier(
     alloc: Global,
     extensions: &mut Extensions,
     subject: &Name,
-    identifier: OctetString,
+    identifier: &SubjectKeyIdentifier,
 ) -> Result<(), Error>
-    requires { IsDigest identifier }
+    requires { IsDigest identifier.now.0 }
     ensures added { OnOk result (extensions_plain extensions.new.items ≡ extensions_plain extensions.old.items
-        ++ standard_extension 14 false octet_string identifier ∷ []) }
+        ++ standard_extension 14 false octet_string identifier.now.0 ∷ []) }
     ensures refused { IfErr result IsWantOfMemory }
 {
-    let identifier = SubjectKeyIdentifier(identifier);
-    add(alloc, extensions, subject, 14, &identifier)?;
+    add(alloc, extensions, subject, 14, identifier)?;
     Ok(())
 }
 

@@ -7,7 +7,7 @@ use std::alloc::Global;
 use x509_cert_anchors::BitString;
 
 /// What makes a signed thing: the octets that a signer is handed are those of the signed part of what comes out.
-pub trait Builder: Sized {
+pub trait Builder: Sized + Drop {
     ghost use Rattle.std.specs.Prelude.{◌≡◌, ◌⊎◌, ℕ, List, Option, Some, None, IfOk, IfErr};
     ghost use Rattle.der_core_head.specs.BitStrings.{Bits};
     ghost use Rattle.x509_cert_anchors.specs.Parts.{Algorithm, PublicKey};
@@ -72,19 +72,25 @@ pub trait Builder: Sized {
     ///
     /// # Errors
     /// Those of `finalize` and of `assemble`, and `Signature` where the signer gives none.
-    fn build<S: Signer>(self, alloc: Global, signer: &S) -> Result<Self::Output, Error>
+    fn build<S: Signer>(mut self, alloc: Global, signer: &S) -> Result<Self::Output, Error>
         ensures octets { IfOk result (λ x. signed_octets x ≡ to_sign self (S.public_key signer.now) (S.signs_by signer.now)) }
         ensures algorithm { IfOk result (λ x. outer_algorithm x ≡ S.signs_by signer.now) }
         ensures signed { IfOk result (λ x. S.signs signer.now (signed_octets x) (bits x)) }
         ensures refused { IfErr result (λ e. IsWantOfMemory e ⊎ faults self (S.public_key signer.now) (S.signs_by signer.now) e
-            ⊎ ((e ≡ is_refused) × S.may_refuse signer.now (to_sign self (S.public_key signer.now) (S.signs_by signer.now)))) };
+            ⊎ ((e ≡ is_refused) × S.may_refuse signer.now (to_sign self (S.public_key signer.now) (S.signs_by signer.now)))) }
+    {
+        let octets = self.finalize(alloc, signer)?;
+        let signature = signer.sign(alloc, octets.as_slice())?;
+        let made = self.assemble(alloc, signature, signer)?;
+        Ok(made)
+    }
 
     /// The same, with what a generator of random octets gives.
     ///
     /// # Errors
     /// Those of `build`.
     fn build_with_rng<S: Signer, R: CryptoRng>(
-        self,
+        mut self,
         alloc: Global,
         signer: &S,
         rng: &mut R,
@@ -93,5 +99,11 @@ pub trait Builder: Sized {
         ensures algorithm { IfOk result (λ x. outer_algorithm x ≡ S.signs_by signer.now) }
         ensures signed { IfOk result (λ x. S.signs signer.now (signed_octets x) (bits x)) }
         ensures refused { IfErr result (λ e. IsWantOfMemory e ⊎ faults self (S.public_key signer.now) (S.signs_by signer.now) e
-            ⊎ ((e ≡ is_refused) × S.may_refuse signer.now (to_sign self (S.public_key signer.now) (S.signs_by signer.now)))) };
+            ⊎ ((e ≡ is_refused) × S.may_refuse signer.now (to_sign self (S.public_key signer.now) (S.signs_by signer.now)))) }
+    {
+        let octets = self.finalize(alloc, signer)?;
+        let signature = signer.sign_with_rng(alloc, rng, octets.as_slice())?;
+        let made = self.assemble(alloc, signature, signer)?;
+        Ok(made)
+    }
 }

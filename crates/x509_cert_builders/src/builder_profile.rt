@@ -3,7 +3,9 @@
 use crate::error::Error;
 use der_core::Fields;
 use std::alloc::Global;
-use x509_cert_anchors::{Extensions, Name, SubjectPublicKeyInfoRef, TbsCertificate};
+use x509_cert_anchors::{
+    Extensions, Name, SubjectKeyIdentifier, SubjectPublicKeyInfoRef, TbsCertificate,
+};
 
 /// Which names and which extensions a certificate has that is made.
 ///
@@ -11,6 +13,7 @@ use x509_cert_anchors::{Extensions, Name, SubjectPublicKeyInfoRef, TbsCertificat
 pub trait BuilderProfile {
     ghost use Rattle.std.specs.Prelude.{◌≡◌, ◌⊎◌, List, IfOk, IfErr};
     ghost use Rattle.x509_cert_builders.specs.declared.error.Error.{Error};
+    ghost use Rattle.x509_cert_builders.specs.Profiles.{key_identifier};
     ghost use Rattle.x509_cert_builders.specs.Refusals.{IsWantOfMemory};
     ghost use Rattle.x509_cert_anchors.specs.Certificates.{Tbs, tbs_plain};
     ghost use Rattle.x509_cert_anchors.specs.Parts.{PlainExtension, PlainName, PublicKey, extensions_plain, name_plain};
@@ -58,4 +61,26 @@ pub trait BuilderProfile {
         ensures made { IfOk result (λ v. extensions_plain v.items
             ≡ extensions self.now (⟦<SubjectPublicKeyInfoRef<'a> as Fields>⟧.fields_plain spk.now) (⟦<SubjectPublicKeyInfoRef<'b> as Fields>⟧.fields_plain issuer_spk.now) (tbs_plain tbs.now)) }
         ensures refused { IfErr result (λ e. IsWantOfMemory e ⊎ refuses self.now e) };
+
+    /// The same, where the identifier of the certified key is known: a builder digests its key once. A profile that leaves this out is
+    /// asked by `build_extensions`.
+    ///
+    /// # Errors
+    /// Those of `build_extensions`.
+    fn build_identified_extensions<'a, 'b>(
+        &self,
+        alloc: Global,
+        spk: &SubjectPublicKeyInfoRef<'a>,
+        identifier: &SubjectKeyIdentifier,
+        issuer_spk: &SubjectPublicKeyInfoRef<'b>,
+        tbs: &TbsCertificate,
+    ) -> Result<Extensions, Error>
+        requires { identifier.now.0 ≡ key_identifier (⟦<SubjectPublicKeyInfoRef<'a> as Fields>⟧.fields_plain spk.now) }
+        ensures made { IfOk result (λ v. extensions_plain v.items
+            ≡ extensions self.now (⟦<SubjectPublicKeyInfoRef<'a> as Fields>⟧.fields_plain spk.now) (⟦<SubjectPublicKeyInfoRef<'b> as Fields>⟧.fields_plain issuer_spk.now) (tbs_plain tbs.now)) }
+        ensures refused { IfErr result (λ e. IsWantOfMemory e ⊎ refuses self.now e) }
+    {
+        let extensions = self.build_extensions(alloc, spk, issuer_spk, tbs)?;
+        Ok(extensions)
+    }
 }

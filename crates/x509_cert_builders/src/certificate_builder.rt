@@ -1,38 +1,40 @@
 //! Builders of certificates.
 
-ghost use Rattle.std.specs.Prelude.{◌≡◌, ◌⊎◌, ◌++◌, ◌∷◌, [], None, IfOk, IfErr, OnOk, OnErr};
+ghost use Rattle.std.specs.Prelude.{◌≡◌, ◌⊎◌, ◌++◌, ◌∷◌, [], Some, None, IfOk, IfErr, OnOk, OnErr};
 ghost use Rattle.der_core_head.specs.Grammar.{plain_option};
 ghost use Rattle.x509_cert_anchors.specs.Certificates.{certificate_plain, outer_algorithm, signature_bits, tbs_plain, tbs_public_key};
-ghost use Rattle.x509_cert_anchors.specs.Parts.{extensions_plain, key_plain, validity_plain};
-ghost use Rattle.x509_cert_builders.specs.SignedParts.{HasNoOctets, bare_part, signed_octets};
+ghost use Rattle.x509_cert_anchors.specs.Parts.{algorithm_plain, extensions_plain, key_plain, validity_plain};
+ghost use Rattle.x509_cert_builders.specs.Profiles.{key_identifier};
+ghost use Rattle.x509_cert_builders.specs.SignedParts.{HasNoOctets, bare_part, fields_of, signed_octets, signed_part};
 ghost use Rattle.x509_cert_builders.specs.States.{algorithm_of_last, octets_in_place};
-ghost use Rattle.x509_cert_builders.specs.Refusals.{IsWantOfMemory, IsWantOfMemoryAs};
+ghost use Rattle.x509_cert_builders.specs.Refusals.{IsFailed, IsWantOfMemory, IsWantOfMemoryAs};
 
-use crate::added_extensions::joined;
+use crate::added_extensions::{identifier_of, joined};
 use crate::builder::Builder;
 use crate::builder_profile::BuilderProfile;
 use crate::error::Error;
 use crate::identifiers::no_algorithm;
-use crate::signed_part::{complete, lay_bare, take_extensions};
+use crate::signed_part::{complete, lay_bare, take_extensions, written};
 use crate::signer::Signer;
-use der_core::{ErrorKind, to_der};
-use rand_core::CryptoRng;
+use der_core::ErrorKind;
 use std::alloc::Global;
 use std::marker::Model;
 use x509_cert_anchors::laws::signed_part_stands_in_place;
 use x509_cert_anchors::{
-    AlgorithmIdentifier, BitString, Certificate, Extensions, SerialNumber, SubjectPublicKeyInfo,
-    TbsCertificate, ToExtension, Validity, Version,
+    AlgorithmIdentifier, BitString, Certificate, Extension, Extensions, SerialNumber,
+    SubjectKeyIdentifier, SubjectPublicKeyInfo, TbsCertificate, ToExtension, Validity, Version,
 };
 
 /// A builder of certificates (RFC 5280 4.1), whose names and extensions its profile tells. Extensions that are added stand before
 /// those of the profile.
 ///
-/// Contracts see its profile, what is settled, the extensions that were added, and the part that was made last.
+/// Contracts see its profile, what is settled, the extensions that were added, and the part that was made last. The certified key is
+/// digested once, when the builder is made.
 #[derive(Drop)]
 pub struct CertificateBuilder<P> {
     profile: P,
     part: TbsCertificate,
+    identifier: SubjectKeyIdentifier,
     extensions: Extensions,
     finalized: Option<Finalized>,
 }
@@ -45,11 +47,17 @@ struct Finalized {
 }
 
 impl<P> Model for CertificateBuilder<P> {
+    ghost use Rattle.std.specs.Prelude.{◌≡◌};
+    ghost use Rattle.x509_cert_anchors.specs.Certificates.{tbs_plain, tbs_public_key};
+    ghost use Rattle.x509_cert_builders.specs.Profiles.{key_identifier};
     ghost use Rattle.x509_cert_builders.specs.States.{CertificateState, certificate_state};
 
     ghost Value = { CertificateState P };
 
     ghost view = { certificate_state };
+
+    // The identifier is that of the certified key.
+    ghost invariant = { λ b. b.identifier.0 ≡ key_identifier (tbs_public_key (tbs_plain b.part)) };
 }
 
 impl<P: BuilderProfile + Drop> CertificateBuilder<P> {
@@ -78,6 +86,7 @@ impl<P: BuilderProfile + Drop> CertificateBuilder<P> {
         }) }
         ensures refused { IfErr result (λ e. IsWantOfMemory e ⊎ P.refuses profile e) }
     {
+        let identifier = identifier_of(alloc, &subject_public_key_info.owned_to_ref())?;
         let subject = profile.get_subject(alloc)?;
         let issuer = profile.get_issuer(alloc, &subject)?;
         let part = TbsCertificate {
@@ -95,6 +104,7 @@ impl<P: BuilderProfile + Drop> CertificateBuilder<P> {
         Ok(CertificateBuilder {
             profile,
             part,
+            identifier,
             extensions: Vec::new(alloc),
             finalized: None,
         })
@@ -126,15 +136,57 @@ fn profiled<P: BuilderProfile, S: Signer>(
     alloc: Global,
     profile: &P,
     part: &TbsCertificate,
+    identifier: &SubjectKeyIdentifier,
     signer: &S,
 ) -> Result<Extensions, Error>
+    requires { identifier.now.0 ≡ key_identifier (tbs_public_key (tbs_plain part.now)) }
     ensures made { IfOk result (λ v. extensions_plain v.items ≡ P.extensions profile.now (tbs_public_key (tbs_plain part.now)) (S.public_key signer.now) (tbs_plain part.now)) }
     ensures refused { IfErr result (λ e. IsWantOfMemory e ⊎ P.refuses profile.now e) }
 {
     let key = part.subject_public_key_info.owned_to_ref();
     let issuer_key = signer.key_info().owned_to_ref();
-    let more = profile.build_extensions(alloc, &key, &issuer_key, part)?;
+    let more = profile.build_identified_extensions(alloc, &key, identifier, &issuer_key, part)?;
     Ok(more)
+}
+
+/// Makes the part whole, with the extensions that were added and those of the profile.
+fn make_whole<P: BuilderProfile, S: Signer>(
+    alloc: Global,
+    profile: &P,
+    part: &mut TbsCertificate,
+    identifier: &SubjectKeyIdentifier,
+    added: &[Extension],
+    signer: &S,
+) -> Result<(), Error>
+    requires { identifier.now.0 ≡ key_identifier (tbs_public_key (tbs_plain part.old)) }
+    ensures whole { OnOk result (tbs_plain part.new ≡ signed_part (fields_of (tbs_plain part.old)) (S.signs_by signer.now) (extensions_plain added.now ++ P.extensions profile.now (tbs_public_key (tbs_plain part.old)) (S.public_key signer.now) (bare_part (fields_of (tbs_plain part.old)) (S.signs_by signer.now)))) }
+    ensures fields { fields_of (tbs_plain part.new) ≡ fields_of (tbs_plain part.old) }
+    ensures refused { IfErr result (λ e. IsWantOfMemory e ⊎ P.refuses profile.now e) }
+{
+    lay_bare(part, signer.algorithm().clone(alloc)?);
+    let more = profiled(alloc, profile, part, identifier, signer)?;
+    let extensions = joined(alloc, added, more)?;
+    complete(part, extensions);
+    Ok(())
+}
+
+/// Puts what the part that was made last has besides what is settled into the part again, and hands out its algorithm.
+fn put_back(
+    alloc: Global,
+    part: &mut TbsCertificate,
+    finalized: Option<Finalized>,
+) -> Result<AlgorithmIdentifier, Error>
+    ensures algorithm { IfOk result (λ a. plain_option (λ f. algorithm_plain f.algorithm) finalized ≡ Some (algorithm_plain a)) }
+    ensures whole { IfOk result (λ a. plain_option (λ f. signed_part (fields_of (tbs_plain part.old)) (algorithm_plain f.algorithm) (extensions_plain f.extensions.items)) finalized ≡ Some (tbs_plain part.new)) }
+    ensures unready { finalized ≡ None → IfErr result IsFailed }
+    ensures refused { IfErr result (λ e. IsWantOfMemory e ⊎ (finalized ≡ None)) }
+{
+    let Some(finalized) = finalized else {
+        return Err(Error::Asn1(der_core::Error::from(ErrorKind::Failed)));
+    };
+    lay_bare(part, finalized.algorithm.clone(alloc)?);
+    complete(part, finalized.extensions);
+    Ok(finalized.algorithm)
 }
 
 impl<P: BuilderProfile + Drop> Builder for CertificateBuilder<P> {
@@ -158,12 +210,17 @@ impl<P: BuilderProfile + Drop> Builder for CertificateBuilder<P> {
 
     #[tactic(auto, using(crate::proofs::Lists::listed_back))]
     fn finalize<S: Signer>(&mut self, alloc: Global, signer: &S) -> Result<Vec<u8>, Error> {
+        let added = self.extensions.as_slice();
+        make_whole(
+            alloc,
+            &self.profile,
+            &mut self.part,
+            &self.identifier,
+            added,
+            signer,
+        )?;
+        let octets = written(alloc, &self.part)?;
         let algorithm = signer.algorithm().clone(alloc)?;
-        lay_bare(&mut self.part, algorithm.clone(alloc)?);
-        let more = profiled(alloc, &self.profile, &self.part, signer)?;
-        let extensions = joined(alloc, self.extensions.as_slice(), more)?;
-        complete(&mut self.part, extensions);
-        let octets = to_der(alloc, &self.part)?;
         let extensions = take_extensions(alloc, &mut self.part);
         self.finalized = Some(Finalized {
             algorithm,
@@ -183,35 +240,12 @@ impl<P: BuilderProfile + Drop> Builder for CertificateBuilder<P> {
             finalized,
             ..
         } = self;
-        let Some(finalized) = finalized else {
-            return Err(Error::Asn1(der_core::Error::from(ErrorKind::Failed)));
-        };
-        lay_bare(&mut part, finalized.algorithm.clone(alloc)?);
-        complete(&mut part, finalized.extensions);
+        let signature_algorithm = put_back(alloc, &mut part, finalized)?;
         signed_part_stands_in_place();
         Ok(Certificate {
             tbs_certificate: part,
-            signature_algorithm: finalized.algorithm,
+            signature_algorithm,
             signature,
         })
-    }
-
-    fn build<S: Signer>(mut self, alloc: Global, signer: &S) -> Result<Certificate, Error> {
-        let octets = self.finalize(alloc, signer)?;
-        let signature = signer.sign(alloc, octets.as_slice())?;
-        let certificate = self.assemble(alloc, signature, signer)?;
-        Ok(certificate)
-    }
-
-    fn build_with_rng<S: Signer, R: CryptoRng>(
-        mut self,
-        alloc: Global,
-        signer: &S,
-        rng: &mut R,
-    ) -> Result<Certificate, Error> {
-        let octets = self.finalize(alloc, signer)?;
-        let signature = signer.sign_with_rng(alloc, rng, octets.as_slice())?;
-        let certificate = self.assemble(alloc, signature, signer)?;
-        Ok(certificate)
     }
 }

@@ -170,9 +170,9 @@ impl BuilderProfile for DevId {
         tbs: &TbsCertificate,
     ) -> Result<Extensions, Error> {
         let subject = &tbs.subject;
-        let mut extensions = Vec::new(alloc);
         let authority = identifier_of(alloc, issuer_spk)?;
-        add_authority(alloc, &mut extensions, subject, authority)?;
+        let mut extensions = Vec::with_capacity(alloc, 3)?;
+        add_authority(alloc, &mut extensions, subject, authority.0)?;
         add_usage(alloc, &mut extensions, subject, signing_usage())?;
         add_alternatives(alloc, &mut extensions, subject, &self.subject_alt_name)?;
         Ok(extensions)

@@ -13,7 +13,9 @@ use crate::error::Error;
 use crate::naming::ca_certificate_naming;
 use crate::uses::authority_usage;
 use std::alloc::Global;
-use x509_cert_anchors::{Extensions, Name, SubjectPublicKeyInfoRef, TbsCertificate};
+use x509_cert_anchors::{
+    Extensions, Name, SubjectKeyIdentifier, SubjectPublicKeyInfoRef, TbsCertificate,
+};
 
 /// The certificate of an authority that signed it itself (CA/Browser Forum, Baseline Requirements 7.1.2.1).
 #[derive(Drop)]
@@ -64,13 +66,32 @@ impl BuilderProfile for Root {
         &self,
         alloc: Global,
         spk: &SubjectPublicKeyInfoRef<'a>,
+        issuer_spk: &SubjectPublicKeyInfoRef<'b>,
+        tbs: &TbsCertificate,
+    ) -> Result<Extensions, Error> {
+        let identifier = identifier_of(alloc, spk)?;
+        let extensions = self.build_identified_extensions(
+            alloc,
+            spk,
+            &identifier,
+            issuer_spk,
+            tbs,
+        )?;
+        Ok(extensions)
+    }
+
+    #[tactic(auto, using(crate::proofs::Encodable::is_digest))]
+    fn build_identified_extensions<'a, 'b>(
+        &self,
+        alloc: Global,
+        _spk: &SubjectPublicKeyInfoRef<'a>,
+        identifier: &SubjectKeyIdentifier,
         _issuer_spk: &SubjectPublicKeyInfoRef<'b>,
         tbs: &TbsCertificate,
     ) -> Result<Extensions, Error> {
         let subject = &tbs.subject;
-        let identifier = identifier_of(alloc, spk)?;
-        let mut extensions = Vec::new(alloc);
-        add_authority(alloc, &mut extensions, subject, identifier.clone(alloc)?)?;
+        let mut extensions = Vec::with_capacity(alloc, 4)?;
+        add_authority(alloc, &mut extensions, subject, identifier.0.clone(alloc)?)?;
         add_constraints(alloc, &mut extensions, subject, true, None)?;
         let usage = authority_usage(self.emits_ocsp_response);
         add_usage(alloc, &mut extensions, subject, usage)?;

@@ -1,11 +1,14 @@
 //! The part of a certificate that is signed, while it is made.
 
-ghost use Rattle.std.specs.Prelude.{◌≡◌};
+ghost use Rattle.std.specs.Prelude.{◌≡◌, ◌⊎◌, IfOk, IfErr};
 ghost use Rattle.der_core_head.specs.Grammar.{plain_option};
 ghost use Rattle.x509_cert_anchors.specs.Certificates.{tbs_inner_algorithm, tbs_plain};
 ghost use Rattle.x509_cert_anchors.specs.Parts.{algorithm_plain, extensions_plain, version_number};
-ghost use Rattle.x509_cert_builders.specs.SignedParts.{bare_part, extensions_in, fields_of, has_any, listed, signed_part, version_of};
+ghost use Rattle.x509_cert_builders.specs.Refusals.{IsWantOfMemory};
+ghost use Rattle.x509_cert_builders.specs.SignedParts.{IsUnwritable, bare_part, extensions_in, fields_of, has_any, listed, part_octets, signed_part, version_of};
 
+use crate::error::Error;
+use der_core::to_der;
 use std::alloc::Global;
 use x509_cert_anchors::{AlgorithmIdentifier, Extensions, TbsCertificate, Version};
 
@@ -49,6 +52,15 @@ pub(crate) fn complete(part: &mut TbsCertificate, extensions: Extensions)
     part.issuer_unique_id = None;
     part.subject_unique_id = None;
     part.extensions = listed(extensions);
+}
+
+/// The octets of a part.
+pub(crate) fn written(alloc: Global, part: &TbsCertificate) -> Result<Vec<u8>, Error>
+    ensures octets { IfOk result (λ v. v.items ≡ part_octets (tbs_plain part.now)) }
+    ensures refused { IfErr result (λ e. IsWantOfMemory e ⊎ IsUnwritable (tbs_plain part.now)) }
+{
+    let octets = to_der(alloc, part)?;
+    Ok(octets)
 }
 
 /// Takes the extensions out of a part again.

@@ -12,7 +12,9 @@ use crate::builder_profile::BuilderProfile;
 use crate::error::Error;
 use crate::uses::authority_usage;
 use std::alloc::Global;
-use x509_cert_anchors::{Extensions, Name, SubjectPublicKeyInfoRef, TbsCertificate};
+use x509_cert_anchors::{
+    Extensions, Name, SubjectKeyIdentifier, SubjectPublicKeyInfoRef, TbsCertificate,
+};
 
 /// The certificate of an authority whose key signs certificates of servers (CA/Browser Forum, Baseline Requirements 7.1.2.6).
 #[derive(Drop)]
@@ -55,10 +57,30 @@ impl BuilderProfile for Subordinate {
         issuer_spk: &SubjectPublicKeyInfoRef<'b>,
         tbs: &TbsCertificate,
     ) -> Result<Extensions, Error> {
+        let identifier = identifier_of(alloc, spk)?;
+        let extensions = self.build_identified_extensions(
+            alloc,
+            spk,
+            &identifier,
+            issuer_spk,
+            tbs,
+        )?;
+        Ok(extensions)
+    }
+
+    #[tactic(auto, using(crate::proofs::Encodable::is_digest))]
+    fn build_identified_extensions<'a, 'b>(
+        &self,
+        alloc: Global,
+        _spk: &SubjectPublicKeyInfoRef<'a>,
+        identifier: &SubjectKeyIdentifier,
+        issuer_spk: &SubjectPublicKeyInfoRef<'b>,
+        tbs: &TbsCertificate,
+    ) -> Result<Extensions, Error> {
         let subject = &tbs.subject;
-        let mut extensions = Vec::new(alloc);
         let authority = identifier_of(alloc, issuer_spk)?;
-        add_authority(alloc, &mut extensions, subject, authority)?;
+        let mut extensions = Vec::with_capacity(alloc, 5)?;
+        add_authority(alloc, &mut extensions, subject, authority.0)?;
         add_constraints(
             alloc,
             &mut extensions,
@@ -68,7 +90,6 @@ impl BuilderProfile for Subordinate {
         )?;
         let usage = authority_usage(self.emits_ocsp_response);
         add_usage(alloc, &mut extensions, subject, usage)?;
-        let identifier = identifier_of(alloc, spk)?;
         add_identifier(alloc, &mut extensions, subject, identifier)?;
         add_purposes(alloc, &mut extensions, subject, self.client_auth)?;
         Ok(extensions)

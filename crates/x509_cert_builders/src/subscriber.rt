@@ -99,9 +99,9 @@ impl BuilderProfile for Subscriber {
         tbs: &TbsCertificate,
     ) -> Result<Extensions, Error> {
         let subject = &tbs.subject;
-        let mut extensions = Vec::new(alloc);
         let authority = identifier_of(alloc, issuer_spk)?;
-        add_authority(alloc, &mut extensions, subject, authority)?;
+        let mut extensions = Vec::with_capacity(alloc, 4)?;
+        add_authority(alloc, &mut extensions, subject, authority.0)?;
         add_purposes(alloc, &mut extensions, subject, self.client_auth)?;
         add_constraints(alloc, &mut extensions, subject, false, None)?;
         let usage = self.usage(spk);

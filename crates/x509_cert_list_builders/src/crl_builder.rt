@@ -18,7 +18,6 @@ ghost use Rattle.x509_cert_list_builders.specs.States.{algorithm_of_last, list_o
 use crate::copies::{copies_of_entries, copies_of_extensions};
 use crate::laws::signed_part_stands_in_place;
 use der_core::{ErrorKind, to_der};
-use rand_core::CryptoRng;
 use std::alloc::Global;
 use std::marker::Model;
 use x509_cert_builders::types::{
@@ -249,24 +248,5 @@ impl<P: Profile> Builder for CrlBuilder<P> {
             signature_algorithm,
             signature,
         })
-    }
-
-    fn build<S: Signer>(mut self, alloc: Global, signer: &S) -> Result<CertificateList<P>, Error> {
-        let octets = self.finalize(alloc, signer)?;
-        let signature = signer.sign(alloc, octets.as_slice())?;
-        let list = self.assemble(alloc, signature, signer)?;
-        Ok(list)
-    }
-
-    fn build_with_rng<S: Signer, R: CryptoRng>(
-        mut self,
-        alloc: Global,
-        signer: &S,
-        rng: &mut R,
-    ) -> Result<CertificateList<P>, Error> {
-        let octets = self.finalize(alloc, signer)?;
-        let signature = signer.sign_with_rng(alloc, rng, octets.as_slice())?;
-        let list = self.assemble(alloc, signature, signer)?;
-        Ok(list)
     }
 }

@@ -16,7 +16,6 @@ use crate::copies::{copies_of_attributes, copies_of_extensions};
 use crate::laws::signed_part_stands_in_place;
 use crate::members::{place_of, stands_among};
 use der_core::{ErrorKind, InRange, InRangeValue, StrictSetOf, to_der};
-use rand_core::CryptoRng;
 use std::alloc::Global;
 use std::marker::Model;
 use x509_cert_builders::types::request::Version;
@@ -190,24 +189,5 @@ impl Builder for RequestBuilder {
             algorithm,
             signature,
         })
-    }
-
-    fn build<S: Signer>(mut self, alloc: Global, signer: &S) -> Result<CertReq, Error> {
-        let octets = self.finalize(alloc, signer)?;
-        let signature = signer.sign(alloc, octets.as_slice())?;
-        let request = self.assemble(alloc, signature, signer)?;
-        Ok(request)
-    }
-
-    fn build_with_rng<S: Signer, R: CryptoRng>(
-        mut self,
-        alloc: Global,
-        signer: &S,
-        rng: &mut R,
-    ) -> Result<CertReq, Error> {
-        let octets = self.finalize(alloc, signer)?;
-        let signature = signer.sign_with_rng(alloc, rng, octets.as_slice())?;
-        let request = self.assemble(alloc, signature, signer)?;
-        Ok(request)
     }
 }
