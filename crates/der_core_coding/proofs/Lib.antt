@@ -6,3 +6,4 @@ mod HeadersWritten
 mod Puts
 mod Encodable
 mod Fronts
+mod Ruled

@@ -4,8 +4,8 @@ ghost use Rattle.std.specs.Prelude.{◌≡◌, OnErr, true};
 ghost use Rattle.der_core_head.specs.declared.tag_mode.TagMode.TheVariants as modes;
 ghost use Rattle.der_core_head.specs.Tags.{context, implicit_tag};
 ghost use Rattle.der_core_head.specs.Shapes.{nested, only, optional, tagged};
-ghost use Rattle.der_core_head.specs.Grammar.{read, read_content, value_at, plain_option};
-ghost use Rattle.der_core_head.specs.Reading.{Reads};
+ghost use Rattle.der_core_head.specs.Grammar.{value_at, plain_option};
+ghost use Rattle.der_core_head.specs.Reading.{Reads, read_at, read_content_at};
 
 use der_core_head::{Error, Header, Tag, TagMode, TagNumber, is_constructed, is_same_tag};
 use der_core_octets::Reader;
@@ -20,7 +20,7 @@ pub fn decode<'a, R: Reader<'a>, T: Decode<'a, R>>(
     alloc: Global,
     reader: &mut R,
 ) -> Result<T, Error>
-    ensures reads { Reads T.plain (R.state reader.old) (R.state reader.new) result (read T.shape (R.state reader.old).room) }
+    ensures reads { Reads T.plain (R.state reader.old) (R.state reader.new) result (read_at (R.state reader.old) T.shape) }
     ensures refused { OnErr result ((R.state reader.new).failed ≡ true) }
 {
     let value = T::decode(alloc, reader)?;
@@ -33,7 +33,7 @@ fn read_only<'a, R: Reader<'a>, T: Decode<'a, R>>(
     reader: &mut R,
     header: Header,
 ) -> Result<T, Error>
-    ensures { Reads T.plain (R.state reader.old) (R.state reader.new) result (value_at (read_content (nested (only T.shape)) header.tag (R.state reader.old).room) header.length.value) }
+    ensures { Reads T.plain (R.state reader.old) (R.state reader.new) result (value_at (read_content_at (R.state reader.old) (nested (only T.shape)) header.tag) header.length.value) }
 {
     let behind = reader.begin_nested(header.length)?;
     match T::decode(alloc, reader) {
@@ -59,7 +59,7 @@ pub fn read_explicit<'a, R: Reader<'a>, T: Decode<'a, R>>(
     reader: &mut R,
     tag: Tag,
 ) -> Result<T, Error>
-    ensures { Reads T.plain (R.state reader.old) (R.state reader.new) result (read (tagged tag (nested (only T.shape))) (R.state reader.old).room) }
+    ensures { Reads T.plain (R.state reader.old) (R.state reader.new) result (read_at (R.state reader.old) (tagged tag (nested (only T.shape)))) }
 {
     let header = reader.read_header_of(tag)?;
     read_only(alloc, reader, header)
@@ -72,7 +72,7 @@ fn read_implicit<'a, R: Reader<'a>, T: DecodeValue<'a, R>>(
     reader: &mut R,
     tag: Tag,
 ) -> Result<T, Error>
-    ensures { Reads T.value_plain (R.state reader.old) (R.state reader.new) result (read (tagged tag T.content) (R.state reader.old).room) }
+    ensures { Reads T.value_plain (R.state reader.old) (R.state reader.new) result (read_at (R.state reader.old) (tagged tag T.content)) }
 {
     let header = reader.read_header_of(tag)?;
     T::decode_value(alloc, reader, header)
@@ -88,7 +88,7 @@ pub fn optional_explicit<'a, R: Reader<'a>, T: Decode<'a, R>>(
     reader: &mut R,
     tag: Tag,
 ) -> Result<Option<T>, Error>
-    ensures { Reads (plain_option T.plain) (R.state reader.old) (R.state reader.new) result (read (optional (tagged tag (nested (only T.shape)))) (R.state reader.old).room) }
+    ensures { Reads (plain_option T.plain) (R.state reader.old) (R.state reader.new) result (read_at (R.state reader.old) (optional (tagged tag (nested (only T.shape))))) }
 {
     let Some(first) = reader.next_tag_or_end()? else {
         return Ok(None);
@@ -110,7 +110,7 @@ pub fn optional_implicit<'a, R: Reader<'a>, T: DecodeValue<'a, R>>(
     reader: &mut R,
     tag: Tag,
 ) -> Result<Option<T>, Error>
-    ensures { Reads (plain_option T.value_plain) (R.state reader.old) (R.state reader.new) result (read (optional (tagged tag T.content)) (R.state reader.old).room) }
+    ensures { Reads (plain_option T.value_plain) (R.state reader.old) (R.state reader.new) result (read_at (R.state reader.old) (optional (tagged tag T.content))) }
 {
     let Some(first) = reader.next_tag_or_end()? else {
         return Ok(None);
@@ -133,9 +133,9 @@ pub fn context_specific<'a, R: Reader<'a>, T: DecodeValue<'a, R> + FixedTag>(
     tag_mode: TagMode,
 ) -> Result<Option<T>, Error>
     ensures explicit { tag_mode ≡ modes.Explicit → Reads (plain_option T.value_plain) (R.state reader.old) (R.state reader.new) result
-        (read (optional (tagged (context true tag_number.value) (nested (only (tagged T.fixed_tag T.content))))) (R.state reader.old).room) }
+        (read_at (R.state reader.old) (optional (tagged (context true tag_number.value) (nested (only (tagged T.fixed_tag T.content)))))) }
     ensures implicit { tag_mode ≡ modes.Implicit → Reads (plain_option T.value_plain) (R.state reader.old) (R.state reader.new) result
-        (read (optional (tagged (implicit_tag tag_number.value T.fixed_tag) T.content)) (R.state reader.old).room) }
+        (read_at (R.state reader.old) (optional (tagged (implicit_tag tag_number.value T.fixed_tag) T.content))) }
 {
     let number = tag_number;
     match tag_mode {

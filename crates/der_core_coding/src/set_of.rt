@@ -4,13 +4,13 @@ ghost use Rattle.std.specs.Prelude.{◌≡◌};
 ghost use Rattle.std.specs.Ordering.{nat_cmp};
 ghost use Rattle.std.specs.Cmp.Lexicographic.{slice_cmp};
 ghost use Rattle.der_core_head.specs.Shapes.{above, rising};
-ghost use Rattle.der_core_head.specs.Grammar.{read_body, plain_list, follows_last};
-ghost use Rattle.der_core_head.specs.Reading.{Reads};
+ghost use Rattle.der_core_head.specs.Grammar.{plain_list, follows_last};
+ghost use Rattle.der_core_head.specs.Reading.{Reads, IsDer, read_body_at};
 ghost use Rattle.der_core_octets.specs.Fronts.{octets_at};
 ghost use Rattle.der_core_head.specs.Reading.{Gives};
 
 use crate::sliced::decode_sliced;
-use der_core_head::{Error, ErrorKind, Length};
+use der_core_head::{EncodingRules, Error, ErrorKind, Length};
 use der_core_octets::Reader;
 use der_core_values::{Decode, Member};
 use std::alloc::Global;
@@ -33,16 +33,16 @@ fn check_follows(last: Option<&[u8]>, octets: &[u8], place: Length) -> Result<()
     }
 }
 
-/// Reads values up to the end, each of whose encodings is above the one before.
+/// Reads values up to the end by DER, each of whose encodings is above the one before.
 ///
 /// # Errors
-/// The first fault of a value, `SetDuplicate` or `SetOrdering` where it stands wrong, or
-/// `OutOfMemory`; `Failed` where the reader failed before.
-pub fn read_rising<'a, R: Reader<'a>, T: Decode<'a, R> + Member>(
+/// Those of `read_rising`.
+fn read_rising_by_der<'a, R: Reader<'a>, T: Decode<'a, R> + Member>(
     alloc: Global,
     reader: &mut R,
 ) -> Result<Vec<T>, Error>
-    ensures { Reads (λ v. plain_list T.plain v.items) (R.state reader.old) (R.state reader.new) result (read_body (rising T.shape) (R.state reader.old).room) }
+    requires { IsDer (R.state reader.old) }
+    ensures { Reads (λ v. plain_list T.plain v.items) (R.state reader.old) (R.state reader.new) result (read_body_at (R.state reader.old) (rising T.shape)) }
 {
     if reader.is_failed() {
         return Err(Error::from(ErrorKind::Failed));
@@ -85,4 +85,25 @@ pub fn read_rising<'a, R: Reader<'a>, T: Decode<'a, R> + Member>(
         reader.fail();
         Err(Error::from(ErrorKind::TrailingData))
     }
+}
+
+/// Reads values up to the end, each of whose encodings is above the one before.
+///
+/// That encodings rise is a rule of DER (X.690 11.6), and so the values are read by DER, whatever the rules
+/// of the reader.
+///
+/// # Errors
+/// The first fault of a value, `SetDuplicate` or `SetOrdering` where it stands wrong, or
+/// `OutOfMemory`; `Failed` where the reader failed before.
+pub fn read_rising<'a, R: Reader<'a>, T: Decode<'a, R> + Member>(
+    alloc: Global,
+    reader: &mut R,
+) -> Result<Vec<T>, Error>
+    ensures { Reads (λ v. plain_list T.plain v.items) (R.state reader.old) (R.state reader.new) result (read_body_at (R.state reader.old) (rising T.shape)) }
+{
+    let rules = reader.encoding_rules();
+    reader.set_encoding_rules(EncodingRules::Der);
+    let values = read_rising_by_der(alloc, reader);
+    reader.set_encoding_rules(rules);
+    values
 }

@@ -126,6 +126,10 @@ impl<'r> Reader<'r> for SliceReader<'r> {
         self.encoding
     }
 
+    fn set_encoding_rules(&mut self, encoding_rules: EncodingRules) {
+        self.encoding = encoding_rules;
+    }
+
     fn input_len(&self) -> Length {
         Length {
             value: self.bytes.len() as u32,

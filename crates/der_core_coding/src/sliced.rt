@@ -2,8 +2,7 @@
 
 ghost use Rattle.std.specs.Prelude.{◌≡◌, IfOk};
 ghost use Rattle.der_core_head.specs.Shapes.{octets_of};
-ghost use Rattle.der_core_head.specs.Grammar.{read};
-ghost use Rattle.der_core_head.specs.Reading.{Reads, IsDer};
+ghost use Rattle.der_core_head.specs.Reading.{Reads, IsDer, read_at};
 
 use der_core_head::Error;
 use der_core_octets::Reader;
@@ -19,7 +18,7 @@ pub fn decode_sliced<'a, R: Reader<'a>, T: Decode<'a, R> + Member>(
     alloc: Global,
     reader: &mut R,
 ) -> Result<(T, &'a [u8]), Error>
-    ensures reads { Reads (λ x. T.plain x.0) (R.state reader.old) (R.state reader.new) result (read T.shape (R.state reader.old).room) }
+    ensures reads { Reads (λ x. T.plain x.0) (R.state reader.old) (R.state reader.new) result (read_at (R.state reader.old) T.shape) }
     ensures octets { IsDer (R.state reader.old) → IfOk result (λ x. x.1.now ≡ octets_of T.shape (T.plain x.0)) }
 {
     let before = reader.remaining();

@@ -1,11 +1,12 @@
 //! Reading of all octets.
 
-ghost use Rattle.std.specs.Prelude.{◌≡◌, ◌≤◌, ◌<◌, ◌^◌, ◌++◌, ℕ, List, length, [], true, Ok, IfOk, IsErrAnd};
+ghost use Rattle.std.specs.Prelude.{◌≡◌, ◌<◌, ◌^◌, ◌++◌, ℕ, List, length, [], true, Ok, IfOk};
 ghost use Rattle.der_core_head.specs.Shapes.{Value, Spells, IsValid, octets_of};
 ghost use Rattle.der_core_head.specs.Spelling.{is_apart, is_element, are_enough};
 ghost use Rattle.der_core_head.specs.Grammar.{whole_at};
 ghost use Rattle.der_core_head.specs.Reading.{Gives};
 ghost use Rattle.der_core_octets.specs.Fronts.{front_at};
+ghost use Rattle.der_core_coding.specs.Wholes.{whole_ber_at};
 
 use crate::slice_reader::SliceReader;
 use der_core_head::{EncodingRules, Error, ErrorKind};
@@ -85,16 +86,17 @@ fn read_front<'a, T: Decode<'a, SliceReader<'a>>>(
 
 /// The value that octets under BER spell, all of the octets (X.690 8).
 ///
-/// Headers are read by BER, contents as under DER: what the value is isn't promised.
+/// Headers are read by BER, contents as under DER.
 ///
 /// # Errors
-/// `Overflow` for 2^32 octets or more; a fault, `TrailingData` where octets are left behind the
-/// value, or `OutOfMemory`.
+/// `Overflow` for 2^32 octets or more, else the first fault from the left, `TrailingData` where
+/// octets are left behind the value, or `OutOfMemory`.
+#[tactic(auto, unfolding(crate::specs::Wholes::whole_ber_at))]
 pub fn from_ber<'a, T: Decode<'a, SliceReader<'a>>>(
     alloc: Global,
     bytes: &'a [u8],
 ) -> Result<T, Error>
-    ensures too_long { 2 ^ 32 ≤ length bytes.now → IsErrAnd result (λ e. e.kind ≡ ErrorKind.Overflow) }
+    ensures { Gives (λ v. (T.plain v, [])) result (whole_ber_at T.shape bytes.now) }
 {
     let mut reader = SliceReader::new_with_encoding_rules(bytes, EncodingRules::Ber)?;
     let value = T::decode(alloc, &mut reader)?;

@@ -10,6 +10,7 @@ use Rattle.std.proofs.lemmas.Slice.Eq.{bytes_eq-Decides}
 use Rattle.std.specs.Ordering.{nat_cmp}
 use Rattle.std.specs.declared.cmp.Ordering.TheVariants.{Less}
 use Rattle.std.specs.Cmp.Lexicographic.{slice_cmp}
+use Rattle.der_core_head.specs.declared.encoding_rules.EncodingRules.TheVariants as encodings
 use Rattle.der_core_head.specs.declared.error.ErrorKind.{ErrorKind}
 use Rattle.der_core_head.specs.declared.error.ErrorKind.TheVariants as kinds
 use Rattle.der_core_head.specs.declared.tag.Tag.{Tag}
@@ -30,17 +31,17 @@ value_again : {P : Type 0} (F : Readings P) (c r : List ℕ) (p : P) → F c ≡
 value_again F c r p e =
     value_enough F (length c) (c ++ r) (omega (arith, length-append c r)) ∙ (rw (take_at c r (length c) refl, drop_at c r (length c) refl, e) refl)
 
-tlv_again : {P : Type 0} (t : Tag) (F : Readings P) (c r : List ℕ) (v : P) → IsTag t → Fits (tlv t c) → F c ≡ Ok (v, []) → tlv_at t F (tlv t c ++ r) ≡ Ok (v, r)
+tlv_again : {P : Type 0} (t : Tag) (F : Readings P) (c r : List ℕ) (v : P) → IsTag t → Fits (tlv t c) → F c ≡ Ok (v, []) → tlv_at encodings.Der t F (tlv t c ++ r) ≡ Ok (v, r)
 unfolding tlv_at tlv
 tlv_again t F c r v k h e =
-    ap (tlv_at t F) (append_assoc (head_octets t (length c)) c r) ∙ rw (head_again t (length c) (c ++ r) k (fits_contents t c h), same_tag-refl t) (value_again F c r v e)
+    ap (tlv_at encodings.Der t F) (append_assoc (head_octets t (length c)) c r) ∙ rw (head_again t (length c) (c ++ r) k (fits_contents t c h), same_tag-refl t) (value_again F c r v e)
 
-any_again : (v : AnyValue) (r : List ℕ) → IsTag v.tag → Fits (tlv v.tag v.contents) → any_at (tlv v.tag v.contents ++ r) ≡ Ok (v, r)
+any_again : (v : AnyValue) (r : List ℕ) → IsTag v.tag → Fits (tlv v.tag v.contents) → any_at encodings.Der (tlv v.tag v.contents ++ r) ≡ Ok (v, r)
 unfolding any_at tlv
 any_again v r k h =
     let s : slice_at (length v.contents) (v.contents ++ r) ≡ Ok (v.contents, r) =
     slice_ok (length v.contents) (v.contents ++ r) (omega (arith, length-append v.contents r)) ∙ rw (take_at v.contents r (length v.contents) refl, drop_at v.contents r (length v.contents) refl) refl in
-    ap any_at (append_assoc (head_octets v.tag (length v.contents)) v.contents r) ∙ rw (head_again v.tag (length v.contents) (v.contents ++ r) k (fits_contents v.tag v.contents h), s) refl
+    ap (any_at encodings.Der) (append_assoc (head_octets v.tag (length v.contents)) v.contents r) ∙ rw (head_again v.tag (length v.contents) (v.contents ++ r) k (fits_contents v.tag v.contents h), s) refl
 
 -- a value with a header begins with its tag
 pub tlv_first : (t : Tag) (c : List ℕ) → (w : List ℕ) × (tlv t c ≡ tag_octets t ++ w)
@@ -129,16 +130,16 @@ body_first (in_order how s) (x ∷ xs) a h =
     inr (first_more (begins s) (octets_of s x) (flat_map (octets_of s) xs) (element_first s x p.0 h.0.0))
 
 -- what the next tag is, if one stands
-pub peek_again : (t : Tag) (r : List ℕ) → IsTag t → peek_at (tag_octets t ++ r) ≡ Ok (Some t)
+pub peek_again : (t : Tag) (r : List ℕ) → IsTag t → peek_at encodings.Der (tag_octets t ++ r) ≡ Ok (Some t)
 peek_again t r h =
     let f = tag_octets-some t in
     let is : tag_octets t ++ r ≡ f.0 ∷ (f.1 ++ r) = ap (λ (x : List ℕ). x ++ r) f.2 in
     let e : tag_at (f.0 ∷ (f.1 ++ r)) ≡ Ok (t, r) = ap tag_at (sym is) ∙ tag_again t r h in
-    ap peek_at is ∙ rw e refl
+    ap (peek_at encodings.Der) is ∙ rw e refl
 
 -- octets that may follow: none, or those of a tag that isn't one of these
 abbrev pub StopsBefore : (Tag → Bool) → List ℕ → Type 0
-StopsBefore first r = (t : Option Tag) × (peek_at r ≡ Ok t) × (chosen first t ≡ None)
+StopsBefore first r = (t : Option Tag) × (peek_at encodings.Der r ≡ Ok t) × (chosen first t ≡ None)
 
 abbrev pub Stops : Shape → List ℕ → Type 0
 Stops s r = is_element s ≡ false → StopsBefore (begins s) r
@@ -191,28 +192,28 @@ next_stops s b v c a h =
       ]
     ]
 
-opt_none : {P : Type 0} (first : Tag → Bool) (F : Readings P) (r : List ℕ) → StopsBefore first r → opt_at first F r ≡ Ok (None, r)
+opt_none : {P : Type 0} (first : Tag → Bool) (F : Readings P) (r : List ℕ) → StopsBefore first r → opt_at encodings.Der first F r ≡ Ok (None, r)
 unfolding opt_at
 opt_none first F r h = rw (h.1, h.2) refl
 
 -- a value of one of the first tags is read where it stands
-opt_some : {P : Type 0} (first : Tag → Bool) (F : Readings P) (b : List ℕ) (x : P) (r : List ℕ) → StandsFirst first b → F b ≡ Ok (x, r) → opt_at first F b ≡ Ok (Some x, r)
+opt_some : {P : Type 0} (first : Tag → Bool) (F : Readings P) (b : List ℕ) (x : P) (r : List ℕ) → StandsFirst first b → F b ≡ Ok (x, r) → opt_at encodings.Der first F b ≡ Ok (Some x, r)
 unfolding opt_at
-opt_some first F b x r f e = rw (ap peek_at f.2 ∙ peek_again f.0 f.1 f.3, f.4, e) refl
+opt_some first F b x r f e = rw (ap (peek_at encodings.Der) f.2 ∙ peek_again f.0 f.1 f.3, f.4, e) refl
 
-default_none : {P : Type 0} (first : Tag → Bool) (D : Result (P × List ℕ) ErrorKind) (is : P → Bool) (F : Readings P) (v : P) (r : List ℕ) → StopsBefore first r → D ≡ Ok (v, []) → default_at first D is F r ≡ Ok (v, r)
+default_none : {P : Type 0} (first : Tag → Bool) (D : Result (P × List ℕ) ErrorKind) (is : P → Bool) (F : Readings P) (v : P) (r : List ℕ) → StopsBefore first r → D ≡ Ok (v, []) → default_at encodings.Der first D is F r ≡ Ok (v, r)
 unfolding default_at
 default_none first D is F v r h e = rw (h.1, h.2, e) refl
 
-default_some : {P : Type 0} (first : Tag → Bool) (D : Result (P × List ℕ) ErrorKind) (is : P → Bool) (F : Readings P) (b : List ℕ) (v : P) (r : List ℕ) → StandsFirst first b → F b ≡ Ok (v, r) → is v ≡ false → default_at first D is F b ≡ Ok (v, r)
+default_some : {P : Type 0} (first : Tag → Bool) (D : Result (P × List ℕ) ErrorKind) (is : P → Bool) (F : Readings P) (b : List ℕ) (v : P) (r : List ℕ) → StandsFirst first b → F b ≡ Ok (v, r) → is v ≡ false → default_at encodings.Der first D is F b ≡ Ok (v, r)
 unfolding default_at
-default_some first D is F b v r f e n = rw (ap peek_at f.2 ∙ peek_again f.0 f.1 f.3, f.4, e, n) refl
+default_some first D is F b v r f e n = rw (ap (peek_at encodings.Der) f.2 ∙ peek_again f.0 f.1 f.3, f.4, e, n) refl
 
-left_again : {P Q : Type 0} (a b : Tag → Bool) (F : Readings P) (G : Readings Q) (w : List ℕ) (x : P) (r : List ℕ) → StandsFirst a w → F w ≡ Ok (x, r) → either_at a b F G w ≡ Ok (inl x, r)
+left_again : {P Q : Type 0} (a b : Tag → Bool) (F : Readings P) (G : Readings Q) (w : List ℕ) (x : P) (r : List ℕ) → StandsFirst a w → F w ≡ Ok (x, r) → either_at encodings.Der a b F G w ≡ Ok (inl x, r)
 unfolding either_at
 left_again a b F G w x r f e = rw (ap tag_at f.2 ∙ tag_again f.0 f.1 f.3, f.4, e) refl
 
-right_again : {P Q : Type 0} (a b : Tag → Bool) (F : Readings P) (G : Readings Q) (w : List ℕ) (x : Q) (r : List ℕ) → (f : StandsFirst b w) → a f.0 ≡ false → G w ≡ Ok (x, r) → either_at a b F G w ≡ Ok (inr x, r)
+right_again : {P Q : Type 0} (a b : Tag → Bool) (F : Readings P) (G : Readings Q) (w : List ℕ) (x : Q) (r : List ℕ) → (f : StandsFirst b w) → a f.0 ≡ false → G w ≡ Ok (x, r) → either_at encodings.Der a b F G w ≡ Ok (inr x, r)
 unfolding either_at
 right_again a b F G w x r f n e = rw (ap tag_at f.2 ∙ tag_again f.0 f.1 f.3, n, f.4, e) refl
 
@@ -286,7 +287,7 @@ none_behind how o (x ∷ xs) = tt
 
 default_again : (s : Shape) (d : List ℕ) (room : ℕ) (v : Value s) (r : List ℕ) (b : Bool) → bytes_eq (octets_of s v) d ≡ b → StopsBefore (begins s) r → Begins s (octets_of s v)
     → read s room (octets_of s v ++ r) ≡ Ok (v, r) → read s 64 (octets_of s v ++ []) ≡ Ok (v, [])
-    → default_at (begins s) (read s 64 d) (λ v. bytes_eq (octets_of s v) d) (read s room) (unless b (octets_of s v) ++ r) ≡ Ok (v, r)
+    → default_at encodings.Der (begins s) (read s 64 d) (λ v. bytes_eq (octets_of s v) d) (read s room) (unless b (octets_of s v) ++ r) ≡ Ok (v, r)
 unfolding unless
 default_again s d room v r true is stops f now at =
     let same : octets_of s v ++ [] ≡ d = append-nil (octets_of s v) ∙ (bytes_eq-Decides (octets_of s v) d).0 is in

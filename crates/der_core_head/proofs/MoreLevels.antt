@@ -1,6 +1,7 @@
 -- What is read with fewer levels is read alike with more.
 use Rattle.std.proofs.Common.{◌≡◌, ℕ, zero, suc, ◌≤◌, Bool, true, false, cond, ltb, List, [], ◌∷◌, length, take, drop, Option, Some, None, Result, Ok, Err, ap, ◌∙◌, arith, inl, inr, ◌⊎◌}
 use Rattle.std.specs.Str.{bytes_eq}
+use Rattle.der_core_head.specs.declared.encoding_rules.EncodingRules.TheVariants as encodings
 use Rattle.der_core_head.specs.declared.error.ErrorKind.{ErrorKind}
 use Rattle.der_core_head.specs.declared.error.ErrorKind.TheVariants as kinds
 use Rattle.der_core_head.specs.declared.tag.Tag.{Tag}
@@ -35,29 +36,29 @@ value_more F G n h w x e =
     unless_more (ltb (length w) n) (F (take n w) >>= whole >>= λ x. Ok (x.0, drop n w)) (G (take n w) >>= whole >>= λ x. Ok (x.0, drop n w)) (Err kinds.Incomplete) x
     (before_more (F (take n w) >>= whole) (G (take n w) >>= whole) (λ x. Ok (x.0, drop n w)) x (λ y. before_more (F (take n w)) (G (take n w)) whole y (h (take n w)))) e
 
-tlv_more : {P : Type 0} (t : Tag) (F G : Readings P) → Extends F G → Extends (tlv_at t F) (tlv_at t G)
+tlv_more : {P : Type 0} (t : Tag) (F G : Readings P) → Extends F G → Extends (tlv_at encodings.Der t F) (tlv_at encodings.Der t G)
 unfolding tlv_at
 tlv_more t F G h w x e =
     then_more (head_at w) (λ h. cond (same_tag h.0.tag t) (value_at F h.0.len h.1) (Err kinds.TagUnexpected)) (λ h. cond (same_tag h.0.tag t) (value_at G h.0.len h.1) (Err kinds.TagUnexpected)) x
     (λ y. if_more (same_tag y.0.tag t) (value_at F y.0.len y.1) (value_at G y.0.len y.1) (Err kinds.TagUnexpected) x (value_more F G y.0.len h y.1 x)) e
 
-opt_more : {P : Type 0} (first : Tag → Bool) (F G : Readings P) → Extends F G → Extends (opt_at first F) (opt_at first G)
+opt_more : {P : Type 0} (first : Tag → Bool) (F G : Readings P) → Extends F G → Extends (opt_at encodings.Der first F) (opt_at encodings.Der first G)
 unfolding opt_at
-opt_more {P} first F G h w x e = then_more (peek_at w) (λ t. opt_after F w (chosen first t)) (λ t. opt_after G w (chosen first t)) x (λ t. after (chosen first t)) e
+opt_more {P} first F G h w x e = then_more (peek_at encodings.Der w) (λ t. opt_after F w (chosen first t)) (λ t. opt_after G w (chosen first t)) x (λ t. after (chosen first t)) e
   where
     after : (o : Option Tag) → opt_after F w o ≡ Ok x → opt_after G w o ≡ Ok x
     after None e = e
     after (Some t) e = before_more (F w) (G w) (λ x. Ok (Some x.0, x.1)) x (h w) e
 
-default_more : {P : Type 0} (first : Tag → Bool) (d : Result (P × List ℕ) ErrorKind) (is : P → Bool) (F G : Readings P) → Extends F G → Extends (default_at first d is F) (default_at first d is G)
+default_more : {P : Type 0} (first : Tag → Bool) (d : Result (P × List ℕ) ErrorKind) (is : P → Bool) (F G : Readings P) → Extends F G → Extends (default_at encodings.Der first d is F) (default_at encodings.Der first d is G)
 unfolding default_at
-default_more {P} first d is F G h w x e = then_more (peek_at w) (λ t. default_after d is F w (chosen first t)) (λ t. default_after d is G w (chosen first t)) x (λ t. after (chosen first t)) e
+default_more {P} first d is F G h w x e = then_more (peek_at encodings.Der w) (λ t. default_after d is F w (chosen first t)) (λ t. default_after d is G w (chosen first t)) x (λ t. after (chosen first t)) e
   where
     after : (o : Option Tag) → default_after d is F w o ≡ Ok x → default_after d is G w o ≡ Ok x
     after None e = e
     after (Some t) e = before_more (F w) (G w) (λ x. cond (is x.0) (Err (kinds.Noncanonical t)) (Ok x)) x (h w) e
 
-either_more : {P Q : Type 0} (a b : Tag → Bool) (F H : Readings P) (G K : Readings Q) → Extends F H → Extends G K → Extends (either_at a b F G) (either_at a b H K)
+either_more : {P Q : Type 0} (a b : Tag → Bool) (F H : Readings P) (G K : Readings Q) → Extends F H → Extends G K → Extends (either_at encodings.Der a b F G) (either_at encodings.Der a b H K)
 unfolding either_at
 either_more {P} {Q} a b F H G K h k w x e =
     let left : Readings P → Result ((P ⊎ Q) × List ℕ) ErrorKind = λ F. F w >>= λ x. Ok (inl x.0, x.1) in

@@ -11,6 +11,7 @@ use Rattle.std.specs.Ordering.{nat_cmp}
 use Rattle.std.specs.declared.cmp.Ordering.{Ordering}
 use Rattle.std.specs.declared.cmp.Ordering.TheVariants.{Less, Equal, Greater}
 use Rattle.std.specs.Cmp.Lexicographic.{slice_cmp}
+use Rattle.der_core_head.specs.declared.encoding_rules.EncodingRules.TheVariants as encodings
 use Rattle.der_core_head.specs.declared.error.ErrorKind.{ErrorKind}
 use Rattle.der_core_head.specs.declared.error.ErrorKind.TheVariants as kinds
 use Rattle.der_core_head.specs.declared.tag.Tag.{Tag}
@@ -62,7 +63,7 @@ tlv_is : (t : Tag) (n : ℕ) (c r rest w : List ℕ) → w ≡ head_octets t n +
 unfolding tlv
 tlv_is t n c r rest w e l s = joined (head_octets t (length c)) c r rest w (e ∙ ap (λ k. head_octets t k ++ rest) (sym l)) s
 
-tlv_sound : {P : Type 0} (t : Tag) (F : Readings P) (w : List ℕ) (p : P) (r : List ℕ) → IsBytes w → Fits w → tlv_at t F w ≡ Ok (p, r)
+tlv_sound : {P : Type 0} (t : Tag) (F : Readings P) (w : List ℕ) (p : P) (r : List ℕ) → IsBytes w → Fits w → tlv_at encodings.Der t F w ≡ Ok (p, r)
     → (c : List ℕ) × IsBytes c × (F c ≡ Ok (p, [])) × IsTag t × Fits (tlv t c) × (w ≡ tlv t c ++ r)
 unfolding tlv_at
 tlv_sound t F w p r bytes fits e =
@@ -81,7 +82,7 @@ tlv_sound t F w p r bytes fits e =
 bytes_front : (u r w : List ℕ) → w ≡ u ++ r → IsBytes w → IsBytes u
 bytes_front u r w e h = subst IsBytes (ap (take (length u)) e ∙ take_at u r (length u) refl) (bytes_take (length u) w h)
 
-any_sound : (w : List ℕ) (v : AnyValue) (r : List ℕ) → IsBytes w → Fits w → any_at w ≡ Ok (v, r)
+any_sound : (w : List ℕ) (v : AnyValue) (r : List ℕ) → IsBytes w → Fits w → any_at encodings.Der w ≡ Ok (v, r)
     → IsOctets v.contents × IsTag v.tag × Fits (tlv v.tag v.contents) × (w ≡ tlv v.tag v.contents ++ r)
 unfolding any_at
 any_sound w v r bytes fits e =
@@ -95,10 +96,10 @@ any_sound w v r bytes fits e =
     let P : AnyValue × List ℕ → Type 0 = λ q. IsOctets q.0.contents × IsTag q.0.tag × Fits (tlv q.0.tag q.0.contents) × (w ≡ tlv q.0.tag q.0.contents ++ q.1) in
     subst P (ok_is made (v, r) x.2) (octets_are x.0.0 front, hd.1, fits_front (tlv h.0.0.tag x.0.0) x.0.1 w is fits, is)
 
-opt_sound : {P : Type 0} (first : Tag → Bool) (F : Readings P) (w : List ℕ) (p : Option P) (r : List ℕ) → opt_at first F w ≡ Ok (p, r)
+opt_sound : {P : Type 0} (first : Tag → Bool) (F : Readings P) (w : List ℕ) (p : Option P) (r : List ℕ) → opt_at encodings.Der first F w ≡ Ok (p, r)
     → ((p ≡ None) × (w ≡ r)) ⊎ ((x : P) × (p ≡ Some x) × (F w ≡ Ok (x, r)))
 unfolding opt_at
-opt_sound {P} first F w p r e = let t = bind_ok (peek_at w) (λ t. opt_after F w (chosen first t)) (p, r) e in after (chosen first t.0) t.2
+opt_sound {P} first F w p r e = let t = bind_ok (peek_at encodings.Der w) (λ t. opt_after F w (chosen first t)) (p, r) e in after (chosen first t.0) t.2
   where
     after : (o : Option Tag) → opt_after F w o ≡ Ok (p, r) → ((p ≡ None) × (w ≡ r)) ⊎ ((x : P) × (p ≡ Some x) × (F w ≡ Ok (x, r)))
     after None e = let same = ok_is (None, w) (p, r) e in inl (sym (ap (λ (q : Option P × List ℕ). q.0) same), ap (λ (q : Option P × List ℕ). q.1) same)
@@ -107,10 +108,10 @@ opt_sound {P} first F w p r e = let t = bind_ok (peek_at w) (λ t. opt_after F w
         let same = ok_is (Some x.0.0, x.0.1) (p, r) x.2 in
         inr (x.0.0, sym (ap (λ (q : Option P × List ℕ). q.0) same), x.1 ∙ ap (λ (q : Option P × List ℕ). Ok (x.0.0, q.1)) same)
 
-default_sound : {P : Type 0} (first : Tag → Bool) (D : Result (P × List ℕ) ErrorKind) (is : P → Bool) (F : Readings P) (w : List ℕ) (v : P) (r : List ℕ) → default_at first D is F w ≡ Ok (v, r)
+default_sound : {P : Type 0} (first : Tag → Bool) (D : Result (P × List ℕ) ErrorKind) (is : P → Bool) (F : Readings P) (w : List ℕ) (v : P) (r : List ℕ) → default_at encodings.Der first D is F w ≡ Ok (v, r)
     → ((w ≡ r) × (D ≡ Ok (v, []))) ⊎ ((is v ≡ false) × (F w ≡ Ok (v, r)))
 unfolding default_at
-default_sound {P} first D is F w v r e = let t = bind_ok (peek_at w) (λ t. default_after D is F w (chosen first t)) (v, r) e in after (chosen first t.0) t.2
+default_sound {P} first D is F w v r e = let t = bind_ok (peek_at encodings.Der w) (λ t. default_after D is F w (chosen first t)) (v, r) e in after (chosen first t.0) t.2
   where
     after : (o : Option Tag) → default_after D is F w o ≡ Ok (v, r) → ((w ≡ r) × (D ≡ Ok (v, []))) ⊎ ((is v ≡ false) × (F w ≡ Ok (v, r)))
     after None e =
@@ -124,7 +125,7 @@ default_sound {P} first D is F w v r e = let t = bind_ok (peek_at w) (λ t. defa
         let same = ok_is x.0 (v, r) h.1 in
         inr (subst (λ (q : P × List ℕ). is q.0 ≡ false) same h.0, x.1 ∙ ap (λ (q : P × List ℕ). Ok q) same)
 
-either_sound : {P Q : Type 0} (a b : Tag → Bool) (F : Readings P) (G : Readings Q) (w : List ℕ) (p : P ⊎ Q) (r : List ℕ) → either_at a b F G w ≡ Ok (p, r)
+either_sound : {P Q : Type 0} (a b : Tag → Bool) (F : Readings P) (G : Readings Q) (w : List ℕ) (p : P ⊎ Q) (r : List ℕ) → either_at encodings.Der a b F G w ≡ Ok (p, r)
     → ((x : P) × (inl x ≡ p) × (F w ≡ Ok (x, r))) ⊎ ((x : Q) × (inr x ≡ p) × (G w ≡ Ok (x, r)))
 unfolding either_at
 either_sound {P} {Q} a b F G w p r e =

@@ -1,13 +1,15 @@
 -- Bodies of indefinite length and headers under BER (X.690 8.1.3.6, 8.1.5), and reading of them.
 use Rattle.std.specs.Prelude.{◌≡◌, ℕ, zero, suc, ◌+◌, ◌-◌, ◌/◌, ◌%◌, ◌<◌, List, [], ◌∷◌, ◌++◌, length, drop, Bool, true, false, Option, Some, None, Result, Ok, Err, nat_lt, ◌==◌, ◌&&◌, ◌⊎◌, if◌then◌else◌}
 use Rattle.std.specs.List.{concat, AllByRecursion}
+use Rattle.der_core_head.specs.declared.encoding_rules.EncodingRules.{EncodingRules}
+use Rattle.der_core_head.specs.declared.encoding_rules.EncodingRules.TheVariants as encodings
 use Rattle.der_core_head.specs.declared.error.ErrorKind.{ErrorKind}
 use Rattle.der_core_head.specs.declared.error.ErrorKind.TheVariants as kinds
 use Rattle.der_core_head.specs.declared.tag.Tag.{Tag}
 use Rattle.der_core_head.specs.declared.tag.Tag.TheVariants as tags
 use Rattle.der_core_head.specs.Octets.{◌>>=◌, Readings}
 use Rattle.der_core_head.specs.Tags.{IsTag, tag_octets, tag_at}
-use Rattle.der_core_head.specs.Heads.{Head, Fits, length_octets, length_at}
+use Rattle.der_core_head.specs.Heads.{Head, Fits, length_octets, length_at, head_at}
 
 -- The grammar
 
@@ -107,3 +109,15 @@ len_at (Some n) w = Ok n
 -- a header under BER: an indefinite length is the number of octets of its body, those that end it among them
 unfoldable pub head_ber_at : Readings Head
 head_ber_at w = mark_at w >>= λ m. len_at m.0.len m.1 >>= λ n. Ok (record { tag = m.0.tag; len = n }, m.1)
+
+-- By either rules
+
+-- what reads headers by those rules
+abbrev pub head_by : EncodingRules → Readings Head
+head_by encodings.Der = head_at
+head_by encodings.Ber = head_ber_at
+
+-- what reads tags by those rules
+abbrev pub tag_by : EncodingRules → Readings Tag
+tag_by encodings.Der = tag_at
+tag_by encodings.Ber = tag_ber_at

@@ -1,5 +1,6 @@
--- Reading from left to right, with the first fault and the levels that may still be opened.
-use Rattle.std.specs.Prelude.{ℕ, zero, suc, ◌-◌, slice_get, List, [], ◌∷◌, length, take, drop, Bool, Option, Some, None, Result, Ok, Err, nat_lt, bytes_eq, ◌⊎◌, if◌then◌else◌}
+-- Reading from left to right, with the first fault and the levels that may still be opened. Rules tell which headers are read; contents are
+-- read alike by both. Sets in order are those of DER (X.690 11.6), and so are headers within them, whatever the rules.
+use Rattle.std.specs.Prelude.{ℕ, zero, suc, ◌-◌, List, [], ◌∷◌, length, take, drop, Bool, Option, Some, None, Result, Ok, Err, nat_lt, bytes_eq, ◌⊎◌, if◌then◌else◌}
 use Rattle.std.proofs.Common.{inl, inr}
 use Rattle.std.specs.Ordering.{nat_cmp}
 use Rattle.std.specs.declared.cmp.Ordering.{Ordering}
@@ -7,10 +8,12 @@ use Rattle.std.specs.declared.cmp.Ordering.TheVariants.{Less, Equal, Greater}
 use Rattle.std.specs.Cmp.Lexicographic.{slice_cmp}
 use Rattle.der_core_head.specs.declared.error.ErrorKind.{ErrorKind}
 use Rattle.der_core_head.specs.declared.error.ErrorKind.TheVariants as kinds
+use Rattle.der_core_head.specs.declared.encoding_rules.EncodingRules.{EncodingRules}
+use Rattle.der_core_head.specs.declared.encoding_rules.EncodingRules.TheVariants as encodings
 use Rattle.der_core_head.specs.declared.tag.Tag.{Tag}
 use Rattle.der_core_head.specs.Octets.{◌>>=◌, Readings}
-use Rattle.der_core_head.specs.Tags.{same_tag, tag_at}
-use Rattle.der_core_head.specs.Heads.{head_at}
+use Rattle.der_core_head.specs.Tags.{same_tag}
+use Rattle.der_core_head.specs.Bodies.{head_by, tag_by}
 use Rattle.der_core_head.specs.Leaves.{leaf_read}
 use Rattle.der_core_head.specs.Shapes.{Step, above, not_below, Shape, Content, Body, tagged, any, either, optional, defaulted, nothing, leaf, nested, done, field, only, many, exactly, few, in_order, Value, ContentValue, BodyValue, AnyValue, octets_of, begins}
 
@@ -33,12 +36,12 @@ value_at f n w =
     else (f (take n w) >>= whole >>= λ x. Ok (x.0, drop n w))
 
 -- a header with that tag, and its content
-unfoldable pub tlv_at : {P : Type 0} → Tag → Readings P → Readings P
-tlv_at tag f w = head_at w >>= λ h. if same_tag h.0.tag tag then value_at f h.0.len h.1 else Err kinds.TagUnexpected
+unfoldable pub tlv_at : {P : Type 0} → EncodingRules → Tag → Readings P → Readings P
+tlv_at rules tag f w = head_by rules w >>= λ h. if same_tag h.0.tag tag then value_at f h.0.len h.1 else Err kinds.TagUnexpected
 
 -- a header, and its content as it stands
-unfoldable pub any_at : Readings AnyValue
-any_at w = head_at w >>= λ h. slice_at h.0.len h.1 >>= λ x. Ok (record { tag = h.0.tag; contents = x.0 }, x.1)
+unfoldable pub any_at : EncodingRules → Readings AnyValue
+any_at rules w = head_by rules w >>= λ h. slice_at h.0.len h.1 >>= λ x. Ok (record { tag = h.0.tag; contents = x.0 }, x.1)
 
 -- values up to the end, so many at most; octets behind these are refused as e
 unfoldable pub read_many : {P : Type 0} → ErrorKind → Readings P → ℕ → Readings (List P)
@@ -68,15 +71,16 @@ abbrev pub follows_last : Step → Option (List ℕ) → List ℕ → Result (Un
 follows_last how None b = Ok tt
 follows_last how (Some a) b = follows how a b
 
+-- values up to the end, whose octets follow one another
 unfoldable pub read_in_order : {P : Type 0} → Step → (P → List ℕ) → Readings P → Option (List ℕ) → ℕ → Readings (List P)
 read_in_order how o f last n [] = Ok ([], [])
 read_in_order how o f last zero (b ∷ bs) = Err kinds.TrailingData
 read_in_order how o f last (suc n) (b ∷ bs) = f (b ∷ bs) >>= λ x. follows_last how last (o x.0) >>= λ _. read_in_order how o f (Some (o x.0)) n x.1 >>= λ y. Ok (x.0 ∷ y.0, y.1)
 
 -- the tag that stands, if one stands
-abbrev pub peek_at : List ℕ → Result (Option Tag) ErrorKind
-peek_at [] = Ok None
-peek_at (b ∷ w) = tag_at (b ∷ w) >>= λ t. Ok (Some t.0)
+abbrev pub peek_at : EncodingRules → List ℕ → Result (Option Tag) ErrorKind
+peek_at rules [] = Ok None
+peek_at rules (b ∷ w) = tag_by rules (b ∷ w) >>= λ t. Ok (Some t.0)
 
 -- the tag that stands, if it is one of these
 abbrev pub chosen : (Tag → Bool) → Option Tag → Option Tag
@@ -88,20 +92,20 @@ opt_after f w None = Ok (None, w)
 opt_after f w (Some t) = f w >>= λ x. Ok (Some x.0, x.1)
 
 -- a value where one of its first tags stands
-unfoldable pub opt_at : {P : Type 0} → (Tag → Bool) → Readings P → Readings (Option P)
-opt_at first f w = peek_at w >>= λ t. opt_after f w (chosen first t)
+unfoldable pub opt_at : {P : Type 0} → EncodingRules → (Tag → Bool) → Readings P → Readings (Option P)
+opt_at rules first f w = peek_at rules w >>= λ t. opt_after f w (chosen first t)
 
 -- the default where nothing stands, and never the default where something does
 abbrev pub default_after : {P : Type 0} → Result (P × List ℕ) ErrorKind → (P → Bool) → Readings P → List ℕ → Option Tag → Result (P × List ℕ) ErrorKind
 default_after d is f w None = d >>= whole >>= λ x. Ok (x.0, w)
 default_after d is f w (Some t) = f w >>= λ x. if is x.0 then Err (kinds.Noncanonical t) else Ok x
 
-unfoldable pub default_at : {P : Type 0} → (Tag → Bool) → Result (P × List ℕ) ErrorKind → (P → Bool) → Readings P → Readings P
-default_at first d is f w = peek_at w >>= λ t. default_after d is f w (chosen first t)
+unfoldable pub default_at : {P : Type 0} → EncodingRules → (Tag → Bool) → Result (P × List ℕ) ErrorKind → (P → Bool) → Readings P → Readings P
+default_at rules first d is f w = peek_at rules w >>= λ t. default_after d is f w (chosen first t)
 
 -- one of two, by the first tag
-unfoldable pub either_at : {P Q : Type 0} → (Tag → Bool) → (Tag → Bool) → Readings P → Readings Q → Readings (P ⊎ Q)
-either_at a b f g w = tag_at w >>= λ t.
+unfoldable pub either_at : {P Q : Type 0} → EncodingRules → (Tag → Bool) → (Tag → Bool) → Readings P → Readings Q → Readings (P ⊎ Q)
+either_at rules a b f g w = tag_by rules w >>= λ t.
     if a t.0 then (f w >>= λ x. Ok (inl x.0, x.1)) else if b t.0 then (g w >>= λ x. Ok (inr x.0, x.1)) else Err kinds.TagUnexpected
 
 -- all of the octets, if they are a content
@@ -113,29 +117,39 @@ leaf_at (Err e) = Err e
 abbrev pub kept : {P : Type 0} → List ℕ → P → Result (P × List ℕ) ErrorKind
 kept r v = Ok (v, r)
 
--- reading with that many levels to open; a content is read behind its tag
+-- reading by those rules, with that many levels to open; a content is read behind its tag
 abbrev mutual
-  pub read : (s : Shape) → ℕ → List ℕ → Result (Value s × List ℕ) ErrorKind
-  read (tagged t c) room w = tlv_at t (read_content c t room) w
-  read any room w = any_at w
-  read (either a b) room w = either_at (begins a) (begins b) (read a room) (read b room) w
-  read (optional s) room w = opt_at (begins s) (read s room) w
-  read (defaulted s d) room w = default_at (begins s) (read s 64 d) (λ v. bytes_eq (octets_of s v) d) (read s room) w
-  read nothing room w = Ok (tt, w)
+  pub read_by : EncodingRules → (s : Shape) → ℕ → List ℕ → Result (Value s × List ℕ) ErrorKind
+  read_by rules (tagged t c) room w = tlv_at rules t (read_content_by rules c t room) w
+  read_by rules any room w = any_at rules w
+  read_by rules (either a b) room w = either_at rules (begins a) (begins b) (read_by rules a room) (read_by rules b room) w
+  read_by rules (optional s) room w = opt_at rules (begins s) (read_by rules s room) w
+  read_by rules (defaulted s d) room w = default_at rules (begins s) (read_by encodings.Der s 64 d) (λ v. bytes_eq (octets_of s v) d) (read_by rules s room) w
+  read_by rules nothing room w = Ok (tt, w)
 
-  pub read_content : (c : Content) → Tag → ℕ → List ℕ → Result (ContentValue c × List ℕ) ErrorKind
-  read_content (leaf l) t room w = leaf_at (leaf_read l t w)
-  read_content (nested b) t zero w = Err kinds.NestingDepth
-  read_content (nested b) t (suc room) w = read_body b room w >>= whole
+  pub read_content_by : EncodingRules → (c : Content) → Tag → ℕ → List ℕ → Result (ContentValue c × List ℕ) ErrorKind
+  read_content_by rules (leaf l) t room w = leaf_at (leaf_read l t w)
+  read_content_by rules (nested b) t zero w = Err kinds.NestingDepth
+  read_content_by rules (nested b) t (suc room) w = read_body_by rules b room w >>= whole
 
-  pub read_body : (b : Body) → ℕ → List ℕ → Result (BodyValue b × List ℕ) ErrorKind
-  read_body done room w = Ok (tt, w)
-  read_body (field s b) room w = read s room w >>= λ x. read_body b room x.1 >>= λ y. Ok ((x.0, y.0), y.1)
-  read_body (only s) room w = read s room w
-  read_body (many s) room w = read_many kinds.TrailingData (read s room) (length w) w
-  read_body (exactly n s) room w = read_exactly (read s room) n w
-  read_body (few n s) room w = read_many kinds.Overlength (read s room) n w
-  read_body (in_order how s) room w = read_in_order how (λ v. octets_of s v) (read s room) None (length w) w
+  pub read_body_by : EncodingRules → (b : Body) → ℕ → List ℕ → Result (BodyValue b × List ℕ) ErrorKind
+  read_body_by rules done room w = Ok (tt, w)
+  read_body_by rules (field s b) room w = read_by rules s room w >>= λ x. read_body_by rules b room x.1 >>= λ y. Ok ((x.0, y.0), y.1)
+  read_body_by rules (only s) room w = read_by rules s room w
+  read_body_by rules (many s) room w = read_many kinds.TrailingData (read_by rules s room) (length w) w
+  read_body_by rules (exactly n s) room w = read_exactly (read_by rules s room) n w
+  read_body_by rules (few n s) room w = read_many kinds.Overlength (read_by rules s room) n w
+  read_body_by rules (in_order how s) room w = read_in_order how (λ v. octets_of s v) (read_by encodings.Der s room) None (length w) w
+
+-- under DER
+abbrev pub read : (s : Shape) → ℕ → List ℕ → Result (Value s × List ℕ) ErrorKind
+read s room = read_by encodings.Der s room
+
+abbrev pub read_content : (c : Content) → Tag → ℕ → List ℕ → Result (ContentValue c × List ℕ) ErrorKind
+read_content c t room = read_content_by encodings.Der c t room
+
+abbrev pub read_body : (b : Body) → ℕ → List ℕ → Result (BodyValue b × List ℕ) ErrorKind
+read_body b room = read_body_by encodings.Der b room
 
 abbrev pub plain_option : {A B : Type 0} → (A → B) → Option A → Option B
 plain_option f None = None
@@ -148,7 +162,3 @@ plain_list f (x ∷ xs) = f x ∷ plain_list f xs
 -- all of the octets, which a length can count
 unfoldable pub whole_at : (s : Shape) → List ℕ → Result (Value s × List ℕ) ErrorKind
 whole_at s w = if nat_lt 4294967295 (length w) then Err kinds.Overflow else (read s 64 w >>= whole)
-
--- the octets of the last value, if there is one
-abbrev pub last_octets : {A : Type 0} → (A → List ℕ) → List A → Option (List ℕ)
-last_octets o xs = plain_option o (slice_get xs (length xs - 1))

@@ -8,10 +8,10 @@ use Rattle.der_core_head.specs.declared.encoding_rules.EncodingRules.{EncodingRu
 use Rattle.der_core_head.specs.declared.encoding_rules.EncodingRules.TheVariants as encodings
 use Rattle.std.specs.Borrow.{MutBor, Bor}
 use Rattle.std.specs.Fn.{Once, FnOnceReturnsAtMut}
-use Rattle.der_core_head.specs.Shapes.{Body, BodyValue, leaf}
+use Rattle.der_core_head.specs.Shapes.{Shape, Content, Body, Value, ContentValue, BodyValue, leaf}
 use Rattle.der_core_head.specs.declared.tag.Tag.{Tag}
-use Rattle.der_core_head.specs.Octets.{◌>>=◌}
-use Rattle.der_core_head.specs.Grammar.{read_body, read_content, value_at, kept}
+use Rattle.der_core_head.specs.Octets.{◌>>=◌, Readings}
+use Rattle.der_core_head.specs.Grammar.{read_by, read_body_by, read_content_by, value_at, kept}
 use Rattle.der_core_head.specs.Leaves.{Leaf, leaf_read}
 
 -- by which rules an input is read, and how many octets it has
@@ -50,6 +50,10 @@ past n s = record s { rest = drop n s.rest }
 abbrev pub broken : State → State
 broken s = record s { failed = true }
 
+-- with these rules from then on
+abbrev pub ruled : EncodingRules → State → State
+ruled rules s = record s { source = record { encoding = rules; size = s.source.size } }
+
 -- these octets are a rest of those: what is left of them behind so many
 abbrev pub IsRest : List ℕ → List ℕ → Type 0
 IsRest r w = (n : ℕ) × (r ≡ drop n w)
@@ -62,35 +66,35 @@ pub record Kept (old new : State) : Type 0 where
   pub source : new.source ≡ old.source
   pub failed : old.failed ≡ true → new.failed ≡ true
 
--- The call answered what reading gives where DER rules, seen by view, and moved the reader on. After a refusal the reader has failed,
--- and a failed reader answers that it failed.
-abbrev pub Reads : {X P : Type 0} → (X → P) → State → State → Result X Error → (List ℕ → Result (P × List ℕ) ErrorKind) → Type 0
-Reads view old new (Ok x) f = (IsDer old → f old.rest ≡ Ok (view x, new.rest)) × (new ≡ record old { rest = new.rest }) × (old.failed ≡ false) × IsRest new.rest old.rest
-Reads view old new (Err e) f = (IsDer old → old.failed ≡ false → Fails e.kind (f old.rest)) × Kept old new × (old.failed ≡ true → e.kind ≡ kinds.Failed) × (new.failed ≡ true)
+-- what reading gives at a reader: by its rules, with the levels that it may open
+abbrev pub read_at : State → (s : Shape) → Readings (Value s)
+read_at r s = read_by r.source.encoding s r.room
 
--- The same by both rules.
-abbrev pub ReadsAlways : {X P : Type 0} → (X → P) → State → State → Result X Error → (List ℕ → Result (P × List ℕ) ErrorKind) → Type 0
-ReadsAlways view old new (Ok x) f = (f old.rest ≡ Ok (view x, new.rest)) × (new ≡ record old { rest = new.rest }) × (old.failed ≡ false) × IsRest new.rest old.rest
-ReadsAlways view old new (Err e) f = (old.failed ≡ false → Fails e.kind (f old.rest)) × Kept old new × (old.failed ≡ true → e.kind ≡ kinds.Failed) × (new.failed ≡ true)
+abbrev pub read_content_at : State → (c : Content) → Tag → Readings (ContentValue c)
+read_content_at r c t = read_content_by r.source.encoding c t r.room
+
+abbrev pub read_body_at : State → (b : Body) → Readings (BodyValue b)
+read_body_at r b = read_body_by r.source.encoding b r.room
+
+-- The call answered what reading gives, seen by view, and moved the reader on. After a refusal the reader has failed, and a failed reader
+-- answers that it failed.
+abbrev pub Reads : {X P : Type 0} → (X → P) → State → State → Result X Error → Readings P → Type 0
+Reads view old new (Ok x) f = (f old.rest ≡ Ok (view x, new.rest)) × (new ≡ record old { rest = new.rest }) × (old.failed ≡ false) × IsRest new.rest old.rest
+Reads view old new (Err e) f = (old.failed ≡ false → Fails e.kind (f old.rest)) × Kept old new × (old.failed ≡ true → e.kind ≡ kinds.Failed) × (new.failed ≡ true)
 
 -- The same of a call that takes no memory. After a refusal the reader is where it was, and failed.
-abbrev pub ReadsNow : {X P : Type 0} → (X → P) → State → State → Result X Error → (List ℕ → Result (P × List ℕ) ErrorKind) → Type 0
+abbrev pub ReadsNow : {X P : Type 0} → (X → P) → State → State → Result X Error → Readings P → Type 0
 ReadsNow view old new (Ok x) f = (f old.rest ≡ Ok (view x, new.rest)) × (new ≡ record old { rest = new.rest }) × (old.failed ≡ false) × IsRest new.rest old.rest
 ReadsNow view old new (Err e) f = (old.failed ≡ false → f old.rest ≡ Err e.kind) × (new ≡ broken old) × (old.failed ≡ true → e.kind ≡ kinds.Failed)
 
--- The same of a call that takes no memory, where those rules rule.
-abbrev pub ReadsBy : {X P : Type 0} → EncodingRules → (X → P) → State → State → Result X Error → (List ℕ → Result (P × List ℕ) ErrorKind) → Type 0
-ReadsBy rules view old new (Ok x) f = (old.source.encoding ≡ rules → f old.rest ≡ Ok (view x, new.rest)) × (new ≡ record old { rest = new.rest }) × (old.failed ≡ false) × IsRest new.rest old.rest
-ReadsBy rules view old new (Err e) f = (old.source.encoding ≡ rules → old.failed ≡ false → f old.rest ≡ Err e.kind) × (new ≡ broken old) × (old.failed ≡ true → e.kind ≡ kinds.Failed)
-
--- The call answered what stands there where those rules rule, seen by view, and left the reader as it was.
-abbrev pub PeeksBy : {X P : Type 0} → EncodingRules → (X → P) → State → Result X Error → Result P ErrorKind → Type 0
-PeeksBy rules view s (Ok x) r = (s.source.encoding ≡ rules → r ≡ Ok (view x)) × (s.failed ≡ false)
-PeeksBy rules view s (Err e) r = (s.source.encoding ≡ rules → s.failed ≡ false → r ≡ Err e.kind) × (s.failed ≡ true → e.kind ≡ kinds.Failed)
+-- The call answered what stands there, seen by view, and left the reader as it was.
+abbrev pub Peeks : {X P : Type 0} → (X → P) → State → Result X Error → Result P ErrorKind → Type 0
+Peeks view s (Ok x) r = (r ≡ Ok (view x)) × (s.failed ≡ false)
+Peeks view s (Err e) r = (s.failed ≡ false → r ≡ Err e.kind) × (s.failed ≡ true → e.kind ≡ kinds.Failed)
 
 -- what a call of f may give at a reader is what reading gives
 abbrev pub ClosureReads : {R T F : Type 0} → (R → State) → Once F (MutBor R × Unit {0}) (Result T Error × (MutBor R × Unit {0})) → F → (b : Body) → (T → BodyValue b) → Type 0
-ClosureReads {R} {T} state g f b view = (old : R) (r : Result T Error) (new : R) → FnOnceReturnsAtMut g f old r new → Reads view (state old) (state new) r (read_body b (state old).room)
+ClosureReads {R} {T} state g f b view = (old : R) (r : Result T Error) (new : R) → FnOnceReturnsAtMut g f old r new → Reads view (state old) (state new) r (read_body_at (state old) b)
 
 abbrev pub HandsBack : {R T F : Type 0} → (R → State) → Once F (MutBor R × Unit {0}) (Result T Error × (MutBor R × Unit {0})) → F → Type 0
 HandsBack {R} {T} state g f = (old : R) (r : Result T Error) (new : R) → FnOnceReturnsAtMut g f old r new → Kept (state old) (state new)
@@ -131,5 +135,5 @@ GivesNow view (Err e) r = r ≡ Err e.kind
 
 -- The octets of a content were read, whatever leaf they are.
 abbrev pub TakesContent : State → State → Result (Bor (List ℕ)) Error → ℕ → Type 0
-TakesContent old new (Ok x) n = ((l : Leaf) (t : Tag) (room : ℕ) → value_at (read_content (leaf l) t room) n old.rest ≡ (leaf_read l t x.now >>= kept new.rest)) × (new ≡ record old { rest = new.rest }) × (old.failed ≡ false) × IsRest new.rest old.rest
-TakesContent old new (Err e) n = ((l : Leaf) (t : Tag) (room : ℕ) → old.failed ≡ false → value_at (read_content (leaf l) t room) n old.rest ≡ Err e.kind) × (new ≡ broken old) × (old.failed ≡ true → e.kind ≡ kinds.Failed)
+TakesContent old new (Ok x) n = ((l : Leaf) (t : Tag) (room : ℕ) → value_at (read_content_by old.source.encoding (leaf l) t room) n old.rest ≡ (leaf_read l t x.now >>= kept new.rest)) × (new ≡ record old { rest = new.rest }) × (old.failed ≡ false) × IsRest new.rest old.rest
+TakesContent old new (Err e) n = ((l : Leaf) (t : Tag) (room : ℕ) → old.failed ≡ false → value_at (read_content_by old.source.encoding (leaf l) t room) n old.rest ≡ Err e.kind) × (new ≡ broken old) × (old.failed ≡ true → e.kind ≡ kinds.Failed)

@@ -6,37 +6,23 @@ use Rattle.std.specs.Fn.{Once}
 use Rattle.std.proofs.lemmas.List.{take_at}
 use Rattle.der_core_head.specs.declared.error.Error.{Error}
 use Rattle.der_core_head.specs.declared.error.ErrorKind.TheVariants as kinds
-use Rattle.der_core_head.specs.Reading.{State, Kept, Refuses, Closes, ReadsBy, entered}
-use Rattle.der_core_head.specs.declared.encoding_rules.EncodingRules.{EncodingRules}
-use Rattle.der_core_head.specs.declared.encoding_rules.EncodingRules.TheVariants as encodings
-use Rattle.der_core_head.specs.declared.error.ErrorKind.{ErrorKind}
-use Rattle.der_core_head.specs.Heads.{Head, head_at}
-use Rattle.der_core_head.specs.Bodies.{head_ber_at}
+use Rattle.der_core_head.specs.Reading.{State, Kept, Refuses, Closes, ReadsNow, entered}
+use Rattle.der_core_head.specs.Bodies.{head_by}
 use Rattle.der_core_head.specs.declared.header.Header.{Header}
 use Rattle.der_core_head.specs.declared.tag.Tag.{Tag}
 use Rattle.der_core_octets.specs.Fronts.{head_of, wanted_at}
-use Rattle.der_core_octets.specs.Nesting.{Enters, IsNested, Called, Answered, RefusesNested, head_by}
-use Rattle.der_core_octets.proofs.Wanted.{Misses, wanted_ok}
+use Rattle.der_core_octets.specs.Nesting.{Enters, IsNested, Called, Answered, RefusesNested}
+use Rattle.der_core_octets.proofs.Wanted.{wanted_ok}
 use Rattle.der_core_octets.proofs.Facts.{or_true}
 use Rattle.der_core_octets.proofs.Nested.{is_kept, at_length}
 
--- what holds by each of the rules holds by those in force
-pub by_rules : (rules : EncodingRules) (w : List ℕ) (r : Result (Head × List ℕ) ErrorKind) → (rules ≡ encodings.Der → head_at w ≡ r) → (rules ≡ encodings.Ber → head_ber_at w ≡ r) → head_by rules w ≡ r
-by_rules encodings.Der w r der ber = der refl
-by_rules encodings.Ber w r der ber = ber refl
-
-pub misses_by_rules : (t : Tag) (rules : EncodingRules) (w : List ℕ) (k : ErrorKind) → (rules ≡ encodings.Der → Misses t (head_at w) k) → (rules ≡ encodings.Ber → Misses t (head_ber_at w) k) → Misses t (head_by rules w) k
-misses_by_rules t encodings.Der w k der ber = der refl
-misses_by_rules t encodings.Ber w k der ber = ber refl
-
 -- the reader stands behind a header that was wanted
 pub enters_wanted : (old mid : State) (t : Tag) (h : Header) → h.tag ≡ t
-    → ReadsBy encodings.Der head_of old mid (Ok h) (wanted_at t head_at) → ReadsBy encodings.Ber head_of old mid (Ok h) (wanted_at t head_ber_at)
-    → Enters t h.length.value old mid
-enters_wanted old mid t h is der ber =
-    let stands = by_rules old.source.encoding old.rest (Ok (head_of h, mid.rest)) (λ r. wanted_ok t head_at old.rest (head_of h) mid.rest (der.0 r)) (λ r. wanted_ok t head_ber_at old.rest (head_of h) mid.rest (ber.0 r)) in
+    → ReadsNow head_of old mid (Ok h) (wanted_at t (head_by old.source.encoding)) → Enters t h.length.value old mid
+enters_wanted old mid t h is front =
+    let stands = wanted_ok t (head_by old.source.encoding) old.rest (head_of h) mid.rest front.0 in
     let head : head_by old.source.encoding old.rest ≡ Ok (record { tag = t; len = h.length.value }, mid.rest) = stands ∙ ap (λ x. Ok (record { tag = x; len = h.length.value }, mid.rest)) is in
-    record { ready = der.2; head = head; moved = der.1 }
+    record { ready = front.2; head = head; moved = front.1 }
 
 pub by_failed : (b : Bool) {A B : Type 0} → (b ≡ false → A) → (b ≡ true → B) → ((b ≡ true) × B) ⊎ ((b ≡ false) × A)
 by_failed true a b = inl (refl, b refl)

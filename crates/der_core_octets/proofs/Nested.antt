@@ -7,23 +7,24 @@ use Rattle.der_core_head.specs.declared.error.Error.{Error}
 use Rattle.der_core_head.specs.declared.error.ErrorKind.{ErrorKind}
 use Rattle.der_core_head.specs.declared.error.ErrorKind.TheVariants as kinds
 use Rattle.der_core_head.specs.Shapes.{Body, BodyValue, nested}
+use Rattle.der_core_head.specs.declared.encoding_rules.EncodingRules.{EncodingRules}
 use Rattle.der_core_head.specs.declared.tag.Tag.{Tag}
 use Rattle.der_core_head.specs.Octets.{◌>>=◌}
-use Rattle.der_core_head.specs.Grammar.{whole, value_at, read_content, read_body}
-use Rattle.der_core_head.specs.Reading.{State, IsDer, IsRest, Kept, Fails, Reads, Refuses, Closes, entered, restored, broken}
+use Rattle.der_core_head.specs.Grammar.{whole, value_at, read_content_by, read_body_by}
+use Rattle.der_core_head.specs.Reading.{State, IsRest, Kept, Fails, Reads, Refuses, Closes, entered, restored, broken, read_content_at, read_body_at}
 use Rattle.der_core_octets.proofs.Facts.{value_short, value_enough, or_false, or_true}
 use Rattle.der_core_octets.proofs.Steps.{rest_more}
 
-pub refused : (t : Tag) (k : ErrorKind) (n : ℕ) (old : State) (s : Body) → Refuses n old k → Fails k (value_at (read_content (nested s) t old.room) n old.rest)
-refused t kinds.Incomplete n old s h = λ _. value_short (read_content (nested s) t old.room) n old.rest h
-refused t kinds.NestingDepth n old s h = λ _. value_enough (read_content (nested s) t old.room) n old.rest h.0 ∙ rw h.1 refl
+pub refused : (t : Tag) (k : ErrorKind) (n : ℕ) (old : State) (s : Body) → Refuses n old k → Fails k (value_at (read_content_at old (nested s) t) n old.rest)
+refused t kinds.Incomplete n old s h = λ _. value_short (read_content_at old (nested s) t) n old.rest h
+refused t kinds.NestingDepth n old s h = λ _. value_enough (read_content_at old (nested s) t) n old.rest h.0 ∙ rw h.1 refl
 refused t _ n old s h = absurd h
 
 -- what reading one level further in gives
-pub nested_is : (t : Tag) (s : Body) (n room : ℕ) (w : List ℕ) → n ≤ length w → 0 < room → value_at (read_content (nested s) t room) n w ≡ (read_body s (room - 1) (take n w) >>= whole >>= whole >>= λ x. Ok (x.0, drop n w))
-nested_is t s n room w h r =
+pub nested_is : (rules : EncodingRules) (t : Tag) (s : Body) (n room : ℕ) (w : List ℕ) → n ≤ length w → 0 < room → value_at (read_content_by rules (nested s) t room) n w ≡ (read_body_by rules s (room - 1) (take n w) >>= whole >>= whole >>= λ x. Ok (x.0, drop n w))
+nested_is rules t s n room w h r =
     let e : room ≡ suc (room - 1) = omega arith in
-    value_enough (read_content (nested s) t room) n w h ∙ ap (λ m. read_content (nested s) t m (take n w) >>= whole >>= λ x. Ok (x.0, drop n w)) e
+    value_enough (read_content_by rules (nested s) t room) n w h ∙ ap (λ m. read_content_by rules (nested s) t m (take n w) >>= whole >>= λ x. Ok (x.0, drop n w)) e
 
 pub behind_long : (n taken : ℕ) (old : State) → n + taken ≡ length old.rest → taken ≤ length (entered n old).behind
 behind_long n taken old h = omega (arith, length-append (drop n old.rest) old.behind, length-drop n old.rest)
@@ -63,27 +64,27 @@ same_frame old new b r f s = rw (← b, ← r, ← f, ← s) refl
 
 pub gives : {T : Type 0} (t : Tag) (s : Body) (view : T → BodyValue s) (n taken : ℕ) (old outer new : State) (r : Result T Error)
     → n + taken ≡ length old.rest → 0 < old.room → old.failed ≡ false
-    → Reads view (entered n old) outer r (read_body s (entered n old).room) → Closes taken (is_err r) outer new (Ok tt)
-    → Reads view old new r (value_at (read_content (nested s) t old.room) n)
+    → Reads view (entered n old) outer r (read_body_at (entered n old) s) → Closes taken (is_err r) outer new (Ok tt)
+    → Reads view old new r (value_at (read_content_at old (nested s) t) n)
 gives t s view n taken old outer new (Ok v) h r f reads closes =
     let none : outer.rest ≡ [] = closes.0 refl in
-    let inner : IsDer old → read_body s (old.room - 1) (take n old.rest) ≡ Ok (view v, []) = λ der. reads.0 der ∙ ap (λ (w : List ℕ). Ok (view v, w)) none in
+    let inner : read_body_at (entered n old) s (take n old.rest) ≡ Ok (view v, []) = reads.0 ∙ ap (λ (w : List ℕ). Ok (view v, w)) none in
     let behind : outer.behind ≡ drop n old.rest ++ old.behind = ap (λ (s : State). s.behind) reads.1 in
     let rest : new.rest ≡ drop n old.rest =
     ap (λ (s : State). s.rest) closes.1 ∙ ap (λ (w : List ℕ). w ++ take taken outer.behind) none ∙ ap (take taken) behind ∙ take_at (drop n old.rest) old.behind taken (at_length n taken old.rest h) in
     let kept = is_kept n taken (outer.failed || false) old outer new h r (moved_kept _ _ reads.1 reads.3) closes.1 f in
     let failed : new.failed ≡ old.failed = ap (λ (s : State). s.failed) closes.1 ∙ or_false outer.failed ∙ ap (λ (s : State). s.failed) reads.1 in
-    (λ der. rw (nested_is t s n old.room old.rest (omega arith) r, inner der, rest) refl, same_frame old new kept.behind kept.room failed kept.source, f, kept.rest)
+    (rw (nested_is old.source.encoding t s n old.room old.rest (omega arith) r, inner, rest) refl, same_frame old new kept.behind kept.room failed kept.source, f, kept.rest)
 gives t s view n taken old outer new (Err e) h r f reads closes =
-    (λ der o m. rw (nested_is t s n old.room old.rest (omega arith) r, reads.0 der o m) refl, is_kept n taken (outer.failed || true) old outer new h r reads.1 closes.1 f, λ o. absurd (cc (o, f)), ap (λ (s : State). s.failed) closes.1 ∙ or_true outer.failed)
+    (λ o m. rw (nested_is old.source.encoding t s n old.room old.rest (omega arith) r, reads.0 o m) refl, is_kept n taken (outer.failed || true) old outer new h r reads.1 closes.1 f, λ o. absurd (cc (o, f)), ap (λ (s : State). s.failed) closes.1 ∙ or_true outer.failed)
 
 pub trails : {T : Type 0} (t : Tag) (s : Body) (view : T → BodyValue s) (n taken : ℕ) (old outer new : State) (r : Result T Error) (e : Error)
     → n + taken ≡ length old.rest → 0 < old.room → old.failed ≡ false
-    → Reads view (entered n old) outer r (read_body s (entered n old).room) → Closes taken (is_err r) outer new (Err e)
-    → Reads view old new (Err e) (value_at (read_content (nested s) t old.room) n)
+    → Reads view (entered n old) outer r (read_body_at (entered n old) s) → Closes taken (is_err r) outer new (Err e)
+    → Reads view old new (Err e) (value_at (read_content_at old (nested s) t) n)
 trails t s view n taken old outer new (Ok v) e h r f reads closes =
     let k = moved_kept (entered n old) outer reads.1 reads.3 in
-    (λ der o m. rw (nested_is t s n old.room old.rest (omega arith) r, reads.0 der, left_over (view v) outer.rest closes.1, closes.2) refl, is_kept n taken true old outer new h r k closes.3 f, λ o. absurd (cc (o, f)), ap (λ (s : State). s.failed) closes.3)
+    (λ o m. rw (nested_is old.source.encoding t s n old.room old.rest (omega arith) r, reads.0, left_over (view v) outer.rest closes.1, closes.2) refl, is_kept n taken true old outer new h r k closes.3 f, λ o. absurd (cc (o, f)), ap (λ (s : State). s.failed) closes.3)
 trails t s view n taken old outer new (Err d) e h r f reads closes = absurd cc
 
 pub reads_kept : {T P : Type 0} (view : T → P) (old new : State) (r : Result T Error) (f : List ℕ → Result (P × List ℕ) ErrorKind) → Reads view old new r f → Kept old new

@@ -6,10 +6,12 @@ use Rattle.der_core_head.specs.declared.error.ErrorKind.{ErrorKind}
 use Rattle.der_core_head.specs.declared.error.ErrorKind.TheVariants as kinds
 use Rattle.der_core_head.specs.declared.tag.Tag.{Tag}
 use Rattle.der_core_head.specs.Octets.{Readings, ◌>>=◌}
-use Rattle.der_core_head.specs.Heads.{Head, head_at}
+use Rattle.der_core_head.specs.declared.encoding_rules.EncodingRules.{EncodingRules}
+use Rattle.der_core_head.specs.Heads.{Head}
+use Rattle.der_core_head.specs.Bodies.{head_by}
 use Rattle.der_core_head.specs.Tags.{same_tag}
 use Rattle.der_core_head.specs.Grammar.{tlv_at, value_at, peek_at, opt_at}
-use Rattle.der_core_head.specs.Reading.{State, IsDer, IsRest, Kept, Reads}
+use Rattle.der_core_head.specs.Reading.{State, IsRest, Kept, Reads}
 use Rattle.der_core_octets.specs.Fronts.{wanted_at}
 
 -- a rest of a rest is a rest
@@ -26,23 +28,23 @@ rest_more (suc n) (x ∷ xs) ys =
 
 -- what is left to a later call is read by it
 pub reads_after : {T P : Type 0} (view : T → P) (old mid new : State) (r : Result T Error) (f g : Readings P)
-    → mid ≡ record old { rest = mid.rest } → old.failed ≡ false → IsRest mid.rest old.rest → (IsDer old → f old.rest ≡ g mid.rest) → Reads view mid new r g → Reads view old new r f
+    → mid ≡ record old { rest = mid.rest } → old.failed ≡ false → IsRest mid.rest old.rest → f old.rest ≡ g mid.rest → Reads view mid new r g → Reads view old new r f
 reads_after view old mid new (Ok v) f g m ready passed e h = (
-  λ der. e der ∙ h.0 (ap (λ (s : State). s.source.encoding) m ∙ der),
+  e ∙ h.0,
   cc (ap (λ (s : State). s.behind) m, ap (λ (s : State). s.room) m, ap (λ (s : State). s.failed) m, ap (λ (s : State). s.source) m, h.1),
   ready,
   rest_then old.rest mid.rest new.rest passed h.3,
 )
 reads_after view old mid new (Err d) f g m ready passed e h = (
-  λ der _ memory. e der ∙ h.0 (ap (λ (s : State). s.source.encoding) m ∙ der) (ap (λ (s : State). s.failed) m ∙ ready) memory,
+  λ _ memory. e ∙ h.0 (ap (λ (s : State). s.failed) m ∙ ready) memory,
   record { rest = rest_then old.rest mid.rest new.rest passed h.1.rest; behind = h.1.behind ∙ ap (λ (s : State). s.behind) m; room = h.1.room ∙ ap (λ (s : State). s.room) m; source = h.1.source ∙ ap (λ (s : State). s.source) m; failed = λ o. absurd (cc (o, ready)) },
   λ o. absurd (cc (o, ready)),
   h.3,
 )
 
-pub tlv_is : {P : Type 0} (tag : Tag) (f : Readings P) (w : List ℕ) (h : Head) (r : List ℕ) → head_at w ≡ Ok (h, r) → same_tag h.tag tag ≡ true → tlv_at tag f w ≡ value_at f h.len r
+pub tlv_is : {P : Type 0} (rules : EncodingRules) (tag : Tag) (f : Readings P) (w : List ℕ) (h : Head) (r : List ℕ) → head_by rules w ≡ Ok (h, r) → same_tag h.tag tag ≡ true → tlv_at rules tag f w ≡ value_at f h.len r
 unfolding tlv_at
-tlv_is tag f w h r e same = rw (e, same) refl
+tlv_is rules tag f w h r e same = rw (e, same) refl
 
 -- a value behind a header of its tag
 behind_tag : {P : Type 0} (b : Bool) (h : Head × List ℕ) (f : Readings P)
@@ -57,9 +59,9 @@ behind_head tag f (Err k) = refl
 behind_head tag f (Ok h) = behind_tag (same_tag h.0.tag tag) h f
 
 -- an encoding is a header of the wanted tag, and its content
-pub tlv_wanted : {P : Type 0} (tag : Tag) (f : Readings P) (w : List ℕ) → tlv_at tag f w ≡ (wanted_at tag head_at w >>= λ h. value_at f h.0.len h.1)
+pub tlv_wanted : {P : Type 0} (rules : EncodingRules) (tag : Tag) (f : Readings P) (w : List ℕ) → tlv_at rules tag f w ≡ (wanted_at tag (head_by rules) w >>= λ h. value_at f h.0.len h.1)
 unfolding tlv_at wanted_at
-tlv_wanted tag f w = behind_head tag f (head_at w)
+tlv_wanted rules tag f w = behind_head tag f (head_by rules w)
 
 pub frame_then : (a b d : State) → b ≡ record a { rest = b.rest } → d ≡ record b { rest = d.rest } → d ≡ record a { rest = d.rest }
 frame_then a b d m h = cc (ap (λ (s : State). s.behind) m, ap (λ (s : State). s.room) m, ap (λ (s : State). s.failed) m, ap (λ (s : State). s.source) m, h)
@@ -73,15 +75,15 @@ kept_then a b d m passed k = record {
   failed = λ o. k.failed (ap (λ (s : State). s.failed) m ∙ o);
 }
 
-pub tlv_none : {P : Type 0} (tag : Tag) (f : Readings P) (w : List ℕ) (k : ErrorKind) → head_at w ≡ Err k → tlv_at tag f w ≡ Err k
+pub tlv_none : {P : Type 0} (rules : EncodingRules) (tag : Tag) (f : Readings P) (w : List ℕ) (k : ErrorKind) → head_by rules w ≡ Err k → tlv_at rules tag f w ≡ Err k
 unfolding tlv_at
-tlv_none tag f w k e = rw e refl
+tlv_none rules tag f w k e = rw e refl
 
-pub tlv_other : {P : Type 0} (tag : Tag) (f : Readings P) (w : List ℕ) (h : Head) (r : List ℕ) → head_at w ≡ Ok (h, r) → same_tag h.tag tag ≡ false → tlv_at tag f w ≡ Err kinds.TagUnexpected
+pub tlv_other : {P : Type 0} (rules : EncodingRules) (tag : Tag) (f : Readings P) (w : List ℕ) (h : Head) (r : List ℕ) → head_by rules w ≡ Ok (h, r) → same_tag h.tag tag ≡ false → tlv_at rules tag f w ≡ Err kinds.TagUnexpected
 unfolding tlv_at
-tlv_other tag f w h r e other = rw (e, other) refl
+tlv_other rules tag f w h r e other = rw (e, other) refl
 
 -- what stands under one of the first tags is read
-pub opt_stops : {P : Type 0} (first : Tag → Bool) (f : Readings P) (w : List ℕ) (t : Tag) (k : ErrorKind) → peek_at w ≡ Ok (Some t) → first t ≡ true → f w ≡ Err k → opt_at first f w ≡ Err k
+pub opt_stops : {P : Type 0} (rules : EncodingRules) (first : Tag → Bool) (f : Readings P) (w : List ℕ) (t : Tag) (k : ErrorKind) → peek_at rules w ≡ Ok (Some t) → first t ≡ true → f w ≡ Err k → opt_at rules first f w ≡ Err k
 unfolding opt_at
-opt_stops first f w t k e h stops = rw (e, h, stops) refl
+opt_stops rules first f w t k e h stops = rw (e, h, stops) refl

@@ -1,17 +1,18 @@
 -- Headers of a wanted tag.
 use Rattle.std.proofs.Common.{◌≡◌, ℕ, ◌<◌, Bool, List, [], ◌∷◌, ◌++◌, Some, Result, Ok, Err, true, false, inl, inr, refl, sym, ap, ◌∙◌, arith, if◌then◌else◌}
-use Rattle.std.specs.Prelude.{◌≢◌, ◌⊎◌}
+use Rattle.std.specs.Prelude.{◌≢◌, ◌⊎◌, ◌==◌, length}
 use Rattle.der_core_head.specs.declared.error.ErrorKind.{ErrorKind}
 use Rattle.der_core_head.specs.declared.error.ErrorKind.TheVariants as kinds
+use Rattle.der_core_head.specs.declared.encoding_rules.EncodingRules.{EncodingRules}
 use Rattle.der_core_head.specs.declared.tag.Tag.{Tag}
 use Rattle.der_core_head.specs.Octets.{Readings, ◌>>=◌}
 use Rattle.der_core_head.specs.Heads.{Head}
 use Rattle.der_core_head.specs.Tags.{leading_octet, number_of, same_tag, tag_octets, tag_at}
 use Rattle.der_core_head.proofs.TagForms.{tag-0}
 use Rattle.der_core_head.proofs.TagLaws.{tag_again, same_tag-refl}
-use Rattle.der_core_head.specs.Bodies.{tag_ber_at}
+use Rattle.der_core_head.specs.Bodies.{tag_by}
 use Rattle.der_core_head.specs.Grammar.{peek_at}
-use Rattle.der_core_octets.specs.Fronts.{wanted_at, alone, peek_ber_at}
+use Rattle.der_core_octets.specs.Fronts.{wanted_at, alone}
 
 -- a tag of one octet is told by it
 pub by_octet : (t : Tag) (first : ℕ) (w : List ℕ) → number_of t < 31 → first ≡ leading_octet t → tag_at (first ∷ w) ≡ Ok (t, w)
@@ -65,18 +66,16 @@ some_err : (r : Result (Tag × List ℕ) ErrorKind) (k : ErrorKind) → alone r 
 some_err (Ok x) k e = absurd cc
 some_err (Err d) k e = cc
 
-pub peek_ok : (w : List ℕ) (t : Tag) → w ≢ [] → alone (tag_at w) ≡ Ok t → peek_at w ≡ Ok (Some t)
-peek_ok [] t left e = absurd (left refl)
-peek_ok (b ∷ w) t left e = some_ok (tag_at (b ∷ w)) t e
+pub peek_ok : (rules : EncodingRules) (w : List ℕ) (t : Tag) → w ≢ [] → alone (tag_by rules w) ≡ Ok t → peek_at rules w ≡ Ok (Some t)
+peek_ok rules [] t left e = absurd (left refl)
+peek_ok rules (b ∷ w) t left e = some_ok (tag_by rules (b ∷ w)) t e
 
-pub peek_err : (w : List ℕ) (k : ErrorKind) → w ≢ [] → alone (tag_at w) ≡ Err k → peek_at w ≡ Err k
-peek_err [] k left e = absurd (left refl)
-peek_err (b ∷ w) k left e = some_err (tag_at (b ∷ w)) k e
+pub peek_err : (rules : EncodingRules) (w : List ℕ) (k : ErrorKind) → w ≢ [] → alone (tag_by rules w) ≡ Err k → peek_at rules w ≡ Err k
+peek_err rules [] k left e = absurd (left refl)
+peek_err rules (b ∷ w) k left e = some_err (tag_by rules (b ∷ w)) k e
 
-pub peek_ber_ok : (w : List ℕ) (t : Tag) → w ≢ [] → alone (tag_ber_at w) ≡ Ok t → peek_ber_at w ≡ Ok (Some t)
-peek_ber_ok [] t left e = absurd (left refl)
-peek_ber_ok (b ∷ w) t left e = ap (λ r. r >>= λ x. Ok (Some x)) e
-
-pub peek_ber_err : (w : List ℕ) (k : ErrorKind) → w ≢ [] → alone (tag_ber_at w) ≡ Err k → peek_ber_at w ≡ Err k
-peek_ber_err [] k left e = absurd (left refl)
-peek_ber_err (b ∷ w) k left e = ap (λ r. r >>= λ x. Ok (Some x)) e
+-- octets that aren't empty are left
+pub some_left : (x w : List ℕ) (b : Bool) → b ≡ (length x == 0) → b ≡ false → x ≡ w → w ≢ []
+some_left [] w true e f r = absurd cc
+some_left [] w false e f r = absurd cc
+some_left (y ∷ x) w b e f r = λ none. absurd (cc (r, none))

@@ -11,7 +11,6 @@ use Rattle.der_core_head.specs.Classes.{class_number, tag_class}
 use Rattle.der_core_head.specs.Tags.{number_of, same_tag}
 use Rattle.der_core_head.specs.Octets.{Readings, ◌>>=◌}
 use Rattle.der_core_head.specs.Heads.{Head}
-use Rattle.der_core_head.specs.Bodies.{tag_ber_at}
 use Rattle.der_core_head.specs.Shapes.{Shape, Value}
 use Rattle.der_core_head.specs.Grammar.{read}
 
@@ -40,11 +39,6 @@ octets_at (Some o) = Some o.now
 -- a value at the front of octets that a length can count, and the octets behind it
 abbrev pub front_at : (s : Shape) → List ℕ → Result (Value s × List ℕ) ErrorKind
 front_at s w = if nat_lt 4294967295 (length w) then Err kinds.Overflow else read s 64 w
-
--- the tag that stands under BER, if one stands
-abbrev pub peek_ber_at : List ℕ → Result (Option Tag) ErrorKind
-peek_ber_at [] = Ok None
-peek_ber_at (b ∷ w) = alone (tag_ber_at (b ∷ w)) >>= λ t. Ok (Some t)
 
 -- whether a tag that stands there is of that class and has that number
 abbrev pub has_number : Class → ℕ → Option Tag → Bool

@@ -4,18 +4,9 @@ use Rattle.std.specs.Borrow.{MutBor}
 use Rattle.std.specs.Fn.{Once, FnOnceReturnsAtMut}
 use Rattle.der_core_head.specs.declared.error.Error.{Error}
 use Rattle.der_core_head.specs.declared.error.ErrorKind.TheVariants as kinds
-use Rattle.der_core_head.specs.declared.encoding_rules.EncodingRules.{EncodingRules}
-use Rattle.der_core_head.specs.declared.encoding_rules.EncodingRules.TheVariants as encodings
 use Rattle.der_core_head.specs.declared.tag.Tag.{Tag}
-use Rattle.der_core_head.specs.Octets.{Readings}
-use Rattle.der_core_head.specs.Heads.{Head, head_at}
-use Rattle.der_core_head.specs.Bodies.{head_ber_at}
+use Rattle.der_core_head.specs.Bodies.{head_by}
 use Rattle.der_core_head.specs.Reading.{State, Kept, Refuses, entered}
-
--- what reads headers by those rules
-abbrev pub head_by : EncodingRules → Readings Head
-head_by encodings.Der = head_at
-head_by encodings.Ber = head_ber_at
 
 -- a header of that tag and of n content octets stands next, by the rules of the reader, and mid is the reader behind it
 pub record Enters (t : Tag) (n : ℕ) (old mid : State) : Type 0 where

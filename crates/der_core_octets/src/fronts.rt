@@ -1,10 +1,8 @@
 //! Tags and headers at the front of octets, by either encoding rules.
 
 ghost use Rattle.std.specs.Prelude.{◌≡◌, ◌≤◌, length, Ok, IfOk, IfSome};
-ghost use Rattle.der_core_head.specs.declared.encoding_rules.EncodingRules.TheVariants.{Ber, Der};
-ghost use Rattle.der_core_head.specs.Tags.{tag_at};
-ghost use Rattle.der_core_head.specs.Heads.{head_at};
-ghost use Rattle.der_core_head.specs.Bodies.{tag_ber_at, head_ber_at};
+ghost use Rattle.der_core_head.specs.declared.encoding_rules.EncodingRules.{EncodingRules};
+ghost use Rattle.der_core_head.specs.Bodies.{head_by, tag_by};
 ghost use Rattle.der_core_octets.specs.Fronts.{Counts, head_of, wanted_at, alone};
 
 use crate::header::{header_of, plain_header_of, plain_tag_of, short_header_of_tag, tag_of};
@@ -16,8 +14,7 @@ use der_core_head::{EncodingRules, Error, ErrorKind, Header, Tag, is_same_tag};
 /// # Errors
 /// Those of `tag_of`, and under BER those of `tag_ber_of`.
 pub fn tag_by(rules: EncodingRules, octets: &[u8]) -> Result<(Tag, usize), Error>
-    ensures der { rules ≡ Der → Counts (λ t. t) octets.now result tag_at }
-    ensures ber { rules ≡ Ber → Counts (λ t. t) octets.now result tag_ber_at }
+    ensures front { Counts (λ t. t) octets.now result (tag_by rules) }
     ensures within { IfOk result (λ x. x.1 ≤ length octets.now) }
 {
     match rules {
@@ -29,8 +26,7 @@ pub fn tag_by(rules: EncodingRules, octets: &[u8]) -> Result<(Tag, usize), Error
 /// The tag at the front of octets, if it is spelled in one. It is the same by both rules.
 #[inline(always)]
 pub fn short_tag_by_both(octets: &[u8]) -> Option<Tag>
-    ensures der { IfSome result (λ t. alone (tag_at octets.now) ≡ Ok t) }
-    ensures ber { IfSome result (λ t. alone (tag_ber_at octets.now) ≡ Ok t) }
+    ensures { IfSome result (λ t. (rules : EncodingRules) → alone (tag_by rules octets.now) ≡ Ok t) }
 {
     let tag = plain_tag_of(octets)?;
     Some(tag)
@@ -41,8 +37,7 @@ pub fn short_tag_by_both(octets: &[u8]) -> Option<Tag>
 /// # Errors
 /// Those of `header_of`, and under BER those of `header_ber_of`.
 pub fn header_by(rules: EncodingRules, octets: &[u8]) -> Result<(Header, usize), Error>
-    ensures der { rules ≡ Der → Counts head_of octets.now result head_at }
-    ensures ber { rules ≡ Ber → Counts head_of octets.now result head_ber_at }
+    ensures front { Counts head_of octets.now result (head_by rules) }
     ensures within { IfOk result (λ x. x.1 ≤ length octets.now) }
 {
     match rules {
@@ -55,8 +50,8 @@ pub fn header_by(rules: EncodingRules, octets: &[u8]) -> Result<(Header, usize),
 /// and its length in its shortest form. It is the same by both rules.
 #[inline(always)]
 pub fn plain_header_by_both(octets: &[u8]) -> Option<(Header, usize)>
-    ensures der { IfSome result (λ x. Counts head_of octets.now (Ok x) head_at) }
-    ensures ber { IfSome result (λ x. Counts head_of octets.now (Ok x) head_ber_at) }
+    ensures front { IfSome result (λ x. (rules : EncodingRules) → Counts head_of octets.now (Ok x) (head_by rules)) }
+    ensures within { IfSome result (λ x. x.1 ≤ length octets.now) }
 {
     let front = plain_header_of(octets)?;
     Some(front)
@@ -66,9 +61,9 @@ pub fn plain_header_by_both(octets: &[u8]) -> Option<(Header, usize)>
 /// spelled in one octet. It is the same by both rules.
 #[inline(always)]
 pub fn plain_header_of_tag(tag: Tag, octets: &[u8]) -> Option<(Header, usize)>
-    ensures der { IfSome result (λ x. Counts head_of octets.now (Ok x) (wanted_at tag head_at)) }
-    ensures ber { IfSome result (λ x. Counts head_of octets.now (Ok x) (wanted_at tag head_ber_at)) }
+    ensures front { IfSome result (λ x. (rules : EncodingRules) → Counts head_of octets.now (Ok x) (wanted_at tag (head_by rules))) }
     ensures tag { IfSome result (λ x. x.0.tag ≡ tag) }
+    ensures within { IfSome result (λ x. x.1 ≤ length octets.now) }
 {
     let front = short_header_of_tag(tag, octets)?;
     Some(front)
@@ -84,8 +79,7 @@ pub fn any_header_of_tag(
     tag: Tag,
     octets: &[u8],
 ) -> Result<(Header, usize), Error>
-    ensures der { rules ≡ Der → Counts head_of octets.now result (wanted_at tag head_at) }
-    ensures ber { rules ≡ Ber → Counts head_of octets.now result (wanted_at tag head_ber_at) }
+    ensures front { Counts head_of octets.now result (wanted_at tag (head_by rules)) }
     ensures tag { IfOk result (λ x. x.0.tag ≡ tag) }
     ensures within { IfOk result (λ x. x.1 ≤ length octets.now) }
 {

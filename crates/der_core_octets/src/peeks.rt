@@ -1,10 +1,9 @@
 //! What stands next, without passing over it.
 
 ghost use Rattle.std.specs.Prelude.{◌≡◌};
-ghost use Rattle.der_core_head.specs.declared.encoding_rules.EncodingRules.TheVariants.{Ber, Der};
 ghost use Rattle.der_core_head.specs.Grammar.{peek_at};
-ghost use Rattle.der_core_head.specs.Reading.{PeeksBy};
-ghost use Rattle.der_core_octets.specs.Fronts.{matches_at, peek_ber_at};
+ghost use Rattle.der_core_head.specs.Reading.{Peeks};
+ghost use Rattle.der_core_octets.specs.Fronts.{matches_at};
 
 use crate::reader::Reader;
 use der_core_head::{Class, Error, TagNumber};
@@ -12,14 +11,13 @@ use der_core_head::{Class, Error, TagNumber};
 /// Whether the tag that stands next is of that class and has that number; at the end none is.
 ///
 /// # Errors
-/// Those of `tag_of`.
+/// Those of `peek_tag`.
 pub fn peek_matches<'a, R: Reader<'a>>(
     reader: &R,
     class: Class,
     number: TagNumber,
 ) -> Result<bool, Error>
-    ensures der { PeeksBy Der (λ b. b) (R.state reader.now) result (matches_at class number.value (peek_at (R.state reader.now).rest)) }
-    ensures ber { PeeksBy Ber (λ b. b) (R.state reader.now) result (matches_at class number.value (peek_ber_at (R.state reader.now).rest)) }
+    ensures { Peeks (λ b. b) (R.state reader.now) result (matches_at class number.value (peek_at (R.state reader.now).source.encoding (R.state reader.now).rest)) }
 {
     let Some(tag) = reader.peek_tag_or_end()? else {
         return Ok(false);

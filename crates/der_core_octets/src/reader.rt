@@ -1,16 +1,15 @@
 //! Readers.
 
 ghost use Rattle.std.specs.Prelude.{◌≡◌, ◌↔◌, ◌+◌, ◌≤◌, ◌<◌, ◌^◌, ◌++◌, ℕ, List, IsTrue, length, take, [], slice_get, Ok, OnOk, OnErr, IfOk, IfErr, IsSomeAnd, ◌≢◌, true, false};
-ghost use Rattle.der_core_head.specs.Tags.{IsTag, tag_at};
-ghost use Rattle.der_core_head.specs.Heads.{head_octets, head_at};
-ghost use Rattle.der_core_head.specs.declared.encoding_rules.EncodingRules.TheVariants.{Ber, Der};
-ghost use Rattle.der_core_head.specs.Bodies.{head_ber_at, tag_ber_at};
+ghost use Rattle.der_core_head.specs.Tags.{IsTag};
+ghost use Rattle.der_core_head.specs.Heads.{head_octets};
+ghost use Rattle.der_core_head.specs.Bodies.{head_by, tag_by};
 ghost use Rattle.der_core_head.specs.declared.tag.Tag.{Tag};
 ghost use Rattle.der_core_head.specs.declared.tag.Tag.TheVariants.{Sequence};
 ghost use Rattle.der_core_head.specs.Shapes.{Body, BodyValue, nested, tagged};
-ghost use Rattle.der_core_head.specs.Grammar.{slice_at, byte_at, peek_at, value_at, read_content, read};
-ghost use Rattle.der_core_head.specs.Reading.{State, IsDer, Kept, ClosureReads, HandsBack, Reads, ReadsNow, ReadsBy, ReadsAlways, GivesNow, PeeksBy, Opens, Closes, past, broken};
-ghost use Rattle.der_core_octets.specs.Fronts.{head_of, wanted_at, alone, peek_ber_at};
+ghost use Rattle.der_core_head.specs.Grammar.{slice_at, byte_at, peek_at, value_at};
+ghost use Rattle.der_core_head.specs.Reading.{State, IsDer, Kept, ClosureReads, HandsBack, Reads, ReadsNow, GivesNow, Peeks, Opens, Closes, past, broken, ruled, read_at, read_content_at};
+ghost use Rattle.der_core_octets.specs.Fronts.{head_of, wanted_at, alone};
 ghost use Rattle.der_core_octets.specs.Nesting.{IsNested, Answered, RefusesNested, IsEnclosed, AnsweredIn, RefusesIn};
 ghost use Rattle.der_core_octets.specs.Places.{IsAt, encoding_at};
 
@@ -31,6 +30,10 @@ pub trait Reader<'r>: Drop {
     /// The rules by which headers are read.
     fn encoding_rules(&self) -> EncodingRules
         ensures { result ≡ (state self.now).source.encoding };
+
+    /// Sets the rules by which headers are read from then on.
+    fn set_encoding_rules(&mut self, encoding_rules: EncodingRules)
+        ensures { state self.new ≡ ruled encoding_rules (state self.old) };
 
     /// The number of octets of the whole input.
     fn input_len(&self) -> Length
@@ -151,8 +154,7 @@ pub trait Reader<'r>: Drop {
         ensures only { (t : Tag) (n : ℕ) (r : List ℕ) → IsDer (state self.old) → (state self.old).failed ≡ false → IsTag t → n < 2 ^ 32
             → (state self.old).rest ≡ head_octets t n ++ r → GivesNow head_of result (Ok (record { tag = t; len = n })) × ((state self.new).rest ≡ r) }
         // Which fault it is.
-        ensures der { ReadsBy Der head_of (state self.old) (state self.new) result head_at }
-        ensures ber { ReadsBy Ber head_of (state self.old) (state self.new) result head_ber_at }
+        ensures front { ReadsNow head_of (state self.old) (state self.new) result (head_by (state self.old).source.encoding) }
     {
         if !self.is_failed() {
             let octets = self.remaining();
@@ -171,8 +173,7 @@ pub trait Reader<'r>: Drop {
     /// Those of `read_header`, and then `TagUnexpected` for another tag.
     #[inline(always)]
     final fn read_header_of(&mut self, tag: Tag) -> Result<Header, Error>
-        ensures der { ReadsBy Der head_of (state self.old) (state self.new) result (wanted_at tag head_at) }
-        ensures ber { ReadsBy Ber head_of (state self.old) (state self.new) result (wanted_at tag head_ber_at) }
+        ensures front { ReadsNow head_of (state self.old) (state self.new) result (wanted_at tag (head_by (state self.old).source.encoding)) }
         ensures tag { IfOk result (λ h. h.tag ≡ tag) }
     {
         if !self.is_failed() {
@@ -190,8 +191,7 @@ pub trait Reader<'r>: Drop {
     /// # Errors
     /// Those of `read_header`.
     final fn peek_header(&self) -> Result<Header, Error>
-        ensures der { PeeksBy Der head_of (state self.now) result (alone (head_at (state self.now).rest)) }
-        ensures ber { PeeksBy Ber head_of (state self.now) result (alone (head_ber_at (state self.now).rest)) }
+        ensures { Peeks head_of (state self.now) result (alone (head_by (state self.now).source.encoding (state self.now).rest)) }
     {
         if self.is_failed() {
             return Err(Error::from(ErrorKind::Failed));
@@ -208,8 +208,7 @@ pub trait Reader<'r>: Drop {
     /// # Errors
     /// Those of `tag_of`, and under BER those of `tag_ber_of`.
     final fn peek_tag(&self) -> Result<Tag, Error>
-        ensures der { PeeksBy Der (λ t. t) (state self.now) result (alone (tag_at (state self.now).rest)) }
-        ensures ber { PeeksBy Ber (λ t. t) (state self.now) result (alone (tag_ber_at (state self.now).rest)) }
+        ensures { Peeks (λ t. t) (state self.now) result (alone (tag_by (state self.now).source.encoding (state self.now).rest)) }
     {
         if self.is_failed() {
             return Err(Error::from(ErrorKind::Failed));
@@ -227,8 +226,7 @@ pub trait Reader<'r>: Drop {
     /// # Errors
     /// Those of `peek_tag`.
     final fn peek_tag_or_end(&self) -> Result<Option<Tag>, Error>
-        ensures der { PeeksBy Der (λ t. t) (state self.now) result (peek_at (state self.now).rest) }
-        ensures ber { PeeksBy Ber (λ t. t) (state self.now) result (peek_ber_at (state self.now).rest) }
+        ensures { Peeks (λ t. t) (state self.now) result (peek_at (state self.now).source.encoding (state self.now).rest) }
     {
         if self.is_failed() {
             return Err(Error::from(ErrorKind::Failed));
@@ -249,8 +247,7 @@ pub trait Reader<'r>: Drop {
     /// Those of `peek_tag`. The reader has failed after them.
     #[inline(always)]
     final fn next_tag(&mut self) -> Result<Tag, Error>
-        ensures der { PeeksBy Der (λ t. t) (state self.old) result (alone (tag_at (state self.old).rest)) }
-        ensures ber { PeeksBy Ber (λ t. t) (state self.old) result (alone (tag_ber_at (state self.old).rest)) }
+        ensures front { Peeks (λ t. t) (state self.old) result (alone (tag_by (state self.old).source.encoding (state self.old).rest)) }
         ensures stays { OnOk result (state self.new ≡ state self.old) }
         ensures failed { OnErr result (state self.new ≡ broken (state self.old)) }
     {
@@ -270,8 +267,7 @@ pub trait Reader<'r>: Drop {
     /// Those of `peek_tag`. The reader has failed after them.
     #[inline(always)]
     final fn next_tag_or_end(&mut self) -> Result<Option<Tag>, Error>
-        ensures der { PeeksBy Der (λ t. t) (state self.old) result (peek_at (state self.old).rest) }
-        ensures ber { PeeksBy Ber (λ t. t) (state self.old) result (peek_ber_at (state self.old).rest) }
+        ensures front { Peeks (λ t. t) (state self.old) result (peek_at (state self.old).source.encoding (state self.old).rest) }
         ensures stays { OnOk result (state self.new ≡ state self.old) }
         ensures failed { OnErr result (state self.new ≡ broken (state self.old)) }
     {
@@ -293,7 +289,7 @@ pub trait Reader<'r>: Drop {
     /// # Errors
     /// `Incomplete` where fewer are left, or `OutOfMemory`.
     final fn read_vec(&mut self, alloc: Global, len: Length) -> Result<Vec<u8>, Error>
-        ensures { ReadsAlways (λ v. v.items) (state self.old) (state self.new) result (slice_at len.value) }
+        ensures { Reads (λ v. v.items) (state self.old) (state self.new) result (slice_at len.value) }
     {
         let octets = self.read_slice(len)?;
         match octets.to_vec(alloc) {
@@ -311,8 +307,7 @@ pub trait Reader<'r>: Drop {
     /// # Errors
     /// Those of `read_header`, and `Incomplete` where fewer octets of content are left.
     final fn tlv_bytes(&mut self) -> Result<&'r [u8], Error>
-        ensures der { ReadsBy Der (λ s. s.now) (state self.old) (state self.new) result (encoding_at head_at) }
-        ensures ber { ReadsBy Ber (λ s. s.now) (state self.old) (state self.new) result (encoding_at head_ber_at) }
+        ensures { ReadsNow (λ s. s.now) (state self.old) (state self.new) result (encoding_at (head_by (state self.old).source.encoding)) }
     {
         if self.is_failed() {
             return Err(Error::from(ErrorKind::Failed));
@@ -444,7 +439,7 @@ pub trait Reader<'r>: Drop {
         ensures refused { IfErr result (RefusesNested state F.FnOnce f len.value (state self.old)) }
         // What the closure reads of a body, this reads of a content.
         ensures reads { (t : Tag) (b : Body) (view : T → BodyValue b) → ClosureReads state F.FnOnce f b view
-            → Reads view (state self.old) (state self.new) result (value_at (read_content (nested b) t (state self.old).room) len.value) }
+            → Reads view (state self.old) (state self.new) result (value_at (read_content_at (state self.old) (nested b) t) len.value) }
     {
         let behind = self.begin_nested(len)?;
         let outcome = f(self);
@@ -469,7 +464,7 @@ pub trait Reader<'r>: Drop {
         ensures failed { OnErr result ((state self.new).failed ≡ true) }
         ensures refused { IfErr result (RefusesNested state F.FnOnce f header.length.value (state self.old)) }
         ensures reads { (b : Body) (view : T → BodyValue b) → ClosureReads state F.FnOnce f b view
-            → Reads view (state self.old) (state self.new) result (value_at (read_content (nested b) header.tag (state self.old).room) header.length.value) }
+            → Reads view (state self.old) (state self.new) result (value_at (read_content_at (state self.old) (nested b) header.tag) header.length.value) }
     {
         let value = self.read_nested(header.length, f)?;
         Ok(value)
@@ -493,7 +488,7 @@ pub trait Reader<'r>: Drop {
         ensures failed { OnErr result ((state self.new).failed ≡ true) }
         ensures refused { IfErr result (RefusesIn Sequence state F.FnOnce f (state self.old)) }
         ensures reads { (b : Body) (view : T → BodyValue b) → ClosureReads state F.FnOnce f b view
-            → Reads view (state self.old) (state self.new) result (read (tagged Sequence (nested b)) (state self.old).room) }
+            → Reads view (state self.old) (state self.new) result (read_at (state self.old) (tagged Sequence (nested b))) }
     {
         let header = self.read_header_of(Tag::Sequence)?;
         let value = self.read_nested(header.length, f)?;
@@ -526,8 +521,7 @@ pub trait Reader<'r>: Drop {
 /// Those of `peek_tag`. The reader has failed after them.
 #[inline(never)]
 fn next_any_tag<'r, R: Reader<'r>>(reader: &mut R) -> Result<Tag, Error>
-    ensures der { PeeksBy Der (λ t. t) (R.state reader.old) result (alone (tag_at (R.state reader.old).rest)) }
-    ensures ber { PeeksBy Ber (λ t. t) (R.state reader.old) result (alone (tag_ber_at (R.state reader.old).rest)) }
+    ensures front { Peeks (λ t. t) (R.state reader.old) result (alone (tag_by (R.state reader.old).source.encoding (R.state reader.old).rest)) }
     ensures stays { OnOk result (R.state reader.new ≡ R.state reader.old) }
     ensures failed { OnErr result (R.state reader.new ≡ broken (R.state reader.old)) }
 {
@@ -549,8 +543,7 @@ fn next_any_tag<'r, R: Reader<'r>>(reader: &mut R) -> Result<Tag, Error>
 fn read_any_header<'r, R: Reader<'r>>(reader: &mut R) -> Result<Header, Error>
     ensures spelled { IfOk result (λ h. IsDer (R.state reader.old)
         → IsTag h.tag × ((R.state reader.old).rest ≡ head_octets h.tag h.length.value ++ (R.state reader.new).rest)) }
-    ensures der { ReadsBy Der head_of (R.state reader.old) (R.state reader.new) result head_at }
-    ensures ber { ReadsBy Ber head_of (R.state reader.old) (R.state reader.new) result head_ber_at }
+    ensures front { ReadsNow head_of (R.state reader.old) (R.state reader.new) result (head_by (R.state reader.old).source.encoding) }
 {
     if reader.is_failed() {
         return Err(Error::from(ErrorKind::Failed));
@@ -575,8 +568,7 @@ fn read_any_header<'r, R: Reader<'r>>(reader: &mut R) -> Result<Header, Error>
 /// Those of `read_header_of`.
 #[inline(never)]
 fn read_any_header_of<'r, R: Reader<'r>>(reader: &mut R, tag: Tag) -> Result<Header, Error>
-    ensures der { ReadsBy Der head_of (R.state reader.old) (R.state reader.new) result (wanted_at tag head_at) }
-    ensures ber { ReadsBy Ber head_of (R.state reader.old) (R.state reader.new) result (wanted_at tag head_ber_at) }
+    ensures front { ReadsNow head_of (R.state reader.old) (R.state reader.new) result (wanted_at tag (head_by (R.state reader.old).source.encoding)) }
     ensures tag { IfOk result (λ h. h.tag ≡ tag) }
 {
     if reader.is_failed() {

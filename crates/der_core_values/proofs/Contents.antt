@@ -8,10 +8,11 @@ use Rattle.der_core_head.specs.declared.error.ErrorKind.TheVariants as kinds
 use Rattle.der_core_head.specs.Lengths.{counted}
 use Rattle.der_core_head.specs.Leaves.{Leaf, LeafValue, leaf_read, octets}
 use Rattle.der_core_head.specs.Shapes.{leaf}
+use Rattle.der_core_head.specs.declared.encoding_rules.EncodingRules.{EncodingRules}
 use Rattle.der_core_head.specs.declared.tag.Tag.{Tag}
 use Rattle.der_core_head.specs.Octets.{◌>>=◌}
-use Rattle.der_core_head.specs.Grammar.{whole, slice_at, value_at, read_content, leaf_at, kept}
-use Rattle.der_core_head.specs.Reading.{State, Reads, ReadsAlways, IsRest, Fails, broken}
+use Rattle.der_core_head.specs.Grammar.{whole, slice_at, value_at, read_content_by, leaf_at, kept}
+use Rattle.der_core_head.specs.Reading.{State, Reads, IsRest, Fails, broken, read_content_at}
 use Rattle.der_core_head.proofs.Results.{ok_is}
 use Rattle.der_core_octets.proofs.Nested.{broken_kept}
 use Rattle.der_core_octets.proofs.Steps.{kept_then}
@@ -21,40 +22,40 @@ leaf_then : {P : Type 0} (o : Result P ErrorKind) (r : List ℕ) → (leaf_at o 
 leaf_then (Ok v) r = refl
 leaf_then (Err e) r = refl
 
-pub content_ok : (l : Leaf) (t : Tag) (room n : ℕ) (w x r : List ℕ) → slice_at n w ≡ Ok (x, r) → value_at (read_content (leaf l) t room) n w ≡ (leaf_read l t x >>= kept r)
-content_ok l t room n w x r e =
+pub content_ok : (rules : EncodingRules) (l : Leaf) (t : Tag) (room n : ℕ) (w x r : List ℕ) → slice_at n w ≡ Ok (x, r) → value_at (read_content_by rules (leaf l) t room) n w ≡ (leaf_read l t x >>= kept r)
+content_ok rules l t room n w x r e =
     elim (cases_lt (length w) n) [
       | inl lt ↦ absurd (cc (slice_short n w lt))
       | inr le ↦
           let p : (take n w, drop n w) ≡ (x, r) = ok_is (take n w, drop n w) (x, r) (sym (slice_ok n w le) ∙ e) in
-          value_enough (read_content (leaf l) t room) n w le ∙ leaf_then (leaf_read l t (take n w)) (drop n w) ∙ ap (λ (q : List ℕ × List ℕ). leaf_read l t q.0 >>= kept q.1) p
+          value_enough (read_content_by rules (leaf l) t room) n w le ∙ leaf_then (leaf_read l t (take n w)) (drop n w) ∙ ap (λ (q : List ℕ × List ℕ). leaf_read l t q.0 >>= kept q.1) p
     ]
 
-pub content_err : (l : Leaf) (t : Tag) (room n : ℕ) (w : List ℕ) (k : ErrorKind) → slice_at n w ≡ Err k → value_at (read_content (leaf l) t room) n w ≡ Err k
-content_err l t room n w k e =
+pub content_err : (rules : EncodingRules) (l : Leaf) (t : Tag) (room n : ℕ) (w : List ℕ) (k : ErrorKind) → slice_at n w ≡ Err k → value_at (read_content_by rules (leaf l) t room) n w ≡ Err k
+content_err rules l t room n w k e =
     elim (cases_lt (length w) n) [
-      | inl lt ↦ value_short (read_content (leaf l) t room) n w lt ∙ (let same : kinds.Incomplete ≡ k = cc (slice_short n w lt) in ap (λ x. Err x) same)
+      | inl lt ↦ value_short (read_content_by rules (leaf l) t room) n w lt ∙ (let same : kinds.Incomplete ≡ k = cc (slice_short n w lt) in ap (λ x. Err x) same)
       | inr le ↦ absurd (cc (slice_ok n w le))
     ]
 
 module _ {X : Type 0} (l : Leaf) (t : Tag) (view : X → LeafValue l) (old mid : State) (x : List ℕ) (n : ℕ)
-    (took : (l : Leaf) (t : Tag) (room : ℕ) → value_at (read_content (leaf l) t room) n old.rest ≡ (leaf_read l t x >>= kept mid.rest))
+    (took : (l : Leaf) (t : Tag) (room : ℕ) → value_at (read_content_by old.source.encoding (leaf l) t room) n old.rest ≡ (leaf_read l t x >>= kept mid.rest))
     (moved : mid ≡ record old { rest = mid.rest }) (ready : old.failed ≡ false) (passed : IsRest mid.rest old.rest) where
-  pub leaf_reads : (v : X) → leaf_read l t x ≡ Ok (view v) → Reads view old mid (Ok v) (value_at (read_content (leaf l) t old.room) n)
-  leaf_reads v says = (λ _. took l t old.room ∙ ap (λ o. o >>= kept mid.rest) says, moved, ready, passed)
+  pub leaf_reads : (v : X) → leaf_read l t x ≡ Ok (view v) → Reads view old mid (Ok v) (value_at (read_content_at old (leaf l) t) n)
+  leaf_reads v says = (took l t old.room ∙ ap (λ o. o >>= kept mid.rest) says, moved, ready, passed)
 
   -- and the reader fails where they are refused
-  pub leaf_refuses : (new : State) (e : Error) → new ≡ broken mid → Fails e.kind (leaf_read l t x) → Reads view old new (Err e) (value_at (read_content (leaf l) t old.room) n)
+  pub leaf_refuses : (new : State) (e : Error) → new ≡ broken mid → Fails e.kind (leaf_read l t x) → Reads view old new (Err e) (value_at (read_content_at old (leaf l) t) n)
   leaf_refuses new e failed says = (
-    λ _ _ memory. took l t old.room ∙ ap (λ o. o >>= kept mid.rest) (says memory),
+    λ _ memory. took l t old.room ∙ ap (λ o. o >>= kept mid.rest) (says memory),
     kept_then old mid new moved passed (broken_kept mid new failed),
     λ f. absurd (cc (f, ready)),
     ap (λ (s : State). s.failed) failed,
   )
 
-pub content_reads : {X : Type 0} (t : Tag) (n : ℕ) (view : X → List ℕ) (old new : State) (r : Result X Error) → ReadsAlways view old new r (slice_at n) → Reads view old new r (value_at (read_content (leaf octets) t old.room) n)
-content_reads t n view old new (Ok v) h = (λ _. content_ok octets t old.room n old.rest (view v) new.rest h.0, h.1, h.2, h.3)
-content_reads t n view old new (Err e) h = (λ _ ready memory. content_err octets t old.room n old.rest e.kind (h.0 ready memory), h.1, h.2, h.3)
+pub content_reads : {X : Type 0} (t : Tag) (n : ℕ) (view : X → List ℕ) (old new : State) (r : Result X Error) → Reads view old new r (slice_at n) → Reads view old new r (value_at (read_content_at old (leaf octets) t) n)
+content_reads t n view old new (Ok v) h = (content_ok old.source.encoding octets t old.room n old.rest (view v) new.rest h.0, h.1, h.2, h.3)
+content_reads t n view old new (Err e) h = (λ ready memory. content_err old.source.encoding octets t old.room n old.rest e.kind (h.0 ready memory), h.1, h.2, h.3)
 
 -- octets that a length can count
 pub counted_fits : (w : List ℕ) → length w < 4294967296 → counted w ≡ Ok w

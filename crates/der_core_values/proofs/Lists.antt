@@ -1,12 +1,11 @@
 -- Reading values one after the other, as a loop does.
 use Rattle.std.proofs.Common.{◌≡◌, ℕ, zero, suc, ◌-◌, ◌+◌, ◌≤◌, ◌<◌, List, [], ◌∷◌, ◌++◌, Result, Ok, Err, refl, sym, ap, ◌∙◌, arith}
-use Rattle.std.specs.Prelude.{◌≢◌, slice_get, length, Option, Some}
-use Rattle.std.proofs.lemmas.List.{length-append}
+use Rattle.std.specs.Prelude.{◌≢◌, Option, Some}
 use Rattle.der_core_head.specs.declared.error.ErrorKind.{ErrorKind}
 use Rattle.der_core_head.specs.declared.error.ErrorKind.TheVariants as kinds
 use Rattle.der_core_head.specs.Octets.{◌>>=◌, Readings}
 use Rattle.der_core_head.specs.Shapes.{Step}
-use Rattle.der_core_head.specs.Grammar.{read_many, read_exactly, read_in_order, follows_last, last_octets, plain_option, plain_list}
+use Rattle.der_core_head.specs.Grammar.{read_many, read_exactly, read_in_order, follows_last, plain_list}
 
 abbrev pub onto : {A P : Type 0} → (A → P) → List A → List P → List P
 onto f [] p = p
@@ -86,31 +85,20 @@ exactly_done f F n i w xs total le so_far =
 
 -- The same of a set, whose octets are in order.
 
-at_end : {A : Type 0} (xs : List A) (x : A) (n : ℕ) → n ≡ length xs → slice_get (xs ++ x ∷ []) n ≡ Some x
-at_end [] x zero h = refl
-at_end [] x (suc n) h = absurd (omega (arith, h))
-at_end (y ∷ ys) x zero h = absurd (omega (arith, h))
-at_end (y ∷ ys) x (suc n) h = at_end ys x n (omega (arith, h))
-
-pub last_more : {A : Type 0} (o : A → List ℕ) (xs : List A) (x : A) → last_octets o (xs ++ x ∷ []) ≡ Some (o x)
-last_more o xs x = ap (plain_option o) (at_end xs x (length (xs ++ x ∷ []) - 1) (omega (arith, length-append xs (x ∷ []))))
-
 next_in_order : {P : Type 0} (how : Step) (o : P → List ℕ) (F : Readings P) (last : Option (List ℕ)) (n i : ℕ) (w : List ℕ) → i < n → w ≢ []
     → read_in_order how o F last (n - i) w ≡ (F w >>= λ x. follows_last how last (o x.0) >>= λ _. read_in_order how o F (Some (o x.0)) (n - (i + 1)) x.1 >>= λ y. Ok (x.0 ∷ y.0, y.1))
 unfolding read_in_order
 next_in_order how o F last n i [] lt some = absurd (some refl)
 next_in_order how o F last n i (b ∷ w) lt some = let k : n - i ≡ suc (n - (i + 1)) = omega arith in rw k refl
 
-pub set_on : {A P : Type 0} (how : Step) (f : A → P) (o : P → List ℕ) (F : Readings P) (n i : ℕ) (w after : List ℕ) (xs : List A) (x : A) (total : Result (List P × List ℕ) ErrorKind)
-    → i < n → w ≢ [] → F w ≡ Ok (f x, after) → follows_last how (last_octets (λ v. o (f v)) xs) (o (f x)) ≡ Ok tt
-    → with_front f xs (read_in_order how o F (last_octets (λ v. o (f v)) xs) (n - i) w) ≡ total
-    → with_front f (xs ++ x ∷ []) (read_in_order how o F (last_octets (λ v. o (f v)) (xs ++ x ∷ [])) (n - (i + 1)) after) ≡ total
-set_on how f o F n i w after xs x total lt some e ok so_far =
-    let last = last_octets (λ v. o (f v)) xs in
-    let now : read_in_order how o F last (n - i) w ≡ (read_in_order how o F (Some (o (f x))) (n - (i + 1)) after >>= λ y. Ok (f x ∷ y.0, y.1)) =
-    next_in_order how o F last n i w lt some ∙ rw (e, ok) refl in
-    ap (λ l. with_front f (xs ++ x ∷ []) (read_in_order how o F l (n - (i + 1)) after)) (last_more (λ v. o (f v)) xs x)
-    ∙ sym (ap (with_front f xs) now ∙ regroup f xs x (read_in_order how o F (Some (o (f x))) (n - (i + 1)) after)) ∙ so_far
+pub set_on : {A P : Type 0} (how : Step) (f : A → P) (o : P → List ℕ) (F : Readings P) (last : Option (List ℕ)) (n i : ℕ) (w after : List ℕ) (xs : List A) (x : A) (total : Result (List P × List ℕ) ErrorKind)
+    → i < n → w ≢ [] → F w ≡ Ok (f x, after) → follows_last how last (o (f x)) ≡ Ok tt
+    → with_front f xs (read_in_order how o F last (n - i) w) ≡ total
+    → with_front f (xs ++ x ∷ []) (read_in_order how o F (Some (o (f x))) (n - (i + 1)) after) ≡ total
+set_on how f o F last n i w after xs x total lt some e ok so_far =
+    let rest = read_in_order how o F (Some (o (f x))) (n - (i + 1)) after in
+    let now : read_in_order how o F last (n - i) w ≡ (rest >>= λ y. Ok (f x ∷ y.0, y.1)) = next_in_order how o F last n i w lt some ∙ rw (e, ok) refl in
+    sym (ap (with_front f xs) now ∙ regroup f xs x rest) ∙ so_far
 
 set_first : {A P : Type 0} (how : Step) (f : A → P) (o : P → List ℕ) (F : Readings P) (last : Option (List ℕ)) (n i : ℕ) (w : List ℕ) (xs : List A) (k : ErrorKind)
     → i < n → w ≢ [] → F w ≡ Err k → with_front f xs (read_in_order how o F last (n - i) w) ≡ Err k

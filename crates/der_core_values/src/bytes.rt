@@ -1,10 +1,10 @@
 //! Octets that stand as they are, whatever tag is before them (X.690 8.7).
 
 ghost use Rattle.std.specs.Prelude.{◌≡◌};
-ghost use Rattle.der_core_head.specs.Grammar.{slice_at, value_at, read_content};
+ghost use Rattle.der_core_head.specs.Grammar.{slice_at, value_at};
 ghost use Rattle.der_core_octets.specs.Held.{held_octets};
 ghost use Rattle.der_core_head.specs.Leaves.{octets};
-ghost use Rattle.der_core_head.specs.Reading.{Reads, ReadsAlways};
+ghost use Rattle.der_core_head.specs.Reading.{Reads, read_content_at};
 ghost use Rattle.der_core_head.specs.Shapes.{leaf};
 
 use crate::decode::{DecodeValue, ShapedValue};
@@ -95,9 +95,9 @@ pub fn decode_octets<'a, R: Reader<'a>>(
     reader: &mut R,
     header: Header,
 ) -> Result<BytesOwned, Error>
-    ensures octets { ReadsAlways (λ bytes. bytes) (R.state reader.old) (R.state reader.new) result (slice_at header.length.value) }
+    ensures octets { Reads (λ bytes. bytes) (R.state reader.old) (R.state reader.new) result (slice_at header.length.value) }
     // It is what reading a content gives.
-    ensures content { Reads (λ bytes. bytes) (R.state reader.old) (R.state reader.new) result (value_at (read_content (leaf octets) header.tag (R.state reader.old).room) header.length.value) }
+    ensures content { Reads (λ bytes. bytes) (R.state reader.old) (R.state reader.new) result (value_at (read_content_at (R.state reader.old) (leaf octets) header.tag) header.length.value) }
 {
     copy_content(alloc, reader, header)
 }
@@ -108,7 +108,7 @@ fn copy_content<'a, R: Reader<'a>>(
     reader: &mut R,
     header: Header,
 ) -> Result<BytesOwned, Error>
-    ensures { ReadsAlways (λ bytes. bytes) (R.state reader.old) (R.state reader.new) result (slice_at header.length.value) }
+    ensures { Reads (λ bytes. bytes) (R.state reader.old) (R.state reader.new) result (slice_at header.length.value) }
 {
     let octets = reader.read_vec(alloc, header.length)?;
     match BytesOwned::new(octets) {

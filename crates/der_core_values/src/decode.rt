@@ -3,8 +3,8 @@
 ghost use Rattle.std.specs.Prelude.{◌≡◌};
 ghost use Rattle.der_core_head.specs.declared.tag.Tag.{Tag};
 ghost use Rattle.der_core_head.specs.Shapes.{Shape, Content, Value, ContentValue, tagged, optional, begins};
-ghost use Rattle.der_core_head.specs.Grammar.{read, read_content, value_at, plain_option};
-ghost use Rattle.der_core_head.specs.Reading.{Reads};
+ghost use Rattle.der_core_head.specs.Grammar.{value_at, plain_option};
+ghost use Rattle.der_core_head.specs.Reading.{Reads, read_at, read_content_at};
 
 use der_core_head::{Error, Header, Tag, is_same_tag};
 use der_core_octets::Reader;
@@ -31,12 +31,12 @@ pub trait Shaped {
 
 /// What is read from octets, with its header.
 pub trait Decode<'a, R: Reader<'a>>: Shaped + Drop {
-    /// The value that stands next. After a refusal the reader has failed.
+    /// The value that stands next, whose headers are read by the rules of the reader. After a refusal the reader has failed.
     ///
     /// # Errors
     /// The first fault from the left, or `OutOfMemory`; `Failed` where the reader failed before.
     fn decode(alloc: Global, reader: &mut R) -> Result<Self, Error>
-        ensures { Reads Self.plain (R.state reader.old) (R.state reader.new) result (read Self.shape (R.state reader.old).room) };
+        ensures { Reads Self.plain (R.state reader.old) (R.state reader.new) result (read_at (R.state reader.old) Self.shape) };
 }
 
 /// What the values of a type are, and which octets spell their contents.
@@ -57,7 +57,7 @@ pub trait DecodeValue<'a, R: Reader<'a>>: ShapedValue + Drop {
     /// # Errors
     /// The first fault from the left, or `OutOfMemory`; `Failed` where the reader failed before.
     fn decode_value(alloc: Global, reader: &mut R, header: Header) -> Result<Self, Error>
-        ensures { Reads Self.value_plain (R.state reader.old) (R.state reader.new) result (value_at (read_content Self.content header.tag (R.state reader.old).room) header.length.value) };
+        ensures { Reads Self.value_plain (R.state reader.old) (R.state reader.new) result (value_at (read_content_at (R.state reader.old) Self.content header.tag) header.length.value) };
 }
 
 impl<T: ShapedValue + FixedTag> Shaped for T {
@@ -79,7 +79,7 @@ fn decode_tagged<'a, R: Reader<'a>, T: DecodeValue<'a, R> + FixedTag>(
     alloc: Global,
     reader: &mut R,
 ) -> Result<T, Error>
-    ensures { Reads T.value_plain (R.state reader.old) (R.state reader.new) result (read (tagged T.fixed_tag T.content) (R.state reader.old).room) }
+    ensures { Reads T.value_plain (R.state reader.old) (R.state reader.new) result (read_at (R.state reader.old) (tagged T.fixed_tag T.content)) }
 {
     let header = reader.read_header_of(T::tag())?;
     T::decode_value(alloc, reader, header)

@@ -2,8 +2,8 @@
 
 ghost use Rattle.std.specs.Prelude.{◌≡◌};
 ghost use Rattle.der_core_head.specs.Shapes.{Body, BodyValue, nested};
-ghost use Rattle.der_core_head.specs.Grammar.{value_at, read_body, read_content};
-ghost use Rattle.der_core_head.specs.Reading.{Reads};
+ghost use Rattle.der_core_head.specs.Grammar.{value_at};
+ghost use Rattle.der_core_head.specs.Reading.{Reads, read_body_at, read_content_at};
 
 use der_core_head::{Error, Header};
 use der_core_octets::Reader;
@@ -26,7 +26,7 @@ pub trait DecodeFields<'a, R: Reader<'a>>: Fields {
     /// # Errors
     /// The first fault from the left, or `OutOfMemory`; `Failed` where the reader failed before.
     fn decode_fields(alloc: Global, reader: &mut R) -> Result<Self, Error>
-        ensures { Reads Self.fields_plain (R.state reader.old) (R.state reader.new) result (read_body Self.fields (R.state reader.old).room) };
+        ensures { Reads Self.fields_plain (R.state reader.old) (R.state reader.new) result (read_body_at (R.state reader.old) Self.fields) };
 }
 
 /// Reads the fields that a header announces, all of its octets.
@@ -39,7 +39,7 @@ pub fn read_fields<'a, R: Reader<'a>, T: DecodeFields<'a, R> + Drop>(
     reader: &mut R,
     header: Header,
 ) -> Result<T, Error>
-    ensures { Reads T.fields_plain (R.state reader.old) (R.state reader.new) result (value_at (read_content (nested T.fields) header.tag (R.state reader.old).room) header.length.value) }
+    ensures { Reads T.fields_plain (R.state reader.old) (R.state reader.new) result (value_at (read_content_at (R.state reader.old) (nested T.fields) header.tag) header.length.value) }
 {
     let behind = reader.begin_nested(header.length)?;
     match T::decode_fields(alloc, reader) {

@@ -3,8 +3,8 @@
 ghost use Rattle.std.specs.Prelude.{◌≡◌, ◌<◌, ◌^◌, length, IfOk};
 ghost use Rattle.der_core_head.specs.declared.tag.Tag.TheVariants.{Boolean, Null};
 ghost use Rattle.der_core_head.specs.Shapes.{leaf};
-ghost use Rattle.der_core_head.specs.Grammar.{value_at, read_content};
-ghost use Rattle.der_core_head.specs.Reading.{Reads, Gives, TakesContent};
+ghost use Rattle.der_core_head.specs.Grammar.{value_at};
+ghost use Rattle.der_core_head.specs.Reading.{Reads, Gives, TakesContent, read_content_at};
 ghost use Rattle.der_core_head.specs.Leaves.{Leaf as LeafKind, LeafValue, leaf_read, boolean, null};
 
 use crate::decode::{DecodeValue, FixedTag, ShapedValue};
@@ -50,7 +50,7 @@ pub fn decode_leaf<'a, R: Reader<'a>, T: Leaf<'a>>(
     reader: &mut R,
     header: Header,
 ) -> Result<T, Error>
-    ensures { Reads T.leaf_plain (R.state reader.old) (R.state reader.new) result (value_at (read_content (leaf T.kind) header.tag (R.state reader.old).room) header.length.value) }
+    ensures { Reads T.leaf_plain (R.state reader.old) (R.state reader.new) result (value_at (read_content_at (R.state reader.old) (leaf T.kind) header.tag) header.length.value) }
 {
     let octets = read_content(reader, header)?;
     match T::from_content(alloc, header.tag, octets) {

@@ -5,15 +5,16 @@ use Rattle.std.proofs.lemmas.List.{length-take, take_all, drop_all}
 use Rattle.std.specs.Prelude.{nat_lt}
 use Rattle.der_core_head.specs.declared.error.ErrorKind.{ErrorKind}
 use Rattle.der_core_head.specs.declared.error.ErrorKind.TheVariants as kinds
+use Rattle.der_core_head.specs.declared.encoding_rules.EncodingRules.{EncodingRules}
 use Rattle.der_core_head.specs.declared.tag.Tag.{Tag}
 use Rattle.der_core_head.specs.Octets.{◌>>=◌, Readings}
 use Rattle.der_core_head.specs.Tags.{same_tag}
 use Rattle.der_core_head.specs.Shapes.{AnyValue, Content, ContentValue}
-use Rattle.der_core_head.specs.Grammar.{read_content, whole, value_at, slice_at}
+use Rattle.der_core_head.specs.Grammar.{read_content_by, whole, value_at, slice_at}
 use Rattle.der_core_head.specs.Reading.{Fails}
 use Rattle.der_core_octets.specs.Fronts.{alone}
 use Rattle.der_core_head.proofs.Results.{ok_is, unless_ok}
-use Rattle.der_types_any.specs.Contents.{content_as}
+use Rattle.der_types_any.specs.Contents.{content_by}
 
 pub slice_few : (n : ℕ) (w x r : List ℕ) → slice_at n w ≡ Ok (x, r) → length x ≤ n
 unfolding slice_at
@@ -30,28 +31,30 @@ then_alone : {P : Type 0} (o : Result (P × List ℕ) ErrorKind) → alone (o >>
 then_alone (Ok x) = refl
 then_alone (Err e) = refl
 
-pub as_is : (t : Tag) (c : Content) (a : AnyValue) → same_tag a.tag t ≡ true → content_as t c a ≡ alone (value_at (read_content c a.tag 64) (length a.contents) a.contents)
-unfolding content_as
-as_is t c a e =
-    rw (e, value_whole (read_content c a.tag 64) a.contents) (sym (then_alone (read_content c a.tag 64 a.contents >>= whole)))
+pub as_is : (rules : EncodingRules) (t : Tag) (c : Content) (a : AnyValue) → same_tag a.tag t ≡ true → content_by rules t c a ≡ alone (value_at (read_content_by rules c a.tag 64) (length a.contents) a.contents)
+unfolding content_by
+as_is rules t c a e =
+    rw (e, value_whole (read_content_by rules c a.tag 64) a.contents) (sym (then_alone (read_content_by rules c a.tag 64 a.contents >>= whole)))
 
-pub as_other : (t : Tag) (c : Content) (a : AnyValue) → same_tag a.tag t ≡ false → content_as t c a ≡ Err kinds.TagUnexpected
-unfolding content_as
-as_other t c a e = rw e refl
+pub as_other : (rules : EncodingRules) (t : Tag) (c : Content) (a : AnyValue) → same_tag a.tag t ≡ false → content_by rules t c a ≡ Err kinds.TagUnexpected
+unfolding content_by
+as_other rules t c a e = rw e refl
 
-pub as_ok : (t : Tag) (c : Content) (a : AnyValue) (v : ContentValue c) (r : List ℕ) → same_tag a.tag t ≡ true
-    → value_at (read_content c a.tag 64) (length a.contents) a.contents ≡ Ok (v, r) → content_as t c a ≡ Ok v
-as_ok t c a v r e h = as_is t c a e ∙ ap alone h
+pub as_ok : (rules : EncodingRules) (t : Tag) (c : Content) (a : AnyValue) (v : ContentValue c) (r : List ℕ) → same_tag a.tag t ≡ true
+    → value_at (read_content_by rules c a.tag 64) (length a.contents) a.contents ≡ Ok (v, r) → content_by rules t c a ≡ Ok v
+as_ok rules t c a v r e h = as_is rules t c a e ∙ ap alone h
 
-pub as_err : (t : Tag) (c : Content) (a : AnyValue) (k : ErrorKind) → same_tag a.tag t ≡ true
-    → Fails k (value_at (read_content c a.tag 64) (length a.contents) a.contents) → Fails k (content_as t c a)
-as_err t c a k e h = λ memory. as_is t c a e ∙ ap alone (h memory)
+pub as_err : (rules : EncodingRules) (t : Tag) (c : Content) (a : AnyValue) (k : ErrorKind) → same_tag a.tag t ≡ true
+    → Fails k (value_at (read_content_by rules c a.tag 64) (length a.contents) a.contents) → Fails k (content_by rules t c a)
+as_err rules t c a k e h = λ memory. as_is rules t c a e ∙ ap alone (h memory)
 
 -- the same of a reader that holds that content, behind its header
-pub read_ok : (t : Tag) (c : Content) (a : AnyValue) (v : ContentValue c) (r : List ℕ) (tag : Tag) (n room : ℕ) (w : List ℕ) → tag ≡ a.tag → n ≡ length a.contents → room ≡ 64 → w ≡ a.contents
-    → same_tag a.tag t ≡ true → value_at (read_content c tag room) n w ≡ Ok (v, r) → content_as t c a ≡ Ok v
-read_ok t c a v r tag n room w p q s u e h = as_ok t c a v r e (rw (p, q, s, u) at h)
+pub read_ok : (rules : EncodingRules) (t : Tag) (c : Content) (a : AnyValue) (v : ContentValue c) (r : List ℕ) (by : EncodingRules) (tag : Tag) (n room : ℕ) (w : List ℕ)
+    → by ≡ rules → tag ≡ a.tag → n ≡ length a.contents → room ≡ 64 → w ≡ a.contents
+    → same_tag a.tag t ≡ true → value_at (read_content_by by c tag room) n w ≡ Ok (v, r) → content_by rules t c a ≡ Ok v
+read_ok rules t c a v r by tag n room w o p q s u e h = as_ok rules t c a v r e (rw (o, p, q, s, u) at h)
 
-pub read_err : (t : Tag) (c : Content) (a : AnyValue) (k : ErrorKind) (tag : Tag) (n room : ℕ) (w : List ℕ) → tag ≡ a.tag → n ≡ length a.contents → room ≡ 64 → w ≡ a.contents
-    → same_tag a.tag t ≡ true → Fails k (value_at (read_content c tag room) n w) → Fails k (content_as t c a)
-read_err t c a k tag n room w p q s u e h = as_err t c a k e (λ memory. rw (p, q, s, u) at (h memory))
+pub read_err : (rules : EncodingRules) (t : Tag) (c : Content) (a : AnyValue) (k : ErrorKind) (by : EncodingRules) (tag : Tag) (n room : ℕ) (w : List ℕ)
+    → by ≡ rules → tag ≡ a.tag → n ≡ length a.contents → room ≡ 64 → w ≡ a.contents
+    → same_tag a.tag t ≡ true → Fails k (value_at (read_content_by by c tag room) n w) → Fails k (content_by rules t c a)
+read_err rules t c a k by tag n room w o p q s u e h = as_err rules t c a k e (λ memory. rw (o, p, q, s, u) at (h memory))

@@ -19,7 +19,7 @@ use Rattle.der_core_head.proofs.TagLaws.{same_tag-eq}
 use Rattle.der_core_head.proofs.HeadLaws.{head_again}
 use Rattle.der_core_head.proofs.Below.{octets_below}
 use Rattle.der_core_head.proofs.AllOctets.{is_spelled, is_read}
-use Rattle.der_types_any.specs.Contents.{content_as}
+use Rattle.der_types_any.specs.Contents.{content_as, content_by}
 use Rattle.der_types_any.proofs.AnyLaws.{value_whole}
 
 bytes_are : (w : List ℕ) → IsOctets w → IsBytes w
@@ -36,7 +36,7 @@ end_whole (Ok x) = refl
 end_whole (Err e) = refl
 
 tlv_read : (t : Tag) (c : Content) (a : AnyValue) → IsTag a.tag → length a.contents < 4294967296 → read (tagged t c) 64 (tlv a.tag a.contents) ≡ (content_as t c a >>= kept [])
-unfolding tlv tlv_at content_as
+unfolding tlv tlv_at content_by
 tlv_read t c a tag few = by (same_tag a.tag t) refl
   where
     by : (b : Bool) → same_tag a.tag t ≡ b → read (tagged t c) 64 (tlv a.tag a.contents) ≡ (content_as t c a >>= kept [])

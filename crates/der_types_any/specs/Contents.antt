@@ -1,5 +1,7 @@
 -- The content of any value, read as a value of a type.
 use Rattle.std.specs.Prelude.{ℕ, List, [], None, false, Result, Err, if◌then◌else◌}
+use Rattle.der_core_head.specs.declared.encoding_rules.EncodingRules.{EncodingRules}
+use Rattle.der_core_head.specs.declared.encoding_rules.EncodingRules.TheVariants as encodings
 use Rattle.der_core_head.specs.declared.error.ErrorKind.{ErrorKind}
 use Rattle.der_core_head.specs.declared.error.ErrorKind.TheVariants as kinds
 use Rattle.der_core_head.specs.declared.tag.Tag.{Tag}
@@ -7,14 +9,18 @@ use Rattle.der_core_head.specs.Octets.{◌>>=◌}
 use Rattle.der_core_head.specs.Tags.{same_tag}
 use Rattle.der_core_head.specs.Leaves.{Leaf, LeafValue, leaf_read}
 use Rattle.der_core_head.specs.Shapes.{AnyValue, Content, ContentValue}
-use Rattle.der_core_head.specs.Grammar.{read_content, whole}
+use Rattle.der_core_head.specs.Grammar.{read_content_by, whole}
 use Rattle.der_core_head.specs.Writing.{write_content}
 use Rattle.der_core_octets.specs.Fronts.{alone}
 use Rattle.der_types_numbers.specs.Numbers.{counted}
 
--- the value, if the tag is that of the type, or the fault
-unfoldable pub content_as : Tag → (c : Content) → AnyValue → Result (ContentValue c) ErrorKind
-content_as t c a = if same_tag a.tag t then alone (read_content c a.tag 64 a.contents >>= whole) else Err kinds.TagUnexpected
+-- the value by those rules, if the tag is that of the type, or the fault
+unfoldable pub content_by : EncodingRules → Tag → (c : Content) → AnyValue → Result (ContentValue c) ErrorKind
+content_by rules t c a = if same_tag a.tag t then alone (read_content_by rules c a.tag 64 a.contents >>= whole) else Err kinds.TagUnexpected
+
+-- and by DER
+abbrev pub content_as : Tag → (c : Content) → AnyValue → Result (ContentValue c) ErrorKind
+content_as t c a = content_by encodings.Der t c a
 
 -- the same of a type whose content is no list of values
 unfoldable pub leaf_as : Tag → (l : Leaf) → AnyValue → Result (LeafValue l) ErrorKind

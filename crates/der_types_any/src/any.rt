@@ -15,7 +15,7 @@ ghost use Rattle.der_core_head.specs.Writing.{write_content};
 ghost use Rattle.der_types_any.specs.AnyOrders.{any_cmp, any_cmp_total, any_cmp_ties, any_fed, any_fed_alike};
 ghost use Rattle.der_types_any.specs.Anys.{any_lent};
 ghost use Rattle.der_core.specs.Orders.{octets_cmp};
-ghost use Rattle.der_types_any.specs.Contents.{content_as, written_as};
+ghost use Rattle.der_types_any.specs.Contents.{content_as, content_by, written_as};
 
 use crate::any_ref::AnyRef;
 use der_core::{
@@ -170,18 +170,17 @@ impl Any {
     }
 
     /// The value of a type that has this tag and this content, in which headers are read by these
-    /// rules. Which value BER gives isn't promised.
+    /// rules.
     ///
     /// # Errors
-    /// `TagUnexpected` for another tag than the type's; else by DER the first fault of the content,
-    /// or `OutOfMemory`.
+    /// `TagUnexpected` for another tag than the type's, the first fault of the content, or
+    /// `OutOfMemory`.
     pub fn decode_as_encoding<'a, T: DecodeValue<'a, SliceReader<'a>> + FixedTag>(
         &'a self,
         alloc: Global,
         encoding_rules: EncodingRules,
     ) -> Result<T, Error>
-        ensures der { encoding_rules ≡ Der → Gives T.value_plain result (content_as T.fixed_tag T.content self.now) }
-        ensures tag { same_tag self.now.tag T.fixed_tag ≡ false → IsErrAnd result (λ e. e.kind ≡ ErrorKind.TagUnexpected) }
+        ensures { Gives T.value_plain result (content_by encoding_rules T.fixed_tag T.content self.now) }
     {
         let value = self.to_ref().decode_as_encoding(alloc, encoding_rules)?;
         Ok(value)

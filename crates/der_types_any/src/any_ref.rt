@@ -13,7 +13,7 @@ ghost use Rattle.der_core_head.specs.Reading.{Gives, ClosureReads, HandsBack, un
 ghost use Rattle.der_core_octets.specs.Nesting.{Answered};
 ghost use Rattle.der_core.specs.Orders.{octets_cmp};
 ghost use Rattle.der_types_any.specs.AnyOrders.{any_cmp, any_cmp_total, any_cmp_ties, any_fed, any_fed_alike};
-ghost use Rattle.der_types_any.specs.Contents.{content_as};
+ghost use Rattle.der_types_any.specs.Contents.{content_as, content_by};
 
 use crate::any::Any;
 use der_core::making::{
@@ -128,19 +128,18 @@ impl<'a> AnyRef<'a> {
     }
 
     /// The value of a type that has this tag and this content, in which headers are read by these
-    /// rules. Which value BER gives isn't promised.
+    /// rules.
     ///
     /// # Errors
-    /// `TagUnexpected` for another tag than the type's; else by DER the first fault of the content,
-    /// or `OutOfMemory`.
-    #[tactic(auto, unfolding(crate::specs::Contents::content_as))]
+    /// `TagUnexpected` for another tag than the type's, the first fault of the content, or
+    /// `OutOfMemory`.
+    #[tactic(auto, unfolding(crate::specs::Contents::content_by))]
     pub fn decode_as_encoding<T: DecodeValue<'a, SliceReader<'a>> + FixedTag>(
         &self,
         alloc: Global,
         encoding_rules: EncodingRules,
     ) -> Result<T, Error>
-        ensures der { encoding_rules ≡ Der → Gives T.value_plain result (content_as T.fixed_tag T.content (any_lent self.now)) }
-        ensures tag { same_tag (any_lent self.now).tag T.fixed_tag ≡ false → IsErrAnd result (λ e. e.kind ≡ ErrorKind.TagUnexpected) }
+        ensures { Gives T.value_plain result (content_by encoding_rules T.fixed_tag T.content (any_lent self.now)) }
     {
         if !is_same_tag(self.tag, T::tag()) {
             return Err(Error::from(ErrorKind::TagUnexpected));

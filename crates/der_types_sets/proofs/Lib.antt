@@ -13,4 +13,3 @@ pub mod LentRanges
 pub mod ViewSteps
 pub mod ItemSteps
 pub mod Arranged
-pub mod RisingSteps

@@ -11,6 +11,8 @@ use Rattle.std.proofs.lemmas.List.{get_or_default, get_or-take, take_more, take-
 use Rattle.std.proofs.lemmas.List.Edits.{length-insert}
 use Rattle.std.proofs.lemmas.List.Elements.{All-take, All-from_recursion, recursion_from_All}
 use Rattle.std.proofs.lemmas.List.Sorted.{All-permutation, IsPermutation-trans, IsPermutation-to_front, IsPermutation-insert, IsPermutation-append_left, IsPermutation-middle, IsPermutation-cons}
+use Rattle.der_core_head.specs.declared.encoding_rules.EncodingRules.{EncodingRules}
+use Rattle.der_core_head.specs.declared.encoding_rules.EncodingRules.TheVariants as encodings
 use Rattle.der_core_head.specs.declared.error.Error.{Error}
 use Rattle.der_core_head.specs.declared.error.ErrorKind.{ErrorKind}
 use Rattle.der_core_head.specs.declared.error.ErrorKind.TheVariants as kinds
@@ -19,7 +21,7 @@ use Rattle.der_core_head.specs.Octets.{Readings, ◌>>=◌}
 use Rattle.der_core_head.specs.Heads.{Fits}
 use Rattle.der_core_head.specs.Shapes.{above, Shape, Body, nested, many, few, rising, Value, BodyValue, IsValid, octets_of, AllRising}
 use Rattle.der_core_head.specs.Spelling.{is_apart}
-use Rattle.der_core_head.specs.Grammar.{whole, value_at, read, read_content, read_body, read_many, read_in_order, follows_last, plain_list}
+use Rattle.der_core_head.specs.Grammar.{whole, value_at, read, read_content, read_content_by, read_body_by, read_many, read_in_order, follows_last, plain_list}
 use Rattle.der_core_head.proofs.Results.{ok_is, bind_ok, unless_ok, whole_ok}
 use Rattle.der_core_head.proofs.Bytes.{IsBytes, bytes_take, bytes_rest}
 use Rattle.der_core_head.proofs.Fits.{fits_front, fits_rest}
@@ -190,40 +192,40 @@ rising-ascends s f (x ∷ y ∷ xs) h = ((λ v w greater. absurd (cc (h.0, great
 
 -- What was read as a content
 
-inner : (b : Body) (t : Tag) (room : ℕ) (u : List ℕ) (x : BodyValue b × List ℕ) → read_content (nested b) t room u ≡ Ok x → (m : ℕ) × (read_body b m u ≡ Ok x)
-inner b t zero u x e = absurd cc
-inner b t (suc m) u x e =
-    let q = bind_ok (read_body b m u) whole x e in
+inner : (rules : EncodingRules) (b : Body) (t : Tag) (room : ℕ) (u : List ℕ) (x : BodyValue b × List ℕ) → read_content_by rules (nested b) t room u ≡ Ok x → (m : ℕ) × (read_body_by rules b m u ≡ Ok x)
+inner rules b t zero u x e = absurd cc
+inner rules b t (suc m) u x e =
+    let q = bind_ok (read_body_by rules b m u) whole x e in
     (m, q.1 ∙ ap (λ (p : BodyValue b × List ℕ). Ok p) (whole_ok q.0 x q.2).0)
 
-within : (b : Body) (t : Tag) (room n : ℕ) (w : List ℕ) (v : BodyValue b) (r : List ℕ) → value_at (read_content (nested b) t room) n w ≡ Ok (v, r) → (m : ℕ) × (z : List ℕ) × (read_body b m (take n w) ≡ Ok (v, z))
+within : (rules : EncodingRules) (b : Body) (t : Tag) (room n : ℕ) (w : List ℕ) (v : BodyValue b) (r : List ℕ) → value_at (read_content_by rules (nested b) t room) n w ≡ Ok (v, r) → (m : ℕ) × (z : List ℕ) × (read_body_by rules b m (take n w) ≡ Ok (v, z))
 unfolding value_at
-within b t room n w v r e =
-    let F = read_content (nested b) t room in
+within rules b t room n w v r e =
+    let F = read_content_by rules (nested b) t room in
     let h = unless_ok (ltb (length w) n) kinds.Incomplete (F (take n w) >>= whole >>= λ x. Ok (x.0, drop n w)) (v, r) e in
     let y = bind_ok (F (take n w) >>= whole) (λ x. Ok (x.0, drop n w)) (v, r) h.1 in
     let x = bind_ok (F (take n w)) whole y.0 y.1 in
-    let i = inner b t room (take n w) x.0 x.1 in
+    let i = inner rules b t room (take n w) x.0 x.1 in
     let same : x.0.0 ≡ v = ap (λ (q : BodyValue b × List ℕ). q.0) (whole_ok x.0 y.0 x.2).0 ∙ ap (λ (q : BodyValue b × List ℕ). q.0) (ok_is (y.0.0, drop n w) (v, r) y.2) in
     (i.0, x.0.1, i.1 ∙ ap (λ (q : BodyValue b). Ok (q, x.0.1)) same)
 
 pub content_valid : {A : Type 0} (s : Shape) (f : A → Value s) (t : Tag) (room n : ℕ) (w : List ℕ) (xs : List A) (r : List ℕ) → is_apart s ≡ true → IsBytes w → Fits w
     → value_at (read_content (nested (many s)) t room) n w ≡ Ok (plain_list f xs, r) → AllValid s f xs
 content_valid s f t room n w xs r apart bytes fits e =
-    let i = within (many s) t room n w (plain_list f xs) r e in
+    let i = within encodings.Der (many s) t room n w (plain_list f xs) r e in
     let u = take n w in
     valid_plain s f xs (many_valid kinds.TrailingData s i.0 (length u) u (plain_list f xs) i.1 apart (bytes_take n w bytes) (fits_front u (drop n w) w (sym (take-append-drop n w)) fits) i.2)
 
 pub few_valid : {A : Type 0} (k : ℕ) (s : Shape) (f : A → Value s) (t : Tag) (room n : ℕ) (w : List ℕ) (xs : List A) (r : List ℕ) → is_apart s ≡ true → IsBytes w → Fits w
     → value_at (read_content (nested (few k s)) t room) n w ≡ Ok (plain_list f xs, r) → AllValid s f xs
 few_valid k s f t room n w xs r apart bytes fits e =
-    let i = within (few k s) t room n w (plain_list f xs) r e in
+    let i = within encodings.Der (few k s) t room n w (plain_list f xs) r e in
     let u = take n w in
     valid_plain s f xs (many_valid kinds.Overlength s i.0 k u (plain_list f xs) i.1 apart (bytes_take n w bytes) (fits_front u (drop n w) w (sym (take-append-drop n w)) fits) i.2)
 
-pub content_rises : (s : Shape) (t : Tag) (room n : ℕ) (w : List ℕ) (v : List (Value s)) (r : List ℕ) → value_at (read_content (nested (rising s)) t room) n w ≡ Ok (v, r) → AllRising (octets_of s) v
-content_rises s t room n w v r e =
-    let i = within (rising s) t room n w v r e in
+pub content_rises : (rules : EncodingRules) (s : Shape) (t : Tag) (room n : ℕ) (w : List ℕ) (v : List (Value s)) (r : List ℕ) → value_at (read_content_by rules (nested (rising s)) t room) n w ≡ Ok (v, r) → AllRising (octets_of s) v
+content_rises rules s t room n w v r e =
+    let i = within rules (rising s) t room n w v r e in
     let u = take n w in
     rising_read (octets_of s) (read s i.0) (length u) u v i.1 i.2
 
@@ -234,3 +236,14 @@ same_copies C [] [] h same = refl
 same_copies C [] (y ∷ ys) h same = absurd h
 same_copies C (x ∷ xs) [] h same = absurd h
 same_copies {A} C (x ∷ xs) (y ∷ ys) h same = cc (same x y h.0, same_copies C xs ys h.1 same)
+
+-- Rules
+
+-- what holds by either rules
+pub by_either : {A : Type 0} (rules : EncodingRules) → (rules ≡ encodings.Der → A) → (rules ≡ encodings.Ber → A) → A
+by_either encodings.Der der ber = der refl
+by_either encodings.Ber der ber = ber refl
+
+-- a content is read by DER where DER rules
+pub as_der : (rules : EncodingRules) (b : Body) (t : Tag) (room n : ℕ) (w : List ℕ) → rules ≡ encodings.Der → value_at (read_content (nested b) t room) n w ≡ value_at (read_content_by rules (nested b) t room) n w
+as_der rules b t room n w der = ap (λ r. value_at (read_content_by r (nested b) t room) n w) (sym der)

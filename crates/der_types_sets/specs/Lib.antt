@@ -3,4 +3,3 @@ pub mod Lends
 pub mod Ascending
 pub mod Lent
 pub mod Rearranged
-pub mod RisingEncodings

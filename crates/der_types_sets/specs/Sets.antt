@@ -1,5 +1,5 @@
 -- Sets as their members in order (X.690 8.12, 11.6). A member has the plain value f x of a shape s.
-use Rattle.std.specs.Prelude.{◌≡◌, ◌≢◌, ℕ, suc, ◌-◌, ◌<◌, ◌≤◌, List, [], ◌∷◌, ◌++◌, length, take, slice_index_or, flat_map, bytes_eq, ⊤, ◌⊎◌, Option, Some}
+use Rattle.std.specs.Prelude.{◌≡◌, ◌≢◌, ℕ, suc, ◌-◌, ◌<◌, ◌≤◌, List, [], ◌∷◌, ◌++◌, length, take, slice_index_or, flat_map, bytes_eq, ⊤, ◌⊎◌, Option, Some, Result, Ok, Err, true, false}
 use Rattle.std.specs.Iterator.{YieldsThen}
 use Rattle.std.specs.List.{AllByRecursion, insert, filter}
 use Rattle.std.specs.List.Sorted.{IsPermutation}
@@ -7,6 +7,9 @@ use Rattle.std.specs.declared.cmp.Ordering.TheVariants.{Less, Greater}
 use Rattle.der_core_head.specs.declared.error.Error.{Error}
 use Rattle.der_core_head.specs.declared.error.ErrorKind.TheVariants as kinds
 use Rattle.der_core_head.specs.declared.tag.Tag.TheVariants as tags
+use Rattle.der_core_head.specs.Octets.{Readings}
+use Rattle.der_core_head.specs.Grammar.{plain_list}
+use Rattle.der_core_head.specs.Reading.{State, IsBer, IsRest, Kept, Fails}
 use Rattle.der_core_head.specs.Shapes.{Shape, Value, tagged, nested, many, Spells, IsValid, octets_of}
 use Rattle.der_core.specs.Orders.{octets_cmp}
 
@@ -65,6 +68,12 @@ IsPutAtPlace s f old x new = (i : ℕ) × IsPlace s f old x i × (new ≡ insert
 pub record TooLong {A : Type 0} (s : Shape) (f : A → Value s) (xs : List A) (e : Error) : Type 0 where
   pub kind : e.kind ≡ kinds.Overflow
   pub some : AllValid s f xs → ⊥
+
+-- The call answered what reading gives, arranged, and moved the reader on; by BER it is refused too where an encoding of a member is too long
+-- to be compared.
+abbrev pub ReadsArranged : {A : Type 0} (s : Shape) → (A → Value s) → (A → Value s) → State → State → Result (List A) Error → Readings (List (Value s)) → List A → Type 0
+ReadsArranged s plain written old new (Ok set) f read = (f old.rest ≡ Ok (plain_list plain read, new.rest)) × (new ≡ record old { rest = new.rest }) × (old.failed ≡ false) × IsRest new.rest old.rest × IsPermutation read set
+ReadsArranged s plain written old new (Err e) f read = (old.failed ≡ false → Fails e.kind (f old.rest) ⊎ (IsBer old × TooLong s written read e)) × Kept old new × (old.failed ≡ true → e.kind ≡ kinds.Failed) × (new.failed ≡ true)
 
 -- That, or want of memory.
 abbrev pub IsRefusal : {A : Type 0} (s : Shape) → (A → Value s) → List A → Error → Type 0

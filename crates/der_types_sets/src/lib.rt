@@ -11,7 +11,6 @@ pub mod laws;
 pub mod making;
 mod members;
 mod places;
-mod rising;
 mod sequence_of;
 mod set_of;
 mod set_of_ref;

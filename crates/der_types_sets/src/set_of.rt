@@ -6,13 +6,13 @@ ghost use Rattle.std.specs.List.Sorted.{IsPermutation};
 ghost use Rattle.der_core_head.specs.declared.tag.Tag.TheVariants.{Set};
 ghost use Rattle.der_core_head.specs.Shapes.{Value, tagged, nested, few};
 ghost use Rattle.der_core_head.specs.Spelling.{is_element, are_enough, are_content_enough};
-ghost use Rattle.der_core_head.specs.Grammar.{plain_list, value_at, read_content, whole_at};
-ghost use Rattle.der_core_head.specs.Reading.{Reads, Gives, Fails, IsDer};
+ghost use Rattle.der_core_head.specs.Grammar.{plain_list, value_at, whole_at};
+ghost use Rattle.der_core_head.specs.Reading.{Gives, Fails, IsDer, read_content_at};
 ghost use Rattle.std.specs.Cmp.Lexicographic.{pointwise, slice_cmp, slice_partial_cmp, lists_per, lists_equiv, lists_po, lists_total, lists_agrees, lists_ties};
 ghost use Rattle.std.specs.Hash as fed;
 ghost use Rattle.std.specs.Hash.{items_Alike};
 ghost use Rattle.der_types_sets.specs.Lent.{members_lent};
-ghost use Rattle.der_types_sets.specs.Sets.{Ascends, Loose, SpellsLoosely, TooLong, IsBelowLast, IsPutAtPlace};
+ghost use Rattle.der_types_sets.specs.Sets.{Ascends, Loose, ReadsArranged, SpellsLoosely, TooLong, IsBelowLast, IsPutAtPlace};
 
 use crate::any_few::AnyFew;
 use crate::iter::SetOfIter;
@@ -195,7 +195,7 @@ impl<T: DerOrd + Member + Default + Drop, const N: usize> SetOf<T, N> {
     where
         T: Decode<'a, R> + AsRead,
         // The members that were read, in the order in which they stand there, are those of the set.
-        ensures reads { (read : List T) × Reads (λ _. plain_list T.plain read) (R.state reader.old) (R.state reader.new) result (value_at (read_content (nested (few N T.shape)) header.tag (R.state reader.old).room) header.length.value) × IfOk result (IsPermutation read) }
+        ensures reads { (read : List T) × ReadsArranged T.shape T.plain T.written (R.state reader.old) (R.state reader.new) result (value_at (read_content_at (R.state reader.old) (nested (few N T.shape)) header.tag) header.length.value) read }
         // What is read is spelled so, in any order.
         ensures spelled { is_element T.shape ≡ true → IsDer (R.state reader.old) → IfOk result (λ set. Loose T.shape (plain_list T.plain set) (take header.length.value (R.state reader.old).rest)) }
         // What is spelled so is read, if there is room, unless memory runs out.

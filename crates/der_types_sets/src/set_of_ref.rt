@@ -5,7 +5,7 @@ ghost use Rattle.der_core_head.specs.declared.tag.Tag.TheVariants.{Set};
 ghost use Rattle.der_core_head.specs.Shapes.{Value, tagged, nested, many, ascending, IsContent, IsValid};
 ghost use Rattle.der_core_head.specs.Spelling.{is_apart, is_body_apart, is_element, are_enough};
 ghost use Rattle.der_core_head.specs.Grammar.{plain_list, plain_option, read_body};
-ghost use Rattle.der_core_head.specs.Reading.{Gives, GivesNow, ReadsAlways};
+ghost use Rattle.der_core_head.specs.Reading.{Gives, GivesNow, Reads, read_body_at};
 ghost use Rattle.der_core_head.specs.Writing.{size, size_body};
 ghost use Rattle.der_core.specs.Orders.{contents_cmp, encodings_cmp, Overflows};
 ghost use Rattle.der_types_sets.specs.Sets.{Ascends, IsOutOfOrder, TooLong};
@@ -115,7 +115,7 @@ impl<'a, T: Decode<'a, SliceReader<'a>> + Member> SetOfRef<'a, T> {
         alloc: Global,
         reader: &mut R,
     ) -> Result<SetOfRef<'a, T>, Error>
-        ensures reads { ReadsAlways (members_lent T.shape T.plain) (R.state reader.old) (R.state reader.new) result (read_body (ascending T.shape) (R.state reader.old).room) }
+        ensures reads { Reads (members_lent T.shape T.plain) (R.state reader.old) (R.state reader.new) result (read_body_at (R.state reader.old) (ascending T.shape)) }
         // What is read is spelled so.
         ensures spelled { IfOk result (λ set. JoinsAscending T.shape (members_lent T.shape T.plain set) (R.state reader.old).rest) }
         // What is spelled so is read, unless memory runs out.

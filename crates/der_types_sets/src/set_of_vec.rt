@@ -6,20 +6,18 @@ ghost use Rattle.std.specs.List.Sorted.{IsPermutation};
 ghost use Rattle.der_core_head.specs.declared.tag.Tag.TheVariants.{Set};
 ghost use Rattle.der_core_head.specs.Shapes.{Value, tagged, nested, many, rising, octets_of, AllRising};
 ghost use Rattle.der_core_head.specs.Spelling.{is_element, are_enough, are_content_enough};
-ghost use Rattle.der_core_head.specs.Grammar.{plain_list, value_at, read_content, whole_at};
-ghost use Rattle.der_core_head.specs.Reading.{Reads, Gives, Fails, IsBer, IsDer};
+ghost use Rattle.der_core_head.specs.Grammar.{plain_list, value_at, whole_at};
+ghost use Rattle.der_core_head.specs.Reading.{Reads, Gives, Fails, IsDer, read_content_at};
 ghost use Rattle.std.specs.Cmp.Lexicographic.{pointwise, slice_cmp, slice_partial_cmp, lists_per, lists_equiv, lists_po, lists_total, lists_agrees, lists_ties};
 ghost use Rattle.std.specs.Hash as fed;
 ghost use Rattle.std.specs.Hash.{items_Alike};
 ghost use Rattle.der_types_sets.specs.Lent.{members_lent};
-ghost use Rattle.der_types_sets.specs.RisingEncodings.{SoManyRise, rising_within};
-ghost use Rattle.der_types_sets.specs.Sets.{Ascends, Loose, SpellsLoosely, IsRefusal, TooLong, IsBelowLast, IsPutAtPlace, KeepsEquals, AllValid, Gains, StopsAt, StopsIn};
+ghost use Rattle.der_types_sets.specs.Sets.{Ascends, Loose, ReadsArranged, SpellsLoosely, IsRefusal, TooLong, IsBelowLast, IsPutAtPlace, KeepsEquals, AllValid, Gains, StopsAt, StopsIn};
 ghost use Rattle.std.specs.Iterator.{IsFinite, ExtendsWithItems, Drains};
 
 use crate::any_order::AnyOrder;
 use crate::iter::SetOfIter;
 use crate::places::{check_last, place_of};
-use crate::rising::decode_rising_by_ber;
 use crate::set_of_ref::SetOfRef;
 use crate::sorting::arrange_behind_first;
 use der_core::making::elements_cmp;
@@ -274,7 +272,7 @@ impl<T: DerOrd + Member + Drop> SetOfVec<T> {
     where
         T: Decode<'a, R> + AsRead,
         // The members that were read, in the order in which they stand there, are those of the set.
-        ensures reads { (read : List T) × Reads (λ _. plain_list T.plain read) (R.state reader.old) (R.state reader.new) result (value_at (read_content (nested (many T.shape)) header.tag (R.state reader.old).room) header.length.value) × IfOk result (IsPermutation read) }
+        ensures reads { (read : List T) × ReadsArranged T.shape T.plain T.written (R.state reader.old) (R.state reader.new) result (value_at (read_content_at (R.state reader.old) (nested (many T.shape)) header.tag) header.length.value) read }
         // What is read is spelled so, in any order.
         ensures spelled { is_element T.shape ≡ true → IsDer (R.state reader.old) → IfOk result (λ set. Loose T.shape (plain_list T.plain set) (take header.length.value (R.state reader.old).rest)) }
         // What is spelled so is read, unless memory runs out.
@@ -317,16 +315,12 @@ impl<T: DerOrd + Member + Drop> SetOfVec<T> {
         Ok(set)
     }
 
-    /// The members of a content in which each encoding is above the one before (X.690 11.6).
-    ///
-    /// By BER the octets that stand there are encodings that rise, which is looked at before any member is
-    /// read, and the members are placed in ascending order of their own encodings.
+    /// The members of a content in which each encoding is above the one before (X.690 11.6), which is a rule
+    /// of DER: they are read by DER, whatever the rules of the reader.
     ///
     /// # Errors
     /// The first fault of the members, `SetDuplicate` or `SetOrdering` where one stands wrong, or
-    /// `OutOfMemory`; `Failed` where the reader failed before. By BER a fault of the headers and the
-    /// order of the members comes first, and `Overflow` is one too, where an encoding has 2^32 octets or
-    /// more.
+    /// `OutOfMemory`; `Failed` where the reader failed before.
     pub fn decode_value_strict<'a, R: Reader<'a>>(
         alloc: Global,
         reader: &mut R,
@@ -334,28 +328,12 @@ impl<T: DerOrd + Member + Drop> SetOfVec<T> {
     ) -> Result<SetOfVec<T>, Error>
     where
         T: Decode<'a, R> + AsRead,
-        ensures reads { Reads (plain_list T.plain) (R.state reader.old) (R.state reader.new) result (value_at (read_content (nested (rising T.shape)) header.tag (R.state reader.old).room) header.length.value) }
-        ensures rising { IsDer (R.state reader.old) → IfOk result (λ set. AllRising (octets_of T.shape) (plain_list T.plain set)) }
-        // By BER the content is as many encodings as there are members, each above the one before.
-        ensures rise { IsBer (R.state reader.old) → IfOk result (λ set. SoManyRise (length set) (take header.length.value (R.state reader.old).rest)) }
-        // Which fault it is where it isn't such encodings.
-        ensures wrong { (k : ErrorKind) → IsBer (R.state reader.old) → (R.state reader.old).failed ≡ false
-            → rising_within (R.state reader.old).room header.length.value (R.state reader.old).rest ≡ Err k → IsErrAnd result (λ e. e.kind ≡ k) }
+        ensures reads { Reads (plain_list T.plain) (R.state reader.old) (R.state reader.new) result (value_at (read_content_at (R.state reader.old) (nested (rising T.shape)) header.tag) header.length.value) }
+        ensures rising { IfOk result (λ set. AllRising (octets_of T.shape) (plain_list T.plain set)) }
     {
-        let rules = reader.encoding_rules();
-        if rules.is_der() {
-            let rising = StrictSet::<T>::decode_value(alloc, reader, header)?;
-            let StrictSet { values } = rising;
-            return Ok(SetOfVec { members: values });
-        }
-        let members = decode_rising_by_ber::<R, T>(alloc, reader, header)?;
-        match SetOfVec::from_vec(members) {
-            Ok(set) => Ok(set),
-            Err(error) => {
-                reader.fail();
-                Err(error)
-            }
-        }
+        let rising = StrictSet::<T>::decode_value(alloc, reader, header)?;
+        let StrictSet { values } = rising;
+        Ok(SetOfVec { members: values })
     }
 }
 

@@ -1,6 +1,7 @@
 -- What fields write is read back.
 use Rattle.std.proofs.Common.{◌≡◌, ◌/◌, ℕ, Bool, true, false, List, [], ◌∷◌, ◌++◌, length, Some, None, Ok, refl, ap, sym, subst, ◌∙◌, append_assoc}
 use Rattle.std.specs.Prelude.{if◌then◌else◌, ◌==◌}
+use Rattle.der_core_head.specs.declared.encoding_rules.EncodingRules.TheVariants as encodings
 use Rattle.der_core_head.specs.declared.tag.Tag.{Tag}
 use Rattle.der_core_head.specs.declared.tag.Tag.TheVariants as tags
 use Rattle.der_core_head.specs.Tags.{IsTag, class_tag, number_of, same_tag, tag_at, tag_octets}
@@ -19,8 +20,8 @@ pub optional_again : (s : Shape) (room : ℕ) (v : Value s) (r : List ℕ) → i
 unfolding opt_at
 optional_again s room v r e a n h =
     let f = element_first s v e h in
-    let peeked : peek_at (octets_of s v ++ r) ≡ Ok (Some f.0) =
-    ap (λ (x : List ℕ). peek_at (x ++ r)) f.2 ∙ ap peek_at (append_assoc (tag_octets f.0) f.1 r) ∙ peek_again f.0 (f.1 ++ r) f.3 in
+    let peeked : peek_at encodings.Der (octets_of s v ++ r) ≡ Ok (Some f.0) =
+    ap (λ (x : List ℕ). peek_at encodings.Der (x ++ r)) f.2 ∙ ap (peek_at encodings.Der) (append_assoc (tag_octets f.0) f.1 r) ∙ peek_again f.0 (f.1 ++ r) f.3 in
     rw (peeked, f.4, complete_element s room v r e a n h) refl
 
 number_of_class : (class n : ℕ) → number_of (class_tag class true n) ≡ n
@@ -44,13 +45,13 @@ header_again t c v r h =
 
 -- a header of the class, and what stands behind it
 number_is : (class room : ℕ) (s : Shape) (v : Value s) (w q r : List ℕ) (h : Head) → head_at w ≡ Ok (h, q)
-    → read (explicit_field class (number_of h.tag) s) room w ≡ Ok (v, r) → numbered_at class s room w ≡ Ok ((number_of h.tag, v), r)
+    → read (explicit_field class (number_of h.tag) s) room w ≡ Ok (v, r) → numbered_at encodings.Der class s room w ≡ Ok ((number_of h.tag, v), r)
 unfolding numbered_at
 number_is class room s v w q r h stands reads = rw (stands, reads) refl
 
 -- the number is read, too
 pub numbered_again : (class n room : ℕ) (s : Shape) (v : Value s) (r : List ℕ) → is_apart (explicit_field class n s) ≡ true → are_enough (explicit_field class n s) room ≡ true
-    → IsValid (explicit_field class n s) v → numbered_at class s room (octets_of (explicit_field class n s) v ++ r) ≡ Ok ((n, v), r)
+    → IsValid (explicit_field class n s) v → numbered_at encodings.Der class s room (octets_of (explicit_field class n s) v ++ r) ≡ Ok ((n, v), r)
 numbered_again class n room s v r a e h =
     let t = class_tag (class / 64) true n in
     let w = octets_of (explicit_field class n s) v ++ r in

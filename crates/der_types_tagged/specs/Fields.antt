@@ -1,14 +1,15 @@
 -- Fields behind a tag of a class and a number, in front of the value's own tag or in its place (X.690 8.14).
 -- A class is told by its bits in the first octet of a tag (8.1.2.2).
 use Rattle.std.specs.Prelude.{ℕ, ◌/◌, true, Ok}
+use Rattle.der_core_head.specs.declared.encoding_rules.EncodingRules.{EncodingRules}
 use Rattle.der_core_head.specs.declared.tag.Tag.{Tag}
 use Rattle.der_core_head.specs.declared.tag_mode.TagMode.{TagMode}
 use Rattle.der_core_head.specs.declared.tag_mode.TagMode.TheVariants as modes
 use Rattle.der_core_head.specs.Octets.{◌>>=◌, Readings}
 use Rattle.der_core_head.specs.Tags.{class_tag, is_constructed, number_of}
-use Rattle.der_core_head.specs.Heads.{head_at}
+use Rattle.der_core_head.specs.Bodies.{head_by}
 use Rattle.der_core_head.specs.Shapes.{Shape, Content, Value, tagged, nested, only}
-use Rattle.der_core_head.specs.Grammar.{read}
+use Rattle.der_core_head.specs.Grammar.{read_by}
 
 -- the tag of a field, whose form is that of the value's own tag where it stands in its place
 abbrev pub field_tag : ℕ → TagMode → ℕ → Tag → Tag
@@ -24,5 +25,5 @@ abbrev pub implicit_field : ℕ → ℕ → Tag → Content → Shape
 implicit_field class n own c = tagged (class_tag (class / 64) (is_constructed own) n) c
 
 -- a value's encoding behind a tag of a class with the number that stands there, and that number
-unfoldable pub numbered_at : ℕ → (s : Shape) → ℕ → Readings (ℕ × Value s)
-numbered_at class s room w = head_at w >>= λ h. read (explicit_field class (number_of h.0.tag) s) room w >>= λ x. Ok ((number_of h.0.tag, x.0), x.1)
+unfoldable pub numbered_at : EncodingRules → ℕ → (s : Shape) → ℕ → Readings (ℕ × Value s)
+numbered_at rules class s room w = head_by rules w >>= λ h. read_by rules (explicit_field class (number_of h.0.tag) s) room w >>= λ x. Ok ((number_of h.0.tag, x.0), x.1)

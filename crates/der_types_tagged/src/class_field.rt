@@ -5,8 +5,8 @@ ghost use Rattle.der_core_head.specs.declared.tag_mode.TagMode.TheVariants.{Expl
 ghost use Rattle.der_core_head.specs.Classes.{tag_class};
 ghost use Rattle.der_core_head.specs.Shapes.{nested, only, optional, tagged, IsContent, IsValid, octets_of};
 ghost use Rattle.der_core_head.specs.Spelling.{is_content_apart};
-ghost use Rattle.der_core_head.specs.Grammar.{read, plain_option};
-ghost use Rattle.der_core_head.specs.Reading.{Gives, GivesNow, Reads};
+ghost use Rattle.der_core_head.specs.Grammar.{plain_option};
+ghost use Rattle.der_core_head.specs.Reading.{Gives, GivesNow, Reads, read_at};
 ghost use Rattle.der_core_head.specs.Writing.{Writes, size, size_content, write, write_content};
 ghost use Rattle.der_core.specs.Orders.{contents_cmp, octets_cmp, Overflows};
 ghost use Rattle.der_types_tagged.specs.Fields.{field_tag, explicit_field, implicit_field, numbered_at};
@@ -53,7 +53,7 @@ impl<T, const CLASS: u8> ClassField<T, CLASS> {
     ) -> Result<Option<ClassField<T, CLASS>>, Error>
     where
         T: Decode<'a, R>,
-        ensures reads { Reads (plain_option (λ f. T.plain f.value)) (R.state reader.old) (R.state reader.new) result (read (optional (explicit_field CLASS tag_number.value T.shape)) (R.state reader.old).room) }
+        ensures reads { Reads (plain_option (λ f. T.plain f.value)) (R.state reader.old) (R.state reader.new) result (read_at (R.state reader.old) (optional (explicit_field CLASS tag_number.value T.shape))) }
         ensures tag { IfOk result (λ o. IfSome o (λ f. (f.tag_number ≡ tag_number) × (f.tag_mode ≡ Explicit))) }
     {
         let tag_mode = TagMode::Explicit;
@@ -81,7 +81,7 @@ impl<T, const CLASS: u8> ClassField<T, CLASS> {
     ) -> Result<Option<ClassField<T, CLASS>>, Error>
     where
         T: DecodeValue<'a, R> + FixedTag,
-        ensures reads { Reads (plain_option (λ f. T.value_plain f.value)) (R.state reader.old) (R.state reader.new) result (read (optional (implicit_field CLASS tag_number.value T.fixed_tag T.content)) (R.state reader.old).room) }
+        ensures reads { Reads (plain_option (λ f. T.value_plain f.value)) (R.state reader.old) (R.state reader.new) result (read_at (R.state reader.old) (optional (implicit_field CLASS tag_number.value T.fixed_tag T.content))) }
         ensures tag { IfOk result (λ o. IfSome o (λ f. (f.tag_number ≡ tag_number) × (f.tag_mode ≡ Implicit))) }
     {
         let tag_mode = TagMode::Implicit;
@@ -109,7 +109,7 @@ impl<T, const CLASS: u8> ClassField<T, CLASS> {
     ) -> Result<ClassField<T, CLASS>, Error>
     where
         T: Decode<'a, R>,
-        ensures reads { Reads (λ f. (f.tag_number.value, T.plain f.value)) (R.state reader.old) (R.state reader.new) result (numbered_at CLASS T.shape (R.state reader.old).room) }
+        ensures reads { Reads (λ f. (f.tag_number.value, T.plain f.value)) (R.state reader.old) (R.state reader.new) result (numbered_at (R.state reader.old).source.encoding CLASS T.shape (R.state reader.old).room) }
         ensures mode { IfOk result (λ f. f.tag_mode ≡ Explicit) }
     {
         let tag_mode = TagMode::Explicit;

@@ -2,8 +2,8 @@
 
 ghost use Rattle.std.specs.Prelude.{◌≡◌, IfOk, IfErr};
 ghost use Rattle.std.specs.List.Sorted.{IsPermutation};
-ghost use Rattle.der_core_head.specs.Grammar.{plain_list, value_at, read_content};
-ghost use Rattle.der_core_head.specs.Reading.{Reads, IsDer};
+ghost use Rattle.der_core_head.specs.Grammar.{plain_list, value_at};
+ghost use Rattle.der_core_head.specs.Reading.{Reads, read_content_at};
 ghost use Rattle.der_core_head.specs.Shapes.{nested, rising, octets_of, AllRising};
 ghost use Rattle.der_types_sets.specs.Sets.{Ascends, TooLong};
 
@@ -21,9 +21,9 @@ pub(crate) fn decode_members<'a, R: Reader<'a>, T: Decode<'a, R> + DerOrd + Memb
     reader: &mut R,
     header: Header,
 ) -> Result<Vec<T>, Error>
-    ensures reads { Reads (λ v. plain_list T.plain v.items) (R.state reader.old) (R.state reader.new) result (value_at (read_content (nested (rising T.shape)) header.tag (R.state reader.old).room) header.length.value) }
+    ensures reads { Reads (λ v. plain_list T.plain v.items) (R.state reader.old) (R.state reader.new) result (value_at (read_content_at (R.state reader.old) (nested (rising T.shape)) header.tag) header.length.value) }
     ensures ascend { IfOk result (λ v. Ascends T.shape T.written v.items) }
-    ensures rising { IsDer (R.state reader.old) → IfOk result (λ v. AllRising (octets_of T.shape) (plain_list T.plain v.items)) }
+    ensures rising { IfOk result (λ v. AllRising (octets_of T.shape) (plain_list T.plain v.items)) }
 {
     let set = SetOfVec::<T>::decode_value_strict(alloc, reader, header)?;
     Ok(set.into_vec())

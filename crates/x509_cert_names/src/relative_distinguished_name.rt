@@ -205,12 +205,7 @@ impl<'a, R: Reader<'a>> DecodeValue<'a, R> for RelativeDistinguishedName {
         reader: &mut R,
         header: Header,
     ) -> Result<RelativeDistinguishedName, Error> {
-        let rules = reader.encoding_rules();
         let values = decode_members(alloc, reader, header)?;
-        if !rules.is_der() && !are_distinct(values.as_slice()) {
-            reader.fail();
-            return Err(Error::from(ErrorKind::SetDuplicate));
-        }
         Ok(RelativeDistinguishedName {
             attributes: StrictSetOf { values },
         })

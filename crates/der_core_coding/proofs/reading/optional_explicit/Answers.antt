@@ -2,8 +2,8 @@ use Rattle.std.proofs.Common.{◌≡◌, refl, Ok, Err, Some, true, sym, ap, sub
 use Rattle.std.proofs.lemmas.Result.{err_from_is_err_and}
 use Rattle.der_core_head.specs.Shapes.{tagged, nested, only, begins}
 use Rattle.der_core_head.specs.Tags.{same_tag}
-use Rattle.der_core_head.specs.Grammar.{read, peek_at, opt_at}
-use Rattle.der_core_head.specs.Reading.{State, IsDer, Reads}
+use Rattle.der_core_head.specs.Grammar.{peek_at, opt_at}
+use Rattle.der_core_head.specs.Reading.{State, Reads, read_at}
 use Rattle.der_core_octets.proofs.Steps.{opt_stops}
 use Rattle.der_core_octets.proofs.Nested.{broken_kept}
 use Rattle.der_core_coding.proofs.reading.optional_explicit.Goals as goal
@@ -14,16 +14,16 @@ returns-in_err-read_explicit g c =
     let old = g.R.Reader.state c.args.reader.now in
     let shape = (tagged c.args.tag (nested (only g.T.Shaped.shape))) in
     let t = c.in-Some.first in
-    let peeked : IsDer old → peek_at old.rest ≡ Ok (Some t) = λ der. c.in_ok-first.ensures.der.0 der ∙ ap Ok c.in-Some.is in
+    let peeked : peek_at old.source.encoding old.rest ≡ Ok (Some t) = c.in_ok-first.ensures.front.0 ∙ ap Ok c.in-Some.is in
     let stands : same_tag c.args.tag t ≡ true = sym c.is_same_tag.ensures ∙ c.if-is_same_tag.true in
-    let P : State → Type 0 = λ s. Reads g.T.Shaped.plain s (g.R.Reader.state c.read_explicit.new.reader) (Err c.in_err-read_explicit.field-0.0) (read shape s.room) in
+    let P : State → Type 0 = λ s. Reads g.T.Shaped.plain s (g.R.Reader.state c.read_explicit.new.reader) (Err c.in_err-read_explicit.field-0.0) (read_at s shape) in
     let inner : P old = subst P c.in_ok-first.ensures.stays c.in_err-read_explicit.ensures in
-    rw (p.1, p.2) (λ der ready memory. opt_stops (begins shape) (read shape old.room) old.rest t c.in_err-read_explicit.field-0.0.kind (peeked der) stands (inner.0 der ready memory), inner.1, inner.2, inner.3)
+    rw (p.1, p.2) (λ ready memory. opt_stops old.source.encoding (begins shape) (read_at old shape) old.rest t c.in_err-read_explicit.field-0.0.kind peeked stands (inner.0 ready memory), inner.1, inner.2, inner.3)
 
 pub returns-in_err-first : goal.returns-in_err-first
 unfolding opt_at
 returns-in_err-first g c =
     let p = err_from_is_err_and c.from_residual.result c.from_residual.ensures.1 in
-    let peeked = c.in_err-first.ensures.der in
+    let peeked = c.in_err-first.ensures.front in
     let failed = c.in_err-first.ensures.failed in
-    rw (p.1, p.2) (λ der ready memory. rw (peeked.0 der ready) refl, broken_kept _ _ failed, peeked.1, ap (λ (s : State). s.failed) failed)
+    rw (p.1, p.2) (λ ready memory. rw (peeked.0 ready) refl, broken_kept _ _ failed, peeked.1, ap (λ (s : State). s.failed) failed)

@@ -1,115 +1,22 @@
-use Rattle.std.proofs.Common.{◌≡◌, ◌≤◌, ◌-◌, [], Some, None, sym, ap, ◌∙◌}
-use Rattle.std.specs.Prelude.{◌≢◌}
-use Rattle.std.proofs.lemmas.Result.{err_from_is_err_and}
-use Rattle.der_core_head.specs.Shapes.{above, octets_of}
-use Rattle.der_core_head.specs.Grammar.{read, read_in_order, last_octets, follows_last}
-use Rattle.der_core_head.specs.Reading.{State, IsDer}
-use Rattle.der_core_octets.specs.Fronts.{octets_at}
-use Rattle.der_core_octets.proofs.Steps.{frame_then, kept_then, rest_then}
-use Rattle.der_core_octets.proofs.Nested.{broken_kept}
-use Rattle.der_core_values.proofs.Lists.{set_on, set_stops, set_refuses, set_done, set_over, last_more}
+use Rattle.std.proofs.Common.{Global, subst}
+use Rattle.std.specs.Prelude.{Vec}
+use Rattle.der_core_head.specs.declared.encoding_rules.EncodingRules.TheVariants as encodings
+use Rattle.der_core_head.specs.Shapes.{rising}
+use Rattle.der_core_head.specs.Grammar.{plain_list}
+use Rattle.der_core_head.specs.Reading.{State, Reads, read_body_at}
+use Rattle.der_core_coding.proofs.Ruled.{ruled_back}
 use Rattle.der_core_coding.proofs.set_of.read_rising.Goals as goal
-use Rattle.der_core_coding.proofs.set_of.read_rising.Goals.{else-loop-test, then-loop-test+then-is_finished}
 
-pub returns-in_err-value : goal.returns-in_err-value
-returns-in_err-value g c =
+-- The rules within are those of DER, and those of the reader stand again behind.
+pub returns : goal.returns
+returns g c =
     let state = g.R.Reader.state in
     let old = state c.args.reader.now in
-    let now = state c.loop.reader in
-    let each = read g.T.Shaped.shape old.room in
-    let o = octets_of g.T.Shaped.shape in
-    let p = err_from_is_err_and c.from_residual.result c.from_residual.ensures.1 in
-    let same = c.loop.invariant.same in
-    let some : now.rest ≢ [] = λ e. absurd (cc (c.is_finished.ensures.1 e, c.if-is_finished.false)) in
-    let room : now.room ≡ old.room = ap (λ (s : State). s.room) same in
-    let total = λ (der : IsDer old). c.loop.invariant.total der ∙ ap (λ n. read_in_order above o each None n old.rest) c.remaining_len-len.ensures in
-    rw (p.1, p.2) (
-      λ der ready memory. set_stops above g.T.Shaped.plain o each (last_octets (λ v. o (g.T.Shaped.plain v)) c.loop.values.items) c.remaining_len-len.result.value c.loop.counter now.rest c.loop.values.items c.in_err-value.field-0.0.kind _ c.loop-test.true some
-          (ap (λ m. read g.T.Shaped.shape m now.rest) (sym room) ∙ c.in_err-value.ensures.reads.0 (ap (λ (s : State). s.source.encoding) same ∙ der) (ap (λ (s : State). s.failed) same ∙ ready) memory) (total der),
-      kept_then old now _ same c.loop.invariant.passed c.in_err-value.ensures.reads.1,
-      λ failed. absurd (cc (failed, c.is_failed.ensures, c.if-is_failed.false)),
-      c.in_err-value.ensures.reads.3,
-    )
-
-pub returns-in-Err-check_follows : goal.returns-in-Err-check_follows
-returns-in-Err-check_follows g c =
-    let state = g.R.Reader.state in
-    let old = state c.args.reader.now in
-    let now = state c.loop.reader in
-    let after = state c.decode_sliced.new.reader in
-    let each = read g.T.Shaped.shape old.room in
-    let o = octets_of g.T.Shaped.shape in
-    let same = c.loop.invariant.same in
-    let room : now.room ≡ old.room = ap (λ (s : State). s.room) same in
-    let some : now.rest ≢ [] = λ e. absurd (cc (c.is_finished.ensures.1 e, c.if-is_finished.false)) in
-    let frame = frame_then old now after same c.in_ok-value.ensures.reads.1 in
-    let v = g.T.Shaped.plain c.in_ok-value.value in
-    let last = last_octets (λ v. o (g.T.Shaped.plain v)) c.loop.values.items in
-    let still : IsDer old → IsDer now = λ der. ap (λ (s : State). s.source.encoding) same ∙ der in
-    let judged : IsDer old → follows_last above last (o v) ≡ follows_last above (octets_at c.loop.last) c.in_ok-value.octets.now = λ der.
-    ap (λ l. follows_last above l (o v)) (sym (c.loop.invariant.last der)) ∙ ap (follows_last above (octets_at c.loop.last)) (sym (c.in_ok-value.ensures.octets (still der))) in
-    let total = λ (der : IsDer old). c.loop.invariant.total der ∙ ap (λ n. read_in_order above o each None n old.rest) c.remaining_len-len.ensures in (
-      λ der ready memory. set_refuses above g.T.Shaped.plain o each last c.remaining_len-len.result.value c.loop.counter now.rest after.rest c.loop.values.items v c.in-Err-check_follows.error.kind _ c.loop-test.true some
-          (ap (λ m. read g.T.Shaped.shape m now.rest) (sym room) ∙ c.in_ok-value.ensures.reads.0 (still der)) (judged der ∙ c.in-Err-check_follows.ensures memory) (total der),
-      kept_then old after _ frame (rest_then old.rest now.rest after.rest c.loop.invariant.passed c.in_ok-value.ensures.reads.3) (broken_kept _ _ c.fail-in-Err-check_follows.ensures),
-      λ failed. absurd (cc (failed, c.is_failed.ensures, c.if-is_failed.false)),
-      ap (λ (s : State). s.failed) c.fail-in-Err-check_follows.ensures,
-    )
-
-pub loop-preserved : goal.loop-preserved
-loop-preserved g c =
-    let state = g.R.Reader.state in
-    let old = state c.args.reader.now in
-    let now = state c.loop.reader in
-    let after = state c.decode_sliced.new.reader in
-    let each = read g.T.Shaped.shape old.room in
-    let o = octets_of g.T.Shaped.shape in
-    let same = c.loop.invariant.same in
-    let room : now.room ≡ old.room = ap (λ (s : State). s.room) same in
-    let some : now.rest ≢ [] = λ e. absurd (cc (c.is_finished.ensures.1 e, c.if-is_finished.false)) in
-    let frame = frame_then old now after same c.in_ok-value.ensures.reads.1 in
-    let v = g.T.Shaped.plain c.in_ok-value.value in
-    let last = last_octets (λ v. o (g.T.Shaped.plain v)) c.loop.values.items in
-    let still : IsDer old → IsDer now = λ der. ap (λ (s : State). s.source.encoding) same ∙ der in
-    let judged : IsDer old → follows_last above last (o v) ≡ follows_last above (octets_at c.loop.last) c.in_ok-value.octets.now = λ der.
-    ap (λ l. follows_last above l (o v)) (sym (c.loop.invariant.last der)) ∙ ap (follows_last above (octets_at c.loop.last)) (sym (c.in_ok-value.ensures.octets (still der))) in
-    let len = c.remaining_len-len.result.value in
-    let more = last_more (λ v. o (g.T.Shaped.plain v)) c.loop.values.items c.in_ok-value.value in
-    let total = λ (der : IsDer old). set_on above g.T.Shaped.plain o each len c.loop.counter now.rest after.rest c.loop.values.items c.in_ok-value.value (read_in_order above o each None len old.rest) c.loop-test.true some
-    (ap (λ m. read g.T.Shaped.shape m now.rest) (sym room) ∙ c.in_ok-value.ensures.reads.0 (still der)) (judged der ∙ c.in-Ok-check_follows.ensures) (c.loop.invariant.total der) in
-    rw c.in-Ok-push.ensures.items (record { same = frame; passed = rest_then old.rest now.rest after.rest c.loop.invariant.passed c.in_ok-value.ensures.reads.3; last = λ der. ap Some (c.in_ok-value.ensures.octets (still der)) ∙ sym more; total = total })
-
-pub returns-then-is_finished-2 : goal.returns-then-is_finished-2
-returns-then-is_finished-2 g c =
-    let state = g.R.Reader.state in
-    let old = state c.args.reader.now in
-    let now = state c.loop.reader in
-    let each = read g.T.Shaped.shape old.room in
-    let o = octets_of g.T.Shaped.shape in
-    let none : now.rest ≡ [] = c.is_finished-2.ensures.0 c.if-is_finished-2.true in
-    let total = λ (der : IsDer old). c.loop.invariant.total der ∙ ap (λ n. read_in_order above o each None n old.rest) c.remaining_len-len.ensures in (
-      λ der. set_done above g.T.Shaped.plain o each (last_octets (λ v. o (g.T.Shaped.plain v)) c.loop.values.items) (c.remaining_len-len.result.value - c.loop.counter) now.rest c.loop.values.items _ none (total der),
-      c.loop.invariant.same,
-      sym c.is_failed.ensures ∙ c.if-is_failed.false,
-      c.loop.invariant.passed,
-    )
-
-pub returns-else-is_finished-2 : goal.returns-else-is_finished-2
-returns-else-is_finished-2 g c =
-    let state = g.R.Reader.state in
-    let old = state c.args.reader.now in
-    let now = state c.loop.reader in
-    let each = read g.T.Shaped.shape old.room in
-    let o = octets_of g.T.Shaped.shape in
-    let some : now.rest ≢ [] = λ e. absurd (cc (c.is_finished-2.ensures.1 e, c.if-is_finished-2.false)) in
-    let past : c.remaining_len-len.result.value ≤ c.loop.counter = elim c.loop-test.branch [
-      | else-loop-test w ↦ w.loop-test.false
-      | then-loop-test+then-is_finished w ↦ absurd (some (w.is_finished.ensures.0 w.if-is_finished.true))
-    ] in
-    let total = λ (der : IsDer old). c.loop.invariant.total der ∙ ap (λ n. read_in_order above o each None n old.rest) c.remaining_len-len.ensures in
-    rw c.from-else-is_finished-2.ensures (
-      λ der _ _. set_over above g.T.Shaped.plain o each (last_octets (λ v. o (g.T.Shaped.plain v)) c.loop.values.items) c.remaining_len-len.result.value c.loop.counter now.rest c.loop.values.items _ past some (total der),
-      kept_then old now _ c.loop.invariant.same c.loop.invariant.passed (broken_kept _ _ c.fail-else-is_finished-2.ensures),
-      λ failed. absurd (cc (failed, c.is_failed.ensures, c.if-is_failed.false)),
-      ap (λ (s : State). s.failed) c.fail-else-is_finished-2.ensures,
-    )
+    let mid = state c.set_encoding_rules.new.self in
+    let end = state c.read_rising_by_der-values.new.reader in
+    let new = state c.set_encoding_rules-2.new.self in
+    let b = rising g.T.Shaped.shape in
+    let view = λ (v : Vec g.row.T.Denot Global). plain_list g.T.Shaped.plain v.items in
+    let P : State → Type 0 = λ x. Reads view mid end c.read_rising_by_der-values.result (read_body_at x b) in
+    ruled_back view old mid end new c.read_rising_by_der-values.result (read_body_at old b) encodings.Der c.encoding_rules-rules.result
+    c.set_encoding_rules.ensures c.set_encoding_rules-2.ensures c.encoding_rules-rules.ensures (subst P c.set_encoding_rules.ensures c.read_rising_by_der-values.ensures)

@@ -1,12 +1,15 @@
 use Rattle.std.proofs.Common.{◌≡◌, List, ℕ, Ok, ap, sym, ◌∙◌, arith}
-use Rattle.der_core_head.specs.Grammar.{read}
+use Rattle.der_core_head.specs.Grammar.{read, read_by}
+use Rattle.der_core_head.specs.Reading.{read_at}
 use Rattle.der_core_coding.proofs.Members.{consumed}
 use Rattle.der_core_coding.proofs.sliced.decode_sliced.Goals as goal
 
 pub returns-clause-octets : goal.returns-clause-octets
 returns-clause-octets g c = λ der.
     let v = g.T.Shaped.plain c.in_ok-value.value in
-    let room = (g.R.Reader.state c.args.reader.now).room in
-    let read_so : read g.T.Shaped.shape room c.remaining-before.result.now ≡ Ok (v, c.remaining.result.now) =
-    ap (read g.T.Shaped.shape room) c.remaining-before.ensures.rest ∙ c.in_ok-value.ensures.0 der ∙ ap (λ (r : List ℕ). Ok (v, r)) (sym c.remaining.ensures.rest) in
+    let old = g.R.Reader.state c.args.reader.now in
+    let room = old.room in
+    let before = c.remaining-before.result.now in
+    let read_so : read g.T.Shaped.shape room before ≡ Ok (v, c.remaining.result.now) =
+    ap (λ rules. read_by rules g.T.Shaped.shape room before) (sym der) ∙ ap (read_at old g.T.Shaped.shape) c.remaining-before.ensures.rest ∙ c.in_ok-value.ensures.0 ∙ ap (λ (r : List ℕ). Ok (v, r)) (sym c.remaining.ensures.rest) in
     rw c.saturating_sub.ensures ((consumed g.T.Shaped.shape room v c.remaining-before.result.now c.remaining.result.now g.met.T.Member.apart (λ i. omega (arith, c.remaining-before.items_fit i)) c.remaining-before.ensures.short read_so).octets)

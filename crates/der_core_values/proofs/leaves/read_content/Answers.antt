@@ -9,8 +9,8 @@ use Rattle.der_core_octets.proofs.Facts.{slice_few}
 use Rattle.der_core_values.proofs.leaves.read_content.Goals as goal
 
 takes : (n : ℕ) (old new : State) (r : Result (Bor (List ℕ)) Error) → ReadsNow (λ (s : Bor (List ℕ)). s.now) old new r (slice_at n) → TakesContent old new r n
-takes n old new (Ok x) h = (λ l t room. content_ok l t room n _ _ _ h.0, h.1, h.2, h.3)
-takes n old new (Err e) h = (λ l t room ready. content_err l t room n _ _ (h.0 ready), h.1, h.2)
+takes n old new (Ok x) h = (λ l t room. content_ok old.source.encoding l t room n _ _ _ h.0, h.1, h.2, h.3)
+takes n old new (Err e) h = (λ l t room ready. content_err old.source.encoding l t room n _ _ (h.0 ready), h.1, h.2)
 
 pub returns-clause-takes : goal.returns-clause-takes
 returns-clause-takes g c = takes _ _ _ _ c.read_slice.ensures

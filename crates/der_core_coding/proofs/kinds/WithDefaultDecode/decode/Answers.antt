@@ -9,5 +9,5 @@ pub returns-in_err-tag : goal.returns-in_err-tag
 unfolding default_at
 returns-in_err-tag g c =
     let p = err_from_is_err_and c.from_residual.result c.from_residual.ensures.1 in
-    let peeked = c.in_err-tag.ensures.der in
-    rw (p.1, p.2) (λ der ready memory. rw (peeked.0 der ready) refl, broken_kept _ _ c.in_err-tag.ensures.failed, peeked.1, ap (λ (s : State). s.failed) c.in_err-tag.ensures.failed)
+    let peeked = c.in_err-tag.ensures.front in
+    rw (p.1, p.2) (λ ready memory. rw (peeked.0 ready) refl, broken_kept _ _ c.in_err-tag.ensures.failed, peeked.1, ap (λ (s : State). s.failed) c.in_err-tag.ensures.failed)

@@ -1,8 +1,7 @@
 use Rattle.std.proofs.Common.{length, refl, ap, subst, arith, Ok, Err, Bool}
 use Rattle.std.proofs.lemmas.Result.{err_from_is_err_and}
 use Rattle.std.specs.Fn.{FnOnceReturnsAtMut}
-use Rattle.der_core_head.specs.Grammar.{read_body}
-use Rattle.der_core_head.specs.Reading.{State, Reads, Kept, Closes, entered}
+use Rattle.der_core_head.specs.Reading.{State, Reads, Kept, Closes, entered, read_body_at}
 use Rattle.der_core_octets.specs.Nesting.{Called}
 use Rattle.der_core_octets.proofs.Nested.{refused, behind_long, gives, trails, broken_kept}
 use Rattle.der_core_octets.proofs.Closures.{not_opened, nested_moved, nested_kept, nested_failed, left_failed, left_kept, nested_ran, nested_refused, left_refused}
@@ -22,7 +21,7 @@ returns-in_err-behind g c =
       kept = broken_kept _ _ opens.1;
       failed = ap (λ (s : State). s.failed) opens.1;
       refused = not_opened state g.F.FnOnce c.args.f n 0 old old e opens.0 opens.2;
-      reads = λ t b view calls. (λ _ ready. refused t e.kind n old b (opens.0 ready), broken_kept _ _ opens.1, opens.2, ap (λ (s : State). s.failed) opens.1);
+      reads = λ t b view calls. (λ ready. refused t e.kind n old b (opens.0 ready), broken_kept _ _ opens.1, opens.2, ap (λ (s : State). s.failed) opens.1);
     })
 
 pub end_nested-requires : goal.end_nested-requires
@@ -61,7 +60,7 @@ returns-in_err-end_nested g c =
       refused = left_refused state g.F.FnOnce c.args.f n taken old new outer opens.0 opens.1 opens.3 kept r e called closes;
       reads = λ t b view calls.
           let met = calls c.begin_nested.new.self r outer call in
-          let D : State → Type 0 = λ x. Reads view x (state outer) r (read_body b x.room) in
+          let D : State → Type 0 = λ x. Reads view x (state outer) r (read_body_at x b) in
           trails t b view n taken old (state outer) new r e opens.0 opens.1 opens.3 (subst D opens.4 met) closes;
     })
 
@@ -90,6 +89,6 @@ returns g c =
       refused = nested_refused state g.F.FnOnce c.args.f n taken old new outer opens.0 opens.1 opens.3 kept r called;
       reads = λ t b view calls.
           let met = calls c.begin_nested.new.self r outer call in
-          let D : State → Type 0 = λ x. Reads view x (state outer) r (read_body b x.room) in
+          let D : State → Type 0 = λ x. Reads view x (state outer) r (read_body_at x b) in
           gives t b view n taken old (state outer) new r opens.0 opens.1 opens.3 (subst D opens.4 met) closes;
     }

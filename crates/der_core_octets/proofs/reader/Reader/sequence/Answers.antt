@@ -1,16 +1,15 @@
-use Rattle.std.proofs.Common.{◌≡◌, ℕ, false, Ok, Err, inl, inr, refl, subst, ap, ◌∙◌, sym}
+use Rattle.std.proofs.Common.{◌≡◌, false, Ok, Err, inl, inr, refl, subst, ap, ◌∙◌, sym}
 use Rattle.std.proofs.lemmas.Result.{err_from_is_err_and}
 use Rattle.der_core_head.specs.declared.tag.Tag.TheVariants.{Sequence}
 use Rattle.der_core_head.specs.Octets.{◌>>=◌}
 use Rattle.der_core_head.specs.Tags.{same_tag}
-use Rattle.der_core_head.specs.Heads.{head_at}
-use Rattle.der_core_head.specs.Bodies.{head_ber_at}
+use Rattle.der_core_head.specs.Bodies.{head_by}
 use Rattle.der_core_head.specs.Shapes.{nested}
-use Rattle.der_core_head.specs.Grammar.{read_content, value_at, tlv_at}
-use Rattle.der_core_head.specs.Reading.{State, Reads}
+use Rattle.der_core_head.specs.Grammar.{value_at, tlv_at}
+use Rattle.der_core_head.specs.Reading.{State, Reads, read_content_at}
 use Rattle.der_core_head.proofs.TagLaws.{same_tag-refl}
 use Rattle.der_core_octets.specs.Nesting.{Enters}
-use Rattle.der_core_octets.proofs.Closures.{by_failed, misses_by_rules, enters_wanted}
+use Rattle.der_core_octets.proofs.Closures.{by_failed, enters_wanted}
 use Rattle.der_core_octets.proofs.Nested.{broken_kept}
 use Rattle.der_core_octets.proofs.Steps.{reads_after, tlv_wanted}
 use Rattle.der_core_octets.proofs.Wanted.{wanted_err}
@@ -20,9 +19,9 @@ pub returns-in_err-header-clause-reads : goal.returns-in_err-header-clause-reads
 returns-in_err-header-clause-reads g c = λ b view calls.
     let p = err_from_is_err_and c.from_residual.result c.from_residual.ensures.1 in
     let old = g.Self.Reader.state c.args.self.now in
-    let faulty = c.in_err-header.ensures.der in
-    let value = read_content (nested b) Sequence old.room in
-    rw (p.1, p.2) (λ der ready memory. tlv_wanted Sequence value old.rest ∙ ap (λ r. r >>= λ x. value_at value x.0.len x.1) (faulty.0 der ready), broken_kept _ _ faulty.1, faulty.2, ap (λ (s : State). s.failed) faulty.1)
+    let faulty = c.in_err-header.ensures.front in
+    let value = read_content_at old (nested b) Sequence in
+    rw (p.1, p.2) (λ ready memory. tlv_wanted old.source.encoding Sequence value old.rest ∙ ap (λ r. r >>= λ x. value_at value x.0.len x.1) (faulty.0 ready), broken_kept _ _ faulty.1, faulty.2, ap (λ (s : State). s.failed) faulty.1)
 
 pub returns-in_err-value-clause-reads : goal.returns-in_err-value-clause-reads
 returns-in_err-value-clause-reads g c = λ b view calls.
@@ -30,26 +29,26 @@ returns-in_err-value-clause-reads g c = λ b view calls.
     let old = g.Self.Reader.state c.args.self.now in
     let mid = g.Self.Reader.state c.read_header_of.new.self in
     let new = g.Self.Reader.state c.read_nested.new.self in
-    let front = c.in_ok-header.ensures.der in
+    let front = c.in_ok-header.ensures.front in
     let h = c.in_ok-header.header in
-    let content = read_content (nested b) Sequence old.room in
-    let P : ℕ → Type 0 = λ m. Reads view mid new (Err c.in_err-value.field-0.0) (value_at (read_content (nested b) Sequence m) h.length.value) in
-    let inner : P old.room = subst P (ap (λ (s : State). s.room) front.1) (c.in_err-value.ensures.reads Sequence b view calls) in
-    rw (p.1, p.2) (reads_after view old mid new (Err c.in_err-value.field-0.0) (tlv_at Sequence content) (value_at content h.length.value)
-    front.1 front.2 front.3 (λ der. tlv_wanted Sequence content old.rest ∙ ap (λ r. r >>= λ x. value_at content x.0.len x.1) (front.0 der)) inner)
+    let content = read_content_at old (nested b) Sequence in
+    let P : State → Type 0 = λ s. Reads view mid new (Err c.in_err-value.field-0.0) (value_at (read_content_at s (nested b) Sequence) h.length.value) in
+    let inner : P (record old { rest = mid.rest }) = subst P front.1 (c.in_err-value.ensures.reads Sequence b view calls) in
+    rw (p.1, p.2) (reads_after view old mid new (Err c.in_err-value.field-0.0) (tlv_at old.source.encoding Sequence content) (value_at content h.length.value)
+    front.1 front.2 front.3 (tlv_wanted old.source.encoding Sequence content old.rest ∙ ap (λ r. r >>= λ x. value_at content x.0.len x.1) front.0) inner)
 
 pub returns-clause-reads : goal.returns-clause-reads
 returns-clause-reads g c = λ b view calls.
     let old = g.Self.Reader.state c.args.self.now in
     let mid = g.Self.Reader.state c.read_header_of.new.self in
     let new = g.Self.Reader.state c.read_nested.new.self in
-    let front = c.in_ok-header.ensures.der in
+    let front = c.in_ok-header.ensures.front in
     let h = c.in_ok-header.header in
-    let content = read_content (nested b) Sequence old.room in
-    let P : ℕ → Type 0 = λ m. Reads view mid new (Ok c.in_ok-value.value) (value_at (read_content (nested b) Sequence m) h.length.value) in
-    let inner : P old.room = subst P (ap (λ (s : State). s.room) front.1) (c.in_ok-value.ensures.reads Sequence b view calls) in
-    reads_after view old mid new (Ok c.in_ok-value.value) (tlv_at Sequence content) (value_at content h.length.value)
-    front.1 front.2 front.3 (λ der. tlv_wanted Sequence content old.rest ∙ ap (λ r. r >>= λ x. value_at content x.0.len x.1) (front.0 der)) inner
+    let content = read_content_at old (nested b) Sequence in
+    let P : State → Type 0 = λ s. Reads view mid new (Ok c.in_ok-value.value) (value_at (read_content_at s (nested b) Sequence) h.length.value) in
+    let inner : P (record old { rest = mid.rest }) = subst P front.1 (c.in_ok-value.ensures.reads Sequence b view calls) in
+    reads_after view old mid new (Ok c.in_ok-value.value) (tlv_at old.source.encoding Sequence content) (value_at content h.length.value)
+    front.1 front.2 front.3 (tlv_wanted old.source.encoding Sequence content old.rest ∙ ap (λ r. r >>= λ x. value_at content x.0.len x.1) front.0) inner
 
 -- no header stands there by the rules in force, or one of another tag
 pub returns-in_err-header-clause-refused : goal.returns-in_err-header-clause-refused
@@ -57,11 +56,9 @@ returns-in_err-header-clause-refused g c =
     let p = err_from_is_err_and c.from_residual.result c.from_residual.ensures.1 in
     let old = g.Self.Reader.state c.args.self.now in
     let k = c.in_err-header.field-0.0.kind in
-    let der = c.in_err-header.ensures.der in
-    let ber = c.in_err-header.ensures.ber in
-    let stands = λ (ready : old.failed ≡ false).
-    misses_by_rules Sequence old.source.encoding old.rest k (λ r. wanted_err Sequence head_at old.rest k (der.0 r ready)) (λ r. wanted_err Sequence head_ber_at old.rest k (ber.0 r ready)) in
-    rw (p.1, p.2) (elim (by_failed old.failed stands der.2) [
+    let faulty = c.in_err-header.ensures.front in
+    let stands = λ (ready : old.failed ≡ false). wanted_err Sequence (head_by old.source.encoding) old.rest k (faulty.0 ready) in
+    rw (p.1, p.2) (elim (by_failed old.failed stands faulty.2) [
       | inl h ↦ inl h
       | inr h ↦ inr (elim h.1 [
         | inl none ↦ inl (h.0, none)
@@ -79,18 +76,18 @@ returns-in_err-value-clause-refused g c =
     let old = g.Self.Reader.state c.args.self.now in
     let mid = g.Self.Reader.state c.read_header_of.new.self in
     let h = c.in_ok-header.header in
-    rw (p.1, p.2) (inr (inr (inr (h.length.value, mid, enters_wanted old mid Sequence h c.in_ok-header.ensures.tag c.in_ok-header.ensures.der c.in_ok-header.ensures.ber, c.in_err-value.ensures.refused))))
+    rw (p.1, p.2) (inr (inr (inr (h.length.value, mid, enters_wanted old mid Sequence h c.in_ok-header.ensures.tag c.in_ok-header.ensures.front, c.in_err-value.ensures.refused))))
 
 pub returns-clause-moved : goal.returns-clause-moved
 returns-clause-moved g c =
     let old = g.Self.Reader.state c.args.self.now in
     let mid = g.Self.Reader.state c.read_header_of.new.self in
     let h = c.in_ok-header.header in
-    (h.length.value, mid, enters_wanted old mid Sequence h c.in_ok-header.ensures.tag c.in_ok-header.ensures.der c.in_ok-header.ensures.ber, c.in_ok-value.ensures.moved)
+    (h.length.value, mid, enters_wanted old mid Sequence h c.in_ok-header.ensures.tag c.in_ok-header.ensures.front, c.in_ok-value.ensures.moved)
 
 pub returns-clause-ran : goal.returns-clause-ran
 returns-clause-ran g c =
     let old = g.Self.Reader.state c.args.self.now in
     let mid = g.Self.Reader.state c.read_header_of.new.self in
     let h = c.in_ok-header.header in
-    (h.length.value, mid, enters_wanted old mid Sequence h c.in_ok-header.ensures.tag c.in_ok-header.ensures.der c.in_ok-header.ensures.ber, c.in_ok-value.ensures.ran)
+    (h.length.value, mid, enters_wanted old mid Sequence h c.in_ok-header.ensures.tag c.in_ok-header.ensures.front, c.in_ok-value.ensures.ran)

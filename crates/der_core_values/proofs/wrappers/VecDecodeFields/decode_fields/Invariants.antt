@@ -1,7 +1,7 @@
 use Rattle.std.proofs.Common.{◌≡◌, ◌-◌}
 use Rattle.der_core_head.specs.declared.error.ErrorKind.TheVariants as kinds
-use Rattle.der_core_head.specs.Grammar.{read, read_many}
-use Rattle.der_core_head.specs.Reading.{IsDer, IsRest}
+use Rattle.der_core_head.specs.Grammar.{read_many}
+use Rattle.der_core_head.specs.Reading.{IsRest, read_at}
 use Rattle.der_core_values.proofs.Lists.{with_front}
 use Rattle.der_core_values.proofs.wrappers.VecDecodeFields.decode_fields.Given as goal
 
@@ -10,9 +10,9 @@ invariant-loop g l =
     let state = g.R.Reader.state in
     let old = state l.fn.reader in
     let now = state l.reader in
-    let each = read g.T.Shaped.shape old.room in
+    let each = read_at old g.T.Shaped.shape in
     record {
       same : now ≡ record old { rest = now.rest };
       passed : IsRest now.rest old.rest;
-      total : IsDer old → with_front g.T.Shaped.plain l.values.items (read_many kinds.TrailingData each (l.len - l.counter) now.rest) ≡ read_many kinds.TrailingData each l.len old.rest;
+      total : with_front g.T.Shaped.plain l.values.items (read_many kinds.TrailingData each (l.len - l.counter) now.rest) ≡ read_many kinds.TrailingData each l.len old.rest;
     }

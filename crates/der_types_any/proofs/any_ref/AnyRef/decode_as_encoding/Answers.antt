@@ -6,19 +6,19 @@ use Rattle.der_types_any.specs.Anys.{any_lent}
 use Rattle.der_types_any.proofs.AnyLaws.{read_ok, read_err}
 use Rattle.der_types_any.proofs.any_ref.AnyRef.decode_as_encoding.Goals as goal
 
-pub returns-clause-der : goal.returns-clause-der
-returns-clause-der g c = λ der.
+pub returns : goal.returns
+returns g c =
     let reader = c.in_ok-reader.ensures.ok.1 in
     let same : same_tag c.args.self.now.tag g.T.FixedTag.fixed_tag ≡ true = search rules in
-    read_ok g.T.FixedTag.fixed_tag g.T.ShapedValue.content (any_lent c.args.self.now) (g.T.ShapedValue.value_plain c.in_ok-value.value) c.decode_value.new.reader.rest c.header.result.tag c.header.result.length.value
-    c.in_ok-reader.reader.room c.in_ok-reader.reader.rest c.header.ensures.tag c.header.ensures.length (ap (λ (s : State). s.room) reader) (ap (λ (s : State). s.rest) reader) same (c.in_ok-value.ensures.0 (ap (λ (s : State). s.source.encoding) reader ∙ der))
+    read_ok c.args.encoding_rules g.T.FixedTag.fixed_tag g.T.ShapedValue.content (any_lent c.args.self.now) (g.T.ShapedValue.value_plain c.in_ok-value.value) c.decode_value.new.reader.rest c.in_ok-reader.reader.source.encoding c.header.result.tag c.header.result.length.value
+    c.in_ok-reader.reader.room c.in_ok-reader.reader.rest (ap (λ (s : State). s.source.encoding) reader) c.header.ensures.tag c.header.ensures.length (ap (λ (s : State). s.room) reader) (ap (λ (s : State). s.rest) reader) same c.in_ok-value.ensures.0
 
-pub returns-in_err-value-clause-der : goal.returns-in_err-value-clause-der
-returns-in_err-value-clause-der g c = λ der.
+pub returns-in_err-value : goal.returns-in_err-value
+returns-in_err-value g c =
     let reader = c.in_ok-reader.ensures.ok.1 in
     let ready : c.in_ok-reader.reader.failed ≡ false = ap (λ (s : State). s.failed) reader in
     let same : same_tag c.args.self.now.tag g.T.FixedTag.fixed_tag ≡ true = search rules in
     let p = err_from_is_err_and c.from_residual-in_err-value.result c.from_residual-in_err-value.ensures.1 in
     rw (p.1, p.2)
-    (read_err g.T.FixedTag.fixed_tag g.T.ShapedValue.content (any_lent c.args.self.now) _ c.header.result.tag c.header.result.length.value c.in_ok-reader.reader.room c.in_ok-reader.reader.rest
-    c.header.ensures.tag c.header.ensures.length (ap (λ (s : State). s.room) reader) (ap (λ (s : State). s.rest) reader) same (c.in_err-value.ensures.0 (ap (λ (s : State). s.source.encoding) reader ∙ der) ready))
+    (read_err c.args.encoding_rules g.T.FixedTag.fixed_tag g.T.ShapedValue.content (any_lent c.args.self.now) _ c.in_ok-reader.reader.source.encoding c.header.result.tag c.header.result.length.value c.in_ok-reader.reader.room c.in_ok-reader.reader.rest
+    (ap (λ (s : State). s.source.encoding) reader) c.header.ensures.tag c.header.ensures.length (ap (λ (s : State). s.room) reader) (ap (λ (s : State). s.rest) reader) same (c.in_err-value.ensures.0 ready))

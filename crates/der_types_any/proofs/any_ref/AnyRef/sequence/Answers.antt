@@ -1,5 +1,6 @@
 use Rattle.std.proofs.Common.{◌≡◌, ◌∙◌, true, ap, sym, rules}
 use Rattle.std.proofs.lemmas.Result.{err_from_is_err_and}
+use Rattle.der_core_head.specs.declared.encoding_rules.EncodingRules.TheVariants as encodings
 use Rattle.der_core_head.specs.declared.tag.Tag.TheVariants.{Sequence}
 use Rattle.der_core_head.specs.Tags.{same_tag}
 use Rattle.der_core_head.specs.Shapes.{nested}
@@ -10,7 +11,7 @@ use Rattle.der_types_any.proofs.any_ref.AnyRef.sequence.Goals as goal
 
 pub returns-then-not-is_same_tag-clause-reads : goal.returns-then-not-is_same_tag-clause-reads
 returns-then-not-is_same_tag-clause-reads g c = λ b view calls memory.
-    rw (as_other Sequence (nested b) (any_lent c.args.self.now) (sym c.is_same_tag.ensures ∙ c.if-not-is_same_tag.true)) (search rules)
+    rw (as_other encodings.Der Sequence (nested b) (any_lent c.args.self.now) (sym c.is_same_tag.ensures ∙ c.if-not-is_same_tag.true)) (search rules)
 
 pub returns-in_err-value-clause-reads : goal.returns-in_err-value-clause-reads
 returns-in_err-value-clause-reads g c = λ b view calls.
@@ -18,14 +19,14 @@ returns-in_err-value-clause-reads g c = λ b view calls.
     let same : same_tag c.args.self.now.tag Sequence ≡ true = sym c.is_same_tag.ensures ∙ c.if-not-is_same_tag.false in
     let p = err_from_is_err_and c.from_residual-in_err-value.result c.from_residual-in_err-value.ensures.1 in
     rw (p.1, p.2)
-    (read_err Sequence (nested b) (any_lent c.args.self.now) _ c.header.result.tag c.header.result.length.value c.in_ok-reader.reader.room c.in_ok-reader.reader.rest
-    c.header.ensures.tag c.header.ensures.length (ap (λ (s : State). s.room) reader) (ap (λ (s : State). s.rest) reader) same
-    ((c.in_err-value.ensures.reads b view calls).0 (ap (λ (s : State). s.source.encoding) reader) (ap (λ (s : State). s.failed) reader)))
+    (read_err encodings.Der Sequence (nested b) (any_lent c.args.self.now) _ c.in_ok-reader.reader.source.encoding c.header.result.tag c.header.result.length.value c.in_ok-reader.reader.room c.in_ok-reader.reader.rest
+    (ap (λ (s : State). s.source.encoding) reader) c.header.ensures.tag c.header.ensures.length (ap (λ (s : State). s.room) reader) (ap (λ (s : State). s.rest) reader) same
+    ((c.in_err-value.ensures.reads b view calls).0 (ap (λ (s : State). s.failed) reader)))
 
 pub returns-clause-reads : goal.returns-clause-reads
 returns-clause-reads g c = λ b view calls.
     let reader = c.in_ok-reader.ensures.ok.1 in
     let same : same_tag c.args.self.now.tag Sequence ≡ true = sym c.is_same_tag.ensures ∙ c.if-not-is_same_tag.false in
-    read_ok Sequence (nested b) (any_lent c.args.self.now) (view c.in_ok-value.value) c.read_value.new.self.rest c.header.result.tag c.header.result.length.value c.in_ok-reader.reader.room c.in_ok-reader.reader.rest
-    c.header.ensures.tag c.header.ensures.length (ap (λ (s : State). s.room) reader) (ap (λ (s : State). s.rest) reader) same
-    ((c.in_ok-value.ensures.reads b view calls).0 (ap (λ (s : State). s.source.encoding) reader))
+    read_ok encodings.Der Sequence (nested b) (any_lent c.args.self.now) (view c.in_ok-value.value) c.read_value.new.self.rest c.in_ok-reader.reader.source.encoding c.header.result.tag c.header.result.length.value c.in_ok-reader.reader.room c.in_ok-reader.reader.rest
+    (ap (λ (s : State). s.source.encoding) reader) c.header.ensures.tag c.header.ensures.length (ap (λ (s : State). s.room) reader) (ap (λ (s : State). s.rest) reader) same
+    (c.in_ok-value.ensures.reads b view calls).0

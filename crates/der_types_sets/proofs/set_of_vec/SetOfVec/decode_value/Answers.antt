@@ -1,12 +1,12 @@
-use Rattle.std.proofs.Common.{List, [], Ok, subst, ap, arith}
+use Rattle.std.proofs.Common.{List, Ok, subst, ap, arith, inl, inr, ◌∙◌}
 use Rattle.std.proofs.lemmas.Result.{err_from_is_err_and}
 use Rattle.der_core_head.specs.Heads.{Fits}
 use Rattle.der_core_head.proofs.Bytes.{IsBytes}
 use Rattle.der_core_octets.proofs.Nested.{broken_kept}
 use Rattle.der_core_octets.proofs.Steps.{kept_then}
 use Rattle.der_core_head.specs.Reading.{State}
-use Rattle.der_core_head.specs.Shapes.{Value}
-use Rattle.der_types_sets.proofs.SetSteps.{content_valid}
+use Rattle.der_core_head.specs.Shapes.{Value, many}
+use Rattle.der_types_sets.proofs.SetSteps.{content_valid, by_either, as_der}
 use Rattle.der_types_sets.proofs.LooseSteps.{loose_read, loose_only, loose_again}
 use Rattle.der_types_sets.proofs.ViewSteps.{ascends_as_read, valid_as_written}
 use Rattle.der_types_sets.proofs.set_of_vec.SetOfVec.decode_value.Goals as goal
@@ -17,14 +17,13 @@ returns-in-Err-clause-reads g c =
     let new = g.R.Reader.state c.decode_value.new.reader in
     let bytes : IsBytes old.rest = subst IsBytes c.remaining-before.ensures.rest (λ i. omega (arith, c.remaining-before.items_fit i)) in
     let fits : Fits old.rest = subst Fits c.remaining-before.ensures.rest c.remaining-before.ensures.short in (
-      [],
+      c.in_ok-members.members.items,
       (
-        λ der _ _. absurd (c.in-Err.ensures.refused.some (valid_as_written g.T.Shaped.shape g.T.Shaped.written g.T.Shaped.plain c.in_ok-members.members.items g.met.T.AsRead.as_read (content_valid g.T.Shaped.shape g.T.Shaped.plain c.args.header.tag old.room c.args.header.length.value old.rest c.in_ok-members.members.items new.rest g.met.T.Member.apart bytes fits (c.in_ok-members.ensures.0 der)))),
+        λ ready. by_either old.source.encoding (λ der. inl (λ _. absurd (c.in-Err.ensures.refused.some (valid_as_written g.T.Shaped.shape g.T.Shaped.written g.T.Shaped.plain c.in_ok-members.members.items g.met.T.AsRead.as_read (content_valid g.T.Shaped.shape g.T.Shaped.plain c.args.header.tag old.room c.args.header.length.value old.rest c.in_ok-members.members.items new.rest g.met.T.Member.apart bytes fits (as_der old.source.encoding (many g.T.Shaped.shape) c.args.header.tag old.room c.args.header.length.value old.rest der ∙ c.in_ok-members.ensures.0)))))) (λ ber. inr (ber, c.in-Err.ensures.refused)),
         kept_then old new _ c.in_ok-members.ensures.1 c.in_ok-members.ensures.3 (broken_kept _ _ c.fail.ensures),
         λ failed. absurd (cc (failed, c.in_ok-members.ensures.2)),
         ap (λ (s : State). s.failed) c.fail.ensures,
       ),
-      tt,
     )
 
 pub returns-in_err-members-clause-only : goal.returns-in_err-members-clause-only
@@ -32,7 +31,7 @@ returns-in_err-members-clause-only g c =
     let old = g.R.Reader.state c.args.reader.now in
     let p = err_from_is_err_and c.from_residual.result c.from_residual.ensures.1 in
     rw (p.1, p.2) (λ v element enough der ready le loose memory.
-    absurd (cc (loose_again g.T.Shaped.shape c.args.header.tag old.room c.args.header.length.value old.rest v element g.met.T.Member.apart enough le loose, c.in_err-members.ensures.0 der ready memory)))
+    absurd (cc (loose_again g.T.Shaped.shape c.args.header.tag old.room c.args.header.length.value old.rest v element g.met.T.Member.apart enough le loose, as_der old.source.encoding (many g.T.Shaped.shape) c.args.header.tag old.room c.args.header.length.value old.rest der ∙ c.in_err-members.ensures.0 ready memory)))
 
 pub returns-in-Err-clause-only : goal.returns-in-Err-clause-only
 returns-in-Err-clause-only g c =
@@ -41,7 +40,7 @@ returns-in-Err-clause-only g c =
     let bytes : IsBytes old.rest = subst IsBytes c.remaining-before.ensures.rest (λ i. omega (arith, c.remaining-before.items_fit i)) in
     let fits : Fits old.rest = subst Fits c.remaining-before.ensures.rest c.remaining-before.ensures.short in
     λ v element enough der ready le loose memory.
-    absurd (c.in-Err.ensures.refused.some (valid_as_written g.T.Shaped.shape g.T.Shaped.written g.T.Shaped.plain c.in_ok-members.members.items g.met.T.AsRead.as_read (content_valid g.T.Shaped.shape g.T.Shaped.plain c.args.header.tag old.room c.args.header.length.value old.rest c.in_ok-members.members.items new.rest g.met.T.Member.apart bytes fits (c.in_ok-members.ensures.0 der))))
+    absurd (c.in-Err.ensures.refused.some (valid_as_written g.T.Shaped.shape g.T.Shaped.written g.T.Shaped.plain c.in_ok-members.members.items g.met.T.AsRead.as_read (content_valid g.T.Shaped.shape g.T.Shaped.plain c.args.header.tag old.room c.args.header.length.value old.rest c.in_ok-members.members.items new.rest g.met.T.Member.apart bytes fits (as_der old.source.encoding (many g.T.Shaped.shape) c.args.header.tag old.room c.args.header.length.value old.rest der ∙ c.in_ok-members.ensures.0))))
 
 pub returns-in-Ok-clause-spelled : goal.returns-in-Ok-clause-spelled
 returns-in-Ok-clause-spelled g c =
@@ -50,7 +49,7 @@ returns-in-Ok-clause-spelled g c =
     let bytes : IsBytes old.rest = subst IsBytes c.remaining-before.ensures.rest (λ i. omega (arith, c.remaining-before.items_fit i)) in
     let fits : Fits old.rest = subst Fits c.remaining-before.ensures.rest c.remaining-before.ensures.short in
     λ element der. loose_read g.T.Shaped.shape g.T.Shaped.plain c.args.header.tag old.room c.args.header.length.value old.rest c.in_ok-members.members.items c.in-Ok.set new.rest element g.met.T.Member.apart bytes fits
-    (c.in_ok-members.ensures.0 der) c.in-Ok.ensures.ok (ascends_as_read g.T.Shaped.shape g.T.Shaped.written g.T.Shaped.plain c.in-Ok.set g.met.T.AsRead.as_read c.in-Ok.ensures.ascend)
+    (as_der old.source.encoding (many g.T.Shaped.shape) c.args.header.tag old.room c.args.header.length.value old.rest der ∙ c.in_ok-members.ensures.0) c.in-Ok.ensures.ok (ascends_as_read g.T.Shaped.shape g.T.Shaped.written g.T.Shaped.plain c.in-Ok.set g.met.T.AsRead.as_read c.in-Ok.ensures.ascend)
 
 pub returns-in-Ok-clause-only : goal.returns-in-Ok-clause-only
 returns-in-Ok-clause-only g c =
@@ -59,4 +58,4 @@ returns-in-Ok-clause-only g c =
     λ v element enough der ready le loose.
     ap (λ (u : List (Value g.T.Shaped.shape)). Ok u)
     (loose_only g.T.Shaped.shape g.T.Shaped.plain c.args.header.tag old.room c.args.header.length.value old.rest c.in_ok-members.members.items c.in-Ok.set new.rest v element g.met.T.Member.apart enough
-    (c.in_ok-members.ensures.0 der) c.in-Ok.ensures.ok (ascends_as_read g.T.Shaped.shape g.T.Shaped.written g.T.Shaped.plain c.in-Ok.set g.met.T.AsRead.as_read c.in-Ok.ensures.ascend) loose)
+    (as_der old.source.encoding (many g.T.Shaped.shape) c.args.header.tag old.room c.args.header.length.value old.rest der ∙ c.in_ok-members.ensures.0) c.in-Ok.ensures.ok (ascends_as_read g.T.Shaped.shape g.T.Shaped.written g.T.Shaped.plain c.in-Ok.set g.met.T.AsRead.as_read c.in-Ok.ensures.ascend) loose)

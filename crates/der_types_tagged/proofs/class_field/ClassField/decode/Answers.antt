@@ -3,8 +3,7 @@ use Rattle.std.proofs.lemmas.Result.{err_from_is_err_and}
 use Rattle.der_core_head.specs.declared.tag.Tag.{Tag}
 use Rattle.der_core_head.specs.Tags.{class_tag, number_of}
 use Rattle.der_core_head.specs.Shapes.{nested, only, tagged}
-use Rattle.der_core_head.specs.Grammar.{read}
-use Rattle.der_core_head.specs.Reading.{Reads}
+use Rattle.der_core_head.specs.Reading.{Reads, read_at}
 use Rattle.der_core_octets.specs.Fronts.{head_of}
 use Rattle.der_types_tagged.proofs.Numbers.{numbered_stops}
 use Rattle.der_types_tagged.proofs.class_field.ClassField.decode.Goals as goal
@@ -17,6 +16,6 @@ returns-in_err-value-clause-reads g c =
     let h = c.in-Ok.header in
     let e = c.in_err-value.field-0.0 in
     let own : c.tag_of_class-tag.result ≡ class_tag (class / 64) true (number_of h.tag) = c.tag_of_class-tag.ensures ∙ ap (class_tag (class / 64) true) c.number-tag_number.ensures in
-    let P : Tag → Type 0 = λ t. Reads g.T.Shaped.plain old (g.R.Reader.state c.read_explicit.new.reader) (Err e) (read (tagged t (nested (only g.T.Shaped.shape))) old.room) in
+    let P : Tag → Type 0 = λ t. Reads g.T.Shaped.plain old (g.R.Reader.state c.read_explicit.new.reader) (Err e) (read_at old (tagged t (nested (only g.T.Shaped.shape)))) in
     let inner : P (class_tag (class / 64) true (number_of h.tag)) = subst P own c.in_err-value.ensures in
-    rw (p.1, p.2) (λ der ready memory. numbered_stops class g.T.Shaped.shape old.room old.rest (head_of h) e.kind (c.in-Ok.ensures.der.0 der) (inner.0 der ready memory), inner.1, inner.2, inner.3)
+    rw (p.1, p.2) (λ ready memory. numbered_stops old.source.encoding class g.T.Shaped.shape old.room old.rest (head_of h) e.kind c.in-Ok.ensures.0 (inner.0 ready memory), inner.1, inner.2, inner.3)

@@ -2,8 +2,8 @@ use Rattle.std.proofs.Common.{Err, subst}
 use Rattle.std.proofs.lemmas.Result.{err_from_is_err_and}
 use Rattle.der_core_head.specs.declared.tag.Tag.{Tag}
 use Rattle.der_core_head.specs.Shapes.{nested, only, optional, tagged}
-use Rattle.der_core_head.specs.Grammar.{read, plain_option}
-use Rattle.der_core_head.specs.Reading.{Reads}
+use Rattle.der_core_head.specs.Grammar.{plain_option}
+use Rattle.der_core_head.specs.Reading.{Reads, read_at}
 use Rattle.der_types_tagged.proofs.class_field.ClassField.decode_explicit.Goals as goal
 
 pub returns-in_err-value-clause-reads : goal.returns-in_err-value-clause-reads
@@ -11,5 +11,5 @@ returns-in_err-value-clause-reads g c =
     let p = err_from_is_err_and c.from_residual.result c.from_residual.ensures.1 in
     let old = g.R.Reader.state c.args.reader.now in
     let P : Tag → Type 0 = λ t. Reads (plain_option g.T.Shaped.plain) old (g.R.Reader.state c.optional_explicit.new.reader) (Err c.in_err-value.field-0.0)
-    (read (optional (tagged t (nested (only g.T.Shaped.shape)))) old.room) in
+    (read_at old (optional (tagged t (nested (only g.T.Shaped.shape))))) in
     rw (p.1, p.2) (subst P c.tag_of_class-tag.ensures c.in_err-value.ensures)

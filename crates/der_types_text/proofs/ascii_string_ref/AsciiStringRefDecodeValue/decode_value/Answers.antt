@@ -23,4 +23,4 @@ returns-in_err-octets g c =
     let p = err_from_is_err_and c.from_residual.result c.from_residual.ensures.1 in
     let old = g.R.Reader.state c.args.reader.now in
     let takes = c.in_err-octets.ensures.takes in
-    rw (p.1, p.2) (λ _ ready memory. takes.0 (text g.T.AsciiType.repertoire) c.args.header.tag old.room ready, broken_kept _ _ takes.1, takes.2, ap (λ (s : State). s.failed) takes.1)
+    rw (p.1, p.2) (λ ready memory. takes.0 (text g.T.AsciiType.repertoire) c.args.header.tag old.room ready, broken_kept _ _ takes.1, takes.2, ap (λ (s : State). s.failed) takes.1)
