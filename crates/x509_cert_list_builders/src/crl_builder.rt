@@ -8,7 +8,7 @@ ghost use Rattle.der_core_head.specs.Grammar.{plain_list, plain_option};
 ghost use Rattle.der_core_head.specs.Reading.{Gives};
 ghost use Rattle.der_core_head.specs.Shapes.{IsValid, octets_of};
 ghost use Rattle.x509_cert_builders.specs.Certificates.{tbs_plain, tbs_subject};
-ghost use Rattle.x509_cert_builders.specs.Parts.{algorithm_plain, authority_key_identifier_plain, key_plain, time_value};
+ghost use Rattle.x509_cert_builders.specs.Parts.{algorithm_plain, authority_key_identifier_plain, extensions_plain, key_plain, time_value};
 ghost use Rattle.x509_cert_builders.specs.Lists.{certificate_list_plain, revoked_cert_plain, tbs_cert_list_plain};
 ghost use Rattle.x509_cert_builders.specs.Refusals.{IsWantOfMemory};
 ghost use Rattle.x509_cert_list_builders.specs.Lists.{HasNoExtensions, PlainAuthority, entries, given_or_made, issuing_key, key_extension, list_part, number_extension};
@@ -81,6 +81,23 @@ fn issuing_key(
     Ok(identifier)
 }
 
+/// The extensions of a list of an issuer: its number, and the key under which it is signed.
+fn own_extensions(
+    alloc: Global,
+    issuer: &TbsCertificate,
+    number: &CrlNumber,
+) -> Result<Extensions, der_core::Error>
+    ensures made { IfOk result (λ v. (key : PlainAuthority) × (issuing_key (tbs_plain issuer.now) ≡ Ok key) × (extensions_plain v.items ≡ number_extension number.now.0 ∷ key_extension key ∷ [])) }
+    ensures refused { IfErr result (λ e. (e.kind ≡ OutOfMemory) ⊎ (issuing_key (tbs_plain issuer.now) ≡ Err e.kind)
+        ⊎ HasNoExtensions number.now.0 (issuing_key (tbs_plain issuer.now))) }
+{
+    let key = issuing_key(alloc, issuer)?;
+    let number = number.to_extension(alloc, &issuer.subject, &[])?;
+    let authority = (&key).to_extension(alloc, &issuer.subject, &[])?;
+    let extensions = Vec::from_array(alloc, [number, authority])?;
+    Ok(extensions)
+}
+
 impl<P: Profile> CrlBuilder<P> {
     /// A builder of a list that this issuer makes at this time, with this number, of no certificates.
     ///
@@ -108,12 +125,7 @@ impl<P: Profile> CrlBuilder<P> {
             ⊎ HasNoExtensions crl_number.0 (issuing_key (tbs_plain issuer.now.tbs_certificate))) }
     {
         let tbs = &issuer.tbs_certificate;
-        let key = issuing_key(alloc, tbs)?;
-        let mut crl_extensions = Vec::new(alloc);
-        let number = (&crl_number).to_extension(alloc, &tbs.subject, crl_extensions.as_slice())?;
-        crl_extensions.push(number)?;
-        let authority = (&key).to_extension(alloc, &tbs.subject, crl_extensions.as_slice())?;
-        crl_extensions.push(authority)?;
+        let crl_extensions = own_extensions(alloc, tbs, &crl_number)?;
         let issuer = tbs.subject.clone(alloc)?;
         Ok(CrlBuilder {
             issuer,
