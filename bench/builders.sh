@@ -1,11 +1,15 @@
 #!/usr/bin/env bash
-# Finalizes a root on P-256, writes its signed part with `to_der`, and makes the extensions of its profile alone: instructions, by the
-# difference of 101 rounds and one (bench/README.md).
+# Writes the signed part of a certificate on P-256 with `to_der`, and finalizes it, for a signer who keeps the identifier of its key and for
+# one who doesn't, under each profile: instructions, by the difference of 101 rounds and one (bench/README.md).
 . "$(dirname "$0")/program.sh"
-build builders root_builds 'x509_cert_builders x509_cert_lists der_core const_oid_identifiers rand_core'
+build builders certificate_builds 'x509_cert_builders x509_cert_lists der_core const_oid_identifiers rand_core'
 
-# costs MODE: what a round costs
-costs() { echo "$1: $((($(instructions "$program" "$1" 101) - $(instructions "$program" "$1" 1)) / 100)) instructions"; }
-costs write
-costs finalize
-costs extensions
+# costs MODE PROFILE: what a round costs
+costs() { echo $((($(instructions "$program" "$1" "$2" 101) - $(instructions "$program" "$1" "$2" 1)) / 100)); }
+for profile in root subordinate subscriber device; do
+    written=$(costs write "$profile")
+    kept=$(costs finalize "$profile")
+    digested=$(costs digest "$profile")
+    awk -v p="$profile" -v w="$written" -v k="$kept" -v d="$digested" \
+        'BEGIN { printf "%s: written %d, finalized %d (%.2f), with a digest %d (%.2f)\n", p, w, k, k / w, d, d / w }'
+done

@@ -10,7 +10,7 @@ use std::alloc::Global;
 use std::io;
 use std::str::FromStr;
 use x509_cert::builder::{
-    Builder, BuilderProfile, CertificateBuilder, CertificateType, CrlBuilder, Error,
+    Builder, BuilderProfile, CertificateBuilder, CertificateType, CrlBuilder, Error, IdentifiedKey,
     RequestBuilder, Root, Subordinate, Subscriber, Tls12Options,
 };
 use x509_cert::{
@@ -165,9 +165,9 @@ fn request(alloc: Global, signer: &DigestSigner) -> Result<CertReq, Error> {
     Ok(request)
 }
 
-/// The signer of the key that is the encoding of these octets.
+/// The signer of the key that is the encoding of these octets, which is digested here and not again.
 fn signer_of(alloc: Global, key: &[u8]) -> Result<DigestSigner, Error> {
-    let key = key_of(alloc, key)?;
+    let key = IdentifiedKey::new(alloc, key_of(alloc, key)?)?;
     let signer = DigestSigner::new(key)?;
     Ok(signer)
 }

@@ -1,8 +1,7 @@
 //! How builders are used.
 
-use crate::digest_signer::DigestSigner;
+use crate::digest_signer::{DigestSigner, SignerWords};
 use crate::refusals::Refusal;
-use crate::words::signer_of;
 use std::alloc::Global;
 use x509_cert_list_builders::{Builder, Signer};
 
@@ -44,21 +43,18 @@ pub struct Asked<'a> {
     pub manner: Manner,
     /// What changes the builder.
     pub change: &'a str,
-    /// The key of the signer.
-    pub key: &'a str,
-    /// Whether the signer refuses all octets.
-    pub refuses: bool,
+    pub signer: SignerWords<'a>,
 }
 
 impl Asked<'_> {
     /// The signer.
     fn signer(&self, alloc: Global) -> Result<DigestSigner, Refusal> {
-        signer_of(alloc, self.key, "1.3.6.1.4.1.32473.2", self.refuses)
+        self.signer.signer(alloc, "1.3.6.1.4.1.32473.2")
     }
 
     /// The signer of another algorithm.
     fn other_signer(&self, alloc: Global) -> Result<DigestSigner, Refusal> {
-        signer_of(alloc, self.key, "1.3.6.1.4.1.32473.3", self.refuses)
+        self.signer.signer(alloc, "1.3.6.1.4.1.32473.3")
     }
 }
 

@@ -1,6 +1,7 @@
 //! Certificates of each profile.
 
 use crate::builders::{Asked, Change, Manner, part_of, whole_of};
+use crate::digest_signer::SignerWords;
 use crate::refusals::Refusal;
 use crate::words::{Words, extension_of, key_of, octets_of, time_of};
 use der_core::{from_der, to_der};
@@ -42,7 +43,11 @@ impl<'a> Settled<'a> {
         let from = words.next()?;
         let until = words.next()?;
         let key = words.next()?;
-        let signer = words.next()?;
+        let signer = SignerWords {
+            key: words.next()?,
+            refuses: flags.contains('r'),
+            keeps: flags.contains('i'),
+        };
         let change = words.next()?;
         Ok(Settled {
             serial,
@@ -52,8 +57,7 @@ impl<'a> Settled<'a> {
             asked: Asked {
                 manner,
                 change,
-                key: signer,
-                refuses: flags.contains('r'),
+                signer,
             },
         })
     }

@@ -1,6 +1,7 @@
 //! Lists.
 
 use crate::builders::{Asked, Change, Manner, part_of, whole_of};
+use crate::digest_signer::SignerWords;
 use crate::refusals::Refusal;
 use crate::words::{Words, octets_of, time_of};
 use der_core::{from_der, to_der};
@@ -78,8 +79,11 @@ pub fn answer(alloc: Global, rest: &str) -> Result<Vec<u8>, Refusal> {
     let asked = Asked {
         manner,
         change: words.rest,
-        key,
-        refuses: false,
+        signer: SignerWords {
+            key,
+            refuses: false,
+            keeps: false,
+        },
     };
     made(alloc, builder, &asked)
 }

@@ -34,8 +34,9 @@
 //! | `module FLAGS VERSION OCTETS SETTLED ISSUER\|SUBJECT` | a device with a module `1.2` or `2.0` of this serial number |
 //!
 //! `FLAGS` are letters, or a dash: `o` answers about the state of certificates are signed, `c` clients are certified, `d` data are
-//! enciphered, `k` keys are, `a` keys are agreed upon, `r` the signer refuses. `SETTLED` is `SERIAL FROM UNTIL KEY SIGNER ADDED`: octets,
-//! two dates, the certified key, that of the signer, and an extension that is added, or a dash.
+//! enciphered, `k` keys are, `a` keys are agreed upon, `r` the signer refuses, `i` it keeps the identifier of its key. `SETTLED` is
+//! `SERIAL FROM UNTIL KEY SIGNER ADDED`: octets, two dates, the certified key, that of the signer, and an extension that is added, or a
+//! dash.
 //!
 //! Keys, issuers, entries, extensions and passwords are encodings in hex, of `SubjectPublicKeyInfo`, `Certificate`, `RevokedCert`,
 //! `Extension` and `DirectoryString`; several are joined by commas. A dash stands for none, and `empty` for an empty list of entries.

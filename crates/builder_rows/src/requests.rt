@@ -1,6 +1,7 @@
 //! Requests.
 
 use crate::builders::{Asked, Change, Manner, part_of, whole_of};
+use crate::digest_signer::SignerWords;
 use crate::refusals::Refusal;
 use crate::words::{Words, extension_of, octets_of};
 use der_core::{from_der, to_der};
@@ -57,8 +58,11 @@ pub fn answer(alloc: Global, rest: &str) -> Result<Vec<u8>, Refusal> {
     let asked = Asked {
         manner,
         change,
-        key,
-        refuses: false,
+        signer: SignerWords {
+            key,
+            refuses: false,
+            keeps: false,
+        },
     };
     made(alloc, builder, &asked)
 }

@@ -1,14 +1,10 @@
 //! Words of a line.
 
-use crate::digest_signer::DigestSigner;
 use crate::refusals::Refusal;
-use const_oid_identifiers::ObjectIdentifier;
 use der_core::from_der;
 use std::alloc::Global;
 use std::str::FromStr;
-use x509_cert_list_builders::types::{
-    AlgorithmIdentifier, Extension, Name, SubjectPublicKeyInfo, Time,
-};
+use x509_cert_list_builders::types::{Extension, Name, SubjectPublicKeyInfo, Time};
 
 /// The words of a line, one after the other.
 #[derive(Clone, Copy)]
@@ -57,26 +53,4 @@ pub fn extension_of(alloc: Global, word: &str) -> Result<Extension, Refusal> {
     let octets = octets_of(alloc, word)?;
     let extension = from_der(alloc, octets.as_slice())?;
     Ok(extension)
-}
-
-/// The signer of a key, by the algorithm of these arcs.
-pub fn signer_of(
-    alloc: Global,
-    key: &str,
-    arcs: &str,
-    refuses: bool,
-) -> Result<DigestSigner, Refusal> {
-    let Ok(oid) = ObjectIdentifier::new(arcs) else {
-        return Err(Refusal::Unread);
-    };
-    let key = key_of(alloc, key)?;
-    let algorithm = AlgorithmIdentifier {
-        oid,
-        parameters: None,
-    };
-    Ok(DigestSigner {
-        key,
-        algorithm,
-        refuses,
-    })
 }

@@ -3,7 +3,7 @@
 
 pub use x509_cert_list_builders::{
     Builder, BuilderProfile, CertificateBuilder, CertificateType, CrlBuilder, DevId,
-    DomainValidated, Error, RequestBuilder, Root, SignError, Signer, Subordinate, Subscriber,
-    Tls12Options, TpmVersion, ca_certificate_naming, check_names_encoding, tcg_sv_tpm_12,
-    tcg_sv_tpm_20,
+    DomainValidated, Error, IdentifiedKey, RequestBuilder, Root, SignError, Signer, Subordinate,
+    Subscriber, Tls12Options, TpmVersion, ca_certificate_naming, check_names_encoding,
+    tcg_sv_tpm_12, tcg_sv_tpm_20,
 };

@@ -20,7 +20,7 @@ use Rattle.der_core_head.specs.Shapes.{leaf, tagged, sequence, sequence_of, octe
 use Rattle.der_core_head.specs.Tags.{tag_octets, context}
 use Rattle.sha1.specs.Sha1.{sha1, digest_bytes}
 use Rattle.x509_cert_anchors.specs.Parts.{arc_bound, authority_key_identifier_fields, basic_constraints_fields, false_by_default, object_identifier, octet_string, number_of}
-use Rattle.x509_cert_builders.specs.Profiles.{IsDigest, id_kp, purposes}
+use Rattle.x509_cert_builders.specs.Profiles.{id_kp, purposes}
 
 digest_length : (m : List ℕ) → length (sha1 m) ≡ 20
 unfolding sha1 digest_bytes
@@ -138,6 +138,10 @@ pub purposes_valid : (clients : Bool) → IsValid (sequence_of (object_identifie
 unfolding IsValid IsContent IsBody tlv head_octets length_octets tag_octets contents body_octets octets_of identifier_octets arc_octets digits digits_within marked
 purposes_valid true = ((first_purpose, (second_purpose, tt)), omega arith, omega arith)
 purposes_valid false = ((first_purpose, tt), omega arith, omega arith)
+
+-- octets that are a digest
+abbrev pub IsDigest : List ℕ → Type 0
+IsDigest w = (m : List ℕ) × (w ≡ sha1 m)
 
 -- what holds a digest, and nothing else
 pub authority_valid : (w : List ℕ) → IsDigest w → IsValid (sequence (authority_key_identifier_fields arc_bound)) (Some w, (None, (None, tt)))

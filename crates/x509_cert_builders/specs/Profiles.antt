@@ -1,5 +1,5 @@
 -- The extensions that profiles add (RFC 5280 4.2; CA/Browser Forum, Baseline Requirements 7.1.2).
-use Rattle.std.specs.Prelude.{◌≡◌, ℕ, ℤ, ◌+◌, ◌^◌, List, [], ◌∷◌, Bool, true, false, ◌&&◌, Option, Some, None, if◌then◌else◌}
+use Rattle.std.specs.Prelude.{◌≡◌, ⊤, ℕ, ℤ, ◌+◌, ◌^◌, List, [], ◌∷◌, Bool, true, false, ◌&&◌, Option, Some, None, if◌then◌else◌}
 use Rattle.const_oid_identifiers.specs.Comparing.{owned_eq}
 use Rattle.der_core_head.specs.declared.tag.Tag.TheVariants as tags
 use Rattle.der_core_head.specs.Leaves.{named}
@@ -11,9 +11,10 @@ use Rattle.x509_cert_anchors.specs.Parts.{PublicKey, PlainExtension, algorithm_a
 abbrev pub key_identifier : PublicKey → List ℕ
 key_identifier k = sha1 (key_bits k).octets
 
--- octets that are such a digest
-abbrev pub IsDigest : List ℕ → Type 0
-IsDigest w = (m : List ℕ) × (w ≡ sha1 m)
+-- what is known of a key's identifier, if anything is, is its identifier
+abbrev pub Identifies : Option (List ℕ) → PublicKey → Type 0
+Identifies None k = ⊤
+Identifies (Some identifier) k = identifier ≡ key_identifier k
 
 -- an extension of the arc id-ce, whose content is the encoding of a value
 abbrev pub standard_extension : ℕ → Bool → (s : Shape) → Value s → PlainExtension

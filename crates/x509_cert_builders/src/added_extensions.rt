@@ -2,9 +2,9 @@
 
 ghost use Rattle.std.specs.Prelude.{◌≡◌, ◌<◌, ◌++◌, ◌∷◌, [], false, pos, Some, None, OnOk, IfOk, IfErr};
 ghost use Rattle.der_core_head.specs.Grammar.{plain_option};
-ghost use Rattle.der_core_head.specs.Shapes.{IsValid, sequence};
-ghost use Rattle.x509_cert_anchors.specs.Parts.{arc_bound, authority_key_identifier_fields, extensions_plain, name_plain, octet_string};
-ghost use Rattle.x509_cert_builders.specs.Profiles.{IsDigest, constraints_extension, key_identifier, purposes_extension, standard_extension, usage_extension};
+ghost use Rattle.der_core_head.specs.Shapes.{IsValid};
+ghost use Rattle.x509_cert_anchors.specs.Parts.{extensions_plain, name_plain};
+ghost use Rattle.x509_cert_builders.specs.Profiles.{Identifies, authority_key_extension, constraints_extension, key_identifier, purposes_extension, standard_extension, subject_key_extension, usage_extension};
 ghost use Rattle.x509_cert_builders.specs.Refusals.{IsWantOfMemory};
 
 use crate::error::Error;
@@ -38,32 +38,50 @@ pub(crate) fn add<T: Encode + Criticality>(
 }
 
 /// The identifier of a key: the digest of its octets (RFC 5280 4.2.1.2, method 1).
-#[tactic(auto, using(crate::proofs::Encodable::is_digest))]
 pub(crate) fn identifier_of<'a>(
     alloc: Global,
     key: &SubjectPublicKeyInfoRef<'a>,
 ) -> Result<SubjectKeyIdentifier, Error>
     ensures identifier { IfOk result (λ i. i.0 ≡ key_identifier (⟦<SubjectPublicKeyInfoRef<'a> as Fields>⟧.fields_plain key.now)) }
-    ensures digest { IfOk result (λ i. IsDigest i.0) }
     ensures refused { IfErr result IsWantOfMemory }
 {
     let identifier = SubjectKeyIdentifier::try_from_key(alloc, key)?;
     Ok(identifier)
 }
 
-/// Adds the identifier of the key by which a certificate is signed (4.2.1.1).
-#[tactic(auto, using(crate::proofs::Encodable::authority_valid))]
-pub(crate) fn add_authority(
+/// A copy of the identifier of a key, where it is known, or its digest.
+fn identifier_for<'a>(
+    alloc: Global,
+    key: &SubjectPublicKeyInfoRef<'a>,
+    known: Option<&SubjectKeyIdentifier>,
+) -> Result<OctetString, Error>
+    requires { Identifies (plain_option (λ i. i.now.0) known) (⟦<SubjectPublicKeyInfoRef<'a> as Fields>⟧.fields_plain key.now) }
+    ensures identifier { IfOk result (λ i. i ≡ key_identifier (⟦<SubjectPublicKeyInfoRef<'a> as Fields>⟧.fields_plain key.now)) }
+    ensures refused { IfErr result IsWantOfMemory }
+{
+    let Some(known) = known else {
+        let digested = identifier_of(alloc, key)?;
+        return Ok(digested.0);
+    };
+    let copy = known.0.clone(alloc)?;
+    Ok(copy)
+}
+
+/// Adds the identifier of the key by which a certificate is signed (4.2.1.1), which may be known.
+#[tactic(auto, using(crate::proofs::Encodable::authority_valid, crate::proofs::Encodable::is_digest))]
+pub(crate) fn add_authority<'a>(
     alloc: Global,
     extensions: &mut Extensions,
     subject: &Name,
-    identifier: OctetString,
+    key: &SubjectPublicKeyInfoRef<'a>,
+    known: Option<&SubjectKeyIdentifier>,
 ) -> Result<(), Error>
-    requires { IsDigest identifier }
+    requires { Identifies (plain_option (λ i. i.now.0) known) (⟦<SubjectPublicKeyInfoRef<'a> as Fields>⟧.fields_plain key.now) }
     ensures added { OnOk result (extensions_plain extensions.new.items ≡ extensions_plain extensions.old.items
-        ++ standard_extension 35 false (sequence (authority_key_identifier_fields arc_bound)) (Some identifier, (None, (None, tt))) ∷ []) }
+        ++ authority_key_extension (⟦<SubjectPublicKeyInfoRef<'a> as Fields>⟧.fields_plain key.now) ∷ []) }
     ensures refused { IfErr result IsWantOfMemory }
 {
+    let identifier = identifier_for(alloc, key, known)?;
     let authority = AuthorityKeyIdentifier {
         key_identifier: Some(identifier),
         authority_cert_issuer: None,
@@ -73,20 +91,26 @@ pub(crate) fn add_authority(
     Ok(())
 }
 
-/// Adds the identifier of the certified key (4.2.1.2).
-#[tactic(auto, using(crate::proofs::Encodable::identifier_valid))]
-pub(crate) fn add_identifier(
+/// Adds the identifier of the certified key (4.2.1.2), which may be known.
+#[tactic(auto, using(crate::proofs::Encodable::identifier_valid, crate::proofs::Encodable::is_digest))]
+pub(crate) fn add_identifier<'a>(
     alloc: Global,
     extensions: &mut Extensions,
     subject: &Name,
-    identifier: &SubjectKeyIdentifier,
+    key: &SubjectPublicKeyInfoRef<'a>,
+    known: Option<&SubjectKeyIdentifier>,
 ) -> Result<(), Error>
-    requires { IsDigest identifier.now.0 }
+    requires { Identifies (plain_option (λ i. i.now.0) known) (⟦<SubjectPublicKeyInfoRef<'a> as Fields>⟧.fields_plain key.now) }
     ensures added { OnOk result (extensions_plain extensions.new.items ≡ extensions_plain extensions.old.items
-        ++ standard_extension 14 false octet_string identifier.now.0 ∷ []) }
+        ++ subject_key_extension (⟦<SubjectPublicKeyInfoRef<'a> as Fields>⟧.fields_plain key.now) ∷ []) }
     ensures refused { IfErr result IsWantOfMemory }
 {
-    add(alloc, extensions, subject, 14, identifier)?;
+    let Some(known) = known else {
+        let digested = identifier_of(alloc, key)?;
+        add(alloc, extensions, subject, 14, &digested)?;
+        return Ok(());
+    };
+    add(alloc, extensions, subject, 14, known)?;
     Ok(())
 }
 

@@ -13,7 +13,8 @@ use x509_cert_anchors::{
 pub trait BuilderProfile {
     ghost use Rattle.std.specs.Prelude.{◌≡◌, ◌⊎◌, List, IfOk, IfErr};
     ghost use Rattle.x509_cert_builders.specs.declared.error.Error.{Error};
-    ghost use Rattle.x509_cert_builders.specs.Profiles.{key_identifier};
+    ghost use Rattle.der_core_head.specs.Grammar.{plain_option};
+    ghost use Rattle.x509_cert_builders.specs.Profiles.{Identifies};
     ghost use Rattle.x509_cert_builders.specs.Refusals.{IsWantOfMemory};
     ghost use Rattle.x509_cert_anchors.specs.Certificates.{Tbs, tbs_plain};
     ghost use Rattle.x509_cert_anchors.specs.Parts.{PlainExtension, PlainName, PublicKey, extensions_plain, name_plain};
@@ -62,8 +63,13 @@ pub trait BuilderProfile {
             ≡ extensions self.now (⟦<SubjectPublicKeyInfoRef<'a> as Fields>⟧.fields_plain spk.now) (⟦<SubjectPublicKeyInfoRef<'b> as Fields>⟧.fields_plain issuer_spk.now) (tbs_plain tbs.now)) }
         ensures refused { IfErr result (λ e. IsWantOfMemory e ⊎ refuses self.now e) };
 
-    /// The same, where the identifier of the certified key is known: a builder digests its key once. A profile that leaves this out is
-    /// asked by `build_extensions`.
+    /// Whether the extensions hold the identifier of the certified key: then a builder digests its key, once, when it is made.
+    fn names_certified_key(&self) -> bool {
+        false
+    }
+
+    /// The same extensions, where the identifiers of the keys may be known: a builder keeps that of its key, a signer its own. A profile
+    /// that leaves this out is asked by `build_extensions`.
     ///
     /// # Errors
     /// Those of `build_extensions`.
@@ -71,11 +77,13 @@ pub trait BuilderProfile {
         &self,
         alloc: Global,
         spk: &SubjectPublicKeyInfoRef<'a>,
-        identifier: &SubjectKeyIdentifier,
+        identifier: Option<&SubjectKeyIdentifier>,
         issuer_spk: &SubjectPublicKeyInfoRef<'b>,
+        issuer_identifier: Option<&SubjectKeyIdentifier>,
         tbs: &TbsCertificate,
     ) -> Result<Extensions, Error>
-        requires { identifier.now.0 ≡ key_identifier (⟦<SubjectPublicKeyInfoRef<'a> as Fields>⟧.fields_plain spk.now) }
+        requires certified { Identifies (plain_option (λ i. i.now.0) identifier) (⟦<SubjectPublicKeyInfoRef<'a> as Fields>⟧.fields_plain spk.now) }
+        requires issuers { Identifies (plain_option (λ i. i.now.0) issuer_identifier) (⟦<SubjectPublicKeyInfoRef<'b> as Fields>⟧.fields_plain issuer_spk.now) }
         ensures made { IfOk result (λ v. extensions_plain v.items
             ≡ extensions self.now (⟦<SubjectPublicKeyInfoRef<'a> as Fields>⟧.fields_plain spk.now) (⟦<SubjectPublicKeyInfoRef<'b> as Fields>⟧.fields_plain issuer_spk.now) (tbs_plain tbs.now)) }
         ensures refused { IfErr result (λ e. IsWantOfMemory e ⊎ refuses self.now e) }

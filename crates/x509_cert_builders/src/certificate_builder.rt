@@ -4,15 +4,16 @@ ghost use Rattle.std.specs.Prelude.{◌≡◌, ◌⊎◌, ◌++◌, ◌∷◌, [
 ghost use Rattle.der_core_head.specs.Grammar.{plain_option};
 ghost use Rattle.x509_cert_anchors.specs.Certificates.{certificate_plain, outer_algorithm, signature_bits, tbs_plain, tbs_public_key};
 ghost use Rattle.x509_cert_anchors.specs.Parts.{algorithm_plain, extensions_plain, key_plain, validity_plain};
-ghost use Rattle.x509_cert_builders.specs.Profiles.{key_identifier};
+ghost use Rattle.x509_cert_builders.specs.Profiles.{Identifies};
 ghost use Rattle.x509_cert_builders.specs.SignedParts.{HasNoOctets, bare_part, fields_of, signed_octets, signed_part};
 ghost use Rattle.x509_cert_builders.specs.States.{algorithm_of_last, octets_in_place};
 ghost use Rattle.x509_cert_builders.specs.Refusals.{IsFailed, IsWantOfMemory, IsWantOfMemoryAs};
 
-use crate::added_extensions::{identifier_of, joined};
+use crate::added_extensions::joined;
 use crate::builder::Builder;
 use crate::builder_profile::BuilderProfile;
 use crate::error::Error;
+use crate::identified_key::digested;
 use crate::identifiers::no_algorithm;
 use crate::signed_part::{complete, lay_bare, take_extensions, written};
 use crate::signer::Signer;
@@ -29,12 +30,12 @@ use x509_cert_anchors::{
 /// those of the profile.
 ///
 /// Contracts see its profile, what is settled, the extensions that were added, and the part that was made last. The certified key is
-/// digested once, when the builder is made.
+/// digested once, when the builder is made, if the profile names it.
 #[derive(Drop)]
 pub struct CertificateBuilder<P> {
     profile: P,
     part: TbsCertificate,
-    identifier: SubjectKeyIdentifier,
+    identifier: Option<SubjectKeyIdentifier>,
     extensions: Extensions,
     finalized: Option<Finalized>,
 }
@@ -47,17 +48,43 @@ struct Finalized {
 }
 
 impl<P> Model for CertificateBuilder<P> {
-    ghost use Rattle.std.specs.Prelude.{◌≡◌};
+    ghost use Rattle.der_core_head.specs.Grammar.{plain_option};
     ghost use Rattle.x509_cert_anchors.specs.Certificates.{tbs_plain, tbs_public_key};
-    ghost use Rattle.x509_cert_builders.specs.Profiles.{key_identifier};
+    ghost use Rattle.x509_cert_builders.specs.Profiles.{Identifies};
     ghost use Rattle.x509_cert_builders.specs.States.{CertificateState, certificate_state};
 
     ghost Value = { CertificateState P };
 
     ghost view = { certificate_state };
 
-    // The identifier is that of the certified key.
-    ghost invariant = { λ b. b.identifier.0 ≡ key_identifier (tbs_public_key (tbs_plain b.part)) };
+    // The identifier, if it is kept, is that of the certified key.
+    ghost invariant = { λ b. Identifies (plain_option (λ i. i.0) b.identifier) (tbs_public_key (tbs_plain b.part)) };
+}
+
+/// The identifier of a key, if a profile names it.
+fn identifier_for<P: BuilderProfile>(
+    alloc: Global,
+    profile: &P,
+    key: &SubjectPublicKeyInfo,
+) -> Result<Option<SubjectKeyIdentifier>, Error>
+    ensures identifier { IfOk result (λ i. Identifies (plain_option (λ i. i.0) i) (key_plain key.now)) }
+    ensures refused { IfErr result IsWantOfMemory }
+{
+    if !profile.names_certified_key() {
+        return Ok(None);
+    }
+    let identifier = digested(alloc, key)?;
+    Ok(Some(identifier))
+}
+
+/// What is known of an identifier.
+fn known(identifier: &Option<SubjectKeyIdentifier>) -> Option<&SubjectKeyIdentifier>
+    ensures { plain_option (λ i. i.now.0) result ≡ plain_option (λ i. i.0) identifier.now }
+{
+    match identifier {
+        Some(identifier) => Some(identifier),
+        None => None,
+    }
 }
 
 impl<P: BuilderProfile + Drop> CertificateBuilder<P> {
@@ -86,7 +113,7 @@ impl<P: BuilderProfile + Drop> CertificateBuilder<P> {
         }) }
         ensures refused { IfErr result (λ e. IsWantOfMemory e ⊎ P.refuses profile e) }
     {
-        let identifier = identifier_of(alloc, &subject_public_key_info.owned_to_ref())?;
+        let identifier = identifier_for(alloc, &profile, &subject_public_key_info)?;
         let subject = profile.get_subject(alloc)?;
         let issuer = profile.get_issuer(alloc, &subject)?;
         let part = TbsCertificate {
@@ -136,16 +163,23 @@ fn profiled<P: BuilderProfile, S: Signer>(
     alloc: Global,
     profile: &P,
     part: &TbsCertificate,
-    identifier: &SubjectKeyIdentifier,
+    identifier: &Option<SubjectKeyIdentifier>,
     signer: &S,
 ) -> Result<Extensions, Error>
-    requires { identifier.now.0 ≡ key_identifier (tbs_public_key (tbs_plain part.now)) }
+    requires { Identifies (plain_option (λ i. i.0) identifier.now) (tbs_public_key (tbs_plain part.now)) }
     ensures made { IfOk result (λ v. extensions_plain v.items ≡ P.extensions profile.now (tbs_public_key (tbs_plain part.now)) (S.public_key signer.now) (tbs_plain part.now)) }
     ensures refused { IfErr result (λ e. IsWantOfMemory e ⊎ P.refuses profile.now e) }
 {
     let key = part.subject_public_key_info.owned_to_ref();
     let issuer_key = signer.key_info().owned_to_ref();
-    let more = profile.build_identified_extensions(alloc, &key, identifier, &issuer_key, part)?;
+    let more = profile.build_identified_extensions(
+        alloc,
+        &key,
+        known(identifier),
+        &issuer_key,
+        signer.key_identifier(),
+        part,
+    )?;
     Ok(more)
 }
 
@@ -154,11 +188,11 @@ fn make_whole<P: BuilderProfile, S: Signer>(
     alloc: Global,
     profile: &P,
     part: &mut TbsCertificate,
-    identifier: &SubjectKeyIdentifier,
+    identifier: &Option<SubjectKeyIdentifier>,
     added: &[Extension],
     signer: &S,
 ) -> Result<(), Error>
-    requires { identifier.now.0 ≡ key_identifier (tbs_public_key (tbs_plain part.old)) }
+    requires { Identifies (plain_option (λ i. i.0) identifier.now) (tbs_public_key (tbs_plain part.old)) }
     ensures whole { OnOk result (tbs_plain part.new ≡ signed_part (fields_of (tbs_plain part.old)) (S.signs_by signer.now) (extensions_plain added.now ++ P.extensions profile.now (tbs_public_key (tbs_plain part.old)) (S.public_key signer.now) (bare_part (fields_of (tbs_plain part.old)) (S.signs_by signer.now)))) }
     ensures fields { fields_of (tbs_plain part.new) ≡ fields_of (tbs_plain part.old) }
     ensures refused { IfErr result (λ e. IsWantOfMemory e ⊎ P.refuses profile.now e) }

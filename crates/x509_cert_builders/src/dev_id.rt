@@ -8,7 +8,7 @@ ghost use Rattle.x509_cert_anchors.specs.Parts.{extensions_plain, general_name_p
 ghost use Rattle.x509_cert_builders.specs.Devices.{IsFaulty, IsUnnameable, PlainGeneralName, alternatives, device_extensions, device_names, first_module, is_of_module, may_name, module_name, module_of, version_arcs};
 ghost use Rattle.x509_cert_builders.specs.Refusals.{FailsAs, IsFailed, IsWantOfMemory};
 
-use crate::added_extensions::{add, add_authority, add_usage, identifier_of};
+use crate::added_extensions::{add, add_authority, add_usage};
 use crate::builder_profile::BuilderProfile;
 use crate::error::Error;
 use crate::tpm_version::TpmVersion;
@@ -17,7 +17,7 @@ use der_core::ErrorKind;
 use std::alloc::Global;
 use x509_cert_anchors::{
     Extensions, GeneralName, GeneralNames, HardwareModuleName, Name, OctetString, OtherName,
-    SubjectAltName, SubjectPublicKeyInfoRef, TbsCertificate,
+    SubjectAltName, SubjectKeyIdentifier, SubjectPublicKeyInfoRef, TbsCertificate,
 };
 
 /// The certificate of a device that has an identity of its own (IEEE 802.1AR 8).
@@ -165,14 +165,32 @@ impl BuilderProfile for DevId {
     fn build_extensions<'a, 'b>(
         &self,
         alloc: Global,
-        _spk: &SubjectPublicKeyInfoRef<'a>,
+        spk: &SubjectPublicKeyInfoRef<'a>,
         issuer_spk: &SubjectPublicKeyInfoRef<'b>,
         tbs: &TbsCertificate,
     ) -> Result<Extensions, Error> {
+        let extensions = self.build_identified_extensions(alloc, spk, None, issuer_spk, None, tbs)?;
+        Ok(extensions)
+    }
+
+    fn build_identified_extensions<'a, 'b>(
+        &self,
+        alloc: Global,
+        _spk: &SubjectPublicKeyInfoRef<'a>,
+        _identifier: Option<&SubjectKeyIdentifier>,
+        issuer_spk: &SubjectPublicKeyInfoRef<'b>,
+        issuer_identifier: Option<&SubjectKeyIdentifier>,
+        tbs: &TbsCertificate,
+    ) -> Result<Extensions, Error> {
         let subject = &tbs.subject;
-        let authority = identifier_of(alloc, issuer_spk)?;
         let mut extensions = Vec::with_capacity(alloc, 3)?;
-        add_authority(alloc, &mut extensions, subject, authority.0)?;
+        add_authority(
+            alloc,
+            &mut extensions,
+            subject,
+            issuer_spk,
+            issuer_identifier,
+        )?;
         add_usage(alloc, &mut extensions, subject, signing_usage())?;
         add_alternatives(alloc, &mut extensions, subject, &self.subject_alt_name)?;
         Ok(extensions)

@@ -41,14 +41,20 @@ pub(crate) fn purpose(number: u8) -> ObjectIdentifier<39>
 pub(crate) fn rsa_encryption() -> ObjectIdentifier<39>
     ensures { result ≡ rsa_encryption }
 {
-    ObjectIdentifier::new_unwrap("1.2.840.113549.1.1.1")
+    match ObjectIdentifier::from_bytes(&[0x2a, 0x86, 0x48, 0x86, 0xf7, 0x0d, 1, 1, 1]) {
+        Ok(oid) => oid,
+        Err(_) => unreachable!(),
+    }
 }
 
 /// `id-ecPublicKey` (RFC 5480 2.1.1).
 pub(crate) fn elliptic_curve_key() -> ObjectIdentifier<39>
     ensures { result ≡ elliptic_curve_key }
 {
-    ObjectIdentifier::new_unwrap("1.2.840.10045.2.1")
+    match ObjectIdentifier::from_bytes(&[0x2a, 0x86, 0x48, 0xce, 0x3d, 2, 1]) {
+        Ok(oid) => oid,
+        Err(_) => unreachable!(),
+    }
 }
 
 /// Version 1.2 of the Trusted Platform Module, 2.23.133.1.0.

@@ -62,6 +62,10 @@ impl BuilderProfile for Root {
         Ok(subject)
     }
 
+    fn names_certified_key(&self) -> bool {
+        true
+    }
+
     fn build_extensions<'a, 'b>(
         &self,
         alloc: Global,
@@ -73,29 +77,30 @@ impl BuilderProfile for Root {
         let extensions = self.build_identified_extensions(
             alloc,
             spk,
-            &identifier,
+            Some(&identifier),
             issuer_spk,
+            None,
             tbs,
         )?;
         Ok(extensions)
     }
 
-    #[tactic(auto, using(crate::proofs::Encodable::is_digest))]
     fn build_identified_extensions<'a, 'b>(
         &self,
         alloc: Global,
-        _spk: &SubjectPublicKeyInfoRef<'a>,
-        identifier: &SubjectKeyIdentifier,
+        spk: &SubjectPublicKeyInfoRef<'a>,
+        identifier: Option<&SubjectKeyIdentifier>,
         _issuer_spk: &SubjectPublicKeyInfoRef<'b>,
+        _issuer_identifier: Option<&SubjectKeyIdentifier>,
         tbs: &TbsCertificate,
     ) -> Result<Extensions, Error> {
         let subject = &tbs.subject;
         let mut extensions = Vec::with_capacity(alloc, 4)?;
-        add_authority(alloc, &mut extensions, subject, identifier.0.clone(alloc)?)?;
+        add_authority(alloc, &mut extensions, subject, spk, identifier)?;
         add_constraints(alloc, &mut extensions, subject, true, None)?;
         let usage = authority_usage(self.emits_ocsp_response);
         add_usage(alloc, &mut extensions, subject, usage)?;
-        add_identifier(alloc, &mut extensions, subject, identifier)?;
+        add_identifier(alloc, &mut extensions, subject, spk, identifier)?;
         Ok(extensions)
     }
 }

@@ -3,7 +3,9 @@
 use crate::sign_error::SignError;
 use rand_core::CryptoRng;
 use std::alloc::Global;
-use x509_cert_anchors::{AlgorithmIdentifier, BitString, SubjectPublicKeyInfo};
+use x509_cert_anchors::{
+    AlgorithmIdentifier, BitString, SubjectKeyIdentifier, SubjectPublicKeyInfo,
+};
 
 /// A key that signs, wherever it is kept: in memory, in a device, behind a process.
 ///
@@ -12,7 +14,9 @@ use x509_cert_anchors::{AlgorithmIdentifier, BitString, SubjectPublicKeyInfo};
 pub trait Signer {
     ghost use Rattle.std.specs.Prelude.{◌≡◌, ℕ, List, IfOk, IfErr};
     ghost use Rattle.der_core_head.specs.BitStrings.{Bits};
+    ghost use Rattle.der_core_head.specs.Grammar.{plain_option};
     ghost use Rattle.x509_cert_anchors.specs.Parts.{Algorithm, PublicKey, algorithm_plain, key_plain};
+    ghost use Rattle.x509_cert_builders.specs.Profiles.{Identifies};
     ghost use Rattle.x509_cert_builders.specs.declared.sign_error.SignError.TheVariants.{Refused};
 
     /// The key under which the bits are judged.
@@ -30,6 +34,14 @@ pub trait Signer {
     /// The key under which the bits are judged.
     fn key_info(&self) -> &SubjectPublicKeyInfo
         ensures { key_plain result.now ≡ public_key self.now };
+
+    /// The identifier of the key (RFC 5280 4.2.1.2, method 1), if the signer keeps it, as with an `IdentifiedKey`. Of a signer that leaves
+    /// this out the key is digested for each certificate that names it.
+    fn key_identifier(&self) -> Option<&SubjectKeyIdentifier>
+        ensures { Identifies (plain_option (λ i. i.now.0) result) (public_key self.now) }
+    {
+        None
+    }
 
     /// The algorithm by which they are judged.
     fn algorithm(&self) -> &AlgorithmIdentifier

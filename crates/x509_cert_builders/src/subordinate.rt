@@ -6,7 +6,7 @@ ghost use Rattle.x509_cert_anchors.specs.Parts.{name_plain};
 ghost use Rattle.x509_cert_builders.specs.Profiles.{subordinate_extensions};
 
 use crate::added_extensions::{
-    add_authority, add_constraints, add_identifier, add_purposes, add_usage, identifier_of,
+    add_authority, add_constraints, add_identifier, add_purposes, add_usage,
 };
 use crate::builder_profile::BuilderProfile;
 use crate::error::Error;
@@ -50,6 +50,10 @@ impl BuilderProfile for Subordinate {
         Ok(subject)
     }
 
+    fn names_certified_key(&self) -> bool {
+        true
+    }
+
     fn build_extensions<'a, 'b>(
         &self,
         alloc: Global,
@@ -57,30 +61,28 @@ impl BuilderProfile for Subordinate {
         issuer_spk: &SubjectPublicKeyInfoRef<'b>,
         tbs: &TbsCertificate,
     ) -> Result<Extensions, Error> {
-        let identifier = identifier_of(alloc, spk)?;
-        let extensions = self.build_identified_extensions(
-            alloc,
-            spk,
-            &identifier,
-            issuer_spk,
-            tbs,
-        )?;
+        let extensions = self.build_identified_extensions(alloc, spk, None, issuer_spk, None, tbs)?;
         Ok(extensions)
     }
 
-    #[tactic(auto, using(crate::proofs::Encodable::is_digest))]
     fn build_identified_extensions<'a, 'b>(
         &self,
         alloc: Global,
-        _spk: &SubjectPublicKeyInfoRef<'a>,
-        identifier: &SubjectKeyIdentifier,
+        spk: &SubjectPublicKeyInfoRef<'a>,
+        identifier: Option<&SubjectKeyIdentifier>,
         issuer_spk: &SubjectPublicKeyInfoRef<'b>,
+        issuer_identifier: Option<&SubjectKeyIdentifier>,
         tbs: &TbsCertificate,
     ) -> Result<Extensions, Error> {
         let subject = &tbs.subject;
-        let authority = identifier_of(alloc, issuer_spk)?;
         let mut extensions = Vec::with_capacity(alloc, 5)?;
-        add_authority(alloc, &mut extensions, subject, authority.0)?;
+        add_authority(
+            alloc,
+            &mut extensions,
+            subject,
+            issuer_spk,
+            issuer_identifier,
+        )?;
         add_constraints(
             alloc,
             &mut extensions,
@@ -90,7 +92,7 @@ impl BuilderProfile for Subordinate {
         )?;
         let usage = authority_usage(self.emits_ocsp_response);
         add_usage(alloc, &mut extensions, subject, usage)?;
-        add_identifier(alloc, &mut extensions, subject, identifier)?;
+        add_identifier(alloc, &mut extensions, subject, spk, identifier)?;
         add_purposes(alloc, &mut extensions, subject, self.client_auth)?;
         Ok(extensions)
     }

@@ -6,9 +6,7 @@ ghost use Rattle.x509_cert_builders.specs.Profiles.{subscriber_extensions, subsc
 ghost use Rattle.x509_cert_builders.specs.Subscribers.{is_domain_validated, type_subject};
 ghost use Rattle.x509_cert_builders.specs.declared.error.Error.TheVariants.{Unsupported};
 
-use crate::added_extensions::{
-    add_authority, add_constraints, add_purposes, add_usage, identifier_of,
-};
+use crate::added_extensions::{add_authority, add_constraints, add_purposes, add_usage};
 use crate::builder_profile::BuilderProfile;
 use crate::certificate_type::CertificateType;
 use crate::error::Error;
@@ -17,7 +15,8 @@ use crate::tls12_options::Tls12Options;
 use der_core::Fields;
 use std::alloc::Global;
 use x509_cert_anchors::{
-    Extensions, FlagSet, KeyUsage, KeyUsages, Name, SubjectPublicKeyInfoRef, TbsCertificate,
+    Extensions, FlagSet, KeyUsage, KeyUsages, Name, SubjectKeyIdentifier, SubjectPublicKeyInfoRef,
+    TbsCertificate,
 };
 
 /// The certificate of a server (CA/Browser Forum, Baseline Requirements 7.1.2.7). Its domains are added to the builder, as
@@ -98,10 +97,28 @@ impl BuilderProfile for Subscriber {
         issuer_spk: &SubjectPublicKeyInfoRef<'b>,
         tbs: &TbsCertificate,
     ) -> Result<Extensions, Error> {
+        let extensions = self.build_identified_extensions(alloc, spk, None, issuer_spk, None, tbs)?;
+        Ok(extensions)
+    }
+
+    fn build_identified_extensions<'a, 'b>(
+        &self,
+        alloc: Global,
+        spk: &SubjectPublicKeyInfoRef<'a>,
+        _identifier: Option<&SubjectKeyIdentifier>,
+        issuer_spk: &SubjectPublicKeyInfoRef<'b>,
+        issuer_identifier: Option<&SubjectKeyIdentifier>,
+        tbs: &TbsCertificate,
+    ) -> Result<Extensions, Error> {
         let subject = &tbs.subject;
-        let authority = identifier_of(alloc, issuer_spk)?;
         let mut extensions = Vec::with_capacity(alloc, 4)?;
-        add_authority(alloc, &mut extensions, subject, authority.0)?;
+        add_authority(
+            alloc,
+            &mut extensions,
+            subject,
+            issuer_spk,
+            issuer_identifier,
+        )?;
         add_purposes(alloc, &mut extensions, subject, self.client_auth)?;
         add_constraints(alloc, &mut extensions, subject, false, None)?;
         let usage = self.usage(spk);
