@@ -138,6 +138,13 @@ fn entry(alloc: Global) -> Result<RevokedCert, Error> {
     })
 }
 
+/// The entries of its list: one.
+fn revoked(alloc: Global) -> Result<Vec<RevokedCert>, Error> {
+    let mut revoked = Vec::new(alloc);
+    revoked.push(entry(alloc)?)?;
+    Ok(revoked)
+}
+
 /// The first list of an authority, by which the server's certificate is revoked (RFC 5280 5.1).
 fn list(
     alloc: Global,
@@ -149,9 +156,7 @@ fn list(
     let number = CrlNumber::try_from_u128(alloc, 1)?;
     let mut builder = CrlBuilder::new_with_this_update(alloc, authority, number, this_update)?;
     builder = builder.with_next_update(Some(next_update));
-    let mut revoked = Vec::new(alloc);
-    revoked.push(entry(alloc)?)?;
-    builder.with_certificates(alloc, revoked.into_iter())?;
+    builder.with_certificates(alloc, revoked(alloc)?.into_iter())?;
     let list = builder.build(alloc, signer)?;
     Ok(list)
 }
@@ -193,17 +198,55 @@ fn add_certificate(
 /// Adds the root, and what stands below it.
 fn add_root(alloc: Global, text: &mut String) -> Result<(), Error> {
     let signer = signer_of(alloc, ROOT)?;
-    let root = root(alloc, &signer)?;
-    add_certificate(alloc, text, &root)?;
-    add_authority(alloc, text, &authority(alloc, &root, &signer)?)
+    add_root_of(alloc, text, &signer)
 }
 
-/// Adds the authority, the server that it certifies, and its list.
+/// Adds the root of a signer, and what stands below it.
+fn add_root_of(alloc: Global, text: &mut String, signer: &DigestSigner) -> Result<(), Error> {
+    let root = root(alloc, signer)?;
+    add_chain(alloc, text, &root, signer)
+}
+
+/// Adds a root and the authority that it certifies, and what stands below that.
+fn add_chain(
+    alloc: Global,
+    text: &mut String,
+    root: &Certificate,
+    signer: &DigestSigner,
+) -> Result<(), Error> {
+    add_certificate(alloc, text, root)?;
+    let authority = authority(alloc, root, signer)?;
+    add_authority(alloc, text, &authority)
+}
+
+/// Adds an authority, and what it signs.
 fn add_authority(alloc: Global, text: &mut String, authority: &Certificate) -> Result<(), Error> {
     add_certificate(alloc, text, authority)?;
     let signer = signer_of(alloc, AUTHORITY)?;
-    add_certificate(alloc, text, &server(alloc, authority, &signer)?)?;
-    add_line(alloc, text, &list(alloc, authority, &signer)?)
+    add_signed(alloc, text, authority, &signer)
+}
+
+/// Adds the server that an authority certifies, and its list.
+fn add_signed(
+    alloc: Global,
+    text: &mut String,
+    authority: &Certificate,
+    signer: &DigestSigner,
+) -> Result<(), Error> {
+    add_server(alloc, text, authority, signer)?;
+    let list = list(alloc, authority, signer)?;
+    add_line(alloc, text, &list)
+}
+
+/// Adds the server.
+fn add_server(
+    alloc: Global,
+    text: &mut String,
+    authority: &Certificate,
+    signer: &DigestSigner,
+) -> Result<(), Error> {
+    let server = server(alloc, authority, signer)?;
+    add_certificate(alloc, text, &server)
 }
 
 /// Adds the server's request.

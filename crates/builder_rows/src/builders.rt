@@ -72,8 +72,17 @@ pub fn part_of<B: Change + Drop>(
 ) -> Result<Vec<u8>, Refusal> {
     let signer = asked.signer(alloc)?;
     builder.change(alloc, asked.change)?;
-    let octets = builder.finalize(alloc, &signer)?;
-    let again = builder.finalize(alloc, &signer)?;
+    twice(alloc, &mut builder, &signer)
+}
+
+/// What is signed, made twice.
+fn twice<B: Change + Drop>(
+    alloc: Global,
+    builder: &mut B,
+    signer: &DigestSigner,
+) -> Result<Vec<u8>, Refusal> {
+    let octets = builder.finalize(alloc, signer)?;
+    let again = builder.finalize(alloc, signer)?;
     if octets.as_slice() != again.as_slice() {
         return Err(Refusal::Changed);
     }
@@ -87,12 +96,22 @@ pub fn whole_of<B: Change + Drop>(
     asked: &Asked<'_>,
 ) -> Result<B::Output, Refusal> {
     let signer = asked.signer(alloc)?;
+    whole_by(alloc, builder, asked, &signer)
+}
+
+/// What is made in another manner, with a signer.
+fn whole_by<B: Change + Drop>(
+    alloc: Global,
+    builder: B,
+    asked: &Asked<'_>,
+    signer: &DigestSigner,
+) -> Result<B::Output, Refusal> {
     match asked.manner {
-        Manner::Part | Manner::Whole => built(alloc, builder, asked, &signer),
-        Manner::Unready => assembled(alloc, builder, &[], &signer),
-        Manner::Late => late(alloc, builder, asked, &signer),
-        Manner::Later => later(alloc, builder, asked, &signer),
-        Manner::Other => other(alloc, builder, asked, &signer),
+        Manner::Part | Manner::Whole => built(alloc, builder, asked, signer),
+        Manner::Unready => assembled(alloc, builder, &[], signer),
+        Manner::Late => late(alloc, builder, asked, signer),
+        Manner::Later => later(alloc, builder, asked, signer),
+        Manner::Other => other(alloc, builder, asked, signer),
     }
 }
 

@@ -5,13 +5,18 @@ use crate::words::key_of;
 use der_core::to_der;
 use std::alloc::Global;
 use x509_cert_list_builders::types::{
-    AlgorithmIdentifierRef, AuthorityKeyIdentifier, SubjectKeyIdentifier, SubjectPublicKeyInfoRef,
-    TryFromKey,
+    AlgorithmIdentifierRef, AuthorityKeyIdentifier, SubjectKeyIdentifier, SubjectPublicKeyInfo,
+    SubjectPublicKeyInfoRef, TryFromKey,
 };
 
 /// The identifier of a key, and the encoding of the authority key identifier.
 pub fn answer(alloc: Global, word: &str) -> Result<String, Refusal> {
     let key = key_of(alloc, word)?;
+    answer_of(alloc, &key)
+}
+
+/// The same of a key.
+fn answer_of(alloc: Global, key: &SubjectPublicKeyInfo) -> Result<String, Refusal> {
     let algorithm: AlgorithmIdentifierRef<'_> = key.algorithm.owned_to_ref();
     let lent: SubjectPublicKeyInfoRef<'_> = SubjectPublicKeyInfoRef {
         algorithm,

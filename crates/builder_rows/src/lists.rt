@@ -58,6 +58,18 @@ fn next_of(word: &str) -> Result<Option<Time>, Refusal> {
     Ok(Some(time))
 }
 
+/// The builder of the list of an issuer, with the number that a word tells.
+fn builder_under(
+    alloc: Global,
+    issuer: &Certificate,
+    number: &str,
+    this_update: Time,
+) -> Result<CrlBuilder, Refusal> {
+    let number = number_of(alloc, number)?;
+    let builder = CrlBuilder::new_with_this_update(alloc, issuer, number, this_update)?;
+    Ok(builder)
+}
+
 /// The next words: `ISSUER NUMBER THIS NEXT`, the builder of the list.
 fn builder_of(alloc: Global, words: &mut Words<'_>) -> Result<CrlBuilder, Refusal> {
     let issuer = words.next()?;
@@ -65,8 +77,7 @@ fn builder_of(alloc: Global, words: &mut Words<'_>) -> Result<CrlBuilder, Refusa
     let this_update = time_of(words.next()?)?;
     let next_update = next_of(words.next()?)?;
     let issuer = issuer_of(alloc, issuer)?;
-    let number = number_of(alloc, number)?;
-    let builder = CrlBuilder::new_with_this_update(alloc, &issuer, number, this_update)?;
+    let builder = builder_under(alloc, &issuer, number, this_update)?;
     Ok(builder.with_next_update(next_update))
 }
 

@@ -29,6 +29,22 @@ fn password_of(alloc: Global, word: &str) -> Result<ChallengePassword, Refusal> 
     Ok(ChallengePassword(text))
 }
 
+/// Adds these passwords to a request.
+fn add_passwords(
+    alloc: Global,
+    builder: &mut RequestBuilder,
+    passwords: &str,
+) -> Result<(), Refusal> {
+    if passwords == "-" {
+        return Ok(());
+    }
+    for text in passwords.split(',') {
+        let password = password_of(alloc, text)?;
+        builder.add_attribute(alloc, &password)?;
+    }
+    Ok(())
+}
+
 /// The builder of a request of these passwords and this name.
 fn builder_of(
     alloc: Global,
@@ -37,13 +53,7 @@ fn builder_of(
 ) -> Result<RequestBuilder, Refusal> {
     let name = words.name(alloc)?;
     let mut builder = RequestBuilder::new(alloc, name)?;
-    if passwords == "-" {
-        return Ok(builder);
-    }
-    for text in passwords.split(',') {
-        let password = password_of(alloc, text)?;
-        builder.add_attribute(alloc, &password)?;
-    }
+    add_passwords(alloc, &mut builder, passwords)?;
     Ok(builder)
 }
 
