@@ -1,8 +1,10 @@
 -- The bound of arcs is where the type of an arc ends. Nothing else rests on its value.
-use Rattle.std.proofs.Common.{◌≡◌, ℕ, ◌^◌, ◌<◌, ◌≤◌, Option, Some, None, ltb, cond, refl, arith}
+use Rattle.std.proofs.Common.{◌≡◌, ℕ, ◌-◌, ◌^◌, ◌<◌, ◌≤◌, Option, Some, None, ltb, length, cond, refl, arith}
 use Rattle.std.specs.Option.{SomeIff}
 use Rattle.std.proofs.lemmas.Bool.{lt-ltb, le-ltb}
 use Rattle.const_oid_identifiers.specs.Bound.{Bound}
+use Rattle.const_oid_identifiers.specs.Digits.{digits}
+use Rattle.const_oid_identifiers.proofs.EncodingLaws.{fewer_digits, few_digits}
 
 pub Bound-is : Bound ≡ 2 ^ 32
 unfolding Bound
@@ -22,3 +24,10 @@ fits_type n l = omega (arith, Bound-is)
 
 pub below_bound : (n : ℕ) → n < 2 ^ 32 → n < Bound
 below_bound n l = omega (arith, Bound-is)
+
+-- so many digits the greatest arc has at most
+pub few_octets : length (digits 128 (Bound - 1)) ≤ 5
+few_octets = few_digits 4 (Bound - 1) (omega (arith, Bound-is))
+
+pub arc_fits : (n : ℕ) → n < 2 ^ 32 → length (digits 128 n) ≤ 5
+arc_fits n l = omega (arith, few_octets, fewer_digits n (Bound - 1) (omega (arith, Bound-is)))

@@ -1,6 +1,7 @@
 -- One arc more.
-use Rattle.std.proofs.Common.{◌≡◌, ℕ, zero, suc, ◌+◌, ◌*◌, ◌/◌, ◌%◌, ◌<◌, ◌≤◌, ◌⊎◌, inl, inr, Bool, true, false, ltb, List, [], ◌∷◌, ◌++◌, length, map, Result, Ok, Err, Option, None, Some, is_some, eqb, ne_eqb, MatchResult, sym, refl, ap, subst, ◌∙◌, append_assoc, length-append, take, drop, replicate, length-drop, ◌-◌, add-one, length-take-le, arith}
+use Rattle.std.proofs.Common.{◌≡◌, ℕ, zero, suc, ◌+◌, ◌*◌, ◌/◌, ◌%◌, ◌^◌, ◌<◌, ◌≤◌, ◌⊎◌, inl, inr, Bool, true, false, ltb, List, [], ◌∷◌, ◌++◌, length, map, Result, Ok, Err, Option, None, Some, is_some, eqb, ne_eqb, MatchResult, sym, refl, ap, subst, ◌∙◌, append_assoc, length-append, take, drop, replicate, length-drop, ◌-◌, add-one, length-take-le, arith}
 use Rattle.std.proofs.Math.ListN.{set}
+use Rattle.std.proofs.Math.Nat.{pow-suc}
 use Rattle.std.proofs.lemmas.List.{set_split, take-set-le, drop-set, drop-replicate}
 use Rattle.std.proofs.Math.Seq.{take-append_seam, drop-append_seam}
 use Rattle.std.specs.List.{AllByRecursion, flat_map}
@@ -16,22 +17,41 @@ use Rattle.const_oid_identifiers.proofs.ArcsLaws.{spells_octets, arcs_of-identif
 
 -- How many octets an arc has
 
-length-within-le : (room n : ℕ) → n ≤ room → length (digits 128 n) ≤ n + 1
-length-within-le zero n small = rw (digits-one 128 n (omega arith)) (omega arith)
-length-within-le (suc room) n small = by (cases_lt n 128) (λ l. length-within-le room (n / 128) (halved 128 room n (omega arith) l small))
-  where
-    by : (n < 128) ⊎ (128 ≤ n) → (128 ≤ n → length (digits 128 (n / 128)) ≤ n / 128 + 1) → length (digits 128 n) ≤ n + 1
-    by (inl l) ih = rw (digits-one 128 n l) (omega arith)
-    by (inr l) ih = rw (digits-more 128 n (omega arith) l) (omega (arith, length-append (digits 128 (n / 128)) (n % 128 ∷ []), ih l))
-
-pub length-digits-le : (n : ℕ) → length (digits 128 n) ≤ n + 1
-length-digits-le n = length-within-le n n (omega arith)
-
 pub length-digits-one : (n : ℕ) → n < 128 → length (digits 128 n) ≡ 1
 length-digits-one n l = ap length (digits-one 128 n l)
 
 pub length-digits-more : (n : ℕ) → 128 ≤ n → length (digits 128 n) ≡ length (digits 128 (n / 128)) + 1
 length-digits-more n l = ap length (digits-more 128 n (omega arith) l) ∙ length-append (digits 128 (n / 128)) (n % 128 ∷ [])
+
+pub length-digits-pos : (n : ℕ) → 0 < length (digits 128 n)
+length-digits-pos n = (digits-Digits 128 n (omega arith)).some
+
+fewer_within : (room m n : ℕ) → n ≤ room → m ≤ n → length (digits 128 m) ≤ length (digits 128 n)
+fewer_within zero m n small l = ap-le (omega arith)
+  where
+    ap-le : m ≡ n → length (digits 128 m) ≤ length (digits 128 n)
+    ap-le e = omega (arith, ap (λ k. length (digits 128 k)) e)
+fewer_within (suc room) m n small l =
+    by (cases_lt m 128) (cases_lt n 128) (λ q. fewer_within room (m / 128) (n / 128) (halved 128 room n (omega arith) q small) (omega arith))
+  where
+    by : (m < 128) ⊎ (128 ≤ m) → (n < 128) ⊎ (128 ≤ n) → (128 ≤ n → length (digits 128 (m / 128)) ≤ length (digits 128 (n / 128)))
+        → length (digits 128 m) ≤ length (digits 128 n)
+    by (inl p) _ ih = omega (arith, length-digits-one m p, length-digits-pos n)
+    by (inr p) (inl q) ih = absurd (omega arith)
+    by (inr p) (inr q) ih = omega (arith, length-digits-more m p, length-digits-more n q, ih q)
+
+-- a smaller number has no more digits
+pub fewer_digits : (m n : ℕ) → m ≤ n → length (digits 128 m) ≤ length (digits 128 n)
+fewer_digits m n l = fewer_within n m n (omega arith) l
+
+-- a number below a power of the base has no more digits than the power says
+pub few_digits : (k n : ℕ) → n < 128 ^ suc k → length (digits 128 n) ≤ suc k
+few_digits zero n l = omega (arith, length-digits-one n (omega (arith, pow-suc 128 0)))
+few_digits (suc k) n l = by (cases_lt n 128) (few_digits k (n / 128) (omega (arith, pow-suc 128 (suc k))))
+  where
+    by : (n < 128) ⊎ (128 ≤ n) → length (digits 128 (n / 128)) ≤ suc k → length (digits 128 n) ≤ suc (suc k)
+    by (inl m) ih = omega (arith, length-digits-one n m)
+    by (inr m) ih = omega (arith, length-digits-more n m, ih)
 
 pub length-arc_octets : (n : ℕ) → length (arc_octets n) ≡ length (digits 128 n)
 unfolding arc_octets
@@ -129,9 +149,6 @@ write_more bytes new octets front end o m n e count some fits written =
     ∙ ap (λ k. take k bytes ++ ((front ++ (o ∷ [])) ++ drop (end - 1 + 1) bytes)) start
     ∙ ap (λ k. take (end - n) bytes ++ ((front ++ (o ∷ [])) ++ drop k bytes)) last
     ∙ ap (λ t. take (end - n) bytes ++ (t ++ drop end bytes)) (sym e)
-
-pub length-digits-pos : (n : ℕ) → 0 < length (digits 128 n)
-length-digits-pos n = (digits-Digits 128 n (omega arith)).some
 
 pub length_of_written : (bytes octets : List ℕ) (count end : ℕ) → end ≤ length bytes → end ≡ count + length octets → length (take count bytes ++ (octets ++ drop end bytes)) ≡ length bytes
 length_of_written bytes octets count end l e =

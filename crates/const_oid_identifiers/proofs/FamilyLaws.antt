@@ -8,7 +8,7 @@ use Rattle.const_oid_identifiers.proofs.EncodingLaws.{identifier-many}
 use Rattle.const_oid_identifiers.proofs.ParentLaws.{unsnoc}
 
 -- all but the last
-front-push : (front : List ℕ) (a : ℕ) → take (length (front ++ (a ∷ [])) - 1) (front ++ (a ∷ [])) ≡ front
+pub front-push : (front : List ℕ) (a : ℕ) → take (length (front ++ (a ∷ [])) - 1) (front ++ (a ∷ [])) ≡ front
 front-push front a =
     let n : length (front ++ (a ∷ [])) - 1 ≡ length front = omega (arith, length-append front (a ∷ [])) in
     ap (λ k. take k (front ++ (a ∷ []))) n ∙ take-append_seam front (a ∷ [])

@@ -16,3 +16,4 @@ pub mod ArcFaultLaws
 pub mod TextFaultLaws
 pub mod OverflowLaws
 pub mod PackedLaws
+pub mod LastArcLaws

@@ -2,13 +2,11 @@
 use Rattle.std.proofs.Common.{◌≡◌, ℕ, zero, suc, ◌+◌, ◌-◌, ◌*◌, ◌/◌, ◌%◌, ◌<◌, ◌≤◌, ◌⊎◌, inl, inr, List, [], ◌∷◌, ◌++◌, length, get_or, take, map, sym, refl, ap, subst, ◌∙◌, append_assoc, length-append, arith}
 use Rattle.std.specs.List.{AllByRecursion, flat_map}
 use Rattle.std.proofs.lemmas.Bool.{cases_lt}
-use Rattle.std.proofs.Math.Seq.{take-append_seam}
 use Rattle.const_oid_identifiers.specs.Digits.{digits}
 use Rattle.const_oid_identifiers.specs.IdentifierOctets.{arc_octets, identifier_octets, IsIdentifier}
-use Rattle.const_oid_identifiers.specs.Arcs.{IsLastStart}
 use Rattle.const_oid_identifiers.proofs.EncodingLaws.{arc_octets-one, arc_octets-more, identifier_octets-push}
 
-get-left : (xs ys : List ℕ) (i : ℕ) → i < length xs → get_or (xs ++ ys) i 0 ≡ get_or xs i 0
+pub get-left : (xs ys : List ℕ) (i : ℕ) → i < length xs → get_or (xs ++ ys) i 0 ≡ get_or xs i 0
 get-left [] ys i l = absurd (omega arith)
 get-left (x ∷ xs) ys zero l = refl
 get-left (x ∷ xs) ys (suc i) l = get-left xs ys i (omega arith)
@@ -90,6 +88,12 @@ last_unmarked bound arcs id = by (last_of bound arcs id)
         ap (λ t. get_or t (length (f ++ parts.front)) 0) octets ∙ ap (λ k. get_or ((f ++ parts.front) ++ (parts.last ∷ [])) k 0) (sym at) ∙ get-right (f ++ parts.front) (parts.last ∷ []) 0 in
         (length (f ++ parts.front), ap length octets ∙ length-append (f ++ parts.front) (parts.last ∷ []), subst (λ k. k < 128) (sym last) parts.unmarked)
 
+-- every octet from here to the last one but that has a mark, and the one before has none
+pub record IsLastStart (octets : List ℕ) (start : ℕ) : Type 0 where
+  pub within : start < length octets
+  pub marked : (k : ℕ) → start ≤ k → k + 1 < length octets → 128 ≤ get_or octets k 0
+  pub ends : (k : ℕ) → k + 1 ≡ start → get_or octets k 0 < 128
+
 -- where the last arc begins
 pub start_is : (bound : ℕ) (front : List ℕ) (a start : ℕ) (w : List ℕ) → IsIdentifier bound front → w ≡ identifier_octets front ++ arc_octets a → IsLastStart w start
     → start ≡ length (identifier_octets front)
@@ -136,20 +140,3 @@ start_is bound front a start w fid e s = by (cases_lt start (length f)) (cases_l
 pub data Parent (bound : ℕ) (arcs w : List ℕ) (start : ℕ) : Type 0 where
   none : start ≡ 0 → length arcs ≡ 2 → Parent bound arcs w start
   some : 0 < start → (length arcs ≡ 2 → ⊥) → (front : List ℕ) (last : ℕ) → IsIdentifier bound front → arcs ≡ front ++ (last ∷ []) → take start w ≡ identifier_octets front → Parent bound arcs w start
-
-many : (bound : ℕ) (arcs : List ℕ) → IsIdentifier bound arcs → 2 ≤ length arcs
-unfolding IsIdentifier
-many bound [] id = absurd id
-many bound (x ∷ []) id = absurd id
-many bound (x ∷ y ∷ arcs) id = omega arith
-
-pub parent : (bound start : ℕ) (arcs w : List ℕ) → IsIdentifier bound arcs → w ≡ identifier_octets arcs → IsLastStart w start → Parent bound arcs w start
-parent bound start arcs w id e s = by (last_of bound arcs id)
-  where
-    by : Last bound arcs → Parent bound arcs w start
-    by (root r small octets two) = none (omega (arith, s.within, ap length e, ap length octets)) two
-    by (more front a fid whole octets n) =
-        let at = start_is bound front a start w fid (e ∙ octets) s in
-        let z = last_unmarked bound front fid in
-        some (omega (arith, at, z.1)) (λ two. omega (arith, n, many bound front fid)) front a fid whole
-        (ap (take start) (e ∙ octets) ∙ ap (λ k. take k (identifier_octets front ++ arc_octets a)) at ∙ take-append_seam (identifier_octets front) (arc_octets a))

@@ -37,6 +37,23 @@ one_octet value o none low =
     let fits : ltb (0 * 128 + o % 128) Bound ≡ true = lt-ltb (0 * 128 + o % 128) Bound (below_bound (0 * 128 + o % 128) (omega arith)) in
     rw (none, whole, fits, lt-ltb o 128 low) refl
 
+-- what comes after an octet without a mark, and after one with a mark
+pub after-ends : (bound value o next : ℕ) → after_octet bound value o ≡ Ok next → o < 128 → next ≡ 0
+after-ends bound value o next e l = by ((value == 0) && (o == 128)) (ltb (value * 128 + o % 128) bound) (rw (lt-ltb o 128 l) at e)
+  where
+    by : (a b : Bool) → cond a (Err errors.Base128) (cond b (Ok 0) (Err errors.ArcTooBig)) ≡ Ok next → next ≡ 0
+    by true b e = cc
+    by false true e = cc
+    by false false e = cc
+
+pub after-goes : (bound value o next : ℕ) → after_octet bound value o ≡ Ok next → 128 ≤ o → next ≡ value * 128 + o % 128
+after-goes bound value o next e l = by ((value == 0) && (o == 128)) (ltb (value * 128 + o % 128) bound) (rw (le-ltb o 128 l) at e)
+  where
+    by : (a b : Bool) → cond a (Err errors.Base128) (cond b (Ok (value * 128 + o % 128)) (Err errors.ArcTooBig)) ≡ Ok next → next ≡ value * 128 + o % 128
+    by true b e = cc
+    by false true e = cc
+    by false false e = cc
+
 -- at the place i of a list
 pub outcome-step : (bound value i : ℕ) (w : List ℕ) → i < length w
     → outcome (read_arcs bound value (drop i w)) ≡ on_step bound (drop (i + 1) w) (after_octet bound value (get_or w i 0))

@@ -1,5 +1,5 @@
 -- The arcs that identifier octets spell (X.690 8.19).
-use Rattle.std.specs.Prelude.{◌<◌, slice_index, ◌≡◌, ℕ, ◌+◌, ◌*◌, ◌/◌, ◌%◌, ◌≤◌, true, false, ltb, List, [], ◌∷◌, length}
+use Rattle.std.specs.Prelude.{◌≡◌, ℕ, ◌+◌, ◌*◌, ◌/◌, ◌%◌, ◌≤◌, true, false, ltb, List, [], ◌∷◌, length}
 use Rattle.const_oid_identifiers.specs.IdentifierOctets.{identifier_octets, IsIdentifier}
 
 -- the arcs after the root; `value` is what the octets of an unfinished arc have given
@@ -21,9 +21,3 @@ pub record SpellsIdentifier (bound capacity : ℕ) (octets : List ℕ) : Type 0 
   pub identifier : IsIdentifier bound (arcs_of octets)
   pub spelled : octets ≡ identifier_octets (arcs_of octets)
   pub fits : length octets ≤ capacity
-
--- every octet from here to the last one but that has a mark, and the one before has none
-pub record IsLastStart (octets : List ℕ) (start : ℕ) : Type 0 where
-  pub within : start < length octets
-  pub marked : (k : ℕ) → start ≤ k → k + 1 < length octets → 128 ≤ slice_index octets k
-  pub ends : (k : ℕ) → k + 1 ≡ start → slice_index octets k < 128

@@ -13,5 +13,6 @@ pub mod TextReading
 pub mod OctetFaults
 pub mod Comparing
 pub mod Family
+pub mod LastArcs
 pub mod ArcFaults
 pub mod TextFaults

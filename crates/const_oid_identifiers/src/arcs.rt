@@ -1,9 +1,11 @@
 //! The arcs of an identifier, one after another.
 
-ghost use Rattle.std.specs.Prelude.{◌≡◌, ℕ, ◌∷◌, [], true, is_ok, Option, MatchOption, ◌<◌, length, slice_get, count_by, nat_lt, ◌≤◌};
+ghost use Rattle.std.specs.Prelude.{◌≡◌, ℕ, ◌∷◌, [], true, is_ok, Option, MatchOption, ◌<◌, length, slice_get, count_by, nat_lt, ◌≤◌, ◌-◌};
 ghost use Rattle.const_oid_identifiers.specs.Bound.{Bound};
 ghost use Rattle.const_oid_identifiers.specs.IdentifierOctets.{read_arcs, read_identifier};
-ghost use Rattle.const_oid_identifiers.specs.Arcs.{later_arcs, arcs_of, IsLastStart};
+ghost use Rattle.const_oid_identifiers.specs.Arcs.{later_arcs, arcs_of, SpellsIdentifier};
+ghost use Rattle.const_oid_identifiers.specs.Digits.{digits};
+ghost use Rattle.const_oid_identifiers.specs.LastArcs.{place_of_last};
 
 use crate::error::Arc;
 
@@ -113,14 +115,21 @@ pub(crate) fn arc_at(octets: &[u8], index: usize) -> Option<Arc>
     arcs.next()
 }
 
-/// Where the octets of the last arc begin: behind the last octet without a mark but one, or at 0 where there is none.
-pub(crate) fn last_start(octets: &[u8]) -> usize
-    requires { 0 < length octets.now }
-    ensures { IsLastStart octets.now result }
+/// Where the octets of the last arc begin, behind the last octet without a mark but one, or 0 where there is none; and how
+/// many octets were tested for a mark.
+pub(crate) fn last_start(octets: &[u8]) -> (usize, u32)
+    requires { SpellsIdentifier Bound (length octets.now) octets.now }
+    ensures start { result.0 ≡ place_of_last (arcs_of octets.now) }
+    ensures tests { result.1 ≤ length (digits 128 (Bound - 1)) }
 {
     let mut start = octets.len() - 1;
-    while start > 0 && octets[start - 1] >= 0x80 {
+    let mut tests = 0;
+    while start > 0 {
+        tests += 1;
+        if octets[start - 1] < 0x80 {
+            return (start, tests);
+        }
         start -= 1;
     }
-    start
+    (start, tests)
 }

@@ -1,6 +1,6 @@
 //! Owned identifiers.
 
-ghost use Rattle.std.specs.Prelude.{◌≡◌, ℕ, ◌<◌, ◌≤◌, ◌↔◌, IsTrue, is_ok, true, nat_eq, refl, Some, None, IsNone, IfSome, [], ◌∷◌, ◌++◌, nat_lt, if◌then◌else◌, Err, length, slice_get, Result, Ok, IfOk, IfErr, List};
+ghost use Rattle.std.specs.Prelude.{◌≡◌, ℕ, ◌+◌, ◌-◌, ◌<◌, ◌≤◌, ◌↔◌, IsTrue, is_ok, true, nat_eq, refl, Some, None, IsNone, IfSome, [], ◌∷◌, ◌++◌, nat_lt, if◌then◌else◌, Err, length, slice_get, Result, Ok, IfOk, IfErr, List};
 ghost use Rattle.std.specs.Cmp.{po, on_equiv, on_per, partial_equiv_from_equiv};
 ghost use Rattle.std.specs.Cmp.Lexicographic.{pointwise, nat_list_eq_equiv};
 ghost use Rattle.const_oid_identifiers.specs.Orders.{owned_cmp, owned_cmp_total, owned_cmp_ties};
@@ -10,6 +10,7 @@ ghost use Rattle.std.specs.Hash as fed;
 ghost use Rattle.std.proofs.Common.{rules};
 ghost use Rattle.const_oid_identifiers.specs.declared.error.Error.TheVariants as errors;
 ghost use Rattle.const_oid_identifiers.specs.Bound.{Bound};
+ghost use Rattle.const_oid_identifiers.specs.Digits.{digits};
 ghost use Rattle.const_oid_identifiers.specs.IdentifierOctets.{identifier_octets, IsIdentifier, read_identifier};
 ghost use Rattle.const_oid_identifiers.specs.Arcs.{arcs_of, SpellsIdentifier};
 ghost use Rattle.const_oid_identifiers.specs.OctetFaults.{IsOctetsFault};
@@ -32,24 +33,29 @@ use std::str::FromStr;
 #[derive(Clone, Copy)]
 pub struct ObjectIdentifier<const MAX_SIZE: usize> {
     octets: Packed<MAX_SIZE>,
+    // How many arcs there are.
+    arc_count: usize,
+    // Where the octets of the last arc begin, or 0 where there are two arcs.
+    last_start: usize,
 }
 
 impl<const MAX_SIZE: usize> Model for ObjectIdentifier<MAX_SIZE> {
-    ghost use Rattle.std.specs.Prelude.{ℕ, List};
+    ghost use Rattle.std.specs.Prelude.{ℕ, List, length};
     ghost use Rattle.std.proofs.Common.{sym};
     ghost use Rattle.const_oid_identifiers.specs.Bound.{Bound};
     ghost use Rattle.const_oid_identifiers.specs.IdentifierOctets.{identifier_octets};
     ghost use Rattle.const_oid_identifiers.specs.Arcs.{arcs_of, SpellsIdentifier};
+    ghost use Rattle.const_oid_identifiers.specs.LastArcs.{place_of_last, KnowsLast};
 
     ghost Value = { List ℕ };
 
     ghost view = { λ oid. arcs_of oid.octets };
 
-    ghost invariant = { λ oid. SpellsIdentifier Bound MAX_SIZE oid.octets };
+    ghost invariant = { λ oid. SpellsIdentifier Bound MAX_SIZE oid.octets × KnowsLast (arcs_of oid.octets) oid.arc_count oid.last_start };
 
-    ghost inverse = { λ arcs. record { octets = identifier_octets arcs } };
+    ghost inverse = { λ arcs. record { octets = identifier_octets arcs; arc_count = length arcs; last_start = place_of_last arcs } };
 
-    ghost inverse_ok = { λ oid h i. record { octets = sym h.spelled i } };
+    ghost inverse_ok = { λ oid h i. record { octets = sym h.0.spelled i; arc_count = sym h.1.counted i; last_start = sym h.1.placed i } };
 }
 
 impl<const MAX_SIZE: usize> ObjectIdentifier<MAX_SIZE> {
@@ -76,9 +82,11 @@ impl<const MAX_SIZE: usize> ObjectIdentifier<MAX_SIZE> {
         if ber_bytes.len() > MAX_SIZE {
             return Err(Error::Length);
         }
-        octets::check(ber_bytes)?;
+        let found = octets::find(ber_bytes)?;
         Ok(ObjectIdentifier {
             octets: Packed::from_slice(ber_bytes),
+            arc_count: found.arc_count,
+            last_start: found.last_start,
         })
     }
 
@@ -87,8 +95,12 @@ impl<const MAX_SIZE: usize> ObjectIdentifier<MAX_SIZE> {
         ensures { result ≡ child_of MAX_SIZE self.entry arc }
     {
         let mut octets = self.octets;
-        octets.push_arc(arc)?;
-        Ok(ObjectIdentifier { octets })
+        let last_start = octets.push_arc(arc)?;
+        Ok(ObjectIdentifier {
+            octets,
+            arc_count: self.arc_count + 1,
+            last_start,
+        })
     }
 
     /// The identifier without its last arc, or `None` where only two are there.
@@ -97,14 +109,27 @@ impl<const MAX_SIZE: usize> ObjectIdentifier<MAX_SIZE> {
         ensures some { IfSome result (λ front. (last : ℕ) × (self.now ≡ front ++ last ∷ [])) }
         ensures answer { result ≡ parent_of self.now }
     {
-        let octets = self.as_bytes();
-        let start = arcs::last_start(octets);
-        if start == 0 {
-            return None;
+        self.parent_counted().0
+    }
+
+    /// The parent, and how many octets were tested for their high bit: at most one more than the octets of the greatest arc.
+    pub fn parent_counted(&self) -> (Option<Self>, u32)
+        ensures none { IsNone result.0 ↔ (length self.now ≡ 2) }
+        ensures some { IfSome result.0 (λ front. (last : ℕ) × (self.now ≡ front ++ last ∷ [])) }
+        ensures answer { result.0 ≡ parent_of self.now }
+        ensures tests { result.1 ≤ length (digits 128 (Bound - 1)) + 1 }
+    {
+        if self.last_start == 0 {
+            return (None, 0);
         }
-        Some(ObjectIdentifier {
-            octets: Packed::from_slice(octets.split_at(start).0),
-        })
+        let octets = self.octets.front(self.last_start);
+        let (last_start, tests) = arcs::last_start(octets);
+        let parent = ObjectIdentifier {
+            octets: Packed::from_slice(octets),
+            arc_count: self.arc_count - 1,
+            last_start,
+        };
+        (Some(parent), tests)
     }
 
     /// Whether the arcs begin with those of `other`.
@@ -120,8 +145,12 @@ impl<const MAX_SIZE: usize> ObjectIdentifier<MAX_SIZE> {
         requires { SpellsIdentifier Bound MAX_SIZE octets }
         ensures { result ≡ arcs_of octets.entry }
     {
+        let octets = octets.as_bytes();
+        let (last_start, _tests) = arcs::last_start(octets);
         ObjectIdentifier {
-            octets: Packed::from_slice(octets.as_bytes()),
+            octets: Packed::from_slice(octets),
+            arc_count: arcs::count(octets),
+            last_start,
         }
     }
 
@@ -163,7 +192,7 @@ impl<const MAX_SIZE: usize> ObjectIdentifier<MAX_SIZE> {
     pub fn len(&self) -> usize
         ensures { result ≡ length self.now }
     {
-        self.as_oid_ref().len()
+        self.arc_count
     }
 }
 

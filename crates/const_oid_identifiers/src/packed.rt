@@ -1,6 +1,6 @@
 //! Octets of an identifier in place, in one octet more than the greatest number of them.
 
-ghost use Rattle.std.specs.Prelude.{◌≡◌, ◌+◌, ◌<◌, ◌≤◌, ◌++◌, length, min, MatchResult};
+ghost use Rattle.std.specs.Prelude.{◌≡◌, ◌+◌, ◌<◌, ◌≤◌, ◌++◌, length, min, take, MatchResult};
 ghost use Rattle.const_oid_identifiers.specs.IdentifierOctets.{arc_octets};
 ghost use Rattle.const_oid_identifiers.specs.declared.error.Error.TheVariants as errors;
 ghost use Rattle.const_oid_identifiers.specs.PackedOctets.{unmarked_front};
@@ -68,10 +68,20 @@ impl<const SIZE: usize> Packed<SIZE> {
         &self.bytes[..count]
     }
 
-    /// The octets of an arc at the end, where there is room.
-    pub(crate) fn push_arc(&mut self, arc: Arc) -> Result<()>
+    /// The first `len` octets. No octet is looked at.
+    #[inline]
+    pub(crate) fn front(&self, len: usize) -> &[u8]
+        requires { len ≤ length self.now }
+        ensures octets { result.now ≡ take len self.now }
+        ensures fits { length self.now ≤ SIZE }
+    {
+        &self.bytes[..len]
+    }
+
+    /// The octets of an arc at the end, where there is room. It answers where they begin.
+    pub(crate) fn push_arc(&mut self, arc: Arc) -> Result<usize>
         ensures { MatchResult result
-            (λ _. (self.new ≡ self.old ++ arc_octets arc) × (length self.old + length (arc_octets arc) ≤ SIZE))
+            (λ start. (start ≡ length self.old) × (self.new ≡ self.old ++ arc_octets arc) × (length self.old + length (arc_octets arc) ≤ SIZE))
             (λ e. (e ≡ errors.Length) × (SIZE < length self.old + length (arc_octets arc)) × (self.new ≡ self.old)) }
     {
         let start = self.as_bytes().len();
@@ -82,7 +92,7 @@ impl<const SIZE: usize> Packed<SIZE> {
         let end = start + count;
         write_arc(&mut self.bytes, end, arc);
         self.count = counted(end);
-        Ok(())
+        Ok(start)
     }
 }
 

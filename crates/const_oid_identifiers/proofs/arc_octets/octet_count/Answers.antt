@@ -1,5 +1,6 @@
 use Rattle.std.proofs.Common.{◌<◌, sym, ◌∙◌, arith}
-use Rattle.const_oid_identifiers.proofs.EncodingLaws.{length-digits-le, length-digits-one, length-digits-more, length-arc_octets}
+use Rattle.const_oid_identifiers.proofs.BoundLaws.{arc_fits}
+use Rattle.const_oid_identifiers.proofs.EncodingLaws.{length-digits-one, length-digits-more, length-arc_octets}
 use Rattle.const_oid_identifiers.proofs.arc_octets.octet_count.Goals as goal
 
 pub loop-high-init : goal.loop-high-init
@@ -9,7 +10,7 @@ loop-high-init c =
 pub overflow_add-count : goal.overflow_add-count
 overflow_add-count c =
     let some : 0 < c.loop-high.high = omega arith in
-    omega (arith, c.loop-high.invariant.1 some, length-digits-le c.args.arc)
+    omega (arith, c.loop-high.invariant.1 some, arc_fits c.args.arc (omega arith))
 
 pub loop-high-preserved : goal.loop-high-preserved
 loop-high-preserved c =

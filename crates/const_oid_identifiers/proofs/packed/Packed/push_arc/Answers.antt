@@ -21,4 +21,4 @@ returns g c =
     omega (arith, ap length c.as_bytes-start.ensures.octets, ap length c.self.view_is, c.octet_count-count.ensures.value) in
     let within : end ≤ g.row.SIZE = omega arith in
     let pushed = packed_push g.row.SIZE old.count end c.counted-self-inside.result c.args.arc old.bytes c.write_arc.new.bytes c.self.invariant.0 at within c.counted-self-inside.ensures c.write_arc.ensures in
-    (pushed.1 ∙ ap (λ t. t ++ arc_octets c.args.arc) c.self.view_is, omega (arith, at, within, ap length c.self.view_is))
+    (ap length c.as_bytes-start.ensures.octets, pushed.1 ∙ ap (λ t. t ++ arc_octets c.args.arc) c.self.view_is, omega (arith, at, within, ap length c.self.view_is))
