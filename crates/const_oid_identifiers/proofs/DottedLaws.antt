@@ -2,7 +2,7 @@
 use Rattle.std.proofs.Common.{◌≡◌, ℕ, ◌+◌, ◌/◌, ◌%◌, ◌^◌, ◌<◌, ◌≤◌, List, [], ◌∷◌, ◌++◌, map, sym, refl, ap, ◌∙◌, arith}
 use Rattle.std.specs.List.{flat_map}
 use Rattle.std.specs.Fmt as fmt
-use Rattle.std.proofs.lemmas.Fmt.{decimal_by_steps}
+use Rattle.std.proofs.lemmas.Fmt.{decimal_by_steps_wide}
 use Rattle.const_oid_identifiers.specs.Digits.{digits}
 use Rattle.const_oid_identifiers.specs.DottedText.{decimal, dot_decimal, dotted}
 use Rattle.const_oid_identifiers.proofs.DigitLaws.{digits-one, digits-more}
@@ -20,11 +20,11 @@ unfolding decimal
 decimal-more n l = ap (map (λ d. 48 + d)) (digits-more 10 n (omega arith) l) ∙ map-push (digits 10 (n / 10)) (n % 10)
 
 -- the text that std writes of a number
-pub written_decimal : (n : ℕ) → n < 2 ^ 64 → fmt.decimal n ≡ decimal n
+pub written_decimal : (n : ℕ) → n < 10 ^ 64 → fmt.decimal n ≡ decimal n
 written_decimal n l =
-    decimal_by_steps (λ n ds. ds ≡ decimal n) (λ n l. sym (decimal-one n l)) (λ n ds l e. ap (λ t. t ++ ((48 + n % 10) ∷ [])) e ∙ sym (decimal-more n l)) n l
+    decimal_by_steps_wide (λ n ds. ds ≡ decimal n) (λ n l. sym (decimal-one n l)) (λ n ds l e. ap (λ t. t ++ ((48 + n % 10) ∷ [])) e ∙ sym (decimal-more n l)) n l
 
-pub written_dot : (n : ℕ) → n < 2 ^ 64 → 46 ∷ fmt.decimal n ≡ dot_decimal n
+pub written_dot : (n : ℕ) → n < 10 ^ 64 → 46 ∷ fmt.decimal n ≡ dot_decimal n
 unfolding dot_decimal
 written_dot n l = ap (λ t. 46 ∷ t) (written_decimal n l)
 

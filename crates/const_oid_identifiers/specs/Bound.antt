@@ -3,4 +3,4 @@ use Rattle.std.specs.Prelude.{ℕ, ◌^◌}
 
 -- each arc is below it
 unfoldable pub Bound : ℕ
-Bound = 2 ^ 32
+Bound = 2 ^ 128

@@ -3,7 +3,7 @@
 use std::fmt;
 
 /// An arc of an identifier.
-pub type Arc = u32;
+pub type Arc = u128;
 
 /// Why octets, a text or arcs are no identifier.
 #[derive(Clone, Copy, Debug, PartialEq, Eq)]
@@ -41,7 +41,7 @@ impl fmt::Display for Error {
     fn fmt<W: fmt::Write>(&self, f: &mut fmt::Formatter<W>) -> fmt::Result {
         match self {
             Error::ArcInvalid { arc } => write!(f, "OID contains out-of-range arc: {arc}"),
-            Error::ArcTooBig => f.write_str("OID contains arc which is larger than 32-bits"),
+            Error::ArcTooBig => f.write_str("OID contains arc which is larger than 128-bits"),
             Error::Base128 => f.write_str("OID contains arc with invalid base 128 encoding"),
             Error::DigitExpected { actual } => {
                 write!(f, "expected digit, got '{}'", char::from(*actual))

@@ -10,4 +10,4 @@ pub returns : goal.returns
 returns c =
     let sum : c.in-Some.high + c.from.result ≡ c.args.value * 128 + c.args.octet % 128 = omega (arith, c.in-Some.ensures.1, c.from.ensures) in
     checked c.checked_add.result (c.args.value * 128 + c.args.octet % 128)
-    (subst (λ n. SomeIff c.checked_add.result (n < 2 ^ 32) n) sum c.checked_add.ensures)
+    (subst (λ n. SomeIff c.checked_add.result (n < 2 ^ 128) n) sum c.checked_add.ensures)
