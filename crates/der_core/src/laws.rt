@@ -17,9 +17,10 @@ ghost use Rattle.der_core.specs.Orders.{octets_cmp, encodings_cmp};
 use der_core_coding::values::{Element, InRange, Member};
 pub use der_core_head::laws::{
     apart_is_lawful, ber_headers_are_spelled, bodies_end_themselves, headers_are_spelled,
-    read_is_spelled, spelled_is_read, valid_is_written, values_begin_as_stated, written_is_read,
-    written_is_spelled,
+    headers_stay, read_is_spelled, spelled_is_read, valid_is_written, values_begin_as_stated,
+    written_is_read, written_is_spelled,
 };
+pub use der_core_headers::laws::scanned_in_one_way;
 
 /// What was written of a value has an encoding, where the values of its type are in range, and is
 /// read as that value.

@@ -33,11 +33,15 @@ pub use der_core_coding::{
 };
 pub use der_core_head::{
     CLASS_APPLICATION, CLASS_CONTEXT_SPECIFIC, CLASS_PRIVATE, CLASS_UNIVERSAL, Class,
-    EncodingRules, Error, ErrorKind, Header, Length, Result, Tag, TagMode, TagNumber,
+    EncodingRules, Error, ErrorKind, Length, Result, Tag, TagMode, TagNumber,
+};
+pub use der_core_headers::{
+    Header, header_ber_of, header_of, indefinite_length_of, length_of, lone_length_of, tag_ber_of,
+    tag_of,
 };
 pub use der_core_octets::{
-    BytesOwned, BytesRef, Reader, StringOwned, StringRef, Writer, header_ber_of, header_of,
-    indefinite_length_of, length_of, peek_matches, tag_ber_of, tag_of,
+    BytesOwned, BytesRef, Reader, StringOwned, StringRef, Writer, encode_length, encode_tag,
+    peek_matches,
 };
 pub use fields::FieldsOrd;
 pub use headers::{header_cmp, length_cmp, tag_cmp};

@@ -14,7 +14,8 @@ use der_core_coding::values::{
     ApartValue, AsRead, AsReadValue, Decode, DecodeFields, DecodeValue, Element, Encode,
     EncodeValue, Fields, FixedTag, InRange, InRangeValue, Member, Shaped, ShapedValue, read_fields,
 };
-use der_core_head::{Error, ErrorKind, Header, Length, Tag};
+use der_core_head::{Error, ErrorKind, Length, Tag};
+use der_core_headers::Header;
 use der_core_octets::{Reader, Writer};
 use std::alloc::Global;
 use std::cmp::Ordering;

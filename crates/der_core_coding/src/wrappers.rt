@@ -4,7 +4,8 @@ ghost use Rattle.std.specs.Prelude.{◌≡◌, true};
 ghost use Rattle.der_core_head.specs.Tags.{context, implicit_tag};
 ghost use Rattle.der_core_head.specs.Shapes.{nested, only};
 
-use der_core_head::{Error, Header, Length, Tag, TagNumber, is_constructed};
+use der_core_head::{Error, Length, Tag, TagNumber, is_constructed};
+use der_core_headers::Header;
 use der_core_octets::{Reader, Writer};
 use der_core_values::{
     ApartValue, AsRead, AsReadValue, Decode, DecodeFields, DecodeValue, Element, Encode,

@@ -3,8 +3,10 @@ pub mod Bytes
 pub mod LengthForms
 pub mod TagForms
 pub mod TagLaws
+pub mod TagNumbers
 pub mod TagEquality
 pub mod HeadLaws
+pub mod LongerLaws
 pub mod IntegerLaws
 pub mod BitLaws
 pub mod DateLaws

@@ -19,3 +19,4 @@ pub mod Grammar
 pub mod Writing
 pub mod Reading
 pub mod Bodies
+pub mod Fronts

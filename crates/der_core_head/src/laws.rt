@@ -2,8 +2,10 @@
 //!
 //! Each is the contract of a function that does nothing.
 
-ghost use Rattle.std.specs.Prelude.{◌≡◌, ◌≤◌, ◌<◌, ◌⊎◌, ℕ, List, [], ◌++◌, length, take, drop, true, false, None, Ok};
+ghost use Rattle.std.specs.Prelude.{◌≡◌, ◌≢◌, ◌≤◌, ◌<◌, ◌⊎◌, ℕ, List, [], ◌++◌, length, take, drop, true, false, None, Ok, Err};
 ghost use Rattle.der_core_head.specs.Octets.{IsOctets};
+ghost use Rattle.der_core_head.specs.declared.error.ErrorKind.{ErrorKind};
+ghost use Rattle.der_core_head.specs.declared.error.ErrorKind.TheVariants.{Incomplete};
 ghost use Rattle.der_core_head.specs.declared.tag.Tag.{Tag};
 ghost use Rattle.der_core_head.specs.Tags.{IsTag, tag_octets};
 ghost use Rattle.der_core_head.specs.Heads.{Head, Fits, head_at, head_octets};
@@ -72,6 +74,13 @@ pub fn written_is_read()
 pub fn headers_are_spelled()
     ensures spelled { (h : Head) (r w : List ℕ) → IsOctets w → head_at w ≡ Ok (h, r) → (w ≡ head_octets h.tag h.len ++ r) × IsTag h.tag × (h.len < 4294967296) }
     ensures read { (t : Tag) (n : ℕ) (r : List ℕ) → IsTag t → n < 4294967296 → head_at (head_octets t n ++ r) ≡ Ok (record { tag = t; len = n }, r) }
+{}
+
+/// Further octets change nothing: the header that stands at the front of octets stands there before
+/// any more of them, and the fault in its place stays the fault, unless it was that octets ran out.
+pub fn headers_stay()
+    ensures read { (h : Head) (r w more : List ℕ) → head_at w ≡ Ok (h, r) → head_at (w ++ more) ≡ Ok (h, r ++ more) }
+    ensures fault { (k : ErrorKind) (w more : List ℕ) → head_at w ≡ Err k → k ≢ Incomplete → head_at (w ++ more) ≡ Err k }
 {}
 
 /// A value's octets, where there are any, begin with one of the first tags that its shape states.

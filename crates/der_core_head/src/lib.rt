@@ -1,22 +1,22 @@
-//! What stands below the coding traits: errors, lengths, tags and headers as data, and the
+//! What stands below the coding traits: errors, lengths and tags as data, and the
 //! definitions and laws on which reading and writing of DER rest.
 #![tactic(auto)]
 
 mod class;
 mod encoding_rules;
 mod error;
-mod header;
 pub mod laws;
 mod length;
 mod tag;
 mod tag_mode;
 mod tag_number;
+mod tag_octets;
 
 pub use class::{CLASS_APPLICATION, CLASS_CONTEXT_SPECIFIC, CLASS_PRIVATE, CLASS_UNIVERSAL, Class};
 pub use encoding_rules::EncodingRules;
 pub use error::{Error, ErrorKind, Result};
-pub use header::Header;
 pub use length::{Length, header_len};
 pub use tag::{Tag, is_constructed, is_same_tag, leading_octet_of, number_of};
 pub use tag_mode::TagMode;
 pub use tag_number::TagNumber;
+pub use tag_octets::{plain_tag_of, short_tag_of, tag_of};

@@ -4,11 +4,16 @@ ghost use Rattle.std.specs.Fmt.{WritesOnOk};
 ghost use Rattle.std.specs.Prelude.{◌≡◌, ◌≢◌, ◌<◌, ◌↔◌, IsTrue, IfOk, IfErr, Some};
 ghost use Rattle.der_core_head.specs.Classes.{class_number, tag_class};
 ghost use Rattle.der_core_head.specs.TagNames.{numbered_name, tag_name};
-ghost use Rattle.der_core_head.specs.Tags.{leading, low_bits, leading_octet, number_of, is_constructed, same_tag};
+ghost use Rattle.der_core_head.specs.declared.encoding_rules.EncodingRules.TheVariants.{Der};
+ghost use Rattle.der_core_head.specs.Fronts.{alone, matches_at};
+ghost use Rattle.der_core_head.specs.Grammar.{peek_at};
+ghost use Rattle.der_core_head.specs.Reading.{GivesNow};
+ghost use Rattle.der_core_head.specs.Tags.{tag_at, leading, low_bits, leading_octet, number_of, is_constructed, same_tag};
 
 use crate::class::Class;
 use crate::error::{Error, ErrorKind};
 use crate::tag_number::TagNumber;
+use crate::tag_octets::tag_of;
 use std::fmt;
 
 /// A tag: its class, whether the value is constructed, and its number (X.690 8.1.2).
@@ -51,6 +56,34 @@ pub enum Tag {
 }
 
 impl Tag {
+    /// The tag at the front of octets under DER (X.690 8.1.2).
+    ///
+    /// # Errors
+    /// `Incomplete` where they run out, `TagUnknown` for a tag of the universal class that isn't
+    /// read, `TagNumberInvalid` for a number from 31 on that isn't in its shortest form or passes 32
+    /// bits.
+    pub fn peek(octets: &[u8]) -> Result<Tag, Error>
+        ensures { GivesNow (λ t. t) result (alone (tag_at octets.now)) }
+    {
+        let (tag, _count) = tag_of(octets)?;
+        Ok(tag)
+    }
+
+    /// Whether the tag at the front of octets under DER is of that class and has that number; where
+    /// there are no octets none is.
+    ///
+    /// # Errors
+    /// Those of `peek`.
+    pub fn peek_matches(octets: &[u8], class: Class, number: TagNumber) -> Result<bool, Error>
+        ensures { GivesNow (λ b. b) result (matches_at class number.value (peek_at Der octets.now)) }
+    {
+        if octets.is_empty() {
+            return Ok(false);
+        }
+        let tag = Tag::peek(octets)?;
+        Ok(tag.class() == class && tag.number().value == number.value)
+    }
+
     /// Its class.
     pub fn class(self) -> Class
         ensures { class_number result ≡ tag_class self }

@@ -8,11 +8,11 @@ use Rattle.der_core_head.specs.declared.error.Error.{Error}
 use Rattle.der_core_head.specs.declared.error.ErrorKind.TheVariants as kinds
 use Rattle.der_core_head.specs.Reading.{State, Kept, Refuses, Closes, ReadsNow, entered}
 use Rattle.der_core_head.specs.Bodies.{head_by}
-use Rattle.der_core_head.specs.declared.header.Header.{Header}
+use Rattle.der_core_headers.specs.declared.header.Header.{Header}
 use Rattle.der_core_head.specs.declared.tag.Tag.{Tag}
-use Rattle.der_core_octets.specs.Fronts.{head_of, wanted_at}
+use Rattle.der_core_headers.specs.Fronts.{head_of, wanted_at}
 use Rattle.der_core_octets.specs.Nesting.{Enters, IsNested, Called, Answered, RefusesNested}
-use Rattle.der_core_octets.proofs.Wanted.{wanted_ok}
+use Rattle.der_core_headers.proofs.Wanted.{wanted_ok}
 use Rattle.der_core_octets.proofs.Facts.{or_true}
 use Rattle.der_core_octets.proofs.Nested.{is_kept, at_length}
 

@@ -15,7 +15,7 @@ use Rattle.const_oid_identifiers.proofs.DigitLaws.{digits-Digits, digits-one, di
 use Rattle.std.proofs.Common.{zero, suc, ◌/◌, ◌%◌, ◌++◌, append_assoc}
 use Rattle.std.proofs.lemmas.List.{map-append}
 use Rattle.std.proofs.lemmas.Nat.{div_below}
-use Rattle.der_core_octets.proofs.TagNumbers.{front}
+use Rattle.der_core_head.proofs.TagNumbers.{front}
 
 turned_front : (b : Bool) (i : ℕ) (w : List ℕ) → i < length w → turned b (drop i w) ≡ turn b (get_or w i 0) ∷ turned b (drop (i + 1) w)
 turned_front true i w h = rw (front w i h) refl

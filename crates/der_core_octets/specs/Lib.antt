@@ -1,7 +1,6 @@
 pub mod Held
 pub mod Fronts
 pub mod Numbers
-pub mod Pieces
 pub mod Places
 pub mod Nesting
 pub mod Outputs

@@ -21,10 +21,13 @@ pub fn sum_len(a: Length, b: Length) -> Result<Length, Error>
 }
 
 /// Writes the octets of a tag (X.690 8.1.2).
+///
+/// # Errors
+/// Those of the writer.
 // Inlined, so that a known tag is one octet and nothing that is answered is moved.
 #[inline(always)]
 #[tactic(auto, using(der_core_head::proofs::TagForms::tag_forms))]
-fn encode_tag<W: Writer>(writer: &mut W, tag: Tag) -> Result<(), Error>
+pub fn encode_tag<W: Writer>(writer: &mut W, tag: Tag) -> Result<(), Error>
     ensures exact { Writes W.takes_memory (W.out writer.old) (W.out writer.new) result (put (tag_octets tag)) }
     ensures kept { Continues (W.out writer.old) (W.out writer.new) }
 {
@@ -54,10 +57,13 @@ fn encode_tag<W: Writer>(writer: &mut W, tag: Tag) -> Result<(), Error>
 }
 
 /// Writes the octets of a length (X.690 8.1.3, 10.1).
+///
+/// # Errors
+/// Those of the writer.
 // Inlined, so that a known tag is one octet and nothing that is answered is moved.
 #[inline(always)]
 #[tactic(auto, using(der_core_head::proofs::LengthForms::length_forms))]
-fn encode_length<W: Writer>(writer: &mut W, len: Length) -> Result<(), Error>
+pub fn encode_length<W: Writer>(writer: &mut W, len: Length) -> Result<(), Error>
     ensures exact { Writes W.takes_memory (W.out writer.old) (W.out writer.new) result (put (length_octets len.value)) }
     ensures kept { Continues (W.out writer.old) (W.out writer.new) }
 {

@@ -1,14 +1,10 @@
-//! What stands between octets and values: headers and whole numbers at the front of octets, what
-//! octets are read from and written to, and octets and texts that a length can count.
+//! What stands between octets and values: whole numbers in octets, what octets are read from and
+//! written to, and octets and texts that a length can count.
 #![tactic(auto)]
 
 mod bytes_owned;
 mod bytes_ref;
 mod encode;
-mod fronts;
-mod header;
-mod heads;
-mod indefinite;
 mod integers;
 mod peeks;
 mod reader;
@@ -18,10 +14,7 @@ mod writer;
 
 pub use bytes_owned::BytesOwned;
 pub use bytes_ref::BytesRef;
-pub use encode::{encode_header, slice_len, sum_len};
-pub use fronts::{header_by, tag_by};
-pub use heads::{header_of, length_of, tag_of};
-pub use indefinite::{header_ber_of, indefinite_length_of, tag_ber_of};
+pub use encode::{encode_header, encode_length, encode_tag, slice_len, sum_len};
 pub use integers::{integer_octets_of, signed_of, unsigned_of};
 pub use peeks::peek_matches;
 pub use reader::Reader;

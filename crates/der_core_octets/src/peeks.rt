@@ -3,7 +3,7 @@
 ghost use Rattle.std.specs.Prelude.{◌≡◌};
 ghost use Rattle.der_core_head.specs.Grammar.{peek_at};
 ghost use Rattle.der_core_head.specs.Reading.{Peeks};
-ghost use Rattle.der_core_octets.specs.Fronts.{matches_at};
+ghost use Rattle.der_core_head.specs.Fronts.{matches_at};
 
 use crate::reader::Reader;
 use der_core_head::{Class, Error, TagNumber};

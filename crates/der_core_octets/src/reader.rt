@@ -9,15 +9,16 @@ ghost use Rattle.der_core_head.specs.declared.tag.Tag.TheVariants.{Sequence};
 ghost use Rattle.der_core_head.specs.Shapes.{Body, BodyValue, nested, tagged};
 ghost use Rattle.der_core_head.specs.Grammar.{slice_at, byte_at, peek_at, value_at};
 ghost use Rattle.der_core_head.specs.Reading.{State, IsDer, Kept, ClosureReads, HandsBack, Reads, ReadsNow, GivesNow, Peeks, Opens, Closes, past, broken, ruled, read_at, read_content_at};
-ghost use Rattle.der_core_octets.specs.Fronts.{head_of, wanted_at, alone};
+ghost use Rattle.der_core_head.specs.Fronts.{alone};
+ghost use Rattle.der_core_headers.specs.Fronts.{head_of, wanted_at};
 ghost use Rattle.der_core_octets.specs.Nesting.{IsNested, Answered, RefusesNested, IsEnclosed, AnsweredIn, RefusesIn};
 ghost use Rattle.der_core_octets.specs.Places.{IsAt, encoding_at};
 
-use crate::fronts::{
-    any_header_of_tag, plain_header_by_both, plain_header_of_tag, short_tag_by_both,
+use der_core_head::{EncodingRules, Error, ErrorKind, Length, Tag};
+use der_core_headers::{
+    Header, any_header_of_tag, header_by, plain_header_by_both, plain_header_of_tag,
+    short_tag_by_both, tag_by,
 };
-use crate::{header_by, tag_by};
-use der_core_head::{EncodingRules, Error, ErrorKind, Header, Length, Tag};
 use std::alloc::Global;
 
 /// What octets are read from: octets up to an end that can be set nearer, and a depth of ends.

@@ -10,7 +10,8 @@ ghost use Rattle.der_core_head.specs.Shapes.{leaf};
 use crate::decode::{DecodeValue, ShapedValue};
 use crate::encode::EncodeValue;
 use crate::leaves::{Leaf, decode_leaf};
-use der_core_head::{Error, Header, Length, Tag};
+use der_core_head::{Error, Length, Tag};
+use der_core_headers::Header;
 use der_core_octets::{BytesOwned, BytesRef, Reader, Writer};
 use std::alloc::Global;
 

@@ -6,7 +6,8 @@ ghost use Rattle.der_core_head.specs.Shapes.{Shape, Content, Value, ContentValue
 ghost use Rattle.der_core_head.specs.Grammar.{value_at, plain_option};
 ghost use Rattle.der_core_head.specs.Reading.{Reads, read_at, read_content_at};
 
-use der_core_head::{Error, Header, Tag, is_same_tag};
+use der_core_head::{Error, Tag, is_same_tag};
+use der_core_headers::Header;
 use der_core_octets::Reader;
 use std::alloc::Global;
 

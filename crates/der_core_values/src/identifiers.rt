@@ -10,7 +10,8 @@ use crate::decode::{DecodeValue, FixedTag, ShapedValue};
 use crate::encode::EncodeValue;
 use crate::leaves::{Leaf, decode_leaf};
 use const_oid_identifiers::ObjectIdentifier;
-use der_core_head::{Error, ErrorKind, Header, Length, Tag};
+use der_core_head::{Error, ErrorKind, Length, Tag};
+use der_core_headers::Header;
 use der_core_octets::{Reader, Writer, slice_len};
 use std::alloc::Global;
 

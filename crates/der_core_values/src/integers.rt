@@ -11,7 +11,8 @@ ghost use Rattle.der_core_octets.specs.Numbers.{signed_number};
 use crate::decode::{DecodeValue, FixedTag, ShapedValue};
 use crate::encode::EncodeValue;
 use crate::leaves::{Leaf, decode_leaf};
-use der_core_head::{Error, Header, Length, Tag};
+use der_core_head::{Error, Length, Tag};
+use der_core_headers::Header;
 use der_core_octets::{Reader, Writer, integer_octets_of, signed_of, unsigned_of};
 use std::alloc::Global;
 

@@ -9,7 +9,8 @@ ghost use Rattle.der_core_head.specs.Leaves.{Leaf as LeafKind, LeafValue, leaf_r
 
 use crate::decode::{DecodeValue, FixedTag, ShapedValue};
 use crate::encode::EncodeValue;
-use der_core_head::{Error, ErrorKind, Header, Length, Tag};
+use der_core_head::{Error, ErrorKind, Length, Tag};
+use der_core_headers::Header;
 use der_core_octets::{Reader, Writer};
 use std::alloc::Global;
 

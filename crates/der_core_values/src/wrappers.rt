@@ -8,7 +8,8 @@ ghost use Rattle.der_core_head.specs.Grammar.{plain_list};
 use crate::decode::{Decode, DecodeValue, FixedTag, Shaped, ShapedValue};
 use crate::encode::{Encode, EncodeValue};
 use crate::fields::{DecodeFields, Fields, read_fields};
-use der_core_head::{Error, ErrorKind, Header, Length, Tag};
+use der_core_head::{Error, ErrorKind, Length, Tag};
+use der_core_headers::Header;
 use der_core_octets::{Reader, Writer, sum_len};
 use std::alloc::Global;
 

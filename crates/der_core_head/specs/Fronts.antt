@@ -1,0 +1,27 @@
+-- What stands at the front of octets.
+use Rattle.std.specs.Prelude.{◌≡◌, ◌≤◌, ℕ, List, length, drop, Bool, false, Option, Some, None, Result, Ok, Err, ◌==◌, ◌&&◌}
+use Rattle.der_core_head.specs.declared.error.Error.{Error}
+use Rattle.der_core_head.specs.declared.error.ErrorKind.{ErrorKind}
+use Rattle.der_core_head.specs.declared.class.Class.{Class}
+use Rattle.der_core_head.specs.declared.tag.Tag.{Tag}
+use Rattle.der_core_head.specs.Classes.{class_number, tag_class}
+use Rattle.der_core_head.specs.Tags.{number_of}
+use Rattle.der_core_head.specs.Octets.{Readings, ◌>>=◌}
+
+-- What was answered, seen by view, is what reading gives, and its octets were counted.
+abbrev pub Counts : {X P : Type 0} → (X → P) → List ℕ → Result (X × ℕ) Error → Readings P → Type 0
+Counts view w (Ok x) f = (f w ≡ Ok (view x.0, drop x.1 w)) × (x.1 ≤ length w)
+Counts view w (Err e) f = f w ≡ Err e.kind
+
+-- what was read, without the rest
+abbrev pub alone : {P : Type 0} → Result (P × List ℕ) ErrorKind → Result P ErrorKind
+alone (Ok x) = Ok x.0
+alone (Err e) = Err e
+
+-- whether a tag that stands there is of that class and has that number
+abbrev pub has_number : Class → ℕ → Option Tag → Bool
+has_number class number None = false
+has_number class number (Some t) = (tag_class t == class_number class) && (number_of t == number)
+
+abbrev pub matches_at : Class → ℕ → Result (Option Tag) ErrorKind → Result Bool ErrorKind
+matches_at class number peeked = peeked >>= λ t. Ok (has_number class number t)

@@ -1,0 +1,6 @@
+mod Lengths
+mod Levels
+pub mod Wanted
+mod Spelled
+mod Longer
+mod LoneLaws
