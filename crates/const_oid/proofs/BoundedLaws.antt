@@ -4,6 +4,9 @@ use Rattle.std.specs.List.{AllByRecursion}
 use Rattle.std.proofs.lemmas.Bool.{cases_lt}
 use Rattle.const_oid_identifiers.specs.declared.error.Error.{Error}
 use Rattle.const_oid_identifiers.specs.IdentifierOctets.{identifier_octets, IsIdentifier, read_identifier}
+use Rattle.const_oid_identifiers.specs.TextReading.{read_text}
+use Rattle.const_oid_identifiers.specs.TextFaults.{IsText}
+use Rattle.const_oid_identifiers.proofs.TextFaultLaws.{text_sound, text_read}
 use Rattle.const_oid_identifiers.proofs.IdentifierLaws.{identifier_sound, identifier_again}
 
 pub begins_itself : (a : List ℕ) → (rest : List ℕ) × (a ≡ a ++ rest)
@@ -46,4 +49,34 @@ newly_read small large capacity w arcs e bytes read refused = by (narrow small l
     by (inl id) =
         let again = identifier_again small capacity arcs id (subst (λ t. length t ≤ capacity) sound.2 sound.1) in
         let ok : read_identifier small capacity w ≡ Ok arcs = ap (read_identifier small capacity) sound.2 ∙ again in
+        absurd (cc)
+
+-- Texts under two bounds
+
+below_wider : (small large : ℕ) → small ≤ large → (xs : List ℕ) → AllByRecursion (λ n. n < small) xs → AllByRecursion (λ n. n < large) xs
+below_wider small large le [] h = tt
+below_wider small large le (x ∷ xs) h = (omega (arith, le, h.0), below_wider small large le xs h.1)
+
+widen : (small large : ℕ) → small ≤ large → (arcs : List ℕ) → IsIdentifier small arcs → IsIdentifier large arcs
+unfolding IsIdentifier
+widen small large le [] id = absurd id
+widen small large le (a ∷ []) id = absurd id
+widen small large le (a ∷ b ∷ arcs) id = (id.0, id.1, below_wider small large le arcs id.2)
+
+pub wider_text : (small large capacity : ℕ) (w arcs : List ℕ) → 40 ≤ large → small ≤ large → read_text small capacity w ≡ Ok arcs → read_text large capacity w ≡ Ok arcs
+wider_text small large capacity w arcs root le e =
+    let sound = text_sound small capacity w arcs e in
+    text_read large capacity w arcs root sound.0 (widen small large le arcs sound.1) sound.2
+
+pub newly_read_text : (small large capacity : ℕ) (w arcs : List ℕ) (e : Error) → 40 ≤ small → read_text large capacity w ≡ Ok arcs → read_text small capacity w ≡ Err e
+    → (i : ℕ) × (i < length arcs) × (small ≤ get_or arcs i 0)
+newly_read_text small large capacity w arcs e root read refused = by (narrow small large arcs sound.1)
+  where
+    sound : IsText arcs w × IsIdentifier large arcs × (length (identifier_octets arcs) ≤ capacity)
+    sound = text_sound large capacity w arcs read
+
+    by : IsIdentifier small arcs ⊎ ((i : ℕ) × (i < length arcs) × (small ≤ get_or arcs i 0)) → (i : ℕ) × (i < length arcs) × (small ≤ get_or arcs i 0)
+    by (inr p) = p
+    by (inl id) =
+        let again = text_read small capacity w arcs root sound.0 id sound.2 in
         absurd (cc)

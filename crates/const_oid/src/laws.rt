@@ -170,6 +170,15 @@ pub fn newly_read_octets_hold_a_large_arc()
         → read_identifier small capacity w ≡ Err e → (i : ℕ) × (i < length arcs) × (small ≤ slice_index arcs i) }
 {}
 
+/// A text that is read under one bound of arcs is read as the same arcs under a wider one; and one that is read under a wide bound
+/// alone has an arc that isn't below the narrow one. The bounds let each second arc pass.
+pub fn wider_bounds_read_texts_alike()
+    ensures same { (small large capacity : ℕ) (w arcs : List ℕ) → 40 ≤ large → small ≤ large → read_text small capacity w ≡ Ok arcs
+        → read_text large capacity w ≡ Ok arcs }
+    ensures new { (small large capacity : ℕ) (w arcs : List ℕ) (e : Error) → 40 ≤ small → read_text large capacity w ≡ Ok arcs
+        → read_text small capacity w ≡ Err e → (i : ℕ) × (i < length arcs) × (small ≤ slice_index arcs i) }
+{}
+
 /// Compares two borrowed identifiers: by their octets as a list.
 pub fn compare_borrowed(a: &ObjectIdentifierRef<'_>, b: &ObjectIdentifierRef<'_>) -> Ordering
     ensures { result ≡ borrowed_cmp (reference_arcs a.now) (reference_arcs b.now) }

@@ -27,3 +27,5 @@ pub mod OkOctets
 pub mod WrittenValid
 pub mod Below
 pub mod BodyLaws
+pub mod BoundLaws
+pub mod Families

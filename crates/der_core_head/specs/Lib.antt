@@ -13,6 +13,7 @@ pub mod Lengths
 pub mod BmpStrings
 pub mod Leaves
 pub mod Shapes
+pub mod Bounds
 pub mod Spelling
 pub mod Ranges
 pub mod Grammar

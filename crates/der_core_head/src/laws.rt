@@ -2,7 +2,7 @@
 //!
 //! Each is the contract of a function that does nothing.
 
-ghost use Rattle.std.specs.Prelude.{◌≡◌, ◌≢◌, ◌≤◌, ◌<◌, ◌⊎◌, ℕ, List, [], ◌++◌, length, take, drop, true, false, None, Ok, Err};
+ghost use Rattle.std.specs.Prelude.{◌≡◌, ◌≢◌, ◌↔◌, ◌≤◌, ◌<◌, ◌⊎◌, ℕ, List, [], ◌++◌, length, take, drop, true, false, None, Ok, Err};
 ghost use Rattle.der_core_head.specs.Octets.{IsOctets};
 ghost use Rattle.der_core_head.specs.declared.error.ErrorKind.{ErrorKind};
 ghost use Rattle.der_core_head.specs.declared.error.ErrorKind.TheVariants.{Incomplete};
@@ -10,6 +10,7 @@ ghost use Rattle.der_core_head.specs.declared.tag.Tag.{Tag};
 ghost use Rattle.der_core_head.specs.Tags.{IsTag, tag_octets};
 ghost use Rattle.der_core_head.specs.Heads.{Head, Fits, head_at, head_octets};
 ghost use Rattle.der_core_head.specs.Shapes.{Shape, Value, IsValid, begins, octets_of};
+ghost use Rattle.der_core_head.specs.Bounds.{IsOf, IsValidUnder, identifiers_of, AreBelow, HoldsLarge};
 ghost use Rattle.der_core_head.specs.Spelling.{is_apart, is_element, are_enough};
 ghost use Rattle.der_core_head.specs.Grammar.{read};
 ghost use Rattle.der_core_head.specs.Ranges.{IsInRange};
@@ -104,4 +105,23 @@ pub fn bodies_end_themselves()
     ensures body { (b more : List ℕ) → IsIndefiniteBody 64 b → Fits b → body_len_at (b ++ more) ≡ Ok (length b) }
     ensures header { (h : Head) (n : ℕ) (w more : List ℕ) → IsOctets w → n ≤ length w → head_ber_at w ≡ Ok (h, drop n w)
         → head_ber_at (take n w ++ (take h.len (drop n w) ++ more)) ≡ Ok (h, take h.len (drop n w) ++ more) }
+{}
+
+/// What is valid under a bound of arcs is what is valid in a shape that states this bound and no other.
+pub fn bounds_are_those_of_shapes()
+    ensures { (bound : ℕ) (s : Shape) (v : Value s) → IsOf bound s → IsValid s v ↔ IsValidUnder bound s v }
+{}
+
+/// What has an encoding under one bound of arcs has one under a wider bound, which is the same, since octets don't depend on bounds.
+pub fn wider_bounds_keep_encodings()
+    ensures { (small large : ℕ) (s : Shape) (v : Value s) → small ≤ large → IsValidUnder small s v → IsValidUnder large s v }
+{}
+
+/// What has an encoding under one bound of arcs has one under another, where each arc of its identifiers is below that one; so what
+/// has none under that one holds an identifier with an arc that isn't below it. And it has one under a bound from 40 up only where
+/// each arc is below it: every second arc is below 40.
+pub fn new_values_hold_large_arcs()
+    ensures narrow { (small large : ℕ) (s : Shape) (v : Value s) → IsValidUnder large s v → AreBelow small (identifiers_of s v) → IsValidUnder small s v }
+    ensures below { (bound : ℕ) (s : Shape) (v : Value s) → 40 ≤ bound → IsValidUnder bound s v → AreBelow bound (identifiers_of s v) }
+    ensures new { (small large : ℕ) (s : Shape) (v : Value s) → IsValidUnder large s v → (IsValidUnder small s v → ⊥) → HoldsLarge small (identifiers_of s v) }
 {}

@@ -1,4 +1,5 @@
 pub mod Certificates
+pub mod Bounds
 pub mod Parts
 pub mod Texts
 pub mod Views
