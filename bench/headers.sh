@@ -3,7 +3,7 @@
 # the same checks, and prints instructions a header and the least processor time a header of both (bench/README.md).
 # Usage: bench/headers.sh [FILE]; without FILE the example certificate 50 times.
 . "$(dirname "$0")/program.sh"
-build headers header_walk 'der_core der_core_octets der_core_head const_oid_identifiers'
+build headers header_walk 'der_core der_core_octets der_core_head const_oid'
 
 file=${1:-$work/many.der}
 [ $# -gt 0 ] || for _ in $(seq 50); do cat "$top/examples/trusted.der"; done >"$file"

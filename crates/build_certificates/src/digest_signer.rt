@@ -1,6 +1,6 @@
 //! A signer of digests.
 
-use const_oid_identifiers::ObjectIdentifier;
+use const_oid::ObjectIdentifier;
 use der_core::Error;
 use rand_core::CryptoRng;
 use sha2::{Digest, Sha256};

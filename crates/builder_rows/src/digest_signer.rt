@@ -2,7 +2,7 @@
 
 use crate::refusals::Refusal;
 use crate::words::key_of;
-use const_oid_identifiers::ObjectIdentifier;
+use const_oid::ObjectIdentifier;
 use rand_core::CryptoRng;
 use sha2::{Digest, Sha256};
 use std::alloc::Global;

@@ -3,11 +3,11 @@ use Rattle.std.proofs.Common.{◌≡◌, ℕ, ◌+◌, ◌<◌, ◌≤◌, List,
 use Rattle.std.specs.Cmp.Lexicographic.{bytes_decides}
 use Rattle.std.specs.List.{list_any}
 use Rattle.std.specs.Prelude.{nat_eq, bytes_eq, IfOk}
-use Rattle.const_oid_identifiers.specs.Comparing.{owned_eq}
+use Rattle.const_oid.specs.Comparing.{owned_eq}
 use Rattle.std.proofs.lemmas.List.{at_drop_more, at_drop_all}
-use Rattle.const_oid_identifiers.specs.Digits.{marked}
-use Rattle.const_oid_identifiers.specs.IdentifierOctets.{arc_octets, identifier_octets}
-use Rattle.const_oid_identifiers.proofs.DigitLaws.{digits-one}
+use Rattle.const_oid.specs.Digits.{marked}
+use Rattle.const_oid.specs.IdentifierOctets.{arc_octets, identifier_octets}
+use Rattle.const_oid.proofs.DigitLaws.{digits-one}
 use Rattle.der_core_head.specs.Grammar.{plain_list}
 use Rattle.x509_cert.specs.Certificates.{PlainExtension}
 use Rattle.cert_desk_checking.specs.declared.weight.Weight.{Weight}

@@ -2,7 +2,7 @@
 use Rattle.std.proofs.Common.{◌≡◌, ◌≢◌, ℕ, ◌+◌, ◌^◌, ◌/◌, ◌%◌, ◌<◌, ◌≤◌, List, [], ◌∷◌, ◌++◌, length, get_or, refl, ap, ◌∙◌, arith, ◌⊎◌, inl, inr}
 use Rattle.std.proofs.lemmas.Bool.{cases_lt}
 use Rattle.std.specs.Int.Digits.{number_from_digits, AllBelowBase}
-use Rattle.const_oid_identifiers.proofs.DigitLaws.{split-same_length}
+use Rattle.const_oid.proofs.DigitLaws.{split-same_length}
 use Rattle.der_core_head.specs.Heads.{length_octets}
 use Rattle.cert_desk_checking.specs.Faults.{IsLength, spelled_length}
 use Rattle.der_core_head.proofs.LengthForms.{length-short, length-1, length-2, length-3, length-4}

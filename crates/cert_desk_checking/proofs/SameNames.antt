@@ -4,7 +4,7 @@ use Rattle.std.specs.Prelude.{nat_eq, bytes_eq, ◌&&◌, flat_map}
 use Rattle.std.specs.Cmp.{first_so, second_so}
 use Rattle.std.specs.Cmp.Lexicographic.{pointwise}
 use Rattle.std.specs.List.{list_all, zip}
-use Rattle.const_oid_identifiers.specs.Comparing.{owned_eq}
+use Rattle.const_oid.specs.Comparing.{owned_eq}
 use Rattle.der_core_head.specs.Grammar.{plain_list}
 use Rattle.der_core_head.specs.Heads.{tlv}
 use Rattle.der_core_head.specs.Shapes.{octets_of, contents, body_octets}

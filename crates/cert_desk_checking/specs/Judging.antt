@@ -2,7 +2,7 @@
 use Rattle.std.specs.Prelude.{ℕ, zero, suc, ◌+◌, List, [], ◌∷◌, take, drop, Bool, true, false, not, nat_le, ◌&&◌, ◌||◌, bytes_eq, slice_get}
 use Rattle.std.specs.List.{list_any, list_all}
 use Rattle.std.specs.Option.{option_map_or}
-use Rattle.const_oid_identifiers.specs.Comparing.{owned_eq}
+use Rattle.const_oid.specs.Comparing.{owned_eq}
 use Rattle.der_core_head.specs.BitStrings.{Bits}
 use Rattle.der_core_head.specs.Shapes.{octets_of}
 use Rattle.x509_cert.specs.Certificates.{PlainCertificate, PlainExtension, PlainName, PublicKey, Algorithm, algorithm_identifier, outer_algorithm, inner_algorithm, signature_bits, issuer, subject, not_before, not_after, public_key, extensions_of, extension_arcs, name_octets, signed_start, signed_length}

@@ -1,6 +1,6 @@
 -- Attributes that are the same.
 use Rattle.std.specs.Prelude.{Bool, ◌&&◌, bytes_eq}
-use Rattle.const_oid_identifiers.specs.Comparing.{owned_eq}
+use Rattle.const_oid.specs.Comparing.{owned_eq}
 use Rattle.der_core_head.specs.Tags.{same_tag}
 use Rattle.x509_cert_names.specs.declared.attribute_type_and_value.AttributeTypeAndValue.{AttributeTypeAndValue}
 

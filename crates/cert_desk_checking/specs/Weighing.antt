@@ -2,7 +2,7 @@
 use Rattle.std.specs.Prelude.{ℕ, List, [], ◌∷◌, Bool, true, false, Option, None, Result, Ok, Err, if◌then◌else◌, ◌&&◌, ◌||◌, ◌==◌, ◌^◌}
 use Rattle.std.specs.Int.RustNames.{bit_and, unsigned_abs}
 use Rattle.std.specs.List.{list_any}
-use Rattle.const_oid_identifiers.specs.Comparing.{owned_eq}
+use Rattle.const_oid.specs.Comparing.{owned_eq}
 use Rattle.der_core_head.specs.declared.error.ErrorKind.{ErrorKind}
 use Rattle.der_core_head.specs.declared.tag.Tag.TheVariants as tags
 use Rattle.der_core_head.specs.Grammar.{plain_option, whole_at}

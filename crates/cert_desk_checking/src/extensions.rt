@@ -2,7 +2,7 @@
 
 ghost use Rattle.std.specs.Prelude.{◌≡◌, ◌<◌, ℕ, false, nat_eq};
 ghost use Rattle.std.specs.Option.{option_map_or};
-ghost use Rattle.const_oid_identifiers.specs.Comparing.{owned_eq};
+ghost use Rattle.const_oid.specs.Comparing.{owned_eq};
 ghost use Rattle.x509_cert.specs.Certificates.{extensions_of};
 ghost use Rattle.x509_cert.specs.Views.{certificate_plain, extension_plain, extensions_plain};
 ghost use Rattle.cert_desk_checking.specs.Judging.{are_distinct, is_alone};

@@ -1,6 +1,6 @@
 //! The extensions by which a chain is judged, read (RFC 5280 4.2.1.3, 4.2.1.6, 4.2.1.9, 4.2.1.12).
 ghost use Rattle.std.specs.Prelude.{◌≡◌, ◌≢◌, ℕ, List, IfOk};
-ghost use Rattle.const_oid_identifiers.specs.Comparing.{owned_eq};
+ghost use Rattle.const_oid.specs.Comparing.{owned_eq};
 ghost use Rattle.der_core_head.specs.declared.error.ErrorKind.{ErrorKind};
 ghost use Rattle.x509_cert.specs.Views.{arc_bound, extension_plain, extensions_plain};
 ghost use Rattle.cert_desk_checking.specs.Findings.{found, weight_of};

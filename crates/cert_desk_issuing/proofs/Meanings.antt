@@ -3,10 +3,10 @@ use Rattle.std.proofs.Common.{◌≡◌, ℕ, ◌+◌, ◌<◌, ◌≤◌, ◌^�
 use Rattle.std.proofs.lemmas.Bool.{and_parts, cases_lt, lt-ltb, le-ltb, ltb-true}
 use Rattle.std.specs.Prelude.{IfSome, pos, unsigned_abs, flat_map, nat_lt}
 use Rattle.std.specs.List.{list_all, AllByRecursion}
-use Rattle.const_oid_identifiers.specs.IdentifierOctets.{identifier_octets, arc_octets, IsIdentifier}
-use Rattle.const_oid_identifiers.specs.Digits.{digits, digits_within, marked}
-use Rattle.const_oid_identifiers.specs.Bound.{Bound}
-use Rattle.const_oid_identifiers.proofs.DigitLaws.{digits-one}
+use Rattle.const_oid.specs.IdentifierOctets.{identifier_octets, arc_octets, IsIdentifier}
+use Rattle.const_oid.specs.Digits.{digits, digits_within, marked}
+use Rattle.const_oid.specs.Bound.{Bound}
+use Rattle.const_oid.proofs.DigitLaws.{digits-one}
 use Rattle.der_core_head.proofs.AllOctets.{whole_again}
 use Rattle.der_core_head.proofs.Fits.{fits_front, fits_rest, fits_contents}
 use Rattle.der_core_head.specs.declared.tag.Tag.TheVariants as tags

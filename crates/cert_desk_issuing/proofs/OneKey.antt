@@ -5,8 +5,8 @@ use Rattle.std.specs.Cmp.{nat_eq_equiv}
 use Rattle.std.specs.Cmp.Lexicographic.{pointwise, bytes_decides, nat_list_eq_equiv}
 use Rattle.std.specs.Option.{option_eq}
 use Rattle.std.proofs.lemmas.Bool.{and_parts}
-use Rattle.const_oid_identifiers.proofs.PrefixLaws.{same_octets}
-use Rattle.const_oid_identifiers.specs.IdentifierOctets.{IsIdentifier, identifier_octets}
+use Rattle.const_oid.proofs.PrefixLaws.{same_octets}
+use Rattle.const_oid.specs.IdentifierOctets.{IsIdentifier, identifier_octets}
 use Rattle.der_core_head.proofs.TagLaws.{same_tag-eq}
 use Rattle.der_core_head.specs.BitStrings.{Bits, bit_contents}
 use Rattle.der_core_head.specs.declared.tag.Tag.{Tag}

@@ -1,7 +1,7 @@
 -- Signed parts, and certificates around them: what is written of them, and where they have an encoding.
 use Rattle.std.proofs.Common.{◌≡◌, ◌≢◌, ◌⊎◌, ℕ, ◌+◌, ◌<◌, ◌≤◌, List, [], ◌∷◌, ◌++◌, length, Bool, true, false, Result, Ok, Err, Some, None, refl, sym, ap, ◌∙◌, subst, arith, inl, inr, lit<, lit≤}
 use Rattle.std.specs.Prelude.{pos, nat_lt, IfErr, if◌then◌else◌}
-use Rattle.const_oid_identifiers.specs.Digits.{digits, digits_within}
+use Rattle.const_oid.specs.Digits.{digits, digits_within}
 use Rattle.der_core_head.specs.declared.error.Error.{Error}
 use Rattle.der_core_head.specs.declared.error.ErrorKind.{ErrorKind}
 use Rattle.der_core_head.specs.declared.error.ErrorKind.TheVariants as kinds

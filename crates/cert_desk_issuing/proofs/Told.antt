@@ -1,9 +1,9 @@
 -- What all extensions of an ordered certificate say, and what the rules find in it.
 use Rattle.std.proofs.Common.{◌≡◌, ◌≢◌, ℕ, ◌<◌, ◌^◌, List, [], ◌∷◌, map, length, Bool, true, false, not, ◌&&◌, ◌||◌, Option, Some, None, refl, sym, ap, ◌∙◌, arith, ◌==◌}
 use Rattle.std.specs.List.{list_all, list_any}
-use Rattle.const_oid_identifiers.specs.Comparing.{owned_eq}
-use Rattle.const_oid_identifiers.specs.Digits.{digits, digits_within, marked}
-use Rattle.const_oid_identifiers.specs.IdentifierOctets.{identifier_octets, arc_octets}
+use Rattle.const_oid.specs.Comparing.{owned_eq}
+use Rattle.const_oid.specs.Digits.{digits, digits_within, marked}
+use Rattle.const_oid.specs.IdentifierOctets.{identifier_octets, arc_octets}
 use Rattle.der_core_head.specs.Heads.{Fits}
 use Rattle.der_core_head.specs.Shapes.{octets_of}
 use Rattle.cert_desk_checking.specs.Builders.{authority_key_extension, authority_uses, constraints_extension, digital_signature, purposes_extension, subject_key_extension, usage_extension}

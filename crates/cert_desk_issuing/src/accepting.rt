@@ -23,7 +23,7 @@ use cert_desk_checking::types::{
     Name, RelativeDistinguishedName, SerialNumber, SubjectPublicKeyInfo, Time, Validity,
 };
 use cert_desk_orders::Order;
-use const_oid_identifiers::ObjectIdentifier;
+use const_oid::ObjectIdentifier;
 use der_core::ErrorKind;
 use std::alloc::Global;
 use std::str::FromStr;

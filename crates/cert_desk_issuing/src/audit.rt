@@ -19,7 +19,7 @@ ghost use Rattle.cert_desk_issuing.specs.PlainOrders.{PlainOrder};
 use crate::issued::Issued;
 use cert_desk_checking::types::Certificate;
 use cert_desk_checking::{Anchor, Bundle, CheckError, Checked, SignatureJudge, check};
-use const_oid_identifiers::ObjectIdentifier;
+use const_oid::ObjectIdentifier;
 use std::alloc::Global;
 
 impl Issued {

@@ -13,7 +13,7 @@ use sha2::{Digest, Sha256};
 use std::alloc::Global;
 
 // 1.3.6.1.4.1.32473.2, under the arc for examples (RFC 5612).
-#[tactic(auto, unfolding(const_oid_identifiers::specs::Bound::Bound, const_oid_identifiers::specs::TextReading::text_arcs, const_oid_identifiers::specs::ArcLists::add_arc, const_oid_identifiers::specs::ArcLists::whole_arcs, const_oid_identifiers::specs::IdentifierOctets::identifier_octets, const_oid_identifiers::specs::IdentifierOctets::arc_octets, const_oid_identifiers::specs::Digits::digits, const_oid_identifiers::specs::Digits::digits_within, const_oid_identifiers::specs::Digits::marked))]
+#[tactic(auto, unfolding(const_oid::specs::Bound::Bound, const_oid::specs::TextReading::text_arcs, const_oid::specs::ArcLists::add_arc, const_oid::specs::ArcLists::whole_arcs, const_oid::specs::IdentifierOctets::identifier_octets, const_oid::specs::IdentifierOctets::arc_octets, const_oid::specs::Digits::digits, const_oid::specs::Digits::digits_within, const_oid::specs::Digits::marked))]
 fn digest_identifier() -> ObjectIdentifier<39>
     ensures { result ≡ digest_arcs }
 {

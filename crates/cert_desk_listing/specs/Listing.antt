@@ -1,8 +1,8 @@
 -- Listings of certificates, revocation lists and requests, line by line.
 use Rattle.std.specs.Prelude.{ℕ, List, [], ◌++◌, codes, Option, Some, None, Result, Ok, Err, if◌then◌else◌}
 use Rattle.std.specs.List.{flat_map}
-use Rattle.const_oid_identifiers.specs.Comparing.{owned_eq}
-use Rattle.const_oid_identifiers.specs.DottedText.{dotted}
+use Rattle.const_oid.specs.Comparing.{owned_eq}
+use Rattle.const_oid.specs.DottedText.{dotted}
 use Rattle.der_core_head.specs.declared.error.ErrorKind.{ErrorKind}
 use Rattle.der_core_head.specs.declared.tag.Tag.TheVariants as tags
 use Rattle.der_core_head.specs.Shapes.{AnyValue}

@@ -2,12 +2,12 @@
 use Rattle.std.proofs.Common.{◌≡◌, ℕ, suc, ◌<◌, ◌≤◌, ◌⊎◌, inl, inr, List, [], ◌∷◌, ◌++◌, length, get_or, Ok, Err, sym, ap, subst, ◌∙◌, append_assoc, append-nil, arith}
 use Rattle.std.specs.List.{AllByRecursion}
 use Rattle.std.proofs.lemmas.Bool.{cases_lt}
-use Rattle.const_oid_identifiers.specs.declared.error.Error.{Error}
-use Rattle.const_oid_identifiers.specs.IdentifierOctets.{identifier_octets, IsIdentifier, read_identifier}
-use Rattle.const_oid_identifiers.specs.TextReading.{read_text}
-use Rattle.const_oid_identifiers.specs.TextFaults.{IsText}
-use Rattle.const_oid_identifiers.proofs.TextFaultLaws.{text_sound, text_read}
-use Rattle.const_oid_identifiers.proofs.IdentifierLaws.{identifier_sound, identifier_again}
+use Rattle.const_oid.specs.declared.error.Error.{Error}
+use Rattle.const_oid.specs.IdentifierOctets.{identifier_octets, IsIdentifier, read_identifier}
+use Rattle.const_oid.specs.TextReading.{read_text}
+use Rattle.const_oid.specs.TextFaults.{IsText}
+use Rattle.const_oid.proofs.TextFaultLaws.{text_sound, text_read}
+use Rattle.const_oid.proofs.IdentifierLaws.{identifier_sound, identifier_again}
 
 pub begins_itself : (a : List ℕ) → (rest : List ℕ) × (a ≡ a ++ rest)
 begins_itself a = ([], sym (append-nil a))

@@ -3,7 +3,7 @@ use Rattle.std.proofs.Common.{◌≡◌, ℕ, zero, suc, ◌+◌, ◌<◌, Bool,
 use Rattle.std.specs.Cmp.Lexicographic.{pointwise, bytes_decides}
 use Rattle.std.specs.Prelude.{nat_eq}
 use Rattle.std.proofs.Math.Seq.{drop-cons}
-use Rattle.const_oid_identifiers.specs.IdentifierOctets.{identifier_octets}
+use Rattle.const_oid.specs.IdentifierOctets.{identifier_octets}
 use Rattle.const_oid.specs.Names.{Entry, names_of, by_name}
 use Rattle.std.specs.Char.{to_ascii_lowercase}
 

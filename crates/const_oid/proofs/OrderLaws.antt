@@ -8,15 +8,15 @@ use Rattle.std.specs.Cmp.{nat_cmp_is, tied_itself}
 use Rattle.std.specs.Cmp.Lexicographic.{slice_cmp, bytes_decides, texts_ties}
 use Rattle.std.specs.List.{flat_map}
 use Rattle.std.proofs.lemmas.Bool.{cases_lt}
-use Rattle.const_oid_identifiers.specs.Digits.{digits}
-use Rattle.const_oid_identifiers.specs.IdentifierOctets.{arc_octets, identifier_octets, IsIdentifier}
-use Rattle.const_oid_identifiers.specs.DottedText.{dotted}
-use Rattle.const_oid_identifiers.specs.Orders.{owned_cmp, owned_cmp_total, owned_cmp_ties}
-use Rattle.const_oid_identifiers.specs.Comparing.{owned_eq, borrowed_cmp, IsAtMost}
-use Rattle.const_oid_identifiers.proofs.EncodingLaws.{arc_octets-one, arc_octets-more, marked_digits-one, marked_digits-more, length-digits-one, length-digits-more, length-digits-pos, length-arc_octets, length-marked_digits, identifier_octets-push}
-use Rattle.const_oid_identifiers.proofs.ArcsLaws.{arcs_of-identifier_octets, is_ok-octets, length-arcs_of}
-use Rattle.const_oid_identifiers.proofs.PrefixLaws.{same_octets, octets_prefix, prefix_octets}
-use Rattle.const_oid_identifiers.proofs.TextRoundLaws.{same_text}
+use Rattle.const_oid.specs.Digits.{digits}
+use Rattle.const_oid.specs.IdentifierOctets.{arc_octets, identifier_octets, IsIdentifier}
+use Rattle.const_oid.specs.DottedText.{dotted}
+use Rattle.const_oid.specs.Orders.{owned_cmp, owned_cmp_total, owned_cmp_ties}
+use Rattle.const_oid.specs.Comparing.{owned_eq, borrowed_cmp, IsAtMost}
+use Rattle.const_oid.proofs.EncodingLaws.{arc_octets-one, arc_octets-more, marked_digits-one, marked_digits-more, length-digits-one, length-digits-more, length-digits-pos, length-arc_octets, length-marked_digits, identifier_octets-push}
+use Rattle.const_oid.proofs.ArcsLaws.{arcs_of-identifier_octets, is_ok-octets, length-arcs_of}
+use Rattle.const_oid.proofs.PrefixLaws.{same_octets, octets_prefix, prefix_octets}
+use Rattle.const_oid.proofs.TextRoundLaws.{same_text}
 
 -- Equality
 

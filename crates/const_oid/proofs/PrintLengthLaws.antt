@@ -2,11 +2,11 @@
 use Rattle.std.proofs.Common.{◌≡◌, ℕ, zero, suc, ◌+◌, ◌*◌, ◌/◌, ◌%◌, ◌<◌, ◌≤◌, ◌⊎◌, inl, inr, List, [], ◌∷◌, length, ap, ◌∙◌, length-append, arith}
 use Rattle.std.specs.List.{flat_map}
 use Rattle.std.proofs.lemmas.Bool.{cases_lt}
-use Rattle.const_oid_identifiers.specs.Digits.{digits}
-use Rattle.const_oid_identifiers.specs.IdentifierOctets.{arc_octets, identifier_octets, IsIdentifier}
-use Rattle.const_oid_identifiers.specs.DottedText.{decimal, dot_decimal, dotted}
-use Rattle.const_oid_identifiers.proofs.DottedLaws.{decimal-one, decimal-more, dotted-cons}
-use Rattle.const_oid_identifiers.proofs.EncodingLaws.{length-digits-more, length-digits-pos, length-arc_octets}
+use Rattle.const_oid.specs.Digits.{digits}
+use Rattle.const_oid.specs.IdentifierOctets.{arc_octets, identifier_octets, IsIdentifier}
+use Rattle.const_oid.specs.DottedText.{decimal, dot_decimal, dotted}
+use Rattle.const_oid.proofs.DottedLaws.{decimal-one, decimal-more, dotted-cons}
+use Rattle.const_oid.proofs.EncodingLaws.{length-digits-more, length-digits-pos, length-arc_octets}
 
 length-decimal-one : (n : ℕ) → n < 10 → length (decimal n) ≡ 1
 length-decimal-one n l = ap length (decimal-one n l)

@@ -5,16 +5,16 @@ use Rattle.std.specs.List.{slice_split, onto_first, join_with_byte}
 use Rattle.std.proofs.lemmas.Int.Digits.{number_push}
 use Rattle.std.proofs.lemmas.Bool.{lt-ltb, le-ltb, lt-leb, le-leb, cases_lt, cases_eq}
 use Rattle.std.proofs.lemmas.List.Splits.{slice_split-cons_yes, slice_split-cons_no}
-use Rattle.const_oid_identifiers.specs.declared.error.Error.{Error}
-use Rattle.const_oid_identifiers.specs.DottedText.{decimal, dot_decimal, dotted}
-use Rattle.const_oid_identifiers.specs.IdentifierOctets.{identifier_octets}
-use Rattle.const_oid_identifiers.specs.ArcLists.{is_misplaced, add_arc, whole_arcs, and_then}
-use Rattle.const_oid_identifiers.specs.TextReading.{with_digit, and_value, text_arcs, read_text}
+use Rattle.const_oid.specs.declared.error.Error.{Error}
+use Rattle.const_oid.specs.DottedText.{decimal, dot_decimal, dotted}
+use Rattle.const_oid.specs.IdentifierOctets.{identifier_octets}
+use Rattle.const_oid.specs.ArcLists.{is_misplaced, add_arc, whole_arcs, and_then}
+use Rattle.const_oid.specs.TextReading.{with_digit, and_value, text_arcs, read_text}
 use Rattle.const_oid.specs.LeadingZeros.{without_zeros, without_leading_zeros}
-use Rattle.const_oid_identifiers.proofs.DigitLaws.{digits-number_from_digits, below-push}
-use Rattle.const_oid_identifiers.proofs.DottedLaws.{decimal-one, dotted-cons}
-use Rattle.const_oid_identifiers.proofs.TextLaws.{text-digit, text-early, text-trailing, text-dot, text-none, text-last}
-use Rattle.const_oid_identifiers.proofs.EncodingLaws.{add_arc-misplaced, add_arc-long, add_arc-ok, whole-few, whole-many}
+use Rattle.const_oid.proofs.DigitLaws.{digits-number_from_digits, below-push}
+use Rattle.const_oid.proofs.DottedLaws.{decimal-one, dotted-cons}
+use Rattle.const_oid.proofs.TextLaws.{text-digit, text-early, text-trailing, text-dot, text-none, text-last}
+use Rattle.const_oid.proofs.EncodingLaws.{add_arc-misplaced, add_arc-long, add_arc-ok, whole-few, whole-many}
 
 -- One piece
 

@@ -1,11 +1,11 @@
 -- A database of identifiers and their names: first match, and filter.
 use Rattle.std.specs.Prelude.{ℕ, List, [], ◌∷◌, Option, Some, None, map, nat_eq, if◌then◌else◌}
 use Rattle.std.specs.Prelude.{Result, Ok, Err, unwrap_or}
-use Rattle.const_oid_identifiers.specs.declared.error.Error.{Error}
+use Rattle.const_oid.specs.declared.error.Error.{Error}
 use Rattle.std.specs.Borrow.{Bor}
 use Rattle.std.specs.Char.{to_ascii_lowercase}
 use Rattle.std.specs.Cmp.Lexicographic.{pointwise}
-use Rattle.const_oid_identifiers.specs.IdentifierOctets.{identifier_octets}
+use Rattle.const_oid.specs.IdentifierOctets.{identifier_octets}
 
 -- an entry: an identifier by its arcs, and its name
 abbrev pub Entry : Type 0

@@ -1,6 +1,6 @@
 //! Types that have an identifier.
 
-use const_oid_identifiers::ObjectIdentifier;
+use crate::ObjectIdentifier;
 
 /// A type that has an identifier.
 pub trait AssociatedOid {

@@ -2,7 +2,7 @@
 
 ghost use Rattle.std.specs.Prelude.{◌≡◌, ℕ, List, Option};
 
-use const_oid_identifiers::{ObjectIdentifier, Result};
+use crate::{ObjectIdentifier, Result};
 
 /// An identifier and its name.
 pub type Entry<'a> = (&'a ObjectIdentifier<39>, &'a str);
@@ -25,9 +25,9 @@ impl<'a> Database<'a> {
     ghost use Rattle.std.specs.Prelude.{◌≡◌, option_map, IfErr};
     ghost use Rattle.const_oid.specs.Databases.{entries_of, remaining_names};
     ghost use Rattle.const_oid.specs.Names.{names_of, first, by_name, resolved};
-    ghost use Rattle.const_oid_identifiers.specs.TextReading.{read_text};
-    ghost use Rattle.const_oid_identifiers.specs.TextFaults.{IsTextFault};
-    ghost use Rattle.const_oid_identifiers.specs.Bound.{Bound};
+    ghost use Rattle.const_oid.specs.TextReading.{read_text};
+    ghost use Rattle.const_oid.specs.TextFaults.{IsTextFault};
+    ghost use Rattle.const_oid.specs.Bound.{Bound};
     ghost use Rattle.std.specs.Result.{result_map_both};
 
     /// A database of these entries.

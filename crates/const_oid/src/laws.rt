@@ -1,27 +1,27 @@
 //! Laws about identifiers: each function does nothing, and its contract is the law.
 
 ghost use Rattle.std.specs.Prelude.{◌≡◌, ◌≢◌, ◌↔◌, ℕ, ◌+◌, ◌*◌, ◌<◌, ◌≤◌, ◌++◌, ◌∷◌, [], List, length, slice_index, count_by, nat_lt, IsTrue, Option, Some, Result, Ok, Err};
-ghost use Rattle.const_oid_identifiers.specs.declared.error.Error.{Error};
-ghost use Rattle.const_oid_identifiers.specs.declared.error.Error.TheVariants as errors;
-ghost use Rattle.const_oid_identifiers.specs.Bound.{Bound};
-ghost use Rattle.const_oid_identifiers.specs.IdentifierOctets.{identifier_octets, IsIdentifier, read_identifier};
-ghost use Rattle.const_oid_identifiers.specs.OctetFaults.{IsOctetsFault};
-ghost use Rattle.const_oid_identifiers.specs.ArcLists.{gather};
-ghost use Rattle.const_oid_identifiers.specs.TextReading.{read_text};
-ghost use Rattle.const_oid_identifiers.specs.DottedText.{dotted};
+ghost use Rattle.const_oid.specs.declared.error.Error.{Error};
+ghost use Rattle.const_oid.specs.declared.error.Error.TheVariants as errors;
+ghost use Rattle.const_oid.specs.Bound.{Bound};
+ghost use Rattle.const_oid.specs.IdentifierOctets.{identifier_octets, IsIdentifier, read_identifier};
+ghost use Rattle.const_oid.specs.OctetFaults.{IsOctetsFault};
+ghost use Rattle.const_oid.specs.ArcLists.{gather};
+ghost use Rattle.const_oid.specs.TextReading.{read_text};
+ghost use Rattle.const_oid.specs.DottedText.{dotted};
 ghost use Rattle.const_oid.specs.LeadingZeros.{without_leading_zeros};
-ghost use Rattle.const_oid_identifiers.specs.Family.{child_of, parent_of};
-ghost use Rattle.const_oid_identifiers.specs.Orders.{owned_cmp};
-ghost use Rattle.const_oid_identifiers.specs.Comparing.{owned_eq, borrowed_cmp, IsAtMost};
+ghost use Rattle.const_oid.specs.Family.{child_of, parent_of};
+ghost use Rattle.const_oid.specs.Orders.{owned_cmp};
+ghost use Rattle.const_oid.specs.Comparing.{owned_eq, borrowed_cmp, IsAtMost};
 ghost use Rattle.std.specs.declared.cmp.Ordering.TheVariants.{Less, Equal};
 ghost use Rattle.std.specs.Ordering.{nat_cmp};
 ghost use Rattle.std.specs.Hash as fed;
-ghost use Rattle.const_oid_identifiers.specs.References.{reference_arcs};
-ghost use Rattle.const_oid_identifiers.specs.ArcFaults.{IsArcsFault};
-ghost use Rattle.const_oid_identifiers.specs.TextFaults.{IsText, IsTextFault};
+ghost use Rattle.const_oid.specs.References.{reference_arcs};
+ghost use Rattle.const_oid.specs.ArcFaults.{IsArcsFault};
+ghost use Rattle.const_oid.specs.TextFaults.{IsText, IsTextFault};
 ghost use Rattle.std.specs.List.{AllByRecursion};
 
-use const_oid_identifiers::ObjectIdentifierRef;
+use crate::ObjectIdentifierRef;
 use std::cmp::Ordering;
 
 /// What is read of octets is an identifier within the bound and the capacity, and the octets are its own.

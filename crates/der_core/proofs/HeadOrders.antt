@@ -7,8 +7,8 @@ use Rattle.std.proofs.lemmas.Nat.{div-add-mod'}
 use Rattle.std.specs.Ordering.{nat_cmp, ordering_then}
 use Rattle.std.specs.declared.cmp.Ordering.TheVariants.{Less, Equal, Greater}
 use Rattle.std.specs.Int.Digits.{number_from_digits, number_from_digits_after, AllBelowBase}
-use Rattle.const_oid_identifiers.specs.Digits.{digits}
-use Rattle.const_oid_identifiers.proofs.DigitLaws.{digits-Digits, digits-one, digits-more, halved}
+use Rattle.const_oid.specs.Digits.{digits}
+use Rattle.const_oid.proofs.DigitLaws.{digits-Digits, digits-one, digits-more, halved}
 use Rattle.der_core_head.specs.declared.tag.Tag.{Tag}
 use Rattle.der_core_head.specs.Tags.{IsTag, tag_octets, tag_at}
 use Rattle.der_core_head.specs.Heads.{length_octets, length_at, head_octets, tlv}

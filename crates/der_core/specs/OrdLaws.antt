@@ -4,8 +4,8 @@ use Rattle.std.proofs.Common.{refl, sym, ap, ◌∙◌}
 use Rattle.std.specs.Ordering.{nat_cmp, bool_cmp, ordering_then}
 use Rattle.std.specs.Cmp.{nat_cmp_total, tied_itself}
 use Rattle.std.specs.declared.cmp.Ordering.TheVariants.{Equal}
-use Rattle.const_oid_identifiers.specs.IdentifierOctets.{identifier_octets}
-use Rattle.const_oid_identifiers.specs.Orders.{owned_cmp}
+use Rattle.const_oid.specs.IdentifierOctets.{identifier_octets}
+use Rattle.const_oid.specs.Orders.{owned_cmp}
 use Rattle.der_core_head.specs.Leaves.{Leaf, LeafValue, leaf_contents as octets_of_leaf, boolean, null, identifier}
 use Rattle.der_core_head.specs.Shapes.{leaf, contents, IsContent}
 use Rattle.der_core.specs.Orders.{octets_cmp, contents_cmp}

@@ -8,7 +8,7 @@ ghost use Rattle.der_core.specs.Orders.{contents_cmp, encodings_cmp, Overflows};
 
 use crate::headers::length_cmp;
 use crate::order::ValueOrd;
-use const_oid_identifiers::ObjectIdentifier;
+use const_oid::ObjectIdentifier;
 use der_core_coding::values::{EncodeValue, FixedTag, ShapedValue};
 use der_core_head::Error;
 use std::cmp::Ordering;
@@ -85,7 +85,7 @@ impl OrdIsValueOrd for () {
 }
 
 impl<const MAX_SIZE: usize> OrdIsValueOrd for ObjectIdentifier<MAX_SIZE> {
-    ghost use Rattle.const_oid_identifiers.specs.Bound.{Bound};
+    ghost use Rattle.const_oid.specs.Bound.{Bound};
     ghost use Rattle.der_core.specs.OrdLaws.{identifier_order};
 
     ghost order = { identifier_order Bound MAX_SIZE };

@@ -5,7 +5,7 @@ ghost use Rattle.der_core_head.specs.Integers.{integer_octets};
 ghost use Rattle.der_core.specs.Orders.{octets_cmp};
 
 use crate::order::ValueOrd;
-use const_oid_identifiers::ObjectIdentifier;
+use const_oid::ObjectIdentifier;
 use der_core_coding::values::Integer;
 use der_core_head::Error;
 use der_core_octets::{BytesOwned, BytesRef, StringOwned, StringRef, integer_octets_of};

@@ -3,7 +3,7 @@ use Rattle.std.proofs.Common.{ℕ, zero, suc, ◌<◌, ◌≤◌, ◌⊎◌, inl
 use Rattle.std.specs.Prelude.{◌↔◌, flat_map, Contains}
 use Rattle.std.specs.List.{AllByRecursion}
 use Rattle.std.proofs.lemmas.Bool.{cases_lt}
-use Rattle.const_oid_identifiers.specs.IdentifierOctets.{identifier_octets, IsIdentifier}
+use Rattle.const_oid.specs.IdentifierOctets.{identifier_octets, IsIdentifier}
 use Rattle.der_core_head.specs.Leaves.{Leaf, LeafValue, IsLeafValue, boolean, null, integer, bits, octets, identifier, utc_time, generalized_time, text, utf8, bmp, named}
 use Rattle.der_core_head.specs.Shapes.{Shape, Content, Body, tagged, any, either, optional, defaulted, nothing, leaf, nested, done, field, only, many, exactly, few, in_order, Value, ContentValue, BodyValue, IsValid, IsContent, IsBody}
 use Rattle.der_core_head.specs.Bounds.{IsLeafOf, IsOf, IsContentOf, IsBodyOf, IsLeafUnder, IsValidUnder, IsContentUnder, IsBodyUnder, leaf_identifiers, identifiers_of, content_identifiers, body_identifiers, AreBelow, HoldsLarge}

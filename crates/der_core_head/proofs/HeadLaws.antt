@@ -8,8 +8,8 @@ use Rattle.std.proofs.lemmas.Slice.Eq.{bytes_eq-Decides}
 use Rattle.std.proofs.lemmas.Int.Digits.{number_lt}
 use Rattle.std.specs.Int.Digits.{number_from_digits}
 use Rattle.std.specs.Str.{bytes_eq}
-use Rattle.const_oid_identifiers.specs.Digits.{digits}
-use Rattle.const_oid_identifiers.proofs.DigitLaws.{digits-Digits, split-same_length}
+use Rattle.const_oid.specs.Digits.{digits}
+use Rattle.const_oid.proofs.DigitLaws.{digits-Digits, split-same_length}
 use Rattle.der_core_head.specs.declared.error.ErrorKind.TheVariants as kinds
 use Rattle.der_core_head.specs.declared.tag.Tag.{Tag}
 use Rattle.der_core_head.specs.Octets.{◌>>=◌, IsOctets}

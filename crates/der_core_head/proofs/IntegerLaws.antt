@@ -5,8 +5,8 @@ use Rattle.std.specs.List.{list_any}
 use Rattle.std.specs.Int.Digits.{number_from_digits}
 use Rattle.std.proofs.lemmas.Bool.{ltb-true, lt-ltb, le-ltb, eqb-true, eq-eqb, ne_eqb, eqb-false, ltb-false, cases_lt, cases_eq, or_cases, and_left, and_right, or_from, or_left, or_right, or_parts, and_cases, not_from_true, not-false, false≢true, cond-true, cond-false}
 use Rattle.std.proofs.lemmas.List.{length-map}
-use Rattle.const_oid_identifiers.specs.Digits.{digits}
-use Rattle.const_oid_identifiers.proofs.DigitLaws.{digits-Digits, digits-one, first_of_digits-pos, digits-number_from_digits}
+use Rattle.const_oid.specs.Digits.{digits}
+use Rattle.const_oid.proofs.DigitLaws.{digits-Digits, digits-one, first_of_digits-pos, digits-number_from_digits}
 use Rattle.der_core_head.specs.declared.error.ErrorKind.TheVariants as kinds
 use Rattle.der_core_head.specs.declared.tag.Tag.{Tag}
 use Rattle.der_core_head.specs.Octets.{IsOctets, ◌>>=◌}

@@ -2,9 +2,9 @@
 use Rattle.std.proofs.Common.{◌≡◌, ℕ, ◌≤◌, Bool, true, false, cond, List, [], ◌∷◌, length, Result, Ok, Err, refl, ap, subst, ◌∙◌, arith, ◌⊎◌, inl, inr}
 use Rattle.std.specs.Prelude.{◌==◌}
 use Rattle.std.proofs.lemmas.Bool.{eqb-true}
-use Rattle.const_oid_identifiers.specs.IdentifierOctets.{read_identifier}
-use Rattle.const_oid_identifiers.specs.declared.error.Error.{Error as OidError}
-use Rattle.const_oid_identifiers.proofs.IdentifierLaws.{identifier_sound, identifier_again, identifier_below}
+use Rattle.const_oid.specs.IdentifierOctets.{read_identifier}
+use Rattle.const_oid.specs.declared.error.Error.{Error as OidError}
+use Rattle.const_oid.proofs.IdentifierLaws.{identifier_sound, identifier_again, identifier_below}
 use Rattle.der_core_head.specs.declared.error.ErrorKind.TheVariants as kinds
 use Rattle.der_core_head.specs.declared.tag.Tag.{Tag}
 use Rattle.der_core_head.specs.Octets.{IsOctets}

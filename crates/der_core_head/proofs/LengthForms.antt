@@ -6,8 +6,8 @@ use Rattle.std.proofs.lemmas.Slice.Eq.{bytes_eq-Decides}
 use Rattle.std.proofs.lemmas.Int.Digits.{number_after_ge}
 use Rattle.std.specs.Int.Digits.{number_from_digits, AllBelowBase}
 use Rattle.std.specs.Str.{bytes_eq}
-use Rattle.const_oid_identifiers.specs.Digits.{digits}
-use Rattle.const_oid_identifiers.proofs.DigitLaws.{digits-one, digits-more, digits-number_from_digits, first_of_digits-pos}
+use Rattle.const_oid.specs.Digits.{digits}
+use Rattle.const_oid.proofs.DigitLaws.{digits-one, digits-more, digits-number_from_digits, first_of_digits-pos}
 use Rattle.der_core_head.specs.declared.error.ErrorKind.TheVariants as kinds
 use Rattle.der_core_head.specs.declared.tag.Tag.{Tag}
 use Rattle.der_core_head.specs.Heads.{length_octets, length_at, shortest}

@@ -4,8 +4,8 @@ use Rattle.std.proofs.lemmas.Bool.{cases_lt, lt-ltb, le-ltb, ltb-true, ltb-false
 use Rattle.std.specs.List.{find}
 use Rattle.std.specs.Int.Digits.{number_from_digits_after, AllBelowBase}
 use Rattle.std.proofs.lemmas.Int.Digits.{number_after_ge}
-use Rattle.const_oid_identifiers.specs.Digits.{digits, marked}
-use Rattle.const_oid_identifiers.proofs.DigitLaws.{Digits, digits-Digits, first_of_digits-pos, digits-number_from_digits, marked_below}
+use Rattle.const_oid.specs.Digits.{digits, marked}
+use Rattle.const_oid.proofs.DigitLaws.{Digits, digits-Digits, first_of_digits-pos, digits-number_from_digits, marked_below}
 use Rattle.der_core_head.specs.declared.error.ErrorKind.{ErrorKind}
 use Rattle.der_core_head.specs.declared.error.ErrorKind.TheVariants as kinds
 use Rattle.der_core_head.specs.declared.tag.Tag.{Tag}

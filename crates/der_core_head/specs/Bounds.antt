@@ -4,7 +4,7 @@ use Rattle.std.specs.Prelude.{◌≡◌, ℕ, ◌<◌, ◌≤◌, List, [], ◌�
 use Rattle.std.proofs.Common.{inl, inr}
 use Rattle.std.specs.List.{AllByRecursion}
 use Rattle.std.specs.Bool.{⊤}
-use Rattle.const_oid_identifiers.specs.IdentifierOctets.{identifier_octets, IsIdentifier}
+use Rattle.const_oid.specs.IdentifierOctets.{identifier_octets, IsIdentifier}
 use Rattle.der_core_head.specs.Octets.{IsOctets}
 use Rattle.der_core_head.specs.Tags.{IsTag}
 use Rattle.der_core_head.specs.Heads.{tlv, Fits}

@@ -1,7 +1,7 @@
 -- Lengths, headers and whole encodings (X.690 8.1.3, 10.1).
 use Rattle.std.specs.Prelude.{ℕ, ◌+◌, ◌-◌, ◌<◌, List, [], ◌∷◌, ◌++◌, length, take, drop, Result, Ok, Err, nat_lt, bytes_eq, ◌==◌, if◌then◌else◌}
 use Rattle.std.specs.Int.Digits.{number_from_digits}
-use Rattle.const_oid_identifiers.specs.Digits.{digits}
+use Rattle.const_oid.specs.Digits.{digits}
 use Rattle.der_core_head.specs.declared.error.ErrorKind.{ErrorKind}
 use Rattle.der_core_head.specs.declared.error.ErrorKind.TheVariants as kinds
 use Rattle.der_core_head.specs.declared.tag.Tag.{Tag}

@@ -173,10 +173,10 @@ impl<T: Drop> From<AllocFailed<T>> for Error {
     }
 }
 
-impl From<const_oid_identifiers::Error> for Error {
+impl From<const_oid::Error> for Error {
     ghost from_gives = { λ _ e. e.kind ≡ OidMalformed };
 
-    fn from(_error: const_oid_identifiers::Error) -> Error {
+    fn from(_error: const_oid::Error) -> Error {
         Error::from(ErrorKind::OidMalformed)
     }
 }

@@ -5,7 +5,7 @@ ghost use Rattle.der_core_head.specs.Spelling.{is_apart, is_element, is_content_
 
 use crate::decode::{FixedTag, Shaped, ShapedValue};
 use crate::integers::Integer;
-use const_oid_identifiers::ObjectIdentifier;
+use const_oid::ObjectIdentifier;
 use der_core_octets::{BytesOwned, BytesRef, StringOwned, StringRef};
 
 /// A type whose values are told apart by their first tags, so that each has one spelling.

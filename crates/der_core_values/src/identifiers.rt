@@ -1,7 +1,7 @@
 //! OBJECT IDENTIFIER.
 
 ghost use Rattle.std.specs.Prelude.{◌≡◌};
-ghost use Rattle.const_oid_identifiers.specs.Bound.{Bound};
+ghost use Rattle.const_oid.specs.Bound.{Bound};
 ghost use Rattle.der_core_head.specs.declared.tag.Tag.TheVariants.{ObjectIdentifier as ObjectIdentifierTag};
 ghost use Rattle.der_core_head.specs.Shapes.{leaf};
 ghost use Rattle.der_core_head.specs.Leaves.{identifier};
@@ -9,7 +9,7 @@ ghost use Rattle.der_core_head.specs.Leaves.{identifier};
 use crate::decode::{DecodeValue, FixedTag, ShapedValue};
 use crate::encode::EncodeValue;
 use crate::leaves::{Leaf, decode_leaf};
-use const_oid_identifiers::ObjectIdentifier;
+use const_oid::ObjectIdentifier;
 use der_core_head::{Error, ErrorKind, Length, Tag};
 use der_core_headers::Header;
 use der_core_octets::{Reader, Writer, slice_len};

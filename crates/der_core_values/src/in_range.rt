@@ -13,7 +13,7 @@ ghost use Rattle.der_core_head.specs.Ranges.{IsInRange, IsContentInRange, IsBody
 use crate::decode::{FixedTag, Shaped, ShapedValue};
 use crate::fields::Fields;
 use crate::integers::Integer;
-use const_oid_identifiers::ObjectIdentifier;
+use const_oid::ObjectIdentifier;
 use der_core_head::number_of;
 use der_core_octets::{BytesOwned, BytesRef, StringOwned, StringRef};
 use std::marker::PhantomData;

@@ -5,7 +5,7 @@ use crate::questions::{Asked, Question, answer_as};
 use crate::refusals::Refusal;
 use crate::shown::{named, octets_of, written_in};
 use crate::small::Small;
-use const_oid_identifiers::ObjectIdentifier;
+use const_oid::ObjectIdentifier;
 use der_core::{
     Decode, DecodeValue, Encode, EncodeValue, EncodingRules, Error, FixedTag, SliceReader, from_der,
 };

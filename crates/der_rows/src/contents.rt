@@ -2,7 +2,7 @@
 
 use crate::refusals::Refusal;
 use crate::shown::{hex_of, name_of, octets_of};
-use const_oid_identifiers::ObjectIdentifier;
+use const_oid::ObjectIdentifier;
 use der_core::{
     BytesOwned, BytesRef, Decode, DecodeValue, EncodeValue, EncodeValueRef, FixedTag, Header,
     Length, OrdIsValueOrd, SliceReader, StringOwned, StringRef, Tag, ValueOrd, der_cmp_by_ord,

@@ -2,8 +2,7 @@
 
 use crate::refusals::Refusal;
 use crate::shown::{debugged, hex_of, name_of, octets_of, shown};
-use const_oid::Database;
-use const_oid_identifiers::{ObjectIdentifier, ObjectIdentifierRef};
+use const_oid::{Database, ObjectIdentifier, ObjectIdentifierRef};
 use std::alloc::Global;
 use std::fmt::Display;
 
@@ -23,10 +22,7 @@ pub fn answer(alloc: Global, word: &str, rest: &str) -> Result<String, Refusal> 
 }
 
 /// The octets of the identifier of an outcome.
-fn octets_in(
-    alloc: Global,
-    outcome: const_oid_identifiers::Result<Identifier>,
-) -> Result<String, Refusal> {
+fn octets_in(alloc: Global, outcome: const_oid::Result<Identifier>) -> Result<String, Refusal> {
     hex_of(alloc, outcome?.as_bytes())
 }
 

@@ -5,7 +5,7 @@ use crate::questions::{
 };
 use crate::refusals::Refusal;
 use crate::{key_usages, texts};
-use const_oid_identifiers::ObjectIdentifier;
+use const_oid::ObjectIdentifier;
 use der_core::{Explicit, Implicit, from_der};
 use der_types_numbers::{Int, IntRef, Uint, UintRef};
 use der_types_values::{BitString, BitStringRef, Null, OctetString, OctetStringRef, SequenceRef};

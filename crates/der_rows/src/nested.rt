@@ -7,7 +7,7 @@ use crate::questions::{
 use crate::record::Record;
 use crate::refusals::Refusal;
 use crate::{lists, ten_fields};
-use const_oid_identifiers::ObjectIdentifier;
+use const_oid::ObjectIdentifier;
 use der_core::{Explicit, Implicit, StrictSetOf, WithDefault};
 use std::alloc::Global;
 use std::marker::PhantomData;

@@ -17,7 +17,7 @@ pub enum Refusal {
     /// Its octets spell no value of the type, or its values aren't written.
     Der(Error),
     /// Its text, octets or arcs spell no identifier.
-    Identifier(const_oid_identifiers::Error),
+    Identifier(const_oid::Error),
 }
 
 impl Refusal {
@@ -54,8 +54,8 @@ impl From<Error> for Refusal {
     }
 }
 
-impl From<const_oid_identifiers::Error> for Refusal {
-    fn from(error: const_oid_identifiers::Error) -> Refusal {
+impl From<const_oid::Error> for Refusal {
+    fn from(error: const_oid::Error) -> Refusal {
         Refusal::Identifier(error)
     }
 }

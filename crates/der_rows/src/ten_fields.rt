@@ -7,7 +7,7 @@ use crate::questions::{Asked, Question, answer_with_debug};
 use crate::record::Record;
 use crate::refusals::Refusal;
 use crate::shown::named;
-use const_oid_identifiers::ObjectIdentifier;
+use const_oid::ObjectIdentifier;
 use der_core::{
     Choice, Decode, DerOrd, Encode, EncodeRef, Error, Explicit, Implicit, Length, OneOf2, Reader,
     Shaped, StrictSetOf, Tag, WithDefault, Writer, from_der,

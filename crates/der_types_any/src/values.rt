@@ -1,7 +1,7 @@
 //! Any value as a truth value, NULL, an identifier, a string of bits or octets or a SEQUENCE, and back.
 
 ghost use Rattle.std.specs.Prelude.{◌≡◌, []};
-ghost use Rattle.const_oid_identifiers.specs.Bound.{Bound};
+ghost use Rattle.const_oid.specs.Bound.{Bound};
 ghost use Rattle.der_core_head.specs.declared.tag.Tag.TheVariants as tags;
 ghost use Rattle.der_core_head.specs.Leaves.{boolean, null, bits, octets, identifier};
 ghost use Rattle.der_core_head.specs.Reading.{GivesNow};
@@ -14,7 +14,7 @@ ghost use Rattle.der_types_values.specs.Sequences.{fields_lent};
 use crate::any::Any;
 use crate::any_ref::AnyRef;
 use crate::conversions::check_tag;
-use const_oid_identifiers::ObjectIdentifier;
+use const_oid::ObjectIdentifier;
 use der_core::{Error, ErrorKind, Tag};
 use der_types_values::{BitStringRef, Null, OctetStringRef, SequenceRef};
 

@@ -3,8 +3,8 @@ use Rattle.std.proofs.Common.{◌≡◌, ℕ, ◌<◌, ◌⊎◌, inl, inr, true
 use Rattle.std.specs.Prelude.{nat_lt, ◌==◌, ◌&&◌, not}
 use Rattle.std.specs.Int.Digits.{number_from_digits}
 use Rattle.std.proofs.lemmas.Bool.{eqb-true, eqb-false, or_cases, and_parts, not-true}
-use Rattle.const_oid_identifiers.specs.Digits.{digits}
-use Rattle.const_oid_identifiers.proofs.DigitLaws.{digits-number_from_digits}
+use Rattle.const_oid.specs.Digits.{digits}
+use Rattle.const_oid.proofs.DigitLaws.{digits-number_from_digits}
 use Rattle.der_core_head.specs.Integers.{integer_of, is_redundant}
 use Rattle.der_core_head.proofs.Bytes.{IsBytes, octets_are}
 use Rattle.der_types_numbers.specs.Numbers.{has_leading_zero}

@@ -9,9 +9,9 @@ use Rattle.std.specs.Cmp.Lexicographic.{pointwise, slice_cmp}
 use Rattle.std.specs.Int.Digits.{number_from_digits, number_from_digits_after, AllBelowBase}
 use Rattle.std.specs.Ordering.{nat_cmp, ordering_then, is_eq, eq_by_cmp}
 use Rattle.std.specs.declared.cmp.Ordering.{Ordering}
-use Rattle.const_oid_identifiers.specs.Digits.{digits}
-use Rattle.const_oid_identifiers.specs.Orders.{sized_cmp, sized_cmp_total, sized_cmp_ties}
-use Rattle.const_oid_identifiers.proofs.DigitLaws.{number_from_digits-digits, digits-Digits, digits-one, digits-more, halved}
+use Rattle.const_oid.specs.Digits.{digits}
+use Rattle.const_oid.specs.Orders.{sized_cmp, sized_cmp_total, sized_cmp_ties}
+use Rattle.const_oid.proofs.DigitLaws.{number_from_digits-digits, digits-Digits, digits-one, digits-more, halved}
 use Rattle.der_core_head.specs.Integers.{every, natural, positive, integer_octets}
 use Rattle.der_core_head.specs.Leaves.{integer}
 use Rattle.der_core_head.specs.Shapes.{leaf, contents, IsContent}

@@ -3,8 +3,8 @@
 ghost use Rattle.std.specs.Prelude.{◌≡◌, ◌<◌, pos, length, false, IfOk};
 ghost use Rattle.std.specs.Int.Digits.{number_from_digits};
 ghost use Rattle.std.specs.List.{cons_option};
-ghost use Rattle.const_oid_identifiers.specs.Digits.{digits};
-ghost use Rattle.const_oid_identifiers.specs.Orders as orders;
+ghost use Rattle.const_oid.specs.Digits.{digits};
+ghost use Rattle.const_oid.specs.Orders as orders;
 ghost use Rattle.der_core_head.specs.Integers.{integer_of, integer_octets, is_redundant};
 ghost use Rattle.der_core_head.specs.Reading.{GivesNow};
 ghost use Rattle.der_core_head.specs.Writing.{Writes, put, fit_len};

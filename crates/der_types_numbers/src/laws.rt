@@ -1,7 +1,7 @@
 //! Laws of whole numbers: a borrowed number and its owned form agree.
 
 ghost use Rattle.std.specs.Prelude.{◌≡◌};
-ghost use Rattle.const_oid_identifiers.specs.Digits.{digits};
+ghost use Rattle.const_oid.specs.Digits.{digits};
 ghost use Rattle.der_core_head.specs.Integers.{integer_octets};
 ghost use Rattle.der_core_head.specs.Shapes.{contents};
 ghost use Rattle.der_types_numbers.specs.Answers.{Answers};

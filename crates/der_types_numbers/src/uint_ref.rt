@@ -7,7 +7,7 @@ ghost use Rattle.std.specs.Cmp.Lexicographic.{pointwise, bytes_decides, nat_list
 ghost use Rattle.std.specs.Hash as fed;
 ghost use Rattle.std.specs.Ordering.{nat_cmp};
 ghost use Rattle.std.specs.Int.Digits.{number_from_digits};
-ghost use Rattle.const_oid_identifiers.specs.Digits.{digits};
+ghost use Rattle.const_oid.specs.Digits.{digits};
 ghost use Rattle.der_core_head.specs.declared.tag.Tag.TheVariants.{Integer as IntegerTag};
 ghost use Rattle.der_core_head.specs.Integers.{natural, integer_of, integer_octets};
 ghost use Rattle.der_core_head.specs.Leaves.{integer, leaf_read};

@@ -1,7 +1,7 @@
 -- The octets of a version.
 use Rattle.std.proofs.Common.{◌≡◌, [], ◌∷◌, refl, arith}
 use Rattle.std.specs.Prelude.{pos}
-use Rattle.const_oid_identifiers.proofs.DigitLaws.{digits-one}
+use Rattle.const_oid.proofs.DigitLaws.{digits-one}
 use Rattle.der_core_head.specs.Heads.{tlv, head_octets, length_octets}
 use Rattle.der_core_head.specs.Integers.{integer_octets}
 use Rattle.der_core_head.specs.Shapes.{octets_of, contents, IsValid, IsContent}

@@ -4,9 +4,9 @@ use Rattle.std.specs.Prelude.{⊤, pos, ◌==◌, nat_lt, map, reverse, if◌the
 use Rattle.std.specs.Int.{reverse_bits, w8}
 use Rattle.std.proofs.lemmas.Bool.{lt-ltb}
 use Rattle.std.proofs.lemmas.List.{length-append, length-map, length-reverse}
-use Rattle.const_oid_identifiers.specs.Bound.{Bound}
-use Rattle.const_oid_identifiers.specs.IdentifierOctets.{IsIdentifier, identifier_octets, arc_octets}
-use Rattle.const_oid_identifiers.specs.Digits.{digits, digits_within, marked}
+use Rattle.const_oid.specs.Bound.{Bound}
+use Rattle.const_oid.specs.IdentifierOctets.{IsIdentifier, identifier_octets, arc_octets}
+use Rattle.const_oid.specs.Digits.{digits, digits_within, marked}
 use Rattle.der_core_head.proofs.LengthForms.{length-digits-le}
 use Rattle.der_core_head.specs.declared.tag.Tag.{Tag}
 use Rattle.der_core_head.specs.declared.tag.Tag.TheVariants as tags

@@ -1,10 +1,10 @@
 -- Identifiers each of whose arcs is one octet, and two others.
 use Rattle.std.proofs.Common.{◌≡◌, ◌<◌, ℕ, List, [], ◌∷◌, ◌++◌, Ok, refl, ap, sym, ◌∙◌, arith}
 use Rattle.std.specs.List.{AllByRecursion, flat_map}
-use Rattle.const_oid_identifiers.specs.Bound.{Bound}
-use Rattle.const_oid_identifiers.specs.IdentifierOctets.{arc_octets, read_arcs, read_identifier, with_arc}
-use Rattle.const_oid_identifiers.proofs.EncodingLaws.{arc_octets-one}
-use Rattle.const_oid_identifiers.proofs.IdentifierLaws.{read_arcs-arcs}
+use Rattle.const_oid.specs.Bound.{Bound}
+use Rattle.const_oid.specs.IdentifierOctets.{arc_octets, read_arcs, read_identifier, with_arc}
+use Rattle.const_oid.proofs.EncodingLaws.{arc_octets-one}
+use Rattle.const_oid.proofs.IdentifierLaws.{read_arcs-arcs}
 use Rattle.x509_cert_builders.specs.Profiles.{elliptic_curve_key, id_kp, rsa_encryption}
 
 abbrev AreShort : List ℕ → Type 0

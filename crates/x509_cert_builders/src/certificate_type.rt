@@ -11,7 +11,7 @@ ghost use Rattle.x509_cert_builders.specs.Subscribers.{SameAttributes, all_stays
 use crate::attribute_types as types;
 use crate::domain_validated::DomainValidated;
 use crate::error::Error;
-use const_oid_identifiers::ObjectIdentifier;
+use const_oid::ObjectIdentifier;
 use std::alloc::Global;
 use x509_cert_anchors::{
     AttributeTypeAndValue, GeneralNames, Name, RdnSequence, RelativeDistinguishedName,

@@ -6,7 +6,7 @@ ghost use Rattle.x509_cert_builders.specs.declared.error.Error.TheVariants.{Asn1
 ghost use Rattle.x509_cert_builders.specs.Refusals.{IsWantOfMemory};
 
 use crate::sign_error::SignError;
-use const_oid_identifiers::ObjectIdentifier;
+use const_oid::ObjectIdentifier;
 use std::alloc::{AllocError, AllocFailed};
 use std::fmt;
 

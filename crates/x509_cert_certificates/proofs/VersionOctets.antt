@@ -2,7 +2,7 @@
 use Rattle.std.proofs.Common.{◌≡◌, ℕ, ◌<◌, [], ◌∷◌, refl, arith}
 use Rattle.std.specs.Prelude.{pos}
 use Rattle.std.proofs.lemmas.Bool.{lt-ltb}
-use Rattle.const_oid_identifiers.proofs.DigitLaws.{digits-one}
+use Rattle.const_oid.proofs.DigitLaws.{digits-one}
 use Rattle.der_core_head.specs.Heads.{tlv, head_octets, length_octets}
 use Rattle.der_core_head.specs.Integers.{integer_octets}
 use Rattle.der_core_head.specs.Shapes.{explicit, octets_of, contents, body_octets, IsValid, IsContent, IsBody}

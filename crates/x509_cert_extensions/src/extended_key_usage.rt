@@ -6,7 +6,7 @@ ghost use Rattle.der_core_head.specs.Grammar.{plain_list};
 ghost use Rattle.der_core_head.specs.Shapes.{nested, many};
 ghost use Rattle.x509_cert_policies.specs.Parts.{object_identifier, arc_bound};
 
-use const_oid_identifiers::ObjectIdentifier;
+use const_oid::ObjectIdentifier;
 use der_core::{
     ApartValue, AsReadValue, DecodeValue, EncodeValue, Error, FixedTag, Header, Length, Reader,
     ShapedValue, Tag, ValueOrd, Writer,

@@ -7,8 +7,7 @@ ghost use Rattle.x509_cert_policies.specs.Parts.{extension_plain};
 ghost use Rattle.x509_cert_extensions.specs.Making.{extension_of};
 
 use crate::criticality::Criticality;
-use const_oid::AssociatedOid;
-use const_oid_identifiers::ObjectIdentifier;
+use const_oid::{AssociatedOid, ObjectIdentifier};
 use der_core::{Encode, Error, to_der};
 use std::alloc::Global;
 use x509_cert_policies::{Extension, Name, OctetString};

@@ -2,8 +2,8 @@
 use Rattle.std.proofs.Common.{◌≡◌, ℕ, false, ◌+◌, ◌<◌, List, [], ◌∷◌, ◌++◌, length, drop, refl, sym, ap, ◌∙◌, arith, inl, inr, length-append}
 use Rattle.std.specs.Prelude.{ℤ, pos}
 use Rattle.std.proofs.lemmas.Bool.{cases_lt}
-use Rattle.const_oid_identifiers.proofs.DigitLaws.{digits-one}
-use Rattle.const_oid_identifiers.specs.Digits.{digits}
+use Rattle.const_oid.proofs.DigitLaws.{digits-one}
+use Rattle.const_oid.specs.Digits.{digits}
 use Rattle.der_core_head.proofs.LengthForms.{length-short, length-long}
 use Rattle.der_core_head.specs.Heads.{tlv, head_octets, length_octets}
 use Rattle.der_core_head.specs.Integers.{integer_octets, integer_of}

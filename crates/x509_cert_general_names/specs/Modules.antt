@@ -1,6 +1,6 @@
 -- The name of a module of hardware, held as a name of a kind that an identifier tells (RFC 4108 5).
 use Rattle.std.specs.Prelude.{ℕ, List, [], ◌∷◌, Bool, Option, Some, Result, Ok}
-use Rattle.const_oid_identifiers.specs.Comparing.{owned_eq}
+use Rattle.const_oid.specs.Comparing.{owned_eq}
 use Rattle.der_core_head.specs.declared.error.ErrorKind.{ErrorKind}
 use Rattle.der_core_head.specs.declared.tag.Tag.TheVariants.{Sequence}
 use Rattle.der_core_head.specs.Octets.{◌>>=◌}

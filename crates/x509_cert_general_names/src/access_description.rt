@@ -8,7 +8,7 @@ ghost use Rattle.x509_cert_general_names.specs.Grammar.{access_description_field
 ghost use Rattle.x509_cert_general_names.specs.Views.{access_description_plain};
 
 use crate::general_name::GeneralName;
-use const_oid_identifiers::ObjectIdentifier;
+use const_oid::ObjectIdentifier;
 use der_core::making::read_fields;
 use der_core::{
     ApartValue, AsReadValue, DecodeFields, DecodeValue, EncodeFields, EncodeRef, EncodeValue,

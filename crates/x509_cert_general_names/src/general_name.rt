@@ -11,7 +11,7 @@ ghost use Rattle.x509_cert_general_names.specs.declared.general_name.GeneralName
 use crate::edi_party_name::EdiPartyName;
 use crate::implicit_ref::ImplicitRef;
 use crate::other_name::OtherName;
-use const_oid_identifiers::ObjectIdentifier;
+use const_oid::ObjectIdentifier;
 use der_core::{
     AsRead, Choice, Decode, DerOrd, Element, Encode, EncodeRef, Error, Explicit, FirstTag,
     Implicit, Length, Member, OneOf8, Reader, Shaped, Tag, Writer,

@@ -11,8 +11,7 @@ ghost use Rattle.x509_cert_general_names.specs.Modules.{PlainModule, is_of_modul
 ghost use Rattle.x509_cert_general_names.specs.Views.{hardware_module_name_plain, other_name_plain};
 
 use crate::other_name::OtherName;
-use const_oid::AssociatedOid;
-use const_oid_identifiers::ObjectIdentifier;
+use const_oid::{AssociatedOid, ObjectIdentifier};
 use der_core::making::read_fields;
 use der_core::{
     ApartValue, AsReadValue, DecodeFields, DecodeValue, EncodeFields, EncodeRef, EncodeValue,

@@ -1,5 +1,5 @@
 //! The identifiers of extensions (RFC 5280 4.2.1, 5.2).
-#![tactic(auto, unfolding(const_oid_identifiers::specs::Bound::Bound, const_oid_identifiers::specs::TextReading::text_arcs, const_oid_identifiers::specs::ArcLists::add_arc, const_oid_identifiers::specs::ArcLists::whole_arcs, const_oid_identifiers::specs::IdentifierOctets::identifier_octets, const_oid_identifiers::specs::IdentifierOctets::arc_octets, const_oid_identifiers::specs::Digits::digits, const_oid_identifiers::specs::Digits::digits_within, const_oid_identifiers::specs::Digits::marked))]
+#![tactic(auto, unfolding(const_oid::specs::Bound::Bound, const_oid::specs::TextReading::text_arcs, const_oid::specs::ArcLists::add_arc, const_oid::specs::ArcLists::whole_arcs, const_oid::specs::IdentifierOctets::identifier_octets, const_oid::specs::IdentifierOctets::arc_octets, const_oid::specs::Digits::digits, const_oid::specs::Digits::digits_within, const_oid::specs::Digits::marked))]
 
 ghost use Rattle.std.specs.Prelude.{◌∷◌, []};
 ghost use Rattle.x509_cert_general_names.specs.Modules.{module_arcs};
@@ -8,8 +8,7 @@ use crate::authority_key_identifier::AuthorityKeyIdentifier;
 use crate::hardware_module_name::HardwareModuleName;
 use crate::issuing_distribution_point::IssuingDistributionPoint;
 use crate::name_constraints::NameConstraints;
-use const_oid::AssociatedOid;
-use const_oid_identifiers::ObjectIdentifier;
+use const_oid::{AssociatedOid, ObjectIdentifier};
 
 impl AssociatedOid for AuthorityKeyIdentifier {
     ghost oid_arcs = { 2 ∷ 5 ∷ 29 ∷ 35 ∷ [] };

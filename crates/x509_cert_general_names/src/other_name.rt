@@ -10,8 +10,7 @@ ghost use Rattle.x509_cert_general_names.specs.Modules.{module_held};
 ghost use Rattle.x509_cert_general_names.specs.Views.{hardware_module_name_plain, other_name_plain};
 
 use crate::hardware_module_name::HardwareModuleName;
-use const_oid::AssociatedOid;
-use const_oid_identifiers::ObjectIdentifier;
+use const_oid::{AssociatedOid, ObjectIdentifier};
 use der_core::making::read_fields;
 use der_core::{
     ApartValue, AsReadValue, DecodeFields, DecodeValue, EncodeFields, EncodeRef, EncodeValue,

@@ -36,7 +36,7 @@ impl ExtensionReq {
 impl AssociatedOid for ExtensionReq {
     ghost oid_arcs = { extension_req_arcs };
 
-    #[tactic(auto, unfolding(const_oid_identifiers::specs::Bound::Bound, const_oid_identifiers::specs::TextReading::text_arcs, const_oid_identifiers::specs::ArcLists::add_arc, const_oid_identifiers::specs::ArcLists::whole_arcs, const_oid_identifiers::specs::IdentifierOctets::identifier_octets, const_oid_identifiers::specs::IdentifierOctets::arc_octets, const_oid_identifiers::specs::Digits::digits, const_oid_identifiers::specs::Digits::digits_within, const_oid_identifiers::specs::Digits::marked))]
+    #[tactic(auto, unfolding(const_oid::specs::Bound::Bound, const_oid::specs::TextReading::text_arcs, const_oid::specs::ArcLists::add_arc, const_oid::specs::ArcLists::whole_arcs, const_oid::specs::IdentifierOctets::identifier_octets, const_oid::specs::IdentifierOctets::arc_octets, const_oid::specs::Digits::digits, const_oid::specs::Digits::digits_within, const_oid::specs::Digits::marked))]
     fn associated_oid() -> ObjectIdentifier<39> {
         ObjectIdentifier::new_unwrap("1.2.840.113549.1.9.14")
     }

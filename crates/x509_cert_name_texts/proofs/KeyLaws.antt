@@ -4,11 +4,11 @@ use Rattle.std.specs.Prelude.{Option, Some, None, Ok, map, if◌then◌else◌}
 use Rattle.std.specs.Char.{to_ascii_lowercase, to_ascii_uppercase}
 use Rattle.std.specs.List.{find, list_any}
 use Rattle.std.specs.Cmp.Lexicographic.{pointwise}
-use Rattle.const_oid_identifiers.specs.Bound.{Bound}
-use Rattle.const_oid_identifiers.specs.TextReading.{read_text}
-use Rattle.const_oid_identifiers.specs.Comparing.{owned_eq}
-use Rattle.const_oid_identifiers.specs.Digits.{digits, digits_within, marked}
-use Rattle.const_oid_identifiers.specs.IdentifierOctets.{arc_octets, identifier_octets, read_arcs, read_identifier}
+use Rattle.const_oid.specs.Bound.{Bound}
+use Rattle.const_oid.specs.TextReading.{read_text}
+use Rattle.const_oid.specs.Comparing.{owned_eq}
+use Rattle.const_oid.specs.Digits.{digits, digits_within, marked}
+use Rattle.const_oid.specs.IdentifierOctets.{arc_octets, identifier_octets, read_arcs, read_identifier}
 use Rattle.x509_cert_name_texts.specs.Keys as keys
 use Rattle.x509_cert_name_texts.specs.Keys.{is_name, type_named, named_types, shortest_name, dotted_arcs, arcs_or, key_arcs, printed_name, key_of}
 use Rattle.x509_cert_name_texts.specs.Rows.{Row, rows, is_called, has_octets}

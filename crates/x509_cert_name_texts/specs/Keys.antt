@@ -3,10 +3,10 @@ use Rattle.std.specs.Prelude.{ℕ, List, [], ◌∷◌, Bool, Option, Some, None
 use Rattle.std.specs.Char.{to_ascii_lowercase, to_ascii_uppercase}
 use Rattle.std.specs.Cmp.Lexicographic.{pointwise}
 use Rattle.std.specs.List.{find, list_any}
-use Rattle.const_oid_identifiers.specs.Bound.{Bound}
-use Rattle.const_oid_identifiers.specs.Comparing.{owned_eq}
-use Rattle.const_oid_identifiers.specs.TextReading.{read_text}
-use Rattle.const_oid_identifiers.specs.declared.error.Error.{Error}
+use Rattle.const_oid.specs.Bound.{Bound}
+use Rattle.const_oid.specs.Comparing.{owned_eq}
+use Rattle.const_oid.specs.TextReading.{read_text}
+use Rattle.const_oid.specs.declared.error.Error.{Error}
 use Rattle.der_core_head.specs.declared.error.ErrorKind.{ErrorKind}
 use Rattle.der_core_head.specs.declared.error.ErrorKind.TheVariants as kinds
 

@@ -6,7 +6,7 @@ ghost use Rattle.der_core_head.specs.Reading.{GivesNow};
 ghost use Rattle.x509_cert_name_texts.specs.Keys.{key_arcs, key_of};
 ghost use Rattle.x509_cert_name_texts.specs.Rows.{row_of, rows, is_called, has_octets};
 
-use const_oid_identifiers::ObjectIdentifier;
+use const_oid::ObjectIdentifier;
 use der_core_head::Error;
 
 /// A type that has a name: the octets of its identifier, its shortest name in capitals, and its

@@ -4,7 +4,7 @@ use Rattle.std.specs.List.{flat_map}
 use Rattle.std.specs.Str.{chars}
 use Rattle.std.proofs.lemmas.List.{append-nil, reverse-append}
 use Rattle.std.proofs.lemmas.List.Concat.{flat_map-append}
-use Rattle.const_oid_identifiers.specs.DottedText.{dotted}
+use Rattle.const_oid.specs.DottedText.{dotted}
 use Rattle.der_core_head.specs.Heads.{tlv, head_octets}
 use Rattle.der_core_head.specs.Shapes.{AnyValue}
 use Rattle.der_core_head.specs.declared.tag.Tag.{Tag}

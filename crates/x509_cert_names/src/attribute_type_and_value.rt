@@ -3,7 +3,7 @@
 ghost use Rattle.std.specs.Prelude.{◌≡◌, ◌∷◌, ◌++◌, refl, IfOk};
 ghost use Rattle.std.specs.Fmt.{WritesOnOk};
 ghost use Rattle.std.specs.Str.{chars};
-ghost use Rattle.const_oid_identifiers.specs.DottedText.{dotted};
+ghost use Rattle.const_oid.specs.DottedText.{dotted};
 ghost use Rattle.der_core_head.specs.Reading.{Gives};
 ghost use Rattle.x509_cert_name_texts.specs.Answers.{GivesBy};
 ghost use Rattle.x509_cert_name_texts.specs.Escapes.{escaped, in_hex};
@@ -15,7 +15,7 @@ ghost use Rattle.x509_cert_names.specs.Names.{type_and_value, type_and_value_fie
 ghost use Rattle.x509_cert_names.specs.Pairs.{arc_bound, pair_plain, same_pair, same_pair_per, same_pair_equiv, pair_fed, pair_fed_alike};
 
 use crate::value_texts::{text_of, value_of, write_encoding};
-use const_oid_identifiers::ObjectIdentifier;
+use const_oid::ObjectIdentifier;
 use der_core::making::read_fields;
 use der_core::{
     ApartValue, AsReadValue, DecodeFields, DecodeValue, EncodeFields, EncodeRef, EncodeValue,

@@ -23,7 +23,7 @@ use crate::directory_string::DirectoryString;
 use crate::from_any::FromAny;
 use crate::name_iter::{NameIter, RdnSequenceIter};
 use crate::rdn_sequence::RdnSequence;
-use const_oid_identifiers::ObjectIdentifier;
+use const_oid::ObjectIdentifier;
 use der_core::{
     ApartValue, AsReadValue, DecodeValue, EncodeValue, Error, FixedTag, Header, InRangeValue,
     Length, Reader, ShapedValue, Tag, ValueOrd, Writer,

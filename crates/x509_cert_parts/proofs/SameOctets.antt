@@ -3,8 +3,8 @@ use Rattle.std.proofs.Common.{◌≡◌, ℕ, List, Bool, true, false, Option, r
 use Rattle.std.specs.Prelude.{nat_eq, not, ◌&&◌}
 use Rattle.std.specs.Cmp.{nat_eq_equiv}
 use Rattle.std.specs.Cmp.Lexicographic.{pointwise, bytes_decides, nat_list_eq_equiv}
-use Rattle.const_oid_identifiers.specs.Comparing.{owned_eq}
-use Rattle.const_oid_identifiers.specs.IdentifierOctets.{identifier_octets}
+use Rattle.const_oid.specs.Comparing.{owned_eq}
+use Rattle.const_oid.specs.IdentifierOctets.{identifier_octets}
 use Rattle.der_core_head.specs.Shapes.{AnyValue, octets_of, contents, body_octets}
 use Rattle.der_core_head.specs.Tags.{leading_octet, number_of}
 use Rattle.der_core_head.specs.declared.tag.Tag.{Tag}

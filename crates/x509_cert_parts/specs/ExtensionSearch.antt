@@ -1,6 +1,6 @@
 -- The extensions of an identifier, and the value of the only one.
 use Rattle.std.specs.Prelude.{ℕ, List, [], ◌∷◌, Bool, if◌then◌else◌, Option, Some, None, Result, Ok, Err, ◌≡◌, MatchOption}
-use Rattle.const_oid_identifiers.specs.Comparing.{owned_eq}
+use Rattle.const_oid.specs.Comparing.{owned_eq}
 use Rattle.der_core_head.specs.declared.error.Error.{Error}
 use Rattle.der_core_head.specs.declared.error.ErrorKind.{ErrorKind}
 use Rattle.der_core_head.specs.declared.error.ErrorKind.TheVariants as kinds

@@ -1,7 +1,7 @@
 -- What contracts see of the types: the plain values of their shapes.
 use Rattle.std.specs.Prelude.{ℕ, ℤ, pos, List}
 use Rattle.std.proofs.Common.{inl, inr}
-use Rattle.const_oid_identifiers.specs.Bound.{Bound}
+use Rattle.const_oid.specs.Bound.{Bound}
 use Rattle.der_core_head.specs.Dates.{Civil}
 use Rattle.der_core_head.specs.Grammar.{plain_option, plain_list}
 use Rattle.x509_cert_names.specs.Values.{any_lent}

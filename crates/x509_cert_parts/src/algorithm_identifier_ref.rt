@@ -7,7 +7,7 @@ ghost use Rattle.x509_cert_parts.specs.Grammar.{algorithm_fields};
 ghost use Rattle.x509_cert_parts.specs.Views.{arc_bound, algorithm_plain, algorithm_lent};
 
 use crate::algorithm_identifier::AlgorithmIdentifier;
-use const_oid_identifiers::ObjectIdentifier;
+use const_oid::ObjectIdentifier;
 use der_core::making::read_fields;
 use der_core::{
     ApartValue, AsReadValue, DecodeFields, DecodeValue, EncodeFields, EncodeRef, EncodeValue,

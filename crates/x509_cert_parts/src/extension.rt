@@ -6,7 +6,7 @@ ghost use Rattle.der_core_head.specs.Shapes.{nested};
 ghost use Rattle.x509_cert_parts.specs.Grammar.{extension_fields};
 ghost use Rattle.x509_cert_parts.specs.Views.{arc_bound, extension_plain};
 
-use const_oid_identifiers::ObjectIdentifier;
+use const_oid::ObjectIdentifier;
 use der_core::making::read_fields;
 use der_core::{
     ApartValue, AsReadValue, DecodeFields, DecodeValue, EncodeFields, EncodeRef, EncodeValue,

@@ -7,8 +7,7 @@ ghost use Rattle.x509_cert_parts.specs.ExtensionSearch.{of_identifier, only_valu
 ghost use Rattle.x509_cert_parts.specs.Views.{extension_plain, extensions_plain};
 
 use crate::extension::Extension;
-use const_oid::AssociatedOid;
-use const_oid_identifiers::ObjectIdentifier;
+use const_oid::{AssociatedOid, ObjectIdentifier};
 use der_core::{Decode, Error, ErrorKind, SliceReader, from_der};
 use std::alloc::Global;
 

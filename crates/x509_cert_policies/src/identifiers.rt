@@ -1,5 +1,5 @@
 //! The identifiers of extensions (RFC 5280 4.2.1; RFC 3280 4.2.1.4).
-#![tactic(auto, unfolding(const_oid_identifiers::specs::Bound::Bound, const_oid_identifiers::specs::TextReading::text_arcs, const_oid_identifiers::specs::ArcLists::add_arc, const_oid_identifiers::specs::ArcLists::whole_arcs, const_oid_identifiers::specs::IdentifierOctets::identifier_octets, const_oid_identifiers::specs::IdentifierOctets::arc_octets, const_oid_identifiers::specs::Digits::digits, const_oid_identifiers::specs::Digits::digits_within, const_oid_identifiers::specs::Digits::marked))]
+#![tactic(auto, unfolding(const_oid::specs::Bound::Bound, const_oid::specs::TextReading::text_arcs, const_oid::specs::ArcLists::add_arc, const_oid::specs::ArcLists::whole_arcs, const_oid::specs::IdentifierOctets::identifier_octets, const_oid::specs::IdentifierOctets::arc_octets, const_oid::specs::Digits::digits, const_oid::specs::Digits::digits_within, const_oid::specs::Digits::marked))]
 
 ghost use Rattle.std.specs.Prelude.{◌∷◌, []};
 
@@ -9,8 +9,7 @@ use crate::inhibit_any_policy::InhibitAnyPolicy;
 use crate::policy_constraints::PolicyConstraints;
 use crate::policy_mappings::PolicyMappings;
 use crate::private_key_usage_period::PrivateKeyUsagePeriod;
-use const_oid::AssociatedOid;
-use const_oid_identifiers::ObjectIdentifier;
+use const_oid::{AssociatedOid, ObjectIdentifier};
 
 impl AssociatedOid for BasicConstraints {
     ghost oid_arcs = { 2 ∷ 5 ∷ 29 ∷ 19 ∷ [] };

@@ -8,7 +8,7 @@ ghost use Rattle.x509_cert_policies.specs.Grammar.{policy_information_fields};
 ghost use Rattle.x509_cert_policies.specs.Views.{policy_information_plain};
 
 use crate::policy_qualifier_info::PolicyQualifierInfo;
-use const_oid_identifiers::ObjectIdentifier;
+use const_oid::ObjectIdentifier;
 use der_core::making::read_fields;
 use der_core::{
     ApartValue, AsReadValue, DecodeFields, DecodeValue, EncodeFields, EncodeRef, EncodeValue,

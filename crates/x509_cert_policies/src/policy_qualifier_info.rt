@@ -7,7 +7,7 @@ ghost use Rattle.x509_cert_general_names.specs.Parts.{arc_bound};
 ghost use Rattle.x509_cert_policies.specs.Grammar.{policy_qualifier_info_fields};
 ghost use Rattle.x509_cert_policies.specs.Views.{policy_qualifier_info_plain};
 
-use const_oid_identifiers::ObjectIdentifier;
+use const_oid::ObjectIdentifier;
 use der_core::making::read_fields;
 use der_core::{
     ApartValue, AsReadValue, DecodeFields, DecodeValue, EncodeFields, EncodeRef, EncodeValue,

@@ -1,4 +1,4 @@
-use Rattle.const_oid_identifiers.proofs.OctetFaultLaws.{fault_found}
+use Rattle.const_oid.proofs.OctetFaultLaws.{fault_found}
 use Rattle.const_oid.proofs.laws.answered_faults_are_there.Goals as goal
 
 pub returns : goal.returns

@@ -1,7 +1,7 @@
 use Rattle.std.proofs.Common.{ap, sym, ◌∙◌}
 use Rattle.std.specs.Cmp.Lexicographic.{bytes_decides}
-use Rattle.const_oid_identifiers.specs.Arcs.{arcs_of}
-use Rattle.const_oid_identifiers.specs.IdentifierOctets.{identifier_octets}
+use Rattle.const_oid.specs.Arcs.{arcs_of}
+use Rattle.const_oid.specs.IdentifierOctets.{identifier_octets}
 use Rattle.const_oid.proofs.laws.are_equal_borrowed.Goals as goal
 
 pub returns : goal.returns

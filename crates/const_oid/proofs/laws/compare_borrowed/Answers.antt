@@ -1,8 +1,8 @@
 use Rattle.std.proofs.Common.{ap, ◌∙◌}
 use Rattle.std.specs.Ordering.{nat_cmp}
 use Rattle.std.specs.Cmp.Lexicographic.{slice_cmp}
-use Rattle.const_oid_identifiers.specs.IdentifierOctets.{identifier_octets}
-use Rattle.const_oid_identifiers.specs.References.{reference_arcs}
+use Rattle.const_oid.specs.IdentifierOctets.{identifier_octets}
+use Rattle.const_oid.specs.References.{reference_arcs}
 use Rattle.const_oid.proofs.laws.compare_borrowed.Goals as goal
 
 pub returns : goal.returns

@@ -1,4 +1,4 @@
-use Rattle.const_oid_identifiers.proofs.OctetFaultLaws.{fault_answered}
+use Rattle.const_oid.proofs.OctetFaultLaws.{fault_answered}
 use Rattle.const_oid.proofs.laws.faults_are_answered.Goals as goal
 
 pub returns : goal.returns

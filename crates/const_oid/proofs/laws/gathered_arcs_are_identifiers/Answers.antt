@@ -1,4 +1,4 @@
-use Rattle.const_oid_identifiers.proofs.ArcFaultLaws.{gathered_are_identifier}
+use Rattle.const_oid.proofs.ArcFaultLaws.{gathered_are_identifier}
 use Rattle.const_oid.proofs.laws.gathered_arcs_are_identifiers.Goals as goal
 
 pub returns : goal.returns

@@ -1,4 +1,4 @@
-use Rattle.const_oid_identifiers.proofs.TextRoundLaws.{identifier_gathered}
+use Rattle.const_oid.proofs.TextRoundLaws.{identifier_gathered}
 use Rattle.const_oid.proofs.laws.identifiers_are_gathered.Goals as goal
 
 pub returns : goal.returns

@@ -1,4 +1,4 @@
-use Rattle.const_oid_identifiers.proofs.PrefixLaws.{same_octets}
+use Rattle.const_oid.proofs.PrefixLaws.{same_octets}
 use Rattle.const_oid.proofs.laws.octets_identify.Goals as goal
 
 pub returns : goal.returns

@@ -1,4 +1,4 @@
-use Rattle.const_oid_identifiers.proofs.PrefixLaws.{octets_prefix}
+use Rattle.const_oid.proofs.PrefixLaws.{octets_prefix}
 use Rattle.const_oid.proofs.laws.octets_tell_prefixes.Goals as goal
 
 pub returns : goal.returns

@@ -1,4 +1,4 @@
-use Rattle.const_oid_identifiers.proofs.OverflowLaws.{octets-not_overflow, text-not_overflow, arcs-not_overflow}
+use Rattle.const_oid.proofs.OverflowLaws.{octets-not_overflow, text-not_overflow, arcs-not_overflow}
 use Rattle.const_oid.proofs.laws.overflow_is_never_answered.Goals as goal
 
 pub returns-clause-octets : goal.returns-clause-octets

@@ -1,4 +1,4 @@
-use Rattle.const_oid_identifiers.proofs.IdentifierLaws.{identifier_sound}
+use Rattle.const_oid.proofs.IdentifierLaws.{identifier_sound}
 use Rattle.const_oid.proofs.laws.read_octets_are_spelled.Goals as goal
 
 pub returns : goal.returns

@@ -1,4 +1,4 @@
-use Rattle.const_oid_identifiers.proofs.TextFaultLaws.{text_sound}
+use Rattle.const_oid.proofs.TextFaultLaws.{text_sound}
 use Rattle.const_oid.proofs.laws.read_texts_are_spelled.Goals as goal
 
 pub returns : goal.returns

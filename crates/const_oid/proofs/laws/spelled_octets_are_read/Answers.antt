@@ -1,4 +1,4 @@
-use Rattle.const_oid_identifiers.proofs.IdentifierLaws.{identifier_again}
+use Rattle.const_oid.proofs.IdentifierLaws.{identifier_again}
 use Rattle.const_oid.proofs.laws.spelled_octets_are_read.Goals as goal
 
 pub returns : goal.returns

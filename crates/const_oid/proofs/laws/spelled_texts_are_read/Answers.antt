@@ -1,4 +1,4 @@
-use Rattle.const_oid_identifiers.proofs.TextFaultLaws.{text_read}
+use Rattle.const_oid.proofs.TextFaultLaws.{text_read}
 use Rattle.const_oid.proofs.laws.spelled_texts_are_read.Goals as goal
 
 pub returns : goal.returns

@@ -1,0 +1,33 @@
+-- The bound of arcs is where the type of an arc ends. Nothing else rests on its value.
+use Rattle.std.proofs.Common.{◌≡◌, ℕ, ◌-◌, ◌^◌, ◌<◌, ◌≤◌, Option, Some, None, ltb, length, cond, refl, arith}
+use Rattle.std.specs.Option.{SomeIff}
+use Rattle.std.proofs.lemmas.Bool.{lt-ltb, le-ltb}
+use Rattle.const_oid.specs.Bound.{Bound}
+use Rattle.const_oid.specs.Digits.{digits}
+use Rattle.const_oid.proofs.EncodingLaws.{fewer_digits, few_digits}
+
+pub Bound-is : Bound ≡ 2 ^ 128
+unfolding Bound
+Bound-is = refl
+
+-- a sum or product that is checked against the type is checked against the bound
+pub checked : (r : Option ℕ) (n : ℕ) → SomeIff r (n < 2 ^ 128) n → r ≡ cond (ltb n Bound) (Some n) None
+checked None n past = let large : Bound ≤ n = omega (arith, Bound-is) in rw (le-ltb n Bound large) refl
+checked (Some x) n fits = let small : n < Bound = omega (arith, fits.0, Bound-is) in rw (lt-ltb n Bound small, fits.1) refl
+
+-- what is above a number that doesn't fit doesn't fit
+pub unchecked : (m n : ℕ) → (m < 2 ^ 128 → ⊥) → m ≤ n → None ≡ cond (ltb n Bound) (Some n) None
+unchecked m n past l = let large : Bound ≤ n = omega (arith, Bound-is) in rw (le-ltb n Bound large) refl
+
+pub fits_type : (n : ℕ) → n < Bound → n < 2 ^ 128
+fits_type n l = omega (arith, Bound-is)
+
+pub below_bound : (n : ℕ) → n < 2 ^ 128 → n < Bound
+below_bound n l = omega (arith, Bound-is)
+
+-- so many digits the greatest arc has at most
+pub few_octets : length (digits 128 (Bound - 1)) ≤ 19
+few_octets = few_digits 18 (Bound - 1) (omega (arith, Bound-is))
+
+pub arc_fits : (n : ℕ) → n < 2 ^ 128 → length (digits 128 n) ≤ 19
+arc_fits n l = omega (arith, few_octets, fewer_digits n (Bound - 1) (omega (arith, Bound-is)))

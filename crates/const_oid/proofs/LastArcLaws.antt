@@ -1,0 +1,289 @@
+-- The last arc: where its octets begin, and how many octets show it.
+use Rattle.std.proofs.Common.{◌≡◌, ℕ, suc, ◌+◌, ◌-◌, ◌*◌, ◌/◌, ◌%◌, ◌<◌, ◌≤◌, ◌⊎◌, inl, inr, List, [], ◌∷◌, ◌++◌, length, get_or, take, map, Result, Ok, Err, sym, refl, ap, subst, ◌∙◌, append_assoc, length-append, length-take-le, arith}
+use Rattle.std.specs.List.{AllByRecursion, flat_map}
+use Rattle.std.specs.Result.{MatchResult}
+use Rattle.std.proofs.Math.Seq.{take-append_seam}
+use Rattle.std.proofs.lemmas.Bool.{lt-ltb, le-ltb, cases_lt}
+use Rattle.const_oid.specs.declared.error.Error.{Error}
+use Rattle.const_oid.specs.declared.octets.Found.{Found}
+use Rattle.const_oid.specs.Digits.{digits}
+use Rattle.const_oid.specs.IdentifierOctets.{arc_octets, identifier_octets, IsIdentifier, read_arcs, read_identifier}
+use Rattle.const_oid.specs.Arcs.{later_arcs, arcs_of, SpellsIdentifier}
+use Rattle.const_oid.specs.Outcome.{outcome}
+use Rattle.const_oid.specs.LastArcs.{place_of_last, KnowsLast, last_from}
+use Rattle.const_oid.proofs.ArcsLaws.{later_arcs-last, later_arcs-more, later_arcs-nil, arcs_of-cons, arcs_of-identifier_octets, read_identifier-ok, spells_from_read, spells_octets}
+use Rattle.const_oid.proofs.EncodingLaws.{arc_octets-one, arc_octets-more, length-arc_octets, length-digits-pos, length-marked_digits, fewer_digits, identifier-many}
+use Rattle.const_oid.proofs.FamilyLaws.{front-push}
+use Rattle.const_oid.proofs.ParentLaws.{get-left, unsnoc, Last, root, more, last_of, last_unmarked, IsLastStart, start_is, Parent, none, some}
+
+-- Where the last arc begins
+
+pub place-two : (arcs : List ℕ) → length arcs ≡ 2 → place_of_last arcs ≡ 0
+unfolding place_of_last identifier_octets
+place-two [] two = absurd (omega arith)
+place-two (a ∷ []) two = absurd (omega arith)
+place-two (a ∷ b ∷ []) two = refl
+place-two (a ∷ b ∷ c ∷ arcs) two = absurd (omega arith)
+
+pub place-push : (front : List ℕ) (a : ℕ) → place_of_last (front ++ (a ∷ [])) ≡ length (identifier_octets front)
+unfolding place_of_last
+place-push front a = ap (λ t. length (identifier_octets t)) (front-push front a)
+
+-- the octets from there on have marks, but for the last one
+pub start_placed : (bound start : ℕ) (arcs w : List ℕ) → IsIdentifier bound arcs → w ≡ identifier_octets arcs → IsLastStart w start → start ≡ place_of_last arcs
+start_placed bound start arcs w id e s = by (last_of bound arcs id)
+  where
+    by : Last bound arcs → start ≡ place_of_last arcs
+    by (root r small octets two) = omega (arith, s.within, ap length e, ap length octets, place-two arcs two)
+    by (more front a fid whole octets n) = start_is bound front a start w fid (e ∙ octets) s ∙ sym (ap place_of_last whole ∙ place-push front a)
+
+-- In one pass, from the first octet to the last
+
+last_from-ends : (last begun here o : ℕ) (w : List ℕ) → o < 128 → last_from last begun here (o ∷ w) ≡ last_from begun (here + 1) (here + 1) w
+unfolding last_from
+last_from-ends last begun here o w l = rw (lt-ltb o 128 l, last_from) refl
+
+last_from-goes : (last begun here o : ℕ) (w : List ℕ) → 128 ≤ o → last_from last begun here (o ∷ w) ≡ last_from last begun (here + 1) w
+unfolding last_from
+last_from-goes last begun here o w l = rw (le-ltb o 128 l, last_from) refl
+
+pub last_from-end : (last begun here : ℕ) (w : List ℕ) → w ≡ [] → last_from last begun here w ≡ last
+unfolding last_from
+last_from-end last begun here [] e = refl
+last_from-end last begun here (o ∷ w) e = cc
+
+-- octets with marks
+last_from-marked : (last begun here : ℕ) (ds w : List ℕ) → last_from last begun here (map (λ d. 128 + d) ds ++ w) ≡ last_from last begun (here + length ds) w
+last_from-marked last begun here [] w = ap (λ n. last_from last begun n w) (let e : here ≡ here + 0 = omega arith in e)
+last_from-marked last begun here (d ∷ ds) w =
+    let e : here + 1 + length ds ≡ here + suc (length ds) = omega arith in
+    last_from-goes last begun here (128 + d) (map (λ d. 128 + d) ds ++ w) (omega arith)
+    ∙ last_from-marked last begun (here + 1) ds w
+    ∙ ap (λ n. last_from last begun n w) e
+
+-- an arc
+last_from-arc : (last begun here a : ℕ) (w : List ℕ) → last_from last begun here (arc_octets a ++ w) ≡ last_from begun (here + length (arc_octets a)) (here + length (arc_octets a)) w
+last_from-arc last begun here a w = by (cases_lt a 128)
+  where
+    by : (a < 128) ⊎ (128 ≤ a) → last_from last begun here (arc_octets a ++ w) ≡ last_from begun (here + length (arc_octets a)) (here + length (arc_octets a)) w
+    by (inl l) =
+        let n : here + 1 ≡ here + length (arc_octets a) = omega (arith, ap length (arc_octets-one a l)) in
+        ap (λ t. last_from last begun here (t ++ w)) (arc_octets-one a l)
+        ∙ last_from-ends last begun here a w l
+        ∙ ap (λ k. last_from begun k k w) n
+    by (inr l) =
+        let ds = digits 128 (a / 128) in
+        let marks = map (λ d. 128 + d) ds in
+        let n : here + length ds + 1 ≡ here + length (arc_octets a) =
+        omega (arith, ap length (arc_octets-more a l), length-append marks (a % 128 ∷ []), length-marked_digits (a / 128)) in
+        ap (λ t. last_from last begun here (t ++ w)) (arc_octets-more a l)
+        ∙ ap (last_from last begun here) (append_assoc marks (a % 128 ∷ []) w)
+        ∙ last_from-marked last begun here ds (a % 128 ∷ w)
+        ∙ last_from-ends last begun (here + length ds) (a % 128) w (omega arith)
+        ∙ ap (λ k. last_from begun k k w) n
+
+-- arcs, and a last one
+last_from-arcs : (last here : ℕ) (front : List ℕ) (a : ℕ) → last_from last here here (flat_map arc_octets (front ++ (a ∷ []))) ≡ here + length (flat_map arc_octets front)
+last_from-arcs last here [] a =
+    let n : here ≡ here + 0 = omega arith in
+    last_from-arc last here here a []
+    ∙ last_from-end here (here + length (arc_octets a)) (here + length (arc_octets a)) [] refl
+    ∙ n
+last_from-arcs last here (x ∷ front) a =
+    let n : here + length (arc_octets x) + length (flat_map arc_octets front) ≡ here + length (flat_map arc_octets (x ∷ front)) =
+    omega (arith, length-append (arc_octets x) (flat_map arc_octets front)) in
+    last_from-arc last here here x (flat_map arc_octets (front ++ (a ∷ [])))
+    ∙ last_from-arcs here (here + length (arc_octets x)) front a
+    ∙ n
+
+-- the octets after the root
+pub last_found : (bound r : ℕ) (w arcs : List ℕ) → IsIdentifier bound arcs → r ∷ w ≡ identifier_octets arcs → last_from 0 1 1 w ≡ place_of_last arcs
+unfolding IsIdentifier identifier_octets
+last_found bound r w [] id e = absurd id
+last_found bound r w (a ∷ []) id e = absurd id
+last_found bound r w (a ∷ b ∷ later) id e = by (unsnoc later)
+  where
+    rest : w ≡ flat_map arc_octets later
+    rest = cc
+
+    by : (later ≡ []) ⊎ ((front : List ℕ) × (last : ℕ) × (later ≡ front ++ (last ∷ []))) → last_from 0 1 1 w ≡ place_of_last (a ∷ b ∷ later)
+    by (inl e) =
+        last_from-end 0 1 1 w (rest ∙ ap (flat_map arc_octets) e)
+        ∙ sym (place-two (a ∷ b ∷ later) (ap (λ (t : List ℕ). length (a ∷ b ∷ t)) e))
+    by (inr p) =
+        let n : 1 + length (flat_map arc_octets p.0) ≡ length (identifier_octets (a ∷ b ∷ p.0)) = omega arith in
+        ap (last_from 0 1 1) (rest ∙ ap (flat_map arc_octets) p.2)
+        ∙ last_from-arcs 0 1 p.0 p.1
+        ∙ n
+        ∙ sym (ap (λ t. place_of_last (a ∷ b ∷ t)) p.2 ∙ place-push (a ∷ b ∷ p.0) p.1)
+
+-- what the octets so far give of the whole: its number of arcs, and the place of the last one
+pub record SoFar (whole rest : List ℕ) (value count last begun here : ℕ) : Type 0 where
+  pub counted : count + length (later_arcs value rest) ≡ 2 + length (later_arcs 0 whole)
+  pub placed : last_from last begun here rest ≡ last_from 0 1 1 whole
+
+pub so_far_none : (whole : List ℕ) → SoFar whole whole 0 2 0 1 1
+so_far_none whole = record { counted = refl; placed = refl }
+
+-- an octet without a mark ends an arc
+pub so_far_ends : (whole w rest : List ℕ) (value count last begun here o : ℕ) → SoFar whole w value count last begun here → w ≡ o ∷ rest → o < 128
+    → SoFar whole rest 0 (count + 1) begun (here + 1) (here + 1)
+so_far_ends whole w rest value count last begun here o s e l = record {
+  counted = omega (arith, s.counted, ap (λ t. length (later_arcs value t)) e, ap length (later_arcs-last value o rest l));
+  placed = sym (ap (last_from last begun here) e ∙ last_from-ends last begun here o rest l) ∙ s.placed;
+}
+
+pub so_far_goes : (whole w rest : List ℕ) (value count last begun here o : ℕ) → SoFar whole w value count last begun here → w ≡ o ∷ rest → 128 ≤ o
+    → SoFar whole rest (value * 128 + o % 128) count last begun (here + 1)
+so_far_goes whole w rest value count last begun here o s e l = record {
+  counted = omega (arith, s.counted, ap (λ t. length (later_arcs value t)) e, ap length (later_arcs-more value o rest l));
+  placed = sym (ap (last_from last begun here) e ∙ last_from-goes last begun here o rest l) ∙ s.placed;
+}
+
+pub so_far_all : (whole rest : List ℕ) (value count last begun here : ℕ) → SoFar whole rest value count last begun here → rest ≡ []
+    → (count ≡ 2 + length (later_arcs 0 whole)) × (last ≡ last_from 0 1 1 whole)
+so_far_all whole rest value count last begun here s e = (
+  omega (arith, s.counted, ap (λ t. length (later_arcs value t)) e, ap length (later_arcs-nil value [] refl)),
+  sym (last_from-end last begun here rest e) ∙ s.placed,
+)
+
+-- the root, and what is found behind it
+pub found_whole : (bound r : ℕ) (rest w : List ℕ) (result : Result Found Error) → w ≡ r ∷ rest → ((i : ℕ) → get_or w i 0 < 256)
+    → outcome (read_identifier bound (length w) w) ≡ outcome (read_arcs bound 0 rest)
+    → MatchResult result
+    (λ found. (outcome (read_arcs bound 0 rest) ≡ Ok tt) × (found.arc_count ≡ 2 + length (later_arcs 0 rest)) × (found.last_start ≡ last_from 0 1 1 rest))
+    (λ e. outcome (read_arcs bound 0 rest) ≡ Err e)
+    → MatchResult result
+    (λ found. (outcome (read_identifier bound (length w) w) ≡ Ok tt) × KnowsLast (arcs_of w) found.arc_count found.last_start)
+    (λ e. outcome (read_identifier bound (length w) w) ≡ Err e)
+found_whole bound r rest w (Ok found) e bytes read m =
+    let ok = read ∙ m.0 in
+    let s = spells_from_read bound (length w) w bytes (read_identifier-ok bound w ok) in
+    let arcs = ap arcs_of e ∙ arcs_of-cons r rest in (
+      ok,
+      record {
+        counted = omega (arith, m.1, ap length arcs);
+        placed = m.2 ∙ last_found bound r rest (arcs_of w) s.identifier (sym e ∙ s.spelled);
+      },
+    )
+found_whole bound r rest w (Err x) e bytes read m = read ∙ m
+
+-- The arcs before the last one
+
+-- the place of the last arc tells the identifier before it, or that there is none
+pub parent_placed : (bound start : ℕ) (arcs w : List ℕ) → IsIdentifier bound arcs → w ≡ identifier_octets arcs → start ≡ place_of_last arcs → Parent bound arcs w start
+parent_placed bound start arcs w id e placed = by (last_of bound arcs id)
+  where
+    by : Last bound arcs → Parent bound arcs w start
+    by (root r small octets two) = none (placed ∙ place-two arcs two) two
+    by (more front a fid whole octets n) =
+        let at : start ≡ length (identifier_octets front) = placed ∙ ap place_of_last whole ∙ place-push front a in
+        let z = last_unmarked bound front fid in
+        some (omega (arith, at, z.1)) (λ two. omega (arith, n, identifier-many bound front fid)) front a fid whole
+        (ap (take start) (e ∙ octets) ∙ ap (λ k. take k (identifier_octets front ++ arc_octets a)) at ∙ take-append_seam (identifier_octets front) (arc_octets a))
+
+-- no more octets stand before the last arc than there are
+pub placed_within : (bound : ℕ) (arcs : List ℕ) → IsIdentifier bound arcs → place_of_last arcs < length (identifier_octets arcs)
+placed_within bound arcs id = by (last_of bound arcs id)
+  where
+    by : Last bound arcs → place_of_last arcs < length (identifier_octets arcs)
+    by (root r small octets two) = omega (arith, place-two arcs two, ap length octets)
+    by (more front a fid whole octets n) =
+        omega (arith, ap place_of_last whole, place-push front a, ap length octets, length-append (identifier_octets front) (arc_octets a), length-arc_octets a, length-digits-pos a)
+
+-- with no octet before the last arc there are two arcs
+pub none_before : (bound capacity count start : ℕ) (w : List ℕ) → SpellsIdentifier bound capacity w → KnowsLast (arcs_of w) count start → start ≡ 0 → length (arcs_of w) ≡ 2
+none_before bound capacity count start w s k e = by (parent_placed bound start (arcs_of w) w s.identifier s.spelled k.placed)
+  where
+    by : Parent bound (arcs_of w) w start → length (arcs_of w) ≡ 2
+    by (none z two) = two
+    by (some l longer front last fid whole t) = absurd (omega (arith, l))
+
+-- octets of an identifier before those of the last arc
+pub record Front (bound capacity : ℕ) (w octets : List ℕ) : Type 0 where
+  pub spells : SpellsIdentifier bound capacity octets
+  pub whole : SpellsIdentifier bound (length octets) octets
+  pub last : ℕ
+  pub arcs : arcs_of w ≡ arcs_of octets ++ (last ∷ [])
+  pub many : 2 ≤ length (arcs_of octets)
+
+pub front_of : (bound capacity count start : ℕ) (w octets : List ℕ) → SpellsIdentifier bound capacity w → KnowsLast (arcs_of w) count start → (start ≡ 0 → ⊥)
+    → octets ≡ take start w → Front bound capacity w octets
+front_of bound capacity count start w octets s k ne e = by (parent_placed bound start (arcs_of w) w s.identifier s.spelled k.placed)
+  where
+    by : Parent bound (arcs_of w) w start → Front bound capacity w octets
+    by (none z two) = absurd (ne z)
+    by (some l longer front last fid whole t) =
+        let same : octets ≡ identifier_octets front = e ∙ t in
+        let back : arcs_of octets ≡ front = ap arcs_of same ∙ arcs_of-identifier_octets bound front fid in
+        let within = placed_within bound (arcs_of w) s.identifier in
+        let fits : length (identifier_octets front) ≤ capacity = omega (arith, ap length t, length-take-le start w (omega (arith, k.placed, ap length s.spelled)), k.placed, ap length s.spelled, s.fits) in
+        record {
+          spells = subst (SpellsIdentifier bound capacity) (sym same) (spells_octets bound capacity front fid fits);
+          whole = subst (λ (v : List ℕ). SpellsIdentifier bound (length v) v) (sym same) (spells_octets bound (length (identifier_octets front)) front fid (omega arith));
+          last = last;
+          arcs = whole ∙ ap (λ v. v ++ (last ∷ [])) (sym back);
+          many = omega (arith, ap length back, identifier-many bound front fid);
+        }
+
+-- one arc more
+pub knows_push : (bound capacity count start a : ℕ) (w new : List ℕ) → SpellsIdentifier bound capacity w → count ≡ length (arcs_of w)
+    → arcs_of new ≡ arcs_of w ++ (a ∷ []) → start ≡ length w → KnowsLast (arcs_of new) (count + 1) start
+knows_push bound capacity count start a w new s counted pushed at = record {
+  counted = omega (arith, ap length pushed, length-append (arcs_of w) (a ∷ []));
+  placed = at ∙ ap length s.spelled ∙ sym (ap place_of_last pushed ∙ place-push (arcs_of w) a);
+}
+
+-- How many octets show where the last arc begins
+
+-- the last arc is below the bound
+last_below : (bound : ℕ) (front : List ℕ) (a : ℕ) → IsIdentifier bound front → IsIdentifier bound (front ++ (a ∷ [])) → a < bound
+unfolding IsIdentifier
+last_below bound [] a fid id = absurd fid
+last_below bound (x ∷ []) a fid id = absurd fid
+last_below bound (x ∷ y ∷ front) a fid id = at front id.2
+  where
+    at : (front : List ℕ) → AllByRecursion (λ n. n < bound) (front ++ (a ∷ [])) → a < bound
+    at [] all = all.0
+    at (z ∷ front) all = at front all.1
+
+-- marked octets before the last one are of one arc
+pub few_marked : (bound start : ℕ) (arcs w : List ℕ) → IsIdentifier bound arcs → w ≡ identifier_octets arcs
+    → ((k : ℕ) → start ≤ k → k + 1 < length w → 128 ≤ get_or w k 0) → length w ≤ start + length (digits 128 (bound - 1))
+few_marked bound start arcs w id e marked = by (last_of bound arcs id)
+  where
+    by : Last bound arcs → length w ≤ start + length (digits 128 (bound - 1))
+    by (root r small octets two) = omega (arith, ap length e, ap length octets, length-digits-pos (bound - 1))
+    by (more front a fid whole octets n) =
+        let f = identifier_octets front in
+        let split : w ≡ f ++ arc_octets a = e ∙ octets in
+        let size : length w ≡ length f + length (arc_octets a) = ap length split ∙ length-append f (arc_octets a) in
+        let below : a < bound = last_below bound front a fid (subst (IsIdentifier bound) whole id) in
+        let few : length (arc_octets a) ≤ length (digits 128 (bound - 1)) = omega (arith, length-arc_octets a, fewer_digits a (bound - 1) (omega arith)) in
+        let some : 0 < length (arc_octets a) = omega (arith, length-arc_octets a, length-digits-pos a) in
+        let z = last_unmarked bound front fid in
+        let low : get_or w z.0 0 < 128 = subst (λ k. k < 128) (sym (ap (λ t. get_or t z.0 0) split ∙ get-left f (arc_octets a) z.0 (omega (arith, z.1)))) z.2 in
+        elim (cases_lt z.0 start) [
+          | inl l ↦ omega (arith, z.1)
+          | inr l ↦ absurd (omega (arith, marked z.0 l (omega (arith, z.1)), low))
+        ]
+
+-- where an octet without a mark comes before them, they are where the last arc begins
+pub placed_marked : (bound start : ℕ) (arcs w : List ℕ) → IsIdentifier bound arcs → w ≡ identifier_octets arcs → start < length w
+    → ((k : ℕ) → start ≤ k → k + 1 < length w → 128 ≤ get_or w k 0) → (0 < start → get_or w (start - 1) 0 < 128) → start ≡ place_of_last arcs
+placed_marked bound start arcs w id e within marked ends =
+    start_placed bound start arcs w id e (record { within = within; marked = marked; ends = λ k p. low k p (ends (omega arith)) })
+  where
+    low : (k : ℕ) → k + 1 ≡ start → get_or w (start - 1) 0 < 128 → get_or w k 0 < 128
+    low k p l = let same : start - 1 ≡ k = omega arith in subst (λ n. get_or w n 0 < 128) same l
+
+-- there is an octet for each arc but one
+pub few_arcs : (bound : ℕ) (arcs : List ℕ) → IsIdentifier bound arcs → length arcs ≤ length (identifier_octets arcs) + 1
+unfolding IsIdentifier identifier_octets
+few_arcs bound [] id = absurd id
+few_arcs bound (a ∷ []) id = absurd id
+few_arcs bound (a ∷ b ∷ later) id = omega (arith, each later)
+  where
+    each : (arcs : List ℕ) → length arcs ≤ length (flat_map arc_octets arcs)
+    each [] = omega arith
+    each (x ∷ arcs) = omega (arith, each arcs, length-append (arc_octets x) (flat_map arc_octets arcs), length-arc_octets x, length-digits-pos x)

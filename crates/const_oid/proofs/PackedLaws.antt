@@ -1,0 +1,134 @@
+-- The octets that an array holds, by those without a mark.
+use Rattle.std.proofs.Common.{◌≡◌, ℕ, zero, suc, ◌+◌, ◌-◌, ◌<◌, ◌≤◌, List, [], ◌∷◌, ◌++◌, length, get_or, take, drop, replicate, sym, refl, ap, ◌∙◌, arith, append_assoc, length-append, min}
+use Rattle.std.proofs.lemmas.Bool.{lt-ltb, le-ltb}
+use Rattle.std.proofs.lemmas.List.{length-replicate, drop-replicate, take_more}
+use Rattle.std.proofs.Math.Seq.{take-append_seam, drop-append-add}
+use Rattle.const_oid.specs.Arcs.{SpellsIdentifier, arcs_of}
+use Rattle.const_oid.specs.IdentifierOctets.{identifier_octets, IsIdentifier, arc_octets}
+use Rattle.const_oid.specs.PackedOctets.{before, unmarked_front, IsPacked}
+use Rattle.const_oid.proofs.ParentLaws.{Last, root, more, last_of, arc_parts}
+
+-- one octet more, without a mark
+pub front-low : (w : List ℕ) (o : ℕ) → o < 128 → unmarked_front (w ++ (o ∷ [])) ≡ w ++ (o ∷ [])
+unfolding unmarked_front
+front-low [] o l = rw (lt-ltb o 128 l, before) refl
+front-low (x ∷ []) o l = ap (before x) (front-low [] o l)
+front-low (x ∷ y ∷ w) o l = ap (before x) (front-low (y ∷ w) o l)
+
+-- one octet more, with a mark
+pub front-marked : (w : List ℕ) (o : ℕ) → 128 ≤ o → unmarked_front (w ++ (o ∷ [])) ≡ unmarked_front w
+unfolding unmarked_front
+front-marked [] o l = rw (le-ltb o 128 l, before) refl
+front-marked (x ∷ w) o l = ap (before x) (front-marked w o l)
+
+front-marks : (k : ℕ) → unmarked_front (replicate k 128) ≡ []
+unfolding unmarked_front
+front-marks zero = refl
+front-marks (suc k) = ap (before 128) (front-marks k)
+
+-- marks at the end
+pub front-padded : (w : List ℕ) (k : ℕ) → unmarked_front (w ++ replicate k 128) ≡ unmarked_front w
+unfolding unmarked_front
+front-padded [] k = front-marks k
+front-padded (x ∷ w) k = ap (before x) (front-padded w k)
+
+pub front-none : unmarked_front [] ≡ []
+unfolding unmarked_front
+front-none = refl
+
+-- the octets of an identifier
+pub front-identifier : (bound : ℕ) (arcs : List ℕ) → IsIdentifier bound arcs → unmarked_front (identifier_octets arcs) ≡ identifier_octets arcs
+front-identifier bound arcs id = by (last_of bound arcs id)
+  where
+    by : Last bound arcs → unmarked_front (identifier_octets arcs) ≡ identifier_octets arcs
+    by (root r small e two) = ap unmarked_front e ∙ front-low [] r small ∙ sym e
+    by (more front a fid whole e n) =
+        let parts = arc_parts a in
+        let f = identifier_octets front in
+        let octets : identifier_octets arcs ≡ (f ++ parts.front) ++ (parts.last ∷ []) = e ∙ ap (λ t. f ++ t) parts.whole ∙ sym (append_assoc f parts.front (parts.last ∷ [])) in
+        ap unmarked_front octets ∙ front-low (f ++ parts.front) parts.last parts.unmarked ∙ sym octets
+
+pub front-spelled : (bound capacity : ℕ) (w : List ℕ) → SpellsIdentifier bound capacity w → unmarked_front w ≡ w
+front-spelled bound capacity w s = ap unmarked_front s.spelled ∙ front-identifier bound (arcs_of w) s.identifier ∙ sym s.spelled
+
+-- From the end to the last octet without a mark
+
+take_before : (bytes : List ℕ) (end : ℕ) → 0 < end → end ≤ length bytes → take end bytes ≡ take (end - 1) bytes ++ (get_or bytes (end - 1) 0 ∷ [])
+take_before bytes end some within =
+    let on : (end - 1) + 1 ≡ end = omega arith in
+    ap (λ n. take n bytes) (sym on) ∙ take_more bytes (end - 1) 0 (omega arith)
+
+pub front-step : (bytes : List ℕ) (end : ℕ) → 0 < end → end ≤ length bytes → 128 ≤ get_or bytes (end - 1) 0
+    → unmarked_front (take (end - 1) bytes) ≡ unmarked_front (take end bytes)
+front-step bytes end some within marked =
+    sym (ap unmarked_front (take_before bytes end some within) ∙ front-marked (take (end - 1) bytes) (get_or bytes (end - 1) 0) marked)
+
+pub front-stop : (bytes : List ℕ) (end : ℕ) → 0 < end → end ≤ length bytes → get_or bytes (end - 1) 0 < 128
+    → unmarked_front (take end bytes) ≡ take end bytes
+front-stop bytes end some within low =
+    let split = take_before bytes end some within in
+    ap unmarked_front split ∙ front-low (take (end - 1) bytes) (get_or bytes (end - 1) 0) low ∙ sym split
+
+-- Octets written over the front of an array of marks
+
+copied : (size : ℕ) (octets : List ℕ) → octets ++ drop (length octets) (replicate size 128) ≡ octets ++ replicate (size - length octets) 128
+copied size octets = ap (λ t. octets ++ t) (drop-replicate (length octets) size 128)
+
+pub front-copied : (size : ℕ) (octets : List ℕ) → unmarked_front octets ≡ octets
+    → unmarked_front (octets ++ drop (length octets) (replicate size 128)) ≡ octets
+front-copied size octets whole = ap unmarked_front (copied size octets) ∙ front-padded octets (size - length octets) ∙ whole
+
+pub packed_copy : (size count : ℕ) (octets : List ℕ) → length octets ≤ size → unmarked_front octets ≡ octets → count ≡ min 255 (length octets)
+    → IsPacked size (octets ++ drop (length octets) (replicate size 128)) count
+packed_copy size count octets fits whole counted =
+    let front = front-copied size octets whole in
+    record {
+      fits = omega (arith, ap length front);
+      padded = copied size octets ∙ ap (λ t. t ++ replicate (size - length t) 128) (sym front);
+      counted = counted ∙ ap (λ t. min 255 (length t)) (sym front);
+    }
+
+-- The octets that an array holds
+
+pub packed_length : (size count : ℕ) (bytes : List ℕ) → IsPacked size bytes count → length bytes ≡ size
+packed_length size count bytes p =
+    let w = unmarked_front bytes in
+    omega (arith, ap length p.padded, length-append w (replicate (size - length w) 128), length-replicate {A = ℕ} (size - length w) 128, p.fits)
+
+pub packed_take : (size count : ℕ) (bytes : List ℕ) → IsPacked size bytes count → take (length (unmarked_front bytes)) bytes ≡ unmarked_front bytes
+packed_take size count bytes p =
+    let w = unmarked_front bytes in
+    ap (take (length w)) p.padded ∙ take-append_seam w (replicate (size - length w) 128)
+
+pub packed_front : (size count : ℕ) (bytes : List ℕ) → IsPacked size bytes count → unmarked_front (unmarked_front bytes) ≡ unmarked_front bytes
+packed_front size count bytes p =
+    let w = unmarked_front bytes in
+    sym (ap unmarked_front p.padded ∙ front-padded w (size - length w))
+
+-- the octets of an arc, written behind them
+pub packed_push : (size count end counts arc : ℕ) (bytes new : List ℕ) → IsPacked size bytes count
+    → end ≡ length (unmarked_front bytes) + length (arc_octets arc) → end ≤ size → counts ≡ min 255 end
+    → new ≡ take (end - length (arc_octets arc)) bytes ++ (arc_octets arc ++ drop end bytes)
+    → IsPacked size new counts × (unmarked_front new ≡ unmarked_front bytes ++ arc_octets arc)
+packed_push size count end counts arc bytes new p at within counted written =
+    let w = unmarked_front bytes in
+    let a = arc_octets arc in
+    let parts = arc_parts arc in
+    let start : end - length a ≡ length w = omega arith in
+    let front : take (end - length a) bytes ≡ w = ap (λ n. take n bytes) start ∙ packed_take size count bytes p in
+    let rest : drop end bytes ≡ replicate (size - end) 128 =
+    ap (drop end) p.padded ∙ ap (λ n. drop n (w ++ replicate (size - length w) 128)) at ∙ drop-append-add w (replicate (size - length w) 128) (length a)
+    ∙ drop-replicate (length a) (size - length w) 128 ∙ ap (λ n. replicate {A = ℕ} n 128) (omega arith) in
+    let whole : new ≡ (w ++ a) ++ replicate (size - end) 128 =
+    written ∙ ap (λ t. t ++ (a ++ drop end bytes)) front ∙ ap (λ t. w ++ (a ++ t)) rest ∙ sym (append_assoc w a (replicate (size - end) 128)) in
+    let split : w ++ a ≡ (w ++ parts.front) ++ (parts.last ∷ []) = ap (λ t. w ++ t) parts.whole ∙ sym (append_assoc w parts.front (parts.last ∷ [])) in
+    let low : unmarked_front (w ++ a) ≡ w ++ a = ap unmarked_front split ∙ front-low (w ++ parts.front) parts.last parts.unmarked ∙ sym split in
+    let held : unmarked_front new ≡ w ++ a = ap unmarked_front whole ∙ front-padded (w ++ a) (size - end) ∙ low in
+    let long : length (w ++ a) ≡ end = length-append w a ∙ sym at in (
+      record {
+        fits = omega (arith, ap length held, long);
+        padded = whole ∙ ap (λ n. (w ++ a) ++ replicate (size - n) 128) (sym long) ∙ ap (λ t. t ++ replicate (size - length t) 128) (sym held);
+        counted = counted ∙ ap (min 255) (sym (ap length held ∙ long));
+      },
+      held,
+    )

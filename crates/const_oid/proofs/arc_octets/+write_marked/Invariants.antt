@@ -1,0 +1,4 @@
+use Rattle.const_oid.proofs.arc_octets.+write_marked.Given as goal
+
+abbrev pub decreases-write_marked : goal.decreases-write_marked
+decreases-write_marked l = l.high

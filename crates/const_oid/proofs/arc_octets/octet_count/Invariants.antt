@@ -1,0 +1,12 @@
+use Rattle.std.proofs.Common.{◌≡◌, ◌+◌, ◌<◌, length}
+use Rattle.const_oid.specs.Digits.{digits}
+use Rattle.const_oid.proofs.arc_octets.octet_count.Given as goal
+
+abbrev pub invariant-loop-high : goal.invariant-loop-high
+invariant-loop-high l =
+    (l.high ≡ 0 → l.count ≡ length (digits 128 l.arc))
+    × (0 < l.high → l.count + length (digits 128 l.high) ≡ length (digits 128 l.arc))
+    × (0 < l.count)
+
+abbrev pub decreases-loop-high : goal.decreases-loop-high
+decreases-loop-high l = l.high

@@ -1,0 +1,135 @@
+//! The arcs of an identifier, one after another.
+
+ghost use Rattle.std.specs.Prelude.{◌≡◌, ℕ, ◌∷◌, [], true, is_ok, Option, MatchOption, ◌<◌, length, slice_get, count_by, nat_lt, ◌≤◌, ◌-◌};
+ghost use Rattle.const_oid.specs.Bound.{Bound};
+ghost use Rattle.const_oid.specs.IdentifierOctets.{read_arcs, read_identifier};
+ghost use Rattle.const_oid.specs.Arcs.{later_arcs, arcs_of, SpellsIdentifier};
+ghost use Rattle.const_oid.specs.Digits.{digits};
+ghost use Rattle.const_oid.specs.LastArcs.{place_of_last};
+
+use crate::error::Arc;
+
+/// An iterator over the arcs of an identifier, in their order.
+#[derive(Clone, Copy, Drop)]
+pub struct Arcs<'a> {
+    first: Option<Arc>,
+    second: Option<Arc>,
+    later: &'a [u8],
+    ghost whole_arcs: { is_ok (read_arcs Bound 0 later.now) ≡ true },
+}
+
+impl<'a> Arcs<'a> {
+    ghost use Rattle.const_oid.specs.References.{remaining_arcs};
+
+    /// The arcs of an identifier's octets.
+    #[inline]
+    pub(crate) fn of(octets: &'a [u8]) -> Self
+        requires { is_ok (read_identifier Bound (length octets.now) octets.now) ≡ true }
+        ensures { remaining_arcs result ≡ arcs_of octets.now }
+    {
+        let Some((root, later)) = octets.split_first() else {
+            return Arcs {
+                first: None,
+                second: None,
+                later: octets,
+            };
+        };
+        Arcs {
+            first: Some(Arc::from(*root / 40)),
+            second: Some(Arc::from(*root % 40)),
+            later,
+        }
+    }
+}
+
+impl<'a> Iterator for Arcs<'a> {
+    ghost use Rattle.std.specs.Iterator.{YieldsFirst, item_count};
+    ghost use Rattle.const_oid.specs.References.{remaining_arcs};
+
+    type Item = Arc;
+
+    ghost next_gives = { YieldsFirst remaining_arcs };
+
+    ghost remaining = { item_count remaining_arcs };
+
+    fn next(&mut self) -> Option<Arc> {
+        if let Some(first) = self.first {
+            self.first = None;
+            return Some(first);
+        }
+        if let Some(second) = self.second {
+            self.second = None;
+            return Some(second);
+        }
+        let Some((arc, later)) = first_arc(self.later) else {
+            return None;
+        };
+        self.later = later;
+        Some(arc)
+    }
+}
+
+/// The first arc of octets of whole arcs, and the octets after it.
+fn first_arc(octets: &[u8]) -> Option<(Arc, &[u8])>
+    requires { is_ok (read_arcs Bound 0 octets.now) ≡ true }
+    ensures { MatchOption result (octets.now ≡ [])
+        (λ p. (later_arcs 0 octets.now ≡ p.0 ∷ later_arcs 0 p.1.now) × (is_ok (read_arcs Bound 0 p.1.now) ≡ true)) }
+{
+    let mut value: Arc = 0;
+    for (i, octet) in octets.iter().enumerate() {
+        value = value * 128 + Arc::from(*octet % 128);
+        if *octet < 0x80 {
+            return Some((value, octets.split_at(i + 1).1));
+        }
+    }
+    None
+}
+
+/// How many octets have no mark, and so end an arc.
+fn unmarked(octets: &[u8]) -> usize
+    ensures value { result ≡ count_by (λ o. nat_lt o 128) octets.now }
+    ensures bound { result ≤ length octets.now }
+{
+    octets.iter().filter(|octet| **octet < 0x80).count()
+}
+
+/// How many arcs identifier octets have: one for each octet without a mark, and one more, since the root has two.
+pub(crate) fn count(octets: &[u8]) -> usize
+    requires { is_ok (read_identifier Bound (length octets.now) octets.now) ≡ true }
+    ensures { result ≡ length (arcs_of octets.now) }
+{
+    unmarked(octets) + 1
+}
+
+/// The arc at `index` of identifier octets.
+pub(crate) fn arc_at(octets: &[u8], index: usize) -> Option<Arc>
+    requires { is_ok (read_identifier Bound (length octets.now) octets.now) ≡ true }
+    ensures { result ≡ slice_get (arcs_of octets.now) index }
+{
+    let mut arcs = Arcs::of(octets);
+    for _before in 0..index {
+        let Some(_) = arcs.next() else {
+            return None;
+        };
+    }
+    arcs.next()
+}
+
+/// Where the octets of the last arc begin, behind the last octet without a mark but one, or 0 where there is none; and how
+/// many octets were tested for a mark.
+pub(crate) fn last_start(octets: &[u8]) -> (usize, u32)
+    requires { SpellsIdentifier Bound (length octets.now) octets.now }
+    ensures start { result.0 ≡ place_of_last (arcs_of octets.now) }
+    ensures tests { result.1 ≤ length (digits 128 (Bound - 1)) }
+{
+    let mut start = octets.len() - 1;
+    let mut tests = 0;
+    while start > 0 {
+        tests += 1;
+        if octets[start - 1] < 0x80 {
+            return (start, tests);
+        }
+        start -= 1;
+    }
+    (start, tests)
+}

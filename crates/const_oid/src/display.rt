@@ -1,0 +1,88 @@
+//! The dotted text of identifiers.
+
+ghost use Rattle.std.specs.Prelude.{◌≡◌, ℕ, true, is_ok, length};
+ghost use Rattle.std.specs.Fmt.{WritesOnOk};
+ghost use Rattle.const_oid.specs.Bound.{Bound};
+ghost use Rattle.const_oid.specs.IdentifierOctets.{read_identifier};
+ghost use Rattle.const_oid.specs.Arcs.{arcs_of};
+ghost use Rattle.const_oid.specs.DottedText.{decimal, dot_decimal, dotted};
+ghost use Rattle.std.specs.List.{flat_map};
+ghost use Rattle.const_oid.specs.References.{remaining_arcs};
+
+use crate::arcs::Arcs;
+use crate::error::Arc;
+use crate::object_identifier::ObjectIdentifier;
+use crate::object_identifier_ref::ObjectIdentifierRef;
+use std::fmt;
+
+/// Writes the arcs of identifier octets in decimal, joined by dots.
+fn write_dotted<W: fmt::Write>(octets: &[u8], f: &mut fmt::Formatter<W>) -> fmt::Result
+    requires { is_ok (read_identifier Bound (length octets.now) octets.now) ≡ true }
+    ensures { WritesOnOk W.write_str_gives f.old result (dotted (arcs_of octets.now)) f.new }
+{
+    let mut arcs = Arcs::of(octets);
+    let Some(first) = arcs.next() else {
+        return Ok(());
+    };
+    write_decimal(first, f)?;
+    write_later(arcs, f)
+}
+
+/// Writes a dot and its decimal digits for each arc that is left.
+fn write_later<W: fmt::Write>(mut arcs: Arcs<'_>, f: &mut fmt::Formatter<W>) -> fmt::Result
+    ensures { WritesOnOk W.write_str_gives f.old result (flat_map dot_decimal (remaining_arcs arcs.entry)) f.new }
+{
+    while let Some(arc) = arcs.next() {
+        write_dot_decimal(arc, f)?;
+    }
+    Ok(())
+}
+
+/// Writes an arc in decimal.
+fn write_decimal<W: fmt::Write>(arc: Arc, f: &mut fmt::Formatter<W>) -> fmt::Result
+    ensures { WritesOnOk W.write_str_gives f.old result (decimal arc) f.new }
+{
+    write!(f, "{arc}")
+}
+
+/// Writes a dot and an arc in decimal.
+fn write_dot_decimal<W: fmt::Write>(arc: Arc, f: &mut fmt::Formatter<W>) -> fmt::Result
+    ensures { WritesOnOk W.write_str_gives f.old result (dot_decimal arc) f.new }
+{
+    write!(f, ".{arc}")
+}
+
+impl fmt::Display for ObjectIdentifierRef<'_> {
+    ghost use Rattle.std.specs.Prelude.{Some};
+    ghost use Rattle.const_oid.specs.DottedText.{dotted};
+    ghost use Rattle.const_oid.specs.References.{reference_arcs};
+
+    ghost output = { λ oid. Some (dotted (reference_arcs oid)) };
+
+    fn fmt<W: fmt::Write>(&self, f: &mut fmt::Formatter<W>) -> fmt::Result {
+        write_dotted(self.as_bytes(), f)
+    }
+}
+
+impl<const MAX_SIZE: usize> fmt::Display for ObjectIdentifier<MAX_SIZE> {
+    ghost use Rattle.std.specs.Prelude.{Some};
+    ghost use Rattle.const_oid.specs.DottedText.{dotted};
+
+    ghost output = { λ arcs. Some (dotted arcs) };
+
+    fn fmt<W: fmt::Write>(&self, f: &mut fmt::Formatter<W>) -> fmt::Result {
+        self.as_oid_ref().fmt(f)
+    }
+}
+
+impl fmt::Debug for ObjectIdentifierRef<'_> {
+    fn fmt<W: fmt::Write>(&self, f: &mut fmt::Formatter<W>) -> fmt::Result {
+        write!(f, "ObjectIdentifierRef({self})")
+    }
+}
+
+impl<const MAX_SIZE: usize> fmt::Debug for ObjectIdentifier<MAX_SIZE> {
+    fn fmt<W: fmt::Write>(&self, f: &mut fmt::Formatter<W>) -> fmt::Result {
+        write!(f, "ObjectIdentifier({self})")
+    }
+}

@@ -1,0 +1,390 @@
+//! Owned identifiers.
+
+ghost use Rattle.std.specs.Prelude.{◌≡◌, ℕ, ◌+◌, ◌-◌, ◌<◌, ◌≤◌, ◌↔◌, IsTrue, is_ok, true, nat_eq, refl, Some, None, IsNone, IfSome, [], ◌∷◌, ◌++◌, nat_lt, if◌then◌else◌, Err, length, slice_get, Result, Ok, IfOk, IfErr, List};
+ghost use Rattle.std.specs.Cmp.{po, on_equiv, on_per, partial_equiv_from_equiv};
+ghost use Rattle.std.specs.Cmp.Lexicographic.{pointwise, nat_list_eq_equiv};
+ghost use Rattle.const_oid.specs.Orders.{owned_cmp, owned_cmp_total, owned_cmp_ties};
+ghost use Rattle.const_oid.specs.Comparing.{owned_eq};
+ghost use Rattle.std.specs.Cmp.Rules.{hashing};
+ghost use Rattle.std.specs.Hash as fed;
+ghost use Rattle.std.proofs.Common.{rules};
+ghost use Rattle.const_oid.specs.declared.error.Error.TheVariants as errors;
+ghost use Rattle.const_oid.specs.Bound.{Bound};
+ghost use Rattle.const_oid.specs.Digits.{digits};
+ghost use Rattle.const_oid.specs.IdentifierOctets.{identifier_octets, IsIdentifier, read_identifier};
+ghost use Rattle.const_oid.specs.Arcs.{arcs_of, SpellsIdentifier};
+ghost use Rattle.const_oid.specs.OctetFaults.{IsOctetsFault};
+ghost use Rattle.const_oid.specs.Family.{child_of, parent_of};
+
+use crate::arcs::{self, Arcs};
+use crate::buffer::Buffer;
+use crate::encoder::Encoder;
+use crate::error::{Arc, Error, Result};
+use crate::object_identifier_ref::ObjectIdentifierRef;
+use crate::packed::Packed;
+use crate::{octets, text};
+use std::cmp::Ordering;
+use std::convert::AsSlice;
+use std::hash::{Hash, Hasher};
+use std::marker::Model;
+use std::str::FromStr;
+
+/// An identifier of at most `MAX_SIZE` octets, held in place. A contract sees the list of its arcs.
+#[derive(Clone, Copy)]
+pub struct ObjectIdentifier<const MAX_SIZE: usize> {
+    octets: Packed<MAX_SIZE>,
+    // How many arcs there are.
+    arc_count: usize,
+    // Where the octets of the last arc begin, or 0 where there are two arcs.
+    last_start: usize,
+}
+
+impl<const MAX_SIZE: usize> Model for ObjectIdentifier<MAX_SIZE> {
+    ghost use Rattle.std.specs.Prelude.{ℕ, List, length};
+    ghost use Rattle.std.proofs.Common.{sym};
+    ghost use Rattle.const_oid.specs.Bound.{Bound};
+    ghost use Rattle.const_oid.specs.IdentifierOctets.{identifier_octets};
+    ghost use Rattle.const_oid.specs.Arcs.{arcs_of, SpellsIdentifier};
+    ghost use Rattle.const_oid.specs.LastArcs.{place_of_last, KnowsLast};
+
+    ghost Value = { List ℕ };
+
+    ghost view = { λ oid. arcs_of oid.octets };
+
+    ghost invariant = { λ oid. SpellsIdentifier Bound MAX_SIZE oid.octets × KnowsLast (arcs_of oid.octets) oid.arc_count oid.last_start };
+
+    ghost inverse = { λ arcs. record { octets = identifier_octets arcs; arc_count = length arcs; last_start = place_of_last arcs } };
+
+    ghost inverse_ok = { λ oid h i. record { octets = sym h.0.spelled i; arc_count = sym h.1.counted i; last_start = sym h.1.placed i } };
+}
+
+impl<const MAX_SIZE: usize> ObjectIdentifier<MAX_SIZE> {
+    ghost use Rattle.std.specs.Prelude.{◌≢◌};
+    ghost use Rattle.const_oid.specs.References.{reference_octets, reference_arcs, remaining_arcs};
+
+    /// The identifier that these octets spell (X.690 8.19), or their first fault from the left.
+    #[inline(always)]
+    pub fn from_bytes_sized(ber_bytes: &[u8]) -> Result<Self>
+        ensures read { result ≡ read_identifier Bound MAX_SIZE ber_bytes.now }
+        ensures ok { IfOk result
+            (λ arcs. IsIdentifier Bound arcs × (length ber_bytes.now ≤ MAX_SIZE) × (ber_bytes.now ≡ identifier_octets arcs)) }
+        ensures spelled { (arcs : List ℕ) → ber_bytes.now ≡ identifier_octets arcs → IsIdentifier Bound arcs → length ber_bytes.now ≤ MAX_SIZE
+            → result ≡ Ok arcs }
+        ensures fault { IfErr result (λ e. IsOctetsFault Bound MAX_SIZE ber_bytes.now e) }
+        ensures never_overflow { result ≢ Err errors.Overflow }
+    {
+        Self::read_octets(ber_bytes)
+    }
+
+    fn read_octets(ber_bytes: &[u8]) -> Result<Self>
+        ensures read { result ≡ read_identifier Bound MAX_SIZE ber_bytes.now }
+    {
+        if ber_bytes.len() > MAX_SIZE {
+            return Err(Error::Length);
+        }
+        let found = octets::find(ber_bytes)?;
+        Ok(ObjectIdentifier {
+            octets: Packed::from_slice(ber_bytes),
+            arc_count: found.arc_count,
+            last_start: found.last_start,
+        })
+    }
+
+    /// The identifier with one arc more. It answers `Length` where the octets pass the capacity, and no other error.
+    pub fn push_arc(self, arc: Arc) -> Result<Self>
+        ensures { result ≡ child_of MAX_SIZE self.entry arc }
+    {
+        let mut octets = self.octets;
+        let last_start = octets.push_arc(arc)?;
+        Ok(ObjectIdentifier {
+            octets,
+            arc_count: self.arc_count + 1,
+            last_start,
+        })
+    }
+
+    /// The identifier without its last arc, or `None` where only two are there.
+    pub fn parent(&self) -> Option<Self>
+        ensures none { IsNone result ↔ (length self.now ≡ 2) }
+        ensures some { IfSome result (λ front. (last : ℕ) × (self.now ≡ front ++ last ∷ [])) }
+        ensures answer { result ≡ parent_of self.now }
+    {
+        self.parent_counted().0
+    }
+
+    /// The parent, and how many octets were tested for their high bit: at most one more than the octets of the greatest arc.
+    pub fn parent_counted(&self) -> (Option<Self>, u32)
+        ensures none { IsNone result.0 ↔ (length self.now ≡ 2) }
+        ensures some { IfSome result.0 (λ front. (last : ℕ) × (self.now ≡ front ++ last ∷ [])) }
+        ensures answer { result.0 ≡ parent_of self.now }
+        ensures tests { result.1 ≤ length (digits 128 (Bound - 1)) + 1 }
+    {
+        if self.last_start == 0 {
+            return (None, 0);
+        }
+        let octets = self.octets.front(self.last_start);
+        let (last_start, tests) = arcs::last_start(octets);
+        let parent = ObjectIdentifier {
+            octets: Packed::from_slice(octets),
+            arc_count: self.arc_count - 1,
+            last_start,
+        };
+        (Some(parent), tests)
+    }
+
+    /// Whether the arcs begin with those of `other`.
+    pub fn starts_with<const SIZE: usize>(&self, other: ObjectIdentifier<SIZE>) -> bool
+        ensures { IsTrue result ↔ ((rest : List ℕ) × (self.now ≡ other.entry ++ rest)) }
+    {
+        self.as_bytes().starts_with(other.as_bytes())
+    }
+
+    /// The identifier of octets that are known to spell one.
+    #[inline]
+    pub(crate) fn trusted(octets: Buffer<MAX_SIZE>) -> Self
+        requires { SpellsIdentifier Bound MAX_SIZE octets }
+        ensures { result ≡ arcs_of octets.entry }
+    {
+        let octets = octets.as_bytes();
+        let (last_start, _tests) = arcs::last_start(octets);
+        ObjectIdentifier {
+            octets: Packed::from_slice(octets),
+            arc_count: arcs::count(octets),
+            last_start,
+        }
+    }
+
+    /// The octets (X.690 8.19).
+    #[inline]
+    pub fn as_bytes(&self) -> &[u8]
+        ensures octets { result.now ≡ identifier_octets self.now }
+        ensures identifier { IsIdentifier Bound self.now }
+        ensures fits { length (identifier_octets self.now) ≤ MAX_SIZE }
+    {
+        self.octets.as_bytes()
+    }
+
+    /// The same identifier, borrowed.
+    #[inline]
+    pub fn as_oid_ref(&self) -> ObjectIdentifierRef<'_>
+        ensures octets { reference_octets result ≡ identifier_octets self.now }
+        ensures arcs { reference_arcs result ≡ self.now }
+    {
+        ObjectIdentifierRef::trusted(self.as_bytes())
+    }
+
+    /// The arcs, in order.
+    #[inline]
+    pub fn arcs(&self) -> Arcs<'_>
+        ensures { remaining_arcs result ≡ self.now }
+    {
+        self.as_oid_ref().arcs()
+    }
+
+    /// The arc at this place, counted from 0, if there is one.
+    pub fn arc(&self, index: usize) -> Option<Arc>
+        ensures { result ≡ slice_get self.now index }
+    {
+        self.as_oid_ref().arc(index)
+    }
+
+    /// How many arcs there are.
+    pub fn len(&self) -> usize
+        ensures { result ≡ length self.now }
+    {
+        self.arc_count
+    }
+}
+
+impl<const MAX_SIZE: usize> PartialEq for ObjectIdentifier<MAX_SIZE> {
+    ghost eq = { owned_eq };
+
+    ghost laws = { on_per identifier_octets (partial_equiv_from_equiv nat_list_eq_equiv) };
+
+    fn eq(&self, other: &Self) -> bool {
+        self.as_bytes() == other.as_bytes()
+    }
+}
+
+impl<const MAX_SIZE: usize> Eq for ObjectIdentifier<MAX_SIZE> {
+    ghost laws = { on_equiv identifier_octets nat_list_eq_equiv };
+}
+
+/// The order of the number of octets, then of the octets: an identifier stands before each that begins with it, and those
+/// that differ in their last arc alone stand by that arc.
+impl<const MAX_SIZE: usize> PartialOrd for ObjectIdentifier<MAX_SIZE> {
+    ghost partial_cmp = { λ a b. Some (owned_cmp a b) };
+
+    ghost laws = { po owned_cmp_total owned_cmp_ties };
+
+    fn partial_cmp(&self, other: &Self) -> Option<Ordering> {
+        Some(self.cmp(other))
+    }
+}
+
+impl<const MAX_SIZE: usize> Ord for ObjectIdentifier<MAX_SIZE> {
+    ghost cmp = { owned_cmp };
+
+    ghost total = { owned_cmp_total };
+
+    ghost matches_partial_cmp = { λ a b. refl };
+
+    ghost matches_eq = { owned_cmp_ties };
+
+    fn cmp(&self, other: &Self) -> Ordering {
+        let (mine, others) = (self.as_bytes(), other.as_bytes());
+        match mine.len().cmp(&others.len()) {
+            Ordering::Equal => mine.cmp(&others),
+            by_length => by_length,
+        }
+    }
+}
+
+impl<const MAX_SIZE: usize> AsSlice<u8> for ObjectIdentifier<MAX_SIZE> {
+    ghost items = { identifier_octets };
+
+    fn as_slice(&self) -> &[u8] {
+        self.as_bytes()
+    }
+}
+
+impl<const MAX_SIZE: usize> Hash for ObjectIdentifier<MAX_SIZE> {
+    ghost hash_input = { λ oid. fed.slice fed.u8 (identifier_octets oid) };
+
+    ghost respects_eq = { Prim.search (hashing, rules) };
+
+    fn hash<H: Hasher>(&self, state: &mut H) {
+        self.as_bytes().hash(state);
+    }
+}
+
+impl ObjectIdentifier<39> {
+    ghost use Rattle.std.specs.Prelude.{◌≢◌};
+    ghost use Rattle.const_oid.specs.TextReading.{read_text};
+    ghost use Rattle.const_oid.specs.TextFaults.{IsText, IsTextFault};
+
+    /// The greatest number of octets.
+    pub const MAX_SIZE: usize = 39;
+
+    /// The identifier that a dotted text spells, or the text's first fault from the left. Zeros in front of an arc are read.
+    pub fn new(s: &str) -> Result<Self>
+        ensures read { result ≡ read_text Bound 39 s.now }
+        ensures ok { IfOk result (λ arcs. IsText arcs s.now × IsIdentifier Bound arcs × (length (identifier_octets arcs) ≤ 39)) }
+        ensures spelled { (arcs : List ℕ) → IsText arcs s.now → IsIdentifier Bound arcs → length (identifier_octets arcs) ≤ 39
+            → result ≡ Ok arcs }
+        ensures fault { IfErr result (λ e. IsTextFault Bound 39 s.now e) }
+        ensures never_overflow { result ≢ Err errors.Overflow }
+    {
+        text::read(s.as_bytes())
+    }
+
+    /// The identifier of a dotted text that is one.
+    pub fn new_unwrap(s: &str) -> Self
+        requires { is_ok (read_text Bound 39 s.now) ≡ true }
+        ensures { Ok result ≡ read_text Bound 39 s.now }
+    {
+        match Self::new(s) {
+            Ok(oid) => oid,
+            Err(_) => unreachable!(),
+        }
+    }
+
+    /// The identifier that these octets spell (X.690 8.19), or their first fault from the left.
+    pub fn from_bytes(ber_bytes: &[u8]) -> Result<Self>
+        ensures read { result ≡ read_identifier Bound 39 ber_bytes.now }
+        ensures ok { IfOk result
+            (λ arcs. IsIdentifier Bound arcs × (length ber_bytes.now ≤ 39) × (ber_bytes.now ≡ identifier_octets arcs)) }
+        ensures spelled { (arcs : List ℕ) → ber_bytes.now ≡ identifier_octets arcs → IsIdentifier Bound arcs → length ber_bytes.now ≤ 39
+            → result ≡ Ok arcs }
+        ensures fault { IfErr result (λ e. IsOctetsFault Bound 39 ber_bytes.now e) }
+        ensures never_overflow { result ≢ Err errors.Overflow }
+    {
+        Self::from_bytes_sized(ber_bytes)
+    }
+}
+
+impl ObjectIdentifier<39> {
+    ghost use Rattle.std.specs.Iterator.{IsFiniteIterable, DrainsIf};
+    ghost use Rattle.std.specs.Prelude.{IsOk, ⊤, ◌≢◌};
+    ghost use Rattle.const_oid.specs.ArcLists.{gather};
+    ghost use Rattle.const_oid.specs.ArcFaults.{IsArcsFault, EndsAtFault};
+
+    /// The identifier of these arcs, or the first fault of their list. It takes the items up to that fault, and all of them
+    /// where there is none.
+    pub fn from_arcs<I: IntoIterator<Item = Arc>>(arcs: I) -> Result<Self>
+        requires { IsFiniteIterable I.into_iter_gives I.IntoIter.can_next I.IntoIter.remaining arcs }
+        ensures gathered { (it : I.IntoIter) × (xs : List ℕ) × I.into_iter_gives arcs it × DrainsIf I.IntoIter.next_gives (IsOk result) it xs × (result ≡ gather 39 [] xs) }
+
+        // The identifier's arcs are all items.
+        ensures ok { IfOk result
+            (λ oid. (it : I.IntoIter) × I.into_iter_gives arcs it × DrainsIf I.IntoIter.next_gives ⊤ it oid
+            × IsIdentifier Bound oid × (length (identifier_octets oid) ≤ 39)) }
+
+        // The items that were taken have this fault, and those before the last one have none. Where they are too few, they are all items.
+        ensures fault { IfErr result
+            (λ e. (it : I.IntoIter) × (xs : List ℕ) × I.into_iter_gives arcs it
+            × DrainsIf I.IntoIter.next_gives (e ≡ errors.Empty) it xs × IsArcsFault 39 xs e × EndsAtFault 39 xs) }
+        ensures never_overflow { result ≢ Err errors.Overflow }
+    {
+        let mut so_far = Encoder::<39>::new();
+        let mut rest = arcs.into_iter();
+        while let Some(arc) = rest.next() {
+            so_far.add(arc)?;
+        }
+        so_far.finish()
+    }
+}
+
+/// As `new` reads a text.
+impl FromStr for ObjectIdentifier<39> {
+    ghost use Rattle.std.specs.Prelude.{◌≡◌, ◌≢◌};
+    ghost use Rattle.const_oid.specs.Bound.{Bound};
+    ghost use Rattle.const_oid.specs.TextReading.{read_text};
+    ghost use Rattle.const_oid.specs.TextFaults.{IsText, IsTextFault};
+
+    type Err = Error;
+
+    ghost from_str_gives = { λ text r. r ≡ read_text Bound 39 text };
+
+    fn from_str(s: &str) -> Result<Self>
+        ensures read { result ≡ read_text Bound 39 s.now }
+        ensures ok { IfOk result (λ arcs. IsText arcs s.now × IsIdentifier Bound arcs × (length (identifier_octets arcs) ≤ 39)) }
+        ensures spelled { (arcs : List ℕ) → IsText arcs s.now → IsIdentifier Bound arcs → length (identifier_octets arcs) ≤ 39
+            → result ≡ Ok arcs }
+        ensures fault { IfErr result (λ e. IsTextFault Bound 39 s.now e) }
+        ensures never_overflow { result ≢ Err errors.Overflow }
+    {
+        Self::new(s)
+    }
+}
+
+/// As `from_bytes` reads octets.
+impl<'a> TryFrom<&'a [u8]> for ObjectIdentifier<39> {
+    ghost use Rattle.std.specs.Prelude.{◌≡◌};
+    ghost use Rattle.const_oid.specs.Bound.{Bound};
+    ghost use Rattle.const_oid.specs.IdentifierOctets.{read_identifier};
+
+    type Error = Error;
+
+    ghost try_from_gives = { λ octets r. r ≡ read_identifier Bound 39 octets.now };
+
+    fn try_from(octets: &'a [u8]) -> Result<Self> {
+        Self::from_bytes(octets)
+    }
+}
+
+/// The same identifier, or `Length` where its octets pass the capacity.
+impl<'a, const MAX_SIZE: usize> TryFrom<ObjectIdentifierRef<'a>> for ObjectIdentifier<MAX_SIZE> {
+    ghost use Rattle.std.specs.Prelude.{◌≡◌};
+    ghost use Rattle.const_oid.specs.Bound.{Bound};
+    ghost use Rattle.const_oid.specs.IdentifierOctets.{read_identifier};
+    ghost use Rattle.const_oid.specs.References.{reference_octets};
+
+    type Error = Error;
+
+    ghost try_from_gives = { λ oid r. r ≡ read_identifier Bound MAX_SIZE (reference_octets oid) };
+
+    fn try_from(oid: ObjectIdentifierRef<'a>) -> Result<Self> {
+        Self::from_bytes_sized(oid.as_bytes())
+    }
+}

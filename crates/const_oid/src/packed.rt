@@ -1,0 +1,115 @@
+//! Octets of an identifier in place, in one octet more than the greatest number of them.
+
+ghost use Rattle.std.specs.Prelude.{◌≡◌, ◌+◌, ◌<◌, ◌≤◌, ◌++◌, length, min, take, MatchResult};
+ghost use Rattle.const_oid.specs.IdentifierOctets.{arc_octets};
+ghost use Rattle.const_oid.specs.declared.error.Error.TheVariants as errors;
+ghost use Rattle.const_oid.specs.PackedOctets.{unmarked_front};
+
+use crate::arc_octets::{octet_count, write_arc};
+use crate::error::{Arc, Error, Result};
+use std::marker::Model;
+
+/// A list of at most `SIZE` octets whose last one has no mark, held in place. A contract sees the list; past its end each
+/// octet of the array is `80`.
+#[derive(Clone, Copy)]
+pub(crate) struct Packed<const SIZE: usize> {
+    bytes: [u8; SIZE],
+    // How many octets there are, or 255 for that many and more.
+    count: u8,
+    // None; with it the list lies as words do, and is moved in few of them.
+    words: [u64; 0],
+}
+
+impl<const SIZE: usize> Model for Packed<SIZE> {
+    ghost use Rattle.std.specs.Prelude.{◌≡◌, ℕ, ◌-◌, ◌++◌, List, [], length, min, replicate};
+    ghost use Rattle.std.proofs.Common.{sym};
+    ghost use Rattle.const_oid.specs.PackedOctets.{unmarked_front, IsPacked};
+
+    ghost Value = { List ℕ };
+
+    ghost view = { λ p. unmarked_front p.bytes };
+
+    ghost invariant = { λ p. IsPacked SIZE p.bytes p.count × (p.words ≡ []) };
+
+    ghost inverse = { λ octets. record { bytes = octets ++ replicate (SIZE - length octets) 128; count = min 255 (length octets); words = [] } };
+
+    ghost inverse_ok = { λ p h i. record { bytes = sym h.0.padded i; count = sym h.0.counted i; words = sym h.1 i } };
+}
+
+impl<const SIZE: usize> Packed<SIZE> {
+    /// A copy of `octets`, which fit. It isn't inlined, so that it is made where the caller wants it, and moved less.
+    #[inline(never)]
+    pub(crate) fn from_slice(octets: &[u8]) -> Self
+        requires fits { length octets.now ≤ SIZE }
+        requires whole { unmarked_front octets.now ≡ octets.now }
+        ensures { result ≡ octets.now }
+    {
+        let mut bytes = [0x80; SIZE];
+        bytes[..octets.len()].copy_from_slice(octets);
+        let count = counted(octets.len());
+        Packed {
+            bytes,
+            count,
+            words: [],
+        }
+    }
+
+    /// The octets.
+    #[inline]
+    pub(crate) fn as_bytes(&self) -> &[u8]
+        ensures octets { result.now ≡ self.now }
+        ensures fits { length self.now ≤ SIZE }
+    {
+        let count = if self.count < 255 {
+            self.count as usize
+        } else {
+            front_len(&self.bytes)
+        };
+        &self.bytes[..count]
+    }
+
+    /// The first `len` octets. No octet is looked at.
+    #[inline]
+    pub(crate) fn front(&self, len: usize) -> &[u8]
+        requires { len ≤ length self.now }
+        ensures octets { result.now ≡ take len self.now }
+        ensures fits { length self.now ≤ SIZE }
+    {
+        &self.bytes[..len]
+    }
+
+    /// The octets of an arc at the end, where there is room. It answers where they begin.
+    pub(crate) fn push_arc(&mut self, arc: Arc) -> Result<usize>
+        ensures { MatchResult result
+            (λ start. (start ≡ length self.old) × (self.new ≡ self.old ++ arc_octets arc) × (length self.old + length (arc_octets arc) ≤ SIZE))
+            (λ e. (e ≡ errors.Length) × (SIZE < length self.old + length (arc_octets arc)) × (self.new ≡ self.old)) }
+    {
+        let start = self.as_bytes().len();
+        let count = octet_count(arc);
+        if count > SIZE - start {
+            return Err(Error::Length);
+        }
+        let end = start + count;
+        write_arc(&mut self.bytes, end, arc);
+        self.count = counted(end);
+        Ok(start)
+    }
+}
+
+/// A number of octets, or 255 for that many and more.
+fn counted(len: usize) -> u8
+    ensures { result ≡ min 255 len }
+{
+    if len < 255 { len as u8 } else { 255 }
+}
+
+/// How many octets there are up to the last one without a mark.
+fn front_len(bytes: &[u8]) -> usize
+    ensures { result ≡ length (unmarked_front bytes.now) }
+{
+    let mut end = bytes.len();
+    while end > 0 && bytes[end - 1] >= 0x80 {
+        end -= 1;
+    }
+    end
+}

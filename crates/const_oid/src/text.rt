@@ -1,0 +1,79 @@
+//! Reading of dotted texts, in one pass and with the first fault.
+
+ghost use Rattle.std.specs.Prelude.{◌≡◌, ℕ, ◌+◌, ◌*◌, Option, Some, None, [], nat_lt, if◌then◌else◌, Result, Ok, Err};
+ghost use Rattle.const_oid.specs.Bound.{Bound};
+ghost use Rattle.const_oid.specs.TextReading.{with_digit, early_dot, text_arcs, read_text};
+
+use crate::encoder::Encoder;
+use crate::error::{Arc, Error, Result};
+use crate::object_identifier::ObjectIdentifier;
+
+/// A number with one decimal digit more, or `None` where that passes the bound of arcs.
+#[inline]
+fn push_digit(value: Arc, digit: u8) -> Option<Arc>
+    ensures { result ≡ (if nat_lt (value * 10 + digit) Bound then Some (value * 10 + digit) else None) }
+{
+    let Some(tens) = value.checked_mul(10) else {
+        return None;
+    };
+    tens.checked_add(Arc::from(digit))
+}
+
+/// The value of an arc with one octet more behind its digits.
+#[inline]
+fn read_digit(value: Option<Arc>, octet: u8) -> Result<Arc>
+    ensures { result ≡ with_digit Bound value octet }
+{
+    if octet < b'0' || octet > b'9' {
+        return Err(Error::DigitExpected { actual: octet });
+    }
+    let Some(next) = push_digit(value.unwrap_or(0), octet - b'0') else {
+        return Err(Error::ArcTooBig);
+    };
+    Ok(next)
+}
+
+/// The identifier of a dotted text.
+pub(crate) fn read(text: &[u8]) -> Result<ObjectIdentifier<39>>
+    ensures { result ≡ read_text Bound 39 text.now }
+{
+    let mut arcs = Encoder::<39>::new();
+    let mut value: Option<Arc> = None;
+    for (i, octet) in text.iter().enumerate() {
+        if *octet != b'.' {
+            value = Some(read_digit(value, *octet)?);
+            continue;
+        }
+        let Some(arc) = value else {
+            return Err(early_dot(&arcs));
+        };
+        if i + 1 == text.len() {
+            return Err(Error::TrailingDot);
+        }
+        arcs.add(arc)?;
+        value = None;
+    }
+    finish(arcs, value)
+}
+
+/// The identifier at the end of a text, with its last arc.
+fn finish(mut arcs: Encoder<39>, value: Option<Arc>) -> Result<ObjectIdentifier<39>>
+    ensures { result ≡ text_arcs Bound 39 arcs value [] }
+{
+    let Some(last) = value else {
+        return Err(Error::Empty);
+    };
+    arcs.add(last)?;
+    arcs.finish()
+}
+
+/// What is wrong with a dot where a digit must stand: it is the first octet, or follows a dot.
+fn early_dot(arcs: &Encoder<39>) -> Error
+    ensures { result ≡ early_dot arcs.now }
+{
+    if arcs.is_empty() {
+        Error::DigitExpected { actual: b'.' }
+    } else {
+        Error::RepeatedDot
+    }
+}

@@ -1,4 +1,0 @@
-use Rattle.const_oid_identifiers.proofs.arc_octets.+write_marked.Given as goal
-
-abbrev pub decreases-write_marked : goal.decreases-write_marked
-decreases-write_marked l = l.high

@@ -1,7 +1,0 @@
-use Rattle.std.proofs.Common.{ap, ◌+◌, ◌∙◌}
-use Rattle.const_oid_identifiers.specs.Bound.{Bound}
-use Rattle.const_oid_identifiers.proofs.ArcsLaws.{length-arcs_of}
-use Rattle.const_oid_identifiers.proofs.arcs.count.Goals as goal
-
-pub returns : goal.returns
-returns c = ap (λ n. n + 1) c.unmarked.ensures.value ∙ length-arcs_of Bound c.args.octets.now c.requires
