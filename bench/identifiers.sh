@@ -25,8 +25,8 @@ LIST
 
 # the program of this repository's crate
 mkdir -p "$work/crates/identifiers/src"
-cp -r "$top/crates/const_oid" "$top/crates/const_oid" "$work/crates/"
-printf 'const_oid:\nconst_oid: const_oid\nidentifiers: const_oid const_oid\n' >"$work/crates.txt"
+cp -r "$top/crates/const_oid" "$work/crates/"
+printf 'const_oid:\nidentifiers: const_oid\n' >"$work/crates.txt"
 cat >"$work/crates/identifiers/src/main.rt" <<'RATTLE'
 //! Reads, prints or compares the identifiers of a list, as often as the second argument says.
 #![tactic(auto)]

@@ -174,10 +174,6 @@ pub answer_fault : (capacity : ℕ) (Q : Error → Type 0) (arcs : List ℕ) (r 
 answer_fault capacity Q arcs (Ok oid) e q = tt
 answer_fault capacity Q arcs (Err x) e q = q x (arc_fault_found capacity arcs x (sym e))
 
-pub all-push : (bound : ℕ) (arcs : List ℕ) (a : ℕ) → AllByRecursion (λ n. n < bound) arcs → a < bound → AllByRecursion (λ n. n < bound) (arcs ++ (a ∷ []))
-all-push bound [] a all l = (l, tt)
-all-push bound (b ∷ arcs) a all l = (all.0, all-push bound arcs a all.1 l)
-
 -- Taking arcs one after another
 
 -- a front without a fault is what is gathered of it

@@ -42,17 +42,15 @@ later_arcs-read bound value (o ∷ w) arcs ok = by (step bound value o) (λ valu
 
 -- the capacity matters to longer octets alone
 pub read_identifier-within : (bound capacity : ℕ) (w : List ℕ) → length w ≤ capacity → read_identifier bound capacity w ≡ read_identifier bound (length w) w
-unfolding read_identifier
 read_identifier-within bound capacity [] l = refl
 read_identifier-within bound capacity (r ∷ w) l = rw (le-ltb capacity (length (r ∷ w)) l, le-ltb (length (r ∷ w)) (length (r ∷ w)) (omega arith), read_identifier) refl
 
 pub read_identifier-long : (bound capacity : ℕ) (w : List ℕ) → capacity < length w → read_identifier bound capacity w ≡ Err errors.Length
-unfolding read_identifier
 read_identifier-long bound capacity [] l = absurd (omega arith)
 read_identifier-long bound capacity (r ∷ w) l = rw (lt-ltb capacity (length (r ∷ w)) l, read_identifier) refl
 
 pub arcs_of-read : (bound capacity : ℕ) (w arcs : List ℕ) → read_identifier bound capacity w ≡ Ok arcs → arcs_of w ≡ arcs
-unfolding read_identifier arcs_of
+unfolding arcs_of
 arcs_of-read bound capacity [] arcs ok = cc
 arcs_of-read bound capacity (r ∷ w) arcs ok = by (ltb capacity (length (r ∷ w))) (ltb r 120) ok
   where
@@ -103,7 +101,7 @@ spells_octets bound capacity arcs id fits =
     let e = arcs_of-identifier_octets bound arcs id in
     record { identifier = subst (IsIdentifier bound) (sym e) id; spelled = ap identifier_octets (sym e); fits = fits }
 
-is_ok-ok : (r : Result (List ℕ) Error) → is_ok r ≡ true → (arcs : List ℕ) × (r ≡ Ok arcs)
+pub is_ok-ok : (r : Result (List ℕ) Error) → is_ok r ≡ true → (arcs : List ℕ) × (r ≡ Ok arcs)
 is_ok-ok (Ok arcs) e = (arcs, refl)
 is_ok-ok (Err x) e = cc
 
@@ -164,7 +162,6 @@ whole_end bound (suc value) ok = let read = ap is_ok (read_arcs-cut bound (suc v
 
 -- the octets after the root are whole arcs
 pub later_whole : (bound capacity r : ℕ) (w : List ℕ) → is_ok (read_identifier bound capacity (r ∷ w)) ≡ true → is_ok (read_arcs bound 0 w) ≡ true
-unfolding read_identifier
 later_whole bound capacity r w ok = by (ltb capacity (length (r ∷ w))) (ltb r 120) ok
   where
     by : (long small : Bool)
@@ -229,7 +226,6 @@ length-later_arcs value (o ∷ w) = by (cases_lt o 128) (length-later_arcs 0 w) 
         none_plus n = omega arith
 
 pub length-arcs_of : (bound : ℕ) (w : List ℕ) → is_ok (read_identifier bound (length w) w) ≡ true → count_by (λ o. ltb o 128) w + 1 ≡ length (arcs_of w)
-unfolding read_identifier
 length-arcs_of bound [] ok = cc
 length-arcs_of bound (r ∷ w) ok = by (cases_lt r 120)
   where
@@ -280,7 +276,7 @@ later_below arcs i = at (flat_map arc_octets arcs) i (arcs_below arcs)
     at (x ∷ w) (suc i) all = at w i all.1
 
 pub bytes_of_spelled : (bound : ℕ) (w : List ℕ) → is_ok (read_identifier bound (length w) w) ≡ true → w ≡ identifier_octets (arcs_of w) → (i : ℕ) → get_or w i 0 < 256
-unfolding read_identifier arcs_of identifier_octets
+unfolding arcs_of identifier_octets
 bytes_of_spelled bound [] ok e i = omega arith
 bytes_of_spelled bound (r ∷ w) ok e zero = by (cases_lt r 120)
   where

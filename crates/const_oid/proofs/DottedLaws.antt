@@ -2,14 +2,11 @@
 use Rattle.std.proofs.Common.{◌≡◌, ℕ, ◌+◌, ◌/◌, ◌%◌, ◌^◌, ◌<◌, ◌≤◌, List, [], ◌∷◌, ◌++◌, map, sym, refl, ap, ◌∙◌, arith}
 use Rattle.std.specs.List.{flat_map}
 use Rattle.std.specs.Fmt as fmt
+use Rattle.std.proofs.lemmas.List.{map-append}
 use Rattle.std.proofs.lemmas.Fmt.{decimal_by_steps_wide}
 use Rattle.const_oid.specs.Digits.{digits}
 use Rattle.const_oid.specs.DottedText.{decimal, dot_decimal, dotted}
 use Rattle.const_oid.proofs.DigitLaws.{digits-one, digits-more}
-
-map-push : (ds : List ℕ) (d : ℕ) → map (λ x. 48 + x) (ds ++ (d ∷ [])) ≡ map (λ x. 48 + x) ds ++ ((48 + d) ∷ [])
-map-push [] d = refl
-map-push (x ∷ ds) d = ap (λ t. (48 + x) ∷ t) (map-push ds d)
 
 pub decimal-one : (n : ℕ) → n < 10 → decimal n ≡ (48 + n) ∷ []
 unfolding decimal
@@ -17,7 +14,7 @@ decimal-one n l = ap (map (λ d. 48 + d)) (digits-one 10 n l)
 
 pub decimal-more : (n : ℕ) → 10 ≤ n → decimal n ≡ decimal (n / 10) ++ ((48 + n % 10) ∷ [])
 unfolding decimal
-decimal-more n l = ap (map (λ d. 48 + d)) (digits-more 10 n (omega arith) l) ∙ map-push (digits 10 (n / 10)) (n % 10)
+decimal-more n l = ap (map (λ d. 48 + d)) (digits-more 10 n (omega arith) l) ∙ map-append (λ d. 48 + d) (digits 10 (n / 10)) (n % 10 ∷ [])
 
 -- the text that std writes of a number
 pub written_decimal : (n : ℕ) → n < 10 ^ 64 → fmt.decimal n ≡ decimal n

@@ -1,15 +1,17 @@
 -- One arc more.
-use Rattle.std.proofs.Common.{◌≡◌, ℕ, zero, suc, ◌+◌, ◌*◌, ◌/◌, ◌%◌, ◌^◌, ◌<◌, ◌≤◌, ◌⊎◌, inl, inr, Bool, true, false, ltb, List, [], ◌∷◌, ◌++◌, length, map, Result, Ok, Err, Option, None, Some, is_some, eqb, ne_eqb, MatchResult, sym, refl, ap, subst, ◌∙◌, append_assoc, length-append, take, drop, replicate, length-drop, ◌-◌, add-one, length-take-le, arith}
+use Rattle.std.proofs.Common.{◌≡◌, ℕ, zero, suc, ◌+◌, ◌*◌, ◌/◌, ◌%◌, ◌^◌, ◌<◌, ◌≤◌, ◌⊎◌, inl, inr, true, false, ltb, List, [], ◌∷◌, ◌++◌, length, map, Result, Ok, Err, Option, None, Some, MatchResult, sym, refl, ap, subst, ◌∙◌, append_assoc, append-nil, length-append, take, drop, ◌-◌, add-one, arith}
 use Rattle.std.proofs.Math.ListN.{set}
 use Rattle.std.proofs.Math.Nat.{pow-suc}
-use Rattle.std.proofs.lemmas.List.{set_split, take-set-le, drop-set, drop-replicate}
-use Rattle.std.proofs.Math.Seq.{take-append_seam, drop-append_seam}
+use Rattle.std.proofs.lemmas.Grind.{flat_map-append}
+use Rattle.std.proofs.lemmas.List.{map-append, set_split, take-set-le, drop-set}
 use Rattle.std.specs.List.{AllByRecursion, flat_map}
 use Rattle.std.proofs.lemmas.Bool.{lt-ltb, le-ltb, cases_lt}
 use Rattle.const_oid.specs.declared.error.Error.{Error}
 use Rattle.const_oid.specs.declared.error.Error.TheVariants as errors
 use Rattle.const_oid.specs.Digits.{digits, marked}
-use Rattle.const_oid.specs.IdentifierOctets.{arc_octets, identifier_octets, IsIdentifier}
+use Rattle.const_oid.specs.IdentifierOctets.{arc_octets, identifier_octets, IsIdentifier, read_identifier}
+use Rattle.const_oid.specs.Family.{child_of}
+use Rattle.std.specs.Option.{ok_or}
 use Rattle.const_oid.specs.Arcs.{arcs_of, SpellsIdentifier}
 use Rattle.const_oid.specs.ArcLists.{is_misplaced, gather, and_then, add_arc, whole_arcs, arcs_so_far, IsSoFar}
 use Rattle.const_oid.proofs.DigitLaws.{digits-Digits, digits-one, digits-more, halved, marked-push, length-marked}
@@ -67,15 +69,11 @@ pub arc_octets-more : (n : ℕ) → 128 ≤ n → arc_octets n ≡ map (λ d. 12
 unfolding arc_octets
 arc_octets-more n l = ap marked (digits-more 128 n (omega arith) l) ∙ marked-push (digits 128 (n / 128)) (n % 128)
 
-map-push : (ds : List ℕ) (d : ℕ) → map (λ x. 128 + x) (ds ++ (d ∷ [])) ≡ map (λ x. 128 + x) ds ++ ((128 + d) ∷ [])
-map-push [] d = refl
-map-push (x ∷ ds) d = ap (λ t. (128 + x) ∷ t) (map-push ds d)
-
 pub marked_digits-one : (n : ℕ) → n < 128 → map (λ d. 128 + d) (digits 128 n) ≡ (128 + n) ∷ []
 marked_digits-one n l = ap (map (λ d. 128 + d)) (digits-one 128 n l)
 
 pub marked_digits-more : (n : ℕ) → 128 ≤ n → map (λ d. 128 + d) (digits 128 n) ≡ map (λ d. 128 + d) (digits 128 (n / 128)) ++ ((128 + n % 128) ∷ [])
-marked_digits-more n l = ap (map (λ d. 128 + d)) (digits-more 128 n (omega arith) l) ∙ map-push (digits 128 (n / 128)) (n % 128)
+marked_digits-more n l = ap (map (λ d. 128 + d)) (digits-more 128 n (omega arith) l) ∙ map-append (λ d. 128 + d) (digits 128 (n / 128)) (n % 128 ∷ [])
 
 pub length-marked_digits : (n : ℕ) → length (map (λ d. 128 + d) (digits 128 n)) ≡ length (digits 128 n)
 length-marked_digits n = length-map (digits 128 n)
@@ -96,36 +94,6 @@ pub written_front : (bytes : List ℕ) (last o k : ℕ) (front : List ℕ) → l
 written_front bytes last o k front l m =
     ap (λ t. t ++ (front ++ drop last (set bytes last o))) (take-set-le k bytes last o m)
     ∙ ap (λ t. take k bytes ++ t) (ap (λ t. front ++ t) (drop-set bytes last o l) ∙ sym (append_assoc front (o ∷ []) (drop (last + 1) bytes)))
-
--- the buffer behind it
-pub front_of_written : (bytes octets : List ℕ) (count end : ℕ) → count ≤ length bytes → end ≡ count + length octets
-    → take end (take count bytes ++ (octets ++ drop end bytes)) ≡ take count bytes ++ octets
-front_of_written bytes octets count end l e =
-    let n : length (take count bytes ++ octets) ≡ end = omega (arith, length-append (take count bytes) octets, length-take-le count bytes l) in
-    ap (take end) (sym (append_assoc (take count bytes) octets (drop end bytes)))
-    ∙ ap (λ k. take k ((take count bytes ++ octets) ++ drop end bytes)) (sym n)
-    ∙ take-append_seam (take count bytes ++ octets) (drop end bytes)
-
-pub rest_of_written : (bytes octets : List ℕ) (count end : ℕ) → count ≤ length bytes → end ≡ count + length octets
-    → drop end (take count bytes ++ (octets ++ drop end bytes)) ≡ drop end bytes
-rest_of_written bytes octets count end l e =
-    let n : length (take count bytes ++ octets) ≡ end = omega (arith, length-append (take count bytes) octets, length-take-le count bytes l) in
-    ap (drop end) (sym (append_assoc (take count bytes) octets (drop end bytes)))
-    ∙ ap (λ k. drop k ((take count bytes ++ octets) ++ drop end bytes)) (sym n)
-    ∙ drop-append_seam (take count bytes ++ octets) (drop end bytes)
-
-pub drop_zeros : (bytes : List ℕ) (size count more : ℕ) → drop count bytes ≡ replicate (size - count) 0 → drop (count + more) bytes ≡ replicate (size - (count + more)) 0
-drop_zeros bytes size count more zeros =
-    drop_drop count more bytes ∙ ap (drop more) zeros ∙ drop-replicate more (size - count) 0 ∙ ap (λ n. replicate n 0) (let e : size - count - more ≡ size - (count + more) = omega arith in e)
-  where
-    drop_drop : (i j : ℕ) (xs : List ℕ) → drop (i + j) xs ≡ drop j (drop i xs)
-    drop_drop zero j xs = ap (λ n. drop n xs) (let e : 0 + j ≡ j = omega arith in e)
-    drop_drop (suc i) j [] = ap (λ n. drop n []) (let e : suc i + j ≡ suc (i + j) = omega arith in e) ∙ sym (nil j)
-      where
-        nil : (j : ℕ) → drop {A = ℕ} j [] ≡ []
-        nil zero = refl
-        nil (suc j) = refl
-    drop_drop (suc i) j (x ∷ xs) = ap (λ n. drop n (x ∷ xs)) (let e : suc i + j ≡ suc (i + j) = omega arith in e) ∙ drop_drop i j xs
 
 -- the only octet
 pub write_one : (bytes octets : List ℕ) (end o n : ℕ) → octets ≡ o ∷ [] → n ≡ 1 → 1 ≤ end → end ≤ length bytes
@@ -150,19 +118,10 @@ write_more bytes new octets front end o m n e count some fits written =
     ∙ ap (λ k. take (end - n) bytes ++ ((front ++ (o ∷ [])) ++ drop k bytes)) last
     ∙ ap (λ t. take (end - n) bytes ++ (t ++ drop end bytes)) (sym e)
 
-pub length_of_written : (bytes octets : List ℕ) (count end : ℕ) → end ≤ length bytes → end ≡ count + length octets → length (take count bytes ++ (octets ++ drop end bytes)) ≡ length bytes
-length_of_written bytes octets count end l e =
-    omega (arith, length-append (take count bytes) (octets ++ drop end bytes), length-append octets (drop end bytes), length-take-le count bytes (omega arith), length-drop end bytes)
-
 -- One arc more
 
 flat_map-push : (arcs : List ℕ) (a : ℕ) → flat_map arc_octets (arcs ++ (a ∷ [])) ≡ flat_map arc_octets arcs ++ arc_octets a
-flat_map-push [] a = append_nil (arc_octets a)
-  where
-    append_nil : (xs : List ℕ) → xs ++ [] ≡ xs
-    append_nil [] = refl
-    append_nil (x ∷ xs) = ap (λ t. x ∷ t) (append_nil xs)
-flat_map-push (b ∷ arcs) a = ap (λ t. arc_octets b ++ t) (flat_map-push arcs a) ∙ sym (append_assoc (arc_octets b) (flat_map arc_octets arcs) (arc_octets a))
+flat_map-push arcs a = flat_map-append arc_octets arcs (a ∷ []) ∙ ap (λ t. flat_map arc_octets arcs ++ t) (append-nil (arc_octets a))
 
 pub identifier_octets-push : (bound : ℕ) (arcs : List ℕ) (a : ℕ) → IsIdentifier bound arcs → identifier_octets (arcs ++ (a ∷ [])) ≡ identifier_octets arcs ++ arc_octets a
 unfolding identifier_octets IsIdentifier
@@ -170,15 +129,15 @@ identifier_octets-push bound [] a id = absurd id
 identifier_octets-push bound (x ∷ []) a id = absurd id
 identifier_octets-push bound (x ∷ y ∷ arcs) a id = ap (λ t. (40 * x + y) ∷ t) (flat_map-push arcs a)
 
+pub all-push : (bound : ℕ) (arcs : List ℕ) (a : ℕ) → AllByRecursion (λ n. n < bound) arcs → a < bound → AllByRecursion (λ n. n < bound) (arcs ++ (a ∷ []))
+all-push bound [] a all l = (l, tt)
+all-push bound (b ∷ arcs) a all l = (all.0, all-push bound arcs a all.1 l)
+
 pub IsIdentifier-push : (bound : ℕ) (arcs : List ℕ) (a : ℕ) → IsIdentifier bound arcs → a < bound → IsIdentifier bound (arcs ++ (a ∷ []))
 unfolding IsIdentifier
 IsIdentifier-push bound [] a id l = absurd id
 IsIdentifier-push bound (x ∷ []) a id l = absurd id
-IsIdentifier-push bound (x ∷ y ∷ arcs) a id l = (id.0, id.1, all-push arcs id.2)
-  where
-    all-push : (arcs : List ℕ) → AllByRecursion (λ n. n < bound) arcs → AllByRecursion (λ n. n < bound) (arcs ++ (a ∷ []))
-    all-push [] all = (l, tt)
-    all-push (b ∷ arcs) all = (all.0, all-push arcs all.1)
+IsIdentifier-push bound (x ∷ y ∷ arcs) a id l = (id.0, id.1, all-push bound arcs a id.2 l)
 
 pub spells_push : (bound capacity : ℕ) (w : List ℕ) (a : ℕ) → SpellsIdentifier bound capacity w → a < bound → length w + length (arc_octets a) ≤ capacity
     → SpellsIdentifier bound capacity (w ++ arc_octets a) × (arcs_of (w ++ arc_octets a) ≡ arcs_of w ++ (a ∷ []))
@@ -191,21 +150,9 @@ spells_push bound capacity w a s l fits =
       ap arcs_of (sym octets) ∙ arcs_of-identifier_octets bound (arcs_of w ++ (a ∷ [])) id,
     )
 
-root_identifier : (bound a b : ℕ) → a ≤ 2 → b < 40 → IsIdentifier bound (a ∷ b ∷ [])
-unfolding IsIdentifier
-root_identifier bound a b l m = (l, m, tt)
-
 root_octets : (a b : ℕ) → identifier_octets (a ∷ b ∷ []) ≡ (40 * a + b) ∷ []
 unfolding identifier_octets
 root_octets a b = refl
-
-pub spells_root : (bound capacity a b : ℕ) → a ≤ 2 → b < 40 → 1 ≤ capacity
-    → SpellsIdentifier bound capacity ((40 * a + b) ∷ []) × (arcs_of ((40 * a + b) ∷ []) ≡ a ∷ b ∷ [])
-spells_root bound capacity a b l m fits =
-    let id = root_identifier bound a b l m in (
-      subst (SpellsIdentifier bound capacity) (root_octets a b) (spells_octets bound capacity (a ∷ b ∷ []) id (subst (λ t. length t ≤ capacity) (sym (root_octets a b)) (omega arith))),
-      ap arcs_of (sym (root_octets a b)) ∙ arcs_of-identifier_octets bound (a ∷ b ∷ []) id,
-    )
 
 -- What an arc more answers
 
@@ -229,103 +176,100 @@ placed bound (x ∷ y ∷ arcs) a id = refl
 
 -- The arcs so far
 
-pub so_far_many : (bound capacity : ℕ) (first : Option ℕ) (octets : List ℕ) → 0 < length octets → IsSoFar bound capacity first octets
-    → SpellsIdentifier bound capacity octets × (arcs_so_far first octets ≡ arcs_of octets)
-so_far_many bound capacity None [] l s = absurd (omega arith)
-so_far_many bound capacity (Some x) [] l s = absurd (omega arith)
-so_far_many bound capacity None (r ∷ w) l s = (s, refl)
-so_far_many bound capacity (Some x) (r ∷ w) l s = (s, refl)
-
-pub many_so_far : (bound capacity : ℕ) (first : Option ℕ) (octets : List ℕ) → 0 < length octets → SpellsIdentifier bound capacity octets
-    → IsSoFar bound capacity first octets × (arcs_so_far first octets ≡ arcs_of octets)
-many_so_far bound capacity None [] l s = absurd (omega arith)
-many_so_far bound capacity (Some x) [] l s = absurd (omega arith)
-many_so_far bound capacity None (r ∷ w) l s = (s, refl)
-many_so_far bound capacity (Some x) (r ∷ w) l s = (s, refl)
-
--- what pushing an arc's octets leaves
-abbrev pub Pushed : (capacity : ℕ) → List ℕ → ℕ → Result (Unit {0}) Error → List ℕ → Type 0
-Pushed capacity octets a r new =
-    MatchResult r
-    (λ _. (new ≡ octets ++ arc_octets a) × (length octets + length (arc_octets a) ≤ capacity))
-    (λ e. (e ≡ errors.Length) × (capacity < length octets + length (arc_octets a)) × (new ≡ octets))
-
-pub add_more : (bound capacity : ℕ) (first : Option ℕ) (octets new : List ℕ) (a : ℕ) (r : Result (Unit {0}) Error) → 0 < length octets → IsSoFar bound capacity first octets → a < bound
-    → Pushed capacity octets a r new
-    → IsSoFar bound capacity first new
-    × MatchResult r (λ _. add_arc capacity (arcs_so_far first octets) a ≡ Ok (arcs_so_far first new)) (λ e. add_arc capacity (arcs_so_far first octets) a ≡ Err e)
-add_more bound capacity first octets new a (Ok u) some s l p =
-    let old = so_far_many bound capacity first octets some s in
-    let more = spells_push bound capacity octets a old.0 l p.1 in
-    let longer : 0 < length new = omega (arith, ap length p.0, length-append octets (arc_octets a)) in
-    let now = many_so_far bound capacity first new longer (subst (SpellsIdentifier bound capacity) (sym p.0) more.0) in
-    let octets_of : identifier_octets (arcs_of octets ++ (a ∷ [])) ≡ octets ++ arc_octets a =
-    identifier_octets-push bound (arcs_of octets) a old.0.identifier ∙ ap (λ t. t ++ arc_octets a) (sym old.0.spelled) in (
-      now.0,
-      ap (λ t. add_arc capacity t a) old.1
-          ∙ add_arc-ok capacity (arcs_of octets) a (placed bound (arcs_of octets) a old.0.identifier) (omega (arith, ap length octets_of, length-append octets (arc_octets a), p.1))
-          ∙ ap (λ t. Ok t) (sym (now.1 ∙ ap arcs_of p.0 ∙ more.1)),
-    )
-add_more bound capacity first octets new a (Err e) some s l p =
-    let old = so_far_many bound capacity first octets some s in
-    let octets_of : identifier_octets (arcs_of octets ++ (a ∷ [])) ≡ octets ++ arc_octets a =
-    identifier_octets-push bound (arcs_of octets) a old.0.identifier ∙ ap (λ t. t ++ arc_octets a) (sym old.0.spelled) in (
-      subst (IsSoFar bound capacity first) (sym p.2) s,
-      ap (λ t. add_arc capacity t a) old.1
-          ∙ add_arc-long capacity (arcs_of octets) a (placed bound (arcs_of octets) a old.0.identifier) (omega (arith, ap length octets_of, length-append octets (arc_octets a), p.1))
-          ∙ ap (λ x. Err x) (sym p.0),
-    )
-
 -- the first arc
-
-pub so_far_none : (octets : List ℕ) → length octets ≡ 0 → arcs_so_far None octets ≡ []
-so_far_none [] e = refl
-so_far_none (r ∷ w) e = absurd (omega arith)
-
-pub so_far_one : (first : ℕ) (octets : List ℕ) → length octets ≡ 0 → arcs_so_far (Some first) octets ≡ first ∷ []
-so_far_one first [] e = refl
-so_far_one first (r ∷ w) e = absurd (omega arith)
-
-pub first_small : (bound capacity first : ℕ) (octets : List ℕ) → length octets ≡ 0 → IsSoFar bound capacity (Some first) octets → first ≤ 2
-first_small bound capacity first [] e s = s
-first_small bound capacity first (r ∷ w) e s = absurd (omega arith)
-
-pub one_so_far : (bound capacity first : ℕ) (octets : List ℕ) → length octets ≡ 0 → first ≤ 2 → IsSoFar bound capacity (Some first) octets
-one_so_far bound capacity first [] e l = l
-one_so_far bound capacity first (r ∷ w) e l = absurd (omega arith)
-
 one_octets : (a : ℕ) → identifier_octets (a ∷ []) ≡ []
 unfolding identifier_octets
 one_octets a = refl
 
-pub add_first : (capacity a : ℕ) (octets : List ℕ) → length octets ≡ 0 → a ≤ 2 → add_arc capacity (arcs_so_far None octets) a ≡ Ok (arcs_so_far (Some a) octets)
-add_first capacity a octets e l =
-    ap (λ t. add_arc capacity t a) (so_far_none octets e)
-    ∙ add_arc-ok capacity [] a (le-ltb 2 a l) (omega (arith, ap length (one_octets a)))
-    ∙ ap (λ t. Ok t) (sym (so_far_one a octets e))
+pub add_first : (capacity a : ℕ) → a ≤ 2 → add_arc capacity [] a ≡ Ok (a ∷ [])
+add_first capacity a l = add_arc-ok capacity [] a (le-ltb 2 a l) (omega (arith, ap length (one_octets a)))
 
-pub misplaced_first : (capacity a : ℕ) (octets : List ℕ) → length octets ≡ 0 → 2 < a → add_arc capacity (arcs_so_far None octets) a ≡ Err (errors.ArcInvalid a)
-misplaced_first capacity a octets e l = ap (λ t. add_arc capacity t a) (so_far_none octets e) ∙ add_arc-misplaced capacity [] a (lt-ltb 2 a l)
+pub misplaced_first : (capacity a : ℕ) → 2 < a → add_arc capacity [] a ≡ Err (errors.ArcInvalid a)
+misplaced_first capacity a l = add_arc-misplaced capacity [] a (lt-ltb 2 a l)
 
-pub misplaced_second : (capacity first a : ℕ) (octets : List ℕ) → length octets ≡ 0 → 40 ≤ a → add_arc capacity (arcs_so_far (Some first) octets) a ≡ Err (errors.ArcInvalid a)
-misplaced_second capacity first a octets e l =
-    ap (λ t. add_arc capacity t a) (so_far_one first octets e) ∙ add_arc-misplaced capacity (first ∷ []) a (lt-ltb 39 a (omega arith))
+-- the second
+pub misplaced_second : (capacity first a : ℕ) → 40 ≤ a → add_arc capacity (first ∷ []) a ≡ Err (errors.ArcInvalid a)
+misplaced_second capacity first a l = add_arc-misplaced capacity (first ∷ []) a (lt-ltb 39 a (omega arith))
 
-pub second_long : (capacity first a : ℕ) (octets : List ℕ) → length octets ≡ 0 → a < 40 → capacity ≡ 0 → add_arc capacity (arcs_so_far (Some first) octets) a ≡ Err errors.Length
-second_long capacity first a octets e l z =
-    ap (λ t. add_arc capacity t a) (so_far_one first octets e)
-    ∙ add_arc-long capacity (first ∷ []) a (le-ltb 39 a (omega arith)) (omega (arith, ap length (root_octets first a)))
+pub add_second : (bound capacity first a : ℕ) → first ≤ 2 → a < 40 → add_arc capacity (first ∷ []) a ≡ read_identifier bound capacity ((40 * first + a) ∷ [])
+add_second bound capacity first a small l = by (cases_lt capacity 1)
+  where
+    placed_second : is_misplaced (first ∷ []) a ≡ false
+    placed_second = le-ltb 39 a (omega arith)
 
-pub add_second : (bound capacity first a : ℕ) (octets new : List ℕ) → length octets ≡ 0 → first ≤ 2 → a < 40 → 1 ≤ capacity → new ≡ octets ++ ((40 * first + a) ∷ [])
-    → IsSoFar bound capacity (Some first) new × (add_arc capacity (arcs_so_far (Some first) octets) a ≡ Ok (arcs_so_far (Some first) new))
-add_second bound capacity first a [] new e small l fits pushed =
-    let root = spells_root bound capacity first a small l fits in
-    let octets_fit : length (identifier_octets (first ∷ a ∷ [])) ≤ capacity = omega (arith, ap length (root_octets first a)) in (
-      subst (IsSoFar bound capacity (Some first)) (sym pushed) root.0,
-      add_arc-ok capacity (first ∷ []) a (le-ltb 39 a (omega arith)) octets_fit
-          ∙ ap (λ t. Ok t) (sym (ap (arcs_so_far (Some first)) pushed ∙ root.1)),
-    )
-add_second bound capacity first a (r ∷ w) new e small l fits pushed = absurd (omega arith)
+    by : (capacity < 1) ⊎ (1 ≤ capacity) → add_arc capacity (first ∷ []) a ≡ read_identifier bound capacity ((40 * first + a) ∷ [])
+    by (inl none) = add_arc-long capacity (first ∷ []) a placed_second (omega (arith, ap length (root_octets first a))) ∙ sym (rw (lt-ltb capacity 1 none, read_identifier) refl)
+    by (inr some) =
+        let high : (40 * first + a) / 40 ≡ first = omega arith in
+        let low : (40 * first + a) % 40 ≡ a = omega arith in
+        add_arc-ok capacity (first ∷ []) a placed_second (omega (arith, ap length (root_octets first a)))
+        ∙ sym (rw (le-ltb capacity 1 some, lt-ltb (40 * first + a) 120 (omega arith), high, low, read_identifier) refl)
+
+-- the later ones
+add_more : (capacity : ℕ) (arcs : List ℕ) (a : ℕ) → 2 ≤ length arcs → add_arc capacity arcs a ≡ child_of capacity arcs a
+unfolding add_arc
+add_more capacity [] a many = absurd (omega arith)
+add_more capacity (x ∷ []) a many = absurd (omega arith)
+add_more capacity (x ∷ y ∷ arcs) a many = refl
+
+child_many : (capacity : ℕ) (arcs child : List ℕ) (a : ℕ) → 2 ≤ length arcs → child_of capacity arcs a ≡ Ok child → 2 ≤ length child
+child_many capacity arcs child a many e = by (cases_lt capacity (length (identifier_octets (arcs ++ (a ∷ [])))))
+  where
+    by : (capacity < length (identifier_octets (arcs ++ (a ∷ [])))) ⊎ (length (identifier_octets (arcs ++ (a ∷ []))) ≤ capacity) → 2 ≤ length child
+    by (inl long) = let h = rw (lt-ltb capacity (length (identifier_octets (arcs ++ (a ∷ [])))) long) at e in cc
+    by (inr fits) =
+        let h : child ≡ arcs ++ (a ∷ []) = let k = rw (le-ltb capacity (length (identifier_octets (arcs ++ (a ∷ [])))) fits) at e in cc in
+        omega (arith, many, ap length h, length-append arcs (a ∷ []))
+
+-- Where the encoder stands
+
+-- no arc yet, or a first one alone
+pub none_now : (first : Option ℕ) (identifier : Option (List ℕ)) (now : List ℕ) → first ≡ None → identifier ≡ None → arcs_so_far first identifier ≡ now → now ≡ []
+none_now None None now f i e = sym e
+none_now (Some x) identifier now f i e = cc
+none_now None (Some arcs) now f i e = cc
+
+pub one_now : (first : Option ℕ) (identifier : Option (List ℕ)) (now : List ℕ) (x : ℕ) → first ≡ Some x → identifier ≡ None → arcs_so_far first identifier ≡ now → now ≡ x ∷ []
+one_now None identifier now x f i e = cc
+one_now (Some y) None now x f i e = let same : y ≡ x = cc in sym e ∙ ap (λ t. t ∷ []) same
+one_now (Some y) (Some arcs) now x f i e = cc
+
+pub first_small : (first : Option ℕ) (identifier : Option (List ℕ)) (x : ℕ) → first ≡ Some x → identifier ≡ None → IsSoFar first identifier → x ≤ 2
+first_small None identifier x f i s = cc
+first_small (Some y) None x f i s = let same : y ≡ x = cc in omega (arith, s, same)
+first_small (Some y) (Some arcs) x f i s = cc
+
+-- an identifier's arcs
+many_arcs : (first : Option ℕ) (identifier : Option (List ℕ)) (arcs : List ℕ) → identifier ≡ Some arcs → IsSoFar first identifier → (x : ℕ) × (first ≡ Some x) × (2 ≤ length arcs)
+many_arcs None None arcs i s = cc
+many_arcs (Some x) None arcs i s = cc
+many_arcs None (Some b) arcs i s = absurd s
+many_arcs (Some x) (Some b) arcs i s = let same : b ≡ arcs = cc in (x, refl, omega (arith, s, ap length same))
+
+-- one arc more, or none
+abbrev pub Pushed : (capacity : ℕ) → List ℕ → List ℕ → ℕ → Result (Unit {0}) Error → Type 0
+Pushed capacity arcs new a r = MatchResult r (λ _. child_of capacity arcs a ≡ Ok new) (λ e. (child_of capacity arcs a ≡ Err e) × (new ≡ arcs))
+
+pub many_pushed : (capacity : ℕ) (first : Option ℕ) (identifier : Option (List ℕ)) (arcs new : List ℕ) (a : ℕ) (r : Result (Unit {0}) Error) → identifier ≡ Some arcs → IsSoFar first identifier
+    → Pushed capacity arcs new a r → IsSoFar first (Some new)
+many_pushed capacity first identifier arcs new a r i s p =
+    let many = many_arcs first identifier arcs i s in
+    subst (λ f. IsSoFar f (Some new)) (sym many.1) (by r p many.2)
+  where
+    by : (r : Result (Unit {0}) Error) → Pushed capacity arcs new a r → 2 ≤ length arcs → 2 ≤ length new
+    by (Ok u) p many = child_many capacity arcs new a many p
+    by (Err e) p many = omega (arith, many, ap length p.1)
+
+pub many_added : (capacity : ℕ) (first : Option ℕ) (identifier : Option (List ℕ)) (arcs new now : List ℕ) (a : ℕ) (r : Result (Unit {0}) Error) → identifier ≡ Some arcs → IsSoFar first identifier
+    → arcs_so_far first identifier ≡ now → Pushed capacity arcs new a r → MatchResult r (λ _. add_arc capacity now a ≡ Ok new) (λ e. add_arc capacity now a ≡ Err e)
+many_added capacity first identifier arcs new now a r i s e p = by r p
+  where
+    same : add_arc capacity now a ≡ child_of capacity arcs a
+    same = ap (λ t. add_arc capacity t a) (sym e ∙ ap (arcs_so_far first) i) ∙ add_more capacity arcs a (many_arcs first identifier arcs i s).2
+
+    by : (r : Result (Unit {0}) Error) → Pushed capacity arcs new a r → MatchResult r (λ _. add_arc capacity now a ≡ Ok new) (λ e. add_arc capacity now a ≡ Err e)
+    by (Ok u) p = same ∙ p
+    by (Err x) p = same ∙ p.0
 
 -- the end
 
@@ -343,36 +287,11 @@ identifier-many bound [] id = absurd id
 identifier-many bound (x ∷ []) id = absurd id
 identifier-many bound (x ∷ y ∷ arcs) id = omega arith
 
-pub finish_few : (first : Option ℕ) (octets : List ℕ) → length octets ≡ 0 → whole_arcs (arcs_so_far first octets) ≡ Err errors.Empty
-finish_few None [] e = whole-few [] (omega arith)
-finish_few (Some x) [] e = whole-few (x ∷ []) (omega arith)
-finish_few None (r ∷ w) e = absurd (omega arith)
-finish_few (Some x) (r ∷ w) e = absurd (omega arith)
-
-pub finish_many : (bound capacity : ℕ) (first : Option ℕ) (octets : List ℕ) → 0 < length octets → IsSoFar bound capacity first octets
-    → SpellsIdentifier bound capacity octets × (whole_arcs (arcs_so_far first octets) ≡ Ok (arcs_of octets))
-finish_many bound capacity first octets l s =
-    let many = so_far_many bound capacity first octets l s in
-    (many.0, ap whole_arcs many.1 ∙ whole-many (arcs_of octets) (identifier-many bound (arcs_of octets) many.0.identifier))
-
--- whether there is no arc
-pub none_so_far : (bound capacity : ℕ) (first : Option ℕ) (octets : List ℕ) → IsSoFar bound capacity first octets → arcs_so_far first octets ≡ [] → (first ≡ None) × (length octets ≡ 0)
-none_so_far bound capacity None [] s e = (refl, refl)
-none_so_far bound capacity (Some x) [] s e = cc
-none_so_far bound capacity None (r ∷ w) s e = absurd (omega (arith, ap length e, identifier-many bound (arcs_of (r ∷ w)) s.identifier))
-none_so_far bound capacity (Some x) (r ∷ w) s e = absurd (omega (arith, ap length e, identifier-many bound (arcs_of (r ∷ w)) s.identifier))
-
-pub empty_so_far : (bound capacity : ℕ) (first : Option ℕ) (octets : List ℕ) (r : Bool) → IsSoFar bound capacity first octets → is_some first ≡ false → r ≡ eqb (length octets) 0
-    → (r ≡ true → arcs_so_far first octets ≡ []) × (arcs_so_far first octets ≡ [] → r ≡ true)
-empty_so_far bound capacity None [] r s n e = (λ _. refl, λ _. e)
-empty_so_far bound capacity None (x ∷ w) r s n e =
-    let ne : eqb (length (x ∷ w)) 0 ≡ false = ne_eqb (length (x ∷ w)) 0 (λ h. omega arith) in
-    (λ t. cc, λ h. absurd (omega (arith, (none_so_far bound capacity None (x ∷ w) s h).1)))
-empty_so_far bound capacity (Some f) octets r s n e = cc
-
-pub some_so_far : (bound capacity : ℕ) (first : Option ℕ) (octets : List ℕ) → IsSoFar bound capacity first octets → is_some first ≡ true → arcs_so_far first octets ≡ [] → ⊥
-some_so_far bound capacity None octets s n e = cc
-some_so_far bound capacity (Some f) octets s n e = let none = (none_so_far bound capacity (Some f) octets s e).0 in cc
+pub finished : (first : Option ℕ) (identifier : Option (List ℕ)) → IsSoFar first identifier → whole_arcs (arcs_so_far first identifier) ≡ ok_or identifier errors.Empty
+finished None None s = whole-few [] (omega arith)
+finished (Some x) None s = whole-few (x ∷ []) (omega arith)
+finished None (Some arcs) s = absurd s
+finished (Some x) (Some arcs) s = whole-many arcs s
 
 -- An identifier with one arc more, as a whole
 

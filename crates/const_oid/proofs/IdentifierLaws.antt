@@ -40,32 +40,26 @@ free-test value o free = by (cases_eq value 0) (cases_eq o 128)
     by (inr v) e = rw (ne_eqb value 0 v) refl
 
 pub read_arcs-end : (bound : ℕ) → read_arcs bound 0 [] ≡ Ok []
-unfolding read_arcs
 read_arcs-end bound = refl
 
 pub read_arcs-cut : (bound value : ℕ) → 0 < value → read_arcs bound value [] ≡ Err errors.Base128
-unfolding read_arcs
 read_arcs-cut bound value l =
     let e : eqb value 0 ≡ false = ne_eqb value 0 (λ h. omega arith) in
     rw (e, read_arcs) refl
 
 pub read_arcs-leading : (bound value o : ℕ) (w : List ℕ) → value ≡ 0 → o ≡ 128 → read_arcs bound value (o ∷ w) ≡ Err errors.Base128
-unfolding read_arcs
 read_arcs-leading bound value o w v e = rw (v, e) refl
 
 pub read_arcs-too_big : (bound value o : ℕ) (w : List ℕ) → ((value ≡ 0) × (o ≡ 128) → ⊥) → bound ≤ value * 128 + o % 128
     → read_arcs bound value (o ∷ w) ≡ Err errors.ArcTooBig
-unfolding read_arcs
 read_arcs-too_big bound value o w free large = rw (free-test value o free, le-ltb (value * 128 + o % 128) bound large, read_arcs) refl
 
 pub read_arcs-last : (bound value o : ℕ) (w : List ℕ) → ((value ≡ 0) × (o ≡ 128) → ⊥) → value * 128 + o % 128 < bound → o < 128
     → read_arcs bound value (o ∷ w) ≡ with_arc (value * 128 + o % 128) (read_arcs bound 0 w)
-unfolding read_arcs
 read_arcs-last bound value o w free fits l = rw (free-test value o free, lt-ltb (value * 128 + o % 128) bound fits, lt-ltb o 128 l, read_arcs) refl
 
 pub read_arcs-more : (bound value o : ℕ) (w : List ℕ) → ((value ≡ 0) × (o ≡ 128) → ⊥) → value * 128 + o % 128 < bound → 128 ≤ o
     → read_arcs bound value (o ∷ w) ≡ read_arcs bound (value * 128 + o % 128) w
-unfolding read_arcs
 read_arcs-more bound value o w free fits l = rw (free-test value o free, lt-ltb (value * 128 + o % 128) bound fits, le-ltb o 128 l, read_arcs) refl
 
 -- What is read has its octets
@@ -140,7 +134,7 @@ arcs_sound bound value p (o ∷ w) arcs begun bytes ok = by (step bound value o)
 
 pub identifier_sound : (bound capacity : ℕ) (w arcs : List ℕ) → ((i : ℕ) → get_or w i 0 < 256) → read_identifier bound capacity w ≡ Ok arcs
     → IsIdentifier bound arcs × (length w ≤ capacity) × (w ≡ identifier_octets arcs)
-unfolding read_identifier IsIdentifier identifier_octets
+unfolding IsIdentifier identifier_octets
 identifier_sound bound capacity [] arcs bytes ok = cc
 identifier_sound bound capacity (r ∷ w) arcs bytes ok = by (cases_lt capacity (length (r ∷ w))) (cases_lt r 120)
   where
@@ -212,7 +206,7 @@ read_arcs-arcs bound (a ∷ arcs) all =
 
 pub identifier_again : (bound capacity : ℕ) (arcs : List ℕ) → IsIdentifier bound arcs → length (identifier_octets arcs) ≤ capacity
     → read_identifier bound capacity (identifier_octets arcs) ≡ Ok arcs
-unfolding read_identifier IsIdentifier identifier_octets
+unfolding IsIdentifier identifier_octets
 identifier_again bound capacity [] id fits = absurd id
 identifier_again bound capacity (a ∷ []) id fits = absurd id
 identifier_again bound capacity (a ∷ b ∷ arcs) id fits =

@@ -18,7 +18,6 @@ pub mod OverflowLaws
 pub mod PackedLaws
 pub mod LastArcLaws
 mod NamesLaws
-mod ZerosLaws
 mod PrintLengthLaws
 mod OrderLaws
 mod BoundedLaws

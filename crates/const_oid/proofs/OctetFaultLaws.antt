@@ -74,7 +74,6 @@ root_octets r = ap (λ x. x ∷ []) (let e : r ≡ 40 * (r / 40) + r % 40 = omeg
 
 -- what reading refuses has that fault
 pub fault_found : (bound capacity : ℕ) (w : List ℕ) (e : Error) → ((i : ℕ) → get_or w i 0 < 256) → read_identifier bound capacity w ≡ Err e → IsOctetsFault bound capacity w e
-unfolding read_identifier
 fault_found bound capacity [] e bytes err =
     let kind : errors.Empty ≡ e = cc in
     subst (IsOctetsFault bound capacity []) kind (no_octet refl)
@@ -108,7 +107,7 @@ behind_begun bound (suc n) t within = read_arcs-begun bound (suc n) t (omega ari
 
 behind_open : (bound capacity value : ℕ) (front arcs t : List ℕ) (e : Error) → IsOpen bound front arcs value → length (front ++ t) ≤ capacity → read_arcs bound value t ≡ Err e
     → read_identifier bound capacity (front ++ t) ≡ Err e
-unfolding read_identifier identifier_octets IsIdentifier
+unfolding identifier_octets IsIdentifier
 behind_open bound capacity value front [] t e opened fits err = absurd opened.identifier
 behind_open bound capacity value front (x ∷ []) t e opened fits err = absurd opened.identifier
 behind_open bound capacity value front (x ∷ y ∷ arcs) t e opened fits err =
@@ -135,7 +134,6 @@ arc_fault_answered bound capacity w e fits (unfinished arcs value opened some) =
 
 -- octets of that fault are refused with it
 pub fault_answered : (bound capacity : ℕ) (w : List ℕ) (e : Error) → IsOctetsFault bound capacity w e → read_identifier bound capacity w ≡ Err e
-unfolding read_identifier
 fault_answered bound capacity w e (no_octet none) = ap (read_identifier bound capacity) none
 fault_answered bound capacity w e (too_long long) = read_identifier-long bound capacity w long
 fault_answered bound capacity w e (root_invalid r rest whole fits large) =
@@ -155,20 +153,3 @@ pub answer_fault : (bound capacity : ℕ) (w : List ℕ) (r : Result (List ℕ) 
     → IfErr r (λ e. IsOctetsFault bound capacity w e)
 answer_fault bound capacity w (Ok arcs) bytes e = tt
 answer_fault bound capacity w (Err x) bytes e = fault_found bound capacity w x bytes (sym e)
-
-IsIdentifier-wider : (small large : ℕ) (arcs : List ℕ) → small ≤ large → IsIdentifier small arcs → IsIdentifier large arcs
-unfolding IsIdentifier
-IsIdentifier-wider small large [] l id = absurd id
-IsIdentifier-wider small large (a ∷ []) l id = absurd id
-IsIdentifier-wider small large (a ∷ b ∷ arcs) l id = (id.0, id.1, all arcs id.2)
-  where
-    all : (arcs : List ℕ) → AllByRecursion (λ n. n < small) arcs → AllByRecursion (λ n. n < large) arcs
-    all [] h = tt
-    all (a ∷ arcs) h = (omega (arith, h.0), all arcs h.1)
-
--- a wider bound reads the same arcs
-pub wider_read : (small large capacity : ℕ) (w arcs : List ℕ) → small ≤ large → ((i : ℕ) → get_or w i 0 < 256) → read_identifier small capacity w ≡ Ok arcs → read_identifier large capacity w ≡ Ok arcs
-wider_read small large capacity w arcs l bytes ok =
-    let sound = identifier_sound small capacity w arcs bytes ok in
-    ap (read_identifier large capacity) sound.2
-    ∙ identifier_again large capacity arcs (IsIdentifier-wider small large arcs l sound.0) (subst (λ (t : List ℕ). length t ≤ capacity) sound.2 sound.1)

@@ -27,7 +27,6 @@ read_arcs-not_overflow bound value (o ∷ w) h = by (step bound value o) (λ val
     by (more free fits l) ih = ih (value * 128 + o % 128) (sym (read_arcs-more bound value o w free fits l) ∙ h)
 
 pub octets-not_overflow : (bound capacity : ℕ) (w : List ℕ) → read_identifier bound capacity w ≢ Err errors.Overflow
-unfolding read_identifier
 octets-not_overflow bound capacity [] h = cc
 octets-not_overflow bound capacity (r ∷ w) h = by (cases_lt capacity (length (r ∷ w))) (cases_lt r 120)
   where

@@ -19,7 +19,6 @@ outcome-with_arc a (Ok arcs) = refl
 outcome-with_arc a (Err e) = refl
 
 outcome-cons : (bound value o : ℕ) (w : List ℕ) → outcome (read_arcs bound value (o ∷ w)) ≡ on_step bound w (after_octet bound value o)
-unfolding read_arcs
 outcome-cons bound value o w = by ((value == 0) && (o == 128)) (ltb (value * 128 + o % 128) bound) (ltb o 128)
   where
     by : (a b c : Bool)
@@ -64,7 +63,6 @@ outcome-step bound value i w l =
 
 -- the end
 pub outcome-end : (bound value i : ℕ) (w : List ℕ) → length w ≤ i → outcome (read_arcs bound value (drop i w)) ≡ (if value == 0 then Ok tt else Err errors.Base128)
-unfolding read_arcs
 outcome-end bound value i w l = rw (drop-all w i l) (by (value == 0))
   where
     drop-all : (w : List ℕ) (i : ℕ) → length w ≤ i → drop i w ≡ []
@@ -79,20 +77,17 @@ outcome-end bound value i w l = rw (drop-all w i l) (by (value == 0))
 
 -- the root, and the arcs after it
 pub outcome-root : (bound r : ℕ) (w : List ℕ) → r < 120 → outcome (read_identifier bound (length (r ∷ w)) (r ∷ w)) ≡ outcome (read_arcs bound 0 w)
-unfolding read_identifier
 outcome-root bound r w l =
     let fits : ltb (length (r ∷ w)) (length (r ∷ w)) ≡ false = le-ltb (length (r ∷ w)) (length (r ∷ w)) (omega arith) in
     rw (fits, lt-ltb r 120 l, read_identifier)
     (outcome-with_arc (r / 40) (with_arc (r % 40) (read_arcs bound 0 w)) ∙ outcome-with_arc (r % 40) (read_arcs bound 0 w))
 
 pub outcome-root_invalid : (bound r : ℕ) (w : List ℕ) → 120 ≤ r → outcome (read_identifier bound (length (r ∷ w)) (r ∷ w)) ≡ Err (errors.ArcInvalid (r / 40))
-unfolding read_identifier
 outcome-root_invalid bound r w l =
     let fits : ltb (length (r ∷ w)) (length (r ∷ w)) ≡ false = le-ltb (length (r ∷ w)) (length (r ∷ w)) (omega arith) in
     rw (fits, le-ltb r 120 l, read_identifier) refl
 
 pub outcome-empty : (bound capacity : ℕ) (w : List ℕ) → length w ≡ 0 → outcome (read_identifier bound capacity w) ≡ Err errors.Empty
-unfolding read_identifier
 outcome-empty bound capacity [] e = refl
 outcome-empty bound capacity (x ∷ w) e = absurd (omega arith)
 

@@ -1,7 +1,7 @@
 -- Reading of texts answers the arcs that they spell, or the fault of the shortest faulty front.
-use Rattle.std.proofs.Common.{◌≡◌, ◌≢◌, ℕ, zero, suc, ◌+◌, ◌-◌, ◌*◌, ◌/◌, ◌%◌, ◌<◌, ◌≤◌, ◌⊎◌, inl, inr, List, [], ◌∷◌, ◌++◌, length, map, replicate, Result, Ok, Err, IfOk, IfErr, MatchResult, Option, None, Some, unwrap_or, sym, refl, ap, subst, ◌∙◌, append_assoc, append-nil, length-append, arith}
+use Rattle.std.proofs.Common.{◌≡◌, ◌≢◌, ℕ, zero, suc, ◌+◌, ◌*◌, ◌/◌, ◌%◌, ◌<◌, ◌≤◌, ◌⊎◌, inl, inr, List, [], ◌∷◌, ◌++◌, length, map, replicate, Result, Ok, Err, IfOk, IfErr, MatchResult, Option, None, Some, unwrap_or, sym, refl, ap, subst, ◌∙◌, append_assoc, append-nil, length-append, arith}
 use Rattle.std.specs.List.{AllByRecursion, flat_map, join_with_byte}
-use Rattle.std.proofs.lemmas.Bool.{lt-ltb, le-ltb, lt-leb, le-leb, cases_lt, cases_eq}
+use Rattle.std.proofs.lemmas.Bool.{cases_lt, cases_eq}
 use Rattle.std.proofs.lemmas.Grind.{flat_map-append}
 use Rattle.const_oid.specs.declared.error.Error.{Error}
 use Rattle.const_oid.specs.declared.error.Error.TheVariants as errors
@@ -14,10 +14,10 @@ use Rattle.const_oid.specs.ArcFaults.{IsFaultless}
 use Rattle.const_oid.specs.TextFaults.{IsDecimal, AreDecimals, IsText, with_dots, IsBegun, IsOpenText, at_end, at_dot, IsTextFault, no_text, first_dot, no_digit, repeated_dot, trailing_dot, too_big, arc, one_arc}
 use Rattle.const_oid.proofs.DigitLaws.{digits-Digits}
 use Rattle.const_oid.proofs.DottedLaws.{decimal-one, decimal-more}
-use Rattle.const_oid.proofs.TextLaws.{text-digit, text-early, text-trailing, text-dot, text-none, text-last}
-use Rattle.const_oid.proofs.EncodingLaws.{whole-few, whole-many, gather-end}
-use Rattle.const_oid.proofs.TextRoundLaws.{digit_read, decimal_within, length-decimal-pos, gather-cons, alike, identifier_gathered, all_below}
-use Rattle.const_oid.proofs.ArcFaultLaws.{faultless_front, faultless_none, faultless_one, faultless_identifier, add_arc-faultless, Next, faulty, fine, next, next_answered, next-not_overflow, all-push}
+use Rattle.const_oid.proofs.TextLaws.{digit_read, no_digit_read, past_read, Digit, no, past, within, digit, text-digit, text-early, text-trailing, text-dot, text-none, text-last}
+use Rattle.const_oid.proofs.EncodingLaws.{all-push, whole-few, whole-many, gather-end}
+use Rattle.const_oid.proofs.TextRoundLaws.{decimal_within, length-decimal-pos, gather-cons, alike, identifier_gathered, all_below}
+use Rattle.const_oid.proofs.ArcFaultLaws.{faultless_front, faultless_none, faultless_one, faultless_identifier, add_arc-faultless, Next, faulty, fine, next, next_answered, next-not_overflow}
 
 -- Decimals, digit by digit
 
@@ -121,38 +121,6 @@ open_text bound capacity front arcs a o = record {
   decimals = AreDecimals-push arcs o.pieces a o.last o.decimals o.begins.0;
   joined = o.spelled ∙ joined-push o.pieces o.last;
 }
-
--- What an octet gives where a digit must stand
-
-data Digit (bound : ℕ) (begun : Option ℕ) (c : ℕ) : Type 0 where
-  no : ¬ ((48 ≤ c) × (c ≤ 57)) → with_digit bound begun c ≡ Err (errors.DigitExpected c) → Digit bound begun c
-  past : (d : ℕ) → c ≡ 48 + d → d ≤ 9 → bound ≤ unwrap_or begun 0 * 10 + d → with_digit bound begun c ≡ Err errors.ArcTooBig → Digit bound begun c
-  within : (d : ℕ) → c ≡ 48 + d → d ≤ 9 → unwrap_or begun 0 * 10 + d < bound → with_digit bound begun c ≡ Ok (unwrap_or begun 0 * 10 + d) → Digit bound begun c
-
-no_digit_read : (bound : ℕ) (begun : Option ℕ) (c : ℕ) → ¬ ((48 ≤ c) × (c ≤ 57)) → with_digit bound begun c ≡ Err (errors.DigitExpected c)
-no_digit_read bound begun c n = by (cases_lt c 48) (cases_lt c 58)
-  where
-    by : (c < 48) ⊎ (48 ≤ c) → (c < 58) ⊎ (58 ≤ c) → with_digit bound begun c ≡ Err (errors.DigitExpected c)
-    by (inl low) _ = rw (lt-leb 48 c low) refl
-    by (inr k) (inr high) = rw (le-leb 48 c k, le-ltb c 58 high) refl
-    by (inr k) (inl l) = absurd (n (k, omega arith))
-
-past_read : (bound : ℕ) (begun : Option ℕ) (d : ℕ) → d ≤ 9 → bound ≤ unwrap_or begun 0 * 10 + d → with_digit bound begun (48 + d) ≡ Err errors.ArcTooBig
-past_read bound begun d l large =
-    let e : 48 + d - 48 ≡ d = omega arith in
-    rw (le-leb 48 (48 + d) (omega arith), lt-ltb (48 + d) 58 (omega arith), e, le-ltb (unwrap_or begun 0 * 10 + d) bound large) refl
-
-digit : (bound : ℕ) (begun : Option ℕ) (c : ℕ) → Digit bound begun c
-digit bound begun c = by (cases_lt c 48) (cases_lt c 58)
-  where
-    sized : (d : ℕ) → c ≡ 48 + d → d ≤ 9 → (unwrap_or begun 0 * 10 + d < bound) ⊎ (bound ≤ unwrap_or begun 0 * 10 + d) → Digit bound begun c
-    sized d e l (inl fits) = within d e l fits (ap (with_digit bound begun) e ∙ digit_read bound begun d (omega arith) fits)
-    sized d e l (inr large) = past d e l large (ap (with_digit bound begun) e ∙ past_read bound begun d l large)
-
-    by : (c < 48) ⊎ (48 ≤ c) → (c < 58) ⊎ (58 ≤ c) → Digit bound begun c
-    by (inl low) _ = let n : ¬ ((48 ≤ c) × (c ≤ 57)) = λ h. omega (arith, h.0) in no n (no_digit_read bound begun c n)
-    by (inr k) (inr high) = let n : ¬ ((48 ≤ c) × (c ≤ 57)) = λ h. omega (arith, h.1) in no n (no_digit_read bound begun c n)
-    by (inr k) (inl l) = sized (c - 48) (omega arith) (omega arith) (cases_lt (unwrap_or begun 0 * 10 + (c - 48)) bound)
 
 -- What reading answers
 

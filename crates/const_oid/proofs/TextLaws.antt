@@ -1,6 +1,7 @@
--- One octet more of a dotted text.
-use Rattle.std.proofs.Common.{◌≡◌, ◌≢◌, ℕ, ◌+◌, ◌<◌, List, [], ◌∷◌, length, get_or, drop, Err, Option, None, Some, sym, refl, ap, ◌∙◌, add-one, eq-eqb, ne_eqb, arith}
+-- One octet more of a dotted text, and what a digit gives.
+use Rattle.std.proofs.Common.{◌≡◌, ◌≢◌, ℕ, ◌+◌, ◌-◌, ◌*◌, ◌<◌, ◌≤◌, ◌⊎◌, inl, inr, List, [], ◌∷◌, length, get_or, drop, Ok, Err, Option, None, Some, unwrap_or, ok_or, Bool, true, false, ltb, cond, sym, refl, ap, ◌∙◌, add-one, eq-eqb, ne_eqb, arith}
 use Rattle.std.proofs.Math.Seq.{drop-cons}
+use Rattle.std.proofs.lemmas.Bool.{lt-ltb, le-ltb, lt-leb, le-leb, cases_lt}
 use Rattle.const_oid.specs.declared.error.Error.TheVariants as errors
 use Rattle.const_oid.specs.ArcLists.{add_arc, whole_arcs, and_then}
 use Rattle.const_oid.specs.TextReading.{with_digit, early_dot, and_value, text_arcs}
@@ -47,3 +48,52 @@ text-last bound capacity arcs None a n = cc
 text-last bound capacity arcs (Some b) a n =
     let same : b ≡ a = cc in
     ap (λ k. and_then (add_arc capacity arcs k) whole_arcs) same
+
+-- What an octet gives where a digit must stand
+
+pub digit_read : (bound : ℕ) (value : Option ℕ) (d : ℕ) → d < 10 → unwrap_or value 0 * 10 + d < bound → with_digit bound value (48 + d) ≡ Ok (unwrap_or value 0 * 10 + d)
+digit_read bound value d l fits =
+    let e : 48 + d - 48 ≡ d = omega arith in
+    rw (le-leb 48 (48 + d) (omega arith), lt-ltb (48 + d) 58 (omega arith), e, lt-ltb (unwrap_or value 0 * 10 + d) bound fits) refl
+
+pub data Digit (bound : ℕ) (begun : Option ℕ) (c : ℕ) : Type 0 where
+  no : ¬ ((48 ≤ c) × (c ≤ 57)) → with_digit bound begun c ≡ Err (errors.DigitExpected c) → Digit bound begun c
+  past : (d : ℕ) → c ≡ 48 + d → d ≤ 9 → bound ≤ unwrap_or begun 0 * 10 + d → with_digit bound begun c ≡ Err errors.ArcTooBig → Digit bound begun c
+  within : (d : ℕ) → c ≡ 48 + d → d ≤ 9 → unwrap_or begun 0 * 10 + d < bound → with_digit bound begun c ≡ Ok (unwrap_or begun 0 * 10 + d) → Digit bound begun c
+
+pub no_digit_read : (bound : ℕ) (begun : Option ℕ) (c : ℕ) → ¬ ((48 ≤ c) × (c ≤ 57)) → with_digit bound begun c ≡ Err (errors.DigitExpected c)
+no_digit_read bound begun c n = by (cases_lt c 48) (cases_lt c 58)
+  where
+    by : (c < 48) ⊎ (48 ≤ c) → (c < 58) ⊎ (58 ≤ c) → with_digit bound begun c ≡ Err (errors.DigitExpected c)
+    by (inl low) _ = rw (lt-leb 48 c low) refl
+    by (inr k) (inr high) = rw (le-leb 48 c k, le-ltb c 58 high) refl
+    by (inr k) (inl l) = absurd (n (k, omega arith))
+
+pub past_read : (bound : ℕ) (begun : Option ℕ) (d : ℕ) → d ≤ 9 → bound ≤ unwrap_or begun 0 * 10 + d → with_digit bound begun (48 + d) ≡ Err errors.ArcTooBig
+past_read bound begun d l large =
+    let e : 48 + d - 48 ≡ d = omega arith in
+    rw (le-leb 48 (48 + d) (omega arith), lt-ltb (48 + d) 58 (omega arith), e, le-ltb (unwrap_or begun 0 * 10 + d) bound large) refl
+
+-- a digit behind a value, as it is pushed
+pub digit_pushed : (bound : ℕ) (begun : Option ℕ) (c v : ℕ) (r : Option ℕ) → 48 ≤ c → c ≤ 57 → v ≡ unwrap_or begun 0
+    → r ≡ cond (ltb (v * 10 + (c - 48)) bound) (Some (v * 10 + (c - 48))) None → with_digit bound begun c ≡ ok_or r errors.ArcTooBig
+digit_pushed bound begun c v r k l e p =
+    let n = unwrap_or begun 0 * 10 + (c - 48) in
+    let pushed : r ≡ cond (ltb n bound) (Some n) None = p ∙ ap (λ u. cond (ltb (u * 10 + (c - 48)) bound) (Some (u * 10 + (c - 48))) None) e in
+    rw (le-leb 48 c k, lt-ltb c 58 (omega arith)) (by n (ltb n bound)) ∙ ap (λ (s : Option ℕ). ok_or s errors.ArcTooBig) (sym pushed)
+  where
+    by : (n : ℕ) (b : Bool) → cond b (Ok n) (Err errors.ArcTooBig) ≡ ok_or (cond b (Some n) None) errors.ArcTooBig
+    by n true = refl
+    by n false = refl
+
+pub digit : (bound : ℕ) (begun : Option ℕ) (c : ℕ) → Digit bound begun c
+digit bound begun c = by (cases_lt c 48) (cases_lt c 58)
+  where
+    sized : (d : ℕ) → c ≡ 48 + d → d ≤ 9 → (unwrap_or begun 0 * 10 + d < bound) ⊎ (bound ≤ unwrap_or begun 0 * 10 + d) → Digit bound begun c
+    sized d e l (inl fits) = within d e l fits (ap (with_digit bound begun) e ∙ digit_read bound begun d (omega arith) fits)
+    sized d e l (inr large) = past d e l large (ap (with_digit bound begun) e ∙ past_read bound begun d l large)
+
+    by : (c < 48) ⊎ (48 ≤ c) → (c < 58) ⊎ (58 ≤ c) → Digit bound begun c
+    by (inl low) _ = let n : ¬ ((48 ≤ c) × (c ≤ 57)) = λ h. omega (arith, h.0) in no n (no_digit_read bound begun c n)
+    by (inr k) (inr high) = let n : ¬ ((48 ≤ c) × (c ≤ 57)) = λ h. omega (arith, h.1) in no n (no_digit_read bound begun c n)
+    by (inr k) (inl l) = sized (c - 48) (omega arith) (omega arith) (cases_lt (unwrap_or begun 0 * 10 + (c - 48)) bound)

@@ -1,21 +1,16 @@
 -- The dotted text of a list of arcs is read as the list is.
-use Rattle.std.proofs.Common.{◌≡◌, ℕ, zero, suc, ◌+◌, ◌-◌, ◌*◌, ◌/◌, ◌%◌, ◌<◌, ◌≤◌, ◌⊎◌, inl, inr, List, [], ◌∷◌, ◌++◌, length, Result, Ok, Err, Option, None, Some, unwrap_or, sym, refl, ap, subst, ◌∙◌, append_assoc, append-nil, length-append, arith}
+use Rattle.std.proofs.Common.{◌≡◌, ℕ, zero, suc, ◌+◌, ◌*◌, ◌/◌, ◌%◌, ◌<◌, ◌≤◌, ◌⊎◌, inl, inr, List, [], ◌∷◌, ◌++◌, length, Result, Ok, Err, None, Some, sym, refl, ap, subst, ◌∙◌, append_assoc, append-nil, length-append, arith}
 use Rattle.std.specs.List.{AllByRecursion, flat_map}
-use Rattle.std.proofs.lemmas.Bool.{lt-ltb, le-ltb, le-leb, cases_lt}
+use Rattle.std.proofs.lemmas.Bool.{le-ltb, cases_lt}
 use Rattle.const_oid.specs.declared.error.Error.{Error}
 use Rattle.const_oid.specs.IdentifierOctets.{arc_octets, identifier_octets, IsIdentifier}
 use Rattle.const_oid.specs.ArcLists.{add_arc, whole_arcs, and_then, gather}
-use Rattle.const_oid.specs.TextReading.{with_digit, and_value, text_arcs, read_text}
+use Rattle.const_oid.specs.TextReading.{and_value, text_arcs, read_text}
 use Rattle.const_oid.specs.DottedText.{decimal, dot_decimal, dotted}
 use Rattle.const_oid.proofs.DottedLaws.{decimal-one, decimal-more, dotted-cons}
-use Rattle.const_oid.proofs.TextLaws.{text-digit, text-dot, text-last}
+use Rattle.const_oid.proofs.TextLaws.{digit_read, text-digit, text-dot, text-last}
 use Rattle.const_oid.proofs.EncodingLaws.{gather-ok, gather-end, add_arc-ok, placed, whole-many, identifier-many, IsIdentifier-push}
 use Rattle.const_oid.proofs.PrefixLaws.{prefix_octets}
-
-pub digit_read : (bound : ℕ) (value : Option ℕ) (d : ℕ) → d < 10 → unwrap_or value 0 * 10 + d < bound → with_digit bound value (48 + d) ≡ Ok (unwrap_or value 0 * 10 + d)
-digit_read bound value d l fits =
-    let e : 48 + d - 48 ≡ d = omega arith in
-    rw (le-leb 48 (48 + d) (omega arith), lt-ltb (48 + d) 58 (omega arith), e, lt-ltb (unwrap_or value 0 * 10 + d) bound fits) refl
 
 one_read : (bound capacity n : ℕ) (arcs w : List ℕ) → n < 10 → n < bound → text_arcs bound capacity arcs None (decimal n ++ w) ≡ text_arcs bound capacity arcs (Some n) w
 one_read bound capacity n arcs w l fits =

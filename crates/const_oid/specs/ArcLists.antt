@@ -3,7 +3,6 @@ use Rattle.std.specs.Prelude.{ℕ, Bool, false, List, [], ◌∷◌, ◌++◌, l
 use Rattle.const_oid.specs.declared.error.Error.{Error}
 use Rattle.const_oid.specs.declared.error.Error.TheVariants as errors
 use Rattle.const_oid.specs.IdentifierOctets.{identifier_octets}
-use Rattle.const_oid.specs.Arcs.{arcs_of, SpellsIdentifier}
 
 -- whether an arc can't stand behind these: a first arc above 2, or a second one above 39
 abbrev pub is_misplaced : List ℕ → ℕ → Bool
@@ -32,13 +31,14 @@ unfoldable pub gather : (capacity : ℕ) → (arcs : List ℕ) → List ℕ → 
 gather capacity arcs [] = whole_arcs arcs
 gather capacity arcs (a ∷ list) = and_then (add_arc capacity arcs a) (λ more. gather capacity more list)
 
--- a first arc alone, or the arcs that octets spell
-abbrev pub arcs_so_far : Option ℕ → List ℕ → List ℕ
-arcs_so_far first [] = option_to_list first
-arcs_so_far first (r ∷ w) = arcs_of (r ∷ w)
+-- the arcs of an identifier, or before it has two a first one alone
+abbrev pub arcs_so_far : Option ℕ → Option (List ℕ) → List ℕ
+arcs_so_far first None = option_to_list first
+arcs_so_far first (Some arcs) = arcs
 
--- at most one arc, which may be a first one, or the octets of an identifier
-abbrev pub IsSoFar : (bound capacity : ℕ) → Option ℕ → List ℕ → Type 0
-IsSoFar bound capacity None [] = Unit {0}
-IsSoFar bound capacity (Some first) [] = first ≤ 2
-IsSoFar bound capacity first (r ∷ w) = SpellsIdentifier bound capacity (r ∷ w)
+-- a first arc may be one, and an identifier has two arcs or more, of which it is the first
+abbrev pub IsSoFar : Option ℕ → Option (List ℕ) → Type 0
+IsSoFar None None = Unit {0}
+IsSoFar (Some first) None = first ≤ 2
+IsSoFar None (Some arcs) = ⊥
+IsSoFar (Some first) (Some arcs) = 2 ≤ length arcs

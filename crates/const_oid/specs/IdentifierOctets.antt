@@ -26,7 +26,7 @@ with_arc a (Err e) = Err e
 
 -- the arcs after the root, with the first fault; `value` is what the octets of an unfinished arc have given, and 0
 -- where no arc is begun
-unfoldable pub read_arcs : (bound value : ℕ) → List ℕ → Result (List ℕ) Error
+abbrev pub read_arcs : (bound value : ℕ) → List ℕ → Result (List ℕ) Error
 read_arcs bound value [] = elim (value == 0) [ true ↦ Ok [] | false ↦ Err errors.Base128 ]
 read_arcs bound value (o ∷ w) =
     elim ((value == 0) && (o == 128)) [
@@ -41,7 +41,7 @@ read_arcs bound value (o ∷ w) =
     ]
 
 -- the arcs of at most so many octets, with the first fault
-unfoldable pub read_identifier : (bound capacity : ℕ) → List ℕ → Result (List ℕ) Error
+abbrev pub read_identifier : (bound capacity : ℕ) → List ℕ → Result (List ℕ) Error
 read_identifier bound capacity [] = Err errors.Empty
 read_identifier bound capacity (r ∷ w) =
     elim (ltb capacity (length (r ∷ w))) [

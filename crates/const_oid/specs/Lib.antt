@@ -18,4 +18,3 @@ pub mod ArcFaults
 pub mod TextFaults
 pub mod Names
 pub mod Databases
-pub mod LeadingZeros

@@ -13,9 +13,15 @@ pub(crate) fn octet_count(arc: Arc) -> usize
 {
     let mut count = 1;
     let mut high = arc / 128;
-    while high != 0 {
+    while high >= 1 << 64 {
         count += 1;
         high /= 128;
+    }
+    // One word is enough for the rest, and for most arcs.
+    let mut word = high as u64;
+    while word != 0 {
+        count += 1;
+        word /= 128;
     }
     count
 }
@@ -25,7 +31,8 @@ fn write_marked(bytes: &mut [u8], end: usize, high: Arc)
     requires room { length (digits 128 high) ≤ end }
     requires within { end ≤ length bytes.old }
     ensures { bytes.new
-        ≡ take (end - length (digits 128 high)) bytes.old ++ (map (λ d. 128 + d) (digits 128 high) ++ drop end bytes.old) }
+        ≡ take (end - length (digits 128 high)) bytes.old
+        ++ (map (λ d. 128 + d) (digits 128 high) ++ drop end bytes.old) }
 {
     let last = end - 1;
     bytes[last] = 0x80 + (high % 128) as u8;
@@ -38,7 +45,8 @@ fn write_marked(bytes: &mut [u8], end: usize, high: Arc)
 pub(crate) fn write_arc(bytes: &mut [u8], end: usize, arc: Arc)
     requires room { length (arc_octets arc) ≤ end }
     requires within { end ≤ length bytes.old }
-    ensures { bytes.new ≡ take (end - length (arc_octets arc)) bytes.old ++ (arc_octets arc ++ drop end bytes.old) }
+    ensures { bytes.new ≡ take (end - length (arc_octets arc)) bytes.old
+        ++ (arc_octets arc ++ drop end bytes.old) }
 {
     let last = end - 1;
     bytes[last] = (arc % 128) as u8;

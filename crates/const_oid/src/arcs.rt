@@ -73,7 +73,8 @@ impl<'a> Iterator for Arcs<'a> {
 fn first_arc(octets: &[u8]) -> Option<(Arc, &[u8])>
     requires { is_ok (read_arcs Bound 0 octets.now) ≡ true }
     ensures { MatchOption result (octets.now ≡ [])
-        (λ p. (later_arcs 0 octets.now ≡ p.0 ∷ later_arcs 0 p.1.now) × (is_ok (read_arcs Bound 0 p.1.now) ≡ true)) }
+        (λ p. (later_arcs 0 octets.now ≡ p.0 ∷ later_arcs 0 p.1.now)
+        × (is_ok (read_arcs Bound 0 p.1.now) ≡ true)) }
 {
     let mut value: Arc = 0;
     for (i, octet) in octets.iter().enumerate() {
@@ -93,7 +94,8 @@ fn unmarked(octets: &[u8]) -> usize
     octets.iter().filter(|octet| **octet < 0x80).count()
 }
 
-/// How many arcs identifier octets have: one for each octet without a mark, and one more, since the root has two.
+/// How many arcs identifier octets have: one for each octet without a mark, and one more, since the
+/// root has two.
 pub(crate) fn count(octets: &[u8]) -> usize
     requires { is_ok (read_identifier Bound (length octets.now) octets.now) ≡ true }
     ensures { result ≡ length (arcs_of octets.now) }
@@ -115,8 +117,8 @@ pub(crate) fn arc_at(octets: &[u8], index: usize) -> Option<Arc>
     arcs.next()
 }
 
-/// Where the octets of the last arc begin, behind the last octet without a mark but one, or 0 where there is none; and how
-/// many octets were tested for a mark.
+/// Where the octets of the last arc begin, behind the last octet without a mark but one, or 0 where
+/// there is none; and how many octets were tested for a mark.
 pub(crate) fn last_start(octets: &[u8]) -> (usize, u32)
     requires { SpellsIdentifier Bound (length octets.now) octets.now }
     ensures start { result.0 ≡ place_of_last (arcs_of octets.now) }

@@ -1,8 +1,6 @@
 //! Octets in place: a list of at most `SIZE` octets that needs no memory of its own.
 
 ghost use Rattle.std.specs.Prelude.{◌≡◌, ℕ, ◌+◌, ◌<◌, ◌≤◌, ◌==◌, List, [], ◌∷◌, ◌++◌, length, take, nat_eq, refl, Some, MatchResult};
-ghost use Rattle.const_oid.specs.IdentifierOctets.{arc_octets};
-ghost use Rattle.const_oid.specs.declared.error.Error.TheVariants as errors;
 ghost use Rattle.const_oid.specs.Orders.{sized_cmp, sized_cmp_total, sized_cmp_ties};
 ghost use Rattle.std.specs.Cmp.{po, partial_equiv_from_equiv};
 ghost use Rattle.std.specs.Cmp.Lexicographic.{pointwise, nat_list_eq_equiv};
@@ -10,15 +8,14 @@ ghost use Rattle.std.specs.Cmp.Rules.{hashing};
 ghost use Rattle.std.specs.Hash as fed;
 ghost use Rattle.std.proofs.Common.{rules};
 
-use crate::arc_octets::{octet_count, write_arc};
-use crate::error::{Arc, Error, Result};
 use std::cmp::Ordering;
 use std::convert::AsSlice;
 use std::fmt;
 use std::hash::{Hash, Hasher};
 use std::marker::Model;
 
-/// A list of at most `SIZE` octets, held in place. A contract sees the list; past its end the array is zero.
+/// A list of at most `SIZE` octets, held in place. A contract sees the list; past its end the array
+/// is zero.
 #[derive(Clone, Copy)]
 pub struct Buffer<const SIZE: usize> {
     bytes: [u8; SIZE],
@@ -33,9 +30,13 @@ impl<const SIZE: usize> Model for Buffer<SIZE> {
 
     ghost view = { λ b. take b.count b.bytes };
 
-    ghost invariant = { λ b. (b.count ≤ SIZE) × (length b.bytes ≡ SIZE) × (drop b.count b.bytes ≡ replicate (SIZE - b.count) 0) };
+    ghost invariant = { λ b. (b.count ≤ SIZE) × (length b.bytes ≡ SIZE)
+        × (drop b.count b.bytes ≡ replicate (SIZE - b.count) 0) };
 
-    ghost inverse = { λ octets. record { bytes = octets ++ replicate (SIZE - length octets) 0; count = length octets } };
+    ghost inverse = { λ octets. record {
+      bytes = octets ++ replicate (SIZE - length octets) 0;
+      count = length octets;
+    } };
 
     ghost inverse_ok = { λ b h i. record {
       bytes = padded SIZE b.count b.bytes h.0 h.1 h.2 i;
@@ -67,32 +68,6 @@ impl<const SIZE: usize> Buffer<SIZE> {
             bytes,
             count: octets.len(),
         }
-    }
-
-    /// One octet more at the end, where there is room.
-    #[inline]
-    pub(crate) fn push(&mut self, octet: u8)
-        requires { length self.old < SIZE }
-        ensures { self.new ≡ self.old ++ octet ∷ [] }
-    {
-        self.bytes[self.count] = octet;
-        self.count += 1;
-    }
-
-    /// The octets of an arc at the end, where there is room.
-    pub(crate) fn push_arc(&mut self, arc: Arc) -> Result<()>
-        ensures { MatchResult result
-            (λ _. (self.new ≡ self.old ++ arc_octets arc) × (length self.old + length (arc_octets arc) ≤ SIZE))
-            (λ e. (e ≡ errors.Length) × (SIZE < length self.old + length (arc_octets arc)) × (self.new ≡ self.old)) }
-    {
-        let count = octet_count(arc);
-        if count > SIZE - self.count {
-            return Err(Error::Length);
-        }
-        let end = self.count + count;
-        write_arc(&mut self.bytes, end, arc);
-        self.count = end;
-        Ok(())
     }
 
     /// The octets.

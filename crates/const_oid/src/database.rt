@@ -7,7 +7,8 @@ use crate::{ObjectIdentifier, Result};
 /// An identifier and its name.
 pub type Entry<'a> = (&'a ObjectIdentifier<39>, &'a str);
 
-/// A database of identifiers and their names. Entries may repeat either; the first match is the answer.
+/// A database of identifiers and their names. Entries may repeat either; the first match is the
+/// answer.
 #[derive(Clone, Copy)]
 pub struct Database<'a> {
     entries: &'a [Entry<'a>],
@@ -52,7 +53,8 @@ impl<'a> Database<'a> {
 
     /// The first name of an identifier.
     pub fn by_oid(&self, oid: &ObjectIdentifier<39>) -> Option<&'a str>
-        ensures { option_map (λ name. name.now) result ≡ first (names_of oid.now (entries_of self.now)) }
+        ensures { option_map (λ name. name.now) result
+            ≡ first (names_of oid.now (entries_of self.now)) }
     {
         self.find_names_for_oid(*oid).next()
     }
@@ -70,11 +72,13 @@ impl<'a> Database<'a> {
         None
     }
 
-    /// The first name of the identifier that a dotted text writes, or the text itself where the identifier has none.
+    /// The first name of the identifier that a dotted text writes, or the text itself where the
+    /// identifier has none.
     pub fn resolve<'b>(&self, oid: &'b str) -> Result<&'b str>
     where
         'a: 'b,
-        ensures name { result_map_both (λ name. name.now) (λ e. e) result ≡ resolved oid.now (entries_of self.now) (read_text Bound 39 oid.now) }
+        ensures name { result_map_both (λ name. name.now) (λ e. e) result
+            ≡ resolved oid.now (entries_of self.now) (read_text Bound 39 oid.now) }
         ensures fault { IfErr result (λ e. IsTextFault Bound 39 oid.now e) }
     {
         let identifier = ObjectIdentifier::<39>::new(oid)?;

@@ -30,7 +30,8 @@ fn write_dotted<W: fmt::Write>(octets: &[u8], f: &mut fmt::Formatter<W>) -> fmt:
 
 /// Writes a dot and its decimal digits for each arc that is left.
 fn write_later<W: fmt::Write>(mut arcs: Arcs<'_>, f: &mut fmt::Formatter<W>) -> fmt::Result
-    ensures { WritesOnOk W.write_str_gives f.old result (flat_map dot_decimal (remaining_arcs arcs.entry)) f.new }
+    ensures { WritesOnOk W.write_str_gives f.old result
+        (flat_map dot_decimal (remaining_arcs arcs.entry)) f.new }
 {
     while let Some(arc) = arcs.next() {
         write_dot_decimal(arc, f)?;

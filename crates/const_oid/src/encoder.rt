@@ -3,28 +3,27 @@
 ghost use Rattle.std.specs.Prelude.{◌≡◌, ℕ, ◌↔◌, [], IsTrue, MatchResult, Result, Ok, Err};
 ghost use Rattle.const_oid.specs.ArcLists.{add_arc, whole_arcs};
 
-use crate::buffer::Buffer;
 use crate::error::{Arc, Error, Result};
 use crate::object_identifier::ObjectIdentifier;
 use std::marker::Model;
 
-/// The arcs of an identifier so far, as their octets; a first arc alone has none yet.
+/// The arcs of an identifier so far: none, a first one alone, or an identifier's. A contract sees
+/// their list.
 #[derive(Drop)]
 pub(crate) struct Encoder<const MAX_SIZE: usize> {
     first: Option<Arc>,
-    octets: Buffer<MAX_SIZE>,
+    identifier: Option<ObjectIdentifier<MAX_SIZE>>,
 }
 
 impl<const MAX_SIZE: usize> Model for Encoder<MAX_SIZE> {
     ghost use Rattle.std.specs.Prelude.{ℕ, List};
-    ghost use Rattle.const_oid.specs.Bound.{Bound};
     ghost use Rattle.const_oid.specs.ArcLists.{arcs_so_far, IsSoFar};
 
     ghost Value = { List ℕ };
 
-    ghost view = { λ e. arcs_so_far e.first e.octets };
+    ghost view = { λ e. arcs_so_far e.first e.identifier };
 
-    ghost invariant = { λ e. IsSoFar Bound MAX_SIZE e.first e.octets };
+    ghost invariant = { λ e. IsSoFar e.first e.identifier };
 }
 
 impl<const MAX_SIZE: usize> Encoder<MAX_SIZE> {
@@ -34,7 +33,7 @@ impl<const MAX_SIZE: usize> Encoder<MAX_SIZE> {
     {
         Encoder {
             first: None,
-            octets: Buffer::new(),
+            identifier: None,
         }
     }
 
@@ -42,10 +41,7 @@ impl<const MAX_SIZE: usize> Encoder<MAX_SIZE> {
     pub(crate) fn is_empty(&self) -> bool
         ensures { IsTrue result ↔ (self.now ≡ []) }
     {
-        if self.first.is_some() {
-            return false;
-        }
-        self.octets.is_empty()
+        self.first.is_none()
     }
 
     /// One arc more.
@@ -54,8 +50,8 @@ impl<const MAX_SIZE: usize> Encoder<MAX_SIZE> {
             (λ _. add_arc MAX_SIZE self.old arc ≡ Ok self.new)
             (λ e. add_arc MAX_SIZE self.old arc ≡ Err e) }
     {
-        if !self.octets.is_empty() {
-            return self.octets.push_arc(arc);
+        if let Some(identifier) = &mut self.identifier {
+            return identifier.push(arc);
         }
         let Some(first) = self.first else {
             if arc > 2 {
@@ -67,10 +63,8 @@ impl<const MAX_SIZE: usize> Encoder<MAX_SIZE> {
         if arc >= 40 {
             return Err(Error::ArcInvalid { arc });
         }
-        if self.octets.len() == MAX_SIZE {
-            return Err(Error::Length);
-        }
-        self.octets.push((40 * first + arc) as u8);
+        let root = ObjectIdentifier::from_bytes_sized(&[40 * first as u8 + arc as u8])?;
+        self.identifier = Some(root);
         Ok(())
     }
 
@@ -78,9 +72,6 @@ impl<const MAX_SIZE: usize> Encoder<MAX_SIZE> {
     pub(crate) fn finish(self) -> Result<ObjectIdentifier<MAX_SIZE>>
         ensures { result ≡ whole_arcs self.entry }
     {
-        if self.octets.is_empty() {
-            return Err(Error::Empty);
-        }
-        Ok(ObjectIdentifier::trusted(self.octets))
+        self.identifier.ok_or(Error::Empty)
     }
 }

@@ -9,7 +9,6 @@ ghost use Rattle.const_oid.specs.OctetFaults.{IsOctetsFault};
 ghost use Rattle.const_oid.specs.ArcLists.{gather};
 ghost use Rattle.const_oid.specs.TextReading.{read_text};
 ghost use Rattle.const_oid.specs.DottedText.{dotted};
-ghost use Rattle.const_oid.specs.LeadingZeros.{without_leading_zeros};
 ghost use Rattle.const_oid.specs.Family.{child_of, parent_of};
 ghost use Rattle.const_oid.specs.Orders.{owned_cmp};
 ghost use Rattle.const_oid.specs.Comparing.{owned_eq, borrowed_cmp, IsAtMost};
@@ -24,37 +23,44 @@ ghost use Rattle.std.specs.List.{AllByRecursion};
 use crate::ObjectIdentifierRef;
 use std::cmp::Ordering;
 
-/// What is read of octets is an identifier within the bound and the capacity, and the octets are its own.
+/// What is read of octets is an identifier within the bound and the capacity, and the octets are
+/// its own.
 pub fn read_octets_are_spelled()
-    ensures { (bound capacity : ℕ) (w arcs : List ℕ) → ((i : ℕ) → slice_index w i < 256) → read_identifier bound capacity w ≡ Ok arcs
+    ensures { (bound capacity : ℕ) (w arcs : List ℕ) → ((i : ℕ) → slice_index w i < 256)
+        → read_identifier bound capacity w ≡ Ok arcs
         → IsIdentifier bound arcs × (length w ≤ capacity) × (w ≡ identifier_octets arcs) }
 {}
 
 /// The octets of an identifier are read as it, where they are within the capacity.
 pub fn spelled_octets_are_read()
-    ensures { (bound capacity : ℕ) (arcs : List ℕ) → IsIdentifier bound arcs → length (identifier_octets arcs) ≤ capacity
+    ensures { (bound capacity : ℕ) (arcs : List ℕ) → IsIdentifier bound arcs
+        → length (identifier_octets arcs) ≤ capacity
         → read_identifier bound capacity (identifier_octets arcs) ≡ Ok arcs }
 {}
 
 /// Octets that are refused have the fault that is answered.
 pub fn answered_faults_are_there()
-    ensures { (bound capacity : ℕ) (w : List ℕ) (e : Error) → ((i : ℕ) → slice_index w i < 256) → read_identifier bound capacity w ≡ Err e
+    ensures { (bound capacity : ℕ) (w : List ℕ) (e : Error) → ((i : ℕ) → slice_index w i < 256)
+        → read_identifier bound capacity w ≡ Err e
         → IsOctetsFault bound capacity w e }
 {}
 
 /// Octets that have a fault are refused, and answered is that fault.
 pub fn faults_are_answered()
-    ensures { (bound capacity : ℕ) (w : List ℕ) (e : Error) → IsOctetsFault bound capacity w e → read_identifier bound capacity w ≡ Err e }
+    ensures { (bound capacity : ℕ) (w : List ℕ) (e : Error) → IsOctetsFault bound capacity w e
+        → read_identifier bound capacity w ≡ Err e }
 {}
 
 /// Identifiers of the same octets have the same arcs.
 pub fn octets_identify()
-    ensures { (bound : ℕ) (a b : List ℕ) → IsIdentifier bound a → IsIdentifier bound b → identifier_octets a ≡ identifier_octets b → a ≡ b }
+    ensures { (bound : ℕ) (a b : List ℕ) → IsIdentifier bound a → IsIdentifier bound b
+        → identifier_octets a ≡ identifier_octets b → a ≡ b }
 {}
 
 /// Octets that begin with those of an identifier are of arcs that begin with its arcs.
 pub fn octets_tell_prefixes()
-    ensures { (bound : ℕ) (a b r : List ℕ) → IsIdentifier bound a → IsIdentifier bound b → identifier_octets a ≡ identifier_octets b ++ r
+    ensures { (bound : ℕ) (a b r : List ℕ) → IsIdentifier bound a → IsIdentifier bound b
+        → identifier_octets a ≡ identifier_octets b ++ r
         → (rest : List ℕ) × (a ≡ b ++ rest) }
 {}
 
@@ -65,45 +71,47 @@ pub fn second_arcs_are_below_the_bound()
 
 /// The dotted text of an identifier is read as it, where its octets are within the capacity.
 pub fn printed_texts_are_read()
-    ensures { (bound capacity : ℕ) (arcs : List ℕ) → 40 ≤ bound → IsIdentifier bound arcs → length (identifier_octets arcs) ≤ capacity
+    ensures { (bound capacity : ℕ) (arcs : List ℕ) → 40 ≤ bound → IsIdentifier bound arcs
+        → length (identifier_octets arcs) ≤ capacity
         → read_text bound capacity (dotted arcs) ≡ Ok arcs }
 {}
 
 /// The dotted text of some arcs is read as the arcs are gathered one after another.
 pub fn texts_are_judged_as_arcs()
-    ensures { (bound capacity : ℕ) (arcs : List ℕ) → AllByRecursion (λ n. n < bound) arcs → 0 < length arcs
+    ensures { (bound capacity : ℕ) (arcs : List ℕ) → AllByRecursion (λ n. n < bound) arcs
+        → 0 < length arcs
         → read_text bound capacity (dotted arcs) ≡ gather capacity [] arcs }
 {}
 
 /// Identifiers of the same dotted text have the same arcs.
 pub fn texts_identify()
-    ensures { (bound : ℕ) (a b : List ℕ) → 40 ≤ bound → IsIdentifier bound a → IsIdentifier bound b → dotted a ≡ dotted b → a ≡ b }
+    ensures { (bound : ℕ) (a b : List ℕ) → 40 ≤ bound → IsIdentifier bound a → IsIdentifier bound b
+        → dotted a ≡ dotted b → a ≡ b }
 {}
 
 /// Octets that are read under one bound of arcs are read as the same arcs under a wider one.
 pub fn wider_bounds_read_the_same()
-    ensures { (small large capacity : ℕ) (w arcs : List ℕ) → small ≤ large → ((i : ℕ) → slice_index w i < 256) → read_identifier small capacity w ≡ Ok arcs
+    ensures { (small large capacity : ℕ) (w arcs : List ℕ) → small ≤ large
+        → ((i : ℕ) → slice_index w i < 256) → read_identifier small capacity w ≡ Ok arcs
         → read_identifier large capacity w ≡ Ok arcs }
-{}
-
-/// What is read of a text prints as the text without the leading zeros of its arcs.
-pub fn read_texts_print_without_leading_zeros()
-    ensures { (bound capacity : ℕ) (w arcs : List ℕ) → read_text bound capacity w ≡ Ok arcs → dotted arcs ≡ without_leading_zeros w }
 {}
 
 /// The dotted text of an identifier has at most four octets for each octet of its encoding.
 pub fn identifiers_print_in_few_octets()
-    ensures { (bound : ℕ) (arcs : List ℕ) → IsIdentifier bound arcs → length (dotted arcs) ≤ 4 * length (identifier_octets arcs) }
+    ensures { (bound : ℕ) (arcs : List ℕ) → IsIdentifier bound arcs
+        → length (dotted arcs) ≤ 4 * length (identifier_octets arcs) }
 {}
 
 /// The parent of an identifier with one arc more is the identifier.
 pub fn parents_undo_children()
-    ensures { (bound capacity : ℕ) (arcs child : List ℕ) (a : ℕ) → IsIdentifier bound arcs → child_of capacity arcs a ≡ Ok child → parent_of child ≡ Some arcs }
+    ensures { (bound capacity : ℕ) (arcs child : List ℕ) (a : ℕ) → IsIdentifier bound arcs
+        → child_of capacity arcs a ≡ Ok child → parent_of child ≡ Some arcs }
 {}
 
 /// The last arc behind the parent of an identifier gives the identifier back.
 pub fn children_undo_parents()
-    ensures { (capacity : ℕ) (arcs front : List ℕ) → length (identifier_octets arcs) ≤ capacity → parent_of arcs ≡ Some front
+    ensures { (capacity : ℕ) (arcs front : List ℕ) → length (identifier_octets arcs) ≤ capacity
+        → parent_of arcs ≡ Some front
         → (last : ℕ) × (arcs ≡ front ++ last ∷ []) × (child_of capacity front last ≡ Ok arcs) }
 {}
 
@@ -114,12 +122,14 @@ pub fn equal_where_octets_are()
 
 /// Identifiers are equal exactly where their arcs are.
 pub fn equal_where_arcs_are()
-    ensures { (bound : ℕ) (a b : List ℕ) → IsIdentifier bound a → IsIdentifier bound b → (IsTrue (owned_eq a b) ↔ (a ≡ b)) }
+    ensures { (bound : ℕ) (a b : List ℕ) → IsIdentifier bound a → IsIdentifier bound b
+        → (IsTrue (owned_eq a b) ↔ (a ≡ b)) }
 {}
 
 /// Identifiers are equal exactly where their dotted texts are.
 pub fn equal_where_texts_are()
-    ensures { (bound : ℕ) (a b : List ℕ) → 40 ≤ bound → IsIdentifier bound a → IsIdentifier bound b → (IsTrue (owned_eq a b) ↔ (dotted a ≡ dotted b)) }
+    ensures { (bound : ℕ) (a b : List ℕ) → 40 ≤ bound → IsIdentifier bound a → IsIdentifier bound b
+        → (IsTrue (owned_eq a b) ↔ (dotted a ≡ dotted b)) }
 {}
 
 /// The owned order is `Equal` exactly where the identifiers are equal.
@@ -134,49 +144,64 @@ pub fn borrowed_order_ties_equals()
 
 /// Equal identifiers feed a hasher the same.
 pub fn equal_identifiers_hash_equally()
-    ensures { (a b : List ℕ) → IsTrue (owned_eq a b) → fed.slice fed.u8 (identifier_octets a) ≡ fed.slice fed.u8 (identifier_octets b) }
+    ensures { (a b : List ℕ) → IsTrue (owned_eq a b)
+        → fed.slice fed.u8 (identifier_octets a) ≡ fed.slice fed.u8 (identifier_octets b) }
 {}
 
-/// Whatever stands in the borrowed order between two identifiers that begin with the same arcs begins with them too.
+/// Whatever stands in the borrowed order between two identifiers that begin with the same arcs
+/// begins with them too.
 pub fn subtrees_are_unbroken()
     ensures { (bound : ℕ) (front a b c : List ℕ) → IsIdentifier bound front → IsIdentifier bound b
-        → IsAtMost borrowed_cmp (front ++ a) b → IsAtMost borrowed_cmp b (front ++ c) → (rest : List ℕ) × (b ≡ front ++ rest) }
+        → IsAtMost borrowed_cmp (front ++ a) b → IsAtMost borrowed_cmp b (front ++ c)
+        → (rest : List ℕ) × (b ≡ front ++ rest) }
 {}
 
 /// In the owned order an identifier stands before each other one that begins with its arcs.
 pub fn ancestors_stand_first()
-    ensures { (bound : ℕ) (arcs : List ℕ) (a : ℕ) (rest : List ℕ) → IsIdentifier bound arcs → owned_cmp arcs (arcs ++ a ∷ rest) ≡ Less }
+    ensures { (bound : ℕ) (arcs : List ℕ) (a : ℕ) (rest : List ℕ) → IsIdentifier bound arcs
+        → owned_cmp arcs (arcs ++ a ∷ rest) ≡ Less }
 {}
 
 /// In the owned order the children of one identifier stand by their last arc.
 pub fn siblings_stand_by_their_last_arc()
-    ensures { (bound : ℕ) (front : List ℕ) (m n : ℕ) → IsIdentifier bound front → owned_cmp (front ++ m ∷ []) (front ++ n ∷ []) ≡ nat_cmp m n }
+    ensures { (bound : ℕ) (front : List ℕ) (m n : ℕ) → IsIdentifier bound front
+        → owned_cmp (front ++ m ∷ []) (front ++ n ∷ []) ≡ nat_cmp m n }
 {}
 
 /// There is one arc more than octets below `80`.
 pub fn octets_without_a_mark_count_arcs()
-    ensures { (bound : ℕ) (arcs : List ℕ) → IsIdentifier bound arcs → length arcs ≡ count_by (λ o. nat_lt o 128) (identifier_octets arcs) + 1 }
+    ensures { (bound : ℕ) (arcs : List ℕ) → IsIdentifier bound arcs
+        → length arcs ≡ count_by (λ o. nat_lt o 128) (identifier_octets arcs) + 1 }
 {}
 
-/// An identifier begins with its own arcs; one that begins with another's arcs begins with all that the other begins with.
+/// An identifier begins with its own arcs; one that begins with another's arcs begins with all that
+/// the other begins with.
 pub fn beginnings_chain()
     ensures itself { (a : List ℕ) → (rest : List ℕ) × (a ≡ a ++ rest) }
-    ensures chained { (a b c : List ℕ) → (rest : List ℕ) × (a ≡ b ++ rest) → (rest : List ℕ) × (b ≡ c ++ rest) → (rest : List ℕ) × (a ≡ c ++ rest) }
+    ensures chained { (a b c : List ℕ) → (rest : List ℕ) × (a ≡ b ++ rest)
+        → (rest : List ℕ) × (b ≡ c ++ rest) → (rest : List ℕ) × (a ≡ c ++ rest) }
 {}
 
-/// Octets that are read under a wide bound of arcs alone hold an arc that isn't below the narrow one.
+/// Octets that are read under a wide bound of arcs alone hold an arc that isn't below the narrow
+/// one.
 pub fn newly_read_octets_hold_a_large_arc()
-    ensures { (small large capacity : ℕ) (w arcs : List ℕ) (e : Error) → ((i : ℕ) → slice_index w i < 256) → read_identifier large capacity w ≡ Ok arcs
-        → read_identifier small capacity w ≡ Err e → (i : ℕ) × (i < length arcs) × (small ≤ slice_index arcs i) }
+    ensures { (small large capacity : ℕ) (w arcs : List ℕ) (e : Error)
+        → ((i : ℕ) → slice_index w i < 256) → read_identifier large capacity w ≡ Ok arcs
+        → read_identifier small capacity w ≡ Err e
+        → (i : ℕ) × (i < length arcs) × (small ≤ slice_index arcs i) }
 {}
 
-/// A text that is read under one bound of arcs is read as the same arcs under a wider one; and one that is read under a wide bound
-/// alone has an arc that isn't below the narrow one. The bounds let each second arc pass.
+/// A text that is read under one bound of arcs is read as the same arcs under a wider one; and one
+/// that is read under a wide bound alone has an arc that isn't below the narrow one. The bounds let
+/// each second arc pass.
 pub fn wider_bounds_read_texts_alike()
-    ensures same { (small large capacity : ℕ) (w arcs : List ℕ) → 40 ≤ large → small ≤ large → read_text small capacity w ≡ Ok arcs
+    ensures same { (small large capacity : ℕ) (w arcs : List ℕ) → 40 ≤ large → small ≤ large
+        → read_text small capacity w ≡ Ok arcs
         → read_text large capacity w ≡ Ok arcs }
-    ensures new { (small large capacity : ℕ) (w arcs : List ℕ) (e : Error) → 40 ≤ small → read_text large capacity w ≡ Ok arcs
-        → read_text small capacity w ≡ Err e → (i : ℕ) × (i < length arcs) × (small ≤ slice_index arcs i) }
+    ensures new { (small large capacity : ℕ) (w arcs : List ℕ) (e : Error) → 40 ≤ small
+        → read_text large capacity w ≡ Ok arcs
+        → read_text small capacity w ≡ Err e
+        → (i : ℕ) × (i < length arcs) × (small ≤ slice_index arcs i) }
 {}
 
 /// Compares two borrowed identifiers: by their octets as a list.
@@ -193,16 +218,18 @@ pub fn are_equal_borrowed(a: &ObjectIdentifierRef<'_>, b: &ObjectIdentifierRef<'
     a == b
 }
 
-/// What is read of a text is spelled by it, is an identifier within the bound, and its octets are within the capacity.
+/// What is read of a text is spelled by it, is an identifier within the bound, and its octets are
+/// within the capacity.
 pub fn read_texts_are_spelled()
     ensures { (bound capacity : ℕ) (w arcs : List ℕ) → read_text bound capacity w ≡ Ok arcs
         → IsText arcs w × IsIdentifier bound arcs × (length (identifier_octets arcs) ≤ capacity) }
 {}
 
-/// A text that spells an identifier is read as it, where its octets are within the capacity. The bound lets each second
-/// arc pass.
+/// A text that spells an identifier is read as it, where its octets are within the capacity. The
+/// bound lets each second arc pass.
 pub fn spelled_texts_are_read()
-    ensures { (bound capacity : ℕ) (w arcs : List ℕ) → 40 ≤ bound → IsText arcs w → IsIdentifier bound arcs → length (identifier_octets arcs) ≤ capacity
+    ensures { (bound capacity : ℕ) (w arcs : List ℕ) → 40 ≤ bound → IsText arcs w
+        → IsIdentifier bound arcs → length (identifier_octets arcs) ≤ capacity
         → read_text bound capacity w ≡ Ok arcs }
 {}
 
@@ -213,44 +240,54 @@ pub fn printed_texts_spell_their_arcs()
 
 /// A text that spells arcs below the bound is read as these arcs are gathered one after another.
 pub fn spelled_texts_are_judged_as_arcs()
-    ensures { (bound capacity : ℕ) (w arcs : List ℕ) → IsText arcs w → AllByRecursion (λ n. n < bound) arcs → 0 < length arcs
+    ensures { (bound capacity : ℕ) (w arcs : List ℕ) → IsText arcs w
+        → AllByRecursion (λ n. n < bound) arcs → 0 < length arcs
         → read_text bound capacity w ≡ gather capacity [] arcs }
 {}
 
 /// A text that is refused has the fault that is answered.
 pub fn answered_text_faults_are_there()
-    ensures { (bound capacity : ℕ) (w : List ℕ) (e : Error) → read_text bound capacity w ≡ Err e → IsTextFault bound capacity w e }
+    ensures { (bound capacity : ℕ) (w : List ℕ) (e : Error) → read_text bound capacity w ≡ Err e
+        → IsTextFault bound capacity w e }
 {}
 
 /// A text that has a fault is refused, and answered is that fault.
 pub fn text_faults_are_answered()
-    ensures { (bound capacity : ℕ) (w : List ℕ) (e : Error) → IsTextFault bound capacity w e → read_text bound capacity w ≡ Err e }
+    ensures { (bound capacity : ℕ) (w : List ℕ) (e : Error) → IsTextFault bound capacity w e
+        → read_text bound capacity w ≡ Err e }
 {}
 
-/// What is gathered of arcs below the bound is these arcs, and they are an identifier within the capacity.
+/// What is gathered of arcs below the bound is these arcs, and they are an identifier within the
+/// capacity.
 pub fn gathered_arcs_are_identifiers()
-    ensures { (bound capacity : ℕ) (arcs oid : List ℕ) → AllByRecursion (λ n. n < bound) arcs → gather capacity [] arcs ≡ Ok oid
+    ensures { (bound capacity : ℕ) (arcs oid : List ℕ) → AllByRecursion (λ n. n < bound) arcs
+        → gather capacity [] arcs ≡ Ok oid
         → (oid ≡ arcs) × IsIdentifier bound arcs × (length (identifier_octets arcs) ≤ capacity) }
 {}
 
 /// The arcs of an identifier are gathered as it, where its octets are within the capacity.
 pub fn identifiers_are_gathered()
-    ensures { (bound capacity : ℕ) (arcs : List ℕ) → IsIdentifier bound arcs → length (identifier_octets arcs) ≤ capacity → gather capacity [] arcs ≡ Ok arcs }
+    ensures { (bound capacity : ℕ) (arcs : List ℕ) → IsIdentifier bound arcs
+        → length (identifier_octets arcs) ≤ capacity → gather capacity [] arcs ≡ Ok arcs }
 {}
 
 /// Arcs that are refused have the fault that is answered.
 pub fn answered_arc_faults_are_there()
-    ensures { (capacity : ℕ) (arcs : List ℕ) (e : Error) → gather capacity [] arcs ≡ Err e → IsArcsFault capacity arcs e }
+    ensures { (capacity : ℕ) (arcs : List ℕ) (e : Error) → gather capacity [] arcs ≡ Err e
+        → IsArcsFault capacity arcs e }
 {}
 
 /// Arcs that have a fault are refused, and answered is that fault.
 pub fn arc_faults_are_answered()
-    ensures { (capacity : ℕ) (arcs : List ℕ) (e : Error) → IsArcsFault capacity arcs e → gather capacity [] arcs ≡ Err e }
+    ensures { (capacity : ℕ) (arcs : List ℕ) (e : Error) → IsArcsFault capacity arcs e
+        → gather capacity [] arcs ≡ Err e }
 {}
 
 /// `Overflow` is never answered.
 pub fn overflow_is_never_answered()
-    ensures octets { (bound capacity : ℕ) (w : List ℕ) → read_identifier bound capacity w ≢ Err errors.Overflow }
-    ensures text { (bound capacity : ℕ) (w : List ℕ) → read_text bound capacity w ≢ Err errors.Overflow }
+    ensures octets { (bound capacity : ℕ) (w : List ℕ)
+        → read_identifier bound capacity w ≢ Err errors.Overflow }
+    ensures text { (bound capacity : ℕ) (w : List ℕ)
+        → read_text bound capacity w ≢ Err errors.Overflow }
     ensures arcs { (capacity : ℕ) (arcs : List ℕ) → gather capacity [] arcs ≢ Err errors.Overflow }
 {}

@@ -1,5 +1,5 @@
-//! Object identifiers: arcs, their octets (X.690 8.19), their dotted texts and their orders; databases of their names, and types
-//! that have one.
+//! Object identifiers: arcs, their octets (X.690 8.19), their dotted texts and their orders;
+//! databases of their names, and types that have one.
 #![tactic(auto)]
 
 mod arc_octets;

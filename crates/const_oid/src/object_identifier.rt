@@ -1,6 +1,6 @@
 //! Owned identifiers.
 
-ghost use Rattle.std.specs.Prelude.{◌≡◌, ℕ, ◌+◌, ◌-◌, ◌<◌, ◌≤◌, ◌↔◌, IsTrue, is_ok, true, nat_eq, refl, Some, None, IsNone, IfSome, [], ◌∷◌, ◌++◌, nat_lt, if◌then◌else◌, Err, length, slice_get, Result, Ok, IfOk, IfErr, List};
+ghost use Rattle.std.specs.Prelude.{◌≡◌, ℕ, ◌+◌, ◌-◌, ◌<◌, ◌≤◌, ◌↔◌, IsTrue, is_ok, true, nat_eq, refl, Some, None, IsNone, IfSome, [], ◌∷◌, ◌++◌, nat_lt, if◌then◌else◌, Err, length, slice_get, Result, Ok, IfOk, IfErr, MatchResult, List};
 ghost use Rattle.std.specs.Cmp.{po, on_equiv, on_per, partial_equiv_from_equiv};
 ghost use Rattle.std.specs.Cmp.Lexicographic.{pointwise, nat_list_eq_equiv};
 ghost use Rattle.const_oid.specs.Orders.{owned_cmp, owned_cmp_total, owned_cmp_ties};
@@ -17,7 +17,6 @@ ghost use Rattle.const_oid.specs.OctetFaults.{IsOctetsFault};
 ghost use Rattle.const_oid.specs.Family.{child_of, parent_of};
 
 use crate::arcs::{self, Arcs};
-use crate::buffer::Buffer;
 use crate::encoder::Encoder;
 use crate::error::{Arc, Error, Result};
 use crate::object_identifier_ref::ObjectIdentifierRef;
@@ -51,11 +50,20 @@ impl<const MAX_SIZE: usize> Model for ObjectIdentifier<MAX_SIZE> {
 
     ghost view = { λ oid. arcs_of oid.octets };
 
-    ghost invariant = { λ oid. SpellsIdentifier Bound MAX_SIZE oid.octets × KnowsLast (arcs_of oid.octets) oid.arc_count oid.last_start };
+    ghost invariant = { λ oid. SpellsIdentifier Bound MAX_SIZE oid.octets
+        × KnowsLast (arcs_of oid.octets) oid.arc_count oid.last_start };
 
-    ghost inverse = { λ arcs. record { octets = identifier_octets arcs; arc_count = length arcs; last_start = place_of_last arcs } };
+    ghost inverse = { λ arcs. record {
+      octets = identifier_octets arcs;
+      arc_count = length arcs;
+      last_start = place_of_last arcs;
+    } };
 
-    ghost inverse_ok = { λ oid h i. record { octets = sym h.0.spelled i; arc_count = sym h.1.counted i; last_start = sym h.1.placed i } };
+    ghost inverse_ok = { λ oid h i. record {
+      octets = sym h.0.spelled i;
+      arc_count = sym h.1.counted i;
+      last_start = sym h.1.placed i;
+    } };
 }
 
 impl<const MAX_SIZE: usize> ObjectIdentifier<MAX_SIZE> {
@@ -67,8 +75,10 @@ impl<const MAX_SIZE: usize> ObjectIdentifier<MAX_SIZE> {
     pub fn from_bytes_sized(ber_bytes: &[u8]) -> Result<Self>
         ensures read { result ≡ read_identifier Bound MAX_SIZE ber_bytes.now }
         ensures ok { IfOk result
-            (λ arcs. IsIdentifier Bound arcs × (length ber_bytes.now ≤ MAX_SIZE) × (ber_bytes.now ≡ identifier_octets arcs)) }
-        ensures spelled { (arcs : List ℕ) → ber_bytes.now ≡ identifier_octets arcs → IsIdentifier Bound arcs → length ber_bytes.now ≤ MAX_SIZE
+            (λ arcs. IsIdentifier Bound arcs × (length ber_bytes.now ≤ MAX_SIZE)
+            × (ber_bytes.now ≡ identifier_octets arcs)) }
+        ensures spelled { (arcs : List ℕ) → ber_bytes.now ≡ identifier_octets arcs
+            → IsIdentifier Bound arcs → length ber_bytes.now ≤ MAX_SIZE
             → result ≡ Ok arcs }
         ensures fault { IfErr result (λ e. IsOctetsFault Bound MAX_SIZE ber_bytes.now e) }
         ensures never_overflow { result ≢ Err errors.Overflow }
@@ -90,17 +100,25 @@ impl<const MAX_SIZE: usize> ObjectIdentifier<MAX_SIZE> {
         })
     }
 
-    /// The identifier with one arc more. It answers `Length` where the octets pass the capacity, and no other error.
-    pub fn push_arc(self, arc: Arc) -> Result<Self>
+    /// The identifier with one arc more. It answers `Length` where the octets pass the capacity,
+    /// and no other error.
+    pub fn push_arc(mut self, arc: Arc) -> Result<Self>
         ensures { result ≡ child_of MAX_SIZE self.entry arc }
     {
-        let mut octets = self.octets;
-        let last_start = octets.push_arc(arc)?;
-        Ok(ObjectIdentifier {
-            octets,
-            arc_count: self.arc_count + 1,
-            last_start,
-        })
+        self.push(arc)?;
+        Ok(self)
+    }
+
+    /// One arc more at the end, where there is room.
+    pub(crate) fn push(&mut self, arc: Arc) -> Result<()>
+        ensures { MatchResult result
+            (λ _. child_of MAX_SIZE self.old arc ≡ Ok self.new)
+            (λ e. (child_of MAX_SIZE self.old arc ≡ Err e) × (self.new ≡ self.old)) }
+    {
+        let last_start = self.octets.push_arc(arc)?;
+        self.last_start = last_start;
+        self.arc_count += 1;
+        Ok(())
     }
 
     /// The identifier without its last arc, or `None` where only two are there.
@@ -112,7 +130,8 @@ impl<const MAX_SIZE: usize> ObjectIdentifier<MAX_SIZE> {
         self.parent_counted().0
     }
 
-    /// The parent, and how many octets were tested for their high bit: at most one more than the octets of the greatest arc.
+    /// The parent, and how many octets were tested for their high bit: at most one more than the
+    /// octets of the greatest arc.
     pub fn parent_counted(&self) -> (Option<Self>, u32)
         ensures none { IsNone result.0 ↔ (length self.now ≡ 2) }
         ensures some { IfSome result.0 (λ front. (last : ℕ) × (self.now ≡ front ++ last ∷ [])) }
@@ -137,21 +156,6 @@ impl<const MAX_SIZE: usize> ObjectIdentifier<MAX_SIZE> {
         ensures { IsTrue result ↔ ((rest : List ℕ) × (self.now ≡ other.entry ++ rest)) }
     {
         self.as_bytes().starts_with(other.as_bytes())
-    }
-
-    /// The identifier of octets that are known to spell one.
-    #[inline]
-    pub(crate) fn trusted(octets: Buffer<MAX_SIZE>) -> Self
-        requires { SpellsIdentifier Bound MAX_SIZE octets }
-        ensures { result ≡ arcs_of octets.entry }
-    {
-        let octets = octets.as_bytes();
-        let (last_start, _tests) = arcs::last_start(octets);
-        ObjectIdentifier {
-            octets: Packed::from_slice(octets),
-            arc_count: arcs::count(octets),
-            last_start,
-        }
     }
 
     /// The octets (X.690 8.19).
@@ -210,8 +214,8 @@ impl<const MAX_SIZE: usize> Eq for ObjectIdentifier<MAX_SIZE> {
     ghost laws = { on_equiv identifier_octets nat_list_eq_equiv };
 }
 
-/// The order of the number of octets, then of the octets: an identifier stands before each that begins with it, and those
-/// that differ in their last arc alone stand by that arc.
+/// The order of the number of octets, then of the octets: an identifier stands before each that
+/// begins with it, and those that differ in their last arc alone stand by that arc.
 impl<const MAX_SIZE: usize> PartialOrd for ObjectIdentifier<MAX_SIZE> {
     ghost partial_cmp = { λ a b. Some (owned_cmp a b) };
 
@@ -259,18 +263,21 @@ impl<const MAX_SIZE: usize> Hash for ObjectIdentifier<MAX_SIZE> {
 }
 
 impl ObjectIdentifier<39> {
-    ghost use Rattle.std.specs.Prelude.{◌≢◌};
+    ghost use Rattle.std.specs.Prelude.{◌≢◌, ◌^◌};
     ghost use Rattle.const_oid.specs.TextReading.{read_text};
     ghost use Rattle.const_oid.specs.TextFaults.{IsText, IsTextFault};
 
     /// The greatest number of octets.
     pub const MAX_SIZE: usize = 39;
 
-    /// The identifier that a dotted text spells, or the text's first fault from the left. Zeros in front of an arc are read.
+    /// The identifier that a dotted text spells, or the text's first fault from the left. Zeros in
+    /// front of an arc are read.
     pub fn new(s: &str) -> Result<Self>
         ensures read { result ≡ read_text Bound 39 s.now }
-        ensures ok { IfOk result (λ arcs. IsText arcs s.now × IsIdentifier Bound arcs × (length (identifier_octets arcs) ≤ 39)) }
-        ensures spelled { (arcs : List ℕ) → IsText arcs s.now → IsIdentifier Bound arcs → length (identifier_octets arcs) ≤ 39
+        ensures ok { IfOk result (λ arcs. IsText arcs s.now × IsIdentifier Bound arcs
+            × (length (identifier_octets arcs) ≤ 39)) }
+        ensures spelled { (arcs : List ℕ) → IsText arcs s.now → IsIdentifier Bound arcs
+            → length (identifier_octets arcs) ≤ 39
             → result ≡ Ok arcs }
         ensures fault { IfErr result (λ e. IsTextFault Bound 39 s.now e) }
         ensures never_overflow { result ≢ Err errors.Overflow }
@@ -289,12 +296,27 @@ impl ObjectIdentifier<39> {
         }
     }
 
+    /// The identifier of octets (X.690 8.19) that a program knows, as `&[0x55, 0x1d, 0x0f]` of
+    /// 2.5.29.15. Its arcs are below 2^64: at a literal both clauses are computed, and no text is
+    /// read.
+    pub fn from_bytes_unwrap(ber_bytes: &[u8]) -> Self
+        requires { is_ok (read_identifier (2 ^ 64) 39 ber_bytes.now) ≡ true }
+        ensures { Ok result ≡ read_identifier (2 ^ 64) 39 ber_bytes.now }
+    {
+        match Self::from_bytes(ber_bytes) {
+            Ok(oid) => oid,
+            Err(_) => unreachable!(),
+        }
+    }
+
     /// The identifier that these octets spell (X.690 8.19), or their first fault from the left.
     pub fn from_bytes(ber_bytes: &[u8]) -> Result<Self>
         ensures read { result ≡ read_identifier Bound 39 ber_bytes.now }
         ensures ok { IfOk result
-            (λ arcs. IsIdentifier Bound arcs × (length ber_bytes.now ≤ 39) × (ber_bytes.now ≡ identifier_octets arcs)) }
-        ensures spelled { (arcs : List ℕ) → ber_bytes.now ≡ identifier_octets arcs → IsIdentifier Bound arcs → length ber_bytes.now ≤ 39
+            (λ arcs. IsIdentifier Bound arcs × (length ber_bytes.now ≤ 39)
+            × (ber_bytes.now ≡ identifier_octets arcs)) }
+        ensures spelled { (arcs : List ℕ) → ber_bytes.now ≡ identifier_octets arcs
+            → IsIdentifier Bound arcs → length ber_bytes.now ≤ 39
             → result ≡ Ok arcs }
         ensures fault { IfErr result (λ e. IsOctetsFault Bound 39 ber_bytes.now e) }
         ensures never_overflow { result ≢ Err errors.Overflow }
@@ -309,21 +331,26 @@ impl ObjectIdentifier<39> {
     ghost use Rattle.const_oid.specs.ArcLists.{gather};
     ghost use Rattle.const_oid.specs.ArcFaults.{IsArcsFault, EndsAtFault};
 
-    /// The identifier of these arcs, or the first fault of their list. It takes the items up to that fault, and all of them
-    /// where there is none.
+    /// The identifier of these arcs, or the first fault of their list. It takes the items up to
+    /// that fault, and all of them where there is none.
     pub fn from_arcs<I: IntoIterator<Item = Arc>>(arcs: I) -> Result<Self>
-        requires { IsFiniteIterable I.into_iter_gives I.IntoIter.can_next I.IntoIter.remaining arcs }
-        ensures gathered { (it : I.IntoIter) × (xs : List ℕ) × I.into_iter_gives arcs it × DrainsIf I.IntoIter.next_gives (IsOk result) it xs × (result ≡ gather 39 [] xs) }
+        requires { IsFiniteIterable I.into_iter_gives I.IntoIter.can_next
+            I.IntoIter.remaining arcs }
+        ensures gathered { (it : I.IntoIter) × (xs : List ℕ) × I.into_iter_gives arcs it
+            × DrainsIf I.IntoIter.next_gives (IsOk result) it xs × (result ≡ gather 39 [] xs) }
 
         // The identifier's arcs are all items.
         ensures ok { IfOk result
-            (λ oid. (it : I.IntoIter) × I.into_iter_gives arcs it × DrainsIf I.IntoIter.next_gives ⊤ it oid
+            (λ oid. (it : I.IntoIter) × I.into_iter_gives arcs it
+            × DrainsIf I.IntoIter.next_gives ⊤ it oid
             × IsIdentifier Bound oid × (length (identifier_octets oid) ≤ 39)) }
 
-        // The items that were taken have this fault, and those before the last one have none. Where they are too few, they are all items.
+        // The items that were taken have this fault, and those before the last one have none. Where
+        // they are too few, they are all items.
         ensures fault { IfErr result
             (λ e. (it : I.IntoIter) × (xs : List ℕ) × I.into_iter_gives arcs it
-            × DrainsIf I.IntoIter.next_gives (e ≡ errors.Empty) it xs × IsArcsFault 39 xs e × EndsAtFault 39 xs) }
+            × DrainsIf I.IntoIter.next_gives (e ≡ errors.Empty) it xs × IsArcsFault 39 xs e
+            × EndsAtFault 39 xs) }
         ensures never_overflow { result ≢ Err errors.Overflow }
     {
         let mut so_far = Encoder::<39>::new();
@@ -348,8 +375,10 @@ impl FromStr for ObjectIdentifier<39> {
 
     fn from_str(s: &str) -> Result<Self>
         ensures read { result ≡ read_text Bound 39 s.now }
-        ensures ok { IfOk result (λ arcs. IsText arcs s.now × IsIdentifier Bound arcs × (length (identifier_octets arcs) ≤ 39)) }
-        ensures spelled { (arcs : List ℕ) → IsText arcs s.now → IsIdentifier Bound arcs → length (identifier_octets arcs) ≤ 39
+        ensures ok { IfOk result (λ arcs. IsText arcs s.now × IsIdentifier Bound arcs
+            × (length (identifier_octets arcs) ≤ 39)) }
+        ensures spelled { (arcs : List ℕ) → IsText arcs s.now → IsIdentifier Bound arcs
+            → length (identifier_octets arcs) ≤ 39
             → result ≡ Ok arcs }
         ensures fault { IfErr result (λ e. IsTextFault Bound 39 s.now e) }
         ensures never_overflow { result ≢ Err errors.Overflow }

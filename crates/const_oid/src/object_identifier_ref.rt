@@ -26,13 +26,17 @@ impl<'a> ObjectIdentifierRef<'a> {
     ghost use Rattle.const_oid.specs.OctetFaults.{IsOctetsFault};
     ghost use Rattle.const_oid.specs.References.{reference_octets, reference_arcs, remaining_arcs};
 
-    /// The identifier that these octets spell (X.690 8.19), or their first fault from the left, whatever their number.
+    /// The identifier that these octets spell (X.690 8.19), or their first fault from the left,
+    /// whatever their number.
     pub fn from_bytes(ber: &'a [u8]) -> Result<Self>
-        ensures read { result_map_both reference_arcs (λ e. e) result ≡ read_identifier Bound (length ber.now) ber.now }
+        ensures read { result_map_both reference_arcs (λ e. e) result
+            ≡ read_identifier Bound (length ber.now) ber.now }
         ensures octets { IfOk result (λ oid. reference_octets oid ≡ ber.now) }
         ensures ok { IfOk result
-            (λ oid. IsIdentifier Bound (reference_arcs oid) × (ber.now ≡ identifier_octets (reference_arcs oid))) }
-        ensures spelled { (arcs : List ℕ) → ber.now ≡ identifier_octets arcs → IsIdentifier Bound arcs
+            (λ oid. IsIdentifier Bound (reference_arcs oid)
+            × (ber.now ≡ identifier_octets (reference_arcs oid))) }
+        ensures spelled { (arcs : List ℕ) → ber.now ≡ identifier_octets arcs
+            → IsIdentifier Bound arcs
             → result_map_both reference_arcs (λ e. e) result ≡ Ok arcs }
 
         // The capacity is the number of octets: none are too many.
@@ -57,7 +61,8 @@ impl<'a> ObjectIdentifierRef<'a> {
     #[inline]
     pub fn as_bytes(&self) -> &'a [u8]
         ensures octets { result.now ≡ reference_octets self.now }
-        ensures read { read_identifier Bound (length result.now) result.now ≡ Ok (reference_arcs self.now) }
+        ensures read { read_identifier Bound (length result.now) result.now
+            ≡ Ok (reference_arcs self.now) }
         ensures arcs { result.now ≡ identifier_octets (reference_arcs self.now) }
         ensures identifier { IsIdentifier Bound (reference_arcs self.now) }
     {
@@ -114,10 +119,12 @@ impl<'a> TryFrom<&'a [u8]> for ObjectIdentifierRef<'a> {
 
     type Error = Error;
 
-    ghost try_from_gives = { λ octets r. result_map_both reference_arcs (λ e. e) r ≡ read_identifier Bound (length octets.now) octets.now };
+    ghost try_from_gives = { λ octets r. result_map_both reference_arcs (λ e. e) r
+        ≡ read_identifier Bound (length octets.now) octets.now };
 
     fn try_from(octets: &'a [u8]) -> Result<Self>
-        ensures read { result_map_both reference_arcs (λ e. e) result ≡ read_identifier Bound (length octets.now) octets.now }
+        ensures read { result_map_both reference_arcs (λ e. e) result
+            ≡ read_identifier Bound (length octets.now) octets.now }
     {
         Self::from_bytes(octets)
     }

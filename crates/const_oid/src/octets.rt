@@ -18,10 +18,13 @@ pub(crate) struct Found {
     pub(crate) last_start: usize,
 }
 
-/// What the octets of an arc give with one octet more, or `None` where that passes the bound of arcs.
+/// What the octets of an arc give with one octet more, or `None` where that passes the bound of
+/// arcs.
 #[inline]
 pub(crate) fn with_octet(value: Arc, octet: u8) -> Option<Arc>
-    ensures { result ≡ (if nat_lt (value * 128 + octet % 128) Bound then Some (value * 128 + octet % 128) else None) }
+    ensures { result
+        ≡ (if nat_lt (value * 128 + octet % 128) Bound
+        then Some (value * 128 + octet % 128) else None) }
 {
     let Some(high) = value.checked_mul(128) else {
         return None;
@@ -37,7 +40,8 @@ pub(crate) fn check(octets: &[u8]) -> Result<()>
     Ok(())
 }
 
-/// How many arcs identifier octets of any number have, and where the last one begins, or their first fault.
+/// How many arcs identifier octets of any number have, and where the last one begins, or their
+/// first fault.
 pub(crate) fn find(octets: &[u8]) -> Result<Found>
     ensures { MatchResult result
         (λ found. (outcome (read_identifier Bound (length octets.now) octets.now) ≡ Ok tt)
@@ -55,7 +59,8 @@ pub(crate) fn find(octets: &[u8]) -> Result<Found>
     find_arcs(later)
 }
 
-/// What the octets of an unfinished arc have given, after one octet more; 0 where that octet ends the arc.
+/// What the octets of an unfinished arc have given, after one octet more; 0 where that octet ends
+/// the arc.
 #[inline]
 fn after_octet(value: Arc, octet: u8) -> Result<Arc>
     ensures { result ≡ after_octet Bound value octet }
@@ -69,12 +74,13 @@ fn after_octet(value: Arc, octet: u8) -> Result<Arc>
     if octet < 0x80 { Ok(0) } else { Ok(next) }
 }
 
-/// How many arcs there are with those of the octets after the root, and where the last one begins, or the first fault of
-/// these octets.
+/// How many arcs there are with those of the octets after the root, and where the last one begins,
+/// or the first fault of these octets.
 fn find_arcs(octets: &[u8]) -> Result<Found>
     ensures { MatchResult result
         (λ found. (outcome (read_arcs Bound 0 octets.now) ≡ Ok tt)
-        × (found.arc_count ≡ 2 + length (later_arcs 0 octets.now)) × (found.last_start ≡ last_from 0 1 1 octets.now))
+        × (found.arc_count ≡ 2 + length (later_arcs 0 octets.now))
+        × (found.last_start ≡ last_from 0 1 1 octets.now))
         (λ e. outcome (read_arcs Bound 0 octets.now) ≡ Err e) }
 {
     let mut value: Arc = 0;

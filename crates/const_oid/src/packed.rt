@@ -9,8 +9,8 @@ use crate::arc_octets::{octet_count, write_arc};
 use crate::error::{Arc, Error, Result};
 use std::marker::Model;
 
-/// A list of at most `SIZE` octets whose last one has no mark, held in place. A contract sees the list; past its end each
-/// octet of the array is `80`.
+/// A list of at most `SIZE` octets whose last one has no mark, held in place. A contract sees the
+/// list; past its end each octet of the array is `80`.
 #[derive(Clone, Copy)]
 pub(crate) struct Packed<const SIZE: usize> {
     bytes: [u8; SIZE],
@@ -31,13 +31,22 @@ impl<const SIZE: usize> Model for Packed<SIZE> {
 
     ghost invariant = { λ p. IsPacked SIZE p.bytes p.count × (p.words ≡ []) };
 
-    ghost inverse = { λ octets. record { bytes = octets ++ replicate (SIZE - length octets) 128; count = min 255 (length octets); words = [] } };
+    ghost inverse = { λ octets. record {
+      bytes = octets ++ replicate (SIZE - length octets) 128;
+      count = min 255 (length octets);
+      words = [];
+    } };
 
-    ghost inverse_ok = { λ p h i. record { bytes = sym h.0.padded i; count = sym h.0.counted i; words = sym h.1 i } };
+    ghost inverse_ok = { λ p h i. record {
+      bytes = sym h.0.padded i;
+      count = sym h.0.counted i;
+      words = sym h.1 i;
+    } };
 }
 
 impl<const SIZE: usize> Packed<SIZE> {
-    /// A copy of `octets`, which fit. It isn't inlined, so that it is made where the caller wants it, and moved less.
+    /// A copy of `octets`, which fit. It isn't inlined, so that it is made where the caller wants
+    /// it, and moved less.
     #[inline(never)]
     pub(crate) fn from_slice(octets: &[u8]) -> Self
         requires fits { length octets.now ≤ SIZE }
@@ -81,8 +90,10 @@ impl<const SIZE: usize> Packed<SIZE> {
     /// The octets of an arc at the end, where there is room. It answers where they begin.
     pub(crate) fn push_arc(&mut self, arc: Arc) -> Result<usize>
         ensures { MatchResult result
-            (λ start. (start ≡ length self.old) × (self.new ≡ self.old ++ arc_octets arc) × (length self.old + length (arc_octets arc) ≤ SIZE))
-            (λ e. (e ≡ errors.Length) × (SIZE < length self.old + length (arc_octets arc)) × (self.new ≡ self.old)) }
+            (λ start. (start ≡ length self.old) × (self.new ≡ self.old ++ arc_octets arc)
+            × (length self.old + length (arc_octets arc) ≤ SIZE))
+            (λ e. (e ≡ errors.Length) × (SIZE < length self.old + length (arc_octets arc))
+            × (self.new ≡ self.old)) }
     {
         let start = self.as_bytes().len();
         let count = octet_count(arc);

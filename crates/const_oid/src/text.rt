@@ -2,7 +2,7 @@
 
 ghost use Rattle.std.specs.Prelude.{◌≡◌, ℕ, ◌+◌, ◌*◌, Option, Some, None, [], nat_lt, if◌then◌else◌, Result, Ok, Err};
 ghost use Rattle.const_oid.specs.Bound.{Bound};
-ghost use Rattle.const_oid.specs.TextReading.{with_digit, early_dot, text_arcs, read_text};
+ghost use Rattle.const_oid.specs.TextReading.{early_dot, text_arcs, read_text};
 
 use crate::encoder::Encoder;
 use crate::error::{Arc, Error, Result};
@@ -11,26 +11,17 @@ use crate::object_identifier::ObjectIdentifier;
 /// A number with one decimal digit more, or `None` where that passes the bound of arcs.
 #[inline]
 fn push_digit(value: Arc, digit: u8) -> Option<Arc>
-    ensures { result ≡ (if nat_lt (value * 10 + digit) Bound then Some (value * 10 + digit) else None) }
+    ensures { result
+        ≡ (if nat_lt (value * 10 + digit) Bound then Some (value * 10 + digit) else None) }
 {
+    // One word is enough for most arcs.
+    if value < 1 << 60 {
+        return Some(Arc::from(value as u64 * 10 + u64::from(digit)));
+    }
     let Some(tens) = value.checked_mul(10) else {
         return None;
     };
     tens.checked_add(Arc::from(digit))
-}
-
-/// The value of an arc with one octet more behind its digits.
-#[inline]
-fn read_digit(value: Option<Arc>, octet: u8) -> Result<Arc>
-    ensures { result ≡ with_digit Bound value octet }
-{
-    if octet < b'0' || octet > b'9' {
-        return Err(Error::DigitExpected { actual: octet });
-    }
-    let Some(next) = push_digit(value.unwrap_or(0), octet - b'0') else {
-        return Err(Error::ArcTooBig);
-    };
-    Ok(next)
 }
 
 /// The identifier of a dotted text.
@@ -41,7 +32,13 @@ pub(crate) fn read(text: &[u8]) -> Result<ObjectIdentifier<39>>
     let mut value: Option<Arc> = None;
     for (i, octet) in text.iter().enumerate() {
         if *octet != b'.' {
-            value = Some(read_digit(value, *octet)?);
+            if *octet < b'0' || *octet > b'9' {
+                return Err(Error::DigitExpected { actual: *octet });
+            }
+            let Some(next) = push_digit(value.unwrap_or(0), *octet - b'0') else {
+                return Err(Error::ArcTooBig);
+            };
+            value = Some(next);
             continue;
         }
         let Some(arc) = value else {

@@ -3,6 +3,7 @@ use Rattle.std.proofs.Common.{◌≡◌, ℕ, ◌+◌, true, false, length, Some
 use Rattle.std.specs.Ordering.{nat_cmp, ordering_then, is_ne}
 use Rattle.std.specs.declared.cmp.Ordering.{Ordering}
 use Rattle.std.proofs.lemmas.Bool.{le-ltb}
+use Rattle.der_core_head.specs.Limits.{length_max}
 use Rattle.der_core_head.specs.declared.error.Error.{Error}
 use Rattle.der_core_head.specs.declared.error.ErrorKind.{ErrorKind}
 use Rattle.der_core_head.specs.declared.error.ErrorKind.TheVariants as kinds
@@ -30,7 +31,7 @@ any_parts v h = (h.1, fits_contents v.tag v.contents h.2)
 any_sized : (v : AnyValue) → IsValid any v → fit_len (length v.contents) ≡ Ok (length v.contents)
 any_sized v h =
     let fits = (any_parts v h).1 in
-    rw (le-ltb 4294967295 (length v.contents + 0) (omega arith)) (ap (λ n. Ok n) (omega arith))
+    rw (le-ltb length_max (length v.contents + 0) (omega arith)) (ap (λ n. Ok n) (omega arith))
 
 pub any_never_long : (v : AnyValue) (k : ErrorKind) → IsValid any v → fit_len (length v.contents) ≡ Err k → ⊥
 any_never_long v k h e = let s = any_sized v h in absurd cc

@@ -9,9 +9,10 @@ use Rattle.std.specs.declared.cmp.Ordering.TheVariants.{Less, Equal, Greater}
 use Rattle.std.specs.Int.Digits.{number_from_digits, number_from_digits_after, AllBelowBase}
 use Rattle.const_oid.specs.Digits.{digits}
 use Rattle.const_oid.proofs.DigitLaws.{digits-Digits, digits-one, digits-more, halved}
+use Rattle.der_core_head.specs.Limits.{IsLength}
 use Rattle.der_core_head.specs.declared.tag.Tag.{Tag}
 use Rattle.der_core_head.specs.Tags.{IsTag, tag_octets, tag_at}
-use Rattle.der_core_head.specs.Heads.{length_octets, length_at, head_octets, tlv}
+use Rattle.der_core_head.specs.Heads.{length_octets, length_at, head_octets, tlv, Fits}
 use Rattle.der_core_head.proofs.Results.{ok_is}
 use Rattle.der_core_head.proofs.TagLaws.{tag_again}
 use Rattle.der_core_head.proofs.LengthForms.{length-short, length-long}
@@ -128,7 +129,7 @@ length_octets_cmp m n =
       ]
     ]
 
-length_splits : (t : Tag) (m n : ℕ) → m < 4294967296 → n < 4294967296 → Splits (length_octets m) (length_octets n)
+length_splits : (t : Tag) (m n : ℕ) → IsLength m → IsLength n → Splits (length_octets m) (length_octets n)
 length_splits t m n p q =
     splits_free (length_octets m) (length_octets n) (λ r s e.
     let k : (m, r) ≡ (n, s) = ok_is (m, r) (n, s) (sym (length_again t m r p) ∙ ap (length_at t) e ∙ length_again t n s q) in
@@ -156,20 +157,20 @@ pub head_cmp : (a b : Tag) (m n : ℕ) → IsTag a → IsTag b
 unfolding head_octets
 head_cmp a b m n p q = octets_cmp-append (tag_octets a) (tag_octets b) (length_octets m) (length_octets n) (tag_splits a b p q)
 
-head_splits : (a b : Tag) (m n : ℕ) → IsTag a → IsTag b → m < 4294967296 → n < 4294967296 → Splits (head_octets a m) (head_octets b n)
+head_splits : (a b : Tag) (m n : ℕ) → IsTag a → IsTag b → IsLength m → IsLength n → Splits (head_octets a m) (head_octets b n)
 unfolding head_octets
 head_splits a b m n p q i j = splits_append (tag_octets a) (tag_octets b) (length_octets m) (length_octets n) (tag_splits a b p q) (λ _. length_splits a m n i j)
 
 -- Whole encodings
 
-pub tlv_splits : (a b : Tag) (c d : List ℕ) → IsTag a → IsTag b → length c < 4294967296 → length d < 4294967296 → Splits (tlv a c) (tlv b d)
+pub tlv_splits : (a b : Tag) (c d : List ℕ) → IsTag a → IsTag b → Fits c → Fits d → Splits (tlv a c) (tlv b d)
 tlv_splits a b c d p q i j =
     splits_free (tlv a c) (tlv b d) (λ r s e.
     let k = split-tlv a b c d r s p q i j e in
     ap (λ t. tlv t c) k.0 ∙ ap (tlv b) k.1)
 
 -- headers before contents
-pub tlv_cmp : (a b : Tag) (c d : List ℕ) → IsTag a → IsTag b → length c < 4294967296 → length d < 4294967296
+pub tlv_cmp : (a b : Tag) (c d : List ℕ) → IsTag a → IsTag b → Fits c → Fits d
     → octets_cmp (tlv a c) (tlv b d) ≡ ordering_then (octets_cmp (tag_octets a) (tag_octets b)) (ordering_then (nat_cmp (length c) (length d)) (octets_cmp c d))
 unfolding tlv
 tlv_cmp a b c d p q i j =
@@ -178,7 +179,7 @@ tlv_cmp a b c d p q i j =
     ∙ then_assoc (octets_cmp (tag_octets a) (tag_octets b)) (nat_cmp (length c) (length d)) (octets_cmp c d)
 
 -- of one tag
-pub tlv_cmp-tag : (t : Tag) (c d : List ℕ) → IsTag t → length c < 4294967296 → length d < 4294967296
+pub tlv_cmp-tag : (t : Tag) (c d : List ℕ) → IsTag t → Fits c → Fits d
     → octets_cmp (tlv t c) (tlv t d) ≡ ordering_then (nat_cmp (length c) (length d)) (octets_cmp c d)
 tlv_cmp-tag t c d p i j =
     tlv_cmp t t c d p p i j ∙ ap (λ o. ordering_then o (ordering_then (nat_cmp (length c) (length d)) (octets_cmp c d))) (octets_cmp-self (tag_octets t))

@@ -2,6 +2,7 @@
 use Rattle.std.proofs.Common.{◌≡◌, ℕ, zero, suc, Bool, true, false, cond, List, [], ◌∷◌, length, Some, None, Result, Ok, Err, refl, inl, inr}
 use Rattle.std.specs.Prelude.{nat_lt, ◌+◌, slice_get}
 use Rattle.std.specs.Str.{bytes_eq}
+use Rattle.der_core_head.specs.Limits.{length_max}
 use Rattle.der_core_head.specs.declared.error.ErrorKind.{ErrorKind}
 use Rattle.der_core_head.specs.declared.error.ErrorKind.TheVariants as kinds
 use Rattle.der_core_head.specs.declared.tag.Tag.{Tag}
@@ -21,7 +22,7 @@ bind_only (Ok n) f p q = q n
 bind_only (Err e) f p q = p
 
 pub sum_only : (m n : ℕ) → OnlyOverflows (sum_len m n)
-sum_only m n = go (nat_lt 4294967295 (m + n))
+sum_only m n = go (nat_lt length_max (m + n))
   where
     go : (b : Bool) → OnlyOverflows (cond b (Err kinds.Overflow) (Ok (m + n)))
     go true k e = cc

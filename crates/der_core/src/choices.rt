@@ -7,14 +7,17 @@ ghost use Rattle.der_core.specs.Orders.{octets_cmp};
 
 use crate::fields::next_cmp;
 use crate::order::{DerOrd, FirstTag};
-use der_core_coding::values::OneOf2;
+use der_core_coding::EncodeRef;
+use der_core_coding::values::{OneOf2, OneOf3, OneOf4, Shaped};
 use der_core_head::{Error, Tag};
 use std::cmp::Ordering;
 
 /// The order of values of two alternatives, which begin with different tags.
 fn other_cmp<A: FirstTag, B: FirstTag>(value: &A, other: &B) -> Ordering
-    ensures { is_apart (either A.shape B.shape) ≡ true → IsValid A.shape (A.written value.now) → IsValid B.shape (B.written other.now)
-        → result ≡ octets_cmp (octets_of A.shape (A.written value.now)) (octets_of B.shape (B.written other.now)) }
+    ensures { is_apart (either A.shape B.shape) ≡ true
+        → IsValid A.shape (A.written value.now) → IsValid B.shape (B.written other.now)
+        → result ≡ octets_cmp (octets_of A.shape (A.written value.now))
+        (octets_of B.shape (B.written other.now)) }
 {
     match other.first_tag() {
         Some(tag) => next_cmp(value.first_tag(), tag),
@@ -42,5 +45,38 @@ impl<A: FirstTag, B: FirstTag> FirstTag for OneOf2<A, B> {
             OneOf2::First(value) => value.first_tag(),
             OneOf2::Second(value) => value.first_tag(),
         }
+    }
+}
+
+type FourRef<'a, A, B, C, D> = OneOf2<
+    EncodeRef<'a, A>,
+    OneOf3<EncodeRef<'a, B>, EncodeRef<'a, C>, EncodeRef<'a, D>>,
+>;
+
+/// A choice of four behind a reference, as the first or one of the others.
+fn four_as_two<'a, A: Shaped, B: Shaped, C: Shaped, D: Shaped>(
+    value: &'a OneOf4<A, B, C, D>,
+) -> FourRef<'a, A, B, C, D>
+    ensures { ⟦<FourRef<'a, A, B, C, D> as Shaped>⟧.written result
+        ≡ ⟦<OneOf4<A, B, C, D> as Shaped>⟧.written value.now }
+{
+    match value {
+        OneOf4::First(value) => OneOf2::First(EncodeRef(value)),
+        OneOf4::Second(value) => OneOf2::Second(OneOf2::First(EncodeRef(value))),
+        OneOf4::Third(value) => OneOf2::Second(OneOf2::Second(OneOf2::First(EncodeRef(value)))),
+        OneOf4::Fourth(value) => OneOf2::Second(OneOf2::Second(OneOf2::Second(EncodeRef(value)))),
+    }
+}
+
+impl<A: FirstTag, B: FirstTag, C: FirstTag, D: FirstTag> FirstTag for OneOf4<A, B, C, D> {
+    fn first_tag(&self) -> Option<Tag> {
+        four_as_two(self).first_tag()
+    }
+}
+
+impl<A: DerOrd + FirstTag, B: DerOrd + FirstTag, C: DerOrd + FirstTag, D: DerOrd + FirstTag> DerOrd
+    for OneOf4<A, B, C, D> {
+    fn der_cmp(&self, other: &Self) -> Result<Ordering, Error> {
+        four_as_two(self).der_cmp(&four_as_two(other))
     }
 }

@@ -14,13 +14,13 @@ ghost use Rattle.der_core_head.specs.Spelling.{is_apart, is_element, are_enough}
 ghost use Rattle.der_core_head.specs.Writing.{Out, write};
 ghost use Rattle.der_core.specs.Orders.{octets_cmp, encodings_cmp};
 
+pub use der_core_coding::octets::headers::laws::scanned_in_one_way;
 use der_core_coding::values::{Element, InRange, Member};
 pub use der_core_head::laws::{
     apart_is_lawful, ber_headers_are_spelled, bodies_end_themselves, headers_are_spelled,
     headers_stay, read_is_spelled, spelled_is_read, valid_is_written, values_begin_as_stated,
     written_is_read, written_is_spelled,
 };
-pub use der_core_headers::laws::scanned_in_one_way;
 
 /// What was written of a value has an encoding, where the values of its type are in range, and is
 /// read as that value.
@@ -61,6 +61,6 @@ pub fn first_encoding_decides()
 
 /// Two values of a shape are in the order `Equal` exactly where they are one value.
 pub fn equal_values_alone()
-    ensures { (s : Shape) (room : ℕ) (v w : Value s) → is_element s ≡ true → is_apart s ≡ true → are_enough s room ≡ true
+    ensures { (s : Shape) (v w : Value s) → is_element s ≡ true → is_apart s ≡ true
         → IsValid s v → IsValid s w → (encodings_cmp s v w ≡ Equal) ↔ (v ≡ w) }
 {}

@@ -6,9 +6,9 @@ ghost use Rattle.der_core.specs.Orders.{octets_cmp};
 
 use crate::order::ValueOrd;
 use const_oid::ObjectIdentifier;
+use der_core_coding::octets::{BytesOwned, BytesRef, StringOwned, StringRef, integer_octets_of};
 use der_core_coding::values::Integer;
 use der_core_head::Error;
-use der_core_octets::{BytesOwned, BytesRef, StringOwned, StringRef, integer_octets_of};
 use std::cmp::Ordering;
 
 /// False, `00`, is below true, `FF` (X.690 11.1).

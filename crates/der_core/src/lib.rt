@@ -12,7 +12,6 @@ mod iterators;
 pub mod laws;
 mod leaves;
 mod lists;
-mod longer_choices;
 pub mod making;
 mod order;
 mod owned_iterators;
@@ -20,6 +19,13 @@ mod strict_set_of;
 mod wrappers;
 
 pub use by_ord::{OrdIsValueOrd, der_cmp_by_ord, value_cmp_by_ord, value_cmp_is_ord};
+pub use der_core_coding::octets::headers::{
+    Header, header_ber_of, header_of, indefinite_length_of, length_of, lone_length_of, tag_ber_of,
+};
+pub use der_core_coding::octets::{
+    BytesOwned, BytesRef, Reader, StringOwned, StringRef, Writer, encode_length, encode_tag,
+    peek_matches,
+};
 pub use der_core_coding::values::{
     ApartValue, AsRead, AsReadValue, Choice, Decode, DecodeFields, DecodeValue, Element, Encode,
     EncodeValue, Fields, FixedTag, InRange, InRangeFields, InRangeValue, Integer, Leaf, Member,
@@ -27,21 +33,14 @@ pub use der_core_coding::values::{
     decode_octets,
 };
 pub use der_core_coding::{
-    DefaultValue, EncodeFields, EncodeRef, EncodeValueRef, Explicit, Implicit, IsConstructed,
-    SliceReader, SliceWriter, Tagged, WithDefault, encode_to_slice, encode_to_vec,
-    encode_value_to_slice, from_ber, from_der, from_der_partial, reading, to_der, value_header,
+    DefaultContent, DefaultValue, EncodeFields, EncodeRef, EncodeValueRef, Explicit, Implicit,
+    ImplicitRef, IsConstructed, SliceReader, SliceWriter, Tagged, WithDefault, encode_to_slice,
+    encode_to_vec, encode_value_to_slice, from_ber, from_der, from_der_partial, reading, to_der,
+    value_header,
 };
 pub use der_core_head::{
     CLASS_APPLICATION, CLASS_CONTEXT_SPECIFIC, CLASS_PRIVATE, CLASS_UNIVERSAL, Class,
-    EncodingRules, Error, ErrorKind, Length, Result, Tag, TagMode, TagNumber,
-};
-pub use der_core_headers::{
-    Header, header_ber_of, header_of, indefinite_length_of, length_of, lone_length_of, tag_ber_of,
-    tag_of,
-};
-pub use der_core_octets::{
-    BytesOwned, BytesRef, Reader, StringOwned, StringRef, Writer, encode_length, encode_tag,
-    peek_matches,
+    EncodingRules, Error, ErrorKind, Length, Result, Tag, TagMode, TagNumber, tag_of,
 };
 pub use fields::FieldsOrd;
 pub use headers::{header_cmp, length_cmp, tag_cmp};

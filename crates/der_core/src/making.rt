@@ -1,15 +1,17 @@
-//! What the makers of types use: heads and contents as they are read, counted and written, and orders of
-//! contents, for types that the traits alone don't serve.
+//! What the makers of types use: heads and contents as they are read, counted and written, fields
+//! behind tags, and orders of contents, for types that the traits alone don't serve.
 
 pub use crate::contents::{value_cmp_behind, value_cmp_by_contents};
 pub use crate::lists::elements_cmp;
-pub use der_core_coding::values::{
-    decode_leaf, list_in_range, octets_in_range, read_content, read_fields, text_in_range,
-};
-pub use der_core_coding::{
-    decode_sliced, encode_behind, encode_explicit, encode_implicit, len_behind, read_rising,
-};
-pub use der_core_head::{header_len, is_constructed, is_same_tag, leading_octet_of, number_of};
-pub use der_core_octets::{
+pub use der_core_coding::octets::{
     encode_header, integer_octets_of, signed_of, slice_len, sum_len, unsigned_of,
 };
+pub use der_core_coding::values::{
+    decode_leaf, decode_leaf_of_tag, list_in_range, octets_in_range, read_content, read_fields,
+    text_in_range,
+};
+pub use der_core_coding::{
+    decode_sliced, encode_behind, encode_explicit, encode_implicit, explicit_of, explicit_ref,
+    implicit_of, implicit_ref, is_zero, leaf_from_der, len_behind, read_rising,
+};
+pub use der_core_head::{header_len, is_constructed, is_same_tag, leading_octet_of, number_of};

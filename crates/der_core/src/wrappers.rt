@@ -1,7 +1,9 @@
 //! Comparison of boxed values, of tags around a value, and of defaults.
 
 use crate::order::{DerOrd, FirstTag, ValueOrd};
-use der_core_coding::{DefaultValue, EncodeRef, EncodeValueRef, Explicit, Implicit, WithDefault};
+use der_core_coding::{
+    DefaultValue, EncodeRef, EncodeValueRef, Explicit, Implicit, ImplicitRef, WithDefault,
+};
 use der_core_head::{Error, Tag};
 use std::cmp::Ordering;
 
@@ -30,6 +32,12 @@ impl<T: DerOrd, const N: u32> ValueOrd for Explicit<T, N> {
 impl<T: ValueOrd, const N: u32> ValueOrd for Implicit<T, N> {
     fn value_cmp(&self, other: &Self) -> Result<Ordering, Error> {
         self.value.value_cmp(&other.value)
+    }
+}
+
+impl<'a, T: ValueOrd, const N: u32> ValueOrd for ImplicitRef<'a, T, N> {
+    fn value_cmp(&self, other: &Self) -> Result<Ordering, Error> {
+        self.value.value_cmp(other.value)
     }
 }
 

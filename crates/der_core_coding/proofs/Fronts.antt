@@ -2,6 +2,7 @@
 use Rattle.std.proofs.Common.{◌≡◌, ◌<◌, ℕ, true, ltb, List, ◌++◌, length, Result, Ok, Err, sym, ap, ◌∙◌, arith}
 use Rattle.std.proofs.lemmas.Bool.{le-ltb, ltb-false}
 use Rattle.std.specs.Prelude.{IfOk}
+use Rattle.der_core_head.specs.Limits.{length_max, levels_max}
 use Rattle.der_core_head.specs.declared.error.Error.{Error}
 use Rattle.der_core_head.specs.declared.error.ErrorKind.{ErrorKind}
 use Rattle.der_core_head.specs.declared.error.ErrorKind.TheVariants as kinds
@@ -19,14 +20,14 @@ use Rattle.der_core_octets.specs.Fronts.{front_at}
 pub front_spelled : {X : Type 0} (s : Shape) (view : X → Value s × List ℕ) (w : List ℕ) (r : Result X Error) → is_apart s ≡ true → IsBytes w → Gives view r (front_at s w)
     → IfOk r (λ x. IsValid s (view x).0 × (w ≡ octets_of s (view x).0 ++ (view x).1))
 front_spelled s view w (Ok x) apart bytes e =
-    let h = unless_ok (ltb 4294967295 (length w)) kinds.Overflow (read s 64 w) (view x) e in
-    let fits : Fits w = omega (arith, ltb-false 4294967295 (length w) h.0) in
+    let h = unless_ok (ltb length_max (length w)) kinds.Overflow (read s levels_max w) (view x) e in
+    let fits : Fits w = omega (arith, ltb-false length_max (length w) h.0) in
     sound s 64 w (view x).0 (view x).1 apart bytes fits h.1
 front_spelled s view w (Err e) apart bytes h = tt
 
-pub front_again : (s : Shape) (v : Value s) (r w : List ℕ) → is_element s ≡ true → is_apart s ≡ true → are_enough s 64 ≡ true → IsValid s v → w ≡ octets_of s v ++ r → length w < 4294967296 → front_at s w ≡ Ok (v, r)
+pub front_again : (s : Shape) (v : Value s) (r w : List ℕ) → is_element s ≡ true → is_apart s ≡ true → are_enough s levels_max ≡ true → IsValid s v → w ≡ octets_of s v ++ r → Fits w → front_at s w ≡ Ok (v, r)
 front_again s v r w element apart enough valid e short =
-    rw (le-ltb 4294967295 (length w) (omega (arith, short))) (ap (read s 64) e ∙ read_front s 64 v r element apart enough valid)
+    rw (le-ltb length_max (length w) (omega (arith, short))) (ap (read s levels_max) e ∙ read_front s 64 v r element apart enough valid)
 
 -- what reading gives is what was answered
 pub gives_so : {X P : Type 0} (view : X → P) (r : Result X Error) (f x : Result P ErrorKind) → f ≡ x → Gives view r f → Gives view r x

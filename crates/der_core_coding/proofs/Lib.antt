@@ -7,3 +7,4 @@ mod Puts
 mod Encodable
 mod Fronts
 mod Ruled
+mod Defaults

@@ -15,6 +15,7 @@ use Rattle.der_core_head.specs.Shapes.{Shape, Content, Body, tagged, any, either
 use Rattle.der_core_head.specs.Reading.{GivesNow}
 use Rattle.der_core_head.specs.Writing.{Out, put, put_head, sum_len, fit_len, size_content, write_tlv, write_many, default_write, write, write_content, write_body}
 use Rattle.std.specs.Prelude.{IfOk, IsOkAnd}
+use Rattle.der_core_head.specs.Limits.{IsLength, length_max}
 use Rattle.der_core_head.proofs.Fits.{fits_contents}
 use Rattle.der_core_head.proofs.Results.{ok_is, bind_ok, unless_ok}
 use Rattle.der_core_head.proofs.OkOctets.{writes_octets, writes_contents, writes_fitting}
@@ -25,8 +26,8 @@ use Rattle.der_core_octets.specs.Outputs.{blank, finished, filled}
 abbrev within : List ℕ → ℕ → Out
 within a r = record { written = a; room = Some (r - length a); failed = false }
 
-fit_size : (n : ℕ) → n < 4294967296 → fit_len n ≡ Ok n
-fit_size n h = rw (le-ltb 4294967295 (n + 0) (omega arith)) (ap (λ k. Ok k) (omega arith))
+fit_size : (n : ℕ) → IsLength n → fit_len n ≡ Ok n
+fit_size n h = rw (le-ltb length_max (n + 0) (omega arith)) (ap (λ k. Ok k) (omega arith))
 
 put_within : (b a : List ℕ) (r : ℕ) → length a + length b ≤ r → put b (within a r) ≡ Ok (within (a ++ b) r)
 unfolding put
@@ -34,10 +35,10 @@ put_within b a r l =
     let left : r - length a - length b ≡ r - length (a ++ b) = omega (arith, length-append a b) in
     rw (le-ltb (r - length a) (length b) (omega arith)) (ap (λ n. Ok (record { written = a ++ b; room = Some n; failed = false })) left)
 
-sum_fits : (m n : ℕ) → m + n < 4294967296 → sum_len m n ≡ Ok (m + n)
-sum_fits m n h = rw (le-ltb 4294967295 (m + n) (omega arith)) refl
+sum_fits : (m n : ℕ) → IsLength (m + n) → sum_len m n ≡ Ok (m + n)
+sum_fits m n h = rw (le-ltb length_max (m + n) (omega arith)) refl
 
-head_within : (t : Tag) (n : ℕ) (a : List ℕ) (r : ℕ) → length (head_octets t n) + n < 4294967296 → length a + length (head_octets t n) ≤ r → put_head t n (within a r) ≡ Ok (within (a ++ head_octets t n) r)
+head_within : (t : Tag) (n : ℕ) (a : List ℕ) (r : ℕ) → IsLength (length (head_octets t n) + n) → length a + length (head_octets t n) ≤ r → put_head t n (within a r) ≡ Ok (within (a ++ head_octets t n) r)
 unfolding put_head head_octets
 head_within t n a r h l =
     let sum = length-append (tag_octets t) (length_octets n) in

@@ -1,3 +1,5 @@
 pub mod Slices
 pub mod Sequences
 pub mod Wholes
+pub mod Defaults
+pub use Rattle.der_core_values.specs as Values

@@ -1,11 +1,15 @@
--- What the reader of a slice holds.
-use Rattle.std.specs.Prelude.{◌-◌, ◌≤◌, ◌<◌, ◌^◌, ℕ, List, [], false, take, drop, length}
+-- What the reader of a slice holds, and the writer to one.
+use Rattle.std.specs.Prelude.{◌-◌, ◌≤◌, ◌<◌, ◌^◌, ℕ, List, [], Some, false, take, drop, length}
+use Rattle.der_core_head.specs.Limits.{levels_max}
+use Rattle.der_core_head.specs.Heads.{Fits}
 use Rattle.der_core_head.specs.declared.encoding_rules.EncodingRules.TheVariants as encodings
 use Rattle.der_core_head.specs.Reading.{State}
+use Rattle.der_core_head.specs.Writing.{Out}
 use Rattle.der_core_coding.specs.declared.slice_reader.SliceReader.TheInside.{Inside}
+use Rattle.der_core_coding.specs.declared.slice_writer.SliceWriter.{SliceWriter}
 
 abbrev pub view_of : Inside → State
-view_of a = record { rest = take (a.end - a.position) (drop a.position a.bytes.now); behind = drop a.end a.bytes.now; room = 64 - a.depth; failed = a.failed; source = record { encoding = a.encoding; size = length a.bytes.now } }
+view_of a = record { rest = take (a.end - a.position) (drop a.position a.bytes.now); behind = drop a.end a.bytes.now; room = levels_max - a.depth; failed = a.failed; source = record { encoding = a.encoding; size = length a.bytes.now } }
 
 -- a reader of these octets by DER, in which so many ends can be set, before any call
 abbrev pub unread_within : ℕ → List ℕ → State
@@ -14,5 +18,9 @@ unread_within levels w = record { rest = w; behind = []; room = levels; failed =
 pub record IsReader (a : Inside) : Type 0 where
   pub position : a.position ≤ a.end
   pub end : a.end ≤ length a.bytes.now
-  pub bytes : length a.bytes.now < 2 ^ 32
-  pub depth : a.depth ≤ 64
+  pub bytes : Fits a.bytes.now
+  pub depth : a.depth ≤ levels_max
+
+-- what was written, up to the place of the writer, and the room behind it
+abbrev pub output : SliceWriter → Out
+output w = record { written = take w.position w.bytes.now; room = Some (length w.bytes.now - w.position); failed = w.failed }

@@ -1,5 +1,6 @@
 -- All of the octets, by BER.
 use Rattle.std.specs.Prelude.{ℕ, List, length, Result, Err, nat_lt, if◌then◌else◌}
+use Rattle.der_core_head.specs.Limits.{length_max, levels_max}
 use Rattle.der_core_head.specs.declared.error.ErrorKind.{ErrorKind}
 use Rattle.der_core_head.specs.declared.error.ErrorKind.TheVariants as kinds
 use Rattle.der_core_head.specs.declared.encoding_rules.EncodingRules.TheVariants as encodings
@@ -9,4 +10,4 @@ use Rattle.der_core_head.specs.Grammar.{read_by, whole}
 
 -- all of the octets, which a length can count, where headers are read by BER
 unfoldable pub whole_ber_at : (s : Shape) → List ℕ → Result (Value s × List ℕ) ErrorKind
-whole_ber_at s w = if nat_lt 4294967295 (length w) then Err kinds.Overflow else (read_by encodings.Ber s 64 w >>= whole)
+whole_ber_at s w = if nat_lt length_max (length w) then Err kinds.Overflow else (read_by encodings.Ber s levels_max w >>= whole)

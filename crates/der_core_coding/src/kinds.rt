@@ -1,41 +1,185 @@
 //! Defaults.
 
-ghost use Rattle.std.specs.Prelude.{◌≡◌, List, ℕ, [], ◌∷◌, Ok, true, bytes_eq, refl};
-ghost use Rattle.der_core_head.specs.Shapes.{defaulted, octets_of, IsValid};
+ghost use Rattle.std.specs.Prelude.{
+  ◌≡◌,
+  List,
+  ℕ,
+  [],
+  ◌∷◌,
+  Ok,
+  true,
+  bytes_eq,
+  nat_lt,
+  length,
+  pos,
+  refl,
+};
 ghost use Rattle.der_core_head.specs.Grammar.{read};
+ghost use Rattle.der_core_head.specs.Leaves.{integer};
+ghost use Rattle.der_core_head.specs.Limits.{levels_max};
+ghost use Rattle.der_core_head.specs.Shapes.{
+  leaf,
+  defaulted,
+  octets_of,
+  contents,
+  IsValid,
+  IsContent,
+};
+ghost use Rattle.der_core_head.specs.Spelling.{are_content_enough};
+ghost use Rattle.der_core_head.specs.Tags.{context};
+ghost use Rattle.der_core_coding.specs.Defaults.{short_tlv};
 
-use der_core_head::{Error, ErrorKind, Length};
+use crate::wrappers::{Explicit, Implicit};
+use der_core_head::{Error, ErrorKind, Length, number_of};
 use der_core_octets::{Reader, Writer};
-use der_core_values::{AsRead, Choice, Decode, Encode, InRange, Shaped};
+use der_core_values::{
+    ApartValue, AsRead, AsReadValue, Choice, Decode, Encode, FixedTag, InRange, Integer, Shaped,
+    ShapedValue,
+};
 use std::alloc::Global;
 
-/// A type with a value that is never written (X.690 11.5), whose values are written as they are read.
+/// A type with a value that is never written (X.690 11.5), whose values are written as they are
+/// read.
 pub trait DefaultValue: Shaped + AsRead {
     ghost default_octets: { List ℕ };
 
     /// That value.
     fn default_value() -> Self
-        ensures { read Self.shape 64 default_octets ≡ Ok (Self.plain result, []) };
+        ensures { read Self.shape levels_max default_octets ≡ Ok (Self.plain result, []) };
 
     /// Whether a value is that one.
     fn is_default(&self) -> bool
-        ensures value { result ≡ bytes_eq (octets_of Self.shape (Self.plain self.now)) default_octets }
+        ensures value { result
+            ≡ bytes_eq (octets_of Self.shape (Self.plain self.now)) default_octets }
         // That value has an encoding.
         ensures valid { result ≡ true → IsValid Self.shape (Self.plain self.now) };
 }
 
-/// False.
-impl DefaultValue for bool {
-    ghost default_octets = { 1 ∷ 1 ∷ 0 ∷ [] };
+/// A type with a content of fewer than 100 octets, without values inside, that is never written
+/// behind the tag of a field (X.690 11.5).
+///
+/// So the type, and each implicit or explicit tag around it, can stand in `WithDefault`.
+pub trait DefaultContent: ShapedValue + ApartValue + AsReadValue {
+    ghost content_octets: { List ℕ };
 
-    #[tactic(auto, unfolding(der_core_head::specs::Grammar::tlv_at, der_core_head::specs::Heads::head_at, der_core_head::specs::Tags::tag_at, der_core_head::specs::Tags::universal_tag, der_core_head::specs::Heads::length_at, der_core_head::specs::Grammar::value_at))]
-    fn default_value() -> bool {
+    /// The value with that content.
+    fn default_content() -> Self
+        ensures octets { contents Self.content (Self.value_plain result) ≡ content_octets }
+        ensures valid { IsContent Self.content (Self.value_plain result) };
+
+    /// Whether a value is that one.
+    fn is_default_content(&self) -> bool
+        ensures value { result
+            ≡ bytes_eq (contents Self.content (Self.value_plain self.now)) content_octets }
+        ensures valid { result ≡ true → IsContent Self.content (Self.value_plain self.now) };
+
+    ghost few: { nat_lt (length content_octets) 100 ≡ true };
+
+    ghost enough: { (room : ℕ) → are_content_enough Self.content room ≡ true };
+}
+
+/// The default behind the tag of the type.
+impl<T: DefaultContent + FixedTag> DefaultValue for T {
+    ghost default_octets = { short_tlv T.fixed_tag T.content_octets };
+
+    fn default_value() -> T {
+        let _number = number_of(T::tag());
+        T::default_content()
+    }
+
+    fn is_default(&self) -> bool {
+        let _number = number_of(T::tag());
+        self.is_default_content()
+    }
+}
+
+/// The default behind both tags.
+impl<T: DefaultContent + FixedTag, const N: u32> DefaultValue for Explicit<T, N> {
+    ghost default_octets = { short_tlv (context true N) (short_tlv T.fixed_tag T.content_octets) };
+
+    fn default_value() -> Explicit<T, N> {
+        let _outer = number_of(Explicit::<T, N>::tag());
+        let _number = number_of(T::tag());
+        Explicit {
+            value: T::default_content(),
+        }
+    }
+
+    fn is_default(&self) -> bool {
+        let _outer = number_of(Explicit::<T, N>::tag());
+        let _number = number_of(T::tag());
+        self.value.is_default_content()
+    }
+}
+
+/// The default of the type.
+impl<T: DefaultContent, const N: u32> DefaultContent for Implicit<T, N> {
+    ghost content_octets = { T.content_octets };
+
+    ghost few = { T.few };
+
+    ghost enough = { T.enough };
+
+    fn default_content() -> Implicit<T, N> {
+        Implicit {
+            value: T::default_content(),
+        }
+    }
+
+    fn is_default_content(&self) -> bool {
+        self.value.is_default_content()
+    }
+}
+
+/// False.
+impl DefaultContent for bool {
+    ghost content_octets = { 0 ∷ [] };
+
+    ghost few = { refl };
+
+    ghost enough = { λ _. refl };
+
+    #[tactic(auto, unfolding(der_core_head::specs::Shapes::contents, der_core_head::specs::Shapes::IsContent))]
+    fn default_content() -> bool {
         false
     }
 
-    #[tactic(auto, unfolding(der_core_head::specs::Shapes::octets_of, der_core_head::specs::Shapes::IsValid, der_core_head::specs::Heads::tlv, der_core_head::specs::Heads::head_octets, der_core_head::specs::Heads::length_octets, der_core_head::specs::Tags::tag_octets))]
-    fn is_default(&self) -> bool {
+    #[tactic(auto, unfolding(der_core_head::specs::Shapes::contents, der_core_head::specs::Shapes::IsContent))]
+    fn is_default_content(&self) -> bool {
         !*self
+    }
+}
+
+/// Whether a number is 0.
+#[tactic(auto, unfolding(der_core_head::specs::Shapes::contents, der_core_head::specs::Shapes::IsContent))]
+pub fn is_zero<T: Integer>(value: &T) -> bool
+    ensures octets { result
+        ≡ bytes_eq (contents (leaf (integer T.numbers)) (T.number value.now)) (0 ∷ []) }
+    // 0 is one octet.
+    ensures zero { T.number value.now ≡ pos 0
+        → contents (leaf (integer T.numbers)) (T.number value.now) ≡ 0 ∷ [] }
+    ensures valid { IsContent (leaf (integer T.numbers)) (T.number value.now) }
+{
+    let (negative, number) = value.magnitude();
+    !negative && number == 0
+}
+
+/// 0.
+impl DefaultContent for u32 {
+    ghost content_octets = { 0 ∷ [] };
+
+    ghost few = { refl };
+
+    ghost enough = { λ _. refl };
+
+    fn default_content() -> u32 {
+        let number = 0;
+        let _zero = is_zero(&number);
+        number
+    }
+
+    fn is_default_content(&self) -> bool {
+        is_zero(self)
     }
 }
 

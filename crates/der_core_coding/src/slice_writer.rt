@@ -1,13 +1,13 @@
 //! The writer to a slice.
 
-ghost use Rattle.std.specs.Prelude.{◌≡◌, ◌≤◌, ◌<◌, ◌^◌, ◌-◌, take, length, [], Some, IfOk, IfErr, IsSomeAnd, IsNone, IsErrAnd, OnOk, OnErr, true, false};
+ghost use Rattle.std.specs.Prelude.{◌≡◌, ◌≤◌, ◌<◌, ◌^◌, length, [], Some, IfOk, IfErr, IsSomeAnd, IsNone, IsErrAnd, OnOk, OnErr, true, false};
 ghost use Rattle.der_core_head.specs.declared.tag_mode.TagMode.TheVariants as modes;
-ghost use Rattle.der_core_head.specs.Tags.{context, implicit_tag};
-ghost use Rattle.der_core_head.specs.Shapes.{nested, only, tagged};
+ghost use Rattle.der_core_head.specs.Tags.{implicit_tag};
+ghost use Rattle.der_core_head.specs.Shapes.{explicit, tagged};
 ghost use Rattle.der_core_head.specs.Reading.{GivesNow};
 ghost use Rattle.der_core_head.specs.Writing.{write};
-ghost use Rattle.der_core_octets.specs.Outputs.{Continues, Encloses};
-ghost use Rattle.der_core_coding.specs.Sequences.{RefusesEnclosed};
+ghost use Rattle.der_core_octets.specs.Outputs.{Continues, Encloses, blank};
+ghost use Rattle.der_core_coding.specs.Sequences.{RefusesEnclosed, failing};
 
 use crate::tagging::{encode_explicit, encode_implicit};
 use der_core_head::{Error, ErrorKind, Length, Tag, TagMode, TagNumber};
@@ -25,9 +25,11 @@ pub struct SliceWriter<'a> {
 }
 
 impl<'a> SliceWriter<'a> {
+    ghost use Rattle.der_core_coding.specs.Slices.{output};
+
     /// A writer to the whole slice.
     pub fn new(bytes: &'a mut [u8]) -> SliceWriter<'a>
-        ensures { ⟦<SliceWriter<'static> as Writer>⟧.out result ≡ record { written = []; room = Some (length bytes.entry.now); failed = false } }
+        ensures { output result ≡ blank (length bytes.entry.now) }
     {
         SliceWriter {
             bytes,
@@ -38,7 +40,7 @@ impl<'a> SliceWriter<'a> {
 
     /// Whether a write was refused.
     pub fn is_failed(&self) -> bool
-        ensures { result ≡ (⟦<SliceWriter<'static> as Writer>⟧.out self.now).failed }
+        ensures { result ≡ (output self.now).failed }
     {
         self.failed
     }
@@ -48,8 +50,10 @@ impl<'a> SliceWriter<'a> {
     /// # Errors
     /// `Failed` where a write was refused.
     pub fn finish(self) -> Result<&'a [u8], Error>
-        ensures ok { IfOk result (λ octets. (octets.now ≡ (⟦<SliceWriter<'static> as Writer>⟧.out self.entry).written) × ((⟦<SliceWriter<'static> as Writer>⟧.out self.entry).failed ≡ false)) }
-        ensures failed { IfErr result (λ e. ((⟦<SliceWriter<'static> as Writer>⟧.out self.entry).failed ≡ true) × (e.kind ≡ ErrorKind.Failed)) }
+        ensures ok { IfOk result (λ octets.
+            (octets.now ≡ (output self.entry).written) × ((output self.entry).failed ≡ false)) }
+        ensures failed { IfErr result (λ e.
+            ((output self.entry).failed ≡ true) × (e.kind ≡ ErrorKind.Failed)) }
     {
         if self.failed {
             return Err(Error::from(ErrorKind::Failed));
@@ -61,6 +65,8 @@ impl<'a> SliceWriter<'a> {
 }
 
 impl<'a> SliceWriter<'a> {
+    ghost use Rattle.der_core_coding.specs.Slices.{output};
+
     /// An error at the place of the writer, which has failed from then on. A place from 2^32 on is
     /// left out.
     ///
@@ -68,10 +74,11 @@ impl<'a> SliceWriter<'a> {
     /// Always that error.
     pub fn error<T>(&mut self, kind: ErrorKind) -> Result<T, Error>
         ensures kind { IsErrAnd result (λ e. e.kind ≡ kind) }
-        ensures place { length (⟦<SliceWriter<'static> as Writer>⟧.out self.old).written < 2 ^ 32
-            → IfErr result (λ e. IsSomeAnd e.position (λ p. p.value ≡ length (⟦<SliceWriter<'static> as Writer>⟧.out self.old).written)) }
-        ensures far { 2 ^ 32 ≤ length (⟦<SliceWriter<'static> as Writer>⟧.out self.old).written → IfErr result (λ e. IsNone e.position) }
-        ensures failed { ⟦<SliceWriter<'static> as Writer>⟧.out self.new ≡ record (⟦<SliceWriter<'static> as Writer>⟧.out self.old) { failed = true } }
+        ensures place { length (output self.old).written < 2 ^ 32 → IfErr result (λ e.
+            IsSomeAnd e.position (λ p. p.value ≡ length (output self.old).written)) }
+        ensures far { 2 ^ 32 ≤ length (output self.old).written
+            → IfErr result (λ e. IsNone e.position) }
+        ensures failed { output self.new ≡ failing (output self.old) }
     {
         self.failed = true;
         let position = match u32::try_from(self.position) {
@@ -87,11 +94,13 @@ impl<'a> SliceWriter<'a> {
     /// `Failed` where the writer failed before, `Overlength` where there is no room, `Overflow`
     /// where a length passes 2^32 - 1.
     pub fn encode<T: Encode>(&mut self, value: &T) -> Result<(), Error>
-        ensures writes { (⟦<SliceWriter<'static> as Writer>⟧.out self.old).failed ≡ false
-            → GivesNow (λ _. ⟦<SliceWriter<'static> as Writer>⟧.out self.new) result (write T.shape (T.written value.now) (⟦<SliceWriter<'static> as Writer>⟧.out self.old)) }
-        ensures failed { (⟦<SliceWriter<'static> as Writer>⟧.out self.old).failed ≡ true → IsErrAnd result (λ e. e.kind ≡ ErrorKind.Failed) }
-        ensures refused { OnErr result ((⟦<SliceWriter<'static> as Writer>⟧.out self.new).failed ≡ true) }
-        ensures kept { Continues (⟦<SliceWriter<'static> as Writer>⟧.out self.old) (⟦<SliceWriter<'static> as Writer>⟧.out self.new) }
+        ensures writes { (output self.old).failed ≡ false
+            → GivesNow (λ _. output self.new) result
+            (write T.shape (T.written value.now) (output self.old)) }
+        ensures failed { (output self.old).failed ≡ true
+            → IsErrAnd result (λ e. e.kind ≡ ErrorKind.Failed) × (output self.new ≡ output self.old) }
+        ensures refused { OnErr result ((output self.new).failed ≡ true) }
+        ensures kept { Continues (output self.old) (output self.new) }
     {
         if self.failed {
             return Err(Error::from(ErrorKind::Failed));
@@ -107,6 +116,8 @@ impl<'a> SliceWriter<'a> {
 }
 
 impl<'a> SliceWriter<'a> {
+    ghost use Rattle.der_core_coding.specs.Slices.{output};
+
     /// Writes a value behind a context-specific tag, in front of its own or in its place
     /// (X.690 8.14). After a refusal the writer has failed.
     ///
@@ -119,15 +130,18 @@ impl<'a> SliceWriter<'a> {
         tag_mode: TagMode,
         value: &T,
     ) -> Result<(), Error>
-        ensures explicit { tag_mode ≡ modes.Explicit → (⟦<SliceWriter<'static> as Writer>⟧.out self.old).failed ≡ false
-            → GivesNow (λ _. ⟦<SliceWriter<'static> as Writer>⟧.out self.new) result
-            (write (tagged (context true tag_number.value) (nested (only (tagged T.fixed_tag T.content)))) (T.value_written value.now) (⟦<SliceWriter<'static> as Writer>⟧.out self.old)) }
-        ensures implicit { tag_mode ≡ modes.Implicit → (⟦<SliceWriter<'static> as Writer>⟧.out self.old).failed ≡ false
-            → GivesNow (λ _. ⟦<SliceWriter<'static> as Writer>⟧.out self.new) result
-            (write (tagged (implicit_tag tag_number.value T.fixed_tag) T.content) (T.value_written value.now) (⟦<SliceWriter<'static> as Writer>⟧.out self.old)) }
-        ensures failed { (⟦<SliceWriter<'static> as Writer>⟧.out self.old).failed ≡ true → IsErrAnd result (λ e. e.kind ≡ ErrorKind.Failed) }
-        ensures refused { OnErr result ((⟦<SliceWriter<'static> as Writer>⟧.out self.new).failed ≡ true) }
-        ensures kept { Continues (⟦<SliceWriter<'static> as Writer>⟧.out self.old) (⟦<SliceWriter<'static> as Writer>⟧.out self.new) }
+        ensures explicit { tag_mode ≡ modes.Explicit → (output self.old).failed ≡ false
+            → GivesNow (λ _. output self.new) result
+            (write (explicit tag_number.value (tagged T.fixed_tag T.content))
+            (T.value_written value.now) (output self.old)) }
+        ensures implicit { tag_mode ≡ modes.Implicit → (output self.old).failed ≡ false
+            → GivesNow (λ _. output self.new) result
+            (write (tagged (implicit_tag tag_number.value T.fixed_tag) T.content)
+            (T.value_written value.now) (output self.old)) }
+        ensures failed { (output self.old).failed ≡ true
+            → IsErrAnd result (λ e. e.kind ≡ ErrorKind.Failed) × (output self.new ≡ output self.old) }
+        ensures refused { OnErr result ((output self.new).failed ≡ true) }
+        ensures kept { Continues (output self.old) (output self.new) }
     {
         if self.failed {
             return Err(Error::from(ErrorKind::Failed));
@@ -158,12 +172,15 @@ impl<'a> SliceWriter<'a> {
     ) -> Result<(), Error>
         requires { F.IsAlwaysCallable f }
         // The closure was called behind the header, and wrote that many octets.
-        ensures ok { OnOk result (Encloses ⟦<SliceWriter<'static> as Writer>⟧.out F.FnOnce f length.value (⟦<SliceWriter<'static> as Writer>⟧.out self.old) (⟦<SliceWriter<'static> as Writer>⟧.out self.new)) }
-        // Which fault it is: of the header, of the closure, or another number of octets.
-        ensures fault { IfErr result (λ e. (⟦<SliceWriter<'static> as Writer>⟧.out self.old).failed ≡ false
-            → RefusesEnclosed ⟦<SliceWriter<'static> as Writer>⟧.out F.FnOnce f length.value (⟦<SliceWriter<'static> as Writer>⟧.out self.old) e) }
-        ensures failed { (⟦<SliceWriter<'static> as Writer>⟧.out self.old).failed ≡ true → IsErrAnd result (λ e. e.kind ≡ ErrorKind.Failed) }
-        ensures refused { OnErr result ((⟦<SliceWriter<'static> as Writer>⟧.out self.new).failed ≡ true) }
+        ensures ok { OnOk result
+            (Encloses output F.FnOnce f length.value (output self.old) (output self.new)) }
+        // Which fault it is: of the header, of the closure, or another number of octets. What stood
+        // before the header still stands, and what the closure left.
+        ensures fault { IfErr result (λ e. (output self.old).failed ≡ false → RefusesEnclosed output
+            F.FnOnce f length.value (output self.old) (output self.new) e) }
+        ensures failed { (output self.old).failed ≡ true
+            → IsErrAnd result (λ e. e.kind ≡ ErrorKind.Failed) × (output self.new ≡ output self.old) }
+        ensures refused { OnErr result ((output self.new).failed ≡ true) }
     {
         if self.failed {
             return Err(Error::from(ErrorKind::Failed));
@@ -184,8 +201,10 @@ impl<'a> SliceWriter<'a> {
         f: F,
     ) -> Result<(), Error>
         requires { F.IsAlwaysCallable f }
-        ensures ok { OnOk result (Encloses ⟦<SliceWriter<'static> as Writer>⟧.out F.FnOnce f length.value (⟦<SliceWriter<'static> as Writer>⟧.out self.old) (⟦<SliceWriter<'static> as Writer>⟧.out self.new)) }
-        ensures fault { IfErr result (λ e. RefusesEnclosed ⟦<SliceWriter<'static> as Writer>⟧.out F.FnOnce f length.value (⟦<SliceWriter<'static> as Writer>⟧.out self.old) e) }
+        ensures ok { OnOk result
+            (Encloses output F.FnOnce f length.value (output self.old) (output self.new)) }
+        ensures fault { IfErr result (λ e. RefusesEnclosed output
+            F.FnOnce f length.value (output self.old) (failing (output self.new)) e) }
     {
         let tag = Tag::Sequence;
         encode_header(self, tag, length)?;
@@ -200,7 +219,9 @@ impl<'a> SliceWriter<'a> {
 }
 
 impl<'a> Writer for SliceWriter<'a> {
-    ghost out = { λ w. record { written = take w.position w.bytes.now; room = Some (length w.bytes.now - w.position); failed = w.failed } };
+    ghost use Rattle.der_core_coding.specs.Slices.{output};
+
+    ghost out = { output };
 
     ghost takes_memory = { false };
 

@@ -11,7 +11,7 @@ ghost use Rattle.der_core_octets.specs.Outputs.{appended, filled};
 use crate::slice_writer::SliceWriter;
 use crate::tagged::Tagged;
 use der_core_head::{Error, Length};
-use der_core_headers::Header;
+use der_core_octets::headers::Header;
 use der_core_values::{Encode, EncodeValue};
 
 /// The header of a value: its tag, and the number of octets of its content.

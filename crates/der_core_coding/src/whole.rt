@@ -1,17 +1,19 @@
 //! Reading of all octets.
 
-ghost use Rattle.std.specs.Prelude.{◌≡◌, ◌<◌, ◌^◌, ◌++◌, ℕ, List, length, [], true, Ok, IfOk};
-ghost use Rattle.der_core_head.specs.Shapes.{Value, Spells, IsValid, octets_of};
+ghost use Rattle.std.specs.Prelude.{◌≡◌, ◌<◌, ◌^◌, ◌++◌, ℕ, List, length, [], true, false, Ok, IfOk};
+ghost use Rattle.der_core_head.specs.Limits.{levels_max};
+ghost use Rattle.der_core_head.specs.Heads.{Fits};
+ghost use Rattle.der_core_head.specs.Shapes.{Value, Spells, IsValid, octets_of, leaf, tagged};
 ghost use Rattle.der_core_head.specs.Spelling.{is_apart, is_element, are_enough};
 ghost use Rattle.der_core_head.specs.Grammar.{whole_at};
-ghost use Rattle.der_core_head.specs.Reading.{Gives};
+ghost use Rattle.der_core_head.specs.Reading.{Gives, GivesNow};
 ghost use Rattle.der_core_octets.specs.Fronts.{front_at};
 ghost use Rattle.der_core_coding.specs.Wholes.{whole_ber_at};
 
 use crate::slice_reader::SliceReader;
 use der_core_head::{EncodingRules, Error, ErrorKind};
 use der_core_octets::Reader;
-use der_core_values::Decode;
+use der_core_values::{Decode, FixedTag, Leaf, decode_leaf_of_tag};
 use std::alloc::Global;
 
 /// Reads all of the octets.
@@ -43,12 +45,33 @@ pub fn from_der<'a, T: Decode<'a, SliceReader<'a>>>(
     // What is read is spelled so.
     ensures spelled { is_apart T.shape ≡ true → IfOk result (λ v. Spells T.shape (T.plain v) bytes.now) }
     // What is spelled so is read, unless memory runs out.
-    ensures only { (v : Value T.shape) → is_apart T.shape ≡ true → are_enough T.shape 64 ≡ true
+    ensures only { (v : Value T.shape) → is_apart T.shape ≡ true → are_enough T.shape levels_max ≡ true
         → Spells T.shape v bytes.now → Gives T.plain result (Ok v) }
     // Which fault it is.
     ensures exact { Gives (λ v. (T.plain v, [])) result (whole_at T.shape bytes.now) }
 {
     read_whole(alloc, bytes)
+}
+
+/// The value of a leaf that the octets spell behind the tag of its type, all of the octets.
+///
+/// # Errors
+/// Those of `from_der`, but `OutOfMemory` of a type that takes memory alone.
+#[tactic(auto, unfolding(der_core_head::specs::Grammar::whole_at))]
+pub fn leaf_from_der<'a, T: Leaf<'a> + FixedTag>(alloc: Global, bytes: &'a [u8]) -> Result<T, Error>
+    ensures exact { Gives (λ v. (T.leaf_plain v, [])) result
+        (whole_at (tagged T.fixed_tag (leaf T.kind)) bytes.now) }
+    // Where the type takes no memory, it is the fault of the octets.
+    ensures fault { T.takes_memory ≡ false → GivesNow (λ v. (T.leaf_plain v, [])) result
+        (whole_at (tagged T.fixed_tag (leaf T.kind)) bytes.now) }
+{
+    let mut reader = SliceReader::new(bytes)?;
+    let value = decode_leaf_of_tag::<SliceReader, T>(alloc, &mut reader)?;
+    if reader.is_finished() {
+        Ok(value)
+    } else {
+        Err(ErrorKind::TrailingData.at(reader.position()))
+    }
 }
 
 /// The value at the front of the octets, and the octets behind it.
@@ -63,8 +86,8 @@ pub fn from_der_partial<'a, T: Decode<'a, SliceReader<'a>>>(
     ensures spelled { is_apart T.shape ≡ true → IfOk result (λ x.
         IsValid T.shape (T.plain x.0) × (bytes.now ≡ octets_of T.shape (T.plain x.0) ++ x.1.now)) }
     // What is spelled so is read, whatever follows it, unless memory runs out.
-    ensures only { (v : Value T.shape) (r : List ℕ) → is_element T.shape ≡ true → is_apart T.shape ≡ true → are_enough T.shape 64 ≡ true
-        → IsValid T.shape v → bytes.now ≡ octets_of T.shape v ++ r → length bytes.now < 2 ^ 32
+    ensures only { (v : Value T.shape) (r : List ℕ) → is_element T.shape ≡ true → is_apart T.shape ≡ true → are_enough T.shape levels_max ≡ true
+        → IsValid T.shape v → bytes.now ≡ octets_of T.shape v ++ r → Fits bytes.now
         → Gives {P = Value T.shape × List ℕ} (λ x. (T.plain x.0, x.1.now)) result (Ok (v, r)) }
     // Which fault it is.
     ensures exact { Gives (λ x. (T.plain x.0, x.1.now)) result (front_at T.shape bytes.now) }

@@ -5,7 +5,7 @@ ghost use Rattle.der_core_head.specs.Tags.{context, implicit_tag};
 ghost use Rattle.der_core_head.specs.Shapes.{nested, only};
 
 use der_core_head::{Error, Length, Tag, TagNumber, is_constructed};
-use der_core_headers::Header;
+use der_core_octets::headers::Header;
 use der_core_octets::{Reader, Writer};
 use der_core_values::{
     ApartValue, AsRead, AsReadValue, Decode, DecodeFields, DecodeValue, Element, Encode,
@@ -146,5 +146,37 @@ impl<T: InRange, const N: u32> InRangeValue for Explicit<T, N> {
 impl<T: InRangeValue, const N: u32> InRangeValue for Implicit<T, N> {
     fn value_in_range(&self) {
         self.value.value_in_range();
+    }
+}
+
+/// A value behind a reference, with a context-specific tag of number `N` in place of its own.
+#[derive(Drop)]
+pub struct ImplicitRef<'a, T, const N: u32> {
+    pub value: &'a T,
+}
+
+impl<'a, T: FixedTag, const N: u32> FixedTag for ImplicitRef<'a, T, N> {
+    ghost fixed_tag = { implicit_tag N T.fixed_tag };
+
+    fn tag() -> Tag {
+        Implicit::<T, N>::tag()
+    }
+}
+
+impl<'a, T: ShapedValue, const N: u32> ShapedValue for ImplicitRef<'a, T, N> {
+    ghost content = { T.content };
+
+    ghost value_plain = { λ r. T.value_plain r.value.now };
+
+    ghost value_written = { λ r. T.value_written r.value.now };
+}
+
+impl<'a, T: EncodeValue, const N: u32> EncodeValue for ImplicitRef<'a, T, N> {
+    fn value_len(&self) -> Result<Length, Error> {
+        self.value.value_len()
+    }
+
+    fn encode_value<W: Writer>(&self, writer: &mut W) -> Result<(), Error> {
+        self.value.encode_value(writer)
     }
 }

@@ -44,11 +44,3 @@ is_read s plain p w (Err d) a n h e = λ memory. absurd (cc (whole_again s p w a
 -- a value is read from the front of octets, whatever follows
 pub read_front : (s : Shape) (room : ℕ) (v : Value s) (r : List ℕ) → is_element s ≡ true → is_apart s ≡ true → are_enough s room ≡ true → IsValid s v → read s room (octets_of s v ++ r) ≡ Ok (v, r)
 read_front = complete_element
-
--- no encoding begins another, and no two values have one encoding
-pub one_value : (s : Shape) (room : ℕ) (v w : Value s) (r t : List ℕ) → is_element s ≡ true → is_apart s ≡ true → are_enough s room ≡ true → IsValid s v → IsValid s w → octets_of s v ++ r ≡ octets_of s w ++ t → (v ≡ w) × (r ≡ t)
-one_value s room v w r t e a n p q same =
-    let x = read_front s room v r e a n p in
-    let y = read_front s room w t e a n q in
-    let both : (v, r) ≡ (w, t) = ok_is (v, r) (w, t) (sym x ∙ ap (read s room) same ∙ y) in
-    (ap (λ (q : Value s × List ℕ). q.0) both, ap (λ (q : Value s × List ℕ). q.1) both)

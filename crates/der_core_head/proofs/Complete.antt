@@ -56,7 +56,7 @@ abbrev pub Begins : Shape → List ℕ → Type 0
 Begins s b = StandsFirst (begins s) b
 
 -- as they do where more octets follow
-first_more : (first : Tag → Bool) (b r : List ℕ) → StandsFirst first b → StandsFirst first (b ++ r)
+pub first_more : (first : Tag → Bool) (b r : List ℕ) → StandsFirst first b → StandsFirst first (b ++ r)
 first_more first b r f = (f.0, f.1 ++ r, ap (λ (x : List ℕ). x ++ r) f.2 ∙ append_assoc (tag_octets f.0) f.1 r, f.3, f.4)
 
 pub element_first : (s : Shape) (v : Value s) → is_element s ≡ true → IsValid s v → Begins s (octets_of s v)
@@ -179,7 +179,7 @@ end_empty (few n s) v e = absurd (false≢true e)
 end_empty (in_order how s) v e = absurd (false≢true e)
 
 -- what follows a field doesn't begin as the field would
-next_stops : (s : Shape) (b : Body) (v : BodyValue b) → is_clear s b ≡ true → is_body_apart b ≡ true → IsBody b v → Stops s (body_octets b v)
+pub next_stops : (s : Shape) (b : Body) (v : BodyValue b) → is_clear s b ≡ true → is_body_apart b ≡ true → IsBody b v → Stops s (body_octets b v)
 next_stops s b v c a h =
     elim (or_cases (is_element s) _ c) [
       | inl e ↦ stops_element s (body_octets b v) e

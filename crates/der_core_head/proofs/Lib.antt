@@ -5,6 +5,7 @@ pub mod TagForms
 pub mod TagLaws
 pub mod TagNumbers
 pub mod TagEquality
+pub mod Fronts
 pub mod HeadLaws
 pub mod LongerLaws
 pub mod IntegerLaws
@@ -22,6 +23,7 @@ pub mod Facts
 pub mod Sound
 pub mod Complete
 pub mod AllOctets
+pub mod OneEncoding
 pub mod Written
 pub mod OkOctets
 pub mod WrittenValid

@@ -19,8 +19,8 @@ use Rattle.der_core_head.specs.Writing.{Out, lacks, less, put, put_head, head_le
 use Rattle.der_core_head.proofs.Results.{ok_is, bind_ok, unless_ok}
 
 -- an Ok is the number of these octets, and a length can count them
-abbrev Counts : Result ℕ ErrorKind → List ℕ → Type 0
-Counts r w = (n : ℕ) → r ≡ Ok n → (n ≡ length w) × Fits w
+abbrev ReadsFront : Result ℕ ErrorKind → List ℕ → Type 0
+ReadsFront r w = (n : ℕ) → r ≡ Ok n → (n ≡ length w) × Fits w
 
 sum_is : (m n k : ℕ) → sum_len m n ≡ Ok k → (m + n ≡ k) × (k < 4294967296)
 sum_is m n k e =
@@ -28,13 +28,13 @@ sum_is m n k e =
     let same = ok_is (m + n) k h.1 in
     (same, omega (arith, same, ltb-false 4294967295 (m + n) h.0))
 
-none_counted : Counts (Ok 0) []
+none_counted : ReadsFront (Ok 0) []
 none_counted n e = (sym (ok_is 0 n e), omega arith)
 
-fit_counted : (w : List ℕ) → Counts (fit_len (length w)) w
+fit_counted : (w : List ℕ) → ReadsFront (fit_len (length w)) w
 fit_counted w n e = let h = sum_is (length w) 0 n e in (omega (arith, h.0), omega (arith, h.0, h.1))
 
-tlv_counted : (t : Tag) (c : List ℕ) (r : Result ℕ ErrorKind) → Counts r c → Counts (tlv_len t r) (tlv t c)
+tlv_counted : (t : Tag) (c : List ℕ) (r : Result ℕ ErrorKind) → ReadsFront r c → ReadsFront (tlv_len t r) (tlv t c)
 unfolding tlv_len head_len tlv
 tlv_counted t c (Err k) inner n e = absurd cc
 tlv_counted t c (Ok m) inner n e =
@@ -44,7 +44,7 @@ tlv_counted t c (Ok m) inner n e =
     let sum = length-append (head_octets t (length c)) c in
     (omega (arith, h.0, head, content, sum), omega (arith, h.0, h.1, head, content, sum))
 
-both_counted : (a b : List ℕ) (r q : Result ℕ ErrorKind) → Counts r a → Counts q b → Counts (both_len r q) (a ++ b)
+both_counted : (a b : List ℕ) (r q : Result ℕ ErrorKind) → ReadsFront r a → ReadsFront q b → ReadsFront (both_len r q) (a ++ b)
 unfolding both_len
 both_counted a b (Err k) q f g n e = absurd cc
 both_counted a b (Ok m) (Err k) f g n e = absurd cc
@@ -53,7 +53,7 @@ both_counted a b (Ok m) (Ok l) f g n e =
     let sum = length-append a b in
     (omega (arith, h.0, (f m refl).0, (g l refl).0, sum), omega (arith, h.0, h.1, (f m refl).0, (g l refl).0, sum))
 
-many_from : {P : Type 0} (f : P → Result ℕ ErrorKind) (o : P → List ℕ) → ((x : P) → Counts (f x) (o x)) → (xs : List P) (m n : ℕ) → m < 4294967296 → many_len f xs m ≡ Ok n
+many_from : {P : Type 0} (f : P → Result ℕ ErrorKind) (o : P → List ℕ) → ((x : P) → ReadsFront (f x) (o x)) → (xs : List P) (m n : ℕ) → m < 4294967296 → many_len f xs m ≡ Ok n
     → (n ≡ m + length (flat_map o xs)) × (n < 4294967296)
 many_from f o each [] m n l e = let same = ok_is m n e in (omega (arith, same), omega (arith, same, l))
 many_from f o each (x ∷ xs) m n l e =
@@ -63,10 +63,10 @@ many_from f o each (x ∷ xs) m n l e =
     let rest = many_from f o each xs k.0 n s.1 k.2 in
     (omega (arith, rest.0, s.0, (each x h.0 h.1).0, length-append (o x) (flat_map o xs)), rest.1)
 
-many_counted : {P : Type 0} (f : P → Result ℕ ErrorKind) (o : P → List ℕ) → ((x : P) → Counts (f x) (o x)) → (xs : List P) → Counts (many_len f xs 0) (flat_map o xs)
+many_counted : {P : Type 0} (f : P → Result ℕ ErrorKind) (o : P → List ℕ) → ((x : P) → ReadsFront (f x) (o x)) → (xs : List P) → ReadsFront (many_len f xs 0) (flat_map o xs)
 many_counted f o each xs n e = let h = many_from f o each xs 0 n (omega arith) e in (omega (arith, h.0), omega (arith, h.0, h.1))
 
-default_counted : (b : Bool) (w : List ℕ) (r : Result ℕ ErrorKind) → Counts r w → Counts (default_len b r) (unless b w)
+default_counted : (b : Bool) (w : List ℕ) (r : Result ℕ ErrorKind) → ReadsFront r w → ReadsFront (default_len b r) (unless b w)
 unfolding default_len unless
 default_counted true w r inner n e = none_counted n e
 default_counted false w r inner n e = inner n e
@@ -74,7 +74,7 @@ default_counted false w r inner n e = inner n e
 mutual
   unfolding octets_of
 
-  pub counts_octets : (s : Shape) (v : Value s) → Counts (size s v) (octets_of s v)
+  pub counts_octets : (s : Shape) (v : Value s) → ReadsFront (size s v) (octets_of s v)
   counts_octets (tagged t c) v = tlv_counted t (contents c v) (size_content c v) (counts_contents c v)
   counts_octets any v = tlv_counted v.tag v.contents (fit_len (length v.contents)) (fit_counted v.contents)
   counts_octets (either a b) (inl v) = counts_octets a v
@@ -84,11 +84,11 @@ mutual
   counts_octets (defaulted s d) v = default_counted (bytes_eq (octets_of s v) d) (octets_of s v) (size s v) (counts_octets s v)
   counts_octets nothing v = none_counted
 
-  counts_contents : (c : Content) (v : ContentValue c) → Counts (size_content c v) (contents c v)
+  counts_contents : (c : Content) (v : ContentValue c) → ReadsFront (size_content c v) (contents c v)
   counts_contents (leaf k) v = fit_counted (leaf_contents k v)
   counts_contents (nested b) v = counts_body b v
 
-  counts_body : (b : Body) (v : BodyValue b) → Counts (size_body b v) (body_octets b v)
+  counts_body : (b : Body) (v : BodyValue b) → ReadsFront (size_body b v) (body_octets b v)
   counts_body done v = none_counted
   counts_body (field s b) v = both_counted (octets_of s v.0) (body_octets b v.1) (size s v.0) (size_body b v.1) (counts_octets s v.0) (counts_body b v.1)
   counts_body (only s) v = counts_octets s v
@@ -123,7 +123,7 @@ head_appended t n o z e =
     let h = bind_ok (sum_len (length (head_octets t n)) n) (λ _. put (tag_octets t) o >>= put (length_octets n)) z e in
     two_appended (put (tag_octets t)) (put (length_octets n)) (tag_octets t) (length_octets n) (put_appended (tag_octets t)) (put_appended (length_octets n)) o z h.2
 
-tlv_appended : (t : Tag) (c : List ℕ) (r : Result ℕ ErrorKind) (f : Out → Result Out ErrorKind) → Counts r c → Appends f c → Appends (write_tlv t r f) (tlv t c)
+tlv_appended : (t : Tag) (c : List ℕ) (r : Result ℕ ErrorKind) (f : Out → Result Out ErrorKind) → ReadsFront r c → Appends f c → Appends (write_tlv t r f) (tlv t c)
 unfolding write_tlv tlv
 tlv_appended t c (Err k) f counts inner o z e = absurd cc
 tlv_appended t c (Ok m) f counts inner o z e =
@@ -170,7 +170,7 @@ mutual
   writes_body (few n s) v = many_appended (write s) (octets_of s) (λ x. writes_octets s x) v
   writes_body (in_order how s) v = ordered_appended how (write s) (octets_of s) (λ x. writes_octets s x) v
 
-tlv_fits : (t : Tag) (c : List ℕ) (r : Result ℕ ErrorKind) (f : Out → Result Out ErrorKind) (o z : Out) → Counts r c → write_tlv t r f o ≡ Ok z → Fits (tlv t c)
+tlv_fits : (t : Tag) (c : List ℕ) (r : Result ℕ ErrorKind) (f : Out → Result Out ErrorKind) (o z : Out) → ReadsFront r c → write_tlv t r f o ≡ Ok z → Fits (tlv t c)
 unfolding write_tlv put_head tlv
 tlv_fits t c (Err k) f o z counts e = absurd cc
 tlv_fits t c (Ok m) f o z counts e =

@@ -8,6 +8,7 @@ use Rattle.der_core_head.specs.declared.error.ErrorKind.TheVariants as kinds
 use Rattle.der_core_head.specs.declared.tag.Tag.{Tag}
 use Rattle.der_core_head.specs.declared.tag.Tag.TheVariants as tags
 use Rattle.der_core_head.specs.Octets.{◌>>=◌, Readings}
+use Rattle.der_core_head.specs.Limits.{length_max, IsLength, levels_max}
 use Rattle.der_core_head.specs.Tags.{IsTag, tag_octets, tag_at}
 use Rattle.der_core_head.specs.Heads.{Head, Fits, length_octets, length_at, head_at}
 
@@ -41,8 +42,8 @@ IsIndefiniteBody (suc k) b =
 -- or 80 behind a constructed tag where a body of so many octets follows
 abbrev pub SpellsLength : List ℕ → ℕ → List ℕ → List ℕ → Type 0
 SpellsLength o n l r =
-    ((n < 4294967296) × (l ≡ length_octets n))
-    ⊎ ((is_constructed_at o ≡ true) × (l ≡ 0x80 ∷ []) × (b more : List ℕ) × IsIndefiniteBody 64 b × Fits b × (n ≡ length b) × (r ≡ b ++ more))
+    (IsLength n × (l ≡ length_octets n))
+    ⊎ ((is_constructed_at o ≡ true) × (l ≡ 0x80 ∷ []) × (b more : List ℕ) × IsIndefiniteBody levels_max b × Fits b × (n ≡ length b) × (r ≡ b ++ more))
 
 -- octets are a header under BER, and what follows it
 abbrev pub SpellsHead : Head → List ℕ → List ℕ → Type 0
@@ -100,7 +101,7 @@ closed_at (suc pieces) (suc levels) room w = piece_at w >>= λ p. levels_after p
 
 -- the number of octets of the body at the front
 unfoldable pub body_len_at : List ℕ → Result ℕ ErrorKind
-body_len_at w = closed_at (length w) 1 63 w >>= λ r. if nat_lt 4294967295 (length w - length r) then Err kinds.Overflow else Ok (length w - length r)
+body_len_at w = closed_at (length w) 1 (levels_max - 1) w >>= λ r. if nat_lt length_max (length w - length r) then Err kinds.Overflow else Ok (length w - length r)
 
 abbrev pub len_at : Option ℕ → List ℕ → Result ℕ ErrorKind
 len_at None w = body_len_at w

@@ -9,9 +9,9 @@ use Rattle.der_core_head.specs.Tags.{number_of}
 use Rattle.der_core_head.specs.Octets.{Readings, ◌>>=◌}
 
 -- What was answered, seen by view, is what reading gives, and its octets were counted.
-abbrev pub Counts : {X P : Type 0} → (X → P) → List ℕ → Result (X × ℕ) Error → Readings P → Type 0
-Counts view w (Ok x) f = (f w ≡ Ok (view x.0, drop x.1 w)) × (x.1 ≤ length w)
-Counts view w (Err e) f = f w ≡ Err e.kind
+abbrev pub ReadsFront : {X P : Type 0} → (X → P) → List ℕ → Result (X × ℕ) Error → Readings P → Type 0
+ReadsFront view w (Ok x) f = (f w ≡ Ok (view x.0, drop x.1 w)) × (x.1 ≤ length w)
+ReadsFront view w (Err e) f = f w ≡ Err e.kind
 
 -- what was read, without the rest
 abbrev pub alone : {P : Type 0} → Result (P × List ℕ) ErrorKind → Result P ErrorKind

@@ -12,6 +12,7 @@ use Rattle.der_core_head.specs.declared.encoding_rules.EncodingRules.{EncodingRu
 use Rattle.der_core_head.specs.declared.encoding_rules.EncodingRules.TheVariants as encodings
 use Rattle.der_core_head.specs.declared.tag.Tag.{Tag}
 use Rattle.der_core_head.specs.Octets.{◌>>=◌, Readings}
+use Rattle.der_core_head.specs.Limits.{length_max, levels_max}
 use Rattle.der_core_head.specs.Tags.{same_tag}
 use Rattle.der_core_head.specs.Bodies.{head_by, tag_by}
 use Rattle.der_core_head.specs.Leaves.{leaf_read}
@@ -124,7 +125,7 @@ abbrev mutual
   read_by rules any room w = any_at rules w
   read_by rules (either a b) room w = either_at rules (begins a) (begins b) (read_by rules a room) (read_by rules b room) w
   read_by rules (optional s) room w = opt_at rules (begins s) (read_by rules s room) w
-  read_by rules (defaulted s d) room w = default_at rules (begins s) (read_by encodings.Der s 64 d) (λ v. bytes_eq (octets_of s v) d) (read_by rules s room) w
+  read_by rules (defaulted s d) room w = default_at rules (begins s) (read_by encodings.Der s levels_max d) (λ v. bytes_eq (octets_of s v) d) (read_by rules s room) w
   read_by rules nothing room w = Ok (tt, w)
 
   pub read_content_by : EncodingRules → (c : Content) → Tag → ℕ → List ℕ → Result (ContentValue c × List ℕ) ErrorKind
@@ -161,4 +162,4 @@ plain_list f (x ∷ xs) = f x ∷ plain_list f xs
 
 -- all of the octets, which a length can count
 unfoldable pub whole_at : (s : Shape) → List ℕ → Result (Value s × List ℕ) ErrorKind
-whole_at s w = if nat_lt 4294967295 (length w) then Err kinds.Overflow else (read s 64 w >>= whole)
+whole_at s w = if nat_lt length_max (length w) then Err kinds.Overflow else (read s levels_max w >>= whole)

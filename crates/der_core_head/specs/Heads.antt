@@ -6,6 +6,7 @@ use Rattle.der_core_head.specs.declared.error.ErrorKind.{ErrorKind}
 use Rattle.der_core_head.specs.declared.error.ErrorKind.TheVariants as kinds
 use Rattle.der_core_head.specs.declared.tag.Tag.{Tag}
 use Rattle.der_core_head.specs.Octets.{◌>>=◌, Readings}
+use Rattle.der_core_head.specs.Limits.{IsLength}
 use Rattle.der_core_head.specs.Tags.{tag_octets, tag_at}
 
 -- one octet below 128; else how many digits there are in base 256, and these digits
@@ -22,7 +23,7 @@ tlv t c = head_octets t (length c) ++ c
 
 -- no more octets than a length can count
 abbrev pub Fits : List ℕ → Type 0
-Fits w = length w < 4294967296
+Fits w = IsLength (length w)
 
 pub record Head : Type 0 where
   pub tag : Tag

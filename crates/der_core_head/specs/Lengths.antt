@@ -5,6 +5,7 @@ use Rattle.der_core_head.specs.declared.error.ErrorKind.TheVariants as kinds
 use Rattle.der_core_head.specs.declared.error.Error.{Error}
 use Rattle.der_core_head.specs.declared.length.Length.{Length}
 use Rattle.der_core_head.specs.Octets.{◌>>=◌}
+use Rattle.der_core_head.specs.Limits.{length_max}
 use Rattle.der_core_head.specs.Reading.{GivesNow}
 use Rattle.der_core_head.specs.Texts.{utf8_read}
 use Rattle.der_core_head.specs.Writing.{sum_len}
@@ -15,7 +16,7 @@ difference_len m n = if nat_lt m n then Err kinds.Overflow else Ok (m - n)
 
 -- octets, if a length can count them
 abbrev pub counted : List ℕ → Result (List ℕ) ErrorKind
-counted w = if nat_lt 4294967295 (length w) then Err kinds.Overflow else Ok w
+counted w = if nat_lt length_max (length w) then Err kinds.Overflow else Ok w
 
 -- the octets of a text, if a length can count them
 abbrev pub counted_text : List ℕ → Result (List ℕ) ErrorKind

@@ -1,3 +1,4 @@
+pub mod Limits
 pub mod Octets
 pub mod Tags
 pub mod Classes

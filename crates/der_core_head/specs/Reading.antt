@@ -11,6 +11,7 @@ use Rattle.std.specs.Fn.{Once, FnOnceReturnsAtMut}
 use Rattle.der_core_head.specs.Shapes.{Shape, Content, Body, Value, ContentValue, BodyValue, leaf}
 use Rattle.der_core_head.specs.declared.tag.Tag.{Tag}
 use Rattle.der_core_head.specs.Octets.{◌>>=◌, Readings}
+use Rattle.der_core_head.specs.Limits.{levels_max}
 use Rattle.der_core_head.specs.Grammar.{read_by, read_body_by, read_content_by, value_at, kept}
 use Rattle.der_core_head.specs.Leaves.{Leaf, leaf_read}
 
@@ -29,7 +30,7 @@ pub record State : Type 0 where
 
 -- a reader of these octets, by those rules, before any call
 abbrev pub unread : EncodingRules → List ℕ → State
-unread rules w = record { rest = w; behind = []; room = 64; failed = false; source = record { encoding = rules; size = length w } }
+unread rules w = record { rest = w; behind = []; room = levels_max; failed = false; source = record { encoding = rules; size = length w } }
 
 -- DER rules, or BER
 abbrev pub IsDer : State → Type 0
@@ -115,7 +116,7 @@ Refuses n old _ = ⊥
 
 -- what setting the end answers: how many octets are behind it that weren't
 abbrev pub Opens : ℕ → State → State → Result Length Error → Type 0
-Opens n old new (Ok taken) = (n + taken.value ≡ length old.rest) × (0 < old.room) × (old.room ≤ 64) × (old.failed ≡ false) × (new ≡ entered n old)
+Opens n old new (Ok taken) = (n + taken.value ≡ length old.rest) × (0 < old.room) × (old.room ≤ levels_max) × (old.failed ≡ false) × (new ≡ entered n old)
 Opens n old new (Err e) = (old.failed ≡ false → Refuses n old e.kind) × (new ≡ broken old) × (old.failed ≡ true → e.kind ≡ kinds.Failed)
 
 -- what giving octets back answers, after a call that failed or not

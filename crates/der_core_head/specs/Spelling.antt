@@ -2,6 +2,7 @@
 use Rattle.std.specs.Prelude.{ℕ, zero, suc, length, Bool, true, false, ◌&&◌, ◌||◌, nat_lt, not}
 use Rattle.der_core_head.specs.declared.tag.Tag.{Tag}
 use Rattle.der_core_head.specs.Octets.{are_octets}
+use Rattle.der_core_head.specs.Limits.{length_max, levels_max}
 use Rattle.der_core_head.specs.Shapes.{Shape, Content, Body, tagged, any, either, optional, defaulted, nothing, leaf, nested, done, field, only, many, exactly, few, in_order, begins}
 
 -- so many levels are enough
@@ -11,7 +12,7 @@ abbrev mutual
   are_enough any room = true
   are_enough (either a b) room = are_enough a room && are_enough b room
   are_enough (optional s) room = are_enough s room
-  are_enough (defaulted s d) room = are_enough s room && are_enough s 64
+  are_enough (defaulted s d) room = are_enough s room && are_enough s levels_max
   are_enough nothing room = true
 
   pub are_content_enough : Content → ℕ → Bool
@@ -71,7 +72,7 @@ abbrev mutual
   is_apart any = true
   is_apart (either a b) = (is_element a && is_element b) && (none_of a (begins b) && (is_apart a && is_apart b))
   is_apart (optional s) = is_element s && is_apart s
-  is_apart (defaulted s d) = (is_element s && is_apart s) && (are_octets d && nat_lt (length d) 4294967296)
+  is_apart (defaulted s d) = (is_element s && is_apart s) && (are_octets d && nat_lt (length d) (suc length_max))
   is_apart nothing = true
 
   pub is_content_apart : Content → Bool

@@ -8,6 +8,7 @@ use Rattle.der_core_head.specs.Leaves.{leaf_contents}
 use Rattle.der_core_head.specs.Shapes.{Step, Shape, Content, Body, tagged, any, either, optional, defaulted, nothing, leaf, nested, done, field, only, many, exactly, few, in_order, Value, ContentValue, BodyValue, octets_of}
 use Rattle.der_core_head.specs.declared.tag.Tag.{Tag}
 use Rattle.der_core_head.specs.Octets.{◌>>=◌}
+use Rattle.der_core_head.specs.Limits.{length_max}
 use Rattle.der_core_head.specs.Grammar.{follows_last}
 use Rattle.der_core_head.specs.Tags.{tag_octets}
 use Rattle.der_core_head.specs.Heads.{length_octets, head_octets}
@@ -31,7 +32,7 @@ put b o = if o.failed then Err kinds.Failed else if lacks o.room (length b) then
 
 -- a sum of lengths
 abbrev pub sum_len : ℕ → ℕ → Result ℕ ErrorKind
-sum_len m n = if nat_lt 4294967295 (m + n) then Err kinds.Overflow else Ok (m + n)
+sum_len m n = if nat_lt length_max (m + n) then Err kinds.Overflow else Ok (m + n)
 
 -- the octets of a header, where a length can count them with the content behind them
 unfoldable pub put_head : Tag → ℕ → Out → Result Out ErrorKind

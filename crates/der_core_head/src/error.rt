@@ -32,7 +32,8 @@ pub enum ErrorKind {
     Noncanonical { tag: Tag },
     /// An object identifier that is none.
     OidMalformed,
-    /// An object identifier to which the caller's protocol gives no meaning. No call of these crates answers it.
+    /// An object identifier to which the caller's protocol gives no meaning. No call of these crates
+    /// answers it.
     OidUnknown,
     /// Want of memory.
     OutOfMemory,

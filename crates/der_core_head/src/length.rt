@@ -1,7 +1,8 @@
 //! Numbers of octets.
 
-ghost use Rattle.std.specs.Prelude.{◌≡◌, ◌↔◌, ◌+◌, ◌-◌, ◌≤◌, ◌^◌, ℕ, IsTrue, min, Ok, length};
+ghost use Rattle.std.specs.Prelude.{◌≡◌, ◌↔◌, ◌+◌, ◌-◌, ◌≤◌, ℕ, IsTrue, min, Ok, length};
 ghost use Rattle.der_core_head.specs.Heads.{length_octets, head_octets};
+ghost use Rattle.der_core_head.specs.Limits.{length_max};
 ghost use Rattle.der_core_head.specs.Lengths.{difference_len, AddsTo, TakesFrom};
 ghost use Rattle.der_core_head.specs.Reading.{GivesNow};
 ghost use Rattle.der_core_head.specs.Tags.{tag_octets};
@@ -48,14 +49,15 @@ impl Length {
     /// # Errors
     /// `Overflow` from 2^32 on.
     pub fn for_tlv(self, tag: Tag) -> Result<Length, Error>
-        ensures { GivesNow (λ l. l.value) result (sum_len (length (head_octets tag self.value)) self.value) }
+        ensures { GivesNow (λ l. l.value) result
+            (sum_len (length (head_octets tag self.value)) self.value) }
     {
         header_len(tag, self) + self
     }
 
     /// The sum, or `MAX` where it would pass that.
     pub fn saturating_add(self, other: Length) -> Length
-        ensures { result.value ≡ min (self.value + other.value) (2 ^ 32 - 1) }
+        ensures { result.value ≡ min (self.value + other.value) length_max }
     {
         Length {
             value: self.value.saturating_add(other.value),

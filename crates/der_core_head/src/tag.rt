@@ -75,7 +75,8 @@ impl Tag {
     /// # Errors
     /// Those of `peek`.
     pub fn peek_matches(octets: &[u8], class: Class, number: TagNumber) -> Result<bool, Error>
-        ensures { GivesNow (λ b. b) result (matches_at class number.value (peek_at Der octets.now)) }
+        ensures { GivesNow (λ b. b) result
+            (matches_at class number.value (peek_at Der octets.now)) }
     {
         if octets.is_empty() {
             return Ok(false);
@@ -277,7 +278,8 @@ fn write_numbered<W: fmt::Write>(
     constructed: bool,
     f: &mut fmt::Formatter<W>,
 ) -> fmt::Result
-    ensures { WritesOnOk W.write_str_gives f.old result (numbered_name class number.value constructed) f.new }
+    ensures { WritesOnOk W.write_str_gives f.old result
+        (numbered_name class number.value constructed) f.new }
 {
     if constructed {
         write!(f, "{class} [{number}] (constructed)")

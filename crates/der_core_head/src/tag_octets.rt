@@ -1,9 +1,10 @@
 //! Tags at the front of octets (X.690 8.1.2).
 
-ghost use Rattle.std.specs.Prelude.{◌≡◌, ◌%◌, ◌<◌, ◌≤◌, ◌∷◌, ℕ, List, drop, IfSome, IfNone, OnSome, Ok, Err};
+ghost use Rattle.std.specs.Prelude.{◌≡◌, ◌%◌, ◌<◌, ◌≤◌, ◌∷◌, ◌++◌, ℕ, List, drop, IfOk, IfSome, IfNone, OnSome, Ok, Err};
 ghost use Rattle.der_core_head.specs.declared.error.ErrorKind.TheVariants.{TagUnknown};
-ghost use Rattle.der_core_head.specs.Tags.{universal_tag, class_tag, digits_at, number_at, tag_at};
-ghost use Rattle.der_core_head.specs.Fronts.{Counts};
+ghost use Rattle.der_core_head.specs.declared.tag.Tag.{Tag};
+ghost use Rattle.der_core_head.specs.Tags.{IsTag, tag_octets, universal_tag, class_tag, digits_at, number_at, tag_at};
+ghost use Rattle.der_core_head.specs.Fronts.{ReadsFront};
 
 use crate::error::{Error, ErrorKind};
 use crate::tag::Tag;
@@ -69,7 +70,8 @@ fn tag_of_class(class: u8, constructed: bool, number: u32) -> Tag
 #[tactic(auto, unfolding(crate::specs::Tags::tag_at))]
 pub fn short_tag_of(octet: u8) -> Option<Tag>
     ensures some { IfSome result (λ t. (w : List ℕ) → tag_at (octet ∷ w) ≡ Ok (t, w)) }
-    ensures unknown { IfNone result (octet < 64 → (w : List ℕ) → tag_at (octet ∷ w) ≡ Err TagUnknown) }
+    ensures unknown { IfNone result
+        (octet < 64 → (w : List ℕ) → tag_at (octet ∷ w) ≡ Err TagUnknown) }
     // Its number follows.
     ensures number { IfNone result (64 ≤ octet → octet % 32 ≡ 31) }
 {
@@ -100,7 +102,7 @@ pub fn plain_tag_of(octets: &[u8]) -> Option<Tag>
 /// # Errors
 /// `Incomplete` where octets run out, `TagNumberInvalid` where the number passes 32 bits.
 fn digits_of(octets: &[u8]) -> Result<(u32, usize), Error>
-    ensures { Counts (λ n. n) octets.now result (digits_at 0) }
+    ensures { ReadsFront (λ n. n) octets.now result (digits_at 0) }
 {
     let mut number = 0u32;
     let mut count = 0usize;
@@ -123,7 +125,7 @@ fn digits_of(octets: &[u8]) -> Result<(u32, usize), Error>
 /// Those of its digits, and `TagNumberInvalid` for a leading zero digit or a number below 31.
 #[tactic(auto, unfolding(crate::specs::Tags::number_at))]
 fn tag_number_of(octets: &[u8]) -> Result<(u32, usize), Error>
-    ensures { Counts (λ n. n) octets.now result number_at }
+    ensures { ReadsFront (λ n. n) octets.now result number_at }
 {
     let Some(first) = octets.first() else {
         return Err(Error::from(ErrorKind::Incomplete));
@@ -138,14 +140,13 @@ fn tag_number_of(octets: &[u8]) -> Result<(u32, usize), Error>
     Ok((number, count))
 }
 
-/// The tag at the front of octets, and how many octets it takes (X.690 8.1.2).
+/// The tag at the front of octets, and how many octets it takes.
 ///
 /// # Errors
-/// `Incomplete` where they run out, `TagUnknown` for a tag of the universal class that isn't read,
-/// `TagNumberInvalid` for a number from 31 on that isn't in its shortest form or passes 32 bits.
+/// Those of `tag_of`.
 #[tactic(auto, unfolding(crate::specs::Tags::tag_at))]
-pub fn tag_of(octets: &[u8]) -> Result<(Tag, usize), Error>
-    ensures { Counts (λ t. t) octets.now result tag_at }
+fn read_tag(octets: &[u8]) -> Result<(Tag, usize), Error>
+    ensures { ReadsFront (λ t. t) octets.now result tag_at }
 {
     let [first, rest @ ..] = octets else {
         return Err(Error::from(ErrorKind::Incomplete));
@@ -160,4 +161,22 @@ pub fn tag_of(octets: &[u8]) -> Result<(Tag, usize), Error>
     let (number, count) = tag_number_of(rest)?;
     let tag = tag_of_class(first / 64, first / 32 % 2 == 1, number);
     Ok((tag, 1 + count))
+}
+
+/// The tag at the front of octets, and how many octets it takes (X.690 8.1.2).
+///
+/// # Errors
+/// `Incomplete` where they run out, `TagUnknown` for a tag of the universal class that isn't read,
+/// `TagNumberInvalid` for a number from 31 on that isn't in its shortest form or passes 32 bits.
+pub fn tag_of(octets: &[u8]) -> Result<(Tag, usize), Error>
+    // What is read is spelled so.
+    ensures spelled { IfOk result (λ x.
+        IsTag x.0 × (octets.now ≡ tag_octets x.0 ++ drop x.1 octets.now)) }
+    // What is spelled so is read, whatever follows.
+    ensures only { (t : Tag) (r : List ℕ) → IsTag t → octets.now ≡ tag_octets t ++ r
+        → ReadsFront (λ t. t) octets.now result (λ _. Ok (t, r)) }
+    // Which fault it is.
+    ensures exact { ReadsFront (λ t. t) octets.now result tag_at }
+{
+    read_tag(octets)
 }

@@ -8,12 +8,7 @@ use Rattle.der_core_head.specs.declared.error.ErrorKind.TheVariants as kinds
 use Rattle.der_core_head.specs.declared.tag.Tag.{Tag}
 use Rattle.der_core_head.specs.Tags.{tag_at}
 use Rattle.der_core_head.specs.Heads.{shortest, length_at, head_at}
-use Rattle.der_core_head.proofs.LengthForms.{length_at-1, length_at-2, length_at-3, length_at-4}
-
-pub length_at-cut : (t : Tag) (first : ℕ) (w : List ℕ) → 128 < first → first < 133 → length w < first - 128 → length_at t (first ∷ w) ≡ Err kinds.Incomplete
-unfolding length_at
-length_at-cut t first w low high short =
-    rw (le-ltb first 128 (omega arith), ne_eqb first 128 (λ e. omega arith), le-ltb 132 first (omega arith), lt-ltb (length w) (first - 128) short) refl
+use Rattle.der_core_head.proofs.LengthForms.{length_at-indefinite, length_at-large, length_at-cut, length_at-1, length_at-2, length_at-3, length_at-4}
 
 -- the octets behind the first one
 fewest-1 : (t : Tag) (first : ℕ) (w : List ℕ) → first ≡ 129 → 1 ≤ length w → get_or w 0 0 < 256
@@ -83,14 +78,6 @@ zero-more t first w low high l h z =
 pub is_fault : {A : Type 0} (r : Result A ErrorKind) (k : ErrorKind) → r ≡ Err k → IsErr r
 is_fault r k e = rw e refl
 
-pub indefinite : (t : Tag) (first : ℕ) (w : List ℕ) → first ≡ 128 → length_at t (first ∷ w) ≡ Err kinds.IndefiniteLength
-unfolding length_at
-indefinite t first w e = rw (le-ltb first 128 (omega arith), eq-eqb first 128 e) refl
-
-pub too_many : (t : Tag) (first : ℕ) (w : List ℕ) → 132 < first → length_at t (first ∷ w) ≡ Err kinds.Overlength
-unfolding length_at
-too_many t first w l = rw (le-ltb first 128 (omega arith), ne_eqb first 128 (λ e. omega arith), lt-ltb 132 first l) refl
-
 -- an octet below 128 is a length
 pub fault-first : (t : Tag) (first : ℕ) (w : List ℕ) → IsErr (length_at t (first ∷ w)) → 128 ≤ first
 unfolding length_at
@@ -140,11 +127,11 @@ fault-none t (a ∷ w) l = absurd (omega arith)
 
 pub fault-indefinite : (t : Tag) (w : List ℕ) → 1 ≤ length w → get_or w 0 0 ≡ 128 → length_at t w ≡ Err kinds.IndefiniteLength
 fault-indefinite t [] l e = absurd (omega arith)
-fault-indefinite t (a ∷ w) l e = indefinite t a w e
+fault-indefinite t (a ∷ w) l e = rw e (length_at-indefinite t w)
 
 pub fault-many : (t : Tag) (w : List ℕ) → 1 ≤ length w → 132 < get_or w 0 0 → length_at t w ≡ Err kinds.Overlength
 fault-many t [] l h = absurd (omega arith)
-fault-many t (a ∷ w) l h = too_many t a w h
+fault-many t (a ∷ w) l h = length_at-large t a w h
 
 pub fault-cut : (t : Tag) (w : List ℕ) → IsErr (length_at t w) → 1 ≤ length w → get_or w 0 0 ≢ 128 → get_or w 0 0 ≤ 132 → length w - 1 < get_or w 0 0 % 128
     → length_at t w ≡ Err kinds.Incomplete

@@ -1,7 +1,5 @@
 -- What stands in bodies of indefinite length, as the definitions see it.
-use Rattle.std.specs.Prelude.{◌≡◌, ℕ, Option, Some, None, Result, Ok, Err}
-use Rattle.der_core_head.specs.declared.error.Error.{Error}
-use Rattle.der_core_head.specs.declared.error.ErrorKind.{ErrorKind}
+use Rattle.std.specs.Prelude.{ℕ, Option, Some, None}
 use Rattle.der_core_head.specs.declared.length.Length.{Length}
 use Rattle.der_core_head.specs.Bodies as bodies
 use Rattle.der_core_headers.specs.declared.indefinite.Mark.{Mark}
@@ -19,8 +17,3 @@ abbrev pub plain_piece : Piece → bodies.Piece
 plain_piece Ending = bodies.ending
 plain_piece Opening = bodies.opening
 plain_piece Encoding = bodies.encoding
-
--- What was answered, seen by view, is this.
-abbrev pub Answers : {X P : Type 0} → (X → P) → Result X Error → Result P ErrorKind → Type 0
-Answers view (Ok x) r = r ≡ Ok (view x)
-Answers view (Err e) r = r ≡ Err e.kind

@@ -3,7 +3,7 @@
 ghost use Rattle.std.specs.Prelude.{◌≡◌, ◌≤◌, length, Ok, IfOk, IfSome};
 ghost use Rattle.der_core_head.specs.declared.encoding_rules.EncodingRules.{EncodingRules};
 ghost use Rattle.der_core_head.specs.Bodies.{head_by, tag_by};
-ghost use Rattle.der_core_head.specs.Fronts.{Counts, alone};
+ghost use Rattle.der_core_head.specs.Fronts.{ReadsFront, alone};
 ghost use Rattle.der_core_headers.specs.Fronts.{head_of, wanted_at};
 
 use crate::header::Header;
@@ -16,7 +16,7 @@ use der_core_head::{EncodingRules, Error, ErrorKind, Tag, is_same_tag, plain_tag
 /// # Errors
 /// Those of `tag_of`, and under BER those of `tag_ber_of`.
 pub fn tag_by(rules: EncodingRules, octets: &[u8]) -> Result<(Tag, usize), Error>
-    ensures front { Counts (λ t. t) octets.now result (tag_by rules) }
+    ensures front { ReadsFront (λ t. t) octets.now result (tag_by rules) }
     ensures within { IfOk result (λ x. x.1 ≤ length octets.now) }
 {
     match rules {
@@ -28,7 +28,8 @@ pub fn tag_by(rules: EncodingRules, octets: &[u8]) -> Result<(Tag, usize), Error
 /// The tag at the front of octets, if it is spelled in one. It is the same by both rules.
 #[inline(always)]
 pub fn short_tag_by_both(octets: &[u8]) -> Option<Tag>
-    ensures { IfSome result (λ t. (rules : EncodingRules) → alone (tag_by rules octets.now) ≡ Ok t) }
+    ensures { IfSome result
+        (λ t. (rules : EncodingRules) → alone (tag_by rules octets.now) ≡ Ok t) }
 {
     let tag = plain_tag_of(octets)?;
     Some(tag)
@@ -39,7 +40,7 @@ pub fn short_tag_by_both(octets: &[u8]) -> Option<Tag>
 /// # Errors
 /// Those of `header_of`, and under BER those of `header_ber_of`.
 pub fn header_by(rules: EncodingRules, octets: &[u8]) -> Result<(Header, usize), Error>
-    ensures front { Counts head_of octets.now result (head_by rules) }
+    ensures front { ReadsFront head_of octets.now result (head_by rules) }
     ensures within { IfOk result (λ x. x.1 ≤ length octets.now) }
 {
     match rules {
@@ -52,7 +53,8 @@ pub fn header_by(rules: EncodingRules, octets: &[u8]) -> Result<(Header, usize),
 /// and its length in its shortest form. It is the same by both rules.
 #[inline(always)]
 pub fn plain_header_by_both(octets: &[u8]) -> Option<(Header, usize)>
-    ensures front { IfSome result (λ x. (rules : EncodingRules) → Counts head_of octets.now (Ok x) (head_by rules)) }
+    ensures front { IfSome result
+        (λ x. (rules : EncodingRules) → ReadsFront head_of octets.now (Ok x) (head_by rules)) }
     ensures within { IfSome result (λ x. x.1 ≤ length octets.now) }
 {
     let front = plain_header_of(octets)?;
@@ -63,7 +65,9 @@ pub fn plain_header_by_both(octets: &[u8]) -> Option<(Header, usize)>
 /// spelled in one octet. It is the same by both rules.
 #[inline(always)]
 pub fn plain_header_of_tag(tag: Tag, octets: &[u8]) -> Option<(Header, usize)>
-    ensures front { IfSome result (λ x. (rules : EncodingRules) → Counts head_of octets.now (Ok x) (wanted_at tag (head_by rules))) }
+    ensures front { IfSome result
+        (λ x. (rules : EncodingRules)
+        → ReadsFront head_of octets.now (Ok x) (wanted_at tag (head_by rules))) }
     ensures tag { IfSome result (λ x. x.0.tag ≡ tag) }
     ensures within { IfSome result (λ x. x.1 ≤ length octets.now) }
 {
@@ -81,7 +85,7 @@ pub fn any_header_of_tag(
     tag: Tag,
     octets: &[u8],
 ) -> Result<(Header, usize), Error>
-    ensures front { Counts head_of octets.now result (wanted_at tag (head_by rules)) }
+    ensures front { ReadsFront head_of octets.now result (wanted_at tag (head_by rules)) }
     ensures tag { IfOk result (λ x. x.0.tag ≡ tag) }
     ensures within { IfOk result (λ x. x.1 ≤ length octets.now) }
 {

@@ -1,33 +1,17 @@
-//! Tags, lengths and headers at the front of octets, as the grammar spells them.
+//! Lengths and headers at the front of octets, as the grammar spells them.
 
-ghost use Rattle.std.specs.Prelude.{◌≡◌, ◌<◌, ◌^◌, ◌++◌, ℕ, List, drop, Ok, IfOk};
+ghost use Rattle.std.specs.Prelude.{◌≡◌, ◌++◌, ℕ, List, drop, Ok, IfOk};
+ghost use Rattle.der_core_head.specs.Limits.{IsLength};
 ghost use Rattle.der_core_head.specs.declared.tag.Tag.{Tag};
-ghost use Rattle.der_core_head.specs.Tags.{IsTag, tag_octets, tag_at};
+ghost use Rattle.der_core_head.specs.Tags.{IsTag};
 ghost use Rattle.der_core_head.specs.Heads.{length_octets, head_octets, length_at, head_at};
-ghost use Rattle.der_core_head.specs.Fronts.{Counts};
+ghost use Rattle.der_core_head.specs.Fronts.{ReadsFront};
 ghost use Rattle.der_core_headers.specs.Fronts.{head_of};
 ghost use Rattle.der_core_headers.specs.LoneLengths.{lone_length_at};
 
 use crate::header::Header;
 use crate::parse;
 use der_core_head::{Error, Length, Tag};
-
-/// The tag at the front of octets, and how many octets it takes (X.690 8.1.2).
-///
-/// # Errors
-/// `Incomplete` where they run out, `TagUnknown` for a tag of the universal class that isn't read,
-/// `TagNumberInvalid` for a number from 31 on that isn't in its shortest form or passes 32 bits.
-pub fn tag_of(octets: &[u8]) -> Result<(Tag, usize), Error>
-    // What is read is spelled so.
-    ensures spelled { IfOk result (λ x. IsTag x.0 × (octets.now ≡ tag_octets x.0 ++ drop x.1 octets.now)) }
-    // What is spelled so is read, whatever follows.
-    ensures only { (t : Tag) (r : List ℕ) → IsTag t → octets.now ≡ tag_octets t ++ r
-        → Counts (λ t. t) octets.now result (λ _. Ok (t, r)) }
-    // Which fault it is.
-    ensures exact { Counts (λ t. t) octets.now result tag_at }
-{
-    der_core_head::tag_of(octets)
-}
 
 /// The length at the front of octets behind a tag, and how many octets it takes (X.690 8.1.3, 10.1).
 ///
@@ -36,12 +20,13 @@ pub fn tag_of(octets: &[u8]) -> Result<(Tag, usize), Error>
 /// four octets of length, `Length` where fewer would do.
 pub fn length_of(tag: Tag, octets: &[u8]) -> Result<(Length, usize), Error>
     // What is read is spelled so.
-    ensures spelled { IfOk result (λ x. octets.now ≡ length_octets x.0.value ++ drop x.1 octets.now) }
+    ensures spelled { IfOk result
+        (λ x. octets.now ≡ length_octets x.0.value ++ drop x.1 octets.now) }
     // What is spelled so is read, whatever follows.
-    ensures only { (n : ℕ) (r : List ℕ) → n < 2 ^ 32 → octets.now ≡ length_octets n ++ r
-        → Counts (λ l. l.value) octets.now result (λ _. Ok (n, r)) }
+    ensures only { (n : ℕ) (r : List ℕ) → IsLength n → octets.now ≡ length_octets n ++ r
+        → ReadsFront (λ l. l.value) octets.now result (λ _. Ok (n, r)) }
     // Which fault it is.
-    ensures exact { Counts (λ l. l.value) octets.now result (length_at tag) }
+    ensures exact { ReadsFront (λ l. l.value) octets.now result (length_at tag) }
 {
     parse::length_of(tag, octets)
 }
@@ -53,12 +38,13 @@ pub fn length_of(tag: Tag, octets: &[u8]) -> Result<(Length, usize), Error>
 /// four octets of length, and where fewer would do.
 pub fn lone_length_of(octets: &[u8]) -> Result<(Length, usize), Error>
     // What is read is spelled so.
-    ensures spelled { IfOk result (λ x. octets.now ≡ length_octets x.0.value ++ drop x.1 octets.now) }
+    ensures spelled { IfOk result
+        (λ x. octets.now ≡ length_octets x.0.value ++ drop x.1 octets.now) }
     // What is spelled so is read, whatever follows.
-    ensures only { (n : ℕ) (r : List ℕ) → n < 2 ^ 32 → octets.now ≡ length_octets n ++ r
-        → Counts (λ l. l.value) octets.now result (λ _. Ok (n, r)) }
+    ensures only { (n : ℕ) (r : List ℕ) → IsLength n → octets.now ≡ length_octets n ++ r
+        → ReadsFront (λ l. l.value) octets.now result (λ _. Ok (n, r)) }
     // Which fault it is.
-    ensures exact { Counts (λ l. l.value) octets.now result lone_length_at }
+    ensures exact { ReadsFront (λ l. l.value) octets.now result lone_length_at }
 {
     parse::lone_length_of(octets)
 }
@@ -69,12 +55,15 @@ pub fn lone_length_of(octets: &[u8]) -> Result<(Length, usize), Error>
 /// Those of its tag, and then of its length.
 pub fn header_of(octets: &[u8]) -> Result<(Header, usize), Error>
     // What is read is spelled so.
-    ensures spelled { IfOk result (λ x. IsTag x.0.tag × (octets.now ≡ head_octets x.0.tag x.0.length.value ++ drop x.1 octets.now)) }
+    ensures spelled { IfOk result
+        (λ x. IsTag x.0.tag
+        × (octets.now ≡ head_octets x.0.tag x.0.length.value ++ drop x.1 octets.now)) }
     // What is spelled so is read, whatever follows.
-    ensures only { (t : Tag) (n : ℕ) (r : List ℕ) → IsTag t → n < 2 ^ 32 → octets.now ≡ head_octets t n ++ r
-        → Counts head_of octets.now result (λ _. Ok (record { tag = t; len = n }, r)) }
+    ensures only { (t : Tag) (n : ℕ) (r : List ℕ) → IsTag t → IsLength n
+        → octets.now ≡ head_octets t n ++ r
+        → ReadsFront head_of octets.now result (λ _. Ok (record { tag = t; len = n }, r)) }
     // Which fault it is.
-    ensures exact { Counts head_of octets.now result head_at }
+    ensures exact { ReadsFront head_of octets.now result head_at }
 {
     parse::header_of(octets)
 }

@@ -1,11 +1,13 @@
 //! Headers under BER, and bodies of indefinite length (X.690 8.1.3.6, 8.1.5).
 
 ghost use Rattle.std.specs.Prelude.{◌≡◌, ◌+◌, ◌≤◌, ◌++◌, ℕ, List, length, take, drop, Ok, IfOk};
+ghost use Rattle.der_core_head.specs.Limits.{levels_max};
 ghost use Rattle.der_core_head.specs.Heads.{Head, Fits};
 ghost use Rattle.der_core_head.specs.Bodies.{IsIndefiniteBody, SpellsHead, tag_ber_at, mark_at, piece_at, body_len_at, head_ber_at};
-ghost use Rattle.der_core_head.specs.Fronts.{Counts};
+ghost use Rattle.der_core_head.specs.Reading.{GivesNow};
+ghost use Rattle.der_core_head.specs.Fronts.{ReadsFront};
 ghost use Rattle.der_core_headers.specs.Fronts.{head_of};
-ghost use Rattle.der_core_headers.specs.Pieces.{Answers, plain_mark, plain_piece};
+ghost use Rattle.der_core_headers.specs.Pieces.{plain_mark, plain_piece};
 
 use crate::header::Header;
 use crate::parse::length_of;
@@ -22,7 +24,7 @@ const LEVELS: u32 = 64;
 /// Those of [`tag_of`].
 #[tactic(auto, unfolding(der_core_head::specs::Bodies::tag_ber_at))]
 pub fn tag_ber_of(octets: &[u8]) -> Result<(Tag, usize), Error>
-    ensures { Counts (λ t. t) octets.now result tag_ber_at }
+    ensures { ReadsFront (λ t. t) octets.now result tag_ber_at }
 {
     let [first, ..] = octets else {
         return Err(Error::from(ErrorKind::Incomplete));
@@ -48,7 +50,7 @@ struct Mark {
 /// isn't constructed.
 #[tactic(auto, unfolding(der_core_head::specs::Bodies::mark_at))]
 fn mark_of(octets: &[u8]) -> Result<(Mark, usize), Error>
-    ensures { Counts plain_mark octets.now result mark_at }
+    ensures { ReadsFront plain_mark octets.now result mark_at }
 {
     let [leading, ..] = octets else {
         return Err(Error::from(ErrorKind::Incomplete));
@@ -90,7 +92,7 @@ enum Piece {
 /// and those of a header.
 #[tactic(auto, unfolding(der_core_head::specs::Bodies::piece_at))]
 fn piece_of(octets: &[u8]) -> Result<(Piece, usize), Error>
-    ensures { Counts plain_piece octets.now result piece_at }
+    ensures { ReadsFront plain_piece octets.now result piece_at }
 {
     let [first, behind @ ..] = octets else {
         return Err(Error::from(ErrorKind::Incomplete));
@@ -117,7 +119,7 @@ fn piece_of(octets: &[u8]) -> Result<(Piece, usize), Error>
 
 /// The number of octets of the body at the front of octets.
 fn body_len_of(octets: &[u8]) -> Result<Length, Error>
-    ensures { Answers (λ n. n.value) result (body_len_at octets.now) }
+    ensures { GivesNow (λ n. n.value) result (body_len_at octets.now) }
 {
     let mut levels = 1u32;
     let mut rest = octets;
@@ -154,16 +156,18 @@ fn body_len_of(octets: &[u8]) -> Result<Length, Error>
 /// `Overflow` for a body that no length counts.
 pub fn indefinite_length_of(octets: &[u8]) -> Result<Length, Error>
     // What is counted is a body, with the octets that end it.
-    ensures body { IfOk result (λ n. IsIndefiniteBody 64 (take n.value octets.now)) }
+    ensures body { IfOk result (λ n. IsIndefiniteBody levels_max (take n.value octets.now)) }
     ensures within { IfOk result (λ n. n.value ≤ length octets.now) }
     ensures least { IfOk result (λ n. 2 ≤ n.value) }
     // A body is counted, whatever follows it.
-    ensures counted { (b more : List ℕ) → IsIndefiniteBody 64 b → Fits b → octets.now ≡ b ++ more
-        → Answers (λ n. n.value) result (Ok (length b)) }
+    ensures counted { (b more : List ℕ) → IsIndefiniteBody levels_max b → Fits b
+        → octets.now ≡ b ++ more
+        → GivesNow (λ n. n.value) result (Ok (length b)) }
     // It is counted so before any other octets.
-    ensures alone { IfOk result (λ n. (more : List ℕ) → body_len_at (take n.value octets.now ++ more) ≡ Ok n.value) }
+    ensures alone { IfOk result
+        (λ n. (more : List ℕ) → body_len_at (take n.value octets.now ++ more) ≡ Ok n.value) }
     // Which fault it is.
-    ensures exact { Answers (λ n. n.value) result (body_len_at octets.now) }
+    ensures exact { GivesNow (λ n. n.value) result (body_len_at octets.now) }
 {
     let length = body_len_of(octets)?;
     Ok(length)
@@ -180,13 +184,13 @@ pub fn header_ber_of(octets: &[u8]) -> Result<(Header, usize), Error>
     ensures spelled { IfOk result (λ x. SpellsHead (head_of x.0) (drop x.1 octets.now) octets.now) }
     // What is spelled so is read.
     ensures only { (h : Head) (r : List ℕ) → SpellsHead h r octets.now
-        → Counts head_of octets.now result (λ w. Ok (h, r)) }
+        → ReadsFront head_of octets.now result (λ w. Ok (h, r)) }
     // It is read so whatever stands behind the octets that it counts.
     ensures alone { IfOk result (λ x. (more : List ℕ)
         → head_ber_at (take x.1 octets.now ++ (take x.0.length.value (drop x.1 octets.now) ++ more))
         ≡ Ok (head_of x.0, take x.0.length.value (drop x.1 octets.now) ++ more)) }
     // Which fault it is.
-    ensures exact { Counts head_of octets.now result head_ber_at }
+    ensures exact { ReadsFront head_of octets.now result head_ber_at }
 {
     let (header, count) = read_header(octets)?;
     Ok((header, count))
@@ -195,7 +199,7 @@ pub fn header_ber_of(octets: &[u8]) -> Result<(Header, usize), Error>
 /// The header at the front of octets under BER.
 #[tactic(auto, unfolding(der_core_head::specs::Bodies::head_ber_at))]
 fn read_header(octets: &[u8]) -> Result<(Header, usize), Error>
-    ensures { Counts head_of octets.now result head_ber_at }
+    ensures { ReadsFront head_of octets.now result head_ber_at }
 {
     let (mark, count) = mark_of(octets)?;
     let tag = mark.tag;

@@ -10,6 +10,8 @@ ghost use Rattle.der_core_headers.specs.Fronts.{AreAlike, Scans};
 /// Octets are scanned in one way, the place of an error aside; and so are those before more of them,
 /// unless they run out.
 pub fn scanned_in_one_way()
-    ensures alike { (w : List ℕ) (r s : Result (Option (Header × ℕ)) Error) → Scans w r → Scans w s → AreAlike r s }
-    ensures longer { (w more : List ℕ) (r s : Result (Option (Header × ℕ)) Error) → Scans w r → r ≢ Ok None → Scans (w ++ more) s → AreAlike r s }
+    ensures alike { (w : List ℕ) (r s : Result (Option (Header × ℕ)) Error) → Scans w r → Scans w s
+        → AreAlike r s }
+    ensures longer { (w more : List ℕ) (r s : Result (Option (Header × ℕ)) Error) → Scans w r
+        → r ≢ Ok None → Scans (w ++ more) s → AreAlike r s }
 {}

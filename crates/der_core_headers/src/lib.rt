@@ -13,5 +13,5 @@ pub use fronts::{
     tag_by,
 };
 pub use header::Header;
-pub use heads::{header_of, length_of, lone_length_of, tag_of};
+pub use heads::{header_of, length_of, lone_length_of};
 pub use indefinite::{header_ber_of, indefinite_length_of, tag_ber_of};

@@ -3,7 +3,7 @@
 ghost use Rattle.std.specs.Prelude.{◌≡◌, ◌+◌, ◌-◌, ◌<◌, ◌≤◌, ◌∷◌, length, drop, IfSome, IfNone, OnSome, IsErr, Ok, Err};
 ghost use Rattle.der_core_head.specs.declared.tag.Tag.{Tag};
 ghost use Rattle.der_core_head.specs.Heads.{length_at, head_at};
-ghost use Rattle.der_core_head.specs.Fronts.{Counts};
+ghost use Rattle.der_core_head.specs.Fronts.{ReadsFront};
 ghost use Rattle.der_core_headers.specs.Fronts.{head_of};
 ghost use Rattle.der_core_headers.specs.LoneLengths.{lone_length_at, lone_fault};
 
@@ -19,7 +19,7 @@ use der_core_head::{
 /// four octets of length, `Length` where fewer would do.
 #[tactic(auto, unfolding(der_core_head::specs::Heads::length_at))]
 pub fn length_of(tag: Tag, octets: &[u8]) -> Result<(Length, usize), Error>
-    ensures { Counts (λ l. l.value) octets.now result (length_at tag) }
+    ensures { ReadsFront (λ l. l.value) octets.now result (length_at tag) }
 {
     match shortest_length_of(octets) {
         Some(front) => Ok(front),
@@ -32,7 +32,7 @@ pub fn length_of(tag: Tag, octets: &[u8]) -> Result<(Length, usize), Error>
 /// # Errors
 /// Those of `length_of`, but `Overlength` where fewer octets would do.
 pub fn lone_length_of(octets: &[u8]) -> Result<(Length, usize), Error>
-    ensures { Counts (λ l. l.value) octets.now result lone_length_at }
+    ensures { ReadsFront (λ l. l.value) octets.now result lone_length_at }
 {
     match shortest_length_of(octets) {
         Some(front) => Ok(front),
@@ -55,7 +55,8 @@ fn without_tag(fault: ErrorKind) -> ErrorKind
 #[inline(always)]
 #[tactic(auto, unfolding(der_core_head::specs::Heads::length_at))]
 fn shortest_length_of(octets: &[u8]) -> Option<(Length, usize)>
-    ensures some { IfSome result (λ x. (t : Tag) → length_at t octets.now ≡ Ok (x.0.value, drop x.1 octets.now)) }
+    ensures some { IfSome result
+        (λ x. (t : Tag) → length_at t octets.now ≡ Ok (x.0.value, drop x.1 octets.now)) }
     ensures within { IfSome result (λ x. x.1 ≤ length octets.now) }
     ensures none { IfNone result ((t : Tag) → IsErr (length_at t octets.now)) }
 {
@@ -79,7 +80,9 @@ fn shortest_length_of(octets: &[u8]) -> Option<(Length, usize)>
 /// form (8.1.3.5, 10.1).
 fn long_length_of(first: u8, rest: &[u8]) -> Option<Length>
     requires { 127 < first }
-    ensures some { IfSome result (λ l. (t : Tag) → length_at t (first ∷ rest.now) ≡ Ok (l.value, drop (first - 128) rest.now)) }
+    ensures some { IfSome result
+        (λ l. (t : Tag) → length_at t (first ∷ rest.now)
+        ≡ Ok (l.value, drop (first - 128) rest.now)) }
     ensures within { OnSome result (first ≤ length rest.now + 128) }
     ensures none { IfNone result ((t : Tag) → IsErr (length_at t (first ∷ rest.now))) }
 {
@@ -138,7 +141,7 @@ fn length_fault(tag: Tag, octets: &[u8]) -> ErrorKind
 #[inline(always)]
 #[tactic(auto, unfolding(der_core_head::specs::Heads::head_at))]
 pub fn plain_header_of(octets: &[u8]) -> Option<(Header, usize)>
-    ensures { IfSome result (λ x. Counts head_of octets.now (Ok x) head_at) }
+    ensures { IfSome result (λ x. ReadsFront head_of octets.now (Ok x) head_at) }
 {
     let [first, rest @ ..] = octets else {
         return None;
@@ -153,7 +156,7 @@ pub fn plain_header_of(octets: &[u8]) -> Option<(Header, usize)>
 /// spelled in one octet. One comparison tells it, and the tag isn't made from its octet.
 #[inline(always)]
 pub fn short_header_of_tag(tag: Tag, octets: &[u8]) -> Option<(Header, usize)>
-    ensures front { IfSome result (λ x. Counts head_of octets.now (Ok x) head_at) }
+    ensures front { IfSome result (λ x. ReadsFront head_of octets.now (Ok x) head_at) }
     ensures tag { IfSome result (λ x. x.0.tag ≡ tag) }
 {
     let [first, rest @ ..] = octets else {
@@ -171,7 +174,7 @@ pub fn short_header_of_tag(tag: Tag, octets: &[u8]) -> Option<(Header, usize)>
 /// # Errors
 /// Those of its tag, and then of its length.
 pub fn header_of(octets: &[u8]) -> Result<(Header, usize), Error>
-    ensures { Counts head_of octets.now result head_at }
+    ensures { ReadsFront head_of octets.now result head_at }
 {
     match plain_header_of(octets) {
         Some((header, count)) => Ok((header, count)),
@@ -190,7 +193,7 @@ pub fn header_of(octets: &[u8]) -> Result<(Header, usize), Error>
 #[inline(never)]
 #[tactic(auto, unfolding(der_core_head::specs::Heads::head_at))]
 fn any_header_of(octets: &[u8]) -> Result<(Header, usize), Error>
-    ensures { Counts head_of octets.now result head_at }
+    ensures { ReadsFront head_of octets.now result head_at }
 {
     let (tag, tag_count) = tag_of(octets)?;
     let (length, length_count) = length_of(tag, &octets[tag_count..])?;

@@ -7,15 +7,8 @@ use Rattle.der_core_head.specs.declared.error.ErrorKind.TheVariants as kinds
 use Rattle.der_core_head.specs.Octets.{◌>>=◌, Readings}
 use Rattle.der_core_head.specs.Grammar.{whole, slice_at, value_at}
 use Rattle.der_core_head.proofs.Results.{ok_is}
+pub use Rattle.der_core_head.proofs.Facts.{slice_short, slice_ok, value_short, value_enough}
 use Rattle.der_core_head.specs.Reading.{State, broken}
-
-pub slice_short : (n : ℕ) (w : List ℕ) → length w < n → slice_at n w ≡ Err kinds.Incomplete
-unfolding slice_at
-slice_short n w h = rw (lt-ltb (length w) n h) refl
-
-pub slice_ok : (n : ℕ) (w : List ℕ) → n ≤ length w → slice_at n w ≡ Ok (take n w, drop n w)
-unfolding slice_at
-slice_ok n w h = rw (le-ltb (length w) n h) refl
 
 -- no more octets than that
 pub slice_few : (n : ℕ) (w x r : List ℕ) → slice_at n w ≡ Ok (x, r) → length x ≤ n
@@ -27,14 +20,6 @@ slice_few n w x r e =
           let q : take n w ≡ x = ap (λ (y : List ℕ × List ℕ). y.0) p in
           omega (arith, length-take n w, ap length q)
     ]
-
-pub value_short : {P : Type 0} (f : Readings P) (n : ℕ) (w : List ℕ) → length w < n → value_at f n w ≡ Err kinds.Incomplete
-unfolding value_at
-value_short f n w h = rw (lt-ltb (length w) n h) refl
-
-pub value_enough : {P : Type 0} (f : Readings P) (n : ℕ) (w : List ℕ) → n ≤ length w → value_at f n w ≡ (f (take n w) >>= whole >>= λ x. Ok (x.0, drop n w))
-unfolding value_at
-value_enough f n w h = rw (le-ltb (length w) n h) refl
 
 pub or_true : (b : Bool) → b || true ≡ true
 or_true true = refl

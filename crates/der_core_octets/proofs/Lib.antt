@@ -4,3 +4,4 @@ pub mod Nested
 pub mod Steps
 mod Encodings
 mod Closures
+mod Joined

@@ -3,6 +3,7 @@ use Rattle.std.specs.Prelude.{List, ℕ, length, Option, Some, None, Result, Err
 use Rattle.std.specs.Borrow.{Bor}
 use Rattle.der_core_head.specs.declared.error.ErrorKind.{ErrorKind}
 use Rattle.der_core_head.specs.declared.error.ErrorKind.TheVariants as kinds
+use Rattle.der_core_head.specs.Limits.{length_max, levels_max}
 use Rattle.der_core_head.specs.Shapes.{Shape, Value}
 use Rattle.der_core_head.specs.Grammar.{read}
 
@@ -13,4 +14,4 @@ octets_at (Some o) = Some o.now
 
 -- a value at the front of octets that a length can count, and the octets behind it
 abbrev pub front_at : (s : Shape) → List ℕ → Result (Value s × List ℕ) ErrorKind
-front_at s w = if nat_lt 4294967295 (length w) then Err kinds.Overflow else read s 64 w
+front_at s w = if nat_lt length_max (length w) then Err kinds.Overflow else read s levels_max w

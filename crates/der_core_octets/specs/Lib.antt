@@ -4,3 +4,5 @@ pub mod Numbers
 pub mod Places
 pub mod Nesting
 pub mod Outputs
+pub mod Parts
+pub use Rattle.der_core_headers.specs as Headers

@@ -1,16 +1,21 @@
 //! Owned octets that a length can count.
 
-ghost use Rattle.std.specs.Prelude.{◌≡◌, ◌↔◌, ◌<◌, ◌^◌, [], length, nat_eq, IsTrue, IfOk, Some};
+ghost use Rattle.std.specs.Prelude.{◌≡◌, ◌↔◌, ◌<◌, [], length, nat_eq, IsTrue, IfOk, Some};
 ghost use Rattle.std.proofs.Common.{refl, rules};
 ghost use Rattle.std.specs.Cmp.{partial_equiv_from_equiv};
 ghost use Rattle.std.specs.Cmp.Lexicographic.{pointwise, slice_cmp, nat_list_eq_equiv, nat_list_cmp_total, texts_po, texts_ties};
 ghost use Rattle.std.specs.Cmp.Rules.{hashing};
 ghost use Rattle.std.specs.Hash as fed;
 ghost use Rattle.std.specs.Ordering.{nat_cmp};
+ghost use Rattle.der_core_head.specs.Heads.{Fits};
 ghost use Rattle.der_core_head.specs.Lengths.{counted};
-ghost use Rattle.der_core_head.specs.Reading.{GivesNow};
+ghost use Rattle.der_core_head.specs.Reading.{GivesNow, Reads};
+ghost use Rattle.der_core_octets.specs.Parts.{parts_at};
 
-use der_core_head::{Error, ErrorKind, Length};
+use crate::parts::join_by;
+use crate::reader::Reader;
+use der_core_head::{Error, ErrorKind, Length, Tag};
+use der_core_headers::Header;
 use std::alloc::{AllocError, Global};
 use std::cmp::Ordering;
 use std::convert::AsSlice;
@@ -24,13 +29,14 @@ pub struct BytesOwned {
 }
 
 impl Model for BytesOwned {
-    ghost use Rattle.std.specs.Prelude.{ℕ, List, ◌<◌, ◌^◌, length};
+    ghost use Rattle.std.specs.Prelude.{ℕ, List};
+    ghost use Rattle.der_core_head.specs.Heads.{Fits};
 
     ghost Value = { List ℕ };
 
     ghost view = { λ b. b.bytes.items };
 
-    ghost invariant = { λ b. length b.bytes.items < 2 ^ 32 };
+    ghost invariant = { λ b. Fits b.bytes.items };
 }
 
 impl BytesOwned {
@@ -45,6 +51,36 @@ impl BytesOwned {
             return Err(Error::from(ErrorKind::Overflow));
         }
         Ok(BytesOwned { bytes })
+    }
+
+    /// The contents of the parts of a string in parts, joined (X.690 8.7.3): those behind its header,
+    /// each an encoding of `inner_tag` by DER, up to the end of its content, or to a mark there that
+    /// closes an indefinite length (8.1.5). After a refusal the reader has failed.
+    ///
+    /// A header doesn't tell whether a string is in parts: bit 6 of the octet that stands does.
+    ///
+    /// # Errors
+    /// `Incomplete` where the content is longer than what is left; `TagUnknown` by DER, where no string
+    /// is in parts (10.2); `TagUnexpected` for a part of another tag, else the first fault of a part;
+    /// `OutOfMemory`; `Failed` where the reader failed before.
+    pub fn decode_value_parts<'a, R: Reader<'a>>(
+        alloc: Global,
+        reader: &mut R,
+        header: Header,
+        inner_tag: Tag,
+    ) -> Result<BytesOwned, Error>
+        ensures { Reads (λ b. b) (R.state reader.old) (R.state reader.new) result
+            (parts_at (R.state reader.old).source.encoding inner_tag header.length.value) }
+    {
+        let rules = reader.encoding_rules();
+        let octets = reader.read_slice(header.length)?;
+        match join_by(alloc, rules, inner_tag, octets) {
+            Ok(bytes) => Ok(BytesOwned { bytes }),
+            Err(error) => {
+                reader.fail();
+                Err(error)
+            }
+        }
     }
 
     /// A copy.
@@ -68,7 +104,7 @@ impl BytesOwned {
     /// The octets.
     pub fn as_slice(&self) -> &[u8]
         ensures octets { result.now ≡ self.now }
-        ensures short { length result.now < 2 ^ 32 }
+        ensures short { Fits result.now }
     {
         self.bytes.as_slice()
     }

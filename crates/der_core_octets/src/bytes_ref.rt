@@ -1,6 +1,7 @@
 //! Borrowed octets that a length can count.
 
-ghost use Rattle.std.specs.Prelude.{◌≡◌, ◌↔◌, ◌<◌, ◌≤◌, ◌^◌, [], length, take, IsTrue, IfOk, IfErr};
+ghost use Rattle.std.specs.Prelude.{◌≡◌, ◌↔◌, ◌<◌, ◌≤◌, [], length, take, IsTrue, IfOk, IfErr};
+ghost use Rattle.der_core_head.specs.Heads.{Fits};
 ghost use Rattle.der_core_head.specs.Lengths.{counted};
 
 use der_core_head::{Error, ErrorKind, Length};
@@ -10,7 +11,7 @@ use std::convert::AsSlice;
 #[derive(Clone, Copy, Debug, PartialEq, Eq, PartialOrd, Ord, Hash)]
 pub struct BytesRef<'a> {
     bytes: &'a [u8],
-    ghost short: { length bytes.now < 2 ^ 32 },
+    ghost short: { Fits bytes.now },
 }
 
 impl<'a> BytesRef<'a> {
@@ -18,11 +19,7 @@ impl<'a> BytesRef<'a> {
     ghost use Rattle.der_core_head.specs.Reading.{GivesNow};
 
     /// No octets.
-    pub fn empty() -> BytesRef<'a>
-        ensures { held_octets result ≡ [] }
-    {
-        BytesRef { bytes: &[] }
-    }
+    pub const EMPTY: BytesRef<'static> = BytesRef { bytes: &[] };
 
     /// These octets.
     ///
@@ -40,7 +37,7 @@ impl<'a> BytesRef<'a> {
     /// The octets.
     pub fn as_slice(&self) -> &'a [u8]
         ensures octets { result.now ≡ held_octets self.now }
-        ensures short { length result.now < 2 ^ 32 }
+        ensures short { Fits result.now }
     {
         self.bytes
     }
@@ -66,8 +63,11 @@ impl<'a> BytesRef<'a> {
     /// # Errors
     /// `Incomplete` where there are fewer, at the place behind the last one.
     pub fn prefix(&self, len: Length) -> Result<BytesRef<'a>, Error>
-        ensures ok { IfOk result (λ front. (len.value ≤ length (held_octets self.now)) × (held_octets front ≡ take len.value (held_octets self.now))) }
-        ensures err { IfErr result (λ e. (length (held_octets self.now) < len.value) × (e.kind ≡ ErrorKind.Incomplete)) }
+        ensures ok { IfOk result
+            (λ front. (len.value ≤ length (held_octets self.now))
+            × (held_octets front ≡ take len.value (held_octets self.now))) }
+        ensures err { IfErr result
+            (λ e. (length (held_octets self.now) < len.value) × (e.kind ≡ ErrorKind.Incomplete)) }
     {
         let bytes = self.bytes;
         let len = len.value as usize;

@@ -28,7 +28,8 @@ pub fn sum_len(a: Length, b: Length) -> Result<Length, Error>
 #[inline(always)]
 #[tactic(auto, using(der_core_head::proofs::TagForms::tag_forms))]
 pub fn encode_tag<W: Writer>(writer: &mut W, tag: Tag) -> Result<(), Error>
-    ensures exact { Writes W.takes_memory (W.out writer.old) (W.out writer.new) result (put (tag_octets tag)) }
+    ensures exact { Writes W.takes_memory (W.out writer.old) (W.out writer.new) result
+        (put (tag_octets tag)) }
     ensures kept { Continues (W.out writer.old) (W.out writer.new) }
 {
     let first = leading_octet_of(tag);
@@ -64,7 +65,8 @@ pub fn encode_tag<W: Writer>(writer: &mut W, tag: Tag) -> Result<(), Error>
 #[inline(always)]
 #[tactic(auto, using(der_core_head::proofs::LengthForms::length_forms))]
 pub fn encode_length<W: Writer>(writer: &mut W, len: Length) -> Result<(), Error>
-    ensures exact { Writes W.takes_memory (W.out writer.old) (W.out writer.new) result (put (length_octets len.value)) }
+    ensures exact { Writes W.takes_memory (W.out writer.old) (W.out writer.new) result
+        (put (length_octets len.value)) }
     ensures kept { Continues (W.out writer.old) (W.out writer.new) }
 {
     let n = len.value;
@@ -95,7 +97,8 @@ pub fn encode_length<W: Writer>(writer: &mut W, len: Length) -> Result<(), Error
 #[inline(always)]
 #[tactic(auto, unfolding(der_core_head::specs::Writing::put_head))]
 pub fn encode_header<W: Writer>(writer: &mut W, tag: Tag, len: Length) -> Result<(), Error>
-    ensures exact { Writes W.takes_memory (W.out writer.old) (W.out writer.new) result (put_head tag len.value) }
+    ensures exact { Writes W.takes_memory (W.out writer.old) (W.out writer.new) result
+        (put_head tag len.value) }
     ensures kept { Continues (W.out writer.old) (W.out writer.new) }
 {
     let _whole = len.for_tlv(tag)?;

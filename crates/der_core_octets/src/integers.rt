@@ -95,7 +95,8 @@ pub fn unsigned_of(tag: Tag, octets: &[u8], bits: u32) -> Result<u128, Error>
 pub fn signed_of(tag: Tag, octets: &[u8], bits: u32) -> Result<(bool, u128), Error>
     requires low { 0 < bits }
     requires high { bits ≤ 128 }
-    ensures exact { GivesNow (λ x. signed_number x.0 x.1) result (integer_read (signed bits) tag octets.now) }
+    ensures exact { GivesNow (λ x. signed_number x.0 x.1) result
+        (integer_read (signed bits) tag octets.now) }
     ensures small { IfOk result (λ x. x.1 < 2 ^ (bits - 1)) }
 {
     let (negative, magnitude) = whole_number_of(tag, octets)?;

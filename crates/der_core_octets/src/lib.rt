@@ -6,6 +6,7 @@ mod bytes_owned;
 mod bytes_ref;
 mod encode;
 mod integers;
+mod parts;
 mod peeks;
 mod reader;
 mod string_owned;
@@ -14,6 +15,7 @@ mod writer;
 
 pub use bytes_owned::BytesOwned;
 pub use bytes_ref::BytesRef;
+pub use der_core_headers as headers;
 pub use encode::{encode_header, encode_length, encode_tag, slice_len, sum_len};
 pub use integers::{integer_octets_of, signed_of, unsigned_of};
 pub use peeks::peek_matches;

@@ -17,7 +17,9 @@ pub fn peek_matches<'a, R: Reader<'a>>(
     class: Class,
     number: TagNumber,
 ) -> Result<bool, Error>
-    ensures { Peeks (λ b. b) (R.state reader.now) result (matches_at class number.value (peek_at (R.state reader.now).source.encoding (R.state reader.now).rest)) }
+    ensures { Peeks (λ b. b) (R.state reader.now) result
+        (matches_at class number.value
+        (peek_at (R.state reader.now).source.encoding (R.state reader.now).rest)) }
 {
     let Some(tag) = reader.peek_tag_or_end()? else {
         return Ok(false);

@@ -1,8 +1,9 @@
 //! Readers.
 
-ghost use Rattle.std.specs.Prelude.{◌≡◌, ◌↔◌, ◌+◌, ◌≤◌, ◌<◌, ◌^◌, ◌++◌, ℕ, List, IsTrue, length, take, [], slice_get, Ok, OnOk, OnErr, IfOk, IfErr, IsSomeAnd, ◌≢◌, true, false};
+ghost use Rattle.std.specs.Prelude.{◌≡◌, ◌↔◌, ◌+◌, ◌≤◌, ◌<◌, ◌++◌, ℕ, List, IsTrue, length, take, [], slice_get, Ok, OnOk, OnErr, IfOk, IfErr, IsSomeAnd, ◌≢◌, true, false};
+ghost use Rattle.der_core_head.specs.Limits.{IsLength, levels_max};
 ghost use Rattle.der_core_head.specs.Tags.{IsTag};
-ghost use Rattle.der_core_head.specs.Heads.{head_octets};
+ghost use Rattle.der_core_head.specs.Heads.{head_octets, Fits};
 ghost use Rattle.der_core_head.specs.Bodies.{head_by, tag_by};
 ghost use Rattle.der_core_head.specs.declared.tag.Tag.{Tag};
 ghost use Rattle.der_core_head.specs.declared.tag.Tag.TheVariants.{Sequence};
@@ -47,7 +48,7 @@ pub trait Reader<'r>: Drop {
     /// How many more ends can be set, one within the other.
     fn levels_left(&self) -> usize
         ensures left { result ≡ (state self.now).room }
-        ensures most { result ≤ 64 };
+        ensures most { result ≤ levels_max };
 
     /// Whether a call failed before.
     fn is_failed(&self) -> bool
@@ -56,7 +57,7 @@ pub trait Reader<'r>: Drop {
     /// The octets up to the end in force.
     fn remaining(&self) -> &'r [u8]
         ensures rest { result.now ≡ (state self.now).rest }
-        ensures short { length result.now < 2 ^ 32 };
+        ensures short { Fits result.now };
 
     /// Passes over octets.
     fn skip(&mut self, len: usize)
@@ -80,7 +81,7 @@ pub trait Reader<'r>: Drop {
     /// `TrailingData` where nothing failed and octets are left before the end.
     fn end_nested(&mut self, behind: Length, failed: bool) -> Result<(), Error>
         requires behind { behind.value ≤ length (state self.old).behind }
-        requires room { (state self.old).room < 64 }
+        requires room { (state self.old).room < levels_max }
         ensures { Closes behind.value failed (state self.old) (state self.new) result };
 
     /// Whether no octets are left.
@@ -111,7 +112,8 @@ pub trait Reader<'r>: Drop {
     /// # Errors
     /// `Incomplete` where fewer are left.
     final fn read_slice(&mut self, len: Length) -> Result<&'r [u8], Error>
-        ensures { ReadsNow (λ s. s.now) (state self.old) (state self.new) result (slice_at len.value) }
+        ensures { ReadsNow (λ s. s.now) (state self.old) (state self.new) result
+            (slice_at len.value) }
     {
         if self.is_failed() {
             return Err(Error::from(ErrorKind::Failed));
@@ -150,12 +152,17 @@ pub trait Reader<'r>: Drop {
     final fn read_header(&mut self) -> Result<Header, Error>
         // Where DER rules, what is read is spelled so.
         ensures spelled { IfOk result (λ h. IsDer (state self.old)
-            → IsTag h.tag × ((state self.old).rest ≡ head_octets h.tag h.length.value ++ (state self.new).rest)) }
+            → IsTag h.tag × ((state self.old).rest
+            ≡ head_octets h.tag h.length.value ++ (state self.new).rest)) }
         // What is spelled so is read, whatever follows.
-        ensures only { (t : Tag) (n : ℕ) (r : List ℕ) → IsDer (state self.old) → (state self.old).failed ≡ false → IsTag t → n < 2 ^ 32
-            → (state self.old).rest ≡ head_octets t n ++ r → GivesNow head_of result (Ok (record { tag = t; len = n })) × ((state self.new).rest ≡ r) }
+        ensures only { (t : Tag) (n : ℕ) (r : List ℕ) → IsDer (state self.old)
+            → (state self.old).failed ≡ false → IsTag t → IsLength n
+            → (state self.old).rest ≡ head_octets t n ++ r
+            → GivesNow head_of result (Ok (record { tag = t; len = n }))
+            × ((state self.new).rest ≡ r) }
         // Which fault it is.
-        ensures front { ReadsNow head_of (state self.old) (state self.new) result (head_by (state self.old).source.encoding) }
+        ensures front { ReadsNow head_of (state self.old) (state self.new) result
+            (head_by (state self.old).source.encoding) }
     {
         if !self.is_failed() {
             let octets = self.remaining();
@@ -174,7 +181,8 @@ pub trait Reader<'r>: Drop {
     /// Those of `read_header`, and then `TagUnexpected` for another tag.
     #[inline(always)]
     final fn read_header_of(&mut self, tag: Tag) -> Result<Header, Error>
-        ensures front { ReadsNow head_of (state self.old) (state self.new) result (wanted_at tag (head_by (state self.old).source.encoding)) }
+        ensures front { ReadsNow head_of (state self.old) (state self.new) result
+            (wanted_at tag (head_by (state self.old).source.encoding)) }
         ensures tag { IfOk result (λ h. h.tag ≡ tag) }
     {
         if !self.is_failed() {
@@ -192,7 +200,8 @@ pub trait Reader<'r>: Drop {
     /// # Errors
     /// Those of `read_header`.
     final fn peek_header(&self) -> Result<Header, Error>
-        ensures { Peeks head_of (state self.now) result (alone (head_by (state self.now).source.encoding (state self.now).rest)) }
+        ensures { Peeks head_of (state self.now) result
+            (alone (head_by (state self.now).source.encoding (state self.now).rest)) }
     {
         if self.is_failed() {
             return Err(Error::from(ErrorKind::Failed));
@@ -209,7 +218,8 @@ pub trait Reader<'r>: Drop {
     /// # Errors
     /// Those of `tag_of`, and under BER those of `tag_ber_of`.
     final fn peek_tag(&self) -> Result<Tag, Error>
-        ensures { Peeks (λ t. t) (state self.now) result (alone (tag_by (state self.now).source.encoding (state self.now).rest)) }
+        ensures { Peeks (λ t. t) (state self.now) result
+            (alone (tag_by (state self.now).source.encoding (state self.now).rest)) }
     {
         if self.is_failed() {
             return Err(Error::from(ErrorKind::Failed));
@@ -227,7 +237,8 @@ pub trait Reader<'r>: Drop {
     /// # Errors
     /// Those of `peek_tag`.
     final fn peek_tag_or_end(&self) -> Result<Option<Tag>, Error>
-        ensures { Peeks (λ t. t) (state self.now) result (peek_at (state self.now).source.encoding (state self.now).rest) }
+        ensures { Peeks (λ t. t) (state self.now) result
+            (peek_at (state self.now).source.encoding (state self.now).rest) }
     {
         if self.is_failed() {
             return Err(Error::from(ErrorKind::Failed));
@@ -248,7 +259,8 @@ pub trait Reader<'r>: Drop {
     /// Those of `peek_tag`. The reader has failed after them.
     #[inline(always)]
     final fn next_tag(&mut self) -> Result<Tag, Error>
-        ensures front { Peeks (λ t. t) (state self.old) result (alone (tag_by (state self.old).source.encoding (state self.old).rest)) }
+        ensures front { Peeks (λ t. t) (state self.old) result
+            (alone (tag_by (state self.old).source.encoding (state self.old).rest)) }
         ensures stays { OnOk result (state self.new ≡ state self.old) }
         ensures failed { OnErr result (state self.new ≡ broken (state self.old)) }
     {
@@ -268,7 +280,8 @@ pub trait Reader<'r>: Drop {
     /// Those of `peek_tag`. The reader has failed after them.
     #[inline(always)]
     final fn next_tag_or_end(&mut self) -> Result<Option<Tag>, Error>
-        ensures front { Peeks (λ t. t) (state self.old) result (peek_at (state self.old).source.encoding (state self.old).rest) }
+        ensures front { Peeks (λ t. t) (state self.old) result
+            (peek_at (state self.old).source.encoding (state self.old).rest) }
         ensures stays { OnOk result (state self.new ≡ state self.old) }
         ensures failed { OnErr result (state self.new ≡ broken (state self.old)) }
     {
@@ -290,7 +303,8 @@ pub trait Reader<'r>: Drop {
     /// # Errors
     /// `Incomplete` where fewer are left, or `OutOfMemory`.
     final fn read_vec(&mut self, alloc: Global, len: Length) -> Result<Vec<u8>, Error>
-        ensures { Reads (λ v. v.items) (state self.old) (state self.new) result (slice_at len.value) }
+        ensures { Reads (λ v. v.items) (state self.old) (state self.new) result
+            (slice_at len.value) }
     {
         let octets = self.read_slice(len)?;
         match octets.to_vec(alloc) {
@@ -308,7 +322,8 @@ pub trait Reader<'r>: Drop {
     /// # Errors
     /// Those of `read_header`, and `Incomplete` where fewer octets of content are left.
     final fn tlv_bytes(&mut self) -> Result<&'r [u8], Error>
-        ensures { ReadsNow (λ s. s.now) (state self.old) (state self.new) result (encoding_at (head_by (state self.old).source.encoding)) }
+        ensures { ReadsNow (λ s. s.now) (state self.old) (state self.new) result
+            (encoding_at (head_by (state self.old).source.encoding)) }
     {
         if self.is_failed() {
             return Err(Error::from(ErrorKind::Failed));
@@ -335,10 +350,17 @@ pub trait Reader<'r>: Drop {
     /// # Errors
     /// `Incomplete` where fewer are left.
     final fn peek_into(&self, buffer: &mut [u8]) -> Result<(), Error>
-        ensures ok { OnOk result ((buffer.new ≡ take (length buffer.old) (state self.now).rest) × (length buffer.old ≤ length (state self.now).rest) × ((state self.now).failed ≡ false)) }
+        ensures ok { OnOk result
+            ((buffer.new ≡ take (length buffer.old) (state self.now).rest)
+            × (length buffer.old ≤ length (state self.now).rest)
+            × ((state self.now).failed ≡ false)) }
         ensures err { OnErr result (buffer.new ≡ buffer.old) }
-        ensures failed { IfErr result (λ e. (state self.now).failed ≡ true → e.kind ≡ ErrorKind.Failed) }
-        ensures short { IfErr result (λ e. (state self.now).failed ≡ false → (length (state self.now).rest < length buffer.old) × (e.kind ≡ ErrorKind.Incomplete)) }
+        ensures failed { IfErr result
+            (λ e. (state self.now).failed ≡ true → e.kind ≡ ErrorKind.Failed) }
+        ensures short { IfErr result
+            (λ e. (state self.now).failed ≡ false
+            → (length (state self.now).rest < length buffer.old)
+            × (e.kind ≡ ErrorKind.Incomplete)) }
     {
         if self.is_failed() {
             return Err(Error::from(ErrorKind::Failed));
@@ -357,7 +379,8 @@ pub trait Reader<'r>: Drop {
     /// # Errors
     /// `Incomplete` where fewer are left.
     final fn read_into(&mut self, buffer: &mut [u8]) -> Result<(), Error>
-        ensures reads { ReadsNow (λ _. buffer.new) (state self.old) (state self.new) result (slice_at (length buffer.old)) }
+        ensures reads { ReadsNow (λ _. buffer.new) (state self.old) (state self.new) result
+            (slice_at (length buffer.old)) }
         ensures err { OnErr result (buffer.new ≡ buffer.old) }
     {
         match self.peek_into(buffer) {
@@ -377,7 +400,8 @@ pub trait Reader<'r>: Drop {
     /// # Errors
     /// `Incomplete` where fewer are left.
     final fn drain(&mut self, amount: Length) -> Result<(), Error>
-        ensures { ReadsNow (λ _. take amount.value (state self.old).rest) (state self.old) (state self.new) result (slice_at amount.value) }
+        ensures { ReadsNow (λ _. take amount.value (state self.old).rest) (state self.old)
+            (state self.new) result (slice_at amount.value) }
     {
         if self.is_failed() {
             return Err(Error::from(ErrorKind::Failed));
@@ -439,8 +463,10 @@ pub trait Reader<'r>: Drop {
         ensures failed { OnErr result ((state self.new).failed ≡ true) }
         ensures refused { IfErr result (RefusesNested state F.FnOnce f len.value (state self.old)) }
         // What the closure reads of a body, this reads of a content.
-        ensures reads { (t : Tag) (b : Body) (view : T → BodyValue b) → ClosureReads state F.FnOnce f b view
-            → Reads view (state self.old) (state self.new) result (value_at (read_content_at (state self.old) (nested b) t) len.value) }
+        ensures reads { (t : Tag) (b : Body) (view : T → BodyValue b)
+            → ClosureReads state F.FnOnce f b view
+            → Reads view (state self.old) (state self.new) result
+            (value_at (read_content_at (state self.old) (nested b) t) len.value) }
     {
         let behind = self.begin_nested(len)?;
         let outcome = f(self);
@@ -459,13 +485,18 @@ pub trait Reader<'r>: Drop {
     ) -> Result<T, Error>
         requires callable { F.IsAlwaysCallable f }
         requires hands_back { HandsBack state F.FnOnce f }
-        ensures moved { OnOk result (IsNested header.length.value (state self.old) (state self.new)) }
-        ensures ran { IfOk result (λ x. Answered state F.FnOnce f header.length.value (state self.old) x) }
+        ensures moved { OnOk result
+            (IsNested header.length.value (state self.old) (state self.new)) }
+        ensures ran { IfOk result
+            (λ x. Answered state F.FnOnce f header.length.value (state self.old) x) }
         ensures kept { OnErr result (Kept (state self.old) (state self.new)) }
         ensures failed { OnErr result ((state self.new).failed ≡ true) }
-        ensures refused { IfErr result (RefusesNested state F.FnOnce f header.length.value (state self.old)) }
+        ensures refused { IfErr result
+            (RefusesNested state F.FnOnce f header.length.value (state self.old)) }
         ensures reads { (b : Body) (view : T → BodyValue b) → ClosureReads state F.FnOnce f b view
-            → Reads view (state self.old) (state self.new) result (value_at (read_content_at (state self.old) (nested b) header.tag) header.length.value) }
+            → Reads view (state self.old) (state self.new) result
+            (value_at (read_content_at (state self.old)
+            (nested b) header.tag) header.length.value) }
     {
         let value = self.read_nested(header.length, f)?;
         Ok(value)
@@ -489,7 +520,8 @@ pub trait Reader<'r>: Drop {
         ensures failed { OnErr result ((state self.new).failed ≡ true) }
         ensures refused { IfErr result (RefusesIn Sequence state F.FnOnce f (state self.old)) }
         ensures reads { (b : Body) (view : T → BodyValue b) → ClosureReads state F.FnOnce f b view
-            → Reads view (state self.old) (state self.new) result (read_at (state self.old) (tagged Sequence (nested b))) }
+            → Reads view (state self.old) (state self.new) result
+            (read_at (state self.old) (tagged Sequence (nested b))) }
     {
         let header = self.read_header_of(Tag::Sequence)?;
         let value = self.read_nested(header.length, f)?;
@@ -501,9 +533,13 @@ pub trait Reader<'r>: Drop {
     /// # Errors
     /// `Failed` where the reader failed before, `TrailingData` where octets are left.
     final fn finish(&self) -> Result<(), Error>
-        ensures ok { OnOk result (((state self.now).rest ≡ []) × ((state self.now).failed ≡ false)) }
-        ensures failed { IfErr result (λ e. (state self.now).failed ≡ true → e.kind ≡ ErrorKind.Failed) }
-        ensures left { IfErr result (λ e. (state self.now).failed ≡ false → ((state self.now).rest ≢ []) × (e.kind ≡ ErrorKind.TrailingData)) }
+        ensures ok { OnOk result
+            (((state self.now).rest ≡ []) × ((state self.now).failed ≡ false)) }
+        ensures failed { IfErr result
+            (λ e. (state self.now).failed ≡ true → e.kind ≡ ErrorKind.Failed) }
+        ensures left { IfErr result
+            (λ e. (state self.now).failed ≡ false → ((state self.now).rest ≢ [])
+            × (e.kind ≡ ErrorKind.TrailingData)) }
     {
         if self.is_failed() {
             return Err(Error::from(ErrorKind::Failed));
@@ -522,7 +558,8 @@ pub trait Reader<'r>: Drop {
 /// Those of `peek_tag`. The reader has failed after them.
 #[inline(never)]
 fn next_any_tag<'r, R: Reader<'r>>(reader: &mut R) -> Result<Tag, Error>
-    ensures front { Peeks (λ t. t) (R.state reader.old) result (alone (tag_by (R.state reader.old).source.encoding (R.state reader.old).rest)) }
+    ensures front { Peeks (λ t. t) (R.state reader.old) result
+        (alone (tag_by (R.state reader.old).source.encoding (R.state reader.old).rest)) }
     ensures stays { OnOk result (R.state reader.new ≡ R.state reader.old) }
     ensures failed { OnErr result (R.state reader.new ≡ broken (R.state reader.old)) }
 {
@@ -543,8 +580,10 @@ fn next_any_tag<'r, R: Reader<'r>>(reader: &mut R) -> Result<Tag, Error>
 #[inline(never)]
 fn read_any_header<'r, R: Reader<'r>>(reader: &mut R) -> Result<Header, Error>
     ensures spelled { IfOk result (λ h. IsDer (R.state reader.old)
-        → IsTag h.tag × ((R.state reader.old).rest ≡ head_octets h.tag h.length.value ++ (R.state reader.new).rest)) }
-    ensures front { ReadsNow head_of (R.state reader.old) (R.state reader.new) result (head_by (R.state reader.old).source.encoding) }
+        → IsTag h.tag × ((R.state reader.old).rest
+        ≡ head_octets h.tag h.length.value ++ (R.state reader.new).rest)) }
+    ensures front { ReadsNow head_of (R.state reader.old) (R.state reader.new) result
+        (head_by (R.state reader.old).source.encoding) }
 {
     if reader.is_failed() {
         return Err(Error::from(ErrorKind::Failed));
@@ -569,7 +608,8 @@ fn read_any_header<'r, R: Reader<'r>>(reader: &mut R) -> Result<Header, Error>
 /// Those of `read_header_of`.
 #[inline(never)]
 fn read_any_header_of<'r, R: Reader<'r>>(reader: &mut R, tag: Tag) -> Result<Header, Error>
-    ensures front { ReadsNow head_of (R.state reader.old) (R.state reader.new) result (wanted_at tag (head_by (R.state reader.old).source.encoding)) }
+    ensures front { ReadsNow head_of (R.state reader.old) (R.state reader.new) result
+        (wanted_at tag (head_by (R.state reader.old).source.encoding)) }
     ensures tag { IfOk result (λ h. h.tag ≡ tag) }
 {
     if reader.is_failed() {

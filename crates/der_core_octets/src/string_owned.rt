@@ -1,6 +1,6 @@
 //! Owned text that a length can count.
 
-ghost use Rattle.std.specs.Prelude.{◌≡◌, ◌↔◌, ◌<◌, ◌^◌, [], length, nat_eq, IsTrue, IfOk, Some, true};
+ghost use Rattle.std.specs.Prelude.{◌≡◌, ◌↔◌, ◌<◌, [], length, nat_eq, IsTrue, IfOk, Some, true};
 ghost use Rattle.std.proofs.Common.{refl, rules};
 ghost use Rattle.std.specs.Cmp.{partial_equiv_from_equiv};
 ghost use Rattle.std.specs.Cmp.Lexicographic.{pointwise, slice_cmp, nat_list_eq_equiv, nat_list_cmp_total, texts_po, texts_ties};
@@ -9,6 +9,7 @@ ghost use Rattle.std.specs.Hash as fed;
 ghost use Rattle.std.specs.Ordering.{nat_cmp};
 ghost use Rattle.std.specs.String.{string_bytes};
 ghost use Rattle.std.specs.Str.{is_utf8};
+ghost use Rattle.der_core_head.specs.Heads.{Fits};
 ghost use Rattle.der_core_head.specs.Lengths.{counted, counted_text};
 ghost use Rattle.der_core_head.specs.Reading.{Gives, GivesNow};
 
@@ -27,14 +28,15 @@ pub struct StringOwned {
 }
 
 impl Model for StringOwned {
-    ghost use Rattle.std.specs.Prelude.{ℕ, List, ◌<◌, ◌^◌, length};
+    ghost use Rattle.std.specs.Prelude.{ℕ, List};
+    ghost use Rattle.der_core_head.specs.Heads.{Fits};
     ghost use Rattle.std.specs.String.{string_bytes};
 
     ghost Value = { List ℕ };
 
     ghost view = { λ s. string_bytes s.text };
 
-    ghost invariant = { λ s. length (string_bytes s.text) < 2 ^ 32 };
+    ghost invariant = { λ s. Fits (string_bytes s.text) };
 }
 
 impl StringOwned {
@@ -87,7 +89,7 @@ impl StringOwned {
     /// The text.
     pub fn as_str(&self) -> &str
         ensures text { result.now ≡ self.now }
-        ensures short { length result.now < 2 ^ 32 }
+        ensures short { Fits result.now }
     {
         self.text.as_str()
     }
@@ -97,7 +99,7 @@ impl StringOwned {
     pub fn as_bytes(&self) -> &[u8]
         ensures octets { result.now ≡ self.now }
         ensures utf8 { is_utf8 result.now ≡ true }
-        ensures short { length result.now < 2 ^ 32 }
+        ensures short { Fits result.now }
     {
         self.text.as_str().as_bytes()
     }

@@ -1,7 +1,8 @@
 //! Borrowed text that a length can count.
 
-ghost use Rattle.std.specs.Prelude.{◌≡◌, ◌↔◌, ◌<◌, ◌^◌, [], length, IsTrue, true};
+ghost use Rattle.std.specs.Prelude.{◌≡◌, ◌↔◌, ◌<◌, [], length, IsTrue, true};
 ghost use Rattle.std.specs.Str.{is_utf8};
+ghost use Rattle.der_core_head.specs.Heads.{Fits};
 ghost use Rattle.der_core_head.specs.Lengths.{counted, counted_text};
 
 use der_core_head::{Error, ErrorKind, Length};
@@ -12,7 +13,7 @@ use std::str;
 #[derive(Clone, Copy, Debug, PartialEq, Eq, PartialOrd, Ord, Hash)]
 pub struct StringRef<'a> {
     text: &'a str,
-    ghost short: { length text.now < 2 ^ 32 },
+    ghost short: { Fits text.now },
 }
 
 impl<'a> StringRef<'a> {
@@ -47,7 +48,7 @@ impl<'a> StringRef<'a> {
     /// The text.
     pub fn as_str(&self) -> &'a str
         ensures text { result.now ≡ held_text self.now }
-        ensures short { length result.now < 2 ^ 32 }
+        ensures short { Fits result.now }
     {
         self.text
     }
@@ -57,7 +58,7 @@ impl<'a> StringRef<'a> {
     pub fn as_bytes(&self) -> &'a [u8]
         ensures octets { result.now ≡ held_text self.now }
         ensures utf8 { is_utf8 result.now ≡ true }
-        ensures short { length result.now < 2 ^ 32 }
+        ensures short { Fits result.now }
     {
         self.text.as_bytes()
     }

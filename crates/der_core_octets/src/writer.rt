@@ -28,7 +28,8 @@ pub trait Writer: Drop {
     /// # Errors
     /// Those of `write`.
     final fn write_byte(&mut self, octet: u8) -> Result<(), Error>
-        ensures exact { Writes takes_memory (out self.old) (out self.new) result (put (octet ∷ [])) }
+        ensures exact { Writes takes_memory (out self.old) (out self.new) result
+            (put (octet ∷ [])) }
         ensures refused { OnErr result (IsRefused takes_memory (out self.old) (out self.new)) }
         ensures kept { Continues (out self.old) (out self.new) }
     {

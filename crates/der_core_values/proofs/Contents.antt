@@ -1,7 +1,9 @@
 -- Octets of a content, and what a leaf reads of them.
-use Rattle.std.proofs.Common.{◌≡◌, ◌<◌, ℕ, arith, false, List, length, take, drop, Result, Ok, Err, refl, sym, ap, ◌∙◌}
+use Rattle.std.proofs.Common.{◌≡◌, ◌<◌, ℕ, arith, Bool, true, false, List, length, take, drop, Result, Ok, Err, refl, sym, ap, ◌∙◌}
 use Rattle.std.proofs.lemmas.Bool.{cases_lt, le-ltb}
 use Rattle.std.proofs.Common.{inl, inr}
+use Rattle.der_core_head.specs.Limits.{length_max}
+use Rattle.der_core_head.specs.Heads.{Fits}
 use Rattle.der_core_head.specs.declared.error.Error.{Error}
 use Rattle.der_core_head.specs.declared.error.ErrorKind.{ErrorKind}
 use Rattle.der_core_head.specs.declared.error.ErrorKind.TheVariants as kinds
@@ -12,7 +14,8 @@ use Rattle.der_core_head.specs.declared.encoding_rules.EncodingRules.{EncodingRu
 use Rattle.der_core_head.specs.declared.tag.Tag.{Tag}
 use Rattle.der_core_head.specs.Octets.{◌>>=◌}
 use Rattle.der_core_head.specs.Grammar.{whole, slice_at, value_at, read_content_by, leaf_at, kept}
-use Rattle.der_core_head.specs.Reading.{State, Reads, IsRest, Fails, broken, read_content_at}
+use Rattle.der_core_head.specs.Reading.{State, Reads, IsRest, Fails, Gives, broken, read_content_at}
+use Rattle.der_core_values.specs.Memory.{GivesTaking}
 use Rattle.der_core_head.proofs.Results.{ok_is}
 use Rattle.der_core_octets.proofs.Nested.{broken_kept}
 use Rattle.der_core_octets.proofs.Steps.{kept_then}
@@ -41,6 +44,9 @@ content_err rules l t room n w k e =
 module _ {X : Type 0} (l : Leaf) (t : Tag) (view : X → LeafValue l) (old mid : State) (x : List ℕ) (n : ℕ)
     (took : (l : Leaf) (t : Tag) (room : ℕ) → value_at (read_content_by old.source.encoding (leaf l) t room) n old.rest ≡ (leaf_read l t x >>= kept mid.rest))
     (moved : mid ≡ record old { rest = mid.rest }) (ready : old.failed ≡ false) (passed : IsRest mid.rest old.rest) where
+  pub leaf_faulty : (k : ErrorKind) → leaf_read l t x ≡ Err k → value_at (read_content_at old (leaf l) t) n old.rest ≡ Err k
+  leaf_faulty k says = took l t old.room ∙ ap (λ o. o >>= kept mid.rest) says
+
   pub leaf_reads : (v : X) → leaf_read l t x ≡ Ok (view v) → Reads view old mid (Ok v) (value_at (read_content_at old (leaf l) t) n)
   leaf_reads v says = (took l t old.room ∙ ap (λ o. o >>= kept mid.rest) says, moved, ready, passed)
 
@@ -58,5 +64,15 @@ content_reads t n view old new (Ok v) h = (content_ok old.source.encoding octets
 content_reads t n view old new (Err e) h = (λ ready memory. content_err old.source.encoding octets t old.room n old.rest e.kind (h.0 ready memory), h.1, h.2, h.3)
 
 -- octets that a length can count
-pub counted_fits : (w : List ℕ) → length w < 4294967296 → counted w ≡ Ok w
-counted_fits w h = rw (le-ltb 4294967295 (length w) (omega arith)) refl
+pub counted_fits : (w : List ℕ) → Fits w → counted w ≡ Ok w
+counted_fits w h = rw (le-ltb length_max (length w) (omega arith)) refl
+
+-- what a call answers that takes none it answers too where it may take some
+pub gives : {X P : Type 0} (memory : Bool) (view : X → P) (r : Result X Error) (p : Result P ErrorKind) → GivesTaking memory view r p → Gives view r p
+gives true view r p h = h
+gives false view (Ok x) p h = h
+gives false view (Err e) p h = λ _. h
+
+pub gives_now : {X P : Type 0} (memory : Bool) (view : X → P) (e : Error) (p : Result P ErrorKind) → memory ≡ false → GivesTaking memory view (Err e) p → p ≡ Err e.kind
+gives_now true view e p none h = absurd cc
+gives_now false view e p none h = h

@@ -1,3 +1,4 @@
 pub mod Both
 pub mod Same
 pub mod Choices
+pub mod Memory

@@ -11,7 +11,7 @@ use crate::elements::{ApartValue, AsRead, AsReadValue, Element, Member};
 use crate::encode::{Encode, EncodeValue};
 use crate::fields::{DecodeFields, Fields, read_fields};
 use der_core_head::{Error, ErrorKind, Length, Tag};
-use der_core_headers::Header;
+use der_core_octets::headers::Header;
 use der_core_octets::{Reader, Writer, sum_len};
 use std::alloc::Global;
 

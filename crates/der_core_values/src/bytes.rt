@@ -1,6 +1,6 @@
 //! Octets that stand as they are, whatever tag is before them (X.690 8.7).
 
-ghost use Rattle.std.specs.Prelude.{◌≡◌};
+ghost use Rattle.std.specs.Prelude.{◌≡◌, false};
 ghost use Rattle.der_core_head.specs.Grammar.{slice_at, value_at};
 ghost use Rattle.der_core_octets.specs.Held.{held_octets};
 ghost use Rattle.der_core_head.specs.Leaves.{octets};
@@ -11,7 +11,7 @@ use crate::decode::{DecodeValue, ShapedValue};
 use crate::encode::EncodeValue;
 use crate::leaves::{Leaf, decode_leaf};
 use der_core_head::{Error, Length, Tag};
-use der_core_headers::Header;
+use der_core_octets::headers::Header;
 use der_core_octets::{BytesOwned, BytesRef, Reader, Writer};
 use std::alloc::Global;
 
@@ -19,6 +19,8 @@ impl<'a> Leaf<'a> for BytesRef<'a> {
     ghost kind = { octets };
 
     ghost leaf_plain = { held_octets };
+
+    ghost takes_memory = { false };
 
     fn from_content(_alloc: Global, _tag: Tag, octets: &'a [u8]) -> Result<BytesRef<'a>, Error> {
         BytesRef::new(octets)

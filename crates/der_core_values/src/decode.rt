@@ -7,8 +7,8 @@ ghost use Rattle.der_core_head.specs.Grammar.{value_at, plain_option};
 ghost use Rattle.der_core_head.specs.Reading.{Reads, read_at, read_content_at};
 
 use der_core_head::{Error, Tag, is_same_tag};
-use der_core_headers::Header;
 use der_core_octets::Reader;
+use der_core_octets::headers::Header;
 use std::alloc::Global;
 
 /// A type whose values have one tag.

@@ -6,8 +6,8 @@ ghost use Rattle.der_core_head.specs.Grammar.{value_at};
 ghost use Rattle.der_core_head.specs.Reading.{Reads, read_body_at, read_content_at};
 
 use der_core_head::Error;
-use der_core_headers::Header;
 use der_core_octets::Reader;
+use der_core_octets::headers::Header;
 use std::alloc::Global;
 
 /// The fields of a type, and what its values are.

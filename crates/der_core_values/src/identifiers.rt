@@ -1,6 +1,6 @@
 //! OBJECT IDENTIFIER.
 
-ghost use Rattle.std.specs.Prelude.{◌≡◌};
+ghost use Rattle.std.specs.Prelude.{◌≡◌, false};
 ghost use Rattle.const_oid.specs.Bound.{Bound};
 ghost use Rattle.der_core_head.specs.declared.tag.Tag.TheVariants.{ObjectIdentifier as ObjectIdentifierTag};
 ghost use Rattle.der_core_head.specs.Shapes.{leaf};
@@ -11,7 +11,7 @@ use crate::encode::EncodeValue;
 use crate::leaves::{Leaf, decode_leaf};
 use const_oid::ObjectIdentifier;
 use der_core_head::{Error, ErrorKind, Length, Tag};
-use der_core_headers::Header;
+use der_core_octets::headers::Header;
 use der_core_octets::{Reader, Writer, slice_len};
 use std::alloc::Global;
 
@@ -28,6 +28,8 @@ impl<'a, const MAX_SIZE: usize> Leaf<'a> for ObjectIdentifier<MAX_SIZE> {
     ghost kind = { identifier Bound MAX_SIZE };
 
     ghost leaf_plain = { λ oid. oid };
+
+    ghost takes_memory = { false };
 
     // Inlined for the same reason as `decode_value`.
     #[inline(always)]

@@ -1,6 +1,6 @@
 //! Whole numbers: two's complement in the fewest octets (X.690 8.3).
 
-ghost use Rattle.std.specs.Prelude.{◌≡◌, ℤ, pos};
+ghost use Rattle.std.specs.Prelude.{◌≡◌, ℤ, pos, false};
 ghost use Rattle.der_core_head.specs.declared.tag.Tag.TheVariants.{Integer as IntegerTag};
 ghost use Rattle.der_core_head.specs.Shapes.{leaf};
 ghost use Rattle.der_core_head.specs.Integers.{Numbers, IsNumber, unsigned, signed, integer_read};
@@ -12,7 +12,7 @@ use crate::decode::{DecodeValue, FixedTag, ShapedValue};
 use crate::encode::EncodeValue;
 use crate::leaves::{Leaf, decode_leaf};
 use der_core_head::{Error, Length, Tag};
-use der_core_headers::Header;
+use der_core_octets::headers::Header;
 use der_core_octets::{Reader, Writer, integer_octets_of, signed_of, unsigned_of};
 use std::alloc::Global;
 
@@ -50,6 +50,8 @@ impl<'a, T: Integer> Leaf<'a> for T {
     ghost kind = { integer T.numbers };
 
     ghost leaf_plain = { T.number };
+
+    ghost takes_memory = { false };
 
     fn from_content(_alloc: Global, tag: Tag, octets: &'a [u8]) -> Result<T, Error> {
         T::from_integer(tag, octets)

@@ -1,16 +1,18 @@
 //! Values whose content is no list of values.
 
-ghost use Rattle.std.specs.Prelude.{◌≡◌, ◌<◌, ◌^◌, length, IfOk};
+ghost use Rattle.std.specs.Prelude.{◌≡◌, ◌<◌, ◌^◌, length, Bool, true, false, IfOk, IfErr, Err};
+ghost use Rattle.der_core_head.specs.Heads.{Fits};
 ghost use Rattle.der_core_head.specs.declared.tag.Tag.TheVariants.{Boolean, Null};
 ghost use Rattle.der_core_head.specs.Shapes.{leaf};
 ghost use Rattle.der_core_head.specs.Grammar.{value_at};
-ghost use Rattle.der_core_head.specs.Reading.{Reads, Gives, TakesContent, read_content_at};
+ghost use Rattle.der_core_head.specs.Reading.{Reads, TakesContent, read_content_at};
+ghost use Rattle.der_core_values.specs.Memory.{GivesTaking};
 ghost use Rattle.der_core_head.specs.Leaves.{Leaf as LeafKind, LeafValue, leaf_read, boolean, null};
 
 use crate::decode::{DecodeValue, FixedTag, ShapedValue};
 use crate::encode::EncodeValue;
 use der_core_head::{Error, ErrorKind, Length, Tag};
-use der_core_headers::Header;
+use der_core_octets::headers::Header;
 use der_core_octets::{Reader, Writer};
 use std::alloc::Global;
 
@@ -21,13 +23,16 @@ pub trait Leaf<'a>: Drop {
 
     ghost leaf_plain: { Self → LeafValue kind };
 
+    /// Whether reading may be refused because memory runs out.
+    ghost takes_memory: { Bool } = { true };
+
     /// The value whose content the octets behind a tag are, so many as a length can count.
     ///
     /// # Errors
     /// The fault of the octets, or `OutOfMemory`.
     fn from_content(alloc: Global, tag: Tag, octets: &'a [u8]) -> Result<Self, Error>
-        requires { length octets.now < 2 ^ 32 }
-        ensures { Gives leaf_plain result (leaf_read kind tag octets.now) };
+        requires { Fits octets.now }
+        ensures { GivesTaking takes_memory leaf_plain result (leaf_read kind tag octets.now) };
 }
 
 /// The octets of the content behind a header.
@@ -51,7 +56,12 @@ pub fn decode_leaf<'a, R: Reader<'a>, T: Leaf<'a>>(
     reader: &mut R,
     header: Header,
 ) -> Result<T, Error>
-    ensures { Reads T.leaf_plain (R.state reader.old) (R.state reader.new) result (value_at (read_content_at (R.state reader.old) (leaf T.kind) header.tag) header.length.value) }
+    ensures reads { Reads T.leaf_plain (R.state reader.old) (R.state reader.new) result
+        (value_at (read_content_at (R.state reader.old) (leaf T.kind) header.tag) header.length.value) }
+    // Where the type takes no memory, it is the fault of the octets.
+    ensures fault { T.takes_memory ≡ false → IfErr result (λ e. (R.state reader.old).failed ≡ false
+        → value_at (read_content_at (R.state reader.old) (leaf T.kind) header.tag) header.length.value
+        (R.state reader.old).rest ≡ Err e.kind) }
 {
     let octets = read_content(reader, header)?;
     match T::from_content(alloc, header.tag, octets) {
@@ -76,6 +86,8 @@ impl<'a> Leaf<'a> for bool {
     ghost kind = { boolean };
 
     ghost leaf_plain = { λ b. b };
+
+    ghost takes_memory = { false };
 
     fn from_content(_alloc: Global, tag: Tag, octets: &'a [u8]) -> Result<bool, Error> {
         match octets {
@@ -113,6 +125,8 @@ impl<'a> Leaf<'a> for () {
     ghost kind = { null };
 
     ghost leaf_plain = { λ x. x };
+
+    ghost takes_memory = { false };
 
     fn from_content(_alloc: Global, tag: Tag, octets: &'a [u8]) -> Result<(), Error> {
         if octets.is_empty() {

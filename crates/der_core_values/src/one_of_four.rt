@@ -1,6 +1,7 @@
-//! One of four alternatives.
+//! One of four alternatives, or of more.
 
 ghost use Rattle.std.specs.Prelude.{◌≡◌, true};
+ghost use Rattle.der_core_head.specs.Ranges.{IsInRange};
 ghost use Rattle.der_core_head.specs.Shapes.{either};
 ghost use Rattle.der_core_values.specs.Both.{both_true};
 ghost use Rattle.der_core_values.specs.Choices.{plain_of_four};
@@ -8,8 +9,8 @@ ghost use Rattle.der_core_values.specs.Choices.{plain_of_four};
 use crate::decode::{Choice, Decode, Shaped};
 use crate::elements::Element;
 use crate::encode::Encode;
-use crate::one_of_three::OneOf3;
-use crate::one_of_two::OneOf2;
+use crate::in_range::InRange;
+use crate::one_of_two::{OneOf2, OneOf3};
 use der_core_head::{Error, Length, Tag};
 use der_core_octets::{Reader, Writer};
 use std::alloc::Global;
@@ -25,6 +26,18 @@ pub enum OneOf4<A, B, C, D> {
     Third(C),
     Fourth(D),
 }
+
+/// A value of one of five types: of the first three, or `Fourth` one of the others, as
+/// `Fourth(First(d))`. So are those of more types.
+pub type OneOf5<A, B, C, D, E> = OneOf4<A, B, C, OneOf2<D, E>>;
+
+pub type OneOf6<A, B, C, D, E, F> = OneOf4<A, B, C, OneOf3<D, E, F>>;
+
+pub type OneOf7<A, B, C, D, E, F, G> = OneOf4<A, B, C, OneOf4<D, E, F, G>>;
+
+pub type OneOf8<A, B, C, D, E, F, G, H> = OneOf4<A, B, C, OneOf5<D, E, F, G, H>>;
+
+pub type OneOf9<A, B, C, D, E, F, G, H, I> = OneOf4<A, B, C, OneOf6<D, E, F, G, H, I>>;
 
 impl<A: Shaped, B: Shaped, C: Shaped, D: Shaped> Shaped for OneOf4<A, B, C, D> {
     ghost shape = { either A.shape (either B.shape (either C.shape D.shape)) };
@@ -55,9 +68,9 @@ impl<
     fn decode(alloc: Global, reader: &mut R) -> Result<OneOf4<A, B, C, D>, Error> {
         match OneOf2::<A, OneOf3<B, C, D>>::decode(alloc, reader)? {
             OneOf2::First(value) => Ok(OneOf4::First(value)),
-            OneOf2::Second(OneOf3::First(value)) => Ok(OneOf4::Second(value)),
-            OneOf2::Second(OneOf3::Second(value)) => Ok(OneOf4::Third(value)),
-            OneOf2::Second(OneOf3::Third(value)) => Ok(OneOf4::Fourth(value)),
+            OneOf2::Second(OneOf2::First(value)) => Ok(OneOf4::Second(value)),
+            OneOf2::Second(OneOf2::Second(OneOf2::First(value))) => Ok(OneOf4::Third(value)),
+            OneOf2::Second(OneOf2::Second(OneOf2::Second(value))) => Ok(OneOf4::Fourth(value)),
         }
     }
 }
@@ -78,6 +91,17 @@ impl<A: Encode, B: Encode, C: Encode, D: Encode> Encode for OneOf4<A, B, C, D> {
             OneOf4::Second(value) => value.encode(writer),
             OneOf4::Third(value) => value.encode(writer),
             OneOf4::Fourth(value) => value.encode(writer),
+        }
+    }
+}
+
+impl<A: InRange, B: InRange, C: InRange, D: InRange> InRange for OneOf4<A, B, C, D> {
+    fn in_range(&self) {
+        match self {
+            OneOf4::First(value) => value.in_range(),
+            OneOf4::Second(value) => value.in_range(),
+            OneOf4::Third(value) => value.in_range(),
+            OneOf4::Fourth(value) => value.in_range(),
         }
     }
 }

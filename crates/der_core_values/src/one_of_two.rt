@@ -1,6 +1,7 @@
-//! One of two alternatives.
+//! One of two alternatives, or of three.
 
 ghost use Rattle.std.specs.Prelude.{◌≡◌, true};
+ghost use Rattle.der_core_head.specs.Ranges.{IsInRange};
 ghost use Rattle.der_core_head.specs.Shapes.{either};
 ghost use Rattle.der_core_values.specs.Both.{both_true};
 ghost use Rattle.der_core_values.specs.Choices.{plain_of_two};
@@ -8,6 +9,7 @@ ghost use Rattle.der_core_values.specs.Choices.{plain_of_two};
 use crate::decode::{Choice, Decode, Shaped};
 use crate::elements::Element;
 use crate::encode::Encode;
+use crate::in_range::InRange;
 use der_core_head::{Error, ErrorKind, Length, Tag};
 use der_core_octets::{Reader, Writer};
 use std::alloc::Global;
@@ -24,6 +26,9 @@ pub enum OneOf2<A, B> {
     First(A),
     Second(B),
 }
+
+/// A value of one of three types: the first, or one of the others, as `Second(First(b))`.
+pub type OneOf3<A, B, C> = OneOf2<A, OneOf2<B, C>>;
 
 impl<A: Shaped, B: Shaped> Shaped for OneOf2<A, B> {
     ghost shape = { either A.shape B.shape };
@@ -71,6 +76,15 @@ impl<A: Encode, B: Encode> Encode for OneOf2<A, B> {
         match self {
             OneOf2::First(value) => value.encode(writer),
             OneOf2::Second(value) => value.encode(writer),
+        }
+    }
+}
+
+impl<A: InRange, B: InRange> InRange for OneOf2<A, B> {
+    fn in_range(&self) {
+        match self {
+            OneOf2::First(value) => value.in_range(),
+            OneOf2::Second(value) => value.in_range(),
         }
     }
 }

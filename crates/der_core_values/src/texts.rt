@@ -1,6 +1,6 @@
 //! UTF8String (X.690 8.23.10).
 
-ghost use Rattle.std.specs.Prelude.{◌≡◌};
+ghost use Rattle.std.specs.Prelude.{◌≡◌, false};
 ghost use Rattle.std.specs.String.{string_bytes};
 ghost use Rattle.der_core_head.specs.declared.tag.Tag.TheVariants.{Utf8String};
 ghost use Rattle.der_core_octets.specs.Held.{held_text};
@@ -11,7 +11,7 @@ use crate::decode::{DecodeValue, FixedTag, ShapedValue};
 use crate::encode::EncodeValue;
 use crate::leaves::{Leaf, decode_leaf};
 use der_core_head::{Error, Length, Tag};
-use der_core_headers::Header;
+use der_core_octets::headers::Header;
 use der_core_octets::{Reader, StringOwned, StringRef, Writer, slice_len};
 use std::alloc::Global;
 use std::str;
@@ -31,6 +31,8 @@ impl<'a> Leaf<'a> for &'a str {
     ghost kind = { utf8 };
 
     ghost leaf_plain = { λ text. text.now };
+
+    ghost takes_memory = { false };
 
     #[tactic(auto, using(der_core_head::proofs::Utf8Reads::utf8_reads))]
     fn from_content(_alloc: Global, _tag: Tag, octets: &'a [u8]) -> Result<&'a str, Error> {
@@ -114,6 +116,8 @@ impl<'a> Leaf<'a> for StringRef<'a> {
     ghost kind = { utf8 };
 
     ghost leaf_plain = { held_text };
+
+    ghost takes_memory = { false };
 
     #[tactic(auto, using(der_core_head::proofs::Utf8Reads::utf8_reads))]
     fn from_content(_alloc: Global, _tag: Tag, octets: &'a [u8]) -> Result<StringRef<'a>, Error> {

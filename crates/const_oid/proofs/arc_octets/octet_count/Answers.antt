@@ -20,5 +20,18 @@ loop-high-preserved c =
       omega arith,
     )
 
+pub overflow_add-count-in-loop-word : goal.overflow_add-count-in-loop-word
+overflow_add-count-in-loop-word c =
+    let some : 0 < c.loop-word.word = omega arith in
+    omega (arith, c.loop-word.invariant.1 some, arc_fits c.args.arc (omega arith))
+
+pub loop-word-preserved : goal.loop-word-preserved
+loop-word-preserved c =
+    let some : 0 < c.loop-word.word = omega arith in (
+      λ e. omega (arith, c.loop-word.invariant.1 some, length-digits-one c.loop-word.word (omega arith)),
+      λ l. omega (arith, c.loop-word.invariant.1 some, length-digits-more c.loop-word.word (omega arith)),
+      omega arith,
+    )
+
 pub returns-clause-value : goal.returns-clause-value
-returns-clause-value c = c.loop-high.invariant.0 (omega arith) ∙ sym (length-arc_octets c.args.arc)
+returns-clause-value c = c.loop-word.invariant.0 (omega arith) ∙ sym (length-arc_octets c.args.arc)

@@ -10,3 +10,12 @@ invariant-loop-high l =
 
 abbrev pub decreases-loop-high : goal.decreases-loop-high
 decreases-loop-high l = l.high
+
+abbrev pub invariant-loop-word : goal.invariant-loop-word
+invariant-loop-word l =
+    (l.word ≡ 0 → l.count ≡ length (digits 128 l.arc))
+    × (0 < l.word → l.count + length (digits 128 l.word) ≡ length (digits 128 l.arc))
+    × (0 < l.count)
+
+abbrev pub decreases-loop-word : goal.decreases-loop-word
+decreases-loop-word l = l.word

@@ -1,36 +1,17 @@
-use Rattle.std.proofs.Common.{◌≡◌, ◌<◌, ◌+◌, get_or, drop, length, length-drop, None, Some, Err, ap, sym, ◌∙◌, arith}
+use Rattle.std.proofs.Common.{◌≡◌, ◌<◌, ◌≤◌, ◌+◌, get_or, drop, length, length-drop, None, Some, Err, ap, sym, ◌∙◌, arith}
 use Rattle.std.proofs.lemmas.Result.{err_from_is_err_and}
 use Rattle.const_oid.specs.Bound.{Bound}
 use Rattle.const_oid.specs.ArcLists.{and_then}
 use Rattle.const_oid.specs.TextReading.{text_arcs, and_value}
 use Rattle.const_oid.proofs.ArcsLaws.{drop_past}
-use Rattle.const_oid.proofs.TextLaws.{octet_and_rest, text-digit, text-early, text-trailing, text-dot}
+use Rattle.const_oid.proofs.TextLaws.{octet_and_rest, text-digit, text-early, text-trailing, text-dot, no_digit_read, digit_pushed}
 use Rattle.const_oid.proofs.text.read.Goals as goal
+use Rattle.const_oid.proofs.text.read.Goals.{then-octet-lt48-via-then-octet-lt48, then-octet-lt48-via-else-octet-lt48+then-octet-gt57}
 
 pub returns : goal.returns
 returns c =
     c.finish.ensures
     ∙ sym (c.loop-i.invariant ∙ ap (text_arcs Bound 39 c.loop-i.arcs c.loop-i.value) (drop_past c.loop-i.i c.args.text.now c.loop-i-test.false))
-
-pub returns-in_err-read_digit : goal.returns-in_err-read_digit
-returns-in_err-read_digit c =
-    let w = c.args.text.now in
-    let i = c.loop-i.i in
-    let p = err_from_is_err_and c.from_residual.result c.from_residual.ensures.1 in
-    p.1 ∙ ap (λ e. Err e) p.2
-    ∙ sym (c.loop-i.invariant
-    ∙ ap (text_arcs Bound 39 c.loop-i.arcs c.loop-i.value) (octet_and_rest i w c.loop-i-test.true)
-    ∙ text-digit Bound 39 c.loop-i.arcs c.loop-i.value (get_or w i 0) (drop (i + 1) w) c.if-octet-ne46.true
-    ∙ ap (λ r. and_value r (λ next. text_arcs Bound 39 c.loop-i.arcs (Some next) (drop (i + 1) w))) (sym c.in_err-read_digit.ensures))
-
-pub loop-i-preserved-then-octet-ne46 : goal.loop-i-preserved-then-octet-ne46
-loop-i-preserved-then-octet-ne46 c =
-    let w = c.args.text.now in
-    let i = c.loop-i.i in
-    c.loop-i.invariant
-    ∙ ap (text_arcs Bound 39 c.loop-i.arcs c.loop-i.value) (octet_and_rest i w c.loop-i-test.true)
-    ∙ text-digit Bound 39 c.loop-i.arcs c.loop-i.value (get_or w i 0) (drop (i + 1) w) c.if-octet-ne46.true
-    ∙ ap (λ r. and_value r (λ next. text_arcs Bound 39 c.loop-i.arcs (Some next) (drop (i + 1) w))) (sym c.in_ok-read_digit.ensures)
 
 pub loop-i-preserved : goal.loop-i-preserved
 loop-i-preserved c =
@@ -39,17 +20,17 @@ loop-i-preserved c =
     let more : 0 < length (drop (i + 1) w) = omega (arith, length-drop (i + 1) w, c.if-i-text.false, c.loop-i-test.true) in
     c.loop-i.invariant
     ∙ ap (text_arcs Bound 39 c.loop-i.arcs c.loop-i.value) (octet_and_rest i w c.loop-i-test.true)
-    ∙ text-dot Bound 39 c.loop-i.arcs c.loop-i.value c.in-Some.arc (get_or w i 0) (drop (i + 1) w) c.if-octet-ne46.false c.in-Some.is more
+    ∙ text-dot Bound 39 c.loop-i.arcs c.loop-i.value c.in-Some-value.arc (get_or w i 0) (drop (i + 1) w) c.if-octet-ne46.false c.in-Some-value.is more
     ∙ ap (λ r. and_then r (λ arcs. text_arcs Bound 39 arcs None (drop (i + 1) w))) c.in_ok-add.ensures
 
-pub returns-in_default : goal.returns-in_default
-returns-in_default c =
+pub returns-in_default-value : goal.returns-in_default-value
+returns-in_default-value c =
     let w = c.args.text.now in
     let i = c.loop-i.i in
     ap (λ e. Err e) c.early_dot.ensures
     ∙ sym (c.loop-i.invariant
     ∙ ap (text_arcs Bound 39 c.loop-i.arcs c.loop-i.value) (octet_and_rest i w c.loop-i-test.true)
-    ∙ text-early Bound 39 c.loop-i.arcs c.loop-i.value (get_or w i 0) (drop (i + 1) w) c.if-octet-ne46.false c.in_default.is)
+    ∙ text-early Bound 39 c.loop-i.arcs c.loop-i.value (get_or w i 0) (drop (i + 1) w) c.if-octet-ne46.false c.in_default-value.is)
 
 pub returns-then-i-text : goal.returns-then-i-text
 returns-then-i-text c =
@@ -58,16 +39,49 @@ returns-then-i-text c =
     let none : length (drop (i + 1) w) ≡ 0 = omega (arith, length-drop (i + 1) w, c.if-i-text.true) in
     sym (c.loop-i.invariant
     ∙ ap (text_arcs Bound 39 c.loop-i.arcs c.loop-i.value) (octet_and_rest i w c.loop-i-test.true)
-    ∙ text-trailing Bound 39 c.loop-i.arcs c.loop-i.value c.in-Some.arc (get_or w i 0) (drop (i + 1) w) c.if-octet-ne46.false c.in-Some.is none)
+    ∙ text-trailing Bound 39 c.loop-i.arcs c.loop-i.value c.in-Some-value.arc (get_or w i 0) (drop (i + 1) w) c.if-octet-ne46.false c.in-Some-value.is none)
 
 pub returns-in_err-add : goal.returns-in_err-add
 returns-in_err-add c =
     let w = c.args.text.now in
     let i = c.loop-i.i in
     let more : 0 < length (drop (i + 1) w) = omega (arith, length-drop (i + 1) w, c.if-i-text.false, c.loop-i-test.true) in
-    let p = err_from_is_err_and c.from_residual-in_err-add.result c.from_residual-in_err-add.ensures.1 in
+    let p = err_from_is_err_and c.from_residual.result c.from_residual.ensures.1 in
     p.1 ∙ ap (λ e. Err e) p.2
     ∙ sym (c.loop-i.invariant
     ∙ ap (text_arcs Bound 39 c.loop-i.arcs c.loop-i.value) (octet_and_rest i w c.loop-i-test.true)
-    ∙ text-dot Bound 39 c.loop-i.arcs c.loop-i.value c.in-Some.arc (get_or w i 0) (drop (i + 1) w) c.if-octet-ne46.false c.in-Some.is more
+    ∙ text-dot Bound 39 c.loop-i.arcs c.loop-i.value c.in-Some-value.arc (get_or w i 0) (drop (i + 1) w) c.if-octet-ne46.false c.in-Some-value.is more
     ∙ ap (λ r. and_then r (λ arcs. text_arcs Bound 39 arcs None (drop (i + 1) w))) c.in_err-add.ensures)
+
+pub returns-then-octet-lt48 : goal.returns-then-octet-lt48
+returns-then-octet-lt48 c =
+    let w = c.args.text.now in
+    let i = c.loop-i.i in
+    let outside : ¬ ((48 ≤ get_or w i 0) × (get_or w i 0 ≤ 57)) = λ h. elim c.then-octet-lt48.branch [
+      | then-octet-lt48-via-then-octet-lt48 b ↦ omega (arith, h.0, b.if-octet-lt48.true)
+      | then-octet-lt48-via-else-octet-lt48+then-octet-gt57 b ↦ omega (arith, h.1, b.if-octet-gt57.true)
+    ] in
+    sym (c.loop-i.invariant
+    ∙ ap (text_arcs Bound 39 c.loop-i.arcs c.loop-i.value) (octet_and_rest i w c.loop-i-test.true)
+    ∙ text-digit Bound 39 c.loop-i.arcs c.loop-i.value (get_or w i 0) (drop (i + 1) w) c.if-octet-ne46.true
+    ∙ ap (λ r. and_value r (λ next. text_arcs Bound 39 c.loop-i.arcs (Some next) (drop (i + 1) w))) (no_digit_read Bound c.loop-i.value (get_or w i 0) outside))
+
+pub returns-in_default : goal.returns-in_default
+returns-in_default c =
+    let w = c.args.text.now in
+    let i = c.loop-i.i in
+    sym (c.loop-i.invariant
+    ∙ ap (text_arcs Bound 39 c.loop-i.arcs c.loop-i.value) (octet_and_rest i w c.loop-i-test.true)
+    ∙ text-digit Bound 39 c.loop-i.arcs c.loop-i.value (get_or w i 0) (drop (i + 1) w) c.if-octet-ne46.true
+    ∙ ap (λ r. and_value r (λ next. text_arcs Bound 39 c.loop-i.arcs (Some next) (drop (i + 1) w)))
+    (digit_pushed Bound c.loop-i.value (get_or w i 0) c.unwrap_or.result None (omega arith) (omega arith) c.unwrap_or.ensures c.in_default.ensures))
+
+pub loop-i-preserved-then-octet-ne46 : goal.loop-i-preserved-then-octet-ne46
+loop-i-preserved-then-octet-ne46 c =
+    let w = c.args.text.now in
+    let i = c.loop-i.i in
+    c.loop-i.invariant
+    ∙ ap (text_arcs Bound 39 c.loop-i.arcs c.loop-i.value) (octet_and_rest i w c.loop-i-test.true)
+    ∙ text-digit Bound 39 c.loop-i.arcs c.loop-i.value (get_or w i 0) (drop (i + 1) w) c.if-octet-ne46.true
+    ∙ ap (λ r. and_value r (λ next. text_arcs Bound 39 c.loop-i.arcs (Some next) (drop (i + 1) w)))
+    (digit_pushed Bound c.loop-i.value (get_or w i 0) c.unwrap_or.result (Some c.in-Some.next) (omega arith) (omega arith) c.unwrap_or.ensures c.in-Some.ensures)

@@ -1,4 +1,4 @@
-use Rattle.std.proofs.Common.{◌≡◌, subst, ap, ◌∙◌}
+use Rattle.std.proofs.Common.{subst, ap, ◌∙◌}
 use Rattle.std.proofs.lemmas.Result.{err_from_is_err_and}
 use Rattle.der_core_head.specs.declared.tag.Tag.{Tag}
 use Rattle.der_core_head.specs.Octets.{◌>>=◌}

@@ -2,7 +2,7 @@ use Rattle.std.proofs.Common.{Ok, ap, ◌∙◌, arith}
 use Rattle.der_core_head.specs.declared.length.Length.{Length}
 use Rattle.der_core_headers.specs.LoneLengths.{lone_length_at}
 use Rattle.der_core_headers.proofs.LoneLaws.{lone_again, lone_spelled}
-use Rattle.der_core_headers.proofs.Spelled.{counts_so}
+use Rattle.der_core_head.proofs.Fronts.{front_so}
 use Rattle.der_core_headers.proofs.heads.lone_length_of.Goals as goal
 
 pub returns-clause-spelled : goal.returns-clause-spelled
@@ -10,4 +10,4 @@ returns-clause-spelled c = lone_spelled c.args.octets.now c.lone_length_of.resul
 
 pub returns-clause-only : goal.returns-clause-only
 returns-clause-only c = λ n r fits e.
-    counts_so (λ (l : Length). l.value) c.args.octets.now c.lone_length_of.result lone_length_at (Ok (n, r)) (ap lone_length_at e ∙ lone_again n r (omega (arith, fits))) c.lone_length_of.ensures
+    front_so (λ (l : Length). l.value) c.args.octets.now c.lone_length_of.result lone_length_at (Ok (n, r)) (ap lone_length_at e ∙ lone_again n r (omega (arith, fits))) c.lone_length_of.ensures

@@ -1,13 +1,13 @@
-use Rattle.std.proofs.Common.{drop}
+use Rattle.std.proofs.Common.{Ok, Err, drop}
 use Rattle.der_core_head.specs.declared.tag.Tag.TheVariants as tags
-use Rattle.der_core_headers.proofs.LoneLaws.{lone_ok, lone_err}
+use Rattle.der_core_headers.proofs.LoneLaws.{lone_is}
 use Rattle.der_core_headers.proofs.parse.lone_length_of.Goals as goal
 
 pub returns-in-Some : goal.returns-in-Some
 returns-in-Some c =
     let front = c.in-Some.front in
     let w = c.args.octets.now in
-    (lone_ok tags.Null w front.0.value (drop front.1 w) (c.in-Some.ensures.some tags.Null), c.in-Some.ensures.within)
+    (lone_is w (Ok (front.0.value, drop front.1 w)) (c.in-Some.ensures.some tags.Null), c.in-Some.ensures.within)
 
 pub returns-in-None : goal.returns-in-None
-returns-in-None c = rw (c.from.ensures, c.without_tag.ensures) (lone_err tags.Null c.args.octets.now c.length_fault.result c.length_fault.ensures)
+returns-in-None c = rw (c.from.ensures, c.without_tag.ensures) (lone_is c.args.octets.now (Err c.length_fault.result) c.length_fault.ensures)

@@ -1,13 +1,17 @@
-use Rattle.std.proofs.Common.{◌≡◌, ◌<◌, ℕ, arith, ◌-◌, get_or}
-use Rattle.der_core_headers.proofs.Lengths.{is_fault, indefinite, too_many, length_at-cut, low-1, zero-more, long-1, long-2, long-3, long-4}
+use Rattle.std.proofs.Common.{◌≡◌, ◌<◌, ℕ, arith, ◌-◌, ◌∷◌, get_or}
+use Rattle.der_core_head.specs.declared.error.ErrorKind.TheVariants as kinds
+use Rattle.der_core_head.specs.Heads.{length_at}
+use Rattle.der_core_head.proofs.LengthForms.{length_at-indefinite, length_at-large, length_at-cut}
+use Rattle.der_core_headers.proofs.Lengths.{is_fault, low-1, zero-more, long-1, long-2, long-3, long-4}
 use Rattle.der_core_headers.proofs.parse.long_length_of.Goals.{then-first-eq128-via-then-first-eq128, then-first-eq128-via-else-first-eq128+then-first-gt132}
 use Rattle.der_core_headers.proofs.parse.long_length_of.Goals as goal
 
 pub returns-then-first-eq128-clause-none : goal.returns-then-first-eq128-clause-none
 returns-then-first-eq128-clause-none c = λ t.
     elim c.then-first-eq128.branch [
-      | then-first-eq128-via-then-first-eq128 w ↦ is_fault _ _ (indefinite t c.args.first c.args.rest.now (omega arith))
-      | then-first-eq128-via-else-first-eq128+then-first-gt132 w ↦ is_fault _ _ (too_many t c.args.first c.args.rest.now (omega arith))
+      | then-first-eq128-via-then-first-eq128 w ↦ let first : c.args.first ≡ 128 = omega arith in
+          is_fault (length_at t (c.args.first ∷ c.args.rest.now)) kinds.IndefiniteLength (rw first (length_at-indefinite t c.args.rest.now))
+      | then-first-eq128-via-else-first-eq128+then-first-gt132 w ↦ is_fault _ _ (length_at-large t c.args.first c.args.rest.now (omega arith))
     ]
 
 pub returns-then-rest-count-clause-none : goal.returns-then-rest-count-clause-none

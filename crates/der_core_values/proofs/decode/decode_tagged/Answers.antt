@@ -5,7 +5,7 @@ use Rattle.der_core_head.specs.Octets.{◌>>=◌}
 use Rattle.der_core_head.specs.Bodies.{head_by}
 use Rattle.der_core_head.specs.Grammar.{value_at, tlv_at}
 use Rattle.der_core_head.specs.Reading.{State, Reads, read_content_at}
-use Rattle.der_core_headers.specs.Fronts.{head_of, wanted_at}
+use Rattle.der_core_octets.specs.Headers.Fronts.{head_of, wanted_at}
 use Rattle.der_core_octets.proofs.Nested.{broken_kept}
 use Rattle.der_core_octets.proofs.Steps.{reads_after, tlv_wanted}
 use Rattle.der_core_values.proofs.decode.decode_tagged.Goals as goal

@@ -1,68 +1,50 @@
-use Rattle.std.proofs.Common.{◌≡◌, ◌<◌, ℕ, List, length, Option, Ok, Err, MatchResult, ap, sym, subst, ◌∙◌, arith}
-use Rattle.std.proofs.lemmas.Bool.{eqb-true, eqb-false}
+use Rattle.std.proofs.Common.{List, ℕ, Option, Some, Ok, Err, ap, sym, ◌∙◌, arith}
+use Rattle.std.proofs.lemmas.Result.{err_from_is_err_and}
 use Rattle.const_oid.specs.Bound.{Bound}
-use Rattle.const_oid.specs.ArcLists.{add_arc, arcs_so_far, IsSoFar}
-use Rattle.const_oid.proofs.BoundLaws.{below_bound}
-use Rattle.const_oid.proofs.EncodingLaws.{add_more, add_first, misplaced_first, misplaced_second, second_long, add_second, first_small}
+use Rattle.const_oid.specs.ArcLists.{add_arc, arcs_so_far}
+use Rattle.const_oid.proofs.EncodingLaws.{add_first, add_second, misplaced_first, misplaced_second, none_now, one_now, first_small, many_pushed, many_added}
 use Rattle.const_oid.proofs.encoder.Encoder.add.Goals as goal
 
 pub invariant_of-self : goal.invariant_of-self
 invariant_of-self g c =
     let e = c.self.inside in
-    let ne = eqb-false (length e.octets) 0 (sym c.is_empty.ensures ∙ c.if-not-is_empty.true) in
-    let some : 0 < length e.octets = omega arith in
-    (add_more Bound g.row.MAX_SIZE e.first e.octets c.push_arc.new.self c.args.arc c.push_arc.result some c.self.invariant (below_bound c.args.arc (omega arith)) c.push_arc.ensures).0
+    many_pushed g.row.MAX_SIZE e.first e.identifier c.in-Some.identifier c.push.new.self c.args.arc c.push.result c.in-Some.is c.self.invariant c.push.ensures
 
-pub returns-then-not-is_empty : goal.returns-then-not-is_empty
-returns-then-not-is_empty g c =
+pub returns-in-Some : goal.returns-in-Some
+returns-in-Some g c =
     let e = c.self.inside in
-    let ne = eqb-false (length e.octets) 0 (sym c.is_empty.ensures ∙ c.if-not-is_empty.true) in
-    let some : 0 < length e.octets = omega arith in
-    let more = add_more Bound g.row.MAX_SIZE e.first e.octets c.push_arc.new.self c.args.arc c.push_arc.result some c.self.invariant (below_bound c.args.arc (omega arith)) c.push_arc.ensures in
-    subst (λ (t : List ℕ). MatchResult c.push_arc.result (λ _. add_arc g.row.MAX_SIZE t c.args.arc ≡ Ok (arcs_so_far e.first c.push_arc.new.self)) (λ x. add_arc g.row.MAX_SIZE t c.args.arc ≡ Err x)) c.self.view_is more.1
+    many_added g.row.MAX_SIZE e.first e.identifier c.in-Some.identifier c.push.new.self c.args.self.now c.args.arc c.push.result c.in-Some.is c.self.invariant c.self.view_is c.push.ensures
 
 pub returns-then-arc-gt2 : goal.returns-then-arc-gt2
 returns-then-arc-gt2 g c =
-    let e = c.self.inside in
-    let none = eqb-true (length e.octets) 0 (sym c.is_empty.ensures ∙ c.if-not-is_empty.false) in
-    ap (λ t. add_arc g.row.MAX_SIZE t c.args.arc) (sym c.self.view_is ∙ ap (λ (f : Option ℕ). arcs_so_far f e.octets) c.in_default.is)
-    ∙ misplaced_first g.row.MAX_SIZE c.args.arc e.octets none c.if-arc-gt2.true
+    let none = none_now c.self.inside.first c.self.inside.identifier c.args.self.now c.in_default-first.is c.in_default.is c.self.view_is in
+    ap (λ t. add_arc g.row.MAX_SIZE t c.args.arc) none ∙ misplaced_first g.row.MAX_SIZE c.args.arc c.if-arc-gt2.true
 
-pub returns-in_default : goal.returns-in_default
-returns-in_default g c =
-    let e = c.self.inside in
-    let none = eqb-true (length e.octets) 0 (sym c.is_empty.ensures ∙ c.if-not-is_empty.false) in
-    ap (λ t. add_arc g.row.MAX_SIZE t c.args.arc) (sym c.self.view_is ∙ ap (λ (f : Option ℕ). arcs_so_far f e.octets) c.in_default.is)
-    ∙ add_first g.row.MAX_SIZE c.args.arc e.octets none c.if-arc-gt2.false
+pub returns-in_default-first : goal.returns-in_default-first
+returns-in_default-first g c =
+    let none = none_now c.self.inside.first c.self.inside.identifier c.args.self.now c.in_default-first.is c.in_default.is c.self.view_is in
+    ap (λ t. add_arc g.row.MAX_SIZE t c.args.arc) none ∙ add_first g.row.MAX_SIZE c.args.arc c.if-arc-gt2.false
+    ∙ ap (λ (i : Option (List ℕ)). Ok (arcs_so_far (Some c.args.arc) i)) (sym c.in_default.is)
 
 pub returns-then-arc-ge40 : goal.returns-then-arc-ge40
 returns-then-arc-ge40 g c =
-    let e = c.self.inside in
-    let none = eqb-true (length e.octets) 0 (sym c.is_empty.ensures ∙ c.if-not-is_empty.false) in
-    ap (λ t. add_arc g.row.MAX_SIZE t c.args.arc) (sym c.self.view_is ∙ ap (λ (f : Option ℕ). arcs_so_far f e.octets) c.in-Some.is)
-    ∙ misplaced_second g.row.MAX_SIZE c.in-Some.first c.args.arc e.octets none c.if-arc-ge40.true
+    let one = one_now c.self.inside.first c.self.inside.identifier c.args.self.now c.in-Some-first.first c.in-Some-first.is c.in_default.is c.self.view_is in
+    ap (λ t. add_arc g.row.MAX_SIZE t c.args.arc) one ∙ misplaced_second g.row.MAX_SIZE c.in-Some-first.first c.args.arc c.if-arc-ge40.true
 
-pub returns-then-len : goal.returns-then-len
-returns-then-len g c =
+pub returns-in_err-root : goal.returns-in_err-root
+returns-in_err-root g c =
     let e = c.self.inside in
-    let none = eqb-true (length e.octets) 0 (sym c.is_empty.ensures ∙ c.if-not-is_empty.false) in
-    ap (λ t. add_arc g.row.MAX_SIZE t c.args.arc) (sym c.self.view_is ∙ ap (λ (f : Option ℕ). arcs_so_far f e.octets) c.in-Some.is)
-    ∙ second_long g.row.MAX_SIZE c.in-Some.first c.args.arc e.octets none (omega arith) (omega arith)
-
-pub invariant_of-self-2 : goal.invariant_of-self-2
-invariant_of-self-2 g c =
-    let e = c.self.inside in
-    let none = eqb-true (length e.octets) 0 (sym c.is_empty.ensures ∙ c.if-not-is_empty.false) in
-    let small = first_small Bound g.row.MAX_SIZE c.in-Some.first e.octets none (subst (λ (f : Option ℕ). IsSoFar Bound g.row.MAX_SIZE f e.octets) c.in-Some.is c.self.invariant) in
-    let more = add_second Bound g.row.MAX_SIZE c.in-Some.first c.args.arc e.octets c.push.new.self none small (omega arith) (omega (arith, none, c.len.ensures, c.if-len.false)) c.push.ensures in
-    subst (λ (f : Option ℕ). IsSoFar Bound g.row.MAX_SIZE f c.push.new.self) (sym c.in-Some.is) more.0
+    let first = c.in-Some-first.first in
+    let one = one_now e.first e.identifier c.args.self.now first c.in-Some-first.is c.in_default.is c.self.view_is in
+    let small = first_small e.first e.identifier first c.in-Some-first.is c.in_default.is c.self.invariant in
+    let p = err_from_is_err_and c.from_residual.result c.from_residual.ensures.1 in
+    rw (p.1 ∙ ap (λ x. Err x) p.2)
+    (ap (λ t. add_arc g.row.MAX_SIZE t c.args.arc) one ∙ add_second Bound g.row.MAX_SIZE first c.args.arc small (omega arith) ∙ sym c.from_bytes_sized.ensures.read ∙ c.in_err-root.was)
 
 pub returns : goal.returns
 returns g c =
     let e = c.self.inside in
-    let none = eqb-true (length e.octets) 0 (sym c.is_empty.ensures ∙ c.if-not-is_empty.false) in
-    let small = first_small Bound g.row.MAX_SIZE c.in-Some.first e.octets none (subst (λ (f : Option ℕ). IsSoFar Bound g.row.MAX_SIZE f e.octets) c.in-Some.is c.self.invariant) in
-    let more = add_second Bound g.row.MAX_SIZE c.in-Some.first c.args.arc e.octets c.push.new.self none small (omega arith) (omega (arith, none, c.len.ensures, c.if-len.false)) c.push.ensures in
-    ap (λ t. add_arc g.row.MAX_SIZE t c.args.arc) (sym c.self.view_is ∙ ap (λ (f : Option ℕ). arcs_so_far f e.octets) c.in-Some.is)
-    ∙ more.1
-    ∙ ap (λ (f : Option ℕ). Ok (arcs_so_far f c.push.new.self)) (sym c.in-Some.is)
+    let first = c.in-Some-first.first in
+    let one = one_now e.first e.identifier c.args.self.now first c.in-Some-first.is c.in_default.is c.self.view_is in
+    let small = first_small e.first e.identifier first c.in-Some-first.is c.in_default.is c.self.invariant in
+    ap (λ t. add_arc g.row.MAX_SIZE t c.args.arc) one ∙ add_second Bound g.row.MAX_SIZE first c.args.arc small (omega arith) ∙ sym c.from_bytes_sized.ensures.read ∙ c.in_ok-root.was

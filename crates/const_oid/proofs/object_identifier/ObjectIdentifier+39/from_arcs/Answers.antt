@@ -3,8 +3,8 @@ use Rattle.std.proofs.lemmas.Result.{err_from_is_err_and, IfOk-from_err}
 use Rattle.const_oid.specs.Bound.{Bound}
 use Rattle.const_oid.specs.ArcLists.{gather, add_arc, whole_arcs}
 use Rattle.const_oid.proofs.BoundLaws.{below_bound}
-use Rattle.const_oid.proofs.EncodingLaws.{gather-err, gather-end}
-use Rattle.const_oid.proofs.ArcFaultLaws.{all-push, add_arc-not_empty, arc_fault_found, answer_ok, answer_fault, gather-faultless, added-faultless, faultless_none, ends_at_next, ends_at_none}
+use Rattle.const_oid.proofs.EncodingLaws.{all-push, gather-err, gather-end}
+use Rattle.const_oid.proofs.ArcFaultLaws.{add_arc-not_empty, arc_fault_found, answer_ok, answer_fault, gather-faultless, added-faultless, faultless_none, ends_at_next, ends_at_none}
 use Rattle.const_oid.proofs.OverflowLaws.{arcs-not_overflow}
 use Rattle.std.specs.Result.{IsOk}
 use Rattle.std.proofs.iter.Next.{Yields-more}

@@ -20,7 +20,7 @@ returns-clause-ok g c =
 pub returns-in_err-f-clause-fault : goal.returns-in_err-f-clause-fault
 returns-in_err-f-clause-fault g c =
     let p = err_from_is_err_and c.from_residual-in_err-f.result c.from_residual-in_err-f.ensures.1 in
-    rw (p.1, p.2) (inr (inl (c.encode_header.new.writer, c.f.new.arg2, (c.in_ok-encode_header.ensures.exact, record { shown = _; shows = refl; left = _; met = c.in_err-f.ensures; leaves = refl }))))
+    rw (p.1, p.2) (inr (inl (c.encode_header.new.writer, c.f.new.arg2, (c.in_ok-encode_header.ensures.exact, record { shown = _; shows = refl; left = _; met = c.in_err-f.ensures; leaves = refl }), refl)))
 
 pub returns-then-self-start-clause-fault : goal.returns-then-self-start-clause-fault
 returns-then-self-start-clause-fault g c =
@@ -33,4 +33,4 @@ returns-then-self-start-clause-fault g c =
       | then-self-start-via-then-self-start w ↦ omega (arith, same, front, back, outer.inside, inner.inside, w.if-self-start)
       | then-self-start-via-else-self-start+then-self-start-2 w ↦ omega (arith, same, front, back, outer.inside, inner.inside, w.if-self-start, w.if-self-start-2)
     ] in
-    inr (inr (inner, outer, (c.in_ok-encode_header.ensures.exact, record { shown = _; shows = refl; left = _; met = c.in_ok-f.ensures; leaves = refl }), other, c.from.ensures))
+    inr (inr (inner, outer, (c.in_ok-encode_header.ensures.exact, record { shown = _; shows = refl; left = _; met = c.in_ok-f.ensures; leaves = refl }), refl, other, c.from.ensures))

@@ -1,17 +1,17 @@
-use Rattle.std.proofs.Common.{◌≡◌, false, Ok, Err, inl, inr, refl, subst, ap, ◌∙◌, sym}
+use Rattle.std.proofs.Common.{◌≡◌, false, Ok, Err, inl, inr, refl, ap, ◌∙◌, sym}
 use Rattle.std.proofs.lemmas.Result.{err_from_is_err_and}
 use Rattle.der_core_head.specs.declared.tag.Tag.TheVariants.{Sequence}
 use Rattle.der_core_head.specs.Octets.{◌>>=◌}
 use Rattle.der_core_head.specs.Tags.{same_tag}
 use Rattle.der_core_head.specs.Bodies.{head_by}
 use Rattle.der_core_head.specs.Shapes.{nested}
-use Rattle.der_core_head.specs.Grammar.{value_at, tlv_at}
-use Rattle.der_core_head.specs.Reading.{State, Reads, read_content_at}
+use Rattle.der_core_head.specs.Grammar.{value_at}
+use Rattle.der_core_head.specs.Reading.{State, read_content_at}
 use Rattle.der_core_head.proofs.TagLaws.{same_tag-refl}
 use Rattle.der_core_octets.specs.Nesting.{Enters}
-use Rattle.der_core_octets.proofs.Closures.{by_failed, enters_wanted}
+use Rattle.der_core_octets.proofs.Closures.{by_failed, enters_wanted, wanted_reads}
 use Rattle.der_core_octets.proofs.Nested.{broken_kept}
-use Rattle.der_core_octets.proofs.Steps.{reads_after, tlv_wanted}
+use Rattle.der_core_octets.proofs.Steps.{tlv_wanted}
 use Rattle.der_core_headers.proofs.Wanted.{wanted_err}
 use Rattle.der_core_octets.proofs.reader.Reader.sequence.Goals as goal
 
@@ -26,29 +26,15 @@ returns-in_err-header-clause-reads g c = λ b view calls.
 pub returns-in_err-value-clause-reads : goal.returns-in_err-value-clause-reads
 returns-in_err-value-clause-reads g c = λ b view calls.
     let p = err_from_is_err_and c.from_residual-in_err-value.result c.from_residual-in_err-value.ensures.1 in
-    let old = g.Self.Reader.state c.args.self.now in
-    let mid = g.Self.Reader.state c.read_header_of.new.self in
-    let new = g.Self.Reader.state c.read_nested.new.self in
-    let front = c.in_ok-header.ensures.front in
-    let h = c.in_ok-header.header in
-    let content = read_content_at old (nested b) Sequence in
-    let P : State → Type 0 = λ s. Reads view mid new (Err c.in_err-value.field-0.0) (value_at (read_content_at s (nested b) Sequence) h.length.value) in
-    let inner : P (record old { rest = mid.rest }) = subst P front.1 (c.in_err-value.ensures.reads Sequence b view calls) in
-    rw (p.1, p.2) (reads_after view old mid new (Err c.in_err-value.field-0.0) (tlv_at old.source.encoding Sequence content) (value_at content h.length.value)
-    front.1 front.2 front.3 (tlv_wanted old.source.encoding Sequence content old.rest ∙ ap (λ r. r >>= λ x. value_at content x.0.len x.1) front.0) inner)
+    let state = g.Self.Reader.state in
+    rw (p.1, p.2) (wanted_reads Sequence b view (state c.args.self.now) (state c.read_header_of.new.self) (state c.read_nested.new.self) c.in_ok-header.header
+    (Err c.in_err-value.field-0.0) c.in_ok-header.ensures.front (c.in_err-value.ensures.reads Sequence b view calls))
 
 pub returns-clause-reads : goal.returns-clause-reads
 returns-clause-reads g c = λ b view calls.
-    let old = g.Self.Reader.state c.args.self.now in
-    let mid = g.Self.Reader.state c.read_header_of.new.self in
-    let new = g.Self.Reader.state c.read_nested.new.self in
-    let front = c.in_ok-header.ensures.front in
-    let h = c.in_ok-header.header in
-    let content = read_content_at old (nested b) Sequence in
-    let P : State → Type 0 = λ s. Reads view mid new (Ok c.in_ok-value.value) (value_at (read_content_at s (nested b) Sequence) h.length.value) in
-    let inner : P (record old { rest = mid.rest }) = subst P front.1 (c.in_ok-value.ensures.reads Sequence b view calls) in
-    reads_after view old mid new (Ok c.in_ok-value.value) (tlv_at old.source.encoding Sequence content) (value_at content h.length.value)
-    front.1 front.2 front.3 (tlv_wanted old.source.encoding Sequence content old.rest ∙ ap (λ r. r >>= λ x. value_at content x.0.len x.1) front.0) inner
+    let state = g.Self.Reader.state in
+    wanted_reads Sequence b view (state c.args.self.now) (state c.read_header_of.new.self) (state c.read_nested.new.self) c.in_ok-header.header
+    (Ok c.in_ok-value.value) c.in_ok-header.ensures.front (c.in_ok-value.ensures.reads Sequence b view calls)
 
 -- no header stands there by the rules in force, or one of another tag
 pub returns-in_err-header-clause-refused : goal.returns-in_err-header-clause-refused

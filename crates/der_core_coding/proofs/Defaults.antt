@@ -1,0 +1,192 @@
+-- A default behind a tag: it is read, and no other value has its octets.
+use Rattle.std.proofs.Common.{◌≡◌, ℕ, zero, suc, Bool, true, false, not, nat_eq, ◌<◌, ◌≤◌, List, [], ◌∷◌, ◌++◌, Ok, bytes_eq, nat_lt, length, drop, refl, sym, ap, ◌∙◌, subst, arith, inl, inr, length-append}
+use Rattle.std.specs.Prelude.{ℤ, pos}
+use Rattle.std.proofs.lemmas.Bool.{cases_lt, ltb-true}
+use Rattle.std.proofs.lemmas.Bool.Decides.{same_from_decides, Decides-eqb, Decides-like}
+use Rattle.std.proofs.lemmas.List.{append_assoc, append_cancel_left, append-nil}
+use Rattle.std.proofs.lemmas.Slice.Eq.{bytes_eq-Decides}
+use Rattle.der_core_head.proofs.AllOctets.{read_front}
+use Rattle.der_core_head.proofs.Bytes.{IsBytes}
+use Rattle.der_core_head.proofs.IntegerLaws.{integer_of-octets, integer_octets-of}
+use Rattle.der_core_head.proofs.LengthForms.{length-short, length-long, number-1}
+use Rattle.der_core_head.proofs.TagForms.{tag-0, tag-1, tag-2, tag-3, tag-4, tag-5}
+use Rattle.der_core_head.specs.declared.tag.Tag.{Tag}
+use Rattle.der_core_head.specs.Grammar.{read}
+use Rattle.der_core_head.specs.Heads.{tlv, head_octets, length_octets}
+use Rattle.der_core_head.specs.Integers.{Numbers, integer_octets, integer_of}
+use Rattle.der_core_head.specs.Leaves.{integer}
+use Rattle.der_core_head.specs.Shapes.{Content, ContentValue, leaf, nested, only, tagged, explicit, octets_of, contents, body_octets, IsValid, IsContent, IsBody}
+use Rattle.der_core_head.specs.Spelling.{is_content_apart, are_content_enough}
+use Rattle.der_core_head.specs.Tags.{context, tag_octets, number_octets, number_of, IsTag}
+use Rattle.der_core_octets.specs.Numbers.{signed_number}
+use Rattle.der_core_coding.specs.Defaults.{short_tlv}
+
+-- Lengths
+
+tag_few : (t : Tag) → IsTag t → length (tag_octets t) ≤ 6
+tag_few t h = elim (cases_lt (number_of t) 31) [
+  | inl a ↦ omega (arith, ap length (tag-0 t a))
+  | inr a ↦ elim (cases_lt (number_of t) 128) [
+    | inl b ↦ omega (arith, ap length (tag-1 t a b))
+    | inr b ↦ elim (cases_lt (number_of t) 16384) [
+      | inl c ↦ omega (arith, ap length (tag-2 t b c))
+      | inr c ↦ elim (cases_lt (number_of t) 2097152) [
+        | inl d ↦ omega (arith, ap length (tag-3 t c d))
+        | inr d ↦ elim (cases_lt (number_of t) 268435456) [
+          | inl e ↦ omega (arith, ap length (tag-4 t d e))
+          | inr e ↦ omega (arith, ap length (tag-5 t e h))
+        ]
+      ]
+    ]
+  ]
+]
+
+tlv_short : (t : Tag) (c : List ℕ) → length c < 128 → tlv t c ≡ short_tlv t c
+unfolding tlv head_octets tag_octets
+tlv_short t c h = rw (length-short (length c) h) (append_assoc (tag_octets t) (length c ∷ []) c)
+
+short_few : (t : Tag) (c : List ℕ) → IsTag t → length c < 100 → length (short_tlv t c) < 108
+unfolding tag_octets
+short_few t c h few =
+    omega (arith, few, tag_few t h, length-append (number_octets (number_of t)) (length c ∷ c))
+
+-- No other content has those octets.
+
+length_some : (n : ℕ) → 0 < length (length_octets n)
+length_some n = elim (cases_lt n 128) [
+  | inl h ↦ omega (arith, ap length (length-short n h))
+  | inr h ↦ omega (arith, ap length (length-long n _ h refl))
+]
+
+counted_short : (c d : List ℕ) → length d < 128 → length_octets (length c) ++ c ≡ length d ∷ d → c ≡ d
+counted_short c d h e = elim (cases_lt (length c) 128) [
+  | inl s ↦ ap (drop 1) (sym (ap (λ w. w ++ c) (length-short (length c) s)) ∙ e)
+  | inr l ↦ absurd (omega (arith, l, h, ap length e, length-append (length_octets (length c)) c, length_some (length c)))
+]
+
+tlv_alone : (t : Tag) (c d : List ℕ) → length d < 128 → tlv t c ≡ short_tlv t d → c ≡ d
+unfolding tlv head_octets tag_octets
+tlv_alone t c d h e =
+    counted_short c d h (append_cancel_left (tag_octets t) _ _ (sym (append_assoc (tag_octets t) (length_octets (length c)) c) ∙ e))
+
+tlv_same : (t : Tag) (c d : List ℕ) → length d < 128 → bytes_eq c d ≡ bytes_eq (tlv t c) (short_tlv t d)
+tlv_same t c d h =
+    same_from_decides (bytes_eq c d) (bytes_eq (tlv t c) (short_tlv t d)) (bytes_eq-Decides c d)
+    (Decides-like (bytes_eq (tlv t c) (short_tlv t d)) (λ e. tlv_alone t c d h e) (λ e. subst (λ w. tlv t w ≡ short_tlv t d) (sym e) (tlv_short t d h)) (bytes_eq-Decides (tlv t c) (short_tlv t d)))
+
+same : (t : Tag) (c : Content) (v : ContentValue c) (d : List ℕ) → length d < 128
+    → bytes_eq (contents c v) d ≡ bytes_eq (octets_of (tagged t c) v) (short_tlv t d)
+unfolding octets_of
+same t c v d h = tlv_same t (contents c v) d h
+
+-- It has an encoding, and is read.
+
+spelled : (t : Tag) (c : Content) (v : ContentValue c) (d : List ℕ) → length d < 128 → contents c v ≡ d
+    → octets_of (tagged t c) v ≡ short_tlv t d
+unfolding octets_of
+spelled t c v d h e = ap (λ w. tlv t w) e ∙ tlv_short t d h
+
+wide : (t : Tag) (c : Content) (v : ContentValue c) (d : List ℕ) → IsTag t → length d < 128 → contents c v ≡ d → IsContent c v → IsValid (tagged t c) v
+unfolding IsValid tag_octets
+wide t c v d tag h e is =
+    let few : length (short_tlv t d) < 136 = omega (arith, h, tag_few t tag, length-append (number_octets (number_of t)) (length d ∷ d)) in
+    let fits : length (tlv t (contents c v)) < 136 = subst (λ w. length (tlv t w) < 136) (sym e) (subst (λ w. length w < 136) (sym (tlv_short t d h)) few) in
+    (is, tag, omega (arith, fits))
+
+valid : (t : Tag) (c : Content) (v : ContentValue c) (d : List ℕ) → IsTag t → length d < 100 → contents c v ≡ d → IsContent c v → IsValid (tagged t c) v
+valid t c v d tag h e is = wide t c v d tag (omega (arith, h)) e is
+
+is_read : (t : Tag) (c : Content) (v : ContentValue c) (d : List ℕ) → IsTag t → length d < 128 → contents c v ≡ d
+    → is_content_apart c ≡ true → are_content_enough c 64 ≡ true → IsValid (tagged t c) v → read (tagged t c) 64 (short_tlv t d) ≡ Ok (v, [])
+is_read t c v d tag h e apart enough is =
+    let front : octets_of (tagged t c) v ++ [] ≡ short_tlv t d = append-nil (octets_of (tagged t c) v) ∙ spelled t c v d h e in
+    ap (λ w. read (tagged t c) 64 w) (sym front) ∙ read_front (tagged t c) 64 v [] refl apart enough is
+
+-- Behind one tag, for a content of fewer than 100 octets
+
+below : (d : List ℕ) → nat_lt (length d) 100 ≡ true → length d < 100
+below d h = ltb-true (length d) 100 h
+
+pub tagged_read : (t : Tag) (c : Content) (v : ContentValue c) (d : List ℕ) → IsTag t → nat_lt (length d) 100 ≡ true → is_content_apart c ≡ true
+    → ((room : ℕ) → are_content_enough c room ≡ true) → contents c v ≡ d → IsContent c v → read (tagged t c) 64 (short_tlv t d) ≡ Ok (v, [])
+tagged_read t c v d tag few apart enough e is =
+    let h = below d few in
+    is_read t c v d tag (omega (arith, h)) e apart (enough 64) (valid t c v d tag h e is)
+
+pub tagged_same : (t : Tag) (c : Content) (v : ContentValue c) (d : List ℕ) (r : Bool) → nat_lt (length d) 100 ≡ true
+    → r ≡ bytes_eq (contents c v) d → r ≡ bytes_eq (octets_of (tagged t c) v) (short_tlv t d)
+tagged_same t c v d r few e = e ∙ same t c v d (omega (arith, below d few))
+
+pub tagged_valid : (t : Tag) (c : Content) (v : ContentValue c) (d : List ℕ) (r : Bool) → IsTag t → nat_lt (length d) 100 ≡ true
+    → r ≡ bytes_eq (contents c v) d → (r ≡ true → IsContent c v) → r ≡ true → IsValid (tagged t c) v
+tagged_valid t c v d r tag few e is h = valid t c v d tag (below d few) ((bytes_eq-Decides (contents c v) d).0 (sym e ∙ h)) (is h)
+
+-- And behind an explicit one before it
+
+pub explicit_read : (n : ℕ) (t : Tag) (c : Content) (v : ContentValue c) (d : List ℕ) → IsTag (context true n) → IsTag t → nat_lt (length d) 100 ≡ true
+    → is_content_apart c ≡ true → ((room : ℕ) → are_content_enough c room ≡ true) → contents c v ≡ d → IsContent c v
+    → read (explicit n (tagged t c)) 64 (short_tlv (context true n) (short_tlv t d)) ≡ Ok (v, [])
+unfolding contents body_octets IsContent IsBody
+explicit_read n t c v d outer tag few apart enough e is =
+    let h = below d few in
+    let inner : octets_of (tagged t c) v ≡ short_tlv t d = spelled t c v d (omega (arith, h)) e in
+    let i = short_few t d tag h in
+    let within : IsValid (tagged t c) v = valid t c v d tag h e is in
+    is_read (context true n) (nested (only (tagged t c))) v (short_tlv t d) outer (omega (arith, i)) inner apart (enough 63)
+    (wide (context true n) (nested (only (tagged t c))) v (short_tlv t d) outer (omega (arith, i)) inner within)
+
+pub explicit_same : (n : ℕ) (t : Tag) (c : Content) (v : ContentValue c) (d : List ℕ) (r : Bool) → IsTag t → nat_lt (length d) 100 ≡ true
+    → r ≡ bytes_eq (contents c v) d → r ≡ bytes_eq (octets_of (explicit n (tagged t c)) v) (short_tlv (context true n) (short_tlv t d))
+unfolding contents body_octets
+explicit_same n t c v d r tag few e =
+    tagged_same t c v d r few e
+    ∙ same (context true n) (nested (only (tagged t c))) v (short_tlv t d) (omega (arith, short_few t d tag (below d few)))
+
+pub explicit_valid : (n : ℕ) (t : Tag) (c : Content) (v : ContentValue c) (d : List ℕ) (r : Bool) → IsTag (context true n) → IsTag t
+    → nat_lt (length d) 100 ≡ true → r ≡ bytes_eq (contents c v) d → (r ≡ true → IsContent c v) → r ≡ true → IsValid (explicit n (tagged t c)) v
+unfolding contents body_octets IsContent IsBody
+explicit_valid n t c v d r outer tag few e is h =
+    let w : contents c v ≡ d = (bytes_eq-Decides (contents c v) d).0 (sym e ∙ h) in
+    let b = below d few in
+    wide (context true n) (nested (only (tagged t c))) v (short_tlv t d) outer (omega (arith, short_few t d tag b)) (spelled t c v d (omega (arith, b)) w) (valid t c v d tag b w (is h))
+
+-- Whole numbers
+
+zero_byte : IsBytes (0 ∷ [])
+zero_byte zero = omega arith
+zero_byte (suc i) = omega arith
+
+zero_octets : integer_octets (pos 0) ≡ 0 ∷ []
+unfolding integer_of
+zero_octets = ap integer_octets (sym (ap pos (number-1 0))) ∙ integer_octets-of (0 ∷ []) zero_byte (omega arith) refl
+
+zero_alone : (z : ℤ) → integer_octets z ≡ 0 ∷ [] → z ≡ pos 0
+unfolding integer_of
+zero_alone z e = sym (integer_of-octets z) ∙ ap integer_of e
+
+pub zero_content : (r : Numbers) (z : ℤ) → z ≡ pos 0 → contents (leaf (integer r)) z ≡ 0 ∷ []
+unfolding contents
+zero_content r z e = ap integer_octets e ∙ zero_octets
+
+octets_alone : (r : Numbers) (z : ℤ) → contents (leaf (integer r)) z ≡ 0 ∷ [] → z ≡ pos 0
+unfolding contents
+octets_alone r z e = zero_alone z e
+
+positive_same : (r : Numbers) (n : ℕ) → nat_eq n 0 ≡ bytes_eq (contents (leaf (integer r)) (pos n)) (0 ∷ [])
+positive_same r n =
+    let octets = contents (leaf (integer r)) (pos n) in
+    same_from_decides (nat_eq n 0) (bytes_eq octets (0 ∷ [])) (Decides-eqb n 0)
+    (Decides-like (bytes_eq octets (0 ∷ [])) (λ e. cc (octets_alone r (pos n) e)) (λ e. zero_content r (pos n) (ap pos e)) (bytes_eq-Decides octets (0 ∷ [])))
+
+pub positive_zero : (r : Numbers) (z : ℤ) (negative : Bool) (n : ℕ) → z ≡ signed_number negative n → negative ≡ false
+    → nat_eq n 0 ≡ bytes_eq (contents (leaf (integer r)) z) (0 ∷ [])
+positive_zero r z false n e h = subst (λ (y : ℤ). nat_eq n 0 ≡ bytes_eq (contents (leaf (integer r)) y) (0 ∷ [])) (sym e) (positive_same r n)
+positive_zero r z true n e h = absurd (cc h)
+
+pub negative_zero : (r : Numbers) (z : ℤ) (negative : Bool) (n : ℕ) → z ≡ signed_number negative n → negative ≡ true
+    → not negative ≡ bytes_eq (contents (leaf (integer r)) z) (0 ∷ [])
+negative_zero r z false n e h = absurd (cc h)
+negative_zero r z true n e h =
+    let octets = contents (leaf (integer r)) z in
+    same_from_decides false (bytes_eq octets (0 ∷ [])) (λ h. absurd (cc h), λ p. absurd (cc (e, p)))
+    (Decides-like (bytes_eq octets (0 ∷ [])) (λ p. octets_alone r z p) (λ p. zero_content r z p) (bytes_eq-Decides octets (0 ∷ [])))

@@ -1,0 +1,51 @@
+//! Fields behind tags, from and for a row.
+
+ghost use Rattle.std.specs.Prelude.{◌≡◌};
+ghost use Rattle.der_core_head.specs.Grammar.{plain_option};
+
+use crate::tuples::EncodeRef;
+use crate::wrappers::{Explicit, Implicit, ImplicitRef};
+
+/// The value behind a tag that replaced its own.
+pub fn implicit_of<T, const N: u32>(field: Option<Implicit<T, N>>) -> Option<T>
+    ensures { result ≡ plain_option (λ f. f.value) field }
+{
+    match field {
+        Some(field) => Some(field.value),
+        None => None,
+    }
+}
+
+/// The value behind a tag before its own.
+pub fn explicit_of<T, const N: u32>(field: Option<Explicit<T, N>>) -> Option<T>
+    ensures { result ≡ plain_option (λ f. f.value) field }
+{
+    match field {
+        Some(field) => Some(field.value),
+        None => None,
+    }
+}
+
+/// The value, lent behind a tag that replaces its own.
+pub fn implicit_ref<'a, T, const N: u32>(value: &'a Option<T>) -> Option<ImplicitRef<'a, T, N>>
+    ensures { plain_option (λ r. r.value.now) result ≡ value.now }
+{
+    match value {
+        Some(value) => Some(ImplicitRef { value }),
+        None => None,
+    }
+}
+
+/// The value, lent behind a tag before its own.
+pub fn explicit_ref<'a, T, const N: u32>(
+    value: &'a Option<T>,
+) -> Option<Explicit<EncodeRef<'a, T>, N>>
+    ensures { plain_option (λ f. f.value.0.now) result ≡ value.now }
+{
+    match value {
+        Some(value) => Some(Explicit {
+            value: EncodeRef(value),
+        }),
+        None => None,
+    }
+}

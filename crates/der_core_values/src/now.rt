@@ -1,0 +1,32 @@
+//! Values whose contents are leaves, behind their tags.
+
+ghost use Rattle.std.specs.Prelude.{◌≡◌, false, IfErr, Err};
+ghost use Rattle.der_core_head.specs.Shapes.{leaf, tagged};
+ghost use Rattle.der_core_head.specs.Reading.{Reads, read_at};
+
+use crate::decode::FixedTag;
+use crate::leaves::{Leaf, decode_leaf};
+use der_core_head::Error;
+use der_core_octets::Reader;
+use std::alloc::Global;
+
+/// The value of the type's tag that stands next. After a refusal the reader has failed.
+///
+/// # Errors
+/// `TagUnexpected` for another tag; else the first fault from the left, or, of a type that takes memory,
+/// `OutOfMemory`; `Failed` where the reader failed before.
+#[tactic(auto, unfolding(der_core_head::specs::Grammar::tlv_at))]
+pub fn decode_leaf_of_tag<'a, R: Reader<'a>, T: Leaf<'a> + FixedTag>(
+    alloc: Global,
+    reader: &mut R,
+) -> Result<T, Error>
+    ensures reads { Reads T.leaf_plain (R.state reader.old) (R.state reader.new) result
+        (read_at (R.state reader.old) (tagged T.fixed_tag (leaf T.kind))) }
+    // Where the type takes no memory, it is the fault of the octets.
+    ensures fault { T.takes_memory ≡ false → IfErr result (λ e. (R.state reader.old).failed ≡ false
+        → read_at (R.state reader.old) (tagged T.fixed_tag (leaf T.kind)) (R.state reader.old).rest
+        ≡ Err e.kind) }
+{
+    let header = reader.read_header_of(T::tag())?;
+    decode_leaf(alloc, reader, header)
+}
