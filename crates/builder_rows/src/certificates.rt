@@ -7,9 +7,10 @@ use crate::words::{Words, extension_of, key_of, octets_of, time_of};
 use der_core::{from_der, to_der};
 use std::alloc::Global;
 use std::str::FromStr;
-use x509_cert_list_builders::types::{
-    Certificate, GeneralNames, Name, OctetString, SerialNumber, Validity,
+use x509_cert_list_builders::types::certificates::{
+    Certificate, Name, OctetString, SerialNumber, Validity,
 };
+use x509_cert_list_builders::types::general_names::GeneralNames;
 use x509_cert_list_builders::{
     BuilderProfile, CertificateBuilder, CertificateType, DevId, Root, Subordinate, Subscriber,
     Tls12Options, TpmVersion,

@@ -6,8 +6,9 @@ use const_oid::ObjectIdentifier;
 use rand_core::CryptoRng;
 use sha2::{Digest, Sha256};
 use std::alloc::Global;
-use x509_cert_list_builders::types::{
-    AlgorithmIdentifier, BitString, SubjectKeyIdentifier, SubjectPublicKeyInfo,
+use x509_cert_list_builders::types::SubjectKeyIdentifier;
+use x509_cert_list_builders::types::certificates::{
+    AlgorithmIdentifier, BitString, SubjectPublicKeyInfo,
 };
 use x509_cert_list_builders::{IdentifiedKey, SignError, Signer};
 

@@ -4,10 +4,11 @@ use crate::refusals::Refusal;
 use crate::words::key_of;
 use der_core::to_der;
 use std::alloc::Global;
-use x509_cert_list_builders::types::{
-    AlgorithmIdentifierRef, AuthorityKeyIdentifier, SubjectKeyIdentifier, SubjectPublicKeyInfo,
-    SubjectPublicKeyInfoRef, TryFromKey,
+use x509_cert_list_builders::types::certificates::{
+    AlgorithmIdentifierRef, SubjectPublicKeyInfo, SubjectPublicKeyInfoRef,
 };
+use x509_cert_list_builders::types::general_names::AuthorityKeyIdentifier;
+use x509_cert_list_builders::types::{SubjectKeyIdentifier, TryFromKey};
 
 /// The identifier of a key, and the encoding of the authority key identifier.
 pub fn answer(alloc: Global, word: &str) -> Result<String, Refusal> {

@@ -1,6 +1,7 @@
 -- A file of anchors, one trust anchor after the other.
 use Rattle.std.proofs.Common.{◌≡◌, ℕ, List, drop, Result, Ok, Err, refl, subst, sym}
 use Rattle.std.specs.Prelude.{IfOk, IfErr}
+use Rattle.der_core_head.specs.Limits.{levels_max}
 use Rattle.x509_cert.specs.Anchors.{PlainAnchor as PlainChoice}
 use Rattle.cert_desk_checking.specs.declared.anchor.Anchor.{Anchor}
 use Rattle.cert_desk_checking.specs.declared.status.AnchorFault.{AnchorFault}
@@ -15,7 +16,7 @@ use Rattle.cert_desk_checking.specs.Series.{IsUnambiguous, BeginsWith}
 use Rattle.cert_desk_checking.proofs.FileReading.{SoFar, begins_with, so_far-wrong}
 
 pub choices_told : IsUnambiguous raw_choice
-choices_told = record { room = 64; element = refl; apart = refl; enough = refl }
+choices_told = record { room = levels_max; element = refl; apart = refl; enough = refl }
 
 -- where it gives no anchor
 ungiven : (octets : List ℕ) (c : PlainChoice) (fault : AnchorFault) → BeginsWith raw_choice c octets → UngivenFor c fault → IsFaulty fault octets

@@ -4,19 +4,19 @@ use Rattle.std.proofs.lemmas.Bool.{cases_lt}
 use Rattle.std.specs.Int.Digits.{number_from_digits, AllBelowBase}
 use Rattle.const_oid.proofs.DigitLaws.{split-same_length}
 use Rattle.der_core_head.specs.Heads.{length_octets}
-use Rattle.cert_desk_checking.specs.Faults.{IsLength, spelled_length}
+use Rattle.cert_desk_checking.specs.Faults.{IsLengthOctets, spelled_length}
 use Rattle.der_core_head.proofs.LengthForms.{length-short, length-1, length-2, length-3, length-4}
 
 -- the first octet of a length
-pub IsLength-first : (ls w v : List ℕ) (n : ℕ) → IsLength ls → ls ++ w ≡ n ∷ v → (n < 128) ⊎ ((128 < n) × (n < 133))
-IsLength-first [] w v n h e = elim h [ ]
-IsLength-first (m ∷ []) w v n h e =
+pub IsLengthOctets-first : (ls w v : List ℕ) (n : ℕ) → IsLengthOctets ls → ls ++ w ≡ n ∷ v → (n < 128) ⊎ ((128 < n) × (n < 133))
+IsLengthOctets-first [] w v n h e = elim h [ ]
+IsLengthOctets-first (m ∷ []) w v n h e =
     let same : m ≡ n = ap (λ (l : List ℕ). get_or l 0 0) e in inl (omega arith)
-IsLength-first (m ∷ d ∷ ds) w v n h e =
+IsLengthOctets-first (m ∷ d ∷ ds) w v n h e =
     let same : m ≡ n = ap (λ (l : List ℕ). get_or l 0 0) e in inr (omega arith, omega arith)
 
 -- no length begins another
-pub same_length : (ls ks w v : List ℕ) → IsLength ls → IsLength ks → ls ++ w ≡ ks ++ v → (ls ≡ ks) × (w ≡ v)
+pub same_length : (ls ks w v : List ℕ) → IsLengthOctets ls → IsLengthOctets ks → ls ++ w ≡ ks ++ v → (ls ≡ ks) × (w ≡ v)
 same_length [] ks w v h k e = elim h [ ]
 same_length (m ∷ ls) [] w v h k e = elim k [ ]
 same_length (m ∷ []) (n ∷ []) w v h k e = split-same_length (m ∷ []) (n ∷ []) w v refl e
@@ -30,7 +30,7 @@ same_length (m ∷ d ∷ ds) (n ∷ b ∷ bs) w v h k e =
 
 -- the shortest form of a number is a length, and spells it
 pub record IsForm (n : ℕ) (ls : List ℕ) : Type 0 where
-  pub length : IsLength ls
+  pub length : IsLengthOctets ls
   pub number : spelled_length ls ≡ n
 
 pub length_octets-form : (n : ℕ) → n < 2 ^ 32 → IsForm n (length_octets n)

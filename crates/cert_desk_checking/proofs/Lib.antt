@@ -32,3 +32,4 @@ pub mod RunLaws
 pub mod AnchorLaws
 pub mod OneAnchorFile
 pub mod SameNames
+pub use Rattle.x509_cert.proofs.Names

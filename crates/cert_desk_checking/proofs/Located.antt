@@ -3,7 +3,7 @@ use Rattle.std.proofs.Common.{◌≡◌, ◌≢◌, ℕ, zero, suc, ◌+◌, ◌
 use Rattle.std.proofs.lemmas.List.{take_at, drop_at, take-append-le, drop-drop, take-map, map-append, map_push, length-map}
 use Rattle.std.specs.List.{AllByRecursion}
 use Rattle.der_core_head.specs.declared.tag.Tag.TheVariants as tags
-use Rattle.der_core_head.specs.Heads.{length_octets, head_octets, tlv}
+use Rattle.der_core_head.specs.Heads.{length_octets, head_octets, tlv, Fits}
 use Rattle.der_core_head.specs.Shapes.{Body, IsValid, IsContent, IsBody, Spells, octets_of, body_octets, contents, sequence}
 use Rattle.x509_cert.specs.Certificates.{PlainCertificate, raw_certificate, raw_certificate_fields, raw_tbs_certificate, raw_tbs_fields, algorithm_identifier, bit_string, certificate_octets, tbs, signed_start, signed_length}
 use Rattle.x509_cert.specs.Views.{arc_bound}
@@ -33,7 +33,7 @@ pub record Parts (bound : ℕ) (c : PlainCertificate) : Type 0 where
   pub start_is : signed_start bound c ≡ length (head_octets tags.Sequence number)
   pub more : List ℕ
   pub tbs_body : List ℕ
-  pub small : length tbs_body < 2 ^ 32
+  pub small : Fits tbs_body
   pub signed : octets_of (raw_tbs_certificate bound) (tbs c) ≡ head_octets tags.Sequence (length tbs_body) ++ tbs_body
   pub octets : certificate_octets bound c ≡ head_octets tags.Sequence number ++ (octets_of (raw_tbs_certificate bound) (tbs c) ++ more)
 

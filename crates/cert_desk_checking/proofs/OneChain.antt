@@ -1,5 +1,6 @@
 -- A stream joins one list of certificates at most, and has one fault at most.
 use Rattle.std.proofs.Common.{◌≡◌, ℕ, List, refl}
+use Rattle.der_core_head.specs.Limits.{levels_max}
 use Rattle.x509_cert.specs.Certificates.{PlainCertificate, raw_certificate}
 use Rattle.cert_desk_checking.specs.declared.fault_kind.FaultKind.{FaultKind}
 use Rattle.cert_desk_checking.specs.Chains.{Chain}
@@ -8,7 +9,7 @@ use Rattle.cert_desk_checking.specs.Series.{IsUnambiguous}
 use Rattle.cert_desk_checking.proofs.SeriesLaws.{one_series, fault_no_series, one_series_fault}
 
 pub certificates_told : (bound : ℕ) → IsUnambiguous (raw_certificate bound)
-certificates_told bound = record { room = 64; element = refl; apart = refl; enough = refl }
+certificates_told bound = record { room = levels_max; element = refl; apart = refl; enough = refl }
 
 pub one_chain : (bound limit : ℕ) (cs ds : List PlainCertificate) (stream : List ℕ) → Chain bound limit cs stream → Chain bound limit ds stream → cs ≡ ds
 one_chain bound limit cs ds stream p q = one_series (raw_certificate bound) limit (certificates_told bound) cs ds stream p q

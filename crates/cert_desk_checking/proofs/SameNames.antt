@@ -10,10 +10,10 @@ use Rattle.der_core_head.specs.Heads.{tlv}
 use Rattle.der_core_head.specs.Shapes.{octets_of, contents, body_octets}
 use Rattle.der_core_head.specs.Tags.{leading_octet, number_of}
 use Rattle.der_core_head.specs.declared.tag.Tag.TheVariants as tags
-use Rattle.x509_cert_names.specs.Names.{type_and_value, relative_name, name_octets}
-use Rattle.x509_cert_names.specs.Pairs.{arc_bound, same_pair, relative_plain}
-use Rattle.x509_cert_names.specs.declared.attribute_type_and_value.AttributeTypeAndValue.{AttributeTypeAndValue}
-use Rattle.x509_cert_names.proofs.Distinct.{same_octets}
+use Rattle.x509_cert.specs.Names.Names.{type_and_value, relative_name, name_octets}
+use Rattle.x509_cert.specs.Names.Pairs.{arc_bound, same_pair, relative_plain}
+use Rattle.x509_cert.specs.Names.declared.attribute_type_and_value.AttributeTypeAndValue.{AttributeTypeAndValue}
+use Rattle.x509_cert.proofs.Names.Distinct.{same_octets}
 use Rattle.cert_desk_checking.specs.SameNames.{same_attribute}
 
 in_turn : (a b c d : Bool) → (a && (b && (c && d))) ≡ (a && ((b && c) && d))

@@ -5,16 +5,16 @@ use Rattle.std.specs.Int.Digits.{number_from_digits, AllBelowBase}
 use Rattle.const_oid.proofs.DigitLaws.{split-same_length}
 use Rattle.der_core_head.specs.declared.tag.Tag.TheVariants as tags
 use Rattle.der_core_head.specs.Tags.{tag_octets}
-use Rattle.der_core_head.specs.Heads.{length_octets, head_octets, tlv}
+use Rattle.der_core_head.specs.Heads.{length_octets, head_octets, tlv, Fits}
 use Rattle.der_core_head.specs.Shapes.{Shape, Body, Value, sequence, IsValid, octets_of, body_octets, contents}
 use Rattle.der_core_head.proofs.Bytes.{IsBytes, bytes_take, bytes_drop, octets_are}
 use Rattle.cert_desk_checking.specs.declared.fault_kind.FaultKind.{FaultKind}
 use Rattle.cert_desk_checking.specs.declared.fault_kind.FaultKind.TheVariants as kinds
 use Rattle.cert_desk_checking.specs.Series.{MayStand}
-use Rattle.cert_desk_checking.specs.Faults.{IsLength, spelled_length, whole_length, Says, rank, NoneBefore, IsFault}
+use Rattle.cert_desk_checking.specs.Faults.{IsLengthOctets, spelled_length, whole_length, Says, rank, NoneBefore, IsFault}
 use Rattle.cert_desk_checking.specs.Headers.{IsCut, LengthFault, HasLength, IsUnfinished, HasWhole}
 use Rattle.der_core_head.proofs.LengthForms.{length-short}
-use Rattle.cert_desk_checking.proofs.Lengths.{IsLength-first, same_length, IsForm, length_octets-form, Least, shortest-from, longer-below}
+use Rattle.cert_desk_checking.proofs.Lengths.{IsLengthOctets-first, same_length, IsForm, length_octets-form, Least, shortest-from, longer-below}
 
 -- Lengths
 
@@ -24,9 +24,9 @@ length_at-short (a ∷ v) n l h e =
     let form : length_octets n ≡ a ∷ [] = length-short n (omega arith) ∙ ap (λ (x : ℕ). x ∷ []) e in
     record { more = v; small = omega arith; begins = rw form refl; count_is = rw form refl }
 
-IsLength-long : (m : ℕ) (ds : List ℕ) → 0 < length ds → length ds < 5 → m ≡ 128 + length ds → IsLength (m ∷ ds) × (spelled_length (m ∷ ds) ≡ number_from_digits 256 ds)
-IsLength-long m [] p q e = absurd (omega arith)
-IsLength-long m (d ∷ ds) p q e = ((omega arith, omega arith), refl)
+IsLengthOctets-long : (m : ℕ) (ds : List ℕ) → 0 < length ds → length ds < 5 → m ≡ 128 + length ds → IsLengthOctets (m ∷ ds) × (spelled_length (m ∷ ds) ≡ number_from_digits 256 ds)
+IsLengthOctets-long m [] p q e = absurd (omega arith)
+IsLengthOctets-long m (d ∷ ds) p q e = ((omega arith, omega arith), refl)
 
 -- octets that announce digits, all of them there
 record Announces (s : List ℕ) (count number : ℕ) (digits : List ℕ) : Type 0 where
@@ -55,7 +55,7 @@ pub length_at-longer : (s : List ℕ) (count number least : ℕ) → 1 ≤ lengt
 length_at-longer s count number least l m h e p n least_is small below =
     let ds = take count (drop 1 s) in
     let a = announces s count number l m h e p n in
-    let form = IsLength-long (128 + length ds) ds a.some a.few refl in
+    let form = IsLengthOctets-long (128 + length ds) ds a.some a.few refl in
     let least_of : Least (length ds) least = subst (λ (x : ℕ). Least x least) a.counted least_is in (
       (128 + length ds) ∷ ds,
       drop count (drop 1 s),
@@ -149,14 +149,14 @@ not_other fields limit offset v s = s.3 (sym (ap (λ (l : List ℕ). get_or l 0 
 
 module _ (fields : Body) (limit offset : ℕ) (v : List ℕ) where
   -- where a length stands
-  module _ (ls w : List ℕ) (l : IsLength ls) (e : v ≡ ls ++ w) where
+  module _ (ls w : List ℕ) (l : IsLengthOctets ls) (e : v ≡ ls ++ w) where
     pub not_indefinite : Says (sequence fields) limit offset kinds.Indefinite (0x30 ∷ v) → ⊥
     not_indefinite s =
-        elim (IsLength-first ls w s.0 128 l (sym e ∙ tail_is v (128 ∷ s.0) s.1)) [ inl h ↦ omega arith | inr h ↦ omega arith ]
+        elim (IsLengthOctets-first ls w s.0 128 l (sym e ∙ tail_is v (128 ∷ s.0) s.1)) [ inl h ↦ omega arith | inr h ↦ omega arith ]
 
     pub not_wide : Says (sequence fields) limit offset kinds.LengthTooWide (0x30 ∷ v) → ⊥
     not_wide s =
-        elim (IsLength-first ls w s.1 s.0 l (sym e ∙ tail_is v (s.0 ∷ s.1) s.2)) [ inl h ↦ omega arith | inr h ↦ omega arith ]
+        elim (IsLengthOctets-first ls w s.1 s.0 l (sym e ∙ tail_is v (s.0 ∷ s.1) s.2)) [ inl h ↦ omega arith | inr h ↦ omega arith ]
 
     pub not_longer : ls ≡ length_octets (spelled_length ls) → Says (sequence fields) limit offset kinds.LengthNotShortest (0x30 ∷ v) → ⊥
     not_longer shortest s =
@@ -192,7 +192,7 @@ module _ (fields : Body) (limit offset : ℕ) (v : List ℕ) where
 -- The octets of a value: a header and its content
 pub record IsSequence (octets : List ℕ) : Type 0 where
   pub body : List ℕ
-  pub small : length body < 2 ^ 32
+  pub small : Fits body
   pub octets_are : octets ≡ head_octets tags.Sequence (length body) ++ body
 
 pub value-sequence : (fields : Body) (c : Value (sequence fields)) → IsValid (sequence fields) c → IsSequence (octets_of (sequence fields) c)
@@ -278,7 +278,7 @@ module _ (fields : Body) (limit offset : ℕ) where
         (λ h s. absurd (omega arith)) (λ h s. absurd (omega arith)) (λ h s. absurd (omega arith)) (λ h s. absurd (omega arith));
   }
 
-  pub fault_longer : (v ls w : List ℕ) → v ≡ ls ++ w → IsLength ls → ls ≢ length_octets (spelled_length ls) → IsFault (sequence fields) limit offset kinds.LengthNotShortest (0x30 ∷ v)
+  pub fault_longer : (v ls w : List ℕ) → v ≡ ls ++ w → IsLengthOctets ls → ls ≢ length_octets (spelled_length ls) → IsFault (sequence fields) limit offset kinds.LengthNotShortest (0x30 ∷ v)
   fault_longer v ls w e l ne = record {
     says = (ls, w, ap (λ (x : List ℕ). 0x30 ∷ x) e, l, ne);
     first = NoneBefore-by fields limit offset kinds.LengthNotShortest (0x30 ∷ v) (λ h. not_other fields limit offset v)
@@ -426,9 +426,9 @@ sequence_not_cut s w m small e cut = cut.none (length_octets m) w (length_octets
 pub sequence_not_refused : (s w : List ℕ) (m : ℕ) (kind : FaultKind) → m < 2 ^ 32 → s ≡ head_octets tags.Sequence m ++ w → LengthFault kind (drop 1 s) → ⊥
 sequence_not_refused s w m kinds.NoCertificate small e f = f
 sequence_not_refused s w m kinds.Indefinite small e f =
-    elim (IsLength-first (length_octets m) w f.0 128 (length_octets-form m small).length (sym (sequence_v s w m e) ∙ f.1)) [ inl h ↦ omega arith | inr h ↦ omega arith ]
+    elim (IsLengthOctets-first (length_octets m) w f.0 128 (length_octets-form m small).length (sym (sequence_v s w m e) ∙ f.1)) [ inl h ↦ omega arith | inr h ↦ omega arith ]
 sequence_not_refused s w m kinds.LengthTooWide small e f =
-    elim (IsLength-first (length_octets m) w f.1 f.0 (length_octets-form m small).length (sym (sequence_v s w m e) ∙ f.2)) [ inl h ↦ omega arith | inr h ↦ omega arith ]
+    elim (IsLengthOctets-first (length_octets m) w f.1 f.0 (length_octets-form m small).length (sym (sequence_v s w m e) ∙ f.2)) [ inl h ↦ omega arith | inr h ↦ omega arith ]
 sequence_not_refused s w m kinds.LengthNotShortest small e f =
     let form = length_octets-form m small in
     let same = (same_length (length_octets m) f.0 w f.1 form.length f.3 (sym (sequence_v s w m e) ∙ f.2)).0 in

@@ -4,7 +4,7 @@ use Rattle.std.proofs.lemmas.Bool.{cases_lt}
 use Rattle.std.proofs.lemmas.Grind.{flat_map-append}
 use Rattle.std.specs.List.{AllByRecursion}
 use Rattle.der_core_head.specs.Shapes.{Shape, Value, octets_of, IsValid}
-use Rattle.der_core_head.proofs.AllOctets.{one_value}
+use Rattle.der_core_head.proofs.OneEncoding.{one_value}
 use Rattle.der_core_head.proofs.Complete.{element_some}
 use Rattle.cert_desk_checking.specs.declared.fault_kind.FaultKind.{FaultKind}
 use Rattle.cert_desk_checking.specs.declared.fault_kind.FaultKind.TheVariants as kinds
@@ -48,7 +48,7 @@ module _ (s : Shape) (u : IsUnambiguous s) where
 
   -- octets begin with one value
   pub one_first : (v w : Value s) (r t : List ℕ) → IsValid s v → IsValid s w → octets_of s v ++ r ≡ octets_of s w ++ t → (v ≡ w) × (r ≡ t)
-  one_first v w r t p q e = one_value s u.room v w r t u.element u.apart u.enough p q e
+  one_first v w r t p q e = one_value s v w r t u.element u.apart p q e
 
   -- one list goes on from the other, by what is left behind the other
   record GoesOn (vs ws : List (Value s)) (r t : List ℕ) : Type 0 where

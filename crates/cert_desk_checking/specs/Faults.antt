@@ -11,10 +11,10 @@ use Rattle.cert_desk_checking.specs.declared.fault_kind.FaultKind.TheVariants as
 use Rattle.cert_desk_checking.specs.Series.{SeriesSplit, encodings}
 
 -- The octets of a length, shortest or not: one below 128, or 128 + k and k digits in base 256, k from 1 to 4.
-abbrev pub IsLength : List ℕ → Type 0
-IsLength [] = ⊥
-IsLength (n ∷ []) = n < 128
-IsLength (n ∷ d ∷ ds) = (n ≡ 129 + length ds) × (length ds < 4)
+abbrev pub IsLengthOctets : List ℕ → Type 0
+IsLengthOctets [] = ⊥
+IsLengthOctets (n ∷ []) = n < 128
+IsLengthOctets (n ∷ d ∷ ds) = (n ≡ 129 + length ds) × (length ds < 4)
 
 -- the number that they spell
 abbrev pub spelled_length : List ℕ → ℕ
@@ -32,7 +32,7 @@ Says s limit offset kinds.NoCertificate rest = (b : ℕ) × (w : List ℕ) × (r
 Says s limit offset kinds.Indefinite rest = (w : List ℕ) × (rest ≡ 0x30 ∷ 0x80 ∷ w)
 Says s limit offset kinds.LengthTooWide rest = (n : ℕ) × (w : List ℕ) × (rest ≡ 0x30 ∷ n ∷ w) × (0x85 ≤ n)
 Says s limit offset kinds.LengthNotShortest rest =
-    (ls : List ℕ) × (w : List ℕ) × (rest ≡ 0x30 ∷ (ls ++ w)) × IsLength ls × (ls ≢ length_octets (spelled_length ls))
+    (ls : List ℕ) × (w : List ℕ) × (rest ≡ 0x30 ∷ (ls ++ w)) × IsLengthOctets ls × (ls ≢ length_octets (spelled_length ls))
 Says s limit offset kinds.TooLarge rest =
     (n : ℕ) × (w : List ℕ) × (n < 2 ^ 32) × (rest ≡ head_octets tags.Sequence n ++ w)
     × ((limit < whole_length n) ⊎ (2 ^ 64 ≤ offset + whole_length n))

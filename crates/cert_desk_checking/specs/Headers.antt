@@ -10,11 +10,11 @@ use Rattle.cert_desk_checking.specs.declared.scan.LengthAt.TheVariants as length
 use Rattle.cert_desk_checking.specs.declared.scan.Scan.{Scan}
 use Rattle.cert_desk_checking.specs.declared.scan.Scan.TheVariants as scans
 use Rattle.cert_desk_checking.specs.Series.{MayStand}
-use Rattle.cert_desk_checking.specs.Faults.{IsLength, spelled_length, whole_length, IsFault, NoneBefore}
+use Rattle.cert_desk_checking.specs.Faults.{IsLengthOctets, spelled_length, whole_length, IsFault, NoneBefore}
 
 -- No length begins these octets, and the first one announces one of one to four digits.
 pub record IsCut (octets : List ℕ) : Type 0 where
-  pub none : (ls w : List ℕ) → IsLength ls → octets ≡ ls ++ w → ⊥
+  pub none : (ls w : List ℕ) → IsLengthOctets ls → octets ≡ ls ++ w → ⊥
   pub announced : (n : ℕ) (w : List ℕ) → octets ≡ n ∷ w → (128 < n) × (n < 133)
 
 -- what is wrong with the length with which these octets begin
@@ -23,7 +23,7 @@ LengthFault kinds.NoCertificate octets = ⊥
 LengthFault kinds.Indefinite octets = (w : List ℕ) × (octets ≡ 0x80 ∷ w)
 LengthFault kinds.LengthTooWide octets = (n : ℕ) × (w : List ℕ) × (octets ≡ n ∷ w) × (0x85 ≤ n)
 LengthFault kinds.LengthNotShortest octets =
-    (ls : List ℕ) × (w : List ℕ) × (octets ≡ ls ++ w) × IsLength ls × (ls ≢ length_octets (spelled_length ls))
+    (ls : List ℕ) × (w : List ℕ) × (octets ≡ ls ++ w) × IsLengthOctets ls × (ls ≢ length_octets (spelled_length ls))
 LengthFault kinds.TooLarge octets = ⊥
 LengthFault kinds.Malformed octets = ⊥
 LengthFault kinds.Truncated octets = ⊥

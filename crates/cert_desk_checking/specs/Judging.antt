@@ -6,7 +6,7 @@ use Rattle.const_oid.specs.Comparing.{owned_eq}
 use Rattle.der_core_head.specs.BitStrings.{Bits}
 use Rattle.der_core_head.specs.Shapes.{octets_of}
 use Rattle.x509_cert.specs.Certificates.{PlainCertificate, PlainExtension, PlainName, PublicKey, Algorithm, algorithm_identifier, outer_algorithm, inner_algorithm, signature_bits, issuer, subject, not_before, not_after, public_key, extensions_of, extension_arcs, name_octets, signed_start, signed_length}
-use Rattle.der_types_time.specs.Seconds.{unix_seconds}
+use Rattle.x509_cert.specs.Names.TimeTypes.Seconds.{unix_seconds}
 use Rattle.cert_desk_checking.specs.declared.rule.Rule.{Rule}
 use Rattle.cert_desk_checking.specs.declared.rule.Rule.TheVariants as rules
 use Rattle.cert_desk_checking.specs.Chains.{offset_at}

@@ -31,3 +31,4 @@ pub mod Reading
 pub mod Runs
 pub mod Certificates
 pub mod SameNames
+pub use Rattle.x509_cert.specs.Names

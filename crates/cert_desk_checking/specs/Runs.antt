@@ -1,5 +1,6 @@
 -- What a run finds in its inputs, and what it tells.
 use Rattle.std.specs.Prelude.{◌≡◌, ℕ, ◌<◌, ◌^◌, ◌⊎◌, List, length}
+use Rattle.der_core_head.specs.Heads.{Fits}
 use Rattle.cert_desk_io.specs.Devices.{Rose, GivesBeginning}
 use Rattle.x509_cert.specs.Views.{arc_bound}
 use Rattle.cert_desk_checking.specs.declared.checked.Verdict.{Verdict}
@@ -19,12 +20,12 @@ use Rattle.cert_desk_checking.specs.Verdicts.{IsVerdict, IsCounted}
 -- An input gave these anchors, to its end, and no read failed.
 abbrev pub HasAnchors : {A : Type 0} → (A → List ℕ → A → Type 0) → (A → Type 0) → (A → ℕ) → A → A → List PlainAnchor → Type 0
 HasAnchors takes is_ended failures old new anchors =
-    (octets : List ℕ) × takes old octets new × (length octets < 2 ^ 32) × IsAnchorFile octets anchors × is_ended new × Stayed (failures old) (failures new)
+    (octets : List ℕ) × takes old octets new × Fits octets × IsAnchorFile octets anchors × is_ended new × Stayed (failures old) (failures new)
 
 -- One of the anchors is faulty, and the input has ended; or there is one octet more than anchors may have, and no more was taken.
 abbrev pub AreFaulty : List ℕ → ℕ → AnchorFault → Type 0 → Type 0
 AreFaulty octets offset fault ended =
-    ((length octets < 2 ^ 32) × HasFirstFault octets offset fault × ended)
+    (Fits octets × HasFirstFault octets offset fault × ended)
     ⊎ ((length octets ≡ 2 ^ 32) × (offset ≡ 0) × (fault ≡ faults.Malformed))
 
 -- what has to be read for a verdict: to the end, but for a fault that is told before

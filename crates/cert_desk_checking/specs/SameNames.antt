@@ -2,7 +2,7 @@
 use Rattle.std.specs.Prelude.{Bool, ◌&&◌, bytes_eq}
 use Rattle.const_oid.specs.Comparing.{owned_eq}
 use Rattle.der_core_head.specs.Tags.{same_tag}
-use Rattle.x509_cert_names.specs.declared.attribute_type_and_value.AttributeTypeAndValue.{AttributeTypeAndValue}
+use Rattle.x509_cert.specs.Names.declared.attribute_type_and_value.AttributeTypeAndValue.{AttributeTypeAndValue}
 
 -- type, tag and content
 abbrev pub same_attribute : AttributeTypeAndValue → AttributeTypeAndValue → Bool

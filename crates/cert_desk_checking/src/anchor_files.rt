@@ -1,5 +1,6 @@
 //! Files of anchors.
 ghost use Rattle.std.specs.Prelude.{◌≡◌, ◌<◌, ◌^◌, length, map, IfOk, IfErr};
+ghost use Rattle.der_core_head.specs.Heads.{Fits};
 ghost use Rattle.x509_cert.specs.Anchors.{trust_anchor_plain};
 ghost use Rattle.cert_desk_checking.specs.Anchors.{anchor_plain, given_by};
 ghost use Rattle.cert_desk_checking.specs.AnchorFiles.{IsAnchorFile};
@@ -30,7 +31,7 @@ fn choice_at(
     start: usize,
 ) -> Result<(TrustAnchorChoice<Raw>, usize), Outcome>
     requires some { start < length octets.now }
-    requires short { length octets.now < 2 ^ 32 }
+    requires short { Fits octets.now }
     ensures stands { IfOk result (λ p. StandsAt octets.now start p.1 (trust_anchor_plain p.0)) }
     ensures none { IfErr result (GivesNone octets.now start) }
 {
@@ -67,7 +68,7 @@ fn given(
 // The anchor that is given at the start, and where the next one begins.
 fn anchor_at(alloc: Global, octets: &[u8], start: usize) -> Result<(Anchor, usize), Outcome>
     requires some { start < length octets.now }
-    requires short { length octets.now < 2 ^ 32 }
+    requires short { Fits octets.now }
     ensures given { IfOk result (λ p. GivesAt octets.now start p.1 (anchor_plain p.0)) }
     ensures none { IfErr result (GivesNone octets.now start) }
 {
@@ -79,7 +80,7 @@ fn anchor_at(alloc: Global, octets: &[u8], start: usize) -> Result<(Anchor, usiz
 
 // The anchors that the trust anchors of a file give, or why there are none.
 pub(crate) fn anchors_in(alloc: Global, octets: &[u8]) -> Result<Vec<Anchor>, Outcome>
-    requires { length octets.now < 2 ^ 32 }
+    requires { Fits octets.now }
     ensures read { IfOk result (λ anchors. IsAnchorFile octets.now (map anchor_plain anchors.items)) }
     ensures refused { IfErr result (IsNoAnchorFile octets.now) }
 {

@@ -3,7 +3,7 @@ ghost use Rattle.std.specs.Prelude.{◌≡◌, ◌≢◌, ℕ, ◌+◌, ◌<◌,
 ghost use Rattle.std.specs.List.{list_any};
 ghost use Rattle.std.specs.Option.{is_some};
 ghost use Rattle.der_core_head.specs.Shapes.{IsValid};
-ghost use Rattle.der_types_time.specs.Seconds.{unix_seconds};
+ghost use Rattle.x509_cert.specs.Names.TimeTypes.Seconds.{unix_seconds};
 ghost use Rattle.x509_cert.specs.Views.{arc_bound, certificate_plain, key_plain, name_plain};
 ghost use Rattle.x509_cert.specs.Certificates.{issuer, not_before, not_after, raw_certificate};
 ghost use Rattle.cert_desk_checking.specs.declared.fault_kind.FaultKind.{FaultKind};

@@ -1,5 +1,6 @@
 -- A stream that was issued is judged under its own root.
 use Rattle.std.proofs.Common.{◌≡◌, ◌≢◌, ℕ, ◌-◌, ◌^◌, ◌<◌, List, [], ◌∷◌, ◌++◌, length, map, Some, slice_get, refl, sym, ap, ◌∙◌, subst, arith}
+use Rattle.der_core_head.specs.Limits.{length_max}
 use Rattle.cert_desk_checking.specs.Certificates.{PlainCertificate, PlainName, PublicKey, public_key}
 use Rattle.cert_desk_checking.specs.Views.{arc_bound}
 use Rattle.cert_desk_checking.specs.declared.bundle_error.BundleError.{BundleError}
@@ -65,7 +66,7 @@ abbrev anchor_alone : PlainName → PublicKey → List PlainAnchor
 anchor_alone name key = record { name = name; key = key } ∷ []
 
 -- the anchor is that of the root's order
-module _ (root : PlainOrder) (below : List PlainOrder) (cs own : List PlainCertificate) (stream : List ℕ) (h : HoldsOrders (root ∷ below) cs stream) (chain : Chain arc_bound (2 ^ 32 - 1) own stream) where
+module _ (root : PlainOrder) (below : List PlainOrder) (cs own : List PlainCertificate) (stream : List ℕ) (h : HoldsOrders (root ∷ below) cs stream) (chain : Chain arc_bound length_max own stream) where
   first_anchor : (ds : List PlainCertificate) → (c : PlainCertificate) → slice_get ds 0 ≡ Some c → root_anchors ds ≡ root_anchor c ∷ []
   first_anchor [] c e = absurd cc
   first_anchor (d ∷ ds) c e = ap (λ x. root_anchor x ∷ []) (some_same d c e)
@@ -77,7 +78,7 @@ module _ (root : PlainOrder) (below : List PlainOrder) (cs own : List PlainCerti
       let first : here.order ≡ root = some_same here.order root (sym here.order_is) in
       let named = subject_is (root ∷ below) cs 0 here ∙ ap (λ (p : PlainOrder). p.subject) first in
       let keyed = key_is (root ∷ below) cs 0 here ∙ ap (λ (p : PlainOrder). p.key) first in
-      ap root_anchors (one_chain arc_bound (2 ^ 32 - 1) own cs stream chain h.chain)
+      ap root_anchors (one_chain arc_bound length_max own cs stream chain h.chain)
       ∙ first_anchor cs here.certificate here.certificate_is
       ∙ ap (λ (n : PlainName). anchor_alone n (public_key here.certificate)) named
       ∙ ap (λ (k : PublicKey). anchor_alone root.subject k) keyed

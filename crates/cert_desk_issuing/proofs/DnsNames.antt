@@ -4,6 +4,7 @@ use Rattle.std.specs.Prelude.{nat_lt, if◌then◌else◌}
 use Rattle.std.specs.List.{AllByRecursion}
 use Rattle.std.proofs.lemmas.Bool.{le-ltb}
 use Rattle.std.proofs.lemmas.Option.{same_Some}
+use Rattle.der_core_head.specs.Limits.{length_max}
 use Rattle.der_core_head.proofs.Fits.{fits_contents}
 use Rattle.der_core_head.specs.declared.error.ErrorKind.{ErrorKind}
 use Rattle.der_core_head.specs.declared.error.ErrorKind.TheVariants as kinds
@@ -18,13 +19,13 @@ use Rattle.cert_desk_issuing.specs.Ordered.{dns_name, dns_names}
 
 -- what is read of octets as text in ASCII, where a length can count them
 abbrev pub read_within : List ℕ → Result (List ℕ) ErrorKind
-read_within w = if nat_lt 4294967295 (length w) then Err kinds.Overflow else text_read ascii tags.Ia5String w
+read_within w = if nat_lt length_max (length w) then Err kinds.Overflow else text_read ascii tags.Ia5String w
 
 text_valid : (text : List ℕ) → IsValid (general_name arc_bound) (dns_name text) → read_within text ≡ Ok text
 unfolding IsValid IsContent contents text_read
 text_valid text v =
     let fits : Fits text = fits_contents (context false 2) text v.2 in
-    rw (le-ltb 4294967295 (length text) (omega (arith, fits)), v.0.within) refl
+    rw (le-ltb length_max (length text) (omega (arith, fits)), v.0.within) refl
 
 valid_at : (texts : List (List ℕ)) (i : ℕ) (text : List ℕ) → slice_get texts i ≡ Some text → AllByRecursion (λ n. IsValid (general_name arc_bound) n) (dns_names texts) → IsValid (general_name arc_bound) (dns_name text)
 valid_at [] i text e h = absurd cc

@@ -1,7 +1,8 @@
 -- Which rules a chain that holds orders can break, and where.
 use Rattle.std.proofs.Common.{◌≡◌, ◌⊎◌, ℕ, zero, suc, ◌+◌, ◌-◌, ◌<◌, ◌≤◌, ◌^◌, List, ◌∷◌, length, Bool, true, false, not, ◌&&◌, ◌||◌, Some, slice_get, refl, sym, ap, ◌∙◌, subst, arith, inl, inr}
 use Rattle.std.proofs.lemmas.Bool.{both_ways, leb-false}
-use Rattle.der_types_time.specs.Seconds.{unix_seconds}
+use Rattle.der_core_head.specs.Limits.{length_max}
+use Rattle.cert_desk_checking.specs.Names.TimeTypes.Seconds.{unix_seconds}
 use Rattle.cert_desk_checking.specs.Certificates.{PlainCertificate}
 use Rattle.cert_desk_checking.specs.Views.{arc_bound}
 use Rattle.cert_desk_checking.specs.declared.rule.Rule.{Rule}
@@ -86,8 +87,8 @@ module _ (root : PlainOrder) (below : List PlainOrder) (cs : List PlainCertifica
 
 pub held_is_refused_for : HeldIsRefusedFor
 held_is_refused_for root below cs stream limit moment purpose answers place rule h r =
-    let most = limit + (2 ^ 32 - 1) in
-    let same = one_chain arc_bound most r.certificates cs stream (wider_chain limit most r.certificates stream (omega arith) r.chain) (wider_chain (2 ^ 32 - 1) most cs stream (omega arith) h.chain) in
+    let most = limit + length_max in
+    let same = one_chain arc_bound most r.certificates cs stream (wider_chain limit most r.certificates stream (omega arith) r.chain) (wider_chain length_max most cs stream (omega arith) h.chain) in
     breaks root below cs stream moment purpose answers h rule place
     (subst (λ ds. place < length ds) same r.within)
     (subst (λ ds. keeps_at rule (terms_for root moment purpose answers) ds stream place ≡ false) same r.broken)

@@ -7,6 +7,7 @@ use Rattle.const_oid.specs.IdentifierOctets.{identifier_octets, arc_octets, IsId
 use Rattle.const_oid.specs.Digits.{digits, digits_within, marked}
 use Rattle.const_oid.specs.Bound.{Bound}
 use Rattle.const_oid.proofs.DigitLaws.{digits-one}
+use Rattle.der_core_head.specs.Limits.{levels_max}
 use Rattle.der_core_head.proofs.AllOctets.{whole_again}
 use Rattle.der_core_head.proofs.Fits.{fits_front, fits_rest, fits_contents}
 use Rattle.der_core_head.specs.declared.tag.Tag.TheVariants as tags
@@ -30,7 +31,7 @@ use Rattle.cert_desk_checking.specs.Weighing.{Meaning, uses, constraints, other_
 use Rattle.cert_desk_checking.specs.Weighing as weighing
 
 -- an encoding is one value of its kind
-said : (s : Shape) (says : Value s → Meaning) (v : Value s) → is_apart s ≡ true → are_enough s 64 ≡ true → IsValid s v → meaning_by s says (octets_of s v) ≡ says v
+said : (s : Shape) (says : Value s → Meaning) (v : Value s) → is_apart s ≡ true → are_enough s levels_max ≡ true → IsValid s v → meaning_by s says (octets_of s v) ≡ says v
 said s says v apart enough valid = ap (meaning_of says) (whole_again s v (octets_of s v) apart enough (record { valid = valid; octets = refl }))
 
 -- KeyUsage

@@ -4,8 +4,8 @@ use Rattle.std.proofs.lemmas.Option.{same_Some, slice_get_within}
 use Rattle.der_core_head.specs.Dates.{Civil}
 use Rattle.der_core_head.specs.Grammar.{plain_list}
 use Rattle.der_core_head.specs.Shapes.{IsBody, IsContent, IsValid}
-use Rattle.der_types_time.proofs.SecondsOrders.{one_by_text}
-use Rattle.der_types_time.specs.Seconds.{unix_seconds}
+use Rattle.cert_desk_checking.proofs.Names.TimeTypes.SecondsOrders.{one_by_text}
+use Rattle.cert_desk_checking.specs.Names.TimeTypes.Seconds.{unix_seconds}
 use Rattle.cert_desk_checking.specs.Certificates.{Algorithm, PlainName, PublicKey, name}
 use Rattle.cert_desk_checking.specs.Parts.{civil_of, tbs_certificate, time_of}
 use Rattle.cert_desk_checking.specs.Texts.{SpellsName}

@@ -15,7 +15,7 @@ use Rattle.der_core_head.specs.Shapes.{AnyValue}
 use Rattle.der_core_head.specs.Tags.{leading_octet, number_of}
 use Rattle.cert_desk_checking.specs.Certificates.{PublicKey}
 use Rattle.cert_desk_checking.specs.Views.{arc_bound}
-use Rattle.x509_cert_names.specs.Values.{any_key}
+use Rattle.cert_desk_checking.specs.Names.Values.{any_key}
 
 abbrev pub any_eq : AnyValue → AnyValue → Bool
 any_eq x y = pointwise nat_eq (any_key x) (any_key y)

@@ -10,14 +10,14 @@ use Rattle.der_core_head.specs.declared.error.ErrorKind.{ErrorKind}
 use Rattle.der_core_head.specs.declared.tag.Tag.TheVariants as tags
 use Rattle.der_core_head.specs.Grammar.{plain_list}
 use Rattle.der_core_head.specs.Shapes.{IsBody, IsContent, IsValid}
-use Rattle.der_types_sets.specs.Sets.{AllValid}
-use Rattle.der_types_sets.proofs.Arranged.{valid_moved}
-use Rattle.der_types_sets.proofs.LooseSteps.{ascends-plain, one_set, permutation-plain}
-use Rattle.x509_cert_name_texts.specs.Pieces.{ReadsPieces}
-use Rattle.x509_cert_names.specs.declared.attribute_type_and_value.AttributeTypeAndValue.{AttributeTypeAndValue}
-use Rattle.x509_cert_names.specs.Names.{PlainName, name, relative_name, type_and_value}
-use Rattle.x509_cert_names.specs.NameTexts.{ReadsAttribute, ReadsName, ReadsRelative}
-use Rattle.x509_cert_names.specs.Pairs.{arc_bound, pair_plain, relative_plain, same_pair, same_pair_equiv}
+use Rattle.cert_desk_checking.specs.Names.SetTypes.Sets.{AllValid}
+use Rattle.cert_desk_checking.proofs.Names.SetTypes.Arranged.{valid_moved}
+use Rattle.cert_desk_checking.proofs.Names.SetTypes.LooseSteps.{ascends-plain, one_set, permutation-plain}
+use Rattle.cert_desk_checking.specs.Names.Pieces.Pieces.{ReadsPieces}
+use Rattle.cert_desk_checking.specs.Names.declared.attribute_type_and_value.AttributeTypeAndValue.{AttributeTypeAndValue}
+use Rattle.cert_desk_checking.specs.Names.Names.{PlainName, name, relative_name, type_and_value}
+use Rattle.cert_desk_checking.specs.Names.NameTexts.{ReadsAttribute, ReadsName, ReadsRelative}
+use Rattle.cert_desk_checking.specs.Names.Pairs.{arc_bound, pair_plain, relative_plain, same_pair, same_pair_equiv}
 use Rattle.cert_desk_checking.specs.Texts.{SpellsName}
 use Rattle.cert_desk_issuing.proofs.AcceptedFronts.{plain_pushed}
 use Rattle.cert_desk_issuing.proofs.OneReading.{AllSame, AnyOdd, agree}

@@ -2,7 +2,7 @@
 use Rattle.std.proofs.Common.{◌≡◌, ℕ, zero, suc, ◌+◌, ◌<◌, ◌≤◌, List, [], ◌∷◌, ◌++◌, length, take, get_or, Result, Ok, Err, Option, Some, None, refl, sym, ap, ◌∙◌, subst, arith, inl, inr, ◌⊎◌, length-append, append-nil}
 use Rattle.std.specs.Prelude.{⊤}
 use Rattle.std.proofs.lemmas.Bool.{cases_lt}
-use Rattle.x509_cert_name_texts.specs.Pieces.{Counts, HasNone, IsFirstPiece, before, ReadsPieces}
+use Rattle.cert_desk_checking.specs.Names.Pieces.Pieces.{Counts, HasNone, IsFirstPiece, before, ReadsPieces}
 
 inside : (p r q w : List ℕ) (separator : ℕ) → p ++ (separator ∷ r) ≡ q ++ w → length p < length q → (get_or q (length p) 0 ≡ separator) × (take (length p) q ≡ p)
 inside [] r [] w separator e lt = absurd (omega (arith, lt))

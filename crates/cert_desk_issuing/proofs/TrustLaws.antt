@@ -3,7 +3,8 @@ use Rattle.std.proofs.Common.{◌≡◌, ℕ, zero, suc, ◌+◌, ◌-◌, ◌<�
 use Rattle.std.specs.List.{AllByRecursion, list_all}
 use Rattle.std.proofs.lemmas.Bool.{and_from, and_parts, le-leb, leb-true}
 use Rattle.std.proofs.lemmas.Option.{slice_get_within}
-use Rattle.der_types_time.specs.Seconds.{unix_seconds}
+use Rattle.der_core_head.specs.Limits.{length_max}
+use Rattle.cert_desk_checking.specs.Names.TimeTypes.Seconds.{unix_seconds}
 use Rattle.cert_desk_checking.specs.Certificates.{PlainCertificate, certificate_octets, outer_algorithm, signature_bits, tbs}
 use Rattle.cert_desk_checking.specs.Views.{arc_bound}
 use Rattle.cert_desk_checking.specs.declared.rule.Rule.{Rule}
@@ -90,15 +91,15 @@ module _ (root : PlainOrder) (below : List PlainOrder) (cs : List PlainCertifica
   is_trusted p = record {
     certificates = cs;
     some = omega (arith, h.count);
-    chain = record { each = within_limit (2 ^ 32 - 1) limit cs h.chain.each p.within; joins = h.chain.joins; fits = h.chain.fits };
+    chain = record { each = within_limit length_max limit cs h.chain.each p.within; joins = h.chain.joins; fits = h.chain.fits };
     kept = λ place rule lt. keeps_each p rule place lt;
   }
 
   -- the certificates of the stream are these
   same_chain : (t : Trusted (terms_for root moment purpose answers) limit stream) → t.certificates ≡ cs
   same_chain t =
-      one_chain arc_bound (limit + (2 ^ 32 - 1)) t.certificates cs stream (wider_chain limit (limit + (2 ^ 32 - 1)) t.certificates stream (omega arith) t.chain)
-      (wider_chain (2 ^ 32 - 1) (limit + (2 ^ 32 - 1)) cs stream (omega arith) h.chain)
+      one_chain arc_bound (limit + length_max) t.certificates cs stream (wider_chain limit (limit + length_max) t.certificates stream (omega arith) t.chain)
+      (wider_chain length_max (limit + length_max) cs stream (omega arith) h.chain)
 
   kept_in : Trusted (terms_for root moment purpose answers) limit stream → (rule : Rule) (place : ℕ) → place < length cs → keeps_at rule (terms_for root moment purpose answers) cs stream place ≡ true
   kept_in t rule place lt =

@@ -4,8 +4,9 @@ use Rattle.std.proofs.Common.{◌≡◌, ◌≢◌, ◌⊎◌, ℕ, zero, suc, �
 use Rattle.std.specs.List.{AllByRecursion, list_all, list_any}
 use Rattle.std.specs.Option.{option_map_or}
 use Rattle.std.proofs.lemmas.Bool.{and_parts, le-leb, leb-true}
+use Rattle.der_core_head.specs.Limits.{length_max}
 use Rattle.der_core_head.specs.Shapes.{IsValid, octets_of}
-use Rattle.der_types_time.specs.Seconds.{unix_seconds}
+use Rattle.cert_desk_checking.specs.Names.TimeTypes.Seconds.{unix_seconds}
 use Rattle.cert_desk_checking.specs.Certificates.{PlainCertificate, certificate_octets, extensions_of, issuer, not_after, not_before, outer_algorithm, public_key, raw_certificate, raw_tbs_certificate, signature_bits, subject, tbs}
 use Rattle.cert_desk_checking.specs.Certificates.{algorithm_identifier, name_octets}
 use Rattle.cert_desk_checking.specs.Views.{arc_bound}
@@ -53,7 +54,7 @@ answer_at answers ps cs place h = answers h.above.key (outer_algorithm h.certifi
 
 module _ (root : PlainOrder) (below : List PlainOrder) (cs : List PlainCertificate) (stream : List ℕ) (h : HoldsOrders (root ∷ below) cs stream) where
   pub valid_at : (place : ℕ) → (lt : place < length cs) → IsValid (raw_certificate arc_bound) (h.held place lt).certificate
-  valid_at place lt = (Stands-at arc_bound (2 ^ 32 - 1) cs place (h.held place lt).certificate h.chain.each (h.held place lt).certificate_is).valid
+  valid_at place lt = (Stands-at arc_bound length_max cs place (h.held place lt).certificate h.chain.each (h.held place lt).certificate_is).valid
 
   pub fits_at : (place : ℕ) → (lt : place < length cs) → FitsFor (role_at (length (root ∷ below)) place) (h.held place lt).order
   fits_at place lt = fits (root ∷ below) cs place (h.held place lt) (valid_at place lt)

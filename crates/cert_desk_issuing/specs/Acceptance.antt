@@ -4,8 +4,8 @@ use Rattle.std.specs.Bool.{⊤}
 use Rattle.std.specs.List.{list_all}
 use Rattle.der_core_head.specs.Dates.{Civil, is_civil}
 use Rattle.der_core_head.specs.Grammar.{plain_list}
-use Rattle.der_types_time.specs.DateTexts.{date_text}
-use Rattle.der_types_time.specs.Seconds.{unix_seconds}
+use Rattle.cert_desk_checking.specs.Names.TimeTypes.DateTexts.{date_text}
+use Rattle.cert_desk_checking.specs.Names.TimeTypes.Seconds.{unix_seconds}
 use Rattle.cert_desk_checking.specs.Builders.{NamesAuthority}
 use Rattle.cert_desk_checking.specs.Builders.{may_stay}
 use Rattle.cert_desk_checking.specs.Certificates.{PlainName, PublicKey}

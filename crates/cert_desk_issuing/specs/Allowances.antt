@@ -3,7 +3,7 @@ use Rattle.std.specs.Prelude.{◌≡◌, ℕ, zero, suc, ◌+◌, ◌-◌, ◌<�
 use Rattle.std.specs.List.{list_all}
 use Rattle.std.specs.Option.{option_map_or}
 use Rattle.const_oid.specs.Comparing.{owned_eq}
-use Rattle.der_types_time.specs.Seconds.{unix_seconds}
+use Rattle.cert_desk_checking.specs.Names.TimeTypes.Seconds.{unix_seconds}
 use Rattle.cert_desk_checking.specs.Builders.{id_kp}
 use Rattle.cert_desk_checking.specs.Certificates.{PlainName}
 use Rattle.cert_desk_checking.specs.Views.{arc_bound}

@@ -1,7 +1,7 @@
 -- What holds of every chain that was issued.
 use Rattle.std.specs.Prelude.{◌≡◌, ℕ, ◌+◌, ◌-◌, ◌≤◌, ◌<◌, List, [], ◌∷◌, length, map, true, false, Some, slice_get}
 use Rattle.der_core_head.specs.BitStrings.{Bits}
-use Rattle.der_types_time.specs.Seconds.{unix_seconds}
+use Rattle.cert_desk_checking.specs.Names.TimeTypes.Seconds.{unix_seconds}
 use Rattle.cert_desk_checking.specs.Certificates.{PlainCertificate, certificate_octets, extensions_of, outer_algorithm, signature_bits, tbs}
 use Rattle.cert_desk_checking.specs.Certificates.{Algorithm, PublicKey}
 use Rattle.cert_desk_checking.specs.Views.{arc_bound}

@@ -1,5 +1,6 @@
 -- What contracts see of certificates that are made, and of chains that are issued.
 use Rattle.std.specs.Prelude.{ℕ, ◌-◌, ◌^◌, List, true}
+use Rattle.der_core_head.specs.Limits.{length_max}
 use Rattle.der_core_head.specs.Grammar.{plain_list}
 use Rattle.der_core_head.specs.Ranges.{IsInRange}
 use Rattle.der_core_head.specs.Shapes.{Shape, explicit, optional}
@@ -42,4 +43,4 @@ issued_plain i = record { certificates = plain_list (λ c. as_written (certifica
 
 -- the stream joins the certificates
 abbrev pub IsJoined : Inside → Type 0
-IsJoined i = Chain arc_bound (2 ^ 32 - 1) (plain_list (λ c. as_written (certificate_plain c)) i.certificates.items) i.stream.items
+IsJoined i = Chain arc_bound length_max (plain_list (λ c. as_written (certificate_plain c)) i.certificates.items) i.stream.items

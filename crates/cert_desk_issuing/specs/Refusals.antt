@@ -8,8 +8,8 @@ use Rattle.der_core_head.specs.Grammar.{plain_list}
 use Rattle.der_core_head.specs.declared.error.ErrorKind.{ErrorKind}
 use Rattle.der_core_head.specs.declared.error.ErrorKind.TheVariants as kinds
 use Rattle.der_core_head.specs.Shapes.{IsValid, Shape, Value}
-use Rattle.der_types_time.specs.DateTexts.{date_text}
-use Rattle.der_types_time.specs.Seconds.{unix_seconds}
+use Rattle.cert_desk_checking.specs.Names.TimeTypes.DateTexts.{date_text}
+use Rattle.cert_desk_checking.specs.Names.TimeTypes.Seconds.{unix_seconds}
 use Rattle.cert_desk_checking.specs.Builders.{NamesAuthority}
 use Rattle.cert_desk_checking.specs.Builders.{IsWantOfMemory}
 use Rattle.cert_desk_checking.specs.Certificates.{Tbs}

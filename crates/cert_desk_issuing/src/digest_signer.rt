@@ -13,11 +13,10 @@ use sha2::{Digest, Sha256};
 use std::alloc::Global;
 
 // 1.3.6.1.4.1.32473.2, under the arc for examples (RFC 5612).
-#[tactic(auto, unfolding(const_oid::specs::Bound::Bound, const_oid::specs::TextReading::text_arcs, const_oid::specs::ArcLists::add_arc, const_oid::specs::ArcLists::whole_arcs, const_oid::specs::IdentifierOctets::identifier_octets, const_oid::specs::IdentifierOctets::arc_octets, const_oid::specs::Digits::digits, const_oid::specs::Digits::digits_within, const_oid::specs::Digits::marked))]
 fn digest_identifier() -> ObjectIdentifier<39>
     ensures { result ≡ digest_arcs }
 {
-    ObjectIdentifier::new_unwrap("1.3.6.1.4.1.32473.2")
+    ObjectIdentifier::from_bytes_unwrap(&[0x2b, 6, 1, 4, 1, 0x81, 0xfd, 0x59, 2])
 }
 
 // The algorithm of that identifier, without parameters.

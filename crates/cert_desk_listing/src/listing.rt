@@ -1,6 +1,6 @@
 //! Listings on outputs.
 ghost use Rattle.std.specs.Prelude.{◌≡◌, IfOk, IfErr, OnOk, string_bytes};
-ghost use Rattle.x509_cert_lists.specs.Certificates.{certificate_plain};
+ghost use Rattle.x509_cert_lists.specs.CertificateViews.{certificate_plain};
 ghost use Rattle.x509_cert_lists.specs.Views.{certificate_list_plain, cert_req_plain};
 ghost use Rattle.cert_desk_listing.specs.Listing.{certificate_lines, list_lines, request_lines};
 ghost use Rattle.cert_desk_listing.specs.Shown.{IsUnshown};
@@ -9,7 +9,8 @@ use crate::lines::Lines;
 use crate::show_error::ShowError;
 use cert_desk_io::{Output, write_all};
 use std::alloc::{AllocError, Global};
-use x509_cert_lists::{CertReq, CertificateInner, CertificateList, Profile};
+use x509_cert_lists::certificates::{CertificateInner, Profile};
+use x509_cert_lists::{CertReq, CertificateList};
 
 /// The lines of a certificate.
 pub(crate) fn of_certificate<P: Profile>(

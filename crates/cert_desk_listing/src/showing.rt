@@ -17,7 +17,8 @@ use crate::show_status::ShowStatus;
 use cert_desk_io::{Input, Output, ReadAllError, read_all, write_all};
 use der_core::{Error, ErrorKind, from_der};
 use std::alloc::Global;
-use x509_cert_lists::{CertReq, CertificateInner, CertificateList, Raw};
+use x509_cert_lists::certificates::{CertificateInner, Raw};
+use x509_cert_lists::{CertReq, CertificateList};
 
 // The certificate that these octets spell.
 fn certificate_in(alloc: Global, octets: &[u8]) -> Finding

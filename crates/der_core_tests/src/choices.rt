@@ -3,14 +3,15 @@
 
 ghost use Rattle.std.specs.Prelude.{◌≡◌, refl};
 ghost use Rattle.der_core_values.specs.declared.one_of_two.OneOf2.TheVariants as two;
-ghost use Rattle.der_core_values.specs.declared.one_of_nine.OneOf9.TheVariants as nine;
+ghost use Rattle.der_core_values.specs.declared.one_of_four.OneOf4.TheVariants as four;
 ghost use Rattle.der_core_tests.specs.declared.choices.Contact.TheVariants as contacts;
 ghost use Rattle.der_core_tests.specs.declared.choices.Item.TheVariants as items;
 
 use const_oid::ObjectIdentifier;
 use der_core::{
     Choice, Decode, DerOrd, Element, Encode, EncodeRef, Error, ErrorKind, Explicit, FirstTag,
-    Implicit, Length, Member, OneOf2, OneOf9, Reader, Shaped, Tag, Writer, from_der, to_der,
+    Implicit, Length, Member, OneOf2, OneOf4, OneOf9, Reader, Shaped, Tag, Writer, from_der,
+    to_der,
 };
 use std::alloc::Global;
 use std::cmp::Ordering;
@@ -143,27 +144,27 @@ impl Shaped for Item {
     ghost shape = { ⟦<ItemCases as Shaped>⟧.shape };
 
     ghost plain = { λ x. ⟦<ItemCases as Shaped>⟧.plain (elim x [
-      | items.Flag v ↦ nine.First v
-      | items.Number v ↦ nine.Second v
-      | items.Mail v ↦ nine.Third v
-      | items.Nothing v ↦ nine.Fourth v
-      | items.Numbers v ↦ nine.Fifth v
-      | items.Octets v ↦ nine.Sixth v
-      | items.Locator v ↦ nine.Seventh v
-      | items.Contact v ↦ nine.Eighth v
-      | items.Registered v ↦ nine.Ninth v
+      | items.Flag v ↦ four.First v
+      | items.Number v ↦ four.Second v
+      | items.Mail v ↦ four.Third v
+      | items.Nothing v ↦ four.Fourth (four.First v)
+      | items.Numbers v ↦ four.Fourth (four.Second v)
+      | items.Octets v ↦ four.Fourth (four.Third v)
+      | items.Locator v ↦ four.Fourth (four.Fourth (two.First v))
+      | items.Contact v ↦ four.Fourth (four.Fourth (two.Second (two.First v)))
+      | items.Registered v ↦ four.Fourth (four.Fourth (two.Second (two.Second v)))
     ]) };
 
     ghost written = { λ x. ⟦<ItemCases as Shaped>⟧.written (elim x [
-      | items.Flag v ↦ nine.First v
-      | items.Number v ↦ nine.Second v
-      | items.Mail v ↦ nine.Third v
-      | items.Nothing v ↦ nine.Fourth v
-      | items.Numbers v ↦ nine.Fifth v
-      | items.Octets v ↦ nine.Sixth v
-      | items.Locator v ↦ nine.Seventh v
-      | items.Contact v ↦ nine.Eighth v
-      | items.Registered v ↦ nine.Ninth v
+      | items.Flag v ↦ four.First v
+      | items.Number v ↦ four.Second v
+      | items.Mail v ↦ four.Third v
+      | items.Nothing v ↦ four.Fourth (four.First v)
+      | items.Numbers v ↦ four.Fourth (four.Second v)
+      | items.Octets v ↦ four.Fourth (four.Third v)
+      | items.Locator v ↦ four.Fourth (four.Fourth (two.First v))
+      | items.Contact v ↦ four.Fourth (four.Fourth (two.Second (two.First v)))
+      | items.Registered v ↦ four.Fourth (four.Fourth (two.Second (two.Second v)))
     ]) };
 }
 
@@ -184,15 +185,19 @@ impl Member for Item {
 impl<'a, R: Reader<'a>> Decode<'a, R> for Item {
     fn decode(alloc: Global, reader: &mut R) -> Result<Item, Error> {
         match ItemCases::decode(alloc, reader)? {
-            OneOf9::First(value) => Ok(Item::Flag(value)),
-            OneOf9::Second(value) => Ok(Item::Number(value)),
-            OneOf9::Third(value) => Ok(Item::Mail(value)),
-            OneOf9::Fourth(value) => Ok(Item::Nothing(value)),
-            OneOf9::Fifth(value) => Ok(Item::Numbers(value)),
-            OneOf9::Sixth(value) => Ok(Item::Octets(value)),
-            OneOf9::Seventh(value) => Ok(Item::Locator(value)),
-            OneOf9::Eighth(value) => Ok(Item::Contact(value)),
-            OneOf9::Ninth(value) => Ok(Item::Registered(value)),
+            OneOf4::First(value) => Ok(Item::Flag(value)),
+            OneOf4::Second(value) => Ok(Item::Number(value)),
+            OneOf4::Third(value) => Ok(Item::Mail(value)),
+            OneOf4::Fourth(OneOf4::First(value)) => Ok(Item::Nothing(value)),
+            OneOf4::Fourth(OneOf4::Second(value)) => Ok(Item::Numbers(value)),
+            OneOf4::Fourth(OneOf4::Third(value)) => Ok(Item::Octets(value)),
+            OneOf4::Fourth(OneOf4::Fourth(OneOf2::First(value))) => Ok(Item::Locator(value)),
+            OneOf4::Fourth(OneOf4::Fourth(OneOf2::Second(OneOf2::First(value)))) => Ok(
+                Item::Contact(value),
+            ),
+            OneOf4::Fourth(OneOf4::Fourth(OneOf2::Second(OneOf2::Second(value)))) => Ok(
+                Item::Registered(value),
+            ),
         }
     }
 }

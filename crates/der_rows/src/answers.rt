@@ -42,16 +42,14 @@ fn refusal_of(alloc: Global, question: &str) -> Result<Refusal, Refusal> {
 fn answer_of_words(alloc: Global, line: &str) -> Result<String, Refusal> {
     let (word, rest) = front_of(line);
     match word {
-        "der" | "ber" | "order" | "contents" | "compare" | "text" => kinds::answer(
-            alloc, word, rest,
-        ),
+        "der" | "ber" | "order" | "contents" | "compare" | "text" | "front" | "twice" =>
+            kinds::answer(alloc, word, rest),
         "date" | "seconds" => times::answer_of_dates(alloc, word, rest),
         "new" => made::of_octets(alloc, rest),
         "from" => made::of_text(alloc, rest),
         "explicit" | "implicit" => fields::answer_of_number(alloc, word, rest),
         "content" => contents::answer(alloc, rest),
         "by-ord" => contents::answer_by_ord(alloc, rest),
-        "partial" => contents::answer_of_fronts(alloc, rest),
         "prefix" => contents::answer_of_prefixes(alloc, rest),
         "reader" => readers::answer(alloc, rest),
         "writer" => writers::answer(alloc, rest),

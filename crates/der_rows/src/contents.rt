@@ -6,7 +6,7 @@ use const_oid::ObjectIdentifier;
 use der_core::{
     BytesOwned, BytesRef, Decode, DecodeValue, EncodeValue, EncodeValueRef, FixedTag, Header,
     Length, OrdIsValueOrd, SliceReader, StringOwned, StringRef, Tag, ValueOrd, der_cmp_by_ord,
-    from_der, from_der_partial, value_cmp_by_ord, value_cmp_is_ord,
+    from_der, value_cmp_by_ord, value_cmp_is_ord,
 };
 use std::alloc::Global;
 
@@ -73,14 +73,6 @@ pub fn answer_of_prefixes(alloc: Global, rest: &str) -> Result<String, Refusal> 
     let octets = octets_of(alloc, octets)?;
     let prefix = BytesRef::new(octets.as_slice())?.prefix(len)?;
     hex_of(alloc, prefix.as_slice())
-}
-
-/// The number at the front of octets, and the octets behind it.
-pub fn answer_of_fronts(alloc: Global, octets: &str) -> Result<String, Refusal> {
-    let octets = octets_of(alloc, octets)?;
-    let (number, behind) = from_der_partial::<u8>(alloc, octets.as_slice())?;
-    let behind = hex_of(alloc, behind)?;
-    Ok(format!(in alloc; "{number} {behind}")?)
 }
 
 /// The orders by `Ord` of the contents and of the encodings of two values.

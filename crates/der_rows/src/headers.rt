@@ -1,11 +1,11 @@
 //! Tags, lengths and headers.
 
+use crate::readers::add;
 use crate::refusals::Refusal;
 use crate::shown::{front_of, hex_of, name_of, octets_of, printed, shown};
-use der_core::making::encode_header;
 use der_core::{
     Class, EncodingRules, Error, Header, Length, Reader, SliceReader, Tag, TagMode, TagNumber,
-    header_cmp, header_of, length_cmp, tag_cmp, tag_of,
+    encode_length, encode_tag, header_cmp, header_of, length_cmp, lone_length_of, tag_cmp, tag_of,
 };
 use std::alloc::Global;
 
@@ -16,6 +16,10 @@ pub fn answer(alloc: Global, word: &str, rest: &str) -> Result<String, Refusal> 
         "header" => of_header(alloc, EncodingRules::Der, first),
         "header-ber" => of_header(alloc, EncodingRules::Ber, first),
         "header-order" => order_of_headers(alloc, first, second),
+        "scan" => of_fronts(alloc, first),
+        "lone-length" => of_lone_length(alloc, first),
+        "lone-tag" => of_lone_tag(alloc, first),
+        "length-written" => length_written(alloc, length_in(first)?),
         "tags" => of_number(alloc, TagNumber::from(first.parse::<u32>()?)),
         "class" => of_class(alloc, first),
         "mode" => of_mode(alloc, first),
@@ -62,8 +66,59 @@ fn header_by(rules: EncodingRules, octets: &[u8]) -> Result<(Header, Length), Re
 /// What is written for a header.
 fn header_written(alloc: Global, header: Header) -> Result<String, Refusal> {
     let mut out = Vec::new(alloc);
-    encode_header(&mut out, header.tag, header.length)?;
+    encode_tag(&mut out, header.tag)?;
+    encode_length(&mut out, header.length)?;
     hex_of(alloc, out.as_slice())
+}
+
+/// What is scanned of each front of octets, the shortest first.
+fn of_fronts(alloc: Global, digits: &str) -> Result<String, Refusal> {
+    let octets = octets_of(alloc, digits)?;
+    let mut answers = String::new(alloc);
+    for count in 0..octets.len() + 1 {
+        let answer = scanned(alloc, Header::scan(&octets.as_slice()[..count]))?;
+        add(&mut answers, answer.as_str())?;
+    }
+    Ok(answers)
+}
+
+/// What is answered of a scan: the header's octets, length and tag, that there is none yet, or why it is refused.
+fn scanned(
+    alloc: Global,
+    outcome: Result<Option<(Header, usize)>, Error>,
+) -> Result<String, Refusal> {
+    match outcome {
+        Ok(Some((Header { tag, length }, count))) => {
+            Ok(format!(in alloc; "{count} {length} {tag}")?)
+        }
+        Ok(None) => shown(alloc, "none"),
+        Err(error) => shown(alloc, Refusal::from(error)),
+    }
+}
+
+/// The length that stands alone at the front of octets, how many octets it takes, and what is written for it.
+fn of_lone_length(alloc: Global, digits: &str) -> Result<String, Refusal> {
+    let octets = octets_of(alloc, digits)?;
+    let (length, count) = lone_length_of(octets.as_slice())?;
+    let written = length_written(alloc, length)?;
+    Ok(format!(in alloc; "{count} {length} {written}")?)
+}
+
+/// What is written for a length.
+fn length_written(alloc: Global, length: Length) -> Result<String, Refusal> {
+    let mut out = Vec::new(alloc);
+    encode_length(&mut out, length)?;
+    hex_of(alloc, out.as_slice())
+}
+
+/// The tag that stands alone at the front of octets, how many octets it takes, and what is written for it.
+fn of_lone_tag(alloc: Global, digits: &str) -> Result<String, Refusal> {
+    let octets = octets_of(alloc, digits)?;
+    let (tag, count) = tag_of(octets.as_slice())?;
+    let mut out = Vec::new(alloc);
+    encode_tag(&mut out, tag)?;
+    let written = hex_of(alloc, out.as_slice())?;
+    Ok(format!(in alloc; "{count} {written} {tag}")?)
 }
 
 /// The order of two headers.

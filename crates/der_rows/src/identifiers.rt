@@ -2,7 +2,7 @@
 
 use crate::refusals::Refusal;
 use crate::shown::{debugged, hex_of, name_of, octets_of, shown};
-use const_oid::{Database, ObjectIdentifier, ObjectIdentifierRef};
+use const_oid::{Arc, Database, ObjectIdentifier, ObjectIdentifierRef};
 use std::alloc::Global;
 use std::fmt::Display;
 
@@ -42,7 +42,7 @@ fn debug_of(alloc: Global, digits: &str) -> Result<String, Refusal> {
 fn of_arcs(alloc: Global, text: &str) -> Result<String, Refusal> {
     let mut arcs = Vec::new(alloc);
     for arc in text.split_whitespace() {
-        arcs.push(arc.parse::<u32>()?)?;
+        arcs.push(arc.parse::<Arc>()?)?;
     }
     octets_in(alloc, Identifier::from_arcs(arcs.iter().copied()))
 }
@@ -54,12 +54,23 @@ fn of_text(alloc: Global, word: &str, rest: &str) -> Result<String, Refusal> {
     match word {
         "oid-arc" => or_none(alloc, identifier.arc(other.parse()?)),
         "oid-child" => shown(alloc, identifier.push_arc(other.parse()?)?),
+        "oid-counted" => counted(alloc, &identifier, other.parse()?),
         "oid-len" => shown(alloc, identifier.len()),
         "oid-order" => shown(alloc, name_of(identifier.cmp(&Identifier::new(other)?))),
         "oid-parent" => or_none(alloc, identifier.parent()),
         "oid-starts" => shown(alloc, identifier.starts_with(Identifier::new(other)?)),
         _ => Err(Refusal::Unread),
     }
+}
+
+/// The parent and how many arcs it has, and whether no more than so many octets were tested for it.
+fn counted(alloc: Global, identifier: &Identifier, most: u32) -> Result<String, Refusal> {
+    let (Some(parent), tests) = identifier.parent_counted() else {
+        return shown(alloc, "none");
+    };
+    let len = parent.len();
+    let within = tests <= most;
+    Ok(format!(in alloc; "{parent} {len} {within}")?)
 }
 
 /// The order of two identifiers that are lent as octets.
@@ -74,8 +85,8 @@ fn order_of_refs(alloc: Global, rest: &str) -> Result<String, Refusal> {
 
 /// What a database of three entries tells.
 fn named(alloc: Global, word: &str, text: &str) -> Result<String, Refusal> {
-    let common_name = Identifier::new("2.5.4.3")?;
-    let country_name = Identifier::new("2.5.4.6")?;
+    let common_name = Identifier::from_bytes_unwrap(&[0x55, 4, 3]);
+    let country_name = Identifier::from_bytes_unwrap(&[0x55, 4, 6]);
     let entries = [
         (&common_name, "CN"),
         (&country_name, "C"),

@@ -4,6 +4,8 @@
 //! |---|---|
 //! | `der TYPE HEX` | `ok HEX`, the octets that the value writes that these spell by DER |
 //! | `ber TYPE HEX` | the same of octets by BER |
+//! | `front TYPE HEX` | `ok HEX HEX`, what is written of the value at the front, and the octets behind it |
+//! | `twice TYPE HEX` | `ok ANSWER; ANSWER`, what is written of the values that a reader reads by two calls, or why there is none |
 //! | `order TYPE HEX HEX` | `ok Less`, `ok Equal` or `ok Greater`, the order of two encodings |
 //! | `contents TYPE HEX HEX` | the order of two contents, whatever their lengths |
 //! | `compare TYPE HEX HEX` | the order of two values by their type, and behind it whether their hashes are the `same` or `apart` |
@@ -18,11 +20,16 @@
 //! | `oid TEXT`, `oid-arcs ARC..` | `ok HEX`, the octets of the identifier |
 //! | `oid-octets HEX` | `ok TEXT`, the identifier of the octets; `oid-ref HEX` what the borrowed one prints for debugging |
 //! | `oid-parent TEXT`, `oid-child TEXT ARC` | `ok TEXT`, the identifier of one arc less or more; `ok none` where there is no parent |
+//! | `oid-counted TEXT NUMBER` | `ok TEXT NUMBER BOOL`: the parent, how many arcs it has, and whether no more than so many octets were tested for it |
 //! | `oid-arc TEXT PLACE`, `oid-len TEXT` | `ok NUMBER`, the arc at a place, or how many there are; `ok none` where there is no such arc |
 //! | `oid-starts TEXT TEXT` | `ok true` where the first identifier starts with the second, or `ok false` |
 //! | `oid-order TEXT TEXT`, `oid-ref-order HEX HEX` | the order of two identifiers, owned or borrowed |
 //! | `oid-name TEXT`, `oid-names TEXT`, `oid-named NAME`, `oid-resolved TEXT` | what a database of three names answers |
 //! | `header HEX`, `header-ber HEX` | `ok NUMBER LENGTH HEX NAME`: the octets of the header at the front, its length, what is written for it, and its tag's name |
+//! | `scan HEX` | `ok ANSWER; ANSWER..`, what is scanned of each front of the octets, from none to all: `NUMBER LENGTH NAME` of a whole header, `none` where it isn't whole yet, or why it is refused |
+//! | `lone-tag HEX` | `ok NUMBER HEX NAME`: the octets of the tag at the front, what is written for it, and its name |
+//! | `lone-length HEX` | `ok NUMBER LENGTH HEX`: the octets of the length at the front, without a tag before it, that length, and what is written for it |
+//! | `length-written LENGTH` | `ok HEX`, what is written for a length, without a tag before it |
 //! | `tag HEX` | `ok CLASS NUMBER FORM NAME` of the tag at the front |
 //! | `tag-expected HEX HEX` | `ok NAME` where the tag at the front of the first is that of the second |
 //! | `tag-errors HEX` | `ok KIND; KIND; KIND; KIND`, the errors of a length, a form and a value of the tag, and of another tag in its place |
@@ -35,7 +42,6 @@
 //! | `content TYPE HEX HEX` | `ok HEX ORDER HEX`: two contents without a tag, as they are written again, and their order |
 //! | `by-ord TYPE HEX HEX` | `ok ORDER ORDER ORDER`, those by `Ord` of two contents, by both calls, and of the encodings |
 //! | `prefix HEX NUMBER` | `ok HEX`, so many octets of those that are held |
-//! | `partial HEX` | `ok NUMBER HEX`, the number at the front, and the octets behind it |
 //! | `reader HEX STEP..` | `ok ANSWER; ANSWER..`, what a reader answers to each step |
 //! | `writer NUMBER STEP..` | the same of a writer to so many octets, then what it wrote, and then those octets |
 //! | `slice NUMBER HEX`, `slice-value NUMBER HEX` | `ok HEX HEX`, what is written of a number, or of its content, to so many octets, and then those octets |

@@ -1,10 +1,10 @@
 //! What is asked of the values of a type.
 
 use crate::refusals::Refusal;
-use crate::shown::{debugged, name_of, named, printed, written_in};
+use crate::shown::{debugged, hex_of, name_of, named, or_refusal, printed, written, written_in};
 use der_core::{
     Decode, DecodeValue, DerOrd, Encode, EncodeValue, Error, FixedTag, SliceReader, ValueOrd,
-    from_ber, from_der,
+    from_ber, from_der, from_der_partial,
 };
 use std::alloc::Global;
 use std::fmt::{Debug, Display};
@@ -25,6 +25,10 @@ pub enum Asked {
     Compare,
     /// What the value prints that octets spell by DER.
     Text,
+    /// What is written of the value that octets begin with by DER, and the octets behind it.
+    Front,
+    /// What a reader of the octets answers to a first call, and to a second one.
+    Twice,
 }
 
 /// A question about the values that octets spell: the second are none where one value is asked about.
@@ -44,6 +48,8 @@ pub fn asked_by(word: &str) -> Result<Asked, Refusal> {
         "contents" => Ok(Asked::Contents),
         "compare" => Ok(Asked::Compare),
         "text" => Ok(Asked::Text),
+        "front" => Ok(Asked::Front),
+        "twice" => Ok(Asked::Twice),
         _ => Err(Refusal::Unread),
     }
 }
@@ -66,8 +72,32 @@ pub fn answer_of<'a, T: Decode<'a, SliceReader<'a>> + Encode + Drop>(
     match question.asked {
         Asked::Der => written_in(alloc, from_der::<T>(alloc, question.first)),
         Asked::Ber => written_in(alloc, from_ber::<T>(alloc, question.first)),
+        Asked::Front => front_written(alloc, from_der_partial::<T>(alloc, question.first)),
+        Asked::Twice => read_twice::<T>(alloc, question.first),
         _ => Err(Refusal::Unread),
     }
+}
+
+/// What is written of the value at the front of octets, and the octets behind it.
+fn front_written<T: Encode + Drop>(
+    alloc: Global,
+    front: Result<(T, &[u8]), Error>,
+) -> Result<String, Refusal> {
+    let (value, behind) = front?;
+    let value = written(alloc, &value)?;
+    let behind = hex_of(alloc, behind)?;
+    Ok(format!(in alloc; "{value} {behind}")?)
+}
+
+/// What is written of the two values that one reader of the octets reads, or why it reads none.
+fn read_twice<'a, T: Decode<'a, SliceReader<'a>> + Encode + Drop>(
+    alloc: Global,
+    octets: &'a [u8],
+) -> Result<String, Refusal> {
+    let mut reader = SliceReader::new(octets)?;
+    let first = or_refusal(alloc, written_in(alloc, T::decode(alloc, &mut reader)))?;
+    let second = or_refusal(alloc, written_in(alloc, T::decode(alloc, &mut reader)))?;
+    Ok(format!(in alloc; "{first}; {second}")?)
 }
 
 /// The answer of a type that is compared, too.

@@ -1,11 +1,11 @@
 //! Readers that take steps: what one answers after what the steps before it left.
 
 use crate::refusals::Refusal;
-use crate::shown::{debugged, done, hex_in, hex_of, octets_of, printed, shown};
+use crate::shown::{debugged, done, hex_in, hex_of, octets_of, or_refusal, printed, shown};
 use crate::small::Small;
 use der_core::{
-    Class, Decode, DecodeFields, Error, ErrorKind, Length, Member, Reader, SliceReader, TagMode,
-    TagNumber, decode_octets, peek_matches, reading,
+    BytesOwned, Class, Decode, DecodeFields, EncodingRules, Error, ErrorKind, Length, Member,
+    Reader, SliceReader, Tag, TagMode, TagNumber, decode_octets, peek_matches, reading,
 };
 use der_types_sets::SetOfRef;
 use std::alloc::Global;
@@ -23,30 +23,18 @@ fn answers_of(alloc: Global, octets: &[u8], steps: &str) -> Result<String, Refus
     let mut reader = SliceReader::new(octets)?;
     let mut answers = String::new(alloc);
     for step in steps.split_whitespace() {
-        let answer = answer_or_refusal(alloc, &mut reader, step)?;
+        let answer = or_refusal(alloc, answer_of_step(alloc, &mut reader, step))?;
         add(&mut answers, answer.as_str())?;
     }
     Ok(answers)
 }
 
 /// Adds an answer behind those before it.
-fn add(answers: &mut String, answer: &str) -> Result<(), Refusal> {
+pub fn add(answers: &mut String, answer: &str) -> Result<(), Refusal> {
     if !answers.is_empty() {
         answers.push_str("; ")?;
     }
     Ok(answers.push_str(answer)?)
-}
-
-/// What a step answers, or why it is refused.
-fn answer_or_refusal(
-    alloc: Global,
-    reader: &mut SliceReader<'_>,
-    step: &str,
-) -> Result<String, Refusal> {
-    match answer_of_step(alloc, reader, step) {
-        Err(refusal) => shown(alloc, refusal),
-        answer => answer,
-    }
 }
 
 /// What a step answers: a name, and behind a colon how many octets it is about.
@@ -97,6 +85,7 @@ fn answer_of_name(
 ) -> Result<String, Refusal> {
     match name {
         "rules" => shown(alloc, reader.encoding_rules()),
+        "by-ber" => done(alloc, Ok(reader.set_encoding_rules(EncodingRules::Ber))),
         "input" => shown(alloc, reader.input_len()),
         "position" => shown(alloc, reader.position()),
         "offset" => shown(alloc, reader.offset()),
@@ -120,6 +109,7 @@ fn answer_of_octets(
         "byte" => printed(alloc, reader.read_byte()),
         "tlv" => hex_of(alloc, reader.tlv_bytes()?),
         "pair" => debugged(alloc, two_octets(reader)),
+        "content" => content_of(alloc, reader),
         "parts" => parts_of(alloc, reader),
         "universal-4" => matches(alloc, reader, Class::Universal),
         "private-4" => matches(alloc, reader, Class::Private),
@@ -178,10 +168,17 @@ fn fields_of(alloc: Global, reader: &mut SliceReader<'_>) -> Result<String, Refu
     shown(alloc, number)
 }
 
+/// The octets of the content that stands next, as they stand.
+fn content_of(alloc: Global, reader: &mut SliceReader<'_>) -> Result<String, Refusal> {
+    let header = reader.read_header()?;
+    let octets = decode_octets(alloc, reader, header)?;
+    hex_of(alloc, octets.as_slice())
+}
+
 /// The octets of the string that stands next, put together of its parts.
 fn parts_of(alloc: Global, reader: &mut SliceReader<'_>) -> Result<String, Refusal> {
     let header = reader.read_header()?;
-    let octets = decode_octets(alloc, reader, header)?;
+    let octets = BytesOwned::decode_value_parts(alloc, reader, header, Tag::OctetString)?;
     hex_of(alloc, octets.as_slice())
 }
 

@@ -54,6 +54,14 @@ pub fn written_in<T: Encode + Drop>(
     written(alloc, &outcome?)
 }
 
+/// What is answered, or why nothing is.
+pub fn or_refusal(alloc: Global, answer: Result<String, Refusal>) -> Result<String, Refusal> {
+    match answer {
+        Err(refusal) => shown(alloc, refusal),
+        answer => answer,
+    }
+}
+
 /// What is answered of an outcome that gives nothing.
 pub fn done(alloc: Global, outcome: Result<(), Error>) -> Result<String, Refusal> {
     outcome?;

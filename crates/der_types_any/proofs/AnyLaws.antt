@@ -12,7 +12,7 @@ use Rattle.der_core_head.specs.Tags.{same_tag}
 use Rattle.der_core_head.specs.Shapes.{AnyValue, Content, ContentValue}
 use Rattle.der_core_head.specs.Grammar.{read_content_by, whole, value_at, slice_at}
 use Rattle.der_core_head.specs.Reading.{Fails}
-use Rattle.der_core_octets.specs.Fronts.{alone}
+use Rattle.der_core_head.specs.Fronts.{alone}
 use Rattle.der_core_head.proofs.Results.{ok_is, unless_ok}
 use Rattle.der_types_any.specs.Contents.{content_by}
 

@@ -2,17 +2,18 @@
 use Rattle.std.proofs.Common.{◌≡◌, ℕ, zero, suc, ◌<◌, List, [], ◌∷◌, length, Bool, true, false, Result, Ok, Err, refl, sym, ap, ◌∙◌, arith}
 use Rattle.std.specs.Prelude.{IfOk}
 use Rattle.std.proofs.lemmas.Bool.{le-ltb}
+use Rattle.der_core_head.specs.Limits.{length_max, levels_max}
 use Rattle.der_core_head.specs.declared.error.Error.{Error}
 use Rattle.der_core_head.specs.declared.error.ErrorKind.{ErrorKind}
 use Rattle.der_core_head.specs.declared.tag.Tag.{Tag}
 use Rattle.der_core_head.specs.Octets.{IsOctets, ◌>>=◌}
 use Rattle.der_core_head.specs.Tags.{IsTag, same_tag}
-use Rattle.der_core_head.specs.Heads.{tlv}
+use Rattle.der_core_head.specs.Heads.{tlv, Fits}
 use Rattle.der_core_head.specs.Shapes.{AnyValue, Content, ContentValue, tagged, any, IsValid, octets_of, Spells}
 use Rattle.der_core_head.specs.Spelling.{is_apart, are_enough}
 use Rattle.der_core_head.specs.Grammar.{read, read_content, whole, whole_at, value_at, tlv_at, kept}
 use Rattle.der_core_head.specs.Reading.{Gives}
-use Rattle.der_core_octets.specs.Fronts.{alone}
+use Rattle.der_core_head.specs.Fronts.{alone}
 use Rattle.der_core_head.proofs.Bytes.{IsBytes}
 use Rattle.der_core_head.proofs.Fits.{fits_contents}
 use Rattle.der_core_head.proofs.TagLaws.{same_tag-eq}
@@ -35,7 +36,7 @@ end_whole : {P : Type 0} (o : Result P ErrorKind) → ((o >>= kept []) >>= whole
 end_whole (Ok x) = refl
 end_whole (Err e) = refl
 
-tlv_read : (t : Tag) (c : Content) (a : AnyValue) → IsTag a.tag → length a.contents < 4294967296 → read (tagged t c) 64 (tlv a.tag a.contents) ≡ (content_as t c a >>= kept [])
+tlv_read : (t : Tag) (c : Content) (a : AnyValue) → IsTag a.tag → Fits a.contents → read (tagged t c) 64 (tlv a.tag a.contents) ≡ (content_as t c a >>= kept [])
 unfolding tlv tlv_at content_by
 tlv_read t c a tag few = by (same_tag a.tag t) refl
   where
@@ -50,7 +51,7 @@ tlv_read t c a tag few = by (same_tag a.tag t) refl
 whole_read : (t : Tag) (c : Content) (a : AnyValue) → IsValid any a → whole_at (tagged t c) (octets_of any a) ≡ (content_as t c a >>= kept [])
 unfolding whole_at octets_of IsValid
 whole_read t c a h =
-    rw (le-ltb 4294967295 (length (tlv a.tag a.contents)) (omega (arith, h.2)), tlv_read t c a h.1 (fits_contents a.tag a.contents h.2)) (end_whole (content_as t c a))
+    rw (le-ltb length_max (length (tlv a.tag a.contents)) (omega (arith, h.2)), tlv_read t c a h.1 (fits_contents a.tag a.contents h.2)) (end_whole (content_as t c a))
 
 gives_whole : {T : Type 0} (t : Tag) (c : Content) (plain : T → ContentValue c) (a : AnyValue) (r : Result T Error) → IsValid any a → Gives plain r (content_as t c a) → Gives (λ v. (plain v, [])) r (whole_at (tagged t c) (octets_of any a))
 gives_whole t c plain a (Ok v) h e = whole_read t c a h ∙ ap (λ o. o >>= kept []) e
@@ -60,6 +61,6 @@ pub as_spelled : {T : Type 0} (t : Tag) (c : Content) (plain : T → ContentValu
     → Gives plain r (content_as t c a) → IfOk r (λ v. Spells (tagged t c) (plain v) (octets_of any a))
 as_spelled t c plain a r h apart e = is_spelled (tagged t c) plain (octets_of any a) r apart (bytes_are (octets_of any a) (octets_below any a h)) (gives_whole t c plain a r h e)
 
-pub as_only : {T : Type 0} (t : Tag) (c : Content) (plain : T → ContentValue c) (a : AnyValue) (r : Result T Error) (v : ContentValue c) → IsValid any a → is_apart (tagged t c) ≡ true → are_enough (tagged t c) 64 ≡ true
+pub as_only : {T : Type 0} (t : Tag) (c : Content) (plain : T → ContentValue c) (a : AnyValue) (r : Result T Error) (v : ContentValue c) → IsValid any a → is_apart (tagged t c) ≡ true → are_enough (tagged t c) levels_max ≡ true
     → Spells (tagged t c) v (octets_of any a) → Gives plain r (content_as t c a) → Gives plain r (Ok v)
 as_only t c plain a r v h apart enough spells e = is_read (tagged t c) plain v (octets_of any a) r apart enough spells (gives_whole t c plain a r h e)

@@ -1,5 +1,6 @@
 -- What contracts see of any value: its tag and its content.
 use Rattle.std.specs.Prelude.{ℕ, ◌<◌, ◌^◌, List, length}
+use Rattle.der_core_head.specs.Heads.{Fits}
 use Rattle.der_core_head.specs.Shapes.{AnyValue}
 use Rattle.der_types_any.specs.AnyOrders.{any_key}
 use Rattle.der_types_any.specs.declared.any.Any.TheInside.{Inside}
@@ -9,7 +10,7 @@ abbrev pub any_kept : Inside → AnyValue
 any_kept a = record { tag = a.tag; contents = a.bytes.items }
 
 abbrev pub IsAny : Inside → Type 0
-IsAny a = length a.bytes.items < 2 ^ 32
+IsAny a = Fits a.bytes.items
 
 abbrev pub any_lent : AnyRef → AnyValue
 any_lent a = record { tag = a.tag; contents = a.bytes.now }

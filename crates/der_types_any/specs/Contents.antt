@@ -11,7 +11,7 @@ use Rattle.der_core_head.specs.Leaves.{Leaf, LeafValue, leaf_read}
 use Rattle.der_core_head.specs.Shapes.{AnyValue, Content, ContentValue}
 use Rattle.der_core_head.specs.Grammar.{read_content_by, whole}
 use Rattle.der_core_head.specs.Writing.{write_content}
-use Rattle.der_core_octets.specs.Fronts.{alone}
+use Rattle.der_core_head.specs.Fronts.{alone}
 use Rattle.der_types_numbers.specs.Numbers.{counted}
 
 -- the value by those rules, if the tag is that of the type, or the fault

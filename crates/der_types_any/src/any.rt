@@ -4,6 +4,7 @@ ghost use Rattle.std.specs.Prelude.{◌≡◌, ◌<◌, ◌≤◌, ◌^◌, ◌�
 ghost use Rattle.std.proofs.Common.{refl};
 ghost use Rattle.std.specs.Cmp.{po, partial_equiv_from_equiv, on_equiv, on_per};
 ghost use Rattle.std.specs.Cmp.Lexicographic.{pointwise, nat_list_eq_equiv};
+ghost use Rattle.der_core_head.specs.Limits.{levels_max};
 ghost use Rattle.der_core_head.specs.declared.encoding_rules.EncodingRules.TheVariants.{Der};
 ghost use Rattle.der_core_head.specs.declared.tag.Tag.TheVariants.{Null, Sequence};
 ghost use Rattle.der_core_head.specs.Shapes.{any, tagged, nested, Body, BodyValue, ContentValue, IsValid, Spells, octets_of};
@@ -160,7 +161,7 @@ impl Any {
             → IfOk result (λ v. Spells (tagged T.fixed_tag T.content) (T.value_plain v) (octets_of any self.now)) }
         // What is spelled by it is read, unless memory runs out.
         ensures only { (v : ContentValue T.content) → IsValid any self.now → is_apart (tagged T.fixed_tag T.content) ≡ true
-            → are_enough (tagged T.fixed_tag T.content) 64 ≡ true → Spells (tagged T.fixed_tag T.content) v (octets_of any self.now)
+            → are_enough (tagged T.fixed_tag T.content) levels_max ≡ true → Spells (tagged T.fixed_tag T.content) v (octets_of any self.now)
             → Gives T.value_plain result (Ok v) }
         // Which fault it is.
         ensures exact { Gives T.value_plain result (content_as T.fixed_tag T.content self.now) }

@@ -4,6 +4,8 @@ ghost use Rattle.std.specs.Prelude.{◌≡◌, ◌<◌, ◌≤◌, ◌^◌, ◌�
 ghost use Rattle.std.proofs.Common.{refl};
 ghost use Rattle.std.specs.Cmp.{po, partial_equiv_from_equiv, on_equiv, on_per, on_total};
 ghost use Rattle.std.specs.Cmp.Lexicographic.{pointwise, nat_list_eq_equiv};
+ghost use Rattle.der_core_head.specs.Limits.{levels_max};
+ghost use Rattle.der_core_head.specs.Heads.{Fits};
 ghost use Rattle.der_core_head.specs.declared.encoding_rules.EncodingRules.TheVariants.{Der};
 ghost use Rattle.der_core_head.specs.declared.tag.Tag.TheVariants.{Null, Sequence};
 ghost use Rattle.der_core_head.specs.Shapes.{any, tagged, nested, Body, BodyValue, ContentValue, IsValid, Spells, octets_of};
@@ -33,7 +35,7 @@ use std::hash::{Hash, Hasher};
 pub struct AnyRef<'a> {
     tag: Tag,
     bytes: &'a [u8],
-    ghost short: { length bytes.now < 2 ^ 32 },
+    ghost short: { Fits bytes.now },
 }
 
 impl<'a> AnyRef<'a> {
@@ -50,7 +52,7 @@ impl<'a> AnyRef<'a> {
     /// # Errors
     /// `Overflow` for 2^32 octets or more.
     pub fn new(tag: Tag, bytes: &'a [u8]) -> Result<AnyRef<'a>, Error>
-        ensures ok { IfOk result (λ a. (length bytes.now < 2 ^ 32) × (any_lent a ≡ record { tag = tag; contents = bytes.now })) }
+        ensures ok { IfOk result (λ a. Fits bytes.now × (any_lent a ≡ record { tag = tag; contents = bytes.now })) }
         ensures err { IfErr result (λ e. (2 ^ 32 ≤ length bytes.now) × (e.kind ≡ ErrorKind.Overflow)) }
     {
         if bytes.len() > 0xffff_ffff {
@@ -61,7 +63,7 @@ impl<'a> AnyRef<'a> {
 
     /// Octets that are known to be few enough, behind a tag.
     pub(crate) fn trusted(tag: Tag, bytes: &'a [u8]) -> AnyRef<'a>
-        requires { length bytes.now < 2 ^ 32 }
+        requires { Fits bytes.now }
         ensures { any_lent result ≡ record { tag = tag; contents = bytes.now } }
     {
         AnyRef { tag, bytes }
@@ -77,7 +79,7 @@ impl<'a> AnyRef<'a> {
     /// The content octets.
     pub fn value(&self) -> &'a [u8]
         ensures contents { result.now ≡ (any_lent self.now).contents }
-        ensures short { length result.now < 2 ^ 32 }
+        ensures short { Fits result.now }
     {
         self.bytes
     }
@@ -119,7 +121,7 @@ impl<'a> AnyRef<'a> {
             → IfOk result (λ v. Spells (tagged T.fixed_tag T.content) (T.value_plain v) (octets_of any (any_lent self.now))) }
         // What is spelled by it is read, unless memory runs out.
         ensures only { (v : ContentValue T.content) → IsValid any (any_lent self.now) → is_apart (tagged T.fixed_tag T.content) ≡ true
-            → are_enough (tagged T.fixed_tag T.content) 64 ≡ true → Spells (tagged T.fixed_tag T.content) v (octets_of any (any_lent self.now))
+            → are_enough (tagged T.fixed_tag T.content) levels_max ≡ true → Spells (tagged T.fixed_tag T.content) v (octets_of any (any_lent self.now))
             → Gives T.value_plain result (Ok v) }
         // Which fault it is.
         ensures exact { Gives T.value_plain result (content_as T.fixed_tag T.content (any_lent self.now)) }

@@ -2,6 +2,7 @@
 use Rattle.std.specs.Prelude.{◌≡◌, ◌<◌, ◌^◌, ℕ, ℤ, pos, List, false, length}
 use Rattle.std.specs.Int.Digits.{number_from_digits}
 use Rattle.const_oid.specs.Digits.{digits}
+use Rattle.der_core_head.specs.Heads.{Fits}
 use Rattle.der_core_head.specs.Integers.{integer_of, integer_octets, is_redundant}
 use Rattle.der_types_numbers.specs.declared.int.Int.TheInside.{Inside}
 use Rattle.der_types_numbers.specs.declared.int_ref.IntRef.{IntRef}
@@ -15,7 +16,7 @@ pub record IsInt (n : Inside) : Type 0 where
   pub content : n.bytes.items ≡ integer_octets (integer_of n.bytes.items)
   pub some : 0 < length n.bytes.items
   pub shortest : is_redundant n.bytes.items ≡ false
-  pub short : length n.bytes.items < 2 ^ 32
+  pub short : Fits n.bytes.items
 
 abbrev pub integer_lent : IntRef → ℤ
 integer_lent n = integer_of n.bytes.now
@@ -26,7 +27,7 @@ natural_kept n = number_from_digits 256 n.bytes.items
 pub record IsUint (n : UintInside) : Type 0 where
   pub some : 0 < length n.bytes.items
   pub spelled : n.bytes.items ≡ integer_octets (pos (number_from_digits 256 n.bytes.items))
-  pub short : length n.bytes.items < 2 ^ 32
+  pub short : Fits n.bytes.items
 
 abbrev pub natural_lent : UintRef → ℕ
 natural_lent n = number_from_digits 256 n.bytes.now

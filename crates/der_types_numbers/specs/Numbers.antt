@@ -1,6 +1,7 @@
 -- Whole numbers of octets in which some may be left out (X.690 8.3.2).
 use Rattle.std.specs.Prelude.{ℕ, ℤ, pos, List, [], ◌∷◌, length, Bool, false, nat_lt, ◌==◌, not, Result, Ok, Err, if◌then◌else◌}
 use Rattle.std.specs.Int.Digits.{number_from_digits}
+use Rattle.der_core_head.specs.Limits.{length_max}
 use Rattle.der_core_head.specs.declared.error.ErrorKind.{ErrorKind}
 use Rattle.der_core_head.specs.declared.error.ErrorKind.TheVariants as kinds
 use Rattle.der_core_head.specs.declared.tag.Tag.TheVariants.{Integer}
@@ -8,7 +9,7 @@ use Rattle.der_core_head.specs.Integers.{integer_of, integer_octets}
 
 -- a number, if its content has no more octets than a length can count
 unfoldable pub counted : {A : Type 0} → List ℕ → A → Result A ErrorKind
-counted content n = if nat_lt 4294967295 (length content) then Err kinds.Overflow else Ok n
+counted content n = if nat_lt length_max (length content) then Err kinds.Overflow else Ok n
 
 -- the number that octets spell in two's complement, the fewest or more
 unfoldable pub signed_number : List ℕ → Result ℤ ErrorKind

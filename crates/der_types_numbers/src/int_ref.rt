@@ -5,6 +5,7 @@ ghost use Rattle.std.proofs.Common.{refl, ap};
 ghost use Rattle.std.specs.Cmp.{po, partial_equiv_from_equiv, on_equiv, on_per, on_total};
 ghost use Rattle.std.specs.Cmp.Lexicographic.{pointwise, bytes_decides, nat_list_eq_equiv};
 ghost use Rattle.std.specs.Hash as fed;
+ghost use Rattle.der_core_head.specs.Heads.{Fits};
 ghost use Rattle.der_core_head.specs.declared.tag.Tag.TheVariants.{Integer as IntegerTag};
 ghost use Rattle.der_core_head.specs.Integers.{every, integer_of, integer_octets, is_redundant};
 ghost use Rattle.der_core_head.specs.Leaves.{integer, leaf_read};
@@ -31,7 +32,7 @@ pub struct IntRef<'a> {
     ghost content: { bytes.now ≡ integer_octets (integer_of bytes.now) },
     ghost some: { 0 < length bytes.now },
     ghost shortest: { is_redundant bytes.now ≡ false },
-    ghost short: { length bytes.now < 2 ^ 32 },
+    ghost short: { Fits bytes.now },
 }
 
 impl<'a> IntRef<'a> {
@@ -62,7 +63,7 @@ impl<'a> IntRef<'a> {
         ensures number { integer_of result.now ≡ integer_lent self.now }
         ensures some { 0 < length result.now }
         ensures shortest { is_redundant result.now ≡ false }
-        ensures short { length result.now < 2 ^ 32 }
+        ensures short { Fits result.now }
     {
         self.bytes
     }
@@ -99,7 +100,7 @@ impl<'a> IntRef<'a> {
     /// `Length` for no octets, `Noncanonical` where fewer would do.
     #[tactic(auto, unfolding(der_core_head::specs::Integers::shortest_integer))]
     pub fn of_content(tag: Tag, octets: &'a [u8]) -> Result<IntRef<'a>, Error>
-        requires { length octets.now < 2 ^ 32 }
+        requires { Fits octets.now }
         ensures { GivesNow integer_lent result (leaf_read (integer every) tag octets.now) }
     {
         if octets.is_empty() {
@@ -116,7 +117,7 @@ impl<'a> IntRef<'a> {
         requires content { bytes.now ≡ integer_octets (integer_of bytes.now) }
         requires some { 0 < length bytes.now }
         requires shortest { is_redundant bytes.now ≡ false }
-        requires short { length bytes.now < 2 ^ 32 }
+        requires short { Fits bytes.now }
         ensures { integer_lent result ≡ integer_of bytes.now }
     {
         IntRef { bytes }

@@ -8,6 +8,7 @@ ghost use Rattle.std.specs.Cmp.Lexicographic.{pointwise, bytes_decides, nat_list
 ghost use Rattle.std.specs.Hash as fed;
 ghost use Rattle.std.specs.Ordering.{nat_cmp};
 ghost use Rattle.const_oid.specs.Digits.{digits};
+ghost use Rattle.der_core_head.specs.Heads.{Fits};
 ghost use Rattle.der_core_head.specs.Integers.{natural, integer_octets};
 ghost use Rattle.der_core_head.specs.declared.tag.Tag.TheVariants.{Integer};
 ghost use Rattle.der_core_head.specs.Leaves.{integer};
@@ -114,7 +115,7 @@ impl Uint {
     /// The content octets, given back.
     pub(crate) fn into_content(self) -> Vec<u8>
         ensures octets { result.items ≡ integer_octets (pos self) }
-        ensures short { length result.items < 2 ^ 32 }
+        ensures short { Fits result.items }
     {
         let Uint { bytes } = self;
         bytes

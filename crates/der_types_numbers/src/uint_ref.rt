@@ -8,6 +8,7 @@ ghost use Rattle.std.specs.Hash as fed;
 ghost use Rattle.std.specs.Ordering.{nat_cmp};
 ghost use Rattle.std.specs.Int.Digits.{number_from_digits};
 ghost use Rattle.const_oid.specs.Digits.{digits};
+ghost use Rattle.der_core_head.specs.Heads.{Fits};
 ghost use Rattle.der_core_head.specs.declared.tag.Tag.TheVariants.{Integer as IntegerTag};
 ghost use Rattle.der_core_head.specs.Integers.{natural, integer_of, integer_octets};
 ghost use Rattle.der_core_head.specs.Leaves.{integer, leaf_read};
@@ -38,7 +39,7 @@ pub struct UintRef<'a> {
     bytes: &'a [u8],
     ghost digits: { bytes.now ≡ digits 256 (number_from_digits 256 bytes.now) },
     ghost some: { 0 < length bytes.now },
-    ghost few: { length bytes.now < 2 ^ 32 },
+    ghost few: { Fits bytes.now },
     ghost short: { length (integer_octets (pos (number_from_digits 256 bytes.now))) < 2 ^ 32 },
 }
 
@@ -106,7 +107,7 @@ impl<'a> UintRef<'a> {
     /// `Length` for no octets, `Noncanonical` where fewer would do, `Value` for a negative number.
     #[tactic(auto, using(crate::proofs::Naturals::natural_reads))]
     pub fn of_content(tag: Tag, octets: &'a [u8]) -> Result<UintRef<'a>, Error>
-        requires { length octets.now < 2 ^ 32 }
+        requires { Fits octets.now }
         ensures { GivesNow (λ n. pos (natural_lent n)) result (leaf_read (integer natural) tag octets.now) }
     {
         if octets.is_empty() {

@@ -2,6 +2,7 @@
 use Rattle.std.proofs.Common.{◌≡◌, ℕ, zero, suc, ◌-◌, ◌+◌, ◌<◌, ◌≤◌, List, [], ◌∷◌, ◌++◌, length, Result, Ok, Err, refl, sym, ap, subst, ◌∙◌, arith, true, Option, Some, None}
 use Rattle.std.specs.Prelude.{◌≢◌, flat_map}
 use Rattle.std.specs.List.{AllByRecursion}
+use Rattle.der_core_head.specs.Limits.{levels_max}
 use Rattle.der_core_head.specs.declared.error.ErrorKind.{ErrorKind}
 use Rattle.der_core_head.specs.declared.error.ErrorKind.TheVariants as kinds
 use Rattle.der_core_head.specs.Octets.{Readings, ◌>>=◌}
@@ -68,7 +69,7 @@ record Members (s : Shape) (last : Option (List ℕ)) (w : List ℕ) (v : List (
   pub valid : AllByRecursion (IsValid s) v
   pub ascend : OrderedFrom not_below (octets_of s) last v
   pub octets : w ≡ flat_map (octets_of s) v
-  pub again : values_at (read s 64) (length v) w ≡ v
+  pub again : values_at (read s levels_max) (length v) w ≡ v
   pub rest : r ≡ []
 
 none_read : (s : Shape) (last : Option (List ℕ)) (v : List (Value s)) (r : List ℕ) → fine {A = List (Value s) × List ℕ} ([], []) ≡ fine (v, r) → Members s last [] v r
@@ -77,14 +78,14 @@ none_read s last v r e =
     subst (λ (q : List (Value s) × List ℕ). Members s last [] q.0 q.1) {x = ([], [])} same (record { valid = tt; ascend = tt; octets = refl; again = refl; rest = refl })
 
 members_read : (s : Shape) (last : Option (List ℕ)) (n : ℕ) (w : List ℕ) (v : List (Value s)) (r : List ℕ) → is_apart s ≡ true → IsBytes w → Fits w
-    → read_in_order not_below (octets_of s) (read s 64) last n w ≡ Ok (v, r) → Members s last w v r
+    → read_in_order not_below (octets_of s) (read s levels_max) last n w ≡ Ok (v, r) → Members s last w v r
 unfolding read_in_order
 members_read s last zero [] v r apart bytes fits e = none_read s last v r e
 members_read s last zero (b ∷ w) v r apart bytes fits e = absurd cc
 members_read s last (suc n) [] v r apart bytes fits e = none_read s last v r e
 members_read s last (suc n) (b ∷ w) v r apart bytes fits e =
     let o = octets_of s in
-    let F = read s 64 in
+    let F = read s levels_max in
     let x = bind_ok (F (b ∷ w)) (λ x. follows_last not_below last (o x.0) >>= λ _. read_in_order not_below o F (Some (o x.0)) n x.1 >>= λ y. Ok (x.0 ∷ y.0, y.1)) (v, r) e in
     let g = bind_ok (follows_last not_below last (o x.0.0)) (λ _. read_in_order not_below o F (Some (o x.0.0)) n x.0.1 >>= λ y. Ok (x.0.0 ∷ y.0, y.1)) (v, r) x.2 in
     let y = bind_ok (read_in_order not_below o F (Some (o x.0.0)) n x.0.1) (λ y. Ok (x.0.0 ∷ y.0, y.1)) (v, r) g.2 in
@@ -111,15 +112,15 @@ content_ascends s room v w element apart enough h =
 -- What was counted
 
 pub record Counts (s : Shape) (room : ℕ) (w : List ℕ) (n : ℕ) : Type 0 where
-  pub many : length (values_at (read s 64) n w) ≡ n
-  pub spelled : JoinsAscending s (values_at (read s 64) n w) w
-  pub all : read_body (ascending s) room w ≡ Ok (values_at (read s 64) n w, [])
+  pub many : length (values_at (read s levels_max) n w) ≡ n
+  pub spelled : JoinsAscending s (values_at (read s levels_max) n w) w
+  pub all : read_body (ascending s) room w ≡ Ok (values_at (read s levels_max) n w, [])
 
 counts : (s : Shape) (room : ℕ) (w : List ℕ) (n : ℕ) (x : List (Value s) × List ℕ) → is_apart s ≡ true → room ≤ 64 → IsBytes w → Fits w → read_body (ascending s) room w ≡ Ok x → 0 + length x.0 ≡ n → Counts s room w n
 counts s room w n x apart most bytes fits e is =
     let m = members_read s None (length w) w x.0 x.1 apart bytes fits (more_body (ascending s) room 64 most w x e) in
     let len : length x.0 ≡ n = omega arith in
-    let same : x.0 ≡ values_at (read s 64) n w = sym m.again ∙ ap (λ k. values_at (read s 64) k w) len in
+    let same : x.0 ≡ values_at (read s levels_max) n w = sym m.again ∙ ap (λ k. values_at (read s levels_max) k w) len in
     record {
       many = ap (λ (t : List (Value s)). length t) (sym same) ∙ len;
       spelled = subst (λ (t : List (Value s)). JoinsAscending s t w) same (record { valid = m.valid; octets_are = m.octets; ascend = from_none not_below (octets_of s) x.0 m.ascend });

@@ -10,6 +10,7 @@ use Rattle.std.specs.Cmp.Lexicographic.{pointwise}
 use Rattle.std.proofs.lemmas.Bool.Decides.{Decides-eqb}
 use Rattle.std.proofs.lemmas.List.{append-nil, drop_all}
 use Rattle.std.proofs.lemmas.Slice.Eq.{strip_prefix_is}
+use Rattle.der_core_head.specs.Limits.{levels_max}
 use Rattle.der_core_head.specs.declared.error.Error.{Error}
 use Rattle.der_core_head.specs.declared.error.ErrorKind.{ErrorKind}
 use Rattle.der_core_head.specs.declared.error.ErrorKind.TheVariants as kinds
@@ -135,15 +136,15 @@ content_values : {A : Type 0} (s : Shape) (f : A → Value s) (v : List A) (w : 
 content_values s f v w zero h e = ap (flat_map (octets_of s)) (append-nil (plain_list f v))
 content_values {A} s f v w (suc n) h e =
     let none : v ≡ [] = nothing_in v (h.has.one (omega arith)) in
-    let spelled : flat_map (octets_of s) (values_at (read s 64) (suc n) w) ≡ [] = spelled_octets s f v w (suc n) h ∙ nothing_in w e in
-    let P : List A → Type 0 = λ u. flat_map (octets_of s) (plain_list f u ++ values_at (read s 64) (suc n) w) ≡ flat_map (octets_of s) (plain_list f u) in
+    let spelled : flat_map (octets_of s) (values_at (read s levels_max) (suc n) w) ≡ [] = spelled_octets s f v w (suc n) h ∙ nothing_in w e in
+    let P : List A → Type 0 = λ u. flat_map (octets_of s) (plain_list f u ++ values_at (read s levels_max) (suc n) w) ≡ flat_map (octets_of s) (plain_list f u) in
     subst P (sym none) spelled
 
 content_octets : {A : Type 0} (s : Shape) (f : A → Value s) (v : List A) (w : List ℕ) (n : ℕ) → IsLent s f (lent v w n) → 0 < length w → flat_map (octets_of s) (members_lent s f (lent v w n)) ≡ w
 content_octets s f v w zero h some = absurd (omega (arith, ap (λ (u : List ℕ). length u) h.joined.octets_are))
 content_octets {A} s f v w (suc n) h some =
     let none : v ≡ [] = nothing_in v (h.has.one (omega arith)) in
-    let P : List A → Type 0 = λ u. flat_map (octets_of s) (plain_list f u ++ values_at (read s 64) (suc n) w) ≡ w in
+    let P : List A → Type 0 = λ u. flat_map (octets_of s) (plain_list f u ++ values_at (read s levels_max) (suc n) w) ≡ w in
     subst P (sym none) (spelled_octets s f v w (suc n) h)
 
 valid_values : {A : Type 0} (s : Shape) (f : A → Value s) (v : List A) (w : List ℕ) (n : ℕ) → IsLent s f (lent v w n) → AllByRecursion (IsValid s) (members_lent s f (lent v w n)) → AllByRecursion (IsValid s) (plain_list f v)

@@ -1,6 +1,7 @@
 -- The members of a lent set, in a list of their own.
 use Rattle.std.proofs.Common.{◌≡◌, ℕ, zero, suc, List, [], ◌∷◌, ◌++◌, refl, sym, ap, subst, ◌∙◌, append_assoc, arith}
 use Rattle.std.proofs.lemmas.List.{append-nil}
+use Rattle.der_core_head.specs.Limits.{levels_max}
 use Rattle.der_core_head.specs.Shapes.{Shape, Value, octets_of, AllAscending}
 use Rattle.der_core_head.specs.Grammar.{read, plain_list}
 use Rattle.der_types_sets.specs.Sets.{Ascends}
@@ -26,8 +27,8 @@ joined-ascends s (x ∷ y ∷ v) h = ((λ p q. h.0), joined-ascends s (y ∷ v) 
 lent-ascends : {A : Type 0} (s : Shape) (f : A → Value s) (v : List A) (w : List ℕ) (n : ℕ) → IsLent s f (lent v w n) → Ascends s (λ x. x) (members_lent s f (lent v w n))
 lent-ascends s f v w zero h = subst (Ascends s (λ x. x)) (sym (append-nil (plain_list f v))) (ascends-plain s f v h.ascend)
 lent-ascends {A} s f v w (suc n) h =
-    let P : List A → Type 0 = λ u. Ascends s (λ x. x) (plain_list f u ++ values_at (read s 64) (suc n) w) in
-    subst P (sym (nothing_in v (h.has.one (omega arith)))) (joined-ascends s (values_at (read s 64) (suc n) w) h.joined.ascend)
+    let P : List A → Type 0 = λ u. Ascends s (λ x. x) (plain_list f u ++ values_at (read s levels_max) (suc n) w) in
+    subst P (sym (nothing_in v (h.has.one (omega arith)))) (joined-ascends s (values_at (read s levels_max) (suc n) w) h.joined.ascend)
 
 -- a copy of each member, so far
 pub taken_on : {A P : Type 0} (f : A → P) (xs : List A) (x : A) (left more all : List P) → plain_list f xs ++ left ≡ all → left ≡ f x ∷ more → plain_list f (xs ++ x ∷ []) ++ more ≡ all

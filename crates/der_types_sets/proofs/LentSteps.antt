@@ -4,6 +4,7 @@ use Rattle.std.specs.Prelude.{◌≢◌, slice_get, Some, None, ◌+◌}
 use Rattle.std.proofs.lemmas.Option.{slice_get_past}
 use Rattle.std.proofs.lemmas.Bool.{le-ltb}
 use Rattle.std.proofs.lemmas.List.{length-drop}
+use Rattle.der_core_head.specs.Limits.{length_max, levels_max}
 use Rattle.der_core_head.specs.declared.error.Error.{Error}
 use Rattle.der_core_head.specs.declared.error.ErrorKind.{ErrorKind}
 use Rattle.der_core_head.specs.declared.error.ErrorKind.TheVariants as kinds
@@ -21,12 +22,12 @@ use Rattle.der_types_sets.specs.Lent.{Lent, IsSpelled, members_lent, YieldsMembe
 
 -- the first value, and those behind it
 pub record FirstSpelled (s : Shape) (n : ℕ) (w : List ℕ) (v : Value s) (r : List ℕ) : Type 0 where
-  pub all : values_at (read s 64) n w ≡ v ∷ values_at (read s 64) (n - 1) r
+  pub all : values_at (read s levels_max) n w ≡ v ∷ values_at (read s levels_max) (n - 1) r
   pub left : IsSpelled s (n - 1) r
 
-first_read : (s : Shape) (n : ℕ) (w : List ℕ) (v : Value s) (r : List ℕ) → is_apart s ≡ true → IsBytes w → IsSpelled s (suc n) w → read s 64 w ≡ Ok (v, r) → FirstSpelled s (suc n) w v r
+first_read : (s : Shape) (n : ℕ) (w : List ℕ) (v : Value s) (r : List ℕ) → is_apart s ≡ true → IsBytes w → IsSpelled s (suc n) w → read s levels_max w ≡ Ok (v, r) → FirstSpelled s (suc n) w v r
 first_read s n w v r apart bytes spelled e =
-    let F = read s 64 in
+    let F = read s levels_max in
     let one : suc n - 1 ≡ n = omega arith in
     let all : values_at F (suc n) w ≡ v ∷ values_at F n r = ap (λ t. first_of t (values_at F n)) e in
     let many : suc (length (values_at F n r)) ≡ suc n = sym (ap (λ (t : List (Value s)). length t) all) ∙ spelled.many in
@@ -37,9 +38,9 @@ first_read s n w v r apart bytes spelled e =
 
 pub first_spelled : (s : Shape) (n : ℕ) (w : List ℕ) (v : Value s) (r : List ℕ) → is_apart s ≡ true → IsBytes w → 0 < n → IsSpelled s n w → front_at s w ≡ Ok (v, r) → FirstSpelled s n w v r
 first_spelled s zero w v r apart bytes some spelled e = absurd (omega arith)
-first_spelled s (suc n) w v r apart bytes some spelled e = first_read s n w v r apart bytes spelled (rw (le-ltb 4294967295 (length w) (omega (arith, spelled.short))) at e)
+first_spelled s (suc n) w v r apart bytes some spelled e = first_read s n w v r apart bytes spelled (rw (le-ltb length_max (length w) (omega (arith, spelled.short))) at e)
 
-one_spelled : (s : Shape) (n : ℕ) (w : List ℕ) (x : Result (Value s × List ℕ) ErrorKind) → read s 64 w ≡ x → length (first_of x (values_at (read s 64) n)) ≡ suc n → (y : Value s × List ℕ) × (read s 64 w ≡ Ok y)
+one_spelled : (s : Shape) (n : ℕ) (w : List ℕ) (x : Result (Value s × List ℕ) ErrorKind) → read s levels_max w ≡ x → length (first_of x (values_at (read s levels_max) n)) ≡ suc n → (y : Value s × List ℕ) × (read s levels_max w ≡ Ok y)
 one_spelled s n w (Ok x) e many = (x, e)
 one_spelled s n w (Err k) e many = absurd (omega arith)
 
@@ -51,16 +52,16 @@ wants_memory _ x r e h = absurd (cc (e, h (λ q. absurd cc)))
 pub spelled_wants : (s : Shape) (n : ℕ) (w : List ℕ) (k : ErrorKind) → 0 < n → IsSpelled s n w → (k ≢ kinds.OutOfMemory → front_at s w ≡ Err k) → k ≡ kinds.OutOfMemory
 spelled_wants s zero w k some spelled h = absurd (omega arith)
 spelled_wants s (suc n) w k some spelled h =
-    let x = one_spelled s n w (read s 64 w) refl spelled.many in
-    let front : front_at s w ≡ Ok x.0 = rw (le-ltb 4294967295 (length w) (omega (arith, spelled.short))) x.1 in
+    let x = one_spelled s n w (read s levels_max w) refl spelled.many in
+    let front : front_at s w ≡ Ok x.0 = rw (le-ltb length_max (length w) (omega (arith, spelled.short))) x.1 in
     wants_memory k x.0 (front_at s w) front h
 
 none_of : {A : Type 0} (xs : List A) → length xs ≡ 0 → xs ≡ []
 none_of [] h = refl
 none_of (x ∷ xs) h = absurd (omega arith)
 
-pub front_lent : {A : Type 0} (s : Shape) (f : A → Value s) (values : List A) (n : ℕ) (w : List ℕ) (v : Value s) (r : List ℕ) → length values ≡ 0 → values_at (read s 64) n w ≡ v ∷ values_at (read s 64) (n - 1) r
-    → plain_list f values ++ values_at (read s 64) n w ≡ v ∷ (plain_list f values ++ values_at (read s 64) (n - 1) r)
+pub front_lent : {A : Type 0} (s : Shape) (f : A → Value s) (values : List A) (n : ℕ) (w : List ℕ) (v : Value s) (r : List ℕ) → length values ≡ 0 → values_at (read s levels_max) n w ≡ v ∷ values_at (read s levels_max) (n - 1) r
+    → plain_list f values ++ values_at (read s levels_max) n w ≡ v ∷ (plain_list f values ++ values_at (read s levels_max) (n - 1) r)
 front_lent s f values n w v r none all = rw (none_of values none) all
 
 -- A member at an index

@@ -3,6 +3,7 @@ use Rattle.std.proofs.Common.{◌≡◌, ℕ, zero, suc, ◌<◌, eqb, Bool, fal
 use Rattle.std.specs.Prelude.{flat_map}
 use Rattle.std.specs.List.{AllByRecursion}
 use Rattle.std.proofs.lemmas.List.{append-nil}
+use Rattle.der_core_head.specs.Limits.{levels_max}
 use Rattle.der_core_head.specs.declared.error.Error.{Error}
 use Rattle.der_core_head.specs.declared.error.ErrorKind.{ErrorKind}
 use Rattle.der_core_head.specs.Heads.{Fits}
@@ -35,21 +36,21 @@ abbrev pub lent : {A : Type 0} → List A → List ℕ → ℕ → Lent A
 lent v w n = record { values = v; octets = w; count = n }
 
 -- what octets spell joins to them
-pub spelled_octets : {A : Type 0} (s : Shape) (f : A → Value s) (v : List A) (w : List ℕ) (n : ℕ) → IsLent s f (lent v w n) → flat_map (octets_of s) (values_at (read s 64) n w) ≡ w
+pub spelled_octets : {A : Type 0} (s : Shape) (f : A → Value s) (v : List A) (w : List ℕ) (n : ℕ) → IsLent s f (lent v w n) → flat_map (octets_of s) (values_at (read s levels_max) n w) ≡ w
 spelled_octets s f v w n h = sym h.joined.octets_are
 
-spelled_fits : {A : Type 0} (s : Shape) (f : A → Value s) (v : List A) (w : List ℕ) (n : ℕ) → IsLent s f (lent v w n) → Fits (flat_map (octets_of s) (values_at (read s 64) n w))
+spelled_fits : {A : Type 0} (s : Shape) (f : A → Value s) (v : List A) (w : List ℕ) (n : ℕ) → IsLent s f (lent v w n) → Fits (flat_map (octets_of s) (values_at (read s levels_max) n w))
 spelled_fits s f v w n h = subst Fits (sym (spelled_octets s f v w n h)) h.has.spelled.short
 
 some_size : {A : Type 0} (s : Shape) (f : A → Value s) (v : List A) (w : List ℕ) (n : ℕ) → IsLent s f (lent v w (suc n)) → many_len (size s) (members_lent s f (lent v w (suc n))) 0 ≡ Ok (length w)
 some_size s f v w n h =
     rw (nothing_in v (h.has.one (omega arith)))
-    (members_size s (values_at (read s 64) (suc n) w) h.joined.valid (spelled_fits s f v w (suc n) h) ∙ ap (λ (u : List ℕ). Ok (length u)) (spelled_octets s f v w (suc n) h))
+    (members_size s (values_at (read s levels_max) (suc n) w) h.joined.valid (spelled_fits s f v w (suc n) h) ∙ ap (λ (u : List ℕ). Ok (length u)) (spelled_octets s f v w (suc n) h))
 
 some_put : {A : Type 0} (s : Shape) (f : A → Value s) (v : List A) (w : List ℕ) (n : ℕ) (o : Out) → IsLent s f (lent v w (suc n)) → write_many (write s) (members_lent s f (lent v w (suc n))) o ≡ put_some w o
 some_put s f v w n o h =
     rw (nothing_in v (h.has.one (omega arith)))
-    (members_put s (values_at (read s 64) (suc n) w) o h.joined.valid ∙ ap (λ (u : List ℕ). put_some u o) (spelled_octets s f v w (suc n) h))
+    (members_put s (values_at (read s levels_max) (suc n) w) o h.joined.valid ∙ ap (λ (u : List ℕ). put_some u o) (spelled_octets s f v w (suc n) h))
 
 pub size_values : {A : Type 0} (s : Shape) (f : A → Value s) (v : List A) (w : List ℕ) (n : ℕ) → IsLent s f (lent v w n) → length w ≡ 0
     → many_len (size s) (plain_list f v) 0 ≡ many_len (size s) (members_lent s f (lent v w n)) 0
@@ -88,7 +89,7 @@ values_ordered s f (x ∷ y ∷ v) valid h = (h.0 valid.0 valid.1.0, values_orde
 
 spelled_ordered : {A : Type 0} (s : Shape) (f : A → Value s) (v : List A) (w : List ℕ) (n : ℕ) → IsLent s f (lent v w (suc n)) → AllAscending (octets_of s) (members_lent s f (lent v w (suc n)))
 spelled_ordered {A} s f v w n h =
-    let P : List A → Type 0 = λ u. AllAscending (octets_of s) (plain_list f u ++ values_at (read s 64) (suc n) w) in
+    let P : List A → Type 0 = λ u. AllAscending (octets_of s) (plain_list f u ++ values_at (read s levels_max) (suc n) w) in
     subst P (sym (nothing_in v (h.has.one (omega arith)))) h.joined.ascend
 
 lent_ordered : {A : Type 0} (s : Shape) (f : A → Value s) (v : List A) (w : List ℕ) (n : ℕ) → IsLent s f (lent v w n) → AllByRecursion (IsValid s) (plain_list f v) → AllAscending (octets_of s) (members_lent s f (lent v w n))

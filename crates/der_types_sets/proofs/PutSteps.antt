@@ -4,6 +4,7 @@ use Rattle.std.proofs.lemmas.Bool.{le-ltb, lt-ltb, cases_lt}
 use Rattle.std.proofs.lemmas.List.{append-nil, length-append}
 use Rattle.std.specs.List.{flat_map, AllByRecursion}
 use Rattle.std.specs.Str.{bytes_eq}
+use Rattle.der_core_head.specs.Limits.{length_max}
 use Rattle.der_core_head.specs.declared.error.ErrorKind.{ErrorKind}
 use Rattle.der_core_head.specs.declared.tag.Tag.{Tag}
 use Rattle.der_core_head.specs.Octets.{◌>>=◌}
@@ -93,7 +94,7 @@ tlv_put t c n f o fits e writes =
     let sum = length-append (tag_octets t ++ length_octets k) c in
     let head : (put (tag_octets t) o >>= put (length_octets k)) ≡ put (tag_octets t ++ length_octets k) o = put-append (tag_octets t) (length_octets k) o in
     let first = tag_octets-some t in
-    rw (e, le-ltb 4294967295 (length (tag_octets t ++ length_octets k) + k) (omega (arith, sum, fits)))
+    rw (e, le-ltb length_max (length (tag_octets t ++ length_octets k) + k) (omega (arith, sum, fits)))
     (ap (λ r. r >>= f) head ∙ put-then (tag_octets t ++ length_octets k) o f (put c) writes ∙ put-append (tag_octets t ++ length_octets k) c o
     ∙ ap (λ (w : List ℕ). put ((w ++ length_octets k) ++ c) o) first.2 ∙ sym (ap (λ (w : List ℕ). put_some ((w ++ length_octets k) ++ c) o) first.2))
 
@@ -117,7 +118,7 @@ mutual
   put_written any v o h = tlv_put v.tag v.contents (fit_len (length v.contents)) (put v.contents) o h.2 (any_size v.contents (fits_contents v.tag v.contents h.2)) (λ x e. refl)
     where
       any_size : (w : List ℕ) → Fits w → fit_len (length w) ≡ Ok (length w)
-      any_size w fits = let same : length w + 0 ≡ length w = omega arith in rw (le-ltb 4294967295 (length w + 0) (omega (arith, fits))) (ap (λ n. Ok n) same)
+      any_size w fits = let same : length w + 0 ≡ length w = omega arith in rw (le-ltb length_max (length w + 0) (omega (arith, fits))) (ap (λ n. Ok n) same)
   put_written (either x y) (inl v) o h = put_written x v o h
   put_written (either x y) (inr v) o h = put_written y v o h
   put_written (optional s) None o h = refl

@@ -2,6 +2,7 @@
 use Rattle.std.specs.Prelude.{◌≡◌, ◌≢◌, ℕ, ◌<◌, List, [], ◌++◌, length, slice_get, Option, None, Some, false, Result, Err, MatchOption, MatchResult, refl, ◌∷◌, ◌⊎◌}
 use Rattle.std.proofs.Common.{ap}
 use Rattle.std.specs.Coded.{Coded, code_by, coded×, coded_list, coded_ℕ}
+use Rattle.der_core_head.specs.Limits.{levels_max}
 use Rattle.der_core_head.specs.declared.error.Error.{Error}
 use Rattle.der_core_head.specs.declared.error.ErrorKind.{ErrorKind}
 use Rattle.der_core_head.specs.declared.error.ErrorKind.TheVariants as kinds
@@ -26,7 +27,7 @@ lent_code {A} c =
 
 -- the members that octets spell
 abbrev pub members_spelled : {A : Type 0} (s : Shape) → Lent A → List (Value s)
-members_spelled s l = values_at (read s 64) l.count l.octets
+members_spelled s l = values_at (read s levels_max) l.count l.octets
 
 -- the plain values of the members
 abbrev pub members_lent : {A : Type 0} (s : Shape) → (A → Value s) → Lent A → List (Value s)
@@ -38,7 +39,7 @@ same_lent s h l = ap (λ v. v ++ members_spelled s l) (same_list h l.values)
 
 -- Octets that a length can count begin with so many members.
 pub record IsSpelled (s : Shape) (count : ℕ) (octets : List ℕ) : Type 0 where
-  pub many : length (values_at (read s 64) count octets) ≡ count
+  pub many : length (values_at (read s levels_max) count octets) ≡ count
   pub short : Fits octets
 
 -- never both, and the octets spell as many as are said

@@ -1,6 +1,8 @@
 //! Reading of members that ascend, equal ones among them.
 
 ghost use Rattle.std.specs.Prelude.{◌≤◌, ◌<◌, ◌^◌, length};
+ghost use Rattle.der_core_head.specs.Limits.{levels_max};
+ghost use Rattle.der_core_head.specs.Heads.{Fits};
 ghost use Rattle.der_core_head.specs.Shapes.{not_below, ascending};
 ghost use Rattle.der_core_head.specs.Grammar.{follows_last, read_body};
 ghost use Rattle.der_core_head.specs.Reading.{Gives, GivesNow};
@@ -38,8 +40,8 @@ pub(crate) fn count_ascending<'a, T: Decode<'a, SliceReader<'a>> + Member>(
     octets: &'a [u8],
     levels: usize,
 ) -> Result<usize, Error>
-    requires short { length octets.now < 2 ^ 32 }
-    requires levels { levels ≤ 64 }
+    requires short { Fits octets.now }
+    requires levels { levels ≤ levels_max }
     ensures { Gives (λ n. n) result (counted 0 (read_body (ascending T.shape) levels octets.now)) }
 {
     let mut reader = SliceReader::new_with_levels(octets, levels)?;

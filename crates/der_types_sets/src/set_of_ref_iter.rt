@@ -1,6 +1,7 @@
 //! The members of a borrowed set, one after another.
 
 ghost use Rattle.std.specs.Prelude.{◌≡◌, ◌<◌, ◌-◌, [], ◌∷◌, IfOk, IfErr};
+ghost use Rattle.der_core_head.specs.Limits.{levels_max};
 ghost use Rattle.der_core_head.specs.Grammar.{read};
 ghost use Rattle.der_types_sets.specs.Ascending.{values_at};
 ghost use Rattle.der_types_sets.specs.Lent.{Lent, HasMembers, IsSpelled, IsWantOfMemory};
@@ -72,7 +73,7 @@ fn first_member<'a, T: Decode<'a, SliceReader<'a>> + Member>(
 ) -> Result<(T, &'a [u8]), Error>
     requires some { 0 < count }
     requires spelled { IsSpelled T.shape count octets.now }
-    ensures first { IfOk result (λ x. values_at (read T.shape 64) count octets.now ≡ T.plain x.0 ∷ values_at (read T.shape 64) (count - 1) x.1.now) }
+    ensures first { IfOk result (λ x. values_at (read T.shape levels_max) count octets.now ≡ T.plain x.0 ∷ values_at (read T.shape levels_max) (count - 1) x.1.now) }
     ensures left { IfOk result (λ x. IsSpelled T.shape (count - 1) x.1.now) }
     ensures refused { IfErr result IsWantOfMemory }
 {

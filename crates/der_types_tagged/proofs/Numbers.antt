@@ -8,7 +8,7 @@ use Rattle.der_core_head.specs.Bodies.{head_by}
 use Rattle.der_core_head.specs.Shapes.{Shape}
 use Rattle.der_core_head.specs.Grammar.{read_by}
 use Rattle.der_core_head.proofs.Results.{ok_is}
-use Rattle.der_core_octets.specs.Fronts.{alone}
+use Rattle.der_core_head.specs.Fronts.{alone}
 use Rattle.der_types_tagged.specs.Fields.{explicit_field, numbered_at}
 
 -- what is refused with the number that stands there is refused

@@ -1,6 +1,7 @@
 -- What contracts see of a `BmpString` and of its iterators: characters.
 use Rattle.std.specs.Prelude.{◌≡◌, ◌&&◌, ℕ, List, Bool, length, Result, Ok, Err, nat_lt, if◌then◌else◌}
 use Rattle.std.specs.List.{list_all}
+use Rattle.der_core_head.specs.Limits.{length_max}
 use Rattle.der_core_head.specs.declared.error.ErrorKind.{ErrorKind}
 use Rattle.der_core_head.specs.declared.error.ErrorKind.TheVariants as kinds
 use Rattle.der_core_head.specs.declared.tag.Tag.TheVariants as tags
@@ -20,7 +21,7 @@ pub record IsBmpString (s : Inside) : Type 0 where
 
 -- the characters of octets that a length can count, or the fault
 abbrev pub ucs2_from : List ℕ → Result (List ℕ) ErrorKind
-ucs2_from w = if nat_lt 4294967295 (length w) then Err kinds.Overflow else bmp_read tags.BmpString w
+ucs2_from w = if nat_lt length_max (length w) then Err kinds.Overflow else bmp_read tags.BmpString w
 
 -- characters that a BMPString may have, or the fault
 abbrev pub bmp_from : List ℕ → Result (List ℕ) ErrorKind

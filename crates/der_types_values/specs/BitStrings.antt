@@ -1,6 +1,7 @@
 -- What contracts see of bit strings: the number of unused bits and the octets; and the bits themselves.
 use Rattle.std.specs.Prelude.{◌≡◌, ◌^◌, ◌<◌, Bool, true, List, length, map}
 use Rattle.std.specs.List.{range_with_len}
+use Rattle.der_core_head.specs.Heads.{Fits}
 use Rattle.der_core_head.specs.BitStrings.{Bits, are_bits}
 use Rattle.der_types_values.specs.declared.bit_string.BitString.TheInside.{Inside}
 use Rattle.der_types_values.specs.declared.bit_string_ref.BitStringRef.{BitStringRef}
@@ -12,7 +13,7 @@ bits_kept b = record { unused = b.unused_bits; octets = b.bytes.items }
 
 pub record IsBitString (b : Inside) : Type 0 where
   pub unused : are_bits b.unused_bits b.bytes.items ≡ true
-  pub short : length b.bytes.items < 2 ^ 32
+  pub short : Fits b.bytes.items
 
 abbrev pub bits_lent : BitStringRef → Bits
 bits_lent b = record { unused = b.unused_bits; octets = b.bytes.now }

@@ -1,6 +1,7 @@
 //! The bits of a bit string, one after another.
 
 ghost use Rattle.std.specs.Prelude.{◌≡◌, ◌<◌, ◌≤◌, ◌+◌, ◌*◌, ◌^◌, length};
+ghost use Rattle.der_core_head.specs.Heads.{Fits};
 
 use crate::bits::bit_of;
 use std::iter::FusedIterator;
@@ -12,7 +13,7 @@ pub struct BitStringIter<'a> {
     position: usize,
     left: usize,
     ghost inside: { position + left ≤ 8 * length bytes.now },
-    ghost short: { length bytes.now < 2 ^ 32 },
+    ghost short: { Fits bytes.now },
 }
 
 impl<'a> BitStringIter<'a> {
@@ -24,7 +25,7 @@ impl<'a> BitStringIter<'a> {
     /// The first so many bits of octets.
     pub(crate) fn of(bytes: &'a [u8], left: usize) -> BitStringIter<'a>
         requires inside { left ≤ 8 * length bytes.now }
-        requires short { length bytes.now < 2 ^ 32 }
+        requires short { Fits bytes.now }
         ensures { bits_left result ≡ map (bit_at bytes.now) (range_with_len 0 left) }
     {
         BitStringIter {

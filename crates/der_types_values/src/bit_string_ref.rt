@@ -1,6 +1,7 @@
 //! BIT STRING, borrowed.
 
 ghost use Rattle.std.specs.Prelude.{◌≡◌, ◌≢◌, ◌<◌, ◌≤◌, ◌^◌, ◌↔◌, [], length, true, false, Some, None, IsTrue, IsOk, IfOk, IfErr, IfSome, IfNone, MatchResult};
+ghost use Rattle.der_core_head.specs.Heads.{Fits};
 ghost use Rattle.der_core_head.specs.declared.tag.Tag.TheVariants.{BitString as BitStringTag};
 ghost use Rattle.der_core_head.specs.BitStrings.{Bits, are_bits};
 ghost use Rattle.der_core_head.specs.Leaves.{bits, leaf_read};
@@ -25,7 +26,7 @@ pub struct BitStringRef<'a> {
     unused_bits: u8,
     bytes: &'a [u8],
     ghost unused: { are_bits unused_bits bytes.now ≡ true },
-    ghost short: { length bytes.now < 2 ^ 32 },
+    ghost short: { Fits bytes.now },
 }
 
 impl<'a> BitStringRef<'a> {
@@ -40,7 +41,7 @@ impl<'a> BitStringRef<'a> {
     /// `Value` for more than seven unused bits, for unused bits of no octet, and where an unused
     /// bit isn't zero; then `Overflow` for 2^32 octets or more.
     pub fn new(unused_bits: u8, bytes: &'a [u8]) -> Result<BitStringRef<'a>, Error>
-        ensures bits { IsOk result ↔ ((are_bits unused_bits bytes.now ≡ true) × (length bytes.now < 2 ^ 32)) }
+        ensures bits { IsOk result ↔ ((are_bits unused_bits bytes.now ≡ true) × (Fits bytes.now)) }
         ensures ok { IfOk result (λ b. bits_lent b ≡ record { unused = unused_bits; octets = bytes.now }) }
         ensures value { are_bits unused_bits bytes.now ≡ false → IfErr result (λ e. e.kind ≡ ErrorKind.Value Tag.BitString) }
         ensures long { are_bits unused_bits bytes.now ≡ true → IfErr result (λ e. e.kind ≡ ErrorKind.Overflow) }
@@ -55,7 +56,7 @@ impl<'a> BitStringRef<'a> {
     /// `Overflow` for 2^32 octets or more.
     #[tactic(auto, using(crate::proofs::AllBits::all_bits))]
     pub fn from_bytes(bytes: &'a [u8]) -> Result<BitStringRef<'a>, Error>
-        ensures ok { IfOk result (λ b. (length bytes.now < 2 ^ 32) × (bits_lent b ≡ record { unused = 0; octets = bytes.now })) }
+        ensures ok { IfOk result (λ b. Fits bytes.now × (bits_lent b ≡ record { unused = 0; octets = bytes.now })) }
         ensures err { IfErr result (λ e. (2 ^ 32 ≤ length bytes.now) × (e.kind ≡ ErrorKind.Overflow)) }
     {
         if bytes.len() > 0xffff_ffff {
@@ -121,7 +122,7 @@ impl<'a> BitStringRef<'a> {
     pub fn raw_bytes(&self) -> &'a [u8]
         ensures octets { result.now ≡ (bits_lent self.now).octets }
         ensures bits { are_bits (bits_lent self.now).unused result.now ≡ true }
-        ensures short { length result.now < 2 ^ 32 }
+        ensures short { Fits result.now }
     {
         self.bytes
     }
@@ -161,7 +162,7 @@ impl<'a> BitStringRef<'a> {
     /// `Length` for no octets, `Value` where bits can't be unused.
     #[tactic(auto, unfolding(der_core_head::specs::BitStrings::bits_read))]
     pub fn of_content(tag: Tag, octets: &'a [u8]) -> Result<BitStringRef<'a>, Error>
-        requires { length octets.now < 2 ^ 32 }
+        requires { Fits octets.now }
         ensures { GivesNow bits_lent result (leaf_read bits tag octets.now) }
     {
         let [unused_bits, bytes @ ..] = octets else {
@@ -177,7 +178,7 @@ impl<'a> BitStringRef<'a> {
     /// Octets whose unused bits are known to be zero.
     pub(crate) fn trusted(unused_bits: u8, bytes: &'a [u8]) -> BitStringRef<'a>
         requires unused { are_bits unused_bits bytes.now ≡ true }
-        requires short { length bytes.now < 2 ^ 32 }
+        requires short { Fits bytes.now }
         ensures { bits_lent result ≡ record { unused = unused_bits; octets = bytes.now } }
     {
         BitStringRef { unused_bits, bytes }

@@ -1,6 +1,8 @@
 //! OCTET STRING, borrowed.
 
 ghost use Rattle.std.specs.Prelude.{◌≡◌, ◌<◌, ◌≤◌, ◌^◌, ◌↔◌, [], length, true, Ok, IsTrue, IfOk, IfErr, MatchResult};
+ghost use Rattle.der_core_head.specs.Limits.{levels_max};
+ghost use Rattle.der_core_head.specs.Heads.{Fits};
 ghost use Rattle.der_core_head.specs.declared.tag.Tag.TheVariants.{OctetString as OctetStringTag};
 ghost use Rattle.der_core_head.specs.Leaves.{octets};
 ghost use Rattle.der_core_head.specs.Shapes.{leaf, Value, Spells};
@@ -20,7 +22,7 @@ use std::alloc::{AllocError, Global};
 #[derive(Clone, Copy, Debug, PartialEq, Eq, PartialOrd, Ord, Hash)]
 pub struct OctetStringRef<'a> {
     bytes: &'a [u8],
-    ghost short: { length bytes.now < 2 ^ 32 },
+    ghost short: { Fits bytes.now },
 }
 
 impl<'a> OctetStringRef<'a> {
@@ -31,7 +33,7 @@ impl<'a> OctetStringRef<'a> {
     /// # Errors
     /// `Overflow` for 2^32 octets or more.
     pub fn new(bytes: &'a [u8]) -> Result<OctetStringRef<'a>, Error>
-        ensures ok { IfOk result (λ o. (length bytes.now < 2 ^ 32) × (octets_lent o ≡ bytes.now)) }
+        ensures ok { IfOk result (λ o. Fits bytes.now × (octets_lent o ≡ bytes.now)) }
         ensures err { IfErr result (λ e. (2 ^ 32 ≤ length bytes.now) × (e.kind ≡ ErrorKind.Overflow)) }
     {
         if bytes.len() > 0xffff_ffff {
@@ -42,7 +44,7 @@ impl<'a> OctetStringRef<'a> {
 
     /// The string of a content that a length can count.
     pub fn of_content(bytes: &'a [u8]) -> OctetStringRef<'a>
-        requires { length bytes.now < 2 ^ 32 }
+        requires { Fits bytes.now }
         ensures { octets_lent result ≡ bytes.now }
     {
         OctetStringRef { bytes }
@@ -51,7 +53,7 @@ impl<'a> OctetStringRef<'a> {
     /// The octets.
     pub fn as_bytes(&self) -> &'a [u8]
         ensures octets { result.now ≡ octets_lent self.now }
-        ensures short { length result.now < 2 ^ 32 }
+        ensures short { Fits result.now }
     {
         self.bytes
     }
@@ -81,7 +83,7 @@ impl<'a> OctetStringRef<'a> {
         // What is read is spelled so.
         ensures spelled { is_apart T.shape ≡ true → IfOk result (λ v. Spells T.shape (T.plain v) (octets_lent self.now)) }
         // What is spelled so is read, unless memory runs out.
-        ensures only { (v : Value T.shape) → is_apart T.shape ≡ true → are_enough T.shape 64 ≡ true
+        ensures only { (v : Value T.shape) → is_apart T.shape ≡ true → are_enough T.shape levels_max ≡ true
             → Spells T.shape v (octets_lent self.now) → Gives T.plain result (Ok v) }
         // Which fault it is.
         ensures exact { Gives (λ v. (T.plain v, [])) result (whole_at T.shape (octets_lent self.now)) }

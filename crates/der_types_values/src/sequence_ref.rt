@@ -1,6 +1,7 @@
 //! SEQUENCE, as it stands, borrowed.
 
 ghost use Rattle.std.specs.Prelude.{◌≡◌, ◌<◌, ◌≤◌, ◌^◌, length, IfOk, IfErr};
+ghost use Rattle.der_core_head.specs.Heads.{Fits};
 ghost use Rattle.der_core_head.specs.declared.tag.Tag.TheVariants.{Sequence as SequenceTag};
 ghost use Rattle.der_core_head.specs.Leaves.{octets};
 ghost use Rattle.der_core_head.specs.Shapes.{leaf};
@@ -21,7 +22,7 @@ pub trait Sequence: FixedTag {
 #[derive(Clone, Copy, Debug, PartialEq, Eq, PartialOrd, Ord, Hash)]
 pub struct SequenceRef<'a> {
     bytes: &'a [u8],
-    ghost short: { length bytes.now < 2 ^ 32 },
+    ghost short: { Fits bytes.now },
 }
 
 impl<'a> SequenceRef<'a> {
@@ -32,7 +33,7 @@ impl<'a> SequenceRef<'a> {
     /// # Errors
     /// `Overflow` for 2^32 octets or more.
     pub fn new(bytes: &'a [u8]) -> Result<SequenceRef<'a>, Error>
-        ensures ok { IfOk result (λ s. (length bytes.now < 2 ^ 32) × (fields_lent s ≡ bytes.now)) }
+        ensures ok { IfOk result (λ s. Fits bytes.now × (fields_lent s ≡ bytes.now)) }
         ensures err { IfErr result (λ e. (2 ^ 32 ≤ length bytes.now) × (e.kind ≡ ErrorKind.Overflow)) }
     {
         if bytes.len() > 0xffff_ffff {
@@ -43,7 +44,7 @@ impl<'a> SequenceRef<'a> {
 
     /// The SEQUENCE of a content that a length can count.
     pub fn of_content(bytes: &'a [u8]) -> SequenceRef<'a>
-        requires { length bytes.now < 2 ^ 32 }
+        requires { Fits bytes.now }
         ensures { fields_lent result ≡ bytes.now }
     {
         SequenceRef { bytes }
@@ -52,7 +53,7 @@ impl<'a> SequenceRef<'a> {
     /// The content octets.
     pub fn as_bytes(&self) -> &'a [u8]
         ensures octets { result.now ≡ fields_lent self.now }
-        ensures short { length result.now < 2 ^ 32 }
+        ensures short { Fits result.now }
     {
         self.bytes
     }

@@ -3,7 +3,7 @@
 use crate::lists::{list_of, members_of};
 use crate::refusals::Refusal;
 use crate::timestamps::{date_of, parts_of};
-use crate::values::rewritten;
+use crate::values::{length_of, length_of_list, rewritten};
 use std::alloc::Global;
 use std::io;
 use std::io::Write;
@@ -27,6 +27,8 @@ fn answer_of(alloc: Global, line: &str) -> Result<String, Refusal> {
         "tls" => rewritten(alloc, rest),
         "members" => members_of(alloc, rest),
         "list" => list_of(alloc, rest),
+        "long" => length_of(alloc, rest),
+        "long-list" => length_of_list(alloc, rest),
         "stamp" => parts_of(alloc, rest),
         "date" => date_of(alloc, rest),
         _ => Err(Refusal::Unread),

@@ -2,10 +2,12 @@
 
 use crate::octets::{octets_of, text_of};
 use crate::refusals::Refusal;
+use der_core::to_der;
 use std::alloc::Global;
 use x509_cert_timestamps::{
     DigitallySigned, HashAlgorithm, LogId, SerializedSct, SignatureAlgorithm,
-    SignatureAndHashAlgorithm, SignedCertificateTimestamp, TlsValue, Version,
+    SignatureAndHashAlgorithm, SignedCertificateTimestamp, SignedCertificateTimestampList,
+    TlsValue, Version,
 };
 
 /// What is written of the value of a type that octets begin with, and the octets behind it.
@@ -36,4 +38,22 @@ fn written<T: TlsValue>(alloc: Global, octets: &[u8]) -> Result<String, Refusal>
     let output = text_of(alloc, output.as_slice())?;
     let rest = text_of(alloc, rest)?;
     Ok(format!(in alloc; "{output} {rest}")?)
+}
+
+/// How many octets spell the timestamp of so many octets.
+pub fn length_of(alloc: Global, count: &str) -> Result<String, Refusal> {
+    let octets = timestamp_of(alloc, count)?.tls_serialize(alloc)?;
+    Ok(octets.len().to_string(alloc)?)
+}
+
+/// How many octets spell the list of one timestamp of so many octets.
+pub fn length_of_list(alloc: Global, count: &str) -> Result<String, Refusal> {
+    let list = SignedCertificateTimestampList::new(alloc, &[timestamp_of(alloc, count)?])?;
+    Ok(to_der(alloc, &list)?.len().to_string(alloc)?)
+}
+
+/// A timestamp of so many octets, all zero.
+fn timestamp_of(alloc: Global, count: &str) -> Result<SerializedSct, Refusal> {
+    let data = vec![in alloc; 0u8; count.parse()?]?;
+    Ok(SerializedSct { data })
 }

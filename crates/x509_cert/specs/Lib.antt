@@ -5,3 +5,4 @@ pub mod Texts
 pub mod Anchors
 pub mod Builders
 pub mod Parts
+pub use Rattle.x509_cert_anchors.specs.Names

@@ -8,7 +8,7 @@ mod pki_path;
 pub use pki_path::PkiPath;
 
 // Certificates.
-pub use x509_cert_list_builders::types::{
+pub use x509_cert_list_builders::types::certificates::{
     AlgorithmIdentifier, AlgorithmIdentifierRef, Any, AnyRef, Attribute, AttributeType,
     AttributeTypeAndValue, AttributeValue, Attributes, BitString, Certificate, CertificateInner,
     DateTime, DirectoryString, DistinguishedName, Extension, Extensions, ExtensionsOf, FlagSet,
@@ -19,21 +19,29 @@ pub use x509_cert_list_builders::types::{
 };
 
 // Contents of extensions.
+pub use x509_cert_list_builders::types::general_names::{
+    AccessDescription, AuthorityKeyIdentifier, DistributionPoint, DistributionPointName,
+    EdiPartyName, GeneralName, GeneralNames, GeneralSubtree, GeneralSubtrees, HardwareModuleName,
+    IssuingDistributionPoint, NameConstraints, OtherName, ReasonFlags, Reasons,
+};
+pub use x509_cert_list_builders::types::policies::{
+    BasicConstraints, CertificatePolicies, CpsUri, DisplayText, InhibitAnyPolicy, NoticeReference,
+    PolicyConstraints, PolicyInformation, PolicyMapping, PolicyMappings, PolicyQualifierInfo,
+    PrivateKeyUsagePeriod, UserNotice,
+};
 pub use x509_cert_list_builders::types::{
-    AccessDescription, AuthorityInfoAccessSyntax, AuthorityKeyIdentifier, BaseCrlNumber,
-    BasicConstraints, CertDigest, CertificatePolicies, CpsUri, Criticality, CrlDistributionPoints,
-    CrlNumber, CrlReason, DisplayText, DistributionPoint, DistributionPointName, EdiPartyName,
-    ExtendedKeyUsage, FreshestCrl, GeneralName, GeneralNames, GeneralSubtree, GeneralSubtrees,
-    HardwareModuleName, InhibitAnyPolicy, IssuerAltName, IssuingDistributionPoint, KeyUsage,
-    KeyUsages, NameConstraints, NoticeReference, OtherName, PolicyConstraints, PolicyInformation,
-    PolicyMapping, PolicyMappings, PolicyQualifierInfo, PrivateKeyUsagePeriod, ReasonFlags,
-    Reasons, SubjectAltName, SubjectDirectoryAttributes, SubjectInfoAccessSyntax,
-    SubjectKeyIdentifier, ToExtension, TryFromKey, UserNotice, hash, laws, timestamps,
+    AuthorityInfoAccessSyntax, BaseCrlNumber, CertDigest, Criticality, CrlDistributionPoints,
+    CrlNumber, CrlReason, ExtendedKeyUsage, FreshestCrl, IssuerAltName, KeyUsage, KeyUsages,
+    SubjectAltName, SubjectDirectoryAttributes, SubjectInfoAccessSyntax, SubjectKeyIdentifier,
+    ToExtension, TryFromKey, hash, timestamps,
 };
 
-// Lists, requests and anchors.
-pub use x509_cert_list_builders::types::{
-    AsAttribute, CertPathControls, CertPolicies, CertPolicyFlags, CertReq, CertReqInfo,
-    CertificateList, ChallengePassword, ExtensionReq, RevokedCert, TbsCertList, TrustAnchorChoice,
-    TrustAnchorInfo, TryFromExtensionReq, anchor, request,
+// Lists, requests and anchors, and the laws of all.
+pub use x509_cert_anchors::{
+    CertPathControls, CertPolicies, CertPolicyFlags, TrustAnchorChoice, TrustAnchorInfo, anchor,
+    laws,
+};
+pub use x509_cert_list_builders::lists::{
+    AsAttribute, CertReq, CertReqInfo, CertificateList, ChallengePassword, ExtensionReq,
+    RevokedCert, TbsCertList, TryFromExtensionReq, request,
 };

@@ -2,3 +2,4 @@ pub mod Options
 pub mod Rows
 pub mod VersionOctets
 mod Respelled
+pub use Rattle.x509_cert_policies.proofs.Names

@@ -7,8 +7,10 @@ use Rattle.der_core_head.specs.Grammar.{plain_option}
 use Rattle.der_core_head.specs.Integers.{Numbers, among}
 use Rattle.der_core_head.specs.Leaves.{integer, utf8, named}
 use Rattle.der_core_head.specs.Shapes.{Shape, Body, Value, BodyValue, tagged, leaf, either, optional, defaulted, field, done, many, sequence, explicit}
-use Rattle.x509_cert_lists.specs.Certificates.{certificate_fields, certificate, tbs_certificate, certificate_by, tbs_by}
-use Rattle.x509_cert_lists.specs.Parts.{behind, inside, whole_number, name_constraints_fields, name, octet_string, public_key_info, extensions, policy_information_fields}
+use Rattle.x509_cert_policies.specs.Certificates.{certificate_fields, certificate, tbs_certificate, certificate_by, tbs_by}
+use Rattle.x509_cert_policies.specs.GeneralNames.{behind, inside, whole_number, name_constraints_fields}
+use Rattle.x509_cert_policies.specs.Parts.{name, octet_string, public_key_info, extensions}
+use Rattle.x509_cert_policies.specs.Grammar.{policy_information_fields}
 
 -- CertPolicyFlags ::= BIT STRING { inhibitPolicyMapping (0), requireExplicitPolicy (1), inhibitAnyPolicy (2) } (2.5)
 abbrev pub flag_count : ℕ

@@ -1,6 +1,3 @@
-pub mod Certificates
 pub mod Grammar
-pub mod Parts
-pub mod Texts
 pub mod Views
-pub mod Lists
+pub use Rattle.x509_cert_policies.specs.Names

@@ -8,8 +8,10 @@ use Rattle.x509_cert_anchors.specs.declared.cert_path_controls.CertPathControls.
 use Rattle.x509_cert_anchors.specs.declared.trust_anchor_choice.TrustAnchorChoice.{TrustAnchorChoice}
 use Rattle.x509_cert_anchors.specs.declared.trust_anchor_choice.TrustAnchorChoice.TheVariants as anchors
 use Rattle.x509_cert_anchors.specs.declared.trust_anchor_info.TrustAnchorInfo.{TrustAnchorInfo}
-use Rattle.x509_cert_lists.specs.Certificates.{certificate_plain, tbs_plain}
-use Rattle.x509_cert_lists.specs.Parts.{name_constraints_plain, name_plain, key_plain, extensions_plain, policy_information_plain}
+use Rattle.x509_cert_policies.specs.CertificateViews.{certificate_plain, tbs_plain}
+use Rattle.x509_cert_policies.specs.GeneralNameViews.{name_constraints_plain}
+use Rattle.x509_cert_policies.specs.Parts.{name_plain, key_plain, extensions_plain}
+use Rattle.x509_cert_policies.specs.Views.{policy_information_plain}
 
 -- the number of an anchor's version
 abbrev pub anchor_number : Version → ℤ

@@ -5,7 +5,7 @@ ghost use Rattle.x509_cert_anchors.specs.Grammar.{anchor_numbers, first_version_
 ghost use Rattle.x509_cert_anchors.specs.Views.{anchor_number};
 
 use der_core::{DefaultValue, Error, Integer, Tag};
-use x509_cert_lists::making::number_among;
+use x509_cert_policies::general_names::making::number_among;
 
 /// The version of a trust anchor (RFC 5914 2.1), which is absent where it is `V1`.
 ///

@@ -3,21 +3,20 @@
 ghost use Rattle.std.specs.Prelude.{◌≡◌, refl};
 ghost use Rattle.der_core_head.specs.declared.tag.Tag.TheVariants.{Sequence};
 ghost use Rattle.der_core_head.specs.Shapes.{nested};
-ghost use Rattle.x509_cert_lists.specs.Parts.{arc_bound};
+ghost use Rattle.x509_cert_policies.specs.Parts.{arc_bound};
 ghost use Rattle.x509_cert_anchors.specs.Grammar.{cert_path_controls_fields, cert_path_controls_by};
 ghost use Rattle.x509_cert_anchors.specs.Views.{cert_path_controls_plain};
 
 use crate::cert_policies::CertPolicyFlags;
-use der_core::making::read_fields;
+use der_core::making::{implicit_of, implicit_ref, read_fields};
 use der_core::{
     ApartValue, DecodeFields, DecodeValue, EncodeFields, EncodeRef, EncodeValue, Error, Fields,
-    FixedTag, Header, Implicit, Length, Reader, ShapedValue, Tag, Writer,
+    FixedTag, Header, Implicit, ImplicitRef, Length, Reader, ShapedValue, Tag, Writer,
 };
 use std::alloc::Global;
-use x509_cert_lists::making::{ImplicitRef, implicit_of, implicit_ref};
-use x509_cert_lists::{
-    CertificateInner, CertificatePolicies, Name, NameConstraints, Profile, Rfc5280,
-};
+use x509_cert_policies::CertificatePolicies;
+use x509_cert_policies::certificates::{CertificateInner, Name, Profile, Rfc5280};
+use x509_cert_policies::general_names::NameConstraints;
 
 /// The name of a trust anchor, and what a path from it must meet (RFC 5914 2.5).
 ///

@@ -6,9 +6,11 @@ ghost use Rattle.std.specs.Prelude.{ℕ, Option, Bool};
 ghost use Rattle.der_core_head.specs.Shapes.{IsValid};
 ghost use Rattle.x509_cert_anchors.specs.Grammar.{PlainAnchor, trust_anchor_choice, trust_anchor_by};
 
-pub use x509_cert_lists::laws::{
-    certificates_are_apart, dates_by_profile, parts_are_apart, respelled_certificates_are_spelled,
+pub use x509_cert_policies::certificates::laws::{
+    certificates_are_apart, dates_by_profile, identifiers_stand_in_turn,
+    newly_read_certificates_hold_a_large_arc, parts_are_apart, respelled_certificates_are_spelled,
     respelled_dates_are_spelled, serial_numbers_by_profile, signed_part_stands_in_place,
+    wider_bounds_keep_certificates, wider_bounds_keep_chains, wider_bounds_read_certificates_alike,
 };
 
 /// A trust anchor that has an encoding has one where the dates of its certificates are respelled (RFC 5280 4.1.2.5).

@@ -1,17 +1,17 @@
 //! Trust anchors.
 
 ghost use Rattle.std.specs.Prelude.{◌≡◌, refl};
-ghost use Rattle.x509_cert_lists.specs.Parts.{arc_bound};
+ghost use Rattle.x509_cert_policies.specs.Parts.{arc_bound};
 ghost use Rattle.x509_cert_anchors.specs.Grammar.{trust_anchor_choice, trust_anchor_by};
 ghost use Rattle.x509_cert_anchors.specs.Views.{trust_anchor_plain};
 
 use crate::trust_anchor_info::TrustAnchorInfo;
 use der_core::{
-    Choice, Decode, Element, Encode, EncodeRef, Error, Explicit, Length, Member, OneOf3, Reader,
-    Shaped, Tag, Writer,
+    Choice, Decode, Element, Encode, EncodeRef, Error, Explicit, Length, Member, OneOf2, OneOf3,
+    Reader, Shaped, Tag, Writer,
 };
 use std::alloc::Global;
-use x509_cert_lists::{CertificateInner, Profile, Rfc5280, TbsCertificateInner};
+use x509_cert_policies::certificates::{CertificateInner, Profile, Rfc5280, TbsCertificateInner};
 
 /// A trust anchor (RFC 5914 2).
 ///
@@ -50,13 +50,13 @@ impl<P: Profile> TrustAnchorChoice<P> {
         ensures { ⟦<CasesRef<'a, P> as Shaped>⟧.written result ≡ trust_anchor_by P.respells (trust_anchor_plain self.now) }
     {
         match self {
-            TrustAnchorChoice::Certificate(value) => OneOf3::First(EncodeRef(value)),
-            TrustAnchorChoice::TbsCertificate(value) => OneOf3::Second(Explicit {
+            TrustAnchorChoice::Certificate(value) => OneOf2::First(EncodeRef(value)),
+            TrustAnchorChoice::TbsCertificate(value) => OneOf2::Second(OneOf2::First(Explicit {
                 value: EncodeRef(value),
-            }),
-            TrustAnchorChoice::TaInfo(value) => OneOf3::Third(Explicit {
+            })),
+            TrustAnchorChoice::TaInfo(value) => OneOf2::Second(OneOf2::Second(Explicit {
                 value: EncodeRef(value),
-            }),
+            })),
         }
     }
 }
@@ -78,9 +78,11 @@ impl<P: Profile> Choice for TrustAnchorChoice<P> {
 impl<'a, R: Reader<'a>, P: Profile> Decode<'a, R> for TrustAnchorChoice<P> {
     fn decode(alloc: Global, reader: &mut R) -> Result<TrustAnchorChoice<P>, Error> {
         match <Cases<P>>::decode(alloc, reader)? {
-            OneOf3::First(value) => Ok(TrustAnchorChoice::Certificate(value)),
-            OneOf3::Second(value) => Ok(TrustAnchorChoice::TbsCertificate(value.value)),
-            OneOf3::Third(value) => Ok(TrustAnchorChoice::TaInfo(value.value)),
+            OneOf2::First(value) => Ok(TrustAnchorChoice::Certificate(value)),
+            OneOf2::Second(OneOf2::First(value)) => Ok(TrustAnchorChoice::TbsCertificate(
+                value.value,
+            )),
+            OneOf2::Second(OneOf2::Second(value)) => Ok(TrustAnchorChoice::TaInfo(value.value)),
         }
     }
 }

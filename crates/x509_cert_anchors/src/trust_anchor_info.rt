@@ -3,20 +3,22 @@
 ghost use Rattle.std.specs.Prelude.{◌≡◌, refl};
 ghost use Rattle.der_core_head.specs.declared.tag.Tag.TheVariants.{Sequence};
 ghost use Rattle.der_core_head.specs.Shapes.{nested};
-ghost use Rattle.x509_cert_lists.specs.Parts.{arc_bound};
+ghost use Rattle.x509_cert_policies.specs.Parts.{arc_bound};
 ghost use Rattle.x509_cert_anchors.specs.Grammar.{trust_anchor_info_fields, trust_anchor_info_by};
 ghost use Rattle.x509_cert_anchors.specs.Views.{trust_anchor_info_plain};
 
 use crate::anchor::Version;
 use crate::cert_path_controls::CertPathControls;
-use der_core::making::read_fields;
+use der_core::making::{explicit_of, explicit_ref, implicit_of, implicit_ref, read_fields};
 use der_core::{
     ApartValue, DecodeFields, DecodeValue, EncodeFields, EncodeRef, EncodeValue, Error, Explicit,
-    Fields, FixedTag, Header, Implicit, Length, Reader, ShapedValue, Tag, WithDefault, Writer,
+    Fields, FixedTag, Header, Implicit, ImplicitRef, Length, Reader, ShapedValue, Tag, WithDefault,
+    Writer,
 };
 use std::alloc::Global;
-use x509_cert_lists::making::{ImplicitRef, explicit_of, explicit_ref, implicit_of, implicit_ref};
-use x509_cert_lists::{Extensions, OctetString, Profile, Rfc5280, SubjectPublicKeyInfo};
+use x509_cert_policies::certificates::{
+    Extensions, OctetString, Profile, Rfc5280, SubjectPublicKeyInfo,
+};
 
 /// A trust anchor by its key (RFC 5914 2).
 ///

@@ -4,7 +4,8 @@ use Rattle.der_core_head.specs.declared.error.ErrorKind.{ErrorKind}
 use Rattle.der_core_head.specs.declared.tag.Tag.TheVariants.{Sequence}
 use Rattle.der_core_head.specs.Octets.{◌>>=◌}
 use Rattle.der_core_head.specs.Shapes.{AnyValue, nested}
-use Rattle.x509_cert_anchors.specs.Parts.{arc_bound, hardware_module_name_fields, written_as}
+use Rattle.x509_cert_extensions.specs.Parts.{arc_bound, written_as}
+use Rattle.x509_cert_extensions.specs.GeneralNames.{hardware_module_name_fields}
 use Rattle.x509_cert_builders.specs.Devices.{PlainGeneralName, module_arcs, module_name}
 use Rattle.x509_cert_builders.specs.Refusals.{FailsAs, IsWantOfMemory}
 use Rattle.x509_cert_builders.specs.declared.error.Error.{Error}

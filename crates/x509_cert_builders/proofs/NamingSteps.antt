@@ -7,7 +7,7 @@ use Rattle.x509_cert_builders.specs.declared.error.Error.{Error}
 use Rattle.x509_cert_builders.specs.Naming.{TypeAndValue, types_of, name_types, type_behind, type_at, foreign_type, has_required, IsNamed, IsFirstFault, NamesAuthority}
 use Rattle.x509_cert_builders.specs.Refusals.{IsWantOfMemory}
 use Rattle.x509_cert_builders.specs.declared.error.Error.TheVariants as errors
-use Rattle.x509_cert_anchors.specs.Parts.{PlainName}
+use Rattle.x509_cert_extensions.specs.Parts.{PlainName}
 
 -- a place of a name, and what stands behind it
 at : (n : PlainName) (k : ℕ) (r : List TypeAndValue) (left : PlainName) → drop k n ≡ r ∷ left

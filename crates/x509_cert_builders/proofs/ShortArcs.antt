@@ -1,11 +1,11 @@
--- Identifiers each of whose arcs is one octet, and two others.
+-- Identifiers each of whose arcs is one octet.
 use Rattle.std.proofs.Common.{◌≡◌, ◌<◌, ℕ, List, [], ◌∷◌, ◌++◌, Ok, refl, ap, sym, ◌∙◌, arith}
 use Rattle.std.specs.List.{AllByRecursion, flat_map}
 use Rattle.const_oid.specs.Bound.{Bound}
 use Rattle.const_oid.specs.IdentifierOctets.{arc_octets, read_arcs, read_identifier, with_arc}
 use Rattle.const_oid.proofs.EncodingLaws.{arc_octets-one}
 use Rattle.const_oid.proofs.IdentifierLaws.{read_arcs-arcs}
-use Rattle.x509_cert_builders.specs.Profiles.{elliptic_curve_key, id_kp, rsa_encryption}
+use Rattle.x509_cert_builders.specs.Profiles.{id_kp}
 
 abbrev AreShort : List ℕ → Type 0
 AreShort arcs = AllByRecursion (λ n. n < 128) arcs
@@ -23,18 +23,8 @@ short_arcs : (arcs : List ℕ) → AreShort arcs → read_arcs Bound 0 arcs ≡ 
 short_arcs arcs h = ap (λ w. read_arcs Bound 0 w) (sym (short_octets arcs h)) ∙ read_arcs-arcs Bound arcs (within arcs h)
 
 pub read_standard : (n : ℕ) → n < 128 → read_identifier Bound 39 (85 ∷ 29 ∷ n ∷ []) ≡ Ok (2 ∷ 5 ∷ 29 ∷ n ∷ [])
-unfolding read_identifier
 read_standard n h = ap (λ r. with_arc 2 (with_arc 5 r)) (short_arcs (29 ∷ n ∷ []) (omega arith, (h, tt)))
 
 pub read_purpose : (n : ℕ) → n < 128 → read_identifier Bound 39 (43 ∷ 6 ∷ 1 ∷ 5 ∷ 5 ∷ 7 ∷ 3 ∷ n ∷ []) ≡ Ok (id_kp n)
-unfolding read_identifier
 read_purpose n h =
     ap (λ r. with_arc 1 (with_arc 3 r)) (short_arcs (6 ∷ 1 ∷ 5 ∷ 5 ∷ 7 ∷ 3 ∷ n ∷ []) (omega arith, (omega arith, (omega arith, (omega arith, (omega arith, (omega arith, (h, tt))))))))
-
-pub read_rsa_encryption : read_identifier Bound 39 (42 ∷ 134 ∷ 72 ∷ 134 ∷ 247 ∷ 13 ∷ 1 ∷ 1 ∷ 1 ∷ []) ≡ Ok rsa_encryption
-unfolding read_identifier read_arcs Bound
-read_rsa_encryption = refl
-
-pub read_elliptic_curve_key : read_identifier Bound 39 (42 ∷ 134 ∷ 72 ∷ 206 ∷ 61 ∷ 2 ∷ 1 ∷ []) ≡ Ok elliptic_curve_key
-unfolding read_identifier read_arcs Bound
-read_elliptic_curve_key = refl

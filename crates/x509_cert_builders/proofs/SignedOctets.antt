@@ -2,8 +2,8 @@
 use Rattle.std.proofs.Common.{◌≡◌, List, ℕ, Option, Some, None, true, take, drop, refl, sym, ap, ◌∙◌}
 use Rattle.der_core_head.specs.Grammar.{plain_option}
 use Rattle.der_core_head.specs.Shapes.{octets_of, body_octets, contents}
-use Rattle.x509_cert_anchors.specs.Certificates.{PlainCertificate, Tbs, certificate_by, certificate_octets, raw_tbs_certificate, signed_length, signed_start, tbs, tbs_by, tbs_certificate}
-use Rattle.x509_cert_anchors.specs.Parts.{algorithm_plain, arc_bound, extensions_plain}
+use Rattle.x509_cert_extensions.specs.Certificates.{PlainCertificate, Tbs, certificate_by, certificate_octets, raw_tbs_certificate, signed_length, signed_start, tbs, tbs_by, tbs_certificate}
+use Rattle.x509_cert_extensions.specs.Parts.{algorithm_plain, arc_bound, extensions_plain}
 use Rattle.x509_cert_builders.specs.SignedParts.{PlainFields, part_octets, signed_part}
 use Rattle.x509_cert_builders.specs.States.{CertificateState, finalized_plain, octets_in_place}
 use Rattle.x509_cert_builders.specs.declared.certificate_builder.Finalized.{Finalized}

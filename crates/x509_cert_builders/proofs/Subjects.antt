@@ -7,7 +7,7 @@ use Rattle.std.proofs.lemmas.Bool.{eqb-true}
 use Rattle.std.proofs.lemmas.List.{append-nil}
 use Rattle.std.proofs.lemmas.List.Sorted.{IsPermutation-map, IsPermutation-refl, length_permutation}
 use Rattle.der_core_head.specs.Grammar.{plain_list}
-use Rattle.x509_cert_anchors.specs.Parts.{PlainName}
+use Rattle.x509_cert_extensions.specs.Parts.{PlainName}
 use Rattle.x509_cert_builders.specs.Naming.{TypeAndValue}
 use Rattle.x509_cert_builders.specs.Subscribers.{SameAttributes, all_stays, before, domain_subject, left_of, may_stay, stays}
 

@@ -9,7 +9,9 @@ use Rattle.der_core_head.specs.declared.tag.Tag.TheVariants.{Sequence}
 use Rattle.der_core_head.specs.Grammar.{plain_list, plain_option}
 use Rattle.der_core_head.specs.Octets.{◌>>=◌}
 use Rattle.der_core_head.specs.Shapes.{BodyValue, Value, nested, sequence_of, IsValid}
-use Rattle.x509_cert_anchors.specs.Parts.{PlainName, PlainExtension, PublicKey, arc_bound, content_as, general_name, general_name_plain, hardware_module_name_fields, written_as}
+use Rattle.x509_cert_extensions.specs.Parts.{PlainName, PlainExtension, PublicKey, arc_bound, content_as, written_as}
+use Rattle.x509_cert_extensions.specs.GeneralNames.{general_name, hardware_module_name_fields}
+use Rattle.x509_cert_extensions.specs.GeneralNameViews.{general_name_plain}
 use Rattle.x509_cert_builders.specs.Profiles.{authority_key_extension, digital_signature, standard_extension, usage_extension}
 use Rattle.x509_cert_builders.specs.Refusals.{FailsAs}
 use Rattle.x509_cert_builders.specs.declared.error.Error.{Error}

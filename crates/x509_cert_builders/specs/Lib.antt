@@ -5,8 +5,11 @@ pub mod Refusals
 pub mod SignedParts
 pub mod States
 pub mod Subscribers
-pub mod Parts
-pub mod Certificates
-pub mod Texts
-pub mod Anchors
-pub mod Lists
+pub use Rattle.x509_cert_extensions.specs.Parts
+pub use Rattle.x509_cert_extensions.specs.Certificates
+pub use Rattle.x509_cert_extensions.specs.CertificateViews
+pub use Rattle.x509_cert_extensions.specs.Texts
+pub use Rattle.x509_cert_extensions.specs.GeneralNames
+pub use Rattle.x509_cert_extensions.specs.GeneralNameViews
+pub use Rattle.x509_cert_extensions.specs.Policies
+pub use Rattle.x509_cert_extensions.specs.PolicyViews

@@ -3,7 +3,7 @@ use Rattle.std.specs.Prelude.{◌≡◌, ◌⊎◌, ℕ, ◌<◌, List, [], ◌�
 use Rattle.std.specs.List.{find, list_any, list_all, position_or_len}
 use Rattle.const_oid.specs.Comparing.{owned_eq}
 use Rattle.der_core_head.specs.Shapes.{AnyValue}
-use Rattle.x509_cert_anchors.specs.Parts.{PlainName}
+use Rattle.x509_cert_extensions.specs.Parts.{PlainName}
 use Rattle.x509_cert_builders.specs.declared.error.Error.{Error}
 use Rattle.x509_cert_builders.specs.declared.error.Error.TheVariants as errors
 use Rattle.x509_cert_builders.specs.Refusals.{IsWantOfMemory}

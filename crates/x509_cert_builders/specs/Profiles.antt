@@ -5,7 +5,9 @@ use Rattle.der_core_head.specs.declared.tag.Tag.TheVariants as tags
 use Rattle.der_core_head.specs.Leaves.{named}
 use Rattle.der_core_head.specs.Shapes.{Shape, Value, tagged, leaf, sequence, sequence_of, octets_of}
 use Rattle.sha1.specs.Sha1.{sha1}
-use Rattle.x509_cert_anchors.specs.Parts.{PublicKey, PlainExtension, algorithm_arcs, arc_bound, authority_key_identifier_fields, basic_constraints_fields, key_algorithm, key_bits, object_identifier, octet_string}
+use Rattle.x509_cert_extensions.specs.Parts.{PublicKey, PlainExtension, algorithm_arcs, arc_bound, key_algorithm, key_bits, object_identifier, octet_string}
+use Rattle.x509_cert_extensions.specs.GeneralNames.{authority_key_identifier_fields}
+use Rattle.x509_cert_extensions.specs.Policies.{basic_constraints_fields}
 
 -- the identifier of a key: the SHA-1 digest of its octets (4.2.1.2, method 1)
 abbrev pub key_identifier : PublicKey → List ℕ

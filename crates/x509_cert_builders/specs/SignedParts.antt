@@ -1,8 +1,8 @@
 -- What a builder of certificates signs (RFC 5280 4.1.2).
 use Rattle.std.specs.Prelude.{ℕ, ℤ, pos, List, [], ◌∷◌, Bool, true, false, Option, Some, None, if◌then◌else◌}
 use Rattle.der_core_head.specs.Shapes.{BodyValue, field, done, octets_of, IsValid}
-use Rattle.x509_cert_anchors.specs.Certificates.{Tbs, tbs_certificate, tbs_by, tbs_issuer, tbs_validity, tbs_subject, tbs_public_key}
-use Rattle.x509_cert_anchors.specs.Parts.{Algorithm, PublicKey, PlainExtension, PlainName, arc_bound, time}
+use Rattle.x509_cert_extensions.specs.Certificates.{Tbs, tbs_certificate, tbs_by, tbs_issuer, tbs_validity, tbs_subject, tbs_public_key}
+use Rattle.x509_cert_extensions.specs.Parts.{Algorithm, PublicKey, PlainExtension, PlainName, arc_bound, time}
 
 -- two dates, each with its spelling (4.1.2.5)
 abbrev pub PlainDates : Type 0

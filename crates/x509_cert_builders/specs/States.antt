@@ -1,8 +1,9 @@
 -- What contracts see of builders, and of what they make.
 use Rattle.std.specs.Prelude.{ℕ, List, take, drop, Option, Some, None, true}
 use Rattle.der_core_head.specs.Grammar.{plain_option}
-use Rattle.x509_cert_anchors.specs.Certificates.{PlainCertificate, certificate_by, certificate_octets, signed_start, signed_length, tbs_plain}
-use Rattle.x509_cert_anchors.specs.Parts.{Algorithm, PlainExtension, algorithm_plain, arc_bound, extensions_plain}
+use Rattle.x509_cert_extensions.specs.Certificates.{PlainCertificate, certificate_by, certificate_octets, signed_start, signed_length}
+use Rattle.x509_cert_extensions.specs.CertificateViews.{tbs_plain}
+use Rattle.x509_cert_extensions.specs.Parts.{Algorithm, PlainExtension, algorithm_plain, arc_bound, extensions_plain}
 use Rattle.x509_cert_builders.specs.SignedParts.{PlainFields, fields_of, signed_octets}
 use Rattle.x509_cert_builders.specs.declared.certificate_builder.CertificateBuilder.TheInside.{Inside}
 use Rattle.x509_cert_builders.specs.declared.certificate_builder.Finalized.{Finalized}

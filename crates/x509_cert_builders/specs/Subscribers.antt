@@ -2,7 +2,7 @@
 use Rattle.std.specs.Prelude.{⊤, List, [], ◌∷◌, Bool, true, false, if◌then◌else◌}
 use Rattle.std.specs.List.{list_all}
 use Rattle.std.specs.List.Sorted.{IsPermutation}
-use Rattle.x509_cert_anchors.specs.Parts.{PlainName, name_plain}
+use Rattle.x509_cert_extensions.specs.Parts.{PlainName, name_plain}
 use Rattle.x509_cert_builders.specs.Naming.{TypeAndValue, common_name, country, is_among}
 use Rattle.x509_cert_builders.specs.declared.certificate_type.CertificateType.{CertificateType}
 use Rattle.x509_cert_builders.specs.declared.certificate_type.CertificateType.TheVariants as types

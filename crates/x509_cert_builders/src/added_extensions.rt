@@ -3,7 +3,7 @@
 ghost use Rattle.std.specs.Prelude.{◌≡◌, ◌<◌, ◌++◌, ◌∷◌, [], false, pos, Some, None, OnOk, IfOk, IfErr};
 ghost use Rattle.der_core_head.specs.Grammar.{plain_option};
 ghost use Rattle.der_core_head.specs.Shapes.{IsValid};
-ghost use Rattle.x509_cert_anchors.specs.Parts.{extensions_plain, name_plain};
+ghost use Rattle.x509_cert_extensions.specs.Parts.{extensions_plain, name_plain};
 ghost use Rattle.x509_cert_builders.specs.Profiles.{Identifies, authority_key_extension, constraints_extension, key_identifier, purposes_extension, standard_extension, subject_key_extension, usage_extension};
 ghost use Rattle.x509_cert_builders.specs.Refusals.{IsWantOfMemory};
 
@@ -12,10 +12,12 @@ use crate::identifiers::standard;
 use crate::uses::purposes_of;
 use der_core::{Encode, Fields};
 use std::alloc::Global;
-use x509_cert_anchors::{
-    AuthorityKeyIdentifier, BasicConstraints, Criticality, Extension, Extensions, KeyUsage, Name,
-    OctetString, SubjectKeyIdentifier, SubjectPublicKeyInfoRef, ToExtension, TryFromKey,
+use x509_cert_extensions::certificates::{
+    Extension, Extensions, Name, OctetString, SubjectPublicKeyInfoRef,
 };
+use x509_cert_extensions::general_names::AuthorityKeyIdentifier;
+use x509_cert_extensions::policies::BasicConstraints;
+use x509_cert_extensions::{Criticality, KeyUsage, SubjectKeyIdentifier, ToExtension, TryFromKey};
 
 /// Adds the extension of a value, of this number below `id-ce`, with the criticality of its type.
 #[tactic(auto, using(crate::proofs::Lists::plain_pushed))]

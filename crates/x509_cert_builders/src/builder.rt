@@ -4,13 +4,13 @@ use crate::error::Error;
 use crate::signer::Signer;
 use rand_core::CryptoRng;
 use std::alloc::Global;
-use x509_cert_anchors::BitString;
+use x509_cert_extensions::certificates::BitString;
 
 /// What makes a signed thing: the octets that a signer is handed are those of the signed part of what comes out.
 pub trait Builder: Sized + Drop {
     ghost use Rattle.std.specs.Prelude.{◌≡◌, ◌⊎◌, ℕ, List, Option, Some, None, IfOk, IfErr};
     ghost use Rattle.der_core_head.specs.BitStrings.{Bits};
-    ghost use Rattle.x509_cert_anchors.specs.Parts.{Algorithm, PublicKey};
+    ghost use Rattle.x509_cert_extensions.specs.Parts.{Algorithm, PublicKey};
     ghost use Rattle.x509_cert_builders.specs.Refusals.{IsFailed, IsWantOfMemory, is_refused};
     ghost use Rattle.x509_cert_builders.specs.declared.error.Error.{Error};
 

@@ -3,8 +3,9 @@
 use crate::error::Error;
 use der_core::Fields;
 use std::alloc::Global;
-use x509_cert_anchors::{
-    Extensions, Name, SubjectKeyIdentifier, SubjectPublicKeyInfoRef, TbsCertificate,
+use x509_cert_extensions::SubjectKeyIdentifier;
+use x509_cert_extensions::certificates::{
+    Extensions, Name, SubjectPublicKeyInfoRef, TbsCertificate,
 };
 
 /// Which names and which extensions a certificate has that is made.
@@ -16,8 +17,9 @@ pub trait BuilderProfile {
     ghost use Rattle.der_core_head.specs.Grammar.{plain_option};
     ghost use Rattle.x509_cert_builders.specs.Profiles.{Identifies};
     ghost use Rattle.x509_cert_builders.specs.Refusals.{IsWantOfMemory};
-    ghost use Rattle.x509_cert_anchors.specs.Certificates.{Tbs, tbs_plain};
-    ghost use Rattle.x509_cert_anchors.specs.Parts.{PlainExtension, PlainName, PublicKey, extensions_plain, name_plain};
+    ghost use Rattle.x509_cert_extensions.specs.Certificates.{Tbs};
+    ghost use Rattle.x509_cert_extensions.specs.CertificateViews.{tbs_plain};
+    ghost use Rattle.x509_cert_extensions.specs.Parts.{PlainExtension, PlainName, PublicKey, extensions_plain, name_plain};
 
     // The issuer's name, of the subject's.
     ghost issuer_name: { Self → PlainName → PlainName };

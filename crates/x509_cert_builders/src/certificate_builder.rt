@@ -2,8 +2,9 @@
 
 ghost use Rattle.std.specs.Prelude.{◌≡◌, ◌⊎◌, ◌++◌, ◌∷◌, [], Some, None, IfOk, IfErr, OnOk, OnErr};
 ghost use Rattle.der_core_head.specs.Grammar.{plain_option};
-ghost use Rattle.x509_cert_anchors.specs.Certificates.{certificate_plain, outer_algorithm, signature_bits, tbs_plain, tbs_public_key};
-ghost use Rattle.x509_cert_anchors.specs.Parts.{algorithm_plain, extensions_plain, key_plain, validity_plain};
+ghost use Rattle.x509_cert_extensions.specs.CertificateViews.{certificate_plain, tbs_plain};
+ghost use Rattle.x509_cert_extensions.specs.Certificates.{outer_algorithm, signature_bits, tbs_public_key};
+ghost use Rattle.x509_cert_extensions.specs.Parts.{algorithm_plain, extensions_plain, key_plain, validity_plain};
 ghost use Rattle.x509_cert_builders.specs.Profiles.{Identifies};
 ghost use Rattle.x509_cert_builders.specs.SignedParts.{HasNoOctets, bare_part, fields_of, signed_octets, signed_part};
 ghost use Rattle.x509_cert_builders.specs.States.{algorithm_of_last, octets_in_place};
@@ -20,11 +21,12 @@ use crate::signer::Signer;
 use der_core::ErrorKind;
 use std::alloc::Global;
 use std::marker::Model;
-use x509_cert_anchors::laws::signed_part_stands_in_place;
-use x509_cert_anchors::{
+use x509_cert_extensions::certificates::laws::signed_part_stands_in_place;
+use x509_cert_extensions::certificates::{
     AlgorithmIdentifier, BitString, Certificate, Extension, Extensions, SerialNumber,
-    SubjectKeyIdentifier, SubjectPublicKeyInfo, TbsCertificate, ToExtension, Validity, Version,
+    SubjectPublicKeyInfo, TbsCertificate, Validity, Version,
 };
+use x509_cert_extensions::{SubjectKeyIdentifier, ToExtension};
 
 /// A builder of certificates (RFC 5280 4.1), whose names and extensions its profile tells. Extensions that are added stand before
 /// those of the profile.
@@ -49,7 +51,8 @@ struct Finalized {
 
 impl<P> Model for CertificateBuilder<P> {
     ghost use Rattle.der_core_head.specs.Grammar.{plain_option};
-    ghost use Rattle.x509_cert_anchors.specs.Certificates.{tbs_plain, tbs_public_key};
+    ghost use Rattle.x509_cert_extensions.specs.CertificateViews.{tbs_plain};
+    ghost use Rattle.x509_cert_extensions.specs.Certificates.{tbs_public_key};
     ghost use Rattle.x509_cert_builders.specs.Profiles.{Identifies};
     ghost use Rattle.x509_cert_builders.specs.States.{CertificateState, certificate_state};
 

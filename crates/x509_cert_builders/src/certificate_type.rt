@@ -3,7 +3,7 @@
 ghost use Rattle.std.specs.Prelude.{◌≡◌, ◌∷◌, [], true, IfOk, IfErr};
 ghost use Rattle.std.specs.List.{list_all};
 ghost use Rattle.std.specs.List.Sorted.{IsPermutation};
-ghost use Rattle.x509_cert_anchors.specs.Parts.{name_plain, relative_plain};
+ghost use Rattle.x509_cert_extensions.specs.Parts.{name_plain, relative_plain};
 ghost use Rattle.x509_cert_builders.specs.Naming.{common_name, country, is_among};
 ghost use Rattle.x509_cert_builders.specs.Refusals.{IsWantOfMemory};
 ghost use Rattle.x509_cert_builders.specs.Subscribers.{SameAttributes, all_stays, domain_subject, is_domain_validated, left_of, may_stay, type_subject};
@@ -13,9 +13,10 @@ use crate::domain_validated::DomainValidated;
 use crate::error::Error;
 use const_oid::ObjectIdentifier;
 use std::alloc::Global;
-use x509_cert_anchors::{
-    AttributeTypeAndValue, GeneralNames, Name, RdnSequence, RelativeDistinguishedName,
+use x509_cert_extensions::certificates::{
+    AttributeTypeAndValue, Name, RdnSequence, RelativeDistinguishedName,
 };
+use x509_cert_extensions::general_names::GeneralNames;
 
 /// How it was found out who a subscriber is (CA/Browser Forum, Baseline Requirements 7.1.2.7.1).
 #[derive(Clone, Debug, Drop, PartialEq)]

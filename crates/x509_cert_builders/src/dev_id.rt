@@ -3,8 +3,9 @@
 ghost use Rattle.std.specs.Prelude.{◌≡◌, ◌⊎◌, ◌∷◌, ◌++◌, [], true, false, Ok, Some, IfOk, IfErr, OnOk};
 ghost use Rattle.std.specs.List.{list_any};
 ghost use Rattle.der_core_head.specs.Grammar.{plain_list, plain_option};
-ghost use Rattle.x509_cert_anchors.specs.Certificates.{tbs_subject};
-ghost use Rattle.x509_cert_anchors.specs.Parts.{extensions_plain, general_name_plain, name_plain};
+ghost use Rattle.x509_cert_extensions.specs.Certificates.{tbs_subject};
+ghost use Rattle.x509_cert_extensions.specs.Parts.{extensions_plain, name_plain};
+ghost use Rattle.x509_cert_extensions.specs.GeneralNameViews.{general_name_plain};
 ghost use Rattle.x509_cert_builders.specs.Devices.{IsFaulty, IsUnnameable, PlainGeneralName, alternatives, device_extensions, device_names, first_module, is_of_module, may_name, module_name, module_of, version_arcs};
 ghost use Rattle.x509_cert_builders.specs.Refusals.{FailsAs, IsFailed, IsWantOfMemory};
 
@@ -15,10 +16,13 @@ use crate::tpm_version::TpmVersion;
 use crate::uses::signing_usage;
 use der_core::ErrorKind;
 use std::alloc::Global;
-use x509_cert_anchors::{
-    Extensions, GeneralName, GeneralNames, HardwareModuleName, Name, OctetString, OtherName,
-    SubjectAltName, SubjectKeyIdentifier, SubjectPublicKeyInfoRef, TbsCertificate,
+use x509_cert_extensions::certificates::{
+    Extensions, Name, OctetString, SubjectPublicKeyInfoRef, TbsCertificate,
 };
+use x509_cert_extensions::general_names::{
+    GeneralName, GeneralNames, HardwareModuleName, OtherName,
+};
+use x509_cert_extensions::{SubjectAltName, SubjectKeyIdentifier};
 
 /// The certificate of a device that has an identity of its own (IEEE 802.1AR 8).
 #[derive(Drop)]

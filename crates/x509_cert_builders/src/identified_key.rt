@@ -1,11 +1,10 @@
 //! Keys whose identifier is known.
 
 ghost use Rattle.std.specs.Prelude.{◌≡◌, IfOk, IfErr};
-ghost use Rattle.x509_cert_anchors.specs.Parts.{key_plain};
+ghost use Rattle.x509_cert_extensions.specs.Parts.{key_plain};
 ghost use Rattle.x509_cert_builders.specs.Profiles.{key_identifier};
 ghost use Rattle.x509_cert_builders.specs.Refusals.{IsWantOfMemory};
 ghost use Rattle.std.specs.Prelude.{◌≡◌, IfOk, IfErr};
-ghost use Rattle.x509_cert_anchors.specs.Parts.{key_plain};
 ghost use Rattle.x509_cert_builders.specs.Profiles.{key_identifier};
 ghost use Rattle.x509_cert_builders.specs.Refusals.{IsWantOfMemory};
 
@@ -13,8 +12,9 @@ use crate::added_extensions::identifier_of;
 use crate::error::Error;
 use std::alloc::Global;
 use std::marker::Model;
-use x509_cert_anchors::{
-    AlgorithmIdentifierRef, SubjectKeyIdentifier, SubjectPublicKeyInfo, SubjectPublicKeyInfoRef,
+use x509_cert_extensions::SubjectKeyIdentifier;
+use x509_cert_extensions::certificates::{
+    AlgorithmIdentifierRef, SubjectPublicKeyInfo, SubjectPublicKeyInfoRef,
 };
 
 /// The identifier of a key: the digest of its octets.
@@ -44,7 +44,7 @@ pub struct IdentifiedKey {
 
 impl Model for IdentifiedKey {
     ghost use Rattle.std.specs.Prelude.{◌≡◌};
-    ghost use Rattle.x509_cert_anchors.specs.Parts.{PublicKey, key_plain};
+    ghost use Rattle.x509_cert_extensions.specs.Parts.{PublicKey, key_plain};
     ghost use Rattle.x509_cert_builders.specs.Profiles.{key_identifier};
 
     ghost Value = { PublicKey };

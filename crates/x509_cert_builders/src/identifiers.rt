@@ -1,16 +1,15 @@
 //! Identifiers of purposes, of kinds of keys, and of modules.
-#![tactic(auto, unfolding(const_oid::specs::Bound::Bound, const_oid::specs::TextReading::text_arcs, const_oid::specs::ArcLists::add_arc, const_oid::specs::ArcLists::whole_arcs, const_oid::specs::IdentifierOctets::identifier_octets, const_oid::specs::IdentifierOctets::arc_octets, const_oid::specs::Digits::digits, const_oid::specs::Digits::digits_within, const_oid::specs::Digits::marked))]
 
 ghost use Rattle.std.specs.Prelude.{◌≡◌, ◌<◌, ◌∷◌, []};
 ghost use Rattle.x509_cert_builders.specs.Profiles.{id_kp, rsa_encryption, elliptic_curve_key};
 
 use const_oid::ObjectIdentifier;
-use x509_cert_anchors::AlgorithmIdentifier;
+use x509_cert_extensions::certificates::AlgorithmIdentifier;
 
 /// What stands in place of an algorithm until one is told.
 pub(crate) fn no_algorithm() -> AlgorithmIdentifier {
     AlgorithmIdentifier {
-        oid: ObjectIdentifier::new_unwrap("0.0"),
+        oid: ObjectIdentifier::from_bytes_unwrap(&[0]),
         parameters: None,
     }
 }
@@ -41,32 +40,26 @@ pub(crate) fn purpose(number: u8) -> ObjectIdentifier<39>
 pub(crate) fn rsa_encryption() -> ObjectIdentifier<39>
     ensures { result ≡ rsa_encryption }
 {
-    match ObjectIdentifier::from_bytes(&[0x2a, 0x86, 0x48, 0x86, 0xf7, 0x0d, 1, 1, 1]) {
-        Ok(oid) => oid,
-        Err(_) => unreachable!(),
-    }
+    ObjectIdentifier::from_bytes_unwrap(&[0x2a, 0x86, 0x48, 0x86, 0xf7, 0x0d, 1, 1, 1])
 }
 
 /// `id-ecPublicKey` (RFC 5480 2.1.1).
 pub(crate) fn elliptic_curve_key() -> ObjectIdentifier<39>
     ensures { result ≡ elliptic_curve_key }
 {
-    match ObjectIdentifier::from_bytes(&[0x2a, 0x86, 0x48, 0xce, 0x3d, 2, 1]) {
-        Ok(oid) => oid,
-        Err(_) => unreachable!(),
-    }
+    ObjectIdentifier::from_bytes_unwrap(&[0x2a, 0x86, 0x48, 0xce, 0x3d, 2, 1])
 }
 
 /// Version 1.2 of the Trusted Platform Module, 2.23.133.1.0.
 pub fn tcg_sv_tpm_12() -> ObjectIdentifier<39>
     ensures { result ≡ 2 ∷ 23 ∷ 133 ∷ 1 ∷ 0 ∷ [] }
 {
-    ObjectIdentifier::new_unwrap("2.23.133.1.0")
+    ObjectIdentifier::from_bytes_unwrap(&[0x67, 0x81, 5, 1, 0])
 }
 
 /// Version 2.0 of the Trusted Platform Module, 2.23.133.1.2.
 pub fn tcg_sv_tpm_20() -> ObjectIdentifier<39>
     ensures { result ≡ 2 ∷ 23 ∷ 133 ∷ 1 ∷ 2 ∷ [] }
 {
-    ObjectIdentifier::new_unwrap("2.23.133.1.2")
+    ObjectIdentifier::from_bytes_unwrap(&[0x67, 0x81, 5, 1, 2])
 }

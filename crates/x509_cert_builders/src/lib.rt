@@ -42,4 +42,4 @@ pub use tls12_options::Tls12Options;
 pub use tpm_version::TpmVersion;
 
 // What they make, and of what.
-pub use x509_cert_anchors as types;
+pub use x509_cert_extensions as types;

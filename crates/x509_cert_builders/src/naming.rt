@@ -3,14 +3,14 @@
 ghost use Rattle.std.specs.Prelude.{◌≡◌, ◌≤◌, Ok, Err, length, nat_lt, not, true, Option, Some, None, IfOk};
 ghost use Rattle.std.specs.List.{find, list_all, position_or_len};
 ghost use Rattle.const_oid.specs.Comparing.{owned_eq};
-ghost use Rattle.x509_cert_anchors.specs.Parts.{name_plain, relative_plain};
+ghost use Rattle.x509_cert_extensions.specs.Parts.{name_plain, relative_plain};
 ghost use Rattle.x509_cert_builders.specs.Naming.{ordered_types, authority_types, is_among, may_follow, type_behind, name_types, has_required, Names, NamesAuthority};
 
 use crate::attribute_types as types;
 use crate::error::Error;
 use const_oid::ObjectIdentifier;
 use std::alloc::Global;
-use x509_cert_anchors::{Name, RelativeDistinguishedName};
+use x509_cert_extensions::certificates::{Name, RelativeDistinguishedName};
 
 /// Whether a type is among these.
 fn is_among(types: &[ObjectIdentifier<39>], oid: &ObjectIdentifier<39>) -> bool

@@ -2,15 +2,18 @@
 
 ghost use Rattle.std.specs.Prelude.{◌≡◌, ◌⊎◌, IfOk, IfErr};
 ghost use Rattle.der_core_head.specs.Grammar.{plain_option};
-ghost use Rattle.x509_cert_anchors.specs.Certificates.{tbs_inner_algorithm, tbs_plain};
-ghost use Rattle.x509_cert_anchors.specs.Parts.{algorithm_plain, extensions_plain, version_number};
+ghost use Rattle.x509_cert_extensions.specs.Certificates.{tbs_inner_algorithm};
+ghost use Rattle.x509_cert_extensions.specs.CertificateViews.{tbs_plain};
+ghost use Rattle.x509_cert_extensions.specs.Parts.{algorithm_plain, extensions_plain, version_number};
 ghost use Rattle.x509_cert_builders.specs.Refusals.{IsWantOfMemory};
 ghost use Rattle.x509_cert_builders.specs.SignedParts.{IsUnwritable, bare_part, extensions_in, fields_of, has_any, listed, part_octets, signed_part, version_of};
 
 use crate::error::Error;
 use der_core::to_der;
 use std::alloc::Global;
-use x509_cert_anchors::{AlgorithmIdentifier, Extensions, TbsCertificate, Version};
+use x509_cert_extensions::certificates::{
+    AlgorithmIdentifier, Extensions, TbsCertificate, Version,
+};
 
 /// Makes the part what a profile is handed: of version 3, by this algorithm, and without extensions. Unique identifiers are never made
 /// (RFC 5280 4.1.2.8).

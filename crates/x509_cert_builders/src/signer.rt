@@ -3,9 +3,8 @@
 use crate::sign_error::SignError;
 use rand_core::CryptoRng;
 use std::alloc::Global;
-use x509_cert_anchors::{
-    AlgorithmIdentifier, BitString, SubjectKeyIdentifier, SubjectPublicKeyInfo,
-};
+use x509_cert_extensions::SubjectKeyIdentifier;
+use x509_cert_extensions::certificates::{AlgorithmIdentifier, BitString, SubjectPublicKeyInfo};
 
 /// A key that signs, wherever it is kept: in memory, in a device, behind a process.
 ///
@@ -15,7 +14,7 @@ pub trait Signer {
     ghost use Rattle.std.specs.Prelude.{◌≡◌, ℕ, List, IfOk, IfErr};
     ghost use Rattle.der_core_head.specs.BitStrings.{Bits};
     ghost use Rattle.der_core_head.specs.Grammar.{plain_option};
-    ghost use Rattle.x509_cert_anchors.specs.Parts.{Algorithm, PublicKey, algorithm_plain, key_plain};
+    ghost use Rattle.x509_cert_extensions.specs.Parts.{Algorithm, PublicKey, algorithm_plain, key_plain};
     ghost use Rattle.x509_cert_builders.specs.Profiles.{Identifies};
     ghost use Rattle.x509_cert_builders.specs.declared.sign_error.SignError.TheVariants.{Refused};
 

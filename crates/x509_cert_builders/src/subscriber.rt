@@ -1,7 +1,7 @@
 //! Subscribers.
 
 ghost use Rattle.std.specs.Prelude.{◌≡◌, ◌<◌, ◌^◌, bit_or, false, if◌then◌else◌};
-ghost use Rattle.x509_cert_anchors.specs.Parts.{name_plain};
+ghost use Rattle.x509_cert_extensions.specs.Parts.{name_plain};
 ghost use Rattle.x509_cert_builders.specs.Profiles.{subscriber_extensions, subscriber_uses};
 ghost use Rattle.x509_cert_builders.specs.Subscribers.{is_domain_validated, type_subject};
 ghost use Rattle.x509_cert_builders.specs.declared.error.Error.TheVariants.{Unsupported};
@@ -14,10 +14,10 @@ use crate::identifiers::{elliptic_curve_key, rsa_encryption};
 use crate::tls12_options::Tls12Options;
 use der_core::Fields;
 use std::alloc::Global;
-use x509_cert_anchors::{
-    Extensions, FlagSet, KeyUsage, KeyUsages, Name, SubjectKeyIdentifier, SubjectPublicKeyInfoRef,
-    TbsCertificate,
+use x509_cert_extensions::certificates::{
+    Extensions, FlagSet, Name, SubjectPublicKeyInfoRef, TbsCertificate,
 };
+use x509_cert_extensions::{KeyUsage, KeyUsages, SubjectKeyIdentifier};
 
 /// The certificate of a server (CA/Browser Forum, Baseline Requirements 7.1.2.7). Its domains are added to the builder, as
 /// `SubjectAltName`.

@@ -8,7 +8,8 @@ ghost use Rattle.x509_cert_builders.specs.Refusals.{IsWantOfMemory};
 use crate::error::Error;
 use crate::identifiers::purpose;
 use std::alloc::Global;
-use x509_cert_anchors::{ExtendedKeyUsage, FlagSet, KeyUsage, KeyUsages};
+use x509_cert_extensions::certificates::FlagSet;
+use x509_cert_extensions::{ExtendedKeyUsage, KeyUsage, KeyUsages};
 
 /// `id-kp-serverAuth` and `id-kp-clientAuth`, as numbers below `id-kp` (RFC 5280 4.2.1.12).
 const SERVER_AUTH: u8 = 1;

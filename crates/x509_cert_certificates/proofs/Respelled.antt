@@ -3,7 +3,7 @@ use Rattle.std.proofs.Common.{◌≡◌, ℕ, ◌≤◌, List, [], ◌++◌, len
 use Rattle.std.specs.Prelude.{◌↔◌}
 use Rattle.der_core_head.specs.declared.tag.Tag.TheVariants as tags
 use Rattle.der_core_head.specs.Shapes.{Body, IsValid, IsContent, IsBody, field, done, octets_of, contents, body_octets}
-use Rattle.der_core_head.proofs.AllOctets.{one_value}
+use Rattle.der_core_head.proofs.OneEncoding.{one_value}
 use Rattle.x509_cert_parts.specs.NameParts.{name}
 use Rattle.x509_cert_parts.specs.Grammar.{PlainValidity, bit_string, algorithm_identifier, public_key_info, version_field, serial_number, validity, not_before, not_after}
 use Rattle.x509_cert_parts.specs.Respelling.{validity_by, is_early_generalized}
@@ -80,7 +80,7 @@ octets_same bound limit c h =
     let same = validity_same (tbs_validity (tbs c)) in (
       λ e.
           let one : certificate_by true c ≡ c =
-          (one_value (certificate bound limit) 64 (certificate_by true c) c [] [] refl refl refl (certificate_valid bound limit true c h) h (ap (λ (w : List ℕ). w ++ []) e)).0 in
+          (one_value (certificate bound limit) (certificate_by true c) c [] [] refl refl (certificate_valid bound limit true c h) h (ap (λ (w : List ℕ). w ++ []) e)).0 in
           same.0 (ap (λ (d : PlainCertificate). tbs_validity (tbs d)) one),
       λ p. ap (λ (v : PlainValidity). octets_of (certificate bound limit) (with_validity c v)) (same.1 p),
     )

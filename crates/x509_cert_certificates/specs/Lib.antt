@@ -3,3 +3,4 @@ pub mod Bounds
 pub mod Parts
 pub mod Texts
 pub mod Views
+pub use Rattle.x509_cert_parts.specs.Names

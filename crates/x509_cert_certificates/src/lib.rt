@@ -5,8 +5,6 @@ mod certificate;
 pub mod laws;
 pub mod making;
 mod tbs_certificate;
-mod unique_identifier_ref;
-mod version_field;
 
 pub use certificate::{Certificate, CertificateInner};
 pub use tbs_certificate::{TbsCertificate, TbsCertificateInner};

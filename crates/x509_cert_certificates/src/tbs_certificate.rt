@@ -11,10 +11,8 @@ ghost use Rattle.x509_cert_parts.specs.ExtensionSearch.{only_value, listed};
 ghost use Rattle.x509_cert_certificates.specs.Certificates.{tbs_fields, tbs_by, tbs_version, tbs_serial, tbs_inner_algorithm, tbs_issuer, tbs_validity, tbs_subject, tbs_public_key, tbs_issuer_unique_id, tbs_subject_unique_id, tbs_extensions};
 ghost use Rattle.x509_cert_certificates.specs.Views.{tbs_plain};
 
-use crate::unique_identifier_ref::UniqueIdentifierRef;
-use crate::version_field::VersionField;
 use const_oid::AssociatedOid;
-use der_core::making::read_fields;
+use der_core::making::{implicit_ref, read_fields};
 use der_core::{
     ApartValue, Decode, DecodeFields, DecodeValue, EncodeFields, EncodeRef, EncodeValue, Error,
     Explicit, Fields, FixedTag, Header, Implicit, Length, Reader, ShapedValue, SliceReader, Tag,
@@ -69,8 +67,11 @@ pub struct TbsCertificateInner<P = Rfc5280> {
 /// The signed part by the profile of RFC 5280.
 pub type TbsCertificate = TbsCertificateInner<Rfc5280>;
 
+/// The version behind its tag.
+type Numbered = WithDefault<Explicit<Version, 0>>;
+
 type Row<P> = (
-    WithDefault<VersionField>,
+    Numbered,
     (SerialNumber<P>, (AlgorithmIdentifier, (Name, Behind<P>))),
 );
 
@@ -112,7 +113,7 @@ impl<'a, R: Reader<'a>, P: Profile> DecodeFields<'a, R> for TbsCertificateInner<
         let (validity, (subject, (subject_public_key_info, last))) = behind;
         let (issuer_unique_id, (subject_unique_id, (extensions, ()))) = last;
         Ok(TbsCertificateInner {
-            version: version.value.version,
+            version: version.value.value,
             serial_number,
             signature,
             issuer,
@@ -164,16 +165,6 @@ impl<'a, R: Reader<'a>, P: Profile> DecodeValue<'a, R> for TbsCertificateInner<P
     }
 }
 
-/// The bits, behind a tag.
-fn lent<'a, const N: u32>(bits: &'a Option<BitString>) -> Option<UniqueIdentifierRef<'a, N>>
-    ensures { plain_option (λ r. r.bits.now) result ≡ bits.now }
-{
-    match bits {
-        Some(bits) => Some(UniqueIdentifierRef { bits }),
-        None => None,
-    }
-}
-
 /// The extensions, behind a tag.
 fn lent_extensions<'a>(
     extensions: &'a Option<Extensions>,
@@ -190,15 +181,15 @@ fn lent_extensions<'a>(
 
 impl<P: Profile> EncodeValue for TbsCertificateInner<P> {
     fn value_len(&self) -> Result<Length, Error> {
-        let version = WithDefault {
-            value: VersionField {
-                version: self.version,
+        let version: Numbered = WithDefault {
+            value: Explicit {
+                value: self.version,
             },
         };
         let last = (
-            lent::<1>(&self.issuer_unique_id),
+            implicit_ref::<BitString, 1>(&self.issuer_unique_id),
             (
-                lent::<2>(&self.subject_unique_id),
+                implicit_ref::<BitString, 2>(&self.subject_unique_id),
                 (lent_extensions(&self.extensions), ()),
             ),
         );
@@ -218,15 +209,15 @@ impl<P: Profile> EncodeValue for TbsCertificateInner<P> {
     }
 
     fn encode_value<W: Writer>(&self, writer: &mut W) -> Result<(), Error> {
-        let version = WithDefault {
-            value: VersionField {
-                version: self.version,
+        let version: Numbered = WithDefault {
+            value: Explicit {
+                value: self.version,
             },
         };
         let last = (
-            lent::<1>(&self.issuer_unique_id),
+            implicit_ref::<BitString, 1>(&self.issuer_unique_id),
             (
-                lent::<2>(&self.subject_unique_id),
+                implicit_ref::<BitString, 2>(&self.subject_unique_id),
                 (lent_extensions(&self.extensions), ()),
             ),
         );

@@ -1,7 +1,12 @@
-pub mod Certificates
 pub mod KeyIdentifiers
 pub mod Making
 pub mod NamedBits
-pub mod Parts
-pub mod Texts
 pub mod Reasons
+pub use Rattle.x509_cert_policies.specs.Parts
+pub use Rattle.x509_cert_policies.specs.Certificates
+pub use Rattle.x509_cert_policies.specs.CertificateViews
+pub use Rattle.x509_cert_policies.specs.Texts
+pub use Rattle.x509_cert_policies.specs.GeneralNames
+pub use Rattle.x509_cert_policies.specs.GeneralNameViews
+pub use Rattle.x509_cert_policies.specs.Grammar as Policies
+pub use Rattle.x509_cert_policies.specs.Views as PolicyViews

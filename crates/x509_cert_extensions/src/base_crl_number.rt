@@ -12,7 +12,7 @@ use der_core::{
 };
 use std::alloc::Global;
 use std::cmp::Ordering;
-use x509_cert_policies::Uint;
+use x509_cert_policies::certificates::Uint;
 
 /// The number of the list that a list of changes begins from (RFC 5280 5.2.4).
 ///

@@ -4,13 +4,14 @@ ghost use Rattle.std.specs.Prelude.{◌≡◌, IfOk, IfErr};
 ghost use Rattle.sha1.specs.Sha1.{sha1};
 ghost use Rattle.der_core_head.specs.declared.error.ErrorKind.TheVariants.{OutOfMemory};
 ghost use Rattle.der_core_head.specs.Shapes.{IsValid, octets_of};
-ghost use Rattle.x509_cert_policies.specs.Certificates.{certificate as certificate_shape, certificate_by, certificate_plain};
+ghost use Rattle.x509_cert_policies.specs.Certificates.{certificate as certificate_shape, certificate_by};
+ghost use Rattle.x509_cert_policies.specs.CertificateViews.{certificate_plain};
 ghost use Rattle.x509_cert_policies.specs.Parts.{arc_bound};
 
 use der_core::{Error, to_der};
 use sha1::Sha1;
 use std::alloc::{AllocError, Global};
-use x509_cert_policies::{CertificateInner, Profile};
+use x509_cert_policies::certificates::{CertificateInner, Profile};
 
 /// A digest by which certificates are named.
 pub trait CertDigest {

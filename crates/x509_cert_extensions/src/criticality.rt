@@ -15,9 +15,12 @@ use crate::subject_alt_name::SubjectAltName;
 use crate::subject_directory_attributes::SubjectDirectoryAttributes;
 use crate::subject_info_access::SubjectInfoAccessSyntax;
 use crate::subject_key_identifier::SubjectKeyIdentifier;
+use x509_cert_policies::certificates::{Extension, Name};
+use x509_cert_policies::general_names::{
+    AuthorityKeyIdentifier, IssuingDistributionPoint, NameConstraints,
+};
 use x509_cert_policies::{
-    AuthorityKeyIdentifier, BasicConstraints, CertificatePolicies, Extension, InhibitAnyPolicy,
-    IssuingDistributionPoint, Name, NameConstraints, PolicyConstraints, PolicyMappings,
+    BasicConstraints, CertificatePolicies, InhibitAnyPolicy, PolicyConstraints, PolicyMappings,
     PrivateKeyUsagePeriod,
 };
 use x509_cert_timestamps::SignedCertificateTimestampList;

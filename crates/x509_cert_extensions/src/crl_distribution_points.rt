@@ -4,7 +4,9 @@ ghost use Rattle.std.specs.Prelude.{◌≡◌, [], refl};
 ghost use Rattle.der_core_head.specs.declared.tag.Tag.TheVariants.{Sequence};
 ghost use Rattle.der_core_head.specs.Grammar.{plain_list};
 ghost use Rattle.der_core_head.specs.Shapes.{nested, many, sequence};
-ghost use Rattle.x509_cert_policies.specs.Parts.{distribution_point_fields, arc_bound, distribution_point_plain};
+ghost use Rattle.x509_cert_policies.specs.GeneralNames.{distribution_point_fields};
+ghost use Rattle.x509_cert_policies.specs.Parts.{arc_bound};
+ghost use Rattle.x509_cert_policies.specs.GeneralNameViews.{distribution_point_plain};
 
 use der_core::{
     ApartValue, AsReadValue, DecodeValue, EncodeValue, Error, FixedTag, Header, Length, Reader,
@@ -12,7 +14,7 @@ use der_core::{
 };
 use std::alloc::Global;
 use std::cmp::Ordering;
-use x509_cert_policies::DistributionPoint;
+use x509_cert_policies::general_names::DistributionPoint;
 
 /// Where lists of revoked certificates are had (RFC 5280 4.2.1.13).
 ///

@@ -14,7 +14,7 @@ use der_core::{
 };
 use std::alloc::Global;
 use std::cmp::Ordering;
-use x509_cert_policies::Uint;
+use x509_cert_policies::certificates::Uint;
 
 /// The number of a list of revoked certificates (RFC 5280 5.2.3).
 ///

@@ -13,7 +13,7 @@ use der_core::{
 };
 use std::alloc::Global;
 use std::cmp::Ordering;
-use x509_cert_policies::making::number_among;
+use x509_cert_policies::general_names::making::number_among;
 
 /// Why a certificate was revoked (RFC 5280 5.3.1). The number 7 isn't used.
 ///

@@ -1,5 +1,4 @@
 //! The identifiers of extensions (RFC 5280 4.2, 5.2).
-#![tactic(auto, unfolding(const_oid::specs::Bound::Bound, const_oid::specs::TextReading::text_arcs, const_oid::specs::ArcLists::add_arc, const_oid::specs::ArcLists::whole_arcs, const_oid::specs::IdentifierOctets::identifier_octets, const_oid::specs::IdentifierOctets::arc_octets, const_oid::specs::Digits::digits, const_oid::specs::Digits::digits_within, const_oid::specs::Digits::marked))]
 
 ghost use Rattle.std.specs.Prelude.{◌∷◌, []};
 
@@ -22,7 +21,7 @@ impl AssociatedOid for AuthorityInfoAccessSyntax {
     ghost oid_arcs = { 1 ∷ 3 ∷ 6 ∷ 1 ∷ 5 ∷ 5 ∷ 7 ∷ 1 ∷ 1 ∷ [] };
 
     fn associated_oid() -> ObjectIdentifier<39> {
-        ObjectIdentifier::new_unwrap("1.3.6.1.5.5.7.1.1")
+        ObjectIdentifier::from_bytes_unwrap(&[0x2b, 6, 1, 5, 5, 7, 1, 1])
     }
 }
 
@@ -30,7 +29,7 @@ impl AssociatedOid for BaseCrlNumber {
     ghost oid_arcs = { 2 ∷ 5 ∷ 29 ∷ 27 ∷ [] };
 
     fn associated_oid() -> ObjectIdentifier<39> {
-        ObjectIdentifier::new_unwrap("2.5.29.27")
+        ObjectIdentifier::from_bytes_unwrap(&[0x55, 0x1d, 0x1b])
     }
 }
 
@@ -38,7 +37,7 @@ impl AssociatedOid for CrlDistributionPoints {
     ghost oid_arcs = { 2 ∷ 5 ∷ 29 ∷ 31 ∷ [] };
 
     fn associated_oid() -> ObjectIdentifier<39> {
-        ObjectIdentifier::new_unwrap("2.5.29.31")
+        ObjectIdentifier::from_bytes_unwrap(&[0x55, 0x1d, 0x1f])
     }
 }
 
@@ -46,7 +45,7 @@ impl AssociatedOid for CrlNumber {
     ghost oid_arcs = { 2 ∷ 5 ∷ 29 ∷ 20 ∷ [] };
 
     fn associated_oid() -> ObjectIdentifier<39> {
-        ObjectIdentifier::new_unwrap("2.5.29.20")
+        ObjectIdentifier::from_bytes_unwrap(&[0x55, 0x1d, 0x14])
     }
 }
 
@@ -54,7 +53,7 @@ impl AssociatedOid for ExtendedKeyUsage {
     ghost oid_arcs = { 2 ∷ 5 ∷ 29 ∷ 37 ∷ [] };
 
     fn associated_oid() -> ObjectIdentifier<39> {
-        ObjectIdentifier::new_unwrap("2.5.29.37")
+        ObjectIdentifier::from_bytes_unwrap(&[0x55, 0x1d, 0x25])
     }
 }
 
@@ -62,7 +61,7 @@ impl AssociatedOid for FreshestCrl {
     ghost oid_arcs = { 2 ∷ 5 ∷ 29 ∷ 46 ∷ [] };
 
     fn associated_oid() -> ObjectIdentifier<39> {
-        ObjectIdentifier::new_unwrap("2.5.29.46")
+        ObjectIdentifier::from_bytes_unwrap(&[0x55, 0x1d, 0x2e])
     }
 }
 
@@ -70,7 +69,7 @@ impl AssociatedOid for IssuerAltName {
     ghost oid_arcs = { 2 ∷ 5 ∷ 29 ∷ 18 ∷ [] };
 
     fn associated_oid() -> ObjectIdentifier<39> {
-        ObjectIdentifier::new_unwrap("2.5.29.18")
+        ObjectIdentifier::from_bytes_unwrap(&[0x55, 0x1d, 0x12])
     }
 }
 
@@ -78,7 +77,7 @@ impl AssociatedOid for KeyUsage {
     ghost oid_arcs = { 2 ∷ 5 ∷ 29 ∷ 15 ∷ [] };
 
     fn associated_oid() -> ObjectIdentifier<39> {
-        ObjectIdentifier::new_unwrap("2.5.29.15")
+        ObjectIdentifier::from_bytes_unwrap(&[0x55, 0x1d, 0x0f])
     }
 }
 
@@ -86,7 +85,7 @@ impl AssociatedOid for SubjectAltName {
     ghost oid_arcs = { 2 ∷ 5 ∷ 29 ∷ 17 ∷ [] };
 
     fn associated_oid() -> ObjectIdentifier<39> {
-        ObjectIdentifier::new_unwrap("2.5.29.17")
+        ObjectIdentifier::from_bytes_unwrap(&[0x55, 0x1d, 0x11])
     }
 }
 
@@ -94,7 +93,7 @@ impl AssociatedOid for SubjectInfoAccessSyntax {
     ghost oid_arcs = { 1 ∷ 3 ∷ 6 ∷ 1 ∷ 5 ∷ 5 ∷ 7 ∷ 1 ∷ 11 ∷ [] };
 
     fn associated_oid() -> ObjectIdentifier<39> {
-        ObjectIdentifier::new_unwrap("1.3.6.1.5.5.7.1.11")
+        ObjectIdentifier::from_bytes_unwrap(&[0x2b, 6, 1, 5, 5, 7, 1, 0x0b])
     }
 }
 
@@ -102,7 +101,7 @@ impl AssociatedOid for SubjectKeyIdentifier {
     ghost oid_arcs = { 2 ∷ 5 ∷ 29 ∷ 14 ∷ [] };
 
     fn associated_oid() -> ObjectIdentifier<39> {
-        ObjectIdentifier::new_unwrap("2.5.29.14")
+        ObjectIdentifier::from_bytes_unwrap(&[0x55, 0x1d, 0x0e])
     }
 }
 
@@ -110,7 +109,7 @@ impl AssociatedOid for CrlReason {
     ghost oid_arcs = { 2 ∷ 5 ∷ 29 ∷ 21 ∷ [] };
 
     fn associated_oid() -> ObjectIdentifier<39> {
-        ObjectIdentifier::new_unwrap("2.5.29.21")
+        ObjectIdentifier::from_bytes_unwrap(&[0x55, 0x1d, 0x15])
     }
 }
 
@@ -118,6 +117,6 @@ impl AssociatedOid for SubjectDirectoryAttributes {
     ghost oid_arcs = { 2 ∷ 5 ∷ 29 ∷ 9 ∷ [] };
 
     fn associated_oid() -> ObjectIdentifier<39> {
-        ObjectIdentifier::new_unwrap("2.5.29.9")
+        ObjectIdentifier::from_bytes_unwrap(&[0x55, 0x1d, 9])
     }
 }

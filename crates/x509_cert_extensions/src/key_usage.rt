@@ -14,7 +14,7 @@ use der_core::{
 };
 use std::alloc::Global;
 use std::cmp::Ordering;
-use x509_cert_policies::{FlagSet, NamedBits};
+use x509_cert_policies::certificates::{FlagSet, NamedBits};
 
 /// What a key is for, the first use the lowest bit (RFC 5280 4.2.1.3).
 #[derive(Clone, Copy, Debug, PartialEq, Eq)]

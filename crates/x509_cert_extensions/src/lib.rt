@@ -14,7 +14,6 @@ mod identifiers;
 mod issuer_alt_name;
 mod key_identifier;
 mod key_usage;
-pub mod making;
 mod subject_alt_name;
 mod subject_directory_attributes;
 mod subject_info_access;
@@ -39,18 +38,5 @@ pub use subject_directory_attributes::SubjectDirectoryAttributes;
 pub use subject_info_access::SubjectInfoAccessSyntax;
 pub use subject_key_identifier::SubjectKeyIdentifier;
 pub use to_extension::ToExtension;
-pub use x509_cert_policies::{
-    AccessDescription, AlgorithmIdentifier, AlgorithmIdentifierRef, Any, AnyRef, Attribute,
-    AttributeType, AttributeTypeAndValue, AttributeValue, Attributes, AuthorityKeyIdentifier,
-    BasicConstraints, BitString, Certificate, CertificateInner, CertificatePolicies, CpsUri,
-    DateTime, DirectoryString, DisplayText, DistinguishedName, DistributionPoint,
-    DistributionPointName, EdiPartyName, Extension, Extensions, ExtensionsOf, FlagSet, FromAny,
-    GeneralName, GeneralNames, GeneralSubtree, GeneralSubtrees, GeneralizedTime,
-    HardwareModuleName, Ia5String, InhibitAnyPolicy, IssuingDistributionPoint, Name,
-    NameConstraints, NameIter, NamedBits, NoticeReference, OctetString, OtherName,
-    PolicyConstraints, PolicyInformation, PolicyMapping, PolicyMappings, PolicyQualifierInfo,
-    PrivateKeyUsagePeriod, Profile, Raw, RdnSequence, RdnSequenceIter, ReasonFlags, Reasons,
-    RelativeDistinguishedName, RelativeNameIter, Rfc5280, SerialNumber, SetOfVec,
-    SubjectPublicKeyInfo, SubjectPublicKeyInfoRef, TbsCertificate, TbsCertificateInner, Time, Uint,
-    UserNotice, UtcTime, Validity, Version, filter_extensions, get_extension, laws,
-};
+pub use x509_cert_policies as policies;
+pub use x509_cert_policies::{certificates, general_names};

@@ -12,7 +12,7 @@ use der_core::{
 };
 use std::alloc::Global;
 use std::cmp::Ordering;
-use x509_cert_policies::Attribute;
+use x509_cert_policies::certificates::Attribute;
 
 /// Attributes of a subject (RFC 5280 4.2.1.8).
 ///

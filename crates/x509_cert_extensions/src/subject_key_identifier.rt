@@ -11,7 +11,7 @@ use der_core::{
 };
 use std::alloc::Global;
 use std::cmp::Ordering;
-use x509_cert_policies::OctetString;
+use x509_cert_policies::certificates::OctetString;
 
 /// The identifier of a subject's key (RFC 5280 4.2.1.2).
 ///

@@ -1,3 +1,3 @@
 pub mod Rows
-pub mod Distances
 pub mod Passed
+pub use Rattle.x509_cert_certificates.proofs.Names

@@ -9,14 +9,12 @@ ghost use Rattle.x509_cert_general_names.specs.Views.{distribution_point_plain};
 
 use crate::distribution_point_name::DistributionPointName;
 use crate::general_name::GeneralNames;
-use crate::implicit_ref::ImplicitRef;
 use crate::reason_flags::ReasonFlags;
-use crate::tagged_fields::{explicit_of, explicit_ref, implicit_of, implicit_ref};
-use der_core::making::read_fields;
+use der_core::making::{explicit_of, explicit_ref, implicit_of, implicit_ref, read_fields};
 use der_core::{
     ApartValue, AsReadValue, DecodeFields, DecodeValue, EncodeFields, EncodeRef, EncodeValue,
-    Error, Explicit, Fields, FieldsOrd, FixedTag, Header, Implicit, Length, Reader, ShapedValue,
-    Tag, ValueOrd, Writer,
+    Error, Explicit, Fields, FieldsOrd, FixedTag, Header, Implicit, ImplicitRef, Length, Reader,
+    ShapedValue, Tag, ValueOrd, Writer,
 };
 use std::alloc::Global;
 use std::cmp::Ordering;

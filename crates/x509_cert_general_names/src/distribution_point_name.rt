@@ -6,10 +6,9 @@ ghost use Rattle.x509_cert_general_names.specs.Grammar.{distribution_point_name}
 ghost use Rattle.x509_cert_general_names.specs.Views.{distribution_point_name_plain};
 
 use crate::general_name::GeneralNames;
-use crate::implicit_ref::ImplicitRef;
 use der_core::{
-    AsRead, Choice, Decode, DerOrd, Element, Encode, Error, FirstTag, Implicit, Length, Member,
-    OneOf2, Reader, Shaped, Tag, Writer,
+    AsRead, Choice, Decode, DerOrd, Element, Encode, Error, FirstTag, Implicit, ImplicitRef,
+    Length, Member, OneOf2, Reader, Shaped, Tag, Writer,
 };
 use std::alloc::Global;
 use std::cmp::Ordering;

@@ -6,8 +6,7 @@ ghost use Rattle.der_core_head.specs.Shapes.{nested};
 ghost use Rattle.x509_cert_general_names.specs.Grammar.{edi_party_name_fields};
 ghost use Rattle.x509_cert_general_names.specs.Views.{edi_party_name_plain};
 
-use crate::tagged_fields::{explicit_of, explicit_ref};
-use der_core::making::read_fields;
+use der_core::making::{explicit_of, explicit_ref, read_fields};
 use der_core::{
     ApartValue, AsReadValue, DecodeFields, DecodeValue, EncodeFields, EncodeRef, EncodeValue,
     Error, Explicit, Fields, FieldsOrd, FixedTag, Header, Length, Reader, ShapedValue, Tag,

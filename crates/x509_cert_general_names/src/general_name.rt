@@ -9,12 +9,11 @@ ghost use Rattle.x509_cert_general_names.specs.Views.{general_name_plain};
 ghost use Rattle.x509_cert_general_names.specs.declared.general_name.GeneralName.TheVariants as names;
 
 use crate::edi_party_name::EdiPartyName;
-use crate::implicit_ref::ImplicitRef;
 use crate::other_name::OtherName;
 use const_oid::ObjectIdentifier;
 use der_core::{
     AsRead, Choice, Decode, DerOrd, Element, Encode, EncodeRef, Error, Explicit, FirstTag,
-    Implicit, Length, Member, OneOf8, Reader, Shaped, Tag, Writer,
+    Implicit, ImplicitRef, Length, Member, OneOf2, OneOf4, OneOf8, Reader, Shaped, Tag, Writer,
 };
 use std::alloc::{AllocError, Global};
 use std::cmp::Ordering;
@@ -112,18 +111,24 @@ impl GeneralName {
         ensures { ⟦<CasesRef<'a> as Shaped>⟧.written result ≡ general_name_plain self.now }
     {
         match self {
-            GeneralName::OtherName(value) => OneOf8::First(ImplicitRef { value: value }),
-            GeneralName::Rfc822Name(value) => OneOf8::Second(ImplicitRef { value: value }),
-            GeneralName::DnsName(value) => OneOf8::Third(ImplicitRef { value: value }),
-            GeneralName::DirectoryName(value) => OneOf8::Fourth(Explicit {
+            GeneralName::OtherName(value) => OneOf4::First(ImplicitRef { value: value }),
+            GeneralName::Rfc822Name(value) => OneOf4::Second(ImplicitRef { value: value }),
+            GeneralName::DnsName(value) => OneOf4::Third(ImplicitRef { value: value }),
+            GeneralName::DirectoryName(value) => OneOf4::Fourth(OneOf4::First(Explicit {
                 value: EncodeRef(value),
-            }),
-            GeneralName::EdiPartyName(value) => OneOf8::Fifth(ImplicitRef { value: value }),
-            GeneralName::UniformResourceIdentifier(value) => OneOf8::Sixth(ImplicitRef {
+            })),
+            GeneralName::EdiPartyName(value) => OneOf4::Fourth(OneOf4::Second(ImplicitRef {
                 value: value,
-            }),
-            GeneralName::IpAddress(value) => OneOf8::Seventh(ImplicitRef { value: value }),
-            GeneralName::RegisteredId(value) => OneOf8::Eighth(ImplicitRef { value: value }),
+            })),
+            GeneralName::UniformResourceIdentifier(value) => OneOf4::Fourth(OneOf4::Third(
+                ImplicitRef { value: value },
+            )),
+            GeneralName::IpAddress(value) => OneOf4::Fourth(OneOf4::Fourth(OneOf2::First(
+                ImplicitRef { value: value },
+            ))),
+            GeneralName::RegisteredId(value) => OneOf4::Fourth(OneOf4::Fourth(OneOf2::Second(
+                ImplicitRef { value: value },
+            ))),
         }
     }
 }
@@ -145,14 +150,20 @@ impl Choice for GeneralName {
 impl<'a, R: Reader<'a>> Decode<'a, R> for GeneralName {
     fn decode(alloc: Global, reader: &mut R) -> Result<GeneralName, Error> {
         match Cases::decode(alloc, reader)? {
-            OneOf8::First(value) => Ok(GeneralName::OtherName(value.value)),
-            OneOf8::Second(value) => Ok(GeneralName::Rfc822Name(value.value)),
-            OneOf8::Third(value) => Ok(GeneralName::DnsName(value.value)),
-            OneOf8::Fourth(value) => Ok(GeneralName::DirectoryName(value.value)),
-            OneOf8::Fifth(value) => Ok(GeneralName::EdiPartyName(value.value)),
-            OneOf8::Sixth(value) => Ok(GeneralName::UniformResourceIdentifier(value.value)),
-            OneOf8::Seventh(value) => Ok(GeneralName::IpAddress(value.value)),
-            OneOf8::Eighth(value) => Ok(GeneralName::RegisteredId(value.value)),
+            OneOf4::First(value) => Ok(GeneralName::OtherName(value.value)),
+            OneOf4::Second(value) => Ok(GeneralName::Rfc822Name(value.value)),
+            OneOf4::Third(value) => Ok(GeneralName::DnsName(value.value)),
+            OneOf4::Fourth(OneOf4::First(value)) => Ok(GeneralName::DirectoryName(value.value)),
+            OneOf4::Fourth(OneOf4::Second(value)) => Ok(GeneralName::EdiPartyName(value.value)),
+            OneOf4::Fourth(OneOf4::Third(value)) => Ok(GeneralName::UniformResourceIdentifier(
+                value.value,
+            )),
+            OneOf4::Fourth(OneOf4::Fourth(OneOf2::First(value))) => Ok(GeneralName::IpAddress(
+                value.value,
+            )),
+            OneOf4::Fourth(OneOf4::Fourth(OneOf2::Second(value))) => Ok(GeneralName::RegisteredId(
+                value.value,
+            )),
         }
     }
 }

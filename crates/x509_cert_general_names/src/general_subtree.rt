@@ -7,15 +7,12 @@ ghost use Rattle.x509_cert_certificates.specs.Parts.{arc_bound};
 ghost use Rattle.x509_cert_general_names.specs.Grammar.{general_subtree_fields};
 ghost use Rattle.x509_cert_general_names.specs.Views.{general_subtree_plain};
 
-use crate::distance_field::DistanceField;
 use crate::general_name::GeneralName;
-use crate::implicit_ref::ImplicitRef;
-use crate::tagged_fields::{implicit_of, implicit_ref};
-use der_core::making::read_fields;
+use der_core::making::{implicit_of, implicit_ref, read_fields};
 use der_core::{
     ApartValue, AsReadValue, DecodeFields, DecodeValue, EncodeFields, EncodeRef, EncodeValue,
-    Error, Fields, FieldsOrd, FixedTag, Header, Implicit, Length, Reader, ShapedValue, Tag,
-    ValueOrd, WithDefault, Writer,
+    Error, Fields, FieldsOrd, FixedTag, Header, Implicit, ImplicitRef, Length, Reader, ShapedValue,
+    Tag, ValueOrd, WithDefault, Writer,
 };
 use std::alloc::Global;
 use std::cmp::Ordering;
@@ -42,13 +39,16 @@ pub struct GeneralSubtree {
 
 type Row = (
     GeneralName,
-    (WithDefault<DistanceField>, (Option<Implicit<u32, 1>>, ())),
+    (
+        WithDefault<Implicit<u32, 0>>,
+        (Option<Implicit<u32, 1>>, ()),
+    ),
 );
 
 type RowRef<'a> = (
     EncodeRef<'a, GeneralName>,
     (
-        WithDefault<DistanceField>,
+        WithDefault<Implicit<u32, 0>>,
         (Option<ImplicitRef<'a, u32, 1>>, ()),
     ),
 );
@@ -62,8 +62,8 @@ impl GeneralSubtree {
             EncodeRef(&self.base),
             (
                 WithDefault {
-                    value: DistanceField {
-                        distance: self.minimum,
+                    value: Implicit {
+                        value: self.minimum,
                     },
                 },
                 (implicit_ref(&self.maximum), ()),
@@ -93,7 +93,7 @@ impl<'a, R: Reader<'a>> DecodeFields<'a, R> for GeneralSubtree {
         let (base, (minimum, (maximum, ()))) = Row::decode_fields(alloc, reader)?;
         Ok(GeneralSubtree {
             base,
-            minimum: minimum.value.distance,
+            minimum: minimum.value.value,
             maximum: implicit_of(maximum),
         })
     }

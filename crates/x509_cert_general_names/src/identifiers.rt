@@ -1,5 +1,4 @@
 //! The identifiers of extensions (RFC 5280 4.2.1, 5.2).
-#![tactic(auto, unfolding(const_oid::specs::Bound::Bound, const_oid::specs::TextReading::text_arcs, const_oid::specs::ArcLists::add_arc, const_oid::specs::ArcLists::whole_arcs, const_oid::specs::IdentifierOctets::identifier_octets, const_oid::specs::IdentifierOctets::arc_octets, const_oid::specs::Digits::digits, const_oid::specs::Digits::digits_within, const_oid::specs::Digits::marked))]
 
 ghost use Rattle.std.specs.Prelude.{◌∷◌, []};
 ghost use Rattle.x509_cert_general_names.specs.Modules.{module_arcs};
@@ -14,7 +13,7 @@ impl AssociatedOid for AuthorityKeyIdentifier {
     ghost oid_arcs = { 2 ∷ 5 ∷ 29 ∷ 35 ∷ [] };
 
     fn associated_oid() -> ObjectIdentifier<39> {
-        ObjectIdentifier::new_unwrap("2.5.29.35")
+        ObjectIdentifier::from_bytes_unwrap(&[0x55, 0x1d, 0x23])
     }
 }
 
@@ -22,7 +21,7 @@ impl AssociatedOid for IssuingDistributionPoint {
     ghost oid_arcs = { 2 ∷ 5 ∷ 29 ∷ 28 ∷ [] };
 
     fn associated_oid() -> ObjectIdentifier<39> {
-        ObjectIdentifier::new_unwrap("2.5.29.28")
+        ObjectIdentifier::from_bytes_unwrap(&[0x55, 0x1d, 0x1c])
     }
 }
 
@@ -30,7 +29,7 @@ impl AssociatedOid for NameConstraints {
     ghost oid_arcs = { 2 ∷ 5 ∷ 29 ∷ 30 ∷ [] };
 
     fn associated_oid() -> ObjectIdentifier<39> {
-        ObjectIdentifier::new_unwrap("2.5.29.30")
+        ObjectIdentifier::from_bytes_unwrap(&[0x55, 0x1d, 0x1e])
     }
 }
 
@@ -39,6 +38,7 @@ impl AssociatedOid for HardwareModuleName {
     ghost oid_arcs = { module_arcs };
 
     fn associated_oid() -> ObjectIdentifier<39> {
-        ObjectIdentifier::new_unwrap("1.3.6.1.5.5.7.8.4")
+        // 1.3.6.1.5.5.7.8.4.
+        ObjectIdentifier::from_bytes_unwrap(&[0x2b, 6, 1, 5, 5, 7, 8, 4])
     }
 }

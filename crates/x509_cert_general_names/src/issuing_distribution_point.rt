@@ -8,15 +8,12 @@ ghost use Rattle.x509_cert_general_names.specs.Grammar.{issuing_distribution_poi
 ghost use Rattle.x509_cert_general_names.specs.Views.{issuing_distribution_point_plain};
 
 use crate::distribution_point_name::DistributionPointName;
-use crate::flag_field::FlagField;
-use crate::implicit_ref::ImplicitRef;
 use crate::reason_flags::ReasonFlags;
-use crate::tagged_fields::{explicit_of, explicit_ref, implicit_of, implicit_ref};
-use der_core::making::read_fields;
+use der_core::making::{explicit_of, explicit_ref, implicit_of, implicit_ref, read_fields};
 use der_core::{
     ApartValue, AsReadValue, DecodeFields, DecodeValue, EncodeFields, EncodeRef, EncodeValue,
-    Error, Explicit, Fields, FieldsOrd, FixedTag, Header, Implicit, Length, Reader, ShapedValue,
-    Tag, ValueOrd, WithDefault, Writer,
+    Error, Explicit, Fields, FieldsOrd, FixedTag, Header, Implicit, ImplicitRef, Length, Reader,
+    ShapedValue, Tag, ValueOrd, WithDefault, Writer,
 };
 use std::alloc::Global;
 use std::cmp::Ordering;
@@ -51,12 +48,15 @@ pub struct IssuingDistributionPoint {
 type Row = (
     Option<Explicit<DistributionPointName, 0>>,
     (
-        WithDefault<FlagField<1>>,
+        WithDefault<Implicit<bool, 1>>,
         (
-            WithDefault<FlagField<2>>,
+            WithDefault<Implicit<bool, 2>>,
             (
                 Option<Implicit<ReasonFlags, 3>>,
-                (WithDefault<FlagField<4>>, (WithDefault<FlagField<5>>, ())),
+                (
+                    WithDefault<Implicit<bool, 4>>,
+                    (WithDefault<Implicit<bool, 5>>, ()),
+                ),
             ),
         ),
     ),
@@ -65,12 +65,15 @@ type Row = (
 type RowRef<'a> = (
     Option<Explicit<EncodeRef<'a, DistributionPointName>, 0>>,
     (
-        WithDefault<FlagField<1>>,
+        WithDefault<Implicit<bool, 1>>,
         (
-            WithDefault<FlagField<2>>,
+            WithDefault<Implicit<bool, 2>>,
             (
                 Option<ImplicitRef<'a, ReasonFlags, 3>>,
-                (WithDefault<FlagField<4>>, (WithDefault<FlagField<5>>, ())),
+                (
+                    WithDefault<Implicit<bool, 4>>,
+                    (WithDefault<Implicit<bool, 5>>, ()),
+                ),
             ),
         ),
     ),
@@ -85,13 +88,13 @@ impl IssuingDistributionPoint {
             explicit_ref(&self.distribution_point),
             (
                 WithDefault {
-                    value: FlagField {
+                    value: Implicit {
                         value: self.only_contains_user_certs,
                     },
                 },
                 (
                     WithDefault {
-                        value: FlagField {
+                        value: Implicit {
                             value: self.only_contains_ca_certs,
                         },
                     },
@@ -99,13 +102,13 @@ impl IssuingDistributionPoint {
                         implicit_ref(&self.only_some_reasons),
                         (
                             WithDefault {
-                                value: FlagField {
+                                value: Implicit {
                                     value: self.indirect_crl,
                                 },
                             },
                             (
                                 WithDefault {
-                                    value: FlagField {
+                                    value: Implicit {
                                         value: self.only_contains_attribute_certs,
                                     },
                                 },

@@ -3,22 +3,18 @@
 
 mod access_description;
 mod authority_key_identifier;
-mod distance_field;
 mod distribution_point;
 mod distribution_point_name;
 mod edi_party_name;
-mod flag_field;
 mod general_name;
 mod general_subtree;
 mod hardware_module_name;
 mod identifiers;
-mod implicit_ref;
 mod issuing_distribution_point;
 pub mod making;
 mod name_constraints;
 mod other_name;
 mod reason_flags;
-mod tagged_fields;
 
 pub use access_description::AccessDescription;
 pub use authority_key_identifier::AuthorityKeyIdentifier;
@@ -32,13 +28,4 @@ pub use issuing_distribution_point::IssuingDistributionPoint;
 pub use name_constraints::NameConstraints;
 pub use other_name::OtherName;
 pub use reason_flags::{ReasonFlags, Reasons};
-pub use x509_cert_certificates::{
-    AlgorithmIdentifier, AlgorithmIdentifierRef, Any, AnyRef, Attribute, AttributeType,
-    AttributeTypeAndValue, AttributeValue, Attributes, BitString, Certificate, CertificateInner,
-    DateTime, DirectoryString, DistinguishedName, Extension, Extensions, ExtensionsOf, FlagSet,
-    FromAny, GeneralizedTime, Ia5String, Name, NameIter, NamedBits, OctetString, Profile, Raw,
-    RdnSequence, RdnSequenceIter, RelativeDistinguishedName, RelativeNameIter, Rfc5280,
-    SerialNumber, SetOfVec, SubjectPublicKeyInfo, SubjectPublicKeyInfoRef, TbsCertificate,
-    TbsCertificateInner, Time, Uint, UtcTime, Validity, Version, filter_extensions, get_extension,
-    laws,
-};
+pub use x509_cert_certificates as certificates;

@@ -8,12 +8,11 @@ ghost use Rattle.x509_cert_general_names.specs.Grammar.{name_constraints_fields}
 ghost use Rattle.x509_cert_general_names.specs.Views.{name_constraints_plain};
 
 use crate::general_subtree::GeneralSubtrees;
-use crate::implicit_ref::ImplicitRef;
-use crate::tagged_fields::{implicit_of, implicit_ref};
-use der_core::making::read_fields;
+use der_core::making::{implicit_of, implicit_ref, read_fields};
 use der_core::{
     ApartValue, AsReadValue, DecodeFields, DecodeValue, EncodeFields, EncodeValue, Error, Fields,
-    FieldsOrd, FixedTag, Header, Implicit, Length, Reader, ShapedValue, Tag, ValueOrd, Writer,
+    FieldsOrd, FixedTag, Header, Implicit, ImplicitRef, Length, Reader, ShapedValue, Tag, ValueOrd,
+    Writer,
 };
 use std::alloc::Global;
 use std::cmp::Ordering;

@@ -5,7 +5,7 @@ use Rattle.std.specs.List.{AllByRecursion, insert}
 use Rattle.der_core_head.specs.declared.error.ErrorKind.{ErrorKind}
 use Rattle.der_core_head.specs.Grammar.{plain_list}
 use Rattle.der_core_head.specs.Shapes.{IsValid, IsContent, IsBody}
-use Rattle.x509_cert_builders.specs.Lists.{extension_req_attribute}
+use Rattle.x509_cert_lists.specs.Grammar.{extension_req_attribute}
 use Rattle.x509_cert_builders.specs.Parts.{PlainAttribute, PlainExtension, PlainName, PublicKey, arc_bound, attribute}
 use Rattle.x509_cert_list_builders.specs.Requests.{HasNoOctets, IsNoneToAdd, PlainInfo, is_below, placed, request_of, request_part, stands_among, with_request}
 use Rattle.x509_cert_list_builders.proofs.Valid.{all_inserted, all_plain, inserted_all, put_all}

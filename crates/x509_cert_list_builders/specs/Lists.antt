@@ -8,9 +8,9 @@ use Rattle.der_core_head.specs.Octets.{◌>>=◌}
 use Rattle.der_core_head.specs.Shapes.{Shape, Value, BodyValue, IsValid, tagged, leaf, sequence, octets_of}
 use Rattle.sha1.specs.Sha1.{sha1}
 use Rattle.x509_cert_builders.specs.Certificates.{Tbs, tbs_public_key}
-use Rattle.x509_cert_builders.specs.Lists.{revoked_cert_fields, tbs_cert_list_fields}
-use Rattle.x509_cert_builders.specs.Parts.{Algorithm, PlainExtension, PlainName, PublicKey, arc_bound, authority_key_identifier_fields, key_bits, time}
-use Rattle.x509_cert_builders.specs.Parts.{only_value, listed}
+use Rattle.x509_cert_lists.specs.Grammar.{revoked_cert_fields, tbs_cert_list_fields}
+use Rattle.x509_cert_builders.specs.Parts.{Algorithm, PlainExtension, PlainName, PublicKey, arc_bound, key_bits, time, only_value, listed}
+use Rattle.x509_cert_builders.specs.GeneralNames.{authority_key_identifier_fields}
 
 -- a date and its spelling
 abbrev pub PlainTime : Type 0

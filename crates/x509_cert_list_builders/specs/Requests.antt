@@ -6,7 +6,7 @@ use Rattle.std.specs.declared.cmp.Ordering.TheVariants.{Less, Equal, Greater}
 use Rattle.der_core.specs.Orders.{encodings_cmp}
 use Rattle.der_core_head.specs.declared.error.ErrorKind.{ErrorKind}
 use Rattle.der_core_head.specs.Shapes.{Shape, Value, BodyValue, IsValid, sequence}
-use Rattle.x509_cert_builders.specs.Lists.{cert_req_info_fields, extension_req_attribute}
+use Rattle.x509_cert_lists.specs.Grammar.{cert_req_info_fields, extension_req_attribute}
 use Rattle.x509_cert_builders.specs.Parts.{PlainAttribute, PlainExtension, PlainName, PublicKey, arc_bound, attribute}
 
 -- the part of a request that is signed

@@ -3,7 +3,7 @@ use Rattle.std.specs.Prelude.{ℕ, List, [], ◌∷◌, ◌++◌, pos, Option, S
 use Rattle.der_core_head.specs.Grammar.{plain_list, plain_option}
 use Rattle.der_core_head.specs.Shapes.{octets_of}
 use Rattle.x509_cert_builders.specs.Parts.{Algorithm, PlainAttribute, PlainExtension, PlainName, PublicKey, attribute_plain, extensions_plain, name_plain, time_value}
-use Rattle.x509_cert_builders.specs.Lists.{cert_req_info_plain, revoked_cert_plain, tbs_cert_list_plain}
+use Rattle.x509_cert_lists.specs.Views.{cert_req_info_plain, revoked_cert_plain, tbs_cert_list_plain}
 use Rattle.x509_cert_list_builders.specs.Lists.{PlainEntry, PlainList, PlainTime}
 use Rattle.x509_cert_list_builders.specs.Requests.{PlainInfo}
 use Rattle.x509_cert_list_builders.specs.declared.crl_builder.CrlBuilder.TheInside as lists

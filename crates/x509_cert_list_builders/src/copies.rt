@@ -4,12 +4,13 @@ ghost use Rattle.std.specs.Prelude.{◌≡◌, IfOk, IfErr};
 ghost use Rattle.der_core_head.specs.Grammar.{plain_list, plain_option};
 ghost use Rattle.x509_cert_builders.specs.Refusals.{IsWantOfMemory};
 ghost use Rattle.x509_cert_builders.specs.Parts.{attribute_plain, extensions_plain};
-ghost use Rattle.x509_cert_builders.specs.Lists.{revoked_cert_plain};
+ghost use Rattle.x509_cert_lists.specs.Views.{revoked_cert_plain};
 
 use der_core::StrictSetOf;
 use std::alloc::Global;
 use x509_cert_builders::Error;
-use x509_cert_builders::types::{Attribute, Extension, Extensions, Profile, RevokedCert};
+use x509_cert_builders::types::certificates::{Attribute, Extension, Extensions, Profile};
+use x509_cert_lists::RevokedCert;
 
 /// Copies of extensions.
 pub(crate) fn copies_of_extensions(

@@ -7,9 +7,11 @@ ghost use Rattle.der_core_head.specs.declared.error.ErrorKind.TheVariants.{OutOf
 ghost use Rattle.der_core_head.specs.Grammar.{plain_list, plain_option};
 ghost use Rattle.der_core_head.specs.Reading.{Gives};
 ghost use Rattle.der_core_head.specs.Shapes.{IsValid, octets_of};
-ghost use Rattle.x509_cert_builders.specs.Certificates.{tbs_plain, tbs_subject};
-ghost use Rattle.x509_cert_builders.specs.Parts.{algorithm_plain, authority_key_identifier_plain, extensions_plain, key_plain, time_value};
-ghost use Rattle.x509_cert_builders.specs.Lists.{certificate_list_plain, revoked_cert_plain, tbs_cert_list_plain};
+ghost use Rattle.x509_cert_builders.specs.CertificateViews.{tbs_plain};
+ghost use Rattle.x509_cert_builders.specs.Certificates.{tbs_subject};
+ghost use Rattle.x509_cert_builders.specs.Parts.{algorithm_plain, extensions_plain, key_plain, time_value};
+ghost use Rattle.x509_cert_builders.specs.GeneralNameViews.{authority_key_identifier_plain};
+ghost use Rattle.x509_cert_lists.specs.Views.{certificate_list_plain, revoked_cert_plain, tbs_cert_list_plain};
 ghost use Rattle.x509_cert_builders.specs.Refusals.{IsWantOfMemory};
 ghost use Rattle.x509_cert_list_builders.specs.Lists.{HasNoExtensions, PlainAuthority, entries, given_or_made, issuing_key, key_extension, list_part, number_extension};
 ghost use Rattle.x509_cert_list_builders.specs.Signed.{octets_in_place};
@@ -20,13 +22,14 @@ use crate::laws::signed_part_stands_in_place;
 use der_core::{ErrorKind, to_der};
 use std::alloc::Global;
 use std::marker::Model;
-use x509_cert_builders::types::{
-    AlgorithmIdentifier, AlgorithmIdentifierRef, AuthorityKeyIdentifier, BitString, Certificate,
-    CertificateList, CrlNumber, Extensions, Name, Profile, RevokedCert, Rfc5280,
-    SubjectPublicKeyInfo, SubjectPublicKeyInfoRef, TbsCertList, TbsCertificate, Time, ToExtension,
-    TryFromKey, Version,
+use x509_cert_builders::types::certificates::{
+    AlgorithmIdentifier, AlgorithmIdentifierRef, BitString, Certificate, Extensions, Name, Profile,
+    Rfc5280, SubjectPublicKeyInfo, SubjectPublicKeyInfoRef, TbsCertificate, Time, Version,
 };
+use x509_cert_builders::types::general_names::AuthorityKeyIdentifier;
+use x509_cert_builders::types::{CrlNumber, ToExtension, TryFromKey};
 use x509_cert_builders::{Builder, Error, Signer};
+use x509_cert_lists::{CertificateList, RevokedCert, TbsCertList};
 
 /// A builder of revocation lists (RFC 5280 5.1). The list has version 2, a number, and the identifier of the key under which it is
 /// signed.

@@ -4,10 +4,10 @@ ghost use Rattle.std.specs.Prelude.{◌≡◌, ◌⊎◌, ◌++◌, ◌∷◌, [
 ghost use Rattle.der_core_head.specs.Grammar.{plain_option};
 ghost use Rattle.der_core_head.specs.Ranges.{IsBodyInRange};
 ghost use Rattle.der_core_head.specs.Shapes.{IsValid, octets_of};
-ghost use Rattle.x509_cert_builders.specs.Lists.{any_of, attribute_of};
-ghost use Rattle.x509_cert_builders.specs.Lists.{cert_req_info_fields};
+ghost use Rattle.x509_cert_lists.specs.Attributes.{any_of, attribute_of};
+ghost use Rattle.x509_cert_lists.specs.Grammar.{cert_req_info_fields};
 ghost use Rattle.x509_cert_builders.specs.Parts.{PlainAttribute, algorithm_plain, arc_bound, attribute, key_plain, name_plain};
-ghost use Rattle.x509_cert_builders.specs.Lists.{cert_req_info_plain, cert_req_plain};
+ghost use Rattle.x509_cert_lists.specs.Views.{cert_req_info_plain, cert_req_plain};
 ghost use Rattle.x509_cert_builders.specs.Refusals.{IsWantOfMemory, IsWantOfMemoryAs};
 ghost use Rattle.x509_cert_list_builders.specs.Requests.{HasNoOctets, IsNoneToAdd, placed, request_of, request_part, stands_among};
 ghost use Rattle.x509_cert_list_builders.specs.Signed.{octets_in_place};
@@ -18,12 +18,11 @@ use crate::members::{place_of, stands_among};
 use der_core::{ErrorKind, InRange, InRangeValue, StrictSetOf, to_der};
 use std::alloc::Global;
 use std::marker::Model;
-use x509_cert_builders::types::request::Version;
-use x509_cert_builders::types::{
-    AsAttribute, Attribute, BitString, CertReq, CertReqInfo, ExtensionReq, Name,
-    SubjectPublicKeyInfo, ToExtension, TryFromExtensionReq,
-};
+use x509_cert_builders::types::ToExtension;
+use x509_cert_builders::types::certificates::{Attribute, BitString, Name, SubjectPublicKeyInfo};
 use x509_cert_builders::{Builder, Error, Signer};
+use x509_cert_lists::request::Version;
+use x509_cert_lists::{AsAttribute, CertReq, CertReqInfo, ExtensionReq, TryFromExtensionReq};
 
 /// A builder of certification requests (RFC 2986). The extensions that are asked for stand in one attribute, which is made at each
 /// `finalize`.

@@ -8,7 +8,7 @@ use Rattle.der_core_head.specs.Leaves.{integer}
 use Rattle.der_core_head.specs.Octets.{◌>>=◌}
 use Rattle.der_core_head.specs.Shapes.{Shape, Body, Content, tagged, leaf, optional, field, done, many, rising, nested, sequence, sequence_of, explicit}
 use Rattle.der_core_head.specs.Tags.{context}
-use Rattle.x509_cert_extensions.specs.Parts.{written_as, PlainAttribute, name, attribute, PlainExtension, bit_string, algorithm_identifier, public_key_info, version, serial_number, time, extension, extensions}
+use Rattle.x509_cert_general_names.specs.Parts.{written_as, PlainAttribute, name, attribute, PlainExtension, bit_string, algorithm_identifier, public_key_info, version, serial_number, time, extension, extensions}
 
 -- RevokedCert ::= SEQUENCE { userCertificate CertificateSerialNumber, revocationDate Time, crlEntryExtensions Extensions OPTIONAL } (5.1.2.6)
 abbrev pub revoked_cert_fields : ℕ → Option ℕ → Body

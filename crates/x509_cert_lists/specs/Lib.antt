@@ -1,6 +1,7 @@
 pub mod Attributes
-pub mod Certificates
 pub mod Grammar
-pub mod Parts
-pub mod Texts
 pub mod Views
+pub use Rattle.x509_cert_general_names.specs.Parts
+pub use Rattle.x509_cert_general_names.specs.Certificates
+pub use Rattle.x509_cert_general_names.specs.CertificateViews
+pub use Rattle.x509_cert_general_names.specs.Texts

@@ -9,7 +9,7 @@ use Rattle.x509_cert_lists.specs.declared.certificate_list.CertificateList.{Cert
 use Rattle.x509_cert_lists.specs.declared.request.Version.{Version}
 use Rattle.x509_cert_lists.specs.declared.revoked_cert.RevokedCert.{RevokedCert}
 use Rattle.x509_cert_lists.specs.declared.tbs_cert_list.TbsCertList.{TbsCertList}
-use Rattle.x509_cert_extensions.specs.Parts.{name_plain, attribute_plain, version_number, time_value, algorithm_plain, key_plain, extensions_plain}
+use Rattle.x509_cert_general_names.specs.Parts.{name_plain, attribute_plain, version_number, time_value, algorithm_plain, key_plain, extensions_plain}
 
 abbrev pub revoked_cert_plain : {P : Type 0} → RevokedCert P → BodyValue (revoked_cert_fields 0 None)
 revoked_cert_plain r = (r.serial_number, (time_value r.revocation_date, (plain_option (λ e. extensions_plain e.items) r.crl_entry_extensions, tt)))

@@ -6,7 +6,7 @@ ghost use Rattle.der_core_head.specs.declared.tag.Tag.TheVariants.{Sequence};
 ghost use Rattle.der_core_head.specs.Grammar.{whole_at};
 ghost use Rattle.der_core_head.specs.Reading.{Gives};
 ghost use Rattle.der_core_head.specs.Shapes.{nested, Spells, Value};
-ghost use Rattle.x509_cert_extensions.specs.Parts.{arc_bound};
+ghost use Rattle.x509_cert_general_names.specs.Parts.{arc_bound};
 ghost use Rattle.x509_cert_lists.specs.Grammar.{cert_req, cert_req_fields};
 ghost use Rattle.x509_cert_lists.specs.Views.{cert_req_plain};
 
@@ -17,7 +17,7 @@ use der_core::{
     Error, Fields, FixedTag, Header, Length, Reader, ShapedValue, Tag, Writer, from_der,
 };
 use std::alloc::Global;
-use x509_cert_extensions::{AlgorithmIdentifier, BitString};
+use x509_cert_general_names::certificates::{AlgorithmIdentifier, BitString};
 
 /// A request for a certificate (RFC 2986 4.2).
 ///

@@ -3,7 +3,7 @@
 ghost use Rattle.std.specs.Prelude.{◌≡◌, refl};
 ghost use Rattle.der_core_head.specs.declared.tag.Tag.TheVariants.{Sequence};
 ghost use Rattle.der_core_head.specs.Shapes.{nested};
-ghost use Rattle.x509_cert_extensions.specs.Parts.{arc_bound};
+ghost use Rattle.x509_cert_general_names.specs.Parts.{arc_bound};
 ghost use Rattle.x509_cert_lists.specs.Grammar.{cert_req_info_fields};
 ghost use Rattle.x509_cert_lists.specs.Views.{cert_req_info_plain};
 
@@ -11,11 +11,11 @@ use crate::request::Version;
 use der_core::making::read_fields;
 use der_core::{
     ApartValue, AsReadValue, DecodeFields, DecodeValue, EncodeFields, EncodeRef, EncodeValue,
-    Error, Fields, FixedTag, Header, Implicit, Length, Reader, ShapedValue, Tag, Writer,
+    Error, Fields, FixedTag, Header, Implicit, ImplicitRef, Length, Reader, ShapedValue, Tag,
+    Writer,
 };
 use std::alloc::Global;
-use x509_cert_extensions::making::ImplicitRef;
-use x509_cert_extensions::{Attributes, Name, SubjectPublicKeyInfo};
+use x509_cert_general_names::certificates::{Attributes, Name, SubjectPublicKeyInfo};
 
 /// The part of a certification request that is signed (RFC 2986 4.1). No attribute stands twice.
 ///

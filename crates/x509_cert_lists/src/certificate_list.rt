@@ -3,7 +3,7 @@
 ghost use Rattle.std.specs.Prelude.{◌≡◌, refl};
 ghost use Rattle.der_core_head.specs.declared.tag.Tag.TheVariants.{Sequence};
 ghost use Rattle.der_core_head.specs.Shapes.{nested};
-ghost use Rattle.x509_cert_extensions.specs.Parts.{arc_bound};
+ghost use Rattle.x509_cert_general_names.specs.Parts.{arc_bound};
 ghost use Rattle.x509_cert_lists.specs.Grammar.{certificate_list_fields};
 ghost use Rattle.x509_cert_lists.specs.Views.{certificate_list_plain};
 
@@ -14,7 +14,7 @@ use der_core::{
     Error, Fields, FixedTag, Header, Length, Reader, ShapedValue, Tag, Writer,
 };
 use std::alloc::Global;
-use x509_cert_extensions::{AlgorithmIdentifier, BitString, Profile, Rfc5280};
+use x509_cert_general_names::certificates::{AlgorithmIdentifier, BitString, Profile, Rfc5280};
 
 /// A list of revoked certificates (RFC 5280 5.1).
 ///

@@ -6,7 +6,7 @@ use crate::as_attribute::AsAttribute;
 use const_oid::{AssociatedOid, ObjectIdentifier};
 use der_core::{Encode, Error, Length, Shaped, Writer};
 use std::alloc::Global;
-use x509_cert_extensions::{Any, DirectoryString};
+use x509_cert_general_names::certificates::{Any, DirectoryString};
 
 /// A password by which an entity may ask for its certificate to be revoked, as the value of an attribute of a certification
 /// request (RFC 2985 5.4.1).
@@ -24,9 +24,9 @@ pub struct ChallengePassword(pub DirectoryString);
 impl AssociatedOid for ChallengePassword {
     ghost oid_arcs = { challenge_password_arcs };
 
-    #[tactic(auto, unfolding(const_oid::specs::Bound::Bound, const_oid::specs::TextReading::text_arcs, const_oid::specs::ArcLists::add_arc, const_oid::specs::ArcLists::whole_arcs, const_oid::specs::IdentifierOctets::identifier_octets, const_oid::specs::IdentifierOctets::arc_octets, const_oid::specs::Digits::digits, const_oid::specs::Digits::digits_within, const_oid::specs::Digits::marked))]
     fn associated_oid() -> ObjectIdentifier<39> {
-        ObjectIdentifier::new_unwrap("1.2.840.113549.1.9.7")
+        // 1.2.840.113549.1.9.7.
+        ObjectIdentifier::from_bytes_unwrap(&[0x2a, 0x86, 0x48, 0x86, 0xf7, 0x0d, 1, 9, 7])
     }
 }
 

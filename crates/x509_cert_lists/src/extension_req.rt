@@ -3,7 +3,7 @@
 ghost use Rattle.std.specs.Prelude.{◌≡◌, [], ◌∷◌, refl};
 ghost use Rattle.der_core_head.specs.declared.tag.Tag.TheVariants.{Sequence};
 ghost use Rattle.der_core_head.specs.Reading.{Gives};
-ghost use Rattle.x509_cert_extensions.specs.Parts.{attribute_plain, arc_bound, extensions_plain};
+ghost use Rattle.x509_cert_general_names.specs.Parts.{attribute_plain, arc_bound, extensions_plain};
 ghost use Rattle.x509_cert_lists.specs.Grammar.{extension_req_content, extension_req_arcs, extension_req_attribute};
 
 use const_oid::{AssociatedOid, ObjectIdentifier};
@@ -13,7 +13,7 @@ use der_core::{
 };
 use std::alloc::Global;
 use std::cmp::Ordering;
-use x509_cert_extensions::{Any, Attribute, Extension};
+use x509_cert_general_names::certificates::{Any, Attribute, Extension};
 
 /// The extensions that a certification request asks for, as the value of an attribute (RFC 2985 5.4.2). There may be none.
 ///
@@ -36,9 +36,9 @@ impl ExtensionReq {
 impl AssociatedOid for ExtensionReq {
     ghost oid_arcs = { extension_req_arcs };
 
-    #[tactic(auto, unfolding(const_oid::specs::Bound::Bound, const_oid::specs::TextReading::text_arcs, const_oid::specs::ArcLists::add_arc, const_oid::specs::ArcLists::whole_arcs, const_oid::specs::IdentifierOctets::identifier_octets, const_oid::specs::IdentifierOctets::arc_octets, const_oid::specs::Digits::digits, const_oid::specs::Digits::digits_within, const_oid::specs::Digits::marked))]
     fn associated_oid() -> ObjectIdentifier<39> {
-        ObjectIdentifier::new_unwrap("1.2.840.113549.1.9.14")
+        // 1.2.840.113549.1.9.14.
+        ObjectIdentifier::from_bytes_unwrap(&[0x2a, 0x86, 0x48, 0x86, 0xf7, 0x0d, 1, 9, 0x0e])
     }
 }
 

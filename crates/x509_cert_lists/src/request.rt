@@ -5,7 +5,7 @@ ghost use Rattle.x509_cert_lists.specs.Grammar.{request_numbers};
 ghost use Rattle.x509_cert_lists.specs.Views.{request_number};
 
 use der_core::{Error, Integer, Tag};
-use x509_cert_extensions::making::number_among;
+use x509_cert_general_names::making::number_among;
 
 /// The version of a certification request (RFC 2986 4.1).
 ///

@@ -3,7 +3,7 @@
 ghost use Rattle.std.specs.Prelude.{◌≡◌, refl};
 ghost use Rattle.der_core_head.specs.declared.tag.Tag.TheVariants.{Sequence};
 ghost use Rattle.der_core_head.specs.Shapes.{nested};
-ghost use Rattle.x509_cert_extensions.specs.Parts.{arc_bound};
+ghost use Rattle.x509_cert_general_names.specs.Parts.{arc_bound};
 ghost use Rattle.x509_cert_lists.specs.Grammar.{revoked_cert_fields};
 ghost use Rattle.x509_cert_lists.specs.Views.{revoked_cert_plain};
 
@@ -13,7 +13,7 @@ use der_core::{
     Error, Fields, FixedTag, Header, Length, Reader, ShapedValue, Tag, Writer,
 };
 use std::alloc::Global;
-use x509_cert_extensions::{Extensions, Profile, Rfc5280, SerialNumber, Time};
+use x509_cert_general_names::certificates::{Extensions, Profile, Rfc5280, SerialNumber, Time};
 
 /// A certificate that was revoked (RFC 5280 5.1.2.6). A list of no extensions is read.
 ///

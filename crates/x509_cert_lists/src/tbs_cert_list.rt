@@ -3,19 +3,18 @@
 ghost use Rattle.std.specs.Prelude.{◌≡◌, refl};
 ghost use Rattle.der_core_head.specs.declared.tag.Tag.TheVariants.{Sequence};
 ghost use Rattle.der_core_head.specs.Shapes.{nested};
-ghost use Rattle.x509_cert_extensions.specs.Parts.{arc_bound};
+ghost use Rattle.x509_cert_general_names.specs.Parts.{arc_bound};
 ghost use Rattle.x509_cert_lists.specs.Grammar.{tbs_cert_list_fields};
 ghost use Rattle.x509_cert_lists.specs.Views.{tbs_cert_list_plain};
 
 use crate::revoked_cert::RevokedCert;
-use der_core::making::read_fields;
+use der_core::making::{explicit_of, explicit_ref, read_fields};
 use der_core::{
     ApartValue, AsReadValue, DecodeFields, DecodeValue, EncodeFields, EncodeRef, EncodeValue,
     Error, Explicit, Fields, FixedTag, Header, Length, Reader, ShapedValue, Tag, Writer,
 };
 use std::alloc::Global;
-use x509_cert_extensions::making::{explicit_of, explicit_ref};
-use x509_cert_extensions::{
+use x509_cert_general_names::certificates::{
     AlgorithmIdentifier, Extensions, Name, Profile, Rfc5280, Time, Version,
 };
 

@@ -8,7 +8,7 @@ use Rattle.const_oid.specs.Bound.{Bound}
 use Rattle.const_oid.specs.TextReading.{read_text}
 use Rattle.const_oid.specs.Comparing.{owned_eq}
 use Rattle.const_oid.specs.Digits.{digits, digits_within, marked}
-use Rattle.const_oid.specs.IdentifierOctets.{arc_octets, identifier_octets, read_arcs, read_identifier}
+use Rattle.const_oid.specs.IdentifierOctets.{arc_octets, identifier_octets, read_identifier}
 use Rattle.x509_cert_name_texts.specs.Keys as keys
 use Rattle.x509_cert_name_texts.specs.Keys.{is_name, type_named, named_types, shortest_name, dotted_arcs, arcs_or, key_arcs, printed_name, key_of}
 use Rattle.x509_cert_name_texts.specs.Rows.{Row, rows, is_called, has_octets}
@@ -54,7 +54,7 @@ found_alike p q same (n ∷ ns) [] a = absurd a
 found_alike p q same (n ∷ ns) (t ∷ ts) a = by_test (p n) (q t) n t (find p ns) (find q ts) (same n t a.0) a.0 (found_alike p q same ns ts a.1)
 
 pub all_agree : AgreeAll rows named_types
-unfolding Bound digits digits_within marked arc_octets identifier_octets read_arcs read_identifier named_types rows
+unfolding Bound digits digits_within marked arc_octets identifier_octets named_types rows
 all_agree = (
   record { octets = refl; reads = refl; called = λ key. two_names (is_name key (codes "cn")) (is_name key (codes "commonName")); printed = refl },
   (

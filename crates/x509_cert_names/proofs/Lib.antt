@@ -3,3 +3,5 @@ pub mod Lists
 pub mod Printed
 mod HeadersWritten
 mod SameOctets
+pub use Rattle.der_types_any.proofs.TimeTypes
+pub use Rattle.der_types_sets.proofs as SetTypes

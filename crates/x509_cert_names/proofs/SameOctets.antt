@@ -16,7 +16,7 @@ use Rattle.der_core_head.specs.Ranges.{IsInRange}
 use Rattle.der_core_head.specs.Shapes.{AllRising, octets_of, contents, body_octets, IsValid, IsContent, IsBody}
 use Rattle.der_core_head.specs.declared.tag.Tag.{Tag}
 use Rattle.der_core_head.specs.declared.tag.Tag.TheVariants as tags
-use Rattle.der_core_head.proofs.AllOctets.{one_value}
+use Rattle.der_core_head.proofs.OneEncoding.{one_value}
 use Rattle.der_types_any.specs.AnyOrders.{any_key}
 use Rattle.der_types_sets.specs.Sets.{Ascends}
 use Rattle.x509_cert_names.specs.Names.{TypeAndValue, PlainName, type_and_value, relative_name, name, name_octets, type_of, value_of}
@@ -130,7 +130,7 @@ all_rise (a ∷ []) d s v = tt
 all_rise (a ∷ b ∷ r) d s v =
     let apart : same_pair a b ≡ false = (IsDistinct-head same_pair a (b ∷ r) d).0 in
     let equal : octets_cmp (encoded a) (encoded b) ≡ Equal → ⊥ = λ e.
-    let one = (one_value (type_and_value arc_bound) 64 (pair_plain a) (pair_plain b) [] [] refl refl refl v.0 v.1.0
+    let one = (one_value (type_and_value arc_bound) (pair_plain a) (pair_plain b) [] [] refl refl v.0 v.1.0
     (ap (λ (w : List ℕ). w ++ []) (octets_cmp-equal (encoded a) (encoded b) e))).0 in
     let same : same_pair a b ≡ true = pair_alike a b one in
     absurd cc in
@@ -164,4 +164,4 @@ pub names_apart : (m n k : List Pairs) → plain_list relative_plain k ≡ plain
 names_apart m n k s v h o e =
     let fits = subst Fits (e ∙ ap (name_octets arc_bound) (sym s)) (fits_of (plain_list relative_plain m) v) in
     let valid = subst (IsValid (name arc_bound)) s (name_valid k (subst (IsInRange (name arc_bound)) (sym s) h) o fits) in
-    sets_alike m n (one_value (name arc_bound) 64 (plain_list relative_plain m) (plain_list relative_plain n) [] [] refl refl refl v valid (ap (λ (w : List ℕ). w ++ []) e)).0
+    sets_alike m n (one_value (name arc_bound) (plain_list relative_plain m) (plain_list relative_plain n) [] [] refl refl v valid (ap (λ (w : List ℕ). w ++ []) e)).0

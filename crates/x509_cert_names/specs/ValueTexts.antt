@@ -4,6 +4,7 @@ use Rattle.std.specs.Result.{result_ok}
 use Rattle.std.specs.Str.{chars}
 use Rattle.const_oid.specs.Comparing.{owned_eq}
 use Rattle.const_oid.specs.DottedText.{dotted}
+use Rattle.der_core_head.specs.Limits.{length_max}
 use Rattle.der_core_head.specs.declared.error.ErrorKind.{ErrorKind}
 use Rattle.der_core_head.specs.declared.error.ErrorKind.TheVariants as kinds
 use Rattle.der_core_head.specs.declared.tag.Tag.{Tag}
@@ -34,7 +35,7 @@ encoded_value digits = hex_octets digits >>= whole_at any >>= λ v. Ok v.0
 
 -- a value, if a length can count its octets
 abbrev pub of_content : Tag → List ℕ → Result AnyValue ErrorKind
-of_content t w = if nat_lt 4294967295 (length w) then Err kinds.Overflow else Ok (record { tag = t; contents = w })
+of_content t w = if nat_lt length_max (length w) then Err kinds.Overflow else Ok (record { tag = t; contents = w })
 
 -- the value with this content, its escapes undone; whether the content is one of the tag isn't asked
 unfoldable pub text_value : List ℕ → List ℕ → Result AnyValue ErrorKind

@@ -6,7 +6,7 @@ ghost use Rattle.der_types_any.specs.Contents.{leaf_as};
 
 use der_core::Error;
 use der_types_any::Any;
-use der_types_text::{AsciiStringRef, AsciiType};
+use der_types_any::text_types::{AsciiStringRef, AsciiType};
 use std::alloc::Global;
 
 /// A type that the value of an attribute can be read as.

@@ -16,9 +16,9 @@ mod value_texts;
 
 pub use attribute::{Attribute, Attributes};
 pub use attribute_type_and_value::{AttributeType, AttributeTypeAndValue, AttributeValue};
-pub use der_types_any::{Any, AnyRef};
+pub use der_types_any::text_types::Ia5String;
+pub use der_types_any::{Any, AnyRef, number_types, time_types, value_types};
 pub use der_types_sets::SetOfVec;
-pub use der_types_text::Ia5String;
 pub use directory_string::DirectoryString;
 pub use from_any::FromAny;
 pub use name::Name;

@@ -9,10 +9,10 @@ ghost use Rattle.x509_cert_names.specs.ValueTexts.{tag_for, encoded_value, text_
 
 use crate::attribute_type_and_value::{AttributeType, AttributeValue};
 use crate::attribute_types as types;
+use der_core::making::encode_header;
 use der_core::{Error, Length, SliceWriter, Tag, from_der};
-use der_core_octets::encode_header;
 use der_types_any::Any;
-use der_types_text::{Ia5StringRef, PrintableStringRef, TeletexStringRef};
+use der_types_any::text_types::{Ia5StringRef, PrintableStringRef, TeletexStringRef};
 use std::alloc::Global;
 use std::fmt;
 use x509_cert_name_texts::{from_hex, undo_escapes, write_hex};

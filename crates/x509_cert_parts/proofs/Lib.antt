@@ -3,3 +3,4 @@ pub mod Respelled
 mod Fills
 mod OctetNumbers
 mod SameOctets
+pub use Rattle.x509_cert_names.proofs as Names

@@ -8,7 +8,7 @@ use Rattle.der_core_head.specs.Dates.{Civil, is_civil, IsUtc, utc_octets, genera
 use Rattle.der_core_head.specs.Heads.{Fits, tlv, head_octets, length_octets}
 use Rattle.der_core_head.specs.Tags.{tag_octets}
 use Rattle.der_core_head.specs.Shapes.{IsValid, IsContent, IsBody, octets_of, contents, body_octets}
-use Rattle.der_core_head.proofs.AllOctets.{one_value}
+use Rattle.der_core_head.proofs.OneEncoding.{one_value}
 use Rattle.x509_cert_parts.specs.Grammar.{time, validity, validity_fields, PlainTime, PlainValidity, not_before, not_after}
 use Rattle.x509_cert_parts.proofs.Shorter.{tlv_shorter}
 use Rattle.x509_cert_parts.specs.Respelling.{respelled, spelled_by, validity_by, is_early_generalized}
@@ -121,6 +121,6 @@ pub octets_same : (v : PlainValidity) → IsValid validity v → (octets_of vali
     ↔ ((is_early_generalized (not_before v) ≡ false) × (is_early_generalized (not_after v) ≡ false))
 octets_same v h =
     let same = validity_same v in (
-      λ e. same.0 (one_value validity 64 (validity_by true v) v [] [] refl refl refl (validity_valid true v h) h (ap (λ (w : List ℕ). w ++ []) e)).0,
+      λ e. same.0 (one_value validity (validity_by true v) v [] [] refl refl (validity_valid true v h) h (ap (λ (w : List ℕ). w ++ []) e)).0,
       λ p. ap (λ (w : PlainValidity). octets_of validity w) (same.1 p),
     )

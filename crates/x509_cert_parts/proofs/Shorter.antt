@@ -40,11 +40,11 @@ length_shorter m n le h =
     ]
 
 -- a content that fits behind its header has a length that can be written
-pub content_fits : (t : Tag) (w : List ℕ) → Fits (tlv t w) → length w < 2 ^ 32
+pub content_fits : (t : Tag) (w : List ℕ) → Fits (tlv t w) → Fits w
 unfolding tlv
 content_fits t w h = omega (arith, h, length-append (head_octets t (length w)) w)
 
-pub tlv_shorter : (t : Tag) (v w : List ℕ) → length v ≤ length w → length w < 2 ^ 32 → length (tlv t v) ≤ length (tlv t w)
+pub tlv_shorter : (t : Tag) (v w : List ℕ) → length v ≤ length w → Fits w → length (tlv t v) ≤ length (tlv t w)
 unfolding tlv head_octets
 tlv_shorter t v w le h =
     omega (

@@ -7,3 +7,4 @@ pub mod Times
 pub mod Views
 pub mod NameParts
 pub mod ExtensionSearch
+pub use Rattle.x509_cert_names.specs as Names

@@ -13,9 +13,9 @@ use der_core::{
     Error, Fields, FieldsOrd, FixedTag, Header, Length, Reader, ShapedValue, Tag, ValueOrd,
     WithDefault, Writer,
 };
-use der_types_values::OctetString;
 use std::alloc::{AllocError, Global};
 use std::cmp::Ordering;
+use x509_cert_names::value_types::OctetString;
 
 /// An extension of a certificate, whose content isn't looked into (RFC 5280 4.1, 4.2).
 ///

@@ -22,9 +22,6 @@ mod version;
 
 pub use algorithm_identifier::AlgorithmIdentifier;
 pub use algorithm_identifier_ref::AlgorithmIdentifierRef;
-pub use der_types_numbers::Uint;
-pub use der_types_time::{DateTime, GeneralizedTime, UtcTime};
-pub use der_types_values::{BitString, FlagSet, NamedBits, OctetString};
 pub use extension::{Extension, Extensions};
 pub use extension_search::get_extension;
 pub use extensions_of::{ExtensionsOf, filter_extensions};
@@ -35,6 +32,9 @@ pub use subject_public_key_info_ref::SubjectPublicKeyInfoRef;
 pub use time::Time;
 pub use validity::Validity;
 pub use version::Version;
+pub use x509_cert_names::number_types::Uint;
+pub use x509_cert_names::time_types::{DateTime, GeneralizedTime, UtcTime};
+pub use x509_cert_names::value_types::{BitString, FlagSet, NamedBits, OctetString};
 pub use x509_cert_names::{
     Any, AnyRef, Attribute, AttributeType, AttributeTypeAndValue, AttributeValue, Attributes,
     DirectoryString, DistinguishedName, FromAny, Ia5String, Name, NameIter, RdnSequence,

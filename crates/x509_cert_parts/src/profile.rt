@@ -11,7 +11,7 @@ ghost use Rattle.x509_cert_parts.specs.Views.{time_value};
 use crate::serial_number::SerialNumber;
 use crate::time::Time;
 use der_core::{Error, ErrorKind, Tag};
-use der_types_time::UtcTime;
+use x509_cert_names::time_types::UtcTime;
 
 /// Which serial numbers of certificates are read, and how the dates of a validity are written.
 pub trait Profile {

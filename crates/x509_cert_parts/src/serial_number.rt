@@ -9,7 +9,7 @@ ghost use Rattle.der_core_head.specs.Integers.{integer_of, integer_octets};
 ghost use Rattle.der_core_head.specs.Leaves.{integer};
 ghost use Rattle.der_core_head.specs.Reading.{Gives};
 ghost use Rattle.der_core_head.specs.Shapes.{leaf};
-ghost use Rattle.der_types_numbers.specs.NumberOrders.{integer_cmp, integer_cmp_total, integer_cmp_ties};
+ghost use Rattle.x509_cert_names.specs.NumberTypes.NumberOrders.{integer_cmp, integer_cmp_total, integer_cmp_ties};
 ghost use Rattle.x509_cert_parts.specs.Drawing.{drawn_serial};
 ghost use Rattle.x509_cert_parts.specs.Grammar.{numbers_within};
 ghost use Rattle.x509_cert_parts.specs.SerialNumbers.{new_serial};
@@ -22,12 +22,12 @@ use der_core::{
     ApartValue, AsReadValue, DecodeValue, EncodeValue, Error, ErrorKind, FixedTag, Header, Leaf,
     Length, Reader, ShapedValue, Tag, ValueOrd, Writer,
 };
-use der_types_numbers::{Int, Uint};
 use rand_core::CryptoRng;
 use std::alloc::{AllocError, Global};
 use std::cmp::Ordering;
 use std::fmt;
 use std::marker::{Model, PhantomData};
+use x509_cert_names::number_types::{Int, Uint};
 
 /// The serial number of a certificate (RFC 5280 4.1.2.2), of which the profile reads so many content octets. Numbers that are
 /// negative or zero are read too.

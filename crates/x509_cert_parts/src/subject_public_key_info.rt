@@ -13,9 +13,9 @@ use der_core::{
     ApartValue, AsReadValue, DecodeFields, DecodeValue, EncodeFields, EncodeRef, EncodeValue,
     Error, Fields, FieldsOrd, FixedTag, Header, Length, Reader, ShapedValue, Tag, ValueOrd, Writer,
 };
-use der_types_values::BitString;
 use std::alloc::{AllocError, Global};
 use std::cmp::Ordering;
+use x509_cert_names::value_types::BitString;
 
 /// A public key and its algorithm (RFC 5280 4.1.2.7).
 ///

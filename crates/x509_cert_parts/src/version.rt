@@ -1,11 +1,12 @@
 //! Version.
 
-ghost use Rattle.std.specs.Prelude.{◌≡◌, pos};
+ghost use Rattle.std.specs.Prelude.{◌≡◌, [], ◌∷◌, pos, refl};
 ghost use Rattle.x509_cert_parts.specs.Grammar.{version_numbers};
 ghost use Rattle.x509_cert_parts.specs.Views.{version_number};
 
 use crate::octet_numbers::number_among;
-use der_core::{Error, Integer, Tag, ValueOrd};
+use der_core::making::is_zero;
+use der_core::{DefaultContent, Error, Integer, Tag, ValueOrd};
 use std::cmp::Ordering;
 
 /// The version of a certificate (RFC 5280 4.1.2.1).
@@ -58,5 +59,24 @@ impl ValueOrd for Version {
     #[tactic(auto, unfolding(der_core_head::specs::Shapes::contents, der_core_head::specs::Shapes::IsContent))]
     fn value_cmp(&self, other: &Self) -> Result<Ordering, Error> {
         self.number().value_cmp(&other.number())
+    }
+}
+
+/// `V1`.
+impl DefaultContent for Version {
+    ghost content_octets = { 0 ∷ [] };
+
+    ghost few = { refl };
+
+    ghost enough = { λ _. refl };
+
+    fn default_content() -> Version {
+        let version = Version::V1;
+        let _zero = is_zero(&version);
+        version
+    }
+
+    fn is_default_content(&self) -> bool {
+        is_zero(self)
     }
 }

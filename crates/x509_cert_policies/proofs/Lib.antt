@@ -1,1 +1,2 @@
-pub mod Passed
+pub use Rattle.x509_cert_general_names.proofs.Passed
+pub use Rattle.x509_cert_general_names.proofs.Names

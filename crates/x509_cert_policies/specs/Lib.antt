@@ -1,5 +1,9 @@
-pub mod Certificates
 pub mod Grammar
-pub mod Parts
-pub mod Texts
 pub mod Views
+pub use Rattle.x509_cert_general_names.specs.Parts
+pub use Rattle.x509_cert_general_names.specs.Certificates
+pub use Rattle.x509_cert_general_names.specs.CertificateViews
+pub use Rattle.x509_cert_general_names.specs.Texts
+pub use Rattle.x509_cert_general_names.specs.Grammar as GeneralNames
+pub use Rattle.x509_cert_general_names.specs.Views as GeneralNameViews
+pub use Rattle.x509_cert_general_names.specs.Names

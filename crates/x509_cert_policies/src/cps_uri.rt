@@ -12,7 +12,7 @@ use der_core::{
 };
 use std::alloc::Global;
 use std::cmp::Ordering;
-use x509_cert_general_names::Ia5String;
+use x509_cert_general_names::certificates::Ia5String;
 
 /// Where the practice statement of an authority is had (RFC 5280 4.2.1.4).
 ///

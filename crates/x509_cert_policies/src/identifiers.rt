@@ -1,5 +1,4 @@
 //! The identifiers of extensions (RFC 5280 4.2.1; RFC 3280 4.2.1.4).
-#![tactic(auto, unfolding(const_oid::specs::Bound::Bound, const_oid::specs::TextReading::text_arcs, const_oid::specs::ArcLists::add_arc, const_oid::specs::ArcLists::whole_arcs, const_oid::specs::IdentifierOctets::identifier_octets, const_oid::specs::IdentifierOctets::arc_octets, const_oid::specs::Digits::digits, const_oid::specs::Digits::digits_within, const_oid::specs::Digits::marked))]
 
 ghost use Rattle.std.specs.Prelude.{◌∷◌, []};
 
@@ -15,7 +14,7 @@ impl AssociatedOid for BasicConstraints {
     ghost oid_arcs = { 2 ∷ 5 ∷ 29 ∷ 19 ∷ [] };
 
     fn associated_oid() -> ObjectIdentifier<39> {
-        ObjectIdentifier::new_unwrap("2.5.29.19")
+        ObjectIdentifier::from_bytes_unwrap(&[0x55, 0x1d, 0x13])
     }
 }
 
@@ -23,7 +22,7 @@ impl AssociatedOid for CertificatePolicies {
     ghost oid_arcs = { 2 ∷ 5 ∷ 29 ∷ 32 ∷ [] };
 
     fn associated_oid() -> ObjectIdentifier<39> {
-        ObjectIdentifier::new_unwrap("2.5.29.32")
+        ObjectIdentifier::from_bytes_unwrap(&[0x55, 0x1d, 0x20])
     }
 }
 
@@ -31,7 +30,7 @@ impl AssociatedOid for InhibitAnyPolicy {
     ghost oid_arcs = { 2 ∷ 5 ∷ 29 ∷ 54 ∷ [] };
 
     fn associated_oid() -> ObjectIdentifier<39> {
-        ObjectIdentifier::new_unwrap("2.5.29.54")
+        ObjectIdentifier::from_bytes_unwrap(&[0x55, 0x1d, 0x36])
     }
 }
 
@@ -39,7 +38,7 @@ impl AssociatedOid for PolicyConstraints {
     ghost oid_arcs = { 2 ∷ 5 ∷ 29 ∷ 36 ∷ [] };
 
     fn associated_oid() -> ObjectIdentifier<39> {
-        ObjectIdentifier::new_unwrap("2.5.29.36")
+        ObjectIdentifier::from_bytes_unwrap(&[0x55, 0x1d, 0x24])
     }
 }
 
@@ -47,7 +46,7 @@ impl AssociatedOid for PolicyMappings {
     ghost oid_arcs = { 2 ∷ 5 ∷ 29 ∷ 33 ∷ [] };
 
     fn associated_oid() -> ObjectIdentifier<39> {
-        ObjectIdentifier::new_unwrap("2.5.29.33")
+        ObjectIdentifier::from_bytes_unwrap(&[0x55, 0x1d, 0x21])
     }
 }
 
@@ -55,6 +54,6 @@ impl AssociatedOid for PrivateKeyUsagePeriod {
     ghost oid_arcs = { 2 ∷ 5 ∷ 29 ∷ 16 ∷ [] };
 
     fn associated_oid() -> ObjectIdentifier<39> {
-        ObjectIdentifier::new_unwrap("2.5.29.16")
+        ObjectIdentifier::from_bytes_unwrap(&[0x55, 0x1d, 0x10])
     }
 }

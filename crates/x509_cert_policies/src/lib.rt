@@ -7,7 +7,6 @@ mod cps_uri;
 mod display_text;
 mod identifiers;
 mod inhibit_any_policy;
-pub mod making;
 mod notice_reference;
 mod policy_constraints;
 mod policy_information;
@@ -30,15 +29,5 @@ pub use policy_mappings::PolicyMappings;
 pub use policy_qualifier_info::PolicyQualifierInfo;
 pub use private_key_usage_period::PrivateKeyUsagePeriod;
 pub use user_notice::UserNotice;
-pub use x509_cert_general_names::{
-    AccessDescription, AlgorithmIdentifier, AlgorithmIdentifierRef, Any, AnyRef, Attribute,
-    AttributeType, AttributeTypeAndValue, AttributeValue, Attributes, AuthorityKeyIdentifier,
-    BitString, Certificate, CertificateInner, DateTime, DirectoryString, DistinguishedName,
-    DistributionPoint, DistributionPointName, EdiPartyName, Extension, Extensions, ExtensionsOf,
-    FlagSet, FromAny, GeneralName, GeneralNames, GeneralSubtree, GeneralSubtrees, GeneralizedTime,
-    HardwareModuleName, Ia5String, IssuingDistributionPoint, Name, NameConstraints, NameIter,
-    NamedBits, OctetString, OtherName, Profile, Raw, RdnSequence, RdnSequenceIter, ReasonFlags,
-    Reasons, RelativeDistinguishedName, RelativeNameIter, Rfc5280, SerialNumber, SetOfVec,
-    SubjectPublicKeyInfo, SubjectPublicKeyInfoRef, TbsCertificate, TbsCertificateInner, Time, Uint,
-    UtcTime, Validity, Version, filter_extensions, get_extension, laws,
-};
+pub use x509_cert_general_names as general_names;
+pub use x509_cert_general_names::certificates;

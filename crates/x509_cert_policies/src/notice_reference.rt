@@ -14,7 +14,7 @@ use der_core::{
 };
 use std::alloc::Global;
 use std::cmp::Ordering;
-use x509_cert_general_names::Uint;
+use x509_cert_general_names::certificates::Uint;
 
 /// Where the text of a notice is found (RFC 5280 4.2.1.4).
 ///

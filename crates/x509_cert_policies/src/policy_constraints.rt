@@ -6,14 +6,14 @@ ghost use Rattle.der_core_head.specs.Shapes.{nested};
 ghost use Rattle.x509_cert_policies.specs.Grammar.{policy_constraints_fields};
 ghost use Rattle.x509_cert_policies.specs.Views.{policy_constraints_plain};
 
-use der_core::making::read_fields;
+use der_core::making::{implicit_of, implicit_ref, read_fields};
 use der_core::{
     ApartValue, AsReadValue, DecodeFields, DecodeValue, EncodeFields, EncodeValue, Error, Fields,
-    FieldsOrd, FixedTag, Header, Implicit, Length, Reader, ShapedValue, Tag, ValueOrd, Writer,
+    FieldsOrd, FixedTag, Header, Implicit, ImplicitRef, Length, Reader, ShapedValue, Tag, ValueOrd,
+    Writer,
 };
 use std::alloc::Global;
 use std::cmp::Ordering;
-use x509_cert_general_names::making::{ImplicitRef, implicit_of, implicit_ref};
 
 /// From where on in a path policies must be explicit, or may not be mapped (RFC 5280 4.2.1.11).
 ///

@@ -15,7 +15,7 @@ use der_core::{
 };
 use std::alloc::Global;
 use std::cmp::Ordering;
-use x509_cert_general_names::Any;
+use x509_cert_general_names::certificates::Any;
 
 /// A qualifier of a policy (RFC 5280 4.2.1.4).
 ///

@@ -6,15 +6,15 @@ ghost use Rattle.der_core_head.specs.Shapes.{nested};
 ghost use Rattle.x509_cert_policies.specs.Grammar.{private_key_usage_period_fields};
 ghost use Rattle.x509_cert_policies.specs.Views.{private_key_usage_period_plain};
 
-use der_core::making::read_fields;
+use der_core::making::{implicit_of, implicit_ref, read_fields};
 use der_core::{
     ApartValue, AsReadValue, DecodeFields, DecodeValue, EncodeFields, EncodeValue, Error, Fields,
-    FieldsOrd, FixedTag, Header, Implicit, Length, Reader, ShapedValue, Tag, ValueOrd, Writer,
+    FieldsOrd, FixedTag, Header, Implicit, ImplicitRef, Length, Reader, ShapedValue, Tag, ValueOrd,
+    Writer,
 };
 use std::alloc::Global;
 use std::cmp::Ordering;
-use x509_cert_general_names::GeneralizedTime;
-use x509_cert_general_names::making::{ImplicitRef, implicit_of, implicit_ref};
+use x509_cert_general_names::certificates::GeneralizedTime;
 
 /// From when until when a private key is used (RFC 3280 4.2.1.4).
 ///

@@ -68,7 +68,7 @@ fn other_calls(rt: HostRuntime) -> Result<(), Fail> {
     let error = Error::new(ErrorKind::Failed, place);
     assert!(rt; error == ErrorKind::Failed.at(place));
     assert!(rt; error.kind() == ErrorKind::Failed && error.position() == Some(place));
-    assert!(rt; BytesRef::empty().is_empty());
+    assert!(rt; BytesRef::EMPTY.is_empty());
     // One octet before none, and before one.
     assert!(rt; value_cmp_behind(Some(1), &[], None, &[]) == Greater);
     assert!(rt; value_cmp_behind(Some(1), &[2], None, &[1, 2]) == Equal);

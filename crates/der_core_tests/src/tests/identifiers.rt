@@ -13,7 +13,7 @@ fn capacities(rt: HostRuntime) -> Result<()> {
     let oid = Identifier::new(text)?;
     let borrowed = oid.as_oid_ref();
     let octets = borrowed.as_bytes();
-    assert!(rt; Identifier::MAX_SIZE == 39 && size_of::<Identifier>() == 40);
+    assert!(rt; Identifier::MAX_SIZE == 39 && size_of::<Identifier>() == 56);
     assert!(rt; ObjectIdentifier::<6>::from_bytes_sized(octets) == Err(Error::Length));
     assert!(rt; ObjectIdentifier::<6>::try_from(borrowed) == Err(Error::Length));
     assert!(rt; Identifier::try_from(borrowed) == Ok(oid));

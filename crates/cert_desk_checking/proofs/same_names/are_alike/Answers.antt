@@ -3,7 +3,7 @@ use Rattle.std.specs.Cmp.Lexicographic.{pointwise}
 use Rattle.std.proofs.lemmas.Iterator.Consumers.{YieldsList-from_first}
 use Rattle.std.proofs.lemmas.Iterator.{YieldsList-from_zip}
 use Rattle.std.proofs.lemmas.Iterator.Search.{all_from_yields_List}
-use Rattle.x509_cert_names.specs.Pairs.{relative_plain}
+use Rattle.x509_cert.specs.Names.Pairs.{relative_plain}
 use Rattle.x509_cert.specs.Certificates.{PlainName, name_octets}
 use Rattle.x509_cert.specs.Views.{arc_bound}
 use Rattle.cert_desk_checking.specs.SameNames.{same_attribute}

@@ -2,7 +2,7 @@ use Rattle.std.proofs.Common.{◌≡◌, List, length, rules, tests, sym, ap, �
 use Rattle.std.specs.Cmp.Lexicographic.{pointwise}
 use Rattle.std.proofs.lemmas.Iterator.{YieldsList-from_slice, YieldsList-from_zip}
 use Rattle.std.proofs.lemmas.Iterator.Search.{all_from_yields_List}
-use Rattle.x509_cert_names.specs.declared.attribute_type_and_value.AttributeTypeAndValue.{AttributeTypeAndValue}
+use Rattle.x509_cert.specs.Names.declared.attribute_type_and_value.AttributeTypeAndValue.{AttributeTypeAndValue}
 use Rattle.cert_desk_checking.specs.SameNames.{same_attribute}
 use Rattle.cert_desk_checking.proofs.SameNames.{all_pairs}
 use Rattle.cert_desk_checking.proofs.same_names.have_the_same.Goals as goal

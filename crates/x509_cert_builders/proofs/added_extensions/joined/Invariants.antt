@@ -1,5 +1,5 @@
 use Rattle.std.proofs.Common.{◌≡◌, take}
-use Rattle.x509_cert_anchors.specs.Parts.{extensions_plain}
+use Rattle.x509_cert_extensions.specs.Parts.{extensions_plain}
 use Rattle.x509_cert_builders.proofs.added_extensions.joined.Given as goal
 
 abbrev pub invariant-loop-place : goal.invariant-loop-place

@@ -1,6 +1,6 @@
 use Rattle.std.proofs.Common.{◌≡◌, List, ◌∷◌, sym, ap, ◌∙◌, subst, rules}
 use Rattle.der_core_head.specs.Grammar.{plain_list}
-use Rattle.x509_cert_anchors.specs.Parts.{PlainName, name_plain, relative_plain}
+use Rattle.x509_cert_extensions.specs.Parts.{PlainName, name_plain, relative_plain}
 use Rattle.x509_cert_builders.proofs.Lists.{plain_pushed}
 use Rattle.x509_cert_builders.proofs.Subjects.{IsLeft, left_in, left_out, next_stays, no_values, some_values}
 use Rattle.x509_cert_builders.proofs.certificate_type.name_left.Goals as goal

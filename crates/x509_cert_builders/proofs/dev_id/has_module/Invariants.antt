@@ -1,7 +1,7 @@
 use Rattle.std.proofs.Common.{◌≡◌, drop}
 use Rattle.std.specs.List.{list_any}
 use Rattle.der_core_head.specs.Grammar.{plain_list}
-use Rattle.x509_cert_anchors.specs.Parts.{general_name_plain}
+use Rattle.x509_cert_extensions.specs.GeneralNameViews.{general_name_plain}
 use Rattle.x509_cert_builders.specs.Devices.{first_module, is_of_module}
 use Rattle.x509_cert_builders.proofs.dev_id.has_module.Given as goal
 

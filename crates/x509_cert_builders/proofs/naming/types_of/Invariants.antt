@@ -1,6 +1,6 @@
 use Rattle.std.proofs.Common.{◌≡◌}
 use Rattle.der_core_head.specs.Grammar.{plain_list}
-use Rattle.x509_cert_anchors.specs.Parts.{name_plain, relative_plain}
+use Rattle.x509_cert_extensions.specs.Parts.{name_plain, relative_plain}
 use Rattle.x509_cert_builders.specs.Naming.{ordered_types}
 use Rattle.x509_cert_builders.proofs.NamingSteps.{IsChecked}
 use Rattle.x509_cert_builders.proofs.naming.types_of.Given as goal

@@ -1,6 +1,6 @@
 use Rattle.std.proofs.Common.{◌≡◌, take}
 use Rattle.der_core_head.specs.Grammar.{plain_list}
-use Rattle.x509_cert_builders.specs.Lists.{revoked_cert_plain}
+use Rattle.x509_cert_lists.specs.Views.{revoked_cert_plain}
 use Rattle.x509_cert_list_builders.proofs.copies.copies_of_entries.Given as goal
 
 abbrev pub invariant-loop-place : goal.invariant-loop-place

@@ -1,5 +1,6 @@
 use Rattle.std.proofs.Common.{◌≡◌, ℕ, List, [], length, drop, Ok, refl, ap, sym, subst, ◌∙◌, arith}
 use Rattle.std.proofs.lemmas.List.{drop_all}
+use Rattle.der_core_head.specs.Limits.{levels_max}
 use Rattle.der_core_head.specs.Shapes.{ascending, Value}
 use Rattle.der_core_head.specs.Grammar.{read, read_body}
 use Rattle.der_core_head.specs.Reading.{State}
@@ -57,7 +58,7 @@ returns-in-Ok-clause-spelled g c =
     let s = g.T.Shaped.shape in
     let u = c.remaining-octets.result.now in
     let all : Counts s c.levels_left.result u c.in-Ok.count = content_counts s c.levels_left.result u c.in-Ok.count g.met.T.Member.apart c.levels_left.ensures.most (λ i. omega (arith, c.remaining-octets.items_fit i)) c.remaining-octets.ensures.short c.in-Ok.ensures in
-    subst (JoinsAscending s (values_at (read s 64) c.in-Ok.count u)) c.remaining-octets.ensures.rest all.spelled
+    subst (JoinsAscending s (values_at (read s levels_max) c.in-Ok.count u)) c.remaining-octets.ensures.rest all.spelled
 
 pub returns-in-Ok-clause-only : goal.returns-in-Ok-clause-only
 returns-in-Ok-clause-only g c =
@@ -67,7 +68,7 @@ returns-in-Ok-clause-only g c =
     let room : c.levels_left.result ≡ old.room = c.levels_left.ensures.left in
     let rest : u ≡ old.rest = c.remaining-octets.ensures.rest in
     let all : Counts s c.levels_left.result u c.in-Ok.count = content_counts s c.levels_left.result u c.in-Ok.count g.met.T.Member.apart c.levels_left.ensures.most (λ i. omega (arith, c.remaining-octets.items_fit i)) c.remaining-octets.ensures.short c.in-Ok.ensures in
-    let values = values_at (read s 64) c.in-Ok.count u in
+    let values = values_at (read s levels_max) c.in-Ok.count u in
     λ v element apart enough ready spells.
     let read : read_body (ascending s) c.levels_left.result u ≡ Ok (v, []) = rw (room, rest) (content_ascends s old.room v old.rest element apart enough spells) in
     let same = ok_is {A = List (Value s) × List ℕ} (v, []) (values, []) (sym read ∙ all.all) in

@@ -1,7 +1,9 @@
 use Rattle.std.specs.Prelude.{pos}
 use Rattle.der_core_head.specs.Grammar.{plain_list}
-use Rattle.x509_cert_lists.specs.Certificates.{certificate_plain}
-use Rattle.x509_cert_lists.specs.Parts.{name_constraints_plain, name_plain, policy_information_plain}
+use Rattle.x509_cert_policies.specs.CertificateViews.{certificate_plain}
+use Rattle.x509_cert_policies.specs.GeneralNameViews.{name_constraints_plain}
+use Rattle.x509_cert_policies.specs.Parts.{name_plain}
+use Rattle.x509_cert_policies.specs.Views.{policy_information_plain}
 use Rattle.x509_cert_anchors.proofs.Options.{opened}
 use Rattle.x509_cert_anchors.proofs.cert_path_controls.CertPathControls.of_row.Goals as goal
 

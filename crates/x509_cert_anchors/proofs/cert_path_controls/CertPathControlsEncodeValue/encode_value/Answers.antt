@@ -1,4 +1,4 @@
-use Rattle.x509_cert_lists.specs.Parts.{arc_bound}
+use Rattle.x509_cert_policies.specs.Parts.{arc_bound}
 use Rattle.x509_cert_anchors.specs.Grammar.{cert_path_controls_fields}
 use Rattle.x509_cert_anchors.proofs.Rows.{written}
 use Rattle.x509_cert_anchors.proofs.cert_path_controls.CertPathControlsEncodeValue.encode_value.Goals as goal

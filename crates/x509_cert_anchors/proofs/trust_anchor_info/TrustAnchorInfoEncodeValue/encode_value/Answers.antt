@@ -1,4 +1,4 @@
-use Rattle.x509_cert_lists.specs.Parts.{arc_bound}
+use Rattle.x509_cert_policies.specs.Parts.{arc_bound}
 use Rattle.x509_cert_anchors.specs.Grammar.{trust_anchor_info_fields}
 use Rattle.x509_cert_anchors.proofs.Rows.{written}
 use Rattle.x509_cert_anchors.proofs.trust_anchor_info.TrustAnchorInfoEncodeValue.encode_value.Goals as goal

@@ -1,6 +1,6 @@
 use Rattle.std.proofs.Common.{◌≡◌, ◌∙◌}
 use Rattle.der_core_head.specs.Grammar.{plain_option}
-use Rattle.x509_cert_anchors.specs.Certificates.{tbs_plain}
+use Rattle.x509_cert_extensions.specs.CertificateViews.{tbs_plain}
 use Rattle.x509_cert_builders.specs.SignedParts.{fields_of}
 use Rattle.x509_cert_builders.specs.States.{finalized_plain}
 use Rattle.x509_cert_builders.proofs.SignedOctets.{last_octets, put_in_place}

@@ -19,4 +19,4 @@ returns-clause-exact g c =
     let out = g.W.Writer.out in
     let t = tbs_by g.P.Profile.respells (tbs_plain c.args.self.now) in
     let P : Tbs → Type 0 = λ v. Writes g.W.Writer.takes_memory (out c.args.writer.now) (out c.encode_fields.new.writer) c.encode_fields.result (write_body (tbs_fields arc_bound g.P.Profile.serial_limit) v) in
-    subst P (ended_same t c.lent.ensures c.lent-2.ensures c.lent_extensions.ensures) c.encode_fields.ensures.exact
+    subst P (ended_same t c.implicit_ref.ensures c.implicit_ref-2.ensures c.lent_extensions.ensures) c.encode_fields.ensures.exact

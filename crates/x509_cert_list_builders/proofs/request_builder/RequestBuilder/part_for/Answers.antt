@@ -1,7 +1,7 @@
 use Rattle.std.proofs.Common.{◌≡◌, sym, ap, ◌∙◌, inr}
 use Rattle.std.proofs.lemmas.Result.{err_from_is_err_and}
 use Rattle.der_core_head.specs.Grammar.{plain_list}
-use Rattle.x509_cert_builders.specs.Lists.{extension_req_attribute}
+use Rattle.x509_cert_lists.specs.Grammar.{extension_req_attribute}
 use Rattle.x509_cert_builders.specs.Parts.{arc_bound, attribute_plain, extensions_plain, key_plain, name_plain}
 use Rattle.x509_cert_list_builders.proofs.RequestParts.{answered_same, no_place, one_part, placed_same}
 use Rattle.x509_cert_list_builders.proofs.request_builder.RequestBuilder.part_for.Goals as goal

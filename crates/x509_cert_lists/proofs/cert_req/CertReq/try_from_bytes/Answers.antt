@@ -4,7 +4,7 @@ use Rattle.der_core_head.specs.declared.error.Error.{Error}
 use Rattle.der_core_head.specs.declared.error.ErrorKind.TheVariants as kinds
 use Rattle.der_core_head.specs.Reading.{Gives}
 use Rattle.der_core_head.specs.Shapes.{Spells, Value}
-use Rattle.x509_cert_extensions.specs.Parts.{arc_bound}
+use Rattle.x509_cert_general_names.specs.Parts.{arc_bound}
 use Rattle.x509_cert_lists.specs.Grammar.{cert_req}
 use Rattle.x509_cert_lists.specs.Views.{cert_req_plain}
 use Rattle.x509_cert_lists.proofs.cert_req.CertReq.try_from_bytes.Goals as goal

@@ -1,4 +1,4 @@
-use Rattle.x509_cert_extensions.specs.Parts.{arc_bound}
+use Rattle.x509_cert_general_names.specs.Parts.{arc_bound}
 use Rattle.x509_cert_lists.specs.Grammar.{cert_req_fields}
 use Rattle.x509_cert_lists.proofs.Rows.{written}
 use Rattle.x509_cert_lists.proofs.cert_req.CertReqEncodeValue.encode_value.Goals as goal

@@ -1,4 +1,4 @@
-use Rattle.x509_cert_extensions.specs.Parts.{arc_bound}
+use Rattle.x509_cert_general_names.specs.Parts.{arc_bound}
 use Rattle.x509_cert_lists.specs.Grammar.{certificate_list_fields}
 use Rattle.x509_cert_lists.proofs.Rows.{written}
 use Rattle.x509_cert_lists.proofs.certificate_list.CertificateListEncodeValue.encode_value.Goals as goal

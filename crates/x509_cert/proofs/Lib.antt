@@ -1,0 +1,1 @@
+pub use Rattle.x509_cert_anchors.proofs.Names
