@@ -1,0 +1,197 @@
+#!/usr/bin/env python3
+"""Which definitions a reader has to trust, and for which claim.
+
+    tools/definitions.py            writes docs/DEFINITIONS.md from the sources
+    tools/definitions.py --check    writes nothing; its status is 1 where that page is out of date
+    tools/definitions.py CALL..     what the contract of a call rests on: each definition with its place
+
+A CALL is a function (`check`), or one of a type (`Issued::audit`).
+"""
+
+import collections
+import sys
+
+import sources
+import wrap
+
+PAGE = sources.TOP / "docs" / "DEFINITIONS.md"
+SHOWN = 4
+
+# What is claimed most often, in the words of a user, and the call whose contract says it.
+CLAIMS = [
+    ("the text of an identifier is read", "const_oid", "ObjectIdentifier::new"),
+    ("the octets of an identifier are read", "const_oid", "ObjectIdentifier::from_bytes_sized"),
+    ("a value is read from DER", "der_core_coding", "from_der"),
+    ("a value is written as DER", "der_core_coding", "to_der"),
+    ("two encodings are compared", "der_core", "DerOrd::der_cmp"),
+    ("a certificate is read", "x509_cert_certificates", "CertificateInner::from_der"),
+    ("the text of a name is read", "x509_cert_names", "Name::from_str"),
+    ("an extension is looked up and read", "x509_cert_parts", "get_extension"),
+    ("a certificate is made", "x509_cert_builders", "Builder::build CertificateBuilder"),
+    ("a listing is written", "cert_desk_listing", "run_show"),
+    ("a chain is judged", "cert_desk_checking", "check"),
+    ("a run of `check` is told", "cert_desk_checking", "run_check"),
+    ("a chain is issued", "cert_desk_issuing", "issue"),
+    ("an issued chain is trusted", "cert_desk_issuing", "Issued::audit"),
+]
+
+HEAD = """\
+# The definitions to trust
+
+Written by `tools/definitions.py` from the sources; change those, and run it again.
+
+A proof says that a function meets its contract. What the contract means is said by the definitions
+that it cites, so these have to be read and judged, and nothing else of a proof. They stand in
+`crates/CRATE/specs/`. For one call, the script prints each definition that its contract rests on,
+with its file and line:
+
+```sh
+tools/definitions.py Issued::audit
+```
+
+A contract that is generic, as that of `from_der`, speaks of what its type states: its shape and its
+plain value, which stand in the `impl` of the type and cite the grammar of its crate.
+
+Lines are those of the file. *Cited by* are calls whose contracts name a definition of the file, and
+types that state something by it (`ghost` members of an `impl`); *through* are files of definitions
+that rest on it, where no public contract names it. *Standard* is what the comments of the file name.
+"""
+
+
+def calls_of(code):
+    return [call for source in code for call in source.calls]
+
+
+def find(code, name, crate=None):
+    """The calls of this name, or what a type of this name states of itself."""
+    calls = [c for c in calls_of(code) if crate is None or c.crate == crate]
+    found = [c for c in calls if c.title == name]
+    stated = [c for c in calls if c.owner == name and c.name.startswith("ghost ")]
+    return [c for c in found if c.clauses] or found or stated
+
+
+def first_sentence(text):
+    text = text.replace("|", "\\|").replace("<", "\\<")
+    end = text.find(". ")
+    text = text if end < 0 else text[: end + 1]
+    return text.rstrip(".:")
+
+
+def shown(names):
+    names = list(collections.OrderedDict.fromkeys(names))
+    rest = len(names) - SHOWN
+    text = ", ".join(f"`{name}`" for name in names[:SHOWN])
+    return f"{text} and {rest} more" if rest > 0 else text
+
+
+def label(call, crate):
+    title = call.owner if call.name.startswith("ghost ") else call.title
+    return title if call.crate == crate else f"{call.crate}: {title}"
+
+
+def page():
+    files, code = sources.read_all()
+    cited, behind = collections.defaultdict(list), collections.defaultdict(set)
+    programs = {path.parts[-3] for path in sources.CRATES.glob("*/src/main.rt")}
+    for call in calls_of(code):
+        if call.public and call.crate not in programs and not call.crate.endswith("_tests"):
+            for key in call.cites:
+                cited[key[:2]].append(call)
+    for (crate, _), calls in cited.items():
+        calls.sort(key=lambda c: (c.path == "laws.rt", c.crate != crate, c.name.startswith("ghost ")))
+    named = set(cited)
+    for file in files.values():
+        for definition in file.definitions.values():
+            for key in definition.cites:
+                if key[:2] != (file.crate, file.name):
+                    behind[key[:2]].add((file.crate, file.name))
+    lines = [HEAD, "## What to read for which claim", ""]
+    lines += ["| Claim | Call | Definitions | Lines | Files |", "|---|---|---|---|---|"]
+    for words, crate, name in CLAIMS:
+        keys = set()
+        for part in name.split():
+            for call in find(code, part, crate):
+                keys |= sources.reached(files, call.cites)
+        kept = [files[k[:2]].definitions[k[2]] for k in keys]
+        kept = [d for d in kept if d.sort != "proof"]
+        places = collections.OrderedDict()
+        for definition in sorted(kept, key=lambda d: d.key):
+            places.setdefault(definition.crate, set()).add(definition.file)
+        where = "; ".join(f"{c}: {len(f)}" for c, f in places.items())
+        size = sum(d.lines for d in kept)
+        lines.append(f"| {words} | `{name.split()[0]}` (`{crate}`) | {len(kept)} | {size} | {where} |")
+    lines += ["", "Files are counted by crate. Those of one crate stand on those of the crates below it.", ""]
+    for crate in sources.closure(sources.dependencies()):
+        own = [file for file in files.values() if file.crate == crate]
+        here = [f for f in own if any(d.sort != "proof" for d in f.definitions.values())]
+        passing = [f for f in own if f.passed_on and f not in here]
+        if not own:
+            continue
+        total = sum(len(f.lines) for f in here)
+        lines += [f"## `{crate}`", ""]
+        if here:
+            lines += [f"{len(here)} files, {total} lines.", ""]
+            lines += ["| File | Lines | Definitions | What it says | Standard | Cited by |"]
+            lines += ["|---|---|---|---|---|---|"]
+        for file in here:
+            kept = [d for d in file.definitions.values() if d.sort != "proof"]
+            by = shown(label(c, crate) for c in cited[(crate, file.name)])
+            if not by:
+                through = sorted(behind[(crate, file.name)], key=lambda f: (f not in named, f[0] != crate, f))
+                names = (n if c == crate else f"{c}: {n}" for c, n in through)
+                by = f"through {shown(names)}" if through else "proofs alone, or private calls"
+            link = f"[`{file.name}`](../crates/{crate}/specs/{file.name}.antt)"
+            says = first_sentence(file.head)
+            lines.append(
+                f"| {link} | {len(file.lines)} | {len(kept)} | {says} | {file.sections} | {by} |"
+            )
+        if passing:
+            names = ", ".join(f"`{f.name}`" for f in passing)
+            lines += ["", f"Passed on from the crates below: {names}."]
+        lines.append("")
+    proofs = [d for f in files.values() for d in f.definitions.values() if d.sort == "proof"]
+    lines += ["## Proofs that stand among the definitions", ""]
+    lines += [f"{len(proofs)} of them. Nothing has to be read of these; they belong in `proofs/`.", ""]
+    places = collections.OrderedDict()
+    for proof in proofs:
+        places.setdefault((proof.crate, proof.file), []).append(f"`{proof.name}` ({proof.line})")
+    for (crate, name), names in places.items():
+        lines.append(f"- `{crate}/specs/{name}`: " + ", ".join(names) + ".")
+    return wrap.wrapped("\n".join(lines).rstrip() + "\n")
+
+
+def claim(names):
+    files, code = sources.read_all()
+    status = 0
+    for name in names:
+        found = find(code, name)
+        if not found:
+            print(f"no call {name}", file=sys.stderr)
+            status = 1
+        for call in found:
+            print(f"{call.title}: crates/{call.crate}/src/{call.path}:{call.line}")
+            keys = sources.reached(files, call.cites)
+            for key in sorted(keys):
+                definition = files[key[:2]].definitions[key[2]]
+                if definition.sort == "proof":
+                    continue
+                mark = "cited" if key in call.cites else "below"
+                place = f"crates/{key[0]}/specs/{key[1]}.antt:{definition.line}"
+                print(f"  {mark} {definition.name}: {place}")
+    return status
+
+
+def main(words):
+    if words == ["--check"]:
+        if PAGE.read_text() != page():
+            print("docs/DEFINITIONS.md is out of date: run tools/definitions.py", file=sys.stderr)
+            return 1
+        return 0
+    if words:
+        return claim(words)
+    PAGE.write_text(page())
+    return 0
+
+
+if __name__ == "__main__":
+    sys.exit(main(sys.argv[1:]))

@@ -1,0 +1,382 @@
+"""What the scripts beside this file read of the sources: crates, definitions, contracts.
+
+It reads crates.txt, the `specs/` and the `src/` of each crate, and proves nothing.
+"""
+
+import collections
+import pathlib
+import re
+
+TOP = pathlib.Path(__file__).resolve().parent.parent
+CRATES = TOP / "crates"
+
+WORD = re.compile(r"[^\W\d][\w'-]*(?:\.[^\W\d][\w'-]*)*")
+SIGNATURE = re.compile(
+    r"^(?P<opened>abbrev |unfoldable )?(?P<pub>pub )?(?P<sort>data |record )?"
+    r"(?P<name>[^\s:({]+)\s*(?P<rest>.*)$"
+)
+USE = re.compile(r"use Rattle\.([a-z0-9_]+)\.specs\.([A-Za-z0-9_.]+)")
+STANDARD = r"X\.\d{3}|RFC \d{4}|IEEE 802\.1AR|CA/Browser Forum, Baseline Requirements"
+SECTION = re.compile(rf"({STANDARD})((?:,? (?:and |to )?\d+(?:\.\d+)*(?: \([a-z]+\)(?: \(\d\))?)?)*)")
+BARE = re.compile(r"\((\d+(?:\.\d+)+(?:, \d+(?:\.\d+)+)*)\)")
+
+
+def dependencies():
+    """Each crate of crates.txt and the libraries that its line names, in the order of the file."""
+    crates = {}
+    for line in (TOP / "crates.txt").read_text().splitlines():
+        line = line.split("#")[0].strip()
+        if line:
+            name, _, libraries = line.partition(":")
+            crates[name.split()[0]] = libraries.split()
+    return crates
+
+
+def closure(names, crates=None):
+    """These crates and all below them that stand in crates.txt, the lowest first."""
+    crates = dependencies() if crates is None else crates
+    order, seen = [], set()
+
+    def visit(name):
+        if name in crates and name not in seen:
+            seen.add(name)
+            for below in crates[name]:
+                visit(below)
+            order.append(name)
+
+    for name in names:
+        visit(name)
+    return order
+
+
+def kit_libraries(names, crates=None):
+    """The libraries of the kit that these crates and those below them name."""
+    crates = dependencies() if crates is None else crates
+    return sorted({lib for name in closure(names, crates) for lib in crates[name]} - set(crates))
+
+
+class Imports:
+    """Which definition a name means: those of `use` lines, of specs and of sources alike."""
+
+    def __init__(self):
+        self.names = {}
+        self.modules = {}
+
+    def read(self, line):
+        match = USE.search(line)
+        if not match:
+            return
+        crate, path = match.groups()
+        rest = line[match.end() :]
+        if path.endswith("."):
+            path = path[:-1]
+            for part in rest[rest.find("{") + 1 : rest.rfind("}")].split(","):
+                name, _, alias = part.strip().partition(" as ")
+                if name:
+                    self.names[alias or name] = (crate, path, name)
+        else:
+            alias = re.match(r" as (\w+)", rest)
+            self.modules[alias.group(1) if alias else path.split(".")[-1]] = (crate, path)
+
+    def find(self, word):
+        head, _, rest = word.partition(".")
+        if head in self.modules and rest:
+            return (*self.modules[head], rest.split(".")[0])
+        return self.names.get(head)
+
+
+class Definition:
+    def __init__(self, crate, path, name, line, sort, public):
+        self.crate, self.file, self.name, self.line = crate, path, name, line
+        self.sort, self.public = sort, public
+        self.text, self.lines, self.comment, self.cites = "", 0, "", set()
+
+    @property
+    def key(self):
+        return (self.crate, self.file, self.name)
+
+
+class SpecFile:
+    def __init__(self, path):
+        self.path = path
+        self.crate, self.name = path.parts[-3], path.stem
+        self.lines = path.read_text().splitlines()
+        self.definitions, self.passed_on = {}, {}
+        self.imports = Imports()
+        head = []
+        for line in self.lines:
+            if not line.startswith("--"):
+                break
+            head.append(line[2:].strip())
+        self.head = " ".join(head)
+        self.parse()
+
+    def parse(self):
+        current, comment, mutual, opened_all = None, [], False, ""
+        for number, line in enumerate(self.lines, 1):
+            if line.strip() and not line[0].isspace():
+                mutual = line.split()[-1] == "mutual"
+                if mutual:
+                    opened_all = line[: -len("mutual")].strip()
+                    continue
+            elif mutual and line.startswith("  "):
+                line = line[2:]
+            if re.match(r"^(abbrev |unfoldable )?(pub )?use ", line):
+                self.imports.read(line)
+                if "pub use" in line:
+                    one = Imports()
+                    one.read(line)
+                    self.passed_on.update(one.names)
+                current, comment = None, []
+                continue
+            if line.startswith("--"):
+                comment.append(line[2:].strip())
+                current = None
+                continue
+            if not line.strip():
+                current, comment = None, []
+                continue
+            if line[0].isspace():
+                if current:
+                    current.text += line + "\n"
+                    current.lines += 1
+                continue
+            if line.startswith("unfolding "):
+                continue
+            match = SIGNATURE.match(line)
+            if not match:
+                continue
+            opened, sort = (match["opened"] or "").strip(), (match["sort"] or "").strip()
+            opened = opened or (opened_all if mutual else "")
+            name = match["name"]
+            if name in self.definitions:
+                current = self.definitions[name]
+            elif opened or sort or re.match(r"^(\{.*\} )?:", match["rest"]):
+                kind = sort or opened or "proof"
+                current = Definition(self.crate, self.name, name, number, kind, bool(match["pub"]))
+                current.comment = " ".join(comment)
+                current.lines = len(comment)
+                self.definitions[name] = current
+            else:
+                continue
+            comment = []
+            current.text += line + "\n"
+            current.lines += 1
+
+    @property
+    def sections(self):
+        """The sections of standards that the comments name, those of one standard together."""
+        found, last = collections.OrderedDict(), None
+        for line in self.lines:
+            if "--" not in line:
+                continue
+            comment = line[line.index("--") :]
+            for match in SECTION.finditer(comment):
+                last = match[1]
+                numbers = found.setdefault(last, [])
+                for part in re.findall(r"\d+(?:\.\d+)*", match[2]):
+                    if part not in numbers:
+                        numbers.append(part)
+            if last:
+                for match in BARE.finditer(comment):
+                    for part in match[1].split(", "):
+                        if part not in found[last]:
+                            found[last].append(part)
+        return "; ".join(f"{name} {', '.join(parts)}".strip() for name, parts in found.items())
+
+
+class Call:
+    """A function with a contract, or what a type states of itself (`ghost` members of an impl)."""
+
+    def __init__(self, crate, path, owner, name, line):
+        self.crate, self.path, self.owner, self.name, self.line = crate, path, owner, name, line
+        self.clauses, self.text, self.public, self.doc = [], "", False, ""
+
+    @property
+    def title(self):
+        return f"{self.owner}::{self.name}" if self.owner else self.name
+
+
+def owner_of(header):
+    """The type of an `impl`, the name of a trait."""
+    header = header.rstrip("{ ").strip()
+    trait = re.match(r"(?:pub )?trait (\w+)", header)
+    if trait:
+        return trait[1], None
+    body = re.sub(r"^impl\s*", "", header)
+    if body.startswith("<"):
+        depth = 0
+        for at, char in enumerate(body):
+            depth += {"<": 1, ">": -1}.get(char, 0) if body[at - 1 : at + 1] != "->" else 0
+            if depth == 0:
+                body = body[at + 1 :].strip()
+                break
+    stated, _, of = body.partition(" for ")
+    target = of or stated
+    name = re.match(r"&?(?:'\w+ )?(?:mut )?([\w:\[(]+)", target)
+    word = name[1] if name else target
+    return word, (re.match(r"[\w:]+", stated)[0] if of else None)
+
+
+class Source:
+    def __init__(self, path):
+        self.path = path
+        parts = path.relative_to(CRATES).parts
+        self.crate, self.name = parts[0], "/".join(parts[2:])
+        self.lines = path.read_text().splitlines()
+        self.imports = Imports()
+        self.calls = []
+        self.parse()
+
+    def parse(self):
+        lines, at = self.lines, 0
+        owner = stated = None
+        scope = "pub "
+        while at < len(lines):
+            line = lines[at]
+            bare = line.strip()
+            if bare.startswith("ghost use "):
+                while not bare.endswith(";"):
+                    at += 1
+                    bare += " " + lines[at].strip()
+                self.imports.read(bare.rstrip(";"))
+            elif re.match(r"^(impl\b|(pub )?trait\b)", line):
+                header = line
+                while not header.rstrip().endswith(("{", "}", ";")):
+                    at += 1
+                    header += " " + lines[at].strip()
+                owner, stated = owner_of(header)
+                scope = line
+            elif line == "}":
+                owner = stated = None
+            else:
+                ghost = re.match(r"^    ghost ([\w_]+) ?=", line) if owner else None
+                match = re.match(r"^(    )?(pub )?(?:final )?(?:const )?(?:unsafe )?fn (\w+)", line)
+                if ghost:
+                    call = Call(self.crate, self.name, owner, f"ghost {ghost[1]}", at + 1)
+                    depth = 0
+                    while True:
+                        depth += lines[at].count("{") - lines[at].count("}")
+                        call.text += lines[at] + "\n"
+                        if depth <= 0:
+                            break
+                        at += 1
+                    call.public = True
+                    call.stated = stated
+                    self.calls.append(call)
+                elif match and bool(match[1]) == bool(owner):
+                    self.call(match, owner, stated, scope, at)
+            at += 1
+
+    def call(self, match, owner, stated, scope, at):
+        indent = match[1] or ""
+        call = Call(self.crate, self.name, owner, match[3], at + 1)
+        call.public = bool(match[2]) or bool(stated) or scope.startswith("pub trait")
+        above = at - 1
+        while above >= 0 and self.lines[above].strip().startswith(("///", "#[")):
+            above -= 1
+        docs = [l.strip()[3:].strip() for l in self.lines[above + 1 : at] if l.strip().startswith("///")]
+        call.doc = docs[0] if docs else ""
+        while at < len(self.lines):
+            line = self.lines[at]
+            clause = re.match(r"^\s+(requires|ensures)\b ?(\w*)", line)
+            if line in (indent + "{", indent + "{}"):
+                break
+            call.text += line + "\n"
+            if clause:
+                call.clauses.append((clause[1], clause[2]))
+            if line.endswith(";") and not line.strip().startswith("ghost use"):
+                break
+            if not call.clauses and line.endswith(("{", "{}")) and line.startswith(indent):
+                break
+            at += 1
+        self.calls.append(call)
+
+
+def specs():
+    """All files of definitions, by crate and name."""
+    return {
+        (file.crate, file.name): file
+        for file in map(SpecFile, sorted(CRATES.glob("*/specs/*.antt")))
+        if file.name != "Lib"
+    }
+
+
+def sources():
+    """All files of code; a call is public where the root file of its crate passes on it, or its type."""
+    found = [Source(path) for path in sorted(CRATES.glob("*/src/**/*.rt"))]
+    roots = {}
+    for source in found:
+        if source.crate not in roots:
+            folder = CRATES / source.crate / "src"
+            root = next(folder / name for name in ("lib.rt", "main.rt") if (folder / name).exists())
+            text = root.read_text()
+            modules = set(re.findall(r"^pub mod (\w+);", text, re.M))
+            for path in (folder / f"{module}.rt" for module in modules):
+                text += "".join(re.findall(r"^pub use .*?;", path.read_text(), re.S | re.M)) if path.exists() else ""
+            roots[source.crate] = (set(re.findall(r"\w+", text)), modules)
+        words, modules = roots[source.crate]
+        for call in source.calls:
+            passed = (call.owner or call.name).split("::")[-1] in words
+            inside = source.name.split(".")[0].split("/")[0] in modules or source.name == "lib.rt"
+            call.public = call.public and (passed or inside)
+    return found
+
+
+def resolve(files, target):
+    """Where a definition stands that crates above pass on."""
+    seen = set()
+    while target and target not in seen:
+        seen.add(target)
+        crate, path, name = target
+        file = files.get((crate, path))
+        if file is None:
+            return None
+        if name in file.definitions:
+            return target
+        target = file.passed_on.get(name)
+    return None
+
+
+def cite(files, imports, text, own=None):
+    """The definitions that a text names."""
+    found = set()
+    for word in WORD.findall(text):
+        head = word.split(".")[0]
+        if own and head in own.definitions:
+            found.add((own.crate, own.name, head))
+            continue
+        target = resolve(files, imports.find(word))
+        if target:
+            found.add(target)
+    return found
+
+
+def read_all():
+    """Definitions with what they cite, and calls with what their contracts cite."""
+    files, code = specs(), sources()
+    for file in files.values():
+        for definition in file.definitions.values():
+            definition.cites = cite(files, file.imports, definition.text, file) - {definition.key}
+    for source in code:
+        for call in source.calls:
+            call.cites = cite(files, source.imports, contract_text(call))
+    return files, code
+
+
+def contract_text(call):
+    if call.name.startswith("ghost "):
+        return call.text
+    at = re.search(r"^\s+(requires|ensures)\b", call.text, re.M)
+    return call.text[at.start() :] if at else ""
+
+
+def reached(files, keys):
+    """These definitions and all that they rest on."""
+    seen, todo = set(), list(keys)
+    while todo:
+        key = todo.pop()
+        if key not in seen:
+            seen.add(key)
+            todo += files[key[:2]].definitions[key[2]].cites
+    return seen

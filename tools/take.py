@@ -1,0 +1,86 @@
+#!/usr/bin/env python3
+"""Copies crates of this repository, with all that they stand on, into another one.
+
+    tools/take.py CRATE.. FOLDER            copies them into FOLDER/crates, and adds their lines to
+                                            FOLDER/crates.txt; a crate that is there is left as it is
+    tools/take.py --again CRATE.. FOLDER    exchanges those that are there, too
+    tools/take.py --list CRATE..            prints the lines of crates.txt alone
+
+Of a crate it takes src/, specs/ and proofs/; with --edits must-fail/ too, which `rt ci` tries there. It
+writes into FOLDER/TAKEN.md which version was taken. It needs nothing but Python.
+"""
+
+import pathlib
+import re
+import shutil
+import subprocess
+import sys
+
+import sources
+
+PARTS = ["src", "specs", "proofs"]
+
+
+def version():
+    """The number at the head of CHANGELOG.md, and the commit that stands here."""
+    text = (sources.TOP / "CHANGELOG.md").read_text()
+    number = re.search(r"^## (\S+)", text, re.M)[1]
+    asked = ["git", "-C", str(sources.TOP), "rev-parse", "--short=12", "HEAD"]
+    commit = subprocess.run(asked, capture_output=True, text=True).stdout.strip()
+    return number, commit or "unknown"
+
+
+def lines_of(names):
+    crates = sources.dependencies()
+    return {name: f"{name}: {' '.join(crates[name])}".rstrip() for name in sources.closure(names)}
+
+
+def take(names, folder, again, edits):
+    folder = pathlib.Path(folder)
+    (folder / "crates").mkdir(parents=True, exist_ok=True)
+    listing = folder / "crates.txt"
+    text = listing.read_text() if listing.exists() else ""
+    there = {line.split(":")[0].split()[0] for line in text.splitlines() if ":" in line.split("#")[0]}
+    taken = []
+    for name, line in lines_of(names).items():
+        target = folder / "crates" / name
+        if target.exists() and not again:
+            print(f"{name}: is there, and is left")
+            continue
+        for part in PARTS + (["must-fail"] if edits else []):
+            shutil.rmtree(target / part, ignore_errors=True)
+            if (sources.CRATES / name / part).is_dir():
+                shutil.copytree(sources.CRATES / name / part, target / part)
+        if name in there:
+            kept = [line if l.split(":")[0].strip() == name else l for l in text.splitlines()]
+            text = "\n".join(kept) + "\n"
+        else:
+            text += ("" if not text or text.endswith("\n") else "\n") + line + "\n"
+        taken.append(name)
+    listing.write_text(text)
+    number, commit = version()
+    note = [f"Taken from Wurstdrape {number}, commit {commit}, under Apache-2.0 or MIT:", ""]
+    (folder / "TAKEN.md").write_text("\n".join(note + [f"- `{name}`" for name in lines_of(names)]) + "\n")
+    libraries = sources.kit_libraries(names)
+    print(f"taken: {' '.join(taken) or 'nothing'}")
+    print(f"libraries of the kit: {' '.join(libraries) or 'none'}")
+
+
+def main(words):
+    flags = {word for word in words if word.startswith("--")}
+    names = [word for word in words if word not in flags]
+    crates = sources.dependencies()
+    folder = None if "--list" in flags else (names.pop() if names else None)
+    unknown = [name for name in names if name not in crates]
+    if not names or unknown or flags - {"--again", "--edits", "--list"}:
+        print(f"no crate of this repository: {' '.join(unknown)}" if unknown else __doc__, file=sys.stderr)
+        return 2
+    if "--list" in flags:
+        print("\n".join(lines_of(names).values()))
+        return 0
+    take(names, folder, "--again" in flags, "--edits" in flags)
+    return 0
+
+
+if __name__ == "__main__":
+    sys.exit(main(sys.argv[1:]))
