@@ -2,11 +2,11 @@
 use Rattle.std.proofs.Common.{◌≡◌, ◌≢◌, ℕ, zero, suc, ◌+◌, ◌-◌, ◌^◌, ◌<◌, ◌≤◌, List, [], ◌∷◌, ◌++◌, length, take, drop, Some, Result, Ok, Err, is_ok, true, cond, refl, sym, ap, subst, ◌∙◌, arith, ◌⊎◌, inl, inr, append_assoc, length-append, slice_get}
 use Rattle.std.proofs.lemmas.List.{take_at, drop_at, take-append-le, drop-drop, take-map, map-append, map_push, length-map}
 use Rattle.std.specs.List.{AllByRecursion}
+use Rattle.const_oid.specs.Bound.{Bound}
 use Rattle.der_core_head.specs.declared.tag.Tag.TheVariants as tags
 use Rattle.der_core_head.specs.Heads.{length_octets, head_octets, tlv, Fits}
 use Rattle.der_core_head.specs.Shapes.{Body, IsValid, IsContent, IsBody, Spells, octets_of, body_octets, contents, sequence}
 use Rattle.x509_cert.specs.Certificates.{PlainCertificate, raw_certificate, raw_certificate_fields, raw_tbs_certificate, raw_tbs_fields, algorithm_identifier, bit_string, certificate_octets, tbs, signed_start, signed_length}
-use Rattle.x509_cert.specs.Views.{arc_bound}
 use Rattle.cert_desk_checking.specs.declared.bundle.Located.{Located}
 use Rattle.cert_desk_checking.specs.declared.bundle_error.BundleError.{BundleError}
 use Rattle.cert_desk_checking.specs.declared.bundle_error.BundleError.TheVariants as errors
@@ -107,12 +107,12 @@ last_or (x ∷ items) l m (suc place) e = elim (last_or items l m place e) [ inl
 
 -- where a certificate is located that stands at the start of the rest
 pub record IsNext (limit : ℕ) (octets : List ℕ) (start len : ℕ) (l : Located) : Type 0 where
-  pub stands : Stands arc_bound limit (plain_of l)
-  pub rest : drop start octets ≡ certificate_octets arc_bound (plain_of l) ++ drop len (drop start octets)
-  pub len_is : length (certificate_octets arc_bound (plain_of l)) ≡ len
+  pub stands : Stands Bound limit (plain_of l)
+  pub rest : drop start octets ≡ certificate_octets Bound (plain_of l) ++ drop len (drop start octets)
+  pub len_is : length (certificate_octets Bound (plain_of l)) ≡ len
   pub offset : l.offset ≡ start
-  pub header : l.header ≡ signed_start arc_bound (plain_of l)
-  pub signed : l.signed ≡ signed_length arc_bound (plain_of l)
+  pub header : l.header ≡ signed_start Bound (plain_of l)
+  pub signed : l.signed ≡ signed_length Bound (plain_of l)
   pub end : l.end ≡ start + len
   pub fits : start + len < 2 ^ 64
 
@@ -120,36 +120,36 @@ module _ (limit : ℕ) (octets : List ℕ) (start : ℕ) (items : List Located) 
   pub certificates-more : certificates_of (items ++ l ∷ []) ≡ certificates_of items ++ plain_of l ∷ []
   certificates-more = map_push plain_of items l
 
-  joined-now : joined arc_bound (certificates_of (items ++ l ∷ [])) ≡ joined arc_bound (certificates_of items) ++ certificate_octets arc_bound (plain_of l)
-  joined-now = ap (joined arc_bound) certificates-more ∙ joined-more arc_bound (certificates_of items) (plain_of l)
+  joined-now : joined Bound (certificates_of (items ++ l ∷ [])) ≡ joined Bound (certificates_of items) ++ certificate_octets Bound (plain_of l)
+  joined-now = ap (joined Bound) certificates-more ∙ joined-more Bound (certificates_of items) (plain_of l)
 
   pub kept-more : AreKept limit octets (start + len) (items ++ l ∷ [])
   kept-more = record {
     room = k.room;
-    whole = k.whole ∙ ap (λ (x : List ℕ). joined arc_bound (certificates_of items) ++ x) n.rest
-        ∙ sym (append_assoc (joined arc_bound (certificates_of items)) (certificate_octets arc_bound (plain_of l)) (drop len (drop start octets)))
+    whole = k.whole ∙ ap (λ (x : List ℕ). joined Bound (certificates_of items) ++ x) n.rest
+        ∙ sym (append_assoc (joined Bound (certificates_of items)) (certificate_octets Bound (plain_of l)) (drop len (drop start octets)))
         ∙ ap (λ (x : List ℕ). x ++ drop len (drop start octets)) (sym joined-now)
-        ∙ ap (λ (x : List ℕ). joined arc_bound (certificates_of (items ++ l ∷ [])) ++ x) (drop-drop len start octets);
-    start_is = omega (arith, k.start_is, n.len_is, ap length joined-now, length-append (joined arc_bound (certificates_of items)) (certificate_octets arc_bound (plain_of l)));
-    each = subst (λ (cs : List PlainCertificate). AllByRecursion (Stands arc_bound limit) cs) (sym certificates-more) (each-more (Stands arc_bound limit) (certificates_of items) (plain_of l) k.each n.stands);
+        ∙ ap (λ (x : List ℕ). joined Bound (certificates_of (items ++ l ∷ [])) ++ x) (drop-drop len start octets);
+    start_is = omega (arith, k.start_is, n.len_is, ap length joined-now, length-append (joined Bound (certificates_of items)) (certificate_octets Bound (plain_of l)));
+    each = subst (λ (cs : List PlainCertificate). AllByRecursion (Stands Bound limit) cs) (sym certificates-more) (each-more (Stands Bound limit) (certificates_of items) (plain_of l) k.each n.stands);
     places = λ place m e. subst (λ (cs : List PlainCertificate). IsLocated cs place m) (sym certificates-more) (elim (last_or items l m place e) [ inl h ↦ before place m h.0 (k.places place m h.1) | inr h ↦ here place m h.0 h.1 ]);
   }
     where
-      same_front : (place : ℕ) → place ≤ length items → offset_at arc_bound (certificates_of items ++ plain_of l ∷ []) place ≡ offset_at arc_bound (certificates_of items) place
+      same_front : (place : ℕ) → place ≤ length items → offset_at Bound (certificates_of items ++ plain_of l ∷ []) place ≡ offset_at Bound (certificates_of items) place
       same_front place h =
-          ap (λ (cs : List PlainCertificate). length (joined arc_bound cs)) (take-append-le place (certificates_of items) (plain_of l ∷ []) (omega (arith, length-map items plain_of)))
+          ap (λ (cs : List PlainCertificate). length (joined Bound cs)) (take-append-le place (certificates_of items) (plain_of l ∷ []) (omega (arith, length-map items plain_of)))
 
       before : (place : ℕ) (m : Located) → place < length items → IsLocated (certificates_of items) place m → IsLocated (certificates_of items ++ plain_of l ∷ []) place m
       before place m h i = record { offset = i.offset ∙ sym (same_front place (omega arith)); header = i.header; signed = i.signed; end = i.end }
 
-      at_last : offset_at arc_bound (certificates_of items ++ plain_of l ∷ []) (length items) ≡ start
-      at_last = ap (λ (cs : List PlainCertificate). length (joined arc_bound cs)) (take_at (certificates_of items) (plain_of l ∷ []) (length items) (length-map items plain_of)) ∙ sym k.start_is
+      at_last : offset_at Bound (certificates_of items ++ plain_of l ∷ []) (length items) ≡ start
+      at_last = ap (λ (cs : List PlainCertificate). length (joined Bound cs)) (take_at (certificates_of items) (plain_of l ∷ []) (length items) (length-map items plain_of)) ∙ sym k.start_is
 
       here : (place : ℕ) (m : Located) → place ≡ length items → l ≡ m → IsLocated (certificates_of items ++ plain_of l ∷ []) place m
       here place m h e =
           subst (λ (x : Located). IsLocated (certificates_of items ++ plain_of l ∷ []) place x) e
           (record {
-            offset = n.offset ∙ sym at_last ∙ ap (λ (p : ℕ). offset_at arc_bound (certificates_of items ++ plain_of l ∷ []) p) (sym h);
+            offset = n.offset ∙ sym at_last ∙ ap (λ (p : ℕ). offset_at Bound (certificates_of items ++ plain_of l ∷ []) p) (sym h);
             header = n.header;
             signed = n.signed;
             end = n.end ∙ omega (arith, n.offset, n.len_is);
@@ -157,13 +157,13 @@ module _ (limit : ℕ) (octets : List ℕ) (start : ℕ) (items : List Located) 
 
   -- the step that a bundle takes
   pub next-more : (old new : Kept) → old.limit ≡ limit → old.certificates ≡ certificates_of items → old.rest ≡ drop start octets
-      → new.limit ≡ limit → new.certificates ≡ certificates_of (items ++ l ∷ []) → new.rest ≡ drop (start + len) octets → new.standing ≡ old.standing → Next arc_bound old new
+      → new.limit ≡ limit → new.certificates ≡ certificates_of (items ++ l ∷ []) → new.rest ≡ drop (start + len) octets → new.standing ≡ old.standing → Next Bound old new
   next-more old new a b c d e f g = record {
     certificate = plain_of l;
     stands = rw a n.stands;
     certificates = e ∙ certificates-more ∙ ap (λ (cs : List PlainCertificate). cs ++ plain_of l ∷ []) (sym b);
-    rest = c ∙ n.rest ∙ ap (λ (x : List ℕ). certificate_octets arc_bound (plain_of l) ++ x) (drop-drop len start octets ∙ sym f);
-    fits = rw e (omega (arith, n.fits, k.start_is, n.len_is, ap length joined-now, length-append (joined arc_bound (certificates_of items)) (certificate_octets arc_bound (plain_of l))));
+    rest = c ∙ n.rest ∙ ap (λ (x : List ℕ). certificate_octets Bound (plain_of l) ++ x) (drop-drop len start octets ∙ sym f);
+    fits = rw e (omega (arith, n.fits, k.start_is, n.len_is, ap length joined-now, length-append (joined Bound (certificates_of items)) (certificate_octets Bound (plain_of l))));
     standing = g;
     limit = d ∙ sym a;
   }
@@ -173,8 +173,8 @@ pub record IsHeld (octets : List ℕ) (l : Located) : Type 0 where
   pub begins : l.offset ≤ l.end
   pub ends : l.end ≤ length octets
   pub within : l.header + l.signed ≤ l.end - l.offset
-  pub octets_are : take (l.end - l.offset) (drop l.offset octets) ≡ certificate_octets arc_bound (plain_of l)
-  pub signed_are : take l.signed (drop l.header (certificate_octets arc_bound (plain_of l))) ≡ octets_of (raw_tbs_certificate arc_bound) (tbs (plain_of l))
+  pub octets_are : take (l.end - l.offset) (drop l.offset octets) ≡ certificate_octets Bound (plain_of l)
+  pub signed_are : take l.signed (drop l.header (certificate_octets Bound (plain_of l))) ≡ octets_of (raw_tbs_certificate Bound) (tbs (plain_of l))
 
 -- a list up to a place, there, and behind it
 split_at : (items : List Located) (place : ℕ) (l : Located) → slice_get items place ≡ Some l → items ≡ take place items ++ l ∷ drop (suc place) items
@@ -193,61 +193,61 @@ take-certificates place items = take-map plain_of place items
 pub held : (limit : ℕ) (octets : List ℕ) (start : ℕ) (items : List Located) (place : ℕ) (l : Located) → AreKept limit octets start items → slice_get items place ≡ Some l → IsHeld octets l
 held limit octets start items place l k e =
     let front = certificates_of (take place items) in
-    let behind = joined arc_bound (certificates_of (drop (suc place) items)) ++ drop start octets in
-    let own = certificate_octets arc_bound (plain_of l) in
+    let behind = joined Bound (certificates_of (drop (suc place) items)) ++ drop start octets in
+    let own = certificate_octets Bound (plain_of l) in
     let all : certificates_of items ≡ front ++ plain_of l ∷ certificates_of (drop (suc place) items) =
     ap certificates_of (split_at items place l e) ∙ map-append plain_of (take place items) (l ∷ drop (suc place) items) in
-    let whole : octets ≡ joined arc_bound front ++ (own ++ behind) =
-    k.whole ∙ ap (λ (cs : List PlainCertificate). joined arc_bound cs ++ drop start octets) all
-    ∙ ap (λ (x : List ℕ). x ++ drop start octets) (encodings-append (raw_certificate arc_bound) front (plain_of l ∷ certificates_of (drop (suc place) items)))
-    ∙ append_assoc (joined arc_bound front) (own ++ joined arc_bound (certificates_of (drop (suc place) items))) (drop start octets)
-    ∙ ap (λ (x : List ℕ). joined arc_bound front ++ x) (append_assoc own (joined arc_bound (certificates_of (drop (suc place) items))) (drop start octets)) in
+    let whole : octets ≡ joined Bound front ++ (own ++ behind) =
+    k.whole ∙ ap (λ (cs : List PlainCertificate). joined Bound cs ++ drop start octets) all
+    ∙ ap (λ (x : List ℕ). x ++ drop start octets) (encodings-append (raw_certificate Bound) front (plain_of l ∷ certificates_of (drop (suc place) items)))
+    ∙ append_assoc (joined Bound front) (own ++ joined Bound (certificates_of (drop (suc place) items))) (drop start octets)
+    ∙ ap (λ (x : List ℕ). joined Bound front ++ x) (append_assoc own (joined Bound (certificates_of (drop (suc place) items))) (drop start octets)) in
     let i = k.places place l e in
-    let valid = (each-at (Stands arc_bound limit) items place l e k.each).valid in
-    let offset : l.offset ≡ length (joined arc_bound front) = i.offset ∙ ap (λ (cs : List PlainCertificate). length (joined arc_bound cs)) (take-certificates place items) in
+    let valid = (each-at (Stands Bound limit) items place l e k.each).valid in
+    let offset : l.offset ≡ length (joined Bound front) = i.offset ∙ ap (λ (cs : List PlainCertificate). length (joined Bound cs)) (take-certificates place items) in
     let count : l.end - l.offset ≡ length own = omega (arith, i.end) in
     record {
       begins = omega (arith, i.end);
-      ends = omega (arith, i.end, offset, ap length whole, length-append (joined arc_bound front) (own ++ behind), length-append own behind);
-      within = omega (arith, count, i.header, i.signed, signed_within arc_bound (plain_of l) valid);
+      ends = omega (arith, i.end, offset, ap length whole, length-append (joined Bound front) (own ++ behind), length-append own behind);
+      within = omega (arith, count, i.header, i.signed, signed_within Bound (plain_of l) valid);
       octets_are =
           ap (λ (n : ℕ). take n (drop l.offset octets)) count
           ∙ ap (λ (x : List ℕ). take (length own) (drop l.offset x)) whole
-          ∙ ap (λ (x : List ℕ). take (length own) x) (drop_at (joined arc_bound front) (own ++ behind) l.offset (sym offset))
+          ∙ ap (λ (x : List ℕ). take (length own) x) (drop_at (joined Bound front) (own ++ behind) l.offset (sym offset))
           ∙ take_at own behind (length own) refl;
       signed_are =
           ap (λ (n : ℕ). take n (drop l.header own)) i.signed
-          ∙ ap (λ (n : ℕ). take (signed_length arc_bound (plain_of l)) (drop n own)) i.header
-          ∙ signed_in arc_bound (plain_of l) valid;
+          ∙ ap (λ (n : ℕ). take (signed_length Bound (plain_of l)) (drop n own)) i.header
+          ∙ signed_in Bound (plain_of l) valid;
     }
 
 -- Steps that read none
 
 module _ (limit : ℕ) (octets : List ℕ) (start : ℕ) (items : List Located) (k : AreKept limit octets start items) (old : Kept)
     (a : old.limit ≡ limit) (b : old.certificates ≡ certificates_of items) (c : old.rest ≡ drop start octets) where
-  start-joined : start ≡ length (joined arc_bound old.certificates)
-  start-joined = k.start_is ∙ ap (λ (cs : List PlainCertificate). length (joined arc_bound cs)) (sym b)
+  start-joined : start ≡ length (joined Bound old.certificates)
+  start-joined = k.start_is ∙ ap (λ (cs : List PlainCertificate). length (joined Bound cs)) (sym b)
 
-  pub waits : ((fields : Body) → IsUnfinished (sequence fields) limit start (drop start octets)) → Waits arc_bound old old
+  pub waits : ((fields : Body) → IsUnfinished (sequence fields) limit start (drop start octets)) → Waits Bound old old
   waits u = record {
-    unfinished = rw (a, ← start-joined, c) (u (raw_certificate_fields arc_bound));
+    unfinished = rw (a, ← start-joined, c) (u (raw_certificate_fields Bound));
     same = refl;
   }
 
-  pub finds : (kind : FaultKind) → kind ≢ kinds.Truncated → IsFault (raw_certificate arc_bound) limit start kind (drop start octets) → (new : Kept) → new ≡ record old { standing = standings.Faulted kind }
-      → (e : BundleError) → e ≡ errors.Fault (length old.certificates) (length (joined arc_bound old.certificates)) kind → Stops arc_bound old new e
+  pub finds : (kind : FaultKind) → kind ≢ kinds.Truncated → IsFault (raw_certificate Bound) limit start kind (drop start octets) → (new : Kept) → new ≡ record old { standing = standings.Faulted kind }
+      → (e : BundleError) → e ≡ errors.Fault (length old.certificates) (length (joined Bound old.certificates)) kind → Stops Bound old new e
   finds kind ne f new s e i =
-      let found : Finds arc_bound old new (length old.certificates) (length (joined arc_bound old.certificates)) kind = record {
+      let found : Finds Bound old new (length old.certificates) (length (joined Bound old.certificates)) kind = record {
         found = record {
           standing = ap (λ (x : Kept). x.standing) s;
           place_is = ap (λ (x : Kept). length x.certificates) (sym s);
-          offset_is = ap (λ (x : Kept). length (joined arc_bound x.certificates)) (sym s);
+          offset_is = ap (λ (x : Kept). length (joined Bound x.certificates)) (sym s);
         };
         streams = ne;
         fault = rw (a, ← start-joined, c) f;
         same = s;
       } in
-      subst (λ (x : BundleError). Stops arc_bound old new x) (sym i) found
+      subst (λ (x : BundleError). Stops Bound old new x) (sym i) found
 
 -- what a push did
 pub pushed : {X E : Type 0} (r : Result (Unit {0}) E) (xs ys zs : List X) → zs ≡ cond (is_ok r) xs ys → is_ok r ≡ true → zs ≡ xs

@@ -4,6 +4,7 @@ use Rattle.std.specs.Prelude.{nat_eq, bytes_eq, ◌&&◌, flat_map}
 use Rattle.std.specs.Cmp.{first_so, second_so}
 use Rattle.std.specs.Cmp.Lexicographic.{pointwise}
 use Rattle.std.specs.List.{list_all, zip}
+use Rattle.const_oid.specs.Bound.{Bound}
 use Rattle.const_oid.specs.Comparing.{owned_eq}
 use Rattle.der_core_head.specs.Grammar.{plain_list}
 use Rattle.der_core_head.specs.Heads.{tlv}
@@ -11,7 +12,7 @@ use Rattle.der_core_head.specs.Shapes.{octets_of, contents, body_octets}
 use Rattle.der_core_head.specs.Tags.{leading_octet, number_of}
 use Rattle.der_core_head.specs.declared.tag.Tag.TheVariants as tags
 use Rattle.x509_cert.specs.Names.Names.{type_and_value, relative_name, name_octets}
-use Rattle.x509_cert.specs.Names.Pairs.{arc_bound, same_pair, relative_plain}
+use Rattle.x509_cert.specs.Names.Pairs.{same_pair, relative_plain}
 use Rattle.x509_cert.specs.Names.declared.attribute_type_and_value.AttributeTypeAndValue.{AttributeTypeAndValue}
 use Rattle.x509_cert.proofs.Names.Distinct.{same_octets}
 use Rattle.cert_desk_checking.specs.SameNames.{same_attribute}
@@ -52,7 +53,7 @@ abbrev Pairs : Type 0
 Pairs = List AttributeTypeAndValue
 
 abbrev all_encoded : Pairs → List ℕ
-all_encoded r = flat_map (λ x. octets_of (type_and_value arc_bound) x) (relative_plain r)
+all_encoded r = flat_map (λ x. octets_of (type_and_value Bound) x) (relative_plain r)
 
 all_same : (r q : Pairs) → pointwise same_attribute r q ≡ true → all_encoded r ≡ all_encoded q
 all_same [] [] e = refl
@@ -62,7 +63,7 @@ all_same (a ∷ r) (b ∷ q) e =
     rw (same_octets a b (same_pair_by a b (first_so (same_attribute a b) (pointwise same_attribute r q) e)), all_same r q (second_so (same_attribute a b) (pointwise same_attribute r q) e)) refl
 
 abbrev set_encoded : Pairs → List ℕ
-set_encoded r = octets_of (relative_name arc_bound) (relative_plain r)
+set_encoded r = octets_of (relative_name Bound) (relative_plain r)
 
 set_is : (r : Pairs) → set_encoded r ≡ tlv tags.Set (all_encoded r)
 unfolding octets_of contents body_octets
@@ -72,7 +73,7 @@ set_same : (r q : Pairs) → pointwise same_attribute r q ≡ true → set_encod
 set_same r q e = set_is r ∙ ap (tlv tags.Set) (all_same r q e) ∙ sym (set_is q)
 
 abbrev sets_encoded : List Pairs → List ℕ
-sets_encoded n = flat_map (λ x. octets_of (relative_name arc_bound) x) (plain_list relative_plain n)
+sets_encoded n = flat_map (λ x. octets_of (relative_name Bound) x) (plain_list relative_plain n)
 
 sets_same : (m n : List Pairs) → pointwise (pointwise same_attribute) m n ≡ true → sets_encoded m ≡ sets_encoded n
 sets_same [] [] e = refl
@@ -81,10 +82,10 @@ sets_same (r ∷ m) [] e = absurd cc
 sets_same (r ∷ m) (q ∷ n) e =
     rw (set_same r q (first_so (pointwise same_attribute r q) (pointwise (pointwise same_attribute) m n) e), sets_same m n (second_so (pointwise same_attribute r q) (pointwise (pointwise same_attribute) m n) e)) refl
 
-name_is : (n : List Pairs) → name_octets arc_bound (plain_list relative_plain n) ≡ tlv tags.Sequence (sets_encoded n)
+name_is : (n : List Pairs) → name_octets Bound (plain_list relative_plain n) ≡ tlv tags.Sequence (sets_encoded n)
 unfolding octets_of contents body_octets
 name_is n = refl
 
 pub names_same : (m n : List Pairs) → pointwise (pointwise same_attribute) m n ≡ true
-    → name_octets arc_bound (plain_list relative_plain m) ≡ name_octets arc_bound (plain_list relative_plain n)
+    → name_octets Bound (plain_list relative_plain m) ≡ name_octets Bound (plain_list relative_plain n)
 names_same m n e = name_is m ∙ ap (tlv tags.Sequence) (sets_same m n e) ∙ sym (name_is n)

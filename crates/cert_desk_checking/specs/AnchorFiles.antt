@@ -1,7 +1,7 @@
 -- Files of anchors: the encodings of trust anchors (RFC 5914 2), one behind the other.
 use Rattle.std.specs.Prelude.{ℕ, List, None, Result, Ok, Err}
+use Rattle.const_oid.specs.Bound.{Bound}
 use Rattle.der_core_head.specs.Shapes.{Shape, octets_of}
-use Rattle.x509_cert.specs.Views.{arc_bound}
 use Rattle.x509_cert.specs.Anchors.{trust_anchor_choice, PlainAnchor as PlainChoice}
 use Rattle.cert_desk_checking.specs.declared.anchor_error.AnchorError.TheVariants as errors
 use Rattle.cert_desk_checking.specs.declared.status.AnchorFault.{AnchorFault}
@@ -12,7 +12,7 @@ use Rattle.cert_desk_checking.specs.Judging.{PlainAnchor}
 
 -- a trust anchor as it is read under `Raw`, and its octets
 abbrev pub raw_choice : Shape
-raw_choice = trust_anchor_choice arc_bound None
+raw_choice = trust_anchor_choice Bound None
 
 abbrev pub choice_octets : PlainChoice → List ℕ
 choice_octets c = octets_of raw_choice c

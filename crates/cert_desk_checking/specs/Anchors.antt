@@ -1,7 +1,8 @@
 -- What contracts see of an anchor, which one a trust anchor gives, and the terms that a chain is judged under.
 use Rattle.std.specs.Prelude.{ℕ, List, map, Bool, ◌&&◌, if◌then◌else◌, is_none, Option, Some, None, Result, Ok, Err}
 use Rattle.std.proofs.Common.{inl, inr}
-use Rattle.x509_cert.specs.Views.{arc_bound, name_plain, key_plain}
+use Rattle.const_oid.specs.Bound.{Bound}
+use Rattle.x509_cert.specs.Views.{name_plain, key_plain}
 use Rattle.x509_cert.specs.Certificates.{PlainName, PublicKey, subject, public_key, tbs_subject, tbs_public_key}
 use Rattle.x509_cert.specs.Anchors.{PlainControls, PlainInfo, PlainAnchor as PlainChoice}
 use Rattle.cert_desk_checking.specs.declared.anchor.Anchor.{Anchor}
@@ -43,4 +44,4 @@ purpose_plain p = p
 -- the terms of these anchors, a moment, a purpose, and a judge's answers
 abbrev pub terms_of : List Anchor → ℕ → List ℕ → Answers → Terms
 terms_of anchors moment purpose answers =
-    record { bound = arc_bound; anchors = map anchor_plain anchors; moment = moment; purpose = purpose_plain purpose; answers = answers }
+    record { bound = Bound; anchors = map anchor_plain anchors; moment = moment; purpose = purpose_plain purpose; answers = answers }

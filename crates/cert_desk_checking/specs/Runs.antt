@@ -1,8 +1,8 @@
 -- What a run finds in its inputs, and what it tells.
 use Rattle.std.specs.Prelude.{◌≡◌, ℕ, ◌<◌, ◌^◌, ◌⊎◌, List, length}
+use Rattle.const_oid.specs.Bound.{Bound}
 use Rattle.der_core_head.specs.Heads.{Fits}
 use Rattle.cert_desk_io.specs.Devices.{Rose, GivesBeginning}
-use Rattle.x509_cert.specs.Views.{arc_bound}
 use Rattle.cert_desk_checking.specs.declared.checked.Verdict.{Verdict}
 use Rattle.cert_desk_checking.specs.declared.checked.Verdict.TheVariants as verdicts
 use Rattle.cert_desk_checking.specs.declared.status.AnchorFault.{AnchorFault}
@@ -46,7 +46,7 @@ IsNoAnchors takes is_ended failures old new outcomes.OutOfMemory = Stayed (failu
 -- the terms of these anchors
 abbrev pub run_terms : List PlainAnchor → ℕ → List ℕ → Answers → Terms
 run_terms anchors moment purpose answers =
-    record { bound = arc_bound; anchors = anchors; moment = moment; purpose = purpose; answers = answers }
+    record { bound = Bound; anchors = anchors; moment = moment; purpose = purpose; answers = answers }
 
 -- the status of a verdict
 abbrev pub status_of : Verdict → Status

@@ -1,10 +1,10 @@
 //! A stream of certificates, read as it comes.
 ghost use Rattle.std.specs.Prelude.{◌≡◌, ◌≢◌, ℕ, ◌+◌, ◌<◌, ◌≤◌, ◌^◌, ◌==◌, ◌↔◌, List, [], ◌++◌, length, IsTrue, IsSome, IfSome, IfOk, IfErr, OnOk, OnErr};
-ghost use Rattle.x509_cert.specs.Views.{arc_bound};
 ghost use Rattle.cert_desk_checking.specs.Chains.{joined};
 ghost use Rattle.cert_desk_checking.specs.Streams.{Reads};
 ghost use Rattle.cert_desk_checking.specs.Entries.{IsEntry};
 ghost use Rattle.cert_desk_checking.specs.Steps.{kept_octets, ReadsOn, ReadsStill, Grows, Advances, Stops, RefusesPiece, RefusesEnd, HasFailed, Takes, RefusesInput};
+ghost use Rattle.const_oid.specs.Bound.{Bound};
 
 use crate::bundle_error::{BundleError, ReadError};
 use crate::entry::Entry;
@@ -63,7 +63,7 @@ impl Bundle {
         requires { 6 ≤ limit }
         ensures open { result.standing ≡ Standing.Open }
         ensures limit { result.limit ≡ limit }
-        ensures empty { Reads arc_bound result [] }
+        ensures empty { Reads Bound result [] }
     {
         Bundle {
             alloc,
@@ -112,7 +112,7 @@ impl Bundle {
 
     /// The number of octets of the certificates that were read.
     pub fn end_offset(&self) -> u64
-        ensures { result ≡ length (joined arc_bound self.now.certificates) }
+        ensures { result ≡ length (joined Bound self.now.certificates) }
     {
         self.start as u64
     }
@@ -131,11 +131,11 @@ impl Bundle {
         // A piece that is taken.
         ensures was_open { OnOk result (self.old.standing ≡ Standing.Open) }
         ensures is_open { OnOk result (self.new.standing ≡ Standing.Open) }
-        ensures reads { OnOk result (ReadsOn arc_bound self.old self.new piece.now) }
-        ensures kept { OnOk result (kept_octets arc_bound self.new ≡ kept_octets arc_bound self.old ++ piece.now) }
-        ensures fits { OnOk result (length (kept_octets arc_bound self.new) < 2 ^ 64) }
+        ensures reads { OnOk result (ReadsOn Bound self.old self.new piece.now) }
+        ensures kept { OnOk result (kept_octets Bound self.new ≡ kept_octets Bound self.old ++ piece.now) }
+        ensures fits { OnOk result (length (kept_octets Bound self.new) < 2 ^ 64) }
         // A piece that isn't.
-        ensures refused { IfErr result (RefusesPiece arc_bound self.old self.new piece.now) }
+        ensures refused { IfErr result (RefusesPiece Bound self.old self.new piece.now) }
     {
         if self.is_ended() {
             return Err(BundleError::Failed);
@@ -160,10 +160,10 @@ impl Bundle {
         // A stream that is whole.
         ensures sound { OnOk result (¬ HasFailed self.old.standing) }
         ensures ended { OnOk result (self.new.standing ≡ Standing.Ended) }
-        ensures reads { OnOk result (ReadsStill arc_bound self.old self.new) }
+        ensures reads { OnOk result (ReadsStill Bound self.old self.new) }
         ensures again { self.old.standing ≡ Standing.Ended → self.new ≡ self.old }
         // A stream that isn't.
-        ensures refused { IfErr result (RefusesEnd arc_bound self.old self.new) }
+        ensures refused { IfErr result (RefusesEnd Bound self.old self.new) }
     {
         match self.standing {
             Standing::Open => {
@@ -189,7 +189,7 @@ impl Bundle {
     /// The certificate at a place, counted from 0, if so many were read.
     pub fn get(&self, place: usize) -> Option<Entry<'_>>
         ensures within { IsSome result ↔ (place < length self.now.certificates) }
-        ensures entry { IfSome result (λ e. IsEntry arc_bound self.now.certificates place e) }
+        ensures entry { IfSome result (λ e. IsEntry Bound self.now.certificates place e) }
     {
         let Some(located) = self.located.get(place) else {
             return None;
@@ -221,9 +221,9 @@ impl Bundle {
         ensures ended { OnOk result (self.new.standing ≡ Standing.Ended) }
         ensures end { OnOk result (I.is_ended input.new) }
         ensures sound { OnOk result (I.failures input.new ≡ I.failures input.old) }
-        ensures reads { OnOk result (Takes I.takes input.old input.new arc_bound self.old self.new) }
+        ensures reads { OnOk result (Takes I.takes input.old input.new Bound self.old self.new) }
         // An input that isn't.
-        ensures refused { IfErr result (RefusesInput I.takes I.is_ended I.failures input.old input.new arc_bound self.old self.new) }
+        ensures refused { IfErr result (RefusesInput I.takes I.is_ended I.failures input.old input.new Bound self.old self.new) }
     {
         if self.is_ended() {
             return Err(ReadError::Bundle(BundleError::Failed));
@@ -245,7 +245,7 @@ impl Bundle {
     // Appends a piece to the octets.
     fn append(&mut self, piece: &[u8]) -> Result<(), AllocError>
         ensures appended { OnOk result (self.new ≡ record self.old { rest = self.old.rest ++ piece.now }) }
-        ensures fits { length (kept_octets arc_bound self.new) < 2 ^ 64 }
+        ensures fits { length (kept_octets Bound self.new) < 2 ^ 64 }
         ensures unchanged { OnErr result (self.new ≡ self.old) }
     {
         self.octets.extend_from_slice(piece)
@@ -260,8 +260,8 @@ impl Bundle {
 
     // Reads the next certificate, and says whether it was there.
     fn read_next(&mut self) -> Result<bool, BundleError>
-        ensures advances { IfOk result (λ more. Advances arc_bound self.old self.new more) }
-        ensures stops { IfErr result (Stops arc_bound self.old self.new) }
+        ensures advances { IfOk result (λ more. Advances Bound self.old self.new more) }
+        ensures stops { IfErr result (Stops Bound self.old self.new) }
     {
         let rest = &self.octets[self.start..];
         let (header, len) = match scan_header(rest, self.start as u64, self.limit) {
@@ -300,7 +300,7 @@ impl Bundle {
     // Fails for this fault, which stands behind the certificates.
     fn fail(&mut self, kind: FaultKind) -> BundleError
         ensures failed { self.new ≡ record self.old { standing = Standing.Faulted kind } }
-        ensures error { result ≡ BundleError.Fault (length self.old.certificates) (length (joined arc_bound self.old.certificates)) kind }
+        ensures error { result ≡ BundleError.Fault (length self.old.certificates) (length (joined Bound self.old.certificates)) kind }
     {
         self.standing = Standing::Faulted(kind);
         BundleError::Fault {

@@ -2,9 +2,10 @@
 ghost use Rattle.std.specs.Prelude.{◌≡◌, ◌≢◌, ℕ, ◌+◌, ◌<◌, ◌≤◌, ◌↔◌, ◌⊎◌, List, length, map, Option, IfOk, OnErr, true, false, Some, None, nat_le, not, ◌&&◌};
 ghost use Rattle.std.specs.List.{list_any};
 ghost use Rattle.std.specs.Option.{is_some};
+ghost use Rattle.const_oid.specs.Bound.{Bound};
 ghost use Rattle.der_core_head.specs.Shapes.{IsValid};
 ghost use Rattle.x509_cert.specs.Names.TimeTypes.Seconds.{unix_seconds};
-ghost use Rattle.x509_cert.specs.Views.{arc_bound, certificate_plain, key_plain, name_plain};
+ghost use Rattle.x509_cert.specs.Views.{certificate_plain, key_plain, name_plain};
 ghost use Rattle.x509_cert.specs.Certificates.{issuer, not_before, not_after, raw_certificate};
 ghost use Rattle.cert_desk_checking.specs.declared.fault_kind.FaultKind.{FaultKind};
 ghost use Rattle.cert_desk_checking.specs.Anchors.{anchor_plain, terms_of};
@@ -54,13 +55,13 @@ pub fn check<J: SignatureJudge>(
     judge: &mut J,
 ) -> Result<Checked, CheckError>
     requires { bundle.now.standing ≢ Standing.Open }
-    ensures verdict { IfOk result (λ checked. (stream : List ℕ) → Reads arc_bound bundle.now stream
+    ensures verdict { IfOk result (λ checked. (stream : List ℕ) → Reads Bound bundle.now stream
         → IsVerdict (terms_of anchors.now moment purpose.now (J.answers judge.old)) bundle.now.limit stream checked.verdict) }
-    ensures trusted { IfOk result (λ checked. (stream : List ℕ) → Reads arc_bound bundle.now stream
+    ensures trusted { IfOk result (λ checked. (stream : List ℕ) → Reads Bound bundle.now stream
         → Trusted (terms_of anchors.now moment purpose.now (J.answers judge.old)) bundle.now.limit stream → checked.verdict ≡ Verdict.Trusted) }
     ensures fault { IfOk result (λ checked. (kind : FaultKind) → bundle.now.standing ≡ Standing.Faulted kind
-        → checked.verdict ≡ Verdict.StreamFault (length bundle.now.certificates) (length (joined arc_bound bundle.now.certificates)) kind) }
-    ensures counted { IfOk result (λ checked. (stream : List ℕ) → Reads arc_bound bundle.now stream
+        → checked.verdict ≡ Verdict.StreamFault (length bundle.now.certificates) (length (joined Bound bundle.now.certificates)) kind) }
+    ensures counted { IfOk result (λ checked. (stream : List ℕ) → Reads Bound bundle.now stream
         → IsCounted (terms_of anchors.now moment purpose.now (J.answers judge.old)) bundle.now.limit stream checked (J.questions judge.old) (J.questions judge.new)) }
     ensures kept { J.answers judge.new ≡ J.answers judge.old }
 
@@ -114,16 +115,16 @@ fn ask<J: SignatureJudge>(
 
 // Whether the issuer of the certificate has this name, octet for octet.
 fn is_issued_by(certificate: &CertificateInner<Raw>, name: &Name) -> bool
-    requires { IsValid (raw_certificate arc_bound) (certificate_plain certificate.now) }
-    ensures { result ≡ same_name arc_bound (issuer (certificate_plain certificate.now)) (name_plain name.now) }
+    requires { IsValid (raw_certificate Bound) (certificate_plain certificate.now) }
+    ensures { result ≡ same_name Bound (issuer (certificate_plain certificate.now)) (name_plain name.now) }
 {
     certificate.tbs_certificate().issuer().has_octets_of(name)
 }
 
 // The same of a name that it has in most chains: then the attributes tell it.
 fn is_linked_by(certificate: &CertificateInner<Raw>, name: &Name) -> bool
-    requires { IsValid (raw_certificate arc_bound) (certificate_plain certificate.now) }
-    ensures { result ≡ same_name arc_bound (issuer (certificate_plain certificate.now)) (name_plain name.now) }
+    requires { IsValid (raw_certificate Bound) (certificate_plain certificate.now) }
+    ensures { result ≡ same_name Bound (issuer (certificate_plain certificate.now)) (name_plain name.now) }
 {
     if are_alike(certificate.tbs_certificate().issuer(), name) {
         return true;
@@ -133,8 +134,8 @@ fn is_linked_by(certificate: &CertificateInner<Raw>, name: &Name) -> bool
 
 // Whether an anchor has the issuer's name.
 fn is_anchored(certificate: &CertificateInner<Raw>, anchors: &[Anchor]) -> bool
-    requires { IsValid (raw_certificate arc_bound) (certificate_plain certificate.now) }
-    ensures { result ≡ list_any (is_named arc_bound (certificate_plain certificate.now)) (map anchor_plain anchors.now) }
+    requires { IsValid (raw_certificate Bound) (certificate_plain certificate.now) }
+    ensures { result ≡ list_any (is_named Bound (certificate_plain certificate.now)) (map anchor_plain anchors.now) }
 {
     for anchor in anchors {
         if is_issued_by(certificate, anchor.name()) {
@@ -153,11 +154,11 @@ fn is_signed_under<J: SignatureJudge>(
     judge: &mut J,
     calls: &mut u64,
 ) -> bool
-    requires { IsValid (raw_certificate arc_bound) (certificate_plain entry.now.certificate.now) }
+    requires { IsValid (raw_certificate Bound) (certificate_plain entry.now.certificate.now) }
     ensures answered { result
-        ≡ signs arc_bound (J.answers judge.old) entry.now.signed.now (certificate_plain entry.now.certificate.now) (anchor_plain anchor.now) }
+        ≡ signs Bound (J.answers judge.old) entry.now.signed.now (certificate_plain entry.now.certificate.now) (anchor_plain anchor.now) }
     ensures kept { J.answers judge.new ≡ J.answers judge.old }
-    ensures counted { Rises (asked_once arc_bound (certificate_plain entry.now.certificate.now) (anchor_plain anchor.now))
+    ensures counted { Rises (asked_once Bound (certificate_plain entry.now.certificate.now) (anchor_plain anchor.now))
         (J.questions judge.old) calls.old (J.questions judge.new) calls.new }
 {
     if !is_issued_by(entry.certificate, anchor.name()) {
@@ -174,12 +175,12 @@ fn is_signed_by_anchor<J: SignatureJudge>(
     judge: &mut J,
     calls: &mut u64,
 ) -> bool
-    requires { IsValid (raw_certificate arc_bound) (certificate_plain entry.now.certificate.now) }
+    requires { IsValid (raw_certificate Bound) (certificate_plain entry.now.certificate.now) }
     ensures answered { result
-        ≡ list_any (signs arc_bound (J.answers judge.old) entry.now.signed.now (certificate_plain entry.now.certificate.now)) (map anchor_plain anchors.now) }
+        ≡ list_any (signs Bound (J.answers judge.old) entry.now.signed.now (certificate_plain entry.now.certificate.now)) (map anchor_plain anchors.now) }
     ensures kept { J.answers judge.new ≡ J.answers judge.old }
     ensures counted { Rises
-        (asked_until arc_bound (J.answers judge.old) entry.now.signed.now (certificate_plain entry.now.certificate.now) (map anchor_plain anchors.now))
+        (asked_until Bound (J.answers judge.old) entry.now.signed.now (certificate_plain entry.now.certificate.now) (map anchor_plain anchors.now))
         (J.questions judge.old) calls.old (J.questions judge.new) calls.new }
 {
     for anchor in anchors {
@@ -219,10 +220,10 @@ fn is_signed<J: SignatureJudge>(
 ) -> bool
     requires { place < length bundle.now.certificates }
     ensures answered { (moment : ℕ) (purpose : List ℕ)
-        → result ≡ keeps_at Rule.WrongSignature (terms_of anchors.now moment purpose (J.answers judge.old)) bundle.now.certificates (joined arc_bound bundle.now.certificates) place }
+        → result ≡ keeps_at Rule.WrongSignature (terms_of anchors.now moment purpose (J.answers judge.old)) bundle.now.certificates (joined Bound bundle.now.certificates) place }
     ensures kept { J.answers judge.new ≡ J.answers judge.old }
     ensures counted { (moment : ℕ) (purpose : List ℕ) → Rises
-        (asked_signature (terms_of anchors.now moment purpose (J.answers judge.old)) bundle.now.certificates (joined arc_bound bundle.now.certificates) place)
+        (asked_signature (terms_of anchors.now moment purpose (J.answers judge.old)) bundle.now.certificates (joined Bound bundle.now.certificates) place)
         (J.questions judge.old) calls.old (J.questions judge.new) calls.new }
 {
     let entry = bundle.get(place).unwrap();
@@ -239,8 +240,8 @@ fn is_signed<J: SignatureJudge>(
 
 // Whether the algorithm outside is the one that is signed, octet for octet (RFC 5280 4.1.1.2).
 fn has_one_algorithm(certificate: &CertificateInner<Raw>) -> bool
-    requires { IsValid (raw_certificate arc_bound) (certificate_plain certificate.now) }
-    ensures { result ≡ has_one_algorithm arc_bound (certificate_plain certificate.now) }
+    requires { IsValid (raw_certificate Bound) (certificate_plain certificate.now) }
+    ensures { result ≡ has_one_algorithm Bound (certificate_plain certificate.now) }
 {
     let signed = certificate.tbs_certificate().signature();
     signed.has_octets_of(certificate.signature_algorithm())
@@ -264,16 +265,16 @@ fn lasts(certificate: &CertificateInner<Raw>, moment: u64) -> bool
 
 // Whether issuer and subject have the same octets.
 fn is_self_issued(certificate: &CertificateInner<Raw>) -> bool
-    requires { IsValid (raw_certificate arc_bound) (certificate_plain certificate.now) }
-    ensures { result ≡ is_self_issued arc_bound (certificate_plain certificate.now) }
+    requires { IsValid (raw_certificate Bound) (certificate_plain certificate.now) }
+    ensures { result ≡ is_self_issued Bound (certificate_plain certificate.now) }
 {
     is_issued_by(certificate, certificate.tbs_certificate().subject())
 }
 
 // Whether a place takes of the room that path lengths leave: there is one, and the place isn't the last, and isn't self-issued.
 fn takes_room(certificate: &CertificateInner<Raw>, is_last: bool, room: &PathRoom) -> bool
-    requires { IsValid (raw_certificate arc_bound) (certificate_plain certificate.now) }
-    ensures { result ≡ (is_some room.now.left && (not is_last && not (is_self_issued arc_bound (certificate_plain certificate.now)))) }
+    requires { IsValid (raw_certificate Bound) (certificate_plain certificate.now) }
+    ensures { result ≡ (is_some room.now.left && (not is_last && not (is_self_issued Bound (certificate_plain certificate.now)))) }
 {
     room.is_limited() && (!is_last && !is_self_issued(certificate))
 }
@@ -290,10 +291,10 @@ fn first_unsigned(
     room: &mut PathRoom,
 ) -> Result<Option<Rule>, AllocError>
     requires within { place < length bundle.now.certificates }
-    requires room { IsRoom arc_bound bundle.now.certificates place room.old }
+    requires room { IsRoom Bound bundle.now.certificates place room.old }
     ensures judged { IfOk result (λ broken. (answers : Answers) (stream : List ℕ)
         → IsFirstUnsigned (terms_of anchors.now moment purpose.now answers) bundle.now.certificates stream place broken) }
-    ensures room { IfOk result (λ broken. broken ≡ None → IsRoom arc_bound bundle.now.certificates (place + 1) room.new) }
+    ensures room { IfOk result (λ broken. broken ≡ None → IsRoom Bound bundle.now.certificates (place + 1) room.new) }
 {
     let certificate = bundle.get(place).unwrap().certificate;
     let extensions = extensions_of(certificate);
@@ -356,12 +357,12 @@ fn first_refused<J: SignatureJudge>(
 ) -> Option<usize>
     requires { until ≤ length bundle.now.certificates }
     ensures judged { (moment : ℕ) (purpose : List ℕ)
-        → AreUnsignedKept (terms_of anchors.now moment purpose (J.answers judge.old)) bundle.now.certificates (joined arc_bound bundle.now.certificates) until
-        → IsFirstRefused (terms_of anchors.now moment purpose (J.answers judge.old)) bundle.now.certificates (joined arc_bound bundle.now.certificates) until result }
+        → AreUnsignedKept (terms_of anchors.now moment purpose (J.answers judge.old)) bundle.now.certificates (joined Bound bundle.now.certificates) until
+        → IsFirstRefused (terms_of anchors.now moment purpose (J.answers judge.old)) bundle.now.certificates (joined Bound bundle.now.certificates) until result }
     ensures kept { J.answers judge.new ≡ J.answers judge.old }
     ensures counted { (moment : ℕ) (purpose : List ℕ)
-        → AreUnsignedKept (terms_of anchors.now moment purpose (J.answers judge.old)) bundle.now.certificates (joined arc_bound bundle.now.certificates) until
-        → Rises (asked_up_to (terms_of anchors.now moment purpose (J.answers judge.old)) bundle.now.certificates (joined arc_bound bundle.now.certificates) until result)
+        → AreUnsignedKept (terms_of anchors.now moment purpose (J.answers judge.old)) bundle.now.certificates (joined Bound bundle.now.certificates) until
+        → Rises (asked_up_to (terms_of anchors.now moment purpose (J.answers judge.old)) bundle.now.certificates (joined Bound bundle.now.certificates) until result)
         (J.questions judge.old) calls.old (J.questions judge.new) calls.new }
 {
     for place in 0..until {
@@ -382,10 +383,10 @@ fn check_chain<J: SignatureJudge>(
     purpose: &ObjectIdentifier<39>,
     judge: &mut J,
 ) -> Result<Checked, AllocError>
-    ensures judged { IfOk result (λ checked. (stream : List ℕ) → Chain arc_bound bundle.now.limit bundle.now.certificates stream
+    ensures judged { IfOk result (λ checked. (stream : List ℕ) → Chain Bound bundle.now.limit bundle.now.certificates stream
         → IsVerdict (terms_of anchors.now moment purpose.now (J.answers judge.old)) bundle.now.limit stream checked.verdict) }
     ensures kept { J.answers judge.new ≡ J.answers judge.old }
-    ensures counted { IfOk result (λ checked. (stream : List ℕ) → Chain arc_bound bundle.now.limit bundle.now.certificates stream → Rises
+    ensures counted { IfOk result (λ checked. (stream : List ℕ) → Chain Bound bundle.now.limit bundle.now.certificates stream → Rises
         (asked (terms_of anchors.now moment purpose.now (J.answers judge.old)) bundle.now.certificates stream)
         (J.questions judge.old) 0 (J.questions judge.new) checked.calls) }
     ensures untouched { OnErr result (judge.new ≡ judge.old) }

@@ -2,8 +2,9 @@
 
 ghost use Rattle.std.specs.Prelude.{◌≡◌, IsTrue};
 ghost use Rattle.std.specs.Cmp.Lexicographic.{pointwise};
+ghost use Rattle.const_oid.specs.Bound.{Bound};
 ghost use Rattle.x509_cert.specs.Certificates.{name_octets};
-ghost use Rattle.x509_cert.specs.Views.{arc_bound, name_plain};
+ghost use Rattle.x509_cert.specs.Views.{name_plain};
 ghost use Rattle.cert_desk_checking.specs.SameNames.{same_attribute};
 
 use der_core_head::is_same_tag;
@@ -12,7 +13,7 @@ use x509_cert::{AttributeTypeAndValue, Name, RelativeDistinguishedName};
 // Whether both names have the same attributes, one by one: so they have the same octets. Where they are the same, this costs less
 // than to compare the names.
 pub(crate) fn are_alike(one: &Name, other: &Name) -> bool
-    ensures { IsTrue result → name_octets arc_bound (name_plain one.now) ≡ name_octets arc_bound (name_plain other.now) }
+    ensures { IsTrue result → name_octets Bound (name_plain one.now) ≡ name_octets Bound (name_plain other.now) }
 {
     if one.len() != other.len() {
         return false;

@@ -1,8 +1,9 @@
 //! The extensions by which a chain is judged, read (RFC 5280 4.2.1.3, 4.2.1.6, 4.2.1.9, 4.2.1.12).
 ghost use Rattle.std.specs.Prelude.{◌≡◌, ◌≢◌, ℕ, List, IfOk};
+ghost use Rattle.const_oid.specs.Bound.{Bound};
 ghost use Rattle.const_oid.specs.Comparing.{owned_eq};
 ghost use Rattle.der_core_head.specs.declared.error.ErrorKind.{ErrorKind};
-ghost use Rattle.x509_cert.specs.Views.{arc_bound, extension_plain, extensions_plain};
+ghost use Rattle.x509_cert.specs.Views.{extension_plain, extensions_plain};
 ghost use Rattle.cert_desk_checking.specs.Findings.{found, weight_of};
 ghost use Rattle.cert_desk_checking.specs.Weighing.{any_purpose, basic_constraints, constraints_of, extended_key_usage, key_usage, meaning_by, other_names, purposes, serves, subject_alt_name, uses, weigh};
 
@@ -39,7 +40,7 @@ pub(crate) fn findings_of(
     extensions: &[Extension],
     purpose: &ObjectIdentifier<39>,
 ) -> Result<Findings, AllocError>
-    ensures { IfOk result (λ findings. findings ≡ found arc_bound purpose.now (extensions_plain extensions.now)) }
+    ensures { IfOk result (λ findings. findings ≡ found Bound purpose.now (extensions_plain extensions.now)) }
 {
     let mut findings = Findings::none();
     for extension in extensions {
@@ -55,7 +56,7 @@ fn weigh(
     extension: &Extension,
     purpose: &ObjectIdentifier<39>,
 ) -> Result<Weight, AllocError>
-    ensures { IfOk result (λ weight. weight ≡ weight_of purpose.now (weigh arc_bound (extension_plain extension.now))) }
+    ensures { IfOk result (λ weight. weight ≡ weight_of purpose.now (weigh Bound (extension_plain extension.now))) }
 {
     let octets = extension.extn_value.as_bytes();
     let Some(number) = number_of(&extension.extn_id) else {
@@ -90,7 +91,7 @@ fn weigh_key_usage(alloc: Global, octets: &[u8]) -> Result<Weight, AllocError>
 
 // What other names of the subject weigh.
 fn weigh_names(alloc: Global, octets: &[u8]) -> Result<Weight, AllocError>
-    ensures { IfOk result (λ weight. (purpose : List ℕ) → weight ≡ weight_of purpose (meaning_by (subject_alt_name arc_bound) other_names octets.now)) }
+    ensures { IfOk result (λ weight. (purpose : List ℕ) → weight ≡ weight_of purpose (meaning_by (subject_alt_name Bound) other_names octets.now)) }
 {
     match from_der::<Vec<NameLent<'_>>>(alloc, octets) {
         Ok(_) => Ok(Weight::AlternativeNames),
@@ -117,7 +118,7 @@ fn weigh_purposes(
     octets: &[u8],
     purpose: &ObjectIdentifier<39>,
 ) -> Result<Weight, AllocError>
-    ensures { IfOk result (λ weight. weight ≡ weight_of purpose.now (meaning_by (extended_key_usage arc_bound) purposes octets.now)) }
+    ensures { IfOk result (λ weight. weight ≡ weight_of purpose.now (meaning_by (extended_key_usage Bound) purposes octets.now)) }
 {
     match from_der::<ExtendedKeyUsage>(alloc, octets) {
         Ok(usage) => Ok(Weight::Purposes {

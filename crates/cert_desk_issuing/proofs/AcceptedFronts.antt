@@ -4,6 +4,7 @@ use Rattle.std.specs.Prelude.{◌≢◌, pos, nat_lt, option_map, IfOk, IfErr, s
 use Rattle.std.proofs.lemmas.Bool.{cases_lt, le-ltb, lt-ltb, ltb-false}
 use Rattle.std.proofs.lemmas.List.{length-map}
 use Rattle.std.proofs.lemmas.Option.{same_Some, slice_get-map, slice_get_past, slice_get_within}
+use Rattle.const_oid.specs.Bound.{Bound}
 use Rattle.der_core_head.specs.BitStrings.{Bits}
 use Rattle.der_core_head.specs.declared.error.ErrorKind.{ErrorKind}
 use Rattle.der_core_head.specs.declared.error.ErrorKind.TheVariants as kinds
@@ -154,7 +155,7 @@ are_ready orders keys ps a place p e =
     subst (λ n. IsReady (role_at n place) p) (sym a.all) (ready (role_at (length orders) place) (slice_get keys place) here.order p here.accepted)
 
 -- why a name is refused is why its order is
-pub refused_name : (role : Role) (key : Option PublicKey) (o : Order) (n : PlainName) (f : Fault) → SpellsName (string_bytes o.name) n → RefusesName role n f → RefusesOrder role key o f
+pub refused_name : (role : Role) (key : Option PublicKey) (o : Order) (n : PlainName) (f : Fault) → SpellsName Bound (string_bytes o.name) n → RefusesName role n f → RefusesOrder role key o f
 refused_name role key o n faults.Name s r = absurd r
 refused_name role key o n (faults.RootName e) s r = (n, s, r)
 refused_name role key o n faults.SubscriberName s r = (n, s, r)

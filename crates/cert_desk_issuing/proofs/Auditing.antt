@@ -1,8 +1,8 @@
 -- A stream that was issued is judged under its own root.
 use Rattle.std.proofs.Common.{◌≡◌, ◌≢◌, ℕ, ◌-◌, ◌^◌, ◌<◌, List, [], ◌∷◌, ◌++◌, length, map, Some, slice_get, refl, sym, ap, ◌∙◌, subst, arith}
+use Rattle.const_oid.specs.Bound.{Bound}
 use Rattle.der_core_head.specs.Limits.{length_max}
 use Rattle.cert_desk_checking.specs.Certificates.{PlainCertificate, PlainName, PublicKey, public_key}
-use Rattle.cert_desk_checking.specs.Views.{arc_bound}
 use Rattle.cert_desk_checking.specs.declared.bundle_error.BundleError.{BundleError}
 use Rattle.cert_desk_checking.specs.declared.bundle_error.BundleError.TheVariants as refusals
 use Rattle.cert_desk_checking.specs.declared.checked.CheckError.{CheckError}
@@ -29,10 +29,10 @@ use Rattle.cert_desk_issuing.proofs.TrustLaws.{held_is_trusted, trusted_is_permi
 pub record IsClosed (b : Kept) (stream : List ℕ) : Type 0 where
   pub closed : b.standing ≢ standings.Open
   pub sound : b.standing ≢ standings.NoDevice
-  pub reads : b.standing ≢ standings.NoMemory → Reads arc_bound b stream
+  pub reads : b.standing ≢ standings.NoMemory → Reads Bound b stream
 
 -- a piece that is refused, and an end
-pub refused_piece : (old new : Kept) (piece : List ℕ) (e : BundleError) → old.standing ≡ standings.Open → Reads arc_bound old [] → RefusesPiece arc_bound old new piece e → IsClosed new piece
+pub refused_piece : (old new : Kept) (piece : List ℕ) (e : BundleError) → old.standing ≡ standings.Open → Reads Bound old [] → RefusesPiece Bound old new piece e → IsClosed new piece
 refused_piece old new piece (refusals.Fault place offset kind) is_open read h = record {
   closed = λ e. (let is = h.found.standing in absurd cc);
   sound = λ e. (let is = h.found.standing in absurd cc);
@@ -45,7 +45,7 @@ refused_piece old new piece refusals.OutOfMemory is_open read h = record {
 }
 refused_piece old new piece refusals.Failed is_open read h = absurd (h.was_shut is_open)
 
-pub refused_end : (old new : Kept) (stream : List ℕ) (e : BundleError) → old.standing ≡ standings.Open → Reads arc_bound old stream → RefusesEnd arc_bound old new e → IsClosed new stream
+pub refused_end : (old new : Kept) (stream : List ℕ) (e : BundleError) → old.standing ≡ standings.Open → Reads Bound old stream → RefusesEnd Bound old new e → IsClosed new stream
 refused_end old new stream (refusals.Fault place offset kind) is_open read h = record {
   closed = λ e. (let is = h.found.standing in absurd cc);
   sound = λ e. (let is = h.found.standing in absurd cc);
@@ -54,7 +54,7 @@ refused_end old new stream (refusals.Fault place offset kind) is_open read h = r
 refused_end old new stream refusals.OutOfMemory is_open read h = absurd h
 refused_end old new stream refusals.Failed is_open read h = absurd (subst HasFailed is_open h.failed)
 
-pub is_ended : (b : Kept) (stream : List ℕ) → b.standing ≡ standings.Ended → Reads arc_bound b stream → IsClosed b stream
+pub is_ended : (b : Kept) (stream : List ℕ) → b.standing ≡ standings.Ended → Reads Bound b stream → IsClosed b stream
 is_ended b stream is read = record {
   closed = λ e. absurd cc;
   sound = λ e. absurd cc;
@@ -66,7 +66,7 @@ abbrev anchor_alone : PlainName → PublicKey → List PlainAnchor
 anchor_alone name key = record { name = name; key = key } ∷ []
 
 -- the anchor is that of the root's order
-module _ (root : PlainOrder) (below : List PlainOrder) (cs own : List PlainCertificate) (stream : List ℕ) (h : HoldsOrders (root ∷ below) cs stream) (chain : Chain arc_bound length_max own stream) where
+module _ (root : PlainOrder) (below : List PlainOrder) (cs own : List PlainCertificate) (stream : List ℕ) (h : HoldsOrders (root ∷ below) cs stream) (chain : Chain Bound length_max own stream) where
   first_anchor : (ds : List PlainCertificate) → (c : PlainCertificate) → slice_get ds 0 ≡ Some c → root_anchors ds ≡ root_anchor c ∷ []
   first_anchor [] c e = absurd cc
   first_anchor (d ∷ ds) c e = ap (λ x. root_anchor x ∷ []) (some_same d c e)
@@ -78,17 +78,17 @@ module _ (root : PlainOrder) (below : List PlainOrder) (cs own : List PlainCerti
       let first : here.order ≡ root = some_same here.order root (sym here.order_is) in
       let named = subject_is (root ∷ below) cs 0 here ∙ ap (λ (p : PlainOrder). p.subject) first in
       let keyed = key_is (root ∷ below) cs 0 here ∙ ap (λ (p : PlainOrder). p.key) first in
-      ap root_anchors (one_chain arc_bound length_max own cs stream chain h.chain)
+      ap root_anchors (one_chain Bound length_max own cs stream chain h.chain)
       ∙ first_anchor cs here.certificate here.certificate_is
       ∙ ap (λ (n : PlainName). anchor_alone n (public_key here.certificate)) named
       ∙ ap (λ (k : PublicKey). anchor_alone root.subject k) keyed
 
   -- what is said under the anchors of the stream's own certificates is said under that of the root's order
   pub under_root : (anchors : List PlainAnchor) (moment : ℕ) (purpose : List ℕ) (answers : Answers) (n limit : ℕ) (P : Terms → ℕ → Type 0) → anchors ≡ root_anchors own → n ≡ limit
-      → P (record { bound = arc_bound; anchors = anchors; moment = moment; purpose = purpose; answers = answers }) n → P (terms_for root moment purpose answers) limit
+      → P (record { bound = Bound; anchors = anchors; moment = moment; purpose = purpose; answers = answers }) n → P (terms_for root moment purpose answers) limit
   under_root anchors moment purpose answers n limit P same_anchors same_limit p =
       subst (λ k. P (terms_for root moment purpose answers) k) same_limit
-      (subst (λ (xs : List PlainAnchor). P (record { bound = arc_bound; anchors = xs; moment = moment; purpose = purpose; answers = answers }) n) (same_anchors ∙ anchors_are) p)
+      (subst (λ (xs : List PlainAnchor). P (record { bound = Bound; anchors = xs; moment = moment; purpose = purpose; answers = answers }) n) (same_anchors ∙ anchors_are) p)
 
 -- trusted exactly where it is permitted
 pub exactly : (root : PlainOrder) (below : List PlainOrder) (cs : List PlainCertificate) (stream : List ℕ) (limit moment : ℕ) (purpose : List ℕ) (answers : Answers) (v : Verdict)

@@ -4,6 +4,7 @@ use Rattle.std.specs.Prelude.{nat_lt, if◌then◌else◌}
 use Rattle.std.specs.List.{AllByRecursion}
 use Rattle.std.proofs.lemmas.Bool.{le-ltb}
 use Rattle.std.proofs.lemmas.Option.{same_Some}
+use Rattle.const_oid.specs.Bound.{Bound}
 use Rattle.der_core_head.specs.Limits.{length_max}
 use Rattle.der_core_head.proofs.Fits.{fits_contents}
 use Rattle.der_core_head.specs.declared.error.ErrorKind.{ErrorKind}
@@ -14,24 +15,23 @@ use Rattle.der_core_head.specs.Shapes.{IsBody, IsContent, IsValid, contents, oct
 use Rattle.der_core_head.specs.Tags.{context}
 use Rattle.der_core_head.specs.Texts.{ascii, text_read}
 use Rattle.cert_desk_checking.specs.Extensions.{general_name, general_names}
-use Rattle.cert_desk_checking.specs.Views.{arc_bound}
 use Rattle.cert_desk_issuing.specs.Ordered.{dns_name, dns_names}
 
 -- what is read of octets as text in ASCII, where a length can count them
 abbrev pub read_within : List ℕ → Result (List ℕ) ErrorKind
 read_within w = if nat_lt length_max (length w) then Err kinds.Overflow else text_read ascii tags.Ia5String w
 
-text_valid : (text : List ℕ) → IsValid (general_name arc_bound) (dns_name text) → read_within text ≡ Ok text
+text_valid : (text : List ℕ) → IsValid (general_name Bound) (dns_name text) → read_within text ≡ Ok text
 unfolding IsValid IsContent contents text_read
 text_valid text v =
     let fits : Fits text = fits_contents (context false 2) text v.2 in
     rw (le-ltb length_max (length text) (omega (arith, fits)), v.0.within) refl
 
-valid_at : (texts : List (List ℕ)) (i : ℕ) (text : List ℕ) → slice_get texts i ≡ Some text → AllByRecursion (λ n. IsValid (general_name arc_bound) n) (dns_names texts) → IsValid (general_name arc_bound) (dns_name text)
+valid_at : (texts : List (List ℕ)) (i : ℕ) (text : List ℕ) → slice_get texts i ≡ Some text → AllByRecursion (λ n. IsValid (general_name Bound) n) (dns_names texts) → IsValid (general_name Bound) (dns_name text)
 valid_at [] i text e h = absurd cc
 valid_at (t ∷ more) zero text e h = rw (← same_Some t text e) h.0
 valid_at (t ∷ more) (suc i) text e h = valid_at more i text e h.1
 
-pub name_read : (texts : List (List ℕ)) (i : ℕ) (text : List ℕ) → slice_get texts i ≡ Some text → IsValid (general_names arc_bound) (dns_names texts) → read_within text ≡ Ok text
+pub name_read : (texts : List (List ℕ)) (i : ℕ) (text : List ℕ) → slice_get texts i ≡ Some text → IsValid (general_names Bound) (dns_names texts) → read_within text ≡ Ok text
 unfolding IsValid IsContent IsBody
 name_read texts i text e v = text_valid text (valid_at texts i text e v.0)

@@ -4,13 +4,13 @@ use Rattle.std.specs.Prelude.{bytes_eq, nat_le, nat_lt, slice_get, if◌then◌e
 use Rattle.std.specs.Option.{option_map_or}
 use Rattle.std.proofs.lemmas.Slice.Eq.{bytes_eq-Decides}
 use Rattle.std.proofs.lemmas.Bool.Decides.{Decides-eqb}
+use Rattle.const_oid.specs.Bound.{Bound}
 use Rattle.der_core_head.proofs.Fits.{fits_contents}
 use Rattle.der_core_head.specs.declared.tag.Tag.TheVariants as tags
 use Rattle.der_core_head.specs.Heads.{Fits}
 use Rattle.der_core_head.specs.Shapes.{IsValid, IsContent, IsBody, octets_of}
 use Rattle.cert_desk_checking.specs.Certificates.{PlainCertificate, Tbs, extensions_of, inner_algorithm, issuer, not_after, not_before, outer_algorithm, public_key, raw_certificate, raw_tbs_certificate, subject, tbs}
 use Rattle.cert_desk_checking.specs.Certificates.{Algorithm}
-use Rattle.cert_desk_checking.specs.Views.{arc_bound}
 use Rattle.cert_desk_checking.specs.Extensions.{general_names}
 use Rattle.cert_desk_checking.specs.Parts.{civil_of}
 use Rattle.cert_desk_issuing.specs.declared.role.Role.{Role}
@@ -25,25 +25,25 @@ pub same_octets : (w : List ℕ) → bytes_eq w w ≡ true
 same_octets w = (bytes_eq-Decides w w).1 refl
 
 -- the names of a subscriber fit where the signed part has an encoding
-subscriber_fits : (p above : PlainOrder) (a : Algorithm) → IsValid (raw_tbs_certificate arc_bound) (ordered_part roles.Subscriber p above a) → Fits (octets_of (general_names arc_bound) (dns_names p.dns))
+subscriber_fits : (p above : PlainOrder) (a : Algorithm) → IsValid (raw_tbs_certificate Bound) (ordered_part roles.Subscriber p above a) → Fits (octets_of (general_names Bound) (dns_names p.dns))
 unfolding IsValid IsContent IsBody octets_of
-subscriber_fits p above a v = fits_contents tags.OctetString (octets_of (general_names arc_bound) (dns_names p.dns)) v.0.1.1.1.1.1.1.1.1.1.0.0.0.0.0.1.1.0.2
+subscriber_fits p above a v = fits_contents tags.OctetString (octets_of (general_names Bound) (dns_names p.dns)) v.0.1.1.1.1.1.1.1.1.1.0.0.0.0.0.1.1.0.2
 
-names_fit : (role : Role) (p above : PlainOrder) (a : Algorithm) → IsValid (raw_tbs_certificate arc_bound) (ordered_part role p above a) → FitsFor role p
+names_fit : (role : Role) (p above : PlainOrder) (a : Algorithm) → IsValid (raw_tbs_certificate Bound) (ordered_part role p above a) → FitsFor role p
 names_fit roles.Root p above a v = tt
 names_fit roles.Subordinate p above a v = tt
 names_fit roles.Subscriber p above a v = subscriber_fits p above a v
 
-part_valid : (c : PlainCertificate) → IsValid (raw_certificate arc_bound) c → IsValid (raw_tbs_certificate arc_bound) (tbs c)
+part_valid : (c : PlainCertificate) → IsValid (raw_certificate Bound) c → IsValid (raw_tbs_certificate Bound) (tbs c)
 unfolding IsValid IsContent IsBody
 part_valid c v = v.0.0
 
 -- What a certificate says that holds an order.
 module _ (ps : List PlainOrder) (cs : List PlainCertificate) (place : ℕ) (h : IsHeldAt ps cs place) where
-  pub fits : IsValid (raw_certificate arc_bound) h.certificate → FitsFor (role_at (length ps) place) h.order
+  pub fits : IsValid (raw_certificate Bound) h.certificate → FitsFor (role_at (length ps) place) h.order
   fits v =
       names_fit (role_at (length ps) place) h.order h.above (outer_algorithm h.certificate)
-      (subst (λ (t : Tbs). IsValid (raw_tbs_certificate arc_bound) t) h.part (part_valid h.certificate v))
+      (subst (λ (t : Tbs). IsValid (raw_tbs_certificate Bound) t) h.part (part_valid h.certificate v))
 
   pub extensions_are : extensions_of h.certificate ≡ extensions_for (role_at (length ps) place) h.order h.above.key
   extensions_are = ap (λ (t : Tbs). option_map_or (λ es. es) t.1.1.1.1.1.1.1.1.1.0 []) h.part

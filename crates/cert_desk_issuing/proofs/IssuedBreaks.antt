@@ -1,10 +1,10 @@
 -- Which rules a chain that holds orders can break, and where.
 use Rattle.std.proofs.Common.{◌≡◌, ◌⊎◌, ℕ, zero, suc, ◌+◌, ◌-◌, ◌<◌, ◌≤◌, ◌^◌, List, ◌∷◌, length, Bool, true, false, not, ◌&&◌, ◌||◌, Some, slice_get, refl, sym, ap, ◌∙◌, subst, arith, inl, inr}
 use Rattle.std.proofs.lemmas.Bool.{both_ways, leb-false}
+use Rattle.const_oid.specs.Bound.{Bound}
 use Rattle.der_core_head.specs.Limits.{length_max}
 use Rattle.cert_desk_checking.specs.Names.TimeTypes.Seconds.{unix_seconds}
 use Rattle.cert_desk_checking.specs.Certificates.{PlainCertificate}
-use Rattle.cert_desk_checking.specs.Views.{arc_bound}
 use Rattle.cert_desk_checking.specs.declared.rule.Rule.{Rule}
 use Rattle.cert_desk_checking.specs.declared.rule.Rule.TheVariants as rules
 use Rattle.cert_desk_checking.specs.Judging.{Answers, keeps_at}
@@ -31,10 +31,10 @@ one_fails : (a b : Bool) → (a && b) ≡ false → (a ≡ false) ⊎ (b ≡ fal
 one_fails false b e = inl refl
 one_fails true b e = inr e
 
-broken_length : (cs : List PlainCertificate) (n other : ℕ) → keep_lengths arc_bound cs n other ≡ false → (place : ℕ) × (place < n) × (keeps_length arc_bound cs place other ≡ false)
+broken_length : (cs : List PlainCertificate) (n other : ℕ) → keep_lengths Bound cs n other ≡ false → (place : ℕ) × (place < n) × (keeps_length Bound cs place other ≡ false)
 broken_length cs zero other e = absurd cc
 broken_length cs (suc n) other e =
-    elim (one_fails (keep_lengths arc_bound cs n other) (keeps_length arc_bound cs n other) e) [
+    elim (one_fails (keep_lengths Bound cs n other) (keeps_length Bound cs n other) e) [
       | inl before ↦ let found = broken_length cs n other before in let lt = found.1 in (found.0, omega (arith, lt), found.2)
       | inr here ↦ (n, omega arith, here)
     ]
@@ -45,9 +45,9 @@ module _ (root : PlainOrder) (below : List PlainOrder) (cs : List PlainCertifica
   against_purpose zero p e = absurd cc
   against_purpose (suc place) p e = (omega arith, sym (below_allows (length (root ∷ below)) place purpose p) ∙ e)
 
-  too_far : (place : ℕ) → place < length cs → is_within_lengths arc_bound cs place ≡ false → IsTooFar (root ∷ below) place
+  too_far : (place : ℕ) → place < length cs → is_within_lengths Bound cs place ≡ false → IsTooFar (root ∷ below) place
   too_far place lt e =
-      let both = neither (counts arc_bound cs place) (keep_lengths arc_bound cs place place) e in
+      let both = neither (counts Bound cs place) (keep_lengths Bound cs place place) e in
       let found = broken_length cs place place both.1 in
       let before = found.0 in
       let earlier = found.1 in
@@ -88,7 +88,7 @@ module _ (root : PlainOrder) (below : List PlainOrder) (cs : List PlainCertifica
 pub held_is_refused_for : HeldIsRefusedFor
 held_is_refused_for root below cs stream limit moment purpose answers place rule h r =
     let most = limit + length_max in
-    let same = one_chain arc_bound most r.certificates cs stream (wider_chain limit most r.certificates stream (omega arith) r.chain) (wider_chain length_max most cs stream (omega arith) h.chain) in
+    let same = one_chain Bound most r.certificates cs stream (wider_chain limit most r.certificates stream (omega arith) r.chain) (wider_chain length_max most cs stream (omega arith) h.chain) in
     breaks root below cs stream moment purpose answers h rule place
     (subst (λ ds. place < length ds) same r.within)
     (subst (λ ds. keeps_at rule (terms_for root moment purpose answers) ds stream place ≡ false) same r.broken)

@@ -5,6 +5,7 @@ use Rattle.std.specs.List.{AllByRecursion, flat_map}
 use Rattle.std.proofs.lemmas.Bool.{cases_lt}
 use Rattle.std.proofs.lemmas.Grind.{flat_map-append}
 use Rattle.std.proofs.lemmas.List.{append-nil}
+use Rattle.const_oid.specs.Bound.{Bound}
 use Rattle.der_core_head.specs.Limits.{length_max}
 use Rattle.der_core_head.proofs.Fits.{valid_fits}
 use Rattle.der_core_head.specs.BitStrings.{Bits}
@@ -12,7 +13,6 @@ use Rattle.der_core_head.specs.Grammar.{plain_list}
 use Rattle.der_core_head.specs.Heads.{Fits}
 use Rattle.der_core_head.specs.Shapes.{IsValid}
 use Rattle.cert_desk_checking.specs.Certificates.{Algorithm, PlainCertificate, PublicKey, certificate_octets, outer_algorithm, raw_certificate, signature_bits, tbs}
-use Rattle.cert_desk_checking.specs.Views.{arc_bound}
 use Rattle.cert_desk_checking.specs.Chains.{Chain, Stands, joined}
 use Rattle.cert_desk_orders.specs.declared.order.Order.{Order}
 use Rattle.cert_desk_issuing.specs.declared.accepted.Accepted.{Accepted}
@@ -33,8 +33,8 @@ use Rattle.cert_desk_issuing.proofs.AcceptedFronts.{before_or_last, front_at, la
 pub record IsFront {S : Type 0} (algorithm : S → Algorithm) (signs : S → List ℕ → Bits → Type 0) (ps : List PlainOrder) (signers : List S) (cs : List PlainCertificate) (stream : List ℕ) : Type 0 where
   pub held : HoldFront ps cs
   pub signed : AreSigned algorithm signs signers cs
-  pub each : AllByRecursion (Stands arc_bound length_max) cs
-  pub joins : stream ≡ joined arc_bound cs
+  pub each : AllByRecursion (Stands Bound length_max) cs
+  pub joins : stream ≡ joined Bound cs
 
 pub issued_none : {S : Type 0} (algorithm : S → Algorithm) (signs : S → List ℕ → Bits → Type 0) (ps : List PlainOrder) (signers : List S) → IsFront algorithm signs ps signers [] []
 issued_none algorithm signs ps signers = record {
@@ -94,7 +94,7 @@ module _ {S : Type 0} (algorithm : S → Algorithm) (signs : S → List ℕ → 
   }
 
   pub issued_more : (stream octets : List ℕ) → IsFront algorithm signs ps signers cs stream → IsOrderedAt ps (length cs) c → IsSignedBy algorithm signs signers (length cs) c
-      → Stands arc_bound length_max c → octets ≡ certificate_octets arc_bound c → IsFront algorithm signs ps signers (cs ++ c ∷ []) (stream ++ octets)
+      → Stands Bound length_max c → octets ≡ certificate_octets Bound c → IsFront algorithm signs ps signers (cs ++ c ∷ []) (stream ++ octets)
   issued_more stream octets front ordered signed stands same = record {
     held = λ place lt. elim (cases_lt place (length cs)) [
       | inl low ↦ held_there ps cs c place (front.held place low)
@@ -104,16 +104,16 @@ module _ {S : Type 0} (algorithm : S → Algorithm) (signs : S → List ℕ → 
       | inl low ↦ signed_there place (front.signed place low)
       | inr high ↦ subst (λ n. IsSignedAt algorithm signs signers (cs ++ c ∷ []) n) (before_or_last cs c place lt high) (signed_last signed)
     ];
-    each = all_more (Stands arc_bound length_max) cs c front.each stands;
+    each = all_more (Stands Bound length_max) cs c front.each stands;
     joins = ap (λ w. w ++ octets) front.joins
-        ∙ ap (λ w. joined arc_bound cs ++ w) (same ∙ sym (append-nil (certificate_octets arc_bound c)))
-        ∙ sym (flat_map-append (certificate_octets arc_bound) cs (c ∷ []));
+        ∙ ap (λ w. joined Bound cs ++ w) (same ∙ sym (append-nil (certificate_octets Bound c)))
+        ∙ sym (flat_map-append (certificate_octets Bound) cs (c ∷ []));
   }
 
 -- the same of what code has of certificates
 pub made_more : {S : Type 0} (algorithm : S → Algorithm) (signs : S → List ℕ → Bits → Type 0) (ps : List PlainOrder) (signers : List S) {C : Type 0} (plain : C → PlainCertificate) (xs ys : List C) (x : C) (place : ℕ) (stream longer octets : List ℕ)
     → ys ≡ xs ++ x ∷ [] → longer ≡ stream ++ octets → length xs ≡ place → IsFront algorithm signs ps signers (plain_list plain xs) stream
-    → IsOrderedAt ps place (plain x) → IsSignedBy algorithm signs signers place (plain x) → Stands arc_bound length_max (plain x) → octets ≡ certificate_octets arc_bound (plain x)
+    → IsOrderedAt ps place (plain x) → IsSignedBy algorithm signs signers place (plain x) → Stands Bound length_max (plain x) → octets ≡ certificate_octets Bound (plain x)
     → (length ys ≡ place + 1) × IsFront algorithm signs ps signers (plain_list plain ys) longer
 made_more algorithm signs ps signers plain xs ys x place stream longer octets e f n front ordered signed stands same =
     let count : length (xs ++ x ∷ []) ≡ place + 1 = omega (arith, n, length-append xs (x ∷ [])) in
@@ -164,12 +164,12 @@ pub signed_at : {S : Type 0} (algorithm : S → Algorithm) (signs : S → List �
 signed_at algorithm signs signers place s s_is (Ok m) a b = record { signer = s; signer_is = s_is; algorithm_is = a; signed = b }
 signed_at algorithm signs signers place s s_is (Err t) a b = tt
 
-within_all : (c : PlainCertificate) → IsValid (raw_certificate arc_bound) c → Stands arc_bound length_max c
+within_all : (c : PlainCertificate) → IsValid (raw_certificate Bound) c → Stands Bound length_max c
 within_all c v =
-    let fits : Fits (certificate_octets arc_bound c) = valid_fits (raw_certificate arc_bound) c v in
+    let fits : Fits (certificate_octets Bound c) = valid_fits (raw_certificate Bound) c v in
     record { valid = v; within = omega (arith, fits) }
 
-pub stands_at : (r : Result Made Stop) → IfOk r (λ m. IsValid (raw_certificate arc_bound) (made_plain m)) → IfOk r (λ m. Stands arc_bound length_max (made_plain m))
+pub stands_at : (r : Result Made Stop) → IfOk r (λ m. IsValid (raw_certificate Bound) (made_plain m)) → IfOk r (λ m. Stands Bound length_max (made_plain m))
 stands_at (Ok m) v = within_all (made_plain m) v
 stands_at (Err t) v = tt
 

@@ -22,7 +22,6 @@ use Rattle.der_core_head.specs.Tags.{context, tag_octets}
 use Rattle.der_core_head.specs.Octets.{IsOctets}
 use Rattle.cert_desk_checking.specs.Builders.{authority_key_extension, authority_uses, constraints_extension, digital_signature, purposes, purposes_extension, subject_key_extension, usage_extension}
 use Rattle.cert_desk_checking.specs.Certificates.{PlainName, PublicKey}
-use Rattle.cert_desk_checking.specs.Views.{arc_bound}
 use Rattle.cert_desk_checking.specs.Extensions.{general_name, general_names}
 use Rattle.cert_desk_checking.specs.Parts.{number_of}
 use Rattle.cert_desk_issuing.specs.Ordered.{dns_names, names_extension}
@@ -40,7 +39,7 @@ usage_valid : (n : ℕ) → n < 2 ^ 9 → length (named_octets n) < 128 → IsVa
 unfolding IsValid IsContent contents tlv head_octets length_octets tag_octets
 usage_valid n h short = (h, lit≤ tt, rw (lt-ltb (length (named_octets n)) 128 short) (omega (arith, short)))
 
-pub usage_says : (n : ℕ) → n < 2 ^ 9 → length (named_octets n) < 128 → weigh arc_bound (usage_extension n) ≡ uses n
+pub usage_says : (n : ℕ) → n < 2 ^ 9 → length (named_octets n) < 128 → weigh Bound (usage_extension n) ≡ uses n
 unfolding identifier_octets arc_octets digits digits_within marked
 usage_says n h short = said key_usage uses n refl refl (usage_valid n h short)
 
@@ -53,22 +52,22 @@ authority_small : (answers : Bool) → authority_uses answers < 2 ^ 9
 authority_small true = lit< tt
 authority_small false = lit< tt
 
-pub authority_says : (answers : Bool) → weigh arc_bound (usage_extension (authority_uses answers)) ≡ uses (authority_uses answers)
+pub authority_says : (answers : Bool) → weigh Bound (usage_extension (authority_uses answers)) ≡ uses (authority_uses answers)
 authority_says answers = usage_says (authority_uses answers) (authority_small answers) (authority_short answers)
 
 signature_short : length (named_octets digital_signature) < 128
 unfolding named_octets set_octets digits digits_within
 signature_short = lit< tt
 
-pub signature_says : weigh arc_bound (usage_extension digital_signature) ≡ uses digital_signature
+pub signature_says : weigh Bound (usage_extension digital_signature) ≡ uses digital_signature
 signature_says = usage_says digital_signature (lit< tt) signature_short
 
 -- the identifiers of keys aren't weighed
-pub authority_key_says : (k : PublicKey) → weigh arc_bound (authority_key_extension k) ≡ unweighed
+pub authority_key_says : (k : PublicKey) → weigh Bound (authority_key_extension k) ≡ unweighed
 unfolding identifier_octets arc_octets digits digits_within marked
 authority_key_says k = refl
 
-pub subject_key_says : (k : PublicKey) → weigh arc_bound (subject_key_extension k) ≡ unweighed
+pub subject_key_says : (k : PublicKey) → weigh Bound (subject_key_extension k) ≡ unweighed
 unfolding identifier_octets arc_octets digits digits_within marked
 subject_key_says k = refl
 
@@ -123,7 +122,7 @@ same_path : (p : Option ℕ) → plain_option unsigned_abs (plain_option (λ n. 
 same_path None = refl
 same_path (Some n) = refl
 
-pub constraints_say : (ca : Bool) (p : Option ℕ) → IfSome p (λ n. n < 2 ^ 8) → weigh arc_bound (constraints_extension ca (plain_option (λ n. pos n) p)) ≡ constraints ca p
+pub constraints_say : (ca : Bool) (p : Option ℕ) → IfSome p (λ n. n < 2 ^ 8) → weigh Bound (constraints_extension ca (plain_option (λ n. pos n) p)) ≡ constraints ca p
 unfolding identifier_octets arc_octets digits digits_within marked
 constraints_say ca p h =
     said basic_constraints constraints_of (ca, (plain_option (λ n. pos n) p, tt)) refl refl (constraints_valid ca p h)
@@ -131,7 +130,7 @@ constraints_say ca p h =
 
 -- ExtendedKeyUsage
 
-purposes_valid : (clients : Bool) → IsValid (extended_key_usage arc_bound) (purposes clients)
+purposes_valid : (clients : Bool) → IsValid (extended_key_usage Bound) (purposes clients)
 unfolding IsValid IsContent IsBody contents body_octets octets_of tlv head_octets length_octets tag_octets IsIdentifier identifier_octets arc_octets digits digits_within marked Bound
 purposes_valid true = (
   (
@@ -144,9 +143,9 @@ purposes_valid true = (
 purposes_valid false =
     (((((lit≤ tt, lit< tt, (lit< tt, (lit< tt, (lit< tt, (lit< tt, (lit< tt, (lit< tt, (lit< tt, tt)))))))), lit≤ tt), lit≤ tt, lit< tt), tt), lit≤ tt, lit< tt)
 
-pub purposes_say : (clients : Bool) → weigh arc_bound (purposes_extension clients) ≡ weighing.purposes (purposes clients)
+pub purposes_say : (clients : Bool) → weigh Bound (purposes_extension clients) ≡ weighing.purposes (purposes clients)
 unfolding identifier_octets arc_octets digits digits_within marked
-purposes_say clients = said (extended_key_usage arc_bound) weighing.purposes (purposes clients) refl refl (purposes_valid clients)
+purposes_say clients = said (extended_key_usage Bound) weighing.purposes (purposes clients) refl refl (purposes_valid clients)
 
 -- SubjectAltName
 
@@ -157,23 +156,23 @@ text_octets (o ∷ more) h =
     let low : o < 128 = ltb-true o 128 both.0 in
     (omega (arith, low), text_octets more both.1)
 
-names_fit : (dns : List (List ℕ)) → Fits (flat_map (λ n. octets_of (general_name arc_bound) n) (dns_names dns)) → list_all (λ text. list_all (λ o. nat_lt o 128) text) dns ≡ true
-    → AllByRecursion (λ n. IsValid (general_name arc_bound) n) (dns_names dns)
+names_fit : (dns : List (List ℕ)) → Fits (flat_map (λ n. octets_of (general_name Bound) n) (dns_names dns)) → list_all (λ text. list_all (λ o. nat_lt o 128) text) dns ≡ true
+    → AllByRecursion (λ n. IsValid (general_name Bound) n) (dns_names dns)
 unfolding IsValid IsContent octets_of contents
 names_fit [] fits ascii = tt
 names_fit (text ∷ more) fits ascii =
     let both = and_parts (list_all (λ o. nat_lt o 128) text) (list_all (λ t. list_all (λ o. nat_lt o 128) t) more) ascii in
     let first = tlv (context false 2) text in
-    let rest = flat_map (λ n. octets_of (general_name arc_bound) n) (dns_names more) in
+    let rest = flat_map (λ n. octets_of (general_name Bound) n) (dns_names more) in
     ((record { within = both.0; octets = text_octets text both.0 }, lit≤ tt, fits_front first rest (first ++ rest) refl fits), names_fit more (fits_rest first rest (first ++ rest) refl fits) both.1)
 
-names_valid : (dns : List (List ℕ)) → Fits (octets_of (general_names arc_bound) (dns_names dns)) → list_all (λ text. list_all (λ o. nat_lt o 128) text) dns ≡ true
-    → IsValid (general_names arc_bound) (dns_names dns)
+names_valid : (dns : List (List ℕ)) → Fits (octets_of (general_names Bound) (dns_names dns)) → list_all (λ text. list_all (λ o. nat_lt o 128) text) dns ≡ true
+    → IsValid (general_names Bound) (dns_names dns)
 unfolding IsValid IsContent IsBody octets_of contents body_octets
 names_valid dns fits ascii =
-    (names_fit dns (fits_contents tags.Sequence (flat_map (λ n. octets_of (general_name arc_bound) n) (dns_names dns)) fits) ascii, lit≤ tt, fits)
+    (names_fit dns (fits_contents tags.Sequence (flat_map (λ n. octets_of (general_name Bound) n) (dns_names dns)) fits) ascii, lit≤ tt, fits)
 
-pub names_say : (subject : PlainName) (dns : List (List ℕ)) → Fits (octets_of (general_names arc_bound) (dns_names dns)) → list_all (λ text. list_all (λ o. nat_lt o 128) text) dns ≡ true
-    → weigh arc_bound (names_extension subject dns) ≡ other_names (dns_names dns)
+pub names_say : (subject : PlainName) (dns : List (List ℕ)) → Fits (octets_of (general_names Bound) (dns_names dns)) → list_all (λ text. list_all (λ o. nat_lt o 128) text) dns ≡ true
+    → weigh Bound (names_extension subject dns) ≡ other_names (dns_names dns)
 unfolding identifier_octets arc_octets digits digits_within marked
-names_say subject dns fits ascii = said (general_names arc_bound) other_names (dns_names dns) refl refl (names_valid dns fits ascii)
+names_say subject dns fits ascii = said (general_names Bound) other_names (dns_names dns) refl refl (names_valid dns fits ascii)

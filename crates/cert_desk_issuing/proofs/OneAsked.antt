@@ -1,6 +1,7 @@
 -- Orders that are accepted ask for one thing, and no reason to refuse one of them holds.
 use Rattle.std.proofs.Common.{◌≡◌, ℕ, ◌<◌, ◌≤◌, List, [], ◌∷◌, length, true, false, Option, Some, None, refl, sym, ap, ◌∙◌, subst, arith, inl, inr, ◌⊎◌, slice_get, string_bytes}
 use Rattle.std.proofs.lemmas.Option.{same_Some, slice_get_within}
+use Rattle.const_oid.specs.Bound.{Bound}
 use Rattle.der_core_head.specs.Dates.{Civil}
 use Rattle.der_core_head.specs.Grammar.{plain_list}
 use Rattle.der_core_head.specs.Shapes.{IsBody, IsContent, IsValid}
@@ -9,7 +10,7 @@ use Rattle.cert_desk_checking.specs.Names.TimeTypes.Seconds.{unix_seconds}
 use Rattle.cert_desk_checking.specs.Certificates.{Algorithm, PlainName, PublicKey, name}
 use Rattle.cert_desk_checking.specs.Parts.{civil_of, tbs_certificate, time_of}
 use Rattle.cert_desk_checking.specs.Texts.{SpellsName}
-use Rattle.cert_desk_checking.specs.Views.{arc_bound, key_plain}
+use Rattle.cert_desk_checking.specs.Views.{key_plain}
 use Rattle.cert_desk_orders.specs.Grammar.{PlainValidity, not_after, not_before}
 use Rattle.cert_desk_orders.specs.declared.order.Order.{Order}
 use Rattle.cert_desk_issuing.specs.declared.fault.Fault.{Fault}
@@ -24,11 +25,11 @@ use Rattle.cert_desk_issuing.specs.Roles.{role_at}
 use Rattle.cert_desk_issuing.proofs.OneName.{one_spelled, spelled_stands}
 
 -- what has an encoding where a signed part has one
-pub subject_valid : (role : Role) (p above : PlainOrder) (a : Algorithm) → IsValid (tbs_certificate arc_bound None) (ordered_part role p above a) → IsValid (name arc_bound) p.subject
+pub subject_valid : (role : Role) (p above : PlainOrder) (a : Algorithm) → IsValid (tbs_certificate Bound None) (ordered_part role p above a) → IsValid (name Bound) p.subject
 unfolding IsValid IsContent IsBody
 subject_valid role p above a v = v.0.1.1.1.1.1.0
 
-pub issuer_valid : (role : Role) (p above : PlainOrder) (a : Algorithm) → IsValid (tbs_certificate arc_bound None) (ordered_part role p above a) → IsValid (name arc_bound) above.subject
+pub issuer_valid : (role : Role) (p above : PlainOrder) (a : Algorithm) → IsValid (tbs_certificate Bound None) (ordered_part role p above a) → IsValid (name Bound) above.subject
 unfolding IsValid IsContent IsBody
 issuer_valid role p above a v = v.0.1.1.1.0
 
@@ -86,7 +87,7 @@ name_stands role n faults.Dates h r = absurd r
 name_stands role n faults.DnsName h r = absurd r
 name_stands role n faults.KeyMismatch h r = absurd r
 
-module _ (role : Role) (key : Option PublicKey) (o : Order) (p : PlainOrder) (a : IsAccepted role key o p) (valid : IsValid (name arc_bound) p.subject) where
+module _ (role : Role) (key : Option PublicKey) (o : Order) (p : PlainOrder) (a : IsAccepted role key o p) (valid : IsValid (name Bound) p.subject) where
   -- what an order asks for
   pub one_order : (q : PlainOrder) → IsAccepted role key o q → p ≡ q
   one_order q b =
@@ -100,7 +101,7 @@ module _ (role : Role) (key : Option PublicKey) (o : Order) (p : PlainOrder) (a 
       let answers = a.answers_is ∙ sym b.answers_is in
       λ i. record { subject = subject i; serial = serial i; validity = validity i; key = same_key i; path = path i; dns = dns i; clients = clients i; answers = answers i }
 
-  named : (n : PlainName) → SpellsName (string_bytes o.name) n → IsNamedFor role n
+  named : (n : PlainName) → SpellsName Bound (string_bytes o.name) n → IsNamedFor role n
   named n s = subst (λ x. IsNamedFor role x) (one_spelled (string_bytes o.name) p.subject n a.name s valid) a.naming
 
   -- and that it isn't refused
@@ -116,7 +117,7 @@ module _ (role : Role) (key : Option PublicKey) (o : Order) (p : PlainOrder) (a 
   order_stands faults.OutOfMemory r = refl
 
 -- the same at a place
-module _ (orders : List Order) (keys : List PublicKey) (place : ℕ) (p : PlainOrder) (a : IsAcceptedAt orders keys place p) (valid : IsValid (name arc_bound) p.subject) where
+module _ (orders : List Order) (keys : List PublicKey) (place : ℕ) (p : PlainOrder) (a : IsAcceptedAt orders keys place p) (valid : IsValid (name Bound) p.subject) where
   pub one_at : (q : PlainOrder) → IsAcceptedAt orders keys place q → p ≡ q
   one_at q b =
       let role = role_at (length orders) place in

@@ -6,6 +6,7 @@ use Rattle.std.specs.Cmp.Lexicographic.{pointwise, bytes_decides, nat_list_eq_eq
 use Rattle.std.specs.Option.{option_eq}
 use Rattle.std.proofs.lemmas.Bool.{and_parts}
 use Rattle.const_oid.proofs.PrefixLaws.{same_octets}
+use Rattle.const_oid.specs.Bound.{Bound}
 use Rattle.const_oid.specs.IdentifierOctets.{IsIdentifier, identifier_octets}
 use Rattle.der_core_head.proofs.TagLaws.{same_tag-eq}
 use Rattle.der_core_head.specs.BitStrings.{Bits, bit_contents}
@@ -14,7 +15,6 @@ use Rattle.der_core_head.specs.Grammar.{plain_option}
 use Rattle.der_core_head.specs.Shapes.{AnyValue}
 use Rattle.der_core_head.specs.Tags.{leading_octet, number_of}
 use Rattle.cert_desk_checking.specs.Certificates.{PublicKey}
-use Rattle.cert_desk_checking.specs.Views.{arc_bound}
 use Rattle.cert_desk_checking.specs.Names.Values.{any_key}
 
 abbrev pub any_eq : AnyValue → AnyValue → Bool
@@ -54,11 +54,11 @@ one_bits x y e =
     let octets : x.octets ≡ y.octets = cc in
     λ i. record { unused = unused i; octets = octets i }
 
-pub one_key : (a b : List ℕ) (p q : Option AnyValue) (x y : Bits) → IsIdentifier arc_bound a → IsIdentifier arc_bound b → same_parts a b p q x y ≡ true → key_by a p x ≡ key_by b q y
+pub one_key : (a b : List ℕ) (p q : Option AnyValue) (x y : Bits) → IsIdentifier Bound a → IsIdentifier Bound b → same_parts a b p q x y ≡ true → key_by a p x ≡ key_by b q y
 one_key a b p q x y left right e =
     let whole = and_parts (pointwise nat_eq (identifier_octets a) (identifier_octets b) && option_eq any_eq p q) (pointwise nat_eq (bit_contents x) (bit_contents y)) e in
     let algorithm = and_parts (pointwise nat_eq (identifier_octets a) (identifier_octets b)) (option_eq any_eq p q) whole.0 in
-    let arcs : a ≡ b = same_octets arc_bound a b left right ((bytes_decides (identifier_octets a) (identifier_octets b)).0 algorithm.0) in
+    let arcs : a ≡ b = same_octets Bound a b left right ((bytes_decides (identifier_octets a) (identifier_octets b)).0 algorithm.0) in
     let parameters : p ≡ q = one_parameters p q algorithm.1 in
     let bits : x ≡ y = one_bits x y whole.1 in
     rw (arcs, parameters, bits) refl

@@ -2,7 +2,6 @@
 use Rattle.std.proofs.Common.{◌≡◌, ℕ, ◌<◌, List, ◌∷◌, length, map, Some, slice_get, sym, ap, ◌∙◌}
 use Rattle.std.proofs.lemmas.Option.{slice_get_within}
 use Rattle.cert_desk_checking.specs.Certificates.{PlainCertificate, extensions_of}
-use Rattle.cert_desk_checking.specs.Views.{arc_bound}
 use Rattle.cert_desk_checking.specs.Judging.{signed_part}
 use Rattle.cert_desk_checking.proofs.Encodings.{signed_part-is}
 use Rattle.cert_desk_issuing.specs.Laws.{SaysAsOrdered, SignedIsSliced}
@@ -13,9 +12,10 @@ use Rattle.cert_desk_issuing.proofs.Held.{extensions_are}
 use Rattle.cert_desk_issuing.proofs.Places.{some_same}
 use Rattle.cert_desk_issuing.proofs.Told.{told_is}
 use Rattle.cert_desk_issuing.proofs.Trusting.{fits_at}
+use Rattle.const_oid.specs.Bound.{Bound}
 
 pub signed_is_sliced : SignedIsSliced
-signed_is_sliced ps cs stream place c h c_is = ap (λ s. signed_part arc_bound cs s place c) h.chain.joins ∙ signed_part-is arc_bound cs place c c_is
+signed_is_sliced ps cs stream place c h c_is = ap (λ s. signed_part Bound cs s place c) h.chain.joins ∙ signed_part-is Bound cs place c c_is
 
 pub says_as_ordered : SaysAsOrdered
 says_as_ordered root below cs stream place p c h p_is c_is =

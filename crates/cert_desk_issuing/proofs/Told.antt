@@ -1,6 +1,7 @@
 -- What all extensions of an ordered certificate say, and what the rules find in it.
 use Rattle.std.proofs.Common.{◌≡◌, ◌≢◌, ℕ, ◌<◌, ◌^◌, List, [], ◌∷◌, map, length, Bool, true, false, not, ◌&&◌, ◌||◌, Option, Some, None, refl, sym, ap, ◌∙◌, arith, ◌==◌}
 use Rattle.std.specs.List.{list_all, list_any}
+use Rattle.const_oid.specs.Bound.{Bound}
 use Rattle.const_oid.specs.Comparing.{owned_eq}
 use Rattle.const_oid.specs.Digits.{digits, digits_within, marked}
 use Rattle.const_oid.specs.IdentifierOctets.{identifier_octets, arc_octets}
@@ -9,7 +10,6 @@ use Rattle.der_core_head.specs.Shapes.{octets_of}
 use Rattle.cert_desk_checking.specs.Builders.{authority_key_extension, authority_uses, constraints_extension, digital_signature, purposes_extension, subject_key_extension, usage_extension}
 use Rattle.cert_desk_checking.specs.Builders as profiles
 use Rattle.cert_desk_checking.specs.Certificates.{PlainExtension, PublicKey, is_critical}
-use Rattle.cert_desk_checking.specs.Views.{arc_bound}
 use Rattle.cert_desk_checking.specs.Extensions.{general_names}
 use Rattle.cert_desk_checking.specs.Judging.{are_distinct}
 use Rattle.cert_desk_checking.specs.Paths.{is_within}
@@ -27,7 +27,7 @@ use Rattle.cert_desk_issuing.proofs.Meanings.{authority_key_says, authority_says
 abbrev pub FitsFor : Role → PlainOrder → Type 0
 FitsFor roles.Root p = Unit {0}
 FitsFor roles.Subordinate p = Unit {0}
-FitsFor roles.Subscriber p = Fits (octets_of (general_names arc_bound) (dns_names p.dns))
+FitsFor roles.Subscriber p = Fits (octets_of (general_names Bound) (dns_names p.dns))
 
 told_by : (critical : Bool) (m n : Meaning) (more rest : List Told) → m ≡ n → more ≡ rest → (critical, m) ∷ more ≡ (critical, n) ∷ rest
 told_by critical m n more rest e f = ap (λ (x : Meaning). (critical, x) ∷ more) e ∙ ap (λ xs. (critical, n) ∷ xs) f
@@ -84,7 +84,7 @@ module _ (role : Role) (p : PlainOrder) (k : PublicKey) (right : IsRight role p)
   none_malformed roles.Subordinate = refl
   none_malformed roles.Subscriber = refl
 
-  pub well_formed : list_any (λ e. is_malformed (weigh arc_bound e)) (extensions_for role p k) ≡ false
+  pub well_formed : list_any (λ e. is_malformed (weigh Bound e)) (extensions_for role p k) ≡ false
   well_formed = any_is (λ t. is_malformed t.1) ∙ none_malformed role
 
   no_and : (b : Bool) → (b && false) ≡ false
@@ -96,7 +96,7 @@ module _ (role : Role) (p : PlainOrder) (k : PublicKey) (right : IsRight role p)
   none_unweighed roles.Subordinate = refl
   none_unweighed roles.Subscriber = ap (λ b. b || false) (no_and (length p.subject == 0))
 
-  pub all_weighed : list_any (is_unweighed_critical arc_bound) (extensions_for role p k) ≡ false
+  pub all_weighed : list_any (is_unweighed_critical Bound) (extensions_for role p k) ≡ false
   all_weighed = any_is (λ t. t.0 && is_unweighed t.1) ∙ none_unweighed role
 
   certifying : (answers : Bool) → may_certify (uses (authority_uses answers)) ≡ true
@@ -110,9 +110,9 @@ module _ (role : Role) (p : PlainOrder) (k : PublicKey) (right : IsRight role p)
 
   -- a root's certificate and those between are authorities', whose keys may sign certificates
   pub authority : role ≢ roles.Subscriber
-      → (list_any (λ e. is_authority (weigh arc_bound e)) (extensions_for role p k) && list_all (λ e. may_certify (weigh arc_bound e)) (extensions_for role p k)) ≡ true
+      → (list_any (λ e. is_authority (weigh Bound e)) (extensions_for role p k) && list_all (λ e. may_certify (weigh Bound e)) (extensions_for role p k)) ≡ true
   authority other =
-      ap (λ b. b && list_all (λ e. may_certify (weigh arc_bound e)) (extensions_for role p k)) (any_is (λ t. is_authority t.1))
+      ap (λ b. b && list_all (λ e. may_certify (weigh Bound e)) (extensions_for role p k)) (any_is (λ t. is_authority t.1))
       ∙ ap (λ b. list_any (λ (t : Told). is_authority t.1) (told_for role p) && b) (all_is (λ t. may_certify t.1))
       ∙ authority_by role other
 
@@ -122,7 +122,7 @@ module _ (role : Role) (p : PlainOrder) (k : PublicKey) (right : IsRight role p)
   lengths_by roles.Subscriber n = refl
 
   -- a path length is that of the order
-  pub lengths : (n : ℕ) → list_all (λ e. is_within n (path_length (weigh arc_bound e))) (extensions_for role p k) ≡ is_within n (path_in role p)
+  pub lengths : (n : ℕ) → list_all (λ e. is_within n (path_length (weigh Bound e))) (extensions_for role p k) ≡ is_within n (path_in role p)
   lengths n = all_is (λ t. is_within n (path_length t.1)) ∙ lengths_by role n
 
   -- purposes are those of the order
@@ -131,7 +131,7 @@ module _ (role : Role) (p : PlainOrder) (k : PublicKey) (right : IsRight role p)
   serves_by roles.Subordinate purpose = sym (and_yes (serves purpose (purposes (profiles.purposes p.clients)))) ∙ serving purpose p.clients
   serves_by roles.Subscriber purpose = sym (and_yes (serves purpose (purposes (profiles.purposes p.clients)))) ∙ serving purpose p.clients
 
-  pub serves_as : (purpose : List ℕ) → list_all (λ e. serves purpose (weigh arc_bound e)) (extensions_for role p k) ≡ allows_in role purpose p
+  pub serves_as : (purpose : List ℕ) → list_all (λ e. serves purpose (weigh Bound e)) (extensions_for role p k) ≡ allows_in role purpose p
   serves_as purpose = all_is (λ t. serves purpose t.1) ∙ serves_by role purpose
 
   distinct_by : (r : Role) → are_distinct (extensions_for r p k) ≡ true

@@ -3,10 +3,10 @@ use Rattle.std.proofs.Common.{◌≡◌, ℕ, zero, suc, ◌+◌, ◌-◌, ◌<�
 use Rattle.std.specs.List.{AllByRecursion, list_all}
 use Rattle.std.proofs.lemmas.Bool.{and_from, and_parts, le-leb, leb-true}
 use Rattle.std.proofs.lemmas.Option.{slice_get_within}
+use Rattle.const_oid.specs.Bound.{Bound}
 use Rattle.der_core_head.specs.Limits.{length_max}
 use Rattle.cert_desk_checking.specs.Names.TimeTypes.Seconds.{unix_seconds}
 use Rattle.cert_desk_checking.specs.Certificates.{PlainCertificate, certificate_octets, outer_algorithm, signature_bits, tbs}
-use Rattle.cert_desk_checking.specs.Views.{arc_bound}
 use Rattle.cert_desk_checking.specs.declared.rule.Rule.{Rule}
 use Rattle.cert_desk_checking.specs.declared.rule.Rule.TheVariants as rules
 use Rattle.cert_desk_checking.specs.Chains.{Chain, Stands}
@@ -27,16 +27,16 @@ use Rattle.cert_desk_issuing.proofs.Told.{allows_in}
 use Rattle.cert_desk_issuing.proofs.Trusting.{all_known, answer_at, authorities, begun, fits_at, in_length, lasting, linked, no_duplicate, none_malformed, one_algorithm, serving_at, signed_at}
 
 -- limits
-within_limit : (m limit : ℕ) (cs : List PlainCertificate) → AllByRecursion (Stands arc_bound m) cs
-    → ((place : ℕ) (c : PlainCertificate) → slice_get cs place ≡ Some c → length (certificate_octets arc_bound c) ≤ limit) → AllByRecursion (Stands arc_bound limit) cs
+within_limit : (m limit : ℕ) (cs : List PlainCertificate) → AllByRecursion (Stands Bound m) cs
+    → ((place : ℕ) (c : PlainCertificate) → slice_get cs place ≡ Some c → length (certificate_octets Bound c) ≤ limit) → AllByRecursion (Stands Bound limit) cs
 within_limit m limit [] all within = tt
 within_limit m limit (c ∷ cs) all within = (record { valid = all.0.valid; within = within 0 c refl }, within_limit m limit cs all.1 (λ place d e. within (suc place) d e))
 
-wider : (m limit : ℕ) (cs : List PlainCertificate) → m ≤ limit → AllByRecursion (Stands arc_bound m) cs → AllByRecursion (Stands arc_bound limit) cs
+wider : (m limit : ℕ) (cs : List PlainCertificate) → m ≤ limit → AllByRecursion (Stands Bound m) cs → AllByRecursion (Stands Bound limit) cs
 wider m limit [] le all = tt
 wider m limit (c ∷ cs) le all = (record { valid = all.0.valid; within = omega (arith, le, all.0.within) }, wider m limit cs le all.1)
 
-pub wider_chain : (m limit : ℕ) (cs : List PlainCertificate) (stream : List ℕ) → m ≤ limit → Chain arc_bound m cs stream → Chain arc_bound limit cs stream
+pub wider_chain : (m limit : ℕ) (cs : List PlainCertificate) (stream : List ℕ) → m ≤ limit → Chain Bound m cs stream → Chain Bound limit cs stream
 wider_chain m limit cs stream le chain = record { each = wider m limit cs le chain.each; joins = chain.joins; fits = chain.fits }
 
 -- each of a list passes a test
@@ -98,7 +98,7 @@ module _ (root : PlainOrder) (below : List PlainOrder) (cs : List PlainCertifica
   -- the certificates of the stream are these
   same_chain : (t : Trusted (terms_for root moment purpose answers) limit stream) → t.certificates ≡ cs
   same_chain t =
-      one_chain arc_bound (limit + length_max) t.certificates cs stream (wider_chain limit (limit + length_max) t.certificates stream (omega arith) t.chain)
+      one_chain Bound (limit + length_max) t.certificates cs stream (wider_chain limit (limit + length_max) t.certificates stream (omega arith) t.chain)
       (wider_chain length_max (limit + length_max) cs stream (omega arith) h.chain)
 
   kept_in : Trusted (terms_for root moment purpose answers) limit stream → (rule : Rule) (place : ℕ) → place < length cs → keeps_at rule (terms_for root moment purpose answers) cs stream place ≡ true
@@ -111,7 +111,7 @@ module _ (root : PlainOrder) (below : List PlainOrder) (cs : List PlainCertifica
 
   pub is_permitted : Trusted (terms_for root moment purpose answers) limit stream → Permits limit moment purpose answers (root ∷ below) cs
   is_permitted t = record {
-    within = λ place c e. (Stands-at arc_bound limit cs place c (subst (λ ds. AllByRecursion (Stands arc_bound limit) ds) (same_chain t) t.chain.each) e).within;
+    within = λ place c e. (Stands-at Bound limit cs place c (subst (λ ds. AllByRecursion (Stands Bound limit) ds) (same_chain t) t.chain.each) e).within;
     lasting = λ place p e.
         let lt = there place p e in
         let same = some_same (h.held place lt).order p (sym (h.held place lt).order_is ∙ e) in

@@ -2,6 +2,7 @@
 use Rattle.std.specs.Prelude.{◌≡◌, ℕ, ◌≤◌, ◌<◌, List, length, Bool, true, Option, Some, None, Ok, slice_get, string_bytes}
 use Rattle.std.specs.Bool.{⊤}
 use Rattle.std.specs.List.{list_all}
+use Rattle.const_oid.specs.Bound.{Bound}
 use Rattle.der_core_head.specs.Dates.{Civil, is_civil}
 use Rattle.der_core_head.specs.Grammar.{plain_list}
 use Rattle.cert_desk_checking.specs.Names.TimeTypes.DateTexts.{date_text}
@@ -50,7 +51,7 @@ IsKeyOf None k = ⊤
 
 -- The order is accepted in this role, and asks for this.
 pub record IsAccepted (role : Role) (signer_key : Option PublicKey) (o : Order) (p : PlainOrder) : Type 0 where
-  pub name : SpellsName (string_bytes o.name) p.subject
+  pub name : SpellsName Bound (string_bytes o.name) p.subject
   pub naming : IsNamedFor role p.subject
   pub serial : new_serial o.serial.items ≡ Ok p.serial
   pub dates : SpellDates (string_bytes o.not_before) (string_bytes o.not_after) p.validity

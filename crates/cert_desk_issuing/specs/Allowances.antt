@@ -2,11 +2,11 @@
 use Rattle.std.specs.Prelude.{◌≡◌, ℕ, zero, suc, ◌+◌, ◌-◌, ◌<◌, ◌≤◌, List, [], ◌∷◌, length, Bool, true, false, not, Option, Some, None, ◌==◌, ◌&&◌, ◌||◌, if◌then◌else◌, slice_get}
 use Rattle.std.specs.List.{list_all}
 use Rattle.std.specs.Option.{option_map_or}
+use Rattle.const_oid.specs.Bound.{Bound}
 use Rattle.const_oid.specs.Comparing.{owned_eq}
 use Rattle.cert_desk_checking.specs.Names.TimeTypes.Seconds.{unix_seconds}
 use Rattle.cert_desk_checking.specs.Builders.{id_kp}
 use Rattle.cert_desk_checking.specs.Certificates.{PlainName}
-use Rattle.cert_desk_checking.specs.Views.{arc_bound}
 use Rattle.cert_desk_checking.specs.Judging.{same_name}
 use Rattle.cert_desk_checking.specs.Paths.{is_within}
 use Rattle.cert_desk_issuing.specs.declared.role.Role.{Role}
@@ -32,7 +32,7 @@ subject_at ps place = option_map_or (λ p. p.subject) (slice_get ps place) []
 
 -- a place counts where it isn't last and has another name than the order before (4.2.1.9)
 abbrev pub counts_order : List PlainOrder → ℕ → Bool
-counts_order ps place = not ((place + 1) == length ps) && not (same_name arc_bound (subject_at ps (place_above place)) (subject_at ps place))
+counts_order ps place = not ((place + 1) == length ps) && not (same_name Bound (subject_at ps (place_above place)) (subject_at ps place))
 
 -- how many of n places count, from this one on
 abbrev pub counted_orders : List PlainOrder → ℕ → ℕ → ℕ

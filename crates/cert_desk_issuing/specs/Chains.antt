@@ -1,10 +1,10 @@
 -- Chains that were issued.
 use Rattle.std.specs.Prelude.{◌≡◌, ℕ, ◌-◌, ◌^◌, ◌<◌, List, length, map, Some, slice_get}
+use Rattle.const_oid.specs.Bound.{Bound}
 use Rattle.der_core_head.specs.Limits.{length_max}
 use Rattle.der_core_head.specs.BitStrings.{Bits}
 use Rattle.cert_desk_checking.specs.Certificates.{PlainCertificate, outer_algorithm, signature_bits, tbs}
 use Rattle.cert_desk_checking.specs.Certificates.{Algorithm, PublicKey}
-use Rattle.cert_desk_checking.specs.Views.{arc_bound}
 use Rattle.cert_desk_checking.specs.Chains.{Chain}
 use Rattle.cert_desk_orders.specs.declared.order.Order.{Order}
 use Rattle.cert_desk_issuing.specs.Acceptance.{AcceptedOrders}
@@ -58,7 +58,7 @@ AreSigned algorithm signs signers cs = (place : ℕ) → place < length cs → I
 -- One certificate for each of these orders, in turn, which holds it; and the stream joins them.
 pub record HoldsOrders (ps : List PlainOrder) (cs : List PlainCertificate) (stream : List ℕ) : Type 0 where
   pub count : length cs ≡ length ps
-  pub chain : Chain arc_bound length_max cs stream
+  pub chain : Chain Bound length_max cs stream
   pub held : HoldFront ps cs
 
 -- The orders are accepted, and the stream joins certificates that hold them, each signed by its signer.

@@ -1,11 +1,11 @@
 -- Orders of which a chain is issued, want of memory aside.
 use Rattle.std.specs.Prelude.{◌≡◌, ℕ, ◌<◌, List, length, map, None, Some, slice_get}
+use Rattle.const_oid.specs.Bound.{Bound}
 use Rattle.der_core_head.specs.BitStrings.{Bits}
 use Rattle.der_core_head.specs.Shapes.{IsValid}
 use Rattle.cert_desk_checking.specs.Certificates.{Algorithm, PublicKey, Tbs}
 use Rattle.cert_desk_checking.specs.Extensions.{general_names}
 use Rattle.cert_desk_checking.specs.Parts.{certificate, tbs_certificate}
-use Rattle.cert_desk_checking.specs.Views.{arc_bound}
 use Rattle.cert_desk_orders.specs.declared.order.Order.{Order}
 use Rattle.cert_desk_issuing.specs.declared.issue_error.IssueError.{IssueError}
 use Rattle.cert_desk_issuing.specs.declared.issue_error.IssueError.TheVariants as errors
@@ -17,9 +17,9 @@ use Rattle.cert_desk_issuing.specs.Roles.{place_above, role_at}
 
 -- No length passes 2^32 - 1: the names, the signed part and the certificate, whatever bits its signer may give, have encodings.
 pub record IsShort (signs : List ℕ → Bits → Type 0) (a : Algorithm) (dns : List (List ℕ)) (t : Tbs) : Type 0 where
-  pub names : IsValid (general_names arc_bound) (dns_names dns)
-  pub part : IsValid (tbs_certificate arc_bound None) t
-  pub whole : (bits : Bits) → signs (part_octets t) bits → IsValid (certificate arc_bound None) (t, (a, (bits, tt)))
+  pub names : IsValid (general_names Bound) (dns_names dns)
+  pub part : IsValid (tbs_certificate Bound None) t
+  pub whole : (bits : Bits) → signs (part_octets t) bits → IsValid (certificate Bound None) (t, (a, (bits, tt)))
 
 -- the signer at a place may not refuse what is ordered there, and no length passes
 pub record IsIssuableAt {S : Type 0} (algorithm : S → Algorithm) (signs : S → List ℕ → Bits → Type 0) (may_refuse : S → List ℕ → Type 0) (asked : List PlainOrder) (signers : List S) (place : ℕ) : Type 0 where

@@ -1,10 +1,10 @@
 -- What holds of every chain that was issued.
 use Rattle.std.specs.Prelude.{◌≡◌, ℕ, ◌+◌, ◌-◌, ◌≤◌, ◌<◌, List, [], ◌∷◌, length, map, true, false, Some, slice_get}
+use Rattle.const_oid.specs.Bound.{Bound}
 use Rattle.der_core_head.specs.BitStrings.{Bits}
 use Rattle.cert_desk_checking.specs.Names.TimeTypes.Seconds.{unix_seconds}
 use Rattle.cert_desk_checking.specs.Certificates.{PlainCertificate, certificate_octets, extensions_of, outer_algorithm, signature_bits, tbs}
 use Rattle.cert_desk_checking.specs.Certificates.{Algorithm, PublicKey}
-use Rattle.cert_desk_checking.specs.Views.{arc_bound}
 use Rattle.cert_desk_checking.specs.declared.rule.Rule.{Rule}
 use Rattle.cert_desk_checking.specs.declared.rule.Rule.TheVariants as rules
 use Rattle.cert_desk_checking.specs.Judging.{Answers, PlainAnchor, Terms, signed_part}
@@ -26,7 +26,7 @@ AreAnswered answers ps cs =
 
 -- each certificate is within a limit
 abbrev pub AreWithin : ℕ → List PlainCertificate → Type 0
-AreWithin limit cs = (place : ℕ) (c : PlainCertificate) → slice_get cs place ≡ Some c → length (certificate_octets arc_bound c) ≤ limit
+AreWithin limit cs = (place : ℕ) (c : PlainCertificate) → slice_get cs place ≡ Some c → length (certificate_octets Bound c) ≤ limit
 
 -- the anchor of a root's order
 abbrev pub anchor_of : PlainOrder → PlainAnchor
@@ -35,7 +35,7 @@ anchor_of root = record { name = root.subject; key = root.key }
 -- under that anchor alone
 abbrev pub terms_for : PlainOrder → ℕ → List ℕ → Answers → Terms
 terms_for root moment purpose answers =
-    record { bound = arc_bound; anchors = anchor_of root ∷ []; moment = moment; purpose = purpose; answers = answers }
+    record { bound = Bound; anchors = anchor_of root ∷ []; moment = moment; purpose = purpose; answers = answers }
 
 -- What is asked of a run of the check, so that a chain is trusted.
 pub record Permits (limit moment : ℕ) (purpose : List ℕ) (answers : Answers) (ps : List PlainOrder) (cs : List PlainCertificate) : Type 0 where
@@ -105,7 +105,7 @@ HeldIsRefusedFor =
 abbrev pub SignedIsSliced : Type 0
 SignedIsSliced =
     (ps : List PlainOrder) (cs : List PlainCertificate) (stream : List ℕ) (place : ℕ) (c : PlainCertificate)
-    → HoldsOrders ps cs stream → slice_get cs place ≡ Some c → signed_part arc_bound cs stream place c ≡ part_octets (tbs c)
+    → HoldsOrders ps cs stream → slice_get cs place ≡ Some c → signed_part Bound cs stream place c ≡ part_octets (tbs c)
 
 -- Its extensions say what was ordered.
 abbrev pub SaysAsOrdered : Type 0

@@ -1,13 +1,13 @@
 -- Which certificate is ordered at each place (RFC 5280 4.1.2; CA/Browser Forum, Baseline Requirements 7.1.2).
 use Rattle.std.specs.Prelude.{ℕ, pos, List, [], ◌∷◌, length, Option, Some, None, ◌==◌}
 use Rattle.std.proofs.Common.{inl, inr}
+use Rattle.const_oid.specs.Bound.{Bound}
 use Rattle.der_core_head.specs.Grammar.{plain_list, plain_option}
 use Rattle.der_core_head.specs.Shapes.{Value, octets_of}
 use Rattle.cert_desk_checking.specs.Builders.{digital_signature, root_extensions, standard_extension, subordinate_extensions, subscriber_extensions}
 use Rattle.cert_desk_checking.specs.Certificates.{Tbs}
 use Rattle.cert_desk_checking.specs.Parts.{tbs_certificate}
 use Rattle.cert_desk_checking.specs.Certificates.{Algorithm, PlainExtension, PlainName, PublicKey}
-use Rattle.cert_desk_checking.specs.Views.{arc_bound}
 use Rattle.cert_desk_checking.specs.Extensions.{general_name, general_names}
 use Rattle.cert_desk_issuing.specs.declared.role.Role.{Role}
 use Rattle.cert_desk_issuing.specs.declared.role.Role.TheVariants as roles
@@ -22,7 +22,7 @@ dns_names texts = plain_list dns_name texts
 
 -- SubjectAltName, critical where the subject has no name (4.2.1.6)
 abbrev pub names_extension : PlainName → List (List ℕ) → PlainExtension
-names_extension subject dns = standard_extension 17 (length subject == 0) (general_names arc_bound) (dns_names dns)
+names_extension subject dns = standard_extension 17 (length subject == 0) (general_names Bound) (dns_names dns)
 
 -- the extensions of the certificate that an order asks for in a role, below a key
 abbrev pub extensions_for : Role → PlainOrder → PublicKey → List PlainExtension
@@ -45,4 +45,4 @@ ordered_part role p above a = with_extensions (bare_part a above.subject p) (ext
 
 -- its octets
 abbrev pub part_octets : Tbs → List ℕ
-part_octets t = octets_of (tbs_certificate arc_bound None) t
+part_octets t = octets_of (tbs_certificate Bound None) t

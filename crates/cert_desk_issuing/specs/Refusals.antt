@@ -2,6 +2,7 @@
 -- are right.
 use Rattle.std.specs.Prelude.{◌≡◌, ◌≢◌, ◌⊎◌, ℕ, ℤ, ◌<◌, List, [], length, map, true, false, Option, Some, None, Ok, Err, slice_get, string_bytes}
 use Rattle.std.specs.Bool.{⊤}
+use Rattle.const_oid.specs.Bound.{Bound}
 use Rattle.der_core_head.specs.BitStrings.{Bits}
 use Rattle.der_core_head.specs.Dates.{Civil, is_civil}
 use Rattle.der_core_head.specs.Grammar.{plain_list}
@@ -15,7 +16,7 @@ use Rattle.cert_desk_checking.specs.Builders.{IsWantOfMemory}
 use Rattle.cert_desk_checking.specs.Certificates.{Tbs}
 use Rattle.cert_desk_checking.specs.Parts.{certificate, tbs_certificate}
 use Rattle.cert_desk_checking.specs.Certificates.{Algorithm, PlainName, PublicKey}
-use Rattle.cert_desk_checking.specs.Views.{arc_bound, key_plain}
+use Rattle.cert_desk_checking.specs.Views.{key_plain}
 use Rattle.cert_desk_checking.specs.Extensions.{general_names}
 use Rattle.cert_desk_checking.specs.Texts.{ReadsName, SpellsName}
 use Rattle.cert_desk_orders.specs.Grammar.{PlainValidity}
@@ -36,7 +37,7 @@ use Rattle.cert_desk_issuing.specs.Roles.{place_above, role_at, signers_for}
 
 -- What is asked of an order, in this order: a name that may stand there, a serial number, dates, DNS names, and the signer's key.
 abbrev pub HasName : Role → Order → Type 0
-HasName role o = (n : PlainName) × SpellsName (string_bytes o.name) n × IsNamedFor role n
+HasName role o = (n : PlainName) × SpellsName Bound (string_bytes o.name) n × IsNamedFor role n
 
 abbrev pub HasSerial : Order → Type 0
 HasSerial o = (z : ℤ) × (new_serial o.serial.items ≡ Ok z)
@@ -71,9 +72,9 @@ RefusesName role n _ = ⊥
 
 -- Why an order is refused in a role, beside a signer of this key: what is asked before is right.
 abbrev pub RefusesOrder : Role → Option PublicKey → Order → Fault → Type 0
-RefusesOrder role key o faults.Name = (e : ErrorKind) × ReadsName (string_bytes o.name) (Err e)
-RefusesOrder role key o (faults.RootName e) = (n : PlainName) × SpellsName (string_bytes o.name) n × RefusesName role n (faults.RootName e)
-RefusesOrder role key o faults.SubscriberName = (n : PlainName) × SpellsName (string_bytes o.name) n × RefusesName role n faults.SubscriberName
+RefusesOrder role key o faults.Name = (e : ErrorKind) × ReadsName Bound (string_bytes o.name) (Err e)
+RefusesOrder role key o (faults.RootName e) = (n : PlainName) × SpellsName Bound (string_bytes o.name) n × RefusesName role n (faults.RootName e)
+RefusesOrder role key o faults.SubscriberName = (n : PlainName) × SpellsName Bound (string_bytes o.name) n × RefusesName role n faults.SubscriberName
 RefusesOrder role key o faults.Serial = HasName role o × ((e : ErrorKind) × (new_serial o.serial.items ≡ Err e))
 RefusesOrder role key o faults.Dates = HasName role o × HasSerial o × HasFaultyDates o
 RefusesOrder role key o faults.DnsName = HasName role o × HasSerial o × HasDates o × (HasNames role o → ⊥)
@@ -108,7 +109,7 @@ IsStopOf k s = (s ≡ stops.OutOfMemory) ⊎ ((s ≡ stops.TooLong) × (k ≢ ki
 
 -- the names or the signed part have no encoding
 abbrev pub HasNoPart : List (List ℕ) → Tbs → Type 0
-HasNoPart dns t = HasNoEncoding (general_names arc_bound) (dns_names dns) ⊎ HasNoEncoding (tbs_certificate arc_bound None) t
+HasNoPart dns t = HasNoEncoding (general_names Bound) (dns_names dns) ⊎ HasNoEncoding (tbs_certificate Bound None) t
 
 -- why a signed part isn't made
 abbrev pub StopsPart : List (List ℕ) → Tbs → Stop → Type 0
@@ -118,7 +119,7 @@ StopsPart dns t stops.OutOfMemory = ⊤
 
 -- A length passes 2^32 - 1: the names, the signed part or the certificate, with bits that its signer may give, have no encoding.
 abbrev pub IsTooLong : (List ℕ → Bits → Type 0) → Algorithm → List (List ℕ) → Tbs → Type 0
-IsTooLong signs a dns t = HasNoPart dns t ⊎ ((bits : Bits) × signs (part_octets t) bits × HasNoEncoding (certificate arc_bound None) (t, (a, (bits, tt))))
+IsTooLong signs a dns t = HasNoPart dns t ⊎ ((bits : Bits) × signs (part_octets t) bits × HasNoEncoding (certificate Bound None) (t, (a, (bits, tt))))
 
 -- why the certificate of a signed part isn't made
 abbrev pub Stops : (List ℕ → Type 0) → (List ℕ → Bits → Type 0) → Algorithm → List (List ℕ) → Tbs → Stop → Type 0

@@ -3,19 +3,19 @@ use Rattle.std.specs.Prelude.{ℕ, List, [], ◌∷◌, length, Bool, true, fals
 use Rattle.cert_desk_checking.specs.Builders.{authority_uses, digital_signature}
 use Rattle.cert_desk_checking.specs.Builders as profiles
 use Rattle.cert_desk_checking.specs.Certificates.{PlainExtension, is_critical}
-use Rattle.cert_desk_checking.specs.Views.{arc_bound}
 use Rattle.cert_desk_checking.specs.Weighing.{Meaning, constraints, other_names, purposes, unweighed, uses, weigh}
 use Rattle.cert_desk_issuing.specs.declared.role.Role.{Role}
 use Rattle.cert_desk_issuing.specs.declared.role.Role.TheVariants as roles
 use Rattle.cert_desk_issuing.specs.Ordered.{dns_names}
 use Rattle.cert_desk_issuing.specs.PlainOrders.{PlainOrder}
+use Rattle.const_oid.specs.Bound.{Bound}
 
 -- what an extension says, and whether it is critical
 abbrev pub Told : Type 0
 Told = Bool × Meaning
 
 abbrev pub told : PlainExtension → Told
-told e = (is_critical e, weigh arc_bound e)
+told e = (is_critical e, weigh Bound e)
 
 -- what is ordered in a role, one extension after the other
 abbrev pub told_for : Role → PlainOrder → List Told

@@ -2,6 +2,7 @@
 
 ghost use Rattle.std.specs.Prelude.{◌≡◌, ◌↔◌, ◌<◌, ◌^◌, ◌∷◌, [], true, false, string_bytes, nat_lt, Option, None, Ok, IsTrue, IfOk, IfErr, IfSome, OnOk};
 ghost use Rattle.std.specs.List.{list_all};
+ghost use Rattle.const_oid.specs.Bound.{Bound};
 ghost use Rattle.der_core_head.specs.Grammar.{plain_list, plain_option};
 ghost use Rattle.cert_desk_checking.specs.Builders.{IsWantOfMemory, common_name, country, is_among, may_stay};
 ghost use Rattle.cert_desk_checking.specs.Certificates.{PublicKey};
@@ -30,7 +31,7 @@ use std::str::FromStr;
 
 /// The name that the text of an order spells.
 fn name_of(alloc: Global, order: &Order) -> Result<Name, Fault>
-    ensures spelled { IfOk result (λ n. SpellsName (string_bytes order.now.name) (name_plain n)) }
+    ensures spelled { IfOk result (λ n. SpellsName Bound (string_bytes order.now.name) (name_plain n)) }
     ensures refused { (role : Role) (key : Option PublicKey) → IfErr result (λ f. RefusesOrder role key order.now f) }
 {
     match Name::from_str(alloc, order.name.as_str()) {
@@ -118,7 +119,7 @@ fn check_name(alloc: Global, role: Role, subject: &Name) -> Result<(), Fault>
 
 /// The subject that an order names.
 fn subject_of(alloc: Global, role: Role, order: &Order) -> Result<Name, Fault>
-    ensures spelled { IfOk result (λ n. SpellsName (string_bytes order.now.name) (name_plain n)) }
+    ensures spelled { IfOk result (λ n. SpellsName Bound (string_bytes order.now.name) (name_plain n)) }
     ensures right { IfOk result (λ n. IsNamedFor role (name_plain n)) }
     ensures refused { (key : Option PublicKey) → IfErr result (λ f. RefusesOrder role key order.now f) }
 {

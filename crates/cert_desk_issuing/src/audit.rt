@@ -1,9 +1,10 @@
 //! Whether what was issued is trusted.
 
 ghost use Rattle.std.specs.Prelude.{◌≡◌, ◌≢◌, ◌≤◌, ◌↔◌, ℕ, List, ◌∷◌, map, IfOk, IfErr, OnErr};
+ghost use Rattle.const_oid.specs.Bound.{Bound};
 ghost use Rattle.der_core_head.specs.Grammar.{plain_list};
 ghost use Rattle.cert_desk_checking.specs.Certificates.{PlainCertificate};
-ghost use Rattle.cert_desk_checking.specs.Views.{arc_bound, certificate_plain};
+ghost use Rattle.cert_desk_checking.specs.Views.{certificate_plain};
 ghost use Rattle.cert_desk_checking.specs.declared.checked.CheckError.TheVariants as errors;
 ghost use Rattle.cert_desk_checking.specs.declared.checked.Verdict.TheVariants as verdicts;
 ghost use Rattle.cert_desk_checking.specs.declared.standing.Standing.TheVariants as standings;
@@ -96,7 +97,7 @@ fn read(alloc: Global, limit: u32, stream: &[u8]) -> Bundle
     ensures limit { result.limit ≡ limit }
     ensures closed { result.standing ≢ standings.Open }
     ensures sound { result.standing ≢ standings.NoDevice }
-    ensures reads { result.standing ≢ standings.NoMemory → Reads arc_bound result stream.now }
+    ensures reads { result.standing ≢ standings.NoMemory → Reads Bound result stream.now }
 {
     let mut bundle = Bundle::new(alloc, limit);
     if let Err(_error) = bundle.feed(stream) {

@@ -1,11 +1,12 @@
 //! The extensions of certificates.
 
 ghost use Rattle.std.specs.Prelude.{◌≡◌, Ok, IfOk, IfErr, string_bytes};
+ghost use Rattle.const_oid.specs.Bound.{Bound};
 ghost use Rattle.der_core_head.specs.declared.error.ErrorKind.TheVariants.{OutOfMemory};
 ghost use Rattle.der_core_head.specs.Grammar.{plain_list};
 ghost use Rattle.der_core_head.specs.Shapes.{IsValid};
 ghost use Rattle.cert_desk_checking.specs.Builders.{digital_signature, root_extensions, subscriber_extensions};
-ghost use Rattle.cert_desk_checking.specs.Views.{arc_bound, extension_plain, extensions_plain, key_plain, name_plain, tbs_plain};
+ghost use Rattle.cert_desk_checking.specs.Views.{extension_plain, extensions_plain, key_plain, name_plain, tbs_plain};
 ghost use Rattle.cert_desk_checking.specs.Extensions.{general_name_plain, general_names};
 ghost use Rattle.cert_desk_issuing.specs.Ordered.{dns_names, extensions_for, names_extension};
 ghost use Rattle.cert_desk_issuing.specs.PlainOrders.{accepted_plain};
@@ -105,7 +106,7 @@ fn subscriber_extensions(
 /// DNS names, as a subject's other names.
 fn names_of(alloc: Global, texts: &[String]) -> Result<SubjectAltName, Error>
     ensures names { IfOk result (λ n. plain_list general_name_plain n.0.items ≡ dns_names (plain_list string_bytes texts.now)) }
-    ensures refused { IsValid (general_names arc_bound) (dns_names (plain_list string_bytes texts.now)) → IfErr result (λ e. e.kind ≡ OutOfMemory) }
+    ensures refused { IsValid (general_names Bound) (dns_names (plain_list string_bytes texts.now)) → IfErr result (λ e. e.kind ≡ OutOfMemory) }
 {
     let mut names = Vec::new(alloc);
     for text in texts {
@@ -122,7 +123,7 @@ fn names_extension(
     part: &TbsCertificate,
 ) -> Result<Extension, Error>
     ensures made { IfOk result (λ e. extension_plain e ≡ names_extension (name_plain part.now.subject) (plain_list string_bytes texts.now)) }
-    ensures refused { IsValid (general_names arc_bound) (dns_names (plain_list string_bytes texts.now)) → IfErr result (λ e. e.kind ≡ OutOfMemory) }
+    ensures refused { IsValid (general_names Bound) (dns_names (plain_list string_bytes texts.now)) → IfErr result (λ e. e.kind ≡ OutOfMemory) }
 {
     let names = names_of(alloc, texts)?;
     let extension = names.to_extension(alloc, &part.subject, &[])?;
@@ -149,7 +150,7 @@ fn with_names(
 ) -> Result<Extensions, Stop>
     requires subject { name_plain part.now.subject ≡ name_plain accepted.now.subject }
     ensures made { IfOk result (λ v. extensions_plain v.items ≡ extensions_for Role.Subscriber (accepted_plain accepted.now) (key_plain issuer.now.order.now.key)) }
-    ensures stops { IfErr result (λ s. StopsEncoding (general_names arc_bound) (dns_names (plain_list string_bytes accepted.now.order.now.dns.items)) s) }
+    ensures stops { IfErr result (λ s. StopsEncoding (general_names Bound) (dns_names (plain_list string_bytes accepted.now.order.now.dns.items)) s) }
 {
     let first = names_extension(alloc, accepted.order.dns.as_slice(), part)?;
     let mut more = made(subscriber_extensions(alloc, accepted, issuer, part))?;
@@ -169,7 +170,7 @@ pub(crate) fn extensions_for(
 ) -> Result<Extensions, Stop>
     requires subject { name_plain part.now.subject ≡ name_plain accepted.now.subject }
     ensures made { IfOk result (λ v. extensions_plain v.items ≡ extensions_for role (accepted_plain accepted.now) (key_plain issuer.now.order.now.key)) }
-    ensures stops { IfErr result (λ s. StopsEncoding (general_names arc_bound) (dns_names (plain_list string_bytes accepted.now.order.now.dns.items)) s) }
+    ensures stops { IfErr result (λ s. StopsEncoding (general_names Bound) (dns_names (plain_list string_bytes accepted.now.order.now.dns.items)) s) }
 {
     match role {
         Role::Root => made(root_extensions(alloc, accepted, part)),

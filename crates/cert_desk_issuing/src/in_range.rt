@@ -3,10 +3,11 @@
 //! Each is a law of the values of a type, and stands as the contract of a call that does nothing.
 
 ghost use Rattle.std.specs.List.{AllByRecursion};
+ghost use Rattle.const_oid.specs.Bound.{Bound};
 ghost use Rattle.der_core_head.specs.Grammar.{plain_option};
 ghost use Rattle.der_core_head.specs.Ranges.{IsInRange};
 ghost use Rattle.cert_desk_checking.specs.Certificates.{algorithm_identifier, public_key_info};
-ghost use Rattle.cert_desk_checking.specs.Views.{algorithm_plain, arc_bound, extension_plain, extensions_plain, key_plain, tbs_plain, time_value, validity_plain};
+ghost use Rattle.cert_desk_checking.specs.Views.{algorithm_plain, extension_plain, extensions_plain, key_plain, tbs_plain, time_value, validity_plain};
 ghost use Rattle.cert_desk_orders.specs.Grammar.{extension, time, validity};
 ghost use Rattle.cert_desk_issuing.specs.Making.{IsPartInRange, extensions_field};
 
@@ -17,7 +18,7 @@ use cert_desk_checking::types::{
 use der_core::InRange;
 
 fn algorithm_in_range(algorithm: &AlgorithmIdentifier)
-    ensures { IsInRange (algorithm_identifier arc_bound) (algorithm_plain algorithm.now) }
+    ensures { IsInRange (algorithm_identifier Bound) (algorithm_plain algorithm.now) }
 {
     algorithm.oid.in_range();
     algorithm.parameters.in_range();
@@ -25,7 +26,7 @@ fn algorithm_in_range(algorithm: &AlgorithmIdentifier)
 
 /// The parts of a key are.
 pub(crate) fn key_in_range(key: &SubjectPublicKeyInfo)
-    ensures { IsInRange (public_key_info arc_bound) (key_plain key.now) }
+    ensures { IsInRange (public_key_info Bound) (key_plain key.now) }
 {
     algorithm_in_range(&key.algorithm);
     key.subject_public_key.in_range();
@@ -49,14 +50,14 @@ fn validity_in_range(dates: &Validity)
 }
 
 fn extension_in_range(made: &Extension)
-    ensures { IsInRange (extension arc_bound) (extension_plain made.now) }
+    ensures { IsInRange (extension Bound) (extension_plain made.now) }
 {
     made.extn_id.in_range();
     made.extn_value.in_range();
 }
 
 fn extensions_in_range(made: &[Extension])
-    ensures { AllByRecursion (IsInRange (extension arc_bound)) (extensions_plain made.now) }
+    ensures { AllByRecursion (IsInRange (extension Bound)) (extensions_plain made.now) }
 {
     for one in made {
         extension_in_range(one);

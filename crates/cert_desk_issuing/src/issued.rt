@@ -1,9 +1,10 @@
 //! Chains that were issued.
 
 ghost use Rattle.std.specs.Prelude.{◌≡◌, ◌-◌, ◌^◌};
+ghost use Rattle.const_oid.specs.Bound.{Bound};
 ghost use Rattle.der_core_head.specs.Limits.{length_max};
 ghost use Rattle.der_core_head.specs.Grammar.{plain_list};
-ghost use Rattle.cert_desk_checking.specs.Views.{arc_bound, certificate_plain};
+ghost use Rattle.cert_desk_checking.specs.Views.{certificate_plain};
 ghost use Rattle.cert_desk_checking.specs.Chains.{Chain};
 ghost use Rattle.cert_desk_issuing.specs.Making.{as_written};
 
@@ -40,7 +41,7 @@ impl Issued {
     /// The encodings of the certificates, joined.
     pub fn stream(&self) -> &[u8]
         ensures octets { result.now ≡ self.now.stream }
-        ensures chain { Chain arc_bound length_max self.now.certificates self.now.stream }
+        ensures chain { Chain Bound length_max self.now.certificates self.now.stream }
     {
         self.stream.as_slice()
     }

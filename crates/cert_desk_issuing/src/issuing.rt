@@ -1,10 +1,11 @@
 //! Orders become a chain.
 
 ghost use Rattle.std.specs.Prelude.{◌≡◌, ◌<◌, ◌≤◌, ◌-◌, ◌^◌, List, length, map, slice_get, IfOk, IfErr};
+ghost use Rattle.const_oid.specs.Bound.{Bound};
 ghost use Rattle.der_core_head.specs.Limits.{length_max};
 ghost use Rattle.der_core_head.specs.Grammar.{plain_option};
 ghost use Rattle.cert_desk_checking.specs.Certificates.{certificate_octets};
-ghost use Rattle.cert_desk_checking.specs.Views.{arc_bound, key_plain};
+ghost use Rattle.cert_desk_checking.specs.Views.{key_plain};
 ghost use Rattle.cert_desk_checking.specs.Chains.{Stands};
 ghost use Rattle.cert_desk_issuing.specs.Acceptance.{AcceptedOrders, AcceptsFront, IsAcceptedAt};
 ghost use Rattle.cert_desk_issuing.specs.Chains.{AreSigned, HoldsOrders, IsOrderedAt, IsSignedBy, IssuedChain};
@@ -133,8 +134,8 @@ fn issue_at<S: Signer>(
     requires ready { AreReady (orders_plain accepted.now) }
     ensures ordered { IfOk result (λ m. IsOrderedAt (orders_plain accepted.now) place (made_plain m)) }
     ensures signed { IfOk result (λ m. IsSignedBy S.signs_by S.signs signers.now place (made_plain m)) }
-    ensures octets { IfOk result (λ m. m.octets.items ≡ certificate_octets arc_bound (made_plain m)) }
-    ensures stands { IfOk result (λ m. Stands arc_bound length_max (made_plain m)) }
+    ensures octets { IfOk result (λ m. m.octets.items ≡ certificate_octets Bound (made_plain m)) }
+    ensures stands { IfOk result (λ m. Stands Bound length_max (made_plain m)) }
     ensures stopped { IfErr result (λ s. IsStoppedAt S.signs_by S.signs S.may_refuse (orders_plain accepted.now) signers.now place s) }
 {
     let role = role_at(accepted.len(), place);

@@ -1,13 +1,14 @@
 //! Certificates are made.
 
 ghost use Rattle.std.specs.Prelude.{◌≡◌, ℕ, List, None, IfOk, IfErr, string_bytes};
+ghost use Rattle.const_oid.specs.Bound.{Bound};
 ghost use Rattle.der_core_head.specs.declared.error.ErrorKind.TheVariants.{OutOfMemory};
 ghost use Rattle.der_core_head.specs.Grammar.{plain_list};
 ghost use Rattle.der_core_head.specs.Shapes.{IsValid, Spells, any};
 ghost use Rattle.cert_desk_checking.specs.Certificates.{Tbs, certificate_octets, outer_algorithm, raw_certificate, signature_bits, tbs};
 ghost use Rattle.cert_desk_checking.specs.Extensions.{general_names};
 ghost use Rattle.cert_desk_checking.specs.Parts.{any_lent, tbs_certificate};
-ghost use Rattle.cert_desk_checking.specs.Views.{algorithm_plain, arc_bound, tbs_plain};
+ghost use Rattle.cert_desk_checking.specs.Views.{algorithm_plain, tbs_plain};
 ghost use Rattle.cert_desk_issuing.specs.Making.{made_plain};
 ghost use Rattle.cert_desk_issuing.specs.Ordered.{dns_names, ordered_part, part_octets};
 ghost use Rattle.cert_desk_issuing.specs.PlainOrders.{IsReady, accepted_plain};
@@ -44,7 +45,7 @@ fn part_for(
     algorithm: &AlgorithmIdentifier,
 ) -> Result<TbsCertificate, Stop>
     ensures part { IfOk result (λ t. tbs_plain t ≡ ordered_part role (accepted_plain accepted.now) (accepted_plain issuer.now) (algorithm_plain algorithm.now)) }
-    ensures stops { IfErr result (λ s. StopsEncoding (general_names arc_bound) (dns_names (plain_list string_bytes accepted.now.order.now.dns.items)) s) }
+    ensures stops { IfErr result (λ s. StopsEncoding (general_names Bound) (dns_names (plain_list string_bytes accepted.now.order.now.dns.items)) s) }
 {
     let part = bare_part(alloc, accepted, &issuer.subject, algorithm)?;
     let extensions = extensions_for(alloc, role, accepted, issuer, &part)?;
@@ -62,7 +63,7 @@ fn written_part(
     requires ready { IsReady role (accepted_plain accepted.now) }
     ensures part { IfOk result (λ r. tbs_plain r.0 ≡ ordered_part role (accepted_plain accepted.now) (accepted_plain issuer.now) (algorithm_plain algorithm.now)) }
     ensures octets { IfOk result (λ r. r.1.items ≡ part_octets (ordered_part role (accepted_plain accepted.now) (accepted_plain issuer.now) (algorithm_plain algorithm.now))) }
-    ensures valid { IfOk result (λ r. IsValid (tbs_certificate arc_bound None) (ordered_part role (accepted_plain accepted.now) (accepted_plain issuer.now) (algorithm_plain algorithm.now))) }
+    ensures valid { IfOk result (λ r. IsValid (tbs_certificate Bound None) (ordered_part role (accepted_plain accepted.now) (accepted_plain issuer.now) (algorithm_plain algorithm.now))) }
     ensures stops { IfErr result (λ s. StopsPart (plain_list string_bytes accepted.now.order.now.dns.items) (ordered_part role (accepted_plain accepted.now) (accepted_plain issuer.now) (algorithm_plain algorithm.now)) s) }
 {
     let part = match part_for(alloc, role, accepted, issuer, algorithm) {
@@ -90,7 +91,7 @@ fn signed<S: Signer>(alloc: Global, signer: &S, octets: &[u8]) -> Result<BitStri
 /// The octets of a signed part, as any value.
 fn as_any(alloc: Global, octets: &[u8]) -> Result<AnyRef<'_>, Error>
     ensures spelled { IfOk result (λ x. Spells any (any_lent x) octets.now) }
-    ensures refused { (t : Tbs) → octets.now ≡ part_octets t → IsValid (tbs_certificate arc_bound None) t → IfErr result (λ e. e.kind ≡ OutOfMemory) }
+    ensures refused { (t : Tbs) → octets.now ≡ part_octets t → IsValid (tbs_certificate Bound None) t → IfErr result (λ e. e.kind ≡ OutOfMemory) }
 {
     octets_in_range(octets);
     from_der(alloc, octets)
@@ -104,11 +105,11 @@ fn whole_of(
     signature: &BitString,
 ) -> Result<Vec<u8>, Stop>
     ensures octets { (t : Tbs) → signed.now ≡ part_octets t
-        → IfOk result (λ w. w.items ≡ certificate_octets arc_bound (t, (algorithm_plain algorithm.now, (signature.now, tt)))) }
-    ensures valid { (t : Tbs) → signed.now ≡ part_octets t → IsValid (tbs_certificate arc_bound None) t
-        → IfOk result (λ _. IsValid (raw_certificate arc_bound) (t, (algorithm_plain algorithm.now, (signature.now, tt)))) }
-    ensures stops { (t : Tbs) → signed.now ≡ part_octets t → IsValid (tbs_certificate arc_bound None) t
-        → IfErr result (λ s. StopsEncoding (raw_certificate arc_bound) (t, (algorithm_plain algorithm.now, (signature.now, tt))) s) }
+        → IfOk result (λ w. w.items ≡ certificate_octets Bound (t, (algorithm_plain algorithm.now, (signature.now, tt)))) }
+    ensures valid { (t : Tbs) → signed.now ≡ part_octets t → IsValid (tbs_certificate Bound None) t
+        → IfOk result (λ _. IsValid (raw_certificate Bound) (t, (algorithm_plain algorithm.now, (signature.now, tt)))) }
+    ensures stops { (t : Tbs) → signed.now ≡ part_octets t → IsValid (tbs_certificate Bound None) t
+        → IfErr result (λ s. StopsEncoding (raw_certificate Bound) (t, (algorithm_plain algorithm.now, (signature.now, tt))) s) }
 {
     let signed = as_any(alloc, signed)?;
     let whole = Assembled {
@@ -134,8 +135,8 @@ pub(crate) fn certificate_for<S: Signer>(
     ensures part { IfOk result (λ m. tbs (made_plain m) ≡ ordered_part role (accepted_plain accepted.now) (accepted_plain issuer.now) (S.signs_by signer.now)) }
     ensures algorithm { IfOk result (λ m. outer_algorithm (made_plain m) ≡ S.signs_by signer.now) }
     ensures signed { IfOk result (λ m. S.signs signer.now (part_octets (tbs (made_plain m))) (signature_bits (made_plain m))) }
-    ensures octets { IfOk result (λ m. m.octets.items ≡ certificate_octets arc_bound (made_plain m)) }
-    ensures valid { IfOk result (λ m. IsValid (raw_certificate arc_bound) (made_plain m)) }
+    ensures octets { IfOk result (λ m. m.octets.items ≡ certificate_octets Bound (made_plain m)) }
+    ensures valid { IfOk result (λ m. IsValid (raw_certificate Bound) (made_plain m)) }
     // Why nothing is.
     ensures stops { IfErr result (λ s. Stops (S.may_refuse signer.now) (S.signs signer.now) (S.signs_by signer.now) (plain_list string_bytes accepted.now.order.now.dns.items)
         (ordered_part role (accepted_plain accepted.now) (accepted_plain issuer.now) (S.signs_by signer.now)) s) }

@@ -1,6 +1,7 @@
 -- Listings of certificates, revocation lists and requests, line by line.
 use Rattle.std.specs.Prelude.{ℕ, List, [], ◌++◌, codes, Option, Some, None, Result, Ok, Err, if◌then◌else◌}
 use Rattle.std.specs.List.{flat_map}
+use Rattle.const_oid.specs.Bound.{Bound}
 use Rattle.const_oid.specs.Comparing.{owned_eq}
 use Rattle.const_oid.specs.DottedText.{dotted}
 use Rattle.der_core_head.specs.declared.error.ErrorKind.{ErrorKind}
@@ -8,7 +9,7 @@ use Rattle.der_core_head.specs.declared.tag.Tag.TheVariants as tags
 use Rattle.der_core_head.specs.Shapes.{AnyValue}
 use Rattle.x509_cert_lists.specs.Certificates.{PlainCertificate, issuer, subject}
 use Rattle.x509_cert_lists.specs.Grammar.{extension_req_arcs, extension_req_content}
-use Rattle.x509_cert_lists.specs.Parts.{PlainName, PlainAttribute, PlainExtension, extension_arcs, is_critical, arc_bound, content_as}
+use Rattle.x509_cert_lists.specs.Parts.{PlainName, PlainAttribute, PlainExtension, extension_arcs, is_critical, content_as}
 use Rattle.x509_cert_lists.specs.Texts.{name_text, serial_text, time_text}
 use Rattle.cert_desk_listing.specs.Parts.{serial, not_before, not_after, extensions_of, PlainTime, PlainList, PlainRevoked, list_issuer, this_update, next_update, revoked, list_extensions, revoked_serial, revoked_date, PlainRequest, request_subject, request_attributes, attribute_arcs, attribute_values}
 
@@ -65,7 +66,7 @@ lines_of_read (Ok es) = extension_lines es
 lines_of_read (Err e) = []
 
 abbrev pub value_lines : AnyValue → List ℕ
-value_lines v = lines_of_read (content_as tags.Sequence (extension_req_content arc_bound) v)
+value_lines v = lines_of_read (content_as tags.Sequence (extension_req_content Bound) v)
 
 -- an identifier, and behind that of a request for extensions (RFC 2985 5.4.2) the extensions of its values
 abbrev pub attribute_lines : PlainAttribute → List ℕ

@@ -1,10 +1,10 @@
 -- What became of a listing: why it didn't go out, what a run of `show` reads, tells and answers.
 use Rattle.std.specs.Prelude.{◌≡◌, ℕ, ◌-◌, ◌<◌, ◌^◌, ◌⊎◌, List, length, codes, string_bytes}
 use Rattle.cert_desk_io.specs.Devices.{Rose, GivesBeginning}
+use Rattle.const_oid.specs.Bound.{Bound}
 use Rattle.der_core_head.specs.Shapes.{Spells}
 use Rattle.x509_cert_lists.specs.Certificates.{PlainCertificate, raw_certificate}
 use Rattle.x509_cert_lists.specs.Grammar.{cert_req}
-use Rattle.x509_cert_lists.specs.Parts.{arc_bound}
 use Rattle.cert_desk_listing.specs.declared.finding.Finding.{Finding}
 use Rattle.cert_desk_listing.specs.declared.finding.Finding.TheVariants as findings
 use Rattle.cert_desk_listing.specs.declared.kind.Kind.{Kind}
@@ -28,9 +28,9 @@ IsUnshown gives failures old text new errors.OutOfMemory = new ≡ old
 
 -- The octets spell a value of this kind under `Raw`, and this is its listing.
 abbrev pub IsListing : Kind → List ℕ → List ℕ → Type 0
-IsListing kinds.Certificate octets text = (c : PlainCertificate) × Spells (raw_certificate arc_bound) c octets × (text ≡ certificate_lines c)
-IsListing kinds.List octets text = (l : PlainList) × Spells (raw_certificate_list arc_bound) l octets × (text ≡ list_lines l)
-IsListing kinds.Request octets text = (r : PlainRequest) × Spells (cert_req arc_bound) r octets × (text ≡ request_lines r)
+IsListing kinds.Certificate octets text = (c : PlainCertificate) × Spells (raw_certificate Bound) c octets × (text ≡ certificate_lines c)
+IsListing kinds.List octets text = (l : PlainList) × Spells (raw_certificate_list Bound) l octets × (text ≡ list_lines l)
+IsListing kinds.Request octets text = (r : PlainRequest) × Spells (cert_req Bound) r octets × (text ≡ request_lines r)
 
 -- they spell none
 abbrev pub HasNoListing : Kind → List ℕ → Type 0

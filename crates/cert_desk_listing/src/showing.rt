@@ -1,8 +1,8 @@
 //! A whole run of `show`, over any input and outputs.
 ghost use Rattle.std.specs.Prelude.{◌≡◌, ◌≢◌, IfOk, IfErr};
+ghost use Rattle.const_oid.specs.Bound.{Bound};
 ghost use Rattle.der_core_head.specs.declared.error.ErrorKind.TheVariants.{OutOfMemory};
 ghost use Rattle.der_core_head.specs.Shapes.{Spells};
-ghost use Rattle.x509_cert_lists.specs.Parts.{arc_bound};
 ghost use Rattle.x509_cert_lists.specs.Views.{certificate_list_plain};
 ghost use Rattle.cert_desk_listing.specs.Parts.{PlainList, raw_certificate_list};
 ghost use Rattle.cert_desk_listing.specs.declared.finding.Finding.{Finding};
@@ -40,8 +40,8 @@ fn certificate_in(alloc: Global, octets: &[u8]) -> Finding
 
 // Reads a revocation list, all of the octets.
 fn list_of(alloc: Global, octets: &[u8]) -> Result<CertificateList<Raw>, Error>
-    ensures spelled { IfOk result (λ l. Spells (raw_certificate_list arc_bound) (certificate_list_plain l) octets.now) }
-    ensures refused { IfErr result (λ e. e.kind ≢ OutOfMemory → (l : PlainList) → Spells (raw_certificate_list arc_bound) l octets.now → ⊥) }
+    ensures spelled { IfOk result (λ l. Spells (raw_certificate_list Bound) (certificate_list_plain l) octets.now) }
+    ensures refused { IfErr result (λ e. e.kind ≢ OutOfMemory → (l : PlainList) → Spells (raw_certificate_list Bound) l octets.now → ⊥) }
 {
     from_der(alloc, octets)
 }

@@ -4,8 +4,9 @@
 #![tactic(auto)]
 
 ghost use Rattle.std.specs.Prelude.{◌≤◌, map, drop, length, IfOk};
+ghost use Rattle.const_oid.specs.Bound.{Bound};
 ghost use Rattle.der_core_head.specs.Grammar.{plain_option};
-ghost use Rattle.cert_desk_checking.specs.Certificates.{arc_bound, certificate_plain};
+ghost use Rattle.cert_desk_checking.specs.Certificates.{certificate_plain};
 ghost use Rattle.cert_desk_checking.specs.Faults.{Split};
 ghost use Rattle.cert_desk_plain.specs.Fronts.{IsFirst};
 
@@ -26,7 +27,7 @@ pub fn first_certificate(
     octets: &[u8],
     limit: u32,
 ) -> Result<Option<(CertificateInner<Raw>, usize)>, AllocError>
-    ensures { IfOk result (λ first. IsFirst arc_bound limit octets.now (plain_option (λ p. (certificate_plain p.0, p.1)) first)) }
+    ensures { IfOk result (λ first. IsFirst Bound limit octets.now (plain_option (λ p. (certificate_plain p.0, p.1)) first)) }
 {
     let mut most = octets.len();
     if most > limit as usize {
@@ -57,7 +58,7 @@ pub fn split(
     limit: u32,
 ) -> Result<(Vec<CertificateInner<Raw>>, usize), AllocError>
     ensures within { IfOk result (λ p. p.1 ≤ length stream.now) }
-    ensures split { IfOk result (λ p. Split arc_bound limit stream.now (map certificate_plain p.0.items) (drop p.1 stream.now)) }
+    ensures split { IfOk result (λ p. Split Bound limit stream.now (map certificate_plain p.0.items) (drop p.1 stream.now)) }
 {
     let mut certificates = Vec::new(alloc);
     let mut start = 0;

@@ -1,9 +1,9 @@
 //! What a path from a trust anchor must meet.
 
 ghost use Rattle.std.specs.Prelude.{◌≡◌, refl};
+ghost use Rattle.const_oid.specs.Bound.{Bound};
 ghost use Rattle.der_core_head.specs.declared.tag.Tag.TheVariants.{Sequence};
 ghost use Rattle.der_core_head.specs.Shapes.{nested};
-ghost use Rattle.x509_cert_policies.specs.Parts.{arc_bound};
 ghost use Rattle.x509_cert_anchors.specs.Grammar.{cert_path_controls_fields, cert_path_controls_by};
 ghost use Rattle.x509_cert_anchors.specs.Views.{cert_path_controls_plain};
 
@@ -131,7 +131,7 @@ impl<P> FixedTag for CertPathControls<P> {
 }
 
 impl<P: Profile> Fields for CertPathControls<P> {
-    ghost fields = { cert_path_controls_fields arc_bound P.serial_limit };
+    ghost fields = { cert_path_controls_fields Bound P.serial_limit };
 
     ghost fields_plain = { cert_path_controls_plain };
 
@@ -146,7 +146,7 @@ impl<'a, R: Reader<'a>, P: Profile> DecodeFields<'a, R> for CertPathControls<P> 
 }
 
 impl<P: Profile> ShapedValue for CertPathControls<P> {
-    ghost content = { nested (cert_path_controls_fields arc_bound P.serial_limit) };
+    ghost content = { nested (cert_path_controls_fields Bound P.serial_limit) };
 
     ghost value_plain = { cert_path_controls_plain };
 

@@ -1,7 +1,7 @@
 //! Trust anchors.
 
 ghost use Rattle.std.specs.Prelude.{◌≡◌, refl};
-ghost use Rattle.x509_cert_policies.specs.Parts.{arc_bound};
+ghost use Rattle.const_oid.specs.Bound.{Bound};
 ghost use Rattle.x509_cert_anchors.specs.Grammar.{trust_anchor_choice, trust_anchor_by};
 ghost use Rattle.x509_cert_anchors.specs.Views.{trust_anchor_plain};
 
@@ -62,7 +62,7 @@ impl<P: Profile> TrustAnchorChoice<P> {
 }
 
 impl<P: Profile> Shaped for TrustAnchorChoice<P> {
-    ghost shape = { trust_anchor_choice arc_bound P.serial_limit };
+    ghost shape = { trust_anchor_choice Bound P.serial_limit };
 
     ghost plain = { trust_anchor_plain };
 

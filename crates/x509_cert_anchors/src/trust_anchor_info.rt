@@ -1,9 +1,9 @@
 //! Trust anchors by their keys.
 
 ghost use Rattle.std.specs.Prelude.{◌≡◌, refl};
+ghost use Rattle.const_oid.specs.Bound.{Bound};
 ghost use Rattle.der_core_head.specs.declared.tag.Tag.TheVariants.{Sequence};
 ghost use Rattle.der_core_head.specs.Shapes.{nested};
-ghost use Rattle.x509_cert_policies.specs.Parts.{arc_bound};
 ghost use Rattle.x509_cert_anchors.specs.Grammar.{trust_anchor_info_fields, trust_anchor_info_by};
 ghost use Rattle.x509_cert_anchors.specs.Views.{trust_anchor_info_plain};
 
@@ -129,7 +129,7 @@ impl<P> FixedTag for TrustAnchorInfo<P> {
 }
 
 impl<P: Profile> Fields for TrustAnchorInfo<P> {
-    ghost fields = { trust_anchor_info_fields arc_bound P.serial_limit };
+    ghost fields = { trust_anchor_info_fields Bound P.serial_limit };
 
     ghost fields_plain = { trust_anchor_info_plain };
 
@@ -155,7 +155,7 @@ impl<'a, R: Reader<'a>, P: Profile> DecodeFields<'a, R> for TrustAnchorInfo<P> {
 }
 
 impl<P: Profile> ShapedValue for TrustAnchorInfo<P> {
-    ghost content = { nested (trust_anchor_info_fields arc_bound P.serial_limit) };
+    ghost content = { nested (trust_anchor_info_fields Bound P.serial_limit) };
 
     ghost value_plain = { trust_anchor_info_plain };
 

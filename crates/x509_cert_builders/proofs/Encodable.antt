@@ -19,7 +19,7 @@ use Rattle.der_core_head.specs.Octets.{IsOctets}
 use Rattle.der_core_head.specs.Shapes.{leaf, tagged, sequence, sequence_of, octets_of, contents, body_octets, IsValid, IsContent, IsBody, unless}
 use Rattle.der_core_head.specs.Tags.{tag_octets, context}
 use Rattle.sha1.specs.Sha1.{sha1, digest_bytes}
-use Rattle.x509_cert_extensions.specs.Parts.{arc_bound, false_by_default, object_identifier, octet_string}
+use Rattle.x509_cert_extensions.specs.Parts.{false_by_default, object_identifier, octet_string}
 use Rattle.x509_cert_extensions.specs.GeneralNames.{authority_key_identifier_fields, number_of}
 use Rattle.x509_cert_extensions.specs.Policies.{basic_constraints_fields}
 use Rattle.x509_cert_builders.specs.Profiles.{id_kp, purposes}
@@ -55,7 +55,7 @@ unfolding tlv head_octets length_octets
 short_tlv t c l =
     rw (lt-ltb (length c) 128 l) (omega (arith, length-append (tag_octets t) (length c ∷ []), length-append (tag_octets t ++ length c ∷ []) c))
 
-authority_fits : (w : List ℕ) → IsOctets w → length w ≡ 20 → IsValid (sequence (authority_key_identifier_fields arc_bound)) (Some w, (None, (None, tt)))
+authority_fits : (w : List ℕ) → IsOctets w → length w ≡ 20 → IsValid (sequence (authority_key_identifier_fields Bound)) (Some w, (None, (None, tt)))
 unfolding IsValid IsContent IsBody contents body_octets octets_of tag_octets
 authority_fits w o e =
     let key = tlv (context false 0) w in
@@ -128,15 +128,15 @@ pub constraints_valid : (ca : Bool) (path : Option ℕ) → IsPath path → IsVa
 constraints_valid ca None h = none_valid ca
 constraints_valid ca (Some n) h = path_valid ca n h
 
-first_purpose : IsValid (object_identifier arc_bound) (id_kp 1)
+first_purpose : IsValid (object_identifier Bound) (id_kp 1)
 unfolding IsValid IsContent tlv head_octets length_octets tag_octets contents IsIdentifier identifier_octets arc_octets digits digits_within marked Bound
 first_purpose = (((omega arith, omega arith, (omega arith, (omega arith, (omega arith, (omega arith, (omega arith, (omega arith, (omega arith, tt)))))))), omega arith), omega arith, omega arith)
 
-second_purpose : IsValid (object_identifier arc_bound) (id_kp 2)
+second_purpose : IsValid (object_identifier Bound) (id_kp 2)
 unfolding IsValid IsContent tlv head_octets length_octets tag_octets contents IsIdentifier identifier_octets arc_octets digits digits_within marked Bound
 second_purpose = (((omega arith, omega arith, (omega arith, (omega arith, (omega arith, (omega arith, (omega arith, (omega arith, (omega arith, tt)))))))), omega arith), omega arith, omega arith)
 
-pub purposes_valid : (clients : Bool) → IsValid (sequence_of (object_identifier arc_bound)) (purposes clients)
+pub purposes_valid : (clients : Bool) → IsValid (sequence_of (object_identifier Bound)) (purposes clients)
 unfolding IsValid IsContent IsBody tlv head_octets length_octets tag_octets contents body_octets octets_of identifier_octets arc_octets digits digits_within marked
 purposes_valid true = ((first_purpose, (second_purpose, tt)), omega arith, omega arith)
 purposes_valid false = ((first_purpose, tt), omega arith, omega arith)
@@ -146,9 +146,9 @@ abbrev pub IsDigest : List ℕ → Type 0
 IsDigest w = (m : List ℕ) × (w ≡ sha1 m)
 
 -- what holds a digest, and nothing else
-pub authority_valid : (w : List ℕ) → IsDigest w → IsValid (sequence (authority_key_identifier_fields arc_bound)) (Some w, (None, (None, tt)))
+pub authority_valid : (w : List ℕ) → IsDigest w → IsValid (sequence (authority_key_identifier_fields Bound)) (Some w, (None, (None, tt)))
 authority_valid w d =
-    subst (λ v. IsValid (sequence (authority_key_identifier_fields arc_bound)) (Some v, (None, (None, tt)))) (sym d.1) (authority_fits (sha1 d.0) (digest_octets d.0) (digest_length d.0))
+    subst (λ v. IsValid (sequence (authority_key_identifier_fields Bound)) (Some v, (None, (None, tt)))) (sym d.1) (authority_fits (sha1 d.0) (digest_octets d.0) (digest_length d.0))
 
 pub identifier_valid : (w : List ℕ) → IsDigest w → IsValid octet_string w
 identifier_valid w d = subst (λ v. IsValid octet_string v) (sym d.1) (key_fits (sha1 d.0) (digest_octets d.0) (digest_length d.0))

@@ -1,10 +1,11 @@
 -- The name of a module, as another name and as a general name, and why it is refused.
 use Rattle.std.proofs.Common.{◌≡◌, List, ℕ, Result, Ok, Err, inl, subst}
+use Rattle.const_oid.specs.Bound.{Bound}
 use Rattle.der_core_head.specs.declared.error.ErrorKind.{ErrorKind}
 use Rattle.der_core_head.specs.declared.tag.Tag.TheVariants.{Sequence}
 use Rattle.der_core_head.specs.Octets.{◌>>=◌}
 use Rattle.der_core_head.specs.Shapes.{AnyValue, nested}
-use Rattle.x509_cert_extensions.specs.Parts.{arc_bound, written_as}
+use Rattle.x509_cert_extensions.specs.Parts.{written_as}
 use Rattle.x509_cert_extensions.specs.GeneralNames.{hardware_module_name_fields}
 use Rattle.x509_cert_builders.specs.Devices.{PlainGeneralName, module_arcs, module_name}
 use Rattle.x509_cert_builders.specs.Refusals.{FailsAs, IsWantOfMemory}
@@ -27,7 +28,7 @@ held_named (Ok v) arcs o e = cc
 held_named (Err k) arcs o e = absurd cc
 
 pub module_named : (arcs version serial : List ℕ) (o : Held) → arcs ≡ version
-    → (written_as Sequence (nested (hardware_module_name_fields arc_bound)) (arcs, (serial, tt)) >>= λ v. Ok (the_held module_arcs v)) ≡ Ok o
+    → (written_as Sequence (nested (hardware_module_name_fields Bound)) (arcs, (serial, tt)) >>= λ v. Ok (the_held module_arcs v)) ≡ Ok o
     → module_name version serial ≡ Ok (named o)
 module_named arcs version serial o same e = subst (λ a. module_name a serial ≡ Ok (named o)) same (held_named _ module_arcs o e)
 
@@ -38,7 +39,7 @@ held_refused (Ok v) arcs k e = absurd cc
 held_refused (Err j) arcs k e = cc
 
 pub module_refused : (arcs version serial : List ℕ) (k : ErrorKind) → arcs ≡ version
-    → (written_as Sequence (nested (hardware_module_name_fields arc_bound)) (arcs, (serial, tt)) >>= λ v. Ok (the_held module_arcs v)) ≡ Err k
+    → (written_as Sequence (nested (hardware_module_name_fields Bound)) (arcs, (serial, tt)) >>= λ v. Ok (the_held module_arcs v)) ≡ Err k
     → module_name version serial ≡ Err k
 module_refused arcs version serial k same e = subst (λ a. module_name a serial ≡ Err k) same (held_refused _ module_arcs k e)
 

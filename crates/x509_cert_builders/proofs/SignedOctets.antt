@@ -1,15 +1,16 @@
 -- The octets at the place of the signed part.
 use Rattle.std.proofs.Common.{◌≡◌, List, ℕ, Option, Some, None, true, take, drop, refl, sym, ap, ◌∙◌}
+use Rattle.const_oid.specs.Bound.{Bound}
 use Rattle.der_core_head.specs.Grammar.{plain_option}
 use Rattle.der_core_head.specs.Shapes.{octets_of, body_octets, contents}
 use Rattle.x509_cert_extensions.specs.Certificates.{PlainCertificate, Tbs, certificate_by, certificate_octets, raw_tbs_certificate, signed_length, signed_start, tbs, tbs_by, tbs_certificate}
-use Rattle.x509_cert_extensions.specs.Parts.{algorithm_plain, arc_bound, extensions_plain}
+use Rattle.x509_cert_extensions.specs.Parts.{algorithm_plain, extensions_plain}
 use Rattle.x509_cert_builders.specs.SignedParts.{PlainFields, part_octets, signed_part}
 use Rattle.x509_cert_builders.specs.States.{CertificateState, finalized_plain, octets_in_place}
 use Rattle.x509_cert_builders.specs.declared.certificate_builder.Finalized.{Finalized}
 
 -- they don't depend on the profile by which serial numbers are read
-raw_octets : (t : Tbs) → octets_of (raw_tbs_certificate arc_bound) t ≡ octets_of (tbs_certificate arc_bound (Some 21)) t
+raw_octets : (t : Tbs) → octets_of (raw_tbs_certificate Bound) t ≡ octets_of (tbs_certificate Bound (Some 21)) t
 unfolding octets_of body_octets contents
 raw_octets t = refl
 
@@ -20,7 +21,7 @@ StandsInPlace =
     → take (signed_length bound c) (drop (signed_start bound c) (certificate_octets bound c)) ≡ octets_of (raw_tbs_certificate bound) (tbs c)
 
 in_place : StandsInPlace → (c : PlainCertificate) → octets_in_place c ≡ part_octets (tbs c)
-in_place law c = law arc_bound (certificate_by true c) ∙ raw_octets (tbs_by true (tbs c))
+in_place law c = law Bound (certificate_by true c) ∙ raw_octets (tbs_by true (tbs c))
 
 -- the part that was made last stands in a certificate into which it was put back
 pub put_in_place : StandsInPlace → (o : Option Finalized) (f : PlainFields) (c : PlainCertificate)

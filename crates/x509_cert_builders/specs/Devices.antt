@@ -2,6 +2,7 @@
 use Rattle.std.specs.Prelude.{ℕ, List, [], ◌∷◌, length, ◌==◌, Bool, true, false, Option, Some, None, Result, Ok, Err, if◌then◌else◌}
 use Rattle.std.specs.List.{list_any}
 use Rattle.std.proofs.Common.{inl, inr}
+use Rattle.const_oid.specs.Bound.{Bound}
 use Rattle.const_oid.specs.Comparing.{owned_eq}
 use Rattle.der_core_head.specs.declared.error.ErrorKind.{ErrorKind}
 use Rattle.der_core_head.specs.declared.error.ErrorKind.TheVariants as kinds
@@ -9,7 +10,7 @@ use Rattle.der_core_head.specs.declared.tag.Tag.TheVariants.{Sequence}
 use Rattle.der_core_head.specs.Grammar.{plain_list, plain_option}
 use Rattle.der_core_head.specs.Octets.{◌>>=◌}
 use Rattle.der_core_head.specs.Shapes.{BodyValue, Value, nested, sequence_of, IsValid}
-use Rattle.x509_cert_extensions.specs.Parts.{PlainName, PlainExtension, PublicKey, arc_bound, content_as, written_as}
+use Rattle.x509_cert_extensions.specs.Parts.{PlainName, PlainExtension, PublicKey, content_as, written_as}
 use Rattle.x509_cert_extensions.specs.GeneralNames.{general_name, hardware_module_name_fields}
 use Rattle.x509_cert_extensions.specs.GeneralNameViews.{general_name_plain}
 use Rattle.x509_cert_builders.specs.Profiles.{authority_key_extension, digital_signature, standard_extension, usage_extension}
@@ -41,7 +42,7 @@ PlainModule = BodyValue (hardware_module_name_fields 0)
 
 -- the module that a name of this kind holds, or its first fault; other names hold none
 abbrev pub module_of : PlainGeneralName → Result PlainModule ErrorKind
-module_of (inl n) = content_as Sequence (nested (hardware_module_name_fields arc_bound)) n.1.0
+module_of (inl n) = content_as Sequence (nested (hardware_module_name_fields Bound)) n.1.0
 module_of (inr n) = Err kinds.Failed
 
 -- the same of the first name of this kind
@@ -56,7 +57,7 @@ IsFaulty (Some names) e = FailsAs (first_module names) e
 
 -- the name of a module of this type and this serial number, if a length can count its octets
 abbrev pub module_name : List ℕ → List ℕ → Result PlainGeneralName ErrorKind
-module_name arcs serial = written_as Sequence (nested (hardware_module_name_fields arc_bound)) (arcs, (serial, tt)) >>= λ v. Ok (inl (module_arcs, (v, tt)))
+module_name arcs serial = written_as Sequence (nested (hardware_module_name_fields Bound)) (arcs, (serial, tt)) >>= λ v. Ok (inl (module_arcs, (v, tt)))
 
 -- the identifier of a version of the Trusted Platform Module
 abbrev pub version_arcs : TpmVersion → List ℕ
@@ -67,7 +68,7 @@ version_arcs (versions.Other oid) = oid
 -- SubjectAltName, critical where the subject has no name (RFC 5280 4.2.1.6)
 abbrev pub alternatives : PlainName → Option (List PlainGeneralName) → List PlainExtension
 alternatives subject None = []
-alternatives subject (Some names) = standard_extension 17 (length subject == 0) (sequence_of (general_name arc_bound)) names ∷ []
+alternatives subject (Some names) = standard_extension 17 (length subject == 0) (sequence_of (general_name Bound)) names ∷ []
 
 -- a device (8.10)
 abbrev pub device_extensions : Option (List PlainGeneralName) → PlainName → PublicKey → List PlainExtension
@@ -80,4 +81,4 @@ device_names d = plain_option (λ v. plain_list general_name_plain v.0.items) d.
 -- they have no encoding, as where a length passes 2^32 - 1
 abbrev pub IsUnnameable : Option (List PlainGeneralName) → Type 0
 IsUnnameable None = ⊥
-IsUnnameable (Some names) = IsValid (sequence_of (general_name arc_bound)) names → ⊥
+IsUnnameable (Some names) = IsValid (sequence_of (general_name Bound)) names → ⊥

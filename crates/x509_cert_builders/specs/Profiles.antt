@@ -1,11 +1,12 @@
 -- The extensions that profiles add (RFC 5280 4.2; CA/Browser Forum, Baseline Requirements 7.1.2).
 use Rattle.std.specs.Prelude.{◌≡◌, ⊤, ℕ, ℤ, ◌+◌, ◌^◌, List, [], ◌∷◌, Bool, true, false, ◌&&◌, Option, Some, None, if◌then◌else◌}
+use Rattle.const_oid.specs.Bound.{Bound}
 use Rattle.const_oid.specs.Comparing.{owned_eq}
 use Rattle.der_core_head.specs.declared.tag.Tag.TheVariants as tags
 use Rattle.der_core_head.specs.Leaves.{named}
 use Rattle.der_core_head.specs.Shapes.{Shape, Value, tagged, leaf, sequence, sequence_of, octets_of}
 use Rattle.sha1.specs.Sha1.{sha1}
-use Rattle.x509_cert_extensions.specs.Parts.{PublicKey, PlainExtension, algorithm_arcs, arc_bound, key_algorithm, key_bits, object_identifier, octet_string}
+use Rattle.x509_cert_extensions.specs.Parts.{PublicKey, PlainExtension, algorithm_arcs, key_algorithm, key_bits, object_identifier, octet_string}
 use Rattle.x509_cert_extensions.specs.GeneralNames.{authority_key_identifier_fields}
 use Rattle.x509_cert_extensions.specs.Policies.{basic_constraints_fields}
 
@@ -24,7 +25,7 @@ standard_extension n critical s v = (2 ∷ 5 ∷ 29 ∷ n ∷ [], (critical, (oc
 
 -- AuthorityKeyIdentifier with the issuer's key alone (4.2.1.1)
 abbrev pub authority_key_extension : PublicKey → PlainExtension
-authority_key_extension k = standard_extension 35 false (sequence (authority_key_identifier_fields arc_bound)) (Some (key_identifier k), (None, (None, tt)))
+authority_key_extension k = standard_extension 35 false (sequence (authority_key_identifier_fields Bound)) (Some (key_identifier k), (None, (None, tt)))
 
 -- SubjectKeyIdentifier (4.2.1.2)
 abbrev pub subject_key_extension : PublicKey → PlainExtension
@@ -64,7 +65,7 @@ purposes clients = if clients then id_kp 1 ∷ id_kp 2 ∷ [] else id_kp 1 ∷ [
 
 -- ExtendedKeyUsage (4.2.1.12)
 abbrev pub purposes_extension : Bool → PlainExtension
-purposes_extension clients = standard_extension 37 false (sequence_of (object_identifier arc_bound)) (purposes clients)
+purposes_extension clients = standard_extension 37 false (sequence_of (object_identifier Bound)) (purposes clients)
 
 -- a subordinate authority (7.1.2.6.1)
 abbrev pub subordinate_extensions : Bool → Bool → Option ℤ → PublicKey → PublicKey → List PlainExtension

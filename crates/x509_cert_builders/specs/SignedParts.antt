@@ -1,8 +1,9 @@
 -- What a builder of certificates signs (RFC 5280 4.1.2).
 use Rattle.std.specs.Prelude.{ℕ, ℤ, pos, List, [], ◌∷◌, Bool, true, false, Option, Some, None, if◌then◌else◌}
+use Rattle.const_oid.specs.Bound.{Bound}
 use Rattle.der_core_head.specs.Shapes.{BodyValue, field, done, octets_of, IsValid}
 use Rattle.x509_cert_extensions.specs.Certificates.{Tbs, tbs_certificate, tbs_by, tbs_issuer, tbs_validity, tbs_subject, tbs_public_key}
-use Rattle.x509_cert_extensions.specs.Parts.{Algorithm, PublicKey, PlainExtension, PlainName, arc_bound, time}
+use Rattle.x509_cert_extensions.specs.Parts.{Algorithm, PublicKey, PlainExtension, PlainName, time}
 
 -- two dates, each with its spelling (4.1.2.5)
 abbrev pub PlainDates : Type 0
@@ -62,11 +63,11 @@ signed_part f a extensions = tbs_of (has_any extensions) f a (listed extensions)
 
 -- the octets of a part, with dates as RFC 5280 has them
 abbrev pub part_octets : Tbs → List ℕ
-part_octets t = octets_of (tbs_certificate arc_bound (Some 21)) (tbs_by true t)
+part_octets t = octets_of (tbs_certificate Bound (Some 21)) (tbs_by true t)
 
 -- a part has no encoding, as where a length passes 2^32 - 1
 abbrev pub IsUnwritable : Tbs → Type 0
-IsUnwritable t = IsValid (tbs_certificate arc_bound (Some 21)) (tbs_by true t) → ⊥
+IsUnwritable t = IsValid (tbs_certificate Bound (Some 21)) (tbs_by true t) → ⊥
 
 abbrev pub signed_octets : PlainFields → Algorithm → List PlainExtension → List ℕ
 signed_octets f a extensions = part_octets (signed_part f a extensions)

@@ -1,9 +1,10 @@
 -- What contracts see of builders, and of what they make.
 use Rattle.std.specs.Prelude.{ℕ, List, take, drop, Option, Some, None, true}
+use Rattle.const_oid.specs.Bound.{Bound}
 use Rattle.der_core_head.specs.Grammar.{plain_option}
 use Rattle.x509_cert_extensions.specs.Certificates.{PlainCertificate, certificate_by, certificate_octets, signed_start, signed_length}
 use Rattle.x509_cert_extensions.specs.CertificateViews.{tbs_plain}
-use Rattle.x509_cert_extensions.specs.Parts.{Algorithm, PlainExtension, algorithm_plain, arc_bound, extensions_plain}
+use Rattle.x509_cert_extensions.specs.Parts.{Algorithm, PlainExtension, algorithm_plain, extensions_plain}
 use Rattle.x509_cert_builders.specs.SignedParts.{PlainFields, fields_of, signed_octets}
 use Rattle.x509_cert_builders.specs.declared.certificate_builder.CertificateBuilder.TheInside.{Inside}
 use Rattle.x509_cert_builders.specs.declared.certificate_builder.Finalized.{Finalized}
@@ -38,4 +39,4 @@ algorithm_of_last (Some f) a = f.0
 abbrev pub octets_in_place : PlainCertificate → List ℕ
 octets_in_place c =
     let w = certificate_by true c in
-    take (signed_length arc_bound w) (drop (signed_start arc_bound w) (certificate_octets arc_bound w))
+    take (signed_length Bound w) (drop (signed_start Bound w) (certificate_octets Bound w))

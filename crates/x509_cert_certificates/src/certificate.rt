@@ -1,12 +1,13 @@
 //! Certificates.
 
 ghost use Rattle.std.specs.Prelude.{◌≡◌, ◌≢◌, [], refl, IfOk, IfErr};
+ghost use Rattle.const_oid.specs.Bound.{Bound};
 ghost use Rattle.der_core_head.specs.declared.error.ErrorKind.TheVariants.{OutOfMemory};
 ghost use Rattle.der_core_head.specs.declared.tag.Tag.TheVariants.{Sequence};
 ghost use Rattle.der_core_head.specs.Grammar.{whole_at};
 ghost use Rattle.der_core_head.specs.Reading.{Gives};
 ghost use Rattle.der_core_head.specs.Shapes.{nested, Spells};
-ghost use Rattle.x509_cert_parts.specs.Views.{arc_bound, algorithm_plain};
+ghost use Rattle.x509_cert_parts.specs.Views.{algorithm_plain};
 ghost use Rattle.x509_cert_certificates.specs.Certificates.{PlainCertificate, certificate, certificate_fields, certificate_by, tbs, outer_algorithm, signature_bits};
 ghost use Rattle.x509_cert_certificates.specs.Views.{certificate_plain, tbs_plain};
 
@@ -55,7 +56,7 @@ impl<P> FixedTag for CertificateInner<P> {
 }
 
 impl<P: Profile> Fields for CertificateInner<P> {
-    ghost fields = { certificate_fields arc_bound P.serial_limit };
+    ghost fields = { certificate_fields Bound P.serial_limit };
 
     ghost fields_plain = { certificate_plain };
 
@@ -76,7 +77,7 @@ impl<'a, R: Reader<'a>, P: Profile> DecodeFields<'a, R> for CertificateInner<P> 
 }
 
 impl<P: Profile> ShapedValue for CertificateInner<P> {
-    ghost content = { nested (certificate_fields arc_bound P.serial_limit) };
+    ghost content = { nested (certificate_fields Bound P.serial_limit) };
 
     ghost value_plain = { certificate_plain };
 
@@ -128,11 +129,11 @@ impl<P: Profile> CertificateInner<P> {
     /// The first fault from the left, or `OutOfMemory`.
     pub fn from_der(alloc: Global, bytes: &[u8]) -> Result<CertificateInner<P>, Error>
         // What is read is spelled so.
-        ensures spelled { IfOk result (λ c. Spells (certificate arc_bound P.serial_limit) (certificate_plain c) bytes.now) }
+        ensures spelled { IfOk result (λ c. Spells (certificate Bound P.serial_limit) (certificate_plain c) bytes.now) }
         // What is refused for another reason than want of memory is spelled by no certificate.
-        ensures refused { IfErr result (λ e. e.kind ≢ OutOfMemory → (c : PlainCertificate) → Spells (certificate arc_bound P.serial_limit) c bytes.now → ⊥) }
+        ensures refused { IfErr result (λ e. e.kind ≢ OutOfMemory → (c : PlainCertificate) → Spells (certificate Bound P.serial_limit) c bytes.now → ⊥) }
         // Which fault it is.
-        ensures exact { Gives (λ c. (certificate_plain c, [])) result (whole_at (certificate arc_bound P.serial_limit) bytes.now) }
+        ensures exact { Gives (λ c. (certificate_plain c, [])) result (whole_at (certificate Bound P.serial_limit) bytes.now) }
     {
         from_der(alloc, bytes)
     }

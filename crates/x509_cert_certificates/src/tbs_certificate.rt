@@ -1,11 +1,12 @@
 //! The signed part of a certificate.
 
 ghost use Rattle.std.specs.Prelude.{◌≡◌, refl};
+ghost use Rattle.const_oid.specs.Bound.{Bound};
 ghost use Rattle.der_core_head.specs.declared.tag.Tag.TheVariants.{Sequence};
 ghost use Rattle.der_core_head.specs.Grammar.{plain_option};
 ghost use Rattle.der_core_head.specs.Shapes.{nested};
 ghost use Rattle.x509_cert_parts.specs.NameParts.{name_plain};
-ghost use Rattle.x509_cert_parts.specs.Views.{arc_bound, version_number, validity_plain, algorithm_plain, key_plain, extensions_plain};
+ghost use Rattle.x509_cert_parts.specs.Views.{version_number, validity_plain, algorithm_plain, key_plain, extensions_plain};
 ghost use Rattle.der_core_head.specs.Reading.{Gives};
 ghost use Rattle.x509_cert_parts.specs.ExtensionSearch.{only_value, listed};
 ghost use Rattle.x509_cert_certificates.specs.Certificates.{tbs_fields, tbs_by, tbs_version, tbs_serial, tbs_inner_algorithm, tbs_issuer, tbs_validity, tbs_subject, tbs_public_key, tbs_issuer_unique_id, tbs_subject_unique_id, tbs_extensions};
@@ -96,7 +97,7 @@ impl<P> FixedTag for TbsCertificateInner<P> {
 }
 
 impl<P: Profile> Fields for TbsCertificateInner<P> {
-    ghost fields = { tbs_fields arc_bound P.serial_limit };
+    ghost fields = { tbs_fields Bound P.serial_limit };
 
     ghost fields_plain = { tbs_plain };
 
@@ -148,7 +149,7 @@ fn extensions_of(field: Option<Explicit<Extensions, 3>>) -> Option<Extensions>
 }
 
 impl<P: Profile> ShapedValue for TbsCertificateInner<P> {
-    ghost content = { nested (tbs_fields arc_bound P.serial_limit) };
+    ghost content = { nested (tbs_fields Bound P.serial_limit) };
 
     ghost value_plain = { tbs_plain };
 

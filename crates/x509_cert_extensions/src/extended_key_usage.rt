@@ -1,10 +1,11 @@
 //! ExtendedKeyUsage.
 
 ghost use Rattle.std.specs.Prelude.{◌≡◌, refl};
+ghost use Rattle.const_oid.specs.Bound.{Bound};
 ghost use Rattle.der_core_head.specs.declared.tag.Tag.TheVariants.{Sequence};
 ghost use Rattle.der_core_head.specs.Grammar.{plain_list};
 ghost use Rattle.der_core_head.specs.Shapes.{nested, many};
-ghost use Rattle.x509_cert_policies.specs.Parts.{object_identifier, arc_bound};
+ghost use Rattle.x509_cert_policies.specs.Parts.{object_identifier};
 
 use const_oid::ObjectIdentifier;
 use der_core::{
@@ -33,7 +34,7 @@ impl FixedTag for ExtendedKeyUsage {
 }
 
 impl ShapedValue for ExtendedKeyUsage {
-    ghost content = { nested (many (object_identifier arc_bound)) };
+    ghost content = { nested (many (object_identifier Bound)) };
 
     ghost value_plain = { λ x. plain_list (λ a. a) x.0.items };
 

@@ -1,11 +1,11 @@
 //! IssuerAltName.
 
 ghost use Rattle.std.specs.Prelude.{◌≡◌, [], refl};
+ghost use Rattle.const_oid.specs.Bound.{Bound};
 ghost use Rattle.der_core_head.specs.declared.tag.Tag.TheVariants.{Sequence};
 ghost use Rattle.der_core_head.specs.Grammar.{plain_list};
 ghost use Rattle.der_core_head.specs.Shapes.{nested, many};
 ghost use Rattle.x509_cert_policies.specs.GeneralNames.{general_name};
-ghost use Rattle.x509_cert_policies.specs.Parts.{arc_bound};
 ghost use Rattle.x509_cert_policies.specs.GeneralNameViews.{general_name_plain};
 
 use der_core::{
@@ -42,7 +42,7 @@ impl FixedTag for IssuerAltName {
 }
 
 impl ShapedValue for IssuerAltName {
-    ghost content = { nested (many (general_name arc_bound)) };
+    ghost content = { nested (many (general_name Bound)) };
 
     ghost value_plain = { λ x. plain_list general_name_plain x.0.items };
 

@@ -1,10 +1,11 @@
 //! SubjectDirectoryAttributes.
 
 ghost use Rattle.std.specs.Prelude.{◌≡◌, [], refl};
+ghost use Rattle.const_oid.specs.Bound.{Bound};
 ghost use Rattle.der_core_head.specs.declared.tag.Tag.TheVariants.{Sequence};
 ghost use Rattle.der_core_head.specs.Grammar.{plain_list};
 ghost use Rattle.der_core_head.specs.Shapes.{nested, many};
-ghost use Rattle.x509_cert_policies.specs.Parts.{attribute, arc_bound, attribute_plain};
+ghost use Rattle.x509_cert_policies.specs.Parts.{attribute, attribute_plain};
 
 use der_core::{
     ApartValue, AsReadValue, DecodeValue, EncodeValue, Error, FixedTag, Header, Length, Reader,
@@ -40,7 +41,7 @@ impl FixedTag for SubjectDirectoryAttributes {
 }
 
 impl ShapedValue for SubjectDirectoryAttributes {
-    ghost content = { nested (many (attribute arc_bound)) };
+    ghost content = { nested (many (attribute Bound)) };
 
     ghost value_plain = { λ x. plain_list attribute_plain x.0.items };
 

@@ -1,11 +1,11 @@
 //! SubjectInfoAccessSyntax.
 
 ghost use Rattle.std.specs.Prelude.{◌≡◌, [], refl};
+ghost use Rattle.const_oid.specs.Bound.{Bound};
 ghost use Rattle.der_core_head.specs.declared.tag.Tag.TheVariants.{Sequence};
 ghost use Rattle.der_core_head.specs.Grammar.{plain_list};
 ghost use Rattle.der_core_head.specs.Shapes.{nested, many, sequence};
 ghost use Rattle.x509_cert_policies.specs.GeneralNames.{access_description_fields};
-ghost use Rattle.x509_cert_policies.specs.Parts.{arc_bound};
 ghost use Rattle.x509_cert_policies.specs.GeneralNameViews.{access_description_plain};
 
 use der_core::{
@@ -42,7 +42,7 @@ impl FixedTag for SubjectInfoAccessSyntax {
 }
 
 impl ShapedValue for SubjectInfoAccessSyntax {
-    ghost content = { nested (many (sequence (access_description_fields arc_bound))) };
+    ghost content = { nested (many (sequence (access_description_fields Bound))) };
 
     ghost value_plain = { λ x. plain_list access_description_plain x.0.items };
 

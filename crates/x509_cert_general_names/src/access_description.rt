@@ -1,9 +1,9 @@
 //! AccessDescription.
 
 ghost use Rattle.std.specs.Prelude.{◌≡◌, refl};
+ghost use Rattle.const_oid.specs.Bound.{Bound};
 ghost use Rattle.der_core_head.specs.declared.tag.Tag.TheVariants.{Sequence};
 ghost use Rattle.der_core_head.specs.Shapes.{nested};
-ghost use Rattle.x509_cert_certificates.specs.Parts.{arc_bound};
 ghost use Rattle.x509_cert_general_names.specs.Grammar.{access_description_fields};
 ghost use Rattle.x509_cert_general_names.specs.Views.{access_description_plain};
 
@@ -60,7 +60,7 @@ impl FixedTag for AccessDescription {
 }
 
 impl Fields for AccessDescription {
-    ghost fields = { access_description_fields arc_bound };
+    ghost fields = { access_description_fields Bound };
 
     ghost fields_plain = { access_description_plain };
 
@@ -78,7 +78,7 @@ impl<'a, R: Reader<'a>> DecodeFields<'a, R> for AccessDescription {
 }
 
 impl ShapedValue for AccessDescription {
-    ghost content = { nested (access_description_fields arc_bound) };
+    ghost content = { nested (access_description_fields Bound) };
 
     ghost value_plain = { access_description_plain };
 

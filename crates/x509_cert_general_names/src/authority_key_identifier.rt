@@ -1,9 +1,9 @@
 //! AuthorityKeyIdentifier.
 
 ghost use Rattle.std.specs.Prelude.{◌≡◌, refl};
+ghost use Rattle.const_oid.specs.Bound.{Bound};
 ghost use Rattle.der_core_head.specs.declared.tag.Tag.TheVariants.{Sequence};
 ghost use Rattle.der_core_head.specs.Shapes.{nested};
-ghost use Rattle.x509_cert_certificates.specs.Parts.{arc_bound};
 ghost use Rattle.x509_cert_general_names.specs.Grammar.{authority_key_identifier_fields};
 ghost use Rattle.x509_cert_general_names.specs.Views.{authority_key_identifier_plain};
 
@@ -78,7 +78,7 @@ impl FixedTag for AuthorityKeyIdentifier {
 }
 
 impl Fields for AuthorityKeyIdentifier {
-    ghost fields = { authority_key_identifier_fields arc_bound };
+    ghost fields = { authority_key_identifier_fields Bound };
 
     ghost fields_plain = { authority_key_identifier_plain };
 
@@ -98,7 +98,7 @@ impl<'a, R: Reader<'a>> DecodeFields<'a, R> for AuthorityKeyIdentifier {
 }
 
 impl ShapedValue for AuthorityKeyIdentifier {
-    ghost content = { nested (authority_key_identifier_fields arc_bound) };
+    ghost content = { nested (authority_key_identifier_fields Bound) };
 
     ghost value_plain = { authority_key_identifier_plain };
 

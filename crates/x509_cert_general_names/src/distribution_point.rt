@@ -1,9 +1,9 @@
 //! DistributionPoint.
 
 ghost use Rattle.std.specs.Prelude.{◌≡◌, refl};
+ghost use Rattle.const_oid.specs.Bound.{Bound};
 ghost use Rattle.der_core_head.specs.declared.tag.Tag.TheVariants.{Sequence};
 ghost use Rattle.der_core_head.specs.Shapes.{nested};
-ghost use Rattle.x509_cert_certificates.specs.Parts.{arc_bound};
 ghost use Rattle.x509_cert_general_names.specs.Grammar.{distribution_point_fields};
 ghost use Rattle.x509_cert_general_names.specs.Views.{distribution_point_plain};
 
@@ -77,7 +77,7 @@ impl FixedTag for DistributionPoint {
 }
 
 impl Fields for DistributionPoint {
-    ghost fields = { distribution_point_fields arc_bound };
+    ghost fields = { distribution_point_fields Bound };
 
     ghost fields_plain = { distribution_point_plain };
 
@@ -96,7 +96,7 @@ impl<'a, R: Reader<'a>> DecodeFields<'a, R> for DistributionPoint {
 }
 
 impl ShapedValue for DistributionPoint {
-    ghost content = { nested (distribution_point_fields arc_bound) };
+    ghost content = { nested (distribution_point_fields Bound) };
 
     ghost value_plain = { distribution_point_plain };
 

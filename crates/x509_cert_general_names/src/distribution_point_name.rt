@@ -1,7 +1,7 @@
 //! DistributionPointName.
 
 ghost use Rattle.std.specs.Prelude.{◌≡◌, refl};
-ghost use Rattle.x509_cert_certificates.specs.Parts.{arc_bound};
+ghost use Rattle.const_oid.specs.Bound.{Bound};
 ghost use Rattle.x509_cert_general_names.specs.Grammar.{distribution_point_name};
 ghost use Rattle.x509_cert_general_names.specs.Views.{distribution_point_name_plain};
 
@@ -51,7 +51,7 @@ impl DistributionPointName {
 }
 
 impl Shaped for DistributionPointName {
-    ghost shape = { distribution_point_name arc_bound };
+    ghost shape = { distribution_point_name Bound };
 
     ghost plain = { distribution_point_name_plain };
 

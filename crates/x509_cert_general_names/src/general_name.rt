@@ -1,8 +1,8 @@
 //! GeneralName.
 
 ghost use Rattle.std.specs.Prelude.{◌≡◌, ◌≤◌, vec_len, refl, IfOk, IfErr};
+ghost use Rattle.const_oid.specs.Bound.{Bound};
 ghost use Rattle.der_core_head.specs.declared.error.ErrorKind.TheVariants.{OutOfMemory};
-ghost use Rattle.x509_cert_certificates.specs.Parts.{arc_bound};
 ghost use Rattle.x509_cert_general_names.specs.Addresses.{address_octets};
 ghost use Rattle.x509_cert_general_names.specs.Grammar.{general_name};
 ghost use Rattle.x509_cert_general_names.specs.Views.{general_name_plain};
@@ -134,7 +134,7 @@ impl GeneralName {
 }
 
 impl Shaped for GeneralName {
-    ghost shape = { general_name arc_bound };
+    ghost shape = { general_name Bound };
 
     ghost plain = { general_name_plain };
 

@@ -1,9 +1,9 @@
 //! GeneralSubtree.
 
 ghost use Rattle.std.specs.Prelude.{◌≡◌, refl};
+ghost use Rattle.const_oid.specs.Bound.{Bound};
 ghost use Rattle.der_core_head.specs.declared.tag.Tag.TheVariants.{Sequence};
 ghost use Rattle.der_core_head.specs.Shapes.{nested};
-ghost use Rattle.x509_cert_certificates.specs.Parts.{arc_bound};
 ghost use Rattle.x509_cert_general_names.specs.Grammar.{general_subtree_fields};
 ghost use Rattle.x509_cert_general_names.specs.Views.{general_subtree_plain};
 
@@ -81,7 +81,7 @@ impl FixedTag for GeneralSubtree {
 }
 
 impl Fields for GeneralSubtree {
-    ghost fields = { general_subtree_fields arc_bound };
+    ghost fields = { general_subtree_fields Bound };
 
     ghost fields_plain = { general_subtree_plain };
 
@@ -100,7 +100,7 @@ impl<'a, R: Reader<'a>> DecodeFields<'a, R> for GeneralSubtree {
 }
 
 impl ShapedValue for GeneralSubtree {
-    ghost content = { nested (general_subtree_fields arc_bound) };
+    ghost content = { nested (general_subtree_fields Bound) };
 
     ghost value_plain = { general_subtree_plain };
 

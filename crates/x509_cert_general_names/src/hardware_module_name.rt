@@ -1,11 +1,11 @@
 //! HardwareModuleName.
 
 ghost use Rattle.std.specs.Prelude.{◌≡◌, true, false, Ok, Some, None, IsSome, IfOk, IfSome, refl};
+ghost use Rattle.const_oid.specs.Bound.{Bound};
 ghost use Rattle.der_core_head.specs.declared.tag.Tag.TheVariants.{Sequence};
 ghost use Rattle.der_core_head.specs.Grammar.{plain_option};
 ghost use Rattle.der_core_head.specs.Reading.{Gives};
 ghost use Rattle.der_core_head.specs.Shapes.{nested};
-ghost use Rattle.x509_cert_certificates.specs.Parts.{arc_bound};
 ghost use Rattle.x509_cert_general_names.specs.Grammar.{hardware_module_name_fields};
 ghost use Rattle.x509_cert_general_names.specs.Modules.{PlainModule, is_of_module, HasEncoding, HoldsModule, module_read};
 ghost use Rattle.x509_cert_general_names.specs.Views.{hardware_module_name_plain, other_name_plain};
@@ -58,13 +58,13 @@ impl HardwareModuleName {
         ensures held { is_of_module (other_name_plain other_name.now) ≡ true → IfOk result IsSome }
         // The module that is answered is spelled by the value.
         ensures spelled { HasEncoding (other_name_plain other_name.now)
-            → IfOk result (λ o. IfSome o (λ m. HoldsModule arc_bound (other_name_plain other_name.now) (hardware_module_name_plain m))) }
+            → IfOk result (λ o. IfSome o (λ m. HoldsModule Bound (other_name_plain other_name.now) (hardware_module_name_plain m))) }
         // A module that is spelled by the value is answered, unless memory runs out.
         ensures only { (m : PlainModule) → is_of_module (other_name_plain other_name.now) ≡ true → HasEncoding (other_name_plain other_name.now)
-            → HoldsModule arc_bound (other_name_plain other_name.now) m → Gives (plain_option hardware_module_name_plain) result (Ok (Some m)) }
+            → HoldsModule Bound (other_name_plain other_name.now) m → Gives (plain_option hardware_module_name_plain) result (Ok (Some m)) }
         // Which fault it is.
         ensures exact { is_of_module (other_name_plain other_name.now) ≡ true
-            → Gives (plain_option hardware_module_name_plain) result (module_read arc_bound (other_name_plain other_name.now)) }
+            → Gives (plain_option hardware_module_name_plain) result (module_read Bound (other_name_plain other_name.now)) }
     {
         if other_name.type_id == HardwareModuleName::associated_oid() {
             let module: HardwareModuleName = other_name.value.decode_as(alloc)?;
@@ -93,7 +93,7 @@ impl FixedTag for HardwareModuleName {
 }
 
 impl Fields for HardwareModuleName {
-    ghost fields = { hardware_module_name_fields arc_bound };
+    ghost fields = { hardware_module_name_fields Bound };
 
     ghost fields_plain = { hardware_module_name_plain };
 
@@ -111,7 +111,7 @@ impl<'a, R: Reader<'a>> DecodeFields<'a, R> for HardwareModuleName {
 }
 
 impl ShapedValue for HardwareModuleName {
-    ghost content = { nested (hardware_module_name_fields arc_bound) };
+    ghost content = { nested (hardware_module_name_fields Bound) };
 
     ghost value_plain = { hardware_module_name_plain };
 

@@ -1,9 +1,9 @@
 //! IssuingDistributionPoint.
 
 ghost use Rattle.std.specs.Prelude.{◌≡◌, refl};
+ghost use Rattle.const_oid.specs.Bound.{Bound};
 ghost use Rattle.der_core_head.specs.declared.tag.Tag.TheVariants.{Sequence};
 ghost use Rattle.der_core_head.specs.Shapes.{nested};
-ghost use Rattle.x509_cert_certificates.specs.Parts.{arc_bound};
 ghost use Rattle.x509_cert_general_names.specs.Grammar.{issuing_distribution_point_fields};
 ghost use Rattle.x509_cert_general_names.specs.Views.{issuing_distribution_point_plain};
 
@@ -131,7 +131,7 @@ impl FixedTag for IssuingDistributionPoint {
 }
 
 impl Fields for IssuingDistributionPoint {
-    ghost fields = { issuing_distribution_point_fields arc_bound };
+    ghost fields = { issuing_distribution_point_fields Bound };
 
     ghost fields_plain = { issuing_distribution_point_plain };
 
@@ -162,7 +162,7 @@ impl<'a, R: Reader<'a>> DecodeFields<'a, R> for IssuingDistributionPoint {
 }
 
 impl ShapedValue for IssuingDistributionPoint {
-    ghost content = { nested (issuing_distribution_point_fields arc_bound) };
+    ghost content = { nested (issuing_distribution_point_fields Bound) };
 
     ghost value_plain = { issuing_distribution_point_plain };
 

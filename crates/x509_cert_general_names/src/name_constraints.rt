@@ -1,9 +1,9 @@
 //! NameConstraints.
 
 ghost use Rattle.std.specs.Prelude.{◌≡◌, refl};
+ghost use Rattle.const_oid.specs.Bound.{Bound};
 ghost use Rattle.der_core_head.specs.declared.tag.Tag.TheVariants.{Sequence};
 ghost use Rattle.der_core_head.specs.Shapes.{nested};
-ghost use Rattle.x509_cert_certificates.specs.Parts.{arc_bound};
 ghost use Rattle.x509_cert_general_names.specs.Grammar.{name_constraints_fields};
 ghost use Rattle.x509_cert_general_names.specs.Views.{name_constraints_plain};
 
@@ -65,7 +65,7 @@ impl FixedTag for NameConstraints {
 }
 
 impl Fields for NameConstraints {
-    ghost fields = { name_constraints_fields arc_bound };
+    ghost fields = { name_constraints_fields Bound };
 
     ghost fields_plain = { name_constraints_plain };
 
@@ -83,7 +83,7 @@ impl<'a, R: Reader<'a>> DecodeFields<'a, R> for NameConstraints {
 }
 
 impl ShapedValue for NameConstraints {
-    ghost content = { nested (name_constraints_fields arc_bound) };
+    ghost content = { nested (name_constraints_fields Bound) };
 
     ghost value_plain = { name_constraints_plain };
 

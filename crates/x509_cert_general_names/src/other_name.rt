@@ -1,10 +1,10 @@
 //! OtherName.
 
 ghost use Rattle.std.specs.Prelude.{◌≡◌, refl};
+ghost use Rattle.const_oid.specs.Bound.{Bound};
 ghost use Rattle.der_core_head.specs.declared.tag.Tag.TheVariants.{Sequence};
 ghost use Rattle.der_core_head.specs.Reading.{Gives};
 ghost use Rattle.der_core_head.specs.Shapes.{nested};
-ghost use Rattle.x509_cert_certificates.specs.Parts.{arc_bound};
 ghost use Rattle.x509_cert_general_names.specs.Grammar.{other_name_fields};
 ghost use Rattle.x509_cert_general_names.specs.Modules.{module_held};
 ghost use Rattle.x509_cert_general_names.specs.Views.{hardware_module_name_plain, other_name_plain};
@@ -49,7 +49,7 @@ impl OtherName {
     /// # Errors
     /// `Overflow` where the module has 2^32 octets or more, or `OutOfMemory`.
     pub fn try_from(alloc: Global, named: &HardwareModuleName) -> Result<OtherName, Error>
-        ensures { Gives other_name_plain result (module_held arc_bound (hardware_module_name_plain named.now)) }
+        ensures { Gives other_name_plain result (module_held Bound (hardware_module_name_plain named.now)) }
     {
         let value = Any::encode_from(alloc, named)?;
         Ok(OtherName {
@@ -83,7 +83,7 @@ impl FixedTag for OtherName {
 }
 
 impl Fields for OtherName {
-    ghost fields = { other_name_fields arc_bound };
+    ghost fields = { other_name_fields Bound };
 
     ghost fields_plain = { other_name_plain };
 
@@ -101,7 +101,7 @@ impl<'a, R: Reader<'a>> DecodeFields<'a, R> for OtherName {
 }
 
 impl ShapedValue for OtherName {
-    ghost content = { nested (other_name_fields arc_bound) };
+    ghost content = { nested (other_name_fields Bound) };
 
     ghost value_plain = { other_name_plain };
 

@@ -1,5 +1,6 @@
 -- What a builder of revocation lists signs (RFC 5280 5.1.2).
 use Rattle.std.specs.Prelude.{◌≡◌, ℕ, List, [], ◌∷◌, ◌++◌, Bool, false, pos, Option, Some, None, Result, Ok}
+use Rattle.const_oid.specs.Bound.{Bound}
 use Rattle.der_core_head.specs.declared.error.ErrorKind.{ErrorKind}
 use Rattle.der_core_head.specs.declared.tag.Tag.TheVariants as tags
 use Rattle.der_core_head.specs.Integers.{natural}
@@ -9,7 +10,7 @@ use Rattle.der_core_head.specs.Shapes.{Shape, Value, BodyValue, IsValid, tagged,
 use Rattle.sha1.specs.Sha1.{sha1}
 use Rattle.x509_cert_builders.specs.Certificates.{Tbs, tbs_public_key}
 use Rattle.x509_cert_lists.specs.Grammar.{revoked_cert_fields, tbs_cert_list_fields}
-use Rattle.x509_cert_builders.specs.Parts.{Algorithm, PlainExtension, PlainName, PublicKey, arc_bound, key_bits, time, only_value, listed}
+use Rattle.x509_cert_builders.specs.Parts.{Algorithm, PlainExtension, PlainName, PublicKey, key_bits, time, only_value, listed}
 use Rattle.x509_cert_builders.specs.GeneralNames.{authority_key_identifier_fields}
 
 -- a date and its spelling
@@ -26,14 +27,14 @@ PlainList = BodyValue (tbs_cert_list_fields 0 None)
 
 -- TBSCertList, whose serial numbers have at most so many content octets, if there is such a number
 abbrev pub list_part : Option ℕ → Shape
-list_part limit = sequence (tbs_cert_list_fields arc_bound limit)
+list_part limit = sequence (tbs_cert_list_fields Bound limit)
 
 -- AuthorityKeyIdentifier (4.2.1.1)
 abbrev pub PlainAuthority : Type 0
 PlainAuthority = BodyValue (authority_key_identifier_fields 0)
 
 abbrev pub authority_key : Shape
-authority_key = sequence (authority_key_identifier_fields arc_bound)
+authority_key = sequence (authority_key_identifier_fields Bound)
 
 abbrev pub authority_key_arcs : List ℕ
 authority_key_arcs = 2 ∷ 5 ∷ 29 ∷ 35 ∷ []

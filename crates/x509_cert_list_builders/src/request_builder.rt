@@ -1,12 +1,13 @@
 //! Builders of certification requests.
 
 ghost use Rattle.std.specs.Prelude.{◌≡◌, ◌⊎◌, ◌++◌, ◌∷◌, [], false, Ok, Some, None, IfOk, IfErr, OnOk, OnErr, IsOk};
+ghost use Rattle.const_oid.specs.Bound.{Bound};
 ghost use Rattle.der_core_head.specs.Grammar.{plain_option};
 ghost use Rattle.der_core_head.specs.Ranges.{IsBodyInRange};
 ghost use Rattle.der_core_head.specs.Shapes.{IsValid, octets_of};
 ghost use Rattle.x509_cert_lists.specs.Attributes.{any_of, attribute_of};
 ghost use Rattle.x509_cert_lists.specs.Grammar.{cert_req_info_fields};
-ghost use Rattle.x509_cert_builders.specs.Parts.{PlainAttribute, algorithm_plain, arc_bound, attribute, key_plain, name_plain};
+ghost use Rattle.x509_cert_builders.specs.Parts.{PlainAttribute, algorithm_plain, attribute, key_plain, name_plain};
 ghost use Rattle.x509_cert_lists.specs.Views.{cert_req_info_plain, cert_req_plain};
 ghost use Rattle.x509_cert_builders.specs.Refusals.{IsWantOfMemory, IsWantOfMemoryAs};
 ghost use Rattle.x509_cert_list_builders.specs.Requests.{HasNoOctets, IsNoneToAdd, placed, request_of, request_part, stands_among};
@@ -38,20 +39,21 @@ pub struct RequestBuilder {
 
 impl Model for RequestBuilder {
     ghost use Rattle.std.specs.List.{AllByRecursion};
+    ghost use Rattle.const_oid.specs.Bound.{Bound};
     ghost use Rattle.der_core_head.specs.Shapes.{IsValid};
-    ghost use Rattle.x509_cert_builders.specs.Parts.{arc_bound, attribute, attribute_plain};
+    ghost use Rattle.x509_cert_builders.specs.Parts.{attribute, attribute_plain};
     ghost use Rattle.x509_cert_list_builders.specs.States.{RequestState, request_state};
 
     ghost Value = { RequestState };
 
     ghost view = { request_state };
 
-    ghost invariant = { λ b. AllByRecursion (λ a. IsValid (attribute arc_bound) (attribute_plain a)) b.attributes.items };
+    ghost invariant = { λ b. AllByRecursion (λ a. IsValid (attribute Bound) (attribute_plain a)) b.attributes.items };
 }
 
 /// The parts of what is signed are in their ranges.
 fn parts_in_range(info: &CertReqInfo)
-    ensures { IsBodyInRange (cert_req_info_fields arc_bound) (cert_req_info_plain info.now) }
+    ensures { IsBodyInRange (cert_req_info_fields Bound) (cert_req_info_plain info.now) }
 {
     info.subject.in_range();
     info.public_key.algorithm.oid.in_range();
@@ -105,8 +107,8 @@ impl RequestBuilder {
     /// `SetDuplicate` where it stands there, `Overflow` where it has 2^32 octets or more, and want of memory. The builder is then as it
     /// was.
     pub fn add_attribute<A: AsAttribute>(&mut self, alloc: Global, value: &A) -> Result<(), Error>
-        ensures added { OnOk result ((a : PlainAttribute) × (attribute_of A.oid_arcs (any_of A.shape (A.written value.now)) ≡ Ok a) × (self.new ≡ record self.old { attributes = placed (attribute arc_bound) a self.old.attributes })) }
-        ensures once { OnOk result ((a : PlainAttribute) → attribute_of A.oid_arcs (any_of A.shape (A.written value.now)) ≡ Ok a → stands_among (attribute arc_bound) a self.old.attributes ≡ false) }
+        ensures added { OnOk result ((a : PlainAttribute) × (attribute_of A.oid_arcs (any_of A.shape (A.written value.now)) ≡ Ok a) × (self.new ≡ record self.old { attributes = placed (attribute Bound) a self.old.attributes })) }
+        ensures once { OnOk result ((a : PlainAttribute) → attribute_of A.oid_arcs (any_of A.shape (A.written value.now)) ≡ Ok a → stands_among (attribute Bound) a self.old.attributes ≡ false) }
         ensures kept { OnErr result (self.new ≡ self.old) }
         ensures refused { IfErr result (λ e. IsWantOfMemory e ⊎ IsNoneToAdd (attribute_of A.oid_arcs (any_of A.shape (A.written value.now))) self.old.attributes) }
     {

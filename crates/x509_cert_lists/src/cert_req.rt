@@ -1,12 +1,12 @@
 //! Certification requests.
 
 ghost use Rattle.std.specs.Prelude.{◌≡◌, ◌≢◌, [], IfOk, IfErr, refl};
+ghost use Rattle.const_oid.specs.Bound.{Bound};
 ghost use Rattle.der_core_head.specs.declared.error.ErrorKind.TheVariants.{OutOfMemory};
 ghost use Rattle.der_core_head.specs.declared.tag.Tag.TheVariants.{Sequence};
 ghost use Rattle.der_core_head.specs.Grammar.{whole_at};
 ghost use Rattle.der_core_head.specs.Reading.{Gives};
 ghost use Rattle.der_core_head.specs.Shapes.{nested, Spells, Value};
-ghost use Rattle.x509_cert_general_names.specs.Parts.{arc_bound};
 ghost use Rattle.x509_cert_lists.specs.Grammar.{cert_req, cert_req_fields};
 ghost use Rattle.x509_cert_lists.specs.Views.{cert_req_plain};
 
@@ -68,7 +68,7 @@ impl FixedTag for CertReq {
 }
 
 impl Fields for CertReq {
-    ghost fields = { cert_req_fields arc_bound };
+    ghost fields = { cert_req_fields Bound };
 
     ghost fields_plain = { cert_req_plain };
 
@@ -87,7 +87,7 @@ impl<'a, R: Reader<'a>> DecodeFields<'a, R> for CertReq {
 }
 
 impl ShapedValue for CertReq {
-    ghost content = { nested (cert_req_fields arc_bound) };
+    ghost content = { nested (cert_req_fields Bound) };
 
     ghost value_plain = { cert_req_plain };
 
@@ -125,11 +125,11 @@ impl CertReq {
     /// The first fault from the left, or `OutOfMemory`.
     pub fn try_from_bytes(alloc: Global, bytes: &[u8]) -> Result<CertReq, Error>
         // What is read is spelled so.
-        ensures spelled { IfOk result (λ r. Spells (cert_req arc_bound) (cert_req_plain r) bytes.now) }
+        ensures spelled { IfOk result (λ r. Spells (cert_req Bound) (cert_req_plain r) bytes.now) }
         // What is refused for another reason than want of memory is spelled by no request.
-        ensures refused { IfErr result (λ e. e.kind ≢ OutOfMemory → (r : Value (cert_req 0)) → Spells (cert_req arc_bound) r bytes.now → ⊥) }
+        ensures refused { IfErr result (λ e. e.kind ≢ OutOfMemory → (r : Value (cert_req 0)) → Spells (cert_req Bound) r bytes.now → ⊥) }
         // Which fault it is.
-        ensures exact { Gives (λ r. (cert_req_plain r, [])) result (whole_at (cert_req arc_bound) bytes.now) }
+        ensures exact { Gives (λ r. (cert_req_plain r, [])) result (whole_at (cert_req Bound) bytes.now) }
     {
         from_der(alloc, bytes)
     }

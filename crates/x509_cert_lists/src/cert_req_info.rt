@@ -1,9 +1,9 @@
 //! The signed part of a certification request.
 
 ghost use Rattle.std.specs.Prelude.{◌≡◌, refl};
+ghost use Rattle.const_oid.specs.Bound.{Bound};
 ghost use Rattle.der_core_head.specs.declared.tag.Tag.TheVariants.{Sequence};
 ghost use Rattle.der_core_head.specs.Shapes.{nested};
-ghost use Rattle.x509_cert_general_names.specs.Parts.{arc_bound};
 ghost use Rattle.x509_cert_lists.specs.Grammar.{cert_req_info_fields};
 ghost use Rattle.x509_cert_lists.specs.Views.{cert_req_info_plain};
 
@@ -86,7 +86,7 @@ impl FixedTag for CertReqInfo {
 }
 
 impl Fields for CertReqInfo {
-    ghost fields = { cert_req_info_fields arc_bound };
+    ghost fields = { cert_req_info_fields Bound };
 
     ghost fields_plain = { cert_req_info_plain };
 
@@ -108,7 +108,7 @@ impl<'a, R: Reader<'a>> DecodeFields<'a, R> for CertReqInfo {
 }
 
 impl ShapedValue for CertReqInfo {
-    ghost content = { nested (cert_req_info_fields arc_bound) };
+    ghost content = { nested (cert_req_info_fields Bound) };
 
     ghost value_plain = { cert_req_info_plain };
 

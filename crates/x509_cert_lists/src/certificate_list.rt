@@ -1,9 +1,9 @@
 //! Revocation lists.
 
 ghost use Rattle.std.specs.Prelude.{◌≡◌, refl};
+ghost use Rattle.const_oid.specs.Bound.{Bound};
 ghost use Rattle.der_core_head.specs.declared.tag.Tag.TheVariants.{Sequence};
 ghost use Rattle.der_core_head.specs.Shapes.{nested};
-ghost use Rattle.x509_cert_general_names.specs.Parts.{arc_bound};
 ghost use Rattle.x509_cert_lists.specs.Grammar.{certificate_list_fields};
 ghost use Rattle.x509_cert_lists.specs.Views.{certificate_list_plain};
 
@@ -69,7 +69,7 @@ impl<P> FixedTag for CertificateList<P> {
 }
 
 impl<P: Profile> Fields for CertificateList<P> {
-    ghost fields = { certificate_list_fields arc_bound P.serial_limit };
+    ghost fields = { certificate_list_fields Bound P.serial_limit };
 
     ghost fields_plain = { certificate_list_plain };
 
@@ -90,7 +90,7 @@ impl<'a, R: Reader<'a>, P: Profile> DecodeFields<'a, R> for CertificateList<P> {
 }
 
 impl<P: Profile> ShapedValue for CertificateList<P> {
-    ghost content = { nested (certificate_list_fields arc_bound P.serial_limit) };
+    ghost content = { nested (certificate_list_fields Bound P.serial_limit) };
 
     ghost value_plain = { certificate_list_plain };
 

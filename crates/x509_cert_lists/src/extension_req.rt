@@ -1,9 +1,10 @@
 //! Requests for extensions.
 
 ghost use Rattle.std.specs.Prelude.{◌≡◌, [], ◌∷◌, refl};
+ghost use Rattle.const_oid.specs.Bound.{Bound};
 ghost use Rattle.der_core_head.specs.declared.tag.Tag.TheVariants.{Sequence};
 ghost use Rattle.der_core_head.specs.Reading.{Gives};
-ghost use Rattle.x509_cert_general_names.specs.Parts.{attribute_plain, arc_bound, extensions_plain};
+ghost use Rattle.x509_cert_general_names.specs.Parts.{attribute_plain, extensions_plain};
 ghost use Rattle.x509_cert_lists.specs.Grammar.{extension_req_content, extension_req_arcs, extension_req_attribute};
 
 use const_oid::{AssociatedOid, ObjectIdentifier};
@@ -51,7 +52,7 @@ impl FixedTag for ExtensionReq {
 }
 
 impl ShapedValue for ExtensionReq {
-    ghost content = { extension_req_content arc_bound };
+    ghost content = { extension_req_content Bound };
 
     ghost value_plain = { λ x. extensions_plain x.0.items };
 
@@ -128,7 +129,7 @@ impl TryFromExtensionReq for Attribute {
     /// # Errors
     /// `Overflow` where the list has 2^32 octets or more, or `OutOfMemory`.
     fn try_from_extension_req(alloc: Global, request: ExtensionReq) -> Result<Attribute, Error>
-        ensures { Gives attribute_plain result (extension_req_attribute arc_bound (extensions_plain request.0.items)) }
+        ensures { Gives attribute_plain result (extension_req_attribute Bound (extensions_plain request.0.items)) }
     {
         let value = Any::encode_from(alloc, &request)?;
         let mut values = Vec::new(alloc);

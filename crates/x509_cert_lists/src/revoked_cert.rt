@@ -1,9 +1,9 @@
 //! Entries of revocation lists.
 
 ghost use Rattle.std.specs.Prelude.{◌≡◌, refl};
+ghost use Rattle.const_oid.specs.Bound.{Bound};
 ghost use Rattle.der_core_head.specs.declared.tag.Tag.TheVariants.{Sequence};
 ghost use Rattle.der_core_head.specs.Shapes.{nested};
-ghost use Rattle.x509_cert_general_names.specs.Parts.{arc_bound};
 ghost use Rattle.x509_cert_lists.specs.Grammar.{revoked_cert_fields};
 ghost use Rattle.x509_cert_lists.specs.Views.{revoked_cert_plain};
 
@@ -65,7 +65,7 @@ impl<P> FixedTag for RevokedCert<P> {
 }
 
 impl<P: Profile> Fields for RevokedCert<P> {
-    ghost fields = { revoked_cert_fields arc_bound P.serial_limit };
+    ghost fields = { revoked_cert_fields Bound P.serial_limit };
 
     ghost fields_plain = { revoked_cert_plain };
 
@@ -86,7 +86,7 @@ impl<'a, R: Reader<'a>, P: Profile> DecodeFields<'a, R> for RevokedCert<P> {
 }
 
 impl<P: Profile> ShapedValue for RevokedCert<P> {
-    ghost content = { nested (revoked_cert_fields arc_bound P.serial_limit) };
+    ghost content = { nested (revoked_cert_fields Bound P.serial_limit) };
 
     ghost value_plain = { revoked_cert_plain };
 

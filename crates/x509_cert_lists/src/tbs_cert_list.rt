@@ -1,9 +1,9 @@
 //! The signed part of a revocation list.
 
 ghost use Rattle.std.specs.Prelude.{◌≡◌, refl};
+ghost use Rattle.const_oid.specs.Bound.{Bound};
 ghost use Rattle.der_core_head.specs.declared.tag.Tag.TheVariants.{Sequence};
 ghost use Rattle.der_core_head.specs.Shapes.{nested};
-ghost use Rattle.x509_cert_general_names.specs.Parts.{arc_bound};
 ghost use Rattle.x509_cert_lists.specs.Grammar.{tbs_cert_list_fields};
 ghost use Rattle.x509_cert_lists.specs.Views.{tbs_cert_list_plain};
 
@@ -127,7 +127,7 @@ impl<P> FixedTag for TbsCertList<P> {
 }
 
 impl<P: Profile> Fields for TbsCertList<P> {
-    ghost fields = { tbs_cert_list_fields arc_bound P.serial_limit };
+    ghost fields = { tbs_cert_list_fields Bound P.serial_limit };
 
     ghost fields_plain = { tbs_cert_list_plain };
 
@@ -159,7 +159,7 @@ impl<'a, R: Reader<'a>, P: Profile> DecodeFields<'a, R> for TbsCertList<P> {
 }
 
 impl<P: Profile> ShapedValue for TbsCertList<P> {
-    ghost content = { nested (tbs_cert_list_fields arc_bound P.serial_limit) };
+    ghost content = { nested (tbs_cert_list_fields Bound P.serial_limit) };
 
     ghost value_plain = { tbs_cert_list_plain };
 

@@ -113,16 +113,16 @@ called_alike : (key : List ℕ) → AgreeFound (find (is_called key) rows) (find
 called_alike key = found_alike (is_called key) (λ t. list_any (is_name key) t.names) (λ n t a. a.called key) rows named_types all_agree
 
 -- a key that is a name has the arcs that the octets of its row spell
-pub key_arcs-named : (key : List ℕ) (r : Row) → find (is_called key) rows ≡ Some r → key_arcs key ≡ dotted_arcs (read_identifier Bound 39 r.octets)
+pub key_arcs-named : (key : List ℕ) (r : Row) → find (is_called key) rows ≡ Some r → key_arcs Bound key ≡ dotted_arcs (read_identifier Bound 39 r.octets)
 unfolding type_named
 key_arcs-named key r e =
     let f = agree_some _ _ r (called_alike key) e in
-    ap (λ t. arcs_or t key) f.1 ∙ sym (ap dotted_arcs f.2.reads)
+    ap (λ t. arcs_or Bound t key) f.1 ∙ sym (ap dotted_arcs f.2.reads)
 
 -- any other is a dotted text
-pub key_arcs-dotted : (key : List ℕ) → find (is_called key) rows ≡ None → key_arcs key ≡ dotted_arcs (read_text Bound 39 key)
+pub key_arcs-dotted : (key : List ℕ) → find (is_called key) rows ≡ None → key_arcs Bound key ≡ dotted_arcs (read_text Bound 39 key)
 unfolding type_named
-key_arcs-dotted key e = ap (λ t. arcs_or t key) (agree_none _ _ (called_alike key) e)
+key_arcs-dotted key e = ap (λ t. arcs_or Bound t key) (agree_none _ _ (called_alike key) e)
 
 octets_alike : (arcs w : List ℕ) → w ≡ identifier_octets arcs → AgreeFound (find (has_octets w) rows) (find (λ t. owned_eq t.arcs arcs) named_types)
 octets_alike arcs w e =

@@ -3,7 +3,6 @@ use Rattle.std.specs.Prelude.{ℕ, List, [], ◌∷◌, Bool, Option, Some, None
 use Rattle.std.specs.Char.{to_ascii_lowercase, to_ascii_uppercase}
 use Rattle.std.specs.Cmp.Lexicographic.{pointwise}
 use Rattle.std.specs.List.{find, list_any}
-use Rattle.const_oid.specs.Bound.{Bound}
 use Rattle.const_oid.specs.Comparing.{owned_eq}
 use Rattle.const_oid.specs.TextReading.{read_text}
 use Rattle.const_oid.specs.declared.error.Error.{Error}
@@ -65,13 +64,13 @@ abbrev pub dotted_arcs : Result (List ℕ) Error → Result (List ℕ) ErrorKind
 dotted_arcs (Ok arcs) = Ok arcs
 dotted_arcs (Err e) = Err kinds.OidMalformed
 
--- the arcs of a key, which is the name of a type or a dotted text
-abbrev pub arcs_or : Option Named → List ℕ → Result (List ℕ) ErrorKind
-arcs_or (Some t) key = Ok t.arcs
-arcs_or None key = dotted_arcs (read_text Bound 39 key)
+-- the arcs of a key, which is the name of a type, or a dotted text of arcs below the bound
+abbrev pub arcs_or : ℕ → Option Named → List ℕ → Result (List ℕ) ErrorKind
+arcs_or bound (Some t) key = Ok t.arcs
+arcs_or bound None key = dotted_arcs (read_text bound 39 key)
 
-abbrev pub key_arcs : List ℕ → Result (List ℕ) ErrorKind
-key_arcs key = arcs_or (type_named key) key
+abbrev pub key_arcs : ℕ → List ℕ → Result (List ℕ) ErrorKind
+key_arcs bound key = arcs_or bound (type_named key) key
 
 -- the shortest of the names, the first of equals
 abbrev pub shortest : List ℕ → List (List ℕ) → List ℕ

@@ -2,6 +2,7 @@
 
 ghost use Rattle.std.specs.Prelude.{◌≡◌, option_map};
 ghost use Rattle.std.specs.List.{find};
+ghost use Rattle.const_oid.specs.Bound.{Bound};
 ghost use Rattle.der_core_head.specs.Reading.{GivesNow};
 ghost use Rattle.x509_cert_name_texts.specs.Keys.{key_arcs, key_of};
 ghost use Rattle.x509_cert_name_texts.specs.Rows.{row_of, rows, is_called, has_octets};
@@ -120,7 +121,7 @@ fn type_with(octets: &[u8]) -> Option<&'static Named>
 /// # Errors
 /// `OidMalformed` where it is neither.
 pub fn type_of_key(key: &str) -> Result<ObjectIdentifier<39>, Error>
-    ensures { GivesNow (λ oid. oid) result (key_arcs key.now) }
+    ensures { GivesNow (λ oid. oid) result (key_arcs Bound key.now) }
 {
     match type_called(key) {
         Some(named) => Ok(ObjectIdentifier::from_bytes(named.octets)?),

@@ -8,6 +8,7 @@ use Rattle.std.specs.declared.cmp.Ordering.TheVariants.{Less, Equal}
 use Rattle.std.proofs.lemmas.List.Sorted.{IsPermutation-insert}
 use Rattle.std.proofs.lemmas.Map.Keys.{IsDistinct-cons, IsDistinct-head, IsDistinct-tail, IsDistinct-push, IsDistinct-IsPermutation}
 use Rattle.std.proofs.lemmas.List.{take-append-drop}
+use Rattle.const_oid.specs.Bound.{Bound}
 use Rattle.der_types_sets.proofs.SetSteps.{last_is}
 use Rattle.const_oid.specs.IdentifierOctets.{identifier_octets}
 use Rattle.der_core.specs.Orders.{octets_cmp}
@@ -21,12 +22,12 @@ use Rattle.der_core_head.specs.declared.tag.Tag.TheVariants as tags
 use Rattle.der_core_head.proofs.TagLaws.{same_tag-eq}
 use Rattle.der_types_any.specs.AnyOrders.{any_key}
 use Rattle.x509_cert_names.specs.Names.{type_and_value}
-use Rattle.x509_cert_names.specs.Pairs.{arc_bound, pair_plain, same_pair, same_pair_equiv}
+use Rattle.x509_cert_names.specs.Pairs.{pair_plain, same_pair, same_pair_equiv}
 use Rattle.x509_cert_names.specs.declared.attribute_type_and_value.AttributeTypeAndValue.{AttributeTypeAndValue}
 
 -- the encoding of an attribute
 abbrev pub encoded : AttributeTypeAndValue → List ℕ
-encoded a = octets_of (type_and_value arc_bound) (pair_plain a)
+encoded a = octets_of (type_and_value Bound) (pair_plain a)
 
 -- by the octets of the type, and the tag and the content of the value
 abbrev joined : List ℕ → Tag → List ℕ → List ℕ
@@ -68,20 +69,20 @@ apart a b h = go (same_pair a b) refl
         absurd cc
 
 -- the second can be left out
-skip : (a b : AttributeTypeAndValue) (xs : List AttributeTypeAndValue) → AllRising (octets_of (type_and_value arc_bound)) (plain_list pair_plain (a ∷ b ∷ xs))
-    → AllRising (octets_of (type_and_value arc_bound)) (plain_list pair_plain (a ∷ xs))
+skip : (a b : AttributeTypeAndValue) (xs : List AttributeTypeAndValue) → AllRising (octets_of (type_and_value Bound)) (plain_list pair_plain (a ∷ b ∷ xs))
+    → AllRising (octets_of (type_and_value Bound)) (plain_list pair_plain (a ∷ xs))
 skip a b [] h = tt
 skip a b (x ∷ xs) h = (nat_list_cmp_total.trans (encoded a) (encoded b) (encoded x) h.0 h.1.0, h.1.1)
 
-above : (a : AttributeTypeAndValue) (xs : List AttributeTypeAndValue) → AllRising (octets_of (type_and_value arc_bound)) (plain_list pair_plain (a ∷ xs)) → AllByRecursion (λ b. same_pair a b ≡ false) xs
+above : (a : AttributeTypeAndValue) (xs : List AttributeTypeAndValue) → AllRising (octets_of (type_and_value Bound)) (plain_list pair_plain (a ∷ xs)) → AllByRecursion (λ b. same_pair a b ≡ false) xs
 above a [] h = tt
 above a (b ∷ xs) h = (apart a b h.0, above a xs (skip a b xs h))
 
-others_rise : (a : AttributeTypeAndValue) (xs : List AttributeTypeAndValue) → AllRising (octets_of (type_and_value arc_bound)) (plain_list pair_plain (a ∷ xs)) → AllRising (octets_of (type_and_value arc_bound)) (plain_list pair_plain xs)
+others_rise : (a : AttributeTypeAndValue) (xs : List AttributeTypeAndValue) → AllRising (octets_of (type_and_value Bound)) (plain_list pair_plain (a ∷ xs)) → AllRising (octets_of (type_and_value Bound)) (plain_list pair_plain xs)
 others_rise a [] h = tt
 others_rise a (b ∷ xs) h = h.1
 
-pub rising_distinct : (xs : List AttributeTypeAndValue) → AllRising (octets_of (type_and_value arc_bound)) (plain_list pair_plain xs) → IsDistinct same_pair xs
+pub rising_distinct : (xs : List AttributeTypeAndValue) → AllRising (octets_of (type_and_value Bound)) (plain_list pair_plain xs) → IsDistinct same_pair xs
 unfolding IsDistinct
 rising_distinct [] h = tt
 rising_distinct (a ∷ xs) h = (above a xs h, rising_distinct xs (others_rise a xs h))

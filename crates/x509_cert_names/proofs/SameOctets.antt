@@ -7,6 +7,7 @@ use Rattle.std.specs.List.{AllByRecursion, IsDistinct}
 use Rattle.std.specs.declared.cmp.Ordering.{Ordering}
 use Rattle.std.specs.declared.cmp.Ordering.TheVariants.{Less, Equal, Greater}
 use Rattle.std.proofs.lemmas.Map.Keys.{IsDistinct-head, IsDistinct-tail}
+use Rattle.const_oid.specs.Bound.{Bound}
 use Rattle.const_oid.specs.IdentifierOctets.{identifier_octets}
 use Rattle.der_core.specs.Orders.{octets_cmp}
 use Rattle.der_core.proofs.OrderLaws.{octets_cmp-equal}
@@ -21,7 +22,7 @@ use Rattle.der_types_any.specs.AnyOrders.{any_key}
 use Rattle.der_types_sets.specs.Sets.{Ascends}
 use Rattle.x509_cert_names.specs.Names.{TypeAndValue, PlainName, type_and_value, relative_name, name, name_octets, type_of, value_of}
 use Rattle.x509_cert_names.specs.Ordered.{IsOrdered}
-use Rattle.x509_cert_names.specs.Pairs.{arc_bound, pair_plain, same_pair, same_pair_equiv, relative_plain}
+use Rattle.x509_cert_names.specs.Pairs.{pair_plain, same_pair, same_pair_equiv, relative_plain}
 use Rattle.x509_cert_names.specs.declared.attribute_type_and_value.AttributeTypeAndValue.{AttributeTypeAndValue}
 use Rattle.x509_cert_names.proofs.Distinct.{encoded, same_octets}
 
@@ -31,7 +32,7 @@ Pairs = List AttributeTypeAndValue
 -- What is equal has the same octets
 
 abbrev all_encoded : Pairs → List ℕ
-all_encoded r = flat_map (λ x. octets_of (type_and_value arc_bound) x) (relative_plain r)
+all_encoded r = flat_map (λ x. octets_of (type_and_value Bound) x) (relative_plain r)
 
 all_same : (r q : Pairs) → pointwise same_pair r q ≡ true → all_encoded r ≡ all_encoded q
 all_same [] [] e = refl
@@ -41,7 +42,7 @@ all_same (a ∷ r) (b ∷ q) e =
     rw (same_octets a b (first_so (same_pair a b) (pointwise same_pair r q) e), all_same r q (second_so (same_pair a b) (pointwise same_pair r q) e)) refl
 
 abbrev set_encoded : Pairs → List ℕ
-set_encoded r = octets_of (relative_name arc_bound) (relative_plain r)
+set_encoded r = octets_of (relative_name Bound) (relative_plain r)
 
 set_is : (r : Pairs) → set_encoded r ≡ tlv tags.Set (all_encoded r)
 unfolding octets_of contents body_octets
@@ -51,7 +52,7 @@ set_same : (r q : Pairs) → pointwise same_pair r q ≡ true → set_encoded r 
 set_same r q e = set_is r ∙ ap (tlv tags.Set) (all_same r q e) ∙ sym (set_is q)
 
 abbrev sets_encoded : List Pairs → List ℕ
-sets_encoded n = flat_map (λ x. octets_of (relative_name arc_bound) x) (plain_list relative_plain n)
+sets_encoded n = flat_map (λ x. octets_of (relative_name Bound) x) (plain_list relative_plain n)
 
 sets_same : (m n : List Pairs) → pointwise (pointwise same_pair) m n ≡ true → sets_encoded m ≡ sets_encoded n
 sets_same [] [] e = refl
@@ -60,12 +61,12 @@ sets_same (r ∷ m) [] e = absurd cc
 sets_same (r ∷ m) (q ∷ n) e =
     rw (set_same r q (first_so (pointwise same_pair r q) (pointwise (pointwise same_pair) m n) e), sets_same m n (second_so (pointwise same_pair r q) (pointwise (pointwise same_pair) m n) e)) refl
 
-name_is : (n : List Pairs) → name_octets arc_bound (plain_list relative_plain n) ≡ tlv tags.Sequence (sets_encoded n)
+name_is : (n : List Pairs) → name_octets Bound (plain_list relative_plain n) ≡ tlv tags.Sequence (sets_encoded n)
 unfolding octets_of contents body_octets
 name_is n = refl
 
 pub names_same : (m n : List Pairs) → pointwise (pointwise same_pair) m n ≡ true
-    → name_octets arc_bound (plain_list relative_plain m) ≡ name_octets arc_bound (plain_list relative_plain n)
+    → name_octets Bound (plain_list relative_plain m) ≡ name_octets Bound (plain_list relative_plain n)
 names_same m n e = name_is m ∙ ap (tlv tags.Sequence) (sets_same m n e) ∙ sym (name_is n)
 
 -- One value is equal to itself
@@ -106,7 +107,7 @@ first_shorter a b h = omega (arith, h, length-append a b)
 second_shorter : (a b : List ℕ) → Fits (a ++ b) → Fits b
 second_shorter a b h = omega (arith, h, length-append a b)
 
-pair_valid : (x : TypeAndValue) → IsInRange (type_and_value arc_bound) x → Fits (octets_of (type_and_value arc_bound) x) → IsValid (type_and_value arc_bound) x
+pair_valid : (x : TypeAndValue) → IsInRange (type_and_value Bound) x → Fits (octets_of (type_and_value Bound) x) → IsValid (type_and_value Bound) x
 unfolding IsValid IsContent IsBody octets_of contents body_octets
 pair_valid x h f =
     let inside = content_shorter _ _ f in
@@ -114,7 +115,7 @@ pair_valid x h f =
     let value = first_shorter _ _ (second_shorter _ _ inside) in
     (((h.0.0.0, h.0.0.1, kind), ((h.0.1.0.0, h.0.1.0.1, value), tt)), h.1, f)
 
-all_valid : (r : Pairs) → AllByRecursion (λ x. IsInRange (type_and_value arc_bound) x) (relative_plain r) → Fits (all_encoded r) → AllByRecursion (λ x. IsValid (type_and_value arc_bound) x) (relative_plain r)
+all_valid : (r : Pairs) → AllByRecursion (λ x. IsInRange (type_and_value Bound) x) (relative_plain r) → Fits (all_encoded r) → AllByRecursion (λ x. IsValid (type_and_value Bound) x) (relative_plain r)
 all_valid [] h f = tt
 all_valid (a ∷ r) h f = (pair_valid (pair_plain a) h.0 (first_shorter (encoded a) (all_encoded r) f), all_valid r h.1 (second_shorter (encoded a) (all_encoded r) f))
 
@@ -123,45 +124,45 @@ below Less g e = refl
 below Equal g e = absurd (e refl)
 below Greater g e = absurd (g refl)
 
-all_rise : (r : Pairs) → IsDistinct same_pair r → Ascends (type_and_value arc_bound) pair_plain r → AllByRecursion (λ x. IsValid (type_and_value arc_bound) x) (relative_plain r)
-    → AllRising (λ x. octets_of (type_and_value arc_bound) x) (relative_plain r)
+all_rise : (r : Pairs) → IsDistinct same_pair r → Ascends (type_and_value Bound) pair_plain r → AllByRecursion (λ x. IsValid (type_and_value Bound) x) (relative_plain r)
+    → AllRising (λ x. octets_of (type_and_value Bound) x) (relative_plain r)
 all_rise [] d s v = tt
 all_rise (a ∷ []) d s v = tt
 all_rise (a ∷ b ∷ r) d s v =
     let apart : same_pair a b ≡ false = (IsDistinct-head same_pair a (b ∷ r) d).0 in
     let equal : octets_cmp (encoded a) (encoded b) ≡ Equal → ⊥ = λ e.
-    let one = (one_value (type_and_value arc_bound) (pair_plain a) (pair_plain b) [] [] refl refl v.0 v.1.0
+    let one = (one_value (type_and_value Bound) (pair_plain a) (pair_plain b) [] [] refl refl v.0 v.1.0
     (ap (λ (w : List ℕ). w ++ []) (octets_cmp-equal (encoded a) (encoded b) e))).0 in
     let same : same_pair a b ≡ true = pair_alike a b one in
     absurd cc in
     (below (octets_cmp (encoded a) (encoded b)) (s.0 v.0 v.1.0) equal, all_rise (b ∷ r) (IsDistinct-tail same_pair a (b ∷ r) d) s.1 v.1)
 
-set_valid : (r : Pairs) → IsInRange (relative_name arc_bound) (relative_plain r) → IsOrdered r → Fits (set_encoded r) → IsValid (relative_name arc_bound) (relative_plain r)
+set_valid : (r : Pairs) → IsInRange (relative_name Bound) (relative_plain r) → IsOrdered Bound r → Fits (set_encoded r) → IsValid (relative_name Bound) (relative_plain r)
 unfolding IsValid IsContent IsBody octets_of contents body_octets
 set_valid r h o f =
     let each = all_valid r h.0 (content_shorter tags.Set (all_encoded r) f) in
     ((each, all_rise r o.0 o.1 each), h.1, f)
 
-sets_valid : (n : List Pairs) → AllByRecursion (λ x. IsInRange (relative_name arc_bound) x) (plain_list relative_plain n) → AllByRecursion IsOrdered n → Fits (sets_encoded n)
-    → AllByRecursion (λ x. IsValid (relative_name arc_bound) x) (plain_list relative_plain n)
+sets_valid : (n : List Pairs) → AllByRecursion (λ x. IsInRange (relative_name Bound) x) (plain_list relative_plain n) → AllByRecursion (IsOrdered Bound) n → Fits (sets_encoded n)
+    → AllByRecursion (λ x. IsValid (relative_name Bound) x) (plain_list relative_plain n)
 sets_valid [] h o f = tt
 sets_valid (r ∷ n) h o f =
     (set_valid r h.0 o.0 (first_shorter (set_encoded r) (sets_encoded n) f), sets_valid n h.1 o.1 (second_shorter (set_encoded r) (sets_encoded n) f))
 
-pub name_valid : (n : List Pairs) → IsInRange (name arc_bound) (plain_list relative_plain n) → AllByRecursion IsOrdered n → Fits (name_octets arc_bound (plain_list relative_plain n))
-    → IsValid (name arc_bound) (plain_list relative_plain n)
+pub name_valid : (n : List Pairs) → IsInRange (name Bound) (plain_list relative_plain n) → AllByRecursion (IsOrdered Bound) n → Fits (name_octets Bound (plain_list relative_plain n))
+    → IsValid (name Bound) (plain_list relative_plain n)
 unfolding IsValid IsContent IsBody octets_of contents body_octets
 name_valid n h o f = (sets_valid n h.0 o (content_shorter tags.Sequence (sets_encoded n) f), h.1, f)
 
-fits_of : (x : PlainName) → IsValid (name arc_bound) x → Fits (name_octets arc_bound x)
+fits_of : (x : PlainName) → IsValid (name Bound) x → Fits (name_octets Bound x)
 unfolding IsValid octets_of
 fits_of x v = v.2
 
 -- so other names have other octets; k is the second as it is lent
 pub names_apart : (m n k : List Pairs) → plain_list relative_plain k ≡ plain_list relative_plain n
-    → IsValid (name arc_bound) (plain_list relative_plain m) → IsInRange (name arc_bound) (plain_list relative_plain n) → AllByRecursion IsOrdered k
-    → name_octets arc_bound (plain_list relative_plain m) ≡ name_octets arc_bound (plain_list relative_plain n) → pointwise (pointwise same_pair) m n ≡ true
+    → IsValid (name Bound) (plain_list relative_plain m) → IsInRange (name Bound) (plain_list relative_plain n) → AllByRecursion (IsOrdered Bound) k
+    → name_octets Bound (plain_list relative_plain m) ≡ name_octets Bound (plain_list relative_plain n) → pointwise (pointwise same_pair) m n ≡ true
 names_apart m n k s v h o e =
-    let fits = subst Fits (e ∙ ap (name_octets arc_bound) (sym s)) (fits_of (plain_list relative_plain m) v) in
-    let valid = subst (IsValid (name arc_bound)) s (name_valid k (subst (IsInRange (name arc_bound)) (sym s) h) o fits) in
-    sets_alike m n (one_value (name arc_bound) (plain_list relative_plain m) (plain_list relative_plain n) [] [] refl refl v valid (ap (λ (w : List ℕ). w ++ []) e)).0
+    let fits = subst Fits (e ∙ ap (name_octets Bound) (sym s)) (fits_of (plain_list relative_plain m) v) in
+    let valid = subst (IsValid (name Bound)) s (name_valid k (subst (IsInRange (name Bound)) (sym s) h) o fits) in
+    sets_alike m n (one_value (name Bound) (plain_list relative_plain m) (plain_list relative_plain n) [] [] refl refl v valid (ap (λ (w : List ℕ). w ++ []) e)).0

@@ -1,4 +1,4 @@
--- Names as texts (RFC 4514 2, 3).
+-- Names as texts (RFC 4514 2, 3). What reads one takes the bound of arcs.
 use Rattle.std.specs.Prelude.{◌≡◌, ◌≢◌, ℕ, List, [], ◌∷◌, ◌++◌, reverse, None, false, Result, Ok, Err}
 use Rattle.std.specs.List.{IsDistinct, flat_map}
 use Rattle.std.specs.List.Sorted.{IsPermutation}
@@ -9,31 +9,31 @@ use Rattle.der_core_head.specs.Writing.{write}
 use Rattle.der_types_sets.specs.Sets.{Ascends, AllValid}
 use Rattle.x509_cert_name_texts.specs.Pieces.{ReadsPieces}
 use Rattle.x509_cert_names.specs.Names.{type_and_value}
-use Rattle.x509_cert_names.specs.Pairs.{arc_bound, pair_plain, same_pair}
+use Rattle.x509_cert_names.specs.Pairs.{pair_plain, same_pair}
 use Rattle.x509_cert_names.specs.ValueTexts.{attribute_read, attribute_printed}
 use Rattle.x509_cert_names.specs.declared.attribute_type_and_value.AttributeTypeAndValue.{AttributeTypeAndValue}
 
 -- what a text is read as where it spells one attribute
-abbrev pub ReadsAttribute : List ℕ → Result AttributeTypeAndValue ErrorKind → Type 0
-ReadsAttribute text r = r ≡ attribute_read text
+abbrev pub ReadsAttribute : ℕ → List ℕ → Result AttributeTypeAndValue ErrorKind → Type 0
+ReadsAttribute bound text r = r ≡ attribute_read bound text
 
 -- Attributes between +, of which none stands twice, in the order of their encodings.
-pub data ReadsRelative (text : List ℕ) : Result (List AttributeTypeAndValue) ErrorKind → Type 0 where
-  set : (members attributes : List AttributeTypeAndValue) → ReadsPieces 43 ReadsAttribute text (Ok members)
-      → IsPermutation members attributes → Ascends (type_and_value arc_bound) pair_plain attributes → IsDistinct same_pair attributes
-      → ReadsRelative text (Ok attributes)
-  refused : (e : ErrorKind) → ReadsPieces 43 ReadsAttribute text (Err e) → ReadsRelative text (Err e)
-  twice : (members : List AttributeTypeAndValue) → ReadsPieces 43 ReadsAttribute text (Ok members) → (IsDistinct same_pair members → ⊥)
-      → ReadsRelative text (Err kinds.SetDuplicate)
-  too_long : (members : List AttributeTypeAndValue) → ReadsPieces 43 ReadsAttribute text (Ok members)
-      → (AllValid (type_and_value arc_bound) pair_plain members → ⊥) → ReadsRelative text (Err kinds.Overflow)
+pub data ReadsRelative (bound : ℕ) (text : List ℕ) : Result (List AttributeTypeAndValue) ErrorKind → Type 0 where
+  set : (members attributes : List AttributeTypeAndValue) → ReadsPieces 43 (ReadsAttribute bound) text (Ok members)
+      → IsPermutation members attributes → Ascends (type_and_value bound) pair_plain attributes → IsDistinct same_pair attributes
+      → ReadsRelative bound text (Ok attributes)
+  refused : (e : ErrorKind) → ReadsPieces 43 (ReadsAttribute bound) text (Err e) → ReadsRelative bound text (Err e)
+  twice : (members : List AttributeTypeAndValue) → ReadsPieces 43 (ReadsAttribute bound) text (Ok members) → (IsDistinct same_pair members → ⊥)
+      → ReadsRelative bound text (Err kinds.SetDuplicate)
+  too_long : (members : List AttributeTypeAndValue) → ReadsPieces 43 (ReadsAttribute bound) text (Ok members)
+      → (AllValid (type_and_value bound) pair_plain members → ⊥) → ReadsRelative bound text (Err kinds.Overflow)
 
 -- Relative names between commas, the last one first. The empty text is the empty name.
-pub data ReadsName (text : List ℕ) : Result (List (List AttributeTypeAndValue)) ErrorKind → Type 0 where
-  empty : text ≡ [] → ReadsName text (Ok [])
-  pieces : (relative_names : List (List AttributeTypeAndValue)) → text ≢ [] → ReadsPieces 44 ReadsRelative text (Ok relative_names)
-      → ReadsName text (Ok (reverse relative_names))
-  refused : (e : ErrorKind) → text ≢ [] → ReadsPieces 44 ReadsRelative text (Err e) → ReadsName text (Err e)
+pub data ReadsName (bound : ℕ) (text : List ℕ) : Result (List (List AttributeTypeAndValue)) ErrorKind → Type 0 where
+  empty : text ≡ [] → ReadsName bound text (Ok [])
+  pieces : (relative_names : List (List AttributeTypeAndValue)) → text ≢ [] → ReadsPieces 44 (ReadsRelative bound) text (Ok relative_names)
+      → ReadsName bound text (Ok (reverse relative_names))
+  refused : (e : ErrorKind) → text ≢ [] → ReadsPieces 44 (ReadsRelative bound) text (Err e) → ReadsName bound text (Err e)
 
 -- a value as it is printed behind a separator
 abbrev pub behind : {A : Type 0} → ℕ → (A → List ℕ) → A → List ℕ

@@ -1,11 +1,11 @@
 -- What holds of the attributes of every relative name.
-use Rattle.std.specs.Prelude.{List}
+use Rattle.std.specs.Prelude.{ℕ, List}
 use Rattle.std.specs.List.{IsDistinct}
 use Rattle.der_types_sets.specs.Sets.{Ascends}
 use Rattle.x509_cert_names.specs.Names.{type_and_value}
-use Rattle.x509_cert_names.specs.Pairs.{arc_bound, pair_plain, same_pair}
+use Rattle.x509_cert_names.specs.Pairs.{pair_plain, same_pair}
 use Rattle.x509_cert_names.specs.declared.attribute_type_and_value.AttributeTypeAndValue.{AttributeTypeAndValue}
 
 -- they ascend, and none stands twice
-abbrev pub IsOrdered : List AttributeTypeAndValue → Type 0
-IsOrdered r = IsDistinct same_pair r × Ascends (type_and_value arc_bound) pair_plain r
+abbrev pub IsOrdered : ℕ → List AttributeTypeAndValue → Type 0
+IsOrdered bound r = IsDistinct same_pair r × Ascends (type_and_value bound) pair_plain r

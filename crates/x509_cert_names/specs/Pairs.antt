@@ -4,17 +4,12 @@ use Rattle.std.proofs.Common.{ap, ◌∙◌}
 use Rattle.std.specs.Cmp.{IsPartialEquivalence, IsEquivalence, partial_equiv_from_equiv, and_equiv, on_equiv, first_so, second_so}
 use Rattle.std.specs.Cmp.Lexicographic.{pointwise, bytes_decides, nat_list_eq_equiv}
 use Rattle.std.specs.Hash as fed
-use Rattle.const_oid.specs.Bound.{Bound}
 use Rattle.const_oid.specs.IdentifierOctets.{identifier_octets}
 use Rattle.der_core_head.specs.Grammar.{plain_list}
 use Rattle.der_core_head.specs.Shapes.{AnyValue}
 use Rattle.der_types_any.specs.AnyOrders.{any_key, any_fed, any_fed_alike}
 use Rattle.x509_cert_names.specs.Names.{TypeAndValue, RelativeName}
 use Rattle.x509_cert_names.specs.declared.attribute_type_and_value.AttributeTypeAndValue.{AttributeTypeAndValue}
-
--- the bound of arcs
-abbrev pub arc_bound : ℕ
-arc_bound = Bound
 
 -- an attribute of these arcs, with this value
 abbrev pub pair : List ℕ → AnyValue → TypeAndValue

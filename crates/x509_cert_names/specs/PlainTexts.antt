@@ -16,10 +16,10 @@ attribute_of a = record { oid = type_of a; value = value_of a }
 unfoldable pub name_text : PlainName → List ℕ
 name_text n = name_printed (map (map attribute_of) n)
 
--- the text of a name spells this one (RFC 4514 2, 3)
-abbrev pub SpellsName : List ℕ → PlainName → Type 0
-SpellsName text n =
-    (relative_names : List (List AttributeTypeAndValue)) × ReadsName text (Ok relative_names) × (n ≡ plain_list relative_plain relative_names)
+-- the text of a name spells this one, with arcs below the bound (RFC 4514 2, 3)
+abbrev pub SpellsName : ℕ → List ℕ → PlainName → Type 0
+SpellsName bound text n =
+    (relative_names : List (List AttributeTypeAndValue)) × ReadsName bound text (Ok relative_names) × (n ≡ plain_list relative_plain relative_names)
 
 attributes_back : (r : List AttributeTypeAndValue) → map attribute_of (relative_plain r) ≡ r
 attributes_back [] = refl

@@ -46,13 +46,13 @@ unfoldable pub value_read : List ℕ → List ℕ → Result AnyValue ErrorKind
 value_read arcs [] = text_value arcs []
 value_read arcs (c ∷ w) = if c == 35 then encoded_value w else text_value arcs (c ∷ w)
 
-abbrev pub halves_read : Option (List ℕ × List ℕ) → Result AttributeTypeAndValue ErrorKind
-halves_read None = Err kinds.Failed
-halves_read (Some halves) = key_arcs halves.0 >>= λ arcs. value_read arcs halves.1 >>= λ value. Ok (record { oid = arcs; value = value })
+abbrev pub halves_read : ℕ → Option (List ℕ × List ℕ) → Result AttributeTypeAndValue ErrorKind
+halves_read bound None = Err kinds.Failed
+halves_read bound (Some halves) = key_arcs bound halves.0 >>= λ arcs. value_read arcs halves.1 >>= λ value. Ok (record { oid = arcs; value = value })
 
--- what an attribute's text is read as
-unfoldable pub attribute_read : List ℕ → Result AttributeTypeAndValue ErrorKind
-attribute_read w = halves_read (key_and_value w)
+-- what an attribute's text is read as, under the bound of arcs
+unfoldable pub attribute_read : ℕ → List ℕ → Result AttributeTypeAndValue ErrorKind
+attribute_read bound w = halves_read bound (key_and_value w)
 
 -- the text of a value, where it reads as its PrintableString, UTF8String, IA5String or TeletexString
 abbrev pub text_by : Tag → AnyValue → Option (List ℕ)

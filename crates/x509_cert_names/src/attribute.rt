@@ -1,10 +1,10 @@
 //! Attribute.
 
 ghost use Rattle.std.specs.Prelude.{◌≡◌, refl, IfOk};
+ghost use Rattle.const_oid.specs.Bound.{Bound};
 ghost use Rattle.der_core_head.specs.declared.tag.Tag.TheVariants.{Sequence};
 ghost use Rattle.der_core_head.specs.Shapes.{nested};
 ghost use Rattle.x509_cert_names.specs.Names.{attribute_fields};
-ghost use Rattle.x509_cert_names.specs.Pairs.{arc_bound};
 ghost use Rattle.x509_cert_names.specs.Views.{attribute_plain};
 
 use crate::attribute_type_and_value::{AttributeType, AttributeValue};
@@ -46,7 +46,7 @@ impl FixedTag for Attribute {
 }
 
 impl Fields for Attribute {
-    ghost fields = { attribute_fields arc_bound };
+    ghost fields = { attribute_fields Bound };
 
     ghost fields_plain = { attribute_plain };
 
@@ -61,7 +61,7 @@ impl<'a, R: Reader<'a>> DecodeFields<'a, R> for Attribute {
 }
 
 impl ShapedValue for Attribute {
-    ghost content = { nested (attribute_fields arc_bound) };
+    ghost content = { nested (attribute_fields Bound) };
 
     ghost value_plain = { attribute_plain };
 

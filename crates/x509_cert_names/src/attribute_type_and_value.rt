@@ -3,6 +3,7 @@
 ghost use Rattle.std.specs.Prelude.{◌≡◌, ◌∷◌, ◌++◌, refl, IfOk};
 ghost use Rattle.std.specs.Fmt.{WritesOnOk};
 ghost use Rattle.std.specs.Str.{chars};
+ghost use Rattle.const_oid.specs.Bound.{Bound};
 ghost use Rattle.const_oid.specs.DottedText.{dotted};
 ghost use Rattle.der_core_head.specs.Reading.{Gives};
 ghost use Rattle.x509_cert_name_texts.specs.Answers.{GivesBy};
@@ -12,7 +13,7 @@ ghost use Rattle.x509_cert_names.specs.ValueTexts.{attribute_read, encoding_of};
 ghost use Rattle.der_core_head.specs.declared.tag.Tag.TheVariants.{Sequence};
 ghost use Rattle.der_core_head.specs.Shapes.{nested};
 ghost use Rattle.x509_cert_names.specs.Names.{type_and_value, type_and_value_fields};
-ghost use Rattle.x509_cert_names.specs.Pairs.{arc_bound, pair_plain, same_pair, same_pair_per, same_pair_equiv, pair_fed, pair_fed_alike};
+ghost use Rattle.x509_cert_names.specs.Pairs.{pair_plain, same_pair, same_pair_per, same_pair_equiv, pair_fed, pair_fed_alike};
 
 use crate::value_texts::{text_of, value_of, write_encoding};
 use const_oid::ObjectIdentifier;
@@ -65,7 +66,7 @@ impl FixedTag for AttributeTypeAndValue {
 }
 
 impl Fields for AttributeTypeAndValue {
-    ghost fields = { type_and_value_fields arc_bound };
+    ghost fields = { type_and_value_fields Bound };
 
     ghost fields_plain = { pair_plain };
 
@@ -80,7 +81,7 @@ impl<'a, R: Reader<'a>> DecodeFields<'a, R> for AttributeTypeAndValue {
 }
 
 impl ShapedValue for AttributeTypeAndValue {
-    ghost content = { nested (type_and_value_fields arc_bound) };
+    ghost content = { nested (type_and_value_fields Bound) };
 
     ghost value_plain = { pair_plain };
 
@@ -171,7 +172,7 @@ impl AttributeTypeAndValue {
     /// content of 2^32 octets or more; `OutOfMemory`.
     #[tactic(auto, unfolding(crate::specs::ValueTexts::attribute_read))]
     pub fn from_str(alloc: Global, text: &str) -> Result<AttributeTypeAndValue, Error>
-        ensures { Gives (λ a. a) result (attribute_read text.now) }
+        ensures { Gives (λ a. a) result (attribute_read Bound text.now) }
     {
         match split_member(text) {
             None => Err(Error::from(ErrorKind::Failed)),
@@ -188,7 +189,7 @@ impl AttributeTypeAndValue {
     /// # Errors
     /// Those of `from_str`, and of `to_der`.
     pub fn encode_from_string(alloc: Global, text: &str) -> Result<Vec<u8>, Error>
-        ensures { GivesBy (λ octets. octets.items) result (ReadsEncoding (type_and_value arc_bound) pair_plain (ReadsAttribute text.now)) }
+        ensures { GivesBy (λ octets. octets.items) result (ReadsEncoding (type_and_value Bound) pair_plain (ReadsAttribute Bound text.now)) }
     {
         let attribute = AttributeTypeAndValue::from_str(alloc, text)?;
         let octets = to_der(alloc, &attribute)?;
@@ -211,7 +212,7 @@ impl AttributeTypeAndValue {
 
 /// What `from_str` reads.
 impl FromText for AttributeTypeAndValue {
-    ghost reads_text = { ReadsAttribute };
+    ghost reads_text = { ReadsAttribute Bound };
 
     fn from_text(alloc: Global, text: &str) -> Result<AttributeTypeAndValue, Error> {
         let attribute = AttributeTypeAndValue::from_str(alloc, text)?;

@@ -1,6 +1,7 @@
 //! Name.
 
 ghost use Rattle.std.specs.Prelude.{◌≡◌, ◌==◌, [], length, refl, IfOk, IfErr};
+ghost use Rattle.const_oid.specs.Bound.{Bound};
 ghost use Rattle.der_core_head.specs.declared.tag.Tag.TheVariants.{Sequence};
 ghost use Rattle.der_core_head.specs.Shapes.{nested, many};
 ghost use Rattle.der_core_head.specs.declared.tag.Tag.TheVariants.{PrintableString, Ia5String};
@@ -15,7 +16,7 @@ ghost use Rattle.x509_cert_names.specs.NameTexts.{ReadsName};
 ghost use Rattle.x509_cert_names.specs.AttributeTypes.{first_value, FirstGives};
 ghost use Rattle.x509_cert_names.specs.DirectoryStrings.{directory_plain, directory_from};
 ghost use Rattle.x509_cert_names.specs.Names.{relative_name, all_of};
-ghost use Rattle.x509_cert_names.specs.Pairs.{arc_bound, pair_plain, relative_plain};
+ghost use Rattle.x509_cert_names.specs.Pairs.{pair_plain, relative_plain};
 ghost use Rattle.x509_cert_names.specs.Views.{attributes_left, name_plain, sequence_plain};
 
 use crate::attribute_types as types;
@@ -49,7 +50,7 @@ impl Name {
     /// # Errors
     /// Those of `RdnSequence::from_str`.
     pub fn from_str(alloc: Global, text: &str) -> Result<Name, Error>
-        ensures { GivesBy (λ n. n.rdn_sequence.relative_names.items) result (ReadsName text.now) }
+        ensures { GivesBy (λ n. n.rdn_sequence.relative_names.items) result (ReadsName Bound text.now) }
     {
         let rdn_sequence = RdnSequence::from_str(alloc, text)?;
         Ok(Name { rdn_sequence })
@@ -245,7 +246,7 @@ impl FixedTag for Name {
 }
 
 impl ShapedValue for Name {
-    ghost content = { nested (many (relative_name arc_bound)) };
+    ghost content = { nested (many (relative_name Bound)) };
 
     ghost value_plain = { name_plain };
 

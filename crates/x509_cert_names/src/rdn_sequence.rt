@@ -3,6 +3,7 @@
 ghost use Rattle.std.specs.Prelude.{◌≡◌, List, ◌∷◌, ◌++◌, ◌==◌, [], length, reverse, vec_len, refl, OnOk, OnErr, IfOk, IfErr};
 ghost use Rattle.std.specs.Fmt.{WritesOnOk};
 ghost use Rattle.std.specs.List.{flat_map};
+ghost use Rattle.const_oid.specs.Bound.{Bound};
 ghost use Rattle.der_core_head.specs.declared.tag.Tag.TheVariants.{Sequence};
 ghost use Rattle.der_core_head.specs.Shapes.{nested, many};
 ghost use Rattle.der_core_head.specs.Grammar.{plain_list};
@@ -11,7 +12,7 @@ ghost use Rattle.x509_cert_name_texts.specs.Answers.{GivesBy};
 ghost use Rattle.x509_cert_names.specs.NameTexts.{ReadsName, ReadsEncoding, relative_printed, name_printed, behind};
 ghost use Rattle.x509_cert_names.specs.Names.{relative_name, name};
 ghost use Rattle.x509_cert_names.specs.declared.attribute_type_and_value.AttributeTypeAndValue.{AttributeTypeAndValue};
-ghost use Rattle.x509_cert_names.specs.Pairs.{arc_bound, relative_plain};
+ghost use Rattle.x509_cert_names.specs.Pairs.{relative_plain};
 ghost use Rattle.x509_cert_names.specs.Views.{sequence_plain};
 
 use crate::members::copy_of;
@@ -52,7 +53,7 @@ impl RdnSequence {
     /// That of the first relative name from the left which is refused
     /// (`RelativeDistinguishedName::from_str`), or `OutOfMemory`.
     pub fn from_str(alloc: Global, text: &str) -> Result<RdnSequence, Error>
-        ensures { GivesBy (λ s. s.relative_names.items) result (ReadsName text.now) }
+        ensures { GivesBy (λ s. s.relative_names.items) result (ReadsName Bound text.now) }
     {
         if text.is_empty() {
             return Ok(RdnSequence::default(alloc));
@@ -67,7 +68,7 @@ impl RdnSequence {
     /// # Errors
     /// Those of `from_str`, and of `to_der`.
     pub fn encode_from_string(alloc: Global, text: &str) -> Result<Vec<u8>, Error>
-        ensures { GivesBy (λ octets. octets.items) result (ReadsEncoding (name arc_bound) (plain_list relative_plain) (ReadsName text.now)) }
+        ensures { GivesBy (λ octets. octets.items) result (ReadsEncoding (name Bound) (plain_list relative_plain) (ReadsName Bound text.now)) }
     {
         let sequence = RdnSequence::from_str(alloc, text)?;
         let octets = to_der(alloc, &sequence)?;
@@ -139,7 +140,7 @@ impl FixedTag for RdnSequence {
 }
 
 impl ShapedValue for RdnSequence {
-    ghost content = { nested (many (relative_name arc_bound)) };
+    ghost content = { nested (many (relative_name Bound)) };
 
     ghost value_plain = { sequence_plain };
 

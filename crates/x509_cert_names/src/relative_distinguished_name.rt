@@ -7,6 +7,7 @@ ghost use Rattle.std.specs.Hash as fed;
 ghost use Rattle.std.specs.Hash.{items_Alike};
 ghost use Rattle.std.specs.List.{IsDistinct, flat_map, list_any};
 ghost use Rattle.std.specs.List.Sorted.{IsPermutation};
+ghost use Rattle.const_oid.specs.Bound.{Bound};
 ghost use Rattle.der_core_head.specs.declared.tag.Tag.TheVariants.{Set};
 ghost use Rattle.der_core_head.specs.Shapes.{nested, rising};
 ghost use Rattle.der_types_sets.specs.Sets.{Ascends, IsRefusal, TooLong};
@@ -15,7 +16,7 @@ ghost use Rattle.x509_cert_names.specs.NameTexts.{ReadsRelative, relative_printe
 ghost use Rattle.x509_cert_names.specs.ValueTexts.{attribute_printed};
 ghost use Rattle.x509_cert_names.specs.Names.{type_and_value};
 ghost use Rattle.x509_cert_names.specs.Ordered.{IsOrdered};
-ghost use Rattle.x509_cert_names.specs.Pairs.{arc_bound, pair_plain, same_pair, same_pair_per, same_pair_equiv, pair_fed, pair_fed_alike, relative_plain};
+ghost use Rattle.x509_cert_names.specs.Pairs.{pair_plain, same_pair, same_pair_per, same_pair_equiv, pair_fed, pair_fed_alike, relative_plain};
 
 use crate::attribute_type_and_value::AttributeTypeAndValue;
 use crate::members::{arrange, copy_of, decode_members};
@@ -47,17 +48,18 @@ pub struct RelativeDistinguishedName {
 
 impl Model for RelativeDistinguishedName {
     ghost use Rattle.std.specs.Prelude.{List};
+    ghost use Rattle.const_oid.specs.Bound.{Bound};
     ghost use Rattle.x509_cert_names.specs.declared.attribute_type_and_value.AttributeTypeAndValue.{AttributeTypeAndValue};
     ghost use Rattle.std.specs.List.{IsDistinct};
     ghost use Rattle.der_types_sets.specs.Sets.{Ascends};
     ghost use Rattle.x509_cert_names.specs.Names.{type_and_value};
-    ghost use Rattle.x509_cert_names.specs.Pairs.{arc_bound, pair_plain, same_pair};
+    ghost use Rattle.x509_cert_names.specs.Pairs.{pair_plain, same_pair};
 
     ghost Value = { List AttributeTypeAndValue };
 
     ghost view = { λ r. r.attributes.values.items };
 
-    ghost invariant = { λ r. IsDistinct same_pair r.attributes.values.items × Ascends (type_and_value arc_bound) pair_plain r.attributes.values.items };
+    ghost invariant = { λ r. IsDistinct same_pair r.attributes.values.items × Ascends (type_and_value Bound) pair_plain r.attributes.values.items };
 }
 
 /// Whether no attribute stands twice.
@@ -80,7 +82,7 @@ impl RelativeDistinguishedName {
     /// That of the first attribute which is refused (`AttributeTypeAndValue::from_str`); else `SetDuplicate`
     /// where one stands twice; `Overflow` where an encoding has 2^32 octets or more; `OutOfMemory`.
     pub fn from_str(alloc: Global, text: &str) -> Result<RelativeDistinguishedName, Error>
-        ensures { GivesBy (λ r. r) result (ReadsRelative text.now) }
+        ensures { GivesBy (λ r. r) result (ReadsRelative Bound text.now) }
     {
         let attributes = read_pieces(alloc, text, b'+')?;
         let relative = RelativeDistinguishedName::try_from_vec(attributes)?;
@@ -120,8 +122,8 @@ impl RelativeDistinguishedName {
         attributes: Vec<AttributeTypeAndValue>,
     ) -> Result<RelativeDistinguishedName, Error>
         ensures ok { IfOk result (IsPermutation attributes.items) }
-        ensures ordered { IfOk result IsOrdered }
-        ensures refused { IfErr result (λ e. (e.kind ≡ ErrorKind.SetDuplicate × (IsDistinct same_pair attributes.items → ⊥)) ⊎ TooLong (type_and_value arc_bound) pair_plain attributes.items e) }
+        ensures ordered { IfOk result (IsOrdered Bound) }
+        ensures refused { IfErr result (λ e. (e.kind ≡ ErrorKind.SetDuplicate × (IsDistinct same_pair attributes.items → ⊥)) ⊎ TooLong (type_and_value Bound) pair_plain attributes.items e) }
     {
         let values = arrange(attributes)?;
         if !are_distinct(values.as_slice()) {
@@ -140,7 +142,7 @@ impl RelativeDistinguishedName {
     pub fn insert(&mut self, item: AttributeTypeAndValue) -> Result<(), Error>
         ensures ok { OnOk result (IsPermutation (item ∷ self.old) self.new) }
         ensures err { OnErr result (self.new ≡ self.old) }
-        ensures refused { IfErr result (λ e. (e.kind ≡ ErrorKind.SetDuplicate × list_any (λ a. same_pair a item) self.old ≡ true) ⊎ IsRefusal (type_and_value arc_bound) pair_plain (item ∷ self.old) e) }
+        ensures refused { IfErr result (λ e. (e.kind ≡ ErrorKind.SetDuplicate × list_any (λ a. same_pair a item) self.old ≡ true) ⊎ IsRefusal (type_and_value Bound) pair_plain (item ∷ self.old) e) }
     {
         if self.as_slice().contains(&item) {
             return Err(Error::from(ErrorKind::SetDuplicate));
@@ -176,7 +178,7 @@ impl RelativeDistinguishedName {
     /// The attributes, in ascending order of their encodings.
     pub fn as_slice(&self) -> &[AttributeTypeAndValue]
         ensures attributes { result.now ≡ self.now }
-        ensures ascend { Ascends (type_and_value arc_bound) pair_plain result.now }
+        ensures ascend { Ascends (type_and_value Bound) pair_plain result.now }
         ensures distinct { IsDistinct same_pair result.now }
     {
         self.attributes.values.as_slice()
@@ -192,7 +194,7 @@ impl FixedTag for RelativeDistinguishedName {
 }
 
 impl ShapedValue for RelativeDistinguishedName {
-    ghost content = { nested (rising (type_and_value arc_bound)) };
+    ghost content = { nested (rising (type_and_value Bound)) };
 
     ghost value_plain = { relative_plain };
 
@@ -245,7 +247,7 @@ impl ValueOrd for RelativeDistinguishedName {
 
 /// What `from_str` reads.
 impl FromText for RelativeDistinguishedName {
-    ghost reads_text = { ReadsRelative };
+    ghost reads_text = { ReadsRelative Bound };
 
     fn from_text(alloc: Global, text: &str) -> Result<RelativeDistinguishedName, Error> {
         let relative = RelativeDistinguishedName::from_str(alloc, text)?;

@@ -2,10 +2,10 @@
 
 ghost use Rattle.std.specs.Prelude.{◌≡◌, true, IsTrue};
 ghost use Rattle.std.specs.List.{AllByRecursion};
+ghost use Rattle.const_oid.specs.Bound.{Bound};
 ghost use Rattle.der_core_head.specs.Shapes.{IsValid};
 ghost use Rattle.x509_cert_names.specs.Names.{name, name_octets};
 ghost use Rattle.x509_cert_names.specs.Ordered.{IsOrdered};
-ghost use Rattle.x509_cert_names.specs.Pairs.{arc_bound};
 ghost use Rattle.x509_cert_names.specs.Views.{name_plain};
 
 use crate::name::Name;
@@ -16,10 +16,10 @@ impl Name {
     /// Whether both names have the same encoding, octet for octet, as the name of an issuer and the subject of its certificate
     /// must (RFC 5280 6.1.3). It is known by the attributes alone: no encoding is made.
     pub fn has_octets_of(&self, other: &Name) -> bool
-        ensures same { IsTrue result → name_octets arc_bound (name_plain self.now) ≡ name_octets arc_bound (name_plain other.now) }
+        ensures same { IsTrue result → name_octets Bound (name_plain self.now) ≡ name_octets Bound (name_plain other.now) }
         // A name that has an encoding.
-        ensures differ { IsValid (name arc_bound) (name_plain self.now)
-            → name_octets arc_bound (name_plain self.now) ≡ name_octets arc_bound (name_plain other.now) → result ≡ true }
+        ensures differ { IsValid (name Bound) (name_plain self.now)
+            → name_octets Bound (name_plain self.now) ≡ name_octets Bound (name_plain other.now) → result ≡ true }
     {
         if self == other {
             return true;
@@ -32,7 +32,7 @@ impl Name {
 
 /// The attributes of each relative name rise.
 fn in_order(relative_names: &[RelativeDistinguishedName])
-    ensures { AllByRecursion IsOrdered relative_names.now }
+    ensures { AllByRecursion (IsOrdered Bound) relative_names.now }
 {
     for relative_name in relative_names {
         let _attributes = relative_name.as_slice();

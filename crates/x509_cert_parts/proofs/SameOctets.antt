@@ -3,6 +3,7 @@ use Rattle.std.proofs.Common.{◌≡◌, ℕ, List, Bool, true, false, Option, r
 use Rattle.std.specs.Prelude.{nat_eq, not, ◌&&◌}
 use Rattle.std.specs.Cmp.{nat_eq_equiv}
 use Rattle.std.specs.Cmp.Lexicographic.{pointwise, bytes_decides, nat_list_eq_equiv}
+use Rattle.const_oid.specs.Bound.{Bound}
 use Rattle.const_oid.specs.Comparing.{owned_eq}
 use Rattle.const_oid.specs.IdentifierOctets.{identifier_octets}
 use Rattle.der_core_head.specs.Shapes.{AnyValue, octets_of, contents, body_octets}
@@ -11,7 +12,6 @@ use Rattle.der_core_head.specs.declared.tag.Tag.{Tag}
 use Rattle.der_core_head.proofs.TagLaws.{same_tag-eq}
 use Rattle.x509_cert_names.specs.Values.{any_key}
 use Rattle.x509_cert_parts.specs.Grammar.{Algorithm, algorithm_identifier}
-use Rattle.x509_cert_parts.specs.Views.{arc_bound}
 
 both_alike : (m n : ℕ) → (nat_eq m m && nat_eq n n) ≡ true
 both_alike m n i = nat_eq_equiv.refl m i && nat_eq_equiv.refl n i
@@ -33,7 +33,7 @@ pub any_itself : (x : AnyValue) → pointwise nat_eq (any_key x) (any_key x) ≡
 any_itself x = nat_list_eq_equiv.refl (any_key x)
 
 pub same_algorithm : (a b : List ℕ) (p q : Option AnyValue) → owned_eq a b ≡ true → p ≡ q
-    → octets_of (algorithm_identifier arc_bound) (let x : Algorithm = (a, (p, tt)) in x) ≡ octets_of (algorithm_identifier arc_bound) (let y : Algorithm = (b, (q, tt)) in y)
+    → octets_of (algorithm_identifier Bound) (let x : Algorithm = (a, (p, tt)) in x) ≡ octets_of (algorithm_identifier Bound) (let y : Algorithm = (b, (q, tt)) in y)
 unfolding octets_of contents body_octets
 same_algorithm a b p q e f = rw ((bytes_decides (identifier_octets a) (identifier_octets b)).0 e, f) refl
 

@@ -1,7 +1,6 @@
 -- What contracts see of the types: the plain values of their shapes.
-use Rattle.std.specs.Prelude.{ℕ, ℤ, pos, List}
+use Rattle.std.specs.Prelude.{ℤ, pos, List}
 use Rattle.std.proofs.Common.{inl, inr}
-use Rattle.const_oid.specs.Bound.{Bound}
 use Rattle.der_core_head.specs.Dates.{Civil}
 use Rattle.der_core_head.specs.Grammar.{plain_option, plain_list}
 use Rattle.x509_cert_names.specs.Values.{any_lent}
@@ -17,10 +16,6 @@ use Rattle.x509_cert_parts.specs.declared.time.Time.TheVariants as times
 use Rattle.x509_cert_parts.specs.declared.validity.Validity.{Validity}
 use Rattle.x509_cert_parts.specs.declared.version.Version.{Version}
 use Rattle.x509_cert_parts.specs.declared.version.Version.TheVariants as versions
-
--- the bound of arcs
-abbrev pub arc_bound : ℕ
-arc_bound = Bound
 
 abbrev pub algorithm_plain : AlgorithmIdentifier → Algorithm
 algorithm_plain a = (a.oid, (plain_option (λ p. p) a.parameters, tt))

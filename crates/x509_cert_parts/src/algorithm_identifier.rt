@@ -1,10 +1,11 @@
 //! AlgorithmIdentifier.
 
 ghost use Rattle.std.specs.Prelude.{◌≡◌, true, refl, IfOk, IsTrue};
+ghost use Rattle.const_oid.specs.Bound.{Bound};
 ghost use Rattle.der_core_head.specs.declared.tag.Tag.TheVariants.{Sequence};
 ghost use Rattle.der_core_head.specs.Shapes.{nested, octets_of};
 ghost use Rattle.x509_cert_parts.specs.Grammar.{algorithm_fields, algorithm_identifier};
-ghost use Rattle.x509_cert_parts.specs.Views.{arc_bound, algorithm_plain, algorithm_lent};
+ghost use Rattle.x509_cert_parts.specs.Views.{algorithm_plain, algorithm_lent};
 
 use crate::algorithm_identifier_ref::AlgorithmIdentifierRef;
 use const_oid::ObjectIdentifier;
@@ -55,8 +56,8 @@ impl AlgorithmIdentifier {
     /// Whether both have the same encoding, octet for octet, as the algorithm in the signed part of a certificate and the one
     /// outside must (RFC 5280 4.1.1.2). It is known by identifier and parameters: no encoding is made.
     pub fn has_octets_of(&self, other: &AlgorithmIdentifier) -> bool
-        ensures same { IsTrue result → octets_of (algorithm_identifier arc_bound) (algorithm_plain self.now)
-            ≡ octets_of (algorithm_identifier arc_bound) (algorithm_plain other.now) }
+        ensures same { IsTrue result → octets_of (algorithm_identifier Bound) (algorithm_plain self.now)
+            ≡ octets_of (algorithm_identifier Bound) (algorithm_plain other.now) }
         ensures differ { algorithm_plain self.now ≡ algorithm_plain other.now → result ≡ true }
     {
         if self.oid != other.oid {
@@ -93,7 +94,7 @@ impl FixedTag for AlgorithmIdentifier {
 }
 
 impl Fields for AlgorithmIdentifier {
-    ghost fields = { algorithm_fields arc_bound };
+    ghost fields = { algorithm_fields Bound };
 
     ghost fields_plain = { algorithm_plain };
 
@@ -108,7 +109,7 @@ impl<'a, R: Reader<'a>> DecodeFields<'a, R> for AlgorithmIdentifier {
 }
 
 impl ShapedValue for AlgorithmIdentifier {
-    ghost content = { nested (algorithm_fields arc_bound) };
+    ghost content = { nested (algorithm_fields Bound) };
 
     ghost value_plain = { algorithm_plain };
 

@@ -1,10 +1,11 @@
 //! AlgorithmIdentifier, borrowed.
 
 ghost use Rattle.std.specs.Prelude.{◌≡◌, refl, IfOk};
+ghost use Rattle.const_oid.specs.Bound.{Bound};
 ghost use Rattle.der_core_head.specs.declared.tag.Tag.TheVariants.{Sequence};
 ghost use Rattle.der_core_head.specs.Shapes.{nested};
 ghost use Rattle.x509_cert_parts.specs.Grammar.{algorithm_fields};
-ghost use Rattle.x509_cert_parts.specs.Views.{arc_bound, algorithm_plain, algorithm_lent};
+ghost use Rattle.x509_cert_parts.specs.Views.{algorithm_plain, algorithm_lent};
 
 use crate::algorithm_identifier::AlgorithmIdentifier;
 use const_oid::ObjectIdentifier;
@@ -64,7 +65,7 @@ impl<'a> FixedTag for AlgorithmIdentifierRef<'a> {
 }
 
 impl<'a> Fields for AlgorithmIdentifierRef<'a> {
-    ghost fields = { algorithm_fields arc_bound };
+    ghost fields = { algorithm_fields Bound };
 
     ghost fields_plain = { algorithm_lent };
 
@@ -81,7 +82,7 @@ impl<'a, R: Reader<'a>> DecodeFields<'a, R> for AlgorithmIdentifierRef<'a> {
 }
 
 impl<'a> ShapedValue for AlgorithmIdentifierRef<'a> {
-    ghost content = { nested (algorithm_fields arc_bound) };
+    ghost content = { nested (algorithm_fields Bound) };
 
     ghost value_plain = { algorithm_lent };
 

@@ -1,10 +1,11 @@
 //! Extension.
 
 ghost use Rattle.std.specs.Prelude.{◌≡◌, refl, IfOk};
+ghost use Rattle.const_oid.specs.Bound.{Bound};
 ghost use Rattle.der_core_head.specs.declared.tag.Tag.TheVariants.{Sequence};
 ghost use Rattle.der_core_head.specs.Shapes.{nested};
 ghost use Rattle.x509_cert_parts.specs.Grammar.{extension_fields};
-ghost use Rattle.x509_cert_parts.specs.Views.{arc_bound, extension_plain};
+ghost use Rattle.x509_cert_parts.specs.Views.{extension_plain};
 
 use const_oid::ObjectIdentifier;
 use der_core::making::read_fields;
@@ -70,7 +71,7 @@ impl FixedTag for Extension {
 }
 
 impl Fields for Extension {
-    ghost fields = { extension_fields arc_bound };
+    ghost fields = { extension_fields Bound };
 
     ghost fields_plain = { extension_plain };
 
@@ -91,7 +92,7 @@ impl<'a, R: Reader<'a>> DecodeFields<'a, R> for Extension {
 }
 
 impl ShapedValue for Extension {
-    ghost content = { nested (extension_fields arc_bound) };
+    ghost content = { nested (extension_fields Bound) };
 
     ghost value_plain = { extension_plain };
 

@@ -1,10 +1,11 @@
 //! SubjectPublicKeyInfo.
 
 ghost use Rattle.std.specs.Prelude.{◌≡◌, refl, IfOk};
+ghost use Rattle.const_oid.specs.Bound.{Bound};
 ghost use Rattle.der_core_head.specs.declared.tag.Tag.TheVariants.{Sequence};
 ghost use Rattle.der_core_head.specs.Shapes.{nested};
 ghost use Rattle.x509_cert_parts.specs.Grammar.{public_key_fields};
-ghost use Rattle.x509_cert_parts.specs.Views.{arc_bound, key_plain, key_lent};
+ghost use Rattle.x509_cert_parts.specs.Views.{key_plain, key_lent};
 
 use crate::algorithm_identifier::AlgorithmIdentifier;
 use crate::subject_public_key_info_ref::SubjectPublicKeyInfoRef;
@@ -68,7 +69,7 @@ impl FixedTag for SubjectPublicKeyInfo {
 }
 
 impl Fields for SubjectPublicKeyInfo {
-    ghost fields = { public_key_fields arc_bound };
+    ghost fields = { public_key_fields Bound };
 
     ghost fields_plain = { key_plain };
 
@@ -86,7 +87,7 @@ impl<'a, R: Reader<'a>> DecodeFields<'a, R> for SubjectPublicKeyInfo {
 }
 
 impl ShapedValue for SubjectPublicKeyInfo {
-    ghost content = { nested (public_key_fields arc_bound) };
+    ghost content = { nested (public_key_fields Bound) };
 
     ghost value_plain = { key_plain };
 

@@ -1,10 +1,11 @@
 //! SubjectPublicKeyInfo, borrowed.
 
 ghost use Rattle.std.specs.Prelude.{◌≡◌, refl, IfOk};
+ghost use Rattle.const_oid.specs.Bound.{Bound};
 ghost use Rattle.der_core_head.specs.declared.tag.Tag.TheVariants.{Sequence};
 ghost use Rattle.der_core_head.specs.Shapes.{nested};
 ghost use Rattle.x509_cert_parts.specs.Grammar.{public_key_fields};
-ghost use Rattle.x509_cert_parts.specs.Views.{arc_bound, key_plain, key_lent};
+ghost use Rattle.x509_cert_parts.specs.Views.{key_plain, key_lent};
 
 use crate::algorithm_identifier_ref::AlgorithmIdentifierRef;
 use crate::subject_public_key_info::SubjectPublicKeyInfo;
@@ -60,7 +61,7 @@ impl<'a> FixedTag for SubjectPublicKeyInfoRef<'a> {
 }
 
 impl<'a> Fields for SubjectPublicKeyInfoRef<'a> {
-    ghost fields = { public_key_fields arc_bound };
+    ghost fields = { public_key_fields Bound };
 
     ghost fields_plain = { key_lent };
 
@@ -80,7 +81,7 @@ impl<'a, R: Reader<'a>> DecodeFields<'a, R> for SubjectPublicKeyInfoRef<'a> {
 }
 
 impl<'a> ShapedValue for SubjectPublicKeyInfoRef<'a> {
-    ghost content = { nested (public_key_fields arc_bound) };
+    ghost content = { nested (public_key_fields Bound) };
 
     ghost value_plain = { key_lent };
 

@@ -1,10 +1,10 @@
 //! CertificatePolicies.
 
 ghost use Rattle.std.specs.Prelude.{◌≡◌, refl};
+ghost use Rattle.const_oid.specs.Bound.{Bound};
 ghost use Rattle.der_core_head.specs.declared.tag.Tag.TheVariants.{Sequence};
 ghost use Rattle.der_core_head.specs.Grammar.{plain_list};
 ghost use Rattle.der_core_head.specs.Shapes.{nested, many, sequence};
-ghost use Rattle.x509_cert_general_names.specs.Parts.{arc_bound};
 ghost use Rattle.x509_cert_policies.specs.Grammar.{policy_information_fields};
 ghost use Rattle.x509_cert_policies.specs.Views.{policy_information_plain};
 
@@ -33,7 +33,7 @@ impl FixedTag for CertificatePolicies {
 }
 
 impl ShapedValue for CertificatePolicies {
-    ghost content = { nested (many (sequence (policy_information_fields arc_bound))) };
+    ghost content = { nested (many (sequence (policy_information_fields Bound))) };
 
     ghost value_plain = { λ x. plain_list policy_information_plain x.0.items };
 

@@ -1,9 +1,9 @@
 //! PolicyInformation.
 
 ghost use Rattle.std.specs.Prelude.{◌≡◌, refl};
+ghost use Rattle.const_oid.specs.Bound.{Bound};
 ghost use Rattle.der_core_head.specs.declared.tag.Tag.TheVariants.{Sequence};
 ghost use Rattle.der_core_head.specs.Shapes.{nested};
-ghost use Rattle.x509_cert_general_names.specs.Parts.{arc_bound};
 ghost use Rattle.x509_cert_policies.specs.Grammar.{policy_information_fields};
 ghost use Rattle.x509_cert_policies.specs.Views.{policy_information_plain};
 
@@ -60,7 +60,7 @@ impl FixedTag for PolicyInformation {
 }
 
 impl Fields for PolicyInformation {
-    ghost fields = { policy_information_fields arc_bound };
+    ghost fields = { policy_information_fields Bound };
 
     ghost fields_plain = { policy_information_plain };
 
@@ -78,7 +78,7 @@ impl<'a, R: Reader<'a>> DecodeFields<'a, R> for PolicyInformation {
 }
 
 impl ShapedValue for PolicyInformation {
-    ghost content = { nested (policy_information_fields arc_bound) };
+    ghost content = { nested (policy_information_fields Bound) };
 
     ghost value_plain = { policy_information_plain };
 

@@ -1,9 +1,9 @@
 //! PolicyMapping.
 
 ghost use Rattle.std.specs.Prelude.{◌≡◌, refl};
+ghost use Rattle.const_oid.specs.Bound.{Bound};
 ghost use Rattle.der_core_head.specs.declared.tag.Tag.TheVariants.{Sequence};
 ghost use Rattle.der_core_head.specs.Shapes.{nested};
-ghost use Rattle.x509_cert_general_names.specs.Parts.{arc_bound};
 ghost use Rattle.x509_cert_policies.specs.Grammar.{policy_mapping_fields};
 ghost use Rattle.x509_cert_policies.specs.Views.{policy_mapping_plain};
 
@@ -59,7 +59,7 @@ impl FixedTag for PolicyMapping {
 }
 
 impl Fields for PolicyMapping {
-    ghost fields = { policy_mapping_fields arc_bound };
+    ghost fields = { policy_mapping_fields Bound };
 
     ghost fields_plain = { policy_mapping_plain };
 
@@ -79,7 +79,7 @@ impl<'a, R: Reader<'a>> DecodeFields<'a, R> for PolicyMapping {
 }
 
 impl ShapedValue for PolicyMapping {
-    ghost content = { nested (policy_mapping_fields arc_bound) };
+    ghost content = { nested (policy_mapping_fields Bound) };
 
     ghost value_plain = { policy_mapping_plain };
 

@@ -1,11 +1,12 @@
 -- The certificates so far begin the stream.
 use Rattle.std.proofs.Common.{◌-◌, length, map}
-use Rattle.cert_desk_checking.specs.Certificates.{arc_bound, certificate_plain}
+use Rattle.cert_desk_checking.specs.Certificates.{certificate_plain}
 use Rattle.cert_desk_plain.proofs.Fronts.{SoFar}
 use Rattle.cert_desk_plain.proofs.split.Given as goal
+use Rattle.const_oid.specs.Bound.{Bound}
 
 abbrev pub invariant-loop-certificates : goal.invariant-loop-certificates
-invariant-loop-certificates l = SoFar arc_bound l.limit l.stream (map certificate_plain l.certificates.items) l.start
+invariant-loop-certificates l = SoFar Bound l.limit l.stream (map certificate_plain l.certificates.items) l.start
 
 abbrev pub decreases-loop-certificates : goal.decreases-loop-certificates
 decreases-loop-certificates l = length l.stream - l.start

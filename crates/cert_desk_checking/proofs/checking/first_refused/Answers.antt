@@ -1,5 +1,4 @@
 use Rattle.std.proofs.Common.{◌≡◌, suc, ◌+◌, true, sym, ap, ◌∙◌, subst, arith}
-use Rattle.x509_cert.specs.Views.{arc_bound}
 use Rattle.cert_desk_checking.specs.declared.rule.Rule.TheVariants as rules
 use Rattle.cert_desk_checking.specs.Anchors.{terms_of}
 use Rattle.cert_desk_checking.specs.Chains.{joined}
@@ -9,11 +8,12 @@ use Rattle.cert_desk_checking.specs.Places.{asked_below, asked_signature, Rises}
 use Rattle.cert_desk_checking.proofs.BreachLaws.{asked_place, signed_kept}
 use Rattle.cert_desk_checking.proofs.Counts.{Rises-by, Rises-more}
 use Rattle.cert_desk_checking.proofs.checking.first_refused.Goals as goal
+use Rattle.const_oid.specs.Bound.{Bound}
 
 pub loop-place-preserved : goal.loop-place-preserved
 loop-place-preserved g c =
     let cs = c.args.bundle.now.certificates in
-    let s = joined arc_bound cs in
+    let s = joined Bound cs in
     let place = c.loop-place.place in
     let next : suc place ≡ place + 1 = omega arith in
     record {
@@ -34,7 +34,7 @@ loop-place-preserved g c =
 pub returns-then-not-is_signed-clause-judged : goal.returns-then-not-is_signed-clause-judged
 returns-then-not-is_signed-clause-judged g c = λ moment purpose kept.
     let cs = c.args.bundle.now.certificates in
-    let s = joined arc_bound cs in
+    let s = joined Bound cs in
     let place = c.loop-place.place in (
       c.loop-place-test.true,
       c.loop-place.invariant.judged moment purpose kept,
@@ -45,7 +45,7 @@ returns-then-not-is_signed-clause-judged g c = λ moment purpose kept.
 pub returns-then-not-is_signed-clause-counted : goal.returns-then-not-is_signed-clause-counted
 returns-then-not-is_signed-clause-counted g c = λ moment purpose kept.
     let cs = c.args.bundle.now.certificates in
-    let s = joined arc_bound cs in
+    let s = joined Bound cs in
     let place = c.loop-place.place in
     let t = terms_of c.args.anchors.now moment purpose (g.J.SignatureJudge.answers c.args.judge.now) in
     let counted = subst (λ (a : Answers). Rises (asked_signature (terms_of c.args.anchors.now moment purpose a) cs s place) (g.J.SignatureJudge.questions c.loop-place.judge) c.loop-place.calls (g.J.SignatureJudge.questions c.is_signed.new.judge) c.is_signed.new.calls) c.loop-place.invariant.kept (c.is_signed.ensures.counted moment purpose) in
@@ -58,11 +58,11 @@ returns-clause-judged g c = λ moment purpose kept.
     let cs = c.args.bundle.now.certificates in
     let t = terms_of c.args.anchors.now moment purpose (g.J.SignatureJudge.answers c.args.judge.now) in
     let end : c.loop-place.place ≡ c.args.until = omega arith in
-    subst (λ n. all_kept_below t cs (joined arc_bound cs) n ≡ true) end (c.loop-place.invariant.judged moment purpose kept)
+    subst (λ n. all_kept_below t cs (joined Bound cs) n ≡ true) end (c.loop-place.invariant.judged moment purpose kept)
 
 pub returns-clause-counted : goal.returns-clause-counted
 returns-clause-counted g c = λ moment purpose kept.
     let cs = c.args.bundle.now.certificates in
     let t = terms_of c.args.anchors.now moment purpose (g.J.SignatureJudge.answers c.args.judge.now) in
     let end : c.loop-place.place ≡ c.args.until = omega arith in
-    Rises-by _ _ _ _ _ _ (ap (asked_below t cs (joined arc_bound cs)) end) (c.loop-place.invariant.counted moment purpose kept)
+    Rises-by _ _ _ _ _ _ (ap (asked_below t cs (joined Bound cs)) end) (c.loop-place.invariant.counted moment purpose kept)

@@ -1,8 +1,9 @@
 use Rattle.std.specs.Prelude.{◌==◌}
 use Rattle.std.proofs.Common.{◌+◌, ◌&&◌, ◌||◌, not, List, refl, subst, sym, ◌∙◌, ap}
 use Rattle.std.specs.Option.{is_some}
+use Rattle.const_oid.specs.Bound.{Bound}
 use Rattle.x509_cert.specs.Certificates.{PlainExtension}
-use Rattle.x509_cert.specs.Views.{arc_bound, certificate_plain}
+use Rattle.x509_cert.specs.Views.{certificate_plain}
 use Rattle.cert_desk_checking.specs.declared.rule.Rule.TheVariants as rules
 use Rattle.cert_desk_checking.specs.Anchors.{terms_of}
 use Rattle.cert_desk_checking.specs.Findings.{IsRoom, add_place, found}
@@ -27,10 +28,10 @@ returns-clause-judged c = λ answers stream.
     let place = c.args.place in
     let entry = entry_at _ _ _ _ _ c.get.ensures.entry c.unwrap.ensures in
     let this = certificate_plain c.unwrap.result.certificate.now in
-    let gathered = c.in_ok-findings.ensures ∙ ap (λ (es : List PlainExtension). found arc_bound c.args.purpose.now es) c.extensions_of-extensions.ensures in
+    let gathered = c.in_ok-findings.ensures ∙ ap (λ (es : List PlainExtension). found Bound c.args.purpose.now es) c.extensions_of-extensions.ensures in
     let last = ap (λ n. (place + 1) == n) c.len-len.ensures in
     let left = c.args.room.now.left in
-    let known = ap (λ b. not b && not (is_self_issued arc_bound this)) last ∙ sym (counts-is arc_bound cs place this entry.certificate) in
+    let known = ap (λ b. not b && not (is_self_issued Bound this)) last ∙ sym (counts-is Bound cs place this entry.certificate) in
     let takes = c.takes_room-counts.ensures ∙ ap (λ b. is_some left && b) known in
     first_unsigned_by _ t cs stream place c.first_broken.result
     (tests_say _ t cs stream place
@@ -43,8 +44,8 @@ returns-clause-judged c = λ answers stream.
     (c.lasts.ensures ∙ sym (keeps_at-is rules.Expired t cs stream place this entry.certificate))
     (keeps_serving t cs stream place this entry.certificate _ gathered)
     (c.may_issue.ensures ∙ ap (λ b. b || (c.in_ok-findings.findings.ca && c.in_ok-findings.findings.certifies)) last ∙ keeps_issuing t cs stream place this entry.certificate _ gathered)
-    (c.admits.ensures ∙ ap (λ b. not b || is_within 1 left) takes ∙ admits_any left (counts arc_bound cs place)
-    ∙ keeps_within t cs stream place this entry.certificate _ gathered c.args.room.now (counts arc_bound cs place) refl c.requires.room))
+    (c.admits.ensures ∙ ap (λ b. not b || is_within 1 left) takes ∙ admits_any left (counts Bound cs place)
+    ∙ keeps_within t cs stream place this entry.certificate _ gathered c.args.room.now (counts Bound cs place) refl c.requires.room))
     c.first_broken.ensures
 
 pub returns-clause-room : goal.returns-clause-room
@@ -53,13 +54,13 @@ returns-clause-room c = λ none.
     let place = c.args.place in
     let entry = entry_at _ _ _ _ _ c.get.ensures.entry c.unwrap.ensures in
     let this = certificate_plain c.unwrap.result.certificate.now in
-    let gathered = c.in_ok-findings.ensures ∙ ap (λ (es : List PlainExtension). found arc_bound c.args.purpose.now es) c.extensions_of-extensions.ensures in
+    let gathered = c.in_ok-findings.ensures ∙ ap (λ (es : List PlainExtension). found Bound c.args.purpose.now es) c.extensions_of-extensions.ensures in
     let last = ap (λ n. (place + 1) == n) c.len-len.ensures in
     let left = c.args.room.now.left in
-    let known = ap (λ b. not b && not (is_self_issued arc_bound this)) last ∙ sym (counts-is arc_bound cs place this entry.certificate) in
+    let known = ap (λ b. not b && not (is_self_issued Bound this)) last ∙ sym (counts-is Bound cs place this entry.certificate) in
     let takes = c.takes_room-counts.ensures ∙ ap (λ b. is_some left && b) known in
-    let enough = sym (admits_any left (counts arc_bound cs place)) ∙ ap (λ b. not b || is_within 1 left) (sym takes) ∙ sym c.admits.ensures
+    let enough = sym (admits_any left (counts Bound cs place)) ∙ ap (λ b. not b || is_within 1 left) (sym takes) ∙ sym c.admits.ensures
     ∙ (subst (IsFirstOf _) none c.first_broken.ensures) rules.PathTooLong in
-    let behind = c.add.ensures ∙ ap (λ b. add_place c.args.room.now b c.in_ok-findings.findings.path_len) takes ∙ add_place_any c.args.room.now (counts arc_bound cs place) c.in_ok-findings.findings.path_len in
-    subst (λ r. IsRoom arc_bound cs (place + 1) r) (sym behind)
-    (IsRoom-more arc_bound c.args.purpose.now cs place this c.args.room.now (counts arc_bound cs place) c.in_ok-findings.findings.path_len entry.certificate refl c.requires.room enough (ap (λ f. f.path_len) gathered))
+    let behind = c.add.ensures ∙ ap (λ b. add_place c.args.room.now b c.in_ok-findings.findings.path_len) takes ∙ add_place_any c.args.room.now (counts Bound cs place) c.in_ok-findings.findings.path_len in
+    subst (λ r. IsRoom Bound cs (place + 1) r) (sym behind)
+    (IsRoom-more Bound c.args.purpose.now cs place this c.args.room.now (counts Bound cs place) c.in_ok-findings.findings.path_len entry.certificate refl c.requires.room enough (ap (λ f. f.path_len) gathered))

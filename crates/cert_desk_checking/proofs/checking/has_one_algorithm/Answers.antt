@@ -1,6 +1,7 @@
 use Rattle.std.proofs.Common.{◌≡◌, sym, ap, ◌∙◌}
+use Rattle.const_oid.specs.Bound.{Bound}
 use Rattle.der_core_head.specs.Shapes.{octets_of}
-use Rattle.x509_cert.specs.Views.{arc_bound, algorithm_plain, certificate_plain}
+use Rattle.x509_cert.specs.Views.{algorithm_plain, certificate_plain}
 use Rattle.x509_cert.specs.Certificates.{Algorithm, algorithm_identifier, inner_algorithm, outer_algorithm, tbs_inner_algorithm}
 use Rattle.cert_desk_checking.proofs.PlaceLaws.{one_algorithm_by}
 use Rattle.cert_desk_checking.proofs.checking.has_one_algorithm.Goals as goal
@@ -10,7 +11,7 @@ returns c =
     let this = certificate_plain c.args.certificate.now in
     let inner : algorithm_plain c.signature-signed.result.now ≡ inner_algorithm this = c.signature-signed.ensures ∙ ap tbs_inner_algorithm c.tbs_certificate.ensures in
     let outer : algorithm_plain c.signature_algorithm.result.now ≡ outer_algorithm this = c.signature_algorithm.ensures in
-    one_algorithm_by arc_bound _ this c.requires
-    (λ t. ap (λ (a : Algorithm). octets_of (algorithm_identifier arc_bound) a) (sym inner) ∙ c.has_octets_of.ensures.same t
-    ∙ ap (λ (a : Algorithm). octets_of (algorithm_identifier arc_bound) a) outer)
+    one_algorithm_by Bound _ this c.requires
+    (λ t. ap (λ (a : Algorithm). octets_of (algorithm_identifier Bound) a) (sym inner) ∙ c.has_octets_of.ensures.same t
+    ∙ ap (λ (a : Algorithm). octets_of (algorithm_identifier Bound) a) outer)
     (λ e. c.has_octets_of.ensures.differ (inner ∙ e ∙ sym outer))

@@ -1,5 +1,6 @@
 use Rattle.std.proofs.Common.{sym, ap, ◌∙◌}
-use Rattle.x509_cert.specs.Views.{arc_bound, certificate_plain}
+use Rattle.const_oid.specs.Bound.{Bound}
+use Rattle.x509_cert.specs.Views.{certificate_plain}
 use Rattle.cert_desk_checking.specs.declared.anchor.Anchor.{Anchor}
 use Rattle.cert_desk_checking.specs.Anchors.{anchor_plain}
 use Rattle.cert_desk_checking.specs.Judging.{is_named}
@@ -8,12 +9,12 @@ use Rattle.cert_desk_checking.proofs.checking.is_anchored.Goals as goal
 
 pub returns-then-is_issued_by : goal.returns-then-is_issued_by
 returns-then-is_issued_by c =
-    let yes = ap (λ (x : Anchor). is_named arc_bound (certificate_plain c.args.certificate.now) (anchor_plain x)) (sym c.anchor-item.is)
-    ∙ same_name_is arc_bound _ _ _ _ _ c.is_issued_by.ensures c.name.ensures c.if-is_issued_by.true in
+    let yes = ap (λ (x : Anchor). is_named Bound (certificate_plain c.args.certificate.now) (anchor_plain x)) (sym c.anchor-item.is)
+    ∙ same_name_is Bound _ _ _ _ _ c.is_issued_by.ensures c.name.ensures c.if-is_issued_by.true in
     sym (any_yes _ c.args.anchors.now c.loop-anchor.anchor-index _ c.loop-anchor-test.true yes) ∙ c.loop-anchor.invariant.left
 
 pub loop-anchor-preserved : goal.loop-anchor-preserved
 loop-anchor-preserved c =
-    let no = ap (λ (x : Anchor). is_named arc_bound (certificate_plain c.args.certificate.now) (anchor_plain x)) (sym c.anchor-item.is)
-    ∙ same_name_is arc_bound _ _ _ _ _ c.is_issued_by.ensures c.name.ensures c.if-is_issued_by.false in
+    let no = ap (λ (x : Anchor). is_named Bound (certificate_plain c.args.certificate.now) (anchor_plain x)) (sym c.anchor-item.is)
+    ∙ same_name_is Bound _ _ _ _ _ c.is_issued_by.ensures c.name.ensures c.if-is_issued_by.false in
     record { left = any_no _ c.args.anchors.now c.loop-anchor.anchor-index _ c.loop-anchor-test.true no ∙ c.loop-anchor.invariant.left }

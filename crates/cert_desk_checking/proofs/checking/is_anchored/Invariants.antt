@@ -1,13 +1,14 @@
 -- No anchor so far has the name: the answer is that of the anchors that are left.
 use Rattle.std.proofs.Common.{◌≡◌, map, drop}
 use Rattle.std.specs.List.{list_any}
-use Rattle.x509_cert.specs.Views.{arc_bound, certificate_plain}
+use Rattle.const_oid.specs.Bound.{Bound}
+use Rattle.x509_cert.specs.Views.{certificate_plain}
 use Rattle.cert_desk_checking.specs.Anchors.{anchor_plain}
 use Rattle.cert_desk_checking.specs.Judging.{is_named}
 use Rattle.cert_desk_checking.proofs.checking.is_anchored.Given as goal
 
 abbrev pub invariant-loop-anchor : goal.invariant-loop-anchor
 invariant-loop-anchor l = record {
-  left : list_any (is_named arc_bound (certificate_plain l.certificate)) (map anchor_plain (drop l.anchor-index l.anchors))
-      ≡ list_any (is_named arc_bound (certificate_plain l.certificate)) (map anchor_plain l.anchors);
+  left : list_any (is_named Bound (certificate_plain l.certificate)) (map anchor_plain (drop l.anchor-index l.anchors))
+      ≡ list_any (is_named Bound (certificate_plain l.certificate)) (map anchor_plain l.anchors);
 }

@@ -1,6 +1,7 @@
 use Rattle.std.proofs.Common.{◌≡◌, sym, ap, ◌∙◌, subst}
+use Rattle.const_oid.specs.Bound.{Bound}
 use Rattle.der_core_head.specs.Shapes.{IsValid}
-use Rattle.x509_cert.specs.Views.{arc_bound, certificate_plain, name_plain}
+use Rattle.x509_cert.specs.Views.{certificate_plain, name_plain}
 use Rattle.x509_cert.specs.Certificates.{PlainName, issuer, name, name_octets, tbs_issuer}
 use Rattle.cert_desk_checking.proofs.AnchorSteps.{same_name_by}
 use Rattle.cert_desk_checking.proofs.Encodings.{valid_issuer}
@@ -10,7 +11,7 @@ pub returns : goal.returns
 returns c =
     let this = certificate_plain c.args.certificate.now in
     let named : name_plain c.issuer.result.now ≡ issuer this = c.issuer.ensures ∙ ap tbs_issuer c.tbs_certificate.ensures in
-    same_name_by arc_bound _ (issuer this) (name_plain c.args.name.now) (
-      λ t. ap (λ (n : PlainName). name_octets arc_bound n) (sym named) ∙ c.has_octets_of.ensures.same t,
-      λ e. c.has_octets_of.ensures.differ (subst (λ (n : PlainName). IsValid (name arc_bound) n) (sym named) (valid_issuer arc_bound this c.requires)) (ap (λ (n : PlainName). name_octets arc_bound n) named ∙ e),
+    same_name_by Bound _ (issuer this) (name_plain c.args.name.now) (
+      λ t. ap (λ (n : PlainName). name_octets Bound n) (sym named) ∙ c.has_octets_of.ensures.same t,
+      λ e. c.has_octets_of.ensures.differ (subst (λ (n : PlainName). IsValid (name Bound) n) (sym named) (valid_issuer Bound this c.requires)) (ap (λ (n : PlainName). name_octets Bound n) named ∙ e),
     )

@@ -1,5 +1,6 @@
 use Rattle.std.proofs.Common.{◌<◌, sym, ◌∙◌, ap, arith}
-use Rattle.x509_cert.specs.Views.{arc_bound, certificate_plain}
+use Rattle.const_oid.specs.Bound.{Bound}
+use Rattle.x509_cert.specs.Views.{certificate_plain}
 use Rattle.x509_cert.specs.Certificates.{issuer, tbs_subject}
 use Rattle.cert_desk_checking.specs.declared.rule.Rule.TheVariants as rules
 use Rattle.cert_desk_checking.specs.Anchors.{terms_of}
@@ -23,5 +24,5 @@ returns c = λ moment purpose answers stream.
     let earlier = certificate_plain c.unwrap-before.result.certificate.now in
     let later : 0 < c.args.place = omega arith in
     c.is_linked_by.ensures
-    ∙ ap (same_name arc_bound (issuer this)) (c.subject.ensures ∙ ap tbs_subject c.tbs_certificate.ensures)
+    ∙ ap (same_name Bound (issuer this)) (c.subject.ensures ∙ ap tbs_subject c.tbs_certificate.ensures)
     ∙ sym (keeps_at-is rules.WrongIssuer t cs stream c.args.place this entry.certificate ∙ is_linked-later t cs c.args.place this earlier later before.certificate)

@@ -1,7 +1,8 @@
 -- No anchor so far was answered yes: the answer, and the questions to come, are those of the anchors that are left.
 use Rattle.std.proofs.Common.{◌≡◌, ℕ, ◌+◌, map, drop}
 use Rattle.std.specs.List.{list_any}
-use Rattle.x509_cert.specs.Views.{arc_bound, certificate_plain}
+use Rattle.const_oid.specs.Bound.{Bound}
+use Rattle.x509_cert.specs.Views.{certificate_plain}
 use Rattle.cert_desk_checking.specs.Anchors.{anchor_plain}
 use Rattle.cert_desk_checking.specs.Places.{signs, asked_until, Rises}
 use Rattle.cert_desk_checking.proofs.checking.is_signed_by_anchor.Given as goal
@@ -9,9 +10,9 @@ use Rattle.cert_desk_checking.proofs.checking.is_signed_by_anchor.Given as goal
 abbrev pub invariant-loop-anchor : goal.invariant-loop-anchor
 invariant-loop-anchor g l = record {
   kept : g.J.SignatureJudge.answers l.judge ≡ g.J.SignatureJudge.answers l.fn.judge;
-  left : list_any (signs arc_bound (g.J.SignatureJudge.answers l.fn.judge) l.entry.signed.now (certificate_plain l.entry.certificate.now)) (map anchor_plain (drop l.anchor-index l.anchors))
-      ≡ list_any (signs arc_bound (g.J.SignatureJudge.answers l.fn.judge) l.entry.signed.now (certificate_plain l.entry.certificate.now)) (map anchor_plain l.anchors);
+  left : list_any (signs Bound (g.J.SignatureJudge.answers l.fn.judge) l.entry.signed.now (certificate_plain l.entry.certificate.now)) (map anchor_plain (drop l.anchor-index l.anchors))
+      ≡ list_any (signs Bound (g.J.SignatureJudge.answers l.fn.judge) l.entry.signed.now (certificate_plain l.entry.certificate.now)) (map anchor_plain l.anchors);
   counted : (n : ℕ) × Rises n (g.J.SignatureJudge.questions l.fn.judge) l.fn.calls (g.J.SignatureJudge.questions l.judge) l.calls
-      × (n + asked_until arc_bound (g.J.SignatureJudge.answers l.fn.judge) l.entry.signed.now (certificate_plain l.entry.certificate.now) (map anchor_plain (drop l.anchor-index l.anchors))
-      ≡ asked_until arc_bound (g.J.SignatureJudge.answers l.fn.judge) l.entry.signed.now (certificate_plain l.entry.certificate.now) (map anchor_plain l.anchors));
+      × (n + asked_until Bound (g.J.SignatureJudge.answers l.fn.judge) l.entry.signed.now (certificate_plain l.entry.certificate.now) (map anchor_plain (drop l.anchor-index l.anchors))
+      ≡ asked_until Bound (g.J.SignatureJudge.answers l.fn.judge) l.entry.signed.now (certificate_plain l.entry.certificate.now) (map anchor_plain l.anchors));
 }

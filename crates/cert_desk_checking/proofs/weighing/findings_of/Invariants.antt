@@ -1,12 +1,13 @@
 -- What was found so far, with the extensions that are left, is what is found in all of them.
 use Rattle.std.proofs.Common.{◌≡◌, drop}
 use Rattle.std.specs.List.{fold}
-use Rattle.x509_cert.specs.Views.{arc_bound, extensions_plain}
+use Rattle.const_oid.specs.Bound.{Bound}
+use Rattle.x509_cert.specs.Views.{extensions_plain}
 use Rattle.cert_desk_checking.specs.Findings.{add_extension, found}
 use Rattle.cert_desk_checking.proofs.weighing.findings_of.Given as goal
 
 abbrev pub invariant-loop-extension : goal.invariant-loop-extension
 invariant-loop-extension l = record {
-  left : fold (add_extension arc_bound l.purpose) l.findings (extensions_plain (drop l.extension-index l.extensions))
-      ≡ found arc_bound l.purpose (extensions_plain l.extensions);
+  left : fold (add_extension Bound l.purpose) l.findings (extensions_plain (drop l.extension-index l.extensions))
+      ≡ found Bound l.purpose (extensions_plain l.extensions);
 }

@@ -1,8 +1,9 @@
 use Rattle.std.proofs.Common.{◌≡◌, ℕ, List, refl, sym, ap, ◌∙◌, subst, string_bytes}
+use Rattle.const_oid.specs.Bound.{Bound}
 use Rattle.der_core_head.specs.Grammar.{plain_list}
 use Rattle.der_core_head.specs.Shapes.{IsValid}
 use Rattle.cert_desk_checking.specs.Certificates.{Algorithm, PlainCertificate, certificate_octets, raw_certificate, tbs}
-use Rattle.cert_desk_checking.specs.Views.{algorithm_plain, arc_bound, tbs_plain}
+use Rattle.cert_desk_checking.specs.Views.{algorithm_plain, tbs_plain}
 use Rattle.cert_desk_issuing.specs.Ordered.{ordered_part, part_octets}
 use Rattle.cert_desk_issuing.specs.PlainOrders.{accepted_plain}
 use Rattle.cert_desk_issuing.specs.Refusals.{Stops}
@@ -68,7 +69,7 @@ returns-clause-octets g c =
     let a = algorithm_plain c.in_ok-algorithm.algorithm in
     let t = ordered_part c.args.role p above a in
     let same = certificate_again c.args.role p above a a (tbs_plain c.in-Ok.written.0) c.in-Ok-signed.signature c.requires.ready c.in-Ok.ensures.part refl in
-    c.in-Ok-whole_of.ensures.octets t (c.as_slice-2.ensures.value ∙ c.in-Ok.ensures.octets) ∙ ap (λ (x : PlainCertificate). certificate_octets arc_bound x) (sym same)
+    c.in-Ok-whole_of.ensures.octets t (c.as_slice-2.ensures.value ∙ c.in-Ok.ensures.octets) ∙ ap (λ (x : PlainCertificate). certificate_octets Bound x) (sym same)
 
 pub returns-clause-valid : goal.returns-clause-valid
 returns-clause-valid g c =
@@ -77,5 +78,5 @@ returns-clause-valid g c =
     let a = algorithm_plain c.in_ok-algorithm.algorithm in
     let t = ordered_part c.args.role p above a in
     let same = certificate_again c.args.role p above a a (tbs_plain c.in-Ok.written.0) c.in-Ok-signed.signature c.requires.ready c.in-Ok.ensures.part refl in
-    subst (λ (x : PlainCertificate). IsValid (raw_certificate arc_bound) x) (sym same)
+    subst (λ (x : PlainCertificate). IsValid (raw_certificate Bound) x) (sym same)
     (c.in-Ok-whole_of.ensures.valid t (c.as_slice-2.ensures.value ∙ c.in-Ok.ensures.octets) c.in-Ok.ensures.valid)

@@ -1,9 +1,10 @@
 use Rattle.std.proofs.Common.{Ok, refl, sym, ◌∙◌}
 use Rattle.std.proofs.lemmas.Result.{err_from_is_err_and}
+use Rattle.const_oid.specs.Bound.{Bound}
 use Rattle.der_core_head.specs.Shapes.{octets_of}
 use Rattle.cert_desk_checking.specs.Certificates.{raw_certificate}
 use Rattle.cert_desk_checking.specs.Parts.{any_lent}
-use Rattle.cert_desk_checking.specs.Views.{algorithm_plain, arc_bound}
+use Rattle.cert_desk_checking.specs.Views.{algorithm_plain}
 use Rattle.cert_desk_issuing.specs.Assembling.{assembled}
 use Rattle.cert_desk_issuing.proofs.SignedParts.{assembled_valid, only_memory, stops_encoding, whole_octets, whole_valid}
 use Rattle.cert_desk_issuing.proofs.making.whole_of.Goals as goal
@@ -16,7 +17,7 @@ returns-in_err-octets-clause-stops c = λ t same valid.
     let read = c.in_ok-signed.ensures.spelled in
     let p = err_from_is_err_and c.from_residual-in_err-octets.result c.from_residual-in_err-octets.ensures.1 in
     rw p.1
-    (stops_encoding (raw_certificate arc_bound) (t, (a, (s, tt))) c.in_err-octets.field-0.0.kind p.0 p.2
+    (stops_encoding (raw_certificate Bound) (t, (a, (s, tt))) c.in_err-octets.field-0.0.kind p.0 p.2
     (λ whole. only_memory c.in_err-octets.field-0.0.kind (octets_of assembled (x, (a, (s, tt)))) (Ok (octets_of assembled (x, (a, (s, tt))))) refl
     (c.in_err-octets.ensures.spelled (assembled_valid x t a s (sym read.octets ∙ same) read.valid whole))))
 

@@ -1,9 +1,10 @@
 use Rattle.std.proofs.Common.{Ok, Some, None, refl, string_bytes}
 use Rattle.std.proofs.lemmas.Result.{err_from_is_err_and}
+use Rattle.const_oid.specs.Bound.{Bound}
 use Rattle.der_core_head.specs.Grammar.{plain_list}
 use Rattle.der_core_head.specs.Shapes.{octets_of}
 use Rattle.cert_desk_checking.specs.Parts.{tbs_certificate}
-use Rattle.cert_desk_checking.specs.Views.{algorithm_plain, arc_bound, tbs_plain}
+use Rattle.cert_desk_checking.specs.Views.{algorithm_plain, tbs_plain}
 use Rattle.cert_desk_issuing.specs.Ordered.{ordered_part}
 use Rattle.cert_desk_issuing.specs.PlainOrders.{accepted_plain}
 use Rattle.cert_desk_issuing.proofs.SignedParts.{names_stop, part_spelled_out, part_stops, part_valid, part_written, respelled_part, stops_encoding}
@@ -21,11 +22,11 @@ returns-in_err-octets-clause-stops c =
     let a = algorithm_plain c.args.algorithm.now in
     let t = ordered_part c.args.role p above a in
     let kind = c.in_err-octets.field-0.0.kind in
-    let written = octets_of (tbs_certificate arc_bound (Some 21)) (respelled_part (tbs_plain c.in-Ok.part)) in
+    let written = octets_of (tbs_certificate Bound (Some 21)) (respelled_part (tbs_plain c.in-Ok.part)) in
     let e = err_from_is_err_and c.from_residual.result c.from_residual.ensures.1 in
     rw e.1
     (part_stops (plain_list string_bytes c.args.accepted.now.order.now.dns.items) t e.0
-    (stops_encoding (tbs_certificate arc_bound None) t kind e.0 e.2
+    (stops_encoding (tbs_certificate Bound None) t kind e.0 e.2
     (part_spelled_out c.args.role p above a (tbs_plain c.in-Ok.part) c.requires.ready c.in-Ok.ensures.part kind written (Ok written) refl c.in_err-octets.ensures.spelled)))
 
 pub returns-clause-octets : goal.returns-clause-octets

@@ -2,8 +2,8 @@
 use Rattle.std.proofs.Common.{◌≡◌, ℕ, ◌+◌, ◌-◌, ◌<◌, List, length, get_or, take, drop, Some, slice_get, length-take, length-drop, sym, ap, ◌∙◌, arith}
 use Rattle.std.proofs.lemmas.Option.{slice_get-get_or, slice_get-map}
 use Rattle.std.specs.Option.{option_map}
+use Rattle.const_oid.specs.Bound.{Bound}
 use Rattle.x509_cert.specs.Certificates.{PlainCertificate}
-use Rattle.x509_cert.specs.Views.{arc_bound}
 use Rattle.cert_desk_checking.specs.declared.bundle.Located.{Located}
 use Rattle.cert_desk_checking.specs.Chains.{offset_at}
 use Rattle.cert_desk_checking.specs.Locations.{plain_of, certificates_of}
@@ -56,9 +56,9 @@ returns-clause-entry c =
     let count : l.header + l.signed - l.header ≡ l.signed = omega arith in
     let placed = slice_get-map plain_of b.located.items c.args.place ∙ ap (option_map plain_of) (there i) in
     record {
-      valid = (Stands-at arc_bound b.limit (certificates_of b.located.items) c.args.place (plain_of l) c.self.invariant.each placed).valid;
+      valid = (Stands-at Bound b.limit (certificates_of b.located.items) c.args.place (plain_of l) c.self.invariant.each placed).valid;
       certificate = ap (λ (cs : List PlainCertificate). slice_get cs c.args.place) kept ∙ placed;
       octets = octets;
       signed = ap (λ (n : ℕ). take n (drop l.header (take (l.end - l.offset) (drop l.offset c.deref-2.result.now)))) count ∙ ap (λ (x : List ℕ). take l.signed (drop l.header x)) octets ∙ h.signed_are;
-      offset = (c.self.invariant.places c.args.place l (there i)).offset ∙ ap (λ (cs : List PlainCertificate). offset_at arc_bound cs c.args.place) (sym kept);
+      offset = (c.self.invariant.places c.args.place l (there i)).offset ∙ ap (λ (cs : List PlainCertificate). offset_at Bound cs c.args.place) (sym kept);
     }

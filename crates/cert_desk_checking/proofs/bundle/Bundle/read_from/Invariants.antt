@@ -1,9 +1,9 @@
 -- The octets so far were taken and read. Each piece adds to them, and their number is of 64 bits.
 use Rattle.std.proofs.Common.{◌≡◌, ◌-◌, ◌^◌, length}
-use Rattle.x509_cert.specs.Views.{arc_bound}
 use Rattle.cert_desk_checking.specs.declared.standing.Standing.TheVariants as standings
 use Rattle.cert_desk_checking.specs.Steps.{kept_octets, most_read, Grows, Takes}
 use Rattle.cert_desk_checking.proofs.bundle.Bundle.read_from.Given as goal
+use Rattle.const_oid.specs.Bound.{Bound}
 
 abbrev pub invariant-loop-count : goal.invariant-loop-count
 invariant-loop-count g l = record {
@@ -13,8 +13,8 @@ invariant-loop-count g l = record {
   grows : Grows l.fn.self l.self;
   room : length l.buffer ≡ most_read;
   sound : g.I.Input.failures l.input ≡ g.I.Input.failures l.fn.input;
-  reads : Takes g.I.Input.takes l.fn.input l.input arc_bound l.fn.self l.self;
+  reads : Takes g.I.Input.takes l.fn.input l.input Bound l.fn.self l.self;
 }
 
 abbrev pub decreases-loop-count : goal.decreases-loop-count
-decreases-loop-count g l = 2 ^ 64 - length (kept_octets arc_bound l.self)
+decreases-loop-count g l = 2 ^ 64 - length (kept_octets Bound l.self)

@@ -1,9 +1,10 @@
 -- What the header says of the rest, and what reading says of a whole certificate, is the step that the bundle takes.
 use Rattle.std.proofs.Common.{◌≡◌, ◌+◌, List, [], ◌∷◌, ◌++◌, take, drop, refl, sym, ap, subst, arith}
 use Rattle.std.proofs.lemmas.List.{take_rest}
+use Rattle.const_oid.specs.Bound.{Bound}
 use Rattle.der_core_head.specs.Shapes.{Spells}
 use Rattle.x509_cert.specs.Certificates.{raw_certificate, raw_certificate_fields}
-use Rattle.x509_cert.specs.Views.{arc_bound, certificate_plain}
+use Rattle.x509_cert.specs.Views.{certificate_plain}
 use Rattle.cert_desk_checking.specs.declared.bundle.Located.{Located}
 use Rattle.cert_desk_checking.specs.declared.fault_kind.FaultKind.TheVariants as kinds
 use Rattle.cert_desk_checking.specs.Headers.{HasWhole}
@@ -26,9 +27,9 @@ returns-in-Err c =
     let b = c.self.inside in
     let is = sym c.self.view_is in
     let whole : HasWhole b.limit b.start (drop b.start b.octets.items) c.in-Whole.header c.in-Whole.len = rw (take_rest, c.deref.ensures.value) at c.in-Whole.ensures in
-    let within = whole_within (raw_certificate_fields arc_bound) b.limit b.start (drop b.start b.octets.items) c.in-Whole.header c.in-Whole.len whole in
+    let within = whole_within (raw_certificate_fields Bound) b.limit b.start (drop b.start b.octets.items) c.in-Whole.header c.in-Whole.len whole in
     let refused = rw (take_rest, c.deref.ensures.value) at c.in-Err.ensures.refused in
-    let fault = whole_malformed (raw_certificate_fields arc_bound) b.limit b.start (drop b.start b.octets.items) c.in-Whole.header c.in-Whole.len whole (refused c.in_default.not-OutOfMemory) in
+    let fault = whole_malformed (raw_certificate_fields Bound) b.limit b.start (drop b.start b.octets.items) c.in-Whole.header c.in-Whole.len whole (refused c.in_default.not-OutOfMemory) in
     record {
       advances = tt;
       stops = finds b.limit b.octets.items b.start b.located.items c.self.invariant c.args.self.now (ap (λ (k : Kept). k.limit) is) (ap (λ (k : Kept). k.certificates) is) (ap (λ (k : Kept). k.rest) is)
@@ -50,14 +51,14 @@ is_next c =
     let b = c.self.inside in
     let rest = drop b.start b.octets.items in
     let whole : HasWhole b.limit b.start rest c.in-Whole.header c.in-Whole.len = rw (take_rest, c.deref.ensures.value) at c.in-Whole.ensures in
-    let spelled : Spells (raw_certificate arc_bound) (certificate_plain c.in-Ok.certificate) (take c.in-Whole.len rest) = rw (take_rest, c.deref.ensures.value) at c.in-Ok.ensures.spelled in
+    let spelled : Spells (raw_certificate Bound) (certificate_plain c.in-Ok.certificate) (take c.in-Whole.len rest) = rw (take_rest, c.deref.ensures.value) at c.in-Ok.ensures.spelled in
     record {
-      stands = read_stands (raw_certificate_fields arc_bound) b.limit b.start rest c.in-Whole.header c.in-Whole.len whole (certificate_plain c.in-Ok.certificate) spelled;
-      rest = read-rest (raw_certificate_fields arc_bound) b.limit b.start rest c.in-Whole.header c.in-Whole.len whole (certificate_plain c.in-Ok.certificate) spelled;
-      len_is = read-length (raw_certificate_fields arc_bound) b.limit b.start rest c.in-Whole.header c.in-Whole.len whole (certificate_plain c.in-Ok.certificate) spelled;
+      stands = read_stands (raw_certificate_fields Bound) b.limit b.start rest c.in-Whole.header c.in-Whole.len whole (certificate_plain c.in-Ok.certificate) spelled;
+      rest = read-rest (raw_certificate_fields Bound) b.limit b.start rest c.in-Whole.header c.in-Whole.len whole (certificate_plain c.in-Ok.certificate) spelled;
+      len_is = read-length (raw_certificate_fields Bound) b.limit b.start rest c.in-Whole.header c.in-Whole.len whole (certificate_plain c.in-Ok.certificate) spelled;
       offset = refl;
-      header = read-header arc_bound b.limit b.start rest c.in-Whole.header c.in-Whole.len whole (certificate_plain c.in-Ok.certificate) spelled;
-      signed = read-signed arc_bound b.limit b.start rest c.in-Whole.header c.in-Whole.len whole (certificate_plain c.in-Ok.certificate) spelled c.sequence_len-signed.result
+      header = read-header Bound b.limit b.start rest c.in-Whole.header c.in-Whole.len whole (certificate_plain c.in-Ok.certificate) spelled;
+      signed = read-signed Bound b.limit b.start rest c.in-Whole.header c.in-Whole.len whole (certificate_plain c.in-Ok.certificate) spelled c.sequence_len-signed.result
           (simp (take_rest, c.deref.ensures.value) at c.sequence_len-signed.ensures);
       end = refl;
       fits = omega (arith, whole.fits, whole.len_is);

@@ -1,5 +1,4 @@
 use Rattle.std.proofs.Common.{ℕ, List, map, sym, ap, ◌∙◌, subst}
-use Rattle.cert_desk_checking.specs.Views.{arc_bound}
 use Rattle.cert_desk_checking.specs.Anchors.{anchor_plain}
 use Rattle.cert_desk_checking.specs.Judging.{Terms}
 use Rattle.cert_desk_checking.specs.Streams.{Reads}
@@ -7,13 +6,14 @@ use Rattle.cert_desk_checking.specs.Verdicts.{IsCounted, IsVerdict}
 use Rattle.cert_desk_issuing.specs.Auditing.{root_anchors}
 use Rattle.cert_desk_issuing.proofs.Auditing.{exactly, under_root}
 use Rattle.cert_desk_issuing.proofs.issued.Issued.audit.Goals as goal
+use Rattle.const_oid.specs.Bound.{Bound}
 
 pub returns-clause-verdict : goal.returns-clause-verdict
 returns-clause-verdict g c = λ root below cs h.
     let own = c.args.self.now.certificates in
     let stream = c.args.self.now.stream in
     let answers = g.J.SignatureJudge.answers c.args.judge.now in
-    let reads = subst (λ (w : List ℕ). Reads arc_bound c.read-bundle.result w) c.stream.ensures.octets
+    let reads = subst (λ (w : List ℕ). Reads Bound c.read-bundle.result w) c.stream.ensures.octets
     (c.read-bundle.ensures.reads (λ e. (let none = sym c.in_ok-checked.was ∙ c.check.ensures.no_memory e in absurd cc))) in
     let given = ap (map anchor_plain) c.as_slice.ensures.value ∙ c.in_ok-anchors.ensures.copied ∙ ap root_anchors c.certificates.ensures in
     under_root root below cs own stream h c.stream.ensures.chain (map anchor_plain c.as_slice.result.now) c.args.moment c.args.purpose.now answers c.read-bundle.result.limit c.args.limit
@@ -24,7 +24,7 @@ returns-clause-trusted g c = λ root below cs h.
     let own = c.args.self.now.certificates in
     let stream = c.args.self.now.stream in
     let answers = g.J.SignatureJudge.answers c.args.judge.now in
-    let reads = subst (λ (w : List ℕ). Reads arc_bound c.read-bundle.result w) c.stream.ensures.octets
+    let reads = subst (λ (w : List ℕ). Reads Bound c.read-bundle.result w) c.stream.ensures.octets
     (c.read-bundle.ensures.reads (λ e. (let none = sym c.in_ok-checked.was ∙ c.check.ensures.no_memory e in absurd cc))) in
     let given = ap (map anchor_plain) c.as_slice.ensures.value ∙ c.in_ok-anchors.ensures.copied ∙ ap root_anchors c.certificates.ensures in
     exactly root below cs stream c.args.limit c.args.moment c.args.purpose.now answers c.in_ok-checked.checked.verdict h
@@ -36,7 +36,7 @@ returns-clause-counted g c = λ root below cs h.
     let own = c.args.self.now.certificates in
     let stream = c.args.self.now.stream in
     let answers = g.J.SignatureJudge.answers c.args.judge.now in
-    let reads = subst (λ (w : List ℕ). Reads arc_bound c.read-bundle.result w) c.stream.ensures.octets
+    let reads = subst (λ (w : List ℕ). Reads Bound c.read-bundle.result w) c.stream.ensures.octets
     (c.read-bundle.ensures.reads (λ e. (let none = sym c.in_ok-checked.was ∙ c.check.ensures.no_memory e in absurd cc))) in
     let given = ap (map anchor_plain) c.as_slice.ensures.value ∙ c.in_ok-anchors.ensures.copied ∙ ap root_anchors c.certificates.ensures in
     under_root root below cs own stream h c.stream.ensures.chain (map anchor_plain c.as_slice.result.now) c.args.moment c.args.purpose.now answers c.read-bundle.result.limit c.args.limit

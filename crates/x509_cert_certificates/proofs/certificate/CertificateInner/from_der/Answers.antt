@@ -1,10 +1,10 @@
 use Rattle.std.proofs.Common.{◌≢◌, Result, Ok, Err, refl}
 use Rattle.std.specs.Prelude.{IfErr}
+use Rattle.const_oid.specs.Bound.{Bound}
 use Rattle.der_core_head.specs.declared.error.Error.{Error}
 use Rattle.der_core_head.specs.declared.error.ErrorKind.TheVariants as kinds
 use Rattle.der_core_head.specs.Reading.{Gives}
 use Rattle.der_core_head.specs.Shapes.{Spells}
-use Rattle.x509_cert_parts.specs.Views.{arc_bound}
 use Rattle.x509_cert_certificates.specs.Certificates.{PlainCertificate, certificate}
 use Rattle.x509_cert_certificates.specs.Views.{certificate_plain}
 use Rattle.x509_cert_certificates.proofs.certificate.CertificateInner.from_der.Goals as goal
@@ -17,4 +17,4 @@ refused view given (Err e) h = λ n v s. let wrong = h v s n in absurd cc
 
 pub returns-clause-refused : goal.returns-clause-refused
 returns-clause-refused g c =
-    refused (λ x. certificate_plain x) (λ (v : PlainCertificate). Spells (certificate arc_bound g.P.Profile.serial_limit) v c.args.bytes.now) c.from_der.result (λ v s. c.from_der.ensures.only v refl refl s)
+    refused (λ x. certificate_plain x) (λ (v : PlainCertificate). Spells (certificate Bound g.P.Profile.serial_limit) v c.args.bytes.now) c.from_der.result (λ v s. c.from_der.ensures.only v refl refl s)

@@ -1,4 +1,4 @@
-use Rattle.x509_cert_certificates.specs.Parts.{arc_bound}
+use Rattle.const_oid.specs.Bound.{Bound}
 use Rattle.x509_cert_general_names.specs.Grammar.{distribution_point_name}
 use Rattle.x509_cert_general_names.specs.Views.{distribution_point_name_plain}
 use Rattle.x509_cert_general_names.proofs.Rows.{compared}
@@ -6,4 +6,4 @@ use Rattle.x509_cert_general_names.proofs.distribution_point_name.DistributionPo
 
 pub returns-clause-order : goal.returns-clause-order
 returns-clause-order c =
-    λ apart. compared (distribution_point_name arc_bound) _ _ (distribution_point_name_plain c.args.self.now) (distribution_point_name_plain c.args.other.now) c.der_cmp.result c.cases.ensures c.cases-2.ensures (c.der_cmp.ensures.order apart)
+    λ apart. compared (distribution_point_name Bound) _ _ (distribution_point_name_plain c.args.self.now) (distribution_point_name_plain c.args.other.now) c.der_cmp.result c.cases.ensures c.cases-2.ensures (c.der_cmp.ensures.order apart)

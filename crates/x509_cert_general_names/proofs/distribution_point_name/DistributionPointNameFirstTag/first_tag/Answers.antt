@@ -1,8 +1,8 @@
-use Rattle.x509_cert_certificates.specs.Parts.{arc_bound}
+use Rattle.const_oid.specs.Bound.{Bound}
 use Rattle.x509_cert_general_names.specs.Grammar.{distribution_point_name}
 use Rattle.x509_cert_general_names.specs.Views.{distribution_point_name_plain}
 use Rattle.x509_cert_general_names.proofs.Rows.{started}
 use Rattle.x509_cert_general_names.proofs.distribution_point_name.DistributionPointNameFirstTag.first_tag.Goals as goal
 
 pub returns : goal.returns
-returns c = started (distribution_point_name arc_bound) _ (distribution_point_name_plain c.args.self.now) c.first_tag.result c.cases.ensures c.first_tag.ensures
+returns c = started (distribution_point_name Bound) _ (distribution_point_name_plain c.args.self.now) c.first_tag.result c.cases.ensures c.first_tag.ensures

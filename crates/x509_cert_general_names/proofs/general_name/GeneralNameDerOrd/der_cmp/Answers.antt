@@ -1,4 +1,4 @@
-use Rattle.x509_cert_certificates.specs.Parts.{arc_bound}
+use Rattle.const_oid.specs.Bound.{Bound}
 use Rattle.x509_cert_general_names.specs.Grammar.{general_name}
 use Rattle.x509_cert_general_names.specs.Views.{general_name_plain}
 use Rattle.x509_cert_general_names.proofs.Rows.{compared}
@@ -6,4 +6,4 @@ use Rattle.x509_cert_general_names.proofs.general_name.GeneralNameDerOrd.der_cmp
 
 pub returns-clause-order : goal.returns-clause-order
 returns-clause-order c =
-    λ apart. compared (general_name arc_bound) _ _ (general_name_plain c.args.self.now) (general_name_plain c.args.other.now) c.der_cmp.result c.cases.ensures c.cases-2.ensures (c.der_cmp.ensures.order apart)
+    λ apart. compared (general_name Bound) _ _ (general_name_plain c.args.self.now) (general_name_plain c.args.other.now) c.der_cmp.result c.cases.ensures c.cases-2.ensures (c.der_cmp.ensures.order apart)

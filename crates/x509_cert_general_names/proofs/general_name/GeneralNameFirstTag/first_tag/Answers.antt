@@ -1,8 +1,8 @@
-use Rattle.x509_cert_certificates.specs.Parts.{arc_bound}
+use Rattle.const_oid.specs.Bound.{Bound}
 use Rattle.x509_cert_general_names.specs.Grammar.{general_name}
 use Rattle.x509_cert_general_names.specs.Views.{general_name_plain}
 use Rattle.x509_cert_general_names.proofs.Rows.{started}
 use Rattle.x509_cert_general_names.proofs.general_name.GeneralNameFirstTag.first_tag.Goals as goal
 
 pub returns : goal.returns
-returns c = started (general_name arc_bound) _ (general_name_plain c.args.self.now) c.first_tag.result c.cases.ensures c.first_tag.ensures
+returns c = started (general_name Bound) _ (general_name_plain c.args.self.now) c.first_tag.result c.cases.ensures c.first_tag.ensures

@@ -1,8 +1,9 @@
 use Rattle.std.proofs.Common.{◌≡◌, sym, ap, ◌∙◌, inr}
 use Rattle.std.proofs.lemmas.Result.{err_from_is_err_and}
+use Rattle.const_oid.specs.Bound.{Bound}
 use Rattle.der_core_head.specs.Grammar.{plain_list}
 use Rattle.x509_cert_lists.specs.Grammar.{extension_req_attribute}
-use Rattle.x509_cert_builders.specs.Parts.{arc_bound, attribute_plain, extensions_plain, key_plain, name_plain}
+use Rattle.x509_cert_builders.specs.Parts.{attribute_plain, extensions_plain, key_plain, name_plain}
 use Rattle.x509_cert_list_builders.proofs.RequestParts.{answered_same, no_place, one_part, placed_same}
 use Rattle.x509_cert_list_builders.proofs.request_builder.RequestBuilder.part_for.Goals as goal
 
@@ -16,7 +17,7 @@ returns-clause-made c =
     c.in_ok-subject.ensures c.in_ok-public_key.ensures
     (c.in_ok-values.ensures.same ∙ ap (plain_list attribute_plain) c.as_slice-2.ensures.value)
     c.in_ok-insert.ensures.items
-    (ap (extension_req_attribute arc_bound) (sym (c.in_ok-extensions.ensures.same ∙ ap extensions_plain c.as_slice.ensures.value)) ∙ c.in_ok-request.ensures)
+    (ap (extension_req_attribute Bound) (sym (c.in_ok-extensions.ensures.same ∙ ap extensions_plain c.as_slice.ensures.value)) ∙ c.in_ok-request.ensures)
     (placed_same attribute_plain _ _ c.in_ok-place.place request c.as_slice-3.ensures.value c.in_ok-place.ensures.place))
 
 pub returns-in_err-place-clause-refused : goal.returns-in_err-place-clause-refused
@@ -28,5 +29,5 @@ returns-in_err-place-clause-refused c =
     (inr (no_place attribute_plain (name_plain inside.subject) (extensions_plain inside.extensions.0.items) (key_plain c.args.key.now) c.in_ok-values.values.items
     (plain_list attribute_plain inside.attributes.items) request
     (c.in_ok-values.ensures.same ∙ ap (plain_list attribute_plain) c.as_slice-2.ensures.value)
-    (ap (extension_req_attribute arc_bound) (sym (c.in_ok-extensions.ensures.same ∙ ap extensions_plain c.as_slice.ensures.value)) ∙ c.in_ok-request.ensures)
+    (ap (extension_req_attribute Bound) (sym (c.in_ok-extensions.ensures.same ∙ ap extensions_plain c.as_slice.ensures.value)) ∙ c.in_ok-request.ensures)
     (answered_same attribute_plain _ _ request c.as_slice-3.ensures.value c.in_err-place.ensures.answered)))

@@ -1,10 +1,10 @@
 use Rattle.std.proofs.Common.{◌≢◌, Result, Ok, Err, refl}
 use Rattle.std.specs.Prelude.{IfErr}
+use Rattle.const_oid.specs.Bound.{Bound}
 use Rattle.der_core_head.specs.declared.error.Error.{Error}
 use Rattle.der_core_head.specs.declared.error.ErrorKind.TheVariants as kinds
 use Rattle.der_core_head.specs.Reading.{Gives}
 use Rattle.der_core_head.specs.Shapes.{Spells, Value}
-use Rattle.x509_cert_general_names.specs.Parts.{arc_bound}
 use Rattle.x509_cert_lists.specs.Grammar.{cert_req}
 use Rattle.x509_cert_lists.specs.Views.{cert_req_plain}
 use Rattle.x509_cert_lists.proofs.cert_req.CertReq.try_from_bytes.Goals as goal
@@ -17,4 +17,4 @@ refused view given (Err e) h = λ n v s. let wrong = h v s n in absurd cc
 
 pub returns-clause-refused : goal.returns-clause-refused
 returns-clause-refused c =
-    refused (λ x. cert_req_plain x) (λ (v : Value (cert_req 0)). Spells (cert_req arc_bound) v c.args.bytes.now) c.from_der.result (λ v s. c.from_der.ensures.only v refl refl s)
+    refused (λ x. cert_req_plain x) (λ (v : Value (cert_req 0)). Spells (cert_req Bound) v c.args.bytes.now) c.from_der.result (λ v s. c.from_der.ensures.only v refl refl s)

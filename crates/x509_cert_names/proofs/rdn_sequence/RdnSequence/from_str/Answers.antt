@@ -2,6 +2,7 @@ use Rattle.std.proofs.Common.{length, Ok, sym, ap, subst, ◌∙◌}
 use Rattle.std.proofs.lemmas.Bool.{eqb-true, eqb-false}
 use Rattle.std.proofs.lemmas.List.{nil_from_length}
 use Rattle.std.proofs.lemmas.Result.{err_from_is_err_and}
+use Rattle.const_oid.specs.Bound.{Bound}
 use Rattle.x509_cert_names.specs.NameTexts.{ReadsName}
 use Rattle.x509_cert_names.proofs.rdn_sequence.RdnSequence.from_str.Goals as goal
 
@@ -15,4 +16,4 @@ returns-in_err-relative_names c =
 
 pub returns : goal.returns
 returns c =
-    subst (λ n. ReadsName c.args.text.now (Ok n)) (sym c.reverse.ensures.items) (ReadsName.pieces c.in_ok-relative_names.relative_names.items (λ e. eqb-false (length c.args.text.now) 0 (sym c.is_empty.ensures ∙ c.if-is_empty.false) (ap length e)) c.in_ok-relative_names.ensures)
+    subst (λ n. ReadsName Bound c.args.text.now (Ok n)) (sym c.reverse.ensures.items) (ReadsName.pieces c.in_ok-relative_names.relative_names.items (λ e. eqb-false (length c.args.text.now) 0 (sym c.is_empty.ensures ∙ c.if-is_empty.false) (ap length e)) c.in_ok-relative_names.ensures)

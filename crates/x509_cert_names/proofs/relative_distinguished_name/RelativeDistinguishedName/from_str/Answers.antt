@@ -1,5 +1,6 @@
 use Rattle.std.proofs.Common.{Err, inl, inr, sym, subst}
 use Rattle.std.proofs.lemmas.Result.{err_from_is_err_and}
+use Rattle.const_oid.specs.Bound.{Bound}
 use Rattle.x509_cert_names.specs.NameTexts.{ReadsRelative}
 use Rattle.x509_cert_names.proofs.relative_distinguished_name.RelativeDistinguishedName.from_str.Goals as goal
 
@@ -13,8 +14,8 @@ returns-in_err-relative c =
     let p = err_from_is_err_and c.from_residual-in_err-relative.result c.from_residual-in_err-relative.ensures.1 in
     let members = c.in_ok-attributes.attributes.items in
     rw (p.1, p.2) (λ n. elim c.in_err-relative.ensures.refused [
-      | inl d ↦ subst (λ k. ReadsRelative c.args.text.now (Err k)) (sym d.0) (ReadsRelative.twice members c.in_ok-attributes.ensures d.1)
-      | inr t ↦ subst (λ k. ReadsRelative c.args.text.now (Err k)) (sym t.kind) (ReadsRelative.too_long members c.in_ok-attributes.ensures t.some)
+      | inl d ↦ subst (λ k. ReadsRelative Bound c.args.text.now (Err k)) (sym d.0) (ReadsRelative.twice members c.in_ok-attributes.ensures d.1)
+      | inr t ↦ subst (λ k. ReadsRelative Bound c.args.text.now (Err k)) (sym t.kind) (ReadsRelative.too_long members c.in_ok-attributes.ensures t.some)
     ])
 
 pub returns : goal.returns
