@@ -2,13 +2,13 @@
 use Rattle.std.proofs.Common.{◌≡◌, ℕ, List, [], ◌∷◌, ◌++◌, Option, Some, None, refl, sym, ap, ◌∙◌, append_assoc, append-nil, inl, inr}
 use Rattle.std.specs.Prelude.{flat_map, map}
 use Rattle.std.specs.Option.{option_map_or}
-use Rattle.std.proofs.lemmas.List.{map-append}
 use Rattle.der_core_head.specs.BitStrings.{Bits}
 use Rattle.der_core_head.specs.Shapes.{AnyValue, any, optional, explicit}
 use Rattle.der_core_head.specs.Bounds.{identifiers_of}
-use Rattle.x509_cert_parts.specs.NameParts.{PlainName, RelativeName, type_and_value, relative_name, name, type_of, all_of}
+use Rattle.x509_cert_parts.specs.NameParts.{name, type_of, all_of}
 use Rattle.x509_cert_parts.specs.Grammar.{Algorithm, PublicKey, PlainTime, PlainValidity, PlainExtension, algorithm_identifier, algorithm_arcs, public_key_info, key_algorithm, extension, extension_arcs, extensions, time, validity}
 use Rattle.x509_cert_certificates.specs.Bounds.{certificate_identifiers}
+use Rattle.x509_cert_parts.proofs.Names.NameBounds.{of_name}
 use Rattle.x509_cert_certificates.specs.Certificates.{PlainCertificate, unique_identifier, inner_algorithm, issuer, subject, public_key, extensions_of, outer_algorithm, tbs, tbs_extensions, tbs_validity, tbs_issuer_unique_id, tbs_subject_unique_id}
 
 of_parameters : (v : Option AnyValue) → identifiers_of (optional any) v ≡ []
@@ -33,23 +33,6 @@ of_unique : (n : ℕ) (v : Option Bits) → identifiers_of (optional (unique_ide
 unfolding identifiers_of
 of_unique n None = refl
 of_unique n (Some v) = refl
-
-each_type : (r : RelativeName) → flat_map (λ a. identifiers_of (type_and_value 0) a) r ≡ map type_of r
-unfolding identifiers_of
-each_type [] = refl
-each_type (a ∷ r) = ap (λ (ids : List (List ℕ)). type_of a ∷ ids) (each_type r)
-
-each_name : (n : List RelativeName) → flat_map (λ r. identifiers_of (relative_name 0) r) n ≡ map type_of (flat_map (λ r. r) n)
-unfolding identifiers_of
-each_name [] = refl
-each_name (r ∷ n) =
-    ap (λ (ids : List (List ℕ)). ids ++ flat_map (λ r. identifiers_of (relative_name 0) r) n) (each_type r)
-    ∙ ap (λ (ids : List (List ℕ)). map type_of r ++ ids) (each_name n)
-    ∙ sym (map-append type_of r (flat_map (λ r. r) n))
-
-of_name : (n : PlainName) → identifiers_of (name 0) n ≡ map type_of (all_of n)
-unfolding identifiers_of
-of_name n = each_name n
 
 of_key : (k : PublicKey) → identifiers_of (public_key_info 0) k ≡ algorithm_arcs (key_algorithm k) ∷ []
 unfolding identifiers_of

@@ -18,7 +18,9 @@ ghost use Rattle.x509_cert_certificates.specs.Bounds.{certificate_identifiers, S
 ghost use Rattle.x509_cert_certificates.specs.Certificates.{PlainCertificate, tbs_certificate, certificate, certificate_by, certificate_octets, raw_tbs_certificate, signed_start, signed_length, tbs, tbs_validity, inner_algorithm, issuer, subject, public_key, extensions_of, outer_algorithm};
 
 pub use x509_cert_parts::laws::{
-    dates_by_profile, parts_are_apart, respelled_dates_are_spelled, serial_numbers_by_profile,
+    dates_by_profile, newly_read_name_texts_hold_a_large_arc, parts_are_apart,
+    respelled_dates_are_spelled, serial_numbers_by_profile, wider_bounds_keep_names,
+    wider_bounds_read_name_texts_alike,
 };
 
 /// First tags keep the fields of a certificate apart, at eight levels or more.

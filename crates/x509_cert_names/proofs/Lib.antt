@@ -1,6 +1,9 @@
 pub mod Distinct
 pub mod Lists
 pub mod Printed
+pub mod NameBounds
+mod KeyBounds
+mod TextBounds
 mod HeadersWritten
 mod SameOctets
 pub use Rattle.der_types_any.proofs.TimeTypes

@@ -6,6 +6,7 @@ mod attribute_type_and_value;
 mod attribute_types;
 mod directory_string;
 mod from_any;
+pub mod laws;
 mod members;
 mod name;
 mod name_iter;

@@ -11,6 +11,10 @@ ghost use Rattle.x509_cert_parts.specs.Grammar.{algorithm_identifier, public_key
 ghost use Rattle.x509_cert_parts.specs.Respelling.{validity_by, is_early_generalized};
 
 use crate::profile::{Profile, Raw, Rfc5280};
+pub use x509_cert_names::laws::{
+    newly_read_name_texts_hold_a_large_arc, wider_bounds_keep_names,
+    wider_bounds_read_name_texts_alike,
+};
 
 /// First tags keep the fields of each part apart, at four levels or more.
 pub fn parts_are_apart()

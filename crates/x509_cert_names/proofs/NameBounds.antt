@@ -1,0 +1,69 @@
+-- Names under two bounds of arcs.
+use Rattle.std.proofs.Common.{◌≡◌, ℕ, ◌≤◌, List, [], ◌∷◌, ◌++◌, Ok, refl, sym, ap, subst, ◌∙◌}
+use Rattle.std.specs.Prelude.{◌↔◌, flat_map, map}
+use Rattle.std.proofs.lemmas.List.{map-append}
+use Rattle.der_core_head.specs.Bounds.{IsValidUnder, identifiers_of, AreBelow}
+use Rattle.der_core_head.specs.Grammar.{whole_at}
+use Rattle.der_core_head.specs.Octets.{IsOctets}
+use Rattle.der_core_head.specs.Shapes.{IsValid, Spells, octets_of}
+use Rattle.der_core_head.proofs.Families.{Family, valid_wider, valid_narrow, spelled_exactly, whole_wider}
+use Rattle.x509_cert_names.specs.Names.{PlainName, RelativeName, type_and_value, relative_name, name, type_of, all_of}
+
+-- the identifiers in a name are the types of its attributes
+
+each_type : (r : RelativeName) → flat_map (λ a. identifiers_of (type_and_value 0) a) r ≡ map type_of r
+unfolding identifiers_of
+each_type [] = refl
+each_type (a ∷ r) = ap (λ (ids : List (List ℕ)). type_of a ∷ ids) (each_type r)
+
+each_name : (n : List RelativeName) → flat_map (λ r. identifiers_of (relative_name 0) r) n ≡ map type_of (flat_map (λ r. r) n)
+unfolding identifiers_of
+each_name [] = refl
+each_name (r ∷ n) =
+    ap (λ (ids : List (List ℕ)). ids ++ flat_map (λ r. identifiers_of (relative_name 0) r) n) (each_type r)
+    ∙ ap (λ (ids : List (List ℕ)). map type_of r ++ ids) (each_name n)
+    ∙ sym (map-append type_of r (flat_map (λ r. r) n))
+
+pub of_name : (n : PlainName) → identifiers_of (name 0) n ≡ map type_of (all_of n)
+unfolding identifiers_of
+of_name n = each_name n
+
+-- one shape for each bound
+
+name_octets_alike : (bound : ℕ) (n : PlainName) → octets_of (name bound) n ≡ octets_of (name 0) n
+unfolding octets_of
+name_octets_alike bound n = refl
+
+to_bound : (bound : ℕ) (n : PlainName) → IsValid (name bound) n → IsValidUnder bound (name 0) n
+unfolding IsValid IsValidUnder octets_of
+to_bound bound n h = h
+
+from_bound : (bound : ℕ) (n : PlainName) → IsValidUnder bound (name 0) n → IsValid (name bound) n
+unfolding IsValid IsValidUnder octets_of
+from_bound bound n h = h
+
+abbrev names : Family (name 0) name
+names = record {
+  at = λ b n. n;
+  judged = λ b n. (to_bound b n, from_bound b n);
+  spelled = λ b n. name_octets_alike b n;
+  element = λ b. refl;
+  apart = λ b. refl;
+  enough = λ b. refl;
+}
+
+abbrev IsLow : ℕ → List (List ℕ) → Type 0
+IsLow bound ids = AreBelow bound ids
+
+pub names_alike : (small large : ℕ) (n : PlainName) → small ≤ large → AreBelow small (map type_of (all_of n)) → IsValid (name small) n ↔ IsValid (name large) n
+names_alike small large n le low =
+    (λ v. valid_wider (name 0) name names small large n le v, λ v. valid_narrow (name 0) name names small large n v (subst (IsLow small) (sym (of_name n)) low))
+
+pub names_exactly : (small large : ℕ) (n : PlainName) (w : List ℕ) → 40 ≤ small → small ≤ large
+    → Spells (name small) n w ↔ (Spells (name large) n w × AreBelow small (map type_of (all_of n)))
+names_exactly small large n w root le =
+    let e = spelled_exactly (name 0) name names small large n w root le in
+    (λ h. let p = e.0 h in (p.0, subst (IsLow small) (of_name n) p.1), λ p. e.1 (p.0, subst (IsLow small) (sym (of_name n)) p.1))
+
+pub whole_names_wider : (small large : ℕ) (n : PlainName) (w : List ℕ) → small ≤ large → IsOctets w → whole_at (name small) w ≡ Ok (n, []) → whole_at (name large) w ≡ Ok (n, [])
+whole_names_wider small large n w le o e = whole_wider (name 0) name names small large n w le o e

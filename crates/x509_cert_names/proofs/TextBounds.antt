@@ -1,0 +1,217 @@
+-- Name texts under two bounds of arcs.
+use Rattle.std.proofs.Common.{◌≡◌, ℕ, ◌<◌, ◌≤◌, ◌⊎◌, List, [], ◌∷◌, ◌++◌, reverse, Option, Some, None, Result, Ok, Err, refl, sym, ap, ◌∙◌, subst, arith, inl, inr}
+use Rattle.std.specs.Prelude.{⊤, ◌↔◌, map}
+use Rattle.std.specs.List.{AllByRecursion}
+use Rattle.std.specs.List.Sorted.{IsPermutation}
+use Rattle.std.proofs.lemmas.List.Elements.{All-from_recursion, recursion_from_All}
+use Rattle.std.proofs.lemmas.List.Sorted.{All-permutation, IsPermutation-reverse, IsPermutation-sym}
+use Rattle.der_core_head.specs.declared.error.ErrorKind.{ErrorKind}
+use Rattle.der_core_head.specs.Bounds.{IsValidUnder, identifiers_of, AreBelow, HoldsLarge}
+use Rattle.der_core_head.specs.Grammar.{plain_list}
+use Rattle.der_core_head.specs.Octets.{◌>>=◌}
+use Rattle.der_core_head.specs.Shapes.{AnyValue, IsValid, octets_of}
+use Rattle.der_core_head.proofs.BoundLaws.{below_or_large}
+use Rattle.der_core_head.proofs.Families.{Family, valid_narrow}
+use Rattle.der_types_sets.specs.Sets.{Ascends, NotAbove}
+use Rattle.x509_cert_name_texts.specs.Keys.{key_arcs}
+use Rattle.x509_cert_name_texts.specs.Pieces.{IsFirstPiece, ReadsPieces, before, key_and_value}
+use Rattle.x509_cert_names.specs.Names.{PlainName, TypeAndValue, type_and_value, name, type_of, all_of}
+use Rattle.x509_cert_names.specs.NameTexts.{ReadsAttribute, ReadsName, ReadsRelative}
+use Rattle.x509_cert_names.specs.Pairs.{pair_plain, relative_plain}
+use Rattle.x509_cert_names.specs.PlainTexts.{SpellsName}
+use Rattle.x509_cert_names.specs.ValueTexts.{attribute_read, halves_read, value_read}
+use Rattle.x509_cert_names.specs.declared.attribute_type_and_value.AttributeTypeAndValue.{AttributeTypeAndValue}
+use Rattle.x509_cert_names.proofs.KeyBounds.{ArcsBelow, below_wider, key_below, key_again}
+use Rattle.x509_cert_names.proofs.NameBounds.{names_alike}
+
+all_moved : {A : Type 0} (P : A → Type 0) (xs ys : List A) → IsPermutation xs ys → AllByRecursion P xs → AllByRecursion P ys
+all_moved P xs ys moved all = recursion_from_All P ys (All-permutation P xs ys moved (All-from_recursion P xs all))
+
+-- What holds of each value that is read, and what is read again
+
+module _ {A E : Type 0} (separator : ℕ) (reads : List ℕ → Result A E → Type 0) (P : A → Type 0) where
+  abbrev Have : Result (List A) E → Type 0
+  Have (Ok xs) = AllByRecursion P xs
+  Have (Err e) = ⊤
+
+  have_more : (a : A) (r : Result (List A) E) → P a → Have r → Have (before a r)
+  have_more a (Ok xs) p h = (p, h)
+  have_more a (Err e) p h = tt
+
+  have : ((w : List ℕ) (a : A) → reads w (Ok a) → P a) → {text : List ℕ} {r : Result (List A) E} → ReadsPieces separator reads text r → Have r
+  have each (ReadsPieces.last text p a f h) = (each p a h, tt)
+  have each (ReadsPieces.more text p rest a r f h n) = have_more a r (each p a h) (have each n)
+  have each (ReadsPieces.refused text p left e f h) = tt
+
+  module _ (again : List ℕ → Result A E → Type 0) (each : (w : List ℕ) (a : A) → reads w (Ok a) → P a → again w (Ok a)) where
+    abbrev Again : List ℕ → Result (List A) E → Type 0
+    Again text (Ok xs) = AllByRecursion P xs → ReadsPieces separator again text (Ok xs)
+    Again text (Err e) = ⊤
+
+    again_more : (text p rest : List ℕ) (a : A) (r : Result (List A) E) → IsFirstPiece separator text p (Some rest) → reads p (Ok a) → Again rest r → Again text (before a r)
+    again_more text p rest a (Ok xs) f h n = λ all. ReadsPieces.more text p rest a (Ok xs) f (each p a h all.0) (n all.1)
+    again_more text p rest a (Err e) f h n = tt
+
+    read_again : {text : List ℕ} {r : Result (List A) E} → ReadsPieces separator reads text r → Again text r
+    read_again (ReadsPieces.last text p a f h) = λ all. ReadsPieces.last text p a f (each p a h all.0)
+    read_again (ReadsPieces.more text p rest a r f h n) = again_more text p rest a r f h (read_again n)
+    read_again (ReadsPieces.refused text p left e f h) = tt
+
+-- the arcs of an attribute's type are below a bound; so are those of each attribute
+abbrev IsLow : ℕ → AttributeTypeAndValue → Type 0
+IsLow bound a = ArcsBelow bound a.oid
+
+abbrev AreLow : ℕ → List AttributeTypeAndValue → Type 0
+AreLow bound r = AllByRecursion (IsLow bound) r
+
+abbrev with_value : List ℕ → Result (List ℕ) ErrorKind → Result AttributeTypeAndValue ErrorKind
+with_value text key = key >>= λ arcs. value_read arcs text >>= λ value. Ok (record { oid = arcs; value = value })
+
+type_is : (text arcs : List ℕ) (a : AttributeTypeAndValue) → with_value text (Ok arcs) ≡ Ok a → arcs ≡ a.oid
+type_is text arcs a e = by (value_read arcs text) e
+  where
+    by : (r : Result AnyValue ErrorKind) → (r >>= λ value. Ok (record { oid = arcs; value = value })) ≡ Ok a → arcs ≡ a.oid
+    by (Ok value) f =
+        let made : AttributeTypeAndValue = record { oid = arcs; value = value } in
+        let same : made ≡ a = cc f in
+        ap (λ (x : AttributeTypeAndValue). x.oid) same
+    by (Err x) f = absurd (cc f)
+
+-- What is read has arcs below the bound, where that lets the types pass that have names
+
+low_attribute : (bound : ℕ) → 19200300 < bound → (w : List ℕ) (a : AttributeTypeAndValue) → ReadsAttribute bound w (Ok a) → IsLow bound a
+unfolding attribute_read
+low_attribute bound lt w a e = by (key_and_value w) (sym e)
+  where
+    P : List ℕ → Type 0
+    P arcs = ArcsBelow bound arcs
+
+    keyed : (h : List ℕ × List ℕ) (k : Result (List ℕ) ErrorKind) → key_arcs bound h.0 ≡ k → with_value h.1 k ≡ Ok a → IsLow bound a
+    keyed h (Ok arcs) f g = subst P (type_is h.1 arcs a g) (key_below bound lt h.0 arcs f)
+    keyed h (Err x) f g = absurd (cc g)
+
+    by : (o : Option (List ℕ × List ℕ)) → halves_read bound o ≡ Ok a → IsLow bound a
+    by None g = absurd (cc g)
+    by (Some h) g = keyed h (key_arcs bound h.0) refl g
+
+low_relative : (bound : ℕ) → 19200300 < bound → (w : List ℕ) (r : List AttributeTypeAndValue) → ReadsRelative bound w (Ok r) → AreLow bound r
+low_relative bound lt w r (ReadsRelative.set members r1 h moved ascend distinct) =
+    all_moved (IsLow bound) members r moved (have 43 (ReadsAttribute bound) (IsLow bound) (low_attribute bound lt) h)
+
+low_name : (bound : ℕ) → 19200300 < bound → (text : List ℕ) (n : List (List AttributeTypeAndValue)) → ReadsName bound text (Ok n) → AllByRecursion (AreLow bound) n
+low_name bound lt text n (ReadsName.empty e) = tt
+low_name bound lt text n (ReadsName.pieces rs some h) =
+    all_moved (AreLow bound) rs (reverse rs) (IsPermutation-reverse rs) (have 44 (ReadsRelative bound) (AreLow bound) (low_relative bound lt) h)
+
+-- The encodings of attributes
+
+pair_octets : (bound : ℕ) (a : TypeAndValue) → octets_of (type_and_value bound) a ≡ octets_of (type_and_value 0) a
+unfolding octets_of
+pair_octets bound a = refl
+
+pair_to : (bound : ℕ) (a : TypeAndValue) → IsValid (type_and_value bound) a → IsValidUnder bound (type_and_value 0) a
+unfolding IsValid IsValidUnder octets_of
+pair_to bound a h = h
+
+pair_from : (bound : ℕ) (a : TypeAndValue) → IsValidUnder bound (type_and_value 0) a → IsValid (type_and_value bound) a
+unfolding IsValid IsValidUnder octets_of
+pair_from bound a h = h
+
+abbrev pairs : Family (type_and_value 0) type_and_value
+pairs = record {
+  at = λ b a. a;
+  judged = λ b a. (pair_to b a, pair_from b a);
+  spelled = λ b a. pair_octets b a;
+  element = λ b. refl;
+  apart = λ b. refl;
+  enough = λ b. refl;
+}
+
+-- What is read under one bound is read under another, where the arcs are below both
+
+module _ (least one other : ℕ) (root : 40 ≤ least) (first : least ≤ one) (second : least ≤ other) where
+  attribute_again : (w : List ℕ) (a : AttributeTypeAndValue) → ReadsAttribute one w (Ok a) → IsLow least a → ReadsAttribute other w (Ok a)
+  unfolding attribute_read
+  attribute_again w a e low = sym (by (key_and_value w) (sym e))
+    where
+      P : List ℕ → Type 0
+      P arcs = ArcsBelow other arcs
+
+      keyed : (h : List ℕ × List ℕ) (k : Result (List ℕ) ErrorKind) → key_arcs one h.0 ≡ k → with_value h.1 k ≡ Ok a → with_value h.1 (key_arcs other h.0) ≡ Ok a
+      keyed h (Ok arcs) f g =
+          let below = subst P (sym (type_is h.1 arcs a g)) (below_wider least other second a.oid low) in
+          ap (with_value h.1) (key_again one other (omega (arith, root, second)) h.0 arcs f below) ∙ g
+      keyed h (Err x) f g = absurd (cc g)
+
+      by : (o : Option (List ℕ × List ℕ)) → halves_read one o ≡ Ok a → halves_read other o ≡ Ok a
+      by None g = g
+      by (Some h) g = keyed h (key_arcs one h.0) refl g
+
+  pair_again : (a : AttributeTypeAndValue) → IsLow least a → IsValid (type_and_value other) (pair_plain a) → IsValid (type_and_value one) (pair_plain a)
+  unfolding identifiers_of
+  pair_again a low v = valid_narrow (type_and_value 0) type_and_value pairs one other (pair_plain a) v (below_wider least one first a.oid low, tt)
+
+  not_above_again : (x y : AttributeTypeAndValue) → IsLow least x → IsLow least y → NotAbove (type_and_value one) pair_plain x y → NotAbove (type_and_value other) pair_plain x y
+  unfolding octets_of
+  not_above_again x y p q h = λ v w. h (pair_again x p v) (pair_again y q w)
+
+  ascends_again : (r : List AttributeTypeAndValue) → AreLow least r → Ascends (type_and_value one) pair_plain r → Ascends (type_and_value other) pair_plain r
+  ascends_again [] low h = tt
+  ascends_again (x ∷ []) low h = tt
+  ascends_again (x ∷ y ∷ r) low h = (not_above_again x y low.0 low.1.0 h.0, ascends_again (y ∷ r) low.1 h.1)
+
+  relative_again : (w : List ℕ) (r : List AttributeTypeAndValue) → ReadsRelative one w (Ok r) → AreLow least r → ReadsRelative other w (Ok r)
+  relative_again w r (ReadsRelative.set members r1 h moved ascend distinct) low =
+      let back = all_moved (IsLow least) r members (IsPermutation-sym members r moved) low in
+      ReadsRelative.set members r (read_again 43 (ReadsAttribute one) (IsLow least) (ReadsAttribute other) attribute_again h back) moved (ascends_again r low ascend) distinct
+
+  name_again : (text : List ℕ) (n : List (List AttributeTypeAndValue)) → ReadsName one text (Ok n) → AllByRecursion (AreLow least) n → ReadsName other text (Ok n)
+  name_again text n (ReadsName.empty e) low = ReadsName.empty e
+  name_again text n (ReadsName.pieces rs some h) low =
+      let back = all_moved (AreLow least) (reverse rs) rs (IsPermutation-sym rs (reverse rs) (IsPermutation-reverse rs)) low in
+      ReadsName.pieces rs some (read_again 44 (ReadsRelative one) (AreLow least) (ReadsRelative other) relative_again h back)
+
+-- The types in a name
+
+abbrev types_of : PlainName → List (List ℕ)
+types_of n = map type_of (all_of n)
+
+low_members : (bound : ℕ) (r : List AttributeTypeAndValue) (rest : List TypeAndValue) → AreBelow bound (map type_of (relative_plain r ++ rest)) ↔ (AreLow bound r × AreBelow bound (map type_of rest))
+low_members bound [] rest = (λ h. (tt, h), λ p. p.1)
+low_members bound (a ∷ r) rest =
+    let more = low_members bound r rest in
+    (λ h. let p = more.0 h.1 in ((h.0, p.0), p.1), λ p. (p.0.0, more.1 (p.0.1, p.1)))
+
+low_types : (bound : ℕ) (n : List (List AttributeTypeAndValue)) → AreBelow bound (types_of (plain_list relative_plain n)) ↔ AllByRecursion (AreLow bound) n
+low_types bound [] = (λ h. tt, λ h. tt)
+low_types bound (r ∷ n) =
+    let parts = low_members bound r (all_of (plain_list relative_plain n)) in
+    let more = low_types bound n in
+    (λ h. let p = parts.0 h in (p.0, more.0 p.1), λ p. parts.1 (p.0, more.1 p.1))
+
+spelled_below : (bound : ℕ) (text : List ℕ) (n : PlainName) → 19200300 < bound → SpellsName bound text n → AreBelow bound (types_of n)
+spelled_below bound text n lt h =
+    let P : PlainName → Type 0 = λ m. AreBelow bound (types_of m) in
+    subst P (sym h.2) ((low_types bound h.0).1 (low_name bound lt text h.0 h.1))
+
+spelled_again : (least one other : ℕ) → 40 ≤ least → least ≤ one → least ≤ other → (text : List ℕ) (n : PlainName) → SpellsName one text n → AreBelow least (types_of n) → SpellsName other text n
+spelled_again least one other root first second text n h below =
+    let P : PlainName → Type 0 = λ m. AreBelow least (types_of m) in
+    (h.0, name_again least one other root first second text h.0 h.1 ((low_types least h.0).0 (subst P h.2 below)), h.2)
+
+pub spelled_wider : (small large : ℕ) (text : List ℕ) (n : PlainName) → 19200300 < small → small ≤ large → SpellsName small text n → SpellsName large text n
+spelled_wider small large text n lt le h = spelled_again small small large (omega (arith, lt)) (omega arith) le text n h (spelled_below small text n lt h)
+
+pub spelled_exactly : (small large : ℕ) (text : List ℕ) (n : PlainName) → 19200300 < small → small ≤ large → SpellsName small text n ↔ (SpellsName large text n × AreBelow small (types_of n))
+spelled_exactly small large text n lt le =
+    (λ h. (spelled_wider small large text n lt le h, spelled_below small text n lt h), λ p. spelled_again small large small (omega (arith, lt)) le (omega arith) text n p.0 p.1)
+
+pub spelled_new : (small large : ℕ) (text : List ℕ) (n : PlainName) → 40 ≤ small → small ≤ large → SpellsName large text n → (SpellsName small text n → ⊥) → HoldsLarge small (types_of n)
+spelled_new small large text n root le h none = by (below_or_large small (types_of n))
+  where
+    by : AreBelow small (types_of n) ⊎ HoldsLarge small (types_of n) → HoldsLarge small (types_of n)
+    by (inl below) = absurd (none (spelled_again small large small root le (omega arith) text n h below))
+    by (inr holds) = holds
+
+pub spelled_valid : (small large : ℕ) (text : List ℕ) (n : PlainName) → 19200300 < small → small ≤ large → SpellsName small text n → (IsValid (name small) n ↔ IsValid (name large) n)
+spelled_valid small large text n lt le h = names_alike small large n le (spelled_below small text n lt h)
