@@ -68,12 +68,14 @@ TYPES = {
 
 
 def name(text):
-    """A name without escapes, one attribute in each relative name, the last one first (RFC 4514)."""
+    """A name without escapes, one attribute in each relative name, the last one first (RFC 4514). The value of a type that is spelled
+    in numbers is the hex of its encoding."""
     relatives = []
     for piece in reversed(text.split(",")) if text else []:
         key, value = piece.split("=")
-        oid, tag = TYPES[key]
-        relatives.append(tlv(0x31, sequence(identifier(oid), tlv(tag, value.encode()))))
+        oid, tag = TYPES.get(key, (key, None))
+        octets = bytes.fromhex(value[1:]) if tag is None else tlv(tag, value.encode())
+        relatives.append(tlv(0x31, sequence(identifier(oid), octets)))
     return sequence(*relatives)
 
 
@@ -277,6 +279,12 @@ issues([ROOT, MIDDLE, LEAF])
 issues([ROOT, order("CN=m,O=o,C=US", "03", path="0"), LEAF])
 issues([ROOT, order("OU=m", "03", path="255", client=None, ocsp=None, dns=["ä"]), LEAF])
 issues([ROOT, order("", "03", path="007"), order("CN=n", "04", path="128"), order("CN=o,DC=example", "05"), LEAF])
+say("A type with the greatest arc, 2^128 - 1, which a subordinate authority's name may have, and a root's may not; no type has the next one, 2^128.")
+GREATEST, PAST = (f"1.2.{2**128 + more}=#0500" for more in (-1, 0))
+issues([ROOT, order(f"{GREATEST},C=US", "03"), LEAF])
+refuses([ROOT, order(f"{PAST},C=US", "03"), LEAF], 1, "Name")
+refuses([order(f"{GREATEST},CN=r,O=o,C=US", "01")], 0, "RootName")
+refuses([order(f"{PAST},CN=r,O=o,C=US", "01")], 0, "Name")
 say("Keys of their own: each certificate is signed by the key above it.")
 issues([
     order("CN=r,O=o,C=US", "01", key=key(b"root")),
