@@ -1,1 +1,2 @@
+mod TypeBounds
 pub use Rattle.x509_cert_anchors.proofs.Names

@@ -3,6 +3,7 @@
 #![tactic(auto)]
 
 pub mod builder;
+pub mod laws;
 mod pki_path;
 
 pub use pki_path::PkiPath;
@@ -36,10 +37,9 @@ pub use x509_cert_list_builders::types::{
     ToExtension, TryFromKey, hash, timestamps,
 };
 
-// Lists, requests and anchors, and the laws of all.
+// Lists, requests and anchors.
 pub use x509_cert_anchors::{
     CertPathControls, CertPolicies, CertPolicyFlags, TrustAnchorChoice, TrustAnchorInfo, anchor,
-    laws,
 };
 pub use x509_cert_list_builders::lists::{
     AsAttribute, CertReq, CertReqInfo, CertificateList, ChallengePassword, ExtensionReq,
