@@ -1,13 +1,13 @@
 -- What the program's words ask for.
 use Rattle.std.specs.Prelude.{◌≡◌, ℕ, ◌≤◌, List, [], ◌∷◌, codes}
 use Rattle.cert_desk_issuing.specs.Arguments.{AskCheck}
-use Rattle.cert_desk_listing.specs.declared.kind.Kind.{Kind}
+use Rattle.cert_desk_listing.specs.declared.file_kind.FileKind.{FileKind}
 use Rattle.cert_desk_listing.specs.Kinds.{kind_word}
 use Rattle.cert_desk.specs.declared.command.Command.{Command}
 use Rattle.cert_desk.specs.declared.command.Command.TheVariants as commands
 
 -- The words, behind the program's name, ask for the listing of a file of this kind.
-pub record AskShow (words : List (List ℕ)) (kind : Kind) (file : List ℕ) : Type 0 where
+pub record AskShow (words : List (List ℕ)) (kind : FileKind) (file : List ℕ) : Type 0 where
   pub name : List ℕ
   pub are : words ≡ name ∷ codes "show" ∷ kind_word kind ∷ file ∷ []
 
@@ -18,7 +18,7 @@ pub record AskIssue (words : List (List ℕ)) (orders : List ℕ) : Type 0 where
 
 -- they ask for no listing
 abbrev pub AskNoListing : List (List ℕ) → Type 0
-AskNoListing words = (kind : Kind) (file : List ℕ) → AskShow words kind file → ⊥
+AskNoListing words = (kind : FileKind) (file : List ℕ) → AskShow words kind file → ⊥
 
 -- they ask for no chain
 abbrev pub AskNoChain : List (List ℕ) → Type 0

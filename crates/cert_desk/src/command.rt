@@ -4,7 +4,7 @@ ghost use Rattle.cert_desk_issuing.specs.Arguments.{AskNoCheck};
 ghost use Rattle.cert_desk.specs.Commands.{AsksFor, AskShow, AskIssue, AskNoListing, AskNoChain, HasLimit};
 
 use cert_desk_issuing::Arguments;
-use cert_desk_listing::Kind;
+use cert_desk_listing::FileKind;
 
 /// What the program is asked for.
 #[derive(Clone, Copy)]
@@ -14,7 +14,7 @@ pub enum Command<'a> {
     /// What the value in a file says, line by line.
     Show {
         /// What the file is.
-        kind: Kind,
+        kind: FileKind,
         /// Its name.
         file: &'a str,
     },
@@ -50,7 +50,7 @@ impl<'a> Command<'a> {
 }
 
 // The kind and the file of `show KIND FILE`.
-fn listing_asked<'a>(words: &'a [String]) -> Option<(Kind, &'a str)>
+fn listing_asked<'a>(words: &'a [String]) -> Option<(FileKind, &'a str)>
     ensures read { IfSome result (λ r. AskShow (map string_bytes words.now) r.0 r.1.now) }
     ensures refused { IfNone result (AskNoListing (map string_bytes words.now)) }
 {
@@ -60,7 +60,7 @@ fn listing_asked<'a>(words: &'a [String]) -> Option<(Kind, &'a str)>
     if command.as_str() != "show" {
         return None;
     }
-    let Some(kind) = Kind::named(kind.as_str()) else {
+    let Some(kind) = FileKind::named(kind.as_str()) else {
         return None;
     };
     Some((kind, file.as_str()))

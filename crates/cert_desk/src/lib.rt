@@ -5,15 +5,18 @@ mod command;
 pub mod laws;
 
 pub use cert_desk_issuing::{
-    AlgorithmIdentifier, Anchor, AnchorError, Arguments, BitString, Bundle, BundleError,
-    CertificateInner, CheckError, Checked, DeviceError, DigestJudge, DigestSigner, Entry,
-    FaultKind, FromRead, Input, IssueError, IssueStatus, Issued, MemoryInput, MemoryOutput, Order,
-    OrdersError, Output, Raw, ReadAllError, ReadError, Rule, SignError, SignatureJudge, Signer,
-    Standing, Status, SubjectPublicKeyInfo, Time, ToWrite, TrustAnchorChoice, USAGE, Verdict,
-    check, issue, orders_in, read_all, run_check, run_issue, run_orders, write_all,
+    AlgorithmIdentifier, Anchor, AnchorError, AnchorFault, Arguments, BitString, Bundle,
+    BundleError, CertDigest, Certificate, CertificateInner, CheckError, Checked, DeviceError,
+    DigestJudge, DigestSigner, Entry, Error, ErrorKind, ExitStatus, FaultKind, FromRead, Input,
+    IssueError, Issued, MemoryInput, MemoryOutput, Name, ObjectIdentifier, Order, OrdersError,
+    Outcome, Output, Raw, ReadAllError, ReadError, Reason, Rule, Sha256Digest, SignError,
+    SignatureJudge, Signer, Standing, SubjectPublicKeyInfo, Time, ToWrite, TrustAnchorChoice,
+    USAGE, Verdict, anchors_line, check, complain, first_fault, hash, issue, orders_in, read_all,
+    read_anchors, read_stream, reason_of, run_check, run_issue, run_orders, status_of, tell_device,
+    tell_memory, verdict_line, write_all,
 };
 pub use cert_desk_listing::{
-    CertReq, CertificateList, Kind, ShowError, ShowStatus, run_show, show_certificate, show_list,
+    CertReq, CertificateList, FileKind, ShowError, run_show, show_certificate, show_list,
     show_request,
 };
 pub use command::Command;

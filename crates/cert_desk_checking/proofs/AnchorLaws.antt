@@ -4,10 +4,10 @@ use Rattle.std.specs.Prelude.{IfOk, IfErr}
 use Rattle.der_core_head.specs.Limits.{levels_max}
 use Rattle.x509_cert.specs.Anchors.{PlainAnchor as PlainChoice}
 use Rattle.cert_desk_checking.specs.declared.anchor.Anchor.{Anchor}
-use Rattle.cert_desk_checking.specs.declared.status.AnchorFault.{AnchorFault}
-use Rattle.cert_desk_checking.specs.declared.status.AnchorFault.TheVariants as faults
-use Rattle.cert_desk_checking.specs.declared.status.Outcome.{Outcome}
-use Rattle.cert_desk_checking.specs.declared.status.Outcome.TheVariants as outcomes
+use Rattle.cert_desk_checking.specs.declared.anchor_fault.AnchorFault.{AnchorFault}
+use Rattle.cert_desk_checking.specs.declared.anchor_fault.AnchorFault.TheVariants as faults
+use Rattle.cert_desk_checking.specs.declared.outcome.Outcome.{Outcome}
+use Rattle.cert_desk_checking.specs.declared.outcome.Outcome.TheVariants as outcomes
 use Rattle.cert_desk_checking.specs.Anchors.{anchor_plain, given_by}
 use Rattle.cert_desk_checking.specs.AnchorFiles.{raw_choice, IsFaulty, HasFirstFault}
 use Rattle.cert_desk_checking.specs.AnchorReading.{StandsAt, GivesAt, UngivenFor, IsUngiven, GivesNone, IsNoAnchorFile}

@@ -8,7 +8,8 @@ use Rattle.x509_cert.specs.Certificates.{PlainCertificate, PlainName, name_octet
 use Rattle.cert_desk_checking.specs.declared.anchor.Anchor.{Anchor}
 use Rattle.cert_desk_checking.specs.Anchors.{anchor_plain}
 use Rattle.cert_desk_checking.specs.Judging.{Answers, PlainAnchor, same_name}
-use Rattle.cert_desk_checking.specs.Places.{signs, asked_once, asked_until}
+use Rattle.cert_desk_checking.specs.Verdicts.{asked_until}
+use Rattle.cert_desk_checking.specs.Places.{signs, asked_once}
 
 -- names with the same octets
 pub same_name_by : (bound : ℕ) (r : Bool) (a b : PlainName) → IsTrue r ↔ (name_octets bound a ≡ name_octets bound b) → r ≡ same_name bound a b
@@ -50,14 +51,13 @@ module _ (bound : ℕ) (answers : Answers) (signed : List ℕ) (c : PlainCertifi
 
   pub asked_until_yes : (xs : List Anchor) (i : ℕ) (d : Anchor) → i < length xs → signs bound answers signed c (anchor_plain (get_or xs i d)) ≡ true
       → asked_until bound answers signed c (map anchor_plain (drop i xs)) ≡ asked_once bound c (anchor_plain (get_or xs i d))
-  unfolding asked_until asked_once signs
+  unfolding asked_once signs
   asked_until_yes xs i d h e = at_drop_more questions_left xs i d h ∙ once_yes _ _ _ e
 
   pub asked_until_no : (xs : List Anchor) (i : ℕ) (d : Anchor) → i < length xs → signs bound answers signed c (anchor_plain (get_or xs i d)) ≡ false
       → asked_until bound answers signed c (map anchor_plain (drop i xs)) ≡ asked_once bound c (anchor_plain (get_or xs i d)) + asked_until bound answers signed c (map anchor_plain (drop (i + 1) xs))
-  unfolding asked_until asked_once signs
+  unfolding asked_once signs
   asked_until_no xs i d h e = at_drop_more questions_left xs i d h ∙ once_no _ _ _ e
 
   pub asked_until_none : (xs : List Anchor) (i : ℕ) → length xs ≤ i → asked_until bound answers signed c (map anchor_plain (drop i xs)) ≡ 0
-  unfolding asked_until
   asked_until_none xs i h = at_drop_all questions_left xs i h

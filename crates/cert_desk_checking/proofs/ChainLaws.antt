@@ -38,14 +38,14 @@ only_trusted t limit stream (verdicts.Refused place rule) v k =
     absurd (both_ways _ v.broken (subst (λ cs. keeps_at rule t cs stream place ≡ true) (sym same) (k.kept place rule within)))
 
 -- the questions about a chain, and about a stream with a fault
-pub Asks-chain : (t : Terms) (limit : ℕ) (cs : List PlainCertificate) (stream : List ℕ) (verdict : Verdict) → Chain t.bound limit cs stream → Asks t limit stream verdict (asked t cs stream)
-Asks-chain t limit cs stream verdict h = record {
+pub Asks-chain : (t : Terms) (limit : ℕ) (cs : List PlainCertificate) (stream : List ℕ) → Chain t.bound limit cs stream → Asks t limit stream (asked t cs stream)
+Asks-chain t limit cs stream h = record {
   chain = λ ds k. ap (λ xs. asked t xs stream) (one_chain t.bound limit cs ds stream h k);
   fault = λ none. absurd (none cs h);
 }
 
-pub Asks-fault : (t : Terms) (limit : ℕ) (cs : List PlainCertificate) (stream : List ℕ) (verdict : Verdict) (kind : FaultKind) → StreamFault t.bound limit stream cs kind → Asks t limit stream verdict 0
-Asks-fault t limit cs stream verdict kind h = record {
+pub Asks-fault : (t : Terms) (limit : ℕ) (cs : List PlainCertificate) (stream : List ℕ) (kind : FaultKind) → StreamFault t.bound limit stream cs kind → Asks t limit stream 0
+Asks-fault t limit cs stream kind h = record {
   chain = λ ds k. absurd (fault_no_chain t.bound limit cs ds kind stream h k);
   fault = λ _. refl;
 }
@@ -68,7 +68,7 @@ reads_fault bound b stream kind e h = subst (λ s. ReadsAs bound s b stream) (sy
 capped_from_none : (cap n : ℕ) → max 0 (min (0 + n) cap) ≡ min n cap
 capped_from_none cap n = omega arith
 
-pub counted_by : (t : Terms) (limit : ℕ) (stream : List ℕ) (checked : Checked) (n q r : ℕ) → Asks t limit stream checked.verdict n → Rises n q 0 r checked.calls
+pub counted_by : (t : Terms) (limit : ℕ) (stream : List ℕ) (checked : Checked) (n q r : ℕ) → Asks t limit stream n → Rises n q 0 r checked.calls
     → IsCounted t limit stream checked q r
 counted_by t limit stream checked n q r asks rises = record {
   number_asked = n;

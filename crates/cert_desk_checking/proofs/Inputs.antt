@@ -1,17 +1,13 @@
 -- What is taken of an input in several reads is read in turn.
 use Rattle.std.proofs.Common.{◌≡◌, ℕ, ◌≤◌, List, [], ◌++◌, length, take, sym, arith, ap, subst, ◌∙◌, append_assoc, append-nil, length-take}
 use Rattle.cert_desk_io.specs.Devices.{Rose}
-use Rattle.x509_cert.specs.Certificates.{PlainCertificate}
 use Rattle.cert_desk_checking.specs.declared.bundle_error.BundleError.{BundleError}
 use Rattle.cert_desk_checking.specs.declared.bundle_error.BundleError.TheVariants as errors
 use Rattle.cert_desk_checking.specs.declared.bundle_error.ReadError.TheVariants as reads
 use Rattle.cert_desk_checking.specs.declared.standing.Standing.{Standing}
 use Rattle.cert_desk_checking.specs.declared.standing.Standing.TheVariants as standings
 use Rattle.cert_desk_checking.specs.Streams.{Kept, Reads, Begins}
-use Rattle.cert_desk_checking.specs.Steps.{ReadsOn, ReadsStill, Grows, HasFailed, Takes, DeviceFails, StopsAtOnce, most_read, RefusesPiece, RefusesEnd, RefusesInput}
-
-pub Grows-trans : (a b c : Kept) → Grows a b → Grows b c → Grows a c
-Grows-trans a b c g h = (g.0 ++ h.0, h.1 ∙ ap (λ (cs : List PlainCertificate). cs ++ h.0) g.1 ∙ append_assoc a.certificates g.0 h.0)
+use Rattle.cert_desk_checking.specs.Steps.{ReadsOn, ReadsStill, HasFailed, stopped, Takes, DeviceFails, StopsAtOnce, most_read, RefusesPiece, RefusesEnd, RefusesInput}
 
 module _ {State : Type 0} (takes : State → List ℕ → State → Type 0)
     (in_turn : (a b c : State) (first second : List ℕ) → takes a first b → takes b second c → takes a (first ++ second) c)
@@ -32,25 +28,27 @@ module _ {State : Type 0} (takes : State → List ℕ → State → Type 0)
     λ stream reads. still (stream ++ before.0) (before.2 stream reads),
   )
 
-  module _ (is_ended : State → Type 0) (failures : State → ℕ) (was_open : old.standing ≡ standings.Open) (is_open : now.standing ≡ standings.Open) where
-    pub device_fails : takes mid [] to → new ≡ record now { standing = standings.NoDevice } → Rose (failures from) (failures to) → DeviceFails takes failures from to bound old new
-    device_fails taken e rose =
-        let opened : now ≡ record new { standing = standings.Open } =
-        ap (λ (s : Standing). record now { standing = s }) is_open ∙ ap (λ (k : Kept). record k { standing = standings.Open }) (sym e) in
+  module _ (is_ended : State → Type 0) (failures : State → ℕ) (was_open : old.standing ≡ standings.Open) (is_open : now.standing ≡ standings.Open) (limit : now.limit ≡ old.limit) where
+    pub device_fails : takes mid [] to → new ≡ stopped now standings.NoDevice → (is_ended to → ⊥) → failures mid ≡ failures from → Rose (failures mid) (failures to) → DeviceFails takes is_ended failures from to bound old new
+    device_fails taken e not_ended sound rose =
+        let opened : now ≡ record new { rest = now.rest; standing = standings.Open } =
+        ap (λ (s : Standing). record now { standing = s }) is_open ∙ ap (λ (k : Kept). record k { rest = now.rest; standing = standings.Open }) (sym e) in
         record {
           was_open = was_open;
           standing = ap (λ (k : Kept). k.standing) e;
-          rose = rose;
+          rose = subst (λ (n : ℕ). Rose n (failures to)) sound rose;
+          rest = now.rest;
           reads = (
             before.0,
             subst (λ (x : List ℕ). takes from x to) (append-nil before.0) (in_turn from mid to before.0 [] before.1 taken),
             λ stream reads. subst (λ (k : Kept). Reads bound k (stream ++ before.0)) opened (before.2 stream reads),
           );
+          stops = record { before = mid; octets = before.0; taken = before.1; sound = sound; none_taken = taken; not_ended = not_ended };
         }
 
     -- what was taken before the last read was read
     stops : (piece : List ℕ) → takes mid piece to → length piece ≤ most_read → StopsAtOnce takes from to bound old
-    stops piece taken short = record { before = mid; now = now; is_open = is_open; reads = before; piece = piece; taken = taken; short = short }
+    stops piece taken short = record { before = mid; now = now; is_open = is_open; limit = limit; reads = before; piece = piece; taken = taken; short = short }
 
     pub end-refused : (e : BundleError) → failures to ≡ failures from → takes mid [] to → is_ended to → RefusesEnd bound now new e → RefusesInput takes is_ended failures from to bound old new (reads.Bundle e)
     end-refused (errors.Fault place offset kind) sound taken ended r = record {

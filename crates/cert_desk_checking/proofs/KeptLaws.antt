@@ -1,5 +1,5 @@
 -- The rules that a certificate keeps, by what was found in it and in the places before.
-use Rattle.std.proofs.Common.{◌≡◌, ℕ, ◌<◌, List, Bool, true, false, not, ◌&&◌, ◌||◌, Option, Some, None, slice_get, sym, ap, ◌∙◌, arith}
+use Rattle.std.proofs.Common.{◌≡◌, ℕ, ◌<◌, List, Bool, false, not, ◌&&◌, ◌||◌, Option, Some, None, slice_get, sym, ap, ◌∙◌, arith}
 use Rattle.std.specs.List.{list_any}
 use Rattle.std.specs.Option.{option_map_or}
 use Rattle.x509_cert.specs.Certificates.{PlainCertificate, extensions_of}

@@ -1,8 +1,8 @@
 -- A file of anchors says one thing.
 use Rattle.std.proofs.Common.{◌≡◌, ℕ, List, [], Result, Ok, Err, refl, ap, ◌∙◌}
 use Rattle.cert_desk_checking.specs.declared.anchor_error.AnchorError.TheVariants as errors
-use Rattle.cert_desk_checking.specs.declared.status.AnchorFault.{AnchorFault}
-use Rattle.cert_desk_checking.specs.declared.status.AnchorFault.TheVariants as faults
+use Rattle.cert_desk_checking.specs.declared.anchor_fault.AnchorFault.{AnchorFault}
+use Rattle.cert_desk_checking.specs.declared.anchor_fault.AnchorFault.TheVariants as faults
 use Rattle.cert_desk_checking.specs.Anchors.{given_by}
 use Rattle.cert_desk_checking.specs.AnchorFiles.{raw_choice, IsAnchorFile, IsFaulty, HasFirstFault, SaysAsFile}
 use Rattle.cert_desk_checking.specs.Judging.{PlainAnchor}

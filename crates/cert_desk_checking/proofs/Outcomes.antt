@@ -1,14 +1,14 @@
 -- From what was found at each place to what is said of the stream.
-use Rattle.std.proofs.Common.{◌≡◌, ℕ, zero, suc, ◌+◌, ◌<◌, List, [], ◌∷◌, length, Bool, true, false, cond, ◌&&◌, Some, inl, inr, refl, sym, ap, ◌∙◌, subst, arith}
+use Rattle.std.proofs.Common.{◌≡◌, ℕ, zero, suc, ◌+◌, ◌<◌, List, length, true, false, cond, ◌&&◌, Some, None, Result, Ok, Err, OnErr, inl, inr, refl, sym, subst, arith}
 use Rattle.std.proofs.lemmas.Bool.{and_parts, and_from, and_left, and_right, both_ways, false_from_ne_true, cond-true, cond-false, cases_order}
 use Rattle.x509_cert.specs.Certificates.{PlainCertificate}
 use Rattle.cert_desk_checking.specs.declared.rule.Rule.{Rule}
 use Rattle.cert_desk_checking.specs.declared.rule.Rule.TheVariants as rules
 use Rattle.cert_desk_checking.specs.Chains.{Chain, joined}
-use Rattle.cert_desk_checking.specs.Judging.{Terms, keeps_at, keeps_all, may_ask}
-use Rattle.cert_desk_checking.specs.Verdicts.{Trusted, Refused, all_kept_below, asked, asked_first, asked_later}
-use Rattle.cert_desk_checking.specs.Places.{IsFirstBroken, asked_at, asked_below}
-use Rattle.cert_desk_checking.proofs.PlaceLaws.{may_ask-kept, may_ask-true, all_kept}
+use Rattle.cert_desk_checking.specs.Judging.{Terms, keeps_at, keeps_all, may_ask, number}
+use Rattle.cert_desk_checking.specs.Verdicts.{Trusted, Refused, StopsAsking, all_kept_below, asked, asked_below, asked_signature, raised}
+use Rattle.cert_desk_checking.specs.Places.{IsFirstUnsigned}
+use Rattle.cert_desk_checking.proofs.PlaceLaws.{may_ask-false, may_ask-kept, may_ask-true, all_kept}
 
 -- all rules at one place
 pub keeps_all-kept : (t : Terms) (cs : List PlainCertificate) (stream : List ℕ) (place : ℕ) → keeps_all t cs stream place ≡ true
@@ -16,11 +16,6 @@ pub keeps_all-kept : (t : Terms) (cs : List PlainCertificate) (stream : List ℕ
 keeps_all-kept t cs stream place h =
     let both = and_parts (may_ask t cs stream place) (keeps_at rules.WrongSignature t cs stream place) h in
     all_kept t cs stream place (may_ask-kept t cs stream place both.0) both.1
-
-pub keeps_all-true : (t : Terms) (cs : List PlainCertificate) (stream : List ℕ) (place : ℕ) → ((rule : Rule) → keeps_at rule t cs stream place ≡ true)
-    → keeps_all t cs stream place ≡ true
-keeps_all-true t cs stream place kept =
-    and_from (may_ask t cs stream place) (keeps_at rules.WrongSignature t cs stream place) (may_ask-true t cs stream place (λ rule _. kept rule)) (kept rules.WrongSignature)
 
 pub keeps_all-false : (t : Terms) (cs : List PlainCertificate) (stream : List ℕ) (place : ℕ) (rule : Rule) → keeps_at rule t cs stream place ≡ false
     → keeps_all t cs stream place ≡ false
@@ -39,23 +34,23 @@ kept_below-at t cs stream (suc n) k h lt =
     ]
 
 pub kept_below-more : (t : Terms) (cs : List PlainCertificate) (stream : List ℕ) (n : ℕ) → all_kept_below t cs stream n ≡ true
-    → ((rule : Rule) → keeps_at rule t cs stream n ≡ true) → all_kept_below t cs stream (suc n) ≡ true
-kept_below-more t cs stream n h kept = and_from _ (keeps_all t cs stream n) h (keeps_all-true t cs stream n kept)
+    → IsFirstUnsigned t cs stream n None → keeps_at rules.WrongSignature t cs stream n ≡ true → all_kept_below t cs stream (suc n) ≡ true
+kept_below-more t cs stream n h kept signed = and_from _ (keeps_all t cs stream n) h (and_from (may_ask t cs stream n) _ (may_ask-true t cs stream n kept) signed)
 
 -- the chain is refused at the first place that breaks a rule
 pub refused_at : (t : Terms) (limit : ℕ) (cs : List PlainCertificate) (place : ℕ) (rule : Rule) (stream : List ℕ) → Chain t.bound limit cs stream
-    → place < length cs → all_kept_below t cs (joined t.bound cs) place ≡ true → IsFirstBroken t cs (joined t.bound cs) place (Some rule)
-    → Refused t limit stream place rule
-refused_at t limit cs place rule stream chain within kept found = record {
+    → place < length cs → all_kept_below t cs (joined t.bound cs) place ≡ true → keeps_at rule t cs (joined t.bound cs) place ≡ false
+    → ((other : Rule) → number other < number rule → keeps_at other t cs (joined t.bound cs) place ≡ true) → Refused t limit stream place rule
+refused_at t limit cs place rule stream chain within kept broken first = record {
   certificates = cs;
   within = within;
   chain = chain;
-  broken = subst (λ s. keeps_at rule t cs s place ≡ false) (sym chain.joins) found.0;
+  broken = subst (λ s. keeps_at rule t cs s place ≡ false) (sym chain.joins) broken;
   least = λ other_place other inside before.
       subst (λ s. keeps_at other t cs s other_place ≡ true) (sym chain.joins)
       (elim before [
         | inl below ↦ kept_below-at t cs (joined t.bound cs) place other_place kept below other
-        | inr (same, less) ↦ subst (λ n. keeps_at other t cs (joined t.bound cs) n ≡ true) (sym same) (found.1 other less)
+        | inr (same, less) ↦ subst (λ n. keeps_at other t cs (joined t.bound cs) n ≡ true) (sym same) (first other less)
       ]);
 }
 
@@ -70,50 +65,64 @@ trusted_by t limit cs stream chain some kept = record {
       subst (λ s. keeps_at rule t cs s place ≡ true) (sym chain.joins) (kept_below-at t cs (joined t.bound cs) (length cs) place kept within rule);
 }
 
-pub empty_by : (bound limit : ℕ) (cs : List PlainCertificate) (stream : List ℕ) → Chain bound limit cs stream → length cs ≡ 0 → stream ≡ []
-empty_by bound limit [] stream chain none = chain.joins
-empty_by bound limit (c ∷ cs) stream chain none = absurd cc
+-- what holds in any case holds of a refusal
+pub OnErr-by : {T E : Type 0} (r : Result T E) (P : Type 0) → P → OnErr r P
+OnErr-by (Ok x) P p = tt
+OnErr-by (Err e) P p = p
+
+-- where memory ran out
+pub stops_at : (t : Terms) (limit : ℕ) (cs : List PlainCertificate) (place : ℕ) (stream : List ℕ) (old new : ℕ) → Chain t.bound limit cs stream
+    → place < length cs → all_kept_below t cs (joined t.bound cs) place ≡ true → new ≡ raised old (asked_below t cs (joined t.bound cs) place) → StopsAsking t limit stream old new
+stops_at t limit cs place stream old new chain within kept rose = record {
+  certificates = cs;
+  chain = chain;
+  place = place;
+  within = within;
+  kept = subst (λ s. all_kept_below t cs s place ≡ true) (sym chain.joins) kept;
+  questions = subst (λ s. new ≡ raised old (asked_below t cs s place)) (sym chain.joins) rose;
+}
 
 -- the questions, place by place
-cond-and : (a b : Bool) → ◌≡◌ {A = ℕ} (cond (a && b) 1 0) (cond a (cond b 1 0) 0)
-cond-and true b = refl
-cond-and false b = refl
+module _ (t : Terms) (cs : List PlainCertificate) (stream : List ℕ) where
+  pub asked-is : asked_below t cs stream (length cs) ≡ asked t cs stream
+  unfolding asked
+  asked-is = refl
 
-asked_below-suc : (t : Terms) (cs : List PlainCertificate) (stream : List ℕ) (n : ℕ) → asked_first t cs stream + asked_later t cs stream n ≡ asked_below t cs stream (suc n)
-asked_below-suc t cs stream zero = omega arith
-asked_below-suc t cs stream (suc n) =
-    let before = asked_below-suc t cs stream n in
-    let here = cond-and (all_kept_below t cs stream (suc n)) (may_ask t cs stream (suc n)) in
-    omega (arith, before, here)
+  asked_step : (n : ℕ) → asked_below t cs stream (suc n) ≡ asked_below t cs stream n + cond (all_kept_below t cs stream n && may_ask t cs stream n) (asked_signature t cs stream n) 0
+  asked_step zero = omega arith
+  asked_step (suc n) = omega arith
 
-pub asked-is : (t : Terms) (cs : List PlainCertificate) (stream : List ℕ) → asked t cs stream ≡ asked_below t cs stream (length cs)
-unfolding asked
-asked-is t [] stream = refl
-asked-is t (c ∷ cs) stream = asked_below-suc t (c ∷ cs) stream (length cs)
+  -- where the rules before the signature are kept, the judge is asked about it
+  pub asks_signature : (place : ℕ) → all_kept_below t cs stream place ≡ true → IsFirstUnsigned t cs stream place None
+      → asked_below t cs stream place + asked_signature t cs stream place ≡ asked_below t cs stream (suc place)
+  asks_signature place below kept =
+      let may = and_from _ (may_ask t cs stream place) below (may_ask-true t cs stream place kept) in
+      omega (arith, asked_step place, cond-true (all_kept_below t cs stream place && may_ask t cs stream place) (asked_signature t cs stream place) 0 may)
 
--- behind a place that breaks a rule nobody is asked
-asked_below-stays : (t : Terms) (cs : List PlainCertificate) (stream : List ℕ) (place n : ℕ) → all_kept_below t cs stream (suc place) ≡ false → place < n
-    → (asked_below t cs stream n ≡ asked_below t cs stream (suc place)) × (all_kept_below t cs stream n ≡ false)
-asked_below-stays t cs stream place zero broken lt = absurd (omega arith)
-asked_below-stays t cs stream place (suc n) broken lt =
-    elim (cases_order place n) [
-      | inl e ↦ subst (λ m. (asked_below t cs stream (suc m) ≡ asked_below t cs stream (suc place)) × (all_kept_below t cs stream (suc m) ≡ false)) e (refl, broken)
-      | inr (inl below) ↦
-          (let before = asked_below-stays t cs stream place n broken below in
-          let none = cond-false (all_kept_below t cs stream n) (asked_at t cs stream n) 0 before.1 in
-          (omega (arith, before.0, none), and_left _ (keeps_all t cs stream n) before.1))
-      | inr (inr above) ↦ absurd (omega arith)
-    ]
+  -- behind a place that breaks a rule nobody is asked
+  asked_stays : (place n : ℕ) → all_kept_below t cs stream (suc place) ≡ false → place < n
+      → (asked_below t cs stream n ≡ asked_below t cs stream (suc place)) × (all_kept_below t cs stream n ≡ false)
+  asked_stays place zero broken lt = absurd (omega arith)
+  asked_stays place (suc n) broken lt =
+      elim (cases_order place n) [
+        | inl e ↦ subst (λ m. (asked_below t cs stream (suc m) ≡ asked_below t cs stream (suc place)) × (all_kept_below t cs stream (suc m) ≡ false)) e (refl, broken)
+        | inr (inl below) ↦
+            (let before = asked_stays place n broken below in
+            let none = cond-false _ (asked_signature t cs stream n) 0 (and_left _ (may_ask t cs stream n) before.1) in
+            (omega (arith, before.0, none, asked_step n), and_left _ (keeps_all t cs stream n) before.1))
+        | inr (inr above) ↦ absurd (omega arith)
+      ]
 
-pub asked-refused : (t : Terms) (cs : List PlainCertificate) (stream : List ℕ) (place : ℕ) (rule : Rule) → place < length cs
-    → all_kept_below t cs stream place ≡ true → keeps_at rule t cs stream place ≡ false
-    → asked_below t cs stream place + asked_at t cs stream place ≡ asked t cs stream
-asked-refused t cs stream place rule within kept broken =
-    let stays = asked_below-stays t cs stream place (length cs) (and_right _ (keeps_all t cs stream place) (keeps_all-false t cs stream place rule broken)) within in
-    let here = cond-true (all_kept_below t cs stream place) (asked_at t cs stream place) 0 kept in
-    ap (λ n. asked_below t cs stream place + n) (sym here) ∙ sym stays.0 ∙ sym (asked-is t cs stream)
+  -- all questions, where the signature at a place is refused
+  pub asked_signed : (place : ℕ) → place < length cs → keeps_at rules.WrongSignature t cs stream place ≡ false → asked_below t cs stream (suc place) ≡ asked t cs stream
+  unfolding asked
+  asked_signed place within broken =
+      sym (asked_stays place (length cs) (and_right _ (keeps_all t cs stream place) (keeps_all-false t cs stream place rules.WrongSignature broken)) within).0
 
-pub asked_below-more : (t : Terms) (cs : List PlainCertificate) (stream : List ℕ) (place : ℕ) → all_kept_below t cs stream place ≡ true
-    → asked_below t cs stream place + asked_at t cs stream place ≡ asked_below t cs stream (suc place)
-asked_below-more t cs stream place kept =
-    ap (λ n. asked_below t cs stream place + n) (sym (cond-true (all_kept_below t cs stream place) (asked_at t cs stream place) 0 kept))
+  -- and where a rule before it is broken
+  pub asked_unsigned : (place : ℕ) (rule : Rule) → place < length cs → IsFirstUnsigned t cs stream place (Some rule) → asked_below t cs stream place ≡ asked t cs stream
+  unfolding asked
+  asked_unsigned place rule within broken =
+      let none = cond-false _ (asked_signature t cs stream place) 0 (and_right (all_kept_below t cs stream place) _ (may_ask-false t cs stream place rule broken.0 broken.1)) in
+      let stays = asked_stays place (length cs) (and_right _ (keeps_all t cs stream place) (keeps_all-false t cs stream place rule broken.1)) within in
+      omega (arith, stays.0, none, asked_step place)

@@ -1,19 +1,28 @@
 -- What the rules say at a place whose certificate is known.
-use Rattle.std.proofs.Common.{◌≡◌, ℕ, zero, suc, ◌+◌, ◌-◌, ◌<◌, List, [], ◌∷◌, Bool, true, false, cond, IsTrue, Option, Some, IfSome, slice_get, refl, ap, ◌∙◌, subst, arith}
+use Rattle.std.specs.Prelude.{◌==◌}
+use Rattle.std.proofs.Common.{◌≡◌, ℕ, zero, suc, ◌+◌, ◌<◌, List, length, map, Bool, true, false, IsTrue, Option, Some, IfSome, slice_get, refl, sym, ap, ◌∙◌, subst}
 use Rattle.std.specs.List.{list_any}
 use Rattle.std.specs.Option.{option_map_or}
-use Rattle.std.proofs.lemmas.Bool.{false_from_ne_true, both_ways, cond-true, cond-false}
+use Rattle.std.proofs.lemmas.Bool.{false_from_ne_true, both_ways}
 use Rattle.std.proofs.lemmas.Bool.Decides.{same_from_decides}
 use Rattle.std.proofs.lemmas.Slice.Eq.{bytes_eq-Decides}
+use Rattle.const_oid.specs.Bound.{Bound}
 use Rattle.der_core_head.specs.Shapes.{octets_of, IsValid}
 use Rattle.x509_cert.specs.Certificates.{PlainCertificate, raw_certificate, algorithm_identifier, inner_algorithm, outer_algorithm, issuer, subject, public_key}
+use Rattle.x509_cert.specs.Views.{certificate_plain}
+use Rattle.cert_desk_checking.specs.declared.anchor.Anchor.{Anchor}
 use Rattle.cert_desk_checking.specs.declared.entry.Entry.{Entry}
+use Rattle.cert_desk_checking.specs.declared.issuer.Issuer.{Issuer}
+use Rattle.cert_desk_checking.specs.declared.issuer.Issuer.TheVariants as issuers
+use Rattle.cert_desk_checking.specs.declared.path_room.PathRoom.{PathRoom}
 use Rattle.cert_desk_checking.specs.declared.rule.Rule.{Rule}
 use Rattle.cert_desk_checking.specs.declared.rule.Rule.TheVariants as rules
+use Rattle.cert_desk_checking.specs.Anchors.{anchor_plain, terms_of}
 use Rattle.cert_desk_checking.specs.Entries.{IsEntry}
-use Rattle.cert_desk_checking.specs.Judging.{Terms, PlainAnchor, has_one_algorithm, keeps, keeps_at, number, may_ask, is_linked, is_signed, same_name, signed_part}
-use Rattle.cert_desk_checking.specs.Verdicts.{asked_anchors}
-use Rattle.cert_desk_checking.specs.Places.{accepted, signs, asked_until, asked_signature, asked_at}
+use Rattle.cert_desk_checking.specs.Findings.{IsRoom}
+use Rattle.cert_desk_checking.specs.Judging.{Answers, Terms, has_one_algorithm, keeps, keeps_at, number, may_ask, is_named, same_name, signed_part}
+use Rattle.cert_desk_checking.specs.Places.{IsIssuer, StandsAt, asked_of, linked_to, signed_by, signs}
+use Rattle.cert_desk_checking.specs.Verdicts.{accepted, asked_anchors, asked_signature, asked_until}
 use Rattle.cert_desk_checking.proofs.OneEncoding.{one_algorithm}
 use Rattle.cert_desk_checking.proofs.RuleList.{test_of_all, all_of_tests, or_signature}
 use Rattle.cert_desk_checking.proofs.Encodings.{valid_algorithms}
@@ -25,45 +34,54 @@ pub keeps_at-is : (rule : Rule) (t : Terms) (cs : List PlainCertificate) (stream
     → keeps_at rule t cs stream place ≡ keeps rule t cs stream place c
 keeps_at-is rule t cs stream place c e = ap (λ o. option_map_or (keeps rule t cs stream place) o true) e
 
-before_is : (cs : List PlainCertificate) (n : ℕ) (b : PlainCertificate) → slice_get cs (suc n - 1) ≡ Some b → slice_get cs n ≡ Some b
-before_is cs n b e = let k : n ≡ suc n - 1 = omega arith in ap (slice_get cs) k ∙ e
+-- what is asked of a place's issuer is what its rules ask
+module _ (anchors : List Anchor) (moment : ℕ) (purpose : List ℕ) (answers : Answers) (cs : List PlainCertificate) (stream : List ℕ) (c : PlainCertificate) where
+  abbrev terms : Terms
+  terms = terms_of anchors moment purpose answers
 
--- names are linked: at a later place
-pub is_linked-later : (t : Terms) (cs : List PlainCertificate) (place : ℕ) (c b : PlainCertificate) → 0 < place → slice_get cs (place - 1) ≡ Some b
-    → is_linked t cs place c ≡ same_name t.bound (issuer c) (subject b)
-is_linked-later t cs zero c b h e = absurd (omega arith)
-is_linked-later t cs (suc n) c b h e = ap (λ o. option_map_or (λ b. same_name t.bound (issuer c) (subject b)) o false) (before_is cs n b e)
+  pub linked_at : (place : ℕ) (i : Issuer) → IsIssuer cs anchors place i → slice_get cs place ≡ Some c → linked_to Bound i c ≡ keeps_at rules.WrongIssuer terms cs stream place
+  linked_at zero (issuers.Anchors those) h is =
+      ap (λ (xs : List Anchor). list_any (is_named Bound c) (map anchor_plain xs)) h ∙ sym (keeps_at-is rules.WrongIssuer terms cs stream 0 c is)
+  linked_at zero (issuers.Before b) h is = absurd h
+  linked_at (suc n) (issuers.Anchors those) h is = absurd h
+  linked_at (suc n) (issuers.Before b) h is =
+      sym (keeps_at-is rules.WrongIssuer terms cs stream (suc n) c is ∙ ap (λ o. option_map_or (λ d. same_name Bound (issuer c) (subject d)) o false) h)
 
--- the signature: at a later place, and at the first
-pub is_signed-later : (t : Terms) (cs : List PlainCertificate) (stream : List ℕ) (place : ℕ) (c b : PlainCertificate) → 0 < place → slice_get cs (place - 1) ≡ Some b
-    → is_signed t cs stream place c ≡ accepted t.answers (signed_part t.bound cs stream place c) c (public_key b)
-unfolding accepted
-is_signed-later t cs stream zero c b h e = absurd (omega arith)
-is_signed-later t cs stream (suc n) c b h e =
-    ap (λ o. option_map_or (λ b. accepted t.answers (signed_part t.bound cs stream (suc n) c) c (public_key b)) o false) (before_is cs n b e)
+  pub signed_at : (place : ℕ) (i : Issuer) (signed : List ℕ) → IsIssuer cs anchors place i → slice_get cs place ≡ Some c → signed ≡ signed_part Bound cs stream place c
+      → signed_by Bound answers signed c i ≡ keeps_at rules.WrongSignature terms cs stream place
+  unfolding signs
+  signed_at zero (issuers.Anchors those) signed h is e =
+      ap (λ (xs : List Anchor). list_any (signs Bound answers signed c) (map anchor_plain xs)) h
+      ∙ ap (λ (w : List ℕ). list_any (signs Bound answers w c) (map anchor_plain anchors)) e
+      ∙ sym (keeps_at-is rules.WrongSignature terms cs stream 0 c is)
+  signed_at zero (issuers.Before b) signed h is e = absurd h
+  signed_at (suc n) (issuers.Anchors those) signed h is e = absurd h
+  signed_at (suc n) (issuers.Before b) signed h is e =
+      ap (λ (w : List ℕ). accepted answers w c (public_key (certificate_plain b.now))) e
+      ∙ sym (keeps_at-is rules.WrongSignature terms cs stream (suc n) c is
+      ∙ ap (λ o. option_map_or (λ d. accepted answers (signed_part Bound cs stream (suc n) c) c (public_key d)) o false) h)
 
-pub is_signed-first : (t : Terms) (cs : List PlainCertificate) (stream : List ℕ) (place : ℕ) (c : PlainCertificate) → place ≡ 0
-    → is_signed t cs stream place c ≡ list_any (signs t.bound t.answers (signed_part t.bound cs stream place c) c) t.anchors
-unfolding signs accepted
-is_signed-first t cs stream zero c h = refl
-is_signed-first t cs stream (suc n) c h = absurd cc
+  pub asked_at : (place : ℕ) (i : Issuer) (signed : List ℕ) → IsIssuer cs anchors place i → slice_get cs place ≡ Some c → signed ≡ signed_part Bound cs stream place c
+      → asked_of Bound answers signed c i ≡ asked_signature terms cs stream place
+  asked_at zero (issuers.Anchors those) signed h is e =
+      ap (λ (xs : List Anchor). asked_until Bound answers signed c (map anchor_plain xs)) h
+      ∙ ap (λ (w : List ℕ). asked_until Bound answers w c (map anchor_plain anchors)) e
+      ∙ sym (ap (λ o. option_map_or (λ d. asked_anchors terms cs stream d (map anchor_plain anchors)) o 0) is)
+  asked_at zero (issuers.Before b) signed h is e = absurd h
+  asked_at (suc n) (issuers.Anchors those) signed h is e = absurd h
+  asked_at (suc n) (issuers.Before b) signed h is e = refl
 
--- the questions there
-asked_anchors-is : (t : Terms) (cs : List PlainCertificate) (stream : List ℕ) (c : PlainCertificate) (anchors : List PlainAnchor)
-    → asked_anchors t cs stream c anchors ≡ asked_until t.bound t.answers (signed_part t.bound cs stream 0 c) c anchors
-unfolding asked_until accepted
-asked_anchors-is t cs stream c [] = refl
-asked_anchors-is t cs stream c (a ∷ more) =
-    ap (λ n. cond (same_name t.bound (issuer c) a.name) (cond (accepted t.answers (signed_part t.bound cs stream 0 c) c a.key) 1 (1 + n)) n) (asked_anchors-is t cs stream c more)
+  -- what a judge that answers the same said
+  pub told_at : (place : ℕ) (i : Issuer) (signed : List ℕ) (now : Answers) (said is_so : Bool) → IsIssuer cs anchors place i → slice_get cs place ≡ Some c
+      → signed ≡ signed_part Bound cs stream place c → now ≡ answers → said ≡ signed_by Bound now signed c i → said ≡ is_so → keeps_at rules.WrongSignature terms cs stream place ≡ is_so
+  told_at place i signed now said is_so h is e same told what =
+      sym (signed_at place i signed h is e) ∙ ap (λ (a : Answers). signed_by Bound a signed c i) (sym same) ∙ sym told ∙ what
 
-pub asked_signature-first : (t : Terms) (cs : List PlainCertificate) (stream : List ℕ) (place : ℕ) (c : PlainCertificate) → place ≡ 0 → slice_get cs place ≡ Some c
-    → asked_signature t cs stream place ≡ asked_until t.bound t.answers (signed_part t.bound cs stream place c) c t.anchors
-asked_signature-first t cs stream zero c h e = ap (λ o. option_map_or (λ c. asked_anchors t cs stream c t.anchors) o 0) e ∙ asked_anchors-is t cs stream c t.anchors
-asked_signature-first t cs stream (suc n) c h e = absurd cc
-
-pub asked_signature-later : (t : Terms) (cs : List PlainCertificate) (stream : List ℕ) (place : ℕ) → 0 < place → asked_signature t cs stream place ≡ 1
-asked_signature-later t cs stream zero h = absurd (omega arith)
-asked_signature-later t cs stream (suc n) h = refl
+-- what is known of a place
+pub stands : (cs : List PlainCertificate) (anchors : List Anchor) (place : ℕ) (e : Entry) (n : ℕ) (i : Issuer) (r : PathRoom) → IsEntry Bound cs place e → n ≡ length cs
+    → IsIssuer cs anchors place i → IsRoom Bound cs place r → StandsAt cs anchors place (certificate_plain e.certificate.now) ((place + 1) == n) i r
+stands cs anchors place e n i r entry long issuer room =
+    record { certificate = entry.certificate; last_is = ap (λ m. (place + 1) == m) long; issuer = issuer; room = room }
 
 -- algorithms are compared by their octets, which say what they are
 pub one_algorithm_by : (bound : ℕ) (r : Bool) (c : PlainCertificate) → IsValid (raw_certificate bound) c
@@ -86,15 +104,6 @@ pub may_ask-false : (t : Terms) (cs : List PlainCertificate) (stream : List ℕ)
     → may_ask t cs stream place ≡ false
 may_ask-false t cs stream place rule h broken =
     false_from_ne_true _ (λ e. both_ways _ broken (may_ask-kept t cs stream place e rule h))
-
--- where a rule before the signature is broken, nobody is asked
-pub asks_none : (t : Terms) (cs : List PlainCertificate) (stream : List ℕ) (place : ℕ) (rule : Rule) → number rule < 11 → keeps_at rule t cs stream place ≡ false
-    → asked_at t cs stream place ≡ 0
-asks_none t cs stream place rule h broken = cond-false _ _ _ (may_ask-false t cs stream place rule h broken)
-
-pub asks_signature : (t : Terms) (cs : List PlainCertificate) (stream : List ℕ) (place : ℕ) → ((rule : Rule) → number rule < 11 → keeps_at rule t cs stream place ≡ true)
-    → asked_at t cs stream place ≡ asked_signature t cs stream place
-asks_signature t cs stream place kept = cond-true _ _ _ (may_ask-true t cs stream place kept)
 
 -- the rules before the signature, and the signature
 pub all_kept : (t : Terms) (cs : List PlainCertificate) (stream : List ℕ) (place : ℕ) → ((rule : Rule) → number rule < 11 → keeps_at rule t cs stream place ≡ true)

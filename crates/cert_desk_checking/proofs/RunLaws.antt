@@ -1,71 +1,121 @@
 -- What a run reads.
-use Rattle.std.proofs.Common.{◌≡◌, ℕ, List, [], Result, Ok, Err, OnOk, IfErr, refl, subst, sym}
+use Rattle.std.proofs.Common.{◌≡◌, ◌≢◌, ℕ, ◌<◌, List, [], length, Result, Ok, Err, OnOk, IfErr, ◌⊎◌, inl, inr, refl, subst, sym, ◌∙◌, arith}
+use Rattle.const_oid.specs.Bound.{Bound}
+use Rattle.cert_desk_io.specs.Devices.{Device, Moved, MetEnd, Sound, Untouched}
+use Rattle.x509_cert.specs.Certificates.{PlainCertificate, raw_certificate}
+use Rattle.cert_desk_checking.specs.declared.bundle_error.BundleError.TheVariants as errors
+use Rattle.cert_desk_checking.specs.declared.bundle_error.ReadError.{ReadError}
+use Rattle.cert_desk_checking.specs.declared.bundle_error.ReadError.TheVariants as read_errors
 use Rattle.cert_desk_checking.specs.declared.checked.Verdict.{Verdict}
 use Rattle.cert_desk_checking.specs.declared.checked.Verdict.TheVariants as verdicts
 use Rattle.cert_desk_checking.specs.declared.fault_kind.FaultKind.{FaultKind}
 use Rattle.cert_desk_checking.specs.declared.fault_kind.FaultKind.TheVariants as kinds
 use Rattle.cert_desk_checking.specs.declared.standing.Standing.{Standing}
 use Rattle.cert_desk_checking.specs.declared.standing.Standing.TheVariants as standings
-use Rattle.cert_desk_checking.specs.Streams.{Kept, Reads}
-use Rattle.cert_desk_checking.specs.declared.bundle_error.BundleError.TheVariants as errors
-use Rattle.cert_desk_checking.specs.declared.bundle_error.ReadError.{ReadError}
-use Rattle.cert_desk_checking.specs.declared.bundle_error.ReadError.TheVariants as read_errors
-use Rattle.cert_desk_checking.specs.Reading.{AtEnd, Stayed, FedUnder, IsFed}
-use Rattle.cert_desk_checking.specs.Steps.{Takes, RefusesInput}
-use Rattle.cert_desk_checking.specs.Runs.{IsReadFor}
-use Rattle.const_oid.specs.Bound.{Bound}
+use Rattle.cert_desk_checking.specs.Chains.{Chain}
+use Rattle.cert_desk_checking.specs.Faults.{Says, StreamFault, NoneBefore, rank}
+use Rattle.cert_desk_checking.specs.Judging.{Terms}
+use Rattle.cert_desk_checking.specs.Reading.{AsksNoMore, ReadFailed, FedUnder, IsFed}
+use Rattle.cert_desk_checking.specs.Runs.{IsReadFor, IsReadInVain, Judge, IsUnasked}
+use Rattle.cert_desk_checking.specs.Series.{SeriesSplit, encodings}
+use Rattle.cert_desk_checking.specs.Steps.{StopsAtOnce, Takes, RefusesInput}
+use Rattle.cert_desk_checking.specs.Streams.{Kept, Reads, ReadsAs}
+use Rattle.cert_desk_checking.specs.Verdicts.{IsVerdict, StopsAsking}
+use Rattle.cert_desk_checking.proofs.OneChain.{certificates_told, fault_no_chain}
+use Rattle.cert_desk_checking.proofs.SeriesLaws.{one_split}
 
-at_end : (kind : FaultKind) (ended : Type 0) → ended → AtEnd kind ended
-at_end kinds.NoCertificate ended h = tt
-at_end kinds.Indefinite ended h = tt
-at_end kinds.LengthTooWide ended h = tt
-at_end kinds.LengthNotShortest ended h = tt
-at_end kinds.TooLarge ended h = tt
-at_end kinds.Malformed ended h = tt
-at_end kinds.Truncated ended h = h
+early : (kind : FaultKind) → kind ≢ kinds.Truncated → rank kind < rank kinds.Truncated
+early kinds.NoCertificate ne = omega arith
+early kinds.Indefinite ne = omega arith
+early kinds.LengthTooWide ne = omega arith
+early kinds.LengthNotShortest ne = omega arith
+early kinds.TooLarge ne = omega arith
+early kinds.Malformed ne = omega arith
+early kinds.Truncated ne = absurd (ne refl)
 
-at_end_if : (kind : FaultKind) (ended : Type 0) → (kind ≡ kinds.Truncated → ended) → AtEnd kind ended
-at_end_if kinds.NoCertificate ended h = tt
-at_end_if kinds.Indefinite ended h = tt
-at_end_if kinds.LengthTooWide ended h = tt
-at_end_if kinds.LengthNotShortest ended h = tt
-at_end_if kinds.TooLarge ended h = tt
-at_end_if kinds.Malformed ended h = tt
-at_end_if kinds.Truncated ended h = h refl
+-- what an open bundle reads has no fault but that it may end too early
+no_fault : (bound limit : ℕ) (cs ds : List PlainCertificate) (rest stream : List ℕ) (kind : FaultKind) → kind ≢ kinds.Truncated
+    → SeriesSplit (raw_certificate bound) limit stream cs rest
+    → NoneBefore (raw_certificate bound) limit (length (encodings (raw_certificate bound) cs)) kinds.Truncated rest
+    → StreamFault bound limit stream ds kind → ⊥
+no_fault bound limit cs ds rest stream kind ne split none f =
+    let s = raw_certificate bound in
+    let same = one_split s limit (certificates_told bound) stream ds cs f.rest rest f.split split in
+    none kind (early kind ne)
+    (subst (λ (x : List ℕ). Says s limit (length (encodings s cs)) kind x) same.1
+    (subst (λ (xs : List PlainCertificate). Says s limit (length (encodings s xs)) kind f.rest) same.0 f.fault.says))
 
--- what a new bundle was fed, by what reading answered
-module _ {Source : Type 0} (takes : Source → List ℕ → Source → Type 0) (is_ended : Source → Type 0) (failures : Source → ℕ) (from to : Source) (old new : Kept)
-    (opened : old.standing ≡ standings.Open) (empty : Reads Bound old []) where
-  fed_under : (standing : Standing) → new.standing ≡ standing → FedUnder takes is_ended failures from to new standing → IsFed takes is_ended failures from to new
-  fed_under standing e h = subst (λ (s : Standing). FedUnder takes is_ended failures from to new s) (sym e) h
+-- What a new bundle was fed, by what reading answered.
+module _ (input : Device) (old new : Kept) (opened : old.standing ≡ standings.Open) (empty : Reads Bound old []) (limit : new.limit ≡ old.limit) where
+  fed_under : (standing : Standing) → new.standing ≡ standing → FedUnder input new standing → IsFed input new
+  fed_under standing e h = subst (λ (s : Standing). FedUnder input new s) (sym e) h
 
-  fed_refused : (e : ReadError) → RefusesInput takes is_ended failures from to Bound old new e → IsFed takes is_ended failures from to new
-  fed_refused read_errors.Device r = fed_under standings.NoDevice r.standing (r.rose, (r.reads.0, r.reads.1))
+  asks_no_more : StopsAtOnce input.moves input.old input.new Bound old → AsksNoMore input new.limit
+  asks_no_more s =
+      let reads : ReadsAs Bound standings.Open s.now s.reads.0 = subst (λ (x : Standing). ReadsAs Bound x s.now s.reads.0) s.is_open (s.reads.2 [] empty) in
+      record {
+        before = s.before;
+        octets = s.reads.0;
+        taken = s.reads.1;
+        sound = λ cs kind ne f.
+            no_fault Bound s.now.limit s.now.certificates cs s.now.rest s.reads.0 kind ne reads.0 reads.1
+            (subst (λ (n : ℕ). StreamFault Bound n s.reads.0 cs kind) (limit ∙ sym s.limit) f);
+        piece = s.piece;
+        last = s.taken;
+        short = s.short;
+      }
+
+  fed_refused : (e : ReadError) → RefusesInput input.moves input.is_ended input.failures input.old input.new Bound old new e → IsFed input new
+  fed_refused read_errors.Device r = fed_under standings.NoDevice r.standing (r.reads.0, r.reads.1, r.rose)
   fed_refused (read_errors.Bundle (errors.Fault place offset kind)) r =
-      fed_under (standings.Faulted kind) r.found.standing (r.reads.0, r.reads.1, r.reads.2 [] empty, at_end_if kind (is_ended to) r.ends, record { same = r.sound })
-  fed_refused (read_errors.Bundle errors.OutOfMemory) r = fed_under standings.NoMemory r.standing (record { same = r.sound }, (r.octets, r.taken))
+      fed_under (standings.Faulted kind) r.found.standing (r.reads.0, r.reads.1, r.reads.2 [] empty, r.ends, asks_no_more r.stops, r.sound)
+  fed_refused (read_errors.Bundle errors.OutOfMemory) r = fed_under standings.NoMemory r.standing (r.octets, r.taken, asks_no_more r.stops, r.sound)
   fed_refused (read_errors.Bundle errors.Failed) r = absurd (r.0.was_shut opened)
 
-  pub fed_by : {T : Type 0} (r : Result T ReadError) → OnOk r (new.standing ≡ standings.Ended) → OnOk r (is_ended to) → OnOk r (failures to ≡ failures from)
-      → OnOk r (Takes takes from to Bound old new) → IfErr r (RefusesInput takes is_ended failures from to Bound old new) → IsFed takes is_ended failures from to new
-  fed_by (Ok x) standing ended sound reads refused = fed_under standings.Ended standing (reads.0, reads.1, reads.2 [] empty, ended, record { same = sound })
+  pub fed_by : {T : Type 0} (r : Result T ReadError) → OnOk r (new.standing ≡ standings.Ended) → OnOk r (MetEnd input) → OnOk r (Sound input)
+      → OnOk r (Takes input.moves input.old input.new Bound old new)
+      → IfErr r (RefusesInput input.moves input.is_ended input.failures input.old input.new Bound old new) → IsFed input new
+  fed_by (Ok x) standing ended sound reads refused = fed_under standings.Ended standing (reads.0, reads.1, reads.2 [] empty, ended, sound)
   fed_by (Err e) standing ended sound reads refused = fed_refused e refused
 
-read_for : (verdict : Verdict) (ended : Type 0) → ended → IsReadFor verdict ended
-read_for verdicts.Trusted ended h = h
-read_for (verdicts.Refused place rule) ended h = h
-read_for (verdicts.StreamFault place offset kind) ended h = at_end kind ended h
-read_for verdicts.Empty ended h = h
+-- What a bundle was fed that ended so.
+module _ (input : Device) (b : Kept) where
+  pub fed_none : IsFed input b → b.standing ≡ standings.NoDevice → ReadFailed input
+  fed_none h e = let fed : FedUnder input b standings.NoDevice = subst (λ (s : Standing). FedUnder input b s) e h in fed.2
 
--- what a bundle was fed that neither want of memory nor a device stopped
-pub fed_reads : {Source : Type 0} (takes : Source → List ℕ → Source → Type 0) (is_ended : Source → Type 0) (failures : Source → ℕ) (old new : Source) (b : Kept)
-    (standing : Standing) (verdict : Verdict) (place offset : ℕ)
-    → FedUnder takes is_ended failures old new b standing → (standing ≡ standings.NoMemory → ⊥) → (standing ≡ standings.NoDevice → ⊥)
-    → ((kind : FaultKind) → standing ≡ standings.Faulted kind → verdict ≡ verdicts.StreamFault place offset kind)
-    → (octets : List ℕ) × takes old octets new × Reads Bound b octets × IsReadFor verdict (is_ended new) × Stayed (failures old) (failures new)
-fed_reads takes is_ended failures old new b standings.Open verdict place offset h m d f = absurd h
-fed_reads takes is_ended failures old new b standings.Ended verdict place offset h m d f = (h.0, h.1, h.2, read_for verdict (is_ended new) h.3, h.4)
-fed_reads takes is_ended failures old new b (standings.Faulted kind) verdict place offset h m d f =
-    (h.0, h.1, h.2, subst (λ v. IsReadFor v (is_ended new)) (sym (f kind refl)) h.3, h.4)
-fed_reads takes is_ended failures old new b standings.NoMemory verdict place offset h m d f = absurd (m refl)
-fed_reads takes is_ended failures old new b standings.NoDevice verdict place offset h m d f = absurd (d refl)
+  pub fed_in_vain : (judge : Judge) (t : Terms) → IsFed input b → (b.standing ≡ standings.NoMemory) ⊎ (b.standing ≡ standings.Ended)
+      → (b.standing ≢ standings.Ended → IsUnasked judge)
+      → ((octets : List ℕ) → b.standing ≡ standings.Ended → Reads Bound b octets
+      → StopsAsking t b.limit octets (judge.questions judge.old) (judge.questions judge.new))
+      → IsReadInVain input judge t b.limit
+  fed_in_vain judge t h (inl e) unasked stops =
+      let fed : FedUnder input b standings.NoMemory = subst (λ (s : Standing). FedUnder input b s) e h in
+      (fed.3, inl (fed.2, unasked (λ ended. (let none : standings.NoMemory ≡ standings.Ended = sym e ∙ ended in absurd cc))))
+  fed_in_vain judge t h (inr e) unasked stops =
+      let fed : FedUnder input b standings.Ended = subst (λ (s : Standing). FedUnder input b s) e h in
+      (fed.4, inr (fed.0, fed.1, fed.3, stops fed.0 e fed.2))
+
+  module _ (t : Terms) (bound : t.bound ≡ Bound) where
+    -- a chain is read to its end for its verdict
+    read_whole : (octets : List ℕ) (verdict : Verdict) → Chain Bound b.limit b.certificates octets → IsVerdict t b.limit octets verdict → MetEnd input → IsReadFor verdict input b.limit
+    read_whole octets verdicts.Trusted chain is met = met
+    read_whole octets (verdicts.Refused place rule) chain is met = met
+    read_whole octets (verdicts.StreamFault place offset kind) chain is met =
+        let found : StreamFault Bound b.limit octets is.certificates kind = subst (λ (n : ℕ). StreamFault n b.limit octets is.certificates kind) bound is.found in
+        absurd (fault_no_chain Bound b.limit is.certificates b.certificates kind octets found chain)
+    read_whole octets verdicts.Empty chain is met = met
+
+    -- neither want of memory nor a device stopped it
+    pub fed_reads : (verdict : Verdict) (place offset : ℕ) (standing : Standing) → b.standing ≡ standing → FedUnder input b standing
+        → (standing ≡ standings.NoMemory → ⊥) → (standing ≡ standings.NoDevice → ⊥)
+        → ((kind : FaultKind) → standing ≡ standings.Faulted kind → verdict ≡ verdicts.StreamFault place offset kind)
+        → ((octets : List ℕ) → Reads Bound b octets → IsVerdict t b.limit octets verdict)
+        → (octets : List ℕ) × Moved input octets × Reads Bound b octets × Sound input × IsReadFor verdict input b.limit
+    fed_reads verdict place offset standings.Open e h m d f v = absurd h
+    fed_reads verdict place offset standings.Ended e h m d f v =
+        let chain : ReadsAs Bound standings.Ended b h.0 = subst (λ (s : Standing). ReadsAs Bound s b h.0) e h.2 in
+        (h.0, h.1, h.2, h.4, read_whole h.0 verdict chain (v h.0 h.2) h.3)
+    fed_reads verdict place offset (standings.Faulted kind) e h m d f v =
+        (h.0, h.1, h.2, h.5, subst (λ w. IsReadFor w input b.limit) (sym (f kind refl)) (h.3, h.4))
+    fed_reads verdict place offset standings.NoMemory e h m d f v = absurd (m refl)
+    fed_reads verdict place offset standings.NoDevice e h m d f v = absurd (d refl)

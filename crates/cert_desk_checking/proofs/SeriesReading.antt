@@ -19,7 +19,7 @@ module _ (s : Shape) (limit : ℕ) (vs : List (Value s)) (rest stream : List ℕ
 module _ (fields : Body) (limit : ℕ) where
   pub reads_nothing : ReadsSeries (sequence fields) limit standings.Open [] [] []
   reads_nothing =
-      reads_unfinished (sequence fields) limit [] [] [] (record { each = tt; joins = refl; fits = omega arith }) refl (unfinished_none fields limit 0 [] (omega arith))
+      reads_unfinished (sequence fields) limit [] [] [] (record { each = tt; joins = refl; fits = omega arith }) refl (unfinished_none fields limit 0)
 
   module _ (vs : List (Value (sequence fields))) (rest : List ℕ) where
     -- nor a faulty one

@@ -4,8 +4,8 @@ use Rattle.const_oid.specs.Bound.{Bound}
 use Rattle.der_core_head.specs.Shapes.{Shape, octets_of}
 use Rattle.x509_cert.specs.Anchors.{trust_anchor_choice, PlainAnchor as PlainChoice}
 use Rattle.cert_desk_checking.specs.declared.anchor_error.AnchorError.TheVariants as errors
-use Rattle.cert_desk_checking.specs.declared.status.AnchorFault.{AnchorFault}
-use Rattle.cert_desk_checking.specs.declared.status.AnchorFault.TheVariants as faults
+use Rattle.cert_desk_checking.specs.declared.anchor_fault.AnchorFault.{AnchorFault}
+use Rattle.cert_desk_checking.specs.declared.anchor_fault.AnchorFault.TheVariants as faults
 use Rattle.cert_desk_checking.specs.Anchors.{given_by}
 use Rattle.cert_desk_checking.specs.Files.{IsFileOf, BeginsNone, BeginsRefused, HasFirstWrong}
 use Rattle.cert_desk_checking.specs.Judging.{PlainAnchor}

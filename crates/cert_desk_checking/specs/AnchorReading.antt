@@ -2,10 +2,10 @@
 use Rattle.std.specs.Prelude.{◌≡◌, ℕ, List, drop, Err}
 use Rattle.x509_cert.specs.Anchors.{PlainAnchor as PlainChoice}
 use Rattle.cert_desk_checking.specs.declared.anchor_error.AnchorError.TheVariants as errors
-use Rattle.cert_desk_checking.specs.declared.status.AnchorFault.{AnchorFault}
-use Rattle.cert_desk_checking.specs.declared.status.AnchorFault.TheVariants as faults
-use Rattle.cert_desk_checking.specs.declared.status.Outcome.{Outcome}
-use Rattle.cert_desk_checking.specs.declared.status.Outcome.TheVariants as outcomes
+use Rattle.cert_desk_checking.specs.declared.anchor_fault.AnchorFault.{AnchorFault}
+use Rattle.cert_desk_checking.specs.declared.anchor_fault.AnchorFault.TheVariants as faults
+use Rattle.cert_desk_checking.specs.declared.outcome.Outcome.{Outcome}
+use Rattle.cert_desk_checking.specs.declared.outcome.Outcome.TheVariants as outcomes
 use Rattle.cert_desk_checking.specs.Anchors.{given_by}
 use Rattle.cert_desk_checking.specs.AnchorFiles.{raw_choice, IsFaulty, HasFirstFault}
 use Rattle.cert_desk_checking.specs.Files as files

@@ -1,26 +1,14 @@
 -- What can be wrong where a value of a shape should begin that stands behind a SEQUENCE tag; and with a stream: said of the values with
 -- which it begins, and of the rest.
-use Rattle.std.specs.Prelude.{◌≡◌, ◌≢◌, ℕ, ◌+◌, ◌≤◌, ◌<◌, ◌^◌, ◌⊎◌, List, [], ◌∷◌, ◌++◌, length}
-use Rattle.std.specs.Int.Digits.{number_from_digits}
+use Rattle.std.specs.Prelude.{◌≡◌, ◌≢◌, ℕ, ◌+◌, ◌≤◌, ◌<◌, ◌^◌, ◌⊎◌, List, [], ◌∷◌, ◌++◌, length, Err}
+use Rattle.der_core_head.specs.declared.error.ErrorKind.TheVariants as errors
 use Rattle.der_core_head.specs.declared.tag.Tag.TheVariants as tags
-use Rattle.der_core_head.specs.Heads.{length_octets, head_octets}
+use Rattle.der_core_head.specs.Heads.{head_octets, head_at}
 use Rattle.der_core_head.specs.Shapes.{Shape, Value, octets_of, IsValid}
 use Rattle.x509_cert.specs.Certificates.{PlainCertificate, raw_certificate}
 use Rattle.cert_desk_checking.specs.declared.fault_kind.FaultKind.{FaultKind}
 use Rattle.cert_desk_checking.specs.declared.fault_kind.FaultKind.TheVariants as kinds
 use Rattle.cert_desk_checking.specs.Series.{SeriesSplit, encodings}
-
--- The octets of a length, shortest or not: one below 128, or 128 + k and k digits in base 256, k from 1 to 4.
-abbrev pub IsLengthOctets : List ℕ → Type 0
-IsLengthOctets [] = ⊥
-IsLengthOctets (n ∷ []) = n < 128
-IsLengthOctets (n ∷ d ∷ ds) = (n ≡ 129 + length ds) × (length ds < 4)
-
--- the number that they spell
-abbrev pub spelled_length : List ℕ → ℕ
-spelled_length [] = 0
-spelled_length (n ∷ []) = n
-spelled_length (n ∷ d ∷ ds) = number_from_digits 256 (d ∷ ds)
 
 -- how many octets a SEQUENCE has whose content has so many
 abbrev pub whole_length : ℕ → ℕ
@@ -31,8 +19,7 @@ abbrev pub Says : Shape → ℕ → ℕ → FaultKind → List ℕ → Type 0
 Says s limit offset kinds.NoCertificate rest = (b : ℕ) × (w : List ℕ) × (rest ≡ b ∷ w) × (b ≢ 0x30)
 Says s limit offset kinds.Indefinite rest = (w : List ℕ) × (rest ≡ 0x30 ∷ 0x80 ∷ w)
 Says s limit offset kinds.LengthTooWide rest = (n : ℕ) × (w : List ℕ) × (rest ≡ 0x30 ∷ n ∷ w) × (0x85 ≤ n)
-Says s limit offset kinds.LengthNotShortest rest =
-    (ls : List ℕ) × (w : List ℕ) × (rest ≡ 0x30 ∷ (ls ++ w)) × IsLengthOctets ls × (ls ≢ length_octets (spelled_length ls))
+Says s limit offset kinds.LengthNotShortest rest = head_at rest ≡ Err (errors.Length tags.Sequence)
 Says s limit offset kinds.TooLarge rest =
     (n : ℕ) × (w : List ℕ) × (n < 2 ^ 32) × (rest ≡ head_octets tags.Sequence n ++ w)
     × ((limit < whole_length n) ⊎ (2 ^ 64 ≤ offset + whole_length n))

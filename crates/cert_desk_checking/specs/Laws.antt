@@ -5,13 +5,14 @@ use Rattle.x509_cert.specs.Certificates.{PlainCertificate}
 use Rattle.cert_desk_checking.specs.declared.checked.Verdict.{Verdict}
 use Rattle.cert_desk_checking.specs.declared.fault_kind.FaultKind.{FaultKind}
 use Rattle.cert_desk_checking.specs.declared.fault_kind.FaultKind.TheVariants as kinds
-use Rattle.cert_desk_checking.specs.declared.status.AnchorFault.{AnchorFault}
+use Rattle.cert_desk_checking.specs.declared.anchor_fault.AnchorFault.{AnchorFault}
 use Rattle.cert_desk_checking.specs.AnchorFiles.{SaysAsFile}
 use Rattle.cert_desk_checking.specs.Chains.{Chain}
 use Rattle.cert_desk_checking.specs.Faults.{SeriesFault, StreamFault}
-use Rattle.cert_desk_checking.specs.Judging.{PlainAnchor, Terms}
+use Rattle.cert_desk_checking.specs.Judging.{PlainAnchor, Answers, Terms}
+use Rattle.cert_desk_checking.specs.Questions.{AnswerAlike, under}
 use Rattle.cert_desk_checking.specs.Series.{IsUnambiguous, Series}
-use Rattle.cert_desk_checking.specs.Verdicts.{IsVerdict}
+use Rattle.cert_desk_checking.specs.Verdicts.{IsVerdict, Asks}
 
 -- No stream joins two lists of values of a shape whose values are told apart.
 abbrev pub HasOneSeries : Type 0
@@ -58,3 +59,11 @@ HasOneVerdict =
 -- No file of anchors says two things.
 abbrev pub HasOneAnchorFile : Type 0
 HasOneAnchorFile = (octets : List ℕ) (said other : Result (List PlainAnchor) (ℕ × AnchorFault)) → SaysAsFile octets said → SaysAsFile octets other → said ≡ other
+
+-- Judges that answer alike on what a chain may ask give one verdict, and are asked as often.
+abbrev pub IsJudgedAlike : Type 0
+IsJudgedAlike =
+    (t : Terms) (other : Answers) (limit : ℕ) (stream : List ℕ) (verdict : Verdict) (n : ℕ)
+    → ((cs : List PlainCertificate) → Chain t.bound limit cs stream → AnswerAlike t other cs stream)
+    → (IsVerdict t limit stream verdict → IsVerdict (under t other) limit stream verdict)
+    × (Asks t limit stream n → Asks (under t other) limit stream n)

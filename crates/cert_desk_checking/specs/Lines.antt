@@ -4,8 +4,8 @@ use Rattle.cert_desk_checking.specs.declared.checked.Verdict.{Verdict}
 use Rattle.cert_desk_checking.specs.declared.checked.Verdict.TheVariants as verdicts
 use Rattle.cert_desk_checking.specs.declared.fault_kind.FaultKind.{FaultKind}
 use Rattle.cert_desk_checking.specs.declared.fault_kind.FaultKind.TheVariants as kinds
-use Rattle.cert_desk_checking.specs.declared.status.AnchorFault.{AnchorFault}
-use Rattle.cert_desk_checking.specs.declared.status.AnchorFault.TheVariants as faults
+use Rattle.cert_desk_checking.specs.declared.anchor_fault.AnchorFault.{AnchorFault}
+use Rattle.cert_desk_checking.specs.declared.anchor_fault.AnchorFault.TheVariants as faults
 use Rattle.cert_desk_checking.specs.declared.rule.Rule.{Rule}
 use Rattle.cert_desk_checking.specs.declared.rule.Rule.TheVariants as rules
 
@@ -46,9 +46,3 @@ fault_name faults.PathControls = codes "path controls"
 -- what is said of anchors of which the one that begins there has this fault
 abbrev pub anchors_line : ℕ → AnchorFault → List ℕ
 anchors_line offset fault = codes "anchors: " ++ fault_name fault ++ codes " at " ++ decimal offset ++ codes "\n"
-
-abbrev pub device_line : List ℕ
-device_line = codes "device\n"
-
-abbrev pub memory_line : List ℕ
-memory_line = codes "memory\n"

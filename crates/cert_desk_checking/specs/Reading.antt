@@ -1,35 +1,40 @@
 -- What a bundle read from an input.
-use Rattle.std.specs.Prelude.{◌≡◌, ℕ, List}
-use Rattle.cert_desk_io.specs.Devices.{Rose}
+use Rattle.std.specs.Prelude.{◌≡◌, ◌≢◌, ℕ, ◌≤◌, List, length}
+use Rattle.const_oid.specs.Bound.{Bound}
+use Rattle.cert_desk_io.specs.Devices.{Device, Moved, MetEnd, Sound, Rose}
+use Rattle.x509_cert.specs.Certificates.{PlainCertificate}
 use Rattle.cert_desk_checking.specs.declared.fault_kind.FaultKind.{FaultKind}
 use Rattle.cert_desk_checking.specs.declared.fault_kind.FaultKind.TheVariants as kinds
 use Rattle.cert_desk_checking.specs.declared.standing.Standing.{Standing}
 use Rattle.cert_desk_checking.specs.declared.standing.Standing.TheVariants as standings
+use Rattle.cert_desk_checking.specs.Faults.{StreamFault}
+use Rattle.cert_desk_checking.specs.Steps.{most_read}
 use Rattle.cert_desk_checking.specs.Streams.{Kept, Reads}
-use Rattle.const_oid.specs.Bound.{Bound}
 
--- a count of failures stayed: no call failed
-pub record Stayed (old new : ℕ) : Type 0 where
-  pub same : new ≡ old
+-- No octet was asked for behind the read that stopped the reading: the octets before it have no fault but that they may end too early,
+-- and it took no more than a read takes.
+pub record AsksNoMore (input : Device) (limit : ℕ) : Type 0 where
+  pub before : input.State
+  pub octets : List ℕ
+  pub taken : input.moves input.old octets before
+  pub sound : (cs : List PlainCertificate) (kind : FaultKind) → kind ≢ kinds.Truncated → StreamFault Bound limit octets cs kind → ⊥
+  pub piece : List ℕ
+  pub last : input.moves before piece input.new
+  pub short : length piece ≤ most_read
 
--- a fault of this kind is told at the end of an input, the others before
-abbrev pub AtEnd : FaultKind → Type 0 → Type 0
-AtEnd kinds.NoCertificate ended = Unit {0}
-AtEnd kinds.Indefinite ended = Unit {0}
-AtEnd kinds.LengthTooWide ended = Unit {0}
-AtEnd kinds.LengthNotShortest ended = Unit {0}
-AtEnd kinds.TooLarge ended = Unit {0}
-AtEnd kinds.Malformed ended = Unit {0}
-AtEnd kinds.Truncated ended = ended
+-- a read failed
+abbrev pub ReadFailed : Device → Type 0
+ReadFailed input = Rose (input.failures input.old) (input.failures input.new)
 
 -- A new bundle was fed what an input gave: to its end, to a fault, to want of memory, or to a failure. No read failed but in
 -- the last of these.
-abbrev pub FedUnder : {Source : Type 0} → (Source → List ℕ → Source → Type 0) → (Source → Type 0) → (Source → ℕ) → Source → Source → Kept → Standing → Type 0
-FedUnder takes is_ended failures old new b standings.Open = ⊥
-FedUnder takes is_ended failures old new b standings.Ended = (octets : List ℕ) × takes old octets new × Reads Bound b octets × is_ended new × Stayed (failures old) (failures new)
-FedUnder takes is_ended failures old new b (standings.Faulted kind) = (octets : List ℕ) × takes old octets new × Reads Bound b octets × AtEnd kind (is_ended new) × Stayed (failures old) (failures new)
-FedUnder takes is_ended failures old new b standings.NoMemory = Stayed (failures old) (failures new) × ((octets : List ℕ) × takes old octets new)
-FedUnder takes is_ended failures old new b standings.NoDevice = Rose (failures old) (failures new) × ((octets : List ℕ) × takes old octets new)
+abbrev pub FedUnder : Device → Kept → Standing → Type 0
+FedUnder input b standings.Open = ⊥
+FedUnder input b standings.Ended = (octets : List ℕ) × Moved input octets × Reads Bound b octets × MetEnd input × Sound input
+FedUnder input b (standings.Faulted kind) =
+    (octets : List ℕ) × Moved input octets × Reads Bound b octets × (kind ≡ kinds.Truncated → MetEnd input) × AsksNoMore input b.limit × Sound input
+FedUnder input b standings.NoMemory = (octets : List ℕ) × Moved input octets × AsksNoMore input b.limit × Sound input
+FedUnder input b standings.NoDevice = (octets : List ℕ) × Moved input octets × ReadFailed input
 
-abbrev pub IsFed : {Source : Type 0} → (Source → List ℕ → Source → Type 0) → (Source → Type 0) → (Source → ℕ) → Source → Source → Kept → Type 0
-IsFed takes is_ended failures old new b = FedUnder takes is_ended failures old new b b.standing
+abbrev pub IsFed : Device → Kept → Type 0
+IsFed input b = FedUnder input b b.standing

@@ -1,7 +1,7 @@
 -- How a bundle changes.
-use Rattle.std.specs.Prelude.{◌≡◌, ◌≢◌, ℕ, ◌≤◌, ◌<◌, ◌^◌, List, [], ◌∷◌, ◌++◌, length, Bool, true, false}
+use Rattle.std.specs.Prelude.{◌≡◌, ◌≢◌, ℕ, ◌+◌, ◌≤◌, ◌<◌, ◌^◌, List, [], ◌++◌, length, take}
 use Rattle.cert_desk_io.specs.Devices.{Rose}
-use Rattle.x509_cert.specs.Certificates.{PlainCertificate, raw_certificate, certificate_octets}
+use Rattle.x509_cert.specs.Certificates.{PlainCertificate, raw_certificate}
 use Rattle.cert_desk_checking.specs.declared.bundle_error.BundleError.{BundleError}
 use Rattle.cert_desk_checking.specs.declared.bundle_error.BundleError.TheVariants as errors
 use Rattle.cert_desk_checking.specs.declared.bundle_error.ReadError.{ReadError}
@@ -10,9 +10,8 @@ use Rattle.cert_desk_checking.specs.declared.fault_kind.FaultKind.{FaultKind}
 use Rattle.cert_desk_checking.specs.declared.fault_kind.FaultKind.TheVariants as kinds
 use Rattle.cert_desk_checking.specs.declared.standing.Standing.{Standing}
 use Rattle.cert_desk_checking.specs.declared.standing.Standing.TheVariants as standings
-use Rattle.cert_desk_checking.specs.Chains.{Stands, joined}
+use Rattle.cert_desk_checking.specs.Chains.{joined}
 use Rattle.cert_desk_checking.specs.Faults.{IsFault}
-use Rattle.cert_desk_checking.specs.Headers.{IsUnfinished}
 use Rattle.cert_desk_checking.specs.Streams.{Kept, Reads, Begins}
 
 -- the octets that a bundle keeps
@@ -27,24 +26,37 @@ ReadsOn bound old new octets = (stream : List ℕ) → Reads bound old stream �
 abbrev pub Grows : Kept → Kept → Type 0
 Grows old new = (more : List PlainCertificate) × (new.certificates ≡ old.certificates ++ more)
 
--- One certificate more is read.
-pub record Next (bound : ℕ) (old new : Kept) : Type 0 where
-  pub certificate : PlainCertificate
-  pub stands : Stands bound old.limit certificate
-  pub certificates : new.certificates ≡ old.certificates ++ certificate ∷ []
-  pub rest : old.rest ≡ certificate_octets bound certificate ++ new.rest
-  pub fits : length (joined bound new.certificates) < 2 ^ 64
-  pub standing : new.standing ≡ old.standing
+-- These octets are taken, and more may come.
+pub record Advances (bound : ℕ) (old new : Kept) (octets : List ℕ) : Type 0 where
+  pub is_open : new.standing ≡ standings.Open
   pub limit : new.limit ≡ old.limit
+  pub grows : Grows old new
+  pub kept : kept_octets bound new ≡ kept_octets bound old ++ octets
+  pub fits : length (kept_octets bound new) < 2 ^ 64 + 5
+  pub reads : ReadsOn bound old new octets
 
--- No certificate is read: octets are missing.
-pub record Waits (bound : ℕ) (old new : Kept) : Type 0 where
-  pub unfinished : IsUnfinished (raw_certificate bound) old.limit (length (joined bound old.certificates)) old.rest
-  pub same : new ≡ old
+-- so many octets of a piece are taken
+pub record TakesFront (bound : ℕ) (old new : Kept) (piece : List ℕ) (count : ℕ) : Type 0 where
+  pub some : 0 < count
+  pub within : count ≤ length piece
+  pub advances : Advances bound old new (take count piece)
 
-abbrev pub Advances : ℕ → Kept → Kept → Bool → Type 0
-Advances bound old new true = Next bound old new
-Advances bound old new false = Waits bound old new
+-- why the octets that begin behind the certificates aren't taken
+abbrev pub StopsBy : ℕ → Kept → List ℕ → Standing → Type 0
+StopsBy bound old octets standings.Open = ⊥
+StopsBy bound old octets standings.Ended = ⊥
+StopsBy bound old octets (standings.Faulted kind) = (kind ≢ kinds.Truncated) × IsFault (raw_certificate bound) old.limit (length (joined bound old.certificates)) kind octets
+StopsBy bound old octets standings.NoMemory = Unit {0}
+StopsBy bound old octets standings.NoDevice = ⊥
+
+pub record Stops (bound : ℕ) (old new : Kept) (octets : List ℕ) (standing : Standing) : Type 0 where
+  pub limit : new.limit ≡ old.limit
+  pub certificates : new.certificates ≡ old.certificates
+  pub why : StopsBy bound old octets standing
+
+-- it takes no further piece, and keeps nothing of a certificate that isn't whole
+abbrev pub stopped : Kept → Standing → Kept
+stopped b standing = record b { rest = []; standing = standing }
 
 -- where a fault stands: so many certificates and octets are before it
 pub record IsFoundAt (bound : ℕ) (b : Kept) (place offset : ℕ) (kind : FaultKind) : Type 0 where
@@ -52,17 +64,13 @@ pub record IsFoundAt (bound : ℕ) (b : Kept) (place offset : ℕ) (kind : Fault
   pub place_is : place ≡ length b.certificates
   pub offset_is : offset ≡ length (joined bound b.certificates)
 
-pub record Finds (bound : ℕ) (old new : Kept) (place offset : ℕ) (kind : FaultKind) : Type 0 where
-  pub found : IsFoundAt bound new place offset kind
-  pub streams : kind ≢ kinds.Truncated
-  pub fault : IsFault (raw_certificate bound) old.limit (length (joined bound old.certificates)) kind old.rest
-  pub same : new ≡ record old { standing = standings.Faulted kind }
-
--- what stops the reading of the next certificate
-abbrev pub Stops : ℕ → Kept → Kept → BundleError → Type 0
-Stops bound old new (errors.Fault place offset kind) = Finds bound old new place offset kind
-Stops bound old new errors.OutOfMemory = new ≡ record old { standing = standings.NoMemory }
-Stops bound old new errors.Failed = ⊥
+-- how that is told
+abbrev pub error_of : ℕ → Kept → Standing → BundleError
+error_of bound b standings.Open = errors.OutOfMemory
+error_of bound b standings.Ended = errors.OutOfMemory
+error_of bound b (standings.Faulted kind) = errors.Fault (length b.certificates) (length (joined bound b.certificates)) kind
+error_of bound b standings.NoMemory = errors.OutOfMemory
+error_of bound b standings.NoDevice = errors.OutOfMemory
 
 -- A piece has a fault, or what comes before it in the stream and it.
 pub record FeedsFault (bound : ℕ) (old new : Kept) (piece : List ℕ) (place offset : ℕ) (kind : FaultKind) : Type 0 where
@@ -130,17 +138,29 @@ pub record StopsAtOnce {State : Type 0} (takes : State → List ℕ → State �
   pub before : State
   pub now : Kept
   pub is_open : now.standing ≡ standings.Open
+  pub limit : now.limit ≡ old.limit
   pub reads : Takes takes from before bound old now
   pub piece : List ℕ
   pub taken : takes before piece to
   pub short : length piece ≤ most_read
 
--- The device failed: the certificates are those of the octets before.
-pub record DeviceFails {State : Type 0} (takes : State → List ℕ → State → Type 0) (failures : State → ℕ) (from to : State) (bound : ℕ) (old new : Kept) : Type 0 where
+-- All that was taken was taken before a first read failed, and none was asked for behind that one.
+pub record FailsAtOnce {State : Type 0} (takes : State → List ℕ → State → Type 0) (is_ended : State → Type 0) (failures : State → ℕ) (from to : State) : Type 0 where
+  pub before : State
+  pub octets : List ℕ
+  pub taken : takes from octets before
+  pub sound : failures before ≡ failures from
+  pub none_taken : takes before [] to
+  pub not_ended : is_ended to → ⊥
+
+-- The device failed: the certificates are those of the octets before, of which a rest was dropped.
+pub record DeviceFails {State : Type 0} (takes : State → List ℕ → State → Type 0) (is_ended : State → Type 0) (failures : State → ℕ) (from to : State) (bound : ℕ) (old new : Kept) : Type 0 where
   pub was_open : old.standing ≡ standings.Open
   pub standing : new.standing ≡ standings.NoDevice
   pub rose : Rose (failures from) (failures to)
-  pub reads : Takes takes from to bound old (record new { standing = standings.Open })
+  pub rest : List ℕ
+  pub reads : Takes takes from to bound old (record new { rest = rest; standing = standings.Open })
+  pub stops : FailsAtOnce takes is_ended failures from to
 
 -- The stream has a fault, or ends inside a certificate. No read failed.
 pub record InputFaulty {State : Type 0} (takes : State → List ℕ → State → Type 0) (is_ended : State → Type 0) (failures : State → ℕ) (from to : State) (bound : ℕ) (old new : Kept) (place offset : ℕ) (kind : FaultKind) : Type 0 where
@@ -163,7 +183,7 @@ pub record InputFitsNot {State : Type 0} (takes : State → List ℕ → State �
 
 -- why an input isn't read to its end
 abbrev pub RefusesInput : {State : Type 0} → (State → List ℕ → State → Type 0) → (State → Type 0) → (State → ℕ) → State → State → ℕ → Kept → Kept → ReadError → Type 0
-RefusesInput takes is_ended failures from to bound old new reads.Device = DeviceFails takes failures from to bound old new
+RefusesInput takes is_ended failures from to bound old new reads.Device = DeviceFails takes is_ended failures from to bound old new
 RefusesInput takes is_ended failures from to bound old new (reads.Bundle (errors.Fault place offset kind)) = InputFaulty takes is_ended failures from to bound old new place offset kind
 RefusesInput takes is_ended failures from to bound old new (reads.Bundle errors.OutOfMemory) = InputFitsNot takes failures from to bound old new
 RefusesInput takes is_ended failures from to bound old new (reads.Bundle errors.Failed) = IsShut old new × (to ≡ from)

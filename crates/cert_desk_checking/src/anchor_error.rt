@@ -3,17 +3,19 @@ ghost use Rattle.std.specs.Prelude.{◌≡◌};
 ghost use Rattle.cert_desk_checking.specs.declared.anchor_error.AnchorError.TheVariants.{OutOfMemory};
 
 use std::alloc::AllocError;
-use std::error::Error;
-use std::fmt;
+use thiserror::Error;
 
 /// Why a trust anchor gives no anchor.
-#[derive(Clone, Copy, Debug, PartialEq, Eq)]
+#[derive(Clone, Copy, Debug, PartialEq, Eq, Error)]
 pub enum AnchorError {
     /// It is told by its key, without a name.
+    #[error("the trust anchor has no name")]
     NoName,
     /// A path from it must meet more than its name.
+    #[error("a path from the trust anchor must meet more than its name")]
     PathControls,
     /// There was no memory for the copies.
+    #[error("out of memory")]
     OutOfMemory,
 }
 
@@ -24,17 +26,3 @@ impl From<AllocError> for AnchorError {
         AnchorError::OutOfMemory
     }
 }
-
-impl fmt::Display for AnchorError {
-    fn fmt<W: fmt::Write>(&self, f: &mut fmt::Formatter<W>) -> fmt::Result {
-        let text = match self {
-            AnchorError::NoName => "the trust anchor has no name",
-            AnchorError::PathControls =>
-                "a path from the trust anchor must meet more than its name",
-            AnchorError::OutOfMemory => "out of memory",
-        };
-        f.write_str(text)
-    }
-}
-
-impl Error for AnchorError {}

@@ -8,7 +8,8 @@ ghost use Rattle.cert_desk_checking.specs.AnchorReading.{StandsAt, GivesAt, IsUn
 
 use crate::anchor::Anchor;
 use crate::anchor_error::AnchorError;
-use crate::status::{AnchorFault, Outcome};
+use crate::anchor_fault::AnchorFault;
+use crate::outcome::Outcome;
 use der_core::from_der_partial;
 use der_core_head::ErrorKind;
 use std::alloc::Global;

@@ -1,46 +1,34 @@
 //! A stream of certificates, read as it comes.
 ghost use Rattle.std.specs.Prelude.{◌≡◌, ◌≢◌, ℕ, ◌+◌, ◌<◌, ◌≤◌, ◌^◌, ◌==◌, ◌↔◌, List, [], ◌++◌, length, IsTrue, IsSome, IfSome, IfOk, IfErr, OnOk, OnErr};
+ghost use Rattle.const_oid.specs.Bound.{Bound};
 ghost use Rattle.cert_desk_checking.specs.Chains.{joined};
 ghost use Rattle.cert_desk_checking.specs.Streams.{Reads};
 ghost use Rattle.cert_desk_checking.specs.Entries.{IsEntry};
-ghost use Rattle.cert_desk_checking.specs.Steps.{kept_octets, ReadsOn, ReadsStill, Grows, Advances, Stops, RefusesPiece, RefusesEnd, HasFailed, Takes, RefusesInput};
-ghost use Rattle.const_oid.specs.Bound.{Bound};
+ghost use Rattle.cert_desk_checking.specs.Steps.{kept_octets, ReadsOn, ReadsStill, Grows, Takes, TakesFront, Stops, stopped, error_of, RefusesPiece, RefusesEnd, HasFailed, RefusesInput};
 
 use crate::bundle_error::{BundleError, ReadError};
 use crate::entry::Entry;
 use crate::fault_kind::FaultKind;
-use crate::scan::{Scan, scan_header, sequence_len};
+use crate::located::Located;
+use crate::rest::Rest;
 use crate::standing::Standing;
 use cert_desk_io::Input;
-use der_core_head::ErrorKind;
-use std::alloc::{AllocError, Global};
+use std::alloc::Global;
 use std::marker::Model;
-use x509_cert::{CertificateInner, Raw};
-
-// A certificate, and where it stands in the octets.
-#[derive(Drop)]
-pub(crate) struct Located {
-    offset: usize,
-    // The header's octets.
-    header: usize,
-    // The octets of the signed part, which stands behind the header.
-    signed: usize,
-    end: usize,
-    certificate: CertificateInner<Raw>,
-}
 
 /// A stream of certificates (RFC 5280 4.1), joined with nothing between them, that comes in pieces.
 ///
-/// It is read as it comes, and what is read of it does not depend on how it was cut. Its octets are
-/// kept once.
+/// It is read as it comes, and what is read of it does not depend on how it was cut. Each
+/// certificate is kept with its own octets, and of the stream nothing else but the octets of one
+/// that isn't whole yet. Room is taken for octets that came, however many a header announces.
 #[derive(Drop)]
 pub struct Bundle {
     alloc: Global,
     limit: u32,
-    octets: Vec<u8>,
-    // Where the octets behind the last certificate begin.
-    start: usize,
     located: Vec<Located>,
+    // The octets of these.
+    end: u64,
+    rest: Rest,
     standing: Standing,
 }
 
@@ -68,9 +56,9 @@ impl Bundle {
         Bundle {
             alloc,
             limit,
-            octets: Vec::new(alloc),
-            start: 0,
             located: Vec::new(alloc),
+            end: 0,
+            rest: Rest::new(alloc),
             standing: Standing::Open,
         }
     }
@@ -114,7 +102,16 @@ impl Bundle {
     pub fn end_offset(&self) -> u64
         ensures { result ≡ length (joined Bound self.now.certificates) }
     {
-        self.start as u64
+        self.end
+    }
+
+    /// The number of octets that are kept of a certificate that isn't whole yet.
+    pub fn unfinished(&self) -> usize
+        ensures rest { result ≡ length self.now.rest }
+        ensures within { result ≤ self.now.limit }
+        ensures shut { self.now.standing ≢ Standing.Open → result ≡ 0 }
+    {
+        self.rest.octets.len()
     }
 
     /// Takes the next piece of the stream, of any number of octets.
@@ -122,9 +119,9 @@ impl Bundle {
     /// # Errors
     ///
     /// `Fault` where the stream has a fault: no certificate can stand behind those that were read.
-    /// `OutOfMemory` where a growth was refused. With either the bundle has failed, and the
-    /// certificates that were read stay. `Failed` where it had ended or failed before, and then
-    /// nothing changes.
+    /// `OutOfMemory` where a growth was refused. With either the bundle has failed, the
+    /// certificates that were read stay, and no other octets are kept. `Failed` where it had ended
+    /// or failed before, and then nothing changes.
     pub fn feed(&mut self, piece: &[u8]) -> Result<(), BundleError>
         ensures limit { self.new.limit ≡ self.old.limit }
         ensures grows { Grows self.old self.new }
@@ -133,18 +130,20 @@ impl Bundle {
         ensures is_open { OnOk result (self.new.standing ≡ Standing.Open) }
         ensures reads { OnOk result (ReadsOn Bound self.old self.new piece.now) }
         ensures kept { OnOk result (kept_octets Bound self.new ≡ kept_octets Bound self.old ++ piece.now) }
-        ensures fits { OnOk result (length (kept_octets Bound self.new) < 2 ^ 64) }
+        ensures fits { OnOk result (length (kept_octets Bound self.new) < 2 ^ 64 + 5) }
         // A piece that isn't.
         ensures refused { IfErr result (RefusesPiece Bound self.old self.new piece.now) }
     {
-        if self.is_ended() {
+        let Standing::Open = self.standing else {
             return Err(BundleError::Failed);
+        };
+        let mut left = piece;
+        while !left.is_empty() {
+            match self.take(left) {
+                Ok(count) => left = &left[count..],
+                Err(standing) => return Err(self.refuse(standing)),
+            }
         }
-        if self.append(piece).is_err() {
-            self.stop(Standing::NoMemory);
-            return Err(BundleError::OutOfMemory);
-        }
-        while self.read_next()? {}
         Ok(())
     }
 
@@ -152,8 +151,8 @@ impl Bundle {
     ///
     /// # Errors
     ///
-    /// `Fault` of kind `Truncated` where the stream ends inside a certificate. `Failed` where the
-    /// bundle had failed before, and then nothing changes.
+    /// `Fault` of kind `Truncated` where the stream ends inside a certificate, whose octets are
+    /// dropped. `Failed` where the bundle had failed before, and then nothing changes.
     pub fn finish(&mut self) -> Result<(), BundleError>
         ensures limit { self.new.limit ≡ self.old.limit }
         ensures certificates { self.new.certificates ≡ self.old.certificates }
@@ -167,16 +166,10 @@ impl Bundle {
     {
         match self.standing {
             Standing::Open => {
-                if self.start < self.octets.len() {
-                    let kind = FaultKind::Truncated;
-                    self.standing = Standing::Faulted(kind);
-                    return Err(BundleError::Fault {
-                        place: self.located.len(),
-                        offset: self.start as u64,
-                        kind,
-                    });
+                if self.unfinished() > 0 {
+                    return Err(self.refuse(Standing::Faulted(FaultKind::Truncated)));
                 }
-                self.standing = Standing::Ended;
+                self.stop(Standing::Ended);
                 Ok(())
             }
             Standing::Ended => Ok(()),
@@ -194,19 +187,17 @@ impl Bundle {
         let Some(located) = self.located.get(place) else {
             return None;
         };
-        let (offset, end) = (located.offset, located.end);
-        let octets = &self.octets[offset..end];
         let (header, signed) = (located.header, located.signed);
         Some(Entry {
-            offset: offset as u64,
-            octets,
-            signed: &octets[header..header + signed],
+            offset: located.offset,
+            octets: &located.octets,
+            signed: &located.octets[header..header + signed],
             certificate: &located.certificate,
         })
     }
 
     /// Takes the octets of an input, to its end or to a fault, and ends the stream. No read is
-    /// repeated, and none follows the one that brings a fault or finds no memory.
+    /// repeated, and none follows the one that brings a fault, finds no memory, or fails.
     ///
     /// # Errors
     ///
@@ -242,71 +233,58 @@ impl Bundle {
         }
     }
 
-    // Appends a piece to the octets.
-    fn append(&mut self, piece: &[u8]) -> Result<(), AllocError>
-        ensures appended { OnOk result (self.new ≡ record self.old { rest = self.old.rest ++ piece.now }) }
-        ensures fits { length (kept_octets Bound self.new) < 2 ^ 64 }
-        ensures unchanged { OnErr result (self.new ≡ self.old) }
+    // Takes octets from the front of a piece that has some, and says how many; or why none can be
+    // taken.
+    fn take(&mut self, piece: &[u8]) -> Result<usize, Standing>
+        requires some { 0 < length piece.now }
+        requires open { self.old.standing ≡ Standing.Open }
+        ensures taken { IfOk result (TakesFront Bound self.old self.new piece.now) }
+        ensures stops { IfErr result (Stops Bound self.old self.new (self.old.rest ++ piece.now)) }
     {
-        self.octets.extend_from_slice(piece)
+        let (count, whole) = match self.rest.take(self.alloc, piece, self.end, self.limit) {
+            Ok(taken) => taken,
+            Err(standing) => {
+                self.rest = Rest::new(self.alloc);
+                return Err(standing);
+            }
+        };
+        let octets = match whole {
+            Some(octets) => octets,
+            None => return Ok(count),
+        };
+        let len = octets.len() as u64;
+        let located = match Located::read(self.alloc, self.end, octets) {
+            Ok(located) => located,
+            Err(standing) => return Err(standing),
+        };
+        if self.located.push(located).is_err() {
+            return Err(Standing::NoMemory);
+        }
+        self.end += len;
+        Ok(count)
     }
 
-    // Takes no further piece, for this reason.
+    // Takes no further piece, for this reason, and keeps nothing of a certificate that isn't whole.
     fn stop(&mut self, standing: Standing)
-        ensures { self.new ≡ record self.old { standing = standing } }
+        ensures { self.new ≡ stopped self.old standing }
     {
+        self.rest = Rest::new(self.alloc);
         self.standing = standing;
     }
 
-    // Reads the next certificate, and says whether it was there.
-    fn read_next(&mut self) -> Result<bool, BundleError>
-        ensures advances { IfOk result (λ more. Advances Bound self.old self.new more) }
-        ensures stops { IfErr result (Stops Bound self.old self.new) }
+    // The same, and tells the reason.
+    fn refuse(&mut self, standing: Standing) -> BundleError
+        ensures stopped { self.new ≡ stopped self.old standing }
+        ensures error { result ≡ error_of Bound self.old standing }
     {
-        let rest = &self.octets[self.start..];
-        let (header, len) = match scan_header(rest, self.start as u64, self.limit) {
-            Scan::Wait => return Ok(false),
-            Scan::Refused(kind) => return Err(self.fail(kind)),
-            Scan::Whole { header, len } => (header, len),
-        };
-        let octets = &rest[..len];
-        let certificate = match CertificateInner::<Raw>::from_der(self.alloc, octets) {
-            Ok(certificate) => certificate,
-            Err(error) => {
-                if let ErrorKind::OutOfMemory = error.kind {
-                    self.standing = Standing::NoMemory;
-                    return Err(BundleError::OutOfMemory);
-                }
-                return Err(self.fail(FaultKind::Malformed));
-            }
-        };
-        let signed = sequence_len(&octets[header..]);
-        let end = self.start + len;
-        let located = Located {
-            offset: self.start,
-            header,
-            signed,
-            end,
-            certificate,
-        };
-        if self.located.push(located).is_err() {
-            self.standing = Standing::NoMemory;
-            return Err(BundleError::OutOfMemory);
-        }
-        self.start = end;
-        Ok(true)
-    }
-
-    // Fails for this fault, which stands behind the certificates.
-    fn fail(&mut self, kind: FaultKind) -> BundleError
-        ensures failed { self.new ≡ record self.old { standing = Standing.Faulted kind } }
-        ensures error { result ≡ BundleError.Fault (length self.old.certificates) (length (joined Bound self.old.certificates)) kind }
-    {
-        self.standing = Standing::Faulted(kind);
-        BundleError::Fault {
-            place: self.located.len(),
-            offset: self.start as u64,
-            kind,
+        self.stop(standing);
+        match standing {
+            Standing::Faulted(kind) => BundleError::Fault {
+                place: self.located.len(),
+                offset: self.end,
+                kind,
+            },
+            _ => BundleError::OutOfMemory,
         }
     }
 }

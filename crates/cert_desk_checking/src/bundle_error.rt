@@ -4,30 +4,34 @@ ghost use Rattle.std.specs.Prelude.{◌≡◌};
 ghost use Rattle.cert_desk_checking.specs.declared.bundle_error.ReadError.TheVariants.{Bundle};
 
 use crate::fault_kind::FaultKind;
-use std::error::Error;
-use std::fmt;
+use thiserror::Error;
 
 /// Why a bundle takes no piece, or doesn't end.
-#[derive(Clone, Copy, Debug, PartialEq, Eq)]
+#[derive(Clone, Copy, Debug, PartialEq, Eq, Error)]
 pub enum BundleError {
     /// The stream has a fault: `place` certificates stand before it, and it begins at `offset`.
+    #[error("{kind} at octet {offset}, behind {place} certificates")]
     Fault {
         place: usize,
         offset: u64,
         kind: FaultKind,
     },
     /// A growth was refused. The bundle has failed.
+    #[error("out of memory")]
     OutOfMemory,
     /// The bundle had failed or ended before.
+    #[error("the bundle failed or ended before")]
     Failed,
 }
 
 /// Why a stream wasn't read to its end.
-#[derive(Clone, Copy, Debug, PartialEq, Eq)]
+#[derive(Clone, Copy, Debug, PartialEq, Eq, Error)]
 pub enum ReadError {
     /// The input failed. The bundle has failed.
+    #[error("a device failed")]
     Device,
     /// The bundle refused the stream.
+    #[error(transparent)]
     Bundle(BundleError),
 }
 
@@ -38,30 +42,3 @@ impl From<BundleError> for ReadError {
         ReadError::Bundle(error)
     }
 }
-
-impl fmt::Display for BundleError {
-    fn fmt<W: fmt::Write>(&self, f: &mut fmt::Formatter<W>) -> fmt::Result {
-        match self {
-            BundleError::Fault {
-                place,
-                offset,
-                kind,
-            } => write!(f, "{kind} at octet {offset}, behind {place} certificates"),
-            BundleError::OutOfMemory => f.write_str("out of memory"),
-            BundleError::Failed => f.write_str("the bundle failed or ended before"),
-        }
-    }
-}
-
-impl Error for BundleError {}
-
-impl fmt::Display for ReadError {
-    fn fmt<W: fmt::Write>(&self, f: &mut fmt::Formatter<W>) -> fmt::Result {
-        match self {
-            ReadError::Device => f.write_str("a device failed"),
-            ReadError::Bundle(error) => write!(f, "{error}"),
-        }
-    }
-}
-
-impl Error for ReadError {}

@@ -2,8 +2,7 @@
 
 use crate::fault_kind::FaultKind;
 use crate::rule::Rule;
-use std::error::Error;
-use std::fmt;
+use thiserror::Error;
 
 /// The verdict on a stream.
 #[derive(Clone, Copy, Debug, PartialEq, Eq)]
@@ -35,22 +34,12 @@ pub struct Checked {
 }
 
 /// Why nothing is said of a stream.
-#[derive(Clone, Copy, Debug, PartialEq, Eq)]
+#[derive(Clone, Copy, Debug, PartialEq, Eq, Error)]
 pub enum CheckError {
     /// There was no memory for the stream.
+    #[error("out of memory")]
     OutOfMemory,
     /// The device that the stream came from failed.
+    #[error("a device failed")]
     Device,
 }
-
-impl fmt::Display for CheckError {
-    fn fmt<W: fmt::Write>(&self, f: &mut fmt::Formatter<W>) -> fmt::Result {
-        let text = match self {
-            CheckError::OutOfMemory => "out of memory",
-            CheckError::Device => "a device failed",
-        };
-        f.write_str(text)
-    }
-}
-
-impl Error for CheckError {}

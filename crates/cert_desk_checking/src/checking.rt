@@ -1,32 +1,31 @@
 //! Streams are judged.
-ghost use Rattle.std.specs.Prelude.{◌≡◌, ◌≢◌, ℕ, ◌+◌, ◌<◌, ◌≤◌, ◌↔◌, ◌⊎◌, List, length, map, Option, IfOk, OnErr, true, false, Some, None, nat_le, not, ◌&&◌};
+ghost use Rattle.std.specs.Prelude.{◌≡◌, ◌≢◌, ℕ, ◌+◌, ◌↔◌, ◌⊎◌, List, length, map, IfOk, OnErr, nat_le, not, ◌&&◌};
 ghost use Rattle.std.specs.List.{list_any};
 ghost use Rattle.std.specs.Option.{is_some};
 ghost use Rattle.const_oid.specs.Bound.{Bound};
 ghost use Rattle.der_core_head.specs.Shapes.{IsValid};
 ghost use Rattle.x509_cert.specs.Names.TimeTypes.Seconds.{unix_seconds};
 ghost use Rattle.x509_cert.specs.Views.{certificate_plain, key_plain, name_plain};
-ghost use Rattle.x509_cert.specs.Certificates.{issuer, not_before, not_after, raw_certificate};
+ghost use Rattle.x509_cert.specs.Certificates.{PlainCertificate, issuer, not_before, not_after, raw_certificate};
 ghost use Rattle.cert_desk_checking.specs.declared.fault_kind.FaultKind.{FaultKind};
 ghost use Rattle.cert_desk_checking.specs.Anchors.{anchor_plain, terms_of};
 ghost use Rattle.cert_desk_checking.specs.Chains.{Chain, joined};
-ghost use Rattle.cert_desk_checking.specs.Breaches.{AreUnsignedKept, IsFirstBreach, IsFirstRefused, asked_up_to, until_by, verdict_by};
 ghost use Rattle.cert_desk_checking.specs.Findings.{IsRoom};
 ghost use Rattle.cert_desk_checking.specs.Paths.{is_self_issued};
-ghost use Rattle.cert_desk_checking.specs.Judging.{Answers, has_one_algorithm, is_named, keeps_at, same_name};
+ghost use Rattle.cert_desk_checking.specs.Judging.{Answers, has_one_algorithm, is_named, same_name};
 ghost use Rattle.cert_desk_checking.specs.Streams.{Reads};
-ghost use Rattle.cert_desk_checking.specs.Verdicts.{IsVerdict, Trusted, IsCounted, asked};
-ghost use Rattle.cert_desk_checking.specs.Places.{IsFirstUnsigned, accepted, signs, asked_once, asked_until, asked_signature, asked_at, Rises};
+ghost use Rattle.cert_desk_checking.specs.Verdicts.{IsVerdict, Trusted, IsCounted, StopsAsking, accepted, asked, asked_until};
+ghost use Rattle.cert_desk_checking.specs.Places.{IsFirstUnsigned, Rises, StandsAt, asked_of, asked_once, linked_to, signed_by, signs};
 
 use crate::anchor::Anchor;
 use crate::bundle::Bundle;
 use crate::checked::{CheckError, Checked, Verdict};
 use crate::entry::Entry;
 use crate::extensions::{are_distinct, extensions_of};
+use crate::issuer::Issuer;
 use crate::kept_rules::KeptRules;
 use crate::path_room::PathRoom;
 use crate::rule::Rule;
-use crate::same_names::are_alike;
 use crate::signature_judge::SignatureJudge;
 use crate::standing::Standing;
 use crate::weighing::findings_of;
@@ -45,7 +44,8 @@ use x509_cert::{CertificateInner, Name, Raw, SubjectPublicKeyInfo};
 /// # Errors
 ///
 /// `Device` where a device had failed the bundle; `OutOfMemory` where want of memory had, or where
-/// there was none for the contents of an extension. The judge wasn't asked.
+/// there was none for the contents of an extension: then the judge was asked about the certificates
+/// before, which keep every rule. Of a stream that isn't whole the judge isn't asked.
 pub fn check<J: SignatureJudge>(
     alloc: Global,
     bundle: &Bundle,
@@ -69,7 +69,12 @@ pub fn check<J: SignatureJudge>(
     ensures no_memory { bundle.now.standing ≡ Standing.NoMemory → result ≡ Err CheckError.OutOfMemory }
     ensures out_of_memory { result ≡ Err CheckError.OutOfMemory → (bundle.now.standing ≡ Standing.NoMemory) ⊎ (bundle.now.standing ≡ Standing.Ended) }
     ensures device { (result ≡ Err CheckError.Device) ↔ (bundle.now.standing ≡ Standing.NoDevice) }
-    ensures untouched { OnErr result (judge.new ≡ judge.old) }
+    ensures stopped { OnErr result ((stream : List ℕ) → bundle.now.standing ≡ Standing.Ended → Reads Bound bundle.now stream
+        → StopsAsking (terms_of anchors.now moment purpose.now (J.answers judge.old)) bundle.now.limit stream (J.questions judge.old) (J.questions judge.new)) }
+
+    // Where nobody is asked.
+    ensures untouched { bundle.now.standing ≢ Standing.Ended → judge.new ≡ judge.old }
+    ensures no_calls { IfOk result (λ checked. bundle.now.standing ≢ Standing.Ended → checked.calls ≡ 0) }
 {
     match bundle.standing() {
         Standing::Open => unreachable!(),
@@ -91,7 +96,6 @@ pub fn check<J: SignatureJudge>(
 }
 
 // Asks the judge about a certificate, over the stream's own octets.
-#[tactic(auto, unfolding(crate::specs::Places::accepted))]
 fn ask<J: SignatureJudge>(
     key: &SubjectPublicKeyInfo,
     entry: &Entry<'_>,
@@ -113,23 +117,12 @@ fn ask<J: SignatureJudge>(
     )
 }
 
-// Whether the issuer of the certificate has this name, octet for octet.
-fn is_issued_by(certificate: &CertificateInner<Raw>, name: &Name) -> bool
+/// Whether the issuer of the certificate has this name, octet for octet.
+pub fn is_issued_by(certificate: &CertificateInner<Raw>, name: &Name) -> bool
     requires { IsValid (raw_certificate Bound) (certificate_plain certificate.now) }
     ensures { result ≡ same_name Bound (issuer (certificate_plain certificate.now)) (name_plain name.now) }
 {
     certificate.tbs_certificate().issuer().has_octets_of(name)
-}
-
-// The same of a name that it has in most chains: then the attributes tell it.
-fn is_linked_by(certificate: &CertificateInner<Raw>, name: &Name) -> bool
-    requires { IsValid (raw_certificate Bound) (certificate_plain certificate.now) }
-    ensures { result ≡ same_name Bound (issuer (certificate_plain certificate.now)) (name_plain name.now) }
-{
-    if are_alike(certificate.tbs_certificate().issuer(), name) {
-        return true;
-    }
-    is_issued_by(certificate, name)
 }
 
 // Whether an anchor has the issuer's name.
@@ -191,51 +184,41 @@ fn is_signed_by_anchor<J: SignatureJudge>(
     false
 }
 
-// Whether the issuer of the certificate at a place has the name of an anchor, at the first place,
-// or of the certificate before.
-fn is_linked(bundle: &Bundle, place: usize, anchors: &[Anchor]) -> bool
-    requires { place < length bundle.now.certificates }
-    ensures { (moment : ℕ) (purpose : List ℕ) (answers : Answers) (stream : List ℕ)
-        → result ≡ keeps_at Rule.WrongIssuer (terms_of anchors.now moment purpose answers) bundle.now.certificates stream place }
+// Whether the issuer of the certificate has the name of one of the anchors, or of the certificate
+// before.
+fn is_linked(certificate: &CertificateInner<Raw>, issuer: &Issuer<'_>) -> bool
+    requires { IsValid (raw_certificate Bound) (certificate_plain certificate.now) }
+    ensures { result ≡ linked_to Bound issuer.now (certificate_plain certificate.now) }
 {
-    let entry = bundle.get(place).unwrap();
-    if place == 0 {
-        return is_anchored(entry.certificate, anchors);
+    match *issuer {
+        Issuer::Anchors(anchors) => is_anchored(certificate, anchors),
+        Issuer::Before(before) => is_issued_by(certificate, before.tbs_certificate().subject()),
     }
-    let before = bundle.get(place - 1).unwrap();
-    is_linked_by(
-        entry.certificate,
-        before.certificate.tbs_certificate().subject(),
-    )
 }
 
-// Whether the judge says yes under the issuer's key: at the first place under that of an anchor of
-// the issuer's name, else under that of the certificate before.
+// Whether the judge says yes under the key of an anchor of the issuer's name, or of the certificate
+// before.
 fn is_signed<J: SignatureJudge>(
-    bundle: &Bundle,
-    place: usize,
-    anchors: &[Anchor],
+    entry: &Entry<'_>,
+    issuer: &Issuer<'_>,
     judge: &mut J,
     calls: &mut u64,
 ) -> bool
-    requires { place < length bundle.now.certificates }
-    ensures answered { (moment : ℕ) (purpose : List ℕ)
-        → result ≡ keeps_at Rule.WrongSignature (terms_of anchors.now moment purpose (J.answers judge.old)) bundle.now.certificates (joined Bound bundle.now.certificates) place }
+    requires { IsValid (raw_certificate Bound) (certificate_plain entry.now.certificate.now) }
+    ensures answered { result
+        ≡ signed_by Bound (J.answers judge.old) entry.now.signed.now (certificate_plain entry.now.certificate.now) issuer.now }
     ensures kept { J.answers judge.new ≡ J.answers judge.old }
-    ensures counted { (moment : ℕ) (purpose : List ℕ) → Rises
-        (asked_signature (terms_of anchors.now moment purpose (J.answers judge.old)) bundle.now.certificates (joined Bound bundle.now.certificates) place)
+    ensures counted { Rises
+        (asked_of Bound (J.answers judge.old) entry.now.signed.now (certificate_plain entry.now.certificate.now) issuer.now)
         (J.questions judge.old) calls.old (J.questions judge.new) calls.new }
 {
-    let entry = bundle.get(place).unwrap();
-    if place == 0 {
-        return is_signed_by_anchor(anchors, &entry, judge, calls);
+    match *issuer {
+        Issuer::Anchors(anchors) => is_signed_by_anchor(anchors, entry, judge, calls),
+        Issuer::Before(before) => {
+            let key = before.tbs_certificate().subject_public_key_info();
+            ask(key, entry, judge, calls)
+        }
     }
-    let before = bundle.get(place - 1).unwrap();
-    let key = before
-        .certificate
-        .tbs_certificate()
-        .subject_public_key_info();
-    ask(key, &entry, judge, calls)
 }
 
 // Whether the algorithm outside is the one that is signed, octet for octet (RFC 5280 4.1.1.2).
@@ -264,14 +247,15 @@ fn lasts(certificate: &CertificateInner<Raw>, moment: u64) -> bool
 }
 
 // Whether issuer and subject have the same octets.
-fn is_self_issued(certificate: &CertificateInner<Raw>) -> bool
+pub(crate) fn is_self_issued(certificate: &CertificateInner<Raw>) -> bool
     requires { IsValid (raw_certificate Bound) (certificate_plain certificate.now) }
     ensures { result ≡ is_self_issued Bound (certificate_plain certificate.now) }
 {
     is_issued_by(certificate, certificate.tbs_certificate().subject())
 }
 
-// Whether a place takes of the room that path lengths leave: there is one, and the place isn't the last, and isn't self-issued.
+// Whether a place takes of the room that path lengths leave: there is one, and the place isn't the
+// last, and isn't self-issued.
 fn takes_room(certificate: &CertificateInner<Raw>, is_last: bool, room: &PathRoom) -> bool
     requires { IsValid (raw_certificate Bound) (certificate_plain certificate.now) }
     ensures { result ≡ (is_some room.now.left && (not is_last && not (is_self_issued Bound (certificate_plain certificate.now)))) }
@@ -279,35 +263,34 @@ fn takes_room(certificate: &CertificateInner<Raw>, is_last: bool, room: &PathRoo
     room.is_limited() && (!is_last && !is_self_issued(certificate))
 }
 
-// The first rule before the signature that the certificate at a place breaks. Where it breaks none, the room that path lengths leave
-// is what is left behind it.
+// The first rule before the signature that a certificate breaks. Where it breaks none, the room that
+// path lengths leave is what is left behind it.
 fn first_unsigned(
     alloc: Global,
-    bundle: &Bundle,
-    place: usize,
-    anchors: &[Anchor],
+    certificate: &CertificateInner<Raw>,
+    is_last: bool,
+    issuer: &Issuer<'_>,
     moment: u64,
     purpose: &ObjectIdentifier<39>,
     room: &mut PathRoom,
 ) -> Result<Option<Rule>, AllocError>
-    requires within { place < length bundle.now.certificates }
-    requires room { IsRoom Bound bundle.now.certificates place room.old }
-    ensures judged { IfOk result (λ broken. (answers : Answers) (stream : List ℕ)
-        → IsFirstUnsigned (terms_of anchors.now moment purpose.now answers) bundle.now.certificates stream place broken) }
-    ensures room { IfOk result (λ broken. broken ≡ None → IsRoom Bound bundle.now.certificates (place + 1) room.new) }
+    requires { IsValid (raw_certificate Bound) (certificate_plain certificate.now) }
+    ensures judged { IfOk result (λ broken. (cs : List PlainCertificate) (anchors : List Anchor) (place : ℕ) (answers : Answers) (stream : List ℕ)
+        → StandsAt cs anchors place (certificate_plain certificate.now) is_last issuer.now room.old
+        → IsFirstUnsigned (terms_of anchors moment purpose.now answers) cs stream place broken) }
+    ensures room { IfOk result (λ broken. (cs : List PlainCertificate) (anchors : List Anchor) (place : ℕ)
+        → StandsAt cs anchors place (certificate_plain certificate.now) is_last issuer.now room.old
+        → broken ≡ None → IsRoom Bound cs (place + 1) room.new) }
 {
-    let certificate = bundle.get(place).unwrap().certificate;
     let extensions = extensions_of(certificate);
     let findings = findings_of(alloc, extensions, purpose)?;
-    let len = bundle.len();
-    let is_last = place + 1 == len;
     let counts = takes_room(certificate, is_last, room);
     let kept = KeptRules {
         one_algorithm: has_one_algorithm(certificate),
         distinct: are_distinct(extensions),
         well_formed: !findings.malformed,
         known: !findings.unweighed_critical,
-        linked: is_linked(bundle, place, anchors),
+        linked: is_linked(certificate, issuer),
         begun: has_begun(certificate, moment),
         lasting: lasts(certificate, moment),
         serving: findings.serves,
@@ -318,63 +301,8 @@ fn first_unsigned(
     Ok(kept.first_broken())
 }
 
-// A place that breaks a rule, and its first one.
-#[derive(Clone, Copy)]
-struct Breach {
-    place: usize,
-    rule: Rule,
-}
-
-// The first place that breaks a rule before the signature.
-fn first_breach(
-    alloc: Global,
-    bundle: &Bundle,
-    anchors: &[Anchor],
-    moment: u64,
-    purpose: &ObjectIdentifier<39>,
-) -> Result<Option<Breach>, AllocError>
-    ensures { IfOk result (λ breach. (answers : Answers) (stream : List ℕ)
-        → IsFirstBreach (terms_of anchors.now moment purpose.now answers) bundle.now.certificates stream breach) }
-{
-    let mut room = PathRoom::new();
-    for place in 0..bundle.len() {
-        let broken = first_unsigned(alloc, bundle, place, anchors, moment, purpose, &mut room)?;
-        if let Some(rule) = broken {
-            return Ok(Some(Breach { place, rule }));
-        }
-    }
-    Ok(None)
-}
-
-// The first of so many places about whose signature the judge says no. The places are asked about
-// in turn.
-fn first_refused<J: SignatureJudge>(
-    bundle: &Bundle,
-    until: usize,
-    anchors: &[Anchor],
-    judge: &mut J,
-    calls: &mut u64,
-) -> Option<usize>
-    requires { until ≤ length bundle.now.certificates }
-    ensures judged { (moment : ℕ) (purpose : List ℕ)
-        → AreUnsignedKept (terms_of anchors.now moment purpose (J.answers judge.old)) bundle.now.certificates (joined Bound bundle.now.certificates) until
-        → IsFirstRefused (terms_of anchors.now moment purpose (J.answers judge.old)) bundle.now.certificates (joined Bound bundle.now.certificates) until result }
-    ensures kept { J.answers judge.new ≡ J.answers judge.old }
-    ensures counted { (moment : ℕ) (purpose : List ℕ)
-        → AreUnsignedKept (terms_of anchors.now moment purpose (J.answers judge.old)) bundle.now.certificates (joined Bound bundle.now.certificates) until
-        → Rises (asked_up_to (terms_of anchors.now moment purpose (J.answers judge.old)) bundle.now.certificates (joined Bound bundle.now.certificates) until result)
-        (J.questions judge.old) calls.old (J.questions judge.new) calls.new }
-{
-    for place in 0..until {
-        if !is_signed(bundle, place, anchors, judge, calls) {
-            return Some(place);
-        }
-    }
-    None
-}
-
-// What is said of a whole chain. The places are judged in turn by the rules before the signature,
-// up to the first that breaks one; and the judge is asked about the places before it.
+// What is said of a whole chain. The places are judged in turn, up to the first that breaks a rule:
+// by the rules before the signature, and then by the judge.
 fn check_chain<J: SignatureJudge>(
     alloc: Global,
     bundle: &Bundle,
@@ -386,46 +314,44 @@ fn check_chain<J: SignatureJudge>(
     ensures judged { IfOk result (λ checked. (stream : List ℕ) → Chain Bound bundle.now.limit bundle.now.certificates stream
         → IsVerdict (terms_of anchors.now moment purpose.now (J.answers judge.old)) bundle.now.limit stream checked.verdict) }
     ensures kept { J.answers judge.new ≡ J.answers judge.old }
-    ensures counted { IfOk result (λ checked. (stream : List ℕ) → Chain Bound bundle.now.limit bundle.now.certificates stream → Rises
-        (asked (terms_of anchors.now moment purpose.now (J.answers judge.old)) bundle.now.certificates stream)
+    ensures counted { IfOk result (λ checked. Rises
+        (asked (terms_of anchors.now moment purpose.now (J.answers judge.old)) bundle.now.certificates (joined Bound bundle.now.certificates))
         (J.questions judge.old) 0 (J.questions judge.new) checked.calls) }
-    ensures untouched { OnErr result (judge.new ≡ judge.old) }
+    ensures stopped { OnErr result ((stream : List ℕ) → Chain Bound bundle.now.limit bundle.now.certificates stream
+        → StopsAsking (terms_of anchors.now moment purpose.now (J.answers judge.old)) bundle.now.limit stream (J.questions judge.old) (J.questions judge.new)) }
 {
-    let breach = first_breach(alloc, bundle, anchors, moment, purpose)?;
-    let until = until_of(bundle.len(), breach);
+    let len = bundle.len();
+    let mut issuer = Issuer::Anchors(anchors);
+    let mut room = PathRoom::new();
     let mut calls = 0;
-    let refused = first_refused(bundle, until, anchors, judge, &mut calls);
-    let verdict = verdict_of(bundle.len(), breach, refused);
-    Ok(Checked { verdict, calls })
-}
-
-// Up to which place the judge is asked in a chain of so many certificates.
-fn until_of(len: usize, breach: Option<Breach>) -> usize
-    ensures { result ≡ until_by len breach }
-{
-    match breach {
-        Some(breach) => breach.place,
-        None => len,
+    for place in 0..len {
+        let entry = bundle.get(place).unwrap();
+        let certificate = entry.certificate;
+        let is_last = place + 1 == len;
+        let broken = first_unsigned(
+            alloc,
+            certificate,
+            is_last,
+            &issuer,
+            moment,
+            purpose,
+            &mut room,
+        )?;
+        if let Some(rule) = broken {
+            let verdict = Verdict::Refused { place, rule };
+            return Ok(Checked { verdict, calls });
+        }
+        if !is_signed(&entry, &issuer, judge, &mut calls) {
+            let rule = Rule::WrongSignature;
+            let verdict = Verdict::Refused { place, rule };
+            return Ok(Checked { verdict, calls });
+        }
+        issuer = Issuer::Before(certificate);
     }
-}
-
-// The verdict on a chain of so many certificates, whose first place that breaks a rule before the
-// signature is this one, and the first one before whose signature is refused is that one.
-fn verdict_of(len: usize, breach: Option<Breach>, refused: Option<usize>) -> Verdict
-    ensures { result ≡ verdict_by len breach refused }
-{
-    if let Some(place) = refused {
-        return Verdict::Refused {
-            place,
-            rule: Rule::WrongSignature,
-        };
-    }
-    if let Some(Breach { place, rule }) = breach {
-        return Verdict::Refused { place, rule };
-    }
-    if len == 0 {
+    let verdict = if len == 0 {
         Verdict::Empty
     } else {
         Verdict::Trusted
-    }
+    };
+    Ok(Checked { verdict, calls })
 }

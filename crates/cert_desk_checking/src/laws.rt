@@ -1,5 +1,7 @@
 //! Laws of streams and of files of anchors. Each function does nothing: its contract is the law.
-ghost use Rattle.cert_desk_checking.specs.Laws.{HasOneSeries, HasOneSeriesFault, HasOneChain, FaultHasNoChain, HasOneFault, FaultStays, HasOneVerdict, HasOneAnchorFile};
+ghost use Rattle.cert_desk_checking.specs.ChainParts.{HasFewQuestions, HasTrustedFronts, HasTrustedRests, IgnoresStrangers, HasNothingOutside, HasOneStream};
+ghost use Rattle.cert_desk_checking.specs.Laws.{HasOneSeries, HasOneSeriesFault, HasOneChain, FaultHasNoChain, HasOneFault, FaultStays, HasOneVerdict, HasOneAnchorFile, IsJudgedAlike};
+ghost use Rattle.cert_desk_checking.specs.WiderBounds.{WiderKeepsChains, NewChainsHoldLarge, WiderKeepsTrust, WiderKeepsVerdicts, WiderKeepsFaults};
 
 /// No stream joins two lists of values of a shape whose values are told apart: each has a header, and
 /// first tags are kept apart.
@@ -43,4 +45,72 @@ pub fn one_verdict()
 /// No file of anchors gives two lists of anchors, or has two first faults, or both.
 pub fn one_anchor_file()
     ensures { HasOneAnchorFile }
+{}
+
+/// Judges that answer alike on what a chain may ask give one verdict, and are asked as often.
+///
+/// A chain may ask, about its first certificate, under the key of each anchor of the issuer's name,
+/// and about another under the key of the certificate before. So the verdict under a list of answers
+/// is the verdict under whoever gave them, whatever it says elsewhere.
+pub fn judged_alike()
+    ensures { IsJudgedAlike }
+{}
+
+/// The judge is asked at most once for each certificate behind the first, and for each anchor of the
+/// name of the first one's issuer.
+pub fn few_questions()
+    ensures { HasFewQuestions }
+{}
+
+/// Anchors of another name than the first certificate's issuer change neither the verdict nor how
+/// often the judge is asked.
+pub fn strangers_are_ignored()
+    ensures { IgnoresStrangers }
+{}
+
+/// Nothing stands outside what is judged: two chains whose places agree in signed octets, outer
+/// algorithm and signature are one stream.
+pub fn nothing_is_outside()
+    ensures { HasNothingOutside }
+{}
+
+/// Equal certificates, date spellings counted, are joined by one stream.
+pub fn one_stream()
+    ensures { HasOneStream }
+{}
+
+/// Each nonempty front of a trusted chain is trusted.
+pub fn fronts_are_trusted()
+    ensures { HasTrustedFronts }
+{}
+
+/// Each nonempty rest of a trusted chain is trusted, where the certificate before it is the only
+/// anchor.
+pub fn rests_are_trusted()
+    ensures { HasTrustedRests }
+{}
+
+/// A chain is the same chain under a wider bound of arcs, and a chain under a wide bound alone has a
+/// certificate in which an identifier holds an arc that isn't below the narrow one.
+pub fn wider_bounds_keep_chains()
+    ensures kept { WiderKeepsChains }
+    ensures new { NewChainsHoldLarge }
+{}
+
+/// A trusted stream is trusted under a wider bound of arcs, with as many questions.
+pub fn wider_bounds_keep_trust()
+    ensures { WiderKeepsTrust }
+{}
+
+/// A chain has the same verdict under a wider bound of arcs, with as many questions, unless the
+/// content of a weighed extension becomes readable, which then holds an arc that isn't below the
+/// narrow one.
+pub fn wider_bounds_keep_verdicts()
+    ensures { WiderKeepsVerdicts }
+{}
+
+/// A stream has the same fault under a wider bound of arcs, unless a certificate stands there under
+/// that bound; an identifier of it then holds an arc that isn't below the narrow one.
+pub fn wider_bounds_keep_faults()
+    ensures { WiderKeepsFaults }
 {}

@@ -2,10 +2,10 @@
 ghost use Rattle.std.specs.Prelude.{◌≡◌, IfOk, Some, string_bytes};
 ghost use Rattle.cert_desk_checking.specs.Lines.{kind_name, rule_name, fault_name, line_of, anchors_line};
 
+use crate::anchor_fault::AnchorFault;
 use crate::checked::{Checked, Verdict};
 use crate::fault_kind::FaultKind;
 use crate::rule::Rule;
-use crate::status::AnchorFault;
 use std::alloc::{AllocError, Global};
 use std::fmt;
 
@@ -60,8 +60,12 @@ impl fmt::Display for AnchorFault {
     }
 }
 
-// What is said of a stream.
-pub(crate) fn verdict_line(alloc: Global, checked: Checked) -> Result<String, AllocError>
+/// What is said of a stream, in one line.
+///
+/// # Errors
+///
+/// Where a growth was refused.
+pub fn verdict_line(alloc: Global, checked: Checked) -> Result<String, AllocError>
     ensures { IfOk result (λ line. string_bytes line ≡ line_of checked.verdict checked.calls) }
 {
     let calls = checked.calls;
@@ -79,12 +83,12 @@ pub(crate) fn verdict_line(alloc: Global, checked: Checked) -> Result<String, Al
     }
 }
 
-// What is said of anchors of which the one that begins at this offset has this fault.
-pub(crate) fn anchors_line(
-    alloc: Global,
-    offset: u64,
-    fault: AnchorFault,
-) -> Result<String, AllocError>
+/// What is said of anchors of which the one that begins at this offset has this fault, in one line.
+///
+/// # Errors
+///
+/// Where a growth was refused.
+pub fn anchors_line(alloc: Global, offset: u64, fault: AnchorFault) -> Result<String, AllocError>
     ensures { IfOk result (λ line. string_bytes line ≡ anchors_line offset fault) }
 {
     format!(in alloc; "anchors: {fault} at {offset}\n")

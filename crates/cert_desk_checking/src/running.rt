@@ -1,40 +1,51 @@
 //! A whole run, over any inputs and outputs.
 ghost use Rattle.std.specs.Prelude.{◌≡◌, ◌≢◌, ℕ, ◌<◌, ◌≤◌, List, map, IfOk, IfErr};
+ghost use Rattle.cert_desk_io.specs.Devices.{sink, source};
+ghost use Rattle.cert_desk_checking.specs.declared.outcome.Outcome.{Outcome};
 ghost use Rattle.cert_desk_checking.specs.declared.standing.Standing.{Standing};
-ghost use Rattle.cert_desk_checking.specs.declared.status.Outcome.{Outcome};
 ghost use Rattle.cert_desk_checking.specs.Anchors.{anchor_plain, purpose_plain};
-ghost use Rattle.cert_desk_checking.specs.Lines.{device_line};
 ghost use Rattle.cert_desk_checking.specs.Reading.{IsFed};
-ghost use Rattle.cert_desk_checking.specs.Runs.{HasAnchors, IsNoAnchors, IsFound, IsTried, IsComplaint, IsAnswer, IsTold, status_of};
+ghost use Rattle.cert_desk_checking.specs.Runs.{HasAnchors, HasNoAnchors, IsOutcome, IsTold, judging, status_of};
 
 use crate::anchor::Anchor;
+use crate::anchor_fault::AnchorFault;
 use crate::anchor_files::anchors_in;
 use crate::bundle::Bundle;
 use crate::checked::{CheckError, Checked, Verdict};
 use crate::checking::check;
 use crate::lines::{anchors_line, verdict_line};
+use crate::outcome::Outcome;
 use crate::signature_judge::SignatureJudge;
-use crate::status::{AnchorFault, Outcome, Status};
-use cert_desk_io::{Input, Output, ReadAllError, read_all, write_all};
+use cert_desk_io::{
+    ExitStatus, Input, Output, ReadAllError, answer, complain, read_all, tell_device, tell_memory,
+};
 use const_oid::ObjectIdentifier;
 use std::alloc::Global;
 
-// A bundle that was fed what an input gives.
-fn read_stream<I: Input>(alloc: Global, limit: u32, input: &mut I) -> Bundle
+/// A bundle that was fed what an input gives, to its end, to a fault, or to where memory was wanting
+/// or a read failed.
+pub fn read_stream<I: Input>(alloc: Global, limit: u32, input: &mut I) -> Bundle
     requires { 6 ≤ limit }
     ensures limit { result.limit ≡ limit }
     ensures ended { result.standing ≢ Standing.Open }
-    ensures fed { IsFed I.takes I.is_ended I.failures input.old input.new result }
+    ensures fed { IsFed (source I.takes I.is_ended I.failures input.old input.new) result }
 {
     let mut bundle = Bundle::new(alloc, limit);
     let _ = bundle.read_from(input);
     bundle
 }
 
-// The anchors that an input gives, or why there are none.
-fn read_anchors<A: Input>(alloc: Global, input: &mut A) -> Result<Vec<Anchor>, Outcome>
-    ensures read { IfOk result (λ anchors. HasAnchors A.takes A.is_ended A.failures input.old input.new (map anchor_plain anchors.items)) }
-    ensures stopped { IfErr result (λ outcome. IsNoAnchors A.takes A.is_ended A.failures input.old input.new outcome) }
+/// The anchors that an input gives.
+///
+/// # Errors
+///
+/// `BadAnchors` where one is faulty, or there are 2^32 octets or more, of which the first one is told;
+/// `Device` and `OutOfMemory`.
+pub fn read_anchors<A: Input>(alloc: Global, input: &mut A) -> Result<Vec<Anchor>, Outcome>
+    ensures read { IfOk result (λ anchors. HasAnchors
+        (source A.takes A.is_ended A.failures input.old input.new) (map anchor_plain anchors.items)) }
+    ensures stopped { IfErr result
+        (HasNoAnchors (source A.takes A.is_ended A.failures input.old input.new)) }
 {
     let octets = match read_all(alloc, input, u32::MAX) {
         Ok(octets) => octets,
@@ -64,8 +75,9 @@ fn find_outcome<A: Input, S: Input, J: SignatureJudge>(
     judge: &mut J,
 ) -> Outcome
     requires { 6 ≤ limit }
-    ensures found { IsFound A.takes A.is_ended A.failures S.takes S.is_ended S.failures J.answers J.questions
-        anchors.old anchors.new stream.old stream.new judge.old judge.new moment (purpose_plain purpose.now) limit result }
+    ensures found { IsOutcome (source A.takes A.is_ended A.failures anchors.old anchors.new)
+        (source S.takes S.is_ended S.failures stream.old stream.new)
+        (judging J.answers J.questions judge.old judge.new) moment (purpose_plain purpose.now) limit result }
     ensures kept { J.answers judge.new ≡ J.answers judge.old }
 {
     let anchors = match read_anchors(alloc, anchors) {
@@ -80,61 +92,39 @@ fn find_outcome<A: Input, S: Input, J: SignatureJudge>(
     }
 }
 
-fn status_of(verdict: Verdict) -> Status
+/// The status of a run that comes to this verdict.
+pub fn status_of(verdict: Verdict) -> ExitStatus
     ensures { result ≡ status_of verdict }
 {
     match verdict {
-        Verdict::Trusted => Status::Trusted,
-        Verdict::Refused { .. } => Status::Refused,
-        Verdict::StreamFault { .. } => Status::Faulty,
-        Verdict::Empty => Status::Empty,
+        Verdict::Trusted => ExitStatus::Done,
+        Verdict::Refused { .. } => ExitStatus::Refused,
+        Verdict::StreamFault { .. } => ExitStatus::Faulty,
+        Verdict::Empty => ExitStatus::Empty,
     }
-}
-
-// Tells that a device failed, once.
-fn tell_device<E: Output>(err: &mut E) -> Status
-    ensures status { result ≡ Status.Device }
-    ensures tried { IsTried E.gives E.failures err.old device_line err.new }
-{
-    let _ = write_all(err, b"device\n");
-    Status::Device
-}
-
-// Writes a text to the error output.
-fn complain<E: Output>(err: &mut E, text: &[u8], status: Status) -> Status
-    ensures { IsComplaint E.gives E.failures err.old text.now status err.new result }
-{
-    if write_all(err, text).is_ok() {
-        return status;
-    }
-    tell_device(err)
-}
-
-// Writes a text to the output.
-fn answer<O: Output, E: Output>(out: &mut O, err: &mut E, text: &[u8], status: Status) -> Status
-    ensures { IsAnswer O.gives O.failures E.gives E.failures out.old err.old text.now status out.new err.new result }
-{
-    if write_all(out, text).is_ok() {
-        return status;
-    }
-    tell_device(err)
 }
 
 // Tells an outcome, in one line.
-fn tell<O: Output, E: Output>(alloc: Global, outcome: Outcome, out: &mut O, err: &mut E) -> Status
-    ensures { IsTold O.gives O.failures E.gives E.failures out.old err.old out.new err.new outcome result }
+fn tell<O: Output, E: Output>(
+    alloc: Global,
+    outcome: Outcome,
+    out: &mut O,
+    err: &mut E,
+) -> ExitStatus
+    ensures { IsTold (sink O.gives O.failures out.old out.new)
+        (sink E.gives E.failures err.old err.new) outcome result }
 {
     match outcome {
         Outcome::Checked(checked) => match verdict_line(alloc, checked) {
             Ok(line) => answer(out, err, line.as_bytes(), status_of(checked.verdict)),
-            Err(_) => complain(err, b"memory\n", Status::Memory),
+            Err(_) => tell_memory(err),
         },
         Outcome::BadAnchors { offset, fault } => match anchors_line(alloc, offset, fault) {
-            Ok(line) => complain(err, line.as_bytes(), Status::Arguments),
-            Err(_) => complain(err, b"memory\n", Status::Memory),
+            Ok(line) => complain(err, line.as_bytes(), ExitStatus::Arguments),
+            Err(_) => tell_memory(err),
         },
         Outcome::Device => tell_device(err),
-        Outcome::OutOfMemory => complain(err, b"memory\n", Status::Memory),
+        Outcome::OutOfMemory => tell_memory(err),
     }
 }
 
@@ -149,7 +139,7 @@ fn tell<O: Output, E: Output>(alloc: Global, outcome: Outcome, out: &mut O, err:
 /// To `out` go `trusted calls=N`, `refused PLACE RULE calls=N`, `fault PLACE OFFSET KIND` and
 /// `empty`, to `err` go `anchors: malformed at OFFSET`, `anchors: no name at OFFSET`,
 /// `anchors: path controls at OFFSET`, `device` and `memory`. A text that can't be written is
-/// `Status::Device`, whose word is tried once.
+/// `ExitStatus::Device`, whose word is tried once.
 pub fn run_check<A: Input, S: Input, O: Output, E: Output, J: SignatureJudge>(
     alloc: Global,
     anchors: &mut A,
@@ -160,13 +150,15 @@ pub fn run_check<A: Input, S: Input, O: Output, E: Output, J: SignatureJudge>(
     purpose: &ObjectIdentifier<39>,
     limit: u32,
     judge: &mut J,
-) -> Status
+) -> ExitStatus
     requires { 6 ≤ limit }
     // What is told, and the status, are those of what is found in the octets that were taken.
     ensures told { (outcome : Outcome)
-        × IsFound A.takes A.is_ended A.failures S.takes S.is_ended S.failures J.answers J.questions
-        anchors.old anchors.new stream.old stream.new judge.old judge.new moment (purpose_plain purpose.now) limit outcome
-        × IsTold O.gives O.failures E.gives E.failures out.old err.old out.new err.new outcome result }
+        × IsOutcome (source A.takes A.is_ended A.failures anchors.old anchors.new)
+        (source S.takes S.is_ended S.failures stream.old stream.new)
+        (judging J.answers J.questions judge.old judge.new) moment (purpose_plain purpose.now) limit outcome
+        × IsTold (sink O.gives O.failures out.old out.new)
+        (sink E.gives E.failures err.old err.new) outcome result }
     ensures kept { J.answers judge.new ≡ J.answers judge.old }
 {
     let outcome = find_outcome(alloc, anchors, stream, moment, purpose, limit, judge);

@@ -1,129 +1,69 @@
-// The header of a certificate (X.690 8.1.2, 8.1.3, 10.1).
-ghost use Rattle.std.specs.Prelude.{◌≡◌, ℕ, ◌<◌, ◌≤◌, ◌^◌, List, ◌++◌, length};
-ghost use Rattle.std.specs.Int.Digits.{number_from_digits};
+// Where a certificate ends, by the header at its front.
+ghost use Rattle.std.specs.Prelude.{◌≡◌, ℕ, ◌<◌, ◌≤◌, ◌^◌, List, ◌++◌, length, IfSome, IfOk, IfErr};
 ghost use Rattle.der_core_head.specs.declared.tag.Tag.TheVariants as tags;
 ghost use Rattle.der_core_head.specs.Heads.{head_octets};
 ghost use Rattle.cert_desk_checking.specs.Faults.{whole_length};
-ghost use Rattle.cert_desk_checking.specs.Headers.{IsLengthAt, IsScan};
+ghost use Rattle.cert_desk_checking.specs.Headers.{fault_of, HasWhole, IsWanted, IsEarlyFault};
 
 use crate::fault_kind::FaultKind;
+use der_core_head::ErrorKind;
+use der_core_headers::Header;
 
-// What stands where a length should.
-#[derive(Clone, Copy)]
-pub(crate) enum LengthAt {
-    // Octets are missing.
-    Cut,
-    Refused(FaultKind),
-    // A length in its shortest form, of `octets` octets.
-    Is { octets: usize, number: u32 },
-}
-
-// What stands where a certificate should.
-#[derive(Clone, Copy)]
-pub(crate) enum Scan {
-    // Octets are missing.
-    Wait,
-    Refused(FaultKind),
-    // Header and content are there, `len` octets, of which `header` are the header's.
-    Whole { header: usize, len: usize },
-}
-
-// The number that up to four digits in base 256 spell.
-fn number(digits: &[u8]) -> u32
-    requires { length digits.now ≤ 4 }
-    ensures { result ≡ number_from_digits 256 digits.now }
+// What a fault of the header is to a stream.
+fn fault_of(kind: ErrorKind) -> FaultKind
+    ensures { result ≡ fault_of kind }
 {
-    let mut number = 0;
-    for digit in digits {
-        number = number * 256 + u32::from(*digit);
-    }
-    number
-}
-
-// The least number whose shortest form has so many digits.
-fn least(digits: usize) -> u32
-    ensures one { digits ≡ 1 → result ≡ 128 }
-    ensures two { digits ≡ 2 → result ≡ 256 }
-    ensures three { digits ≡ 3 → result ≡ 65536 }
-    ensures four { digits ≡ 4 → result ≡ 16777216 }
-{
-    match digits {
-        1 => 0x80,
-        2 => 0x100,
-        3 => 0x1_0000,
-        _ => 0x100_0000,
+    match kind {
+        ErrorKind::IndefiniteLength => FaultKind::Indefinite,
+        ErrorKind::Overlength => FaultKind::LengthTooWide,
+        _ => FaultKind::LengthNotShortest,
     }
 }
 
-// The length with which these octets begin.
-pub(crate) fn length_at(octets: &[u8]) -> LengthAt
-    ensures { IsLengthAt octets.now result }
+// How many octets have to be there, of a certificate that begins these, at this offset of a stream:
+// all of it, or, while its header isn't whole, one more than there are.
+pub(crate) fn wanted_len(octets: &[u8], offset: u64, limit: u32) -> Result<usize, FaultKind>
+    requires { 6 ≤ limit }
+    ensures wanted { IfOk result (IsWanted limit offset octets.now) }
+    ensures fault { IfErr result (IsEarlyFault limit offset octets.now) }
 {
-    let [first, rest @ ..] = octets else {
-        return LengthAt::Cut;
-    };
-    let first = *first;
-    if first < 0x80 {
-        return LengthAt::Is {
-            octets: 1,
-            number: u32::from(first),
-        };
-    }
-    if first == 0x80 {
-        return LengthAt::Refused(FaultKind::Indefinite);
-    }
-    if first > 0x84 {
-        return LengthAt::Refused(FaultKind::LengthTooWide);
-    }
-    let count = usize::from(first - 0x80);
-    if rest.len() < count {
-        return LengthAt::Cut;
-    }
-    let number = number(&rest[..count]);
-    if number < least(count) {
-        return LengthAt::Refused(FaultKind::LengthNotShortest);
-    }
-    LengthAt::Is {
-        octets: 1 + count,
-        number,
-    }
-}
-
-// What stands at the front of the rest of a stream, which begins at this offset.
-pub(crate) fn scan_header(rest: &[u8], offset: u64, limit: u32) -> Scan
-    ensures { IsScan limit offset rest.now result }
-{
-    let [first, octets @ ..] = rest else {
-        return Scan::Wait;
+    let [first, ..] = octets else {
+        return Ok(1);
     };
     if *first != 0x30 {
-        return Scan::Refused(FaultKind::NoCertificate);
+        return Err(FaultKind::NoCertificate);
     }
-    let (header, number) = match length_at(octets) {
-        LengthAt::Cut => return Scan::Wait,
-        LengthAt::Refused(kind) => return Scan::Refused(kind),
-        LengthAt::Is { octets, number } => (1 + octets, number),
+    let (header, count) = match Header::scan(octets) {
+        Ok(Some(front)) => front,
+        Ok(None) => return Ok(octets.len() + 1),
+        Err(error) => return Err(fault_of(error.kind)),
     };
-    let len = header as u64 + u64::from(number);
+    let len = count as u64 + u64::from(header.length.value);
     if len > u64::from(limit) || len > u64::MAX - offset {
-        return Scan::Refused(FaultKind::TooLarge);
+        return Err(FaultKind::TooLarge);
     }
-    let len = len as usize;
-    if rest.len() < len {
-        return Scan::Wait;
-    }
-    Scan::Whole { header, len }
+    Ok(len as usize)
 }
 
-// How many octets the SEQUENCE has with which these octets begin.
-pub(crate) fn sequence_len(octets: &[u8]) -> usize
-    ensures { (n : ℕ) (w : List ℕ) → n < 2 ^ 32 → octets.now ≡ head_octets tags.Sequence n ++ w → result ≡ whole_length n }
+// How many octets the certificate has that stands whole at the front of these.
+pub(crate) fn whole_len(octets: &[u8], offset: u64, limit: u32) -> Option<usize>
+    requires { 6 ≤ limit }
+    ensures { IfSome result (HasWhole limit offset octets.now) }
 {
-    let [_, rest @ ..] = octets else {
-        return 0;
-    };
-    match length_at(rest) {
-        LengthAt::Is { octets, number } => 1 + octets + number as usize,
-        _ => 0,
+    match wanted_len(octets, offset, limit) {
+        Ok(len) if len <= octets.len() => Some(len),
+        _ => None,
+    }
+}
+
+// How many octets the header takes of a SEQUENCE that begins these, and how many all of it.
+pub(crate) fn sequence_len(octets: &[u8]) -> (usize, usize)
+    ensures { (n : ℕ) (w : List ℕ) → n < 2 ^ 32 → octets.now ≡ head_octets tags.Sequence n ++ w
+        → (result.0 ≡ length (head_octets tags.Sequence n)) × (result.1 ≡ whole_length n) }
+{
+    match Header::scan(octets) {
+        Ok(Some((header, count))) => (count, count + header.length.value as usize),
+        Ok(None) => (0, 0),
+        Err(_) => (0, 0),
     }
 }

@@ -1,5 +1,6 @@
--- What contracts say of a device: how its count of failures moves, and how much of a text went out.
-use Rattle.std.specs.Prelude.{◌≡◌, ℕ, ◌+◌, ◌-◌, ◌^◌, ◌<◌, ◌⊎◌, min, List, length, take}
+-- What contracts say of a device: what it did from one state to another, how its count of failures moved, and how much of a text
+-- went out.
+use Rattle.std.specs.Prelude.{◌≡◌, ℕ, ◌+◌, ◌-◌, ◌^◌, ◌<◌, ◌⊎◌, min, List, [], length, take}
 
 -- a count of failures rose: it is greater, or stands at the most that 64 bits hold
 abbrev pub Rose : ℕ → ℕ → Type 0
@@ -9,6 +10,54 @@ Rose old new = (old < new) ⊎ (new ≡ 2 ^ 64 - 1)
 abbrev pub one_more : ℕ → ℕ
 one_more failures = min (failures + 1) (2 ^ 64 - 1)
 
--- a beginning of the text went out, and not the whole
-abbrev pub GivesBeginning : {State : Type 0} → (State → List ℕ → State → Type 0) → State → List ℕ → State → Type 0
-GivesBeginning gives old text new = (sent : ℕ) × (sent < length text) × gives old (take sent text) new
+-- What contracts see of a device over a call: which octets move from a state to a later one, in turn, in which states the last read
+-- met the end, how many calls have failed, and the states before and behind.
+pub record Device : Type 1 where
+  pub State : Type 0
+  pub moves : State → List ℕ → State → Type 0
+  pub is_ended : State → Type 0
+  pub failures : State → ℕ
+  pub old : State
+  pub new : State
+
+-- an input
+abbrev pub source : {State : Type 0} → (State → List ℕ → State → Type 0) → (State → Type 0) → (State → ℕ) → State → State → Device
+source {State} takes is_ended failures old new =
+    record { State = State; moves = takes; is_ended = is_ended; failures = failures; old = old; new = new }
+
+-- an output, which never ends
+abbrev pub sink : {State : Type 0} → (State → List ℕ → State → Type 0) → (State → ℕ) → State → State → Device
+sink {State} gives failures old new =
+    record { State = State; moves = gives; is_ended = λ _. ⊥; failures = failures; old = old; new = new }
+
+-- these octets were moved, in turn
+abbrev pub Moved : Device → List ℕ → Type 0
+Moved d octets = d.moves d.old octets d.new
+
+-- the last read met the end
+abbrev pub MetEnd : Device → Type 0
+MetEnd d = d.is_ended d.new
+
+-- no call failed
+abbrev pub Sound : Device → Type 0
+Sound d = d.failures d.new ≡ d.failures d.old
+
+-- nothing was asked of it
+abbrev pub Untouched : Device → Type 0
+Untouched d = d.new ≡ d.old
+
+-- A call failed: before it these octets were moved and no call failed, and from then on nothing was moved.
+pub record Fails (d : Device) (octets : List ℕ) : Type 0 where
+  pub before : d.State
+  pub moved : d.moves d.old octets before
+  pub sound : d.failures before ≡ d.failures d.old
+  pub stopped : d.moves before [] d.new
+  pub rose : Rose (d.failures before) (d.failures d.new)
+
+-- the text went out, and no write failed
+abbrev pub IsWritten : Device → List ℕ → Type 0
+IsWritten d text = Moved d text × Sound d
+
+-- a write failed: a beginning of the text went out, and not the whole
+abbrev pub IsCut : Device → List ℕ → Type 0
+IsCut d text = (sent : ℕ) × (sent < length text) × Fails d (take sent text)

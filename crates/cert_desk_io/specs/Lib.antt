@@ -4,3 +4,4 @@ pub mod Writers
 pub mod Pieces
 pub mod Memory
 pub mod Whole
+pub mod Telling

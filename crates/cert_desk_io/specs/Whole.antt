@@ -1,8 +1,8 @@
 -- An input that is read whole.
-use Rattle.std.specs.Prelude.{◌≡◌, ℕ, ◌+◌, ◌≤◌, List, length, codes}
+use Rattle.std.specs.Prelude.{◌≡◌, ℕ, ◌+◌, ◌-◌, ◌^◌, ◌≤◌, List, length, codes}
 use Rattle.cert_desk_io.specs.declared.read_all_error.ReadAllError.{ReadAllError}
 use Rattle.cert_desk_io.specs.declared.read_all_error.ReadAllError.TheVariants as errors
-use Rattle.cert_desk_io.specs.Devices.{Rose}
+use Rattle.cert_desk_io.specs.Devices.{Device, Moved, MetEnd, Sound, Fails}
 
 -- how each error is told
 abbrev pub read_all_text : ReadAllError → List ℕ
@@ -10,9 +10,17 @@ read_all_text errors.TooMuch = codes "too many octets"
 read_all_text errors.Device = codes "a device failed"
 read_all_text errors.OutOfMemory = codes "out of memory"
 
+-- the most octets that a run takes of a file
+abbrev pub most_octets : ℕ
+most_octets = 2 ^ 32 - 1
+
+-- These are all octets of an input, and no more than the most. No read failed.
+abbrev pub IsWhole : Device → ℕ → List ℕ → Type 0
+IsWhole d most octets = Moved d octets × (length octets ≤ most) × MetEnd d × Sound d
+
 -- Why an input wasn't read to its end. One octet more than the most was taken and no further one, a read failed, or there was
 -- no memory for what was taken. No read failed but where that is told.
-abbrev pub IsUnread : {Source : Type 0} → (Source → List ℕ → Source → Type 0) → (Source → ℕ) → Source → Source → ℕ → ReadAllError → Type 0
-IsUnread takes failures old new most errors.TooMuch = (octets : List ℕ) × takes old octets new × (length octets ≡ most + 1) × (failures new ≡ failures old)
-IsUnread takes failures old new most errors.Device = (octets : List ℕ) × takes old octets new × (length octets ≤ most) × Rose (failures old) (failures new)
-IsUnread takes failures old new most errors.OutOfMemory = (octets : List ℕ) × takes old octets new × (length octets ≤ most + 1) × (failures new ≡ failures old)
+abbrev pub IsUnread : Device → ℕ → ReadAllError → Type 0
+IsUnread d most errors.TooMuch = (octets : List ℕ) × Moved d octets × (length octets ≡ most + 1) × Sound d
+IsUnread d most errors.Device = (octets : List ℕ) × (length octets ≤ most) × Fails d octets
+IsUnread d most errors.OutOfMemory = (octets : List ℕ) × Moved d octets × (length octets ≤ most + 1) × Sound d

@@ -1,7 +1,7 @@
 // What octets come from.
 ghost use Rattle.std.specs.Prelude.{◌≡◌, ℕ, ◌<◌, ◌≤◌, ◌↔◌, List, [], ◌++◌, length, take, IfOk, IfErr, OnOk, OnErr};
-ghost use Rattle.cert_desk_io.specs.Devices.{Rose};
-ghost use Rattle.cert_desk_io.specs.Whole.{IsUnread};
+ghost use Rattle.cert_desk_io.specs.Devices.{Rose, source};
+ghost use Rattle.cert_desk_io.specs.Whole.{IsWhole, IsUnread};
 
 use super::{DeviceError, ReadAllError};
 use std::alloc::Global;
@@ -65,11 +65,10 @@ impl<I: Input> Input for &mut I {
 /// `TooMuch` where it gives more, of which one is taken, `Device` where a read failed, and
 /// `OutOfMemory`. No read is tried again.
 pub fn read_all<I: Input>(alloc: Global, input: &mut I, most: u32) -> Result<Vec<u8>, ReadAllError>
-    ensures within { IfOk result (λ octets. length octets.items ≤ most) }
-    ensures taken { IfOk result (λ octets. I.takes input.old octets.items input.new) }
-    ensures end { OnOk result (I.is_ended input.new) }
-    ensures sound { OnOk result (I.failures input.new ≡ I.failures input.old) }
-    ensures refused { IfErr result (IsUnread I.takes I.failures input.old input.new most) }
+    ensures whole { IfOk result
+        (λ octets. IsWhole (source I.takes I.is_ended I.failures input.old input.new) most octets.items) }
+    ensures unread { IfErr result
+        (IsUnread (source I.takes I.is_ended I.failures input.old input.new) most) }
 {
     let most = most as usize;
     let mut octets = Vec::new(alloc);

@@ -1,6 +1,6 @@
 // What octets go to.
 ghost use Rattle.std.specs.Prelude.{◌≡◌, ℕ, ◌<◌, ◌≤◌, List, [], ◌++◌, length, take, IfOk, OnOk, OnErr};
-ghost use Rattle.cert_desk_io.specs.Devices.{Rose, GivesBeginning};
+ghost use Rattle.cert_desk_io.specs.Devices.{Rose, IsCut, IsWritten, sink};
 
 use super::DeviceError;
 
@@ -56,12 +56,9 @@ impl<O: Output> Output for &mut O {
 ///
 /// `DeviceError` where a write failed. No write is tried again: a beginning of the text went out.
 pub fn write_all<O: Output>(output: &mut O, text: &[u8]) -> Result<(), DeviceError>
-    ensures given { OnOk result (O.gives output.old text.now output.new) }
-    ensures sound { OnOk result (O.failures output.new ≡ O.failures output.old) }
-
-    // After a failure.
-    ensures beginning { OnErr result (GivesBeginning O.gives output.old text.now output.new) }
-    ensures rose { OnErr result (Rose (O.failures output.old) (O.failures output.new)) }
+    ensures written { OnOk result
+        (IsWritten (sink O.gives O.failures output.old output.new) text.now) }
+    ensures cut { OnErr result (IsCut (sink O.gives O.failures output.old output.new) text.now) }
 {
     let mut sent = 0;
     while sent < text.len() {

@@ -1,5 +1,5 @@
 -- A stream that was issued is judged under its own root.
-use Rattle.std.proofs.Common.{◌≡◌, ◌≢◌, ℕ, ◌-◌, ◌^◌, ◌<◌, List, [], ◌∷◌, ◌++◌, length, map, Some, slice_get, refl, sym, ap, ◌∙◌, subst, arith}
+use Rattle.std.proofs.Common.{◌≡◌, ◌≢◌, ◌⊎◌, inl, inr, ℕ, ◌-◌, ◌^◌, ◌<◌, List, [], ◌∷◌, ◌++◌, length, map, Some, Result, Ok, Err, OnErr, slice_get, refl, sym, ap, ◌∙◌, subst, arith}
 use Rattle.const_oid.specs.Bound.{Bound}
 use Rattle.der_core_head.specs.Limits.{length_max}
 use Rattle.cert_desk_checking.specs.Certificates.{PlainCertificate, PlainName, PublicKey, public_key}
@@ -9,6 +9,7 @@ use Rattle.cert_desk_checking.specs.declared.checked.CheckError.{CheckError}
 use Rattle.cert_desk_checking.specs.declared.checked.CheckError.TheVariants as errors
 use Rattle.cert_desk_checking.specs.declared.checked.Verdict.{Verdict}
 use Rattle.cert_desk_checking.specs.declared.checked.Verdict.TheVariants as verdicts
+use Rattle.cert_desk_checking.specs.declared.standing.Standing.{Standing}
 use Rattle.cert_desk_checking.specs.declared.standing.Standing.TheVariants as standings
 use Rattle.cert_desk_checking.specs.Chains.{Chain}
 use Rattle.cert_desk_checking.specs.Judging.{Answers, PlainAnchor, Terms}
@@ -89,6 +90,19 @@ module _ (root : PlainOrder) (below : List PlainOrder) (cs own : List PlainCerti
   under_root anchors moment purpose answers n limit P same_anchors same_limit p =
       subst (λ k. P (terms_for root moment purpose answers) k) same_limit
       (subst (λ (xs : List PlainAnchor). P (record { bound = Bound; anchors = xs; moment = moment; purpose = purpose; answers = answers }) n) (same_anchors ∙ anchors_are) p)
+
+-- what is so is so of an error
+pub on_error : {T E : Type 0} {P : Type 0} (r : Result T E) → P → OnErr r P
+on_error (Ok x) p = tt
+on_error (Err e) p = p
+
+-- one thing where a bundle's stream isn't whole, and another one where it is
+pub asked_or_not : {A B : Type 0} (s : Standing) → ((s ≢ standings.Ended) → A) → (s ≡ standings.Ended → B) → A ⊎ B
+asked_or_not standings.Open other ended = inl (other (λ e. absurd cc))
+asked_or_not standings.Ended other ended = inr (ended refl)
+asked_or_not (standings.Faulted kind) other ended = inl (other (λ e. absurd cc))
+asked_or_not standings.NoMemory other ended = inl (other (λ e. absurd cc))
+asked_or_not standings.NoDevice other ended = inl (other (λ e. absurd cc))
 
 -- trusted exactly where it is permitted
 pub exactly : (root : PlainOrder) (below : List PlainOrder) (cs : List PlainCertificate) (stream : List ℕ) (limit moment : ℕ) (purpose : List ℕ) (answers : Answers) (v : Verdict)

@@ -1,5 +1,6 @@
 -- The texts of a run of `issue`, each one line ended by LF.
 use Rattle.std.specs.Prelude.{ℕ, List, ◌++◌, codes, decimal}
+use Rattle.cert_desk_io.specs.Telling.{memory_line}
 use Rattle.cert_desk_issuing.specs.declared.issue_error.IssueError.{IssueError}
 use Rattle.cert_desk_issuing.specs.declared.issue_error.IssueError.TheVariants as errors
 
@@ -10,12 +11,6 @@ order_line place reason = codes "order " ++ decimal place ++ codes " " ++ reason
 -- all orders, and what they are refused for
 abbrev pub orders_line : List ℕ → List ℕ
 orders_line reason = codes "orders " ++ reason ++ codes "\n"
-
-abbrev pub memory_line : List ℕ
-memory_line = codes "memory\n"
-
-abbrev pub device_line : List ℕ
-device_line = codes "device\n"
 
 -- what is said of orders of which no chain is issued
 abbrev pub refusal_line : IssueError → List ℕ

@@ -1,6 +1,6 @@
 //! Whether what was issued is trusted.
 
-ghost use Rattle.std.specs.Prelude.{◌≡◌, ◌≢◌, ◌≤◌, ◌↔◌, ℕ, List, ◌∷◌, map, IfOk, IfErr, OnErr};
+ghost use Rattle.std.specs.Prelude.{◌≡◌, ◌≢◌, ◌≤◌, ◌↔◌, ◌⊎◌, ℕ, List, ◌∷◌, map, IfOk, IfErr, OnErr};
 ghost use Rattle.const_oid.specs.Bound.{Bound};
 ghost use Rattle.der_core_head.specs.Grammar.{plain_list};
 ghost use Rattle.cert_desk_checking.specs.Certificates.{PlainCertificate};
@@ -10,7 +10,7 @@ ghost use Rattle.cert_desk_checking.specs.declared.checked.Verdict.TheVariants a
 ghost use Rattle.cert_desk_checking.specs.declared.standing.Standing.TheVariants as standings;
 ghost use Rattle.cert_desk_checking.specs.Anchors.{anchor_plain};
 ghost use Rattle.cert_desk_checking.specs.Streams.{Reads};
-ghost use Rattle.cert_desk_checking.specs.Verdicts.{IsCounted, IsVerdict};
+ghost use Rattle.cert_desk_checking.specs.Verdicts.{IsCounted, IsVerdict, StopsAsking};
 ghost use Rattle.cert_desk_issuing.specs.Auditing.{root_anchor, root_anchors};
 ghost use Rattle.cert_desk_issuing.specs.Chains.{HoldsOrders};
 ghost use Rattle.cert_desk_issuing.specs.Laws.{Permits, terms_for};
@@ -30,7 +30,8 @@ impl Issued {
     /// the path lengths are enough, each certificate is within the limit, and the judge says yes to each signature under the ordered key.
     ///
     /// # Errors
-    /// Want of memory. The judge wasn't asked.
+    /// Want of memory. The judge wasn't asked, or was about the certificates before some place, which
+    /// keep every rule.
     pub fn audit<J: SignatureJudge>(
         &self,
         alloc: Global,
@@ -51,7 +52,9 @@ impl Issued {
             → IsCounted (terms_for root moment purpose.now (J.answers judge.old)) limit self.now.stream checked (J.questions judge.old) (J.questions judge.new)) }
         ensures kept { J.answers judge.new ≡ J.answers judge.old }
         ensures refused { IfErr result (λ e. e ≡ errors.OutOfMemory) }
-        ensures untouched { OnErr result (judge.new ≡ judge.old) }
+        ensures stopped { OnErr result ((judge.new ≡ judge.old) ⊎ ((root : PlainOrder) (below : List PlainOrder) (cs : List PlainCertificate)
+            → HoldsOrders (root ∷ below) cs self.now.stream
+            → StopsAsking (terms_for root moment purpose.now (J.answers judge.old)) limit self.now.stream (J.questions judge.old) (J.questions judge.new))) }
     {
         let anchors = anchors_of(alloc, self.certificates())?;
         let bundle = read(alloc, limit, self.stream());

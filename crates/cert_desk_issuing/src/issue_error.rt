@@ -1,60 +1,45 @@
 //! Why no chain is issued.
 
-use cert_desk_checking::types::builder::Error;
-use std::{error, fmt};
+use cert_desk_checking::types::builder;
+use thiserror::Error;
 
 /// Why no chain is issued. A place is that of the order, counted from 0.
-#[derive(Debug, Drop)]
+#[derive(Debug, Drop, Error)]
 pub enum IssueError {
     /// There is no order.
+    #[error("there is no order")]
     NoOrders,
     /// There aren't as many signers as are needed: one for each order that is followed by one, and one for a root alone.
+    #[error("signers and orders don't fit together")]
     SignerCount,
     /// The text of the name isn't read.
+    #[error("order {place}: the name isn't read")]
     Name { place: usize },
     /// The name isn't one of an authority.
-    RootName { place: usize, error: Error },
+    #[error("order {place}: {error}")]
+    RootName { place: usize, error: builder::Error },
     /// The name has an attribute that is no country and no common name.
+    #[error("order {place}: an attribute may not stand there")]
     SubscriberName { place: usize },
     /// The serial number has no octets, or more than 20.
+    #[error("order {place}: the serial number")]
     Serial { place: usize },
     /// The text of a date isn't read, or the last date is before the first.
+    #[error("order {place}: the dates")]
     Dates { place: usize },
     /// There is no DNS name, or one that isn't ASCII.
+    #[error("order {place}: the DNS names")]
     DnsName { place: usize },
     /// The signer's key isn't that of the order.
+    #[error("order {place}: the signer has another key")]
     KeyMismatch { place: usize },
     /// The signer refuses the signed part.
+    #[error("order {place}: the signer refuses")]
     Signer { place: usize },
     /// A length passes 2^32 - 1.
+    #[error("order {place}: too long")]
     TooLong { place: usize },
     /// Want of memory, of this call or of a signer.
+    #[error("out of memory")]
     OutOfMemory,
 }
-
-impl fmt::Display for IssueError {
-    fn fmt<W: fmt::Write>(&self, f: &mut fmt::Formatter<W>) -> fmt::Result {
-        match self {
-            IssueError::NoOrders => f.write_str("there is no order"),
-            IssueError::SignerCount => f.write_str("signers and orders don't fit together"),
-            IssueError::Name { place } => write!(f, "order {place}: the name isn't read"),
-            IssueError::RootName { place, error } => write!(f, "order {place}: {error}"),
-            IssueError::SubscriberName { place } => write!(
-                f,
-                "order {place}: an attribute may not stand there"
-            ),
-            IssueError::Serial { place } => write!(f, "order {place}: the serial number"),
-            IssueError::Dates { place } => write!(f, "order {place}: the dates"),
-            IssueError::DnsName { place } => write!(f, "order {place}: the DNS names"),
-            IssueError::KeyMismatch { place } => write!(
-                f,
-                "order {place}: the signer has another key"
-            ),
-            IssueError::Signer { place } => write!(f, "order {place}: the signer refuses"),
-            IssueError::TooLong { place } => write!(f, "order {place}: too long"),
-            IssueError::OutOfMemory => f.write_str("out of memory"),
-        }
-    }
-}
-
-impl error::Error for IssueError {}

@@ -3,8 +3,10 @@ ghost use Rattle.cert_desk_issuing.specs.Issuable.{IssuableIsIssued};
 ghost use Rattle.cert_desk_issuing.specs.Laws.{HeldIsTrusted, TrustedIsPermitted, HeldIsRefusedFor, IssuedIsTrusted, SignedIsSliced, SaysAsOrdered};
 
 pub use cert_desk_checking::laws::{
-    fault_stays, no_chain_with_a_fault, one_anchor_file, one_chain, one_fault, one_series,
-    one_series_fault, one_verdict,
+    fault_stays, few_questions, fronts_are_trusted, judged_alike, no_chain_with_a_fault,
+    nothing_is_outside, one_anchor_file, one_chain, one_fault, one_series, one_series_fault,
+    one_stream, one_verdict, rests_are_trusted, strangers_are_ignored, wider_bounds_keep_chains,
+    wider_bounds_keep_faults, wider_bounds_keep_trust, wider_bounds_keep_verdicts,
 };
 use cert_desk_checking::types::builder::Signer;
 

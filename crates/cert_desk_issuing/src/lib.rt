@@ -11,7 +11,6 @@ mod extending;
 mod fault;
 mod in_range;
 mod issue_error;
-mod issue_status;
 mod issued;
 mod issuing;
 pub mod laws;
@@ -27,16 +26,18 @@ pub use cert_desk_checking::types::builder::{SignError, Signer};
 pub use cert_desk_orders::{Order, OrdersError, orders_in};
 pub use digest_signer::DigestSigner;
 pub use issue_error::IssueError;
-pub use issue_status::IssueStatus;
 pub use issued::Issued;
 pub use issuing::issue;
 pub use running::{run_issue, run_orders};
 
 // What judges a chain.
 pub use cert_desk_checking::{
-    AlgorithmIdentifier, Anchor, AnchorError, Arguments, BitString, Bundle, BundleError,
-    CertificateInner, CheckError, Checked, DeviceError, DigestJudge, Entry, FaultKind, FromRead,
-    Input, MemoryInput, MemoryOutput, Output, Raw, ReadAllError, ReadError, Rule, SignatureJudge,
-    Standing, Status, SubjectPublicKeyInfo, Time, ToWrite, TrustAnchorChoice, USAGE, Verdict,
-    check, read_all, run_check, write_all,
+    AlgorithmIdentifier, Anchor, AnchorError, AnchorFault, Arguments, BitString, Bundle,
+    BundleError, CertDigest, Certificate, CertificateInner, CheckError, Checked, DeviceError,
+    DigestJudge, Entry, Error, ErrorKind, ExitStatus, FaultKind, FromRead, Input, MemoryInput,
+    MemoryOutput, Name, ObjectIdentifier, Outcome, Output, Raw, ReadAllError, ReadError, Reason,
+    Rule, Sha256Digest, SignatureJudge, Standing, SubjectPublicKeyInfo, Time, ToWrite,
+    TrustAnchorChoice, USAGE, Verdict, anchors_line, check, complain, first_fault, hash, read_all,
+    read_anchors, read_stream, reason_of, run_check, status_of, tell_device, tell_memory,
+    verdict_line, write_all,
 };

@@ -1,18 +1,18 @@
 //! Whole runs of `issue`, over any input and outputs.
 ghost use Rattle.std.specs.Prelude.{◌≡◌, ◌↔◌, length, map, take, IfOk, IsTrue};
-ghost use Rattle.cert_desk_issuing.specs.declared.issue_status.IssueStatus.TheVariants as statuses;
+ghost use Rattle.cert_desk_io.specs.Devices.{sink, source};
 ghost use Rattle.cert_desk_issuing.specs.declared.outcome.Outcome.{Outcome};
-ghost use Rattle.cert_desk_issuing.specs.Lines.{device_line};
 ghost use Rattle.cert_desk_issuing.specs.Roles.{signers_for};
-ghost use Rattle.cert_desk_issuing.specs.Runs.{signer_key, signing_keys, IsFound, IsFoundIn, IsTried, IsComplaint, IsGiven, IsTold};
+ghost use Rattle.cert_desk_issuing.specs.Runs.{signer_key, signing_keys, OrdersBecome, FileBecomes, IsTold};
 
 use crate::digest_signer::DigestSigner;
 use crate::issue_error::IssueError;
-use crate::issue_status::IssueStatus;
 use crate::issuing::issue;
 use crate::lines::{fault_line, refusal_line};
 use crate::outcome::Outcome;
-use cert_desk_checking::{Input, Output, ReadAllError, read_all, write_all};
+use cert_desk_io::{
+    ExitStatus, Input, Output, ReadAllError, answer, complain, read_all, tell_device, tell_memory,
+};
 use cert_desk_orders::{Order, OrdersError, orders_in};
 use std::alloc::{AllocError, AllocFailed, Global};
 
@@ -51,7 +51,7 @@ fn is_want_of_memory(error: &IssueError) -> bool
 
 /// What becomes of orders, signed by digests of their own keys.
 fn find_issued(alloc: Global, orders: &[Order]) -> Outcome
-    ensures { IsFound orders.now result }
+    ensures { OrdersBecome orders.now result }
 {
     let Ok(signers) = signers_of(alloc, orders) else {
         return Outcome::OutOfMemory;
@@ -69,7 +69,7 @@ fn find_issued(alloc: Global, orders: &[Order]) -> Outcome
 
 /// What is found in an orders file.
 fn find<I: Input>(alloc: Global, input: &mut I) -> Outcome
-    ensures { IsFoundIn I.takes I.is_ended I.failures input.old input.new result }
+    ensures { FileBecomes (source I.takes I.is_ended I.failures input.old input.new) result }
 {
     let octets = match read_all(alloc, input, u32::MAX) {
         Ok(octets) => octets,
@@ -84,56 +84,28 @@ fn find<I: Input>(alloc: Global, input: &mut I) -> Outcome
     }
 }
 
-/// Tells that a device failed, once.
-fn tell_device<E: Output>(err: &mut E) -> IssueStatus
-    ensures status { result ≡ statuses.Device }
-    ensures tried { IsTried E.gives E.failures err.old device_line err.new }
-{
-    let _ = write_all(err, b"device\n");
-    IssueStatus::Device
-}
-
-/// Writes a text to the error output.
-fn complain<E: Output>(err: &mut E, text: &[u8], status: IssueStatus) -> IssueStatus
-    ensures { IsComplaint E.gives E.failures err.old text.now status err.new result }
-{
-    if write_all(err, text).is_ok() {
-        return status;
-    }
-    tell_device(err)
-}
-
-/// Writes what was issued to the output.
-fn give<O: Output, E: Output>(out: &mut O, err: &mut E, octets: &[u8]) -> IssueStatus
-    ensures { IsGiven O.gives O.failures E.gives E.failures out.old err.old octets.now out.new err.new result }
-{
-    if write_all(out, octets).is_ok() {
-        return IssueStatus::Done;
-    }
-    tell_device(err)
-}
-
 /// Tells what was found.
 fn tell<O: Output, E: Output>(
     alloc: Global,
     outcome: &Outcome,
     out: &mut O,
     err: &mut E,
-) -> IssueStatus
-    ensures { IsTold O.gives O.failures E.gives E.failures out.old err.old out.new err.new outcome.now result }
+) -> ExitStatus
+    ensures { IsTold (sink O.gives O.failures out.old out.new)
+        (sink E.gives E.failures err.old err.new) outcome.now result }
 {
     match outcome {
-        Outcome::Issued(issued) => give(out, err, issued.stream()),
+        Outcome::Issued(issued) => answer(out, err, issued.stream(), ExitStatus::Done),
         Outcome::Refused(error) => match refusal_line(alloc, error) {
-            Ok(line) => complain(err, line.as_bytes(), IssueStatus::Refused),
-            Err(_) => complain(err, b"memory\n", IssueStatus::Memory),
+            Ok(line) => complain(err, line.as_bytes(), ExitStatus::Refused),
+            Err(_) => tell_memory(err),
         },
         Outcome::BadLine(line) => match fault_line(alloc, *line) {
-            Ok(line) => complain(err, line.as_bytes(), IssueStatus::Arguments),
-            Err(_) => complain(err, b"memory\n", IssueStatus::Memory),
+            Ok(line) => complain(err, line.as_bytes(), ExitStatus::Arguments),
+            Err(_) => tell_memory(err),
         },
         Outcome::Device => tell_device(err),
-        Outcome::OutOfMemory => complain(err, b"memory\n", IssueStatus::Memory),
+        Outcome::OutOfMemory => tell_memory(err),
     }
 }
 
@@ -142,18 +114,19 @@ fn tell<O: Output, E: Output>(
 /// Each certificate is signed by a `DigestSigner` of the key of the order above it, the first one of its own.
 ///
 /// To `out` go the certificates, one behind the other, to `err` go `order PLACE REASON`, `orders REASON`, `device` and `memory`, each
-/// a line, where REASON is the name of an `IssueError` and PLACE counts orders from 0. What can't be written is `IssueStatus::Device`,
+/// a line, where REASON is the name of an `IssueError` and PLACE counts orders from 0. What can't be written is `ExitStatus::Device`,
 /// whose word is tried once.
 pub fn run_issue<O: Output, E: Output>(
     alloc: Global,
     orders: &[Order],
     out: &mut O,
     err: &mut E,
-) -> IssueStatus
+) -> ExitStatus
     // What is told, and the status, are those of what becomes of the orders.
     ensures { (outcome : Outcome)
-        × IsFound orders.now outcome
-        × IsTold O.gives O.failures E.gives E.failures out.old err.old out.new err.new outcome result }
+        × OrdersBecome orders.now outcome
+        × IsTold (sink O.gives O.failures out.old out.new)
+        (sink E.gives E.failures err.old err.new) outcome result }
 {
     let outcome = find_issued(alloc, orders);
     tell(alloc, &outcome, out, err)
@@ -168,11 +141,12 @@ pub fn run_orders<I: Input, O: Output, E: Output>(
     input: &mut I,
     out: &mut O,
     err: &mut E,
-) -> IssueStatus
+) -> ExitStatus
     // What is told, and the status, are those of what is found in the octets that were taken.
     ensures { (outcome : Outcome)
-        × IsFoundIn I.takes I.is_ended I.failures input.old input.new outcome
-        × IsTold O.gives O.failures E.gives E.failures out.old err.old out.new err.new outcome result }
+        × FileBecomes (source I.takes I.is_ended I.failures input.old input.new) outcome
+        × IsTold (sink O.gives O.failures out.old out.new)
+        (sink E.gives E.failures err.old err.new) outcome result }
 {
     let outcome = find(alloc, input);
     tell(alloc, &outcome, out, err)

@@ -1,5 +1,6 @@
 //! Listings on outputs.
 ghost use Rattle.std.specs.Prelude.{◌≡◌, IfOk, IfErr, OnOk, string_bytes};
+ghost use Rattle.cert_desk_io.specs.Devices.{IsWritten, sink};
 ghost use Rattle.x509_cert_lists.specs.CertificateViews.{certificate_plain};
 ghost use Rattle.x509_cert_lists.specs.Views.{certificate_list_plain, cert_req_plain};
 ghost use Rattle.cert_desk_listing.specs.Listing.{certificate_lines, list_lines, request_lines};
@@ -64,9 +65,10 @@ pub(crate) fn of_request(alloc: Global, request: &CertReq) -> Result<Lines, Allo
 
 // Writes lines, by a loop over `write`.
 fn give<O: Output>(output: &mut O, lines: &Lines) -> Result<(), ShowError>
-    ensures listed { OnOk result (O.gives output.old (string_bytes lines.now.text) output.new) }
-    ensures sound { OnOk result (O.failures output.new ≡ O.failures output.old) }
-    ensures refused { IfErr result (IsUnshown O.gives O.failures output.old (string_bytes lines.now.text) output.new) }
+    ensures listed { OnOk result (IsWritten (sink O.gives O.failures output.old output.new)
+        (string_bytes lines.now.text)) }
+    ensures refused { IfErr result (IsUnshown (sink O.gives O.failures output.old output.new)
+        (string_bytes lines.now.text)) }
 {
     if write_all(output, lines.text.as_bytes()).is_err() {
         return Err(ShowError::Device);
@@ -88,9 +90,10 @@ pub fn show_certificate<P: Profile, O: Output>(
     certificate: &CertificateInner<P>,
     output: &mut O,
 ) -> Result<(), ShowError>
-    ensures listed { OnOk result (O.gives output.old (certificate_lines (certificate_plain certificate.now)) output.new) }
-    ensures sound { OnOk result (O.failures output.new ≡ O.failures output.old) }
-    ensures refused { IfErr result (IsUnshown O.gives O.failures output.old (certificate_lines (certificate_plain certificate.now)) output.new) }
+    ensures listed { OnOk result (IsWritten (sink O.gives O.failures output.old output.new)
+        (certificate_lines (certificate_plain certificate.now))) }
+    ensures refused { IfErr result (IsUnshown (sink O.gives O.failures output.old output.new)
+        (certificate_lines (certificate_plain certificate.now))) }
 {
     let Ok(lines) = of_certificate(alloc, certificate) else {
         return Err(ShowError::OutOfMemory);
@@ -110,9 +113,10 @@ pub fn show_list<P: Profile, O: Output>(
     list: &CertificateList<P>,
     output: &mut O,
 ) -> Result<(), ShowError>
-    ensures listed { OnOk result (O.gives output.old (list_lines (certificate_list_plain list.now)) output.new) }
-    ensures sound { OnOk result (O.failures output.new ≡ O.failures output.old) }
-    ensures refused { IfErr result (IsUnshown O.gives O.failures output.old (list_lines (certificate_list_plain list.now)) output.new) }
+    ensures listed { OnOk result (IsWritten (sink O.gives O.failures output.old output.new)
+        (list_lines (certificate_list_plain list.now))) }
+    ensures refused { IfErr result (IsUnshown (sink O.gives O.failures output.old output.new)
+        (list_lines (certificate_list_plain list.now))) }
 {
     let Ok(lines) = of_list(alloc, list) else {
         return Err(ShowError::OutOfMemory);
@@ -132,9 +136,10 @@ pub fn show_request<O: Output>(
     request: &CertReq,
     output: &mut O,
 ) -> Result<(), ShowError>
-    ensures listed { OnOk result (O.gives output.old (request_lines (cert_req_plain request.now)) output.new) }
-    ensures sound { OnOk result (O.failures output.new ≡ O.failures output.old) }
-    ensures refused { IfErr result (IsUnshown O.gives O.failures output.old (request_lines (cert_req_plain request.now)) output.new) }
+    ensures listed { OnOk result (IsWritten (sink O.gives O.failures output.old output.new)
+        (request_lines (cert_req_plain request.now))) }
+    ensures refused { IfErr result (IsUnshown (sink O.gives O.failures output.old output.new)
+        (request_lines (cert_req_plain request.now))) }
 {
     let Ok(lines) = of_request(alloc, request) else {
         return Err(ShowError::OutOfMemory);

@@ -4,17 +4,18 @@ ghost use Rattle.const_oid.specs.Bound.{Bound};
 ghost use Rattle.der_core_head.specs.declared.error.ErrorKind.TheVariants.{OutOfMemory};
 ghost use Rattle.der_core_head.specs.Shapes.{Spells};
 ghost use Rattle.x509_cert_lists.specs.Views.{certificate_list_plain};
+ghost use Rattle.cert_desk_io.specs.Devices.{sink, source};
 ghost use Rattle.cert_desk_listing.specs.Parts.{PlainList, raw_certificate_list};
 ghost use Rattle.cert_desk_listing.specs.declared.finding.Finding.{Finding};
-ghost use Rattle.cert_desk_listing.specs.declared.kind.Kind.TheVariants as kinds;
-ghost use Rattle.cert_desk_listing.specs.declared.show_status.ShowStatus.TheVariants as statuses;
-ghost use Rattle.cert_desk_listing.specs.Shown.{IsRead, IsFound, IsTried, IsComplaint, IsGiven, IsTold, device_line};
+ghost use Rattle.cert_desk_listing.specs.declared.file_kind.FileKind.TheVariants as kinds;
+ghost use Rattle.cert_desk_listing.specs.Shown.{IsRead, IsFinding, IsTold};
 
+use crate::file_kind::FileKind;
 use crate::finding::Finding;
-use crate::kind::Kind;
 use crate::listing::{of_certificate, of_list, of_request};
-use crate::show_status::ShowStatus;
-use cert_desk_io::{Input, Output, ReadAllError, read_all, write_all};
+use cert_desk_io::{
+    ExitStatus, Input, Output, ReadAllError, answer, complain, read_all, tell_device, tell_memory,
+};
 use der_core::{Error, ErrorKind, from_der};
 use std::alloc::Global;
 use x509_cert_lists::certificates::{CertificateInner, Raw};
@@ -83,19 +84,19 @@ fn request_in(alloc: Global, octets: &[u8]) -> Finding
 }
 
 // The value of a kind that these octets spell.
-fn value_in(alloc: Global, kind: Kind, octets: &[u8]) -> Finding
+fn value_in(alloc: Global, kind: FileKind, octets: &[u8]) -> Finding
     ensures { IsRead kind octets.now result }
 {
     match kind {
-        Kind::Certificate => certificate_in(alloc, octets),
-        Kind::List => list_in(alloc, octets),
-        Kind::Request => request_in(alloc, octets),
+        FileKind::Certificate => certificate_in(alloc, octets),
+        FileKind::List => list_in(alloc, octets),
+        FileKind::Request => request_in(alloc, octets),
     }
 }
 
 // What is found in the input.
-fn find<I: Input>(alloc: Global, input: &mut I, kind: Kind) -> Finding
-    ensures { IsFound I.takes I.is_ended I.failures input.old input.new kind result }
+fn find<I: Input>(alloc: Global, input: &mut I, kind: FileKind) -> Finding
+    ensures { IsFinding (source I.takes I.is_ended I.failures input.old input.new) kind result }
 {
     match read_all(alloc, input, u32::MAX) {
         Ok(octets) => value_in(alloc, kind, octets.as_slice()),
@@ -105,44 +106,16 @@ fn find<I: Input>(alloc: Global, input: &mut I, kind: Kind) -> Finding
     }
 }
 
-// Tells that a device failed, once.
-fn tell_device<E: Output>(err: &mut E) -> ShowStatus
-    ensures status { result ≡ statuses.Device }
-    ensures tried { IsTried E.gives E.failures err.old device_line err.new }
-{
-    let _ = write_all(err, b"device\n");
-    ShowStatus::Device
-}
-
-// Writes a text to the error output.
-fn complain<E: Output>(err: &mut E, text: &[u8], status: ShowStatus) -> ShowStatus
-    ensures { IsComplaint E.gives E.failures err.old text.now status err.new result }
-{
-    if write_all(err, text).is_ok() {
-        return status;
-    }
-    tell_device(err)
-}
-
-// Writes a listing to the output.
-fn give<O: Output, E: Output>(out: &mut O, err: &mut E, text: &[u8]) -> ShowStatus
-    ensures { IsGiven O.gives O.failures E.gives E.failures out.old err.old text.now out.new err.new result }
-{
-    if write_all(out, text).is_ok() {
-        return ShowStatus::Done;
-    }
-    tell_device(err)
-}
-
 // Tells what was found.
-fn tell<O: Output, E: Output>(finding: &Finding, out: &mut O, err: &mut E) -> ShowStatus
-    ensures { IsTold O.gives O.failures E.gives E.failures out.old err.old out.new err.new finding.now result }
+fn tell<O: Output, E: Output>(finding: &Finding, out: &mut O, err: &mut E) -> ExitStatus
+    ensures { IsTold (sink O.gives O.failures out.old out.new)
+        (sink E.gives E.failures err.old err.new) finding.now result }
 {
     match finding {
-        Finding::Listed(lines) => give(out, err, lines.text.as_bytes()),
-        Finding::Malformed => complain(err, b"malformed\n", ShowStatus::Malformed),
+        Finding::Listed(lines) => answer(out, err, lines.text.as_bytes(), ExitStatus::Done),
+        Finding::Malformed => complain(err, b"malformed\n", ExitStatus::Faulty),
         Finding::Device => tell_device(err),
-        Finding::OutOfMemory => complain(err, b"memory\n", ShowStatus::Memory),
+        Finding::OutOfMemory => tell_memory(err),
     }
 }
 
@@ -152,18 +125,19 @@ fn tell<O: Output, E: Output>(finding: &Finding, out: &mut O, err: &mut E) -> Sh
 /// with more than 2^32 - 1 octets one octet more than these is taken, and it is malformed.
 ///
 /// The listing goes to `out`; `malformed`, `device` and `memory` go to `err`. A text that can't be
-/// written is `ShowStatus::Device`, whose word is tried once.
+/// written is `ExitStatus::Device`, whose word is tried once.
 pub fn run_show<I: Input, O: Output, E: Output>(
     alloc: Global,
     input: &mut I,
     out: &mut O,
     err: &mut E,
-    kind: Kind,
-) -> ShowStatus
+    kind: FileKind,
+) -> ExitStatus
     // What is told, and the status, are those of what is found in the octets that were taken.
     ensures { (finding : Finding)
-        × IsFound I.takes I.is_ended I.failures input.old input.new kind finding
-        × IsTold O.gives O.failures E.gives E.failures out.old err.old out.new err.new finding result }
+        × IsFinding (source I.takes I.is_ended I.failures input.old input.new) kind finding
+        × IsTold (sink O.gives O.failures out.old out.new)
+        (sink E.gives E.failures err.old err.new) finding result }
 {
     let finding = find(alloc, input, kind);
     tell(&finding, out, err)

@@ -3,15 +3,16 @@ ghost use Rattle.std.specs.Prelude.{◌≡◌};
 ghost use Rattle.cert_desk_orders.specs.declared.orders_error.OrdersError.TheVariants.{OutOfMemory};
 
 use std::alloc::{AllocError, AllocFailed};
-use std::error::Error;
-use std::fmt;
+use thiserror::Error;
 
 /// Why a file gives no orders.
-#[derive(Clone, Copy, Debug, PartialEq, Eq)]
+#[derive(Clone, Copy, Debug, PartialEq, Eq, Error)]
 pub enum OrdersError {
     /// The first faulty line, counted from 1.
+    #[error("line {0} is faulty")]
     Line(u64),
     /// There was no memory for an order.
+    #[error("out of memory")]
     OutOfMemory,
 }
 
@@ -30,14 +31,3 @@ impl<T: Drop> From<AllocFailed<T>> for OrdersError {
         OrdersError::OutOfMemory
     }
 }
-
-impl fmt::Display for OrdersError {
-    fn fmt<W: fmt::Write>(&self, f: &mut fmt::Formatter<W>) -> fmt::Result {
-        match self {
-            OrdersError::Line(line) => write!(f, "line {line} is faulty"),
-            OrdersError::OutOfMemory => f.write_str("out of memory"),
-        }
-    }
-}
-
-impl Error for OrdersError {}

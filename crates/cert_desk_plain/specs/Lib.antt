@@ -1,1 +1,2 @@
 pub mod Fronts
+pub use Rattle.cert_desk_checking.specs.Certificates

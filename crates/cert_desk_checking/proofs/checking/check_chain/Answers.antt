@@ -1,46 +1,149 @@
-use Rattle.std.proofs.Common.{◌≤◌, length, sym, ap, ◌∙◌, subst}
-use Rattle.cert_desk_checking.specs.Anchors.{terms_of}
-use Rattle.cert_desk_checking.specs.Breaches.{IsFirstRefused, AreUnsignedKept, asked_up_to, until_by, verdict_by}
-use Rattle.cert_desk_checking.specs.Chains.{joined}
-use Rattle.cert_desk_checking.specs.Verdicts.{IsVerdict, asked}
-use Rattle.cert_desk_checking.proofs.BreachLaws.{are_unsigned_kept, asked_in_all, until_within, verdict_is}
-use Rattle.cert_desk_checking.proofs.Counts.{Rises-by}
-use Rattle.cert_desk_checking.proofs.checking.check_chain.Goals as goal
+use Rattle.std.proofs.Common.{◌≡◌, ℕ, suc, ◌+◌, ◌<◌, length, true, sym, ap, ◌∙◌, subst, arith}
 use Rattle.const_oid.specs.Bound.{Bound}
+use Rattle.x509_cert.specs.Views.{certificate_plain}
+use Rattle.cert_desk_checking.specs.declared.issuer.Issuer.TheVariants as issuers
+use Rattle.cert_desk_checking.specs.declared.rule.Rule.TheVariants as rules
+use Rattle.cert_desk_checking.specs.Anchors.{terms_of}
+use Rattle.cert_desk_checking.specs.Chains.{joined}
+use Rattle.cert_desk_checking.specs.Judging.{Answers}
+use Rattle.cert_desk_checking.specs.Places.{IsFirstUnsigned, IsIssuer, asked_of}
+use Rattle.cert_desk_checking.specs.Verdicts.{all_kept_below, asked_below, asked_signature}
+use Rattle.cert_desk_checking.proofs.Counts.{Rises-by, Rises-more}
+use Rattle.cert_desk_checking.proofs.Encodings.{signed_part-is}
+use Rattle.cert_desk_checking.proofs.Outcomes.{asked-is, asked_signed, asked_unsigned, asks_signature, OnErr-by, kept_below-more, refused_at, stops_at, trusted_by}
+use Rattle.cert_desk_checking.proofs.PlaceLaws.{asked_at, entry_at, stands, told_at}
+use Rattle.cert_desk_checking.proofs.checking.check_chain.Goals as goal
 
-pub first_refused-refused-requires : goal.first_refused-refused-requires
-first_refused-refused-requires g c =
-    let t = terms_of c.args.anchors.now c.args.moment c.args.purpose.now (g.J.SignatureJudge.answers c.args.judge.now) in
-    let cs = c.args.bundle.now.certificates in
-    let until = c.until_of-until.ensures ∙ ap (λ n. until_by n c.in_ok-breach.breach) c.len.ensures in
-    subst (λ n. n ≤ length cs) (sym until) (until_within t cs (joined Bound cs) c.in_ok-breach.breach (c.in_ok-breach.ensures t.answers (joined Bound cs)))
-
-pub returns-clause-judged : goal.returns-clause-judged
-returns-clause-judged g c = λ stream chain.
-    let t = terms_of c.args.anchors.now c.args.moment c.args.purpose.now (g.J.SignatureJudge.answers c.args.judge.now) in
-    let cs = c.args.bundle.now.certificates in
-    let s = joined Bound cs in
-    let breach = c.in_ok-breach.breach in
-    let found = c.in_ok-breach.ensures t.answers s in
-    let until = c.until_of-until.ensures ∙ ap (λ n. until_by n breach) c.len.ensures in
-    let kept = subst (λ n. AreUnsignedKept t cs s n) (sym until) (are_unsigned_kept t cs s breach found) in
-    let refused = subst (λ n. IsFirstRefused t cs s n c.first_refused-refused.result) until (c.first_refused-refused.ensures.judged c.args.moment c.args.purpose.now kept) in
-    let verdict = c.verdict_of-verdict.ensures ∙ ap (λ n. verdict_by n breach c.first_refused-refused.result) c.len-2.ensures in
-    subst (λ v. IsVerdict t c.args.bundle.now.limit stream v) (sym verdict)
-    (verdict_is t c.args.bundle.now.limit cs stream chain breach c.first_refused-refused.result found refused)
-
-pub returns-clause-counted : goal.returns-clause-counted
-returns-clause-counted g c = λ stream chain.
-    let t = terms_of c.args.anchors.now c.args.moment c.args.purpose.now (g.J.SignatureJudge.answers c.args.judge.now) in
+pub returns-in-Some-clause-judged : goal.returns-in-Some-clause-judged
+returns-in-Some-clause-judged g c = λ stream chain.
+    let answers = g.J.SignatureJudge.answers c.args.judge.now in
+    let t = terms_of c.args.anchors.now c.args.moment c.args.purpose.now answers in
     let cs = c.args.bundle.now.certificates in
     let s = joined Bound cs in
-    let breach = c.in_ok-breach.breach in
-    let found = c.in_ok-breach.ensures t.answers s in
-    let until = c.until_of-until.ensures ∙ ap (λ n. until_by n breach) c.len.ensures in
-    let kept = subst (λ n. AreUnsignedKept t cs s n) (sym until) (are_unsigned_kept t cs s breach found) in
-    let refused = subst (λ n. IsFirstRefused t cs s n c.first_refused-refused.result) until (c.first_refused-refused.ensures.judged c.args.moment c.args.purpose.now kept) in
-    Rises-by _ _ _ _ _ _
-    (ap (λ n. asked_up_to t cs s n c.first_refused-refused.result) until
-    ∙ asked_in_all t cs s breach c.first_refused-refused.result found refused
-    ∙ ap (asked t cs) (sym chain.joins))
-    (c.first_refused-refused.ensures.counted c.args.moment c.args.purpose.now kept)
+    let inv = c.loop-place.invariant in
+    let place = c.loop-place.place in
+    let within : place < length cs = omega arith in
+    let entry = entry_at _ _ _ _ _ c.get.ensures.entry c.unwrap-entry.ensures in
+    let at = stands cs c.args.anchors.now place c.unwrap-entry.result c.len-len.result c.loop-place.issuer c.loop-place.room entry c.len-len.ensures inv.issuer inv.room in
+    let broken = subst (IsFirstUnsigned t cs s place) c.in-Some.is (c.in_ok-broken.ensures.judged cs c.args.anchors.now place answers s at) in
+    refused_at t c.args.bundle.now.limit cs place c.in-Some.rule stream chain within inv.judged broken.1 broken.2
+
+pub returns-in-Some-clause-counted : goal.returns-in-Some-clause-counted
+returns-in-Some-clause-counted g c =
+    let answers = g.J.SignatureJudge.answers c.args.judge.now in
+    let t = terms_of c.args.anchors.now c.args.moment c.args.purpose.now answers in
+    let cs = c.args.bundle.now.certificates in
+    let s = joined Bound cs in
+    let inv = c.loop-place.invariant in
+    let place = c.loop-place.place in
+    let within : place < length cs = omega arith in
+    let entry = entry_at _ _ _ _ _ c.get.ensures.entry c.unwrap-entry.ensures in
+    let at = stands cs c.args.anchors.now place c.unwrap-entry.result c.len-len.result c.loop-place.issuer c.loop-place.room entry c.len-len.ensures inv.issuer inv.room in
+    let broken = subst (IsFirstUnsigned t cs s place) c.in-Some.is (c.in_ok-broken.ensures.judged cs c.args.anchors.now place answers s at) in
+    Rises-by _ _ _ _ _ _ (asked_unsigned t cs s place c.in-Some.rule within broken) inv.counted
+
+pub returns-then-not-is_signed-clause-judged : goal.returns-then-not-is_signed-clause-judged
+returns-then-not-is_signed-clause-judged g c = λ stream chain.
+    let answers = g.J.SignatureJudge.answers c.args.judge.now in
+    let t = terms_of c.args.anchors.now c.args.moment c.args.purpose.now answers in
+    let cs = c.args.bundle.now.certificates in
+    let s = joined Bound cs in
+    let inv = c.loop-place.invariant in
+    let place = c.loop-place.place in
+    let within : place < length cs = omega arith in
+    let entry = entry_at _ _ _ _ _ c.get.ensures.entry c.unwrap-entry.ensures in
+    let at = stands cs c.args.anchors.now place c.unwrap-entry.result c.len-len.result c.loop-place.issuer c.loop-place.room entry c.len-len.ensures inv.issuer inv.room in
+    let kept = subst (IsFirstUnsigned t cs s place) c.in_default.is (c.in_ok-broken.ensures.judged cs c.args.anchors.now place answers s at) in
+    let this = certificate_plain c.unwrap-entry.result.certificate.now in
+    let octets = entry.signed ∙ sym (signed_part-is Bound cs place this entry.certificate) in
+    let signed = told_at c.args.anchors.now c.args.moment c.args.purpose.now answers cs s this place c.loop-place.issuer _ _ _ _ inv.issuer entry.certificate octets inv.kept c.is_signed.ensures.answered c.if-not-is_signed.true in
+    refused_at t c.args.bundle.now.limit cs place rules.WrongSignature stream chain within inv.judged signed kept
+
+pub returns-then-not-is_signed-clause-counted : goal.returns-then-not-is_signed-clause-counted
+returns-then-not-is_signed-clause-counted g c =
+    let answers = g.J.SignatureJudge.answers c.args.judge.now in
+    let t = terms_of c.args.anchors.now c.args.moment c.args.purpose.now answers in
+    let cs = c.args.bundle.now.certificates in
+    let s = joined Bound cs in
+    let inv = c.loop-place.invariant in
+    let place = c.loop-place.place in
+    let within : place < length cs = omega arith in
+    let entry = entry_at _ _ _ _ _ c.get.ensures.entry c.unwrap-entry.ensures in
+    let at = stands cs c.args.anchors.now place c.unwrap-entry.result c.len-len.result c.loop-place.issuer c.loop-place.room entry c.len-len.ensures inv.issuer inv.room in
+    let kept = subst (IsFirstUnsigned t cs s place) c.in_default.is (c.in_ok-broken.ensures.judged cs c.args.anchors.now place answers s at) in
+    let this = certificate_plain c.unwrap-entry.result.certificate.now in
+    let octets = entry.signed ∙ sym (signed_part-is Bound cs place this entry.certificate) in
+    let signed = told_at c.args.anchors.now c.args.moment c.args.purpose.now answers cs s this place c.loop-place.issuer _ _ _ _ inv.issuer entry.certificate octets inv.kept c.is_signed.ensures.answered c.if-not-is_signed.true in
+    let here = ap (λ (a : Answers). asked_of Bound a c.unwrap-entry.result.signed.now this c.loop-place.issuer) inv.kept
+    ∙ asked_at c.args.anchors.now c.args.moment c.args.purpose.now answers cs s this place c.loop-place.issuer _ inv.issuer entry.certificate octets in
+    let counted = Rises-more (asked_below t cs s place) (asked_signature t cs s place) (asked_below t cs s (suc place)) _ _ _ _ _ _
+    (asks_signature t cs s place inv.judged kept) inv.counted (Rises-by _ _ _ _ _ _ here c.is_signed.ensures.counted) in
+    Rises-by _ _ _ _ _ _ (asked_signed t cs s place within signed) counted
+
+pub loop-place-preserved : goal.loop-place-preserved
+loop-place-preserved g c =
+    let answers = g.J.SignatureJudge.answers c.args.judge.now in
+    let t = terms_of c.args.anchors.now c.args.moment c.args.purpose.now answers in
+    let cs = c.args.bundle.now.certificates in
+    let s = joined Bound cs in
+    let inv = c.loop-place.invariant in
+    let place = c.loop-place.place in
+    let within : place < length cs = omega arith in
+    let entry = entry_at _ _ _ _ _ c.get.ensures.entry c.unwrap-entry.ensures in
+    let at = stands cs c.args.anchors.now place c.unwrap-entry.result c.len-len.result c.loop-place.issuer c.loop-place.room entry c.len-len.ensures inv.issuer inv.room in
+    let kept = subst (IsFirstUnsigned t cs s place) c.in_default.is (c.in_ok-broken.ensures.judged cs c.args.anchors.now place answers s at) in
+    let this = certificate_plain c.unwrap-entry.result.certificate.now in
+    let octets = entry.signed ∙ sym (signed_part-is Bound cs place this entry.certificate) in
+    let signed = told_at c.args.anchors.now c.args.moment c.args.purpose.now answers cs s this place c.loop-place.issuer _ _ _ _ inv.issuer entry.certificate octets inv.kept c.is_signed.ensures.answered c.if-not-is_signed.false in
+    let here = ap (λ (a : Answers). asked_of Bound a c.unwrap-entry.result.signed.now this c.loop-place.issuer) inv.kept
+    ∙ asked_at c.args.anchors.now c.args.moment c.args.purpose.now answers cs s this place c.loop-place.issuer _ inv.issuer entry.certificate octets in
+    let counted = Rises-more (asked_below t cs s place) (asked_signature t cs s place) (asked_below t cs s (suc place)) _ _ _ _ _ _
+    (asks_signature t cs s place inv.judged kept) inv.counted (Rises-by _ _ _ _ _ _ here c.is_signed.ensures.counted) in
+    let next : suc place ≡ place + 1 = omega arith in
+    record {
+      kept = c.is_signed.ensures.kept ∙ inv.kept;
+      issuer = subst (λ (n : ℕ). IsIssuer cs c.args.anchors.now n (issuers.Before c.unwrap-entry.result.certificate)) next entry.certificate;
+      room = c.in_ok-broken.ensures.room cs c.args.anchors.now place at c.in_default.is;
+      judged = subst (λ (n : ℕ). all_kept_below t cs s n ≡ true) next (kept_below-more t cs s place inv.judged kept signed);
+      counted = Rises-by _ _ _ _ _ _ (ap (asked_below t cs s) next) counted;
+    }
+
+pub returns-then-len-eq0-clause-counted : goal.returns-then-len-eq0-clause-counted
+returns-then-len-eq0-clause-counted g c =
+    let answers = g.J.SignatureJudge.answers c.args.judge.now in
+    let t = terms_of c.args.anchors.now c.args.moment c.args.purpose.now answers in
+    let cs = c.args.bundle.now.certificates in
+    let s = joined Bound cs in
+    let inv = c.loop-place.invariant in
+    let end : c.loop-place.place ≡ length cs = omega arith in
+    Rises-by _ _ _ _ _ _ (ap (asked_below t cs s) end ∙ asked-is t cs s) inv.counted
+
+pub returns-else-len-eq0-clause-judged : goal.returns-else-len-eq0-clause-judged
+returns-else-len-eq0-clause-judged g c = λ stream chain.
+    let answers = g.J.SignatureJudge.answers c.args.judge.now in
+    let t = terms_of c.args.anchors.now c.args.moment c.args.purpose.now answers in
+    let cs = c.args.bundle.now.certificates in
+    let s = joined Bound cs in
+    let inv = c.loop-place.invariant in
+    let end : c.loop-place.place ≡ length cs = omega arith in
+    let some : 0 < length cs = omega arith in
+    trusted_by t c.args.bundle.now.limit cs stream chain some (subst (λ (n : ℕ). all_kept_below t cs s n ≡ true) end inv.judged)
+
+pub returns-else-len-eq0-clause-counted : goal.returns-else-len-eq0-clause-counted
+returns-else-len-eq0-clause-counted g c =
+    let answers = g.J.SignatureJudge.answers c.args.judge.now in
+    let t = terms_of c.args.anchors.now c.args.moment c.args.purpose.now answers in
+    let cs = c.args.bundle.now.certificates in
+    let s = joined Bound cs in
+    let inv = c.loop-place.invariant in
+    let end : c.loop-place.place ≡ length cs = omega arith in
+    Rises-by _ _ _ _ _ _ (ap (asked_below t cs s) end ∙ asked-is t cs s) inv.counted
+
+pub returns-in_err-broken-clause-stopped : goal.returns-in_err-broken-clause-stopped
+returns-in_err-broken-clause-stopped g c =
+    let answers = g.J.SignatureJudge.answers c.args.judge.now in
+    let t = terms_of c.args.anchors.now c.args.moment c.args.purpose.now answers in
+    let cs = c.args.bundle.now.certificates in
+    let inv = c.loop-place.invariant in
+    let within : c.loop-place.place < length cs = omega arith in
+    OnErr-by c.from_residual.result _ (λ stream chain. stops_at t c.args.bundle.now.limit cs c.loop-place.place stream _ _ chain within inv.judged inv.counted.questions)

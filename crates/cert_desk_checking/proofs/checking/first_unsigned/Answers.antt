@@ -1,4 +1,3 @@
-use Rattle.std.specs.Prelude.{◌==◌}
 use Rattle.std.proofs.Common.{◌+◌, ◌&&◌, ◌||◌, not, List, refl, subst, sym, ◌∙◌, ap}
 use Rattle.std.specs.Option.{is_some}
 use Rattle.const_oid.specs.Bound.{Bound}
@@ -12,55 +11,41 @@ use Rattle.cert_desk_checking.specs.KeptRules.{IsFirstOf}
 use Rattle.cert_desk_checking.specs.Paths.{counts, is_self_issued, is_within}
 use Rattle.cert_desk_checking.proofs.KeptLaws.{counts-is, first_unsigned_by, keeps_issuing, keeps_known, keeps_serving, keeps_well_formed, keeps_within, tests_say}
 use Rattle.cert_desk_checking.proofs.PathLaws.{IsRoom-more, add_place_any, admits_any}
-use Rattle.cert_desk_checking.proofs.PlaceLaws.{entry_at, keeps_at-is}
+use Rattle.cert_desk_checking.proofs.PlaceLaws.{keeps_at-is, linked_at}
 use Rattle.cert_desk_checking.proofs.checking.first_unsigned.Goals as goal
 
-pub has_one_algorithm-requires : goal.has_one_algorithm-requires
-has_one_algorithm-requires c = (entry_at _ _ _ _ _ c.get.ensures.entry c.unwrap.ensures).valid
-
-pub takes_room-counts-requires : goal.takes_room-counts-requires
-takes_room-counts-requires c = (entry_at _ _ _ _ _ c.get.ensures.entry c.unwrap.ensures).valid
-
 pub returns-clause-judged : goal.returns-clause-judged
-returns-clause-judged c = λ answers stream.
-    let t = terms_of c.args.anchors.now c.args.moment c.args.purpose.now answers in
-    let cs = c.args.bundle.now.certificates in
-    let place = c.args.place in
-    let entry = entry_at _ _ _ _ _ c.get.ensures.entry c.unwrap.ensures in
-    let this = certificate_plain c.unwrap.result.certificate.now in
+returns-clause-judged c = λ cs anchors place answers stream at.
+    let t = terms_of anchors c.args.moment c.args.purpose.now answers in
+    let this = certificate_plain c.args.certificate.now in
     let gathered = c.in_ok-findings.ensures ∙ ap (λ (es : List PlainExtension). found Bound c.args.purpose.now es) c.extensions_of-extensions.ensures in
-    let last = ap (λ n. (place + 1) == n) c.len-len.ensures in
     let left = c.args.room.now.left in
-    let known = ap (λ b. not b && not (is_self_issued Bound this)) last ∙ sym (counts-is Bound cs place this entry.certificate) in
+    let known = ap (λ b. not b && not (is_self_issued Bound this)) at.last_is ∙ sym (counts-is Bound cs place this at.certificate) in
     let takes = c.takes_room-counts.ensures ∙ ap (λ b. is_some left && b) known in
     first_unsigned_by _ t cs stream place c.first_broken.result
     (tests_say _ t cs stream place
-    (c.has_one_algorithm.ensures ∙ sym (keeps_at-is rules.AlgorithmsDiffer t cs stream place this entry.certificate))
-    (c.are_distinct.ensures ∙ ap are_distinct c.extensions_of-extensions.ensures ∙ sym (keeps_at-is rules.DuplicateExtension t cs stream place this entry.certificate))
-    (keeps_well_formed t cs stream place this entry.certificate _ gathered)
-    (keeps_known t cs stream place this entry.certificate _ gathered)
-    (c.is_linked.ensures c.args.moment c.args.purpose.now answers stream)
-    (c.has_begun.ensures ∙ sym (keeps_at-is rules.NotYetValid t cs stream place this entry.certificate))
-    (c.lasts.ensures ∙ sym (keeps_at-is rules.Expired t cs stream place this entry.certificate))
-    (keeps_serving t cs stream place this entry.certificate _ gathered)
-    (c.may_issue.ensures ∙ ap (λ b. b || (c.in_ok-findings.findings.ca && c.in_ok-findings.findings.certifies)) last ∙ keeps_issuing t cs stream place this entry.certificate _ gathered)
+    (c.has_one_algorithm.ensures ∙ sym (keeps_at-is rules.AlgorithmsDiffer t cs stream place this at.certificate))
+    (c.are_distinct.ensures ∙ ap are_distinct c.extensions_of-extensions.ensures ∙ sym (keeps_at-is rules.DuplicateExtension t cs stream place this at.certificate))
+    (keeps_well_formed t cs stream place this at.certificate _ gathered)
+    (keeps_known t cs stream place this at.certificate _ gathered)
+    (c.is_linked.ensures ∙ linked_at anchors c.args.moment c.args.purpose.now answers cs stream this place c.args.issuer.now at.issuer at.certificate)
+    (c.has_begun.ensures ∙ sym (keeps_at-is rules.NotYetValid t cs stream place this at.certificate))
+    (c.lasts.ensures ∙ sym (keeps_at-is rules.Expired t cs stream place this at.certificate))
+    (keeps_serving t cs stream place this at.certificate _ gathered)
+    (c.may_issue.ensures ∙ ap (λ b. b || (c.in_ok-findings.findings.ca && c.in_ok-findings.findings.certifies)) at.last_is ∙ keeps_issuing t cs stream place this at.certificate _ gathered)
     (c.admits.ensures ∙ ap (λ b. not b || is_within 1 left) takes ∙ admits_any left (counts Bound cs place)
-    ∙ keeps_within t cs stream place this entry.certificate _ gathered c.args.room.now (counts Bound cs place) refl c.requires.room))
+    ∙ keeps_within t cs stream place this at.certificate _ gathered c.args.room.now (counts Bound cs place) refl at.room))
     c.first_broken.ensures
 
 pub returns-clause-room : goal.returns-clause-room
-returns-clause-room c = λ none.
-    let cs = c.args.bundle.now.certificates in
-    let place = c.args.place in
-    let entry = entry_at _ _ _ _ _ c.get.ensures.entry c.unwrap.ensures in
-    let this = certificate_plain c.unwrap.result.certificate.now in
+returns-clause-room c = λ cs anchors place at none.
+    let this = certificate_plain c.args.certificate.now in
     let gathered = c.in_ok-findings.ensures ∙ ap (λ (es : List PlainExtension). found Bound c.args.purpose.now es) c.extensions_of-extensions.ensures in
-    let last = ap (λ n. (place + 1) == n) c.len-len.ensures in
     let left = c.args.room.now.left in
-    let known = ap (λ b. not b && not (is_self_issued Bound this)) last ∙ sym (counts-is Bound cs place this entry.certificate) in
+    let known = ap (λ b. not b && not (is_self_issued Bound this)) at.last_is ∙ sym (counts-is Bound cs place this at.certificate) in
     let takes = c.takes_room-counts.ensures ∙ ap (λ b. is_some left && b) known in
     let enough = sym (admits_any left (counts Bound cs place)) ∙ ap (λ b. not b || is_within 1 left) (sym takes) ∙ sym c.admits.ensures
     ∙ (subst (IsFirstOf _) none c.first_broken.ensures) rules.PathTooLong in
     let behind = c.add.ensures ∙ ap (λ b. add_place c.args.room.now b c.in_ok-findings.findings.path_len) takes ∙ add_place_any c.args.room.now (counts Bound cs place) c.in_ok-findings.findings.path_len in
     subst (λ r. IsRoom Bound cs (place + 1) r) (sym behind)
-    (IsRoom-more Bound c.args.purpose.now cs place this c.args.room.now (counts Bound cs place) c.in_ok-findings.findings.path_len entry.certificate refl c.requires.room enough (ap (λ f. f.path_len) gathered))
+    (IsRoom-more Bound c.args.purpose.now cs place this c.args.room.now (counts Bound cs place) c.in_ok-findings.findings.path_len at.certificate refl at.room enough (ap (λ f. f.path_len) gathered))

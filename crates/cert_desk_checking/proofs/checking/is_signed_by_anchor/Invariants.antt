@@ -4,7 +4,8 @@ use Rattle.std.specs.List.{list_any}
 use Rattle.const_oid.specs.Bound.{Bound}
 use Rattle.x509_cert.specs.Views.{certificate_plain}
 use Rattle.cert_desk_checking.specs.Anchors.{anchor_plain}
-use Rattle.cert_desk_checking.specs.Places.{signs, asked_until, Rises}
+use Rattle.cert_desk_checking.specs.Places.{signs, Rises}
+use Rattle.cert_desk_checking.specs.Verdicts.{asked_until}
 use Rattle.cert_desk_checking.proofs.checking.is_signed_by_anchor.Given as goal
 
 abbrev pub invariant-loop-anchor : goal.invariant-loop-anchor

@@ -1,4 +1,4 @@
-use Rattle.std.proofs.Common.{◌≡◌, sym, ap}
+use Rattle.std.proofs.Common.{sym, ap}
 use Rattle.cert_desk_checking.specs.Findings.{weight_of}
 use Rattle.cert_desk_checking.specs.Weighing.{meaning_of, other_names}
 use Rattle.cert_desk_checking.proofs.ExtensionLaws.{malformed_as}

@@ -1,14 +1,20 @@
 use Rattle.std.proofs.Common.{ℕ, arith, ◌∙◌, length-take, length-drop}
 use Rattle.std.proofs.lemmas.List.{take_rest}
-use Rattle.cert_desk_io.proofs.Given.{OnErr-by, gives-take, gives-none}
+use Rattle.cert_desk_io.proofs.Given.{OnErr-by, gives-take}
 use Rattle.cert_desk_io.proofs.outputs.write_all.Goals as goal
 
-pub returns-in_err-sent-clause-beginning : goal.returns-in_err-sent-clause-beginning
-returns-in_err-sent-clause-beginning g c =
+pub returns-in_err-sent-clause-cut : goal.returns-in_err-sent-clause-cut
+returns-in_err-sent-clause-cut g c =
     OnErr-by c.from_residual.result _ (
       c.loop-sent.sent,
       omega arith,
-      gives-none g.O.Output.gives g.met.O.Output.gives_in_turn _ _ _ _ c.loop-sent.invariant.given c.in_err-sent.ensures.none_given,
+      record {
+        before = c.loop-sent.output;
+        moved = c.loop-sent.invariant.given;
+        sound = c.loop-sent.invariant.sound;
+        stopped = c.in_err-sent.ensures.none_given;
+        rose = c.in_err-sent.ensures.rose;
+      },
     )
 
 pub loop-sent-preserved : goal.loop-sent-preserved

@@ -1,22 +1,18 @@
--- Each certificate that is read leaves less; where none is, the piece is read or refused.
-use Rattle.std.proofs.Common.{Bool, subst}
-use Rattle.std.proofs.lemmas.Result.{err_from_is_err_and}
-use Rattle.cert_desk_checking.specs.Steps.{Advances}
-use Rattle.cert_desk_checking.proofs.Readings.{rest-smaller, feeding-waits, feeding-refused}
-use Rattle.cert_desk_checking.proofs.bundle.Bundle.feed.Goals as goal
+-- Each front that is taken leaves less; where none is, the piece is refused.
+use Rattle.std.proofs.Common.{ap, subst, ◌∙◌, arith}
+use Rattle.std.proofs.lemmas.List.{take_rest}
 use Rattle.const_oid.specs.Bound.{Bound}
+use Rattle.cert_desk_checking.specs.Streams.{Kept}
+use Rattle.cert_desk_checking.proofs.BundleSteps.{feeding-start}
+use Rattle.cert_desk_checking.proofs.Readings.{Feeding, feeding-more, feeding-refused, feeding-whole, stops-refused}
+use Rattle.cert_desk_checking.proofs.bundle.Bundle.feed.Goals as goal
 
-pub returns-in_err-read_next-clause-refused : goal.returns-in_err-read_next-clause-refused
-returns-in_err-read_next-clause-refused c =
-    let p = err_from_is_err_and c.from_residual.result c.from_residual.ensures.1 in
-    rw (p.1, p.2) (feeding-refused Bound c.args.self.now c.loop.self c.read_next.new.self c.args.piece.now c.in_err-read_next.field-0.0 c.loop.invariant c.in_err-read_next.ensures.stops)
+pub loop-left-init : goal.loop-left-init
+loop-left-init c =
+    subst (λ (k : Kept). Feeding Bound k c.args.piece.now c.args.piece.now k) c.self.view_is (feeding-start c.self.inside c.self.invariant c.args.piece.now c.in-Open.is)
 
-pub loop-smaller : goal.loop-smaller
-loop-smaller c =
-    let next = subst (λ (b : Bool). Advances Bound c.loop.self c.read_next.new.self b) c.if-branch.true c.in_ok-read_next.ensures.advances in
-    rest-smaller Bound c.loop.self c.read_next.new.self next
-
-pub returns-clause-reads : goal.returns-clause-reads
-returns-clause-reads c =
-    let waits = subst (λ (b : Bool). Advances Bound c.loop.self c.read_next.new.self b) c.if-branch.false c.in_ok-read_next.ensures.advances in
-    feeding-waits Bound c.args.self.now c.loop.self c.read_next.new.self c.args.piece.now c.loop.invariant waits
+pub returns-in-Err-clause-refused : goal.returns-in-Err-clause-refused
+returns-in-Err-clause-refused c =
+    let f = c.loop-left.invariant in
+    feeding-refused Bound c.args.self.now c.loop-left.self c.refuse.new.self c.args.piece.now c.loop-left.left.now f c.refuse.result
+    (stops-refused Bound c.loop-left.self c.take.new.self c.refuse.new.self c.loop-left.left.now f.advances.is_open c.in-Err.standing c.refuse.result c.in-Err.ensures.stops c.refuse.ensures.stopped c.refuse.ensures.error)

@@ -1,11 +1,11 @@
--- The piece is appended, and the certificates that were whole are read.
+-- A front of the piece was taken, and what is left is shorter each time.
 use Rattle.std.proofs.Common.{length}
+use Rattle.const_oid.specs.Bound.{Bound}
 use Rattle.cert_desk_checking.proofs.Readings.{Feeding}
 use Rattle.cert_desk_checking.proofs.bundle.Bundle.feed.Given as goal
-use Rattle.const_oid.specs.Bound.{Bound}
 
-abbrev pub invariant-loop : goal.invariant-loop
-invariant-loop l = Feeding Bound l.fn.self l.piece l.self
+abbrev pub invariant-loop-left : goal.invariant-loop-left
+invariant-loop-left l = Feeding Bound l.fn.self l.piece l.left l.self
 
-abbrev pub decreases-loop : goal.decreases-loop
-decreases-loop l = length l.self.rest
+abbrev pub decreases-loop-left : goal.decreases-loop-left
+decreases-loop-left l = length l.left

@@ -1,5 +1,5 @@
--- The octets so far were taken and read. Each piece adds to them, and their number is of 64 bits.
-use Rattle.std.proofs.Common.{◌≡◌, ◌-◌, ◌^◌, length}
+-- The octets so far were taken and read. Each piece adds to them, and there is an end to them.
+use Rattle.std.proofs.Common.{◌≡◌, ◌+◌, ◌-◌, ◌^◌, length}
 use Rattle.cert_desk_checking.specs.declared.standing.Standing.TheVariants as standings
 use Rattle.cert_desk_checking.specs.Steps.{kept_octets, most_read, Grows, Takes}
 use Rattle.cert_desk_checking.proofs.bundle.Bundle.read_from.Given as goal
@@ -17,4 +17,4 @@ invariant-loop-count g l = record {
 }
 
 abbrev pub decreases-loop-count : goal.decreases-loop-count
-decreases-loop-count g l = 2 ^ 64 - length (kept_octets Bound l.self)
+decreases-loop-count g l = 2 ^ 64 + 5 - length (kept_octets Bound l.self)

@@ -2,9 +2,9 @@ use Rattle.std.proofs.Common.{ℕ, List, map, sym, ap, ◌∙◌, subst}
 use Rattle.cert_desk_checking.specs.Anchors.{anchor_plain}
 use Rattle.cert_desk_checking.specs.Judging.{Terms}
 use Rattle.cert_desk_checking.specs.Streams.{Reads}
-use Rattle.cert_desk_checking.specs.Verdicts.{IsCounted, IsVerdict}
+use Rattle.cert_desk_checking.specs.Verdicts.{IsCounted, IsVerdict, StopsAsking}
 use Rattle.cert_desk_issuing.specs.Auditing.{root_anchors}
-use Rattle.cert_desk_issuing.proofs.Auditing.{exactly, under_root}
+use Rattle.cert_desk_issuing.proofs.Auditing.{asked_or_not, exactly, on_error, under_root}
 use Rattle.cert_desk_issuing.proofs.issued.Issued.audit.Goals as goal
 use Rattle.const_oid.specs.Bound.{Bound}
 
@@ -41,3 +41,16 @@ returns-clause-counted g c = λ root below cs h.
     let given = ap (map anchor_plain) c.as_slice.ensures.value ∙ c.in_ok-anchors.ensures.copied ∙ ap root_anchors c.certificates.ensures in
     under_root root below cs own stream h c.stream.ensures.chain (map anchor_plain c.as_slice.result.now) c.args.moment c.args.purpose.now answers c.read-bundle.result.limit c.args.limit
     (λ (t : Terms) (n : ℕ). IsCounted t n stream c.in_ok-checked.checked (g.J.SignatureJudge.questions c.args.judge.now) (g.J.SignatureJudge.questions c.check.new.judge)) given c.read-bundle.ensures.limit (c.in_ok-checked.ensures.counted stream reads)
+
+pub returns-in_err-checked-clause-stopped : goal.returns-in_err-checked-clause-stopped
+returns-in_err-checked-clause-stopped g c =
+    let answers = g.J.SignatureJudge.answers c.args.judge.now in
+    let stream = c.args.self.now.stream in
+    let given = ap (map anchor_plain) c.as_slice.ensures.value ∙ c.in_ok-anchors.ensures.copied ∙ ap root_anchors c.certificates.ensures in
+    on_error c.from_residual-in_err-checked.result
+    (asked_or_not c.read-bundle.result.standing (λ other. c.check.ensures.untouched other) (λ ended root below cs h.
+    (let reads = subst (λ (w : List ℕ). Reads Bound c.read-bundle.result w) c.stream.ensures.octets (c.read-bundle.ensures.reads (λ e. (let none = sym ended ∙ e in absurd cc))) in
+    under_root root below cs c.args.self.now.certificates stream h c.stream.ensures.chain (map anchor_plain c.as_slice.result.now) c.args.moment c.args.purpose.now answers
+    c.read-bundle.result.limit c.args.limit
+    (λ (t : Terms) (n : ℕ). StopsAsking t n stream (g.J.SignatureJudge.questions c.args.judge.now) (g.J.SignatureJudge.questions c.check.new.judge)) given
+    c.read-bundle.ensures.limit (c.in_err-checked.ensures.stopped stream ended reads))))

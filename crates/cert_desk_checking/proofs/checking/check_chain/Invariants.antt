@@ -1,0 +1,19 @@
+-- Every place so far keeps all rules, and the questions are those about these places.
+use Rattle.std.proofs.Common.{◌≡◌, true}
+use Rattle.const_oid.specs.Bound.{Bound}
+use Rattle.cert_desk_checking.specs.Anchors.{terms_of}
+use Rattle.cert_desk_checking.specs.Chains.{joined}
+use Rattle.cert_desk_checking.specs.Findings.{IsRoom}
+use Rattle.cert_desk_checking.specs.Places.{IsIssuer, Rises}
+use Rattle.cert_desk_checking.specs.Verdicts.{all_kept_below, asked_below}
+use Rattle.cert_desk_checking.proofs.checking.check_chain.Given as goal
+
+abbrev pub invariant-loop-place : goal.invariant-loop-place
+invariant-loop-place g l = record {
+  kept : g.J.SignatureJudge.answers l.judge ≡ g.J.SignatureJudge.answers l.fn.judge;
+  issuer : IsIssuer l.bundle.certificates l.anchors l.place l.issuer;
+  room : IsRoom Bound l.bundle.certificates l.place l.room;
+  judged : all_kept_below (terms_of l.anchors l.moment l.purpose (g.J.SignatureJudge.answers l.fn.judge)) l.bundle.certificates (joined Bound l.bundle.certificates) l.place ≡ true;
+  counted : Rises (asked_below (terms_of l.anchors l.moment l.purpose (g.J.SignatureJudge.answers l.fn.judge)) l.bundle.certificates (joined Bound l.bundle.certificates) l.place)
+      (g.J.SignatureJudge.questions l.fn.judge) 0 (g.J.SignatureJudge.questions l.judge) l.calls;
+}

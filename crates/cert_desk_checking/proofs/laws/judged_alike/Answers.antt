@@ -1,0 +1,5 @@
+use Rattle.cert_desk_checking.proofs.JudgedAlike.{judged_alike}
+use Rattle.cert_desk_checking.proofs.laws.judged_alike.Goals as goal
+
+pub returns : goal.returns
+returns c = judged_alike

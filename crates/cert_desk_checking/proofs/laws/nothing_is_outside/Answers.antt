@@ -1,0 +1,5 @@
+use Rattle.cert_desk_checking.proofs.OneStream.{nothing_outside}
+use Rattle.cert_desk_checking.proofs.laws.nothing_is_outside.Goals as goal
+
+pub returns : goal.returns
+returns c = nothing_outside

@@ -1,0 +1,5 @@
+use Rattle.cert_desk_checking.proofs.OneStream.{one_stream}
+use Rattle.cert_desk_checking.proofs.laws.one_stream.Goals as goal
+
+pub returns : goal.returns
+returns c = one_stream

@@ -1,0 +1,5 @@
+use Rattle.cert_desk_checking.proofs.ChainParts.{trusted_rest}
+use Rattle.cert_desk_checking.proofs.laws.rests_are_trusted.Goals as goal
+
+pub returns : goal.returns
+returns c = trusted_rest

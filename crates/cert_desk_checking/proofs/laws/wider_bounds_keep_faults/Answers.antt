@@ -1,0 +1,5 @@
+use Rattle.cert_desk_checking.proofs.WiderFaults.{faults_wider}
+use Rattle.cert_desk_checking.proofs.laws.wider_bounds_keep_faults.Goals as goal
+
+pub returns : goal.returns
+returns c = faults_wider

@@ -1,0 +1,8 @@
+-- No extension so far has the identifier: the answer is that of those that are left.
+use Rattle.std.proofs.Common.{◌≡◌, drop}
+use Rattle.x509_cert.specs.Views.{extension_plain, extensions_plain}
+use Rattle.cert_desk_checking.specs.Judging.{is_alone}
+use Rattle.cert_desk_checking.proofs.reasons.twin_of.Given as goal
+
+abbrev pub invariant-loop-number : goal.invariant-loop-number
+invariant-loop-number l = is_alone (extension_plain l.extension) (extensions_plain (drop l.number l.others)) ≡ is_alone (extension_plain l.extension) (extensions_plain l.others)

@@ -1,0 +1,22 @@
+//! What a run comes to.
+
+use crate::anchor_fault::AnchorFault;
+use crate::checked::Checked;
+
+/// What a run finds in its inputs.
+#[derive(Clone, Copy, Debug, PartialEq, Eq)]
+pub enum Outcome {
+    /// What is said of the stream.
+    Checked(Checked),
+    /// The trust anchor that begins at this offset is faulty.
+    BadAnchors {
+        /// Where it begins.
+        offset: u64,
+        /// What is wrong with it.
+        fault: AnchorFault,
+    },
+    /// An input failed.
+    Device,
+    /// There was no memory.
+    OutOfMemory,
+}

@@ -1,0 +1,206 @@
+//! Reasons of breaches, found on demand.
+ghost use Rattle.std.specs.Prelude.{◌≡◌, ◌<◌, ◌≤◌, ◌+◌, ◌-◌, List, ℕ, true, false, ◌⊎◌, length, IfSome, IfNone, IfOk, IsSome};
+ghost use Rattle.std.specs.List.{list_any};
+ghost use Rattle.const_oid.specs.Bound.{Bound};
+ghost use Rattle.x509_cert.specs.Views.{extension_plain, extensions_plain};
+ghost use Rattle.cert_desk_checking.specs.Judging.{Terms, are_distinct, is_alone, keeps_at};
+ghost use Rattle.cert_desk_checking.specs.Paths.{counted, counts, keep_lengths, keeps_length};
+ghost use Rattle.cert_desk_checking.specs.Reasons.{Explains, are_twins, goes_against, has_no_authority, have_one_identifier, is_against, is_at, is_explained};
+
+use crate::bundle::Bundle;
+use crate::checking::is_self_issued;
+use crate::extensions::extensions_of;
+use crate::findings::Findings;
+use crate::reason::Reason;
+use crate::rule::Rule;
+use crate::weighing::findings_of;
+use const_oid::ObjectIdentifier;
+use std::alloc::{AllocError, Global};
+use std::slice;
+use x509_cert::Extension;
+
+/// Why the certificate at a place of a bundle breaks a rule, for this purpose, if the rule leaves that
+/// open and it does. It is meant for the place and the rule of a verdict.
+///
+/// # Errors
+///
+/// Where a growth was refused.
+pub fn reason_of(
+    alloc: Global,
+    bundle: &Bundle,
+    place: usize,
+    rule: Rule,
+    purpose: &ObjectIdentifier<39>,
+) -> Result<Option<Reason>, AllocError>
+    // What is told holds.
+    ensures holds { IfOk result (λ told. IfSome told
+        (Explains Bound purpose.now bundle.now.certificates place rule)) }
+    // A reason is told where the certificate breaks such a rule.
+    ensures told { IfOk result (λ told. (t : Terms) (stream : List ℕ) → t.bound ≡ Bound → t.purpose ≡ purpose.now
+        → is_explained rule ≡ true → keeps_at rule t bundle.now.certificates stream place ≡ false → IsSome told) }
+{
+    let Some(entry) = bundle.get(place) else {
+        return Ok(None);
+    };
+    let extensions = extensions_of(entry.certificate);
+    match rule {
+        Rule::DuplicateExtension => Ok(twins_in(extensions)),
+        Rule::NotAuthority => lack_of_authority(alloc, extensions, purpose),
+        Rule::PathTooLong => exceeded_length(alloc, bundle, place, purpose),
+        _ => extension_against(alloc, extensions, purpose, rule),
+    }
+}
+
+// The first extension that breaks a rule by itself.
+fn extension_against(
+    alloc: Global,
+    extensions: &[Extension],
+    purpose: &ObjectIdentifier<39>,
+    rule: Rule,
+) -> Result<Option<Reason>, AllocError>
+    ensures against { IfOk result (λ told. IfSome told (λ reason. (number : ℕ) × (reason ≡ Reason.Extension number)
+        × (is_at (is_against Bound purpose.now rule) (extensions_plain extensions.now) number ≡ true))) }
+    ensures none { IfOk result (λ told. IfNone told
+        (list_any (is_against Bound purpose.now rule) (extensions_plain extensions.now) ≡ false)) }
+{
+    for number in 0..extensions.len() {
+        let findings = findings_of(alloc, slice::from_ref(&extensions[number]), purpose)?;
+        if goes_against(&findings, rule) {
+            return Ok(Some(Reason::Extension(number)));
+        }
+    }
+    Ok(None)
+}
+
+// Whether an extension breaks a rule by itself, by what was found in it.
+fn goes_against(findings: &Findings, rule: Rule) -> bool
+    ensures { result ≡ goes_against findings.now rule }
+{
+    match rule {
+        Rule::MalformedExtension => findings.malformed,
+        Rule::UnweighedCritical => findings.unweighed_critical,
+        Rule::AgainstPurpose => !findings.serves,
+        Rule::NotAuthority => !findings.certifies,
+        _ => false,
+    }
+}
+
+// The first extensions that have one identifier.
+fn twins_in(extensions: &[Extension]) -> Option<Reason>
+    ensures twins { IfSome result (λ reason. (first : ℕ) × (second : ℕ) × (reason ≡ Reason.Twins first second)
+        × (first < second) × (are_twins (extensions_plain extensions.now) first second ≡ true)) }
+    ensures none { IfNone result (are_distinct (extensions_plain extensions.now) ≡ true) }
+{
+    for first in 0..extensions.len() {
+        let behind = first + 1;
+        if let Some(number) = twin_of(&extensions[first], &extensions[behind..]) {
+            let second = behind + number;
+            return Some(Reason::Twins { first, second });
+        }
+    }
+    None
+}
+
+// The first one of the others that has the identifier of the extension.
+fn twin_of(extension: &Extension, others: &[Extension]) -> Option<usize>
+    ensures within { IfSome result (λ number. number < length others.now) }
+    ensures twin { IfSome result (λ number. is_at (have_one_identifier (extension_plain extension.now))
+        (extensions_plain others.now) number ≡ true) }
+    ensures none { IfNone result (is_alone (extension_plain extension.now) (extensions_plain others.now) ≡ true) }
+{
+    for number in 0..others.len() {
+        if extension.extn_id == others[number].extn_id {
+            return Some(number);
+        }
+    }
+    None
+}
+
+// Why these extensions are those of no authority whose key may sign certificates.
+fn lack_of_authority(
+    alloc: Global,
+    extensions: &[Extension],
+    purpose: &ObjectIdentifier<39>,
+) -> Result<Option<Reason>, AllocError>
+    ensures lacks { IfOk result (λ told. IfSome told (λ reason.
+        ((reason ≡ Reason.NoConstraints) × (has_no_authority Bound (extensions_plain extensions.now) ≡ true))
+        ⊎ ((number : ℕ) × (reason ≡ Reason.Extension number)
+        × (is_at (is_against Bound purpose.now Rule.NotAuthority) (extensions_plain extensions.now) number ≡ true)))) }
+    ensures none { IfOk result (λ told. IfNone told ((has_no_authority Bound (extensions_plain extensions.now) ≡ false)
+        × (list_any (is_against Bound purpose.now Rule.NotAuthority) (extensions_plain extensions.now) ≡ false))) }
+{
+    let findings = findings_of(alloc, extensions, purpose)?;
+    if !findings.ca {
+        return Ok(Some(Reason::NoConstraints));
+    }
+    let against = extension_against(alloc, extensions, purpose, Rule::NotAuthority)?;
+    Ok(against)
+}
+
+// The first place whose path length the places up to this one exceed.
+fn exceeded_length(
+    alloc: Global,
+    bundle: &Bundle,
+    place: usize,
+    purpose: &ObjectIdentifier<39>,
+) -> Result<Option<Reason>, AllocError>
+    requires within { place < length bundle.now.certificates }
+    ensures exceeds { IfOk result (λ told. IfSome told (λ reason. (before : ℕ) × (reason ≡ Reason.PathLength before)
+        × (before < place) × (keeps_length Bound bundle.now.certificates before place ≡ false))) }
+    ensures none { IfOk result (λ told. IfNone told
+        (keep_lengths Bound bundle.now.certificates place place ≡ true)) }
+{
+    for before in 0..place {
+        if !keeps_length(alloc, bundle, before, place, purpose)? {
+            return Ok(Some(Reason::PathLength { place: before }));
+        }
+    }
+    Ok(None)
+}
+
+// Whether no more places count behind the first place, up to the other, than its path length allows.
+fn keeps_length(
+    alloc: Global,
+    bundle: &Bundle,
+    before: usize,
+    place: usize,
+    purpose: &ObjectIdentifier<39>,
+) -> Result<bool, AllocError>
+    requires before { before < place }
+    requires within { place < length bundle.now.certificates }
+    ensures { IfOk result (λ kept. kept ≡ keeps_length Bound bundle.now.certificates before place) }
+{
+    let certificate = bundle.get(before).unwrap().certificate;
+    let findings = findings_of(alloc, extensions_of(certificate), purpose)?;
+    let Some(most) = findings.path_len else {
+        return Ok(true);
+    };
+    let count = counted_behind(bundle, before, place);
+    Ok(count <= most as usize)
+}
+
+// How many places count behind the first one, up to the other.
+fn counted_behind(bundle: &Bundle, before: usize, place: usize) -> usize
+    requires order { before ≤ place }
+    requires within { place < length bundle.now.certificates }
+    ensures { result ≡ counted Bound bundle.now.certificates (before + 1) (place - before) }
+{
+    let mut count = 0;
+    for step in before..place {
+        if counts(bundle, step + 1) {
+            count += 1;
+        }
+    }
+    count
+}
+
+// Whether a place counts: it isn't the last, and isn't self-issued.
+fn counts(bundle: &Bundle, place: usize) -> bool
+    requires within { place < length bundle.now.certificates }
+    ensures { result ≡ counts Bound bundle.now.certificates place }
+{
+    let certificate = bundle.get(place).unwrap().certificate;
+    let len = bundle.len();
+    let is_last = place + 1 == len;
+    !is_last && !is_self_issued(certificate)
+}
