@@ -1,0 +1,63 @@
+//! Identifiers with their names.
+
+use crate::known_names::KNOWN_NAMES;
+use const_oid::{Database, ObjectIdentifier};
+use std::alloc::{AllocError, Global};
+use std::fmt;
+
+/// The identifiers that are well known.
+#[derive(Drop)]
+pub struct Identifiers {
+    // In the order of the table.
+    identifiers: Vec<ObjectIdentifier<39>>,
+}
+
+impl Identifiers {
+    /// Those that are known here.
+    ///
+    /// # Errors
+    ///
+    /// Want of memory.
+    pub fn new(alloc: Global) -> Result<Identifiers, AllocError> {
+        let mut identifiers = Vec::new(alloc);
+        for (dotted, _) in &KNOWN_NAMES {
+            let Ok(identifier) = ObjectIdentifier::<39>::new(dotted) else {
+                break;
+            };
+            identifiers.push(identifier)?;
+        }
+        Ok(Identifiers { identifiers })
+    }
+
+    /// The entries of a database of them.
+    ///
+    /// # Errors
+    ///
+    /// Want of memory.
+    pub fn entries(&self, alloc: Global) -> Result<Vec<(&ObjectIdentifier<39>, &str)>, AllocError> {
+        let mut entries = Vec::new(alloc);
+        for (identifier, known) in self.identifiers.iter().zip(&KNOWN_NAMES) {
+            entries.push((identifier, known.1))?;
+        }
+        Ok(entries)
+    }
+}
+
+/// An identifier, printed with its name if it has one.
+#[derive(Clone, Copy)]
+pub struct Named<'a> {
+    /// The identifier.
+    pub identifier: ObjectIdentifier<39>,
+    /// The names that are known.
+    pub names: Database<'a>,
+}
+
+impl fmt::Display for Named<'_> {
+    fn fmt<W: fmt::Write>(&self, f: &mut fmt::Formatter<W>) -> fmt::Result {
+        let identifier = self.identifier;
+        match self.names.by_oid(&identifier) {
+            Some(name) => write!(f, "{name} ({identifier})"),
+            None => write!(f, "{identifier}"),
+        }
+    }
+}

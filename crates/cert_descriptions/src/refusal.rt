@@ -1,0 +1,147 @@
+//! Why octets are refused.
+
+use crate::fields::Node;
+use crate::kind::Kind;
+use crate::printing::Offset;
+use crate::way_down::add_way;
+use der_core::{Error, ErrorKind, from_der};
+use std::alloc::{AllocError, Global};
+use x509_cert::{CertReq, CertificateInner, CertificateList, Raw, Rfc5280};
+
+/// Whether octets are PEM (RFC 7468), of which nothing is read here.
+pub fn is_pem(octets: &[u8]) -> bool {
+    octets.starts_with(b"-----BEGIN")
+}
+
+// Adds what is wrong with a value that begins at an offset of a file, and the way down to it.
+fn add_fault(
+    text: &mut String,
+    octets: &[u8],
+    offset: u64,
+    root: Node,
+    error: &Error,
+) -> Result<(), AllocError> {
+    let kind = error.kind;
+    let place = match error.position {
+        Some(position) => position.value,
+        None => 0,
+    };
+    writeln!(text, "{}: {kind}", Offset(offset, u64::from(place)))?;
+    add_way(text, octets, offset, root, place as usize)
+}
+
+/// Adds what is wrong with a certificate that begins at an offset of a file, and the way down to
+/// it. Of octets that begin with another tag there is no way.
+///
+/// # Errors
+///
+/// Want of memory.
+pub fn add_certificate_fault(
+    text: &mut String,
+    octets: &[u8],
+    offset: u64,
+    error: &Error,
+) -> Result<(), AllocError> {
+    let root = match octets {
+        [0x30, ..] => Node::Certificate,
+        _ => Node::Other,
+    };
+    add_fault(text, octets, offset, root, error)
+}
+
+// Adds why these octets are no value of a kind, or that they are one; and whether they are one.
+fn add_whole<T: Drop>(
+    text: &mut String,
+    octets: &[u8],
+    root: Node,
+    read: Result<T, Error>,
+) -> Result<bool, AllocError> {
+    match read {
+        Ok(_) => {
+            text.push_str("the octets are what they should be\n")?;
+            Ok(true)
+        }
+        Err(error) => match error.kind {
+            ErrorKind::OutOfMemory => Err(AllocError),
+            _ => {
+                add_fault(text, octets, 0, root, &error)?;
+                Ok(false)
+            }
+        },
+    }
+}
+
+// Adds what the profile of RFC 5280 refuses of a certificate or list that is read without it.
+fn add_profile_fault<T: Drop>(
+    text: &mut String,
+    octets: &[u8],
+    root: Node,
+    read: Result<T, Error>,
+) -> Result<(), AllocError> {
+    match read {
+        Ok(_) => Ok(()),
+        Err(error) => match error.kind {
+            ErrorKind::OutOfMemory => Err(AllocError),
+            _ => {
+                text.push_str("RFC 5280 asks for more than is asked here: ")?;
+                add_fault(text, octets, 0, root, &error)
+            }
+        },
+    }
+}
+
+fn add_certificate(alloc: Global, text: &mut String, octets: &[u8]) -> Result<(), AllocError> {
+    let read = CertificateInner::<Raw>::from_der(alloc, octets);
+    if add_whole(text, octets, Node::Certificate, read)? {
+        let read = CertificateInner::<Rfc5280>::from_der(alloc, octets);
+        add_profile_fault(text, octets, Node::Certificate, read)?;
+    }
+    Ok(())
+}
+
+fn add_list(alloc: Global, text: &mut String, octets: &[u8]) -> Result<(), AllocError> {
+    let read = from_der::<CertificateList<Raw>>(alloc, octets);
+    if add_whole(text, octets, Node::List, read)? {
+        let read = from_der::<CertificateList<Rfc5280>>(alloc, octets);
+        add_profile_fault(text, octets, Node::List, read)?;
+    }
+    Ok(())
+}
+
+fn add_request(alloc: Global, text: &mut String, octets: &[u8]) -> Result<(), AllocError> {
+    let read = CertReq::try_from_bytes(alloc, octets);
+    add_whole(text, octets, Node::Request, read)?;
+    Ok(())
+}
+
+// How OpenSSL makes DER of PEM.
+fn pem_hint(kind: Kind) -> &'static str {
+    match kind {
+        Kind::Certificate => {
+            "the file is PEM, and DER is read: `openssl x509 -in FILE -outform DER`\n"
+        }
+        Kind::List => "the file is PEM, and DER is read: `openssl crl -in FILE -outform DER`\n",
+        Kind::Request => "the file is PEM, and DER is read: `openssl req -in FILE -outform DER`\n",
+    }
+}
+
+/// Why these octets aren't of a kind: the first fault, the octet where it stands, and the parts
+/// around it, from the outermost on. Of octets that are it says so, and what RFC 5280 asks for
+/// beyond that.
+///
+/// # Errors
+///
+/// Want of memory.
+pub fn explain_octets(alloc: Global, octets: &[u8], kind: Kind) -> Result<String, AllocError> {
+    let mut text = String::new(alloc);
+    if is_pem(octets) {
+        text.push_str(pem_hint(kind))?;
+        return Ok(text);
+    }
+    match kind {
+        Kind::Certificate => add_certificate(alloc, &mut text, octets)?,
+        Kind::List => add_list(alloc, &mut text, octets)?,
+        Kind::Request => add_request(alloc, &mut text, octets)?,
+    }
+    Ok(text)
+}

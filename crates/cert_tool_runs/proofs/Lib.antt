@@ -1,0 +1,4 @@
+pub mod AnswerFile
+pub mod WordsOfLine
+pub mod QuestionLaws
+pub mod SplitLaws

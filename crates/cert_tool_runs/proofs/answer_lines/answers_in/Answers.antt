@@ -1,0 +1,12 @@
+use Rattle.std.proofs.Common.{◌≡◌, ℕ, ◌+◌, rules, ap, sym, ◌∙◌}
+use Rattle.cert_tool_runs.specs.AnswerReading.{IsNoLine}
+use Rattle.cert_tool_runs.proofs.AnswerFile.{behind-line, no_file}
+use Rattle.cert_tool_runs.proofs.answer_lines.answers_in.Goals as goal
+
+pub returns-in-Err-clause-refused : goal.returns-in-Err-clause-refused
+returns-in-Err-clause-refused c =
+    no_file c.as_slice-line-items.result.now _ c.loop-line.line-index c.loop-line-test.true _ c.args.octets.now c.in-Err.fault _ c.loop-line.invariant.1 c.in-Err.ensures.refused (search rules)
+
+pub loop-line-preserved : goal.loop-line-preserved
+loop-line-preserved c =
+    (search rules, behind-line c.as_slice-line-items.result.now _ c.loop-line.line-index c.loop-line-test.true _ _ _ c.loop-line.invariant.1 c.in_default-read_line.ensures.read)

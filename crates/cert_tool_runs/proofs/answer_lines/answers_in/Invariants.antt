@@ -1,0 +1,11 @@
+-- the answers so far, and what the lines left say, are what the file says
+use Rattle.std.proofs.Common.{◌≡◌, map, drop}
+use Rattle.cert_tool_runs.specs.Answers.{answer_plain}
+use Rattle.cert_tool_runs.specs.AnswerLines.{answers_from, file_says}
+use Rattle.cert_tool_runs.proofs.AnswerFile.{behind}
+use Rattle.cert_tool_runs.proofs.answer_lines.answers_in.Given as goal
+
+abbrev pub invariant-loop-line : goal.invariant-loop-line
+invariant-loop-line l =
+    (l.number ≡ l.line-index)
+    × (behind (map answer_plain l.answers.items) (answers_from l.line-index (map (λ line. line.now) (drop l.line-index l.line-items))) ≡ file_says l.fn.octets)

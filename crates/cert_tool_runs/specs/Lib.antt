@@ -1,0 +1,10 @@
+pub mod Answers
+pub mod Judges
+pub mod AnswerLines
+pub mod AnswerReading
+pub mod QuestionLines
+pub mod Questioning
+pub mod Stops
+pub mod Asking
+pub mod Verifying
+pub mod Splitting

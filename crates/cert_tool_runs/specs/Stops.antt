@@ -1,0 +1,48 @@
+-- What ends a run before what was asked for went out, and how it is told.
+use Rattle.std.specs.Prelude.{◌≡◌, ℕ, ◌⊎◌, List, [], ◌∷◌, length, Option, Some, None}
+use Rattle.cert_desk_io.specs.declared.exit_status.ExitStatus.{ExitStatus}
+use Rattle.cert_desk_io.specs.declared.exit_status.ExitStatus.TheVariants as statuses
+use Rattle.cert_desk_io.specs.Devices.{Device}
+use Rattle.cert_desk_io.specs.Telling.{IsComplaint, IsDeviceTold, IsMemoryTold}
+use Rattle.cert_desk_checking.specs.declared.checked.Verdict.{Verdict}
+use Rattle.cert_desk_checking.specs.declared.checked.Verdict.TheVariants as verdicts
+use Rattle.cert_desk_checking.specs.declared.standing.Standing.{Standing}
+use Rattle.cert_desk_checking.specs.declared.standing.Standing.TheVariants as standings
+use Rattle.cert_desk_checking.specs.declared.outcome.Outcome.{Outcome}
+use Rattle.cert_desk_checking.specs.declared.outcome.Outcome.TheVariants as outcomes
+use Rattle.const_oid.specs.Bound.{Bound}
+use Rattle.cert_desk_checking.specs.Certificates.{PlainCertificate}
+use Rattle.cert_desk_checking.specs.Chains.{joined}
+use Rattle.cert_desk_checking.specs.Lines.{anchors_line, line_of}
+use Rattle.cert_desk_checking.specs.Reading.{IsFed}
+use Rattle.cert_desk_checking.specs.Runs.{status_of}
+use Rattle.cert_desk_checking.specs.Streams.{Kept}
+
+-- that the stream has this verdict, for which nobody was asked
+abbrev pub unasked : Verdict → Outcome
+unasked verdict = outcomes.Checked (record { verdict = verdict; calls = 0 })
+
+-- why certificates that were read so are no chain of one or more
+abbrev pub stop_under : Standing → List PlainCertificate → Option Outcome
+stop_under standings.Open cs = None
+stop_under standings.Ended [] = Some (unasked verdicts.Empty)
+stop_under standings.Ended (c ∷ cs) = None
+stop_under (standings.Faulted kind) cs = Some (unasked (verdicts.StreamFault (length cs) (length (joined Bound cs)) kind))
+stop_under standings.NoMemory cs = Some outcomes.OutOfMemory
+stop_under standings.NoDevice cs = Some outcomes.Device
+
+abbrev pub stop_of : Kept → Option Outcome
+stop_of b = stop_under b.standing b.certificates
+
+-- A bundle of this limit was fed what an input gave.
+abbrev pub FedWithin : Device → ℕ → Kept → Type 0
+FedWithin stream limit b = (b.limit ≡ limit) × IsFed stream b
+
+-- What ended a run is told on the error output, and this is the status. Where there is no memory for the line, this is told in its place.
+abbrev pub IsStopTold : Device → Outcome → ExitStatus → Type 0
+IsStopTold err (outcomes.Checked checked) answer =
+    IsComplaint err (line_of checked.verdict checked.calls) (status_of checked.verdict) answer ⊎ IsMemoryTold err answer
+IsStopTold err (outcomes.BadAnchors offset fault) answer =
+    IsComplaint err (anchors_line offset fault) statuses.Arguments answer ⊎ IsMemoryTold err answer
+IsStopTold err outcomes.Device answer = IsDeviceTold err answer
+IsStopTold err outcomes.OutOfMemory answer = IsMemoryTold err answer

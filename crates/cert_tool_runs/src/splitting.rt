@@ -1,0 +1,126 @@
+//! Runs that take streams apart.
+
+ghost use Rattle.std.specs.Prelude.{◌≡◌, ◌≤◌, IfOk, string_bytes};
+ghost use Rattle.cert_desk_io.specs.Devices.{sink, source};
+ghost use Rattle.cert_desk_checking.specs.Streams.{Kept};
+ghost use Rattle.cert_tool_runs.specs.Splitting.{IsListed, IsReversed, IsTaken, place_lines, reversed};
+ghost use Rattle.cert_tool_runs.specs.Stops.{FedWithin};
+
+use crate::stopping::tell_stop;
+use crate::stream_fault::stop_of;
+use cert_desk_checking::{Bundle, read_stream};
+use cert_desk_io::{ExitStatus, Input, Output, answer, complain, tell_memory};
+use std::alloc::{AllocError, Global};
+
+// A line for each certificate: its place, where it begins, and how many octets it has.
+fn list_of(alloc: Global, bundle: &Bundle) -> Result<String, AllocError>
+    ensures { IfOk result (λ text. string_bytes text ≡ place_lines bundle.now.certificates) }
+{
+    let mut text = String::new(alloc);
+    for place in 0..bundle.len() {
+        let entry = bundle.get(place).unwrap();
+        let (offset, len) = (entry.offset, entry.octets.len());
+        writeln!(text, "{place} {offset} {len}")?;
+    }
+    Ok(text)
+}
+
+// The octets of the certificates, the last one first.
+fn reversed(alloc: Global, bundle: &Bundle) -> Result<Vec<u8>, AllocError>
+    ensures { IfOk result (λ octets. octets.items ≡ reversed bundle.now.certificates) }
+{
+    let mut octets = Vec::new(alloc);
+    let mut left = bundle.len();
+    while left > 0 {
+        left -= 1;
+        octets.extend_from_slice(bundle.get(left).unwrap().octets)?;
+    }
+    Ok(octets)
+}
+
+/// Writes where each certificate of a stream stands, a line each: `PLACE OFFSET LENGTH`, in
+/// decimal.
+///
+/// The certificates before a fault are listed too, and then the fault is told on the error output.
+pub fn run_list<S: Input, O: Output, E: Output>(
+    alloc: Global,
+    stream: &mut S,
+    out: &mut O,
+    err: &mut E,
+    limit: u32,
+) -> ExitStatus
+    requires { 6 ≤ limit }
+    ensures told { (kept : Kept)
+        × FedWithin (source S.takes S.is_ended S.failures stream.old stream.new) limit kept
+        × IsListed (sink O.gives O.failures out.old out.new)
+        (sink E.gives E.failures err.old err.new) kept result }
+{
+    let bundle = read_stream(alloc, limit, stream);
+    let Ok(text) = list_of(alloc, &bundle) else {
+        return tell_memory(err);
+    };
+    let status = answer(out, err, text.as_bytes(), ExitStatus::Done);
+    if status != ExitStatus::Done {
+        return status;
+    }
+    match stop_of(&bundle) {
+        Some(outcome) => tell_stop(alloc, outcome, err),
+        None => ExitStatus::Done,
+    }
+}
+
+/// Writes the octets of the certificate at a place of a stream. Where it stands before a fault, the
+/// fault isn't told.
+pub fn run_take<S: Input, O: Output, E: Output>(
+    alloc: Global,
+    stream: &mut S,
+    out: &mut O,
+    err: &mut E,
+    limit: u32,
+    place: usize,
+) -> ExitStatus
+    requires { 6 ≤ limit }
+    ensures told { (kept : Kept)
+        × FedWithin (source S.takes S.is_ended S.failures stream.old stream.new) limit kept
+        × IsTaken (sink O.gives O.failures out.old out.new)
+        (sink E.gives E.failures err.old err.new) kept place result }
+{
+    let bundle = read_stream(alloc, limit, stream);
+    if let Some(entry) = bundle.get(place) {
+        return answer(out, err, entry.octets, ExitStatus::Done);
+    }
+    match stop_of(&bundle) {
+        Some(outcome) => tell_stop(alloc, outcome, err),
+        None => complain(
+            err,
+            b"no certificate at that place\n",
+            ExitStatus::Arguments,
+        ),
+    }
+}
+
+/// Writes the certificates of a stream, the last one first: a chain that begins with the
+/// subscriber's certificate, as TLS sends it, becomes one that begins below the anchor, and the
+/// other way round.
+pub fn run_reverse<S: Input, O: Output, E: Output>(
+    alloc: Global,
+    stream: &mut S,
+    out: &mut O,
+    err: &mut E,
+    limit: u32,
+) -> ExitStatus
+    requires { 6 ≤ limit }
+    ensures told { (kept : Kept)
+        × FedWithin (source S.takes S.is_ended S.failures stream.old stream.new) limit kept
+        × IsReversed (sink O.gives O.failures out.old out.new)
+        (sink E.gives E.failures err.old err.new) kept result }
+{
+    let bundle = read_stream(alloc, limit, stream);
+    if let Some(outcome) = stop_of(&bundle) {
+        return tell_stop(alloc, outcome, err);
+    }
+    match reversed(alloc, &bundle) {
+        Ok(octets) => answer(out, err, octets.as_slice(), ExitStatus::Done),
+        Err(_) => tell_memory(err),
+    }
+}

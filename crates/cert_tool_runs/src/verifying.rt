@@ -1,0 +1,115 @@
+//! Runs that judge a chain by answers.
+
+ghost use Rattle.std.specs.Prelude.{◌≡◌, ◌≤◌, ◌⊎◌, List, map, IfOk, IfErr, Ok, Err, string_bytes};
+ghost use Rattle.cert_desk_io.specs.Devices.{sink, source};
+ghost use Rattle.cert_desk_checking.specs.declared.outcome.Outcome.{Outcome};
+ghost use Rattle.cert_desk_checking.specs.Anchors.{purpose_plain};
+ghost use Rattle.cert_desk_checking.specs.Questions.{Question};
+ghost use Rattle.cert_desk_checking.specs.Runs.{IsOutcome, IsTold, judging};
+ghost use Rattle.cert_tool_runs.specs.declared.answers_judge.AnswersJudge.{AnswersJudge};
+ghost use Rattle.cert_tool_runs.specs.declared.no_answers.NoAnswers.{NoAnswers};
+ghost use Rattle.cert_tool_runs.specs.Answers.{answer_plain, listed};
+ghost use Rattle.cert_tool_runs.specs.Judges.{judge_answers, judge_questions};
+ghost use Rattle.cert_tool_runs.specs.Verifying.{AreAnswers, IsNoneTold, wrong_line};
+
+use crate::answer::Answer;
+use crate::answer_lines::answers_in;
+use crate::answers_judge::AnswersJudge;
+use crate::no_answers::NoAnswers;
+use cert_desk_checking::run_check;
+use cert_desk_io::{
+    ExitStatus, Input, Output, ReadAllError, complain, read_all, tell_device, tell_memory,
+};
+use const_oid::ObjectIdentifier;
+use std::alloc::{AllocError, Global};
+
+/// The answers that an input gives, to its end, as `answers_in` reads them.
+///
+/// # Errors
+///
+/// `Line(1)` too where there are 2^32 octets or more.
+pub fn read_answers<N: Input>(alloc: Global, answers: &mut N) -> Result<Vec<Answer>, NoAnswers>
+    ensures read { IfOk result (λ read. AreAnswers
+        (source N.takes N.is_ended N.failures answers.old answers.new)
+        (Ok (map answer_plain read.items))) }
+    ensures refused { IfErr result (λ none. AreAnswers
+        (source N.takes N.is_ended N.failures answers.old answers.new) (Err none)) }
+{
+    let octets = match read_all(alloc, answers, u32::MAX) {
+        Ok(octets) => octets,
+        Err(ReadAllError::TooMuch) => return Err(NoAnswers::Line(1)),
+        Err(ReadAllError::Device) => return Err(NoAnswers::Device),
+        Err(ReadAllError::OutOfMemory) => return Err(NoAnswers::OutOfMemory),
+    };
+    match answers_in(alloc, octets.as_slice()) {
+        Ok(answers) => Ok(answers),
+        Err(none) => Err(none),
+    }
+}
+
+// What is said of a file whose line of this number is no answer.
+fn fault_line(alloc: Global, line: u64) -> Result<String, AllocError>
+    ensures { IfOk result (λ text. string_bytes text ≡ wrong_line line) }
+{
+    format!(in alloc; "answers: line {line}\n")
+}
+
+/// Tells why there are no answers, in one line, and answers the status.
+pub fn tell_none<E: Output>(alloc: Global, none: NoAnswers, err: &mut E) -> ExitStatus
+    ensures { IsNoneTold (sink E.gives E.failures err.old err.new) none result }
+{
+    match none {
+        NoAnswers::Line(line) => match fault_line(alloc, line) {
+            Ok(text) => complain(err, text.as_bytes(), ExitStatus::Arguments),
+            Err(_) => tell_memory(err),
+        },
+        NoAnswers::Device => tell_device(err),
+        NoAnswers::OutOfMemory => tell_memory(err),
+    }
+}
+
+/// Judges the stream of one input under the anchors of another as `run_check` does, by a judge that
+/// says yes to the answers of a third, and no to all else.
+///
+/// The answers are read first, to their end, as `answers_in` reads them; where a line is faulty
+/// `answers: line N` goes to `err`, and nothing else is read. So does `answers: line 1` where there
+/// are 2^32 octets or more.
+pub fn run_verify<N: Input, A: Input, S: Input, O: Output, E: Output>(
+    alloc: Global,
+    answers: &mut N,
+    anchors: &mut A,
+    stream: &mut S,
+    out: &mut O,
+    err: &mut E,
+    moment: u64,
+    purpose: &ObjectIdentifier<39>,
+    limit: u32,
+) -> ExitStatus
+    requires { 6 ≤ limit }
+    // Either these are the answers, and the run is as `run_check` says under a judge that says yes
+    // to these alone; or there are none, which is told, and nothing else is touched.
+    ensures told { ((listing : List Question) × (old_judge : AnswersJudge)
+        × (new_judge : AnswersJudge) × (outcome : Outcome)
+        × AreAnswers (source N.takes N.is_ended N.failures answers.old answers.new) (Ok listing)
+        × (judge_answers old_judge ≡ listed listing)
+        × (judge_questions old_judge ≡ 0)
+        × IsOutcome (source A.takes A.is_ended A.failures anchors.old anchors.new)
+        (source S.takes S.is_ended S.failures stream.old stream.new)
+        (judging judge_answers judge_questions old_judge new_judge)
+        moment (purpose_plain purpose.now) limit outcome
+        × IsTold (sink O.gives O.failures out.old out.new)
+        (sink E.gives E.failures err.old err.new) outcome result)
+        ⊎ ((none : NoAnswers)
+        × AreAnswers (source N.takes N.is_ended N.failures answers.old answers.new) (Err none)
+        × (anchors.new ≡ anchors.old) × (stream.new ≡ stream.old) × (out.new ≡ out.old)
+        × IsNoneTold (sink E.gives E.failures err.old err.new) none result) }
+{
+    let answers = match read_answers(alloc, answers) {
+        Ok(answers) => answers,
+        Err(none) => return tell_none(alloc, none, err),
+    };
+    let mut judge = AnswersJudge::new(answers);
+    run_check(
+        alloc, anchors, stream, out, err, moment, purpose, limit, &mut judge,
+    )
+}

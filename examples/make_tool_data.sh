@@ -1,0 +1,188 @@
+#!/usr/bin/env bash
+# Makes the files of crates/tool_rows/data with OpenSSL 3 and the octets of the examples. Each run makes other keys; the files there are
+# those of one run.
+# usage: make_tool_data.sh CERT_TOOL FOLDER, where CERT_TOOL is the program
+set -euo pipefail
+tool=$(realpath "${1:?usage: make_tool_data.sh CERT_TOOL FOLDER}")
+here=$(dirname "$(realpath "$0")")
+mkdir -p "${2:?usage: make_tool_data.sh CERT_TOOL FOLDER}"
+cd "$2"
+work=$(mktemp -d)
+trap 'rm -rf "$work"' EXIT
+
+# the streams of docs/REFUSALS.md, by what they are refused for
+python3 - "$here/../docs/REFUSALS.md" <<'PY'
+import re, sys
+page = open(sys.argv[1]).read()
+streams = re.findall(r"\*\*`(\w+)`\*\*.*?```text\n(.*?)```", page, re.S)
+streams += [(name, octets) for octets, name in re.findall(r"^\| `([0-9a-f]+)` \|.*?`fault 0 0 (\w+)` \|", page, re.M)]
+for name, octets in streams:
+    open(f"{name}.der", "wb").write(bytes.fromhex("".join(octets.split())))
+PY
+
+cp "$here"/{root,chain,server}.der .
+"$tool" questions root.der chain.der 4000 | "$here/answer.sh" > answers.txt
+
+# the last octet of the intermediate's signature, and of the server's
+python3 - <<'PY'
+octets = open("chain.der", "rb").read()
+def changed(place):
+    other = bytearray(octets)
+    other[place] ^= 1
+    return bytes(other)
+open("forged.der", "wb").write(changed(len(octets) - 1))
+open("forged_first.der", "wb").write(changed(697))
+# parts of the server's certificate, each faulty in one way
+server = bytearray(open("server.der", "rb").read())
+def faulty(name, place, *replaced):
+    other = bytearray(server)
+    other[place : place + len(replaced)] = bytes(replaced)
+    open(name, "wb").write(other)
+faulty("padded.der", server.index(b"\x02\x14") + 2, 0x00, 0x10)
+faulty("month.der", server.index(b"\x17\x0d") + 4, 0x39, 0x39)
+faulty("true.der", server.index(b"\x01\x01\xff") + 2, 0x01)
+open("cut.der", "wb").write(server[:-3])
+open("behind.der", "wb").write(server + b"\0")
+open("bad_stream.der", "wb").write(octets[:698] + open("month.der", "rb").read())
+open("leaf_first.der", "wb").write(octets[698:] + octets[:698])
+open("pem.txt", "wb").write(b"-----BEGIN CERTIFICATE-----\n")
+# the second word of the second line is no number
+lines = open("answers.txt").read().split("\n")
+open("bad_answers.txt", "w").write("# two\n\n" + lines[0] + "\n" + lines[1].replace(" - ", " x ", 1) + "\n")
+open("none.txt", "w").write("")
+# the same answers otherwise written
+open("spelled.txt", "w").write("# place 1, place 0\n\n" + lines[1].upper() + "\n00" + lines[0])
+# the root's answer under the key of the intermediate
+words = lines[0].split(" ")
+open("other_key.txt", "w").write(" ".join(words[:2] + lines[1].split(" ")[2:3] + words[3:]) + "\n" + lines[1] + "\n")
+PY
+
+cat > "$work/extensions.cnf" <<'CNF'
+[root]
+basicConstraints = critical, CA:true
+keyUsage = critical, keyCertSign, cRLSign
+[short]
+basicConstraints = critical, CA:true, pathlen:0
+keyUsage = critical, keyCertSign
+[authority]
+basicConstraints = critical, CA:true
+keyUsage = critical, keyCertSign
+[plain]
+keyUsage = critical, digitalSignature
+[server]
+basicConstraints = critical, CA:false
+extendedKeyUsage = serverAuth
+[constrained]
+basicConstraints = critical, CA:true
+nameConstraints = critical, permitted;DNS:example
+[twice]
+basicConstraints = critical, CA:false
+subjectAltName = DNS:twice.example
+issuerAltName = DNS:issuer.example
+[unwise]
+basicConstraints = critical, CA:false
+subjectAltName = DNS:unwise.example, DNS:https://unwise.example/
+[full]
+basicConstraints = critical, CA:false
+keyUsage = critical, digitalSignature, keyEncipherment
+extendedKeyUsage = serverAuth, clientAuth, 1.3.6.1.4.1.32473.9
+subjectAltName = DNS:full.example, email:a@full.example, URI:https://full.example/, IP:192.0.2.1, IP:2001:db8::1, dirName:named, otherName:1.3.6.1.4.1.32473.3;UTF8:other, RID:1.3.6.1.4.1.32473.4
+subjectKeyIdentifier = hash
+authorityKeyIdentifier = keyid:always, issuer:always
+certificatePolicies = 1.3.6.1.4.1.32473.5, @policy
+crlDistributionPoints = URI:http://full.example/list.crl
+authorityInfoAccess = OCSP;URI:http://full.example/ocsp, caIssuers;URI:http://full.example/issuer.cer
+nsComment = "an extension that is not known here"
+[policy]
+policyIdentifier = 1.3.6.1.4.1.32473.6
+CPS.1 = "https://full.example/cps"
+[named]
+C = US
+O = Desk Example
+CNF
+
+# certify NAME ISSUER EXTENSIONS [COMMON]: a certificate of a new key on P-256, whose common name is NAME or COMMON. `days` and `serial`
+# say how long it is valid, and its serial number.
+certify() {
+    openssl genpkey -algorithm EC -pkeyopt ec_paramgen_curve:P-256 -out "$work/$1.key" 2> /dev/null
+    openssl req -new -key "$work/$1.key" -subj "/O=Desk Example/CN=${4:-$1}" -out "$work/$1.csr" 2> /dev/null
+    local by=(-CA "$work/$2.pem" -CAkey "$work/$2.key")
+    if [ "$1" = "$2" ]; then
+        by=(-signkey "$work/$1.key")
+    fi
+    openssl x509 -req -in "$work/$1.csr" "${by[@]}" -set_serial "${serial:-0x1F}" -days "${days:-3650}" -sha256 \
+        -extfile "$work/extensions.cnf" -extensions "$3" -out "$work/$1.pem" 2> /dev/null
+    openssl x509 -in "$work/$1.pem" -outform DER -out "$work/$1.der"
+}
+
+certify anchor anchor root
+certify namesake namesake root anchor
+certify short anchor short
+days=3000 certify middle short authority
+days=365 certify leaf middle server
+certify plain anchor plain
+days=365 certify below plain server
+certify constrained anchor constrained
+days=365 certify inside constrained server
+days=3000 certify first anchor authority
+days=365 certify twice first twice
+days=7300 certify unwise first unwise
+serial=0x$(printf '5A%.0s' {1..25}) certify long_serial anchor plain
+certify full anchor full
+cp "$work"/{anchor,full,long_serial}.der .
+cat "$work/short.der" "$work/middle.der" "$work/leaf.der" > long.der
+cat "$work/plain.der" "$work/below.der" > plain.der
+cat "$work/constrained.der" "$work/inside.der" > constrained.der
+# OpenSSL makes no certificate with two extensions of one kind: the issuer's names become others of the subject, signed anew
+python3 - "$work" <<'PY'
+import subprocess, sys
+work = sys.argv[1]
+def value(tag, content):
+    size = len(content)
+    octets = b"" if size < 0x80 else size.to_bytes((size.bit_length() + 7) // 8, "big")
+    return bytes([tag, 0x80 + len(octets)]) + octets + content if octets else bytes([tag, size]) + content
+def end(octets, start):
+    size, head = octets[start + 1], 2
+    if size >= 0x80:
+        head = 2 + size - 0x80
+        size = int.from_bytes(octets[start + 2 : start + head], "big")
+    return start + head, start + head + size
+octets = open(f"{work}/twice.der", "rb").read()
+start, _ = end(octets, 0)
+_, signed_end = end(octets, start)
+_, algorithm_end = end(octets, signed_end)
+signed = octets[start:signed_end].replace(bytes.fromhex("0603551d12"), bytes.fromhex("0603551d11"))
+signature = subprocess.run(["openssl", "dgst", "-sha256", "-sign", f"{work}/first.key"], input=signed, capture_output=True, check=True).stdout
+twice = value(0x30, signed + octets[signed_end:algorithm_end] + value(0x03, b"\0" + signature))
+open(f"{work}/twice.der", "wb").write(twice)
+PY
+cat "$work/first.der" "$work/twice.der" > twice.der
+# the anchor is its own issuer, and the one behind it has its serial number
+cat "$work/anchor.der" "$work/first.der" "$work/unwise.der" > unwise.der
+# another key of the same name stands first
+cat "$work/namesake.der" "$work/anchor.der" > anchors.der
+
+# a revocation list, and a request
+: > "$work/index.txt"
+echo 01 > "$work/number"
+cat > "$work/list.cnf" <<CNF
+[ca]
+default_ca = desk
+[desk]
+database = $work/index.txt
+crlnumber = $work/number
+default_md = sha256
+default_crl_days = 30
+crl_extensions = list
+[list]
+authorityKeyIdentifier = keyid:always
+CNF
+printf 'R\t360101000000Z\t260201000000Z,keyCompromise\t2A\tunknown\t/CN=gone\n' > "$work/index.txt"
+openssl ca -gencrl -config "$work/list.cnf" -cert "$work/anchor.pem" -keyfile "$work/anchor.key" -out "$work/list.pem" 2> /dev/null
+openssl crl -in "$work/list.pem" -outform DER -out list.der
+openssl req -new -key "$work/full.key" -subj "/CN=wanted" -addext "subjectAltName = DNS:wanted.example" -outform DER -out request.der 2> /dev/null
+
+# the answers of OpenSSL on each of the other chains
+for name in long plain constrained twice unwise; do
+    "$tool" questions anchor.der "$name.der" 4000 | "$here/answer.sh" > "$name.txt"
+done
