@@ -1,23 +1,81 @@
-/* Lets the Nth request for memory of a program fail, where the environment says N (REFUSE): to be loaded before the C library.
- * Whether it came to that is told by the file that REFUSED names: it is then there. */
+/* Lets requests for memory of a program fail: to be loaded before the C library.
+ *
+ * Where the environment has REFUSE=N, the Nth request fails. Whether it came to that is told by the
+ * file that REFUSED names: it is then there.
+ *
+ * Where it has EACH=FILE, the program is forked at each request: in the fork that request fails,
+ * and the program goes on once the fork has ended. FILE gets a line for each, `NUMBER STATUS
+ * OCTETS`, and behind it what that fork wrote to its standard output, of so many octets. The
+ * standard input and output have to be files, and no other file may be read. */
 #define _GNU_SOURCE
 #include <dlfcn.h>
 #include <fcntl.h>
 #include <stddef.h>
+#include <stdio.h>
 #include <stdlib.h>
+#include <sys/mman.h>
+#include <sys/wait.h>
 #include <unistd.h>
 
 static unsigned long made;
 static unsigned long refuse;
+static int each = -1;
 
 __attribute__((constructor)) static void begin(void) {
     const char *number = getenv("REFUSE");
+    const char *file = getenv("EACH");
+    if (file) each = open(file, O_CREAT | O_WRONLY | O_APPEND | O_CLOEXEC, 0600);
     refuse = number ? strtoul(number, NULL, 10) : 0;
     made = 0;
 }
 
+/* What was read and written before is where it was, for the fork alone. */
+static void part(int out) {
+    off_t read_so_far = lseek(0, 0, SEEK_CUR);
+    int in = open("/proc/self/fd/0", O_RDONLY);
+    char octets[4096];
+    ssize_t count;
+    if (in < 0 || read_so_far < 0) _exit(99);
+    lseek(in, read_so_far, SEEK_SET);
+    dup2(in, 0);
+    close(in);
+    int before = open("/proc/self/fd/1", O_RDONLY);
+    while (before >= 0 && (count = read(before, octets, sizeof octets)) > 0)
+        if (write(out, octets, count) != count) _exit(99);
+    close(before);
+    dup2(out, 1);
+    close(out);
+    alarm(20);
+}
+
+static int is_refused_in_fork(void) {
+    int status = 0, log = each;
+    int out = memfd_create("out", 0);
+    pid_t child = out < 0 ? -1 : fork();
+    if (child < 0) _exit(98);
+    if (child == 0) {
+        each = -1;
+        part(out);
+        return 1;
+    }
+    each = -1;
+    if (waitpid(child, &status, 0) != child) _exit(98);
+    char octets[4096], line[96];
+    off_t size = lseek(out, 0, SEEK_END);
+    int told = WIFEXITED(status) ? WEXITSTATUS(status) : 1000 + WTERMSIG(status);
+    int len = snprintf(line, sizeof line, "%lu %d %ld\n", made, told, (long)size);
+    if (write(log, line, len) != len) _exit(98);
+    lseek(out, 0, SEEK_SET);
+    for (ssize_t count; (count = read(out, octets, sizeof octets)) > 0;)
+        if (write(log, octets, count) != count) _exit(98);
+    close(out);
+    each = log;
+    return 0;
+}
+
 static int is_refused(void) {
     made += 1;
+    if (each >= 0) return is_refused_in_fork();
     if (refuse == 0 || made != refuse) return 0;
     const char *told = getenv("REFUSED");
     if (told) close(open(told, O_CREAT | O_WRONLY, 0600));

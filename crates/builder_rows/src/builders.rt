@@ -2,6 +2,8 @@
 
 use crate::digest_signer::{DigestSigner, SignerWords};
 use crate::refusals::Refusal;
+use rand_chacha::ChaCha20Rng;
+use rand_core::SeedableRng;
 use std::alloc::Global;
 use x509_cert_list_builders::{Builder, Signer};
 
@@ -20,6 +22,10 @@ pub enum Manner {
     Later,
     /// It is changed, finalized for a signer, and assembled by another.
     Other,
+    /// It is built with random octets.
+    Drawn,
+    /// What is signed: where there is no memory, the call is made again.
+    Again,
 }
 
 impl Manner {
@@ -32,6 +38,8 @@ impl Manner {
             "late" => Ok(Manner::Late),
             "later" => Ok(Manner::Later),
             "other" => Ok(Manner::Other),
+            "drawn" => Ok(Manner::Drawn),
+            "again" => Ok(Manner::Again),
             _ => Err(Refusal::Unread),
         }
     }
@@ -64,6 +72,16 @@ pub trait Change: Builder {
     fn change(&mut self, alloc: Global, word: &str) -> Result<(), Refusal>;
 }
 
+impl Manner {
+    /// Whether what is signed is asked for, and no whole.
+    pub fn is_part(self) -> bool {
+        match self {
+            Manner::Part | Manner::Again => true,
+            _ => false,
+        }
+    }
+}
+
 /// What is signed, twice the same.
 pub fn part_of<B: Change + Drop>(
     alloc: Global,
@@ -71,8 +89,48 @@ pub fn part_of<B: Change + Drop>(
     asked: &Asked<'_>,
 ) -> Result<Vec<u8>, Refusal> {
     let signer = asked.signer(alloc)?;
+    if let Manner::Again = asked.manner {
+        return again(alloc, &mut builder, asked.change, &signer);
+    }
     builder.change(alloc, asked.change)?;
     twice(alloc, &mut builder, &signer)
+}
+
+/// What is signed behind a change, which is made again where it finds no memory: then the builder
+/// has to be as it was.
+fn again<B: Change + Drop>(
+    alloc: Global,
+    builder: &mut B,
+    change: &str,
+    signer: &DigestSigner,
+) -> Result<Vec<u8>, Refusal> {
+    let before = finalized_again(alloc, builder, signer)?;
+    if let Err(refusal) = builder.change(alloc, change) {
+        let Refusal::Memory = refusal else {
+            return Err(refusal);
+        };
+        let after = finalized_again(alloc, builder, signer)?;
+        if after.as_slice() != before.as_slice() {
+            return Err(Refusal::Changed);
+        }
+        builder.change(alloc, change)?;
+    }
+    finalized_again(alloc, builder, signer)
+}
+
+/// What is signed, at the second call where the first finds no memory.
+fn finalized_again<B: Change + Drop>(
+    alloc: Global,
+    builder: &mut B,
+    signer: &DigestSigner,
+) -> Result<Vec<u8>, Refusal> {
+    match builder.finalize(alloc, signer) {
+        Ok(octets) => Ok(octets),
+        Err(error) => match Refusal::from(error) {
+            Refusal::Memory => Ok(builder.finalize(alloc, signer)?),
+            refusal => Err(refusal),
+        },
+    }
 }
 
 /// What is signed, made twice.
@@ -107,7 +165,8 @@ fn whole_by<B: Change + Drop>(
     signer: &DigestSigner,
 ) -> Result<B::Output, Refusal> {
     match asked.manner {
-        Manner::Part | Manner::Whole => built(alloc, builder, asked, signer),
+        Manner::Part | Manner::Again | Manner::Whole => built(alloc, builder, asked, signer),
+        Manner::Drawn => drawn(alloc, builder, asked, signer),
         Manner::Unready => assembled(alloc, builder, &[], signer),
         Manner::Late => late(alloc, builder, asked, signer),
         Manner::Later => later(alloc, builder, asked, signer),
@@ -123,6 +182,18 @@ fn built<B: Change + Drop>(
 ) -> Result<B::Output, Refusal> {
     builder.change(alloc, asked.change)?;
     let made = builder.build(alloc, signer)?;
+    Ok(made)
+}
+
+fn drawn<B: Change + Drop>(
+    alloc: Global,
+    mut builder: B,
+    asked: &Asked<'_>,
+    signer: &DigestSigner,
+) -> Result<B::Output, Refusal> {
+    builder.change(alloc, asked.change)?;
+    let mut generator = ChaCha20Rng::from_seed([0; 32]);
+    let made = builder.build_with_rng(alloc, signer, &mut generator)?;
     Ok(made)
 }
 

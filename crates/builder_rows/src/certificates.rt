@@ -4,6 +4,7 @@ use crate::builders::{Asked, Change, Manner, part_of, whole_of};
 use crate::digest_signer::SignerWords;
 use crate::refusals::Refusal;
 use crate::words::{Words, extension_of, key_of, octets_of, time_of};
+use const_oid::ObjectIdentifier;
 use der_core::{from_der, to_der};
 use std::alloc::Global;
 use std::str::FromStr;
@@ -84,7 +85,7 @@ impl<'a> Settled<'a> {
         profile: P,
     ) -> Result<Vec<u8>, Refusal> {
         let builder = self.builder(alloc, profile)?;
-        if let Manner::Part = self.asked.manner {
+        if self.asked.manner.is_part() {
             return part_of(alloc, builder, &self.asked);
         }
         let certificate: Certificate = whole_of(alloc, builder, &self.asked)?;
@@ -204,7 +205,10 @@ fn version_of(word: &str) -> Result<TpmVersion, Refusal> {
     match word {
         "1.2" => Ok(TpmVersion::Tpm12),
         "2.0" => Ok(TpmVersion::Tpm20),
-        _ => Err(Refusal::Unread),
+        word => match ObjectIdentifier::new(word) {
+            Ok(oid) => Ok(TpmVersion::Other(oid)),
+            Err(_) => Err(Refusal::Unread),
+        },
     }
 }
 

@@ -103,7 +103,7 @@ pub fn answer(alloc: Global, rest: &str) -> Result<Vec<u8>, Refusal> {
 
 /// What is made by a builder.
 fn made(alloc: Global, builder: CrlBuilder, asked: &Asked<'_>) -> Result<Vec<u8>, Refusal> {
-    if let Manner::Part = asked.manner {
+    if asked.manner.is_part() {
         return part_of(alloc, builder, asked);
     }
     let list: CertificateList = whole_of(alloc, builder, asked)?;

@@ -18,12 +18,15 @@
 //! |---|---|
 //! | `part`, `signed` | what is signed, made twice; `changed` where both differ |
 //! | `whole` | the whole, whose bits are the digest of the signer's key and the signed octets |
+//! | `drawn` | the same, built with random octets, of which the signer takes none |
 //! | `unready` | the same, assembled before anything is finalized |
 //! | `late` | assembled after the builder was changed behind what it has finalized, with the bits of no octets |
 //! | `later` | assembled after the builder was changed, finalized and changed once more |
 //! | `other` | assembled by a signer of another algorithm than the part was made for |
+//! | `again` | what is signed behind the change. Where a call finds no memory the builder has to be as before it, and the call is made again; else `changed` |
 //!
-//! To be changed is to be given the extension of a certificate, the entries of a list, or the extensions of a request.
+//! To be changed is to be given the extension of a certificate, the entries of a list, or of a request its extensions, or the
+//! password behind `password:`.
 //!
 //! | `PROFILE` | |
 //! |---|---|
@@ -31,7 +34,7 @@
 //! | `subordinate FLAGS PATH SETTLED ISSUER\|SUBJECT` | an authority below one, a path length or a dash |
 //! | `subscriber FLAGS KIND SETTLED ISSUER\|SUBJECT` | a server; its kind is `domain`, `individual`, `organization` or `extended` |
 //! | `device FLAGS NAMES SETTLED ISSUER\|SUBJECT` | a device; the encoding of its alternative names in hex, or a dash |
-//! | `module FLAGS VERSION OCTETS SETTLED ISSUER\|SUBJECT` | a device with a module `1.2` or `2.0` of this serial number |
+//! | `module FLAGS VERSION OCTETS SETTLED ISSUER\|SUBJECT` | a device with a module `1.2` or `2.0`, or of this identifier, and of this serial number |
 //!
 //! `FLAGS` are letters, or a dash: `o` answers about the state of certificates are signed, `c` clients are certified, `d` data are
 //! enciphered, `k` keys are, `a` keys are agreed upon, `r` the signer refuses, `i` it keeps the identifier of its key. `SETTLED` is

@@ -13,7 +13,7 @@ pub enum Refusal {
     Unread,
     /// Want of memory.
     Memory,
-    /// What was made first isn't made again.
+    /// What was made first isn't made again, or a call that found no memory changed something.
     Changed,
     /// A fault in DER, or of the builder.
     Refused(Error),
@@ -23,6 +23,7 @@ impl From<Error> for Refusal {
     fn from(error: Error) -> Refusal {
         match error {
             Error::Asn1(error) => Refusal::from(error),
+            Error::Signature(error) => Refusal::from(error),
             error => Refusal::Refused(error),
         }
     }
@@ -39,7 +40,10 @@ impl From<der_core::Error> for Refusal {
 
 impl From<SignError> for Refusal {
     fn from(error: SignError) -> Refusal {
-        Refusal::Refused(Error::Signature(error))
+        match error {
+            SignError::OutOfMemory => Refusal::Memory,
+            SignError::Refused => Refusal::Refused(Error::Signature(error)),
+        }
     }
 }
 

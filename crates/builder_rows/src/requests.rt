@@ -15,6 +15,11 @@ impl Change for RequestBuilder {
         if word == "-" {
             return Ok(());
         }
+        if let Some(octets) = word.strip_prefix("password:") {
+            let password = password_of(alloc, octets)?;
+            self.add_attribute(alloc, &password)?;
+            return Ok(());
+        }
         for text in word.split(',') {
             let extension = extension_of(alloc, text)?;
             self.add_extension(alloc, extension)?;
@@ -80,7 +85,7 @@ pub fn answer(alloc: Global, rest: &str) -> Result<Vec<u8>, Refusal> {
 
 /// What is made by a builder.
 fn made(alloc: Global, builder: RequestBuilder, asked: &Asked<'_>) -> Result<Vec<u8>, Refusal> {
-    if let Manner::Part = asked.manner {
+    if asked.manner.is_part() {
         return part_of(alloc, builder, asked);
     }
     let request: CertReq = whole_of(alloc, builder, asked)?;

@@ -2,8 +2,8 @@
 
 use crate::refusals::Refusal;
 use crate::{
-    audits, bundles, certificates, chains, checks, devices, digests, errors, issues, listings,
-    readings, splits,
+    audits, bundles, certificates, chains, checks, cuts, devices, digests, errors, issues,
+    listings, readings, splits,
 };
 use std::alloc::Global;
 use std::io;
@@ -34,6 +34,9 @@ fn answer_of(alloc: Global, line: &str) -> Result<String, Refusal> {
         }
         "bundle" => bundles::answer(alloc, rest),
         "split" => splits::answer(alloc, rest),
+        "cuts" => cuts::answer(alloc, rest),
+        "fronts" => cuts::answer_of_fronts(alloc, rest),
+        "again" => cuts::answer_again(alloc, rest),
         "input" => devices::answer_of_input(alloc, rest),
         "output" => devices::answer_of_output(alloc, rest),
         "listing" => answer_of_listing(alloc, rest),
@@ -69,8 +72,10 @@ fn answer_of_issue(alloc: Global, line: &str) -> Result<String, Refusal> {
             let (schedules, file) = rest.split_once(' ').ok_or(Refusal::Unread)?;
             issues::answer(alloc, schedules, file)
         }
+        "call" => issues::answer_of_call(alloc, rest),
         "digest" => digests::answer(alloc, rest),
         "audit" => audits::answer(alloc, rest),
+        "again" => audits::answer_again(alloc, rest),
         "check" => chains::answer_of_check(alloc, rest),
         "show" => chains::answer_of_show(alloc, rest),
         _ => Err(Refusal::Unread),

@@ -6,10 +6,9 @@ use crate::bundles::limit_of;
 use crate::files::file_of;
 use crate::odd_signer::{OddSigner, Oddity};
 use crate::refusals::Refusal;
-use crate::words::{key_of, number_of, octets_of, purpose_of};
+use crate::words::{Judged, key_of, number_of, octets_of, purpose_of};
 use cert_desk::{
-    DigestJudge, DigestSigner, IssueError, Issued, Order, SubjectPublicKeyInfo, Verdict, issue,
-    orders_in,
+    DigestJudge, DigestSigner, IssueError, Issued, Order, SubjectPublicKeyInfo, issue, orders_in,
 };
 use const_oid::ObjectIdentifier;
 use std::alloc::Global;
@@ -99,6 +98,20 @@ pub fn answer(alloc: Global, rest: &str) -> Result<String, Refusal> {
     }
 }
 
+/// The octets of the chain of a file's orders. Where there is no memory for it, it is issued again.
+pub fn answer_again(alloc: Global, rest: &str) -> Result<String, Refusal> {
+    let (signer, file) = rest.split_once(' ').ok_or(Refusal::Unread)?;
+    let mut issued = chain_of(alloc, signer, file)?;
+    if let Err(IssueError::OutOfMemory) = issued {
+        issued = chain_of(alloc, signer, file)?;
+    }
+    match issued {
+        Ok(issued) => Ok(hex::encode(alloc, issued.stream())?),
+        Err(IssueError::OutOfMemory) => Err(Refusal::Memory),
+        Err(error) => Ok(format!(in alloc; "{error:?}")?),
+    }
+}
+
 /// The chain of a file's orders by these signers.
 fn chain_of(
     alloc: Global,
@@ -106,9 +119,7 @@ fn chain_of(
     file: &str,
 ) -> Result<Result<Issued, IssueError>, Refusal> {
     let file = file_of(alloc, file)?;
-    let Ok(orders) = orders_in(alloc, file.as_slice()) else {
-        return Err(Refusal::Unread);
-    };
+    let orders = orders_in(alloc, file.as_slice())?;
     let signers = Signers::parse(alloc, signers)?;
     let signers = signers.for_orders(alloc, orders.as_slice())?;
     Ok(issue(alloc, orders.as_slice(), signers.as_slice()))
@@ -129,11 +140,5 @@ fn audit(
         return Err(Refusal::Memory);
     };
     let places = issued.certificates().len();
-    let calls = checked.calls;
-    match checked.verdict {
-        Verdict::Refused { place, rule } => {
-            Ok(format!(in alloc; "{places}: refused {place} {rule} calls={calls}")?)
-        }
-        verdict => Ok(format!(in alloc; "{places}: {verdict:?} calls={calls}")?),
-    }
+    Ok(format!(in alloc; "{places}: {}", Judged(checked))?)
 }

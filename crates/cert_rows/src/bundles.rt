@@ -2,10 +2,11 @@
 
 ghost use Rattle.std.specs.Prelude.{◌≤◌, IfOk};
 
+use crate::cuts::verdict_on;
 use crate::refusals::Refusal;
 use crate::schedules::Schedule;
 use crate::words::{Word, number_of, octets_of};
-use cert_desk::Bundle;
+use cert_desk::{Bundle, DigestJudge};
 use cert_desk_io::MemoryInput;
 use std::alloc::Global;
 use std::fmt::Write;
@@ -52,6 +53,11 @@ fn write_call(
     match call {
         "read" => write!(text, "{:?}; ", bundle.read_from(input))?,
         "end" => write!(text, "{:?}; ", bundle.finish())?,
+        "unfinished" => write!(text, "{}; ", bundle.unfinished())?,
+        "check" => {
+            let verdict = verdict_on(alloc, bundle, &mut DigestJudge::new())?;
+            write!(text, "{verdict}; ")?;
+        }
         piece => {
             let piece = octets_of(alloc, piece)?;
             write!(text, "{:?}; ", bundle.feed(piece.as_slice()))?;
@@ -61,7 +67,7 @@ fn write_call(
 }
 
 /// Writes how a bundle stands, and its certificates: offset, octets, signed octets.
-fn write_standing(text: &mut String, bundle: &Bundle) -> Result<(), Refusal> {
+pub fn write_standing(text: &mut String, bundle: &Bundle) -> Result<(), Refusal> {
     let (len, end) = (bundle.len(), bundle.end_offset());
     write!(text, "{:?} len={len} end={end}; ", bundle.standing())?;
     for place in 0..bundle.len() {

@@ -5,25 +5,24 @@ use crate::files::file_of;
 use crate::refusals::Refusal;
 use crate::words::{number_of, purpose_of};
 use crate::{checks, issues, listings};
-use cert_desk::{Bundle, DigestJudge, Kind};
+use cert_desk::{Bundle, DigestJudge, FileKind};
 use std::alloc::Global;
 
 /// The stream that a run writes for a file, where it does.
 fn stream_of(alloc: Global, file: &str) -> Result<Vec<u8>, Refusal> {
     let file = file_of(alloc, file)?;
     let told = issues::run(alloc, "-/-/-", file.as_slice())?;
-    if told.status != 0 {
-        return Err(Refusal::Unread);
+    match told.status {
+        0 => Ok(told.out),
+        6 => Err(Refusal::Memory),
+        _ => Err(Refusal::Unread),
     }
-    Ok(told.out)
 }
 
 /// The octets of the certificate at a place of a stream.
 fn certificate_of(alloc: Global, stream: &[u8], place: usize) -> Result<Vec<u8>, Refusal> {
     let mut bundle = Bundle::new(alloc, u32::MAX);
-    if bundle.feed(stream).is_err() {
-        return Err(Refusal::Unread);
-    }
+    bundle.feed(stream)?;
     let entry = bundle.get(place).ok_or(Refusal::Unread)?;
     Ok(entry.octets.to_vec(alloc)?)
 }
@@ -54,5 +53,10 @@ pub fn answer_of_show(alloc: Global, rest: &str) -> Result<String, Refusal> {
     let place = number_of(place)? as usize;
     let stream = stream_of(alloc, file)?;
     let certificate = certificate_of(alloc, stream.as_slice(), place)?;
-    listings::run(alloc, "-/-/-", Kind::Certificate, certificate.as_slice())
+    listings::run(
+        alloc,
+        "-/-/-",
+        FileKind::Certificate,
+        certificate.as_slice(),
+    )
 }

@@ -2,11 +2,12 @@
 
 ghost use Rattle.std.specs.Prelude.{◌≤◌};
 
-use crate::judges::{FixedJudge, OctetsJudge};
+use crate::cuts;
+use crate::judges::{FixedJudge, KeyJudge, OctetsJudge};
 use crate::refusals::Refusal;
 use crate::schedules::{Devices, Schedule};
-use crate::words::{octets_of, told};
-use cert_desk::{Arguments, DigestJudge, SignatureJudge, Status, USAGE, run_check};
+use crate::words::{list_of, octets_of, told};
+use cert_desk::{Arguments, DigestJudge, ExitStatus, SignatureJudge, USAGE, run_check};
 use const_oid::ObjectIdentifier;
 use std::alloc::Global;
 
@@ -18,6 +19,15 @@ pub struct Asked<'a> {
     pub moment: u64,
     pub purpose: &'a ObjectIdentifier<39>,
     pub limit: u32,
+}
+
+/// How a stream comes.
+#[derive(Clone, Copy)]
+pub enum How<'a> {
+    /// Four devices move octets by these schedules.
+    Moved(&'a str),
+    /// Cut at each place in turn, and octet by octet.
+    Cut,
 }
 
 /// What a run tells, where four devices move octets by these schedules.
@@ -63,7 +73,7 @@ pub fn answer(alloc: Global, schedules: &str, line: &str) -> Result<String, Refu
         .map(|word| word.to_string(alloc))
         .try_collect(alloc)?;
     let Some(arguments) = Arguments::parse(words.as_slice()) else {
-        return told(alloc, Status::Arguments as u8, b"", USAGE.as_bytes());
+        return told(alloc, ExitStatus::Arguments as u8, b"", USAGE.as_bytes());
     };
     let anchors = octets_of(alloc, arguments.anchors)?;
     let stream = octets_of(alloc, arguments.stream)?;
@@ -74,31 +84,55 @@ pub fn answer(alloc: Global, schedules: &str, line: &str) -> Result<String, Refu
         purpose: &arguments.purpose,
         limit: arguments.limit,
     };
-    judged(alloc, schedules, name, &asked)
+    judged(alloc, How::Moved(schedules), name, &asked)
+}
+
+/// What is told of a stream that comes so.
+fn told_of<J: SignatureJudge>(
+    alloc: Global,
+    how: How<'_>,
+    asked: &Asked<'_>,
+    judge: &mut J,
+) -> Result<String, Refusal>
+    requires { 6 ≤ asked.now.limit }
+{
+    match how {
+        How::Moved(schedules) => run(alloc, schedules, asked, judge),
+        How::Cut => cuts::told(alloc, asked, judge),
+    }
 }
 
 /// The answer by a judge.
-fn judged(alloc: Global, schedules: &str, name: &str, asked: &Asked<'_>) -> Result<String, Refusal>
+pub fn judged(alloc: Global, how: How<'_>, name: &str, asked: &Asked<'_>) -> Result<String, Refusal>
     requires { 6 ≤ asked.now.limit }
 {
     let (judge, octets) = name.split_once(':').unwrap_or((name, "-"));
     match judge {
-        "digest" => run(alloc, schedules, asked, &mut DigestJudge::new()),
+        "digest" => told_of(alloc, how, asked, &mut DigestJudge::new()),
         "yes" | "no" => {
             let mut judge = FixedJudge {
                 answer: judge == "yes",
                 questions: 0,
             };
-            let text = run(alloc, schedules, asked, &mut judge)?;
+            let text = told_of(alloc, how, asked, &mut judge)?;
             Ok(format!(in alloc; "{text} asked={}", judge.questions)?)
         }
         "octets" => {
-            let octets = octets_of(alloc, octets)?;
+            let list = list_of(alloc, octets)?;
             let mut judge = OctetsJudge {
+                list: list.as_slice(),
+                questions: 0,
+            };
+            let text = told_of(alloc, how, asked, &mut judge)?;
+            Ok(format!(in alloc; "{text} asked={}", judge.questions)?)
+        }
+        "key" => {
+            let octets = octets_of(alloc, octets)?;
+            let mut judge = KeyJudge {
                 octets: octets.as_slice(),
                 questions: 0,
             };
-            let text = run(alloc, schedules, asked, &mut judge)?;
+            let text = told_of(alloc, how, asked, &mut judge)?;
             Ok(format!(in alloc; "{text} asked={}", judge.questions)?)
         }
         _ => Err(Refusal::Unread),

@@ -1,6 +1,8 @@
 //! Judges beside the program's.
 
 ghost use Rattle.std.specs.Prelude.{bytes_eq};
+ghost use Rattle.std.specs.List.{list_any};
+ghost use Rattle.cert_desk_plain.specs.Certificates.{key_bits};
 
 use cert_desk::{AlgorithmIdentifier, BitString, SignatureJudge, SubjectPublicKeyInfo};
 
@@ -28,15 +30,16 @@ impl SignatureJudge for FixedJudge {
     }
 }
 
-/// A judge that says yes where the signed octets are these.
+/// A judge that says yes where the signed octets stand in this list.
 #[derive(Drop)]
 pub struct OctetsJudge<'a> {
-    pub octets: &'a [u8],
+    pub list: &'a [Vec<u8>],
     pub questions: u64,
 }
 
 impl SignatureJudge for OctetsJudge<'_> {
-    ghost answers = { λ judge _ _ signed _. bytes_eq signed judge.octets.now };
+    ghost answers = { λ judge _ _ signed _.
+        list_any (λ octets. bytes_eq octets.items signed) judge.list.now };
 
     ghost questions = { λ judge. judge.questions };
 
@@ -48,6 +51,30 @@ impl SignatureJudge for OctetsJudge<'_> {
         _bits: &BitString,
     ) -> bool {
         self.questions = self.questions.saturating_add(1);
-        signed == self.octets
+        self.list.iter().any(|octets| octets.as_slice() == signed)
+    }
+}
+
+/// A judge that says yes where the key's octets are these.
+#[derive(Drop)]
+pub struct KeyJudge<'a> {
+    pub octets: &'a [u8],
+    pub questions: u64,
+}
+
+impl SignatureJudge for KeyJudge<'_> {
+    ghost answers = { λ judge key _ _ _. bytes_eq (key_bits key).octets judge.octets.now };
+
+    ghost questions = { λ judge. judge.questions };
+
+    fn accepts(
+        &mut self,
+        key: &SubjectPublicKeyInfo,
+        _algorithm: &AlgorithmIdentifier,
+        _signed: &[u8],
+        _bits: &BitString,
+    ) -> bool {
+        self.questions = self.questions.saturating_add(1);
+        key.subject_public_key.raw_bytes() == self.octets
     }
 }

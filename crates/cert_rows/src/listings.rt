@@ -4,8 +4,8 @@ use crate::refusals::Refusal;
 use crate::schedules::{Devices, Schedule};
 use crate::words::{kind_of, octets_of, told};
 use cert_desk::{
-    CertReq, CertificateInner, CertificateList, Kind, Raw, ShowError, run_show, show_certificate,
-    show_list, show_request,
+    CertReq, CertificateInner, CertificateList, FileKind, Raw, ShowError, run_show,
+    show_certificate, show_list, show_request,
 };
 use cert_desk_io::MemoryOutput;
 use der_core::from_der;
@@ -13,7 +13,12 @@ use std::alloc::Global;
 use std::str;
 
 /// What a run tells, where octets stand for the file and three devices move octets by these schedules.
-pub fn run(alloc: Global, schedules: &str, kind: Kind, octets: &[u8]) -> Result<String, Refusal> {
+pub fn run(
+    alloc: Global,
+    schedules: &str,
+    kind: FileKind,
+    octets: &[u8],
+) -> Result<String, Refusal> {
     let Devices {
         input,
         output,
@@ -55,20 +60,20 @@ pub fn answer_of_call(alloc: Global, schedule: &str, rest: &str) -> Result<Strin
 // Writes the listing of the value of this kind that the octets spell.
 fn call(
     alloc: Global,
-    kind: Kind,
+    kind: FileKind,
     octets: &[u8],
     output: &mut MemoryOutput<'_>,
 ) -> Result<Result<(), ShowError>, Refusal> {
     match kind {
-        Kind::Certificate => {
+        FileKind::Certificate => {
             let certificate = CertificateInner::<Raw>::from_der(alloc, octets)?;
             Ok(show_certificate(alloc, &certificate, output))
         }
-        Kind::List => {
+        FileKind::List => {
             let list = from_der::<CertificateList<Raw>>(alloc, octets)?;
             Ok(show_list(alloc, &list, output))
         }
-        Kind::Request => {
+        FileKind::Request => {
             let request = CertReq::try_from_bytes(alloc, octets)?;
             Ok(show_request(alloc, &request, output))
         }

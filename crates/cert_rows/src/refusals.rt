@@ -1,5 +1,6 @@
 //! Why a question has no other answer.
 
+use cert_desk::{BundleError, OrdersError, SignError};
 use der_core::{Error, ErrorKind};
 use hex::FromHexError;
 use std::alloc::{AllocError, AllocFailed};
@@ -13,6 +14,8 @@ pub enum Refusal {
     Unread,
     /// Want of memory.
     Memory,
+    /// A call that found no memory changed something.
+    Changed,
     /// Its octets spell no value of the kind.
     Der(ErrorKind),
 }
@@ -31,6 +34,33 @@ impl From<FromHexError> for Refusal {
         match error {
             FromHexError::OutOfMemory => Refusal::Memory,
             _ => Refusal::Unread,
+        }
+    }
+}
+
+impl From<SignError> for Refusal {
+    fn from(error: SignError) -> Refusal {
+        match error {
+            SignError::OutOfMemory => Refusal::Memory,
+            SignError::Refused => Refusal::Unread,
+        }
+    }
+}
+
+impl From<BundleError> for Refusal {
+    fn from(error: BundleError) -> Refusal {
+        match error {
+            BundleError::OutOfMemory => Refusal::Memory,
+            _ => Refusal::Unread,
+        }
+    }
+}
+
+impl From<OrdersError> for Refusal {
+    fn from(error: OrdersError) -> Refusal {
+        match error {
+            OrdersError::OutOfMemory => Refusal::Memory,
+            OrdersError::Line(_) => Refusal::Unread,
         }
     }
 }
@@ -58,6 +88,7 @@ impl fmt::Display for Refusal {
         match self {
             Refusal::Unread => f.write_str("?"),
             Refusal::Memory => f.write_str("memory"),
+            Refusal::Changed => f.write_str("changed"),
             Refusal::Der(kind) => write!(f, "refused {kind:?}"),
         }
     }

@@ -3,7 +3,7 @@
 use crate::bundles::limit_of;
 use crate::refusals::Refusal;
 use crate::words::octets_of;
-use cert_desk::Bundle;
+use cert_desk::{Bundle, BundleError};
 use cert_desk_plain::split;
 use std::alloc::Global;
 
@@ -14,7 +14,9 @@ pub fn answer(alloc: Global, rest: &str) -> Result<String, Refusal> {
     let octets = octets_of(alloc, octets)?;
     let (certificates, end) = split(alloc, octets.as_slice(), limit)?;
     let mut bundle = Bundle::new(alloc, limit);
-    let _ = bundle.feed(octets.as_slice());
+    if let Err(BundleError::OutOfMemory) = bundle.feed(octets.as_slice()) {
+        return Err(Refusal::Memory);
+    }
     let (count, read) = (bundle.len(), bundle.end_offset());
     let text = format!(in alloc; "{} {end}, {count} {read}", certificates.len())?;
     Ok(text)

@@ -1,7 +1,7 @@
 //! Octets, numbers, keys, purposes and kinds as words.
 
 use crate::refusals::Refusal;
-use cert_desk::{Kind, SubjectPublicKeyInfo};
+use cert_desk::{Checked, FileKind, SubjectPublicKeyInfo, Verdict};
 use const_oid::ObjectIdentifier;
 use der_core::from_der;
 use std::alloc::Global;
@@ -21,6 +21,14 @@ pub fn octets_of(alloc: Global, word: &str) -> Result<Vec<u8>, Refusal> {
         octets.extend_from_slice(piece.as_slice())?;
     }
     Ok(octets)
+}
+
+/// The octets that each of some words spells, with commas between the words.
+pub fn list_of(alloc: Global, words: &str) -> Result<Vec<Vec<u8>>, Refusal> {
+    words
+        .split(',')
+        .map(|word| octets_of(alloc, word))
+        .try_collect(alloc)
 }
 
 /// Octets in base 16.
@@ -49,6 +57,20 @@ impl fmt::Display for Word<'_> {
     }
 }
 
+/// A verdict, and how often the judge was asked for it.
+#[derive(Clone, Copy)]
+pub struct Judged(pub Checked);
+
+impl fmt::Display for Judged {
+    fn fmt<W: fmt::Write>(&self, f: &mut fmt::Formatter<W>) -> fmt::Result {
+        let calls = self.0.calls;
+        match self.0.verdict {
+            Verdict::Refused { place, rule } => write!(f, "refused {place} {rule} calls={calls}"),
+            verdict => write!(f, "{verdict:?} calls={calls}"),
+        }
+    }
+}
+
 /// The number that a word spells in decimal.
 pub fn number_of(word: &str) -> Result<u32, Refusal> {
     word.parse().ok().ok_or(Refusal::Unread)
@@ -66,11 +88,11 @@ pub fn purpose_of(word: &str) -> Result<ObjectIdentifier<39>, Refusal> {
 }
 
 /// The kind that a word names.
-pub fn kind_of(word: &str) -> Result<Kind, Refusal> {
+pub fn kind_of(word: &str) -> Result<FileKind, Refusal> {
     match word {
-        "certificate" => Ok(Kind::Certificate),
-        "list" => Ok(Kind::List),
-        "request" => Ok(Kind::Request),
+        "certificate" => Ok(FileKind::Certificate),
+        "list" => Ok(FileKind::List),
+        "request" => Ok(FileKind::Request),
         _ => Err(Refusal::Unread),
     }
 }

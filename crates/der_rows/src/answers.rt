@@ -3,7 +3,8 @@
 use crate::refusals::Refusal;
 use crate::shown::front_of;
 use crate::{
-    any_values, contents, fields, headers, identifiers, kinds, lists, made, readers, times, writers,
+    again, any_values, contents, fields, headers, identifiers, kinds, lists, made, readers, times,
+    writers,
 };
 use std::alloc::Global;
 use std::io;
@@ -51,6 +52,7 @@ fn answer_of_words(alloc: Global, line: &str) -> Result<String, Refusal> {
         "content" => contents::answer(alloc, rest),
         "by-ord" => contents::answer_by_ord(alloc, rest),
         "prefix" => contents::answer_of_prefixes(alloc, rest),
+        "again" => again::answer(alloc, rest),
         "reader" => readers::answer(alloc, rest),
         "writer" => writers::answer(alloc, rest),
         "slice" | "slice-value" => writers::answer_of_slices(alloc, word, rest),

@@ -16,6 +16,7 @@
 //! | `seconds SECONDS` | `ok TEXT`, the date so long after 1970 |
 //! | `set-loose TYPE HEX`, `set-strict TYPE HEX` | what is written of the SET OF whose members stand in any order, or rise; by BER `set-strict-ber` |
 //! | `set-insert TYPE HEX`, `set-append TYPE HEX`, `set-from TYPE HEX` | the same of the set of the members of a SEQUENCE OF: inserted one by one, appended one by one, or all at once |
+//! | `again insert HEX`, `again append HEX`, `again extend HEX` | what is written of the set of these numbers: each is inserted, or appended, or all at once. Where a call finds no memory the set has to be as before it, extended by as many as it tells, and the call is made again; else `changed` |
 //! | `set-into TYPE HEX` | what is written of the list that a set was converted to |
 //! | `oid TEXT`, `oid-arcs ARC..` | `ok HEX`, the octets of the identifier |
 //! | `oid-octets HEX` | `ok TEXT`, the identifier of the octets; `oid-ref HEX` what the borrowed one prints for debugging |
@@ -59,6 +60,7 @@
 //! What is refused is answered `refused KIND`, and `memory` where there is not enough.
 #![tactic(auto)]
 
+mod again;
 mod answers;
 mod any_values;
 mod contents;

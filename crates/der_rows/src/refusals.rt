@@ -14,6 +14,8 @@ pub enum Refusal {
     Unread,
     /// Want of memory.
     Memory,
+    /// A call that found no memory changed something.
+    Changed,
     /// Its octets spell no value of the type, or its values aren't written.
     Der(Error),
     /// Its text, octets or arcs spell no identifier.
@@ -92,6 +94,7 @@ impl fmt::Display for Refusal {
         match self {
             Refusal::Unread => f.write_str("?"),
             Refusal::Memory => f.write_str("memory"),
+            Refusal::Changed => f.write_str("changed"),
             Refusal::Der(error) => write!(f, "refused {:?}", error.kind),
             Refusal::Identifier(error) => write!(f, "refused {error:?}"),
         }

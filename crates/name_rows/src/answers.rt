@@ -32,6 +32,7 @@ fn answer_of(alloc: Global, line: &str) -> Result<String, Refusal> {
         "first" => names::first(alloc, rest),
         "relative" => relatives::inserted(alloc, rest),
         "relative-of" => relatives::made(alloc, rest),
+        "again" => relatives::inserted_again(alloc, rest),
         "from" => texts::spelled(alloc, rest),
         "name" => texts::again(alloc, rest),
         "text" => texts::printed(alloc, rest),

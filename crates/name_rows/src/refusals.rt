@@ -12,6 +12,8 @@ pub enum Refusal {
     Unread,
     /// Want of memory.
     Memory,
+    /// A call that found no memory changed something.
+    Changed,
     /// Its octets spell no value of the type, or its values aren't written.
     Der(Error),
 }
@@ -51,6 +53,7 @@ impl fmt::Display for Refusal {
         match self {
             Refusal::Unread => f.write_str("?"),
             Refusal::Memory => f.write_str("memory"),
+            Refusal::Changed => f.write_str("changed"),
             Refusal::Der(error) => write!(f, "refused {:?}", error.kind),
         }
     }

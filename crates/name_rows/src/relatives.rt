@@ -5,13 +5,17 @@ use der_core::{from_der, to_der};
 use std::alloc::Global;
 use x509_cert_names::{AttributeTypeAndValue, RelativeDistinguishedName};
 
+/// The attribute that hex octets spell.
+fn attribute_of(alloc: Global, word: &str) -> Result<AttributeTypeAndValue, Refusal> {
+    let octets = hex::decode(alloc, word.as_bytes())?;
+    Ok(from_der(alloc, octets.as_slice())?)
+}
+
 /// The attributes that hex octets spell, separated by blanks.
 fn attributes_of(alloc: Global, words: &str) -> Result<Vec<AttributeTypeAndValue>, Refusal> {
     let mut attributes = Vec::new(alloc);
     for word in words.split(' ') {
-        let octets = hex::decode(alloc, word.as_bytes())?;
-        let attribute: AttributeTypeAndValue = from_der(alloc, octets.as_slice())?;
-        attributes.push(attribute)?;
+        attributes.push(attribute_of(alloc, word)?)?;
     }
     Ok(attributes)
 }
@@ -23,6 +27,35 @@ pub fn inserted(alloc: Global, words: &str) -> Result<String, Refusal> {
         name.insert(attribute)?;
     }
     Ok(hex::encode(alloc, to_der(alloc, &name)?)?)
+}
+
+/// The same, where an insertion that finds no memory has to leave the name, and is made again.
+pub fn inserted_again(alloc: Global, words: &str) -> Result<String, Refusal> {
+    let mut name = RelativeDistinguishedName::default(alloc);
+    for word in words.split(' ') {
+        insert_again(alloc, &mut name, word)?;
+    }
+    Ok(hex::encode(alloc, to_der(alloc, &name)?)?)
+}
+
+/// Inserts an attribute, at the second call where the first finds no memory.
+fn insert_again(
+    alloc: Global,
+    name: &mut RelativeDistinguishedName,
+    word: &str,
+) -> Result<(), Refusal> {
+    let before = to_der(alloc, name)?;
+    let Err(error) = name.insert(attribute_of(alloc, word)?) else {
+        return Ok(());
+    };
+    let Refusal::Memory = Refusal::from(error) else {
+        return Err(Refusal::Der(error));
+    };
+    if to_der(alloc, name)?.as_slice() != before.as_slice() {
+        return Err(Refusal::Changed);
+    }
+    name.insert(attribute_of(alloc, word)?)?;
+    Ok(())
 }
 
 /// The relative name of all attributes at once.

@@ -1,6 +1,6 @@
 //! Questions and their answers.
 
-use crate::lists::{list_of, members_of};
+use crate::lists::{list_of, list_read, members_of};
 use crate::refusals::Refusal;
 use crate::timestamps::{date_of, parts_of};
 use crate::values::{length_of, length_of_list, rewritten};
@@ -27,6 +27,7 @@ fn answer_of(alloc: Global, line: &str) -> Result<String, Refusal> {
         "tls" => rewritten(alloc, rest),
         "members" => members_of(alloc, rest),
         "list" => list_of(alloc, rest),
+        "list-read" => list_read(alloc, rest),
         "long" => length_of(alloc, rest),
         "long-list" => length_of_list(alloc, rest),
         "stamp" => parts_of(alloc, rest),

@@ -26,6 +26,18 @@ fn members_in(alloc: Global, members: &[SerializedSct]) -> Result<String, Refusa
     Ok(text)
 }
 
+/// What is written of the list of the timestamps that these octets spell, each read and written again.
+pub fn list_read(alloc: Global, members: &str) -> Result<String, Refusal> {
+    let mut timestamps = Vec::new(alloc);
+    for octets in members.split_whitespace() {
+        let data = octets_of(alloc, octets)?;
+        let timestamp = SerializedSct { data }.parse_timestamp(alloc)?;
+        timestamps.push(SerializedSct::new(alloc, timestamp)?)?;
+    }
+    let list = SignedCertificateTimestampList::new(alloc, timestamps.as_slice())?;
+    Ok(hex::encode(alloc, to_der(alloc, &list)?)?)
+}
+
 /// What is written of the list of timestamps of these octets.
 pub fn list_of(alloc: Global, members: &str) -> Result<String, Refusal> {
     let mut timestamps = Vec::new(alloc);

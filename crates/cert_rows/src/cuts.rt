@@ -1,0 +1,183 @@
+//! Streams that are cut, and fronts of streams.
+
+ghost use Rattle.std.specs.Prelude.{◌<◌, ◌≤◌, length};
+
+use crate::bundles::{limit_of, write_standing};
+use crate::checks::{Asked, How, judged};
+use crate::refusals::Refusal;
+use crate::words::{Judged, key_of, octets_of, purpose_of};
+use cert_desk::{Anchor, Bundle, BundleError, CheckError, DigestJudge, SignatureJudge, check};
+use der_core::from_der;
+use std::alloc::Global;
+use std::fmt::Write;
+
+/// The anchor's name, of no attributes, and its key.
+const NAME: &[u8] = b"\x30\x00";
+
+const KEY: &str = "3009300306012a03020000";
+
+/// 2002-01-01T12:01:00Z, the first second of the certificates in the table.
+const MOMENT: u64 = 1_009_886_460;
+
+/// The purpose of servers.
+const SERVERS: &str = "1.3.6.1.5.5.7.3.1";
+
+/// The verdict on a stream in one piece, and how many cuts leave all as it is.
+pub fn answer(alloc: Global, rest: &str) -> Result<String, Refusal> {
+    let (limit, rest) = rest.split_once(' ').ok_or(Refusal::Unread)?;
+    let (judge, octets) = rest.split_once(' ').ok_or(Refusal::Unread)?;
+    let limit = limit_of(limit)?;
+    let stream = octets_of(alloc, octets)?;
+    let asked = Asked {
+        anchors: &[],
+        stream: stream.as_slice(),
+        moment: MOMENT,
+        purpose: &purpose_of(SERVERS)?,
+        limit,
+    };
+    judged(alloc, How::Cut, judge, &asked)
+}
+
+/// The verdict on a stream in one piece; and how many cuts leave the same certificates and the same
+/// verdict: in two at each place, and octet by octet.
+pub fn told<J: SignatureJudge>(
+    alloc: Global,
+    asked: &Asked<'_>,
+    judge: &mut J,
+) -> Result<String, Refusal>
+    requires { 6 ≤ asked.now.limit }
+{
+    let len = asked.stream.len();
+    let whole = in_pieces(alloc, asked, len, 1);
+    let verdict = verdict_on(alloc, &whole, judge)?;
+    for place in 0..len {
+        let size = if place == 0 { 1 } else { len };
+        let cut = in_pieces(alloc, asked, place, size);
+        if verdict_on(alloc, &cut, judge)? != verdict || !are_alike(&cut, &whole) {
+            return Ok(format!(in alloc; "{verdict}, not cut at {place}")?);
+        }
+    }
+    Ok(format!(in alloc; "{verdict} cuts={len}")?)
+}
+
+/// The bundle of a stream of which so many octets come first, and the others in pieces of a size.
+fn in_pieces(alloc: Global, asked: &Asked<'_>, front: usize, size: usize) -> Bundle
+    requires limit { 6 ≤ asked.now.limit }
+    requires front { front ≤ length asked.now.stream.now }
+    requires size { 0 < size }
+{
+    let mut bundle = Bundle::new(alloc, asked.limit);
+    let _ = bundle.feed(&asked.stream[..front]);
+    for piece in asked.stream[front..].chunks(size) {
+        let _ = bundle.feed(piece);
+    }
+    let _ = bundle.finish();
+    bundle
+}
+
+/// Whether two bundles stand alike and lend the same certificates.
+fn are_alike(one: &Bundle, other: &Bundle) -> bool {
+    one.standing() == other.standing() && one.len() == other.len() && is_front(one, other)
+}
+
+/// Whether the certificates of a bundle stand in another, at the same places.
+fn is_front(one: &Bundle, other: &Bundle) -> bool {
+    for place in 0..one.len() {
+        let (Some(one), Some(other)) = (one.get(place), other.get(place)) else {
+            return false;
+        };
+        if one.offset != other.offset || one.octets != other.octets || one.signed != other.signed {
+            return false;
+        }
+    }
+    true
+}
+
+/// What a bundle keeps of a stream, and the verdict on it. Where it finds no memory another is fed
+/// the stream, and where the verdict does, it is asked for again.
+pub fn answer_again(alloc: Global, rest: &str) -> Result<String, Refusal> {
+    let (limit, octets) = rest.split_once(' ').ok_or(Refusal::Unread)?;
+    let limit = limit_of(limit)?;
+    let stream = octets_of(alloc, octets)?;
+    let mut bundle = Bundle::new(alloc, limit);
+    if let Err(BundleError::OutOfMemory) = bundle.feed(stream.as_slice()) {
+        let mut failed = bundle;
+        bundle = Bundle::new(alloc, limit);
+        let _ = bundle.feed(stream.as_slice());
+        if !is_kept(alloc, &mut failed, &bundle) {
+            return Err(Refusal::Changed);
+        }
+    }
+    let _ = bundle.finish();
+    let mut text = String::new(alloc);
+    write_standing(&mut text, &bundle)?;
+    let judge = &mut DigestJudge::new();
+    let verdict = match verdict_on(alloc, &bundle, judge) {
+        Err(Refusal::Memory) => verdict_on(alloc, &bundle, judge)?,
+        verdict => verdict?,
+    };
+    text.push_str(verdict.as_str())?;
+    Ok(text)
+}
+
+/// Whether a bundle that found no memory keeps the certificates that it had read, and takes and says
+/// no more.
+fn is_kept(alloc: Global, failed: &mut Bundle, whole: &Bundle) -> bool {
+    let refused = Err(BundleError::Failed);
+    let takes_nothing = failed.feed(&[]) == refused && failed.finish() == refused;
+    let verdict = verdict_on(alloc, failed, &mut DigestJudge::new());
+    takes_nothing && is_front(failed, whole) && matches!(verdict, Err(Refusal::Memory))
+}
+
+/// The number of certificates, and what `check` says of them under the anchor.
+pub fn verdict_on<J: SignatureJudge>(
+    alloc: Global,
+    bundle: &Bundle,
+    judge: &mut J,
+) -> Result<String, Refusal> {
+    if !bundle.is_ended() {
+        return Err(Refusal::Unread);
+    }
+    let anchors = [Anchor::new(from_der(alloc, NAME)?, key_of(alloc, KEY)?)];
+    let purpose = purpose_of(SERVERS)?;
+    match check(alloc, bundle, &anchors, MOMENT, &purpose, judge) {
+        Ok(checked) => Ok(format!(in alloc; "{}: {}", bundle.len(), Judged(checked))?),
+        Err(CheckError::OutOfMemory) => Err(Refusal::Memory),
+        Err(CheckError::Device) => Ok(format!(in alloc; "device")?),
+    }
+}
+
+/// What ends each front of a stream, where neighbours that end alike stand together.
+pub fn answer_of_fronts(alloc: Global, rest: &str) -> Result<String, Refusal> {
+    let (limit, octets) = rest.split_once(' ').ok_or(Refusal::Unread)?;
+    let limit = limit_of(limit)?;
+    let stream = octets_of(alloc, octets)?;
+    let mut text = String::new(alloc);
+    let mut first = 0;
+    let mut end = end_of(alloc, limit, &[])?;
+    for len in 1..=stream.len() {
+        let next = end_of(alloc, limit, &stream[..len])?;
+        if next != end {
+            write!(text, "{first}-{} {end:?}; ", len - 1)?;
+            first = len;
+            end = next;
+        }
+    }
+    write!(text, "{first}-{} {end:?}", stream.len())?;
+    Ok(text)
+}
+
+/// What a stream in one piece ends with.
+fn end_of(alloc: Global, limit: u32, stream: &[u8]) -> Result<Result<(), BundleError>, Refusal>
+    requires { 6 ≤ limit }
+{
+    let mut bundle = Bundle::new(alloc, limit);
+    let end = match bundle.feed(stream) {
+        Ok(()) => bundle.finish(),
+        Err(error) => Err(error),
+    };
+    match end {
+        Err(BundleError::OutOfMemory) => Err(Refusal::Memory),
+        end => Ok(end),
+    }
+}
