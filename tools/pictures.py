@@ -119,7 +119,7 @@ def verdict():
     faults = variants("cert_desk_checking/src/fault_kind.rt", "FaultKind")
     rules = variants("cert_desk_checking/src/rule.rt", "Rule")
     verdicts = variants("cert_desk_checking/src/checked.rt", "Verdict")
-    statuses = variants("cert_desk_checking/src/status.rt", "Status")
+    statuses = variants("cert_desk_io/src/exit_status.rt", "ExitStatus")
     blue, red, grey, green = "#d9e8fb", "#f6dce6", "#eeeeee", "#d6f0e0"
     parts, y = [], 20
     steps = [
