@@ -8,8 +8,8 @@ use std::alloc::Global;
 use x509_cert::builder::{IdentifiedKey, SignError, Signer};
 use x509_cert::{AlgorithmIdentifier, BitString, SubjectKeyIdentifier, SubjectPublicKeyInfo};
 
-/// A signer whose bits are the SHA-256 digest of its key's octets and the signed ones. It protects nothing: it stands where a key in
-/// memory, in a device or behind a process stands.
+/// A signer whose bits are the SHA-256 digest of its key's octets and the signed ones. It protects
+/// nothing: it stands where a key in memory, in a device or behind a process stands.
 #[derive(Drop)]
 pub struct DigestSigner {
     key: IdentifiedKey,

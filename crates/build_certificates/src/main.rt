@@ -1,5 +1,5 @@
-//! Makes a root, an authority below it, a server's certificate, a list of what the authority revoked and a request of the server, and
-//! prints each as a line of hex.
+//! Makes a root, an authority below it, a server's certificate, a list of what the authority
+//! revoked and a request of the server, and prints each as a line of hex.
 #![tactic(auto)]
 
 mod digest_signer;
@@ -114,7 +114,8 @@ fn profile_of_server(alloc: Global, authority: &Certificate) -> Result<Subscribe
     })
 }
 
-/// A server with one domain (7.1.2.7). Alternative names are added to the builder; the profile adds the rest behind them.
+/// A server with one domain (7.1.2.7). Alternative names are added to the builder; the profile adds
+/// the rest behind them.
 fn server(
     alloc: Global,
     authority: &Certificate,
@@ -170,7 +171,8 @@ fn request(alloc: Global, signer: &DigestSigner) -> Result<CertReq, Error> {
     Ok(request)
 }
 
-/// The signer of the key that is the encoding of these octets, which is digested here and not again.
+/// The signer of the key that is the encoding of these octets, which is digested here and not
+/// again.
 fn signer_of(alloc: Global, key: &[u8]) -> Result<DigestSigner, Error> {
     let key = IdentifiedKey::new(alloc, key_of(alloc, key)?)?;
     let signer = DigestSigner::new(key)?;

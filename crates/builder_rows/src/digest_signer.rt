@@ -43,7 +43,8 @@ impl SignerWords<'_> {
     }
 }
 
-/// A signer whose bits are the SHA-256 digest of its key's octets and the signed ones. It protects nothing.
+/// A signer whose bits are the SHA-256 digest of its key's octets and the signed ones. It protects
+/// nothing.
 #[derive(Drop)]
 pub struct DigestSigner {
     key: IdentifiedKey,

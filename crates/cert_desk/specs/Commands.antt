@@ -26,7 +26,8 @@ AskNoChain words = (orders : List ℕ) → AskIssue words orders → ⊥
 
 -- they ask for this
 abbrev pub AsksFor : List (List ℕ) → Command → Type 0
-AsksFor words (commands.Check a) = AskCheck words a.anchors.now a.stream.now a.moment a.purpose a.limit
+AsksFor words (commands.Check a) =
+    AskCheck words a.anchors.now a.stream.now a.moment a.purpose a.limit
 AsksFor words (commands.Show kind file) = AskShow words kind file.now
 AsksFor words (commands.Issue orders) = AskIssue words orders.now
 

@@ -1,7 +1,8 @@
 //! What the program is asked for.
 ghost use Rattle.std.specs.Prelude.{map, IfSome, IfNone, string_bytes};
 ghost use Rattle.cert_desk_issuing.specs.Arguments.{AskNoCheck};
-ghost use Rattle.cert_desk.specs.Commands.{AsksFor, AskShow, AskIssue, AskNoListing, AskNoChain, HasLimit};
+ghost use Rattle.cert_desk.specs.Commands.{AsksFor, AskShow, AskIssue, AskNoListing, AskNoChain};
+ghost use Rattle.cert_desk.specs.Commands.{HasLimit};
 
 use cert_desk_issuing::Arguments;
 use cert_desk_listing::FileKind;

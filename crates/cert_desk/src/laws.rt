@@ -1,4 +1,5 @@
-//! Laws of streams, of files of anchors, and of chains that were issued. Each function does nothing: its contract is the law.
+//! Laws of streams, of files of anchors, and of chains that were issued. Each function does
+//! nothing: its contract is the law.
 
 pub use cert_desk_issuing::laws::{
     fault_stays, few_questions, fronts_are_trusted, held_is_refused_for, held_is_trusted,

@@ -1,4 +1,5 @@
-//! Streams of certificates, read and judged, listings, and chains that are issued: what the inner crates have, under one name.
+//! Streams of certificates, read and judged, listings, and chains that are issued: what the inner
+//! crates have, under one name.
 #![tactic(auto)]
 
 mod command;

@@ -21,17 +21,20 @@ choice_octets c = octets_of raw_choice c
 abbrev pub IsAnchorFile : List ℕ → List PlainAnchor → Type 0
 IsAnchorFile octets anchors = IsFileOf raw_choice given_by octets anchors
 
--- what is wrong with octets where a trust anchor should begin: none does, or one that gives no anchor
+-- what is wrong with octets where a trust anchor should begin: none does, or one that gives no
+-- anchor
 abbrev pub IsFaulty : AnchorFault → List ℕ → Type 0
 IsFaulty faults.Malformed octets = BeginsNone raw_choice octets
 IsFaulty faults.NoName octets = BeginsRefused raw_choice given_by errors.NoName octets
 IsFaulty faults.PathControls octets = BeginsRefused raw_choice given_by errors.PathControls octets
 
--- Some trust anchors give anchors, and the first one that is faulty begins behind them, at this offset.
+-- Some trust anchors give anchors, and the first one that is faulty begins behind them, at this
+-- offset.
 abbrev pub HasFirstFault : List ℕ → ℕ → AnchorFault → Type 0
 HasFirstFault octets offset fault = HasFirstWrong raw_choice given_by (IsFaulty fault) octets offset
 
--- what octets say as a file of anchors: these anchors, or the offset of the first faulty one and its fault
+-- what octets say as a file of anchors: these anchors, or the offset of the first faulty one and
+-- its fault
 abbrev pub SaysAsFile : List ℕ → Result (List PlainAnchor) (ℕ × AnchorFault) → Type 0
 SaysAsFile octets (Ok anchors) = IsAnchorFile octets anchors
 SaysAsFile octets (Err p) = HasFirstFault octets p.0 p.1

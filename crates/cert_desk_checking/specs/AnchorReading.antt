@@ -19,7 +19,8 @@ StandsAt octets start end c = files.StandsAt raw_choice octets start end c
 abbrev pub GivesAt : List ℕ → ℕ → ℕ → PlainAnchor → Type 0
 GivesAt octets start end anchor = files.GivesAt raw_choice given_by octets start end anchor
 
--- why a trust anchor that begins at the start gives none: it is of a kind that doesn't, or there was no memory
+-- why a trust anchor that begins at the start gives none: it is of a kind that doesn't, or there
+-- was no memory
 abbrev pub UngivenFor : PlainChoice → AnchorFault → Type 0
 UngivenFor c faults.Malformed = ⊥
 UngivenFor c faults.NoName = given_by c ≡ Err errors.NoName
@@ -34,7 +35,8 @@ IsUngiven c start outcomes.OutOfMemory = Unit {0}
 -- why no anchor begins at the start: what stands there is faulty, or there was no memory
 abbrev pub GivesNone : List ℕ → ℕ → Outcome → Type 0
 GivesNone octets start (outcomes.Checked checked) = ⊥
-GivesNone octets start (outcomes.BadAnchors offset fault) = (offset ≡ start) × IsFaulty fault (drop start octets)
+GivesNone octets start (outcomes.BadAnchors offset fault) = (offset ≡ start)
+    × IsFaulty fault (drop start octets)
 GivesNone octets start outcomes.Device = ⊥
 GivesNone octets start outcomes.OutOfMemory = Unit {0}
 

@@ -1,9 +1,12 @@
--- What contracts see of an anchor, which one a trust anchor gives, and the terms that a chain is judged under.
-use Rattle.std.specs.Prelude.{ℕ, List, map, Bool, ◌&&◌, if◌then◌else◌, is_none, Option, Some, None, Result, Ok, Err}
+-- What contracts see of an anchor, which one a trust anchor gives, and the terms that a chain is
+-- judged under.
+use Rattle.std.specs.Prelude.{ℕ, List, map, Bool, ◌&&◌, if◌then◌else◌, is_none, Option, Some, None}
+use Rattle.std.specs.Prelude.{Result, Ok, Err}
 use Rattle.std.proofs.Common.{inl, inr}
 use Rattle.const_oid.specs.Bound.{Bound}
 use Rattle.x509_cert.specs.Views.{name_plain, key_plain}
-use Rattle.x509_cert.specs.Certificates.{PlainName, PublicKey, subject, public_key, tbs_subject, tbs_public_key}
+use Rattle.x509_cert.specs.Certificates.{PlainName, PublicKey, subject, public_key, tbs_subject}
+use Rattle.x509_cert.specs.Certificates.{tbs_public_key}
 use Rattle.x509_cert.specs.Anchors.{PlainControls, PlainInfo, PlainAnchor as PlainChoice}
 use Rattle.cert_desk_checking.specs.declared.anchor.Anchor.{Anchor}
 use Rattle.cert_desk_checking.specs.declared.anchor_error.AnchorError.{AnchorError}
@@ -13,7 +16,8 @@ use Rattle.cert_desk_checking.specs.Judging.{PlainAnchor, Answers, Terms}
 unfoldable pub anchor_plain : Anchor → PlainAnchor
 anchor_plain a = record { name = name_plain a.name; key = key_plain a.key }
 
--- the key of a trust anchor that is told by its key, and what a path from it must meet, if that is told (RFC 5914 2)
+-- the key of a trust anchor that is told by its key, and what a path from it must meet, if that is
+-- told (RFC 5914 2)
 abbrev pub info_key : PlainInfo → PublicKey
 info_key i = i.1.0
 
@@ -25,14 +29,18 @@ abbrev pub controls_name : PlainControls → PlainName
 controls_name p = p.0
 
 abbrev pub has_only_name : PlainControls → Bool
-has_only_name p = is_none p.1.0 && (is_none p.1.1.0 && (is_none p.1.1.1.0 && (is_none p.1.1.1.1.0 && is_none p.1.1.1.1.1.0)))
+has_only_name p =
+    is_none p.1.0
+    && (is_none p.1.1.0 && (is_none p.1.1.1.0 && (is_none p.1.1.1.1.0 && is_none p.1.1.1.1.1.0)))
 
 -- Which anchor a key gives: one with a name, where a path from it must meet nothing else.
 abbrev pub given_by_key : PublicKey → Option PlainControls → Result PlainAnchor AnchorError
 given_by_key key None = Err errors.NoName
-given_by_key key (Some p) = if has_only_name p then Ok (record { name = controls_name p; key = key }) else Err errors.PathControls
+given_by_key key (Some p) = if has_only_name p
+    then Ok (record { name = controls_name p; key = key }) else Err errors.PathControls
 
--- Which anchor a trust anchor gives, or why none: of a certificate, or of a signed part alone, the subject and the key.
+-- Which anchor a trust anchor gives, or why none: of a certificate, or of a signed part alone, the
+-- subject and the key.
 abbrev pub given_by : PlainChoice → Result PlainAnchor AnchorError
 given_by (inl c) = Ok (record { name = subject c; key = public_key c })
 given_by (inr (inl t)) = Ok (record { name = tbs_subject t; key = tbs_public_key t })
@@ -44,4 +52,10 @@ purpose_plain p = p
 -- the terms of these anchors, a moment, a purpose, and a judge's answers
 abbrev pub terms_of : List Anchor → ℕ → List ℕ → Answers → Terms
 terms_of anchors moment purpose answers =
-    record { bound = Bound; anchors = map anchor_plain anchors; moment = moment; purpose = purpose_plain purpose; answers = answers }
+    record {
+      bound = Bound;
+      anchors = map anchor_plain anchors;
+      moment = moment;
+      purpose = purpose_plain purpose;
+      answers = answers;
+    }

@@ -9,14 +9,17 @@ use Rattle.const_oid.specs.TextFaults.{IsText}
 unfoldable pub IsNumber : ℕ → List ℕ → Type 0
 IsNumber n text = IsNumeral 10 text × (digits_value 10 text ≡ n)
 
--- The words, behind the program's name, ask for a check: of this stream under these anchors, at a moment below 2^64, for the
--- purpose of an identifier in dotted arcs, with a limit from 6 to 2^32 - 1.
-pub record AskCheck (words : List (List ℕ)) (anchors stream : List ℕ) (moment : ℕ) (purpose : List ℕ) (limit : ℕ) : Type 0 where
+-- The words, behind the program's name, ask for a check: of this stream under these anchors, at a
+-- moment below 2^64, for the purpose of an identifier in dotted arcs, with a limit from 6 to 2^32 -
+-- 1.
+pub record AskCheck (words : List (List ℕ)) (anchors stream : List ℕ) (moment : ℕ)
+    (purpose : List ℕ) (limit : ℕ) : Type 0 where
   pub name : List ℕ
   pub moment_text : List ℕ
   pub purpose_text : List ℕ
   pub limit_text : List ℕ
-  pub are : words ≡ name ∷ codes "check" ∷ anchors ∷ stream ∷ moment_text ∷ purpose_text ∷ limit_text ∷ []
+  pub are : words ≡ name ∷ codes "check" ∷ anchors ∷ stream ∷ moment_text ∷ purpose_text
+      ∷ limit_text ∷ []
   pub moment_is : IsNumber moment moment_text
   pub moment_fits : moment < 2 ^ 64
   pub purpose_is : IsText purpose purpose_text
@@ -29,4 +32,5 @@ pub record AskCheck (words : List (List ℕ)) (anchors stream : List ℕ) (momen
 -- they ask for none
 abbrev pub AskNoCheck : List (List ℕ) → Type 0
 AskNoCheck words =
-    (anchors stream : List ℕ) (moment : ℕ) (purpose : List ℕ) (limit : ℕ) → AskCheck words anchors stream moment purpose limit → ⊥
+    (anchors stream : List ℕ) (moment : ℕ) (purpose : List ℕ) (limit : ℕ)
+    → AskCheck words anchors stream moment purpose limit → ⊥

@@ -1,9 +1,13 @@
--- What a bound of arcs decides of a chain. Neither certificates nor octets depend on it, so one chain is judged under any bound.
+-- What a bound of arcs decides of a chain. Neither certificates nor octets depend on it, so one
+-- chain is judged under any bound.
 use Rattle.std.specs.Prelude.{◌≡◌, ℕ, List, [], false, Contains}
 use Rattle.der_core_head.specs.Bounds.{identifiers_of, HoldsLarge}
-use Rattle.x509_cert.specs.Certificates.{PlainCertificate, PlainExtension, extensions_of, raw_certificate}
+use Rattle.x509_cert.specs.Certificates.{PlainCertificate, PlainExtension, extensions_of}
+use Rattle.x509_cert.specs.Certificates.{raw_certificate}
 use Rattle.cert_desk_checking.specs.Judging.{Terms}
-use Rattle.cert_desk_checking.specs.Weighing.{Meaning, uses, other_names, constraints, purposes, malformed, unweighed, extended_key_usage, is_malformed, subject_alt_name, weigh}
+use Rattle.cert_desk_checking.specs.Weighing.{Meaning, uses, other_names, constraints, purposes}
+use Rattle.cert_desk_checking.specs.Weighing.{malformed, unweighed, extended_key_usage}
+use Rattle.cert_desk_checking.specs.Weighing.{is_malformed, subject_alt_name, weigh}
 
 -- the same terms under another bound
 abbrev pub bounded : Terms → ℕ → Terms
@@ -15,7 +19,8 @@ identifiers_in c = identifiers_of (raw_certificate 0) c
 
 -- one of some certificates has an identifier with an arc that isn't below a bound
 abbrev pub OneHoldsLarge : ℕ → List PlainCertificate → Type 0
-OneHoldsLarge bound cs = (c : PlainCertificate) × Contains cs c × HoldsLarge bound (identifiers_in c)
+OneHoldsLarge bound cs = (c : PlainCertificate) × Contains cs c
+    × HoldsLarge bound (identifiers_in c)
 
 -- the identifiers in what an extension says (RFC 5280 4.2.1.6, 4.2.1.12)
 abbrev pub identifiers_said : Meaning → List (List ℕ)
@@ -26,8 +31,8 @@ identifiers_said (purposes listed) = identifiers_of (extended_key_usage 0) liste
 identifiers_said malformed = []
 identifiers_said unweighed = []
 
--- The content of a weighed extension is malformed under one bound and readable under another, where it holds an arc that isn't below
--- the first one (RFC 5280 4.2).
+-- The content of a weighed extension is malformed under one bound and readable under another, where
+-- it holds an arc that isn't below the first one (RFC 5280 4.2).
 pub record BecomesReadable (small large : ℕ) (e : PlainExtension) : Type 0 where
   pub unread : weigh small e ≡ malformed
   pub readable : is_malformed (weigh large e) ≡ false
@@ -36,4 +41,5 @@ pub record BecomesReadable (small large : ℕ) (e : PlainExtension) : Type 0 whe
 -- one extension of one of some certificates does
 abbrev pub OneBecomesReadable : ℕ → ℕ → List PlainCertificate → Type 0
 OneBecomesReadable small large cs =
-    (c : PlainCertificate) × (e : PlainExtension) × Contains cs c × Contains (extensions_of c) e × BecomesReadable small large e
+    (c : PlainCertificate) × (e : PlainExtension) × Contains cs c × Contains (extensions_of c) e
+    × BecomesReadable small large e

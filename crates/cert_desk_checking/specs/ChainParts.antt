@@ -1,4 +1,5 @@
--- What holds of every chain: of its parts, of strangers among the anchors, and of the questions about it.
+-- What holds of every chain: of its parts, of strangers among the anchors, and of the questions
+-- about it.
 use Rattle.std.specs.Prelude.{◌≡◌, ℕ, ◌+◌, ◌≤◌, ◌<◌, List, [], ◌∷◌, ◌++◌, length}
 use Rattle.x509_cert.specs.Certificates.{PlainCertificate}
 use Rattle.cert_desk_checking.specs.declared.checked.Verdict.{Verdict}
@@ -7,40 +8,49 @@ use Rattle.cert_desk_checking.specs.Issuers.{among, anchors_named, as_anchor, sh
 use Rattle.cert_desk_checking.specs.Judging.{PlainAnchor, Terms}
 use Rattle.cert_desk_checking.specs.Verdicts.{IsVerdict, Trusted, asked}
 
--- There is at most one question for each certificate behind the first, and one for each anchor of the first one's issuer's name.
+-- There is at most one question for each certificate behind the first, and one for each anchor of
+-- the first one's issuer's name.
 abbrev pub HasFewQuestions : Type 0
 HasFewQuestions =
     (t : Terms) (c : PlainCertificate) (cs : List PlainCertificate) (stream : List ℕ)
-    → (asked t (c ∷ cs) stream ≤ length cs + length (anchors_named t.bound c t.anchors)) × (asked t (c ∷ cs) stream ≤ length cs + length t.anchors)
+    → (asked t (c ∷ cs) stream ≤ length cs + length (anchors_named t.bound c t.anchors))
+    × (asked t (c ∷ cs) stream ≤ length cs + length t.anchors)
 
 -- Each nonempty front of a trusted chain is trusted.
 abbrev pub HasTrustedFronts : Type 0
 HasTrustedFronts =
     (t : Terms) (limit : ℕ) (stream : List ℕ) (cs more : List PlainCertificate)
-    → Chain t.bound limit (cs ++ more) stream → 0 < length cs → Trusted t limit stream → Trusted t limit (joined t.bound cs)
+    → Chain t.bound limit (cs ++ more) stream → 0 < length cs → Trusted t limit stream
+    → Trusted t limit (joined t.bound cs)
 
--- Each nonempty rest of a trusted chain is trusted, where the certificate before it is the only anchor.
+-- Each nonempty rest of a trusted chain is trusted, where the certificate before it is the only
+-- anchor.
 abbrev pub HasTrustedRests : Type 0
 HasTrustedRests =
-    (t : Terms) (limit : ℕ) (stream : List ℕ) (before cs : List PlainCertificate) (c : PlainCertificate)
+    (t : Terms) (limit : ℕ) (stream : List ℕ) (before cs : List PlainCertificate)
+    (c : PlainCertificate)
     → Chain t.bound limit (before ++ c ∷ cs) stream → 0 < length cs → Trusted t limit stream
     → Trusted (among t (as_anchor c ∷ [])) limit (joined t.bound cs)
 
--- Anchors among which those of the first issuer's name are the same give one verdict, and are asked as often.
+-- Anchors among which those of the first issuer's name are the same give one verdict, and are asked
+-- as often.
 abbrev pub IgnoresStrangers : Type 0
 IgnoresStrangers =
     (t : Terms) (others : List PlainAnchor) (limit : ℕ) (stream : List ℕ)
     → ((c : PlainCertificate) (cs : List PlainCertificate) → Chain t.bound limit (c ∷ cs) stream
     → anchors_named t.bound c t.anchors ≡ anchors_named t.bound c others)
-    → ((verdict : Verdict) → IsVerdict t limit stream verdict → IsVerdict (among t others) limit stream verdict)
-    × ((cs : List PlainCertificate) → Chain t.bound limit cs stream → asked t cs stream ≡ asked (among t others) cs stream)
+    → ((verdict : Verdict) → IsVerdict t limit stream verdict
+    → IsVerdict (among t others) limit stream verdict)
+    × ((cs : List PlainCertificate) → Chain t.bound limit cs stream → asked t cs stream
+    ≡ asked (among t others) cs stream)
 
 -- Two chains that show the same to a judge, at each place, are one stream.
 abbrev pub HasNothingOutside : Type 0
 HasNothingOutside =
     (bound limit other_limit : ℕ) (cs ds : List PlainCertificate) (stream other : List ℕ)
     → Chain bound limit cs stream → Chain bound other_limit ds other
-    → ((place : ℕ) → shown_at bound cs stream place ≡ shown_at bound ds other place) → stream ≡ other
+    → ((place : ℕ) → shown_at bound cs stream place ≡ shown_at bound ds other place)
+    → stream ≡ other
 
 -- Equal certificates, date spellings counted, are joined by one stream.
 abbrev pub HasOneStream : Type 0

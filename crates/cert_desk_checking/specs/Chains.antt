@@ -15,6 +15,7 @@ joined bound cs = encodings (raw_certificate bound) cs
 abbrev pub offset_at : ℕ → List PlainCertificate → ℕ → ℕ
 offset_at bound cs place = start_of (raw_certificate bound) cs place
 
--- The stream joins the encodings of these certificates, each within the limit, and has at most 2^64 - 1 octets.
+-- The stream joins the encodings of these certificates, each within the limit, and has at most 2^64
+-- - 1 octets.
 abbrev pub Chain : ℕ → ℕ → List PlainCertificate → List ℕ → Type 0
 Chain bound limit cs stream = Series (raw_certificate bound) limit cs stream

@@ -11,10 +11,12 @@ digest_arcs = 1 ∷ 3 ∷ 6 ∷ 1 ∷ 4 ∷ 1 ∷ 32473 ∷ 2 ∷ []
 
 -- this algorithm, without parameters
 abbrev pub is_digest : Algorithm → Bool
-is_digest a = bytes_eq (algorithm_arcs a) digest_arcs && option_map_or (λ _. false) (algorithm_parameters a) true
+is_digest a = bytes_eq (algorithm_arcs a) digest_arcs
+    && option_map_or (λ _. false) (algorithm_parameters a) true
 
--- Yes where the algorithm is this one and the bits, all of them used, are the SHA-256 digest (FIPS 180-4) of the key's
--- octets and the signed ones.
+-- Yes where the algorithm is this one and the bits, all of them used, are the SHA-256 digest (FIPS
+-- 180-4) of the key's octets and the signed ones.
 unfoldable pub digest_answers : Answers
 digest_answers key algorithm signed bits =
-    is_digest algorithm && ((bits.unused == 0) && bytes_eq bits.octets (sha256 ((key_bits key).octets ++ signed)))
+    is_digest algorithm
+    && ((bits.unused == 0) && bytes_eq bits.octets (sha256 ((key_bits key).octets ++ signed)))

@@ -1,7 +1,8 @@
 -- What a bundle lends of a certificate.
 use Rattle.std.specs.Prelude.{◌≡◌, ℕ, List, Some, slice_get}
 use Rattle.der_core_head.specs.Shapes.{octets_of, IsValid}
-use Rattle.x509_cert.specs.Certificates.{PlainCertificate, certificate_octets, raw_certificate, raw_tbs_certificate, tbs}
+use Rattle.x509_cert.specs.Certificates.{PlainCertificate, certificate_octets, raw_certificate}
+use Rattle.x509_cert.specs.Certificates.{raw_tbs_certificate, tbs}
 use Rattle.x509_cert.specs.Views.{certificate_plain}
 use Rattle.cert_desk_checking.specs.declared.entry.Entry.{Entry}
 use Rattle.cert_desk_checking.specs.Chains.{offset_at}
@@ -11,5 +12,6 @@ pub record IsEntry (bound : ℕ) (cs : List PlainCertificate) (place : ℕ) (e :
   pub certificate : slice_get cs place ≡ Some (certificate_plain e.certificate.now)
   pub valid : IsValid (raw_certificate bound) (certificate_plain e.certificate.now)
   pub octets : e.octets.now ≡ certificate_octets bound (certificate_plain e.certificate.now)
-  pub signed : e.signed.now ≡ octets_of (raw_tbs_certificate bound) (tbs (certificate_plain e.certificate.now))
+  pub signed : e.signed.now ≡ octets_of (raw_tbs_certificate bound)
+      (tbs (certificate_plain e.certificate.now))
   pub offset : e.offset ≡ offset_at bound cs place

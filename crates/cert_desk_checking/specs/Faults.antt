@@ -1,6 +1,7 @@
--- What can be wrong where a value of a shape should begin that stands behind a SEQUENCE tag; and with a stream: said of the values with
--- which it begins, and of the rest.
-use Rattle.std.specs.Prelude.{◌≡◌, ◌≢◌, ℕ, ◌+◌, ◌≤◌, ◌<◌, ◌^◌, ◌⊎◌, List, [], ◌∷◌, ◌++◌, length, Err}
+-- What can be wrong where a value of a shape should begin that stands behind a SEQUENCE tag; and
+-- with a stream: said of the values with which it begins, and of the rest.
+use Rattle.std.specs.Prelude.{◌≡◌, ◌≢◌, ℕ, ◌+◌, ◌≤◌, ◌<◌, ◌^◌, ◌⊎◌, List, [], ◌∷◌, ◌++◌, length}
+use Rattle.std.specs.Prelude.{Err}
 use Rattle.der_core_head.specs.declared.error.ErrorKind.TheVariants as errors
 use Rattle.der_core_head.specs.declared.tag.Tag.TheVariants as tags
 use Rattle.der_core_head.specs.Heads.{head_octets, head_at}
@@ -18,13 +19,15 @@ whole_length n = length (head_octets tags.Sequence n) + n
 abbrev pub Says : Shape → ℕ → ℕ → FaultKind → List ℕ → Type 0
 Says s limit offset kinds.NoCertificate rest = (b : ℕ) × (w : List ℕ) × (rest ≡ b ∷ w) × (b ≢ 0x30)
 Says s limit offset kinds.Indefinite rest = (w : List ℕ) × (rest ≡ 0x30 ∷ 0x80 ∷ w)
-Says s limit offset kinds.LengthTooWide rest = (n : ℕ) × (w : List ℕ) × (rest ≡ 0x30 ∷ n ∷ w) × (0x85 ≤ n)
+Says s limit offset kinds.LengthTooWide rest = (n : ℕ) × (w : List ℕ) × (rest ≡ 0x30 ∷ n ∷ w)
+    × (0x85 ≤ n)
 Says s limit offset kinds.LengthNotShortest rest = head_at rest ≡ Err (errors.Length tags.Sequence)
 Says s limit offset kinds.TooLarge rest =
     (n : ℕ) × (w : List ℕ) × (n < 2 ^ 32) × (rest ≡ head_octets tags.Sequence n ++ w)
     × ((limit < whole_length n) ⊎ (2 ^ 64 ≤ offset + whole_length n))
 Says s limit offset kinds.Malformed rest =
-    (n : ℕ) × (body : List ℕ) × (w : List ℕ) × (n < 2 ^ 32) × (rest ≡ (head_octets tags.Sequence n ++ body) ++ w) × (length body ≡ n)
+    (n : ℕ) × (body : List ℕ) × (w : List ℕ) × (n < 2 ^ 32)
+    × (rest ≡ (head_octets tags.Sequence n ++ body) ++ w) × (length body ≡ n)
     × ((v : Value s) → IsValid s v → octets_of s v ≡ head_octets tags.Sequence n ++ body → ⊥)
 Says s limit offset kinds.Truncated rest = rest ≢ []
 
@@ -40,7 +43,8 @@ rank kinds.Truncated = 7
 
 -- no kind before this one says anything
 abbrev pub NoneBefore : Shape → ℕ → ℕ → FaultKind → List ℕ → Type 0
-NoneBefore s limit offset kind rest = (other : FaultKind) → rank other < rank kind → Says s limit offset other rest → ⊥
+NoneBefore s limit offset kind rest = (other : FaultKind) → rank other < rank kind
+    → Says s limit offset other rest → ⊥
 
 -- the first kind that says something
 pub record IsFault (s : Shape) (limit offset : ℕ) (kind : FaultKind) (rest : List ℕ) : Type 0 where
@@ -48,12 +52,14 @@ pub record IsFault (s : Shape) (limit offset : ℕ) (kind : FaultKind) (rest : L
   pub first : NoneBefore s limit offset kind rest
 
 -- the fault of a stream of values that goes on: of the first six kinds
-pub record SeriesFault (s : Shape) (limit : ℕ) (stream : List ℕ) (vs : List (Value s)) (kind : FaultKind) : Type 0 where
+pub record SeriesFault (s : Shape) (limit : ℕ) (stream : List ℕ) (vs : List (Value s))
+    (kind : FaultKind) : Type 0 where
   pub rest : List ℕ
   pub split : SeriesSplit s limit stream vs rest
   pub fault : IsFault s limit (length (encodings s vs)) kind rest
 
--- of certificates: The stream begins with these, and the rest begins with no further one that could stand.
+-- of certificates: The stream begins with these, and the rest begins with no further one that could
+-- stand.
 abbrev pub Split : ℕ → ℕ → List ℕ → List PlainCertificate → List ℕ → Type 0
 Split bound limit stream cs rest = SeriesSplit (raw_certificate bound) limit stream cs rest
 

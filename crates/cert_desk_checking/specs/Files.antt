@@ -1,16 +1,19 @@
--- Files of values of a shape, one behind the other, each of which gives something, or nothing for a reason.
+-- Files of values of a shape, one behind the other, each of which gives something, or nothing for a
+-- reason.
 use Rattle.std.specs.Prelude.{◌≡◌, ◌≢◌, ℕ, ◌+◌, List, [], ◌++◌, length, map, drop, Result, Ok, Err}
 use Rattle.std.specs.List.{AllByRecursion}
 use Rattle.der_core_head.specs.Shapes.{Shape, Value, octets_of, IsValid}
 use Rattle.cert_desk_checking.specs.Series.{encodings, BeginsWith}
 
 -- Each of them has an encoding, and this is what they give.
-pub record GiveAll (s : Shape) {A E : Type 0} (gives : Value s → Result A E) (vs : List (Value s)) (xs : List A) : Type 0 where
+pub record GiveAll (s : Shape) {A E : Type 0} (gives : Value s → Result A E) (vs : List (Value s))
+    (xs : List A) : Type 0 where
   pub each : AllByRecursion (IsValid s) vs
   pub given : map gives vs ≡ map (λ x. Ok x) xs
 
 -- The octets are the encodings of values that give this.
-pub record IsFileOf (s : Shape) {A E : Type 0} (gives : Value s → Result A E) (octets : List ℕ) (xs : List A) : Type 0 where
+pub record IsFileOf (s : Shape) {A E : Type 0} (gives : Value s → Result A E) (octets : List ℕ)
+    (xs : List A) : Type 0 where
   pub values : List (Value s)
   pub give : GiveAll s gives values xs
   pub joins : octets ≡ encodings s values
@@ -20,13 +23,16 @@ abbrev pub BeginsNone : Shape → List ℕ → Type 0
 BeginsNone s octets = (octets ≢ []) × ((v : Value s) → BeginsWith s v octets → ⊥)
 
 -- They begin with a value that gives nothing, for this reason.
-pub record BeginsRefused (s : Shape) {A E : Type 0} (gives : Value s → Result A E) (error : E) (octets : List ℕ) : Type 0 where
+pub record BeginsRefused (s : Shape) {A E : Type 0} (gives : Value s → Result A E) (error : E)
+    (octets : List ℕ) : Type 0 where
   pub value : Value s
   pub begins : BeginsWith s value octets
   pub refused : gives value ≡ Err error
 
--- Some values give something, and behind them, at this offset, begins the first place where this is wrong.
-pub record HasFirstWrong (s : Shape) {A E : Type 0} (gives : Value s → Result A E) (wrong : List ℕ → Type 0) (octets : List ℕ) (offset : ℕ) : Type 0 where
+-- Some values give something, and behind them, at this offset, begins the first place where this is
+-- wrong.
+pub record HasFirstWrong (s : Shape) {A E : Type 0} (gives : Value s → Result A E)
+    (wrong : List ℕ → Type 0) (octets : List ℕ) (offset : ℕ) : Type 0 where
   pub values : List (Value s)
   pub xs : List A
   pub give : GiveAll s gives values xs
@@ -42,7 +48,8 @@ pub record StandsAt (s : Shape) (octets : List ℕ) (start end : ℕ) (v : Value
   pub end_is : end ≡ start + length (octets_of s v)
 
 -- It gives this.
-pub record GivesAt (s : Shape) {A E : Type 0} (gives : Value s → Result A E) (octets : List ℕ) (start end : ℕ) (x : A) : Type 0 where
+pub record GivesAt (s : Shape) {A E : Type 0} (gives : Value s → Result A E) (octets : List ℕ)
+    (start end : ℕ) (x : A) : Type 0 where
   pub value : Value s
   pub stands : StandsAt s octets start end value
   pub given : gives value ≡ Ok x

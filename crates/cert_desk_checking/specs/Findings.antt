@@ -1,5 +1,6 @@
 -- What is gathered of a certificate's extensions, each weighed once, and of the places of a chain.
-use Rattle.std.specs.Prelude.{◌≡◌, ℕ, zero, suc, ◌+◌, ◌-◌, List, Bool, true, false, Option, Some, None, min, if◌then◌else◌, ◌&&◌, ◌||◌}
+use Rattle.std.specs.Prelude.{◌≡◌, ℕ, zero, suc, ◌+◌, ◌-◌, List, Bool, true, false, Option, Some}
+use Rattle.std.specs.Prelude.{None, min, if◌then◌else◌, ◌&&◌, ◌||◌}
 use Rattle.std.specs.List.{fold, list_all}
 use Rattle.x509_cert.specs.Certificates.{PlainCertificate, PlainExtension, is_critical}
 use Rattle.cert_desk_checking.specs.declared.findings.Findings.{Findings}
@@ -7,7 +8,9 @@ use Rattle.cert_desk_checking.specs.declared.path_room.PathRoom.{PathRoom}
 use Rattle.cert_desk_checking.specs.declared.weight.Weight.{Weight}
 use Rattle.cert_desk_checking.specs.declared.weight.Weight.TheVariants as weights
 use Rattle.cert_desk_checking.specs.Paths.{counts, extensions_at, is_within}
-use Rattle.cert_desk_checking.specs.Weighing.{Meaning, uses, other_names, constraints, purposes, malformed, unweighed, may_certify, path_length, serves, weigh}
+use Rattle.cert_desk_checking.specs.Weighing.{Meaning, uses, other_names, constraints, purposes}
+use Rattle.cert_desk_checking.specs.Weighing.{malformed, unweighed, may_certify, path_length}
+use Rattle.cert_desk_checking.specs.Weighing.{serves, weigh}
 
 -- what is asked of what an extension says
 abbrev pub weight_of : List ℕ → Meaning → Weight
@@ -25,15 +28,24 @@ shorter (Some one) None = Some one
 shorter (Some one) (Some other) = Some (min one other)
 
 abbrev pub no_findings : Findings
-no_findings = record { malformed = false; unweighed_critical = false; serves = true; ca = false; certifies = true; path_len = None }
+no_findings = record {
+  malformed = false;
+  unweighed_critical = false;
+  serves = true;
+  ca = false;
+  certifies = true;
+  path_len = None;
+}
 
 -- with one extension more
 abbrev pub add : Findings → Bool → Weight → Findings
-add f critical weights.Unweighed = record f { unweighed_critical = f.unweighed_critical || critical }
+add f critical weights.Unweighed =
+    record f { unweighed_critical = f.unweighed_critical || critical }
 add f critical weights.Malformed = record f { malformed = true }
 add f critical (weights.KeyUsage certifies) = record f { certifies = f.certifies && certifies }
 add f critical weights.AlternativeNames = f
-add f critical (weights.Constraints ca n) = record f { ca = f.ca || ca; path_len = shorter f.path_len n }
+add f critical (weights.Constraints ca n) =
+    record f { ca = f.ca || ca; path_len = shorter f.path_len n }
 add f critical (weights.Purposes serves) = record f { serves = f.serves && serves }
 
 abbrev pub add_extension : ℕ → List ℕ → Findings → PlainExtension → Findings

@@ -9,4 +9,5 @@ use Rattle.x509_cert.specs.Certificates.{PlainCertificate, raw_certificate}
 
 -- what reading a certificate at the front of octets gives, and the octets behind it
 abbrev pub first_certificate : List ℕ → Result (PlainCertificate × List ℕ) ErrorKind
-first_certificate octets = if nat_lt length_max (length octets) then Err kinds.Overflow else read (raw_certificate Bound) levels_max octets
+first_certificate octets = if nat_lt length_max (length octets) then Err kinds.Overflow
+    else read (raw_certificate Bound) levels_max octets

@@ -27,12 +27,14 @@ pub record HasWhole (limit offset : ℕ) (rest : List ℕ) (len : ℕ) : Type 0 
   pub within : whole_length number ≤ limit
   pub fits : offset + whole_length number < 2 ^ 64
 
--- More can be said where so many octets are there: while fewer are, nothing begins them, and what is whole then has no fewer.
+-- More can be said where so many octets are there: while fewer are, nothing begins them, and what
+-- is whole then has no fewer.
 pub record Awaits (limit offset : ℕ) (rest : List ℕ) (wanted : ℕ) : Type 0 where
   pub short : length rest < wanted
   pub within : wanted ≤ limit
   pub fits : offset + wanted < 2 ^ 64 + 6
-  pub unfinished : (b : Body) (more : List ℕ) → length (rest ++ more) < wanted → IsUnfinished (sequence b) limit offset (rest ++ more)
+  pub unfinished : (b : Body) (more : List ℕ) → length (rest ++ more) < wanted
+      → IsUnfinished (sequence b) limit offset (rest ++ more)
   pub exact : (more : List ℕ) (len : ℕ) → HasWhole limit offset (rest ++ more) len → wanted ≤ len
 
 -- so many octets have to be there: where they are, all of it is there

@@ -3,14 +3,16 @@ use Rattle.std.specs.Prelude.{ℕ, List, Option, slice_get}
 use Rattle.std.specs.List.{filter}
 use Rattle.std.specs.Option.{option_map}
 use Rattle.der_core_head.specs.BitStrings.{Bits}
-use Rattle.x509_cert.specs.Certificates.{PlainCertificate, Algorithm, outer_algorithm, public_key, signature_bits, subject}
+use Rattle.x509_cert.specs.Certificates.{PlainCertificate, Algorithm, outer_algorithm, public_key}
+use Rattle.x509_cert.specs.Certificates.{signature_bits, subject}
 use Rattle.cert_desk_checking.specs.Judging.{Terms, PlainAnchor, is_named, signed_part}
 
 -- the anchors of the issuer's name (RFC 5280 6.1.3 (a)(4))
 abbrev pub anchors_named : ℕ → PlainCertificate → List PlainAnchor → List PlainAnchor
 anchors_named bound c anchors = filter (is_named bound c) anchors
 
--- a certificate as an anchor: its subject and its key are the issuer of the next one (6.1.4 (a), (d))
+-- a certificate as an anchor: its subject and its key are the issuer of the next one (6.1.4 (a),
+-- (d))
 abbrev pub as_anchor : PlainCertificate → PlainAnchor
 as_anchor c = record { name = subject c; key = public_key c }
 
@@ -18,7 +20,9 @@ as_anchor c = record { name = subject c; key = public_key c }
 abbrev pub among : Terms → List PlainAnchor → Terms
 among t others = record t { anchors = others }
 
--- What a judge is shown of the certificate at a place, whatever key it is asked under: the signed octets, the outer algorithm and the
--- signature's bits (4.1.1).
+-- What a judge is shown of the certificate at a place, whatever key it is asked under: the signed
+-- octets, the outer algorithm and the signature's bits (4.1.1).
 abbrev pub shown_at : ℕ → List PlainCertificate → List ℕ → ℕ → Option (List ℕ × Algorithm × Bits)
-shown_at bound cs stream place = option_map (λ c. (signed_part bound cs stream place c, outer_algorithm c, signature_bits c)) (slice_get cs place)
+shown_at bound cs stream place =
+    option_map (λ c. (signed_part bound cs stream place c, outer_algorithm c, signature_bits c))
+    (slice_get cs place)

@@ -22,4 +22,5 @@ kept_by k rules.WrongSignature = true
 -- the first one that isn't kept
 abbrev pub IsFirstOf : KeptRules → Option Rule → Type 0
 IsFirstOf k None = (rule : Rule) → kept_by k rule ≡ true
-IsFirstOf k (Some rule) = (number rule < number rules.WrongSignature) × (kept_by k rule ≡ false) × ((other : Rule) → number other < number rule → kept_by k other ≡ true)
+IsFirstOf k (Some rule) = (number rule < number rules.WrongSignature) × (kept_by k rule ≡ false)
+    × ((other : Rule) → number other < number rule → kept_by k other ≡ true)

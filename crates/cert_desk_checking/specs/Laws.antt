@@ -24,7 +24,8 @@ HasOneSeries =
 abbrev pub HasOneSeriesFault : Type 0
 HasOneSeriesFault =
     (s : Shape) (limit : ℕ) (vs ws : List (Value s)) (kind other : FaultKind) (stream : List ℕ)
-    → IsUnambiguous s → SeriesFault s limit stream vs kind → SeriesFault s limit stream ws other → (vs ≡ ws) × (kind ≡ other)
+    → IsUnambiguous s → SeriesFault s limit stream vs kind → SeriesFault s limit stream ws other
+    → (vs ≡ ws) × (kind ≡ other)
 
 -- No stream joins two lists of certificates.
 abbrev pub HasOneChain : Type 0
@@ -42,13 +43,15 @@ FaultHasNoChain =
 abbrev pub HasOneFault : Type 0
 HasOneFault =
     (bound limit : ℕ) (cs ds : List PlainCertificate) (kind other : FaultKind) (stream : List ℕ)
-    → StreamFault bound limit stream cs kind → StreamFault bound limit stream ds other → (cs ≡ ds) × (kind ≡ other)
+    → StreamFault bound limit stream cs kind → StreamFault bound limit stream ds other → (cs ≡ ds)
+    × (kind ≡ other)
 
 -- A stream's fault is that of every longer stream, unless the stream only ends too early.
 abbrev pub FaultStays : Type 0
 FaultStays =
     (bound limit : ℕ) (cs : List PlainCertificate) (kind : FaultKind) (stream more : List ℕ)
-    → kind ≢ kinds.Truncated → StreamFault bound limit stream cs kind → StreamFault bound limit (stream ++ more) cs kind
+    → kind ≢ kinds.Truncated → StreamFault bound limit stream cs kind
+    → StreamFault bound limit (stream ++ more) cs kind
 
 -- No stream has two verdicts under the same terms.
 abbrev pub HasOneVerdict : Type 0
@@ -58,7 +61,8 @@ HasOneVerdict =
 
 -- No file of anchors says two things.
 abbrev pub HasOneAnchorFile : Type 0
-HasOneAnchorFile = (octets : List ℕ) (said other : Result (List PlainAnchor) (ℕ × AnchorFault)) → SaysAsFile octets said → SaysAsFile octets other → said ≡ other
+HasOneAnchorFile = (octets : List ℕ) (said other : Result (List PlainAnchor) (ℕ × AnchorFault))
+    → SaysAsFile octets said → SaysAsFile octets other → said ≡ other
 
 -- Judges that answer alike on what a chain may ask give one verdict, and are asked as often.
 abbrev pub IsJudgedAlike : Type 0

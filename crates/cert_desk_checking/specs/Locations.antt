@@ -2,7 +2,8 @@
 use Rattle.std.specs.Prelude.{◌≡◌, ◌≢◌, ℕ, ◌≤◌, List, [], length, map, ◌⊎◌, Some, slice_get}
 use Rattle.std.specs.List.{AllByRecursion}
 use Rattle.der_core_head.specs.Shapes.{Spells}
-use Rattle.x509_cert.specs.Certificates.{PlainCertificate, raw_certificate, certificate_octets, signed_start, signed_length}
+use Rattle.x509_cert.specs.Certificates.{PlainCertificate, raw_certificate, certificate_octets}
+use Rattle.x509_cert.specs.Certificates.{signed_start, signed_length}
 use Rattle.const_oid.specs.Bound.{Bound}
 use Rattle.x509_cert.specs.Views.{certificate_plain}
 use Rattle.cert_desk_checking.specs.declared.bundle.Bundle.TheInside.{Inside}
@@ -21,9 +22,16 @@ abbrev pub certificates_of : List Located → List PlainCertificate
 certificates_of located = map plain_of located
 
 abbrev pub kept_of : Inside → Kept
-kept_of b = record { limit = b.limit; certificates = certificates_of b.located.items; rest = b.rest.octets.items; standing = b.standing }
+kept_of b =
+    record {
+      limit = b.limit;
+      certificates = certificates_of b.located.items;
+      rest = b.rest.octets.items;
+      standing = b.standing;
+    }
 
--- the certificate that has these octets, which begin at this offset, and where its signed part stands in them
+-- the certificate that has these octets, which begin at this offset, and where its signed part
+-- stands in them
 pub record IsPlacedAt (offset : ℕ) (octets : List ℕ) (l : Located) : Type 0 where
   pub offset_is : l.offset ≡ offset
   pub octets_are : l.octets.items ≡ octets
@@ -33,14 +41,17 @@ pub record IsPlacedAt (offset : ℕ) (octets : List ℕ) (l : Located) : Type 0 
 
 -- why there is none: want of memory, or no certificate has these octets
 abbrev pub IsUnread : List ℕ → Standing → Type 0
-IsUnread octets standing = (standing ≡ standings.NoMemory) ⊎ ((standing ≡ standings.Faulted kinds.Malformed) × ((c : PlainCertificate) → Spells (raw_certificate Bound) c octets → ⊥))
+IsUnread octets standing = (standing ≡ standings.NoMemory)
+    ⊎ ((standing ≡ standings.Faulted kinds.Malformed)
+    × ((c : PlainCertificate) → Spells (raw_certificate Bound) c octets → ⊥))
 
 -- Each certificate may stand in a stream, and is placed behind those before it.
 pub record AreKept (limit end : ℕ) (located : List Located) : Type 0 where
   pub end_is : end ≡ length (joined Bound (certificates_of located))
   pub each : AllByRecursion (Stands Bound limit) (certificates_of located)
   pub places : (place : ℕ) (l : Located) → slice_get located place ≡ Some l
-      → IsPlacedAt (offset_at Bound (certificates_of located) place) (certificate_octets Bound (plain_of l)) l
+      → IsPlacedAt (offset_at Bound (certificates_of located) place)
+      (certificate_octets Bound (plain_of l)) l
 
 -- Behind them more octets are waited for, and none are kept where no piece is taken.
 pub record IsKept (b : Inside) : Type 0 where

@@ -1,5 +1,6 @@
 -- What is found at one place of a chain, and how often the judge is asked there.
-use Rattle.std.specs.Prelude.{◌≡◌, ℕ, zero, suc, ◌<◌, List, map, Bool, true, false, Option, Some, None, ◌&&◌, if◌then◌else◌, slice_get}
+use Rattle.std.specs.Prelude.{◌≡◌, ℕ, zero, suc, ◌<◌, List, map, Bool, true, false, Option, Some}
+use Rattle.std.specs.Prelude.{None, ◌&&◌, if◌then◌else◌, slice_get}
 use Rattle.std.specs.List.{list_any}
 use Rattle.const_oid.specs.Bound.{Bound}
 use Rattle.x509_cert.specs.Certificates.{PlainCertificate, issuer, public_key, subject}
@@ -12,13 +13,15 @@ use Rattle.cert_desk_checking.specs.declared.rule.Rule.{Rule}
 use Rattle.cert_desk_checking.specs.declared.rule.Rule.TheVariants as rules
 use Rattle.cert_desk_checking.specs.Anchors.{anchor_plain}
 use Rattle.cert_desk_checking.specs.Findings.{IsRoom}
-use Rattle.cert_desk_checking.specs.Judging.{Answers, Terms, PlainAnchor, keeps_at, number, is_named, same_name}
+use Rattle.cert_desk_checking.specs.Judging.{Answers, Terms, PlainAnchor, keeps_at, number}
+use Rattle.cert_desk_checking.specs.Judging.{is_named, same_name}
 use Rattle.cert_desk_checking.specs.Paths.{is_last}
 use Rattle.cert_desk_checking.specs.Verdicts.{accepted, asked_until, raised}
 
 -- the first rule before the signature that the certificate at a place breaks, or none
 abbrev pub IsFirstUnsigned : Terms → List PlainCertificate → List ℕ → ℕ → Option Rule → Type 0
-IsFirstUnsigned t cs stream place None = (rule : Rule) → number rule < number rules.WrongSignature → keeps_at rule t cs stream place ≡ true
+IsFirstUnsigned t cs stream place None = (rule : Rule) → number rule < number rules.WrongSignature
+    → keeps_at rule t cs stream place ≡ true
 IsFirstUnsigned t cs stream place (Some rule) =
     (number rule < number rules.WrongSignature) × (keeps_at rule t cs stream place ≡ false)
     × ((other : Rule) → number other < number rule → keeps_at other t cs stream place ≡ true)
@@ -33,28 +36,37 @@ asked_once bound c a = if is_named bound c a then 1 else 0
 
 -- the certificate's issuer has the name of an anchor, or of the certificate before
 abbrev pub linked_to : ℕ → Issuer → PlainCertificate → Bool
-linked_to bound (issuers.Anchors anchors) c = list_any (is_named bound c) (map anchor_plain anchors.now)
-linked_to bound (issuers.Before b) c = same_name bound (issuer c) (subject (certificate_plain b.now))
+linked_to bound (issuers.Anchors anchors) c =
+    list_any (is_named bound c) (map anchor_plain anchors.now)
+linked_to bound (issuers.Before b) c =
+    same_name bound (issuer c) (subject (certificate_plain b.now))
 
 -- the answer under the key of an anchor of the issuer's name, or of the certificate before, is yes
 abbrev pub signed_by : ℕ → Answers → List ℕ → PlainCertificate → Issuer → Bool
-signed_by bound answers signed c (issuers.Anchors anchors) = list_any (signs bound answers signed c) (map anchor_plain anchors.now)
-signed_by bound answers signed c (issuers.Before b) = accepted answers signed c (public_key (certificate_plain b.now))
+signed_by bound answers signed c (issuers.Anchors anchors) =
+    list_any (signs bound answers signed c) (map anchor_plain anchors.now)
+signed_by bound answers signed c (issuers.Before b) =
+    accepted answers signed c (public_key (certificate_plain b.now))
 
 -- how many questions that takes
 abbrev pub asked_of : ℕ → Answers → List ℕ → PlainCertificate → Issuer → ℕ
-asked_of bound answers signed c (issuers.Anchors anchors) = asked_until bound answers signed c (map anchor_plain anchors.now)
+asked_of bound answers signed c (issuers.Anchors anchors) =
+    asked_until bound answers signed c (map anchor_plain anchors.now)
 asked_of bound answers signed c (issuers.Before b) = 1
 
--- who may have issued the certificate at a place: one of the anchors at the first, else the certificate before
+-- who may have issued the certificate at a place: one of the anchors at the first, else the
+-- certificate before
 abbrev pub IsIssuer : List PlainCertificate → List Anchor → ℕ → Issuer → Type 0
 IsIssuer cs anchors zero (issuers.Anchors those) = those.now ≡ anchors
 IsIssuer cs anchors zero (issuers.Before b) = ⊥
 IsIssuer cs anchors (suc before) (issuers.Anchors those) = ⊥
-IsIssuer cs anchors (suc before) (issuers.Before b) = slice_get cs before ≡ Some (certificate_plain b.now)
+IsIssuer cs anchors (suc before) (issuers.Before b) =
+    slice_get cs before ≡ Some (certificate_plain b.now)
 
--- what is known of a place: its certificate, whether it is the last, who may have issued it, and the room that the places before leave
-pub record StandsAt (cs : List PlainCertificate) (anchors : List Anchor) (place : ℕ) (c : PlainCertificate) (last : Bool) (i : Issuer) (r : PathRoom) : Type 0 where
+-- what is known of a place: its certificate, whether it is the last, who may have issued it, and
+-- the room that the places before leave
+pub record StandsAt (cs : List PlainCertificate) (anchors : List Anchor) (place : ℕ)
+    (c : PlainCertificate) (last : Bool) (i : Issuer) (r : PathRoom) : Type 0 where
   pub certificate : slice_get cs place ≡ Some c
   pub last_is : last ≡ is_last cs place
   pub issuer : IsIssuer cs anchors place i

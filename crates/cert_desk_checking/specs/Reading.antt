@@ -11,13 +11,14 @@ use Rattle.cert_desk_checking.specs.Faults.{StreamFault}
 use Rattle.cert_desk_checking.specs.Steps.{most_read}
 use Rattle.cert_desk_checking.specs.Streams.{Kept, Reads}
 
--- No octet was asked for behind the read that stopped the reading: the octets before it have no fault but that they may end too early,
--- and it took no more than a read takes.
+-- No octet was asked for behind the read that stopped the reading: the octets before it have no
+-- fault but that they may end too early, and it took no more than a read takes.
 pub record AsksNoMore (input : Device) (limit : ℕ) : Type 0 where
   pub before : input.State
   pub octets : List ℕ
   pub taken : input.moves input.old octets before
-  pub sound : (cs : List PlainCertificate) (kind : FaultKind) → kind ≢ kinds.Truncated → StreamFault Bound limit octets cs kind → ⊥
+  pub sound : (cs : List PlainCertificate) (kind : FaultKind) → kind ≢ kinds.Truncated
+      → StreamFault Bound limit octets cs kind → ⊥
   pub piece : List ℕ
   pub last : input.moves before piece input.new
   pub short : length piece ≤ most_read
@@ -26,14 +27,17 @@ pub record AsksNoMore (input : Device) (limit : ℕ) : Type 0 where
 abbrev pub ReadFailed : Device → Type 0
 ReadFailed input = Rose (input.failures input.old) (input.failures input.new)
 
--- A new bundle was fed what an input gave: to its end, to a fault, to want of memory, or to a failure. No read failed but in
--- the last of these.
+-- A new bundle was fed what an input gave: to its end, to a fault, to want of memory, or to a
+-- failure. No read failed but in the last of these.
 abbrev pub FedUnder : Device → Kept → Standing → Type 0
 FedUnder input b standings.Open = ⊥
-FedUnder input b standings.Ended = (octets : List ℕ) × Moved input octets × Reads Bound b octets × MetEnd input × Sound input
+FedUnder input b standings.Ended = (octets : List ℕ) × Moved input octets × Reads Bound b octets
+    × MetEnd input × Sound input
 FedUnder input b (standings.Faulted kind) =
-    (octets : List ℕ) × Moved input octets × Reads Bound b octets × (kind ≡ kinds.Truncated → MetEnd input) × AsksNoMore input b.limit × Sound input
-FedUnder input b standings.NoMemory = (octets : List ℕ) × Moved input octets × AsksNoMore input b.limit × Sound input
+    (octets : List ℕ) × Moved input octets × Reads Bound b octets
+    × (kind ≡ kinds.Truncated → MetEnd input) × AsksNoMore input b.limit × Sound input
+FedUnder input b standings.NoMemory = (octets : List ℕ) × Moved input octets
+    × AsksNoMore input b.limit × Sound input
 FedUnder input b standings.NoDevice = (octets : List ℕ) × Moved input octets × ReadFailed input
 
 abbrev pub IsFed : Device → Kept → Type 0

@@ -10,7 +10,8 @@ use Rattle.cert_desk_checking.specs.declared.reason.Reason.TheVariants as reason
 use Rattle.cert_desk_checking.specs.declared.rule.Rule.{Rule}
 use Rattle.cert_desk_checking.specs.declared.rule.Rule.TheVariants as rules
 use Rattle.cert_desk_checking.specs.Paths.{extensions_at, keeps_length}
-use Rattle.cert_desk_checking.specs.Weighing.{is_authority, is_malformed, is_unweighed_critical, may_certify, serves, weigh}
+use Rattle.cert_desk_checking.specs.Weighing.{is_authority, is_malformed, is_unweighed_critical}
+use Rattle.cert_desk_checking.specs.Weighing.{may_certify, serves, weigh}
 
 -- an extension breaks a rule by itself
 abbrev pub is_against : ℕ → List ℕ → Rule → PlainExtension → Bool
@@ -57,10 +58,13 @@ has_no_authority bound es = not (list_any (λ e. is_authority (weigh bound e)) e
 
 -- The reason holds of the certificate at a place, and breaks the rule.
 abbrev pub Explains : ℕ → List ℕ → List PlainCertificate → ℕ → Rule → Reason → Type 0
-Explains bound purpose cs place rule (reasons.Extension number) = is_at (is_against bound purpose rule) (extensions_at cs place) number ≡ true
+Explains bound purpose cs place rule (reasons.Extension number) =
+    is_at (is_against bound purpose rule) (extensions_at cs place) number ≡ true
 Explains bound purpose cs place rule (reasons.Twins first second) =
-    (rule ≡ rules.DuplicateExtension) × (first < second) × (are_twins (extensions_at cs place) first second ≡ true)
-Explains bound purpose cs place rule reasons.NoConstraints = (rule ≡ rules.NotAuthority) × (has_no_authority bound (extensions_at cs place) ≡ true)
+    (rule ≡ rules.DuplicateExtension) × (first < second)
+    × (are_twins (extensions_at cs place) first second ≡ true)
+Explains bound purpose cs place rule reasons.NoConstraints = (rule ≡ rules.NotAuthority)
+    × (has_no_authority bound (extensions_at cs place) ≡ true)
 Explains bound purpose cs place rule (reasons.PathLength before) =
     (rule ≡ rules.PathTooLong) × (before < place) × (keeps_length bound cs before place ≡ false)
 

@@ -23,7 +23,8 @@ IsCompleted limit offset octets new None = IsLeft limit offset octets new
 IsCompleted limit offset octets new (Some whole) = IsSplit limit offset octets new whole.items
 
 -- so many octets of a piece were taken
-pub record IsTaken (limit offset : ℕ) (old new : Rest) (piece : List ℕ) (count : ℕ) (whole : Option (Vec ℕ)) : Type 0 where
+pub record IsTaken (limit offset : ℕ) (old new : Rest) (piece : List ℕ) (count : ℕ)
+    (whole : Option (Vec ℕ)) : Type 0 where
   pub some : 0 < count
   pub within : count ≤ length piece
   pub completed : IsCompleted limit offset (old.octets.items ++ take count piece) new whole

@@ -23,26 +23,30 @@ use Rattle.cert_desk_checking.specs.Verdicts.{IsVerdict, IsCounted, StopsAsking}
 
 -- All octets of an input give these anchors.
 abbrev pub HasAnchors : Device → List PlainAnchor → Type 0
-HasAnchors input anchors = (octets : List ℕ) × IsWhole input most_octets octets × IsAnchorFile octets anchors
+HasAnchors input anchors = (octets : List ℕ) × IsWhole input most_octets octets
+    × IsAnchorFile octets anchors
 
--- Why an input gave no anchors: one of them is faulty, the first one where there are too many octets; or why it wasn't read, or found
--- no memory.
+-- Why an input gave no anchors: one of them is faulty, the first one where there are too many
+-- octets; or why it wasn't read, or found no memory.
 abbrev pub HasNoAnchors : Device → Outcome → Type 0
 HasNoAnchors input (outcomes.Checked checked) = ⊥
 HasNoAnchors input (outcomes.BadAnchors offset fault) =
     ((octets : List ℕ) × IsWhole input most_octets octets × HasFirstFault octets offset fault)
     ⊎ (IsUnread input most_octets reasons.TooMuch × (offset ≡ 0) × (fault ≡ faults.Malformed))
 HasNoAnchors input outcomes.Device = IsUnread input most_octets reasons.Device
-HasNoAnchors input outcomes.OutOfMemory = ((octets : List ℕ) × IsWhole input most_octets octets) ⊎ IsUnread input most_octets reasons.OutOfMemory
+HasNoAnchors input outcomes.OutOfMemory = ((octets : List ℕ) × IsWhole input most_octets octets)
+    ⊎ IsUnread input most_octets reasons.OutOfMemory
 
 -- how far a stream has to be read for a verdict: to its end, or to the read that brings the fault
 abbrev pub IsReadFor : Verdict → Device → ℕ → Type 0
 IsReadFor verdicts.Trusted stream limit = MetEnd stream
 IsReadFor (verdicts.Refused place rule) stream limit = MetEnd stream
-IsReadFor (verdicts.StreamFault place offset kind) stream limit = (kind ≡ kinds.Truncated → MetEnd stream) × AsksNoMore stream limit
+IsReadFor (verdicts.StreamFault place offset kind) stream limit =
+    (kind ≡ kinds.Truncated → MetEnd stream) × AsksNoMore stream limit
 IsReadFor verdicts.Empty stream limit = MetEnd stream
 
--- What contracts see of a judge over a call: what it answers, how often it was asked, and the states before and behind.
+-- What contracts see of a judge over a call: what it answers, how often it was asked, and the
+-- states before and behind.
 pub record Judge : Type 1 where
   pub State : Type 0
   pub answers : State → Answers
@@ -51,7 +55,8 @@ pub record Judge : Type 1 where
   pub new : State
 
 abbrev pub judging : {State : Type 0} → (State → Answers) → (State → ℕ) → State → State → Judge
-judging {State} answers questions old new = record { State = State; answers = answers; questions = questions; old = old; new = new }
+judging {State} answers questions old new =
+    record { State = State; answers = answers; questions = questions; old = old; new = new }
 
 -- it wasn't asked
 abbrev pub IsUnasked : Judge → Type 0
@@ -60,10 +65,17 @@ IsUnasked judge = judge.new ≡ judge.old
 -- the terms of these anchors
 abbrev pub run_terms : List PlainAnchor → ℕ → List ℕ → Answers → Terms
 run_terms anchors moment purpose answers =
-    record { bound = Bound; anchors = anchors; moment = moment; purpose = purpose; answers = answers }
+    record {
+      bound = Bound;
+      anchors = anchors;
+      moment = moment;
+      purpose = purpose;
+      answers = answers;
+    }
 
--- What was read of a stream that finds no memory, and what the judge was asked: the stream was read to where memory was wanting, and
--- nobody was asked; or to its end, and the judge was asked about the first of its certificates, which keep every rule.
+-- What was read of a stream that finds no memory, and what the judge was asked: the stream was read
+-- to where memory was wanting, and nobody was asked; or to its end, and the judge was asked about
+-- the first of its certificates, which keep every rule.
 abbrev pub IsReadInVain : Device → Judge → Terms → ℕ → Type 0
 IsReadInVain stream judge terms limit =
     Sound stream
@@ -78,15 +90,17 @@ status_of (verdicts.Refused place rule) = statuses.Refused
 status_of (verdicts.StreamFault place offset kind) = statuses.Faulty
 status_of verdicts.Empty = statuses.Empty
 
--- What is found in the inputs of anchors and of a stream. Where the anchors or a device end the run, the judge wasn't asked. The stream
--- is untouched unless the anchors were read whole.
+-- What is found in the inputs of anchors and of a stream. Where the anchors or a device end the
+-- run, the judge wasn't asked. The stream is untouched unless the anchors were read whole.
 abbrev pub IsOutcome : Device → Device → Judge → ℕ → List ℕ → ℕ → Outcome → Type 0
 IsOutcome anchors stream judge moment purpose limit (outcomes.Checked checked) =
     (given : List PlainAnchor) × (octets : List ℕ)
     × HasAnchors anchors given
     × Moved stream octets × Sound stream × IsReadFor checked.verdict stream limit
-    × IsVerdict (run_terms given moment purpose (judge.answers judge.old)) limit octets checked.verdict
-    × IsCounted (run_terms given moment purpose (judge.answers judge.old)) limit octets checked (judge.questions judge.old) (judge.questions judge.new)
+    × IsVerdict (run_terms given moment purpose (judge.answers judge.old)) limit octets
+    checked.verdict
+    × IsCounted (run_terms given moment purpose (judge.answers judge.old)) limit octets checked
+    (judge.questions judge.old) (judge.questions judge.new)
 IsOutcome anchors stream judge moment purpose limit (outcomes.BadAnchors offset fault) =
     HasNoAnchors anchors (outcomes.BadAnchors offset fault) × Untouched stream × IsUnasked judge
 IsOutcome anchors stream judge moment purpose limit outcomes.Device =
@@ -98,11 +112,14 @@ IsOutcome anchors stream judge moment purpose limit outcomes.OutOfMemory =
     ⊎ ((given : List PlainAnchor) × HasAnchors anchors given
     × IsReadInVain stream judge (run_terms given moment purpose (judge.answers judge.old)) limit)
 
--- What is told of an outcome, and the status. Where there is no memory for the text, this is told in its place.
+-- What is told of an outcome, and the status. Where there is no memory for the text, this is told
+-- in its place.
 abbrev pub IsTold : Device → Device → Outcome → ExitStatus → Type 0
 IsTold out err (outcomes.Checked checked) answer =
-    IsAnswer out err (line_of checked.verdict checked.calls) (status_of checked.verdict) answer ⊎ (Untouched out × IsMemoryTold err answer)
+    IsAnswer out err (line_of checked.verdict checked.calls) (status_of checked.verdict) answer
+    ⊎ (Untouched out × IsMemoryTold err answer)
 IsTold out err (outcomes.BadAnchors offset fault) answer =
-    Untouched out × (IsComplaint err (anchors_line offset fault) statuses.Arguments answer ⊎ IsMemoryTold err answer)
+    Untouched out × (IsComplaint err (anchors_line offset fault) statuses.Arguments answer
+    ⊎ IsMemoryTold err answer)
 IsTold out err outcomes.Device answer = Untouched out × IsDeviceTold err answer
 IsTold out err outcomes.OutOfMemory answer = Untouched out × IsMemoryTold err answer

@@ -1,11 +1,13 @@
--- Values of a shape whose encodings stand one behind the other: certificates of a stream, trust anchors of a file.
-use Rattle.std.specs.Prelude.{◌≡◌, ℕ, ◌≤◌, ◌<◌, ◌^◌, List, [], ◌∷◌, ◌++◌, length, take, flat_map, true}
+-- Values of a shape whose encodings stand one behind the other: certificates of a stream, trust
+-- anchors of a file.
+use Rattle.std.specs.Prelude.{◌≡◌, ℕ, ◌≤◌, ◌<◌, ◌^◌, List, [], ◌∷◌, ◌++◌, length, take, flat_map}
+use Rattle.std.specs.Prelude.{true}
 use Rattle.std.specs.List.{AllByRecursion}
 use Rattle.der_core_head.specs.Shapes.{Shape, Value, octets_of, IsValid}
 use Rattle.der_core_head.specs.Spelling.{is_apart, is_element, are_enough}
 
--- Values of the shape are told apart, whatever stands behind them: each has a header, first tags are kept apart, and some number of
--- levels is enough.
+-- Values of the shape are told apart, whatever stands behind them: each has a header, first tags
+-- are kept apart, and some number of levels is enough.
 pub record IsUnambiguous (s : Shape) : Type 0 where
   pub room : ℕ
   pub element : is_element s ≡ true
@@ -25,23 +27,28 @@ pub record MayStand (s : Shape) (limit : ℕ) (v : Value s) : Type 0 where
   pub valid : IsValid s v
   pub within : length (octets_of s v) ≤ limit
 
--- The stream joins the encodings of these values, each within the limit, and has at most 2^64 - 1 octets.
+-- The stream joins the encodings of these values, each within the limit, and has at most 2^64 - 1
+-- octets.
 pub record Series (s : Shape) (limit : ℕ) (vs : List (Value s)) (stream : List ℕ) : Type 0 where
   pub each : AllByRecursion (MayStand s limit) vs
   pub joins : stream ≡ encodings s vs
   pub fits : length stream < 2 ^ 64
 
 -- the values are a front of those with which this stream begins
-pub record BeginsSeries (s : Shape) (limit : ℕ) (vs : List (Value s)) (stream : List ℕ) : Type 0 where
-  pub front : Series s limit vs (encodings s vs)
-  pub more : List ℕ
-  pub whole : stream ≡ encodings s vs ++ more
+pub record BeginsSeries (s : Shape) (limit : ℕ) (vs : List (Value s)) (stream : List ℕ) : Type 0
+  where
+    pub front : Series s limit vs (encodings s vs)
+    pub more : List ℕ
+    pub whole : stream ≡ encodings s vs ++ more
 
 -- The stream begins with these values, and the rest begins with no further one that could stand.
-pub record SeriesSplit (s : Shape) (limit : ℕ) (stream : List ℕ) (vs : List (Value s)) (rest : List ℕ) : Type 0 where
+pub record SeriesSplit (s : Shape) (limit : ℕ) (stream : List ℕ) (vs : List (Value s))
+    (rest : List ℕ) : Type 0 where
   pub front : Series s limit vs (encodings s vs)
   pub whole : stream ≡ encodings s vs ++ rest
-  pub longest : (v : Value s) (more : List ℕ) → Series s limit (vs ++ v ∷ []) (encodings s (vs ++ v ∷ [])) → rest ≡ octets_of s v ++ more → ⊥
+  pub longest : (v : Value s) (more : List ℕ)
+      → Series s limit (vs ++ v ∷ []) (encodings s (vs ++ v ∷ [])) → rest ≡ octets_of s v ++ more
+      → ⊥
 
 -- these octets begin with the encoding of this value
 pub record BeginsWith (s : Shape) (v : Value s) (octets : List ℕ) : Type 0 where

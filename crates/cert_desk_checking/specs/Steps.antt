@@ -20,7 +20,8 @@ kept_octets bound b = joined bound b.certificates ++ b.rest
 
 -- for every stream that the old bundle reads the new one reads it and these octets
 abbrev pub ReadsOn : ℕ → Kept → Kept → List ℕ → Type 0
-ReadsOn bound old new octets = (stream : List ℕ) → Reads bound old stream → Reads bound new (stream ++ octets)
+ReadsOn bound old new octets = (stream : List ℕ) → Reads bound old stream
+    → Reads bound new (stream ++ octets)
 
 -- the certificates stay, and others may follow
 abbrev pub Grows : Kept → Kept → Type 0
@@ -45,7 +46,8 @@ pub record TakesFront (bound : ℕ) (old new : Kept) (piece : List ℕ) (count :
 abbrev pub StopsBy : ℕ → Kept → List ℕ → Standing → Type 0
 StopsBy bound old octets standings.Open = ⊥
 StopsBy bound old octets standings.Ended = ⊥
-StopsBy bound old octets (standings.Faulted kind) = (kind ≢ kinds.Truncated) × IsFault (raw_certificate bound) old.limit (length (joined bound old.certificates)) kind octets
+StopsBy bound old octets (standings.Faulted kind) = (kind ≢ kinds.Truncated)
+    × IsFault (raw_certificate bound) old.limit (length (joined bound old.certificates)) kind octets
 StopsBy bound old octets standings.NoMemory = Unit {0}
 StopsBy bound old octets standings.NoDevice = ⊥
 
@@ -68,12 +70,14 @@ pub record IsFoundAt (bound : ℕ) (b : Kept) (place offset : ℕ) (kind : Fault
 abbrev pub error_of : ℕ → Kept → Standing → BundleError
 error_of bound b standings.Open = errors.OutOfMemory
 error_of bound b standings.Ended = errors.OutOfMemory
-error_of bound b (standings.Faulted kind) = errors.Fault (length b.certificates) (length (joined bound b.certificates)) kind
+error_of bound b (standings.Faulted kind) =
+    errors.Fault (length b.certificates) (length (joined bound b.certificates)) kind
 error_of bound b standings.NoMemory = errors.OutOfMemory
 error_of bound b standings.NoDevice = errors.OutOfMemory
 
 -- A piece has a fault, or what comes before it in the stream and it.
-pub record FeedsFault (bound : ℕ) (old new : Kept) (piece : List ℕ) (place offset : ℕ) (kind : FaultKind) : Type 0 where
+pub record FeedsFault (bound : ℕ) (old new : Kept) (piece : List ℕ) (place offset : ℕ)
+    (kind : FaultKind) : Type 0 where
   pub was_open : old.standing ≡ standings.Open
   pub found : IsFoundAt bound new place offset kind
   pub streams : kind ≢ kinds.Truncated
@@ -83,7 +87,8 @@ pub record FeedsFault (bound : ℕ) (old new : Kept) (piece : List ℕ) (place o
 pub record FeedsNone (bound : ℕ) (old new : Kept) (piece : List ℕ) : Type 0 where
   pub was_open : old.standing ≡ standings.Open
   pub standing : new.standing ≡ standings.NoMemory
-  pub begins : (stream : List ℕ) → Reads bound old stream → Begins bound new.limit new.certificates (stream ++ piece)
+  pub begins : (stream : List ℕ) → Reads bound old stream
+      → Begins bound new.limit new.certificates (stream ++ piece)
 
 -- it wasn't open, and nothing changed
 pub record IsShut (old new : Kept) : Type 0 where
@@ -92,7 +97,8 @@ pub record IsShut (old new : Kept) : Type 0 where
 
 -- why a piece is refused
 abbrev pub RefusesPiece : ℕ → Kept → Kept → List ℕ → BundleError → Type 0
-RefusesPiece bound old new piece (errors.Fault place offset kind) = FeedsFault bound old new piece place offset kind
+RefusesPiece bound old new piece (errors.Fault place offset kind) =
+    FeedsFault bound old new piece place offset kind
 RefusesPiece bound old new piece errors.OutOfMemory = FeedsNone bound old new piece
 RefusesPiece bound old new piece errors.Failed = IsShut old new
 
@@ -101,11 +107,12 @@ abbrev pub ReadsStill : ℕ → Kept → Kept → Type 0
 ReadsStill bound old new = (stream : List ℕ) → Reads bound old stream → Reads bound new stream
 
 -- The stream ends inside a certificate.
-pub record EndsInside (bound : ℕ) (old new : Kept) (place offset : ℕ) (kind : FaultKind) : Type 0 where
-  pub was_open : old.standing ≡ standings.Open
-  pub found : IsFoundAt bound new place offset kind
-  pub ends : kind ≡ kinds.Truncated
-  pub reads : ReadsStill bound old new
+pub record EndsInside (bound : ℕ) (old new : Kept) (place offset : ℕ) (kind : FaultKind) : Type 0
+  where
+    pub was_open : old.standing ≡ standings.Open
+    pub found : IsFoundAt bound new place offset kind
+    pub ends : kind ≡ kinds.Truncated
+    pub reads : ReadsStill bound old new
 
 abbrev pub HasFailed : Standing → Type 0
 HasFailed standings.Open = ⊥
@@ -121,20 +128,25 @@ pub record HadFailed (old new : Kept) : Type 0 where
 
 -- why a bundle doesn't end
 abbrev pub RefusesEnd : ℕ → Kept → Kept → BundleError → Type 0
-RefusesEnd bound old new (errors.Fault place offset kind) = EndsInside bound old new place offset kind
+RefusesEnd bound old new (errors.Fault place offset kind) =
+    EndsInside bound old new place offset kind
 RefusesEnd bound old new errors.OutOfMemory = ⊥
 RefusesEnd bound old new errors.Failed = HadFailed old new
 
 -- Octets were taken, and for every stream that the old bundle reads the new one reads it and them.
-abbrev pub Takes : {State : Type 0} → (State → List ℕ → State → Type 0) → State → State → ℕ → Kept → Kept → Type 0
-Takes takes from to bound old new = (octets : List ℕ) × takes from octets to × ReadsOn bound old new octets
+abbrev pub Takes : {State : Type 0} → (State → List ℕ → State → Type 0) → State → State → ℕ → Kept
+    → Kept → Type 0
+Takes takes from to bound old new = (octets : List ℕ) × takes from octets to
+    × ReadsOn bound old new octets
 
 -- the most octets that one read takes
 abbrev pub most_read : ℕ
 most_read = 4096
 
--- All that was taken before the last read is read by a bundle that still takes pieces: no octet was asked for behind what stops it.
-pub record StopsAtOnce {State : Type 0} (takes : State → List ℕ → State → Type 0) (from to : State) (bound : ℕ) (old : Kept) : Type 0 where
+-- All that was taken before the last read is read by a bundle that still takes pieces: no octet was
+-- asked for behind what stops it.
+pub record StopsAtOnce {State : Type 0} (takes : State → List ℕ → State → Type 0) (from to : State)
+    (bound : ℕ) (old : Kept) : Type 0 where
   pub before : State
   pub now : Kept
   pub is_open : now.standing ≡ standings.Open
@@ -145,7 +157,8 @@ pub record StopsAtOnce {State : Type 0} (takes : State → List ℕ → State �
   pub short : length piece ≤ most_read
 
 -- All that was taken was taken before a first read failed, and none was asked for behind that one.
-pub record FailsAtOnce {State : Type 0} (takes : State → List ℕ → State → Type 0) (is_ended : State → Type 0) (failures : State → ℕ) (from to : State) : Type 0 where
+pub record FailsAtOnce {State : Type 0} (takes : State → List ℕ → State → Type 0)
+    (is_ended : State → Type 0) (failures : State → ℕ) (from to : State) : Type 0 where
   pub before : State
   pub octets : List ℕ
   pub taken : takes from octets before
@@ -154,7 +167,9 @@ pub record FailsAtOnce {State : Type 0} (takes : State → List ℕ → State �
   pub not_ended : is_ended to → ⊥
 
 -- The device failed: the certificates are those of the octets before, of which a rest was dropped.
-pub record DeviceFails {State : Type 0} (takes : State → List ℕ → State → Type 0) (is_ended : State → Type 0) (failures : State → ℕ) (from to : State) (bound : ℕ) (old new : Kept) : Type 0 where
+pub record DeviceFails {State : Type 0} (takes : State → List ℕ → State → Type 0)
+    (is_ended : State → Type 0) (failures : State → ℕ) (from to : State) (bound : ℕ)
+    (old new : Kept) : Type 0 where
   pub was_open : old.standing ≡ standings.Open
   pub standing : new.standing ≡ standings.NoDevice
   pub rose : Rose (failures from) (failures to)
@@ -163,7 +178,9 @@ pub record DeviceFails {State : Type 0} (takes : State → List ℕ → State �
   pub stops : FailsAtOnce takes is_ended failures from to
 
 -- The stream has a fault, or ends inside a certificate. No read failed.
-pub record InputFaulty {State : Type 0} (takes : State → List ℕ → State → Type 0) (is_ended : State → Type 0) (failures : State → ℕ) (from to : State) (bound : ℕ) (old new : Kept) (place offset : ℕ) (kind : FaultKind) : Type 0 where
+pub record InputFaulty {State : Type 0} (takes : State → List ℕ → State → Type 0)
+    (is_ended : State → Type 0) (failures : State → ℕ) (from to : State) (bound : ℕ)
+    (old new : Kept) (place offset : ℕ) (kind : FaultKind) : Type 0 where
   pub was_open : old.standing ≡ standings.Open
   pub found : IsFoundAt bound new place offset kind
   pub ends : kind ≡ kinds.Truncated → is_ended to
@@ -172,18 +189,26 @@ pub record InputFaulty {State : Type 0} (takes : State → List ℕ → State �
   pub sound : failures to ≡ failures from
 
 -- There was no memory for what was taken. No read failed.
-pub record InputFitsNot {State : Type 0} (takes : State → List ℕ → State → Type 0) (failures : State → ℕ) (from to : State) (bound : ℕ) (old new : Kept) : Type 0 where
+pub record InputFitsNot {State : Type 0} (takes : State → List ℕ → State → Type 0)
+    (failures : State → ℕ) (from to : State) (bound : ℕ) (old new : Kept) : Type 0 where
   pub was_open : old.standing ≡ standings.Open
   pub standing : new.standing ≡ standings.NoMemory
   pub octets : List ℕ
   pub taken : takes from octets to
-  pub begins : (stream : List ℕ) → Reads bound old stream → Begins bound new.limit new.certificates (stream ++ octets)
+  pub begins : (stream : List ℕ) → Reads bound old stream
+      → Begins bound new.limit new.certificates (stream ++ octets)
   pub stops : StopsAtOnce takes from to bound old
   pub sound : failures to ≡ failures from
 
 -- why an input isn't read to its end
-abbrev pub RefusesInput : {State : Type 0} → (State → List ℕ → State → Type 0) → (State → Type 0) → (State → ℕ) → State → State → ℕ → Kept → Kept → ReadError → Type 0
-RefusesInput takes is_ended failures from to bound old new reads.Device = DeviceFails takes is_ended failures from to bound old new
-RefusesInput takes is_ended failures from to bound old new (reads.Bundle (errors.Fault place offset kind)) = InputFaulty takes is_ended failures from to bound old new place offset kind
-RefusesInput takes is_ended failures from to bound old new (reads.Bundle errors.OutOfMemory) = InputFitsNot takes failures from to bound old new
-RefusesInput takes is_ended failures from to bound old new (reads.Bundle errors.Failed) = IsShut old new × (to ≡ from)
+abbrev pub RefusesInput : {State : Type 0} → (State → List ℕ → State → Type 0) → (State → Type 0)
+    → (State → ℕ) → State → State → ℕ → Kept → Kept → ReadError → Type 0
+RefusesInput takes is_ended failures from to bound old new reads.Device =
+    DeviceFails takes is_ended failures from to bound old new
+RefusesInput takes is_ended failures from to bound old new
+    (reads.Bundle (errors.Fault place offset kind)) =
+    InputFaulty takes is_ended failures from to bound old new place offset kind
+RefusesInput takes is_ended failures from to bound old new (reads.Bundle errors.OutOfMemory) =
+    InputFitsNot takes failures from to bound old new
+RefusesInput takes is_ended failures from to bound old new (reads.Bundle errors.Failed) =
+    IsShut old new × (to ≡ from)

@@ -8,9 +8,11 @@ use Rattle.cert_desk_checking.specs.declared.standing.Standing.TheVariants as st
 use Rattle.cert_desk_checking.specs.Series.{Series, SeriesSplit, BeginsSeries, encodings}
 use Rattle.cert_desk_checking.specs.Faults.{SeriesFault, NoneBefore}
 
--- Whoever stands so, with these values and this rest, has read this stream. After want of memory or a failed device no stream is read.
+-- Whoever stands so, with these values and this rest, has read this stream. After want of memory or
+-- a failed device no stream is read.
 abbrev pub ReadsSeries : (s : Shape) → ℕ → Standing → List (Value s) → List ℕ → List ℕ → Type 0
-ReadsSeries s limit standings.Open vs rest stream = SeriesSplit s limit stream vs rest × NoneBefore s limit (length (encodings s vs)) kinds.Truncated rest
+ReadsSeries s limit standings.Open vs rest stream = SeriesSplit s limit stream vs rest
+    × NoneBefore s limit (length (encodings s vs)) kinds.Truncated rest
 ReadsSeries s limit standings.Ended vs rest stream = Series s limit vs stream
 ReadsSeries s limit standings.NoMemory vs rest stream = ⊥
 ReadsSeries s limit standings.NoDevice vs rest stream = ⊥
@@ -25,7 +27,8 @@ pub record Kept : Type 0 where
 
 -- What a bundle keeps is what this stream gives.
 abbrev pub ReadsAs : ℕ → Standing → Kept → List ℕ → Type 0
-ReadsAs bound standing b stream = ReadsSeries (raw_certificate bound) b.limit standing b.certificates b.rest stream
+ReadsAs bound standing b stream =
+    ReadsSeries (raw_certificate bound) b.limit standing b.certificates b.rest stream
 
 abbrev pub Reads : ℕ → Kept → List ℕ → Type 0
 Reads bound b stream = ReadsAs bound b.standing b stream

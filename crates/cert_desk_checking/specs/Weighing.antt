@@ -1,5 +1,7 @@
--- What the extensions say by which a chain is judged (RFC 5280 4.2.1.3, 4.2.1.6, 4.2.1.9, 4.2.1.12).
-use Rattle.std.specs.Prelude.{ℕ, List, [], ◌∷◌, Bool, true, false, Option, None, Result, Ok, Err, if◌then◌else◌, ◌&&◌, ◌||◌, ◌==◌, ◌^◌}
+-- What the extensions say by which a chain is judged (RFC 5280 4.2.1.3, 4.2.1.6, 4.2.1.9,
+-- 4.2.1.12).
+use Rattle.std.specs.Prelude.{ℕ, List, [], ◌∷◌, Bool, true, false, Option, None, Result, Ok, Err}
+use Rattle.std.specs.Prelude.{if◌then◌else◌, ◌&&◌, ◌||◌, ◌==◌, ◌^◌}
 use Rattle.std.specs.Int.RustNames.{bit_and, unsigned_abs}
 use Rattle.std.specs.List.{list_any}
 use Rattle.const_oid.specs.Comparing.{owned_eq}
@@ -8,14 +10,17 @@ use Rattle.der_core_head.specs.declared.tag.Tag.TheVariants as tags
 use Rattle.der_core_head.specs.Grammar.{plain_option, whole_at}
 use Rattle.der_core_head.specs.Leaves.{named}
 use Rattle.der_core_head.specs.Shapes.{Shape, BodyValue, Value, leaf, sequence, sequence_of, tagged}
-use Rattle.x509_cert.specs.Certificates.{PlainExtension, extension_arcs, extension_octets, is_critical}
-use Rattle.x509_cert.specs.Extensions.{basic_constraints_fields, general_name, general_names, object_identifier}
+use Rattle.x509_cert.specs.Certificates.{PlainExtension, extension_arcs, extension_octets}
+use Rattle.x509_cert.specs.Certificates.{is_critical}
+use Rattle.x509_cert.specs.Extensions.{basic_constraints_fields, general_name, general_names}
+use Rattle.x509_cert.specs.Extensions.{object_identifier}
 
 -- arcs below 2.5.29
 abbrev pub certificate_extension : ℕ → List ℕ
 certificate_extension n = 2 ∷ 5 ∷ 29 ∷ n ∷ []
 
--- KeyUsage ::= BIT STRING { digitalSignature (0), .. keyCertSign (5), .. decipherOnly (8) } (4.2.1.3)
+-- KeyUsage ::= BIT STRING { digitalSignature (0), .. keyCertSign (5), .. decipherOnly (8) }
+-- (4.2.1.3)
 abbrev pub key_usage : Shape
 key_usage = tagged tags.BitString (leaf (named 9))
 
@@ -23,7 +28,8 @@ key_usage = tagged tags.BitString (leaf (named 9))
 abbrev pub subject_alt_name : ℕ → Shape
 subject_alt_name bound = general_names bound
 
--- BasicConstraints ::= SEQUENCE { cA BOOLEAN DEFAULT FALSE, pathLenConstraint INTEGER (0..255) OPTIONAL } (4.2.1.9)
+-- BasicConstraints ::= SEQUENCE { cA BOOLEAN DEFAULT FALSE, pathLenConstraint INTEGER (0..255)
+-- OPTIONAL } (4.2.1.9)
 abbrev pub basic_constraints : Shape
 basic_constraints = sequence basic_constraints_fields
 
@@ -35,7 +41,8 @@ extended_key_usage bound = sequence_of (object_identifier bound)
 pub data Meaning : Type 0 where
   uses : ℕ → Meaning  -- of a key: a set of named bits
   other_names : List (Value (general_name 0)) → Meaning  -- of the subject
-  constraints : Bool → Option ℕ → Meaning  -- whether the subject is an authority, and how long a path below it may be
+  constraints : Bool → Option ℕ → Meaning  -- whether the subject is an authority, and how long a
+      path below it may be
   purposes : List (List ℕ) → Meaning  -- of a key: identifiers
   malformed : Meaning  -- of a kind that is weighed, and not one value of it
   unweighed : Meaning  -- of another kind
@@ -55,9 +62,12 @@ meaning_by s says octets = meaning_of says (whole_at s octets)
 abbrev pub weigh_octets : ℕ → List ℕ → List ℕ → Meaning
 weigh_octets bound arcs octets =
     if owned_eq arcs (certificate_extension 15) then meaning_by key_usage uses octets
-    else if owned_eq arcs (certificate_extension 17) then meaning_by (subject_alt_name bound) other_names octets
-    else if owned_eq arcs (certificate_extension 19) then meaning_by basic_constraints constraints_of octets
-    else if owned_eq arcs (certificate_extension 37) then meaning_by (extended_key_usage bound) purposes octets
+    else if owned_eq arcs (certificate_extension 17)
+    then meaning_by (subject_alt_name bound) other_names octets
+    else if owned_eq arcs (certificate_extension 19)
+    then meaning_by basic_constraints constraints_of octets
+    else if owned_eq arcs (certificate_extension 37)
+    then meaning_by (extended_key_usage bound) purposes octets
     else unweighed
 
 abbrev pub weigh : ℕ → PlainExtension → Meaning
@@ -82,7 +92,8 @@ any_purpose = 2 ∷ 5 ∷ 29 ∷ 37 ∷ 0 ∷ []
 
 -- purposes, where they are listed, name this one, or any (4.2.1.12)
 abbrev pub serves : List ℕ → Meaning → Bool
-serves purpose (purposes listed) = list_any (λ one. owned_eq one purpose || owned_eq one any_purpose) listed
+serves purpose (purposes listed) =
+    list_any (λ one. owned_eq one purpose || owned_eq one any_purpose) listed
 serves purpose _ = true
 
 -- constraints that make the subject an authority (4.2.1.9)

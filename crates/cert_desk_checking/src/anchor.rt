@@ -25,8 +25,8 @@ impl Anchor {
         Anchor { name, key }
     }
 
-    /// The anchor that a trust anchor gives (RFC 5914 2): the subject and the key of a certificate, or
-    /// of a signed part alone, or a key with its name. What else stands there isn't looked at.
+    /// The anchor that a trust anchor gives (RFC 5914 2): the subject and the key of a certificate,
+    /// or of a signed part alone, or a key with its name. What else stands there isn't looked at.
     ///
     /// # Errors
     ///
@@ -36,8 +36,10 @@ impl Anchor {
         alloc: Global,
         choice: &TrustAnchorChoice<Raw>,
     ) -> Result<Anchor, AnchorError>
-        ensures given { IfOk result (λ anchor. given_by (trust_anchor_plain choice.now) ≡ Ok (anchor_plain anchor)) }
-        ensures refused { IfErr result (λ error. error ≢ AnchorError.OutOfMemory → given_by (trust_anchor_plain choice.now) ≡ Err error) }
+        ensures given { IfOk result (λ anchor. given_by (trust_anchor_plain choice.now)
+            ≡ Ok (anchor_plain anchor)) }
+        ensures refused { IfErr result (λ error. error ≢ AnchorError.OutOfMemory
+            → given_by (trust_anchor_plain choice.now) ≡ Err error) }
     {
         match choice {
             TrustAnchorChoice::Certificate(certificate) => {

@@ -4,7 +4,8 @@ ghost use Rattle.der_core_head.specs.Heads.{Fits};
 ghost use Rattle.x509_cert.specs.Anchors.{trust_anchor_plain};
 ghost use Rattle.cert_desk_checking.specs.Anchors.{anchor_plain, given_by};
 ghost use Rattle.cert_desk_checking.specs.AnchorFiles.{IsAnchorFile};
-ghost use Rattle.cert_desk_checking.specs.AnchorReading.{StandsAt, GivesAt, IsUngiven, GivesNone, IsNoAnchorFile};
+ghost use Rattle.cert_desk_checking.specs.AnchorReading.{StandsAt, GivesAt, IsUngiven, GivesNone};
+ghost use Rattle.cert_desk_checking.specs.AnchorReading.{IsNoAnchorFile};
 
 use crate::anchor::Anchor;
 use crate::anchor_error::AnchorError;

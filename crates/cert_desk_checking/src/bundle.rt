@@ -1,10 +1,13 @@
 //! A stream of certificates, read as it comes.
-ghost use Rattle.std.specs.Prelude.{◌≡◌, ◌≢◌, ℕ, ◌+◌, ◌<◌, ◌≤◌, ◌^◌, ◌==◌, ◌↔◌, List, [], ◌++◌, length, IsTrue, IsSome, IfSome, IfOk, IfErr, OnOk, OnErr};
+ghost use Rattle.std.specs.Prelude.{◌≡◌, ◌≢◌, ℕ, ◌+◌, ◌<◌, ◌≤◌, ◌^◌, ◌==◌, ◌↔◌, List, [], ◌++◌};
+ghost use Rattle.std.specs.Prelude.{length, IsTrue, IsSome, IfSome, IfOk, IfErr, OnOk, OnErr};
 ghost use Rattle.const_oid.specs.Bound.{Bound};
 ghost use Rattle.cert_desk_checking.specs.Chains.{joined};
 ghost use Rattle.cert_desk_checking.specs.Streams.{Reads};
 ghost use Rattle.cert_desk_checking.specs.Entries.{IsEntry};
-ghost use Rattle.cert_desk_checking.specs.Steps.{kept_octets, ReadsOn, ReadsStill, Grows, Takes, TakesFront, Stops, stopped, error_of, RefusesPiece, RefusesEnd, HasFailed, RefusesInput};
+ghost use Rattle.cert_desk_checking.specs.Steps.{kept_octets, ReadsOn, ReadsStill, Grows, Takes};
+ghost use Rattle.cert_desk_checking.specs.Steps.{TakesFront, Stops, stopped, error_of};
+ghost use Rattle.cert_desk_checking.specs.Steps.{RefusesPiece, RefusesEnd, HasFailed, RefusesInput};
 
 use crate::bundle_error::{BundleError, ReadError};
 use crate::entry::Entry;
@@ -214,7 +217,8 @@ impl Bundle {
         ensures sound { OnOk result (I.failures input.new ≡ I.failures input.old) }
         ensures reads { OnOk result (Takes I.takes input.old input.new Bound self.old self.new) }
         // An input that isn't.
-        ensures refused { IfErr result (RefusesInput I.takes I.is_ended I.failures input.old input.new Bound self.old self.new) }
+        ensures refused { IfErr result (RefusesInput I.takes I.is_ended I.failures input.old input.new Bound
+            self.old self.new) }
     {
         if self.is_ended() {
             return Err(ReadError::Bundle(BundleError::Failed));

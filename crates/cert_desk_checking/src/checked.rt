@@ -7,7 +7,8 @@ use thiserror::Error;
 /// The verdict on a stream.
 #[derive(Clone, Copy, Debug, PartialEq, Eq)]
 pub enum Verdict {
-    /// The stream isn't certificates: `place` certificates stand before the fault, which begins at `offset`.
+    /// The stream isn't certificates: `place` certificates stand before the fault, which begins at
+    /// `offset`.
     StreamFault {
         place: usize,
         offset: u64,

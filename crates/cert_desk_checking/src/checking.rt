@@ -1,12 +1,14 @@
 //! Streams are judged.
-ghost use Rattle.std.specs.Prelude.{◌≡◌, ◌≢◌, ℕ, ◌+◌, ◌↔◌, ◌⊎◌, List, length, map, IfOk, OnErr, nat_le, not, ◌&&◌};
+ghost use Rattle.std.specs.Prelude.{◌≡◌, ◌≢◌, ℕ, ◌+◌, ◌↔◌, ◌⊎◌, List, length, map, IfOk, OnErr};
+ghost use Rattle.std.specs.Prelude.{nat_le, not, ◌&&◌};
 ghost use Rattle.std.specs.List.{list_any};
 ghost use Rattle.std.specs.Option.{is_some};
 ghost use Rattle.const_oid.specs.Bound.{Bound};
 ghost use Rattle.der_core_head.specs.Shapes.{IsValid};
 ghost use Rattle.x509_cert.specs.Names.TimeTypes.Seconds.{unix_seconds};
 ghost use Rattle.x509_cert.specs.Views.{certificate_plain, key_plain, name_plain};
-ghost use Rattle.x509_cert.specs.Certificates.{PlainCertificate, issuer, not_before, not_after, raw_certificate};
+ghost use Rattle.x509_cert.specs.Certificates.{PlainCertificate, issuer, not_before, not_after};
+ghost use Rattle.x509_cert.specs.Certificates.{raw_certificate};
 ghost use Rattle.cert_desk_checking.specs.declared.fault_kind.FaultKind.{FaultKind};
 ghost use Rattle.cert_desk_checking.specs.Anchors.{anchor_plain, terms_of};
 ghost use Rattle.cert_desk_checking.specs.Chains.{Chain, joined};
@@ -14,8 +16,10 @@ ghost use Rattle.cert_desk_checking.specs.Findings.{IsRoom};
 ghost use Rattle.cert_desk_checking.specs.Paths.{is_self_issued};
 ghost use Rattle.cert_desk_checking.specs.Judging.{Answers, has_one_algorithm, is_named, same_name};
 ghost use Rattle.cert_desk_checking.specs.Streams.{Reads};
-ghost use Rattle.cert_desk_checking.specs.Verdicts.{IsVerdict, Trusted, IsCounted, StopsAsking, accepted, asked, asked_until};
-ghost use Rattle.cert_desk_checking.specs.Places.{IsFirstUnsigned, Rises, StandsAt, asked_of, asked_once, linked_to, signed_by, signs};
+ghost use Rattle.cert_desk_checking.specs.Verdicts.{IsVerdict, Trusted, IsCounted, StopsAsking};
+ghost use Rattle.cert_desk_checking.specs.Verdicts.{accepted, asked, asked_until};
+ghost use Rattle.cert_desk_checking.specs.Places.{IsFirstUnsigned, Rises, StandsAt, asked_of};
+ghost use Rattle.cert_desk_checking.specs.Places.{asked_once, linked_to, signed_by, signs};
 
 use crate::anchor::Anchor;
 use crate::bundle::Bundle;
@@ -56,21 +60,29 @@ pub fn check<J: SignatureJudge>(
 ) -> Result<Checked, CheckError>
     requires { bundle.now.standing ≢ Standing.Open }
     ensures verdict { IfOk result (λ checked. (stream : List ℕ) → Reads Bound bundle.now stream
-        → IsVerdict (terms_of anchors.now moment purpose.now (J.answers judge.old)) bundle.now.limit stream checked.verdict) }
+        → IsVerdict (terms_of anchors.now moment purpose.now (J.answers judge.old)) bundle.now.limit
+        stream checked.verdict) }
     ensures trusted { IfOk result (λ checked. (stream : List ℕ) → Reads Bound bundle.now stream
-        → Trusted (terms_of anchors.now moment purpose.now (J.answers judge.old)) bundle.now.limit stream → checked.verdict ≡ Verdict.Trusted) }
+        → Trusted (terms_of anchors.now moment purpose.now (J.answers judge.old)) bundle.now.limit
+        stream → checked.verdict ≡ Verdict.Trusted) }
     ensures fault { IfOk result (λ checked. (kind : FaultKind) → bundle.now.standing ≡ Standing.Faulted kind
-        → checked.verdict ≡ Verdict.StreamFault (length bundle.now.certificates) (length (joined Bound bundle.now.certificates)) kind) }
+        → checked.verdict ≡ Verdict.StreamFault (length bundle.now.certificates)
+        (length (joined Bound bundle.now.certificates)) kind) }
     ensures counted { IfOk result (λ checked. (stream : List ℕ) → Reads Bound bundle.now stream
-        → IsCounted (terms_of anchors.now moment purpose.now (J.answers judge.old)) bundle.now.limit stream checked (J.questions judge.old) (J.questions judge.new)) }
+        → IsCounted (terms_of anchors.now moment purpose.now (J.answers judge.old)) bundle.now.limit
+        stream checked (J.questions judge.old) (J.questions judge.new)) }
     ensures kept { J.answers judge.new ≡ J.answers judge.old }
 
     // Where nothing is said.
-    ensures no_memory { bundle.now.standing ≡ Standing.NoMemory → result ≡ Err CheckError.OutOfMemory }
-    ensures out_of_memory { result ≡ Err CheckError.OutOfMemory → (bundle.now.standing ≡ Standing.NoMemory) ⊎ (bundle.now.standing ≡ Standing.Ended) }
+    ensures no_memory { bundle.now.standing ≡ Standing.NoMemory
+        → result ≡ Err CheckError.OutOfMemory }
+    ensures out_of_memory { result ≡ Err CheckError.OutOfMemory
+        → (bundle.now.standing ≡ Standing.NoMemory) ⊎ (bundle.now.standing ≡ Standing.Ended) }
     ensures device { (result ≡ Err CheckError.Device) ↔ (bundle.now.standing ≡ Standing.NoDevice) }
-    ensures stopped { OnErr result ((stream : List ℕ) → bundle.now.standing ≡ Standing.Ended → Reads Bound bundle.now stream
-        → StopsAsking (terms_of anchors.now moment purpose.now (J.answers judge.old)) bundle.now.limit stream (J.questions judge.old) (J.questions judge.new)) }
+    ensures stopped { OnErr result ((stream : List ℕ) → bundle.now.standing ≡ Standing.Ended
+        → Reads Bound bundle.now stream
+        → StopsAsking (terms_of anchors.now moment purpose.now (J.answers judge.old))
+        bundle.now.limit stream (J.questions judge.old) (J.questions judge.new)) }
 
     // Where nobody is asked.
     ensures untouched { bundle.now.standing ≢ Standing.Ended → judge.new ≡ judge.old }
@@ -103,7 +115,8 @@ fn ask<J: SignatureJudge>(
     calls: &mut u64,
 ) -> bool
     ensures answered { result
-        ≡ accepted (J.answers judge.old) entry.now.signed.now (certificate_plain entry.now.certificate.now) (key_plain key.now) }
+        ≡ accepted (J.answers judge.old) entry.now.signed.now
+        (certificate_plain entry.now.certificate.now) (key_plain key.now) }
     ensures kept { J.answers judge.new ≡ J.answers judge.old }
     ensures counted { Rises 1 (J.questions judge.old) calls.old (J.questions judge.new) calls.new }
 {
@@ -120,7 +133,8 @@ fn ask<J: SignatureJudge>(
 /// Whether the issuer of the certificate has this name, octet for octet.
 pub fn is_issued_by(certificate: &CertificateInner<Raw>, name: &Name) -> bool
     requires { IsValid (raw_certificate Bound) (certificate_plain certificate.now) }
-    ensures { result ≡ same_name Bound (issuer (certificate_plain certificate.now)) (name_plain name.now) }
+    ensures { result ≡ same_name Bound (issuer (certificate_plain certificate.now))
+        (name_plain name.now) }
 {
     certificate.tbs_certificate().issuer().has_octets_of(name)
 }
@@ -128,7 +142,8 @@ pub fn is_issued_by(certificate: &CertificateInner<Raw>, name: &Name) -> bool
 // Whether an anchor has the issuer's name.
 fn is_anchored(certificate: &CertificateInner<Raw>, anchors: &[Anchor]) -> bool
     requires { IsValid (raw_certificate Bound) (certificate_plain certificate.now) }
-    ensures { result ≡ list_any (is_named Bound (certificate_plain certificate.now)) (map anchor_plain anchors.now) }
+    ensures { result ≡ list_any (is_named Bound (certificate_plain certificate.now))
+        (map anchor_plain anchors.now) }
 {
     for anchor in anchors {
         if is_issued_by(certificate, anchor.name()) {
@@ -149,9 +164,11 @@ fn is_signed_under<J: SignatureJudge>(
 ) -> bool
     requires { IsValid (raw_certificate Bound) (certificate_plain entry.now.certificate.now) }
     ensures answered { result
-        ≡ signs Bound (J.answers judge.old) entry.now.signed.now (certificate_plain entry.now.certificate.now) (anchor_plain anchor.now) }
+        ≡ signs Bound (J.answers judge.old) entry.now.signed.now
+        (certificate_plain entry.now.certificate.now) (anchor_plain anchor.now) }
     ensures kept { J.answers judge.new ≡ J.answers judge.old }
-    ensures counted { Rises (asked_once Bound (certificate_plain entry.now.certificate.now) (anchor_plain anchor.now))
+    ensures counted { Rises
+        (asked_once Bound (certificate_plain entry.now.certificate.now) (anchor_plain anchor.now))
         (J.questions judge.old) calls.old (J.questions judge.new) calls.new }
 {
     if !is_issued_by(entry.certificate, anchor.name()) {
@@ -170,10 +187,13 @@ fn is_signed_by_anchor<J: SignatureJudge>(
 ) -> bool
     requires { IsValid (raw_certificate Bound) (certificate_plain entry.now.certificate.now) }
     ensures answered { result
-        ≡ list_any (signs Bound (J.answers judge.old) entry.now.signed.now (certificate_plain entry.now.certificate.now)) (map anchor_plain anchors.now) }
+        ≡ list_any
+        (signs Bound (J.answers judge.old) entry.now.signed.now
+        (certificate_plain entry.now.certificate.now)) (map anchor_plain anchors.now) }
     ensures kept { J.answers judge.new ≡ J.answers judge.old }
     ensures counted { Rises
-        (asked_until Bound (J.answers judge.old) entry.now.signed.now (certificate_plain entry.now.certificate.now) (map anchor_plain anchors.now))
+        (asked_until Bound (J.answers judge.old) entry.now.signed.now
+        (certificate_plain entry.now.certificate.now) (map anchor_plain anchors.now))
         (J.questions judge.old) calls.old (J.questions judge.new) calls.new }
 {
     for anchor in anchors {
@@ -206,10 +226,12 @@ fn is_signed<J: SignatureJudge>(
 ) -> bool
     requires { IsValid (raw_certificate Bound) (certificate_plain entry.now.certificate.now) }
     ensures answered { result
-        ≡ signed_by Bound (J.answers judge.old) entry.now.signed.now (certificate_plain entry.now.certificate.now) issuer.now }
+        ≡ signed_by Bound (J.answers judge.old) entry.now.signed.now
+        (certificate_plain entry.now.certificate.now) issuer.now }
     ensures kept { J.answers judge.new ≡ J.answers judge.old }
     ensures counted { Rises
-        (asked_of Bound (J.answers judge.old) entry.now.signed.now (certificate_plain entry.now.certificate.now) issuer.now)
+        (asked_of Bound (J.answers judge.old) entry.now.signed.now
+        (certificate_plain entry.now.certificate.now) issuer.now)
         (J.questions judge.old) calls.old (J.questions judge.new) calls.new }
 {
     match *issuer {
@@ -258,13 +280,15 @@ pub(crate) fn is_self_issued(certificate: &CertificateInner<Raw>) -> bool
 // last, and isn't self-issued.
 fn takes_room(certificate: &CertificateInner<Raw>, is_last: bool, room: &PathRoom) -> bool
     requires { IsValid (raw_certificate Bound) (certificate_plain certificate.now) }
-    ensures { result ≡ (is_some room.now.left && (not is_last && not (is_self_issued Bound (certificate_plain certificate.now)))) }
+    ensures { result
+        ≡ (is_some room.now.left
+        && (not is_last && not (is_self_issued Bound (certificate_plain certificate.now)))) }
 {
     room.is_limited() && (!is_last && !is_self_issued(certificate))
 }
 
-// The first rule before the signature that a certificate breaks. Where it breaks none, the room that
-// path lengths leave is what is left behind it.
+// The first rule before the signature that a certificate breaks. Where it breaks none, the room
+// that path lengths leave is what is left behind it.
 fn first_unsigned(
     alloc: Global,
     certificate: &CertificateInner<Raw>,
@@ -275,7 +299,8 @@ fn first_unsigned(
     room: &mut PathRoom,
 ) -> Result<Option<Rule>, AllocError>
     requires { IsValid (raw_certificate Bound) (certificate_plain certificate.now) }
-    ensures judged { IfOk result (λ broken. (cs : List PlainCertificate) (anchors : List Anchor) (place : ℕ) (answers : Answers) (stream : List ℕ)
+    ensures judged { IfOk result (λ broken. (cs : List PlainCertificate) (anchors : List Anchor) (place : ℕ)
+        (answers : Answers) (stream : List ℕ)
         → StandsAt cs anchors place (certificate_plain certificate.now) is_last issuer.now room.old
         → IsFirstUnsigned (terms_of anchors moment purpose.now answers) cs stream place broken) }
     ensures room { IfOk result (λ broken. (cs : List PlainCertificate) (anchors : List Anchor) (place : ℕ)
@@ -311,14 +336,19 @@ fn check_chain<J: SignatureJudge>(
     purpose: &ObjectIdentifier<39>,
     judge: &mut J,
 ) -> Result<Checked, AllocError>
-    ensures judged { IfOk result (λ checked. (stream : List ℕ) → Chain Bound bundle.now.limit bundle.now.certificates stream
-        → IsVerdict (terms_of anchors.now moment purpose.now (J.answers judge.old)) bundle.now.limit stream checked.verdict) }
+    ensures judged { IfOk result (λ checked. (stream : List ℕ)
+        → Chain Bound bundle.now.limit bundle.now.certificates stream
+        → IsVerdict (terms_of anchors.now moment purpose.now (J.answers judge.old)) bundle.now.limit
+        stream checked.verdict) }
     ensures kept { J.answers judge.new ≡ J.answers judge.old }
     ensures counted { IfOk result (λ checked. Rises
-        (asked (terms_of anchors.now moment purpose.now (J.answers judge.old)) bundle.now.certificates (joined Bound bundle.now.certificates))
+        (asked (terms_of anchors.now moment purpose.now (J.answers judge.old))
+        bundle.now.certificates (joined Bound bundle.now.certificates))
         (J.questions judge.old) 0 (J.questions judge.new) checked.calls) }
-    ensures stopped { OnErr result ((stream : List ℕ) → Chain Bound bundle.now.limit bundle.now.certificates stream
-        → StopsAsking (terms_of anchors.now moment purpose.now (J.answers judge.old)) bundle.now.limit stream (J.questions judge.old) (J.questions judge.new)) }
+    ensures stopped { OnErr result ((stream : List ℕ) → Chain Bound bundle.now.limit bundle.now.certificates
+        stream
+        → StopsAsking (terms_of anchors.now moment purpose.now (J.answers judge.old))
+        bundle.now.limit stream (J.questions judge.old) (J.questions judge.new)) }
 {
     let len = bundle.len();
     let mut issuer = Issuer::Anchors(anchors);

@@ -53,7 +53,8 @@ fn is_alone(extension: &Extension, others: &[Extension]) -> bool
 
 // The number of an identifier below 2.5.29, where that is one octet.
 pub(crate) fn number_of(identifier: &ObjectIdentifier<39>) -> Option<u8>
-    ensures { (n : ℕ) → n < 128 → owned_eq identifier.now (certificate_extension n) ≡ option_map_or (λ number. nat_eq number n) result false }
+    ensures { (n : ℕ) → n < 128 → owned_eq identifier.now (certificate_extension n)
+        ≡ option_map_or (λ number. nat_eq number n) result false }
 {
     let octets = identifier.as_bytes();
     if octets.len() != 3 || octets[0] != 0x55 || octets[1] != 0x1d {
@@ -62,7 +63,8 @@ pub(crate) fn number_of(identifier: &ObjectIdentifier<39>) -> Option<u8>
     Some(octets[2])
 }
 
-// Whether two identifiers are equal. Their last octets are looked at first, since what stands in one place mostly differs there.
+// Whether two identifiers are equal. Their last octets are looked at first, since what stands in
+// one place mostly differs there.
 fn are_equal(one: &ObjectIdentifier<39>, other: &ObjectIdentifier<39>) -> bool
     ensures { result ≡ owned_eq one.now other.now }
 {

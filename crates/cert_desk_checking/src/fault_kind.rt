@@ -12,7 +12,8 @@ pub enum FaultKind {
     LengthTooWide,
     /// The header is whole, and its length isn't spelled in the shortest form.
     LengthNotShortest,
-    /// The header is whole, and header and content pass the limit, or would end past 2^64 - 1 octets.
+    /// The header is whole, and header and content pass the limit, or would end past 2^64 - 1
+    /// octets.
     TooLarge,
     /// The certificate is whole and isn't in the grammar.
     Malformed,

@@ -1,10 +1,16 @@
 //! Laws of streams and of files of anchors. Each function does nothing: its contract is the law.
-ghost use Rattle.cert_desk_checking.specs.ChainParts.{HasFewQuestions, HasTrustedFronts, HasTrustedRests, IgnoresStrangers, HasNothingOutside, HasOneStream};
-ghost use Rattle.cert_desk_checking.specs.Laws.{HasOneSeries, HasOneSeriesFault, HasOneChain, FaultHasNoChain, HasOneFault, FaultStays, HasOneVerdict, HasOneAnchorFile, IsJudgedAlike};
-ghost use Rattle.cert_desk_checking.specs.WiderBounds.{WiderKeepsChains, NewChainsHoldLarge, WiderKeepsTrust, WiderKeepsVerdicts, WiderKeepsFaults};
+ghost use Rattle.cert_desk_checking.specs.ChainParts.{HasFewQuestions, HasTrustedFronts};
+ghost use Rattle.cert_desk_checking.specs.ChainParts.{HasTrustedRests, IgnoresStrangers};
+ghost use Rattle.cert_desk_checking.specs.ChainParts.{HasNothingOutside, HasOneStream};
+ghost use Rattle.cert_desk_checking.specs.Laws.{HasOneSeries, HasOneSeriesFault, HasOneChain};
+ghost use Rattle.cert_desk_checking.specs.Laws.{FaultHasNoChain, HasOneFault, FaultStays};
+ghost use Rattle.cert_desk_checking.specs.Laws.{HasOneVerdict, HasOneAnchorFile, IsJudgedAlike};
+ghost use Rattle.cert_desk_checking.specs.WiderBounds.{WiderKeepsChains, NewChainsHoldLarge};
+ghost use Rattle.cert_desk_checking.specs.WiderBounds.{WiderKeepsTrust, WiderKeepsVerdicts};
+ghost use Rattle.cert_desk_checking.specs.WiderBounds.{WiderKeepsFaults};
 
-/// No stream joins two lists of values of a shape whose values are told apart: each has a header, and
-/// first tags are kept apart.
+/// No stream joins two lists of values of a shape whose values are told apart: each has a header,
+/// and first tags are kept apart.
 ///
 /// Certificates are such values, and trust anchors.
 pub fn one_series()
@@ -50,14 +56,14 @@ pub fn one_anchor_file()
 /// Judges that answer alike on what a chain may ask give one verdict, and are asked as often.
 ///
 /// A chain may ask, about its first certificate, under the key of each anchor of the issuer's name,
-/// and about another under the key of the certificate before. So the verdict under a list of answers
-/// is the verdict under whoever gave them, whatever it says elsewhere.
+/// and about another under the key of the certificate before. So the verdict under a list of
+/// answers is the verdict under whoever gave them, whatever it says elsewhere.
 pub fn judged_alike()
     ensures { IsJudgedAlike }
 {}
 
-/// The judge is asked at most once for each certificate behind the first, and for each anchor of the
-/// name of the first one's issuer.
+/// The judge is asked at most once for each certificate behind the first, and for each anchor of
+/// the name of the first one's issuer.
 pub fn few_questions()
     ensures { HasFewQuestions }
 {}
@@ -90,8 +96,8 @@ pub fn rests_are_trusted()
     ensures { HasTrustedRests }
 {}
 
-/// A chain is the same chain under a wider bound of arcs, and a chain under a wide bound alone has a
-/// certificate in which an identifier holds an arc that isn't below the narrow one.
+/// A chain is the same chain under a wider bound of arcs, and a chain under a wide bound alone has
+/// a certificate in which an identifier holds an arc that isn't below the narrow one.
 pub fn wider_bounds_keep_chains()
     ensures kept { WiderKeepsChains }
     ensures new { NewChainsHoldLarge }

@@ -1,6 +1,7 @@
 //! The texts of a run.
 ghost use Rattle.std.specs.Prelude.{◌≡◌, IfOk, Some, string_bytes};
-ghost use Rattle.cert_desk_checking.specs.Lines.{kind_name, rule_name, fault_name, line_of, anchors_line};
+ghost use Rattle.cert_desk_checking.specs.Lines.{kind_name, rule_name, fault_name, line_of};
+ghost use Rattle.cert_desk_checking.specs.Lines.{anchors_line};
 
 use crate::anchor_fault::AnchorFault;
 use crate::checked::{Checked, Verdict};

@@ -9,9 +9,9 @@ use x509_cert::{CertificateInner, Raw};
 
 /// Why no certificate begins these octets: the first fault from the left, or none where one does.
 ///
-/// It is meant for a stream that is `Malformed` at an offset: for its octets from there on. The kind
-/// is that of the first fault. The position is the octet where the reader found it, counted from the
-/// first one of these; no contract speaks of that.
+/// It is meant for a stream that is `Malformed` at an offset: for its octets from there on. The
+/// kind is that of the first fault. The position is the octet where the reader found it, counted
+/// from the first one of these; no contract speaks of that.
 ///
 /// # Errors
 ///

@@ -6,8 +6,8 @@ ghost use Rattle.cert_desk_checking.specs.Paths.{is_within};
 
 use crate::findings::shorter;
 
-/// How many places more may count, by the path lengths of those so far (RFC 5280 4.2.1.9, 6.1.4 (l), (m)). Without one any number
-/// may.
+/// How many places more may count, by the path lengths of those so far (RFC 5280 4.2.1.9, 6.1.4
+/// (l), (m)). Without one any number may.
 #[derive(Clone, Copy)]
 pub(crate) struct PathRoom {
     left: Option<u8>,

@@ -1,7 +1,7 @@
 //! What a rule leaves open of its breach.
 
-/// Why a certificate breaks a rule, where the rule alone leaves it open. Extensions are counted from
-/// 0, as they stand in the certificate.
+/// Why a certificate breaks a rule, where the rule alone leaves it open. Extensions are counted
+/// from 0, as they stand in the certificate.
 #[derive(Clone, Copy, Debug, PartialEq, Eq)]
 pub enum Reason {
     /// This extension breaks it: it is malformed, critical and of no weighed kind, lists purposes

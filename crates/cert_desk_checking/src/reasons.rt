@@ -1,11 +1,14 @@
 //! Reasons of breaches, found on demand.
-ghost use Rattle.std.specs.Prelude.{◌≡◌, ◌<◌, ◌≤◌, ◌+◌, ◌-◌, List, ℕ, true, false, ◌⊎◌, length, IfSome, IfNone, IfOk, IsSome};
+ghost use Rattle.std.specs.Prelude.{◌≡◌, ◌<◌, ◌≤◌, ◌+◌, ◌-◌, List, ℕ, true, false, ◌⊎◌, length};
+ghost use Rattle.std.specs.Prelude.{IfSome, IfNone, IfOk, IsSome};
 ghost use Rattle.std.specs.List.{list_any};
 ghost use Rattle.const_oid.specs.Bound.{Bound};
 ghost use Rattle.x509_cert.specs.Views.{extension_plain, extensions_plain};
 ghost use Rattle.cert_desk_checking.specs.Judging.{Terms, are_distinct, is_alone, keeps_at};
 ghost use Rattle.cert_desk_checking.specs.Paths.{counted, counts, keep_lengths, keeps_length};
-ghost use Rattle.cert_desk_checking.specs.Reasons.{Explains, are_twins, goes_against, has_no_authority, have_one_identifier, is_against, is_at, is_explained};
+ghost use Rattle.cert_desk_checking.specs.Reasons.{Explains, are_twins, goes_against};
+ghost use Rattle.cert_desk_checking.specs.Reasons.{has_no_authority, have_one_identifier};
+ghost use Rattle.cert_desk_checking.specs.Reasons.{is_against, is_at, is_explained};
 
 use crate::bundle::Bundle;
 use crate::checking::is_self_issued;
@@ -19,8 +22,8 @@ use std::alloc::{AllocError, Global};
 use std::slice;
 use x509_cert::Extension;
 
-/// Why the certificate at a place of a bundle breaks a rule, for this purpose, if the rule leaves that
-/// open and it does. It is meant for the place and the rule of a verdict.
+/// Why the certificate at a place of a bundle breaks a rule, for this purpose, if the rule leaves
+/// that open and it does. It is meant for the place and the rule of a verdict.
 ///
 /// # Errors
 ///
@@ -36,8 +39,10 @@ pub fn reason_of(
     ensures holds { IfOk result (λ told. IfSome told
         (Explains Bound purpose.now bundle.now.certificates place rule)) }
     // A reason is told where the certificate breaks such a rule.
-    ensures told { IfOk result (λ told. (t : Terms) (stream : List ℕ) → t.bound ≡ Bound → t.purpose ≡ purpose.now
-        → is_explained rule ≡ true → keeps_at rule t bundle.now.certificates stream place ≡ false → IsSome told) }
+    ensures told { IfOk result (λ told. (t : Terms) (stream : List ℕ) → t.bound ≡ Bound → t.purpose
+        ≡ purpose.now
+        → is_explained rule ≡ true → keeps_at rule t bundle.now.certificates stream place ≡ false
+        → IsSome told) }
 {
     let Some(entry) = bundle.get(place) else {
         return Ok(None);
@@ -58,8 +63,10 @@ fn extension_against(
     purpose: &ObjectIdentifier<39>,
     rule: Rule,
 ) -> Result<Option<Reason>, AllocError>
-    ensures against { IfOk result (λ told. IfSome told (λ reason. (number : ℕ) × (reason ≡ Reason.Extension number)
-        × (is_at (is_against Bound purpose.now rule) (extensions_plain extensions.now) number ≡ true))) }
+    ensures against { IfOk result
+        (λ told. IfSome told (λ reason. (number : ℕ) × (reason ≡ Reason.Extension number)
+        × (is_at (is_against Bound purpose.now rule) (extensions_plain extensions.now) number
+        ≡ true))) }
     ensures none { IfOk result (λ told. IfNone told
         (list_any (is_against Bound purpose.now rule) (extensions_plain extensions.now) ≡ false)) }
 {
@@ -106,7 +113,8 @@ fn twin_of(extension: &Extension, others: &[Extension]) -> Option<usize>
     ensures within { IfSome result (λ number. number < length others.now) }
     ensures twin { IfSome result (λ number. is_at (have_one_identifier (extension_plain extension.now))
         (extensions_plain others.now) number ≡ true) }
-    ensures none { IfNone result (is_alone (extension_plain extension.now) (extensions_plain others.now) ≡ true) }
+    ensures none { IfNone result (is_alone (extension_plain extension.now) (extensions_plain others.now)
+        ≡ true) }
 {
     for number in 0..others.len() {
         if extension.extn_id == others[number].extn_id {
@@ -123,11 +131,15 @@ fn lack_of_authority(
     purpose: &ObjectIdentifier<39>,
 ) -> Result<Option<Reason>, AllocError>
     ensures lacks { IfOk result (λ told. IfSome told (λ reason.
-        ((reason ≡ Reason.NoConstraints) × (has_no_authority Bound (extensions_plain extensions.now) ≡ true))
+        ((reason ≡ Reason.NoConstraints)
+        × (has_no_authority Bound (extensions_plain extensions.now) ≡ true))
         ⊎ ((number : ℕ) × (reason ≡ Reason.Extension number)
-        × (is_at (is_against Bound purpose.now Rule.NotAuthority) (extensions_plain extensions.now) number ≡ true)))) }
-    ensures none { IfOk result (λ told. IfNone told ((has_no_authority Bound (extensions_plain extensions.now) ≡ false)
-        × (list_any (is_against Bound purpose.now Rule.NotAuthority) (extensions_plain extensions.now) ≡ false))) }
+        × (is_at (is_against Bound purpose.now Rule.NotAuthority) (extensions_plain extensions.now)
+        number ≡ true)))) }
+    ensures none { IfOk result
+        (λ told. IfNone told ((has_no_authority Bound (extensions_plain extensions.now) ≡ false)
+        × (list_any (is_against Bound purpose.now Rule.NotAuthority)
+        (extensions_plain extensions.now) ≡ false))) }
 {
     let findings = findings_of(alloc, extensions, purpose)?;
     if !findings.ca {
@@ -145,7 +157,8 @@ fn exceeded_length(
     purpose: &ObjectIdentifier<39>,
 ) -> Result<Option<Reason>, AllocError>
     requires within { place < length bundle.now.certificates }
-    ensures exceeds { IfOk result (λ told. IfSome told (λ reason. (before : ℕ) × (reason ≡ Reason.PathLength before)
+    ensures exceeds { IfOk result
+        (λ told. IfSome told (λ reason. (before : ℕ) × (reason ≡ Reason.PathLength before)
         × (before < place) × (keeps_length Bound bundle.now.certificates before place ≡ false))) }
     ensures none { IfOk result (λ told. IfNone told
         (keep_lengths Bound bundle.now.certificates place place ≡ true)) }
@@ -158,7 +171,8 @@ fn exceeded_length(
     Ok(None)
 }
 
-// Whether no more places count behind the first place, up to the other, than its path length allows.
+// Whether no more places count behind the first place, up to the other, than its path length
+// allows.
 fn keeps_length(
     alloc: Global,
     bundle: &Bundle,

@@ -1,6 +1,7 @@
 //! The rules of a chain.
 
-/// The rule that a certificate of a chain breaks, in the order in which it is judged (RFC 5280 6.1).
+/// The rule that a certificate of a chain breaks, in the order in which it is judged (RFC 5280
+/// 6.1).
 #[derive(Clone, Copy, Debug, PartialEq, Eq)]
 pub enum Rule {
     /// The algorithm inside the signed part isn't the one outside (RFC 5280 4.1.1.2).

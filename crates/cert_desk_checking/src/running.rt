@@ -5,7 +5,8 @@ ghost use Rattle.cert_desk_checking.specs.declared.outcome.Outcome.{Outcome};
 ghost use Rattle.cert_desk_checking.specs.declared.standing.Standing.{Standing};
 ghost use Rattle.cert_desk_checking.specs.Anchors.{anchor_plain, purpose_plain};
 ghost use Rattle.cert_desk_checking.specs.Reading.{IsFed};
-ghost use Rattle.cert_desk_checking.specs.Runs.{HasAnchors, HasNoAnchors, IsOutcome, IsTold, judging, status_of};
+ghost use Rattle.cert_desk_checking.specs.Runs.{HasAnchors, HasNoAnchors, IsOutcome, IsTold};
+ghost use Rattle.cert_desk_checking.specs.Runs.{judging, status_of};
 
 use crate::anchor::Anchor;
 use crate::anchor_fault::AnchorFault;
@@ -22,8 +23,8 @@ use cert_desk_io::{
 use const_oid::ObjectIdentifier;
 use std::alloc::Global;
 
-/// A bundle that was fed what an input gives, to its end, to a fault, or to where memory was wanting
-/// or a read failed.
+/// A bundle that was fed what an input gives, to its end, to a fault, or to where memory was
+/// wanting or a read failed.
 pub fn read_stream<I: Input>(alloc: Global, limit: u32, input: &mut I) -> Bundle
     requires { 6 ≤ limit }
     ensures limit { result.limit ≡ limit }
@@ -39,8 +40,8 @@ pub fn read_stream<I: Input>(alloc: Global, limit: u32, input: &mut I) -> Bundle
 ///
 /// # Errors
 ///
-/// `BadAnchors` where one is faulty, or there are 2^32 octets or more, of which the first one is told;
-/// `Device` and `OutOfMemory`.
+/// `BadAnchors` where one is faulty, or there are 2^32 octets or more, of which the first one is
+/// told; `Device` and `OutOfMemory`.
 pub fn read_anchors<A: Input>(alloc: Global, input: &mut A) -> Result<Vec<Anchor>, Outcome>
     ensures read { IfOk result (λ anchors. HasAnchors
         (source A.takes A.is_ended A.failures input.old input.new) (map anchor_plain anchors.items)) }
@@ -77,7 +78,8 @@ fn find_outcome<A: Input, S: Input, J: SignatureJudge>(
     requires { 6 ≤ limit }
     ensures found { IsOutcome (source A.takes A.is_ended A.failures anchors.old anchors.new)
         (source S.takes S.is_ended S.failures stream.old stream.new)
-        (judging J.answers J.questions judge.old judge.new) moment (purpose_plain purpose.now) limit result }
+        (judging J.answers J.questions judge.old judge.new) moment (purpose_plain purpose.now) limit
+        result }
     ensures kept { J.answers judge.new ≡ J.answers judge.old }
 {
     let anchors = match read_anchors(alloc, anchors) {
@@ -131,14 +133,14 @@ fn tell<O: Output, E: Output>(
 /// Judges the stream of one input under the anchors of another, tells the verdict in one line, and
 /// answers the exit status.
 ///
-/// The anchors are trust anchors (RFC 5914 2), one behind the other, of 2^32 - 1 octets at most, and
-/// each gives a name and a key as `Anchor::from_choice` says. They are read first, to their end, and
-/// the first faulty one is told. `limit` bounds the octets of each certificate of the stream, and of
-/// none of the anchors.
+/// The anchors are trust anchors (RFC 5914 2), one behind the other, of 2^32 - 1 octets at most,
+/// and each gives a name and a key as `Anchor::from_choice` says. They are read first, to their
+/// end, and the first faulty one is told. `limit` bounds the octets of each certificate of the
+/// stream, and of none of the anchors.
 ///
 /// To `out` go `trusted calls=N`, `refused PLACE RULE calls=N`, `fault PLACE OFFSET KIND` and
-/// `empty`, to `err` go `anchors: malformed at OFFSET`, `anchors: no name at OFFSET`,
-/// `anchors: path controls at OFFSET`, `device` and `memory`. A text that can't be written is
+/// `empty`, to `err` go `anchors: malformed at OFFSET`, `anchors: no name at OFFSET`, `anchors:
+/// path controls at OFFSET`, `device` and `memory`. A text that can't be written is
 /// `ExitStatus::Device`, whose word is tried once.
 pub fn run_check<A: Input, S: Input, O: Output, E: Output, J: SignatureJudge>(
     alloc: Global,
@@ -156,7 +158,8 @@ pub fn run_check<A: Input, S: Input, O: Output, E: Output, J: SignatureJudge>(
     ensures told { (outcome : Outcome)
         × IsOutcome (source A.takes A.is_ended A.failures anchors.old anchors.new)
         (source S.takes S.is_ended S.failures stream.old stream.new)
-        (judging J.answers J.questions judge.old judge.new) moment (purpose_plain purpose.now) limit outcome
+        (judging J.answers J.questions judge.old judge.new) moment (purpose_plain purpose.now) limit
+        outcome
         × IsTold (sink O.gives O.failures out.old out.new)
         (sink E.gives E.failures err.old err.new) outcome result }
     ensures kept { J.answers judge.new ≡ J.answers judge.old }

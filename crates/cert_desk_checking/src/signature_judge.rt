@@ -24,7 +24,8 @@ pub trait SignatureJudge {
         bits: &BitString,
     ) -> bool
         ensures answered { result
-            ≡ answers self.old (key_plain key.now) (algorithm_plain algorithm.now) signed.now bits.now }
+            ≡ answers self.old (key_plain key.now) (algorithm_plain algorithm.now) signed.now
+            bits.now }
         ensures kept { answers self.new ≡ answers self.old }
         ensures counted { questions self.new ≡ raised (questions self.old) 1 };
 }

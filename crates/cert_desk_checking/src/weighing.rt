@@ -5,7 +5,10 @@ ghost use Rattle.const_oid.specs.Comparing.{owned_eq};
 ghost use Rattle.der_core_head.specs.declared.error.ErrorKind.{ErrorKind};
 ghost use Rattle.x509_cert.specs.Views.{extension_plain, extensions_plain};
 ghost use Rattle.cert_desk_checking.specs.Findings.{found, weight_of};
-ghost use Rattle.cert_desk_checking.specs.Weighing.{any_purpose, basic_constraints, constraints_of, extended_key_usage, key_usage, meaning_by, other_names, purposes, serves, subject_alt_name, uses, weigh};
+ghost use Rattle.cert_desk_checking.specs.Weighing.{any_purpose, basic_constraints, constraints_of};
+ghost use Rattle.cert_desk_checking.specs.Weighing.{extended_key_usage, key_usage, meaning_by};
+ghost use Rattle.cert_desk_checking.specs.Weighing.{other_names, purposes, serves};
+ghost use Rattle.cert_desk_checking.specs.Weighing.{subject_alt_name, uses, weigh};
 
 use crate::extensions::{BASIC_CONSTRAINTS, EXT_KEY_USAGE, KEY_USAGE, SUBJECT_ALT_NAME, number_of};
 use crate::findings::Findings;
@@ -40,7 +43,8 @@ pub(crate) fn findings_of(
     extensions: &[Extension],
     purpose: &ObjectIdentifier<39>,
 ) -> Result<Findings, AllocError>
-    ensures { IfOk result (λ findings. findings ≡ found Bound purpose.now (extensions_plain extensions.now)) }
+    ensures { IfOk result
+        (λ findings. findings ≡ found Bound purpose.now (extensions_plain extensions.now)) }
 {
     let mut findings = Findings::none();
     for extension in extensions {
@@ -56,7 +60,8 @@ fn weigh(
     extension: &Extension,
     purpose: &ObjectIdentifier<39>,
 ) -> Result<Weight, AllocError>
-    ensures { IfOk result (λ weight. weight ≡ weight_of purpose.now (weigh Bound (extension_plain extension.now))) }
+    ensures { IfOk result
+        (λ weight. weight ≡ weight_of purpose.now (weigh Bound (extension_plain extension.now))) }
 {
     let octets = extension.extn_value.as_bytes();
     let Some(number) = number_of(&extension.extn_id) else {
@@ -79,7 +84,8 @@ fn weigh(
 
 // What a key usage weighs.
 fn weigh_key_usage(alloc: Global, octets: &[u8]) -> Result<Weight, AllocError>
-    ensures { IfOk result (λ weight. (purpose : List ℕ) → weight ≡ weight_of purpose (meaning_by key_usage uses octets.now)) }
+    ensures { IfOk result (λ weight. (purpose : List ℕ)
+        → weight ≡ weight_of purpose (meaning_by key_usage uses octets.now)) }
 {
     match from_der::<KeyUsage>(alloc, octets) {
         Ok(usage) => Ok(Weight::KeyUsage {
@@ -91,7 +97,8 @@ fn weigh_key_usage(alloc: Global, octets: &[u8]) -> Result<Weight, AllocError>
 
 // What other names of the subject weigh.
 fn weigh_names(alloc: Global, octets: &[u8]) -> Result<Weight, AllocError>
-    ensures { IfOk result (λ weight. (purpose : List ℕ) → weight ≡ weight_of purpose (meaning_by (subject_alt_name Bound) other_names octets.now)) }
+    ensures { IfOk result (λ weight. (purpose : List ℕ)
+        → weight ≡ weight_of purpose (meaning_by (subject_alt_name Bound) other_names octets.now)) }
 {
     match from_der::<Vec<NameLent<'_>>>(alloc, octets) {
         Ok(_) => Ok(Weight::AlternativeNames),
@@ -101,7 +108,8 @@ fn weigh_names(alloc: Global, octets: &[u8]) -> Result<Weight, AllocError>
 
 // What basic constraints weigh.
 fn weigh_constraints(alloc: Global, octets: &[u8]) -> Result<Weight, AllocError>
-    ensures { IfOk result (λ weight. (purpose : List ℕ) → weight ≡ weight_of purpose (meaning_by basic_constraints constraints_of octets.now)) }
+    ensures { IfOk result (λ weight. (purpose : List ℕ)
+        → weight ≡ weight_of purpose (meaning_by basic_constraints constraints_of octets.now)) }
 {
     match from_der::<BasicConstraints>(alloc, octets) {
         Ok(constraints) => Ok(Weight::Constraints {
@@ -118,7 +126,9 @@ fn weigh_purposes(
     octets: &[u8],
     purpose: &ObjectIdentifier<39>,
 ) -> Result<Weight, AllocError>
-    ensures { IfOk result (λ weight. weight ≡ weight_of purpose.now (meaning_by (extended_key_usage Bound) purposes octets.now)) }
+    ensures { IfOk result
+        (λ weight. weight
+        ≡ weight_of purpose.now (meaning_by (extended_key_usage Bound) purposes octets.now)) }
 {
     match from_der::<ExtendedKeyUsage>(alloc, octets) {
         Ok(usage) => Ok(Weight::Purposes {

@@ -13,6 +13,7 @@ pub(crate) enum Weight {
     AlternativeNames,
     /// The constraints on an authority (4.2.1.9).
     Constraints { ca: bool, path_len: Option<u8> },
-    /// The purposes of a key (4.2.1.12): whether the one that is asked for is among them, or any is.
+    /// The purposes of a key (4.2.1.12): whether the one that is asked for is among them, or any
+    /// is.
     Purposes { serves: bool },
 }

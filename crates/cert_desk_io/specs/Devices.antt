@@ -1,5 +1,5 @@
--- What contracts say of a device: what it did from one state to another, how its count of failures moved, and how much of a text
--- went out.
+-- What contracts say of a device: what it did from one state to another, how its count of failures
+-- moved, and how much of a text went out.
 use Rattle.std.specs.Prelude.{◌≡◌, ℕ, ◌+◌, ◌-◌, ◌^◌, ◌<◌, ◌⊎◌, min, List, [], length, take}
 
 -- a count of failures rose: it is greater, or stands at the most that 64 bits hold
@@ -10,8 +10,9 @@ Rose old new = (old < new) ⊎ (new ≡ 2 ^ 64 - 1)
 abbrev pub one_more : ℕ → ℕ
 one_more failures = min (failures + 1) (2 ^ 64 - 1)
 
--- What contracts see of a device over a call: which octets move from a state to a later one, in turn, in which states the last read
--- met the end, how many calls have failed, and the states before and behind.
+-- What contracts see of a device over a call: which octets move from a state to a later one, in
+-- turn, in which states the last read met the end, how many calls have failed, and the states
+-- before and behind.
 pub record Device : Type 1 where
   pub State : Type 0
   pub moves : State → List ℕ → State → Type 0
@@ -21,14 +22,30 @@ pub record Device : Type 1 where
   pub new : State
 
 -- an input
-abbrev pub source : {State : Type 0} → (State → List ℕ → State → Type 0) → (State → Type 0) → (State → ℕ) → State → State → Device
+abbrev pub source : {State : Type 0} → (State → List ℕ → State → Type 0) → (State → Type 0)
+    → (State → ℕ) → State → State → Device
 source {State} takes is_ended failures old new =
-    record { State = State; moves = takes; is_ended = is_ended; failures = failures; old = old; new = new }
+    record {
+      State = State;
+      moves = takes;
+      is_ended = is_ended;
+      failures = failures;
+      old = old;
+      new = new;
+    }
 
 -- an output, which never ends
-abbrev pub sink : {State : Type 0} → (State → List ℕ → State → Type 0) → (State → ℕ) → State → State → Device
+abbrev pub sink : {State : Type 0} → (State → List ℕ → State → Type 0) → (State → ℕ) → State → State
+    → Device
 sink {State} gives failures old new =
-    record { State = State; moves = gives; is_ended = λ _. ⊥; failures = failures; old = old; new = new }
+    record {
+      State = State;
+      moves = gives;
+      is_ended = λ _. ⊥;
+      failures = failures;
+      old = old;
+      new = new;
+    }
 
 -- these octets were moved, in turn
 abbrev pub Moved : Device → List ℕ → Type 0
@@ -46,7 +63,8 @@ Sound d = d.failures d.new ≡ d.failures d.old
 abbrev pub Untouched : Device → Type 0
 Untouched d = d.new ≡ d.old
 
--- A call failed: before it these octets were moved and no call failed, and from then on nothing was moved.
+-- A call failed: before it these octets were moved and no call failed, and from then on nothing was
+-- moved.
 pub record Fails (d : Device) (octets : List ℕ) : Type 0 where
   pub before : d.State
   pub moved : d.moves d.old octets before

@@ -12,15 +12,19 @@ memory_line = codes "memory\n"
 
 -- That a device failed was told: its line was tried once, and the status is its own.
 abbrev pub IsDeviceTold : Device → ExitStatus → Type 0
-IsDeviceTold err answer = (IsWritten err device_line ⊎ IsCut err device_line) × (answer ≡ statuses.Device)
+IsDeviceTold err answer = (IsWritten err device_line ⊎ IsCut err device_line)
+    × (answer ≡ statuses.Device)
 
--- A text for the error output: it went out, and the status is this one; or a write failed, and this was told.
+-- A text for the error output: it went out, and the status is this one; or a write failed, and this
+-- was told.
 abbrev pub IsComplaint : Device → List ℕ → ExitStatus → ExitStatus → Type 0
 IsComplaint err text status answer =
     (IsWritten err text × (answer ≡ status))
-    ⊎ ((between : err.State) × IsCut (record err { new = between }) text × IsDeviceTold (record err { old = between }) answer)
+    ⊎ ((between : err.State) × IsCut (record err { new = between }) text
+    × IsDeviceTold (record err { old = between }) answer)
 
--- A text for the output: it went out, and the status is this one; or a write failed, and this was told on the error output.
+-- A text for the output: it went out, and the status is this one; or a write failed, and this was
+-- told on the error output.
 abbrev pub IsAnswer : Device → Device → List ℕ → ExitStatus → ExitStatus → Type 0
 IsAnswer out err text status answer =
     (IsWritten out text × Untouched err × (answer ≡ status))

@@ -18,9 +18,11 @@ most_octets = 2 ^ 32 - 1
 abbrev pub IsWhole : Device → ℕ → List ℕ → Type 0
 IsWhole d most octets = Moved d octets × (length octets ≤ most) × MetEnd d × Sound d
 
--- Why an input wasn't read to its end. One octet more than the most was taken and no further one, a read failed, or there was
--- no memory for what was taken. No read failed but where that is told.
+-- Why an input wasn't read to its end. One octet more than the most was taken and no further one, a
+-- read failed, or there was no memory for what was taken. No read failed but where that is told.
 abbrev pub IsUnread : Device → ℕ → ReadAllError → Type 0
-IsUnread d most errors.TooMuch = (octets : List ℕ) × Moved d octets × (length octets ≡ most + 1) × Sound d
+IsUnread d most errors.TooMuch = (octets : List ℕ) × Moved d octets × (length octets ≡ most + 1)
+    × Sound d
 IsUnread d most errors.Device = (octets : List ℕ) × (length octets ≤ most) × Fails d octets
-IsUnread d most errors.OutOfMemory = (octets : List ℕ) × Moved d octets × (length octets ≤ most + 1) × Sound d
+IsUnread d most errors.OutOfMemory = (octets : List ℕ) × Moved d octets × (length octets ≤ most + 1)
+    × Sound d

@@ -1,5 +1,6 @@
 // What octets come from.
-ghost use Rattle.std.specs.Prelude.{◌≡◌, ℕ, ◌<◌, ◌≤◌, ◌↔◌, List, [], ◌++◌, length, take, IfOk, IfErr, OnOk, OnErr};
+ghost use Rattle.std.specs.Prelude.{◌≡◌, ℕ, ◌<◌, ◌≤◌, ◌↔◌, List, [], ◌++◌, length, take, IfOk};
+ghost use Rattle.std.specs.Prelude.{IfErr, OnOk, OnErr};
 ghost use Rattle.cert_desk_io.specs.Devices.{Rose, source};
 ghost use Rattle.cert_desk_io.specs.Whole.{IsWhole, IsUnread};
 
@@ -66,7 +67,8 @@ impl<I: Input> Input for &mut I {
 /// `OutOfMemory`. No read is tried again.
 pub fn read_all<I: Input>(alloc: Global, input: &mut I, most: u32) -> Result<Vec<u8>, ReadAllError>
     ensures whole { IfOk result
-        (λ octets. IsWhole (source I.takes I.is_ended I.failures input.old input.new) most octets.items) }
+        (λ octets. IsWhole (source I.takes I.is_ended I.failures input.old input.new) most
+        octets.items) }
     ensures unread { IfErr result
         (IsUnread (source I.takes I.is_ended I.failures input.old input.new) most) }
 {

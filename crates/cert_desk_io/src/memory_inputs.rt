@@ -1,9 +1,11 @@
 // An input over octets in memory.
-ghost use Rattle.std.specs.Prelude.{◌≡◌, ◌<◌, ◌≤◌, ◌↔◌, [], ◌++◌, length, take, drop, min, IsErr, IfOk, OnOk, OnErr};
+ghost use Rattle.std.specs.Prelude.{◌≡◌, ◌<◌, ◌≤◌, ◌↔◌, [], ◌++◌, length, take, drop, min, IsErr};
+ghost use Rattle.std.specs.Prelude.{IfOk, OnOk, OnErr};
 ghost use Rattle.std.proofs.Common.{refl, sym, ap, ◌∙◌, append_assoc};
 ghost use Rattle.cert_desk_io.specs.Devices.{Rose, one_more};
 ghost use Rattle.cert_desk_io.specs.Pieces.{ArePieceSizes, after_call, next_piece};
-ghost use Rattle.cert_desk_io.specs.Memory.{octets_left, read_sizes, failing_read, read_failures, HasEnded};
+ghost use Rattle.cert_desk_io.specs.Memory.{octets_left, read_sizes, failing_read, read_failures};
+ghost use Rattle.cert_desk_io.specs.Memory.{HasEnded};
 
 use super::schedule::Schedule;
 use super::{DeviceError, Input};

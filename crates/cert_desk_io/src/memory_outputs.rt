@@ -1,5 +1,6 @@
 // An output into memory.
-ghost use Rattle.std.specs.Prelude.{◌≡◌, ◌-◌, ◌<◌, ◌≤◌, ◌↔◌, ◌⊎◌, [], ◌++◌, length, take, drop, min, IsErr, IfOk, OnOk, OnErr};
+ghost use Rattle.std.specs.Prelude.{◌≡◌, ◌-◌, ◌<◌, ◌≤◌, ◌↔◌, ◌⊎◌, [], ◌++◌, length, take, drop};
+ghost use Rattle.std.specs.Prelude.{min, IsErr, IfOk, OnOk, OnErr};
 ghost use Rattle.std.proofs.Common.{sym, ap, ◌∙◌, append_assoc, append-nil};
 ghost use Rattle.cert_desk_io.specs.Devices.{Rose, one_more};
 ghost use Rattle.cert_desk_io.specs.Pieces.{ArePieceSizes, after_call, next_piece};
@@ -21,12 +22,13 @@ pub struct MemoryOutput<'a> {
 }
 
 impl<'a> MemoryOutput<'a> {
-    ghost use Rattle.cert_desk_io.specs.Memory.{written, capacity, IsFull, write_sizes, failing_write, write_failures};
+    ghost use Rattle.cert_desk_io.specs.Memory.{written, capacity, IsFull, write_sizes};
+    ghost use Rattle.cert_desk_io.specs.Memory.{failing_write, write_failures};
 
     /// An output that keeps as many octets as there is room for. Each write that succeeds takes up
     /// to the next of these sizes, each at least 1, and after the last size all that it is given.
-    /// The write of this number fails, 1 for the first (no write has the number 0), and nothing goes
-    /// out; later ones go on.
+    /// The write of this number fails, 1 for the first (no write has the number 0), and nothing
+    /// goes out; later ones go on.
     pub fn new(room: &'a mut [u8], sizes: &'a [usize], failing: Option<u64>) -> MemoryOutput<'a>
         requires { ArePieceSizes sizes.now }
         ensures written { written result ≡ [] }
@@ -59,7 +61,8 @@ impl<'a> MemoryOutput<'a> {
 }
 
 impl Output for MemoryOutput<'_> {
-    ghost use Rattle.cert_desk_io.specs.Memory.{written, capacity, IsFull, write_sizes, failing_write, write_failures};
+    ghost use Rattle.cert_desk_io.specs.Memory.{written, capacity, IsFull, write_sizes};
+    ghost use Rattle.cert_desk_io.specs.Memory.{failing_write, write_failures};
 
     ghost gives = { λ a octets b. written b ≡ written a ++ octets };
 

@@ -13,8 +13,8 @@ pub fn tell_device<E: Output>(err: &mut E) -> ExitStatus
     ExitStatus::Device
 }
 
-/// Writes a text to the error output, and answers this status. One that can't be written is a failed
-/// device, which is told.
+/// Writes a text to the error output, and answers this status. One that can't be written is a
+/// failed device, which is told.
 pub fn complain<E: Output>(err: &mut E, text: &[u8], status: ExitStatus) -> ExitStatus
     ensures told { IsComplaint (sink E.gives E.failures err.old err.new) text.now status result }
 {

@@ -1,5 +1,6 @@
 -- Which orders are accepted.
-use Rattle.std.specs.Prelude.{◌≡◌, ℕ, ◌≤◌, ◌<◌, List, length, Bool, true, Option, Some, None, Ok, slice_get, string_bytes}
+use Rattle.std.specs.Prelude.{◌≡◌, ℕ, ◌≤◌, ◌<◌, List, length, Bool, true, Option, Some, None, Ok}
+use Rattle.std.specs.Prelude.{slice_get, string_bytes}
 use Rattle.std.specs.Bool.{⊤}
 use Rattle.std.specs.List.{list_all}
 use Rattle.const_oid.specs.Bound.{Bound}
@@ -23,7 +24,8 @@ use Rattle.cert_desk_issuing.specs.declared.role.Role.TheVariants as roles
 use Rattle.cert_desk_issuing.specs.PlainOrders.{IsRight, PlainOrder}
 use Rattle.cert_desk_issuing.specs.Roles.{role_at, signers_for}
 
--- a subscriber's name has countries and common names alone (CA/Browser Forum, Baseline Requirements 7.1.2.7.2)
+-- a subscriber's name has countries and common names alone (CA/Browser Forum, Baseline Requirements
+-- 7.1.2.7.2)
 abbrev pub names_subscriber : PlainName → Bool
 names_subscriber n = list_all (λ r. list_all may_stay r) n
 
@@ -37,7 +39,8 @@ IsNamedFor roles.Subscriber n = names_subscriber n ≡ true
 abbrev pub IsTextOf : List ℕ → Civil → Type 0
 IsTextOf text c = (is_civil c ≡ true) × (text ≡ date_text c)
 
--- the texts are those of two dates, of which the second isn't before the first, spelled as RFC 5280 has them
+-- the texts are those of two dates, of which the second isn't before the first, spelled as RFC 5280
+-- has them
 pub record SpellDates (before after : List ℕ) (v : PlainValidity) : Type 0 where
   pub first : IsTextOf before (civil_of (not_before v))
   pub last : IsTextOf after (civil_of (not_after v))
@@ -50,7 +53,8 @@ IsKeyOf (Some signer_key) k = signer_key ≡ k
 IsKeyOf None k = ⊤
 
 -- The order is accepted in this role, and asks for this.
-pub record IsAccepted (role : Role) (signer_key : Option PublicKey) (o : Order) (p : PlainOrder) : Type 0 where
+pub record IsAccepted (role : Role) (signer_key : Option PublicKey) (o : Order)
+    (p : PlainOrder) : Type 0 where
   pub name : SpellsName Bound (string_bytes o.name) p.subject
   pub naming : IsNamedFor role p.subject
   pub serial : new_serial o.serial.items ≡ Ok p.serial
@@ -65,17 +69,21 @@ pub record IsAccepted (role : Role) (signer_key : Option PublicKey) (o : Order) 
   pub answers_is : p.answers ≡ o.ocsp
 
 -- the order at a place is accepted
-pub record IsAcceptedAt (orders : List Order) (keys : List PublicKey) (place : ℕ) (p : PlainOrder) : Type 0 where
+pub record IsAcceptedAt (orders : List Order) (keys : List PublicKey) (place : ℕ)
+    (p : PlainOrder) : Type 0 where
   pub order : Order
   pub stands : slice_get orders place ≡ Some order
   pub accepted : IsAccepted (role_at (length orders) place) (slice_get keys place) order p
 
 -- so many orders, from the first on, are accepted, and ask for these
-pub record AcceptsFront (orders : List Order) (keys : List PublicKey) (ps : List PlainOrder) : Type 0 where
-  pub each : (place : ℕ) → place < length ps → (p : PlainOrder) × (slice_get ps place ≡ Some p) × IsAcceptedAt orders keys place p
+pub record AcceptsFront (orders : List Order) (keys : List PublicKey) (ps : List PlainOrder) : Type
+    0 where
+  pub each : (place : ℕ) → place < length ps → (p : PlainOrder) × (slice_get ps place ≡ Some p)
+      × IsAcceptedAt orders keys place p
 
 -- All orders are accepted, with signers of these keys, and ask for these.
-pub record AcceptedOrders (orders : List Order) (keys : List PublicKey) (ps : List PlainOrder) : Type 0 where
+pub record AcceptedOrders (orders : List Order) (keys : List PublicKey)
+    (ps : List PlainOrder) : Type 0 where
   pub some : 0 < length orders
   pub signers : length keys ≡ signers_for (length orders)
   pub all : length ps ≡ length orders

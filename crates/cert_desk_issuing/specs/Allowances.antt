@@ -1,5 +1,7 @@
 -- For which purposes chains of orders are, and whether their path lengths are enough.
-use Rattle.std.specs.Prelude.{◌≡◌, ℕ, zero, suc, ◌+◌, ◌-◌, ◌<◌, ◌≤◌, List, [], ◌∷◌, length, Bool, true, false, not, Option, Some, None, ◌==◌, ◌&&◌, ◌||◌, if◌then◌else◌, slice_get}
+use Rattle.std.specs.Prelude.{◌≡◌, ℕ, zero, suc, ◌+◌, ◌-◌, ◌<◌, ◌≤◌, List, [], ◌∷◌, length, Bool}
+use Rattle.std.specs.Prelude.{true, false, not, Option, Some, None, ◌==◌, ◌&&◌, ◌||◌, if◌then◌else◌}
+use Rattle.std.specs.Prelude.{slice_get}
 use Rattle.std.specs.List.{list_all}
 use Rattle.std.specs.Option.{option_map_or}
 use Rattle.const_oid.specs.Bound.{Bound}
@@ -25,19 +27,22 @@ allows purpose (root ∷ below) = list_all (allows_one purpose) below
 
 -- the moment lies within the dates of each order
 abbrev pub AreLasting : ℕ → List PlainOrder → Type 0
-AreLasting moment ps = (place : ℕ) (p : PlainOrder) → slice_get ps place ≡ Some p → (unix_seconds (begins p) ≤ moment) × (moment ≤ unix_seconds (ends p))
+AreLasting moment ps = (place : ℕ) (p : PlainOrder) → slice_get ps place ≡ Some p
+    → (unix_seconds (begins p) ≤ moment) × (moment ≤ unix_seconds (ends p))
 
 abbrev pub subject_at : List PlainOrder → ℕ → PlainName
 subject_at ps place = option_map_or (λ p. p.subject) (slice_get ps place) []
 
 -- a place counts where it isn't last and has another name than the order before (4.2.1.9)
 abbrev pub counts_order : List PlainOrder → ℕ → Bool
-counts_order ps place = not ((place + 1) == length ps) && not (same_name Bound (subject_at ps (place_above place)) (subject_at ps place))
+counts_order ps place = not ((place + 1) == length ps)
+    && not (same_name Bound (subject_at ps (place_above place)) (subject_at ps place))
 
 -- how many of n places count, from this one on
 abbrev pub counted_orders : List PlainOrder → ℕ → ℕ → ℕ
 counted_orders ps from zero = 0
-counted_orders ps from (suc n) = counted_orders ps from n + (if counts_order ps (from + n) then 1 else 0)
+counted_orders ps from (suc n) =
+    counted_orders ps from n + (if counts_order ps (from + n) then 1 else 0)
 
 -- the path length of an order between the first and the last
 abbrev pub path_in : Role → PlainOrder → Option ℕ
@@ -47,7 +52,9 @@ path_in roles.Subscriber p = None
 
 -- at most as many places behind an order count as its path length says (6.1.4 (l), (m))
 abbrev pub suffices_at : List PlainOrder → ℕ → PlainOrder → Bool
-suffices_at ps place p = is_within (counted_orders ps (place + 1) (length ps - (place + 1))) (path_in (role_at (length ps) place) p)
+suffices_at ps place p = is_within (counted_orders ps (place + 1) (length ps - (place + 1)))
+    (path_in (role_at (length ps) place) p)
 
 abbrev pub Suffices : List PlainOrder → Type 0
-Suffices ps = (place : ℕ) (p : PlainOrder) → slice_get ps place ≡ Some p → suffices_at ps place p ≡ true
+Suffices ps = (place : ℕ) (p : PlainOrder) → slice_get ps place ≡ Some p → suffices_at ps place p
+    ≡ true

@@ -6,8 +6,8 @@ use Rattle.cert_desk_checking.specs.Views.{algorithm_plain}
 use Rattle.cert_desk_issuing.specs.declared.assembled.Assembled.{Assembled}
 use Rattle.cert_desk_checking.specs.Parts.{any_lent}
 
--- SIGNED{ToBeSigned} ::= SEQUENCE { toBeSigned ToBeSigned, algorithmIdentifier AlgorithmIdentifier, signature BIT STRING }, whatever is
--- to be signed
+-- SIGNED{ToBeSigned} ::= SEQUENCE { toBeSigned ToBeSigned, algorithmIdentifier AlgorithmIdentifier,
+-- signature BIT STRING }, whatever is to be signed
 abbrev pub assembled_fields : Body
 assembled_fields = field any (field (algorithm_identifier Bound) (field bit_string done))
 

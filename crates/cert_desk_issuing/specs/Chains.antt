@@ -3,7 +3,8 @@ use Rattle.std.specs.Prelude.{◌≡◌, ℕ, ◌-◌, ◌^◌, ◌<◌, List, l
 use Rattle.const_oid.specs.Bound.{Bound}
 use Rattle.der_core_head.specs.Limits.{length_max}
 use Rattle.der_core_head.specs.BitStrings.{Bits}
-use Rattle.cert_desk_checking.specs.Certificates.{PlainCertificate, outer_algorithm, signature_bits, tbs}
+use Rattle.cert_desk_checking.specs.Certificates.{PlainCertificate, outer_algorithm, signature_bits}
+use Rattle.cert_desk_checking.specs.Certificates.{tbs}
 use Rattle.cert_desk_checking.specs.Certificates.{Algorithm, PublicKey}
 use Rattle.cert_desk_checking.specs.Chains.{Chain}
 use Rattle.cert_desk_orders.specs.declared.order.Order.{Order}
@@ -21,7 +22,8 @@ pub record IsHeldAt (ps : List PlainOrder) (cs : List PlainCertificate) (place :
   pub right : IsRight (role_at (length ps) place) order
   pub above_is : slice_get ps (place_above place) ≡ Some above
   pub certificate_is : slice_get cs place ≡ Some certificate
-  pub part : tbs certificate ≡ ordered_part (role_at (length ps) place) order above (outer_algorithm certificate)
+  pub part : tbs certificate ≡ ordered_part (role_at (length ps) place) order above
+      (outer_algorithm certificate)
 
 -- a certificate is the one that is ordered at a place, wherever it stands itself
 pub record IsOrderedAt (ps : List PlainOrder) (place : ℕ) (c : PlainCertificate) : Type 0 where
@@ -36,8 +38,10 @@ pub record IsOrderedAt (ps : List PlainOrder) (place : ℕ) (c : PlainCertificat
 abbrev pub HoldFront : List PlainOrder → List PlainCertificate → Type 0
 HoldFront ps cs = (place : ℕ) → place < length cs → IsHeldAt ps cs place
 
--- Both algorithms of a certificate are those of its signer, whose bits are in that signer's relation with its own signed part.
-pub record IsSignedAt {S : Type 0} (algorithm : S → Algorithm) (signs : S → List ℕ → Bits → Type 0) (signers : List S) (cs : List PlainCertificate) (place : ℕ) : Type 0 where
+-- Both algorithms of a certificate are those of its signer, whose bits are in that signer's
+-- relation with its own signed part.
+pub record IsSignedAt {S : Type 0} (algorithm : S → Algorithm) (signs : S → List ℕ → Bits → Type 0)
+    (signers : List S) (cs : List PlainCertificate) (place : ℕ) : Type 0 where
   pub signer : S
   pub certificate : PlainCertificate
   pub signer_is : slice_get signers (place_above place) ≡ Some signer
@@ -46,23 +50,30 @@ pub record IsSignedAt {S : Type 0} (algorithm : S → Algorithm) (signs : S → 
   pub signed : signs signer (part_octets (tbs certificate)) (signature_bits certificate)
 
 -- the same of a certificate, wherever it stands itself
-pub record IsSignedBy {S : Type 0} (algorithm : S → Algorithm) (signs : S → List ℕ → Bits → Type 0) (signers : List S) (place : ℕ) (c : PlainCertificate) : Type 0 where
+pub record IsSignedBy {S : Type 0} (algorithm : S → Algorithm) (signs : S → List ℕ → Bits → Type 0)
+    (signers : List S) (place : ℕ) (c : PlainCertificate) : Type 0 where
   pub signer : S
   pub signer_is : slice_get signers (place_above place) ≡ Some signer
   pub algorithm_is : outer_algorithm c ≡ algorithm signer
   pub signed : signs signer (part_octets (tbs c)) (signature_bits c)
 
-abbrev pub AreSigned : {S : Type 0} → (S → Algorithm) → (S → List ℕ → Bits → Type 0) → List S → List PlainCertificate → Type 0
-AreSigned algorithm signs signers cs = (place : ℕ) → place < length cs → IsSignedAt algorithm signs signers cs place
+abbrev pub AreSigned : {S : Type 0} → (S → Algorithm) → (S → List ℕ → Bits → Type 0) → List S
+    → List PlainCertificate → Type 0
+AreSigned algorithm signs signers cs = (place : ℕ) → place < length cs
+    → IsSignedAt algorithm signs signers cs place
 
 -- One certificate for each of these orders, in turn, which holds it; and the stream joins them.
-pub record HoldsOrders (ps : List PlainOrder) (cs : List PlainCertificate) (stream : List ℕ) : Type 0 where
+pub record HoldsOrders (ps : List PlainOrder) (cs : List PlainCertificate) (stream : List ℕ) : Type
+    0 where
   pub count : length cs ≡ length ps
   pub chain : Chain Bound length_max cs stream
   pub held : HoldFront ps cs
 
--- The orders are accepted, and the stream joins certificates that hold them, each signed by its signer.
-pub record IssuedChain {S : Type 0} (key : S → PublicKey) (algorithm : S → Algorithm) (signs : S → List ℕ → Bits → Type 0) (orders : List Order) (signers : List S) (stream : List ℕ) : Type 0 where
+-- The orders are accepted, and the stream joins certificates that hold them, each signed by its
+-- signer.
+pub record IssuedChain {S : Type 0} (key : S → PublicKey) (algorithm : S → Algorithm)
+    (signs : S → List ℕ → Bits → Type 0) (orders : List Order) (signers : List S)
+    (stream : List ℕ) : Type 0 where
   pub asked : List PlainOrder
   pub certificates : List PlainCertificate
   pub accepted : AcceptedOrders orders (map key signers) asked

@@ -15,31 +15,44 @@ use Rattle.cert_desk_issuing.specs.PlainOrders.{PlainOrder}
 use Rattle.cert_desk_issuing.specs.Refusals.{Refuses}
 use Rattle.cert_desk_issuing.specs.Roles.{place_above, role_at}
 
--- No length passes 2^32 - 1: the names, the signed part and the certificate, whatever bits its signer may give, have encodings.
-pub record IsShort (signs : List ℕ → Bits → Type 0) (a : Algorithm) (dns : List (List ℕ)) (t : Tbs) : Type 0 where
+-- No length passes 2^32 - 1: the names, the signed part and the certificate, whatever bits its
+-- signer may give, have encodings.
+pub record IsShort (signs : List ℕ → Bits → Type 0) (a : Algorithm) (dns : List (List ℕ))
+    (t : Tbs) : Type 0 where
   pub names : IsValid (general_names Bound) (dns_names dns)
   pub part : IsValid (tbs_certificate Bound None) t
-  pub whole : (bits : Bits) → signs (part_octets t) bits → IsValid (certificate Bound None) (t, (a, (bits, tt)))
+  pub whole : (bits : Bits) → signs (part_octets t) bits
+      → IsValid (certificate Bound None) (t, (a, (bits, tt)))
 
 -- the signer at a place may not refuse what is ordered there, and no length passes
-pub record IsIssuableAt {S : Type 0} (algorithm : S → Algorithm) (signs : S → List ℕ → Bits → Type 0) (may_refuse : S → List ℕ → Type 0) (asked : List PlainOrder) (signers : List S) (place : ℕ) : Type 0 where
+pub record IsIssuableAt {S : Type 0} (algorithm : S → Algorithm) (signs : S → List ℕ → Bits
+    → Type 0) (may_refuse : S → List ℕ → Type 0) (asked : List PlainOrder) (signers : List S)
+    (place : ℕ) : Type 0 where
   pub order : PlainOrder
   pub above : PlainOrder
   pub signer : S
   pub order_is : slice_get asked place ≡ Some order
   pub above_is : slice_get asked (place_above place) ≡ Some above
   pub signer_is : slice_get signers (place_above place) ≡ Some signer
-  pub signable : may_refuse signer (part_octets (ordered_part (role_at (length asked) place) order above (algorithm signer))) → ⊥
-  pub short : IsShort (signs signer) (algorithm signer) order.dns (ordered_part (role_at (length asked) place) order above (algorithm signer))
+  pub signable : may_refuse signer
+      (part_octets (ordered_part (role_at (length asked) place) order above (algorithm signer))) → ⊥
+  pub short : IsShort (signs signer) (algorithm signer) order.dns
+      (ordered_part (role_at (length asked) place) order above (algorithm signer))
 
--- All orders are accepted, no signer may refuse what is ordered at its place, and no length passes 2^32 - 1.
-pub record AreIssuable {S : Type 0} (key : S → PublicKey) (algorithm : S → Algorithm) (signs : S → List ℕ → Bits → Type 0) (may_refuse : S → List ℕ → Type 0) (orders : List Order) (signers : List S) : Type 0 where
+-- All orders are accepted, no signer may refuse what is ordered at its place, and no length passes
+-- 2^32 - 1.
+pub record AreIssuable {S : Type 0} (key : S → PublicKey) (algorithm : S → Algorithm)
+    (signs : S → List ℕ → Bits → Type 0) (may_refuse : S → List ℕ → Type 0) (orders : List Order)
+    (signers : List S) : Type 0 where
   pub asked : List PlainOrder
   pub accepted : AcceptedOrders orders (map key signers) asked
-  pub each : (place : ℕ) → place < length asked → IsIssuableAt algorithm signs may_refuse asked signers place
+  pub each : (place : ℕ) → place < length asked
+      → IsIssuableAt algorithm signs may_refuse asked signers place
 
 -- For such orders none of the reasons holds, but want of memory.
-abbrev pub IssuableIsIssued : {S : Type 0} → (S → PublicKey) → (S → Algorithm) → (S → List ℕ → Bits → Type 0) → (S → List ℕ → Type 0) → Type 0
+abbrev pub IssuableIsIssued : {S : Type 0} → (S → PublicKey) → (S → Algorithm)
+    → (S → List ℕ → Bits → Type 0) → (S → List ℕ → Type 0) → Type 0
 IssuableIsIssued {S = S} key algorithm signs may_refuse =
-    (orders : List Order) (signers : List S) (e : IssueError) → AreIssuable key algorithm signs may_refuse orders signers
+    (orders : List Order) (signers : List S) (e : IssueError)
+    → AreIssuable key algorithm signs may_refuse orders signers
     → Refuses key algorithm signs may_refuse orders signers e → e ≡ errors.OutOfMemory

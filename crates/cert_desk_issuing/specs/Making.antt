@@ -5,7 +5,9 @@ use Rattle.der_core_head.specs.Limits.{length_max}
 use Rattle.der_core_head.specs.Grammar.{plain_list}
 use Rattle.der_core_head.specs.Ranges.{IsInRange}
 use Rattle.der_core_head.specs.Shapes.{Shape, explicit, optional}
-use Rattle.cert_desk_checking.specs.Certificates.{PlainCertificate, Tbs, algorithm_identifier, name, public_key_info, tbs_inner_algorithm, tbs_issuer, tbs_public_key, tbs_subject, tbs_validity}
+use Rattle.cert_desk_checking.specs.Certificates.{PlainCertificate, Tbs, algorithm_identifier, name}
+use Rattle.cert_desk_checking.specs.Certificates.{public_key_info, tbs_inner_algorithm, tbs_issuer}
+use Rattle.cert_desk_checking.specs.Certificates.{tbs_public_key, tbs_subject, tbs_validity}
 use Rattle.cert_desk_checking.specs.Parts.{certificate_by}
 use Rattle.cert_desk_checking.specs.Views.{certificate_plain}
 use Rattle.cert_desk_orders.specs.Grammar.{extensions, validity}
@@ -24,7 +26,8 @@ made_plain m = as_written (certificate_plain m.certificate)
 abbrev pub extensions_field : Shape
 extensions_field = optional (explicit 3 (extensions Bound))
 
--- The parts of a signed part are in their ranges, the version, the serial number and unique identifiers aside.
+-- The parts of a signed part are in their ranges, the version, the serial number and unique
+-- identifiers aside.
 pub record IsPartInRange (t : Tbs) : Type 0 where
   pub algorithm : IsInRange (algorithm_identifier Bound) (tbs_inner_algorithm t)
   pub issuer : IsInRange (name Bound) (tbs_issuer t)
@@ -39,8 +42,14 @@ pub record PlainIssued : Type 0 where
   pub stream : List ℕ
 
 abbrev pub issued_plain : Inside → PlainIssued
-issued_plain i = record { certificates = plain_list (λ c. as_written (certificate_plain c)) i.certificates.items; stream = i.stream.items }
+issued_plain i =
+    record {
+      certificates = plain_list (λ c. as_written (certificate_plain c)) i.certificates.items;
+      stream = i.stream.items;
+    }
 
 -- the stream joins the certificates
 abbrev pub IsJoined : Inside → Type 0
-IsJoined i = Chain Bound length_max (plain_list (λ c. as_written (certificate_plain c)) i.certificates.items) i.stream.items
+IsJoined i =
+    Chain Bound length_max (plain_list (λ c. as_written (certificate_plain c)) i.certificates.items)
+    i.stream.items

@@ -1,10 +1,13 @@
--- Which certificate is ordered at each place (RFC 5280 4.1.2; CA/Browser Forum, Baseline Requirements 7.1.2).
+-- Which certificate is ordered at each place (RFC 5280 4.1.2; CA/Browser Forum, Baseline
+-- Requirements 7.1.2).
 use Rattle.std.specs.Prelude.{ℕ, pos, List, [], ◌∷◌, length, Option, Some, None, ◌==◌}
 use Rattle.std.proofs.Common.{inl, inr}
 use Rattle.const_oid.specs.Bound.{Bound}
 use Rattle.der_core_head.specs.Grammar.{plain_list, plain_option}
 use Rattle.der_core_head.specs.Shapes.{Value, octets_of}
-use Rattle.cert_desk_checking.specs.Builders.{digital_signature, root_extensions, standard_extension, subordinate_extensions, subscriber_extensions}
+use Rattle.cert_desk_checking.specs.Builders.{digital_signature, root_extensions}
+use Rattle.cert_desk_checking.specs.Builders.{standard_extension, subordinate_extensions}
+use Rattle.cert_desk_checking.specs.Builders.{subscriber_extensions}
 use Rattle.cert_desk_checking.specs.Certificates.{Tbs}
 use Rattle.cert_desk_checking.specs.Parts.{tbs_certificate}
 use Rattle.cert_desk_checking.specs.Certificates.{Algorithm, PlainExtension, PlainName, PublicKey}
@@ -22,26 +25,50 @@ dns_names texts = plain_list dns_name texts
 
 -- SubjectAltName, critical where the subject has no name (4.2.1.6)
 abbrev pub names_extension : PlainName → List (List ℕ) → PlainExtension
-names_extension subject dns = standard_extension 17 (length subject == 0) (general_names Bound) (dns_names dns)
+names_extension subject dns = standard_extension 17 (length subject == 0) (general_names Bound)
+    (dns_names dns)
 
 -- the extensions of the certificate that an order asks for in a role, below a key
 abbrev pub extensions_for : Role → PlainOrder → PublicKey → List PlainExtension
 extensions_for roles.Root p above = root_extensions p.answers p.key
-extensions_for roles.Subordinate p above = subordinate_extensions p.answers p.clients (plain_option (λ n. pos n) p.path) p.key above
-extensions_for roles.Subscriber p above = names_extension p.subject p.dns ∷ subscriber_extensions p.clients digital_signature above
+extensions_for roles.Subordinate p above =
+    subordinate_extensions p.answers p.clients (plain_option (λ n. pos n) p.path) p.key above
+extensions_for roles.Subscriber p above = names_extension p.subject p.dns
+    ∷ subscriber_extensions p.clients digital_signature above
 
 -- a signed part of version 3, without unique identifiers, and so far without extensions
 abbrev pub bare_part : Algorithm → PlainName → PlainOrder → Tbs
-bare_part a issuer p = (pos 2, (p.serial, (a, (issuer, (p.validity, (p.subject, (p.key, (None, (None, (None, tt))))))))))
+bare_part a issuer p = (
+  pos 2,
+  (p.serial, (a, (issuer, (p.validity, (p.subject, (p.key, (None, (None, (None, tt))))))))),
+)
 
 -- a signed part with these extensions
 abbrev pub with_extensions : Tbs → List PlainExtension → Tbs
-with_extensions t es =
-    (t.0, (t.1.0, (t.1.1.0, (t.1.1.1.0, (t.1.1.1.1.0, (t.1.1.1.1.1.0, (t.1.1.1.1.1.1.0, (t.1.1.1.1.1.1.1.0, (t.1.1.1.1.1.1.1.1.0, (Some es, tt))))))))))
+with_extensions t es = (
+  t.0,
+  (
+    t.1.0,
+    (
+      t.1.1.0,
+      (
+        t.1.1.1.0,
+        (
+          t.1.1.1.1.0,
+          (
+            t.1.1.1.1.1.0,
+            (t.1.1.1.1.1.1.0, (t.1.1.1.1.1.1.1.0, (t.1.1.1.1.1.1.1.1.0, (Some es, tt)))),
+          ),
+        ),
+      ),
+    ),
+  ),
+)
 
 -- what is ordered in a role, below what another order asks for
 abbrev pub ordered_part : Role → PlainOrder → PlainOrder → Algorithm → Tbs
-ordered_part role p above a = with_extensions (bare_part a above.subject p) (extensions_for role p above.key)
+ordered_part role p above a =
+    with_extensions (bare_part a above.subject p) (extensions_for role p above.key)
 
 -- its octets
 abbrev pub part_octets : Tbs → List ℕ

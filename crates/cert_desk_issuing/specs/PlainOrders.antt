@@ -1,5 +1,6 @@
 -- What orders ask for.
-use Rattle.std.specs.Prelude.{◌≡◌, ℕ, ℤ, ◌<◌, ◌≤◌, ◌^◌, List, length, Bool, true, Option, Some, IfSome, nat_lt, slice_get, string_bytes}
+use Rattle.std.specs.Prelude.{◌≡◌, ℕ, ℤ, ◌<◌, ◌≤◌, ◌^◌, List, length, Bool, true, Option, Some}
+use Rattle.std.specs.Prelude.{IfSome, nat_lt, slice_get, string_bytes}
 use Rattle.std.specs.Bool.{⊤}
 use Rattle.std.specs.List.{list_all}
 use Rattle.der_core_head.specs.Dates.{Civil}
@@ -38,7 +39,8 @@ ends p = civil_of (not_after p.validity)
 abbrev pub HasNamesFor : Role → List (List ℕ) → Type 0
 HasNamesFor roles.Root names = ⊤
 HasNamesFor roles.Subordinate names = ⊤
-HasNamesFor roles.Subscriber names = (0 < length names) × (list_all (λ text. list_all (λ o. nat_lt o 128) text) names ≡ true)
+HasNamesFor roles.Subscriber names = (0 < length names)
+    × (list_all (λ text. list_all (λ o. nat_lt o 128) text) names ≡ true)
 
 -- What an extension can say is asked for: a path length of one octet, and these names.
 pub record IsRight (role : Role) (p : PlainOrder) : Type 0 where
@@ -53,7 +55,8 @@ pub record IsReady (role : Role) (p : PlainOrder) : Type 0 where
 
 -- each is ready for its place
 abbrev pub AreReady : List PlainOrder → Type 0
-AreReady ps = (place : ℕ) (p : PlainOrder) → slice_get ps place ≡ Some p → IsReady (role_at (length ps) place) p
+AreReady ps = (place : ℕ) (p : PlainOrder) → slice_get ps place ≡ Some p
+    → IsReady (role_at (length ps) place) p
 
 abbrev pub accepted_plain : Accepted → PlainOrder
 accepted_plain a = record {

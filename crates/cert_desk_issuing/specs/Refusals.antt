@@ -1,6 +1,7 @@
--- Why no chain is issued. The reasons stand in their order: for one at a place, the orders before and what is asked before of this one
--- are right.
-use Rattle.std.specs.Prelude.{◌≡◌, ◌≢◌, ◌⊎◌, ℕ, ℤ, ◌<◌, List, [], length, map, true, false, Option, Some, None, Ok, Err, slice_get, string_bytes}
+-- Why no chain is issued. The reasons stand in their order: for one at a place, the orders before
+-- and what is asked before of this one are right.
+use Rattle.std.specs.Prelude.{◌≡◌, ◌≢◌, ◌⊎◌, ℕ, ℤ, ◌<◌, List, [], length, map, true, false, Option}
+use Rattle.std.specs.Prelude.{Some, None, Ok, Err, slice_get, string_bytes}
 use Rattle.std.specs.Bool.{⊤}
 use Rattle.const_oid.specs.Bound.{Bound}
 use Rattle.der_core_head.specs.BitStrings.{Bits}
@@ -30,12 +31,14 @@ use Rattle.cert_desk_issuing.specs.declared.role.Role.{Role}
 use Rattle.cert_desk_issuing.specs.declared.role.Role.TheVariants as roles
 use Rattle.cert_desk_issuing.specs.declared.stop.Stop.{Stop}
 use Rattle.cert_desk_issuing.specs.declared.stop.Stop.TheVariants as stops
-use Rattle.cert_desk_issuing.specs.Acceptance.{AcceptedOrders, AcceptsFront, IsNamedFor, IsTextOf, SpellDates, names_subscriber}
+use Rattle.cert_desk_issuing.specs.Acceptance.{AcceptedOrders, AcceptsFront, IsNamedFor, IsTextOf}
+use Rattle.cert_desk_issuing.specs.Acceptance.{SpellDates, names_subscriber}
 use Rattle.cert_desk_issuing.specs.Ordered.{dns_names, ordered_part, part_octets}
 use Rattle.cert_desk_issuing.specs.PlainOrders.{HasNamesFor, PlainOrder}
 use Rattle.cert_desk_issuing.specs.Roles.{place_above, role_at, signers_for}
 
--- What is asked of an order, in this order: a name that may stand there, a serial number, dates, DNS names, and the signer's key.
+-- What is asked of an order, in this order: a name that may stand there, a serial number, dates,
+-- DNS names, and the signer's key.
 abbrev pub HasName : Role → Order → Type 0
 HasName role o = (n : PlainName) × SpellsName Bound (string_bytes o.name) n × IsNamedFor role n
 
@@ -43,7 +46,8 @@ abbrev pub HasSerial : Order → Type 0
 HasSerial o = (z : ℤ) × (new_serial o.serial.items ≡ Ok z)
 
 abbrev pub HasDates : Order → Type 0
-HasDates o = (v : PlainValidity) × SpellDates (string_bytes o.not_before) (string_bytes o.not_after) v
+HasDates o = (v : PlainValidity) × SpellDates (string_bytes o.not_before) (string_bytes o.not_after)
+    v
 
 abbrev pub HasNames : Role → Order → Type 0
 HasNames role o = HasNamesFor role (plain_list string_bytes o.dns.items)
@@ -56,7 +60,8 @@ IsNoDate text = (c : Civil) → is_civil c ≡ true → text ≢ date_text c
 abbrev pub HasFaultyDates : Order → Type 0
 HasFaultyDates o =
     IsNoDate (string_bytes o.not_before) ⊎ IsNoDate (string_bytes o.not_after)
-    ⊎ ((before : Civil) × (after : Civil) × IsTextOf (string_bytes o.not_before) before × IsTextOf (string_bytes o.not_after) after
+    ⊎ ((before : Civil) × (after : Civil) × IsTextOf (string_bytes o.not_before) before
+    × IsTextOf (string_bytes o.not_after) after
     × (unix_seconds after < unix_seconds before))
 
 abbrev pub IsOtherKey : Option PublicKey → PublicKey → Type 0
@@ -65,34 +70,43 @@ IsOtherKey None k = ⊥
 
 -- why a name isn't one that the certificate of a role may have
 abbrev pub RefusesName : Role → PlainName → Fault → Type 0
-RefusesName role n (faults.RootName e) = (role ≡ roles.Root) × NamesAuthority {X = Unit {0}} n (Err e) × (IsWantOfMemory e → ⊥)
+RefusesName role n (faults.RootName e) = (role ≡ roles.Root)
+    × NamesAuthority {X = Unit {0}} n (Err e) × (IsWantOfMemory e → ⊥)
 RefusesName role n faults.SubscriberName = (role ≡ roles.Subscriber) × (names_subscriber n ≡ false)
 RefusesName role n faults.OutOfMemory = ⊤
 RefusesName role n _ = ⊥
 
 -- Why an order is refused in a role, beside a signer of this key: what is asked before is right.
 abbrev pub RefusesOrder : Role → Option PublicKey → Order → Fault → Type 0
-RefusesOrder role key o faults.Name = (e : ErrorKind) × ReadsName Bound (string_bytes o.name) (Err e)
-RefusesOrder role key o (faults.RootName e) = (n : PlainName) × SpellsName Bound (string_bytes o.name) n × RefusesName role n (faults.RootName e)
-RefusesOrder role key o faults.SubscriberName = (n : PlainName) × SpellsName Bound (string_bytes o.name) n × RefusesName role n faults.SubscriberName
-RefusesOrder role key o faults.Serial = HasName role o × ((e : ErrorKind) × (new_serial o.serial.items ≡ Err e))
+RefusesOrder role key o faults.Name = (e : ErrorKind)
+    × ReadsName Bound (string_bytes o.name) (Err e)
+RefusesOrder role key o (faults.RootName e) = (n : PlainName)
+    × SpellsName Bound (string_bytes o.name) n × RefusesName role n (faults.RootName e)
+RefusesOrder role key o faults.SubscriberName = (n : PlainName)
+    × SpellsName Bound (string_bytes o.name) n × RefusesName role n faults.SubscriberName
+RefusesOrder role key o faults.Serial = HasName role o
+    × ((e : ErrorKind) × (new_serial o.serial.items ≡ Err e))
 RefusesOrder role key o faults.Dates = HasName role o × HasSerial o × HasFaultyDates o
-RefusesOrder role key o faults.DnsName = HasName role o × HasSerial o × HasDates o × (HasNames role o → ⊥)
-RefusesOrder role key o faults.KeyMismatch = HasName role o × HasSerial o × HasDates o × HasNames role o × IsOtherKey key (key_plain o.key)
+RefusesOrder role key o faults.DnsName = HasName role o × HasSerial o × HasDates o
+    × (HasNames role o → ⊥)
+RefusesOrder role key o faults.KeyMismatch = HasName role o × HasSerial o × HasDates o
+    × HasNames role o × IsOtherKey key (key_plain o.key)
 RefusesOrder role key o faults.OutOfMemory = ⊤
 
 -- the order at a place is refused
-pub record IsRefusedAt (orders : List Order) (keys : List PublicKey) (place : ℕ) (f : Fault) : Type 0 where
+pub record IsRefusedAt (orders : List Order) (keys : List PublicKey) (place : ℕ) (f : Fault) : Type
+    0 where
   pub order : Order
   pub stands : slice_get orders place ≡ Some order
   pub refused : RefusesOrder (role_at (length orders) place) (slice_get keys place) order f
 
 -- and the orders before it are accepted
-pub record RefusesAt (orders : List Order) (keys : List PublicKey) (place : ℕ) (f : Fault) : Type 0 where
-  pub asked : List PlainOrder
-  pub before : AcceptsFront orders keys asked
-  pub here : length asked ≡ place
-  pub refused : IsRefusedAt orders keys place f
+pub record RefusesAt (orders : List Order) (keys : List PublicKey) (place : ℕ) (f : Fault) : Type 0
+  where
+    pub asked : List PlainOrder
+    pub before : AcceptsFront orders keys asked
+    pub here : length asked ≡ place
+    pub refused : IsRefusedAt orders keys place f
 
 abbrev pub HasNoEncoding : (s : Shape) → Value s → Type 0
 HasNoEncoding s v = IsValid s v → ⊥
@@ -109,7 +123,8 @@ IsStopOf k s = (s ≡ stops.OutOfMemory) ⊎ ((s ≡ stops.TooLong) × (k ≢ ki
 
 -- the names or the signed part have no encoding
 abbrev pub HasNoPart : List (List ℕ) → Tbs → Type 0
-HasNoPart dns t = HasNoEncoding (general_names Bound) (dns_names dns) ⊎ HasNoEncoding (tbs_certificate Bound None) t
+HasNoPart dns t = HasNoEncoding (general_names Bound) (dns_names dns)
+    ⊎ HasNoEncoding (tbs_certificate Bound None) t
 
 -- why a signed part isn't made
 abbrev pub StopsPart : List (List ℕ) → Tbs → Stop → Type 0
@@ -117,28 +132,37 @@ StopsPart dns t stops.Refused = ⊥
 StopsPart dns t stops.TooLong = HasNoPart dns t
 StopsPart dns t stops.OutOfMemory = ⊤
 
--- A length passes 2^32 - 1: the names, the signed part or the certificate, with bits that its signer may give, have no encoding.
+-- A length passes 2^32 - 1: the names, the signed part or the certificate, with bits that its
+-- signer may give, have no encoding.
 abbrev pub IsTooLong : (List ℕ → Bits → Type 0) → Algorithm → List (List ℕ) → Tbs → Type 0
-IsTooLong signs a dns t = HasNoPart dns t ⊎ ((bits : Bits) × signs (part_octets t) bits × HasNoEncoding (certificate Bound None) (t, (a, (bits, tt))))
+IsTooLong signs a dns t = HasNoPart dns t
+    ⊎ ((bits : Bits) × signs (part_octets t) bits
+    × HasNoEncoding (certificate Bound None) (t, (a, (bits, tt))))
 
 -- why the certificate of a signed part isn't made
-abbrev pub Stops : (List ℕ → Type 0) → (List ℕ → Bits → Type 0) → Algorithm → List (List ℕ) → Tbs → Stop → Type 0
+abbrev pub Stops : (List ℕ → Type 0) → (List ℕ → Bits → Type 0) → Algorithm → List (List ℕ) → Tbs
+    → Stop → Type 0
 Stops may_refuse signs a dns t stops.Refused = may_refuse (part_octets t)
 Stops may_refuse signs a dns t stops.TooLong = IsTooLong signs a dns t
 Stops may_refuse signs a dns t stops.OutOfMemory = ⊤
 
 -- no certificate is made at a place
-pub record IsStoppedAt {S : Type 0} (algorithm : S → Algorithm) (signs : S → List ℕ → Bits → Type 0) (may_refuse : S → List ℕ → Type 0) (asked : List PlainOrder) (signers : List S) (place : ℕ) (stop : Stop) : Type 0 where
+pub record IsStoppedAt {S : Type 0} (algorithm : S → Algorithm) (signs : S → List ℕ → Bits → Type 0)
+    (may_refuse : S → List ℕ → Type 0) (asked : List PlainOrder) (signers : List S) (place : ℕ)
+    (stop : Stop) : Type 0 where
   pub order : PlainOrder
   pub above : PlainOrder
   pub signer : S
   pub order_is : slice_get asked place ≡ Some order
   pub above_is : slice_get asked (place_above place) ≡ Some above
   pub signer_is : slice_get signers (place_above place) ≡ Some signer
-  pub stops : Stops (may_refuse signer) (signs signer) (algorithm signer) order.dns (ordered_part (role_at (length asked) place) order above (algorithm signer)) stop
+  pub stops : Stops (may_refuse signer) (signs signer) (algorithm signer) order.dns
+      (ordered_part (role_at (length asked) place) order above (algorithm signer)) stop
 
 -- all orders are accepted, and at a place no certificate is made
-pub record StopsAt {S : Type 0} (key : S → PublicKey) (algorithm : S → Algorithm) (signs : S → List ℕ → Bits → Type 0) (may_refuse : S → List ℕ → Type 0) (orders : List Order) (signers : List S) (place : ℕ) (stop : Stop) : Type 0 where
+pub record StopsAt {S : Type 0} (key : S → PublicKey) (algorithm : S → Algorithm)
+    (signs : S → List ℕ → Bits → Type 0) (may_refuse : S → List ℕ → Type 0) (orders : List Order)
+    (signers : List S) (place : ℕ) (stop : Stop) : Type 0 where
   pub asked : List PlainOrder
   pub accepted : AcceptedOrders orders (map key signers) asked
   pub stopped : IsStoppedAt algorithm signs may_refuse asked signers place stop
@@ -161,19 +185,31 @@ stop_at place stops.OutOfMemory = errors.OutOfMemory
 
 -- so many signers as the orders need, and one of them is refused
 abbrev pub Faults : {S : Type 0} → (S → PublicKey) → List Order → List S → ℕ → Fault → Type 0
-Faults key orders signers place f = (length signers ≡ signers_for (length orders)) × RefusesAt orders (map key signers) place f
+Faults key orders signers place f = (length signers ≡ signers_for (length orders))
+    × RefusesAt orders (map key signers) place f
 
 -- Why no chain is issued.
-abbrev pub Refuses : {S : Type 0} → (S → PublicKey) → (S → Algorithm) → (S → List ℕ → Bits → Type 0) → (S → List ℕ → Type 0) → List Order → List S → IssueError → Type 0
+abbrev pub Refuses : {S : Type 0} → (S → PublicKey) → (S → Algorithm) → (S → List ℕ → Bits → Type 0)
+    → (S → List ℕ → Type 0) → List Order → List S → IssueError → Type 0
 Refuses key algorithm signs may_refuse orders signers errors.NoOrders = orders ≡ []
-Refuses key algorithm signs may_refuse orders signers errors.SignerCount = (0 < length orders) × (length signers ≢ signers_for (length orders))
-Refuses key algorithm signs may_refuse orders signers (errors.Name place) = Faults key orders signers place faults.Name
-Refuses key algorithm signs may_refuse orders signers (errors.RootName place e) = Faults key orders signers place (faults.RootName e)
-Refuses key algorithm signs may_refuse orders signers (errors.SubscriberName place) = Faults key orders signers place faults.SubscriberName
-Refuses key algorithm signs may_refuse orders signers (errors.Serial place) = Faults key orders signers place faults.Serial
-Refuses key algorithm signs may_refuse orders signers (errors.Dates place) = Faults key orders signers place faults.Dates
-Refuses key algorithm signs may_refuse orders signers (errors.DnsName place) = Faults key orders signers place faults.DnsName
-Refuses key algorithm signs may_refuse orders signers (errors.KeyMismatch place) = Faults key orders signers place faults.KeyMismatch
-Refuses key algorithm signs may_refuse orders signers (errors.Signer place) = StopsAt key algorithm signs may_refuse orders signers place stops.Refused
-Refuses key algorithm signs may_refuse orders signers (errors.TooLong place) = StopsAt key algorithm signs may_refuse orders signers place stops.TooLong
+Refuses key algorithm signs may_refuse orders signers errors.SignerCount = (0 < length orders)
+    × (length signers ≢ signers_for (length orders))
+Refuses key algorithm signs may_refuse orders signers (errors.Name place) =
+    Faults key orders signers place faults.Name
+Refuses key algorithm signs may_refuse orders signers (errors.RootName place e) =
+    Faults key orders signers place (faults.RootName e)
+Refuses key algorithm signs may_refuse orders signers (errors.SubscriberName place) =
+    Faults key orders signers place faults.SubscriberName
+Refuses key algorithm signs may_refuse orders signers (errors.Serial place) =
+    Faults key orders signers place faults.Serial
+Refuses key algorithm signs may_refuse orders signers (errors.Dates place) =
+    Faults key orders signers place faults.Dates
+Refuses key algorithm signs may_refuse orders signers (errors.DnsName place) =
+    Faults key orders signers place faults.DnsName
+Refuses key algorithm signs may_refuse orders signers (errors.KeyMismatch place) =
+    Faults key orders signers place faults.KeyMismatch
+Refuses key algorithm signs may_refuse orders signers (errors.Signer place) =
+    StopsAt key algorithm signs may_refuse orders signers place stops.Refused
+Refuses key algorithm signs may_refuse orders signers (errors.TooLong place) =
+    StopsAt key algorithm signs may_refuse orders signers place stops.TooLong
 Refuses key algorithm signs may_refuse orders signers errors.OutOfMemory = ⊤

@@ -30,35 +30,47 @@ signer_key s = key_plain s.key
 abbrev pub signing_keys : List Order → List PublicKey
 signing_keys orders = map key_of (take (signers_for (length orders)) orders)
 
--- What becomes of orders whose own keys sign, each by digests: a chain that holds them, or why there is none. No such signer refuses, and
--- orders that are accepted and whose lengths fit aren't refused.
+-- What becomes of orders whose own keys sign, each by digests: a chain that holds them, or why
+-- there is none. No such signer refuses, and orders that are accepted and whose lengths fit aren't
+-- refused.
 abbrev pub OrdersBecome : List Order → Outcome → Type 0
-OrdersBecome orders (outcomes.Issued issued) = IssuedChain (λ k. k) (λ k. digest_algorithm) IsDigestOf orders (signing_keys orders) issued.stream
+OrdersBecome orders (outcomes.Issued issued) =
+    IssuedChain (λ k. k) (λ k. digest_algorithm) IsDigestOf orders (signing_keys orders)
+    issued.stream
 OrdersBecome orders (outcomes.Refused error) =
-    Refuses (λ k. k) (λ k. digest_algorithm) IsDigestOf (λ k octets. ⊥) orders (signing_keys orders) error
-    × (AreIssuable (λ k. k) (λ k. digest_algorithm) IsDigestOf (λ k octets. ⊥) orders (signing_keys orders) → ⊥)
+    Refuses (λ k. k) (λ k. digest_algorithm) IsDigestOf (λ k octets. ⊥) orders (signing_keys orders)
+    error
+    × (AreIssuable (λ k. k) (λ k. digest_algorithm) IsDigestOf (λ k octets. ⊥) orders
+    (signing_keys orders) → ⊥)
 OrdersBecome orders (outcomes.BadLine line) = ⊥
 OrdersBecome orders outcomes.Device = ⊥
 OrdersBecome orders outcomes.OutOfMemory = Unit {0}
 
--- What an orders file comes to: what becomes of orders, where all of it was read; the faulty line that is told, its first one where it
--- has too many octets; or why it wasn't read.
+-- What an orders file comes to: what becomes of orders, where all of it was read; the faulty line
+-- that is told, its first one where it has too many octets; or why it wasn't read.
 abbrev pub FileBecomes : Device → Outcome → Type 0
 FileBecomes input (outcomes.Issued issued) =
-    (octets : List ℕ) × IsWhole input most_octets octets × ((orders : List Order) × OrdersBecome orders (outcomes.Issued issued))
+    (octets : List ℕ) × IsWhole input most_octets octets
+    × ((orders : List Order) × OrdersBecome orders (outcomes.Issued issued))
 FileBecomes input (outcomes.Refused error) =
-    (octets : List ℕ) × IsWhole input most_octets octets × ((orders : List Order) × OrdersBecome orders (outcomes.Refused error))
+    (octets : List ℕ) × IsWhole input most_octets octets
+    × ((orders : List Order) × OrdersBecome orders (outcomes.Refused error))
 FileBecomes input (outcomes.BadLine line) =
-    ((octets : List ℕ) × IsWhole input most_octets octets) ⊎ (IsUnread input most_octets reasons.TooMuch × (line ≡ 1))
+    ((octets : List ℕ) × IsWhole input most_octets octets)
+    ⊎ (IsUnread input most_octets reasons.TooMuch × (line ≡ 1))
 FileBecomes input outcomes.Device = IsUnread input most_octets reasons.Device
-FileBecomes input outcomes.OutOfMemory = ((octets : List ℕ) × IsWhole input most_octets octets) ⊎ IsUnread input most_octets reasons.OutOfMemory
+FileBecomes input outcomes.OutOfMemory = ((octets : List ℕ) × IsWhole input most_octets octets)
+    ⊎ IsUnread input most_octets reasons.OutOfMemory
 
--- What is told of an outcome, and the status. Where there is no memory for the text, this is told in its place.
+-- What is told of an outcome, and the status. Where there is no memory for the text, this is told
+-- in its place.
 abbrev pub IsTold : Device → Device → Outcome → ExitStatus → Type 0
 IsTold out err (outcomes.Issued issued) answer = IsAnswer out err issued.stream statuses.Done answer
 IsTold out err (outcomes.Refused error) answer =
-    Untouched out × (IsComplaint err (refusal_line error) statuses.Refused answer ⊎ IsMemoryTold err answer)
+    Untouched out
+    × (IsComplaint err (refusal_line error) statuses.Refused answer ⊎ IsMemoryTold err answer)
 IsTold out err (outcomes.BadLine line) answer =
-    Untouched out × (IsComplaint err (fault_line line) statuses.Arguments answer ⊎ IsMemoryTold err answer)
+    Untouched out
+    × (IsComplaint err (fault_line line) statuses.Arguments answer ⊎ IsMemoryTold err answer)
 IsTold out err outcomes.Device answer = Untouched out × IsDeviceTold err answer
 IsTold out err outcomes.OutOfMemory answer = Untouched out × IsMemoryTold err answer

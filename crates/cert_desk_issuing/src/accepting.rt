@@ -1,18 +1,23 @@
 //! Which orders are accepted.
 
-ghost use Rattle.std.specs.Prelude.{◌≡◌, ◌↔◌, ◌<◌, ◌^◌, ◌∷◌, [], true, false, string_bytes, nat_lt, Option, None, Ok, IsTrue, IfOk, IfErr, IfSome, OnOk};
+ghost use Rattle.std.specs.Prelude.{◌≡◌, ◌↔◌, ◌<◌, ◌^◌, ◌∷◌, [], true, false, string_bytes, nat_lt};
+ghost use Rattle.std.specs.Prelude.{Option, None, Ok, IsTrue, IfOk, IfErr, IfSome, OnOk};
 ghost use Rattle.std.specs.List.{list_all};
 ghost use Rattle.const_oid.specs.Bound.{Bound};
 ghost use Rattle.der_core_head.specs.Grammar.{plain_list, plain_option};
-ghost use Rattle.cert_desk_checking.specs.Builders.{IsWantOfMemory, common_name, country, is_among, may_stay};
+ghost use Rattle.cert_desk_checking.specs.Builders.{IsWantOfMemory, common_name, country, is_among};
+ghost use Rattle.cert_desk_checking.specs.Builders.{may_stay};
 ghost use Rattle.cert_desk_checking.specs.Certificates.{PublicKey};
 ghost use Rattle.cert_desk_checking.specs.Parts.{relative_plain, time_of};
 ghost use Rattle.cert_desk_orders.specs.SerialNumbers.{new_serial};
 ghost use Rattle.cert_desk_checking.specs.Texts.{SpellsName};
-ghost use Rattle.cert_desk_checking.specs.Views.{key_plain, name_plain, time_date, time_value, validity_plain};
-ghost use Rattle.cert_desk_issuing.specs.Acceptance.{IsAccepted, IsKeyOf, IsNamedFor, IsTextOf, SpellDates, names_subscriber};
+ghost use Rattle.cert_desk_checking.specs.Views.{key_plain, name_plain, time_date, time_value};
+ghost use Rattle.cert_desk_checking.specs.Views.{validity_plain};
+ghost use Rattle.cert_desk_issuing.specs.Acceptance.{IsAccepted, IsKeyOf, IsNamedFor, IsTextOf};
+ghost use Rattle.cert_desk_issuing.specs.Acceptance.{SpellDates, names_subscriber};
 ghost use Rattle.cert_desk_issuing.specs.PlainOrders.{HasNamesFor, accepted_plain};
-ghost use Rattle.cert_desk_issuing.specs.Refusals.{HasFaultyDates, HasName, IsNoDate, IsOtherKey, RefusesName, RefusesOrder};
+ghost use Rattle.cert_desk_issuing.specs.Refusals.{HasFaultyDates, HasName, IsNoDate, IsOtherKey};
+ghost use Rattle.cert_desk_issuing.specs.Refusals.{RefusesName, RefusesOrder};
 
 use crate::accepted::Accepted;
 use crate::attribute_types as types;
@@ -32,7 +37,8 @@ use std::str::FromStr;
 /// The name that the text of an order spells.
 fn name_of(alloc: Global, order: &Order) -> Result<Name, Fault>
     ensures spelled { IfOk result (λ n. SpellsName Bound (string_bytes order.now.name) (name_plain n)) }
-    ensures refused { (role : Role) (key : Option PublicKey) → IfErr result (λ f. RefusesOrder role key order.now f) }
+    ensures refused { (role : Role) (key : Option PublicKey)
+        → IfErr result (λ f. RefusesOrder role key order.now f) }
 {
     match Name::from_str(alloc, order.name.as_str()) {
         Ok(name) => Ok(name),
@@ -121,7 +127,8 @@ fn check_name(alloc: Global, role: Role, subject: &Name) -> Result<(), Fault>
 fn subject_of(alloc: Global, role: Role, order: &Order) -> Result<Name, Fault>
     ensures spelled { IfOk result (λ n. SpellsName Bound (string_bytes order.now.name) (name_plain n)) }
     ensures right { IfOk result (λ n. IsNamedFor role (name_plain n)) }
-    ensures refused { (key : Option PublicKey) → IfErr result (λ f. RefusesOrder role key order.now f) }
+    ensures refused { (key : Option PublicKey)
+        → IfErr result (λ f. RefusesOrder role key order.now f) }
 {
     let subject = match name_of(alloc, order) {
         Ok(subject) => subject,
@@ -136,7 +143,8 @@ fn subject_of(alloc: Global, role: Role, order: &Order) -> Result<Name, Fault>
 /// The serial number of an order whose name is right.
 fn serial_of(alloc: Global, order: &Order) -> Result<SerialNumber, Fault>
     ensures number { IfOk result (λ n. new_serial order.now.serial.items ≡ Ok n) }
-    ensures refused { (role : Role) (key : Option PublicKey) → HasName role order.now → IfErr result (λ f. RefusesOrder role key order.now f) }
+    ensures refused { (role : Role) (key : Option PublicKey) → HasName role order.now
+        → IfErr result (λ f. RefusesOrder role key order.now f) }
 {
     match SerialNumber::new(alloc, order.serial.as_slice()) {
         Ok(serial) => Ok(serial),
@@ -166,7 +174,9 @@ fn date_of(text: &str) -> Option<Time>
 
 /// The dates of an order.
 fn validity_of(order: &Order) -> Option<Validity>
-    ensures dates { IfSome result (λ v. SpellDates (string_bytes order.now.not_before) (string_bytes order.now.not_after) (validity_plain v)) }
+    ensures dates { IfSome result
+        (λ v. SpellDates (string_bytes order.now.not_before) (string_bytes order.now.not_after)
+        (validity_plain v)) }
     ensures faulty { result ≡ None → HasFaultyDates order.now }
 {
     let Some(not_before) = date_of(order.not_before.as_str()) else {
@@ -195,7 +205,8 @@ fn is_ascii(text: &str) -> bool
 
 /// Whether each text is ASCII.
 fn are_ascii(texts: &[String]) -> bool
-    ensures { result ≡ list_all (λ text. list_all (λ o. nat_lt o 128) text) (plain_list string_bytes texts.now) }
+    ensures { result ≡ list_all (λ text. list_all (λ o. nat_lt o 128) text)
+        (plain_list string_bytes texts.now) }
 {
     for text in texts {
         if !is_ascii(text.as_str()) {
@@ -232,8 +243,10 @@ fn is_same_key(one: &SubjectPublicKeyInfo, other: &SubjectPublicKeyInfo) -> bool
 
 /// Whether the key of an order is its signer's, if it needs one.
 fn is_key_of(signer_key: Option<&SubjectPublicKeyInfo>, key: &SubjectPublicKeyInfo) -> bool
-    ensures same { IsTrue result → IsKeyOf (plain_option (λ k. key_plain k.now) signer_key.entry) (key_plain key.now) }
-    ensures other { result ≡ false → IsOtherKey (plain_option (λ k. key_plain k.now) signer_key.entry) (key_plain key.now) }
+    ensures same { IsTrue result → IsKeyOf (plain_option (λ k. key_plain k.now) signer_key.entry)
+        (key_plain key.now) }
+    ensures other { result ≡ false → IsOtherKey (plain_option (λ k. key_plain k.now) signer_key.entry)
+        (key_plain key.now) }
 {
     match signer_key {
         Some(signer_key) => is_same_key(signer_key, key),
@@ -248,8 +261,10 @@ pub(crate) fn accept_one<'a>(
     order: &'a Order,
     signer_key: Option<&SubjectPublicKeyInfo>,
 ) -> Result<Accepted<'a>, Fault>
-    ensures accepted { IfOk result (λ a. IsAccepted role (plain_option (λ k. key_plain k.now) signer_key.entry) order.now (accepted_plain a)) }
-    ensures refused { IfErr result (λ f. RefusesOrder role (plain_option (λ k. key_plain k.now) signer_key.entry) order.now f) }
+    ensures accepted { IfOk result (λ a. IsAccepted role (plain_option (λ k. key_plain k.now) signer_key.entry)
+        order.now (accepted_plain a)) }
+    ensures refused { IfErr result
+        (λ f. RefusesOrder role (plain_option (λ k. key_plain k.now) signer_key.entry) order.now f) }
 {
     let subject = match subject_of(alloc, role, order) {
         Ok(subject) => subject,

@@ -11,7 +11,8 @@ use der_core::{
     ShapedValue, Tag, Writer,
 };
 
-/// What is signed as it stands, the algorithm, and the signature (RFC 5280 4.1, 5.1; RFC 2986 4.2), lent.
+/// What is signed as it stands, the algorithm, and the signature (RFC 5280 4.1, 5.1; RFC 2986 4.2),
+/// lent.
 ///
 /// ```text
 /// SIGNED{ToBeSigned} ::= SEQUENCE {

@@ -26,12 +26,13 @@ use std::alloc::Global;
 impl Issued {
     /// The verdict of `check` on the stream, with the first certificate as the only anchor.
     ///
-    /// Whatever orders the stream holds, it is trusted exactly where the moment lies within all dates, each order allows the purpose,
-    /// the path lengths are enough, each certificate is within the limit, and the judge says yes to each signature under the ordered key.
+    /// Whatever orders the stream holds, it is trusted exactly where the moment lies within all
+    /// dates, each order allows the purpose, the path lengths are enough, each certificate is
+    /// within the limit, and the judge says yes to each signature under the ordered key.
     ///
     /// # Errors
-    /// Want of memory. The judge wasn't asked, or was about the certificates before some place, which
-    /// keep every rule.
+    /// Want of memory. The judge wasn't asked, or was about the certificates before some place,
+    /// which keep every rule.
     pub fn audit<J: SignatureJudge>(
         &self,
         alloc: Global,
@@ -41,20 +42,28 @@ impl Issued {
         judge: &mut J,
     ) -> Result<Checked, CheckError>
         requires { 6 ≤ limit }
-        ensures verdict { IfOk result (λ checked. (root : PlainOrder) (below : List PlainOrder) (cs : List PlainCertificate)
+        ensures verdict { IfOk result
+            (λ checked. (root : PlainOrder) (below : List PlainOrder) (cs : List PlainCertificate)
             → HoldsOrders (root ∷ below) cs self.now.stream
-            → IsVerdict (terms_for root moment purpose.now (J.answers judge.old)) limit self.now.stream checked.verdict) }
-        ensures trusted { IfOk result (λ checked. (root : PlainOrder) (below : List PlainOrder) (cs : List PlainCertificate)
+            → IsVerdict (terms_for root moment purpose.now (J.answers judge.old)) limit
+            self.now.stream checked.verdict) }
+        ensures trusted { IfOk result
+            (λ checked. (root : PlainOrder) (below : List PlainOrder) (cs : List PlainCertificate)
             → HoldsOrders (root ∷ below) cs self.now.stream
-            → (checked.verdict ≡ verdicts.Trusted) ↔ Permits limit moment purpose.now (J.answers judge.old) (root ∷ below) cs) }
-        ensures counted { IfOk result (λ checked. (root : PlainOrder) (below : List PlainOrder) (cs : List PlainCertificate)
+            → (checked.verdict ≡ verdicts.Trusted)
+            ↔ Permits limit moment purpose.now (J.answers judge.old) (root ∷ below) cs) }
+        ensures counted { IfOk result
+            (λ checked. (root : PlainOrder) (below : List PlainOrder) (cs : List PlainCertificate)
             → HoldsOrders (root ∷ below) cs self.now.stream
-            → IsCounted (terms_for root moment purpose.now (J.answers judge.old)) limit self.now.stream checked (J.questions judge.old) (J.questions judge.new)) }
+            → IsCounted (terms_for root moment purpose.now (J.answers judge.old)) limit
+            self.now.stream checked (J.questions judge.old) (J.questions judge.new)) }
         ensures kept { J.answers judge.new ≡ J.answers judge.old }
         ensures refused { IfErr result (λ e. e ≡ errors.OutOfMemory) }
-        ensures stopped { OnErr result ((judge.new ≡ judge.old) ⊎ ((root : PlainOrder) (below : List PlainOrder) (cs : List PlainCertificate)
+        ensures stopped { OnErr result ((judge.new ≡ judge.old)
+            ⊎ ((root : PlainOrder) (below : List PlainOrder) (cs : List PlainCertificate)
             → HoldsOrders (root ∷ below) cs self.now.stream
-            → StopsAsking (terms_for root moment purpose.now (J.answers judge.old)) limit self.now.stream (J.questions judge.old) (J.questions judge.new))) }
+            → StopsAsking (terms_for root moment purpose.now (J.answers judge.old)) limit
+            self.now.stream (J.questions judge.old) (J.questions judge.new))) }
     {
         let anchors = anchors_of(alloc, self.certificates())?;
         let bundle = read(alloc, limit, self.stream());
@@ -80,7 +89,9 @@ fn anchor_of(alloc: Global, root: &Certificate) -> Result<Anchor, CheckError>
 
 /// The first certificate, as the only anchor.
 fn anchors_of(alloc: Global, certificates: &[Certificate]) -> Result<Vec<Anchor>, CheckError>
-    ensures copied { IfOk result (λ v. map anchor_plain v.items ≡ root_anchors (plain_list (λ c. as_written (certificate_plain c)) certificates.now)) }
+    ensures copied { IfOk result
+        (λ v. map anchor_plain v.items
+        ≡ root_anchors (plain_list (λ c. as_written (certificate_plain c)) certificates.now)) }
     ensures refused { IfErr result (λ e. e ≡ errors.OutOfMemory) }
 {
     let mut anchors = Vec::new(alloc);

@@ -29,8 +29,9 @@ fn digest_algorithm() -> AlgorithmIdentifier
     }
 }
 
-/// A signer whose bits are the 32 octets of the SHA-256 digest (FIPS 180-4) over the octets of its key's bit string followed by the
-/// signed octets, and whose algorithm is 1.3.6.1.4.1.32473.2 without parameters. `DigestJudge` accepts these bits, and no others.
+/// A signer whose bits are the 32 octets of the SHA-256 digest (FIPS 180-4) over the octets of its
+/// key's bit string followed by the signed octets, and whose algorithm is 1.3.6.1.4.1.32473.2
+/// without parameters. `DigestJudge` accepts these bits, and no others.
 ///
 /// It protects nothing: whoever knows the key can make the bits.
 #[derive(Drop)]
@@ -45,8 +46,11 @@ impl DigestSigner {
     pub fn new(key_info: SubjectPublicKeyInfo) -> DigestSigner
         ensures key { ⟦<DigestSigner as Signer>⟧.public_key result ≡ key_plain key_info }
         ensures algorithm { ⟦<DigestSigner as Signer>⟧.signs_by result ≡ digest_algorithm }
-        ensures signs { (octets : List ℕ) (bits : Bits) → ⟦<DigestSigner as Signer>⟧.signs result octets bits ↔ IsDigestOf (key_plain key_info) octets bits }
-        ensures ready { (octets : List ℕ) → ⟦<DigestSigner as Signer>⟧.may_refuse result octets → ⊥ }
+        ensures signs { (octets : List ℕ) (bits : Bits)
+            → ⟦<DigestSigner as Signer>⟧.signs result octets bits
+            ↔ IsDigestOf (key_plain key_info) octets bits }
+        ensures ready { (octets : List ℕ) → ⟦<DigestSigner as Signer>⟧.may_refuse result octets
+            → ⊥ }
     {
         DigestSigner {
             key: key_info,

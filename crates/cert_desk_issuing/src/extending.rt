@@ -5,8 +5,10 @@ ghost use Rattle.const_oid.specs.Bound.{Bound};
 ghost use Rattle.der_core_head.specs.declared.error.ErrorKind.TheVariants.{OutOfMemory};
 ghost use Rattle.der_core_head.specs.Grammar.{plain_list};
 ghost use Rattle.der_core_head.specs.Shapes.{IsValid};
-ghost use Rattle.cert_desk_checking.specs.Builders.{digital_signature, root_extensions, subscriber_extensions};
-ghost use Rattle.cert_desk_checking.specs.Views.{extension_plain, extensions_plain, key_plain, name_plain, tbs_plain};
+ghost use Rattle.cert_desk_checking.specs.Builders.{digital_signature, root_extensions};
+ghost use Rattle.cert_desk_checking.specs.Builders.{subscriber_extensions};
+ghost use Rattle.cert_desk_checking.specs.Views.{extension_plain, extensions_plain, key_plain};
+ghost use Rattle.cert_desk_checking.specs.Views.{name_plain, tbs_plain};
 ghost use Rattle.cert_desk_checking.specs.Extensions.{general_name_plain, general_names};
 ghost use Rattle.cert_desk_issuing.specs.Ordered.{dns_names, extensions_for, names_extension};
 ghost use Rattle.cert_desk_issuing.specs.PlainOrders.{accepted_plain};
@@ -34,7 +36,8 @@ fn extensions_by<P: BuilderProfile>(
     issuer_key: &SubjectPublicKeyInfo,
     part: &TbsCertificate,
 ) -> Result<Extensions, BuilderError>
-    ensures { IfOk result (λ v. extensions_plain v.items ≡ P.extensions profile.now (key_plain key.now) (key_plain issuer_key.now) (tbs_plain part.now)) }
+    ensures { IfOk result (λ v. extensions_plain v.items ≡ P.extensions profile.now (key_plain key.now)
+        (key_plain issuer_key.now) (tbs_plain part.now)) }
 {
     let key = key.owned_to_ref();
     let issuer_key = issuer_key.owned_to_ref();
@@ -48,7 +51,8 @@ fn root_extensions(
     accepted: &Accepted<'_>,
     part: &TbsCertificate,
 ) -> Result<Extensions, BuilderError>
-    ensures { IfOk result (λ v. extensions_plain v.items ≡ root_extensions accepted.now.order.now.ocsp (key_plain accepted.now.order.now.key)) }
+    ensures { IfOk result (λ v. extensions_plain v.items ≡ root_extensions accepted.now.order.now.ocsp
+        (key_plain accepted.now.order.now.key)) }
 {
     let order = accepted.order;
     let subject = accepted.subject.clone(alloc)?;
@@ -64,7 +68,10 @@ fn subordinate_extensions(
     issuer: &Accepted<'_>,
     part: &TbsCertificate,
 ) -> Result<Extensions, BuilderError>
-    ensures { IfOk result (λ v. extensions_plain v.items ≡ extensions_for Role.Subordinate (accepted_plain accepted.now) (key_plain issuer.now.order.now.key)) }
+    ensures { IfOk result
+        (λ v. extensions_plain v.items
+        ≡ extensions_for Role.Subordinate (accepted_plain accepted.now)
+        (key_plain issuer.now.order.now.key)) }
 {
     let order = accepted.order;
     let profile = Subordinate {
@@ -85,7 +92,9 @@ fn subscriber_extensions(
     issuer: &Accepted<'_>,
     part: &TbsCertificate,
 ) -> Result<Extensions, BuilderError>
-    ensures { IfOk result (λ v. extensions_plain v.items ≡ subscriber_extensions accepted.now.order.now.client_auth digital_signature (key_plain issuer.now.order.now.key)) }
+    ensures { IfOk result
+        (λ v. extensions_plain v.items ≡ subscriber_extensions accepted.now.order.now.client_auth
+        digital_signature (key_plain issuer.now.order.now.key)) }
 {
     let order = accepted.order;
     let subject = accepted.subject.clone(alloc)?;
@@ -105,8 +114,10 @@ fn subscriber_extensions(
 
 /// DNS names, as a subject's other names.
 fn names_of(alloc: Global, texts: &[String]) -> Result<SubjectAltName, Error>
-    ensures names { IfOk result (λ n. plain_list general_name_plain n.0.items ≡ dns_names (plain_list string_bytes texts.now)) }
-    ensures refused { IsValid (general_names Bound) (dns_names (plain_list string_bytes texts.now)) → IfErr result (λ e. e.kind ≡ OutOfMemory) }
+    ensures names { IfOk result (λ n. plain_list general_name_plain n.0.items
+        ≡ dns_names (plain_list string_bytes texts.now)) }
+    ensures refused { IsValid (general_names Bound) (dns_names (plain_list string_bytes texts.now))
+        → IfErr result (λ e. e.kind ≡ OutOfMemory) }
 {
     let mut names = Vec::new(alloc);
     for text in texts {
@@ -122,8 +133,10 @@ fn names_extension(
     texts: &[String],
     part: &TbsCertificate,
 ) -> Result<Extension, Error>
-    ensures made { IfOk result (λ e. extension_plain e ≡ names_extension (name_plain part.now.subject) (plain_list string_bytes texts.now)) }
-    ensures refused { IsValid (general_names Bound) (dns_names (plain_list string_bytes texts.now)) → IfErr result (λ e. e.kind ≡ OutOfMemory) }
+    ensures made { IfOk result (λ e. extension_plain e ≡ names_extension (name_plain part.now.subject)
+        (plain_list string_bytes texts.now)) }
+    ensures refused { IsValid (general_names Bound) (dns_names (plain_list string_bytes texts.now))
+        → IfErr result (λ e. e.kind ≡ OutOfMemory) }
 {
     let names = names_of(alloc, texts)?;
     let extension = names.to_extension(alloc, &part.subject, &[])?;
@@ -149,8 +162,13 @@ fn with_names(
     part: &TbsCertificate,
 ) -> Result<Extensions, Stop>
     requires subject { name_plain part.now.subject ≡ name_plain accepted.now.subject }
-    ensures made { IfOk result (λ v. extensions_plain v.items ≡ extensions_for Role.Subscriber (accepted_plain accepted.now) (key_plain issuer.now.order.now.key)) }
-    ensures stops { IfErr result (λ s. StopsEncoding (general_names Bound) (dns_names (plain_list string_bytes accepted.now.order.now.dns.items)) s) }
+    ensures made { IfOk result
+        (λ v. extensions_plain v.items
+        ≡ extensions_for Role.Subscriber (accepted_plain accepted.now)
+        (key_plain issuer.now.order.now.key)) }
+    ensures stops { IfErr result
+        (λ s. StopsEncoding (general_names Bound)
+        (dns_names (plain_list string_bytes accepted.now.order.now.dns.items)) s) }
 {
     let first = names_extension(alloc, accepted.order.dns.as_slice(), part)?;
     let mut more = made(subscriber_extensions(alloc, accepted, issuer, part))?;
@@ -169,8 +187,12 @@ pub(crate) fn extensions_for(
     part: &TbsCertificate,
 ) -> Result<Extensions, Stop>
     requires subject { name_plain part.now.subject ≡ name_plain accepted.now.subject }
-    ensures made { IfOk result (λ v. extensions_plain v.items ≡ extensions_for role (accepted_plain accepted.now) (key_plain issuer.now.order.now.key)) }
-    ensures stops { IfErr result (λ s. StopsEncoding (general_names Bound) (dns_names (plain_list string_bytes accepted.now.order.now.dns.items)) s) }
+    ensures made { IfOk result
+        (λ v. extensions_plain v.items ≡ extensions_for role (accepted_plain accepted.now)
+        (key_plain issuer.now.order.now.key)) }
+    ensures stops { IfErr result
+        (λ s. StopsEncoding (general_names Bound)
+        (dns_names (plain_list string_bytes accepted.now.order.now.dns.items)) s) }
 {
     match role {
         Role::Root => made(root_extensions(alloc, accepted, part)),

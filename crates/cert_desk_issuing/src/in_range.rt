@@ -1,4 +1,5 @@
-//! The parts of what is signed are in their ranges, so that it can fail to have an encoding only by its length.
+//! The parts of what is signed are in their ranges, so that it can fail to have an encoding only by
+//! its length.
 //!
 //! Each is a law of the values of a type, and stands as the contract of a call that does nothing.
 
@@ -7,7 +8,9 @@ ghost use Rattle.const_oid.specs.Bound.{Bound};
 ghost use Rattle.der_core_head.specs.Grammar.{plain_option};
 ghost use Rattle.der_core_head.specs.Ranges.{IsInRange};
 ghost use Rattle.cert_desk_checking.specs.Certificates.{algorithm_identifier, public_key_info};
-ghost use Rattle.cert_desk_checking.specs.Views.{algorithm_plain, extension_plain, extensions_plain, key_plain, tbs_plain, time_value, validity_plain};
+ghost use Rattle.cert_desk_checking.specs.Views.{algorithm_plain, extension_plain};
+ghost use Rattle.cert_desk_checking.specs.Views.{extensions_plain, key_plain, tbs_plain};
+ghost use Rattle.cert_desk_checking.specs.Views.{time_value, validity_plain};
 ghost use Rattle.cert_desk_orders.specs.Grammar.{extension, time, validity};
 ghost use Rattle.cert_desk_issuing.specs.Making.{IsPartInRange, extensions_field};
 

@@ -9,7 +9,8 @@ pub enum IssueError {
     /// There is no order.
     #[error("there is no order")]
     NoOrders,
-    /// There aren't as many signers as are needed: one for each order that is followed by one, and one for a root alone.
+    /// There aren't as many signers as are needed: one for each order that is followed by one, and
+    /// one for a root alone.
     #[error("signers and orders don't fit together")]
     SignerCount,
     /// The text of the name isn't read.

@@ -11,7 +11,8 @@ ghost use Rattle.cert_desk_issuing.specs.Making.{as_written};
 use cert_desk_checking::types::Certificate;
 use std::marker::Model;
 
-/// A chain that was issued: its certificates, the root first, and the stream that joins their encodings.
+/// A chain that was issued: its certificates, the root first, and the stream that joins their
+/// encodings.
 ///
 /// Contracts see both. The certificates are seen as they are written.
 #[derive(Drop)]
@@ -33,7 +34,8 @@ impl Model for Issued {
 impl Issued {
     /// The certificates, the root first.
     pub fn certificates(&self) -> &[Certificate]
-        ensures { plain_list (λ c. as_written (certificate_plain c)) result.now ≡ self.now.certificates }
+        ensures { plain_list (λ c. as_written (certificate_plain c)) result.now
+            ≡ self.now.certificates }
     {
         self.certificates.as_slice()
     }

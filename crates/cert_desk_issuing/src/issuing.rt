@@ -1,6 +1,7 @@
 //! Orders become a chain.
 
-ghost use Rattle.std.specs.Prelude.{◌≡◌, ◌<◌, ◌≤◌, ◌-◌, ◌^◌, List, length, map, slice_get, IfOk, IfErr};
+ghost use Rattle.std.specs.Prelude.{◌≡◌, ◌<◌, ◌≤◌, ◌-◌, ◌^◌, List, length, map, slice_get, IfOk};
+ghost use Rattle.std.specs.Prelude.{IfErr};
 ghost use Rattle.const_oid.specs.Bound.{Bound};
 ghost use Rattle.der_core_head.specs.Limits.{length_max};
 ghost use Rattle.der_core_head.specs.Grammar.{plain_option};
@@ -8,7 +9,8 @@ ghost use Rattle.cert_desk_checking.specs.Certificates.{certificate_octets};
 ghost use Rattle.cert_desk_checking.specs.Views.{key_plain};
 ghost use Rattle.cert_desk_checking.specs.Chains.{Stands};
 ghost use Rattle.cert_desk_issuing.specs.Acceptance.{AcceptedOrders, AcceptsFront, IsAcceptedAt};
-ghost use Rattle.cert_desk_issuing.specs.Chains.{AreSigned, HoldsOrders, IsOrderedAt, IsSignedBy, IssuedChain};
+ghost use Rattle.cert_desk_issuing.specs.Chains.{AreSigned, HoldsOrders, IsOrderedAt, IsSignedBy};
+ghost use Rattle.cert_desk_issuing.specs.Chains.{IssuedChain};
 ghost use Rattle.cert_desk_issuing.specs.Issuable.{AreIssuable};
 ghost use Rattle.cert_desk_issuing.specs.Making.{made_plain};
 ghost use Rattle.cert_desk_issuing.specs.PlainOrders.{AreReady, accepted_plain, orders_plain};
@@ -28,23 +30,27 @@ use cert_desk_checking::types::builder::Signer;
 use cert_desk_orders::Order;
 use std::alloc::Global;
 
-/// The chain that these orders ask for: the first is for its root, the last of two or more for a subscriber, those between for
-/// authorities, each below the one before. The first signer signs the first two certificates, each other one the certificate below its
-/// own.
+/// The chain that these orders ask for: the first is for its root, the last of two or more for a
+/// subscriber, those between for authorities, each below the one before. The first signer signs the
+/// first two certificates, each other one the certificate below its own.
 ///
 /// # Errors
-/// The first of these: `NoOrders`, `SignerCount`; for each order in turn `Name`, `RootName`, `SubscriberName`, `Serial`, `Dates`,
-/// `DnsName`, `KeyMismatch`; then, for each certificate in turn, `Signer` and `TooLong`. `OutOfMemory` at any time. Nothing is handed out
-/// then.
+/// The first of these: `NoOrders`, `SignerCount`; for each order in turn `Name`, `RootName`,
+/// `SubscriberName`, `Serial`, `Dates`, `DnsName`, `KeyMismatch`; then, for each certificate in
+/// turn, `Signer` and `TooLong`. `OutOfMemory` at any time. Nothing is handed out then.
 pub fn issue<S: Signer>(
     alloc: Global,
     orders: &[Order],
     signers: &[S],
 ) -> Result<Issued, IssueError>
-    ensures issued { IfOk result (λ i. IssuedChain S.public_key S.signs_by S.signs orders.now signers.now i.stream) }
-    ensures refused { IfErr result (λ e. Refuses S.public_key S.signs_by S.signs S.may_refuse orders.now signers.now e) }
-    // Orders that are accepted, of which no signer may refuse a part, and whose lengths fit, are issued wherever memory is there.
-    ensures complete { AreIssuable S.public_key S.signs_by S.signs S.may_refuse orders.now signers.now → IfErr result (λ e. e ≡ IssueError.OutOfMemory) }
+    ensures issued { IfOk result (λ i. IssuedChain S.public_key S.signs_by S.signs orders.now signers.now
+        i.stream) }
+    ensures refused { IfErr result (λ e. Refuses S.public_key S.signs_by S.signs S.may_refuse orders.now
+        signers.now e) }
+    // Orders that are accepted, of which no signer may refuse a part, and whose lengths fit, are
+    // issued wherever memory is there.
+    ensures complete { AreIssuable S.public_key S.signs_by S.signs S.may_refuse orders.now signers.now
+        → IfErr result (λ e. e ≡ IssueError.OutOfMemory) }
 {
     if orders.is_empty() {
         return Err(IssueError::NoOrders);
@@ -74,7 +80,8 @@ fn signers_for(count: usize) -> usize
 
 /// The key of the signer at a place, if there is one.
 fn key_at<S: Signer>(signers: &[S], place: usize) -> Option<&SubjectPublicKeyInfo>
-    ensures { plain_option (λ k. key_plain k.now) result ≡ slice_get (map S.public_key signers.now) place }
+    ensures { plain_option (λ k. key_plain k.now) result ≡ slice_get (map S.public_key signers.now)
+        place }
 {
     if place < signers.len() {
         return Some(signers[place].key_info());
@@ -90,7 +97,8 @@ fn accept_at<'a, S: Signer>(
     place: usize,
 ) -> Result<Accepted<'a>, Fault>
     requires { place < length orders.now }
-    ensures accepted { IfOk result (λ a. IsAcceptedAt orders.now (map S.public_key signers.now) place (accepted_plain a)) }
+    ensures accepted { IfOk result
+        (λ a. IsAcceptedAt orders.now (map S.public_key signers.now) place (accepted_plain a)) }
     ensures refused { IfErr result (λ f. IsRefusedAt orders.now (map S.public_key signers.now) place f) }
 {
     let role = role_at(orders.len(), place);
@@ -106,8 +114,10 @@ fn accept_all<'a, S: Signer>(
 ) -> Result<Vec<Accepted<'a>>, IssueError>
     requires { length signers.now ≡ signers_for (length orders.now) }
     ensures all { IfOk result (λ v. length v.items ≡ length orders.now) }
-    ensures accepted { IfOk result (λ v. AcceptsFront orders.now (map S.public_key signers.now) (orders_plain v.items)) }
-    ensures refused { IfErr result (λ e. Refuses S.public_key S.signs_by S.signs S.may_refuse orders.now signers.now e) }
+    ensures accepted { IfOk result
+        (λ v. AcceptsFront orders.now (map S.public_key signers.now) (orders_plain v.items)) }
+    ensures refused { IfErr result (λ e. Refuses S.public_key S.signs_by S.signs S.may_refuse orders.now
+        signers.now e) }
 {
     let mut all = Vec::new(alloc);
     for place in 0..orders.len() {
@@ -136,7 +146,8 @@ fn issue_at<S: Signer>(
     ensures signed { IfOk result (λ m. IsSignedBy S.signs_by S.signs signers.now place (made_plain m)) }
     ensures octets { IfOk result (λ m. m.octets.items ≡ certificate_octets Bound (made_plain m)) }
     ensures stands { IfOk result (λ m. Stands Bound length_max (made_plain m)) }
-    ensures stopped { IfErr result (λ s. IsStoppedAt S.signs_by S.signs S.may_refuse (orders_plain accepted.now) signers.now place s) }
+    ensures stopped { IfErr result (λ s. IsStoppedAt S.signs_by S.signs S.may_refuse (orders_plain accepted.now)
+        signers.now place s) }
 {
     let role = role_at(accepted.len(), place);
     let above = place_above(place);
@@ -159,8 +170,10 @@ fn issue_all<S: Signer>(
     requires ready { AreReady (orders_plain accepted.now) }
     ensures holds { IfOk result (λ i. HoldsOrders (orders_plain accepted.now) i.certificates i.stream) }
     ensures signed { IfOk result (λ i. AreSigned S.signs_by S.signs signers.now i.certificates) }
-    ensures stopped { (orders : List Order) → AcceptedOrders orders (map S.public_key signers.now) (orders_plain accepted.now)
-        → IfErr result (λ e. Refuses S.public_key S.signs_by S.signs S.may_refuse orders signers.now e) }
+    ensures stopped { (orders : List Order) → AcceptedOrders orders (map S.public_key signers.now)
+        (orders_plain accepted.now)
+        → IfErr result (λ e. Refuses S.public_key S.signs_by S.signs S.may_refuse orders signers.now
+        e) }
 {
     let mut certificates = Vec::new(alloc);
     let mut stream = Vec::new(alloc);

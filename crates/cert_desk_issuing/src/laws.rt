@@ -1,6 +1,7 @@
 //! Laws of chains that hold orders. Each function does nothing: its contract is the law.
 ghost use Rattle.cert_desk_issuing.specs.Issuable.{IssuableIsIssued};
-ghost use Rattle.cert_desk_issuing.specs.Laws.{HeldIsTrusted, TrustedIsPermitted, HeldIsRefusedFor, IssuedIsTrusted, SignedIsSliced, SaysAsOrdered};
+ghost use Rattle.cert_desk_issuing.specs.Laws.{HeldIsTrusted, TrustedIsPermitted, HeldIsRefusedFor};
+ghost use Rattle.cert_desk_issuing.specs.Laws.{IssuedIsTrusted, SignedIsSliced, SaysAsOrdered};
 
 pub use cert_desk_checking::laws::{
     fault_stays, few_questions, fronts_are_trusted, judged_alike, no_chain_with_a_fault,
@@ -10,8 +11,8 @@ pub use cert_desk_checking::laws::{
 };
 use cert_desk_checking::types::builder::Signer;
 
-/// Of orders that are accepted, of which no signer may refuse a part, and whose lengths fit, none of
-/// the reasons to refuse them holds: only memory can be wanting.
+/// Of orders that are accepted, of which no signer may refuse a part, and whose lengths fit, none
+/// of the reasons to refuse them holds: only memory can be wanting.
 pub fn issuable_is_issued<S: Signer>()
     ensures { IssuableIsIssued S.public_key S.signs_by S.signs S.may_refuse }
 {}

@@ -10,15 +10,17 @@ use crate::accepted::Accepted;
 use cert_desk_checking::types::{AlgorithmIdentifier, Extensions, Name, TbsCertificate, Version};
 use std::alloc::{AllocError, Global};
 
-/// The part that is to be signed of the certificate that an order asks for, but for its extensions. Unique identifiers are never made
-/// (RFC 5280 4.1.2.8).
+/// The part that is to be signed of the certificate that an order asks for, but for its extensions.
+/// Unique identifiers are never made (RFC 5280 4.1.2.8).
 pub(crate) fn bare_part(
     alloc: Global,
     accepted: &Accepted<'_>,
     issuer: &Name,
     algorithm: &AlgorithmIdentifier,
 ) -> Result<TbsCertificate, AllocError>
-    ensures { IfOk result (λ t. tbs_plain t ≡ bare_part (algorithm_plain algorithm.now) (name_plain issuer.now) (accepted_plain accepted.now)) }
+    ensures { IfOk result
+        (λ t. tbs_plain t ≡ bare_part (algorithm_plain algorithm.now) (name_plain issuer.now)
+        (accepted_plain accepted.now)) }
 {
     Ok(TbsCertificate {
         version: Version::V3,

@@ -3,7 +3,8 @@ ghost use Rattle.std.specs.Prelude.{◌≡◌, ◌↔◌, length, map, take, IfO
 ghost use Rattle.cert_desk_io.specs.Devices.{sink, source};
 ghost use Rattle.cert_desk_issuing.specs.declared.outcome.Outcome.{Outcome};
 ghost use Rattle.cert_desk_issuing.specs.Roles.{signers_for};
-ghost use Rattle.cert_desk_issuing.specs.Runs.{signer_key, signing_keys, OrdersBecome, FileBecomes, IsTold};
+ghost use Rattle.cert_desk_issuing.specs.Runs.{signer_key, signing_keys, OrdersBecome, FileBecomes};
+ghost use Rattle.cert_desk_issuing.specs.Runs.{IsTold};
 
 use crate::digest_signer::DigestSigner;
 use crate::issue_error::IssueError;
@@ -111,11 +112,13 @@ fn tell<O: Output, E: Output>(
 
 /// Issues the chain that orders ask for, writes it, and answers the exit status.
 ///
-/// Each certificate is signed by a `DigestSigner` of the key of the order above it, the first one of its own.
+/// Each certificate is signed by a `DigestSigner` of the key of the order above it, the first one
+/// of its own.
 ///
-/// To `out` go the certificates, one behind the other, to `err` go `order PLACE REASON`, `orders REASON`, `device` and `memory`, each
-/// a line, where REASON is the name of an `IssueError` and PLACE counts orders from 0. What can't be written is `ExitStatus::Device`,
-/// whose word is tried once.
+/// To `out` go the certificates, one behind the other, to `err` go `order PLACE REASON`, `orders
+/// REASON`, `device` and `memory`, each a line, where REASON is the name of an `IssueError` and
+/// PLACE counts orders from 0. What can't be written is `ExitStatus::Device`, whose word is tried
+/// once.
 pub fn run_issue<O: Output, E: Output>(
     alloc: Global,
     orders: &[Order],
@@ -134,8 +137,9 @@ pub fn run_issue<O: Output, E: Output>(
 
 /// Issues the chain that an orders file asks for, as `run_issue` does.
 ///
-/// The file is read to its end, and its orders are those of `orders_in`. A faulty one is told as `orders: line N`, with its first
-/// faulty line. Of one with more than 2^32 - 1 octets one octet more than these is taken, and its first line is told.
+/// The file is read to its end, and its orders are those of `orders_in`. A faulty one is told as
+/// `orders: line N`, with its first faulty line. Of one with more than 2^32 - 1 octets one octet
+/// more than these is taken, and its first line is told.
 pub fn run_orders<I: Input, O: Output, E: Output>(
     alloc: Global,
     input: &mut I,

@@ -1,5 +1,6 @@
 -- Listings of certificates, revocation lists and requests, line by line.
-use Rattle.std.specs.Prelude.{ℕ, List, [], ◌++◌, codes, Option, Some, None, Result, Ok, Err, if◌then◌else◌}
+use Rattle.std.specs.Prelude.{ℕ, List, [], ◌++◌, codes, Option, Some, None, Result, Ok, Err}
+use Rattle.std.specs.Prelude.{if◌then◌else◌}
 use Rattle.std.specs.List.{flat_map}
 use Rattle.const_oid.specs.Bound.{Bound}
 use Rattle.const_oid.specs.Comparing.{owned_eq}
@@ -9,9 +10,14 @@ use Rattle.der_core_head.specs.declared.tag.Tag.TheVariants as tags
 use Rattle.der_core_head.specs.Shapes.{AnyValue}
 use Rattle.x509_cert_lists.specs.Certificates.{PlainCertificate, issuer, subject}
 use Rattle.x509_cert_lists.specs.Grammar.{extension_req_arcs, extension_req_content}
-use Rattle.x509_cert_lists.specs.Parts.{PlainName, PlainAttribute, PlainExtension, extension_arcs, is_critical, content_as}
+use Rattle.x509_cert_lists.specs.Parts.{PlainName, PlainAttribute, PlainExtension, extension_arcs}
+use Rattle.x509_cert_lists.specs.Parts.{is_critical, content_as}
 use Rattle.x509_cert_lists.specs.Texts.{name_text, serial_text, time_text}
-use Rattle.cert_desk_listing.specs.Parts.{serial, not_before, not_after, extensions_of, PlainTime, PlainList, PlainRevoked, list_issuer, this_update, next_update, revoked, list_extensions, revoked_serial, revoked_date, PlainRequest, request_subject, request_attributes, attribute_arcs, attribute_values}
+use Rattle.cert_desk_listing.specs.Parts.{serial, not_before, not_after, extensions_of, PlainTime}
+use Rattle.cert_desk_listing.specs.Parts.{PlainList, PlainRevoked, list_issuer, this_update}
+use Rattle.cert_desk_listing.specs.Parts.{next_update, revoked, list_extensions, revoked_serial}
+use Rattle.cert_desk_listing.specs.Parts.{revoked_date, PlainRequest, request_subject}
+use Rattle.cert_desk_listing.specs.Parts.{request_attributes, attribute_arcs, attribute_values}
 
 -- a label
 abbrev pub alone : List ℕ → List ℕ
@@ -23,7 +29,9 @@ labelled label text = label ++ codes " " ++ text ++ codes "\n"
 
 -- an identifier, and whether the extension is critical
 abbrev pub extension_line : PlainExtension → List ℕ
-extension_line e = labelled (codes "extension") (if is_critical e then dotted (extension_arcs e) ++ codes " critical" else dotted (extension_arcs e))
+extension_line e =
+    labelled (codes "extension") (if is_critical e then dotted (extension_arcs e)
+    ++ codes " critical" else dotted (extension_arcs e))
 
 abbrev pub extension_lines : List PlainExtension → List ℕ
 extension_lines es = flat_map extension_line es
@@ -45,7 +53,9 @@ next_update_line (Some date) = labelled (codes "next-update") (time_text date)
 
 -- a serial number, and since when it is revoked
 abbrev pub revoked_line : PlainRevoked → List ℕ
-revoked_line r = labelled (codes "revoked") (serial_text (revoked_serial r) ++ codes " " ++ time_text (revoked_date r))
+revoked_line r =
+    labelled (codes "revoked") (serial_text (revoked_serial r) ++ codes " "
+    ++ time_text (revoked_date r))
 
 abbrev pub revoked_lines : List PlainRevoked → List ℕ
 revoked_lines rs = flat_map revoked_line rs
@@ -68,11 +78,13 @@ lines_of_read (Err e) = []
 abbrev pub value_lines : AnyValue → List ℕ
 value_lines v = lines_of_read (content_as tags.Sequence (extension_req_content Bound) v)
 
--- an identifier, and behind that of a request for extensions (RFC 2985 5.4.2) the extensions of its values
+-- an identifier, and behind that of a request for extensions (RFC 2985 5.4.2) the extensions of its
+-- values
 abbrev pub attribute_lines : PlainAttribute → List ℕ
 attribute_lines a =
     labelled (codes "attribute") (dotted (attribute_arcs a))
-    ++ (if owned_eq (attribute_arcs a) extension_req_arcs then flat_map value_lines (attribute_values a) else [])
+    ++ (if owned_eq (attribute_arcs a) extension_req_arcs
+    then flat_map value_lines (attribute_values a) else [])
 
 -- of a certification request
 unfoldable pub request_lines : PlainRequest → List ℕ

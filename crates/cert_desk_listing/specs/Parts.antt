@@ -2,7 +2,8 @@
 use Rattle.std.specs.Prelude.{ℕ, ℤ, List, [], Option, Some, None}
 use Rattle.der_core_head.specs.Shapes.{Shape, Value, BodyValue, AnyValue, sequence}
 use Rattle.x509_cert_lists.specs.Certificates.{PlainCertificate, tbs, tbs_validity}
-use Rattle.x509_cert_lists.specs.Grammar.{revoked_cert_fields, certificate_list_fields, cert_req_fields}
+use Rattle.x509_cert_lists.specs.Grammar.{revoked_cert_fields, certificate_list_fields}
+use Rattle.x509_cert_lists.specs.Grammar.{cert_req_fields}
 use Rattle.x509_cert_lists.specs.Parts.{PlainName, PlainAttribute, PlainExtension, time}
 
 -- those of a field; where it is absent there are none

@@ -24,16 +24,20 @@ abbrev pub show_error_text : ShowError → List ℕ
 show_error_text errors.Device = codes "a device failed"
 show_error_text errors.OutOfMemory = codes "out of memory"
 
--- Why a text isn't on an output: a write failed, behind a beginning of it; or there was no memory, and nothing went out.
+-- Why a text isn't on an output: a write failed, behind a beginning of it; or there was no memory,
+-- and nothing went out.
 abbrev pub IsUnshown : Device → List ℕ → ShowError → Type 0
 IsUnshown out text errors.Device = IsCut out text
 IsUnshown out text errors.OutOfMemory = Untouched out
 
 -- The octets spell a value of this kind under `Raw`, and this is its listing.
 abbrev pub IsListing : FileKind → List ℕ → List ℕ → Type 0
-IsListing kinds.Certificate octets text = (c : PlainCertificate) × Spells (raw_certificate Bound) c octets × (text ≡ certificate_lines c)
-IsListing kinds.List octets text = (l : PlainList) × Spells (raw_certificate_list Bound) l octets × (text ≡ list_lines l)
-IsListing kinds.Request octets text = (r : PlainRequest) × Spells (cert_req Bound) r octets × (text ≡ request_lines r)
+IsListing kinds.Certificate octets text = (c : PlainCertificate)
+    × Spells (raw_certificate Bound) c octets × (text ≡ certificate_lines c)
+IsListing kinds.List octets text = (l : PlainList) × Spells (raw_certificate_list Bound) l octets
+    × (text ≡ list_lines l)
+IsListing kinds.Request octets text = (r : PlainRequest) × Spells (cert_req Bound) r octets
+    × (text ≡ request_lines r)
 
 -- they spell none
 abbrev pub HasNoListing : FileKind → List ℕ → Type 0
@@ -49,18 +53,23 @@ IsRead kind octets findings.Malformed = HasNoListing kind octets
 IsRead kind octets findings.Device = ⊥
 IsRead kind octets findings.OutOfMemory = Unit {0}
 
--- What is found in an input: the listing of the value that all of it spells; that it spells none, or has too many octets; or why it
--- wasn't read, or not listed.
+-- What is found in an input: the listing of the value that all of it spells; that it spells none,
+-- or has too many octets; or why it wasn't read, or not listed.
 abbrev pub IsFinding : Device → FileKind → Finding → Type 0
-IsFinding input kind (findings.Listed lines) = (octets : List ℕ) × IsWhole input most_octets octets × IsListing kind octets (string_bytes lines.text)
+IsFinding input kind (findings.Listed lines) = (octets : List ℕ) × IsWhole input most_octets octets
+    × IsListing kind octets (string_bytes lines.text)
 IsFinding input kind findings.Malformed =
-    ((octets : List ℕ) × IsWhole input most_octets octets × HasNoListing kind octets) ⊎ IsUnread input most_octets reasons.TooMuch
+    ((octets : List ℕ) × IsWhole input most_octets octets × HasNoListing kind octets)
+    ⊎ IsUnread input most_octets reasons.TooMuch
 IsFinding input kind findings.Device = IsUnread input most_octets reasons.Device
-IsFinding input kind findings.OutOfMemory = ((octets : List ℕ) × IsWhole input most_octets octets) ⊎ IsUnread input most_octets reasons.OutOfMemory
+IsFinding input kind findings.OutOfMemory = ((octets : List ℕ) × IsWhole input most_octets octets)
+    ⊎ IsUnread input most_octets reasons.OutOfMemory
 
 -- What is told of it, and the status.
 abbrev pub IsTold : Device → Device → Finding → ExitStatus → Type 0
-IsTold out err (findings.Listed lines) answer = IsAnswer out err (string_bytes lines.text) statuses.Done answer
-IsTold out err findings.Malformed answer = Untouched out × IsComplaint err malformed_line statuses.Faulty answer
+IsTold out err (findings.Listed lines) answer =
+    IsAnswer out err (string_bytes lines.text) statuses.Done answer
+IsTold out err findings.Malformed answer = Untouched out
+    × IsComplaint err malformed_line statuses.Faulty answer
 IsTold out err findings.Device answer = Untouched out × IsDeviceTold err answer
 IsTold out err findings.OutOfMemory answer = Untouched out × IsMemoryTold err answer

@@ -2,10 +2,13 @@
 ghost use Rattle.std.specs.Prelude.{◌≡◌, ◌++◌, codes, Some, IfOk, IfSome, OnOk, string_bytes};
 ghost use Rattle.std.specs.List.{flat_map};
 ghost use Rattle.der_core_head.specs.Grammar.{plain_option, plain_list};
-ghost use Rattle.x509_cert_lists.specs.Parts.{name_plain, attribute_plain, extension_plain, extensions_plain, time_value};
+ghost use Rattle.x509_cert_lists.specs.Parts.{name_plain, attribute_plain, extension_plain};
+ghost use Rattle.x509_cert_lists.specs.Parts.{extensions_plain, time_value};
 ghost use Rattle.x509_cert_lists.specs.Views.{revoked_cert_plain};
 ghost use Rattle.x509_cert_lists.specs.Texts.{name_text, serial_text, time_text};
-ghost use Rattle.cert_desk_listing.specs.Listing.{alone, labelled, extension_line, extension_lines, next_update_line, revoked_line, revoked_lines, value_lines, attribute_lines};
+ghost use Rattle.cert_desk_listing.specs.Listing.{alone, labelled, extension_line, extension_lines};
+ghost use Rattle.cert_desk_listing.specs.Listing.{next_update_line, revoked_line, revoked_lines};
+ghost use Rattle.cert_desk_listing.specs.Listing.{value_lines, attribute_lines};
 ghost use Rattle.cert_desk_listing.specs.Parts.{listed};
 
 use const_oid::AssociatedOid;
@@ -34,7 +37,9 @@ impl Lines {
 
     /// A label and what is printed behind it.
     fn labelled<D: fmt::Display + Drop>(&mut self, label: &str, value: D) -> Result<(), AllocError>
-        ensures { OnOk result (IfSome (D.output value) (λ text. string_bytes self.new.text ≡ string_bytes self.old.text ++ labelled label.now text)) }
+        ensures { OnOk result
+            (IfSome (D.output value) (λ text. string_bytes self.new.text
+            ≡ string_bytes self.old.text ++ labelled label.now text)) }
     {
         writeln!(self.text, "{label} {value}")?;
         Ok(())
@@ -42,7 +47,8 @@ impl Lines {
 
     /// A label and a name.
     pub(crate) fn name(&mut self, label: &str, name: &Name) -> Result<(), AllocError>
-        ensures { OnOk result (string_bytes self.new.text ≡ string_bytes self.old.text ++ labelled label.now (name_text (name_plain name.now))) }
+        ensures { OnOk result (string_bytes self.new.text ≡ string_bytes self.old.text
+            ++ labelled label.now (name_text (name_plain name.now))) }
     {
         self.labelled(label, name)?;
         Ok(())
@@ -50,7 +56,8 @@ impl Lines {
 
     /// A label and a date.
     pub(crate) fn date(&mut self, label: &str, date: &Time) -> Result<(), AllocError>
-        ensures { OnOk result (string_bytes self.new.text ≡ string_bytes self.old.text ++ labelled label.now (time_text (time_value date.now))) }
+        ensures { OnOk result (string_bytes self.new.text ≡ string_bytes self.old.text
+            ++ labelled label.now (time_text (time_value date.now))) }
     {
         self.labelled(label, date)?;
         Ok(())
@@ -58,7 +65,8 @@ impl Lines {
 
     /// The number of a certificate.
     pub(crate) fn serial<P>(&mut self, number: &SerialNumber<P>) -> Result<(), AllocError>
-        ensures { OnOk result (string_bytes self.new.text ≡ string_bytes self.old.text ++ labelled (codes "serial") (serial_text number.now)) }
+        ensures { OnOk result (string_bytes self.new.text ≡ string_bytes self.old.text
+            ++ labelled (codes "serial") (serial_text number.now)) }
     {
         self.labelled("serial", number)?;
         Ok(())
@@ -66,7 +74,8 @@ impl Lines {
 
     /// When the next list comes, if that is said.
     pub(crate) fn next_update(&mut self, date: &Option<Time>) -> Result<(), AllocError>
-        ensures { OnOk result (string_bytes self.new.text ≡ string_bytes self.old.text ++ next_update_line (plain_option time_value date.now)) }
+        ensures { OnOk result (string_bytes self.new.text ≡ string_bytes self.old.text
+            ++ next_update_line (plain_option time_value date.now)) }
     {
         let Some(date) = date else {
             return Ok(());
@@ -77,7 +86,8 @@ impl Lines {
 
     /// An extension.
     fn extension(&mut self, extension: &Extension) -> Result<(), AllocError>
-        ensures { OnOk result (string_bytes self.new.text ≡ string_bytes self.old.text ++ extension_line (extension_plain extension.now)) }
+        ensures { OnOk result (string_bytes self.new.text ≡ string_bytes self.old.text
+            ++ extension_line (extension_plain extension.now)) }
     {
         let id = extension.extn_id;
         if extension.critical {
@@ -90,7 +100,8 @@ impl Lines {
 
     /// Extensions, in their order.
     pub(crate) fn extensions(&mut self, extensions: &[Extension]) -> Result<(), AllocError>
-        ensures { OnOk result (string_bytes self.new.text ≡ string_bytes self.old.text ++ extension_lines (extensions_plain extensions.now)) }
+        ensures { OnOk result (string_bytes self.new.text ≡ string_bytes self.old.text
+            ++ extension_lines (extensions_plain extensions.now)) }
     {
         for extension in extensions {
             self.extension(extension)?;
@@ -100,7 +111,8 @@ impl Lines {
 
     /// An entry of a revocation list.
     fn entry<P>(&mut self, entry: &RevokedCert<P>) -> Result<(), AllocError>
-        ensures { OnOk result (string_bytes self.new.text ≡ string_bytes self.old.text ++ revoked_line (revoked_cert_plain entry.now)) }
+        ensures { OnOk result (string_bytes self.new.text ≡ string_bytes self.old.text
+            ++ revoked_line (revoked_cert_plain entry.now)) }
     {
         let number = &entry.serial_number;
         let date = &entry.revocation_date;
@@ -110,7 +122,8 @@ impl Lines {
 
     /// Entries of a revocation list, in their order.
     fn entries<P>(&mut self, entries: &[RevokedCert<P>]) -> Result<(), AllocError>
-        ensures { OnOk result (string_bytes self.new.text ≡ string_bytes self.old.text ++ revoked_lines (plain_list revoked_cert_plain entries.now)) }
+        ensures { OnOk result (string_bytes self.new.text ≡ string_bytes self.old.text
+            ++ revoked_lines (plain_list revoked_cert_plain entries.now)) }
     {
         for entry in entries {
             self.entry(entry)?;
@@ -124,7 +137,8 @@ impl Lines {
         entries: &Option<Vec<RevokedCert<P>>>,
     ) -> Result<(), AllocError>
         ensures { OnOk result (string_bytes self.new.text ≡ string_bytes self.old.text
-            ++ revoked_lines (listed (plain_option (λ v. plain_list revoked_cert_plain v.items) entries.now))) }
+            ++ revoked_lines
+            (listed (plain_option (λ v. plain_list revoked_cert_plain v.items) entries.now))) }
     {
         let Some(entries) = entries else {
             return Ok(());
@@ -139,7 +153,8 @@ impl Lines {
         extensions: &Option<Extensions>,
     ) -> Result<(), AllocError>
         ensures { OnOk result (string_bytes self.new.text ≡ string_bytes self.old.text
-            ++ extension_lines (listed (plain_option (λ v. extensions_plain v.items) extensions.now))) }
+            ++ extension_lines
+            (listed (plain_option (λ v. extensions_plain v.items) extensions.now))) }
     {
         let Some(extensions) = extensions else {
             return Ok(());
@@ -150,7 +165,8 @@ impl Lines {
 
     /// The extensions that a value of a request asks for, where it is read as extensions.
     fn requested(&mut self, alloc: Global, value: &Any) -> Result<(), AllocError>
-        ensures { OnOk result (string_bytes self.new.text ≡ string_bytes self.old.text ++ value_lines value.now) }
+        ensures { OnOk result (string_bytes self.new.text ≡ string_bytes self.old.text
+            ++ value_lines value.now) }
     {
         let request = match value.decode_as::<ExtensionReq>(alloc) {
             Ok(request) => request,
@@ -167,7 +183,8 @@ impl Lines {
 
     /// An attribute, and the extensions that it asks for.
     fn attribute(&mut self, alloc: Global, attribute: &Attribute) -> Result<(), AllocError>
-        ensures { OnOk result (string_bytes self.new.text ≡ string_bytes self.old.text ++ attribute_lines (attribute_plain attribute.now)) }
+        ensures { OnOk result (string_bytes self.new.text ≡ string_bytes self.old.text
+            ++ attribute_lines (attribute_plain attribute.now)) }
     {
         self.labelled("attribute", attribute.oid)?;
         if attribute.oid != ExtensionReq::associated_oid() {
@@ -179,7 +196,8 @@ impl Lines {
 
     /// The extensions that values of a request ask for.
     fn all_requested(&mut self, alloc: Global, values: &[Any]) -> Result<(), AllocError>
-        ensures { OnOk result (string_bytes self.new.text ≡ string_bytes self.old.text ++ flat_map value_lines values.now) }
+        ensures { OnOk result (string_bytes self.new.text ≡ string_bytes self.old.text
+            ++ flat_map value_lines values.now) }
     {
         for value in values {
             self.requested(alloc, value)?;
@@ -193,7 +211,8 @@ impl Lines {
         alloc: Global,
         attributes: &[Attribute],
     ) -> Result<(), AllocError>
-        ensures { OnOk result (string_bytes self.new.text ≡ string_bytes self.old.text ++ flat_map attribute_lines (plain_list attribute_plain attributes.now)) }
+        ensures { OnOk result (string_bytes self.new.text ≡ string_bytes self.old.text
+            ++ flat_map attribute_lines (plain_list attribute_plain attributes.now)) }
     {
         for attribute in attributes {
             self.attribute(alloc, attribute)?;

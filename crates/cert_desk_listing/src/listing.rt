@@ -18,7 +18,8 @@ pub(crate) fn of_certificate<P: Profile>(
     alloc: Global,
     certificate: &CertificateInner<P>,
 ) -> Result<Lines, AllocError>
-    ensures { IfOk result (λ lines. string_bytes lines.text ≡ certificate_lines (certificate_plain certificate.now)) }
+    ensures { IfOk result
+        (λ lines. string_bytes lines.text ≡ certificate_lines (certificate_plain certificate.now)) }
 {
     let signed = certificate.tbs_certificate();
     let validity = signed.validity();
@@ -40,7 +41,8 @@ pub(crate) fn of_list<P: Profile>(
     alloc: Global,
     list: &CertificateList<P>,
 ) -> Result<Lines, AllocError>
-    ensures { IfOk result (λ lines. string_bytes lines.text ≡ list_lines (certificate_list_plain list.now)) }
+    ensures { IfOk result
+        (λ lines. string_bytes lines.text ≡ list_lines (certificate_list_plain list.now)) }
 {
     let signed = &list.tbs_cert_list;
     let mut lines = Lines::new(alloc, "list")?;
@@ -54,7 +56,8 @@ pub(crate) fn of_list<P: Profile>(
 
 /// The lines of a certification request.
 pub(crate) fn of_request(alloc: Global, request: &CertReq) -> Result<Lines, AllocError>
-    ensures { IfOk result (λ lines. string_bytes lines.text ≡ request_lines (cert_req_plain request.now)) }
+    ensures { IfOk result
+        (λ lines. string_bytes lines.text ≡ request_lines (cert_req_plain request.now)) }
 {
     let info = &request.info;
     let mut lines = Lines::new(alloc, "request")?;
@@ -76,8 +79,9 @@ fn give<O: Output>(output: &mut O, lines: &Lines) -> Result<(), ShowError>
     Ok(())
 }
 
-/// Writes the listing of a certificate: `certificate`, `serial`, `issuer`, `not-before`, `not-after`,
-/// `subject`, and `extension` for each extension, with ` critical` behind those that are.
+/// Writes the listing of a certificate: `certificate`, `serial`, `issuer`, `not-before`,
+/// `not-after`, `subject`, and `extension` for each extension, with ` critical` behind those that
+/// are.
 ///
 /// Behind each label but the first stand a blank and a text, and each line ends with LF. Names are
 /// printed by RFC 4514, serial numbers as their content octets in base 16 with colons between them,

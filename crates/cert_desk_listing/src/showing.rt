@@ -41,8 +41,10 @@ fn certificate_in(alloc: Global, octets: &[u8]) -> Finding
 
 // Reads a revocation list, all of the octets.
 fn list_of(alloc: Global, octets: &[u8]) -> Result<CertificateList<Raw>, Error>
-    ensures spelled { IfOk result (λ l. Spells (raw_certificate_list Bound) (certificate_list_plain l) octets.now) }
-    ensures refused { IfErr result (λ e. e.kind ≢ OutOfMemory → (l : PlainList) → Spells (raw_certificate_list Bound) l octets.now → ⊥) }
+    ensures spelled { IfOk result
+        (λ l. Spells (raw_certificate_list Bound) (certificate_list_plain l) octets.now) }
+    ensures refused { IfErr result (λ e. e.kind ≢ OutOfMemory → (l : PlainList)
+        → Spells (raw_certificate_list Bound) l octets.now → ⊥) }
 {
     from_der(alloc, octets)
 }
@@ -121,8 +123,8 @@ fn tell<O: Output, E: Output>(finding: &Finding, out: &mut O, err: &mut E) -> Ex
 
 /// Writes the listing of what an input holds, and answers the exit status.
 ///
-/// The input is read to its end, and is to spell a value of the kind under the profile `Raw`. Of one
-/// with more than 2^32 - 1 octets one octet more than these is taken, and it is malformed.
+/// The input is read to its end, and is to spell a value of the kind under the profile `Raw`. Of
+/// one with more than 2^32 - 1 octets one octet more than these is taken, and it is malformed.
 ///
 /// The listing goes to `out`; `malformed`, `device` and `memory` go to `err`. A text that can't be
 /// written is `ExitStatus::Device`, whose word is tried once.

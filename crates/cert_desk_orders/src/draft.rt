@@ -103,7 +103,8 @@ impl Draft {
             || self.key.is_missing()
     }
 
-    // The line that is named where there is no order: the first one where a word is missing, and the first faulty one else.
+    // The line that is named where there is no order: the first one where a word is missing, and
+    // the first faulty one else.
     fn faulty_line(&self) -> u64 {
         if self.lacks_a_word() {
             return self.line;

@@ -66,22 +66,20 @@ impl Reading {
 
 /// The orders of a file.
 ///
-/// A file is lines that end with LF; the last one may end with the file. An empty line says nothing. Any other is, in UTF-8, a word
-/// and, behind one blank, a value. `order`, alone, begins an order, and behind it stand its words, in any order:
+/// A file is lines that end with LF; the last one may end with the file. An empty line says
+/// nothing. Any other is, in UTF-8, a word and, behind one blank, a value. `order`, alone, begins
+/// an order, and behind it stand its words, in any order:
 ///
-/// | Word | Value | How often |
-/// |---|---|---|
-/// | `name` | the subject, a text | once |
-/// | `from`, `until` | the dates, texts | once |
-/// | `serial` | the octets of the serial number in base 16 | once |
-/// | `key` | a SubjectPublicKeyInfo (RFC 5280 4.1.2.7) in base 16 | once |
-/// | `path` | the path length, decimal digits up to 255 | at most once |
-/// | `client`, `ocsp` | none, nor a blank | at most once |
-/// | `dns` | a DNS name, a text | any number of times |
+/// | Word | Value | How often | |---|---|---| | `name` | the subject, a text | once | | `from`,
+/// `until` | the dates, texts | once | | `serial` | the octets of the serial number in base 16 |
+/// once | | `key` | a SubjectPublicKeyInfo (RFC 5280 4.1.2.7) in base 16 | once | | `path` | the
+/// path length, decimal digits up to 255 | at most once | | `client`, `ocsp` | none, nor a blank |
+/// at most once | | `dns` | a DNS name, a text | any number of times |
 ///
 /// # Errors
-/// `Line`, the first faulty line, counted from 1: one of another word or value, one that stands once too often, one before the first
-/// order, and the line `order` of an order that lacks a word. `OutOfMemory`.
+/// `Line`, the first faulty line, counted from 1: one of another word or value, one that stands
+/// once too often, one before the first order, and the line `order` of an order that lacks a word.
+/// `OutOfMemory`.
 pub fn orders_in(alloc: Global, octets: &[u8]) -> Result<Vec<Order>, OrdersError> {
     let mut reading = Reading {
         orders: Vec::new(alloc),

@@ -1,7 +1,8 @@
 -- The certificate that octets begin with.
 use Rattle.std.specs.Prelude.{◌≡◌, ℕ, ◌≤◌, ◌<◌, List, ◌++◌, length, take, Option, Some, None}
 use Rattle.der_core_head.specs.Shapes.{Spells}
-use Rattle.cert_desk_checking.specs.Certificates.{PlainCertificate, raw_certificate, certificate_octets}
+use Rattle.cert_desk_checking.specs.Certificates.{PlainCertificate, raw_certificate}
+use Rattle.cert_desk_checking.specs.Certificates.{certificate_octets}
 use Rattle.cert_desk_checking.specs.Chains.{Stands}
 
 -- the first n octets spell the certificate, and are no more than the limit
@@ -13,7 +14,8 @@ pub record Front (bound limit : ℕ) (octets : List ℕ) (c : PlainCertificate) 
 
 -- no certificate that could stand begins the octets
 abbrev pub NoFront : ℕ → ℕ → List ℕ → Type 0
-NoFront bound limit octets = (c : PlainCertificate) (more : List ℕ) → Stands bound limit c → octets ≡ certificate_octets bound c ++ more → ⊥
+NoFront bound limit octets = (c : PlainCertificate) (more : List ℕ) → Stands bound limit c
+    → octets ≡ certificate_octets bound c ++ more → ⊥
 
 -- the certificate that begins the octets, with how many it has, or that there is none
 abbrev pub IsFirst : ℕ → ℕ → List ℕ → Option (PlainCertificate × ℕ) → Type 0

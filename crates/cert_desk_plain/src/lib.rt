@@ -27,7 +27,9 @@ pub fn first_certificate(
     octets: &[u8],
     limit: u32,
 ) -> Result<Option<(CertificateInner<Raw>, usize)>, AllocError>
-    ensures { IfOk result (λ first. IsFirst Bound limit octets.now (plain_option (λ p. (certificate_plain p.0, p.1)) first)) }
+    ensures { IfOk result
+        (λ first. IsFirst Bound limit octets.now
+        (plain_option (λ p. (certificate_plain p.0, p.1)) first)) }
 {
     let mut most = octets.len();
     if most > limit as usize {
@@ -58,7 +60,8 @@ pub fn split(
     limit: u32,
 ) -> Result<(Vec<CertificateInner<Raw>>, usize), AllocError>
     ensures within { IfOk result (λ p. p.1 ≤ length stream.now) }
-    ensures split { IfOk result (λ p. Split Bound limit stream.now (map certificate_plain p.0.items) (drop p.1 stream.now)) }
+    ensures split { IfOk result
+        (λ p. Split Bound limit stream.now (map certificate_plain p.0.items) (drop p.1 stream.now)) }
 {
     let mut certificates = Vec::new(alloc);
     let mut start = 0;

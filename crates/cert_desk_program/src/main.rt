@@ -1,6 +1,6 @@
-//! `cert_desk check ANCHORS STREAM MOMENT PURPOSE LIMIT`: whether a stream of certificates is trusted.
-//! `cert_desk show KIND FILE`: what a certificate, a list or a request says.
-//! `cert_desk issue ORDERS`: the chain that an orders file asks for.
+//! `cert_desk check ANCHORS STREAM MOMENT PURPOSE LIMIT`: whether a stream of certificates is
+//! trusted. `cert_desk show KIND FILE`: what a certificate, a list or a request says. `cert_desk
+//! issue ORDERS`: the chain that an orders file asks for.
 #![tactic(auto)]
 
 ghost use Rattle.std.specs.Prelude.{◌≤◌};

@@ -9,8 +9,8 @@ use const_oid::ObjectIdentifier;
 use der_core::{Decode, ErrorKind, SliceReader, from_der};
 use std::alloc::{AllocError, Global};
 
-// Why a certificate breaks a rule of its extensions, or of path lengths. Extensions are counted from
-// 0.
+// Why a certificate breaks a rule of its extensions, or of path lengths. Extensions are counted
+// from 0.
 #[derive(Clone, Copy)]
 pub(crate) enum Cause {
     // This extension breaks it.
@@ -213,8 +213,8 @@ fn exceeded_length(alloc: Global, place: &ChainPlace<'_>) -> Result<Option<Cause
     Ok(None)
 }
 
-// Why the certificate at a place breaks a rule of its extensions, or of path lengths, if it does. The
-// last two rules are asked of places that they are meant for.
+// Why the certificate at a place breaks a rule of its extensions, or of path lengths, if it does.
+// The last two rules are asked of places that they are meant for.
 pub(crate) fn cause_of(
     alloc: Global,
     place: &ChainPlace<'_>,

@@ -120,8 +120,8 @@ pub fn answer_again(alloc: Global, rest: &str) -> Result<String, Refusal> {
     Ok(text)
 }
 
-/// Whether a bundle that found no memory keeps the certificates that it had read, and takes and says
-/// no more.
+/// Whether a bundle that found no memory keeps the certificates that it had read, and takes and
+/// says no more.
 fn is_kept(alloc: Global, failed: &mut Bundle, whole: &Bundle) -> bool {
     let refused = Err(BundleError::Failed);
     let takes_nothing = failed.feed(&[]) == refused && failed.finish() == refused;

@@ -12,7 +12,8 @@ use der_core::from_der;
 use std::alloc::Global;
 use std::str;
 
-/// What a run tells, where octets stand for the file and three devices move octets by these schedules.
+/// What a run tells, where octets stand for the file and three devices move octets by these
+/// schedules.
 pub fn run(
     alloc: Global,
     schedules: &str,

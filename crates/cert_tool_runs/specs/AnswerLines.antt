@@ -1,5 +1,6 @@
 -- Files of answers: lines `PLACE ANCHOR KEY ALGORITHM SIGNED BITS`.
-use Rattle.std.specs.Prelude.{ℕ, ◌+◌, List, [], ◌∷◌, Bool, true, false, ◌&&◌, ◌||◌, ◌==◌, nat_le, bytes_eq, codes, if◌then◌else◌, Option, Some, None, Result, Ok, Err}
+use Rattle.std.specs.Prelude.{ℕ, ◌+◌, List, [], ◌∷◌, Bool, true, false, ◌&&◌, ◌||◌, ◌==◌, nat_le}
+use Rattle.std.specs.Prelude.{bytes_eq, codes, if◌then◌else◌, Option, Some, None, Result, Ok, Err}
 use Rattle.std.specs.List.{list_all, slice_split}
 use Rattle.der_core_head.specs.declared.error.ErrorKind.{ErrorKind}
 use Rattle.der_core_head.specs.BitStrings.{Bits}
@@ -8,7 +9,8 @@ use Rattle.der_core_head.specs.Shapes.{Shape, Value}
 use Rattle.hex.specs.Hex.{decode_of}
 use Rattle.hex.specs.declared.error.FromHexError.{FromHexError}
 use Rattle.const_oid.specs.Bound.{Bound}
-use Rattle.cert_desk_checking.specs.Certificates.{Algorithm, PublicKey, algorithm_identifier, bit_string, public_key_info}
+use Rattle.cert_desk_checking.specs.Certificates.{Algorithm, PublicKey, algorithm_identifier}
+use Rattle.cert_desk_checking.specs.Certificates.{bit_string, public_key_info}
 use Rattle.cert_desk_checking.specs.Questions.{Question}
 
 -- what was read, without why it wasn't
@@ -33,16 +35,20 @@ abbrev pub value_in : (s : Shape) → List ℕ → Option (Value s)
 value_in s text = value_of s (octets_in text)
 
 -- what the words of an answer write, if each writes its value
-abbrev pub question_of : Option PublicKey → Option Algorithm → Option Bits → Option (List ℕ) → Option Question
+abbrev pub question_of : Option PublicKey → Option Algorithm → Option Bits → Option (List ℕ)
+    → Option Question
 question_of None algorithm bits signed = None
 question_of (Some key) None bits signed = None
 question_of (Some key) (Some algorithm) None signed = None
 question_of (Some key) (Some algorithm) (Some bits) None = None
-question_of (Some key) (Some algorithm) (Some bits) (Some signed) = Some (record { key = key; algorithm = algorithm; signed = signed; bits = bits })
+question_of (Some key) (Some algorithm) (Some bits) (Some signed) =
+    Some (record { key = key; algorithm = algorithm; signed = signed; bits = bits })
 
 abbrev pub question_in : List ℕ → List ℕ → List ℕ → List ℕ → Option Question
 question_in key algorithm signed bits =
-    question_of (value_in (public_key_info Bound) key) (value_in (algorithm_identifier Bound) algorithm) (value_in bit_string bits) (octets_in signed)
+    question_of (value_in (public_key_info Bound) key)
+    (value_in (algorithm_identifier Bound) algorithm) (value_in bit_string bits)
+    (octets_in signed)
 
 -- one or more decimal digits
 abbrev pub is_digit : ℕ → Bool
@@ -68,7 +74,9 @@ says_question None = wrong
 
 abbrev pub words_say : List (List ℕ) → Says
 words_say (place ∷ anchor ∷ key ∷ algorithm ∷ signed ∷ bits ∷ []) =
-    if is_number place then (if is_anchor anchor then says_question (question_in key algorithm signed bits) else wrong) else wrong
+    if is_number place
+    then (if is_anchor anchor then says_question (question_in key algorithm signed bits)
+    else wrong) else wrong
 words_say _ = wrong
 
 -- what stands between separators
@@ -92,7 +100,8 @@ with_line number wrong rest = Err number
 
 abbrev pub answers_from : ℕ → List (List ℕ) → Result (List Question) ℕ
 answers_from before [] = Ok []
-answers_from before (line ∷ more) = with_line (before + 1) (line_says line) (answers_from (before + 1) more)
+answers_from before (line ∷ more) =
+    with_line (before + 1) (line_says line) (answers_from (before + 1) more)
 
 -- the answers of a file, or the number of its first wrong line
 abbrev pub file_says : List ℕ → Result (List Question) ℕ

@@ -14,15 +14,18 @@ use Rattle.cert_desk_checking.specs.Streams.{Kept}
 use Rattle.cert_tool_runs.specs.QuestionLines.{chain_lines}
 use Rattle.cert_tool_runs.specs.Stops.{FedWithin, IsStopTold, stop_of}
 
--- What is found in the inputs of anchors and of the stream: the lines of the questions of a chain of one certificate or more; or
--- why there are none. The stream is untouched where the anchors end the run.
+-- What is found in the inputs of anchors and of the stream: the lines of the questions of a chain
+-- of one certificate or more; or why there are none. The stream is untouched where the anchors end
+-- the run.
 abbrev pub IsAsked : Device → Device → ℕ → Result (List ℕ) Outcome → Type 0
 IsAsked anchors_in stream limit (Ok text) =
-    (anchors : List PlainAnchor) × (b : Kept) × HasAnchors anchors_in anchors × FedWithin stream limit b
+    (anchors : List PlainAnchor) × (b : Kept) × HasAnchors anchors_in anchors
+    × FedWithin stream limit b
     × (stop_of b ≡ None) × (text ≡ chain_lines anchors b.certificates (joined Bound b.certificates))
 IsAsked anchors_in stream limit (Err outcome) =
     (HasNoAnchors anchors_in outcome × Untouched stream)
-    ⊎ ((anchors : List PlainAnchor) × (b : Kept) × HasAnchors anchors_in anchors × FedWithin stream limit b
+    ⊎ ((anchors : List PlainAnchor) × (b : Kept) × HasAnchors anchors_in anchors
+    × FedWithin stream limit b
     × ((stop_of b ≡ Some outcome) ⊎ (outcome ≡ outcomes.OutOfMemory)))
 
 -- What is told of it, and the status.

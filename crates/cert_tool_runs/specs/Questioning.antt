@@ -2,7 +2,8 @@
 use Rattle.std.specs.Prelude.{ℕ, ◌+◌, List, [], ◌∷◌, ◌++◌, decimal, if◌then◌else◌}
 use Rattle.cert_desk_checking.specs.declared.entry.Entry.{Entry}
 use Rattle.const_oid.specs.Bound.{Bound}
-use Rattle.cert_desk_checking.specs.Certificates.{PublicKey, certificate_plain, outer_algorithm, signature_bits}
+use Rattle.cert_desk_checking.specs.Certificates.{PublicKey, certificate_plain, outer_algorithm}
+use Rattle.cert_desk_checking.specs.Certificates.{signature_bits}
 use Rattle.cert_desk_checking.specs.Judging.{PlainAnchor, is_named}
 use Rattle.cert_desk_checking.specs.Questions.{Question}
 use Rattle.cert_tool_runs.specs.QuestionLines.{question_line}
@@ -20,7 +21,8 @@ entry_question e key =
 -- the line of the question under an anchor of this number, if it has the issuer's name
 abbrev pub anchor_line : Entry → ℕ → PlainAnchor → List ℕ
 anchor_line e number a =
-    if is_named Bound (certificate_plain e.certificate.now) a then question_line 0 (decimal number) (entry_question e a.key) else []
+    if is_named Bound (certificate_plain e.certificate.now) a
+    then question_line 0 (decimal number) (entry_question e a.key) else []
 
 -- the lines under anchors, of which the first has this number
 abbrev pub entry_lines : Entry → ℕ → List PlainAnchor → List ℕ

@@ -1,5 +1,6 @@
 -- What runs over the certificates of a stream write.
-use Rattle.std.specs.Prelude.{◌≡◌, ◌≢◌, ℕ, zero, suc, ◌+◌, ◌⊎◌, List, [], ◌∷◌, ◌++◌, length, codes, decimal, Option, Some, None, slice_get}
+use Rattle.std.specs.Prelude.{◌≡◌, ◌≢◌, ℕ, zero, suc, ◌+◌, ◌⊎◌, List, [], ◌∷◌, ◌++◌, length, codes}
+use Rattle.std.specs.Prelude.{decimal, Option, Some, None, slice_get}
 use Rattle.std.specs.List.{flat_map}
 use Rattle.std.specs.Option.{option_map_or}
 use Rattle.cert_desk_io.specs.declared.exit_status.ExitStatus.{ExitStatus}
@@ -16,12 +17,14 @@ use Rattle.cert_tool_runs.specs.Stops.{IsStopTold, stop_of}
 -- where the certificate c at a place stands
 abbrev pub place_line : List PlainCertificate → ℕ → PlainCertificate → List ℕ
 place_line cs place c =
-    decimal place ++ codes " " ++ decimal (offset_at Bound cs place) ++ codes " " ++ decimal (length (certificate_octets Bound c)) ++ codes "\n"
+    decimal place ++ codes " " ++ decimal (offset_at Bound cs place) ++ codes " "
+    ++ decimal (length (certificate_octets Bound c)) ++ codes "\n"
 
 -- a line for each of the first so many
 abbrev pub places_below : List PlainCertificate → ℕ → List ℕ
 places_below cs zero = []
-places_below cs (suc place) = places_below cs place ++ option_map_or (place_line cs place) (slice_get cs place) []
+places_below cs (suc place) =
+    places_below cs place ++ option_map_or (place_line cs place) (slice_get cs place) []
 
 abbrev pub place_lines : List PlainCertificate → List ℕ
 place_lines cs = places_below cs (length cs)
@@ -48,20 +51,28 @@ IsListed out err b answer =
     × (((first ≢ statuses.Done) × (answer ≡ first) × Untouched (record err { old = between }))
     ⊎ ((first ≡ statuses.Done) × IsEndTold (record err { old = between }) (stop_of b) answer)))
 
--- The octets of this certificate go out; where there is none, what ended the stream is told, or that there is none.
-abbrev pub IsTakenAt : Device → Device → Option Outcome → Option PlainCertificate → ExitStatus → Type 0
-IsTakenAt out err stop (Some c) answer = IsAnswer out err (certificate_octets Bound c) statuses.Done answer
+-- The octets of this certificate go out; where there is none, what ended the stream is told, or
+-- that there is none.
+abbrev pub IsTakenAt : Device → Device → Option Outcome → Option PlainCertificate → ExitStatus
+    → Type 0
+IsTakenAt out err stop (Some c) answer =
+    IsAnswer out err (certificate_octets Bound c) statuses.Done answer
 IsTakenAt out err (Some outcome) None answer = Untouched out × IsStopTold err outcome answer
-IsTakenAt out err None None answer = Untouched out × IsComplaint err no_place_line statuses.Arguments answer
+IsTakenAt out err None None answer = Untouched out
+    × IsComplaint err no_place_line statuses.Arguments answer
 
 -- of the certificate at a place
 abbrev pub IsTaken : Device → Device → Kept → ℕ → ExitStatus → Type 0
-IsTaken out err b place answer = IsTakenAt out err (stop_of b) (slice_get b.certificates place) answer
+IsTaken out err b place answer = IsTakenAt out err (stop_of b) (slice_get b.certificates place)
+    answer
 
--- The octets of these certificates go out, the last one first; where something ended the stream, that is told in their place.
-abbrev pub IsReversedBy : Device → Device → Option Outcome → List PlainCertificate → ExitStatus → Type 0
+-- The octets of these certificates go out, the last one first; where something ended the stream,
+-- that is told in their place.
+abbrev pub IsReversedBy : Device → Device → Option Outcome → List PlainCertificate → ExitStatus
+    → Type 0
 IsReversedBy out err (Some outcome) cs answer = Untouched out × IsStopTold err outcome answer
-IsReversedBy out err None cs answer = IsAnswer out err (reversed cs) statuses.Done answer ⊎ (Untouched out × IsMemoryTold err answer)
+IsReversedBy out err None cs answer = IsAnswer out err (reversed cs) statuses.Done answer
+    ⊎ (Untouched out × IsMemoryTold err answer)
 
 -- of a whole chain
 abbrev pub IsReversed : Device → Device → Kept → ExitStatus → Type 0

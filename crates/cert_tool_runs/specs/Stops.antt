@@ -27,7 +27,8 @@ abbrev pub stop_under : Standing → List PlainCertificate → Option Outcome
 stop_under standings.Open cs = None
 stop_under standings.Ended [] = Some (unasked verdicts.Empty)
 stop_under standings.Ended (c ∷ cs) = None
-stop_under (standings.Faulted kind) cs = Some (unasked (verdicts.StreamFault (length cs) (length (joined Bound cs)) kind))
+stop_under (standings.Faulted kind) cs =
+    Some (unasked (verdicts.StreamFault (length cs) (length (joined Bound cs)) kind))
 stop_under standings.NoMemory cs = Some outcomes.OutOfMemory
 stop_under standings.NoDevice cs = Some outcomes.Device
 
@@ -38,10 +39,12 @@ stop_of b = stop_under b.standing b.certificates
 abbrev pub FedWithin : Device → ℕ → Kept → Type 0
 FedWithin stream limit b = (b.limit ≡ limit) × IsFed stream b
 
--- What ended a run is told on the error output, and this is the status. Where there is no memory for the line, this is told in its place.
+-- What ended a run is told on the error output, and this is the status. Where there is no memory
+-- for the line, this is told in its place.
 abbrev pub IsStopTold : Device → Outcome → ExitStatus → Type 0
 IsStopTold err (outcomes.Checked checked) answer =
-    IsComplaint err (line_of checked.verdict checked.calls) (status_of checked.verdict) answer ⊎ IsMemoryTold err answer
+    IsComplaint err (line_of checked.verdict checked.calls) (status_of checked.verdict) answer
+    ⊎ IsMemoryTold err answer
 IsStopTold err (outcomes.BadAnchors offset fault) answer =
     IsComplaint err (anchors_line offset fault) statuses.Arguments answer ⊎ IsMemoryTold err answer
 IsStopTold err outcomes.Device answer = IsDeviceTold err answer

@@ -15,9 +15,11 @@ use Rattle.cert_tool_runs.specs.AnswerLines.{file_says}
 abbrev pub AreAnswers : Device → Result (List Question) NoAnswers → Type 0
 AreAnswers d (Ok qs) = (octets : List ℕ) × IsWhole d most_octets octets × (file_says octets ≡ Ok qs)
 AreAnswers d (Err (reasons.Line line)) =
-    ((octets : List ℕ) × IsWhole d most_octets octets × (file_says octets ≡ Err line)) ⊎ (IsUnread d most_octets errors.TooMuch × (line ≡ 1))
+    ((octets : List ℕ) × IsWhole d most_octets octets × (file_says octets ≡ Err line))
+    ⊎ (IsUnread d most_octets errors.TooMuch × (line ≡ 1))
 AreAnswers d (Err reasons.Device) = IsUnread d most_octets errors.Device
-AreAnswers d (Err reasons.OutOfMemory) = ((octets : List ℕ) × IsWhole d most_octets octets) ⊎ IsUnread d most_octets errors.OutOfMemory
+AreAnswers d (Err reasons.OutOfMemory) = ((octets : List ℕ) × IsWhole d most_octets octets)
+    ⊎ IsUnread d most_octets errors.OutOfMemory
 
 -- that the line of this number is wrong
 abbrev pub wrong_line : ℕ → List ℕ
@@ -25,6 +27,7 @@ wrong_line line = codes "answers: line " ++ decimal line ++ codes "\n"
 
 -- What is told where there are no answers, and the status.
 abbrev pub IsNoneTold : Device → NoAnswers → ExitStatus → Type 0
-IsNoneTold err (reasons.Line line) answer = IsComplaint err (wrong_line line) statuses.Arguments answer ⊎ IsMemoryTold err answer
+IsNoneTold err (reasons.Line line) answer =
+    IsComplaint err (wrong_line line) statuses.Arguments answer ⊎ IsMemoryTold err answer
 IsNoneTold err reasons.Device answer = IsDeviceTold err answer
 IsNoneTold err reasons.OutOfMemory answer = IsMemoryTold err answer

@@ -3,7 +3,8 @@
 ghost use Rattle.std.specs.Prelude.{◌≡◌, ◌≤◌, IfOk, string_bytes};
 ghost use Rattle.cert_desk_io.specs.Devices.{sink, source};
 ghost use Rattle.cert_desk_checking.specs.Streams.{Kept};
-ghost use Rattle.cert_tool_runs.specs.Splitting.{IsListed, IsReversed, IsTaken, place_lines, reversed};
+ghost use Rattle.cert_tool_runs.specs.Splitting.{IsListed, IsReversed, IsTaken, place_lines};
+ghost use Rattle.cert_tool_runs.specs.Splitting.{reversed};
 ghost use Rattle.cert_tool_runs.specs.Stops.{FedWithin};
 
 use crate::stopping::tell_stop;

@@ -1,5 +1,6 @@
 -- Identifiers from their arcs, one after another, with the first fault.
-use Rattle.std.specs.Prelude.{ℕ, Bool, false, List, [], ◌∷◌, ◌++◌, length, nat_lt, if◌then◌else◌, Result, Ok, Err, Option, Some, None, option_to_list, ◌≤◌}
+use Rattle.std.specs.Prelude.{ℕ, Bool, false, List, [], ◌∷◌, ◌++◌, length, nat_lt, if◌then◌else◌}
+use Rattle.std.specs.Prelude.{Result, Ok, Err, Option, Some, None, option_to_list, ◌≤◌}
 use Rattle.const_oid.specs.declared.error.Error.{Error}
 use Rattle.const_oid.specs.declared.error.Error.TheVariants as errors
 use Rattle.const_oid.specs.IdentifierOctets.{identifier_octets}
@@ -22,14 +23,16 @@ unfoldable pub whole_arcs : List ℕ → Result (List ℕ) Error
 whole_arcs arcs = if nat_lt (length arcs) 2 then Err errors.Empty else Ok arcs
 
 -- what comes after a step that may fail
-abbrev pub and_then : Result (List ℕ) Error → (List ℕ → Result (List ℕ) Error) → Result (List ℕ) Error
+abbrev pub and_then : Result (List ℕ) Error → (List ℕ → Result (List ℕ) Error)
+    → Result (List ℕ) Error
 and_then (Ok arcs) rest = rest arcs
 and_then (Err e) rest = Err e
 
 -- these arcs, and then those of a list
 unfoldable pub gather : (capacity : ℕ) → (arcs : List ℕ) → List ℕ → Result (List ℕ) Error
 gather capacity arcs [] = whole_arcs arcs
-gather capacity arcs (a ∷ list) = and_then (add_arc capacity arcs a) (λ more. gather capacity more list)
+gather capacity arcs (a ∷ list) =
+    and_then (add_arc capacity arcs a) (λ more. gather capacity more list)
 
 -- the arcs of an identifier, or before it has two a first one alone
 abbrev pub arcs_so_far : Option ℕ → Option (List ℕ) → List ℕ

@@ -1,5 +1,6 @@
 -- The arcs that identifier octets spell (X.690 8.19).
-use Rattle.std.specs.Prelude.{◌≡◌, ℕ, ◌+◌, ◌*◌, ◌/◌, ◌%◌, ◌≤◌, true, false, ltb, List, [], ◌∷◌, length}
+use Rattle.std.specs.Prelude.{◌≡◌, ℕ, ◌+◌, ◌*◌, ◌/◌, ◌%◌, ◌≤◌, true, false, ltb, List, [], ◌∷◌}
+use Rattle.std.specs.Prelude.{length}
 use Rattle.const_oid.specs.IdentifierOctets.{identifier_octets, IsIdentifier}
 
 -- the arcs after the root; `value` is what the octets of an unfinished arc have given

@@ -3,11 +3,13 @@ use Rattle.std.specs.Prelude.{◌≡◌, ℕ, ◌-◌, ◌≤◌, List, ◌++◌
 use Rattle.std.proofs.Common.{sym, ap, ◌∙◌, arith, length-take-le, take-append-drop}
 
 -- the length of the list
-pub length_front : (size count : ℕ) (bytes : List ℕ) → count ≤ size → length bytes ≡ size → length (take count bytes) ≡ count
+pub length_front : (size count : ℕ) (bytes : List ℕ) → count ≤ size → length bytes ≡ size
+    → length (take count bytes) ≡ count
 length_front size count bytes fits whole = length-take-le count bytes (omega arith)
 
 -- the list and the zeros after it are the array
-pub padded : (size count : ℕ) (bytes : List ℕ) → count ≤ size → length bytes ≡ size → drop count bytes ≡ replicate (size - count) 0
+pub padded : (size count : ℕ) (bytes : List ℕ) → count ≤ size → length bytes ≡ size
+    → drop count bytes ≡ replicate (size - count) 0
     → take count bytes ++ replicate (size - length (take count bytes)) 0 ≡ bytes
 padded size count bytes fits whole zeros =
     ap (λ n. take count bytes ++ replicate (size - n) 0) (length_front size count bytes fits whole)

@@ -5,7 +5,11 @@ use Rattle.std.specs.Prelude.{ℕ, zero, suc, ◌+◌, ◌/◌, ◌%◌, true, f
 unfoldable pub digits_within : (base room n : ℕ) → List ℕ
 digits_within base zero n = n ∷ []
 digits_within base (suc room) n =
-    elim (ltb n base) [ true ↦ n ∷ [] | false ↦ digits_within base room (n / base) ++ (n % base ∷ []) ]
+    elim (ltb n base) [
+      | true ↦ n ∷ []
+      | false ↦ digits_within base room (n / base)
+          ++ (n % base ∷ [])
+    ]
 
 -- the digits of n, without a leading zero; zero is one digit (X.690 8.1.3.5, 8.19.2)
 unfoldable pub digits : (base n : ℕ) → List ℕ

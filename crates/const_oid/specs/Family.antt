@@ -1,5 +1,6 @@
 -- An identifier's children and its parent, by arcs.
-use Rattle.std.specs.Prelude.{ℕ, ◌-◌, List, [], ◌∷◌, ◌++◌, length, take, nat_lt, if◌then◌else◌, Option, Some, None, Result, Ok, Err}
+use Rattle.std.specs.Prelude.{ℕ, ◌-◌, List, [], ◌∷◌, ◌++◌, length, take, nat_lt, if◌then◌else◌}
+use Rattle.std.specs.Prelude.{Option, Some, None, Result, Ok, Err}
 use Rattle.const_oid.specs.declared.error.Error.{Error}
 use Rattle.const_oid.specs.declared.error.Error.TheVariants as errors
 use Rattle.const_oid.specs.IdentifierOctets.{identifier_octets}
@@ -7,7 +8,8 @@ use Rattle.const_oid.specs.IdentifierOctets.{identifier_octets}
 -- one arc more, where its octets are within the capacity
 abbrev pub child_of : (capacity : ℕ) → List ℕ → ℕ → Result (List ℕ) Error
 child_of capacity arcs a =
-    if nat_lt capacity (length (identifier_octets (arcs ++ a ∷ []))) then Err errors.Length else Ok (arcs ++ a ∷ [])
+    if nat_lt capacity (length (identifier_octets (arcs ++ a ∷ []))) then Err errors.Length
+    else Ok (arcs ++ a ∷ [])
 
 -- all arcs but the last, where more than two are there
 abbrev pub parent_of : List ℕ → Option (List ℕ)

@@ -1,5 +1,7 @@
--- Object identifiers and their octets (X.690 8.19). Each definition takes the bound of arcs as an argument.
-use Rattle.std.specs.Prelude.{ℕ, ◌+◌, ◌*◌, ◌/◌, ◌%◌, ◌<◌, ◌≤◌, ◌&&◌, ◌==◌, true, false, ltb, List, [], ◌∷◌, length, Result, Ok, Err}
+-- Object identifiers and their octets (X.690 8.19). Each definition takes the bound of arcs as an
+-- argument.
+use Rattle.std.specs.Prelude.{ℕ, ◌+◌, ◌*◌, ◌/◌, ◌%◌, ◌<◌, ◌≤◌, ◌&&◌, ◌==◌, true, false, ltb, List}
+use Rattle.std.specs.Prelude.{[], ◌∷◌, length, Result, Ok, Err}
 use Rattle.std.specs.List.{AllByRecursion, flat_map}
 use Rattle.const_oid.specs.declared.error.Error.{Error}
 use Rattle.const_oid.specs.declared.error.Error.TheVariants as errors
@@ -24,8 +26,8 @@ abbrev pub with_arc : ℕ → Result (List ℕ) Error → Result (List ℕ) Erro
 with_arc a (Ok arcs) = Ok (a ∷ arcs)
 with_arc a (Err e) = Err e
 
--- the arcs after the root, with the first fault; `value` is what the octets of an unfinished arc have given, and 0
--- where no arc is begun
+-- the arcs after the root, with the first fault; `value` is what the octets of an unfinished arc
+-- have given, and 0 where no arc is begun
 abbrev pub read_arcs : (bound value : ℕ) → List ℕ → Result (List ℕ) Error
 read_arcs bound value [] = elim (value == 0) [ true ↦ Ok [] | false ↦ Err errors.Base128 ]
 read_arcs bound value (o ∷ w) =

@@ -15,7 +15,8 @@ Entry = Bor (List ℕ) × Bor (List ℕ)
 abbrev pub names_of : List ℕ → List Entry → List (List ℕ)
 names_of arcs [] = []
 names_of arcs (e ∷ entries) =
-    if pointwise nat_eq (identifier_octets e.0.now) (identifier_octets arcs) then e.1.now ∷ names_of arcs entries else names_of arcs entries
+    if pointwise nat_eq (identifier_octets e.0.now) (identifier_octets arcs) then e.1.now
+    ∷ names_of arcs entries else names_of arcs entries
 
 -- the first of a list
 abbrev pub first : List (List ℕ) → Option (List ℕ)
@@ -26,7 +27,8 @@ first (x ∷ xs) = Some x
 abbrev pub by_name : List ℕ → List Entry → Option (List ℕ)
 by_name name [] = None
 by_name name (e ∷ entries) =
-    if pointwise nat_eq (map to_ascii_lowercase e.1.now) (map to_ascii_lowercase name) then Some e.0.now else by_name name entries
+    if pointwise nat_eq (map to_ascii_lowercase e.1.now) (map to_ascii_lowercase name)
+    then Some e.0.now else by_name name entries
 
 -- the first name of what a text reads as, or the text itself, or its fault
 abbrev pub resolved : List ℕ → List Entry → Result (List ℕ) Error → Result (List ℕ) Error

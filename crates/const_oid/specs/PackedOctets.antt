@@ -1,5 +1,7 @@
--- Octets whose last one has no mark, in an array whose rest is marked: so the array tells where they end.
-use Rattle.std.specs.Prelude.{◌≡◌, ℕ, ◌-◌, ◌≤◌, true, false, ltb, List, [], ◌∷◌, ◌++◌, length, min, replicate}
+-- Octets whose last one has no mark, in an array whose rest is marked: so the array tells where
+-- they end.
+use Rattle.std.specs.Prelude.{◌≡◌, ℕ, ◌-◌, ◌≤◌, true, false, ltb, List, [], ◌∷◌, ◌++◌, length, min}
+use Rattle.std.specs.Prelude.{replicate}
 
 -- an octet in front of others; with none behind it, it stays where it has no mark
 abbrev pub before : ℕ → List ℕ → List ℕ

@@ -14,4 +14,5 @@ reference_arcs oid = arcs_of oid.octets.now
 
 -- the arcs that an iterator has yet to give
 abbrev pub remaining_arcs : Arcs → List ℕ
-remaining_arcs arcs = option_to_list arcs.first ++ (option_to_list arcs.second ++ later_arcs 0 arcs.later.now)
+remaining_arcs arcs = option_to_list arcs.first
+    ++ (option_to_list arcs.second ++ later_arcs 0 arcs.later.now)

@@ -1,6 +1,7 @@
--- Which texts spell arcs, and what is wrong with a text that spells no identifier: the first fault from the left, by the
--- shortest faulty front.
-use Rattle.std.specs.Prelude.{◌≡◌, ℕ, ◌+◌, ◌*◌, ◌<◌, ◌≤◌, List, [], ◌∷◌, ◌++◌, length, replicate, Option, Some, None, unwrap_or}
+-- Which texts spell arcs, and what is wrong with a text that spells no identifier: the first fault
+-- from the left, by the shortest faulty front.
+use Rattle.std.specs.Prelude.{◌≡◌, ℕ, ◌+◌, ◌*◌, ◌<◌, ◌≤◌, List, [], ◌∷◌, ◌++◌, length, replicate}
+use Rattle.std.specs.Prelude.{Option, Some, None, unwrap_or}
 use Rattle.std.specs.List.{AllByRecursion, flat_map, join_with_byte}
 use Rattle.const_oid.specs.declared.error.Error.{Error}
 use Rattle.const_oid.specs.declared.error.Error.TheVariants as errors
@@ -33,7 +34,8 @@ abbrev pub IsBegun : (bound : ℕ) → Option ℕ → List ℕ → Type 0
 IsBegun bound None piece = piece ≡ []
 IsBegun bound (Some value) piece = IsDecimal value piece × (value < bound)
 
--- a front without a fault: whole arcs, each with a dot behind it, and then an arc that has begun, or none
+-- a front without a fault: whole arcs, each with a dot behind it, and then an arc that has begun,
+-- or none
 pub record IsOpenText (bound capacity : ℕ) (front arcs : List ℕ) (begun : Option ℕ) : Type 0 where
   pub pieces : List (List ℕ)
   pub last : List ℕ
@@ -51,21 +53,30 @@ pub data EndsArc (text front : List ℕ) : Type 0 where
 -- the fault that comes with one octet more behind such a front, or at the end
 pub data IsTextFault (bound capacity : ℕ) (text : List ℕ) : Error → Type 0 where
   no_text : text ≡ [] → IsTextFault bound capacity text errors.Empty
-  first_dot : (rest : List ℕ) → text ≡ 46 ∷ rest → IsTextFault bound capacity text (errors.DigitExpected 46)
+  first_dot : (rest : List ℕ) → text ≡ 46 ∷ rest
+      → IsTextFault bound capacity text (errors.DigitExpected 46)
   -- an octet that is no digit and no dot
-  no_digit : (front rest arcs : List ℕ) (begun : Option ℕ) (c : ℕ) → text ≡ front ++ (c ∷ rest) → IsOpenText bound capacity front arcs begun
-      → ¬ (c ≡ 46) → ¬ ((48 ≤ c) × (c ≤ 57)) → IsTextFault bound capacity text (errors.DigitExpected c)
+  no_digit : (front rest arcs : List ℕ) (begun : Option ℕ) (c : ℕ) → text ≡ front ++ (c ∷ rest)
+      → IsOpenText bound capacity front arcs begun
+      → ¬ (c ≡ 46) → ¬ ((48 ≤ c) × (c ≤ 57))
+      → IsTextFault bound capacity text (errors.DigitExpected c)
   -- a dot after a dot
-  repeated_dot : (front rest arcs : List ℕ) → text ≡ front ++ (46 ∷ rest) → IsOpenText bound capacity front arcs None → 0 < length arcs
+  repeated_dot : (front rest arcs : List ℕ) → text ≡ front ++ (46 ∷ rest)
+      → IsOpenText bound capacity front arcs None → 0 < length arcs
       → IsTextFault bound capacity text errors.RepeatedDot
   -- a dot as the last octet
-  trailing_dot : (front arcs : List ℕ) (a : ℕ) → text ≡ front ++ (46 ∷ []) → IsOpenText bound capacity front arcs (Some a)
+  trailing_dot : (front arcs : List ℕ) (a : ℕ) → text ≡ front ++ (46 ∷ [])
+      → IsOpenText bound capacity front arcs (Some a)
       → IsTextFault bound capacity text errors.TrailingDot
   -- a digit with which the arc reaches the bound
-  too_big : (front rest arcs : List ℕ) (begun : Option ℕ) (d : ℕ) → text ≡ front ++ ((48 + d) ∷ rest) → IsOpenText bound capacity front arcs begun
-      → d ≤ 9 → bound ≤ unwrap_or begun 0 * 10 + d → IsTextFault bound capacity text errors.ArcTooBig
+  too_big : (front rest arcs : List ℕ) (begun : Option ℕ) (d : ℕ) → text ≡ front
+      ++ ((48 + d) ∷ rest) → IsOpenText bound capacity front arcs begun
+      → d ≤ 9 → bound ≤ unwrap_or begun 0 * 10 + d
+      → IsTextFault bound capacity text errors.ArcTooBig
   -- an arc that may not stand where it ends, or whose octets pass the capacity
-  arc : (front arcs : List ℕ) (a : ℕ) (e : Error) → EndsArc text front → IsOpenText bound capacity front arcs (Some a) → IsNextFault capacity arcs a e
+  arc : (front arcs : List ℕ) (a : ℕ) (e : Error) → EndsArc text front
+      → IsOpenText bound capacity front arcs (Some a) → IsNextFault capacity arcs a e
       → IsTextFault bound capacity text e
   -- one arc, and no more
-  one_arc : (a : ℕ) → IsOpenText bound capacity text [] (Some a) → a ≤ 2 → IsTextFault bound capacity text errors.Empty
+  one_arc : (a : ℕ) → IsOpenText bound capacity text [] (Some a) → a ≤ 2
+      → IsTextFault bound capacity text errors.Empty

@@ -1,5 +1,6 @@
 -- Reading of dotted texts, with the first fault.
-use Rattle.std.specs.Prelude.{ℕ, ◌+◌, ◌-◌, ◌*◌, ◌==◌, ◌&&◌, true, false, nat_lt, nat_le, List, [], ◌∷◌, if◌then◌else◌, Result, Ok, Err, Option, Some, None, unwrap_or}
+use Rattle.std.specs.Prelude.{ℕ, ◌+◌, ◌-◌, ◌*◌, ◌==◌, ◌&&◌, true, false, nat_lt, nat_le, List, []}
+use Rattle.std.specs.Prelude.{◌∷◌, if◌then◌else◌, Result, Ok, Err, Option, Some, None, unwrap_or}
 use Rattle.const_oid.specs.declared.error.Error.{Error}
 use Rattle.const_oid.specs.declared.error.Error.TheVariants as errors
 use Rattle.const_oid.specs.ArcLists.{add_arc, whole_arcs, and_then}
@@ -7,7 +8,9 @@ use Rattle.const_oid.specs.ArcLists.{add_arc, whole_arcs, and_then}
 -- the value of an unfinished arc with this octet behind its digits
 abbrev pub with_digit : (bound : ℕ) → Option ℕ → ℕ → Result ℕ Error
 with_digit bound value c =
-    if nat_le 48 c && nat_lt c 58 then (if nat_lt (unwrap_or value 0 * 10 + (c - 48)) bound then Ok (unwrap_or value 0 * 10 + (c - 48)) else Err errors.ArcTooBig)
+    if nat_le 48 c && nat_lt c 58
+    then (if nat_lt (unwrap_or value 0 * 10 + (c - 48)) bound
+    then Ok (unwrap_or value 0 * 10 + (c - 48)) else Err errors.ArcTooBig)
     else Err (errors.DigitExpected c)
 
 -- a dot where a digit must stand
@@ -26,15 +29,18 @@ behind_dot [] r = Err errors.TrailingDot
 behind_dot (c ∷ w) r = r
 
 -- the arcs so far, the value of an arc that has begun, and the text that is left
-unfoldable pub text_arcs : (bound capacity : ℕ) → (arcs : List ℕ) → (value : Option ℕ) → List ℕ → Result (List ℕ) Error
+unfoldable pub text_arcs : (bound capacity : ℕ) → (arcs : List ℕ) → (value : Option ℕ) → List ℕ
+    → Result (List ℕ) Error
 text_arcs bound capacity arcs None [] = Err errors.Empty
 text_arcs bound capacity arcs (Some value) [] = and_then (add_arc capacity arcs value) whole_arcs
 text_arcs bound capacity arcs value (c ∷ w) =
     elim (c == 46) [
-      | false ↦ and_value (with_digit bound value c) (λ next. text_arcs bound capacity arcs (Some next) w)
+      | false ↦ and_value (with_digit bound value c)
+          (λ next. text_arcs bound capacity arcs (Some next) w)
       | true ↦ elim value [
         | None ↦ Err (early_dot arcs)
-        | Some arc ↦ behind_dot w (and_then (add_arc capacity arcs arc) (λ more. text_arcs bound capacity more None w))
+        | Some arc ↦ behind_dot w
+            (and_then (add_arc capacity arcs arc) (λ more. text_arcs bound capacity more None w))
       ]
     ]
 

@@ -1,6 +1,7 @@
 //! The arcs of an identifier, one after another.
 
-ghost use Rattle.std.specs.Prelude.{◌≡◌, ℕ, ◌∷◌, [], true, is_ok, Option, MatchOption, ◌<◌, length, slice_get, count_by, nat_lt, ◌≤◌, ◌-◌};
+ghost use Rattle.std.specs.Prelude.{◌≡◌, ℕ, ◌∷◌, [], true, is_ok, Option, MatchOption, ◌<◌, length};
+ghost use Rattle.std.specs.Prelude.{slice_get, count_by, nat_lt, ◌≤◌, ◌-◌};
 ghost use Rattle.const_oid.specs.Bound.{Bound};
 ghost use Rattle.const_oid.specs.IdentifierOctets.{read_arcs, read_identifier};
 ghost use Rattle.const_oid.specs.Arcs.{later_arcs, arcs_of, SpellsIdentifier};

@@ -1,6 +1,7 @@
 //! Octets in place: a list of at most `SIZE` octets that needs no memory of its own.
 
-ghost use Rattle.std.specs.Prelude.{◌≡◌, ℕ, ◌+◌, ◌<◌, ◌≤◌, ◌==◌, List, [], ◌∷◌, ◌++◌, length, take, nat_eq, refl, Some, MatchResult};
+ghost use Rattle.std.specs.Prelude.{◌≡◌, ℕ, ◌+◌, ◌<◌, ◌≤◌, ◌==◌, List, [], ◌∷◌, ◌++◌, length, take};
+ghost use Rattle.std.specs.Prelude.{nat_eq, refl, Some, MatchResult};
 ghost use Rattle.const_oid.specs.Orders.{sized_cmp, sized_cmp_total, sized_cmp_ties};
 ghost use Rattle.std.specs.Cmp.{po, partial_equiv_from_equiv};
 ghost use Rattle.std.specs.Cmp.Lexicographic.{pointwise, nat_list_eq_equiv};
@@ -23,7 +24,8 @@ pub struct Buffer<const SIZE: usize> {
 }
 
 impl<const SIZE: usize> Model for Buffer<SIZE> {
-    ghost use Rattle.std.specs.Prelude.{◌≡◌, ℕ, ◌-◌, ◌≤◌, ◌++◌, List, length, take, drop, replicate};
+    ghost use Rattle.std.specs.Prelude.{◌≡◌, ℕ, ◌-◌, ◌≤◌, ◌++◌, List, length, take, drop};
+    ghost use Rattle.std.specs.Prelude.{replicate};
     ghost use Rattle.const_oid.specs.Buffers.{padded, length_front};
 
     ghost Value = { List ℕ };

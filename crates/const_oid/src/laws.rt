@@ -1,10 +1,13 @@
 //! Laws about identifiers: each function does nothing, and its contract is the law.
 
-ghost use Rattle.std.specs.Prelude.{◌≡◌, ◌≢◌, ◌↔◌, ℕ, ◌+◌, ◌*◌, ◌<◌, ◌≤◌, ◌++◌, ◌∷◌, [], List, length, slice_index, count_by, nat_lt, IsTrue, Option, Some, Result, Ok, Err};
+ghost use Rattle.std.specs.Prelude.{◌≡◌, ◌≢◌, ◌↔◌, ℕ, ◌+◌, ◌*◌, ◌<◌, ◌≤◌, ◌++◌, ◌∷◌, [], List};
+ghost use Rattle.std.specs.Prelude.{length, slice_index, count_by, nat_lt, IsTrue, Option, Some};
+ghost use Rattle.std.specs.Prelude.{Result, Ok, Err};
 ghost use Rattle.const_oid.specs.declared.error.Error.{Error};
 ghost use Rattle.const_oid.specs.declared.error.Error.TheVariants as errors;
 ghost use Rattle.const_oid.specs.Bound.{Bound};
-ghost use Rattle.const_oid.specs.IdentifierOctets.{identifier_octets, IsIdentifier, read_identifier};
+ghost use Rattle.const_oid.specs.IdentifierOctets.{identifier_octets, IsIdentifier};
+ghost use Rattle.const_oid.specs.IdentifierOctets.{read_identifier};
 ghost use Rattle.const_oid.specs.OctetFaults.{IsOctetsFault};
 ghost use Rattle.const_oid.specs.ArcLists.{gather};
 ghost use Rattle.const_oid.specs.TextReading.{read_text};

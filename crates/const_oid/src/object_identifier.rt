@@ -1,6 +1,9 @@
 //! Owned identifiers.
 
-ghost use Rattle.std.specs.Prelude.{◌≡◌, ℕ, ◌+◌, ◌-◌, ◌<◌, ◌≤◌, ◌↔◌, IsTrue, is_ok, true, nat_eq, refl, Some, None, IsNone, IfSome, [], ◌∷◌, ◌++◌, nat_lt, if◌then◌else◌, Err, length, slice_get, Result, Ok, IfOk, IfErr, MatchResult, List};
+ghost use Rattle.std.specs.Prelude.{◌≡◌, ℕ, ◌+◌, ◌-◌, ◌<◌, ◌≤◌, ◌↔◌, IsTrue, is_ok, true, nat_eq};
+ghost use Rattle.std.specs.Prelude.{refl, Some, None, IsNone, IfSome, [], ◌∷◌, ◌++◌, nat_lt};
+ghost use Rattle.std.specs.Prelude.{if◌then◌else◌, Err, length, slice_get, Result, Ok, IfOk, IfErr};
+ghost use Rattle.std.specs.Prelude.{MatchResult, List};
 ghost use Rattle.std.specs.Cmp.{po, on_equiv, on_per, partial_equiv_from_equiv};
 ghost use Rattle.std.specs.Cmp.Lexicographic.{pointwise, nat_list_eq_equiv};
 ghost use Rattle.const_oid.specs.Orders.{owned_cmp, owned_cmp_total, owned_cmp_ties};
@@ -11,7 +14,8 @@ ghost use Rattle.std.proofs.Common.{rules};
 ghost use Rattle.const_oid.specs.declared.error.Error.TheVariants as errors;
 ghost use Rattle.const_oid.specs.Bound.{Bound};
 ghost use Rattle.const_oid.specs.Digits.{digits};
-ghost use Rattle.const_oid.specs.IdentifierOctets.{identifier_octets, IsIdentifier, read_identifier};
+ghost use Rattle.const_oid.specs.IdentifierOctets.{identifier_octets, IsIdentifier};
+ghost use Rattle.const_oid.specs.IdentifierOctets.{read_identifier};
 ghost use Rattle.const_oid.specs.Arcs.{arcs_of, SpellsIdentifier};
 ghost use Rattle.const_oid.specs.OctetFaults.{IsOctetsFault};
 ghost use Rattle.const_oid.specs.Family.{child_of, parent_of};

@@ -1,9 +1,11 @@
 //! Borrowed identifiers.
 
-ghost use Rattle.std.specs.Prelude.{◌≡◌, ℕ, ◌<◌, ◌↔◌, IsTrue, ◌≤◌, true, is_ok, length, slice_get, Result, Ok, IfOk, List};
+ghost use Rattle.std.specs.Prelude.{◌≡◌, ℕ, ◌<◌, ◌↔◌, IsTrue, ◌≤◌, true, is_ok, length, slice_get};
+ghost use Rattle.std.specs.Prelude.{Result, Ok, IfOk, List};
 ghost use Rattle.const_oid.specs.Bound.{Bound};
 ghost use Rattle.const_oid.specs.Arcs.{arcs_of};
-ghost use Rattle.const_oid.specs.IdentifierOctets.{identifier_octets, IsIdentifier, read_identifier};
+ghost use Rattle.const_oid.specs.IdentifierOctets.{identifier_octets, IsIdentifier};
+ghost use Rattle.const_oid.specs.IdentifierOctets.{read_identifier};
 
 use crate::arcs::{self, Arcs};
 use crate::error::{Arc, Error, Result};

@@ -1,6 +1,7 @@
 //! Reading of identifier octets (X.690 8.19), in one pass and with the first fault.
 
-ghost use Rattle.std.specs.Prelude.{◌≡◌, ℕ, ◌+◌, ◌*◌, ◌%◌, ◌<◌, ◌≤◌, Option, Some, None, Result, Ok, Err, MatchResult, length, nat_lt, if◌then◌else◌};
+ghost use Rattle.std.specs.Prelude.{◌≡◌, ℕ, ◌+◌, ◌*◌, ◌%◌, ◌<◌, ◌≤◌, Option, Some, None, Result};
+ghost use Rattle.std.specs.Prelude.{Ok, Err, MatchResult, length, nat_lt, if◌then◌else◌};
 ghost use Rattle.const_oid.specs.Bound.{Bound};
 ghost use Rattle.const_oid.specs.IdentifierOctets.{read_arcs, read_identifier};
 ghost use Rattle.const_oid.specs.Outcome.{after_octet, outcome};

@@ -1,6 +1,7 @@
 //! Reading of dotted texts, in one pass and with the first fault.
 
-ghost use Rattle.std.specs.Prelude.{◌≡◌, ℕ, ◌+◌, ◌*◌, Option, Some, None, [], nat_lt, if◌then◌else◌, Result, Ok, Err};
+ghost use Rattle.std.specs.Prelude.{◌≡◌, ℕ, ◌+◌, ◌*◌, Option, Some, None, [], nat_lt};
+ghost use Rattle.std.specs.Prelude.{if◌then◌else◌, Result, Ok, Err};
 ghost use Rattle.const_oid.specs.Bound.{Bound};
 ghost use Rattle.const_oid.specs.TextReading.{early_dot, text_arcs, read_text};
 

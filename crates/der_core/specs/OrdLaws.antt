@@ -6,31 +6,42 @@ use Rattle.std.specs.Cmp.{nat_cmp_total, tied_itself}
 use Rattle.std.specs.declared.cmp.Ordering.TheVariants.{Equal}
 use Rattle.const_oid.specs.IdentifierOctets.{identifier_octets}
 use Rattle.const_oid.specs.Orders.{owned_cmp}
-use Rattle.der_core_head.specs.Leaves.{Leaf, LeafValue, leaf_contents as octets_of_leaf, boolean, null, identifier}
+use Rattle.der_core_head.specs.Leaves.{Leaf, LeafValue, leaf_contents as octets_of_leaf, boolean}
+use Rattle.der_core_head.specs.Leaves.{null, identifier}
 use Rattle.der_core_head.specs.Shapes.{leaf, contents, IsContent}
 use Rattle.der_core.specs.Orders.{octets_cmp, contents_cmp}
 
 -- a type that is ordered as the octets of its contents
-pub octets_order : (l : Leaf) (v w : LeafValue l) → IsContent (leaf l) v → IsContent (leaf l) w → length (contents (leaf l) v) ≡ length (contents (leaf l) w)
+pub octets_order : (l : Leaf) (v w : LeafValue l) → IsContent (leaf l) v → IsContent (leaf l) w
+    → length (contents (leaf l) v) ≡ length (contents (leaf l) w)
     → octets_cmp (octets_of_leaf l v) (octets_of_leaf l w) ≡ contents_cmp (leaf l) v w
 unfolding contents
 octets_order l v w p q e = refl
 
-pub bool_order : (v w : Bool) → IsContent (leaf boolean) v → IsContent (leaf boolean) w → length (contents (leaf boolean) v) ≡ length (contents (leaf boolean) w) → bool_cmp v w ≡ contents_cmp (leaf boolean) v w
+pub bool_order : (v w : Bool) → IsContent (leaf boolean) v → IsContent (leaf boolean) w
+    → length (contents (leaf boolean) v) ≡ length (contents (leaf boolean) w) → bool_cmp v w
+    ≡ contents_cmp (leaf boolean) v w
 unfolding contents
 bool_order true true p q e = refl
 bool_order true false p q e = refl
 bool_order false true p q e = refl
 bool_order false false p q e = refl
 
-pub null_order : (v w : Unit {0}) → IsContent (leaf null) v → IsContent (leaf null) w → length (contents (leaf null) v) ≡ length (contents (leaf null) w) → Equal ≡ contents_cmp (leaf null) v w
+pub null_order : (v w : Unit {0}) → IsContent (leaf null) v → IsContent (leaf null) w
+    → length (contents (leaf null) v) ≡ length (contents (leaf null) w)
+    → Equal ≡ contents_cmp (leaf null) v w
 unfolding contents
 null_order v w p q e = refl
 
 -- the number of octets, and then the octets
-pub identifier_order : (bound capacity : ℕ) (v w : List ℕ) → IsContent (leaf (identifier bound capacity)) v → IsContent (leaf (identifier bound capacity)) w
-    → length (contents (leaf (identifier bound capacity)) v) ≡ length (contents (leaf (identifier bound capacity)) w) → owned_cmp v w ≡ contents_cmp (leaf (identifier bound capacity)) v w
+pub identifier_order : (bound capacity : ℕ) (v w : List ℕ)
+    → IsContent (leaf (identifier bound capacity)) v
+    → IsContent (leaf (identifier bound capacity)) w
+    → length (contents (leaf (identifier bound capacity)) v)
+    ≡ length (contents (leaf (identifier bound capacity)) w) → owned_cmp v w
+    ≡ contents_cmp (leaf (identifier bound capacity)) v w
 unfolding contents
 identifier_order bound capacity v w p q e =
     ap (λ o. ordering_then o (octets_cmp (identifier_octets v) (identifier_octets w)))
-    (ap (nat_cmp (length (identifier_octets v))) (sym e) ∙ tied_itself nat_cmp_total (length (identifier_octets v)))
+    (ap (nat_cmp (length (identifier_octets v))) (sym e)
+    ∙ tied_itself nat_cmp_total (length (identifier_octets v)))

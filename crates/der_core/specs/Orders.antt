@@ -1,5 +1,6 @@
 -- The order of encodings: that of lists of octets (X.690 11.6).
-use Rattle.std.specs.Prelude.{◌≡◌, ℕ, List, [], ◌++◌, Bool, true, Option, Some, None, Result, Err, ◌⊎◌}
+use Rattle.std.specs.Prelude.{◌≡◌, ℕ, List, [], ◌++◌, Bool, true, Option, Some, None, Result, Err}
+use Rattle.std.specs.Prelude.{◌⊎◌}
 use Rattle.std.specs.Ordering.{nat_cmp}
 use Rattle.std.specs.declared.cmp.Ordering.{Ordering}
 use Rattle.std.specs.declared.cmp.Ordering.TheVariants.{Less}
@@ -9,7 +10,8 @@ use Rattle.der_core_head.specs.declared.error.ErrorKind.{ErrorKind}
 use Rattle.der_core_head.specs.declared.error.ErrorKind.TheVariants as kinds
 use Rattle.der_core_head.specs.declared.tag.Tag.{Tag}
 use Rattle.der_core_head.specs.Tags.{IsTag, tag_octets}
-use Rattle.der_core_head.specs.Shapes.{Shape, Content, Body, Value, ContentValue, BodyValue, octets_of, contents, body_octets}
+use Rattle.der_core_head.specs.Shapes.{Shape, Content, Body, Value, ContentValue, BodyValue}
+use Rattle.der_core_head.specs.Shapes.{octets_of, contents, body_octets}
 
 -- the first octets that differ decide, and where none do the shorter list is the lower one
 abbrev pub octets_cmp : List ℕ → List ℕ → Ordering
@@ -37,7 +39,8 @@ abbrev pub StartsWith : (Tag → Bool) → Option Tag → List ℕ → Type 0
 StartsWith first None b = b ≡ []
 StartsWith first (Some t) b = (w : List ℕ) × (b ≡ tag_octets t ++ w) × IsTag t × (first t ≡ true)
 
--- The order of octets that begin with one tag, if with any, and of octets that begin with another tag.
+-- The order of octets that begin with one tag, if with any, and of octets that begin with another
+-- tag.
 abbrev pub next_cmp : Option Tag → Tag → Ordering
 next_cmp None t = Less
 next_cmp (Some u) t = octets_cmp (tag_octets u) (tag_octets t)

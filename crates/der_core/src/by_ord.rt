@@ -15,11 +15,13 @@ use std::cmp::Ordering;
 
 /// A type whose `Ord` is the order of contents of equal length, as lists of octets.
 ///
-/// Of contents of other lengths it may be another one: identifiers are ordered by the number of their
-/// octets first.
+/// Of contents of other lengths it may be another one: identifiers are ordered by the number of
+/// their octets first.
 pub trait OrdIsValueOrd: ShapedValue + Ord {
-    ghost order: { (v w : Self) → IsContent Self.content (Self.value_written v) → IsContent Self.content (Self.value_written w)
-        → length (contents Self.content (Self.value_written v)) ≡ length (contents Self.content (Self.value_written w))
+    ghost order: { (v w : Self) → IsContent Self.content (Self.value_written v)
+        → IsContent Self.content (Self.value_written w)
+        → length (contents Self.content (Self.value_written v))
+        ≡ length (contents Self.content (Self.value_written w))
         → Self.cmp v w ≡ contents_cmp Self.content (Self.value_written v) (Self.value_written w) };
 }
 
@@ -27,23 +29,29 @@ pub trait OrdIsValueOrd: ShapedValue + Ord {
 pub fn value_cmp_by_ord<T: OrdIsValueOrd>(a: &T, b: &T) -> Ordering
     // It is that of their `Ord` whatever the lengths are.
     ensures ord { result ≡ T.cmp a.now b.now }
-    ensures order { IsContent T.content (T.value_written a.now) → IsContent T.content (T.value_written b.now)
-        → length (contents T.content (T.value_written a.now)) ≡ length (contents T.content (T.value_written b.now))
+    ensures order { IsContent T.content (T.value_written a.now)
+        → IsContent T.content (T.value_written b.now)
+        → length (contents T.content (T.value_written a.now))
+        ≡ length (contents T.content (T.value_written b.now))
         → result ≡ contents_cmp T.content (T.value_written a.now) (T.value_written b.now) }
 {
     a.cmp(b)
 }
 
-/// What `value_cmp` answers, which is the `Ord` of the two values where their contents have the same
-/// length.
+/// What `value_cmp` answers, which is the `Ord` of the two values where their contents have the
+/// same length.
 ///
 /// # Errors
 /// `Overflow` where the content of one of the two has 2^32 octets or more.
 pub fn value_cmp_is_ord<T: ValueOrd + OrdIsValueOrd>(a: &T, b: &T) -> Result<Ordering, Error>
-    ensures order { is_content_apart T.content ≡ true → IsContent T.content (T.value_written a.now) → IsContent T.content (T.value_written b.now)
-        → length (contents T.content (T.value_written a.now)) ≡ length (contents T.content (T.value_written b.now))
+    ensures order { is_content_apart T.content ≡ true → IsContent T.content (T.value_written a.now)
+        → IsContent T.content (T.value_written b.now)
+        → length (contents T.content (T.value_written a.now))
+        ≡ length (contents T.content (T.value_written b.now))
         → result ≡ Ok (T.cmp a.now b.now) }
-    ensures refused { IfErr result (λ e. Overflows e (size_content T.content (T.value_written a.now)) (size_content T.content (T.value_written b.now))) }
+    ensures refused { IfErr result
+        (λ e. Overflows e (size_content T.content (T.value_written a.now))
+        (size_content T.content (T.value_written b.now))) }
 {
     let order = a.value_cmp(b)?;
     Ok(order)
@@ -57,11 +65,17 @@ pub fn der_cmp_by_ord<T: OrdIsValueOrd + EncodeValue + FixedTag>(
     a: &T,
     b: &T,
 ) -> Result<Ordering, Error>
-    ensures order { IsValid (tagged T.fixed_tag T.content) (T.value_written a.now) → IsValid (tagged T.fixed_tag T.content) (T.value_written b.now)
-        → result ≡ Ok (encodings_cmp (tagged T.fixed_tag T.content) (T.value_written a.now) (T.value_written b.now)) }
+    ensures order { IsValid (tagged T.fixed_tag T.content) (T.value_written a.now)
+        → IsValid (tagged T.fixed_tag T.content) (T.value_written b.now)
+        → result
+        ≡ Ok (encodings_cmp (tagged T.fixed_tag T.content) (T.value_written a.now)
+        (T.value_written b.now)) }
     // It isn't answered where a content has no length.
-    ensures answered { IfOk result (λ _. IsOk (size_content T.content (T.value_written a.now)) × IsOk (size_content T.content (T.value_written b.now))) }
-    ensures refused { IfErr result (λ e. Overflows e (size (tagged T.fixed_tag T.content) (T.value_written a.now)) (size (tagged T.fixed_tag T.content) (T.value_written b.now))) }
+    ensures answered { IfOk result (λ _. IsOk (size_content T.content (T.value_written a.now))
+        × IsOk (size_content T.content (T.value_written b.now))) }
+    ensures refused { IfErr result
+        (λ e. Overflows e (size (tagged T.fixed_tag T.content) (T.value_written a.now))
+        (size (tagged T.fixed_tag T.content) (T.value_written b.now))) }
 {
     let len = a.value_len()?;
     let other_len = b.value_len()?;

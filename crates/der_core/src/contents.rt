@@ -23,9 +23,9 @@ fn led_cmp(lead: u8, octets: &[u8], other: &[u8]) -> Ordering
     }
 }
 
-/// The order of two contents, which are these octets behind a leading one where there is one, as the
-/// number of unused bits of a bit string (X.690 8.6.2) or a zero before a natural number whose first
-/// bit is one (8.3).
+/// The order of two contents, which are these octets behind a leading one where there is one, as
+/// the number of unused bits of a bit string (X.690 8.6.2) or a zero before a natural number whose
+/// first bit is one (8.3).
 pub fn value_cmp_behind(
     lead: Option<u8>,
     octets: &[u8],

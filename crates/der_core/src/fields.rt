@@ -21,13 +21,22 @@ pub trait FieldsOrd: Fields {
     /// `Overflow` where the fields of one of the two have 2^32 octets or more.
     fn fields_cmp(&self, other: &Self) -> Result<Ordering, Error>
         // It is answered wherever all of the fields have encodings.
-        ensures order { is_body_apart Self.fields ≡ true → IsBody Self.fields (Self.fields_written self.now) → IsBody Self.fields (Self.fields_written other.now)
-            → result ≡ Ok (bodies_cmp Self.fields (Self.fields_written self.now) (Self.fields_written other.now)) }
-        ensures refused { IfErr result (λ e. Overflows e (size_body Self.fields (Self.fields_written self.now)) (size_body Self.fields (Self.fields_written other.now))) };
+        ensures order { is_body_apart Self.fields ≡ true
+            → IsBody Self.fields (Self.fields_written self.now)
+            → IsBody Self.fields (Self.fields_written other.now)
+            → result
+            ≡ Ok
+            (bodies_cmp Self.fields (Self.fields_written self.now)
+            (Self.fields_written other.now)) }
+        ensures refused { IfErr result (λ e. Overflows e (size_body Self.fields (Self.fields_written self.now))
+            (size_body Self.fields (Self.fields_written other.now))) };
 
     /// The tag of the first field that stands, or none where none does.
     fn fields_tag(&self) -> Option<Tag>
-        ensures { is_body_apart Self.fields ≡ true → IsBody Self.fields (Self.fields_written self.now) → StartsWith (body_begins Self.fields) result (body_octets Self.fields (Self.fields_written self.now)) };
+        ensures { is_body_apart Self.fields ≡ true
+            → IsBody Self.fields (Self.fields_written self.now)
+            → StartsWith (body_begins Self.fields) result
+            (body_octets Self.fields (Self.fields_written self.now)) };
 }
 
 /// The order of what begins with a tag, or is nothing, and of what begins with another tag.
@@ -43,10 +52,19 @@ pub(crate) fn next_cmp(next: Option<Tag>, tag: Tag) -> Ordering
 /// The order of the first fields, and where these have the same encoding that of the others.
 fn row_cmp<A: DerOrd, B: FieldsOrd>(row: &(A, B), other: &(A, B)) -> Result<Ordering, Error>
     ensures order { is_apart A.shape ≡ true → is_body_apart B.fields ≡ true
-        → IsValid A.shape (A.written row.now.0) → IsValid A.shape (A.written other.now.0) → IsBody B.fields (B.fields_written row.now.1) → IsBody B.fields (B.fields_written other.now.1)
-        → result ≡ Ok (ordering_then (encodings_cmp A.shape (A.written row.now.0) (A.written other.now.0)) (bodies_cmp B.fields (B.fields_written row.now.1) (B.fields_written other.now.1))) }
-    ensures refused { IfErr result (λ e. Overflows e (both_len (size A.shape (A.written row.now.0)) (size_body B.fields (B.fields_written row.now.1)))
-        (both_len (size A.shape (A.written other.now.0)) (size_body B.fields (B.fields_written other.now.1)))) }
+        → IsValid A.shape (A.written row.now.0) → IsValid A.shape (A.written other.now.0)
+        → IsBody B.fields (B.fields_written row.now.1)
+        → IsBody B.fields (B.fields_written other.now.1)
+        → result
+        ≡ Ok
+        (ordering_then (encodings_cmp A.shape (A.written row.now.0) (A.written other.now.0))
+        (bodies_cmp B.fields (B.fields_written row.now.1) (B.fields_written other.now.1))) }
+    ensures refused { IfErr result
+        (λ e. Overflows e
+        (both_len (size A.shape (A.written row.now.0))
+        (size_body B.fields (B.fields_written row.now.1)))
+        (both_len (size A.shape (A.written other.now.0))
+        (size_body B.fields (B.fields_written other.now.1)))) }
 {
     let first = row.0.der_cmp(&other.0)?;
     if first.is_ne() {
@@ -67,8 +85,8 @@ impl FieldsOrd for () {
     }
 }
 
-/// The first field decides, unless its encodings are the same. Where it stands in one row alone, the
-/// next field of the other row, which begins with another tag, stands in its place.
+/// The first field decides, unless its encodings are the same. Where it stands in one row alone,
+/// the next field of the other row, which begins with another tag, stands in its place.
 impl<A: DerOrd + FirstTag, B: FieldsOrd> FieldsOrd for (A, B) {
     fn fields_cmp(&self, other: &Self) -> Result<Ordering, Error> {
         match (self.0.first_tag(), other.0.first_tag()) {

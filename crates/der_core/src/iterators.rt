@@ -23,10 +23,16 @@ pub fn iter_cmp<'a, T: DerOrd + 'a, I: Iterator<Item = &'a T> + Drop>(
     requires can { I.can_next a }
     requires finite { IsFinite (I.remaining a) }
     requires other_can { I.can_next b }
-    ensures order { (xs ys : List (Value T.shape)) → AlwaysYields I.next_gives (λ r. T.written r.now) a xs → AlwaysYields I.next_gives (λ r. T.written r.now) b ys
-        → is_body_apart (many T.shape) ≡ true → IsBody (many T.shape) xs → IsBody (many T.shape) ys → result ≡ Ok (bodies_cmp (many T.shape) xs ys) }
-    ensures refused { (xs ys : List (Value T.shape)) → AlwaysYields I.next_gives (λ r. T.written r.now) a xs → AlwaysYields I.next_gives (λ r. T.written r.now) b ys
-        → IfErr result (λ e. Overflows e (size_body (many T.shape) xs) (size_body (many T.shape) ys)) }
+    ensures order { (xs ys : List (Value T.shape))
+        → AlwaysYields I.next_gives (λ r. T.written r.now) a xs
+        → AlwaysYields I.next_gives (λ r. T.written r.now) b ys
+        → is_body_apart (many T.shape) ≡ true → IsBody (many T.shape) xs → IsBody (many T.shape) ys
+        → result ≡ Ok (bodies_cmp (many T.shape) xs ys) }
+    ensures refused { (xs ys : List (Value T.shape))
+        → AlwaysYields I.next_gives (λ r. T.written r.now) a xs
+        → AlwaysYields I.next_gives (λ r. T.written r.now) b ys
+        → IfErr result
+        (λ e. Overflows e (size_body (many T.shape) xs) (size_body (many T.shape) ys)) }
 {
     let mut others = b;
     for value in a {

@@ -1,5 +1,5 @@
-//! Laws of shapes, of bodies of indefinite length, and of the order of encodings, for every shape; and of
-//! what is written, for every type whose values are in range.
+//! Laws of shapes, of bodies of indefinite length, and of the order of encodings, for every shape;
+//! and of what is written, for every type whose values are in range.
 //!
 //! Each is the contract of a function that does nothing.
 
@@ -27,9 +27,12 @@ pub use der_core_head::laws::{
 ///
 /// So what `to_der`, `encode_to_slice` and `encode_to_vec` answer spells the value.
 pub fn in_range_is_spelled<T: InRange + Element + Member>(value: &T)
-    ensures valid { (o z : Out) → write T.shape (T.written value.now) o ≡ Ok z → IsValid T.shape (T.written value.now) }
-    ensures read { (room : ℕ) (o z : Out) (r : List ℕ) → are_enough T.shape room ≡ true → o.written ≡ []
-        → write T.shape (T.written value.now) o ≡ Ok z → read T.shape room (z.written ++ r) ≡ Ok (T.written value.now, r) }
+    ensures valid { (o z : Out) → write T.shape (T.written value.now) o ≡ Ok z
+        → IsValid T.shape (T.written value.now) }
+    ensures read { (room : ℕ) (o z : Out) (r : List ℕ) → are_enough T.shape room ≡ true
+        → o.written ≡ []
+        → write T.shape (T.written value.now) o ≡ Ok z → read T.shape room (z.written ++ r)
+        ≡ Ok (T.written value.now, r) }
 {
     value.in_range();
     written_is_spelled();
@@ -44,7 +47,8 @@ pub fn equal_octets_alone()
 /// The order is total: one way round it is the reverse of the other, and it goes on.
 pub fn order_is_total()
     ensures reversed { (a b : List ℕ) → octets_cmp a b ≡ ordering_reverse (octets_cmp b a) }
-    ensures goes_on { (a b c : List ℕ) → octets_cmp a b ≡ Less → octets_cmp b c ≡ Less → octets_cmp a c ≡ Less }
+    ensures goes_on { (a b c : List ℕ) → octets_cmp a b ≡ Less → octets_cmp b c ≡ Less
+        → octets_cmp a c ≡ Less }
     ensures same { (a b c : List ℕ) → octets_cmp a b ≡ Equal → octets_cmp a c ≡ octets_cmp b c }
 {}
 
@@ -55,8 +59,10 @@ pub fn lengths_in_order()
 
 /// No encoding begins another, so what follows two encodings matters only where these are the same.
 pub fn first_encoding_decides()
-    ensures { (s : Shape) (v w : Value s) (r t : List ℕ) → is_element s ≡ true → IsValid s v → IsValid s w
-        → octets_cmp (octets_of s v ++ r) (octets_of s w ++ t) ≡ ordering_then (encodings_cmp s v w) (octets_cmp r t) }
+    ensures { (s : Shape) (v w : Value s) (r t : List ℕ) → is_element s ≡ true → IsValid s v
+        → IsValid s w
+        → octets_cmp (octets_of s v ++ r) (octets_of s w ++ t) ≡ ordering_then (encodings_cmp s v w)
+        (octets_cmp r t) }
 {}
 
 /// Two values of a shape are in the order `Equal` exactly where they are one value.

@@ -19,9 +19,14 @@ use std::cmp::Ordering;
 /// # Errors
 /// `Overflow` where the encodings of one of the two have 2^32 octets or more.
 pub fn elements_cmp<T: DerOrd>(a: &[T], b: &[T]) -> Result<Ordering, Error>
-    ensures order { is_body_apart (many T.shape) ≡ true → IsBody (many T.shape) (plain_list T.written a.now) → IsBody (many T.shape) (plain_list T.written b.now)
-        → result ≡ Ok (bodies_cmp (many T.shape) (plain_list T.written a.now) (plain_list T.written b.now)) }
-    ensures refused { IfErr result (λ e. Overflows e (size_body (many T.shape) (plain_list T.written a.now)) (size_body (many T.shape) (plain_list T.written b.now))) }
+    ensures order { is_body_apart (many T.shape) ≡ true
+        → IsBody (many T.shape) (plain_list T.written a.now)
+        → IsBody (many T.shape) (plain_list T.written b.now)
+        → result
+        ≡ Ok
+        (bodies_cmp (many T.shape) (plain_list T.written a.now) (plain_list T.written b.now)) }
+    ensures refused { IfErr result (λ e. Overflows e (size_body (many T.shape) (plain_list T.written a.now))
+        (size_body (many T.shape) (plain_list T.written b.now))) }
 {
     iter_cmp(a.iter(), b.iter())
 }

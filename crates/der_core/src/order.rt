@@ -19,9 +19,16 @@ pub trait ValueOrd: ShapedValue {
     /// `Overflow` where the content of one of the two has 2^32 octets or more.
     fn value_cmp(&self, other: &Self) -> Result<Ordering, Error>
         // It is answered wherever both values have a content.
-        ensures order { is_content_apart Self.content ≡ true → IsContent Self.content (Self.value_written self.now) → IsContent Self.content (Self.value_written other.now)
-            → result ≡ Ok (contents_cmp Self.content (Self.value_written self.now) (Self.value_written other.now)) }
-        ensures refused { IfErr result (λ e. Overflows e (size_content Self.content (Self.value_written self.now)) (size_content Self.content (Self.value_written other.now))) };
+        ensures order { is_content_apart Self.content ≡ true
+            → IsContent Self.content (Self.value_written self.now)
+            → IsContent Self.content (Self.value_written other.now)
+            → result
+            ≡ Ok
+            (contents_cmp Self.content (Self.value_written self.now)
+            (Self.value_written other.now)) }
+        ensures refused { IfErr result
+            (λ e. Overflows e (size_content Self.content (Self.value_written self.now))
+            (size_content Self.content (Self.value_written other.now))) };
 }
 
 /// A type whose values are compared by their whole encodings (X.690 11.6).
@@ -32,16 +39,21 @@ pub trait DerOrd: Shaped {
     /// `Overflow` where the encoding of one of the two has 2^32 octets or more.
     fn der_cmp(&self, other: &Self) -> Result<Ordering, Error>
         // It is answered wherever both values have an encoding.
-        ensures order { is_apart Self.shape ≡ true → IsValid Self.shape (Self.written self.now) → IsValid Self.shape (Self.written other.now)
-            → result ≡ Ok (encodings_cmp Self.shape (Self.written self.now) (Self.written other.now)) }
-        ensures refused { IfErr result (λ e. Overflows e (size Self.shape (Self.written self.now)) (size Self.shape (Self.written other.now))) };
+        ensures order { is_apart Self.shape ≡ true → IsValid Self.shape (Self.written self.now)
+            → IsValid Self.shape (Self.written other.now)
+            → result
+            ≡ Ok (encodings_cmp Self.shape (Self.written self.now) (Self.written other.now)) }
+        ensures refused { IfErr result
+            (λ e. Overflows e (size Self.shape (Self.written self.now))
+            (size Self.shape (Self.written other.now))) };
 }
 
 /// A type that tells the tag of a value's encoding.
 pub trait FirstTag: Shaped {
     /// The tag with which the encoding begins, or none where the value is written as nothing.
     fn first_tag(&self) -> Option<Tag>
-        ensures { IsValid Self.shape (Self.written self.now) → StartsWith (begins Self.shape) result (octets_of Self.shape (Self.written self.now)) };
+        ensures { IsValid Self.shape (Self.written self.now)
+            → StartsWith (begins Self.shape) result (octets_of Self.shape (Self.written self.now)) };
 }
 
 /// The header, whose tag is that of the type, then the contents.

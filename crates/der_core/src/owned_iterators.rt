@@ -23,10 +23,14 @@ pub fn iter_cmp_owned<T: DerOrd + Drop, I: Iterator<Item = T> + Drop>(
     requires can { I.can_next a }
     requires finite { IsFinite (I.remaining a) }
     requires other_can { I.can_next b }
-    ensures order { (xs ys : List (Value T.shape)) → AlwaysYields I.next_gives T.written a xs → AlwaysYields I.next_gives T.written b ys
-        → is_body_apart (many T.shape) ≡ true → IsBody (many T.shape) xs → IsBody (many T.shape) ys → result ≡ Ok (bodies_cmp (many T.shape) xs ys) }
-    ensures refused { (xs ys : List (Value T.shape)) → AlwaysYields I.next_gives T.written a xs → AlwaysYields I.next_gives T.written b ys
-        → IfErr result (λ e. Overflows e (size_body (many T.shape) xs) (size_body (many T.shape) ys)) }
+    ensures order { (xs ys : List (Value T.shape)) → AlwaysYields I.next_gives T.written a xs
+        → AlwaysYields I.next_gives T.written b ys
+        → is_body_apart (many T.shape) ≡ true → IsBody (many T.shape) xs → IsBody (many T.shape) ys
+        → result ≡ Ok (bodies_cmp (many T.shape) xs ys) }
+    ensures refused { (xs ys : List (Value T.shape)) → AlwaysYields I.next_gives T.written a xs
+        → AlwaysYields I.next_gives T.written b ys
+        → IfErr result
+        (λ e. Overflows e (size_body (many T.shape) xs) (size_body (many T.shape) ys)) }
 {
     let mut others = b;
     for value in a {

@@ -27,7 +27,10 @@ use std::cmp::Ordering;
 fn check_above<T: DerOrd + Member>(last: Option<&T>, value: &T) -> Result<(), Error>
     requires before { IfSome (plain_option (λ r. T.written r.now) last) (IsValid T.shape) }
     requires valid { IsValid T.shape (T.written value.now) }
-    ensures { GivesNow (λ x. x) result (follows_last above (plain_option (octets_of T.shape) (plain_option (λ r. T.written r.now) last.entry)) (octets_of T.shape (T.written value.now))) }
+    ensures { GivesNow (λ x. x) result
+        (follows_last above
+        (plain_option (octets_of T.shape) (plain_option (λ r. T.written r.now) last.entry))
+        (octets_of T.shape (T.written value.now))) }
 {
     let Some(last) = last else {
         return Ok(());
@@ -45,7 +48,8 @@ fn check_above<T: DerOrd + Member>(last: Option<&T>, value: &T) -> Result<(), Er
 /// `SetDuplicate` for the same encoding, `SetOrdering` for a lower one.
 fn check_rising<T: DerOrd + Member>(values: &[T]) -> Result<(), Error>
     requires { AllByRecursion (λ x. IsValid T.shape x) (plain_list T.written values.now) }
-    ensures { GivesNow (λ x. x) result (all_follow above (octets_of T.shape) None (plain_list T.written values.now)) }
+    ensures { GivesNow (λ x. x) result
+        (all_follow above (octets_of T.shape) None (plain_list T.written values.now)) }
 {
     let mut last = None;
     for value in values {

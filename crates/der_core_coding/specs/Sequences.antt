@@ -9,17 +9,24 @@ use Rattle.der_core_head.specs.Writing.{Out, put_head}
 use Rattle.der_core_octets.specs.Outputs.{Continues}
 
 -- f was called behind the header of a SEQUENCE of n octets, answered r, and left the writer so
-abbrev pub Called : {W F : Type 0} → (W → Out) → Once F (MutBor W × Unit {0}) (Result (Unit {0}) Error × (MutBor W × Unit {0})) → F → ℕ → Out → Result (Unit {0}) Error → W → W → Type 0
-Called out g f n old r inner outer = (put_head tags.Sequence n old ≡ Ok (out inner)) × FnOnceReturnsAtMut g f inner r outer
+abbrev pub Called : {W F : Type 0} → (W → Out)
+    → Once F (MutBor W × Unit {0}) (Result (Unit {0}) Error × (MutBor W × Unit {0})) → F → ℕ → Out
+    → Result (Unit {0}) Error → W → W → Type 0
+Called out g f n old r inner outer = (put_head tags.Sequence n old ≡ Ok (out inner))
+    × FnOnceReturnsAtMut g f inner r outer
 
 -- the same, and a write was refused
 abbrev pub failing : Out → Out
 failing o = record o { failed = true }
 
--- why it was refused, and what is left then: the header couldn't be written, f was refused, or f wrote another number of octets
-abbrev pub RefusesEnclosed : {W F : Type 0} → (W → Out) → Once F (MutBor W × Unit {0}) (Result (Unit {0}) Error × (MutBor W × Unit {0})) → F → ℕ → Out → Out → Error → Type 0
+-- why it was refused, and what is left then: the header couldn't be written, f was refused, or f
+-- wrote another number of octets
+abbrev pub RefusesEnclosed : {W F : Type 0} → (W → Out)
+    → Once F (MutBor W × Unit {0}) (Result (Unit {0}) Error × (MutBor W × Unit {0})) → F → ℕ → Out
+    → Out → Error → Type 0
 RefusesEnclosed {W} out g f n old new e =
     ((put_head tags.Sequence n old ≡ Err e.kind) × Continues old new)
     ⊎ (((inner outer : W) × Called out g f n old (Err e) inner outer × (new ≡ failing (out outer)))
     ⊎ ((inner outer : W) × Called out g f n old (Ok tt) inner outer × (new ≡ failing (out outer))
-    × (length (out outer).written ≢ length (out inner).written + n) × (e.kind ≡ kinds.Length tags.Sequence)))
+    × (length (out outer).written ≢ length (out inner).written + n)
+    × (e.kind ≡ kinds.Length tags.Sequence)))

@@ -9,11 +9,26 @@ use Rattle.der_core_coding.specs.declared.slice_reader.SliceReader.TheInside.{In
 use Rattle.der_core_coding.specs.declared.slice_writer.SliceWriter.{SliceWriter}
 
 abbrev pub view_of : Inside → State
-view_of a = record { rest = take (a.end - a.position) (drop a.position a.bytes.now); behind = drop a.end a.bytes.now; room = levels_max - a.depth; failed = a.failed; source = record { encoding = a.encoding; size = length a.bytes.now } }
+view_of a =
+    record {
+      rest = take (a.end - a.position) (drop a.position a.bytes.now);
+      behind = drop a.end a.bytes.now;
+      room = levels_max - a.depth;
+      failed = a.failed;
+      source =
+          record { encoding = a.encoding; size = length a.bytes.now };
+    }
 
 -- a reader of these octets by DER, in which so many ends can be set, before any call
 abbrev pub unread_within : ℕ → List ℕ → State
-unread_within levels w = record { rest = w; behind = []; room = levels; failed = false; source = record { encoding = encodings.Der; size = length w } }
+unread_within levels w =
+    record {
+      rest = w;
+      behind = [];
+      room = levels;
+      failed = false;
+      source = record { encoding = encodings.Der; size = length w };
+    }
 
 pub record IsReader (a : Inside) : Type 0 where
   pub position : a.position ≤ a.end
@@ -23,4 +38,9 @@ pub record IsReader (a : Inside) : Type 0 where
 
 -- what was written, up to the place of the writer, and the room behind it
 abbrev pub output : SliceWriter → Out
-output w = record { written = take w.position w.bytes.now; room = Some (length w.bytes.now - w.position); failed = w.failed }
+output w =
+    record {
+      written = take w.position w.bytes.now;
+      room = Some (length w.bytes.now - w.position);
+      failed = w.failed;
+    }

@@ -10,4 +10,5 @@ use Rattle.der_core_head.specs.Grammar.{read_by, whole}
 
 -- all of the octets, which a length can count, where headers are read by BER
 unfoldable pub whole_ber_at : (s : Shape) → List ℕ → Result (Value s × List ℕ) ErrorKind
-whole_ber_at s w = if nat_lt length_max (length w) then Err kinds.Overflow else (read_by encodings.Ber s levels_max w >>= whole)
+whole_ber_at s w = if nat_lt length_max (length w) then Err kinds.Overflow
+    else (read_by encodings.Ber s levels_max w >>= whole)

@@ -23,7 +23,8 @@ pub fn len_behind(octets: Length) -> Result<Length, Error>
 /// # Errors
 /// Those of the writer.
 pub fn encode_behind<W: Writer>(writer: &mut W, first: u8, octets: &[u8]) -> Result<(), Error>
-    ensures exact { Writes W.takes_memory (W.out writer.old) (W.out writer.new) result (put (first ∷ octets.now)) }
+    ensures exact { Writes W.takes_memory (W.out writer.old) (W.out writer.new) result
+        (put (first ∷ octets.now)) }
     ensures kept { Continues (W.out writer.old) (W.out writer.new) }
 {
     writer.write_byte(first)?;

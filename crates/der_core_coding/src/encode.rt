@@ -24,15 +24,17 @@ fn written<T: Encode>(alloc: Global, value: &T) -> Result<Vec<u8>, Error>
 /// The octets that spell a value. Memory is asked for once, for so many octets.
 ///
 /// # Errors
-/// `Overflow` where a length passes 2^32 - 1, `SetOrdering` and `SetDuplicate` where a strict set in the
-/// value doesn't rise (X.690 11.6), or `OutOfMemory`.
+/// `Overflow` where a length passes 2^32 - 1, `SetOrdering` and `SetDuplicate` where a strict set
+/// in the value doesn't rise (X.690 11.6), or `OutOfMemory`.
 pub fn to_der<T: Encode>(alloc: Global, value: &T) -> Result<Vec<u8>, Error>
     // What an Ok holds are the octets of the value, no more than a length can count.
     ensures octets { IfOk result (λ v. (v.items ≡ octets_of T.shape (T.written value.now)) × Fits v.items) }
     // The value has an encoding, where its parts are in their ranges.
-    ensures valid { IfOk result (λ _. IsInRange T.shape (T.written value.now) → IsValid T.shape (T.written value.now)) }
+    ensures valid { IfOk result (λ _. IsInRange T.shape (T.written value.now)
+        → IsValid T.shape (T.written value.now)) }
     // A valid value has an encoding, and it is the answer unless memory runs out.
-    ensures spelled { IsValid T.shape (T.written value.now) → Gives (λ v. v.items) result (Ok (octets_of T.shape (T.written value.now))) }
+    ensures spelled { IsValid T.shape (T.written value.now)
+        → Gives (λ v. v.items) result (Ok (octets_of T.shape (T.written value.now))) }
     // Which fault it is.
     ensures exact { Gives (λ v. record { written = v.items; room = None; failed = false }) result (write T.shape (T.written value.now) (record { written = []; room = None; failed = false })) }
 {

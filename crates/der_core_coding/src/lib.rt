@@ -1,5 +1,5 @@
-//! Readers and writers of slices, whole encodings, and types around values: tags known when they are
-//! read or written, defaults, fields in a row, and reading of sets in order.
+//! Readers and writers of slices, whole encodings, and types around values: tags known when they
+//! are read or written, defaults, fields in a row, and reading of sets in order.
 #![tactic(auto)]
 
 mod behind;

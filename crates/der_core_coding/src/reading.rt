@@ -21,7 +21,8 @@ pub fn decode<'a, R: Reader<'a>, T: Decode<'a, R>>(
     alloc: Global,
     reader: &mut R,
 ) -> Result<T, Error>
-    ensures reads { Reads T.plain (R.state reader.old) (R.state reader.new) result (read_at (R.state reader.old) T.shape) }
+    ensures reads { Reads T.plain (R.state reader.old) (R.state reader.new) result
+        (read_at (R.state reader.old) T.shape) }
     ensures refused { OnErr result ((R.state reader.new).failed ≡ true) }
 {
     let value = T::decode(alloc, reader)?;
@@ -34,7 +35,9 @@ fn read_only<'a, R: Reader<'a>, T: Decode<'a, R>>(
     reader: &mut R,
     header: Header,
 ) -> Result<T, Error>
-    ensures { Reads T.plain (R.state reader.old) (R.state reader.new) result (value_at (read_content_at (R.state reader.old) (nested (only T.shape)) header.tag) header.length.value) }
+    ensures { Reads T.plain (R.state reader.old) (R.state reader.new) result
+        (value_at (read_content_at (R.state reader.old) (nested (only T.shape)) header.tag)
+        header.length.value) }
 {
     let behind = reader.begin_nested(header.length)?;
     match T::decode(alloc, reader) {
@@ -52,15 +55,16 @@ fn read_only<'a, R: Reader<'a>, T: Decode<'a, R>>(
 /// The value behind a tag in front of its own (X.690 8.14.2).
 ///
 /// # Errors
-/// `TagUnexpected` behind another tag; else the first fault from the left, or `OutOfMemory`; `Failed`
-/// where the reader failed before.
+/// `TagUnexpected` behind another tag; else the first fault from the left, or `OutOfMemory`;
+/// `Failed` where the reader failed before.
 #[tactic(auto, unfolding(der_core_head::specs::Grammar::tlv_at))]
 pub fn read_explicit<'a, R: Reader<'a>, T: Decode<'a, R>>(
     alloc: Global,
     reader: &mut R,
     tag: Tag,
 ) -> Result<T, Error>
-    ensures { Reads T.plain (R.state reader.old) (R.state reader.new) result (read_at (R.state reader.old) (tagged tag (nested (only T.shape)))) }
+    ensures { Reads T.plain (R.state reader.old) (R.state reader.new) result
+        (read_at (R.state reader.old) (tagged tag (nested (only T.shape)))) }
 {
     let header = reader.read_header_of(tag)?;
     read_only(alloc, reader, header)
@@ -73,7 +77,8 @@ fn read_implicit<'a, R: Reader<'a>, T: DecodeValue<'a, R>>(
     reader: &mut R,
     tag: Tag,
 ) -> Result<T, Error>
-    ensures { Reads T.value_plain (R.state reader.old) (R.state reader.new) result (read_at (R.state reader.old) (tagged tag T.content)) }
+    ensures { Reads T.value_plain (R.state reader.old) (R.state reader.new) result
+        (read_at (R.state reader.old) (tagged tag T.content)) }
 {
     let header = reader.read_header_of(tag)?;
     T::decode_value(alloc, reader, header)
@@ -89,7 +94,8 @@ pub fn optional_explicit<'a, R: Reader<'a>, T: Decode<'a, R>>(
     reader: &mut R,
     tag: Tag,
 ) -> Result<Option<T>, Error>
-    ensures { Reads (plain_option T.plain) (R.state reader.old) (R.state reader.new) result (read_at (R.state reader.old) (optional (tagged tag (nested (only T.shape))))) }
+    ensures { Reads (plain_option T.plain) (R.state reader.old) (R.state reader.new) result
+        (read_at (R.state reader.old) (optional (tagged tag (nested (only T.shape))))) }
 {
     let Some(first) = reader.next_tag_or_end()? else {
         return Ok(None);
@@ -111,7 +117,8 @@ pub fn optional_implicit<'a, R: Reader<'a>, T: DecodeValue<'a, R>>(
     reader: &mut R,
     tag: Tag,
 ) -> Result<Option<T>, Error>
-    ensures { Reads (plain_option T.value_plain) (R.state reader.old) (R.state reader.new) result (read_at (R.state reader.old) (optional (tagged tag T.content))) }
+    ensures { Reads (plain_option T.value_plain) (R.state reader.old) (R.state reader.new) result
+        (read_at (R.state reader.old) (optional (tagged tag T.content))) }
 {
     let Some(first) = reader.next_tag_or_end()? else {
         return Ok(None);
@@ -133,10 +140,16 @@ pub fn context_specific<'a, R: Reader<'a>, T: DecodeValue<'a, R> + FixedTag>(
     tag_number: TagNumber,
     tag_mode: TagMode,
 ) -> Result<Option<T>, Error>
-    ensures explicit { tag_mode ≡ modes.Explicit → Reads (plain_option T.value_plain) (R.state reader.old) (R.state reader.new) result
-        (read_at (R.state reader.old) (optional (tagged (context true tag_number.value) (nested (only (tagged T.fixed_tag T.content)))))) }
-    ensures implicit { tag_mode ≡ modes.Implicit → Reads (plain_option T.value_plain) (R.state reader.old) (R.state reader.new) result
-        (read_at (R.state reader.old) (optional (tagged (implicit_tag tag_number.value T.fixed_tag) T.content))) }
+    ensures explicit { tag_mode ≡ modes.Explicit
+        → Reads (plain_option T.value_plain) (R.state reader.old) (R.state reader.new) result
+        (read_at (R.state reader.old)
+        (optional
+        (tagged (context true tag_number.value)
+        (nested (only (tagged T.fixed_tag T.content)))))) }
+    ensures implicit { tag_mode ≡ modes.Implicit
+        → Reads (plain_option T.value_plain) (R.state reader.old) (R.state reader.new) result
+        (read_at (R.state reader.old)
+        (optional (tagged (implicit_tag tag_number.value T.fixed_tag) T.content))) }
 {
     let number = tag_number;
     match tag_mode {

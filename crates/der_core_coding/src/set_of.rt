@@ -42,7 +42,8 @@ fn read_rising_by_der<'a, R: Reader<'a>, T: Decode<'a, R> + Member>(
     reader: &mut R,
 ) -> Result<Vec<T>, Error>
     requires { IsDer (R.state reader.old) }
-    ensures { Reads (λ v. plain_list T.plain v.items) (R.state reader.old) (R.state reader.new) result (read_body_at (R.state reader.old) (rising T.shape)) }
+    ensures { Reads (λ v. plain_list T.plain v.items) (R.state reader.old) (R.state reader.new)
+        result (read_body_at (R.state reader.old) (rising T.shape)) }
 {
     if reader.is_failed() {
         return Err(Error::from(ErrorKind::Failed));
@@ -89,8 +90,8 @@ fn read_rising_by_der<'a, R: Reader<'a>, T: Decode<'a, R> + Member>(
 
 /// Reads values up to the end, each of whose encodings is above the one before.
 ///
-/// That encodings rise is a rule of DER (X.690 11.6), and so the values are read by DER, whatever the rules
-/// of the reader.
+/// That encodings rise is a rule of DER (X.690 11.6), and so the values are read by DER, whatever
+/// the rules of the reader.
 ///
 /// # Errors
 /// The first fault of a value, `SetDuplicate` or `SetOrdering` where it stands wrong, or
@@ -99,7 +100,8 @@ pub fn read_rising<'a, R: Reader<'a>, T: Decode<'a, R> + Member>(
     alloc: Global,
     reader: &mut R,
 ) -> Result<Vec<T>, Error>
-    ensures { Reads (λ v. plain_list T.plain v.items) (R.state reader.old) (R.state reader.new) result (read_body_at (R.state reader.old) (rising T.shape)) }
+    ensures { Reads (λ v. plain_list T.plain v.items) (R.state reader.old) (R.state reader.new)
+        result (read_body_at (R.state reader.old) (rising T.shape)) }
 {
     let rules = reader.encoding_rules();
     reader.set_encoding_rules(EncodingRules::Der);

@@ -1,6 +1,7 @@
 //! The writer to a slice.
 
-ghost use Rattle.std.specs.Prelude.{◌≡◌, ◌≤◌, ◌<◌, ◌^◌, length, [], Some, IfOk, IfErr, IsSomeAnd, IsNone, IsErrAnd, OnOk, OnErr, true, false};
+ghost use Rattle.std.specs.Prelude.{◌≡◌, ◌≤◌, ◌<◌, ◌^◌, length, [], Some, IfOk, IfErr, IsSomeAnd};
+ghost use Rattle.std.specs.Prelude.{IsNone, IsErrAnd, OnOk, OnErr, true, false};
 ghost use Rattle.der_core_head.specs.declared.tag_mode.TagMode.TheVariants as modes;
 ghost use Rattle.der_core_head.specs.Tags.{implicit_tag};
 ghost use Rattle.der_core_head.specs.Shapes.{explicit, tagged};
@@ -98,7 +99,8 @@ impl<'a> SliceWriter<'a> {
             → GivesNow (λ _. output self.new) result
             (write T.shape (T.written value.now) (output self.old)) }
         ensures failed { (output self.old).failed ≡ true
-            → IsErrAnd result (λ e. e.kind ≡ ErrorKind.Failed) × (output self.new ≡ output self.old) }
+            → IsErrAnd result (λ e. e.kind ≡ ErrorKind.Failed)
+            × (output self.new ≡ output self.old) }
         ensures refused { OnErr result ((output self.new).failed ≡ true) }
         ensures kept { Continues (output self.old) (output self.new) }
     {
@@ -139,7 +141,8 @@ impl<'a> SliceWriter<'a> {
             (write (tagged (implicit_tag tag_number.value T.fixed_tag) T.content)
             (T.value_written value.now) (output self.old)) }
         ensures failed { (output self.old).failed ≡ true
-            → IsErrAnd result (λ e. e.kind ≡ ErrorKind.Failed) × (output self.new ≡ output self.old) }
+            → IsErrAnd result (λ e. e.kind ≡ ErrorKind.Failed)
+            × (output self.new ≡ output self.old) }
         ensures refused { OnErr result ((output self.new).failed ≡ true) }
         ensures kept { Continues (output self.old) (output self.new) }
     {
@@ -179,7 +182,8 @@ impl<'a> SliceWriter<'a> {
         ensures fault { IfErr result (λ e. (output self.old).failed ≡ false → RefusesEnclosed output
             F.FnOnce f length.value (output self.old) (output self.new) e) }
         ensures failed { (output self.old).failed ≡ true
-            → IsErrAnd result (λ e. e.kind ≡ ErrorKind.Failed) × (output self.new ≡ output self.old) }
+            → IsErrAnd result (λ e. e.kind ≡ ErrorKind.Failed)
+            × (output self.new ≡ output self.old) }
         ensures refused { OnErr result ((output self.new).failed ≡ true) }
     {
         if self.failed {

@@ -9,8 +9,8 @@ use der_core_octets::Reader;
 use der_core_values::{Decode, Member};
 use std::alloc::Global;
 
-/// The value that stands next, and its octets as they stand, by either rules. Where DER rules they are
-/// those that spell it.
+/// The value that stands next, and its octets as they stand, by either rules. Where DER rules they
+/// are those that spell it.
 ///
 /// # Errors
 /// The first fault from the left, or `OutOfMemory`; `Failed` where the reader failed before.

@@ -20,7 +20,8 @@ pub fn encode_explicit<W: Writer, T: Encode>(
     number: TagNumber,
     value: &T,
 ) -> Result<(), Error>
-    ensures exact { Writes W.takes_memory (W.out writer.old) (W.out writer.new) result (write (tagged (context true number.value) (nested (only T.shape))) (T.written value.now)) }
+    ensures exact { Writes W.takes_memory (W.out writer.old) (W.out writer.new) result
+        (write (tagged (context true number.value) (nested (only T.shape))) (T.written value.now)) }
     ensures kept { Continues (W.out writer.old) (W.out writer.new) }
 {
     let constructed = true;
@@ -46,7 +47,9 @@ pub fn encode_implicit<W: Writer, T: EncodeValue + FixedTag>(
     number: TagNumber,
     value: &T,
 ) -> Result<(), Error>
-    ensures exact { Writes W.takes_memory (W.out writer.old) (W.out writer.new) result (write (tagged (implicit_tag number.value T.fixed_tag) T.content) (T.value_written value.now)) }
+    ensures exact { Writes W.takes_memory (W.out writer.old) (W.out writer.new) result
+        (write (tagged (implicit_tag number.value T.fixed_tag) T.content)
+        (T.value_written value.now)) }
     ensures kept { Continues (W.out writer.old) (W.out writer.new) }
 {
     let constructed = is_constructed(T::tag());

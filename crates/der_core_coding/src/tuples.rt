@@ -21,10 +21,11 @@ pub trait EncodeFields: Fields {
     /// Writes the fields.
     ///
     /// # Errors
-    /// `Overflow` where a length passes 2^32 - 1, `SetOrdering` and `SetDuplicate` where a strict set in
-    /// a field doesn't rise (X.690 11.6), and those of the writer.
+    /// `Overflow` where a length passes 2^32 - 1, `SetOrdering` and `SetDuplicate` where a strict
+    /// set in a field doesn't rise (X.690 11.6), and those of the writer.
     fn encode_fields<W: Writer>(&self, writer: &mut W) -> Result<(), Error>
-        ensures exact { Writes W.takes_memory (W.out writer.old) (W.out writer.new) result (write_body Self.fields (Self.fields_written self.now)) }
+        ensures exact { Writes W.takes_memory (W.out writer.old) (W.out writer.new) result
+            (write_body Self.fields (Self.fields_written self.now)) }
         ensures kept { Continues (W.out writer.old) (W.out writer.new) };
 }
 

@@ -1,6 +1,7 @@
 //! Reading of all octets.
 
-ghost use Rattle.std.specs.Prelude.{◌≡◌, ◌<◌, ◌^◌, ◌++◌, ℕ, List, length, [], true, false, Ok, IfOk};
+ghost use Rattle.std.specs.Prelude.{◌≡◌, ◌<◌, ◌^◌, ◌++◌, ℕ, List, length, [], true, false, Ok};
+ghost use Rattle.std.specs.Prelude.{IfOk};
 ghost use Rattle.der_core_head.specs.Limits.{levels_max};
 ghost use Rattle.der_core_head.specs.Heads.{Fits};
 ghost use Rattle.der_core_head.specs.Shapes.{Value, Spells, IsValid, octets_of, leaf, tagged};
@@ -43,9 +44,11 @@ pub fn from_der<'a, T: Decode<'a, SliceReader<'a>>>(
     bytes: &'a [u8],
 ) -> Result<T, Error>
     // What is read is spelled so.
-    ensures spelled { is_apart T.shape ≡ true → IfOk result (λ v. Spells T.shape (T.plain v) bytes.now) }
+    ensures spelled { is_apart T.shape ≡ true
+        → IfOk result (λ v. Spells T.shape (T.plain v) bytes.now) }
     // What is spelled so is read, unless memory runs out.
-    ensures only { (v : Value T.shape) → is_apart T.shape ≡ true → are_enough T.shape levels_max ≡ true
+    ensures only { (v : Value T.shape) → is_apart T.shape ≡ true → are_enough T.shape levels_max
+        ≡ true
         → Spells T.shape v bytes.now → Gives T.plain result (Ok v) }
     // Which fault it is.
     ensures exact { Gives (λ v. (T.plain v, [])) result (whole_at T.shape bytes.now) }
@@ -86,7 +89,8 @@ pub fn from_der_partial<'a, T: Decode<'a, SliceReader<'a>>>(
     ensures spelled { is_apart T.shape ≡ true → IfOk result (λ x.
         IsValid T.shape (T.plain x.0) × (bytes.now ≡ octets_of T.shape (T.plain x.0) ++ x.1.now)) }
     // What is spelled so is read, whatever follows it, unless memory runs out.
-    ensures only { (v : Value T.shape) (r : List ℕ) → is_element T.shape ≡ true → is_apart T.shape ≡ true → are_enough T.shape levels_max ≡ true
+    ensures only { (v : Value T.shape) (r : List ℕ) → is_element T.shape ≡ true → is_apart T.shape
+        ≡ true → are_enough T.shape levels_max ≡ true
         → IsValid T.shape v → bytes.now ≡ octets_of T.shape v ++ r → Fits bytes.now
         → Gives {P = Value T.shape × List ℕ} (λ x. (T.plain x.0, x.1.now)) result (Ok (v, r)) }
     // Which fault it is.

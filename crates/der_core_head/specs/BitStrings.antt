@@ -1,5 +1,6 @@
 -- Bit strings: the number of unused bits, and octets whose unused bits are zero (X.690 8.6, 11.2).
-use Rattle.std.specs.Prelude.{◌≡◌, ℕ, ◌%◌, ◌^◌, List, [], ◌∷◌, Bool, true, Result, Ok, Err, nat_lt, ◌==◌, ◌&&◌, if◌then◌else◌}
+use Rattle.std.specs.Prelude.{◌≡◌, ℕ, ◌%◌, ◌^◌, List, [], ◌∷◌, Bool, true, Result, Ok, Err, nat_lt}
+use Rattle.std.specs.Prelude.{◌==◌, ◌&&◌, if◌then◌else◌}
 use Rattle.der_core_head.specs.declared.error.ErrorKind.{ErrorKind}
 use Rattle.der_core_head.specs.declared.error.ErrorKind.TheVariants as kinds
 use Rattle.der_core_head.specs.declared.tag.Tag.{Tag}
@@ -29,4 +30,5 @@ bit_contents b = b.unused ∷ b.octets
 
 unfoldable pub bits_read : Tag → List ℕ → Result Bits ErrorKind
 bits_read t [] = Err (kinds.Length t)
-bits_read t (unused ∷ w) = if are_bits unused w then Ok (record { unused = unused; octets = w }) else Err (kinds.Value t)
+bits_read t (unused ∷ w) = if are_bits unused w then Ok (record { unused = unused; octets = w })
+    else Err (kinds.Value t)

@@ -1,5 +1,6 @@
 -- BMPString: characters below 65536, two octets each, the higher first (X.690 8.23.8).
-use Rattle.std.specs.Prelude.{◌≡◌, ℕ, ◌+◌, ◌*◌, ◌/◌, ◌%◌, List, [], ◌∷◌, Bool, true, false, Result, Ok, Err, nat_lt, nat_le, ◌&&◌, ◌||◌, if◌then◌else◌}
+use Rattle.std.specs.Prelude.{◌≡◌, ℕ, ◌+◌, ◌*◌, ◌/◌, ◌%◌, List, [], ◌∷◌, Bool, true, false, Result}
+use Rattle.std.specs.Prelude.{Ok, Err, nat_lt, nat_le, ◌&&◌, ◌||◌, if◌then◌else◌}
 use Rattle.std.specs.List.{list_all, flat_map}
 use Rattle.der_core_head.specs.declared.error.ErrorKind.{ErrorKind}
 use Rattle.der_core_head.specs.declared.error.ErrorKind.TheVariants as kinds
@@ -30,4 +31,5 @@ units (a ∷ []) = []
 units (a ∷ b ∷ w) = (256 * a + b) ∷ units w
 
 unfoldable pub bmp_read : Tag → List ℕ → Result (List ℕ) ErrorKind
-bmp_read t w = if are_pairs w && list_all is_unit (units w) then Ok (units w) else Err (kinds.Value t)
+bmp_read t w = if are_pairs w && list_all is_unit (units w) then Ok (units w)
+    else Err (kinds.Value t)

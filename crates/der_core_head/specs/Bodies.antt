@@ -1,5 +1,7 @@
 -- Bodies of indefinite length and headers under BER (X.690 8.1.3.6, 8.1.5), and reading of them.
-use Rattle.std.specs.Prelude.{◌≡◌, ℕ, zero, suc, ◌+◌, ◌-◌, ◌/◌, ◌%◌, ◌<◌, List, [], ◌∷◌, ◌++◌, length, drop, Bool, true, false, Option, Some, None, Result, Ok, Err, nat_lt, ◌==◌, ◌&&◌, ◌⊎◌, if◌then◌else◌}
+use Rattle.std.specs.Prelude.{◌≡◌, ℕ, zero, suc, ◌+◌, ◌-◌, ◌/◌, ◌%◌, ◌<◌, List, [], ◌∷◌, ◌++◌}
+use Rattle.std.specs.Prelude.{length, drop, Bool, true, false, Option, Some, None, Result, Ok, Err}
+use Rattle.std.specs.Prelude.{nat_lt, ◌==◌, ◌&&◌, ◌⊎◌, if◌then◌else◌}
 use Rattle.std.specs.List.{concat, AllByRecursion}
 use Rattle.der_core_head.specs.declared.encoding_rules.EncodingRules.{EncodingRules}
 use Rattle.der_core_head.specs.declared.encoding_rules.EncodingRules.TheVariants as encodings
@@ -14,7 +16,8 @@ use Rattle.der_core_head.specs.Heads.{Head, Fits, length_octets, length_at, head
 
 -- The grammar
 
--- the octets of a tag under BER: those that it has under DER, and 24 for an OCTET STRING in parts (8.7.1)
+-- the octets of a tag under BER: those that it has under DER, and 24 for an OCTET STRING in parts
+-- (8.7.1)
 abbrev pub SpellsTag : Tag → List ℕ → Type 0
 SpellsTag t o = (IsTag t × (o ≡ tag_octets t)) ⊎ ((t ≡ tags.OctetString) × (o ≡ 0x24 ∷ []))
 
@@ -25,29 +28,35 @@ is_constructed_at (b ∷ w) = ((b / 32) % 2) == 1
 
 -- an encoding of definite length: its content isn't looked into
 abbrev pub IsDefinite : List ℕ → Type 0
-IsDefinite b = (t : Tag) × (o c : List ℕ) × SpellsTag t o × Fits c × (b ≡ o ++ (length_octets (length c) ++ c))
+IsDefinite b = (t : Tag) × (o c : List ℕ) × SpellsTag t o × Fits c
+    × (b ≡ o ++ (length_octets (length c) ++ c))
 
 -- an encoding of indefinite length: a constructed tag, the octet 80, and a body
 abbrev pub IsIndefinite : (List ℕ → Type 0) → List ℕ → Type 0
-IsIndefinite IsInner b = (t : Tag) × (o c : List ℕ) × SpellsTag t o × (is_constructed_at o ≡ true) × IsInner c × (b ≡ o ++ (0x80 ∷ c))
+IsIndefinite IsInner b = (t : Tag) × (o c : List ℕ) × SpellsTag t o × (is_constructed_at o ≡ true)
+    × IsInner c × (b ≡ o ++ (0x80 ∷ c))
 
--- the body of an encoding of indefinite length, in which at most so many levels are open, its own among them:
--- encodings, and then two zero octets
+-- the body of an encoding of indefinite length, in which at most so many levels are open, its own
+-- among them: encodings, and then two zero octets
 unfoldable pub IsIndefiniteBody : ℕ → List ℕ → Type 0
 IsIndefiniteBody zero b = ⊥
 IsIndefiniteBody (suc k) b =
-    (items : List (List ℕ)) × AllByRecursion (λ i. IsDefinite i ⊎ IsIndefinite (IsIndefiniteBody k) i) items × (b ≡ concat items ++ (0 ∷ 0 ∷ []))
+    (items : List (List ℕ))
+    × AllByRecursion (λ i. IsDefinite i ⊎ IsIndefinite (IsIndefiniteBody k) i) items
+    × (b ≡ concat items ++ (0 ∷ 0 ∷ []))
 
 -- the octets of a length behind those of a tag and before what follows: the one form of a number,
 -- or 80 behind a constructed tag where a body of so many octets follows
 abbrev pub SpellsLength : List ℕ → ℕ → List ℕ → List ℕ → Type 0
 SpellsLength o n l r =
     (IsLength n × (l ≡ length_octets n))
-    ⊎ ((is_constructed_at o ≡ true) × (l ≡ 0x80 ∷ []) × (b more : List ℕ) × IsIndefiniteBody levels_max b × Fits b × (n ≡ length b) × (r ≡ b ++ more))
+    ⊎ ((is_constructed_at o ≡ true) × (l ≡ 0x80 ∷ []) × (b more : List ℕ)
+    × IsIndefiniteBody levels_max b × Fits b × (n ≡ length b) × (r ≡ b ++ more))
 
 -- octets are a header under BER, and what follows it
 abbrev pub SpellsHead : Head → List ℕ → List ℕ → Type 0
-SpellsHead h r w = (o l : List ℕ) × SpellsTag h.tag o × SpellsLength o h.len l r × (w ≡ o ++ (l ++ r))
+SpellsHead h r w = (o l : List ℕ) × SpellsTag h.tag o × SpellsLength o h.len l r
+    × (w ≡ o ++ (l ++ r))
 
 -- Reading
 
@@ -63,12 +72,15 @@ pub record Mark : Type 0 where
 abbrev pub length_ber_at : Bool → Tag → Readings (Option ℕ)
 length_ber_at constructed t [] = Err kinds.Incomplete
 length_ber_at constructed t (b ∷ w) =
-    if constructed && (b == 0x80) then Ok (None, w) else (length_at t (b ∷ w) >>= λ n. Ok (Some n.0, n.1))
+    if constructed && (b == 0x80) then Ok (None, w)
+    else (length_at t (b ∷ w) >>= λ n. Ok (Some n.0, n.1))
 
 unfoldable pub mark_at : Readings Mark
-mark_at w = tag_ber_at w >>= λ t. length_ber_at (is_constructed_at w) t.0 t.1 >>= λ n. Ok (record { tag = t.0; len = n.0 }, n.1)
+mark_at w = tag_ber_at w >>= λ t. length_ber_at (is_constructed_at w) t.0 t.1
+    >>= λ n. Ok (record { tag = t.0; len = n.0 }, n.1)
 
--- what stands in a body: the end of a level, the header of a deeper one, or an encoding of definite length
+-- what stands in a body: the end of a level, the header of a deeper one, or an encoding of definite
+-- length
 pub data Piece : Type 0 where
   ending : Piece
   opening : Piece
@@ -81,7 +93,8 @@ end_at (b ∷ w) = if b == 0 then Ok (ending, w) else Err kinds.TagUnknown
 -- behind a mark
 abbrev pub content_at : Option ℕ → Readings Piece
 content_at None w = Ok (opening, w)
-content_at (Some n) w = if nat_lt (length w) n then Err kinds.Incomplete else Ok (encoding, drop n w)
+content_at (Some n) w = if nat_lt (length w) n then Err kinds.Incomplete
+    else Ok (encoding, drop n w)
 
 unfoldable pub piece_at : Readings Piece
 piece_at [] = Err kinds.Incomplete
@@ -90,26 +103,32 @@ piece_at (b ∷ w) = if b == 0 then end_at w else (mark_at (b ∷ w) >>= λ m. c
 -- how many levels are open behind a piece, and how many more may be
 abbrev pub levels_after : Piece → ℕ → ℕ → Result (ℕ × ℕ) ErrorKind
 levels_after ending levels room = Ok (levels - 1, room + 1)
-levels_after opening levels room = if room == 0 then Err kinds.NestingDepth else Ok (levels + 1, room - 1)
+levels_after opening levels room = if room == 0 then Err kinds.NestingDepth
+    else Ok (levels + 1, room - 1)
 levels_after encoding levels room = Ok (levels, room)
 
 -- what is left behind the end of all open levels, which comes within so many pieces
 unfoldable pub closed_at : ℕ → ℕ → ℕ → List ℕ → Result (List ℕ) ErrorKind
 closed_at pieces zero room w = Ok w
 closed_at zero (suc levels) room w = Err kinds.Incomplete
-closed_at (suc pieces) (suc levels) room w = piece_at w >>= λ p. levels_after p.0 (suc levels) room >>= λ l. closed_at pieces l.0 l.1 p.1
+closed_at (suc pieces) (suc levels) room w = piece_at w >>= λ p. levels_after p.0 (suc levels) room
+    >>= λ l. closed_at pieces l.0 l.1 p.1
 
 -- the number of octets of the body at the front
 unfoldable pub body_len_at : List ℕ → Result ℕ ErrorKind
-body_len_at w = closed_at (length w) 1 (levels_max - 1) w >>= λ r. if nat_lt length_max (length w - length r) then Err kinds.Overflow else Ok (length w - length r)
+body_len_at w = closed_at (length w) 1 (levels_max - 1) w
+    >>= λ r. if nat_lt length_max (length w - length r) then Err kinds.Overflow
+    else Ok (length w - length r)
 
 abbrev pub len_at : Option ℕ → List ℕ → Result ℕ ErrorKind
 len_at None w = body_len_at w
 len_at (Some n) w = Ok n
 
--- a header under BER: an indefinite length is the number of octets of its body, those that end it among them
+-- a header under BER: an indefinite length is the number of octets of its body, those that end it
+-- among them
 unfoldable pub head_ber_at : Readings Head
-head_ber_at w = mark_at w >>= λ m. len_at m.0.len m.1 >>= λ n. Ok (record { tag = m.0.tag; len = n }, m.1)
+head_ber_at w = mark_at w >>= λ m. len_at m.0.len m.1
+    >>= λ n. Ok (record { tag = m.0.tag; len = n }, m.1)
 
 -- By either rules
 

@@ -1,6 +1,8 @@
--- Values under a bound of arcs: what has an encoding where one bound stands in place of those that a shape states, and the identifiers
--- that a value holds. Neither plain values nor octets depend on the bounds in a shape, so one value is judged under any bound.
-use Rattle.std.specs.Prelude.{◌≡◌, ℕ, ◌<◌, ◌≤◌, List, [], ◌∷◌, ◌++◌, length, Some, None, flat_map, Contains}
+-- Values under a bound of arcs: what has an encoding where one bound stands in place of those that
+-- a shape states, and the identifiers that a value holds. Neither plain values nor octets depend on
+-- the bounds in a shape, so one value is judged under any bound.
+use Rattle.std.specs.Prelude.{◌≡◌, ℕ, ◌<◌, ◌≤◌, List, [], ◌∷◌, ◌++◌, length, Some, None, flat_map}
+use Rattle.std.specs.Prelude.{Contains}
 use Rattle.std.proofs.Common.{inl, inr}
 use Rattle.std.specs.List.{AllByRecursion}
 use Rattle.std.specs.Bool.{⊤}
@@ -8,11 +10,17 @@ use Rattle.const_oid.specs.IdentifierOctets.{identifier_octets, IsIdentifier}
 use Rattle.der_core_head.specs.Octets.{IsOctets}
 use Rattle.der_core_head.specs.Tags.{IsTag}
 use Rattle.der_core_head.specs.Heads.{tlv, Fits}
-use Rattle.der_core_head.specs.Leaves.{Leaf, LeafValue, IsLeafValue, boolean, null, integer, bits, octets, identifier, utc_time, generalized_time, text, utf8, bmp, named}
-use Rattle.der_core_head.specs.Shapes.{Shape, Content, Body, tagged, any, either, optional, defaulted, nothing, leaf, nested, done, field, only, many, exactly, few, in_order, Value, ContentValue, BodyValue, octets_of, contents, AllInOrder}
+use Rattle.der_core_head.specs.Leaves.{Leaf, LeafValue, IsLeafValue, boolean, null, integer, bits}
+use Rattle.der_core_head.specs.Leaves.{octets, identifier, utc_time, generalized_time, text, utf8}
+use Rattle.der_core_head.specs.Leaves.{bmp, named}
+use Rattle.der_core_head.specs.Shapes.{Shape, Content, Body, tagged, any, either, optional}
+use Rattle.der_core_head.specs.Shapes.{defaulted, nothing, leaf, nested, done, field, only, many}
+use Rattle.der_core_head.specs.Shapes.{exactly, few, in_order, Value, ContentValue, BodyValue}
+use Rattle.der_core_head.specs.Shapes.{octets_of, contents, AllInOrder}
 
 abbrev pub IsLeafUnder : ℕ → (l : Leaf) → LeafValue l → Type 0
-IsLeafUnder bound (identifier own capacity) v = IsIdentifier bound v × (length (identifier_octets v) ≤ capacity)
+IsLeafUnder bound (identifier own capacity) v = IsIdentifier bound v
+    × (length (identifier_octets v) ≤ capacity)
 IsLeafUnder bound boolean v = IsLeafValue boolean v
 IsLeafUnder bound null v = IsLeafValue null v
 IsLeafUnder bound (integer r) v = IsLeafValue (integer r) v
@@ -25,10 +33,12 @@ IsLeafUnder bound utf8 v = IsLeafValue utf8 v
 IsLeafUnder bound bmp v = IsLeafValue bmp v
 IsLeafUnder bound (named n) v = IsLeafValue (named n) v
 
--- what has an encoding where the arcs of each identifier are below this bound, whatever bound the shape states
+-- what has an encoding where the arcs of each identifier are below this bound, whatever bound the
+-- shape states
 unfoldable mutual
   pub IsValidUnder : ℕ → (s : Shape) → Value s → Type 0
-  IsValidUnder bound (tagged t c) v = IsContentUnder bound c v × IsTag t × Fits (tlv t (contents c v))
+  IsValidUnder bound (tagged t c) v = IsContentUnder bound c v × IsTag t
+      × Fits (tlv t (contents c v))
   IsValidUnder bound any v = IsOctets v.contents × IsTag v.tag × Fits (tlv v.tag v.contents)
   IsValidUnder bound (either a b) (inl v) = IsValidUnder bound a v
   IsValidUnder bound (either a b) (inr v) = IsValidUnder bound b v
@@ -46,9 +56,11 @@ unfoldable mutual
   IsBodyUnder bound (field s b) v = IsValidUnder bound s v.0 × IsBodyUnder bound b v.1
   IsBodyUnder bound (only s) v = IsValidUnder bound s v
   IsBodyUnder bound (many s) v = AllByRecursion (λ x. IsValidUnder bound s x) v
-  IsBodyUnder bound (exactly n s) v = AllByRecursion (λ x. IsValidUnder bound s x) v × (length v ≡ n)
+  IsBodyUnder bound (exactly n s) v = AllByRecursion (λ x. IsValidUnder bound s x) v
+      × (length v ≡ n)
   IsBodyUnder bound (few n s) v = AllByRecursion (λ x. IsValidUnder bound s x) v × (length v ≤ n)
-  IsBodyUnder bound (in_order how s) v = AllByRecursion (λ x. IsValidUnder bound s x) v × AllInOrder how (λ x. octets_of s x) v
+  IsBodyUnder bound (in_order how s) v = AllByRecursion (λ x. IsValidUnder bound s x) v
+      × AllInOrder how (λ x. octets_of s x) v
 
 -- a shape states this bound of arcs, and no other
 abbrev pub IsLeafOf : ℕ → Leaf → Type 0
@@ -87,7 +99,8 @@ abbrev mutual
   IsBodyOf bound (few n s) = IsOf bound s
   IsBodyOf bound (in_order how s) = IsOf bound s
 
--- the identifiers that a value holds, each as its arcs, in the order of its octets; what stands inside `any` isn't looked into
+-- the identifiers that a value holds, each as its arcs, in the order of its octets; what stands
+-- inside `any` isn't looked into
 abbrev pub leaf_identifiers : (l : Leaf) → LeafValue l → List (List ℕ)
 leaf_identifiers (identifier bound capacity) v = v ∷ []
 leaf_identifiers boolean v = []
@@ -128,8 +141,10 @@ unfoldable mutual
 
 -- every arc of some identifiers is below a bound
 abbrev pub AreBelow : ℕ → List (List ℕ) → Type 0
-AreBelow bound identifiers = AllByRecursion (λ arcs. AllByRecursion (λ n. n < bound) arcs) identifiers
+AreBelow bound identifiers =
+    AllByRecursion (λ arcs. AllByRecursion (λ n. n < bound) arcs) identifiers
 
 -- one of them has an arc that isn't
 abbrev pub HoldsLarge : ℕ → List (List ℕ) → Type 0
-HoldsLarge bound identifiers = (arcs : List ℕ) × (n : ℕ) × Contains identifiers arcs × Contains arcs n × (bound ≤ n)
+HoldsLarge bound identifiers = (arcs : List ℕ) × (n : ℕ) × Contains identifiers arcs
+    × Contains arcs n × (bound ≤ n)

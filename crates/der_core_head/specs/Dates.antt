@@ -1,5 +1,7 @@
 -- Dates to the second in universal time, from 1970 to 9999 (X.690 11.7, 11.8; RFC 5280 4.1.2.5).
-use Rattle.std.specs.Prelude.{◌≡◌, ℕ, ◌+◌, ◌-◌, ◌*◌, ◌/◌, ◌%◌, ◌≤◌, List, [], ◌∷◌, ◌++◌, Bool, true, not, Option, Some, None, Result, Ok, Err, nat_lt, nat_le, ◌==◌, ◌&&◌, ◌||◌, if◌then◌else◌, option_and_then}
+use Rattle.std.specs.Prelude.{◌≡◌, ℕ, ◌+◌, ◌-◌, ◌*◌, ◌/◌, ◌%◌, ◌≤◌, List, [], ◌∷◌, ◌++◌, Bool, true}
+use Rattle.std.specs.Prelude.{not, Option, Some, None, Result, Ok, Err, nat_lt, nat_le, ◌==◌, ◌&&◌}
+use Rattle.std.specs.Prelude.{◌||◌, if◌then◌else◌, option_and_then}
 use Rattle.der_core_head.specs.declared.error.ErrorKind.{ErrorKind}
 use Rattle.der_core_head.specs.declared.error.ErrorKind.TheVariants as kinds
 use Rattle.der_core_head.specs.declared.tag.Tag.{Tag}
@@ -26,14 +28,18 @@ days_in_month y m =
 abbrev pub is_civil : Civil → Bool
 is_civil c =
     (nat_le 1970 c.year && nat_lt c.year 10000) && ((nat_le 1 c.month && nat_le c.month 12)
-    && ((nat_le 1 c.day && nat_le c.day (days_in_month c.year c.month)) && (nat_lt c.hour 24 && (nat_lt c.minute 60 && nat_lt c.second 60))))
+    && ((nat_le 1 c.day && nat_le c.day (days_in_month c.year c.month))
+    && (nat_lt c.hour 24 && (nat_lt c.minute 60 && nat_lt c.second 60))))
 
 abbrev pub two_digits : ℕ → List ℕ
 two_digits n = (48 + n / 10) ∷ (48 + n % 10) ∷ []
 
 -- month, day, hour, minute, second, and Z
 abbrev pub after_year : Civil → List ℕ
-after_year c = two_digits c.month ++ (two_digits c.day ++ (two_digits c.hour ++ (two_digits c.minute ++ (two_digits c.second ++ (90 ∷ [])))))
+after_year c =
+    two_digits c.month
+    ++ (two_digits c.day
+    ++ (two_digits c.hour ++ (two_digits c.minute ++ (two_digits c.second ++ (90 ∷ [])))))
 
 -- YYMMDDHHMMSSZ
 unfoldable pub utc_octets : Civil → List ℕ
@@ -51,7 +57,8 @@ abbrev pub digit_at : ℕ → Option ℕ
 digit_at d = if nat_le 48 d && nat_le d 57 then Some (d - 48) else None
 
 abbrev pub two_at : List ℕ → Option (ℕ × List ℕ)
-two_at (a ∷ b ∷ w) = option_and_then (λ x. option_and_then (λ y. Some (10 * x + y, w)) (digit_at b)) (digit_at a)
+two_at (a ∷ b ∷ w) = option_and_then (λ x. option_and_then (λ y. Some (10 * x + y, w)) (digit_at b))
+    (digit_at a)
 two_at w = None
 
 abbrev pub zulu : Civil → List ℕ → Option Civil
@@ -61,8 +68,17 @@ zulu c w = None
 -- month, day, hour, minute, second, and Z
 unfoldable pub civil_at : ℕ → List ℕ → Option Civil
 civil_at year w =
-    option_and_then (λ month. option_and_then (λ day. option_and_then (λ hour. option_and_then (λ minute. option_and_then (λ second.
-    zulu (record { year = year; month = month.0; day = day.0; hour = hour.0; minute = minute.0; second = second.0 }) second.1)
+    option_and_then
+    (λ month. option_and_then
+    (λ day. option_and_then (λ hour. option_and_then (λ minute. option_and_then (λ second.
+    zulu (record {
+      year = year;
+      month = month.0;
+      day = day.0;
+      hour = hour.0;
+      minute = minute.0;
+      second = second.0;
+    }) second.1)
     (two_at minute.1)) (two_at hour.1)) (two_at day.1)) (two_at month.1)) (two_at w)
 
 abbrev pub or_value : {A : Type 0} → Tag → Option A → Result A ErrorKind
@@ -73,7 +89,10 @@ unfoldable pub utc_read : Tag → List ℕ → Result Civil ErrorKind
 utc_read t w = or_value t (option_and_then (λ y. civil_at (full_year y.0) y.1) (two_at w))
 
 unfoldable pub generalized_read : Tag → List ℕ → Result Civil ErrorKind
-generalized_read t w = or_value t (option_and_then (λ c. option_and_then (λ y. civil_at (100 * c.0 + y.0) y.1) (two_at c.1)) (two_at w))
+generalized_read t w =
+    or_value t
+    (option_and_then (λ c. option_and_then (λ y. civil_at (100 * c.0 + y.0) y.1) (two_at c.1))
+    (two_at w))
 
 -- what UTCTime spells
 pub record IsUtc (c : Civil) : Type 0 where

@@ -1,5 +1,6 @@
 -- What stands at the front of octets.
-use Rattle.std.specs.Prelude.{◌≡◌, ◌≤◌, ℕ, List, length, drop, Bool, false, Option, Some, None, Result, Ok, Err, ◌==◌, ◌&&◌}
+use Rattle.std.specs.Prelude.{◌≡◌, ◌≤◌, ℕ, List, length, drop, Bool, false, Option, Some, None}
+use Rattle.std.specs.Prelude.{Result, Ok, Err, ◌==◌, ◌&&◌}
 use Rattle.der_core_head.specs.declared.error.Error.{Error}
 use Rattle.der_core_head.specs.declared.error.ErrorKind.{ErrorKind}
 use Rattle.der_core_head.specs.declared.class.Class.{Class}
@@ -9,7 +10,8 @@ use Rattle.der_core_head.specs.Tags.{number_of}
 use Rattle.der_core_head.specs.Octets.{Readings, ◌>>=◌}
 
 -- What was answered, seen by view, is what reading gives, and its octets were counted.
-abbrev pub ReadsFront : {X P : Type 0} → (X → P) → List ℕ → Result (X × ℕ) Error → Readings P → Type 0
+abbrev pub ReadsFront : {X P : Type 0} → (X → P) → List ℕ → Result (X × ℕ) Error → Readings P
+    → Type 0
 ReadsFront view w (Ok x) f = (f w ≡ Ok (view x.0, drop x.1 w)) × (x.1 ≤ length w)
 ReadsFront view w (Err e) f = f w ≡ Err e.kind
 

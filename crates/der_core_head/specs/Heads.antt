@@ -1,5 +1,6 @@
 -- Lengths, headers and whole encodings (X.690 8.1.3, 10.1).
-use Rattle.std.specs.Prelude.{ℕ, ◌+◌, ◌-◌, ◌<◌, List, [], ◌∷◌, ◌++◌, length, take, drop, Result, Ok, Err, nat_lt, bytes_eq, ◌==◌, if◌then◌else◌}
+use Rattle.std.specs.Prelude.{ℕ, ◌+◌, ◌-◌, ◌<◌, List, [], ◌∷◌, ◌++◌, length, take, drop, Result, Ok}
+use Rattle.std.specs.Prelude.{Err, nat_lt, bytes_eq, ◌==◌, if◌then◌else◌}
 use Rattle.std.specs.Int.Digits.{number_from_digits}
 use Rattle.const_oid.specs.Digits.{digits}
 use Rattle.der_core_head.specs.declared.error.ErrorKind.{ErrorKind}
@@ -32,7 +33,8 @@ pub record Head : Type 0 where
 -- the number that digits spell, where they and the octet before them are its one form
 abbrev pub shortest : Tag → ℕ → List ℕ → List ℕ → Result (ℕ × List ℕ) ErrorKind
 shortest t first ds w =
-    if bytes_eq (length_octets (number_from_digits 256 ds)) (first ∷ ds) then Ok (number_from_digits 256 ds, w) else Err (kinds.Length t)
+    if bytes_eq (length_octets (number_from_digits 256 ds)) (first ∷ ds)
+    then Ok (number_from_digits 256 ds, w) else Err (kinds.Length t)
 
 -- the number of content octets behind a tag
 unfoldable pub length_at : Tag → Readings ℕ

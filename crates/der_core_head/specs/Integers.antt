@@ -1,5 +1,7 @@
 -- Whole numbers: two's complement in the fewest octets (X.690 8.3, 8.4).
-use Rattle.std.specs.Prelude.{ℕ, ℤ, pos, negsuc, ◌-◌, ◌<◌, ◌≤◌, ◌^◌, List, [], ◌∷◌, length, map, Bool, false, not, Result, Ok, Err, nat_lt, ◌==◌, ◌&&◌, ◌||◌, if◌then◌else◌, Contains}
+use Rattle.std.specs.Prelude.{ℕ, ℤ, pos, negsuc, ◌-◌, ◌<◌, ◌≤◌, ◌^◌, List, [], ◌∷◌, length, map}
+use Rattle.std.specs.Prelude.{Bool, false, not, Result, Ok, Err, nat_lt, ◌==◌, ◌&&◌, ◌||◌}
+use Rattle.std.specs.Prelude.{if◌then◌else◌, Contains}
 use Rattle.std.specs.Bool.{⊤}
 use Rattle.std.specs.List.{list_any}
 use Rattle.std.specs.Int.Digits.{number_from_digits}
@@ -52,7 +54,8 @@ is_redundant w = false
 -- the number that octets spell in two's complement
 unfoldable pub integer_of : List ℕ → ℤ
 integer_of [] = pos 0
-integer_of (d ∷ ds) = if nat_lt d 128 then pos (number_from_digits 256 (d ∷ ds)) else negsuc (number_from_digits 256 (complement (d ∷ ds)))
+integer_of (d ∷ ds) = if nat_lt d 128 then pos (number_from_digits 256 (d ∷ ds))
+    else negsuc (number_from_digits 256 (complement (d ∷ ds)))
 
 -- why a type doesn't have a number
 abbrev pub checked : Numbers → Tag → ℤ → Result ℤ ErrorKind
@@ -62,14 +65,16 @@ checked natural t (negsuc n) = Err (kinds.Value t)
 checked (unsigned k) t (pos n) = if nat_lt n (2 ^ k) then Ok (pos n) else Err (kinds.Length t)
 checked (unsigned k) t (negsuc n) = Err (kinds.Value t)
 checked (signed k) t (pos n) = if nat_lt n (2 ^ (k - 1)) then Ok (pos n) else Err (kinds.Length t)
-checked (signed k) t (negsuc n) = if nat_lt n (2 ^ (k - 1)) then Ok (negsuc n) else Err (kinds.Length t)
+checked (signed k) t (negsuc n) = if nat_lt n (2 ^ (k - 1)) then Ok (negsuc n)
+    else Err (kinds.Length t)
 checked (among ns) t (pos n) = if list_any (λ m. m == n) ns then Ok (pos n) else Err (kinds.Value t)
 checked (among ns) t (negsuc n) = Err (kinds.Value t)
 checked (within k) t z = if nat_lt k (length (integer_octets z)) then Err (kinds.Value t) else Ok z
 
 unfoldable pub shortest_integer : Tag → List ℕ → Result ℤ ErrorKind
 shortest_integer t [] = Err (kinds.Length t)
-shortest_integer t (d ∷ ds) = if is_redundant (d ∷ ds) then Err (kinds.Noncanonical t) else Ok (integer_of (d ∷ ds))
+shortest_integer t (d ∷ ds) = if is_redundant (d ∷ ds) then Err (kinds.Noncanonical t)
+    else Ok (integer_of (d ∷ ds))
 
 abbrev pub integer_read : Numbers → Tag → List ℕ → Result ℤ ErrorKind
 integer_read r t w = shortest_integer t w >>= checked r t

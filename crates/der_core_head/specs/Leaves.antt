@@ -1,5 +1,7 @@
--- The types whose content is no list of values: their plain values, their contents, and reading of contents.
-use Rattle.std.specs.Prelude.{◌≡◌, ℕ, ℤ, ◌≤◌, List, [], ◌∷◌, length, Bool, true, false, Result, Ok, Err, ◌==◌, if◌then◌else◌}
+-- The types whose content is no list of values: their plain values, their contents, and reading of
+-- contents.
+use Rattle.std.specs.Prelude.{◌≡◌, ℕ, ℤ, ◌≤◌, List, [], ◌∷◌, length, Bool, true, false, Result, Ok}
+use Rattle.std.specs.Prelude.{Err, ◌==◌, if◌then◌else◌}
 use Rattle.std.specs.Bool.{⊤}
 use Rattle.const_oid.specs.IdentifierOctets.{identifier_octets, IsIdentifier, read_identifier}
 use Rattle.const_oid.specs.declared.error.Error.{Error as OidError}
@@ -12,7 +14,8 @@ use Rattle.der_core_head.specs.BitStrings.{Bits, IsBits, bit_contents, bits_read
 use Rattle.der_core_head.specs.Texts.{Repertoire, IsText, text_read, IsUtf8Text, utf8_read}
 use Rattle.der_core_head.specs.BmpStrings.{IsBmp, bmp_octets, bmp_read}
 use Rattle.der_core_head.specs.NamedBits.{IsNamed, named_octets, named_read}
-use Rattle.der_core_head.specs.Dates.{Civil, is_civil, IsUtc, utc_octets, generalized_octets, utc_read, generalized_read}
+use Rattle.der_core_head.specs.Dates.{Civil, is_civil, IsUtc, utc_octets, generalized_octets}
+use Rattle.der_core_head.specs.Dates.{utc_read, generalized_read}
 
 pub data Leaf : Type 0 where
   boolean : Leaf  -- X.690 8.2, 11.1
@@ -66,7 +69,8 @@ IsLeafValue null v = ⊤
 IsLeafValue (integer r) v = IsNumber r v
 IsLeafValue bits v = IsBits v
 IsLeafValue octets v = IsOctets v
-IsLeafValue (identifier bound capacity) v = IsIdentifier bound v × (length (identifier_octets v) ≤ capacity)
+IsLeafValue (identifier bound capacity) v = IsIdentifier bound v
+    × (length (identifier_octets v) ≤ capacity)
 IsLeafValue utc_time v = IsUtc v
 IsLeafValue generalized_time v = is_civil v ≡ true
 IsLeafValue (text r) v = IsText r v
@@ -75,7 +79,8 @@ IsLeafValue bmp v = IsBmp v
 IsLeafValue (named n) v = IsNamed n v
 
 abbrev pub bool_read : Tag → List ℕ → Result Bool ErrorKind
-bool_read t (b ∷ []) = if b == 0 then Ok false else if b == 255 then Ok true else Err (kinds.Noncanonical t)
+bool_read t (b ∷ []) = if b == 0 then Ok false else if b == 255 then Ok true
+    else Err (kinds.Noncanonical t)
 bool_read t w = Err (kinds.Noncanonical t)
 
 abbrev pub null_read : Tag → List ℕ → Result (Unit {0}) ErrorKind

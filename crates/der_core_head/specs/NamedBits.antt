@@ -1,6 +1,7 @@
 -- Sets of named bits: bit strings without a zero bit at the end (X.680 22.7; X.690 11.2.2).
 -- A set is a number, whose bit i tells whether name i is in it.
-use Rattle.std.specs.Prelude.{ℕ, ◌+◌, ◌*◌, ◌<◌, ◌^◌, List, [], ◌∷◌, map, reverse, Bool, not, Result, Ok, Err, nat_lt, ◌==◌, ◌&&◌, if◌then◌else◌}
+use Rattle.std.specs.Prelude.{ℕ, ◌+◌, ◌*◌, ◌<◌, ◌^◌, List, [], ◌∷◌, map, reverse, Bool, not, Result}
+use Rattle.std.specs.Prelude.{Ok, Err, nat_lt, ◌==◌, ◌&&◌, if◌then◌else◌}
 use Rattle.std.specs.Int.{w8, reverse_bits, trailing_zeros}
 use Rattle.const_oid.specs.Digits.{digits}
 use Rattle.der_core_head.specs.declared.error.ErrorKind.{ErrorKind}
@@ -36,4 +37,5 @@ ends_in_one unused (b ∷ w) = not (last_octet (b ∷ w) == 0) && unused == unus
 
 unfoldable pub named_read : ℕ → Tag → List ℕ → Result ℕ ErrorKind
 named_read names t [] = Err (kinds.Length t)
-named_read names t (unused ∷ w) = if ends_in_one unused w && nat_lt (set_of w) (2 ^ names) then Ok (set_of w) else Err (kinds.Value t)
+named_read names t (unused ∷ w) = if ends_in_one unused w && nat_lt (set_of w) (2 ^ names)
+    then Ok (set_of w) else Err (kinds.Value t)

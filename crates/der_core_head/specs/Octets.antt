@@ -12,7 +12,8 @@ are_octets [] = true
 are_octets (b ∷ w) = nat_lt b 256 && are_octets w
 
 infixl 10 ◌>>=◌
-abbrev pub ◌>>=◌ : {A B : Type 0} → Result A ErrorKind → (A → Result B ErrorKind) → Result B ErrorKind
+abbrev pub ◌>>=◌ : {A B : Type 0} → Result A ErrorKind → (A → Result B ErrorKind)
+    → Result B ErrorKind
 (Ok x) >>= f = f x
 (Err e) >>= f = Err e
 

@@ -6,9 +6,13 @@ use Rattle.std.specs.Bool.{⊤}
 use Rattle.der_core_head.specs.Octets.{IsOctets}
 use Rattle.der_core_head.specs.Tags.{IsTag}
 use Rattle.der_core_head.specs.Leaves.{IsLeafValue}
-use Rattle.der_core_head.specs.Shapes.{Shape, Content, Body, tagged, any, either, optional, defaulted, nothing, leaf, nested, done, field, only, many, exactly, few, in_order, Value, ContentValue, BodyValue, octets_of, IsValid}
+use Rattle.der_core_head.specs.Shapes.{Shape, Content, Body, tagged, any, either, optional}
+use Rattle.der_core_head.specs.Shapes.{defaulted, nothing, leaf, nested, done, field, only, many}
+use Rattle.der_core_head.specs.Shapes.{exactly, few, in_order, Value, ContentValue, BodyValue}
+use Rattle.der_core_head.specs.Shapes.{octets_of, IsValid}
 
--- leaves in their ranges, tags whose number fits, and so many values as there must be; a default that isn't written is valid
+-- leaves in their ranges, tags whose number fits, and so many values as there must be; a default
+-- that isn't written is valid
 abbrev mutual
   pub IsInRange : (s : Shape) → Value s → Type 0
   IsInRange (tagged t c) v = IsContentInRange c v × IsTag t

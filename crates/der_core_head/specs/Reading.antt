@@ -1,5 +1,6 @@
 -- What a reader has left, and what a call did to it.
-use Rattle.std.specs.Prelude.{◌-◌, ◌+◌, ◌<◌, ◌≤◌, length, take, drop, ◌||◌, ◌≡◌, ◌≢◌, ℕ, List, [], ◌++◌, Bool, true, false, Result, Ok, Err}
+use Rattle.std.specs.Prelude.{◌-◌, ◌+◌, ◌<◌, ◌≤◌, length, take, drop, ◌||◌, ◌≡◌, ◌≢◌, ℕ, List, []}
+use Rattle.std.specs.Prelude.{◌++◌, Bool, true, false, Result, Ok, Err}
 use Rattle.der_core_head.specs.declared.error.Error.{Error}
 use Rattle.der_core_head.specs.declared.length.Length.{Length}
 use Rattle.der_core_head.specs.declared.error.ErrorKind.{ErrorKind}
@@ -20,7 +21,8 @@ pub record Source : Type 0 where
   pub encoding : EncodingRules
   pub size : ℕ
 
--- the octets up to the end in force, those behind it, the levels that can still be opened, whether a call failed, and the input
+-- the octets up to the end in force, those behind it, the levels that can still be opened, whether
+-- a call failed, and the input
 pub record State : Type 0 where
   pub rest : List ℕ
   pub behind : List ℕ
@@ -30,7 +32,14 @@ pub record State : Type 0 where
 
 -- a reader of these octets, by those rules, before any call
 abbrev pub unread : EncodingRules → List ℕ → State
-unread rules w = record { rest = w; behind = []; room = levels_max; failed = false; source = record { encoding = rules; size = length w } }
+unread rules w =
+    record {
+      rest = w;
+      behind = [];
+      room = levels_max;
+      failed = false;
+      source = record { encoding = rules; size = length w };
+    }
 
 -- DER rules, or BER
 abbrev pub IsDer : State → Type 0
@@ -77,36 +86,61 @@ read_content_at r c t = read_content_by r.source.encoding c t r.room
 abbrev pub read_body_at : State → (b : Body) → Readings (BodyValue b)
 read_body_at r b = read_body_by r.source.encoding b r.room
 
--- The call answered what reading gives, seen by view, and moved the reader on. After a refusal the reader has failed, and a failed reader
--- answers that it failed.
+-- The call answered what reading gives, seen by view, and moved the reader on. After a refusal the
+-- reader has failed, and a failed reader answers that it failed.
 abbrev pub Reads : {X P : Type 0} → (X → P) → State → State → Result X Error → Readings P → Type 0
-Reads view old new (Ok x) f = (f old.rest ≡ Ok (view x, new.rest)) × (new ≡ record old { rest = new.rest }) × (old.failed ≡ false) × IsRest new.rest old.rest
-Reads view old new (Err e) f = (old.failed ≡ false → Fails e.kind (f old.rest)) × Kept old new × (old.failed ≡ true → e.kind ≡ kinds.Failed) × (new.failed ≡ true)
+Reads view old new (Ok x) f = (f old.rest ≡ Ok (view x, new.rest))
+    × (new ≡ record old { rest = new.rest }) × (old.failed ≡ false) × IsRest new.rest old.rest
+Reads view old new (Err e) f = (old.failed ≡ false → Fails e.kind (f old.rest)) × Kept old new
+    × (old.failed ≡ true → e.kind ≡ kinds.Failed) × (new.failed ≡ true)
 
 -- The same of a call that takes no memory. After a refusal the reader is where it was, and failed.
-abbrev pub ReadsNow : {X P : Type 0} → (X → P) → State → State → Result X Error → Readings P → Type 0
-ReadsNow view old new (Ok x) f = (f old.rest ≡ Ok (view x, new.rest)) × (new ≡ record old { rest = new.rest }) × (old.failed ≡ false) × IsRest new.rest old.rest
-ReadsNow view old new (Err e) f = (old.failed ≡ false → f old.rest ≡ Err e.kind) × (new ≡ broken old) × (old.failed ≡ true → e.kind ≡ kinds.Failed)
+abbrev pub ReadsNow : {X P : Type 0} → (X → P) → State → State → Result X Error → Readings P
+    → Type 0
+ReadsNow view old new (Ok x) f = (f old.rest ≡ Ok (view x, new.rest))
+    × (new ≡ record old { rest = new.rest }) × (old.failed ≡ false) × IsRest new.rest old.rest
+ReadsNow view old new (Err e) f = (old.failed ≡ false → f old.rest ≡ Err e.kind)
+    × (new ≡ broken old) × (old.failed ≡ true → e.kind ≡ kinds.Failed)
 
 -- The call answered what stands there, seen by view, and left the reader as it was.
 abbrev pub Peeks : {X P : Type 0} → (X → P) → State → Result X Error → Result P ErrorKind → Type 0
 Peeks view s (Ok x) r = (r ≡ Ok (view x)) × (s.failed ≡ false)
-Peeks view s (Err e) r = (s.failed ≡ false → r ≡ Err e.kind) × (s.failed ≡ true → e.kind ≡ kinds.Failed)
+Peeks view s (Err e) r = (s.failed ≡ false → r ≡ Err e.kind)
+    × (s.failed ≡ true → e.kind ≡ kinds.Failed)
 
 -- what a call of f may give at a reader is what reading gives
-abbrev pub ClosureReads : {R T F : Type 0} → (R → State) → Once F (MutBor R × Unit {0}) (Result T Error × (MutBor R × Unit {0})) → F → (b : Body) → (T → BodyValue b) → Type 0
-ClosureReads {R} {T} state g f b view = (old : R) (r : Result T Error) (new : R) → FnOnceReturnsAtMut g f old r new → Reads view (state old) (state new) r (read_body_at (state old) b)
+abbrev pub ClosureReads : {R T F : Type 0} → (R → State)
+    → Once F (MutBor R × Unit {0}) (Result T Error × (MutBor R × Unit {0})) → F → (b : Body)
+    → (T → BodyValue b) → Type 0
+ClosureReads {R} {T} state g f b view = (old : R) (r : Result T Error) (new : R)
+    → FnOnceReturnsAtMut g f old r new
+    → Reads view (state old) (state new) r (read_body_at (state old) b)
 
-abbrev pub HandsBack : {R T F : Type 0} → (R → State) → Once F (MutBor R × Unit {0}) (Result T Error × (MutBor R × Unit {0})) → F → Type 0
-HandsBack {R} {T} state g f = (old : R) (r : Result T Error) (new : R) → FnOnceReturnsAtMut g f old r new → Kept (state old) (state new)
+abbrev pub HandsBack : {R T F : Type 0} → (R → State)
+    → Once F (MutBor R × Unit {0}) (Result T Error × (MutBor R × Unit {0})) → F → Type 0
+HandsBack {R} {T} state g f = (old : R) (r : Result T Error) (new : R)
+    → FnOnceReturnsAtMut g f old r new → Kept (state old) (state new)
 
 -- the end is set n octets ahead
 abbrev pub entered : ℕ → State → State
-entered n s = record { rest = take n s.rest; behind = drop n s.rest ++ s.behind; room = s.room - 1; failed = s.failed; source = s.source }
+entered n s = record {
+  rest = take n s.rest;
+  behind = drop n s.rest ++ s.behind;
+  room = s.room - 1;
+  failed = s.failed;
+  source = s.source;
+}
 
 -- and k octets are given back
 abbrev pub restored : ℕ → Bool → State → State
-restored k failed s = record { rest = s.rest ++ take k s.behind; behind = drop k s.behind; room = s.room + 1; failed = failed; source = s.source }
+restored k failed s =
+    record {
+      rest = s.rest ++ take k s.behind;
+      behind = drop k s.behind;
+      room = s.room + 1;
+      failed = failed;
+      source = s.source;
+    }
 
 -- which refusal it is
 abbrev pub Refuses : ℕ → State → ErrorKind → Type 0
@@ -116,13 +150,17 @@ Refuses n old _ = ⊥
 
 -- what setting the end answers: how many octets are behind it that weren't
 abbrev pub Opens : ℕ → State → State → Result Length Error → Type 0
-Opens n old new (Ok taken) = (n + taken.value ≡ length old.rest) × (0 < old.room) × (old.room ≤ levels_max) × (old.failed ≡ false) × (new ≡ entered n old)
-Opens n old new (Err e) = (old.failed ≡ false → Refuses n old e.kind) × (new ≡ broken old) × (old.failed ≡ true → e.kind ≡ kinds.Failed)
+Opens n old new (Ok taken) = (n + taken.value ≡ length old.rest) × (0 < old.room)
+    × (old.room ≤ levels_max) × (old.failed ≡ false) × (new ≡ entered n old)
+Opens n old new (Err e) = (old.failed ≡ false → Refuses n old e.kind) × (new ≡ broken old)
+    × (old.failed ≡ true → e.kind ≡ kinds.Failed)
 
 -- what giving octets back answers, after a call that failed or not
 abbrev pub Closes : ℕ → Bool → State → State → Result (Unit {0}) Error → Type 0
-Closes k failed old new (Ok _) = (failed ≡ false → old.rest ≡ []) × (new ≡ restored k (old.failed || failed) old)
-Closes k failed old new (Err e) = (failed ≡ false) × (old.rest ≢ []) × (e.kind ≡ kinds.TrailingData) × (new ≡ restored k true old)
+Closes k failed old new (Ok _) = (failed ≡ false → old.rest ≡ [])
+    × (new ≡ restored k (old.failed || failed) old)
+Closes k failed old new (Err e) = (failed ≡ false) × (old.rest ≢ []) × (e.kind ≡ kinds.TrailingData)
+    × (new ≡ restored k true old)
 
 -- What was answered, seen by view, is what reading gives, unless memory ran out.
 abbrev pub Gives : {X P : Type 0} → (X → P) → Result X Error → Result P ErrorKind → Type 0
@@ -136,5 +174,12 @@ GivesNow view (Err e) r = r ≡ Err e.kind
 
 -- The octets of a content were read, whatever leaf they are.
 abbrev pub TakesContent : State → State → Result (Bor (List ℕ)) Error → ℕ → Type 0
-TakesContent old new (Ok x) n = ((l : Leaf) (t : Tag) (room : ℕ) → value_at (read_content_by old.source.encoding (leaf l) t room) n old.rest ≡ (leaf_read l t x.now >>= kept new.rest)) × (new ≡ record old { rest = new.rest }) × (old.failed ≡ false) × IsRest new.rest old.rest
-TakesContent old new (Err e) n = ((l : Leaf) (t : Tag) (room : ℕ) → old.failed ≡ false → value_at (read_content_by old.source.encoding (leaf l) t room) n old.rest ≡ Err e.kind) × (new ≡ broken old) × (old.failed ≡ true → e.kind ≡ kinds.Failed)
+TakesContent old new (Ok x) n =
+    ((l : Leaf) (t : Tag) (room : ℕ)
+    → value_at (read_content_by old.source.encoding (leaf l) t room) n old.rest
+    ≡ (leaf_read l t x.now >>= kept new.rest)) × (new ≡ record old { rest = new.rest })
+    × (old.failed ≡ false) × IsRest new.rest old.rest
+TakesContent old new (Err e) n =
+    ((l : Leaf) (t : Tag) (room : ℕ) → old.failed ≡ false
+    → value_at (read_content_by old.source.encoding (leaf l) t room) n old.rest ≡ Err e.kind)
+    × (new ≡ broken old) × (old.failed ≡ true → e.kind ≡ kinds.Failed)

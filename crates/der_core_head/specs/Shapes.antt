@@ -1,6 +1,8 @@
--- The universe of shapes: the syntax of a type, its plain values, and the octets that spell them (X.680 24 to 31, X.690).
--- A shape stands where a value stands, a content behind a header, a body where values stand inside a value.
-use Rattle.std.specs.Prelude.{◌≡◌, ◌≢◌, ◌≤◌, ℕ, List, [], ◌∷◌, ◌++◌, length, Bool, true, false, ◌⊎◌, Option, Some, None, bytes_eq, flat_map, ◌||◌}
+-- The universe of shapes: the syntax of a type, its plain values, and the octets that spell them
+-- (X.680 24 to 31, X.690). A shape stands where a value stands, a content behind a header, a body
+-- where values stand inside a value.
+use Rattle.std.specs.Prelude.{◌≡◌, ◌≢◌, ◌≤◌, ℕ, List, [], ◌∷◌, ◌++◌, length, Bool, true, false, ◌⊎◌}
+use Rattle.std.specs.Prelude.{Option, Some, None, bytes_eq, flat_map, ◌||◌}
 use Rattle.std.proofs.Common.{inl, inr}
 use Rattle.std.specs.List.{AllByRecursion}
 use Rattle.std.specs.Bool.{⊤}
@@ -14,7 +16,8 @@ use Rattle.der_core_head.specs.Tags.{IsTag, same_tag, context}
 use Rattle.der_core_head.specs.Heads.{tlv, Fits}
 use Rattle.der_core_head.specs.Leaves.{Leaf, LeafValue, leaf_contents, IsLeafValue}
 
--- how a member of a set stands to the one before it: its encoding is above that one's, or not below it (11.6)
+-- how a member of a set stands to the one before it: its encoding is above that one's, or not below
+-- it (11.6)
 pub data Step : Type 0 where
   above : Step
   not_below : Step
@@ -138,7 +141,8 @@ AllRising f xs = AllInOrder above f xs
 abbrev pub AllAscending : {A : Type 0} → (A → List ℕ) → List A → Type 0
 AllAscending f xs = AllInOrder not_below f xs
 
--- what has an encoding: leaves in their ranges, sets in order, and no more octets than a length can count
+-- what has an encoding: leaves in their ranges, sets in order, and no more octets than a length can
+-- count
 unfoldable mutual
   pub IsValid : (s : Shape) → Value s → Type 0
   IsValid (tagged t c) v = IsContent c v × IsTag t × Fits (tlv t (contents c v))
@@ -161,7 +165,8 @@ unfoldable mutual
   IsBody (many s) v = AllByRecursion (λ x. IsValid s x) v
   IsBody (exactly n s) v = AllByRecursion (λ x. IsValid s x) v × (length v ≡ n)
   IsBody (few n s) v = AllByRecursion (λ x. IsValid s x) v × (length v ≤ n)
-  IsBody (in_order how s) v = AllByRecursion (λ x. IsValid s x) v × AllInOrder how (λ x. octets_of s x) v
+  IsBody (in_order how s) v = AllByRecursion (λ x. IsValid s x) v
+      × AllInOrder how (λ x. octets_of s x) v
 
 -- the octets spell the value
 pub record Spells (s : Shape) (v : Value s) (b : List ℕ) : Type 0 where

@@ -3,7 +3,9 @@ use Rattle.std.specs.Prelude.{ℕ, zero, suc, length, Bool, true, false, ◌&&�
 use Rattle.der_core_head.specs.declared.tag.Tag.{Tag}
 use Rattle.der_core_head.specs.Octets.{are_octets}
 use Rattle.der_core_head.specs.Limits.{length_max, levels_max}
-use Rattle.der_core_head.specs.Shapes.{Shape, Content, Body, tagged, any, either, optional, defaulted, nothing, leaf, nested, done, field, only, many, exactly, few, in_order, begins}
+use Rattle.der_core_head.specs.Shapes.{Shape, Content, Body, tagged, any, either, optional}
+use Rattle.der_core_head.specs.Shapes.{defaulted, nothing, leaf, nested, done, field, only, many}
+use Rattle.der_core_head.specs.Shapes.{exactly, few, in_order, begins}
 
 -- so many levels are enough
 abbrev mutual
@@ -70,9 +72,11 @@ abbrev mutual
   pub is_apart : Shape → Bool
   is_apart (tagged t c) = is_content_apart c
   is_apart any = true
-  is_apart (either a b) = (is_element a && is_element b) && (none_of a (begins b) && (is_apart a && is_apart b))
+  is_apart (either a b) = (is_element a && is_element b)
+      && (none_of a (begins b) && (is_apart a && is_apart b))
   is_apart (optional s) = is_element s && is_apart s
-  is_apart (defaulted s d) = (is_element s && is_apart s) && (are_octets d && nat_lt (length d) (suc length_max))
+  is_apart (defaulted s d) = (is_element s && is_apart s)
+      && (are_octets d && nat_lt (length d) (suc length_max))
   is_apart nothing = true
 
   pub is_content_apart : Content → Bool

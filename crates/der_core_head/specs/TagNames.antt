@@ -1,4 +1,5 @@
--- The printed names of tags: of the types of the universal class (X.680 8.6), and of a class, a number and a form.
+-- The printed names of tags: of the types of the universal class (X.680 8.6), and of a class, a
+-- number and a form.
 use Rattle.std.specs.Prelude.{ℕ, List, ◌++◌, Bool, if◌then◌else◌, codes}
 use Rattle.std.specs.Fmt.{decimal}
 use Rattle.der_core_head.specs.declared.class.Class.{Class}
@@ -17,7 +18,9 @@ form_name constructed = if constructed then codes "constructed" else codes "prim
 
 -- as `CONTEXT-SPECIFIC [0] (constructed)`
 abbrev pub numbered_name : Class → ℕ → Bool → List ℕ
-numbered_name class n constructed = class_name class ++ (codes " [" ++ (decimal n ++ (codes "] (" ++ (form_name constructed ++ codes ")"))))
+numbered_name class n constructed =
+    class_name class
+    ++ (codes " [" ++ (decimal n ++ (codes "] (" ++ (form_name constructed ++ codes ")"))))
 
 abbrev pub tag_name : Tag → List ℕ
 tag_name tags.Boolean = codes "BOOLEAN"
@@ -42,6 +45,8 @@ tag_name tags.GeneralizedTime = codes "GeneralizedTime"
 tag_name tags.VisibleString = codes "VisibleString"
 tag_name tags.GeneralString = codes "GeneralString"
 tag_name tags.BmpString = codes "BMPString"
-tag_name (tags.Application constructed number) = numbered_name classes.Application number.value constructed
-tag_name (tags.ContextSpecific constructed number) = numbered_name classes.ContextSpecific number.value constructed
+tag_name (tags.Application constructed number) =
+    numbered_name classes.Application number.value constructed
+tag_name (tags.ContextSpecific constructed number) =
+    numbered_name classes.ContextSpecific number.value constructed
 tag_name (tags.Private constructed number) = numbered_name classes.Private number.value constructed

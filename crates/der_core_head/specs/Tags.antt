@@ -1,5 +1,6 @@
 -- Tags: their octets, and reading of them (X.690 8.1.2).
-use Rattle.std.specs.Prelude.{ℕ, ◌+◌, ◌*◌, ◌/◌, ◌%◌, ◌<◌, List, [], ◌∷◌, Bool, Option, Some, None, Result, Ok, Err, nat_lt, ◌==◌, ◌&&◌, if◌then◌else◌, find}
+use Rattle.std.specs.Prelude.{ℕ, ◌+◌, ◌*◌, ◌/◌, ◌%◌, ◌<◌, List, [], ◌∷◌, Bool, Option, Some, None}
+use Rattle.std.specs.Prelude.{Result, Ok, Err, nat_lt, ◌==◌, ◌&&◌, if◌then◌else◌, find}
 use Rattle.const_oid.specs.Digits.{digits, marked}
 use Rattle.der_core_head.specs.declared.error.ErrorKind.{ErrorKind}
 use Rattle.der_core_head.specs.declared.error.ErrorKind.TheVariants as kinds
@@ -40,7 +41,8 @@ leading_octet tags.VisibleString = 0x1a
 leading_octet tags.GeneralString = 0x1b
 leading_octet tags.BmpString = 0x1e
 leading_octet (tags.Application constructed number) = leading 1 constructed (low_bits number.value)
-leading_octet (tags.ContextSpecific constructed number) = leading 2 constructed (low_bits number.value)
+leading_octet (tags.ContextSpecific constructed number) =
+    leading 2 constructed (low_bits number.value)
 leading_octet (tags.Private constructed number) = leading 3 constructed (low_bits number.value)
 
 -- the number of a tag
@@ -80,9 +82,12 @@ implicit_tag n t = context (is_constructed t) n
 -- the tags of the universal class that are read
 abbrev pub universal_tags : List Tag
 universal_tags =
-    tags.Boolean ∷ tags.Integer ∷ tags.BitString ∷ tags.OctetString ∷ tags.Null ∷ tags.ObjectIdentifier ∷ tags.Real ∷ tags.Enumerated
-    ∷ tags.Utf8String ∷ tags.RelativeOid ∷ tags.Sequence ∷ tags.Set ∷ tags.NumericString ∷ tags.PrintableString ∷ tags.TeletexString
-    ∷ tags.VideotexString ∷ tags.Ia5String ∷ tags.UtcTime ∷ tags.GeneralizedTime ∷ tags.VisibleString ∷ tags.GeneralString ∷ tags.BmpString ∷ []
+    tags.Boolean ∷ tags.Integer ∷ tags.BitString ∷ tags.OctetString ∷ tags.Null
+    ∷ tags.ObjectIdentifier ∷ tags.Real ∷ tags.Enumerated
+    ∷ tags.Utf8String ∷ tags.RelativeOid ∷ tags.Sequence ∷ tags.Set ∷ tags.NumericString
+    ∷ tags.PrintableString ∷ tags.TeletexString
+    ∷ tags.VideotexString ∷ tags.Ia5String ∷ tags.UtcTime ∷ tags.GeneralizedTime
+    ∷ tags.VisibleString ∷ tags.GeneralString ∷ tags.BmpString ∷ []
 
 -- the one with that octet
 unfoldable pub universal_tag : ℕ → Option Tag
@@ -99,7 +104,8 @@ class_tag class constructed n =
 unfoldable pub digits_at : ℕ → Readings ℕ
 digits_at n [] = Err kinds.Incomplete
 digits_at n (d ∷ w) =
-    if nat_lt (128 * n + d % 128) 4294967296 then (if nat_lt d 128 then Ok (128 * n + d, w) else digits_at (128 * n + d % 128) w)
+    if nat_lt (128 * n + d % 128) 4294967296
+    then (if nat_lt d 128 then Ok (128 * n + d, w) else digits_at (128 * n + d % 128) w)
     else Err kinds.TagNumberInvalid
 
 -- a number of 31 or more, without a leading zero digit
@@ -117,5 +123,6 @@ unfoldable pub tag_at : Readings Tag
 tag_at [] = Err kinds.Incomplete
 tag_at (octet ∷ w) =
     if nat_lt octet 64 then known_tag (universal_tag octet) w
-    else if (octet % 32) == 31 then (number_at w >>= λ n. Ok (class_tag (octet / 64) (((octet / 32) % 2) == 1) n.0, n.1))
+    else if (octet % 32) == 31
+    then (number_at w >>= λ n. Ok (class_tag (octet / 64) (((octet / 32) % 2) == 1) n.0, n.1))
     else Ok (class_tag (octet / 64) (((octet / 32) % 2) == 1) (octet % 32), w)

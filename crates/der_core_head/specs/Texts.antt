@@ -1,5 +1,6 @@
 -- Character strings: their octets, and which they may have (X.680 41; X.690 8.23).
-use Rattle.std.specs.Prelude.{◌≡◌, ℕ, List, [], ◌∷◌, Bool, true, Result, Ok, Err, nat_lt, ◌==◌, ◌||◌, if◌then◌else◌}
+use Rattle.std.specs.Prelude.{◌≡◌, ℕ, List, [], ◌∷◌, Bool, true, Result, Ok, Err, nat_lt, ◌==◌}
+use Rattle.std.specs.Prelude.{◌||◌, if◌then◌else◌}
 use Rattle.std.specs.List.{list_all, list_any}
 use Rattle.std.specs.Char.{is_ascii_alphanumeric}
 use Rattle.std.specs.Str.{is_utf8}
@@ -14,7 +15,8 @@ pub data Repertoire : Type 0 where
   ascii : Repertoire  -- those below 128
   any_octet : Repertoire  -- all
 
--- the signs of a PrintableString beside letters and digits: space ' ( ) + , - . / : = ? (X.680 41.4)
+-- the signs of a PrintableString beside letters and digits: space ' ( ) + , - . / : = ? (X.680
+-- 41.4)
 abbrev pub printable_signs : List ℕ
 printable_signs = 32 ∷ 39 ∷ 40 ∷ 41 ∷ 43 ∷ 44 ∷ 45 ∷ 46 ∷ 47 ∷ 58 ∷ 61 ∷ 63 ∷ []
 

@@ -1,11 +1,15 @@
 -- What is written, and how long it is.
-use Rattle.std.specs.Prelude.{◌≡◌, ◌≢◌, ℕ, ◌+◌, ◌-◌, List, [], ◌∷◌, ◌++◌, length, Bool, true, false, bytes_eq, Option, Some, None, Result, Ok, Err, nat_lt, if◌then◌else◌}
+use Rattle.std.specs.Prelude.{◌≡◌, ◌≢◌, ℕ, ◌+◌, ◌-◌, List, [], ◌∷◌, ◌++◌, length, Bool, true, false}
+use Rattle.std.specs.Prelude.{bytes_eq, Option, Some, None, Result, Ok, Err, nat_lt, if◌then◌else◌}
 use Rattle.der_core_head.specs.declared.error.Error.{Error}
 use Rattle.der_core_head.specs.declared.error.ErrorKind.{ErrorKind}
 use Rattle.der_core_head.specs.declared.error.ErrorKind.TheVariants as kinds
 use Rattle.std.proofs.Common.{inl, inr}
 use Rattle.der_core_head.specs.Leaves.{leaf_contents}
-use Rattle.der_core_head.specs.Shapes.{Step, Shape, Content, Body, tagged, any, either, optional, defaulted, nothing, leaf, nested, done, field, only, many, exactly, few, in_order, Value, ContentValue, BodyValue, octets_of}
+use Rattle.der_core_head.specs.Shapes.{Step, Shape, Content, Body, tagged, any, either, optional}
+use Rattle.der_core_head.specs.Shapes.{defaulted, nothing, leaf, nested, done, field, only, many}
+use Rattle.der_core_head.specs.Shapes.{exactly, few, in_order, Value, ContentValue, BodyValue}
+use Rattle.der_core_head.specs.Shapes.{octets_of}
 use Rattle.der_core_head.specs.declared.tag.Tag.{Tag}
 use Rattle.der_core_head.specs.Octets.{◌>>=◌}
 use Rattle.der_core_head.specs.Limits.{length_max}
@@ -13,7 +17,8 @@ use Rattle.der_core_head.specs.Grammar.{follows_last}
 use Rattle.der_core_head.specs.Tags.{tag_octets}
 use Rattle.der_core_head.specs.Heads.{length_octets, head_octets}
 
--- what was written, how many octets more there is room for (None: no limit), and whether a write was refused
+-- what was written, how many octets more there is room for (None: no limit), and whether a write
+-- was refused
 pub record Out : Type 0 where
   pub written : List ℕ
   pub room : Option ℕ
@@ -28,7 +33,9 @@ less None n = None
 less (Some r) n = Some (r - n)
 
 unfoldable pub put : List ℕ → Out → Result Out ErrorKind
-put b o = if o.failed then Err kinds.Failed else if lacks o.room (length b) then Err kinds.Overlength else Ok (record { written = o.written ++ b; room = less o.room (length b); failed = false })
+put b o = if o.failed then Err kinds.Failed else if lacks o.room (length b)
+    then Err kinds.Overlength
+    else Ok (record { written = o.written ++ b; room = less o.room (length b); failed = false })
 
 -- a sum of lengths
 abbrev pub sum_len : ℕ → ℕ → Result ℕ ErrorKind
@@ -36,7 +43,8 @@ sum_len m n = if nat_lt length_max (m + n) then Err kinds.Overflow else Ok (m + 
 
 -- the octets of a header, where a length can count them with the content behind them
 unfoldable pub put_head : Tag → ℕ → Out → Result Out ErrorKind
-put_head t n o = sum_len (length (head_octets t n)) n >>= λ _. put (tag_octets t) o >>= put (length_octets n)
+put_head t n o = sum_len (length (head_octets t n)) n >>= λ _. put (tag_octets t) o
+    >>= put (length_octets n)
 
 unfoldable pub head_len : Tag → ℕ → Result ℕ ErrorKind
 head_len t n = Ok (length (head_octets t n))
@@ -84,20 +92,25 @@ abbrev mutual
   size_body (few n s) v = many_len (size s) v 0
   size_body (in_order how s) v = many_len (size s) v 0
 
-unfoldable pub write_tlv : Tag → Result ℕ ErrorKind → (Out → Result Out ErrorKind) → Out → Result Out ErrorKind
+unfoldable pub write_tlv : Tag → Result ℕ ErrorKind → (Out → Result Out ErrorKind) → Out
+    → Result Out ErrorKind
 write_tlv t n f o = n >>= λ n. put_head t n o >>= f
 
-abbrev pub write_many : {P : Type 0} → (P → Out → Result Out ErrorKind) → List P → Out → Result Out ErrorKind
+abbrev pub write_many : {P : Type 0} → (P → Out → Result Out ErrorKind) → List P → Out
+    → Result Out ErrorKind
 write_many f [] o = Ok o
 write_many f (x ∷ xs) o = f x o >>= write_many f xs
 
 -- each encoding stands so behind the one before (11.6)
-abbrev pub all_follow : {P : Type 0} → Step → (P → List ℕ) → Option (List ℕ) → List P → Result (Unit {0}) ErrorKind
+abbrev pub all_follow : {P : Type 0} → Step → (P → List ℕ) → Option (List ℕ) → List P
+    → Result (Unit {0}) ErrorKind
 all_follow how w last [] = Ok tt
-all_follow how w last (x ∷ xs) = follows_last how last (w x) >>= λ _. all_follow how w (Some (w x)) xs
+all_follow how w last (x ∷ xs) = follows_last how last (w x) >>= λ _. all_follow how w (Some (w x))
+    xs
 
 -- the members of a set, and then their order is asked for
-abbrev pub write_in_order : {P : Type 0} → Step → (P → Out → Result Out ErrorKind) → (P → List ℕ) → List P → Out → Result Out ErrorKind
+abbrev pub write_in_order : {P : Type 0} → Step → (P → Out → Result Out ErrorKind) → (P → List ℕ)
+    → List P → Out → Result Out ErrorKind
 write_in_order how f w xs o = write_many f xs o >>= λ z. all_follow how w None xs >>= λ _. Ok z
 
 unfoldable pub default_write : Bool → (Out → Result Out ErrorKind) → Out → Result Out ErrorKind
@@ -134,6 +147,7 @@ abbrev pub FailsTaking : {Y : Type 0} → Bool → ErrorKind → Result Y ErrorK
 FailsTaking memory e r = (memory ≡ true → e ≢ kinds.OutOfMemory) → r ≡ Err e
 
 -- The call did to a writer, which takes memory or not, what writing does.
-abbrev pub Writes : Bool → Out → Out → Result (Unit {0}) Error → (Out → Result Out ErrorKind) → Type 0
+abbrev pub Writes : Bool → Out → Out → Result (Unit {0}) Error → (Out → Result Out ErrorKind)
+    → Type 0
 Writes memory old new (Ok _) f = f old ≡ Ok new
 Writes memory old new (Err e) f = FailsTaking memory e.kind (f old)

@@ -1,7 +1,10 @@
 //! Why octets could not be read or written.
 
 ghost use Rattle.std.specs.Prelude.{◌≡◌, Some, None};
-ghost use Rattle.der_core_head.specs.declared.error.ErrorKind.TheVariants.{Incomplete, OidMalformed, OutOfMemory, Overflow, Utf8};
+ghost use Rattle.der_core_head.specs.declared.error.ErrorKind.TheVariants.{Incomplete};
+ghost use Rattle.der_core_head.specs.declared.error.ErrorKind.TheVariants.{OidMalformed};
+ghost use Rattle.der_core_head.specs.declared.error.ErrorKind.TheVariants.{OutOfMemory, Overflow};
+ghost use Rattle.der_core_head.specs.declared.error.ErrorKind.TheVariants.{Utf8};
 
 use crate::length::Length;
 use crate::tag::Tag;
@@ -32,8 +35,8 @@ pub enum ErrorKind {
     Noncanonical { tag: Tag },
     /// An object identifier that is none.
     OidMalformed,
-    /// An object identifier to which the caller's protocol gives no meaning. No call of these crates
-    /// answers it.
+    /// An object identifier to which the caller's protocol gives no meaning. No call of these
+    /// crates answers it.
     OidUnknown,
     /// Want of memory.
     OutOfMemory,

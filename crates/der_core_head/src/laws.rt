@@ -2,7 +2,8 @@
 //!
 //! Each is the contract of a function that does nothing.
 
-ghost use Rattle.std.specs.Prelude.{◌≡◌, ◌≢◌, ◌↔◌, ◌≤◌, ◌<◌, ◌⊎◌, ℕ, List, [], ◌++◌, length, take, drop, true, false, None, Ok, Err};
+ghost use Rattle.std.specs.Prelude.{◌≡◌, ◌≢◌, ◌↔◌, ◌≤◌, ◌<◌, ◌⊎◌, ℕ, List, [], ◌++◌, length, take};
+ghost use Rattle.std.specs.Prelude.{drop, true, false, None, Ok, Err};
 ghost use Rattle.der_core_head.specs.Limits.{IsLength, levels_max};
 ghost use Rattle.der_core_head.specs.Octets.{IsOctets};
 ghost use Rattle.der_core_head.specs.declared.error.ErrorKind.{ErrorKind};
@@ -11,16 +12,19 @@ ghost use Rattle.der_core_head.specs.declared.tag.Tag.{Tag};
 ghost use Rattle.der_core_head.specs.Tags.{IsTag, tag_octets};
 ghost use Rattle.der_core_head.specs.Heads.{Head, Fits, head_at, head_octets};
 ghost use Rattle.der_core_head.specs.Shapes.{Shape, Value, IsValid, begins, octets_of};
-ghost use Rattle.der_core_head.specs.Bounds.{IsOf, IsValidUnder, identifiers_of, AreBelow, HoldsLarge};
+ghost use Rattle.der_core_head.specs.Bounds.{IsOf, IsValidUnder, identifiers_of, AreBelow};
+ghost use Rattle.der_core_head.specs.Bounds.{HoldsLarge};
 ghost use Rattle.der_core_head.specs.Spelling.{is_apart, is_element, are_enough};
 ghost use Rattle.der_core_head.specs.Grammar.{read};
 ghost use Rattle.der_core_head.specs.Ranges.{IsInRange};
 ghost use Rattle.der_core_head.specs.Writing.{Out, write};
-ghost use Rattle.der_core_head.specs.Bodies.{IsIndefiniteBody, SpellsHead, body_len_at, head_ber_at};
+ghost use Rattle.der_core_head.specs.Bodies.{IsIndefiniteBody, SpellsHead, body_len_at};
+ghost use Rattle.der_core_head.specs.Bodies.{head_ber_at};
 
 /// No encoding begins another, and no two values have one encoding (X.690 10, 11).
 ///
-/// So it is for each shape that has a header and keeps first tags apart, however many levels it has.
+/// So it is for each shape that has a header and keeps first tags apart, however many levels it
+/// has.
 pub fn apart_is_lawful()
     ensures { (s : Shape) (v w : Value s) (r t : List ℕ) → is_element s ≡ true → is_apart s ≡ true
         → IsValid s v → IsValid s w → octets_of s v ++ r ≡ octets_of s w ++ t
@@ -54,8 +58,8 @@ pub fn more_levels_read_alike()
         → read s room w ≡ Ok (v, r) → read s more w ≡ Ok (v, r) }
 {}
 
-/// What is written is spelled: behind what stood there stand the octets of the value, no more than a
-/// length can count; and the value has an encoding, where its parts are in their ranges.
+/// What is written is spelled: behind what stood there stand the octets of the value, no more than
+/// a length can count; and the value has an encoding, where its parts are in their ranges.
 ///
 /// So a value that is too long is refused, and one with a set that doesn't rise (X.690 11.6).
 pub fn written_is_spelled()
@@ -81,7 +85,8 @@ pub fn written_is_read()
         → read s room (z.written ++ r) ≡ Ok (v, r) }
 {}
 
-/// What is read as a header is spelled so, and what is spelled so is read, whatever follows (X.690 8.1.2, 8.1.3, 10.1).
+/// What is read as a header is spelled so, and what is spelled so is read, whatever follows (X.690
+/// 8.1.2, 8.1.3, 10.1).
 pub fn headers_are_spelled()
     ensures spelled { (h : Head) (r w : List ℕ) → IsOctets w → head_at w ≡ Ok (h, r)
         → (w ≡ head_octets h.tag h.len ++ r) × IsTag h.tag × IsLength h.len }
@@ -127,21 +132,24 @@ pub fn bodies_end_themselves()
         ≡ Ok (h, take h.len (drop n w) ++ more) }
 {}
 
-/// What is valid under a bound of arcs is what is valid in a shape that states this bound and no other.
+/// What is valid under a bound of arcs is what is valid in a shape that states this bound and no
+/// other.
 pub fn bounds_are_those_of_shapes()
     ensures { (bound : ℕ) (s : Shape) (v : Value s) → IsOf bound s
         → IsValid s v ↔ IsValidUnder bound s v }
 {}
 
-/// What has an encoding under one bound of arcs has one under a wider bound, which is the same, since octets don't depend on bounds.
+/// What has an encoding under one bound of arcs has one under a wider bound, which is the same,
+/// since octets don't depend on bounds.
 pub fn wider_bounds_keep_encodings()
     ensures { (small large : ℕ) (s : Shape) (v : Value s) → small ≤ large → IsValidUnder small s v
         → IsValidUnder large s v }
 {}
 
-/// What has an encoding under one bound of arcs has one under another, where each arc of its identifiers is below that one; so what
-/// has none under that one holds an identifier with an arc that isn't below it. And it has one under a bound from 40 up only where
-/// each arc is below it: every second arc is below 40.
+/// What has an encoding under one bound of arcs has one under another, where each arc of its
+/// identifiers is below that one; so what has none under that one holds an identifier with an arc
+/// that isn't below it. And it has one under a bound from 40 up only where each arc is below it:
+/// every second arc is below 40.
 pub fn new_values_hold_large_arcs()
     ensures narrow { (small large : ℕ) (s : Shape) (v : Value s) → IsValidUnder large s v
         → AreBelow small (identifiers_of s v) → IsValidUnder small s v }

@@ -8,7 +8,8 @@ ghost use Rattle.der_core_head.specs.declared.encoding_rules.EncodingRules.TheVa
 ghost use Rattle.der_core_head.specs.Fronts.{alone, matches_at};
 ghost use Rattle.der_core_head.specs.Grammar.{peek_at};
 ghost use Rattle.der_core_head.specs.Reading.{GivesNow};
-ghost use Rattle.der_core_head.specs.Tags.{tag_at, leading, low_bits, leading_octet, number_of, is_constructed, same_tag};
+ghost use Rattle.der_core_head.specs.Tags.{tag_at, leading, low_bits, leading_octet, number_of};
+ghost use Rattle.der_core_head.specs.Tags.{is_constructed, same_tag};
 
 use crate::class::Class;
 use crate::error::{Error, ErrorKind};
@@ -60,8 +61,8 @@ impl Tag {
     ///
     /// # Errors
     /// `Incomplete` where they run out, `TagUnknown` for a tag of the universal class that isn't
-    /// read, `TagNumberInvalid` for a number from 31 on that isn't in its shortest form or passes 32
-    /// bits.
+    /// read, `TagNumberInvalid` for a number from 31 on that isn't in its shortest form or passes
+    /// 32 bits.
     pub fn peek(octets: &[u8]) -> Result<Tag, Error>
         ensures { GivesNow (λ t. t) result (alone (tag_at octets.now)) }
     {
@@ -263,7 +264,8 @@ pub fn is_constructed(tag: Tag) -> bool
     }
 }
 
-/// Whether two tags have the same octets. Inlined, so that against a tag that is known it is one comparison.
+/// Whether two tags have the same octets. Inlined, so that against a tag that is known it is one
+/// comparison.
 #[inline(always)]
 pub fn is_same_tag(a: Tag, b: Tag) -> bool
     ensures { result ≡ same_tag a b }

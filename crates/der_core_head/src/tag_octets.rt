@@ -1,9 +1,11 @@
 //! Tags at the front of octets (X.690 8.1.2).
 
-ghost use Rattle.std.specs.Prelude.{◌≡◌, ◌%◌, ◌<◌, ◌≤◌, ◌∷◌, ◌++◌, ℕ, List, drop, IfOk, IfSome, IfNone, OnSome, Ok, Err};
+ghost use Rattle.std.specs.Prelude.{◌≡◌, ◌%◌, ◌<◌, ◌≤◌, ◌∷◌, ◌++◌, ℕ, List, drop, IfOk, IfSome};
+ghost use Rattle.std.specs.Prelude.{IfNone, OnSome, Ok, Err};
 ghost use Rattle.der_core_head.specs.declared.error.ErrorKind.TheVariants.{TagUnknown};
 ghost use Rattle.der_core_head.specs.declared.tag.Tag.{Tag};
-ghost use Rattle.der_core_head.specs.Tags.{IsTag, tag_octets, universal_tag, class_tag, digits_at, number_at, tag_at};
+ghost use Rattle.der_core_head.specs.Tags.{IsTag, tag_octets, universal_tag, class_tag, digits_at};
+ghost use Rattle.der_core_head.specs.Tags.{number_at, tag_at};
 ghost use Rattle.der_core_head.specs.Fronts.{ReadsFront};
 
 use crate::error::{Error, ErrorKind};

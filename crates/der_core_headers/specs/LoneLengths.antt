@@ -6,7 +6,8 @@ use Rattle.der_core_head.specs.declared.tag.Tag.TheVariants as tags
 use Rattle.der_core_head.specs.Octets.{Readings}
 use Rattle.der_core_head.specs.Heads.{length_at}
 
--- the fault behind no tag: a form that isn't the shortest is too long, and no tag is there to be named
+-- the fault behind no tag: a form that isn't the shortest is too long, and no tag is there to be
+-- named
 abbrev pub lone_fault : ErrorKind → ErrorKind
 lone_fault (kinds.Length t) = kinds.Overlength
 lone_fault k = k

@@ -49,8 +49,8 @@ pub fn header_by(rules: EncodingRules, octets: &[u8]) -> Result<(Header, usize),
     }
 }
 
-/// The header at the front of octets, and how many octets it takes, if its tag is spelled in one octet
-/// and its length in its shortest form. It is the same by both rules.
+/// The header at the front of octets, and how many octets it takes, if its tag is spelled in one
+/// octet and its length in its shortest form. It is the same by both rules.
 #[inline(always)]
 pub fn plain_header_by_both(octets: &[u8]) -> Option<(Header, usize)>
     ensures front { IfSome result

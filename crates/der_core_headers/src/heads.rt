@@ -13,7 +13,8 @@ use crate::header::Header;
 use crate::parse;
 use der_core_head::{Error, Length, Tag};
 
-/// The length at the front of octets behind a tag, and how many octets it takes (X.690 8.1.3, 10.1).
+/// The length at the front of octets behind a tag, and how many octets it takes (X.690 8.1.3,
+/// 10.1).
 ///
 /// # Errors
 /// `Incomplete` where they run out, `IndefiniteLength` for the octet 80, `Overlength` for more than
@@ -31,7 +32,8 @@ pub fn length_of(tag: Tag, octets: &[u8]) -> Result<(Length, usize), Error>
     parse::length_of(tag, octets)
 }
 
-/// The length at the front of octets, behind no tag, and how many octets it takes (X.690 8.1.3, 10.1).
+/// The length at the front of octets, behind no tag, and how many octets it takes (X.690 8.1.3,
+/// 10.1).
 ///
 /// # Errors
 /// `Incomplete` where they run out, `IndefiniteLength` for the octet 80, `Overlength` for more than

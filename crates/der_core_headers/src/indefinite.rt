@@ -3,7 +3,8 @@
 ghost use Rattle.std.specs.Prelude.{◌≡◌, ◌+◌, ◌≤◌, ◌++◌, ℕ, List, length, take, drop, Ok, IfOk};
 ghost use Rattle.der_core_head.specs.Limits.{levels_max};
 ghost use Rattle.der_core_head.specs.Heads.{Head, Fits};
-ghost use Rattle.der_core_head.specs.Bodies.{IsIndefiniteBody, SpellsHead, tag_ber_at, mark_at, piece_at, body_len_at, head_ber_at};
+ghost use Rattle.der_core_head.specs.Bodies.{IsIndefiniteBody, SpellsHead, tag_ber_at, mark_at};
+ghost use Rattle.der_core_head.specs.Bodies.{piece_at, body_len_at, head_ber_at};
 ghost use Rattle.der_core_head.specs.Reading.{GivesNow};
 ghost use Rattle.der_core_head.specs.Fronts.{ReadsFront};
 ghost use Rattle.der_core_headers.specs.Fronts.{head_of};

@@ -7,8 +7,8 @@ ghost use Rattle.der_core_head.specs.declared.error.Error.{Error};
 ghost use Rattle.der_core_headers.specs.declared.header.Header.{Header};
 ghost use Rattle.der_core_headers.specs.Fronts.{AreAlike, Scans};
 
-/// Octets are scanned in one way, the place of an error aside; and so are those before more of them,
-/// unless they run out.
+/// Octets are scanned in one way, the place of an error aside; and so are those before more of
+/// them, unless they run out.
 pub fn scanned_in_one_way()
     ensures alike { (w : List ℕ) (r s : Result (Option (Header × ℕ)) Error) → Scans w r → Scans w s
         → AreAlike r s }

@@ -1,6 +1,7 @@
 //! Lengths and headers at the front of octets (X.690 8.1.2, 8.1.3, 10.1).
 
-ghost use Rattle.std.specs.Prelude.{◌≡◌, ◌+◌, ◌-◌, ◌<◌, ◌≤◌, ◌∷◌, length, drop, IfSome, IfNone, OnSome, IsErr, Ok, Err};
+ghost use Rattle.std.specs.Prelude.{◌≡◌, ◌+◌, ◌-◌, ◌<◌, ◌≤◌, ◌∷◌, length, drop, IfSome, IfNone};
+ghost use Rattle.std.specs.Prelude.{OnSome, IsErr, Ok, Err};
 ghost use Rattle.der_core_head.specs.declared.tag.Tag.{Tag};
 ghost use Rattle.der_core_head.specs.Heads.{length_at, head_at};
 ghost use Rattle.der_core_head.specs.Fronts.{ReadsFront};

@@ -1,5 +1,6 @@
 -- Values at the front of octets.
-use Rattle.std.specs.Prelude.{List, ℕ, length, Option, Some, None, Result, Err, nat_lt, if◌then◌else◌}
+use Rattle.std.specs.Prelude.{List, ℕ, length, Option, Some, None, Result, Err, nat_lt}
+use Rattle.std.specs.Prelude.{if◌then◌else◌}
 use Rattle.std.specs.Borrow.{Bor}
 use Rattle.der_core_head.specs.declared.error.ErrorKind.{ErrorKind}
 use Rattle.der_core_head.specs.declared.error.ErrorKind.TheVariants as kinds

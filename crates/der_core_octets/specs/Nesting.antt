@@ -1,5 +1,6 @@
 -- Reading by a closure up to an end that is set nearer for the while.
-use Rattle.std.specs.Prelude.{◌≡◌, ◌≢◌, ◌<◌, ◌≤◌, ◌⊎◌, ℕ, length, drop, [], true, false, Result, Ok, Err}
+use Rattle.std.specs.Prelude.{◌≡◌, ◌≢◌, ◌<◌, ◌≤◌, ◌⊎◌, ℕ, length, drop, [], true, false, Result, Ok}
+use Rattle.std.specs.Prelude.{Err}
 use Rattle.std.specs.Borrow.{MutBor}
 use Rattle.std.specs.Fn.{Once, FnOnceReturnsAtMut}
 use Rattle.der_core_head.specs.declared.error.Error.{Error}
@@ -8,7 +9,8 @@ use Rattle.der_core_head.specs.declared.tag.Tag.{Tag}
 use Rattle.der_core_head.specs.Bodies.{head_by}
 use Rattle.der_core_head.specs.Reading.{State, Kept, Refuses, entered}
 
--- a header of that tag and of n content octets stands next, by the rules of the reader, and mid is the reader behind it
+-- a header of that tag and of n content octets stands next, by the rules of the reader, and mid is
+-- the reader behind it
 pub record Enters (t : Tag) (n : ℕ) (old mid : State) : Type 0 where
   pub ready : old.failed ≡ false
   pub head : head_by old.source.encoding old.rest ≡ Ok (record { tag = t; len = n }, mid.rest)
@@ -25,21 +27,32 @@ pub record IsNested (n : ℕ) (old new : State) : Type 0 where
   pub rest : new.rest ≡ drop n old.rest
   pub kept : Kept old new
 
--- an end was set n octets ahead, and f was called at a reader with that end, answered r, and left the reader so
-abbrev pub CalledWithin : {R T F : Type 0} → (R → State) → Once F (MutBor R × Unit {0}) (Result T Error × (MutBor R × Unit {0})) → F → ℕ → State → Result T Error → R → Type 0
+-- an end was set n octets ahead, and f was called at a reader with that end, answered r, and left
+-- the reader so
+abbrev pub CalledWithin : {R T F : Type 0} → (R → State)
+    → Once F (MutBor R × Unit {0}) (Result T Error × (MutBor R × Unit {0})) → F → ℕ → State
+    → Result T Error → R → Type 0
 CalledWithin {R} state g f n old r outer =
-    CanEnter n old × (inner : R) × (state inner ≡ entered n old) × FnOnceReturnsAtMut g f inner r outer
+    CanEnter n old × (inner : R) × (state inner ≡ entered n old)
+    × FnOnceReturnsAtMut g f inner r outer
 
 -- f answered x, and left nothing
-abbrev pub Answered : {R T F : Type 0} → (R → State) → Once F (MutBor R × Unit {0}) (Result T Error × (MutBor R × Unit {0})) → F → ℕ → State → T → Type 0
-Answered {R} state g f n old x = (outer : R) × CalledWithin state g f n old (Ok x) outer × ((state outer).rest ≡ [])
+abbrev pub Answered : {R T F : Type 0} → (R → State)
+    → Once F (MutBor R × Unit {0}) (Result T Error × (MutBor R × Unit {0})) → F → ℕ → State → T
+    → Type 0
+Answered {R} state g f n old x = (outer : R) × CalledWithin state g f n old (Ok x) outer
+    × ((state outer).rest ≡ [])
 
 -- f answered something, and left octets
-abbrev pub LeavesOctets : {R T F : Type 0} → (R → State) → Once F (MutBor R × Unit {0}) (Result T Error × (MutBor R × Unit {0})) → F → ℕ → State → Type 0
-LeavesOctets {R} {T} state g f n old = (outer : R) × (x : T) × CalledWithin state g f n old (Ok x) outer × ((state outer).rest ≢ [])
+abbrev pub LeavesOctets : {R T F : Type 0} → (R → State)
+    → Once F (MutBor R × Unit {0}) (Result T Error × (MutBor R × Unit {0})) → F → ℕ → State → Type 0
+LeavesOctets {R} {T} state g f n old = (outer : R) × (x : T)
+    × CalledWithin state g f n old (Ok x) outer × ((state outer).rest ≢ [])
 
 -- why it was refused: the reader had failed, the end can't be set, f was refused, or it left octets
-abbrev pub RefusesNested : {R T F : Type 0} → (R → State) → Once F (MutBor R × Unit {0}) (Result T Error × (MutBor R × Unit {0})) → F → ℕ → State → Error → Type 0
+abbrev pub RefusesNested : {R T F : Type 0} → (R → State)
+    → Once F (MutBor R × Unit {0}) (Result T Error × (MutBor R × Unit {0})) → F → ℕ → State → Error
+    → Type 0
 RefusesNested {R} state g f n old e =
     ((old.failed ≡ true) × (e.kind ≡ kinds.Failed))
     ⊎ (((old.failed ≡ false) × Refuses n old e.kind)
@@ -51,17 +64,23 @@ abbrev pub IsEnclosed : Tag → State → State → Type 0
 IsEnclosed t old new = (n : ℕ) × (mid : State) × Enters t n old mid × IsNested n mid new
 
 -- f was called at that content, answered x, and left nothing
-abbrev pub AnsweredIn : {R T F : Type 0} → Tag → (R → State) → Once F (MutBor R × Unit {0}) (Result T Error × (MutBor R × Unit {0})) → F → State → T → Type 0
-AnsweredIn t state g f old x = (n : ℕ) × (mid : State) × Enters t n old mid × Answered state g f n mid x
+abbrev pub AnsweredIn : {R T F : Type 0} → Tag → (R → State)
+    → Once F (MutBor R × Unit {0}) (Result T Error × (MutBor R × Unit {0})) → F → State → T → Type 0
+AnsweredIn t state g f old x = (n : ℕ) × (mid : State) × Enters t n old mid
+    × Answered state g f n mid x
 
 -- another tag stands there
 abbrev pub IsOther : Tag → State → Type 0
 IsOther t old = (s : Tag) × (n : ℕ) × (mid : State) × Enters s n old mid × (s ≢ t)
 
--- why it was refused: the reader had failed, no header stands there, one of another tag, or f at the content was refused
-abbrev pub RefusesIn : {R T F : Type 0} → Tag → (R → State) → Once F (MutBor R × Unit {0}) (Result T Error × (MutBor R × Unit {0})) → F → State → Error → Type 0
+-- why it was refused: the reader had failed, no header stands there, one of another tag, or f at
+-- the content was refused
+abbrev pub RefusesIn : {R T F : Type 0} → Tag → (R → State)
+    → Once F (MutBor R × Unit {0}) (Result T Error × (MutBor R × Unit {0})) → F → State → Error
+    → Type 0
 RefusesIn {R} {T} t state g f old e =
     ((old.failed ≡ true) × (e.kind ≡ kinds.Failed))
     ⊎ (((old.failed ≡ false) × (head_by old.source.encoding old.rest ≡ Err e.kind))
     ⊎ ((IsOther t old × (e.kind ≡ kinds.TagUnexpected))
-    ⊎ ((n : ℕ) × (mid : State) × Enters t n old mid × RefusesNested {R = R} {T = T} state g f n mid e)))
+    ⊎ ((n : ℕ) × (mid : State) × Enters t n old mid × RefusesNested {R = R} {T = T} state g f n mid
+    e)))

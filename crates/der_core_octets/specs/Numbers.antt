@@ -1,5 +1,6 @@
 -- Whole numbers as a sign and a number.
-use Rattle.std.specs.Prelude.{◌≡◌, ◌≤◌, ◌^◌, ◌-◌, if◌then◌else◌, ℕ, ℤ, pos, negsuc, List, Bool, true, false, Option, Some, None, Result, Ok, Err}
+use Rattle.std.specs.Prelude.{◌≡◌, ◌≤◌, ◌^◌, ◌-◌, if◌then◌else◌, ℕ, ℤ, pos, negsuc, List, Bool}
+use Rattle.std.specs.Prelude.{true, false, Option, Some, None, Result, Ok, Err}
 use Rattle.der_core_head.specs.declared.error.Error.{Error}
 use Rattle.der_core_head.specs.declared.tag.Tag.{Tag}
 use Rattle.der_core_head.specs.Integers.{complement, shortest_integer}
@@ -25,5 +26,6 @@ IsMagnitude n None = 2 ^ 128 ≤ n
 
 -- What was answered is the number that a content spells, whatever its size, or its fault.
 abbrev pub IsWholeNumber : Tag → List ℕ → Result (Bool × Option ℕ) Error → Type 0
-IsWholeNumber t w (Ok x) = (n : ℕ) × (shortest_integer t w ≡ Ok (signed_number x.0 n)) × IsMagnitude n x.1
+IsWholeNumber t w (Ok x) = (n : ℕ) × (shortest_integer t w ≡ Ok (signed_number x.0 n))
+    × IsMagnitude n x.1
 IsWholeNumber t w (Err e) = shortest_integer t w ≡ Err e.kind

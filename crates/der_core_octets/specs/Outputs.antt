@@ -1,5 +1,6 @@
 -- What a writer holds after a call, and what is written to a slice or behind octets.
-use Rattle.std.specs.Prelude.{◌≡◌, ◌+◌, ℕ, List, [], Bool, true, false, length, take, Some, None, Result, Ok, Err, if◌then◌else◌}
+use Rattle.std.specs.Prelude.{◌≡◌, ◌+◌, ℕ, List, [], Bool, true, false, length, take, Some, None}
+use Rattle.std.specs.Prelude.{Result, Ok, Err, if◌then◌else◌}
 use Rattle.std.specs.Borrow.{MutBor}
 use Rattle.std.specs.Fn.{Once, FnOnceReturnsAtMut}
 use Rattle.der_core_head.specs.declared.error.Error.{Error}
@@ -23,7 +24,8 @@ IsFront w o = take (length w) o.written ≡ w
 
 -- What was written stays in front, and a writer that failed stays failed.
 abbrev pub Continues : Out → Out → Type 0
-Continues old new = ((w : List ℕ) → IsFront w old → IsFront w new) × (old.failed ≡ true → new.failed ≡ true)
+Continues old new = ((w : List ℕ) → IsFront w old → IsFront w new)
+    × (old.failed ≡ true → new.failed ≡ true)
 
 -- so much room, and nothing written yet
 abbrev pub blank : ℕ → Out
@@ -35,13 +37,17 @@ finished o = if o.failed then Err kinds.Failed else Ok o.written
 
 -- the number of octets of a value, and octets with the value written behind them
 abbrev pub appended : (s : Shape) → Value s → List ℕ → Result (ℕ × List ℕ) ErrorKind
-appended s v w = size s v >>= λ n. write s v (record { written = w; room = None; failed = false }) >>= λ o. Ok (n, o.written)
+appended s v w = size s v >>= λ n. write s v (record { written = w; room = None; failed = false })
+    >>= λ o. Ok (n, o.written)
 
 -- what writing puts into so much room
 abbrev pub filled : (Out → Result Out ErrorKind) → ℕ → Result (List ℕ) ErrorKind
 filled f room = f (blank room) >>= finished
 
 -- f was called behind the header of a SEQUENCE of n octets, and wrote that many
-abbrev pub Encloses : {W F : Type 0} → (W → Out) → Once F (MutBor W × Unit {0}) (Result (Unit {0}) Error × (MutBor W × Unit {0})) → F → ℕ → Out → Out → Type 0
-Encloses {W} out g f n old new = (inner outer : W) × (put_head tags.Sequence n old ≡ Ok (out inner)) × FnOnceReturnsAtMut g f inner (Ok tt) outer
+abbrev pub Encloses : {W F : Type 0} → (W → Out)
+    → Once F (MutBor W × Unit {0}) (Result (Unit {0}) Error × (MutBor W × Unit {0})) → F → ℕ → Out
+    → Out → Type 0
+Encloses {W} out g f n old new = (inner outer : W) × (put_head tags.Sequence n old ≡ Ok (out inner))
+    × FnOnceReturnsAtMut g f inner (Ok tt) outer
     × (out outer ≡ new) × (length new.written ≡ length (out inner).written + n)

@@ -1,5 +1,6 @@
 -- Strings in parts (X.690 8.7.3).
-use Rattle.std.specs.Prelude.{ℕ, zero, suc, List, [], ◌∷◌, ◌++◌, length, Bool, true, false, ◌&&◌, Result, Ok, Err, ◌==◌, if◌then◌else◌}
+use Rattle.std.specs.Prelude.{ℕ, zero, suc, List, [], ◌∷◌, ◌++◌, length, Bool, true, false, ◌&&◌}
+use Rattle.std.specs.Prelude.{Result, Ok, Err, ◌==◌, if◌then◌else◌}
 use Rattle.der_core_head.specs.declared.error.ErrorKind.{ErrorKind}
 use Rattle.der_core_head.specs.declared.error.ErrorKind.TheVariants as kinds
 use Rattle.der_core_head.specs.declared.encoding_rules.EncodingRules.{EncodingRules}
@@ -24,7 +25,8 @@ are_closed (a ∷ b ∷ c ∷ w) = false
 -- the contents of the parts, no more than n, joined behind what stands in front
 unfoldable pub joined : Tag → ℕ → List ℕ → List ℕ → Result (List ℕ) ErrorKind
 joined t zero front w = if are_closed w then Ok front else Err kinds.TrailingData
-joined t (suc n) front w = if are_closed w then Ok front else (part_at t w >>= λ x. joined t n (front ++ x.0) x.1)
+joined t (suc n) front w = if are_closed w then Ok front
+    else (part_at t w >>= λ x. joined t n (front ++ x.0) x.1)
 
 -- by BER; by DER no string is in parts (10.2)
 abbrev pub join_by : EncodingRules → Tag → List ℕ → Result (List ℕ) ErrorKind

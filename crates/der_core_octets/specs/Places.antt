@@ -11,4 +11,5 @@ IsAt n s = n + length s.rest + length s.behind ≡ s.source.size
 
 -- the octets of a whole encoding, by what reads headers: its header and its content, as they stand
 unfoldable pub encoding_at : Readings Head → Readings (List ℕ)
-encoding_at head w = head w >>= λ h. slice_at h.0.len h.1 >>= λ x. Ok (take (length w - length x.1) w, x.1)
+encoding_at head w = head w >>= λ h. slice_at h.0.len h.1
+    >>= λ x. Ok (take (length w - length x.1) w, x.1)

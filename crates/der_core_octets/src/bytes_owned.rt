@@ -3,7 +3,8 @@
 ghost use Rattle.std.specs.Prelude.{◌≡◌, ◌↔◌, ◌<◌, [], length, nat_eq, IsTrue, IfOk, Some};
 ghost use Rattle.std.proofs.Common.{refl, rules};
 ghost use Rattle.std.specs.Cmp.{partial_equiv_from_equiv};
-ghost use Rattle.std.specs.Cmp.Lexicographic.{pointwise, slice_cmp, nat_list_eq_equiv, nat_list_cmp_total, texts_po, texts_ties};
+ghost use Rattle.std.specs.Cmp.Lexicographic.{pointwise, slice_cmp, nat_list_eq_equiv};
+ghost use Rattle.std.specs.Cmp.Lexicographic.{nat_list_cmp_total, texts_po, texts_ties};
 ghost use Rattle.std.specs.Cmp.Rules.{hashing};
 ghost use Rattle.std.specs.Hash as fed;
 ghost use Rattle.std.specs.Ordering.{nat_cmp};
@@ -53,16 +54,16 @@ impl BytesOwned {
         Ok(BytesOwned { bytes })
     }
 
-    /// The contents of the parts of a string in parts, joined (X.690 8.7.3): those behind its header,
-    /// each an encoding of `inner_tag` by DER, up to the end of its content, or to a mark there that
-    /// closes an indefinite length (8.1.5). After a refusal the reader has failed.
+    /// The contents of the parts of a string in parts, joined (X.690 8.7.3): those behind its
+    /// header, each an encoding of `inner_tag` by DER, up to the end of its content, or to a mark
+    /// there that closes an indefinite length (8.1.5). After a refusal the reader has failed.
     ///
     /// A header doesn't tell whether a string is in parts: bit 6 of the octet that stands does.
     ///
     /// # Errors
-    /// `Incomplete` where the content is longer than what is left; `TagUnknown` by DER, where no string
-    /// is in parts (10.2); `TagUnexpected` for a part of another tag, else the first fault of a part;
-    /// `OutOfMemory`; `Failed` where the reader failed before.
+    /// `Incomplete` where the content is longer than what is left; `TagUnknown` by DER, where no
+    /// string is in parts (10.2); `TagUnexpected` for a part of another tag, else the first fault
+    /// of a part; `OutOfMemory`; `Failed` where the reader failed before.
     pub fn decode_value_parts<'a, R: Reader<'a>>(
         alloc: Global,
         reader: &mut R,

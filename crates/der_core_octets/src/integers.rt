@@ -2,9 +2,11 @@
 
 ghost use Rattle.std.specs.Prelude.{◌≡◌, ◌↔◌, ◌<◌, ◌≤◌, ◌-◌, ◌^◌, pos, IsTrue, IfOk, drop};
 ghost use Rattle.std.specs.Int.Digits.{number_from_digits};
-ghost use Rattle.der_core_head.specs.Integers.{unsigned, signed, is_redundant, integer_octets, integer_read};
+ghost use Rattle.der_core_head.specs.Integers.{unsigned, signed, is_redundant, integer_octets};
+ghost use Rattle.der_core_head.specs.Integers.{integer_read};
 ghost use Rattle.der_core_head.specs.Reading.{GivesNow};
-ghost use Rattle.der_core_octets.specs.Numbers.{signed_number, turn, turned, IsMagnitude, IsWholeNumber};
+ghost use Rattle.der_core_octets.specs.Numbers.{signed_number, turn, turned, IsMagnitude};
+ghost use Rattle.der_core_octets.specs.Numbers.{IsWholeNumber};
 
 use der_core_head::{Error, ErrorKind, Tag};
 

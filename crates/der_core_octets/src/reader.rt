@@ -1,6 +1,8 @@
 //! Readers.
 
-ghost use Rattle.std.specs.Prelude.{◌≡◌, ◌↔◌, ◌+◌, ◌≤◌, ◌<◌, ◌++◌, ℕ, List, IsTrue, length, take, [], slice_get, Ok, OnOk, OnErr, IfOk, IfErr, IsSomeAnd, ◌≢◌, true, false};
+ghost use Rattle.std.specs.Prelude.{◌≡◌, ◌↔◌, ◌+◌, ◌≤◌, ◌<◌, ◌++◌, ℕ, List, IsTrue, length, take};
+ghost use Rattle.std.specs.Prelude.{[], slice_get, Ok, OnOk, OnErr, IfOk, IfErr, IsSomeAnd, ◌≢◌};
+ghost use Rattle.std.specs.Prelude.{true, false};
 ghost use Rattle.der_core_head.specs.Limits.{IsLength, levels_max};
 ghost use Rattle.der_core_head.specs.Tags.{IsTag};
 ghost use Rattle.der_core_head.specs.Heads.{head_octets, Fits};
@@ -9,10 +11,13 @@ ghost use Rattle.der_core_head.specs.declared.tag.Tag.{Tag};
 ghost use Rattle.der_core_head.specs.declared.tag.Tag.TheVariants.{Sequence};
 ghost use Rattle.der_core_head.specs.Shapes.{Body, BodyValue, nested, tagged};
 ghost use Rattle.der_core_head.specs.Grammar.{slice_at, byte_at, peek_at, value_at};
-ghost use Rattle.der_core_head.specs.Reading.{State, IsDer, Kept, ClosureReads, HandsBack, Reads, ReadsNow, GivesNow, Peeks, Opens, Closes, past, broken, ruled, read_at, read_content_at};
+ghost use Rattle.der_core_head.specs.Reading.{State, IsDer, Kept, ClosureReads, HandsBack, Reads};
+ghost use Rattle.der_core_head.specs.Reading.{ReadsNow, GivesNow, Peeks, Opens, Closes, past};
+ghost use Rattle.der_core_head.specs.Reading.{broken, ruled, read_at, read_content_at};
 ghost use Rattle.der_core_head.specs.Fronts.{alone};
 ghost use Rattle.der_core_headers.specs.Fronts.{head_of, wanted_at};
-ghost use Rattle.der_core_octets.specs.Nesting.{IsNested, Answered, RefusesNested, IsEnclosed, AnsweredIn, RefusesIn};
+ghost use Rattle.der_core_octets.specs.Nesting.{IsNested, Answered, RefusesNested, IsEnclosed};
+ghost use Rattle.der_core_octets.specs.Nesting.{AnsweredIn, RefusesIn};
 ghost use Rattle.der_core_octets.specs.Places.{IsAt, encoding_at};
 
 use der_core_head::{EncodingRules, Error, ErrorKind, Length, Tag};
@@ -24,8 +29,9 @@ use std::alloc::Global;
 
 /// What octets are read from: octets up to an end that can be set nearer, and a depth of ends.
 ///
-/// A reader that refused a call that reads has failed: from then on each such call answers `Failed`,
-/// and `is_failed` tells. A call that peeks leaves the reader as it is, also where it is refused.
+/// A reader that refused a call that reads has failed: from then on each such call answers
+/// `Failed`, and `is_failed` tells. A call that peeks leaves the reader as it is, also where it is
+/// refused.
 pub trait Reader<'r>: Drop {
     ghost state: { Self → State };
 
@@ -195,7 +201,8 @@ pub trait Reader<'r>: Drop {
         Ok(Header { tag, length })
     }
 
-    /// The next header, by the rules of the reader, without passing over it. The reader stays as it is.
+    /// The next header, by the rules of the reader, without passing over it. The reader stays as it
+    /// is.
     ///
     /// # Errors
     /// Those of `read_header`.
@@ -213,7 +220,8 @@ pub trait Reader<'r>: Drop {
         }
     }
 
-    /// The next tag, by the rules of the reader, without passing over it. The reader stays as it is.
+    /// The next tag, by the rules of the reader, without passing over it. The reader stays as it
+    /// is.
     ///
     /// # Errors
     /// Those of `tag_of`, and under BER those of `tag_ber_of`.
@@ -253,7 +261,8 @@ pub trait Reader<'r>: Drop {
         }
     }
 
-    /// The next tag, by the rules of the reader, without passing over it, where a value has to stand.
+    /// The next tag, by the rules of the reader, without passing over it, where a value has to
+    /// stand.
     ///
     /// # Errors
     /// Those of `peek_tag`. The reader has failed after them.
@@ -273,8 +282,8 @@ pub trait Reader<'r>: Drop {
         Ok(tag)
     }
 
-    /// The next tag, by the rules of the reader, without passing over it, if octets are left where a
-    /// value may stand.
+    /// The next tag, by the rules of the reader, without passing over it, if octets are left where
+    /// a value may stand.
     ///
     /// # Errors
     /// Those of `peek_tag`. The reader has failed after them.
@@ -512,7 +521,8 @@ pub trait Reader<'r>: Drop {
     ) -> Result<T, Error>
         requires callable { F.IsAlwaysCallable f }
         requires hands_back { HandsBack state F.FnOnce f }
-        // By either rules a header of a SEQUENCE stands there, and it and its content were passed over.
+        // By either rules a header of a SEQUENCE stands there, and it and its content were passed
+        // over.
         ensures moved { OnOk result (IsEnclosed Sequence (state self.old) (state self.new)) }
         // The answer is that of the closure, which left nothing of the content.
         ensures ran { IfOk result (λ x. AnsweredIn Sequence state F.FnOnce f (state self.old) x) }
@@ -551,8 +561,8 @@ pub trait Reader<'r>: Drop {
     }
 }
 
-/// The next tag, of any form, where a value has to stand. It stays out of the calls that choose by a
-/// tag, so that the usual ones cost them little.
+/// The next tag, of any form, where a value has to stand. It stays out of the calls that choose by
+/// a tag, so that the usual ones cost them little.
 ///
 /// # Errors
 /// Those of `peek_tag`. The reader has failed after them.
@@ -572,8 +582,8 @@ fn next_any_tag<'r, R: Reader<'r>>(reader: &mut R) -> Result<Tag, Error>
     }
 }
 
-/// The next header, of any form. It stays out of the calls that read headers, so that the usual ones cost
-/// them little.
+/// The next header, of any form. It stays out of the calls that read headers, so that the usual
+/// ones cost them little.
 ///
 /// # Errors
 /// Those of `read_header`.
@@ -601,8 +611,8 @@ fn read_any_header<'r, R: Reader<'r>>(reader: &mut R) -> Result<Header, Error>
     }
 }
 
-/// The next header of a wanted tag, of any form. It stays out of the calls that read headers, so that
-/// the usual ones cost them little.
+/// The next header of a wanted tag, of any form. It stays out of the calls that read headers, so
+/// that the usual ones cost them little.
 ///
 /// # Errors
 /// Those of `read_header_of`.

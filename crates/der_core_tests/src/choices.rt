@@ -1,5 +1,5 @@
-//! Choices as a user writes them: an enum gives its shape and its reading by the `OneOf` of the types
-//! that it holds.
+//! Choices as a user writes them: an enum gives its shape and its reading by the `OneOf` of the
+//! types that it holds.
 
 ghost use Rattle.std.specs.Prelude.{◌≡◌, refl};
 ghost use Rattle.der_core_values.specs.declared.one_of_two.OneOf2.TheVariants as two;
@@ -33,9 +33,11 @@ type ContactCases = OneOf2<Implicit<u8, 0>, Implicit<String, 1>>;
 impl Shaped for Contact {
     ghost shape = { ⟦<ContactCases as Shaped>⟧.shape };
 
-    ghost plain = { λ x. ⟦<ContactCases as Shaped>⟧.plain (elim x [ contacts.Number v ↦ two.First v | contacts.Mail v ↦ two.Second v ]) };
+    ghost plain = { λ x. ⟦<ContactCases as Shaped>⟧.plain
+        (elim x [ contacts.Number v ↦ two.First v | contacts.Mail v ↦ two.Second v ]) };
 
-    ghost written = { λ x. ⟦<ContactCases as Shaped>⟧.written (elim x [ contacts.Number v ↦ two.First v | contacts.Mail v ↦ two.Second v ]) };
+    ghost written = { λ x. ⟦<ContactCases as Shaped>⟧.written
+        (elim x [ contacts.Number v ↦ two.First v | contacts.Mail v ↦ two.Second v ]) };
 }
 
 impl Choice for Contact {
@@ -82,7 +84,8 @@ type ContactRef<'a> = OneOf2<EncodeRef<'a, Implicit<u8, 0>>, EncodeRef<'a, Impli
 impl Contact {
     /// The alternative behind a reference.
     fn cases(&self) -> ContactRef<'_>
-        ensures { ⟦<ContactRef<'static> as Shaped>⟧.written result ≡ ⟦<Contact as Shaped>⟧.written self.now }
+        ensures { ⟦<ContactRef<'static> as Shaped>⟧.written result
+            ≡ ⟦<Contact as Shaped>⟧.written self.now }
     {
         match self {
             Contact::Number(value) => OneOf2::First(EncodeRef(value)),

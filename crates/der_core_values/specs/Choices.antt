@@ -10,7 +10,8 @@ abbrev pub plain_of_two : {A B P Q : Type 0} → (A → P) → (B → Q) → One
 plain_of_two a b (two.First v) = inl (a v)
 plain_of_two a b (two.Second v) = inr (b v)
 
-abbrev pub plain_of_four : {A B C D P Q R S : Type 0} → (A → P) → (B → Q) → (C → R) → (D → S) → OneOf4 A B C D → P ⊎ (Q ⊎ (R ⊎ S))
+abbrev pub plain_of_four : {A B C D P Q R S : Type 0} → (A → P) → (B → Q) → (C → R) → (D → S)
+    → OneOf4 A B C D → P ⊎ (Q ⊎ (R ⊎ S))
 plain_of_four a b c d (four.First v) = inl (a v)
 plain_of_four a b c d (four.Second v) = inr (inl (b v))
 plain_of_four a b c d (four.Third v) = inr (inr (inl (c v)))

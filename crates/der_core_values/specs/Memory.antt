@@ -4,6 +4,7 @@ use Rattle.der_core_head.specs.declared.error.Error.{Error}
 use Rattle.der_core_head.specs.declared.error.ErrorKind.{ErrorKind}
 use Rattle.der_core_head.specs.Reading.{Gives, GivesNow}
 
-abbrev pub GivesTaking : {X P : Type 0} → Bool → (X → P) → Result X Error → Result P ErrorKind → Type 0
+abbrev pub GivesTaking : {X P : Type 0} → Bool → (X → P) → Result X Error → Result P ErrorKind
+    → Type 0
 GivesTaking true view r p = Gives view r p
 GivesTaking false view r p = GivesNow view r p

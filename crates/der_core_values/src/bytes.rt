@@ -88,8 +88,8 @@ impl EncodeValue for BytesOwned {
 }
 
 /// The octets of the content behind a header, copied as they stand, whatever they are, by either
-/// rules. Under BER the content of a string in parts is so the encodings of its parts. After a refusal
-/// the reader has failed.
+/// rules. Under BER the content of a string in parts is so the encodings of its parts. After a
+/// refusal the reader has failed.
 ///
 /// # Errors
 /// `Incomplete` where there are fewer, or `OutOfMemory`; `Failed` where the reader failed before.
@@ -98,9 +98,12 @@ pub fn decode_octets<'a, R: Reader<'a>>(
     reader: &mut R,
     header: Header,
 ) -> Result<BytesOwned, Error>
-    ensures octets { Reads (λ bytes. bytes) (R.state reader.old) (R.state reader.new) result (slice_at header.length.value) }
+    ensures octets { Reads (λ bytes. bytes) (R.state reader.old) (R.state reader.new) result
+        (slice_at header.length.value) }
     // It is what reading a content gives.
-    ensures content { Reads (λ bytes. bytes) (R.state reader.old) (R.state reader.new) result (value_at (read_content_at (R.state reader.old) (leaf octets) header.tag) header.length.value) }
+    ensures content { Reads (λ bytes. bytes) (R.state reader.old) (R.state reader.new) result
+        (value_at (read_content_at (R.state reader.old) (leaf octets) header.tag)
+        header.length.value) }
 {
     copy_content(alloc, reader, header)
 }
@@ -111,7 +114,8 @@ fn copy_content<'a, R: Reader<'a>>(
     reader: &mut R,
     header: Header,
 ) -> Result<BytesOwned, Error>
-    ensures { Reads (λ bytes. bytes) (R.state reader.old) (R.state reader.new) result (slice_at header.length.value) }
+    ensures { Reads (λ bytes. bytes) (R.state reader.old) (R.state reader.new) result
+        (slice_at header.length.value) }
 {
     let octets = reader.read_vec(alloc, header.length)?;
     match BytesOwned::new(octets) {

@@ -2,7 +2,8 @@
 
 ghost use Rattle.std.specs.Prelude.{◌≡◌};
 ghost use Rattle.der_core_head.specs.declared.tag.Tag.{Tag};
-ghost use Rattle.der_core_head.specs.Shapes.{Shape, Content, Value, ContentValue, tagged, optional, begins};
+ghost use Rattle.der_core_head.specs.Shapes.{Shape, Content, Value, ContentValue, tagged, optional};
+ghost use Rattle.der_core_head.specs.Shapes.{begins};
 ghost use Rattle.der_core_head.specs.Grammar.{value_at, plain_option};
 ghost use Rattle.der_core_head.specs.Reading.{Reads, read_at, read_content_at};
 
@@ -32,12 +33,14 @@ pub trait Shaped {
 
 /// What is read from octets, with its header.
 pub trait Decode<'a, R: Reader<'a>>: Shaped + Drop {
-    /// The value that stands next, whose headers are read by the rules of the reader. After a refusal the reader has failed.
+    /// The value that stands next, whose headers are read by the rules of the reader. After a
+    /// refusal the reader has failed.
     ///
     /// # Errors
     /// The first fault from the left, or `OutOfMemory`; `Failed` where the reader failed before.
     fn decode(alloc: Global, reader: &mut R) -> Result<Self, Error>
-        ensures { Reads Self.plain (R.state reader.old) (R.state reader.new) result (read_at (R.state reader.old) Self.shape) };
+        ensures { Reads Self.plain (R.state reader.old) (R.state reader.new) result
+            (read_at (R.state reader.old) Self.shape) };
 }
 
 /// What the values of a type are, and which octets spell their contents.
@@ -52,13 +55,15 @@ pub trait ShapedValue {
 
 /// What is read from the octets behind a header.
 pub trait DecodeValue<'a, R: Reader<'a>>: ShapedValue + Drop {
-    /// The value whose content stands next, behind a header that was read. After a refusal the reader
-    /// has failed.
+    /// The value whose content stands next, behind a header that was read. After a refusal the
+    /// reader has failed.
     ///
     /// # Errors
     /// The first fault from the left, or `OutOfMemory`; `Failed` where the reader failed before.
     fn decode_value(alloc: Global, reader: &mut R, header: Header) -> Result<Self, Error>
-        ensures { Reads Self.value_plain (R.state reader.old) (R.state reader.new) result (value_at (read_content_at (R.state reader.old) Self.content header.tag) header.length.value) };
+        ensures { Reads Self.value_plain (R.state reader.old) (R.state reader.new) result
+            (value_at (read_content_at (R.state reader.old) Self.content header.tag)
+            header.length.value) };
 }
 
 impl<T: ShapedValue + FixedTag> Shaped for T {
@@ -72,15 +77,16 @@ impl<T: ShapedValue + FixedTag> Shaped for T {
 /// The value of the type's tag that stands next.
 ///
 /// # Errors
-/// `TagUnexpected` for another tag; else the first fault from the left, or `OutOfMemory`; `Failed` where
-/// the reader failed before.
+/// `TagUnexpected` for another tag; else the first fault from the left, or `OutOfMemory`; `Failed`
+/// where the reader failed before.
 #[inline(always)]
 #[tactic(auto, unfolding(der_core_head::specs::Grammar::tlv_at))]
 fn decode_tagged<'a, R: Reader<'a>, T: DecodeValue<'a, R> + FixedTag>(
     alloc: Global,
     reader: &mut R,
 ) -> Result<T, Error>
-    ensures { Reads T.value_plain (R.state reader.old) (R.state reader.new) result (read_at (R.state reader.old) (tagged T.fixed_tag T.content)) }
+    ensures { Reads T.value_plain (R.state reader.old) (R.state reader.new) result
+        (read_at (R.state reader.old) (tagged T.fixed_tag T.content)) }
 {
     let header = reader.read_header_of(T::tag())?;
     T::decode_value(alloc, reader, header)

@@ -21,10 +21,11 @@ pub trait Encode: Shaped {
     /// Writes a value.
     ///
     /// # Errors
-    /// `Overflow` where a length passes 2^32 - 1, `SetOrdering` and `SetDuplicate` where a strict set in
-    /// the value doesn't rise (X.690 11.6), and those of the writer.
+    /// `Overflow` where a length passes 2^32 - 1, `SetOrdering` and `SetDuplicate` where a strict
+    /// set in the value doesn't rise (X.690 11.6), and those of the writer.
     fn encode<W: Writer>(&self, writer: &mut W) -> Result<(), Error>
-        ensures exact { Writes W.takes_memory (W.out writer.old) (W.out writer.new) result (write Self.shape (Self.written self.now)) }
+        ensures exact { Writes W.takes_memory (W.out writer.old) (W.out writer.new) result
+            (write Self.shape (Self.written self.now)) }
         ensures kept { Continues (W.out writer.old) (W.out writer.new) };
 }
 
@@ -35,15 +36,17 @@ pub trait EncodeValue: ShapedValue {
     /// # Errors
     /// `Overflow` from 2^32 on.
     fn value_len(&self) -> Result<Length, Error>
-        ensures { GivesNow (λ l. l.value) result (size_content Self.content (Self.value_written self.now)) };
+        ensures { GivesNow (λ l. l.value) result
+            (size_content Self.content (Self.value_written self.now)) };
 
     /// Writes the content.
     ///
     /// # Errors
-    /// `Overflow` where a length passes 2^32 - 1, `SetOrdering` and `SetDuplicate` where a strict set in
-    /// the value doesn't rise (X.690 11.6), and those of the writer.
+    /// `Overflow` where a length passes 2^32 - 1, `SetOrdering` and `SetDuplicate` where a strict
+    /// set in the value doesn't rise (X.690 11.6), and those of the writer.
     fn encode_value<W: Writer>(&self, writer: &mut W) -> Result<(), Error>
-        ensures exact { Writes W.takes_memory (W.out writer.old) (W.out writer.new) result (write_content Self.content (Self.value_written self.now)) }
+        ensures exact { Writes W.takes_memory (W.out writer.old) (W.out writer.new) result
+            (write_content Self.content (Self.value_written self.now)) }
         ensures kept { Continues (W.out writer.old) (W.out writer.new) };
 }
 

@@ -27,7 +27,8 @@ pub trait DecodeFields<'a, R: Reader<'a>>: Fields {
     /// # Errors
     /// The first fault from the left, or `OutOfMemory`; `Failed` where the reader failed before.
     fn decode_fields(alloc: Global, reader: &mut R) -> Result<Self, Error>
-        ensures { Reads Self.fields_plain (R.state reader.old) (R.state reader.new) result (read_body_at (R.state reader.old) Self.fields) };
+        ensures { Reads Self.fields_plain (R.state reader.old) (R.state reader.new) result
+            (read_body_at (R.state reader.old) Self.fields) };
 }
 
 /// Reads the fields that a header announces, all of its octets.
@@ -40,7 +41,9 @@ pub fn read_fields<'a, R: Reader<'a>, T: DecodeFields<'a, R> + Drop>(
     reader: &mut R,
     header: Header,
 ) -> Result<T, Error>
-    ensures { Reads T.fields_plain (R.state reader.old) (R.state reader.new) result (value_at (read_content_at (R.state reader.old) (nested T.fields) header.tag) header.length.value) }
+    ensures { Reads T.fields_plain (R.state reader.old) (R.state reader.new) result
+        (value_at (read_content_at (R.state reader.old) (nested T.fields) header.tag)
+        header.length.value) }
 {
     let behind = reader.begin_nested(header.length)?;
     match T::decode_fields(alloc, reader) {

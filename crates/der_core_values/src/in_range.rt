@@ -1,5 +1,5 @@
-//! Types each of whose values has its parts in their ranges, so that an encoding of it can fail only by
-//! its length or by the order of a set.
+//! Types each of whose values has its parts in their ranges, so that an encoding of it can fail
+//! only by its length or by the order of a set.
 //!
 //! Each is a law of the values of a type, and stands as the contract of a call that does nothing.
 

@@ -26,8 +26,8 @@ pub trait Integer: Drop {
     /// The number that a content spells.
     ///
     /// # Errors
-    /// `Length` for no octets, `Noncanonical` where fewer octets would do, `Value` or `Length` for a
-    /// number that the type doesn't have.
+    /// `Length` for no octets, `Noncanonical` where fewer octets would do, `Value` or `Length` for
+    /// a number that the type doesn't have.
     fn from_integer(tag: Tag, octets: &[u8]) -> Result<Self, Error>
         ensures { GivesNow number result (integer_read numbers tag octets.now) };
 

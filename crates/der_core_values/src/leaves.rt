@@ -57,10 +57,12 @@ pub fn decode_leaf<'a, R: Reader<'a>, T: Leaf<'a>>(
     header: Header,
 ) -> Result<T, Error>
     ensures reads { Reads T.leaf_plain (R.state reader.old) (R.state reader.new) result
-        (value_at (read_content_at (R.state reader.old) (leaf T.kind) header.tag) header.length.value) }
+        (value_at (read_content_at (R.state reader.old) (leaf T.kind) header.tag)
+        header.length.value) }
     // Where the type takes no memory, it is the fault of the octets.
     ensures fault { T.takes_memory ≡ false → IfErr result (λ e. (R.state reader.old).failed ≡ false
-        → value_at (read_content_at (R.state reader.old) (leaf T.kind) header.tag) header.length.value
+        → value_at (read_content_at (R.state reader.old) (leaf T.kind) header.tag)
+        header.length.value
         (R.state reader.old).rest ≡ Err e.kind) }
 {
     let octets = read_content(reader, header)?;

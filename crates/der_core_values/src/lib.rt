@@ -1,5 +1,5 @@
-//! What the values of a type are, which octets spell them, and the traits by which they are read and
-//! written.
+//! What the values of a type are, which octets spell them, and the traits by which they are read
+//! and written.
 #![tactic(auto)]
 
 mod arrays;

@@ -22,7 +22,8 @@ pub fn answer<W: Write>(alloc: Global, line: &str, out: &mut W) -> io::Result<()
     }
 }
 
-/// What is answered behind `ok`: of `why` and `place`, what the refusal of the question behind them tells.
+/// What is answered behind `ok`: of `why` and `place`, what the refusal of the question behind them
+/// tells.
 fn answer_of(alloc: Global, line: &str) -> Result<String, Refusal> {
     match line.split_once(' ') {
         Some(("why", question)) => refusal_of(alloc, question)?.reason(alloc),

@@ -166,7 +166,8 @@ fn again<'a, T: TryFrom<&'a Any, Error = Error> + EncodeValue + FixedTag + Drop>
     Any::encode_from(alloc, &T::try_from(any)?)
 }
 
-/// What is written of any value that is made of the value that octets spell, and lends what that lends.
+/// What is written of any value that is made of the value that octets spell, and lends what that
+/// lends.
 fn lent_from(alloc: Global, kind: &str, octets: &[u8]) -> Result<String, Refusal> {
     match kind {
         "IntRef" => lent_from_value::<IntRef>(alloc, octets),

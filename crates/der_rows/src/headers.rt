@@ -52,7 +52,8 @@ fn of_header(alloc: Global, rules: EncodingRules, digits: &str) -> Result<String
     Ok(format!(in alloc; "{position} {length} {written} {tag}")?)
 }
 
-/// The header at the front of octets, and its length, if it is also the one that stands there before it is read.
+/// The header at the front of octets, and its length, if it is also the one that stands there
+/// before it is read.
 fn header_by(rules: EncodingRules, octets: &[u8]) -> Result<(Header, Length), Refusal> {
     let mut reader = SliceReader::new_with_encoding_rules(octets, rules)?;
     let peeked = reader.peek_header();
@@ -82,7 +83,8 @@ fn of_fronts(alloc: Global, digits: &str) -> Result<String, Refusal> {
     Ok(answers)
 }
 
-/// What is answered of a scan: the header's octets, length and tag, that there is none yet, or why it is refused.
+/// What is answered of a scan: the header's octets, length and tag, that there is none yet, or why
+/// it is refused.
 fn scanned(
     alloc: Global,
     outcome: Result<Option<(Header, usize)>, Error>,
@@ -96,7 +98,8 @@ fn scanned(
     }
 }
 
-/// The length that stands alone at the front of octets, how many octets it takes, and what is written for it.
+/// The length that stands alone at the front of octets, how many octets it takes, and what is
+/// written for it.
 fn of_lone_length(alloc: Global, digits: &str) -> Result<String, Refusal> {
     let octets = octets_of(alloc, digits)?;
     let (length, count) = lone_length_of(octets.as_slice())?;
@@ -111,7 +114,8 @@ fn length_written(alloc: Global, length: Length) -> Result<String, Refusal> {
     hex_of(alloc, out.as_slice())
 }
 
-/// The tag that stands alone at the front of octets, how many octets it takes, and what is written for it.
+/// The tag that stands alone at the front of octets, how many octets it takes, and what is written
+/// for it.
 fn of_lone_tag(alloc: Global, digits: &str) -> Result<String, Refusal> {
     let octets = octets_of(alloc, digits)?;
     let (tag, count) = tag_of(octets.as_slice())?;
@@ -169,7 +173,8 @@ fn of_errors(alloc: Global, tag: Tag) -> Result<String, Refusal> {
     Ok(format!(in alloc; "{length:?}; {form:?}; {value:?}; {unexpected:?}")?)
 }
 
-/// The tags of a number in the classes that have all numbers, each with whether it is of that class.
+/// The tags of a number in the classes that have all numbers, each with whether it is of that
+/// class.
 fn of_number(alloc: Global, number: TagNumber) -> Result<String, Refusal> {
     let tags = [
         number.application(true),

@@ -33,7 +33,10 @@ impl Flags for KeyUsages {
 
     ghost exact = { ⊤ };
 
-    ghost table = { (codes "DIGITAL_SIGNATURE", 1) ∷ (codes "NON_REPUDIATION", 2) ∷ (codes "KEY_ENCIPHERMENT", 4) ∷ (codes "DATA_ENCIPHERMENT", 8) ∷ (codes "KEY_AGREEMENT", 16) ∷ (codes "KEY_CERT_SIGN", 32) ∷ (codes "CRL_SIGN", 64) ∷ (codes "ENCIPHER_ONLY", 128) ∷ (codes "DECIPHER_ONLY", 256) ∷ [] };
+    ghost table = { (codes "DIGITAL_SIGNATURE", 1) ∷ (codes "NON_REPUDIATION", 2)
+        ∷ (codes "KEY_ENCIPHERMENT", 4) ∷ (codes "DATA_ENCIPHERMENT", 8)
+        ∷ (codes "KEY_AGREEMENT", 16) ∷ (codes "KEY_CERT_SIGN", 32) ∷ (codes "CRL_SIGN", 64)
+        ∷ (codes "ENCIPHER_ONLY", 128) ∷ (codes "DECIPHER_ONLY", 256) ∷ [] };
 
     ghost set_of = { λ k. k.0 };
 

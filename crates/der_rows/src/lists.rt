@@ -136,8 +136,8 @@ fn order_of_sets<T: EncodeValue + FixedTag + Hash + Ord + ValueOrd>(
     }
 }
 
-/// The answer of a borrowed set of members of a type. A function that names a borrowed set of borrowed sets
-/// gets no proof, and so the set is named here, as one of any members.
+/// The answer of a borrowed set of members of a type. A function that names a borrowed set of
+/// borrowed sets gets no proof, and so the set is named here, as one of any members.
 fn answer_of_lent_members<'a, T: Decode<'a, SliceReader<'a>> + Encode + InRange + Member + 'a>(
     alloc: Global,
     question: &Question<'a>,

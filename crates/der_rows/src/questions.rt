@@ -31,7 +31,8 @@ pub enum Asked {
     Twice,
 }
 
-/// A question about the values that octets spell: the second are none where one value is asked about.
+/// A question about the values that octets spell: the second are none where one value is asked
+/// about.
 #[derive(Clone, Copy)]
 pub struct Question<'a> {
     pub asked: Asked,
@@ -125,8 +126,8 @@ pub fn answer_as_with_debug<'a, T: Decode<'a, SliceReader<'a>> + DerOrd + Encode
     }
 }
 
-/// The answer of a type with one tag. Of such a type the traits of its contents are asked for, since
-/// each that is asked for costs the check of every type that is named.
+/// The answer of a type with one tag. Of such a type the traits of its contents are asked for,
+/// since each that is asked for costs the check of every type that is named.
 pub fn answer_of_value<'a, T: DecodeValue<'a, SliceReader<'a>> + EncodeValue + FixedTag + Drop>(
     alloc: Global,
     question: &Question<'a>,

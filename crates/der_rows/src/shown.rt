@@ -1,7 +1,7 @@
 //! What is answered of values, and of outcomes that may be refusals.
 //!
-//! Each answer is one call. A `?` costs the check more than a call, and most where a value is held that has
-//! to be dropped.
+//! Each answer is one call. A `?` costs the check more than a call, and most where a value is held
+//! that has to be dropped.
 
 use crate::refusals::Refusal;
 use der_core::{Encode, Error, to_der};

@@ -26,9 +26,11 @@ type Cases = OneOf2<u8, String>;
 impl Shaped for NumberOrText {
     ghost shape = { ⟦<Cases as Shaped>⟧.shape };
 
-    ghost plain = { λ x. ⟦<Cases as Shaped>⟧.plain (elim x [ choices.Number n ↦ cases.First n | choices.Text t ↦ cases.Second t ]) };
+    ghost plain = { λ x. ⟦<Cases as Shaped>⟧.plain
+        (elim x [ choices.Number n ↦ cases.First n | choices.Text t ↦ cases.Second t ]) };
 
-    ghost written = { λ x. ⟦<Cases as Shaped>⟧.written (elim x [ choices.Number n ↦ cases.First n | choices.Text t ↦ cases.Second t ]) };
+    ghost written = { λ x. ⟦<Cases as Shaped>⟧.written
+        (elim x [ choices.Number n ↦ cases.First n | choices.Text t ↦ cases.Second t ]) };
 }
 
 impl Choice for NumberOrText {

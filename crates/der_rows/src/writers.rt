@@ -124,7 +124,8 @@ fn answer_of_number(
     }
 }
 
-/// What the step answers that writes a SEQUENCE whose length is the first octet, and whose content the others are.
+/// What the step answers that writes a SEQUENCE whose length is the first octet, and whose content
+/// the others are.
 fn sequence_of(writer: &mut SliceWriter<'_>, octets: &[u8]) -> Result<&'static str, Refusal> {
     let [len, content @ ..] = octets else {
         return Err(Refusal::Unread);
@@ -132,8 +133,8 @@ fn sequence_of(writer: &mut SliceWriter<'_>, octets: &[u8]) -> Result<&'static s
     done(writer.sequence(Length::from(*len), |inner| inner.write(content)))
 }
 
-/// What of a number is written to a slice of so many octets, which are 09 before, and what then stands
-/// there.
+/// What of a number is written to a slice of so many octets, which are 09 before, and what then
+/// stands there.
 pub fn answer_of_slices(alloc: Global, word: &str, rest: &str) -> Result<String, Refusal> {
     let (room, octets) = rest.split_once(' ').ok_or(Refusal::Unread)?;
     let number = number_of(alloc, octets)?;
@@ -157,8 +158,8 @@ fn written_to<'a>(word: &str, number: u8, room: &'a mut [u8]) -> Result<&'a [u8]
     }
 }
 
-/// What stands in a vector of octets when a number was written behind them, and how many octets that
-/// has.
+/// What stands in a vector of octets when a number was written behind them, and how many octets
+/// that has.
 pub fn answer_of_vectors(alloc: Global, rest: &str) -> Result<String, Refusal> {
     let (octets, number) = rest.split_once(' ').ok_or(Refusal::Unread)?;
     let number = number_of(alloc, number)?;

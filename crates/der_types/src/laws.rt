@@ -1,6 +1,7 @@
-//! Laws of typed values: a borrowed value and its owned form agree, dates are in the order of their seconds,
-//! a set's octets don't depend on the order of insertions, what is written behind a tag is read back. Each is
-//! a function with nothing to run, or whose answers its body compares, and its contract is the law.
+//! Laws of typed values: a borrowed value and its owned form agree, dates are in the order of their
+//! seconds, a set's octets don't depend on the order of insertions, what is written behind a tag is
+//! read back. Each is a function with nothing to run, or whose answers its body compares, and its
+//! contract is the law.
 
 pub use der_types_any::laws::any_forms_agree;
 pub use der_types_numbers::laws::{

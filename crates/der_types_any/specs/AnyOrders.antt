@@ -1,8 +1,10 @@
--- The order of any values: that of the leading octets of their tags, then of the tags' numbers, then of the contents.
+-- The order of any values: that of the leading octets of their tags, then of the tags' numbers,
+-- then of the contents.
 use Rattle.std.specs.Prelude.{◌≡◌, ℕ, List, [], ◌∷◌, ◌++◌, nat_eq, true}
 use Rattle.std.proofs.Common.{ap}
 use Rattle.std.specs.Cmp.{IsTotalOrder, on_total}
-use Rattle.std.specs.Cmp.Lexicographic.{pointwise, slice_cmp, bytes_decides, nat_list_cmp_total, texts_ties}
+use Rattle.std.specs.Cmp.Lexicographic.{pointwise, slice_cmp, bytes_decides, nat_list_cmp_total}
+use Rattle.std.specs.Cmp.Lexicographic.{texts_ties}
 use Rattle.std.specs.Hash as fed
 use Rattle.std.specs.Ordering.{nat_cmp, eq_by_cmp}
 use Rattle.std.specs.declared.cmp.Ordering.{Ordering}
@@ -19,7 +21,8 @@ any_cmp a b = slice_cmp nat_cmp (any_key a) (any_key b)
 pub any_cmp_total : IsTotalOrder any_cmp
 any_cmp_total = on_total any_key nat_list_cmp_total
 
-pub any_cmp_ties : (a b : AnyValue) → pointwise nat_eq (any_key a) (any_key b) ≡ eq_by_cmp any_cmp a b
+pub any_cmp_ties : (a b : AnyValue) → pointwise nat_eq (any_key a) (any_key b)
+    ≡ eq_by_cmp any_cmp a b
 any_cmp_ties a b = texts_ties (any_key a) (any_key b)
 
 -- what a hasher is fed
@@ -31,5 +34,6 @@ key_fed (leading ∷ number ∷ w) = fed.u8 leading ++ (fed.u32 number ++ fed.sl
 abbrev pub any_fed : AnyValue → fed.HashWrites
 any_fed a = key_fed (any_key a)
 
-pub any_fed_alike : (a b : AnyValue) → pointwise nat_eq (any_key a) (any_key b) ≡ true → any_fed a ≡ any_fed b
+pub any_fed_alike : (a b : AnyValue) → pointwise nat_eq (any_key a) (any_key b) ≡ true
+    → any_fed a ≡ any_fed b
 any_fed_alike a b e = ap key_fed ((bytes_decides (any_key a) (any_key b)).0 e)

@@ -15,8 +15,10 @@ use Rattle.der_core_head.specs.Fronts.{alone}
 use Rattle.der_types_numbers.specs.Numbers.{counted}
 
 -- the value by those rules, if the tag is that of the type, or the fault
-unfoldable pub content_by : EncodingRules → Tag → (c : Content) → AnyValue → Result (ContentValue c) ErrorKind
-content_by rules t c a = if same_tag a.tag t then alone (read_content_by rules c a.tag 64 a.contents >>= whole) else Err kinds.TagUnexpected
+unfoldable pub content_by : EncodingRules → Tag → (c : Content) → AnyValue
+    → Result (ContentValue c) ErrorKind
+content_by rules t c a = if same_tag a.tag t
+    then alone (read_content_by rules c a.tag 64 a.contents >>= whole) else Err kinds.TagUnexpected
 
 -- and by DER
 abbrev pub content_as : Tag → (c : Content) → AnyValue → Result (ContentValue c) ErrorKind
@@ -28,7 +30,8 @@ leaf_as t l a = if same_tag a.tag t then leaf_read l a.tag a.contents else Err k
 
 -- a value's tag and the content that is written
 unfoldable pub written_as : Tag → (c : Content) → ContentValue c → Result AnyValue ErrorKind
-written_as t c v = write_content c v (record { written = []; room = None; failed = false }) >>= λ o. counted o.written (record { tag = t; contents = o.written })
+written_as t c v = write_content c v (record { written = []; room = None; failed = false })
+    >>= λ o. counted o.written (record { tag = t; contents = o.written })
 
 -- a tag and a content, if a length can count its octets
 unfoldable pub any_from : Tag → List ℕ → Result AnyValue ErrorKind

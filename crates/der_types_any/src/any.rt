@@ -1,19 +1,22 @@
 //! Any value.
 
-ghost use Rattle.std.specs.Prelude.{◌≡◌, ◌<◌, ◌≤◌, ◌^◌, ◌↔◌, [], length, vec_len, nat_eq, true, false, Some, None, Ok, IsTrue, IfOk, IfErr, IsErrAnd};
+ghost use Rattle.std.specs.Prelude.{◌≡◌, ◌<◌, ◌≤◌, ◌^◌, ◌↔◌, [], length, vec_len, nat_eq, true};
+ghost use Rattle.std.specs.Prelude.{false, Some, None, Ok, IsTrue, IfOk, IfErr, IsErrAnd};
 ghost use Rattle.std.proofs.Common.{refl};
 ghost use Rattle.std.specs.Cmp.{po, partial_equiv_from_equiv, on_equiv, on_per};
 ghost use Rattle.std.specs.Cmp.Lexicographic.{pointwise, nat_list_eq_equiv};
 ghost use Rattle.der_core_head.specs.Limits.{levels_max};
 ghost use Rattle.der_core_head.specs.declared.encoding_rules.EncodingRules.TheVariants.{Der};
 ghost use Rattle.der_core_head.specs.declared.tag.Tag.TheVariants.{Null, Sequence};
-ghost use Rattle.der_core_head.specs.Shapes.{any, tagged, nested, Body, BodyValue, ContentValue, IsValid, Spells, octets_of};
+ghost use Rattle.der_core_head.specs.Shapes.{any, tagged, nested, Body, BodyValue, ContentValue};
+ghost use Rattle.der_core_head.specs.Shapes.{IsValid, Spells, octets_of};
 ghost use Rattle.der_core_head.specs.Spelling.{is_apart, are_enough};
 ghost use Rattle.der_core_head.specs.Tags.{same_tag};
 ghost use Rattle.der_core_head.specs.Reading.{Gives, ClosureReads, HandsBack, unread};
 ghost use Rattle.der_core_octets.specs.Nesting.{Answered};
 ghost use Rattle.der_core_head.specs.Writing.{write_content};
-ghost use Rattle.der_types_any.specs.AnyOrders.{any_cmp, any_cmp_total, any_cmp_ties, any_fed, any_fed_alike};
+ghost use Rattle.der_types_any.specs.AnyOrders.{any_cmp, any_cmp_total, any_cmp_ties, any_fed};
+ghost use Rattle.der_types_any.specs.AnyOrders.{any_fed_alike};
 ghost use Rattle.der_types_any.specs.Anys.{any_lent};
 ghost use Rattle.der_core.specs.Orders.{octets_cmp};
 ghost use Rattle.der_types_any.specs.Contents.{content_as, content_by, written_as};
@@ -158,10 +161,14 @@ impl Any {
     ) -> Result<T, Error>
         // What is read is spelled by the whole encoding, if there is one.
         ensures spelled { IsValid any self.now → is_apart (tagged T.fixed_tag T.content) ≡ true
-            → IfOk result (λ v. Spells (tagged T.fixed_tag T.content) (T.value_plain v) (octets_of any self.now)) }
+            → IfOk result
+            (λ v. Spells (tagged T.fixed_tag T.content) (T.value_plain v)
+            (octets_of any self.now)) }
         // What is spelled by it is read, unless memory runs out.
-        ensures only { (v : ContentValue T.content) → IsValid any self.now → is_apart (tagged T.fixed_tag T.content) ≡ true
-            → are_enough (tagged T.fixed_tag T.content) levels_max ≡ true → Spells (tagged T.fixed_tag T.content) v (octets_of any self.now)
+        ensures only { (v : ContentValue T.content) → IsValid any self.now
+            → is_apart (tagged T.fixed_tag T.content) ≡ true
+            → are_enough (tagged T.fixed_tag T.content) levels_max ≡ true
+            → Spells (tagged T.fixed_tag T.content) v (octets_of any self.now)
             → Gives T.value_plain result (Ok v) }
         // Which fault it is.
         ensures exact { Gives T.value_plain result (content_as T.fixed_tag T.content self.now) }
@@ -200,10 +207,14 @@ impl Any {
         // The closure gives back the same reader, with the same end, and further on.
         requires hands_back { HandsBack (λ s. s) F.FnOnce f }
         // The answer is that of the closure, which left nothing.
-        ensures ran { IfOk result (λ x. Answered (λ s. s) F.FnOnce f (length self.now.contents) (unread Der self.now.contents) x) }
-        ensures tag { same_tag self.now.tag Sequence ≡ false → IsErrAnd result (λ e. e.kind ≡ ErrorKind.TagUnexpected) }
+        ensures ran { IfOk result
+            (λ x. Answered (λ s. s) F.FnOnce f (length self.now.contents)
+            (unread Der self.now.contents) x) }
+        ensures tag { same_tag self.now.tag Sequence ≡ false
+            → IsErrAnd result (λ e. e.kind ≡ ErrorKind.TagUnexpected) }
         // What the closure reads of a body, this reads of the content.
-        ensures reads { (b : Body) (view : T → BodyValue b) → ClosureReads (λ s. s) F.FnOnce f b view
+        ensures reads { (b : Body) (view : T → BodyValue b)
+            → ClosureReads (λ s. s) F.FnOnce f b view
             → Gives view result (content_as Sequence (nested b) self.now) }
     {
         let value = self.to_ref().sequence(f)?;

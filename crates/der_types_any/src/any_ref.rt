@@ -1,6 +1,7 @@
 //! Any value, borrowed.
 
-ghost use Rattle.std.specs.Prelude.{◌≡◌, ◌<◌, ◌≤◌, ◌^◌, ◌↔◌, [], length, nat_eq, true, false, Some, Ok, IsTrue, IfOk, IfErr, IsErrAnd};
+ghost use Rattle.std.specs.Prelude.{◌≡◌, ◌<◌, ◌≤◌, ◌^◌, ◌↔◌, [], length, nat_eq, true, false, Some};
+ghost use Rattle.std.specs.Prelude.{Ok, IsTrue, IfOk, IfErr, IsErrAnd};
 ghost use Rattle.std.proofs.Common.{refl};
 ghost use Rattle.std.specs.Cmp.{po, partial_equiv_from_equiv, on_equiv, on_per, on_total};
 ghost use Rattle.std.specs.Cmp.Lexicographic.{pointwise, nat_list_eq_equiv};
@@ -8,13 +9,15 @@ ghost use Rattle.der_core_head.specs.Limits.{levels_max};
 ghost use Rattle.der_core_head.specs.Heads.{Fits};
 ghost use Rattle.der_core_head.specs.declared.encoding_rules.EncodingRules.TheVariants.{Der};
 ghost use Rattle.der_core_head.specs.declared.tag.Tag.TheVariants.{Null, Sequence};
-ghost use Rattle.der_core_head.specs.Shapes.{any, tagged, nested, Body, BodyValue, ContentValue, IsValid, Spells, octets_of};
+ghost use Rattle.der_core_head.specs.Shapes.{any, tagged, nested, Body, BodyValue, ContentValue};
+ghost use Rattle.der_core_head.specs.Shapes.{IsValid, Spells, octets_of};
 ghost use Rattle.der_core_head.specs.Spelling.{is_apart, are_enough};
 ghost use Rattle.der_core_head.specs.Tags.{same_tag};
 ghost use Rattle.der_core_head.specs.Reading.{Gives, ClosureReads, HandsBack, unread};
 ghost use Rattle.der_core_octets.specs.Nesting.{Answered};
 ghost use Rattle.der_core.specs.Orders.{octets_cmp};
-ghost use Rattle.der_types_any.specs.AnyOrders.{any_cmp, any_cmp_total, any_cmp_ties, any_fed, any_fed_alike};
+ghost use Rattle.der_types_any.specs.AnyOrders.{any_cmp, any_cmp_total, any_cmp_ties, any_fed};
+ghost use Rattle.der_types_any.specs.AnyOrders.{any_fed_alike};
 ghost use Rattle.der_types_any.specs.Contents.{content_as, content_by};
 
 use crate::any::Any;
@@ -117,11 +120,16 @@ impl<'a> AnyRef<'a> {
         alloc: Global,
     ) -> Result<T, Error>
         // What is read is spelled by the whole encoding, if there is one.
-        ensures spelled { IsValid any (any_lent self.now) → is_apart (tagged T.fixed_tag T.content) ≡ true
-            → IfOk result (λ v. Spells (tagged T.fixed_tag T.content) (T.value_plain v) (octets_of any (any_lent self.now))) }
+        ensures spelled { IsValid any (any_lent self.now) → is_apart (tagged T.fixed_tag T.content)
+            ≡ true
+            → IfOk result
+            (λ v. Spells (tagged T.fixed_tag T.content) (T.value_plain v)
+            (octets_of any (any_lent self.now))) }
         // What is spelled by it is read, unless memory runs out.
-        ensures only { (v : ContentValue T.content) → IsValid any (any_lent self.now) → is_apart (tagged T.fixed_tag T.content) ≡ true
-            → are_enough (tagged T.fixed_tag T.content) levels_max ≡ true → Spells (tagged T.fixed_tag T.content) v (octets_of any (any_lent self.now))
+        ensures only { (v : ContentValue T.content) → IsValid any (any_lent self.now)
+            → is_apart (tagged T.fixed_tag T.content) ≡ true
+            → are_enough (tagged T.fixed_tag T.content) levels_max ≡ true
+            → Spells (tagged T.fixed_tag T.content) v (octets_of any (any_lent self.now))
             → Gives T.value_plain result (Ok v) }
         // Which fault it is.
         ensures exact { Gives T.value_plain result (content_as T.fixed_tag T.content (any_lent self.now)) }
@@ -141,7 +149,8 @@ impl<'a> AnyRef<'a> {
         alloc: Global,
         encoding_rules: EncodingRules,
     ) -> Result<T, Error>
-        ensures { Gives T.value_plain result (content_by encoding_rules T.fixed_tag T.content (any_lent self.now)) }
+        ensures { Gives T.value_plain result
+            (content_by encoding_rules T.fixed_tag T.content (any_lent self.now)) }
     {
         if !is_same_tag(self.tag, T::tag()) {
             return Err(Error::from(ErrorKind::TagUnexpected));
@@ -164,10 +173,13 @@ impl<'a> AnyRef<'a> {
         // The closure gives back the same reader, with the same end, and further on.
         requires hands_back { HandsBack (λ s. s) F.FnOnce f }
         // The answer is that of the closure, which left nothing.
-        ensures ran { IfOk result (λ x. Answered (λ s. s) F.FnOnce f (length (any_lent self.now).contents) (unread Der (any_lent self.now).contents) x) }
-        ensures tag { same_tag (any_lent self.now).tag Sequence ≡ false → IsErrAnd result (λ e. e.kind ≡ ErrorKind.TagUnexpected) }
+        ensures ran { IfOk result (λ x. Answered (λ s. s) F.FnOnce f (length (any_lent self.now).contents)
+            (unread Der (any_lent self.now).contents) x) }
+        ensures tag { same_tag (any_lent self.now).tag Sequence ≡ false
+            → IsErrAnd result (λ e. e.kind ≡ ErrorKind.TagUnexpected) }
         // What the closure reads of a body, this reads of the content.
-        ensures reads { (b : Body) (view : T → BodyValue b) → ClosureReads (λ s. s) F.FnOnce f b view
+        ensures reads { (b : Body) (view : T → BodyValue b)
+            → ClosureReads (λ s. s) F.FnOnce f b view
             → Gives view result (content_as Sequence (nested b) (any_lent self.now)) }
     {
         if !is_same_tag(self.tag, Tag::Sequence) {

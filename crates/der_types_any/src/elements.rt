@@ -1,4 +1,5 @@
-//! Any value can be a member: it has one spelling, begins with a header, and is written as it is read.
+//! Any value can be a member: it has one spelling, begins with a header, and is written as it is
+//! read.
 
 ghost use Rattle.std.specs.Prelude.{refl};
 

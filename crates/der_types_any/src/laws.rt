@@ -1,7 +1,7 @@
 //! The law of any values: a borrowed one and the owned one of the same tag and content are alike.
 //!
-//! It is the contract of a function that does nothing. What `tag`, `value`, `header`, `is_null`, `decode_as` and
-//! `sequence` answer is said at each in the same words.
+//! It is the contract of a function that does nothing. What `tag`, `value`, `header`, `is_null`,
+//! `decode_as` and `sequence` answer is said at each in the same words.
 
 ghost use Rattle.std.specs.Prelude.{◌≡◌};
 ghost use Rattle.der_core_head.specs.Shapes.{octets_of};
@@ -14,15 +14,22 @@ use der_core::Shaped;
 use std::cmp::{Ord, PartialEq};
 use std::hash::Hash;
 
-/// Both forms are read and refused alike, for they have one shape; they have the same encoding, are equal to the same
-/// values, are hashed alike, and stand in the same orders, their own and that of encodings.
+/// Both forms are read and refused alike, for they have one shape; they have the same encoding, are
+/// equal to the same values, are hashed alike, and stand in the same orders, their own and that of
+/// encodings.
 pub fn any_forms_agree()
     ensures read { ⟦<AnyRef<'static> as Shaped>⟧.shape ≡ ⟦<Any as Shaped>⟧.shape }
-    ensures encoding { (a : AnyRef) → octets_of ⟦<AnyRef<'static> as Shaped>⟧.shape (⟦<AnyRef<'static> as Shaped>⟧.plain a)
+    ensures encoding { (a : AnyRef) → octets_of ⟦<AnyRef<'static> as Shaped>⟧.shape
+        (⟦<AnyRef<'static> as Shaped>⟧.plain a)
         ≡ octets_of ⟦<Any as Shaped>⟧.shape (⟦<Any as Shaped>⟧.plain (any_lent a)) }
-    ensures equality { (a b : AnyRef) → ⟦<AnyRef<'static> as PartialEq>⟧.eq a b ≡ ⟦<Any as PartialEq>⟧.eq (any_lent a) (any_lent b) }
-    ensures hash { (a : AnyRef) → ⟦<AnyRef<'static> as Hash>⟧.hash_input a ≡ ⟦<Any as Hash>⟧.hash_input (any_lent a) }
-    ensures order { (a b : AnyRef) → ⟦<AnyRef<'static> as Ord>⟧.cmp a b ≡ ⟦<Any as Ord>⟧.cmp (any_lent a) (any_lent b) }
-    ensures encodings { (a b : AnyRef) → encodings_cmp ⟦<AnyRef<'static> as Shaped>⟧.shape (⟦<AnyRef<'static> as Shaped>⟧.plain a) (⟦<AnyRef<'static> as Shaped>⟧.plain b)
-        ≡ encodings_cmp ⟦<Any as Shaped>⟧.shape (⟦<Any as Shaped>⟧.plain (any_lent a)) (⟦<Any as Shaped>⟧.plain (any_lent b)) }
+    ensures equality { (a b : AnyRef) → ⟦<AnyRef<'static> as PartialEq>⟧.eq a b
+        ≡ ⟦<Any as PartialEq>⟧.eq (any_lent a) (any_lent b) }
+    ensures hash { (a : AnyRef) → ⟦<AnyRef<'static> as Hash>⟧.hash_input a
+        ≡ ⟦<Any as Hash>⟧.hash_input (any_lent a) }
+    ensures order { (a b : AnyRef) → ⟦<AnyRef<'static> as Ord>⟧.cmp a b
+        ≡ ⟦<Any as Ord>⟧.cmp (any_lent a) (any_lent b) }
+    ensures encodings { (a b : AnyRef) → encodings_cmp ⟦<AnyRef<'static> as Shaped>⟧.shape
+        (⟦<AnyRef<'static> as Shaped>⟧.plain a) (⟦<AnyRef<'static> as Shaped>⟧.plain b)
+        ≡ encodings_cmp ⟦<Any as Shaped>⟧.shape (⟦<Any as Shaped>⟧.plain (any_lent a))
+        (⟦<Any as Shaped>⟧.plain (any_lent b)) }
 {}

@@ -125,7 +125,8 @@ impl<'a> TryFrom<&'a Any> for u64 {
 impl<'a> TryFrom<AnyRef<'a>> for u128 {
     type Error = Error;
 
-    ghost try_from_gives = { λ a r. GivesNow (λ n. pos n) r (leaf_as tags.Integer (integer (unsigned 128)) (any_lent a)) };
+    ghost try_from_gives = { λ a r. GivesNow (λ n. pos n) r
+        (leaf_as tags.Integer (integer (unsigned 128)) (any_lent a)) };
 
     fn try_from(any: AnyRef<'a>) -> Result<u128, Error> {
         let number = integer_from::<u128>(&any)?;
@@ -295,7 +296,8 @@ impl<'a> TryFrom<&'a Any> for IntRef<'a> {
 impl<'a> TryFrom<AnyRef<'a>> for UintRef<'a> {
     type Error = Error;
 
-    ghost try_from_gives = { λ a r. GivesNow (λ n. pos (natural_lent n)) r (leaf_as tags.Integer (integer natural) (any_lent a)) };
+    ghost try_from_gives = { λ a r. GivesNow (λ n. pos (natural_lent n)) r
+        (leaf_as tags.Integer (integer natural) (any_lent a)) };
 
     #[tactic(auto, unfolding(crate::specs::Contents::leaf_as))]
     fn try_from(any: AnyRef<'a>) -> Result<UintRef<'a>, Error> {
@@ -309,7 +311,8 @@ impl<'a> TryFrom<AnyRef<'a>> for UintRef<'a> {
 impl<'a> TryFrom<&'a Any> for UintRef<'a> {
     type Error = Error;
 
-    ghost try_from_gives = { λ a r. GivesNow (λ n. pos (natural_lent n)) r (leaf_as tags.Integer (integer natural) a.now) };
+    ghost try_from_gives = { λ a r. GivesNow (λ n. pos (natural_lent n)) r
+        (leaf_as tags.Integer (integer natural) a.now) };
 
     fn try_from(any: &'a Any) -> Result<UintRef<'a>, Error> {
         let value = UintRef::try_from(any.to_ref())?;

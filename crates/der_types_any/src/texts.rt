@@ -18,7 +18,8 @@ use der_types_text::{AsciiStringRef, AsciiType, GeneralStringRef, Utf8StringRef}
 impl<'a, T: AsciiType> TryFrom<AnyRef<'a>> for AsciiStringRef<'a, T> {
     type Error = Error;
 
-    ghost try_from_gives = { λ a r. GivesNow (λ t. t.text.now) r (leaf_as T.string_tag (text T.repertoire) (any_lent a)) };
+    ghost try_from_gives = { λ a r. GivesNow (λ t. t.text.now) r
+        (leaf_as T.string_tag (text T.repertoire) (any_lent a)) };
 
     #[tactic(auto, unfolding(crate::specs::Contents::leaf_as), using(crate::proofs::TextContents::text_contents))]
     fn try_from(any: AnyRef<'a>) -> Result<AsciiStringRef<'a, T>, Error> {
@@ -94,7 +95,8 @@ impl<'a> TryFrom<&'a Any> for &'a str {
 impl<'a> TryFrom<AnyRef<'a>> for GeneralStringRef<'a> {
     type Error = Error;
 
-    ghost try_from_gives = { λ a r. GivesNow (λ s. s.bytes.now) r (leaf_as tags.GeneralString (text any_octet) (any_lent a)) };
+    ghost try_from_gives = { λ a r. GivesNow (λ s. s.bytes.now) r
+        (leaf_as tags.GeneralString (text any_octet) (any_lent a)) };
 
     #[tactic(auto, unfolding(crate::specs::Contents::leaf_as), using(crate::proofs::TextContents::text_contents))]
     fn try_from(any: AnyRef<'a>) -> Result<GeneralStringRef<'a>, Error> {

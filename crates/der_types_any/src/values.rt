@@ -1,4 +1,5 @@
-//! Any value as a truth value, NULL, an identifier, a string of bits or octets or a SEQUENCE, and back.
+//! Any value as a truth value, NULL, an identifier, a string of bits or octets or a SEQUENCE, and
+//! back.
 
 ghost use Rattle.std.specs.Prelude.{◌≡◌, []};
 ghost use Rattle.const_oid.specs.Bound.{Bound};
@@ -114,7 +115,8 @@ impl<'a> From<Null> for AnyRef<'a> {
 impl<'a, const MAX_SIZE: usize> TryFrom<AnyRef<'a>> for ObjectIdentifier<MAX_SIZE> {
     type Error = Error;
 
-    ghost try_from_gives = { λ a r. GivesNow (λ x. x) r (leaf_as tags.ObjectIdentifier (identifier Bound MAX_SIZE) (any_lent a)) };
+    ghost try_from_gives = { λ a r. GivesNow (λ x. x) r
+        (leaf_as tags.ObjectIdentifier (identifier Bound MAX_SIZE) (any_lent a)) };
 
     #[tactic(auto, unfolding(crate::specs::Contents::leaf_as))]
     fn try_from(any: AnyRef<'a>) -> Result<ObjectIdentifier<MAX_SIZE>, Error> {
@@ -130,7 +132,8 @@ impl<'a, const MAX_SIZE: usize> TryFrom<AnyRef<'a>> for ObjectIdentifier<MAX_SIZ
 impl<'a, const MAX_SIZE: usize> TryFrom<&'a Any> for ObjectIdentifier<MAX_SIZE> {
     type Error = Error;
 
-    ghost try_from_gives = { λ a r. GivesNow (λ x. x) r (leaf_as tags.ObjectIdentifier (identifier Bound MAX_SIZE) a.now) };
+    ghost try_from_gives = { λ a r. GivesNow (λ x. x) r
+        (leaf_as tags.ObjectIdentifier (identifier Bound MAX_SIZE) a.now) };
 
     fn try_from(any: &'a Any) -> Result<ObjectIdentifier<MAX_SIZE>, Error> {
         let value = ObjectIdentifier::<MAX_SIZE>::try_from(any.to_ref())?;

@@ -1,6 +1,7 @@
--- The orders of whole numbers: by the number of content octets and then by the octets; those that aren't negative are in the
--- order of the numbers.
-use Rattle.std.specs.Prelude.{◌≡◌, ℕ, ℤ, pos, nat_lt, ◌+◌, ◌*◌, ◌/◌, ◌%◌, ◌<◌, ◌≤◌, zero, suc, List, [], ◌∷◌, ◌++◌, length, Bool, nat_eq, true, false}
+-- The orders of whole numbers: by the number of content octets and then by the octets; those that
+-- aren't negative are in the order of the numbers.
+use Rattle.std.specs.Prelude.{◌≡◌, ℕ, ℤ, pos, nat_lt, ◌+◌, ◌*◌, ◌/◌, ◌%◌, ◌<◌, ◌≤◌, zero, suc, List}
+use Rattle.std.specs.Prelude.{[], ◌∷◌, ◌++◌, length, Bool, nat_eq, true, false}
 use Rattle.std.proofs.Common.{cond, refl, sym, ap, ◌∙◌, arith, inl, inr}
 use Rattle.std.proofs.lemmas.Bool.{cases_lt}
 use Rattle.std.proofs.lemmas.List.{length-append}
@@ -11,7 +12,8 @@ use Rattle.std.specs.Ordering.{nat_cmp, ordering_then, is_eq, eq_by_cmp}
 use Rattle.std.specs.declared.cmp.Ordering.{Ordering}
 use Rattle.const_oid.specs.Digits.{digits}
 use Rattle.const_oid.specs.Orders.{sized_cmp, sized_cmp_total, sized_cmp_ties}
-use Rattle.const_oid.proofs.DigitLaws.{number_from_digits-digits, digits-Digits, digits-one, digits-more, halved}
+use Rattle.const_oid.proofs.DigitLaws.{number_from_digits-digits, digits-Digits, digits-one}
+use Rattle.const_oid.proofs.DigitLaws.{digits-more, halved}
 use Rattle.der_core_head.specs.Integers.{every, natural, positive, integer_octets}
 use Rattle.der_core_head.specs.Leaves.{integer}
 use Rattle.der_core_head.specs.Shapes.{leaf, contents, IsContent}
@@ -27,27 +29,48 @@ integer_cmp a b = sized_cmp (integer_octets a) (integer_octets b)
 pub integer_cmp_total : IsTotalOrder integer_cmp
 integer_cmp_total = on_total integer_octets sized_cmp_total
 
-pub integer_cmp_ties : (a b : ℤ) → pointwise nat_eq (integer_octets a) (integer_octets b) ≡ eq_by_cmp integer_cmp a b
+pub integer_cmp_ties : (a b : ℤ) → pointwise nat_eq (integer_octets a) (integer_octets b)
+    ≡ eq_by_cmp integer_cmp a b
 integer_cmp_ties a b = sized_cmp_ties (integer_octets a) (integer_octets b)
 
 -- of equal length it is that of the contents
-pub integer_order : (v w : ℤ) → IsContent (leaf (integer every)) v → IsContent (leaf (integer every)) w
-    → length (contents (leaf (integer every)) v) ≡ length (contents (leaf (integer every)) w) → integer_cmp v w ≡ contents_cmp (leaf (integer every)) v w
+pub integer_order : (v w : ℤ) → IsContent (leaf (integer every)) v
+    → IsContent (leaf (integer every)) w
+    → length (contents (leaf (integer every)) v) ≡ length (contents (leaf (integer every)) w)
+    → integer_cmp v w ≡ contents_cmp (leaf (integer every)) v w
 unfolding contents
 integer_order v w p q e =
     ap (λ o. ordering_then o (slice_cmp nat_cmp (integer_octets v) (integer_octets w)))
-    (ap (nat_cmp (length (integer_octets v))) (sym e) ∙ tied_itself nat_cmp_total (length (integer_octets v)))
+    (ap (nat_cmp (length (integer_octets v))) (sym e)
+    ∙ tied_itself nat_cmp_total (length (integer_octets v)))
 
 -- one digit more on both sides
-sized_push : (a b : List ℕ) (x y : ℕ) → sized_cmp (a ++ x ∷ []) (b ++ y ∷ []) ≡ ordering_then (sized_cmp a b) (nat_cmp x y)
+sized_push : (a b : List ℕ) (x y : ℕ) → sized_cmp (a ++ x ∷ []) (b ++ y ∷ [])
+    ≡ ordering_then (sized_cmp a b) (nat_cmp x y)
 sized_push a b x y =
     elim (cases_lt (length a) (length b)) [
-      | inl l ↦ rw (nat_cmp-less (length a) (length b) l, nat_cmp-less (length (a ++ x ∷ [])) (length (b ++ y ∷ [])) (omega (arith, length-append a (x ∷ []), length-append b (y ∷ [])))) refl
+      | inl l ↦ rw (
+        nat_cmp-less (length a) (length b) l,
+        nat_cmp-less (length (a ++ x ∷ []))
+            (length (b ++ y ∷ []))
+            (omega (arith, length-append a (x ∷ []), length-append b (y ∷ []))),
+      ) refl
       | inr l ↦ elim (cases_lt (length b) (length a)) [
-        | inl k ↦ rw (nat_cmp-greater (length a) (length b) k, nat_cmp-greater (length (a ++ x ∷ [])) (length (b ++ y ∷ [])) (omega (arith, length-append a (x ∷ []), length-append b (y ∷ [])))) refl
+        | inl k ↦ rw (
+          nat_cmp-greater (length a) (length b) k,
+          nat_cmp-greater (length (a ++ x ∷ []))
+              (length (b ++ y ∷ []))
+              (omega (arith, length-append a (x ∷ []), length-append b (y ∷ []))),
+        ) refl
         | inr k ↦
-            rw (nat_cmp-same (length a) (length b) (omega arith), nat_cmp-same (length (a ++ x ∷ [])) (length (b ++ y ∷ [])) (omega (arith, length-append a (x ∷ []), length-append b (y ∷ []))))
-            (octets_cmp-append a b (x ∷ []) (y ∷ []) (splits_lengths a b (omega arith)) ∙ ap (ordering_then (slice_cmp nat_cmp a b)) (then_equal (nat_cmp x y)))
+            rw (
+              nat_cmp-same (length a) (length b) (omega arith),
+              nat_cmp-same
+                  (length (a ++ x ∷ [])) (length (b ++ y ∷ []))
+                  (omega (arith, length-append a (x ∷ []), length-append b (y ∷ []))),
+            )
+            (octets_cmp-append a b (x ∷ []) (y ∷ []) (splits_lengths a b (omega arith))
+            ∙ ap (ordering_then (slice_cmp nat_cmp a b)) (then_equal (nat_cmp x y)))
       ]
     ]
 
@@ -55,26 +78,39 @@ sized_push a b x y =
 one_or_more : (m n : ℕ) → m < 256 → 256 ≤ n → length (digits 256 m) < length (digits 256 n)
 one_or_more m n l k =
     let some = (digits-Digits 256 (n / 256) (omega arith)).some in
-    omega (arith, ap length (digits-one 256 m l), ap length (digits-more 256 n (omega arith) k), length-append (digits 256 (n / 256)) (n % 256 ∷ []), some)
+    omega (
+      arith,
+      ap length (digits-one 256 m l),
+      ap length (digits-more 256 n (omega arith) k),
+      length-append (digits 256 (n / 256)) (n % 256 ∷ []),
+      some,
+    )
 
 small_cmp : (m n : ℕ) → m < 256 → sized_cmp (digits 256 m) (digits 256 n) ≡ nat_cmp m n
 small_cmp m n l =
     elim (cases_lt n 256) [
       | inl k ↦ rw (digits-one 256 m l, digits-one 256 n k) (then_equal (nat_cmp m n))
-      | inr k ↦ rw (nat_cmp-less (length (digits 256 m)) (length (digits 256 n)) (one_or_more m n l k)) (sym (nat_cmp-less m n (omega arith)))
+      | inr k ↦ rw
+          (nat_cmp-less (length (digits 256 m)) (length (digits 256 n)) (one_or_more m n l k))
+          (sym (nat_cmp-less m n (omega arith)))
     ]
 
-digits_within_cmp : (room m n : ℕ) → m ≤ room → sized_cmp (digits 256 m) (digits 256 n) ≡ nat_cmp m n
+digits_within_cmp : (room m n : ℕ) → m ≤ room → sized_cmp (digits 256 m) (digits 256 n)
+    ≡ nat_cmp m n
 digits_within_cmp zero m n small = small_cmp m n (omega arith)
 digits_within_cmp (suc room) m n small =
     elim (cases_lt m 256) [
       | inl l ↦ small_cmp m n l
       | inr l ↦ elim (cases_lt n 256) [
-        | inl k ↦ rw (nat_cmp-greater (length (digits 256 m)) (length (digits 256 n)) (one_or_more n m k l)) (sym (nat_cmp-greater m n (omega arith)))
+        | inl k ↦ rw
+            (nat_cmp-greater (length (digits 256 m)) (length (digits 256 n)) (one_or_more n m k l))
+            (sym (nat_cmp-greater m n (omega arith)))
         | inr k ↦
             rw (digits-more 256 m (omega arith) l, digits-more 256 n (omega arith) k)
             (sized_push (digits 256 (m / 256)) (digits 256 (n / 256)) (m % 256) (n % 256)
-            ∙ ap (λ o. ordering_then o (nat_cmp (m % 256) (n % 256))) (digits_within_cmp room (m / 256) (n / 256) (halved 256 room m (omega arith) l small))
+            ∙ ap (λ o. ordering_then o (nat_cmp (m % 256) (n % 256)))
+            (digits_within_cmp room (m / 256) (n / 256)
+            (halved 256 room m (omega arith) l small))
             ∙ split_cmp 256 m n (omega arith))
       ]
     ]
@@ -91,7 +127,8 @@ positive-number : (w : List ℕ) → number_from_digits 256 (positive w) ≡ num
 positive-number [] = refl
 positive-number (d ∷ ds) = by (nat_lt d 128) refl
   where
-    by : (b : Bool) → nat_lt d 128 ≡ b → number_from_digits 256 (cond b (d ∷ ds) (0 ∷ d ∷ ds)) ≡ number_from_digits 256 (d ∷ ds)
+    by : (b : Bool) → nat_lt d 128 ≡ b → number_from_digits 256 (cond b (d ∷ ds) (0 ∷ d ∷ ds))
+        ≡ number_from_digits 256 (d ∷ ds)
     by true e = refl
     by false e = refl
 
@@ -101,17 +138,21 @@ unfolding integer_octets
 number-content n = positive-number (digits 256 n) ∙ number_from_digits-digits 256 n (omega arith)
 
 -- one digit more of two numbers
-push_cmp : (m n d e : ℕ) → d < 256 → e < 256 → nat_cmp (m * 256 + d) (n * 256 + e) ≡ ordering_then (nat_cmp m n) (nat_cmp d e)
+push_cmp : (m n d e : ℕ) → d < 256 → e < 256 → nat_cmp (m * 256 + d) (n * 256 + e)
+    ≡ ordering_then (nat_cmp m n) (nat_cmp d e)
 push_cmp m n d e p q =
     let a : (m * 256 + d) / 256 ≡ m = omega arith in
     let b : (n * 256 + e) / 256 ≡ n = omega arith in
     let c : (m * 256 + d) % 256 ≡ d = omega arith in
     let f : (n * 256 + e) % 256 ≡ e = omega arith in
-    sym (split_cmp 256 (m * 256 + d) (n * 256 + e) (omega arith)) ∙ (λ i. ordering_then (nat_cmp (a i) (b i)) (nat_cmp (c i) (f i)))
+    sym (split_cmp 256 (m * 256 + d) (n * 256 + e) (omega arith))
+    ∙ (λ i. ordering_then (nat_cmp (a i) (b i)) (nat_cmp (c i) (f i)))
 
 -- as many digits are in the order of their numbers
-after_cmp : (m n : ℕ) (ds es : List ℕ) → AllBelowBase 256 ds → AllBelowBase 256 es → length ds ≡ length es
-    → ordering_then (nat_cmp m n) (slice_cmp nat_cmp ds es) ≡ nat_cmp (number_from_digits_after 256 m ds) (number_from_digits_after 256 n es)
+after_cmp : (m n : ℕ) (ds es : List ℕ) → AllBelowBase 256 ds → AllBelowBase 256 es
+    → length ds ≡ length es
+    → ordering_then (nat_cmp m n) (slice_cmp nat_cmp ds es)
+    ≡ nat_cmp (number_from_digits_after 256 m ds) (number_from_digits_after 256 n es)
 after_cmp m n [] [] p q l = then_equal (nat_cmp m n)
 after_cmp m n [] (e ∷ es) p q l = absurd (omega arith)
 after_cmp m n (d ∷ ds) [] p q l = absurd (omega arith)
@@ -121,9 +162,14 @@ after_cmp m n (d ∷ ds) (e ∷ es) p q l =
     ∙ after_cmp (m * 256 + d) (n * 256 + e) ds es p.1 q.1 (omega arith)
 
 -- contents of equal length are in the order of their numbers, where none is negative
-pub natural_order : (v w : ℕ) → IsContent (leaf (integer natural)) (pos v) → IsContent (leaf (integer natural)) (pos w)
-    → length (contents (leaf (integer natural)) (pos v)) ≡ length (contents (leaf (integer natural)) (pos w)) → nat_cmp v w ≡ contents_cmp (leaf (integer natural)) (pos v) (pos w)
+pub natural_order : (v w : ℕ) → IsContent (leaf (integer natural)) (pos v)
+    → IsContent (leaf (integer natural)) (pos w)
+    → length (contents (leaf (integer natural)) (pos v))
+    ≡ length (contents (leaf (integer natural)) (pos w)) → nat_cmp v w
+    ≡ contents_cmp (leaf (integer natural)) (pos v) (pos w)
 unfolding contents
 natural_order v w p q e =
     (λ i. nat_cmp (sym (number-content v) i) (sym (number-content w) i))
-    ∙ sym (after_cmp 0 0 (integer_octets (pos v)) (integer_octets (pos w)) (integer_octets-below (pos v)) (integer_octets-below (pos w)) e)
+    ∙ sym
+    (after_cmp 0 0 (integer_octets (pos v)) (integer_octets (pos w))
+    (integer_octets-below (pos v)) (integer_octets-below (pos w)) e)

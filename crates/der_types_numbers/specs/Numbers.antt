@@ -1,5 +1,6 @@
 -- Whole numbers of octets in which some may be left out (X.690 8.3.2).
-use Rattle.std.specs.Prelude.{ℕ, ℤ, pos, List, [], ◌∷◌, length, Bool, false, nat_lt, ◌==◌, not, Result, Ok, Err, if◌then◌else◌}
+use Rattle.std.specs.Prelude.{ℕ, ℤ, pos, List, [], ◌∷◌, length, Bool, false, nat_lt, ◌==◌, not}
+use Rattle.std.specs.Prelude.{Result, Ok, Err, if◌then◌else◌}
 use Rattle.std.specs.Int.Digits.{number_from_digits}
 use Rattle.der_core_head.specs.Limits.{length_max}
 use Rattle.der_core_head.specs.declared.error.ErrorKind.{ErrorKind}
@@ -19,7 +20,8 @@ signed_number (d ∷ ds) = counted (integer_octets (integer_of (d ∷ ds))) (int
 -- the number of octets that are digits in base 256, with leading zeros or without
 unfoldable pub unsigned_number : List ℕ → Result ℕ ErrorKind
 unsigned_number [] = Err (kinds.Length Integer)
-unsigned_number (d ∷ ds) = counted (integer_octets (pos (number_from_digits 256 (d ∷ ds)))) (number_from_digits 256 (d ∷ ds))
+unsigned_number (d ∷ ds) = counted (integer_octets (pos (number_from_digits 256 (d ∷ ds))))
+    (number_from_digits 256 (d ∷ ds))
 
 -- a leading zero that isn't the only digit
 abbrev pub has_leading_zero : List ℕ → Bool

@@ -129,7 +129,8 @@ pub fn content_of(alloc: Global, octets: &[u8]) -> Result<Vec<u8>, AllocError>
 /// Those of the writer.
 pub fn encode_natural<W: Writer>(writer: &mut W, octets: &[u8]) -> Result<(), Error>
     requires { octets.now ≡ digits 256 (number_from_digits 256 octets.now) }
-    ensures exact { Writes W.takes_memory (W.out writer.old) (W.out writer.new) result (put (integer_octets (pos (number_from_digits 256 octets.now)))) }
+    ensures exact { Writes W.takes_memory (W.out writer.old) (W.out writer.new) result
+        (put (integer_octets (pos (number_from_digits 256 octets.now)))) }
     ensures kept { Continues (W.out writer.old) (W.out writer.new) }
 {
     if begins_with_one_bit(octets) {

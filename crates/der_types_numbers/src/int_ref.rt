@@ -1,6 +1,7 @@
 //! INTEGER of any size, borrowed.
 
-ghost use Rattle.std.specs.Prelude.{◌≡◌, ◌<◌, ◌^◌, ◌↔◌, ℤ, length, nat_eq, true, false, Some, IsTrue, IfOk};
+ghost use Rattle.std.specs.Prelude.{◌≡◌, ◌<◌, ◌^◌, ◌↔◌, ℤ, length, nat_eq, true, false, Some};
+ghost use Rattle.std.specs.Prelude.{IsTrue, IfOk};
 ghost use Rattle.std.proofs.Common.{refl, ap};
 ghost use Rattle.std.specs.Cmp.{po, partial_equiv_from_equiv, on_equiv, on_per, on_total};
 ghost use Rattle.std.specs.Cmp.Lexicographic.{pointwise, bytes_decides, nat_list_eq_equiv};
@@ -11,7 +12,8 @@ ghost use Rattle.der_core_head.specs.Integers.{every, integer_of, integer_octets
 ghost use Rattle.der_core_head.specs.Leaves.{integer, leaf_read};
 ghost use Rattle.der_core_head.specs.Reading.{GivesNow};
 ghost use Rattle.der_core_head.specs.Shapes.{leaf};
-ghost use Rattle.der_types_numbers.specs.NumberOrders.{integer_cmp, integer_cmp_total, integer_cmp_ties};
+ghost use Rattle.der_types_numbers.specs.NumberOrders.{integer_cmp, integer_cmp_total};
+ghost use Rattle.der_types_numbers.specs.NumberOrders.{integer_cmp_ties};
 ghost use Rattle.der_types_numbers.specs.Numbers.{signed_number};
 
 use crate::fewest::{fewest_signed, has_redundant_octet, sized_cmp};
@@ -170,7 +172,8 @@ impl<'a> PartialOrd for IntRef<'a> {
 
     ghost partial_cmp = { λ a b. Some (integer_cmp (integer_lent a) (integer_lent b)) };
 
-    ghost laws = { po (on_total integer_lent integer_cmp_total) (λ a b. integer_cmp_ties (integer_lent a) (integer_lent b)) };
+    ghost laws = { po (on_total integer_lent integer_cmp_total)
+        (λ a b. integer_cmp_ties (integer_lent a) (integer_lent b)) };
 
     fn partial_cmp(&self, other: &Self) -> Option<Ordering> {
         Some(self.cmp(other))

@@ -25,17 +25,23 @@ pub struct NumberAnswers<'a> {
     pub is_empty: bool,
 }
 
-/// A borrowed whole number and its owned form have the same content, are equal to the same numbers, stand in the same order and
-/// are hashed alike. Nothing is done.
+/// A borrowed whole number and its owned form have the same content, are equal to the same numbers,
+/// stand in the same order and are hashed alike. Nothing is done.
 pub fn integer_forms_agree()
-    ensures contents { (n : IntRef) → contents ⟦<IntRef<'static> as ShapedValue>⟧.content (⟦<IntRef<'static> as ShapedValue>⟧.value_plain n)
-        ≡ contents ⟦<Int as ShapedValue>⟧.content (⟦<Int as ShapedValue>⟧.value_plain (integer_lent n)) }
-    ensures equality { (m n : IntRef) → ⟦<IntRef<'static> as PartialEq>⟧.eq m n ≡ ⟦<Int as PartialEq>⟧.eq (integer_lent m) (integer_lent n) }
-    ensures order { (m n : IntRef) → ⟦<IntRef<'static> as Ord>⟧.cmp m n ≡ ⟦<Int as Ord>⟧.cmp (integer_lent m) (integer_lent n) }
-    ensures hash { (n : IntRef) → ⟦<IntRef<'static> as Hash>⟧.hash_input n ≡ ⟦<Int as Hash>⟧.hash_input (integer_lent n) }
+    ensures contents { (n : IntRef) → contents ⟦<IntRef<'static> as ShapedValue>⟧.content
+        (⟦<IntRef<'static> as ShapedValue>⟧.value_plain n)
+        ≡ contents ⟦<Int as ShapedValue>⟧.content
+        (⟦<Int as ShapedValue>⟧.value_plain (integer_lent n)) }
+    ensures equality { (m n : IntRef) → ⟦<IntRef<'static> as PartialEq>⟧.eq m n
+        ≡ ⟦<Int as PartialEq>⟧.eq (integer_lent m) (integer_lent n) }
+    ensures order { (m n : IntRef) → ⟦<IntRef<'static> as Ord>⟧.cmp m n
+        ≡ ⟦<Int as Ord>⟧.cmp (integer_lent m) (integer_lent n) }
+    ensures hash { (n : IntRef) → ⟦<IntRef<'static> as Hash>⟧.hash_input n
+        ≡ ⟦<Int as Hash>⟧.hash_input (integer_lent n) }
 {}
 
-/// A borrowed whole number and an owned one that are the same number answer alike: what the first answers, and what the second.
+/// A borrowed whole number and an owned one that are the same number answer alike: what the first
+/// answers, and what the second.
 pub fn integers_answer_alike<'a>(
     lent: &IntRef<'a>,
     owned: &'a Int,
@@ -57,18 +63,23 @@ pub fn integers_answer_alike<'a>(
     (of_lent, of_owned)
 }
 
-/// A borrowed number that isn't negative and its owned form have the same content, are equal to the same numbers, stand in the
-/// same order and are hashed alike. Nothing is done.
+/// A borrowed number that isn't negative and its owned form have the same content, are equal to the
+/// same numbers, stand in the same order and are hashed alike. Nothing is done.
 pub fn natural_forms_agree()
-    ensures contents { (n : UintRef) → contents ⟦<UintRef<'static> as ShapedValue>⟧.content (⟦<UintRef<'static> as ShapedValue>⟧.value_plain n)
-        ≡ contents ⟦<Uint as ShapedValue>⟧.content (⟦<Uint as ShapedValue>⟧.value_plain (natural_lent n)) }
-    ensures equality { (m n : UintRef) → ⟦<UintRef<'static> as PartialEq>⟧.eq m n ≡ ⟦<Uint as PartialEq>⟧.eq (natural_lent m) (natural_lent n) }
-    ensures order { (m n : UintRef) → ⟦<UintRef<'static> as Ord>⟧.cmp m n ≡ ⟦<Uint as Ord>⟧.cmp (natural_lent m) (natural_lent n) }
-    ensures hash { (n : UintRef) → ⟦<UintRef<'static> as Hash>⟧.hash_input n ≡ ⟦<Uint as Hash>⟧.hash_input (natural_lent n) }
+    ensures contents { (n : UintRef) → contents ⟦<UintRef<'static> as ShapedValue>⟧.content
+        (⟦<UintRef<'static> as ShapedValue>⟧.value_plain n)
+        ≡ contents ⟦<Uint as ShapedValue>⟧.content
+        (⟦<Uint as ShapedValue>⟧.value_plain (natural_lent n)) }
+    ensures equality { (m n : UintRef) → ⟦<UintRef<'static> as PartialEq>⟧.eq m n
+        ≡ ⟦<Uint as PartialEq>⟧.eq (natural_lent m) (natural_lent n) }
+    ensures order { (m n : UintRef) → ⟦<UintRef<'static> as Ord>⟧.cmp m n
+        ≡ ⟦<Uint as Ord>⟧.cmp (natural_lent m) (natural_lent n) }
+    ensures hash { (n : UintRef) → ⟦<UintRef<'static> as Hash>⟧.hash_input n
+        ≡ ⟦<Uint as Hash>⟧.hash_input (natural_lent n) }
 {}
 
-/// A borrowed number that isn't negative and an owned one that are the same number answer alike: what the first answers, and what
-/// the second.
+/// A borrowed number that isn't negative and an owned one that are the same number answer alike:
+/// what the first answers, and what the second.
 pub fn naturals_answer_alike<'a>(
     lent: &UintRef<'a>,
     owned: &'a Uint,

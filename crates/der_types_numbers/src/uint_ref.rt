@@ -1,8 +1,10 @@
 //! INTEGER of any size that isn't negative, borrowed.
 
-ghost use Rattle.std.specs.Prelude.{◌≡◌, ◌<◌, ◌^◌, ◌+◌, ℕ, pos, length, nat_eq, true, false, Some, IfOk};
+ghost use Rattle.std.specs.Prelude.{◌≡◌, ◌<◌, ◌^◌, ◌+◌, ℕ, pos, length, nat_eq, true, false, Some};
+ghost use Rattle.std.specs.Prelude.{IfOk};
 ghost use Rattle.std.proofs.Common.{refl, ap};
-ghost use Rattle.std.specs.Cmp.{po, partial_equiv_from_equiv, on_equiv, on_per, on_total, nat_cmp_total};
+ghost use Rattle.std.specs.Cmp.{po, partial_equiv_from_equiv, on_equiv, on_per, on_total};
+ghost use Rattle.std.specs.Cmp.{nat_cmp_total};
 ghost use Rattle.std.specs.Cmp.Lexicographic.{pointwise, bytes_decides, nat_list_eq_equiv};
 ghost use Rattle.std.specs.Hash as fed;
 ghost use Rattle.std.specs.Ordering.{nat_cmp};
@@ -108,7 +110,8 @@ impl<'a> UintRef<'a> {
     #[tactic(auto, using(crate::proofs::Naturals::natural_reads))]
     pub fn of_content(tag: Tag, octets: &'a [u8]) -> Result<UintRef<'a>, Error>
         requires { Fits octets.now }
-        ensures { GivesNow (λ n. pos (natural_lent n)) result (leaf_read (integer natural) tag octets.now) }
+        ensures { GivesNow (λ n. pos (natural_lent n)) result
+            (leaf_read (integer natural) tag octets.now) }
     {
         if octets.is_empty() {
             return Err(Error::from(ErrorKind::Length { tag }));
@@ -179,7 +182,8 @@ impl<'a> PartialOrd for UintRef<'a> {
 
     ghost partial_cmp = { λ a b. Some (nat_cmp (natural_lent a) (natural_lent b)) };
 
-    ghost laws = { po (on_total natural_lent nat_cmp_total) (λ a b. digits_ties (natural_lent a) (natural_lent b)) };
+    ghost laws = { po (on_total natural_lent nat_cmp_total)
+        (λ a b. digits_ties (natural_lent a) (natural_lent b)) };
 
     fn partial_cmp(&self, other: &Self) -> Option<Ordering> {
         Some(self.cmp(other))

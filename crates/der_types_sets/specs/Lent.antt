@@ -1,5 +1,7 @@
--- What contracts see of a borrowed set: its members, lent as values or as the octets that spell them.
-use Rattle.std.specs.Prelude.{◌≡◌, ◌≢◌, ℕ, ◌<◌, List, [], ◌++◌, length, slice_get, Option, None, Some, false, Result, Err, MatchOption, MatchResult, refl, ◌∷◌, ◌⊎◌}
+-- What contracts see of a borrowed set: its members, lent as values or as the octets that spell
+-- them.
+use Rattle.std.specs.Prelude.{◌≡◌, ◌≢◌, ℕ, ◌<◌, List, [], ◌++◌, length, slice_get, Option, None}
+use Rattle.std.specs.Prelude.{Some, false, Result, Err, MatchOption, MatchResult, refl, ◌∷◌, ◌⊎◌}
 use Rattle.std.proofs.Common.{ap}
 use Rattle.std.specs.Coded.{Coded, code_by, coded×, coded_list, coded_ℕ}
 use Rattle.der_core_head.specs.Limits.{levels_max}
@@ -22,7 +24,8 @@ pub record Lent (A : Type 0) : Type 0 where
 
 abbrev pub lent_code : {A : Type 0} → Coded A → Coded (Lent A)
 lent_code {A} c =
-    code_by (List A × (List ℕ × ℕ)) (coded× (coded_list c) (coded× (coded_list coded_ℕ) coded_ℕ)) (λ l. (l.values, (l.octets, l.count)))
+    code_by (List A × (List ℕ × ℕ)) (coded× (coded_list c) (coded× (coded_list coded_ℕ) coded_ℕ))
+    (λ l. (l.values, (l.octets, l.count)))
     (λ p. record { values = p.0; octets = p.1.0; count = p.1.1 }) (λ _. refl)
 
 -- the members that octets spell
@@ -34,7 +37,8 @@ abbrev pub members_lent : {A : Type 0} (s : Shape) → (A → Value s) → Lent 
 members_lent s f l = plain_list f l.values ++ members_spelled s l
 
 -- the members are the same where those of the values are
-pub same_lent : {A : Type 0} (s : Shape) {f g : A → Value s} → ((x : A) → f x ≡ g x) → (l : Lent A) → members_lent s f l ≡ members_lent s g l
+pub same_lent : {A : Type 0} (s : Shape) {f g : A → Value s} → ((x : A) → f x ≡ g x) → (l : Lent A)
+    → members_lent s f l ≡ members_lent s g l
 same_lent s h l = ap (λ v. v ++ members_spelled s l) (same_list h l.values)
 
 -- Octets that a length can count begin with so many members.
@@ -69,16 +73,21 @@ pub record HasFalling (s : Shape) (v : List (Value s)) (k : ErrorKind) : Type 0 
   pub here : slice_get v index ≡ Some value
   pub refused : write s value (record { written = []; room = None; failed = false }) ≡ Err k
 
--- The values were not written: for want of memory, since one of them has such a set, or since a length passes what a length can count.
+-- The values were not written: for want of memory, since one of them has such a set, or since a
+-- length passes what a length can count.
 abbrev pub IsUnwritten : (s : Shape) → List (Value s) → Error → Type 0
-IsUnwritten s v e = (IsWantOfMemory e ⊎ HasFalling s v e.kind) ⊎ ((e.kind ≡ kinds.Overflow) × (size_body (many s) v ≡ Err kinds.Overflow))
+IsUnwritten s v e = (IsWantOfMemory e ⊎ HasFalling s v e.kind)
+    ⊎ ((e.kind ≡ kinds.Overflow) × (size_body (many s) v ≡ Err kinds.Overflow))
 
 -- There was no memory, or one of the values of two lists has such a set.
 abbrev pub IsUncompared : (s : Shape) → List (Value s) → List (Value s) → Error → Type 0
 IsUncompared s v w e = IsWantOfMemory e ⊎ (HasFalling s v e.kind ⊎ HasFalling s w e.kind)
 
--- A call from l gave the first member and left the others, or gave None where nothing was left. Where there was no memory it left nothing.
-abbrev pub YieldsMember : {A : Type 0} (s : Shape) → (A → Value s) → Lent A → Option (Result A Error) → Lent A → Type 0
+-- A call from l gave the first member and left the others, or gave None where nothing was left.
+-- Where there was no memory it left nothing.
+abbrev pub YieldsMember : {A : Type 0} (s : Shape) → (A → Value s) → Lent A
+    → Option (Result A Error) → Lent A → Type 0
 YieldsMember s f l r t =
     MatchOption r ((members_lent s f l ≡ []) × (members_lent s f t ≡ []))
-    (λ item. MatchResult item (λ x. members_lent s f l ≡ f x ∷ members_lent s f t) (λ e. (members_lent s f l ≢ []) × (members_lent s f t ≡ []) × IsWantOfMemory e))
+    (λ item. MatchResult item (λ x. members_lent s f l ≡ f x ∷ members_lent s f t)
+    (λ e. (members_lent s f l ≢ []) × (members_lent s f t ≡ []) × IsWantOfMemory e))

@@ -17,7 +17,9 @@ members_at xs d places = map (member_at xs d) places
 
 -- no member at one of the places is above that at the next place
 abbrev pub AscendsAt : {A : Type 0} (s : Shape) → (A → Value s) → List A → List ℕ → ℕ → Type 0
-AscendsAt {A} s f xs places end = AllAdjacentBelow (λ p q. (d : A) → NotAbove s f (member_at xs d p) (member_at xs d q)) places end
+AscendsAt {A} s f xs places end =
+    AllAdjacentBelow (λ p q. (d : A) → NotAbove s f (member_at xs d p) (member_at xs d q)) places
+    end
 
 -- the encoding of the member at a place; that of the first one where there is none
 abbrev pub encoding_at : {A : Type 0} (s : Shape) → (A → Value s) → List A → ℕ → List ℕ
@@ -26,4 +28,6 @@ encoding_at s f (x ∷ xs) place = octets_of s (f (member_at (x ∷ xs) x place)
 
 -- whether the encoding at a place is below that at another
 abbrev pub KeepsPlaces : {A : Type 0} (s : Shape) → (A → Value s) → List A → List ℕ → Type 0
-KeepsPlaces s f xs places = IsStableBy (λ p q. is_lt (octets_cmp (encoding_at s f xs p) (encoding_at s f xs q))) (range_with_len 0 (length xs)) places
+KeepsPlaces s f xs places =
+    IsStableBy (λ p q. is_lt (octets_cmp (encoding_at s f xs p) (encoding_at s f xs q)))
+    (range_with_len 0 (length xs)) places

@@ -15,7 +15,8 @@ use der_core::Shaped;
 /// The encoding of a set doesn't depend on the order in which its members were inserted: two lists
 /// in ascending order that have the same members join to the same octets (X.690 11.6).
 pub fn order_of_insertions()
-    ensures { (s : Shape) (v w : List (Value s)) → AllValid s (λ x. x) v → AllValid s (λ x. x) w → Ascends s (λ x. x) v → Ascends s (λ x. x) w → IsPermutation v w
+    ensures { (s : Shape) (v w : List (Value s)) → AllValid s (λ x. x) v → AllValid s (λ x. x) w
+        → Ascends s (λ x. x) v → Ascends s (λ x. x) w → IsPermutation v w
         → body_octets (many s) v ≡ body_octets (many s) w }
 {}
 
@@ -23,10 +24,19 @@ pub fn order_of_insertions()
 /// These are the members that `owned_to_ref` and `ref_to_owned` keep.
 pub fn borrowed_and_owned_agree<T: Shaped>()
     // The octets that are lent, if any, are the content of the owned set.
-    ensures contents { (lent : Lent T) (set : List T) → IsLent T.shape T.written lent → members_lent T.shape T.written lent ≡ plain_list T.written set
-        → 0 < length lent.octets → lent.octets ≡ body_octets (many T.shape) (plain_list T.written set) }
-    ensures order { (lent other : Lent T) (set rest : List T) → members_lent T.shape T.written lent ≡ plain_list T.written set → members_lent T.shape T.written other ≡ plain_list T.written rest
-        → contents_cmp (nested (many T.shape)) (members_lent T.shape T.written lent) (members_lent T.shape T.written other) ≡ contents_cmp (nested (many T.shape)) (plain_list T.written set) (plain_list T.written rest) }
-    ensures number { (lent : Lent T) (set : List T) → members_lent T.shape T.plain lent ≡ plain_list T.plain set → length (members_lent T.shape T.plain lent) ≡ length set }
-    ensures member { (lent : Lent T) (set : List T) (i : ℕ) → members_lent T.shape T.plain lent ≡ plain_list T.plain set → slice_get (members_lent T.shape T.plain lent) i ≡ plain_option T.plain (slice_get set i) }
+    ensures contents { (lent : Lent T) (set : List T) → IsLent T.shape T.written lent
+        → members_lent T.shape T.written lent ≡ plain_list T.written set
+        → 0 < length lent.octets → lent.octets
+        ≡ body_octets (many T.shape) (plain_list T.written set) }
+    ensures order { (lent other : Lent T) (set rest : List T) → members_lent T.shape T.written lent
+        ≡ plain_list T.written set → members_lent T.shape T.written other
+        ≡ plain_list T.written rest
+        → contents_cmp (nested (many T.shape)) (members_lent T.shape T.written lent)
+        (members_lent T.shape T.written other) ≡ contents_cmp (nested (many T.shape))
+        (plain_list T.written set) (plain_list T.written rest) }
+    ensures number { (lent : Lent T) (set : List T) → members_lent T.shape T.plain lent
+        ≡ plain_list T.plain set → length (members_lent T.shape T.plain lent) ≡ length set }
+    ensures member { (lent : Lent T) (set : List T) (i : ℕ) → members_lent T.shape T.plain lent
+        ≡ plain_list T.plain set → slice_get (members_lent T.shape T.plain lent) i
+        ≡ plain_option T.plain (slice_get set i) }
 {}

@@ -14,7 +14,8 @@ use der_core::{Encode, Error, Length, Writer};
 /// # Errors
 /// `Overflow` from 2^32 on.
 pub(crate) fn members_len<T: Encode>(members: &[T]) -> Result<Length, Error>
-    ensures { GivesNow (λ l. l.value) result (size_body (many T.shape) (plain_list T.written members.now)) }
+    ensures { GivesNow (λ l. l.value) result
+        (size_body (many T.shape) (plain_list T.written members.now)) }
 {
     let mut len = Length { value: 0 };
     for member in members {
@@ -31,7 +32,8 @@ pub(crate) fn encode_members<T: Encode, W: Writer>(
     members: &[T],
     writer: &mut W,
 ) -> Result<(), Error>
-    ensures exact { Writes W.takes_memory (W.out writer.old) (W.out writer.new) result (write_body (many T.shape) (plain_list T.written members.now)) }
+    ensures exact { Writes W.takes_memory (W.out writer.old) (W.out writer.new) result
+        (write_body (many T.shape) (plain_list T.written members.now)) }
     ensures kept { Continues (W.out writer.old) (W.out writer.new) }
 {
     for member in members {

@@ -1,9 +1,11 @@
 //! Places in a list whose members ascend by their encodings.
 
-ghost use Rattle.std.specs.Prelude.{◌≡◌, ◌⊎◌, ◌<◌, ◌≤◌, [], ◌∷◌, ◌++◌, List, length, take, IfOk, OnOk, IfErr};
+ghost use Rattle.std.specs.Prelude.{◌≡◌, ◌⊎◌, ◌<◌, ◌≤◌, [], ◌∷◌, ◌++◌, List, length, take, IfOk};
+ghost use Rattle.std.specs.Prelude.{OnOk, IfErr};
 ghost use Rattle.std.specs.List.{insert};
 ghost use Rattle.std.specs.List.Sorted.{IsPermutation};
-ghost use Rattle.der_types_sets.specs.Sets.{Ascends, IsPlace, TooLong, IsBelowLast, IsOutOfOrder, IsArranged, StopsBehind};
+ghost use Rattle.der_types_sets.specs.Sets.{Ascends, IsPlace, TooLong, IsBelowLast, IsOutOfOrder};
+ghost use Rattle.der_types_sets.specs.Sets.{IsArranged, StopsBehind};
 
 use der_core::{DerOrd, Error, ErrorKind, Member};
 use std::cmp::Ordering;
@@ -40,7 +42,9 @@ pub fn place_of<T: DerOrd + Member>(members: &[T], item: &T) -> Result<usize, Er
 /// more.
 pub(crate) fn check_last<T: DerOrd + Member>(members: &[T], item: &T) -> Result<(), Error>
     ensures ok { OnOk result (IsPlace T.shape T.written members.now item.now (length members.now)) }
-    ensures refused { IfErr result (λ e. (e.kind ≡ ErrorKind.SetOrdering × IsBelowLast T.shape T.written members.now item.now) ⊎ TooLong T.shape T.written (item.now ∷ members.now) e) }
+    ensures refused { IfErr result
+        (λ e. (e.kind ≡ ErrorKind.SetOrdering × IsBelowLast T.shape T.written members.now item.now)
+        ⊎ TooLong T.shape T.written (item.now ∷ members.now) e) }
 {
     if members.is_empty() {
         return Ok(());
@@ -57,7 +61,8 @@ pub(crate) fn check_last<T: DerOrd + Member>(members: &[T], item: &T) -> Result<
 /// `SetOrdering` where one is, `Overflow` where an encoding has 2^32 octets or more.
 pub(crate) fn check_ascending<T: DerOrd + Member>(members: &[T]) -> Result<(), Error>
     ensures ok { OnOk result (Ascends T.shape T.written members.now) }
-    ensures refused { IfErr result (λ e. IsOutOfOrder T.shape T.written members.now e ⊎ TooLong T.shape T.written members.now e) }
+    ensures refused { IfErr result (λ e. IsOutOfOrder T.shape T.written members.now e
+        ⊎ TooLong T.shape T.written members.now e) }
 {
     for end in 0..members.len() {
         check_last(&members[..end], &members[end])?;
@@ -68,7 +73,8 @@ pub(crate) fn check_ascending<T: DerOrd + Member>(members: &[T]) -> Result<(), E
 /// Moves the last item to a place, and the items from there on up.
 fn last_to<T>(items: &mut [T], place: usize)
     requires { place < length items.old }
-    ensures { (front : List T) (last : T) → items.old ≡ front ++ last ∷ [] → items.new ≡ insert front place last }
+    ensures { (front : List T) (last : T) → items.old ≡ front ++ last ∷ []
+        → items.new ≡ insert front place last }
 {
     items[place..].rotate_right(1);
 }
@@ -89,7 +95,9 @@ pub(crate) fn arrange_from<T: DerOrd + Member>(
     ensures arranged { OnOk result (IsArranged T.shape T.written members.old members.new) }
     ensures ascend { OnOk result (Ascends T.shape T.written members.new) }
     ensures stopped { IfErr result (λ stop. Ascends T.shape T.written (take stop.0 members.new)) }
-    ensures refused { IfErr result (λ stop. StopsBehind T.shape T.written first members.old (take stop.0 members.new) stop.0 stop.1) }
+    ensures refused { IfErr result
+        (λ stop. StopsBehind T.shape T.written first members.old (take stop.0 members.new) stop.0
+        stop.1) }
 {
     for end in first..members.len() {
         let shared = &members[..];

@@ -1,6 +1,7 @@
 //! SET OF with room for so many members.
 
-ghost use Rattle.std.specs.Prelude.{◌≡◌, ◌⊎◌, ◌≤◌, List, take, true, false, Ok, MatchResult, ◌==◌, [], ◌∷◌, ◌++◌, length, slice_get, IfOk, OnOk, OnErr, IfErr};
+ghost use Rattle.std.specs.Prelude.{◌≡◌, ◌⊎◌, ◌≤◌, List, take, true, false, Ok, MatchResult, ◌==◌};
+ghost use Rattle.std.specs.Prelude.{[], ◌∷◌, ◌++◌, length, slice_get, IfOk, OnOk, OnErr, IfErr};
 ghost use Rattle.std.specs.Option.{option_copied};
 ghost use Rattle.std.specs.List.Sorted.{IsPermutation};
 ghost use Rattle.der_core_head.specs.declared.tag.Tag.TheVariants.{Set};
@@ -8,11 +9,14 @@ ghost use Rattle.der_core_head.specs.Shapes.{Value, tagged, nested, few};
 ghost use Rattle.der_core_head.specs.Spelling.{is_element, are_enough, are_content_enough};
 ghost use Rattle.der_core_head.specs.Grammar.{plain_list, value_at, whole_at};
 ghost use Rattle.der_core_head.specs.Reading.{Gives, Fails, IsDer, read_content_at};
-ghost use Rattle.std.specs.Cmp.Lexicographic.{pointwise, slice_cmp, slice_partial_cmp, lists_per, lists_equiv, lists_po, lists_total, lists_agrees, lists_ties};
+ghost use Rattle.std.specs.Cmp.Lexicographic.{pointwise, slice_cmp, slice_partial_cmp, lists_per};
+ghost use Rattle.std.specs.Cmp.Lexicographic.{lists_equiv, lists_po, lists_total, lists_agrees};
+ghost use Rattle.std.specs.Cmp.Lexicographic.{lists_ties};
 ghost use Rattle.std.specs.Hash as fed;
 ghost use Rattle.std.specs.Hash.{items_Alike};
 ghost use Rattle.der_types_sets.specs.Lent.{members_lent};
-ghost use Rattle.der_types_sets.specs.Sets.{Ascends, Loose, ReadsArranged, SpellsLoosely, TooLong, IsBelowLast, IsPutAtPlace};
+ghost use Rattle.der_types_sets.specs.Sets.{Ascends, Loose, ReadsArranged, SpellsLoosely, TooLong};
+ghost use Rattle.der_types_sets.specs.Sets.{IsBelowLast, IsPutAtPlace};
 
 use crate::any_few::AnyFew;
 use crate::iter::SetOfIter;
@@ -149,7 +153,8 @@ impl<T: DerOrd + Member + Drop, const N: usize> SetOf<T, N> {
         ensures place { OnOk result (IsPutAtPlace T.shape T.written self.old item self.new) }
         ensures ascend { Ascends T.shape T.written self.new }
         ensures err { OnErr result (self.new ≡ self.old) }
-        ensures refused { IfErr result (λ e. ((e.kind ≡ ErrorKind.Overlength) × (length self.old ≡ N)) ⊎ TooLong T.shape T.written (item ∷ self.old) e) }
+        ensures refused { IfErr result (λ e. ((e.kind ≡ ErrorKind.Overlength) × (length self.old ≡ N))
+            ⊎ TooLong T.shape T.written (item ∷ self.old) e) }
     {
         if self.members.is_full() {
             return Err(Error::from(ErrorKind::Overlength));
@@ -168,7 +173,9 @@ impl<T: DerOrd + Member + Drop, const N: usize> SetOf<T, N> {
         ensures ok { OnOk result (self.new ≡ self.old ++ item ∷ []) }
         ensures ascend { Ascends T.shape T.written self.new }
         ensures err { OnErr result (self.new ≡ self.old) }
-        ensures refused { IfErr result (λ e. ((e.kind ≡ ErrorKind.Overlength) × (length self.old ≡ N)) ⊎ ((e.kind ≡ ErrorKind.SetOrdering × IsBelowLast T.shape T.written self.old item) ⊎ TooLong T.shape T.written (item ∷ self.old) e)) }
+        ensures refused { IfErr result (λ e. ((e.kind ≡ ErrorKind.Overlength) × (length self.old ≡ N))
+            ⊎ ((e.kind ≡ ErrorKind.SetOrdering × IsBelowLast T.shape T.written self.old item)
+            ⊎ TooLong T.shape T.written (item ∷ self.old) e)) }
     {
         if self.members.is_full() {
             return Err(Error::from(ErrorKind::Overlength));
@@ -180,8 +187,8 @@ impl<T: DerOrd + Member + Drop, const N: usize> SetOf<T, N> {
 }
 
 impl<T: DerOrd + Member + Default + Drop, const N: usize> SetOf<T, N> {
-    /// The members of a content, which stand there in any order. Members past the `N`th aren't looked
-    /// at.
+    /// The members of a content, which stand there in any order. Members past the `N`th aren't
+    /// looked at.
     ///
     /// # Errors
     /// The first fault of the members, `Overlength` for more than `N`, or `OutOfMemory`; `Failed`
@@ -195,13 +202,22 @@ impl<T: DerOrd + Member + Default + Drop, const N: usize> SetOf<T, N> {
     where
         T: Decode<'a, R> + AsRead,
         // The members that were read, in the order in which they stand there, are those of the set.
-        ensures reads { (read : List T) × ReadsArranged T.shape T.plain T.written (R.state reader.old) (R.state reader.new) result (value_at (read_content_at (R.state reader.old) (nested (few N T.shape)) header.tag) header.length.value) read }
+        ensures reads { (read : List T) × ReadsArranged T.shape T.plain T.written (R.state reader.old)
+            (R.state reader.new) result
+            (value_at (read_content_at (R.state reader.old) (nested (few N T.shape)) header.tag)
+            header.length.value) read }
         // What is read is spelled so, in any order.
-        ensures spelled { is_element T.shape ≡ true → IsDer (R.state reader.old) → IfOk result (λ set. Loose T.shape (plain_list T.plain set) (take header.length.value (R.state reader.old).rest)) }
+        ensures spelled { is_element T.shape ≡ true → IsDer (R.state reader.old)
+            → IfOk result
+            (λ set. Loose T.shape (plain_list T.plain set)
+            (take header.length.value (R.state reader.old).rest)) }
         // What is spelled so is read, if there is room, unless memory runs out.
-        ensures only { (v : List (Value T.shape)) → is_element T.shape ≡ true → are_content_enough (nested (few N T.shape)) (R.state reader.old).room ≡ true
-            → IsDer (R.state reader.old) → (R.state reader.old).failed ≡ false → header.length.value ≤ length (R.state reader.old).rest
-            → Loose T.shape v (take header.length.value (R.state reader.old).rest) → length v ≤ N → Gives (plain_list T.plain) result (Ok v) }
+        ensures only { (v : List (Value T.shape)) → is_element T.shape ≡ true
+            → are_content_enough (nested (few N T.shape)) (R.state reader.old).room ≡ true
+            → IsDer (R.state reader.old) → (R.state reader.old).failed ≡ false
+            → header.length.value ≤ length (R.state reader.old).rest
+            → Loose T.shape v (take header.length.value (R.state reader.old).rest) → length v ≤ N
+            → Gives (plain_list T.plain) result (Ok v) }
     {
         // What is read from octets by DER has an encoding.
         let before = reader.remaining();
@@ -216,23 +232,28 @@ impl<T: DerOrd + Member + Default + Drop, const N: usize> SetOf<T, N> {
         }
     }
 
-    /// The set that octets spell by DER, all of the octets, whose members stand in any order. Members
-    /// past the `N`th aren't looked at.
+    /// The set that octets spell by DER, all of the octets, whose members stand in any order.
+    /// Members past the `N`th aren't looked at.
     ///
     /// # Errors
     /// `Overflow` for 2^32 octets or more, else the first fault from the left, among them
-    /// `Overlength` for more than `N` members, `TrailingData` where octets are left behind the set, or
-    /// `OutOfMemory`.
+    /// `Overlength` for more than `N` members, `TrailingData` where octets are left behind the set,
+    /// or `OutOfMemory`.
     pub fn from_der<'a>(alloc: Global, bytes: &'a [u8]) -> Result<SetOf<T, N>, Error>
     where
         T: Decode<'a, SliceReader<'a>> + AsRead,
         // What is read is spelled so.
-        ensures spelled { is_element T.shape ≡ true → IfOk result (λ set. SpellsLoosely T.shape (plain_list T.plain set) bytes.now) }
+        ensures spelled { is_element T.shape ≡ true
+            → IfOk result (λ set. SpellsLoosely T.shape (plain_list T.plain set) bytes.now) }
         // What is spelled so is read, if there is room, unless memory runs out.
-        ensures only { (v : List (Value T.shape)) → is_element T.shape ≡ true → are_enough (tagged Set (nested (few N T.shape))) 64 ≡ true
-            → SpellsLoosely T.shape v bytes.now → length v ≤ N → Gives (plain_list T.plain) result (Ok v) }
+        ensures only { (v : List (Value T.shape)) → is_element T.shape ≡ true
+            → are_enough (tagged Set (nested (few N T.shape))) 64 ≡ true
+            → SpellsLoosely T.shape v bytes.now → length v ≤ N
+            → Gives (plain_list T.plain) result (Ok v) }
         // Which fault it is.
-        ensures refused { is_element T.shape ≡ true → IfErr result (λ e. Fails e.kind (whole_at (tagged Set (nested (few N T.shape))) bytes.now)) }
+        ensures refused { is_element T.shape ≡ true
+            → IfErr result
+            (λ e. Fails e.kind (whole_at (tagged Set (nested (few N T.shape))) bytes.now)) }
     {
         let read = from_der::<AnyFew<T, N>>(alloc, bytes)?;
         let AnyFew { members } = read;
@@ -365,7 +386,8 @@ impl<T: Shaped + Hash, const N: usize> Hash for SetOf<T, N> {
 impl<T: DerOrd + Member + Drop, const N: usize> TryFrom<[T; N]> for SetOf<T, N> {
     type Error = Error;
 
-    ghost try_from_gives = { λ members r. MatchResult r (λ set. IsPermutation members set × Ascends T.shape T.written set) (TooLong T.shape T.written members) };
+    ghost try_from_gives = { λ members r. MatchResult r (λ set. IsPermutation members set
+        × Ascends T.shape T.written set) (TooLong T.shape T.written members) };
 
     fn try_from(members: [T; N]) -> Result<SetOf<T, N>, Error> {
         let mut members = ArrayVec::from(members);

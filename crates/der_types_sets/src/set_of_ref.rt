@@ -1,8 +1,10 @@
 //! SET OF, borrowed.
 
-ghost use Rattle.std.specs.Prelude.{⊤, ◌≡◌, ◌⊎◌, ◌==◌, List, length, true, false, slice_get, IfOk, IfErr, Ok, MatchResult};
+ghost use Rattle.std.specs.Prelude.{⊤, ◌≡◌, ◌⊎◌, ◌==◌, List, length, true, false, slice_get, IfOk};
+ghost use Rattle.std.specs.Prelude.{IfErr, Ok, MatchResult};
 ghost use Rattle.der_core_head.specs.declared.tag.Tag.TheVariants.{Set};
-ghost use Rattle.der_core_head.specs.Shapes.{Value, tagged, nested, many, ascending, IsContent, IsValid};
+ghost use Rattle.der_core_head.specs.Shapes.{Value, tagged, nested, many, ascending, IsContent};
+ghost use Rattle.der_core_head.specs.Shapes.{IsValid};
 ghost use Rattle.der_core_head.specs.Spelling.{is_apart, is_body_apart, is_element, are_enough};
 ghost use Rattle.der_core_head.specs.Grammar.{plain_list, plain_option, read_body};
 ghost use Rattle.der_core_head.specs.Reading.{Gives, GivesNow, Reads, read_body_at};
@@ -103,7 +105,8 @@ pub(crate) fn further_on(error: Error, place: Length) -> Error
 }
 
 impl<'a, T: Decode<'a, SliceReader<'a>> + Member> SetOfRef<'a, T> {
-    /// The set of the members that stand up to the end in force, which ascend, equal ones among them.
+    /// The set of the members that stand up to the end in force, which ascend, equal ones among
+    /// them.
     ///
     /// The octets are read by DER, also where the reader reads by BER, since they are kept as they
     /// stand; the levels that the reader has left can be opened in them.
@@ -115,12 +118,18 @@ impl<'a, T: Decode<'a, SliceReader<'a>> + Member> SetOfRef<'a, T> {
         alloc: Global,
         reader: &mut R,
     ) -> Result<SetOfRef<'a, T>, Error>
-        ensures reads { Reads (members_lent T.shape T.plain) (R.state reader.old) (R.state reader.new) result (read_body_at (R.state reader.old) (ascending T.shape)) }
+        ensures reads { Reads (members_lent T.shape T.plain) (R.state reader.old) (R.state reader.new) result
+            (read_body_at (R.state reader.old) (ascending T.shape)) }
         // What is read is spelled so.
-        ensures spelled { IfOk result (λ set. JoinsAscending T.shape (members_lent T.shape T.plain set) (R.state reader.old).rest) }
+        ensures spelled { IfOk result
+            (λ set. JoinsAscending T.shape (members_lent T.shape T.plain set)
+            (R.state reader.old).rest) }
         // What is spelled so is read, unless memory runs out.
-        ensures only { (v : List (Value T.shape)) → is_element T.shape ≡ true → is_apart T.shape ≡ true → are_enough T.shape (R.state reader.old).room ≡ true
-            → (R.state reader.old).failed ≡ false → JoinsAscending T.shape v (R.state reader.old).rest → Gives (members_lent T.shape T.plain) result (Ok v) }
+        ensures only { (v : List (Value T.shape)) → is_element T.shape ≡ true → is_apart T.shape
+            ≡ true → are_enough T.shape (R.state reader.old).room ≡ true
+            → (R.state reader.old).failed ≡ false
+            → JoinsAscending T.shape v (R.state reader.old).rest
+            → Gives (members_lent T.shape T.plain) result (Ok v) }
     {
         if reader.is_failed() {
             return Err(Error::from(ErrorKind::Failed));
@@ -154,7 +163,8 @@ impl<'a, T: Decode<'a, SliceReader<'a>> + Member + Clone> SetOfRef<'a, T> {
     /// `OutOfMemory`.
     pub fn get(&self, alloc: Global, index: usize) -> Result<Option<T>, Error>
         requires { (x y : T) → T.is_clone x y → T.plain y ≡ T.plain x }
-        ensures ok { IfOk result (λ member. plain_option T.plain member ≡ slice_get (members_lent T.shape T.plain self.now) index) }
+        ensures ok { IfOk result (λ member. plain_option T.plain member
+            ≡ slice_get (members_lent T.shape T.plain self.now) index) }
         ensures refused { IfErr result IsWantOfMemory }
     {
         if self.count == 0 {
@@ -231,7 +241,11 @@ impl<'a, 'b, T: Shaped> From<&'b SetOfRef<'a, T>> for SetOfRef<'a, T> {
 impl<'a, T: DerOrd + Member> TryFrom<&'a [T]> for SetOfRef<'a, T> {
     type Error = Error;
 
-    ghost try_from_gives = { λ values r. MatchResult r (λ set. (members_lent T.shape T.plain set ≡ plain_list T.plain values.now) × (members_lent T.shape T.written set ≡ plain_list T.written values.now) × Ascends T.shape T.written values.now) (λ e. IsOutOfOrder T.shape T.written values.now e ⊎ TooLong T.shape T.written values.now e) };
+    ghost try_from_gives = { λ values r. MatchResult r
+        (λ set. (members_lent T.shape T.plain set ≡ plain_list T.plain values.now)
+        × (members_lent T.shape T.written set ≡ plain_list T.written values.now)
+        × Ascends T.shape T.written values.now) (λ e. IsOutOfOrder T.shape T.written values.now e
+        ⊎ TooLong T.shape T.written values.now e) };
 
     fn try_from(values: &'a [T]) -> Result<SetOfRef<'a, T>, Error> {
         check_ascending(values)?;
@@ -302,7 +316,8 @@ impl<'a, T: Encode> SetOfRef<'a, T> {
     /// # Errors
     /// `Overflow` from 2^32 on.
     fn content_len(&self) -> Result<Length, Error>
-        ensures { GivesNow (λ l. l.value) result (size_body (many T.shape) (members_lent T.shape T.written self.now)) }
+        ensures { GivesNow (λ l. l.value) result
+            (size_body (many T.shape) (members_lent T.shape T.written self.now)) }
     {
         if self.octets.is_empty() {
             return members_len(self.values);
@@ -345,9 +360,16 @@ impl<'a, T: DerOrd + Encode> SetOfRef<'a, T> {
     /// `SetDuplicate` where a strict set in a value doesn't rise, or `OutOfMemory`.
     pub fn value_cmp(&self, alloc: Global, other: &SetOfRef<'a, T>) -> Result<Ordering, Error>
         // It is answered wherever both sets have a content, unless memory runs out.
-        ensures order { is_body_apart (many T.shape) ≡ true → IsContent (nested (many T.shape)) (members_lent T.shape T.written self.now) → IsContent (nested (many T.shape)) (members_lent T.shape T.written other.now)
-            → Gives (λ o. o) result (Ok (contents_cmp (nested (many T.shape)) (members_lent T.shape T.written self.now) (members_lent T.shape T.written other.now))) }
-        ensures refused { IfErr result (λ e. IsUncompared T.shape (members_lent T.shape T.written self.now) (members_lent T.shape T.written other.now) e ⊎ Overflows e (size_body (many T.shape) (members_lent T.shape T.written self.now)) (size_body (many T.shape) (members_lent T.shape T.written other.now))) }
+        ensures order { is_body_apart (many T.shape) ≡ true
+            → IsContent (nested (many T.shape)) (members_lent T.shape T.written self.now)
+            → IsContent (nested (many T.shape)) (members_lent T.shape T.written other.now)
+            → Gives (λ o. o) result
+            (Ok (contents_cmp (nested (many T.shape)) (members_lent T.shape T.written self.now)
+            (members_lent T.shape T.written other.now))) }
+        ensures refused { IfErr result (λ e. IsUncompared T.shape (members_lent T.shape T.written self.now)
+            (members_lent T.shape T.written other.now) e
+            ⊎ Overflows e (size_body (many T.shape) (members_lent T.shape T.written self.now))
+            (size_body (many T.shape) (members_lent T.shape T.written other.now))) }
     {
         if self.octets.is_empty() {
             if other.octets.is_empty() {
@@ -362,17 +384,28 @@ impl<'a, T: DerOrd + Encode> SetOfRef<'a, T> {
         Ok(self.octets.cmp(other.octets))
     }
 
-    /// The order of the encodings of two sets, as lists of octets: that of the lengths, then that of
-    /// the contents (X.690 11.6). Memory is taken where one lends values and the other octets.
+    /// The order of the encodings of two sets, as lists of octets: that of the lengths, then that
+    /// of the contents (X.690 11.6). Memory is taken where one lends values and the other octets.
     ///
     /// # Errors
     /// `Overflow` where the encoding of one of the two has 2^32 octets or more, `SetOrdering` or
     /// `SetDuplicate` where a strict set in a value doesn't rise, or `OutOfMemory`.
     pub fn der_cmp(&self, alloc: Global, other: &SetOfRef<'a, T>) -> Result<Ordering, Error>
         // It is answered wherever both sets have an encoding, unless memory runs out.
-        ensures order { is_body_apart (many T.shape) ≡ true → IsValid (tagged Set (nested (many T.shape))) (members_lent T.shape T.written self.now) → IsValid (tagged Set (nested (many T.shape))) (members_lent T.shape T.written other.now)
-            → Gives (λ o. o) result (Ok (encodings_cmp (tagged Set (nested (many T.shape))) (members_lent T.shape T.written self.now) (members_lent T.shape T.written other.now))) }
-        ensures refused { IfErr result (λ e. IsUncompared T.shape (members_lent T.shape T.written self.now) (members_lent T.shape T.written other.now) e ⊎ Overflows e (size (tagged Set (nested (many T.shape))) (members_lent T.shape T.written self.now)) (size (tagged Set (nested (many T.shape))) (members_lent T.shape T.written other.now))) }
+        ensures order { is_body_apart (many T.shape) ≡ true
+            → IsValid (tagged Set (nested (many T.shape))) (members_lent T.shape T.written self.now)
+            → IsValid (tagged Set (nested (many T.shape)))
+            (members_lent T.shape T.written other.now)
+            → Gives (λ o. o) result
+            (Ok
+            (encodings_cmp (tagged Set (nested (many T.shape)))
+            (members_lent T.shape T.written self.now)
+            (members_lent T.shape T.written other.now))) }
+        ensures refused { IfErr result (λ e. IsUncompared T.shape (members_lent T.shape T.written self.now)
+            (members_lent T.shape T.written other.now) e
+            ⊎ Overflows e
+            (size (tagged Set (nested (many T.shape))) (members_lent T.shape T.written self.now))
+            (size (tagged Set (nested (many T.shape))) (members_lent T.shape T.written other.now))) }
     {
         let len = self.content_len()?;
         let other_len = other.content_len()?;

@@ -73,7 +73,8 @@ fn first_member<'a, T: Decode<'a, SliceReader<'a>> + Member>(
 ) -> Result<(T, &'a [u8]), Error>
     requires some { 0 < count }
     requires spelled { IsSpelled T.shape count octets.now }
-    ensures first { IfOk result (λ x. values_at (read T.shape levels_max) count octets.now ≡ T.plain x.0 ∷ values_at (read T.shape levels_max) (count - 1) x.1.now) }
+    ensures first { IfOk result (λ x. values_at (read T.shape levels_max) count octets.now ≡ T.plain x.0
+        ∷ values_at (read T.shape levels_max) (count - 1) x.1.now) }
     ensures left { IfOk result (λ x. IsSpelled T.shape (count - 1) x.1.now) }
     ensures refused { IfErr result IsWantOfMemory }
 {

@@ -1,18 +1,25 @@
 //! SET OF with any number of members.
 
-ghost use Rattle.std.specs.Prelude.{◌≡◌, ◌⊎◌, ◌≤◌, MatchResult, List, take, true, false, Ok, Err, ◌==◌, [], ◌∷◌, ◌++◌, length, slice_get, IfOk, OnOk, OnErr, IfErr, IsErrAnd};
+ghost use Rattle.std.specs.Prelude.{◌≡◌, ◌⊎◌, ◌≤◌, MatchResult, List, take, true, false, Ok, Err};
+ghost use Rattle.std.specs.Prelude.{◌==◌, [], ◌∷◌, ◌++◌, length, slice_get, IfOk, OnOk, OnErr};
+ghost use Rattle.std.specs.Prelude.{IfErr, IsErrAnd};
 ghost use Rattle.std.specs.Option.{option_copied};
 ghost use Rattle.std.specs.List.Sorted.{IsPermutation};
 ghost use Rattle.der_core_head.specs.declared.tag.Tag.TheVariants.{Set};
-ghost use Rattle.der_core_head.specs.Shapes.{Value, tagged, nested, many, rising, octets_of, AllRising};
+ghost use Rattle.der_core_head.specs.Shapes.{Value, tagged, nested, many, rising, octets_of};
+ghost use Rattle.der_core_head.specs.Shapes.{AllRising};
 ghost use Rattle.der_core_head.specs.Spelling.{is_element, are_enough, are_content_enough};
 ghost use Rattle.der_core_head.specs.Grammar.{plain_list, value_at, whole_at};
 ghost use Rattle.der_core_head.specs.Reading.{Reads, Gives, Fails, IsDer, read_content_at};
-ghost use Rattle.std.specs.Cmp.Lexicographic.{pointwise, slice_cmp, slice_partial_cmp, lists_per, lists_equiv, lists_po, lists_total, lists_agrees, lists_ties};
+ghost use Rattle.std.specs.Cmp.Lexicographic.{pointwise, slice_cmp, slice_partial_cmp, lists_per};
+ghost use Rattle.std.specs.Cmp.Lexicographic.{lists_equiv, lists_po, lists_total, lists_agrees};
+ghost use Rattle.std.specs.Cmp.Lexicographic.{lists_ties};
 ghost use Rattle.std.specs.Hash as fed;
 ghost use Rattle.std.specs.Hash.{items_Alike};
 ghost use Rattle.der_types_sets.specs.Lent.{members_lent};
-ghost use Rattle.der_types_sets.specs.Sets.{Ascends, Loose, ReadsArranged, SpellsLoosely, IsRefusal, TooLong, IsBelowLast, IsPutAtPlace, KeepsEquals, AllValid, Gains, StopsAt, StopsIn};
+ghost use Rattle.der_types_sets.specs.Sets.{Ascends, Loose, ReadsArranged, SpellsLoosely};
+ghost use Rattle.der_types_sets.specs.Sets.{IsRefusal, TooLong, IsBelowLast, IsPutAtPlace};
+ghost use Rattle.der_types_sets.specs.Sets.{KeepsEquals, AllValid, Gains, StopsAt, StopsIn};
 ghost use Rattle.std.specs.Iterator.{IsFinite, ExtendsWithItems, Drains};
 
 use crate::any_order::AnyOrder;
@@ -170,13 +177,15 @@ impl<T: DerOrd + Member + Drop> SetOfVec<T> {
     /// Appends an item that isn't below the last member.
     ///
     /// # Errors
-    /// `SetOrdering` for an item below the last member, `Overflow` where an encoding has 2^32 octets
-    /// or more, or `OutOfMemory`. The set stays then.
+    /// `SetOrdering` for an item below the last member, `Overflow` where an encoding has 2^32
+    /// octets or more, or `OutOfMemory`. The set stays then.
     pub fn insert_ordered(&mut self, item: T) -> Result<(), Error>
         ensures ok { OnOk result (self.new ≡ self.old ++ item ∷ []) }
         ensures ascend { Ascends T.shape T.written self.new }
         ensures err { OnErr result (self.new ≡ self.old) }
-        ensures refused { IfErr result (λ e. (e.kind ≡ ErrorKind.SetOrdering × IsBelowLast T.shape T.written self.old item) ⊎ IsRefusal T.shape T.written (item ∷ self.old) e) }
+        ensures refused { IfErr result
+            (λ e. (e.kind ≡ ErrorKind.SetOrdering × IsBelowLast T.shape T.written self.old item)
+            ⊎ IsRefusal T.shape T.written (item ∷ self.old) e) }
     {
         check_last(self.members.as_slice(), &item)?;
         self.members.push(item)?;
@@ -191,7 +200,8 @@ impl<T: DerOrd + Member + Drop> SetOfVec<T> {
     /// `Overflow` where an encoding has 2^32 octets or more; never `OutOfMemory`.
     pub fn from_vec(members: Vec<T>) -> Result<SetOfVec<T>, Error>
         ensures ok { IfOk result (IsPermutation members.items) }
-        ensures equals { IfOk result (λ set. AllValid T.shape T.written members.items → KeepsEquals T.shape T.written members.items set) }
+        ensures equals { IfOk result (λ set. AllValid T.shape T.written members.items
+            → KeepsEquals T.shape T.written members.items set) }
         ensures ascend { IfOk result (Ascends T.shape T.written) }
         ensures refused { IfErr result (TooLong T.shape T.written members.items) }
     {
@@ -208,9 +218,12 @@ impl<T: DerOrd + Member + Drop> SetOfVec<T> {
     /// `Overflow` where the encoding of an item or of a member has 2^32 octets or more, or
     /// `OutOfMemory`. The items before the refused one have been placed then, and no other.
     pub fn extend<I: IntoIterator<Item = T>>(&mut self, items: I) -> Result<(), Error>
-        requires { (it : I.IntoIter) → I.into_iter_gives items it → I.IntoIter.can_next it × IsFinite (I.IntoIter.remaining it) }
-        ensures ran { ExtendsWithItems I.into_iter_gives I.IntoIter.next_gives (Gains T.shape T.written) items self.old self.new result }
-        ensures refused { IfErr result (StopsAt T.shape T.written I.into_iter_gives I.IntoIter.next_gives items self.old self.new) }
+        requires { (it : I.IntoIter) → I.into_iter_gives items it → I.IntoIter.can_next it
+            × IsFinite (I.IntoIter.remaining it) }
+        ensures ran { ExtendsWithItems I.into_iter_gives I.IntoIter.next_gives (Gains T.shape T.written)
+            items self.old self.new result }
+        ensures refused { IfErr result (StopsAt T.shape T.written I.into_iter_gives I.IntoIter.next_gives items
+            self.old self.new) }
     {
         let alloc = *self.members.allocator();
         let mut came = Vec::new(alloc);
@@ -248,9 +261,12 @@ impl<T: DerOrd + Member + Drop> SetOfVec<T> {
         alloc: Global,
         items: I,
     ) -> Result<SetOfVec<T>, Error>
-        requires { (it : I.IntoIter) → I.into_iter_gives items it → I.IntoIter.can_next it × IsFinite (I.IntoIter.remaining it) }
-        ensures ran { IfOk result (λ set. (it : I.IntoIter) × (xs : List T) × I.into_iter_gives items it × Drains I.IntoIter.next_gives it xs × Gains T.shape T.written [] xs set) }
-        ensures refused { IfErr result (λ e. (set : List T) × StopsAt T.shape T.written I.into_iter_gives I.IntoIter.next_gives items [] set e) }
+        requires { (it : I.IntoIter) → I.into_iter_gives items it → I.IntoIter.can_next it
+            × IsFinite (I.IntoIter.remaining it) }
+        ensures ran { IfOk result (λ set. (it : I.IntoIter) × (xs : List T) × I.into_iter_gives items it
+            × Drains I.IntoIter.next_gives it xs × Gains T.shape T.written [] xs set) }
+        ensures refused { IfErr result (λ e. (set : List T) × StopsAt T.shape T.written I.into_iter_gives
+            I.IntoIter.next_gives items [] set e) }
     {
         let mut set = SetOfVec::new(alloc);
         set.extend(items)?;
@@ -272,13 +288,22 @@ impl<T: DerOrd + Member + Drop> SetOfVec<T> {
     where
         T: Decode<'a, R> + AsRead,
         // The members that were read, in the order in which they stand there, are those of the set.
-        ensures reads { (read : List T) × ReadsArranged T.shape T.plain T.written (R.state reader.old) (R.state reader.new) result (value_at (read_content_at (R.state reader.old) (nested (many T.shape)) header.tag) header.length.value) read }
+        ensures reads { (read : List T) × ReadsArranged T.shape T.plain T.written (R.state reader.old)
+            (R.state reader.new) result
+            (value_at (read_content_at (R.state reader.old) (nested (many T.shape)) header.tag)
+            header.length.value) read }
         // What is read is spelled so, in any order.
-        ensures spelled { is_element T.shape ≡ true → IsDer (R.state reader.old) → IfOk result (λ set. Loose T.shape (plain_list T.plain set) (take header.length.value (R.state reader.old).rest)) }
+        ensures spelled { is_element T.shape ≡ true → IsDer (R.state reader.old)
+            → IfOk result
+            (λ set. Loose T.shape (plain_list T.plain set)
+            (take header.length.value (R.state reader.old).rest)) }
         // What is spelled so is read, unless memory runs out.
-        ensures only { (v : List (Value T.shape)) → is_element T.shape ≡ true → are_content_enough (nested (many T.shape)) (R.state reader.old).room ≡ true
-            → IsDer (R.state reader.old) → (R.state reader.old).failed ≡ false → header.length.value ≤ length (R.state reader.old).rest
-            → Loose T.shape v (take header.length.value (R.state reader.old).rest) → Gives (plain_list T.plain) result (Ok v) }
+        ensures only { (v : List (Value T.shape)) → is_element T.shape ≡ true
+            → are_content_enough (nested (many T.shape)) (R.state reader.old).room ≡ true
+            → IsDer (R.state reader.old) → (R.state reader.old).failed ≡ false
+            → header.length.value ≤ length (R.state reader.old).rest
+            → Loose T.shape v (take header.length.value (R.state reader.old).rest)
+            → Gives (plain_list T.plain) result (Ok v) }
     {
         // What is read from octets by DER has an encoding.
         let before = reader.remaining();
@@ -302,12 +327,16 @@ impl<T: DerOrd + Member + Drop> SetOfVec<T> {
     where
         T: Decode<'a, SliceReader<'a>> + AsRead,
         // What is read is spelled so.
-        ensures spelled { is_element T.shape ≡ true → IfOk result (λ set. SpellsLoosely T.shape (plain_list T.plain set) bytes.now) }
+        ensures spelled { is_element T.shape ≡ true
+            → IfOk result (λ set. SpellsLoosely T.shape (plain_list T.plain set) bytes.now) }
         // What is spelled so is read, unless memory runs out.
-        ensures only { (v : List (Value T.shape)) → is_element T.shape ≡ true → are_enough (tagged Set (nested (many T.shape))) 64 ≡ true
+        ensures only { (v : List (Value T.shape)) → is_element T.shape ≡ true
+            → are_enough (tagged Set (nested (many T.shape))) 64 ≡ true
             → SpellsLoosely T.shape v bytes.now → Gives (plain_list T.plain) result (Ok v) }
         // Which fault it is.
-        ensures refused { is_element T.shape ≡ true → IfErr result (λ e. Fails e.kind (whole_at (tagged Set (nested (many T.shape))) bytes.now)) }
+        ensures refused { is_element T.shape ≡ true
+            → IfErr result
+            (λ e. Fails e.kind (whole_at (tagged Set (nested (many T.shape))) bytes.now)) }
     {
         let read = from_der::<AnyOrder<T>>(alloc, bytes)?;
         let AnyOrder { values } = read;
@@ -315,8 +344,8 @@ impl<T: DerOrd + Member + Drop> SetOfVec<T> {
         Ok(set)
     }
 
-    /// The members of a content in which each encoding is above the one before (X.690 11.6), which is a rule
-    /// of DER: they are read by DER, whatever the rules of the reader.
+    /// The members of a content in which each encoding is above the one before (X.690 11.6), which
+    /// is a rule of DER: they are read by DER, whatever the rules of the reader.
     ///
     /// # Errors
     /// The first fault of the members, `SetDuplicate` or `SetOrdering` where one stands wrong, or
@@ -328,7 +357,9 @@ impl<T: DerOrd + Member + Drop> SetOfVec<T> {
     ) -> Result<SetOfVec<T>, Error>
     where
         T: Decode<'a, R> + AsRead,
-        ensures reads { Reads (plain_list T.plain) (R.state reader.old) (R.state reader.new) result (value_at (read_content_at (R.state reader.old) (nested (rising T.shape)) header.tag) header.length.value) }
+        ensures reads { Reads (plain_list T.plain) (R.state reader.old) (R.state reader.new) result
+            (value_at (read_content_at (R.state reader.old) (nested (rising T.shape)) header.tag)
+            header.length.value) }
         ensures rising { IfOk result (λ set. AllRising (octets_of T.shape) (plain_list T.plain set)) }
     {
         let rising = StrictSet::<T>::decode_value(alloc, reader, header)?;
@@ -438,7 +469,8 @@ impl<T: Shaped + Hash> Hash for SetOfVec<T> {
 impl<T: DerOrd + Member + Drop> TryFrom<Vec<T>> for SetOfVec<T> {
     type Error = Error;
 
-    ghost try_from_gives = { λ members r. MatchResult r (λ set. IsPermutation members.items set × Ascends T.shape T.written set) (TooLong T.shape T.written members.items) };
+    ghost try_from_gives = { λ members r. MatchResult r (λ set. IsPermutation members.items set
+        × Ascends T.shape T.written set) (TooLong T.shape T.written members.items) };
 
     fn try_from(members: Vec<T>) -> Result<SetOfVec<T>, Error> {
         SetOfVec::from_vec(members)

@@ -1,14 +1,16 @@
 //! Sorting of members by the places at which they stand, so that none moves before their order is
 //! known.
 
-ghost use Rattle.std.specs.Prelude.{◌≡◌, ℕ, ◌≤◌, ◌<◌, ◌+◌, List, [], ◌++◌, IsTrue, not, length, map, take, Some, IfSome, IfOk, IfErr, OnOk, OnErr, ⊤};
+ghost use Rattle.std.specs.Prelude.{◌≡◌, ℕ, ◌≤◌, ◌<◌, ◌+◌, List, [], ◌++◌, IsTrue, not, length};
+ghost use Rattle.std.specs.Prelude.{map, take, Some, IfSome, IfOk, IfErr, OnOk, OnErr, ⊤};
 ghost use Rattle.std.specs.List.{range_with_len};
 ghost use Rattle.std.specs.List.Sorted.{IsPermutation};
 ghost use Rattle.std.specs.Vec.{vec_len, vec_capacity};
 ghost use Rattle.der_core_head.specs.Shapes.{IsValid};
 ghost use Rattle.der_core.specs.Orders.{octets_cmp, encodings_cmp};
 ghost use Rattle.der_types_sets.specs.Sets.{AllValid, Ascends, IsArranged, StopsBehind};
-ghost use Rattle.der_types_sets.specs.Rearranged.{member_at, members_at, AscendsAt, encoding_at, KeepsPlaces};
+ghost use Rattle.der_types_sets.specs.Rearranged.{member_at, members_at, AscendsAt, encoding_at};
+ghost use Rattle.der_types_sets.specs.Rearranged.{KeepsPlaces};
 
 use crate::places::{arrange_from, check_ascending};
 use der_core::{DerOrd, Error, Member};
@@ -18,7 +20,8 @@ use std::mem;
 
 /// The order of the encodings of two members, where they have one.
 fn order_of<T: DerOrd + Member>(member: &T, other: &T) -> Ordering
-    ensures { IsValid T.shape (T.written member.now) → IsValid T.shape (T.written other.now) → result ≡ encodings_cmp T.shape (T.written member.now) (T.written other.now) }
+    ensures { IsValid T.shape (T.written member.now) → IsValid T.shape (T.written other.now)
+        → result ≡ encodings_cmp T.shape (T.written member.now) (T.written other.now) }
 {
     match member.der_cmp(other) {
         Ok(order) => order,
@@ -39,7 +42,9 @@ fn at<'m, T>(members: &'m [T], place: usize, other: &'m T) -> &'m T
 /// The order of the encodings of the members at two places, where they have one. For a place at
 /// which none stands it is that of the first member.
 fn order_at<T: DerOrd + Member>(members: &[T], place: usize, other: usize) -> Ordering
-    ensures { AllValid T.shape T.written members.now → result ≡ octets_cmp (encoding_at T.shape T.written members.now place) (encoding_at T.shape T.written members.now other) }
+    ensures { AllValid T.shape T.written members.now
+        → result ≡ octets_cmp (encoding_at T.shape T.written members.now place)
+        (encoding_at T.shape T.written members.now other) }
 {
     let [first, ..] = members else {
         return Ordering::Equal;
@@ -74,9 +79,12 @@ fn places(alloc: Global, count: usize) -> Result<Vec<usize>, AllocError>
 /// The places of members in ascending order of their encodings, those of equal ones as they stand.
 /// There are none where there is no memory for them, or where members can't be compared.
 fn ascending_places<T: DerOrd + Member>(alloc: Global, members: &[T]) -> Option<Vec<usize>>
-    ensures same { IfSome result (λ places. IsPermutation (range_with_len 0 (length members.now)) places.items) }
-    ensures ascend { IfSome result (λ places. AscendsAt T.shape T.written members.now places.items (length places.items)) }
-    ensures equals { IfSome result (λ places. AllValid T.shape T.written members.now → KeepsPlaces T.shape T.written members.now places.items) }
+    ensures same { IfSome result
+        (λ places. IsPermutation (range_with_len 0 (length members.now)) places.items) }
+    ensures ascend { IfSome result
+        (λ places. AscendsAt T.shape T.written members.now places.items (length places.items)) }
+    ensures equals { IfSome result (λ places. AllValid T.shape T.written members.now
+        → KeepsPlaces T.shape T.written members.now places.items) }
 {
     let mut places = places(alloc, members.len()).ok()?;
     places
@@ -104,7 +112,8 @@ fn take_at<T: Drop>(apart: &mut [Option<T>], places: &[usize], taken: &mut Vec<T
     requires places { IsPermutation (range_with_len 0 (length apart.old)) places.now }
     requires none { taken.old.items ≡ [] }
     requires room { length places.now ≤ vec_capacity taken.old }
-    ensures { (xs : List T) (d : T) → apart.old ≡ map (λ x. Some x) xs → taken.new.items ≡ members_at xs d places.now }
+    ensures { (xs : List T) (d : T) → apart.old ≡ map (λ x. Some x) xs → taken.new.items
+        ≡ members_at xs d places.now }
 {
     for count in 0..places.len() {
         // No place comes twice, so a member still stands there.
@@ -167,7 +176,8 @@ pub(crate) fn arrange_behind_first<T: DerOrd + Member + Drop>(
     requires ascend { Ascends T.shape T.written (take first members.old.items) }
     ensures ascend { Ascends T.shape T.written members.new.items }
     ensures arranged { OnOk result (IsArranged T.shape T.written members.old.items members.new.items) }
-    ensures refused { IfErr result (λ e. (count : ℕ) × StopsBehind T.shape T.written first members.old.items members.new.items count e) }
+    ensures refused { IfErr result (λ e. (count : ℕ) × StopsBehind T.shape T.written first members.old.items
+        members.new.items count e) }
 {
     let Err(_) = check_ascending(members.as_slice()) else {
         return Ok(());

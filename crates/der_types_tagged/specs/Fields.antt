@@ -1,5 +1,5 @@
--- Fields behind a tag of a class and a number, in front of the value's own tag or in its place (X.690 8.14).
--- A class is told by its bits in the first octet of a tag (8.1.2.2).
+-- Fields behind a tag of a class and a number, in front of the value's own tag or in its place
+-- (X.690 8.14). A class is told by its bits in the first octet of a tag (8.1.2.2).
 use Rattle.std.specs.Prelude.{ℕ, ◌/◌, true, Ok}
 use Rattle.der_core_head.specs.declared.encoding_rules.EncodingRules.{EncodingRules}
 use Rattle.der_core_head.specs.declared.tag.Tag.{Tag}
@@ -26,4 +26,6 @@ implicit_field class n own c = tagged (class_tag (class / 64) (is_constructed ow
 
 -- a value's encoding behind a tag of a class with the number that stands there, and that number
 unfoldable pub numbered_at : EncodingRules → ℕ → (s : Shape) → ℕ → Readings (ℕ × Value s)
-numbered_at rules class s room w = head_by rules w >>= λ h. read_by rules (explicit_field class (number_of h.0.tag) s) room w >>= λ x. Ok ((number_of h.0.tag, x.0), x.1)
+numbered_at rules class s room w =
+    head_by rules w >>= λ h. read_by rules (explicit_field class (number_of h.0.tag) s) room w
+    >>= λ x. Ok ((number_of h.0.tag, x.0), x.1)

@@ -4,7 +4,8 @@ use crate::class_field::ClassField;
 use crate::class_field_ref::ClassFieldRef;
 use der_core::CLASS_APPLICATION;
 
-/// A value behind a tag of the application class, `[APPLICATION n]` (X.680 31, X.690 8.1.2.2, 8.14).
+/// A value behind a tag of the application class, `[APPLICATION n]` (X.680 31, X.690 8.1.2.2,
+/// 8.14).
 pub type Application<T> = ClassField<T, CLASS_APPLICATION>;
 
 /// A lent value behind a tag of the application class.

@@ -61,7 +61,8 @@ pub fn encode_behind<W: Writer, T: EncodeValue>(
     tag: Tag,
     value: &T,
 ) -> Result<(), Error>
-    ensures exact { Writes W.takes_memory (W.out writer.old) (W.out writer.new) result (write (tagged tag T.content) (T.value_written value.now)) }
+    ensures exact { Writes W.takes_memory (W.out writer.old) (W.out writer.new) result
+        (write (tagged tag T.content) (T.value_written value.now)) }
     ensures kept { Continues (W.out writer.old) (W.out writer.new) }
 {
     let len = value.value_len()?;
@@ -80,7 +81,9 @@ fn written_behind<T: EncodeValue>(alloc: Global, tag: Tag, value: &T) -> Result<
 
 /// A header and a content.
 pub fn der_behind<T: EncodeValue>(alloc: Global, tag: Tag, value: &T) -> Result<Vec<u8>, Error>
-    ensures spelled { IsValid (tagged tag T.content) (T.value_written value.now) → Gives (λ v. v.items) result (Ok (octets_of (tagged tag T.content) (T.value_written value.now))) }
+    ensures spelled { IsValid (tagged tag T.content) (T.value_written value.now)
+        → Gives (λ v. v.items) result
+        (Ok (octets_of (tagged tag T.content) (T.value_written value.now))) }
     ensures exact { Gives (λ v. record { written = v.items; room = None; failed = false }) result (write (tagged tag T.content) (T.value_written value.now) (record { written = []; room = None; failed = false })) }
 {
     written_behind(alloc, tag, value)
@@ -93,9 +96,14 @@ pub fn cmp_behind<T: EncodeValue + ValueOrd>(
     other_tag: Tag,
     other: &T,
 ) -> Result<Ordering, Error>
-    ensures order { is_content_apart T.content ≡ true → IsValid (tagged tag T.content) (T.value_written value.now) → IsValid (tagged other_tag T.content) (T.value_written other.now)
-        → result ≡ Ok (octets_cmp (octets_of (tagged tag T.content) (T.value_written value.now)) (octets_of (tagged other_tag T.content) (T.value_written other.now))) }
-    ensures refused { IfErr result (λ e. Overflows e (size (tagged tag T.content) (T.value_written value.now)) (size (tagged other_tag T.content) (T.value_written other.now))) }
+    ensures order { is_content_apart T.content ≡ true
+        → IsValid (tagged tag T.content) (T.value_written value.now)
+        → IsValid (tagged other_tag T.content) (T.value_written other.now)
+        → result
+        ≡ Ok (octets_cmp (octets_of (tagged tag T.content) (T.value_written value.now))
+        (octets_of (tagged other_tag T.content) (T.value_written other.now))) }
+    ensures refused { IfErr result (λ e. Overflows e (size (tagged tag T.content) (T.value_written value.now))
+        (size (tagged other_tag T.content) (T.value_written other.now))) }
 {
     let len = value.value_len()?;
     let other_len = other.value_len()?;

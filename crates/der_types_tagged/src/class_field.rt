@@ -1,15 +1,18 @@
 //! Values behind tags of one class.
 
-ghost use Rattle.std.specs.Prelude.{◌≡◌, ◌↔◌, ◌/◌, [], Ok, None, false, true, IsTrue, IfOk, IfSome, IfErr};
+ghost use Rattle.std.specs.Prelude.{◌≡◌, ◌↔◌, ◌/◌, [], Ok, None, false, true, IsTrue, IfOk, IfSome};
+ghost use Rattle.std.specs.Prelude.{IfErr};
 ghost use Rattle.der_core_head.specs.declared.tag_mode.TagMode.TheVariants.{Explicit, Implicit};
 ghost use Rattle.der_core_head.specs.Classes.{tag_class};
-ghost use Rattle.der_core_head.specs.Shapes.{nested, only, optional, tagged, IsContent, IsValid, octets_of};
+ghost use Rattle.der_core_head.specs.Shapes.{nested, only, optional, tagged, IsContent, IsValid};
+ghost use Rattle.der_core_head.specs.Shapes.{octets_of};
 ghost use Rattle.der_core_head.specs.Spelling.{is_content_apart};
 ghost use Rattle.der_core_head.specs.Grammar.{plain_option};
 ghost use Rattle.der_core_head.specs.Reading.{Gives, GivesNow, Reads, read_at};
 ghost use Rattle.der_core_head.specs.Writing.{Writes, size, size_content, write, write_content};
 ghost use Rattle.der_core.specs.Orders.{contents_cmp, octets_cmp, Overflows};
-ghost use Rattle.der_types_tagged.specs.Fields.{field_tag, explicit_field, implicit_field, numbered_at};
+ghost use Rattle.der_types_tagged.specs.Fields.{field_tag, explicit_field, implicit_field};
+ghost use Rattle.der_types_tagged.specs.Fields.{numbered_at};
 ghost use Rattle.der_core_octets.specs.Outputs.{Continues};
 
 use crate::class_field_ref::ClassFieldRef;
@@ -53,8 +56,12 @@ impl<T, const CLASS: u8> ClassField<T, CLASS> {
     ) -> Result<Option<ClassField<T, CLASS>>, Error>
     where
         T: Decode<'a, R>,
-        ensures reads { Reads (plain_option (λ f. T.plain f.value)) (R.state reader.old) (R.state reader.new) result (read_at (R.state reader.old) (optional (explicit_field CLASS tag_number.value T.shape))) }
-        ensures tag { IfOk result (λ o. IfSome o (λ f. (f.tag_number ≡ tag_number) × (f.tag_mode ≡ Explicit))) }
+        ensures reads { Reads (plain_option (λ f. T.plain f.value)) (R.state reader.old) (R.state reader.new)
+            result
+            (read_at (R.state reader.old)
+            (optional (explicit_field CLASS tag_number.value T.shape))) }
+        ensures tag { IfOk result
+            (λ o. IfSome o (λ f. (f.tag_number ≡ tag_number) × (f.tag_mode ≡ Explicit))) }
     {
         let tag_mode = TagMode::Explicit;
         let tag = tag_of_class(CLASS, true, tag_number);
@@ -81,8 +88,12 @@ impl<T, const CLASS: u8> ClassField<T, CLASS> {
     ) -> Result<Option<ClassField<T, CLASS>>, Error>
     where
         T: DecodeValue<'a, R> + FixedTag,
-        ensures reads { Reads (plain_option (λ f. T.value_plain f.value)) (R.state reader.old) (R.state reader.new) result (read_at (R.state reader.old) (optional (implicit_field CLASS tag_number.value T.fixed_tag T.content))) }
-        ensures tag { IfOk result (λ o. IfSome o (λ f. (f.tag_number ≡ tag_number) × (f.tag_mode ≡ Implicit))) }
+        ensures reads { Reads (plain_option (λ f. T.value_plain f.value)) (R.state reader.old)
+            (R.state reader.new) result
+            (read_at (R.state reader.old)
+            (optional (implicit_field CLASS tag_number.value T.fixed_tag T.content))) }
+        ensures tag { IfOk result
+            (λ o. IfSome o (λ f. (f.tag_number ≡ tag_number) × (f.tag_mode ≡ Implicit))) }
     {
         let tag_mode = TagMode::Implicit;
         let tag = tag_of_class(CLASS, is_constructed(T::tag()), tag_number);
@@ -109,7 +120,10 @@ impl<T, const CLASS: u8> ClassField<T, CLASS> {
     ) -> Result<ClassField<T, CLASS>, Error>
     where
         T: Decode<'a, R>,
-        ensures reads { Reads (λ f. (f.tag_number.value, T.plain f.value)) (R.state reader.old) (R.state reader.new) result (numbered_at (R.state reader.old).source.encoding CLASS T.shape (R.state reader.old).room) }
+        ensures reads { Reads (λ f. (f.tag_number.value, T.plain f.value)) (R.state reader.old)
+            (R.state reader.new) result
+            (numbered_at (R.state reader.old).source.encoding CLASS T.shape
+            (R.state reader.old).room) }
         ensures mode { IfOk result (λ f. f.tag_mode ≡ Explicit) }
     {
         let tag_mode = TagMode::Explicit;
@@ -166,8 +180,13 @@ impl<T: EncodeValue + FixedTag, const CLASS: u8> ClassField<T, CLASS> {
     /// # Errors
     /// `Overflow` from 2^32 on.
     pub fn value_len(&self) -> Result<Length, Error>
-        ensures explicit { self.now.tag_mode ≡ Explicit → GivesNow (λ l. l.value) result (size_content (nested (only (tagged T.fixed_tag T.content))) (T.value_written self.now.value)) }
-        ensures implicit { self.now.tag_mode ≡ Implicit → GivesNow (λ l. l.value) result (size_content T.content (T.value_written self.now.value)) }
+        ensures explicit { self.now.tag_mode ≡ Explicit
+            → GivesNow (λ l. l.value) result
+            (size_content (nested (only (tagged T.fixed_tag T.content)))
+            (T.value_written self.now.value)) }
+        ensures implicit { self.now.tag_mode ≡ Implicit
+            → GivesNow (λ l. l.value) result
+            (size_content T.content (T.value_written self.now.value)) }
     {
         value_len_of_field(self.tag_mode, &self.value)
     }
@@ -177,8 +196,13 @@ impl<T: EncodeValue + FixedTag, const CLASS: u8> ClassField<T, CLASS> {
     /// # Errors
     /// `Overflow` where a length passes 2^32 - 1, and those of the writer.
     pub fn encode_value<W: Writer>(&self, writer: &mut W) -> Result<(), Error>
-        ensures explicit { self.now.tag_mode ≡ Explicit → Writes W.takes_memory (W.out writer.old) (W.out writer.new) result (write_content (nested (only (tagged T.fixed_tag T.content))) (T.value_written self.now.value)) }
-        ensures implicit { self.now.tag_mode ≡ Implicit → Writes W.takes_memory (W.out writer.old) (W.out writer.new) result (write_content T.content (T.value_written self.now.value)) }
+        ensures explicit { self.now.tag_mode ≡ Explicit
+            → Writes W.takes_memory (W.out writer.old) (W.out writer.new) result
+            (write_content (nested (only (tagged T.fixed_tag T.content)))
+            (T.value_written self.now.value)) }
+        ensures implicit { self.now.tag_mode ≡ Implicit
+            → Writes W.takes_memory (W.out writer.old) (W.out writer.new) result
+            (write_content T.content (T.value_written self.now.value)) }
         ensures kept { Continues (W.out writer.old) (W.out writer.new) }
     {
         encode_value_of_field(writer, self.tag_mode, &self.value)
@@ -189,8 +213,14 @@ impl<T: EncodeValue + FixedTag, const CLASS: u8> ClassField<T, CLASS> {
     /// # Errors
     /// `Overflow` from 2^32 on.
     pub fn encoded_len(&self) -> Result<Length, Error>
-        ensures explicit { self.now.tag_mode ≡ Explicit → GivesNow (λ l. l.value) result (size (explicit_field CLASS self.now.tag_number.value (tagged T.fixed_tag T.content)) (T.value_written self.now.value)) }
-        ensures implicit { self.now.tag_mode ≡ Implicit → GivesNow (λ l. l.value) result (size (implicit_field CLASS self.now.tag_number.value T.fixed_tag T.content) (T.value_written self.now.value)) }
+        ensures explicit { self.now.tag_mode ≡ Explicit
+            → GivesNow (λ l. l.value) result
+            (size (explicit_field CLASS self.now.tag_number.value (tagged T.fixed_tag T.content))
+            (T.value_written self.now.value)) }
+        ensures implicit { self.now.tag_mode ≡ Implicit
+            → GivesNow (λ l. l.value) result
+            (size (implicit_field CLASS self.now.tag_number.value T.fixed_tag T.content)
+            (T.value_written self.now.value)) }
     {
         len_of_field(CLASS, self.tag_mode, self.tag_number, &self.value)
     }
@@ -200,8 +230,14 @@ impl<T: EncodeValue + FixedTag, const CLASS: u8> ClassField<T, CLASS> {
     /// # Errors
     /// `Overflow` where a length passes 2^32 - 1, and those of the writer.
     pub fn encode<W: Writer>(&self, writer: &mut W) -> Result<(), Error>
-        ensures explicit { self.now.tag_mode ≡ Explicit → Writes W.takes_memory (W.out writer.old) (W.out writer.new) result (write (explicit_field CLASS self.now.tag_number.value (tagged T.fixed_tag T.content)) (T.value_written self.now.value)) }
-        ensures implicit { self.now.tag_mode ≡ Implicit → Writes W.takes_memory (W.out writer.old) (W.out writer.new) result (write (implicit_field CLASS self.now.tag_number.value T.fixed_tag T.content) (T.value_written self.now.value)) }
+        ensures explicit { self.now.tag_mode ≡ Explicit
+            → Writes W.takes_memory (W.out writer.old) (W.out writer.new) result
+            (write (explicit_field CLASS self.now.tag_number.value (tagged T.fixed_tag T.content))
+            (T.value_written self.now.value)) }
+        ensures implicit { self.now.tag_mode ≡ Implicit
+            → Writes W.takes_memory (W.out writer.old) (W.out writer.new) result
+            (write (implicit_field CLASS self.now.tag_number.value T.fixed_tag T.content)
+            (T.value_written self.now.value)) }
         ensures kept { Continues (W.out writer.old) (W.out writer.new) }
     {
         encode_field(writer, CLASS, self.tag_mode, self.tag_number, &self.value)
@@ -213,10 +249,22 @@ impl<T: EncodeValue + FixedTag, const CLASS: u8> ClassField<T, CLASS> {
     /// `Overflow` where a length passes 2^32 - 1, or `OutOfMemory`.
     pub fn to_der(&self, alloc: Global) -> Result<Vec<u8>, Error>
         // A valid value has an encoding, and it is the answer unless memory runs out.
-        ensures explicit { self.now.tag_mode ≡ Explicit → IsValid (explicit_field CLASS self.now.tag_number.value (tagged T.fixed_tag T.content)) (T.value_written self.now.value)
-            → Gives (λ v. v.items) result (Ok (octets_of (explicit_field CLASS self.now.tag_number.value (tagged T.fixed_tag T.content)) (T.value_written self.now.value))) }
-        ensures implicit { self.now.tag_mode ≡ Implicit → IsValid (implicit_field CLASS self.now.tag_number.value T.fixed_tag T.content) (T.value_written self.now.value)
-            → Gives (λ v. v.items) result (Ok (octets_of (implicit_field CLASS self.now.tag_number.value T.fixed_tag T.content) (T.value_written self.now.value))) }
+        ensures explicit { self.now.tag_mode ≡ Explicit
+            → IsValid
+            (explicit_field CLASS self.now.tag_number.value (tagged T.fixed_tag T.content))
+            (T.value_written self.now.value)
+            → Gives (λ v. v.items) result
+            (Ok
+            (octets_of
+            (explicit_field CLASS self.now.tag_number.value (tagged T.fixed_tag T.content))
+            (T.value_written self.now.value))) }
+        ensures implicit { self.now.tag_mode ≡ Implicit
+            → IsValid (implicit_field CLASS self.now.tag_number.value T.fixed_tag T.content)
+            (T.value_written self.now.value)
+            → Gives (λ v. v.items) result
+            (Ok
+            (octets_of (implicit_field CLASS self.now.tag_number.value T.fixed_tag T.content)
+            (T.value_written self.now.value))) }
         // Which fault it is.
         ensures exact_explicit { self.now.tag_mode ≡ Explicit → Gives (λ v. record { written = v.items; room = None; failed = false }) result
             (write (explicit_field CLASS self.now.tag_number.value (tagged T.fixed_tag T.content)) (T.value_written self.now.value) (record { written = []; room = None; failed = false })) }
@@ -238,13 +286,30 @@ impl<T: ValueOrd + EncodeValue + FixedTag, const CLASS: u8> ClassField<T, CLASS>
         requires { self.now.tag_mode ≡ other.now.tag_mode }
         // It is answered wherever both values have a content.
         ensures explicit { self.now.tag_mode ≡ Explicit → is_content_apart T.content ≡ true
-            → IsContent (nested (only (tagged T.fixed_tag T.content))) (T.value_written self.now.value) → IsContent (nested (only (tagged T.fixed_tag T.content))) (T.value_written other.now.value)
-            → result ≡ Ok (contents_cmp (nested (only (tagged T.fixed_tag T.content))) (T.value_written self.now.value) (T.value_written other.now.value)) }
-        ensures implicit { self.now.tag_mode ≡ Implicit → is_content_apart T.content ≡ true → IsContent T.content (T.value_written self.now.value) → IsContent T.content (T.value_written other.now.value)
-            → result ≡ Ok (contents_cmp T.content (T.value_written self.now.value) (T.value_written other.now.value)) }
+            → IsContent (nested (only (tagged T.fixed_tag T.content)))
+            (T.value_written self.now.value)
+            → IsContent (nested (only (tagged T.fixed_tag T.content)))
+            (T.value_written other.now.value)
+            → result
+            ≡ Ok
+            (contents_cmp (nested (only (tagged T.fixed_tag T.content)))
+            (T.value_written self.now.value) (T.value_written other.now.value)) }
+        ensures implicit { self.now.tag_mode ≡ Implicit → is_content_apart T.content ≡ true
+            → IsContent T.content (T.value_written self.now.value)
+            → IsContent T.content (T.value_written other.now.value)
+            → result
+            ≡ Ok
+            (contents_cmp T.content (T.value_written self.now.value)
+            (T.value_written other.now.value)) }
         ensures refused_explicit { self.now.tag_mode ≡ Explicit → IfErr result (λ e. Overflows e
-            (size_content (nested (only (tagged T.fixed_tag T.content))) (T.value_written self.now.value)) (size_content (nested (only (tagged T.fixed_tag T.content))) (T.value_written other.now.value))) }
-        ensures refused_implicit { self.now.tag_mode ≡ Implicit → IfErr result (λ e. Overflows e (size_content T.content (T.value_written self.now.value)) (size_content T.content (T.value_written other.now.value))) }
+            (size_content (nested (only (tagged T.fixed_tag T.content)))
+            (T.value_written self.now.value))
+            (size_content (nested (only (tagged T.fixed_tag T.content)))
+            (T.value_written other.now.value))) }
+        ensures refused_implicit { self.now.tag_mode ≡ Implicit
+            → IfErr result
+            (λ e. Overflows e (size_content T.content (T.value_written self.now.value))
+            (size_content T.content (T.value_written other.now.value))) }
     {
         value_cmp_of_fields(self.tag_mode, &self.value, &other.value)
     }
@@ -258,19 +323,47 @@ impl<T: ValueOrd + EncodeValue + FixedTag, const CLASS: u8> ClassField<T, CLASS>
         requires { self.now.tag_mode ≡ other.now.tag_mode }
         // It is answered wherever both values have an encoding.
         ensures explicit { self.now.tag_mode ≡ Explicit → is_content_apart T.content ≡ true
-            → IsValid (explicit_field CLASS self.now.tag_number.value (tagged T.fixed_tag T.content)) (T.value_written self.now.value)
-            → IsValid (explicit_field CLASS other.now.tag_number.value (tagged T.fixed_tag T.content)) (T.value_written other.now.value)
-            → result ≡ Ok (octets_cmp (octets_of (explicit_field CLASS self.now.tag_number.value (tagged T.fixed_tag T.content)) (T.value_written self.now.value))
-            (octets_of (explicit_field CLASS other.now.tag_number.value (tagged T.fixed_tag T.content)) (T.value_written other.now.value))) }
+            → IsValid
+            (explicit_field CLASS self.now.tag_number.value (tagged T.fixed_tag T.content))
+            (T.value_written self.now.value)
+            → IsValid
+            (explicit_field CLASS other.now.tag_number.value (tagged T.fixed_tag T.content))
+            (T.value_written other.now.value)
+            → result
+            ≡ Ok
+            (octets_cmp
+            (octets_of
+            (explicit_field CLASS self.now.tag_number.value (tagged T.fixed_tag T.content))
+            (T.value_written self.now.value))
+            (octets_of
+            (explicit_field CLASS other.now.tag_number.value (tagged T.fixed_tag T.content))
+            (T.value_written other.now.value))) }
         ensures implicit { self.now.tag_mode ≡ Implicit → is_content_apart T.content ≡ true
-            → IsValid (implicit_field CLASS self.now.tag_number.value T.fixed_tag T.content) (T.value_written self.now.value)
-            → IsValid (implicit_field CLASS other.now.tag_number.value T.fixed_tag T.content) (T.value_written other.now.value)
-            → result ≡ Ok (octets_cmp (octets_of (implicit_field CLASS self.now.tag_number.value T.fixed_tag T.content) (T.value_written self.now.value))
-            (octets_of (implicit_field CLASS other.now.tag_number.value T.fixed_tag T.content) (T.value_written other.now.value))) }
-        ensures refused_explicit { self.now.tag_mode ≡ Explicit → IfErr result (λ e. Overflows e (size (explicit_field CLASS self.now.tag_number.value (tagged T.fixed_tag T.content)) (T.value_written self.now.value))
-            (size (explicit_field CLASS other.now.tag_number.value (tagged T.fixed_tag T.content)) (T.value_written other.now.value))) }
-        ensures refused_implicit { self.now.tag_mode ≡ Implicit → IfErr result (λ e. Overflows e (size (implicit_field CLASS self.now.tag_number.value T.fixed_tag T.content) (T.value_written self.now.value))
-            (size (implicit_field CLASS other.now.tag_number.value T.fixed_tag T.content) (T.value_written other.now.value))) }
+            → IsValid (implicit_field CLASS self.now.tag_number.value T.fixed_tag T.content)
+            (T.value_written self.now.value)
+            → IsValid (implicit_field CLASS other.now.tag_number.value T.fixed_tag T.content)
+            (T.value_written other.now.value)
+            → result
+            ≡ Ok
+            (octets_cmp
+            (octets_of (implicit_field CLASS self.now.tag_number.value T.fixed_tag T.content)
+            (T.value_written self.now.value))
+            (octets_of (implicit_field CLASS other.now.tag_number.value T.fixed_tag T.content)
+            (T.value_written other.now.value))) }
+        ensures refused_explicit { self.now.tag_mode ≡ Explicit
+            → IfErr result
+            (λ e. Overflows e
+            (size (explicit_field CLASS self.now.tag_number.value (tagged T.fixed_tag T.content))
+            (T.value_written self.now.value))
+            (size (explicit_field CLASS other.now.tag_number.value (tagged T.fixed_tag T.content))
+            (T.value_written other.now.value))) }
+        ensures refused_implicit { self.now.tag_mode ≡ Implicit
+            → IfErr result
+            (λ e. Overflows e
+            (size (implicit_field CLASS self.now.tag_number.value T.fixed_tag T.content)
+            (T.value_written self.now.value))
+            (size (implicit_field CLASS other.now.tag_number.value T.fixed_tag T.content)
+            (T.value_written other.now.value))) }
     {
         der_cmp_of_fields(
             CLASS,

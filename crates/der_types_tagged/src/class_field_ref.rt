@@ -16,8 +16,8 @@ use crate::fields::{
 use der_core::{EncodeValue, Error, FixedTag, Length, Tag, TagMode, TagNumber, Tagged, Writer};
 use std::alloc::{AllocError, Global};
 
-/// A lent value behind a tag of a class, which `CLASS` tells by its bits in the first octet of a tag
-/// (X.690 8.1.2.2): `CLASS_APPLICATION`, `CLASS_CONTEXT_SPECIFIC` or `CLASS_PRIVATE`.
+/// A lent value behind a tag of a class, which `CLASS` tells by its bits in the first octet of a
+/// tag (X.690 8.1.2.2): `CLASS_APPLICATION`, `CLASS_CONTEXT_SPECIFIC` or `CLASS_PRIVATE`.
 ///
 /// The tag stands in front of the value's own tag or in its place (X.680 31, X.690 8.14).
 #[derive(Clone, Copy, Debug, PartialEq, Eq)]
@@ -65,8 +65,13 @@ impl<'a, T: EncodeValue + FixedTag, const CLASS: u8> ClassFieldRef<'a, T, CLASS>
     /// # Errors
     /// `Overflow` from 2^32 on.
     pub fn value_len(&self) -> Result<Length, Error>
-        ensures explicit { self.now.tag_mode ≡ Explicit → GivesNow (λ l. l.value) result (size_content (nested (only (tagged T.fixed_tag T.content))) (T.value_written self.now.value.now)) }
-        ensures implicit { self.now.tag_mode ≡ Implicit → GivesNow (λ l. l.value) result (size_content T.content (T.value_written self.now.value.now)) }
+        ensures explicit { self.now.tag_mode ≡ Explicit
+            → GivesNow (λ l. l.value) result
+            (size_content (nested (only (tagged T.fixed_tag T.content)))
+            (T.value_written self.now.value.now)) }
+        ensures implicit { self.now.tag_mode ≡ Implicit
+            → GivesNow (λ l. l.value) result
+            (size_content T.content (T.value_written self.now.value.now)) }
     {
         value_len_of_field(self.tag_mode, self.value)
     }
@@ -76,8 +81,13 @@ impl<'a, T: EncodeValue + FixedTag, const CLASS: u8> ClassFieldRef<'a, T, CLASS>
     /// # Errors
     /// `Overflow` where a length passes 2^32 - 1, and those of the writer.
     pub fn encode_value<W: Writer>(&self, writer: &mut W) -> Result<(), Error>
-        ensures explicit { self.now.tag_mode ≡ Explicit → Writes W.takes_memory (W.out writer.old) (W.out writer.new) result (write_content (nested (only (tagged T.fixed_tag T.content))) (T.value_written self.now.value.now)) }
-        ensures implicit { self.now.tag_mode ≡ Implicit → Writes W.takes_memory (W.out writer.old) (W.out writer.new) result (write_content T.content (T.value_written self.now.value.now)) }
+        ensures explicit { self.now.tag_mode ≡ Explicit
+            → Writes W.takes_memory (W.out writer.old) (W.out writer.new) result
+            (write_content (nested (only (tagged T.fixed_tag T.content)))
+            (T.value_written self.now.value.now)) }
+        ensures implicit { self.now.tag_mode ≡ Implicit
+            → Writes W.takes_memory (W.out writer.old) (W.out writer.new) result
+            (write_content T.content (T.value_written self.now.value.now)) }
         ensures kept { Continues (W.out writer.old) (W.out writer.new) }
     {
         encode_value_of_field(writer, self.tag_mode, self.value)
@@ -88,8 +98,14 @@ impl<'a, T: EncodeValue + FixedTag, const CLASS: u8> ClassFieldRef<'a, T, CLASS>
     /// # Errors
     /// `Overflow` from 2^32 on.
     pub fn encoded_len(&self) -> Result<Length, Error>
-        ensures explicit { self.now.tag_mode ≡ Explicit → GivesNow (λ l. l.value) result (size (explicit_field CLASS self.now.tag_number.value (tagged T.fixed_tag T.content)) (T.value_written self.now.value.now)) }
-        ensures implicit { self.now.tag_mode ≡ Implicit → GivesNow (λ l. l.value) result (size (implicit_field CLASS self.now.tag_number.value T.fixed_tag T.content) (T.value_written self.now.value.now)) }
+        ensures explicit { self.now.tag_mode ≡ Explicit
+            → GivesNow (λ l. l.value) result
+            (size (explicit_field CLASS self.now.tag_number.value (tagged T.fixed_tag T.content))
+            (T.value_written self.now.value.now)) }
+        ensures implicit { self.now.tag_mode ≡ Implicit
+            → GivesNow (λ l. l.value) result
+            (size (implicit_field CLASS self.now.tag_number.value T.fixed_tag T.content)
+            (T.value_written self.now.value.now)) }
     {
         len_of_field(CLASS, self.tag_mode, self.tag_number, self.value)
     }
@@ -99,8 +115,14 @@ impl<'a, T: EncodeValue + FixedTag, const CLASS: u8> ClassFieldRef<'a, T, CLASS>
     /// # Errors
     /// `Overflow` where a length passes 2^32 - 1, and those of the writer.
     pub fn encode<W: Writer>(&self, writer: &mut W) -> Result<(), Error>
-        ensures explicit { self.now.tag_mode ≡ Explicit → Writes W.takes_memory (W.out writer.old) (W.out writer.new) result (write (explicit_field CLASS self.now.tag_number.value (tagged T.fixed_tag T.content)) (T.value_written self.now.value.now)) }
-        ensures implicit { self.now.tag_mode ≡ Implicit → Writes W.takes_memory (W.out writer.old) (W.out writer.new) result (write (implicit_field CLASS self.now.tag_number.value T.fixed_tag T.content) (T.value_written self.now.value.now)) }
+        ensures explicit { self.now.tag_mode ≡ Explicit
+            → Writes W.takes_memory (W.out writer.old) (W.out writer.new) result
+            (write (explicit_field CLASS self.now.tag_number.value (tagged T.fixed_tag T.content))
+            (T.value_written self.now.value.now)) }
+        ensures implicit { self.now.tag_mode ≡ Implicit
+            → Writes W.takes_memory (W.out writer.old) (W.out writer.new) result
+            (write (implicit_field CLASS self.now.tag_number.value T.fixed_tag T.content)
+            (T.value_written self.now.value.now)) }
         ensures kept { Continues (W.out writer.old) (W.out writer.new) }
     {
         encode_field(writer, CLASS, self.tag_mode, self.tag_number, self.value)
@@ -112,10 +134,22 @@ impl<'a, T: EncodeValue + FixedTag, const CLASS: u8> ClassFieldRef<'a, T, CLASS>
     /// `Overflow` where a length passes 2^32 - 1, or `OutOfMemory`.
     pub fn to_der(&self, alloc: Global) -> Result<Vec<u8>, Error>
         // A valid value has an encoding, and it is the answer unless memory runs out.
-        ensures explicit { self.now.tag_mode ≡ Explicit → IsValid (explicit_field CLASS self.now.tag_number.value (tagged T.fixed_tag T.content)) (T.value_written self.now.value.now)
-            → Gives (λ v. v.items) result (Ok (octets_of (explicit_field CLASS self.now.tag_number.value (tagged T.fixed_tag T.content)) (T.value_written self.now.value.now))) }
-        ensures implicit { self.now.tag_mode ≡ Implicit → IsValid (implicit_field CLASS self.now.tag_number.value T.fixed_tag T.content) (T.value_written self.now.value.now)
-            → Gives (λ v. v.items) result (Ok (octets_of (implicit_field CLASS self.now.tag_number.value T.fixed_tag T.content) (T.value_written self.now.value.now))) }
+        ensures explicit { self.now.tag_mode ≡ Explicit
+            → IsValid
+            (explicit_field CLASS self.now.tag_number.value (tagged T.fixed_tag T.content))
+            (T.value_written self.now.value.now)
+            → Gives (λ v. v.items) result
+            (Ok
+            (octets_of
+            (explicit_field CLASS self.now.tag_number.value (tagged T.fixed_tag T.content))
+            (T.value_written self.now.value.now))) }
+        ensures implicit { self.now.tag_mode ≡ Implicit
+            → IsValid (implicit_field CLASS self.now.tag_number.value T.fixed_tag T.content)
+            (T.value_written self.now.value.now)
+            → Gives (λ v. v.items) result
+            (Ok
+            (octets_of (implicit_field CLASS self.now.tag_number.value T.fixed_tag T.content)
+            (T.value_written self.now.value.now))) }
         // Which fault it is.
         ensures exact_explicit { self.now.tag_mode ≡ Explicit → Gives (λ v. record { written = v.items; room = None; failed = false }) result
             (write (explicit_field CLASS self.now.tag_number.value (tagged T.fixed_tag T.content)) (T.value_written self.now.value.now) (record { written = []; room = None; failed = false })) }

@@ -54,8 +54,11 @@ pub fn value_len_of_field<T: EncodeValue + FixedTag>(
     mode: TagMode,
     value: &T,
 ) -> Result<Length, Error>
-    ensures explicit { mode ≡ Explicit → GivesNow (λ l. l.value) result (size_content (nested (only (tagged T.fixed_tag T.content))) (T.value_written value.now)) }
-    ensures implicit { mode ≡ Implicit → GivesNow (λ l. l.value) result (size_content T.content (T.value_written value.now)) }
+    ensures explicit { mode ≡ Explicit
+        → GivesNow (λ l. l.value) result
+        (size_content (nested (only (tagged T.fixed_tag T.content))) (T.value_written value.now)) }
+    ensures implicit { mode ≡ Implicit
+        → GivesNow (λ l. l.value) result (size_content T.content (T.value_written value.now)) }
 {
     match mode {
         TagMode::Explicit => value.encoded_len(),
@@ -69,8 +72,11 @@ pub fn encode_value_of_field<W: Writer, T: EncodeValue + FixedTag>(
     mode: TagMode,
     value: &T,
 ) -> Result<(), Error>
-    ensures explicit { mode ≡ Explicit → Writes W.takes_memory (W.out writer.old) (W.out writer.new) result (write_content (nested (only (tagged T.fixed_tag T.content))) (T.value_written value.now)) }
-    ensures implicit { mode ≡ Implicit → Writes W.takes_memory (W.out writer.old) (W.out writer.new) result (write_content T.content (T.value_written value.now)) }
+    ensures explicit { mode ≡ Explicit → Writes W.takes_memory (W.out writer.old) (W.out writer.new)
+        result
+        (write_content (nested (only (tagged T.fixed_tag T.content))) (T.value_written value.now)) }
+    ensures implicit { mode ≡ Implicit → Writes W.takes_memory (W.out writer.old) (W.out writer.new)
+        result (write_content T.content (T.value_written value.now)) }
     ensures kept { Continues (W.out writer.old) (W.out writer.new) }
 {
     match mode {
@@ -86,8 +92,13 @@ pub fn len_of_field<T: EncodeValue + FixedTag>(
     number: TagNumber,
     value: &T,
 ) -> Result<Length, Error>
-    ensures explicit { mode ≡ Explicit → GivesNow (λ l. l.value) result (size (explicit_field class number.value (tagged T.fixed_tag T.content)) (T.value_written value.now)) }
-    ensures implicit { mode ≡ Implicit → GivesNow (λ l. l.value) result (size (implicit_field class number.value T.fixed_tag T.content) (T.value_written value.now)) }
+    ensures explicit { mode ≡ Explicit
+        → GivesNow (λ l. l.value) result
+        (size (explicit_field class number.value (tagged T.fixed_tag T.content))
+        (T.value_written value.now)) }
+    ensures implicit { mode ≡ Implicit
+        → GivesNow (λ l. l.value) result
+        (size (implicit_field class number.value T.fixed_tag T.content) (T.value_written value.now)) }
 {
     let tag = tag_of_field(class, mode, number, T::tag());
     match mode {
@@ -104,8 +115,13 @@ pub fn encode_field<W: Writer, T: EncodeValue + FixedTag>(
     number: TagNumber,
     value: &T,
 ) -> Result<(), Error>
-    ensures explicit { mode ≡ Explicit → Writes W.takes_memory (W.out writer.old) (W.out writer.new) result (write (explicit_field class number.value (tagged T.fixed_tag T.content)) (T.value_written value.now)) }
-    ensures implicit { mode ≡ Implicit → Writes W.takes_memory (W.out writer.old) (W.out writer.new) result (write (implicit_field class number.value T.fixed_tag T.content) (T.value_written value.now)) }
+    ensures explicit { mode ≡ Explicit → Writes W.takes_memory (W.out writer.old) (W.out writer.new)
+        result (write (explicit_field class number.value (tagged T.fixed_tag T.content))
+        (T.value_written value.now)) }
+    ensures implicit { mode ≡ Implicit → Writes W.takes_memory (W.out writer.old) (W.out writer.new)
+        result
+        (write (implicit_field class number.value T.fixed_tag T.content)
+        (T.value_written value.now)) }
     ensures kept { Continues (W.out writer.old) (W.out writer.new) }
 {
     let tag = tag_of_field(class, mode, number, T::tag());
@@ -123,10 +139,17 @@ pub fn der_of_field<T: EncodeValue + FixedTag>(
     number: TagNumber,
     value: &T,
 ) -> Result<Vec<u8>, Error>
-    ensures explicit { mode ≡ Explicit → IsValid (explicit_field class number.value (tagged T.fixed_tag T.content)) (T.value_written value.now)
-        → Gives (λ v. v.items) result (Ok (octets_of (explicit_field class number.value (tagged T.fixed_tag T.content)) (T.value_written value.now))) }
-    ensures implicit { mode ≡ Implicit → IsValid (implicit_field class number.value T.fixed_tag T.content) (T.value_written value.now)
-        → Gives (λ v. v.items) result (Ok (octets_of (implicit_field class number.value T.fixed_tag T.content) (T.value_written value.now))) }
+    ensures explicit { mode ≡ Explicit
+        → IsValid (explicit_field class number.value (tagged T.fixed_tag T.content))
+        (T.value_written value.now)
+        → Gives (λ v. v.items) result
+        (Ok (octets_of (explicit_field class number.value (tagged T.fixed_tag T.content))
+        (T.value_written value.now))) }
+    ensures implicit { mode ≡ Implicit → IsValid (implicit_field class number.value T.fixed_tag T.content)
+        (T.value_written value.now)
+        → Gives (λ v. v.items) result
+        (Ok (octets_of (implicit_field class number.value T.fixed_tag T.content)
+        (T.value_written value.now))) }
     ensures exact_explicit { mode ≡ Explicit → Gives (λ v. record { written = v.items; room = None; failed = false }) result
         (write (explicit_field class number.value (tagged T.fixed_tag T.content)) (T.value_written value.now) (record { written = []; room = None; failed = false })) }
     ensures exact_implicit { mode ≡ Implicit → Gives (λ v. record { written = v.items; room = None; failed = false }) result
@@ -146,13 +169,24 @@ pub fn value_cmp_of_fields<T: ValueOrd + EncodeValue + FixedTag>(
     other: &T,
 ) -> Result<Ordering, Error>
     ensures explicit { mode ≡ Explicit → is_content_apart T.content ≡ true
-        → IsContent (nested (only (tagged T.fixed_tag T.content))) (T.value_written value.now) → IsContent (nested (only (tagged T.fixed_tag T.content))) (T.value_written other.now)
-        → result ≡ Ok (contents_cmp (nested (only (tagged T.fixed_tag T.content))) (T.value_written value.now) (T.value_written other.now)) }
-    ensures implicit { mode ≡ Implicit → is_content_apart T.content ≡ true → IsContent T.content (T.value_written value.now) → IsContent T.content (T.value_written other.now)
-        → result ≡ Ok (contents_cmp T.content (T.value_written value.now) (T.value_written other.now)) }
+        → IsContent (nested (only (tagged T.fixed_tag T.content))) (T.value_written value.now)
+        → IsContent (nested (only (tagged T.fixed_tag T.content))) (T.value_written other.now)
+        → result
+        ≡ Ok
+        (contents_cmp (nested (only (tagged T.fixed_tag T.content))) (T.value_written value.now)
+        (T.value_written other.now)) }
+    ensures implicit { mode ≡ Implicit → is_content_apart T.content ≡ true
+        → IsContent T.content (T.value_written value.now)
+        → IsContent T.content (T.value_written other.now)
+        → result
+        ≡ Ok (contents_cmp T.content (T.value_written value.now) (T.value_written other.now)) }
     ensures refused_explicit { mode ≡ Explicit → IfErr result (λ e. Overflows e
-        (size_content (nested (only (tagged T.fixed_tag T.content))) (T.value_written value.now)) (size_content (nested (only (tagged T.fixed_tag T.content))) (T.value_written other.now))) }
-    ensures refused_implicit { mode ≡ Implicit → IfErr result (λ e. Overflows e (size_content T.content (T.value_written value.now)) (size_content T.content (T.value_written other.now))) }
+        (size_content (nested (only (tagged T.fixed_tag T.content))) (T.value_written value.now))
+        (size_content (nested (only (tagged T.fixed_tag T.content)))
+        (T.value_written other.now))) }
+    ensures refused_implicit { mode ≡ Implicit
+        → IfErr result (λ e. Overflows e (size_content T.content (T.value_written value.now))
+        (size_content T.content (T.value_written other.now))) }
 {
     match mode {
         TagMode::Explicit => Whole(value).value_cmp(&Whole(other)),
@@ -170,19 +204,40 @@ pub fn der_cmp_of_fields<T: ValueOrd + EncodeValue + FixedTag>(
     other: &T,
 ) -> Result<Ordering, Error>
     ensures explicit { mode ≡ Explicit → is_content_apart T.content ≡ true
-        → IsValid (explicit_field class number.value (tagged T.fixed_tag T.content)) (T.value_written value.now)
-        → IsValid (explicit_field class other_number.value (tagged T.fixed_tag T.content)) (T.value_written other.now)
-        → result ≡ Ok (octets_cmp (octets_of (explicit_field class number.value (tagged T.fixed_tag T.content)) (T.value_written value.now))
-        (octets_of (explicit_field class other_number.value (tagged T.fixed_tag T.content)) (T.value_written other.now))) }
+        → IsValid (explicit_field class number.value (tagged T.fixed_tag T.content))
+        (T.value_written value.now)
+        → IsValid (explicit_field class other_number.value (tagged T.fixed_tag T.content))
+        (T.value_written other.now)
+        → result
+        ≡ Ok
+        (octets_cmp
+        (octets_of (explicit_field class number.value (tagged T.fixed_tag T.content))
+        (T.value_written value.now))
+        (octets_of (explicit_field class other_number.value (tagged T.fixed_tag T.content))
+        (T.value_written other.now))) }
     ensures implicit { mode ≡ Implicit → is_content_apart T.content ≡ true
-        → IsValid (implicit_field class number.value T.fixed_tag T.content) (T.value_written value.now)
-        → IsValid (implicit_field class other_number.value T.fixed_tag T.content) (T.value_written other.now)
-        → result ≡ Ok (octets_cmp (octets_of (implicit_field class number.value T.fixed_tag T.content) (T.value_written value.now))
-        (octets_of (implicit_field class other_number.value T.fixed_tag T.content) (T.value_written other.now))) }
-    ensures refused_explicit { mode ≡ Explicit → IfErr result (λ e. Overflows e (size (explicit_field class number.value (tagged T.fixed_tag T.content)) (T.value_written value.now))
-        (size (explicit_field class other_number.value (tagged T.fixed_tag T.content)) (T.value_written other.now))) }
-    ensures refused_implicit { mode ≡ Implicit → IfErr result (λ e. Overflows e (size (implicit_field class number.value T.fixed_tag T.content) (T.value_written value.now))
-        (size (implicit_field class other_number.value T.fixed_tag T.content) (T.value_written other.now))) }
+        → IsValid (implicit_field class number.value T.fixed_tag T.content)
+        (T.value_written value.now)
+        → IsValid (implicit_field class other_number.value T.fixed_tag T.content)
+        (T.value_written other.now)
+        → result
+        ≡ Ok
+        (octets_cmp (octets_of (implicit_field class number.value T.fixed_tag T.content)
+        (T.value_written value.now))
+        (octets_of (implicit_field class other_number.value T.fixed_tag T.content)
+        (T.value_written other.now))) }
+    ensures refused_explicit { mode ≡ Explicit
+        → IfErr result
+        (λ e. Overflows e (size (explicit_field class number.value (tagged T.fixed_tag T.content))
+        (T.value_written value.now))
+        (size (explicit_field class other_number.value (tagged T.fixed_tag T.content))
+        (T.value_written other.now))) }
+    ensures refused_implicit { mode ≡ Implicit
+        → IfErr result
+        (λ e. Overflows e
+        (size (implicit_field class number.value T.fixed_tag T.content) (T.value_written value.now))
+        (size (implicit_field class other_number.value T.fixed_tag T.content)
+        (T.value_written other.now))) }
 {
     let tag = tag_of_field(class, mode, number, T::tag());
     let other_tag = tag_of_field(class, mode, other_number, T::tag());

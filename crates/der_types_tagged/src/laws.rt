@@ -6,26 +6,40 @@ ghost use Rattle.std.specs.Prelude.{◌≡◌, ◌/◌, ◌++◌, ℕ, List, [],
 ghost use Rattle.der_core_head.specs.declared.error.ErrorKind.{ErrorKind};
 ghost use Rattle.der_core_head.specs.declared.tag.Tag.{Tag};
 ghost use Rattle.der_core_head.specs.Tags.{IsTag, class_tag, same_tag, tag_at};
-ghost use Rattle.der_core_head.specs.Shapes.{Shape, Content, Value, ContentValue, optional, tagged, IsValid, octets_of};
-ghost use Rattle.der_core_head.specs.Spelling.{is_apart, is_content_apart, is_element, are_enough, are_content_enough};
+ghost use Rattle.der_core_head.specs.Shapes.{Shape, Content, Value, ContentValue, optional, tagged};
+ghost use Rattle.der_core_head.specs.Shapes.{IsValid, octets_of};
+ghost use Rattle.der_core_head.specs.Spelling.{is_apart, is_content_apart, is_element, are_enough};
+ghost use Rattle.der_core_head.specs.Spelling.{are_content_enough};
 ghost use Rattle.der_core_head.specs.declared.encoding_rules.EncodingRules.TheVariants.{Der};
 ghost use Rattle.der_core_head.specs.Grammar.{read};
 ghost use Rattle.der_types_tagged.specs.Fields.{explicit_field, implicit_field, numbered_at};
 
 /// What a field of a class writes is read back with its number, whatever follows: by
-/// `decode_explicit` and by `decode` where it is explicit, by `decode_implicit` where it is implicit.
+/// `decode_explicit` and by `decode` where it is explicit, by `decode_implicit` where it is
+/// implicit.
 pub fn written_is_read_back()
-    ensures explicit { (class n room : ℕ) (s : Shape) (v : Value s) (rest : List ℕ) → is_apart (explicit_field class n s) ≡ true → are_enough (explicit_field class n s) room ≡ true
-        → IsValid (explicit_field class n s) v → read (optional (explicit_field class n s)) room (octets_of (explicit_field class n s) v ++ rest) ≡ Ok (Some v, rest) }
-    ensures implicit { (class n room : ℕ) (own : Tag) (c : Content) (v : ContentValue c) (rest : List ℕ) → is_content_apart c ≡ true → are_content_enough c room ≡ true
-        → IsValid (implicit_field class n own c) v → read (optional (implicit_field class n own c)) room (octets_of (implicit_field class n own c) v ++ rest) ≡ Ok (Some v, rest) }
-    ensures numbered { (class n room : ℕ) (s : Shape) (v : Value s) (rest : List ℕ) → is_apart (explicit_field class n s) ≡ true → are_enough (explicit_field class n s) room ≡ true
-        → IsValid (explicit_field class n s) v → numbered_at Der class s room (octets_of (explicit_field class n s) v ++ rest) ≡ Ok ((n, v), rest) }
+    ensures explicit { (class n room : ℕ) (s : Shape) (v : Value s) (rest : List ℕ)
+        → is_apart (explicit_field class n s) ≡ true → are_enough (explicit_field class n s) room
+        ≡ true
+        → IsValid (explicit_field class n s) v → read (optional (explicit_field class n s)) room
+        (octets_of (explicit_field class n s) v ++ rest) ≡ Ok (Some v, rest) }
+    ensures implicit { (class n room : ℕ) (own : Tag) (c : Content) (v : ContentValue c) (rest : List ℕ)
+        → is_content_apart c ≡ true → are_content_enough c room ≡ true
+        → IsValid (implicit_field class n own c) v → read (optional (implicit_field class n own c))
+        room (octets_of (implicit_field class n own c) v ++ rest) ≡ Ok (Some v, rest) }
+    ensures numbered { (class n room : ℕ) (s : Shape) (v : Value s) (rest : List ℕ)
+        → is_apart (explicit_field class n s) ≡ true → are_enough (explicit_field class n s) room
+        ≡ true
+        → IsValid (explicit_field class n s) v
+        → numbered_at Der class s room (octets_of (explicit_field class n s) v ++ rest)
+        ≡ Ok ((n, v), rest) }
 {}
 
 /// Where another tag stands, or the end, a field is absent and nothing is read.
 pub fn others_are_absent()
-    ensures tag { (field other : Tag) (c : Content) (room : ℕ) (w rest : List ℕ) → tag_at w ≡ Ok (other, rest) → same_tag field other ≡ false
+    ensures tag { (field other : Tag) (c : Content) (room : ℕ) (w rest : List ℕ)
+        → tag_at w ≡ Ok (other, rest) → same_tag field other ≡ false
         → read (optional (tagged field c)) room w ≡ Ok (None, w) }
-    ensures end { (field : Tag) (c : Content) (room : ℕ) → read (optional (tagged field c)) room [] ≡ Ok (None, []) }
+    ensures end { (field : Tag) (c : Content) (room : ℕ) → read (optional (tagged field c)) room []
+        ≡ Ok (None, []) }
 {}

@@ -15,8 +15,8 @@ use der_types::{
 use std::alloc::Global;
 use std::test::Fail;
 
-/// Whether the members that octets spell go into a set, one by one, that is written as these octets, and
-/// as a strict set too.
+/// Whether the members that octets spell go into a set, one by one, that is written as these
+/// octets, and as a strict set too.
 fn goes_into_a_set<'a, T>(alloc: Global, octets: &'a [u8]) -> Result<bool, Error>
 where
     T: Decode<'a, SliceReader<'a>> + AsRead + DerOrd + Encode + Member + InRange + Drop,

@@ -1,8 +1,8 @@
 //! Sets and lists of bounded room: states after refusals, iterators and want of memory.
 //!
-//! What a test asks stands in functions over what it lends, so that a value that has to be dropped is held
-//! by a function that seldom returns early. Want of memory is met by `rt try --test --fail-alloc N`: each
-//! request in turn is refused.
+//! What a test asks stands in functions over what it lends, so that a value that has to be dropped
+//! is held by a function that seldom returns early. Want of memory is met by `rt try --test
+//! --fail-alloc N`: each request in turn is refused.
 
 use der_core::{Decode, Encode, EncodeValue, Error, ErrorKind, Member, SliceReader, from_der};
 use der_types::{SequenceOf, SetOf, SetOfRef, SetOfVec};
@@ -77,8 +77,8 @@ fn lists(rt: HostRuntime) -> Result<(), Fail> {
     Ok(())
 }
 
-/// Whether a set takes members in any order, and a refused one leaves it; 200 has two octets of content,
-/// and stands behind 5.
+/// Whether a set takes members in any order, and a refused one leaves it; 200 has two octets of
+/// content, and stands behind 5.
 fn is_extended(set: &mut SetOfVec<u8>) -> Result<bool, Error> {
     let was_empty = set.is_empty();
     set.extend([5, 200, 5, 1])?;
@@ -185,7 +185,8 @@ fn members_of_borrowed_sets(rt: HostRuntime) -> Result<(), Fail> {
     Ok(())
 }
 
-/// Whether a member goes into a set; a call that finds no memory leaves the set, and is answered when it is repeated.
+/// Whether a member goes into a set; a call that finds no memory leaves the set, and is answered
+/// when it is repeated.
 fn goes_in(set: &mut SetOfVec<u8>, item: u8, is_last: bool) -> Result<bool, Error> {
     let before = set.len();
     let answer = if is_last {

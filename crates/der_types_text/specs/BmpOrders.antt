@@ -12,15 +12,19 @@ use Rattle.der_core.proofs.HeadOrders.{split_cmp}
 use Rattle.der_core.proofs.OrderLaws.{then_assoc}
 
 -- characters are in the order of their octets, of which the higher stands first
-pub bmp_octets_cmp : (us vs : List ℕ) → slice_cmp nat_cmp (bmp_octets us) (bmp_octets vs) ≡ slice_cmp nat_cmp us vs
+pub bmp_octets_cmp : (us vs : List ℕ) → slice_cmp nat_cmp (bmp_octets us) (bmp_octets vs)
+    ≡ slice_cmp nat_cmp us vs
 unfolding bmp_octets
 bmp_octets_cmp [] [] = refl
 bmp_octets_cmp [] (v ∷ vs) = refl
 bmp_octets_cmp (u ∷ us) [] = refl
 bmp_octets_cmp (u ∷ us) (v ∷ vs) =
-    sym (then_assoc (nat_cmp (u / 256) (v / 256)) (nat_cmp (u % 256) (v % 256)) (slice_cmp nat_cmp (bmp_octets us) (bmp_octets vs)))
+    sym
+    (then_assoc (nat_cmp (u / 256) (v / 256)) (nat_cmp (u % 256) (v % 256))
+    (slice_cmp nat_cmp (bmp_octets us) (bmp_octets vs)))
     ∙ (λ i. ordering_then (split_cmp 256 u v (omega arith) i) (bmp_octets_cmp us vs i))
 
 pub bmp_order : (v w : List ℕ) → IsContent (leaf bmp) v → IsContent (leaf bmp) w
-    → length (contents (leaf bmp) v) ≡ length (contents (leaf bmp) w) → slice_cmp nat_cmp v w ≡ contents_cmp (leaf bmp) v w
+    → length (contents (leaf bmp) v) ≡ length (contents (leaf bmp) w) → slice_cmp nat_cmp v w
+    ≡ contents_cmp (leaf bmp) v w
 bmp_order v w p q e = sym (bmp_octets_cmp v w) ∙ octets_order bmp v w p q e

@@ -1,5 +1,6 @@
 -- What contracts see of a `BmpString` and of its iterators: characters.
-use Rattle.std.specs.Prelude.{◌≡◌, ◌&&◌, ℕ, List, Bool, length, Result, Ok, Err, nat_lt, if◌then◌else◌}
+use Rattle.std.specs.Prelude.{◌≡◌, ◌&&◌, ℕ, List, Bool, length, Result, Ok, Err, nat_lt}
+use Rattle.std.specs.Prelude.{if◌then◌else◌}
 use Rattle.std.specs.List.{list_all}
 use Rattle.der_core_head.specs.Limits.{length_max}
 use Rattle.der_core_head.specs.declared.error.ErrorKind.{ErrorKind}

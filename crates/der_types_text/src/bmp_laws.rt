@@ -17,7 +17,8 @@ pub fn octets_identify()
 
 /// Characters are in the order of their octets.
 pub fn order_is_that_of_octets()
-    ensures { (us vs : List ℕ) → slice_cmp nat_cmp us vs ≡ octets_cmp (bmp_octets us) (bmp_octets vs) }
+    ensures { (us vs : List ℕ) → slice_cmp nat_cmp us vs
+        ≡ octets_cmp (bmp_octets us) (bmp_octets vs) }
 {}
 
 /// What a string prints is made into the same string by `from_utf8`.
@@ -27,5 +28,6 @@ pub fn printed_strings_are_read_back()
 
 /// The string that `from_utf8` makes of a text prints it.
 pub fn read_texts_are_printed()
-    ensures { (text us : List ℕ) → IsUtf8 text → bmp_from (chars text) ≡ Ok us → encode_utf8_all us ≡ text }
+    ensures { (text us : List ℕ) → IsUtf8 text → bmp_from (chars text) ≡ Ok us → encode_utf8_all us
+        ≡ text }
 {}

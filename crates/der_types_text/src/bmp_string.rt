@@ -1,14 +1,18 @@
 //! BMPString.
 
-ghost use Rattle.std.specs.Prelude.{◌≡◌, ◌++◌, true, false, nat_eq, Some, IfOk, IsTrue, OnOk, MatchOption, encode_utf8_all};
+ghost use Rattle.std.specs.Prelude.{◌≡◌, ◌++◌, true, false, nat_eq, Some, IfOk, IsTrue, OnOk};
+ghost use Rattle.std.specs.Prelude.{MatchOption, encode_utf8_all};
 ghost use Rattle.std.proofs.Common.{refl, ap};
 ghost use Rattle.std.specs.Cmp.{partial_equiv_from_equiv};
-ghost use Rattle.std.specs.Cmp.Lexicographic.{pointwise, slice_cmp, bytes_decides, nat_list_eq_equiv, nat_list_cmp_total, texts_po, texts_ties};
+ghost use Rattle.std.specs.Cmp.Lexicographic.{pointwise, slice_cmp, bytes_decides};
+ghost use Rattle.std.specs.Cmp.Lexicographic.{nat_list_eq_equiv, nat_list_cmp_total, texts_po};
+ghost use Rattle.std.specs.Cmp.Lexicographic.{texts_ties};
 ghost use Rattle.std.specs.Hash as fed;
 ghost use Rattle.std.specs.Ordering.{nat_cmp};
 ghost use Rattle.std.specs.List.{list_all};
 ghost use Rattle.std.specs.Str.{chars};
-ghost use Rattle.der_core_head.specs.BmpStrings.{IsBmp, is_unit, unit_octets, bmp_octets, bmp_read, units};
+ghost use Rattle.der_core_head.specs.BmpStrings.{IsBmp, is_unit, unit_octets, bmp_octets, bmp_read};
+ghost use Rattle.der_core_head.specs.BmpStrings.{units};
 ghost use Rattle.der_core_head.specs.declared.tag.Tag.TheVariants.{BmpString as BmpStringTag};
 ghost use Rattle.der_core_head.specs.Leaves.{bmp};
 ghost use Rattle.der_core_head.specs.Reading.{Gives, GivesNow};
@@ -81,7 +85,8 @@ fn are_characters(octets: &[u8]) -> bool
 
 /// A character as a number, where it has two octets.
 fn unit_of(character: char) -> Option<u16>
-    ensures { MatchOption result (is_unit character ≡ false) (λ unit. (unit ≡ character) × (is_unit character ≡ true)) }
+    ensures { MatchOption result (is_unit character ≡ false) (λ unit. (unit ≡ character)
+        × (is_unit character ≡ true)) }
 {
     match u16::try_from(u32::from(character)) {
         Ok(unit) => Some(unit),
@@ -121,8 +126,8 @@ impl BmpString {
     /// The string of these octets.
     ///
     /// # Errors
-    /// `Overflow` for 2^32 octets or more, `Value` for an odd number of octets, and where a pair is a
-    /// half of a surrogate pair.
+    /// `Overflow` for 2^32 octets or more, `Value` for an odd number of octets, and where a pair is
+    /// a half of a surrogate pair.
     #[tactic(auto, unfolding(der_core_head::specs::BmpStrings::bmp_read))]
     pub fn from_ucs2(bytes: Vec<u8>) -> Result<BmpString, Error>
         ensures { GivesNow (λ s. s) result (ucs2_from bytes.items) }

@@ -1,8 +1,8 @@
-//! The laws of texts: a borrowed text and the owned one of the same octets are alike. The owned form of
-//! a `Utf8StringRef` is a `String`.
+//! The laws of texts: a borrowed text and the owned one of the same octets are alike. The owned
+//! form of a `Utf8StringRef` is a `String`.
 //!
-//! Each is the contract of a function that does nothing. What `new`, `as_str`, `as_bytes`, `len` and
-//! `is_empty` answer is said at each in the same words.
+//! Each is the contract of a function that does nothing. What `new`, `as_str`, `as_bytes`, `len`
+//! and `is_empty` answer is said at each in the same words.
 
 ghost use Rattle.std.specs.Prelude.{◌≡◌, string_bytes};
 ghost use Rattle.der_core_head.specs.Shapes.{contents, octets_of};
@@ -26,10 +26,14 @@ pub fn forms_read_alike<T: AsciiType>()
 /// Both forms have the same contents and the same encoding.
 pub fn forms_encode_alike<T: AsciiType>(borrowed: &AsciiStringRef<'_, T>, owned: &AsciiString<T>)
     requires { borrowed.now.text.now ≡ owned.now }
-    ensures contents { contents ⟦<AsciiStringRef<'static, T> as ShapedValue>⟧.content (⟦<AsciiStringRef<'static, T> as ShapedValue>⟧.value_plain borrowed.now)
-        ≡ contents ⟦<AsciiString<T> as ShapedValue>⟧.content (⟦<AsciiString<T> as ShapedValue>⟧.value_plain owned.now) }
-    ensures encoding { octets_of ⟦<AsciiStringRef<'static, T> as Shaped>⟧.shape (⟦<AsciiStringRef<'static, T> as Shaped>⟧.plain borrowed.now)
-        ≡ octets_of ⟦<AsciiString<T> as Shaped>⟧.shape (⟦<AsciiString<T> as Shaped>⟧.plain owned.now) }
+    ensures contents { contents ⟦<AsciiStringRef<'static, T> as ShapedValue>⟧.content
+        (⟦<AsciiStringRef<'static, T> as ShapedValue>⟧.value_plain borrowed.now)
+        ≡ contents ⟦<AsciiString<T> as ShapedValue>⟧.content
+        (⟦<AsciiString<T> as ShapedValue>⟧.value_plain owned.now) }
+    ensures encoding { octets_of ⟦<AsciiStringRef<'static, T> as Shaped>⟧.shape
+        (⟦<AsciiStringRef<'static, T> as Shaped>⟧.plain borrowed.now)
+        ≡ octets_of ⟦<AsciiString<T> as Shaped>⟧.shape
+        (⟦<AsciiString<T> as Shaped>⟧.plain owned.now) }
 {}
 
 /// Two texts are equal, hash, and stand in each order alike in both forms: by `cmp`, `partial_cmp`,
@@ -42,22 +46,37 @@ pub fn forms_compare_alike<T: AsciiType>(
 )
     requires first { a.now.text.now ≡ owned_a.now }
     requires second { b.now.text.now ≡ owned_b.now }
-    ensures equality { ⟦<AsciiStringRef<'static, T> as PartialEq>⟧.eq a.now b.now ≡ ⟦<AsciiString<T> as PartialEq>⟧.eq owned_a.now owned_b.now }
-    ensures hash { ⟦<AsciiStringRef<'static, T> as Hash>⟧.hash_input a.now ≡ ⟦<AsciiString<T> as Hash>⟧.hash_input owned_a.now }
-    ensures order { ⟦<AsciiStringRef<'static, T> as Ord>⟧.cmp a.now b.now ≡ ⟦<AsciiString<T> as Ord>⟧.cmp owned_a.now owned_b.now }
-    ensures partial_order { ⟦<AsciiStringRef<'static, T> as PartialOrd>⟧.partial_cmp a.now b.now ≡ ⟦<AsciiString<T> as PartialOrd>⟧.partial_cmp owned_a.now owned_b.now }
-    ensures contents { contents_cmp ⟦<AsciiStringRef<'static, T> as ShapedValue>⟧.content (⟦<AsciiStringRef<'static, T> as ShapedValue>⟧.value_plain a.now) (⟦<AsciiStringRef<'static, T> as ShapedValue>⟧.value_plain b.now)
-        ≡ contents_cmp ⟦<AsciiString<T> as ShapedValue>⟧.content (⟦<AsciiString<T> as ShapedValue>⟧.value_plain owned_a.now) (⟦<AsciiString<T> as ShapedValue>⟧.value_plain owned_b.now) }
-    ensures encodings { encodings_cmp ⟦<AsciiStringRef<'static, T> as Shaped>⟧.shape (⟦<AsciiStringRef<'static, T> as Shaped>⟧.plain a.now) (⟦<AsciiStringRef<'static, T> as Shaped>⟧.plain b.now)
-        ≡ encodings_cmp ⟦<AsciiString<T> as Shaped>⟧.shape (⟦<AsciiString<T> as Shaped>⟧.plain owned_a.now) (⟦<AsciiString<T> as Shaped>⟧.plain owned_b.now) }
+    ensures equality { ⟦<AsciiStringRef<'static, T> as PartialEq>⟧.eq a.now b.now
+        ≡ ⟦<AsciiString<T> as PartialEq>⟧.eq owned_a.now owned_b.now }
+    ensures hash { ⟦<AsciiStringRef<'static, T> as Hash>⟧.hash_input a.now
+        ≡ ⟦<AsciiString<T> as Hash>⟧.hash_input owned_a.now }
+    ensures order { ⟦<AsciiStringRef<'static, T> as Ord>⟧.cmp a.now b.now
+        ≡ ⟦<AsciiString<T> as Ord>⟧.cmp owned_a.now owned_b.now }
+    ensures partial_order { ⟦<AsciiStringRef<'static, T> as PartialOrd>⟧.partial_cmp a.now b.now
+        ≡ ⟦<AsciiString<T> as PartialOrd>⟧.partial_cmp owned_a.now owned_b.now }
+    ensures contents { contents_cmp ⟦<AsciiStringRef<'static, T> as ShapedValue>⟧.content
+        (⟦<AsciiStringRef<'static, T> as ShapedValue>⟧.value_plain a.now)
+        (⟦<AsciiStringRef<'static, T> as ShapedValue>⟧.value_plain b.now)
+        ≡ contents_cmp ⟦<AsciiString<T> as ShapedValue>⟧.content
+        (⟦<AsciiString<T> as ShapedValue>⟧.value_plain owned_a.now)
+        (⟦<AsciiString<T> as ShapedValue>⟧.value_plain owned_b.now) }
+    ensures encodings { encodings_cmp ⟦<AsciiStringRef<'static, T> as Shaped>⟧.shape
+        (⟦<AsciiStringRef<'static, T> as Shaped>⟧.plain a.now)
+        (⟦<AsciiStringRef<'static, T> as Shaped>⟧.plain b.now)
+        ≡ encodings_cmp ⟦<AsciiString<T> as Shaped>⟧.shape
+        (⟦<AsciiString<T> as Shaped>⟧.plain owned_a.now)
+        (⟦<AsciiString<T> as Shaped>⟧.plain owned_b.now) }
 {}
 
 /// Both forms print alike, and lend the same octets and the same text.
 pub fn forms_answer_alike<T: AsciiType>(borrowed: &AsciiStringRef<'_, T>, owned: &AsciiString<T>)
     requires { borrowed.now.text.now ≡ owned.now }
-    ensures printed { ⟦<AsciiStringRef<'static, T> as Display>⟧.output borrowed.now ≡ ⟦<AsciiString<T> as Display>⟧.output owned.now }
-    ensures octets { ⟦<AsciiStringRef<'static, T> as AsSlice<u8>>⟧.items borrowed.now ≡ ⟦<AsciiString<T> as AsSlice<u8>>⟧.items owned.now }
-    ensures text { ⟦<AsciiStringRef<'static, T> as AsStr>⟧.text borrowed.now ≡ ⟦<AsciiString<T> as AsStr>⟧.text owned.now }
+    ensures printed { ⟦<AsciiStringRef<'static, T> as Display>⟧.output borrowed.now
+        ≡ ⟦<AsciiString<T> as Display>⟧.output owned.now }
+    ensures octets { ⟦<AsciiStringRef<'static, T> as AsSlice<u8>>⟧.items borrowed.now
+        ≡ ⟦<AsciiString<T> as AsSlice<u8>>⟧.items owned.now }
+    ensures text { ⟦<AsciiStringRef<'static, T> as AsStr>⟧.text borrowed.now
+        ≡ ⟦<AsciiString<T> as AsStr>⟧.text owned.now }
 {}
 
 /// Octets are read as a `Utf8StringRef` and as a `String` alike, and refused alike.
@@ -68,9 +87,12 @@ pub fn utf8_forms_read_alike()
 /// Both have the same contents and the same encoding.
 pub fn utf8_forms_encode_alike(borrowed: &Utf8StringRef<'_>, owned: &String)
     requires { borrowed.now.text.now ≡ string_bytes owned.now }
-    ensures contents { contents ⟦<Utf8StringRef<'static> as ShapedValue>⟧.content (⟦<Utf8StringRef<'static> as ShapedValue>⟧.value_plain borrowed.now)
-        ≡ contents ⟦<String as ShapedValue>⟧.content (⟦<String as ShapedValue>⟧.value_plain owned.now) }
-    ensures encoding { octets_of ⟦<Utf8StringRef<'static> as Shaped>⟧.shape (⟦<Utf8StringRef<'static> as Shaped>⟧.plain borrowed.now)
+    ensures contents { contents ⟦<Utf8StringRef<'static> as ShapedValue>⟧.content
+        (⟦<Utf8StringRef<'static> as ShapedValue>⟧.value_plain borrowed.now)
+        ≡ contents ⟦<String as ShapedValue>⟧.content
+        (⟦<String as ShapedValue>⟧.value_plain owned.now) }
+    ensures encoding { octets_of ⟦<Utf8StringRef<'static> as Shaped>⟧.shape
+        (⟦<Utf8StringRef<'static> as Shaped>⟧.plain borrowed.now)
         ≡ octets_of ⟦<String as Shaped>⟧.shape (⟦<String as Shaped>⟧.plain owned.now) }
 {}
 
@@ -83,19 +105,32 @@ pub fn utf8_forms_compare_alike(
 )
     requires first { a.now.text.now ≡ string_bytes owned_a.now }
     requires second { b.now.text.now ≡ string_bytes owned_b.now }
-    ensures equality { ⟦<Utf8StringRef<'static> as PartialEq>⟧.eq a.now b.now ≡ ⟦<String as PartialEq>⟧.eq owned_a.now owned_b.now }
-    ensures hash { ⟦<Utf8StringRef<'static> as Hash>⟧.hash_input a.now ≡ ⟦<String as Hash>⟧.hash_input owned_a.now }
-    ensures order { ⟦<Utf8StringRef<'static> as Ord>⟧.cmp a.now b.now ≡ ⟦<String as Ord>⟧.cmp owned_a.now owned_b.now }
-    ensures partial_order { ⟦<Utf8StringRef<'static> as PartialOrd>⟧.partial_cmp a.now b.now ≡ ⟦<String as PartialOrd>⟧.partial_cmp owned_a.now owned_b.now }
-    ensures contents { contents_cmp ⟦<Utf8StringRef<'static> as ShapedValue>⟧.content (⟦<Utf8StringRef<'static> as ShapedValue>⟧.value_plain a.now) (⟦<Utf8StringRef<'static> as ShapedValue>⟧.value_plain b.now)
-        ≡ contents_cmp ⟦<String as ShapedValue>⟧.content (⟦<String as ShapedValue>⟧.value_plain owned_a.now) (⟦<String as ShapedValue>⟧.value_plain owned_b.now) }
-    ensures encodings { encodings_cmp ⟦<Utf8StringRef<'static> as Shaped>⟧.shape (⟦<Utf8StringRef<'static> as Shaped>⟧.plain a.now) (⟦<Utf8StringRef<'static> as Shaped>⟧.plain b.now)
-        ≡ encodings_cmp ⟦<String as Shaped>⟧.shape (⟦<String as Shaped>⟧.plain owned_a.now) (⟦<String as Shaped>⟧.plain owned_b.now) }
+    ensures equality { ⟦<Utf8StringRef<'static> as PartialEq>⟧.eq a.now b.now
+        ≡ ⟦<String as PartialEq>⟧.eq owned_a.now owned_b.now }
+    ensures hash { ⟦<Utf8StringRef<'static> as Hash>⟧.hash_input a.now
+        ≡ ⟦<String as Hash>⟧.hash_input owned_a.now }
+    ensures order { ⟦<Utf8StringRef<'static> as Ord>⟧.cmp a.now b.now
+        ≡ ⟦<String as Ord>⟧.cmp owned_a.now owned_b.now }
+    ensures partial_order { ⟦<Utf8StringRef<'static> as PartialOrd>⟧.partial_cmp a.now b.now
+        ≡ ⟦<String as PartialOrd>⟧.partial_cmp owned_a.now owned_b.now }
+    ensures contents { contents_cmp ⟦<Utf8StringRef<'static> as ShapedValue>⟧.content
+        (⟦<Utf8StringRef<'static> as ShapedValue>⟧.value_plain a.now)
+        (⟦<Utf8StringRef<'static> as ShapedValue>⟧.value_plain b.now)
+        ≡ contents_cmp ⟦<String as ShapedValue>⟧.content
+        (⟦<String as ShapedValue>⟧.value_plain owned_a.now)
+        (⟦<String as ShapedValue>⟧.value_plain owned_b.now) }
+    ensures encodings { encodings_cmp ⟦<Utf8StringRef<'static> as Shaped>⟧.shape
+        (⟦<Utf8StringRef<'static> as Shaped>⟧.plain a.now)
+        (⟦<Utf8StringRef<'static> as Shaped>⟧.plain b.now)
+        ≡ encodings_cmp ⟦<String as Shaped>⟧.shape (⟦<String as Shaped>⟧.plain owned_a.now)
+        (⟦<String as Shaped>⟧.plain owned_b.now) }
 {}
 
 /// Both print alike, and lend the same text.
 pub fn utf8_forms_answer_alike(borrowed: &Utf8StringRef<'_>, owned: &String)
     requires { borrowed.now.text.now ≡ string_bytes owned.now }
-    ensures printed { ⟦<Utf8StringRef<'static> as Display>⟧.output borrowed.now ≡ ⟦<String as Display>⟧.output owned.now }
-    ensures text { ⟦<Utf8StringRef<'static> as AsStr>⟧.text borrowed.now ≡ ⟦<String as AsStr>⟧.text owned.now }
+    ensures printed { ⟦<Utf8StringRef<'static> as Display>⟧.output borrowed.now
+        ≡ ⟦<String as Display>⟧.output owned.now }
+    ensures text { ⟦<Utf8StringRef<'static> as AsStr>⟧.text borrowed.now
+        ≡ ⟦<String as AsStr>⟧.text owned.now }
 {}

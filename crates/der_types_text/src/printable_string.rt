@@ -10,8 +10,8 @@ use crate::ascii_string_ref::AsciiStringRef;
 use crate::ascii_type::AsciiType;
 use der_core::Tag;
 
-/// The characters of PrintableString (X.680 41.4): the letters `A` to `Z` and `a` to `z`, the digits,
-/// space, and `' ( ) + , - . / : = ?`.
+/// The characters of PrintableString (X.680 41.4): the letters `A` to `Z` and `a` to `z`, the
+/// digits, space, and `' ( ) + , - . / : = ?`.
 #[derive(Clone, Copy, Debug, PartialEq, Eq)]
 pub struct Printable;
 

@@ -1,6 +1,7 @@
 //! Civil dates.
 
-ghost use Rattle.std.specs.Prelude.{◌≡◌, ◌↔◌, ◌*◌, ◌/◌, ◌≤◌, ◌<◌, true, IsTrue, IsOk, IfOk, IfErr, pos, ◌≤ℤ◌};
+ghost use Rattle.std.specs.Prelude.{◌≡◌, ◌↔◌, ◌*◌, ◌/◌, ◌≤◌, ◌<◌, true, IsTrue, IsOk, IfOk, IfErr};
+ghost use Rattle.std.specs.Prelude.{pos, ◌≤ℤ◌};
 ghost use Rattle.std.specs.Duration.{as_nanos};
 ghost use Rattle.der_core_head.specs.Dates.{Civil, is_leap, days_in_month, is_civil};
 ghost use Rattle.der_types_time.specs.Seconds.{unix_days, unix_seconds};
@@ -16,8 +17,8 @@ use std::time::Duration;
 
 /// A date to the second in universal time, from 1970-01-01T00:00:00Z to 9999-12-31T23:59:59Z.
 ///
-/// Contracts see its year, month, day, hour, minute and second. Dates are in the order of time. As a
-/// value of DER a date is a GeneralizedTime.
+/// Contracts see its year, month, day, hour, minute and second. Dates are in the order of time. As
+/// a value of DER a date is a GeneralizedTime.
 #[derive(Clone, Copy, Debug, PartialEq, Eq, PartialOrd, Ord, Hash)]
 pub struct DateTime {
     year: u16,
@@ -77,7 +78,8 @@ fn unsigned_year(date: Date) -> u16
 }
 
 impl DateTime {
-    /// 9999-12-31T23:59:59Z, the last date, which RFC 5280 4.1.2.5 takes for a certificate without an end.
+    /// 9999-12-31T23:59:59Z, the last date, which RFC 5280 4.1.2.5 takes for a certificate without
+    /// an end.
     pub const INFINITY: DateTime = DateTime {
         year: 9999,
         month: 12,
@@ -237,7 +239,8 @@ impl DateTime {
         )
     }
 
-    /// The date so long after 1970-01-01T00:00:00Z, leap seconds and fractions of a second left out.
+    /// The date so long after 1970-01-01T00:00:00Z, leap seconds and fractions of a second left
+    /// out.
     ///
     /// # Errors
     /// `DateTime` after 9999-12-31T23:59:59Z.

@@ -44,7 +44,8 @@ impl GeneralizedTime {
     /// The number of content octets.
     pub const LENGTH: usize = 15;
 
-    /// 9999-12-31T23:59:59Z, the last time, which RFC 5280 4.1.2.5 takes for a certificate without an end.
+    /// 9999-12-31T23:59:59Z, the last time, which RFC 5280 4.1.2.5 takes for a certificate without
+    /// an end.
     pub const INFINITY: GeneralizedTime = GeneralizedTime {
         date_time: DateTime::INFINITY,
     };

@@ -13,15 +13,18 @@ use std::cmp::Ord;
 
 /// Dates are in the order of their seconds, by `cmp`.
 pub fn order_is_that_of_seconds()
-    ensures { (c d : Civil) → is_civil c ≡ true → is_civil d ≡ true → ⟦<DateTime as Ord>⟧.cmp c d ≡ nat_cmp (unix_seconds c) (unix_seconds d) }
+    ensures { (c d : Civil) → is_civil c ≡ true → is_civil d ≡ true → ⟦<DateTime as Ord>⟧.cmp c d
+        ≡ nat_cmp (unix_seconds c) (unix_seconds d) }
 {}
 
 /// Of one number of seconds there is one date.
 pub fn one_date_by_seconds()
-    ensures { (c d : Civil) → is_civil c ≡ true → is_civil d ≡ true → unix_seconds c ≡ unix_seconds d → c ≡ d }
+    ensures { (c d : Civil) → is_civil c ≡ true → is_civil d ≡ true → unix_seconds c
+        ≡ unix_seconds d → c ≡ d }
 {}
 
 /// Of one text there is one date.
 pub fn one_date_by_text()
-    ensures { (c d : Civil) → is_civil c ≡ true → is_civil d ≡ true → date_text c ≡ date_text d → c ≡ d }
+    ensures { (c d : Civil) → is_civil c ≡ true → is_civil d ≡ true → date_text c ≡ date_text d
+        → c ≡ d }
 {}

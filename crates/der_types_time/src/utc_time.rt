@@ -25,8 +25,8 @@ use std::time::Duration;
 ///
 /// The years 00 to 49 are those from 2000, 70 to 99 those from 1970; 50 to 69 are refused.
 ///
-/// Its own order is that of time. The order of its contents is another one: `00` of 2000 is below `99`
-/// of 1999.
+/// Its own order is that of time. The order of its contents is another one: `00` of 2000 is below
+/// `99` of 1999.
 #[derive(Clone, Copy, Debug, PartialEq, Eq, PartialOrd, Ord, Hash)]
 pub struct UtcTime {
     date_time: DateTime,
@@ -84,8 +84,10 @@ impl UtcTime {
     pub fn from_unix_duration(duration: Duration) -> Result<UtcTime, Error>
         ensures range { IsOk result ↔ (as_nanos duration < 2_524_608_000_000_000_000) }
         ensures ok { IfOk result (λ t. unix_seconds t ≡ as_nanos duration / 1_000_000_000) }
-        ensures late { as_nanos duration < 253_402_300_800_000_000_000 → IfErr result (λ e. e.kind ≡ ErrorKind.Value Tag.UtcTime) }
-        ensures no_date { 253_402_300_800_000_000_000 ≤ as_nanos duration → IfErr result (λ e. e.kind ≡ ErrorKind.DateTime) }
+        ensures late { as_nanos duration < 253_402_300_800_000_000_000
+            → IfErr result (λ e. e.kind ≡ ErrorKind.Value Tag.UtcTime) }
+        ensures no_date { 253_402_300_800_000_000_000 ≤ as_nanos duration
+            → IfErr result (λ e. e.kind ≡ ErrorKind.DateTime) }
     {
         let date_time = DateTime::from_unix_duration(duration)?;
         UtcTime::from_date_time(date_time)
@@ -225,8 +227,8 @@ impl From<&UtcTime> for DateTime {
     }
 }
 
-/// `YYMMDDHHMMSSZ`. It isn't the order of time: the years from 2000 stand before those of the century
-/// before.
+/// `YYMMDDHHMMSSZ`. It isn't the order of time: the years from 2000 stand before those of the
+/// century before.
 impl ValueOrd for UtcTime {
     #[tactic(auto, using(der_core::proofs::LeafOrders::leaf_contents))]
     fn value_cmp(&self, other: &Self) -> Result<Ordering, Error> {

@@ -27,17 +27,23 @@ pub struct BitAnswers<'a> {
     pub bit: Option<bool>,
 }
 
-/// A borrowed bit string and its owned form have the same content, are equal to the same bit strings, stand in the same order
-/// and are hashed alike. Nothing is done.
+/// A borrowed bit string and its owned form have the same content, are equal to the same bit
+/// strings, stand in the same order and are hashed alike. Nothing is done.
 pub fn bit_forms_agree()
-    ensures contents { (b : BitStringRef) → contents ⟦<BitStringRef<'static> as ShapedValue>⟧.content (⟦<BitStringRef<'static> as ShapedValue>⟧.value_plain b)
-        ≡ contents ⟦<BitString as ShapedValue>⟧.content (⟦<BitString as ShapedValue>⟧.value_plain (bits_lent b)) }
-    ensures equality { (a b : BitStringRef) → ⟦<BitStringRef<'static> as PartialEq>⟧.eq a b ≡ ⟦<BitString as PartialEq>⟧.eq (bits_lent a) (bits_lent b) }
-    ensures order { (a b : BitStringRef) → ⟦<BitStringRef<'static> as Ord>⟧.cmp a b ≡ ⟦<BitString as Ord>⟧.cmp (bits_lent a) (bits_lent b) }
-    ensures hash { (b : BitStringRef) → ⟦<BitStringRef<'static> as Hash>⟧.hash_input b ≡ ⟦<BitString as Hash>⟧.hash_input (bits_lent b) }
+    ensures contents { (b : BitStringRef) → contents ⟦<BitStringRef<'static> as ShapedValue>⟧.content
+        (⟦<BitStringRef<'static> as ShapedValue>⟧.value_plain b)
+        ≡ contents ⟦<BitString as ShapedValue>⟧.content
+        (⟦<BitString as ShapedValue>⟧.value_plain (bits_lent b)) }
+    ensures equality { (a b : BitStringRef) → ⟦<BitStringRef<'static> as PartialEq>⟧.eq a b
+        ≡ ⟦<BitString as PartialEq>⟧.eq (bits_lent a) (bits_lent b) }
+    ensures order { (a b : BitStringRef) → ⟦<BitStringRef<'static> as Ord>⟧.cmp a b
+        ≡ ⟦<BitString as Ord>⟧.cmp (bits_lent a) (bits_lent b) }
+    ensures hash { (b : BitStringRef) → ⟦<BitStringRef<'static> as Hash>⟧.hash_input b
+        ≡ ⟦<BitString as Hash>⟧.hash_input (bits_lent b) }
 {}
 
-/// A borrowed bit string and an owned one of the same bits answer alike: what the first answers, and what the second.
+/// A borrowed bit string and an owned one of the same bits answer alike: what the first answers,
+/// and what the second.
 pub fn bits_answer_alike<'a>(
     lent: &BitStringRef<'a>,
     owned: &'a BitString,

@@ -1,6 +1,8 @@
 //! BIT STRING.
 
-ghost use Rattle.std.specs.Prelude.{◌≡◌, ◌≢◌, ◌<◌, ◌≤◌, ◌^◌, ◌↔◌, ◌&&◌, [], length, vec_len, true, false, Some, None, nat_eq, ◌==◌, IsTrue, IsOk, IfOk, IfErr, IfSome, IfNone};
+ghost use Rattle.std.specs.Prelude.{◌≡◌, ◌≢◌, ◌<◌, ◌≤◌, ◌^◌, ◌↔◌, ◌&&◌, [], length, vec_len, true};
+ghost use Rattle.std.specs.Prelude.{false, Some, None, nat_eq, ◌==◌, IsTrue, IsOk, IfOk, IfErr};
+ghost use Rattle.std.specs.Prelude.{IfSome, IfNone};
 ghost use Rattle.std.proofs.Common.{refl};
 ghost use Rattle.std.specs.Cmp.{po, partial_equiv_from_equiv, on_equiv, on_per};
 ghost use Rattle.std.specs.Cmp.Lexicographic.{pointwise, nat_list_eq_equiv};
@@ -9,7 +11,8 @@ ghost use Rattle.der_core_head.specs.declared.tag.Tag.TheVariants.{BitString as 
 ghost use Rattle.der_core_head.specs.Leaves.{bits};
 ghost use Rattle.der_core_head.specs.Shapes.{leaf};
 ghost use Rattle.der_types_values.specs.Bits.{bit_at, bit_count, bit_list};
-ghost use Rattle.der_types_values.specs.BitOrders.{bits_cmp, bits_cmp_total, bits_cmp_ties, bits_fed, bits_fed_alike};
+ghost use Rattle.der_types_values.specs.BitOrders.{bits_cmp, bits_cmp_total, bits_cmp_ties};
+ghost use Rattle.der_types_values.specs.BitOrders.{bits_fed, bits_fed_alike};
 ghost use Rattle.der_types_values.specs.BitStrings.{bits_lent, bits_left};
 
 use crate::bit_string_iter::BitStringIter;
@@ -59,8 +62,10 @@ impl BitString {
     pub fn new(unused_bits: u8, bytes: Vec<u8>) -> Result<BitString, Error>
         ensures bits { IsOk result ↔ ((are_bits unused_bits bytes.items ≡ true) × (vec_len bytes < 2 ^ 32)) }
         ensures ok { IfOk result (λ b. b ≡ record { unused = unused_bits; octets = bytes.items }) }
-        ensures value { are_bits unused_bits bytes.items ≡ false → IfErr result (λ e. e.kind ≡ ErrorKind.Value Tag.BitString) }
-        ensures long { are_bits unused_bits bytes.items ≡ true → IfErr result (λ e. e.kind ≡ ErrorKind.Overflow) }
+        ensures value { are_bits unused_bits bytes.items ≡ false
+            → IfErr result (λ e. e.kind ≡ ErrorKind.Value Tag.BitString) }
+        ensures long { are_bits unused_bits bytes.items ≡ true
+            → IfErr result (λ e. e.kind ≡ ErrorKind.Overflow) }
     {
         check_bits(unused_bits, bytes.as_slice())?;
         Ok(BitString { unused_bits, bytes })

@@ -1,6 +1,7 @@
 //! BIT STRING, borrowed.
 
-ghost use Rattle.std.specs.Prelude.{◌≡◌, ◌≢◌, ◌<◌, ◌≤◌, ◌^◌, ◌↔◌, [], length, true, false, Some, None, IsTrue, IsOk, IfOk, IfErr, IfSome, IfNone, MatchResult};
+ghost use Rattle.std.specs.Prelude.{◌≡◌, ◌≢◌, ◌<◌, ◌≤◌, ◌^◌, ◌↔◌, [], length, true, false, Some};
+ghost use Rattle.std.specs.Prelude.{None, IsTrue, IsOk, IfOk, IfErr, IfSome, IfNone, MatchResult};
 ghost use Rattle.der_core_head.specs.Heads.{Fits};
 ghost use Rattle.der_core_head.specs.declared.tag.Tag.TheVariants.{BitString as BitStringTag};
 ghost use Rattle.der_core_head.specs.BitStrings.{Bits, are_bits};
@@ -43,8 +44,10 @@ impl<'a> BitStringRef<'a> {
     pub fn new(unused_bits: u8, bytes: &'a [u8]) -> Result<BitStringRef<'a>, Error>
         ensures bits { IsOk result ↔ ((are_bits unused_bits bytes.now ≡ true) × (Fits bytes.now)) }
         ensures ok { IfOk result (λ b. bits_lent b ≡ record { unused = unused_bits; octets = bytes.now }) }
-        ensures value { are_bits unused_bits bytes.now ≡ false → IfErr result (λ e. e.kind ≡ ErrorKind.Value Tag.BitString) }
-        ensures long { are_bits unused_bits bytes.now ≡ true → IfErr result (λ e. e.kind ≡ ErrorKind.Overflow) }
+        ensures value { are_bits unused_bits bytes.now ≡ false
+            → IfErr result (λ e. e.kind ≡ ErrorKind.Value Tag.BitString) }
+        ensures long { are_bits unused_bits bytes.now ≡ true
+            → IfErr result (λ e. e.kind ≡ ErrorKind.Overflow) }
     {
         check_bits(unused_bits, bytes)?;
         Ok(BitStringRef { unused_bits, bytes })
@@ -108,7 +111,8 @@ impl<'a> BitStringRef<'a> {
 
     /// The octets, if no bit is unused.
     pub fn as_bytes(&self) -> Option<&'a [u8]>
-        ensures some { IfSome result (λ w. ((bits_lent self.now).unused ≡ 0) × (w.now ≡ (bits_lent self.now).octets)) }
+        ensures some { IfSome result (λ w. ((bits_lent self.now).unused ≡ 0)
+            × (w.now ≡ (bits_lent self.now).octets)) }
         ensures none { IfNone result ((bits_lent self.now).unused ≢ 0) }
     {
         if self.has_unused_bits() {
@@ -136,7 +140,8 @@ impl<'a> BitStringRef<'a> {
 
     /// The bit at a place, counted from 0, if there is one.
     pub fn get(&self, index: usize) -> Option<bool>
-        ensures inside { index < bit_count (bits_lent self.now) → result ≡ Some (bit_at (bits_lent self.now).octets index) }
+        ensures inside { index < bit_count (bits_lent self.now)
+            → result ≡ Some (bit_at (bits_lent self.now).octets index) }
         ensures outside { bit_count (bits_lent self.now) ≤ index → result ≡ None }
     {
         if index < self.bit_len() {

@@ -35,8 +35,10 @@ pub fn may_be_unused(unused_bits: u8, octets: &[u8]) -> bool
 /// isn't zero; then `Overflow` for 2^32 octets or more.
 pub fn check_bits(unused_bits: u8, octets: &[u8]) -> Result<(), Error>
     ensures bits { IsOk result ↔ ((are_bits unused_bits octets.now ≡ true) × (Fits octets.now)) }
-    ensures value { are_bits unused_bits octets.now ≡ false → IfErr result (λ e. e.kind ≡ ErrorKind.Value Tag.BitString) }
-    ensures long { are_bits unused_bits octets.now ≡ true → IfErr result (λ e. (2 ^ 32 ≤ length octets.now) × (e.kind ≡ ErrorKind.Overflow)) }
+    ensures value { are_bits unused_bits octets.now ≡ false
+        → IfErr result (λ e. e.kind ≡ ErrorKind.Value Tag.BitString) }
+    ensures long { are_bits unused_bits octets.now ≡ true
+        → IfErr result (λ e. (2 ^ 32 ≤ length octets.now) × (e.kind ≡ ErrorKind.Overflow)) }
 {
     if !may_be_unused(unused_bits, octets) {
         return Err(Error::from(ErrorKind::Value {

@@ -1,4 +1,5 @@
-//! Each type can be a member: its values are told apart by their contents, and are written as they are read.
+//! Each type can be a member: its values are told apart by their contents, and are written as they
+//! are read.
 
 ghost use Rattle.std.specs.Prelude.{refl};
 

@@ -1,13 +1,15 @@
 //! Named bits.
 
-ghost use Rattle.std.specs.Prelude.{⊤, nat_eq, ◌≡◌, ◌==◌, ◌<◌, ◌≤◌, ◌-◌, ◌^◌, ℕ, length, take, nat_lt, IfOk};
+ghost use Rattle.std.specs.Prelude.{⊤, nat_eq, ◌≡◌, ◌==◌, ◌<◌, ◌≤◌, ◌-◌, ◌^◌, ℕ, length, take};
+ghost use Rattle.std.specs.Prelude.{nat_lt, IfOk};
 ghost use Rattle.std.specs.Cmp.{on_per, on_equiv, nat_eq_equiv, partial_equiv_from_equiv};
 ghost use Rattle.std.specs.Int.RustNames.{bit_and, bit_or};
 ghost use Rattle.bitflags.specs.Sets.{known_bits};
 ghost use Rattle.der_core_head.specs.declared.tag.Tag.TheVariants.{BitString};
 ghost use Rattle.der_core_head.specs.Shapes.{leaf};
 ghost use Rattle.der_core_head.specs.Leaves.{named};
-ghost use Rattle.der_core_head.specs.NamedBits.{ends_in_one, set_of as set_of_octets, named_octets, named_read};
+ghost use Rattle.der_core_head.specs.NamedBits.{ends_in_one, set_of as set_of_octets, named_octets};
+ghost use Rattle.der_core_head.specs.NamedBits.{named_read};
 ghost use Rattle.der_core_head.specs.Reading.{GivesNow};
 
 use bitflags::Flags;

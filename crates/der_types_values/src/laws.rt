@@ -22,17 +22,23 @@ pub struct OctetAnswers<'a> {
     pub is_empty: bool,
 }
 
-/// A borrowed octet string and its owned form have the same content, are equal to the same octet strings, stand in the same
-/// order and are hashed alike. Nothing is done.
+/// A borrowed octet string and its owned form have the same content, are equal to the same octet
+/// strings, stand in the same order and are hashed alike. Nothing is done.
 pub fn octet_forms_agree()
-    ensures contents { (o : OctetStringRef) → contents ⟦<OctetStringRef<'static> as ShapedValue>⟧.content (⟦<OctetStringRef<'static> as ShapedValue>⟧.value_plain o)
-        ≡ contents ⟦<OctetString as ShapedValue>⟧.content (⟦<OctetString as ShapedValue>⟧.value_plain (octets_lent o)) }
-    ensures equality { (a b : OctetStringRef) → ⟦<OctetStringRef<'static> as PartialEq>⟧.eq a b ≡ ⟦<OctetString as PartialEq>⟧.eq (octets_lent a) (octets_lent b) }
-    ensures order { (a b : OctetStringRef) → ⟦<OctetStringRef<'static> as Ord>⟧.cmp a b ≡ ⟦<OctetString as Ord>⟧.cmp (octets_lent a) (octets_lent b) }
-    ensures hash { (o : OctetStringRef) → ⟦<OctetStringRef<'static> as Hash>⟧.hash_input o ≡ ⟦<OctetString as Hash>⟧.hash_input (octets_lent o) }
+    ensures contents { (o : OctetStringRef) → contents ⟦<OctetStringRef<'static> as ShapedValue>⟧.content
+        (⟦<OctetStringRef<'static> as ShapedValue>⟧.value_plain o)
+        ≡ contents ⟦<OctetString as ShapedValue>⟧.content
+        (⟦<OctetString as ShapedValue>⟧.value_plain (octets_lent o)) }
+    ensures equality { (a b : OctetStringRef) → ⟦<OctetStringRef<'static> as PartialEq>⟧.eq a b
+        ≡ ⟦<OctetString as PartialEq>⟧.eq (octets_lent a) (octets_lent b) }
+    ensures order { (a b : OctetStringRef) → ⟦<OctetStringRef<'static> as Ord>⟧.cmp a b
+        ≡ ⟦<OctetString as Ord>⟧.cmp (octets_lent a) (octets_lent b) }
+    ensures hash { (o : OctetStringRef) → ⟦<OctetStringRef<'static> as Hash>⟧.hash_input o
+        ≡ ⟦<OctetString as Hash>⟧.hash_input (octets_lent o) }
 {}
 
-/// A borrowed octet string and an owned one of the same octets answer alike: what the first answers, and what the second.
+/// A borrowed octet string and an owned one of the same octets answer alike: what the first
+/// answers, and what the second.
 pub fn octets_answer_alike<'a>(
     lent: &OctetStringRef<'a>,
     owned: &'a OctetString,

@@ -1,9 +1,12 @@
 //! OCTET STRING.
 
-ghost use Rattle.std.specs.Prelude.{◌≡◌, ◌<◌, ◌≤◌, ◌^◌, ◌↔◌, [], length, vec_len, nat_eq, Some, IsTrue, IfOk, IfErr};
+ghost use Rattle.std.specs.Prelude.{◌≡◌, ◌<◌, ◌≤◌, ◌^◌, ◌↔◌, [], length, vec_len, nat_eq, Some};
+ghost use Rattle.std.specs.Prelude.{IsTrue, IfOk, IfErr};
 ghost use Rattle.std.proofs.Common.{refl, ap};
 ghost use Rattle.std.specs.Cmp.{partial_equiv_from_equiv};
-ghost use Rattle.std.specs.Cmp.Lexicographic.{pointwise, slice_cmp, bytes_decides, nat_list_eq_equiv, nat_list_cmp_total, texts_po, texts_ties};
+ghost use Rattle.std.specs.Cmp.Lexicographic.{pointwise, slice_cmp, bytes_decides};
+ghost use Rattle.std.specs.Cmp.Lexicographic.{nat_list_eq_equiv, nat_list_cmp_total, texts_po};
+ghost use Rattle.std.specs.Cmp.Lexicographic.{texts_ties};
 ghost use Rattle.std.specs.Hash as fed;
 ghost use Rattle.std.specs.Ordering.{nat_cmp};
 ghost use Rattle.der_core_head.specs.declared.tag.Tag.TheVariants.{OctetString as OctetStringTag};

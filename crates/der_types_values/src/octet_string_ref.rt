@@ -1,6 +1,7 @@
 //! OCTET STRING, borrowed.
 
-ghost use Rattle.std.specs.Prelude.{◌≡◌, ◌<◌, ◌≤◌, ◌^◌, ◌↔◌, [], length, true, Ok, IsTrue, IfOk, IfErr, MatchResult};
+ghost use Rattle.std.specs.Prelude.{◌≡◌, ◌<◌, ◌≤◌, ◌^◌, ◌↔◌, [], length, true, Ok, IsTrue, IfOk};
+ghost use Rattle.std.specs.Prelude.{IfErr, MatchResult};
 ghost use Rattle.der_core_head.specs.Limits.{levels_max};
 ghost use Rattle.der_core_head.specs.Heads.{Fits};
 ghost use Rattle.der_core_head.specs.declared.tag.Tag.TheVariants.{OctetString as OctetStringTag};
@@ -81,9 +82,11 @@ impl<'a> OctetStringRef<'a> {
     /// `OutOfMemory`.
     pub fn decode_into<T: Decode<'a, SliceReader<'a>>>(&self, alloc: Global) -> Result<T, Error>
         // What is read is spelled so.
-        ensures spelled { is_apart T.shape ≡ true → IfOk result (λ v. Spells T.shape (T.plain v) (octets_lent self.now)) }
+        ensures spelled { is_apart T.shape ≡ true
+            → IfOk result (λ v. Spells T.shape (T.plain v) (octets_lent self.now)) }
         // What is spelled so is read, unless memory runs out.
-        ensures only { (v : Value T.shape) → is_apart T.shape ≡ true → are_enough T.shape levels_max ≡ true
+        ensures only { (v : Value T.shape) → is_apart T.shape ≡ true → are_enough T.shape levels_max
+            ≡ true
             → Spells T.shape v (octets_lent self.now) → Gives T.plain result (Ok v) }
         // Which fault it is.
         ensures exact { Gives (λ v. (T.plain v, [])) result (whole_at T.shape (octets_lent self.now)) }
@@ -110,7 +113,8 @@ impl<'a> TryFrom<&'a [u8]> for OctetStringRef<'a> {
 
     type Error = Error;
 
-    ghost try_from_gives = { λ bytes r. MatchResult r (λ o. octets_lent o ≡ bytes.now) (λ e. (2 ^ 32 ≤ length bytes.now) × (e.kind ≡ kinds.Overflow)) };
+    ghost try_from_gives = { λ bytes r. MatchResult r (λ o. octets_lent o ≡ bytes.now)
+        (λ e. (2 ^ 32 ≤ length bytes.now) × (e.kind ≡ kinds.Overflow)) };
 
     fn try_from(bytes: &'a [u8]) -> Result<OctetStringRef<'a>, Error> {
         OctetStringRef::new(bytes)

@@ -18,7 +18,8 @@ pub trait Sequence: FixedTag {
     ghost is_sequence: { Self.fixed_tag ≡ SequenceTag };
 }
 
-/// SEQUENCE (X.690 8.9): the octets of its content, fewer than 2^32, which aren't looked into; lent.
+/// SEQUENCE (X.690 8.9): the octets of its content, fewer than 2^32, which aren't looked into;
+/// lent.
 #[derive(Clone, Copy, Debug, PartialEq, Eq, PartialOrd, Ord, Hash)]
 pub struct SequenceRef<'a> {
     bytes: &'a [u8],

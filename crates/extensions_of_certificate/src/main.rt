@@ -1,4 +1,5 @@
-//! Prints the DNS names of the certificate on standard input (DER), what its key may sign, and how long paths below it may be.
+//! Prints the DNS names of the certificate on standard input (DER), what its key may sign, and how
+//! long paths below it may be.
 #![tactic(auto)]
 
 use der_core::Result;

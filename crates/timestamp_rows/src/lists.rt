@@ -26,7 +26,8 @@ fn members_in(alloc: Global, members: &[SerializedSct]) -> Result<String, Refusa
     Ok(text)
 }
 
-/// What is written of the list of the timestamps that these octets spell, each read and written again.
+/// What is written of the list of the timestamps that these octets spell, each read and written
+/// again.
 pub fn list_read(alloc: Global, members: &str) -> Result<String, Refusal> {
     let mut timestamps = Vec::new(alloc);
     for octets in members.split_whitespace() {

@@ -1,5 +1,5 @@
-//! Builders of certificates, revocation lists and requests: what a signer is handed are the octets of the signed part of what comes
-//! out (RFC 5280 4, 5; RFC 2986 4).
+//! Builders of certificates, revocation lists and requests: what a signer is handed are the octets
+//! of the signed part of what comes out (RFC 5280 4, 5; RFC 2986 4).
 
 pub use x509_cert_list_builders::{
     Builder, BuilderProfile, CertificateBuilder, CertificateType, CrlBuilder, DevId,

@@ -1,5 +1,5 @@
-//! Laws of certificates, of their parts, of names and their texts, of revocation lists, requests and trust anchors, for every bound
-//! of arcs and every profile.
+//! Laws of certificates, of their parts, of names and their texts, of revocation lists, requests
+//! and trust anchors, for every bound of arcs and every profile.
 //!
 //! Each is the contract of a function that does nothing.
 

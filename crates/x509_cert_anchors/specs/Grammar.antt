@@ -1,31 +1,40 @@
--- Trust anchors (RFC 5914 2). Each shape takes the bound of arcs and the greatest number of content octets of a serial number, if there
--- is such a number.
+-- Trust anchors (RFC 5914 2). Each shape takes the bound of arcs and the greatest number of content
+-- octets of a serial number, if there is such a number.
 use Rattle.std.specs.Prelude.{ℕ, List, [], ◌∷◌, Bool, Option, None}
 use Rattle.std.proofs.Common.{inl, inr}
 use Rattle.der_core_head.specs.declared.tag.Tag.TheVariants as tags
 use Rattle.der_core_head.specs.Grammar.{plain_option}
 use Rattle.der_core_head.specs.Integers.{Numbers, among}
 use Rattle.der_core_head.specs.Leaves.{integer, utf8, named}
-use Rattle.der_core_head.specs.Shapes.{Shape, Body, Value, BodyValue, tagged, leaf, either, optional, defaulted, field, done, many, sequence, explicit}
-use Rattle.x509_cert_policies.specs.Certificates.{certificate_fields, certificate, tbs_certificate, certificate_by, tbs_by}
-use Rattle.x509_cert_policies.specs.GeneralNames.{behind, inside, whole_number, name_constraints_fields}
+use Rattle.der_core_head.specs.Shapes.{Shape, Body, Value, BodyValue, tagged, leaf, either}
+use Rattle.der_core_head.specs.Shapes.{optional, defaulted, field, done, many, sequence, explicit}
+use Rattle.x509_cert_policies.specs.Certificates.{certificate_fields, certificate, tbs_certificate}
+use Rattle.x509_cert_policies.specs.Certificates.{certificate_by, tbs_by}
+use Rattle.x509_cert_policies.specs.GeneralNames.{behind, inside, whole_number}
+use Rattle.x509_cert_policies.specs.GeneralNames.{name_constraints_fields}
 use Rattle.x509_cert_policies.specs.Parts.{name, octet_string, public_key_info, extensions}
 use Rattle.x509_cert_policies.specs.Grammar.{policy_information_fields}
 
--- CertPolicyFlags ::= BIT STRING { inhibitPolicyMapping (0), requireExplicitPolicy (1), inhibitAnyPolicy (2) } (2.5)
+-- CertPolicyFlags ::= BIT STRING { inhibitPolicyMapping (0), requireExplicitPolicy (1),
+-- inhibitAnyPolicy (2) } (2.5)
 abbrev pub flag_count : ℕ
 flag_count = 3
 
--- CertPathControls ::= SEQUENCE { taName Name, certificate [0] Certificate OPTIONAL, policySet [1] CertificatePolicies OPTIONAL,
---     policyFlags [2] CertPolicyFlags OPTIONAL, nameConstr [3] NameConstraints OPTIONAL,
---     pathLenConstraint [4] INTEGER (0..MAX) OPTIONAL } (2.5), each tag in place of the field's own
+-- CertPathControls ::= SEQUENCE { taName Name, certificate [0] Certificate OPTIONAL, policySet [1]
+-- CertificatePolicies OPTIONAL, policyFlags [2] CertPolicyFlags OPTIONAL, nameConstr [3]
+-- NameConstraints OPTIONAL, pathLenConstraint [4] INTEGER (0..MAX) OPTIONAL } (2.5), each tag in
+-- place of the field's own
 abbrev pub constraint_fields : ℕ → Body
 constraint_fields bound =
     field (optional (inside 1 (many (sequence (policy_information_fields bound)))))
-    (field (optional (behind 2 (named flag_count))) (field (optional (inside 3 (name_constraints_fields bound))) (field (optional (behind 4 (whole_number 32))) done)))
+    (field (optional (behind 2 (named flag_count)))
+    (field (optional (inside 3 (name_constraints_fields bound)))
+    (field (optional (behind 4 (whole_number 32))) done)))
 
 abbrev pub cert_path_controls_fields : ℕ → Option ℕ → Body
-cert_path_controls_fields bound limit = field (name bound) (field (optional (inside 0 (certificate_fields bound limit))) (constraint_fields bound))
+cert_path_controls_fields bound limit =
+    field (name bound)
+    (field (optional (inside 0 (certificate_fields bound limit))) (constraint_fields bound))
 
 -- TrustAnchorInfoVersion ::= INTEGER { v1(1) } (2.1)
 abbrev pub anchor_numbers : Numbers
@@ -42,22 +51,27 @@ first_version_octets = 2 ∷ 1 ∷ 1 ∷ []
 abbrev pub utf8_string : Shape
 utf8_string = tagged tags.Utf8String (leaf utf8)
 
--- TrustAnchorInfo ::= SEQUENCE { version TrustAnchorInfoVersion DEFAULT v1, pubKey SubjectPublicKeyInfo, keyId OCTET STRING,
---     taTitle UTF8String OPTIONAL, certPath CertPathControls OPTIONAL, exts [1] EXPLICIT Extensions OPTIONAL,
---     taTitleLangTag [2] UTF8String OPTIONAL } (2)
+-- TrustAnchorInfo ::= SEQUENCE { version TrustAnchorInfoVersion DEFAULT v1, pubKey
+-- SubjectPublicKeyInfo, keyId OCTET STRING, taTitle UTF8String OPTIONAL, certPath CertPathControls
+-- OPTIONAL, exts [1] EXPLICIT Extensions OPTIONAL, taTitleLangTag [2] UTF8String OPTIONAL } (2)
 abbrev pub title_fields : ℕ → Option ℕ → Body
 title_fields bound limit =
     field (optional utf8_string)
-    (field (optional (sequence (cert_path_controls_fields bound limit))) (field (optional (explicit 1 (extensions bound))) (field (optional (behind 2 utf8)) done)))
+    (field (optional (sequence (cert_path_controls_fields bound limit)))
+    (field (optional (explicit 1 (extensions bound))) (field (optional (behind 2 utf8)) done)))
 
 abbrev pub trust_anchor_info_fields : ℕ → Option ℕ → Body
 trust_anchor_info_fields bound limit =
-    field (defaulted anchor_version first_version_octets) (field (public_key_info bound) (field octet_string (title_fields bound limit)))
+    field (defaulted anchor_version first_version_octets)
+    (field (public_key_info bound) (field octet_string (title_fields bound limit)))
 
--- TrustAnchorChoice ::= CHOICE { certificate Certificate, tbsCert [1] EXPLICIT TBSCertificate, taInfo [2] EXPLICIT TrustAnchorInfo } (2)
+-- TrustAnchorChoice ::= CHOICE { certificate Certificate, tbsCert [1] EXPLICIT TBSCertificate,
+-- taInfo [2] EXPLICIT TrustAnchorInfo } (2)
 abbrev pub trust_anchor_choice : ℕ → Option ℕ → Shape
 trust_anchor_choice bound limit =
-    either (certificate bound limit) (either (explicit 1 (tbs_certificate bound limit)) (explicit 2 (sequence (trust_anchor_info_fields bound limit))))
+    either (certificate bound limit)
+    (either (explicit 1 (tbs_certificate bound limit))
+    (explicit 2 (sequence (trust_anchor_info_fields bound limit))))
 
 -- Plain values. Neither the bound nor the profile changes what they are.
 abbrev pub PlainControls : Type 0
@@ -74,7 +88,16 @@ abbrev pub cert_path_controls_by : Bool → PlainControls → PlainControls
 cert_path_controls_by r c = (c.0, (plain_option (λ x. certificate_by r x) c.1.0, c.1.1))
 
 abbrev pub trust_anchor_info_by : Bool → PlainInfo → PlainInfo
-trust_anchor_info_by r t = (t.0, (t.1.0, (t.1.1.0, (t.1.1.1.0, (plain_option (λ c. cert_path_controls_by r c) t.1.1.1.1.0, t.1.1.1.1.1)))))
+trust_anchor_info_by r t = (
+  t.0,
+  (
+    t.1.0,
+    (
+      t.1.1.0,
+      (t.1.1.1.0, (plain_option (λ c. cert_path_controls_by r c) t.1.1.1.1.0, t.1.1.1.1.1)),
+    ),
+  ),
+)
 
 abbrev pub trust_anchor_by : Bool → PlainAnchor → PlainAnchor
 trust_anchor_by r (inl c) = inl (certificate_by r c)

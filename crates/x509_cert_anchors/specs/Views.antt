@@ -6,7 +6,8 @@ use Rattle.x509_cert_anchors.specs.Grammar.{PlainControls, PlainInfo, PlainAncho
 use Rattle.x509_cert_anchors.specs.declared.anchor.Version.{Version}
 use Rattle.x509_cert_anchors.specs.declared.cert_path_controls.CertPathControls.{CertPathControls}
 use Rattle.x509_cert_anchors.specs.declared.trust_anchor_choice.TrustAnchorChoice.{TrustAnchorChoice}
-use Rattle.x509_cert_anchors.specs.declared.trust_anchor_choice.TrustAnchorChoice.TheVariants as anchors
+use Rattle.x509_cert_anchors.specs.declared.trust_anchor_choice.TrustAnchorChoice.TheVariants
+    as anchors
 use Rattle.x509_cert_anchors.specs.declared.trust_anchor_info.TrustAnchorInfo.{TrustAnchorInfo}
 use Rattle.x509_cert_policies.specs.CertificateViews.{certificate_plain, tbs_plain}
 use Rattle.x509_cert_policies.specs.GeneralNameViews.{name_constraints_plain}
@@ -24,7 +25,13 @@ cert_path_controls_plain x = (
     plain_option (λ c. certificate_plain c) x.certificate,
     (
       plain_option (λ ps. plain_list policy_information_plain ps.0.items) x.policy_set,
-      (plain_option (λ f. f.flags.0) x.policy_flags, (plain_option name_constraints_plain x.name_constr, (plain_option (λ n. pos n) x.path_len_constraint, tt))),
+      (
+        plain_option (λ f. f.flags.0) x.policy_flags,
+        (
+          plain_option name_constraints_plain x.name_constr,
+          (plain_option (λ n. pos n) x.path_len_constraint, tt),
+        ),
+      ),
     ),
   ),
 )
@@ -40,7 +47,10 @@ trust_anchor_info_plain x = (
         plain_option string_bytes x.ta_title,
         (
           plain_option (λ c. cert_path_controls_plain c) x.cert_path,
-          (plain_option (λ e. extensions_plain e.items) x.extensions, (plain_option string_bytes x.ta_title_lang_tag, tt)),
+          (
+            plain_option (λ e. extensions_plain e.items) x.extensions,
+            (plain_option string_bytes x.ta_title_lang_tag, tt),
+          ),
         ),
       ),
     ),

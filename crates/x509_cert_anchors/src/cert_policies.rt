@@ -23,7 +23,8 @@ impl Flags for CertPolicies {
 
     ghost exact = { ⊤ };
 
-    ghost table = { (codes "INHIBIT_POLICY_MAPPING", 1) ∷ (codes "REQUIRE_EXPLICIT_POLICY", 2) ∷ (codes "INHIBIT_ANY_POLICY", 4) ∷ [] };
+    ghost table = { (codes "INHIBIT_POLICY_MAPPING", 1) ∷ (codes "REQUIRE_EXPLICIT_POLICY", 2)
+        ∷ (codes "INHIBIT_ANY_POLICY", 4) ∷ [] };
 
     ghost set_of = { λ x. x.0 };
 

@@ -4,7 +4,8 @@
 
 ghost use Rattle.std.specs.Prelude.{ℕ, Option, Bool};
 ghost use Rattle.der_core_head.specs.Shapes.{IsValid};
-ghost use Rattle.x509_cert_anchors.specs.Grammar.{PlainAnchor, trust_anchor_choice, trust_anchor_by};
+ghost use Rattle.x509_cert_anchors.specs.Grammar.{PlainAnchor, trust_anchor_choice};
+ghost use Rattle.x509_cert_anchors.specs.Grammar.{trust_anchor_by};
 
 pub use x509_cert_policies::certificates::laws::{
     certificates_are_apart, dates_by_profile, identifiers_stand_in_turn,
@@ -15,8 +16,10 @@ pub use x509_cert_policies::certificates::laws::{
     wider_bounds_read_name_texts_alike,
 };
 
-/// A trust anchor that has an encoding has one where the dates of its certificates are respelled (RFC 5280 4.1.2.5).
+/// A trust anchor that has an encoding has one where the dates of its certificates are respelled
+/// (RFC 5280 4.1.2.5).
 pub fn respelled_anchors_are_spelled()
     ensures { (bound : ℕ) (limit : Option ℕ) (r : Bool) (a : PlainAnchor)
-        → IsValid (trust_anchor_choice bound limit) a → IsValid (trust_anchor_choice bound limit) (trust_anchor_by r a) }
+        → IsValid (trust_anchor_choice bound limit) a
+        → IsValid (trust_anchor_choice bound limit) (trust_anchor_by r a) }
 {}

@@ -47,7 +47,8 @@ type CasesRef<'a, P> = OneOf3<
 impl<P: Profile> TrustAnchorChoice<P> {
     /// The same alternative, lent.
     fn cases<'a>(&'a self) -> CasesRef<'a, P>
-        ensures { ⟦<CasesRef<'a, P> as Shaped>⟧.written result ≡ trust_anchor_by P.respells (trust_anchor_plain self.now) }
+        ensures { ⟦<CasesRef<'a, P> as Shaped>⟧.written result
+            ≡ trust_anchor_by P.respells (trust_anchor_plain self.now) }
     {
         match self {
             TrustAnchorChoice::Certificate(value) => OneOf2::First(EncodeRef(value)),

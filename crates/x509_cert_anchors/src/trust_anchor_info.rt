@@ -43,7 +43,8 @@ pub struct TrustAnchorInfo<P = Rfc5280> {
     pub key_id: OctetString,
     /// A name of the anchor for people.
     pub ta_title: Option<String>,
-    /// The name of the anchor, and what a path from it must meet. Without it the key begins no path.
+    /// The name of the anchor, and what a path from it must meet. Without it the key begins no
+    /// path.
     pub cert_path: Option<CertPathControls<P>>,
     /// The extensions of the anchor, in their order.
     pub extensions: Option<Extensions>,
@@ -94,7 +95,8 @@ type RowRef<'a, P> = (
 impl<P: Profile> TrustAnchorInfo<P> {
     /// Its fields, lent.
     fn row<'a>(&'a self) -> RowRef<'a, P>
-        ensures { ⟦<RowRef<'a, P> as Fields>⟧.fields_written result ≡ trust_anchor_info_by P.respells (trust_anchor_info_plain self.now) }
+        ensures { ⟦<RowRef<'a, P> as Fields>⟧.fields_written result
+            ≡ trust_anchor_info_by P.respells (trust_anchor_info_plain self.now) }
     {
         (
             WithDefault {

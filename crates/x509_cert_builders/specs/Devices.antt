@@ -1,5 +1,6 @@
 -- Devices that have an identity of their own (IEEE 802.1AR 8).
-use Rattle.std.specs.Prelude.{ℕ, List, [], ◌∷◌, length, ◌==◌, Bool, true, false, Option, Some, None, Result, Ok, Err, if◌then◌else◌}
+use Rattle.std.specs.Prelude.{ℕ, List, [], ◌∷◌, length, ◌==◌, Bool, true, false, Option, Some, None}
+use Rattle.std.specs.Prelude.{Result, Ok, Err, if◌then◌else◌}
 use Rattle.std.specs.List.{list_any}
 use Rattle.std.proofs.Common.{inl, inr}
 use Rattle.const_oid.specs.Bound.{Bound}
@@ -10,10 +11,12 @@ use Rattle.der_core_head.specs.declared.tag.Tag.TheVariants.{Sequence}
 use Rattle.der_core_head.specs.Grammar.{plain_list, plain_option}
 use Rattle.der_core_head.specs.Octets.{◌>>=◌}
 use Rattle.der_core_head.specs.Shapes.{BodyValue, Value, nested, sequence_of, IsValid}
-use Rattle.x509_cert_extensions.specs.Parts.{PlainName, PlainExtension, PublicKey, content_as, written_as}
+use Rattle.x509_cert_extensions.specs.Parts.{PlainName, PlainExtension, PublicKey, content_as}
+use Rattle.x509_cert_extensions.specs.Parts.{written_as}
 use Rattle.x509_cert_extensions.specs.GeneralNames.{general_name, hardware_module_name_fields}
 use Rattle.x509_cert_extensions.specs.GeneralNameViews.{general_name_plain}
-use Rattle.x509_cert_builders.specs.Profiles.{authority_key_extension, digital_signature, standard_extension, usage_extension}
+use Rattle.x509_cert_builders.specs.Profiles.{authority_key_extension, digital_signature}
+use Rattle.x509_cert_builders.specs.Profiles.{standard_extension, usage_extension}
 use Rattle.x509_cert_builders.specs.Refusals.{FailsAs}
 use Rattle.x509_cert_builders.specs.declared.error.Error.{Error}
 use Rattle.x509_cert_builders.specs.declared.dev_id.DevId.{DevId}
@@ -32,7 +35,8 @@ abbrev pub is_of_module : PlainGeneralName → Bool
 is_of_module (inl n) = owned_eq n.0 module_arcs
 is_of_module (inr n) = false
 
--- whether a device may have these alternative names: where there are any, one is that of a module (IEEE 802.1AR 8.10.4)
+-- whether a device may have these alternative names: where there are any, one is that of a module
+-- (IEEE 802.1AR 8.10.4)
 abbrev pub may_name : Option (List PlainGeneralName) → Bool
 may_name None = true
 may_name (Some names) = list_any is_of_module names
@@ -57,7 +61,8 @@ IsFaulty (Some names) e = FailsAs (first_module names) e
 
 -- the name of a module of this type and this serial number, if a length can count its octets
 abbrev pub module_name : List ℕ → List ℕ → Result PlainGeneralName ErrorKind
-module_name arcs serial = written_as Sequence (nested (hardware_module_name_fields Bound)) (arcs, (serial, tt)) >>= λ v. Ok (inl (module_arcs, (v, tt)))
+module_name arcs serial = written_as Sequence (nested (hardware_module_name_fields Bound))
+    (arcs, (serial, tt)) >>= λ v. Ok (inl (module_arcs, (v, tt)))
 
 -- the identifier of a version of the Trusted Platform Module
 abbrev pub version_arcs : TpmVersion → List ℕ
@@ -68,11 +73,14 @@ version_arcs (versions.Other oid) = oid
 -- SubjectAltName, critical where the subject has no name (RFC 5280 4.2.1.6)
 abbrev pub alternatives : PlainName → Option (List PlainGeneralName) → List PlainExtension
 alternatives subject None = []
-alternatives subject (Some names) = standard_extension 17 (length subject == 0) (sequence_of (general_name Bound)) names ∷ []
+alternatives subject (Some names) =
+    standard_extension 17 (length subject == 0) (sequence_of (general_name Bound)) names ∷ []
 
 -- a device (8.10)
-abbrev pub device_extensions : Option (List PlainGeneralName) → PlainName → PublicKey → List PlainExtension
-device_extensions names subject issuer_key = authority_key_extension issuer_key ∷ usage_extension digital_signature ∷ alternatives subject names
+abbrev pub device_extensions : Option (List PlainGeneralName) → PlainName → PublicKey
+    → List PlainExtension
+device_extensions names subject issuer_key = authority_key_extension issuer_key
+    ∷ usage_extension digital_signature ∷ alternatives subject names
 
 -- the alternative names of a device
 abbrev pub device_names : DevId → Option (List PlainGeneralName)

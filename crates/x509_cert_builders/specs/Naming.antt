@@ -1,5 +1,7 @@
 -- The naming rules of authorities (CA/Browser Forum, Baseline Requirements 7.1.4.1, 7.1.2.10.2).
-use Rattle.std.specs.Prelude.{◌≡◌, ◌⊎◌, ℕ, ◌<◌, List, [], ◌∷◌, ◌++◌, length, take, get_or, Bool, true, false, ◌&&◌, ◌||◌, nat_lt, not, Option, Some, None, Result, Ok, Err, IsOk, if◌then◌else◌}
+use Rattle.std.specs.Prelude.{◌≡◌, ◌⊎◌, ℕ, ◌<◌, List, [], ◌∷◌, ◌++◌, length, take, get_or, Bool}
+use Rattle.std.specs.Prelude.{true, false, ◌&&◌, ◌||◌, nat_lt, not, Option, Some, None, Result, Ok}
+use Rattle.std.specs.Prelude.{Err, IsOk, if◌then◌else◌}
 use Rattle.std.specs.List.{find, list_any, list_all, position_or_len}
 use Rattle.const_oid.specs.Comparing.{owned_eq}
 use Rattle.der_core_head.specs.Shapes.{AnyValue}
@@ -38,17 +40,20 @@ organization = x520 10
 abbrev pub common_name : List ℕ
 common_name = x520 3
 
--- The types whose order is laid down, in that order: domainComponent, countryName, stateOrProvinceName, localityName, postalCode,
--- streetAddress, organizationName, surname, givenName, organizationalUnitName, commonName (7.1.4.2)
+-- The types whose order is laid down, in that order: domainComponent, countryName,
+-- stateOrProvinceName, localityName, postalCode, streetAddress, organizationName, surname,
+-- givenName, organizationalUnitName, commonName (7.1.4.2)
 abbrev pub ordered_types : List (List ℕ)
 ordered_types =
-    domain_component ∷ country ∷ x520 8 ∷ x520 7 ∷ x520 17 ∷ x520 9 ∷ organization ∷ x520 4 ∷ x520 42 ∷ x520 11 ∷ common_name ∷ []
+    domain_component ∷ country ∷ x520 8 ∷ x520 7 ∷ x520 17 ∷ x520 9 ∷ organization ∷ x520 4
+    ∷ x520 42 ∷ x520 11 ∷ common_name ∷ []
 
 -- whether a type is among these
 abbrev pub is_among : List (List ℕ) → List ℕ → Bool
 is_among types t = list_any (λ u. owned_eq u t) types
 
--- how many of the types whose order is laid down stand before a type; all of them where it is none of them
+-- how many of the types whose order is laid down stand before a type; all of them where it is none
+-- of them
 abbrev pub rank_of : List ℕ → ℕ
 rank_of t = position_or_len (λ u. owned_eq u t) ordered_types
 
@@ -57,9 +62,11 @@ is_ordered t = nat_lt (rank_of t) (length ordered_types)
 
 -- whether a type may stand behind one that stands before it in a name
 abbrev pub may_follow : List ℕ → List ℕ → Bool
-may_follow t before = not (is_ordered t) || not (is_ordered before) || nat_lt (rank_of before) (rank_of t)
+may_follow t before = not (is_ordered t) || not (is_ordered before)
+    || nat_lt (rank_of before) (rank_of t)
 
--- the type of a relative name's attribute, behind attributes of these types; or why the relative name may not stand there
+-- the type of a relative name's attribute, behind attributes of these types; or why the relative
+-- name may not stand there
 abbrev pub type_behind : Bool → List (List ℕ) → List TypeAndValue → Result (List ℕ) Error
 type_behind repeats before [] = Err errors.NonUniqueRdn
 type_behind repeats before (a ∷ []) =
@@ -77,7 +84,8 @@ IsNamed repeats n = (i : ℕ) → i < length n → IsOk (type_at repeats n i)
 
 -- why the first relative name may not that may not
 abbrev pub IsFirstFault : Bool → PlainName → Error → Type 0
-IsFirstFault repeats n e = (i : ℕ) × (i < length n) × ((j : ℕ) → j < i → IsOk (type_at repeats n j)) × (type_at repeats n i ≡ Err e)
+IsFirstFault repeats n e = (i : ℕ) × (i < length n) × ((j : ℕ) → j < i → IsOk (type_at repeats n j))
+    × (type_at repeats n i ≡ Err e)
 
 -- what checking the rules of all names answers
 abbrev pub Names : {X : Type 0} → Bool → PlainName → Result X Error → Type 0
@@ -89,7 +97,8 @@ abbrev pub authority_types : List (List ℕ)
 authority_types = country ∷ x520 8 ∷ x520 7 ∷ x520 17 ∷ x520 9 ∷ organization ∷ common_name ∷ []
 
 abbrev pub has_required : List (List ℕ) → Bool
-has_required types = is_among types country && is_among types organization && is_among types common_name
+has_required types = is_among types country && is_among types organization
+    && is_among types common_name
 
 -- the first of these types that an authority may not have
 abbrev pub foreign_type : List (List ℕ) → Option (List ℕ)
@@ -103,5 +112,7 @@ IsAuthorityFault types e =
 
 -- what checking the name of an authority answers
 abbrev pub NamesAuthority : {X : Type 0} → PlainName → Result X Error → Type 0
-NamesAuthority n (Ok _) = IsNamed false n × (foreign_type (name_types n) ≡ None) × (has_required (name_types n) ≡ true)
-NamesAuthority n (Err e) = IsFirstFault false n e ⊎ (IsNamed false n × IsAuthorityFault (name_types n) e) ⊎ IsWantOfMemory e
+NamesAuthority n (Ok _) = IsNamed false n × (foreign_type (name_types n) ≡ None)
+    × (has_required (name_types n) ≡ true)
+NamesAuthority n (Err e) = IsFirstFault false n e
+    ⊎ (IsNamed false n × IsAuthorityFault (name_types n) e) ⊎ IsWantOfMemory e

@@ -1,12 +1,15 @@
 -- The extensions that profiles add (RFC 5280 4.2; CA/Browser Forum, Baseline Requirements 7.1.2).
-use Rattle.std.specs.Prelude.{◌≡◌, ⊤, ℕ, ℤ, ◌+◌, ◌^◌, List, [], ◌∷◌, Bool, true, false, ◌&&◌, Option, Some, None, if◌then◌else◌}
+use Rattle.std.specs.Prelude.{◌≡◌, ⊤, ℕ, ℤ, ◌+◌, ◌^◌, List, [], ◌∷◌, Bool, true, false, ◌&&◌}
+use Rattle.std.specs.Prelude.{Option, Some, None, if◌then◌else◌}
 use Rattle.const_oid.specs.Bound.{Bound}
 use Rattle.const_oid.specs.Comparing.{owned_eq}
 use Rattle.der_core_head.specs.declared.tag.Tag.TheVariants as tags
 use Rattle.der_core_head.specs.Leaves.{named}
 use Rattle.der_core_head.specs.Shapes.{Shape, Value, tagged, leaf, sequence, sequence_of, octets_of}
 use Rattle.sha1.specs.Sha1.{sha1}
-use Rattle.x509_cert_extensions.specs.Parts.{PublicKey, PlainExtension, algorithm_arcs, key_algorithm, key_bits, object_identifier, octet_string}
+use Rattle.x509_cert_extensions.specs.Parts.{PublicKey, PlainExtension, algorithm_arcs}
+use Rattle.x509_cert_extensions.specs.Parts.{key_algorithm, key_bits, object_identifier}
+use Rattle.x509_cert_extensions.specs.Parts.{octet_string}
 use Rattle.x509_cert_extensions.specs.GeneralNames.{authority_key_identifier_fields}
 use Rattle.x509_cert_extensions.specs.Policies.{basic_constraints_fields}
 
@@ -25,7 +28,9 @@ standard_extension n critical s v = (2 ∷ 5 ∷ 29 ∷ n ∷ [], (critical, (oc
 
 -- AuthorityKeyIdentifier with the issuer's key alone (4.2.1.1)
 abbrev pub authority_key_extension : PublicKey → PlainExtension
-authority_key_extension k = standard_extension 35 false (sequence (authority_key_identifier_fields Bound)) (Some (key_identifier k), (None, (None, tt)))
+authority_key_extension k =
+    standard_extension 35 false (sequence (authority_key_identifier_fields Bound))
+    (Some (key_identifier k), (None, (None, tt)))
 
 -- SubjectKeyIdentifier (4.2.1.2)
 abbrev pub subject_key_extension : PublicKey → PlainExtension
@@ -33,7 +38,8 @@ subject_key_extension k = standard_extension 14 false octet_string (key_identifi
 
 -- BasicConstraints (4.2.1.9)
 abbrev pub constraints_extension : Bool → Option ℤ → PlainExtension
-constraints_extension ca path = standard_extension 19 true (sequence basic_constraints_fields) (ca, (path, tt))
+constraints_extension ca path = standard_extension 19 true (sequence basic_constraints_fields)
+    (ca, (path, tt))
 
 -- KeyUsage, as the number whose bits are the uses (4.2.1.3)
 abbrev pub usage_extension : ℕ → PlainExtension
@@ -46,14 +52,17 @@ digital_signature = 2 ^ 0
 abbrev pub cert_and_crl_sign : ℕ
 cert_and_crl_sign = 2 ^ 5 + 2 ^ 6
 
--- what an authority's key is for; one that answers about the state of certificates signs its answers (7.1.2.10.7)
+-- what an authority's key is for; one that answers about the state of certificates signs its
+-- answers (7.1.2.10.7)
 abbrev pub authority_uses : Bool → ℕ
-authority_uses answers = if answers then cert_and_crl_sign + digital_signature else cert_and_crl_sign
+authority_uses answers = if answers then cert_and_crl_sign + digital_signature
+    else cert_and_crl_sign
 
 -- a root (7.1.2.1.2)
 abbrev pub root_extensions : Bool → PublicKey → List PlainExtension
 root_extensions answers key =
-    authority_key_extension key ∷ constraints_extension true None ∷ usage_extension (authority_uses answers) ∷ subject_key_extension key ∷ []
+    authority_key_extension key ∷ constraints_extension true None
+    ∷ usage_extension (authority_uses answers) ∷ subject_key_extension key ∷ []
 
 -- arcs below id-kp (RFC 5280 4.2.1.12)
 abbrev pub id_kp : ℕ → List ℕ
@@ -65,10 +74,12 @@ purposes clients = if clients then id_kp 1 ∷ id_kp 2 ∷ [] else id_kp 1 ∷ [
 
 -- ExtendedKeyUsage (4.2.1.12)
 abbrev pub purposes_extension : Bool → PlainExtension
-purposes_extension clients = standard_extension 37 false (sequence_of (object_identifier Bound)) (purposes clients)
+purposes_extension clients = standard_extension 37 false (sequence_of (object_identifier Bound))
+    (purposes clients)
 
 -- a subordinate authority (7.1.2.6.1)
-abbrev pub subordinate_extensions : Bool → Bool → Option ℤ → PublicKey → PublicKey → List PlainExtension
+abbrev pub subordinate_extensions : Bool → Bool → Option ℤ → PublicKey → PublicKey
+    → List PlainExtension
 subordinate_extensions answers clients path key issuer_key =
     authority_key_extension issuer_key
     ∷ constraints_extension true path
@@ -92,8 +103,8 @@ is_of arcs k = owned_eq (algorithm_arcs (key_algorithm k)) arcs
 abbrev pub use_where : Bool → ℕ → ℕ
 use_where stands n = if stands then 2 ^ n else 0
 
--- what a subscriber's key is for (7.1.2.7.11): digitalSignature; where they are enabled, dataEncipherment and keyEncipherment of an RSA
--- key, and keyAgreement of one on an elliptic curve
+-- what a subscriber's key is for (7.1.2.7.11): digitalSignature; where they are enabled,
+-- dataEncipherment and keyEncipherment of an RSA key, and keyAgreement of one on an elliptic curve
 abbrev pub subscriber_uses : Bool → Bool → Bool → PublicKey → ℕ
 subscriber_uses data_enciphered keys_enciphered agreement k =
     digital_signature
@@ -104,4 +115,5 @@ subscriber_uses data_enciphered keys_enciphered agreement k =
 -- a subscriber, whose key has these uses (7.1.2.7.6)
 abbrev pub subscriber_extensions : Bool → ℕ → PublicKey → List PlainExtension
 subscriber_extensions clients uses issuer_key =
-    authority_key_extension issuer_key ∷ purposes_extension clients ∷ constraints_extension false None ∷ usage_extension uses ∷ []
+    authority_key_extension issuer_key ∷ purposes_extension clients
+    ∷ constraints_extension false None ∷ usage_extension uses ∷ []

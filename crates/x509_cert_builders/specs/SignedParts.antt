@@ -1,8 +1,10 @@
 -- What a builder of certificates signs (RFC 5280 4.1.2).
-use Rattle.std.specs.Prelude.{ℕ, ℤ, pos, List, [], ◌∷◌, Bool, true, false, Option, Some, None, if◌then◌else◌}
+use Rattle.std.specs.Prelude.{ℕ, ℤ, pos, List, [], ◌∷◌, Bool, true, false, Option, Some, None}
+use Rattle.std.specs.Prelude.{if◌then◌else◌}
 use Rattle.const_oid.specs.Bound.{Bound}
 use Rattle.der_core_head.specs.Shapes.{BodyValue, field, done, octets_of, IsValid}
-use Rattle.x509_cert_extensions.specs.Certificates.{Tbs, tbs_certificate, tbs_by, tbs_issuer, tbs_validity, tbs_subject, tbs_public_key}
+use Rattle.x509_cert_extensions.specs.Certificates.{Tbs, tbs_certificate, tbs_by, tbs_issuer}
+use Rattle.x509_cert_extensions.specs.Certificates.{tbs_validity, tbs_subject, tbs_public_key}
 use Rattle.x509_cert_extensions.specs.Parts.{Algorithm, PublicKey, PlainExtension, PlainName, time}
 
 -- two dates, each with its spelling (4.1.2.5)
@@ -32,8 +34,13 @@ version_of third = if third then pos 2 else pos 0
 
 -- these fields, with a version, an algorithm and extensions; without unique identifiers (4.1.2.8)
 abbrev pub tbs_of : Bool → PlainFields → Algorithm → Option (List PlainExtension) → Tbs
-tbs_of third f a extensions =
-    (version_of third, (f.serial, (a, (f.issuer, (f.validity, (f.subject, (f.key, (None, (None, (extensions, tt))))))))))
+tbs_of third f a extensions = (
+  version_of third,
+  (
+    f.serial,
+    (a, (f.issuer, (f.validity, (f.subject, (f.key, (None, (None, (extensions, tt)))))))),
+  ),
+)
 
 -- the part that a profile is handed: of version 3, and without extensions
 abbrev pub bare_part : PlainFields → Algorithm → Tbs

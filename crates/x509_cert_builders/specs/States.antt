@@ -2,15 +2,17 @@
 use Rattle.std.specs.Prelude.{ℕ, List, take, drop, Option, Some, None, true}
 use Rattle.const_oid.specs.Bound.{Bound}
 use Rattle.der_core_head.specs.Grammar.{plain_option}
-use Rattle.x509_cert_extensions.specs.Certificates.{PlainCertificate, certificate_by, certificate_octets, signed_start, signed_length}
+use Rattle.x509_cert_extensions.specs.Certificates.{PlainCertificate, certificate_by}
+use Rattle.x509_cert_extensions.specs.Certificates.{certificate_octets, signed_start, signed_length}
 use Rattle.x509_cert_extensions.specs.CertificateViews.{tbs_plain}
-use Rattle.x509_cert_extensions.specs.Parts.{Algorithm, PlainExtension, algorithm_plain, extensions_plain}
+use Rattle.x509_cert_extensions.specs.Parts.{Algorithm, PlainExtension, algorithm_plain}
+use Rattle.x509_cert_extensions.specs.Parts.{extensions_plain}
 use Rattle.x509_cert_builders.specs.SignedParts.{PlainFields, fields_of, signed_octets}
 use Rattle.x509_cert_builders.specs.declared.certificate_builder.CertificateBuilder.TheInside.{Inside}
 use Rattle.x509_cert_builders.specs.declared.certificate_builder.Finalized.{Finalized}
 
--- a builder of certificates: its profile, what is settled, the extensions that were added, and the algorithm and the octets of the
--- part that was made last, if there is one
+-- a builder of certificates: its profile, what is settled, the extensions that were added, and the
+-- algorithm and the octets of the part that was made last, if there is one
 pub record CertificateState (P : Type 0) : Type 0 where
   pub profile : P
   pub fields : PlainFields
@@ -18,7 +20,8 @@ pub record CertificateState (P : Type 0) : Type 0 where
   pub finalized : Option (Algorithm × List ℕ)
 
 abbrev pub finalized_plain : PlainFields → Finalized → Algorithm × List ℕ
-finalized_plain f p = let a = algorithm_plain p.algorithm in (a, signed_octets f a (extensions_plain p.extensions.items))
+finalized_plain f p = let a = algorithm_plain p.algorithm in
+    (a, signed_octets f a (extensions_plain p.extensions.items))
 
 abbrev pub certificate_state : {P : Type 0} → Inside P → CertificateState P
 certificate_state b =

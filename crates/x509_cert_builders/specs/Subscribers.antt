@@ -20,7 +20,8 @@ is_domain_validated types.IndividualValidated = false
 is_domain_validated types.OrganizationValidated = false
 is_domain_validated types.ExtendedValidation = false
 
--- whether the subject of a subscriber whose domains were validated may have an attribute: it is a country or a common name (7.1.2.7.2)
+-- whether the subject of a subscriber whose domains were validated may have an attribute: it is a
+-- country or a common name (7.1.2.7.2)
 abbrev pub may_stay : TypeAndValue → Bool
 may_stay a = is_among (country ∷ common_name ∷ []) a.0
 

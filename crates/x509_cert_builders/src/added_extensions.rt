@@ -1,10 +1,14 @@
 //! Extensions, one after the other.
 
-ghost use Rattle.std.specs.Prelude.{◌≡◌, ◌<◌, ◌++◌, ◌∷◌, [], false, pos, Some, None, OnOk, IfOk, IfErr};
+ghost use Rattle.std.specs.Prelude.{◌≡◌, ◌<◌, ◌++◌, ◌∷◌, [], false, pos, Some, None, OnOk, IfOk};
+ghost use Rattle.std.specs.Prelude.{IfErr};
 ghost use Rattle.der_core_head.specs.Grammar.{plain_option};
 ghost use Rattle.der_core_head.specs.Shapes.{IsValid};
 ghost use Rattle.x509_cert_extensions.specs.Parts.{extensions_plain, name_plain};
-ghost use Rattle.x509_cert_builders.specs.Profiles.{Identifies, authority_key_extension, constraints_extension, key_identifier, purposes_extension, standard_extension, subject_key_extension, usage_extension};
+ghost use Rattle.x509_cert_builders.specs.Profiles.{Identifies, authority_key_extension};
+ghost use Rattle.x509_cert_builders.specs.Profiles.{constraints_extension, key_identifier};
+ghost use Rattle.x509_cert_builders.specs.Profiles.{purposes_extension, standard_extension};
+ghost use Rattle.x509_cert_builders.specs.Profiles.{subject_key_extension, usage_extension};
 ghost use Rattle.x509_cert_builders.specs.Refusals.{IsWantOfMemory};
 
 use crate::error::Error;
@@ -30,7 +34,9 @@ pub(crate) fn add<T: Encode + Criticality>(
 ) -> Result<(), Error>
     requires { number < 128 }
     ensures added { OnOk result (extensions_plain extensions.new.items ≡ extensions_plain extensions.old.items
-        ++ standard_extension number (T.is_critical value.now (name_plain subject.now) (extensions_plain extensions.old.items)) T.shape (T.written value.now) ∷ []) }
+        ++ standard_extension number
+        (T.is_critical value.now (name_plain subject.now)
+        (extensions_plain extensions.old.items)) T.shape (T.written value.now) ∷ []) }
     ensures refused { IsValid T.shape (T.written value.now) → IfErr result IsWantOfMemory }
 {
     let named = (standard(number), value);
@@ -44,7 +50,8 @@ pub(crate) fn identifier_of<'a>(
     alloc: Global,
     key: &SubjectPublicKeyInfoRef<'a>,
 ) -> Result<SubjectKeyIdentifier, Error>
-    ensures identifier { IfOk result (λ i. i.0 ≡ key_identifier (⟦<SubjectPublicKeyInfoRef<'a> as Fields>⟧.fields_plain key.now)) }
+    ensures identifier { IfOk result
+        (λ i. i.0 ≡ key_identifier (⟦<SubjectPublicKeyInfoRef<'a> as Fields>⟧.fields_plain key.now)) }
     ensures refused { IfErr result IsWantOfMemory }
 {
     let identifier = SubjectKeyIdentifier::try_from_key(alloc, key)?;
@@ -57,8 +64,10 @@ fn identifier_for<'a>(
     key: &SubjectPublicKeyInfoRef<'a>,
     known: Option<&SubjectKeyIdentifier>,
 ) -> Result<OctetString, Error>
-    requires { Identifies (plain_option (λ i. i.now.0) known) (⟦<SubjectPublicKeyInfoRef<'a> as Fields>⟧.fields_plain key.now) }
-    ensures identifier { IfOk result (λ i. i ≡ key_identifier (⟦<SubjectPublicKeyInfoRef<'a> as Fields>⟧.fields_plain key.now)) }
+    requires { Identifies (plain_option (λ i. i.now.0) known)
+        (⟦<SubjectPublicKeyInfoRef<'a> as Fields>⟧.fields_plain key.now) }
+    ensures identifier { IfOk result
+        (λ i. i ≡ key_identifier (⟦<SubjectPublicKeyInfoRef<'a> as Fields>⟧.fields_plain key.now)) }
     ensures refused { IfErr result IsWantOfMemory }
 {
     let Some(known) = known else {
@@ -78,9 +87,11 @@ pub(crate) fn add_authority<'a>(
     key: &SubjectPublicKeyInfoRef<'a>,
     known: Option<&SubjectKeyIdentifier>,
 ) -> Result<(), Error>
-    requires { Identifies (plain_option (λ i. i.now.0) known) (⟦<SubjectPublicKeyInfoRef<'a> as Fields>⟧.fields_plain key.now) }
+    requires { Identifies (plain_option (λ i. i.now.0) known)
+        (⟦<SubjectPublicKeyInfoRef<'a> as Fields>⟧.fields_plain key.now) }
     ensures added { OnOk result (extensions_plain extensions.new.items ≡ extensions_plain extensions.old.items
-        ++ authority_key_extension (⟦<SubjectPublicKeyInfoRef<'a> as Fields>⟧.fields_plain key.now) ∷ []) }
+        ++ authority_key_extension (⟦<SubjectPublicKeyInfoRef<'a> as Fields>⟧.fields_plain key.now)
+        ∷ []) }
     ensures refused { IfErr result IsWantOfMemory }
 {
     let identifier = identifier_for(alloc, key, known)?;
@@ -102,9 +113,11 @@ pub(crate) fn add_identifier<'a>(
     key: &SubjectPublicKeyInfoRef<'a>,
     known: Option<&SubjectKeyIdentifier>,
 ) -> Result<(), Error>
-    requires { Identifies (plain_option (λ i. i.now.0) known) (⟦<SubjectPublicKeyInfoRef<'a> as Fields>⟧.fields_plain key.now) }
+    requires { Identifies (plain_option (λ i. i.now.0) known)
+        (⟦<SubjectPublicKeyInfoRef<'a> as Fields>⟧.fields_plain key.now) }
     ensures added { OnOk result (extensions_plain extensions.new.items ≡ extensions_plain extensions.old.items
-        ++ subject_key_extension (⟦<SubjectPublicKeyInfoRef<'a> as Fields>⟧.fields_plain key.now) ∷ []) }
+        ++ subject_key_extension (⟦<SubjectPublicKeyInfoRef<'a> as Fields>⟧.fields_plain key.now)
+        ∷ []) }
     ensures refused { IfErr result IsWantOfMemory }
 {
     let Some(known) = known else {
@@ -145,7 +158,8 @@ pub(crate) fn add_usage(
     subject: &Name,
     usage: KeyUsage,
 ) -> Result<(), Error>
-    ensures added { OnOk result (extensions_plain extensions.new.items ≡ extensions_plain extensions.old.items ++ usage_extension usage.0.flags.0 ∷ []) }
+    ensures added { OnOk result (extensions_plain extensions.new.items ≡ extensions_plain extensions.old.items
+        ++ usage_extension usage.0.flags.0 ∷ []) }
     ensures refused { IfErr result IsWantOfMemory }
 {
     add(alloc, extensions, subject, 15, &usage)?;
@@ -160,7 +174,8 @@ pub(crate) fn add_purposes(
     subject: &Name,
     clients: bool,
 ) -> Result<(), Error>
-    ensures added { OnOk result (extensions_plain extensions.new.items ≡ extensions_plain extensions.old.items ++ purposes_extension clients ∷ []) }
+    ensures added { OnOk result (extensions_plain extensions.new.items ≡ extensions_plain extensions.old.items
+        ++ purposes_extension clients ∷ []) }
     ensures refused { IfErr result IsWantOfMemory }
 {
     let purposes = purposes_of(alloc, clients)?;
@@ -174,7 +189,8 @@ pub(crate) fn joined(
     added: &[Extension],
     mut more: Extensions,
 ) -> Result<Extensions, Error>
-    ensures joined { IfOk result (λ v. extensions_plain v.items ≡ extensions_plain added.now ++ extensions_plain more.items) }
+    ensures joined { IfOk result (λ v. extensions_plain v.items ≡ extensions_plain added.now
+        ++ extensions_plain more.items) }
     ensures refused { IfErr result IsWantOfMemory }
 {
     if added.is_empty() {

@@ -1,7 +1,9 @@
 //! The types of attributes of which the naming rules speak.
 
 ghost use Rattle.std.specs.Prelude.{◌≡◌};
-ghost use Rattle.x509_cert_builders.specs.Naming.{domain_component, country, organization, common_name, x520, ordered_types, authority_types};
+ghost use Rattle.x509_cert_builders.specs.Naming.{domain_component, country, organization};
+ghost use Rattle.x509_cert_builders.specs.Naming.{common_name, x520, ordered_types};
+ghost use Rattle.x509_cert_builders.specs.Naming.{authority_types};
 
 use const_oid::ObjectIdentifier;
 
@@ -93,7 +95,8 @@ fn organizational_unit() -> ObjectIdentifier<39>
     ObjectIdentifier::from_bytes_unwrap(&[0x55, 4, 0x0b])
 }
 
-/// The types whose order in a name is laid down, in that order (CA/Browser Forum, Baseline Requirements 7.1.4.2).
+/// The types whose order in a name is laid down, in that order (CA/Browser Forum, Baseline
+/// Requirements 7.1.4.2).
 pub(crate) fn ordered_types() -> [ObjectIdentifier<39>; 11]
     ensures { result ≡ ordered_types }
 {

@@ -6,7 +6,8 @@ use rand_core::CryptoRng;
 use std::alloc::Global;
 use x509_cert_extensions::certificates::BitString;
 
-/// What makes a signed thing: the octets that a signer is handed are those of the signed part of what comes out.
+/// What makes a signed thing: the octets that a signer is handed are those of the signed part of
+/// what comes out.
 pub trait Builder: Sized + Drop {
     ghost use Rattle.std.specs.Prelude.{◌≡◌, ◌⊎◌, ℕ, List, Option, Some, None, IfOk, IfErr};
     ghost use Rattle.der_core_head.specs.BitStrings.{Bits};
@@ -17,7 +18,8 @@ pub trait Builder: Sized + Drop {
     /// What is made.
     type Output;
 
-    /// The octets that are to be signed, by the state of the builder and a signer's key and algorithm.
+    /// The octets that are to be signed, by the state of the builder and a signer's key and
+    /// algorithm.
     ghost to_sign: { Self → PublicKey → Algorithm → List ℕ };
 
     /// Why there may be none, besides want of memory.
@@ -26,7 +28,8 @@ pub trait Builder: Sized + Drop {
     /// The octets of the part that was made last, if one was.
     ghost finalized: { Self → Option (List ℕ) };
 
-    /// The algorithm of the signature of what is made of that part, by that of the signer whose signature it is.
+    /// The algorithm of the signature of what is made of that part, by that of the signer whose
+    /// signature it is.
     ghost algorithm_for: { Self → Algorithm → Algorithm };
 
     /// The octets of the signed part of what was made.
@@ -38,19 +41,24 @@ pub trait Builder: Sized + Drop {
     /// The signature of what was made.
     ghost bits: { Self.Output → Bits };
 
-    /// The octets that are to be signed. The builder keeps what they are the octets of for `assemble`, and stays as it is otherwise, so
-    /// they are the same again for the same signer, until the builder is changed.
+    /// The octets that are to be signed. The builder keeps what they are the octets of for
+    /// `assemble`, and stays as it is otherwise, so they are the same again for the same signer,
+    /// until the builder is changed.
     ///
     /// # Errors
-    /// `Asn1` with `Overflow` where a length passes 2^32 - 1, with `OutOfMemory`, and those of the profile. The builder is then as it
-    /// was.
+    /// `Asn1` with `Overflow` where a length passes 2^32 - 1, with `OutOfMemory`, and those of the
+    /// profile. The builder is then as it was.
     fn finalize<S: Signer>(&mut self, alloc: Global, signer: &S) -> Result<Vec<u8>, Error>
-        ensures octets { IfOk result (λ v. v.items ≡ to_sign self.old (S.public_key signer.now) (S.signs_by signer.now)) }
+        ensures octets { IfOk result
+            (λ v. v.items ≡ to_sign self.old (S.public_key signer.now) (S.signs_by signer.now)) }
         ensures left { IfOk result (λ v. finalized self.new ≡ Some v.items) }
-        ensures bears { IfOk result (λ _. algorithm_for self.new (S.signs_by signer.now) ≡ S.signs_by signer.now) }
-        ensures again { (key : PublicKey) (algorithm : Algorithm) → to_sign self.new key algorithm ≡ to_sign self.old key algorithm }
+        ensures bears { IfOk result (λ _. algorithm_for self.new (S.signs_by signer.now)
+            ≡ S.signs_by signer.now) }
+        ensures again { (key : PublicKey) (algorithm : Algorithm) → to_sign self.new key algorithm
+            ≡ to_sign self.old key algorithm }
         ensures kept { IfErr result (λ _. self.new ≡ self.old) }
-        ensures refused { IfErr result (λ e. IsWantOfMemory e ⊎ faults self.old (S.public_key signer.now) (S.signs_by signer.now) e) };
+        ensures refused { IfErr result (λ e. IsWantOfMemory e
+            ⊎ faults self.old (S.public_key signer.now) (S.signs_by signer.now) e) };
 
     /// What was finalized last, with this signature. Nothing is written.
     ///
@@ -73,11 +81,15 @@ pub trait Builder: Sized + Drop {
     /// # Errors
     /// Those of `finalize` and of `assemble`, and `Signature` where the signer gives none.
     fn build<S: Signer>(mut self, alloc: Global, signer: &S) -> Result<Self::Output, Error>
-        ensures octets { IfOk result (λ x. signed_octets x ≡ to_sign self (S.public_key signer.now) (S.signs_by signer.now)) }
+        ensures octets { IfOk result
+            (λ x. signed_octets x ≡ to_sign self (S.public_key signer.now) (S.signs_by signer.now)) }
         ensures algorithm { IfOk result (λ x. outer_algorithm x ≡ S.signs_by signer.now) }
         ensures signed { IfOk result (λ x. S.signs signer.now (signed_octets x) (bits x)) }
-        ensures refused { IfErr result (λ e. IsWantOfMemory e ⊎ faults self (S.public_key signer.now) (S.signs_by signer.now) e
-            ⊎ ((e ≡ is_refused) × S.may_refuse signer.now (to_sign self (S.public_key signer.now) (S.signs_by signer.now)))) }
+        ensures refused { IfErr result (λ e. IsWantOfMemory e
+            ⊎ faults self (S.public_key signer.now) (S.signs_by signer.now) e
+            ⊎ ((e ≡ is_refused)
+            × S.may_refuse signer.now
+            (to_sign self (S.public_key signer.now) (S.signs_by signer.now)))) }
     {
         let octets = self.finalize(alloc, signer)?;
         let signature = signer.sign(alloc, octets.as_slice())?;
@@ -95,11 +107,15 @@ pub trait Builder: Sized + Drop {
         signer: &S,
         rng: &mut R,
     ) -> Result<Self::Output, Error>
-        ensures octets { IfOk result (λ x. signed_octets x ≡ to_sign self (S.public_key signer.now) (S.signs_by signer.now)) }
+        ensures octets { IfOk result
+            (λ x. signed_octets x ≡ to_sign self (S.public_key signer.now) (S.signs_by signer.now)) }
         ensures algorithm { IfOk result (λ x. outer_algorithm x ≡ S.signs_by signer.now) }
         ensures signed { IfOk result (λ x. S.signs signer.now (signed_octets x) (bits x)) }
-        ensures refused { IfErr result (λ e. IsWantOfMemory e ⊎ faults self (S.public_key signer.now) (S.signs_by signer.now) e
-            ⊎ ((e ≡ is_refused) × S.may_refuse signer.now (to_sign self (S.public_key signer.now) (S.signs_by signer.now)))) }
+        ensures refused { IfErr result (λ e. IsWantOfMemory e
+            ⊎ faults self (S.public_key signer.now) (S.signs_by signer.now) e
+            ⊎ ((e ≡ is_refused)
+            × S.may_refuse signer.now
+            (to_sign self (S.public_key signer.now) (S.signs_by signer.now)))) }
     {
         let octets = self.finalize(alloc, signer)?;
         let signature = signer.sign_with_rng(alloc, rng, octets.as_slice())?;

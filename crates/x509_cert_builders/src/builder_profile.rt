@@ -10,7 +10,8 @@ use x509_cert_extensions::certificates::{
 
 /// Which names and which extensions a certificate has that is made.
 ///
-/// Want of memory and the profile's own refusals aside, each answer is a function of what is handed in.
+/// Want of memory and the profile's own refusals aside, each answer is a function of what is handed
+/// in.
 pub trait BuilderProfile {
     ghost use Rattle.std.specs.Prelude.{◌≡◌, ◌⊎◌, List, IfOk, IfErr};
     ghost use Rattle.x509_cert_builders.specs.declared.error.Error.{Error};
@@ -19,7 +20,8 @@ pub trait BuilderProfile {
     ghost use Rattle.x509_cert_builders.specs.Refusals.{IsWantOfMemory};
     ghost use Rattle.x509_cert_extensions.specs.Certificates.{Tbs};
     ghost use Rattle.x509_cert_extensions.specs.CertificateViews.{tbs_plain};
-    ghost use Rattle.x509_cert_extensions.specs.Parts.{PlainExtension, PlainName, PublicKey, extensions_plain, name_plain};
+    ghost use Rattle.x509_cert_extensions.specs.Parts.{PlainExtension, PlainName, PublicKey};
+    ghost use Rattle.x509_cert_extensions.specs.Parts.{extensions_plain, name_plain};
 
     // The issuer's name, of the subject's.
     ghost issuer_name: { Self → PlainName → PlainName };
@@ -27,7 +29,8 @@ pub trait BuilderProfile {
     // The subject's name.
     ghost subject_name: { Self → PlainName };
 
-    // The extensions, of the certified key, the issuer's key, and the part that is to be signed, without any.
+    // The extensions, of the certified key, the issuer's key, and the part that is to be signed,
+    // without any.
     ghost extensions: { Self → PublicKey → PublicKey → Tbs → List PlainExtension };
 
     // Why it may refuse, besides want of memory.
@@ -49,8 +52,8 @@ pub trait BuilderProfile {
         ensures name { IfOk result (λ n. name_plain n ≡ subject_name self.now) }
         ensures refused { IfErr result (λ e. IsWantOfMemory e ⊎ refuses self.now e) };
 
-    /// The extensions that the profile adds, in their order. A builder hands in the part that is to be signed, of version 3 and without
-    /// extensions.
+    /// The extensions that the profile adds, in their order. A builder hands in the part that is to
+    /// be signed, of version 3 and without extensions.
     ///
     /// # Errors
     /// Those of the profile, and want of memory.
@@ -62,16 +65,19 @@ pub trait BuilderProfile {
         tbs: &TbsCertificate,
     ) -> Result<Extensions, Error>
         ensures made { IfOk result (λ v. extensions_plain v.items
-            ≡ extensions self.now (⟦<SubjectPublicKeyInfoRef<'a> as Fields>⟧.fields_plain spk.now) (⟦<SubjectPublicKeyInfoRef<'b> as Fields>⟧.fields_plain issuer_spk.now) (tbs_plain tbs.now)) }
+            ≡ extensions self.now (⟦<SubjectPublicKeyInfoRef<'a> as Fields>⟧.fields_plain spk.now)
+            (⟦<SubjectPublicKeyInfoRef<'b> as Fields>⟧.fields_plain issuer_spk.now)
+            (tbs_plain tbs.now)) }
         ensures refused { IfErr result (λ e. IsWantOfMemory e ⊎ refuses self.now e) };
 
-    /// Whether the extensions hold the identifier of the certified key: then a builder digests its key, once, when it is made.
+    /// Whether the extensions hold the identifier of the certified key: then a builder digests its
+    /// key, once, when it is made.
     fn names_certified_key(&self) -> bool {
         false
     }
 
-    /// The same extensions, where the identifiers of the keys may be known: a builder keeps that of its key, a signer its own. A profile
-    /// that leaves this out is asked by `build_extensions`.
+    /// The same extensions, where the identifiers of the keys may be known: a builder keeps that of
+    /// its key, a signer its own. A profile that leaves this out is asked by `build_extensions`.
     ///
     /// # Errors
     /// Those of `build_extensions`.
@@ -84,10 +90,14 @@ pub trait BuilderProfile {
         issuer_identifier: Option<&SubjectKeyIdentifier>,
         tbs: &TbsCertificate,
     ) -> Result<Extensions, Error>
-        requires certified { Identifies (plain_option (λ i. i.now.0) identifier) (⟦<SubjectPublicKeyInfoRef<'a> as Fields>⟧.fields_plain spk.now) }
-        requires issuers { Identifies (plain_option (λ i. i.now.0) issuer_identifier) (⟦<SubjectPublicKeyInfoRef<'b> as Fields>⟧.fields_plain issuer_spk.now) }
+        requires certified { Identifies (plain_option (λ i. i.now.0) identifier)
+            (⟦<SubjectPublicKeyInfoRef<'a> as Fields>⟧.fields_plain spk.now) }
+        requires issuers { Identifies (plain_option (λ i. i.now.0) issuer_identifier)
+            (⟦<SubjectPublicKeyInfoRef<'b> as Fields>⟧.fields_plain issuer_spk.now) }
         ensures made { IfOk result (λ v. extensions_plain v.items
-            ≡ extensions self.now (⟦<SubjectPublicKeyInfoRef<'a> as Fields>⟧.fields_plain spk.now) (⟦<SubjectPublicKeyInfoRef<'b> as Fields>⟧.fields_plain issuer_spk.now) (tbs_plain tbs.now)) }
+            ≡ extensions self.now (⟦<SubjectPublicKeyInfoRef<'a> as Fields>⟧.fields_plain spk.now)
+            (⟦<SubjectPublicKeyInfoRef<'b> as Fields>⟧.fields_plain issuer_spk.now)
+            (tbs_plain tbs.now)) }
         ensures refused { IfErr result (λ e. IsWantOfMemory e ⊎ refuses self.now e) }
     {
         let extensions = self.build_extensions(alloc, spk, issuer_spk, tbs)?;

@@ -3,10 +3,13 @@
 ghost use Rattle.std.specs.Prelude.{◌≡◌, ◌⊎◌, ◌++◌, ◌∷◌, [], Some, None, IfOk, IfErr, OnOk, OnErr};
 ghost use Rattle.der_core_head.specs.Grammar.{plain_option};
 ghost use Rattle.x509_cert_extensions.specs.CertificateViews.{certificate_plain, tbs_plain};
-ghost use Rattle.x509_cert_extensions.specs.Certificates.{outer_algorithm, signature_bits, tbs_public_key};
-ghost use Rattle.x509_cert_extensions.specs.Parts.{algorithm_plain, extensions_plain, key_plain, validity_plain};
+ghost use Rattle.x509_cert_extensions.specs.Certificates.{outer_algorithm, signature_bits};
+ghost use Rattle.x509_cert_extensions.specs.Certificates.{tbs_public_key};
+ghost use Rattle.x509_cert_extensions.specs.Parts.{algorithm_plain, extensions_plain, key_plain};
+ghost use Rattle.x509_cert_extensions.specs.Parts.{validity_plain};
 ghost use Rattle.x509_cert_builders.specs.Profiles.{Identifies};
-ghost use Rattle.x509_cert_builders.specs.SignedParts.{HasNoOctets, bare_part, fields_of, signed_octets, signed_part};
+ghost use Rattle.x509_cert_builders.specs.SignedParts.{HasNoOctets, bare_part, fields_of};
+ghost use Rattle.x509_cert_builders.specs.SignedParts.{signed_octets, signed_part};
 ghost use Rattle.x509_cert_builders.specs.States.{algorithm_of_last, octets_in_place};
 ghost use Rattle.x509_cert_builders.specs.Refusals.{IsFailed, IsWantOfMemory, IsWantOfMemoryAs};
 
@@ -28,11 +31,12 @@ use x509_cert_extensions::certificates::{
 };
 use x509_cert_extensions::{SubjectKeyIdentifier, ToExtension};
 
-/// A builder of certificates (RFC 5280 4.1), whose names and extensions its profile tells. Extensions that are added stand before
-/// those of the profile.
+/// A builder of certificates (RFC 5280 4.1), whose names and extensions its profile tells.
+/// Extensions that are added stand before those of the profile.
 ///
-/// Contracts see its profile, what is settled, the extensions that were added, and the part that was made last. The certified key is
-/// digested once, when the builder is made, if the profile names it.
+/// Contracts see its profile, what is settled, the extensions that were added, and the part that
+/// was made last. The certified key is digested once, when the builder is made, if the profile
+/// names it.
 #[derive(Drop)]
 pub struct CertificateBuilder<P> {
     profile: P,
@@ -42,7 +46,8 @@ pub struct CertificateBuilder<P> {
     finalized: Option<Finalized>,
 }
 
-/// What the part that was made last has besides what is settled: the algorithm by which it is signed, and its extensions.
+/// What the part that was made last has besides what is settled: the algorithm by which it is
+/// signed, and its extensions.
 #[derive(Drop)]
 struct Finalized {
     algorithm: AlgorithmIdentifier,
@@ -149,7 +154,12 @@ impl<P: BuilderProfile + Drop> CertificateBuilder<P> {
         alloc: Global,
         extension: E,
     ) -> Result<(), E::Error>
-        ensures added { OnOk result (self.new ≡ record self.old { added = self.old.added ++ E.made extension self.old.fields.subject self.old.added ∷ [] }) }
+        ensures added { OnOk result
+            (self.new
+            ≡ record self.old {
+              added = self.old.added ++ E.made extension self.old.fields.subject
+                  self.old.added ∷ [];
+            }) }
         ensures kept { OnErr result (self.new ≡ self.old) }
         ensures refused { IfErr result (λ e. E.refused extension e ⊎ IsWantOfMemoryAs E.Error.from_gives e) }
     {
@@ -170,7 +180,10 @@ fn profiled<P: BuilderProfile, S: Signer>(
     signer: &S,
 ) -> Result<Extensions, Error>
     requires { Identifies (plain_option (λ i. i.0) identifier.now) (tbs_public_key (tbs_plain part.now)) }
-    ensures made { IfOk result (λ v. extensions_plain v.items ≡ P.extensions profile.now (tbs_public_key (tbs_plain part.now)) (S.public_key signer.now) (tbs_plain part.now)) }
+    ensures made { IfOk result
+        (λ v. extensions_plain v.items
+        ≡ P.extensions profile.now (tbs_public_key (tbs_plain part.now)) (S.public_key signer.now)
+        (tbs_plain part.now)) }
     ensures refused { IfErr result (λ e. IsWantOfMemory e ⊎ P.refuses profile.now e) }
 {
     let key = part.subject_public_key_info.owned_to_ref();
@@ -196,7 +209,11 @@ fn make_whole<P: BuilderProfile, S: Signer>(
     signer: &S,
 ) -> Result<(), Error>
     requires { Identifies (plain_option (λ i. i.0) identifier.now) (tbs_public_key (tbs_plain part.old)) }
-    ensures whole { OnOk result (tbs_plain part.new ≡ signed_part (fields_of (tbs_plain part.old)) (S.signs_by signer.now) (extensions_plain added.now ++ P.extensions profile.now (tbs_public_key (tbs_plain part.old)) (S.public_key signer.now) (bare_part (fields_of (tbs_plain part.old)) (S.signs_by signer.now)))) }
+    ensures whole { OnOk result
+        (tbs_plain part.new ≡ signed_part (fields_of (tbs_plain part.old)) (S.signs_by signer.now)
+        (extensions_plain added.now
+        ++ P.extensions profile.now (tbs_public_key (tbs_plain part.old)) (S.public_key signer.now)
+        (bare_part (fields_of (tbs_plain part.old)) (S.signs_by signer.now)))) }
     ensures fields { fields_of (tbs_plain part.new) ≡ fields_of (tbs_plain part.old) }
     ensures refused { IfErr result (λ e. IsWantOfMemory e ⊎ P.refuses profile.now e) }
 {
@@ -207,14 +224,19 @@ fn make_whole<P: BuilderProfile, S: Signer>(
     Ok(())
 }
 
-/// Puts what the part that was made last has besides what is settled into the part again, and hands out its algorithm.
+/// Puts what the part that was made last has besides what is settled into the part again, and hands
+/// out its algorithm.
 fn put_back(
     alloc: Global,
     part: &mut TbsCertificate,
     finalized: Option<Finalized>,
 ) -> Result<AlgorithmIdentifier, Error>
-    ensures algorithm { IfOk result (λ a. plain_option (λ f. algorithm_plain f.algorithm) finalized ≡ Some (algorithm_plain a)) }
-    ensures whole { IfOk result (λ a. plain_option (λ f. signed_part (fields_of (tbs_plain part.old)) (algorithm_plain f.algorithm) (extensions_plain f.extensions.items)) finalized ≡ Some (tbs_plain part.new)) }
+    ensures algorithm { IfOk result (λ a. plain_option (λ f. algorithm_plain f.algorithm) finalized
+        ≡ Some (algorithm_plain a)) }
+    ensures whole { IfOk result
+        (λ a. plain_option
+        (λ f. signed_part (fields_of (tbs_plain part.old)) (algorithm_plain f.algorithm)
+        (extensions_plain f.extensions.items)) finalized ≡ Some (tbs_plain part.new)) }
     ensures unready { finalized ≡ None → IfErr result IsFailed }
     ensures refused { IfErr result (λ e. IsWantOfMemory e ⊎ (finalized ≡ None)) }
 {
@@ -229,10 +251,13 @@ fn put_back(
 impl<P: BuilderProfile + Drop> Builder for CertificateBuilder<P> {
     type Output = Certificate;
 
-    ghost to_sign = { λ b key algorithm. signed_octets b.fields algorithm (b.added ++ P.extensions b.profile b.fields.key key (bare_part b.fields algorithm)) };
+    ghost to_sign = { λ b key algorithm. signed_octets b.fields algorithm
+        (b.added ++ P.extensions b.profile b.fields.key key (bare_part b.fields algorithm)) };
 
     // The profile refuses, or a length passes what can be counted.
-    ghost faults = { λ b key algorithm e. P.refuses b.profile e ⊎ HasNoOctets b.fields algorithm (b.added ++ P.extensions b.profile b.fields.key key (bare_part b.fields algorithm)) };
+    ghost faults = { λ b key algorithm e. P.refuses b.profile e
+        ⊎ HasNoOctets b.fields algorithm
+        (b.added ++ P.extensions b.profile b.fields.key key (bare_part b.fields algorithm)) };
 
     ghost finalized = { λ b. plain_option (λ f. f.1) b.finalized };
 

@@ -6,7 +6,9 @@ ghost use Rattle.std.specs.List.Sorted.{IsPermutation};
 ghost use Rattle.x509_cert_extensions.specs.Parts.{name_plain, relative_plain};
 ghost use Rattle.x509_cert_builders.specs.Naming.{common_name, country, is_among};
 ghost use Rattle.x509_cert_builders.specs.Refusals.{IsWantOfMemory};
-ghost use Rattle.x509_cert_builders.specs.Subscribers.{SameAttributes, all_stays, domain_subject, is_domain_validated, left_of, may_stay, type_subject};
+ghost use Rattle.x509_cert_builders.specs.Subscribers.{SameAttributes, all_stays, domain_subject};
+ghost use Rattle.x509_cert_builders.specs.Subscribers.{is_domain_validated, left_of, may_stay};
+ghost use Rattle.x509_cert_builders.specs.Subscribers.{type_subject};
 
 use crate::attribute_types as types;
 use crate::domain_validated::DomainValidated;
@@ -31,7 +33,8 @@ pub enum CertificateType {
     ExtendedValidation,
 }
 
-/// Whether the subject of a subscriber whose domains were validated may have attributes of this type (7.1.2.7.2).
+/// Whether the subject of a subscriber whose domains were validated may have attributes of this
+/// type (7.1.2.7.2).
 fn may_stay(oid: &ObjectIdentifier<39>) -> bool
     ensures { result ≡ is_among (country ∷ common_name ∷ []) oid.now }
 {
@@ -73,9 +76,12 @@ fn left_of(
     alloc: Global,
     relative: &RelativeDistinguishedName,
 ) -> Result<RelativeDistinguishedName, Error>
-    ensures left { IfOk result (λ r. IsPermutation (left_of (relative_plain relative.now)) (relative_plain r)) }
-    ensures same { list_all may_stay (relative_plain relative.now) ≡ true → IfOk result (λ r. relative_plain r ≡ relative_plain relative.now) }
-    ensures refused { list_all may_stay (relative_plain relative.now) ≡ true → IfErr result IsWantOfMemory }
+    ensures left { IfOk result
+        (λ r. IsPermutation (left_of (relative_plain relative.now)) (relative_plain r)) }
+    ensures same { list_all may_stay (relative_plain relative.now) ≡ true
+        → IfOk result (λ r. relative_plain r ≡ relative_plain relative.now) }
+    ensures refused { list_all may_stay (relative_plain relative.now) ≡ true
+        → IfErr result IsWantOfMemory }
 {
     if all_stay(relative) {
         let whole = relative.clone(alloc)?;
@@ -90,7 +96,8 @@ fn left_of(
 #[tactic(auto, using(crate::proofs::Subjects::left_none, crate::proofs::Subjects::left_all))]
 fn name_left(alloc: Global, name: &Name) -> Result<Name, Error>
     ensures left { IfOk result (λ n. SameAttributes (domain_subject (name_plain name.now)) (name_plain n)) }
-    ensures same { all_stays (name_plain name.now) ≡ true → IfOk result (λ n. name_plain n ≡ name_plain name.now) }
+    ensures same { all_stays (name_plain name.now) ≡ true
+        → IfOk result (λ n. name_plain n ≡ name_plain name.now) }
     ensures refused { all_stays (name_plain name.now) ≡ true → IfErr result IsWantOfMemory }
 {
     let mut kept = RdnSequence::default(alloc);
@@ -104,8 +111,9 @@ fn name_left(alloc: Global, name: &Name) -> Result<Name, Error>
 }
 
 impl CertificateType {
-    /// A subscriber of this name whose domains were validated. Attributes but countries and common names are left out, and relative
-    /// names of which nothing is left (7.1.2.7.2). The domains stand in a certificate only where they are added to its builder.
+    /// A subscriber of this name whose domains were validated. Attributes but countries and common
+    /// names are left out, and relative names of which nothing is left (7.1.2.7.2). The domains
+    /// stand in a certificate only where they are added to its builder.
     ///
     /// # Errors
     /// Want of memory, or `Asn1` with `Overflow` where an attribute has 2^32 octets or more.
@@ -115,8 +123,10 @@ impl CertificateType {
         names: GeneralNames,
     ) -> Result<CertificateType, Error>
         ensures kind { IfOk result (λ t. is_domain_validated t ≡ true) }
-        ensures subject { IfOk result (λ t. SameAttributes (domain_subject (name_plain subject)) (type_subject t)) }
-        ensures same { all_stays (name_plain subject) ≡ true → IfOk result (λ t. type_subject t ≡ name_plain subject) }
+        ensures subject { IfOk result
+            (λ t. SameAttributes (domain_subject (name_plain subject)) (type_subject t)) }
+        ensures same { all_stays (name_plain subject) ≡ true
+            → IfOk result (λ t. type_subject t ≡ name_plain subject) }
         ensures refused { all_stays (name_plain subject) ≡ true → IfErr result IsWantOfMemory }
     {
         let subject = name_left(alloc, &subject)?;

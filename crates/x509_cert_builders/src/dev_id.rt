@@ -1,12 +1,16 @@
 //! Devices.
 
-ghost use Rattle.std.specs.Prelude.{◌≡◌, ◌⊎◌, ◌∷◌, ◌++◌, [], true, false, Ok, Some, IfOk, IfErr, OnOk};
+ghost use Rattle.std.specs.Prelude.{◌≡◌, ◌⊎◌, ◌∷◌, ◌++◌, [], true, false, Ok, Some, IfOk, IfErr};
+ghost use Rattle.std.specs.Prelude.{OnOk};
 ghost use Rattle.std.specs.List.{list_any};
 ghost use Rattle.der_core_head.specs.Grammar.{plain_list, plain_option};
 ghost use Rattle.x509_cert_extensions.specs.Certificates.{tbs_subject};
 ghost use Rattle.x509_cert_extensions.specs.Parts.{extensions_plain, name_plain};
 ghost use Rattle.x509_cert_extensions.specs.GeneralNameViews.{general_name_plain};
-ghost use Rattle.x509_cert_builders.specs.Devices.{IsFaulty, IsUnnameable, PlainGeneralName, alternatives, device_extensions, device_names, first_module, is_of_module, may_name, module_name, module_of, version_arcs};
+ghost use Rattle.x509_cert_builders.specs.Devices.{IsFaulty, IsUnnameable, PlainGeneralName};
+ghost use Rattle.x509_cert_builders.specs.Devices.{alternatives, device_extensions, device_names};
+ghost use Rattle.x509_cert_builders.specs.Devices.{first_module, is_of_module, may_name};
+ghost use Rattle.x509_cert_builders.specs.Devices.{module_name, module_of, version_arcs};
 ghost use Rattle.x509_cert_builders.specs.Refusals.{FailsAs, IsFailed, IsWantOfMemory};
 
 use crate::added_extensions::{add, add_authority, add_usage};
@@ -37,7 +41,8 @@ pub struct DevId {
 fn is_of_module(alloc: Global, name: &GeneralName) -> Result<bool, Error>
     ensures other { is_of_module (general_name_plain name.now) ≡ false → result ≡ Ok false }
     ensures held { is_of_module (general_name_plain name.now) ≡ true → IfOk result (λ b. b ≡ true) }
-    ensures faulty { is_of_module (general_name_plain name.now) ≡ true → IfErr result (FailsAs (module_of (general_name_plain name.now))) }
+    ensures faulty { is_of_module (general_name_plain name.now) ≡ true
+        → IfErr result (FailsAs (module_of (general_name_plain name.now))) }
 {
     let GeneralName::OtherName(other) = name else {
         return Ok(false);
@@ -48,9 +53,12 @@ fn is_of_module(alloc: Global, name: &GeneralName) -> Result<bool, Error>
 
 /// Whether one of the names is that of a module of hardware.
 fn has_module(alloc: Global, names: &[GeneralName]) -> Result<bool, Error>
-    ensures other { list_any is_of_module (plain_list general_name_plain names.now) ≡ false → result ≡ Ok false }
-    ensures held { list_any is_of_module (plain_list general_name_plain names.now) ≡ true → IfOk result (λ b. b ≡ true) }
-    ensures faulty { list_any is_of_module (plain_list general_name_plain names.now) ≡ true → IfErr result (FailsAs (first_module (plain_list general_name_plain names.now))) }
+    ensures other { list_any is_of_module (plain_list general_name_plain names.now) ≡ false
+        → result ≡ Ok false }
+    ensures held { list_any is_of_module (plain_list general_name_plain names.now) ≡ true
+        → IfOk result (λ b. b ≡ true) }
+    ensures faulty { list_any is_of_module (plain_list general_name_plain names.now) ≡ true
+        → IfErr result (FailsAs (first_module (plain_list general_name_plain names.now))) }
 {
     for place in 0..names.len() {
         if is_of_module(alloc, &names[place])? {
@@ -61,23 +69,31 @@ fn has_module(alloc: Global, names: &[GeneralName]) -> Result<bool, Error>
 }
 
 impl DevId {
-    /// The profile of a device of this name. Where it has alternative names, one of them is the name of its module of hardware (8.10.4).
+    /// The profile of a device of this name. Where it has alternative names, one of them is the
+    /// name of its module of hardware (8.10.4).
     ///
     /// # Errors
-    /// `Asn1` with `Failed` where there are names, none of them that of a module; that of the first name of a module which is none
-    /// (`HardwareModuleName::from_other_name`); want of memory.
+    /// `Asn1` with `Failed` where there are names, none of them that of a module; that of the first
+    /// name of a module which is none (`HardwareModuleName::from_other_name`); want of memory.
     pub fn new(
         alloc: Global,
         issuer: Name,
         subject: Name,
         alt_names: Option<GeneralNames>,
     ) -> Result<DevId, Error>
-        ensures module { IfOk result (λ _. may_name (plain_option (λ v. plain_list general_name_plain v.items) alt_names) ≡ true) }
-        ensures refused { may_name (plain_option (λ v. plain_list general_name_plain v.items) alt_names) ≡ false → IfErr result IsFailed }
-        ensures faulty { may_name (plain_option (λ v. plain_list general_name_plain v.items) alt_names) ≡ true → IfErr result (IsFaulty (plain_option (λ v. plain_list general_name_plain v.items) alt_names)) }
+        ensures module { IfOk result
+            (λ _. may_name (plain_option (λ v. plain_list general_name_plain v.items) alt_names)
+            ≡ true) }
+        ensures refused { may_name (plain_option (λ v. plain_list general_name_plain v.items) alt_names) ≡ false
+            → IfErr result IsFailed }
+        ensures faulty { may_name (plain_option (λ v. plain_list general_name_plain v.items) alt_names) ≡ true
+            → IfErr result
+            (IsFaulty (plain_option (λ v. plain_list general_name_plain v.items) alt_names)) }
         ensures issuer { IfOk result (λ d. name_plain d.issuer ≡ name_plain issuer) }
         ensures subject { IfOk result (λ d. ⟦<DevId as BuilderProfile>⟧.subject_name d ≡ name_plain subject) }
-        ensures names { IfOk result (λ d. device_names d ≡ plain_option (λ v. plain_list general_name_plain v.items) alt_names) }
+        ensures names { IfOk result
+            (λ d. device_names d ≡ plain_option (λ v. plain_list general_name_plain v.items)
+            alt_names) }
     {
         let Some(names) = alt_names else {
             return Ok(DevId {
@@ -96,8 +112,9 @@ impl DevId {
         })
     }
 
-    /// The profile of a device whose key, the first that it had, is kept in a Trusted Platform Module of this version and this serial
-    /// number (TPM 2.0 Keys for Device Identity and Attestation).
+    /// The profile of a device whose key, the first that it had, is kept in a Trusted Platform
+    /// Module of this version and this serial number (TPM 2.0 Keys for Device Identity and
+    /// Attestation).
     ///
     /// # Errors
     /// `Asn1` with `Overflow` where a length passes 2^32 - 1, and with `OutOfMemory`.
@@ -111,7 +128,9 @@ impl DevId {
     ) -> Result<DevId, Error>
         ensures issuer { IfOk result (λ d. name_plain d.issuer ≡ name_plain issuer) }
         ensures subject { IfOk result (λ d. ⟦<DevId as BuilderProfile>⟧.subject_name d ≡ name_plain subject) }
-        ensures module { IfOk result (λ d. (n : PlainGeneralName) × (module_name (version_arcs hw_type) serial_number ≡ Ok n) × (device_names d ≡ Some (n ∷ []))) }
+        ensures module { IfOk result (λ d. (n : PlainGeneralName)
+            × (module_name (version_arcs hw_type) serial_number ≡ Ok n)
+            × (device_names d ≡ Some (n ∷ []))) }
         ensures refused { IfErr result (FailsAs (module_name (version_arcs hw_type) serial_number)) }
     {
         let module = HardwareModuleName {
@@ -137,8 +156,11 @@ fn add_alternatives(
     names: &Option<SubjectAltName>,
 ) -> Result<(), Error>
     ensures added { OnOk result (extensions_plain extensions.new.items ≡ extensions_plain extensions.old.items
-        ++ alternatives (name_plain subject.now) (plain_option (λ v. plain_list general_name_plain v.0.items) names.now)) }
-    ensures refused { IfErr result (λ e. IsWantOfMemory e ⊎ IsUnnameable (plain_option (λ v. plain_list general_name_plain v.0.items) names.now)) }
+        ++ alternatives (name_plain subject.now)
+        (plain_option (λ v. plain_list general_name_plain v.0.items) names.now)) }
+    ensures refused { IfErr result
+        (λ e. IsWantOfMemory e
+        ⊎ IsUnnameable (plain_option (λ v. plain_list general_name_plain v.0.items) names.now)) }
 {
     match names {
         Some(names) => add(alloc, extensions, subject, 17, names),
@@ -151,7 +173,8 @@ impl BuilderProfile for DevId {
 
     ghost subject_name = { λ device. name_plain device.subject };
 
-    ghost extensions = { λ device _ issuer_key t. device_extensions (device_names device) (tbs_subject t) issuer_key };
+    ghost extensions = { λ device _ issuer_key t. device_extensions (device_names device) (tbs_subject t)
+        issuer_key };
 
     // Its alternative names have no encoding.
     ghost refuses = { λ device _. IsUnnameable (device_names device) };

@@ -34,8 +34,8 @@ pub(crate) fn digested(
     Ok(identifier)
 }
 
-/// A key and its identifier (RFC 5280 4.2.1.2, method 1), which was digested once. A signer that holds its key so names it in each
-/// certificate without digesting it again.
+/// A key and its identifier (RFC 5280 4.2.1.2, method 1), which was digested once. A signer that
+/// holds its key so names it in each certificate without digesting it again.
 #[derive(Drop)]
 pub struct IdentifiedKey {
     info: SubjectPublicKeyInfo,

@@ -1,10 +1,13 @@
 //! The naming rules of authorities (CA/Browser Forum, Baseline Requirements 7.1.4.1, 7.1.2.10.2).
 
-ghost use Rattle.std.specs.Prelude.{◌≡◌, ◌≤◌, Ok, Err, length, nat_lt, not, true, Option, Some, None, IfOk};
+ghost use Rattle.std.specs.Prelude.{◌≡◌, ◌≤◌, Ok, Err, length, nat_lt, not, true, Option, Some};
+ghost use Rattle.std.specs.Prelude.{None, IfOk};
 ghost use Rattle.std.specs.List.{find, list_all, position_or_len};
 ghost use Rattle.const_oid.specs.Comparing.{owned_eq};
 ghost use Rattle.x509_cert_extensions.specs.Parts.{name_plain, relative_plain};
-ghost use Rattle.x509_cert_builders.specs.Naming.{ordered_types, authority_types, is_among, may_follow, type_behind, name_types, has_required, Names, NamesAuthority};
+ghost use Rattle.x509_cert_builders.specs.Naming.{ordered_types, authority_types, is_among};
+ghost use Rattle.x509_cert_builders.specs.Naming.{may_follow, type_behind, name_types};
+ghost use Rattle.x509_cert_builders.specs.Naming.{has_required, Names, NamesAuthority};
 
 use crate::attribute_types as types;
 use crate::error::Error;
@@ -72,7 +75,8 @@ fn type_behind(
     relative: &RelativeDistinguishedName,
     multiple_allowed: bool,
 ) -> Result<ObjectIdentifier<39>, Error>
-    ensures { ordered.now ≡ ordered_types → result ≡ type_behind multiple_allowed before.now (relative_plain relative.now) }
+    ensures { ordered.now ≡ ordered_types → result ≡ type_behind multiple_allowed before.now
+        (relative_plain relative.now) }
 {
     let [attribute] = relative.as_slice() else {
         return Err(Error::NonUniqueRdn);
@@ -109,12 +113,13 @@ fn types_of(
     Ok(found)
 }
 
-/// Checks the rules of all names (7.1.4.1): each relative name has exactly one attribute, no type stands twice but where that is
-/// allowed, and the types whose order is laid down stand in that order, each at most once.
+/// Checks the rules of all names (7.1.4.1): each relative name has exactly one attribute, no type
+/// stands twice but where that is allowed, and the types whose order is laid down stand in that
+/// order, each at most once.
 ///
 /// # Errors
-/// At the first relative name that breaks a rule: `NonUniqueRdn`, `NonUniqueATV`, or `InvalidAttribute` with its type; or want of
-/// memory.
+/// At the first relative name that breaks a rule: `NonUniqueRdn`, `NonUniqueATV`, or
+/// `InvalidAttribute` with its type; or want of memory.
 pub fn check_names_encoding(alloc: Global, name: &Name, multiple_allowed: bool) -> Result<(), Error>
     ensures { Names multiple_allowed (name_plain name.now) result }
 {
@@ -146,12 +151,13 @@ fn has_required(found: &[ObjectIdentifier<39>]) -> bool
         && is_among(found, &types::common_name())
 }
 
-/// Checks the name of an authority (7.1.2.10.2): it keeps the rules of all names, with no type twice, has country, organization and
-/// common name, and besides at most state or province, locality, postal code and street.
+/// Checks the name of an authority (7.1.2.10.2): it keeps the rules of all names, with no type
+/// twice, has country, organization and common name, and besides at most state or province,
+/// locality, postal code and street.
 ///
 /// # Errors
-/// That of `check_names_encoding`; `InvalidAttribute` with the first type that it may not have; `MissingAttributes`; or want of
-/// memory.
+/// That of `check_names_encoding`; `InvalidAttribute` with the first type that it may not have;
+/// `MissingAttributes`; or want of memory.
 #[tactic(auto, using(crate::proofs::NamingSteps::lacking))]
 pub fn ca_certificate_naming(alloc: Global, subject: &Name) -> Result<(), Error>
     ensures { NamesAuthority (name_plain subject.now) result }

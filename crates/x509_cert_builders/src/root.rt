@@ -18,7 +18,8 @@ use x509_cert_extensions::certificates::{
     Extensions, Name, SubjectPublicKeyInfoRef, TbsCertificate,
 };
 
-/// The certificate of an authority that signed it itself (CA/Browser Forum, Baseline Requirements 7.1.2.1).
+/// The certificate of an authority that signed it itself (CA/Browser Forum, Baseline Requirements
+/// 7.1.2.1).
 #[derive(Drop)]
 pub struct Root {
     /// Whether its key signs answers about the state of certificates, too.

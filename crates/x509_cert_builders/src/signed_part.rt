@@ -4,9 +4,12 @@ ghost use Rattle.std.specs.Prelude.{◌≡◌, ◌⊎◌, IfOk, IfErr};
 ghost use Rattle.der_core_head.specs.Grammar.{plain_option};
 ghost use Rattle.x509_cert_extensions.specs.Certificates.{tbs_inner_algorithm};
 ghost use Rattle.x509_cert_extensions.specs.CertificateViews.{tbs_plain};
-ghost use Rattle.x509_cert_extensions.specs.Parts.{algorithm_plain, extensions_plain, version_number};
+ghost use Rattle.x509_cert_extensions.specs.Parts.{algorithm_plain, extensions_plain};
+ghost use Rattle.x509_cert_extensions.specs.Parts.{version_number};
 ghost use Rattle.x509_cert_builders.specs.Refusals.{IsWantOfMemory};
-ghost use Rattle.x509_cert_builders.specs.SignedParts.{IsUnwritable, bare_part, extensions_in, fields_of, has_any, listed, part_octets, signed_part, version_of};
+ghost use Rattle.x509_cert_builders.specs.SignedParts.{IsUnwritable, bare_part, extensions_in};
+ghost use Rattle.x509_cert_builders.specs.SignedParts.{fields_of, has_any, listed, part_octets};
+ghost use Rattle.x509_cert_builders.specs.SignedParts.{signed_part, version_of};
 
 use crate::error::Error;
 use der_core::to_der;
@@ -15,10 +18,11 @@ use x509_cert_extensions::certificates::{
     AlgorithmIdentifier, Extensions, TbsCertificate, Version,
 };
 
-/// Makes the part what a profile is handed: of version 3, by this algorithm, and without extensions. Unique identifiers are never made
-/// (RFC 5280 4.1.2.8).
+/// Makes the part what a profile is handed: of version 3, by this algorithm, and without
+/// extensions. Unique identifiers are never made (RFC 5280 4.1.2.8).
 pub(crate) fn lay_bare(part: &mut TbsCertificate, algorithm: AlgorithmIdentifier)
-    ensures { tbs_plain part.new ≡ bare_part (fields_of (tbs_plain part.old)) (algorithm_plain algorithm) }
+    ensures { tbs_plain part.new ≡ bare_part (fields_of (tbs_plain part.old))
+        (algorithm_plain algorithm) }
 {
     part.version = Version::V3;
     part.signature = algorithm;
@@ -29,7 +33,8 @@ pub(crate) fn lay_bare(part: &mut TbsCertificate, algorithm: AlgorithmIdentifier
 
 /// The extensions, where there is one (4.1.2.9).
 fn listed(extensions: Extensions) -> Option<Extensions>
-    ensures { plain_option (λ v. extensions_plain v.items) result ≡ listed (extensions_plain extensions.items) }
+    ensures { plain_option (λ v. extensions_plain v.items) result
+        ≡ listed (extensions_plain extensions.items) }
 {
     if extensions.is_empty() {
         return None;
@@ -49,7 +54,8 @@ fn version_for(extensions: &Extensions) -> Version
 
 /// Puts the extensions into a part that was laid bare.
 pub(crate) fn complete(part: &mut TbsCertificate, extensions: Extensions)
-    ensures { tbs_plain part.new ≡ signed_part (fields_of (tbs_plain part.old)) (tbs_inner_algorithm (tbs_plain part.old)) (extensions_plain extensions.items) }
+    ensures { tbs_plain part.new ≡ signed_part (fields_of (tbs_plain part.old))
+        (tbs_inner_algorithm (tbs_plain part.old)) (extensions_plain extensions.items) }
 {
     part.version = version_for(&extensions);
     part.issuer_unique_id = None;

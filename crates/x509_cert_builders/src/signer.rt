@@ -8,13 +8,15 @@ use x509_cert_extensions::certificates::{AlgorithmIdentifier, BitString, Subject
 
 /// A key that signs, wherever it is kept: in memory, in a device, behind a process.
 ///
-/// Key and algorithm are values of the signer. Which bits it may answer is one relation of octets and bits, whether it is given a
-/// generator or not; a scheme whose bits are no function of the octets relates more than one to them.
+/// Key and algorithm are values of the signer. Which bits it may answer is one relation of octets
+/// and bits, whether it is given a generator or not; a scheme whose bits are no function of the
+/// octets relates more than one to them.
 pub trait Signer {
     ghost use Rattle.std.specs.Prelude.{◌≡◌, ℕ, List, IfOk, IfErr};
     ghost use Rattle.der_core_head.specs.BitStrings.{Bits};
     ghost use Rattle.der_core_head.specs.Grammar.{plain_option};
-    ghost use Rattle.x509_cert_extensions.specs.Parts.{Algorithm, PublicKey, algorithm_plain, key_plain};
+    ghost use Rattle.x509_cert_extensions.specs.Parts.{Algorithm, PublicKey, algorithm_plain};
+    ghost use Rattle.x509_cert_extensions.specs.Parts.{key_plain};
     ghost use Rattle.x509_cert_builders.specs.Profiles.{Identifies};
     ghost use Rattle.x509_cert_builders.specs.declared.sign_error.SignError.TheVariants.{Refused};
 
@@ -34,8 +36,9 @@ pub trait Signer {
     fn key_info(&self) -> &SubjectPublicKeyInfo
         ensures { key_plain result.now ≡ public_key self.now };
 
-    /// The identifier of the key (RFC 5280 4.2.1.2, method 1), if the signer keeps it, as with an `IdentifiedKey`. Of a signer that leaves
-    /// this out the key is digested for each certificate that names it.
+    /// The identifier of the key (RFC 5280 4.2.1.2, method 1), if the signer keeps it, as with an
+    /// `IdentifiedKey`. Of a signer that leaves this out the key is digested for each certificate
+    /// that names it.
     fn key_identifier(&self) -> Option<&SubjectKeyIdentifier>
         ensures { Identifies (plain_option (λ i. i.now.0) result) (public_key self.now) }
     {

@@ -17,7 +17,8 @@ use x509_cert_extensions::certificates::{
     Extensions, Name, SubjectPublicKeyInfoRef, TbsCertificate,
 };
 
-/// The certificate of an authority whose key signs certificates of servers (CA/Browser Forum, Baseline Requirements 7.1.2.6).
+/// The certificate of an authority whose key signs certificates of servers (CA/Browser Forum,
+/// Baseline Requirements 7.1.2.6).
 #[derive(Drop)]
 pub struct Subordinate {
     /// Who signs it.
@@ -37,7 +38,8 @@ impl BuilderProfile for Subordinate {
 
     ghost subject_name = { λ profile. name_plain profile.subject };
 
-    ghost extensions = { λ profile key issuer_key _. subordinate_extensions profile.emits_ocsp_response profile.client_auth (plain_option (λ n. pos n) profile.path_len_constraint) key issuer_key };
+    ghost extensions = { λ profile key issuer_key _. subordinate_extensions profile.emits_ocsp_response
+        profile.client_auth (plain_option (λ n. pos n) profile.path_len_constraint) key issuer_key };
 
     ghost refuses = { λ _ _. ⊥ };
 

@@ -19,8 +19,8 @@ use x509_cert_extensions::certificates::{
 };
 use x509_cert_extensions::{KeyUsage, KeyUsages, SubjectKeyIdentifier};
 
-/// The certificate of a server (CA/Browser Forum, Baseline Requirements 7.1.2.7). Its domains are added to the builder, as
-/// `SubjectAltName`.
+/// The certificate of a server (CA/Browser Forum, Baseline Requirements 7.1.2.7). Its domains are
+/// added to the builder, as `SubjectAltName`.
 #[derive(Drop)]
 pub struct Subscriber {
     /// How it was found out whose certificate it is.
@@ -50,7 +50,10 @@ impl Subscriber {
     /// What its key is for.
     #[tactic(auto, using(crate::proofs::UseSums::joined_uses))]
     fn usage<'a>(&self, key: &SubjectPublicKeyInfoRef<'a>) -> KeyUsage
-        ensures { result.0.flags.0 ≡ subscriber_uses self.now.enable_data_encipherment self.now.tls12_options.enable_key_encipherment self.now.tls12_options.enable_key_agreement (⟦<SubjectPublicKeyInfoRef<'a> as Fields>⟧.fields_plain key.now) }
+        ensures { result.0.flags.0 ≡ subscriber_uses self.now.enable_data_encipherment
+            self.now.tls12_options.enable_key_encipherment
+            self.now.tls12_options.enable_key_agreement
+            (⟦<SubjectPublicKeyInfoRef<'a> as Fields>⟧.fields_plain key.now) }
     {
         let is_rsa = key.algorithm.oid == rsa_encryption();
         let is_elliptic = key.algorithm.oid == elliptic_curve_key();
@@ -71,7 +74,10 @@ impl BuilderProfile for Subscriber {
 
     ghost subject_name = { λ profile. type_subject profile.certificate_type };
 
-    ghost extensions = { λ profile key issuer_key _. subscriber_extensions profile.client_auth (subscriber_uses profile.enable_data_encipherment profile.tls12_options.enable_key_encipherment profile.tls12_options.enable_key_agreement key) issuer_key };
+    ghost extensions = { λ profile key issuer_key _. subscriber_extensions profile.client_auth
+        (subscriber_uses profile.enable_data_encipherment
+        profile.tls12_options.enable_key_encipherment profile.tls12_options.enable_key_agreement
+        key) issuer_key };
 
     ghost refuses = { λ profile e. (is_domain_validated profile.certificate_type ≡ false) × (e ≡ Unsupported) };
 

@@ -1,7 +1,7 @@
 //! Uses of keys for TLS 1.2.
 
-/// What a subscriber's key is for besides signing, where TLS 1.2 exchanges keys without Diffie-Hellman (RFC 5246 7.4.2). TLS 1.3 needs
-/// none of it.
+/// What a subscriber's key is for besides signing, where TLS 1.2 exchanges keys without
+/// Diffie-Hellman (RFC 5246 7.4.2). TLS 1.3 needs none of it.
 #[derive(Default, Drop)]
 pub struct Tls12Options {
     /// Whether an RSA key enciphers keys.

@@ -16,7 +16,8 @@ const SERVER_AUTH: u8 = 1;
 
 const CLIENT_AUTH: u8 = 2;
 
-/// What an authority's key is for: it signs certificates and lists, and maybe answers about the state of certificates.
+/// What an authority's key is for: it signs certificates and lists, and maybe answers about the
+/// state of certificates.
 pub(crate) fn authority_usage(emits_ocsp_response: bool) -> KeyUsage
     ensures { result.0.flags.0 ≡ authority_uses emits_ocsp_response }
 {

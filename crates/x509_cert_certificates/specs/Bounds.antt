@@ -5,15 +5,18 @@ use Rattle.der_core_head.specs.Bounds.{identifiers_of, HoldsLarge}
 use Rattle.der_core_head.specs.Shapes.{IsValid, octets_of}
 use Rattle.x509_cert_certificates.specs.Certificates.{PlainCertificate, certificate}
 
--- the identifiers that stand in a certificate: those of its algorithms, of the attributes of its names and of its extensions, in turn
+-- the identifiers that stand in a certificate: those of its algorithms, of the attributes of its
+-- names and of its extensions, in turn
 unfoldable pub certificate_identifiers : PlainCertificate → List (List ℕ)
 certificate_identifiers c = identifiers_of (certificate 0 None) c
 
 -- octets that spell certificates, one behind the other
-pub record SpellsEach (bound : ℕ) (limit : Option ℕ) (cs : List PlainCertificate) (w : List ℕ) : Type 0 where
+pub record SpellsEach (bound : ℕ) (limit : Option ℕ) (cs : List PlainCertificate)
+    (w : List ℕ) : Type 0 where
   pub valid : AllByRecursion (λ c. IsValid (certificate bound limit) c) cs
   pub octets : w ≡ flat_map (λ c. octets_of (certificate bound limit) c) cs
 
 -- one of them has an identifier with an arc that isn't below a bound
 abbrev pub OneHoldsLarge : ℕ → List PlainCertificate → Type 0
-OneHoldsLarge bound cs = (c : PlainCertificate) × Contains cs c × HoldsLarge bound (certificate_identifiers c)
+OneHoldsLarge bound cs = (c : PlainCertificate) × Contains cs c
+    × HoldsLarge bound (certificate_identifiers c)

@@ -1,5 +1,5 @@
--- Certificates (RFC 5280 4.1). Each shape takes the bound of arcs and the greatest number of content octets of a serial number, if
--- there is such a number.
+-- Certificates (RFC 5280 4.1). Each shape takes the bound of arcs and the greatest number of
+-- content octets of a serial number, if there is such a number.
 use Rattle.std.specs.Prelude.{ℕ, ℤ, List, [], length, Bool, false, Option, None}
 use Rattle.std.specs.Option.{option_map_or}
 use Rattle.der_core_head.specs.declared.tag.Tag.TheVariants as tags
@@ -7,10 +7,14 @@ use Rattle.der_core_head.specs.BitStrings.{Bits}
 use Rattle.der_core_head.specs.Dates.{Civil}
 use Rattle.der_core_head.specs.Heads.{head_octets}
 use Rattle.der_core_head.specs.Leaves.{bits}
-use Rattle.der_core_head.specs.Shapes.{Shape, Body, Value, tagged, leaf, optional, field, done, sequence, explicit, octets_of, body_octets}
+use Rattle.der_core_head.specs.Shapes.{Shape, Body, Value, tagged, leaf, optional, field, done}
+use Rattle.der_core_head.specs.Shapes.{sequence, explicit, octets_of, body_octets}
 use Rattle.der_core_head.specs.Tags.{context}
 use Rattle.x509_cert_parts.specs.NameParts.{PlainName, name}
-use Rattle.x509_cert_parts.specs.Grammar.{Algorithm, PublicKey, PlainValidity, PlainExtension, bit_string, algorithm_identifier, public_key_info, version_field, serial_number, validity, extensions, civil_of}
+use Rattle.x509_cert_parts.specs.Grammar.{Algorithm, PublicKey, PlainValidity, PlainExtension}
+use Rattle.x509_cert_parts.specs.Grammar.{bit_string, algorithm_identifier, public_key_info}
+use Rattle.x509_cert_parts.specs.Grammar.{version_field, serial_number, validity, extensions}
+use Rattle.x509_cert_parts.specs.Grammar.{civil_of}
 use Rattle.x509_cert_parts.specs.Grammar as parts
 use Rattle.x509_cert_parts.specs.Respelling.{validity_by}
 
@@ -18,26 +22,33 @@ use Rattle.x509_cert_parts.specs.Respelling.{validity_by}
 abbrev pub unique_identifier : ℕ → Shape
 unique_identifier n = tagged (context false n) (leaf bits)
 
--- TBSCertificate ::= SEQUENCE { version [0] EXPLICIT Version DEFAULT v1, serialNumber, signature, issuer, validity, subject,
---     subjectPublicKeyInfo, issuerUniqueID [1] IMPLICIT OPTIONAL, subjectUniqueID [2] IMPLICIT OPTIONAL,
---     extensions [3] EXPLICIT Extensions OPTIONAL }
+-- TBSCertificate ::= SEQUENCE { version [0] EXPLICIT Version DEFAULT v1, serialNumber, signature,
+-- issuer, validity, subject, subjectPublicKeyInfo, issuerUniqueID [1] IMPLICIT OPTIONAL,
+-- subjectUniqueID [2] IMPLICIT OPTIONAL, extensions [3] EXPLICIT Extensions OPTIONAL }
 abbrev pub identity_fields : ℕ → Body → Body
-identity_fields bound behind = field (name bound) (field validity (field (name bound) (field (public_key_info bound) behind)))
+identity_fields bound behind =
+    field (name bound) (field validity (field (name bound) (field (public_key_info bound) behind)))
 
 abbrev pub optional_fields : ℕ → Body
 optional_fields bound =
-    field (optional (unique_identifier 1)) (field (optional (unique_identifier 2)) (field (optional (explicit 3 (extensions bound))) done))
+    field (optional (unique_identifier 1))
+    (field (optional (unique_identifier 2))
+    (field (optional (explicit 3 (extensions bound))) done))
 
 abbrev pub tbs_fields : ℕ → Option ℕ → Body
 tbs_fields bound limit =
-    field version_field (field (serial_number limit) (field (algorithm_identifier bound) (identity_fields bound (optional_fields bound))))
+    field version_field
+    (field (serial_number limit)
+    (field (algorithm_identifier bound) (identity_fields bound (optional_fields bound))))
 
 abbrev pub tbs_certificate : ℕ → Option ℕ → Shape
 tbs_certificate bound limit = sequence (tbs_fields bound limit)
 
--- Certificate ::= SEQUENCE { tbsCertificate TBSCertificate, signatureAlgorithm AlgorithmIdentifier, signatureValue BIT STRING }
+-- Certificate ::= SEQUENCE { tbsCertificate TBSCertificate, signatureAlgorithm AlgorithmIdentifier,
+-- signatureValue BIT STRING }
 abbrev pub certificate_fields : ℕ → Option ℕ → Body
-certificate_fields bound limit = field (tbs_certificate bound limit) (field (algorithm_identifier bound) (field bit_string done))
+certificate_fields bound limit =
+    field (tbs_certificate bound limit) (field (algorithm_identifier bound) (field bit_string done))
 
 abbrev pub certificate : ℕ → Option ℕ → Shape
 certificate bound limit = sequence (certificate_fields bound limit)
@@ -138,7 +149,8 @@ certificate_octets bound c = octets_of (raw_certificate bound) c
 
 -- The place of the signed part in them (4.1.1.3): it stands behind the outer header.
 unfoldable pub signed_start : ℕ → PlainCertificate → ℕ
-signed_start bound c = length (head_octets tags.Sequence (length (body_octets (raw_certificate_fields bound) c)))
+signed_start bound c =
+    length (head_octets tags.Sequence (length (body_octets (raw_certificate_fields bound) c)))
 
 unfoldable pub signed_length : ℕ → PlainCertificate → ℕ
 signed_length bound c = length (octets_of (raw_tbs_certificate bound) (tbs c))

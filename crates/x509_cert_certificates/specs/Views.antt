@@ -4,7 +4,8 @@ use Rattle.x509_cert_certificates.specs.Certificates.{Tbs, PlainCertificate}
 use Rattle.x509_cert_certificates.specs.declared.certificate.CertificateInner.{CertificateInner}
 use Rattle.x509_cert_certificates.specs.declared.tbs_certificate.TbsCertificateInner.{TbsCertificateInner}
 use Rattle.x509_cert_parts.specs.NameParts.{name_plain}
-use Rattle.x509_cert_parts.specs.Views.{version_number, validity_plain, algorithm_plain, key_plain, extensions_plain}
+use Rattle.x509_cert_parts.specs.Views.{version_number, validity_plain, algorithm_plain, key_plain}
+use Rattle.x509_cert_parts.specs.Views.{extensions_plain}
 
 abbrev pub tbs_plain : {P : Type 0} → TbsCertificateInner P → Tbs
 tbs_plain t = (
@@ -37,4 +38,5 @@ tbs_plain t = (
 )
 
 abbrev pub certificate_plain : {P : Type 0} → CertificateInner P → PlainCertificate
-certificate_plain c = (tbs_plain c.tbs_certificate, (algorithm_plain c.signature_algorithm, (c.signature, tt)))
+certificate_plain c =
+    (tbs_plain c.tbs_certificate, (algorithm_plain c.signature_algorithm, (c.signature, tt)))

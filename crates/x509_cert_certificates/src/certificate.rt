@@ -8,7 +8,9 @@ ghost use Rattle.der_core_head.specs.Grammar.{whole_at};
 ghost use Rattle.der_core_head.specs.Reading.{Gives};
 ghost use Rattle.der_core_head.specs.Shapes.{nested, Spells};
 ghost use Rattle.x509_cert_parts.specs.Views.{algorithm_plain};
-ghost use Rattle.x509_cert_certificates.specs.Certificates.{PlainCertificate, certificate, certificate_fields, certificate_by, tbs, outer_algorithm, signature_bits};
+ghost use Rattle.x509_cert_certificates.specs.Certificates.{PlainCertificate, certificate};
+ghost use Rattle.x509_cert_certificates.specs.Certificates.{certificate_fields, certificate_by};
+ghost use Rattle.x509_cert_certificates.specs.Certificates.{tbs, outer_algorithm, signature_bits};
 ghost use Rattle.x509_cert_certificates.specs.Views.{certificate_plain, tbs_plain};
 
 use crate::tbs_certificate::TbsCertificateInner;
@@ -129,11 +131,14 @@ impl<P: Profile> CertificateInner<P> {
     /// The first fault from the left, or `OutOfMemory`.
     pub fn from_der(alloc: Global, bytes: &[u8]) -> Result<CertificateInner<P>, Error>
         // What is read is spelled so.
-        ensures spelled { IfOk result (λ c. Spells (certificate Bound P.serial_limit) (certificate_plain c) bytes.now) }
+        ensures spelled { IfOk result (λ c. Spells (certificate Bound P.serial_limit) (certificate_plain c)
+            bytes.now) }
         // What is refused for another reason than want of memory is spelled by no certificate.
-        ensures refused { IfErr result (λ e. e.kind ≢ OutOfMemory → (c : PlainCertificate) → Spells (certificate Bound P.serial_limit) c bytes.now → ⊥) }
+        ensures refused { IfErr result (λ e. e.kind ≢ OutOfMemory → (c : PlainCertificate)
+            → Spells (certificate Bound P.serial_limit) c bytes.now → ⊥) }
         // Which fault it is.
-        ensures exact { Gives (λ c. (certificate_plain c, [])) result (whole_at (certificate Bound P.serial_limit) bytes.now) }
+        ensures exact { Gives (λ c. (certificate_plain c, [])) result
+            (whole_at (certificate Bound P.serial_limit) bytes.now) }
     {
         from_der(alloc, bytes)
     }

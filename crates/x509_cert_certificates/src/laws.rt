@@ -1,9 +1,11 @@
 //! Laws of certificates, for every bound of arcs and every profile.
 //!
-//! Each is the contract of a function that does nothing. With these and the laws of `der_core` certificates are lawful: no
-//! encoding begins another, no two have one encoding, and what is read is spelled.
+//! Each is the contract of a function that does nothing. With these and the laws of `der_core`
+//! certificates are lawful: no encoding begins another, no two have one encoding, and what is read
+//! is spelled.
 
-ghost use Rattle.std.specs.Prelude.{◌≡◌, ◌⊎◌, ◌∷◌, ◌++◌, map, ◌≤◌, ◌↔◌, ℕ, List, [], Option, Bool, true, false, Ok, Err, take, drop};
+ghost use Rattle.std.specs.Prelude.{◌≡◌, ◌⊎◌, ◌∷◌, ◌++◌, map, ◌≤◌, ◌↔◌, ℕ, List, [], Option, Bool};
+ghost use Rattle.std.specs.Prelude.{true, false, Ok, Err, take, drop};
 ghost use Rattle.der_core_head.specs.declared.error.ErrorKind.{ErrorKind};
 ghost use Rattle.der_core_head.specs.Octets.{IsOctets};
 ghost use Rattle.der_core_head.specs.Heads.{Fits};
@@ -11,11 +13,20 @@ ghost use Rattle.der_core_head.specs.Grammar.{read, whole_at};
 ghost use Rattle.der_core_head.specs.Bounds.{AreBelow, HoldsLarge};
 ghost use Rattle.der_core_head.specs.Shapes.{IsValid, Spells, octets_of};
 ghost use Rattle.der_core_head.specs.Spelling.{is_apart, are_enough};
-ghost use Rattle.x509_cert_parts.specs.Grammar.{not_before, not_after, algorithm_arcs, key_algorithm, extension_arcs};
+ghost use Rattle.x509_cert_parts.specs.Grammar.{not_before, not_after, algorithm_arcs};
+ghost use Rattle.x509_cert_parts.specs.Grammar.{key_algorithm, extension_arcs};
 ghost use Rattle.x509_cert_parts.specs.NameParts.{type_of, all_of};
 ghost use Rattle.x509_cert_parts.specs.Respelling.{is_early_generalized};
-ghost use Rattle.x509_cert_certificates.specs.Bounds.{certificate_identifiers, SpellsEach, OneHoldsLarge};
-ghost use Rattle.x509_cert_certificates.specs.Certificates.{PlainCertificate, tbs_certificate, certificate, certificate_by, certificate_octets, raw_tbs_certificate, signed_start, signed_length, tbs, tbs_validity, inner_algorithm, issuer, subject, public_key, extensions_of, outer_algorithm};
+ghost use Rattle.x509_cert_certificates.specs.Bounds.{certificate_identifiers, SpellsEach};
+ghost use Rattle.x509_cert_certificates.specs.Bounds.{OneHoldsLarge};
+ghost use Rattle.x509_cert_certificates.specs.Certificates.{PlainCertificate, tbs_certificate};
+ghost use Rattle.x509_cert_certificates.specs.Certificates.{certificate, certificate_by};
+ghost use Rattle.x509_cert_certificates.specs.Certificates.{certificate_octets};
+ghost use Rattle.x509_cert_certificates.specs.Certificates.{raw_tbs_certificate, signed_start};
+ghost use Rattle.x509_cert_certificates.specs.Certificates.{signed_length, tbs, tbs_validity};
+ghost use Rattle.x509_cert_certificates.specs.Certificates.{inner_algorithm, issuer, subject};
+ghost use Rattle.x509_cert_certificates.specs.Certificates.{public_key, extensions_of};
+ghost use Rattle.x509_cert_certificates.specs.Certificates.{outer_algorithm};
 
 pub use x509_cert_parts::laws::{
     dates_by_profile, newly_read_name_texts_hold_a_large_arc, parts_are_apart,
@@ -25,70 +36,98 @@ pub use x509_cert_parts::laws::{
 
 /// First tags keep the fields of a certificate apart, at eight levels or more.
 pub fn certificates_are_apart()
-    ensures signed { (bound : ℕ) (limit : Option ℕ) → (is_apart (tbs_certificate bound limit) ≡ true) × (are_enough (tbs_certificate bound limit) 8 ≡ true) }
-    ensures whole { (bound : ℕ) (limit : Option ℕ) → (is_apart (certificate bound limit) ≡ true) × (are_enough (certificate bound limit) 8 ≡ true) }
+    ensures signed { (bound : ℕ) (limit : Option ℕ)
+        → (is_apart (tbs_certificate bound limit) ≡ true)
+        × (are_enough (tbs_certificate bound limit) 8 ≡ true) }
+    ensures whole { (bound : ℕ) (limit : Option ℕ) → (is_apart (certificate bound limit) ≡ true)
+        × (are_enough (certificate bound limit) 8 ≡ true) }
 {}
 
 /// At its place in a certificate's octets the signed part is its own encoding (RFC 5280 4.1.1.3).
 pub fn signed_part_stands_in_place()
     ensures { (bound : ℕ) (c : PlainCertificate)
-        → take (signed_length bound c) (drop (signed_start bound c) (certificate_octets bound c)) ≡ octets_of (raw_tbs_certificate bound) (tbs c) }
+        → take (signed_length bound c) (drop (signed_start bound c) (certificate_octets bound c))
+        ≡ octets_of (raw_tbs_certificate bound) (tbs c) }
 {}
 
-/// A certificate that has an encoding has one where its dates are respelled, and it is the same one exactly where no date was a
-/// GeneralizedTime through 2049 (RFC 5280 4.1.2.5).
+/// A certificate that has an encoding has one where its dates are respelled, and it is the same one
+/// exactly where no date was a GeneralizedTime through 2049 (RFC 5280 4.1.2.5).
 pub fn respelled_certificates_are_spelled()
     ensures valid { (bound : ℕ) (limit : Option ℕ) (r : Bool) (c : PlainCertificate)
-        → IsValid (certificate bound limit) c → IsValid (certificate bound limit) (certificate_by r c) }
-    ensures same { (bound : ℕ) (limit : Option ℕ) (c : PlainCertificate) → IsValid (certificate bound limit) c
-        → (octets_of (certificate bound limit) (certificate_by true c) ≡ octets_of (certificate bound limit) c)
-        ↔ ((is_early_generalized (not_before (tbs_validity (tbs c))) ≡ false) × (is_early_generalized (not_after (tbs_validity (tbs c))) ≡ false)) }
+        → IsValid (certificate bound limit) c
+        → IsValid (certificate bound limit) (certificate_by r c) }
+    ensures same { (bound : ℕ) (limit : Option ℕ) (c : PlainCertificate)
+        → IsValid (certificate bound limit) c
+        → (octets_of (certificate bound limit) (certificate_by true c)
+        ≡ octets_of (certificate bound limit) c)
+        ↔ ((is_early_generalized (not_before (tbs_validity (tbs c))) ≡ false)
+        × (is_early_generalized (not_after (tbs_validity (tbs c))) ≡ false)) }
 {}
 
-/// Octets that spell a certificate under one bound of arcs spell the same certificate under a wider one; the octets of a certificate
-/// are the same under each.
+/// Octets that spell a certificate under one bound of arcs spell the same certificate under a wider
+/// one; the octets of a certificate are the same under each.
 pub fn wider_bounds_keep_certificates()
-    ensures spelled { (small large : ℕ) (limit : Option ℕ) (c : PlainCertificate) (w : List ℕ) → small ≤ large
+    ensures spelled { (small large : ℕ) (limit : Option ℕ) (c : PlainCertificate) (w : List ℕ)
+        → small ≤ large
         → Spells (certificate small limit) c w → Spells (certificate large limit) c w }
-    ensures octets { (small large : ℕ) (limit : Option ℕ) (c : PlainCertificate) → octets_of (certificate small limit) c ≡ octets_of (certificate large limit) c }
+    ensures octets { (small large : ℕ) (limit : Option ℕ) (c : PlainCertificate)
+        → octets_of (certificate small limit) c ≡ octets_of (certificate large limit) c }
 {}
 
-/// Octets that are read as a certificate under one bound of arcs are read as the same certificate under a wider one: all of them, and
-/// from the front of more.
+/// Octets that are read as a certificate under one bound of arcs are read as the same certificate
+/// under a wider one: all of them, and from the front of more.
 pub fn wider_bounds_read_certificates_alike()
-    ensures whole { (small large : ℕ) (limit : Option ℕ) (c : PlainCertificate) (w : List ℕ) → small ≤ large → IsOctets w
-        → whole_at (certificate small limit) w ≡ Ok (c, []) → whole_at (certificate large limit) w ≡ Ok (c, []) }
-    ensures front { (small large : ℕ) (limit : Option ℕ) (c : PlainCertificate) (w r : List ℕ) → small ≤ large → IsOctets w → Fits w
-        → read (certificate small limit) 64 w ≡ Ok (c, r) → read (certificate large limit) 64 w ≡ Ok (c, r) }
+    ensures whole { (small large : ℕ) (limit : Option ℕ) (c : PlainCertificate) (w : List ℕ)
+        → small ≤ large → IsOctets w
+        → whole_at (certificate small limit) w ≡ Ok (c, []) → whole_at (certificate large limit) w
+        ≡ Ok (c, []) }
+    ensures front { (small large : ℕ) (limit : Option ℕ) (c : PlainCertificate) (w r : List ℕ)
+        → small ≤ large → IsOctets w → Fits w
+        → read (certificate small limit) 64 w ≡ Ok (c, r) → read (certificate large limit) 64 w
+        ≡ Ok (c, r) }
 {}
 
-/// Octets that spell a certificate under one bound of arcs spell it under another, where each arc of its identifiers is below that
-/// one. So a certificate that is read under a wide bound alone holds an identifier with an arc that isn't below the narrow one.
+/// Octets that spell a certificate under one bound of arcs spell it under another, where each arc
+/// of its identifiers is below that one. So a certificate that is read under a wide bound alone
+/// holds an identifier with an arc that isn't below the narrow one.
 pub fn newly_read_certificates_hold_a_large_arc()
-    ensures narrow { (small large : ℕ) (limit : Option ℕ) (c : PlainCertificate) (w : List ℕ) → Spells (certificate large limit) c w
+    ensures narrow { (small large : ℕ) (limit : Option ℕ) (c : PlainCertificate) (w : List ℕ)
+        → Spells (certificate large limit) c w
         → AreBelow small (certificate_identifiers c) → Spells (certificate small limit) c w }
-    ensures exact { (small large : ℕ) (limit : Option ℕ) (c : PlainCertificate) (w : List ℕ) → 40 ≤ small → small ≤ large
-        → Spells (certificate small limit) c w ↔ (Spells (certificate large limit) c w × AreBelow small (certificate_identifiers c)) }
-    ensures new { (small large : ℕ) (limit : Option ℕ) (c : PlainCertificate) (w : List ℕ) → Spells (certificate large limit) c w
+    ensures exact { (small large : ℕ) (limit : Option ℕ) (c : PlainCertificate) (w : List ℕ)
+        → 40 ≤ small → small ≤ large
+        → Spells (certificate small limit) c w
+        ↔ (Spells (certificate large limit) c w × AreBelow small (certificate_identifiers c)) }
+    ensures new { (small large : ℕ) (limit : Option ℕ) (c : PlainCertificate) (w : List ℕ)
+        → Spells (certificate large limit) c w
         → (Spells (certificate small limit) c w → ⊥) → HoldsLarge small (certificate_identifiers c) }
-    ensures whole { (small large : ℕ) (limit : Option ℕ) (c : PlainCertificate) (w : List ℕ) (e : ErrorKind) → IsOctets w
-        → whole_at (certificate large limit) w ≡ Ok (c, []) → whole_at (certificate small limit) w ≡ Err e → HoldsLarge small (certificate_identifiers c) }
-    ensures front { (small large : ℕ) (limit : Option ℕ) (c : PlainCertificate) (w r : List ℕ) (e : ErrorKind) → IsOctets w → Fits w
-        → read (certificate large limit) 64 w ≡ Ok (c, r) → read (certificate small limit) 64 w ≡ Err e → HoldsLarge small (certificate_identifiers c) }
+    ensures whole { (small large : ℕ) (limit : Option ℕ) (c : PlainCertificate) (w : List ℕ)
+        (e : ErrorKind) → IsOctets w
+        → whole_at (certificate large limit) w ≡ Ok (c, []) → whole_at (certificate small limit) w
+        ≡ Err e → HoldsLarge small (certificate_identifiers c) }
+    ensures front { (small large : ℕ) (limit : Option ℕ) (c : PlainCertificate) (w r : List ℕ)
+        (e : ErrorKind) → IsOctets w → Fits w
+        → read (certificate large limit) 64 w ≡ Ok (c, r) → read (certificate small limit) 64 w
+        ≡ Err e → HoldsLarge small (certificate_identifiers c) }
 {}
 
-/// The identifiers in a certificate are those of its inner algorithm, of the attributes of its issuer and of its subject, of its key's
-/// algorithm, of its extensions and of its outer algorithm, in this order.
+/// The identifiers in a certificate are those of its inner algorithm, of the attributes of its
+/// issuer and of its subject, of its key's algorithm, of its extensions and of its outer algorithm,
+/// in this order.
 pub fn identifiers_stand_in_turn()
     ensures { (c : PlainCertificate) → certificate_identifiers c
-        ≡ algorithm_arcs (inner_algorithm c) ∷ (map type_of (all_of (issuer c)) ++ (map type_of (all_of (subject c))
-        ++ (algorithm_arcs (key_algorithm (public_key c)) ∷ (map extension_arcs (extensions_of c) ++ (algorithm_arcs (outer_algorithm c) ∷ []))))) }
+        ≡ algorithm_arcs (inner_algorithm c)
+        ∷ (map type_of (all_of (issuer c)) ++ (map type_of (all_of (subject c))
+        ++ (algorithm_arcs (key_algorithm (public_key c))
+        ∷ (map extension_arcs (extensions_of c) ++ (algorithm_arcs (outer_algorithm c) ∷ []))))) }
 {}
 
-/// Octets that spell certificates one behind the other under one bound of arcs spell the same ones under a wider bound; and what
-/// spells some under a wide bound spells them under a narrow one, or one of them holds an identifier with an arc that isn't below it.
+/// Octets that spell certificates one behind the other under one bound of arcs spell the same ones
+/// under a wider bound; and what spells some under a wide bound spells them under a narrow one, or
+/// one of them holds an identifier with an arc that isn't below it.
 pub fn wider_bounds_keep_chains()
-    ensures kept { (small large : ℕ) (limit : Option ℕ) (cs : List PlainCertificate) (w : List ℕ) → small ≤ large
+    ensures kept { (small large : ℕ) (limit : Option ℕ) (cs : List PlainCertificate) (w : List ℕ)
+        → small ≤ large
         → SpellsEach small limit cs w → SpellsEach large limit cs w }
     ensures new { (small large : ℕ) (limit : Option ℕ) (cs : List PlainCertificate) (w : List ℕ)
         → SpellsEach large limit cs w → SpellsEach small limit cs w ⊎ OneHoldsLarge small cs }

@@ -6,10 +6,15 @@ ghost use Rattle.der_core_head.specs.declared.tag.Tag.TheVariants.{Sequence};
 ghost use Rattle.der_core_head.specs.Grammar.{plain_option};
 ghost use Rattle.der_core_head.specs.Shapes.{nested};
 ghost use Rattle.x509_cert_parts.specs.NameParts.{name_plain};
-ghost use Rattle.x509_cert_parts.specs.Views.{version_number, validity_plain, algorithm_plain, key_plain, extensions_plain};
+ghost use Rattle.x509_cert_parts.specs.Views.{version_number, validity_plain, algorithm_plain};
+ghost use Rattle.x509_cert_parts.specs.Views.{key_plain, extensions_plain};
 ghost use Rattle.der_core_head.specs.Reading.{Gives};
 ghost use Rattle.x509_cert_parts.specs.ExtensionSearch.{only_value, listed};
-ghost use Rattle.x509_cert_certificates.specs.Certificates.{tbs_fields, tbs_by, tbs_version, tbs_serial, tbs_inner_algorithm, tbs_issuer, tbs_validity, tbs_subject, tbs_public_key, tbs_issuer_unique_id, tbs_subject_unique_id, tbs_extensions};
+ghost use Rattle.x509_cert_certificates.specs.Certificates.{tbs_fields, tbs_by, tbs_version};
+ghost use Rattle.x509_cert_certificates.specs.Certificates.{tbs_serial, tbs_inner_algorithm};
+ghost use Rattle.x509_cert_certificates.specs.Certificates.{tbs_issuer, tbs_validity, tbs_subject};
+ghost use Rattle.x509_cert_certificates.specs.Certificates.{tbs_public_key, tbs_issuer_unique_id};
+ghost use Rattle.x509_cert_certificates.specs.Certificates.{tbs_subject_unique_id, tbs_extensions};
 ghost use Rattle.x509_cert_certificates.specs.Views.{tbs_plain};
 
 use const_oid::AssociatedOid;
@@ -25,7 +30,8 @@ use x509_cert_parts::{
     SubjectPublicKeyInfo, Validity, Version, filter_extensions, get_extension,
 };
 
-/// The part of a certificate that is signed (RFC 5280 4.1.2). Any version is read beside any fields, and a list of no extensions.
+/// The part of a certificate that is signed (RFC 5280 4.1.2). Any version is read beside any
+/// fields, and a list of no extensions.
 ///
 /// ```text
 /// TBSCertificate ::= SEQUENCE {
@@ -170,7 +176,8 @@ impl<'a, R: Reader<'a>, P: Profile> DecodeValue<'a, R> for TbsCertificateInner<P
 fn lent_extensions<'a>(
     extensions: &'a Option<Extensions>,
 ) -> Option<Explicit<EncodeRef<'a, Extensions>, 3>>
-    ensures { plain_option (λ f. extensions_plain f.value.0.now.items) result ≡ plain_option (λ e. extensions_plain e.items) extensions.now }
+    ensures { plain_option (λ f. extensions_plain f.value.0.now.items) result
+        ≡ plain_option (λ e. extensions_plain e.items) extensions.now }
 {
     match extensions {
         Some(extensions) => Some(Explicit {
@@ -308,22 +315,24 @@ impl<P> TbsCertificateInner<P> {
 
     /// The extensions, in their order (RFC 5280 4.2).
     pub fn extensions(&self) -> Option<&Extensions>
-        ensures { plain_option (λ r. extensions_plain r.now.items) result ≡ tbs_extensions (tbs_plain self.now) }
+        ensures { plain_option (λ r. extensions_plain r.now.items) result
+            ≡ tbs_extensions (tbs_plain self.now) }
     {
         self.extensions.as_ref()
     }
 
-    /// The value of the only extension of the identifier of `T`, and whether it is critical; none where no extension has the
-    /// identifier.
+    /// The value of the only extension of the identifier of `T`, and whether it is critical; none
+    /// where no extension has the identifier.
     ///
     /// # Errors
-    /// `Failed` where two have it (RFC 5280 4.2 forbids that). Else those of `T`, whose encoding the content has to be, or
-    /// `OutOfMemory`.
+    /// `Failed` where two have it (RFC 5280 4.2 forbids that). Else those of `T`, whose encoding
+    /// the content has to be, or `OutOfMemory`.
     pub fn get_extension<'a, T: AssociatedOid + Decode<'a, SliceReader<'a>>>(
         &'a self,
         alloc: Global,
     ) -> Result<Option<(bool, T)>, Error>
-        ensures { Gives (plain_option (λ x. (x.0, T.plain x.1))) result (only_value T.shape T.oid_arcs (listed (tbs_extensions (tbs_plain self.now)))) }
+        ensures { Gives (plain_option (λ x. (x.0, T.plain x.1))) result
+            (only_value T.shape T.oid_arcs (listed (tbs_extensions (tbs_plain self.now)))) }
     {
         match &self.extensions {
             Some(extensions) => get_extension(alloc, extensions.as_slice()),
@@ -331,7 +340,8 @@ impl<P> TbsCertificateInner<P> {
         }
     }
 
-    /// The values of all extensions of the identifier of `T`, each with whether it is critical, in their order.
+    /// The values of all extensions of the identifier of `T`, each with whether it is critical, in
+    /// their order.
     pub fn filter_extensions<'a, T: AssociatedOid>(&'a self, alloc: Global) -> ExtensionsOf<'a, T>
         ensures { extensions_plain result.left.now ≡ listed (tbs_extensions (tbs_plain self.now)) }
     {

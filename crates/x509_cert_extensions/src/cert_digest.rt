@@ -5,7 +5,8 @@ ghost use Rattle.const_oid.specs.Bound.{Bound};
 ghost use Rattle.sha1.specs.Sha1.{sha1};
 ghost use Rattle.der_core_head.specs.declared.error.ErrorKind.TheVariants.{OutOfMemory};
 ghost use Rattle.der_core_head.specs.Shapes.{IsValid, octets_of};
-ghost use Rattle.x509_cert_policies.specs.Certificates.{certificate as certificate_shape, certificate_by};
+ghost use Rattle.x509_cert_policies.specs.Certificates.{certificate as certificate_shape};
+ghost use Rattle.x509_cert_policies.specs.Certificates.{certificate_by};
 ghost use Rattle.x509_cert_policies.specs.CertificateViews.{certificate_plain};
 
 use der_core::{Error, to_der};
@@ -47,8 +48,14 @@ pub fn hash<D: CertDigest, P: Profile>(
     alloc: Global,
     certificate: &CertificateInner<P>,
 ) -> Result<Vec<u8>, Error>
-    ensures ok { IfOk result (λ d. d.items ≡ D.digest_of (octets_of (certificate_shape Bound P.serial_limit) (certificate_by P.respells (certificate_plain certificate.now)))) }
-    ensures err { IsValid (certificate_shape Bound P.serial_limit) (certificate_by P.respells (certificate_plain certificate.now)) → IfErr result (λ e. e.kind ≡ OutOfMemory) }
+    ensures ok { IfOk result
+        (λ d. d.items
+        ≡ D.digest_of
+        (octets_of (certificate_shape Bound P.serial_limit)
+        (certificate_by P.respells (certificate_plain certificate.now)))) }
+    ensures err { IsValid (certificate_shape Bound P.serial_limit)
+        (certificate_by P.respells (certificate_plain certificate.now))
+        → IfErr result (λ e. e.kind ≡ OutOfMemory) }
 {
     let octets = to_der(alloc, certificate)?;
     let digest = D::digest(alloc, octets.as_slice())?;

@@ -25,17 +25,20 @@ use x509_cert_policies::{
 };
 use x509_cert_timestamps::SignedCertificateTimestampList;
 
-/// Whether an extension is marked as critical where it is added to a certificate or to a list (RFC 5280 4.2).
+/// Whether an extension is marked as critical where it is added to a certificate or to a list (RFC
+/// 5280 4.2).
 pub trait Criticality {
     ghost use Rattle.std.specs.Prelude.{◌≡◌, Bool, List};
-    ghost use Rattle.x509_cert_policies.specs.Parts.{PlainExtension, PlainName, extensions_plain, name_plain};
+    ghost use Rattle.x509_cert_policies.specs.Parts.{PlainExtension, PlainName, extensions_plain};
+    ghost use Rattle.x509_cert_policies.specs.Parts.{name_plain};
 
     // Whether it is, of a subject and the extensions that are there.
     ghost is_critical: { Self → PlainName → List PlainExtension → Bool };
 
     /// Whether it is, beside a subject's name and the extensions that are there.
     fn criticality(&self, subject: &Name, extensions: &[Extension]) -> bool
-        ensures { result ≡ is_critical self.now (name_plain subject.now) (extensions_plain extensions.now) };
+        ensures { result ≡ is_critical self.now (name_plain subject.now)
+            (extensions_plain extensions.now) };
 }
 
 /// Critical where the subject has no name (RFC 5280 4.2.1.6).

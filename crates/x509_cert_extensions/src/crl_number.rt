@@ -25,7 +25,8 @@ use x509_cert_policies::certificates::Uint;
 pub struct CrlNumber(pub Uint);
 
 impl CrlNumber {
-    /// This number. A list may have one of up to 20 octets (RFC 5280 5.2.3): `From<Uint>` makes those of more than 16.
+    /// This number. A list may have one of up to 20 octets (RFC 5280 5.2.3): `From<Uint>` makes
+    /// those of more than 16.
     ///
     /// # Errors
     /// Want of memory.

@@ -20,18 +20,22 @@ pub trait TryFromKey: Sized {
     // That a value holds this identifier of a key, and nothing else.
     ghost identifies: { Self → List ℕ → Type 0 };
 
-    /// The SHA-1 digest (FIPS 180-4) of the octets of the key's bit string, without the count of unused bits.
+    /// The SHA-1 digest (FIPS 180-4) of the octets of the key's bit string, without the count of
+    /// unused bits.
     ///
     /// # Errors
     /// Want of memory.
     fn try_from_key<'a>(alloc: Global, key: &SubjectPublicKeyInfoRef<'a>) -> Result<Self, Error>
-        ensures ok { IfOk result (λ i. identifies i (key_identifier (⟦<SubjectPublicKeyInfoRef<'a> as Fields>⟧.fields_plain key.now))) }
+        ensures ok { IfOk result
+            (λ i. identifies i
+            (key_identifier (⟦<SubjectPublicKeyInfoRef<'a> as Fields>⟧.fields_plain key.now))) }
         ensures err { IfErr result (λ e. e.kind ≡ OutOfMemory) };
 }
 
 /// The digest of a key.
 fn digest_of_key<'a>(alloc: Global, key: &SubjectPublicKeyInfoRef<'a>) -> Result<OctetString, Error>
-    ensures ok { IfOk result (λ o. o ≡ key_identifier (⟦<SubjectPublicKeyInfoRef<'a> as Fields>⟧.fields_plain key.now)) }
+    ensures ok { IfOk result
+        (λ o. o ≡ key_identifier (⟦<SubjectPublicKeyInfoRef<'a> as Fields>⟧.fields_plain key.now)) }
     ensures err { IfErr result (λ e. e.kind ≡ OutOfMemory) }
 {
     let digest = Sha1::digest(key.subject_public_key.raw_bytes());

@@ -39,7 +39,10 @@ impl Flags for KeyUsages {
 
     ghost exact = { ⊤ };
 
-    ghost table = { (codes "DIGITAL_SIGNATURE", 1) ∷ (codes "NON_REPUDIATION", 2) ∷ (codes "KEY_ENCIPHERMENT", 4) ∷ (codes "DATA_ENCIPHERMENT", 8) ∷ (codes "KEY_AGREEMENT", 16) ∷ (codes "KEY_CERT_SIGN", 32) ∷ (codes "CRL_SIGN", 64) ∷ (codes "ENCIPHER_ONLY", 128) ∷ (codes "DECIPHER_ONLY", 256) ∷ [] };
+    ghost table = { (codes "DIGITAL_SIGNATURE", 1) ∷ (codes "NON_REPUDIATION", 2)
+        ∷ (codes "KEY_ENCIPHERMENT", 4) ∷ (codes "DATA_ENCIPHERMENT", 8)
+        ∷ (codes "KEY_AGREEMENT", 16) ∷ (codes "KEY_CERT_SIGN", 32) ∷ (codes "CRL_SIGN", 64)
+        ∷ (codes "ENCIPHER_ONLY", 128) ∷ (codes "DECIPHER_ONLY", 256) ∷ [] };
 
     ghost set_of = { λ x. x.0 };
 
@@ -80,7 +83,8 @@ impl NamedBits for KeyUsages {
 ///
 /// ```text
 /// KeyUsage ::= BIT STRING {
-///     digitalSignature (0), nonRepudiation (1), keyEncipherment (2), dataEncipherment (3), keyAgreement (4),
+/// digitalSignature (0), nonRepudiation (1), keyEncipherment (2), dataEncipherment (3),
+/// keyAgreement (4),
 ///     keyCertSign (5), cRLSign (6), encipherOnly (7), decipherOnly (8) }
 /// ```
 #[derive(Clone, Copy, Debug, PartialEq, Eq)]

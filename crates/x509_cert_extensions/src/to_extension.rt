@@ -15,7 +15,8 @@ use x509_cert_policies::certificates::{Extension, Name, OctetString};
 /// What is made into an extension of a certificate or of a list (RFC 5280 4.2).
 pub trait ToExtension {
     ghost use Rattle.std.specs.Prelude.{◌≡◌, List, IfOk, IfErr};
-    ghost use Rattle.x509_cert_policies.specs.Parts.{PlainExtension, PlainName, extension_plain, extensions_plain, name_plain};
+    ghost use Rattle.x509_cert_policies.specs.Parts.{PlainExtension, PlainName, extension_plain};
+    ghost use Rattle.x509_cert_policies.specs.Parts.{extensions_plain, name_plain};
 
     /// Why no extension is made.
     type Error: From<Error>;
@@ -33,7 +34,9 @@ pub trait ToExtension {
         subject: &Name,
         extensions: &[Extension],
     ) -> Result<Extension, Self::Error>
-        ensures ok { IfOk result (λ e. extension_plain e ≡ made self (name_plain subject.now) (extensions_plain extensions.now)) }
+        ensures ok { IfOk result
+            (λ e. extension_plain e ≡ made self (name_plain subject.now)
+            (extensions_plain extensions.now)) }
         ensures err { IfErr result (λ e. refused self e) };
 }
 
@@ -44,8 +47,10 @@ fn extension_of<T: Encode>(
     critical: bool,
     value: &T,
 ) -> Result<Extension, Error>
-    ensures made { IfOk result (λ e. extension_plain e ≡ extension_of identifier critical T.shape (T.written value.now)) }
-    ensures refused { IsValid T.shape (T.written value.now) → IfErr result (λ e. e.kind ≡ OutOfMemory) }
+    ensures made { IfOk result
+        (λ e. extension_plain e ≡ extension_of identifier critical T.shape (T.written value.now)) }
+    ensures refused { IsValid T.shape (T.written value.now)
+        → IfErr result (λ e. e.kind ≡ OutOfMemory) }
 {
     let content = to_der(alloc, value)?;
     let extn_value = OctetString::new(content)?;
@@ -60,7 +65,8 @@ fn extension_of<T: Encode>(
 impl<'a, T: Encode + AssociatedOid + Criticality> ToExtension for &'a T {
     type Error = Error;
 
-    ghost made = { λ x subject extensions. extension_of T.oid_arcs (T.is_critical x.now subject extensions) T.shape (T.written x.now) };
+    ghost made = { λ x subject extensions. extension_of T.oid_arcs (T.is_critical x.now subject extensions)
+        T.shape (T.written x.now) };
 
     // A value that has an encoding is refused for want of memory alone.
     ghost refused = { λ x e. IsValid T.shape (T.written x.now) → e.kind ≡ OutOfMemory };
@@ -98,7 +104,8 @@ impl ToExtension for Extension {
 impl<'a, T: Encode + Criticality> ToExtension for (ObjectIdentifier<39>, &'a T) {
     type Error = Error;
 
-    ghost made = { λ x subject extensions. extension_of x.0 (T.is_critical x.1.now subject extensions) T.shape (T.written x.1.now) };
+    ghost made = { λ x subject extensions. extension_of x.0 (T.is_critical x.1.now subject extensions)
+        T.shape (T.written x.1.now) };
 
     ghost refused = { λ x e. IsValid T.shape (T.written x.1.now) → e.kind ≡ OutOfMemory };
 

@@ -29,12 +29,15 @@ HasEncoding n = IsValid any n.1.0
 
 -- the value of a name spells a module
 abbrev pub HoldsModule : ℕ → PlainOther → PlainModule → Type 0
-HoldsModule bound n m = Spells (sequence (hardware_module_name_fields bound)) m (octets_of any n.1.0)
+HoldsModule bound n m =
+    Spells (sequence (hardware_module_name_fields bound)) m (octets_of any n.1.0)
 
 -- the module that the value of a name is read as, or its first fault
 abbrev pub module_read : ℕ → PlainOther → Result (Option PlainModule) ErrorKind
-module_read bound n = content_as Sequence (nested (hardware_module_name_fields bound)) n.1.0 >>= λ m. Ok (Some m)
+module_read bound n = content_as Sequence (nested (hardware_module_name_fields bound)) n.1.0
+    >>= λ m. Ok (Some m)
 
 -- the name that holds a module, if a length can count its octets
 abbrev pub module_held : ℕ → PlainModule → Result PlainOther ErrorKind
-module_held bound m = written_as Sequence (nested (hardware_module_name_fields bound)) m >>= λ v. Ok (module_arcs, (v, tt))
+module_held bound m = written_as Sequence (nested (hardware_module_name_fields bound)) m
+    >>= λ v. Ok (module_arcs, (v, tt))

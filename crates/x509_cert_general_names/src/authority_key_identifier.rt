@@ -57,7 +57,8 @@ type RowRef<'a> = (
 impl AuthorityKeyIdentifier {
     /// Its fields, lent.
     fn row<'a>(&'a self) -> RowRef<'a>
-        ensures { ⟦<RowRef<'a> as Fields>⟧.fields_written result ≡ authority_key_identifier_plain self.now }
+        ensures { ⟦<RowRef<'a> as Fields>⟧.fields_written result
+            ≡ authority_key_identifier_plain self.now }
     {
         (
             implicit_ref(&self.key_identifier),

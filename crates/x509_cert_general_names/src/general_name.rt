@@ -6,7 +6,8 @@ ghost use Rattle.der_core_head.specs.declared.error.ErrorKind.TheVariants.{OutOf
 ghost use Rattle.x509_cert_general_names.specs.Addresses.{address_octets};
 ghost use Rattle.x509_cert_general_names.specs.Grammar.{general_name};
 ghost use Rattle.x509_cert_general_names.specs.Views.{general_name_plain};
-ghost use Rattle.x509_cert_general_names.specs.declared.general_name.GeneralName.TheVariants as names;
+ghost use Rattle.x509_cert_general_names.specs.declared.general_name.GeneralName.TheVariants
+    as names;
 
 use crate::edi_party_name::EdiPartyName;
 use crate::other_name::OtherName;
@@ -20,7 +21,8 @@ use std::cmp::Ordering;
 use std::net::IpAddr;
 use x509_cert_certificates::{Ia5String, Name, OctetString};
 
-/// A name of one of the kinds that a certificate can give (RFC 5280 4.2.1.6). An address of X.400 isn't read.
+/// A name of one of the kinds that a certificate can give (RFC 5280 4.2.1.6). An address of X.400
+/// isn't read.
 ///
 /// ```text
 /// GeneralName ::= CHOICE {

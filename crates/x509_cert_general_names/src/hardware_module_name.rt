@@ -7,7 +7,8 @@ ghost use Rattle.der_core_head.specs.Grammar.{plain_option};
 ghost use Rattle.der_core_head.specs.Reading.{Gives};
 ghost use Rattle.der_core_head.specs.Shapes.{nested};
 ghost use Rattle.x509_cert_general_names.specs.Grammar.{hardware_module_name_fields};
-ghost use Rattle.x509_cert_general_names.specs.Modules.{PlainModule, is_of_module, HasEncoding, HoldsModule, module_read};
+ghost use Rattle.x509_cert_general_names.specs.Modules.{PlainModule, is_of_module, HasEncoding};
+ghost use Rattle.x509_cert_general_names.specs.Modules.{HoldsModule, module_read};
 ghost use Rattle.x509_cert_general_names.specs.Views.{hardware_module_name_plain, other_name_plain};
 
 use crate::other_name::OtherName;
@@ -47,7 +48,8 @@ impl HardwareModuleName {
     /// The module that another name holds; none where it is of another kind.
     ///
     /// # Errors
-    /// `TagUnexpected` where the value of the name is no SEQUENCE, the first fault of its content, or `OutOfMemory`.
+    /// `TagUnexpected` where the value of the name is no SEQUENCE, the first fault of its content,
+    /// or `OutOfMemory`.
     pub fn from_other_name(
         alloc: Global,
         other_name: &OtherName,
@@ -58,13 +60,20 @@ impl HardwareModuleName {
         ensures held { is_of_module (other_name_plain other_name.now) ≡ true → IfOk result IsSome }
         // The module that is answered is spelled by the value.
         ensures spelled { HasEncoding (other_name_plain other_name.now)
-            → IfOk result (λ o. IfSome o (λ m. HoldsModule Bound (other_name_plain other_name.now) (hardware_module_name_plain m))) }
+            → IfOk result
+            (λ o.
+            IfSome o
+            (λ m. HoldsModule Bound (other_name_plain other_name.now)
+            (hardware_module_name_plain m))) }
         // A module that is spelled by the value is answered, unless memory runs out.
-        ensures only { (m : PlainModule) → is_of_module (other_name_plain other_name.now) ≡ true → HasEncoding (other_name_plain other_name.now)
-            → HoldsModule Bound (other_name_plain other_name.now) m → Gives (plain_option hardware_module_name_plain) result (Ok (Some m)) }
+        ensures only { (m : PlainModule) → is_of_module (other_name_plain other_name.now) ≡ true
+            → HasEncoding (other_name_plain other_name.now)
+            → HoldsModule Bound (other_name_plain other_name.now) m
+            → Gives (plain_option hardware_module_name_plain) result (Ok (Some m)) }
         // Which fault it is.
         ensures exact { is_of_module (other_name_plain other_name.now) ≡ true
-            → Gives (plain_option hardware_module_name_plain) result (module_read Bound (other_name_plain other_name.now)) }
+            → Gives (plain_option hardware_module_name_plain) result
+            (module_read Bound (other_name_plain other_name.now)) }
     {
         if other_name.type_id == HardwareModuleName::associated_oid() {
             let module: HardwareModuleName = other_name.value.decode_as(alloc)?;
@@ -75,7 +84,8 @@ impl HardwareModuleName {
 
     /// Its fields, lent.
     fn row<'a>(&'a self) -> RowRef<'a>
-        ensures { ⟦<RowRef<'a> as Fields>⟧.fields_written result ≡ hardware_module_name_plain self.now }
+        ensures { ⟦<RowRef<'a> as Fields>⟧.fields_written result
+            ≡ hardware_module_name_plain self.now }
     {
         (
             EncodeRef(&self.hw_type),

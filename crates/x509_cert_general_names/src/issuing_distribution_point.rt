@@ -82,7 +82,8 @@ type RowRef<'a> = (
 impl IssuingDistributionPoint {
     /// Its fields, lent.
     fn row<'a>(&'a self) -> RowRef<'a>
-        ensures { ⟦<RowRef<'a> as Fields>⟧.fields_written result ≡ issuing_distribution_point_plain self.now }
+        ensures { ⟦<RowRef<'a> as Fields>⟧.fields_written result ≡ issuing_distribution_point_plain
+            self.now }
     {
         (
             explicit_ref(&self.distribution_point),

@@ -1,4 +1,5 @@
-//! General names, and what holds them: points of distribution, constraints, descriptions of access (RFC 5280 4.2, 5.2).
+//! General names, and what holds them: points of distribution, constraints, descriptions of access
+//! (RFC 5280 4.2, 5.2).
 #![tactic(auto)]
 
 mod access_description;

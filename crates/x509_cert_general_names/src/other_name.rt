@@ -49,7 +49,8 @@ impl OtherName {
     /// # Errors
     /// `Overflow` where the module has 2^32 octets or more, or `OutOfMemory`.
     pub fn try_from(alloc: Global, named: &HardwareModuleName) -> Result<OtherName, Error>
-        ensures { Gives other_name_plain result (module_held Bound (hardware_module_name_plain named.now)) }
+        ensures { Gives other_name_plain result
+            (module_held Bound (hardware_module_name_plain named.now)) }
     {
         let value = Any::encode_from(alloc, named)?;
         Ok(OtherName {

@@ -29,7 +29,10 @@ impl Flags for Reasons {
 
     ghost exact = { ⊤ };
 
-    ghost table = { (codes "UNUSED", 1) ∷ (codes "KEY_COMPROMISE", 2) ∷ (codes "CA_COMPROMISE", 4) ∷ (codes "AFFILIATION_CHANGED", 8) ∷ (codes "SUPERSEDED", 16) ∷ (codes "CESSATION_OF_OPERATION", 32) ∷ (codes "CERTIFICATE_HOLD", 64) ∷ (codes "PRIVILEGE_WITHDRAWN", 128) ∷ (codes "AA_COMPROMISE", 256) ∷ [] };
+    ghost table = { (codes "UNUSED", 1) ∷ (codes "KEY_COMPROMISE", 2) ∷ (codes "CA_COMPROMISE", 4)
+        ∷ (codes "AFFILIATION_CHANGED", 8) ∷ (codes "SUPERSEDED", 16)
+        ∷ (codes "CESSATION_OF_OPERATION", 32) ∷ (codes "CERTIFICATE_HOLD", 64)
+        ∷ (codes "PRIVILEGE_WITHDRAWN", 128) ∷ (codes "AA_COMPROMISE", 256) ∷ [] };
 
     ghost set_of = { λ x. x.0 };
 

@@ -1,16 +1,19 @@
 -- What a builder of revocation lists signs (RFC 5280 5.1.2).
-use Rattle.std.specs.Prelude.{◌≡◌, ℕ, List, [], ◌∷◌, ◌++◌, Bool, false, pos, Option, Some, None, Result, Ok}
+use Rattle.std.specs.Prelude.{◌≡◌, ℕ, List, [], ◌∷◌, ◌++◌, Bool, false, pos, Option, Some, None}
+use Rattle.std.specs.Prelude.{Result, Ok}
 use Rattle.const_oid.specs.Bound.{Bound}
 use Rattle.der_core_head.specs.declared.error.ErrorKind.{ErrorKind}
 use Rattle.der_core_head.specs.declared.tag.Tag.TheVariants as tags
 use Rattle.der_core_head.specs.Integers.{natural}
 use Rattle.der_core_head.specs.Leaves.{integer}
 use Rattle.der_core_head.specs.Octets.{◌>>=◌}
-use Rattle.der_core_head.specs.Shapes.{Shape, Value, BodyValue, IsValid, tagged, leaf, sequence, octets_of}
+use Rattle.der_core_head.specs.Shapes.{Shape, Value, BodyValue, IsValid, tagged, leaf, sequence}
+use Rattle.der_core_head.specs.Shapes.{octets_of}
 use Rattle.sha1.specs.Sha1.{sha1}
 use Rattle.x509_cert_builders.specs.Certificates.{Tbs, tbs_public_key}
 use Rattle.x509_cert_lists.specs.Grammar.{revoked_cert_fields, tbs_cert_list_fields}
-use Rattle.x509_cert_builders.specs.Parts.{Algorithm, PlainExtension, PlainName, PublicKey, key_bits, time, only_value, listed}
+use Rattle.x509_cert_builders.specs.Parts.{Algorithm, PlainExtension, PlainName, PublicKey}
+use Rattle.x509_cert_builders.specs.Parts.{key_bits, time, only_value, listed}
 use Rattle.x509_cert_builders.specs.GeneralNames.{authority_key_identifier_fields}
 
 -- a date and its spelling
@@ -39,15 +42,18 @@ authority_key = sequence (authority_key_identifier_fields Bound)
 abbrev pub authority_key_arcs : List ℕ
 authority_key_arcs = 2 ∷ 5 ∷ 29 ∷ 35 ∷ []
 
--- that of a certificate, where it has one, or else the identifier of the certified key alone: the SHA-1 digest of its octets (4.2.1.2)
+-- that of a certificate, where it has one, or else the identifier of the certified key alone: the
+-- SHA-1 digest of its octets (4.2.1.2)
 abbrev pub given_or_made : PublicKey → Option (Bool × PlainAuthority) → PlainAuthority
 given_or_made k None = (Some (sha1 (key_bits k).octets), (None, (None, tt)))
 given_or_made k (Some found) = found.1
 
--- The key under which an issuer signs lists: its own authority key identifier. Two are refused, and one whose content isn't an encoding.
+-- The key under which an issuer signs lists: its own authority key identifier. Two are refused, and
+-- one whose content isn't an encoding.
 abbrev pub issuing_key : Tbs → Result PlainAuthority ErrorKind
 issuing_key t =
-    only_value authority_key authority_key_arcs (listed t.1.1.1.1.1.1.1.1.1.0) >>= λ (found : Option (Bool × PlainAuthority)). Ok (given_or_made (tbs_public_key t) found)
+    only_value authority_key authority_key_arcs (listed t.1.1.1.1.1.1.1.1.1.0)
+    >>= λ (found : Option (Bool × PlainAuthority)). Ok (given_or_made (tbs_public_key t) found)
 
 -- an extension that isn't critical, whose content is the encoding of a value
 abbrev pub extension_with : List ℕ → (s : Shape) → Value s → PlainExtension
@@ -66,7 +72,8 @@ key_extension a = extension_with authority_key_arcs authority_key a
 
 -- one of the two has no encoding, as where a length passes 2^32 - 1
 abbrev pub HasNoExtensions : ℕ → Result PlainAuthority ErrorKind → Type 0
-HasNoExtensions n r = (key : PlainAuthority) → r ≡ Ok key → IsValid crl_number (pos n) → IsValid authority_key key → ⊥
+HasNoExtensions n r = (key : PlainAuthority) → r ≡ Ok key → IsValid crl_number (pos n)
+    → IsValid authority_key key → ⊥
 
 -- the certificates of a list; where the field is absent there are none
 abbrev pub entries : Option (List PlainEntry) → List PlainEntry

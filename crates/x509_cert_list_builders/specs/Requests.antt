@@ -1,5 +1,6 @@
 -- What a builder of certification requests signs (RFC 2986 4.1).
-use Rattle.std.specs.Prelude.{◌≡◌, List, [], ◌∷◌, pos, Bool, true, false, Result, Ok, Err, IsOk, if◌then◌else◌}
+use Rattle.std.specs.Prelude.{◌≡◌, List, [], ◌∷◌, pos, Bool, true, false, Result, Ok, Err, IsOk}
+use Rattle.std.specs.Prelude.{if◌then◌else◌}
 use Rattle.std.specs.List.{list_any}
 use Rattle.std.specs.declared.cmp.Ordering.{Ordering}
 use Rattle.std.specs.declared.cmp.Ordering.TheVariants.{Less, Equal, Greater}
@@ -8,7 +9,8 @@ use Rattle.der_core.specs.Orders.{encodings_cmp}
 use Rattle.der_core_head.specs.declared.error.ErrorKind.{ErrorKind}
 use Rattle.der_core_head.specs.Shapes.{Shape, Value, BodyValue, IsValid, sequence}
 use Rattle.x509_cert_lists.specs.Grammar.{cert_req_info_fields, extension_req_attribute}
-use Rattle.x509_cert_builders.specs.Parts.{PlainAttribute, PlainExtension, PlainName, PublicKey, attribute}
+use Rattle.x509_cert_builders.specs.Parts.{PlainAttribute, PlainExtension, PlainName, PublicKey}
+use Rattle.x509_cert_builders.specs.Parts.{attribute}
 
 -- the part of a request that is signed
 abbrev pub PlainInfo : Type 0
@@ -49,19 +51,29 @@ placed s v others = put (is_below s) v others
 abbrev pub stands_among : (s : Shape) → Value s → List (Value s) → Bool
 stands_among s v others = list_any (λ w. is_same s v w) others
 
--- there is no attribute, or it has no encoding, as where it has 2^32 octets or more, or it stands among these
+-- there is no attribute, or it has no encoding, as where it has 2^32 octets or more, or it stands
+-- among these
 abbrev pub IsNoneToAdd : Result PlainAttribute ErrorKind → List PlainAttribute → Type 0
-IsNoneToAdd r others = (a : PlainAttribute) → r ≡ Ok a → IsValid (attribute Bound) a → stands_among (attribute Bound) a others ≡ true
+IsNoneToAdd r others = (a : PlainAttribute) → r ≡ Ok a → IsValid (attribute Bound) a
+    → stands_among (attribute Bound) a others ≡ true
 
--- the other attributes with the request for extensions among them, where a length can count its octets (RFC 2985 5.4.2)
-abbrev pub with_request : Result PlainAttribute ErrorKind → List PlainAttribute → List PlainAttribute
+-- the other attributes with the request for extensions among them, where a length can count its
+-- octets (RFC 2985 5.4.2)
+abbrev pub with_request : Result PlainAttribute ErrorKind → List PlainAttribute
+    → List PlainAttribute
 with_request (Ok a) others = placed (attribute Bound) a others
 with_request (Err e) others = others
 
--- the part that a signer of a key signs: version 1, with the request for extensions among the attributes
-abbrev pub request_of : PlainName → List PlainExtension → List PlainAttribute → PublicKey → PlainInfo
-request_of subject extensions attributes key = (pos 0, (subject, (key, (with_request (extension_req_attribute Bound extensions) attributes, tt))))
+-- the part that a signer of a key signs: version 1, with the request for extensions among the
+-- attributes
+abbrev pub request_of : PlainName → List PlainExtension → List PlainAttribute → PublicKey
+    → PlainInfo
+request_of subject extensions attributes key = (
+  pos 0,
+  (subject, (key, (with_request (extension_req_attribute Bound extensions) attributes, tt))),
+)
 
--- there is no request for these extensions, or the part has no encoding, as where a length passes 2^32 - 1 or an attribute stands twice
+-- there is no request for these extensions, or the part has no encoding, as where a length passes
+-- 2^32 - 1 or an attribute stands twice
 abbrev pub HasNoOctets : List PlainExtension → PlainInfo → Type 0
 HasNoOctets es i = IsOk (extension_req_attribute Bound es) → IsValid request_part i → ⊥

@@ -3,11 +3,12 @@ use Rattle.std.specs.Prelude.{ℕ, List, length, take, drop}
 use Rattle.const_oid.specs.Bound.{Bound}
 use Rattle.der_core_head.specs.declared.tag.Tag.TheVariants as tags
 use Rattle.der_core_head.specs.Heads.{head_octets}
-use Rattle.der_core_head.specs.Shapes.{Shape, Body, BodyValue, field, done, sequence, octets_of, body_octets}
+use Rattle.der_core_head.specs.Shapes.{Shape, Body, BodyValue, field, done, sequence, octets_of}
+use Rattle.der_core_head.specs.Shapes.{body_octets}
 use Rattle.x509_cert_builders.specs.Parts.{algorithm_identifier, bit_string}
 
--- SIGNED{ToBeSigned} ::= SEQUENCE { toBeSigned ToBeSigned, algorithmIdentifier AlgorithmIdentifier, signature BIT STRING }, of whatever
--- shape is to be signed
+-- SIGNED{ToBeSigned} ::= SEQUENCE { toBeSigned ToBeSigned, algorithmIdentifier AlgorithmIdentifier,
+-- signature BIT STRING }, of whatever shape is to be signed
 abbrev pub signed_fields : Shape → Body
 signed_fields s = field s (field (algorithm_identifier Bound) (field bit_string done))
 

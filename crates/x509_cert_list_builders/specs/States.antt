@@ -2,15 +2,19 @@
 use Rattle.std.specs.Prelude.{ℕ, List, [], ◌∷◌, ◌++◌, pos, Option, Some, None}
 use Rattle.der_core_head.specs.Grammar.{plain_list, plain_option}
 use Rattle.der_core_head.specs.Shapes.{octets_of}
-use Rattle.x509_cert_builders.specs.Parts.{Algorithm, PlainAttribute, PlainExtension, PlainName, PublicKey, attribute_plain, extensions_plain, name_plain, time_value}
-use Rattle.x509_cert_lists.specs.Views.{cert_req_info_plain, revoked_cert_plain, tbs_cert_list_plain}
+use Rattle.x509_cert_builders.specs.Parts.{Algorithm, PlainAttribute, PlainExtension, PlainName}
+use Rattle.x509_cert_builders.specs.Parts.{PublicKey, attribute_plain, extensions_plain, name_plain}
+use Rattle.x509_cert_builders.specs.Parts.{time_value}
+use Rattle.x509_cert_lists.specs.Views.{cert_req_info_plain, revoked_cert_plain}
+use Rattle.x509_cert_lists.specs.Views.{tbs_cert_list_plain}
 use Rattle.x509_cert_list_builders.specs.Lists.{PlainEntry, PlainList, PlainTime}
 use Rattle.x509_cert_list_builders.specs.Requests.{PlainInfo}
 use Rattle.x509_cert_list_builders.specs.declared.crl_builder.CrlBuilder.TheInside as lists
-use Rattle.x509_cert_list_builders.specs.declared.request_builder.RequestBuilder.TheInside as requests
+use Rattle.x509_cert_list_builders.specs.declared.request_builder.RequestBuilder.TheInside
+    as requests
 
--- a builder of revocation lists: who signs the list, its dates, the certificates that were revoked if the field stands, the list's
--- extensions, and the part that was made last, if there is one
+-- a builder of revocation lists: who signs the list, its dates, the certificates that were revoked
+-- if the field stands, the list's extensions, and the part that was made last, if there is one
 pub record ListState : Type 0 where
   pub issuer : PlainName
   pub this_update : PlainTime
@@ -29,17 +33,19 @@ list_state b = record {
   finalized = plain_option tbs_cert_list_plain b.finalized;
 }
 
--- the part of the list that a signer of an algorithm signs: version 2, with its extensions (RFC 5280 5.1.2.1, 5.1.2.7)
+-- the part of the list that a signer of an algorithm signs: version 2, with its extensions (RFC
+-- 5280 5.1.2.1, 5.1.2.7)
 abbrev pub list_of : ListState → Algorithm → PlainList
-list_of b a = (pos 1, (a, (b.issuer, (b.this_update, (b.next_update, (b.revoked, (Some b.extensions, tt)))))))
+list_of b a =
+    (pos 1, (a, (b.issuer, (b.this_update, (b.next_update, (b.revoked, (Some b.extensions, tt)))))))
 
 -- the algorithm of the part that was made last, or where there is none this one
 abbrev pub algorithm_of_last : Option PlainList → Algorithm → Algorithm
 algorithm_of_last None a = a
 algorithm_of_last (Some t) a = t.1.0
 
--- a builder of requests: whose key it is, the extensions that are asked for, the other attributes in ascending order, and the part that
--- was made last, if there is one
+-- a builder of requests: whose key it is, the extensions that are asked for, the other attributes
+-- in ascending order, and the part that was made last, if there is one
 pub record RequestState : Type 0 where
   pub subject : PlainName
   pub extensions : List PlainExtension

@@ -50,7 +50,8 @@ pub(crate) fn copies_of_entries<P: Profile>(
     alloc: Global,
     entries: &[RevokedCert<P>],
 ) -> Result<Vec<RevokedCert<P>>, Error>
-    ensures same { IfOk result (λ v. plain_list revoked_cert_plain v.items ≡ plain_list revoked_cert_plain entries.now) }
+    ensures same { IfOk result (λ v. plain_list revoked_cert_plain v.items
+        ≡ plain_list revoked_cert_plain entries.now) }
     ensures refused { IfErr result IsWantOfMemory }
 {
     let mut copies = Vec::with_capacity(alloc, entries.len())?;
@@ -83,7 +84,8 @@ pub(crate) fn copies_of_attributes(
     alloc: Global,
     attributes: &[Attribute],
 ) -> Result<Vec<Attribute>, Error>
-    ensures same { IfOk result (λ v. plain_list attribute_plain v.items ≡ plain_list attribute_plain attributes.now) }
+    ensures same { IfOk result (λ v. plain_list attribute_plain v.items
+        ≡ plain_list attribute_plain attributes.now) }
     ensures refused { IfErr result IsWantOfMemory }
 {
     let mut copies = Vec::with_capacity(alloc, attributes.len())?;

@@ -1,6 +1,7 @@
 //! Builders of revocation lists.
 
-ghost use Rattle.std.specs.Prelude.{◌≡◌, ◌⊎◌, ◌++◌, ◌∷◌, [], Ok, Err, Some, None, IfOk, IfErr, OnOk, OnErr};
+ghost use Rattle.std.specs.Prelude.{◌≡◌, ◌⊎◌, ◌++◌, ◌∷◌, [], Ok, Err, Some, None, IfOk, IfErr};
+ghost use Rattle.std.specs.Prelude.{OnOk, OnErr};
 ghost use Rattle.std.specs.Iterator.{IsFinite};
 ghost use Rattle.std.specs.Iterator.Runs.{WholeRun};
 ghost use Rattle.der_core_head.specs.declared.error.ErrorKind.TheVariants.{OutOfMemory};
@@ -9,11 +10,15 @@ ghost use Rattle.der_core_head.specs.Reading.{Gives};
 ghost use Rattle.der_core_head.specs.Shapes.{IsValid, octets_of};
 ghost use Rattle.x509_cert_builders.specs.CertificateViews.{tbs_plain};
 ghost use Rattle.x509_cert_builders.specs.Certificates.{tbs_subject};
-ghost use Rattle.x509_cert_builders.specs.Parts.{algorithm_plain, extensions_plain, key_plain, time_value};
+ghost use Rattle.x509_cert_builders.specs.Parts.{algorithm_plain, extensions_plain, key_plain};
+ghost use Rattle.x509_cert_builders.specs.Parts.{time_value};
 ghost use Rattle.x509_cert_builders.specs.GeneralNameViews.{authority_key_identifier_plain};
-ghost use Rattle.x509_cert_lists.specs.Views.{certificate_list_plain, revoked_cert_plain, tbs_cert_list_plain};
+ghost use Rattle.x509_cert_lists.specs.Views.{certificate_list_plain, revoked_cert_plain};
+ghost use Rattle.x509_cert_lists.specs.Views.{tbs_cert_list_plain};
 ghost use Rattle.x509_cert_builders.specs.Refusals.{IsWantOfMemory};
-ghost use Rattle.x509_cert_list_builders.specs.Lists.{HasNoExtensions, PlainAuthority, entries, given_or_made, issuing_key, key_extension, list_part, number_extension};
+ghost use Rattle.x509_cert_list_builders.specs.Lists.{HasNoExtensions, PlainAuthority, entries};
+ghost use Rattle.x509_cert_list_builders.specs.Lists.{given_or_made, issuing_key, key_extension};
+ghost use Rattle.x509_cert_list_builders.specs.Lists.{list_part, number_extension};
 ghost use Rattle.x509_cert_list_builders.specs.Signed.{octets_in_place};
 ghost use Rattle.x509_cert_list_builders.specs.States.{algorithm_of_last, list_of};
 
@@ -31,8 +36,8 @@ use x509_cert_builders::types::{CrlNumber, ToExtension, TryFromKey};
 use x509_cert_builders::{Builder, Error, Signer};
 use x509_cert_lists::{CertificateList, RevokedCert, TbsCertList};
 
-/// A builder of revocation lists (RFC 5280 5.1). The list has version 2, a number, and the identifier of the key under which it is
-/// signed.
+/// A builder of revocation lists (RFC 5280 5.1). The list has version 2, a number, and the
+/// identifier of the key under which it is signed.
 ///
 /// Contracts see what is settled of the list, and the part that was made last.
 #[derive(Drop)]
@@ -90,8 +95,10 @@ fn own_extensions(
     issuer: &TbsCertificate,
     number: &CrlNumber,
 ) -> Result<Extensions, der_core::Error>
-    ensures made { IfOk result (λ v. (key : PlainAuthority) × (issuing_key (tbs_plain issuer.now) ≡ Ok key) × (extensions_plain v.items ≡ number_extension number.now.0 ∷ key_extension key ∷ [])) }
-    ensures refused { IfErr result (λ e. (e.kind ≡ OutOfMemory) ⊎ (issuing_key (tbs_plain issuer.now) ≡ Err e.kind)
+    ensures made { IfOk result (λ v. (key : PlainAuthority) × (issuing_key (tbs_plain issuer.now) ≡ Ok key)
+        × (extensions_plain v.items ≡ number_extension number.now.0 ∷ key_extension key ∷ [])) }
+    ensures refused { IfErr result (λ e. (e.kind ≡ OutOfMemory)
+        ⊎ (issuing_key (tbs_plain issuer.now) ≡ Err e.kind)
         ⊎ HasNoExtensions number.now.0 (issuing_key (tbs_plain issuer.now))) }
 {
     let key = issuing_key(alloc, issuer)?;
@@ -102,14 +109,15 @@ fn own_extensions(
 }
 
 impl<P: Profile> CrlBuilder<P> {
-    /// A builder of a list that this issuer makes at this time, with this number, of no certificates.
+    /// A builder of a list that this issuer makes at this time, with this number, of no
+    /// certificates.
     ///
-    /// The key under which it is signed is told by the issuer's own authority key identifier; where it has none, by the digest of
-    /// its key.
+    /// The key under which it is signed is told by the issuer's own authority key identifier; where
+    /// it has none, by the digest of its key.
     ///
     /// # Errors
-    /// `Failed` where the issuer has two authority key identifiers; the first fault of its one; `Overflow` where a length passes
-    /// 2^32 - 1; `OutOfMemory`.
+    /// `Failed` where the issuer has two authority key identifiers; the first fault of its one;
+    /// `Overflow` where a length passes 2^32 - 1; `OutOfMemory`.
     pub fn new_with_this_update(
         alloc: Global,
         issuer: &Certificate,
@@ -124,7 +132,8 @@ impl<P: Profile> CrlBuilder<P> {
           extensions = number_extension crl_number.0 ∷ key_extension key ∷ [];
           finalized = None;
         })) }
-        ensures refused { IfErr result (λ e. (e.kind ≡ OutOfMemory) ⊎ (issuing_key (tbs_plain issuer.now.tbs_certificate) ≡ Err e.kind)
+        ensures refused { IfErr result (λ e. (e.kind ≡ OutOfMemory)
+            ⊎ (issuing_key (tbs_plain issuer.now.tbs_certificate) ≡ Err e.kind)
             ⊎ HasNoExtensions crl_number.0 (issuing_key (tbs_plain issuer.now.tbs_certificate))) }
     {
         let tbs = &issuer.tbs_certificate;
@@ -140,7 +149,8 @@ impl<P: Profile> CrlBuilder<P> {
         })
     }
 
-    /// The builder of the same list, which says when the next one is made at the latest, or doesn't say it.
+    /// The builder of the same list, which says when the next one is made at the latest, or doesn't
+    /// say it.
     pub fn with_next_update(mut self, next_update: Option<Time>) -> CrlBuilder<P>
         ensures { result ≡ record self { next_update = plain_option time_value next_update } }
     {
@@ -148,8 +158,8 @@ impl<P: Profile> CrlBuilder<P> {
         self
     }
 
-    /// Adds certificates that were revoked, behind those that are there, in the order in which they come. The field then stands in the
-    /// list, also where there are none.
+    /// Adds certificates that were revoked, behind those that are there, in the order in which they
+    /// come. The field then stands in the list, also where there are none.
     ///
     /// # Errors
     /// Want of memory. The builder is then as it was.
@@ -159,7 +169,12 @@ impl<P: Profile> CrlBuilder<P> {
         revoked: I,
     ) -> Result<(), Error>
         requires { I.can_next revoked × IsFinite (I.remaining revoked) }
-        ensures added { OnOk result (WholeRun I.next_gives revoked (λ run. self.new ≡ record self.old { revoked = Some (entries self.old.revoked ++ plain_list revoked_cert_plain run.items) })) }
+        ensures added { OnOk result
+            (WholeRun I.next_gives revoked
+            (λ run. self.new
+            ≡ record self.old {
+              revoked = Some (entries self.old.revoked ++ plain_list revoked_cert_plain run.items);
+            })) }
         ensures kept { OnErr result (self.new ≡ self.old) }
         ensures refused { IfErr result IsWantOfMemory }
     {
@@ -170,7 +185,11 @@ impl<P: Profile> CrlBuilder<P> {
 
     /// Appends certificates to those of the list, which then has that field.
     fn append(&mut self, mut more: Vec<RevokedCert<P>>) -> Result<(), Error>
-        ensures added { OnOk result (self.new ≡ record self.old { revoked = Some (entries self.old.revoked ++ plain_list revoked_cert_plain more.items) }) }
+        ensures added { OnOk result
+            (self.new
+            ≡ record self.old {
+              revoked = Some (entries self.old.revoked ++ plain_list revoked_cert_plain more.items);
+            }) }
         ensures kept { OnErr result (self.new ≡ self.old) }
         ensures refused { IfErr result IsWantOfMemory }
     {
@@ -183,7 +202,8 @@ impl<P: Profile> CrlBuilder<P> {
 
     /// The certificates of the list, copied.
     fn certificates(&self, alloc: Global) -> Result<Option<Vec<RevokedCert<P>>>, Error>
-        ensures copied { IfOk result (λ v. plain_option (λ rs. plain_list revoked_cert_plain rs.items) v ≡ self.now.revoked) }
+        ensures copied { IfOk result (λ v. plain_option (λ rs. plain_list revoked_cert_plain rs.items) v
+            ≡ self.now.revoked) }
         ensures refused { IfErr result IsWantOfMemory }
     {
         match &self.revoked_certificates {
@@ -201,7 +221,8 @@ impl<P: Profile> CrlBuilder<P> {
         alloc: Global,
         algorithm: &AlgorithmIdentifier,
     ) -> Result<TbsCertList<P>, Error>
-        ensures made { IfOk result (λ t. tbs_cert_list_plain t ≡ list_of self.now (algorithm_plain algorithm.now)) }
+        ensures made { IfOk result
+            (λ t. tbs_cert_list_plain t ≡ list_of self.now (algorithm_plain algorithm.now)) }
         ensures refused { IfErr result IsWantOfMemory }
     {
         let signature = algorithm.clone(alloc)?;

@@ -4,8 +4,9 @@ ghost use Rattle.std.specs.Prelude.{◌≡◌};
 ghost use Rattle.der_core_head.specs.Shapes.{Shape, BodyValue, octets_of};
 ghost use Rattle.x509_cert_list_builders.specs.Signed.{signed_fields, octets_in_place};
 
-/// At its place in the octets of a list or of a request what is signed is its own encoding, of whatever shape it is
-/// (RFC 5280 5.1.1.3; RFC 2986 4.2).
+/// At its place in the octets of a list or of a request what is signed is its own encoding, of
+/// whatever shape it is (RFC 5280 5.1.1.3; RFC 2986 4.2).
 pub fn signed_part_stands_in_place()
-    ensures { (s : Shape) (v : BodyValue (signed_fields s)) → octets_in_place s v ≡ octets_of s v.0 }
+    ensures { (s : Shape) (v : BodyValue (signed_fields s)) → octets_in_place s v
+        ≡ octets_of s v.0 }
 {}

@@ -9,16 +9,20 @@ ghost use Rattle.x509_cert_list_builders.specs.Requests.{placed, stands_among};
 use der_core::{DerOrd, Error, Member};
 use std::cmp::Ordering;
 
-/// The place of a value among others: in front of the first whose encoding is above its own (X.690 11.6).
+/// The place of a value among others: in front of the first whose encoding is above its own (X.690
+/// 11.6).
 ///
 /// # Errors
 /// `Overflow` where an encoding has 2^32 octets or more.
 pub(crate) fn place_of<T: DerOrd + Member>(values: &[T], item: &T) -> Result<usize, Error>
     ensures within { IfOk result (λ i. i ≤ length values.now) }
-    ensures place { AllByRecursion (λ x. IsValid T.shape (T.written x)) values.now → IsValid T.shape (T.written item.now)
-        → IfOk result (λ i. plain_list T.written (insert values.now i item.now) ≡ placed T.shape (T.written item.now) (plain_list T.written values.now)) }
+    ensures place { AllByRecursion (λ x. IsValid T.shape (T.written x)) values.now
+        → IsValid T.shape (T.written item.now)
+        → IfOk result (λ i. plain_list T.written (insert values.now i item.now)
+        ≡ placed T.shape (T.written item.now) (plain_list T.written values.now)) }
     // It is answered wherever all have an encoding.
-    ensures answered { AllByRecursion (λ x. IsValid T.shape (T.written x)) values.now → IsValid T.shape (T.written item.now) → IsOk result }
+    ensures answered { AllByRecursion (λ x. IsValid T.shape (T.written x)) values.now
+        → IsValid T.shape (T.written item.now) → IsOk result }
 {
     for place in 0..values.len() {
         match item.der_cmp(&values[place])? {
@@ -34,10 +38,13 @@ pub(crate) fn place_of<T: DerOrd + Member>(values: &[T], item: &T) -> Result<usi
 /// # Errors
 /// `Overflow` where an encoding has 2^32 octets or more.
 pub(crate) fn stands_among<T: DerOrd + Member>(values: &[T], item: &T) -> Result<bool, Error>
-    ensures found { AllByRecursion (λ x. IsValid T.shape (T.written x)) values.now → IsValid T.shape (T.written item.now)
-        → IfOk result (λ b. b ≡ stands_among T.shape (T.written item.now) (plain_list T.written values.now)) }
+    ensures found { AllByRecursion (λ x. IsValid T.shape (T.written x)) values.now
+        → IsValid T.shape (T.written item.now)
+        → IfOk result
+        (λ b. b ≡ stands_among T.shape (T.written item.now) (plain_list T.written values.now)) }
     // It is answered wherever all have an encoding.
-    ensures answered { AllByRecursion (λ x. IsValid T.shape (T.written x)) values.now → IsValid T.shape (T.written item.now) → IsOk result }
+    ensures answered { AllByRecursion (λ x. IsValid T.shape (T.written x)) values.now
+        → IsValid T.shape (T.written item.now) → IsOk result }
 {
     for place in 0..values.len() {
         match item.der_cmp(&values[place])? {

@@ -1,16 +1,19 @@
 //! Builders of certification requests.
 
-ghost use Rattle.std.specs.Prelude.{◌≡◌, ◌⊎◌, ◌++◌, ◌∷◌, [], false, Ok, Some, None, IfOk, IfErr, OnOk, OnErr, IsOk};
+ghost use Rattle.std.specs.Prelude.{◌≡◌, ◌⊎◌, ◌++◌, ◌∷◌, [], false, Ok, Some, None, IfOk, IfErr};
+ghost use Rattle.std.specs.Prelude.{OnOk, OnErr, IsOk};
 ghost use Rattle.const_oid.specs.Bound.{Bound};
 ghost use Rattle.der_core_head.specs.Grammar.{plain_option};
 ghost use Rattle.der_core_head.specs.Ranges.{IsBodyInRange};
 ghost use Rattle.der_core_head.specs.Shapes.{IsValid, octets_of};
 ghost use Rattle.x509_cert_lists.specs.Attributes.{any_of, attribute_of};
 ghost use Rattle.x509_cert_lists.specs.Grammar.{cert_req_info_fields};
-ghost use Rattle.x509_cert_builders.specs.Parts.{PlainAttribute, algorithm_plain, attribute, key_plain, name_plain};
+ghost use Rattle.x509_cert_builders.specs.Parts.{PlainAttribute, algorithm_plain, attribute};
+ghost use Rattle.x509_cert_builders.specs.Parts.{key_plain, name_plain};
 ghost use Rattle.x509_cert_lists.specs.Views.{cert_req_info_plain, cert_req_plain};
 ghost use Rattle.x509_cert_builders.specs.Refusals.{IsWantOfMemory, IsWantOfMemoryAs};
-ghost use Rattle.x509_cert_list_builders.specs.Requests.{HasNoOctets, IsNoneToAdd, placed, request_of, request_part, stands_among};
+ghost use Rattle.x509_cert_list_builders.specs.Requests.{HasNoOctets, IsNoneToAdd, placed};
+ghost use Rattle.x509_cert_list_builders.specs.Requests.{request_of, request_part, stands_among};
 ghost use Rattle.x509_cert_list_builders.specs.Signed.{octets_in_place};
 
 use crate::copies::{copies_of_attributes, copies_of_extensions};
@@ -25,10 +28,11 @@ use x509_cert_builders::{Builder, Error, Signer};
 use x509_cert_lists::request::Version;
 use x509_cert_lists::{AsAttribute, CertReq, CertReqInfo, ExtensionReq, TryFromExtensionReq};
 
-/// A builder of certification requests (RFC 2986). The extensions that are asked for stand in one attribute, which is made at each
-/// `finalize`.
+/// A builder of certification requests (RFC 2986). The extensions that are asked for stand in one
+/// attribute, which is made at each `finalize`.
 ///
-/// Contracts see whose key it is, the extensions that are asked for, the other attributes, and the part that was made last.
+/// Contracts see whose key it is, the extensions that are asked for, the other attributes, and the
+/// part that was made last.
 #[derive(Drop)]
 pub struct RequestBuilder {
     subject: Name,
@@ -48,7 +52,8 @@ impl Model for RequestBuilder {
 
     ghost view = { request_state };
 
-    ghost invariant = { λ b. AllByRecursion (λ a. IsValid (attribute Bound) (attribute_plain a)) b.attributes.items };
+    ghost invariant = { λ b. AllByRecursion (λ a. IsValid (attribute Bound) (attribute_plain a))
+        b.attributes.items };
 }
 
 /// The parts of what is signed are in their ranges.
@@ -90,7 +95,12 @@ impl RequestBuilder {
         alloc: Global,
         extension: E,
     ) -> Result<(), E::Error>
-        ensures added { OnOk result (self.new ≡ record self.old { extensions = self.old.extensions ++ E.made extension self.old.subject self.old.extensions ∷ [] }) }
+        ensures added { OnOk result
+            (self.new
+            ≡ record self.old {
+              extensions = self.old.extensions
+                  ++ E.made extension self.old.subject self.old.extensions ∷ [];
+            }) }
         ensures kept { OnErr result (self.new ≡ self.old) }
         ensures refused { IfErr result (λ e. E.refused extension e ⊎ IsWantOfMemoryAs E.Error.from_gives e) }
     {
@@ -104,13 +114,21 @@ impl RequestBuilder {
     /// Adds an attribute that holds a value, at its place in the ascending order of encodings.
     ///
     /// # Errors
-    /// `SetDuplicate` where it stands there, `Overflow` where it has 2^32 octets or more, and want of memory. The builder is then as it
-    /// was.
+    /// `SetDuplicate` where it stands there, `Overflow` where it has 2^32 octets or more, and want
+    /// of memory. The builder is then as it was.
     pub fn add_attribute<A: AsAttribute>(&mut self, alloc: Global, value: &A) -> Result<(), Error>
-        ensures added { OnOk result ((a : PlainAttribute) × (attribute_of A.oid_arcs (any_of A.shape (A.written value.now)) ≡ Ok a) × (self.new ≡ record self.old { attributes = placed (attribute Bound) a self.old.attributes })) }
-        ensures once { OnOk result ((a : PlainAttribute) → attribute_of A.oid_arcs (any_of A.shape (A.written value.now)) ≡ Ok a → stands_among (attribute Bound) a self.old.attributes ≡ false) }
+        ensures added { OnOk result
+            ((a : PlainAttribute)
+            × (attribute_of A.oid_arcs (any_of A.shape (A.written value.now)) ≡ Ok a)
+            × (self.new
+            ≡ record self.old { attributes = placed (attribute Bound) a self.old.attributes })) }
+        ensures once { OnOk result
+            ((a : PlainAttribute) → attribute_of A.oid_arcs (any_of A.shape (A.written value.now))
+            ≡ Ok a → stands_among (attribute Bound) a self.old.attributes ≡ false) }
         ensures kept { OnErr result (self.new ≡ self.old) }
-        ensures refused { IfErr result (λ e. IsWantOfMemory e ⊎ IsNoneToAdd (attribute_of A.oid_arcs (any_of A.shape (A.written value.now))) self.old.attributes) }
+        ensures refused { IfErr result (λ e. IsWantOfMemory e
+            ⊎ IsNoneToAdd (attribute_of A.oid_arcs (any_of A.shape (A.written value.now)))
+            self.old.attributes) }
     {
         let made = value.to_attribute(alloc)?;
         made.in_range();
@@ -126,9 +144,16 @@ impl RequestBuilder {
     /// The part that a signer of this key signs.
     fn part_for(&self, alloc: Global, key: &SubjectPublicKeyInfo) -> Result<CertReqInfo, Error>
         // Where one of the two has an encoding, both are the same.
-        ensures made { IfOk result (λ i. IsValid request_part (cert_req_info_plain i) ⊎ IsValid request_part (request_of self.now.subject self.now.extensions self.now.attributes (key_plain key.now))
-            → cert_req_info_plain i ≡ request_of self.now.subject self.now.extensions self.now.attributes (key_plain key.now)) }
-        ensures refused { IfErr result (λ e. IsWantOfMemory e ⊎ HasNoOctets self.now.extensions (request_of self.now.subject self.now.extensions self.now.attributes (key_plain key.now))) }
+        ensures made { IfOk result (λ i. IsValid request_part (cert_req_info_plain i)
+            ⊎ IsValid request_part
+            (request_of self.now.subject self.now.extensions self.now.attributes
+            (key_plain key.now))
+            → cert_req_info_plain i ≡ request_of self.now.subject self.now.extensions
+            self.now.attributes (key_plain key.now)) }
+        ensures refused { IfErr result (λ e. IsWantOfMemory e
+            ⊎ HasNoOctets self.now.extensions
+            (request_of self.now.subject self.now.extensions self.now.attributes
+            (key_plain key.now))) }
     {
         let extensions = copies_of_extensions(alloc, self.extensions.0.as_slice())?;
         let request = Attribute::try_from_extension_req(alloc, ExtensionReq(extensions))?;
@@ -156,7 +181,8 @@ impl Builder for RequestBuilder {
 
     ghost finalized = { λ b. plain_option (λ i. octets_of request_part i) b.finalized };
 
-    // The signed part of a request holds no algorithm (RFC 2986 4.1): the signature's is that of its signer.
+    // The signed part of a request holds no algorithm (RFC 2986 4.1): the signature's is that of
+    // its signer.
     ghost algorithm_for = { λ _ signer. signer };
 
     ghost signed_octets = { λ r. octets_in_place request_part (cert_req_plain r) };

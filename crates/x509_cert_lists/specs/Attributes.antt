@@ -4,7 +4,8 @@ use Rattle.std.proofs.Common.{inl, inr}
 use Rattle.der_core_head.specs.declared.error.ErrorKind.{ErrorKind}
 use Rattle.der_core_head.specs.declared.error.ErrorKind.TheVariants as kinds
 use Rattle.der_core_head.specs.Octets.{◌>>=◌}
-use Rattle.der_core_head.specs.Shapes.{Shape, Value, AnyValue, tagged, any, either, optional, defaulted, nothing}
+use Rattle.der_core_head.specs.Shapes.{Shape, Value, AnyValue, tagged, any, either, optional}
+use Rattle.der_core_head.specs.Shapes.{defaulted, nothing}
 use Rattle.x509_cert_general_names.specs.Parts.{written_as, PlainAttribute}
 
 -- a value's tag and content, if a length can count its octets; a field that may be absent has none

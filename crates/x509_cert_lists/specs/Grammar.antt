@@ -1,48 +1,67 @@
--- Revocation lists (RFC 5280 5.1) and certification requests (RFC 2986 4). Each shape takes the bound of arcs, and where a serial
--- number stands in it the greatest number of its content octets, if there is such a number.
+-- Revocation lists (RFC 5280 5.1) and certification requests (RFC 2986 4). Each shape takes the
+-- bound of arcs, and where a serial number stands in it the greatest number of its content octets,
+-- if there is such a number.
 use Rattle.std.specs.Prelude.{ℕ, List, [], ◌∷◌, true, Option, Result, Ok}
 use Rattle.der_core_head.specs.declared.error.ErrorKind.{ErrorKind}
 use Rattle.der_core_head.specs.declared.tag.Tag.TheVariants as tags
 use Rattle.der_core_head.specs.Integers.{Numbers, among}
 use Rattle.der_core_head.specs.Leaves.{integer}
 use Rattle.der_core_head.specs.Octets.{◌>>=◌}
-use Rattle.der_core_head.specs.Shapes.{Shape, Body, Content, tagged, leaf, optional, field, done, many, rising, nested, sequence, sequence_of, explicit}
+use Rattle.der_core_head.specs.Shapes.{Shape, Body, Content, tagged, leaf, optional, field, done}
+use Rattle.der_core_head.specs.Shapes.{many, rising, nested, sequence, sequence_of, explicit}
 use Rattle.der_core_head.specs.Tags.{context}
-use Rattle.x509_cert_general_names.specs.Parts.{written_as, PlainAttribute, name, attribute, PlainExtension, bit_string, algorithm_identifier, public_key_info, version, serial_number, time, extension, extensions}
+use Rattle.x509_cert_general_names.specs.Parts.{written_as, PlainAttribute, name, attribute}
+use Rattle.x509_cert_general_names.specs.Parts.{PlainExtension, bit_string, algorithm_identifier}
+use Rattle.x509_cert_general_names.specs.Parts.{public_key_info, version, serial_number, time}
+use Rattle.x509_cert_general_names.specs.Parts.{extension, extensions}
 
--- RevokedCert ::= SEQUENCE { userCertificate CertificateSerialNumber, revocationDate Time, crlEntryExtensions Extensions OPTIONAL } (5.1.2.6)
+-- RevokedCert ::= SEQUENCE { userCertificate CertificateSerialNumber, revocationDate Time,
+-- crlEntryExtensions Extensions OPTIONAL } (5.1.2.6)
 abbrev pub revoked_cert_fields : ℕ → Option ℕ → Body
-revoked_cert_fields bound limit = field (serial_number limit) (field time (field (optional (extensions bound)) done))
+revoked_cert_fields bound limit =
+    field (serial_number limit) (field time (field (optional (extensions bound)) done))
 
--- TBSCertList ::= SEQUENCE { version Version, signature AlgorithmIdentifier, issuer Name, thisUpdate Time, nextUpdate Time OPTIONAL,
---     revokedCertificates SEQUENCE OF RevokedCert OPTIONAL, crlExtensions [0] EXPLICIT Extensions OPTIONAL } (5.1.2)
+-- TBSCertList ::= SEQUENCE { version Version, signature AlgorithmIdentifier, issuer Name,
+-- thisUpdate Time, nextUpdate Time OPTIONAL, revokedCertificates SEQUENCE OF RevokedCert OPTIONAL,
+-- crlExtensions [0] EXPLICIT Extensions OPTIONAL } (5.1.2)
 abbrev pub list_fields : ℕ → Option ℕ → Body
 list_fields bound limit =
     field time
-    (field (optional time) (field (optional (sequence_of (sequence (revoked_cert_fields bound limit)))) (field (optional (explicit 0 (extensions bound))) done)))
+    (field (optional time)
+    (field (optional (sequence_of (sequence (revoked_cert_fields bound limit))))
+    (field (optional (explicit 0 (extensions bound))) done)))
 
 abbrev pub tbs_cert_list_fields : ℕ → Option ℕ → Body
-tbs_cert_list_fields bound limit = field version (field (algorithm_identifier bound) (field (name bound) (list_fields bound limit)))
+tbs_cert_list_fields bound limit =
+    field version
+    (field (algorithm_identifier bound) (field (name bound) (list_fields bound limit)))
 
--- CertificateList ::= SEQUENCE { tbsCertList TBSCertList, signatureAlgorithm AlgorithmIdentifier, signatureValue BIT STRING } (5.1)
+-- CertificateList ::= SEQUENCE { tbsCertList TBSCertList, signatureAlgorithm AlgorithmIdentifier,
+-- signatureValue BIT STRING } (5.1)
 abbrev pub certificate_list_fields : ℕ → Option ℕ → Body
-certificate_list_fields bound limit = field (sequence (tbs_cert_list_fields bound limit)) (field (algorithm_identifier bound) (field bit_string done))
+certificate_list_fields bound limit =
+    field (sequence (tbs_cert_list_fields bound limit))
+    (field (algorithm_identifier bound) (field bit_string done))
 
 -- The version of a request: INTEGER { v1(0) }
 abbrev pub request_numbers : Numbers
 request_numbers = among (0 ∷ [])
 
--- CertificationRequestInfo ::= SEQUENCE { version INTEGER { v1(0) }, subject Name, subjectPKInfo SubjectPublicKeyInfo,
---     attributes [0] IMPLICIT SET OF Attribute } (RFC 2986 4.1)
+-- CertificationRequestInfo ::= SEQUENCE { version INTEGER { v1(0) }, subject Name, subjectPKInfo
+-- SubjectPublicKeyInfo, attributes [0] IMPLICIT SET OF Attribute } (RFC 2986 4.1)
 abbrev pub cert_req_info_fields : ℕ → Body
 cert_req_info_fields bound =
     field (tagged tags.Integer (leaf (integer request_numbers)))
-    (field (name bound) (field (public_key_info bound) (field (tagged (context true 0) (nested (rising (attribute bound)))) done)))
+    (field (name bound)
+    (field (public_key_info bound)
+    (field (tagged (context true 0) (nested (rising (attribute bound)))) done)))
 
--- CertificationRequest ::= SEQUENCE { certificationRequestInfo CertificationRequestInfo, signatureAlgorithm AlgorithmIdentifier,
---     signature BIT STRING } (RFC 2986 4.2)
+-- CertificationRequest ::= SEQUENCE { certificationRequestInfo CertificationRequestInfo,
+-- signatureAlgorithm AlgorithmIdentifier, signature BIT STRING } (RFC 2986 4.2)
 abbrev pub cert_req_fields : ℕ → Body
-cert_req_fields bound = field (sequence (cert_req_info_fields bound)) (field (algorithm_identifier bound) (field bit_string done))
+cert_req_fields bound =
+    field (sequence (cert_req_info_fields bound))
+    (field (algorithm_identifier bound) (field bit_string done))
 
 abbrev pub cert_req : ℕ → Shape
 cert_req bound = sequence (cert_req_fields bound)
@@ -55,6 +74,8 @@ extension_req_content bound = nested (many (extension bound))
 abbrev pub extension_req_arcs : List ℕ
 extension_req_arcs = 1 ∷ 2 ∷ 840 ∷ 113549 ∷ 1 ∷ 9 ∷ 14 ∷ []
 
--- the attribute of that type whose one value is the list of these extensions, if a length can count its octets
+-- the attribute of that type whose one value is the list of these extensions, if a length can count
+-- its octets
 abbrev pub extension_req_attribute : ℕ → List PlainExtension → Result PlainAttribute ErrorKind
-extension_req_attribute bound es = written_as tags.Sequence (extension_req_content bound) es >>= λ v. Ok (extension_req_arcs, (v ∷ [], tt))
+extension_req_attribute bound es = written_as tags.Sequence (extension_req_content bound) es
+    >>= λ v. Ok (extension_req_arcs, (v ∷ [], tt))

@@ -2,19 +2,31 @@
 use Rattle.std.specs.Prelude.{ℤ, pos, None}
 use Rattle.der_core_head.specs.Grammar.{plain_option, plain_list}
 use Rattle.der_core_head.specs.Shapes.{BodyValue}
-use Rattle.x509_cert_lists.specs.Grammar.{revoked_cert_fields, tbs_cert_list_fields, certificate_list_fields, cert_req_info_fields, cert_req_fields}
+use Rattle.x509_cert_lists.specs.Grammar.{revoked_cert_fields, tbs_cert_list_fields}
+use Rattle.x509_cert_lists.specs.Grammar.{certificate_list_fields, cert_req_info_fields}
+use Rattle.x509_cert_lists.specs.Grammar.{cert_req_fields}
 use Rattle.x509_cert_lists.specs.declared.cert_req.CertReq.{CertReq}
 use Rattle.x509_cert_lists.specs.declared.cert_req_info.CertReqInfo.{CertReqInfo}
 use Rattle.x509_cert_lists.specs.declared.certificate_list.CertificateList.{CertificateList}
 use Rattle.x509_cert_lists.specs.declared.request.Version.{Version}
 use Rattle.x509_cert_lists.specs.declared.revoked_cert.RevokedCert.{RevokedCert}
 use Rattle.x509_cert_lists.specs.declared.tbs_cert_list.TbsCertList.{TbsCertList}
-use Rattle.x509_cert_general_names.specs.Parts.{name_plain, attribute_plain, version_number, time_value, algorithm_plain, key_plain, extensions_plain}
+use Rattle.x509_cert_general_names.specs.Parts.{name_plain, attribute_plain, version_number}
+use Rattle.x509_cert_general_names.specs.Parts.{time_value, algorithm_plain, key_plain}
+use Rattle.x509_cert_general_names.specs.Parts.{extensions_plain}
 
-abbrev pub revoked_cert_plain : {P : Type 0} → RevokedCert P → BodyValue (revoked_cert_fields 0 None)
-revoked_cert_plain r = (r.serial_number, (time_value r.revocation_date, (plain_option (λ e. extensions_plain e.items) r.crl_entry_extensions, tt)))
+abbrev pub revoked_cert_plain : {P : Type 0} → RevokedCert P
+    → BodyValue (revoked_cert_fields 0 None)
+revoked_cert_plain r = (
+  r.serial_number,
+  (
+    time_value r.revocation_date,
+    (plain_option (λ e. extensions_plain e.items) r.crl_entry_extensions, tt),
+  ),
+)
 
-abbrev pub tbs_cert_list_plain : {P : Type 0} → TbsCertList P → BodyValue (tbs_cert_list_fields 0 None)
+abbrev pub tbs_cert_list_plain : {P : Type 0} → TbsCertList P
+    → BodyValue (tbs_cert_list_fields 0 None)
 tbs_cert_list_plain t = (
   version_number t.version,
   (
@@ -35,15 +47,25 @@ tbs_cert_list_plain t = (
   ),
 )
 
-abbrev pub certificate_list_plain : {P : Type 0} → CertificateList P → BodyValue (certificate_list_fields 0 None)
-certificate_list_plain c = (tbs_cert_list_plain c.tbs_cert_list, (algorithm_plain c.signature_algorithm, (c.signature, tt)))
+abbrev pub certificate_list_plain : {P : Type 0} → CertificateList P
+    → BodyValue (certificate_list_fields 0 None)
+certificate_list_plain c = (
+  tbs_cert_list_plain c.tbs_cert_list,
+  (algorithm_plain c.signature_algorithm, (c.signature, tt)),
+)
 
 -- the number of a request's version
 abbrev pub request_number : Version → ℤ
 request_number v = pos 0
 
 abbrev pub cert_req_info_plain : CertReqInfo → BodyValue (cert_req_info_fields 0)
-cert_req_info_plain i = (request_number i.version, (name_plain i.subject, (key_plain i.public_key, (plain_list attribute_plain i.attributes.values.items, tt))))
+cert_req_info_plain i = (
+  request_number i.version,
+  (
+    name_plain i.subject,
+    (key_plain i.public_key, (plain_list attribute_plain i.attributes.values.items, tt)),
+  ),
+)
 
 abbrev pub cert_req_plain : CertReq → BodyValue (cert_req_fields 0)
 cert_req_plain r = (cert_req_info_plain r.info, (algorithm_plain r.algorithm, (r.signature, tt)))

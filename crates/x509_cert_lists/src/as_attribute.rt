@@ -23,7 +23,8 @@ pub trait AsAttribute: AssociatedOid + Encode {
     /// # Errors
     /// Those of `to_any`.
     fn to_attribute(&self, alloc: Global) -> Result<Attribute, Error>
-        ensures { Gives attribute_plain result (attribute_of Self.oid_arcs (any_of Self.shape (Self.written self.now))) }
+        ensures { Gives attribute_plain result
+            (attribute_of Self.oid_arcs (any_of Self.shape (Self.written self.now))) }
     {
         let value = self.to_any(alloc)?;
         let mut values = Vec::new(alloc);

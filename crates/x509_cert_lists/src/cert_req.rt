@@ -127,7 +127,8 @@ impl CertReq {
         // What is read is spelled so.
         ensures spelled { IfOk result (λ r. Spells (cert_req Bound) (cert_req_plain r) bytes.now) }
         // What is refused for another reason than want of memory is spelled by no request.
-        ensures refused { IfErr result (λ e. e.kind ≢ OutOfMemory → (r : Value (cert_req 0)) → Spells (cert_req Bound) r bytes.now → ⊥) }
+        ensures refused { IfErr result (λ e. e.kind ≢ OutOfMemory → (r : Value (cert_req 0))
+            → Spells (cert_req Bound) r bytes.now → ⊥) }
         // Which fault it is.
         ensures exact { Gives (λ r. (cert_req_plain r, [])) result (whole_at (cert_req Bound) bytes.now) }
     {

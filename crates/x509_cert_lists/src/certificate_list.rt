@@ -48,7 +48,8 @@ type RowRef<'a, P> = (
 impl<P: Profile> CertificateList<P> {
     /// Its fields, lent.
     fn row<'a>(&'a self) -> RowRef<'a, P>
-        ensures { ⟦<RowRef<'a, P> as Fields>⟧.fields_written result ≡ certificate_list_plain self.now }
+        ensures { ⟦<RowRef<'a, P> as Fields>⟧.fields_written result
+            ≡ certificate_list_plain self.now }
     {
         (
             EncodeRef(&self.tbs_cert_list),

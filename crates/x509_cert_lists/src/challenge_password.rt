@@ -8,7 +8,8 @@ use der_core::{Encode, Error, Length, Shaped, Writer};
 use std::alloc::Global;
 use x509_cert_general_names::certificates::{Any, DirectoryString};
 
-/// A password by which an entity may ask for its certificate to be revoked, as the value of an attribute of a certification
+/// A password by which an entity may ask for its certificate to be revoked, as the value of an
+/// attribute of a certification
 /// request (RFC 2985 5.4.1).
 ///
 /// ```text

@@ -5,7 +5,8 @@ ghost use Rattle.const_oid.specs.Bound.{Bound};
 ghost use Rattle.der_core_head.specs.declared.tag.Tag.TheVariants.{Sequence};
 ghost use Rattle.der_core_head.specs.Reading.{Gives};
 ghost use Rattle.x509_cert_general_names.specs.Parts.{attribute_plain, extensions_plain};
-ghost use Rattle.x509_cert_lists.specs.Grammar.{extension_req_content, extension_req_arcs, extension_req_attribute};
+ghost use Rattle.x509_cert_lists.specs.Grammar.{extension_req_content, extension_req_arcs};
+ghost use Rattle.x509_cert_lists.specs.Grammar.{extension_req_attribute};
 
 use const_oid::{AssociatedOid, ObjectIdentifier};
 use der_core::{
@@ -16,7 +17,8 @@ use std::alloc::Global;
 use std::cmp::Ordering;
 use x509_cert_general_names::certificates::{Any, Attribute, Extension};
 
-/// The extensions that a certification request asks for, as the value of an attribute (RFC 2985 5.4.2). There may be none.
+/// The extensions that a certification request asks for, as the value of an attribute (RFC 2985
+/// 5.4.2). There may be none.
 ///
 /// ```text
 /// ExtensionRequest ::= Extensions
@@ -129,7 +131,8 @@ impl TryFromExtensionReq for Attribute {
     /// # Errors
     /// `Overflow` where the list has 2^32 octets or more, or `OutOfMemory`.
     fn try_from_extension_req(alloc: Global, request: ExtensionReq) -> Result<Attribute, Error>
-        ensures { Gives attribute_plain result (extension_req_attribute Bound (extensions_plain request.0.items)) }
+        ensures { Gives attribute_plain result
+            (extension_req_attribute Bound (extensions_plain request.0.items)) }
     {
         let value = Any::encode_from(alloc, &request)?;
         let mut values = Vec::new(alloc);

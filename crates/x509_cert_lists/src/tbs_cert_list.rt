@@ -18,8 +18,10 @@ use x509_cert_general_names::certificates::{
     AlgorithmIdentifier, Extensions, Name, Profile, Rfc5280, Time, Version,
 };
 
-/// The part of a revocation list that is signed (RFC 5280 5.1.2). Any version is read beside any fields, an empty list of
-/// certificates, and a list of no extensions. A list without a version isn't read. Its dates are written as they were read, under
+/// The part of a revocation list that is signed (RFC 5280 5.1.2). Any version is read beside any
+/// fields, an empty list of
+/// certificates, and a list of no extensions. A list without a version isn't read. Its dates are
+/// written as they were read, under
 /// every profile.
 ///
 /// ```text

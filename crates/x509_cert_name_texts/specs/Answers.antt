@@ -4,7 +4,9 @@ use Rattle.der_core_head.specs.declared.error.Error.{Error}
 use Rattle.der_core_head.specs.declared.error.ErrorKind.{ErrorKind}
 use Rattle.der_core_head.specs.declared.error.ErrorKind.TheVariants as kinds
 
--- What was answered, seen by view, is one of the answers that are so related, unless memory ran out.
-abbrev pub GivesBy : {X P : Type 0} → (X → P) → Result X Error → (Result P ErrorKind → Type 0) → Type 0
+-- What was answered, seen by view, is one of the answers that are so related, unless memory ran
+-- out.
+abbrev pub GivesBy : {X P : Type 0} → (X → P) → Result X Error → (Result P ErrorKind → Type 0)
+    → Type 0
 GivesBy view (Ok x) R = R (Ok (view x))
 GivesBy view (Err e) R = e.kind ≢ kinds.OutOfMemory → R (Err e.kind)

@@ -1,5 +1,7 @@
 -- Escapes in values, undone and written (RFC 4514 2.4, 3).
-use Rattle.std.specs.Prelude.{ℕ, ◌+◌, ◌*◌, ◌/◌, ◌%◌, ◌==◌, ◌&&◌, ◌||◌, nat_eq, nat_lt, List, [], ◌∷◌, ◌++◌, Bool, true, false, Option, Some, None, Result, Ok, Err, if◌then◌else◌}
+use Rattle.std.specs.Prelude.{ℕ, ◌+◌, ◌*◌, ◌/◌, ◌%◌, ◌==◌, ◌&&◌, ◌||◌, nat_eq, nat_lt, List, []}
+use Rattle.std.specs.Prelude.{◌∷◌, ◌++◌, Bool, true, false, Option, Some, None, Result, Ok, Err}
+use Rattle.std.specs.Prelude.{if◌then◌else◌}
 use Rattle.std.specs.Char.{encode_utf8}
 use Rattle.std.specs.Fmt.{digit_glyph}
 use Rattle.std.specs.List.{list_any, flat_map}
@@ -25,7 +27,8 @@ octet_of_digits _ _ = Err kinds.Failed
 abbrev pub escape : List ℕ → Result (ℕ × List ℕ) ErrorKind
 escape [] = Err kinds.Failed
 escape (c ∷ []) = if is_sign c then Ok (c, []) else Err kinds.Failed
-escape (c ∷ d ∷ w) = if is_sign c then Ok (c, d ∷ w) else (octet_of_digits (hex_digit_value c) (hex_digit_value d) >>= λ octet. Ok (octet, w))
+escape (c ∷ d ∷ w) = if is_sign c then Ok (c, d ∷ w)
+    else (octet_of_digits (hex_digit_value c) (hex_digit_value d) >>= λ octet. Ok (octet, w))
 
 -- an octet in front of others
 abbrev pub octet_before : ℕ → Result (List ℕ) ErrorKind → Result (List ℕ) ErrorKind
@@ -35,9 +38,13 @@ octet_before c r = r >>= λ w. Ok (c ∷ w)
 unfoldable pub undone : List ℕ → Result (List ℕ) ErrorKind
 undone [] = Ok []
 undone (c ∷ []) = if c == 92 then Err kinds.Failed else Ok (c ∷ [])
-undone (c ∷ d ∷ []) = if c == 92 then (if is_sign d then Ok (d ∷ []) else Err kinds.Failed) else octet_before c (undone (d ∷ []))
+undone (c ∷ d ∷ []) = if c == 92 then (if is_sign d then Ok (d ∷ []) else Err kinds.Failed)
+    else octet_before c (undone (d ∷ []))
 undone (c ∷ d ∷ e ∷ w) =
-    if c == 92 then (if is_sign d then octet_before d (undone (e ∷ w)) else (octet_of_digits (hex_digit_value d) (hex_digit_value e) >>= λ octet. octet_before octet (undone w)))
+    if c == 92
+    then (if is_sign d then octet_before d (undone (e ∷ w))
+    else (octet_of_digits (hex_digit_value d) (hex_digit_value e)
+    >>= λ octet. octet_before octet (undone w)))
     else octet_before c (undone (d ∷ e ∷ w))
 
 -- the octets of hex digits
@@ -63,7 +70,8 @@ in_hex w = flat_map hex_digits w
 abbrev pub is_control : ℕ → Bool
 is_control c = nat_lt c 32 || (c == 127)
 
--- a character of a text as it is printed: a blank that is first or last, and a first #, have a backslash too
+-- a character of a text as it is printed: a blank that is first or last, and a first #, have a
+-- backslash too
 abbrev pub escaped_char : Bool → Bool → ℕ → List ℕ
 escaped_char first last c =
     if is_escaped_sign c || ((c == 35) && first) || ((c == 32) && (first || last)) then 92 ∷ c ∷ []

@@ -1,5 +1,7 @@
--- The names of attribute types in name texts (RFC 4514 3; RFC 4519 2; RFC 2985 5.2.1, emailAddress).
-use Rattle.std.specs.Prelude.{ℕ, List, [], ◌∷◌, Bool, Option, Some, None, Result, Ok, Err, codes, length, map, nat_eq, nat_lt, if◌then◌else◌}
+-- The names of attribute types in name texts (RFC 4514 3; RFC 4519 2; RFC 2985 5.2.1,
+-- emailAddress).
+use Rattle.std.specs.Prelude.{ℕ, List, [], ◌∷◌, Bool, Option, Some, None, Result, Ok, Err, codes}
+use Rattle.std.specs.Prelude.{length, map, nat_eq, nat_lt, if◌then◌else◌}
 use Rattle.std.specs.Char.{to_ascii_lowercase, to_ascii_uppercase}
 use Rattle.std.specs.Cmp.Lexicographic.{pointwise}
 use Rattle.std.specs.List.{find, list_any}
@@ -75,7 +77,8 @@ key_arcs bound key = arcs_or bound (type_named key) key
 -- the shortest of the names, the first of equals
 abbrev pub shortest : List ℕ → List (List ℕ) → List ℕ
 shortest best [] = best
-shortest best (name ∷ names) = shortest (if nat_lt (length name) (length best) then name else best) names
+shortest best (name ∷ names) = shortest (if nat_lt (length name) (length best) then name else best)
+    names
 
 abbrev pub shortest_name : List (List ℕ) → List ℕ
 shortest_name [] = []

@@ -1,5 +1,7 @@
 -- A text as pieces between separators (RFC 4514 2.1, 2.2, 3).
-use Rattle.std.specs.Prelude.{◌≡◌, ℕ, ◌+◌, ◌%◌, ◌<◌, ◌==◌, List, [], ◌∷◌, ◌++◌, length, take, drop, position, reverse, slice_index, Option, Some, None, Result, Ok, Err, if◌then◌else◌}
+use Rattle.std.specs.Prelude.{◌≡◌, ℕ, ◌+◌, ◌%◌, ◌<◌, ◌==◌, List, [], ◌∷◌, ◌++◌, length, take, drop}
+use Rattle.std.specs.Prelude.{position, reverse, slice_index, Option, Some, None, Result, Ok, Err}
+use Rattle.std.specs.Prelude.{if◌then◌else◌}
 
 -- the number of backslashes at the front
 abbrev pub backslashes : List ℕ → ℕ
@@ -14,10 +16,12 @@ Counts front = backslashes (reverse front) % 2 ≡ 0
 abbrev pub HasNone : ℕ → List ℕ → Type 0
 HasNone separator w = (i : ℕ) → i < length w → slice_index w i ≡ separator → Counts (take i w) → ⊥
 
--- the first piece of a text, and the text behind the separator that ends it, or none where the text ends it
+-- the first piece of a text, and the text behind the separator that ends it, or none where the text
+-- ends it
 abbrev pub IsFirstPiece : ℕ → List ℕ → List ℕ → Option (List ℕ) → Type 0
 IsFirstPiece separator text piece None = (text ≡ piece) × HasNone separator piece
-IsFirstPiece separator text piece (Some rest) = (text ≡ piece ++ (separator ∷ rest)) × HasNone separator piece × Counts piece
+IsFirstPiece separator text piece (Some rest) = (text ≡ piece ++ (separator ∷ rest))
+    × HasNone separator piece × Counts piece
 
 -- a value in front of those that are read behind it
 abbrev pub before : {A E : Type 0} → A → Result (List A) E → Result (List A) E
@@ -25,11 +29,15 @@ before a (Ok values) = Ok (a ∷ values)
 before a (Err e) = Err e
 
 -- The pieces of a text are read from the left, up to the first that is refused.
-pub data ReadsPieces {A E : Type 0} (separator : ℕ) (reads : List ℕ → Result A E → Type 0) : List ℕ → Result (List A) E → Type 0 where
-  last : (text piece : List ℕ) (a : A) → IsFirstPiece separator text piece None → reads piece (Ok a) → ReadsPieces separator reads text (Ok (a ∷ []))
-  more : (text piece rest : List ℕ) (a : A) (r : Result (List A) E) → IsFirstPiece separator text piece (Some rest) → reads piece (Ok a)
+pub data ReadsPieces {A E : Type 0} (separator : ℕ) (reads : List ℕ → Result A E → Type 0) : List ℕ
+    → Result (List A) E → Type 0 where
+  last : (text piece : List ℕ) (a : A) → IsFirstPiece separator text piece None → reads piece (Ok a)
+      → ReadsPieces separator reads text (Ok (a ∷ []))
+  more : (text piece rest : List ℕ) (a : A) (r : Result (List A) E)
+      → IsFirstPiece separator text piece (Some rest) → reads piece (Ok a)
       → ReadsPieces separator reads rest r → ReadsPieces separator reads text (before a r)
-  refused : (text piece : List ℕ) (left : Option (List ℕ)) (e : E) → IsFirstPiece separator text piece left → reads piece (Err e)
+  refused : (text piece : List ℕ) (left : Option (List ℕ)) (e : E)
+      → IsFirstPiece separator text piece left → reads piece (Err e)
       → ReadsPieces separator reads text (Err e)
 
 -- what stands in front of the first = and behind it

@@ -38,7 +38,8 @@ rows =
     ∷ row (x520_octets 42) (codes "GN") (codes "givenName")
     ∷ row (pilot_octets 25) (codes "DC") (codes "domainComponent")
     ∷ row (pilot_octets 1) (codes "UID") (codes "userId")
-    ∷ row (0x2a ∷ 0x86 ∷ 0x48 ∷ 0x86 ∷ 0xf7 ∷ 0x0d ∷ 0x01 ∷ 0x09 ∷ 0x01 ∷ []) (codes "EMAILADDRESS") (codes "emailAddress")
+    ∷ row (0x2a ∷ 0x86 ∷ 0x48 ∷ 0x86 ∷ 0xf7 ∷ 0x0d ∷ 0x01 ∷ 0x09 ∷ 0x01 ∷ []) (codes "EMAILADDRESS")
+    (codes "emailAddress")
     ∷ []
 
 abbrev pub is_called : List ℕ → Row → Bool

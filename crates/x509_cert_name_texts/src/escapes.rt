@@ -33,7 +33,8 @@ fn digit_value(digit: u8) -> Option<u8>
 
 /// The octet of two hex digits.
 fn octet_of(high: u8, low: u8) -> Result<u8, Error>
-    ensures { GivesNow (λ octet. octet) result (octet_of_digits (hex_digit_value high) (hex_digit_value low)) }
+    ensures { GivesNow (λ octet. octet) result
+        (octet_of_digits (hex_digit_value high) (hex_digit_value low)) }
 {
     match (digit_value(high), digit_value(low)) {
         (Some(high), Some(low)) => Ok(high * 16 + low),
@@ -53,8 +54,8 @@ fn escape(behind: &[u8]) -> Result<(u8, &[u8]), Error>
     }
 }
 
-/// The octets of a value, its escapes undone (RFC 4514 3): a backslash and two hex digits are an octet, a
-/// backslash before a blank or one of `"#+,;<=>\` stands for nothing.
+/// The octets of a value, its escapes undone (RFC 4514 3): a backslash and two hex digits are an
+/// octet, a backslash before a blank or one of `"#+,;<=>\` stands for nothing.
 ///
 /// # Errors
 /// `Failed` for any other octet behind a backslash, or `OutOfMemory`.

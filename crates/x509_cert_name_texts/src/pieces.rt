@@ -1,8 +1,10 @@
 //! The pieces of a text between separators.
 
-ghost use Rattle.std.specs.Prelude.{◌≡◌, ◌<◌, ◌==◌, ◌&&◌, not, length, option_map, position, take, drop, MatchOption, slice_index};
+ghost use Rattle.std.specs.Prelude.{◌≡◌, ◌<◌, ◌==◌, ◌&&◌, not, length, option_map, position, take};
+ghost use Rattle.std.specs.Prelude.{drop, MatchOption, slice_index};
 ghost use Rattle.der_core_head.specs.Reading.{Gives};
-ghost use Rattle.x509_cert_name_texts.specs.Pieces.{IsFirstPiece, HasNone, Counts, ReadsPieces, key_and_value};
+ghost use Rattle.x509_cert_name_texts.specs.Pieces.{IsFirstPiece, HasNone, Counts, ReadsPieces};
+ghost use Rattle.x509_cert_name_texts.specs.Pieces.{key_and_value};
 ghost use Rattle.x509_cert_name_texts.specs.Answers.{GivesBy};
 
 use der_core_head::Error;
@@ -41,7 +43,9 @@ fn opens_escape(octet: u8, escaped: bool) -> bool
 
 /// The place of the first separator that counts.
 fn first_separator(text: &[u8], separator: u8) -> Option<usize>
-    ensures { MatchOption result (HasNone separator text.now) (λ i. (i < length text.now) × (slice_index text.now i ≡ separator) × HasNone separator (take i text.now) × Counts (take i text.now)) }
+    ensures { MatchOption result (HasNone separator text.now) (λ i. (i < length text.now)
+        × (slice_index text.now i ≡ separator) × HasNone separator (take i text.now)
+        × Counts (take i text.now)) }
 {
     let mut escaped = false;
     for (i, octet) in text.iter().enumerate() {
@@ -53,8 +57,8 @@ fn first_separator(text: &[u8], separator: u8) -> Option<usize>
     None
 }
 
-/// The first piece of a text, and the text behind the separator that ends it, or none where the text ends
-/// it. A separator counts where the run of backslashes before it is even.
+/// The first piece of a text, and the text behind the separator that ends it, or none where the
+/// text ends it. A separator counts where the run of backslashes before it is even.
 pub fn first_piece(text: &str, separator: u8) -> (&str, Option<&str>)
     requires { separator < 128 }
     ensures { IsFirstPiece separator text.now result.0.now (option_map (λ rest. rest.now) result.1) }

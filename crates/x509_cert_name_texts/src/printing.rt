@@ -3,7 +3,8 @@
 ghost use Rattle.std.specs.Prelude.{◌≡◌, ◌<◌, ◌∷◌, []};
 ghost use Rattle.std.specs.Fmt.{WritesOnOk};
 ghost use Rattle.std.specs.Str.{chars};
-ghost use Rattle.x509_cert_name_texts.specs.Escapes.{escaped_char, escaped, hex_digits, in_hex, is_escaped_sign};
+ghost use Rattle.x509_cert_name_texts.specs.Escapes.{escaped_char, escaped, hex_digits, in_hex};
+ghost use Rattle.x509_cert_name_texts.specs.Escapes.{is_escaped_sign};
 
 use std::fmt;
 
@@ -64,8 +65,8 @@ fn write_escaped_char<W: fmt::Write>(
     write!(f, "{c}")
 }
 
-/// Writes a text (RFC 4514 2.4): with a backslash before each of `"+,;<>\`, a first `#`, a first and a last
-/// blank, and control characters as a backslash and two small hex digits.
+/// Writes a text (RFC 4514 2.4): with a backslash before each of `"+,;<>\`, a first `#`, a first
+/// and a last blank, and control characters as a backslash and two small hex digits.
 pub fn write_escaped<W: fmt::Write>(text: &str, f: &mut fmt::Formatter<W>) -> fmt::Result
     ensures { WritesOnOk W.write_str_gives f.old result (escaped (chars text.now)) f.new }
 {

@@ -1,5 +1,6 @@
 -- What a name has of a type.
-use Rattle.std.specs.Prelude.{◌≡◌, ℕ, List, [], ◌∷◌, Option, Some, None, Result, Ok, Err, if◌then◌else◌}
+use Rattle.std.specs.Prelude.{◌≡◌, ℕ, List, [], ◌∷◌, Option, Some, None, Result, Ok, Err}
+use Rattle.std.specs.Prelude.{if◌then◌else◌}
 use Rattle.const_oid.specs.Comparing.{owned_eq}
 use Rattle.der_core_head.specs.declared.error.Error.{Error}
 use Rattle.der_core_head.specs.Shapes.{AnyValue}
@@ -8,10 +9,12 @@ use Rattle.x509_cert_names.specs.Names.{TypeAndValue, type_of, value_of}
 -- the value of the first attribute of a type, in the order of the name
 abbrev pub first_value : List ℕ → List TypeAndValue → Option AnyValue
 first_value arcs [] = None
-first_value arcs (a ∷ left) = if owned_eq (type_of a) arcs then Some (value_of a) else first_value arcs left
+first_value arcs (a ∷ left) = if owned_eq (type_of a) arcs then Some (value_of a)
+    else first_value arcs left
 
 -- nothing where there is no such value, else what reading it gives
-abbrev pub FirstGives : {T : Type 0} → (AnyValue → Result T Error → Type 0) → Option AnyValue → Result (Option T) Error → Type 0
+abbrev pub FirstGives : {T : Type 0} → (AnyValue → Result T Error → Type 0) → Option AnyValue
+    → Result (Option T) Error → Type 0
 FirstGives gives None r = r ≡ Ok None
 FirstGives gives (Some a) (Ok None) = ⊥
 FirstGives gives (Some a) (Ok (Some x)) = gives a (Ok x)

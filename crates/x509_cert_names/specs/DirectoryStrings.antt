@@ -29,10 +29,14 @@ directory_text (strings.BmpString t) = []
 
 -- what any value reads as, by its tag
 abbrev pub directory_as : Tag → AnyValue → Result (Value directory_string) ErrorKind
-directory_as tags.PrintableString a = content_as tags.PrintableString (leaf (text printable)) a >>= λ t. Ok (inl t)
-directory_as tags.TeletexString a = content_as tags.TeletexString (leaf (text ascii)) a >>= λ t. Ok (inr (inl t))
-directory_as tags.Utf8String a = content_as tags.Utf8String (leaf utf8) a >>= λ t. Ok (inr (inr (inl t)))
-directory_as tags.BmpString a = content_as tags.BmpString (leaf bmp) a >>= λ t. Ok (inr (inr (inr t)))
+directory_as tags.PrintableString a = content_as tags.PrintableString (leaf (text printable)) a
+    >>= λ t. Ok (inl t)
+directory_as tags.TeletexString a = content_as tags.TeletexString (leaf (text ascii)) a
+    >>= λ t. Ok (inr (inl t))
+directory_as tags.Utf8String a = content_as tags.Utf8String (leaf utf8) a
+    >>= λ t. Ok (inr (inr (inl t)))
+directory_as tags.BmpString a = content_as tags.BmpString (leaf bmp) a
+    >>= λ t. Ok (inr (inr (inr t)))
 directory_as _ a = Err kinds.TagUnexpected
 
 -- the DirectoryString that any value is, or the fault

@@ -1,5 +1,6 @@
 -- Names as texts (RFC 4514 2, 3). What reads one takes the bound of arcs.
-use Rattle.std.specs.Prelude.{◌≡◌, ◌≢◌, ℕ, List, [], ◌∷◌, ◌++◌, reverse, None, false, Result, Ok, Err}
+use Rattle.std.specs.Prelude.{◌≡◌, ◌≢◌, ℕ, List, [], ◌∷◌, ◌++◌, reverse, None, false, Result, Ok}
+use Rattle.std.specs.Prelude.{Err}
 use Rattle.std.specs.List.{IsDistinct, flat_map}
 use Rattle.std.specs.List.Sorted.{IsPermutation}
 use Rattle.der_core_head.specs.declared.error.ErrorKind.{ErrorKind}
@@ -18,22 +19,32 @@ abbrev pub ReadsAttribute : ℕ → List ℕ → Result AttributeTypeAndValue Er
 ReadsAttribute bound text r = r ≡ attribute_read bound text
 
 -- Attributes between +, of which none stands twice, in the order of their encodings.
-pub data ReadsRelative (bound : ℕ) (text : List ℕ) : Result (List AttributeTypeAndValue) ErrorKind → Type 0 where
-  set : (members attributes : List AttributeTypeAndValue) → ReadsPieces 43 (ReadsAttribute bound) text (Ok members)
-      → IsPermutation members attributes → Ascends (type_and_value bound) pair_plain attributes → IsDistinct same_pair attributes
+pub data ReadsRelative (bound : ℕ) (text : List ℕ) : Result (List AttributeTypeAndValue) ErrorKind
+    → Type 0 where
+  set : (members attributes : List AttributeTypeAndValue)
+      → ReadsPieces 43 (ReadsAttribute bound) text (Ok members)
+      → IsPermutation members attributes → Ascends (type_and_value bound) pair_plain attributes
+      → IsDistinct same_pair attributes
       → ReadsRelative bound text (Ok attributes)
-  refused : (e : ErrorKind) → ReadsPieces 43 (ReadsAttribute bound) text (Err e) → ReadsRelative bound text (Err e)
-  twice : (members : List AttributeTypeAndValue) → ReadsPieces 43 (ReadsAttribute bound) text (Ok members) → (IsDistinct same_pair members → ⊥)
+  refused : (e : ErrorKind) → ReadsPieces 43 (ReadsAttribute bound) text (Err e)
+      → ReadsRelative bound text (Err e)
+  twice : (members : List AttributeTypeAndValue)
+      → ReadsPieces 43 (ReadsAttribute bound) text (Ok members) → (IsDistinct same_pair members → ⊥)
       → ReadsRelative bound text (Err kinds.SetDuplicate)
-  too_long : (members : List AttributeTypeAndValue) → ReadsPieces 43 (ReadsAttribute bound) text (Ok members)
-      → (AllValid (type_and_value bound) pair_plain members → ⊥) → ReadsRelative bound text (Err kinds.Overflow)
+  too_long : (members : List AttributeTypeAndValue)
+      → ReadsPieces 43 (ReadsAttribute bound) text (Ok members)
+      → (AllValid (type_and_value bound) pair_plain members → ⊥)
+      → ReadsRelative bound text (Err kinds.Overflow)
 
 -- Relative names between commas, the last one first. The empty text is the empty name.
-pub data ReadsName (bound : ℕ) (text : List ℕ) : Result (List (List AttributeTypeAndValue)) ErrorKind → Type 0 where
+pub data ReadsName (bound : ℕ) (text : List ℕ) : Result (List (List AttributeTypeAndValue))
+    ErrorKind → Type 0 where
   empty : text ≡ [] → ReadsName bound text (Ok [])
-  pieces : (relative_names : List (List AttributeTypeAndValue)) → text ≢ [] → ReadsPieces 44 (ReadsRelative bound) text (Ok relative_names)
+  pieces : (relative_names : List (List AttributeTypeAndValue)) → text ≢ []
+      → ReadsPieces 44 (ReadsRelative bound) text (Ok relative_names)
       → ReadsName bound text (Ok (reverse relative_names))
-  refused : (e : ErrorKind) → text ≢ [] → ReadsPieces 44 (ReadsRelative bound) text (Err e) → ReadsName bound text (Err e)
+  refused : (e : ErrorKind) → text ≢ [] → ReadsPieces 44 (ReadsRelative bound) text (Err e)
+      → ReadsName bound text (Err e)
 
 -- a value as it is printed behind a separator
 abbrev pub behind : {A : Type 0} → ℕ → (A → List ℕ) → A → List ℕ
@@ -52,9 +63,12 @@ relative_printed r = joined_by 43 attribute_printed r
 abbrev pub name_printed : List (List AttributeTypeAndValue) → List ℕ
 name_printed n = joined_by 44 relative_printed (reverse n)
 
--- The encoding of what a text is read as: the octets of its value, or why it isn't read or isn't written.
-pub data ReadsEncoding {A : Type 0} (s : Shape) (plain : A → Value s) (Reads : Result A ErrorKind → Type 0) : Result (List ℕ) ErrorKind → Type 0 where
+-- The encoding of what a text is read as: the octets of its value, or why it isn't read or isn't
+-- written.
+pub data ReadsEncoding {A : Type 0} (s : Shape) (plain : A → Value s) (Reads : Result A ErrorKind
+    → Type 0) : Result (List ℕ) ErrorKind → Type 0 where
   written : (a : A) → Reads (Ok a) → ReadsEncoding s plain Reads (Ok (octets_of s (plain a)))
   refused : (e : ErrorKind) → Reads (Err e) → ReadsEncoding s plain Reads (Err e)
-  unwritten : (a : A) (e : ErrorKind) → Reads (Ok a) → write s (plain a) (record { written = []; room = None; failed = false }) ≡ Err e
+  unwritten : (a : A) (e : ErrorKind) → Reads (Ok a)
+      → write s (plain a) (record { written = []; room = None; failed = false }) ≡ Err e
       → ReadsEncoding s plain Reads (Err e)

@@ -1,15 +1,18 @@
--- Names and attributes (RFC 5280 4.1.2.4, 4.1.2.6, appendix A.1; RFC 2986 4.1). Each shape takes the bound of arcs.
+-- Names and attributes (RFC 5280 4.1.2.4, 4.1.2.6, appendix A.1; RFC 2986 4.1). Each shape takes
+-- the bound of arcs.
 use Rattle.std.specs.Prelude.{ℕ, List, flat_map}
 use Rattle.der_core_head.specs.declared.tag.Tag.TheVariants as tags
 use Rattle.der_core_head.specs.Leaves.{identifier, text, utf8, bmp}
 use Rattle.der_core_head.specs.Texts.{printable, ascii}
-use Rattle.der_core_head.specs.Shapes.{Shape, Body, Value, AnyValue, tagged, any, leaf, either, field, done, sequence, sequence_of, set_of, octets_of}
+use Rattle.der_core_head.specs.Shapes.{Shape, Body, Value, AnyValue, tagged, any, leaf, either}
+use Rattle.der_core_head.specs.Shapes.{field, done, sequence, sequence_of, set_of, octets_of}
 
 -- AttributeType ::= OBJECT IDENTIFIER, of at most 39 octets
 abbrev pub attribute_type : ℕ → Shape
 attribute_type bound = tagged tags.ObjectIdentifier (leaf (identifier bound 39))
 
--- Attribute ::= SEQUENCE { type AttributeType, values SET OF AttributeValue }, where AttributeValue ::= ANY
+-- Attribute ::= SEQUENCE { type AttributeType, values SET OF AttributeValue }, where AttributeValue
+-- ::= ANY
 abbrev pub attribute_fields : ℕ → Body
 attribute_fields bound = field (attribute_type bound) (field (set_of any) done)
 
@@ -31,7 +34,8 @@ type_and_value bound = sequence (type_and_value_fields bound)
 abbrev pub relative_name : ℕ → Shape
 relative_name bound = set_of (type_and_value bound)
 
--- Name ::= CHOICE { rdnSequence RDNSequence }, RDNSequence ::= SEQUENCE OF RelativeDistinguishedName
+-- Name ::= CHOICE { rdnSequence RDNSequence }, RDNSequence ::= SEQUENCE OF
+-- RelativeDistinguishedName
 abbrev pub name : ℕ → Shape
 name bound = sequence_of (relative_name bound)
 
@@ -39,7 +43,8 @@ name bound = sequence_of (relative_name bound)
 abbrev pub directory_string : Shape
 directory_string =
     either (tagged tags.PrintableString (leaf (text printable)))
-    (either (tagged tags.TeletexString (leaf (text ascii))) (either (tagged tags.Utf8String (leaf utf8)) (tagged tags.BmpString (leaf bmp))))
+    (either (tagged tags.TeletexString (leaf (text ascii)))
+    (either (tagged tags.Utf8String (leaf utf8)) (tagged tags.BmpString (leaf bmp))))
 
 -- Plain values. The bound changes which there are, and not what they are.
 abbrev pub PlainAttribute : Type 0

@@ -1,7 +1,8 @@
 -- What contracts see of an attribute with one value, and of a relative name.
 use Rattle.std.specs.Prelude.{◌≡◌, ℕ, List, ◌++◌, Bool, true, nat_eq, ◌&&◌}
 use Rattle.std.proofs.Common.{ap, ◌∙◌}
-use Rattle.std.specs.Cmp.{IsPartialEquivalence, IsEquivalence, partial_equiv_from_equiv, and_equiv, on_equiv, first_so, second_so}
+use Rattle.std.specs.Cmp.{IsPartialEquivalence, IsEquivalence, partial_equiv_from_equiv, and_equiv}
+use Rattle.std.specs.Cmp.{on_equiv, first_so, second_so}
 use Rattle.std.specs.Cmp.Lexicographic.{pointwise, bytes_decides, nat_list_eq_equiv}
 use Rattle.std.specs.Hash as fed
 use Rattle.const_oid.specs.IdentifierOctets.{identifier_octets}
@@ -20,10 +21,12 @@ pair_plain a = pair a.oid a.value
 
 -- whether type and value are equal
 abbrev pub same_pair : AttributeTypeAndValue → AttributeTypeAndValue → Bool
-same_pair a b = pointwise nat_eq (identifier_octets a.oid) (identifier_octets b.oid) && pointwise nat_eq (any_key a.value) (any_key b.value)
+same_pair a b = pointwise nat_eq (identifier_octets a.oid) (identifier_octets b.oid)
+    && pointwise nat_eq (any_key a.value) (any_key b.value)
 
 pub same_pair_equiv : IsEquivalence same_pair
-same_pair_equiv = and_equiv (on_equiv (λ a. identifier_octets a.oid) nat_list_eq_equiv) (on_equiv (λ a. any_key a.value) nat_list_eq_equiv)
+same_pair_equiv = and_equiv (on_equiv (λ a. identifier_octets a.oid) nat_list_eq_equiv)
+    (on_equiv (λ a. any_key a.value) nat_list_eq_equiv)
 
 pub same_pair_per : IsPartialEquivalence same_pair
 same_pair_per = partial_equiv_from_equiv same_pair_equiv
@@ -36,8 +39,11 @@ pub pair_fed_alike : (a b : AttributeTypeAndValue) → same_pair a b ≡ true �
 pair_fed_alike a b e =
     let types = pointwise nat_eq (identifier_octets a.oid) (identifier_octets b.oid) in
     let values = pointwise nat_eq (any_key a.value) (any_key b.value) in
-    ap (λ w. fed.slice fed.u8 w ++ any_fed a.value) ((bytes_decides (identifier_octets a.oid) (identifier_octets b.oid)).0 (first_so types values e))
-    ∙ ap (λ w. fed.slice fed.u8 (identifier_octets b.oid) ++ w) (any_fed_alike a.value b.value (second_so types values e))
+    ap (λ w. fed.slice fed.u8 w ++ any_fed a.value)
+    ((bytes_decides (identifier_octets a.oid) (identifier_octets b.oid)).0
+    (first_so types values e))
+    ∙ ap (λ w. fed.slice fed.u8 (identifier_octets b.oid) ++ w)
+    (any_fed_alike a.value b.value (second_so types values e))
 
 -- the attributes of a relative name, in the order of their encodings
 abbrev pub relative_plain : List AttributeTypeAndValue → RelativeName

@@ -19,17 +19,21 @@ name_text n = name_printed (map (map attribute_of) n)
 -- the text of a name spells this one, with arcs below the bound (RFC 4514 2, 3)
 abbrev pub SpellsName : ℕ → List ℕ → PlainName → Type 0
 SpellsName bound text n =
-    (relative_names : List (List AttributeTypeAndValue)) × ReadsName bound text (Ok relative_names) × (n ≡ plain_list relative_plain relative_names)
+    (relative_names : List (List AttributeTypeAndValue)) × ReadsName bound text (Ok relative_names)
+    × (n ≡ plain_list relative_plain relative_names)
 
 attributes_back : (r : List AttributeTypeAndValue) → map attribute_of (relative_plain r) ≡ r
 attributes_back [] = refl
 attributes_back (a ∷ r) = ap (λ x. a ∷ x) (attributes_back r)
 
-names_back : (n : List (List AttributeTypeAndValue)) → map (map attribute_of) (plain_list relative_plain n) ≡ n
+names_back : (n : List (List AttributeTypeAndValue))
+    → map (map attribute_of) (plain_list relative_plain n) ≡ n
 names_back [] = refl
-names_back (r ∷ n) = ap (λ x. x ∷ map (map attribute_of) (plain_list relative_plain n)) (attributes_back r) ∙ ap (λ x. r ∷ x) (names_back n)
+names_back (r ∷ n) = ap (λ x. x ∷ map (map attribute_of) (plain_list relative_plain n))
+    (attributes_back r) ∙ ap (λ x. r ∷ x) (names_back n)
 
 -- what is printed of a name is the text of its plain value
-pub name_text_is : (n : List (List AttributeTypeAndValue)) → name_text (plain_list relative_plain n) ≡ name_printed n
+pub name_text_is : (n : List (List AttributeTypeAndValue)) → name_text (plain_list relative_plain n)
+    ≡ name_printed n
 unfolding name_text
 name_text_is n = ap name_printed (names_back n)

@@ -1,5 +1,6 @@
 -- Attributes as texts (RFC 4514 2.3, 2.4, 3): a key, the first =, a value.
-use Rattle.std.specs.Prelude.{ℕ, ◌==◌, ◌||◌, nat_lt, List, [], ◌∷◌, ◌++◌, length, Option, Some, None, Result, Ok, Err, if◌then◌else◌}
+use Rattle.std.specs.Prelude.{ℕ, ◌==◌, ◌||◌, nat_lt, List, [], ◌∷◌, ◌++◌, length, Option, Some}
+use Rattle.std.specs.Prelude.{None, Result, Ok, Err, if◌then◌else◌}
 use Rattle.std.specs.Result.{result_ok}
 use Rattle.std.specs.Str.{chars}
 use Rattle.const_oid.specs.Comparing.{owned_eq}
@@ -21,8 +22,9 @@ use Rattle.x509_cert_name_texts.specs.Keys.{x520, pilot, email_address, key_arcs
 use Rattle.x509_cert_name_texts.specs.Pieces.{key_and_value}
 use Rattle.x509_cert_names.specs.declared.attribute_type_and_value.AttributeTypeAndValue.{AttributeTypeAndValue}
 
--- the tag of a value that is spelled as a text: a country and a serial number are a PrintableString, a domain's component and a mail
--- address an IA5String (RFC 5280 appendix A.1), any other is a UTF8String
+-- the tag of a value that is spelled as a text: a country and a serial number are a
+-- PrintableString, a domain's component and a mail address an IA5String (RFC 5280 appendix A.1),
+-- any other is a UTF8String
 abbrev pub tag_for : List ℕ → Tag
 tag_for arcs =
     if owned_eq arcs (x520 6) || owned_eq arcs (x520 5) then tags.PrintableString
@@ -35,9 +37,11 @@ encoded_value digits = hex_octets digits >>= whole_at any >>= λ v. Ok v.0
 
 -- a value, if a length can count its octets
 abbrev pub of_content : Tag → List ℕ → Result AnyValue ErrorKind
-of_content t w = if nat_lt length_max (length w) then Err kinds.Overflow else Ok (record { tag = t; contents = w })
+of_content t w = if nat_lt length_max (length w) then Err kinds.Overflow
+    else Ok (record { tag = t; contents = w })
 
--- the value with this content, its escapes undone; whether the content is one of the tag isn't asked
+-- the value with this content, its escapes undone; whether the content is one of the tag isn't
+-- asked
 unfoldable pub text_value : List ℕ → List ℕ → Result AnyValue ErrorKind
 text_value arcs w = undone w >>= of_content (tag_for arcs)
 
@@ -48,13 +52,15 @@ value_read arcs (c ∷ w) = if c == 35 then encoded_value w else text_value arcs
 
 abbrev pub halves_read : ℕ → Option (List ℕ × List ℕ) → Result AttributeTypeAndValue ErrorKind
 halves_read bound None = Err kinds.Failed
-halves_read bound (Some halves) = key_arcs bound halves.0 >>= λ arcs. value_read arcs halves.1 >>= λ value. Ok (record { oid = arcs; value = value })
+halves_read bound (Some halves) = key_arcs bound halves.0 >>= λ arcs. value_read arcs halves.1
+    >>= λ value. Ok (record { oid = arcs; value = value })
 
 -- what an attribute's text is read as, under the bound of arcs
 unfoldable pub attribute_read : ℕ → List ℕ → Result AttributeTypeAndValue ErrorKind
 attribute_read bound w = halves_read bound (key_and_value w)
 
--- the text of a value, where it reads as its PrintableString, UTF8String, IA5String or TeletexString
+-- the text of a value, where it reads as its PrintableString, UTF8String, IA5String or
+-- TeletexString
 abbrev pub text_by : Tag → AnyValue → Option (List ℕ)
 text_by tags.PrintableString a = result_ok (leaf_as tags.PrintableString (text printable) a)
 text_by tags.Utf8String a = result_ok (leaf_as tags.Utf8String utf8 a)
@@ -69,7 +75,8 @@ text_of a = text_by a.tag a
 unfoldable pub encoding_of : AnyValue → List ℕ
 encoding_of a = tlv a.tag a.contents
 
--- an attribute as it is printed: by its name and text, or where it hasn't both by dotted arcs and the hex of its encoding
+-- an attribute as it is printed: by its name and text, or where it hasn't both by dotted arcs and
+-- the hex of its encoding
 abbrev pub printed_by : Option (List ℕ) → Option (List ℕ) → AttributeTypeAndValue → List ℕ
 printed_by (Some key) (Some w) a = key ++ (61 ∷ escaped (chars w))
 printed_by _ _ a = dotted a.oid ++ (61 ∷ 35 ∷ in_hex (encoding_of a.value))

@@ -13,7 +13,8 @@ ghost use Rattle.x509_cert_names.specs.ValueTexts.{attribute_read, encoding_of};
 ghost use Rattle.der_core_head.specs.declared.tag.Tag.TheVariants.{Sequence};
 ghost use Rattle.der_core_head.specs.Shapes.{nested};
 ghost use Rattle.x509_cert_names.specs.Names.{type_and_value, type_and_value_fields};
-ghost use Rattle.x509_cert_names.specs.Pairs.{pair_plain, same_pair, same_pair_per, same_pair_equiv, pair_fed, pair_fed_alike};
+ghost use Rattle.x509_cert_names.specs.Pairs.{pair_plain, same_pair, same_pair_per};
+ghost use Rattle.x509_cert_names.specs.Pairs.{same_pair_equiv, pair_fed, pair_fed_alike};
 
 use crate::value_texts::{text_of, value_of, write_encoding};
 use const_oid::ObjectIdentifier;
@@ -160,16 +161,16 @@ impl ValueOrd for AttributeTypeAndValue {
 }
 
 impl AttributeTypeAndValue {
-    /// The attribute that a text spells (RFC 4514 2.3, 3): a key, the first `=`, a value. The key is the
-    /// name of a type, in capital or small letters, or a dotted identifier. The value is `#` and the hex of
-    /// an encoding, or a text with escapes: content of a PrintableString for a country or a serial number, of
-    /// an IA5String for a domain's component or a mail address, of a UTF8String for any other type, without a
-    /// check of its characters.
+    /// The attribute that a text spells (RFC 4514 2.3, 3): a key, the first `=`, a value. The key
+    /// is the name of a type, in capital or small letters, or a dotted identifier. The value is `#`
+    /// and the hex of an encoding, or a text with escapes: content of a PrintableString for a
+    /// country or a serial number, of an IA5String for a domain's component or a mail address, of a
+    /// UTF8String for any other type, without a check of its characters.
     ///
     /// # Errors
-    /// `Failed` where there is no `=`, for an escape that is none, and for bad hex; `OidMalformed` for a key
-    /// that is neither a name nor an identifier; those of `from_der` for the encoding; `Overflow` for a
-    /// content of 2^32 octets or more; `OutOfMemory`.
+    /// `Failed` where there is no `=`, for an escape that is none, and for bad hex; `OidMalformed`
+    /// for a key that is neither a name nor an identifier; those of `from_der` for the encoding;
+    /// `Overflow` for a content of 2^32 octets or more; `OutOfMemory`.
     #[tactic(auto, unfolding(crate::specs::ValueTexts::attribute_read))]
     pub fn from_str(alloc: Global, text: &str) -> Result<AttributeTypeAndValue, Error>
         ensures { Gives (λ a. a) result (attribute_read Bound text.now) }
@@ -189,7 +190,8 @@ impl AttributeTypeAndValue {
     /// # Errors
     /// Those of `from_str`, and of `to_der`.
     pub fn encode_from_string(alloc: Global, text: &str) -> Result<Vec<u8>, Error>
-        ensures { GivesBy (λ octets. octets.items) result (ReadsEncoding (type_and_value Bound) pair_plain (ReadsAttribute Bound text.now)) }
+        ensures { GivesBy (λ octets. octets.items) result
+            (ReadsEncoding (type_and_value Bound) pair_plain (ReadsAttribute Bound text.now)) }
     {
         let attribute = AttributeTypeAndValue::from_str(alloc, text)?;
         let octets = to_der(alloc, &attribute)?;
@@ -220,8 +222,9 @@ impl FromText for AttributeTypeAndValue {
     }
 }
 
-/// The shortest name of the type in capitals, `=` and the text with escapes, where the type has a name and
-/// the value is a text; else the dotted type, `=#` and the hex of the value's encoding (RFC 4514 2.3, 2.4).
+/// The shortest name of the type in capitals, `=` and the text with escapes, where the type has a
+/// name and the value is a text; else the dotted type, `=#` and the hex of the value's encoding
+/// (RFC 4514 2.3, 2.4).
 impl fmt::Display for AttributeTypeAndValue {
     ghost use Rattle.std.specs.Prelude.{Some};
     ghost use Rattle.x509_cert_names.specs.ValueTexts.{attribute_printed};
@@ -238,7 +241,8 @@ impl fmt::Display for AttributeTypeAndValue {
 
 /// Writes a name and a text.
 fn write_text<W: fmt::Write>(key: &str, text: &str, f: &mut fmt::Formatter<W>) -> fmt::Result
-    ensures { WritesOnOk W.write_str_gives f.old result (key.now ++ 61 ∷ escaped (chars text.now)) f.new }
+    ensures { WritesOnOk W.write_str_gives f.old result (key.now ++ 61 ∷ escaped (chars text.now))
+        f.new }
 {
     write!(f, "{key}=")?;
     write_escaped(text, f)
@@ -250,7 +254,8 @@ fn write_hex_value<W: fmt::Write>(
     value: &AttributeValue,
     f: &mut fmt::Formatter<W>,
 ) -> fmt::Result
-    ensures { WritesOnOk W.write_str_gives f.old result (dotted oid.now ++ 61 ∷ 35 ∷ in_hex (encoding_of value.now)) f.new }
+    ensures { WritesOnOk W.write_str_gives f.old result
+        (dotted oid.now ++ 61 ∷ 35 ∷ in_hex (encoding_of value.now)) f.new }
 {
     write!(f, "{oid}=#")?;
     write_encoding(value, f)

@@ -3,7 +3,8 @@
 ghost use Rattle.std.specs.Prelude.{◌≡◌, [], refl};
 ghost use Rattle.der_core_head.specs.Shapes.{begins};
 ghost use Rattle.x509_cert_names.specs.Names.{directory_string};
-ghost use Rattle.x509_cert_names.specs.DirectoryStrings.{directory_plain, directory_text, directory_from};
+ghost use Rattle.x509_cert_names.specs.DirectoryStrings.{directory_plain, directory_text};
+ghost use Rattle.x509_cert_names.specs.DirectoryStrings.{directory_from};
 ghost use Rattle.der_core_head.specs.Reading.{Gives};
 ghost use Rattle.der_core_head.specs.declared.tag.Tag.TheVariants as tags;
 

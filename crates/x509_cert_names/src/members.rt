@@ -11,8 +11,8 @@ use der_core::{AsRead, Decode, DerOrd, Error, Header, Member, Reader};
 use der_types_sets::SetOfVec;
 use std::alloc::{AllocError, Global};
 
-/// The members of a content in which each encoding is above the one before (X.690 11.6), in ascending
-/// order.
+/// The members of a content in which each encoding is above the one before (X.690 11.6), in
+/// ascending order.
 ///
 /// # Errors
 /// Those of `SetOfVec::decode_value_strict`.
@@ -21,7 +21,9 @@ pub(crate) fn decode_members<'a, R: Reader<'a>, T: Decode<'a, R> + DerOrd + Memb
     reader: &mut R,
     header: Header,
 ) -> Result<Vec<T>, Error>
-    ensures reads { Reads (λ v. plain_list T.plain v.items) (R.state reader.old) (R.state reader.new) result (value_at (read_content_at (R.state reader.old) (nested (rising T.shape)) header.tag) header.length.value) }
+    ensures reads { Reads (λ v. plain_list T.plain v.items) (R.state reader.old) (R.state reader.new) result
+        (value_at (read_content_at (R.state reader.old) (nested (rising T.shape)) header.tag)
+        header.length.value) }
     ensures ascend { IfOk result (λ v. Ascends T.shape T.written v.items) }
     ensures rising { IfOk result (λ v. AllRising (octets_of T.shape) (plain_list T.plain v.items)) }
 {

@@ -120,8 +120,8 @@ impl Name {
         self.rdn_sequence.iter()
     }
 
-    /// The value of the first attribute of a type, in the order of the name, or none where there is no
-    /// such attribute. `iter` has the others.
+    /// The value of the first attribute of a type, in the order of the name, or none where there is
+    /// no such attribute. `iter` has the others.
     ///
     /// # Errors
     /// Those of `T`: `TagUnexpected` where the value is of another type, ..
@@ -149,7 +149,8 @@ impl Name {
     /// `TagUnexpected` where it is no DirectoryString, the first fault of its content, or
     /// `OutOfMemory`.
     pub fn common_name(&self, alloc: Global) -> Result<Option<DirectoryString>, Error>
-        ensures { FirstGives (λ a r. Gives directory_plain r (directory_from a)) (first_value (x520 3) (all_of (name_plain self.now))) result }
+        ensures { FirstGives (λ a r. Gives directory_plain r (directory_from a))
+            (first_value (x520 3) (all_of (name_plain self.now))) result }
     {
         self.by_oid(alloc, types::common_name())
     }
@@ -159,7 +160,9 @@ impl Name {
     /// # Errors
     /// `TagUnexpected` where it is no PrintableString, or the first fault of its content.
     pub fn country(&self, alloc: Global) -> Result<Option<PrintableStringRef<'_>>, Error>
-        ensures { FirstGives (λ a r. GivesNow (λ t. t.text.now) r (leaf_as PrintableString (text printable) a)) (first_value (x520 6) (all_of (name_plain self.now))) result }
+        ensures { FirstGives
+            (λ a r. GivesNow (λ t. t.text.now) r (leaf_as PrintableString (text printable) a))
+            (first_value (x520 6) (all_of (name_plain self.now))) result }
     {
         self.by_oid(alloc, types::country())
     }
@@ -170,7 +173,8 @@ impl Name {
     /// `TagUnexpected` where it is no DirectoryString, the first fault of its content, or
     /// `OutOfMemory`.
     pub fn state_or_province(&self, alloc: Global) -> Result<Option<DirectoryString>, Error>
-        ensures { FirstGives (λ a r. Gives directory_plain r (directory_from a)) (first_value (x520 8) (all_of (name_plain self.now))) result }
+        ensures { FirstGives (λ a r. Gives directory_plain r (directory_from a))
+            (first_value (x520 8) (all_of (name_plain self.now))) result }
     {
         self.by_oid(alloc, types::state_or_province())
     }
@@ -181,7 +185,8 @@ impl Name {
     /// `TagUnexpected` where it is no DirectoryString, the first fault of its content, or
     /// `OutOfMemory`.
     pub fn locality(&self, alloc: Global) -> Result<Option<DirectoryString>, Error>
-        ensures { FirstGives (λ a r. Gives directory_plain r (directory_from a)) (first_value (x520 7) (all_of (name_plain self.now))) result }
+        ensures { FirstGives (λ a r. Gives directory_plain r (directory_from a))
+            (first_value (x520 7) (all_of (name_plain self.now))) result }
     {
         self.by_oid(alloc, types::locality())
     }
@@ -192,7 +197,8 @@ impl Name {
     /// `TagUnexpected` where it is no DirectoryString, the first fault of its content, or
     /// `OutOfMemory`.
     pub fn organization(&self, alloc: Global) -> Result<Option<DirectoryString>, Error>
-        ensures { FirstGives (λ a r. Gives directory_plain r (directory_from a)) (first_value (x520 10) (all_of (name_plain self.now))) result }
+        ensures { FirstGives (λ a r. Gives directory_plain r (directory_from a))
+            (first_value (x520 10) (all_of (name_plain self.now))) result }
     {
         self.by_oid(alloc, types::organization())
     }
@@ -203,7 +209,8 @@ impl Name {
     /// `TagUnexpected` where it is no DirectoryString, the first fault of its content, or
     /// `OutOfMemory`.
     pub fn organization_unit(&self, alloc: Global) -> Result<Option<DirectoryString>, Error>
-        ensures { FirstGives (λ a r. Gives directory_plain r (directory_from a)) (first_value (x520 11) (all_of (name_plain self.now))) result }
+        ensures { FirstGives (λ a r. Gives directory_plain r (directory_from a))
+            (first_value (x520 11) (all_of (name_plain self.now))) result }
     {
         self.by_oid(alloc, types::organization_unit())
     }
@@ -213,7 +220,8 @@ impl Name {
     /// # Errors
     /// `TagUnexpected` where it is no IA5String, or the first fault of its content.
     pub fn email_address(&self, alloc: Global) -> Result<Option<Ia5StringRef<'_>>, Error>
-        ensures { FirstGives (λ a r. GivesNow (λ t. t.text.now) r (leaf_as Ia5String (text ascii) a)) (first_value email_address (all_of (name_plain self.now))) result }
+        ensures { FirstGives (λ a r. GivesNow (λ t. t.text.now) r (leaf_as Ia5String (text ascii) a))
+            (first_value email_address (all_of (name_plain self.now))) result }
     {
         self.by_oid(alloc, types::email_address())
     }

@@ -1,6 +1,7 @@
 //! RdnSequence.
 
-ghost use Rattle.std.specs.Prelude.{◌≡◌, List, ◌∷◌, ◌++◌, ◌==◌, [], length, reverse, vec_len, refl, OnOk, OnErr, IfOk, IfErr};
+ghost use Rattle.std.specs.Prelude.{◌≡◌, List, ◌∷◌, ◌++◌, ◌==◌, [], length, reverse, vec_len, refl};
+ghost use Rattle.std.specs.Prelude.{OnOk, OnErr, IfOk, IfErr};
 ghost use Rattle.std.specs.Fmt.{WritesOnOk};
 ghost use Rattle.std.specs.List.{flat_map};
 ghost use Rattle.const_oid.specs.Bound.{Bound};
@@ -9,7 +10,8 @@ ghost use Rattle.der_core_head.specs.Shapes.{nested, many};
 ghost use Rattle.der_core_head.specs.Grammar.{plain_list};
 ghost use Rattle.der_core_head.specs.Shapes.{octets_of};
 ghost use Rattle.x509_cert_name_texts.specs.Answers.{GivesBy};
-ghost use Rattle.x509_cert_names.specs.NameTexts.{ReadsName, ReadsEncoding, relative_printed, name_printed, behind};
+ghost use Rattle.x509_cert_names.specs.NameTexts.{ReadsName, ReadsEncoding, relative_printed};
+ghost use Rattle.x509_cert_names.specs.NameTexts.{name_printed, behind};
 ghost use Rattle.x509_cert_names.specs.Names.{relative_name, name};
 ghost use Rattle.x509_cert_names.specs.declared.attribute_type_and_value.AttributeTypeAndValue.{AttributeTypeAndValue};
 ghost use Rattle.x509_cert_names.specs.Pairs.{relative_plain};
@@ -45,9 +47,9 @@ pub struct RdnSequence {
 pub type DistinguishedName = RdnSequence;
 
 impl RdnSequence {
-    /// The relative names that a text spells (RFC 4514 2.1, 3): those between the commas that count, the
-    /// last one first. A comma or `+` counts where the run of backslashes before it is even. The empty text
-    /// spells no relative name.
+    /// The relative names that a text spells (RFC 4514 2.1, 3): those between the commas that
+    /// count, the last one first. A comma or `+` counts where the run of backslashes before it is
+    /// even. The empty text spells no relative name.
     ///
     /// # Errors
     /// That of the first relative name from the left which is refused
@@ -68,7 +70,8 @@ impl RdnSequence {
     /// # Errors
     /// Those of `from_str`, and of `to_der`.
     pub fn encode_from_string(alloc: Global, text: &str) -> Result<Vec<u8>, Error>
-        ensures { GivesBy (λ octets. octets.items) result (ReadsEncoding (name Bound) (plain_list relative_plain) (ReadsName Bound text.now)) }
+        ensures { GivesBy (λ octets. octets.items) result
+            (ReadsEncoding (name Bound) (plain_list relative_plain) (ReadsName Bound text.now)) }
     {
         let sequence = RdnSequence::from_str(alloc, text)?;
         let octets = to_der(alloc, &sequence)?;
@@ -123,7 +126,8 @@ impl RdnSequence {
     /// # Errors
     /// Want of memory. The sequence stays then.
     pub fn push(&mut self, name: RelativeDistinguishedName) -> Result<(), AllocError>
-        ensures ok { OnOk result (self.new.relative_names.items ≡ self.old.relative_names.items ++ name ∷ []) }
+        ensures ok { OnOk result (self.new.relative_names.items ≡ self.old.relative_names.items ++ name
+            ∷ []) }
         ensures err { OnErr result (self.new.relative_names.items ≡ self.old.relative_names.items) }
     {
         self.relative_names.push(name)?;
@@ -236,7 +240,8 @@ fn write_before<W: fmt::Write>(
     names: &[RelativeDistinguishedName],
     f: &mut fmt::Formatter<W>,
 ) -> fmt::Result
-    ensures { WritesOnOk W.write_str_gives f.old result (flat_map (behind 44 relative_printed) (reverse names.now)) f.new }
+    ensures { WritesOnOk W.write_str_gives f.old result
+        (flat_map (behind 44 relative_printed) (reverse names.now)) f.new }
 {
     let mut left = names;
     while let Some((last, before)) = left.split_last() {

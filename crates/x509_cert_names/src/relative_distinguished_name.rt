@@ -1,6 +1,7 @@
 //! RelativeDistinguishedName.
 
-ghost use Rattle.std.specs.Prelude.{◌≡◌, ◌∷◌, ◌==◌, true, [], length, IfOk, IfErr, OnOk, OnErr, IsTrue, ◌↔◌, ◌⊎◌, ◌≢◌, refl};
+ghost use Rattle.std.specs.Prelude.{◌≡◌, ◌∷◌, ◌==◌, true, [], length, IfOk, IfErr, OnOk, OnErr};
+ghost use Rattle.std.specs.Prelude.{IsTrue, ◌↔◌, ◌⊎◌, ◌≢◌, refl};
 ghost use Rattle.std.specs.Cmp.Lexicographic.{pointwise, lists_per, lists_equiv};
 ghost use Rattle.std.specs.Fmt.{WritesOnOk};
 ghost use Rattle.std.specs.Hash as fed;
@@ -16,7 +17,9 @@ ghost use Rattle.x509_cert_names.specs.NameTexts.{ReadsRelative, relative_printe
 ghost use Rattle.x509_cert_names.specs.ValueTexts.{attribute_printed};
 ghost use Rattle.x509_cert_names.specs.Names.{type_and_value};
 ghost use Rattle.x509_cert_names.specs.Ordered.{IsOrdered};
-ghost use Rattle.x509_cert_names.specs.Pairs.{pair_plain, same_pair, same_pair_per, same_pair_equiv, pair_fed, pair_fed_alike, relative_plain};
+ghost use Rattle.x509_cert_names.specs.Pairs.{pair_plain, same_pair, same_pair_per};
+ghost use Rattle.x509_cert_names.specs.Pairs.{same_pair_equiv, pair_fed, pair_fed_alike};
+ghost use Rattle.x509_cert_names.specs.Pairs.{relative_plain};
 
 use crate::attribute_type_and_value::AttributeTypeAndValue;
 use crate::members::{arrange, copy_of, decode_members};
@@ -33,7 +36,8 @@ use std::hash::{Hash, Hasher};
 use std::marker::Model;
 use x509_cert_name_texts::{FromText, read_pieces};
 
-/// A relative name (RFC 5280 4.1.2.4): a set of attributes, in the order of their encodings, none of
+/// A relative name (RFC 5280 4.1.2.4): a set of attributes, in the order of their encodings, none
+/// of
 /// which stands twice. It may be empty.
 ///
 /// Contracts see the list of the attributes.
@@ -59,7 +63,8 @@ impl Model for RelativeDistinguishedName {
 
     ghost view = { λ r. r.attributes.values.items };
 
-    ghost invariant = { λ r. IsDistinct same_pair r.attributes.values.items × Ascends (type_and_value Bound) pair_plain r.attributes.values.items };
+    ghost invariant = { λ r. IsDistinct same_pair r.attributes.values.items
+        × Ascends (type_and_value Bound) pair_plain r.attributes.values.items };
 }
 
 /// Whether no attribute stands twice.
@@ -75,12 +80,13 @@ fn are_distinct(attributes: &[AttributeTypeAndValue]) -> bool
 }
 
 impl RelativeDistinguishedName {
-    /// The relative name that a text spells (RFC 4514 2.2, 3): attributes between the `+` that count, none
-    /// of which stands twice.
+    /// The relative name that a text spells (RFC 4514 2.2, 3): attributes between the `+` that
+    /// count, none of which stands twice.
     ///
     /// # Errors
-    /// That of the first attribute which is refused (`AttributeTypeAndValue::from_str`); else `SetDuplicate`
-    /// where one stands twice; `Overflow` where an encoding has 2^32 octets or more; `OutOfMemory`.
+    /// That of the first attribute which is refused (`AttributeTypeAndValue::from_str`); else
+    /// `SetDuplicate` where one stands twice; `Overflow` where an encoding has 2^32 octets or more;
+    /// `OutOfMemory`.
     pub fn from_str(alloc: Global, text: &str) -> Result<RelativeDistinguishedName, Error>
         ensures { GivesBy (λ r. r) result (ReadsRelative Bound text.now) }
     {
@@ -116,14 +122,16 @@ impl RelativeDistinguishedName {
     /// The relative name of these attributes, in any order.
     ///
     /// # Errors
-    /// `SetDuplicate` where one stands twice, `Overflow` where an encoding has 2^32 octets or more. No
-    /// memory is taken.
+    /// `SetDuplicate` where one stands twice, `Overflow` where an encoding has 2^32 octets or more.
+    /// No memory is taken.
     pub fn try_from_vec(
         attributes: Vec<AttributeTypeAndValue>,
     ) -> Result<RelativeDistinguishedName, Error>
         ensures ok { IfOk result (IsPermutation attributes.items) }
         ensures ordered { IfOk result (IsOrdered Bound) }
-        ensures refused { IfErr result (λ e. (e.kind ≡ ErrorKind.SetDuplicate × (IsDistinct same_pair attributes.items → ⊥)) ⊎ TooLong (type_and_value Bound) pair_plain attributes.items e) }
+        ensures refused { IfErr result
+            (λ e. (e.kind ≡ ErrorKind.SetDuplicate × (IsDistinct same_pair attributes.items → ⊥))
+            ⊎ TooLong (type_and_value Bound) pair_plain attributes.items e) }
     {
         let values = arrange(attributes)?;
         if !are_distinct(values.as_slice()) {
@@ -137,12 +145,14 @@ impl RelativeDistinguishedName {
     /// Places an attribute in order.
     ///
     /// # Errors
-    /// `SetDuplicate` where it stands already, `Overflow` where an encoding has 2^32 octets or more, or
-    /// `OutOfMemory`. The relative name stays then.
+    /// `SetDuplicate` where it stands already, `Overflow` where an encoding has 2^32 octets or
+    /// more, or `OutOfMemory`. The relative name stays then.
     pub fn insert(&mut self, item: AttributeTypeAndValue) -> Result<(), Error>
         ensures ok { OnOk result (IsPermutation (item ∷ self.old) self.new) }
         ensures err { OnErr result (self.new ≡ self.old) }
-        ensures refused { IfErr result (λ e. (e.kind ≡ ErrorKind.SetDuplicate × list_any (λ a. same_pair a item) self.old ≡ true) ⊎ IsRefusal (type_and_value Bound) pair_plain (item ∷ self.old) e) }
+        ensures refused { IfErr result
+            (λ e. (e.kind ≡ ErrorKind.SetDuplicate × list_any (λ a. same_pair a item) self.old
+            ≡ true) ⊎ IsRefusal (type_and_value Bound) pair_plain (item ∷ self.old) e) }
     {
         if self.as_slice().contains(&item) {
             return Err(Error::from(ErrorKind::SetDuplicate));
@@ -296,7 +306,8 @@ fn write_next<W: fmt::Write>(
     attribute: &AttributeTypeAndValue,
     f: &mut fmt::Formatter<W>,
 ) -> fmt::Result
-    ensures { WritesOnOk W.write_str_gives f.old result (behind 43 attribute_printed attribute.now) f.new }
+    ensures { WritesOnOk W.write_str_gives f.old result (behind 43 attribute_printed attribute.now)
+        f.new }
 {
     write!(f, "+{attribute}")
 }
@@ -306,7 +317,8 @@ fn write_later<W: fmt::Write>(
     attributes: &[AttributeTypeAndValue],
     f: &mut fmt::Formatter<W>,
 ) -> fmt::Result
-    ensures { WritesOnOk W.write_str_gives f.old result (flat_map (behind 43 attribute_printed) attributes.now) f.new }
+    ensures { WritesOnOk W.write_str_gives f.old result
+        (flat_map (behind 43 attribute_printed) attributes.now) f.new }
 {
     for attribute in attributes {
         write_next(attribute, f)?;

@@ -13,13 +13,16 @@ use crate::relative_distinguished_name::RelativeDistinguishedName;
 use der_core::InRange;
 
 impl Name {
-    /// Whether both names have the same encoding, octet for octet, as the name of an issuer and the subject of its certificate
-    /// must (RFC 5280 6.1.3). It is known by the attributes alone: no encoding is made.
+    /// Whether both names have the same encoding, octet for octet, as the name of an issuer and the
+    /// subject of its certificate must (RFC 5280 6.1.3). It is known by the attributes alone: no
+    /// encoding is made.
     pub fn has_octets_of(&self, other: &Name) -> bool
-        ensures same { IsTrue result → name_octets Bound (name_plain self.now) ≡ name_octets Bound (name_plain other.now) }
+        ensures same { IsTrue result → name_octets Bound (name_plain self.now)
+            ≡ name_octets Bound (name_plain other.now) }
         // A name that has an encoding.
         ensures differ { IsValid (name Bound) (name_plain self.now)
-            → name_octets Bound (name_plain self.now) ≡ name_octets Bound (name_plain other.now) → result ≡ true }
+            → name_octets Bound (name_plain self.now) ≡ name_octets Bound (name_plain other.now)
+            → result ≡ true }
     {
         if self == other {
             return true;

@@ -5,7 +5,8 @@ ghost use Rattle.std.specs.Fmt.{WritesOnOk};
 ghost use Rattle.der_core_head.specs.Heads.{head_octets};
 ghost use Rattle.der_core_head.specs.Reading.{Gives, GivesNow};
 ghost use Rattle.x509_cert_name_texts.specs.Escapes.{in_hex};
-ghost use Rattle.x509_cert_names.specs.ValueTexts.{tag_for, encoded_value, text_value, value_read, text_of, encoding_of};
+ghost use Rattle.x509_cert_names.specs.ValueTexts.{tag_for, encoded_value, text_value, value_read};
+ghost use Rattle.x509_cert_names.specs.ValueTexts.{text_of, encoding_of};
 
 use crate::attribute_type_and_value::{AttributeType, AttributeValue};
 use crate::attribute_types as types;
@@ -65,7 +66,8 @@ pub(crate) fn value_of(
     }
 }
 
-/// The text of a value, where it reads as its PrintableString, UTF8String, IA5String or TeletexString.
+/// The text of a value, where it reads as its PrintableString, UTF8String, IA5String or
+/// TeletexString.
 #[tactic(auto, unfolding(crate::specs::ValueTexts::text_of))]
 pub(crate) fn text_of(value: &AttributeValue) -> Option<&str>
     ensures { text_of value.now ≡ option_map (λ text. text.now) result }
@@ -93,7 +95,8 @@ pub(crate) fn text_of(value: &AttributeValue) -> Option<&str>
 
 /// Writes a header as small hex digits.
 fn write_head<W: fmt::Write>(tag: Tag, length: Length, f: &mut fmt::Formatter<W>) -> fmt::Result
-    ensures { WritesOnOk W.write_str_gives f.old result (in_hex (head_octets tag length.value)) f.new }
+    ensures { WritesOnOk W.write_str_gives f.old result (in_hex (head_octets tag length.value))
+        f.new }
 {
     let mut octets = [0u8; 11];
     let mut writer = SliceWriter::new(&mut octets);

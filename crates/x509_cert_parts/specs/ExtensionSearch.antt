@@ -1,5 +1,6 @@
 -- The extensions of an identifier, and the value of the only one.
-use Rattle.std.specs.Prelude.{ℕ, List, [], ◌∷◌, Bool, if◌then◌else◌, Option, Some, None, Result, Ok, Err, ◌≡◌, MatchOption}
+use Rattle.std.specs.Prelude.{ℕ, List, [], ◌∷◌, Bool, if◌then◌else◌, Option, Some, None, Result, Ok}
+use Rattle.std.specs.Prelude.{Err, ◌≡◌, MatchOption}
 use Rattle.const_oid.specs.Comparing.{owned_eq}
 use Rattle.der_core_head.specs.declared.error.Error.{Error}
 use Rattle.der_core_head.specs.declared.error.ErrorKind.{ErrorKind}
@@ -8,12 +9,14 @@ use Rattle.der_core_head.specs.Grammar.{whole_at}
 use Rattle.der_core_head.specs.Octets.{◌>>=◌}
 use Rattle.der_core_head.specs.Reading.{Gives}
 use Rattle.der_core_head.specs.Shapes.{Shape, Value}
-use Rattle.x509_cert_parts.specs.Grammar.{PlainExtension, extension_arcs, is_critical, extension_octets}
+use Rattle.x509_cert_parts.specs.Grammar.{PlainExtension, extension_arcs, is_critical}
+use Rattle.x509_cert_parts.specs.Grammar.{extension_octets}
 
 -- the extensions that have an identifier, in their order
 abbrev pub of_identifier : List ℕ → List PlainExtension → List PlainExtension
 of_identifier arcs [] = []
-of_identifier arcs (e ∷ left) = if owned_eq (extension_arcs e) arcs then e ∷ of_identifier arcs left else of_identifier arcs left
+of_identifier arcs (e ∷ left) = if owned_eq (extension_arcs e) arcs then e ∷ of_identifier arcs left
+    else of_identifier arcs left
 
 -- the only one, if there is one; two are refused
 abbrev pub only_one : List PlainExtension → Result (Option PlainExtension) ErrorKind
@@ -25,12 +28,14 @@ only_one (e ∷ f ∷ left) = Err kinds.Failed
 abbrev pub value_in : (s : Shape) → PlainExtension → Result (Bool × Value s) ErrorKind
 value_in s e = whole_at s (extension_octets e) >>= λ (v : Value s × List ℕ). Ok (is_critical e, v.0)
 
-abbrev pub value_if : (s : Shape) → Option PlainExtension → Result (Option (Bool × Value s)) ErrorKind
+abbrev pub value_if : (s : Shape) → Option PlainExtension
+    → Result (Option (Bool × Value s)) ErrorKind
 value_if s None = Ok None
 value_if s (Some e) = value_in s e >>= λ (v : Bool × Value s). Ok (Some v)
 
 -- the value of the only extension of an identifier
-abbrev pub only_value : (s : Shape) → List ℕ → List PlainExtension → Result (Option (Bool × Value s)) ErrorKind
+abbrev pub only_value : (s : Shape) → List ℕ → List PlainExtension
+    → Result (Option (Bool × Value s)) ErrorKind
 only_value s arcs es = only_one (of_identifier arcs es) >>= value_if s
 
 -- the list of the first and of those behind it
@@ -43,7 +48,10 @@ abbrev pub listed : Option (List PlainExtension) → List PlainExtension
 listed None = []
 listed (Some es) = es
 
--- A call gave the value of the first extension that was left, and left the others, or there was none.
-abbrev pub YieldsFirstValue : {S X : Type 0} (s : Shape) → (X → Bool × Value s) → (S → List PlainExtension) → S → Option (Result X Error) → S → Type 0
+-- A call gave the value of the first extension that was left, and left the others, or there was
+-- none.
+abbrev pub YieldsFirstValue : {S X : Type 0} (s : Shape) → (X → Bool × Value s)
+    → (S → List PlainExtension) → S → Option (Result X Error) → S → Type 0
 YieldsFirstValue s view left old given new =
-    MatchOption given ((left old ≡ []) × (left new ≡ [])) (λ r. (e : PlainExtension) × (left old ≡ e ∷ left new) × Gives view r (value_in s e))
+    MatchOption given ((left old ≡ []) × (left new ≡ [])) (λ r. (e : PlainExtension)
+    × (left old ≡ e ∷ left new) × Gives view r (value_in s e))

@@ -1,13 +1,17 @@
--- The parts of certificates (RFC 5280 4.1, 4.1.1.2, 4.1.2). A shape that holds an identifier takes the bound of arcs. A serial
--- number takes the greatest number of content octets that its profile reads, if there is such a number.
+-- The parts of certificates (RFC 5280 4.1, 4.1.1.2, 4.1.2). A shape that holds an identifier takes
+-- the bound of arcs. A serial number takes the greatest number of content octets that its profile
+-- reads, if there is such a number.
 use Rattle.std.specs.Prelude.{ℕ, List, [], ◌∷◌, Bool, Option, Some, None}
 use Rattle.std.proofs.Common.{inl, inr}
 use Rattle.der_core_head.specs.declared.tag.Tag.TheVariants as tags
 use Rattle.der_core_head.specs.BitStrings.{Bits}
 use Rattle.der_core_head.specs.Dates.{Civil}
 use Rattle.der_core_head.specs.Integers.{Numbers, every, within, among}
-use Rattle.der_core_head.specs.Leaves.{boolean, integer, bits, octets, identifier, utc_time, generalized_time}
-use Rattle.der_core_head.specs.Shapes.{Shape, Body, Value, BodyValue, AnyValue, tagged, any, leaf, either, optional, defaulted, field, done, sequence, sequence_of, explicit}
+use Rattle.der_core_head.specs.Leaves.{boolean, integer, bits, octets, identifier, utc_time}
+use Rattle.der_core_head.specs.Leaves.{generalized_time}
+use Rattle.der_core_head.specs.Shapes.{Shape, Body, Value, BodyValue, AnyValue, tagged, any, leaf}
+use Rattle.der_core_head.specs.Shapes.{either, optional, defaulted, field, done, sequence}
+use Rattle.der_core_head.specs.Shapes.{sequence_of, explicit}
 
 -- OBJECT IDENTIFIER, of at most 39 octets
 abbrev pub object_identifier : ℕ → Shape
@@ -19,14 +23,16 @@ bit_string = tagged tags.BitString (leaf bits)
 abbrev pub octet_string : Shape
 octet_string = tagged tags.OctetString (leaf octets)
 
--- AlgorithmIdentifier ::= SEQUENCE { algorithm OBJECT IDENTIFIER, parameters ANY OPTIONAL } (4.1.1.2)
+-- AlgorithmIdentifier ::= SEQUENCE { algorithm OBJECT IDENTIFIER, parameters ANY OPTIONAL }
+-- (4.1.1.2)
 abbrev pub algorithm_fields : ℕ → Body
 algorithm_fields bound = field (object_identifier bound) (field (optional any) done)
 
 abbrev pub algorithm_identifier : ℕ → Shape
 algorithm_identifier bound = sequence (algorithm_fields bound)
 
--- SubjectPublicKeyInfo ::= SEQUENCE { algorithm AlgorithmIdentifier, subjectPublicKey BIT STRING } (4.1.2.7)
+-- SubjectPublicKeyInfo ::= SEQUENCE { algorithm AlgorithmIdentifier, subjectPublicKey BIT STRING }
+-- (4.1.2.7)
 abbrev pub public_key_fields : ℕ → Body
 public_key_fields bound = field (algorithm_identifier bound) (field bit_string done)
 
@@ -59,7 +65,9 @@ serial_number limit = tagged tags.Integer (leaf (integer (numbers_within limit))
 
 -- Time ::= CHOICE { utcTime UTCTime, generalTime GeneralizedTime } (4.1.2.5)
 abbrev pub time : Shape
-time = either (tagged tags.UtcTime (leaf utc_time)) (tagged tags.GeneralizedTime (leaf generalized_time))
+time =
+    either (tagged tags.UtcTime (leaf utc_time))
+    (tagged tags.GeneralizedTime (leaf generalized_time))
 
 -- Validity ::= SEQUENCE { notBefore Time, notAfter Time } (4.1.2.5)
 abbrev pub validity_fields : Body
@@ -76,9 +84,11 @@ unique_identifier = bit_string
 abbrev pub false_by_default : Shape
 false_by_default = defaulted (tagged tags.Boolean (leaf boolean)) (1 ∷ 1 ∷ 0 ∷ [])
 
--- Extension ::= SEQUENCE { extnID OBJECT IDENTIFIER, critical BOOLEAN DEFAULT FALSE, extnValue OCTET STRING } (4.1, 4.2)
+-- Extension ::= SEQUENCE { extnID OBJECT IDENTIFIER, critical BOOLEAN DEFAULT FALSE, extnValue
+-- OCTET STRING } (4.1, 4.2)
 abbrev pub extension_fields : ℕ → Body
-extension_fields bound = field (object_identifier bound) (field false_by_default (field octet_string done))
+extension_fields bound =
+    field (object_identifier bound) (field false_by_default (field octet_string done))
 
 abbrev pub extension : ℕ → Shape
 extension bound = sequence (extension_fields bound)

@@ -1,5 +1,5 @@
--- How a profile spells the dates of a validity (RFC 5280 4.1.2.5): as UTCTime through 2049 and as GeneralizedTime later, or as
--- they are.
+-- How a profile spells the dates of a validity (RFC 5280 4.1.2.5): as UTCTime through 2049 and as
+-- GeneralizedTime later, or as they are.
 use Rattle.std.specs.Prelude.{Bool, true, false, nat_lt, if◌then◌else◌}
 use Rattle.std.proofs.Common.{inl, inr}
 use Rattle.x509_cert_parts.specs.Grammar.{PlainTime, PlainValidity, not_before, not_after}

@@ -1,5 +1,7 @@
--- Serial numbers (RFC 5280 4.1.2.2): what contracts see of them, how they are made, and how they are printed.
-use Rattle.std.specs.Prelude.{ℕ, ℤ, pos, ◌+◌, ◌/◌, ◌%◌, List, [], ◌∷◌, ◌++◌, length, nat_lt, Result, Ok, Err, if◌then◌else◌}
+-- Serial numbers (RFC 5280 4.1.2.2): what contracts see of them, how they are made, and how they
+-- are printed.
+use Rattle.std.specs.Prelude.{ℕ, ℤ, pos, ◌+◌, ◌/◌, ◌%◌, List, [], ◌∷◌, ◌++◌, length, nat_lt, Result}
+use Rattle.std.specs.Prelude.{Ok, Err, if◌then◌else◌}
 use Rattle.std.specs.List.{flat_map}
 use Rattle.der_core_head.specs.declared.error.ErrorKind.{ErrorKind}
 use Rattle.der_core_head.specs.declared.error.ErrorKind.TheVariants as kinds
@@ -13,7 +15,8 @@ serial_kept n = n.inner
 
 -- a number that isn't negative, of at most 20 content octets
 unfoldable pub new_serial : List ℕ → Result ℤ ErrorKind
-new_serial w = unsigned_number w >>= λ n. if nat_lt 20 (length (integer_octets (pos n))) then Err kinds.Overlength else Ok (pos n)
+new_serial w = unsigned_number w >>= λ n. if nat_lt 20 (length (integer_octets (pos n)))
+    then Err kinds.Overlength else Ok (pos n)
 
 -- a digit in base 16, as 0 to 9 or A to F
 abbrev pub hex_digit : ℕ → ℕ

@@ -8,7 +8,8 @@ use Rattle.x509_cert_parts.specs.Views.{time_value, time_date}
 use Rattle.x509_cert_parts.specs.declared.time.Time.{Time}
 use Rattle.x509_cert_parts.specs.declared.time.Time.TheVariants as times
 pub use Rattle.x509_cert_names.specs.TimeTypes.DateTexts.{date_text}
-pub use Rattle.x509_cert_names.specs.PlainTexts.{GivesBy, ReadsName, SpellsName, name_printed, name_text, name_text_is}
+pub use Rattle.x509_cert_names.specs.PlainTexts.{GivesBy, ReadsName, SpellsName, name_printed}
+pub use Rattle.x509_cert_names.specs.PlainTexts.{name_text, name_text_is}
 
 -- the content octets of a serial number, as pairs of digits in base 16 with colons between them
 abbrev pub serial_text : ℤ → List ℕ

@@ -16,9 +16,11 @@ time_of c = respelled (inr c)
 
 -- 9999-12-31T23:59:59Z, the end of a certificate that has none
 abbrev pub without_end : PlainTime
-without_end = inr (record { year = 9999; month = 12; day = 31; hour = 23; minute = 59; second = 59 })
+without_end =
+    inr (record { year = 9999; month = 12; day = 31; hour = 23; minute = 59; second = 59 })
 
 -- what reading a text answers: the time of its date, or that it is the text of no date
 abbrev pub ReadsTime : List ℕ → Result Time Error → Type 0
 ReadsTime text (Ok t) = (text ≡ date_text (time_date t)) × (time_value t ≡ time_of (time_date t))
-ReadsTime text (Err e) = (e.kind ≡ kinds.DateTime) × ((c : Civil) → is_civil c ≡ true → text ≢ date_text c)
+ReadsTime text (Err e) = (e.kind ≡ kinds.DateTime)
+    × ((c : Civil) → is_civil c ≡ true → text ≢ date_text c)

@@ -5,7 +5,8 @@ use Rattle.der_core_head.specs.Dates.{Civil}
 use Rattle.der_core_head.specs.Grammar.{plain_option, plain_list}
 use Rattle.x509_cert_names.specs.Values.{any_lent}
 use Rattle.x509_cert_names.specs.ValueTypes.BitStrings.{bits_lent}
-use Rattle.x509_cert_parts.specs.Grammar.{Algorithm, PublicKey, PlainExtension, PlainTime, PlainValidity}
+use Rattle.x509_cert_parts.specs.Grammar.{Algorithm, PublicKey, PlainExtension, PlainTime}
+use Rattle.x509_cert_parts.specs.Grammar.{PlainValidity}
 use Rattle.x509_cert_parts.specs.declared.algorithm_identifier.AlgorithmIdentifier.{AlgorithmIdentifier}
 use Rattle.x509_cert_parts.specs.declared.algorithm_identifier_ref.AlgorithmIdentifierRef.{AlgorithmIdentifierRef}
 use Rattle.x509_cert_parts.specs.declared.extension.Extension.{Extension}

@@ -53,8 +53,9 @@ impl AlgorithmIdentifier {
         })
     }
 
-    /// Whether both have the same encoding, octet for octet, as the algorithm in the signed part of a certificate and the one
-    /// outside must (RFC 5280 4.1.1.2). It is known by identifier and parameters: no encoding is made.
+    /// Whether both have the same encoding, octet for octet, as the algorithm in the signed part of
+    /// a certificate and the one outside must (RFC 5280 4.1.1.2). It is known by identifier and
+    /// parameters: no encoding is made.
     pub fn has_octets_of(&self, other: &AlgorithmIdentifier) -> bool
         ensures same { IsTrue result → octets_of (algorithm_identifier Bound) (algorithm_plain self.now)
             ≡ octets_of (algorithm_identifier Bound) (algorithm_plain other.now) }

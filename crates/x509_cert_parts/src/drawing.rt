@@ -18,8 +18,10 @@ fn begins_with_zero(octets: &[u8]) -> bool
 /// Fills a slice until it doesn't begin with 0, at most sixteen times; whether that was so.
 #[tactic(auto, using(crate::proofs::Fills::next_fill, crate::proofs::Fills::no_fill))]
 pub(crate) fn fill_without_zero<R: CryptoRng>(rng: &mut R, random: &mut [u8]) -> bool
-    ensures found { result ≡ true → (first_fill 16 (length random.old) (R.stream rng.old)).0 ≡ Some random.new }
-    ensures none { result ≡ false → (first_fill 16 (length random.old) (R.stream rng.old)).0 ≡ None }
+    ensures found { result ≡ true → (first_fill 16 (length random.old) (R.stream rng.old)).0
+        ≡ Some random.new }
+    ensures none { result ≡ false → (first_fill 16 (length random.old) (R.stream rng.old)).0
+        ≡ None }
     ensures left { R.stream rng.new ≡ (first_fill 16 (length random.old) (R.stream rng.old)).1 }
     ensures length { length random.new ≡ length random.old }
 {

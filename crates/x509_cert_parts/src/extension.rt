@@ -36,7 +36,8 @@ pub struct Extension {
     pub extn_value: OctetString,
 }
 
-/// The extensions of a certificate (RFC 5280 4.1.2.9), in the order in which they stand. There may be none, and two of one
+/// The extensions of a certificate (RFC 5280 4.1.2.9), in the order in which they stand. There may
+/// be none, and two of one
 /// identifier.
 ///
 /// ```text

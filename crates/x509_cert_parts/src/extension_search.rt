@@ -11,17 +11,18 @@ use const_oid::{AssociatedOid, ObjectIdentifier};
 use der_core::{Decode, Error, ErrorKind, SliceReader, from_der};
 use std::alloc::Global;
 
-/// The value of the only extension of the identifier of `T`, and whether it is critical; none where no extension has the
-/// identifier.
+/// The value of the only extension of the identifier of `T`, and whether it is critical; none where
+/// no extension has the identifier.
 ///
 /// # Errors
-/// `Failed` where two have it (RFC 5280 4.2 forbids that). Else those of `T`, whose encoding the content has to be, or
-/// `OutOfMemory`.
+/// `Failed` where two have it (RFC 5280 4.2 forbids that). Else those of `T`, whose encoding the
+/// content has to be, or `OutOfMemory`.
 pub fn get_extension<'a, T: AssociatedOid + Decode<'a, SliceReader<'a>>>(
     alloc: Global,
     extensions: &'a [Extension],
 ) -> Result<Option<(bool, T)>, Error>
-    ensures { Gives (plain_option (λ x. (x.0, T.plain x.1))) result (only_value T.shape T.oid_arcs (extensions_plain extensions.now)) }
+    ensures { Gives (plain_option (λ x. (x.0, T.plain x.1))) result
+        (only_value T.shape T.oid_arcs (extensions_plain extensions.now)) }
 {
     let Some((extension, left)) = next_of(T::associated_oid(), extensions) else {
         return Ok(None);
@@ -39,7 +40,10 @@ pub fn next_of<'a>(
     extensions: &'a [Extension],
 ) -> Option<(&'a Extension, &'a [Extension])>
     ensures { of_identifier identifier (extensions_plain extensions.now)
-        ≡ with_first (plain_option (λ x. (extension_plain x.0.now, of_identifier identifier (extensions_plain x.1.now))) result) }
+        ≡ with_first
+        (plain_option
+        (λ x. (extension_plain x.0.now, of_identifier identifier (extensions_plain x.1.now)))
+        result) }
 {
     for place in 0..extensions.len() {
         if extensions[place].extn_id == identifier {

@@ -11,7 +11,8 @@ use der_core::{Decode, Error, SliceReader, from_der};
 use std::alloc::Global;
 use std::marker::PhantomData;
 
-/// The values of the extensions of one identifier, each with whether it is critical, in the order of the extensions.
+/// The values of the extensions of one identifier, each with whether it is critical, in the order
+/// of the extensions.
 #[derive(Drop)]
 pub struct ExtensionsOf<'a, T> {
     alloc: Global,
@@ -40,7 +41,8 @@ impl<'a, T: AssociatedOid + Decode<'a, SliceReader<'a>>> Iterator for Extensions
 
     type Item = Result<(bool, T), Error>;
 
-    ghost next_gives = { YieldsFirstValue T.shape (λ x. (x.0, T.plain x.1)) (λ it. of_identifier T.oid_arcs (extensions_plain it.left.now)) };
+    ghost next_gives = { YieldsFirstValue T.shape (λ x. (x.0, T.plain x.1))
+        (λ it. of_identifier T.oid_arcs (extensions_plain it.left.now)) };
 
     ghost remaining = { item_count (λ it. of_identifier T.oid_arcs (extensions_plain it.left.now)) };
 

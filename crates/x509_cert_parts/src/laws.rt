@@ -1,13 +1,17 @@
 //! Laws of the parts of certificates, for every bound of arcs and every profile.
 //!
-//! Each is the contract of a function that does nothing. With these and the laws of `der_core` each part is lawful: no encoding
-//! begins another, no two values have one encoding, and what is read is spelled.
+//! Each is the contract of a function that does nothing. With these and the laws of `der_core` each
+//! part is lawful: no encoding begins another, no two values have one encoding, and what is read is
+//! spelled.
 
 ghost use Rattle.std.specs.Prelude.{◌≡◌, ◌≤◌, ◌↔◌, ℕ, ℤ, Option, Bool, true, false, length};
 ghost use Rattle.der_core_head.specs.Integers.{integer_octets, IsNumber};
 ghost use Rattle.der_core_head.specs.Shapes.{IsValid, octets_of};
 ghost use Rattle.der_core_head.specs.Spelling.{is_apart, are_enough};
-ghost use Rattle.x509_cert_parts.specs.Grammar.{algorithm_identifier, public_key_info, version, version_field, serial_number, numbers_within, time, validity, extension, extensions, PlainValidity, not_before, not_after};
+ghost use Rattle.x509_cert_parts.specs.Grammar.{algorithm_identifier, public_key_info, version};
+ghost use Rattle.x509_cert_parts.specs.Grammar.{version_field, serial_number, numbers_within, time};
+ghost use Rattle.x509_cert_parts.specs.Grammar.{validity, extension, extensions, PlainValidity};
+ghost use Rattle.x509_cert_parts.specs.Grammar.{not_before, not_after};
 ghost use Rattle.x509_cert_parts.specs.Respelling.{validity_by, is_early_generalized};
 
 use crate::profile::{Profile, Raw, Rfc5280};
@@ -18,31 +22,43 @@ pub use x509_cert_names::laws::{
 
 /// First tags keep the fields of each part apart, at four levels or more.
 pub fn parts_are_apart()
-    ensures algorithms { (bound : ℕ) → (is_apart (algorithm_identifier bound) ≡ true) × (are_enough (algorithm_identifier bound) 4 ≡ true) }
-    ensures keys { (bound : ℕ) → (is_apart (public_key_info bound) ≡ true) × (are_enough (public_key_info bound) 4 ≡ true) }
-    ensures versions { (is_apart version ≡ true) × (is_apart version_field ≡ true) × (are_enough version_field 4 ≡ true) }
-    ensures serials { (limit : Option ℕ) → (is_apart (serial_number limit) ≡ true) × (are_enough (serial_number limit) 4 ≡ true) }
-    ensures validities { (is_apart time ≡ true) × (is_apart validity ≡ true) × (are_enough validity 4 ≡ true) }
-    ensures lists { (bound : ℕ) → (is_apart (extension bound) ≡ true) × (is_apart (extensions bound) ≡ true) × (are_enough (extensions bound) 4 ≡ true) }
+    ensures algorithms { (bound : ℕ) → (is_apart (algorithm_identifier bound) ≡ true)
+        × (are_enough (algorithm_identifier bound) 4 ≡ true) }
+    ensures keys { (bound : ℕ) → (is_apart (public_key_info bound) ≡ true)
+        × (are_enough (public_key_info bound) 4 ≡ true) }
+    ensures versions { (is_apart version ≡ true) × (is_apart version_field ≡ true)
+        × (are_enough version_field 4 ≡ true) }
+    ensures serials { (limit : Option ℕ) → (is_apart (serial_number limit) ≡ true)
+        × (are_enough (serial_number limit) 4 ≡ true) }
+    ensures validities { (is_apart time ≡ true) × (is_apart validity ≡ true)
+        × (are_enough validity 4 ≡ true) }
+    ensures lists { (bound : ℕ) → (is_apart (extension bound) ≡ true)
+        × (is_apart (extensions bound) ≡ true) × (are_enough (extensions bound) 4 ≡ true) }
 {}
 
 /// Which serial numbers are read: of at most 21 content octets under RFC 5280, and all under `Raw`.
 pub fn serial_numbers_by_profile()
-    ensures rfc5280 { (z : ℤ) → IsNumber (numbers_within ⟦<Rfc5280 as Profile>⟧.serial_limit) z ↔ (length (integer_octets z) ≤ 21) }
+    ensures rfc5280 { (z : ℤ) → IsNumber (numbers_within ⟦<Rfc5280 as Profile>⟧.serial_limit) z
+        ↔ (length (integer_octets z) ≤ 21) }
     ensures raw { (z : ℤ) → IsNumber (numbers_within ⟦<Raw as Profile>⟧.serial_limit) z }
 {}
 
-/// Which dates are respelled: under RFC 5280 those of a GeneralizedTime through 2049, and none under `Raw`.
+/// Which dates are respelled: under RFC 5280 those of a GeneralizedTime through 2049, and none
+/// under `Raw`.
 pub fn dates_by_profile()
     ensures rfc5280 { (v : PlainValidity) → (validity_by ⟦<Rfc5280 as Profile>⟧.respells v ≡ v)
-        ↔ ((is_early_generalized (not_before v) ≡ false) × (is_early_generalized (not_after v) ≡ false)) }
+        ↔ ((is_early_generalized (not_before v) ≡ false)
+        × (is_early_generalized (not_after v) ≡ false)) }
     ensures raw { (v : PlainValidity) → validity_by ⟦<Raw as Profile>⟧.respells v ≡ v }
 {}
 
-/// A validity that has an encoding has one where its dates are respelled, and it is the same one exactly where no date was a
-/// GeneralizedTime through 2049.
+/// A validity that has an encoding has one where its dates are respelled, and it is the same one
+/// exactly where no date was a GeneralizedTime through 2049.
 pub fn respelled_dates_are_spelled()
-    ensures valid { (r : Bool) (v : PlainValidity) → IsValid validity v → IsValid validity (validity_by r v) }
-    ensures same { (v : PlainValidity) → IsValid validity v → (octets_of validity (validity_by true v) ≡ octets_of validity v)
-        ↔ ((is_early_generalized (not_before v) ≡ false) × (is_early_generalized (not_after v) ≡ false)) }
+    ensures valid { (r : Bool) (v : PlainValidity) → IsValid validity v
+        → IsValid validity (validity_by r v) }
+    ensures same { (v : PlainValidity) → IsValid validity v
+        → (octets_of validity (validity_by true v) ≡ octets_of validity v)
+        ↔ ((is_early_generalized (not_before v) ≡ false)
+        × (is_early_generalized (not_after v) ≡ false)) }
 {}

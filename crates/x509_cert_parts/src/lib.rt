@@ -1,5 +1,5 @@
-//! The parts of certificates (RFC 5280 4.1): algorithms, keys, versions, extensions, serial numbers, dates, and the
-//! profiles by which certificates are read and written.
+//! The parts of certificates (RFC 5280 4.1): algorithms, keys, versions, extensions, serial
+//! numbers, dates, and the profiles by which certificates are read and written.
 #![tactic(auto)]
 
 mod algorithm_identifier;

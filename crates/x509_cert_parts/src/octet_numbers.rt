@@ -11,7 +11,8 @@ use der_core::{Error, ErrorKind, Tag};
 /// The one of some numbers that a content spells.
 ///
 /// # Errors
-/// `Length` for no octets, `Noncanonical` where fewer octets would do, `Value` for any other number.
+/// `Length` for no octets, `Noncanonical` where fewer octets would do, `Value` for any other
+/// number.
 pub fn number_among(tag: Tag, octets: &[u8], numbers: &[u8]) -> Result<u8, Error>
     // It is one of them.
     ensures named { IfOk result (λ n. list_any (λ m. m == n) numbers.now ≡ true) }

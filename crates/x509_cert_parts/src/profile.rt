@@ -26,17 +26,19 @@ pub trait Profile {
     /// # Errors
     /// `Value` for more content octets than are read.
     fn check_serial_number(serial: &SerialNumber<Self>) -> Result<(), Error>
-        ensures { GivesNow (λ _. serial.now) result (checked (numbers_within serial_limit) Integer serial.now) };
+        ensures { GivesNow (λ _. serial.now) result
+            (checked (numbers_within serial_limit) Integer serial.now) };
 
     /// The same date, as it is written in a validity. It is always answered.
     fn time_encoding(time: Time) -> Result<Time, Error>
         ensures { IsOkAnd result (λ t. time_value t ≡ spelled_by respells (time_value time)) };
 }
 
-/// Certificates as RFC 5280 has them: serial numbers of at most 21 content octets are read, and dates are written as UTCTime
-/// through 2049 and as GeneralizedTime later (4.1.2.2, 4.1.2.5).
+/// Certificates as RFC 5280 has them: serial numbers of at most 21 content octets are read, and
+/// dates are written as UTCTime through 2049 and as GeneralizedTime later (4.1.2.2, 4.1.2.5).
 ///
-/// RFC 5280 wants at most 20 octets. Some count them before the sign's octet is added, so 21 are read.
+/// RFC 5280 wants at most 20 octets. Some count them before the sign's octet is added, so 21 are
+/// read.
 #[derive(Clone, Copy, Debug, Default, PartialEq, Eq, PartialOrd, Ord)]
 pub struct Rfc5280;
 
@@ -63,7 +65,8 @@ impl Profile for Rfc5280 {
     }
 }
 
-/// Certificates as they stand: serial numbers of any number of octets are read, and dates are written as they were read.
+/// Certificates as they stand: serial numbers of any number of octets are read, and dates are
+/// written as they were read.
 #[derive(Clone, Copy, Debug, Default, PartialEq, Eq, PartialOrd, Ord)]
 pub struct Raw;
 

@@ -9,7 +9,8 @@ ghost use Rattle.der_core_head.specs.Integers.{integer_of, integer_octets};
 ghost use Rattle.der_core_head.specs.Leaves.{integer};
 ghost use Rattle.der_core_head.specs.Reading.{Gives};
 ghost use Rattle.der_core_head.specs.Shapes.{leaf};
-ghost use Rattle.x509_cert_names.specs.NumberTypes.NumberOrders.{integer_cmp, integer_cmp_total, integer_cmp_ties};
+ghost use Rattle.x509_cert_names.specs.NumberTypes.NumberOrders.{integer_cmp, integer_cmp_total};
+ghost use Rattle.x509_cert_names.specs.NumberTypes.NumberOrders.{integer_cmp_ties};
 ghost use Rattle.x509_cert_parts.specs.Drawing.{drawn_serial};
 ghost use Rattle.x509_cert_parts.specs.Grammar.{numbers_within};
 ghost use Rattle.x509_cert_parts.specs.SerialNumbers.{new_serial};
@@ -29,7 +30,8 @@ use std::fmt;
 use std::marker::{Model, PhantomData};
 use x509_cert_names::number_types::{Int, Uint};
 
-/// The serial number of a certificate (RFC 5280 4.1.2.2), of which the profile reads so many content octets. Numbers that are
+/// The serial number of a certificate (RFC 5280 4.1.2.2), of which the profile reads so many
+/// content octets. Numbers that are
 /// negative or zero are read too.
 ///
 /// Contracts see the number.
@@ -58,11 +60,12 @@ impl<P> SerialNumber<P> {
     /// The most content octets of a serial number that is made.
     pub const MAX_LEN: Length = Length { value: 20 };
 
-    /// The number of these digits in base 256, the most significant first. Leading zeros are left out.
+    /// The number of these digits in base 256, the most significant first. Leading zeros are left
+    /// out.
     ///
     /// # Errors
-    /// `Length` for no octets; `Overlength` for more than 20 content octets, `Overflow` where they are 2^32 or more;
-    /// `OutOfMemory`.
+    /// `Length` for no octets; `Overlength` for more than 20 content octets, `Overflow` where they
+    /// are 2^32 or more; `OutOfMemory`.
     #[tactic(auto, unfolding(crate::specs::SerialNumbers::new_serial))]
     pub fn new(alloc: Global, bytes: &[u8]) -> Result<SerialNumber<P>, Error>
         ensures { Gives (λ n. n) result (new_serial bytes.now) }
@@ -95,7 +98,8 @@ impl<P> SerialNumber<P> {
     /// A number of 17 random octets, of which the first isn't 0.
     ///
     /// # Errors
-    /// `Failed` where sixteen fills in turn began with 0; `OutOfMemory`, with the generator as after the fills.
+    /// `Failed` where sixteen fills in turn began with 0; `OutOfMemory`, with the generator as
+    /// after the fills.
     pub fn generate<R: CryptoRng>(alloc: Global, rng: &mut R) -> Result<SerialNumber<P>, Error>
         ensures number { Gives (λ n. n) result (drawn_serial [] 17 (R.stream rng.old)).0 }
         ensures left { R.stream rng.new ≡ (drawn_serial [] 17 (R.stream rng.old)).1 }
@@ -104,12 +108,12 @@ impl<P> SerialNumber<P> {
         Ok(serial)
     }
 
-    /// A number of these octets with so many random ones behind them, of which the first isn't 0. For each fill all of the random
-    /// ones are drawn again.
+    /// A number of these octets with so many random ones behind them, of which the first isn't 0.
+    /// For each fill all of the random ones are drawn again.
     ///
     /// # Errors
-    /// `Failed` for fewer than 8 random octets, for more than 19 octets in all, and where sixteen fills in turn began with 0;
-    /// `OutOfMemory`, with the generator as after the fills.
+    /// `Failed` for fewer than 8 random octets, for more than 19 octets in all, and where sixteen
+    /// fills in turn began with 0; `OutOfMemory`, with the generator as after the fills.
     #[tactic(auto, unfolding(crate::specs::Drawing::drawn_serial))]
     pub fn generate_with_prefix<R: CryptoRng>(
         alloc: Global,

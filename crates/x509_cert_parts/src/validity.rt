@@ -23,7 +23,8 @@ use std::marker::PhantomData;
 use std::time::Duration;
 use x509_cert_names::time_types::DateTime;
 
-/// From when until when a certificate is valid, both dates included (RFC 5280 4.1.2.5). The profile says how the dates are
+/// From when until when a certificate is valid, both dates included (RFC 5280 4.1.2.5). The profile
+/// says how the dates are
 /// written.
 ///
 /// ```text
@@ -59,7 +60,8 @@ impl<P> Validity<P> {
         ensures range { IsOk result ↔ (unix_seconds now + as_nanos duration / 1_000_000_000 ≤ 253_402_300_799) }
         ensures before { IfOk result (λ v. time_value v.not_before ≡ time_of now) }
         ensures after { IfOk result (λ v. time_value v.not_after ≡ time_of (time_date v.not_after)) }
-        ensures seconds { IfOk result (λ v. unix_seconds (time_date v.not_after) ≡ unix_seconds now + as_nanos duration / 1_000_000_000) }
+        ensures seconds { IfOk result (λ v. unix_seconds (time_date v.not_after)
+            ≡ unix_seconds now + as_nanos duration / 1_000_000_000) }
         ensures err { IfErr result (λ e. e.kind ≡ ErrorKind.DateTime) }
     {
         let Some(seconds) = now.unix_seconds().checked_add(duration.as_secs()) else {
@@ -81,7 +83,8 @@ impl<P> Validity<P> {
 impl<P: Profile> Validity<P> {
     /// The dates as the profile spells them, in a row. They are always answered.
     fn spelled(&self) -> Result<Row, Error>
-        ensures { IsOkAnd result (λ row. ⟦<Row as Fields>⟧.fields_written row ≡ validity_by P.respells (validity_plain self.now)) }
+        ensures { IsOkAnd result (λ row. ⟦<Row as Fields>⟧.fields_written row
+            ≡ validity_by P.respells (validity_plain self.now)) }
     {
         let not_before = P::time_encoding(self.not_before)?;
         let not_after = P::time_encoding(self.not_after)?;

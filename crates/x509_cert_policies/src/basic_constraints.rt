@@ -15,7 +15,8 @@ use der_core::{
 use std::alloc::Global;
 use std::cmp::Ordering;
 
-/// Whether a key belongs to an authority, and how long the paths below it may be (RFC 5280 4.2.1.9).
+/// Whether a key belongs to an authority, and how long the paths below it may be (RFC 5280
+/// 4.2.1.9).
 ///
 /// ```text
 /// BasicConstraints ::= SEQUENCE {
@@ -26,7 +27,8 @@ use std::cmp::Ordering;
 pub struct BasicConstraints {
     /// Whether the subject's key may verify the signatures of certificates.
     pub ca: bool,
-    /// The greatest number of authorities between this one and the last certificate. More than 255 is not read.
+    /// The greatest number of authorities between this one and the last certificate. More than 255
+    /// is not read.
     pub path_len_constraint: Option<u8>,
 }
 

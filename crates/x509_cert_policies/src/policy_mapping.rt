@@ -16,7 +16,8 @@ use der_core::{
 use std::alloc::Global;
 use std::cmp::Ordering;
 
-/// A policy of the issuer's domain that the issuer takes for one of the subject's (RFC 5280 4.2.1.5).
+/// A policy of the issuer's domain that the issuer takes for one of the subject's (RFC 5280
+/// 4.2.1.5).
 ///
 /// ```text
 /// PolicyMapping ::= SEQUENCE {

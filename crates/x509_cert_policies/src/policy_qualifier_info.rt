@@ -42,7 +42,8 @@ type RowRef<'a> = (
 impl PolicyQualifierInfo {
     /// Its fields, lent.
     fn row<'a>(&'a self) -> RowRef<'a>
-        ensures { ⟦<RowRef<'a> as Fields>⟧.fields_written result ≡ policy_qualifier_info_plain self.now }
+        ensures { ⟦<RowRef<'a> as Fields>⟧.fields_written result
+            ≡ policy_qualifier_info_plain self.now }
     {
         (
             EncodeRef(&self.policy_qualifier_id),

@@ -44,7 +44,8 @@ type RowRef<'a> = (
 impl PrivateKeyUsagePeriod {
     /// Its fields, lent.
     fn row<'a>(&'a self) -> RowRef<'a>
-        ensures { ⟦<RowRef<'a> as Fields>⟧.fields_written result ≡ private_key_usage_period_plain self.now }
+        ensures { ⟦<RowRef<'a> as Fields>⟧.fields_written result
+            ≡ private_key_usage_period_plain self.now }
     {
         (
             implicit_ref(&self.not_before),

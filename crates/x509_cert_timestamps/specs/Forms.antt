@@ -1,9 +1,14 @@
--- The presentation language of TLS (RFC 5246 4.3 to 4.6): the form of a type, its plain values, and the octets that spell them.
+-- The presentation language of TLS (RFC 5246 4.3 to 4.6): the form of a type, its plain values, and
+-- the octets that spell them.
 use Rattle.std.specs.Prelude.{◌≡◌, ◌≢◌, ◌<◌, ◌^◌, ◌==◌, ◌⊎◌, ℕ, List, [], ◌∷◌, ◌++◌, length, IsTrue}
 use Rattle.std.specs.List.{AllByRecursion, list_any}
 use Rattle.std.specs.Int.{to_be_bytes, w16, w64}
 use Rattle.x509_cert_timestamps.specs.declared.tls_error.TlsError.{TlsError}
-use Rattle.x509_cert_timestamps.specs.declared.tls_error.TlsError.TheVariants.{EndOfStream, UnknownValue, TrailingData, InvalidVectorLength, OutOfMemory}
+use Rattle.x509_cert_timestamps.specs.declared.tls_error.TlsError.TheVariants.{EndOfStream}
+use Rattle.x509_cert_timestamps.specs.declared.tls_error.TlsError.TheVariants.{UnknownValue}
+use Rattle.x509_cert_timestamps.specs.declared.tls_error.TlsError.TheVariants.{TrailingData}
+use Rattle.x509_cert_timestamps.specs.declared.tls_error.TlsError.TheVariants.{InvalidVectorLength}
+use Rattle.x509_cert_timestamps.specs.declared.tls_error.TlsError.TheVariants.{OutOfMemory}
 
 pub data Form : Type 0 where
   named : List ℕ → Form  -- an enum of one octet that has these numbers (4.5)
@@ -50,19 +55,24 @@ pub record Spells (f : Form) (v : Plain f) (input rest : List ℕ) : Type 0 wher
 
 -- the octets end within the length of a vector or within the vector
 abbrev pub EndsInVector : List ℕ → Type 0
-EndsInVector input = (length input < 2) ⊎ ((n : ℕ) × (rest : List ℕ) × (n < 2 ^ 16) × (input ≡ short_octets n ++ rest) × (length rest < n))
+EndsInVector input = (length input < 2)
+    ⊎ ((n : ℕ) × (rest : List ℕ) × (n < 2 ^ 16) × (input ≡ short_octets n ++ rest)
+    × (length rest < n))
 
 -- the octets begin with a number that is none of these
 abbrev pub HasUnknown : List ℕ → List ℕ → TlsError → Type 0
-HasUnknown numbers input e = (n : ℕ) × (rest : List ℕ) × (input ≡ n ∷ rest) × AllByRecursion (λ m. n ≢ m) numbers × (e ≡ UnknownValue n)
+HasUnknown numbers input e = (n : ℕ) × (rest : List ℕ) × (input ≡ n ∷ rest)
+    × AllByRecursion (λ m. n ≢ m) numbers × (e ≡ UnknownValue n)
 
--- no value of the form is spelled at the beginning of the octets, for this reason, the first from the left
+-- no value of the form is spelled at the beginning of the octets, for this reason, the first from
+-- the left
 abbrev pub Refuses : (f : Form) → List ℕ → TlsError → Type 0
 Refuses (named numbers) input e = ((input ≡ []) × (e ≡ EndOfStream)) ⊎ HasUnknown numbers input e
 Refuses long input e = (length input < 8) × (e ≡ EndOfStream)
 Refuses (exactly n) input e = (length input < n) × (e ≡ EndOfStream)
 Refuses vector input e = EndsInVector input × (e ≡ EndOfStream)
-Refuses (pair f g) input e = Refuses f input e ⊎ ((v : Plain f) × (rest : List ℕ) × Spells f v input rest × Refuses g rest e)
+Refuses (pair f g) input e = Refuses f input e
+    ⊎ ((v : Plain f) × (rest : List ℕ) × Spells f v input rest × Refuses g rest e)
 
 -- octets are read into owned values, which takes memory
 abbrev pub FailsOn : (f : Form) → List ℕ → TlsError → Type 0
@@ -70,7 +80,8 @@ FailsOn f input e = (e ≡ OutOfMemory) ⊎ Refuses f input e
 
 -- the octets aren't the spelling of one value: they begin with none, or more octets stand behind it
 abbrev pub RefusesWhole : (f : Form) → List ℕ → TlsError → Type 0
-RefusesWhole f input e = Refuses f input e ⊎ ((v : Plain f) × (rest : List ℕ) × Spells f v input rest × (rest ≢ []) × (e ≡ TrailingData))
+RefusesWhole f input e = Refuses f input e
+    ⊎ ((v : Plain f) × (rest : List ℕ) × Spells f v input rest × (rest ≢ []) × (e ≡ TrailingData))
 
 -- the spelling was put behind the octets that were there
 pub record Appends (f : Form) (v : Plain f) (old new : List ℕ) : Type 0 where

@@ -4,7 +4,8 @@ use Rattle.x509_cert_timestamps.specs.declared.error.Error.{Error}
 use Rattle.x509_cert_timestamps.specs.declared.error.Error.TheVariants.{Der, Tls}
 use Rattle.x509_cert_timestamps.specs.declared.serialized_sct.SerializedSct.{SerializedSct}
 use Rattle.x509_cert_timestamps.specs.declared.tls_error.TlsError.{TlsError}
-use Rattle.x509_cert_timestamps.specs.declared.tls_error.TlsError.TheVariants.{InvalidVectorLength, OutOfMemory}
+use Rattle.x509_cert_timestamps.specs.declared.tls_error.TlsError.TheVariants.{InvalidVectorLength}
+use Rattle.x509_cert_timestamps.specs.declared.tls_error.TlsError.TheVariants.{OutOfMemory}
 use Rattle.x509_cert_timestamps.specs.Forms.{vector, octets, IsValue, Spells, Refuses, RefusesWhole}
 
 abbrev pub sct_data : SerializedSct → List ℕ
@@ -39,7 +40,8 @@ pub record RefusesAfter (body : List ℕ) (e : TlsError) : Type 0 where
 
 -- the octets aren't the spelling of a list, for this reason, the first from the left
 abbrev pub RefusesList : List ℕ → TlsError → Type 0
-RefusesList input e = RefusesWhole vector input e ⊎ ((body : List ℕ) × Spells vector body input [] × RefusesAfter body e)
+RefusesList input e = RefusesWhole vector input e
+    ⊎ ((body : List ℕ) × Spells vector body input [] × RefusesAfter body e)
 
 -- a fault of the octets, and none of DER
 abbrev pub OfTls : Error → (TlsError → Type 0) → Type 0
@@ -50,7 +52,8 @@ abbrev pub ReadsNoList : List ℕ → Error → Type 0
 ReadsNoList input e = OfTls e (λ t. (t ≡ OutOfMemory) ⊎ RefusesList input t)
 
 abbrev pub MakesNoList : List SerializedSct → Error → Type 0
-MakesNoList scts e = OfTls e (λ t. (t ≡ OutOfMemory) ⊎ ((t ≡ InvalidVectorLength) × (¬ AreListed scts)))
+MakesNoList scts e =
+    OfTls e (λ t. (t ≡ OutOfMemory) ⊎ ((t ≡ InvalidVectorLength) × (¬ AreListed scts)))
 
 abbrev pub ReadsNoMembers : List ℕ → TlsError → Type 0
 ReadsNoMembers body e = (e ≡ OutOfMemory) ⊎ RefusesAfter body e

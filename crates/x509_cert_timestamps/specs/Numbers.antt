@@ -3,7 +3,8 @@ use Rattle.std.specs.Prelude.{ℕ, List, [], ◌∷◌}
 use Rattle.x509_cert_timestamps.specs.declared.hash_algorithm.HashAlgorithm.{HashAlgorithm}
 use Rattle.x509_cert_timestamps.specs.declared.hash_algorithm.HashAlgorithm.TheVariants as hashes
 use Rattle.x509_cert_timestamps.specs.declared.signature_algorithm.SignatureAlgorithm.{SignatureAlgorithm}
-use Rattle.x509_cert_timestamps.specs.declared.signature_algorithm.SignatureAlgorithm.TheVariants as signatures
+use Rattle.x509_cert_timestamps.specs.declared.signature_algorithm.SignatureAlgorithm.TheVariants
+    as signatures
 use Rattle.x509_cert_timestamps.specs.declared.version.Version.{Version}
 use Rattle.x509_cert_timestamps.specs.declared.version.Version.TheVariants as versions
 

@@ -1,6 +1,8 @@
--- The forms of a timestamp and of its parts (RFC 6962 3.2, RFC 5246 4.7, 7.4.1.4.1), and what their values are in them.
+-- The forms of a timestamp and of its parts (RFC 6962 3.2, RFC 5246 4.7, 7.4.1.4.1), and what their
+-- values are in them.
 use Rattle.x509_cert_timestamps.specs.Forms.{Form, Plain, named, long, exactly, vector, pair}
-use Rattle.x509_cert_timestamps.specs.Numbers.{hash_number, hash_numbers, signature_number, signature_numbers, version_number, version_numbers}
+use Rattle.x509_cert_timestamps.specs.Numbers.{hash_number, hash_numbers, signature_number}
+use Rattle.x509_cert_timestamps.specs.Numbers.{signature_numbers, version_number, version_numbers}
 use Rattle.x509_cert_timestamps.specs.declared.signature_and_hash_algorithm.SignatureAndHashAlgorithm.{SignatureAndHashAlgorithm}
 use Rattle.x509_cert_timestamps.specs.declared.digitally_signed.DigitallySigned.{DigitallySigned}
 use Rattle.x509_cert_timestamps.specs.declared.signed_certificate_timestamp.SignedCertificateTimestamp.{SignedCertificateTimestamp}
@@ -18,7 +20,11 @@ abbrev pub signed_plain : DigitallySigned → Plain signed_form
 signed_plain s = (algorithm_plain s.algorithm, s.signature.items)
 
 abbrev pub timestamp_form : Form
-timestamp_form = pair (named version_numbers) (pair (exactly 32) (pair long (pair vector signed_form)))
+timestamp_form =
+    pair (named version_numbers) (pair (exactly 32) (pair long (pair vector signed_form)))
 
 abbrev pub timestamp_plain : SignedCertificateTimestamp → Plain timestamp_form
-timestamp_plain t = (version_number t.version, (t.log_id.key_id, (t.timestamp, (t.extensions.items, signed_plain t.signature))))
+timestamp_plain t = (
+  version_number t.version,
+  (t.log_id.key_id, (t.timestamp, (t.extensions.items, signed_plain t.signature))),
+)

@@ -1,4 +1,5 @@
-//! Signed certificate timestamps (RFC 6962 3.2, 3.3) in the presentation language of TLS (RFC 5246 4).
+//! Signed certificate timestamps (RFC 6962 3.2, 3.3) in the presentation language of TLS (RFC 5246
+//! 4).
 #![tactic(auto)]
 
 mod digitally_signed;

@@ -44,7 +44,8 @@ pub(crate) fn read_named<T: Numbered>(input: &[u8]) -> Result<(T, &[u8]), TlsErr
 
 /// Puts a member's octet behind others.
 pub(crate) fn append_named<T: Numbered>(member: &T, output: &mut Vec<u8>) -> Result<(), TlsError>
-    ensures ok { OnOk result (Appends (named T.numbers) (T.number member.now) output.old.items output.new.items) }
+    ensures ok { OnOk result
+        (Appends (named T.numbers) (T.number member.now) output.old.items output.new.items) }
     ensures err { IfErr result (λ e. CannotWrite (named T.numbers) (T.number member.now) e) }
 {
     output.push(member.to_number())?;

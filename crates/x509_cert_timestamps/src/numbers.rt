@@ -1,7 +1,8 @@
 //! Numbers of more than one octet, the highest octet first (RFC 5246 4.4).
 
 ghost use Rattle.std.specs.Prelude.{◌≡◌, ◌<◌, ◌++◌, length, IsNone, IfSome, ◌↔◌, IfOk, IfErr, OnOk};
-ghost use Rattle.x509_cert_timestamps.specs.Forms.{short_octets, long_octets, long, Spells, FailsOn, Appends, CannotWrite};
+ghost use Rattle.x509_cert_timestamps.specs.Forms.{short_octets, long_octets, long, Spells};
+ghost use Rattle.x509_cert_timestamps.specs.Forms.{FailsOn, Appends, CannotWrite};
 
 use crate::tls_error::TlsError;
 

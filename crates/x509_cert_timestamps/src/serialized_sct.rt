@@ -28,7 +28,8 @@ impl SerializedSct {
     /// The octets of a timestamp.
     ///
     /// # Errors
-    /// `InvalidVectorLength` for a timestamp with a vector of more than 65535 octets; `OutOfMemory`.
+    /// `InvalidVectorLength` for a timestamp with a vector of more than 65535 octets;
+    /// `OutOfMemory`.
     pub fn new(
         alloc: Global,
         timestamp: SignedCertificateTimestamp,
@@ -44,8 +45,8 @@ impl SerializedSct {
     /// The timestamp that the octets spell.
     ///
     /// # Errors
-    /// What the first fault is: `EndOfStream`, `UnknownValue`, or `TrailingData` for octets behind the
-    /// timestamp; `OutOfMemory`.
+    /// What the first fault is: `EndOfStream`, `UnknownValue`, or `TrailingData` for octets behind
+    /// the timestamp; `OutOfMemory`.
     pub fn parse_timestamp(&self, alloc: Global) -> Result<SignedCertificateTimestamp, Error>
         ensures ok { IfOk result (λ t. Spells timestamp_form (timestamp_plain t) self.now.data.items []) }
         ensures err { IfErr result (λ e. ReadsNoTimestamp self.now.data.items e) }

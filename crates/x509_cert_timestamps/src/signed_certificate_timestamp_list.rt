@@ -4,7 +4,8 @@ ghost use Rattle.std.specs.Prelude.{◌≡◌, IfOk, IfErr, refl, flat_map, All}
 ghost use Rattle.der_core_head.specs.declared.tag.Tag.TheVariants.{OctetString};
 ghost use Rattle.der_core_head.specs.Leaves.{octets};
 ghost use Rattle.der_core_head.specs.Shapes.{leaf};
-ghost use Rattle.x509_cert_timestamps.specs.Lists.{IsMember, sct_octets, SpellsList, ReadsNoList, MakesNoList, ReadsNoMembers, MakesNoMembers};
+ghost use Rattle.x509_cert_timestamps.specs.Lists.{IsMember, sct_octets, SpellsList, ReadsNoList};
+ghost use Rattle.x509_cert_timestamps.specs.Lists.{MakesNoList, ReadsNoMembers, MakesNoMembers};
 
 use crate::error::Error;
 use crate::serialized_sct::SerializedSct;
@@ -66,8 +67,8 @@ impl SignedCertificateTimestampList {
     /// The list of these.
     ///
     /// # Errors
-    /// `InvalidVectorLength` where one of them has more than 65535 octets, or all have with their lengths;
-    /// `OutOfMemory`.
+    /// `InvalidVectorLength` where one of them has more than 65535 octets, or all have with their
+    /// lengths; `OutOfMemory`.
     pub fn new(
         alloc: Global,
         serialized_scts: &[SerializedSct],

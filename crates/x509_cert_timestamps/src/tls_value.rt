@@ -3,11 +3,12 @@
 use crate::tls_error::TlsError;
 use std::alloc::Global;
 
-/// A type of the presentation language of TLS (RFC 5246 4): each value has one spelling in octets, or
-/// none where a vector in it is too long.
+/// A type of the presentation language of TLS (RFC 5246 4): each value has one spelling in octets,
+/// or none where a vector in it is too long.
 pub trait TlsValue: Drop {
     ghost use Rattle.std.specs.Prelude.{◌≡◌, ◌-◌, ◌^◌, min, length, IfOk, IfErr, OnOk};
-    ghost use Rattle.x509_cert_timestamps.specs.Forms.{Form, Plain, Spells, FailsOn, Appends, CannotWrite, IsValue, octets};
+    ghost use Rattle.x509_cert_timestamps.specs.Forms.{Form, Plain, Spells, FailsOn, Appends};
+    ghost use Rattle.x509_cert_timestamps.specs.Forms.{CannotWrite, IsValue, octets};
 
     // The form of the type's octets.
     ghost form: { Form };

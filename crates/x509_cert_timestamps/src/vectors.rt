@@ -1,7 +1,8 @@
 //! Vectors of octets with a length of two octets (RFC 5246 4.3).
 
 ghost use Rattle.std.specs.Prelude.{◌≡◌, ◌-◌, ◌^◌, min, length, IfOk, IfErr, OnOk};
-ghost use Rattle.x509_cert_timestamps.specs.Forms.{vector, Spells, Refuses, FailsOn, Appends, CannotWrite, octets};
+ghost use Rattle.x509_cert_timestamps.specs.Forms.{vector, Spells, Refuses, FailsOn, Appends};
+ghost use Rattle.x509_cert_timestamps.specs.Forms.{CannotWrite, octets};
 
 use crate::numbers::split_short;
 use crate::tls_error::TlsError;

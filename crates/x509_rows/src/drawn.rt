@@ -33,7 +33,8 @@ pub fn generated(alloc: Global, kind: &str, octets: &str) -> Result<String, Refu
     }
 }
 
-/// What is written of the serial number of a prefix, and of so many octets that a generator of given words gives.
+/// What is written of the serial number of a prefix, and of so many octets that a generator of
+/// given words gives.
 pub fn drawn(alloc: Global, prefix: &str, values: &str) -> Result<String, Refusal> {
     let (count, octets) = values.split_once(' ').ok_or(Refusal::Unread)?;
     let count: usize = count.parse()?;

@@ -40,7 +40,8 @@ fn number_of(alloc: Global, text: &str) -> Result<String, Refusal> {
     written_in(alloc, CrlNumber::try_from_u128(alloc, number))
 }
 
-/// What is written of the value that a type makes of octets: those of a number, or those that spell another value.
+/// What is written of the value that a type makes of octets: those of a number, or those that spell
+/// another value.
 fn made_of_octets(alloc: Global, kind: &str, octets: &[u8]) -> Result<String, Refusal> {
     match kind {
         "SerialNumber" => written_in(alloc, SerialNumber::<Rfc5280>::new(alloc, octets)),

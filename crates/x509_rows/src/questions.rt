@@ -18,11 +18,13 @@ pub enum Asked {
     Order,
     /// The value that octets spell, as `{:?}` prints it.
     Debug,
-    /// The extension that the value of the second octets gives the certificate of the subject whose name the first spell.
+    /// The extension that the value of the second octets gives the certificate of the subject whose
+    /// name the first spell.
     Extension,
 }
 
-/// A question about the values that octets spell: the second are none where one value is asked about.
+/// A question about the values that octets spell: the second are none where one value is asked
+/// about.
 #[derive(Clone, Copy)]
 pub struct Question<'a> {
     pub asked: Asked,
