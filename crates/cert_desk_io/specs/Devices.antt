@@ -1,12 +1,8 @@
 -- What contracts say of a device: what it did from one state to another, how its count of failures
 -- moved, and how much of a text went out.
-use Rattle.std.specs.Prelude.{◌≡◌, ℕ, ◌+◌, ◌-◌, ◌^◌, ◌<◌, ◌⊎◌, min, List, [], length, take}
+use Rattle.std.specs.Prelude.{◌≡◌, ℕ, ◌+◌, ◌-◌, ◌^◌, ◌<◌, min, List, [], length, take}
 
--- a count of failures rose: it is greater, or stands at the most that 64 bits hold
-abbrev pub Rose : ℕ → ℕ → Type 0
-Rose old new = (old < new) ⊎ (new ≡ 2 ^ 64 - 1)
-
--- a count of failures after one more
+-- a count of failures after one more, which stays at the most that 64 bits hold
 abbrev pub one_more : ℕ → ℕ
 one_more failures = min (failures + 1) (2 ^ 64 - 1)
 
@@ -63,14 +59,15 @@ Sound d = d.failures d.new ≡ d.failures d.old
 abbrev pub Untouched : Device → Type 0
 Untouched d = d.new ≡ d.old
 
--- A call failed: before it these octets were moved and no call failed, and from then on nothing was
--- moved.
+-- The last call failed, and no other: before it these octets were moved, and by it none, nor did it
+-- meet the end.
 pub record Fails (d : Device) (octets : List ℕ) : Type 0 where
   pub before : d.State
   pub moved : d.moves d.old octets before
   pub sound : d.failures before ≡ d.failures d.old
   pub stopped : d.moves before [] d.new
-  pub rose : Rose (d.failures before) (d.failures d.new)
+  pub not_ended : d.is_ended d.new → ⊥
+  pub once : d.failures d.new ≡ one_more (d.failures before)
 
 -- the text went out, and no write failed
 abbrev pub IsWritten : Device → List ℕ → Type 0

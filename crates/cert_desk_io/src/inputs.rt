@@ -1,7 +1,7 @@
 // What octets come from.
 ghost use Rattle.std.specs.Prelude.{◌≡◌, ℕ, ◌<◌, ◌≤◌, ◌↔◌, List, [], ◌++◌, length, take, IfOk};
 ghost use Rattle.std.specs.Prelude.{IfErr, OnOk, OnErr};
-ghost use Rattle.cert_desk_io.specs.Devices.{Rose, source};
+ghost use Rattle.cert_desk_io.specs.Devices.{one_more, source};
 ghost use Rattle.cert_desk_io.specs.Whole.{IsWhole, IsUnread};
 
 use super::{DeviceError, ReadAllError};
@@ -33,7 +33,7 @@ pub trait Input {
         // After a failure.
         ensures none_taken { OnErr result (takes self.old [] self.new) }
         ensures not_ended { OnErr result (¬ is_ended self.new) }
-        ensures rose { OnErr result (Rose (failures self.old) (failures self.new)) };
+        ensures once { OnErr result (failures self.new ≡ one_more (failures self.old)) };
 
     /// Between a state and itself nothing was taken.
     ghost takes_nothing: { (a : Self) → takes a [] a };

@@ -2,7 +2,7 @@
 ghost use Rattle.std.specs.Prelude.{◌≡◌, ◌<◌, ◌≤◌, ◌↔◌, [], ◌++◌, length, take, drop, min, IsErr};
 ghost use Rattle.std.specs.Prelude.{IfOk, OnOk, OnErr};
 ghost use Rattle.std.proofs.Common.{refl, sym, ap, ◌∙◌, append_assoc};
-ghost use Rattle.cert_desk_io.specs.Devices.{Rose, one_more};
+ghost use Rattle.cert_desk_io.specs.Devices.{one_more};
 ghost use Rattle.cert_desk_io.specs.Pieces.{ArePieceSizes, after_call, next_piece};
 ghost use Rattle.cert_desk_io.specs.Memory.{octets_left, read_sizes, failing_read, read_failures};
 ghost use Rattle.cert_desk_io.specs.Memory.{HasEnded};
@@ -74,9 +74,7 @@ impl Input for MemoryInput<'_> {
         // After a failure.
         ensures none_taken { OnErr result (octets_left self.old ≡ [] ++ octets_left self.new) }
         ensures not_ended { OnErr result (¬ HasEnded self.new) }
-        ensures rose { OnErr result (Rose (read_failures self.old) (read_failures self.new)) }
-        ensures one_more { OnErr result
-            (read_failures self.new ≡ one_more (read_failures self.old)) }
+        ensures once { OnErr result (read_failures self.new ≡ one_more (read_failures self.old)) }
 
         // Which read fails, and how much the others take.
         ensures fails { IsErr result ↔ (failing_read self.old ≡ Some 1) }

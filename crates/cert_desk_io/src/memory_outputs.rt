@@ -2,7 +2,7 @@
 ghost use Rattle.std.specs.Prelude.{◌≡◌, ◌-◌, ◌<◌, ◌≤◌, ◌↔◌, ◌⊎◌, [], ◌++◌, length, take, drop};
 ghost use Rattle.std.specs.Prelude.{min, IsErr, IfOk, OnOk, OnErr};
 ghost use Rattle.std.proofs.Common.{sym, ap, ◌∙◌, append_assoc, append-nil};
-ghost use Rattle.cert_desk_io.specs.Devices.{Rose, one_more};
+ghost use Rattle.cert_desk_io.specs.Devices.{one_more};
 ghost use Rattle.cert_desk_io.specs.Pieces.{ArePieceSizes, after_call, next_piece};
 
 use super::schedule::Schedule;
@@ -78,9 +78,7 @@ impl Output for MemoryOutput<'_> {
 
         // After a failure.
         ensures none_given { OnErr result (written self.new ≡ written self.old ++ []) }
-        ensures rose { OnErr result (Rose (write_failures self.old) (write_failures self.new)) }
-        ensures one_more { OnErr result
-            (write_failures self.new ≡ one_more (write_failures self.old)) }
+        ensures once { OnErr result (write_failures self.new ≡ one_more (write_failures self.old)) }
 
         // Which write fails, and how much the others give.
         ensures fails { IsErr result ↔ ((failing_write self.old ≡ Some 1) ⊎ IsFull self.old) }

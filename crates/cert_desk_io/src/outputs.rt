@@ -1,7 +1,7 @@
 // What octets go to.
 ghost use Rattle.std.specs.Prelude.{◌≡◌, ℕ, ◌<◌, ◌≤◌, List, [], ◌++◌, length, take, IfOk, OnOk};
 ghost use Rattle.std.specs.Prelude.{OnErr};
-ghost use Rattle.cert_desk_io.specs.Devices.{Rose, IsCut, IsWritten, sink};
+ghost use Rattle.cert_desk_io.specs.Devices.{one_more, IsCut, IsWritten, sink};
 
 use super::DeviceError;
 
@@ -27,7 +27,7 @@ pub trait Output {
 
         // After a failure.
         ensures none_given { OnErr result (gives self.old [] self.new) }
-        ensures rose { OnErr result (Rose (failures self.old) (failures self.new)) };
+        ensures once { OnErr result (failures self.new ≡ one_more (failures self.old)) };
 
     /// Between a state and itself nothing went out.
     ghost gives_nothing: { (a : Self) → gives a [] a };

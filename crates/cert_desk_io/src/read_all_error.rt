@@ -8,7 +8,7 @@ use std::fmt;
 /// Why an input wasn't read to its end.
 #[derive(Clone, Copy, Debug, PartialEq, Eq)]
 pub enum ReadAllError {
-    /// It gave more octets than were wanted.
+    /// The input gave more octets than were wanted.
     TooMuch,
     /// A read failed.
     Device,

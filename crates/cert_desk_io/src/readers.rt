@@ -1,7 +1,7 @@
 // A reader as an input.
 ghost use Rattle.std.specs.Prelude.{◌≡◌, ◌<◌, ◌≤◌, ◌↔◌, [], length, take, IfOk, OnOk, OnErr};
 ghost use Rattle.std.specs.Io.KnownBytes.{Consumes};
-ghost use Rattle.cert_desk_io.specs.Devices.{Rose, one_more};
+ghost use Rattle.cert_desk_io.specs.Devices.{one_more};
 ghost use Rattle.cert_desk_io.specs.Readers.{reader_of, read_failures, HasEnded};
 ghost use Rattle.std.proofs.KnownBytes.{Consumes-nil, Consumes-trans};
 
@@ -68,9 +68,7 @@ impl<R: Read> Input for FromRead<R> {
         ensures none_taken { OnErr result (Consumes (R.remaining (reader_of self.old))
             (R.remaining (reader_of self.new)) []) }
         ensures not_ended { OnErr result (¬ HasEnded R.remaining self.new) }
-        ensures rose { OnErr result (Rose (read_failures self.old) (read_failures self.new)) }
-        ensures one_more { OnErr result
-            (read_failures self.new ≡ one_more (read_failures self.old)) }
+        ensures once { OnErr result (read_failures self.new ≡ one_more (read_failures self.old)) }
     {
         match self.reader.read(buffer) {
             Ok(count) => {

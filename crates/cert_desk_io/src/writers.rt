@@ -2,7 +2,7 @@
 ghost use Rattle.std.specs.Prelude.{◌≡◌, ◌<◌, ◌≤◌, [], length, take, IfOk, OnOk, OnErr};
 ghost use Rattle.std.specs.Io.KnownBytes.{Appends};
 ghost use Rattle.std.proofs.KnownBytes.{Appends-nil, Appends-trans};
-ghost use Rattle.cert_desk_io.specs.Devices.{Rose, one_more};
+ghost use Rattle.cert_desk_io.specs.Devices.{one_more};
 ghost use Rattle.cert_desk_io.specs.Writers.{writer_of, write_failures};
 
 use super::{DeviceError, Output};
@@ -63,9 +63,7 @@ impl<W: Write> Output for ToWrite<W> {
         // After a failure.
         ensures none_given { OnErr result (Appends (W.contents (writer_of self.old))
             (W.contents (writer_of self.new)) []) }
-        ensures rose { OnErr result (Rose (write_failures self.old) (write_failures self.new)) }
-        ensures one_more { OnErr result
-            (write_failures self.new ≡ one_more (write_failures self.old)) }
+        ensures once { OnErr result (write_failures self.new ≡ one_more (write_failures self.old)) }
     {
         match self.writer.write(octets) {
             Ok(count) if count > 0 => Ok(count),

@@ -12,7 +12,8 @@ returns-in_default-clause-unread g c = (
     moved = c.loop-count.invariant.taken;
     sound = c.loop-count.invariant.sound;
     stopped = c.in_default.ensures.none_taken;
-    rose = c.in_default.ensures.rose;
+    not_ended = c.in_default.ensures.not_ended;
+    once = c.in_default.ensures.once;
   },
 )
 

@@ -13,7 +13,8 @@ returns-in_err-sent-clause-cut g c =
         moved = c.loop-sent.invariant.given;
         sound = c.loop-sent.invariant.sound;
         stopped = c.in_err-sent.ensures.none_given;
-        rose = c.in_err-sent.ensures.rose;
+        not_ended = λ ended. ended;
+        once = c.in_err-sent.ensures.once;
       },
     )
 
