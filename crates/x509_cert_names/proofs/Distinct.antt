@@ -101,43 +101,6 @@ is_none a (b ∷ xs) e = go (same_pair b a) refl e (λ k. is_none a xs k)
     go true k e f = absurd cc
     go false k e f = (same_pair_equiv.symm a b ∙ k, f e)
 
-front_false : (a : AttributeTypeAndValue) (xs ys : List AttributeTypeAndValue) → AllByRecursion (λ b. same_pair a b ≡ false) (xs ++ ys) → AllByRecursion (λ b. same_pair a b ≡ false) xs
-front_false a [] ys h = tt
-front_false a (x ∷ xs) ys h = (h.0, front_false a xs ys h.1)
-
-front_distinct : (xs ys : List AttributeTypeAndValue) → IsDistinct same_pair (xs ++ ys) → IsDistinct same_pair xs
-front_distinct [] ys d = none_distinct
-front_distinct (x ∷ xs) ys d =
-    IsDistinct-cons same_pair x xs (front_false x xs ys (IsDistinct-head same_pair x (xs ++ ys) d)) (front_distinct xs ys (IsDistinct-tail same_pair x (xs ++ ys) d))
-
-last_false : (a : AttributeTypeAndValue) (xs : List AttributeTypeAndValue) (y : AttributeTypeAndValue) → AllByRecursion (λ b. same_pair a b ≡ false) (xs ++ y ∷ []) → same_pair a y ≡ false
-last_false a [] y h = h.0
-last_false a (x ∷ xs) y h = last_false a xs y h.1
-
-last_apart : (xs : List AttributeTypeAndValue) (y : AttributeTypeAndValue) → IsDistinct same_pair (xs ++ y ∷ []) → list_any (λ b. same_pair b y) xs ≡ true → ⊥
-last_apart [] y d e = absurd cc
-last_apart (x ∷ xs) y d e = go (same_pair x y) (last_false x xs y (IsDistinct-head same_pair x (xs ++ y ∷ []) d)) e (λ k. last_apart xs y (IsDistinct-tail same_pair x (xs ++ y ∷ []) d) k)
-  where
-    go : (r : Bool) → r ≡ false → (r || list_any (λ b. same_pair b y) xs) ≡ true → (list_any (λ b. same_pair b y) xs ≡ true → ⊥) → ⊥
-    go true k e f = absurd cc
-    go false k e f = f e
-
--- one of the first equals the one behind them
-pub twice : (xs : List AttributeTypeAndValue) (end : ℕ) (y : AttributeTypeAndValue) → end < length xs → y ≡ get_or xs end y → list_any (λ b. same_pair b y) (take end xs) ≡ true → IsDistinct same_pair xs → ⊥
-twice xs end y lt e h d =
-    let whole : take (end + 1) xs ++ drop (end + 1) xs ≡ xs = take-append-drop (end + 1) xs in
-    let front : IsDistinct same_pair (take (end + 1) xs) = front_distinct (take (end + 1) xs) (drop (end + 1) xs) (subst (IsDistinct same_pair) (sym whole) d) in
-    last_apart (take end xs) y (subst (IsDistinct same_pair) (last_is xs end y lt e) front) h
-
-flipped : (xs : List AttributeTypeAndValue) (y : AttributeTypeAndValue) → list_any (same_pair y) xs ≡ list_any (λ b. same_pair b y) xs
-flipped [] y = refl
-flipped (x ∷ xs) y = rw (same_pair_equiv.symm y x, flipped xs y) refl
-
--- and where none does
-pub one_more : (xs : List AttributeTypeAndValue) (end : ℕ) (y : AttributeTypeAndValue) → end < length xs → y ≡ get_or xs end y → list_any (λ b. same_pair b y) (take end xs) ≡ false
-    → IsDistinct same_pair (take end xs) → IsDistinct same_pair (take (end + 1) xs)
-one_more xs end y lt e h d = subst (IsDistinct same_pair) (sym (last_is xs end y lt e)) (IsDistinct-push same_pair_equiv (take end xs) y d (flipped (take end xs) y ∙ h))
-
 pub distinct_insert : (xs : List AttributeTypeAndValue) (i : ℕ) (a : AttributeTypeAndValue) → IsDistinct same_pair xs → list_any (λ b. same_pair b a) xs ≡ false → IsDistinct same_pair (insert xs i a)
 distinct_insert xs i a d e =
     IsDistinct-IsPermutation same_pair same_pair_equiv.symm (a ∷ xs) (insert xs i a) (IsPermutation-insert xs i a) (IsDistinct-cons same_pair a xs (is_none a xs e) d)

@@ -4,6 +4,7 @@ pub mod Printed
 pub mod NameBounds
 mod KeyBounds
 mod TextBounds
+mod InTurn
 mod HeadersWritten
 mod SameOctets
 pub use Rattle.der_types_any.proofs.TimeTypes

@@ -1,5 +1,5 @@
 -- Names are equal, attribute by attribute, exactly where they have the same octets.
-use Rattle.std.proofs.Common.{◌≡◌, ◌≢◌, ℕ, length, List, [], ◌∷◌, ◌++◌, Bool, true, false, refl, sym, subst, ap, ◌∙◌, arith, length-append}
+use Rattle.std.proofs.Common.{◌≡◌, ◌≢◌, ℕ, ◌<◌, get_or, Ok, Err, length, List, [], ◌∷◌, ◌++◌, Bool, true, false, refl, sym, subst, ap, ◌∙◌, arith, length-append}
 use Rattle.std.specs.Prelude.{nat_eq, ◌&&◌, flat_map}
 use Rattle.std.specs.Cmp.{first_so, second_so}
 use Rattle.std.specs.Cmp.Lexicographic.{pointwise}
@@ -11,6 +11,12 @@ use Rattle.const_oid.specs.Bound.{Bound}
 use Rattle.const_oid.specs.IdentifierOctets.{identifier_octets}
 use Rattle.der_core.specs.Orders.{octets_cmp}
 use Rattle.der_core.proofs.OrderLaws.{octets_cmp-equal}
+use Rattle.der_core.proofs.Sizes.{size_only}
+use Rattle.der_core_head.specs.Writing.{size}
+use Rattle.der_core_head.specs.declared.error.Error.{Error}
+use Rattle.der_core_head.proofs.OkOctets.{counts_octets}
+use Rattle.der_core_head.proofs.Written.{sized}
+use Rattle.der_types_sets.proofs.SetSteps.{valid_at}
 use Rattle.der_core_head.specs.Grammar.{plain_list}
 use Rattle.der_core_head.specs.Heads.{tlv, head_octets, Fits}
 use Rattle.der_core_head.specs.Ranges.{IsInRange}
@@ -19,12 +25,12 @@ use Rattle.der_core_head.specs.declared.tag.Tag.{Tag}
 use Rattle.der_core_head.specs.declared.tag.Tag.TheVariants as tags
 use Rattle.der_core_head.proofs.OneEncoding.{one_value}
 use Rattle.der_types_any.specs.AnyOrders.{any_key}
-use Rattle.der_types_sets.specs.Sets.{Ascends}
+use Rattle.der_types_sets.specs.Sets.{AllValid, Ascends, TooLong}
 use Rattle.x509_cert_names.specs.Names.{TypeAndValue, PlainName, type_and_value, relative_name, name, name_octets, type_of, value_of}
-use Rattle.x509_cert_names.specs.Ordered.{IsOrdered}
+use Rattle.x509_cert_names.specs.Ordered.{DifferInTurn, IsOrdered}
 use Rattle.x509_cert_names.specs.Pairs.{pair_plain, same_pair, same_pair_equiv, relative_plain}
 use Rattle.x509_cert_names.specs.declared.attribute_type_and_value.AttributeTypeAndValue.{AttributeTypeAndValue}
-use Rattle.x509_cert_names.proofs.Distinct.{encoded, same_octets}
+use Rattle.x509_cert_names.proofs.Distinct.{encoded, rising_distinct, same_octets}
 
 abbrev Pairs : Type 0
 Pairs = List AttributeTypeAndValue
@@ -124,24 +130,48 @@ below Less g e = refl
 below Equal g e = absurd (e refl)
 below Greater g e = absurd (g refl)
 
-all_rise : (r : Pairs) → IsDistinct same_pair r → Ascends (type_and_value Bound) pair_plain r → AllByRecursion (λ x. IsValid (type_and_value Bound) x) (relative_plain r)
+pub distinct_differ : (r : Pairs) → IsDistinct same_pair r → DifferInTurn r
+distinct_differ [] d = tt
+distinct_differ (a ∷ []) d = tt
+distinct_differ (a ∷ b ∷ r) d = ((IsDistinct-head same_pair a (b ∷ r) d).0, distinct_differ (b ∷ r) (IsDistinct-tail same_pair a (b ∷ r) d))
+
+all_rise : (r : Pairs) → DifferInTurn r → Ascends (type_and_value Bound) pair_plain r → AllByRecursion (λ x. IsValid (type_and_value Bound) x) (relative_plain r)
     → AllRising (λ x. octets_of (type_and_value Bound) x) (relative_plain r)
 all_rise [] d s v = tt
 all_rise (a ∷ []) d s v = tt
 all_rise (a ∷ b ∷ r) d s v =
-    let apart : same_pair a b ≡ false = (IsDistinct-head same_pair a (b ∷ r) d).0 in
+    let apart : same_pair a b ≡ false = d.0 in
     let equal : octets_cmp (encoded a) (encoded b) ≡ Equal → ⊥ = λ e.
     let one = (one_value (type_and_value Bound) (pair_plain a) (pair_plain b) [] [] refl refl v.0 v.1.0
     (ap (λ (w : List ℕ). w ++ []) (octets_cmp-equal (encoded a) (encoded b) e))).0 in
     let same : same_pair a b ≡ true = pair_alike a b one in
     absurd cc in
-    (below (octets_cmp (encoded a) (encoded b)) (s.0 v.0 v.1.0) equal, all_rise (b ∷ r) (IsDistinct-tail same_pair a (b ∷ r) d) s.1 v.1)
+    (below (octets_cmp (encoded a) (encoded b)) (s.0 v.0 v.1.0) equal, all_rise (b ∷ r) d.1 s.1 v.1)
+
+-- an attribute whose octets a length counts has an encoding, and one whose octets it doesn't count has none
+pub sized_valid : (a : AttributeTypeAndValue) (n : ℕ) → IsInRange (type_and_value Bound) (pair_plain a) → size (type_and_value Bound) (pair_plain a) ≡ Ok n → IsValid (type_and_value Bound) (pair_plain a)
+sized_valid a n h e = pair_valid (pair_plain a) h (counts_octets (type_and_value Bound) (pair_plain a) n e).1
+
+pub unsized_long : (xs : List AttributeTypeAndValue) (i : ℕ) (a : AttributeTypeAndValue) (e : Error) → i < length xs → a ≡ get_or xs i a
+    → size (type_and_value Bound) (pair_plain a) ≡ Err e.kind → TooLong (type_and_value Bound) pair_plain xs e
+unsized_long xs i a e lt is long = record {
+  kind = size_only (type_and_value Bound) (pair_plain a) e.kind long;
+  some = λ all. absurd (cc (sized (type_and_value Bound) (pair_plain a) (valid_at (type_and_value Bound) pair_plain xs i a lt is all), long));
+}
+
+-- attributes that ascend and differ in turn are distinct, where each has an encoding
+each_valid : (r : Pairs) → AllValid (type_and_value Bound) pair_plain r → AllByRecursion (λ x. IsValid (type_and_value Bound) x) (relative_plain r)
+each_valid [] v = tt
+each_valid (a ∷ r) v = (v.0, each_valid r v.1)
+
+pub differ_distinct : (r : Pairs) → AllValid (type_and_value Bound) pair_plain r → Ascends (type_and_value Bound) pair_plain r → DifferInTurn r → IsDistinct same_pair r
+differ_distinct r v s d = rising_distinct r (all_rise r d s (each_valid r v))
 
 set_valid : (r : Pairs) → IsInRange (relative_name Bound) (relative_plain r) → IsOrdered Bound r → Fits (set_encoded r) → IsValid (relative_name Bound) (relative_plain r)
 unfolding IsValid IsContent IsBody octets_of contents body_octets
 set_valid r h o f =
     let each = all_valid r h.0 (content_shorter tags.Set (all_encoded r) f) in
-    ((each, all_rise r o.0 o.1 each), h.1, f)
+    ((each, all_rise r (distinct_differ r o.0) o.1 each), h.1, f)
 
 sets_valid : (n : List Pairs) → AllByRecursion (λ x. IsInRange (relative_name Bound) x) (plain_list relative_plain n) → AllByRecursion (IsOrdered Bound) n → Fits (sets_encoded n)
     → AllByRecursion (λ x. IsValid (relative_name Bound) x) (plain_list relative_plain n)

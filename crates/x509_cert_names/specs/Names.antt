@@ -12,7 +12,7 @@ abbrev pub attribute_type : ℕ → Shape
 attribute_type bound = tagged tags.ObjectIdentifier (leaf (identifier bound 39))
 
 -- Attribute ::= SEQUENCE { type AttributeType, values SET OF AttributeValue }, where AttributeValue
--- ::= ANY
+--     ::= ANY
 abbrev pub attribute_fields : ℕ → Body
 attribute_fields bound = field (attribute_type bound) (field (set_of any) done)
 
@@ -35,7 +35,7 @@ abbrev pub relative_name : ℕ → Shape
 relative_name bound = set_of (type_and_value bound)
 
 -- Name ::= CHOICE { rdnSequence RDNSequence }, RDNSequence ::= SEQUENCE OF
--- RelativeDistinguishedName
+--     RelativeDistinguishedName
 abbrev pub name : ℕ → Shape
 name bound = sequence_of (relative_name bound)
 

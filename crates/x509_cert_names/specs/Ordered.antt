@@ -1,5 +1,5 @@
 -- What holds of the attributes of every relative name.
-use Rattle.std.specs.Prelude.{ℕ, List}
+use Rattle.std.specs.Prelude.{◌≡◌, ℕ, List, [], ◌∷◌, ⊤, false}
 use Rattle.std.specs.List.{IsDistinct}
 use Rattle.der_types_sets.specs.Sets.{Ascends}
 use Rattle.x509_cert_names.specs.Names.{type_and_value}
@@ -9,3 +9,9 @@ use Rattle.x509_cert_names.specs.declared.attribute_type_and_value.AttributeType
 -- they ascend, and none stands twice
 abbrev pub IsOrdered : ℕ → List AttributeTypeAndValue → Type 0
 IsOrdered bound r = IsDistinct same_pair r × Ascends (type_and_value bound) pair_plain r
+
+-- each differs from the next one
+abbrev pub DifferInTurn : List AttributeTypeAndValue → Type 0
+DifferInTurn [] = ⊤
+DifferInTurn (a ∷ []) = ⊤
+DifferInTurn (a ∷ b ∷ r) = (same_pair a b ≡ false) × DifferInTurn (b ∷ r)

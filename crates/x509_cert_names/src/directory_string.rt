@@ -109,7 +109,7 @@ impl FirstTag for DirectoryString {
 }
 
 impl DirectoryString {
-    /// The same text, lent as a choice.
+    /// The text, lent as a choice.
     fn cases<'a>(&'a self) -> CasesRef<'a>
         ensures { ⟦<CasesRef<'a> as Shaped>⟧.written result ≡ directory_plain self.now }
     {

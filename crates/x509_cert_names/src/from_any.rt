@@ -29,7 +29,8 @@ pub trait FromAny<'a>: Sized {
 
 /// A text, which is lent.
 impl<'a, T: AsciiType> FromAny<'a> for AsciiStringRef<'a, T> {
-    ghost any_gives = { λ a r. GivesNow (λ t. t.text.now) r (leaf_as T.string_tag (text T.repertoire) a) };
+    ghost any_gives = { λ a r. GivesNow (λ t. t.text.now) r
+        (leaf_as T.string_tag (text T.repertoire) a) };
 
     fn from_any(_alloc: Global, any: &'a Any) -> Result<AsciiStringRef<'a, T>, Error> {
         let value = AsciiStringRef::try_from(any)?;

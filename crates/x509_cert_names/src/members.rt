@@ -21,7 +21,8 @@ pub(crate) fn decode_members<'a, R: Reader<'a>, T: Decode<'a, R> + DerOrd + Memb
     reader: &mut R,
     header: Header,
 ) -> Result<Vec<T>, Error>
-    ensures reads { Reads (λ v. plain_list T.plain v.items) (R.state reader.old) (R.state reader.new) result
+    ensures reads { Reads (λ v. plain_list T.plain v.items) (R.state reader.old)
+        (R.state reader.new) result
         (value_at (read_content_at (R.state reader.old) (nested (rising T.shape)) header.tag)
         header.length.value) }
     ensures ascend { IfOk result (λ v. Ascends T.shape T.written v.items) }

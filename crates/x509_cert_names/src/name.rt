@@ -50,7 +50,8 @@ impl Name {
     /// # Errors
     /// Those of `RdnSequence::from_str`.
     pub fn from_str(alloc: Global, text: &str) -> Result<Name, Error>
-        ensures { GivesBy (λ n. n.rdn_sequence.relative_names.items) result (ReadsName Bound text.now) }
+        ensures { GivesBy (λ n. n.rdn_sequence.relative_names.items) result
+            (ReadsName Bound text.now) }
     {
         let rdn_sequence = RdnSequence::from_str(alloc, text)?;
         Ok(Name { rdn_sequence })
@@ -220,7 +221,8 @@ impl Name {
     /// # Errors
     /// `TagUnexpected` where it is no IA5String, or the first fault of its content.
     pub fn email_address(&self, alloc: Global) -> Result<Option<Ia5StringRef<'_>>, Error>
-        ensures { FirstGives (λ a r. GivesNow (λ t. t.text.now) r (leaf_as Ia5String (text ascii) a))
+        ensures { FirstGives
+            (λ a r. GivesNow (λ t. t.text.now) r (leaf_as Ia5String (text ascii) a))
             (first_value email_address (all_of (name_plain self.now))) result }
     {
         self.by_oid(alloc, types::email_address())

@@ -126,7 +126,8 @@ impl RdnSequence {
     /// # Errors
     /// Want of memory. The sequence stays then.
     pub fn push(&mut self, name: RelativeDistinguishedName) -> Result<(), AllocError>
-        ensures ok { OnOk result (self.new.relative_names.items ≡ self.old.relative_names.items ++ name
+        ensures ok { OnOk result (self.new.relative_names.items ≡ self.old.relative_names.items
+            ++ name
             ∷ []) }
         ensures err { OnErr result (self.new.relative_names.items ≡ self.old.relative_names.items) }
     {
@@ -230,7 +231,8 @@ fn write_next<W: fmt::Write>(
     name: &RelativeDistinguishedName,
     f: &mut fmt::Formatter<W>,
 ) -> fmt::Result
-    ensures { WritesOnOk W.write_str_gives f.old result (behind 44 relative_printed name.now) f.new }
+    ensures { WritesOnOk W.write_str_gives f.old result (behind 44 relative_printed name.now)
+        f.new }
 {
     write!(f, ",{name}")
 }

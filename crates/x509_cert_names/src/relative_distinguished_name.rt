@@ -11,12 +11,12 @@ ghost use Rattle.std.specs.List.Sorted.{IsPermutation};
 ghost use Rattle.const_oid.specs.Bound.{Bound};
 ghost use Rattle.der_core_head.specs.declared.tag.Tag.TheVariants.{Set};
 ghost use Rattle.der_core_head.specs.Shapes.{nested, rising};
-ghost use Rattle.der_types_sets.specs.Sets.{Ascends, IsRefusal, TooLong};
+ghost use Rattle.der_types_sets.specs.Sets.{AllValid, Ascends, IsRefusal, TooLong};
 ghost use Rattle.x509_cert_name_texts.specs.Answers.{GivesBy};
 ghost use Rattle.x509_cert_names.specs.NameTexts.{ReadsRelative, relative_printed, behind};
 ghost use Rattle.x509_cert_names.specs.ValueTexts.{attribute_printed};
 ghost use Rattle.x509_cert_names.specs.Names.{type_and_value};
-ghost use Rattle.x509_cert_names.specs.Ordered.{IsOrdered};
+ghost use Rattle.x509_cert_names.specs.Ordered.{DifferInTurn, IsOrdered};
 ghost use Rattle.x509_cert_names.specs.Pairs.{pair_plain, same_pair, same_pair_per};
 ghost use Rattle.x509_cert_names.specs.Pairs.{same_pair_equiv, pair_fed, pair_fed_alike};
 ghost use Rattle.x509_cert_names.specs.Pairs.{relative_plain};
@@ -25,8 +25,8 @@ use crate::attribute_type_and_value::AttributeTypeAndValue;
 use crate::members::{arrange, copy_of, decode_members};
 use crate::name_iter::RelativeNameIter;
 use der_core::{
-    ApartValue, AsReadValue, DecodeValue, EncodeValue, Error, ErrorKind, FixedTag, Header,
-    InRangeValue, Length, Reader, ShapedValue, StrictSetOf, Tag, ValueOrd, Writer,
+    ApartValue, AsReadValue, DecodeValue, Encode, EncodeValue, Error, ErrorKind, FixedTag, Header,
+    InRange, InRangeValue, Length, Reader, ShapedValue, StrictSetOf, Tag, ValueOrd, Writer,
 };
 use der_types_sets::making::place_of;
 use std::alloc::{AllocError, Global};
@@ -67,12 +67,27 @@ impl Model for RelativeDistinguishedName {
         × Ascends (type_and_value Bound) pair_plain r.attributes.values.items };
 }
 
-/// Whether no attribute stands twice.
-fn are_distinct(attributes: &[AttributeTypeAndValue]) -> bool
-    ensures { IsTrue result ↔ IsDistinct same_pair attributes.now }
+/// Each attribute has an encoding.
+///
+/// # Errors
+/// `Overflow` where one of them has 2^32 octets or more.
+fn have_encodings(attributes: &[AttributeTypeAndValue]) -> Result<(), Error>
+    ensures ok { IfOk result (λ _. AllValid (type_and_value Bound) pair_plain attributes.now) }
+    ensures refused { IfErr result (TooLong (type_and_value Bound) pair_plain attributes.now) }
 {
-    for end in 0..attributes.len() {
-        if attributes[..end].contains(&attributes[end]) {
+    for attribute in attributes {
+        attribute.in_range();
+        attribute.encoded_len()?;
+    }
+    Ok(())
+}
+
+/// Whether each attribute differs from the next one.
+fn are_apart(attributes: &[AttributeTypeAndValue]) -> bool
+    ensures { IsTrue result ↔ DifferInTurn attributes.now }
+{
+    for place in 1..attributes.len() {
+        if attributes[place - 1] == attributes[place] {
             return false;
         }
     }
@@ -134,7 +149,8 @@ impl RelativeDistinguishedName {
             ⊎ TooLong (type_and_value Bound) pair_plain attributes.items e) }
     {
         let values = arrange(attributes)?;
-        if !are_distinct(values.as_slice()) {
+        have_encodings(values.as_slice())?;
+        if !are_apart(values.as_slice()) {
             return Err(Error::from(ErrorKind::SetDuplicate));
         }
         Ok(RelativeDistinguishedName {
