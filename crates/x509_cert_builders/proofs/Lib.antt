@@ -1,8 +1,10 @@
 mod Encodable
+pub mod Faults
 mod Lists
 mod Modules
 mod NamingSteps
 mod ShortArcs
 mod SignedOctets
 mod Subjects
+mod TypesSteps
 mod UseSums

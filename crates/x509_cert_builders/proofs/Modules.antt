@@ -47,8 +47,4 @@ module_refused arcs version serial k same e = subst (λ a. module_name a serial 
 pub want_fails : {X : Type 0} (r : Result X ErrorKind) (e : Error) → IsWantOfMemory e → FailsAs r e
 want_fails r (errors.Asn1 e) h = λ other. absurd (other h)
 want_fails r (errors.Signature e) h = h
-want_fails r errors.NonUniqueRdn h = absurd h
-want_fails r errors.NonUniqueATV h = absurd h
-want_fails r (errors.InvalidAttribute t) h = absurd h
-want_fails r errors.MissingAttributes h = absurd h
-want_fails r errors.Unsupported h = absurd h
+want_fails r _ h = absurd h

@@ -1,16 +1,24 @@
--- The octets at the place of the signed part.
-use Rattle.std.proofs.Common.{◌≡◌, List, ℕ, Option, Some, None, true, take, drop, refl, sym, ap, ◌∙◌}
+-- Signed parts: whether they have an encoding, and the octets at their place.
+use Rattle.std.proofs.Common.{◌≡◌, List, [], ◌∷◌, ℕ, Bool, true, false, Option, Some, None, take, drop, refl, ap, ◌∙◌, subst, arith, inl, inr, lit<, lit≤}
+use Rattle.std.specs.Prelude.{pos, nat_lt, if◌then◌else◌}
+use Rattle.std.proofs.lemmas.Bool.{ltb-false}
 use Rattle.const_oid.specs.Bound.{Bound}
+use Rattle.const_oid.specs.Digits.{digits, digits_within}
+use Rattle.der_core_head.specs.Dates.{Civil, is_civil}
 use Rattle.der_core_head.specs.Grammar.{plain_option}
-use Rattle.der_core_head.specs.Shapes.{octets_of, body_octets, contents}
-use Rattle.x509_cert_extensions.specs.Certificates.{PlainCertificate, Tbs, certificate_by, certificate_octets, raw_tbs_certificate, signed_length, signed_start, tbs, tbs_by, tbs_certificate}
-use Rattle.x509_cert_extensions.specs.Parts.{algorithm_plain, extensions_plain}
-use Rattle.x509_cert_builders.specs.SignedParts.{PlainFields, part_octets, signed_part}
-use Rattle.x509_cert_builders.specs.States.{CertificateState, finalized_plain, octets_in_place}
+use Rattle.der_core_head.specs.Heads.{tlv, head_octets, length_octets}
+use Rattle.der_core_head.specs.Integers.{integer_octets}
+use Rattle.der_core_head.specs.Ranges.{IsInRange}
+use Rattle.der_core_head.specs.Shapes.{IsBody, IsContent, IsValid, Shape, Value, body_octets, contents, explicit, octets_of, defaulted}
+use Rattle.der_core_head.specs.Tags.{tag_octets}
+use Rattle.x509_cert_extensions.specs.Certificates.{PlainCertificate, Tbs, certificate_octets, raw_tbs_certificate, signed_length, signed_start, tbs, tbs_certificate, tbs_validity}
+use Rattle.x509_cert_extensions.specs.Parts.{Algorithm, PlainExtension, PlainTime, algorithm_plain, extensions_plain, false_by_default, time, version}
+use Rattle.x509_cert_builders.specs.SignedParts.{IsPartInRange, PlainFields, has_any, part_shape, signed_part, validity, version_of, written_part}
+use Rattle.x509_cert_builders.specs.States.{as_written, finalized_plain, octets_in_place}
 use Rattle.x509_cert_builders.specs.declared.certificate_builder.Finalized.{Finalized}
 
--- they don't depend on the profile by which serial numbers are read
-raw_octets : (t : Tbs) → octets_of (raw_tbs_certificate Bound) t ≡ octets_of (tbs_certificate Bound (Some 21)) t
+-- the octets don't depend on the profile by which serial numbers are read
+pub raw_octets : (t : Tbs) → octets_of (tbs_certificate Bound (Some 21)) t ≡ octets_of part_shape t
 unfolding octets_of body_octets contents
 raw_octets t = refl
 
@@ -20,18 +28,61 @@ StandsInPlace =
     (bound : ℕ) (c : PlainCertificate)
     → take (signed_length bound c) (drop (signed_start bound c) (certificate_octets bound c)) ≡ octets_of (raw_tbs_certificate bound) (tbs c)
 
-in_place : StandsInPlace → (c : PlainCertificate) → octets_in_place c ≡ part_octets (tbs c)
-in_place law c = law Bound (certificate_by true c) ∙ raw_octets (tbs_by true (tbs c))
+pub in_place : StandsInPlace → (c : PlainCertificate) → octets_in_place c ≡ octets_of part_shape (tbs (as_written c))
+in_place law c = law Bound (as_written c)
 
 -- the part that was made last stands in a certificate into which it was put back
-pub put_in_place : StandsInPlace → (o : Option Finalized) (f : PlainFields) (c : PlainCertificate)
-    → plain_option (λ l. signed_part f (algorithm_plain l.algorithm) (extensions_plain l.extensions.items)) o ≡ Some (tbs c)
-    → plain_option (λ l. l.1) (plain_option (finalized_plain f) o) ≡ Some (octets_in_place c)
-put_in_place law None f c e = absurd cc
-put_in_place law (Some l) f c e =
-    let whole : signed_part f (algorithm_plain l.algorithm) (extensions_plain l.extensions.items) ≡ tbs c = cc in
-    ap Some (sym (in_place law c ∙ ap part_octets (sym whole)))
+pub put_back : (o : Option Finalized) (f : PlainFields) (t : Tbs)
+    → plain_option (λ l. signed_part f (algorithm_plain l.algorithm) (extensions_plain l.extensions.items)) o ≡ Some t
+    → plain_option written_part (plain_option (finalized_plain f) o) ≡ Some (written_part t)
+put_back None f t e = absurd cc
+put_back (Some l) f t e =
+    let whole : signed_part f (algorithm_plain l.algorithm) (extensions_plain l.extensions.items) ≡ t = cc in
+    ap (λ (u : Tbs). Some (written_part u)) whole
 
--- two states that are the same have finalized the same octets
-pub last_octets : {P : Type 0} (s t : CertificateState P) → s ≡ t → plain_option (λ f. f.1) t.finalized ≡ plain_option (λ f. f.1) s.finalized
-last_octets {P} s t e = ap (λ (x : CertificateState P). plain_option (λ f. f.1) x.finalized) (sym e)
+-- a flag, and a version
+pub flag_in_range : (critical : Bool) → IsInRange false_by_default critical
+unfolding IsValid IsContent contents tlv head_octets length_octets tag_octets
+flag_in_range true = ((tt, omega arith), λ _. (tt, omega arith, lit< tt))
+flag_in_range false = ((tt, omega arith), λ _. (tt, omega arith, lit< tt))
+
+version_in_range : (third : Bool) → IsInRange (defaulted (explicit 0 version) (160 ∷ 3 ∷ 2 ∷ 1 ∷ 0 ∷ [])) (version_of third)
+unfolding IsValid IsContent IsBody octets_of contents body_octets tlv head_octets length_octets tag_octets integer_octets digits digits_within
+version_in_range true = ((((2, lit< tt, refl), omega arith), omega arith), λ _. (((2, lit< tt, refl), omega arith, lit< tt), omega arith, lit< tt))
+version_in_range false = ((((0, lit< tt, refl), omega arith), omega arith), λ _. (((0, lit< tt, refl), omega arith, lit< tt), omega arith, lit< tt))
+
+-- a date of a part, and the same as it is written
+spelling_in_range : (c : Civil) (b : Bool) → nat_lt 2049 c.year ≡ b → is_civil c ≡ true → IsInRange time (if b then inr c else inl c)
+spelling_in_range c true e h = (h, omega arith)
+spelling_in_range c false e h = (record { civil = h; year = ltb-false 2049 c.year e }, omega arith)
+
+abbrev with_dates : Tbs → PlainTime → PlainTime → Tbs
+with_dates t a b = (t.0, (t.1.0, (t.1.1.0, (t.1.1.1.0, ((a, (b, tt)), t.1.1.1.1.1)))))
+
+first_in_range : (t : Tbs) (a b : PlainTime) → IsInRange time a → IsInRange time (tbs_validity (written_part (with_dates t a b))).0
+first_in_range t (inl c) b h = h
+first_in_range t (inr c) b h = spelling_in_range c (nat_lt 2049 c.year) refl h.0
+
+last_in_range : (t : Tbs) (a b : PlainTime) → IsInRange time b → IsInRange time (tbs_validity (written_part (with_dates t a b))).1.0
+last_in_range t a (inl c) h = h
+last_in_range t a (inr c) h = spelling_in_range c (nat_lt 2049 c.year) refl h.0
+
+-- a part whose parts are in their ranges is so as it is written
+written_in_range : (f : PlainFields) (a : Algorithm) (es : List PlainExtension) → IsPartInRange (signed_part f a es) → IsInRange part_shape (written_part (signed_part f a es))
+written_in_range f a es h =
+    let t = signed_part f a es in
+    let first = first_in_range t f.validity.0 f.validity.1.0 h.dates.0.0 in
+    let last = last_in_range t f.validity.0 f.validity.1.0 h.dates.0.1.0 in (
+      (
+        version_in_range (has_any es),
+        ((tt, omega arith), (h.algorithm, (h.issuer, (((first, (last, tt)), omega arith), (h.subject, (h.key, (tt, (tt, (h.extensions, tt))))))))),
+      ),
+      omega arith,
+    )
+
+-- so it has an encoding where it was written
+pub made_valid : (f : PlainFields) (a : Algorithm) (es : List PlainExtension) (t : Tbs) → t ≡ signed_part f a es → IsPartInRange t
+    → (IsInRange part_shape (written_part t) → IsValid part_shape (written_part t)) → IsValid part_shape (written_part (signed_part f a es))
+made_valid f a es t e h valid =
+    let here : IsPartInRange (signed_part f a es) = subst IsPartInRange e h in
+    subst (λ (u : Tbs). IsInRange part_shape (written_part u) → IsValid part_shape (written_part u)) e valid (written_in_range f a es here)

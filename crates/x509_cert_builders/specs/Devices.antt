@@ -1,7 +1,6 @@
 -- Devices that have an identity of their own (IEEE 802.1AR 8).
-use Rattle.std.specs.Prelude.{ℕ, List, [], ◌∷◌, length, ◌==◌, Bool, true, false, Option, Some, None}
-use Rattle.std.specs.Prelude.{Result, Ok, Err, if◌then◌else◌}
-use Rattle.std.specs.List.{list_any}
+use Rattle.std.specs.Prelude.{⊤, ℕ, List, [], ◌∷◌, length, ◌==◌, Bool, false, Option, Some, None}
+use Rattle.std.specs.Prelude.{Result, Ok, Err, IsOk, if◌then◌else◌}
 use Rattle.std.proofs.Common.{inl, inr}
 use Rattle.const_oid.specs.Bound.{Bound}
 use Rattle.const_oid.specs.Comparing.{owned_eq}
@@ -35,12 +34,6 @@ abbrev pub is_of_module : PlainGeneralName → Bool
 is_of_module (inl n) = owned_eq n.0 module_arcs
 is_of_module (inr n) = false
 
--- whether a device may have these alternative names: where there are any, one is that of a module
--- (IEEE 802.1AR 8.10.4)
-abbrev pub may_name : Option (List PlainGeneralName) → Bool
-may_name None = true
-may_name (Some names) = list_any is_of_module names
-
 abbrev pub PlainModule : Type 0
 PlainModule = BodyValue (hardware_module_name_fields 0)
 
@@ -54,10 +47,16 @@ abbrev pub first_module : List PlainGeneralName → Result PlainModule ErrorKind
 first_module [] = Err kinds.Failed
 first_module (n ∷ more) = if is_of_module n then module_of n else first_module more
 
--- the first name of a module holds none, for this reason; or want of memory
-abbrev pub IsFaulty : Option (List PlainGeneralName) → Error → Type 0
-IsFaulty None e = ⊥
-IsFaulty (Some names) e = FailsAs (first_module names) e
+-- a device may have these alternative names: where there are any, the first that is one of a module
+-- holds one (IEEE 802.1AR 8.10.4)
+abbrev pub MayHave : Option (List PlainGeneralName) → Type 0
+MayHave None = ⊤
+MayHave (Some names) = IsOk (first_module names)
+
+-- why it may not; or want of memory
+abbrev pub MayNotHave : Option (List PlainGeneralName) → Error → Type 0
+MayNotHave None e = ⊥
+MayNotHave (Some names) e = FailsAs (first_module names) e
 
 -- the name of a module of this type and this serial number, if a length can count its octets
 abbrev pub module_name : List ℕ → List ℕ → Result PlainGeneralName ErrorKind

@@ -5,6 +5,7 @@ pub mod Refusals
 pub mod SignedParts
 pub mod States
 pub mod Subscribers
+pub mod TypeSets
 pub use Rattle.x509_cert_extensions.specs.Parts
 pub use Rattle.x509_cert_extensions.specs.Certificates
 pub use Rattle.x509_cert_extensions.specs.CertificateViews

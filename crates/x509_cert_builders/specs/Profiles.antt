@@ -1,6 +1,6 @@
 -- The extensions that profiles add (RFC 5280 4.2; CA/Browser Forum, Baseline Requirements 7.1.2).
-use Rattle.std.specs.Prelude.{◌≡◌, ⊤, ℕ, ℤ, ◌+◌, ◌^◌, List, [], ◌∷◌, Bool, true, false, ◌&&◌}
-use Rattle.std.specs.Prelude.{Option, Some, None, if◌then◌else◌}
+use Rattle.std.specs.Prelude.{ℕ, ℤ, ◌+◌, ◌^◌, List, [], ◌∷◌, Bool, true, false, ◌&&◌, Option, Some}
+use Rattle.std.specs.Prelude.{None, if◌then◌else◌}
 use Rattle.const_oid.specs.Bound.{Bound}
 use Rattle.const_oid.specs.Comparing.{owned_eq}
 use Rattle.der_core_head.specs.declared.tag.Tag.TheVariants as tags
@@ -16,11 +16,6 @@ use Rattle.x509_cert_extensions.specs.Policies.{basic_constraints_fields}
 -- the identifier of a key: the SHA-1 digest of its octets (4.2.1.2, method 1)
 abbrev pub key_identifier : PublicKey → List ℕ
 key_identifier k = sha1 (key_bits k).octets
-
--- what is known of a key's identifier, if anything is, is its identifier
-abbrev pub Identifies : Option (List ℕ) → PublicKey → Type 0
-Identifies None k = ⊤
-Identifies (Some identifier) k = identifier ≡ key_identifier k
 
 -- an extension of the arc id-ce, whose content is the encoding of a value
 abbrev pub standard_extension : ℕ → Bool → (s : Shape) → Value s → PlainExtension

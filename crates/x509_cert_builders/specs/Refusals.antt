@@ -1,9 +1,11 @@
 -- Why builders refuse.
-use Rattle.std.specs.Prelude.{◌≡◌, Result}
+use Rattle.std.specs.Prelude.{◌≡◌, [], false, None, Result, Err}
 use Rattle.der_core_head.specs.declared.error.Error.{Error as DerError}
 use Rattle.der_core_head.specs.declared.error.ErrorKind.{ErrorKind}
 use Rattle.der_core_head.specs.declared.error.ErrorKind.TheVariants as kinds
 use Rattle.der_core_head.specs.Reading.{Fails}
+use Rattle.der_core_head.specs.Shapes.{IsValid, Shape, Value}
+use Rattle.der_core_head.specs.Writing.{write}
 use Rattle.x509_cert_builders.specs.declared.error.Error.{Error}
 use Rattle.x509_cert_builders.specs.declared.error.Error.TheVariants as errors
 use Rattle.x509_cert_builders.specs.declared.sign_error.SignError.TheVariants as signers
@@ -12,35 +14,36 @@ use Rattle.x509_cert_builders.specs.declared.sign_error.SignError.TheVariants as
 abbrev pub IsWantOfMemory : Error → Type 0
 IsWantOfMemory (errors.Asn1 e) = e.kind ≡ kinds.OutOfMemory
 IsWantOfMemory (errors.Signature e) = e ≡ signers.OutOfMemory
-IsWantOfMemory errors.NonUniqueRdn = ⊥
-IsWantOfMemory errors.NonUniqueATV = ⊥
-IsWantOfMemory (errors.InvalidAttribute t) = ⊥
-IsWantOfMemory errors.MissingAttributes = ⊥
-IsWantOfMemory errors.Unsupported = ⊥
+IsWantOfMemory _ = ⊥
 
 -- what becomes of want of memory, where this is what becomes of a fault in DER
 abbrev pub IsWantOfMemoryAs : {E : Type 0} → (DerError → E → Type 0) → E → Type 0
 IsWantOfMemoryAs becomes e = (w : DerError) × (w.kind ≡ kinds.OutOfMemory) × becomes w e
 
+-- a fault in DER of this kind
+abbrev pub IsOfKind : ErrorKind → Error → Type 0
+IsOfKind kind (errors.Asn1 e) = e.kind ≡ kind
+IsOfKind kind _ = ⊥
+
 -- a fault that has no kind of its own
 abbrev pub IsFailed : Error → Type 0
-IsFailed (errors.Asn1 e) = e.kind ≡ kinds.Failed
-IsFailed (errors.Signature e) = ⊥
-IsFailed errors.NonUniqueRdn = ⊥
-IsFailed errors.NonUniqueATV = ⊥
-IsFailed (errors.InvalidAttribute t) = ⊥
-IsFailed errors.MissingAttributes = ⊥
-IsFailed errors.Unsupported = ⊥
+IsFailed e = IsOfKind kinds.Failed e
 
 -- why this is none, or want of memory
 abbrev pub FailsAs : {X : Type 0} → Result X ErrorKind → Error → Type 0
 FailsAs r (errors.Asn1 e) = Fails e.kind r
 FailsAs r (errors.Signature e) = e ≡ signers.OutOfMemory
-FailsAs r errors.NonUniqueRdn = ⊥
-FailsAs r errors.NonUniqueATV = ⊥
-FailsAs r (errors.InvalidAttribute t) = ⊥
-FailsAs r errors.MissingAttributes = ⊥
-FailsAs r errors.Unsupported = ⊥
+FailsAs r _ = ⊥
+
+-- A value has no encoding, as where a length passes 2^32 - 1, and this is the first fault in
+-- writing it.
+pub record HasNoEncoding (s : Shape) (v : Value s) (kind : ErrorKind) : Type 0 where
+  pub invalid : IsValid s v → ⊥
+  pub fault : write s v (record { written = []; room = None; failed = false }) ≡ Err kind
+
+abbrev pub IsUnwritten : (s : Shape) → Value s → Error → Type 0
+IsUnwritten s v (errors.Asn1 e) = HasNoEncoding s v e.kind
+IsUnwritten s v _ = ⊥
 
 -- the signer refuses
 abbrev pub is_refused : Error

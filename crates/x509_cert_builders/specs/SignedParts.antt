@@ -2,14 +2,21 @@
 use Rattle.std.specs.Prelude.{ℕ, ℤ, pos, List, [], ◌∷◌, Bool, true, false, Option, Some, None}
 use Rattle.std.specs.Prelude.{if◌then◌else◌}
 use Rattle.const_oid.specs.Bound.{Bound}
-use Rattle.der_core_head.specs.Shapes.{BodyValue, field, done, octets_of, IsValid}
-use Rattle.x509_cert_extensions.specs.Certificates.{Tbs, tbs_certificate, tbs_by, tbs_issuer}
-use Rattle.x509_cert_extensions.specs.Certificates.{tbs_validity, tbs_subject, tbs_public_key}
-use Rattle.x509_cert_extensions.specs.Parts.{Algorithm, PublicKey, PlainExtension, PlainName, time}
+use Rattle.der_core_head.specs.Ranges.{IsInRange}
+use Rattle.der_core_head.specs.Shapes.{Shape, Value, field, done, explicit, optional, sequence}
+use Rattle.x509_cert_extensions.specs.Certificates.{Tbs, raw_tbs_certificate, tbs_by}
+use Rattle.x509_cert_extensions.specs.Certificates.{tbs_inner_algorithm, tbs_issuer, tbs_validity}
+use Rattle.x509_cert_extensions.specs.Certificates.{tbs_subject, tbs_public_key}
+use Rattle.x509_cert_extensions.specs.Parts.{Algorithm, PublicKey, PlainExtension, PlainName}
+use Rattle.x509_cert_extensions.specs.Parts.{algorithm_identifier, extensions, name}
+use Rattle.x509_cert_extensions.specs.Parts.{public_key_info, time}
 
 -- two dates, each with its spelling (4.1.2.5)
+abbrev pub validity : Shape
+validity = sequence (field time (field time done))
+
 abbrev pub PlainDates : Type 0
-PlainDates = BodyValue (field time (field time done))
+PlainDates = Value validity
 
 -- what is settled of a certificate before it is signed
 pub record PlainFields : Type 0 where
@@ -68,16 +75,24 @@ extensions_in t = unlisted t.1.1.1.1.1.1.1.1.1.0
 abbrev pub signed_part : PlainFields → Algorithm → List PlainExtension → Tbs
 signed_part f a extensions = tbs_of (has_any extensions) f a (listed extensions)
 
--- the octets of a part, with dates as RFC 5280 has them
-abbrev pub part_octets : Tbs → List ℕ
-part_octets t = octets_of (tbs_certificate Bound (Some 21)) (tbs_by true t)
+-- the shape of a part, whatever serial numbers are read
+abbrev pub part_shape : Shape
+part_shape = raw_tbs_certificate Bound
 
--- a part has no encoding, as where a length passes 2^32 - 1
-abbrev pub IsUnwritable : Tbs → Type 0
-IsUnwritable t = IsValid (tbs_certificate Bound (Some 21)) (tbs_by true t) → ⊥
+-- a part as it is written, with dates as RFC 5280 has them
+abbrev pub written_part : Tbs → Tbs
+written_part t = tbs_by true t
 
-abbrev pub signed_octets : PlainFields → Algorithm → List PlainExtension → List ℕ
-signed_octets f a extensions = part_octets (signed_part f a extensions)
+-- the field of extensions in a part
+abbrev pub extensions_field : Shape
+extensions_field = optional (explicit 3 (extensions Bound))
 
-abbrev pub HasNoOctets : PlainFields → Algorithm → List PlainExtension → Type 0
-HasNoOctets f a extensions = IsUnwritable (signed_part f a extensions)
+-- The parts of a part are in their ranges; of version, serial number and unique identifiers nothing
+-- is said.
+pub record IsPartInRange (t : Tbs) : Type 0 where
+  pub algorithm : IsInRange (algorithm_identifier Bound) (tbs_inner_algorithm t)
+  pub issuer : IsInRange (name Bound) (tbs_issuer t)
+  pub dates : IsInRange validity (tbs_validity t)
+  pub subject : IsInRange (name Bound) (tbs_subject t)
+  pub key : IsInRange (public_key_info Bound) (tbs_public_key t)
+  pub extensions : IsInRange extensions_field t.1.1.1.1.1.1.1.1.1.0

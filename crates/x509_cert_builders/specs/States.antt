@@ -1,27 +1,29 @@
 -- What contracts see of builders, and of what they make.
-use Rattle.std.specs.Prelude.{ℕ, List, take, drop, Option, Some, None, true}
+use Rattle.std.specs.Prelude.{ℕ, List, ◌++◌, take, drop, Option, Some, None, true}
 use Rattle.const_oid.specs.Bound.{Bound}
 use Rattle.der_core_head.specs.Grammar.{plain_option}
-use Rattle.x509_cert_extensions.specs.Certificates.{PlainCertificate, certificate_by}
+use Rattle.x509_cert_extensions.specs.Certificates.{PlainCertificate, Tbs, certificate_by}
 use Rattle.x509_cert_extensions.specs.Certificates.{certificate_octets, signed_start, signed_length}
+use Rattle.x509_cert_extensions.specs.Certificates.{tbs_inner_algorithm}
 use Rattle.x509_cert_extensions.specs.CertificateViews.{tbs_plain}
-use Rattle.x509_cert_extensions.specs.Parts.{Algorithm, PlainExtension, algorithm_plain}
+use Rattle.x509_cert_extensions.specs.Parts.{Algorithm, PlainExtension, PublicKey, algorithm_plain}
 use Rattle.x509_cert_extensions.specs.Parts.{extensions_plain}
-use Rattle.x509_cert_builders.specs.SignedParts.{PlainFields, fields_of, signed_octets}
+use Rattle.x509_cert_builders.specs.SignedParts.{PlainFields, bare_part, fields_of, signed_part}
+use Rattle.x509_cert_builders.specs.SignedParts.{written_part}
 use Rattle.x509_cert_builders.specs.declared.certificate_builder.CertificateBuilder.TheInside.{Inside}
 use Rattle.x509_cert_builders.specs.declared.certificate_builder.Finalized.{Finalized}
 
 -- a builder of certificates: its profile, what is settled, the extensions that were added, and the
--- algorithm and the octets of the part that was made last, if there is one
+-- part that was made last, if there is one
 pub record CertificateState (P : Type 0) : Type 0 where
   pub profile : P
   pub fields : PlainFields
   pub added : List PlainExtension
-  pub finalized : Option (Algorithm × List ℕ)
+  pub finalized : Option Tbs
 
-abbrev pub finalized_plain : PlainFields → Finalized → Algorithm × List ℕ
-finalized_plain f p = let a = algorithm_plain p.algorithm in
-    (a, signed_octets f a (extensions_plain p.extensions.items))
+abbrev pub finalized_plain : PlainFields → Finalized → Tbs
+finalized_plain f p =
+    signed_part f (algorithm_plain p.algorithm) (extensions_plain p.extensions.items)
 
 abbrev pub certificate_state : {P : Type 0} → Inside P → CertificateState P
 certificate_state b =
@@ -33,13 +35,26 @@ certificate_state b =
       finalized = plain_option (finalized_plain f) b.finalized;
     }
 
+-- the part that a signer of a key and an algorithm signs, where a profile gives these extensions,
+-- as it is written
+abbrev pub part_for : {P : Type 0} → (P → PublicKey → PublicKey → Tbs → List PlainExtension)
+    → CertificateState P → PublicKey → Algorithm → Tbs
+part_for extensions b key a =
+    written_part
+    (signed_part b.fields a
+    (b.added ++ extensions b.profile b.fields.key key (bare_part b.fields a)))
+
 -- the algorithm of the part that was made last, or where there is none this one
-abbrev pub algorithm_of_last : Option (Algorithm × List ℕ) → Algorithm → Algorithm
+abbrev pub algorithm_of_last : Option Tbs → Algorithm → Algorithm
 algorithm_of_last None a = a
-algorithm_of_last (Some f) a = f.0
+algorithm_of_last (Some t) a = tbs_inner_algorithm t
+
+-- a certificate, as it is written
+abbrev pub as_written : PlainCertificate → PlainCertificate
+as_written c = certificate_by true c
 
 -- the octets at the place of the signed part in what is written of a certificate
 abbrev pub octets_in_place : PlainCertificate → List ℕ
 octets_in_place c =
-    let w = certificate_by true c in
+    let w = as_written c in
     take (signed_length Bound w) (drop (signed_start Bound w) (certificate_octets Bound w))

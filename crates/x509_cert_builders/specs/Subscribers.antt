@@ -1,24 +1,20 @@
 -- Subscribers (CA/Browser Forum, Baseline Requirements 7.1.2.7).
-use Rattle.std.specs.Prelude.{⊤, List, [], ◌∷◌, Bool, true, false, if◌then◌else◌}
+use Rattle.std.specs.Prelude.{⊤, List, [], ◌∷◌, Bool, true, false, Result, Ok, Err, if◌then◌else◌}
 use Rattle.std.specs.List.{list_all}
 use Rattle.std.specs.List.Sorted.{IsPermutation}
 use Rattle.x509_cert_extensions.specs.Parts.{PlainName, name_plain}
 use Rattle.x509_cert_builders.specs.Naming.{TypeAndValue, common_name, country, is_among}
 use Rattle.x509_cert_builders.specs.declared.certificate_type.CertificateType.{CertificateType}
+use Rattle.x509_cert_builders.specs.declared.error.Error.{Error}
+use Rattle.x509_cert_builders.specs.declared.error.Error.TheVariants as errors
 use Rattle.x509_cert_builders.specs.declared.certificate_type.CertificateType.TheVariants as types
 
--- the subject of a kind of subscriber; other kinds than the first have none
-abbrev pub type_subject : CertificateType → PlainName
-type_subject (types.DomainValidated v) = name_plain v.subject
-type_subject types.IndividualValidated = []
-type_subject types.OrganizationValidated = []
-type_subject types.ExtendedValidation = []
-
-abbrev pub is_domain_validated : CertificateType → Bool
-is_domain_validated (types.DomainValidated v) = true
-is_domain_validated types.IndividualValidated = false
-is_domain_validated types.OrganizationValidated = false
-is_domain_validated types.ExtendedValidation = false
+-- the subject of a kind of subscriber; other kinds than the first aren't made
+abbrev pub type_subject : CertificateType → Result PlainName Error
+type_subject (types.DomainValidated v) = Ok (name_plain v.subject)
+type_subject types.IndividualValidated = Err errors.Unsupported
+type_subject types.OrganizationValidated = Err errors.Unsupported
+type_subject types.ExtendedValidation = Err errors.Unsupported
 
 -- whether the subject of a subscriber whose domains were validated may have an attribute: it is a
 -- country or a common name (7.1.2.7.2)

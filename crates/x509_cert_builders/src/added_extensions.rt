@@ -5,10 +5,10 @@ ghost use Rattle.std.specs.Prelude.{IfErr};
 ghost use Rattle.der_core_head.specs.Grammar.{plain_option};
 ghost use Rattle.der_core_head.specs.Shapes.{IsValid};
 ghost use Rattle.x509_cert_extensions.specs.Parts.{extensions_plain, name_plain};
-ghost use Rattle.x509_cert_builders.specs.Profiles.{Identifies, authority_key_extension};
-ghost use Rattle.x509_cert_builders.specs.Profiles.{constraints_extension, key_identifier};
-ghost use Rattle.x509_cert_builders.specs.Profiles.{purposes_extension, standard_extension};
-ghost use Rattle.x509_cert_builders.specs.Profiles.{subject_key_extension, usage_extension};
+ghost use Rattle.x509_cert_builders.specs.Profiles.{authority_key_extension, constraints_extension};
+ghost use Rattle.x509_cert_builders.specs.Profiles.{key_identifier, purposes_extension};
+ghost use Rattle.x509_cert_builders.specs.Profiles.{standard_extension, subject_key_extension};
+ghost use Rattle.x509_cert_builders.specs.Profiles.{usage_extension};
 ghost use Rattle.x509_cert_builders.specs.Refusals.{IsWantOfMemory};
 
 use crate::error::Error;
@@ -16,9 +16,7 @@ use crate::identifiers::standard;
 use crate::uses::purposes_of;
 use der_core::{Encode, Fields};
 use std::alloc::Global;
-use x509_cert_extensions::certificates::{
-    Extension, Extensions, Name, OctetString, SubjectPublicKeyInfoRef,
-};
+use x509_cert_extensions::certificates::{Extension, Extensions, Name, SubjectPublicKeyInfoRef};
 use x509_cert_extensions::general_names::AuthorityKeyIdentifier;
 use x509_cert_extensions::policies::BasicConstraints;
 use x509_cert_extensions::{Criticality, KeyUsage, SubjectKeyIdentifier, ToExtension, TryFromKey};
@@ -33,7 +31,8 @@ pub(crate) fn add<T: Encode + Criticality>(
     value: &T,
 ) -> Result<(), Error>
     requires { number < 128 }
-    ensures added { OnOk result (extensions_plain extensions.new.items ≡ extensions_plain extensions.old.items
+    ensures added { OnOk result (extensions_plain extensions.new.items
+        ≡ extensions_plain extensions.old.items
         ++ standard_extension number
         (T.is_critical value.now (name_plain subject.now)
         (extensions_plain extensions.old.items)) T.shape (T.written value.now) ∷ []) }
@@ -46,7 +45,7 @@ pub(crate) fn add<T: Encode + Criticality>(
 }
 
 /// The identifier of a key: the digest of its octets (RFC 5280 4.2.1.2, method 1).
-pub(crate) fn identifier_of<'a>(
+fn identifier_of<'a>(
     alloc: Global,
     key: &SubjectPublicKeyInfoRef<'a>,
 ) -> Result<SubjectKeyIdentifier, Error>
@@ -58,45 +57,23 @@ pub(crate) fn identifier_of<'a>(
     Ok(identifier)
 }
 
-/// A copy of the identifier of a key, where it is known, or its digest.
-fn identifier_for<'a>(
-    alloc: Global,
-    key: &SubjectPublicKeyInfoRef<'a>,
-    known: Option<&SubjectKeyIdentifier>,
-) -> Result<OctetString, Error>
-    requires { Identifies (plain_option (λ i. i.now.0) known)
-        (⟦<SubjectPublicKeyInfoRef<'a> as Fields>⟧.fields_plain key.now) }
-    ensures identifier { IfOk result
-        (λ i. i ≡ key_identifier (⟦<SubjectPublicKeyInfoRef<'a> as Fields>⟧.fields_plain key.now)) }
-    ensures refused { IfErr result IsWantOfMemory }
-{
-    let Some(known) = known else {
-        let digested = identifier_of(alloc, key)?;
-        return Ok(digested.0);
-    };
-    let copy = known.0.clone(alloc)?;
-    Ok(copy)
-}
-
-/// Adds the identifier of the key by which a certificate is signed (4.2.1.1), which may be known.
+/// Adds the identifier of the key by which a certificate is signed (4.2.1.1).
 #[tactic(auto, using(crate::proofs::Encodable::authority_valid, crate::proofs::Encodable::is_digest))]
 pub(crate) fn add_authority<'a>(
     alloc: Global,
     extensions: &mut Extensions,
     subject: &Name,
     key: &SubjectPublicKeyInfoRef<'a>,
-    known: Option<&SubjectKeyIdentifier>,
 ) -> Result<(), Error>
-    requires { Identifies (plain_option (λ i. i.now.0) known)
-        (⟦<SubjectPublicKeyInfoRef<'a> as Fields>⟧.fields_plain key.now) }
-    ensures added { OnOk result (extensions_plain extensions.new.items ≡ extensions_plain extensions.old.items
+    ensures added { OnOk result (extensions_plain extensions.new.items
+        ≡ extensions_plain extensions.old.items
         ++ authority_key_extension (⟦<SubjectPublicKeyInfoRef<'a> as Fields>⟧.fields_plain key.now)
         ∷ []) }
     ensures refused { IfErr result IsWantOfMemory }
 {
-    let identifier = identifier_for(alloc, key, known)?;
+    let identifier = identifier_of(alloc, key)?;
     let authority = AuthorityKeyIdentifier {
-        key_identifier: Some(identifier),
+        key_identifier: Some(identifier.0),
         authority_cert_issuer: None,
         authority_cert_serial_number: None,
     };
@@ -104,28 +81,22 @@ pub(crate) fn add_authority<'a>(
     Ok(())
 }
 
-/// Adds the identifier of the certified key (4.2.1.2), which may be known.
+/// Adds the identifier of the certified key (4.2.1.2).
 #[tactic(auto, using(crate::proofs::Encodable::identifier_valid, crate::proofs::Encodable::is_digest))]
 pub(crate) fn add_identifier<'a>(
     alloc: Global,
     extensions: &mut Extensions,
     subject: &Name,
     key: &SubjectPublicKeyInfoRef<'a>,
-    known: Option<&SubjectKeyIdentifier>,
 ) -> Result<(), Error>
-    requires { Identifies (plain_option (λ i. i.now.0) known)
-        (⟦<SubjectPublicKeyInfoRef<'a> as Fields>⟧.fields_plain key.now) }
-    ensures added { OnOk result (extensions_plain extensions.new.items ≡ extensions_plain extensions.old.items
+    ensures added { OnOk result (extensions_plain extensions.new.items
+        ≡ extensions_plain extensions.old.items
         ++ subject_key_extension (⟦<SubjectPublicKeyInfoRef<'a> as Fields>⟧.fields_plain key.now)
         ∷ []) }
     ensures refused { IfErr result IsWantOfMemory }
 {
-    let Some(known) = known else {
-        let digested = identifier_of(alloc, key)?;
-        add(alloc, extensions, subject, 14, &digested)?;
-        return Ok(());
-    };
-    add(alloc, extensions, subject, 14, known)?;
+    let identifier = identifier_of(alloc, key)?;
+    add(alloc, extensions, subject, 14, &identifier)?;
     Ok(())
 }
 
@@ -138,7 +109,8 @@ pub(crate) fn add_constraints(
     ca: bool,
     path_len_constraint: Option<u8>,
 ) -> Result<(), Error>
-    ensures added { OnOk result (extensions_plain extensions.new.items ≡ extensions_plain extensions.old.items
+    ensures added { OnOk result (extensions_plain extensions.new.items
+        ≡ extensions_plain extensions.old.items
         ++ constraints_extension ca (plain_option (λ n. pos n) path_len_constraint) ∷ []) }
     ensures refused { IfErr result IsWantOfMemory }
 {
@@ -158,7 +130,8 @@ pub(crate) fn add_usage(
     subject: &Name,
     usage: KeyUsage,
 ) -> Result<(), Error>
-    ensures added { OnOk result (extensions_plain extensions.new.items ≡ extensions_plain extensions.old.items
+    ensures added { OnOk result (extensions_plain extensions.new.items
+        ≡ extensions_plain extensions.old.items
         ++ usage_extension usage.0.flags.0 ∷ []) }
     ensures refused { IfErr result IsWantOfMemory }
 {
@@ -174,7 +147,8 @@ pub(crate) fn add_purposes(
     subject: &Name,
     clients: bool,
 ) -> Result<(), Error>
-    ensures added { OnOk result (extensions_plain extensions.new.items ≡ extensions_plain extensions.old.items
+    ensures added { OnOk result (extensions_plain extensions.new.items
+        ≡ extensions_plain extensions.old.items
         ++ purposes_extension clients ∷ []) }
     ensures refused { IfErr result IsWantOfMemory }
 {

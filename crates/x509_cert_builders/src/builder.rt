@@ -11,6 +11,7 @@ use x509_cert_extensions::certificates::BitString;
 pub trait Builder: Sized + Drop {
     ghost use Rattle.std.specs.Prelude.{◌≡◌, ◌⊎◌, ℕ, List, Option, Some, None, IfOk, IfErr};
     ghost use Rattle.der_core_head.specs.BitStrings.{Bits};
+    ghost use Rattle.der_core_head.specs.Shapes.{Shape, Value, octets_of};
     ghost use Rattle.x509_cert_extensions.specs.Parts.{Algorithm, PublicKey};
     ghost use Rattle.x509_cert_builders.specs.Refusals.{IsFailed, IsWantOfMemory, is_refused};
     ghost use Rattle.x509_cert_builders.specs.declared.error.Error.{Error};
@@ -18,21 +19,29 @@ pub trait Builder: Sized + Drop {
     /// What is made.
     type Output;
 
-    /// The octets that are to be signed, by the state of the builder and a signer's key and
-    /// algorithm.
-    ghost to_sign: { Self → PublicKey → Algorithm → List ℕ };
+    /// The shape of what is to be signed.
+    ghost part_shape: { Shape };
+
+    /// The part that is to be signed, by the state of the builder and a signer's key and algorithm.
+    ghost to_sign: { Self → PublicKey → Algorithm → Value part_shape };
+
+    /// What holds besides of a part that was made, as that it has an encoding.
+    ghost is_valid: { Self → PublicKey → Algorithm → Type 0 };
 
     /// Why there may be none, besides want of memory.
     ghost faults: { Self → PublicKey → Algorithm → Error → Type 0 };
 
-    /// The octets of the part that was made last, if one was.
-    ghost finalized: { Self → Option (List ℕ) };
+    /// The part that was made last, if one was.
+    ghost finalized: { Self → Option (Value part_shape) };
 
     /// The algorithm of the signature of what is made of that part, by that of the signer whose
     /// signature it is.
     ghost algorithm_for: { Self → Algorithm → Algorithm };
 
-    /// The octets of the signed part of what was made.
+    /// The signed part of what was made.
+    ghost signed_part: { Self.Output → Value part_shape };
+
+    /// The octets at its place in what is written of what was made.
     ghost signed_octets: { Self.Output → List ℕ };
 
     /// The algorithm of the signature of what was made.
@@ -50,8 +59,14 @@ pub trait Builder: Sized + Drop {
     /// profile. The builder is then as it was.
     fn finalize<S: Signer>(&mut self, alloc: Global, signer: &S) -> Result<Vec<u8>, Error>
         ensures octets { IfOk result
-            (λ v. v.items ≡ to_sign self.old (S.public_key signer.now) (S.signs_by signer.now)) }
-        ensures left { IfOk result (λ v. finalized self.new ≡ Some v.items) }
+            (λ v. v.items
+            ≡ octets_of part_shape
+            (to_sign self.old (S.public_key signer.now) (S.signs_by signer.now))) }
+        ensures valid { IfOk result
+            (λ _. is_valid self.old (S.public_key signer.now) (S.signs_by signer.now)) }
+        ensures left { IfOk result
+            (λ _. finalized self.new
+            ≡ Some (to_sign self.old (S.public_key signer.now) (S.signs_by signer.now))) }
         ensures bears { IfOk result (λ _. algorithm_for self.new (S.signs_by signer.now)
             ≡ S.signs_by signer.now) }
         ensures again { (key : PublicKey) (algorithm : Algorithm) → to_sign self.new key algorithm
@@ -70,8 +85,10 @@ pub trait Builder: Sized + Drop {
         signature: BitString,
         signer: &S,
     ) -> Result<Self::Output, Error>
-        ensures octets { IfOk result (λ x. finalized self ≡ Some (signed_octets x)) }
-        ensures algorithm { IfOk result (λ x. outer_algorithm x ≡ algorithm_for self (S.signs_by signer.now)) }
+        ensures part { IfOk result (λ x. finalized self ≡ Some (signed_part x)) }
+        ensures octets { IfOk result (λ x. signed_octets x ≡ octets_of part_shape (signed_part x)) }
+        ensures algorithm { IfOk result
+            (λ x. outer_algorithm x ≡ algorithm_for self (S.signs_by signer.now)) }
         ensures signature { IfOk result (λ x. bits x ≡ signature) }
         ensures unready { finalized self ≡ None → IfErr result IsFailed }
         ensures refused { IfErr result (λ e. IsWantOfMemory e ⊎ (finalized self ≡ None)) };
@@ -81,15 +98,19 @@ pub trait Builder: Sized + Drop {
     /// # Errors
     /// Those of `finalize` and of `assemble`, and `Signature` where the signer gives none.
     fn build<S: Signer>(mut self, alloc: Global, signer: &S) -> Result<Self::Output, Error>
-        ensures octets { IfOk result
-            (λ x. signed_octets x ≡ to_sign self (S.public_key signer.now) (S.signs_by signer.now)) }
+        ensures part { IfOk result
+            (λ x. signed_part x ≡ to_sign self (S.public_key signer.now) (S.signs_by signer.now)) }
+        ensures octets { IfOk result (λ x. signed_octets x ≡ octets_of part_shape (signed_part x)) }
+        ensures valid { IfOk result
+            (λ _. is_valid self (S.public_key signer.now) (S.signs_by signer.now)) }
         ensures algorithm { IfOk result (λ x. outer_algorithm x ≡ S.signs_by signer.now) }
         ensures signed { IfOk result (λ x. S.signs signer.now (signed_octets x) (bits x)) }
         ensures refused { IfErr result (λ e. IsWantOfMemory e
             ⊎ faults self (S.public_key signer.now) (S.signs_by signer.now) e
             ⊎ ((e ≡ is_refused)
             × S.may_refuse signer.now
-            (to_sign self (S.public_key signer.now) (S.signs_by signer.now)))) }
+            (octets_of part_shape
+            (to_sign self (S.public_key signer.now) (S.signs_by signer.now))))) }
     {
         let octets = self.finalize(alloc, signer)?;
         let signature = signer.sign(alloc, octets.as_slice())?;
@@ -97,7 +118,7 @@ pub trait Builder: Sized + Drop {
         Ok(made)
     }
 
-    /// The same, with what a generator of random octets gives.
+    /// As `build`, with what a generator of random octets gives.
     ///
     /// # Errors
     /// Those of `build`.
@@ -107,15 +128,19 @@ pub trait Builder: Sized + Drop {
         signer: &S,
         rng: &mut R,
     ) -> Result<Self::Output, Error>
-        ensures octets { IfOk result
-            (λ x. signed_octets x ≡ to_sign self (S.public_key signer.now) (S.signs_by signer.now)) }
+        ensures part { IfOk result
+            (λ x. signed_part x ≡ to_sign self (S.public_key signer.now) (S.signs_by signer.now)) }
+        ensures octets { IfOk result (λ x. signed_octets x ≡ octets_of part_shape (signed_part x)) }
+        ensures valid { IfOk result
+            (λ _. is_valid self (S.public_key signer.now) (S.signs_by signer.now)) }
         ensures algorithm { IfOk result (λ x. outer_algorithm x ≡ S.signs_by signer.now) }
         ensures signed { IfOk result (λ x. S.signs signer.now (signed_octets x) (bits x)) }
         ensures refused { IfErr result (λ e. IsWantOfMemory e
             ⊎ faults self (S.public_key signer.now) (S.signs_by signer.now) e
             ⊎ ((e ≡ is_refused)
             × S.may_refuse signer.now
-            (to_sign self (S.public_key signer.now) (S.signs_by signer.now)))) }
+            (octets_of part_shape
+            (to_sign self (S.public_key signer.now) (S.signs_by signer.now))))) }
     {
         let octets = self.finalize(alloc, signer)?;
         let signature = signer.sign_with_rng(alloc, rng, octets.as_slice())?;

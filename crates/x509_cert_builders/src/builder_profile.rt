@@ -3,7 +3,6 @@
 use crate::error::Error;
 use der_core::Fields;
 use std::alloc::Global;
-use x509_cert_extensions::SubjectKeyIdentifier;
 use x509_cert_extensions::certificates::{
     Extensions, Name, SubjectPublicKeyInfoRef, TbsCertificate,
 };
@@ -13,10 +12,8 @@ use x509_cert_extensions::certificates::{
 /// Want of memory and the profile's own refusals aside, each answer is a function of what is handed
 /// in.
 pub trait BuilderProfile {
-    ghost use Rattle.std.specs.Prelude.{◌≡◌, ◌⊎◌, List, IfOk, IfErr};
+    ghost use Rattle.std.specs.Prelude.{◌≡◌, ◌⊎◌, List, Result, Ok, Err, IfOk, IfErr};
     ghost use Rattle.x509_cert_builders.specs.declared.error.Error.{Error};
-    ghost use Rattle.der_core_head.specs.Grammar.{plain_option};
-    ghost use Rattle.x509_cert_builders.specs.Profiles.{Identifies};
     ghost use Rattle.x509_cert_builders.specs.Refusals.{IsWantOfMemory};
     ghost use Rattle.x509_cert_extensions.specs.Certificates.{Tbs};
     ghost use Rattle.x509_cert_extensions.specs.CertificateViews.{tbs_plain};
@@ -26,14 +23,14 @@ pub trait BuilderProfile {
     // The issuer's name, of the subject's.
     ghost issuer_name: { Self → PlainName → PlainName };
 
-    // The subject's name.
-    ghost subject_name: { Self → PlainName };
+    // The subject's name, or why there is none.
+    ghost subject_name: { Self → Result PlainName Error };
 
     // The extensions, of the certified key, the issuer's key, and the part that is to be signed,
     // without any.
     ghost extensions: { Self → PublicKey → PublicKey → Tbs → List PlainExtension };
 
-    // Why it may refuse, besides want of memory.
+    // Why it may refuse to name the issuer or to give extensions, besides want of memory.
     ghost refuses: { Self → Error → Type 0 };
 
     /// The issuer's name.
@@ -41,7 +38,8 @@ pub trait BuilderProfile {
     /// # Errors
     /// Those of the profile, and want of memory.
     fn get_issuer(&self, alloc: Global, subject: &Name) -> Result<Name, Error>
-        ensures name { IfOk result (λ n. name_plain n ≡ issuer_name self.now (name_plain subject.now)) }
+        ensures name { IfOk result
+            (λ n. name_plain n ≡ issuer_name self.now (name_plain subject.now)) }
         ensures refused { IfErr result (λ e. IsWantOfMemory e ⊎ refuses self.now e) };
 
     /// The subject's name.
@@ -49,8 +47,8 @@ pub trait BuilderProfile {
     /// # Errors
     /// Those of the profile, and want of memory.
     fn get_subject(&self, alloc: Global) -> Result<Name, Error>
-        ensures name { IfOk result (λ n. name_plain n ≡ subject_name self.now) }
-        ensures refused { IfErr result (λ e. IsWantOfMemory e ⊎ refuses self.now e) };
+        ensures name { IfOk result (λ n. subject_name self.now ≡ Ok (name_plain n)) }
+        ensures refused { IfErr result (λ e. IsWantOfMemory e ⊎ (subject_name self.now ≡ Err e)) };
 
     /// The extensions that the profile adds, in their order. A builder hands in the part that is to
     /// be signed, of version 3 and without extensions.
@@ -69,38 +67,4 @@ pub trait BuilderProfile {
             (⟦<SubjectPublicKeyInfoRef<'b> as Fields>⟧.fields_plain issuer_spk.now)
             (tbs_plain tbs.now)) }
         ensures refused { IfErr result (λ e. IsWantOfMemory e ⊎ refuses self.now e) };
-
-    /// Whether the extensions hold the identifier of the certified key: then a builder digests its
-    /// key, once, when it is made.
-    fn names_certified_key(&self) -> bool {
-        false
-    }
-
-    /// The same extensions, where the identifiers of the keys may be known: a builder keeps that of
-    /// its key, a signer its own. A profile that leaves this out is asked by `build_extensions`.
-    ///
-    /// # Errors
-    /// Those of `build_extensions`.
-    fn build_identified_extensions<'a, 'b>(
-        &self,
-        alloc: Global,
-        spk: &SubjectPublicKeyInfoRef<'a>,
-        identifier: Option<&SubjectKeyIdentifier>,
-        issuer_spk: &SubjectPublicKeyInfoRef<'b>,
-        issuer_identifier: Option<&SubjectKeyIdentifier>,
-        tbs: &TbsCertificate,
-    ) -> Result<Extensions, Error>
-        requires certified { Identifies (plain_option (λ i. i.now.0) identifier)
-            (⟦<SubjectPublicKeyInfoRef<'a> as Fields>⟧.fields_plain spk.now) }
-        requires issuers { Identifies (plain_option (λ i. i.now.0) issuer_identifier)
-            (⟦<SubjectPublicKeyInfoRef<'b> as Fields>⟧.fields_plain issuer_spk.now) }
-        ensures made { IfOk result (λ v. extensions_plain v.items
-            ≡ extensions self.now (⟦<SubjectPublicKeyInfoRef<'a> as Fields>⟧.fields_plain spk.now)
-            (⟦<SubjectPublicKeyInfoRef<'b> as Fields>⟧.fields_plain issuer_spk.now)
-            (tbs_plain tbs.now)) }
-        ensures refused { IfErr result (λ e. IsWantOfMemory e ⊎ refuses self.now e) }
-    {
-        let extensions = self.build_extensions(alloc, spk, issuer_spk, tbs)?;
-        Ok(extensions)
-    }
 }

@@ -1,47 +1,49 @@
 //! Builders of certificates.
 
-ghost use Rattle.std.specs.Prelude.{◌≡◌, ◌⊎◌, ◌++◌, ◌∷◌, [], Some, None, IfOk, IfErr, OnOk, OnErr};
+ghost use Rattle.std.specs.Prelude.{◌≡◌, ◌⊎◌, ◌++◌, ◌∷◌, [], Err, Some, None, IsOk, IfOk, IfErr};
+ghost use Rattle.std.specs.Prelude.{OnOk, OnErr};
+ghost use Rattle.const_oid.specs.Bound.{Bound};
 ghost use Rattle.der_core_head.specs.Grammar.{plain_option};
+ghost use Rattle.der_core_head.specs.Shapes.{IsValid};
 ghost use Rattle.x509_cert_extensions.specs.CertificateViews.{certificate_plain, tbs_plain};
-ghost use Rattle.x509_cert_extensions.specs.Certificates.{outer_algorithm, signature_bits};
-ghost use Rattle.x509_cert_extensions.specs.Certificates.{tbs_public_key};
+ghost use Rattle.x509_cert_extensions.specs.Certificates.{outer_algorithm, signature_bits, tbs};
+ghost use Rattle.x509_cert_extensions.specs.Certificates.{tbs_certificate, tbs_public_key};
 ghost use Rattle.x509_cert_extensions.specs.Parts.{algorithm_plain, extensions_plain, key_plain};
 ghost use Rattle.x509_cert_extensions.specs.Parts.{validity_plain};
-ghost use Rattle.x509_cert_builders.specs.Profiles.{Identifies};
-ghost use Rattle.x509_cert_builders.specs.SignedParts.{HasNoOctets, bare_part, fields_of};
-ghost use Rattle.x509_cert_builders.specs.SignedParts.{signed_octets, signed_part};
-ghost use Rattle.x509_cert_builders.specs.States.{algorithm_of_last, octets_in_place};
-ghost use Rattle.x509_cert_builders.specs.Refusals.{IsFailed, IsWantOfMemory, IsWantOfMemoryAs};
+ghost use Rattle.x509_cert_builders.specs.SignedParts.{bare_part, fields_of, part_shape};
+ghost use Rattle.x509_cert_builders.specs.SignedParts.{signed_part, written_part};
+ghost use Rattle.x509_cert_builders.specs.States.{algorithm_of_last, as_written, octets_in_place};
+ghost use Rattle.x509_cert_builders.specs.States.{part_for};
+ghost use Rattle.x509_cert_builders.specs.Refusals.{IsFailed, IsUnwritten, IsWantOfMemory};
+ghost use Rattle.x509_cert_builders.specs.Refusals.{IsWantOfMemoryAs};
 
 use crate::added_extensions::joined;
 use crate::builder::Builder;
 use crate::builder_profile::BuilderProfile;
 use crate::error::Error;
-use crate::identified_key::digested;
 use crate::identifiers::no_algorithm;
+use crate::in_range::part_in_range;
 use crate::signed_part::{complete, lay_bare, take_extensions, written};
 use crate::signer::Signer;
 use der_core::ErrorKind;
 use std::alloc::Global;
 use std::marker::Model;
+use x509_cert_extensions::ToExtension;
 use x509_cert_extensions::certificates::laws::signed_part_stands_in_place;
 use x509_cert_extensions::certificates::{
     AlgorithmIdentifier, BitString, Certificate, Extension, Extensions, SerialNumber,
     SubjectPublicKeyInfo, TbsCertificate, Validity, Version,
 };
-use x509_cert_extensions::{SubjectKeyIdentifier, ToExtension};
 
 /// A builder of certificates (RFC 5280 4.1), whose names and extensions its profile tells.
 /// Extensions that are added stand before those of the profile.
 ///
 /// Contracts see its profile, what is settled, the extensions that were added, and the part that
-/// was made last. The certified key is digested once, when the builder is made, if the profile
-/// names it.
+/// was made last.
 #[derive(Drop)]
 pub struct CertificateBuilder<P> {
     profile: P,
     part: TbsCertificate,
-    identifier: Option<SubjectKeyIdentifier>,
     extensions: Extensions,
     finalized: Option<Finalized>,
 }
@@ -55,44 +57,11 @@ struct Finalized {
 }
 
 impl<P> Model for CertificateBuilder<P> {
-    ghost use Rattle.der_core_head.specs.Grammar.{plain_option};
-    ghost use Rattle.x509_cert_extensions.specs.CertificateViews.{tbs_plain};
-    ghost use Rattle.x509_cert_extensions.specs.Certificates.{tbs_public_key};
-    ghost use Rattle.x509_cert_builders.specs.Profiles.{Identifies};
     ghost use Rattle.x509_cert_builders.specs.States.{CertificateState, certificate_state};
 
     ghost Value = { CertificateState P };
 
     ghost view = { certificate_state };
-
-    // The identifier, if it is kept, is that of the certified key.
-    ghost invariant = { λ b. Identifies (plain_option (λ i. i.0) b.identifier) (tbs_public_key (tbs_plain b.part)) };
-}
-
-/// The identifier of a key, if a profile names it.
-fn identifier_for<P: BuilderProfile>(
-    alloc: Global,
-    profile: &P,
-    key: &SubjectPublicKeyInfo,
-) -> Result<Option<SubjectKeyIdentifier>, Error>
-    ensures identifier { IfOk result (λ i. Identifies (plain_option (λ i. i.0) i) (key_plain key.now)) }
-    ensures refused { IfErr result IsWantOfMemory }
-{
-    if !profile.names_certified_key() {
-        return Ok(None);
-    }
-    let identifier = digested(alloc, key)?;
-    Ok(Some(identifier))
-}
-
-/// What is known of an identifier.
-fn known(identifier: &Option<SubjectKeyIdentifier>) -> Option<&SubjectKeyIdentifier>
-    ensures { plain_option (λ i. i.now.0) result ≡ plain_option (λ i. i.0) identifier.now }
-{
-    match identifier {
-        Some(identifier) => Some(identifier),
-        None => None,
-    }
 }
 
 impl<P: BuilderProfile + Drop> CertificateBuilder<P> {
@@ -107,21 +76,22 @@ impl<P: BuilderProfile + Drop> CertificateBuilder<P> {
         validity: Validity,
         subject_public_key_info: SubjectPublicKeyInfo,
     ) -> Result<CertificateBuilder<P>, Error>
-        ensures made { IfOk result (λ b. b ≡ record {
+        ensures made { IfOk result (λ b. IfOk (P.subject_name profile) (λ subject. b ≡ record {
           profile = profile;
           fields = record {
             serial = serial_number;
-            issuer = P.issuer_name profile (P.subject_name profile);
+            issuer = P.issuer_name profile subject;
             validity = validity_plain validity;
-            subject = P.subject_name profile;
+            subject = subject;
             key = key_plain subject_public_key_info;
           };
           added = [];
           finalized = None;
-        }) }
-        ensures refused { IfErr result (λ e. IsWantOfMemory e ⊎ P.refuses profile e) }
+        })) }
+        ensures named { IfOk result (λ _. IsOk (P.subject_name profile)) }
+        ensures refused { IfErr result (λ e. IsWantOfMemory e ⊎ P.refuses profile e
+            ⊎ (P.subject_name profile ≡ Err e)) }
     {
-        let identifier = identifier_for(alloc, &profile, &subject_public_key_info)?;
         let subject = profile.get_subject(alloc)?;
         let issuer = profile.get_issuer(alloc, &subject)?;
         let part = TbsCertificate {
@@ -139,7 +109,6 @@ impl<P: BuilderProfile + Drop> CertificateBuilder<P> {
         Ok(CertificateBuilder {
             profile,
             part,
-            identifier,
             extensions: Vec::new(alloc),
             finalized: None,
         })
@@ -161,7 +130,8 @@ impl<P: BuilderProfile + Drop> CertificateBuilder<P> {
                   self.old.added ∷ [];
             }) }
         ensures kept { OnErr result (self.new ≡ self.old) }
-        ensures refused { IfErr result (λ e. E.refused extension e ⊎ IsWantOfMemoryAs E.Error.from_gives e) }
+        ensures refused { IfErr result (λ e. E.refused extension e
+            ⊎ IsWantOfMemoryAs E.Error.from_gives e) }
     {
         let made = extension.to_extension(alloc, &self.part.subject, self.extensions.as_slice())?;
         match self.extensions.push(made) {
@@ -176,10 +146,8 @@ fn profiled<P: BuilderProfile, S: Signer>(
     alloc: Global,
     profile: &P,
     part: &TbsCertificate,
-    identifier: &Option<SubjectKeyIdentifier>,
     signer: &S,
 ) -> Result<Extensions, Error>
-    requires { Identifies (plain_option (λ i. i.0) identifier.now) (tbs_public_key (tbs_plain part.now)) }
     ensures made { IfOk result
         (λ v. extensions_plain v.items
         ≡ P.extensions profile.now (tbs_public_key (tbs_plain part.now)) (S.public_key signer.now)
@@ -188,14 +156,7 @@ fn profiled<P: BuilderProfile, S: Signer>(
 {
     let key = part.subject_public_key_info.owned_to_ref();
     let issuer_key = signer.key_info().owned_to_ref();
-    let more = profile.build_identified_extensions(
-        alloc,
-        &key,
-        known(identifier),
-        &issuer_key,
-        signer.key_identifier(),
-        part,
-    )?;
+    let more = profile.build_extensions(alloc, &key, &issuer_key, part)?;
     Ok(more)
 }
 
@@ -204,11 +165,9 @@ fn make_whole<P: BuilderProfile, S: Signer>(
     alloc: Global,
     profile: &P,
     part: &mut TbsCertificate,
-    identifier: &Option<SubjectKeyIdentifier>,
     added: &[Extension],
     signer: &S,
 ) -> Result<(), Error>
-    requires { Identifies (plain_option (λ i. i.0) identifier.now) (tbs_public_key (tbs_plain part.old)) }
     ensures whole { OnOk result
         (tbs_plain part.new ≡ signed_part (fields_of (tbs_plain part.old)) (S.signs_by signer.now)
         (extensions_plain added.now
@@ -218,7 +177,7 @@ fn make_whole<P: BuilderProfile, S: Signer>(
     ensures refused { IfErr result (λ e. IsWantOfMemory e ⊎ P.refuses profile.now e) }
 {
     lay_bare(part, signer.algorithm().clone(alloc)?);
-    let more = profiled(alloc, profile, part, identifier, signer)?;
+    let more = profiled(alloc, profile, part, signer)?;
     let extensions = joined(alloc, added, more)?;
     complete(part, extensions);
     Ok(())
@@ -251,18 +210,22 @@ fn put_back(
 impl<P: BuilderProfile + Drop> Builder for CertificateBuilder<P> {
     type Output = Certificate;
 
-    ghost to_sign = { λ b key algorithm. signed_octets b.fields algorithm
-        (b.added ++ P.extensions b.profile b.fields.key key (bare_part b.fields algorithm)) };
+    ghost part_shape = { part_shape };
+
+    ghost to_sign = { part_for P.extensions };
+
+    ghost is_valid = { λ b key algorithm. IsValid part_shape (part_for P.extensions b key algorithm) };
 
     // The profile refuses, or a length passes what can be counted.
     ghost faults = { λ b key algorithm e. P.refuses b.profile e
-        ⊎ HasNoOctets b.fields algorithm
-        (b.added ++ P.extensions b.profile b.fields.key key (bare_part b.fields algorithm)) };
+        ⊎ IsUnwritten (tbs_certificate Bound (Some 21)) (part_for P.extensions b key algorithm) e };
 
-    ghost finalized = { λ b. plain_option (λ f. f.1) b.finalized };
+    ghost finalized = { λ b. plain_option written_part b.finalized };
 
     // A certificate bears the algorithm of its signed part (RFC 5280 4.1.1.2).
     ghost algorithm_for = { λ b a. algorithm_of_last b.finalized a };
+
+    ghost signed_part = { λ c. tbs (as_written (certificate_plain c)) };
 
     ghost signed_octets = { λ c. octets_in_place (certificate_plain c) };
 
@@ -273,14 +236,8 @@ impl<P: BuilderProfile + Drop> Builder for CertificateBuilder<P> {
     #[tactic(auto, using(crate::proofs::Lists::listed_back))]
     fn finalize<S: Signer>(&mut self, alloc: Global, signer: &S) -> Result<Vec<u8>, Error> {
         let added = self.extensions.as_slice();
-        make_whole(
-            alloc,
-            &self.profile,
-            &mut self.part,
-            &self.identifier,
-            added,
-            signer,
-        )?;
+        make_whole(alloc, &self.profile, &mut self.part, added, signer)?;
+        part_in_range(&self.part);
         let octets = written(alloc, &self.part)?;
         let algorithm = signer.algorithm().clone(alloc)?;
         let extensions = take_extensions(alloc, &mut self.part);

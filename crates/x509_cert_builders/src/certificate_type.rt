@@ -1,14 +1,13 @@
 //! Kinds of subscribers.
 
-ghost use Rattle.std.specs.Prelude.{◌≡◌, ◌∷◌, [], true, IfOk, IfErr};
+ghost use Rattle.std.specs.Prelude.{◌≡◌, ◌∷◌, [], true, Ok, IsOk, IfOk, IfErr};
 ghost use Rattle.std.specs.List.{list_all};
 ghost use Rattle.std.specs.List.Sorted.{IsPermutation};
 ghost use Rattle.x509_cert_extensions.specs.Parts.{name_plain, relative_plain};
 ghost use Rattle.x509_cert_builders.specs.Naming.{common_name, country, is_among};
 ghost use Rattle.x509_cert_builders.specs.Refusals.{IsWantOfMemory};
 ghost use Rattle.x509_cert_builders.specs.Subscribers.{SameAttributes, all_stays, domain_subject};
-ghost use Rattle.x509_cert_builders.specs.Subscribers.{is_domain_validated, left_of, may_stay};
-ghost use Rattle.x509_cert_builders.specs.Subscribers.{type_subject};
+ghost use Rattle.x509_cert_builders.specs.Subscribers.{left_of, may_stay, type_subject};
 
 use crate::attribute_types as types;
 use crate::domain_validated::DomainValidated;
@@ -23,7 +22,7 @@ use x509_cert_extensions::general_names::GeneralNames;
 /// How it was found out who a subscriber is (CA/Browser Forum, Baseline Requirements 7.1.2.7.1).
 #[derive(Clone, Debug, Drop, PartialEq)]
 pub enum CertificateType {
-    /// Its domains were validated.
+    /// The domains were validated.
     DomainValidated(DomainValidated),
     /// The person was.
     IndividualValidated,
@@ -95,7 +94,8 @@ fn left_of(
 /// What is left of a name: the relative names of which something is left.
 #[tactic(auto, using(crate::proofs::Subjects::left_none, crate::proofs::Subjects::left_all))]
 fn name_left(alloc: Global, name: &Name) -> Result<Name, Error>
-    ensures left { IfOk result (λ n. SameAttributes (domain_subject (name_plain name.now)) (name_plain n)) }
+    ensures left { IfOk result
+        (λ n. SameAttributes (domain_subject (name_plain name.now)) (name_plain n)) }
     ensures same { all_stays (name_plain name.now) ≡ true
         → IfOk result (λ n. name_plain n ≡ name_plain name.now) }
     ensures refused { all_stays (name_plain name.now) ≡ true → IfErr result IsWantOfMemory }
@@ -122,11 +122,11 @@ impl CertificateType {
         subject: Name,
         names: GeneralNames,
     ) -> Result<CertificateType, Error>
-        ensures kind { IfOk result (λ t. is_domain_validated t ≡ true) }
+        ensures kind { IfOk result (λ t. IsOk (type_subject t)) }
         ensures subject { IfOk result
-            (λ t. SameAttributes (domain_subject (name_plain subject)) (type_subject t)) }
+            (λ t. IfOk (type_subject t) (SameAttributes (domain_subject (name_plain subject)))) }
         ensures same { all_stays (name_plain subject) ≡ true
-            → IfOk result (λ t. type_subject t ≡ name_plain subject) }
+            → IfOk result (λ t. type_subject t ≡ Ok (name_plain subject)) }
         ensures refused { all_stays (name_plain subject) ≡ true → IfErr result IsWantOfMemory }
     {
         let subject = name_left(alloc, &subject)?;

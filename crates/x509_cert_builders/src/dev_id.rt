@@ -1,17 +1,17 @@
 //! Devices.
 
-ghost use Rattle.std.specs.Prelude.{◌≡◌, ◌⊎◌, ◌∷◌, ◌++◌, [], true, false, Ok, Some, IfOk, IfErr};
-ghost use Rattle.std.specs.Prelude.{OnOk};
-ghost use Rattle.std.specs.List.{list_any};
+ghost use Rattle.std.specs.Prelude.{◌≡◌, ◌⊎◌, ◌∷◌, ◌++◌, [], true, false, Ok, Some, IsOk, IfOk};
+ghost use Rattle.std.specs.Prelude.{IfErr, OnOk};
 ghost use Rattle.der_core_head.specs.Grammar.{plain_list, plain_option};
 ghost use Rattle.x509_cert_extensions.specs.Certificates.{tbs_subject};
 ghost use Rattle.x509_cert_extensions.specs.Parts.{extensions_plain, name_plain};
 ghost use Rattle.x509_cert_extensions.specs.GeneralNameViews.{general_name_plain};
-ghost use Rattle.x509_cert_builders.specs.Devices.{IsFaulty, IsUnnameable, PlainGeneralName};
-ghost use Rattle.x509_cert_builders.specs.Devices.{alternatives, device_extensions, device_names};
-ghost use Rattle.x509_cert_builders.specs.Devices.{first_module, is_of_module, may_name};
-ghost use Rattle.x509_cert_builders.specs.Devices.{module_name, module_of, version_arcs};
-ghost use Rattle.x509_cert_builders.specs.Refusals.{FailsAs, IsFailed, IsWantOfMemory};
+ghost use Rattle.x509_cert_builders.specs.Devices.{IsUnnameable, MayHave, MayNotHave};
+ghost use Rattle.x509_cert_builders.specs.Devices.{PlainGeneralName, alternatives};
+ghost use Rattle.x509_cert_builders.specs.Devices.{device_extensions, device_names, first_module};
+ghost use Rattle.x509_cert_builders.specs.Devices.{is_of_module, module_name, module_of};
+ghost use Rattle.x509_cert_builders.specs.Devices.{version_arcs};
+ghost use Rattle.x509_cert_builders.specs.Refusals.{FailsAs, IsWantOfMemory};
 
 use crate::added_extensions::{add, add_authority, add_usage};
 use crate::builder_profile::BuilderProfile;
@@ -20,13 +20,13 @@ use crate::tpm_version::TpmVersion;
 use crate::uses::signing_usage;
 use der_core::ErrorKind;
 use std::alloc::Global;
+use x509_cert_extensions::SubjectAltName;
 use x509_cert_extensions::certificates::{
     Extensions, Name, OctetString, SubjectPublicKeyInfoRef, TbsCertificate,
 };
 use x509_cert_extensions::general_names::{
     GeneralName, GeneralNames, HardwareModuleName, OtherName,
 };
-use x509_cert_extensions::{SubjectAltName, SubjectKeyIdentifier};
 
 /// The certificate of a device that has an identity of its own (IEEE 802.1AR 8).
 #[derive(Drop)]
@@ -40,7 +40,8 @@ pub struct DevId {
 /// Whether a name is that of a module of hardware.
 fn is_of_module(alloc: Global, name: &GeneralName) -> Result<bool, Error>
     ensures other { is_of_module (general_name_plain name.now) ≡ false → result ≡ Ok false }
-    ensures held { is_of_module (general_name_plain name.now) ≡ true → IfOk result (λ b. b ≡ true) }
+    ensures held { is_of_module (general_name_plain name.now) ≡ true
+        → IfOk result (λ b. (b ≡ true) × IsOk (module_of (general_name_plain name.now))) }
     ensures faulty { is_of_module (general_name_plain name.now) ≡ true
         → IfErr result (FailsAs (module_of (general_name_plain name.now))) }
 {
@@ -51,21 +52,18 @@ fn is_of_module(alloc: Global, name: &GeneralName) -> Result<bool, Error>
     Ok(module.is_some())
 }
 
-/// Whether one of the names is that of a module of hardware.
-fn has_module(alloc: Global, names: &[GeneralName]) -> Result<bool, Error>
-    ensures other { list_any is_of_module (plain_list general_name_plain names.now) ≡ false
-        → result ≡ Ok false }
-    ensures held { list_any is_of_module (plain_list general_name_plain names.now) ≡ true
-        → IfOk result (λ b. b ≡ true) }
-    ensures faulty { list_any is_of_module (plain_list general_name_plain names.now) ≡ true
-        → IfErr result (FailsAs (first_module (plain_list general_name_plain names.now))) }
+/// The first name of a module of hardware holds one.
+fn check_module(alloc: Global, names: &[GeneralName]) -> Result<(), Error>
+    ensures held { OnOk result (IsOk (first_module (plain_list general_name_plain names.now))) }
+    ensures refused { IfErr result
+        (FailsAs (first_module (plain_list general_name_plain names.now))) }
 {
     for place in 0..names.len() {
         if is_of_module(alloc, &names[place])? {
-            return Ok(true);
+            return Ok(());
         }
     }
-    Ok(false)
+    Err(Error::Asn1(der_core::Error::from(ErrorKind::Failed)))
 }
 
 impl DevId {
@@ -82,15 +80,12 @@ impl DevId {
         alt_names: Option<GeneralNames>,
     ) -> Result<DevId, Error>
         ensures module { IfOk result
-            (λ _. may_name (plain_option (λ v. plain_list general_name_plain v.items) alt_names)
-            ≡ true) }
-        ensures refused { may_name (plain_option (λ v. plain_list general_name_plain v.items) alt_names) ≡ false
-            → IfErr result IsFailed }
-        ensures faulty { may_name (plain_option (λ v. plain_list general_name_plain v.items) alt_names) ≡ true
-            → IfErr result
-            (IsFaulty (plain_option (λ v. plain_list general_name_plain v.items) alt_names)) }
+            (λ _. MayHave (plain_option (λ v. plain_list general_name_plain v.items) alt_names)) }
+        ensures refused { IfErr result
+            (MayNotHave (plain_option (λ v. plain_list general_name_plain v.items) alt_names)) }
         ensures issuer { IfOk result (λ d. name_plain d.issuer ≡ name_plain issuer) }
-        ensures subject { IfOk result (λ d. ⟦<DevId as BuilderProfile>⟧.subject_name d ≡ name_plain subject) }
+        ensures subject { IfOk result (λ d. ⟦<DevId as BuilderProfile>⟧.subject_name d
+            ≡ Ok (name_plain subject)) }
         ensures names { IfOk result
             (λ d. device_names d ≡ plain_option (λ v. plain_list general_name_plain v.items)
             alt_names) }
@@ -102,9 +97,7 @@ impl DevId {
                 subject_alt_name: None,
             });
         };
-        if !has_module(alloc, names.as_slice())? {
-            return Err(Error::Asn1(der_core::Error::from(ErrorKind::Failed)));
-        }
+        check_module(alloc, names.as_slice())?;
         Ok(DevId {
             issuer,
             subject,
@@ -127,11 +120,13 @@ impl DevId {
         serial_number: OctetString,
     ) -> Result<DevId, Error>
         ensures issuer { IfOk result (λ d. name_plain d.issuer ≡ name_plain issuer) }
-        ensures subject { IfOk result (λ d. ⟦<DevId as BuilderProfile>⟧.subject_name d ≡ name_plain subject) }
+        ensures subject { IfOk result (λ d. ⟦<DevId as BuilderProfile>⟧.subject_name d
+            ≡ Ok (name_plain subject)) }
         ensures module { IfOk result (λ d. (n : PlainGeneralName)
             × (module_name (version_arcs hw_type) serial_number ≡ Ok n)
             × (device_names d ≡ Some (n ∷ []))) }
-        ensures refused { IfErr result (FailsAs (module_name (version_arcs hw_type) serial_number)) }
+        ensures refused { IfErr result
+            (FailsAs (module_name (version_arcs hw_type) serial_number)) }
     {
         let module = HardwareModuleName {
             hw_type: hw_type.to_oid(),
@@ -155,7 +150,8 @@ fn add_alternatives(
     subject: &Name,
     names: &Option<SubjectAltName>,
 ) -> Result<(), Error>
-    ensures added { OnOk result (extensions_plain extensions.new.items ≡ extensions_plain extensions.old.items
+    ensures added { OnOk result (extensions_plain extensions.new.items
+        ≡ extensions_plain extensions.old.items
         ++ alternatives (name_plain subject.now)
         (plain_option (λ v. plain_list general_name_plain v.0.items) names.now)) }
     ensures refused { IfErr result
@@ -171,12 +167,13 @@ fn add_alternatives(
 impl BuilderProfile for DevId {
     ghost issuer_name = { λ device _. name_plain device.issuer };
 
-    ghost subject_name = { λ device. name_plain device.subject };
+    ghost subject_name = { λ device. Ok (name_plain device.subject) };
 
-    ghost extensions = { λ device _ issuer_key t. device_extensions (device_names device) (tbs_subject t)
+    ghost extensions = { λ device _ issuer_key t. device_extensions (device_names device)
+        (tbs_subject t)
         issuer_key };
 
-    // Its alternative names have no encoding.
+    // The alternative names have no encoding.
     ghost refuses = { λ device _. IsUnnameable (device_names device) };
 
     fn get_issuer(&self, alloc: Global, _subject: &Name) -> Result<Name, Error> {
@@ -192,32 +189,13 @@ impl BuilderProfile for DevId {
     fn build_extensions<'a, 'b>(
         &self,
         alloc: Global,
-        spk: &SubjectPublicKeyInfoRef<'a>,
-        issuer_spk: &SubjectPublicKeyInfoRef<'b>,
-        tbs: &TbsCertificate,
-    ) -> Result<Extensions, Error> {
-        let extensions = self.build_identified_extensions(alloc, spk, None, issuer_spk, None, tbs)?;
-        Ok(extensions)
-    }
-
-    fn build_identified_extensions<'a, 'b>(
-        &self,
-        alloc: Global,
         _spk: &SubjectPublicKeyInfoRef<'a>,
-        _identifier: Option<&SubjectKeyIdentifier>,
         issuer_spk: &SubjectPublicKeyInfoRef<'b>,
-        issuer_identifier: Option<&SubjectKeyIdentifier>,
         tbs: &TbsCertificate,
     ) -> Result<Extensions, Error> {
         let subject = &tbs.subject;
         let mut extensions = Vec::with_capacity(alloc, 3)?;
-        add_authority(
-            alloc,
-            &mut extensions,
-            subject,
-            issuer_spk,
-            issuer_identifier,
-        )?;
+        add_authority(alloc, &mut extensions, subject, issuer_spk)?;
         add_usage(alloc, &mut extensions, subject, signing_usage())?;
         add_alternatives(alloc, &mut extensions, subject, &self.subject_alt_name)?;
         Ok(extensions)

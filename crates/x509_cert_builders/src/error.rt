@@ -8,27 +8,33 @@ ghost use Rattle.x509_cert_builders.specs.Refusals.{IsWantOfMemory};
 use crate::sign_error::SignError;
 use const_oid::ObjectIdentifier;
 use std::alloc::{AllocError, AllocFailed};
-use std::fmt;
 
 /// Why a certificate, a list or a request could not be made.
-#[derive(Debug, Drop)]
+#[derive(Debug, Drop, thiserror::Error)]
 pub enum Error {
     /// A fault in DER, or want of memory.
+    #[error("ASN.1: {0}")]
     Asn1(der_core::Error),
     /// The signer gives no signature.
+    #[error("signature: {0}")]
     Signature(SignError),
     /// A relative name that hasn't exactly one attribute.
+    #[error("a relative name hasn't exactly one attribute")]
     NonUniqueRdn,
     /// A type of attribute that the name has twice.
+    #[error("a type of attribute stands twice")]
     NonUniqueATV,
     /// A type of attribute that may not stand there.
+    #[error("attribute {oid} may not stand there")]
     InvalidAttribute {
         /// The type.
         oid: ObjectIdentifier<39>,
     },
     /// A type of attribute that the name must have and hasn't.
+    #[error("an attribute is missing")]
     MissingAttributes,
     /// A kind of certificate that the profile doesn't make.
+    #[error("no such certificate is made")]
     Unsupported,
 }
 
@@ -63,19 +69,3 @@ impl<T: Drop> From<AllocFailed<T>> for Error {
         Error::Asn1(der_core::Error::from(error))
     }
 }
-
-impl fmt::Display for Error {
-    fn fmt<W: fmt::Write>(&self, f: &mut fmt::Formatter<W>) -> fmt::Result {
-        match self {
-            Error::Asn1(error) => write!(f, "ASN.1: {error}"),
-            Error::Signature(error) => write!(f, "signature: {error}"),
-            Error::NonUniqueRdn => f.write_str("a relative name hasn't exactly one attribute"),
-            Error::NonUniqueATV => f.write_str("a type of attribute stands twice"),
-            Error::InvalidAttribute { oid } => write!(f, "attribute {oid} may not stand there"),
-            Error::MissingAttributes => f.write_str("an attribute is missing"),
-            Error::Unsupported => f.write_str("no such certificate is made"),
-        }
-    }
-}
-
-impl std::error::Error for Error {}

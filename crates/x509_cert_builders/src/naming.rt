@@ -1,19 +1,17 @@
 //! The naming rules of authorities (CA/Browser Forum, Baseline Requirements 7.1.4.1, 7.1.2.10.2).
 
-ghost use Rattle.std.specs.Prelude.{◌≡◌, ◌≤◌, Ok, Err, length, nat_lt, not, true, Option, Some};
-ghost use Rattle.std.specs.Prelude.{None, IfOk};
-ghost use Rattle.std.specs.List.{find, list_all, position_or_len};
-ghost use Rattle.const_oid.specs.Comparing.{owned_eq};
-ghost use Rattle.x509_cert_extensions.specs.Parts.{name_plain, relative_plain};
-ghost use Rattle.x509_cert_builders.specs.Naming.{ordered_types, authority_types, is_among};
-ghost use Rattle.x509_cert_builders.specs.Naming.{may_follow, type_behind, name_types};
+ghost use Rattle.std.specs.Prelude.{◌≡◌, Ok, Err, not, true, Option, Some, None, IfOk};
+ghost use Rattle.std.specs.List.{find};
+ghost use Rattle.x509_cert_extensions.specs.Parts.{name_plain};
+ghost use Rattle.x509_cert_builders.specs.Naming.{authority_types, is_among, name_types};
 ghost use Rattle.x509_cert_builders.specs.Naming.{has_required, Names, NamesAuthority};
 
 use crate::attribute_types as types;
 use crate::error::Error;
+use crate::types_before::TypesBefore;
 use const_oid::ObjectIdentifier;
 use std::alloc::Global;
-use x509_cert_extensions::certificates::{Name, RelativeDistinguishedName};
+use x509_cert_extensions::certificates::Name;
 
 /// Whether a type is among these.
 fn is_among(types: &[ObjectIdentifier<39>], oid: &ObjectIdentifier<39>) -> bool
@@ -27,70 +25,6 @@ fn is_among(types: &[ObjectIdentifier<39>], oid: &ObjectIdentifier<39>) -> bool
     false
 }
 
-/// How many of these types stand before a type; all of them where it is none of them.
-fn rank_among(types: &[ObjectIdentifier<39>], oid: &ObjectIdentifier<39>) -> usize
-    ensures { result ≡ position_or_len (λ u. owned_eq u oid.now) types.now }
-{
-    for place in 0..types.len() {
-        if types[place] == *oid {
-            return place;
-        }
-    }
-    types.len()
-}
-
-/// Whether a type may stand behind one that stands before it in a name.
-fn may_follow(
-    ordered: &[ObjectIdentifier<39>],
-    oid: &ObjectIdentifier<39>,
-    before: &ObjectIdentifier<39>,
-) -> bool
-    ensures { ordered.now ≡ ordered_types → result ≡ may_follow oid.now before.now }
-{
-    let rank = rank_among(ordered, oid);
-    let earlier = rank_among(ordered, before);
-    rank >= ordered.len() || earlier >= ordered.len() || earlier < rank
-}
-
-/// Whether a type may stand behind all of these.
-fn may_follow_all(
-    ordered: &[ObjectIdentifier<39>],
-    oid: &ObjectIdentifier<39>,
-    before: &[ObjectIdentifier<39>],
-) -> bool
-    ensures { ordered.now ≡ ordered_types → result ≡ list_all (may_follow oid.now) before.now }
-{
-    for place in 0..before.len() {
-        if !may_follow(ordered, oid, &before[place]) {
-            return false;
-        }
-    }
-    true
-}
-
-/// The type of a relative name's attribute, behind attributes of these types.
-fn type_behind(
-    ordered: &[ObjectIdentifier<39>],
-    before: &[ObjectIdentifier<39>],
-    relative: &RelativeDistinguishedName,
-    multiple_allowed: bool,
-) -> Result<ObjectIdentifier<39>, Error>
-    ensures { ordered.now ≡ ordered_types → result ≡ type_behind multiple_allowed before.now
-        (relative_plain relative.now) }
-{
-    let [attribute] = relative.as_slice() else {
-        return Err(Error::NonUniqueRdn);
-    };
-    let oid = attribute.oid;
-    if !multiple_allowed && is_among(before, &oid) {
-        return Err(Error::NonUniqueATV);
-    }
-    if !may_follow_all(ordered, &oid, before) {
-        return Err(Error::InvalidAttribute { oid });
-    }
-    Ok(oid)
-}
-
 /// The types of a name that keeps the rules of all names, in its order.
 #[tactic(auto, using(crate::proofs::NamingSteps::checked_none, crate::proofs::NamingSteps::checked_more, crate::proofs::NamingSteps::checked_fault, crate::proofs::NamingSteps::checked_all))]
 fn types_of(
@@ -101,16 +35,15 @@ fn types_of(
     ensures rules { Names multiple_allowed (name_plain name.now) result }
     ensures types { IfOk result (λ v. v.items ≡ name_types (name_plain name.now)) }
 {
-    let ordered = types::ordered_types();
-    let mut found = Vec::new(alloc);
+    let mut found = TypesBefore::new(alloc);
     for relative in name.iter_rdn() {
-        let oid = match type_behind(&ordered, found.as_slice(), relative, multiple_allowed) {
+        let oid = match found.type_behind(relative, multiple_allowed) {
             Ok(oid) => oid,
             Err(error) => return Err(error),
         };
-        found.push(oid)?;
+        found = found.and(oid)?;
     }
-    Ok(found)
+    Ok(found.into_types())
 }
 
 /// Checks the rules of all names (7.1.4.1): each relative name has exactly one attribute, no type

@@ -1,19 +1,16 @@
 //! Roots.
 
-ghost use Rattle.std.specs.Prelude.{◌≡◌, IfOk};
+ghost use Rattle.std.specs.Prelude.{◌≡◌, Ok, IfOk};
 ghost use Rattle.x509_cert_extensions.specs.Parts.{name_plain};
 ghost use Rattle.x509_cert_builders.specs.Naming.{NamesAuthority};
 ghost use Rattle.x509_cert_builders.specs.Profiles.{root_extensions};
 
-use crate::added_extensions::{
-    add_authority, add_constraints, add_identifier, add_usage, identifier_of,
-};
+use crate::added_extensions::{add_authority, add_constraints, add_identifier, add_usage};
 use crate::builder_profile::BuilderProfile;
 use crate::error::Error;
 use crate::naming::ca_certificate_naming;
 use crate::uses::authority_usage;
 use std::alloc::Global;
-use x509_cert_extensions::SubjectKeyIdentifier;
 use x509_cert_extensions::certificates::{
     Extensions, Name, SubjectPublicKeyInfoRef, TbsCertificate,
 };
@@ -34,7 +31,8 @@ impl Root {
     /// Those of `ca_certificate_naming`.
     pub fn new(alloc: Global, emits_ocsp_response: bool, subject: Name) -> Result<Root, Error>
         ensures naming { NamesAuthority (name_plain subject) result }
-        ensures subject { IfOk result (λ r. ⟦<Root as BuilderProfile>⟧.subject_name r ≡ name_plain subject) }
+        ensures subject { IfOk result (λ r. ⟦<Root as BuilderProfile>⟧.subject_name r
+            ≡ Ok (name_plain subject)) }
         ensures answers { IfOk result (λ r. r.emits_ocsp_response ≡ emits_ocsp_response) }
     {
         ca_certificate_naming(alloc, &subject)?;
@@ -48,7 +46,7 @@ impl Root {
 impl BuilderProfile for Root {
     ghost issuer_name = { λ _ subject. subject };
 
-    ghost subject_name = { λ root. name_plain root.subject };
+    ghost subject_name = { λ root. Ok (name_plain root.subject) };
 
     ghost extensions = { λ root key _ _. root_extensions root.emits_ocsp_response key };
 
@@ -64,45 +62,20 @@ impl BuilderProfile for Root {
         Ok(subject)
     }
 
-    fn names_certified_key(&self) -> bool {
-        true
-    }
-
     fn build_extensions<'a, 'b>(
         &self,
         alloc: Global,
         spk: &SubjectPublicKeyInfoRef<'a>,
-        issuer_spk: &SubjectPublicKeyInfoRef<'b>,
-        tbs: &TbsCertificate,
-    ) -> Result<Extensions, Error> {
-        let identifier = identifier_of(alloc, spk)?;
-        let extensions = self.build_identified_extensions(
-            alloc,
-            spk,
-            Some(&identifier),
-            issuer_spk,
-            None,
-            tbs,
-        )?;
-        Ok(extensions)
-    }
-
-    fn build_identified_extensions<'a, 'b>(
-        &self,
-        alloc: Global,
-        spk: &SubjectPublicKeyInfoRef<'a>,
-        identifier: Option<&SubjectKeyIdentifier>,
         _issuer_spk: &SubjectPublicKeyInfoRef<'b>,
-        _issuer_identifier: Option<&SubjectKeyIdentifier>,
         tbs: &TbsCertificate,
     ) -> Result<Extensions, Error> {
         let subject = &tbs.subject;
         let mut extensions = Vec::with_capacity(alloc, 4)?;
-        add_authority(alloc, &mut extensions, subject, spk, identifier)?;
+        add_authority(alloc, &mut extensions, subject, spk)?;
         add_constraints(alloc, &mut extensions, subject, true, None)?;
         let usage = authority_usage(self.emits_ocsp_response);
         add_usage(alloc, &mut extensions, subject, usage)?;
-        add_identifier(alloc, &mut extensions, subject, spk, identifier)?;
+        add_identifier(alloc, &mut extensions, subject, spk)?;
         Ok(extensions)
     }
 }

@@ -4,15 +4,16 @@ ghost use Rattle.std.specs.Prelude.{◌≡◌};
 ghost use Rattle.x509_cert_builders.specs.declared.sign_error.SignError.TheVariants.{OutOfMemory};
 
 use std::alloc::{AllocError, AllocFailed};
-use std::error::Error;
-use std::fmt;
+use thiserror::Error;
 
 /// Why a signer gives no signature.
-#[derive(Clone, Copy, Debug, PartialEq, Eq)]
+#[derive(Clone, Copy, Debug, PartialEq, Eq, Error)]
 pub enum SignError {
     /// The signer doesn't sign these octets.
+    #[error("the signer refuses")]
     Refused,
     /// Want of memory.
+    #[error("out of memory")]
     OutOfMemory,
 }
 
@@ -31,14 +32,3 @@ impl<T: Drop> From<AllocFailed<T>> for SignError {
         SignError::OutOfMemory
     }
 }
-
-impl fmt::Display for SignError {
-    fn fmt<W: fmt::Write>(&self, f: &mut fmt::Formatter<W>) -> fmt::Result {
-        match self {
-            SignError::Refused => f.write_str("the signer refuses"),
-            SignError::OutOfMemory => f.write_str("out of memory"),
-        }
-    }
-}
-
-impl Error for SignError {}

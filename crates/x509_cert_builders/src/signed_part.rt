@@ -1,15 +1,18 @@
 //! The part of a certificate that is signed, while it is made.
 
-ghost use Rattle.std.specs.Prelude.{◌≡◌, ◌⊎◌, IfOk, IfErr};
+ghost use Rattle.std.specs.Prelude.{◌≡◌, ◌⊎◌, Some, IfOk, IfErr};
+ghost use Rattle.const_oid.specs.Bound.{Bound};
 ghost use Rattle.der_core_head.specs.Grammar.{plain_option};
-ghost use Rattle.x509_cert_extensions.specs.Certificates.{tbs_inner_algorithm};
+ghost use Rattle.der_core_head.specs.Ranges.{IsInRange};
+ghost use Rattle.der_core_head.specs.Shapes.{IsValid, octets_of};
+ghost use Rattle.x509_cert_extensions.specs.Certificates.{tbs_certificate, tbs_inner_algorithm};
 ghost use Rattle.x509_cert_extensions.specs.CertificateViews.{tbs_plain};
 ghost use Rattle.x509_cert_extensions.specs.Parts.{algorithm_plain, extensions_plain};
 ghost use Rattle.x509_cert_extensions.specs.Parts.{version_number};
-ghost use Rattle.x509_cert_builders.specs.Refusals.{IsWantOfMemory};
-ghost use Rattle.x509_cert_builders.specs.SignedParts.{IsUnwritable, bare_part, extensions_in};
-ghost use Rattle.x509_cert_builders.specs.SignedParts.{fields_of, has_any, listed, part_octets};
-ghost use Rattle.x509_cert_builders.specs.SignedParts.{signed_part, version_of};
+ghost use Rattle.x509_cert_builders.specs.Refusals.{IsUnwritten, IsWantOfMemory};
+ghost use Rattle.x509_cert_builders.specs.SignedParts.{bare_part, extensions_in, fields_of};
+ghost use Rattle.x509_cert_builders.specs.SignedParts.{has_any, listed, part_shape, signed_part};
+ghost use Rattle.x509_cert_builders.specs.SignedParts.{version_of, written_part};
 
 use crate::error::Error;
 use der_core::to_der;
@@ -65,8 +68,13 @@ pub(crate) fn complete(part: &mut TbsCertificate, extensions: Extensions)
 
 /// The octets of a part.
 pub(crate) fn written(alloc: Global, part: &TbsCertificate) -> Result<Vec<u8>, Error>
-    ensures octets { IfOk result (λ v. v.items ≡ part_octets (tbs_plain part.now)) }
-    ensures refused { IfErr result (λ e. IsWantOfMemory e ⊎ IsUnwritable (tbs_plain part.now)) }
+    ensures octets { IfOk result
+        (λ v. v.items ≡ octets_of part_shape (written_part (tbs_plain part.now))) }
+    ensures valid { IfOk result (λ _. IsInRange part_shape (written_part (tbs_plain part.now))
+        → IsValid part_shape (written_part (tbs_plain part.now))) }
+    ensures refused { IfErr result
+        (λ e. IsWantOfMemory e ⊎ IsUnwritten (tbs_certificate Bound (Some 21))
+        (written_part (tbs_plain part.now)) e) }
 {
     let octets = to_der(alloc, part)?;
     Ok(octets)

@@ -3,10 +3,9 @@
 use crate::sign_error::SignError;
 use rand_core::CryptoRng;
 use std::alloc::Global;
-use x509_cert_extensions::SubjectKeyIdentifier;
 use x509_cert_extensions::certificates::{AlgorithmIdentifier, BitString, SubjectPublicKeyInfo};
 
-/// A key that signs, wherever it is kept: in memory, in a device, behind a process.
+/// A key that signs, wherever it is kept.
 ///
 /// Key and algorithm are values of the signer. Which bits it may answer is one relation of octets
 /// and bits, whether it is given a generator or not; a scheme whose bits are no function of the
@@ -14,10 +13,8 @@ use x509_cert_extensions::certificates::{AlgorithmIdentifier, BitString, Subject
 pub trait Signer {
     ghost use Rattle.std.specs.Prelude.{◌≡◌, ℕ, List, IfOk, IfErr};
     ghost use Rattle.der_core_head.specs.BitStrings.{Bits};
-    ghost use Rattle.der_core_head.specs.Grammar.{plain_option};
     ghost use Rattle.x509_cert_extensions.specs.Parts.{Algorithm, PublicKey, algorithm_plain};
     ghost use Rattle.x509_cert_extensions.specs.Parts.{key_plain};
-    ghost use Rattle.x509_cert_builders.specs.Profiles.{Identifies};
     ghost use Rattle.x509_cert_builders.specs.declared.sign_error.SignError.TheVariants.{Refused};
 
     /// The key under which the bits are judged.
@@ -36,15 +33,6 @@ pub trait Signer {
     fn key_info(&self) -> &SubjectPublicKeyInfo
         ensures { key_plain result.now ≡ public_key self.now };
 
-    /// The identifier of the key (RFC 5280 4.2.1.2, method 1), if the signer keeps it, as with an
-    /// `IdentifiedKey`. Of a signer that leaves this out the key is digested for each certificate
-    /// that names it.
-    fn key_identifier(&self) -> Option<&SubjectKeyIdentifier>
-        ensures { Identifies (plain_option (λ i. i.now.0) result) (public_key self.now) }
-    {
-        None
-    }
-
     /// The algorithm by which they are judged.
     fn algorithm(&self) -> &AlgorithmIdentifier
         ensures { algorithm_plain result.now ≡ signs_by self.now };
@@ -57,16 +45,21 @@ pub trait Signer {
         ensures bits { IfOk result (λ b. signs self.now octets.now b) }
         ensures refused { IfErr result (λ e. e ≡ Refused → may_refuse self.now octets.now) };
 
-    /// The signature of these octets, with what a generator of random octets gives.
+    /// The signature of these octets, with what a generator of random octets gives. A signer that
+    /// takes no random octets leaves this out.
     ///
     /// # Errors
     /// Those of `sign`.
     fn sign_with_rng<R: CryptoRng>(
         &self,
         alloc: Global,
-        rng: &mut R,
+        _rng: &mut R,
         octets: &[u8],
     ) -> Result<BitString, SignError>
         ensures bits { IfOk result (λ b. signs self.now octets.now b) }
-        ensures refused { IfErr result (λ e. e ≡ Refused → may_refuse self.now octets.now) };
+        ensures refused { IfErr result (λ e. e ≡ Refused → may_refuse self.now octets.now) }
+    {
+        let bits = self.sign(alloc, octets)?;
+        Ok(bits)
+    }
 }

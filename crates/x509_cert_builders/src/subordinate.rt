@@ -1,6 +1,6 @@
 //! Subordinate authorities.
 
-ghost use Rattle.std.specs.Prelude.{pos};
+ghost use Rattle.std.specs.Prelude.{Ok, pos};
 ghost use Rattle.der_core_head.specs.Grammar.{plain_option};
 ghost use Rattle.x509_cert_extensions.specs.Parts.{name_plain};
 ghost use Rattle.x509_cert_builders.specs.Profiles.{subordinate_extensions};
@@ -12,7 +12,6 @@ use crate::builder_profile::BuilderProfile;
 use crate::error::Error;
 use crate::uses::authority_usage;
 use std::alloc::Global;
-use x509_cert_extensions::SubjectKeyIdentifier;
 use x509_cert_extensions::certificates::{
     Extensions, Name, SubjectPublicKeyInfoRef, TbsCertificate,
 };
@@ -36,9 +35,10 @@ pub struct Subordinate {
 impl BuilderProfile for Subordinate {
     ghost issuer_name = { λ profile _. name_plain profile.issuer };
 
-    ghost subject_name = { λ profile. name_plain profile.subject };
+    ghost subject_name = { λ profile. Ok (name_plain profile.subject) };
 
-    ghost extensions = { λ profile key issuer_key _. subordinate_extensions profile.emits_ocsp_response
+    ghost extensions = { λ profile key issuer_key _. subordinate_extensions
+        profile.emits_ocsp_response
         profile.client_auth (plain_option (λ n. pos n) profile.path_len_constraint) key issuer_key };
 
     ghost refuses = { λ _ _. ⊥ };
@@ -53,10 +53,6 @@ impl BuilderProfile for Subordinate {
         Ok(subject)
     }
 
-    fn names_certified_key(&self) -> bool {
-        true
-    }
-
     fn build_extensions<'a, 'b>(
         &self,
         alloc: Global,
@@ -64,28 +60,9 @@ impl BuilderProfile for Subordinate {
         issuer_spk: &SubjectPublicKeyInfoRef<'b>,
         tbs: &TbsCertificate,
     ) -> Result<Extensions, Error> {
-        let extensions = self.build_identified_extensions(alloc, spk, None, issuer_spk, None, tbs)?;
-        Ok(extensions)
-    }
-
-    fn build_identified_extensions<'a, 'b>(
-        &self,
-        alloc: Global,
-        spk: &SubjectPublicKeyInfoRef<'a>,
-        identifier: Option<&SubjectKeyIdentifier>,
-        issuer_spk: &SubjectPublicKeyInfoRef<'b>,
-        issuer_identifier: Option<&SubjectKeyIdentifier>,
-        tbs: &TbsCertificate,
-    ) -> Result<Extensions, Error> {
         let subject = &tbs.subject;
         let mut extensions = Vec::with_capacity(alloc, 5)?;
-        add_authority(
-            alloc,
-            &mut extensions,
-            subject,
-            issuer_spk,
-            issuer_identifier,
-        )?;
+        add_authority(alloc, &mut extensions, subject, issuer_spk)?;
         add_constraints(
             alloc,
             &mut extensions,
@@ -95,7 +72,7 @@ impl BuilderProfile for Subordinate {
         )?;
         let usage = authority_usage(self.emits_ocsp_response);
         add_usage(alloc, &mut extensions, subject, usage)?;
-        add_identifier(alloc, &mut extensions, subject, spk, identifier)?;
+        add_identifier(alloc, &mut extensions, subject, spk)?;
         add_purposes(alloc, &mut extensions, subject, self.client_auth)?;
         Ok(extensions)
     }

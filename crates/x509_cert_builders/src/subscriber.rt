@@ -1,10 +1,9 @@
 //! Subscribers.
 
-ghost use Rattle.std.specs.Prelude.{◌≡◌, ◌<◌, ◌^◌, bit_or, false, if◌then◌else◌};
+ghost use Rattle.std.specs.Prelude.{◌≡◌, ◌<◌, ◌^◌, bit_or, if◌then◌else◌};
 ghost use Rattle.x509_cert_extensions.specs.Parts.{name_plain};
 ghost use Rattle.x509_cert_builders.specs.Profiles.{subscriber_extensions, subscriber_uses};
-ghost use Rattle.x509_cert_builders.specs.Subscribers.{is_domain_validated, type_subject};
-ghost use Rattle.x509_cert_builders.specs.declared.error.Error.TheVariants.{Unsupported};
+ghost use Rattle.x509_cert_builders.specs.Subscribers.{type_subject};
 
 use crate::added_extensions::{add_authority, add_constraints, add_purposes, add_usage};
 use crate::builder_profile::BuilderProfile;
@@ -17,7 +16,7 @@ use std::alloc::Global;
 use x509_cert_extensions::certificates::{
     Extensions, FlagSet, Name, SubjectPublicKeyInfoRef, TbsCertificate,
 };
-use x509_cert_extensions::{KeyUsage, KeyUsages, SubjectKeyIdentifier};
+use x509_cert_extensions::{KeyUsage, KeyUsages};
 
 /// The certificate of a server (CA/Browser Forum, Baseline Requirements 7.1.2.7). Its domains are
 /// added to the builder, as `SubjectAltName`.
@@ -79,7 +78,7 @@ impl BuilderProfile for Subscriber {
         profile.tls12_options.enable_key_encipherment profile.tls12_options.enable_key_agreement
         key) issuer_key };
 
-    ghost refuses = { λ profile e. (is_domain_validated profile.certificate_type ≡ false) × (e ≡ Unsupported) };
+    ghost refuses = { λ _ _. ⊥ };
 
     fn get_issuer(&self, alloc: Global, _subject: &Name) -> Result<Name, Error> {
         let issuer = self.issuer.clone(alloc)?;
@@ -103,28 +102,9 @@ impl BuilderProfile for Subscriber {
         issuer_spk: &SubjectPublicKeyInfoRef<'b>,
         tbs: &TbsCertificate,
     ) -> Result<Extensions, Error> {
-        let extensions = self.build_identified_extensions(alloc, spk, None, issuer_spk, None, tbs)?;
-        Ok(extensions)
-    }
-
-    fn build_identified_extensions<'a, 'b>(
-        &self,
-        alloc: Global,
-        spk: &SubjectPublicKeyInfoRef<'a>,
-        _identifier: Option<&SubjectKeyIdentifier>,
-        issuer_spk: &SubjectPublicKeyInfoRef<'b>,
-        issuer_identifier: Option<&SubjectKeyIdentifier>,
-        tbs: &TbsCertificate,
-    ) -> Result<Extensions, Error> {
         let subject = &tbs.subject;
         let mut extensions = Vec::with_capacity(alloc, 4)?;
-        add_authority(
-            alloc,
-            &mut extensions,
-            subject,
-            issuer_spk,
-            issuer_identifier,
-        )?;
+        add_authority(alloc, &mut extensions, subject, issuer_spk)?;
         add_purposes(alloc, &mut extensions, subject, self.client_auth)?;
         add_constraints(alloc, &mut extensions, subject, false, None)?;
         let usage = self.usage(spk);

@@ -29,14 +29,14 @@ pub(crate) fn authority_usage(emits_ocsp_response: bool) -> KeyUsage
     KeyUsage(uses)
 }
 
-/// It signs data.
+/// The key usage of who signs data.
 pub(crate) fn signing_usage() -> KeyUsage
     ensures { result.0.flags.0 ≡ digital_signature }
 {
     KeyUsage(FlagSet::from_flag(KeyUsages::DIGITAL_SIGNATURE))
 }
 
-/// It, or what stands below it, proves who a server is, and maybe who a client is.
+/// The purposes of who proves to be a server, and maybe a client, or stands above such.
 pub(crate) fn purposes_of(alloc: Global, clients: bool) -> Result<ExtendedKeyUsage, Error>
     ensures purposes { IfOk result (λ u. plain_list (λ a. a) u.0.items ≡ purposes clients) }
     ensures refused { IfErr result IsWantOfMemory }

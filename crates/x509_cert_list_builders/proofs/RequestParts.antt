@@ -1,15 +1,20 @@
 -- The part of a request, and its attributes.
-use Rattle.std.proofs.Common.{◌≡◌, ◌⊎◌, ℕ, Bool, List, Result, Ok, Err, sym, ap, ◌∙◌, subst, inl, inr, true, false}
+use Rattle.std.proofs.Common.{◌≡◌, ◌⊎◌, ℕ, Bool, List, Result, Ok, Err, refl, sym, ap, ◌∙◌, subst, inl, inr, true, false}
 use Rattle.std.specs.Prelude.{IfErr, pos}
 use Rattle.std.specs.List.{AllByRecursion, insert}
 use Rattle.const_oid.specs.Bound.{Bound}
+use Rattle.der_core_head.specs.declared.error.Error.{Error as DerError}
 use Rattle.der_core_head.specs.declared.error.ErrorKind.{ErrorKind}
+use Rattle.der_core_head.specs.declared.error.ErrorKind.TheVariants as kinds
 use Rattle.der_core_head.specs.Grammar.{plain_list}
+use Rattle.der_core_head.specs.Reading.{Fails}
 use Rattle.der_core_head.specs.Shapes.{IsValid, IsContent, IsBody}
 use Rattle.x509_cert_lists.specs.Grammar.{extension_req_attribute}
 use Rattle.x509_cert_builders.specs.Parts.{PlainAttribute, PlainExtension, PlainName, PublicKey, attribute}
-use Rattle.x509_cert_list_builders.specs.Requests.{HasNoOctets, IsNoneToAdd, PlainInfo, is_below, placed, request_of, request_part, stands_among, with_request}
-use Rattle.x509_cert_list_builders.proofs.Valid.{all_inserted, all_plain, inserted_all, put_all}
+use Rattle.x509_cert_list_builders.specs.Requests.{HasNoOctets, IsNotAdded, PlainInfo, is_below, placed, request_of, request_part, stands_among, with_request}
+use Rattle.x509_cert_builders.specs.Refusals.{HasNoEncoding, IsWantOfMemory}
+use Rattle.x509_cert_builders.specs.declared.error.Error.TheVariants as errors
+use Rattle.x509_cert_list_builders.proofs.Valid.{all_inserted, all_plain, inserted_all, or_memory, put_all}
 
 -- an attribute that has an encoding, and such attributes
 abbrev pub IsValidAttribute : PlainAttribute → Type 0
@@ -105,3 +110,16 @@ added_attributes f xs ys new i x same put place all valid = ap (plain_list f) pu
 -- they have encodings, as it has
 pub added_valid : {A : Type 0} (f : A → PlainAttribute) (ys new : List A) (i : ℕ) (x : A) → new ≡ insert ys i x → AllAttributes f ys → IsValidAttribute (f x) → AllAttributes f new
 added_valid f ys new i x put all valid = subst (AllAttributes f) (sym put) (all_inserted (λ z. IsValidAttribute (f z)) ys i x valid all)
+
+-- why an attribute isn't added
+pub not_made : (r : Result PlainAttribute ErrorKind) (others : List PlainAttribute) (e : DerError) → Fails e.kind r → IsWantOfMemory (errors.Asn1 e) ⊎ IsNotAdded r others (errors.Asn1 e)
+not_made r others e h = or_memory e.kind (λ enough. subst (λ (q : Result PlainAttribute ErrorKind). IsNotAdded q others (errors.Asn1 e)) (sym (h enough)) refl)
+
+pub not_written : (r : Result PlainAttribute ErrorKind) (a : PlainAttribute) (others : List PlainAttribute) (e : DerError) → r ≡ Ok a → (e.kind ≡ kinds.OutOfMemory) ⊎ HasNoEncoding (attribute Bound) a e.kind
+    → IsWantOfMemory (errors.Asn1 e) ⊎ IsNotAdded r others (errors.Asn1 e)
+not_written r a others e made (inl memory) = inl memory
+not_written r a others e made (inr none) = inr (subst (λ (q : Result PlainAttribute ErrorKind). IsNotAdded q others (errors.Asn1 e)) (sym made) (inl none))
+
+pub not_twice : (r : Result PlainAttribute ErrorKind) (a : PlainAttribute) (others : List PlainAttribute) (e : DerError) → r ≡ Ok a → e.kind ≡ kinds.SetDuplicate
+    → stands_among (attribute Bound) a others ≡ true → IsNotAdded r others (errors.Asn1 e)
+not_twice r a others e made kind stands = subst (λ (q : Result PlainAttribute ErrorKind). IsNotAdded q others (errors.Asn1 e)) (sym made) (inr (kind, stands))

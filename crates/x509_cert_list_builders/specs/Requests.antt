@@ -1,14 +1,17 @@
 -- What a builder of certification requests signs (RFC 2986 4.1).
-use Rattle.std.specs.Prelude.{◌≡◌, List, [], ◌∷◌, pos, Bool, true, false, Result, Ok, Err, IsOk}
-use Rattle.std.specs.Prelude.{if◌then◌else◌}
+use Rattle.std.specs.Prelude.{◌≡◌, ◌⊎◌, List, [], ◌∷◌, pos, Bool, true, false, Result, Ok, Err}
+use Rattle.std.specs.Prelude.{IsOk, if◌then◌else◌}
 use Rattle.std.specs.List.{list_any}
 use Rattle.std.specs.declared.cmp.Ordering.{Ordering}
 use Rattle.std.specs.declared.cmp.Ordering.TheVariants.{Less, Equal, Greater}
 use Rattle.const_oid.specs.Bound.{Bound}
 use Rattle.der_core.specs.Orders.{encodings_cmp}
 use Rattle.der_core_head.specs.declared.error.ErrorKind.{ErrorKind}
+use Rattle.der_core_head.specs.declared.error.ErrorKind.TheVariants as kinds
 use Rattle.der_core_head.specs.Shapes.{Shape, Value, BodyValue, IsValid, sequence}
 use Rattle.x509_cert_lists.specs.Grammar.{cert_req_info_fields, extension_req_attribute}
+use Rattle.x509_cert_builders.specs.Refusals.{IsOfKind, IsUnwritten}
+use Rattle.x509_cert_builders.specs.declared.error.Error.{Error}
 use Rattle.x509_cert_builders.specs.Parts.{PlainAttribute, PlainExtension, PlainName, PublicKey}
 use Rattle.x509_cert_builders.specs.Parts.{attribute}
 
@@ -51,11 +54,13 @@ placed s v others = put (is_below s) v others
 abbrev pub stands_among : (s : Shape) → Value s → List (Value s) → Bool
 stands_among s v others = list_any (λ w. is_same s v w) others
 
--- there is no attribute, or it has no encoding, as where it has 2^32 octets or more, or it stands
--- among these
-abbrev pub IsNoneToAdd : Result PlainAttribute ErrorKind → List PlainAttribute → Type 0
-IsNoneToAdd r others = (a : PlainAttribute) → r ≡ Ok a → IsValid (attribute Bound) a
-    → stands_among (attribute Bound) a others ≡ true
+-- why an attribute isn't added: there is none, it has no encoding, as where it has 2^32 octets or
+-- more, or it stands among these
+abbrev pub IsNotAdded : Result PlainAttribute ErrorKind → List PlainAttribute → Error → Type 0
+IsNotAdded (Err kind) others e = IsOfKind kind e
+IsNotAdded (Ok a) others e =
+    IsUnwritten (attribute Bound) a e
+    ⊎ (IsOfKind kinds.SetDuplicate e × (stands_among (attribute Bound) a others ≡ true))
 
 -- the other attributes with the request for extensions among them, where a length can count its
 -- octets (RFC 2985 5.4.2)

@@ -1,13 +1,12 @@
 //! Builders of revocation lists.
 
-ghost use Rattle.std.specs.Prelude.{◌≡◌, ◌⊎◌, ◌++◌, ◌∷◌, [], Ok, Err, Some, None, IfOk, IfErr};
+ghost use Rattle.std.specs.Prelude.{◌≡◌, ◌⊎◌, ⊤, ◌++◌, ◌∷◌, [], Ok, Err, Some, None, IfOk, IfErr};
 ghost use Rattle.std.specs.Prelude.{OnOk, OnErr};
 ghost use Rattle.std.specs.Iterator.{IsFinite};
 ghost use Rattle.std.specs.Iterator.Runs.{WholeRun};
 ghost use Rattle.der_core_head.specs.declared.error.ErrorKind.TheVariants.{OutOfMemory};
 ghost use Rattle.der_core_head.specs.Grammar.{plain_list, plain_option};
 ghost use Rattle.der_core_head.specs.Reading.{Gives};
-ghost use Rattle.der_core_head.specs.Shapes.{IsValid, octets_of};
 ghost use Rattle.x509_cert_builders.specs.CertificateViews.{tbs_plain};
 ghost use Rattle.x509_cert_builders.specs.Certificates.{tbs_subject};
 ghost use Rattle.x509_cert_builders.specs.Parts.{algorithm_plain, extensions_plain, key_plain};
@@ -15,7 +14,7 @@ ghost use Rattle.x509_cert_builders.specs.Parts.{time_value};
 ghost use Rattle.x509_cert_builders.specs.GeneralNameViews.{authority_key_identifier_plain};
 ghost use Rattle.x509_cert_lists.specs.Views.{certificate_list_plain, revoked_cert_plain};
 ghost use Rattle.x509_cert_lists.specs.Views.{tbs_cert_list_plain};
-ghost use Rattle.x509_cert_builders.specs.Refusals.{IsWantOfMemory};
+ghost use Rattle.x509_cert_builders.specs.Refusals.{IsUnwritten, IsWantOfMemory};
 ghost use Rattle.x509_cert_list_builders.specs.Lists.{HasNoExtensions, PlainAuthority, entries};
 ghost use Rattle.x509_cert_list_builders.specs.Lists.{given_or_made, issuing_key, key_extension};
 ghost use Rattle.x509_cert_list_builders.specs.Lists.{list_part, number_extension};
@@ -63,7 +62,8 @@ fn identifier_of(
     alloc: Global,
     key: &SubjectPublicKeyInfo,
 ) -> Result<AuthorityKeyIdentifier, der_core::Error>
-    ensures { Gives authority_key_identifier_plain result (Ok (given_or_made (key_plain key.now) None)) }
+    ensures { Gives authority_key_identifier_plain result
+        (Ok (given_or_made (key_plain key.now) None)) }
 {
     let algorithm: AlgorithmIdentifierRef<'_> = key.algorithm.owned_to_ref();
     let key: SubjectPublicKeyInfoRef<'_> = SubjectPublicKeyInfoRef {
@@ -95,7 +95,8 @@ fn own_extensions(
     issuer: &TbsCertificate,
     number: &CrlNumber,
 ) -> Result<Extensions, der_core::Error>
-    ensures made { IfOk result (λ v. (key : PlainAuthority) × (issuing_key (tbs_plain issuer.now) ≡ Ok key)
+    ensures made { IfOk result (λ v. (key : PlainAuthority)
+        × (issuing_key (tbs_plain issuer.now) ≡ Ok key)
         × (extensions_plain v.items ≡ number_extension number.now.0 ∷ key_extension key ∷ [])) }
     ensures refused { IfErr result (λ e. (e.kind ≡ OutOfMemory)
         ⊎ (issuing_key (tbs_plain issuer.now) ≡ Err e.kind)
@@ -124,14 +125,15 @@ impl<P: Profile> CrlBuilder<P> {
         crl_number: CrlNumber,
         this_update: Time,
     ) -> Result<CrlBuilder<P>, der_core::Error>
-        ensures made { IfOk result (λ b. (key : PlainAuthority) × (issuing_key (tbs_plain issuer.now.tbs_certificate) ≡ Ok key) × (b ≡ record {
-          issuer = tbs_subject (tbs_plain issuer.now.tbs_certificate);
-          this_update = time_value this_update;
-          next_update = None;
-          revoked = None;
-          extensions = number_extension crl_number.0 ∷ key_extension key ∷ [];
-          finalized = None;
-        })) }
+        ensures made { IfOk result (λ b. (key : PlainAuthority)
+            × (issuing_key (tbs_plain issuer.now.tbs_certificate) ≡ Ok key) × (b ≡ record {
+              issuer = tbs_subject (tbs_plain issuer.now.tbs_certificate);
+              this_update = time_value this_update;
+              next_update = None;
+              revoked = None;
+              extensions = number_extension crl_number.0 ∷ key_extension key ∷ [];
+              finalized = None;
+            })) }
         ensures refused { IfErr result (λ e. (e.kind ≡ OutOfMemory)
             ⊎ (issuing_key (tbs_plain issuer.now.tbs_certificate) ≡ Err e.kind)
             ⊎ HasNoExtensions crl_number.0 (issuing_key (tbs_plain issuer.now.tbs_certificate))) }
@@ -202,7 +204,8 @@ impl<P: Profile> CrlBuilder<P> {
 
     /// The certificates of the list, copied.
     fn certificates(&self, alloc: Global) -> Result<Option<Vec<RevokedCert<P>>>, Error>
-        ensures copied { IfOk result (λ v. plain_option (λ rs. plain_list revoked_cert_plain rs.items) v
+        ensures copied { IfOk result
+            (λ v. plain_option (λ rs. plain_list revoked_cert_plain rs.items) v
             ≡ self.now.revoked) }
         ensures refused { IfErr result IsWantOfMemory }
     {
@@ -244,17 +247,26 @@ impl<P: Profile> CrlBuilder<P> {
 impl<P: Profile> Builder for CrlBuilder<P> {
     type Output = CertificateList<P>;
 
-    ghost to_sign = { λ b _ algorithm. octets_of (list_part P.serial_limit) (list_of b algorithm) };
+    ghost part_shape = { list_part P.serial_limit };
+
+    ghost to_sign = { λ b _ algorithm. list_of b algorithm };
+
+    // Whether a list that is made has an encoding isn't said.
+    ghost is_valid = { λ _ _ _. ⊤ };
 
     // The part has no encoding.
-    ghost faults = { λ b _ algorithm _. IsValid (list_part P.serial_limit) (list_of b algorithm) → ⊥ };
+    ghost faults = { λ b _ algorithm e. IsUnwritten (list_part P.serial_limit) (list_of b algorithm)
+        e };
 
-    ghost finalized = { λ b. plain_option (λ t. octets_of (list_part P.serial_limit) t) b.finalized };
+    ghost finalized = { λ b. b.finalized };
 
     // A list bears the algorithm of its signed part (RFC 5280 5.1.1.2).
     ghost algorithm_for = { λ b a. algorithm_of_last b.finalized a };
 
-    ghost signed_octets = { λ c. octets_in_place (list_part P.serial_limit) (certificate_list_plain c) };
+    ghost signed_part = { λ c. tbs_cert_list_plain c.tbs_cert_list };
+
+    ghost signed_octets = { λ c. octets_in_place (list_part P.serial_limit)
+        (certificate_list_plain c) };
 
     ghost outer_algorithm = { λ c. algorithm_plain c.signature_algorithm };
 

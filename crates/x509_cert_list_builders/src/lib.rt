@@ -13,7 +13,7 @@ pub use request_builder::RequestBuilder;
 // What both are, who signs, and the builder of certificates.
 pub use x509_cert_builders::{
     Builder, BuilderProfile, CertificateBuilder, CertificateType, DevId, DomainValidated, Error,
-    IdentifiedKey, Root, SignError, Signer, Subordinate, Subscriber, Tls12Options, TpmVersion,
+    Root, SignError, Signer, Subordinate, Subscriber, Tls12Options, TpmVersion,
     ca_certificate_naming, check_names_encoding, tcg_sv_tpm_12, tcg_sv_tpm_20,
 };
 

@@ -20,7 +20,7 @@ pub(crate) fn place_of<T: DerOrd + Member>(values: &[T], item: &T) -> Result<usi
         → IsValid T.shape (T.written item.now)
         → IfOk result (λ i. plain_list T.written (insert values.now i item.now)
         ≡ placed T.shape (T.written item.now) (plain_list T.written values.now)) }
-    // It is answered wherever all have an encoding.
+    // An answer comes wherever all have an encoding.
     ensures answered { AllByRecursion (λ x. IsValid T.shape (T.written x)) values.now
         → IsValid T.shape (T.written item.now) → IsOk result }
 {
@@ -42,7 +42,7 @@ pub(crate) fn stands_among<T: DerOrd + Member>(values: &[T], item: &T) -> Result
         → IsValid T.shape (T.written item.now)
         → IfOk result
         (λ b. b ≡ stands_among T.shape (T.written item.now) (plain_list T.written values.now)) }
-    // It is answered wherever all have an encoding.
+    // An answer comes wherever all have an encoding.
     ensures answered { AllByRecursion (λ x. IsValid T.shape (T.written x)) values.now
         → IsValid T.shape (T.written item.now) → IsOk result }
 {

@@ -5,14 +5,14 @@ ghost use Rattle.std.specs.Prelude.{OnOk, OnErr, IsOk};
 ghost use Rattle.const_oid.specs.Bound.{Bound};
 ghost use Rattle.der_core_head.specs.Grammar.{plain_option};
 ghost use Rattle.der_core_head.specs.Ranges.{IsBodyInRange};
-ghost use Rattle.der_core_head.specs.Shapes.{IsValid, octets_of};
+ghost use Rattle.der_core_head.specs.Shapes.{IsValid};
 ghost use Rattle.x509_cert_lists.specs.Attributes.{any_of, attribute_of};
 ghost use Rattle.x509_cert_lists.specs.Grammar.{cert_req_info_fields};
 ghost use Rattle.x509_cert_builders.specs.Parts.{PlainAttribute, algorithm_plain, attribute};
 ghost use Rattle.x509_cert_builders.specs.Parts.{key_plain, name_plain};
 ghost use Rattle.x509_cert_lists.specs.Views.{cert_req_info_plain, cert_req_plain};
 ghost use Rattle.x509_cert_builders.specs.Refusals.{IsWantOfMemory, IsWantOfMemoryAs};
-ghost use Rattle.x509_cert_list_builders.specs.Requests.{HasNoOctets, IsNoneToAdd, placed};
+ghost use Rattle.x509_cert_list_builders.specs.Requests.{HasNoOctets, IsNotAdded, placed};
 ghost use Rattle.x509_cert_list_builders.specs.Requests.{request_of, request_part, stands_among};
 ghost use Rattle.x509_cert_list_builders.specs.Signed.{octets_in_place};
 
@@ -102,7 +102,8 @@ impl RequestBuilder {
                   ++ E.made extension self.old.subject self.old.extensions ∷ [];
             }) }
         ensures kept { OnErr result (self.new ≡ self.old) }
-        ensures refused { IfErr result (λ e. E.refused extension e ⊎ IsWantOfMemoryAs E.Error.from_gives e) }
+        ensures refused { IfErr result (λ e. E.refused extension e
+            ⊎ IsWantOfMemoryAs E.Error.from_gives e) }
     {
         let made = extension.to_extension(alloc, &self.subject, self.extensions.0.as_slice())?;
         match self.extensions.0.push(made) {
@@ -127,8 +128,8 @@ impl RequestBuilder {
             ≡ Ok a → stands_among (attribute Bound) a self.old.attributes ≡ false) }
         ensures kept { OnErr result (self.new ≡ self.old) }
         ensures refused { IfErr result (λ e. IsWantOfMemory e
-            ⊎ IsNoneToAdd (attribute_of A.oid_arcs (any_of A.shape (A.written value.now)))
-            self.old.attributes) }
+            ⊎ IsNotAdded (attribute_of A.oid_arcs (any_of A.shape (A.written value.now)))
+            self.old.attributes e) }
     {
         let made = value.to_attribute(alloc)?;
         made.in_range();
@@ -174,16 +175,24 @@ impl RequestBuilder {
 impl Builder for RequestBuilder {
     type Output = CertReq;
 
-    ghost to_sign = { λ b key _. octets_of request_part (request_of b.subject b.extensions b.attributes key) };
+    ghost part_shape = { request_part };
+
+    ghost to_sign = { λ b key _. request_of b.subject b.extensions b.attributes key };
+
+    ghost is_valid = { λ b key _. IsValid request_part
+        (request_of b.subject b.extensions b.attributes key) };
 
     // The extensions that are asked for, or the part, have no encoding.
-    ghost faults = { λ b key _ _. HasNoOctets b.extensions (request_of b.subject b.extensions b.attributes key) };
+    ghost faults = { λ b key _ _. HasNoOctets b.extensions
+        (request_of b.subject b.extensions b.attributes key) };
 
-    ghost finalized = { λ b. plain_option (λ i. octets_of request_part i) b.finalized };
+    ghost finalized = { λ b. b.finalized };
 
     // The signed part of a request holds no algorithm (RFC 2986 4.1): the signature's is that of
     // its signer.
     ghost algorithm_for = { λ _ signer. signer };
+
+    ghost signed_part = { λ r. cert_req_info_plain r.info };
 
     ghost signed_octets = { λ r. octets_in_place request_part (cert_req_plain r) };
 

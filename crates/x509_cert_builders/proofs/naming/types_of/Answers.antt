@@ -1,4 +1,4 @@
-use Rattle.std.proofs.Common.{◌≡◌, ℕ, List, [], ◌∷◌, Err, sym, ap, ◌∙◌, subst}
+use Rattle.std.proofs.Common.{◌≡◌, [], ◌∷◌, Err, sym, ap, ◌∙◌, subst}
 use Rattle.der_core_head.specs.Grammar.{plain_list}
 use Rattle.x509_cert_extensions.specs.Parts.{name_plain, relative_plain}
 use Rattle.x509_cert_builders.specs.Naming.{type_behind}
@@ -8,18 +8,25 @@ use Rattle.x509_cert_builders.proofs.naming.types_of.Goals as goal
 pub returns-in-Err-clause-rules : goal.returns-in-Err-clause-rules
 returns-in-Err-clause-rules c =
     let n = name_plain c.args.name.now in
-    let found = c.loop-relative.found.items in
+    let found = c.loop-relative.found in
     let relative = relative_plain c.in-Some.relative.now in
     let left = plain_list relative_plain c.next.new.self.left.now in
     let next : plain_list relative_plain c.loop-relative.relative-iterator.left.now ≡ relative ∷ left = ap (plain_list relative_plain) c.in-Some.ensures.steps in
-    let checked : IsChecked c.args.multiple_allowed n found (relative ∷ left) = subst (IsChecked c.args.multiple_allowed n found) next c.loop-relative.invariant.1 in
-    let why : type_behind c.args.multiple_allowed found relative ≡ Err c.in-Err.error =
-    ap (λ (before : List (List ℕ)). type_behind c.args.multiple_allowed before relative) (sym c.as_slice.ensures.value) ∙ sym (c.type_behind.ensures c.loop-relative.invariant.0) ∙ c.in-Err.is in
+    let checked : IsChecked c.args.multiple_allowed n found (relative ∷ left) = subst (IsChecked c.args.multiple_allowed n found) next c.loop-relative.invariant in
+    let why : type_behind c.args.multiple_allowed found relative ≡ Err c.in-Err.error = sym c.type_behind.ensures ∙ c.in-Err.is in
     checked_fault c.args.multiple_allowed n found relative left c.in-Err.error checked why
 
 pub returns-clause-rules : goal.returns-clause-rules
 returns-clause-rules c =
     let n = name_plain c.args.name.now in
-    let found = c.loop-relative.found.items in
+    let found = c.loop-relative.found in
     let none : plain_list relative_plain c.loop-relative.relative-iterator.left.now ≡ [] = ap (plain_list relative_plain) c.in-None.ensures.steps.0 in
-    (checked_all c.args.multiple_allowed n found (subst (IsChecked c.args.multiple_allowed n found) none c.loop-relative.invariant.1)).0
+    (checked_all c.args.multiple_allowed n found (subst (IsChecked c.args.multiple_allowed n found) none c.loop-relative.invariant)).0
+
+pub returns-clause-types : goal.returns-clause-types
+returns-clause-types c =
+    let n = name_plain c.args.name.now in
+    let found = c.loop-relative.found in
+    let none : plain_list relative_plain c.loop-relative.relative-iterator.left.now ≡ [] = ap (plain_list relative_plain) c.in-None.ensures.steps.0 in
+    c.into_types.ensures
+    ∙ (checked_all c.args.multiple_allowed n found (subst (IsChecked c.args.multiple_allowed n found) none c.loop-relative.invariant)).1

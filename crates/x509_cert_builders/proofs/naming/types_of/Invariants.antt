@@ -1,10 +1,8 @@
-use Rattle.std.proofs.Common.{◌≡◌}
 use Rattle.der_core_head.specs.Grammar.{plain_list}
 use Rattle.x509_cert_extensions.specs.Parts.{name_plain, relative_plain}
-use Rattle.x509_cert_builders.specs.Naming.{ordered_types}
 use Rattle.x509_cert_builders.proofs.NamingSteps.{IsChecked}
 use Rattle.x509_cert_builders.proofs.naming.types_of.Given as goal
 
 abbrev pub invariant-loop-relative : goal.invariant-loop-relative
 invariant-loop-relative l =
-    (l.ordered ≡ ordered_types) × IsChecked l.multiple_allowed (name_plain l.name) l.found.items (plain_list relative_plain l.relative-iterator.left.now)
+    IsChecked l.multiple_allowed (name_plain l.name) l.found (plain_list relative_plain l.relative-iterator.left.now)
