@@ -1,9 +1,11 @@
 //! Builders of certificates, revocation lists and requests: what a signer is handed are the octets
 //! of the signed part of what comes out (RFC 5280 4, 5; RFC 2986 4).
 
+pub mod profile;
+
 pub use x509_cert_list_builders::{
     Builder, BuilderProfile, CertificateBuilder, CertificateType, CrlBuilder, DevId,
-    DomainValidated, Error, IdentifiedKey, RequestBuilder, Root, SignError, Signer, Subordinate,
-    Subscriber, Tls12Options, TpmVersion, ca_certificate_naming, check_names_encoding,
-    tcg_sv_tpm_12, tcg_sv_tpm_20,
+    DomainValidated, Error, RequestBuilder, Root, SignError, Signer, Subordinate, Subscriber,
+    Tls12Options, TpmVersion, ca_certificate_naming, check_names_encoding, tcg_sv_tpm_12,
+    tcg_sv_tpm_20,
 };

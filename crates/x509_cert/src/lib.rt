@@ -2,11 +2,19 @@
 //! (RFC 5280, RFC 2986, RFC 5914, RFC 6962): what the inner crates have, under one name.
 #![tactic(auto)]
 
+pub mod anchor;
+pub mod attr;
 pub mod builder;
+pub mod certificate;
+pub mod crl;
+pub mod ext;
 pub mod laws;
-mod pki_path;
+pub mod name;
+pub mod request;
+pub mod serial_number;
+pub mod time;
 
-pub use pki_path::PkiPath;
+pub use certificate::PkiPath;
 
 // Certificates.
 pub use x509_cert_list_builders::types::certificates::{
@@ -39,9 +47,9 @@ pub use x509_cert_list_builders::types::{
 
 // Lists, requests and anchors.
 pub use x509_cert_anchors::{
-    CertPathControls, CertPolicies, CertPolicyFlags, TrustAnchorChoice, TrustAnchorInfo, anchor,
+    CertPathControls, CertPolicies, CertPolicyFlags, TrustAnchorChoice, TrustAnchorInfo,
 };
 pub use x509_cert_list_builders::lists::{
     AsAttribute, CertReq, CertReqInfo, CertificateList, ChallengePassword, ExtensionReq,
-    RevokedCert, TbsCertList, TryFromExtensionReq, request,
+    RevokedCert, TbsCertList, TryFromExtensionReq,
 };

@@ -16,14 +16,14 @@ use Rattle.x509_cert_policies.specs.Parts.{name, octet_string, public_key_info, 
 use Rattle.x509_cert_policies.specs.Grammar.{policy_information_fields}
 
 -- CertPolicyFlags ::= BIT STRING { inhibitPolicyMapping (0), requireExplicitPolicy (1),
--- inhibitAnyPolicy (2) } (2.5)
+--     inhibitAnyPolicy (2) } (2.5)
 abbrev pub flag_count : ℕ
 flag_count = 3
 
 -- CertPathControls ::= SEQUENCE { taName Name, certificate [0] Certificate OPTIONAL, policySet [1]
--- CertificatePolicies OPTIONAL, policyFlags [2] CertPolicyFlags OPTIONAL, nameConstr [3]
--- NameConstraints OPTIONAL, pathLenConstraint [4] INTEGER (0..MAX) OPTIONAL } (2.5), each tag in
--- place of the field's own
+--     CertificatePolicies OPTIONAL,
+--     policyFlags [2] CertPolicyFlags OPTIONAL, nameConstr [3] NameConstraints OPTIONAL,
+--     pathLenConstraint [4] INTEGER (0..MAX) OPTIONAL } (2.5), each tag in place of the field's own
 abbrev pub constraint_fields : ℕ → Body
 constraint_fields bound =
     field (optional (inside 1 (many (sequence (policy_information_fields bound)))))
@@ -52,8 +52,10 @@ abbrev pub utf8_string : Shape
 utf8_string = tagged tags.Utf8String (leaf utf8)
 
 -- TrustAnchorInfo ::= SEQUENCE { version TrustAnchorInfoVersion DEFAULT v1, pubKey
--- SubjectPublicKeyInfo, keyId OCTET STRING, taTitle UTF8String OPTIONAL, certPath CertPathControls
--- OPTIONAL, exts [1] EXPLICIT Extensions OPTIONAL, taTitleLangTag [2] UTF8String OPTIONAL } (2)
+--     SubjectPublicKeyInfo, keyId OCTET STRING,
+--     taTitle UTF8String OPTIONAL, certPath CertPathControls OPTIONAL, exts [1] EXPLICIT Extensions
+--     OPTIONAL,
+--     taTitleLangTag [2] UTF8String OPTIONAL } (2)
 abbrev pub title_fields : ℕ → Option ℕ → Body
 title_fields bound limit =
     field (optional utf8_string)
@@ -66,7 +68,7 @@ trust_anchor_info_fields bound limit =
     (field (public_key_info bound) (field octet_string (title_fields bound limit)))
 
 -- TrustAnchorChoice ::= CHOICE { certificate Certificate, tbsCert [1] EXPLICIT TBSCertificate,
--- taInfo [2] EXPLICIT TrustAnchorInfo } (2)
+--     taInfo [2] EXPLICIT TrustAnchorInfo } (2)
 abbrev pub trust_anchor_choice : ℕ → Option ℕ → Shape
 trust_anchor_choice bound limit =
     either (certificate bound limit)

@@ -99,7 +99,7 @@ impl<P: Profile> CertPathControls<P> {
         }
     }
 
-    /// Its fields, lent.
+    /// The fields in their order, lent.
     fn row<'a>(&'a self) -> RowRef<'a, P>
         ensures { ⟦<RowRef<'a, P> as Fields>⟧.fields_written result
             ≡ cert_path_controls_by P.respells (cert_path_controls_plain self.now) }

@@ -45,7 +45,7 @@ type CasesRef<'a, P> = OneOf3<
 >;
 
 impl<P: Profile> TrustAnchorChoice<P> {
-    /// The same alternative, lent.
+    /// The alternative that stands, lent.
     fn cases<'a>(&'a self) -> CasesRef<'a, P>
         ensures { ⟦<CasesRef<'a, P> as Shaped>⟧.written result
             ≡ trust_anchor_by P.respells (trust_anchor_plain self.now) }

@@ -35,7 +35,7 @@ use x509_cert_policies::certificates::{
 #[derive(Drop)]
 #[derive_where(Clone, Debug, PartialEq, Eq)]
 pub struct TrustAnchorInfo<P = Rfc5280> {
-    /// Its version.
+    /// The version.
     pub version: Version,
     /// The key.
     pub pub_key: SubjectPublicKeyInfo,
@@ -93,7 +93,7 @@ type RowRef<'a, P> = (
 );
 
 impl<P: Profile> TrustAnchorInfo<P> {
-    /// Its fields, lent.
+    /// The fields in their order, lent.
     fn row<'a>(&'a self) -> RowRef<'a, P>
         ensures { ⟦<RowRef<'a, P> as Fields>⟧.fields_written result
             ≡ trust_anchor_info_by P.respells (trust_anchor_info_plain self.now) }

@@ -23,8 +23,10 @@ abbrev pub unique_identifier : ℕ → Shape
 unique_identifier n = tagged (context false n) (leaf bits)
 
 -- TBSCertificate ::= SEQUENCE { version [0] EXPLICIT Version DEFAULT v1, serialNumber, signature,
--- issuer, validity, subject, subjectPublicKeyInfo, issuerUniqueID [1] IMPLICIT OPTIONAL,
--- subjectUniqueID [2] IMPLICIT OPTIONAL, extensions [3] EXPLICIT Extensions OPTIONAL }
+--     issuer, validity, subject,
+--     subjectPublicKeyInfo, issuerUniqueID [1] IMPLICIT OPTIONAL, subjectUniqueID [2] IMPLICIT
+--     OPTIONAL,
+--     extensions [3] EXPLICIT Extensions OPTIONAL }
 abbrev pub identity_fields : ℕ → Body → Body
 identity_fields bound behind =
     field (name bound) (field validity (field (name bound) (field (public_key_info bound) behind)))
@@ -45,7 +47,7 @@ abbrev pub tbs_certificate : ℕ → Option ℕ → Shape
 tbs_certificate bound limit = sequence (tbs_fields bound limit)
 
 -- Certificate ::= SEQUENCE { tbsCertificate TBSCertificate, signatureAlgorithm AlgorithmIdentifier,
--- signatureValue BIT STRING }
+--     signatureValue BIT STRING }
 abbrev pub certificate_fields : ℕ → Option ℕ → Body
 certificate_fields bound limit =
     field (tbs_certificate bound limit) (field (algorithm_identifier bound) (field bit_string done))

@@ -131,7 +131,8 @@ impl<P: Profile> CertificateInner<P> {
     /// The first fault from the left, or `OutOfMemory`.
     pub fn from_der(alloc: Global, bytes: &[u8]) -> Result<CertificateInner<P>, Error>
         // What is read is spelled so.
-        ensures spelled { IfOk result (λ c. Spells (certificate Bound P.serial_limit) (certificate_plain c)
+        ensures spelled { IfOk result
+            (λ c. Spells (certificate Bound P.serial_limit) (certificate_plain c)
             bytes.now) }
         // What is refused for another reason than want of memory is spelled by no certificate.
         ensures refused { IfErr result (λ e. e.kind ≢ OutOfMemory → (c : PlainCertificate)

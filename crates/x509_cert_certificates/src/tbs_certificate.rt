@@ -49,9 +49,9 @@ use x509_cert_parts::{
 #[derive(Drop)]
 #[derive_where(Clone, Debug, PartialEq, Eq)]
 pub struct TbsCertificateInner<P = Rfc5280> {
-    /// Its version, which says which fields it may have.
+    /// The version, which says which fields it may have.
     pub version: Version,
-    /// Its number, which its issuer gives once.
+    /// The number, which an issuer gives once.
     pub serial_number: SerialNumber<P>,
     /// The algorithm by which it is signed, the same as outside the signed part.
     pub signature: AlgorithmIdentifier,
@@ -250,7 +250,7 @@ impl<P: Profile> ApartValue for TbsCertificateInner<P> {
 }
 
 impl<P> TbsCertificateInner<P> {
-    /// Its version.
+    /// The version.
     pub fn version(&self) -> Version
         ensures { version_number result ≡ tbs_version (tbs_plain self.now) }
     {

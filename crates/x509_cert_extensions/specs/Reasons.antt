@@ -5,7 +5,8 @@ use Rattle.x509_cert_extensions.specs.declared.crl_reason.CrlReason.{CrlReason}
 use Rattle.x509_cert_extensions.specs.declared.crl_reason.CrlReason.TheVariants as reasons
 
 -- CRLReason ::= ENUMERATED { unspecified (0), keyCompromise (1), .. certificateHold (6),
--- removeFromCRL (8), privilegeWithdrawn (9), aACompromise (10) }
+--     removeFromCRL (8), privilegeWithdrawn (9),
+--     aACompromise (10) }
 abbrev pub reason_numbers : Numbers
 reason_numbers = among (0 ∷ 1 ∷ 2 ∷ 3 ∷ 4 ∷ 5 ∷ 6 ∷ 8 ∷ 9 ∷ 10 ∷ [])
 

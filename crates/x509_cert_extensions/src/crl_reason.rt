@@ -19,7 +19,8 @@ use x509_cert_policies::general_names::making::number_among;
 ///
 /// ```text
 /// CRLReason ::= ENUMERATED {
-/// unspecified (0), keyCompromise (1), cACompromise (2), affiliationChanged (3), superseded (4),
+///     unspecified (0), keyCompromise (1), cACompromise (2), affiliationChanged (3), superseded
+///     (4),
 ///     cessationOfOperation (5), certificateHold (6), removeFromCRL (8), privilegeWithdrawn (9),
 ///     aACompromise (10) }
 /// ```
@@ -35,11 +36,11 @@ pub enum CrlReason {
     AffiliationChanged,
     /// Another certificate took its place.
     Superseded,
-    /// It isn't needed any more.
+    /// The certificate isn't needed any more.
     CessationOfOperation,
-    /// It is on hold.
+    /// The certificate is on hold.
     CertificateHold,
-    /// It is no longer on hold, or expired (only in lists of differences).
+    /// The certificate is no longer on hold, or it expired (only in lists of differences).
     RemoveFromCRL,
     /// A privilege that it gives was withdrawn.
     PrivilegeWithdrawn,

@@ -58,7 +58,11 @@ impl TryFromKey for SubjectKeyIdentifier {
 
 /// The key's issuer and serial number stay away.
 impl TryFromKey for AuthorityKeyIdentifier {
-    ghost identifies = { λ i w. i ≡ record { key_identifier = Some w; authority_cert_issuer = None; authority_cert_serial_number = None } };
+    ghost identifies = { λ i w. i ≡ record {
+      key_identifier = Some w;
+      authority_cert_issuer = None;
+      authority_cert_serial_number = None;
+    } };
 
     fn try_from_key<'a>(
         alloc: Global,

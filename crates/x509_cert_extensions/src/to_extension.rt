@@ -61,11 +61,12 @@ fn extension_of<T: Encode>(
     })
 }
 
-/// It with the identifier and the criticality of its type.
+/// A lent value with the identifier and the criticality of its type.
 impl<'a, T: Encode + AssociatedOid + Criticality> ToExtension for &'a T {
     type Error = Error;
 
-    ghost made = { λ x subject extensions. extension_of T.oid_arcs (T.is_critical x.now subject extensions)
+    ghost made = { λ x subject extensions. extension_of T.oid_arcs
+        (T.is_critical x.now subject extensions)
         T.shape (T.written x.now) };
 
     // A value that has an encoding is refused for want of memory alone.
@@ -104,7 +105,8 @@ impl ToExtension for Extension {
 impl<'a, T: Encode + Criticality> ToExtension for (ObjectIdentifier<39>, &'a T) {
     type Error = Error;
 
-    ghost made = { λ x subject extensions. extension_of x.0 (T.is_critical x.1.now subject extensions)
+    ghost made = { λ x subject extensions. extension_of x.0
+        (T.is_critical x.1.now subject extensions)
         T.shape (T.written x.1.now) };
 
     ghost refused = { λ x e. IsValid T.shape (T.written x.1.now) → e.kind ≡ OutOfMemory };

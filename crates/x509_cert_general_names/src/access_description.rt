@@ -40,9 +40,10 @@ type RowRef<'a> = (
 );
 
 impl AccessDescription {
-    /// Its fields, lent.
+    /// The fields in their order, lent.
     fn row<'a>(&'a self) -> RowRef<'a>
-        ensures { ⟦<RowRef<'a> as Fields>⟧.fields_written result ≡ access_description_plain self.now }
+        ensures { ⟦<RowRef<'a> as Fields>⟧.fields_written result
+            ≡ access_description_plain self.now }
     {
         (
             EncodeRef(&self.access_method),

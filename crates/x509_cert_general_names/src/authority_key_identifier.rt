@@ -55,7 +55,7 @@ type RowRef<'a> = (
 );
 
 impl AuthorityKeyIdentifier {
-    /// Its fields, lent.
+    /// The fields in their order, lent.
     fn row<'a>(&'a self) -> RowRef<'a>
         ensures { ⟦<RowRef<'a> as Fields>⟧.fields_written result
             ≡ authority_key_identifier_plain self.now }

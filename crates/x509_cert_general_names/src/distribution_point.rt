@@ -29,7 +29,7 @@ use std::cmp::Ordering;
 /// ```
 #[derive(Clone, Debug, Drop, PartialEq, Eq)]
 pub struct DistributionPoint {
-    /// Its name.
+    /// The name.
     pub distribution_point: Option<DistributionPointName>,
     /// The reasons for which certificates stand in the list. Without them, all.
     pub reasons: Option<ReasonFlags>,
@@ -54,9 +54,10 @@ type RowRef<'a> = (
 );
 
 impl DistributionPoint {
-    /// Its fields, lent.
+    /// The fields in their order, lent.
     fn row<'a>(&'a self) -> RowRef<'a>
-        ensures { ⟦<RowRef<'a> as Fields>⟧.fields_written result ≡ distribution_point_plain self.now }
+        ensures { ⟦<RowRef<'a> as Fields>⟧.fields_written result
+            ≡ distribution_point_plain self.now }
     {
         (
             explicit_ref(&self.distribution_point),

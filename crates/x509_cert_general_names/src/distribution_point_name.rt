@@ -37,9 +37,10 @@ type CasesRef<'a> = OneOf2<
 >;
 
 impl DistributionPointName {
-    /// The same alternative, lent.
+    /// The alternative that stands, lent.
     fn cases<'a>(&'a self) -> CasesRef<'a>
-        ensures { ⟦<CasesRef<'a> as Shaped>⟧.written result ≡ distribution_point_name_plain self.now }
+        ensures { ⟦<CasesRef<'a> as Shaped>⟧.written result
+            ≡ distribution_point_name_plain self.now }
     {
         match self {
             DistributionPointName::FullName(value) => OneOf2::First(ImplicitRef { value: value }),

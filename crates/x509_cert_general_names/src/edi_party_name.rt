@@ -42,7 +42,7 @@ type RowRef<'a> = (
 );
 
 impl EdiPartyName {
-    /// Its fields, lent.
+    /// The fields in their order, lent.
     fn row<'a>(&'a self) -> RowRef<'a>
         ensures { ⟦<RowRef<'a> as Fields>⟧.fields_written result ≡ edi_party_name_plain self.now }
     {

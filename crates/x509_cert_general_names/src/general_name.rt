@@ -108,7 +108,7 @@ impl GeneralName {
         Ok(GeneralName::IpAddress(octets))
     }
 
-    /// The same alternative, lent.
+    /// The alternative that stands, lent.
     fn cases<'a>(&'a self) -> CasesRef<'a>
         ensures { ⟦<CasesRef<'a> as Shaped>⟧.written result ≡ general_name_plain self.now }
     {

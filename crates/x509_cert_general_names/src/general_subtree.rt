@@ -54,7 +54,7 @@ type RowRef<'a> = (
 );
 
 impl GeneralSubtree {
-    /// Its fields, lent.
+    /// The fields in their order, lent.
     fn row<'a>(&'a self) -> RowRef<'a>
         ensures { ⟦<RowRef<'a> as Fields>⟧.fields_written result ≡ general_subtree_plain self.now }
     {

@@ -33,7 +33,7 @@ use x509_cert_certificates::OctetString;
 pub struct HardwareModuleName {
     /// The type of the module.
     pub hw_type: ObjectIdentifier<39>,
-    /// Its serial number.
+    /// The serial number.
     pub hw_serial_num: OctetString,
 }
 
@@ -82,7 +82,7 @@ impl HardwareModuleName {
         Ok(None)
     }
 
-    /// Its fields, lent.
+    /// The fields in their order, lent.
     fn row<'a>(&'a self) -> RowRef<'a>
         ensures { ⟦<RowRef<'a> as Fields>⟧.fields_written result
             ≡ hardware_module_name_plain self.now }

@@ -80,7 +80,7 @@ type RowRef<'a> = (
 );
 
 impl IssuingDistributionPoint {
-    /// Its fields, lent.
+    /// The fields in their order, lent.
     fn row<'a>(&'a self) -> RowRef<'a>
         ensures { ⟦<RowRef<'a> as Fields>⟧.fields_written result ≡ issuing_distribution_point_plain
             self.now }

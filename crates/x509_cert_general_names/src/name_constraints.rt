@@ -45,7 +45,7 @@ type RowRef<'a> = (
 );
 
 impl NameConstraints {
-    /// Its fields, lent.
+    /// The fields in their order, lent.
     fn row<'a>(&'a self) -> RowRef<'a>
         ensures { ⟦<RowRef<'a> as Fields>⟧.fields_written result ≡ name_constraints_plain self.now }
     {

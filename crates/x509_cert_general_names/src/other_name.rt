@@ -59,7 +59,7 @@ impl OtherName {
         })
     }
 
-    /// Its fields, lent.
+    /// The fields in their order, lent.
     fn row<'a>(&'a self) -> RowRef<'a>
         ensures { ⟦<RowRef<'a> as Fields>⟧.fields_written result ≡ other_name_plain self.now }
     {

@@ -16,14 +16,15 @@ use Rattle.x509_cert_general_names.specs.Parts.{public_key_info, version, serial
 use Rattle.x509_cert_general_names.specs.Parts.{extension, extensions}
 
 -- RevokedCert ::= SEQUENCE { userCertificate CertificateSerialNumber, revocationDate Time,
--- crlEntryExtensions Extensions OPTIONAL } (5.1.2.6)
+--     crlEntryExtensions Extensions OPTIONAL } (5.1.2.6)
 abbrev pub revoked_cert_fields : ℕ → Option ℕ → Body
 revoked_cert_fields bound limit =
     field (serial_number limit) (field time (field (optional (extensions bound)) done))
 
 -- TBSCertList ::= SEQUENCE { version Version, signature AlgorithmIdentifier, issuer Name,
--- thisUpdate Time, nextUpdate Time OPTIONAL, revokedCertificates SEQUENCE OF RevokedCert OPTIONAL,
--- crlExtensions [0] EXPLICIT Extensions OPTIONAL } (5.1.2)
+--     thisUpdate Time, nextUpdate Time OPTIONAL,
+--     revokedCertificates SEQUENCE OF RevokedCert OPTIONAL, crlExtensions [0] EXPLICIT Extensions
+--     OPTIONAL } (5.1.2)
 abbrev pub list_fields : ℕ → Option ℕ → Body
 list_fields bound limit =
     field time
@@ -37,7 +38,7 @@ tbs_cert_list_fields bound limit =
     (field (algorithm_identifier bound) (field (name bound) (list_fields bound limit)))
 
 -- CertificateList ::= SEQUENCE { tbsCertList TBSCertList, signatureAlgorithm AlgorithmIdentifier,
--- signatureValue BIT STRING } (5.1)
+--     signatureValue BIT STRING } (5.1)
 abbrev pub certificate_list_fields : ℕ → Option ℕ → Body
 certificate_list_fields bound limit =
     field (sequence (tbs_cert_list_fields bound limit))
@@ -48,7 +49,8 @@ abbrev pub request_numbers : Numbers
 request_numbers = among (0 ∷ [])
 
 -- CertificationRequestInfo ::= SEQUENCE { version INTEGER { v1(0) }, subject Name, subjectPKInfo
--- SubjectPublicKeyInfo, attributes [0] IMPLICIT SET OF Attribute } (RFC 2986 4.1)
+--     SubjectPublicKeyInfo,
+--     attributes [0] IMPLICIT SET OF Attribute } (RFC 2986 4.1)
 abbrev pub cert_req_info_fields : ℕ → Body
 cert_req_info_fields bound =
     field (tagged tags.Integer (leaf (integer request_numbers)))
@@ -57,7 +59,8 @@ cert_req_info_fields bound =
     (field (tagged (context true 0) (nested (rising (attribute bound)))) done)))
 
 -- CertificationRequest ::= SEQUENCE { certificationRequestInfo CertificationRequestInfo,
--- signatureAlgorithm AlgorithmIdentifier, signature BIT STRING } (RFC 2986 4.2)
+--     signatureAlgorithm AlgorithmIdentifier,
+--     signature BIT STRING } (RFC 2986 4.2)
 abbrev pub cert_req_fields : ℕ → Body
 cert_req_fields bound =
     field (sequence (cert_req_info_fields bound))

@@ -48,7 +48,7 @@ type RowRef<'a> = (
 );
 
 impl CertReq {
-    /// Its fields, lent.
+    /// The fields in their order, lent.
     fn row<'a>(&'a self) -> RowRef<'a>
         ensures { ⟦<RowRef<'a> as Fields>⟧.fields_written result ≡ cert_req_plain self.now }
     {
@@ -130,7 +130,8 @@ impl CertReq {
         ensures refused { IfErr result (λ e. e.kind ≢ OutOfMemory → (r : Value (cert_req 0))
             → Spells (cert_req Bound) r bytes.now → ⊥) }
         // Which fault it is.
-        ensures exact { Gives (λ r. (cert_req_plain r, [])) result (whole_at (cert_req Bound) bytes.now) }
+        ensures exact { Gives (λ r. (cert_req_plain r, [])) result
+            (whole_at (cert_req Bound) bytes.now) }
     {
         from_der(alloc, bytes)
     }

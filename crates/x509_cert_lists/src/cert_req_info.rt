@@ -28,7 +28,7 @@ use x509_cert_general_names::certificates::{Attributes, Name, SubjectPublicKeyIn
 /// ```
 #[derive(Clone, Debug, Drop, PartialEq, Eq)]
 pub struct CertReqInfo {
-    /// Its version.
+    /// The version.
     pub version: Version,
     /// Whose key it is.
     pub subject: Name,
@@ -55,7 +55,7 @@ type RowRef<'a> = (
 );
 
 impl CertReqInfo {
-    /// Its fields, lent.
+    /// The fields in their order, lent.
     fn row<'a>(&'a self) -> RowRef<'a>
         ensures { ⟦<RowRef<'a> as Fields>⟧.fields_written result ≡ cert_req_info_plain self.now }
     {

@@ -46,7 +46,7 @@ type RowRef<'a, P> = (
 );
 
 impl<P: Profile> CertificateList<P> {
-    /// Its fields, lent.
+    /// The fields in their order, lent.
     fn row<'a>(&'a self) -> RowRef<'a, P>
         ensures { ⟦<RowRef<'a, P> as Fields>⟧.fields_written result
             ≡ certificate_list_plain self.now }

@@ -26,7 +26,7 @@ use x509_cert_general_names::certificates::{Extensions, Profile, Rfc5280, Serial
 #[derive(Drop)]
 #[derive_where(Clone, Debug, PartialEq, Eq)]
 pub struct RevokedCert<P = Rfc5280> {
-    /// Its serial number.
+    /// The serial number.
     pub serial_number: SerialNumber<P>,
     /// Since when.
     pub revocation_date: Time,
@@ -42,7 +42,7 @@ type RowRef<'a, P> = (
 );
 
 impl<P: Profile> RevokedCert<P> {
-    /// Its fields, lent.
+    /// The fields in their order, lent.
     fn row<'a>(&'a self) -> RowRef<'a, P>
         ensures { ⟦<RowRef<'a, P> as Fields>⟧.fields_written result ≡ revoked_cert_plain self.now }
     {

@@ -37,7 +37,7 @@ use x509_cert_general_names::certificates::{
 #[derive(Drop)]
 #[derive_where(Clone, Debug, PartialEq, Eq)]
 pub struct TbsCertList<P = Rfc5280> {
-    /// Its version.
+    /// The version.
     pub version: Version,
     /// The algorithm of the signature, as it is signed.
     pub signature: AlgorithmIdentifier,
@@ -94,7 +94,7 @@ type RowRef<'a, P> = (
 );
 
 impl<P: Profile> TbsCertList<P> {
-    /// Its fields, lent.
+    /// The fields in their order, lent.
     fn row<'a>(&'a self) -> RowRef<'a, P>
         ensures { ⟦<RowRef<'a, P> as Fields>⟧.fields_written result ≡ tbs_cert_list_plain self.now }
     {

@@ -24,7 +24,7 @@ abbrev pub octet_string : Shape
 octet_string = tagged tags.OctetString (leaf octets)
 
 -- AlgorithmIdentifier ::= SEQUENCE { algorithm OBJECT IDENTIFIER, parameters ANY OPTIONAL }
--- (4.1.1.2)
+--     (4.1.1.2)
 abbrev pub algorithm_fields : ℕ → Body
 algorithm_fields bound = field (object_identifier bound) (field (optional any) done)
 
@@ -32,7 +32,7 @@ abbrev pub algorithm_identifier : ℕ → Shape
 algorithm_identifier bound = sequence (algorithm_fields bound)
 
 -- SubjectPublicKeyInfo ::= SEQUENCE { algorithm AlgorithmIdentifier, subjectPublicKey BIT STRING }
--- (4.1.2.7)
+--     (4.1.2.7)
 abbrev pub public_key_fields : ℕ → Body
 public_key_fields bound = field (algorithm_identifier bound) (field bit_string done)
 
@@ -85,7 +85,7 @@ abbrev pub false_by_default : Shape
 false_by_default = defaulted (tagged tags.Boolean (leaf boolean)) (1 ∷ 1 ∷ 0 ∷ [])
 
 -- Extension ::= SEQUENCE { extnID OBJECT IDENTIFIER, critical BOOLEAN DEFAULT FALSE, extnValue
--- OCTET STRING } (4.1, 4.2)
+--     OCTET STRING } (4.1, 4.2)
 abbrev pub extension_fields : ℕ → Body
 extension_fields bound =
     field (object_identifier bound) (field false_by_default (field octet_string done))

@@ -29,7 +29,7 @@ use x509_cert_names::Any;
 pub struct AlgorithmIdentifier {
     /// The identifier of the algorithm.
     pub oid: ObjectIdentifier<39>,
-    /// Its parameters, as they stand. NULL isn't the same as none.
+    /// The parameters, as they stand. NULL isn't the same as none.
     pub parameters: Option<Any>,
 }
 
@@ -57,7 +57,8 @@ impl AlgorithmIdentifier {
     /// a certificate and the one outside must (RFC 5280 4.1.1.2). It is known by identifier and
     /// parameters: no encoding is made.
     pub fn has_octets_of(&self, other: &AlgorithmIdentifier) -> bool
-        ensures same { IsTrue result → octets_of (algorithm_identifier Bound) (algorithm_plain self.now)
+        ensures same { IsTrue result
+            → octets_of (algorithm_identifier Bound) (algorithm_plain self.now)
             ≡ octets_of (algorithm_identifier Bound) (algorithm_plain other.now) }
         ensures differ { algorithm_plain self.now ≡ algorithm_plain other.now → result ≡ true }
     {
@@ -71,7 +72,7 @@ impl AlgorithmIdentifier {
         }
     }
 
-    /// The same algorithm, lent.
+    /// The algorithm, lent.
     pub fn owned_to_ref(&self) -> AlgorithmIdentifierRef<'_>
         ensures { algorithm_lent result ≡ algorithm_plain self.now }
     {

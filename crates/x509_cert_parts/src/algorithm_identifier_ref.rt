@@ -29,14 +29,14 @@ use x509_cert_names::AnyRef;
 pub struct AlgorithmIdentifierRef<'a> {
     /// The identifier of the algorithm.
     pub oid: ObjectIdentifier<39>,
-    /// Its parameters, as they stand. NULL isn't the same as none.
+    /// The parameters, as they stand. NULL isn't the same as none.
     pub parameters: Option<AnyRef<'a>>,
 }
 
 type Row<'a> = (ObjectIdentifier<39>, (Option<AnyRef<'a>>, ()));
 
 impl<'a> AlgorithmIdentifierRef<'a> {
-    /// The same algorithm, owned.
+    /// A copy of the algorithm that owns its octets.
     ///
     /// # Errors
     /// Want of memory.

@@ -14,7 +14,7 @@ use der_core::{Error, ErrorKind, Tag};
 /// `Length` for no octets, `Noncanonical` where fewer octets would do, `Value` for any other
 /// number.
 pub fn number_among(tag: Tag, octets: &[u8], numbers: &[u8]) -> Result<u8, Error>
-    // It is one of them.
+    // The number is one of them.
     ensures named { IfOk result (λ n. list_any (λ m. m == n) numbers.now ≡ true) }
     ensures exact { GivesNow (λ n. pos n) result (integer_read (among numbers.now) tag octets.now) }
 {

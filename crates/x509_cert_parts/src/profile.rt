@@ -29,7 +29,7 @@ pub trait Profile {
         ensures { GivesNow (λ _. serial.now) result
             (checked (numbers_within serial_limit) Integer serial.now) };
 
-    /// The same date, as it is written in a validity. It is always answered.
+    /// The date, as it is written in a validity. It is always answered.
     fn time_encoding(time: Time) -> Result<Time, Error>
         ensures { IsOkAnd result (λ t. time_value t ≡ spelled_by respells (time_value time)) };
 }

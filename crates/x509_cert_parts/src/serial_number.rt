@@ -121,7 +121,8 @@ impl<P> SerialNumber<P> {
         rand_len: usize,
         rng: &mut R,
     ) -> Result<SerialNumber<P>, Error>
-        ensures number { Gives (λ n. n) result (drawn_serial prefix.now rand_len (R.stream rng.old)).0 }
+        ensures number { Gives (λ n. n) result
+            (drawn_serial prefix.now rand_len (R.stream rng.old)).0 }
         ensures left { R.stream rng.new ≡ (drawn_serial prefix.now rand_len (R.stream rng.old)).1 }
     {
         if rand_len < 8 {

@@ -49,7 +49,7 @@ impl SubjectPublicKeyInfo {
         })
     }
 
-    /// The same key, lent.
+    /// The key, lent.
     pub fn owned_to_ref(&self) -> SubjectPublicKeyInfoRef<'_>
         ensures { key_lent result ≡ key_plain self.now }
     {

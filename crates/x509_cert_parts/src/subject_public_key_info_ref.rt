@@ -36,7 +36,7 @@ pub struct SubjectPublicKeyInfoRef<'a> {
 type Row<'a> = (AlgorithmIdentifierRef<'a>, (BitStringRef<'a>, ()));
 
 impl<'a> SubjectPublicKeyInfoRef<'a> {
-    /// The same key, owned.
+    /// A copy of the key that owns its octets.
     ///
     /// # Errors
     /// Want of memory.

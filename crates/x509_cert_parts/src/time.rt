@@ -54,7 +54,7 @@ impl Time {
         self.to_date_time().unix_duration()
     }
 
-    /// The same time, as a choice that is compared.
+    /// The time, as a choice that is compared.
     fn cases(&self) -> Cases
         ensures { ⟦<Cases as Shaped>⟧.written result ≡ time_value self.now }
     {

@@ -57,9 +57,11 @@ impl<P> Validity<P> {
     /// # Errors
     /// `DateTime` where the end is after 9999-12-31T23:59:59Z.
     pub fn from_now(now: DateTime, duration: Duration) -> Result<Validity<P>, Error>
-        ensures range { IsOk result ↔ (unix_seconds now + as_nanos duration / 1_000_000_000 ≤ 253_402_300_799) }
+        ensures range { IsOk result
+            ↔ (unix_seconds now + as_nanos duration / 1_000_000_000 ≤ 253_402_300_799) }
         ensures before { IfOk result (λ v. time_value v.not_before ≡ time_of now) }
-        ensures after { IfOk result (λ v. time_value v.not_after ≡ time_of (time_date v.not_after)) }
+        ensures after { IfOk result
+            (λ v. time_value v.not_after ≡ time_of (time_date v.not_after)) }
         ensures seconds { IfOk result (λ v. unix_seconds (time_date v.not_after)
             ≡ unix_seconds now + as_nanos duration / 1_000_000_000) }
         ensures err { IfErr result (λ e. e.kind ≡ ErrorKind.DateTime) }

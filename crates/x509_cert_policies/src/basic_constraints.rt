@@ -37,9 +37,10 @@ type Row = (WithDefault<bool>, (Option<u8>, ()));
 type RowRef<'a> = (WithDefault<bool>, (EncodeRef<'a, Option<u8>>, ()));
 
 impl BasicConstraints {
-    /// Its fields, lent.
+    /// The fields in their order, lent.
     fn row<'a>(&'a self) -> RowRef<'a>
-        ensures { ⟦<RowRef<'a> as Fields>⟧.fields_written result ≡ basic_constraints_plain self.now }
+        ensures { ⟦<RowRef<'a> as Fields>⟧.fields_written result
+            ≡ basic_constraints_plain self.now }
     {
         (
             WithDefault { value: self.ca },

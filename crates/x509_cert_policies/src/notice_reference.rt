@@ -39,7 +39,7 @@ type RowRef<'a> = (
 );
 
 impl NoticeReference {
-    /// Its fields, lent.
+    /// The fields in their order, lent.
     fn row<'a>(&'a self) -> RowRef<'a>
         ensures { ⟦<RowRef<'a> as Fields>⟧.fields_written result ≡ notice_reference_plain self.now }
     {

@@ -40,9 +40,10 @@ type RowRef<'a> = (
 );
 
 impl PolicyConstraints {
-    /// Its fields, lent.
+    /// The fields in their order, lent.
     fn row<'a>(&'a self) -> RowRef<'a>
-        ensures { ⟦<RowRef<'a> as Fields>⟧.fields_written result ≡ policy_constraints_plain self.now }
+        ensures { ⟦<RowRef<'a> as Fields>⟧.fields_written result
+            ≡ policy_constraints_plain self.now }
     {
         (
             implicit_ref(&self.require_explicit_policy),

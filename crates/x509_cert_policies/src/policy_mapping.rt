@@ -40,7 +40,7 @@ type RowRef<'a> = (
 );
 
 impl PolicyMapping {
-    /// Its fields, lent.
+    /// The fields in their order, lent.
     fn row<'a>(&'a self) -> RowRef<'a>
         ensures { ⟦<RowRef<'a> as Fields>⟧.fields_written result ≡ policy_mapping_plain self.now }
     {

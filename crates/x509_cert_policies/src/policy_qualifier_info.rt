@@ -40,7 +40,7 @@ type RowRef<'a> = (
 );
 
 impl PolicyQualifierInfo {
-    /// Its fields, lent.
+    /// The fields in their order, lent.
     fn row<'a>(&'a self) -> RowRef<'a>
         ensures { ⟦<RowRef<'a> as Fields>⟧.fields_written result
             ≡ policy_qualifier_info_plain self.now }

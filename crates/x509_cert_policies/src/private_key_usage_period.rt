@@ -42,7 +42,7 @@ type RowRef<'a> = (
 );
 
 impl PrivateKeyUsagePeriod {
-    /// Its fields, lent.
+    /// The fields in their order, lent.
     fn row<'a>(&'a self) -> RowRef<'a>
         ensures { ⟦<RowRef<'a> as Fields>⟧.fields_written result
             ≡ private_key_usage_period_plain self.now }

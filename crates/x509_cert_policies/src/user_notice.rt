@@ -39,7 +39,7 @@ type RowRef<'a> = (
 );
 
 impl UserNotice {
-    /// Its fields, lent.
+    /// The fields in their order, lent.
     fn row<'a>(&'a self) -> RowRef<'a>
         ensures { ⟦<RowRef<'a> as Fields>⟧.fields_written result ≡ user_notice_plain self.now }
     {

@@ -1,0 +1,20 @@
+//! Profiles of certificates that are built.
+
+pub use x509_cert_list_builders::BuilderProfile;
+
+/// The profiles of the CA/Browser Forum.
+pub mod cabf {
+    pub use x509_cert_list_builders::{Root, ca_certificate_naming, check_names_encoding};
+
+    /// Certificates of TLS servers and of who issues them.
+    pub mod tls {
+        pub use x509_cert_list_builders::{
+            CertificateType, DomainValidated, Subordinate, Subscriber, Tls12Options,
+        };
+    }
+}
+
+/// Certificates of devices (IEEE 802.1AR).
+pub mod devid {
+    pub use x509_cert_list_builders::{DevId, TpmVersion, tcg_sv_tpm_12, tcg_sv_tpm_20};
+}

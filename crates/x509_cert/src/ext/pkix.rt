@@ -1,0 +1,63 @@
+//! The contents of extensions (RFC 5280 4.2.1, 4.2.2, 5.2, 5.3).
+
+pub use x509_cert_list_builders::types::general_names::{
+    AccessDescription, AuthorityKeyIdentifier, NameConstraints,
+};
+pub use x509_cert_list_builders::types::policies::{
+    BasicConstraints, CertificatePolicies, InhibitAnyPolicy, PolicyConstraints, PolicyMapping,
+    PolicyMappings, PrivateKeyUsagePeriod,
+};
+pub use x509_cert_list_builders::types::timestamps::SignedCertificateTimestampList;
+pub use x509_cert_list_builders::types::{
+    AuthorityInfoAccessSyntax, BaseCrlNumber, CrlDistributionPoints, CrlNumber, CrlReason,
+    ExtendedKeyUsage, FreshestCrl, IssuerAltName, KeyUsage, KeyUsages, SubjectAltName,
+    SubjectDirectoryAttributes, SubjectInfoAccessSyntax, SubjectKeyIdentifier,
+};
+
+// Signed certificate timestamps (RFC 6962 3).
+pub use x509_cert_list_builders::types::timestamps as sct;
+
+/// Policies of certificates (RFC 5280 4.2.1.4).
+pub mod certpolicy {
+    pub use x509_cert_list_builders::types::policies::{
+        CertificatePolicies, CpsUri, DisplayText, NoticeReference, PolicyInformation,
+        PolicyQualifierInfo, UserNotice,
+    };
+}
+
+/// Constraints on paths (RFC 5280 4.2.1.9 to 4.2.1.11).
+pub mod constraints {
+    pub use x509_cert_list_builders::types::general_names::NameConstraints;
+    pub use x509_cert_list_builders::types::policies::{BasicConstraints, PolicyConstraints};
+
+    /// Constraints on names (RFC 5280 4.2.1.10).
+    pub mod name {
+        pub use x509_cert_list_builders::types::general_names::{
+            GeneralSubtree, GeneralSubtrees, NameConstraints,
+        };
+    }
+}
+
+/// Extensions of lists and what tells where these are (RFC 5280 4.2.1.13, 5.2, 5.3).
+pub mod crl {
+    pub use x509_cert_list_builders::types::general_names::IssuingDistributionPoint;
+    pub use x509_cert_list_builders::types::{
+        BaseCrlNumber, CrlDistributionPoints, CrlNumber, CrlReason, FreshestCrl,
+    };
+
+    /// Points of distribution (RFC 5280 4.2.1.13, 5.2.5).
+    pub mod dp {
+        pub use x509_cert_list_builders::types::general_names::{
+            DistributionPoint, IssuingDistributionPoint, ReasonFlags, Reasons,
+        };
+    }
+}
+
+/// Names of other kinds (RFC 5280 4.2.1.6).
+pub mod name {
+    pub use x509_cert_list_builders::types::certificates::DirectoryString;
+    pub use x509_cert_list_builders::types::general_names::{
+        DistributionPointName, EdiPartyName, GeneralName, GeneralNames, HardwareModuleName,
+        OtherName,
+    };
+}
