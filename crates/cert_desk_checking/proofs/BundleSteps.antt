@@ -65,6 +65,12 @@ module _ (b : Inside) (i : IsKept b) where
               (rw append_assoc (fits_from (b.rest.octets.items ++ front) new.wanted left.awaits.short left.awaits.fits)) (ap (λ (x : List ℕ). record (kept_of b) { rest = x }) left.kept);
         }
 
+    -- nor is one behind all of the piece
+    pub takes_all : count ≡ length piece → IsTaken b.limit b.end b.rest new piece count None → Advances Bound (kept_of b) (record (kept_of b) { rest = new.octets.items }) piece
+    takes_all whole t =
+        let all : take count piece ≡ piece = take_all count piece (omega (arith, whole)) in
+        subst (λ (x : List ℕ). Advances Bound (kept_of b) (record (kept_of b) { rest = new.octets.items }) x) all (takes_left t).advances
+
     -- one is
     module _ (octets : Vec ℕ) (t : IsTaken b.limit b.end b.rest new piece count (Some octets)) where
       pub takes_certificate : (l : Located) (items : List Located) → IsPlacedAt b.end octets.items l → items ≡ b.located.items ++ l ∷ []

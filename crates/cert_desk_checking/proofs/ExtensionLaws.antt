@@ -1,19 +1,21 @@
 -- Extensions that are looked for by their identifiers.
-use Rattle.std.proofs.Common.{◌≡◌, ℕ, ◌+◌, ◌<◌, ◌≤◌, List, [], ◌∷◌, ◌++◌, Bool, true, false, ◌&&◌, ◌||◌, Result, Ok, Err, length, get_or, slice_index_or, drop, refl, sym, ap, ◌∙◌, arith}
-use Rattle.std.specs.Cmp.Lexicographic.{bytes_decides}
+use Rattle.std.proofs.Common.{◌≡◌, ℕ, zero, suc, ◌+◌, ◌-◌, ◌<◌, ◌≤◌, List, [], ◌∷◌, ◌++◌, Bool, true, false, cond, not, ◌&&◌, ◌||◌, Result, Ok, Err, length, get_or, slice_index_or, drop, take, refl, sym, ap, ◌∙◌, arith}
+use Rattle.std.specs.BTreeSet.{BTreeSet, Updates, contains}
+use Rattle.std.specs.Cmp.Lexicographic.{bytes_decides, nat_list_eq_equiv}
 use Rattle.std.specs.List.{list_any}
 use Rattle.std.specs.Prelude.{nat_eq, bytes_eq, IfOk}
 use Rattle.const_oid.specs.Comparing.{owned_eq}
-use Rattle.std.proofs.lemmas.List.{at_drop_more, at_drop_all}
+use Rattle.std.proofs.lemmas.List.{at_drop_more, at_drop_all, take_rest}
 use Rattle.const_oid.specs.Digits.{marked}
 use Rattle.const_oid.specs.IdentifierOctets.{arc_octets, identifier_octets}
+use Rattle.const_oid.specs.Orders.{owned_cmp, owned_cmp_ties}
 use Rattle.const_oid.proofs.DigitLaws.{digits-one}
 use Rattle.der_core_head.specs.Grammar.{plain_list}
-use Rattle.x509_cert.specs.Certificates.{PlainExtension}
+use Rattle.x509_cert.specs.Certificates.{PlainExtension, extension_arcs}
 use Rattle.cert_desk_checking.specs.declared.weight.Weight.{Weight}
 use Rattle.cert_desk_checking.specs.declared.weight.Weight.TheVariants as weights
 use Rattle.cert_desk_checking.specs.Findings.{weight_of}
-use Rattle.cert_desk_checking.specs.Judging.{are_distinct, is_alone}
+use Rattle.cert_desk_checking.specs.Judging.{are_distinct, has_twin, is_alone}
 use Rattle.cert_desk_checking.specs.Weighing.{Meaning, any_purpose, certificate_extension, malformed}
 use Rattle.cert_desk_checking.proofs.Folds.{and_yes}
 
@@ -97,3 +99,55 @@ module _ {A : Type 0} (plain : A → PlainExtension) where
 
   pub distinct_none : (xs : List A) (i : ℕ) → length xs ≤ i → distinct_left (drop i xs) ≡ true
   distinct_none xs i h = at_drop_all distinct_left xs i h
+
+-- The list has an extension of the identifier.
+abbrev has_arcs : List ℕ → List PlainExtension → Bool
+has_arcs arcs es = list_any (λ e. owned_eq arcs (extension_arcs e)) es
+
+or_cond : (b c : Bool) → cond b true c ≡ (b || c)
+or_cond true c = refl
+or_cond false c = refl
+
+-- what a set has behind an identifier that was put into it
+put : (old new : BTreeSet (List ℕ)) (arcs : List ℕ) → Updates owned_cmp old new arcs true → (q : List ℕ) → contains owned_cmp new q ≡ (owned_eq q arcs || contains owned_cmp old q)
+put old new arcs updates q =
+    updates.0 q
+    ∙ ap (λ b. cond b true (contains owned_cmp old q)) (sym (owned_cmp_ties arcs q) ∙ nat_list_eq_equiv.symm (identifier_octets arcs) (identifier_octets q))
+    ∙ or_cond (owned_eq q arcs) (contains owned_cmp old q)
+
+-- the extension at place i, and those from the next place n on
+module _ {A : Type 0} (plain : A → PlainExtension) (xs : List A) (i n : ℕ) (next : n ≡ i + 1) (d : A) (lt : i < length xs) where
+  abbrev here : PlainExtension
+  here = plain (get_or xs i d)
+
+  abbrev behind : List PlainExtension
+  behind = plain_list plain (drop n xs)
+
+  from_here : plain_list plain (drop i xs) ≡ here ∷ behind
+  from_here = at_drop_more (plain_list plain) xs i d lt ∙ ap (λ (m : ℕ). here ∷ plain_list plain (drop m xs)) (sym next)
+
+  pub distinct_here : (added : Bool) → added ≡ is_alone here behind → are_distinct (plain_list plain (drop i xs)) ≡ (added && are_distinct behind)
+  distinct_here added is = ap are_distinct from_here ∙ ap (λ b. b && are_distinct behind) (sym is)
+
+  pub set_here : (old new : BTreeSet (List ℕ)) → Updates owned_cmp old new (extension_arcs here) true → ((q : List ℕ) → contains owned_cmp old q ≡ has_arcs q behind)
+      → (q : List ℕ) → contains owned_cmp new q ≡ has_arcs q (plain_list plain (drop i xs))
+  set_here old new updates had q =
+      put old new (extension_arcs here) updates q
+      ∙ ap (λ b. owned_eq q (extension_arcs here) || b) (had q)
+      ∙ sym (ap (has_arcs q) from_here)
+
+-- An extension has a twin where it doesn't stand alone before those behind it.
+pub twin_is : {A : Type 0} (plain : A → PlainExtension) (xs : List A) (i n : ℕ) (d : A) → n ≡ i + 1 → i < length xs
+    → has_twin (plain_list plain xs) i ≡ not (is_alone (plain (get_or xs i d)) (plain_list plain (drop n xs)))
+twin_is plain [] i n d next lt = absurd (omega arith)
+twin_is plain (x ∷ xs) zero n d next lt = ap (λ (m : ℕ). not (is_alone (plain x) (plain_list plain (drop m (x ∷ xs))))) (sym next)
+twin_is plain (x ∷ xs) (suc i) zero d next lt = absurd (omega arith)
+twin_is plain (x ∷ xs) (suc i) (suc n) d next lt = twin_is plain xs i n d (omega arith) (omega arith)
+
+-- read at that place, and asked of the slice behind it
+pub twin_at : {A : Type 0} (plain : A → PlainExtension) (xs : List A) (i : ℕ) (x : A) → i < length xs → x ≡ get_or xs i x
+    → has_twin (plain_list plain xs) i ≡ not (is_alone (plain x) (plain_list plain (take (length xs - (i + 1)) (drop (i + 1) xs))))
+twin_at plain xs i x lt is =
+    twin_is plain xs i (i + 1) x refl lt
+    ∙ ap (λ y. not (is_alone (plain y) (plain_list plain (drop (i + 1) xs)))) (sym is)
+    ∙ ap (λ ys. not (is_alone (plain x) (plain_list plain ys))) (sym (take_rest xs (i + 1)))

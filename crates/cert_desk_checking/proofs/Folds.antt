@@ -1,5 +1,5 @@
 -- Tests on what a fold gathers, and on whole numbers.
-use Rattle.std.proofs.Common.{◌≡◌, ℕ, ◌≤◌, List, [], ◌∷◌, Bool, true, false, ◌&&◌, ◌||◌, min, inl, inr, refl, sym, ap, ◌∙◌, arith}
+use Rattle.std.proofs.Common.{◌≡◌, ℕ, ◌≤◌, List, [], ◌∷◌, Bool, true, false, not, ◌&&◌, ◌||◌, min, inl, inr, refl, sym, ap, ◌∙◌, arith}
 use Rattle.std.specs.Prelude.{nat_le}
 use Rattle.std.specs.List.{fold, list_all, list_any}
 use Rattle.std.proofs.lemmas.Bool.{le-leb, lt-leb}
@@ -20,6 +20,10 @@ and_no false = refl
 pub and_yes : (b : Bool) → b ≡ (b && true)
 and_yes true = refl
 and_yes false = refl
+
+pub not_twice : (b : Bool) → b ≡ not (not b)
+not_twice true = refl
+not_twice false = refl
 
 or_in_turn : (a b c : Bool) → ((a || b) || c) ≡ (a || (b || c))
 or_in_turn true b c = refl

@@ -1,6 +1,6 @@
 -- What is taken of an input in several reads is read in turn.
 use Rattle.std.proofs.Common.{◌≡◌, ℕ, ◌≤◌, List, [], ◌++◌, length, take, sym, arith, ap, subst, ◌∙◌, append_assoc, append-nil, length-take}
-use Rattle.cert_desk_io.specs.Devices.{Rose}
+use Rattle.cert_desk_io.specs.Devices.{one_more}
 use Rattle.cert_desk_checking.specs.declared.bundle_error.BundleError.{BundleError}
 use Rattle.cert_desk_checking.specs.declared.bundle_error.BundleError.TheVariants as errors
 use Rattle.cert_desk_checking.specs.declared.bundle_error.ReadError.TheVariants as reads
@@ -29,21 +29,17 @@ module _ {State : Type 0} (takes : State → List ℕ → State → Type 0)
   )
 
   module _ (is_ended : State → Type 0) (failures : State → ℕ) (was_open : old.standing ≡ standings.Open) (is_open : now.standing ≡ standings.Open) (limit : now.limit ≡ old.limit) where
-    pub device_fails : takes mid [] to → new ≡ stopped now standings.NoDevice → (is_ended to → ⊥) → failures mid ≡ failures from → Rose (failures mid) (failures to) → DeviceFails takes is_ended failures from to bound old new
-    device_fails taken e not_ended sound rose =
+    pub device_fails : takes mid [] to → new ≡ stopped now standings.NoDevice → (is_ended to → ⊥) → failures mid ≡ failures from → failures to ≡ one_more (failures mid) → DeviceFails takes is_ended failures from to bound old new
+    device_fails taken e not_ended sound once =
         let opened : now ≡ record new { rest = now.rest; standing = standings.Open } =
         ap (λ (s : Standing). record now { standing = s }) is_open ∙ ap (λ (k : Kept). record k { rest = now.rest; standing = standings.Open }) (sym e) in
         record {
           was_open = was_open;
           standing = ap (λ (k : Kept). k.standing) e;
-          rose = subst (λ (n : ℕ). Rose n (failures to)) sound rose;
+          octets = before.0;
+          failed = record { before = mid; moved = before.1; sound = sound; stopped = taken; not_ended = not_ended; once = once };
           rest = now.rest;
-          reads = (
-            before.0,
-            subst (λ (x : List ℕ). takes from x to) (append-nil before.0) (in_turn from mid to before.0 [] before.1 taken),
-            λ stream reads. subst (λ (k : Kept). Reads bound k (stream ++ before.0)) opened (before.2 stream reads),
-          );
-          stops = record { before = mid; octets = before.0; taken = before.1; sound = sound; none_taken = taken; not_ended = not_ended };
+          reads = λ stream reads. subst (λ (k : Kept). Reads bound k (stream ++ before.0)) opened (before.2 stream reads);
         }
 
     -- what was taken before the last read was read

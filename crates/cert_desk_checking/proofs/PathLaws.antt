@@ -12,7 +12,7 @@ use Rattle.cert_desk_checking.proofs.Folds.{le_same, or_yes}
 use Rattle.cert_desk_checking.proofs.FoundLaws.{found_length, within_shorter}
 
 -- of the places from one on, that one and those behind it
-counted_first : (bound : ℕ) (cs : List PlainCertificate) (from n : ℕ) → counted bound cs from (suc n) ≡ cond (counts bound cs from) 1 0 + counted bound cs (suc from) n
+pub counted_first : (bound : ℕ) (cs : List PlainCertificate) (from n : ℕ) → counted bound cs from (suc n) ≡ cond (counts bound cs from) 1 0 + counted bound cs (suc from) n
 counted_first bound cs from zero =
     let same : from + 0 ≡ from = omega arith in
     ap (λ m. 0 + cond (counts bound cs m) 1 0) same ∙ omega arith

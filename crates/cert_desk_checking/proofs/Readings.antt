@@ -150,6 +150,14 @@ module _ (bound : ℕ) (old mid new : Kept) (piece : List ℕ) (opened : old.sta
       error_same standings.NoMemory same = refl
       error_same standings.NoDevice same = refl
 
+-- a bundle that stopped tells the same
+pub error_stopped : (bound : ℕ) (b : Kept) (standing : Standing) → error_of bound (stopped b standing) standing ≡ error_of bound b standing
+error_stopped bound b standings.Open = refl
+error_stopped bound b standings.Ended = refl
+error_stopped bound b (standings.Faulted kind) = refl
+error_stopped bound b standings.NoMemory = refl
+error_stopped bound b standings.NoDevice = refl
+
 -- behind octets that were taken
 pub advances-refused : (bound : ℕ) (old now new : Kept) (front left : List ℕ) (e : BundleError) → old.standing ≡ standings.Open → Advances bound old now front → RefusesPiece bound now new left e → RefusesPiece bound old new (front ++ left) e
 advances-refused bound old now new front left (errors.Fault place offset kind) opened a r = record {

@@ -19,6 +19,7 @@ use Rattle.cert_desk_checking.specs.Reasons.{Explains, goes_against, has_no_auth
 use Rattle.cert_desk_checking.specs.Weighing.{is_authority, may_certify, path_length, serves, weigh}
 use Rattle.cert_desk_checking.proofs.Folds.{and_yes, or_no}
 use Rattle.cert_desk_checking.proofs.FoundLaws.{found_malformed, found_unweighed, found_serves, found_certifies, found_length}
+use Rattle.cert_desk_checking.proofs.PathLaws.{counted_first}
 use Rattle.cert_desk_checking.proofs.PlaceLaws.{keeps_at-is}
 
 -- what stands at a number of a list of plain values
@@ -83,6 +84,16 @@ counted-more bound cs before step count b le e is =
     let more : step + 1 - before ≡ suc (step - before) = omega arith in
     let here : cond b 1 0 ≡ cond (counts bound cs ((before + 1) + (step - before))) 1 0 = ap (λ (x : Bool). cond x 1 0) (is ∙ ap (λ n. counts bound cs n) (sym at)) in
     ap (λ n. n + cond b 1 0) e ∙ ap (λ n. counted bound cs (before + 1) (step - before) + n) here ∙ ap (λ n. counted bound cs (before + 1) n) (sym more)
+
+-- with one place less, behind the first
+pub counted_less : (bound : ℕ) (cs : List PlainCertificate) (before place left : ℕ) → before < place
+    → left ≡ counted bound cs (before + 1) (place - before)
+    → left ≡ cond (counts bound cs (before + 1)) 1 0 + counted bound cs (before + 1 + 1) (place - (before + 1))
+counted_less bound cs before place left lt is =
+    let many : place - before ≡ suc (place - (before + 1)) = omega (arith, lt) in
+    let next : suc (before + 1) ≡ before + 1 + 1 = omega arith in
+    is ∙ ap (counted bound cs (before + 1)) many ∙ counted_first bound cs (before + 1) (place - (before + 1))
+    ∙ ap (λ m. cond (counts bound cs (before + 1)) 1 0 + counted bound cs m (place - (before + 1))) next
 
 -- what was found of a place says whether its path length is kept
 pub length-found : (bound : ℕ) (purpose : List ℕ) (cs : List PlainCertificate) (before place n : ℕ) (c : PlainCertificate) (es : List PlainExtension) (f : Findings)

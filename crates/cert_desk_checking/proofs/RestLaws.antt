@@ -25,21 +25,36 @@ module _ (limit offset : ℕ) (old new : Rest) (piece : List ℕ) (awaits : Awai
         completed = rw all (record { kept = kept; awaits = rw same (awaits_more limit offset old.octets.items piece old.wanted awaits longer) });
       }
 
+  none_kept : old.wanted ≡ 1 → old.octets.items ≡ []
+  none_kept one = empty old.octets.items (omega (arith, awaits.short))
+    where
+      empty : (xs : List ℕ) → length xs < 1 → xs ≡ []
+      empty [] h = refl
+      empty (x ∷ xs) h = absurd (omega arith)
+
+  -- all of a piece, where none were kept
+  pub taken_all : 0 < length piece → old.wanted ≡ 1 → Awaits limit offset piece new.wanted → new.octets.items ≡ old.octets.items ++ piece
+      → IsTaken limit offset old new piece (length piece) None
+  taken_all some one more kept =
+      let none : old.octets.items ≡ [] = none_kept one in
+      let all : take (length piece) piece ≡ piece = take_all (length piece) piece (omega arith) in
+      record { some = some; within = omega arith; completed = rw (all, none) (record { kept = kept ∙ ap (λ (x : List ℕ). x ++ piece) none; awaits = more }) }
+
+  -- why a piece isn't taken, where none were kept
+  pub untaken_none : (standing : Standing) → old.wanted ≡ 1 → IsUntaken limit offset piece standing → IsUntaken limit offset (old.octets.items ++ piece) standing
+  untaken_none standing one why = rw (none_kept one) why
+
   -- a certificate's, where none were kept
   pub taken_whole : (len : ℕ) (octets : Vec ℕ) → HasWhole limit offset piece len → octets.items ≡ take len piece → old.wanted ≡ 1 → new.octets.items ≡ old.octets.items → new.wanted ≡ old.wanted
       → IsTaken limit offset old new piece len (Some octets)
   taken_whole len octets whole copied one kept same =
-      let none : old.octets.items ≡ [] = empty old.octets.items (omega (arith, awaits.short)) in
+      let none : old.octets.items ≡ [] = none_kept one in
       record {
         some = omega (arith, whole.len_is, whole_some len whole);
         within = whole_within done limit offset piece len whole;
         completed = rw none (record { octets_are = copied; has_whole = whole_alone limit offset piece len whole; none = kept ∙ none; wanted = same ∙ one });
       }
     where
-      empty : (xs : List ℕ) → length xs < 1 → xs ≡ []
-      empty [] h = refl
-      empty (x ∷ xs) h = absurd (omega arith)
-
       whole_some : (len : ℕ) → HasWhole limit offset piece len → 0 < len
       whole_some len w = omega (arith, w.len_is, whole_length-some w.number)
 

@@ -15,7 +15,7 @@ use Rattle.cert_desk_checking.specs.declared.standing.Standing.TheVariants as st
 use Rattle.cert_desk_checking.specs.Chains.{Chain}
 use Rattle.cert_desk_checking.specs.Faults.{Says, StreamFault, NoneBefore, rank}
 use Rattle.cert_desk_checking.specs.Judging.{Terms}
-use Rattle.cert_desk_checking.specs.Reading.{AsksNoMore, ReadFailed, FedUnder, IsFed}
+use Rattle.cert_desk_checking.specs.Reading.{MayGoOn, AsksNoMore, ReadFailed, FedUnder, IsFed}
 use Rattle.cert_desk_checking.specs.Runs.{IsReadFor, IsReadInVain, Judge, IsUnasked}
 use Rattle.cert_desk_checking.specs.Series.{SeriesSplit, encodings}
 use Rattle.cert_desk_checking.specs.Steps.{StopsAtOnce, Takes, RefusesInput}
@@ -50,6 +50,12 @@ module _ (input : Device) (old new : Kept) (opened : old.standing ≡ standings.
   fed_under : (standing : Standing) → new.standing ≡ standing → FedUnder input new standing → IsFed input new
   fed_under standing e h = subst (λ (s : Standing). FedUnder input new s) (sym e) h
 
+  -- what is read by a bundle that still takes pieces
+  may_go_on : (now : Kept) → now.limit ≡ old.limit → (octets : List ℕ) → ReadsAs Bound standings.Open now octets → MayGoOn new.limit octets
+  may_go_on now same octets reads = λ cs kind ne f.
+      no_fault Bound now.limit now.certificates cs now.rest octets kind ne reads.0 reads.1
+      (subst (λ (n : ℕ). StreamFault Bound n octets cs kind) (limit ∙ sym same) f)
+
   asks_no_more : StopsAtOnce input.moves input.old input.new Bound old → AsksNoMore input new.limit
   asks_no_more s =
       let reads : ReadsAs Bound standings.Open s.now s.reads.0 = subst (λ (x : Standing). ReadsAs Bound x s.now s.reads.0) s.is_open (s.reads.2 [] empty) in
@@ -57,16 +63,15 @@ module _ (input : Device) (old new : Kept) (opened : old.standing ≡ standings.
         before = s.before;
         octets = s.reads.0;
         taken = s.reads.1;
-        sound = λ cs kind ne f.
-            no_fault Bound s.now.limit s.now.certificates cs s.now.rest s.reads.0 kind ne reads.0 reads.1
-            (subst (λ (n : ℕ). StreamFault Bound n s.reads.0 cs kind) (limit ∙ sym s.limit) f);
+        sound = may_go_on s.now s.limit s.reads.0 reads;
         piece = s.piece;
         last = s.taken;
         short = s.short;
       }
 
   fed_refused : (e : ReadError) → RefusesInput input.moves input.is_ended input.failures input.old input.new Bound old new e → IsFed input new
-  fed_refused read_errors.Device r = fed_under standings.NoDevice r.standing (r.reads.0, r.reads.1, r.rose)
+  fed_refused read_errors.Device r = fed_under standings.NoDevice r.standing
+      (r.octets, r.failed, may_go_on (record new { rest = r.rest; standing = standings.Open }) limit r.octets (r.reads [] empty))
   fed_refused (read_errors.Bundle (errors.Fault place offset kind)) r =
       fed_under (standings.Faulted kind) r.found.standing (r.reads.0, r.reads.1, r.reads.2 [] empty, r.ends, asks_no_more r.stops, r.sound)
   fed_refused (read_errors.Bundle errors.OutOfMemory) r = fed_under standings.NoMemory r.standing (r.octets, r.taken, asks_no_more r.stops, r.sound)
@@ -80,8 +85,8 @@ module _ (input : Device) (old new : Kept) (opened : old.standing ≡ standings.
 
 -- What a bundle was fed that ended so.
 module _ (input : Device) (b : Kept) where
-  pub fed_none : IsFed input b → b.standing ≡ standings.NoDevice → ReadFailed input
-  fed_none h e = let fed : FedUnder input b standings.NoDevice = subst (λ (s : Standing). FedUnder input b s) e h in fed.2
+  pub fed_none : IsFed input b → b.standing ≡ standings.NoDevice → ReadFailed input b.limit
+  fed_none h e = let fed : FedUnder input b standings.NoDevice = subst (λ (s : Standing). FedUnder input b s) e h in fed
 
   pub fed_in_vain : (judge : Judge) (t : Terms) → IsFed input b → (b.standing ≡ standings.NoMemory) ⊎ (b.standing ≡ standings.Ended)
       → (b.standing ≢ standings.Ended → IsUnasked judge)

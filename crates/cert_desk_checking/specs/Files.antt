@@ -22,7 +22,7 @@ pub record IsFileOf (s : Shape) {A E : Type 0} (gives : Value s → Result A E) 
 abbrev pub BeginsNone : Shape → List ℕ → Type 0
 BeginsNone s octets = (octets ≢ []) × ((v : Value s) → BeginsWith s v octets → ⊥)
 
--- They begin with a value that gives nothing, for this reason.
+-- The octets begin with a value that gives nothing, for this reason.
 pub record BeginsRefused (s : Shape) {A E : Type 0} (gives : Value s → Result A E) (error : E)
     (octets : List ℕ) : Type 0 where
   pub value : Value s
@@ -47,7 +47,7 @@ pub record StandsAt (s : Shape) (octets : List ℕ) (start end : ℕ) (v : Value
   pub whole : drop start octets ≡ octets_of s v ++ drop end octets
   pub end_is : end ≡ start + length (octets_of s v)
 
--- It gives this.
+-- The value that stands there gives this.
 pub record GivesAt (s : Shape) {A E : Type 0} (gives : Value s → Result A E) (octets : List ℕ)
     (start end : ℕ) (x : A) : Type 0 where
   pub value : Value s

@@ -84,6 +84,12 @@ abbrev pub are_distinct : List PlainExtension → Bool
 are_distinct [] = true
 are_distinct (e ∷ others) = is_alone e others && are_distinct others
 
+-- the extension at a place has the identifier of one behind it
+abbrev pub has_twin : List PlainExtension → ℕ → Bool
+has_twin [] place = false
+has_twin (e ∷ others) zero = not (is_alone e others)
+has_twin (e ∷ others) (suc place) = has_twin others place
+
 -- each certificate but the last is an authority's, whose key may sign certificates (6.1.4 (k), (n))
 abbrev pub has_authority : ℕ → PlainCertificate → Bool
 has_authority bound c = list_any (λ e. is_authority (weigh bound e)) (extensions_of c)

@@ -49,7 +49,7 @@ questions_at bound anchors cs stream place =
 abbrev pub answer_on : Answers → Question → Bool
 answer_on answers q = answers q.key q.algorithm q.signed q.bits
 
--- The same is answered to what the places may ask.
+-- Both judges answer alike to what the places may ask.
 abbrev pub AnswerAlike : Terms → Answers → List PlainCertificate → List ℕ → Type 0
 AnswerAlike t other cs stream =
     (place : ℕ) → AllByRecursion (λ q. answer_on t.answers q ≡ answer_on other q)

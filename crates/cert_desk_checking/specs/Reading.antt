@@ -1,7 +1,7 @@
 -- What a bundle read from an input.
 use Rattle.std.specs.Prelude.{◌≡◌, ◌≢◌, ℕ, ◌≤◌, List, length}
 use Rattle.const_oid.specs.Bound.{Bound}
-use Rattle.cert_desk_io.specs.Devices.{Device, Moved, MetEnd, Sound, Rose}
+use Rattle.cert_desk_io.specs.Devices.{Device, Moved, MetEnd, Sound, Fails}
 use Rattle.x509_cert.specs.Certificates.{PlainCertificate}
 use Rattle.cert_desk_checking.specs.declared.fault_kind.FaultKind.{FaultKind}
 use Rattle.cert_desk_checking.specs.declared.fault_kind.FaultKind.TheVariants as kinds
@@ -11,21 +11,25 @@ use Rattle.cert_desk_checking.specs.Faults.{StreamFault}
 use Rattle.cert_desk_checking.specs.Steps.{most_read}
 use Rattle.cert_desk_checking.specs.Streams.{Kept, Reads}
 
--- No octet was asked for behind the read that stopped the reading: the octets before it have no
--- fault but that they may end too early, and it took no more than a read takes.
+-- octets with no fault but that they may end too early
+abbrev pub MayGoOn : ℕ → List ℕ → Type 0
+MayGoOn limit octets = (cs : List PlainCertificate) (kind : FaultKind) → kind ≢ kinds.Truncated
+    → StreamFault Bound limit octets cs kind → ⊥
+
+-- No octet was asked for behind the read that stopped the reading: those before it may go on, and
+-- it took no more than a read takes.
 pub record AsksNoMore (input : Device) (limit : ℕ) : Type 0 where
   pub before : input.State
   pub octets : List ℕ
   pub taken : input.moves input.old octets before
-  pub sound : (cs : List PlainCertificate) (kind : FaultKind) → kind ≢ kinds.Truncated
-      → StreamFault Bound limit octets cs kind → ⊥
+  pub sound : MayGoOn limit octets
   pub piece : List ℕ
   pub last : input.moves before piece input.new
   pub short : length piece ≤ most_read
 
--- a read failed
-abbrev pub ReadFailed : Device → Type 0
-ReadFailed input = Rose (input.failures input.old) (input.failures input.new)
+-- the last read failed, and no other; the octets before it may go on
+abbrev pub ReadFailed : Device → ℕ → Type 0
+ReadFailed input limit = (octets : List ℕ) × Fails input octets × MayGoOn limit octets
 
 -- A new bundle was fed what an input gave: to its end, to a fault, to want of memory, or to a
 -- failure. No read failed but in the last of these.
@@ -38,7 +42,7 @@ FedUnder input b (standings.Faulted kind) =
     × (kind ≡ kinds.Truncated → MetEnd input) × AsksNoMore input b.limit × Sound input
 FedUnder input b standings.NoMemory = (octets : List ℕ) × Moved input octets
     × AsksNoMore input b.limit × Sound input
-FedUnder input b standings.NoDevice = (octets : List ℕ) × Moved input octets × ReadFailed input
+FedUnder input b standings.NoDevice = ReadFailed input b.limit
 
 abbrev pub IsFed : Device → Kept → Type 0
 IsFed input b = FedUnder input b b.standing

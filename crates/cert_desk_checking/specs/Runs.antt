@@ -105,7 +105,7 @@ IsOutcome anchors stream judge moment purpose limit (outcomes.BadAnchors offset 
     HasNoAnchors anchors (outcomes.BadAnchors offset fault) × Untouched stream × IsUnasked judge
 IsOutcome anchors stream judge moment purpose limit outcomes.Device =
     ((HasNoAnchors anchors outcomes.Device × Untouched stream)
-    ⊎ ((given : List PlainAnchor) × HasAnchors anchors given × ReadFailed stream))
+    ⊎ ((given : List PlainAnchor) × HasAnchors anchors given × ReadFailed stream limit))
     × IsUnasked judge
 IsOutcome anchors stream judge moment purpose limit outcomes.OutOfMemory =
     (HasNoAnchors anchors outcomes.OutOfMemory × Untouched stream × IsUnasked judge)

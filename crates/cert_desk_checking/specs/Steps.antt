@@ -1,6 +1,6 @@
 -- How a bundle changes.
 use Rattle.std.specs.Prelude.{◌≡◌, ◌≢◌, ℕ, ◌+◌, ◌≤◌, ◌<◌, ◌^◌, List, [], ◌++◌, length, take}
-use Rattle.cert_desk_io.specs.Devices.{Rose}
+use Rattle.cert_desk_io.specs.Devices.{Fails, source}
 use Rattle.x509_cert.specs.Certificates.{PlainCertificate, raw_certificate}
 use Rattle.cert_desk_checking.specs.declared.bundle_error.BundleError.{BundleError}
 use Rattle.cert_desk_checking.specs.declared.bundle_error.BundleError.TheVariants as errors
@@ -156,26 +156,17 @@ pub record StopsAtOnce {State : Type 0} (takes : State → List ℕ → State �
   pub taken : takes before piece to
   pub short : length piece ≤ most_read
 
--- All that was taken was taken before a first read failed, and none was asked for behind that one.
-pub record FailsAtOnce {State : Type 0} (takes : State → List ℕ → State → Type 0)
-    (is_ended : State → Type 0) (failures : State → ℕ) (from to : State) : Type 0 where
-  pub before : State
-  pub octets : List ℕ
-  pub taken : takes from octets before
-  pub sound : failures before ≡ failures from
-  pub none_taken : takes before [] to
-  pub not_ended : is_ended to → ⊥
-
--- The device failed: the certificates are those of the octets before, of which a rest was dropped.
+-- The last read failed, and no other: the certificates are those of the octets before it, of which
+-- a rest was dropped.
 pub record DeviceFails {State : Type 0} (takes : State → List ℕ → State → Type 0)
     (is_ended : State → Type 0) (failures : State → ℕ) (from to : State) (bound : ℕ)
     (old new : Kept) : Type 0 where
   pub was_open : old.standing ≡ standings.Open
   pub standing : new.standing ≡ standings.NoDevice
-  pub rose : Rose (failures from) (failures to)
+  pub octets : List ℕ
+  pub failed : Fails (source takes is_ended failures from to) octets
   pub rest : List ℕ
-  pub reads : Takes takes from to bound old (record new { rest = rest; standing = standings.Open })
-  pub stops : FailsAtOnce takes is_ended failures from to
+  pub reads : ReadsOn bound old (record new { rest = rest; standing = standings.Open }) octets
 
 -- The stream has a fault, or ends inside a certificate. No read failed.
 pub record InputFaulty {State : Type 0} (takes : State → List ℕ → State → Type 0)

@@ -20,7 +20,7 @@ abbrev pub certificate_extension : ℕ → List ℕ
 certificate_extension n = 2 ∷ 5 ∷ 29 ∷ n ∷ []
 
 -- KeyUsage ::= BIT STRING { digitalSignature (0), .. keyCertSign (5), .. decipherOnly (8) }
--- (4.2.1.3)
+--     (4.2.1.3)
 abbrev pub key_usage : Shape
 key_usage = tagged tags.BitString (leaf (named 9))
 
@@ -29,7 +29,7 @@ abbrev pub subject_alt_name : ℕ → Shape
 subject_alt_name bound = general_names bound
 
 -- BasicConstraints ::= SEQUENCE { cA BOOLEAN DEFAULT FALSE, pathLenConstraint INTEGER (0..255)
--- OPTIONAL } (4.2.1.9)
+--     OPTIONAL } (4.2.1.9)
 abbrev pub basic_constraints : Shape
 basic_constraints = sequence basic_constraints_fields
 
@@ -41,8 +41,8 @@ extended_key_usage bound = sequence_of (object_identifier bound)
 pub data Meaning : Type 0 where
   uses : ℕ → Meaning  -- of a key: a set of named bits
   other_names : List (Value (general_name 0)) → Meaning  -- of the subject
-  constraints : Bool → Option ℕ → Meaning  -- whether the subject is an authority, and how long a
-      path below it may be
+  -- whether the subject is an authority, and how long a path below it may be
+  constraints : Bool → Option ℕ → Meaning
   purposes : List (List ℕ) → Meaning  -- of a key: identifiers
   malformed : Meaning  -- of a kind that is weighed, and not one value of it
   unweighed : Meaning  -- of another kind

@@ -90,7 +90,9 @@ fn has_only_name(controls: &CertPathControls<Raw>) -> bool
 // An anchor of a copy of the name and of the key.
 #[tactic(auto, unfolding(crate::specs::Anchors::anchor_plain))]
 fn copied(alloc: Global, name: &Name, key: &SubjectPublicKeyInfo) -> Result<Anchor, AnchorError>
-    ensures copied { IfOk result (λ anchor. anchor_plain anchor ≡ record { name = name_plain name.now; key = key_plain key.now }) }
+    ensures copied { IfOk result
+        (λ anchor. anchor_plain anchor
+        ≡ record { name = name_plain name.now; key = key_plain key.now }) }
     ensures refused { IfErr result (λ error. error ≡ AnchorError.OutOfMemory) }
 {
     let name = name.clone(alloc)?;

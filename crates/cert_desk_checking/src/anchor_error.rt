@@ -8,7 +8,7 @@ use thiserror::Error;
 /// Why a trust anchor gives no anchor.
 #[derive(Clone, Copy, Debug, PartialEq, Eq, Error)]
 pub enum AnchorError {
-    /// It is told by its key, without a name.
+    /// The anchor is told by its key, without a name.
     #[error("the trust anchor has no name")]
     NoName,
     /// A path from it must meet more than its name.

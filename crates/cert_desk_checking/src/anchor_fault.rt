@@ -5,7 +5,7 @@
 pub enum AnchorFault {
     /// No trust anchor begins there.
     Malformed,
-    /// It is told by its key, without a name.
+    /// The anchor is told by its key, without a name.
     NoName,
     /// A path from it must meet more than its name.
     PathControls,

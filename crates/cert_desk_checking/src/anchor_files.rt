@@ -55,7 +55,8 @@ fn given(
     start: usize,
     end: usize,
 ) -> Result<(Anchor, usize), Outcome>
-    ensures given { IfOk result (λ p. given_by (trust_anchor_plain choice.now) ≡ Ok (anchor_plain p.0)) }
+    ensures given { IfOk result (λ p. given_by (trust_anchor_plain choice.now)
+        ≡ Ok (anchor_plain p.0)) }
     ensures end { IfOk result (λ p. p.1 ≡ end) }
     ensures ungiven { IfErr result (IsUngiven (trust_anchor_plain choice.now) start) }
 {
@@ -83,7 +84,8 @@ fn anchor_at(alloc: Global, octets: &[u8], start: usize) -> Result<(Anchor, usiz
 // The anchors that the trust anchors of a file give, or why there are none.
 pub(crate) fn anchors_in(alloc: Global, octets: &[u8]) -> Result<Vec<Anchor>, Outcome>
     requires { Fits octets.now }
-    ensures read { IfOk result (λ anchors. IsAnchorFile octets.now (map anchor_plain anchors.items)) }
+    ensures read { IfOk result
+        (λ anchors. IsAnchorFile octets.now (map anchor_plain anchors.items)) }
     ensures refused { IfErr result (IsNoAnchorFile octets.now) }
 {
     let mut anchors = Vec::new(alloc);

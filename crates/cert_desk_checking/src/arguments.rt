@@ -35,7 +35,8 @@ impl<'a> Arguments<'a> {
     /// The moment and the limit are one or more decimal digits, the moment below 2^64, the limit
     /// from 6 to 2^32 - 1. Leading zeros are read, and no sign.
     pub fn parse(words: &'a [String]) -> Option<Arguments<'a>>
-        ensures read { IfSome result (λ a. AskCheck (map string_bytes words.now) a.anchors.now a.stream.now
+        ensures read { IfSome result
+            (λ a. AskCheck (map string_bytes words.now) a.anchors.now a.stream.now
             a.moment a.purpose a.limit) }
         ensures limit { IfSome result (λ arguments. 6 ≤ arguments.limit) }
         ensures refused { IfNone result (AskNoCheck (map string_bytes words.now)) }

@@ -6,7 +6,7 @@ ghost use Rattle.cert_desk_checking.specs.Chains.{joined};
 ghost use Rattle.cert_desk_checking.specs.Streams.{Reads};
 ghost use Rattle.cert_desk_checking.specs.Entries.{IsEntry};
 ghost use Rattle.cert_desk_checking.specs.Steps.{kept_octets, ReadsOn, ReadsStill, Grows, Takes};
-ghost use Rattle.cert_desk_checking.specs.Steps.{TakesFront, Stops, stopped, error_of};
+ghost use Rattle.cert_desk_checking.specs.Steps.{Advances, TakesFront, Stops, stopped, error_of};
 ghost use Rattle.cert_desk_checking.specs.Steps.{RefusesPiece, RefusesEnd, HasFailed, RefusesInput};
 
 use crate::bundle_error::{BundleError, ReadError};
@@ -23,7 +23,8 @@ use std::marker::Model;
 ///
 /// It is read as it comes, and what is read of it does not depend on how it was cut. Each
 /// certificate is kept with its own octets, and of the stream nothing else but the octets of one
-/// that isn't whole yet. Room is taken for octets that came, however many a header announces.
+/// that isn't whole yet. Room is taken for octets that came (for twice as many at most, or for
+/// 256), however many a header announces.
 #[derive(Drop)]
 pub struct Bundle {
     alloc: Global,
@@ -125,6 +126,8 @@ impl Bundle {
     /// `OutOfMemory` where a growth was refused. With either the bundle has failed, the
     /// certificates that were read stay, and no other octets are kept. `Failed` where it had ended
     /// or failed before, and then nothing changes.
+    // Inlined, so that a piece of one octet that is kept costs no call.
+    #[inline(always)]
     pub fn feed(&mut self, piece: &[u8]) -> Result<(), BundleError>
         ensures limit { self.new.limit ≡ self.old.limit }
         ensures grows { Grows self.old self.new }
@@ -132,7 +135,8 @@ impl Bundle {
         ensures was_open { OnOk result (self.old.standing ≡ Standing.Open) }
         ensures is_open { OnOk result (self.new.standing ≡ Standing.Open) }
         ensures reads { OnOk result (ReadsOn Bound self.old self.new piece.now) }
-        ensures kept { OnOk result (kept_octets Bound self.new ≡ kept_octets Bound self.old ++ piece.now) }
+        ensures kept { OnOk result (kept_octets Bound self.new ≡ kept_octets Bound self.old
+            ++ piece.now) }
         ensures fits { OnOk result (length (kept_octets Bound self.new) < 2 ^ 64 + 5) }
         // A piece that isn't.
         ensures refused { IfErr result (RefusesPiece Bound self.old self.new piece.now) }
@@ -140,14 +144,13 @@ impl Bundle {
         let Standing::Open = self.standing else {
             return Err(BundleError::Failed);
         };
-        let mut left = piece;
-        while !left.is_empty() {
-            match self.take(left) {
-                Ok(count) => left = &left[count..],
-                Err(standing) => return Err(self.refuse(standing)),
-            }
+        if self.rest.keep(piece) {
+            return Ok(());
         }
-        Ok(())
+        if self.take_all(piece) {
+            return Ok(());
+        }
+        Err(self.error())
     }
 
     /// Ends the stream. Takes no memory.
@@ -170,7 +173,8 @@ impl Bundle {
         match self.standing {
             Standing::Open => {
                 if self.unfinished() > 0 {
-                    return Err(self.refuse(Standing::Faulted(FaultKind::Truncated)));
+                    self.stop(Standing::Faulted(FaultKind::Truncated));
+                    return Err(self.error());
                 }
                 self.stop(Standing::Ended);
                 Ok(())
@@ -217,7 +221,8 @@ impl Bundle {
         ensures sound { OnOk result (I.failures input.new ≡ I.failures input.old) }
         ensures reads { OnOk result (Takes I.takes input.old input.new Bound self.old self.new) }
         // An input that isn't.
-        ensures refused { IfErr result (RefusesInput I.takes I.is_ended I.failures input.old input.new Bound
+        ensures refused { IfErr result
+            (RefusesInput I.takes I.is_ended I.failures input.old input.new Bound
             self.old self.new) }
     {
         if self.is_ended() {
@@ -235,6 +240,30 @@ impl Bundle {
             }
             self.feed(&buffer[..count])?;
         }
+    }
+
+    // Takes all of a piece; or as much as can be taken, and no further one. Says which.
+    #[inline(never)]
+    fn take_all(&mut self, piece: &[u8]) -> bool
+        requires open { self.old.standing ≡ Standing.Open }
+        ensures limit { self.new.limit ≡ self.old.limit }
+        ensures grows { Grows self.old self.new }
+        ensures taken { IsTrue result → Advances Bound self.old self.new piece.now }
+        ensures refused { ¬ IsTrue result → RefusesPiece Bound self.old self.new piece.now
+            (error_of Bound self.new self.new.standing) }
+    {
+        let _ = &self.alloc;
+        let mut left = piece;
+        while !left.is_empty() {
+            match self.take(left) {
+                Ok(count) => left = &left[count..],
+                Err(standing) => {
+                    self.stop(standing);
+                    return false;
+                }
+            }
+        }
+        true
     }
 
     // Takes octets from the front of a piece that has some, and says how many; or why none can be
@@ -276,13 +305,12 @@ impl Bundle {
         self.standing = standing;
     }
 
-    // The same, and tells the reason.
-    fn refuse(&mut self, standing: Standing) -> BundleError
-        ensures stopped { self.new ≡ stopped self.old standing }
-        ensures error { result ≡ error_of Bound self.old standing }
+    // How it is told that the bundle stands so.
+    #[inline(always)]
+    fn error(&self) -> BundleError
+        ensures { result ≡ error_of Bound self.now self.now.standing }
     {
-        self.stop(standing);
-        match standing {
+        match self.standing {
             Standing::Faulted(kind) => BundleError::Fault {
                 place: self.located.len(),
                 offset: self.end,

@@ -25,7 +25,7 @@ use crate::anchor::Anchor;
 use crate::bundle::Bundle;
 use crate::checked::{CheckError, Checked, Verdict};
 use crate::entry::Entry;
-use crate::extensions::{are_distinct, extensions_of};
+use crate::extensions::{extensions_of, first_twin};
 use crate::issuer::Issuer;
 use crate::kept_rules::KeptRules;
 use crate::path_room::PathRoom;
@@ -48,8 +48,9 @@ use x509_cert::{CertificateInner, Name, Raw, SubjectPublicKeyInfo};
 /// # Errors
 ///
 /// `Device` where a device had failed the bundle; `OutOfMemory` where want of memory had, or where
-/// there was none for the contents of an extension: then the judge was asked about the certificates
-/// before, which keep every rule. Of a stream that isn't whole the judge isn't asked.
+/// there was none for the contents of an extension, or to compare more than 16: then the judge was
+/// asked about the certificates before, which keep every rule. Of a stream that isn't whole the
+/// judge isn't asked.
 pub fn check<J: SignatureJudge>(
     alloc: Global,
     bundle: &Bundle,
@@ -65,7 +66,8 @@ pub fn check<J: SignatureJudge>(
     ensures trusted { IfOk result (λ checked. (stream : List ℕ) → Reads Bound bundle.now stream
         → Trusted (terms_of anchors.now moment purpose.now (J.answers judge.old)) bundle.now.limit
         stream → checked.verdict ≡ Verdict.Trusted) }
-    ensures fault { IfOk result (λ checked. (kind : FaultKind) → bundle.now.standing ≡ Standing.Faulted kind
+    ensures fault { IfOk result (λ checked. (kind : FaultKind) → bundle.now.standing
+        ≡ Standing.Faulted kind
         → checked.verdict ≡ Verdict.StreamFault (length bundle.now.certificates)
         (length (joined Bound bundle.now.certificates)) kind) }
     ensures counted { IfOk result (λ checked. (stream : List ℕ) → Reads Bound bundle.now stream
@@ -86,7 +88,8 @@ pub fn check<J: SignatureJudge>(
 
     // Where nobody is asked.
     ensures untouched { bundle.now.standing ≢ Standing.Ended → judge.new ≡ judge.old }
-    ensures no_calls { IfOk result (λ checked. bundle.now.standing ≢ Standing.Ended → checked.calls ≡ 0) }
+    ensures no_calls { IfOk result (λ checked. bundle.now.standing ≢ Standing.Ended → checked.calls
+        ≡ 0) }
 {
     match bundle.standing() {
         Standing::Open => unreachable!(),
@@ -254,7 +257,8 @@ fn has_one_algorithm(certificate: &CertificateInner<Raw>) -> bool
 
 // Whether its first moment isn't after this one.
 fn has_begun(certificate: &CertificateInner<Raw>, moment: u64) -> bool
-    ensures { result ≡ nat_le (unix_seconds (not_before (certificate_plain certificate.now))) moment }
+    ensures { result ≡ nat_le (unix_seconds (not_before (certificate_plain certificate.now)))
+        moment }
 {
     let validity = certificate.tbs_certificate().validity();
     validity.not_before.to_date_time().unix_seconds() <= moment
@@ -262,7 +266,8 @@ fn has_begun(certificate: &CertificateInner<Raw>, moment: u64) -> bool
 
 // Whether its last moment isn't before this one.
 fn lasts(certificate: &CertificateInner<Raw>, moment: u64) -> bool
-    ensures { result ≡ nat_le moment (unix_seconds (not_after (certificate_plain certificate.now))) }
+    ensures { result
+        ≡ nat_le moment (unix_seconds (not_after (certificate_plain certificate.now))) }
 {
     let validity = certificate.tbs_certificate().validity();
     moment <= validity.not_after.to_date_time().unix_seconds()
@@ -299,20 +304,23 @@ fn first_unsigned(
     room: &mut PathRoom,
 ) -> Result<Option<Rule>, AllocError>
     requires { IsValid (raw_certificate Bound) (certificate_plain certificate.now) }
-    ensures judged { IfOk result (λ broken. (cs : List PlainCertificate) (anchors : List Anchor) (place : ℕ)
+    ensures judged { IfOk result
+        (λ broken. (cs : List PlainCertificate) (anchors : List Anchor) (place : ℕ)
         (answers : Answers) (stream : List ℕ)
         → StandsAt cs anchors place (certificate_plain certificate.now) is_last issuer.now room.old
         → IsFirstUnsigned (terms_of anchors moment purpose.now answers) cs stream place broken) }
-    ensures room { IfOk result (λ broken. (cs : List PlainCertificate) (anchors : List Anchor) (place : ℕ)
+    ensures room { IfOk result
+        (λ broken. (cs : List PlainCertificate) (anchors : List Anchor) (place : ℕ)
         → StandsAt cs anchors place (certificate_plain certificate.now) is_last issuer.now room.old
         → broken ≡ None → IsRoom Bound cs (place + 1) room.new) }
 {
     let extensions = extensions_of(certificate);
     let findings = findings_of(alloc, extensions, purpose)?;
+    let twin = first_twin(alloc, extensions)?;
     let counts = takes_room(certificate, is_last, room);
     let kept = KeptRules {
         one_algorithm: has_one_algorithm(certificate),
-        distinct: are_distinct(extensions),
+        distinct: twin.is_none(),
         well_formed: !findings.malformed,
         known: !findings.unweighed_critical,
         linked: is_linked(certificate, issuer),
@@ -345,7 +353,8 @@ fn check_chain<J: SignatureJudge>(
         (asked (terms_of anchors.now moment purpose.now (J.answers judge.old))
         bundle.now.certificates (joined Bound bundle.now.certificates))
         (J.questions judge.old) 0 (J.questions judge.new) checked.calls) }
-    ensures stopped { OnErr result ((stream : List ℕ) → Chain Bound bundle.now.limit bundle.now.certificates
+    ensures stopped { OnErr result
+        ((stream : List ℕ) → Chain Bound bundle.now.limit bundle.now.certificates
         stream
         → StopsAsking (terms_of anchors.now moment purpose.now (J.answers judge.old))
         bundle.now.limit stream (J.questions judge.old) (J.questions judge.new)) }

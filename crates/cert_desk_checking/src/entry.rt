@@ -7,7 +7,7 @@ use x509_cert::{CertificateInner, Raw};
 pub struct Entry<'a> {
     /// The number of octets of the stream before it.
     pub offset: u64,
-    /// Its octets.
+    /// The octets.
     pub octets: &'a [u8],
     /// The octets of its signed part, inside these.
     pub signed: &'a [u8],

@@ -1,14 +1,17 @@
 //! The extensions of a certificate, and their identifiers (RFC 5280 4.2).
 
-ghost use Rattle.std.specs.Prelude.{◌≡◌, ◌<◌, ℕ, false, nat_eq};
-ghost use Rattle.std.specs.Option.{option_map_or};
+ghost use Rattle.std.specs.Prelude.{◌≡◌, ◌<◌, ℕ, length, true, false, not, nat_eq};
+ghost use Rattle.std.specs.Prelude.{IfOk, IfSome};
+ghost use Rattle.std.specs.Option.{is_some, option_map_or};
 ghost use Rattle.const_oid.specs.Comparing.{owned_eq};
 ghost use Rattle.x509_cert.specs.Certificates.{extensions_of};
 ghost use Rattle.x509_cert.specs.Views.{certificate_plain, extension_plain, extensions_plain};
-ghost use Rattle.cert_desk_checking.specs.Judging.{are_distinct, is_alone};
+ghost use Rattle.cert_desk_checking.specs.Judging.{are_distinct, has_twin, is_alone};
 ghost use Rattle.cert_desk_checking.specs.Weighing.{certificate_extension};
 
 use const_oid::ObjectIdentifier;
+use std::alloc::{AllocError, Global};
+use std::collections::BTreeSet;
 use x509_cert::{CertificateInner, Extension, Raw};
 
 // Below 2.5.29 (RFC 5280 4.2.1.3, 4.2.1.6, 4.2.1.9, 4.2.1.12).
@@ -20,6 +23,9 @@ pub(crate) const BASIC_CONSTRAINTS: u8 = 19;
 
 pub(crate) const EXT_KEY_USAGE: u8 = 37;
 
+// So many extensions are compared each with each.
+const FEW: usize = 16;
+
 // The extensions, in their order. Where the field is absent there are none.
 pub fn extensions_of(certificate: &CertificateInner<Raw>) -> &[Extension]
     ensures { extensions_plain result.now ≡ extensions_of (certificate_plain certificate.now) }
@@ -30,16 +36,53 @@ pub fn extensions_of(certificate: &CertificateInner<Raw>) -> &[Extension]
     }
 }
 
-// Whether no two extensions have one identifier.
-pub fn are_distinct(extensions: &[Extension]) -> bool
-    ensures { result ≡ are_distinct (extensions_plain extensions.now) }
+// The first extension whose identifier one behind it has. It takes n log n comparisons, and memory
+// for more extensions than a few.
+pub fn first_twin(alloc: Global, extensions: &[Extension]) -> Result<Option<usize>, AllocError>
+    ensures distinct { IfOk result (λ twin. not (is_some twin)
+        ≡ are_distinct (extensions_plain extensions.now)) }
+    ensures within { IfOk result (λ twin. IfSome twin (λ place. place < length extensions.now)) }
+    ensures twin { IfOk result (λ twin. IfSome twin (λ place.
+        has_twin (extensions_plain extensions.now) place ≡ true)) }
+{
+    if extensions.len() <= FEW {
+        return Ok(first_twin_of_few(extensions));
+    }
+    let twin = first_twin_of_many(alloc, extensions)?;
+    Ok(twin)
+}
+
+// The first twin, found from the last extension to the first by a set of the identifiers so far.
+fn first_twin_of_many(alloc: Global, extensions: &[Extension]) -> Result<Option<usize>, AllocError>
+    ensures distinct { IfOk result (λ twin. not (is_some twin)
+        ≡ are_distinct (extensions_plain extensions.now)) }
+    ensures within { IfOk result (λ twin. IfSome twin (λ place. place < length extensions.now)) }
+    ensures twin { IfOk result (λ twin. IfSome twin (λ place.
+        has_twin (extensions_plain extensions.now) place ≡ true)) }
+{
+    let mut behind = BTreeSet::new(alloc);
+    let mut twin = None;
+    for place in (0..extensions.len()).rev() {
+        if !behind.insert(extensions[place].extn_id)? {
+            twin = Some(place);
+        }
+    }
+    Ok(twin)
+}
+
+// The first twin, where each extension is compared with each: that takes no memory.
+fn first_twin_of_few(extensions: &[Extension]) -> Option<usize>
+    ensures distinct { not (is_some result) ≡ are_distinct (extensions_plain extensions.now) }
+    ensures within { IfSome result (λ place. place < length extensions.now) }
+    ensures twin { IfSome result (λ place. has_twin (extensions_plain extensions.now) place
+        ≡ true) }
 {
     for place in 0..extensions.len() {
         if !is_alone(&extensions[place], &extensions[place + 1..]) {
-            return false;
+            return Some(place);
         }
     }
-    true
+    None
 }
 
 // Whether none of the others has the extension's identifier.

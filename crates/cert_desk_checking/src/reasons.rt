@@ -12,7 +12,7 @@ ghost use Rattle.cert_desk_checking.specs.Reasons.{is_against, is_at, is_explain
 
 use crate::bundle::Bundle;
 use crate::checking::is_self_issued;
-use crate::extensions::extensions_of;
+use crate::extensions::{extensions_of, first_twin};
 use crate::findings::Findings;
 use crate::reason::Reason;
 use crate::rule::Rule;
@@ -49,7 +49,7 @@ pub fn reason_of(
     };
     let extensions = extensions_of(entry.certificate);
     match rule {
-        Rule::DuplicateExtension => Ok(twins_in(extensions)),
+        Rule::DuplicateExtension => twins_in(alloc, extensions),
         Rule::NotAuthority => lack_of_authority(alloc, extensions, purpose),
         Rule::PathTooLong => exceeded_length(alloc, bundle, place, purpose),
         _ => extension_against(alloc, extensions, purpose, rule),
@@ -92,28 +92,31 @@ fn goes_against(findings: &Findings, rule: Rule) -> bool
     }
 }
 
-// The first extensions that have one identifier.
-fn twins_in(extensions: &[Extension]) -> Option<Reason>
-    ensures twins { IfSome result (λ reason. (first : ℕ) × (second : ℕ) × (reason ≡ Reason.Twins first second)
-        × (first < second) × (are_twins (extensions_plain extensions.now) first second ≡ true)) }
-    ensures none { IfNone result (are_distinct (extensions_plain extensions.now) ≡ true) }
+// The first extension whose identifier one behind it has, and that one.
+fn twins_in(alloc: Global, extensions: &[Extension]) -> Result<Option<Reason>, AllocError>
+    ensures twins { IfOk result (λ told. IfSome told (λ reason. (first : ℕ) × (second : ℕ)
+        × (reason ≡ Reason.Twins first second) × (first < second)
+        × (are_twins (extensions_plain extensions.now) first second ≡ true))) }
+    ensures none { IfOk result (λ told. IfNone told
+        (are_distinct (extensions_plain extensions.now) ≡ true)) }
 {
-    for first in 0..extensions.len() {
-        let behind = first + 1;
-        if let Some(number) = twin_of(&extensions[first], &extensions[behind..]) {
-            let second = behind + number;
-            return Some(Reason::Twins { first, second });
-        }
-    }
-    None
+    let Some(first) = first_twin(alloc, extensions)? else {
+        return Ok(None);
+    };
+    let behind = first + 1;
+    let number = twin_of(&extensions[first], &extensions[behind..]).unwrap();
+    let second = behind + number;
+    Ok(Some(Reason::Twins { first, second }))
 }
 
 // The first one of the others that has the identifier of the extension.
 fn twin_of(extension: &Extension, others: &[Extension]) -> Option<usize>
     ensures within { IfSome result (λ number. number < length others.now) }
-    ensures twin { IfSome result (λ number. is_at (have_one_identifier (extension_plain extension.now))
+    ensures twin { IfSome result
+        (λ number. is_at (have_one_identifier (extension_plain extension.now))
         (extensions_plain others.now) number ≡ true) }
-    ensures none { IfNone result (is_alone (extension_plain extension.now) (extensions_plain others.now)
+    ensures none { IfNone result
+        (is_alone (extension_plain extension.now) (extensions_plain others.now)
         ≡ true) }
 {
     for number in 0..others.len() {
@@ -149,7 +152,7 @@ fn lack_of_authority(
     Ok(against)
 }
 
-// The first place whose path length the places up to this one exceed.
+// The first place whose path length the places up to this one exceed. They are counted once.
 fn exceeded_length(
     alloc: Global,
     bundle: &Bundle,
@@ -163,33 +166,37 @@ fn exceeded_length(
     ensures none { IfOk result (λ told. IfNone told
         (keep_lengths Bound bundle.now.certificates place place ≡ true)) }
 {
+    let mut left = counted_behind(bundle, 0, place);
     for before in 0..place {
-        if !keeps_length(alloc, bundle, before, place, purpose)? {
+        if !keeps_length(alloc, bundle, before, left, purpose)? {
             return Ok(Some(Reason::PathLength { place: before }));
+        }
+        if counts(bundle, before + 1) {
+            left -= 1;
         }
     }
     Ok(None)
 }
 
-// Whether no more places count behind the first place, up to the other, than its path length
-// allows.
+// Whether so many places are within the path length of a place, where they are those that count
+// behind it up to another.
 fn keeps_length(
     alloc: Global,
     bundle: &Bundle,
     before: usize,
-    place: usize,
+    count: usize,
     purpose: &ObjectIdentifier<39>,
 ) -> Result<bool, AllocError>
-    requires before { before < place }
-    requires within { place < length bundle.now.certificates }
-    ensures { IfOk result (λ kept. kept ≡ keeps_length Bound bundle.now.certificates before place) }
+    requires within { before < length bundle.now.certificates }
+    ensures { IfOk result (λ kept. (place : ℕ)
+        → count ≡ counted Bound bundle.now.certificates (before + 1) (place - before)
+        → kept ≡ keeps_length Bound bundle.now.certificates before place) }
 {
     let certificate = bundle.get(before).unwrap().certificate;
     let findings = findings_of(alloc, extensions_of(certificate), purpose)?;
     let Some(most) = findings.path_len else {
         return Ok(true);
     };
-    let count = counted_behind(bundle, before, place);
     Ok(count <= most as usize)
 }
 

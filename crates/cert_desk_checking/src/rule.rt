@@ -21,7 +21,7 @@ pub enum Rule {
     Expired,
     /// The purpose isn't allowed (4.2.1.12).
     AgainstPurpose,
-    /// It isn't the last, and isn't an authority's (6.1.4 (k), (n)).
+    /// The certificate isn't the last, and isn't an authority's (6.1.4 (k), (n)).
     NotAuthority,
     /// The path is longer than a certificate before allows (6.1.4 (l), (m)).
     PathTooLong,

@@ -1,9 +1,9 @@
 // Where a certificate ends, by the header at its front.
-ghost use Rattle.std.specs.Prelude.{◌≡◌, ℕ, ◌<◌, ◌≤◌, ◌^◌, List, ◌++◌, length, IfSome, IfOk, IfErr};
+ghost use Rattle.std.specs.Prelude.{◌≡◌, ℕ, ◌<◌, ◌≤◌, ◌^◌, List, ◌++◌, length, IfOk, IfErr};
 ghost use Rattle.der_core_head.specs.declared.tag.Tag.TheVariants as tags;
 ghost use Rattle.der_core_head.specs.Heads.{head_octets};
 ghost use Rattle.cert_desk_checking.specs.Faults.{whole_length};
-ghost use Rattle.cert_desk_checking.specs.Headers.{fault_of, HasWhole, IsWanted, IsEarlyFault};
+ghost use Rattle.cert_desk_checking.specs.Headers.{fault_of, IsWanted, IsEarlyFault};
 
 use crate::fault_kind::FaultKind;
 use der_core_head::ErrorKind;
@@ -43,17 +43,6 @@ pub(crate) fn wanted_len(octets: &[u8], offset: u64, limit: u32) -> Result<usize
         return Err(FaultKind::TooLarge);
     }
     Ok(len as usize)
-}
-
-// How many octets the certificate has that stands whole at the front of these.
-pub(crate) fn whole_len(octets: &[u8], offset: u64, limit: u32) -> Option<usize>
-    requires { 6 ≤ limit }
-    ensures { IfSome result (HasWhole limit offset octets.now) }
-{
-    match wanted_len(octets, offset, limit) {
-        Ok(len) if len <= octets.len() => Some(len),
-        _ => None,
-    }
 }
 
 // How many octets the header takes of a SEQUENCE that begins these, and how many all of it.

@@ -5,7 +5,7 @@ use crate::fault_kind::FaultKind;
 /// How a bundle stands: it takes pieces, its stream is whole, or it failed for good.
 #[derive(Clone, Copy, Debug, PartialEq, Eq)]
 pub enum Standing {
-    /// It takes pieces.
+    /// The bundle takes pieces.
     Open,
     /// The stream is whole.
     Ended,

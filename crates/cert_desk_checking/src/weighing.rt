@@ -154,7 +154,8 @@ fn is_any(purpose: &ObjectIdentifier<39>) -> bool
 
 // An extension that was refused is malformed, unless memory was wanting.
 fn malformed(error: Error) -> Result<Weight, AllocError>
-    ensures { IfOk result (λ weight. (weight ≡ Weight.Malformed) × (error.kind ≢ ErrorKind.OutOfMemory)) }
+    ensures { IfOk result (λ weight. (weight ≡ Weight.Malformed)
+        × (error.kind ≢ ErrorKind.OutOfMemory)) }
 {
     match error.kind {
         ErrorKind::OutOfMemory => Err(AllocError),

@@ -3,9 +3,9 @@
 /// What the rules of a chain ask of an extension (RFC 5280 4.2.1).
 #[derive(Clone, Copy)]
 pub(crate) enum Weight {
-    /// It is of no kind that is weighed.
+    /// The extension is of no kind that is weighed.
     Unweighed,
-    /// It is of a kind that is weighed, and not one value of it.
+    /// The extension is of a kind that is weighed, and not one value of it.
     Malformed,
     /// The uses of a key (4.2.1.3): whether it may sign certificates.
     KeyUsage { certifies: bool },

@@ -9,6 +9,7 @@ use Rattle.cert_desk_checking.specs.Findings.{IsRoom, add_place, found}
 use Rattle.cert_desk_checking.specs.Judging.{are_distinct}
 use Rattle.cert_desk_checking.specs.KeptRules.{IsFirstOf}
 use Rattle.cert_desk_checking.specs.Paths.{counts, is_self_issued, is_within}
+use Rattle.cert_desk_checking.proofs.Folds.{not_twice}
 use Rattle.cert_desk_checking.proofs.KeptLaws.{counts-is, first_unsigned_by, keeps_issuing, keeps_known, keeps_serving, keeps_well_formed, keeps_within, tests_say}
 use Rattle.cert_desk_checking.proofs.PathLaws.{IsRoom-more, add_place_any, admits_any}
 use Rattle.cert_desk_checking.proofs.PlaceLaws.{keeps_at-is, linked_at}
@@ -25,7 +26,7 @@ returns-clause-judged c = λ cs anchors place answers stream at.
     first_unsigned_by _ t cs stream place c.first_broken.result
     (tests_say _ t cs stream place
     (c.has_one_algorithm.ensures ∙ sym (keeps_at-is rules.AlgorithmsDiffer t cs stream place this at.certificate))
-    (c.are_distinct.ensures ∙ ap are_distinct c.extensions_of-extensions.ensures ∙ sym (keeps_at-is rules.DuplicateExtension t cs stream place this at.certificate))
+    (not_twice c.is_none.result ∙ ap not (sym c.is_none.ensures) ∙ c.in_ok-twin.ensures.distinct ∙ ap are_distinct c.extensions_of-extensions.ensures ∙ sym (keeps_at-is rules.DuplicateExtension t cs stream place this at.certificate))
     (keeps_well_formed t cs stream place this at.certificate _ gathered)
     (keeps_known t cs stream place this at.certificate _ gathered)
     (c.is_linked.ensures ∙ linked_at anchors c.args.moment c.args.purpose.now answers cs stream this place c.args.issuer.now at.issuer at.certificate)

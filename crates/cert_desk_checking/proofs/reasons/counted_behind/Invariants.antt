@@ -1,4 +1,4 @@
--- It is counted up to here.
+-- The path limit is counted up to here.
 use Rattle.std.proofs.Common.{◌≡◌, ◌≤◌, ◌+◌, ◌-◌}
 use Rattle.const_oid.specs.Bound.{Bound}
 use Rattle.cert_desk_checking.specs.Paths.{counted}

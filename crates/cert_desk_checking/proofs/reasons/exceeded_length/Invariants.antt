@@ -1,8 +1,11 @@
--- The path lengths of the places so far are kept.
-use Rattle.std.proofs.Common.{◌≡◌, true}
+-- The path lengths of the places so far are kept, and so many places count from here on.
+use Rattle.std.proofs.Common.{◌≡◌, ◌+◌, ◌-◌, true}
 use Rattle.const_oid.specs.Bound.{Bound}
-use Rattle.cert_desk_checking.specs.Paths.{keep_lengths}
+use Rattle.cert_desk_checking.specs.Paths.{counted, keep_lengths}
 use Rattle.cert_desk_checking.proofs.reasons.exceeded_length.Given as goal
 
 abbrev pub invariant-loop-before : goal.invariant-loop-before
-invariant-loop-before l = keep_lengths Bound l.bundle.certificates l.before l.place ≡ true
+invariant-loop-before l = record {
+  kept : keep_lengths Bound l.bundle.certificates l.before l.place ≡ true;
+  left : l.left ≡ counted Bound l.bundle.certificates (l.before + 1) (l.place - l.before);
+}

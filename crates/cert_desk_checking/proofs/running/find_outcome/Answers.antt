@@ -1,10 +1,12 @@
 use Rattle.std.proofs.Common.{◌≡◌, Err, inr, map, refl, sym, ◌∙◌, subst}
 use Rattle.cert_desk_io.specs.Devices.{source}
 use Rattle.cert_desk_checking.specs.declared.checked.CheckError.TheVariants as errors
+use Rattle.cert_desk_checking.specs.declared.standing.Standing.TheVariants as standings
 use Rattle.cert_desk_checking.specs.Anchors.{anchor_plain, purpose_plain}
+use Rattle.cert_desk_checking.specs.Reading.{ReadFailed}
 use Rattle.cert_desk_checking.specs.Runs.{HasAnchors, IsReadFor, IsReadInVain, judging, run_terms}
 use Rattle.cert_desk_checking.specs.Verdicts.{IsVerdict, IsCounted}
-use Rattle.cert_desk_checking.proofs.RunLaws.{fed_in_vain, fed_reads}
+use Rattle.cert_desk_checking.proofs.RunLaws.{fed_none, fed_in_vain, fed_reads}
 use Rattle.cert_desk_checking.proofs.running.find_outcome.Goals as goal
 
 pub returns-in-Ok-check-clause-found : goal.returns-in-Ok-check-clause-found
@@ -47,4 +49,19 @@ returns-in-Err-OutOfMemory-clause-found g c =
       anchors,
       subst (λ xs. HasAnchors input (map anchor_plain xs)) (sym c.deref.ensures.value) c.in-Ok.ensures.read,
       subst (λ n. IsReadInVain stream judge terms n) c.read_stream-bundle.ensures.limit vain,
+    )
+
+pub returns-clause-found : goal.returns-clause-found
+returns-clause-found g c =
+    let input = source g.A.Input.takes g.A.Input.is_ended g.A.Input.failures c.args.anchors.now c.read_anchors.new.input in
+    let stream = source g.S.Input.takes g.S.Input.is_ended g.S.Input.failures c.args.stream.now c.read_stream-bundle.new.input in
+    let bundle = c.read_stream-bundle.result in
+    let refused : c.check.result ≡ Err errors.Device = cc (c.in-Err-Device.is, c.in-Err-Device.field-0-is) in
+    let failed : bundle.standing ≡ standings.NoDevice = c.check.ensures.device.0 refused in (
+      inr (
+        map anchor_plain c.deref.result.now,
+        subst (λ xs. HasAnchors input (map anchor_plain xs)) (sym c.deref.ensures.value) c.in-Ok.ensures.read,
+        subst (λ n. ReadFailed stream n) c.read_stream-bundle.ensures.limit (fed_none stream bundle c.read_stream-bundle.ensures.fed failed),
+      ),
+      c.check.ensures.untouched (λ ended. (let none : standings.NoDevice ≡ standings.Ended = sym failed ∙ ended in absurd cc)),
     )

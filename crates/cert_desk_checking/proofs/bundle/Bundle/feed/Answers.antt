@@ -1,18 +1,33 @@
--- Each front that is taken leaves less; where none is, the piece is refused.
-use Rattle.std.proofs.Common.{ap, subst, ◌∙◌, arith}
-use Rattle.std.proofs.lemmas.List.{take_rest}
+-- A piece that is kept leaves more to wait for.
+use Rattle.std.proofs.Common.{◌≡◌, ◌++◌, ◌<◌, ℕ, length, refl, subst, arith, length-append}
 use Rattle.const_oid.specs.Bound.{Bound}
+use Rattle.cert_desk_checking.specs.Locations.{kept_of}
+use Rattle.cert_desk_checking.specs.Steps.{ReadsOn}
 use Rattle.cert_desk_checking.specs.Streams.{Kept}
-use Rattle.cert_desk_checking.proofs.BundleSteps.{feeding-start}
-use Rattle.cert_desk_checking.proofs.Readings.{Feeding, feeding-more, feeding-refused, feeding-whole, stops-refused}
+use Rattle.cert_desk_checking.proofs.BundleSteps.{takes_all}
+use Rattle.cert_desk_checking.proofs.RestLaws.{taken_short}
+use Rattle.cert_desk_checking.proofs.Scans.{awaits_more}
 use Rattle.cert_desk_checking.proofs.bundle.Bundle.feed.Goals as goal
 
-pub loop-left-init : goal.loop-left-init
-loop-left-init c =
-    subst (λ (k : Kept). Feeding Bound k c.args.piece.now c.args.piece.now k) c.self.view_is (feeding-start c.self.inside c.self.invariant c.args.piece.now c.in-Open.is)
+pub invariant_of-self : goal.invariant_of-self
+invariant_of-self c =
+    let b = c.self.inside in
+    let i = c.self.invariant in
+    let k = c.if-keep.ensures in
+    let longer : length (b.rest.octets.items ++ c.args.piece.now) < b.rest.wanted = omega (arith, k.fewer, length-append b.rest.octets.items c.args.piece.now) in
+    record {
+      room = i.room;
+      kept = i.kept;
+      awaits = rw (k.kept, c.keep.ensures.wanted) (awaits_more b.limit b.end b.rest.octets.items c.args.piece.now b.rest.wanted i.awaits longer);
+      shut = λ h. absurd (h c.in-Open.is);
+    }
 
-pub returns-in-Err-clause-refused : goal.returns-in-Err-clause-refused
-returns-in-Err-clause-refused c =
-    let f = c.loop-left.invariant in
-    feeding-refused Bound c.args.self.now c.loop-left.self c.refuse.new.self c.args.piece.now c.loop-left.left.now f c.refuse.result
-    (stops-refused Bound c.loop-left.self c.take.new.self c.refuse.new.self c.loop-left.left.now f.advances.is_open c.in-Err.standing c.refuse.result c.in-Err.ensures.stops c.refuse.ensures.stopped c.refuse.ensures.error)
+pub returns-then-keep-clause-reads : goal.returns-then-keep-clause-reads
+returns-then-keep-clause-reads c =
+    let b = c.self.inside in
+    let i = c.self.invariant in
+    let k = c.if-keep.ensures in
+    let piece = c.args.piece.now in
+    let taken = taken_short b.limit b.end b.rest c.keep.new.self piece i.awaits (k.some refl) (omega (arith, k.fewer)) (k.kept refl) c.keep.ensures.wanted in
+    subst (λ (old : Kept). ReadsOn Bound old (record (kept_of b) { rest = c.keep.new.self.octets.items }) piece) c.self.view_is
+    (takes_all b i c.in-Open.is piece c.keep.new.self (length piece) refl taken).reads

@@ -1,7 +1,6 @@
 -- Each read adds a piece, meets the end, or fails.
 use Rattle.std.proofs.Common.{ℕ, take, ◌∙◌, subst}
 use Rattle.std.proofs.lemmas.Result.{err_from_is_err_and}
-use Rattle.cert_desk_io.specs.Devices.{Rose}
 use Rattle.cert_desk_checking.proofs.Inputs.{Takes-more, Takes-still, device_fails, end-refused, piece-refused, short_piece}
 use Rattle.cert_desk_checking.proofs.Readings.{Grows-trans}
 use Rattle.cert_desk_checking.proofs.bundle.Bundle.read_from.Goals as goal
@@ -11,7 +10,7 @@ pub returns-in_default-clause-refused : goal.returns-in_default-clause-refused
 returns-in_default-clause-refused g c =
     device_fails g.I.Input.takes g.met.I.Input.takes_in_turn c.args.input.now c.loop-count.input c.read.new.self Bound c.args.self.now c.loop-count.self c.stop.new.self c.loop-count.invariant.reads
     g.I.Input.is_ended g.I.Input.failures c.loop-count.invariant.was_open c.loop-count.invariant.is_open c.loop-count.invariant.limit
-    c.in_default.ensures.none_taken c.stop.ensures c.in_default.ensures.not_ended c.loop-count.invariant.sound c.in_default.ensures.rose
+    c.in_default.ensures.none_taken c.stop.ensures c.in_default.ensures.not_ended c.loop-count.invariant.sound c.in_default.ensures.once
 
 pub returns-in_err-finish-clause-refused : goal.returns-in_err-finish-clause-refused
 returns-in_err-finish-clause-refused g c =

@@ -2,7 +2,7 @@
 use Rattle.std.proofs.Common.{length}
 use Rattle.const_oid.specs.Bound.{Bound}
 use Rattle.cert_desk_checking.proofs.Readings.{Feeding}
-use Rattle.cert_desk_checking.proofs.bundle.Bundle.feed.Given as goal
+use Rattle.cert_desk_checking.proofs.bundle.Bundle.take_all.Given as goal
 
 abbrev pub invariant-loop-left : goal.invariant-loop-left
 invariant-loop-left l = Feeding Bound l.fn.self l.piece l.left l.self
