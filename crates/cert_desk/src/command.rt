@@ -16,7 +16,7 @@ pub enum Command<'a> {
     Show {
         /// What the file is.
         kind: FileKind,
-        /// Its name.
+        /// The name.
         file: &'a str,
     },
     /// The chain that an orders file asks for.

@@ -19,10 +19,11 @@ use Rattle.cert_desk_issuing.specs.declared.accepted.Accepted.{Accepted}
 use Rattle.cert_desk_issuing.specs.declared.fault.Fault.{Fault}
 use Rattle.cert_desk_issuing.specs.declared.fault.Fault.TheVariants as faults
 use Rattle.cert_desk_issuing.specs.declared.role.Role.{Role}
-use Rattle.cert_desk_issuing.specs.Acceptance.{AcceptedOrders, AcceptsFront, IsAccepted, IsAcceptedAt}
-use Rattle.cert_desk_issuing.specs.PlainOrders.{AreReady, IsReady, PlainOrder, accepted_plain, orders_plain}
+use Rattle.cert_desk_issuing.specs.Acceptance.{AcceptedOrders, AcceptsFront, IsAccepted, IsAcceptedAt, IsKeyOf}
+use Rattle.cert_desk_issuing.specs.PlainOrders.{AreKeys, AreReady, IsReady, PlainOrder, accepted_plain, orders_plain}
 use Rattle.cert_desk_issuing.specs.Refusals.{IsRefusedAt, Refuses, RefusesAt, RefusesName, RefusesOrder, fault_at}
 use Rattle.cert_desk_issuing.specs.Roles.{place_above, role_at, signers_for}
+use Rattle.cert_desk_issuing.proofs.ReadNames.{can_bear}
 
 -- lists and their plain values
 pub plain_length : {A B : Type 0} (f : A → B) (xs : List A) → length (plain_list f xs) ≡ length xs
@@ -145,7 +146,7 @@ unfolding new_serial
 serial_short w z h = short_by _ z h
 
 ready : (role : Role) (key : Option PublicKey) (o : Order) (p : PlainOrder) → IsAccepted role key o p → IsReady role p
-ready role key o p a = record { right = a.right; serial = serial_short o.serial.items p.serial a.serial; spelled = a.dates.spelled }
+ready role key o p a = record { right = a.right; named = can_bear role (string_bytes o.name) p.subject a.name a.naming; serial = serial_short o.serial.items p.serial a.serial; spelled = a.dates.spelled }
 
 pub are_ready : (orders : List Order) (keys : List PublicKey) (ps : List PlainOrder) → AcceptedOrders orders keys ps → AreReady ps
 are_ready orders keys ps a place p e =
@@ -153,6 +154,14 @@ are_ready orders keys ps a place p e =
     let same = same_Some at.0 p (sym at.1 ∙ e) in
     let here = subst (λ (q : PlainOrder). IsAcceptedAt orders keys place q) same at.2 in
     subst (λ n. IsReady (role_at n place) p) (sym a.all) (ready (role_at (length orders) place) (slice_get keys place) here.order p here.accepted)
+
+-- the keys of signers are those of accepted orders
+pub are_keys : (orders : List Order) (keys : List PublicKey) (ps : List PlainOrder) → AcceptedOrders orders keys ps → AreKeys keys ps
+are_keys orders keys ps a place key p k e =
+    let at = a.front.each place (slice_get_within ps place p e) in
+    let same = same_Some at.0 p (sym at.1 ∙ e) in
+    let here : IsKeyOf (slice_get keys place) p.key = subst (λ (q : PlainOrder). IsKeyOf (slice_get keys place) q.key) same at.2.accepted.key in
+    subst (λ (o : Option PublicKey). IsKeyOf o p.key) k here
 
 -- why a name is refused is why its order is
 pub refused_name : (role : Role) (key : Option PublicKey) (o : Order) (n : PlainName) (f : Fault) → SpellsName Bound (string_bytes o.name) n → RefusesName role n f → RefusesOrder role key o f

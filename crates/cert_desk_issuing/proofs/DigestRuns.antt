@@ -4,7 +4,7 @@ use Rattle.std.proofs.lemmas.List.{length-map, map-id}
 use Rattle.std.proofs.lemmas.Option.{slice_get-map}
 use Rattle.std.specs.Option.{option_map}
 use Rattle.der_core_head.specs.BitStrings.{Bits}
-use Rattle.cert_desk_checking.specs.Certificates.{Algorithm, PublicKey}
+use Rattle.cert_desk_checking.specs.Certificates.{Algorithm, PlainCertificate, PublicKey}
 use Rattle.cert_desk_orders.specs.declared.order.Order.{Order}
 use Rattle.cert_desk_issuing.specs.declared.fault.Fault.{Fault}
 use Rattle.cert_desk_issuing.specs.declared.fault.Fault.TheVariants as faults
@@ -13,13 +13,23 @@ use Rattle.cert_desk_issuing.specs.declared.issue_error.IssueError.TheVariants a
 use Rattle.cert_desk_issuing.specs.declared.stop.Stop.{Stop}
 use Rattle.cert_desk_issuing.specs.declared.stop.Stop.TheVariants as stops
 use Rattle.cert_desk_issuing.specs.Acceptance.{AcceptedOrders}
-use Rattle.cert_desk_issuing.specs.Chains.{IssuedChain}
+use Rattle.cert_desk_issuing.specs.Chains.{AreSigned, IssuedChain}
 use Rattle.cert_desk_issuing.specs.Refusals.{Faults, RefusesAt, StopsAt, Refuses}
 use Rattle.cert_desk_issuing.specs.Roles.{place_above}
 
 module _ {S : Type 0} (key : S → PublicKey) (a : Algorithm) (signs : PublicKey → List ℕ → Bits → Type 0) (orders : List Order) (signers : List S) where
   same_keys : map key signers ≡ map (λ (k : PublicKey). k) (map key signers)
   same_keys = sym (map-id (map key signers))
+
+  signed_by_keys : (cs : List PlainCertificate) → AreSigned (λ s. a) (λ s. signs (key s)) signers cs → AreSigned (λ (k : PublicKey). a) signs (map key signers) cs
+  signed_by_keys cs h place low = (let s = h place low in record {
+    signer = key s.signer;
+    certificate = s.certificate;
+    signer_is = slice_get-map key signers (place_above place) ∙ ap (option_map key) s.signer_is;
+    certificate_is = s.certificate_is;
+    algorithm_is = s.algorithm_is;
+    signed = s.signed;
+  })
 
   pub issued_by_keys : (stream : List ℕ) → IssuedChain key (λ s. a) (λ s. signs (key s)) orders signers stream
       → IssuedChain (λ (k : PublicKey). k) (λ k. a) signs orders (map key signers) stream
@@ -28,14 +38,7 @@ module _ {S : Type 0} (key : S → PublicKey) (a : Algorithm) (signs : PublicKey
     certificates = h.certificates;
     accepted = subst (λ (ks : List PublicKey). AcceptedOrders orders ks h.asked) same_keys h.accepted;
     holds = h.holds;
-    signed = λ place low. (let s = h.signed place low in record {
-      signer = key s.signer;
-      certificate = s.certificate;
-      signer_is = slice_get-map key signers (place_above place) ∙ ap (option_map key) s.signer_is;
-      certificate_is = s.certificate_is;
-      algorithm_is = s.algorithm_is;
-      signed = s.signed;
-    });
+    signed = signed_by_keys h.certificates h.signed;
   }
 
   stopped : (place : ℕ) (stop : Stop) → StopsAt key (λ s. a) (λ s. signs (key s)) (λ s octets. ⊥) orders signers place stop
@@ -45,6 +48,9 @@ module _ {S : Type 0} (key : S → PublicKey) (a : Algorithm) (signs : PublicKey
       record {
         asked = h.asked;
         accepted = subst (λ (ks : List PublicKey). AcceptedOrders orders ks h.asked) same_keys h.accepted;
+        before = h.before;
+        here = h.here;
+        made = record { held = h.made.held; signed = signed_by_keys h.before h.made.signed; each = h.made.each };
         stopped = record {
           order = s.order;
           above = s.above;

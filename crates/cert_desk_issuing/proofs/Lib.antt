@@ -14,6 +14,7 @@ pub mod OneName
 pub mod OneReading
 pub mod OnlyMemory
 pub mod Places
+pub mod ReadNames
 pub mod SignedLaws
 pub mod SignedParts
 pub mod Told

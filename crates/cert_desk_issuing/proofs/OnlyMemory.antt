@@ -10,6 +10,7 @@ use Rattle.cert_desk_issuing.specs.declared.fault.Fault.{Fault}
 use Rattle.cert_desk_issuing.specs.declared.fault.Fault.TheVariants as faults
 use Rattle.cert_desk_issuing.specs.declared.issue_error.IssueError.{IssueError}
 use Rattle.cert_desk_issuing.specs.declared.issue_error.IssueError.TheVariants as errors
+use Rattle.cert_desk_issuing.specs.declared.role.Role.{Role}
 use Rattle.cert_desk_issuing.specs.declared.stop.Stop.{Stop}
 use Rattle.cert_desk_issuing.specs.declared.stop.Stop.TheVariants as stops
 use Rattle.cert_desk_issuing.specs.Acceptance.{AcceptedOrders, IsAcceptedAt}
@@ -29,15 +30,12 @@ accepted_there orders keys ps place p a is =
     subst (λ (q : PlainOrder). IsAcceptedAt orders keys place q) same at.2
 
 -- what may be signed, and is short enough, isn't stopped
-not_stopped : (may_refuse : List ℕ → Type 0) (signs : List ℕ → Bits → Type 0) (a : Algorithm) (dns : List (List ℕ)) (t : Tbs) → (may_refuse (part_octets t) → ⊥) → IsShort signs a dns t
-    → (stop : Stop) → Stops may_refuse signs a dns t stop → stop ≡ stops.OutOfMemory
-not_stopped may_refuse signs a dns t signable short stops.Refused h = absurd (signable h)
-not_stopped may_refuse signs a dns t signable short stops.TooLong h = elim h as (λ k. stops.TooLong ≡ stops.OutOfMemory) [
-  | inl (inl names) ↦ absurd (names short.names)
-  | inl (inr part) ↦ absurd (part short.part)
-  | inr whole ↦ absurd (whole.2 (short.whole whole.0 whole.1))
-]
-not_stopped may_refuse signs a dns t signable short stops.OutOfMemory h = refl
+not_stopped : (may_refuse : List ℕ → Type 0) (signs : List ℕ → Bits → Type 0) (a : Algorithm) (role : Role) (dns : List (List ℕ)) (t : Tbs) → (may_refuse (part_octets t) → ⊥) → IsShort signs a role dns t
+    → (stop : Stop) → Stops may_refuse signs a role dns t stop → stop ≡ stops.OutOfMemory
+not_stopped may_refuse signs a role dns t signable short stops.Refused h = absurd (signable h)
+not_stopped may_refuse signs a role dns t signable short stops.TooLong (inl part) = absurd (part (short.names, short.part))
+not_stopped may_refuse signs a role dns t signable short stops.TooLong (inr whole) = absurd (whole.2 (short.whole whole.0 whole.1))
+not_stopped may_refuse signs a role dns t signable short stops.OutOfMemory h = refl
 
 module _ {S : Type 0} (key : S → PublicKey) (algorithm : S → Algorithm) (signs : S → List ℕ → Bits → Type 0) (may_refuse : S → List ℕ → Type 0) (orders : List Order) (signers : List S) (h : AreIssuable key algorithm signs may_refuse orders signers) where
   -- no order is refused
@@ -64,12 +62,12 @@ module _ {S : Type 0} (key : S → PublicKey) (algorithm : S → Algorithm) (sig
       (issuer_valid role here.order here.above (algorithm here.signer) here.short.part) k.above (accepted_there orders keys r.asked (place_above place) k.above r.accepted k.above_is) in
       let signer : k.signer ≡ here.signer = same_Some k.signer here.signer (sym k.signer_is ∙ here.signer_is) in
       let P : ℕ → PlainOrder → PlainOrder → S → Type 0 =
-      λ n p b s. Stops (may_refuse s) (signs s) (algorithm s) p.dns (ordered_part (role_at n place) p b (algorithm s)) stop in
+      λ n p b s. Stops (may_refuse s) (signs s) (algorithm s) (role_at n place) p.dns (ordered_part (role_at n place) p b (algorithm s)) stop in
       let one = subst (λ n. P n k.order k.above k.signer) many k.stops in
       let two = subst (λ p. P (length h.asked) p k.above k.signer) (sym order) one in
       let three = subst (λ b. P (length h.asked) here.order b k.signer) (sym above) two in
       let four = subst (λ s. P (length h.asked) here.order here.above s) signer three in
-      not_stopped (may_refuse here.signer) (signs here.signer) (algorithm here.signer) here.order.dns (ordered_part role here.order here.above (algorithm here.signer)) here.signable here.short stop four
+      not_stopped (may_refuse here.signer) (signs here.signer) (algorithm here.signer) role here.order.dns (ordered_part role here.order here.above (algorithm here.signer)) here.signable here.short stop four
 
   pub only_memory : (e : IssueError) → Refuses key algorithm signs may_refuse orders signers e → e ≡ errors.OutOfMemory
   only_memory errors.NoOrders r = absurd (omega (arith, h.accepted.some, ap length r))

@@ -1,34 +1,35 @@
--- Signed parts, and certificates around them: what is written of them, and where they have an encoding.
-use Rattle.std.proofs.Common.{◌≡◌, ◌≢◌, ◌⊎◌, ℕ, ◌+◌, ◌<◌, ◌≤◌, List, [], ◌∷◌, ◌++◌, length, Bool, true, false, Result, Ok, Err, Some, None, refl, sym, ap, ◌∙◌, subst, arith, inl, inr, lit<, lit≤}
-use Rattle.std.specs.Prelude.{pos, nat_lt, IfErr, if◌then◌else◌}
+-- Certificates that a builder makes: the part that is ordered, that they have an encoding, and why there is none.
+use Rattle.std.proofs.Common.{◌≡◌, ◌≢◌, ◌⊎◌, ℕ, ◌≤◌, List, [], ◌∷◌, ◌++◌, length, Bool, true, false, Option, Result, Ok, Err, Some, None, refl, sym, ap, ◌∙◌, subst, arith, inl, inr}
+use Rattle.std.specs.Prelude.{IfOk, IfErr, pos, nat_lt, if◌then◌else◌}
+use Rattle.std.specs.List.{AllByRecursion}
 use Rattle.const_oid.specs.Bound.{Bound}
-use Rattle.const_oid.specs.Digits.{digits, digits_within}
-use Rattle.der_core_head.specs.declared.error.Error.{Error}
 use Rattle.der_core_head.specs.declared.error.ErrorKind.{ErrorKind}
 use Rattle.der_core_head.specs.declared.error.ErrorKind.TheVariants as kinds
-use Rattle.der_core_head.specs.declared.tag.Tag.TheVariants as tags
 use Rattle.der_core_head.specs.BitStrings.{Bits}
 use Rattle.der_core_head.specs.Dates.{Civil}
-use Rattle.der_core_head.specs.Heads.{Fits, tlv, head_octets, length_octets}
 use Rattle.der_core_head.specs.Integers.{integer_octets}
-use Rattle.der_core_head.specs.Octets.{IsOctets}
 use Rattle.der_core_head.specs.Ranges.{IsInRange}
-use Rattle.der_core_head.specs.Reading.{Gives}
-use Rattle.der_core_head.specs.Shapes.{AnyValue, IsBody, IsContent, IsValid, Shape, Spells, Value, any, body_octets, contents, nested, octets_of}
-use Rattle.der_core_head.specs.Tags.{tag_octets}
-use Rattle.cert_desk_checking.specs.Certificates.{Algorithm, PlainCertificate, Tbs, algorithm_identifier, bit_string, certificate_octets, raw_certificate, raw_tbs_fields}
-use Rattle.cert_desk_checking.specs.Extensions.{general_names}
-use Rattle.cert_desk_checking.specs.Parts.{certificate, certificate_by, tbs_certificate, time_of}
-use Rattle.cert_desk_orders.specs.Grammar.{PlainTime, PlainValidity, false_by_default, version_field}
+use Rattle.der_core_head.specs.Shapes.{IsBody, IsContent, IsValid, body_octets, contents, octets_of}
+use Rattle.der_core_head.proofs.WrittenValid.{valid_in_range}
+use Rattle.cert_desk_checking.specs.Builders.{IsWantOfMemory, is_refused}
+use Rattle.x509_cert_builders.specs.declared.error.Error.{Error as BuilderError}
+use Rattle.x509_cert_builders.specs.declared.error.Error.TheVariants as builders
+use Rattle.x509_cert_builders.specs.declared.sign_error.SignError.TheVariants as signers
+use Rattle.x509_cert_builders.specs.Refusals.{HasNoEncoding, IsUnwritten}
+use Rattle.x509_cert_builders.specs.SignedParts.{bare_part, part_shape, signed_part, written_part}
+use Rattle.x509_cert_builders.specs.States.{CertificateState, part_for}
+use Rattle.cert_desk_checking.specs.Certificates.{Algorithm, PlainCertificate, PlainExtension, PlainName, PublicKey, Tbs, algorithm_identifier, bit_string, certificate_octets, outer_algorithm, raw_certificate, signature_bits, tbs}
+use Rattle.cert_desk_checking.specs.Parts.{certificate, tbs_certificate, time_of}
+use Rattle.cert_desk_orders.specs.Grammar.{PlainTime, PlainValidity}
 use Rattle.cert_desk_orders.specs.Respelling.{respelled, validity_by}
 use Rattle.cert_desk_issuing.specs.declared.role.Role.{Role}
+use Rattle.cert_desk_issuing.specs.declared.role.Role.TheVariants as roles
 use Rattle.cert_desk_issuing.specs.declared.stop.Stop.{Stop}
 use Rattle.cert_desk_issuing.specs.declared.stop.Stop.TheVariants as stops
-use Rattle.cert_desk_issuing.specs.Assembling.{assembled}
-use Rattle.cert_desk_issuing.specs.Making.{IsPartInRange}
-use Rattle.cert_desk_issuing.specs.Ordered.{dns_names, ordered_part, part_octets}
+use Rattle.cert_desk_issuing.specs.Making.{IsMadeOf, IsProfile, fields_below}
+use Rattle.cert_desk_issuing.specs.Ordered.{CanName, extensions_for, names_for, ordered_part, part_octets}
 use Rattle.cert_desk_issuing.specs.PlainOrders.{IsReady, PlainOrder, begins, ends}
-use Rattle.cert_desk_issuing.specs.Refusals.{IsStopOf, Stops, StopsEncoding, StopsPart}
+use Rattle.cert_desk_issuing.specs.Refusals.{HasPart, Stops, stop_of, stop_of_kind}
 
 -- a fault where there is an answer is want of memory
 pub only_memory : {A : Type 0} (k : ErrorKind) (x : A) (r : Result A ErrorKind) → r ≡ Ok x → (k ≢ kinds.OutOfMemory → r ≡ Err k) → k ≡ kinds.OutOfMemory
@@ -50,136 +51,119 @@ dates_again v b e h =
     let same : validity_by true (time_of b, (time_of e, tt)) ≡ (time_of b, (time_of e, tt)) = cc in
     subst (λ (w : PlainValidity). validity_by true w ≡ w) (sym h) same
 
--- a signed part as it is written
-abbrev pub respelled_part : Tbs → Tbs
-respelled_part t = (t.0, (t.1.0, (t.1.1.0, (t.1.1.1.0, (validity_by true t.1.1.1.1.0, t.1.1.1.1.1)))))
+-- What a builder of these fields writes with the extensions of a role is the part that is ordered.
+listed_part : (role : Role) (p above : PlainOrder) (a : Algorithm) (issuer : PlainName) → signed_part (fields_below issuer p) a (extensions_for role p above.key)
+    ≡ (pos 2, (p.serial, (a, (issuer, (p.validity, (p.subject, (p.key, (None, (None, (Some (extensions_for role p above.key), tt))))))))))
+listed_part roles.Root p above a issuer = refl
+listed_part roles.Subordinate p above a issuer = refl
+listed_part roles.Subscriber p above a issuer = refl
 
-pub part_again : (role : Role) (p above : PlainOrder) (a : Algorithm) → IsReady role p → respelled_part (ordered_part role p above a) ≡ ordered_part role p above a
-part_again role p above a r =
+pub ordered_written : (role : Role) (p above : PlainOrder) (a : Algorithm) (issuer : PlainName) (es : List PlainExtension) → IsReady role p → issuer ≡ above.subject → es ≡ extensions_for role p above.key
+    → written_part (signed_part (fields_below issuer p) a es) ≡ ordered_part role p above a
+ordered_written role p above a issuer es r e f =
     let part = ordered_part role p above a in
-    ap (λ (v : PlainValidity). (part.0, (part.1.0, (part.1.1.0, (part.1.1.1.0, (v, part.1.1.1.1.1)))))) (dates_again p.validity (begins p) (ends p) r.spelled)
+    ap (λ (xs : List PlainExtension). written_part (signed_part (fields_below issuer p) a xs)) f
+    ∙ ap (λ (n : PlainName). written_part (signed_part (fields_below n p) a (extensions_for role p above.key))) e
+    ∙ ap written_part (listed_part role p above a above.subject)
+    ∙ ap (λ (v : PlainValidity). (part.0, (part.1.0, (part.1.1.0, (part.1.1.1.0, (v, part.1.1.1.1.1)))))) (dates_again p.validity (begins p) (ends p) r.spelled)
 
-pub written_again : (role : Role) (p above : PlainOrder) (a : Algorithm) (t : Tbs) → IsReady role p → t ≡ ordered_part role p above a → respelled_part t ≡ ordered_part role p above a
-written_again role p above a t r e = ap respelled_part e ∙ part_again role p above a r
-
--- a certificate of such a part, as it is written
-abbrev whole_of : Tbs → Algorithm → Bits → PlainCertificate
-whole_of t a bits = (t, (a, (bits, tt)))
-
-pub certificate_again : (role : Role) (p above : PlainOrder) (a b : Algorithm) (t : Tbs) (bits : Bits) → IsReady role p → t ≡ ordered_part role p above a → a ≡ b
-    → certificate_by true (t, (a, (bits, tt))) ≡ (ordered_part role p above b, (b, (bits, tt)))
-certificate_again role p above a b t bits r e f =
-    ap (λ (u : Tbs). whole_of u a bits) (written_again role p above a t r e)
-    ∙ ap (λ (d : Algorithm). whole_of (ordered_part role p above d) d bits) f
+-- what the builder of a role's profile signs is the part that is ordered
+pub profile_part : {P : Type 0} (subject_name : P → Result PlainName BuilderError) (issuer_name : P → PlainName → PlainName) (extensions : P → PublicKey → PublicKey → Tbs → List PlainExtension) (refuses : P → BuilderError → Type 0)
+    (role : Role) (p above : PlainOrder) (profile : P) (key : PublicKey) (a : Algorithm) (b : CertificateState P) → IsReady role p → IsProfile subject_name issuer_name extensions refuses role p above profile → key ≡ above.key
+    → b ≡ record { profile = profile; fields = fields_below (issuer_name profile p.subject) p; added = names_for role p; finalized = None } → part_for extensions b key a ≡ ordered_part role p above a
+profile_part subject_name issuer_name extensions refuses role p above profile key a b r h k e =
+    let f = fields_below (issuer_name profile p.subject) p in
+    ap (λ (s : CertificateState _). part_for extensions s key a) e
+    ∙ ap (λ (x : PublicKey). written_part (signed_part f a (names_for role p ++ extensions profile p.key x (bare_part f a)))) k
+    ∙ ordered_written role p above a (issuer_name profile p.subject) (names_for role p ++ extensions profile p.key above.key (bare_part f a)) r h.issuer (h.adds (bare_part f a))
 
 -- A serial number of at most 21 octets is what the profile reads.
-pub same_octets : (t : Tbs) → octets_of (tbs_certificate Bound (Some 21)) t ≡ part_octets t
-unfolding octets_of contents body_octets
-same_octets t = refl
-
-pub valid_raw : (t : Tbs) → IsValid (tbs_certificate Bound (Some 21)) t → IsValid (tbs_certificate Bound None) t
-unfolding IsValid IsContent IsBody octets_of contents body_octets
-valid_raw t v = ((v.0.0, ((tt, v.0.1.0.1, v.0.1.0.2), v.0.1.1)), v.1, v.2)
-
-pub valid_short : (t : Tbs) → length (integer_octets t.1.0) ≤ 20 → IsValid (tbs_certificate Bound None) t → IsValid (tbs_certificate Bound (Some 21)) t
+valid_short : (t : Tbs) → length (integer_octets t.1.0) ≤ 20 → IsValid (tbs_certificate Bound None) t → IsValid (tbs_certificate Bound (Some 21)) t
 unfolding IsValid IsContent IsBody octets_of contents body_octets
 valid_short t h v = ((v.0.0, ((omega (arith, h), v.0.1.0.1, v.0.1.0.2), v.0.1.1)), v.1, v.2)
 
--- An ordered part has an encoding but for its length.
-third_in_range : IsInRange version_field (pos 2)
-unfolding IsValid IsContent IsBody octets_of contents body_octets tlv head_octets length_octets tag_octets integer_octets digits digits_within
-third_in_range = ((((2, lit< tt, refl), omega arith), omega arith), λ _. (((2, lit< tt, refl), omega arith, lit< tt), omega arith, lit< tt))
+whole_raw : (c : PlainCertificate) → IsValid (certificate Bound (Some 21)) c → IsValid (raw_certificate Bound) c
+unfolding IsValid IsContent IsBody octets_of contents body_octets
+whole_raw c v = ((((v.0.0.0.0, ((tt, v.0.0.0.1.0.1, v.0.0.0.1.0.2), v.0.0.0.1.1)), v.0.0.1, v.0.0.2), v.0.1), v.1, v.2)
 
-pub flag_in_range : (critical : Bool) → IsInRange false_by_default critical
-unfolding IsValid IsContent contents tlv head_octets length_octets tag_octets
-flag_in_range true = ((tt, omega arith), λ _. (tt, omega arith, lit< tt))
-flag_in_range false = ((tt, omega arith), λ _. (tt, omega arith, lit< tt))
+whole_short : (c : PlainCertificate) → length (integer_octets (tbs c).1.0) ≤ 20 → IsValid (raw_certificate Bound) c → IsValid (certificate Bound (Some 21)) c
+unfolding IsValid IsContent IsBody octets_of contents body_octets
+whole_short c h v = ((((v.0.0.0.0, ((omega (arith, h), v.0.0.0.1.0.1, v.0.0.0.1.0.2), v.0.0.0.1.1)), v.0.0.1, v.0.0.2), v.0.1), v.1, v.2)
 
-pub ordered_in_range : (role : Role) (p above : PlainOrder) (a : Algorithm) → IsReady role p → IsPartInRange (ordered_part role p above a) → IsInRange (tbs_certificate Bound (Some 21)) (ordered_part role p above a)
-ordered_in_range role p above a r h =
-    let short : length (integer_octets p.serial) ≤ 21 = omega (arith, r.serial) in (
-      (third_in_range, ((short, omega arith), (h.algorithm, (h.issuer, (h.dates, (h.subject, (h.key, (tt, (tt, (h.extensions, tt)))))))))),
-      omega arith,
-    )
-
--- What is written of a part that is the ordered one, and whether it has an encoding.
-module _ (role : Role) (p above : PlainOrder) (a : Algorithm) (t : Tbs) (r : IsReady role p) (e : t ≡ ordered_part role p above a) where
-  pub part_written : (w : List ℕ) → w ≡ octets_of (tbs_certificate Bound (Some 21)) (respelled_part t) → w ≡ part_octets (ordered_part role p above a)
-  part_written w f = f ∙ ap (octets_of (tbs_certificate Bound (Some 21))) (written_again role p above a t r e) ∙ same_octets (ordered_part role p above a)
-
-  pub part_valid : IsPartInRange t → (IsInRange (tbs_certificate Bound (Some 21)) (respelled_part t) → IsValid (tbs_certificate Bound (Some 21)) (respelled_part t))
-      → IsValid (tbs_certificate Bound None) (ordered_part role p above a)
-  part_valid h f =
-      let same = written_again role p above a t r e in
-      let there = ordered_in_range role p above a r (subst IsPartInRange e h) in
-      valid_raw (ordered_part role p above a)
-      (subst (λ (u : Tbs). IsValid (tbs_certificate Bound (Some 21)) u) same (f (subst (λ (u : Tbs). IsInRange (tbs_certificate Bound (Some 21)) u) (sym same) there)))
-
-  pub part_spelled_out : {A : Type 0} (k : ErrorKind) (x : A) (g : Result A ErrorKind) → g ≡ Ok x → (IsValid (tbs_certificate Bound (Some 21)) (respelled_part t) → k ≢ kinds.OutOfMemory → g ≡ Err k)
-      → IsValid (tbs_certificate Bound None) (ordered_part role p above a) → k ≡ kinds.OutOfMemory
-  part_spelled_out k x g is f valid =
-      let here = subst (λ (u : Tbs). IsValid (tbs_certificate Bound (Some 21)) u) (sym (written_again role p above a t r e)) (valid_short (ordered_part role p above a) r.serial valid) in
-      only_memory k x g is (f here)
-
--- Around a part that is taken as any value.
-pub whole_octets : (x : AnyValue) (t : Tbs) (a : Algorithm) (s : Bits) → octets_of any x ≡ part_octets t → octets_of assembled (x, (a, (s, tt))) ≡ certificate_octets Bound (t, (a, (s, tt)))
+same_octets : (c : PlainCertificate) → octets_of (certificate Bound (Some 21)) c ≡ certificate_octets Bound c
 unfolding octets_of contents body_octets
-whole_octets x t a s e = ap (λ (w : List ℕ). tlv tags.Sequence (w ++ (octets_of (algorithm_identifier Bound) a ++ (octets_of bit_string s ++ [])))) e
+same_octets c = refl
 
-pub whole_valid : (x : AnyValue) (t : Tbs) (a : Algorithm) (s : Bits) → octets_of any x ≡ part_octets t → IsValid (tbs_certificate Bound None) t → IsValid assembled (x, (a, (s, tt)))
-    → IsValid (raw_certificate Bound) (t, (a, (s, tt)))
-unfolding IsValid IsContent IsBody octets_of contents body_octets
-whole_valid x t a s e v w = ((v, w.0.1), w.1, subst Fits (whole_octets x t a s e) w.2)
+-- what is around a part that has an encoding is in range
+whole_in_range : (c : PlainCertificate) → length (integer_octets (tbs c).1.0) ≤ 20 → IsValid part_shape (tbs c) → IsInRange (algorithm_identifier Bound) (outer_algorithm c) → IsInRange bit_string (signature_bits c)
+    → IsInRange (certificate Bound (Some 21)) c
+whole_in_range c h v algorithm bits = ((valid_in_range (tbs_certificate Bound (Some 21)) (tbs c) (valid_short (tbs c) h v), (algorithm, (bits, tt))), omega arith)
 
-pub assembled_valid : (x : AnyValue) (t : Tbs) (a : Algorithm) (s : Bits) → octets_of any x ≡ part_octets t → IsValid any x → IsValid (raw_certificate Bound) (t, (a, (s, tt))) → IsValid assembled (x, (a, (s, tt)))
-unfolding IsValid IsContent IsBody octets_of contents body_octets
-assembled_valid x t a s e v w = ((v, w.0.1), w.1, subst Fits (sym (whole_octets x t a s e)) w.2)
+-- What is made by a builder of this part, and written.
+module _ (a : Algorithm) (signs : List ℕ → Bits → Type 0) (c : PlainCertificate) (t : Tbs) (part : tbs c ≡ t) (short : length (integer_octets t.1.0) ≤ 20) where
+  short_there : length (integer_octets (tbs c).1.0) ≤ 20
+  short_there = subst (λ (u : Tbs). length (integer_octets u.1.0) ≤ 20) (sym part) short
 
--- the part itself as any value
-octets_rest : (u r : List ℕ) → IsOctets (u ++ r) → IsOctets r
-octets_rest [] r h = h
-octets_rest (o ∷ u) r h = octets_rest u r h.1
+  pub made_of : (w : List ℕ) → outer_algorithm c ≡ a → signs (part_octets (tbs c)) (signature_bits c) → IsValid part_shape t → IsInRange (algorithm_identifier Bound) (outer_algorithm c) → IsInRange bit_string (signature_bits c)
+      → w ≡ octets_of (certificate Bound (Some 21)) c → (IsInRange (certificate Bound (Some 21)) c → IsValid (certificate Bound (Some 21)) c) → IsMadeOf t a signs c w
+  made_of w by given v algorithm bits written valid =
+      let here = subst (λ (u : Tbs). IsValid part_shape u) (sym part) v in
+      record {
+        part = part;
+        algorithm = by;
+        signed = subst (λ (u : Tbs). signs (part_octets u) (signature_bits c)) part given;
+        octets_are = written ∙ same_octets c;
+        valid = whole_raw c (valid (whole_in_range c short_there here algorithm bits));
+      }
 
-abbrev pub part_any : Tbs → AnyValue
-part_any t = record { tag = tags.Sequence; contents = body_octets (raw_tbs_fields Bound) t }
+  -- it isn't written for want of memory, or since a length passes
+  pub unwritten : (may_refuse : List ℕ → Type 0) (role : Role) (dns : List (List ℕ)) (w : List ℕ) (k : ErrorKind) → outer_algorithm c ≡ a → signs (part_octets (tbs c)) (signature_bits c)
+      → (IsValid (certificate Bound (Some 21)) c → k ≢ kinds.OutOfMemory → Ok w ≡ Err k) → Stops may_refuse signs a role dns t (stop_of_kind k)
+  unwritten may_refuse role dns w kinds.OutOfMemory by given h = tt
+  unwritten may_refuse role dns w _ by given h =
+      let P : Tbs → Algorithm → Type 0 = λ u b. (bits : Bits) × signs (part_octets u) bits × (IsValid (certificate Bound None) (u, (b, (bits, tt))) → ⊥) in
+      let here : P (tbs c) (outer_algorithm c) = (signature_bits c, given, λ v. (let e = h (whole_short c short_there v) (λ q. absurd cc) in absurd cc)) in
+      inr (subst (λ (b : Algorithm). P t b) by (subst (λ (u : Tbs). P u (outer_algorithm c)) part here))
 
-pub part_spelled : (t : Tbs) (w : List ℕ) → w ≡ part_octets t → IsOctets w → IsValid (tbs_certificate Bound None) t → Spells any (part_any t) w
-unfolding IsValid IsContent octets_of contents tlv
-part_spelled t w e o v = record {
-  valid = (octets_rest (head_octets tags.Sequence (length (body_octets (raw_tbs_fields Bound) t))) (body_octets (raw_tbs_fields Bound) t) (subst IsOctets e o), v.1, v.2);
-  octets = e;
-}
+-- want of memory is told as such
+pub memory_stops : (e : BuilderError) → IsWantOfMemory e → stop_of e ≡ stops.OutOfMemory
+memory_stops (builders.Asn1 e) h = ap stop_of_kind h
+memory_stops (builders.Signature s) h = ap (λ x. stop_of (builders.Signature x)) h
+memory_stops _ h = absurd h
 
-pub given_err : {X P : Type 0} (view : X → P) (x : P) (r : Result X Error) → Gives view r (Ok x) → IfErr r (λ e. e.kind ≡ kinds.OutOfMemory)
-given_err view x (Ok y) g = tt
-given_err view x (Err e) g = only_memory e.kind x (Ok x) refl g
+-- Why a builder gives no certificate.
+module _ (may_refuse : List ℕ → Type 0) (signs : List ℕ → Bits → Type 0) (a : Algorithm) (role : Role) (dns : List (List ℕ)) (t : Tbs) (short : length (integer_octets t.1.0) ≤ 20) where
+  unwritten_part : (k : ErrorKind) → HasNoEncoding (tbs_certificate Bound (Some 21)) t k → Stops may_refuse signs a role dns t (stop_of_kind k)
+  unwritten_part kinds.OutOfMemory h = tt
+  unwritten_part _ h = inl (λ (part : HasPart role dns t). h.invalid (valid_short t short part.1))
 
--- how a fault in writing is told, where only what has no encoding has another one
-pub stops_encoding : (s : Shape) (v : Value s) (k : ErrorKind) (stop : Stop) → IsStopOf k stop → (IsValid s v → k ≡ kinds.OutOfMemory) → StopsEncoding s v stop
-stops_encoding s v k stops.Refused (inl e) valid = absurd cc
-stops_encoding s v k stops.Refused (inr e) valid = let other = e.0 in absurd cc
-stops_encoding s v k stops.TooLong (inl e) valid = absurd cc
-stops_encoding s v k stops.TooLong (inr e) valid = λ is. e.1 (valid is)
-stops_encoding s v k stops.OutOfMemory h valid = tt
+  unwritten_by : (e : BuilderError) → IsUnwritten (tbs_certificate Bound (Some 21)) t e → Stops may_refuse signs a role dns t (stop_of e)
+  unwritten_by (builders.Asn1 e) h = unwritten_part e.kind h
+  unwritten_by _ h = absurd h
 
--- where the names, the part or the certificate have none
-pub names_stop : (dns : List (List ℕ)) (t : Tbs) (s : Stop) → StopsEncoding (general_names Bound) (dns_names dns) s → StopsPart dns t s
-names_stop dns t stops.Refused h = absurd h
-names_stop dns t stops.TooLong h = inl h
-names_stop dns t stops.OutOfMemory h = tt
+  pub not_built : (e : BuilderError) (R : Type 0) → (R → ⊥) → IsWantOfMemory e ⊎ ((R ⊎ IsUnwritten (tbs_certificate Bound (Some 21)) t e) ⊎ ((e ≡ is_refused) × may_refuse (part_octets t)))
+      → Stops may_refuse signs a role dns t (stop_of e)
+  not_built e R never (inl memory) = subst (λ (s : Stop). Stops may_refuse signs a role dns t s) (sym (memory_stops e memory)) tt
+  not_built e R never (inr (inl (inl refuses))) = absurd (never refuses)
+  not_built e R never (inr (inl (inr none))) = unwritten_by e none
+  not_built e R never (inr (inr refused)) = subst (λ (x : BuilderError). Stops may_refuse signs a role dns t (stop_of x)) (sym refused.0) refused.1
 
-pub part_stops : (dns : List (List ℕ)) (t : Tbs) (s : Stop) → StopsEncoding (tbs_certificate Bound None) t s → StopsPart dns t s
-part_stops dns t stops.Refused h = absurd h
-part_stops dns t stops.TooLong h = inr h
-part_stops dns t stops.OutOfMemory h = tt
+-- names that aren't added
+pub unnamed : (k : ErrorKind) (V : Type 0) → (V → k ≡ kinds.OutOfMemory) → (stop_of_kind k ≡ stops.OutOfMemory) ⊎ ((stop_of_kind k ≡ stops.TooLong) × (V → ⊥))
+unnamed kinds.OutOfMemory V h = inl refl
+unnamed _ V h = inr (refl, λ v. (let e = h v in absurd cc))
 
-pub stops_part : (may_refuse : List ℕ → Type 0) (signs : List ℕ → Bits → Type 0) (a : Algorithm) (dns : List (List ℕ)) (t : Tbs) (s : Stop) → StopsPart dns t s → Stops may_refuse signs a dns t s
-stops_part may_refuse signs a dns t stops.Refused h = absurd h
-stops_part may_refuse signs a dns t stops.TooLong h = inl h
-stops_part may_refuse signs a dns t stops.OutOfMemory h = tt
+-- Why nothing is made: memory, or names that have no encoding.
+module _ (may_refuse : List ℕ → Type 0) (signs : List ℕ → Bits → Type 0) (a : Algorithm) (role : Role) (dns : List (List ℕ)) (t : Tbs) where
+  pub no_memory : (s : Stop) → s ≡ stops.OutOfMemory → Stops may_refuse signs a role dns t s
+  no_memory s e = subst (λ (x : Stop). Stops may_refuse signs a role dns t x) (sym e) tt
 
-pub stops_whole : (may_refuse : List ℕ → Type 0) (signs : List ℕ → Bits → Type 0) (a : Algorithm) (dns : List (List ℕ)) (t : Tbs) (bits : Bits) (s : Stop) → signs (part_octets t) bits
-    → StopsEncoding (raw_certificate Bound) (t, (a, (bits, tt))) s → Stops may_refuse signs a dns t s
-stops_whole may_refuse signs a dns t bits stops.Refused given h = absurd h
-stops_whole may_refuse signs a dns t bits stops.TooLong given h = inr (bits, given, h)
-stops_whole may_refuse signs a dns t bits stops.OutOfMemory given h = tt
+  pub not_named : (s : Stop) → (s ≡ stops.OutOfMemory) ⊎ ((s ≡ stops.TooLong) × (CanName role dns → ⊥)) → Stops may_refuse signs a role dns t s
+  not_named s (inl e) = no_memory s e
+  not_named s (inr h) = subst (λ (x : Stop). Stops may_refuse signs a role dns t x) (sym h.0) (inl (λ (part : HasPart role dns t). h.1 part.0))
+
+-- a profile that refuses nothing, and has this subject, gives no builder for want of memory alone
+pub only_unmade : (e : BuilderError) (R : Type 0) (r : Result PlainName BuilderError) (n : PlainName) → (R → ⊥) → r ≡ Ok n → IsWantOfMemory e ⊎ R ⊎ (r ≡ Err e) → stop_of e ≡ stops.OutOfMemory
+only_unmade e R r n never named (inl memory) = memory_stops e memory
+only_unmade e R r n never named (inr (inl refuses)) = absurd (never refuses)
+only_unmade e R r n never named (inr (inr none)) = let clash = sym named ∙ none in absurd (cc clash)

@@ -1,12 +1,13 @@
 -- Chains that were issued.
 use Rattle.std.specs.Prelude.{◌≡◌, ℕ, ◌-◌, ◌^◌, ◌<◌, List, length, map, Some, slice_get}
+use Rattle.std.specs.List.{AllByRecursion}
 use Rattle.const_oid.specs.Bound.{Bound}
 use Rattle.der_core_head.specs.Limits.{length_max}
 use Rattle.der_core_head.specs.BitStrings.{Bits}
 use Rattle.cert_desk_checking.specs.Certificates.{PlainCertificate, outer_algorithm, signature_bits}
-use Rattle.cert_desk_checking.specs.Certificates.{tbs}
+use Rattle.cert_desk_checking.specs.Certificates.{certificate_octets, tbs}
 use Rattle.cert_desk_checking.specs.Certificates.{Algorithm, PublicKey}
-use Rattle.cert_desk_checking.specs.Chains.{Chain}
+use Rattle.cert_desk_checking.specs.Chains.{Chain, Stands}
 use Rattle.cert_desk_orders.specs.declared.order.Order.{Order}
 use Rattle.cert_desk_issuing.specs.Acceptance.{AcceptedOrders}
 use Rattle.cert_desk_issuing.specs.Ordered.{ordered_part, part_octets}
@@ -61,6 +62,23 @@ abbrev pub AreSigned : {S : Type 0} → (S → Algorithm) → (S → List ℕ �
     → List PlainCertificate → Type 0
 AreSigned algorithm signs signers cs = (place : ℕ) → place < length cs
     → IsSignedAt algorithm signs signers cs place
+
+-- So many certificates, from the first on, are those that are ordered, each signed by its signer;
+-- and each has an encoding.
+pub record AreMade {S : Type 0} (algorithm : S → Algorithm) (signs : S → List ℕ → Bits → Type 0)
+    (ps : List PlainOrder) (signers : List S) (cs : List PlainCertificate) : Type 0 where
+  pub held : HoldFront ps cs
+  pub signed : AreSigned algorithm signs signers cs
+  pub each : AllByRecursion (Stands Bound length_max) cs
+
+-- a certificate is the one that is ordered at a place, and signed; and these are its octets
+pub record IsMadeAt {S : Type 0} (algorithm : S → Algorithm) (signs : S → List ℕ → Bits → Type 0)
+    (ps : List PlainOrder) (signers : List S) (place : ℕ) (c : PlainCertificate)
+    (octets : List ℕ) : Type 0 where
+  pub ordered : IsOrderedAt ps place c
+  pub signed : IsSignedBy algorithm signs signers place c
+  pub stands : Stands Bound length_max c
+  pub octets_are : octets ≡ certificate_octets Bound c
 
 -- One certificate for each of these orders, in turn, which holds it; and the stream joins them.
 pub record HoldsOrders (ps : List PlainOrder) (cs : List PlainCertificate) (stream : List ℕ) : Type

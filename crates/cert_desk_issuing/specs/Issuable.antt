@@ -4,22 +4,22 @@ use Rattle.const_oid.specs.Bound.{Bound}
 use Rattle.der_core_head.specs.BitStrings.{Bits}
 use Rattle.der_core_head.specs.Shapes.{IsValid}
 use Rattle.cert_desk_checking.specs.Certificates.{Algorithm, PublicKey, Tbs}
-use Rattle.cert_desk_checking.specs.Extensions.{general_names}
 use Rattle.cert_desk_checking.specs.Parts.{certificate, tbs_certificate}
 use Rattle.cert_desk_orders.specs.declared.order.Order.{Order}
 use Rattle.cert_desk_issuing.specs.declared.issue_error.IssueError.{IssueError}
 use Rattle.cert_desk_issuing.specs.declared.issue_error.IssueError.TheVariants as errors
+use Rattle.cert_desk_issuing.specs.declared.role.Role.{Role}
 use Rattle.cert_desk_issuing.specs.Acceptance.{AcceptedOrders}
-use Rattle.cert_desk_issuing.specs.Ordered.{dns_names, ordered_part, part_octets}
+use Rattle.cert_desk_issuing.specs.Ordered.{CanName, ordered_part, part_octets}
 use Rattle.cert_desk_issuing.specs.PlainOrders.{PlainOrder}
 use Rattle.cert_desk_issuing.specs.Refusals.{Refuses}
 use Rattle.cert_desk_issuing.specs.Roles.{place_above, role_at}
 
--- No length passes 2^32 - 1: the names, the signed part and the certificate, whatever bits its
--- signer may give, have encodings.
-pub record IsShort (signs : List ℕ → Bits → Type 0) (a : Algorithm) (dns : List (List ℕ))
-    (t : Tbs) : Type 0 where
-  pub names : IsValid (general_names Bound) (dns_names dns)
+-- No length passes 2^32 - 1: a subscriber's names, the signed part and the certificate, whatever
+-- bits its signer may give, have encodings.
+pub record IsShort (signs : List ℕ → Bits → Type 0) (a : Algorithm) (role : Role)
+    (dns : List (List ℕ)) (t : Tbs) : Type 0 where
+  pub names : CanName role dns
   pub part : IsValid (tbs_certificate Bound None) t
   pub whole : (bits : Bits) → signs (part_octets t) bits
       → IsValid (certificate Bound None) (t, (a, (bits, tt)))
@@ -36,7 +36,7 @@ pub record IsIssuableAt {S : Type 0} (algorithm : S → Algorithm) (signs : S �
   pub signer_is : slice_get signers (place_above place) ≡ Some signer
   pub signable : may_refuse signer
       (part_octets (ordered_part (role_at (length asked) place) order above (algorithm signer))) → ⊥
-  pub short : IsShort (signs signer) (algorithm signer) order.dns
+  pub short : IsShort (signs signer) (algorithm signer) (role_at (length asked) place) order.dns
       (ordered_part (role_at (length asked) place) order above (algorithm signer))
 
 -- All orders are accepted, no signer may refuse what is ordered at its place, and no length passes

@@ -141,7 +141,7 @@ SignedIsSliced =
     → HoldsOrders ps cs stream → slice_get cs place ≡ Some c → signed_part Bound cs stream place c
     ≡ part_octets (tbs c)
 
--- Its extensions say what was ordered.
+-- The extensions of a certificate say what was ordered.
 abbrev pub SaysAsOrdered : Type 0
 SaysAsOrdered =
     (root : PlainOrder) (below : List PlainOrder) (cs : List PlainCertificate) (stream : List ℕ)

@@ -1,6 +1,5 @@
 pub mod Acceptance
 pub mod Allowances
-pub mod Assembling
 pub mod Auditing
 pub mod Chains
 pub mod DigestSigners

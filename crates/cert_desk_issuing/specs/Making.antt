@@ -1,40 +1,81 @@
 -- What contracts see of certificates that are made, and of chains that are issued.
-use Rattle.std.specs.Prelude.{ℕ, ◌-◌, ◌^◌, List, true}
+use Rattle.std.specs.Prelude.{◌≡◌, ◌++◌, ℕ, ◌-◌, ◌^◌, List, Result, Ok, Err}
 use Rattle.const_oid.specs.Bound.{Bound}
+use Rattle.der_core_head.specs.BitStrings.{Bits}
 use Rattle.der_core_head.specs.Limits.{length_max}
 use Rattle.der_core_head.specs.Grammar.{plain_list}
-use Rattle.der_core_head.specs.Ranges.{IsInRange}
-use Rattle.der_core_head.specs.Shapes.{Shape, explicit, optional}
-use Rattle.cert_desk_checking.specs.Certificates.{PlainCertificate, Tbs, algorithm_identifier, name}
-use Rattle.cert_desk_checking.specs.Certificates.{public_key_info, tbs_inner_algorithm, tbs_issuer}
-use Rattle.cert_desk_checking.specs.Certificates.{tbs_public_key, tbs_subject, tbs_validity}
-use Rattle.cert_desk_checking.specs.Parts.{certificate_by}
+use Rattle.der_core_head.specs.Shapes.{IsValid}
+use Rattle.x509_cert_builders.specs.SignedParts.{PlainFields}
+use Rattle.x509_cert_builders.specs.States as states
+use Rattle.x509_cert_builders.specs.declared.error.Error.{Error}
+use Rattle.cert_desk_checking.specs.Certificates.{Algorithm, PlainCertificate, PlainExtension}
+use Rattle.cert_desk_checking.specs.Certificates.{PlainName, PublicKey, Tbs}
+use Rattle.cert_desk_checking.specs.Certificates.{certificate_octets, outer_algorithm}
+use Rattle.cert_desk_checking.specs.Certificates.{raw_certificate, signature_bits, tbs}
 use Rattle.cert_desk_checking.specs.Views.{certificate_plain}
-use Rattle.cert_desk_orders.specs.Grammar.{extensions, validity}
 use Rattle.cert_desk_checking.specs.Chains.{Chain}
 use Rattle.cert_desk_issuing.specs.declared.issued.Issued.TheInside.{Inside}
 use Rattle.cert_desk_issuing.specs.declared.making.Made.{Made}
+use Rattle.cert_desk_issuing.specs.declared.role.Role.{Role}
+use Rattle.cert_desk_issuing.specs.declared.stop.Stop.{Stop}
+use Rattle.cert_desk_issuing.specs.Chains.{IsMadeAt}
+use Rattle.cert_desk_issuing.specs.Ordered.{extensions_for, names_for, part_octets}
+use Rattle.cert_desk_issuing.specs.PlainOrders.{PlainOrder}
+use Rattle.cert_desk_issuing.specs.Refusals.{IsStoppedAt, Stops}
 
 -- a certificate as it is written
 abbrev pub as_written : PlainCertificate → PlainCertificate
-as_written c = certificate_by true c
+as_written c = states.as_written c
 
 abbrev pub made_plain : Made → PlainCertificate
 made_plain m = as_written (certificate_plain m.certificate)
 
--- the field of extensions in a signed part
-abbrev pub extensions_field : Shape
-extensions_field = optional (explicit 3 (extensions Bound))
+-- what an order settles of a certificate, below an issuer of this name
+abbrev pub fields_below : PlainName → PlainOrder → PlainFields
+fields_below issuer p =
+    record {
+      serial = p.serial;
+      issuer = issuer;
+      validity = p.validity;
+      subject = p.subject;
+      key = p.key;
+    }
 
--- The parts of a signed part are in their ranges, the version, the serial number and unique
--- identifiers aside.
-pub record IsPartInRange (t : Tbs) : Type 0 where
-  pub algorithm : IsInRange (algorithm_identifier Bound) (tbs_inner_algorithm t)
-  pub issuer : IsInRange (name Bound) (tbs_issuer t)
-  pub dates : IsInRange validity (tbs_validity t)
-  pub subject : IsInRange (name Bound) (tbs_subject t)
-  pub key : IsInRange (public_key_info Bound) (tbs_public_key t)
-  pub extensions : IsInRange extensions_field t.1.1.1.1.1.1.1.1.1.0
+-- A profile names whom an order names, below another one, and adds the extensions that are asked
+-- for in a role behind a subscriber's names.
+pub record IsProfile {P : Type 0} (subject_name : P → Result PlainName Error)
+    (issuer_name : P → PlainName → PlainName)
+    (extensions : P → PublicKey → PublicKey → Tbs → List PlainExtension)
+    (refuses : P → Error → Type 0) (role : Role) (p above : PlainOrder) (profile : P) : Type 0 where
+  pub subject : subject_name profile ≡ Ok p.subject
+  pub issuer : issuer_name profile p.subject ≡ above.subject
+  pub adds : (t : Tbs) → names_for role p ++ extensions profile p.key above.key t
+      ≡ extensions_for role p above.key
+  pub willing : (e : Error) → refuses profile e → ⊥
+
+-- A certificate of this signed part, by this algorithm, whose bits are in this relation with it;
+-- and its octets.
+pub record IsMadeOf (t : Tbs) (a : Algorithm) (signs : List ℕ → Bits → Type 0)
+    (c : PlainCertificate) (octets : List ℕ) : Type 0 where
+  pub part : tbs c ≡ t
+  pub algorithm : outer_algorithm c ≡ a
+  pub signed : signs (part_octets t) (signature_bits c)
+  pub octets_are : octets ≡ certificate_octets Bound c
+  pub valid : IsValid (raw_certificate Bound) c
+
+-- the certificate of a signed part is made, or this is why it isn't
+abbrev pub Makes : (List ℕ → Type 0) → (List ℕ → Bits → Type 0) → Algorithm → Role → List (List ℕ)
+    → Tbs → Result Made Stop → Type 0
+Makes may_refuse signs a role dns t (Ok m) = IsMadeOf t a signs (made_plain m) m.octets.items
+Makes may_refuse signs a role dns t (Err s) = Stops may_refuse signs a role dns t s
+
+-- so it is of the certificate at a place
+abbrev pub MakesAt : {S : Type 0} → (S → Algorithm) → (S → List ℕ → Bits → Type 0)
+    → (S → List ℕ → Type 0) → List PlainOrder → List S → ℕ → Result Made Stop → Type 0
+MakesAt algorithm signs may_refuse ps signers place (Ok m) =
+    IsMadeAt algorithm signs ps signers place (made_plain m) m.octets.items
+MakesAt algorithm signs may_refuse ps signers place (Err s) =
+    IsStoppedAt algorithm signs may_refuse ps signers place s
 
 -- the certificates of a chain, and their stream
 pub record PlainIssued : Type 0 where

@@ -2,9 +2,10 @@
 -- Requirements 7.1.2).
 use Rattle.std.specs.Prelude.{ℕ, pos, List, [], ◌∷◌, length, Option, Some, None, ◌==◌}
 use Rattle.std.proofs.Common.{inl, inr}
+use Rattle.std.specs.Bool.{⊤}
 use Rattle.const_oid.specs.Bound.{Bound}
 use Rattle.der_core_head.specs.Grammar.{plain_list, plain_option}
-use Rattle.der_core_head.specs.Shapes.{Value, octets_of}
+use Rattle.der_core_head.specs.Shapes.{IsValid, Value, octets_of}
 use Rattle.cert_desk_checking.specs.Builders.{digital_signature, root_extensions}
 use Rattle.cert_desk_checking.specs.Builders.{standard_extension, subordinate_extensions}
 use Rattle.cert_desk_checking.specs.Builders.{subscriber_extensions}
@@ -23,10 +24,22 @@ dns_name text = inr (inr (inl text))
 abbrev pub dns_names : List (List ℕ) → List (Value (general_name 0))
 dns_names texts = plain_list dns_name texts
 
+-- the DNS names of a subscriber have an encoding; those of other roles aren't asked for
+abbrev pub CanName : Role → List (List ℕ) → Type 0
+CanName roles.Root dns = ⊤
+CanName roles.Subordinate dns = ⊤
+CanName roles.Subscriber dns = IsValid (general_names Bound) (dns_names dns)
+
 -- SubjectAltName, critical where the subject has no name (4.2.1.6)
 abbrev pub names_extension : PlainName → List (List ℕ) → PlainExtension
 names_extension subject dns = standard_extension 17 (length subject == 0) (general_names Bound)
     (dns_names dns)
+
+-- what the DNS names of a subscriber add
+abbrev pub names_for : Role → PlainOrder → List PlainExtension
+names_for roles.Root p = []
+names_for roles.Subordinate p = []
+names_for roles.Subscriber p = names_extension p.subject p.dns ∷ []
 
 -- the extensions of the certificate that an order asks for in a role, below a key
 abbrev pub extensions_for : Role → PlainOrder → PublicKey → List PlainExtension
@@ -36,39 +49,25 @@ extensions_for roles.Subordinate p above =
 extensions_for roles.Subscriber p above = names_extension p.subject p.dns
     ∷ subscriber_extensions p.clients digital_signature above
 
--- a signed part of version 3, without unique identifiers, and so far without extensions
-abbrev pub bare_part : Algorithm → PlainName → PlainOrder → Tbs
-bare_part a issuer p = (
+-- The signed part that is ordered in a role, below what another order asks for: of version 3,
+-- without unique identifiers.
+abbrev pub ordered_part : Role → PlainOrder → PlainOrder → Algorithm → Tbs
+ordered_part role p above a = (
   pos 2,
-  (p.serial, (a, (issuer, (p.validity, (p.subject, (p.key, (None, (None, (None, tt))))))))),
-)
-
--- a signed part with these extensions
-abbrev pub with_extensions : Tbs → List PlainExtension → Tbs
-with_extensions t es = (
-  t.0,
   (
-    t.1.0,
+    p.serial,
     (
-      t.1.1.0,
+      a,
       (
-        t.1.1.1.0,
+        above.subject,
         (
-          t.1.1.1.1.0,
-          (
-            t.1.1.1.1.1.0,
-            (t.1.1.1.1.1.1.0, (t.1.1.1.1.1.1.1.0, (t.1.1.1.1.1.1.1.1.0, (Some es, tt)))),
-          ),
+          p.validity,
+          (p.subject, (p.key, (None, (None, (Some (extensions_for role p above.key), tt))))),
         ),
       ),
     ),
   ),
 )
-
--- what is ordered in a role, below what another order asks for
-abbrev pub ordered_part : Role → PlainOrder → PlainOrder → Algorithm → Tbs
-ordered_part role p above a =
-    with_extensions (bare_part a above.subject p) (extensions_for role p above.key)
 
 -- its octets
 abbrev pub part_octets : Tbs → List ℕ

@@ -1,11 +1,13 @@
 -- What orders ask for.
-use Rattle.std.specs.Prelude.{◌≡◌, ℕ, ℤ, ◌<◌, ◌≤◌, ◌^◌, List, length, Bool, true, Option, Some}
+use Rattle.std.specs.Prelude.{◌≡◌, ℕ, ℤ, ◌<◌, ◌≤◌, ◌^◌, List, length, Bool, true, Option, Some, Ok}
 use Rattle.std.specs.Prelude.{IfSome, nat_lt, slice_get, string_bytes}
 use Rattle.std.specs.Bool.{⊤}
 use Rattle.std.specs.List.{list_all}
 use Rattle.der_core_head.specs.Dates.{Civil}
 use Rattle.der_core_head.specs.Grammar.{plain_list}
 use Rattle.der_core_head.specs.Integers.{integer_octets}
+use Rattle.x509_cert_builders.specs.Subscribers.{all_stays}
+use Rattle.cert_desk_checking.specs.Builders.{NamesAuthority}
 use Rattle.cert_desk_checking.specs.Certificates.{PlainName, PublicKey}
 use Rattle.cert_desk_checking.specs.Views.{key_plain, name_plain, validity_plain}
 use Rattle.cert_desk_checking.specs.Parts.{time_of}
@@ -47,9 +49,17 @@ pub record IsRight (role : Role) (p : PlainOrder) : Type 0 where
   pub short : IfSome p.path (λ n. n < 2 ^ 8)
   pub names : HasNamesFor role p.dns
 
--- And what a signed part can have: a serial number that is read, and dates as RFC 5280 spells them.
+-- a name that the profile of a role makes a certificate of
+abbrev pub CanBear : Role → PlainName → Type 0
+CanBear roles.Root n = NamesAuthority {X = Unit {0}} n (Ok tt)
+CanBear roles.Subordinate n = ⊤
+CanBear roles.Subscriber n = all_stays n ≡ true
+
+-- And what a signed part can have: such a name, a serial number that is read, and dates as RFC 5280
+-- spells them.
 pub record IsReady (role : Role) (p : PlainOrder) : Type 0 where
   pub right : IsRight role p
+  pub named : CanBear role p.subject
   pub serial : length (integer_octets p.serial) ≤ 20
   pub spelled : p.validity ≡ (time_of (begins p), (time_of (ends p), tt))
 
@@ -57,6 +67,11 @@ pub record IsReady (role : Role) (p : PlainOrder) : Type 0 where
 abbrev pub AreReady : List PlainOrder → Type 0
 AreReady ps = (place : ℕ) (p : PlainOrder) → slice_get ps place ≡ Some p
     → IsReady (role_at (length ps) place) p
+
+-- the keys of signers are those of the orders at their places
+abbrev pub AreKeys : List PublicKey → List PlainOrder → Type 0
+AreKeys keys ps = (place : ℕ) (key : PublicKey) (p : PlainOrder) → slice_get keys place ≡ Some key
+    → slice_get ps place ≡ Some p → key ≡ p.key
 
 abbrev pub accepted_plain : Accepted → PlainOrder
 accepted_plain a = record {

@@ -9,16 +9,19 @@ use Rattle.der_core_head.specs.Dates.{Civil, is_civil}
 use Rattle.der_core_head.specs.Grammar.{plain_list}
 use Rattle.der_core_head.specs.declared.error.ErrorKind.{ErrorKind}
 use Rattle.der_core_head.specs.declared.error.ErrorKind.TheVariants as kinds
-use Rattle.der_core_head.specs.Shapes.{IsValid, Shape, Value}
+use Rattle.der_core_head.specs.Shapes.{IsValid}
 use Rattle.cert_desk_checking.specs.Names.TimeTypes.DateTexts.{date_text}
 use Rattle.cert_desk_checking.specs.Names.TimeTypes.Seconds.{unix_seconds}
 use Rattle.cert_desk_checking.specs.Builders.{NamesAuthority}
 use Rattle.cert_desk_checking.specs.Builders.{IsWantOfMemory}
-use Rattle.cert_desk_checking.specs.Certificates.{Tbs}
+use Rattle.x509_cert_builders.specs.declared.error.Error.{Error as BuilderError}
+use Rattle.x509_cert_builders.specs.declared.error.Error.TheVariants as builders
+use Rattle.x509_cert_builders.specs.declared.sign_error.SignError.TheVariants
+    as signers
+use Rattle.cert_desk_checking.specs.Certificates.{PlainCertificate, Tbs}
 use Rattle.cert_desk_checking.specs.Parts.{certificate, tbs_certificate}
 use Rattle.cert_desk_checking.specs.Certificates.{Algorithm, PlainName, PublicKey}
 use Rattle.cert_desk_checking.specs.Views.{key_plain}
-use Rattle.cert_desk_checking.specs.Extensions.{general_names}
 use Rattle.cert_desk_checking.specs.Texts.{ReadsName, SpellsName}
 use Rattle.cert_desk_orders.specs.Grammar.{PlainValidity}
 use Rattle.cert_desk_orders.specs.SerialNumbers.{new_serial}
@@ -33,7 +36,8 @@ use Rattle.cert_desk_issuing.specs.declared.stop.Stop.{Stop}
 use Rattle.cert_desk_issuing.specs.declared.stop.Stop.TheVariants as stops
 use Rattle.cert_desk_issuing.specs.Acceptance.{AcceptedOrders, AcceptsFront, IsNamedFor, IsTextOf}
 use Rattle.cert_desk_issuing.specs.Acceptance.{SpellDates, names_subscriber}
-use Rattle.cert_desk_issuing.specs.Ordered.{dns_names, ordered_part, part_octets}
+use Rattle.cert_desk_issuing.specs.Chains.{AreMade}
+use Rattle.cert_desk_issuing.specs.Ordered.{CanName, ordered_part, part_octets}
 use Rattle.cert_desk_issuing.specs.PlainOrders.{HasNamesFor, PlainOrder}
 use Rattle.cert_desk_issuing.specs.Roles.{place_above, role_at, signers_for}
 
@@ -108,43 +112,35 @@ pub record RefusesAt (orders : List Order) (keys : List PublicKey) (place : ℕ)
     pub here : length asked ≡ place
     pub refused : IsRefusedAt orders keys place f
 
-abbrev pub HasNoEncoding : (s : Shape) → Value s → Type 0
-HasNoEncoding s v = IsValid s v → ⊥
+-- how a fault in writing is told, and how one of a builder
+abbrev pub stop_of_kind : ErrorKind → Stop
+stop_of_kind kinds.OutOfMemory = stops.OutOfMemory
+stop_of_kind _ = stops.TooLong
 
--- why a value isn't written
-abbrev pub StopsEncoding : (s : Shape) → Value s → Stop → Type 0
-StopsEncoding s v stops.Refused = ⊥
-StopsEncoding s v stops.TooLong = HasNoEncoding s v
-StopsEncoding s v stops.OutOfMemory = ⊤
+abbrev pub stop_of : BuilderError → Stop
+stop_of (builders.Asn1 e) = stop_of_kind e.kind
+stop_of (builders.Signature signers.Refused) = stops.Refused
+stop_of (builders.Signature signers.OutOfMemory) = stops.OutOfMemory
+stop_of _ = stops.TooLong
 
--- how a fault in writing is told
-abbrev pub IsStopOf : ErrorKind → Stop → Type 0
-IsStopOf k s = (s ≡ stops.OutOfMemory) ⊎ ((s ≡ stops.TooLong) × (k ≢ kinds.OutOfMemory))
+-- a subscriber's names and the signed part have encodings
+abbrev pub HasPart : Role → List (List ℕ) → Tbs → Type 0
+HasPart role dns t = CanName role dns × IsValid (tbs_certificate Bound None) t
 
--- the names or the signed part have no encoding
-abbrev pub HasNoPart : List (List ℕ) → Tbs → Type 0
-HasNoPart dns t = HasNoEncoding (general_names Bound) (dns_names dns)
-    ⊎ HasNoEncoding (tbs_certificate Bound None) t
-
--- why a signed part isn't made
-abbrev pub StopsPart : List (List ℕ) → Tbs → Stop → Type 0
-StopsPart dns t stops.Refused = ⊥
-StopsPart dns t stops.TooLong = HasNoPart dns t
-StopsPart dns t stops.OutOfMemory = ⊤
-
--- A length passes 2^32 - 1: the names, the signed part or the certificate, with bits that its
--- signer may give, have no encoding.
-abbrev pub IsTooLong : (List ℕ → Bits → Type 0) → Algorithm → List (List ℕ) → Tbs → Type 0
-IsTooLong signs a dns t = HasNoPart dns t
+-- A length passes 2^32 - 1: a subscriber's names or the signed part have no encoding, or the
+-- certificate has none with bits that its signer may give.
+abbrev pub IsTooLong : (List ℕ → Bits → Type 0) → Algorithm → Role → List (List ℕ) → Tbs → Type 0
+IsTooLong signs a role dns t =
+    (HasPart role dns t → ⊥)
     ⊎ ((bits : Bits) × signs (part_octets t) bits
-    × HasNoEncoding (certificate Bound None) (t, (a, (bits, tt))))
+    × (IsValid (certificate Bound None) (t, (a, (bits, tt))) → ⊥))
 
 -- why the certificate of a signed part isn't made
-abbrev pub Stops : (List ℕ → Type 0) → (List ℕ → Bits → Type 0) → Algorithm → List (List ℕ) → Tbs
-    → Stop → Type 0
-Stops may_refuse signs a dns t stops.Refused = may_refuse (part_octets t)
-Stops may_refuse signs a dns t stops.TooLong = IsTooLong signs a dns t
-Stops may_refuse signs a dns t stops.OutOfMemory = ⊤
+abbrev pub Stops : (List ℕ → Type 0) → (List ℕ → Bits → Type 0) → Algorithm → Role → List (List ℕ)
+    → Tbs → Stop → Type 0
+Stops may_refuse signs a role dns t stops.Refused = may_refuse (part_octets t)
+Stops may_refuse signs a role dns t stops.TooLong = IsTooLong signs a role dns t
+Stops may_refuse signs a role dns t stops.OutOfMemory = ⊤
 
 -- no certificate is made at a place
 pub record IsStoppedAt {S : Type 0} (algorithm : S → Algorithm) (signs : S → List ℕ → Bits → Type 0)
@@ -156,15 +152,20 @@ pub record IsStoppedAt {S : Type 0} (algorithm : S → Algorithm) (signs : S →
   pub order_is : slice_get asked place ≡ Some order
   pub above_is : slice_get asked (place_above place) ≡ Some above
   pub signer_is : slice_get signers (place_above place) ≡ Some signer
-  pub stops : Stops (may_refuse signer) (signs signer) (algorithm signer) order.dns
+  pub stops : Stops (may_refuse signer) (signs signer) (algorithm signer)
+      (role_at (length asked) place) order.dns
       (ordered_part (role_at (length asked) place) order above (algorithm signer)) stop
 
--- all orders are accepted, and at a place no certificate is made
+-- all orders are accepted, the certificates of the places before are made and signed, and at this
+-- place none is
 pub record StopsAt {S : Type 0} (key : S → PublicKey) (algorithm : S → Algorithm)
     (signs : S → List ℕ → Bits → Type 0) (may_refuse : S → List ℕ → Type 0) (orders : List Order)
     (signers : List S) (place : ℕ) (stop : Stop) : Type 0 where
   pub asked : List PlainOrder
   pub accepted : AcceptedOrders orders (map key signers) asked
+  pub before : List PlainCertificate
+  pub here : length before ≡ place
+  pub made : AreMade algorithm signs asked signers before
   pub stopped : IsStoppedAt algorithm signs may_refuse asked signers place stop
 
 -- the same of an order at a place

@@ -36,7 +36,8 @@ use std::str::FromStr;
 
 /// The name that the text of an order spells.
 fn name_of(alloc: Global, order: &Order) -> Result<Name, Fault>
-    ensures spelled { IfOk result (λ n. SpellsName Bound (string_bytes order.now.name) (name_plain n)) }
+    ensures spelled { IfOk result
+        (λ n. SpellsName Bound (string_bytes order.now.name) (name_plain n)) }
     ensures refused { (role : Role) (key : Option PublicKey)
         → IfErr result (λ f. RefusesOrder role key order.now f) }
 {
@@ -125,7 +126,8 @@ fn check_name(alloc: Global, role: Role, subject: &Name) -> Result<(), Fault>
 
 /// The subject that an order names.
 fn subject_of(alloc: Global, role: Role, order: &Order) -> Result<Name, Fault>
-    ensures spelled { IfOk result (λ n. SpellsName Bound (string_bytes order.now.name) (name_plain n)) }
+    ensures spelled { IfOk result
+        (λ n. SpellsName Bound (string_bytes order.now.name) (name_plain n)) }
     ensures right { IfOk result (λ n. IsNamedFor role (name_plain n)) }
     ensures refused { (key : Option PublicKey)
         → IfErr result (λ f. RefusesOrder role key order.now f) }
@@ -245,7 +247,8 @@ fn is_same_key(one: &SubjectPublicKeyInfo, other: &SubjectPublicKeyInfo) -> bool
 fn is_key_of(signer_key: Option<&SubjectPublicKeyInfo>, key: &SubjectPublicKeyInfo) -> bool
     ensures same { IsTrue result → IsKeyOf (plain_option (λ k. key_plain k.now) signer_key.entry)
         (key_plain key.now) }
-    ensures other { result ≡ false → IsOtherKey (plain_option (λ k. key_plain k.now) signer_key.entry)
+    ensures other { result ≡ false
+        → IsOtherKey (plain_option (λ k. key_plain k.now) signer_key.entry)
         (key_plain key.now) }
 {
     match signer_key {
@@ -261,7 +264,8 @@ pub(crate) fn accept_one<'a>(
     order: &'a Order,
     signer_key: Option<&SubjectPublicKeyInfo>,
 ) -> Result<Accepted<'a>, Fault>
-    ensures accepted { IfOk result (λ a. IsAccepted role (plain_option (λ k. key_plain k.now) signer_key.entry)
+    ensures accepted { IfOk result
+        (λ a. IsAccepted role (plain_option (λ k. key_plain k.now) signer_key.entry)
         order.now (accepted_plain a)) }
     ensures refused { IfErr result
         (λ f. RefusesOrder role (plain_option (λ k. key_plain k.now) signer_key.entry) order.now f) }

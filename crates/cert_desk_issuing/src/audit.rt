@@ -74,7 +74,8 @@ impl Issued {
 
 /// A certificate, as an anchor.
 fn anchor_of(alloc: Global, root: &Certificate) -> Result<Anchor, CheckError>
-    ensures copied { IfOk result (λ a. anchor_plain a ≡ root_anchor (as_written (certificate_plain root.now))) }
+    ensures copied { IfOk result
+        (λ a. anchor_plain a ≡ root_anchor (as_written (certificate_plain root.now))) }
     ensures refused { IfErr result (λ e. e ≡ errors.OutOfMemory) }
 {
     let signed = root.tbs_certificate();

@@ -8,7 +8,6 @@ ghost use Rattle.cert_desk_issuing.specs.DigestSigners.{digest_algorithm, IsDige
 use cert_desk_checking::types::builder::{SignError, Signer};
 use cert_desk_checking::{AlgorithmIdentifier, BitString, SubjectPublicKeyInfo};
 use const_oid::ObjectIdentifier;
-use rand_core::CryptoRng;
 use sha2::{Digest, Sha256};
 use std::alloc::Global;
 
@@ -86,17 +85,8 @@ impl Signer for DigestSigner {
         let digest = hasher.finalize().as_slice().to_vec(alloc)?;
         match BitString::from_bytes(digest) {
             Ok(bits) => Ok(bits),
-            Err(_) => Err(SignError::OutOfMemory),
+            // A digest has 32 octets.
+            Err(_) => unreachable!(),
         }
-    }
-
-    fn sign_with_rng<R: CryptoRng>(
-        &self,
-        alloc: Global,
-        _rng: &mut R,
-        octets: &[u8],
-    ) -> Result<BitString, SignError> {
-        let bits = self.sign(alloc, octets)?;
-        Ok(bits)
     }
 }

@@ -9,26 +9,26 @@ use cert_desk_checking::types::builder::Error;
 /// Why an order is refused, wherever in a chain it stands.
 #[derive(Drop)]
 pub(crate) enum Fault {
-    /// The text of its name isn't read.
+    /// The text of the name isn't read.
     Name,
-    /// Its name isn't one of an authority.
+    /// The name isn't one of an authority.
     RootName(Error),
-    /// Its name has an attribute that is no country and no common name.
+    /// The name has an attribute that is no country and no common name.
     SubscriberName,
-    /// Its serial number.
+    /// The serial number.
     Serial,
-    /// Its dates.
+    /// The dates.
     Dates,
-    /// Its DNS names.
+    /// The DNS names.
     DnsName,
-    /// Its signer has another key.
+    /// The signer has another key.
     KeyMismatch,
     /// Want of memory.
     OutOfMemory,
 }
 
 impl Fault {
-    /// The same, of the order at a place.
+    /// The refusal of the order at a place.
     pub(crate) fn at(self, place: usize) -> IssueError
         ensures { result ≡ fault_at place self }
     {

@@ -1,26 +1,18 @@
-//! The parts of what is signed are in their ranges, so that it can fail to have an encoding only by
-//! its length.
+//! Keys and dates are in their ranges.
 //!
 //! Each is a law of the values of a type, and stands as the contract of a call that does nothing.
 
-ghost use Rattle.std.specs.List.{AllByRecursion};
 ghost use Rattle.const_oid.specs.Bound.{Bound};
-ghost use Rattle.der_core_head.specs.Grammar.{plain_option};
 ghost use Rattle.der_core_head.specs.Ranges.{IsInRange};
 ghost use Rattle.cert_desk_checking.specs.Certificates.{algorithm_identifier, public_key_info};
-ghost use Rattle.cert_desk_checking.specs.Views.{algorithm_plain, extension_plain};
-ghost use Rattle.cert_desk_checking.specs.Views.{extensions_plain, key_plain, tbs_plain};
-ghost use Rattle.cert_desk_checking.specs.Views.{time_value, validity_plain};
-ghost use Rattle.cert_desk_orders.specs.Grammar.{extension, time, validity};
-ghost use Rattle.cert_desk_issuing.specs.Making.{IsPartInRange, extensions_field};
+ghost use Rattle.cert_desk_checking.specs.Views.{algorithm_plain, key_plain, time_value};
+ghost use Rattle.cert_desk_orders.specs.Grammar.{time};
 
-use cert_desk_checking::types::{
-    AlgorithmIdentifier, Extension, Extensions, SubjectPublicKeyInfo, TbsCertificate, Time,
-    Validity,
-};
+use cert_desk_checking::types::{AlgorithmIdentifier, SubjectPublicKeyInfo, Time};
 use der_core::InRange;
 
-fn algorithm_in_range(algorithm: &AlgorithmIdentifier)
+/// The parts of an algorithm are.
+pub(crate) fn algorithm_in_range(algorithm: &AlgorithmIdentifier)
     ensures { IsInRange (algorithm_identifier Bound) (algorithm_plain algorithm.now) }
 {
     algorithm.oid.in_range();
@@ -43,47 +35,4 @@ pub(crate) fn time_in_range(spelled: &Time)
         Time::UtcTime(date) => date.in_range(),
         Time::GeneralTime(date) => date.in_range(),
     }
-}
-
-fn validity_in_range(dates: &Validity)
-    ensures { IsInRange validity (validity_plain dates.now) }
-{
-    time_in_range(&dates.not_before);
-    time_in_range(&dates.not_after);
-}
-
-fn extension_in_range(made: &Extension)
-    ensures { IsInRange (extension Bound) (extension_plain made.now) }
-{
-    made.extn_id.in_range();
-    made.extn_value.in_range();
-}
-
-fn extensions_in_range(made: &[Extension])
-    ensures { AllByRecursion (IsInRange (extension Bound)) (extensions_plain made.now) }
-{
-    for one in made {
-        extension_in_range(one);
-    }
-}
-
-fn field_in_range(made: &Option<Extensions>)
-    ensures { IsInRange extensions_field (plain_option (λ e. extensions_plain e.items) made.now) }
-{
-    match made {
-        Some(extensions) => extensions_in_range(extensions.as_slice()),
-        None => {}
-    }
-}
-
-/// The parts of a signed part are.
-pub(crate) fn part_in_range(part: &TbsCertificate)
-    ensures { IsPartInRange (tbs_plain part.now) }
-{
-    algorithm_in_range(&part.signature);
-    part.issuer.in_range();
-    validity_in_range(&part.validity);
-    part.subject.in_range();
-    key_in_range(&part.subject_public_key_info);
-    field_in_range(&part.extensions);
 }

@@ -1,20 +1,15 @@
 //! Orders become a chain.
 
-ghost use Rattle.std.specs.Prelude.{◌≡◌, ◌<◌, ◌≤◌, ◌-◌, ◌^◌, List, length, map, slice_get, IfOk};
-ghost use Rattle.std.specs.Prelude.{IfErr};
-ghost use Rattle.const_oid.specs.Bound.{Bound};
-ghost use Rattle.der_core_head.specs.Limits.{length_max};
+ghost use Rattle.std.specs.Prelude.{◌≡◌, ◌<◌, ◌-◌, List, length, map, slice_get, IfOk, IfErr};
 ghost use Rattle.der_core_head.specs.Grammar.{plain_option};
-ghost use Rattle.cert_desk_checking.specs.Certificates.{certificate_octets};
 ghost use Rattle.cert_desk_checking.specs.Views.{key_plain};
-ghost use Rattle.cert_desk_checking.specs.Chains.{Stands};
 ghost use Rattle.cert_desk_issuing.specs.Acceptance.{AcceptedOrders, AcceptsFront, IsAcceptedAt};
-ghost use Rattle.cert_desk_issuing.specs.Chains.{AreSigned, HoldsOrders, IsOrderedAt, IsSignedBy};
-ghost use Rattle.cert_desk_issuing.specs.Chains.{IssuedChain};
+ghost use Rattle.cert_desk_issuing.specs.Chains.{AreSigned, HoldsOrders, IssuedChain};
 ghost use Rattle.cert_desk_issuing.specs.Issuable.{AreIssuable};
-ghost use Rattle.cert_desk_issuing.specs.Making.{made_plain};
-ghost use Rattle.cert_desk_issuing.specs.PlainOrders.{AreReady, accepted_plain, orders_plain};
-ghost use Rattle.cert_desk_issuing.specs.Refusals.{IsRefusedAt, IsStoppedAt, Refuses};
+ghost use Rattle.cert_desk_issuing.specs.Making.{MakesAt};
+ghost use Rattle.cert_desk_issuing.specs.PlainOrders.{AreKeys, AreReady, accepted_plain};
+ghost use Rattle.cert_desk_issuing.specs.PlainOrders.{orders_plain};
+ghost use Rattle.cert_desk_issuing.specs.Refusals.{IsRefusedAt, Refuses};
 ghost use Rattle.cert_desk_issuing.specs.Roles.{signers_for};
 
 use crate::accepted::Accepted;
@@ -43,13 +38,16 @@ pub fn issue<S: Signer>(
     orders: &[Order],
     signers: &[S],
 ) -> Result<Issued, IssueError>
-    ensures issued { IfOk result (λ i. IssuedChain S.public_key S.signs_by S.signs orders.now signers.now
+    ensures issued { IfOk result
+        (λ i. IssuedChain S.public_key S.signs_by S.signs orders.now signers.now
         i.stream) }
-    ensures refused { IfErr result (λ e. Refuses S.public_key S.signs_by S.signs S.may_refuse orders.now
+    ensures refused { IfErr result
+        (λ e. Refuses S.public_key S.signs_by S.signs S.may_refuse orders.now
         signers.now e) }
     // Orders that are accepted, of which no signer may refuse a part, and whose lengths fit, are
     // issued wherever memory is there.
-    ensures complete { AreIssuable S.public_key S.signs_by S.signs S.may_refuse orders.now signers.now
+    ensures complete { AreIssuable S.public_key S.signs_by S.signs S.may_refuse orders.now
+        signers.now
         → IfErr result (λ e. e ≡ IssueError.OutOfMemory) }
 {
     if orders.is_empty() {
@@ -99,7 +97,8 @@ fn accept_at<'a, S: Signer>(
     requires { place < length orders.now }
     ensures accepted { IfOk result
         (λ a. IsAcceptedAt orders.now (map S.public_key signers.now) place (accepted_plain a)) }
-    ensures refused { IfErr result (λ f. IsRefusedAt orders.now (map S.public_key signers.now) place f) }
+    ensures refused { IfErr result
+        (λ f. IsRefusedAt orders.now (map S.public_key signers.now) place f) }
 {
     let role = role_at(orders.len(), place);
     let key = key_at(signers, place);
@@ -116,7 +115,8 @@ fn accept_all<'a, S: Signer>(
     ensures all { IfOk result (λ v. length v.items ≡ length orders.now) }
     ensures accepted { IfOk result
         (λ v. AcceptsFront orders.now (map S.public_key signers.now) (orders_plain v.items)) }
-    ensures refused { IfErr result (λ e. Refuses S.public_key S.signs_by S.signs S.may_refuse orders.now
+    ensures refused { IfErr result
+        (λ e. Refuses S.public_key S.signs_by S.signs S.may_refuse orders.now
         signers.now e) }
 {
     let mut all = Vec::new(alloc);
@@ -142,12 +142,9 @@ fn issue_at<S: Signer>(
     requires within { place < length accepted.now }
     requires signers { length signers.now ≡ signers_for (length accepted.now) }
     requires ready { AreReady (orders_plain accepted.now) }
-    ensures ordered { IfOk result (λ m. IsOrderedAt (orders_plain accepted.now) place (made_plain m)) }
-    ensures signed { IfOk result (λ m. IsSignedBy S.signs_by S.signs signers.now place (made_plain m)) }
-    ensures octets { IfOk result (λ m. m.octets.items ≡ certificate_octets Bound (made_plain m)) }
-    ensures stands { IfOk result (λ m. Stands Bound length_max (made_plain m)) }
-    ensures stopped { IfErr result (λ s. IsStoppedAt S.signs_by S.signs S.may_refuse (orders_plain accepted.now)
-        signers.now place s) }
+    requires keys { AreKeys (map S.public_key signers.now) (orders_plain accepted.now) }
+    ensures { MakesAt S.signs_by S.signs S.may_refuse (orders_plain accepted.now) signers.now place
+        result }
 {
     let role = role_at(accepted.len(), place);
     let above = place_above(place);
@@ -168,7 +165,9 @@ fn issue_all<S: Signer>(
 ) -> Result<Issued, IssueError>
     requires signers { length signers.now ≡ signers_for (length accepted.now) }
     requires ready { AreReady (orders_plain accepted.now) }
-    ensures holds { IfOk result (λ i. HoldsOrders (orders_plain accepted.now) i.certificates i.stream) }
+    requires keys { AreKeys (map S.public_key signers.now) (orders_plain accepted.now) }
+    ensures holds { IfOk result
+        (λ i. HoldsOrders (orders_plain accepted.now) i.certificates i.stream) }
     ensures signed { IfOk result (λ i. AreSigned S.signs_by S.signs signers.now i.certificates) }
     ensures stopped { (orders : List Order) → AcceptedOrders orders (map S.public_key signers.now)
         (orders_plain accepted.now)

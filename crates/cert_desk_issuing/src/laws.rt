@@ -24,7 +24,7 @@ pub fn held_is_trusted()
     ensures { HeldIsTrusted }
 {}
 
-/// It is trusted nowhere else.
+/// A chain that holds orders is trusted nowhere else.
 pub fn trusted_is_permitted()
     ensures { TrustedIsPermitted }
 {}

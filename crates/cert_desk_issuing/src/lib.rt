@@ -3,11 +3,9 @@
 
 mod accepted;
 mod accepting;
-mod assembled;
 mod attribute_types;
 mod audit;
 mod digest_signer;
-mod extending;
 mod fault;
 mod in_range;
 mod issue_error;
@@ -16,8 +14,8 @@ mod issuing;
 pub mod laws;
 mod lines;
 mod making;
+mod naming;
 mod outcome;
-mod part;
 mod role;
 mod running;
 mod stop;

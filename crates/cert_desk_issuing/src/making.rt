@@ -1,33 +1,28 @@
 //! Certificates are made.
 
-ghost use Rattle.std.specs.Prelude.{◌≡◌, ℕ, List, None, IfOk, IfErr, string_bytes};
-ghost use Rattle.const_oid.specs.Bound.{Bound};
-ghost use Rattle.der_core_head.specs.declared.error.ErrorKind.TheVariants.{OutOfMemory};
+ghost use Rattle.std.specs.Prelude.{◌≡◌, ◌≤◌, [], ℕ, List, None, Ok, length, IfOk, IfErr};
+ghost use Rattle.std.specs.Prelude.{string_bytes};
 ghost use Rattle.der_core_head.specs.Grammar.{plain_list};
-ghost use Rattle.der_core_head.specs.Shapes.{IsValid, Spells, any};
-ghost use Rattle.cert_desk_checking.specs.Certificates.{Tbs, certificate_octets, outer_algorithm};
-ghost use Rattle.cert_desk_checking.specs.Certificates.{raw_certificate, signature_bits, tbs};
-ghost use Rattle.cert_desk_checking.specs.Extensions.{general_names};
-ghost use Rattle.cert_desk_checking.specs.Parts.{any_lent, tbs_certificate};
-ghost use Rattle.cert_desk_checking.specs.Views.{algorithm_plain, tbs_plain};
-ghost use Rattle.cert_desk_issuing.specs.Making.{made_plain};
-ghost use Rattle.cert_desk_issuing.specs.Ordered.{dns_names, ordered_part, part_octets};
+ghost use Rattle.der_core_head.specs.Integers.{integer_octets};
+ghost use Rattle.x509_cert_builders.specs.States.{CertificateState, part_for};
+ghost use Rattle.x509_cert_builders.specs.declared.error.Error.{Error};
+ghost use Rattle.cert_desk_checking.specs.Certificates.{Tbs};
+ghost use Rattle.cert_desk_checking.specs.Views.{key_plain, name_plain};
+ghost use Rattle.cert_desk_issuing.specs.Making.{IsProfile, Makes, fields_below};
+ghost use Rattle.cert_desk_issuing.specs.Ordered.{ordered_part};
 ghost use Rattle.cert_desk_issuing.specs.PlainOrders.{IsReady, accepted_plain};
-ghost use Rattle.cert_desk_issuing.specs.Refusals.{Stops, StopsEncoding, StopsPart};
 
 use crate::accepted::Accepted;
-use crate::assembled::Assembled;
-use crate::extending::extensions_for;
-use crate::in_range::part_in_range;
-use crate::part::{bare_part, extended};
+use crate::in_range::algorithm_in_range;
+use crate::naming::add_names;
 use crate::role::Role;
 use crate::stop::Stop;
-use cert_desk_checking::types::builder::{SignError, Signer};
-use cert_desk_checking::types::{
-    AlgorithmIdentifier, AnyRef, BitString, Certificate, TbsCertificate,
+use cert_desk_checking::types::Certificate;
+use cert_desk_checking::types::builder::{
+    Builder, BuilderProfile, CertificateBuilder, CertificateType, Root, Signer, Subordinate,
+    Subscriber, Tls12Options,
 };
-use der_core::making::octets_in_range;
-use der_core::{Error, InRange, from_der, to_der};
+use der_core::{InRange, to_der};
 use std::alloc::Global;
 
 /// A certificate, and its octets.
@@ -37,118 +32,139 @@ pub(crate) struct Made {
     pub(crate) octets: Vec<u8>,
 }
 
-/// The part that is to be signed of the certificate that an order asks for in a role, below another
-/// one.
-fn part_for(
-    alloc: Global,
-    role: Role,
-    accepted: &Accepted<'_>,
-    issuer: &Accepted<'_>,
-    algorithm: &AlgorithmIdentifier,
-) -> Result<TbsCertificate, Stop>
-    ensures part { IfOk result
-        (λ t. tbs_plain t ≡ ordered_part role (accepted_plain accepted.now)
-        (accepted_plain issuer.now) (algorithm_plain algorithm.now)) }
-    ensures stops { IfErr result
-        (λ s. StopsEncoding (general_names Bound)
-        (dns_names (plain_list string_bytes accepted.now.order.now.dns.items)) s) }
+/// The profile of a root.
+fn root(alloc: Global, accepted: &Accepted<'_>) -> Result<Root, Stop>
+    requires ready { IsReady Role.Root (accepted_plain accepted.now) }
+    ensures profile { IfOk result
+        (IsProfile ⟦<Root as BuilderProfile>⟧.subject_name ⟦<Root as BuilderProfile>⟧.issuer_name
+        ⟦<Root as BuilderProfile>⟧.extensions ⟦<Root as BuilderProfile>⟧.refuses Role.Root
+        (accepted_plain accepted.now) (accepted_plain accepted.now)) }
+    ensures stops { IfErr result (λ s. s ≡ Stop.OutOfMemory) }
 {
-    let part = bare_part(alloc, accepted, &issuer.subject, algorithm)?;
-    let extensions = extensions_for(alloc, role, accepted, issuer, &part)?;
-    Ok(extended(part, extensions))
+    let subject = accepted.subject.clone(alloc)?;
+    let profile = Root::new(alloc, accepted.order.ocsp, subject)?;
+    Ok(profile)
 }
 
-/// It, and its octets.
-fn written_part(
+/// The profile of an authority below another one.
+fn subordinate(
     alloc: Global,
-    role: Role,
     accepted: &Accepted<'_>,
     issuer: &Accepted<'_>,
-    algorithm: &AlgorithmIdentifier,
-) -> Result<(TbsCertificate, Vec<u8>), Stop>
+) -> Result<Subordinate, Stop>
+    ensures profile { IfOk result
+        (IsProfile ⟦<Subordinate as BuilderProfile>⟧.subject_name
+        ⟦<Subordinate as BuilderProfile>⟧.issuer_name ⟦<Subordinate as BuilderProfile>⟧.extensions
+        ⟦<Subordinate as BuilderProfile>⟧.refuses Role.Subordinate (accepted_plain accepted.now)
+        (accepted_plain issuer.now)) }
+    ensures stops { IfErr result (λ s. s ≡ Stop.OutOfMemory) }
+{
+    Ok(Subordinate {
+        issuer: issuer.subject.clone(alloc)?,
+        subject: accepted.subject.clone(alloc)?,
+        path_len_constraint: accepted.order.path_len,
+        emits_ocsp_response: accepted.order.ocsp,
+        client_auth: accepted.order.client_auth,
+    })
+}
+
+/// The profile of a subscriber.
+fn subscriber(
+    alloc: Global,
+    accepted: &Accepted<'_>,
+    issuer: &Accepted<'_>,
+) -> Result<Subscriber, Stop>
+    requires ready { IsReady Role.Subscriber (accepted_plain accepted.now) }
+    ensures profile { IfOk result
+        (IsProfile ⟦<Subscriber as BuilderProfile>⟧.subject_name
+        ⟦<Subscriber as BuilderProfile>⟧.issuer_name ⟦<Subscriber as BuilderProfile>⟧.extensions
+        ⟦<Subscriber as BuilderProfile>⟧.refuses Role.Subscriber (accepted_plain accepted.now)
+        (accepted_plain issuer.now)) }
+    ensures stops { IfErr result (λ s. s ≡ Stop.OutOfMemory) }
+{
+    let subject = accepted.subject.clone(alloc)?;
+    Ok(Subscriber {
+        certificate_type: CertificateType::domain_validated(alloc, subject, Vec::new(alloc))?,
+        issuer: issuer.subject.clone(alloc)?,
+        client_auth: accepted.order.client_auth,
+        tls12_options: Tls12Options {
+            enable_key_encipherment: false,
+            enable_key_agreement: false,
+        },
+        enable_data_encipherment: false,
+    })
+}
+
+/// A builder of the certificate that an order asks for, by a profile of its subject.
+fn builder_of<P: BuilderProfile + Drop>(
+    alloc: Global,
+    profile: P,
+    accepted: &Accepted<'_>,
+) -> Result<CertificateBuilder<P>, Stop>
+    requires subject { P.subject_name profile ≡ Ok (name_plain accepted.now.subject) }
+    requires willing { (e : Error) → P.refuses profile e → ⊥ }
+    ensures made { IfOk result (λ b. b ≡ record {
+      profile = profile;
+      fields = fields_below (P.issuer_name profile (name_plain accepted.now.subject))
+          (accepted_plain accepted.now);
+      added = [];
+      finalized = None;
+    }) }
+    ensures stops { IfErr result (λ s. s ≡ Stop.OutOfMemory) }
+{
+    let serial_number = accepted.serial_number.clone(alloc)?;
+    let key = accepted.order.key.clone(alloc)?;
+    let builder = CertificateBuilder::new(alloc, profile, serial_number, accepted.validity, key)?;
+    Ok(builder)
+}
+
+/// The certificate that a builder makes, and its octets.
+fn made_by<P: BuilderProfile + Drop, S: Signer>(
+    alloc: Global,
+    builder: CertificateBuilder<P>,
+    signer: &S,
+) -> Result<Made, Stop>
+    requires willing { (e : Error) → P.refuses builder.profile e → ⊥ }
+    requires serial { length (integer_octets builder.fields.serial) ≤ 20 }
+    ensures { (role : Role) (dns : List (List ℕ)) (t : Tbs)
+        → part_for P.extensions builder (S.public_key signer.now) (S.signs_by signer.now) ≡ t
+        → Makes (S.may_refuse signer.now) (S.signs signer.now) (S.signs_by signer.now) role dns t
+        result }
+{
+    let certificate = builder.build(alloc, signer)?;
+    algorithm_in_range(&certificate.signature_algorithm);
+    certificate.signature.in_range();
+    let octets = to_der(alloc, &certificate)?;
+    Ok(Made {
+        certificate,
+        octets,
+    })
+}
+
+/// The certificate that an order asks for in a role, below another one, by a profile of the role.
+fn made_with<P: BuilderProfile + Drop, S: Signer>(
+    alloc: Global,
+    role: Role,
+    profile: P,
+    accepted: &Accepted<'_>,
+    issuer: &Accepted<'_>,
+    signer: &S,
+) -> Result<Made, Stop>
     requires ready { IsReady role (accepted_plain accepted.now) }
-    ensures part { IfOk result (λ r. tbs_plain r.0 ≡ ordered_part role (accepted_plain accepted.now)
-        (accepted_plain issuer.now) (algorithm_plain algorithm.now)) }
-    ensures octets { IfOk result
-        (λ r. r.1.items
-        ≡ part_octets (ordered_part role (accepted_plain accepted.now) (accepted_plain issuer.now)
-        (algorithm_plain algorithm.now))) }
-    ensures valid { IfOk result
-        (λ r. IsValid (tbs_certificate Bound None)
+    requires profile { IsProfile P.subject_name P.issuer_name P.extensions P.refuses role
+        (accepted_plain accepted.now) (accepted_plain issuer.now) profile }
+    requires key { S.public_key signer.now ≡ key_plain issuer.now.order.now.key }
+    ensures { Makes (S.may_refuse signer.now) (S.signs signer.now) (S.signs_by signer.now) role
+        (plain_list string_bytes accepted.now.order.now.dns.items)
         (ordered_part role (accepted_plain accepted.now) (accepted_plain issuer.now)
-        (algorithm_plain algorithm.now))) }
-    ensures stops { IfErr result (λ s. StopsPart (plain_list string_bytes accepted.now.order.now.dns.items)
-        (ordered_part role (accepted_plain accepted.now) (accepted_plain issuer.now)
-        (algorithm_plain algorithm.now)) s) }
+        (S.signs_by signer.now)) result }
 {
-    let part = match part_for(alloc, role, accepted, issuer, algorithm) {
-        Ok(part) => part,
-        Err(stop) => return Err(stop),
-    };
-    part_in_range(&part);
-    let octets = to_der(alloc, &part)?;
-    Ok((part, octets))
+    let mut builder = builder_of(alloc, profile, accepted)?;
+    add_names(alloc, role, accepted, &mut builder)?;
+    made_by(alloc, builder, signer)
 }
 
-/// A signature of the octets of a signed part.
-fn signed<S: Signer>(alloc: Global, signer: &S, octets: &[u8]) -> Result<BitString, Stop>
-    ensures bits { IfOk result (λ b. S.signs signer.now octets.now b) }
-    ensures stops { (dns : List (List ℕ)) (t : Tbs) → octets.now ≡ part_octets t
-        → IfErr result
-        (λ s. Stops (S.may_refuse signer.now) (S.signs signer.now) (S.signs_by signer.now) dns t
-        s) }
-{
-    match signer.sign(alloc, octets) {
-        Ok(signature) => Ok(signature),
-        Err(SignError::Refused) => Err(Stop::Refused),
-        Err(SignError::OutOfMemory) => Err(Stop::OutOfMemory),
-    }
-}
-
-/// The octets of a signed part, as any value.
-fn as_any(alloc: Global, octets: &[u8]) -> Result<AnyRef<'_>, Error>
-    ensures spelled { IfOk result (λ x. Spells any (any_lent x) octets.now) }
-    ensures refused { (t : Tbs) → octets.now ≡ part_octets t
-        → IsValid (tbs_certificate Bound None) t → IfErr result (λ e. e.kind ≡ OutOfMemory) }
-{
-    octets_in_range(octets);
-    from_der(alloc, octets)
-}
-
-/// A certificate's octets: those of its signed part as they were signed, the algorithm and the
-/// signature.
-fn whole_of(
-    alloc: Global,
-    signed: &[u8],
-    algorithm: &AlgorithmIdentifier,
-    signature: &BitString,
-) -> Result<Vec<u8>, Stop>
-    ensures octets { (t : Tbs) → signed.now ≡ part_octets t
-        → IfOk result
-        (λ w. w.items
-        ≡ certificate_octets Bound (t, (algorithm_plain algorithm.now, (signature.now, tt)))) }
-    ensures valid { (t : Tbs) → signed.now ≡ part_octets t → IsValid (tbs_certificate Bound None) t
-        → IfOk result
-        (λ _. IsValid (raw_certificate Bound)
-        (t, (algorithm_plain algorithm.now, (signature.now, tt)))) }
-    ensures stops { (t : Tbs) → signed.now ≡ part_octets t → IsValid (tbs_certificate Bound None) t
-        → IfErr result
-        (λ s. StopsEncoding (raw_certificate Bound)
-        (t, (algorithm_plain algorithm.now, (signature.now, tt))) s) }
-{
-    let signed = as_any(alloc, signed)?;
-    let whole = Assembled {
-        signed,
-        algorithm,
-        signature,
-    };
-    whole.in_range();
-    let octets = to_der(alloc, &whole)?;
-    Ok(octets)
-}
-
-/// The certificate that an order asks for in a role, below another one. Its signed part is written
-/// once, and signed once.
+/// The certificate that an order asks for in a role, below another one.
 pub(crate) fn certificate_for<S: Signer>(
     alloc: Global,
     role: Role,
@@ -157,40 +173,25 @@ pub(crate) fn certificate_for<S: Signer>(
     signer: &S,
 ) -> Result<Made, Stop>
     requires ready { IsReady role (accepted_plain accepted.now) }
-    // What is made.
-    ensures part { IfOk result (λ m. tbs (made_plain m) ≡ ordered_part role (accepted_plain accepted.now)
-        (accepted_plain issuer.now) (S.signs_by signer.now)) }
-    ensures algorithm { IfOk result (λ m. outer_algorithm (made_plain m) ≡ S.signs_by signer.now) }
-    ensures signed { IfOk result
-        (λ m. S.signs signer.now (part_octets (tbs (made_plain m))) (signature_bits (made_plain m))) }
-    ensures octets { IfOk result (λ m. m.octets.items ≡ certificate_octets Bound (made_plain m)) }
-    ensures valid { IfOk result (λ m. IsValid (raw_certificate Bound) (made_plain m)) }
-    // Why nothing is.
-    ensures stops { IfErr result
-        (λ s. Stops (S.may_refuse signer.now) (S.signs signer.now) (S.signs_by signer.now)
+    requires own { role ≡ Role.Root → accepted_plain issuer.now ≡ accepted_plain accepted.now }
+    requires key { S.public_key signer.now ≡ key_plain issuer.now.order.now.key }
+    ensures { Makes (S.may_refuse signer.now) (S.signs signer.now) (S.signs_by signer.now) role
         (plain_list string_bytes accepted.now.order.now.dns.items)
         (ordered_part role (accepted_plain accepted.now) (accepted_plain issuer.now)
-        (S.signs_by signer.now)) s) }
+        (S.signs_by signer.now)) result }
 {
-    let algorithm = signer.algorithm().clone(alloc)?;
-    let (part, part_octets) = match written_part(alloc, role, accepted, issuer, &algorithm) {
-        Ok(written) => written,
-        Err(stop) => return Err(stop),
-    };
-    let signature = match signed(alloc, signer, part_octets.as_slice()) {
-        Ok(signature) => signature,
-        Err(stop) => return Err(stop),
-    };
-    let octets = match whole_of(alloc, part_octets.as_slice(), &algorithm, &signature) {
-        Ok(octets) => octets,
-        Err(stop) => return Err(stop),
-    };
-    Ok(Made {
-        certificate: Certificate {
-            tbs_certificate: part,
-            signature_algorithm: algorithm,
-            signature,
-        },
-        octets,
-    })
+    match role {
+        Role::Root => {
+            let profile = root(alloc, accepted)?;
+            made_with(alloc, role, profile, accepted, issuer, signer)
+        }
+        Role::Subordinate => {
+            let profile = subordinate(alloc, accepted, issuer)?;
+            made_with(alloc, role, profile, accepted, issuer, signer)
+        }
+        Role::Subscriber => {
+            let profile = subscriber(alloc, accepted, issuer)?;
+            made_with(alloc, role, profile, accepted, issuer, signer)
+        }
+    }
 }

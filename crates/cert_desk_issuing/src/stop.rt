@@ -2,9 +2,10 @@
 
 ghost use Rattle.std.specs.Prelude.{◌≡◌};
 ghost use Rattle.cert_desk_issuing.specs.declared.stop.Stop.TheVariants.{OutOfMemory};
-ghost use Rattle.cert_desk_issuing.specs.Refusals.{IsStopOf, stop_at};
+ghost use Rattle.cert_desk_issuing.specs.Refusals.{stop_at, stop_of, stop_of_kind};
 
 use crate::issue_error::IssueError;
+use cert_desk_checking::types::builder::{Error as BuilderError, SignError};
 use der_core::{Error, ErrorKind};
 use std::alloc::{AllocError, AllocFailed};
 
@@ -20,7 +21,7 @@ pub(crate) enum Stop {
 }
 
 impl Stop {
-    /// The same, of the order at a place.
+    /// The refusal of the order at a place.
     pub(crate) fn at(self, place: usize) -> IssueError
         ensures { result ≡ stop_at place self }
     {
@@ -33,13 +34,27 @@ impl Stop {
 }
 
 impl From<Error> for Stop {
-    ghost from_gives = { λ e s. IsStopOf e.kind s };
+    ghost from_gives = { λ e s. s ≡ stop_of_kind e.kind };
 
     fn from(error: Error) -> Stop {
-        if let ErrorKind::OutOfMemory = error.kind {
-            return Stop::OutOfMemory;
+        match error.kind {
+            ErrorKind::OutOfMemory => Stop::OutOfMemory,
+            _ => Stop::TooLong,
         }
-        Stop::TooLong
+    }
+}
+
+/// A profile was right, so what isn't want of memory and no refusal of the signer is a length.
+impl From<BuilderError> for Stop {
+    ghost from_gives = { λ e s. s ≡ stop_of e };
+
+    fn from(error: BuilderError) -> Stop {
+        match error {
+            BuilderError::Asn1(error) => Stop::from(error),
+            BuilderError::Signature(SignError::Refused) => Stop::Refused,
+            BuilderError::Signature(SignError::OutOfMemory) => Stop::OutOfMemory,
+            _ => Stop::TooLong,
+        }
     }
 }
 

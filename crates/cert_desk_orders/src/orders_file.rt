@@ -70,11 +70,15 @@ impl Reading {
 /// nothing. Any other is, in UTF-8, a word and, behind one blank, a value. `order`, alone, begins
 /// an order, and behind it stand its words, in any order:
 ///
-/// | Word | Value | How often | |---|---|---| | `name` | the subject, a text | once | | `from`,
-/// `until` | the dates, texts | once | | `serial` | the octets of the serial number in base 16 |
-/// once | | `key` | a SubjectPublicKeyInfo (RFC 5280 4.1.2.7) in base 16 | once | | `path` | the
-/// path length, decimal digits up to 255 | at most once | | `client`, `ocsp` | none, nor a blank |
-/// at most once | | `dns` | a DNS name, a text | any number of times |
+/// | Word | Value | How often |
+/// |---|---|---|
+/// | `name` | the subject, a text | once |
+/// | `from`, `until` | the dates, texts | once |
+/// | `serial` | the octets of the serial number in base 16 | once |
+/// | `key` | a SubjectPublicKeyInfo (RFC 5280 4.1.2.7) in base 16 | once |
+/// | `path` | the path length, decimal digits up to 255 | at most once |
+/// | `client`, `ocsp` | none, nor a blank | at most once |
+/// | `dns` | a DNS name, a text | any number of times |
 ///
 /// # Errors
 /// `Line`, the first faulty line, counted from 1: one of another word or value, one that stands

@@ -7,9 +7,9 @@ use crate::value_fault::ValueFault;
 pub(crate) enum Slot<T> {
     // The word doesn't stand.
     Missing,
-    // It stands, without a value of it.
+    // The word stands, without a value of it.
     Faulty,
-    // It stands, with this value.
+    // The word stands, with this value.
     Filled(T),
 }
 

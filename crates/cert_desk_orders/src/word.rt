@@ -5,21 +5,21 @@
 pub(crate) enum Word {
     // An order begins.
     Order,
-    // Its subject.
+    // The subject.
     Name,
     // From when it is valid.
     From,
     // Until when.
     Until,
-    // Its serial number.
+    // The serial number.
     Serial,
-    // Its key.
+    // The key.
     Key,
-    // Its path length.
+    // The path length.
     Path,
-    // It may serve clients.
+    // The key may serve clients.
     Client,
-    // It may sign answers about the state of certificates.
+    // The key may sign answers about the state of certificates.
     Ocsp,
     // A DNS name.
     Dns,

@@ -2,8 +2,8 @@ use Rattle.std.proofs.Common.{◌≡◌, List, [], map, sym, ◌∙◌, subst, a
 use Rattle.cert_desk_issuing.specs.declared.accepted.Accepted.{Accepted}
 use Rattle.cert_desk_issuing.specs.Acceptance.{AcceptedOrders}
 use Rattle.cert_desk_issuing.specs.Chains.{HoldsOrders}
-use Rattle.cert_desk_issuing.specs.PlainOrders.{AreReady, orders_plain}
-use Rattle.cert_desk_issuing.proofs.AcceptedFronts.{all_accepted, are_ready}
+use Rattle.cert_desk_issuing.specs.PlainOrders.{AreKeys, AreReady, orders_plain}
+use Rattle.cert_desk_issuing.proofs.AcceptedFronts.{all_accepted, are_keys, are_ready}
 use Rattle.cert_desk_issuing.proofs.OnlyMemory.{issuable_is_issued}
 use Rattle.cert_desk_issuing.proofs.issuing.issue.Goals as goal
 
@@ -15,6 +15,15 @@ issue_all-requires-clause-ready g c =
     let all = all_accepted key orders c.args.signers.now c.in-Ok.accepted.items some (c.if-signers-signers_for.false ∙ c.signers_for.ensures) c.in-Ok.ensures.all c.in-Ok.ensures.accepted in
     subst (λ (xs : List Accepted). AreReady (orders_plain xs)) (sym c.as_slice.ensures.value)
     (are_ready orders (map key c.args.signers.now) (orders_plain c.in-Ok.accepted.items) all)
+
+pub issue_all-requires-clause-keys : goal.issue_all-requires-clause-keys
+issue_all-requires-clause-keys g c =
+    let key = g.S.Signer.public_key in
+    let orders = c.args.orders.now in
+    let some : orders ≡ [] → ⊥ = λ e. grind arith in
+    let all = all_accepted key orders c.args.signers.now c.in-Ok.accepted.items some (c.if-signers-signers_for.false ∙ c.signers_for.ensures) c.in-Ok.ensures.all c.in-Ok.ensures.accepted in
+    subst (λ (xs : List Accepted). AreKeys (map key c.args.signers.now) (orders_plain xs)) (sym c.as_slice.ensures.value)
+    (are_keys orders (map key c.args.signers.now) (orders_plain c.in-Ok.accepted.items) all)
 
 pub returns-in-Ok-issue_all-clause-issued : goal.returns-in-Ok-issue_all-clause-issued
 returns-in-Ok-issue_all-clause-issued g c =

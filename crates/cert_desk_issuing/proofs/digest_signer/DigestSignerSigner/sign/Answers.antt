@@ -5,8 +5,8 @@ use Rattle.cert_desk_checking.specs.Views.{key_plain}
 use Rattle.cert_desk_issuing.proofs.DigestSigns.{digest_signs}
 use Rattle.cert_desk_issuing.proofs.digest_signer.DigestSignerSigner.sign.Goals as goal
 
-pub returns-in-Ok-clause-bits : goal.returns-in-Ok-clause-bits
-returns-in-Ok-clause-bits c =
+pub returns-clause-bits : goal.returns-clause-bits
+returns-clause-bits c =
     let key = key_plain c.args.self.now.key in
     let signed = c.args.octets.now in
     let digest : c.finalize.result ≡ sha256 ((key_bits key).octets ++ signed) =

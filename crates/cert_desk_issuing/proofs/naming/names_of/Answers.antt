@@ -7,7 +7,7 @@ use Rattle.der_core_head.specs.Grammar.{plain_list}
 use Rattle.cert_desk_issuing.proofs.AcceptedFronts.{plain_at}
 use Rattle.cert_desk_issuing.proofs.DnsNames.{name_read, read_within}
 use Rattle.cert_desk_issuing.proofs.SignedParts.{only_memory}
-use Rattle.cert_desk_issuing.proofs.extending.names_of.Goals as goal
+use Rattle.cert_desk_issuing.proofs.naming.names_of.Goals as goal
 
 pub returns-in_err-name-clause-refused : goal.returns-in_err-name-clause-refused
 returns-in_err-name-clause-refused c = λ valid.

@@ -1,0 +1,57 @@
+//! The DNS names of subscribers.
+
+ghost use Rattle.std.specs.Prelude.{◌≡◌, ◌⊎◌, [], IfOk, IfErr, OnOk, string_bytes};
+ghost use Rattle.const_oid.specs.Bound.{Bound};
+ghost use Rattle.der_core_head.specs.declared.error.ErrorKind.TheVariants.{OutOfMemory};
+ghost use Rattle.der_core_head.specs.Grammar.{plain_list};
+ghost use Rattle.der_core_head.specs.Shapes.{IsValid};
+ghost use Rattle.cert_desk_checking.specs.Extensions.{general_name_plain, general_names};
+ghost use Rattle.cert_desk_checking.specs.Views.{name_plain};
+ghost use Rattle.cert_desk_issuing.specs.Ordered.{CanName, dns_names, names_for};
+ghost use Rattle.cert_desk_issuing.specs.PlainOrders.{accepted_plain};
+
+use crate::accepted::Accepted;
+use crate::role::Role;
+use crate::stop::Stop;
+use cert_desk_checking::types::builder::{BuilderProfile, CertificateBuilder};
+use cert_desk_checking::types::{GeneralName, Ia5String, SubjectAltName};
+use der_core::Error;
+use std::alloc::Global;
+
+/// DNS names, as a subject's other names.
+fn names_of(alloc: Global, texts: &[String]) -> Result<SubjectAltName, Error>
+    ensures names { IfOk result (λ n. plain_list general_name_plain n.0.items
+        ≡ dns_names (plain_list string_bytes texts.now)) }
+    ensures refused { IsValid (general_names Bound) (dns_names (plain_list string_bytes texts.now))
+        → IfErr result (λ e. e.kind ≡ OutOfMemory) }
+{
+    let mut names = Vec::new(alloc);
+    for text in texts {
+        let name = Ia5String::new(alloc, text.as_bytes())?;
+        names.push(GeneralName::DnsName(name))?;
+    }
+    Ok(SubjectAltName(names))
+}
+
+/// Adds the DNS names of a subscriber to a builder to which nothing was added.
+pub(crate) fn add_names<P: BuilderProfile + Drop>(
+    alloc: Global,
+    role: Role,
+    accepted: &Accepted<'_>,
+    builder: &mut CertificateBuilder<P>,
+) -> Result<(), Stop>
+    requires first { builder.old.added ≡ [] }
+    requires subject { builder.old.fields.subject ≡ name_plain accepted.now.subject }
+    ensures added { OnOk result
+        (builder.new ≡ record builder.old { added = names_for role (accepted_plain accepted.now) }) }
+    // Want of memory, or a length passes.
+    ensures stops { IfErr result (λ s. (s ≡ Stop.OutOfMemory) ⊎ ((s ≡ Stop.TooLong)
+        × (CanName role (plain_list string_bytes accepted.now.order.now.dns.items) → ⊥))) }
+{
+    let Role::Subscriber = role else {
+        return Ok(());
+    };
+    let names = names_of(alloc, accepted.order.dns.as_slice())?;
+    builder.add_extension(alloc, &names)?;
+    Ok(())
+}
