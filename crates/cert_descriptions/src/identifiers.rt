@@ -19,9 +19,9 @@ impl Identifiers {
     ///
     /// Want of memory.
     pub fn new(alloc: Global) -> Result<Identifiers, AllocError> {
-        let mut identifiers = Vec::new(alloc);
-        for (dotted, _) in &KNOWN_NAMES {
-            let Ok(identifier) = ObjectIdentifier::<39>::new(dotted) else {
+        let mut identifiers = Vec::with_capacity(alloc, KNOWN_NAMES.len())?;
+        for (octets, _) in &KNOWN_NAMES {
+            let Ok(identifier) = ObjectIdentifier::<39>::from_bytes(octets) else {
                 break;
             };
             identifiers.push(identifier)?;
@@ -35,7 +35,7 @@ impl Identifiers {
     ///
     /// Want of memory.
     pub fn entries(&self, alloc: Global) -> Result<Vec<(&ObjectIdentifier<39>, &str)>, AllocError> {
-        let mut entries = Vec::new(alloc);
+        let mut entries = Vec::with_capacity(alloc, KNOWN_NAMES.len())?;
         for (identifier, known) in self.identifiers.iter().zip(&KNOWN_NAMES) {
             entries.push((identifier, known.1))?;
         }

@@ -29,6 +29,6 @@ pub use identifiers::{Identifiers, Named};
 pub use kind::Kind;
 pub use lists::describe_list;
 pub use reading::{read_file, tell};
-pub use refusal::{add_certificate_fault, explain_octets, is_pem};
+pub use refusal::{add_certificate_fault, explain_octets, is_pem, serial_remark};
 pub use requests::describe_request;
 pub use running::{run_describe, run_explain};

@@ -3,14 +3,14 @@
 use std::fmt;
 
 // The digits in base 16, of each value of a half octet.
-const DIGITS: [char; 16] = [
-    '0', '1', '2', '3', '4', '5', '6', '7', '8', '9', 'A', 'B', 'C', 'D', 'E', 'F',
+const DIGITS: [&str; 16] = [
+    "0", "1", "2", "3", "4", "5", "6", "7", "8", "9", "A", "B", "C", "D", "E", "F",
 ];
 
 // Prints an octet in base 16.
 fn pair<W: fmt::Write>(octet: u8, f: &mut fmt::Formatter<W>) -> fmt::Result {
-    f.write_char(DIGITS[usize::from(octet >> 4)])?;
-    f.write_char(DIGITS[usize::from(octet & 15)])
+    f.write_str(DIGITS[usize::from(octet >> 4)])?;
+    f.write_str(DIGITS[usize::from(octet & 15)])
 }
 
 // Octets in base 16, with a colon between them.
@@ -22,7 +22,7 @@ impl fmt::Display for Colons<'_> {
         let mut is_first = true;
         for octet in self.0 {
             if !is_first {
-                f.write_char(':')?;
+                f.write_str(":")?;
             }
             is_first = false;
             pair(*octet, f)?;
@@ -44,7 +44,7 @@ impl fmt::Display for Number<'_> {
                 amount(rest, f)
             }
             [first, ..] if *first >= 0x80 => {
-                f.write_char('-')?;
+                f.write_str("-")?;
                 opposite(self.0, f)
             }
             octets => amount(octets, f),
@@ -77,14 +77,26 @@ fn opposite<W: fmt::Write>(octets: &[u8], f: &mut fmt::Formatter<W>) -> fmt::Res
 #[derive(Clone, Copy)]
 pub(crate) struct Plain<'a>(pub(crate) &'a str);
 
+// The octet of a control character of ASCII.
+fn control_octet(letter: char) -> Option<u8> {
+    if letter < ' ' || letter == '\x7f' {
+        return Some(letter as u8);
+    }
+    None
+}
+
 impl fmt::Display for Plain<'_> {
     fn fmt<W: fmt::Write>(&self, f: &mut fmt::Formatter<W>) -> fmt::Result {
+        if !self.0.chars().any(|letter| control_octet(letter).is_some()) {
+            return f.write_str(self.0);
+        }
         for letter in self.0.chars() {
-            if letter < ' ' || letter == '\x7f' {
-                f.write_char('\\')?;
-                pair(letter as u8, f)?;
-            } else {
-                f.write_char(letter)?;
+            match control_octet(letter) {
+                Some(octet) => {
+                    f.write_str("\\")?;
+                    pair(octet, f)?;
+                }
+                None => f.write_char(letter)?,
             }
         }
         Ok(())

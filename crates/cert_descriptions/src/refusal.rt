@@ -90,13 +90,42 @@ fn add_profile_fault<T: Drop>(
     }
 }
 
+/// What RFC 5280 4.1.2.2 forbids of a serial number that is read all the same, as a line; nothing
+/// where it is above zero and of at most 20 octets (and one for the sign).
+pub fn serial_remark(serial: &[u8]) -> &'static str {
+    match serial {
+        [0] => "remark: the serial number is zero (RFC 5280 4.1.2.2)\n",
+        [first, ..] if *first >= 0x80 => {
+            "remark: the serial number is below zero (RFC 5280 4.1.2.2)\n"
+        }
+        _ => {
+            if serial.len() > 21 {
+                return "remark: the serial number has more than 20 octets (RFC 5280 4.1.2.2)\n";
+            }
+            ""
+        }
+    }
+}
+
+// What is said besides of octets that should be a certificate.
+fn remark_of(read: &Result<CertificateInner<Raw>, Error>) -> &'static str {
+    match read {
+        Ok(certificate) => serial_remark(certificate.tbs_certificate().serial_number().as_bytes()),
+        Err(error) => match error.kind {
+            ErrorKind::TrailingData => "  (of several certificates `cert_tool split` gives each)\n",
+            _ => "",
+        },
+    }
+}
+
 fn add_certificate(alloc: Global, text: &mut String, octets: &[u8]) -> Result<(), AllocError> {
     let read = CertificateInner::<Raw>::from_der(alloc, octets);
+    let remark = remark_of(&read);
     if add_whole(text, octets, Node::Certificate, read)? {
         let read = CertificateInner::<Rfc5280>::from_der(alloc, octets);
         add_profile_fault(text, octets, Node::Certificate, read)?;
     }
-    Ok(())
+    text.push_str(remark)
 }
 
 fn add_list(alloc: Global, text: &mut String, octets: &[u8]) -> Result<(), AllocError> {

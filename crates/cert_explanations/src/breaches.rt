@@ -198,7 +198,8 @@ fn add_place<J: SignatureJudge>(
 
 /// What each certificate of a chain breaks, with its first reason; the rules have the names that a
 /// check prints. What no rule forbids and is unwise is told as a remark: dates behind the issuer's,
-/// a serial number that an earlier one of the same issuer has, a DNS name that is none.
+/// a serial number that is zero, negative, long, or that an earlier one of the same issuer has, a
+/// DNS name that is none.
 ///
 /// # Errors
 ///

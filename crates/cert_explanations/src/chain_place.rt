@@ -26,6 +26,11 @@ impl<'a> ChainPlace<'a> {
         })
     }
 
+    // The chain.
+    pub(crate) fn bundle(&self) -> &'a Bundle {
+        self.bundle
+    }
+
     // The number of the place, counted from 0.
     pub(crate) fn number(&self) -> usize {
         self.number
@@ -41,12 +46,12 @@ impl<'a> ChainPlace<'a> {
         self.signed
     }
 
-    // Its issuer.
+    // The issuer.
     pub(crate) fn issuer(&self) -> &'a Name {
         self.certificate.tbs_certificate().issuer()
     }
 
-    // Its extensions, in their order.
+    // The extensions, in their order.
     pub(crate) fn extensions(&self) -> &'a [Extension] {
         match self.certificate.tbs_certificate().extensions() {
             Some(extensions) => extensions.as_slice(),

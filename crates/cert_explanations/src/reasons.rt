@@ -1,11 +1,11 @@
 //! Why a certificate breaks a rule of its extensions, or of path lengths.
 
 use crate::breaches::Question;
-use crate::causes::{Cause, cause_of, content_fault};
 use crate::chain_place::ChainPlace;
+use crate::content_fault::content_fault;
 use cert_descriptions::Named;
-use cert_desk_checking::Rule;
 use cert_desk_checking::types::Extension;
+use cert_desk_checking::{Reason, Rule, reason_of};
 use std::alloc::{AllocError, Global};
 
 // Adds how an extension breaks a rule by itself.
@@ -46,23 +46,23 @@ fn add_against(
     Ok(())
 }
 
-// Adds a cause, behind the rule that is broken.
-fn add_cause(
+// Adds a reason, behind the rule that is broken.
+fn add_reason(
     alloc: Global,
     text: &mut String,
     place: &ChainPlace<'_>,
     rule: Rule,
-    cause: Cause,
+    reason: Reason,
     question: &Question<'_, '_>,
 ) -> Result<(), AllocError> {
     write!(text, "  {rule}: ")?;
-    match cause {
-        Cause::Extension(number) => {
+    match reason {
+        Reason::Extension(number) => {
             if let Some(extension) = place.extensions().get(number) {
                 add_against(alloc, text, rule, extension, question)?;
             }
         }
-        Cause::Twins { first, second } => {
+        Reason::Twins { first, second } => {
             if let Some(extension) = place.extensions().get(first) {
                 let kind = Named {
                     identifier: extension.extn_id,
@@ -74,10 +74,10 @@ fn add_cause(
                 )?;
             }
         }
-        Cause::NoConstraints => {
+        Reason::NoConstraints => {
             text.push_str("no basicConstraints make it an authority (RFC 5280 6.1.4 (k))")?;
         }
-        Cause::PathLength { place } => {
+        Reason::PathLength { place } => {
             write!(
                 text,
                 "more authorities follow than certificate {place} allows (RFC 5280 4.2.1.9)"
@@ -95,8 +95,15 @@ pub(crate) fn add_breach(
     rule: Rule,
     question: &Question<'_, '_>,
 ) -> Result<(), AllocError> {
-    match cause_of(alloc, place, rule, &question.purpose)? {
-        Some(cause) => add_cause(alloc, text, place, rule, cause, question),
+    let reason = reason_of(
+        alloc,
+        place.bundle(),
+        place.number(),
+        rule,
+        &question.purpose,
+    )?;
+    match reason {
+        Some(reason) => add_reason(alloc, text, place, rule, reason, question),
         None => Ok(()),
     }
 }

@@ -1,7 +1,7 @@
 //! What no rule of a chain forbids, and who issued it may not have meant.
 
 use crate::chain_place::ChainPlace;
-use cert_descriptions::add_general_name;
+use cert_descriptions::{add_general_name, serial_remark};
 use cert_desk_checking::types::{Extension, GeneralName, SubjectAltName};
 use const_oid::Database;
 use der_core::from_der;
@@ -23,8 +23,18 @@ fn add_date_remark(text: &mut String, place: &ChainPlace<'_>) -> Result<(), Allo
     Ok(())
 }
 
-// Adds which earlier certificate has the same issuer and serial number (RFC 5280 4.1.2.2).
+// Adds what RFC 5280 4.1.2.2 forbids of the serial number by itself.
 fn add_serial_remark(text: &mut String, place: &ChainPlace<'_>) -> Result<(), AllocError> {
+    let serial = place.certificate().tbs_certificate().serial_number();
+    let remark = serial_remark(serial.as_bytes());
+    if !remark.is_empty() {
+        write!(text, "  {remark}")?;
+    }
+    Ok(())
+}
+
+// Adds which earlier certificate has the same issuer and serial number (RFC 5280 4.1.2.2).
+fn add_twin_remark(text: &mut String, place: &ChainPlace<'_>) -> Result<(), AllocError> {
     let serial = place.certificate().tbs_certificate().serial_number();
     for distance in 1..=place.number() {
         let Some(earlier) = place.earlier(distance) else {
@@ -90,6 +100,7 @@ pub(crate) fn add_remarks(
 ) -> Result<(), AllocError> {
     add_date_remark(text, place)?;
     add_serial_remark(text, place)?;
+    add_twin_remark(text, place)?;
     for extension in place.extensions() {
         add_host_remarks(alloc, text, extension, names)?;
     }

@@ -27,7 +27,7 @@ pub fn run_explain_anchors<I: Input, O: Output, E: Output>(
     }
 }
 
-/// The same of a stream, as `explain_stream` says it.
+/// What `explain_stream` says of the stream that an input gives.
 pub fn run_explain_stream<I: Input, O: Output, E: Output>(
     alloc: Global,
     input: &mut I,

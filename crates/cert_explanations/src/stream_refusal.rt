@@ -3,8 +3,7 @@
 ghost use Rattle.std.specs.Prelude.{◌≤◌};
 
 use cert_descriptions::{add_certificate_fault, is_pem};
-use cert_desk_checking::{Bundle, BundleError, CertificateInner, FaultKind, Raw};
-use der_core::{ErrorKind, header_of};
+use cert_desk_checking::{Bundle, BundleError, FaultKind, first_fault};
 use std::alloc::{AllocError, Global};
 
 // What is said of certificates in PEM.
@@ -36,18 +35,9 @@ pub(crate) fn add_malformed(
     rest: &[u8],
     offset: u64,
 ) -> Result<(), AllocError> {
-    let Ok((header, taken)) = header_of(rest) else {
-        return Ok(());
-    };
-    let len = taken
-        .saturating_add(header.length.value as usize)
-        .min(rest.len());
-    match CertificateInner::<Raw>::from_der(alloc, &rest[..len]) {
-        Ok(_) => Ok(()),
-        Err(error) => match error.kind {
-            ErrorKind::OutOfMemory => Err(AllocError),
-            _ => add_certificate_fault(text, &rest[..len], offset, &error),
-        },
+    match first_fault(alloc, rest)? {
+        Some(error) => add_certificate_fault(text, rest, offset, &error),
+        None => Ok(()),
     }
 }
 

@@ -3,8 +3,8 @@
 ghost use Rattle.std.specs.Prelude.{◌≤◌, IfOk};
 
 use crate::telling::{tell, tell_wrong};
-use cert_descriptions::Kind;
 use cert_desk_io::{ExitStatus, Output};
+use cert_explanations::Kind;
 use const_oid::ObjectIdentifier;
 use der_types_time::DateTime;
 use std::time::{SystemTime, UNIX_EPOCH};

@@ -4,11 +4,10 @@ ghost use Rattle.std.specs.Prelude.{◌≤◌};
 
 use crate::arguments::{kind_of, limit_of, terms_of};
 use crate::files::{open, tell_failure};
-use crate::help::EXPLAIN;
+use crate::help::{CHAIN, EXPLAIN};
 use crate::telling::tell_usage;
-use cert_descriptions::run_explain;
 use cert_desk_io::{ExitStatus, Output, ToWrite};
-use cert_explanations::{run_explain_anchors, run_explain_chain, run_explain_stream};
+use cert_explanations::{run_explain, run_explain_anchors, run_explain_chain, run_explain_stream};
 use cert_tool_runs::{AnswersJudge, read_answers, tell_none};
 use std::io;
 
@@ -20,29 +19,28 @@ pub fn explain<E: Output>(
     err: &mut E,
 ) -> Result<ExitStatus, ExitStatus> {
     let [kind, words @ ..] = words else {
-        return Err(tell_usage(err, EXPLAIN));
+        return Err(tell_usage(err, &["KIND"], words, EXPLAIN));
     };
-    match (kind.as_str(), words) {
-        ("chain", words) => explain_chain(rt, words, err),
-        ("stream", [file, limit]) => explain_stream(rt, file.as_str(), limit.as_str(), err),
-        ("anchors", [file]) => explain_anchors(rt, file.as_str(), err),
-        (kind, [file]) => explain_file(rt, kind, file.as_str(), err),
-        _ => Err(tell_usage(err, EXPLAIN)),
+    match kind.as_str() {
+        "chain" => explain_chain(rt, words, err),
+        "stream" => explain_stream(rt, words, err),
+        "anchors" => explain_anchors(rt, words, err),
+        kind => explain_file(rt, kind, words, err),
     }
 }
 
 fn explain_file<E: Output>(
     rt: &HostRuntime,
     kind: &str,
-    file: &str,
+    words: &[String],
     err: &mut E,
 ) -> Result<ExitStatus, ExitStatus> {
-    let kind = kind_of(
-        kind,
-        "certificate, list, request, anchors, stream or chain",
-        err,
-    )?;
-    let mut file = open(rt, file, err)?;
+    let wanted = "certificate, list (of revoked certificates), request, anchors, stream or chain";
+    let kind = kind_of(kind, wanted, err)?;
+    let [file] = words else {
+        return Err(tell_usage(err, &["FILE"], words, EXPLAIN));
+    };
+    let mut file = open(rt, file.as_str(), err)?;
     let status = run_explain(
         rt.alloc(),
         &mut file.input,
@@ -56,10 +54,13 @@ fn explain_file<E: Output>(
 
 fn explain_anchors<E: Output>(
     rt: &HostRuntime,
-    file: &str,
+    words: &[String],
     err: &mut E,
 ) -> Result<ExitStatus, ExitStatus> {
-    let mut file = open(rt, file, err)?;
+    let [file] = words else {
+        return Err(tell_usage(err, &["FILE"], words, EXPLAIN));
+    };
+    let mut file = open(rt, file.as_str(), err)?;
     let status = run_explain_anchors(
         rt.alloc(),
         &mut file.input,
@@ -72,12 +73,14 @@ fn explain_anchors<E: Output>(
 
 fn explain_stream<E: Output>(
     rt: &HostRuntime,
-    file: &str,
-    limit: &str,
+    words: &[String],
     err: &mut E,
 ) -> Result<ExitStatus, ExitStatus> {
-    let limit = limit_of(limit, err)?;
-    let mut file = open(rt, file, err)?;
+    let [file, limit] = words else {
+        return Err(tell_usage(err, &["STREAM", "LIMIT"], words, EXPLAIN));
+    };
+    let limit = limit_of(limit.as_str(), err)?;
+    let mut file = open(rt, file.as_str(), err)?;
     let status = run_explain_stream(
         rt.alloc(),
         &mut file.input,
@@ -112,7 +115,7 @@ fn explain_chain<E: Output>(
     err: &mut E,
 ) -> Result<ExitStatus, ExitStatus> {
     let [anchors, stream, moment, purpose, limit, answers] = words else {
-        return Err(tell_usage(err, EXPLAIN));
+        return Err(tell_usage(err, &CHAIN, words, EXPLAIN));
     };
     let terms = terms_of(rt, [moment.as_str(), purpose.as_str(), limit.as_str()], err)?;
     let mut judge = judge_of(rt, answers.as_str(), err)?;

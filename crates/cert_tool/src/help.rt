@@ -9,8 +9,7 @@ pub const USAGE: &str = "usage: cert_tool WORD ARGUMENTS, where WORD is one of
   describe KIND FILE                                          what a file says
   explain KIND FILE | explain stream STREAM LIMIT             why octets are refused, and where
   explain chain ANCHORS STREAM MOMENT PURPOSE LIMIT ANSWERS   which rules are broken, and why
-KIND is certificate, list or request, to explain also anchors.
-cert_tool WORD --help tells more of a word.
+cert_tool WORD --help tells more of a word and of its arguments.
 ";
 
 /// What is said of `questions`.
@@ -42,21 +41,27 @@ the certificate first that an anchor signed.
 
 /// What is said of `describe`.
 pub const DESCRIBE: &str = "usage: cert_tool describe KIND FILE
-Writes what FILE says, a line for each part. KIND is certificate, list or request.
+Writes what FILE says, a line for each part. Of a file of several certificates `split` gives each:
+cert_tool split FILE LIMIT 0 | cert_tool describe certificate -
 ";
 
 /// What is said of `explain`.
 pub const EXPLAIN: &str = "usage: cert_tool explain KIND FILE
        cert_tool explain stream STREAM LIMIT
        cert_tool explain chain ANCHORS STREAM MOMENT PURPOSE LIMIT ANSWERS
-Writes the first fault of FILE, the octet where it stands, and the parts around it; KIND is
-certificate, list, request or anchors. Of a chain it writes which rules each certificate breaks, and
-why, and what is unwise; /dev/null may stand as ANSWERS.
+Writes the first fault of FILE, the octet where it stands, and the parts around it. Of a chain it
+writes which rules each certificate breaks, and why, and what is unwise; without answers, which
+/dev/null stands for, every signature counts as wrong.
 ";
+
+/// The arguments of a chain that is judged.
+pub const CHAIN: [&str; 6] = ["ANCHORS", "STREAM", "MOMENT", "PURPOSE", "LIMIT", "ANSWERS"];
 
 /// What is said of arguments, below a word.
 pub const ARGUMENTS: &str =
-    "ANCHORS  a file of trust anchors in DER: certificates, one behind the other
+    "KIND     certificate, list (of revoked certificates) or request; to explain also anchors
+FILE     a file in DER: openssl x509, crl or req with -outform DER makes it of PEM
+ANCHORS  a file of trust anchors in DER: certificates, one behind the other
 STREAM   a file of certificates in DER, one behind the other, the one that an anchor signed first
 MOMENT   now, YYYY-MM-DDTHH:MM:SSZ, or seconds since 1970-01-01T00:00:00Z
 PURPOSE  a name as serverAuth, or an identifier in dotted arcs

@@ -23,9 +23,29 @@ pub fn tell_wrong<E: Output>(err: &mut E, name: &str, given: &str, wanted: &str)
     )
 }
 
-/// Says how a word is called.
-pub fn tell_usage<E: Output>(err: &mut E, usage: &str) -> ExitStatus {
-    tell(err, &[usage, ARGUMENTS], ExitStatus::Arguments)
+/// Says which of these arguments of a word is missing, or which one is too many, and how the word
+/// is called.
+pub fn tell_usage<E: Output>(
+    err: &mut E,
+    names: &[&str],
+    given: &[String],
+    usage: &str,
+) -> ExitStatus {
+    let status = ExitStatus::Arguments;
+    if let Some(name) = names.get(given.len()) {
+        return tell(err, &[name, " is missing\n", usage, ARGUMENTS], status);
+    }
+    match given.get(names.len()) {
+        Some(word) => {
+            let word = word.as_str();
+            tell(
+                err,
+                &["\"", word, "\" is one too many\n", usage, ARGUMENTS],
+                status,
+            )
+        }
+        None => tell(err, &[usage, ARGUMENTS], status),
+    }
 }
 
 /// Says which words there are.
@@ -33,13 +53,39 @@ pub fn tell_words<E: Output>(err: &mut E) -> ExitStatus {
     tell(err, &[USAGE], ExitStatus::Arguments)
 }
 
-/// Says which word tells more of a chain that isn't trusted, and answers the status.
-pub fn tell_more<E: Output>(err: &mut E, status: ExitStatus) -> ExitStatus {
-    let word = match status {
-        ExitStatus::Refused => "(cert_tool explain chain, with the same arguments, says why)\n",
-        ExitStatus::Faulty => "(cert_tool explain stream says why)\n",
-        ExitStatus::Arguments => "(cert_tool explain anchors says more of anchors)\n",
-        _ => return status,
-    };
-    tell(err, &[word], status)
+/// Says what tells more of a stream that isn't certificates, and answers the status.
+pub fn tell_fault<E: Output>(
+    err: &mut E,
+    status: ExitStatus,
+    stream: &str,
+    limit: &str,
+) -> ExitStatus {
+    match status {
+        ExitStatus::Faulty => {
+            let parts = ["(why: cert_tool explain stream ", stream, " ", limit, ")\n"];
+            tell(err, &parts, status)
+        }
+        _ => status,
+    }
+}
+
+/// Says what tells more of a chain that isn't trusted, and answers the status.
+pub fn tell_more<E: Output>(
+    err: &mut E,
+    status: ExitStatus,
+    anchors: &str,
+    stream: &str,
+    limit: &str,
+) -> ExitStatus {
+    match status {
+        ExitStatus::Refused => {
+            let part = "(why: cert_tool explain chain, with the same arguments)\n";
+            tell(err, &[part], status)
+        }
+        ExitStatus::Arguments => {
+            let parts = ["(of anchors: cert_tool explain anchors ", anchors, ")\n"];
+            tell(err, &parts, status)
+        }
+        _ => tell_fault(err, status, stream, limit),
+    }
 }

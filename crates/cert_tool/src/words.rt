@@ -4,10 +4,10 @@ ghost use Rattle.std.specs.Prelude.{◌≤◌};
 
 use crate::arguments::{kind_of, limit_of, place_of, terms_of};
 use crate::files::{open, tell_failure};
-use crate::help::{DESCRIBE, QUESTIONS, REVERSE, SPLIT, VERIFY};
-use crate::telling::{tell_more, tell_usage};
-use cert_descriptions::run_describe;
+use crate::help::{CHAIN, DESCRIBE, QUESTIONS, REVERSE, SPLIT, VERIFY};
+use crate::telling::{tell_fault, tell_more, tell_usage};
 use cert_desk_io::{ExitStatus, Output, ToWrite};
+use cert_explanations::run_describe;
 use cert_tool_runs::{run_list, run_questions, run_reverse, run_take, run_verify};
 use std::io;
 
@@ -18,9 +18,10 @@ pub fn questions<E: Output>(
     err: &mut E,
 ) -> Result<ExitStatus, ExitStatus> {
     let [anchors, stream, limit] = words else {
-        return Err(tell_usage(err, QUESTIONS));
+        let names = ["ANCHORS", "STREAM", "LIMIT"];
+        return Err(tell_usage(err, &names, words, QUESTIONS));
     };
-    let limit = limit_of(limit.as_str(), err)?;
+    let most = limit_of(limit.as_str(), err)?;
     let mut anchors = open(rt, anchors.as_str(), err)?;
     let mut stream = open(rt, stream.as_str(), err)?;
     let status = run_questions(
@@ -29,11 +30,11 @@ pub fn questions<E: Output>(
         &mut stream.input,
         &mut ToWrite::new(io::writer(rt)),
         err,
-        limit,
+        most,
     );
     tell_failure(&anchors, err);
     tell_failure(&stream, err);
-    Ok(tell_more(err, status))
+    Ok(tell_more(err, status, anchors.name, stream.name, limit.as_str()))
 }
 
 /// `verify ANCHORS STREAM MOMENT PURPOSE LIMIT ANSWERS`.
@@ -43,7 +44,7 @@ pub fn verify<E: Output>(
     err: &mut E,
 ) -> Result<ExitStatus, ExitStatus> {
     let [anchors, stream, moment, purpose, limit, answers] = words else {
-        return Err(tell_usage(err, VERIFY));
+        return Err(tell_usage(err, &CHAIN, words, VERIFY));
     };
     let terms = terms_of(rt, [moment.as_str(), purpose.as_str(), limit.as_str()], err)?;
     let mut anchors = open(rt, anchors.as_str(), err)?;
@@ -63,7 +64,7 @@ pub fn verify<E: Output>(
     tell_failure(&answers, err);
     tell_failure(&anchors, err);
     tell_failure(&stream, err);
-    Ok(tell_more(err, status))
+    Ok(tell_more(err, status, anchors.name, stream.name, limit.as_str()))
 }
 
 /// `split STREAM LIMIT [PLACE]`.
@@ -73,16 +74,9 @@ pub fn split<E: Output>(
     err: &mut E,
 ) -> Result<ExitStatus, ExitStatus> {
     match words {
-        [stream, limit] => {
-            let limit = limit_of(limit.as_str(), err)?;
-            list(rt, stream.as_str(), limit, err)
-        }
-        [stream, limit, place] => {
-            let limit = limit_of(limit.as_str(), err)?;
-            let place = place_of(place.as_str(), err)?;
-            take(rt, stream.as_str(), limit, place, err)
-        }
-        _ => Err(tell_usage(err, SPLIT)),
+        [stream, limit] => list(rt, stream.as_str(), limit.as_str(), err),
+        [stream, limit, place] => { take(rt, stream.as_str(), limit.as_str(), place.as_str(), err) }
+        _ => Err(tell_usage(err, &["STREAM", "LIMIT", "PLACE"], words, SPLIT)),
     }
 }
 
@@ -90,44 +84,43 @@ pub fn split<E: Output>(
 fn list<E: Output>(
     rt: &HostRuntime,
     stream: &str,
-    limit: u32,
+    limit: &str,
     err: &mut E,
-) -> Result<ExitStatus, ExitStatus>
-    requires { 6 ≤ limit }
-{
+) -> Result<ExitStatus, ExitStatus> {
+    let most = limit_of(limit, err)?;
     let mut stream = open(rt, stream, err)?;
     let status = run_list(
         rt.alloc(),
         &mut stream.input,
         &mut ToWrite::new(io::writer(rt)),
         err,
-        limit,
+        most,
     );
     tell_failure(&stream, err);
-    Ok(status)
+    Ok(tell_fault(err, status, stream.name, limit))
 }
 
 // Takes one certificate out of a stream.
 fn take<E: Output>(
     rt: &HostRuntime,
     stream: &str,
-    limit: u32,
-    place: usize,
+    limit: &str,
+    place: &str,
     err: &mut E,
-) -> Result<ExitStatus, ExitStatus>
-    requires { 6 ≤ limit }
-{
+) -> Result<ExitStatus, ExitStatus> {
+    let most = limit_of(limit, err)?;
+    let place = place_of(place, err)?;
     let mut stream = open(rt, stream, err)?;
     let status = run_take(
         rt.alloc(),
         &mut stream.input,
         &mut ToWrite::new(io::writer(rt)),
         err,
-        limit,
+        most,
         place,
     );
     tell_failure(&stream, err);
-    Ok(status)
+    Ok(tell_fault(err, status, stream.name, limit))
 }
 
 /// `reverse STREAM LIMIT`.
@@ -137,19 +130,19 @@ pub fn reverse<E: Output>(
     err: &mut E,
 ) -> Result<ExitStatus, ExitStatus> {
     let [stream, limit] = words else {
-        return Err(tell_usage(err, REVERSE));
+        return Err(tell_usage(err, &["STREAM", "LIMIT"], words, REVERSE));
     };
-    let limit = limit_of(limit.as_str(), err)?;
+    let most = limit_of(limit.as_str(), err)?;
     let mut stream = open(rt, stream.as_str(), err)?;
     let status = run_reverse(
         rt.alloc(),
         &mut stream.input,
         &mut ToWrite::new(io::writer(rt)),
         err,
-        limit,
+        most,
     );
     tell_failure(&stream, err);
-    Ok(status)
+    Ok(tell_fault(err, status, stream.name, limit.as_str()))
 }
 
 /// `describe KIND FILE`.
@@ -159,9 +152,10 @@ pub fn describe<E: Output>(
     err: &mut E,
 ) -> Result<ExitStatus, ExitStatus> {
     let [kind, file] = words else {
-        return Err(tell_usage(err, DESCRIBE));
+        return Err(tell_usage(err, &["KIND", "FILE"], words, DESCRIBE));
     };
-    let kind = kind_of(kind.as_str(), "certificate, list or request", err)?;
+    let wanted = "certificate, list (of revoked certificates) or request";
+    let kind = kind_of(kind.as_str(), wanted, err)?;
     let mut file = open(rt, file.as_str(), err)?;
     let status = run_describe(
         rt.alloc(),

@@ -3,8 +3,8 @@
 ghost use Rattle.std.specs.Prelude.{◌≤◌, IfOk};
 
 use crate::refusals::Refusal;
-use cert_descriptions::Kind;
 use cert_desk_io::FromRead;
+use cert_explanations::Kind;
 use const_oid::ObjectIdentifier;
 use std::fs::File;
 

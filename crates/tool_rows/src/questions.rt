@@ -5,9 +5,10 @@ ghost use Rattle.std.specs.Prelude.{◌≤◌};
 use crate::files::{kind, limit_of, number, open, purpose};
 use crate::refusals::Refusal;
 use crate::tellings::Telling;
-use cert_descriptions::{run_describe, run_explain};
 use cert_desk_io::ExitStatus;
-use cert_explanations::{run_explain_anchors, run_explain_chain, run_explain_stream};
+use cert_explanations::{
+    run_describe, run_explain, run_explain_anchors, run_explain_chain, run_explain_stream,
+};
 use cert_tool_runs::{
     AnswersJudge, read_answers, run_list, run_questions, run_reverse, run_take, run_verify,
 };

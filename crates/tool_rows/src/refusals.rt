@@ -6,7 +6,7 @@ use std::{fmt, io};
 /// Why a question isn't answered.
 #[derive(Debug, Drop)]
 pub enum Refusal {
-    /// It isn't understood.
+    /// The question isn't understood.
     Unread,
     /// A file can't be read.
     File,
