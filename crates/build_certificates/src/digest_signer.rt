@@ -2,50 +2,56 @@
 
 use const_oid::ObjectIdentifier;
 use der_core::Error;
-use rand_core::CryptoRng;
+use der_core::making::octets_in_range;
 use sha2::{Digest, Sha256};
 use std::alloc::Global;
-use x509_cert::builder::{IdentifiedKey, SignError, Signer};
-use x509_cert::{AlgorithmIdentifier, BitString, SubjectKeyIdentifier, SubjectPublicKeyInfo};
+use std::cell::RefCell;
+use x509_cert::builder::{SignError, Signer};
+use x509_cert::{AlgorithmIdentifier, BitString, SubjectPublicKeyInfo};
 
 /// A signer whose bits are the SHA-256 digest of its key's octets and the signed ones. It protects
-/// nothing: it stands where a key in memory, in a device or behind a process stands.
+/// nothing: it stands where a key in memory or in a device stands. The hasher is changed by each
+/// call, as the handle of a device is.
 #[derive(Drop)]
 pub struct DigestSigner {
-    key: IdentifiedKey,
+    key: SubjectPublicKeyInfo,
     algorithm: AlgorithmIdentifier,
+    hasher: RefCell<Sha256>,
 }
 
 impl DigestSigner {
     /// The signer of this key, by an algorithm under the arc for examples (RFC 5612).
-    pub fn new(key: IdentifiedKey) -> Result<DigestSigner, Error> {
+    pub fn new(key: SubjectPublicKeyInfo) -> Result<DigestSigner, Error> {
         let oid = ObjectIdentifier::new("1.3.6.1.4.1.32473.2")?;
         let algorithm = AlgorithmIdentifier {
             oid,
             parameters: None,
         };
-        Ok(DigestSigner { key, algorithm })
+        Ok(DigestSigner {
+            key,
+            algorithm,
+            hasher: RefCell::new(Sha256::new()),
+        })
     }
 }
 
 impl Signer for DigestSigner {
-    ghost use Rattle.std.specs.Prelude.{⊤};
-    ghost use Rattle.x509_cert.specs.Views.{algorithm_plain};
+    ghost use Rattle.std.specs.Prelude.{◌≡◌, ⊤, length};
+    ghost use Rattle.der_core_head.specs.Octets.{IsOctets};
+    ghost use Rattle.x509_cert.specs.Views.{algorithm_plain, key_plain};
 
-    ghost public_key = { λ s. s.key };
+    ghost public_key = { λ s. key_plain s.key };
 
     ghost signs_by = { λ s. algorithm_plain s.algorithm };
 
-    ghost signs = { λ _ _ _. ⊤ };
+    // Whole octets, as many as a digest has.
+    ghost signs = { λ _ _ b. (b.unused ≡ 0) × IsOctets b.octets × (length b.octets ≡ 32) };
 
-    ghost may_refuse = { λ _ _. ⊥ };
+    // The hasher may be in use.
+    ghost may_refuse = { λ _ _. ⊤ };
 
     fn key_info(&self) -> &SubjectPublicKeyInfo {
-        self.key.info()
-    }
-
-    fn key_identifier(&self) -> Option<&SubjectKeyIdentifier> {
-        Some(self.key.identifier())
+        &self.key
     }
 
     fn algorithm(&self) -> &AlgorithmIdentifier {
@@ -53,23 +59,17 @@ impl Signer for DigestSigner {
     }
 
     fn sign(&self, alloc: Global, octets: &[u8]) -> Result<BitString, SignError> {
-        let mut hasher = Sha256::new();
-        hasher.update(self.key.info().subject_public_key.raw_bytes());
+        let Ok(mut hasher) = self.hasher.try_borrow_mut() else {
+            return Err(SignError::Refused);
+        };
+        hasher.update(self.key.subject_public_key.raw_bytes());
         hasher.update(octets);
-        let digest = hasher.finalize().as_slice().to_vec(alloc)?;
+        let digest = hasher.finalize_reset().as_slice().to_vec(alloc)?;
+        octets_in_range(digest.as_slice());
         match BitString::from_bytes(digest) {
             Ok(bits) => Ok(bits),
-            Err(_) => Err(SignError::OutOfMemory),
+            // A digest has 32 octets.
+            Err(_) => unreachable!(),
         }
-    }
-
-    fn sign_with_rng<R: CryptoRng>(
-        &self,
-        alloc: Global,
-        _rng: &mut R,
-        octets: &[u8],
-    ) -> Result<BitString, SignError> {
-        let bits = self.sign(alloc, octets)?;
-        Ok(bits)
     }
 }

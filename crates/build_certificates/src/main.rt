@@ -1,16 +1,19 @@
 //! Makes a root, an authority below it, a server's certificate, a list of what the authority
-//! revoked and a request of the server, and prints each as a line of hex.
+//! revoked, a request of the server and the certificate that is issued for it, and prints each as a
+//! line of hex.
 #![tactic(auto)]
 
+mod answering;
 mod digest_signer;
 
+use answering::issued;
 use der_core::{Encode, from_der, to_der};
 use digest_signer::DigestSigner;
 use std::alloc::Global;
 use std::io;
 use std::str::FromStr;
 use x509_cert::builder::{
-    Builder, BuilderProfile, CertificateBuilder, CertificateType, CrlBuilder, Error, IdentifiedKey,
+    Builder, BuilderProfile, CertificateBuilder, CertificateType, CrlBuilder, Error,
     RequestBuilder, Root, Subordinate, Subscriber, Tls12Options,
 };
 use x509_cert::{
@@ -44,7 +47,7 @@ fn key_of(alloc: Global, octets: &[u8]) -> Result<SubjectPublicKeyInfo, Error> {
 }
 
 /// From when until when all of them are valid.
-fn validity() -> Result<Validity, Error> {
+pub(crate) fn validity() -> Result<Validity, Error> {
     let from = Time::from_str("2026-01-01T00:00:00Z")?;
     let until = Time::from_str("2036-01-01T00:00:00Z")?;
     Ok(Validity::new(from, until))
@@ -100,10 +103,13 @@ fn domain(alloc: Global) -> Result<SubjectAltName, Error> {
     Ok(SubjectAltName(names))
 }
 
-/// The profile of a server whose domain was validated.
-fn profile_of_server(alloc: Global, authority: &Certificate) -> Result<Subscriber, Error> {
+/// The profile of a server of this name whose domain was validated.
+pub(crate) fn profile_of_server(
+    alloc: Global,
+    subject: Name,
+    authority: &Certificate,
+) -> Result<Subscriber, Error> {
     let issuer = authority.tbs_certificate().subject().clone(alloc)?;
-    let subject = Name::from_str(alloc, "CN=server.example")?;
     let certificate_type = CertificateType::domain_validated(alloc, subject, Vec::new(alloc))?;
     Ok(Subscriber {
         certificate_type,
@@ -121,7 +127,8 @@ fn server(
     authority: &Certificate,
     signer: &DigestSigner,
 ) -> Result<Certificate, Error> {
-    let profile = profile_of_server(alloc, authority)?;
+    let subject = Name::from_str(alloc, "CN=server.example")?;
+    let profile = profile_of_server(alloc, subject, authority)?;
     let mut builder = builder_of(alloc, profile, 3, SERVER)?;
     builder.add_extension(alloc, &domain(alloc)?)?;
     let certificate = builder.build(alloc, signer)?;
@@ -171,10 +178,9 @@ fn request(alloc: Global, signer: &DigestSigner) -> Result<CertReq, Error> {
     Ok(request)
 }
 
-/// The signer of the key that is the encoding of these octets, which is digested here and not
-/// again.
+/// The signer of the key that is the encoding of these octets.
 fn signer_of(alloc: Global, key: &[u8]) -> Result<DigestSigner, Error> {
-    let key = IdentifiedKey::new(alloc, key_of(alloc, key)?)?;
+    let key = key_of(alloc, key)?;
     let signer = DigestSigner::new(key)?;
     Ok(signer)
 }
@@ -228,7 +234,7 @@ fn add_authority(alloc: Global, text: &mut String, authority: &Certificate) -> R
     add_signed(alloc, text, authority, &signer)
 }
 
-/// Adds the server that an authority certifies, and its list.
+/// Adds the server that an authority certifies, its list, and what it answers to a request.
 fn add_signed(
     alloc: Global,
     text: &mut String,
@@ -237,7 +243,8 @@ fn add_signed(
 ) -> Result<(), Error> {
     add_server(alloc, text, authority, signer)?;
     let list = list(alloc, authority, signer)?;
-    add_line(alloc, text, &list)
+    add_line(alloc, text, &list)?;
+    add_request(alloc, text, authority, signer)
 }
 
 /// Adds the server.
@@ -251,16 +258,21 @@ fn add_server(
     add_certificate(alloc, text, &server)
 }
 
-/// Adds the server's request.
-fn add_request(alloc: Global, text: &mut String) -> Result<(), Error> {
-    let signer = signer_of(alloc, SERVER)?;
-    add_line(alloc, text, &request(alloc, &signer)?)
+/// Adds the server's request, and the certificate that an authority issues for it.
+fn add_request(
+    alloc: Global,
+    text: &mut String,
+    authority: &Certificate,
+    signer: &DigestSigner,
+) -> Result<(), Error> {
+    let request = request(alloc, &signer_of(alloc, SERVER)?)?;
+    add_line(alloc, text, &request)?;
+    add_certificate(alloc, text, &issued(alloc, &request, authority, signer)?)
 }
 
 /// All of them, each a line.
 fn chain(alloc: Global) -> Result<String, Error> {
     let mut text = String::new(alloc);
     add_root(alloc, &mut text)?;
-    add_request(alloc, &mut text)?;
     Ok(text)
 }

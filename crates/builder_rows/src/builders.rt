@@ -1,6 +1,6 @@
 //! How builders are used.
 
-use crate::digest_signer::{DigestSigner, SignerWords};
+use crate::digest_signer::DigestSigner;
 use crate::refusals::Refusal;
 use rand_chacha::ChaCha20Rng;
 use rand_core::SeedableRng;
@@ -12,17 +12,17 @@ use x509_cert_list_builders::{Builder, Signer};
 pub enum Manner {
     /// What is signed, made twice.
     Part,
-    /// It is built.
+    /// The certificate is built.
     Whole,
-    /// It is assembled at once.
+    /// The builder is assembled at once.
     Unready,
-    /// It is finalized, and changed behind that.
+    /// The builder is finalized, and changed behind that.
     Late,
-    /// It is changed, finalized, and changed once more.
+    /// The builder is changed, finalized, and changed once more.
     Later,
-    /// It is changed, finalized for a signer, and assembled by another.
+    /// The builder is changed, finalized for a signer, and assembled by another.
     Other,
-    /// It is built with random octets.
+    /// The certificate is built with random octets.
     Drawn,
     /// What is signed: where there is no memory, the call is made again.
     Again,
@@ -51,18 +51,19 @@ pub struct Asked<'a> {
     pub manner: Manner,
     /// What changes the builder.
     pub change: &'a str,
-    pub signer: SignerWords<'a>,
+    /// The signer's key.
+    pub signer: &'a str,
 }
 
 impl Asked<'_> {
     /// The signer.
     fn signer(&self, alloc: Global) -> Result<DigestSigner, Refusal> {
-        self.signer.signer(alloc, "1.3.6.1.4.1.32473.2")
+        DigestSigner::parse(alloc, self.signer, "1.3.6.1.4.1.32473.2")
     }
 
     /// The signer of another algorithm.
     fn other_signer(&self, alloc: Global) -> Result<DigestSigner, Refusal> {
-        self.signer.signer(alloc, "1.3.6.1.4.1.32473.3")
+        DigestSigner::parse(alloc, self.signer, "1.3.6.1.4.1.32473.3")
     }
 }
 

@@ -1,7 +1,6 @@
 //! Certificates of each profile.
 
 use crate::builders::{Asked, Change, Manner, part_of, whole_of};
-use crate::digest_signer::SignerWords;
 use crate::refusals::Refusal;
 use crate::words::{Words, extension_of, key_of, octets_of, time_of};
 use const_oid::ObjectIdentifier;
@@ -40,16 +39,12 @@ struct Settled<'a> {
 
 impl<'a> Settled<'a> {
     /// The next words: `SERIAL FROM UNTIL KEY SIGNER ADDED`.
-    fn parse(manner: Manner, flags: &str, words: &mut Words<'a>) -> Result<Settled<'a>, Refusal> {
+    fn parse(manner: Manner, words: &mut Words<'a>) -> Result<Settled<'a>, Refusal> {
         let serial = words.next()?;
         let from = words.next()?;
         let until = words.next()?;
         let key = words.next()?;
-        let signer = SignerWords {
-            key: words.next()?,
-            refuses: flags.contains('r'),
-            keeps: flags.contains('i'),
-        };
+        let signer = words.next()?;
         let change = words.next()?;
         Ok(Settled {
             serial,
@@ -105,12 +100,12 @@ pub fn answer(alloc: Global, manner: Manner, rest: &str) -> Result<Vec<u8>, Refu
         "subscriber" => subscriber(alloc, manner, flags, &mut words),
         "device" => {
             let told = DeviceWords::Names(words.next()?);
-            device(alloc, manner, flags, &told, &mut words)
+            device(alloc, manner, &told, &mut words)
         }
         "module" => {
             let version = words.next()?;
             let told = DeviceWords::Module(version, words.next()?);
-            device(alloc, manner, flags, &told, &mut words)
+            device(alloc, manner, &told, &mut words)
         }
         _ => Err(Refusal::Unread),
     }
@@ -123,7 +118,7 @@ fn root(
     flags: &str,
     words: &mut Words<'_>,
 ) -> Result<Vec<u8>, Refusal> {
-    let settled = Settled::parse(manner, flags, words)?;
+    let settled = Settled::parse(manner, words)?;
     let subject = words.name(alloc)?;
     let profile = Root::new(alloc, flags.contains('o'), subject)?;
     settled.made(alloc, profile)
@@ -148,7 +143,7 @@ fn subordinate(
     words: &mut Words<'_>,
 ) -> Result<Vec<u8>, Refusal> {
     let path_len_constraint = path_of(words.next()?)?;
-    let settled = Settled::parse(manner, flags, words)?;
+    let settled = Settled::parse(manner, words)?;
     let issuer = words.name(alloc)?;
     let subject = words.name(alloc)?;
     let profile = Subordinate {
@@ -183,7 +178,7 @@ fn subscriber(
     words: &mut Words<'_>,
 ) -> Result<Vec<u8>, Refusal> {
     let kind = words.next()?;
-    let settled = Settled::parse(manner, flags, words)?;
+    let settled = Settled::parse(manner, words)?;
     let issuer = words.name(alloc)?;
     let subject = words.name(alloc)?;
     let certificate_type = type_of(alloc, kind, subject)?;
@@ -225,14 +220,14 @@ fn names_of(alloc: Global, word: &str) -> Result<Option<GeneralNames>, Refusal> 
 /// What a device is told by.
 #[derive(Clone, Copy)]
 enum DeviceWords<'a> {
-    /// Its alternative names, or none.
+    /// The alternative names, or none.
     Names(&'a str),
     /// The version and the serial number of its module.
     Module(&'a str, &'a str),
 }
 
 impl DeviceWords<'_> {
-    /// Its profile.
+    /// The profile.
     fn profile(&self, alloc: Global, issuer: Name, subject: Name) -> Result<DevId, Refusal> {
         match self {
             DeviceWords::Names(word) => {
@@ -254,11 +249,10 @@ impl DeviceWords<'_> {
 fn device(
     alloc: Global,
     manner: Manner,
-    flags: &str,
     device: &DeviceWords<'_>,
     words: &mut Words<'_>,
 ) -> Result<Vec<u8>, Refusal> {
-    let settled = Settled::parse(manner, flags, words)?;
+    let settled = Settled::parse(manner, words)?;
     let issuer = words.name(alloc)?;
     let subject = words.name(alloc)?;
     let profile = device.profile(alloc, issuer, subject)?;

@@ -16,7 +16,7 @@ pub fn answer(alloc: Global, word: &str) -> Result<String, Refusal> {
     answer_of(alloc, &key)
 }
 
-/// The same of a key.
+/// The answer for a key.
 fn answer_of(alloc: Global, key: &SubjectPublicKeyInfo) -> Result<String, Refusal> {
     let algorithm: AlgorithmIdentifierRef<'_> = key.algorithm.owned_to_ref();
     let lent: SubjectPublicKeyInfoRef<'_> = SubjectPublicKeyInfoRef {

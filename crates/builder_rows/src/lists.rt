@@ -1,7 +1,6 @@
 //! Lists.
 
 use crate::builders::{Asked, Change, Manner, part_of, whole_of};
-use crate::digest_signer::SignerWords;
 use crate::refusals::Refusal;
 use crate::words::{Words, octets_of, time_of};
 use der_core::{from_der, to_der};
@@ -87,16 +86,12 @@ fn builder_of(alloc: Global, words: &mut Words<'_>) -> Result<CrlBuilder, Refusa
 pub fn answer(alloc: Global, rest: &str) -> Result<Vec<u8>, Refusal> {
     let mut words = Words { rest };
     let manner = Manner::parse(words.next()?)?;
-    let key = words.next()?;
+    let signer = words.next()?;
     let builder = builder_of(alloc, &mut words)?;
     let asked = Asked {
         manner,
         change: words.rest,
-        signer: SignerWords {
-            key,
-            refuses: false,
-            keeps: false,
-        },
+        signer,
     };
     made(alloc, builder, &asked)
 }

@@ -9,7 +9,7 @@ use x509_cert_list_builders::{Error, SignError};
 /// Why a question has no other answer.
 #[derive(Drop)]
 pub enum Refusal {
-    /// It is none.
+    /// The question is none.
     Unread,
     /// Want of memory.
     Memory,

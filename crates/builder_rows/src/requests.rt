@@ -1,7 +1,6 @@
 //! Requests.
 
 use crate::builders::{Asked, Change, Manner, part_of, whole_of};
-use crate::digest_signer::SignerWords;
 use crate::refusals::Refusal;
 use crate::words::{Words, extension_of, octets_of};
 use der_core::{from_der, to_der};
@@ -67,18 +66,14 @@ fn builder_of(
 pub fn answer(alloc: Global, rest: &str) -> Result<Vec<u8>, Refusal> {
     let mut words = Words { rest };
     let manner = Manner::parse(words.next()?)?;
-    let key = words.next()?;
+    let signer = words.next()?;
     let change = words.next()?;
     let passwords = words.next()?;
     let builder = builder_of(alloc, passwords, &mut words)?;
     let asked = Asked {
         manner,
         change,
-        signer: SignerWords {
-            key,
-            refuses: false,
-            keeps: false,
-        },
+        signer,
     };
     made(alloc, builder, &asked)
 }

@@ -1,0 +1,127 @@
+//! Keys that sign elsewhere.
+
+use const_oid::ObjectIdentifier;
+use der_core::{Error, from_der, to_der};
+use der_types_numbers::Uint;
+use std::alloc::Global;
+use x509_cert::builder::{SignError, Signer};
+use x509_cert::{AlgorithmIdentifier, Any, BitString, SubjectPublicKeyInfo};
+
+/// A key that signs in another program or in a device. A builder is told the key and its algorithm;
+/// no bits are asked of it here.
+#[derive(Drop)]
+pub struct OutsideKey {
+    scheme: Scheme,
+    info: SubjectPublicKeyInfo,
+    algorithm: AlgorithmIdentifier,
+}
+
+impl OutsideKey {
+    /// The key that is the encoding of these octets.
+    pub fn new(alloc: Global, scheme: Scheme, octets: &[u8]) -> Result<OutsideKey, Error> {
+        let info = from_der(alloc, octets)?;
+        let algorithm = scheme.algorithm(alloc)?;
+        Ok(OutsideKey {
+            scheme,
+            info,
+            algorithm,
+        })
+    }
+
+    /// The signature that is told by these octets.
+    pub fn signature(&self, alloc: Global, octets: &[u8]) -> Result<BitString, Error> {
+        match self.scheme {
+            Scheme::P256Numbers => of_numbers(alloc, octets),
+            _ => BitString::from_bytes(octets.to_vec(alloc)?),
+        }
+    }
+}
+
+/// A signature by ECDSA (RFC 3279 2.2.3) of which both numbers are told, one behind the other in as
+/// many octets.
+fn of_numbers(alloc: Global, numbers: &[u8]) -> Result<BitString, Error> {
+    let (r, s) = numbers.split_at(numbers.len() / 2);
+    let mut both = Vec::new(alloc);
+    both.push(Uint::new(alloc, r)?)?;
+    both.push(Uint::new(alloc, s)?)?;
+    BitString::from_bytes(to_der(alloc, &both)?)
+}
+
+/// How a key signs.
+#[derive(Clone, Copy)]
+pub enum Scheme {
+    /// RSA by PKCS #1 1.5, of a SHA-256 digest.
+    Rsa,
+    /// ECDSA on P-256, of a SHA-256 digest.
+    P256,
+    /// ECDSA on P-256, of which a device answers the two numbers.
+    P256Numbers,
+    /// Ed25519.
+    Ed25519,
+}
+
+impl Scheme {
+    /// The scheme of a kind of keys.
+    pub fn parse(kind: &str) -> Option<Scheme> {
+        match kind {
+            "rsa" => Some(Scheme::Rsa),
+            "p256" => Some(Scheme::P256),
+            "p256-numbers" => Some(Scheme::P256Numbers),
+            "ed25519" => Some(Scheme::Ed25519),
+            _ => None,
+        }
+    }
+
+    /// The identifier of the algorithm.
+    fn algorithm(self, alloc: Global) -> Result<AlgorithmIdentifier, Error> {
+        match self {
+            Scheme::Rsa => rsa(alloc),
+            Scheme::P256 | Scheme::P256Numbers => plain("1.2.840.10045.4.3.2"),
+            Scheme::Ed25519 => plain("1.3.101.112"),
+        }
+    }
+}
+
+/// `sha256WithRSAEncryption`, whose parameters are NULL (RFC 4055 5).
+fn rsa(alloc: Global) -> Result<AlgorithmIdentifier, Error> {
+    let oid = ObjectIdentifier::new("1.2.840.113549.1.1.11")?;
+    Ok(AlgorithmIdentifier {
+        oid,
+        parameters: Some(Any::null(alloc)),
+    })
+}
+
+/// An algorithm without parameters: `1.2.840.10045.4.3.2` is `ecdsa-with-SHA256` (RFC 5758 3.2),
+/// `1.3.101.112` Ed25519 (RFC 8410 3).
+fn plain(dotted: &str) -> Result<AlgorithmIdentifier, Error> {
+    let oid = ObjectIdentifier::new(dotted)?;
+    Ok(AlgorithmIdentifier {
+        oid,
+        parameters: None,
+    })
+}
+
+impl Signer for OutsideKey {
+    ghost use Rattle.std.specs.Prelude.{⊤};
+    ghost use Rattle.x509_cert.specs.Views.{algorithm_plain, key_plain};
+
+    ghost public_key = { λ s. key_plain s.info };
+
+    ghost signs_by = { λ s. algorithm_plain s.algorithm };
+
+    ghost signs = { λ _ _ _. ⊥ };
+
+    ghost may_refuse = { λ _ _. ⊤ };
+
+    fn key_info(&self) -> &SubjectPublicKeyInfo {
+        &self.info
+    }
+
+    fn algorithm(&self) -> &AlgorithmIdentifier {
+        &self.algorithm
+    }
+
+    fn sign(&self, _alloc: Global, _octets: &[u8]) -> Result<BitString, SignError> {
+        Err(SignError::Refused)
+    }
+}
