@@ -72,7 +72,10 @@ fn answer_of_issue(alloc: Global, line: &str) -> Result<String, Refusal> {
             let (schedules, file) = rest.split_once(' ').ok_or(Refusal::Unread)?;
             issues::answer(alloc, schedules, file)
         }
-        "call" => issues::answer_of_call(alloc, rest),
+        "call" => {
+            let (schedules, file) = rest.split_once(' ').ok_or(Refusal::Unread)?;
+            issues::answer_of_call(alloc, schedules, file)
+        }
         "digest" => digests::answer(alloc, rest),
         "audit" => audits::answer(alloc, rest),
         "again" => audits::answer_again(alloc, rest),

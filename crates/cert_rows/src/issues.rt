@@ -2,9 +2,8 @@
 
 use crate::files::file_of;
 use crate::refusals::Refusal;
-use crate::schedules::Devices;
+use crate::schedules::{Devices, Schedule};
 use cert_desk::{orders_in, run_issue, run_orders};
-use cert_desk_io::MemoryOutput;
 use std::alloc::Global;
 use std::str;
 
@@ -34,14 +33,18 @@ pub fn run(alloc: Global, schedules: &str, file: &[u8]) -> Result<Told, Refusal>
     Ok(Told { status, out, err })
 }
 
-/// What the call for the orders of a file tells, its output in base 16.
-pub fn answer_of_call(alloc: Global, file: &str) -> Result<String, Refusal> {
+/// What the call for the orders of a file tells, its output in base 16, where two devices move
+/// octets by these schedules.
+pub fn answer_of_call(alloc: Global, schedules: &str, file: &str) -> Result<String, Refusal> {
+    let (output, errors) = schedules.split_once('/').ok_or(Refusal::Unread)?;
+    let output = Schedule::parse(alloc, output)?;
+    let errors = Schedule::parse(alloc, errors)?;
     let file = file_of(alloc, file)?;
     let orders = orders_in(alloc, file.as_slice())?;
     let mut out_room = [0; 4096];
     let mut err_room = [0; 64];
-    let mut out = MemoryOutput::new(&mut out_room, &[], None);
-    let mut err = MemoryOutput::new(&mut err_room, &[], None);
+    let mut out = output.output(&mut out_room);
+    let mut err = errors.output(&mut err_room);
     let status = run_issue(alloc, orders.as_slice(), &mut out, &mut err) as u8;
     let issued = hex::encode(alloc, out.written())?;
     let complained = str::from_utf8(err.written())?;

@@ -11,11 +11,11 @@ use std::alloc::Global;
 pub enum Oddity {
     /// What it should.
     None,
-    /// It refuses what has these octets.
+    /// The signer refuses what has these octets.
     Refuses(Vec<u8>),
-    /// It has no memory for what has these octets.
+    /// The signer has no memory for what has these octets.
     Forgets(Vec<u8>),
-    /// Its bits are none.
+    /// The bits are none.
     IsEmpty,
 }
 

@@ -10,13 +10,13 @@ use std::str::Utf8Error;
 /// Why a question has no other answer.
 #[derive(Clone, Copy)]
 pub enum Refusal {
-    /// It is none.
+    /// The question is none.
     Unread,
     /// Want of memory.
     Memory,
     /// A call that found no memory changed something.
     Changed,
-    /// Its octets spell no value of the kind.
+    /// The octets spell no value of the kind.
     Der(ErrorKind),
 }
 

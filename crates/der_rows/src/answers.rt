@@ -3,8 +3,8 @@
 use crate::refusals::Refusal;
 use crate::shown::front_of;
 use crate::{
-    again, any_values, contents, fields, headers, identifiers, kinds, lists, made, readers, times,
-    writers,
+    again, any_values, contents, copies, fields, headers, identifiers, kinds, leaves, lists, made,
+    readers, times, writers,
 };
 use std::alloc::Global;
 use std::io;
@@ -53,6 +53,9 @@ fn answer_of_words(alloc: Global, line: &str) -> Result<String, Refusal> {
         "content" => contents::answer(alloc, rest),
         "by-ord" => contents::answer_by_ord(alloc, rest),
         "prefix" => contents::answer_of_prefixes(alloc, rest),
+        "copy" => copies::answer(alloc, rest),
+        "member" => copies::answer_of_member(alloc, rest),
+        "leaf" => leaves::answer_of_leaves(alloc, rest),
         "again" => again::answer(alloc, rest),
         "reader" => readers::answer(alloc, rest),
         "writer" => writers::answer(alloc, rest),

@@ -8,7 +8,7 @@ use der_core::{
     Length, OrdIsValueOrd, SliceReader, StringOwned, StringRef, Tag, ValueOrd, der_cmp_by_ord,
     from_der, value_cmp_by_ord, value_cmp_is_ord,
 };
-use std::alloc::Global;
+use std::alloc::{AllocError, Global};
 
 /// The answer to a question about the contents of a type without a tag of its own.
 pub fn answer(alloc: Global, rest: &str) -> Result<String, Refusal> {
@@ -64,6 +64,26 @@ fn content_of<T: EncodeValue>(alloc: Global, value: &T) -> Result<String, Refusa
     let mut octets = Vec::new(alloc);
     value.encode_value(&mut octets)?;
     hex_of(alloc, octets.as_slice())
+}
+
+/// What is written of a copy of octets that are held.
+pub fn copy_of_octets(alloc: Global, octets: &[u8]) -> Result<String, Refusal> {
+    let held: BytesOwned = value_of(alloc, octets)?;
+    copy_written(alloc, held.clone(alloc))
+}
+
+/// What is written of a copy of a text that is held.
+pub fn copy_of_text(alloc: Global, octets: &[u8]) -> Result<String, Refusal> {
+    let held = StringOwned::from_bytes(alloc, octets)?;
+    copy_written(alloc, held.clone(alloc))
+}
+
+/// What is written of a copy without a tag.
+fn copy_written<T: EncodeValue + Drop>(
+    alloc: Global,
+    copy: Result<T, AllocError>,
+) -> Result<String, Refusal> {
+    content_of(alloc, &copy?)
 }
 
 /// The first octets of octets that are held.

@@ -160,13 +160,20 @@ fn owned<T: EncodeValue + FixedTag + Drop, const CLASS: u8>(
     }
 }
 
-/// The same of the field of a number, lent.
+/// The field of a number, lent, as it is shown.
 fn lent<const CLASS: u8>(alloc: Global, field: &Numbered<'_>) -> Result<String, Refusal> {
     let (field, left) = read_field::<u8, CLASS>(alloc, field)?;
     match field {
         Some(field) => found(alloc, field.owned_to_ref().to_der(alloc), left),
         None => absent(alloc, left),
     }
+}
+
+/// What is written of the field of any number, copied from where it was lent.
+pub fn copy_of(alloc: Global, octets: &[u8]) -> Result<String, Refusal> {
+    let field = of_any_number::<CONTEXT>(alloc, octets)?;
+    let copy = field.owned_to_ref().ref_to_owned()?;
+    hex_in(alloc, copy.to_der(alloc))
 }
 
 /// The answer of a field that was read, with so many octets left.

@@ -4,10 +4,13 @@ use crate::questions::{
     Asked, Question, answer_of_plain, answer_of_value, answer_with_contents, answer_with_order,
 };
 use crate::refusals::Refusal;
+use crate::shown::{front_of, octets_of, written_in};
 use crate::{key_usages, texts};
 use const_oid::ObjectIdentifier;
-use der_core::{Explicit, Implicit, from_der};
+use der_core::making::leaf_from_der;
+use der_core::{EncodeValue, Explicit, FixedTag, Implicit, Leaf, from_der};
 use der_types_numbers::{Int, IntRef, Uint, UintRef};
+use der_types_text::PrintableString;
 use der_types_values::{BitString, BitStringRef, Null, OctetString, OctetStringRef, SequenceRef};
 use std::alloc::Global;
 
@@ -96,4 +99,27 @@ fn bits_of(alloc: Global, octets: &[u8]) -> Result<String, Refusal> {
         text.push(if bit { '1' } else { '0' })?;
     }
     Ok(text)
+}
+
+/// The answer of a value that is read as one without others inside.
+pub fn answer_of_leaves(alloc: Global, rest: &str) -> Result<String, Refusal> {
+    let (kind, octets) = front_of(rest);
+    let octets = octets_of(alloc, octets)?;
+    let octets = octets.as_slice();
+    match kind {
+        "bool" => leaf_written::<bool>(alloc, octets),
+        "ObjectIdentifier" => leaf_written::<ObjectIdentifier<39>>(alloc, octets),
+        "Uint" => leaf_written::<Uint>(alloc, octets),
+        "BitStringRef" => leaf_written::<BitStringRef>(alloc, octets),
+        "PrintableString" => leaf_written::<PrintableString>(alloc, octets),
+        _ => Err(Refusal::Unread),
+    }
+}
+
+/// What is written of the leaf that octets spell.
+fn leaf_written<'a, T: Leaf<'a> + EncodeValue + FixedTag + Drop>(
+    alloc: Global,
+    octets: &'a [u8],
+) -> Result<String, Refusal> {
+    written_in(alloc, leaf_from_der::<T>(alloc, octets))
 }

@@ -107,6 +107,7 @@ fn answer_of_octets(
         "peek" => debugged(alloc, Ok(reader.peek_byte())),
         "peek-header" => shown(alloc, reader.peek_header()?.length),
         "byte" => printed(alloc, reader.read_byte()),
+        "copy" => byte_of_copy(alloc, reader),
         "tlv" => hex_of(alloc, reader.tlv_bytes()?),
         "pair" => debugged(alloc, two_octets(reader)),
         "content" => content_of(alloc, reader),
@@ -166,6 +167,12 @@ fn fields_of(alloc: Global, reader: &mut SliceReader<'_>) -> Result<String, Refu
         (u8, PhantomData<bool>),
     )>::decode_fields(alloc, reader)?;
     shown(alloc, number)
+}
+
+/// The octet that a copy of the reader reads next.
+fn byte_of_copy(alloc: Global, reader: &SliceReader<'_>) -> Result<String, Refusal> {
+    let mut copy = reader.clone()?;
+    printed(alloc, copy.read_byte())
 }
 
 /// The octets of the content that stands next, as they stand.

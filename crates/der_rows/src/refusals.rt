@@ -10,15 +10,15 @@ use std::num::ParseIntError;
 /// Why a question has no other answer.
 #[derive(Clone, Copy)]
 pub enum Refusal {
-    /// It is none, or of no type that is known.
+    /// The question is none, or of no type that is known.
     Unread,
     /// Want of memory.
     Memory,
     /// A call that found no memory changed something.
     Changed,
-    /// Its octets spell no value of the type, or its values aren't written.
+    /// The octets spell no value of the type, or its values aren't written.
     Der(Error),
-    /// Its text, octets or arcs spell no identifier.
+    /// The text, octets or arcs spell no identifier.
     Identifier(const_oid::Error),
 }
 

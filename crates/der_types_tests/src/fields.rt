@@ -66,7 +66,7 @@ fn written_fields(rt: HostRuntime) -> Result<(), Fail> {
     Ok(())
 }
 
-/// The same of fields that are lent.
+/// Fields that are lent are written alike.
 #[test]
 fn lent_fields(rt: HostRuntime) -> Result<(), Fail> {
     let front: ContextSpecificRef<u8> = ClassFieldRef {

@@ -6,10 +6,9 @@ use der_core::Result;
 use std::alloc::Global;
 use std::io;
 use std::io::Read;
-use x509_cert::{
-    BasicConstraints, CertificateInner, GeneralName, KeyUsage, Raw, SubjectAltName,
-    TbsCertificateInner,
-};
+use x509_cert::certificate::{CertificateInner, Raw, TbsCertificateInner};
+use x509_cert::ext::pkix::name::GeneralName;
+use x509_cert::ext::pkix::{BasicConstraints, KeyUsage, SubjectAltName};
 
 fn main(rt: HostRuntime) -> io::Result<()> {
     let mut octets = Vec::new(rt.alloc());

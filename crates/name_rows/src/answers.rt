@@ -32,11 +32,19 @@ fn answer_of(alloc: Global, line: &str) -> Result<String, Refusal> {
         "first" => names::first(alloc, rest),
         "relative" => relatives::inserted(alloc, rest),
         "relative-of" => relatives::made(alloc, rest),
-        "again" => relatives::inserted_again(alloc, rest),
+        "again" => answer_again(alloc, rest),
         "from" => texts::spelled(alloc, rest),
         "name" => texts::again(alloc, rest),
         "text" => texts::printed(alloc, rest),
         _ => Err(Refusal::Unread),
+    }
+}
+
+/// What is answered where calls that find no memory are made again: insertions, or pushes.
+fn answer_again(alloc: Global, rest: &str) -> Result<String, Refusal> {
+    match rest.split_once(' ') {
+        Some(("push", names)) => relatives::pushed_again(alloc, names),
+        _ => relatives::inserted_again(alloc, rest),
     }
 }
 

@@ -2,8 +2,8 @@
 
 use crate::refusals::Refusal;
 use der_core::{from_der, to_der};
-use std::alloc::Global;
-use x509_cert_names::{AttributeTypeAndValue, RelativeDistinguishedName};
+use std::alloc::{AllocError, Global};
+use x509_cert_names::{AttributeTypeAndValue, RdnSequence, RelativeDistinguishedName};
 
 /// The attribute that hex octets spell.
 fn attribute_of(alloc: Global, word: &str) -> Result<AttributeTypeAndValue, Refusal> {
@@ -29,7 +29,7 @@ pub fn inserted(alloc: Global, words: &str) -> Result<String, Refusal> {
     Ok(hex::encode(alloc, to_der(alloc, &name)?)?)
 }
 
-/// The same, where an insertion that finds no memory has to leave the name, and is made again.
+/// As `inserted`, where an insertion that finds no memory has to leave the name, and is made again.
 pub fn inserted_again(alloc: Global, words: &str) -> Result<String, Refusal> {
     let mut name = RelativeDistinguishedName::default(alloc);
     for word in words.split(' ') {
@@ -62,4 +62,33 @@ fn insert_again(
 pub fn made(alloc: Global, words: &str) -> Result<String, Refusal> {
     let name = RelativeDistinguishedName::try_from_vec(attributes_of(alloc, words)?)?;
     Ok(hex::encode(alloc, to_der(alloc, &name)?)?)
+}
+
+/// The relative name that hex octets spell.
+fn relative_name_of(alloc: Global, word: &str) -> Result<RelativeDistinguishedName, Refusal> {
+    let octets = hex::decode(alloc, word.as_bytes())?;
+    Ok(from_der(alloc, octets.as_slice())?)
+}
+
+/// The sequence to which relative names are pushed, where a push that finds no memory has to leave
+/// it, and is made again.
+pub fn pushed_again(alloc: Global, words: &str) -> Result<String, Refusal> {
+    let mut names = RdnSequence::default(alloc);
+    for word in words.split(' ') {
+        push_again(alloc, &mut names, word)?;
+    }
+    Ok(hex::encode(alloc, to_der(alloc, &names)?)?)
+}
+
+/// Pushes a relative name, at the second call where the first finds no memory.
+fn push_again(alloc: Global, names: &mut RdnSequence, word: &str) -> Result<(), Refusal> {
+    let before = to_der(alloc, names)?;
+    let Err(AllocError) = names.push(relative_name_of(alloc, word)?) else {
+        return Ok(());
+    };
+    if to_der(alloc, names)?.as_slice() != before.as_slice() {
+        return Err(Refusal::Changed);
+    }
+    names.push(relative_name_of(alloc, word)?)?;
+    Ok(())
 }

@@ -5,7 +5,7 @@ use der_core::Result;
 use std::alloc::Global;
 use std::io;
 use std::io::Read;
-use x509_cert::{CertificateInner, Raw};
+use x509_cert::certificate::{CertificateInner, Raw};
 
 fn main(rt: HostRuntime) -> io::Result<()> {
     let mut octets = Vec::new(rt.alloc());

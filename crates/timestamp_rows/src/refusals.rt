@@ -10,15 +10,15 @@ use x509_cert_timestamps::{Error, TlsError};
 /// Why a question has no other answer.
 #[derive(Clone, Copy)]
 pub enum Refusal {
-    /// It is none, or of no type that is known.
+    /// The question is none, or of no type that is known.
     Unread,
     /// Want of memory.
     Memory,
     /// A value writes another number of octets than it says.
     Length,
-    /// Its octets spell no value of the type in DER, or its date isn't told.
+    /// The octets spell no value of the type in DER, or its date isn't told.
     Der(der_core::Error),
-    /// Its octets spell no value of the type in the language of TLS, or its values aren't written.
+    /// The octets spell no value of the type in the language of TLS, or its values aren't written.
     Tls(TlsError),
 }
 

@@ -21,6 +21,7 @@ pub fn made_of(alloc: Global, kind: &str, text: &str) -> Result<String, Refusal>
         "Time" => written_in(alloc, text.parse::<Time>()),
         "GeneralName" => address_of(alloc, text),
         "CrlNumber" => number_of(alloc, text),
+        "SerialNumber/u64" => serial_of(alloc, text),
         _ => {
             let octets = octets_of(alloc, text)?;
             made_of_octets(alloc, kind, octets.as_slice())
@@ -38,6 +39,12 @@ fn address_of(alloc: Global, text: &str) -> Result<String, Refusal> {
 fn number_of(alloc: Global, text: &str) -> Result<String, Refusal> {
     let number: u128 = text.parse()?;
     written_in(alloc, CrlNumber::try_from_u128(alloc, number))
+}
+
+/// What is written of the serial number of a number.
+fn serial_of(alloc: Global, text: &str) -> Result<String, Refusal> {
+    let number: u64 = text.parse()?;
+    written_in(alloc, SerialNumber::<Rfc5280>::from_u64(alloc, number))
 }
 
 /// What is written of the value that a type makes of octets: those of a number, or those that spell

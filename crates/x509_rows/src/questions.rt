@@ -1,9 +1,9 @@
 //! What is asked of the values of a type.
 
 use crate::refusals::Refusal;
-use crate::shown::{written, written_in};
+use crate::shown::{hex_of, or_refusal, written, written_in};
 use const_oid::AssociatedOid;
-use der_core::{Decode, DerOrd, Encode, Error, SliceReader, from_der};
+use der_core::{Decode, DerOrd, Encode, Error, SliceReader, from_der, from_der_partial};
 use std::alloc::Global;
 use std::cmp::Ordering;
 use std::fmt::Debug;
@@ -14,6 +14,10 @@ use x509_cert::{Criticality, Name, ToExtension};
 pub enum Asked {
     /// What is written of the value that octets spell.
     Der,
+    /// What is written of the value that octets begin with, and the octets behind it.
+    Front,
+    /// What a reader of the octets answers to a first call, and to a second one.
+    Twice,
     /// The order of the values that octets spell.
     Order,
     /// The value that octets spell, as `{:?}` prints it.
@@ -36,6 +40,8 @@ pub struct Question<'a> {
 pub fn asked_by(word: &str) -> Result<Asked, Refusal> {
     match word {
         "der" => Ok(Asked::Der),
+        "front" => Ok(Asked::Front),
+        "twice" => Ok(Asked::Twice),
         "order" => Ok(Asked::Order),
         "debug" => Ok(Asked::Debug),
         "extension" => Ok(Asked::Extension),
@@ -50,8 +56,32 @@ pub fn answer_of<'a, T: Decode<'a, SliceReader<'a>> + Encode + Drop>(
 ) -> Result<String, Refusal> {
     match question.asked {
         Asked::Der => written_in(alloc, from_der::<T>(alloc, question.first)),
+        Asked::Front => front_written(alloc, from_der_partial::<T>(alloc, question.first)),
+        Asked::Twice => read_twice::<T>(alloc, question.first),
         _ => Err(Refusal::Unread),
     }
+}
+
+/// What is written of the value at the front of octets, and the octets behind it.
+fn front_written<T: Encode + Drop>(
+    alloc: Global,
+    front: Result<(T, &[u8]), Error>,
+) -> Result<String, Refusal> {
+    let (value, behind) = front?;
+    let value = written(alloc, &value)?;
+    let behind = hex_of(alloc, behind)?;
+    Ok(format!(in alloc; "{value} {behind}")?)
+}
+
+/// What is written of the two values that one reader of the octets reads, or why it reads none.
+fn read_twice<'a, T: Decode<'a, SliceReader<'a>> + Encode + Drop>(
+    alloc: Global,
+    octets: &'a [u8],
+) -> Result<String, Refusal> {
+    let mut reader = SliceReader::new(octets)?;
+    let first = or_refusal(alloc, written_in(alloc, T::decode(alloc, &mut reader)))?;
+    let second = or_refusal(alloc, written_in(alloc, T::decode(alloc, &mut reader)))?;
+    Ok(format!(in alloc; "{first}; {second}")?)
 }
 
 /// The answer of a type that is compared, too.

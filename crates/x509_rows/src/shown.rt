@@ -40,6 +40,14 @@ pub fn written_in<T: Encode + Drop>(
     written(alloc, &outcome?)
 }
 
+/// What is answered, or why nothing is.
+pub fn or_refusal(alloc: Global, answer: Result<String, Refusal>) -> Result<String, Refusal> {
+    match answer {
+        Err(refusal) => shown(alloc, refusal),
+        answer => answer,
+    }
+}
+
 /// The octets that hexadecimal digits spell.
 pub fn octets_of(alloc: Global, digits: &str) -> Result<Vec<u8>, Refusal> {
     Ok(hex::decode(alloc, digits.as_bytes())?)

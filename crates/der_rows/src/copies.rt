@@ -1,0 +1,233 @@
+//! Copies of values, by each call that makes one.
+
+use crate::key_usages::KeyUsages;
+use crate::refusals::Refusal;
+use crate::shown::{front_of, octets_of, shown, written, written_in};
+use crate::small::Small;
+use crate::{contents, fields};
+use der_core::{Decode, Encode, SliceReader, from_der};
+use der_types_any::{Any, AnyRef};
+use der_types_numbers::{Int, IntRef, Uint, UintRef};
+use der_types_sets::{SequenceOf, SetOf, SetOfRef, SetOfVec};
+use der_types_text::{
+    BmpString, PrintableString, PrintableStringRef, TeletexString, TeletexStringRef, Utf8StringRef,
+};
+use der_types_values::{BitString, BitStringRef, FlagSet, OctetString, OctetStringRef};
+use std::alloc::{AllocError, Global};
+
+/// A value of which a copy is made that owns its octets.
+trait Copied<O> {
+    /// The copy.
+    fn copied(&self, alloc: Global) -> Result<O, AllocError>;
+}
+
+impl Copied<Any> for Any {
+    fn copied(&self, alloc: Global) -> Result<Any, AllocError> {
+        self.clone(alloc)
+    }
+}
+
+impl<'a> Copied<Any> for AnyRef<'a> {
+    fn copied(&self, alloc: Global) -> Result<Any, AllocError> {
+        self.ref_to_owned(alloc)
+    }
+}
+
+impl Copied<Int> for Int {
+    fn copied(&self, alloc: Global) -> Result<Int, AllocError> {
+        self.clone(alloc)
+    }
+}
+
+impl<'a> Copied<Int> for IntRef<'a> {
+    fn copied(&self, alloc: Global) -> Result<Int, AllocError> {
+        self.ref_to_owned(alloc)
+    }
+}
+
+impl Copied<Uint> for Uint {
+    fn copied(&self, alloc: Global) -> Result<Uint, AllocError> {
+        self.clone(alloc)
+    }
+}
+
+impl<'a> Copied<Uint> for UintRef<'a> {
+    fn copied(&self, alloc: Global) -> Result<Uint, AllocError> {
+        self.ref_to_owned(alloc)
+    }
+}
+
+impl Copied<BitString> for BitString {
+    fn copied(&self, alloc: Global) -> Result<BitString, AllocError> {
+        self.clone(alloc)
+    }
+}
+
+impl<'a> Copied<BitString> for BitStringRef<'a> {
+    fn copied(&self, alloc: Global) -> Result<BitString, AllocError> {
+        self.ref_to_owned(alloc)
+    }
+}
+
+impl Copied<FlagSet<KeyUsages>> for FlagSet<KeyUsages> {
+    fn copied(&self, _alloc: Global) -> Result<FlagSet<KeyUsages>, AllocError> {
+        Ok(*self)
+    }
+}
+
+impl Copied<OctetString> for OctetString {
+    fn copied(&self, alloc: Global) -> Result<OctetString, AllocError> {
+        self.clone(alloc)
+    }
+}
+
+impl<'a> Copied<OctetString> for OctetStringRef<'a> {
+    fn copied(&self, alloc: Global) -> Result<OctetString, AllocError> {
+        self.ref_to_owned(alloc)
+    }
+}
+
+impl Copied<PrintableString> for PrintableString {
+    fn copied(&self, alloc: Global) -> Result<PrintableString, AllocError> {
+        self.clone(alloc)
+    }
+}
+
+impl<'a> Copied<PrintableString> for PrintableStringRef<'a> {
+    fn copied(&self, alloc: Global) -> Result<PrintableString, AllocError> {
+        self.ref_to_owned(alloc)
+    }
+}
+
+impl<'a> Copied<TeletexString> for TeletexStringRef<'a> {
+    fn copied(&self, alloc: Global) -> Result<TeletexString, AllocError> {
+        let again = Clone::clone(self)?;
+        again.ref_to_owned(alloc)
+    }
+}
+
+impl<'a> Copied<String> for Utf8StringRef<'a> {
+    fn copied(&self, alloc: Global) -> Result<String, AllocError> {
+        self.ref_to_owned(alloc)
+    }
+}
+
+impl Copied<BmpString> for BmpString {
+    fn copied(&self, alloc: Global) -> Result<BmpString, AllocError> {
+        self.clone(alloc)
+    }
+}
+
+impl Copied<SequenceOf<Small, 2>> for SequenceOf<Small, 2> {
+    fn copied(&self, _alloc: Global) -> Result<SequenceOf<Small, 2>, AllocError> {
+        Clone::clone(self)
+    }
+}
+
+/// What is written of the copies of the value that octets spell by DER.
+pub fn answer(alloc: Global, rest: &str) -> Result<String, Refusal> {
+    let (kind, octets) = front_of(rest);
+    let octets = octets_of(alloc, octets)?;
+    answer_of_values(alloc, kind, octets.as_slice())
+}
+
+/// The copies of any value, of a number, or of a string of bits or octets.
+fn answer_of_values(alloc: Global, kind: &str, octets: &[u8]) -> Result<String, Refusal> {
+    match kind {
+        "Any" => copies::<Any, Any>(alloc, octets),
+        "AnyRef" => copies::<AnyRef, Any>(alloc, octets),
+        "Int" => copies::<Int, Int>(alloc, octets),
+        "IntRef" => copies::<IntRef, Int>(alloc, octets),
+        "Uint" => copies::<Uint, Uint>(alloc, octets),
+        "UintRef" => copies::<UintRef, Uint>(alloc, octets),
+        "BitString" => copies::<BitString, BitString>(alloc, octets),
+        "BitStringRef" => copies::<BitStringRef, BitString>(alloc, octets),
+        "KeyUsages" => copies::<FlagSet<KeyUsages>, FlagSet<KeyUsages>>(alloc, octets),
+        "OctetString" => copies::<OctetString, OctetString>(alloc, octets),
+        "OctetStringRef" => copies::<OctetStringRef, OctetString>(alloc, octets),
+        _ => answer_of_texts(alloc, kind, octets),
+    }
+}
+
+/// The copies of a text, of a list, or of a set.
+fn answer_of_texts(alloc: Global, kind: &str, octets: &[u8]) -> Result<String, Refusal> {
+    match kind {
+        "PrintableString" => copies::<PrintableString, PrintableString>(alloc, octets),
+        "PrintableStringRef" => copies::<PrintableStringRef, PrintableString>(alloc, octets),
+        "TeletexStringRef" => copies::<TeletexStringRef, TeletexString>(alloc, octets),
+        "Utf8StringRef" => copies::<Utf8StringRef, String>(alloc, octets),
+        "BmpString" => copies::<BmpString, BmpString>(alloc, octets),
+        "SequenceOf<Small,2>" => copies::<SequenceOf<Small, 2>, SequenceOf<Small, 2>>(
+            alloc, octets,
+        ),
+        "SetOfVec<Small>" => copies_of_set(alloc, octets),
+        "SetOf<Small,2>" => copies_of_few(alloc, octets),
+        "SetOfRef<Small>" => copies_of_lent(alloc, octets),
+        "ContextSpecificRef<u8>" => fields::copy_of(alloc, octets),
+        "BytesOwned" => contents::copy_of_octets(alloc, octets),
+        "StringOwned" => contents::copy_of_text(alloc, octets),
+        _ => Err(Refusal::Unread),
+    }
+}
+
+/// What is written of the copy of a value, and of the copy of that copy.
+fn copies<'a, T: Decode<'a, SliceReader<'a>> + Copied<O> + Drop, O: Clone + Encode + Drop>(
+    alloc: Global,
+    octets: &'a [u8],
+) -> Result<String, Refusal> {
+    let value: T = from_der(alloc, octets)?;
+    both_written(alloc, value.copied(alloc))
+}
+
+/// What is written of a copy, and of a copy of it.
+fn both_written<O: Clone + Encode + Drop>(
+    alloc: Global,
+    copy: Result<O, AllocError>,
+) -> Result<String, Refusal> {
+    let copy = copy?;
+    let first = written(alloc, &copy)?;
+    let second = copy_written(alloc, copy.clone())?;
+    Ok(format!(in alloc; "{first} {second}")?)
+}
+
+/// What is written of a copy.
+fn copy_written<T: Encode + Drop>(
+    alloc: Global,
+    copy: Result<T, AllocError>,
+) -> Result<String, Refusal> {
+    written(alloc, &copy?)
+}
+
+/// What is written of a copy of a set, and of the set of its members.
+fn copies_of_set(alloc: Global, octets: &[u8]) -> Result<String, Refusal> {
+    let set = SetOfVec::<Small>::from_der(alloc, octets)?;
+    let first = copy_written(alloc, set.clone(alloc))?;
+    let second = written_in(alloc, SetOfVec::from_iter(alloc, set.into_vec()))?;
+    Ok(format!(in alloc; "{first} {second}")?)
+}
+
+/// What is written of a copy of a set of bounded room.
+fn copies_of_few(alloc: Global, octets: &[u8]) -> Result<String, Refusal> {
+    let set = SetOf::<Small, 2>::from_der(alloc, octets)?;
+    copy_written(alloc, set.clone(alloc))
+}
+
+/// What is written of a copy of a set that is lent, and of the set of its members.
+fn copies_of_lent(alloc: Global, octets: &[u8]) -> Result<String, Refusal> {
+    let set: SetOfRef<Small> = from_der(alloc, octets)?;
+    let first = copy_written(alloc, set.clone())?;
+    let second = written_in(alloc, set.ref_to_owned(alloc))?;
+    Ok(format!(in alloc; "{first} {second}")?)
+}
+
+/// The member at a place of a set that is lent.
+pub fn answer_of_member(alloc: Global, rest: &str) -> Result<String, Refusal> {
+    let (place, octets) = front_of(rest);
+    let place = usize::from(place.parse::<u8>()?);
+    let octets = octets_of(alloc, octets)?;
+    let set: SetOfRef<Small> = from_der(alloc, octets.as_slice())?;
+    match set.get(alloc, place)? {
+        Some(member) => written(alloc, &member),
+        None => shown(alloc, "none"),
+    }
+}
