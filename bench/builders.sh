@@ -1,15 +1,16 @@
 #!/usr/bin/env bash
-# Writes the signed part of a certificate on P-256 with `to_der`, and finalizes it, for a signer who keeps the identifier of its key and for
-# one who doesn't, under each profile: instructions, by the difference of 101 rounds and one (bench/README.md).
+# Writes the signed part of a certificate on P-256 with `to_der`, finalizes it under each profile,
+# and digests a key: instructions, by the difference of 101 rounds and one; the digests of keys are
+# left out of what `finalize` costs (bench/README.md).
 . "$(dirname "$0")/program.sh"
-build builders certificate_builds 'x509_cert_builders der_core const_oid rand_core'
+build builders certificate_builds 'x509_cert_builders der_core const_oid'
 
 # costs MODE PROFILE: what a round costs
 costs() { echo $((($(instructions "$program" "$1" "$2" 101) - $(instructions "$program" "$1" "$2" 1)) / 100)); }
-for profile in root subordinate subscriber device; do
-    written=$(costs write "$profile")
-    kept=$(costs finalize "$profile")
-    digested=$(costs digest "$profile")
-    awk -v p="$profile" -v w="$written" -v k="$kept" -v d="$digested" \
-        'BEGIN { printf "%s: written %d, finalized %d (%.2f), with a digest %d (%.2f)\n", p, w, k, k / w, d, d / w }'
+digest=$(costs digest root)
+for profile in root:2 subordinate:2 subscriber:1 device:1; do
+    written=$(costs write "${profile%:*}")
+    finalized=$(costs finalize "${profile%:*}")
+    awk -v p="${profile%:*}" -v w="$written" -v f="$finalized" -v d="$digest" -v n="${profile#*:}" \
+        'BEGIN { printf "%s: written %d, finalized %d, without %d digests of %d: %d (%.2f)\n", p, w, f, n, d, f - n * d, (f - n * d) / w }'
 done

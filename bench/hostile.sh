@@ -177,12 +177,12 @@ INPUTS = {
     ),
     "headers": (1_000_000, lambda n: check(within(headers(n))), {0, 1}),
     "text of a root's types": (
-        4_000,
+        40_000,
         lambda n: issue(order(",".join(f"1.2.{it}=x" for it in range(n)), 0)),
         {1},
     ),
     "text of members": (
-        4_000,
+        40_000,
         lambda n: issue(order("+".join(f"CN={it}" for it in range(n)), 0)),
         {1},
     ),

@@ -485,7 +485,7 @@ def rows_of_calls(rows):
     issued = [it for it in runs if it[1][0] == "0"]
     refused = [it for it in runs if it[1][0] == "1"]
     for question, answer in issued[:4] + refused[:12]:
-        ask(question.replace("issue run", "issue call", 1), answer)
+        ask(question.replace("issue run", "issue call -/-", 1), answer)
 
 
 def many_extensions(count, twice=None):

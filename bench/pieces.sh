@@ -10,20 +10,26 @@ build pieces piece_reads 'cert_desk_checking x509_cert der_core'
 cd "$work"
 for _ in $(seq 5000); do cat "$certificate"; done >half.der
 cat half.der half.der >all.der
+none=$(instructions "$program" none half.der)
 # cost SIZE NAME: the instructions of one of the first 5,000 certificates, the start of the program left out, and of one of the next
 cost() {
-    local none half all
-    none=$(instructions "$program" none half.der)
+    local half all
     half=$(instructions "$program" "$1" half.der)
     all=$(instructions "$program" "$1" all.der)
+    spent=$((all - none))
     echo "$2: $(((half - none) / 5000)) instructions a certificate of the first 5000, $(((all - half) / 5000)) of the next 5000"
 }
+# ratio NAME: how many times those in one piece that is
+ratio() { awk -v name="$1" -v whole="$whole" -v spent="$spent" 'BEGIN { printf "%s: %.2f times those in one piece\n", name, spent / whole }'; }
 cost 1000000000 'in one piece'
+whole=$spent
 cost 1000 'in pieces of 1000 octets'
+ratio 'in pieces of 1000 octets'
 cost 1 'octet by octet'
+ratio 'octet by octet'
 
 # peak ARGUMENT..: the most kilobytes that the system lent
 peak() { /usr/bin/time -f %M "$program" "$@" 2>&1 >/dev/null; }
-none=$(peak none all.der)
-echo "memory: $(($(peak keep all.der) - none)) kB for certificates and octets alone, $(($(peak 1000000000 all.der) - none)) for a bundle fed in" \
-    "one piece, $(($(peak 1000 all.der) - none)) in pieces of 1000 octets, $(($(peak 1 all.der) - none)) octet by octet"
+start=$(peak none all.der)
+echo "memory: $(($(peak keep all.der) - start)) kB for certificates and octets alone, $(($(peak 1000000000 all.der) - start)) for a bundle fed in" \
+    "one piece, $(($(peak 1000 all.der) - start)) in pieces of 1000 octets, $(($(peak 1 all.der) - start)) octet by octet"

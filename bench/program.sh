@@ -8,7 +8,8 @@ trap 'rm -rf "$work"' EXIT
 # build FOLDER NAME LIBRARIES: bench/FOLDER as the crate NAME, which stands on these; $program is what is run then. A script may build more than one.
 build() {
     local crate=$work/crates/$2
-    [ -d "$work/crates" ] || cp -a "$top/crates" "$top/crates.txt" "$work/"
+    # without what was built of them, which rt finds by itself
+    [ -d "$work/crates" ] || tar -C "$top" -c --exclude='crates/*/out' crates.txt crates | tar -C "$work" -x
     mkdir -p "$crate"/{src,specs}
     touch "$crate/specs/Lib.antt"
     cp "$top/bench/$1/main.rt.txt" "$crate/src/main.rt"

@@ -20,7 +20,7 @@ for name, octets in streams:
     open(f"{name}.der", "wb").write(bytes.fromhex("".join(octets.split())))
 PY
 
-cp "$here"/{root,chain,server}.der .
+cp "$here"/{root,chain,server,nameless,limited}.der .
 "$tool" questions root.der chain.der 4000 | "$here/answer.sh" > answers.txt
 
 # the last octet of the intermediate's signature, and of the server's
@@ -128,8 +128,10 @@ days=3000 certify first anchor authority
 days=365 certify twice first twice
 days=7300 certify unwise first unwise
 serial=0x$(printf '5A%.0s' {1..25}) certify long_serial anchor plain
+serial=0 certify zero anchor plain
+serial=-5 certify negative anchor plain
 certify full anchor full
-cp "$work"/{anchor,full,long_serial}.der .
+cp "$work"/{anchor,full,long_serial,zero,negative}.der .
 cat "$work/short.der" "$work/middle.der" "$work/leaf.der" > long.der
 cat "$work/plain.der" "$work/below.der" > plain.der
 cat "$work/constrained.der" "$work/inside.der" > constrained.der

@@ -33,6 +33,8 @@ asked list "$(text_of crl "${lines[3]}")" 'Version 2' 'Issuer: CN=Example Author
     'Revocation Date: Jan 15 12:00:00 2026 GMT'
 asked request "$(text_of req "${lines[4]}")" 'Version: 1 (0x0)' 'Subject: CN=server.example' 'NIST CURVE: P-256' 'Requested Extensions' \
     'DNS:server.example'
+asked answer "$(text "${lines[5]}")" 'Serial Number: 4 ' 'Issuer: CN=Example Authority,O=Example,C=US' \
+    'Subject: CN=server.example' 'DNS:server.example' 'CA:FALSE' 'Digital Signature' 'NIST CURVE: P-256'
 
 # built WORDS: the certificate that builder_rows builds of the first question that begins so
 built() {

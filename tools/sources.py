@@ -277,15 +277,17 @@ class Source:
             above -= 1
         docs = [l.strip()[3:].strip() for l in self.lines[above + 1 : at] if l.strip().startswith("///")]
         call.doc = docs[0] if docs else ""
+        depth = 0
         while at < len(self.lines):
             line = self.lines[at]
             clause = re.match(r"^\s+(requires|ensures)\b ?(\w*)", line)
             if line in (indent + "{", indent + "{}"):
                 break
             call.text += line + "\n"
+            depth += line.count("{") - line.count("}")
             if clause:
                 call.clauses.append((clause[1], clause[2]))
-            if line.endswith(";") and not line.strip().startswith("ghost use"):
+            if line.endswith(";") and depth <= 0 and not line.strip().startswith("ghost use"):
                 break
             if not call.clauses and line.endswith(("{", "{}")) and line.startswith(indent):
                 break
