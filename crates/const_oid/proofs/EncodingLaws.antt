@@ -287,6 +287,19 @@ identifier-many bound [] id = absurd id
 identifier-many bound (x ∷ []) id = absurd id
 identifier-many bound (x ∷ y ∷ arcs) id = omega arith
 
+-- the first arc of an identifier
+pub first_arc_small : (bound a : ℕ) (rest : List ℕ) → IsIdentifier bound (a ∷ rest) → a ≤ 2
+unfolding IsIdentifier
+first_arc_small bound a [] id = absurd id
+first_arc_small bound a (b ∷ rest) id = id.0
+
+-- an identifier has an octet
+pub some_octets : (bound : ℕ) (arcs : List ℕ) → IsIdentifier bound arcs → 0 < length (identifier_octets arcs)
+unfolding IsIdentifier identifier_octets
+some_octets bound [] id = absurd id
+some_octets bound (x ∷ []) id = absurd id
+some_octets bound (x ∷ y ∷ arcs) id = omega arith
+
 pub finished : (first : Option ℕ) (identifier : Option (List ℕ)) → IsSoFar first identifier → whole_arcs (arcs_so_far first identifier) ≡ ok_or identifier errors.Empty
 finished None None s = whole-few [] (omega arith)
 finished (Some x) None s = whole-few (x ∷ []) (omega arith)

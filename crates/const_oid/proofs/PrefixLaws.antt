@@ -52,3 +52,9 @@ prefix_octets bound (u ∷ v ∷ b) rest q = ap (λ t. (40 * u + v) ∷ t) (flat
 
 pub same_octets : (bound : ℕ) (a b : List ℕ) → IsIdentifier bound a → IsIdentifier bound b → identifier_octets a ≡ identifier_octets b → a ≡ b
 same_octets bound a b p q e = sym (arcs_of-identifier_octets bound a p) ∙ ap arcs_of e ∙ arcs_of-identifier_octets bound b q
+
+-- and so of the octets that spell them
+pub prefix_spelled : (bound : ℕ) (arcs front rest w v : List ℕ) → IsIdentifier bound front → w ≡ identifier_octets arcs → v ≡ identifier_octets front → arcs ≡ front ++ rest
+    → w ≡ v ++ flat_map arc_octets rest
+prefix_spelled bound arcs front rest w v id p q e =
+    p ∙ ap identifier_octets e ∙ prefix_octets bound front rest id ∙ ap (λ t. t ++ flat_map arc_octets rest) (sym q)

@@ -13,8 +13,8 @@ use crate::error::Arc;
 /// An iterator over the arcs of an identifier, in their order.
 #[derive(Clone, Copy, Drop)]
 pub struct Arcs<'a> {
-    first: Option<Arc>,
-    second: Option<Arc>,
+    first: Option<u8>,
+    second: Option<u8>,
     later: &'a [u8],
     ghost whole_arcs: { is_ok (read_arcs Bound 0 later.now) ≡ true },
 }
@@ -36,8 +36,8 @@ impl<'a> Arcs<'a> {
             };
         };
         Arcs {
-            first: Some(Arc::from(*root / 40)),
-            second: Some(Arc::from(*root % 40)),
+            first: Some(*root / 40),
+            second: Some(*root % 40),
             later,
         }
     }
@@ -56,11 +56,11 @@ impl<'a> Iterator for Arcs<'a> {
     fn next(&mut self) -> Option<Arc> {
         if let Some(first) = self.first {
             self.first = None;
-            return Some(first);
+            return Some(Arc::from(first));
         }
         if let Some(second) = self.second {
             self.second = None;
-            return Some(second);
+            return Some(Arc::from(second));
         }
         let Some((arc, later)) = first_arc(self.later) else {
             return None;

@@ -1,6 +1,6 @@
 //! The dotted text of identifiers.
 
-ghost use Rattle.std.specs.Prelude.{◌≡◌, ℕ, true, is_ok, length};
+ghost use Rattle.std.specs.Prelude.{◌≡◌, ◌≤◌, ℕ, true, is_ok, length};
 ghost use Rattle.std.specs.Fmt.{WritesOnOk};
 ghost use Rattle.const_oid.specs.Bound.{Bound};
 ghost use Rattle.const_oid.specs.IdentifierOctets.{read_identifier};
@@ -24,7 +24,7 @@ fn write_dotted<W: fmt::Write>(octets: &[u8], f: &mut fmt::Formatter<W>) -> fmt:
     let Some(first) = arcs.next() else {
         return Ok(());
     };
-    write_decimal(first, f)?;
+    f.write_str(first_text(first))?;
     write_later(arcs, f)
 }
 
@@ -39,11 +39,16 @@ fn write_later<W: fmt::Write>(mut arcs: Arcs<'_>, f: &mut fmt::Formatter<W>) -> 
     Ok(())
 }
 
-/// Writes an arc in decimal.
-fn write_decimal<W: fmt::Write>(arc: Arc, f: &mut fmt::Formatter<W>) -> fmt::Result
-    ensures { WritesOnOk W.write_str_gives f.old result (decimal arc) f.new }
+/// The text of a first arc, which is one digit.
+fn first_text(first: Arc) -> &'static str
+    requires { first ≤ 2 }
+    ensures { result.now ≡ decimal first }
 {
-    write!(f, "{arc}")
+    match first {
+        0 => "0",
+        1 => "1",
+        _ => "2",
+    }
 }
 
 /// Writes a dot and an arc in decimal.

@@ -11,7 +11,7 @@ use std::marker::Model;
 /// their list.
 #[derive(Drop)]
 pub(crate) struct Encoder<const MAX_SIZE: usize> {
-    first: Option<Arc>,
+    first: Option<u8>,
     identifier: Option<ObjectIdentifier<MAX_SIZE>>,
 }
 
@@ -57,13 +57,13 @@ impl<const MAX_SIZE: usize> Encoder<MAX_SIZE> {
             if arc > 2 {
                 return Err(Error::ArcInvalid { arc });
             }
-            self.first = Some(arc);
+            self.first = Some(arc as u8);
             return Ok(());
         };
         if arc >= 40 {
             return Err(Error::ArcInvalid { arc });
         }
-        let root = ObjectIdentifier::from_bytes_sized(&[40 * first as u8 + arc as u8])?;
+        let root = ObjectIdentifier::from_bytes_sized(&[40 * first + arc as u8])?;
         self.identifier = Some(root);
         Ok(())
     }

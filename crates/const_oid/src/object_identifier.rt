@@ -90,6 +90,8 @@ impl<const MAX_SIZE: usize> ObjectIdentifier<MAX_SIZE> {
         Self::read_octets(ber_bytes)
     }
 
+    // Inlined, so that an identifier is moved less often.
+    #[inline(always)]
     fn read_octets(ber_bytes: &[u8]) -> Result<Self>
         ensures read { result ≡ read_identifier Bound MAX_SIZE ber_bytes.now }
     {
@@ -159,7 +161,16 @@ impl<const MAX_SIZE: usize> ObjectIdentifier<MAX_SIZE> {
     pub fn starts_with<const SIZE: usize>(&self, other: ObjectIdentifier<SIZE>) -> bool
         ensures { IsTrue result ↔ ((rest : List ℕ) × (self.now ≡ other.entry ++ rest)) }
     {
-        self.as_bytes().starts_with(other.as_bytes())
+        let (mine, others) = (self.as_bytes(), other.as_bytes());
+        let last = others.len() - 1;
+        if mine.len() <= last {
+            return false;
+        }
+        // Identifiers share their first arcs: where they differ, this octet mostly tells.
+        if mine[last] != others[last] {
+            return false;
+        }
+        mine.starts_with(others)
     }
 
     /// The octets (X.690 8.19).
@@ -172,7 +183,7 @@ impl<const MAX_SIZE: usize> ObjectIdentifier<MAX_SIZE> {
         self.octets.as_bytes()
     }
 
-    /// The same identifier, borrowed.
+    /// The identifier, borrowed.
     #[inline]
     pub fn as_oid_ref(&self) -> ObjectIdentifierRef<'_>
         ensures octets { reference_octets result ≡ identifier_octets self.now }
@@ -406,7 +417,7 @@ impl<'a> TryFrom<&'a [u8]> for ObjectIdentifier<39> {
     }
 }
 
-/// The same identifier, or `Length` where its octets pass the capacity.
+/// A copy of the identifier, or `Length` where its octets pass the capacity.
 impl<'a, const MAX_SIZE: usize> TryFrom<ObjectIdentifierRef<'a>> for ObjectIdentifier<MAX_SIZE> {
     ghost use Rattle.std.specs.Prelude.{◌≡◌};
     ghost use Rattle.const_oid.specs.Bound.{Bound};

@@ -132,7 +132,7 @@ impl<'a> TryFrom<&'a [u8]> for ObjectIdentifierRef<'a> {
     }
 }
 
-/// The same identifier, borrowed.
+/// The identifier, borrowed.
 impl<'a, const MAX_SIZE: usize> From<&'a ObjectIdentifier<MAX_SIZE>> for ObjectIdentifierRef<'a> {
     ghost use Rattle.std.specs.Prelude.{◌≡◌};
     ghost use Rattle.const_oid.specs.References.{reference_arcs};

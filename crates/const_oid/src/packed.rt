@@ -69,7 +69,8 @@ impl<const SIZE: usize> Packed<SIZE> {
         ensures octets { result.now ≡ self.now }
         ensures fits { length self.now ≤ SIZE }
     {
-        let count = if self.count < 255 {
+        // Below this capacity the count is that of the octets, and no test is left.
+        let count = if SIZE < 255 || self.count < 255 {
             self.count as usize
         } else {
             front_len(&self.bytes)

@@ -32,15 +32,15 @@ pub(crate) fn read(text: &[u8]) -> Result<ObjectIdentifier<39>>
     let mut arcs = Encoder::<39>::new();
     let mut value: Option<Arc> = None;
     for (i, octet) in text.iter().enumerate() {
-        if *octet != b'.' {
-            if *octet < b'0' || *octet > b'9' {
-                return Err(Error::DigitExpected { actual: *octet });
-            }
+        if *octet >= b'0' && *octet <= b'9' {
             let Some(next) = push_digit(value.unwrap_or(0), *octet - b'0') else {
                 return Err(Error::ArcTooBig);
             };
             value = Some(next);
             continue;
+        }
+        if *octet != b'.' {
+            return Err(Error::DigitExpected { actual: *octet });
         }
         let Some(arc) = value else {
             return Err(early_dot(&arcs));

@@ -1,4 +1,4 @@
-use Rattle.std.proofs.Common.{◌≡◌, ◌<◌, ◌≤◌, ◌+◌, get_or, drop, length, length-drop, None, Some, Err, ap, sym, ◌∙◌, arith}
+use Rattle.std.proofs.Common.{◌≡◌, ◌≢◌, ◌<◌, ◌≤◌, ◌+◌, get_or, drop, length, length-drop, None, Some, Err, ap, sym, ◌∙◌, arith}
 use Rattle.std.proofs.lemmas.Result.{err_from_is_err_and}
 use Rattle.const_oid.specs.Bound.{Bound}
 use Rattle.const_oid.specs.ArcLists.{and_then}
@@ -6,7 +6,7 @@ use Rattle.const_oid.specs.TextReading.{text_arcs, and_value}
 use Rattle.const_oid.proofs.ArcsLaws.{drop_past}
 use Rattle.const_oid.proofs.TextLaws.{octet_and_rest, text-digit, text-early, text-trailing, text-dot, no_digit_read, digit_pushed}
 use Rattle.const_oid.proofs.text.read.Goals as goal
-use Rattle.const_oid.proofs.text.read.Goals.{then-octet-lt48-via-then-octet-lt48, then-octet-lt48-via-else-octet-lt48+then-octet-gt57}
+use Rattle.const_oid.proofs.text.read.Goals.{else-octet-ge48-via-then-octet-ge48+else-octet-le57, else-octet-ge48-via-else-octet-ge48}
 
 pub returns : goal.returns
 returns c =
@@ -53,13 +53,13 @@ returns-in_err-add c =
     ∙ text-dot Bound 39 c.loop-i.arcs c.loop-i.value c.in-Some-value.arc (get_or w i 0) (drop (i + 1) w) c.if-octet-ne46.false c.in-Some-value.is more
     ∙ ap (λ r. and_then r (λ arcs. text_arcs Bound 39 arcs None (drop (i + 1) w))) c.in_err-add.ensures)
 
-pub returns-then-octet-lt48 : goal.returns-then-octet-lt48
-returns-then-octet-lt48 c =
+pub returns-then-octet-ne46 : goal.returns-then-octet-ne46
+returns-then-octet-ne46 c =
     let w = c.args.text.now in
     let i = c.loop-i.i in
-    let outside : ¬ ((48 ≤ get_or w i 0) × (get_or w i 0 ≤ 57)) = λ h. elim c.then-octet-lt48.branch [
-      | then-octet-lt48-via-then-octet-lt48 b ↦ omega (arith, h.0, b.if-octet-lt48.true)
-      | then-octet-lt48-via-else-octet-lt48+then-octet-gt57 b ↦ omega (arith, h.1, b.if-octet-gt57.true)
+    let outside : ¬ ((48 ≤ get_or w i 0) × (get_or w i 0 ≤ 57)) = λ h. elim c.else-octet-ge48.branch [
+      | else-octet-ge48-via-then-octet-ge48+else-octet-le57 b ↦ omega (arith, h.1, b.if-octet-le57.false)
+      | else-octet-ge48-via-else-octet-ge48 b ↦ omega (arith, h.0, b.if-octet-ge48.false)
     ] in
     sym (c.loop-i.invariant
     ∙ ap (text_arcs Bound 39 c.loop-i.arcs c.loop-i.value) (octet_and_rest i w c.loop-i-test.true)
@@ -70,18 +70,20 @@ pub returns-in_default : goal.returns-in_default
 returns-in_default c =
     let w = c.args.text.now in
     let i = c.loop-i.i in
+    let no_dot : get_or w i 0 ≢ 46 = λ e. omega (arith, e, c.if-octet-ge48.true) in
     sym (c.loop-i.invariant
     ∙ ap (text_arcs Bound 39 c.loop-i.arcs c.loop-i.value) (octet_and_rest i w c.loop-i-test.true)
-    ∙ text-digit Bound 39 c.loop-i.arcs c.loop-i.value (get_or w i 0) (drop (i + 1) w) c.if-octet-ne46.true
+    ∙ text-digit Bound 39 c.loop-i.arcs c.loop-i.value (get_or w i 0) (drop (i + 1) w) no_dot
     ∙ ap (λ r. and_value r (λ next. text_arcs Bound 39 c.loop-i.arcs (Some next) (drop (i + 1) w)))
     (digit_pushed Bound c.loop-i.value (get_or w i 0) c.unwrap_or.result None (omega arith) (omega arith) c.unwrap_or.ensures c.in_default.ensures))
 
-pub loop-i-preserved-then-octet-ne46 : goal.loop-i-preserved-then-octet-ne46
-loop-i-preserved-then-octet-ne46 c =
+pub loop-i-preserved-then-octet-le57 : goal.loop-i-preserved-then-octet-le57
+loop-i-preserved-then-octet-le57 c =
     let w = c.args.text.now in
     let i = c.loop-i.i in
+    let no_dot : get_or w i 0 ≢ 46 = λ e. omega (arith, e, c.if-octet-ge48.true) in
     c.loop-i.invariant
     ∙ ap (text_arcs Bound 39 c.loop-i.arcs c.loop-i.value) (octet_and_rest i w c.loop-i-test.true)
-    ∙ text-digit Bound 39 c.loop-i.arcs c.loop-i.value (get_or w i 0) (drop (i + 1) w) c.if-octet-ne46.true
+    ∙ text-digit Bound 39 c.loop-i.arcs c.loop-i.value (get_or w i 0) (drop (i + 1) w) no_dot
     ∙ ap (λ r. and_value r (λ next. text_arcs Bound 39 c.loop-i.arcs (Some next) (drop (i + 1) w)))
     (digit_pushed Bound c.loop-i.value (get_or w i 0) c.unwrap_or.result (Some c.in-Some.next) (omega arith) (omega arith) c.unwrap_or.ensures c.in-Some.ensures)

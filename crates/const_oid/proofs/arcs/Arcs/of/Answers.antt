@@ -1,8 +1,8 @@
-use Rattle.std.proofs.Common.{◌/◌, ◌∷◌, length, ap, sym, ◌∙◌}
+use Rattle.std.proofs.Common.{length, ap, sym, ◌∙◌}
 use Rattle.std.specs.Result.{is_ok}
 use Rattle.const_oid.specs.Bound.{Bound}
 use Rattle.const_oid.specs.IdentifierOctets.{read_identifier}
-use Rattle.const_oid.specs.Arcs.{later_arcs, arcs_of}
+use Rattle.const_oid.specs.Arcs.{arcs_of}
 use Rattle.const_oid.proofs.ArcsLaws.{later_whole, arcs_of-cons, none_spelled, none_whole}
 use Rattle.const_oid.proofs.arcs.Arcs.of.Goals as goal
 
@@ -20,6 +20,4 @@ invariant_of-result-2 c =
 pub returns : goal.returns
 returns c =
     let parts = c.in-Some.ensures.cases in
-    ap (λ n. n ∷ c.from-2.result ∷ later_arcs 0 c.in-Some.later.now) c.from.ensures
-    ∙ ap (λ n. (c.in-Some.root.now / 40) ∷ n ∷ later_arcs 0 c.in-Some.later.now) c.from-2.ensures
-    ∙ sym (ap arcs_of parts.0 ∙ arcs_of-cons c.in-Some.root.now c.in-Some.later.now)
+    sym (ap arcs_of parts.0 ∙ arcs_of-cons c.in-Some.root.now c.in-Some.later.now)

@@ -1,7 +1,0 @@
-use Rattle.std.proofs.Common.{rules, arith}
-use Rattle.std.proofs.Output.{has_written_of_eq}
-use Rattle.const_oid.proofs.DottedLaws.{written_decimal}
-use Rattle.const_oid.proofs.display.write_decimal.Goals as goal
-
-pub returns : goal.returns
-returns g c = λ plain ok. has_written_of_eq _ _ _ _ _ (written_decimal c.args.arc (omega arith)) (search rules)
