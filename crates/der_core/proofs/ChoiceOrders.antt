@@ -14,6 +14,7 @@ use Rattle.der_core_head.proofs.Complete.{element_some, not_begins}
 use Rattle.der_core.specs.Orders.{octets_cmp, encodings_cmp, StartsWith, next_cmp}
 use Rattle.der_core.proofs.OrderLaws.{then_first, octets_cmp-append}
 use Rattle.der_core.proofs.HeadOrders.{tag_splits, tag_cmp-equal}
+use Rattle.der_core.proofs.RowOrders.{TagIs}
 
 -- both are apart and begin otherwise
 pub record Kept (a b : Shape) : Type 0 where
@@ -46,10 +47,6 @@ unfolding octets_of IsValid
 both_second a b x y v w r i j h = rw (i, j) (λ apart p q. h (kept a b apart).second p q)
 
 -- Values of two alternatives
-
--- the tags that calls answered
-abbrev pub TagIs : (s : Shape) → Value s → Option Tag → Type 0
-TagIs s v t = IsValid s v → StartsWith (begins s) t (octets_of s v)
 
 -- octets that begin with different tags
 tags_decide : (t u : Tag) (f g : Tag → Bool) (c d : List ℕ) → t ≢ u → StartsWith f (Some t) c → StartsWith g (Some u) d → octets_cmp c d ≡ octets_cmp (tag_octets t) (tag_octets u)

@@ -31,14 +31,14 @@ tagged_content t c v h = h.0
 pub never_long : (t : Tag) (c : Content) (v : ContentValue c) (k : ErrorKind) → IsValid (tagged t c) v → size_content c v ≡ Err k → ⊥
 never_long t c v k h e = let s = tagged_sized t c v h in absurd cc
 
-over : (c : Content) (v : ContentValue c) (k : ErrorKind) → size_content c v ≡ Err k → size_content c v ≡ Err kinds.Overflow
-over c v k e = e ∙ ap (λ j. Err j) (content_only c v k e)
+pub content_over : (c : Content) (v : ContentValue c) (k : ErrorKind) → size_content c v ≡ Err k → size_content c v ≡ Err kinds.Overflow
+content_over c v k e = e ∙ ap (λ j. Err j) (content_only c v k e)
 
 pub first_long : (t : Tag) (c : Content) (v w : ContentValue c) (e : Error) → size_content c v ≡ Err e.kind → Overflows e (size (tagged t c) v) (size (tagged t c) w)
-first_long t c v w e h = record { kind = content_only c v e.kind h; length = inl (tlv_over t (size_content c v) (over c v e.kind h)) }
+first_long t c v w e h = record { kind = content_only c v e.kind h; length = inl (tlv_over t (size_content c v) (content_over c v e.kind h)) }
 
 pub second_long : (t : Tag) (c : Content) (v w : ContentValue c) (e : Error) → size_content c w ≡ Err e.kind → Overflows e (size (tagged t c) v) (size (tagged t c) w)
-second_long t c v w e h = record { kind = content_only c w e.kind h; length = inr (tlv_over t (size_content c w) (over c w e.kind h)) }
+second_long t c v w e h = record { kind = content_only c w e.kind h; length = inr (tlv_over t (size_content c w) (content_over c w e.kind h)) }
 
 -- what is too long inside is too long with its header
 pub long_inside : (t : Tag) (c : Content) (v w : ContentValue c) (e : Error) → Overflows e (size_content c v) (size_content c w) → Overflows e (size (tagged t c) v) (size (tagged t c) w)

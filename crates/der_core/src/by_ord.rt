@@ -27,7 +27,7 @@ pub trait OrdIsValueOrd: ShapedValue + Ord {
 
 /// The order of the contents of two values, by their `Ord`, where they have the same length.
 pub fn value_cmp_by_ord<T: OrdIsValueOrd>(a: &T, b: &T) -> Ordering
-    // It is that of their `Ord` whatever the lengths are.
+    // The order is that of their `Ord` whatever the lengths are.
     ensures ord { result ≡ T.cmp a.now b.now }
     ensures order { IsContent T.content (T.value_written a.now)
         → IsContent T.content (T.value_written b.now)
@@ -70,7 +70,7 @@ pub fn der_cmp_by_ord<T: OrdIsValueOrd + EncodeValue + FixedTag>(
         → result
         ≡ Ok (encodings_cmp (tagged T.fixed_tag T.content) (T.value_written a.now)
         (T.value_written b.now)) }
-    // It isn't answered where a content has no length.
+    // No order is answered where a content has no length.
     ensures answered { IfOk result (λ _. IsOk (size_content T.content (T.value_written a.now))
         × IsOk (size_content T.content (T.value_written b.now))) }
     ensures refused { IfErr result

@@ -20,7 +20,7 @@ pub trait FieldsOrd: Fields {
     /// # Errors
     /// `Overflow` where the fields of one of the two have 2^32 octets or more.
     fn fields_cmp(&self, other: &Self) -> Result<Ordering, Error>
-        // It is answered wherever all of the fields have encodings.
+        // An answer comes wherever all of the fields have encodings.
         ensures order { is_body_apart Self.fields ≡ true
             → IsBody Self.fields (Self.fields_written self.now)
             → IsBody Self.fields (Self.fields_written other.now)
@@ -28,7 +28,8 @@ pub trait FieldsOrd: Fields {
             ≡ Ok
             (bodies_cmp Self.fields (Self.fields_written self.now)
             (Self.fields_written other.now)) }
-        ensures refused { IfErr result (λ e. Overflows e (size_body Self.fields (Self.fields_written self.now))
+        ensures refused { IfErr result
+            (λ e. Overflows e (size_body Self.fields (Self.fields_written self.now))
             (size_body Self.fields (Self.fields_written other.now))) };
 
     /// The tag of the first field that stands, or none where none does.

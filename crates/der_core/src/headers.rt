@@ -64,7 +64,8 @@ pub fn length_cmp(a: Length, b: Length) -> Ordering
 /// The order of the octets of two headers: that of their tags, and then that of their lengths.
 #[tactic(auto, using(crate::proofs::HeadOrders::head_cmp))]
 pub fn header_cmp(a: Header, b: Header) -> Ordering
-    ensures { result ≡ octets_cmp (head_octets a.tag a.length.value) (head_octets b.tag b.length.value) }
+    ensures { result ≡ octets_cmp (head_octets a.tag a.length.value)
+        (head_octets b.tag b.length.value) }
 {
     tag_cmp(a.tag, b.tag).then(length_cmp(a.length, b.length))
 }

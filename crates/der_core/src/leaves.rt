@@ -30,7 +30,8 @@ impl ValueOrd for () {
 /// The order of the contents of two whole numbers (X.690 8.3). It isn't that of the numbers: 127 is
 /// `7F` and 128 `00 80`, and -1 is `FF`.
 fn integer_cmp<T: Integer>(a: &T, b: &T) -> Ordering
-    ensures { result ≡ octets_cmp (integer_octets (T.number a.now)) (integer_octets (T.number b.now)) }
+    ensures { result ≡ octets_cmp (integer_octets (T.number a.now))
+        (integer_octets (T.number b.now)) }
 {
     let (negative, number) = a.magnitude();
     let (octets, start) = integer_octets_of(negative, number);

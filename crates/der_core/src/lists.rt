@@ -25,7 +25,8 @@ pub fn elements_cmp<T: DerOrd>(a: &[T], b: &[T]) -> Result<Ordering, Error>
         → result
         ≡ Ok
         (bodies_cmp (many T.shape) (plain_list T.written a.now) (plain_list T.written b.now)) }
-    ensures refused { IfErr result (λ e. Overflows e (size_body (many T.shape) (plain_list T.written a.now))
+    ensures refused { IfErr result
+        (λ e. Overflows e (size_body (many T.shape) (plain_list T.written a.now))
         (size_body (many T.shape) (plain_list T.written b.now))) }
 {
     iter_cmp(a.iter(), b.iter())

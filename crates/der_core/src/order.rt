@@ -18,7 +18,7 @@ pub trait ValueOrd: ShapedValue {
     /// # Errors
     /// `Overflow` where the content of one of the two has 2^32 octets or more.
     fn value_cmp(&self, other: &Self) -> Result<Ordering, Error>
-        // It is answered wherever both values have a content.
+        // An answer comes wherever both values have a content.
         ensures order { is_content_apart Self.content ≡ true
             → IsContent Self.content (Self.value_written self.now)
             → IsContent Self.content (Self.value_written other.now)
@@ -38,7 +38,7 @@ pub trait DerOrd: Shaped {
     /// # Errors
     /// `Overflow` where the encoding of one of the two has 2^32 octets or more.
     fn der_cmp(&self, other: &Self) -> Result<Ordering, Error>
-        // It is answered wherever both values have an encoding.
+        // An answer comes wherever both values have an encoding.
         ensures order { is_apart Self.shape ≡ true → IsValid Self.shape (Self.written self.now)
             → IsValid Self.shape (Self.written other.now)
             → result

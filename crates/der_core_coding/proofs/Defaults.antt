@@ -79,7 +79,7 @@ same : (t : Tag) (c : Content) (v : ContentValue c) (d : List ℕ) → length d 
 unfolding octets_of
 same t c v d h = tlv_same t (contents c v) d h
 
--- It has an encoding, and is read.
+-- The value has an encoding, and is read.
 
 spelled : (t : Tag) (c : Content) (v : ContentValue c) (d : List ℕ) → length d < 128 → contents c v ≡ d
     → octets_of (tagged t c) v ≡ short_tlv t d

@@ -14,10 +14,10 @@ use Rattle.der_core_head.specs.Spelling.{is_apart, are_enough, is_element}
 use Rattle.der_core_head.proofs.Results.{unless_ok}
 use Rattle.der_core_head.proofs.Bytes.{IsBytes}
 use Rattle.der_core_head.proofs.Sound.{sound}
-use Rattle.der_core_head.proofs.AllOctets.{read_front}
-use Rattle.der_core_octets.specs.Fronts.{front_at}
+use Rattle.der_core_head.proofs.AllOctets.{read_front as front_read}
+use Rattle.der_core_octets.specs.Fronts.{read_front}
 
-pub front_spelled : {X : Type 0} (s : Shape) (view : X → Value s × List ℕ) (w : List ℕ) (r : Result X Error) → is_apart s ≡ true → IsBytes w → Gives view r (front_at s w)
+pub front_spelled : {X : Type 0} (s : Shape) (view : X → Value s × List ℕ) (w : List ℕ) (r : Result X Error) → is_apart s ≡ true → IsBytes w → Gives view r (read_front s w)
     → IfOk r (λ x. IsValid s (view x).0 × (w ≡ octets_of s (view x).0 ++ (view x).1))
 front_spelled s view w (Ok x) apart bytes e =
     let h = unless_ok (ltb length_max (length w)) kinds.Overflow (read s levels_max w) (view x) e in
@@ -25,9 +25,9 @@ front_spelled s view w (Ok x) apart bytes e =
     sound s 64 w (view x).0 (view x).1 apart bytes fits h.1
 front_spelled s view w (Err e) apart bytes h = tt
 
-pub front_again : (s : Shape) (v : Value s) (r w : List ℕ) → is_element s ≡ true → is_apart s ≡ true → are_enough s levels_max ≡ true → IsValid s v → w ≡ octets_of s v ++ r → Fits w → front_at s w ≡ Ok (v, r)
+pub front_again : (s : Shape) (v : Value s) (r w : List ℕ) → is_element s ≡ true → is_apart s ≡ true → are_enough s levels_max ≡ true → IsValid s v → w ≡ octets_of s v ++ r → Fits w → read_front s w ≡ Ok (v, r)
 front_again s v r w element apart enough valid e short =
-    rw (le-ltb length_max (length w) (omega (arith, short))) (ap (read s levels_max) e ∙ read_front s 64 v r element apart enough valid)
+    rw (le-ltb length_max (length w) (omega (arith, short))) (ap (read s levels_max) e ∙ front_read s 64 v r element apart enough valid)
 
 -- what reading gives is what was answered
 pub gives_so : {X P : Type 0} (view : X → P) (r : Result X Error) (f x : Result P ErrorKind) → f ≡ x → Gives view r f → Gives view r x

@@ -3,7 +3,7 @@ use Rattle.std.proofs.Common.{◌≡◌, ℕ, Ok, ◌+◌, ◌-◌, ◌<◌, ◌
 use Rattle.std.proofs.lemmas.List.{take-append-drop, take-take, drop-take, drop-drop, length-take, length-drop}
 use Rattle.der_core_head.specs.Reading.{Source, State, entered, restored, past}
 use Rattle.der_core_head.specs.Grammar.{slice_at}
-use Rattle.der_core_octets.proofs.Facts.{slice_ok}
+use Rattle.der_core_octets.proofs.ReadCases.{slice_ok}
 use Rattle.der_core_coding.specs.declared.slice_reader.SliceReader.TheInside.{Inside}
 use Rattle.der_core_coding.specs.Slices.{view_of, IsReader}
 

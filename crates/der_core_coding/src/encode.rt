@@ -13,7 +13,9 @@ use std::alloc::Global;
 
 /// The octets that writing a value gives, in a vector made for that many.
 fn written<T: Encode>(alloc: Global, value: &T) -> Result<Vec<u8>, Error>
-    ensures { Gives (λ v. record { written = v.items; room = None; failed = false }) result (write T.shape (T.written value.now) (record { written = []; room = None; failed = false })) }
+    ensures { Gives (λ v. record { written = v.items; room = None; failed = false }) result
+        (write T.shape (T.written value.now)
+        (record { written = []; room = None; failed = false })) }
 {
     let len = value.encoded_len()?;
     let mut out = Vec::with_capacity(alloc, len.value as usize)?;
@@ -28,7 +30,8 @@ fn written<T: Encode>(alloc: Global, value: &T) -> Result<Vec<u8>, Error>
 /// in the value doesn't rise (X.690 11.6), or `OutOfMemory`.
 pub fn to_der<T: Encode>(alloc: Global, value: &T) -> Result<Vec<u8>, Error>
     // What an Ok holds are the octets of the value, no more than a length can count.
-    ensures octets { IfOk result (λ v. (v.items ≡ octets_of T.shape (T.written value.now)) × Fits v.items) }
+    ensures octets { IfOk result (λ v. (v.items ≡ octets_of T.shape (T.written value.now))
+        × Fits v.items) }
     // The value has an encoding, where its parts are in their ranges.
     ensures valid { IfOk result (λ _. IsInRange T.shape (T.written value.now)
         → IsValid T.shape (T.written value.now)) }
@@ -36,7 +39,9 @@ pub fn to_der<T: Encode>(alloc: Global, value: &T) -> Result<Vec<u8>, Error>
     ensures spelled { IsValid T.shape (T.written value.now)
         → Gives (λ v. v.items) result (Ok (octets_of T.shape (T.written value.now))) }
     // Which fault it is.
-    ensures exact { Gives (λ v. record { written = v.items; room = None; failed = false }) result (write T.shape (T.written value.now) (record { written = []; room = None; failed = false })) }
+    ensures exact { Gives (λ v. record { written = v.items; room = None; failed = false }) result
+        (write T.shape (T.written value.now)
+        (record { written = []; room = None; failed = false })) }
 {
     written(alloc, value)
 }

@@ -44,7 +44,8 @@ impl<'a> SliceReader<'a> {
     /// `Overflow` for 2^32 octets or more.
     pub fn new(bytes: &'a [u8]) -> Result<SliceReader<'a>, Error>
         ensures ok { IfOk result (λ r. Fits bytes.now × (r ≡ unread Der bytes.now)) }
-        ensures err { IfErr result (λ e. (2 ^ 32 ≤ length bytes.now) × (e.kind ≡ ErrorKind.Overflow)) }
+        ensures err { IfErr result (λ e. (2 ^ 32 ≤ length bytes.now)
+            × (e.kind ≡ ErrorKind.Overflow)) }
     {
         let reader = SliceReader::new_with_encoding_rules(bytes, EncodingRules::Der)?;
         Ok(reader)
@@ -59,7 +60,8 @@ impl<'a> SliceReader<'a> {
         encoding_rules: EncodingRules,
     ) -> Result<SliceReader<'a>, Error>
         ensures ok { IfOk result (λ r. Fits bytes.now × (r ≡ unread encoding_rules bytes.now)) }
-        ensures err { IfErr result (λ e. (2 ^ 32 ≤ length bytes.now) × (e.kind ≡ ErrorKind.Overflow)) }
+        ensures err { IfErr result (λ e. (2 ^ 32 ≤ length bytes.now)
+            × (e.kind ≡ ErrorKind.Overflow)) }
     {
         if bytes.len() > 0xffff_ffff {
             return Err(Error::from(ErrorKind::Overflow));
@@ -81,7 +83,8 @@ impl<'a> SliceReader<'a> {
     pub fn new_with_levels(bytes: &'a [u8], levels: usize) -> Result<SliceReader<'a>, Error>
         requires { levels ≤ levels_max }
         ensures ok { IfOk result (λ r. Fits bytes.now × (r ≡ unread_within levels bytes.now)) }
-        ensures err { IfErr result (λ e. (2 ^ 32 ≤ length bytes.now) × (e.kind ≡ ErrorKind.Overflow)) }
+        ensures err { IfErr result (λ e. (2 ^ 32 ≤ length bytes.now)
+            × (e.kind ≡ ErrorKind.Overflow)) }
     {
         let mut reader = SliceReader::new(bytes)?;
         reader.depth = 64 - levels;

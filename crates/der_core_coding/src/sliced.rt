@@ -21,7 +21,8 @@ pub fn decode_sliced<'a, R: Reader<'a>, T: Decode<'a, R> + Member>(
     ensures reads { Reads (λ x. T.plain x.0) (R.state reader.old) (R.state reader.new) result
         (read_at (R.state reader.old) T.shape) }
     // The octets are those that stand between what was left before and what is left then.
-    ensures stand { IfOk result (λ x. (R.state reader.old).rest ≡ x.1.now ++ (R.state reader.new).rest) }
+    ensures stand { IfOk result (λ x. (R.state reader.old).rest ≡ x.1.now
+        ++ (R.state reader.new).rest) }
     // By DER they spell the value.
     ensures octets { IsDer (R.state reader.old)
         → IfOk result (λ x. x.1.now ≡ octets_of T.shape (T.plain x.0)) }

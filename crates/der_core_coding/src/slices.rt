@@ -71,7 +71,8 @@ pub fn encode_value_to_slice<'a, T: EncodeValue>(
     bytes: &'a mut [u8],
 ) -> Result<&'a [u8], Error>
     // What an Ok lends are the octets of the content.
-    ensures octets { IfOk result (λ octets. octets.now ≡ contents T.content (T.value_written value.now)) }
+    ensures octets { IfOk result
+        (λ octets. octets.now ≡ contents T.content (T.value_written value.now)) }
     // The content is valid, where its parts are in their ranges.
     ensures valid { IfOk result (λ _. IsContentInRange T.content (T.value_written value.now)
         → IsContent T.content (T.value_written value.now)) }
@@ -117,7 +118,8 @@ pub fn encode_to_vec<T: Encode>(value: &T, out: &mut Vec<u8>) -> Result<Length, 
         → Gives (λ len. len.value) result (Ok (length (octets_of T.shape (T.written value.now)))) }
     ensures exact { IfOk result (λ len. appended T.shape (T.written value.now) out.old.items
         ≡ Ok (len.value, out.new.items)) }
-    ensures refused { IfErr result (λ e. Fails e.kind (appended T.shape (T.written value.now) out.old.items)) }
+    ensures refused { IfErr result
+        (λ e. Fails e.kind (appended T.shape (T.written value.now) out.old.items)) }
     // What stood in the vector stays in front, and alone after a refusal.
     ensures kept { take (length out.old.items) out.new.items ≡ out.old.items }
     ensures unchanged { IfErr result (λ _. out.new.items ≡ out.old.items) }
@@ -129,7 +131,8 @@ pub fn encode_to_vec<T: Encode>(value: &T, out: &mut Vec<u8>) -> Result<Length, 
 fn append<T: Encode>(value: &T, out: &mut Vec<u8>) -> Result<Length, Error>
     ensures exact { IfOk result (λ len. appended T.shape (T.written value.now) out.old.items
         ≡ Ok (len.value, out.new.items)) }
-    ensures refused { IfErr result (λ e. Fails e.kind (appended T.shape (T.written value.now) out.old.items)) }
+    ensures refused { IfErr result
+        (λ e. Fails e.kind (appended T.shape (T.written value.now) out.old.items)) }
     // What stood in the vector stays in front, and alone after a refusal.
     ensures kept { take (length out.old.items) out.new.items ≡ out.old.items }
     ensures unchanged { IfErr result (λ _. out.new.items ≡ out.old.items) }

@@ -14,7 +14,7 @@ use der_core_values::{ApartValue, AsReadValue, EncodeValue, FixedTag, InRangeVal
 pub trait Tagged {
     ghost own_tag: { Self → Tag };
 
-    /// Its tag.
+    /// The tag.
     fn tag(&self) -> Tag
         ensures { result ≡ own_tag self.now };
 }

@@ -16,7 +16,8 @@ pub trait EncodeFields: Fields {
     /// # Errors
     /// `Overflow` from 2^32 on.
     fn fields_len(&self) -> Result<Length, Error>
-        ensures { GivesNow (λ l. l.value) result (size_body Self.fields (Self.fields_written self.now)) };
+        ensures { GivesNow (λ l. l.value) result
+            (size_body Self.fields (Self.fields_written self.now)) };
 
     /// Writes the fields.
     ///

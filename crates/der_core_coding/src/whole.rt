@@ -6,9 +6,9 @@ ghost use Rattle.der_core_head.specs.Limits.{levels_max};
 ghost use Rattle.der_core_head.specs.Heads.{Fits};
 ghost use Rattle.der_core_head.specs.Shapes.{Value, Spells, IsValid, octets_of, leaf, tagged};
 ghost use Rattle.der_core_head.specs.Spelling.{is_apart, is_element, are_enough};
-ghost use Rattle.der_core_head.specs.Grammar.{whole_at};
+ghost use Rattle.der_core_head.specs.Grammar.{read_whole};
 ghost use Rattle.der_core_head.specs.Reading.{Gives, GivesNow};
-ghost use Rattle.der_core_octets.specs.Fronts.{front_at};
+ghost use Rattle.der_core_octets.specs.Fronts.{read_front};
 ghost use Rattle.der_core_coding.specs.Wholes.{whole_ber_at};
 
 use crate::slice_reader::SliceReader;
@@ -18,12 +18,12 @@ use der_core_values::{Decode, FixedTag, Leaf, decode_leaf_of_tag};
 use std::alloc::Global;
 
 /// Reads all of the octets.
-#[tactic(auto, unfolding(der_core_head::specs::Grammar::whole_at))]
+#[tactic(auto, unfolding(der_core_head::specs::Grammar::read_whole))]
 fn read_whole<'a, T: Decode<'a, SliceReader<'a>>>(
     alloc: Global,
     bytes: &'a [u8],
 ) -> Result<T, Error>
-    ensures { Gives (λ v. (T.plain v, [])) result (whole_at T.shape bytes.now) }
+    ensures { Gives (λ v. (T.plain v, [])) result (read_whole T.shape bytes.now) }
 {
     let mut reader = SliceReader::new(bytes)?;
     let value = T::decode(alloc, &mut reader)?;
@@ -51,7 +51,7 @@ pub fn from_der<'a, T: Decode<'a, SliceReader<'a>>>(
         ≡ true
         → Spells T.shape v bytes.now → Gives T.plain result (Ok v) }
     // Which fault it is.
-    ensures exact { Gives (λ v. (T.plain v, [])) result (whole_at T.shape bytes.now) }
+    ensures exact { Gives (λ v. (T.plain v, [])) result (read_whole T.shape bytes.now) }
 {
     read_whole(alloc, bytes)
 }
@@ -60,13 +60,13 @@ pub fn from_der<'a, T: Decode<'a, SliceReader<'a>>>(
 ///
 /// # Errors
 /// Those of `from_der`, but `OutOfMemory` of a type that takes memory alone.
-#[tactic(auto, unfolding(der_core_head::specs::Grammar::whole_at))]
+#[tactic(auto, unfolding(der_core_head::specs::Grammar::read_whole))]
 pub fn leaf_from_der<'a, T: Leaf<'a> + FixedTag>(alloc: Global, bytes: &'a [u8]) -> Result<T, Error>
     ensures exact { Gives (λ v. (T.leaf_plain v, [])) result
-        (whole_at (tagged T.fixed_tag (leaf T.kind)) bytes.now) }
+        (read_whole (tagged T.fixed_tag (leaf T.kind)) bytes.now) }
     // Where the type takes no memory, it is the fault of the octets.
     ensures fault { T.takes_memory ≡ false → GivesNow (λ v. (T.leaf_plain v, [])) result
-        (whole_at (tagged T.fixed_tag (leaf T.kind)) bytes.now) }
+        (read_whole (tagged T.fixed_tag (leaf T.kind)) bytes.now) }
 {
     let mut reader = SliceReader::new(bytes)?;
     let value = decode_leaf_of_tag::<SliceReader, T>(alloc, &mut reader)?;
@@ -94,7 +94,7 @@ pub fn from_der_partial<'a, T: Decode<'a, SliceReader<'a>>>(
         → IsValid T.shape v → bytes.now ≡ octets_of T.shape v ++ r → Fits bytes.now
         → Gives {P = Value T.shape × List ℕ} (λ x. (T.plain x.0, x.1.now)) result (Ok (v, r)) }
     // Which fault it is.
-    ensures exact { Gives (λ x. (T.plain x.0, x.1.now)) result (front_at T.shape bytes.now) }
+    ensures exact { Gives (λ x. (T.plain x.0, x.1.now)) result (read_front T.shape bytes.now) }
 {
     read_front(alloc, bytes)
 }
@@ -104,7 +104,7 @@ fn read_front<'a, T: Decode<'a, SliceReader<'a>>>(
     alloc: Global,
     bytes: &'a [u8],
 ) -> Result<(T, &'a [u8]), Error>
-    ensures { Gives (λ x. (T.plain x.0, x.1.now)) result (front_at T.shape bytes.now) }
+    ensures { Gives (λ x. (T.plain x.0, x.1.now)) result (read_front T.shape bytes.now) }
 {
     let mut reader = SliceReader::new(bytes)?;
     let value = T::decode(alloc, &mut reader)?;

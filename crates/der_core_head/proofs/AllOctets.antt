@@ -8,7 +8,7 @@ use Rattle.der_core_head.specs.declared.error.ErrorKind.TheVariants as kinds
 use Rattle.der_core_head.specs.Octets.{◌>>=◌}
 use Rattle.der_core_head.specs.Heads.{Fits}
 use Rattle.der_core_head.specs.Shapes.{Shape, Value, Spells, IsValid, octets_of}
-use Rattle.der_core_head.specs.Grammar.{whole, read, whole_at}
+use Rattle.der_core_head.specs.Grammar.{whole, read, read_whole}
 use Rattle.der_core_head.specs.Reading.{Gives}
 use Rattle.der_core_head.specs.Spelling.{is_apart, are_enough, is_element}
 use Rattle.der_core_head.proofs.Results.{ok_is, bind_ok, unless_ok, whole_ok}
@@ -17,8 +17,8 @@ use Rattle.der_core_head.proofs.Fits.{valid_fits}
 use Rattle.der_core_head.proofs.Sound.{sound}
 use Rattle.der_core_head.proofs.Complete.{complete, complete_element, stops_end}
 
-pub is_spelled : {T : Type 0} (s : Shape) (plain : T → Value s) (w : List ℕ) (r : Result T Error) → is_apart s ≡ true → IsBytes w → Gives (λ v. (plain v, [])) r (whole_at s w) → IfOk r (λ v. Spells s (plain v) w)
-unfolding whole_at
+pub is_spelled : {T : Type 0} (s : Shape) (plain : T → Value s) (w : List ℕ) (r : Result T Error) → is_apart s ≡ true → IsBytes w → Gives (λ v. (plain v, [])) r (read_whole s w) → IfOk r (λ v. Spells s (plain v) w)
+unfolding read_whole
 is_spelled s plain w (Ok v) a bytes e =
     let h = unless_ok (ltb 4294967295 (length w)) kinds.Overflow (read s 64 w >>= whole) (plain v, []) e in
     let x = bind_ok (read s 64 w) whole (plain v, []) h.1 in
@@ -28,14 +28,14 @@ is_spelled s plain w (Ok v) a bytes e =
     record { valid = b.0; octets = b.1 ∙ append-nil (octets_of s (plain v)) }
 is_spelled s plain w (Err e) a bytes h = tt
 
-pub whole_again : (s : Shape) (v : Value s) (w : List ℕ) → is_apart s ≡ true → are_enough s 64 ≡ true → Spells s v w → whole_at s w ≡ Ok (v, [])
-unfolding whole_at
+pub whole_again : (s : Shape) (v : Value s) (w : List ℕ) → is_apart s ≡ true → are_enough s 64 ≡ true → Spells s v w → read_whole s w ≡ Ok (v, [])
+unfolding read_whole
 whole_again s v w a n h =
     let fits = valid_fits s v h.valid in
     let e = ap (read s 64) (h.octets ∙ sym (append-nil (octets_of s v))) ∙ complete s 64 v [] a n h.valid (stops_end s) in
     rw (le-ltb 4294967295 (length w) (omega (arith, ap length h.octets, fits)), e) refl
 
-pub is_read : {T : Type 0} (s : Shape) (plain : T → Value s) (v : Value s) (w : List ℕ) (r : Result T Error) → is_apart s ≡ true → are_enough s 64 ≡ true → Spells s v w → Gives (λ v. (plain v, [])) r (whole_at s w) → Gives plain r (Ok v)
+pub is_read : {T : Type 0} (s : Shape) (plain : T → Value s) (v : Value s) (w : List ℕ) (r : Result T Error) → is_apart s ≡ true → are_enough s 64 ≡ true → Spells s v w → Gives (λ v. (plain v, [])) r (read_whole s w) → Gives plain r (Ok v)
 is_read s plain p w (Ok v) a n h e =
     let same : (p, []) ≡ (plain v, []) = ok_is (p, []) (plain v, []) (sym (whole_again s p w a n h) ∙ e) in
     ap (λ (q : Value s × List ℕ). Ok q.0) same

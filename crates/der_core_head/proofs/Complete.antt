@@ -23,9 +23,9 @@ use Rattle.der_core_head.specs.Grammar.{whole, read, read_content, read_body, re
 use Rattle.der_core_head.proofs.TagLaws.{tag_again, tag_octets-some, same_tag-refl, same_tag-eq}
 use Rattle.der_core_head.proofs.HeadLaws.{head_again}
 use Rattle.der_core_head.proofs.LeafLaws.{leaf_again}
-use Rattle.der_core_head.proofs.Facts.{value_enough, slice_ok}
+use Rattle.der_core_head.proofs.SliceCases.{value_enough, slice_ok}
 use Rattle.der_core_head.proofs.Fits.{fits_contents}
-use Rattle.der_core_head.proofs.Steps.{follows_ok}
+use Rattle.der_core_head.proofs.InOrder.{follows_ok}
 
 value_again : {P : Type 0} (F : Readings P) (c r : List ℕ) (p : P) → F c ≡ Ok (p, []) → value_at F (length c) (c ++ r) ≡ Ok (p, r)
 value_again F c r p e =

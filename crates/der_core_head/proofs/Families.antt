@@ -6,7 +6,7 @@ use Rattle.der_core_head.specs.Octets.{IsOctets}
 use Rattle.der_core_head.specs.Heads.{Fits}
 use Rattle.der_core_head.specs.Shapes.{Shape, Value, IsValid, Spells, octets_of}
 use Rattle.der_core_head.specs.Spelling.{is_apart, is_element, are_enough}
-use Rattle.der_core_head.specs.Grammar.{read, whole_at}
+use Rattle.der_core_head.specs.Grammar.{read, read_whole}
 use Rattle.der_core_head.specs.Bounds.{IsValidUnder, identifiers_of, AreBelow, HoldsLarge}
 use Rattle.der_core_head.proofs.Below.{bytes_are}
 use Rattle.der_core_head.proofs.Sound.{sound}
@@ -52,16 +52,16 @@ spelled_exactly base S f small large v w root le =
 
 -- all of the octets
 
-whole_spelled : (s : Shape) (v : Value s) (w : List ℕ) → is_apart s ≡ true → IsOctets w → whole_at s w ≡ Ok (v, []) → Spells s v w
+whole_spelled : (s : Shape) (v : Value s) (w : List ℕ) → is_apart s ≡ true → IsOctets w → read_whole s w ≡ Ok (v, []) → Spells s v w
 whole_spelled s v w a o e = is_spelled s (λ v. v) w (Ok v) a (bytes_are w o) e
 
 pub whole_wider : (base : Shape) (S : ℕ → Shape) (f : Family base S) (small large : ℕ) (v : Value base) (w : List ℕ) → small ≤ large → IsOctets w
-    → whole_at (S small) w ≡ Ok (f.at small v, []) → whole_at (S large) w ≡ Ok (f.at large v, [])
+    → read_whole (S small) w ≡ Ok (f.at small v, []) → read_whole (S large) w ≡ Ok (f.at large v, [])
 whole_wider base S f small large v w le o e =
     whole_again (S large) (f.at large v) w (f.apart large) (f.enough large) (spelled_wider base S f small large v w le (whole_spelled (S small) (f.at small v) w (f.apart small) o e))
 
 pub whole_new : (base : Shape) (S : ℕ → Shape) (f : Family base S) (small large : ℕ) (v : Value base) (w : List ℕ) (e : ErrorKind) → IsOctets w
-    → whole_at (S large) w ≡ Ok (f.at large v, []) → whole_at (S small) w ≡ Err e → HoldsLarge small (identifiers_of base v)
+    → read_whole (S large) w ≡ Ok (f.at large v, []) → read_whole (S small) w ≡ Err e → HoldsLarge small (identifiers_of base v)
 whole_new base S f small large v w e o read refused =
     new_spelled base S f small large v w (whole_spelled (S large) (f.at large v) w (f.apart large) o read)
     (λ h. absurd (cc (whole_again (S small) (f.at small v) w (f.apart small) (f.enough small) h, refused)))

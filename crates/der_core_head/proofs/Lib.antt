@@ -17,9 +17,9 @@ pub mod BmpLaws
 pub mod NamedLaws
 pub mod LeafLaws
 pub mod Fits
-pub mod Steps
+pub mod InOrder
 pub mod MoreLevels
-pub mod Facts
+pub mod SliceCases
 pub mod Sound
 pub mod Complete
 pub mod AllOctets

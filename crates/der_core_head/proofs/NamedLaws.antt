@@ -14,7 +14,7 @@ use Rattle.der_core_head.specs.declared.error.ErrorKind.TheVariants as kinds
 use Rattle.der_core_head.specs.declared.tag.Tag.{Tag}
 use Rattle.der_core_head.specs.Octets.{IsOctets}
 use Rattle.der_core_head.specs.BitStrings.{last_octet}
-use Rattle.der_core_head.specs.NamedBits.{set_octets, unused_bits, named_octets, set_of, IsNamed, ends_in_one, named_read}
+use Rattle.der_core_head.specs.NamedBits.{set_octets, unused_bits, named_octets, spelled_set, IsNamed, ends_in_one, named_read}
 use Rattle.der_core_head.proofs.Results.{fine, ok_is, if_ok}
 use Rattle.der_core_head.proofs.Bytes.{IsBytes, bytes_tail, octets_are}
 
@@ -82,7 +82,7 @@ last-below (o ∷ p ∷ w) h = last-below (p ∷ w) h.1
 
 -- A set and its octets
 
-set_octets-zero : set_octets 0 ≡ []
+pub set_octets-zero : set_octets 0 ≡ []
 unfolding set_octets
 set_octets-zero = refl
 
@@ -93,20 +93,20 @@ set_octets-pos n some = cond-false (n == 0) [] (turned (reverse (digits 256 n)))
 digits-octets : (n : ℕ) → IsOctets (reverse (digits 256 n))
 digits-octets n = reverse-below (digits 256 n) (digits-Digits 256 n (omega arith)).below
 
-set_of-digits : (w : List ℕ) → set_of w ≡ number_from_digits 256 (reverse (turned w))
-unfolding set_of
-set_of-digits [] = refl
-set_of-digits (b ∷ w) =
-    ap (λ n. n * 256 + reverse_bits w8 b) (set_of-digits w)
+spelled_set-digits : (w : List ℕ) → spelled_set w ≡ number_from_digits 256 (reverse (turned w))
+unfolding spelled_set
+spelled_set-digits [] = refl
+spelled_set-digits (b ∷ w) =
+    ap (λ n. n * 256 + reverse_bits w8 b) (spelled_set-digits w)
     ∙ sym (ap (number_from_digits 256) (reverse-append (reverse_bits w8 b ∷ []) (turned w)) ∙ number_push 256 (reverse (turned w)) (reverse_bits w8 b))
 
-pub set_of-octets : (n : ℕ) → set_of (set_octets n) ≡ n
-set_of-octets n = by (cases_eq n 0)
+pub spelled_set-octets : (n : ℕ) → spelled_set (set_octets n) ≡ n
+spelled_set-octets n = by (cases_eq n 0)
   where
-    by : (n ≡ 0) ⊎ (n ≡ 0 → ⊥) → set_of (set_octets n) ≡ n
-    by (inl e) = set_of-digits (set_octets n) ∙ ap (λ w. number_from_digits 256 (reverse (turned w))) (ap set_octets e ∙ set_octets-zero) ∙ sym e
+    by : (n ≡ 0) ⊎ (n ≡ 0 → ⊥) → spelled_set (set_octets n) ≡ n
+    by (inl e) = spelled_set-digits (set_octets n) ∙ ap (λ w. number_from_digits 256 (reverse (turned w))) (ap set_octets e ∙ set_octets-zero) ∙ sym e
     by (inr some) =
-        set_of-digits (set_octets n)
+        spelled_set-digits (set_octets n)
         ∙ ap (λ w. number_from_digits 256 (reverse (turned w))) (set_octets-pos n (omega arith))
         ∙ ap (λ w. number_from_digits 256 (reverse w)) (all-turned-turned (reverse (digits 256 n)) (digits-octets n))
         ∙ ap (number_from_digits 256) (reverse-reverse (digits 256 n))
@@ -143,14 +143,14 @@ last-set_octets n some =
     rw e turned_large
 
 -- octets whose last is not zero are those of their set
-set_octets-of : (w : List ℕ) → IsOctets w → 0 < last_octet w → set_octets (set_of w) ≡ w
+set_octets-of : (w : List ℕ) → IsOctets w → 0 < last_octet w → set_octets (spelled_set w) ≡ w
 set_octets-of w h some =
     let ds = reverse (turned w) in
     let below : IsOctets ds = reverse-below (turned w) (all-turned-below w h) in
     let first : get_or ds 0 0 ≡ reverse_bits w8 (last_octet w) = first-reverse (turned w) ∙ last-turned w in
     let large = turned-pos (last_octet w) (last-below w h) some in
     let back : digits 256 (number_from_digits 256 ds) ≡ ds = digits-number_from_digits 256 ds (omega arith) below (inr (omega arith)) in
-    ap set_octets (set_of-digits w)
+    ap set_octets (spelled_set-digits w)
     ∙ set_octets-pos (number_from_digits 256 ds) (positive ds (omega arith) back)
     ∙ ap (λ x. turned (reverse x)) back
     ∙ ap turned (reverse-reverse (turned w))
@@ -180,8 +180,8 @@ unused_bits-below : (w : List ℕ) → IsOctets w → 0 < last_octet w → unuse
 unused_bits-below [] h some = omega arith
 unused_bits-below (b ∷ w) h some = (bit_at-trailing_zeros w8 (last_octet (b ∷ w)) some (last-below (b ∷ w) h)).0
 
-named_octets-of : (unused : ℕ) (w : List ℕ) → IsOctets w → ends_in_one unused w ≡ true → unused ∷ w ≡ named_octets (set_of w)
-unfolding named_octets set_of set_octets
+named_octets-of : (unused : ℕ) (w : List ℕ) → IsOctets w → ends_in_one unused w ≡ true → unused ∷ w ≡ named_octets (spelled_set w)
+unfolding named_octets spelled_set set_octets
 named_octets-of unused [] h e = ap (λ u. u ∷ []) (eqb-true unused 0 e)
 named_octets-of unused (b ∷ w) h e =
     let last = last_octet (b ∷ w) in
@@ -195,10 +195,10 @@ pub named_sound : (names : ℕ) (t : Tag) (w : List ℕ) (n : ℕ) → IsBytes w
 unfolding named_read
 named_sound names t [] n h e = absurd cc
 named_sound names t (unused ∷ w) n h e =
-    let parts = if_ok (ends_in_one unused w && nat_lt (set_of w) (2 ^ names)) (kinds.Value t) (fine (set_of w)) n e in
-    let tests = and_parts (ends_in_one unused w) (nat_lt (set_of w) (2 ^ names)) parts.0 in
-    let same = ok_is (set_of w) n parts.1 in (
-      subst (IsNamed names) same (ltb-true (set_of w) (2 ^ names) tests.1),
+    let parts = if_ok (ends_in_one unused w && nat_lt (spelled_set w) (2 ^ names)) (kinds.Value t) (fine (spelled_set w)) n e in
+    let tests = and_parts (ends_in_one unused w) (nat_lt (spelled_set w) (2 ^ names)) parts.0 in
+    let same = ok_is (spelled_set w) n parts.1 in (
+      subst (IsNamed names) same (ltb-true (spelled_set w) (2 ^ names) tests.1),
       named_octets-of unused w (octets_are w (bytes_tail unused w h)) tests.0 ∙ ap named_octets same,
     )
 
@@ -206,10 +206,10 @@ pub named_again : (names : ℕ) (t : Tag) (n : ℕ) → IsNamed names n → name
 unfolding named_read named_octets
 named_again names t n h =
     let w = set_octets n in
-    let same : set_of w ≡ n = set_of-octets n in
+    let same : spelled_set w ≡ n = spelled_set-octets n in
     let test : ends_in_one (unused_bits w) w ≡ true = by (cases_eq n 0) in
-    let small : nat_lt (set_of w) (2 ^ names) ≡ true = ap (λ m. nat_lt m (2 ^ names)) same ∙ lt-ltb n (2 ^ names) h in
-    cond-true (ends_in_one (unused_bits w) w && nat_lt (set_of w) (2 ^ names)) (fine (set_of w)) (Err (kinds.Value t)) (and_from (ends_in_one (unused_bits w) w) (nat_lt (set_of w) (2 ^ names)) test small)
+    let small : nat_lt (spelled_set w) (2 ^ names) ≡ true = ap (λ m. nat_lt m (2 ^ names)) same ∙ lt-ltb n (2 ^ names) h in
+    cond-true (ends_in_one (unused_bits w) w && nat_lt (spelled_set w) (2 ^ names)) (fine (spelled_set w)) (Err (kinds.Value t)) (and_from (ends_in_one (unused_bits w) w) (nat_lt (spelled_set w) (2 ^ names)) test small)
     ∙ ap (λ m. fine m) same
   where
     by : (n ≡ 0) ⊎ (n ≡ 0 → ⊥) → ends_in_one (unused_bits (set_octets n)) (set_octets n) ≡ true

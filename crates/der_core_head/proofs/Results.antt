@@ -1,9 +1,9 @@
 -- What results that are passed on tell of their parts.
-use Rattle.std.proofs.Common.{◌≡◌, Bool, true, false, cond, List, [], ◌∷◌, Result, Ok, Err, refl, ◌⊎◌, inl, inr}
+use Rattle.std.proofs.Common.{◌≡◌, ◌≢◌, ℕ, Bool, true, false, cond, List, [], ◌∷◌, Result, Ok, Err, refl, ◌⊎◌, inl, inr}
 use Rattle.der_core_head.specs.declared.error.ErrorKind.{ErrorKind}
+use Rattle.der_core_head.specs.declared.error.ErrorKind.TheVariants as kinds
 use Rattle.der_core_head.specs.Octets.{◌>>=◌}
 use Rattle.der_core_head.specs.Grammar.{whole}
-use Rattle.std.proofs.Common.{ℕ}
 
 abbrev pub fine : {A : Type 0} → A → Result A ErrorKind
 fine x = Ok x
@@ -31,3 +31,8 @@ either_ok false l r y e = inr (refl, e)
 pub whole_ok : {P : Type 0} (x y : P × List ℕ) → whole x ≡ Ok y → (x ≡ y) × (x.1 ≡ [])
 whole_ok (p, []) y e = (ok_is (p, []) y e, refl)
 whole_ok (p, b ∷ w) y e = absurd cc
+
+-- a fault of a call that can only want memory
+pub only_memory : {A : Type 0} (k : ErrorKind) (x : A) (r : Result A ErrorKind) → r ≡ Ok x → (k ≢ kinds.OutOfMemory → r ≡ Err k) → k ≡ kinds.OutOfMemory
+only_memory kinds.OutOfMemory x r e h = refl
+only_memory _ x r e h = absurd (cc (e, h (λ q. absurd cc)))

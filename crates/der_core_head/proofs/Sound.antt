@@ -28,13 +28,13 @@ use Rattle.der_core_head.proofs.Fits.{fits_front, fits_rest, fits_contents}
 use Rattle.der_core_head.proofs.TagLaws.{same_tag-eq}
 use Rattle.der_core_head.proofs.HeadLaws.{head_sound}
 use Rattle.der_core_head.proofs.LeafLaws.{leaf_sound}
-use Rattle.der_core_head.proofs.Steps.{ok_follows}
+use Rattle.der_core_head.proofs.InOrder.{ok_follows}
 
 -- a part in front, and what the rest is
 joined : (a b c rest w : List ℕ) → w ≡ a ++ rest → rest ≡ b ++ c → w ≡ (a ++ b) ++ c
 joined a b c rest w e s = e ∙ ap (λ (x : List ℕ). a ++ x) s ∙ sym (append_assoc a b c)
 
-pair_is : {P : Type 0} (x : P × List ℕ) (p : P) → x.0 ≡ p → x.1 ≡ [] → x ≡ (p, [])
+pub pair_is : {P : Type 0} (x : P × List ℕ) (p : P) → x.0 ≡ p → x.1 ≡ [] → x ≡ (p, [])
 pair_is (q, w) p e f = cc
 
 -- all of the octets were read, and what they spell is the value

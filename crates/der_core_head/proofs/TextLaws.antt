@@ -61,7 +61,7 @@ printable_below b e =
         (range_below 128 97 122 b (omega arith))
         (or_cases (is_in_range 48 57 b || is_in_range 65 90 b) (is_in_range 97 122 b) f)
 
-all_ascii : (p : ℕ → Bool) (w : List ℕ) → ((b : ℕ) → p b ≡ true → b < 128) → list_all p w ≡ true → IsAscii w
+pub all_ascii : (p : ℕ → Bool) (w : List ℕ) → ((b : ℕ) → p b ≡ true → b < 128) → list_all p w ≡ true → IsAscii w
 all_ascii p [] below e i = omega arith
 all_ascii p (b ∷ w) below e zero = below b (and_parts (p b) (list_all p w) e).0
 all_ascii p (b ∷ w) below e (suc i) = all_ascii p w below (and_parts (p b) (list_all p w) e).1 i

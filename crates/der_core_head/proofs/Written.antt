@@ -16,7 +16,7 @@ use Rattle.der_core_head.specs.Reading.{Gives}
 use Rattle.der_core_head.specs.Writing.{Out, put, put_head, head_len, sum_len, fit_len, tlv_len, both_len, many_len, default_len, size, size_content, size_body, write_tlv, write_many, all_follow, write_in_order, default_write, write, write_content, write_body}
 use Rattle.der_core_head.proofs.Results.{ok_is}
 use Rattle.der_core_head.proofs.Fits.{fits_contents}
-use Rattle.der_core_head.proofs.Steps.{follows_ok}
+use Rattle.der_core_head.proofs.InOrder.{follows_ok}
 
 sum_ok : (m n : ℕ) → m + n < 4294967296 → sum_len m n ≡ Ok (m + n)
 sum_ok m n h = rw (le-ltb 4294967295 (m + n) (omega arith)) refl

@@ -15,7 +15,7 @@ use Rattle.der_core_head.specs.Ranges.{IsInRange, IsContentInRange, IsBodyInRang
 use Rattle.der_core_head.specs.Writing.{Out, put_head, size_content, write_tlv, write_many, all_follow, write_in_order, default_write, write, write_content, write_body}
 use Rattle.der_core_head.proofs.Results.{bind_ok}
 use Rattle.der_core_head.proofs.OkOctets.{writes_fitting}
-use Rattle.der_core_head.proofs.Steps.{ok_follows}
+use Rattle.der_core_head.proofs.InOrder.{ok_follows}
 
 -- behind a header the content was written
 content_written : (t : Tag) (n : Result ℕ ErrorKind) (f : Out → Result Out ErrorKind) (o z : Out) → write_tlv t n f o ≡ Ok z → (y : Out) × (f y ≡ Ok z)

@@ -186,6 +186,6 @@ plain_list f [] = []
 plain_list f (x ∷ xs) = f x ∷ plain_list f xs
 
 -- all of the octets, which a length can count
-unfoldable pub whole_at : (s : Shape) → List ℕ → Result (Value s × List ℕ) ErrorKind
-whole_at s w = if nat_lt length_max (length w) then Err kinds.Overflow
+unfoldable pub read_whole : (s : Shape) → List ℕ → Result (Value s × List ℕ) ErrorKind
+read_whole s w = if nat_lt length_max (length w) then Err kinds.Overflow
     else (read s levels_max w >>= whole)

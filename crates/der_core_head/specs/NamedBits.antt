@@ -22,9 +22,9 @@ unfoldable pub named_octets : ℕ → List ℕ
 named_octets n = unused_bits (set_octets n) ∷ set_octets n
 
 -- the set that octets spell
-unfoldable pub set_of : List ℕ → ℕ
-set_of [] = 0
-set_of (b ∷ w) = set_of w * 256 + reverse_bits w8 b
+unfoldable pub spelled_set : List ℕ → ℕ
+spelled_set [] = 0
+spelled_set (b ∷ w) = spelled_set w * 256 + reverse_bits w8 b
 
 -- so many names
 abbrev pub IsNamed : ℕ → ℕ → Type 0
@@ -37,5 +37,5 @@ ends_in_one unused (b ∷ w) = not (last_octet (b ∷ w) == 0) && unused == unus
 
 unfoldable pub named_read : ℕ → Tag → List ℕ → Result ℕ ErrorKind
 named_read names t [] = Err (kinds.Length t)
-named_read names t (unused ∷ w) = if ends_in_one unused w && nat_lt (set_of w) (2 ^ names)
-    then Ok (set_of w) else Err (kinds.Value t)
+named_read names t (unused ∷ w) = if ends_in_one unused w && nat_lt (spelled_set w) (2 ^ names)
+    then Ok (spelled_set w) else Err (kinds.Value t)

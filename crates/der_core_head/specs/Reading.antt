@@ -68,7 +68,7 @@ ruled rules s = record s { source = record { encoding = rules; size = s.source.s
 abbrev pub IsRest : List ℕ → List ℕ → Type 0
 IsRest r w = (n : ℕ) × (r ≡ drop n w)
 
--- The same reader, further on or failed. One that failed stays failed.
+-- A reader, further on or failed. One that failed stays failed.
 pub record Kept (old new : State) : Type 0 where
   pub rest : IsRest new.rest old.rest
   pub behind : new.behind ≡ old.behind
@@ -94,7 +94,8 @@ Reads view old new (Ok x) f = (f old.rest ≡ Ok (view x, new.rest))
 Reads view old new (Err e) f = (old.failed ≡ false → Fails e.kind (f old.rest)) × Kept old new
     × (old.failed ≡ true → e.kind ≡ kinds.Failed) × (new.failed ≡ true)
 
--- The same of a call that takes no memory. After a refusal the reader is where it was, and failed.
+-- As `Reads`, of a call that takes no memory: after a refusal the reader is where it was, and
+-- failed.
 abbrev pub ReadsNow : {X P : Type 0} → (X → P) → State → State → Result X Error → Readings P
     → Type 0
 ReadsNow view old new (Ok x) f = (f old.rest ≡ Ok (view x, new.rest))
@@ -167,7 +168,7 @@ abbrev pub Gives : {X P : Type 0} → (X → P) → Result X Error → Result P 
 Gives view (Ok x) r = r ≡ Ok (view x)
 Gives view (Err e) r = Fails e.kind r
 
--- The same of a call that takes no memory.
+-- As `Gives`, of a call that takes no memory.
 abbrev pub GivesNow : {X P : Type 0} → (X → P) → Result X Error → Result P ErrorKind → Type 0
 GivesNow view (Ok x) r = r ≡ Ok (view x)
 GivesNow view (Err e) r = r ≡ Err e.kind

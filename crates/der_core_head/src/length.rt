@@ -305,7 +305,7 @@ impl From<Length> for u32 {
     }
 }
 
-/// It is never refused.
+/// A length always fits.
 impl TryFrom<Length> for usize {
     type Error = Error;
 

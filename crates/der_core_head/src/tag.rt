@@ -86,14 +86,14 @@ impl Tag {
         Ok(tag.class() == class && tag.number().value == number.value)
     }
 
-    /// Its class.
+    /// The class.
     pub fn class(self) -> Class
         ensures { class_number result ≡ tag_class self }
     {
         Class::from_bits(leading_octet_of(self))
     }
 
-    /// Its number; that of a tag of the universal class is the number of its type.
+    /// The number; that of a tag of the universal class is the number of its type.
     pub fn number(self) -> TagNumber
         ensures { result.value ≡ number_of self }
     {

@@ -74,7 +74,7 @@ pub fn short_tag_of(octet: u8) -> Option<Tag>
     ensures some { IfSome result (λ t. (w : List ℕ) → tag_at (octet ∷ w) ≡ Ok (t, w)) }
     ensures unknown { IfNone result
         (octet < 64 → (w : List ℕ) → tag_at (octet ∷ w) ≡ Err TagUnknown) }
-    // Its number follows.
+    // The number follows.
     ensures number { IfNone result (64 ≤ octet → octet % 32 ≡ 31) }
 {
     if let Some(tag) = universal_tag_of(octet) {

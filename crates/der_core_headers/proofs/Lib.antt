@@ -1,4 +1,4 @@
-mod Lengths
+mod LongLengths
 mod Levels
 pub mod Wanted
 mod Spelled

@@ -164,7 +164,7 @@ pub fn indefinite_length_of(octets: &[u8]) -> Result<Length, Error>
     ensures counted { (b more : List ℕ) → IsIndefiniteBody levels_max b → Fits b
         → octets.now ≡ b ++ more
         → GivesNow (λ n. n.value) result (Ok (length b)) }
-    // It is counted so before any other octets.
+    // Before any other octets as many are counted.
     ensures alone { IfOk result
         (λ n. (more : List ℕ) → body_len_at (take n.value octets.now ++ more) ≡ Ok n.value) }
     // Which fault it is.
@@ -186,7 +186,7 @@ pub fn header_ber_of(octets: &[u8]) -> Result<(Header, usize), Error>
     // What is spelled so is read.
     ensures only { (h : Head) (r : List ℕ) → SpellsHead h r octets.now
         → ReadsFront head_of octets.now result (λ w. Ok (h, r)) }
-    // It is read so whatever stands behind the octets that it counts.
+    // The same is read whatever stands behind the octets that are counted.
     ensures alone { IfOk result (λ x. (more : List ℕ)
         → head_ber_at (take x.1 octets.now ++ (take x.0.length.value (drop x.1 octets.now) ++ more))
         ≡ Ok (head_of x.0, take x.0.length.value (drop x.1 octets.now) ++ more)) }

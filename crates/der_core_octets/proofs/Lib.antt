@@ -1,7 +1,7 @@
 mod Magnitudes
-pub mod Facts
+pub mod ReadCases
 pub mod Nested
-pub mod Steps
+pub mod GoingOn
 mod Encodings
 mod Closures
 mod Joined

@@ -14,5 +14,5 @@ octets_at None = None
 octets_at (Some o) = Some o.now
 
 -- a value at the front of octets that a length can count, and the octets behind it
-abbrev pub front_at : (s : Shape) → List ℕ → Result (Value s × List ℕ) ErrorKind
-front_at s w = if nat_lt length_max (length w) then Err kinds.Overflow else read s levels_max w
+abbrev pub read_front : (s : Shape) → List ℕ → Result (Value s × List ℕ) ErrorKind
+read_front s w = if nat_lt length_max (length w) then Err kinds.Overflow else read s levels_max w

@@ -95,7 +95,7 @@ impl StringOwned {
         self.text.as_str()
     }
 
-    /// Its octets.
+    /// The octets.
     #[tactic(auto, using(der_core_head::proofs::Utf8Reads::utf8_reads))]
     pub fn as_bytes(&self) -> &[u8]
         ensures octets { result.now ≡ self.now }

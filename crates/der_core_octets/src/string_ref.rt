@@ -53,7 +53,7 @@ impl<'a> StringRef<'a> {
         self.text
     }
 
-    /// Its octets.
+    /// The octets.
     #[tactic(auto, using(der_core_head::proofs::Utf8Reads::utf8_reads))]
     pub fn as_bytes(&self) -> &'a [u8]
         ensures octets { result.now ≡ held_text self.now }

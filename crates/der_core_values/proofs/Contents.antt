@@ -18,8 +18,8 @@ use Rattle.der_core_head.specs.Reading.{State, Reads, IsRest, Fails, Gives, brok
 use Rattle.der_core_values.specs.Memory.{GivesTaking}
 use Rattle.der_core_head.proofs.Results.{ok_is}
 use Rattle.der_core_octets.proofs.Nested.{broken_kept}
-use Rattle.der_core_octets.proofs.Steps.{kept_then}
-use Rattle.der_core_octets.proofs.Facts.{slice_ok, slice_short, value_enough, value_short}
+use Rattle.der_core_octets.proofs.GoingOn.{kept_then}
+use Rattle.der_core_octets.proofs.ReadCases.{slice_ok, slice_short, value_enough, value_short}
 
 leaf_then : {P : Type 0} (o : Result P ErrorKind) (r : List ℕ) → (leaf_at o >>= whole >>= λ y. Ok (y.0, r)) ≡ (o >>= kept r)
 leaf_then (Ok v) r = refl

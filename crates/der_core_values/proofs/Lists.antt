@@ -60,7 +60,7 @@ unfolding read_many
 is_over z f F n i [] xs total le some so_far = absurd (some refl)
 is_over z f F n i (b ∷ w) xs total le some so_far = let k : n - i ≡ 0 = omega arith in sym so_far ∙ (rw k refl)
 
--- The same of so many values.
+-- So many values, one behind another.
 
 each_more : {P : Type 0} (F : Readings P) (n i : ℕ) (w : List ℕ) → i < n → read_exactly F (n - i) w ≡ (F w >>= λ x. read_exactly F (n - (i + 1)) x.1 >>= λ y. Ok (x.0 ∷ y.0, y.1))
 unfolding read_exactly
@@ -83,9 +83,9 @@ exactly_done f F n i w xs total le so_far =
     let k : n - i ≡ 0 = omega arith in
     sym so_far ∙ ap (λ m. with_front f xs (read_exactly F m w)) k ∙ ap (λ (p : List _). Ok (p, w)) (onto_nothing f xs)
 
--- The same of a set, whose octets are in order.
+-- The values of a set, whose octets are in order.
 
-next_in_order : {P : Type 0} (how : Step) (o : P → List ℕ) (F : Readings P) (last : Option (List ℕ)) (n i : ℕ) (w : List ℕ) → i < n → w ≢ []
+pub next_in_order : {P : Type 0} (how : Step) (o : P → List ℕ) (F : Readings P) (last : Option (List ℕ)) (n i : ℕ) (w : List ℕ) → i < n → w ≢ []
     → read_in_order how o F last (n - i) w ≡ (F w >>= λ x. follows_last how last (o x.0) >>= λ _. read_in_order how o F (Some (o x.0)) (n - (i + 1)) x.1 >>= λ y. Ok (x.0 ∷ y.0, y.1))
 unfolding read_in_order
 next_in_order how o F last n i [] lt some = absurd (some refl)

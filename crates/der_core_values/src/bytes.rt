@@ -100,7 +100,7 @@ pub fn decode_octets<'a, R: Reader<'a>>(
 ) -> Result<BytesOwned, Error>
     ensures octets { Reads (λ bytes. bytes) (R.state reader.old) (R.state reader.new) result
         (slice_at header.length.value) }
-    // It is what reading a content gives.
+    // The answer is what reading a content gives.
     ensures content { Reads (λ bytes. bytes) (R.state reader.old) (R.state reader.new) result
         (value_at (read_content_at (R.state reader.old) (leaf octets) header.tag)
         header.length.value) }

@@ -40,7 +40,8 @@ pub trait Leaf<'a>: Drop {
 /// # Errors
 /// `Incomplete` where there are fewer.
 pub fn read_content<'a, R: Reader<'a>>(reader: &mut R, header: Header) -> Result<&'a [u8], Error>
-    ensures takes { TakesContent (R.state reader.old) (R.state reader.new) result header.length.value }
+    ensures takes { TakesContent (R.state reader.old) (R.state reader.new) result
+        header.length.value }
     ensures short { IfOk result (λ octets. length octets.now < 2 ^ 32) }
 {
     reader.read_slice(header.length)

@@ -6,7 +6,7 @@ use Rattle.der_core_head.specs.Shapes.{nested, only}
 use Rattle.der_core_head.specs.Grammar.{value_at, tlv_at}
 use Rattle.der_core_head.specs.Reading.{State, Reads, read_content_at}
 use Rattle.der_core_octets.proofs.Nested.{broken_kept}
-use Rattle.der_core_octets.proofs.Steps.{reads_after, tlv_wanted}
+use Rattle.der_core_octets.proofs.GoingOn.{reads_after, tlv_wanted}
 use Rattle.der_core_coding.proofs.reading.read_explicit.Goals as goal
 
 pub returns-in_err-header : goal.returns-in_err-header

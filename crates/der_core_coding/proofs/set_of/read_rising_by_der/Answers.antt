@@ -5,7 +5,7 @@ use Rattle.der_core_head.specs.Shapes.{above, octets_of}
 use Rattle.der_core_head.specs.Grammar.{read, read_by, read_in_order, follows_last}
 use Rattle.der_core_head.specs.Reading.{State, read_at}
 use Rattle.der_core_octets.specs.Fronts.{octets_at}
-use Rattle.der_core_octets.proofs.Steps.{frame_then, kept_then, rest_then}
+use Rattle.der_core_octets.proofs.GoingOn.{frame_then, kept_then, rest_then}
 use Rattle.der_core_octets.proofs.Nested.{broken_kept}
 use Rattle.der_core_values.proofs.Lists.{with_front, set_on, set_stops, set_refuses, set_done, set_over}
 use Rattle.der_core_coding.proofs.set_of.read_rising_by_der.Goals as goal

@@ -1,5 +1,5 @@
 use Rattle.std.proofs.Common.{Ok, arith}
-use Rattle.der_core_octets.specs.Fronts.{front_at}
+use Rattle.der_core_octets.specs.Fronts.{read_front}
 use Rattle.der_core_coding.proofs.Fronts.{front_spelled, front_again, gives_so}
 use Rattle.der_core_coding.proofs.whole.from_der_partial.Goals as goal
 
@@ -8,4 +8,4 @@ returns-clause-spelled g c = λ apart. front_spelled g.T.Shaped.shape (λ x. (g.
 
 pub returns-clause-only : goal.returns-clause-only
 returns-clause-only g c = λ v r element apart enough valid e short.
-    gives_so (λ x. (g.T.Shaped.plain x.0, x.1.now)) c.read_front.result (front_at g.T.Shaped.shape c.args.bytes.now) (Ok (v, r)) (front_again g.T.Shaped.shape v r c.args.bytes.now element apart enough valid e (omega (arith, short))) c.read_front.ensures
+    gives_so (λ x. (g.T.Shaped.plain x.0, x.1.now)) c.read_front.result (read_front g.T.Shaped.shape c.args.bytes.now) (Ok (v, r)) (front_again g.T.Shaped.shape v r c.args.bytes.now element apart enough valid e (omega (arith, short))) c.read_front.ensures

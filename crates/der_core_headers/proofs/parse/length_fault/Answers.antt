@@ -1,5 +1,5 @@
 use Rattle.std.proofs.Common.{arith}
-use Rattle.der_core_headers.proofs.Lengths.{fault-none, fault-indefinite, fault-many, fault-cut, fault-shape}
+use Rattle.der_core_headers.proofs.LongLengths.{fault-none, fault-indefinite, fault-many, fault-cut, fault-shape}
 use Rattle.der_core_headers.proofs.parse.length_fault.Goals as goal
 
 pub returns-in_default : goal.returns-in_default

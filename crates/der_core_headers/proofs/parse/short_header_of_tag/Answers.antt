@@ -1,5 +1,5 @@
 use Rattle.std.proofs.Common.{arith}
-use Rattle.der_core_headers.proofs.Lengths.{plain, behind-le}
+use Rattle.der_core_headers.proofs.LongLengths.{plain, behind-le}
 use Rattle.der_core_headers.proofs.Wanted.{by_octet}
 use Rattle.der_core_headers.proofs.parse.short_header_of_tag.Goals as goal
 

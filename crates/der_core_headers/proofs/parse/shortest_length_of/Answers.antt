@@ -1,5 +1,5 @@
 use Rattle.std.proofs.Common.{arith}
-use Rattle.der_core_headers.proofs.Lengths.{longer}
+use Rattle.der_core_headers.proofs.LongLengths.{longer}
 use Rattle.der_core_headers.proofs.parse.shortest_length_of.Goals as goal
 
 pub returns-clause-some : goal.returns-clause-some

@@ -11,7 +11,7 @@ use Rattle.der_core_head.specs.Grammar.{value_at, tlv_at}
 use Rattle.der_core_head.specs.Reading.{State, Reads, read_content_at}
 use Rattle.der_core_octets.specs.Headers.Fronts.{head_of, wanted_at}
 use Rattle.der_core_octets.proofs.Nested.{broken_kept}
-use Rattle.der_core_octets.proofs.Steps.{reads_after, tlv_wanted}
+use Rattle.der_core_octets.proofs.GoingOn.{reads_after, tlv_wanted}
 use Rattle.der_core_values.proofs.now.decode_leaf_of_tag.Goals as goal
 
 pub returns-in_err-header-clause-reads : goal.returns-in_err-header-clause-reads

@@ -11,7 +11,7 @@ use Rattle.der_core_head.proofs.TagLaws.{same_tag-refl}
 use Rattle.der_core_octets.specs.Nesting.{Enters}
 use Rattle.der_core_octets.proofs.Closures.{by_failed, enters_wanted, wanted_reads}
 use Rattle.der_core_octets.proofs.Nested.{broken_kept}
-use Rattle.der_core_octets.proofs.Steps.{tlv_wanted}
+use Rattle.der_core_octets.proofs.GoingOn.{tlv_wanted}
 use Rattle.der_core_headers.proofs.Wanted.{wanted_err}
 use Rattle.der_core_octets.proofs.reader.Reader.sequence.Goals as goal
 

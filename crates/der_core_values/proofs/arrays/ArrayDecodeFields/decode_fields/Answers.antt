@@ -2,7 +2,7 @@ use Rattle.std.proofs.Common.{sym, ap, ◌∙◌, arith}
 use Rattle.std.proofs.lemmas.Result.{err_from_is_err_and}
 use Rattle.der_core_head.specs.Grammar.{read_exactly}
 use Rattle.der_core_head.specs.Reading.{State, read_at}
-use Rattle.der_core_octets.proofs.Steps.{frame_then, kept_then, rest_then}
+use Rattle.der_core_octets.proofs.GoingOn.{frame_then, kept_then, rest_then}
 use Rattle.der_core_values.proofs.Lists.{exactly_on, exactly_stops, exactly_done}
 use Rattle.der_core_values.proofs.arrays.ArrayDecodeFields.decode_fields.Goals as goal
 

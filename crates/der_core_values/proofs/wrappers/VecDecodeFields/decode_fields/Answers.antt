@@ -4,7 +4,7 @@ use Rattle.std.proofs.lemmas.Result.{err_from_is_err_and}
 use Rattle.der_core_head.specs.declared.error.ErrorKind.TheVariants as kinds
 use Rattle.der_core_head.specs.Grammar.{read_many}
 use Rattle.der_core_head.specs.Reading.{State, read_at}
-use Rattle.der_core_octets.proofs.Steps.{frame_then, kept_then, rest_then}
+use Rattle.der_core_octets.proofs.GoingOn.{frame_then, kept_then, rest_then}
 use Rattle.der_core_values.proofs.Lists.{goes_on, stops, is_done, is_over}
 use Rattle.der_core_octets.proofs.Nested.{broken_kept}
 use Rattle.der_core_values.proofs.wrappers.VecDecodeFields.decode_fields.Goals as goal

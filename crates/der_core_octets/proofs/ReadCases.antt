@@ -1,13 +1,12 @@
 -- Reading, by cases of what is there.
-use Rattle.std.proofs.Common.{◌≡◌, ℕ, ◌<◌, ◌≤◌, Bool, true, false, List, length, take, drop, Ok, Err, refl, sym, ap, ◌∙◌, arith, inl, inr}
-use Rattle.std.proofs.lemmas.Bool.{le-ltb, lt-ltb, cases_lt}
+use Rattle.std.proofs.Common.{◌≡◌, ℕ, ◌≤◌, Bool, true, false, List, length, take, drop, Ok, refl, sym, ap, ◌∙◌, arith, inl, inr}
+use Rattle.std.proofs.lemmas.Bool.{cases_lt}
 use Rattle.std.proofs.lemmas.List.{length-take}
 use mathlib.Core.Bool.{◌||◌}
 use Rattle.der_core_head.specs.declared.error.ErrorKind.TheVariants as kinds
-use Rattle.der_core_head.specs.Octets.{◌>>=◌, Readings}
-use Rattle.der_core_head.specs.Grammar.{whole, slice_at, value_at}
+use Rattle.der_core_head.specs.Grammar.{slice_at}
 use Rattle.der_core_head.proofs.Results.{ok_is}
-pub use Rattle.der_core_head.proofs.Facts.{slice_short, slice_ok, value_short, value_enough}
+pub use Rattle.der_core_head.proofs.SliceCases.{slice_short, slice_ok, value_short, value_enough}
 use Rattle.der_core_head.specs.Reading.{State, broken}
 
 -- no more octets than that
