@@ -1,13 +1,9 @@
 //! Laws of typed values: a borrowed value and its owned form agree, dates are in the order of their
 //! seconds, a set's octets don't depend on the order of insertions, what is written behind a tag is
-//! read back. Each is a function with nothing to run, or whose answers its body compares, and its
-//! contract is the law.
+//! read back. Each is a function with nothing to run, and its contract is the law.
 
 pub use der_types_any::laws::any_forms_agree;
-pub use der_types_numbers::laws::{
-    NumberAnswers, integer_forms_agree, integers_answer_alike, natural_forms_agree,
-    naturals_answer_alike,
-};
+pub use der_types_numbers::laws::{integer_forms_agree, natural_forms_agree};
 pub use der_types_sets::laws::{borrowed_and_owned_agree, order_of_insertions};
 pub use der_types_tagged::laws::{others_are_absent, written_is_read_back};
 pub use der_types_text::bmp_laws::{
@@ -19,7 +15,4 @@ pub use der_types_text::laws::{
     utf8_forms_read_alike,
 };
 pub use der_types_time::laws::{one_date_by_seconds, one_date_by_text, order_is_that_of_seconds};
-pub use der_types_values::laws::{
-    BitAnswers, OctetAnswers, bit_forms_agree, bits_answer_alike, octet_forms_agree,
-    octets_answer_alike,
-};
+pub use der_types_values::laws::{bit_forms_agree, octet_forms_agree};

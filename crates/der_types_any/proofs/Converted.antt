@@ -1,32 +1,26 @@
 -- A content read as a value of a type is what reading the whole encoding gives.
-use Rattle.std.proofs.Common.{◌≡◌, ℕ, zero, suc, ◌<◌, List, [], ◌∷◌, length, Bool, true, false, Result, Ok, Err, refl, sym, ap, ◌∙◌, arith}
+use Rattle.std.proofs.Common.{◌≡◌, ℕ, List, [], length, Bool, true, false, Result, Ok, Err, refl, sym, ap, ◌∙◌, arith}
 use Rattle.std.specs.Prelude.{IfOk}
 use Rattle.std.proofs.lemmas.Bool.{le-ltb}
 use Rattle.der_core_head.specs.Limits.{length_max, levels_max}
 use Rattle.der_core_head.specs.declared.error.Error.{Error}
 use Rattle.der_core_head.specs.declared.error.ErrorKind.{ErrorKind}
 use Rattle.der_core_head.specs.declared.tag.Tag.{Tag}
-use Rattle.der_core_head.specs.Octets.{IsOctets, ◌>>=◌}
+use Rattle.der_core_head.specs.Octets.{◌>>=◌}
 use Rattle.der_core_head.specs.Tags.{IsTag, same_tag}
 use Rattle.der_core_head.specs.Heads.{tlv, Fits}
 use Rattle.der_core_head.specs.Shapes.{AnyValue, Content, ContentValue, tagged, any, IsValid, octets_of, Spells}
 use Rattle.der_core_head.specs.Spelling.{is_apart, are_enough}
-use Rattle.der_core_head.specs.Grammar.{read, read_content, whole, whole_at, value_at, tlv_at, kept}
+use Rattle.der_core_head.specs.Grammar.{read, read_content, whole, read_whole, value_at, tlv_at, kept}
 use Rattle.der_core_head.specs.Reading.{Gives}
 use Rattle.der_core_head.specs.Fronts.{alone}
-use Rattle.der_core_head.proofs.Bytes.{IsBytes}
 use Rattle.der_core_head.proofs.Fits.{fits_contents}
 use Rattle.der_core_head.proofs.TagLaws.{same_tag-eq}
 use Rattle.der_core_head.proofs.HeadLaws.{head_again}
-use Rattle.der_core_head.proofs.Below.{octets_below}
+use Rattle.der_core_head.proofs.Below.{bytes_are, octets_below}
 use Rattle.der_core_head.proofs.AllOctets.{is_spelled, is_read}
 use Rattle.der_types_any.specs.Contents.{content_as, content_by}
 use Rattle.der_types_any.proofs.AnyLaws.{value_whole}
-
-bytes_are : (w : List ℕ) → IsOctets w → IsBytes w
-bytes_are [] h i = omega arith
-bytes_are (b ∷ w) h zero = h.0
-bytes_are (b ∷ w) h (suc i) = bytes_are w h.1 i
 
 end_alone : {P : Type 0} (o : Result (P × List ℕ) ErrorKind) → (o >>= λ x. kept [] x.0) ≡ (alone o >>= kept [])
 end_alone (Ok x) = refl
@@ -48,12 +42,12 @@ tlv_read t c a tag few = by (same_tag a.tag t) refl
         (ap (λ (u : Tag). value_at (read_content c u 64) (length a.contents) a.contents) same
         ∙ value_whole (read_content c a.tag 64) a.contents ∙ end_alone (read_content c a.tag 64 a.contents >>= whole))
 
-whole_read : (t : Tag) (c : Content) (a : AnyValue) → IsValid any a → whole_at (tagged t c) (octets_of any a) ≡ (content_as t c a >>= kept [])
-unfolding whole_at octets_of IsValid
+whole_read : (t : Tag) (c : Content) (a : AnyValue) → IsValid any a → read_whole (tagged t c) (octets_of any a) ≡ (content_as t c a >>= kept [])
+unfolding read_whole octets_of IsValid
 whole_read t c a h =
     rw (le-ltb length_max (length (tlv a.tag a.contents)) (omega (arith, h.2)), tlv_read t c a h.1 (fits_contents a.tag a.contents h.2)) (end_whole (content_as t c a))
 
-gives_whole : {T : Type 0} (t : Tag) (c : Content) (plain : T → ContentValue c) (a : AnyValue) (r : Result T Error) → IsValid any a → Gives plain r (content_as t c a) → Gives (λ v. (plain v, [])) r (whole_at (tagged t c) (octets_of any a))
+gives_whole : {T : Type 0} (t : Tag) (c : Content) (plain : T → ContentValue c) (a : AnyValue) (r : Result T Error) → IsValid any a → Gives plain r (content_as t c a) → Gives (λ v. (plain v, [])) r (read_whole (tagged t c) (octets_of any a))
 gives_whole t c plain a (Ok v) h e = whole_read t c a h ∙ ap (λ o. o >>= kept []) e
 gives_whole t c plain a (Err k) h e = λ memory. whole_read t c a h ∙ ap (λ o. o >>= kept []) (e memory)
 

@@ -55,7 +55,9 @@ impl Model for Any {
 
 /// The octets that writing the content of a value gives.
 fn content_octets<T: EncodeValue>(alloc: Global, value: &T) -> Result<Vec<u8>, Error>
-    ensures { Gives (λ v. record { written = v.items; room = None; failed = false }) result (write_content T.content (T.value_written value.now) (record { written = []; room = None; failed = false })) }
+    ensures { Gives (λ v. record { written = v.items; room = None; failed = false }) result
+        (write_content T.content (T.value_written value.now)
+        (record { written = []; room = None; failed = false })) }
 {
     let mut out = Vec::new(alloc);
     value.encode_value(&mut out)?;
@@ -68,7 +70,8 @@ impl Any {
     /// # Errors
     /// `Overflow` for 2^32 octets or more.
     pub fn new(tag: Tag, bytes: Vec<u8>) -> Result<Any, Error>
-        ensures ok { IfOk result (λ a. (vec_len bytes < 2 ^ 32) × (a ≡ record { tag = tag; contents = bytes.items })) }
+        ensures ok { IfOk result (λ a. (vec_len bytes < 2 ^ 32)
+            × (a ≡ record { tag = tag; contents = bytes.items })) }
         ensures err { IfErr result (λ e. (2 ^ 32 ≤ vec_len bytes) × (e.kind ≡ ErrorKind.Overflow)) }
     {
         if bytes.len() > 0xffff_ffff {
@@ -93,7 +96,8 @@ impl Any {
     /// `Overflow` where a length passes 2^32 - 1, or `OutOfMemory`.
     #[tactic(auto, unfolding(crate::specs::Contents::written_as, der_types_numbers::specs::Numbers::counted))]
     pub fn encode_from<T: EncodeValue + FixedTag>(alloc: Global, value: &T) -> Result<Any, Error>
-        ensures { Gives (λ a. a) result (written_as T.fixed_tag T.content (T.value_written value.now)) }
+        ensures { Gives (λ a. a) result
+            (written_as T.fixed_tag T.content (T.value_written value.now)) }
     {
         let bytes = content_octets(alloc, value)?;
         let any = Any::new(T::tag(), bytes)?;
@@ -188,7 +192,8 @@ impl Any {
         alloc: Global,
         encoding_rules: EncodingRules,
     ) -> Result<T, Error>
-        ensures { Gives T.value_plain result (content_by encoding_rules T.fixed_tag T.content self.now) }
+        ensures { Gives T.value_plain result
+            (content_by encoding_rules T.fixed_tag T.content self.now) }
     {
         let value = self.to_ref().decode_as_encoding(alloc, encoding_rules)?;
         Ok(value)
@@ -228,14 +233,14 @@ impl Any {
         self.to_ref().value_cmp(&other.to_ref())
     }
 
-    /// The same value, lent.
+    /// The value, lent.
     pub fn to_ref(&self) -> AnyRef<'_>
         ensures { any_lent result ≡ self.now }
     {
         AnyRef::trusted(self.tag, self.bytes.as_slice())
     }
 
-    /// The same value, lent.
+    /// The value, lent.
     pub fn owned_to_ref(&self) -> AnyRef<'_>
         ensures { any_lent result ≡ self.now }
     {

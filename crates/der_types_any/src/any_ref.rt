@@ -55,8 +55,10 @@ impl<'a> AnyRef<'a> {
     /// # Errors
     /// `Overflow` for 2^32 octets or more.
     pub fn new(tag: Tag, bytes: &'a [u8]) -> Result<AnyRef<'a>, Error>
-        ensures ok { IfOk result (λ a. Fits bytes.now × (any_lent a ≡ record { tag = tag; contents = bytes.now })) }
-        ensures err { IfErr result (λ e. (2 ^ 32 ≤ length bytes.now) × (e.kind ≡ ErrorKind.Overflow)) }
+        ensures ok { IfOk result
+            (λ a. Fits bytes.now × (any_lent a ≡ record { tag = tag; contents = bytes.now })) }
+        ensures err { IfErr result (λ e. (2 ^ 32 ≤ length bytes.now)
+            × (e.kind ≡ ErrorKind.Overflow)) }
     {
         if bytes.len() > 0xffff_ffff {
             return Err(Error::from(ErrorKind::Overflow));
@@ -132,7 +134,8 @@ impl<'a> AnyRef<'a> {
             → Spells (tagged T.fixed_tag T.content) v (octets_of any (any_lent self.now))
             → Gives T.value_plain result (Ok v) }
         // Which fault it is.
-        ensures exact { Gives T.value_plain result (content_as T.fixed_tag T.content (any_lent self.now)) }
+        ensures exact { Gives T.value_plain result
+            (content_as T.fixed_tag T.content (any_lent self.now)) }
     {
         self.decode_as_encoding(alloc, EncodingRules::Der)
     }
@@ -173,7 +176,8 @@ impl<'a> AnyRef<'a> {
         // The closure gives back the same reader, with the same end, and further on.
         requires hands_back { HandsBack (λ s. s) F.FnOnce f }
         // The answer is that of the closure, which left nothing.
-        ensures ran { IfOk result (λ x. Answered (λ s. s) F.FnOnce f (length (any_lent self.now).contents)
+        ensures ran { IfOk result
+            (λ x. Answered (λ s. s) F.FnOnce f (length (any_lent self.now).contents)
             (unread Der (any_lent self.now).contents) x) }
         ensures tag { same_tag (any_lent self.now).tag Sequence ≡ false
             → IsErrAnd result (λ e. e.kind ≡ ErrorKind.TagUnexpected) }
@@ -192,13 +196,14 @@ impl<'a> AnyRef<'a> {
 
     /// The order of two contents as lists of octets, whatever the tags. It is always answered.
     pub fn value_cmp(&self, other: &AnyRef<'_>) -> Result<Ordering, Error>
-        ensures { result ≡ Ok (octets_cmp (any_lent self.now).contents (any_lent other.now).contents) }
+        ensures { result
+            ≡ Ok (octets_cmp (any_lent self.now).contents (any_lent other.now).contents) }
     {
         let order = self.bytes.cmp(other.bytes);
         Ok(order)
     }
 
-    /// The same value, owned.
+    /// A copy of the value that owns its octets.
     ///
     /// # Errors
     /// Want of memory.
@@ -209,7 +214,7 @@ impl<'a> AnyRef<'a> {
     }
 }
 
-/// The same value, lent.
+/// The value, lent.
 impl<'a> From<&'a Any> for AnyRef<'a> {
     ghost use Rattle.der_types_any.specs.Anys.{any_lent};
 
@@ -246,7 +251,8 @@ impl<'a> PartialOrd for AnyRef<'a> {
 
     ghost partial_cmp = { λ a b. Some (any_cmp (any_lent a) (any_lent b)) };
 
-    ghost laws = { po (on_total any_lent any_cmp_total) (λ a b. any_cmp_ties (any_lent a) (any_lent b)) };
+    ghost laws = { po (on_total any_lent any_cmp_total)
+        (λ a b. any_cmp_ties (any_lent a) (any_lent b)) };
 
     fn partial_cmp(&self, other: &Self) -> Option<Ordering> {
         Some(self.cmp(other))

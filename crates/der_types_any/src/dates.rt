@@ -11,7 +11,7 @@ use crate::any::Any;
 use crate::any_ref::AnyRef;
 use crate::conversions::check_tag;
 use der_core::{Error, Tag};
-use der_types_time::{GeneralizedTime, UtcTime};
+use der_types_time::{DateTime, GeneralizedTime, UtcTime};
 
 /// The time of a UTCTime.
 impl<'a> TryFrom<AnyRef<'a>> for UtcTime {
@@ -27,7 +27,7 @@ impl<'a> TryFrom<AnyRef<'a>> for UtcTime {
     }
 }
 
-/// The same of an owned value.
+/// An owned value, as an `AnyRef` to it is decoded.
 impl<'a> TryFrom<&'a Any> for UtcTime {
     type Error = Error;
 
@@ -43,7 +43,8 @@ impl<'a> TryFrom<&'a Any> for UtcTime {
 impl<'a> TryFrom<AnyRef<'a>> for GeneralizedTime {
     type Error = Error;
 
-    ghost try_from_gives = { λ a r. GivesNow (λ t. t) r (leaf_as tags.GeneralizedTime generalized_time (any_lent a)) };
+    ghost try_from_gives = { λ a r. GivesNow (λ t. t) r
+        (leaf_as tags.GeneralizedTime generalized_time (any_lent a)) };
 
     #[tactic(auto, unfolding(crate::specs::Contents::leaf_as))]
     fn try_from(any: AnyRef<'a>) -> Result<GeneralizedTime, Error> {
@@ -53,14 +54,41 @@ impl<'a> TryFrom<AnyRef<'a>> for GeneralizedTime {
     }
 }
 
-/// The same of an owned value.
+/// An owned value, as an `AnyRef` to it is decoded.
 impl<'a> TryFrom<&'a Any> for GeneralizedTime {
     type Error = Error;
 
-    ghost try_from_gives = { λ a r. GivesNow (λ t. t) r (leaf_as tags.GeneralizedTime generalized_time a.now) };
+    ghost try_from_gives = { λ a r. GivesNow (λ t. t) r
+        (leaf_as tags.GeneralizedTime generalized_time a.now) };
 
     fn try_from(any: &'a Any) -> Result<GeneralizedTime, Error> {
         let value = GeneralizedTime::try_from(any.to_ref())?;
+        Ok(value)
+    }
+}
+
+/// The date of a GeneralizedTime.
+impl<'a> TryFrom<AnyRef<'a>> for DateTime {
+    type Error = Error;
+
+    ghost try_from_gives = { λ a r. GivesNow (λ d. d) r
+        (leaf_as tags.GeneralizedTime generalized_time (any_lent a)) };
+
+    fn try_from(any: AnyRef<'a>) -> Result<DateTime, Error> {
+        let time = GeneralizedTime::try_from(any)?;
+        Ok(time.to_date_time())
+    }
+}
+
+/// An owned value, as an `AnyRef` to it is decoded.
+impl<'a> TryFrom<&'a Any> for DateTime {
+    type Error = Error;
+
+    ghost try_from_gives = { λ a r. GivesNow (λ d. d) r
+        (leaf_as tags.GeneralizedTime generalized_time a.now) };
+
+    fn try_from(any: &'a Any) -> Result<DateTime, Error> {
+        let value = DateTime::try_from(any.to_ref())?;
         Ok(value)
     }
 }

@@ -18,7 +18,8 @@ use der_types_numbers::{IntRef, UintRef};
 /// The number of an INTEGER.
 #[tactic(auto, unfolding(crate::specs::Contents::leaf_as))]
 fn integer_from<T: Integer>(any: &AnyRef<'_>) -> Result<T, Error>
-    ensures { GivesNow T.number result (leaf_as tags.Integer (integer T.numbers) (any_lent any.now)) }
+    ensures { GivesNow T.number result
+        (leaf_as tags.Integer (integer T.numbers) (any_lent any.now)) }
 {
     check_tag(any.tag(), Tag::Integer)?;
     let number = T::from_integer(any.tag(), any.value())?;
@@ -29,7 +30,8 @@ fn integer_from<T: Integer>(any: &AnyRef<'_>) -> Result<T, Error>
 impl<'a> TryFrom<AnyRef<'a>> for u8 {
     type Error = Error;
 
-    ghost try_from_gives = { λ a r. GivesNow (λ n. pos n) r (leaf_as tags.Integer (integer (unsigned 8)) (any_lent a)) };
+    ghost try_from_gives = { λ a r. GivesNow (λ n. pos n) r
+        (leaf_as tags.Integer (integer (unsigned 8)) (any_lent a)) };
 
     fn try_from(any: AnyRef<'a>) -> Result<u8, Error> {
         let number = integer_from::<u8>(&any)?;
@@ -37,11 +39,12 @@ impl<'a> TryFrom<AnyRef<'a>> for u8 {
     }
 }
 
-/// The same of an owned value.
+/// An owned value, as an `AnyRef` to it is decoded.
 impl<'a> TryFrom<&'a Any> for u8 {
     type Error = Error;
 
-    ghost try_from_gives = { λ a r. GivesNow (λ n. pos n) r (leaf_as tags.Integer (integer (unsigned 8)) a.now) };
+    ghost try_from_gives = { λ a r. GivesNow (λ n. pos n) r
+        (leaf_as tags.Integer (integer (unsigned 8)) a.now) };
 
     fn try_from(any: &'a Any) -> Result<u8, Error> {
         let value = u8::try_from(any.to_ref())?;
@@ -53,7 +56,8 @@ impl<'a> TryFrom<&'a Any> for u8 {
 impl<'a> TryFrom<AnyRef<'a>> for u16 {
     type Error = Error;
 
-    ghost try_from_gives = { λ a r. GivesNow (λ n. pos n) r (leaf_as tags.Integer (integer (unsigned 16)) (any_lent a)) };
+    ghost try_from_gives = { λ a r. GivesNow (λ n. pos n) r
+        (leaf_as tags.Integer (integer (unsigned 16)) (any_lent a)) };
 
     fn try_from(any: AnyRef<'a>) -> Result<u16, Error> {
         let number = integer_from::<u16>(&any)?;
@@ -61,11 +65,12 @@ impl<'a> TryFrom<AnyRef<'a>> for u16 {
     }
 }
 
-/// The same of an owned value.
+/// An owned value, as an `AnyRef` to it is decoded.
 impl<'a> TryFrom<&'a Any> for u16 {
     type Error = Error;
 
-    ghost try_from_gives = { λ a r. GivesNow (λ n. pos n) r (leaf_as tags.Integer (integer (unsigned 16)) a.now) };
+    ghost try_from_gives = { λ a r. GivesNow (λ n. pos n) r
+        (leaf_as tags.Integer (integer (unsigned 16)) a.now) };
 
     fn try_from(any: &'a Any) -> Result<u16, Error> {
         let value = u16::try_from(any.to_ref())?;
@@ -77,7 +82,8 @@ impl<'a> TryFrom<&'a Any> for u16 {
 impl<'a> TryFrom<AnyRef<'a>> for u32 {
     type Error = Error;
 
-    ghost try_from_gives = { λ a r. GivesNow (λ n. pos n) r (leaf_as tags.Integer (integer (unsigned 32)) (any_lent a)) };
+    ghost try_from_gives = { λ a r. GivesNow (λ n. pos n) r
+        (leaf_as tags.Integer (integer (unsigned 32)) (any_lent a)) };
 
     fn try_from(any: AnyRef<'a>) -> Result<u32, Error> {
         let number = integer_from::<u32>(&any)?;
@@ -85,11 +91,12 @@ impl<'a> TryFrom<AnyRef<'a>> for u32 {
     }
 }
 
-/// The same of an owned value.
+/// An owned value, as an `AnyRef` to it is decoded.
 impl<'a> TryFrom<&'a Any> for u32 {
     type Error = Error;
 
-    ghost try_from_gives = { λ a r. GivesNow (λ n. pos n) r (leaf_as tags.Integer (integer (unsigned 32)) a.now) };
+    ghost try_from_gives = { λ a r. GivesNow (λ n. pos n) r
+        (leaf_as tags.Integer (integer (unsigned 32)) a.now) };
 
     fn try_from(any: &'a Any) -> Result<u32, Error> {
         let value = u32::try_from(any.to_ref())?;
@@ -101,7 +108,8 @@ impl<'a> TryFrom<&'a Any> for u32 {
 impl<'a> TryFrom<AnyRef<'a>> for u64 {
     type Error = Error;
 
-    ghost try_from_gives = { λ a r. GivesNow (λ n. pos n) r (leaf_as tags.Integer (integer (unsigned 64)) (any_lent a)) };
+    ghost try_from_gives = { λ a r. GivesNow (λ n. pos n) r
+        (leaf_as tags.Integer (integer (unsigned 64)) (any_lent a)) };
 
     fn try_from(any: AnyRef<'a>) -> Result<u64, Error> {
         let number = integer_from::<u64>(&any)?;
@@ -109,11 +117,12 @@ impl<'a> TryFrom<AnyRef<'a>> for u64 {
     }
 }
 
-/// The same of an owned value.
+/// An owned value, as an `AnyRef` to it is decoded.
 impl<'a> TryFrom<&'a Any> for u64 {
     type Error = Error;
 
-    ghost try_from_gives = { λ a r. GivesNow (λ n. pos n) r (leaf_as tags.Integer (integer (unsigned 64)) a.now) };
+    ghost try_from_gives = { λ a r. GivesNow (λ n. pos n) r
+        (leaf_as tags.Integer (integer (unsigned 64)) a.now) };
 
     fn try_from(any: &'a Any) -> Result<u64, Error> {
         let value = u64::try_from(any.to_ref())?;
@@ -134,11 +143,12 @@ impl<'a> TryFrom<AnyRef<'a>> for u128 {
     }
 }
 
-/// The same of an owned value.
+/// An owned value, as an `AnyRef` to it is decoded.
 impl<'a> TryFrom<&'a Any> for u128 {
     type Error = Error;
 
-    ghost try_from_gives = { λ a r. GivesNow (λ n. pos n) r (leaf_as tags.Integer (integer (unsigned 128)) a.now) };
+    ghost try_from_gives = { λ a r. GivesNow (λ n. pos n) r
+        (leaf_as tags.Integer (integer (unsigned 128)) a.now) };
 
     fn try_from(any: &'a Any) -> Result<u128, Error> {
         let value = u128::try_from(any.to_ref())?;
@@ -150,7 +160,8 @@ impl<'a> TryFrom<&'a Any> for u128 {
 impl<'a> TryFrom<AnyRef<'a>> for i8 {
     type Error = Error;
 
-    ghost try_from_gives = { λ a r. GivesNow (λ n. n) r (leaf_as tags.Integer (integer (signed 8)) (any_lent a)) };
+    ghost try_from_gives = { λ a r. GivesNow (λ n. n) r
+        (leaf_as tags.Integer (integer (signed 8)) (any_lent a)) };
 
     fn try_from(any: AnyRef<'a>) -> Result<i8, Error> {
         let number = integer_from::<i8>(&any)?;
@@ -158,11 +169,12 @@ impl<'a> TryFrom<AnyRef<'a>> for i8 {
     }
 }
 
-/// The same of an owned value.
+/// An owned value, as an `AnyRef` to it is decoded.
 impl<'a> TryFrom<&'a Any> for i8 {
     type Error = Error;
 
-    ghost try_from_gives = { λ a r. GivesNow (λ n. n) r (leaf_as tags.Integer (integer (signed 8)) a.now) };
+    ghost try_from_gives = { λ a r. GivesNow (λ n. n) r
+        (leaf_as tags.Integer (integer (signed 8)) a.now) };
 
     fn try_from(any: &'a Any) -> Result<i8, Error> {
         let value = i8::try_from(any.to_ref())?;
@@ -174,7 +186,8 @@ impl<'a> TryFrom<&'a Any> for i8 {
 impl<'a> TryFrom<AnyRef<'a>> for i16 {
     type Error = Error;
 
-    ghost try_from_gives = { λ a r. GivesNow (λ n. n) r (leaf_as tags.Integer (integer (signed 16)) (any_lent a)) };
+    ghost try_from_gives = { λ a r. GivesNow (λ n. n) r
+        (leaf_as tags.Integer (integer (signed 16)) (any_lent a)) };
 
     fn try_from(any: AnyRef<'a>) -> Result<i16, Error> {
         let number = integer_from::<i16>(&any)?;
@@ -182,11 +195,12 @@ impl<'a> TryFrom<AnyRef<'a>> for i16 {
     }
 }
 
-/// The same of an owned value.
+/// An owned value, as an `AnyRef` to it is decoded.
 impl<'a> TryFrom<&'a Any> for i16 {
     type Error = Error;
 
-    ghost try_from_gives = { λ a r. GivesNow (λ n. n) r (leaf_as tags.Integer (integer (signed 16)) a.now) };
+    ghost try_from_gives = { λ a r. GivesNow (λ n. n) r
+        (leaf_as tags.Integer (integer (signed 16)) a.now) };
 
     fn try_from(any: &'a Any) -> Result<i16, Error> {
         let value = i16::try_from(any.to_ref())?;
@@ -198,7 +212,8 @@ impl<'a> TryFrom<&'a Any> for i16 {
 impl<'a> TryFrom<AnyRef<'a>> for i32 {
     type Error = Error;
 
-    ghost try_from_gives = { λ a r. GivesNow (λ n. n) r (leaf_as tags.Integer (integer (signed 32)) (any_lent a)) };
+    ghost try_from_gives = { λ a r. GivesNow (λ n. n) r
+        (leaf_as tags.Integer (integer (signed 32)) (any_lent a)) };
 
     fn try_from(any: AnyRef<'a>) -> Result<i32, Error> {
         let number = integer_from::<i32>(&any)?;
@@ -206,11 +221,12 @@ impl<'a> TryFrom<AnyRef<'a>> for i32 {
     }
 }
 
-/// The same of an owned value.
+/// An owned value, as an `AnyRef` to it is decoded.
 impl<'a> TryFrom<&'a Any> for i32 {
     type Error = Error;
 
-    ghost try_from_gives = { λ a r. GivesNow (λ n. n) r (leaf_as tags.Integer (integer (signed 32)) a.now) };
+    ghost try_from_gives = { λ a r. GivesNow (λ n. n) r
+        (leaf_as tags.Integer (integer (signed 32)) a.now) };
 
     fn try_from(any: &'a Any) -> Result<i32, Error> {
         let value = i32::try_from(any.to_ref())?;
@@ -222,7 +238,8 @@ impl<'a> TryFrom<&'a Any> for i32 {
 impl<'a> TryFrom<AnyRef<'a>> for i64 {
     type Error = Error;
 
-    ghost try_from_gives = { λ a r. GivesNow (λ n. n) r (leaf_as tags.Integer (integer (signed 64)) (any_lent a)) };
+    ghost try_from_gives = { λ a r. GivesNow (λ n. n) r
+        (leaf_as tags.Integer (integer (signed 64)) (any_lent a)) };
 
     fn try_from(any: AnyRef<'a>) -> Result<i64, Error> {
         let number = integer_from::<i64>(&any)?;
@@ -230,11 +247,12 @@ impl<'a> TryFrom<AnyRef<'a>> for i64 {
     }
 }
 
-/// The same of an owned value.
+/// An owned value, as an `AnyRef` to it is decoded.
 impl<'a> TryFrom<&'a Any> for i64 {
     type Error = Error;
 
-    ghost try_from_gives = { λ a r. GivesNow (λ n. n) r (leaf_as tags.Integer (integer (signed 64)) a.now) };
+    ghost try_from_gives = { λ a r. GivesNow (λ n. n) r
+        (leaf_as tags.Integer (integer (signed 64)) a.now) };
 
     fn try_from(any: &'a Any) -> Result<i64, Error> {
         let value = i64::try_from(any.to_ref())?;
@@ -246,7 +264,8 @@ impl<'a> TryFrom<&'a Any> for i64 {
 impl<'a> TryFrom<AnyRef<'a>> for i128 {
     type Error = Error;
 
-    ghost try_from_gives = { λ a r. GivesNow (λ n. n) r (leaf_as tags.Integer (integer (signed 128)) (any_lent a)) };
+    ghost try_from_gives = { λ a r. GivesNow (λ n. n) r
+        (leaf_as tags.Integer (integer (signed 128)) (any_lent a)) };
 
     fn try_from(any: AnyRef<'a>) -> Result<i128, Error> {
         let number = integer_from::<i128>(&any)?;
@@ -254,11 +273,12 @@ impl<'a> TryFrom<AnyRef<'a>> for i128 {
     }
 }
 
-/// The same of an owned value.
+/// An owned value, as an `AnyRef` to it is decoded.
 impl<'a> TryFrom<&'a Any> for i128 {
     type Error = Error;
 
-    ghost try_from_gives = { λ a r. GivesNow (λ n. n) r (leaf_as tags.Integer (integer (signed 128)) a.now) };
+    ghost try_from_gives = { λ a r. GivesNow (λ n. n) r
+        (leaf_as tags.Integer (integer (signed 128)) a.now) };
 
     fn try_from(any: &'a Any) -> Result<i128, Error> {
         let value = i128::try_from(any.to_ref())?;
@@ -270,7 +290,8 @@ impl<'a> TryFrom<&'a Any> for i128 {
 impl<'a> TryFrom<AnyRef<'a>> for IntRef<'a> {
     type Error = Error;
 
-    ghost try_from_gives = { λ a r. GivesNow integer_lent r (leaf_as tags.Integer (integer every) (any_lent a)) };
+    ghost try_from_gives = { λ a r. GivesNow integer_lent r
+        (leaf_as tags.Integer (integer every) (any_lent a)) };
 
     #[tactic(auto, unfolding(crate::specs::Contents::leaf_as))]
     fn try_from(any: AnyRef<'a>) -> Result<IntRef<'a>, Error> {
@@ -280,11 +301,12 @@ impl<'a> TryFrom<AnyRef<'a>> for IntRef<'a> {
     }
 }
 
-/// The same of an owned value.
+/// An owned value, as an `AnyRef` to it is decoded.
 impl<'a> TryFrom<&'a Any> for IntRef<'a> {
     type Error = Error;
 
-    ghost try_from_gives = { λ a r. GivesNow integer_lent r (leaf_as tags.Integer (integer every) a.now) };
+    ghost try_from_gives = { λ a r. GivesNow integer_lent r
+        (leaf_as tags.Integer (integer every) a.now) };
 
     fn try_from(any: &'a Any) -> Result<IntRef<'a>, Error> {
         let value = IntRef::try_from(any.to_ref())?;
@@ -307,7 +329,7 @@ impl<'a> TryFrom<AnyRef<'a>> for UintRef<'a> {
     }
 }
 
-/// The same of an owned value.
+/// An owned value, as an `AnyRef` to it is decoded.
 impl<'a> TryFrom<&'a Any> for UintRef<'a> {
     type Error = Error;
 
@@ -320,10 +342,11 @@ impl<'a> TryFrom<&'a Any> for UintRef<'a> {
     }
 }
 
-/// The same value. A `UintRef` isn't lent so, since the zero before its digits may be in no slice:
-/// `Any::encode_from` copies it.
+/// The value as one of any type. A `UintRef` isn't lent so, since the zero before its digits may be
+/// in no slice: `Any::encode_from` copies it.
 impl<'a> From<IntRef<'a>> for AnyRef<'a> {
-    ghost from_gives = { λ n a. any_lent a ≡ record { tag = tags.Integer; contents = integer_octets (integer_lent n) } };
+    ghost from_gives = { λ n a. any_lent a
+        ≡ record { tag = tags.Integer; contents = integer_octets (integer_lent n) } };
 
     fn from(number: IntRef<'a>) -> AnyRef<'a> {
         AnyRef::trusted(Tag::Integer, number.as_bytes())

@@ -29,11 +29,12 @@ impl<'a, T: AsciiType> TryFrom<AnyRef<'a>> for AsciiStringRef<'a, T> {
     }
 }
 
-/// The same of an owned value.
+/// An owned value, as an `AnyRef` to it is decoded.
 impl<'a, T: AsciiType> TryFrom<&'a Any> for AsciiStringRef<'a, T> {
     type Error = Error;
 
-    ghost try_from_gives = { λ a r. GivesNow (λ t. t.text.now) r (leaf_as T.string_tag (text T.repertoire) a.now) };
+    ghost try_from_gives = { λ a r. GivesNow (λ t. t.text.now) r
+        (leaf_as T.string_tag (text T.repertoire) a.now) };
 
     fn try_from(any: &'a Any) -> Result<AsciiStringRef<'a, T>, Error> {
         let value = AsciiStringRef::try_from(any.to_ref())?;
@@ -45,7 +46,8 @@ impl<'a, T: AsciiType> TryFrom<&'a Any> for AsciiStringRef<'a, T> {
 impl<'a> TryFrom<AnyRef<'a>> for Utf8StringRef<'a> {
     type Error = Error;
 
-    ghost try_from_gives = { λ a r. GivesNow (λ t. t.text.now) r (leaf_as tags.Utf8String utf8 (any_lent a)) };
+    ghost try_from_gives = { λ a r. GivesNow (λ t. t.text.now) r
+        (leaf_as tags.Utf8String utf8 (any_lent a)) };
 
     #[tactic(auto, unfolding(crate::specs::Contents::leaf_as), using(crate::proofs::TextContents::text_contents))]
     fn try_from(any: AnyRef<'a>) -> Result<Utf8StringRef<'a>, Error> {
@@ -55,11 +57,12 @@ impl<'a> TryFrom<AnyRef<'a>> for Utf8StringRef<'a> {
     }
 }
 
-/// The same of an owned value.
+/// An owned value, as an `AnyRef` to it is decoded.
 impl<'a> TryFrom<&'a Any> for Utf8StringRef<'a> {
     type Error = Error;
 
-    ghost try_from_gives = { λ a r. GivesNow (λ t. t.text.now) r (leaf_as tags.Utf8String utf8 a.now) };
+    ghost try_from_gives = { λ a r. GivesNow (λ t. t.text.now) r
+        (leaf_as tags.Utf8String utf8 a.now) };
 
     fn try_from(any: &'a Any) -> Result<Utf8StringRef<'a>, Error> {
         let value = Utf8StringRef::try_from(any.to_ref())?;
@@ -71,7 +74,8 @@ impl<'a> TryFrom<&'a Any> for Utf8StringRef<'a> {
 impl<'a> TryFrom<AnyRef<'a>> for &'a str {
     type Error = Error;
 
-    ghost try_from_gives = { λ a r. GivesNow (λ s. s.now) r (leaf_as tags.Utf8String utf8 (any_lent a)) };
+    ghost try_from_gives = { λ a r. GivesNow (λ s. s.now) r
+        (leaf_as tags.Utf8String utf8 (any_lent a)) };
 
     fn try_from(any: AnyRef<'a>) -> Result<&'a str, Error> {
         let text = Utf8StringRef::try_from(any)?;
@@ -79,7 +83,7 @@ impl<'a> TryFrom<AnyRef<'a>> for &'a str {
     }
 }
 
-/// The same of an owned value.
+/// An owned value, as an `AnyRef` to it is decoded.
 impl<'a> TryFrom<&'a Any> for &'a str {
     type Error = Error;
 
@@ -106,11 +110,12 @@ impl<'a> TryFrom<AnyRef<'a>> for GeneralStringRef<'a> {
     }
 }
 
-/// The same of an owned value.
+/// An owned value, as an `AnyRef` to it is decoded.
 impl<'a> TryFrom<&'a Any> for GeneralStringRef<'a> {
     type Error = Error;
 
-    ghost try_from_gives = { λ a r. GivesNow (λ s. s.bytes.now) r (leaf_as tags.GeneralString (text any_octet) a.now) };
+    ghost try_from_gives = { λ a r. GivesNow (λ s. s.bytes.now) r
+        (leaf_as tags.GeneralString (text any_octet) a.now) };
 
     fn try_from(any: &'a Any) -> Result<GeneralStringRef<'a>, Error> {
         let value = GeneralStringRef::try_from(any.to_ref())?;
@@ -118,31 +123,37 @@ impl<'a> TryFrom<&'a Any> for GeneralStringRef<'a> {
     }
 }
 
-/// The same value, where a length can count its octets.
-impl<'a, T: AsciiType> TryFrom<AsciiStringRef<'a, T>> for AnyRef<'a> {
-    type Error = Error;
+/// The value as one of any type.
+impl<'a, T: AsciiType> From<AsciiStringRef<'a, T>> for AnyRef<'a> {
+    ghost from_gives = { λ text a. any_lent a
+        ≡ record { tag = T.string_tag; contents = text.text.now } };
 
-    ghost try_from_gives = { λ x r. GivesNow any_lent r (any_from T.string_tag x.text.now) };
-
-    #[tactic(auto, unfolding(crate::specs::Contents::any_from, der_types_numbers::specs::Numbers::counted))]
-    fn try_from(text: AsciiStringRef<'a, T>) -> Result<AnyRef<'a>, Error> {
-        AnyRef::new(T::tag(), text.as_bytes())
+    fn from(text: AsciiStringRef<'a, T>) -> AnyRef<'a> {
+        AnyRef::trusted(T::tag(), text.as_bytes())
     }
 }
 
-/// The same value, where a length can count its octets.
-impl<'a> TryFrom<Utf8StringRef<'a>> for AnyRef<'a> {
-    type Error = Error;
+/// The value as one of any type.
+impl<'a> From<Utf8StringRef<'a>> for AnyRef<'a> {
+    ghost from_gives = { λ text a. any_lent a
+        ≡ record { tag = tags.Utf8String; contents = text.text.now } };
 
-    ghost try_from_gives = { λ x r. GivesNow any_lent r (any_from tags.Utf8String x.text.now) };
-
-    #[tactic(auto, unfolding(crate::specs::Contents::any_from, der_types_numbers::specs::Numbers::counted))]
-    fn try_from(text: Utf8StringRef<'a>) -> Result<AnyRef<'a>, Error> {
-        AnyRef::new(Tag::Utf8String, text.as_bytes())
+    fn from(text: Utf8StringRef<'a>) -> AnyRef<'a> {
+        AnyRef::trusted(Tag::Utf8String, text.as_bytes())
     }
 }
 
-/// The same value, where a length can count its octets.
+/// The value as one of any type.
+impl<'a> From<GeneralStringRef<'a>> for AnyRef<'a> {
+    ghost from_gives = { λ text a. any_lent a
+        ≡ record { tag = tags.GeneralString; contents = text.bytes.now } };
+
+    fn from(text: GeneralStringRef<'a>) -> AnyRef<'a> {
+        AnyRef::trusted(Tag::GeneralString, text.as_bytes())
+    }
+}
+
+/// The value as one of any type, where a length can count its octets.
 impl<'a> TryFrom<&'a str> for AnyRef<'a> {
     type Error = Error;
 
@@ -151,17 +162,5 @@ impl<'a> TryFrom<&'a str> for AnyRef<'a> {
     #[tactic(auto, unfolding(crate::specs::Contents::any_from, der_types_numbers::specs::Numbers::counted))]
     fn try_from(text: &'a str) -> Result<AnyRef<'a>, Error> {
         AnyRef::new(Tag::Utf8String, text.as_bytes())
-    }
-}
-
-/// The same value, where a length can count its octets.
-impl<'a> TryFrom<GeneralStringRef<'a>> for AnyRef<'a> {
-    type Error = Error;
-
-    ghost try_from_gives = { λ x r. GivesNow any_lent r (any_from tags.GeneralString x.bytes.now) };
-
-    #[tactic(auto, unfolding(crate::specs::Contents::any_from, der_types_numbers::specs::Numbers::counted))]
-    fn try_from(text: GeneralStringRef<'a>) -> Result<AnyRef<'a>, Error> {
-        AnyRef::new(Tag::GeneralString, text.as_bytes())
     }
 }

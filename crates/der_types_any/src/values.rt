@@ -37,7 +37,7 @@ impl<'a> TryFrom<AnyRef<'a>> for bool {
     }
 }
 
-/// The same of an owned value.
+/// An owned value, as an `AnyRef` to it is decoded.
 impl<'a> TryFrom<&'a Any> for bool {
     type Error = Error;
 
@@ -67,7 +67,7 @@ impl<'a> TryFrom<AnyRef<'a>> for () {
     }
 }
 
-/// The same of an owned value.
+/// An owned value, as an `AnyRef` to it is decoded.
 impl<'a> TryFrom<&'a Any> for () {
     type Error = Error;
 
@@ -90,7 +90,7 @@ impl<'a> TryFrom<AnyRef<'a>> for Null {
     }
 }
 
-/// The same of an owned value.
+/// An owned value, as an `AnyRef` to it is decoded.
 impl<'a> TryFrom<&'a Any> for Null {
     type Error = Error;
 
@@ -102,7 +102,7 @@ impl<'a> TryFrom<&'a Any> for Null {
     }
 }
 
-/// The same value.
+/// The value as one of any type.
 impl<'a> From<Null> for AnyRef<'a> {
     ghost from_gives = { λ _ a. any_lent a ≡ record { tag = tags.Null; contents = [] } };
 
@@ -128,7 +128,7 @@ impl<'a, const MAX_SIZE: usize> TryFrom<AnyRef<'a>> for ObjectIdentifier<MAX_SIZ
     }
 }
 
-/// The same of an owned value.
+/// An owned value, as an `AnyRef` to it is decoded.
 impl<'a, const MAX_SIZE: usize> TryFrom<&'a Any> for ObjectIdentifier<MAX_SIZE> {
     type Error = Error;
 
@@ -155,7 +155,7 @@ impl<'a> TryFrom<AnyRef<'a>> for BitStringRef<'a> {
     }
 }
 
-/// The same of an owned value.
+/// An owned value, as an `AnyRef` to it is decoded.
 impl<'a> TryFrom<&'a Any> for BitStringRef<'a> {
     type Error = Error;
 
@@ -171,7 +171,8 @@ impl<'a> TryFrom<&'a Any> for BitStringRef<'a> {
 impl<'a> TryFrom<AnyRef<'a>> for OctetStringRef<'a> {
     type Error = Error;
 
-    ghost try_from_gives = { λ a r. GivesNow octets_lent r (leaf_as tags.OctetString octets (any_lent a)) };
+    ghost try_from_gives = { λ a r. GivesNow octets_lent r
+        (leaf_as tags.OctetString octets (any_lent a)) };
 
     #[tactic(auto, unfolding(crate::specs::Contents::leaf_as))]
     fn try_from(any: AnyRef<'a>) -> Result<OctetStringRef<'a>, Error> {
@@ -180,7 +181,7 @@ impl<'a> TryFrom<AnyRef<'a>> for OctetStringRef<'a> {
     }
 }
 
-/// The same of an owned value.
+/// An owned value, as an `AnyRef` to it is decoded.
 impl<'a> TryFrom<&'a Any> for OctetStringRef<'a> {
     type Error = Error;
 
@@ -192,10 +193,11 @@ impl<'a> TryFrom<&'a Any> for OctetStringRef<'a> {
     }
 }
 
-/// The same value. A `BitStringRef` isn't lent so, since its number of unused bits is in no slice:
-/// `Any::encode_from` copies it.
+/// The value as one of any type. A `BitStringRef` isn't lent so, since its number of unused bits is
+/// in no slice: `Any::encode_from` copies it.
 impl<'a> From<OctetStringRef<'a>> for AnyRef<'a> {
-    ghost from_gives = { λ x a. any_lent a ≡ record { tag = tags.OctetString; contents = octets_lent x } };
+    ghost from_gives = { λ x a. any_lent a
+        ≡ record { tag = tags.OctetString; contents = octets_lent x } };
 
     fn from(value: OctetStringRef<'a>) -> AnyRef<'a> {
         AnyRef::trusted(Tag::OctetString, value.as_bytes())
@@ -206,7 +208,8 @@ impl<'a> From<OctetStringRef<'a>> for AnyRef<'a> {
 impl<'a> TryFrom<AnyRef<'a>> for SequenceRef<'a> {
     type Error = Error;
 
-    ghost try_from_gives = { λ a r. GivesNow fields_lent r (leaf_as tags.Sequence octets (any_lent a)) };
+    ghost try_from_gives = { λ a r. GivesNow fields_lent r
+        (leaf_as tags.Sequence octets (any_lent a)) };
 
     #[tactic(auto, unfolding(crate::specs::Contents::leaf_as))]
     fn try_from(any: AnyRef<'a>) -> Result<SequenceRef<'a>, Error> {
@@ -215,7 +218,7 @@ impl<'a> TryFrom<AnyRef<'a>> for SequenceRef<'a> {
     }
 }
 
-/// The same of an owned value.
+/// An owned value, as an `AnyRef` to it is decoded.
 impl<'a> TryFrom<&'a Any> for SequenceRef<'a> {
     type Error = Error;
 
@@ -227,9 +230,10 @@ impl<'a> TryFrom<&'a Any> for SequenceRef<'a> {
     }
 }
 
-/// The same value.
+/// The value as one of any type.
 impl<'a> From<SequenceRef<'a>> for AnyRef<'a> {
-    ghost from_gives = { λ x a. any_lent a ≡ record { tag = tags.Sequence; contents = fields_lent x } };
+    ghost from_gives = { λ x a. any_lent a
+        ≡ record { tag = tags.Sequence; contents = fields_lent x } };
 
     fn from(value: SequenceRef<'a>) -> AnyRef<'a> {
         AnyRef::trusted(Tag::Sequence, value.as_bytes())

@@ -1,4 +1,3 @@
 pub mod Ints
 pub mod Numbers
 pub mod NumberOrders
-pub mod Answers

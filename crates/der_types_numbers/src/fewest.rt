@@ -96,7 +96,8 @@ pub fn content_len(octets: &[u8]) -> usize
 #[tactic(auto, using(crate::proofs::Naturals::natural_contents))]
 pub fn lead_of(octets: &[u8]) -> Option<u8>
     requires { octets.now ≡ digits 256 (number_from_digits 256 octets.now) }
-    ensures { cons_option result octets.now ≡ integer_octets (pos (number_from_digits 256 octets.now)) }
+    ensures { cons_option result octets.now
+        ≡ integer_octets (pos (number_from_digits 256 octets.now)) }
 {
     if begins_with_one_bit(octets) {
         Some(0)
@@ -112,7 +113,8 @@ pub fn lead_of(octets: &[u8]) -> Option<u8>
 #[tactic(auto, using(crate::proofs::Naturals::natural_contents))]
 pub fn content_of(alloc: Global, octets: &[u8]) -> Result<Vec<u8>, AllocError>
     requires { octets.now ≡ digits 256 (number_from_digits 256 octets.now) }
-    ensures { IfOk result (λ v. v.items ≡ integer_octets (pos (number_from_digits 256 octets.now))) }
+    ensures { IfOk result
+        (λ v. v.items ≡ integer_octets (pos (number_from_digits 256 octets.now))) }
 {
     if !begins_with_one_bit(octets) {
         return octets.to_vec(alloc);

@@ -101,7 +101,7 @@ impl Int {
         self.bytes.is_empty()
     }
 
-    /// The same number, lent.
+    /// The number, lent.
     pub fn owned_to_ref(&self) -> IntRef<'_>
         ensures { integer_lent result ≡ self.now }
     {
@@ -128,7 +128,7 @@ impl AsIntRef for Int {
     }
 }
 
-/// The same number.
+/// The number, which stays as it is.
 impl From<Uint> for Int {
     ghost from_gives = { λ n z. z ≡ pos n };
 
@@ -191,7 +191,8 @@ impl Ord for Int {
 impl Hash for Int {
     ghost hash_input = { λ n. fed.slice fed.u8 (integer_octets n) };
 
-    ghost respects_eq = { λ a b e. ap (fed.slice fed.u8) ((bytes_decides (integer_octets a) (integer_octets b)).0 e) };
+    ghost respects_eq = { λ a b e. ap (fed.slice fed.u8)
+        ((bytes_decides (integer_octets a) (integer_octets b)).0 e) };
 
     fn hash<H: Hasher>(&self, state: &mut H) {
         self.as_bytes().hash(state);

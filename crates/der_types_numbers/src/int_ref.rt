@@ -86,7 +86,7 @@ impl<'a> IntRef<'a> {
         self.bytes.is_empty()
     }
 
-    /// The same number, owned.
+    /// A copy of the number that owns its octets.
     ///
     /// # Errors
     /// Want of memory.
@@ -202,7 +202,8 @@ impl<'a> Hash for IntRef<'a> {
 
     ghost hash_input = { λ n. fed.slice fed.u8 (content_lent n) };
 
-    ghost respects_eq = { λ a b e. ap (fed.slice fed.u8) ((bytes_decides (content_lent a) (content_lent b)).0 e) };
+    ghost respects_eq = { λ a b e. ap (fed.slice fed.u8)
+        ((bytes_decides (content_lent a) (content_lent b)).0 e) };
 
     fn hash<H: Hasher>(&self, state: &mut H) {
         self.as_bytes().hash(state);
@@ -226,6 +227,8 @@ impl<'a> Leaf<'a> for IntRef<'a> {
     ghost kind = { integer every };
 
     ghost leaf_plain = { integer_lent };
+
+    ghost takes_memory = { false };
 
     fn from_content(_alloc: Global, tag: Tag, octets: &'a [u8]) -> Result<IntRef<'a>, Error> {
         let value = IntRef::of_content(tag, octets)?;

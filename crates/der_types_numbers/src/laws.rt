@@ -1,29 +1,17 @@
 //! Laws of whole numbers: a borrowed number and its owned form agree.
+//!
+//! What the calls that both have answer is said at each in the same words.
 
 ghost use Rattle.std.specs.Prelude.{◌≡◌};
-ghost use Rattle.const_oid.specs.Digits.{digits};
-ghost use Rattle.der_core_head.specs.Integers.{integer_octets};
 ghost use Rattle.der_core_head.specs.Shapes.{contents};
-ghost use Rattle.der_types_numbers.specs.Answers.{Answers};
 ghost use Rattle.der_types_numbers.specs.Ints.{integer_lent, natural_lent};
 
 use crate::int::Int;
 use crate::int_ref::IntRef;
 use crate::uint::Uint;
 use crate::uint_ref::UintRef;
-use der_core::{Length, ShapedValue};
+use der_core::ShapedValue;
 use std::hash::Hash;
-
-/// What a whole number answers of its octets.
-#[derive(Clone, Copy, Debug)]
-pub struct NumberAnswers<'a> {
-    /// The octets that it lends.
-    pub octets: &'a [u8],
-    /// How many they are.
-    pub len: Length,
-    /// Whether there are none.
-    pub is_empty: bool,
-}
 
 /// A borrowed whole number and its owned form have the same content, are equal to the same numbers,
 /// stand in the same order and are hashed alike. Nothing is done.
@@ -40,29 +28,6 @@ pub fn integer_forms_agree()
         ≡ ⟦<Int as Hash>⟧.hash_input (integer_lent n) }
 {}
 
-/// A borrowed whole number and an owned one that are the same number answer alike: what the first
-/// answers, and what the second.
-pub fn integers_answer_alike<'a>(
-    lent: &IntRef<'a>,
-    owned: &'a Int,
-) -> (NumberAnswers<'a>, NumberAnswers<'a>)
-    requires { integer_lent lent.now ≡ owned.now }
-    ensures lent { Answers (integer_octets owned.now) result.0 }
-    ensures owned { Answers (integer_octets owned.now) result.1 }
-{
-    let of_lent = NumberAnswers {
-        octets: lent.as_bytes(),
-        len: lent.len(),
-        is_empty: lent.is_empty(),
-    };
-    let of_owned = NumberAnswers {
-        octets: owned.as_bytes(),
-        len: owned.len(),
-        is_empty: owned.is_empty(),
-    };
-    (of_lent, of_owned)
-}
-
 /// A borrowed number that isn't negative and its owned form have the same content, are equal to the
 /// same numbers, stand in the same order and are hashed alike. Nothing is done.
 pub fn natural_forms_agree()
@@ -77,26 +42,3 @@ pub fn natural_forms_agree()
     ensures hash { (n : UintRef) → ⟦<UintRef<'static> as Hash>⟧.hash_input n
         ≡ ⟦<Uint as Hash>⟧.hash_input (natural_lent n) }
 {}
-
-/// A borrowed number that isn't negative and an owned one that are the same number answer alike:
-/// what the first answers, and what the second.
-pub fn naturals_answer_alike<'a>(
-    lent: &UintRef<'a>,
-    owned: &'a Uint,
-) -> (NumberAnswers<'a>, NumberAnswers<'a>)
-    requires { natural_lent lent.now ≡ owned.now }
-    ensures lent { Answers (digits 256 owned.now) result.0 }
-    ensures owned { Answers (digits 256 owned.now) result.1 }
-{
-    let of_lent = NumberAnswers {
-        octets: lent.as_bytes(),
-        len: lent.len(),
-        is_empty: lent.is_empty(),
-    };
-    let of_owned = NumberAnswers {
-        octets: owned.as_bytes(),
-        len: owned.len(),
-        is_empty: owned.is_empty(),
-    };
-    (of_lent, of_owned)
-}

@@ -105,7 +105,7 @@ impl Uint {
         self.bytes.is_empty()
     }
 
-    /// The same number, lent.
+    /// The number, lent.
     pub fn owned_to_ref(&self) -> UintRef<'_>
         ensures { natural_lent result ≡ self.now }
     {
@@ -184,7 +184,8 @@ impl Ord for Uint {
 impl Hash for Uint {
     ghost hash_input = { λ n. fed.slice fed.u8 (digits 256 n) };
 
-    ghost respects_eq = { λ a b e. ap (fed.slice fed.u8) ((bytes_decides (digits 256 a) (digits 256 b)).0 e) };
+    ghost respects_eq = { λ a b e. ap (fed.slice fed.u8)
+        ((bytes_decides (digits 256 a) (digits 256 b)).0 e) };
 
     fn hash<H: Hasher>(&self, state: &mut H) {
         self.as_bytes().hash(state);

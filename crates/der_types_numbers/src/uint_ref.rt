@@ -93,7 +93,7 @@ impl<'a> UintRef<'a> {
         self.bytes.is_empty()
     }
 
-    /// The same number, owned.
+    /// A copy of the number that owns its octets.
     ///
     /// # Errors
     /// Want of memory.
@@ -213,7 +213,8 @@ impl<'a> Hash for UintRef<'a> {
 
     ghost hash_input = { λ n. fed.slice fed.u8 (digits_lent n) };
 
-    ghost respects_eq = { λ a b e. ap (fed.slice fed.u8) ((bytes_decides (digits_lent a) (digits_lent b)).0 e) };
+    ghost respects_eq = { λ a b e. ap (fed.slice fed.u8)
+        ((bytes_decides (digits_lent a) (digits_lent b)).0 e) };
 
     fn hash<H: Hasher>(&self, state: &mut H) {
         self.as_bytes().hash(state);
@@ -238,6 +239,8 @@ impl<'a> Leaf<'a> for UintRef<'a> {
     ghost kind = { integer natural };
 
     ghost leaf_plain = { λ n. pos (natural_lent n) };
+
+    ghost takes_memory = { false };
 
     fn from_content(_alloc: Global, tag: Tag, octets: &'a [u8]) -> Result<UintRef<'a>, Error> {
         let value = UintRef::of_content(tag, octets)?;

@@ -17,15 +17,10 @@ use Rattle.der_core_head.proofs.Sound.{sound, OrderedFrom, order_on, from_none}
 use Rattle.der_core_head.proofs.Complete.{complete_body}
 use Rattle.der_core_head.proofs.MoreLevels.{more_body}
 use Rattle.der_core_values.specs.Both.{both_true}
+use Rattle.der_core_values.proofs.Lists.{next_in_order}
 use Rattle.der_types_sets.specs.Ascending.{JoinsAscending, counted, first_of, values_at}
 
 -- As a loop reads them
-
-step : {P : Type 0} (how : Step) (o : P → List ℕ) (F : Readings P) (last : Option (List ℕ)) (n i : ℕ) (w : List ℕ) → i < n → w ≢ []
-    → read_in_order how o F last (n - i) w ≡ (F w >>= λ x. follows_last how last (o x.0) >>= λ _. read_in_order how o F (Some (o x.0)) (n - (i + 1)) x.1 >>= λ y. Ok (x.0 ∷ y.0, y.1))
-unfolding read_in_order
-step how o F last n i [] lt some = absurd (some refl)
-step how o F last n i (b ∷ w) lt some = let k : n - i ≡ suc (n - (i + 1)) = omega arith in rw k refl
 
 one_more : {P : Type 0} (i : ℕ) (x : P) (r : Result (List P × List ℕ) ErrorKind) → counted i (r >>= λ y. Ok (x ∷ y.0, y.1)) ≡ counted (i + 1) r
 one_more i x (Ok y) = ap (λ n. Ok n) (omega arith)
@@ -35,19 +30,19 @@ pub counted_on : {P : Type 0} (how : Step) (o : P → List ℕ) (F : Readings P)
     → i < n → w ≢ [] → F w ≡ Ok (x, after) → follows_last how last (o x) ≡ Ok tt → counted i (read_in_order how o F last (n - i) w) ≡ total
     → counted (i + 1) (read_in_order how o F (Some (o x)) (n - (i + 1)) after) ≡ total
 counted_on how o F last n i w after x total lt some e ok so_far =
-    let all : read_in_order how o F last (n - i) w ≡ (read_in_order how o F (Some (o x)) (n - (i + 1)) after >>= λ y. Ok (x ∷ y.0, y.1)) = step how o F last n i w lt some ∙ rw (e, ok) refl in
+    let all : read_in_order how o F last (n - i) w ≡ (read_in_order how o F (Some (o x)) (n - (i + 1)) after >>= λ y. Ok (x ∷ y.0, y.1)) = next_in_order how o F last n i w lt some ∙ rw (e, ok) refl in
     sym (ap (counted i) all ∙ one_more i x (read_in_order how o F (Some (o x)) (n - (i + 1)) after)) ∙ so_far
 
 pub counted_stops : {P : Type 0} (how : Step) (o : P → List ℕ) (F : Readings P) (last : Option (List ℕ)) (n i : ℕ) (w : List ℕ) (k : ErrorKind) (total : Result ℕ ErrorKind)
     → i < n → w ≢ [] → F w ≡ Err k → counted i (read_in_order how o F last (n - i) w) ≡ total → total ≡ Err k
 counted_stops how o F last n i w k total lt some e so_far =
-    let all : read_in_order how o F last (n - i) w ≡ Err k = step how o F last n i w lt some ∙ rw e refl in
+    let all : read_in_order how o F last (n - i) w ≡ Err k = next_in_order how o F last n i w lt some ∙ rw e refl in
     sym so_far ∙ ap (counted i) all
 
 pub counted_refuses : {P : Type 0} (how : Step) (o : P → List ℕ) (F : Readings P) (last : Option (List ℕ)) (n i : ℕ) (w after : List ℕ) (x : P) (k : ErrorKind) (total : Result ℕ ErrorKind)
     → i < n → w ≢ [] → F w ≡ Ok (x, after) → follows_last how last (o x) ≡ Err k → counted i (read_in_order how o F last (n - i) w) ≡ total → total ≡ Err k
 counted_refuses how o F last n i w after x k total lt some e bad so_far =
-    let all : read_in_order how o F last (n - i) w ≡ Err k = step how o F last n i w lt some ∙ rw (e, bad) refl in
+    let all : read_in_order how o F last (n - i) w ≡ Err k = next_in_order how o F last n i w lt some ∙ rw (e, bad) refl in
     sym so_far ∙ ap (counted i) all
 
 pub counted_done : {P : Type 0} (how : Step) (o : P → List ℕ) (F : Readings P) (last : Option (List ℕ)) (n i : ℕ) (w : List ℕ) (total : Result ℕ ErrorKind)

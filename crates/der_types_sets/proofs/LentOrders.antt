@@ -27,6 +27,7 @@ use Rattle.der_core.specs.Orders.{octets_cmp, contents_cmp, bodies_cmp, Overflow
 use Rattle.der_types_sets.specs.Ascending.{values_at}
 use Rattle.der_types_sets.specs.Lent.{Lent, IsLent, HasFalling, IsUnwritten, IsUncompared, members_spelled, members_lent}
 use Rattle.der_types_sets.proofs.Arrangements.{same_octets, turned}
+use Rattle.der_types_sets.proofs.FewSteps.{length_plain_list}
 use Rattle.der_types_sets.proofs.LentWrites.{nothing_in, lent, size_values, spelled_octets}
 
 -- Lists of octets
@@ -282,17 +283,13 @@ lent_content s f l xs h same some = sym (content_octets s f l.values l.octets l.
 pub same_order : (s : Shape) (v w x y : List (Value s)) → v ≡ x → w ≡ y → contents_cmp (nested (many s)) v w ≡ contents_cmp (nested (many s)) x y
 same_order s v w x y e d = ap (λ (u : List (Value s)). contents_cmp (nested (many s)) u w) e ∙ ap (λ (u : List (Value s)). contents_cmp (nested (many s)) x u) d
 
-plain-length : {A P : Type 0} (f : A → P) (xs : List A) → length (plain_list f xs) ≡ length xs
-plain-length f [] = refl
-plain-length f (x ∷ xs) = ap (λ n. suc n) (plain-length f xs)
-
 plain-get : {A P : Type 0} (f : A → P) (xs : List A) (i : ℕ) → slice_get (plain_list f xs) i ≡ plain_option f (slice_get xs i)
 plain-get f [] i = refl
 plain-get f (x ∷ xs) zero = refl
 plain-get f (x ∷ xs) (suc i) = plain-get f xs i
 
 pub same_number : {A P : Type 0} (f : A → P) (xs : List A) (v : List P) → v ≡ plain_list f xs → length v ≡ length xs
-same_number f xs v e = ap (λ (u : List _). length u) e ∙ plain-length f xs
+same_number f xs v e = ap (λ (u : List _). length u) e ∙ length_plain_list f xs
 
 pub same_member : {A P : Type 0} (f : A → P) (xs : List A) (v : List P) (i : ℕ) → v ≡ plain_list f xs → slice_get v i ≡ plain_option f (slice_get xs i)
 same_member f xs v i e = ap (λ (u : List _). slice_get u i) e ∙ plain-get f xs i

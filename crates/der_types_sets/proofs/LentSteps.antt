@@ -14,7 +14,8 @@ use Rattle.der_core_head.specs.Grammar.{read, plain_list}
 use Rattle.der_core_head.proofs.Bytes.{IsBytes}
 use Rattle.der_core_head.proofs.Fits.{fits_rest}
 use Rattle.der_core_head.proofs.Sound.{sound}
-use Rattle.der_core_octets.specs.Fronts.{front_at}
+use Rattle.der_core_head.proofs.Results.{only_memory}
+use Rattle.der_core_octets.specs.Fronts.{read_front}
 use Rattle.der_types_sets.specs.Ascending.{first_of, values_at}
 use Rattle.der_types_sets.specs.Lent.{Lent, IsSpelled, members_lent, YieldsMember}
 
@@ -36,7 +37,7 @@ first_read s n w v r apart bytes spelled e =
     let P : ℕ → Type 0 = λ m. IsSpelled s m r in
     record { all = all ∙ ap (λ m. v ∷ values_at F m r) (sym one); left = subst P (sym one) left }
 
-pub first_spelled : (s : Shape) (n : ℕ) (w : List ℕ) (v : Value s) (r : List ℕ) → is_apart s ≡ true → IsBytes w → 0 < n → IsSpelled s n w → front_at s w ≡ Ok (v, r) → FirstSpelled s n w v r
+pub first_spelled : (s : Shape) (n : ℕ) (w : List ℕ) (v : Value s) (r : List ℕ) → is_apart s ≡ true → IsBytes w → 0 < n → IsSpelled s n w → read_front s w ≡ Ok (v, r) → FirstSpelled s n w v r
 first_spelled s zero w v r apart bytes some spelled e = absurd (omega arith)
 first_spelled s (suc n) w v r apart bytes some spelled e = first_read s n w v r apart bytes spelled (rw (le-ltb length_max (length w) (omega (arith, spelled.short))) at e)
 
@@ -44,17 +45,12 @@ one_spelled : (s : Shape) (n : ℕ) (w : List ℕ) (x : Result (Value s × List 
 one_spelled s n w (Ok x) e many = (x, e)
 one_spelled s n w (Err k) e many = absurd (omega arith)
 
--- a fault of a call that can only want memory
-wants_memory : {A : Type 0} (k : ErrorKind) (x : A) (r : Result A ErrorKind) → r ≡ Ok x → (k ≢ kinds.OutOfMemory → r ≡ Err k) → k ≡ kinds.OutOfMemory
-wants_memory kinds.OutOfMemory x r e h = refl
-wants_memory _ x r e h = absurd (cc (e, h (λ q. absurd cc)))
-
-pub spelled_wants : (s : Shape) (n : ℕ) (w : List ℕ) (k : ErrorKind) → 0 < n → IsSpelled s n w → (k ≢ kinds.OutOfMemory → front_at s w ≡ Err k) → k ≡ kinds.OutOfMemory
+pub spelled_wants : (s : Shape) (n : ℕ) (w : List ℕ) (k : ErrorKind) → 0 < n → IsSpelled s n w → (k ≢ kinds.OutOfMemory → read_front s w ≡ Err k) → k ≡ kinds.OutOfMemory
 spelled_wants s zero w k some spelled h = absurd (omega arith)
 spelled_wants s (suc n) w k some spelled h =
     let x = one_spelled s n w (read s levels_max w) refl spelled.many in
-    let front : front_at s w ≡ Ok x.0 = rw (le-ltb length_max (length w) (omega (arith, spelled.short))) x.1 in
-    wants_memory k x.0 (front_at s w) front h
+    let front : read_front s w ≡ Ok x.0 = rw (le-ltb length_max (length w) (omega (arith, spelled.short))) x.1 in
+    only_memory k x.0 (read_front s w) front h
 
 none_of : {A : Type 0} (xs : List A) → length xs ≡ 0 → xs ≡ []
 none_of [] h = refl

@@ -80,7 +80,7 @@ write_octets : {A : Type 0} (s : Shape) (f : A → Value s) (v : List A) (w : Li
 write_octets s f v w zero o h some = absurd (omega (arith, ap (λ (u : List ℕ). length u) h.joined.octets_are))
 write_octets s f v w (suc n) o h some = sym (some_put s f v w n o h ∙ put_is w o some)
 
--- Its members are in order
+-- The members are in order
 
 values_ordered : {A : Type 0} (s : Shape) (f : A → Value s) (v : List A) → AllByRecursion (IsValid s) (plain_list f v) → Ascends s f v → AllAscending (octets_of s) (plain_list f v)
 values_ordered s f [] valid h = tt

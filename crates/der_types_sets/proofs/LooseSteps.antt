@@ -16,7 +16,7 @@ use Rattle.der_core_head.specs.Grammar.{whole, value_at, read_content, plain_lis
 use Rattle.der_core_head.proofs.Results.{ok_is, bind_ok, unless_ok, whole_ok}
 use Rattle.der_core_head.proofs.Bytes.{IsBytes, bytes_take}
 use Rattle.der_core_head.proofs.Fits.{fits_front}
-use Rattle.der_core_head.proofs.Sound.{sound_content}
+use Rattle.der_core_head.proofs.Sound.{pair_is, sound_content}
 use Rattle.der_core_head.proofs.Complete.{complete_content}
 use Rattle.std.proofs.lemmas.List.{take-append-drop}
 use Rattle.der_types_sets.specs.Sets.{Ascends, AllValid, Loose, SpellsLoosely}
@@ -43,9 +43,6 @@ pub valid-permutation : (s : Shape) (xs ys : List (Value s)) → IsPermutation x
 valid-permutation s xs ys same all = recursion_from_All (IsValid s) ys (All-permutation (IsValid s) xs ys same (All-from_recursion (IsValid s) xs all))
 
 -- Contents
-
-pair_is : {P : Type 0} (x : P × List ℕ) (p : P) → x.0 ≡ p → x.1 ≡ [] → x ≡ (p, [])
-pair_is (q, w) p e f = cc
 
 pub content_at : {P : Type 0} (F : Readings P) (n : ℕ) (w : List ℕ) (v : P) (r : List ℕ) → value_at F n w ≡ Ok (v, r) → F (take n w) ≡ Ok (v, [])
 unfolding value_at

@@ -88,7 +88,7 @@ ReadsArranged s plain written old new (Err e) f read =
     (old.failed ≡ false → Fails e.kind (f old.rest) ⊎ (IsBer old × TooLong s written read e))
     × Kept old new × (old.failed ≡ true → e.kind ≡ kinds.Failed) × (new.failed ≡ true)
 
--- That, or want of memory.
+-- An item that is too long, or want of memory.
 abbrev pub IsRefusal : {A : Type 0} (s : Shape) → (A → Value s) → List A → Error → Type 0
 IsRefusal s f xs e = (e.kind ≡ kinds.OutOfMemory) ⊎ TooLong s f xs e
 
@@ -127,7 +127,7 @@ StopsAt {U} {T} {A} s f becomes steps items old new e =
     (it : T) × (xs : List A) × (x : A) × (rest : T) × becomes items it
     × YieldsThen steps it xs (Some x) rest × Gains s f old xs new × IsRefusal s f (x ∷ new) e
 
--- The same of items that are a list.
+-- An item of a list is refused, and those before it were placed.
 pub record StopsIn {A : Type 0} (s : Shape) (f : A → Value s) (old items new : List A)
     (e : Error) : Type 0 where
   pub front : List A

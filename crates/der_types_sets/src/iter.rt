@@ -1,5 +1,7 @@
 //! The members of a list, lent one after another.
 
+ghost use Rattle.std.specs.Prelude.{◌≡◌};
+
 /// The members of a `SequenceOf`, in order.
 #[derive(Debug, Drop)]
 pub struct SequenceOfIter<'a, T> {
@@ -10,6 +12,15 @@ pub struct SequenceOfIter<'a, T> {
 #[derive(Debug, Drop)]
 pub struct SetOfIter<'a, T> {
     pub(crate) left: &'a [T],
+}
+
+impl<'a, T> SetOfIter<'a, T> {
+    /// The members of a set that keeps them in this order.
+    pub fn of_members(members: &'a [T]) -> SetOfIter<'a, T>
+        ensures { result.left.now ≡ members.now }
+    {
+        SetOfIter { left: members }
+    }
 }
 
 impl<'a, T> Iterator for SequenceOfIter<'a, T> {

@@ -21,7 +21,7 @@ pub(crate) fn joined_cmp<T: Encode>(
     values: &[T],
     octets: &[u8],
 ) -> Result<Ordering, Error>
-    // It is answered wherever the values have encodings, unless memory runs out.
+    // An answer comes wherever the values have encodings, unless memory runs out.
     ensures order { IsBody (many T.shape) (plain_list T.written values.now)
         → Gives (λ o. o) result
         (Ok (octets_cmp (body_octets (many T.shape) (plain_list T.written values.now)) octets.now)) }

@@ -253,7 +253,8 @@ impl<T, const N: usize> AsSlice<T> for SequenceOf<T, N> {
 impl<T: Clone + Default, const N: usize> Clone for SequenceOf<T, N> {
     ghost is_clone = { AllZip T.is_clone };
 
-    ghost is_infallible = { λ v. (i : ℕ) (d : T) → i < length v → T.is_infallible (slice_index_or v i d) };
+    ghost is_infallible = { λ v. (i : ℕ) (d : T) → i < length v
+        → T.is_infallible (slice_index_or v i d) };
 
     fn clone(&self) -> Result<SequenceOf<T, N>, AllocError> {
         let members = self.members.clone()?;

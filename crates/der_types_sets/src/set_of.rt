@@ -7,7 +7,7 @@ ghost use Rattle.std.specs.List.Sorted.{IsPermutation};
 ghost use Rattle.der_core_head.specs.declared.tag.Tag.TheVariants.{Set};
 ghost use Rattle.der_core_head.specs.Shapes.{Value, tagged, nested, few};
 ghost use Rattle.der_core_head.specs.Spelling.{is_element, are_enough, are_content_enough};
-ghost use Rattle.der_core_head.specs.Grammar.{plain_list, value_at, whole_at};
+ghost use Rattle.der_core_head.specs.Grammar.{plain_list, value_at, read_whole};
 ghost use Rattle.der_core_head.specs.Reading.{Gives, Fails, IsDer, read_content_at};
 ghost use Rattle.std.specs.Cmp.Lexicographic.{pointwise, slice_cmp, slice_partial_cmp, lists_per};
 ghost use Rattle.std.specs.Cmp.Lexicographic.{lists_equiv, lists_po, lists_total, lists_agrees};
@@ -99,12 +99,10 @@ impl<T: Shaped, const N: usize> SetOf<T, N> {
     pub fn iter(&self) -> SetOfIter<'_, T>
         ensures { result.left.now ≡ self.now }
     {
-        SetOfIter {
-            left: self.members.as_slice(),
-        }
+        SetOfIter::of_members(self.members.as_slice())
     }
 
-    /// The same set, lent.
+    /// The set, lent.
     pub fn owned_to_ref(&self) -> SetOfRef<'_, T>
         ensures members { members_lent T.shape T.plain result ≡ plain_list T.plain self.now }
         ensures written { members_lent T.shape T.written result ≡ plain_list T.written self.now }
@@ -128,12 +126,12 @@ impl<T: Shaped, const N: usize> SetOf<T, N> {
 }
 
 impl<T: Shaped + Clone + Drop + Default, const N: usize> SetOf<T, N> {
-    /// A copy, of a type whose copies are the same.
+    /// A copy, of a type whose copies are the same. The set itself owns no memory.
     ///
     /// # Errors
     /// Want of memory, for the members.
     #[tactic(auto, using(crate::proofs::SetSteps::same_copies))]
-    pub fn clone(&self, _alloc: Global) -> Result<SetOf<T, N>, AllocError>
+    pub fn clone(&self) -> Result<SetOf<T, N>, AllocError>
         requires { (x y : T) → T.is_clone x y → y ≡ x }
         ensures { IfOk result (λ set. set ≡ self.now) }
     {
@@ -153,7 +151,8 @@ impl<T: DerOrd + Member + Drop, const N: usize> SetOf<T, N> {
         ensures place { OnOk result (IsPutAtPlace T.shape T.written self.old item self.new) }
         ensures ascend { Ascends T.shape T.written self.new }
         ensures err { OnErr result (self.new ≡ self.old) }
-        ensures refused { IfErr result (λ e. ((e.kind ≡ ErrorKind.Overlength) × (length self.old ≡ N))
+        ensures refused { IfErr result
+            (λ e. ((e.kind ≡ ErrorKind.Overlength) × (length self.old ≡ N))
             ⊎ TooLong T.shape T.written (item ∷ self.old) e) }
     {
         if self.members.is_full() {
@@ -173,7 +172,8 @@ impl<T: DerOrd + Member + Drop, const N: usize> SetOf<T, N> {
         ensures ok { OnOk result (self.new ≡ self.old ++ item ∷ []) }
         ensures ascend { Ascends T.shape T.written self.new }
         ensures err { OnErr result (self.new ≡ self.old) }
-        ensures refused { IfErr result (λ e. ((e.kind ≡ ErrorKind.Overlength) × (length self.old ≡ N))
+        ensures refused { IfErr result
+            (λ e. ((e.kind ≡ ErrorKind.Overlength) × (length self.old ≡ N))
             ⊎ ((e.kind ≡ ErrorKind.SetOrdering × IsBelowLast T.shape T.written self.old item)
             ⊎ TooLong T.shape T.written (item ∷ self.old) e)) }
     {
@@ -202,7 +202,8 @@ impl<T: DerOrd + Member + Default + Drop, const N: usize> SetOf<T, N> {
     where
         T: Decode<'a, R> + AsRead,
         // The members that were read, in the order in which they stand there, are those of the set.
-        ensures reads { (read : List T) × ReadsArranged T.shape T.plain T.written (R.state reader.old)
+        ensures reads { (read : List T)
+            × ReadsArranged T.shape T.plain T.written (R.state reader.old)
             (R.state reader.new) result
             (value_at (read_content_at (R.state reader.old) (nested (few N T.shape)) header.tag)
             header.length.value) read }
@@ -253,7 +254,7 @@ impl<T: DerOrd + Member + Default + Drop, const N: usize> SetOf<T, N> {
         // Which fault it is.
         ensures refused { is_element T.shape ≡ true
             → IfErr result
-            (λ e. Fails e.kind (whole_at (tagged Set (nested (few N T.shape))) bytes.now)) }
+            (λ e. Fails e.kind (read_whole (tagged Set (nested (few N T.shape))) bytes.now)) }
     {
         let read = from_der::<AnyFew<T, N>>(alloc, bytes)?;
         let AnyFew { members } = read;

@@ -50,7 +50,8 @@ impl<'a, T: Shaped> Model for SetOfRef<'a, T> {
 
     ghost view = { λ s. record { values = s.values.now; octets = s.octets.now; count = s.count } };
 
-    ghost invariant = { λ s. IsLent T.shape T.written (record { values = s.values.now; octets = s.octets.now; count = s.count }) };
+    ghost invariant = { λ s. IsLent T.shape T.written
+        (record { values = s.values.now; octets = s.octets.now; count = s.count }) };
 }
 
 impl<'a, T: Shaped> SetOfRef<'a, T> {
@@ -118,7 +119,8 @@ impl<'a, T: Decode<'a, SliceReader<'a>> + Member> SetOfRef<'a, T> {
         alloc: Global,
         reader: &mut R,
     ) -> Result<SetOfRef<'a, T>, Error>
-        ensures reads { Reads (members_lent T.shape T.plain) (R.state reader.old) (R.state reader.new) result
+        ensures reads { Reads (members_lent T.shape T.plain) (R.state reader.old)
+            (R.state reader.new) result
             (read_body_at (R.state reader.old) (ascending T.shape)) }
         // What is read is spelled so.
         ensures spelled { IfOk result
@@ -197,7 +199,8 @@ impl<'a, T: Decode<'a, SliceReader<'a>> + Member + Clone> SetOfRef<'a, T> {
     where
         T: AsRead,
         requires { (x y : T) → T.is_clone x y → T.plain y ≡ T.plain x }
-        ensures ok { IfOk result (λ set. plain_list T.plain set ≡ members_lent T.shape T.plain self.now) }
+        ensures ok { IfOk result
+            (λ set. plain_list T.plain set ≡ members_lent T.shape T.plain self.now) }
         ensures refused { IfErr result IsWantOfMemory }
     {
         let mut members = Vec::with_capacity(alloc, self.len())?;
@@ -209,7 +212,7 @@ impl<'a, T: Decode<'a, SliceReader<'a>> + Member + Clone> SetOfRef<'a, T> {
     }
 }
 
-/// The same loans. No memory is taken.
+/// A second holder of the loans. No memory is taken.
 impl<'a, T: Shaped> Clone for SetOfRef<'a, T> {
     ghost is_clone = { λ x y. y ≡ x };
 
@@ -220,7 +223,7 @@ impl<'a, T: Shaped> Clone for SetOfRef<'a, T> {
     }
 }
 
-/// The same set.
+/// The set, lent once more.
 impl<'a, 'b, T: Shaped> From<&'b SetOfRef<'a, T>> for SetOfRef<'a, T> {
     ghost from_gives = { λ set same. same ≡ set.now };
 
@@ -359,14 +362,15 @@ impl<'a, T: DerOrd + Encode> SetOfRef<'a, T> {
     /// `Overflow` where the content of one of the two has 2^32 octets or more, `SetOrdering` or
     /// `SetDuplicate` where a strict set in a value doesn't rise, or `OutOfMemory`.
     pub fn value_cmp(&self, alloc: Global, other: &SetOfRef<'a, T>) -> Result<Ordering, Error>
-        // It is answered wherever both sets have a content, unless memory runs out.
+        // An answer comes wherever both sets have a content, unless memory runs out.
         ensures order { is_body_apart (many T.shape) ≡ true
             → IsContent (nested (many T.shape)) (members_lent T.shape T.written self.now)
             → IsContent (nested (many T.shape)) (members_lent T.shape T.written other.now)
             → Gives (λ o. o) result
             (Ok (contents_cmp (nested (many T.shape)) (members_lent T.shape T.written self.now)
             (members_lent T.shape T.written other.now))) }
-        ensures refused { IfErr result (λ e. IsUncompared T.shape (members_lent T.shape T.written self.now)
+        ensures refused { IfErr result
+            (λ e. IsUncompared T.shape (members_lent T.shape T.written self.now)
             (members_lent T.shape T.written other.now) e
             ⊎ Overflows e (size_body (many T.shape) (members_lent T.shape T.written self.now))
             (size_body (many T.shape) (members_lent T.shape T.written other.now))) }
@@ -391,7 +395,7 @@ impl<'a, T: DerOrd + Encode> SetOfRef<'a, T> {
     /// `Overflow` where the encoding of one of the two has 2^32 octets or more, `SetOrdering` or
     /// `SetDuplicate` where a strict set in a value doesn't rise, or `OutOfMemory`.
     pub fn der_cmp(&self, alloc: Global, other: &SetOfRef<'a, T>) -> Result<Ordering, Error>
-        // It is answered wherever both sets have an encoding, unless memory runs out.
+        // An answer comes wherever both sets have an encoding, unless memory runs out.
         ensures order { is_body_apart (many T.shape) ≡ true
             → IsValid (tagged Set (nested (many T.shape))) (members_lent T.shape T.written self.now)
             → IsValid (tagged Set (nested (many T.shape)))
@@ -401,7 +405,8 @@ impl<'a, T: DerOrd + Encode> SetOfRef<'a, T> {
             (encodings_cmp (tagged Set (nested (many T.shape)))
             (members_lent T.shape T.written self.now)
             (members_lent T.shape T.written other.now))) }
-        ensures refused { IfErr result (λ e. IsUncompared T.shape (members_lent T.shape T.written self.now)
+        ensures refused { IfErr result
+            (λ e. IsUncompared T.shape (members_lent T.shape T.written self.now)
             (members_lent T.shape T.written other.now) e
             ⊎ Overflows e
             (size (tagged Set (nested (many T.shape))) (members_lent T.shape T.written self.now))

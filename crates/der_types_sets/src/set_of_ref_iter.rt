@@ -30,7 +30,8 @@ impl<'a, T: Shaped> Model for SetOfRefIter<'a, T> {
 
     ghost view = { λ s. record { values = s.values.now; octets = s.octets.now; count = s.count } };
 
-    ghost invariant = { λ s. HasMembers T.shape (record { values = s.values.now; octets = s.octets.now; count = s.count }) };
+    ghost invariant = { λ s. HasMembers T.shape
+        (record { values = s.values.now; octets = s.octets.now; count = s.count }) };
 }
 
 impl<'a, T: Shaped> SetOfRefIter<'a, T> {
@@ -41,7 +42,8 @@ impl<'a, T: Shaped> SetOfRefIter<'a, T> {
         octets: &'a [u8],
         count: usize,
     ) -> SetOfRefIter<'a, T>
-        requires { HasMembers T.shape (record { values = values.now; octets = octets.now; count = count }) }
+        requires { HasMembers T.shape
+            (record { values = values.now; octets = octets.now; count = count }) }
         ensures { result ≡ record { values = values.now; octets = octets.now; count = count } }
     {
         SetOfRefIter {
@@ -73,7 +75,8 @@ fn first_member<'a, T: Decode<'a, SliceReader<'a>> + Member>(
 ) -> Result<(T, &'a [u8]), Error>
     requires some { 0 < count }
     requires spelled { IsSpelled T.shape count octets.now }
-    ensures first { IfOk result (λ x. values_at (read T.shape levels_max) count octets.now ≡ T.plain x.0
+    ensures first { IfOk result (λ x. values_at (read T.shape levels_max) count octets.now
+        ≡ T.plain x.0
         ∷ values_at (read T.shape levels_max) (count - 1) x.1.now) }
     ensures left { IfOk result (λ x. IsSpelled T.shape (count - 1) x.1.now) }
     ensures refused { IfErr result IsWantOfMemory }

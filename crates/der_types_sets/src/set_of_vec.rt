@@ -9,7 +9,7 @@ ghost use Rattle.der_core_head.specs.declared.tag.Tag.TheVariants.{Set};
 ghost use Rattle.der_core_head.specs.Shapes.{Value, tagged, nested, many, rising, octets_of};
 ghost use Rattle.der_core_head.specs.Shapes.{AllRising};
 ghost use Rattle.der_core_head.specs.Spelling.{is_element, are_enough, are_content_enough};
-ghost use Rattle.der_core_head.specs.Grammar.{plain_list, value_at, whole_at};
+ghost use Rattle.der_core_head.specs.Grammar.{plain_list, value_at, read_whole};
 ghost use Rattle.der_core_head.specs.Reading.{Reads, Gives, Fails, IsDer, read_content_at};
 ghost use Rattle.std.specs.Cmp.Lexicographic.{pointwise, slice_cmp, slice_partial_cmp, lists_per};
 ghost use Rattle.std.specs.Cmp.Lexicographic.{lists_equiv, lists_po, lists_total, lists_agrees};
@@ -107,12 +107,10 @@ impl<T: Shaped> SetOfVec<T> {
     pub fn iter(&self) -> SetOfIter<'_, T>
         ensures { result.left.now ≡ self.now }
     {
-        SetOfIter {
-            left: self.members.as_slice(),
-        }
+        SetOfIter::of_members(self.members.as_slice())
     }
 
-    /// The same set, lent.
+    /// The set, lent.
     pub fn owned_to_ref(&self) -> SetOfRef<'_, T>
         ensures members { members_lent T.shape T.plain result ≡ plain_list T.plain self.now }
         ensures written { members_lent T.shape T.written result ≡ plain_list T.written self.now }
@@ -147,12 +145,11 @@ impl<T: Shaped + Clone + Drop> SetOfVec<T> {
     ///
     /// # Errors
     /// Want of memory.
-    #[tactic(auto, using(crate::proofs::SetSteps::same_copies))]
-    pub fn clone(&self, _alloc: Global) -> Result<SetOfVec<T>, AllocError>
+    pub fn clone(&self, alloc: Global) -> Result<SetOfVec<T>, AllocError>
         requires { (x y : T) → T.is_clone x y → y ≡ x }
         ensures { IfOk result (λ set. set ≡ self.now) }
     {
-        let members = self.members.clone()?;
+        let members = Vec::from_clones(alloc, self.members.as_slice())?;
         Ok(SetOfVec { members })
     }
 }
@@ -220,9 +217,11 @@ impl<T: DerOrd + Member + Drop> SetOfVec<T> {
     pub fn extend<I: IntoIterator<Item = T>>(&mut self, items: I) -> Result<(), Error>
         requires { (it : I.IntoIter) → I.into_iter_gives items it → I.IntoIter.can_next it
             × IsFinite (I.IntoIter.remaining it) }
-        ensures ran { ExtendsWithItems I.into_iter_gives I.IntoIter.next_gives (Gains T.shape T.written)
+        ensures ran { ExtendsWithItems I.into_iter_gives I.IntoIter.next_gives
+            (Gains T.shape T.written)
             items self.old self.new result }
-        ensures refused { IfErr result (StopsAt T.shape T.written I.into_iter_gives I.IntoIter.next_gives items
+        ensures refused { IfErr result
+            (StopsAt T.shape T.written I.into_iter_gives I.IntoIter.next_gives items
             self.old self.new) }
     {
         let alloc = *self.members.allocator();
@@ -263,9 +262,11 @@ impl<T: DerOrd + Member + Drop> SetOfVec<T> {
     ) -> Result<SetOfVec<T>, Error>
         requires { (it : I.IntoIter) → I.into_iter_gives items it → I.IntoIter.can_next it
             × IsFinite (I.IntoIter.remaining it) }
-        ensures ran { IfOk result (λ set. (it : I.IntoIter) × (xs : List T) × I.into_iter_gives items it
+        ensures ran { IfOk result (λ set. (it : I.IntoIter) × (xs : List T)
+            × I.into_iter_gives items it
             × Drains I.IntoIter.next_gives it xs × Gains T.shape T.written [] xs set) }
-        ensures refused { IfErr result (λ e. (set : List T) × StopsAt T.shape T.written I.into_iter_gives
+        ensures refused { IfErr result
+            (λ e. (set : List T) × StopsAt T.shape T.written I.into_iter_gives
             I.IntoIter.next_gives items [] set e) }
     {
         let mut set = SetOfVec::new(alloc);
@@ -288,7 +289,8 @@ impl<T: DerOrd + Member + Drop> SetOfVec<T> {
     where
         T: Decode<'a, R> + AsRead,
         // The members that were read, in the order in which they stand there, are those of the set.
-        ensures reads { (read : List T) × ReadsArranged T.shape T.plain T.written (R.state reader.old)
+        ensures reads { (read : List T)
+            × ReadsArranged T.shape T.plain T.written (R.state reader.old)
             (R.state reader.new) result
             (value_at (read_content_at (R.state reader.old) (nested (many T.shape)) header.tag)
             header.length.value) read }
@@ -336,7 +338,7 @@ impl<T: DerOrd + Member + Drop> SetOfVec<T> {
         // Which fault it is.
         ensures refused { is_element T.shape ≡ true
             → IfErr result
-            (λ e. Fails e.kind (whole_at (tagged Set (nested (many T.shape))) bytes.now)) }
+            (λ e. Fails e.kind (read_whole (tagged Set (nested (many T.shape))) bytes.now)) }
     {
         let read = from_der::<AnyOrder<T>>(alloc, bytes)?;
         let AnyOrder { values } = read;
@@ -360,7 +362,8 @@ impl<T: DerOrd + Member + Drop> SetOfVec<T> {
         ensures reads { Reads (plain_list T.plain) (R.state reader.old) (R.state reader.new) result
             (value_at (read_content_at (R.state reader.old) (nested (rising T.shape)) header.tag)
             header.length.value) }
-        ensures rising { IfOk result (λ set. AllRising (octets_of T.shape) (plain_list T.plain set)) }
+        ensures rising { IfOk result
+            (λ set. AllRising (octets_of T.shape) (plain_list T.plain set)) }
     {
         let rising = StrictSet::<T>::decode_value(alloc, reader, header)?;
         let StrictSet { values } = rising;

@@ -54,7 +54,8 @@ fn order_at<T: DerOrd + Member>(members: &[T], place: usize, other: usize) -> Or
 
 /// Whether no member at a place is above that at the next place, where each can be compared.
 fn ascend_at<T: DerOrd + Member>(members: &[T], places: &[usize]) -> bool
-    ensures { IsTrue result → AscendsAt T.shape T.written members.now places.now (length places.now) }
+    ensures { IsTrue result → AscendsAt T.shape T.written members.now places.now
+        (length places.now) }
 {
     for end in 1..places.len() {
         let (Some(member), Some(next)) = (members.get(places[end - 1]), members.get(places[end]))
@@ -131,7 +132,8 @@ fn rearrange<T: Drop>(
     places: &[usize],
 ) -> Result<(), AllocError>
     requires { IsPermutation (range_with_len 0 (length members.old.items)) places.now }
-    ensures ok { OnOk result ((d : T) → members.new.items ≡ members_at members.old.items d places.now) }
+    ensures ok { OnOk result
+        ((d : T) → members.new.items ≡ members_at members.old.items d places.now) }
     ensures err { OnErr result (members.new.items ≡ members.old.items) }
 {
     let mut apart = Vec::with_capacity(alloc, members.len())?;
@@ -145,7 +147,8 @@ fn rearrange<T: Drop>(
 /// compared. Else none moves.
 fn sort<T: DerOrd + Member + Drop>(members: &mut Vec<T>) -> bool
     requires { 0 < length members.old.items }
-    ensures arranged { IsTrue result → IsArranged T.shape T.written members.old.items members.new.items }
+    ensures arranged { IsTrue result → IsArranged T.shape T.written members.old.items
+        members.new.items }
     ensures ascend { IsTrue result → Ascends T.shape T.written members.new.items }
     ensures unmoved { IsTrue (not result) → members.new.items ≡ members.old.items }
 {
@@ -175,8 +178,10 @@ pub(crate) fn arrange_behind_first<T: DerOrd + Member + Drop>(
     requires within { first ≤ length members.old.items }
     requires ascend { Ascends T.shape T.written (take first members.old.items) }
     ensures ascend { Ascends T.shape T.written members.new.items }
-    ensures arranged { OnOk result (IsArranged T.shape T.written members.old.items members.new.items) }
-    ensures refused { IfErr result (λ e. (count : ℕ) × StopsBehind T.shape T.written first members.old.items
+    ensures arranged { OnOk result
+        (IsArranged T.shape T.written members.old.items members.new.items) }
+    ensures refused { IfErr result
+        (λ e. (count : ℕ) × StopsBehind T.shape T.written first members.old.items
         members.new.items count e) }
 {
     let Err(_) = check_ascending(members.as_slice()) else {

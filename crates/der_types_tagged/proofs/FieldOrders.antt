@@ -3,34 +3,25 @@ use Rattle.std.proofs.Common.{◌≡◌, ℕ, true, false, length, Ok, Err, sym,
 use Rattle.std.specs.Ordering.{nat_cmp, ordering_then, is_ne}
 use Rattle.std.specs.declared.cmp.Ordering.{Ordering}
 use Rattle.der_core_head.specs.declared.error.Error.{Error}
-use Rattle.der_core_head.specs.declared.error.ErrorKind.{ErrorKind}
-use Rattle.der_core_head.specs.declared.error.ErrorKind.TheVariants as kinds
 use Rattle.der_core_head.specs.declared.tag.Tag.{Tag}
-use Rattle.der_core_head.specs.Tags.{IsTag, tag_octets}
-use Rattle.der_core_head.specs.Heads.{Fits, length_octets}
+use Rattle.der_core_head.specs.Tags.{tag_octets}
+use Rattle.der_core_head.specs.Heads.{length_octets}
 use Rattle.der_core_head.specs.Shapes.{Content, ContentValue, tagged, octets_of, contents, IsValid}
 use Rattle.der_core_head.specs.Writing.{size, size_content}
 use Rattle.der_core_head.proofs.Results.{ok_is}
-use Rattle.der_core_head.proofs.Fits.{fits_contents}
 use Rattle.der_core.specs.Orders.{octets_cmp, contents_cmp, Overflows}
 use Rattle.der_core.proofs.OrderLaws.{then_assoc}
 use Rattle.der_core.proofs.HeadOrders.{length_octets_cmp, tlv_cmp}
 use Rattle.der_core.proofs.Sizes.{content_only, tlv_over}
 use Rattle.der_core.proofs.RowOrders.{first_decides, others_decide}
-use Rattle.der_core.proofs.TagOrders.{tagged_sized}
-
-parts : (t : Tag) (c : Content) (v : ContentValue c) → IsValid (tagged t c) v → IsTag t × Fits (contents c v)
-unfolding IsValid
-parts t c v h = (h.1, fits_contents t (contents c v) h.2)
-
-over : (c : Content) (v : ContentValue c) (k : ErrorKind) → size_content c v ≡ Err k → size_content c v ≡ Err kinds.Overflow
-over c v k e = e ∙ ap (λ j. Err j) (content_only c v k e)
+use Rattle.der_core.proofs.TagOrders.{content_over, tagged_sized}
+use Rattle.der_types_tagged.proofs.ReadBack.{tag_and_content}
 
 pub first_over : (a b : Tag) (c : Content) (v w : ContentValue c) (e : Error) → size_content c v ≡ Err e.kind → Overflows e (size (tagged a c) v) (size (tagged b c) w)
-first_over a b c v w e h = record { kind = content_only c v e.kind h; length = inl (tlv_over a (size_content c v) (over c v e.kind h)) }
+first_over a b c v w e h = record { kind = content_only c v e.kind h; length = inl (tlv_over a (size_content c v) (content_over c v e.kind h)) }
 
 pub second_over : (a b : Tag) (c : Content) (v w : ContentValue c) (e : Error) → size_content c w ≡ Err e.kind → Overflows e (size (tagged a c) v) (size (tagged b c) w)
-second_over a b c v w e h = record { kind = content_only c w e.kind h; length = inr (tlv_over b (size_content c w) (over c w e.kind h)) }
+second_over a b c v w e h = record { kind = content_only c w e.kind h; length = inr (tlv_over b (size_content c w) (content_over c w e.kind h)) }
 
 -- what is too long inside is too long with its header
 pub inside_over : (a b : Tag) (c : Content) (v w : ContentValue c) (e : Error) → Overflows e (size_content c v) (size_content c w) → Overflows e (size (tagged a c) v) (size (tagged b c) w)
@@ -41,8 +32,8 @@ by_headers : (a b : Tag) (c : Content) (v w : ContentValue c) (m n : ℕ) → Is
     ≡ ordering_then (ordering_then (octets_cmp (tag_octets a) (tag_octets b)) (octets_cmp (length_octets m) (length_octets n))) (contents_cmp c v w)
 unfolding octets_of
 by_headers a b c v w m n p q i j =
-    let x = parts a c v p in
-    let y = parts b c w q in
+    let x = tag_and_content a c v p in
+    let y = tag_and_content b c w q in
     let k : length (contents c v) ≡ m = ok_is (length (contents c v)) m (sym (tagged_sized a c v p) ∙ i) in
     let l : length (contents c w) ≡ n = ok_is (length (contents c w)) n (sym (tagged_sized b c w q) ∙ j) in
     let lengths : nat_cmp (length (contents c v)) (length (contents c w)) ≡ octets_cmp (length_octets m) (length_octets n) =

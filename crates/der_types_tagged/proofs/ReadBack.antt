@@ -32,15 +32,15 @@ number_of_class class n = go (class == 1) (class == 2)
     go false true = refl
     go false false = refl
 
-parts : (t : Tag) (c : Content) (v : ContentValue c) → IsValid (tagged t c) v → IsTag t × Fits (contents c v)
+pub tag_and_content : (t : Tag) (c : Content) (v : ContentValue c) → IsValid (tagged t c) v → IsTag t × Fits (contents c v)
 unfolding IsValid
-parts t c v h = (h.1, fits_contents t (contents c v) h.2)
+tag_and_content t c v h = (h.1, fits_contents t (contents c v) h.2)
 
 header_again : (t : Tag) (c : Content) (v : ContentValue c) (r : List ℕ) → IsValid (tagged t c) v
     → head_at (octets_of (tagged t c) v ++ r) ≡ Ok (record { tag = t; len = length (contents c v) }, contents c v ++ r)
 unfolding octets_of tlv
 header_again t c v r h =
-    let k = parts t c v h in
+    let k = tag_and_content t c v h in
     ap head_at (append_assoc (head_octets t (length (contents c v))) (contents c v) r) ∙ head_again t (length (contents c v)) (contents c v ++ r) k.0 k.1
 
 -- a header of the class, and what stands behind it

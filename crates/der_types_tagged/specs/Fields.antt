@@ -1,6 +1,6 @@
 -- Fields behind a tag of a class and a number, in front of the value's own tag or in its place
 -- (X.690 8.14). A class is told by its bits in the first octet of a tag (8.1.2.2).
-use Rattle.std.specs.Prelude.{ℕ, ◌/◌, true, Ok}
+use Rattle.std.specs.Prelude.{ℕ, ◌/◌, ◌==◌, ◌||◌, true, Ok, IsTrue}
 use Rattle.der_core_head.specs.declared.encoding_rules.EncodingRules.{EncodingRules}
 use Rattle.der_core_head.specs.declared.tag.Tag.{Tag}
 use Rattle.der_core_head.specs.declared.tag_mode.TagMode.{TagMode}
@@ -10,6 +10,10 @@ use Rattle.der_core_head.specs.Tags.{class_tag, is_constructed, number_of}
 use Rattle.der_core_head.specs.Bodies.{head_by}
 use Rattle.der_core_head.specs.Shapes.{Shape, Content, Value, tagged, nested, only}
 use Rattle.der_core_head.specs.Grammar.{read_by}
+
+-- the bits of a class that isn't the universal one: application, context-specific, private
+abbrev pub IsClass : ℕ → Type 0
+IsClass class = IsTrue ((class == 0x40) || ((class == 0x80) || (class == 0xc0)))
 
 -- the tag of a field, whose form is that of the value's own tag where it stands in its place
 abbrev pub field_tag : ℕ → TagMode → ℕ → Tag → Tag

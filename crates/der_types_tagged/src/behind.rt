@@ -48,7 +48,8 @@ impl<'a, T: DerOrd> ValueOrd for Whole<'a, T> {
 /// The number of octets of a content and its header.
 #[tactic(auto, unfolding(der_core_head::specs::Writing::tlv_len, der_core_head::specs::Writing::head_len))]
 pub fn len_behind<T: EncodeValue>(tag: Tag, value: &T) -> Result<Length, Error>
-    ensures { GivesNow (λ l. l.value) result (size (tagged tag T.content) (T.value_written value.now)) }
+    ensures { GivesNow (λ l. l.value) result
+        (size (tagged tag T.content) (T.value_written value.now)) }
 {
     let len = value.value_len()?;
     len.for_tlv(tag)
@@ -72,7 +73,9 @@ pub fn encode_behind<W: Writer, T: EncodeValue>(
 
 /// The octets that writing a header and a content gives.
 fn written_behind<T: EncodeValue>(alloc: Global, tag: Tag, value: &T) -> Result<Vec<u8>, Error>
-    ensures { Gives (λ v. record { written = v.items; room = None; failed = false }) result (write (tagged tag T.content) (T.value_written value.now) (record { written = []; room = None; failed = false })) }
+    ensures { Gives (λ v. record { written = v.items; room = None; failed = false }) result
+        (write (tagged tag T.content) (T.value_written value.now)
+        (record { written = []; room = None; failed = false })) }
 {
     let mut out = Vec::new(alloc);
     encode_behind(&mut out, tag, value)?;
@@ -84,7 +87,9 @@ pub fn der_behind<T: EncodeValue>(alloc: Global, tag: Tag, value: &T) -> Result<
     ensures spelled { IsValid (tagged tag T.content) (T.value_written value.now)
         → Gives (λ v. v.items) result
         (Ok (octets_of (tagged tag T.content) (T.value_written value.now))) }
-    ensures exact { Gives (λ v. record { written = v.items; room = None; failed = false }) result (write (tagged tag T.content) (T.value_written value.now) (record { written = []; room = None; failed = false })) }
+    ensures exact { Gives (λ v. record { written = v.items; room = None; failed = false }) result
+        (write (tagged tag T.content) (T.value_written value.now)
+        (record { written = []; room = None; failed = false })) }
 {
     written_behind(alloc, tag, value)
 }
@@ -102,7 +107,8 @@ pub fn cmp_behind<T: EncodeValue + ValueOrd>(
         → result
         ≡ Ok (octets_cmp (octets_of (tagged tag T.content) (T.value_written value.now))
         (octets_of (tagged other_tag T.content) (T.value_written other.now))) }
-    ensures refused { IfErr result (λ e. Overflows e (size (tagged tag T.content) (T.value_written value.now))
+    ensures refused { IfErr result
+        (λ e. Overflows e (size (tagged tag T.content) (T.value_written value.now))
         (size (tagged other_tag T.content) (T.value_written other.now))) }
 {
     let len = value.value_len()?;

@@ -12,7 +12,7 @@ ghost use Rattle.der_core_head.specs.Reading.{Gives, GivesNow, Reads, read_at};
 ghost use Rattle.der_core_head.specs.Writing.{Writes, size, size_content, write, write_content};
 ghost use Rattle.der_core.specs.Orders.{contents_cmp, octets_cmp, Overflows};
 ghost use Rattle.der_types_tagged.specs.Fields.{field_tag, explicit_field, implicit_field};
-ghost use Rattle.der_types_tagged.specs.Fields.{numbered_at};
+ghost use Rattle.der_types_tagged.specs.Fields.{numbered_at, IsClass};
 ghost use Rattle.der_core_octets.specs.Outputs.{Continues};
 
 use crate::class_field_ref::ClassFieldRef;
@@ -26,14 +26,14 @@ use der_core::{
     Decode, DecodeValue, EncodeValue, Error, FixedTag, Length, Reader, Tag, TagMode, TagNumber,
     Tagged, ValueOrd, Writer,
 };
-use std::alloc::Global;
+use std::alloc::{AllocError, Global};
 use std::cmp::Ordering;
 
 /// A value behind a tag of a class, which `CLASS` tells by its bits in the first octet of a tag
 /// (X.690 8.1.2.2): `CLASS_APPLICATION`, `CLASS_CONTEXT_SPECIFIC` or `CLASS_PRIVATE`.
 ///
 /// The tag stands in front of the value's own tag or in its place (X.680 31, X.690 8.14).
-#[derive(Clone, Debug, Drop, PartialEq, Eq)]
+#[derive(Debug, Drop, PartialEq, Eq)]
 pub struct ClassField<T, const CLASS: u8> {
     /// The number of the tag.
     pub tag_number: TagNumber,
@@ -41,6 +41,25 @@ pub struct ClassField<T, const CLASS: u8> {
     pub tag_mode: TagMode,
     /// The value.
     pub value: T,
+    ghost class: { IsClass CLASS },
+}
+
+/// A copy, with a copy of the value.
+impl<T: Clone, const CLASS: u8> Clone for ClassField<T, CLASS> {
+    ghost is_clone = { λ x y. (y.tag_number ≡ x.tag_number)
+        × ((y.tag_mode ≡ x.tag_mode) × T.is_clone x.value y.value) };
+
+    ghost is_infallible = { λ x. T.is_infallible x.value };
+
+    fn clone(&self) -> Result<ClassField<T, CLASS>, AllocError> {
+        let value = self.value.clone()?;
+        let tag_number = self.tag_number;
+        Ok(ClassField {
+            tag_number,
+            tag_mode: self.tag_mode,
+            value,
+        })
+    }
 }
 
 impl<T, const CLASS: u8> ClassField<T, CLASS> {
@@ -56,7 +75,9 @@ impl<T, const CLASS: u8> ClassField<T, CLASS> {
     ) -> Result<Option<ClassField<T, CLASS>>, Error>
     where
         T: Decode<'a, R>,
-        ensures reads { Reads (plain_option (λ f. T.plain f.value)) (R.state reader.old) (R.state reader.new)
+        requires { IsClass CLASS }
+        ensures reads { Reads (plain_option (λ f. T.plain f.value)) (R.state reader.old)
+            (R.state reader.new)
             result
             (read_at (R.state reader.old)
             (optional (explicit_field CLASS tag_number.value T.shape))) }
@@ -88,6 +109,7 @@ impl<T, const CLASS: u8> ClassField<T, CLASS> {
     ) -> Result<Option<ClassField<T, CLASS>>, Error>
     where
         T: DecodeValue<'a, R> + FixedTag,
+        requires { IsClass CLASS }
         ensures reads { Reads (plain_option (λ f. T.value_plain f.value)) (R.state reader.old)
             (R.state reader.new) result
             (read_at (R.state reader.old)
@@ -120,6 +142,7 @@ impl<T, const CLASS: u8> ClassField<T, CLASS> {
     ) -> Result<ClassField<T, CLASS>, Error>
     where
         T: Decode<'a, R>,
+        requires { IsClass CLASS }
         ensures reads { Reads (λ f. (f.tag_number.value, T.plain f.value)) (R.state reader.old)
             (R.state reader.new) result
             (numbered_at (R.state reader.old).source.encoding CLASS T.shape
@@ -146,12 +169,13 @@ impl<T, const CLASS: u8> ClassField<T, CLASS> {
 
     /// Whether a tag is of the class.
     pub fn can_decode(tag: Tag) -> bool
+        requires { IsClass CLASS }
         ensures { IsTrue result ↔ (tag_class tag ≡ CLASS / 64) }
     {
         leading_octet_of(tag) / 64 == CLASS / 64
     }
 
-    /// The same field, lent.
+    /// The field, lent.
     pub fn owned_to_ref(&self) -> ClassFieldRef<'_, T, CLASS>
         ensures number { result.tag_number ≡ self.now.tag_number }
         ensures mode { result.tag_mode ≡ self.now.tag_mode }
@@ -266,10 +290,16 @@ impl<T: EncodeValue + FixedTag, const CLASS: u8> ClassField<T, CLASS> {
             (octets_of (implicit_field CLASS self.now.tag_number.value T.fixed_tag T.content)
             (T.value_written self.now.value))) }
         // Which fault it is.
-        ensures exact_explicit { self.now.tag_mode ≡ Explicit → Gives (λ v. record { written = v.items; room = None; failed = false }) result
-            (write (explicit_field CLASS self.now.tag_number.value (tagged T.fixed_tag T.content)) (T.value_written self.now.value) (record { written = []; room = None; failed = false })) }
-        ensures exact_implicit { self.now.tag_mode ≡ Implicit → Gives (λ v. record { written = v.items; room = None; failed = false }) result
-            (write (implicit_field CLASS self.now.tag_number.value T.fixed_tag T.content) (T.value_written self.now.value) (record { written = []; room = None; failed = false })) }
+        ensures exact_explicit { self.now.tag_mode ≡ Explicit
+            → Gives (λ v. record { written = v.items; room = None; failed = false }) result
+            (write (explicit_field CLASS self.now.tag_number.value (tagged T.fixed_tag T.content))
+            (T.value_written self.now.value)
+            (record { written = []; room = None; failed = false })) }
+        ensures exact_implicit { self.now.tag_mode ≡ Implicit
+            → Gives (λ v. record { written = v.items; room = None; failed = false }) result
+            (write (implicit_field CLASS self.now.tag_number.value T.fixed_tag T.content)
+            (T.value_written self.now.value)
+            (record { written = []; room = None; failed = false })) }
     {
         der_of_field(alloc, CLASS, self.tag_mode, self.tag_number, &self.value)
     }
@@ -284,7 +314,7 @@ impl<T: ValueOrd + EncodeValue + FixedTag, const CLASS: u8> ClassField<T, CLASS>
     /// `Overflow` where the content of one of the two has 2^32 octets or more.
     pub fn value_cmp(&self, other: &ClassField<T, CLASS>) -> Result<Ordering, Error>
         requires { self.now.tag_mode ≡ other.now.tag_mode }
-        // It is answered wherever both values have a content.
+        // An answer comes wherever both values have a content.
         ensures explicit { self.now.tag_mode ≡ Explicit → is_content_apart T.content ≡ true
             → IsContent (nested (only (tagged T.fixed_tag T.content)))
             (T.value_written self.now.value)
@@ -321,7 +351,7 @@ impl<T: ValueOrd + EncodeValue + FixedTag, const CLASS: u8> ClassField<T, CLASS>
     /// `Overflow` where the encoding of one of the two has 2^32 octets or more.
     pub fn der_cmp(&self, other: &ClassField<T, CLASS>) -> Result<Ordering, Error>
         requires { self.now.tag_mode ≡ other.now.tag_mode }
-        // It is answered wherever both values have an encoding.
+        // An answer comes wherever both values have an encoding.
         ensures explicit { self.now.tag_mode ≡ Explicit → is_content_apart T.content ≡ true
             → IsValid
             (explicit_field CLASS self.now.tag_number.value (tagged T.fixed_tag T.content))

@@ -1,11 +1,12 @@
 //! Lent values behind tags of one class.
 
-ghost use Rattle.std.specs.Prelude.{◌≡◌, [], Ok, None, false, IsOk, IfOk};
+ghost use Rattle.std.specs.Prelude.{◌≡◌, [], Ok, None, false, IsOk, IfOk, ⊤};
 ghost use Rattle.der_core_head.specs.declared.tag_mode.TagMode.TheVariants.{Explicit, Implicit};
 ghost use Rattle.der_core_head.specs.Shapes.{nested, only, tagged, IsValid, octets_of};
 ghost use Rattle.der_core_head.specs.Reading.{Gives, GivesNow};
 ghost use Rattle.der_core_head.specs.Writing.{Writes, size, size_content, write, write_content};
 ghost use Rattle.der_types_tagged.specs.Fields.{field_tag, explicit_field, implicit_field};
+ghost use Rattle.der_types_tagged.specs.Fields.{IsClass};
 ghost use Rattle.der_core_octets.specs.Outputs.{Continues};
 
 use crate::class_field::ClassField;
@@ -20,7 +21,7 @@ use std::alloc::{AllocError, Global};
 /// tag (X.690 8.1.2.2): `CLASS_APPLICATION`, `CLASS_CONTEXT_SPECIFIC` or `CLASS_PRIVATE`.
 ///
 /// The tag stands in front of the value's own tag or in its place (X.680 31, X.690 8.14).
-#[derive(Clone, Copy, Debug, PartialEq, Eq)]
+#[derive(Debug, PartialEq, Eq)]
 pub struct ClassFieldRef<'a, T, const CLASS: u8> {
     /// The number of the tag.
     pub tag_number: TagNumber,
@@ -28,7 +29,20 @@ pub struct ClassFieldRef<'a, T, const CLASS: u8> {
     pub tag_mode: TagMode,
     /// The value.
     pub value: &'a T,
+    ghost class: { IsClass CLASS },
 }
+
+impl<'a, T, const CLASS: u8> Clone for ClassFieldRef<'a, T, CLASS> {
+    ghost is_clone = { λ s r. r ≡ s };
+
+    ghost is_infallible = { λ _. ⊤ };
+
+    fn clone(&self) -> Result<ClassFieldRef<'a, T, CLASS>, AllocError> {
+        Ok(*self)
+    }
+}
+
+impl<'a, T, const CLASS: u8> Copy for ClassFieldRef<'a, T, CLASS> {}
 
 /// The tag of the class, in the form that its mode asks for.
 impl<'a, T: Tagged, const CLASS: u8> Tagged for ClassFieldRef<'a, T, CLASS> {
@@ -40,7 +54,7 @@ impl<'a, T: Tagged, const CLASS: u8> Tagged for ClassFieldRef<'a, T, CLASS> {
 }
 
 impl<'a, T: Clone, const CLASS: u8> ClassFieldRef<'a, T, CLASS> {
-    /// The same field, with a clone of its value.
+    /// The field, owned, with a clone of its value.
     ///
     /// # Errors
     /// Where the clone finds no memory.
@@ -151,10 +165,16 @@ impl<'a, T: EncodeValue + FixedTag, const CLASS: u8> ClassFieldRef<'a, T, CLASS>
             (octets_of (implicit_field CLASS self.now.tag_number.value T.fixed_tag T.content)
             (T.value_written self.now.value.now))) }
         // Which fault it is.
-        ensures exact_explicit { self.now.tag_mode ≡ Explicit → Gives (λ v. record { written = v.items; room = None; failed = false }) result
-            (write (explicit_field CLASS self.now.tag_number.value (tagged T.fixed_tag T.content)) (T.value_written self.now.value.now) (record { written = []; room = None; failed = false })) }
-        ensures exact_implicit { self.now.tag_mode ≡ Implicit → Gives (λ v. record { written = v.items; room = None; failed = false }) result
-            (write (implicit_field CLASS self.now.tag_number.value T.fixed_tag T.content) (T.value_written self.now.value.now) (record { written = []; room = None; failed = false })) }
+        ensures exact_explicit { self.now.tag_mode ≡ Explicit
+            → Gives (λ v. record { written = v.items; room = None; failed = false }) result
+            (write (explicit_field CLASS self.now.tag_number.value (tagged T.fixed_tag T.content))
+            (T.value_written self.now.value.now)
+            (record { written = []; room = None; failed = false })) }
+        ensures exact_implicit { self.now.tag_mode ≡ Implicit
+            → Gives (λ v. record { written = v.items; room = None; failed = false }) result
+            (write (implicit_field CLASS self.now.tag_number.value T.fixed_tag T.content)
+            (T.value_written self.now.value.now)
+            (record { written = []; room = None; failed = false })) }
     {
         der_of_field(alloc, CLASS, self.tag_mode, self.tag_number, self.value)
     }

@@ -145,15 +145,20 @@ pub fn der_of_field<T: EncodeValue + FixedTag>(
         → Gives (λ v. v.items) result
         (Ok (octets_of (explicit_field class number.value (tagged T.fixed_tag T.content))
         (T.value_written value.now))) }
-    ensures implicit { mode ≡ Implicit → IsValid (implicit_field class number.value T.fixed_tag T.content)
+    ensures implicit { mode ≡ Implicit
+        → IsValid (implicit_field class number.value T.fixed_tag T.content)
         (T.value_written value.now)
         → Gives (λ v. v.items) result
         (Ok (octets_of (implicit_field class number.value T.fixed_tag T.content)
         (T.value_written value.now))) }
-    ensures exact_explicit { mode ≡ Explicit → Gives (λ v. record { written = v.items; room = None; failed = false }) result
-        (write (explicit_field class number.value (tagged T.fixed_tag T.content)) (T.value_written value.now) (record { written = []; room = None; failed = false })) }
-    ensures exact_implicit { mode ≡ Implicit → Gives (λ v. record { written = v.items; room = None; failed = false }) result
-        (write (implicit_field class number.value T.fixed_tag T.content) (T.value_written value.now) (record { written = []; room = None; failed = false })) }
+    ensures exact_explicit { mode ≡ Explicit
+        → Gives (λ v. record { written = v.items; room = None; failed = false }) result
+        (write (explicit_field class number.value (tagged T.fixed_tag T.content))
+        (T.value_written value.now) (record { written = []; room = None; failed = false })) }
+    ensures exact_implicit { mode ≡ Implicit
+        → Gives (λ v. record { written = v.items; room = None; failed = false }) result
+        (write (implicit_field class number.value T.fixed_tag T.content) (T.value_written value.now)
+        (record { written = []; room = None; failed = false })) }
 {
     let tag = tag_of_field(class, mode, number, T::tag());
     match mode {

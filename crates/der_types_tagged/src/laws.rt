@@ -23,7 +23,8 @@ pub fn written_is_read_back()
         ≡ true
         → IsValid (explicit_field class n s) v → read (optional (explicit_field class n s)) room
         (octets_of (explicit_field class n s) v ++ rest) ≡ Ok (Some v, rest) }
-    ensures implicit { (class n room : ℕ) (own : Tag) (c : Content) (v : ContentValue c) (rest : List ℕ)
+    ensures implicit { (class n room : ℕ) (own : Tag) (c : Content) (v : ContentValue c)
+        (rest : List ℕ)
         → is_content_apart c ≡ true → are_content_enough c room ≡ true
         → IsValid (implicit_field class n own c) v → read (optional (implicit_field class n own c))
         room (octets_of (implicit_field class n own c) v ++ rest) ≡ Ok (Some v, rest) }

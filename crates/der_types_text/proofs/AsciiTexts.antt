@@ -1,18 +1,14 @@
 -- Texts of ASCII characters are UTF-8.
-use Rattle.std.proofs.Common.{◌≡◌, ℕ, zero, suc, ◌<◌, Bool, true, List, [], ◌∷◌, arith}
+use Rattle.std.proofs.Common.{◌≡◌, ℕ, ◌<◌, Bool, true, List, [], ◌∷◌, arith}
 use Rattle.std.specs.List.{list_all}
-use Rattle.std.specs.Str.{IsUtf8, IsAscii}
+use Rattle.std.specs.Str.{IsUtf8}
 use Rattle.std.proofs.lemmas.Bool.{and_parts}
 use Rattle.std.proofs.lemmas.Str.{IsUtf8-from_ascii}
 use Rattle.der_core_head.specs.Octets.{IsOctets}
-
-all_below : (p : ℕ → Bool) (w : List ℕ) → ((b : ℕ) → p b ≡ true → b < 128) → list_all p w ≡ true → IsAscii w
-all_below p [] below e i = omega arith
-all_below p (b ∷ w) below e zero = below b (and_parts (p b) (list_all p w) e).0
-all_below p (b ∷ w) below e (suc i) = all_below p w below (and_parts (p b) (list_all p w) e).1 i
+use Rattle.der_core_head.proofs.TextLaws.{all_ascii}
 
 pub ascii_is_utf8 : (p : ℕ → Bool) (w : List ℕ) → ((b : ℕ) → p b ≡ true → b < 128) → list_all p w ≡ true → IsUtf8 w
-ascii_is_utf8 p w below e = IsUtf8-from_ascii w (all_below p w below e)
+ascii_is_utf8 p w below e = IsUtf8-from_ascii w (all_ascii p w below e)
 
 pub ascii_octets : (p : ℕ → Bool) (w : List ℕ) → ((b : ℕ) → p b ≡ true → b < 128) → list_all p w ≡ true → IsOctets w
 ascii_octets p [] below e = tt

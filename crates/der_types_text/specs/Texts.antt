@@ -1,9 +1,10 @@
 -- Texts of a repertoire, and making one of octets (X.680 41).
-use Rattle.std.specs.Prelude.{◌≡◌, ◌<◌, ℕ, List, length, true, Result, Ok, Err, nat_lt}
+use Rattle.std.specs.Prelude.{◌≡◌, ◌<◌, ℕ, List, length, true, Result, Err, nat_lt}
 use Rattle.std.specs.Prelude.{if◌then◌else◌}
 use Rattle.std.specs.List.{list_all}
 use Rattle.std.proofs.lemmas.Bool.{ltb-true}
 use Rattle.der_core_head.specs.Limits.{length_max}
+use Rattle.der_core_head.specs.Heads.{Fits}
 use Rattle.der_core_head.specs.declared.error.ErrorKind.{ErrorKind}
 use Rattle.der_core_head.specs.declared.error.ErrorKind.TheVariants as kinds
 use Rattle.der_core_head.specs.declared.tag.Tag.{Tag}
@@ -13,16 +14,18 @@ use Rattle.der_core_head.specs.Texts.{Repertoire, ascii, is_within, text_read, u
 abbrev pub AreWithin : Repertoire → List ℕ → Type 0
 AreWithin r w = list_all (is_within r) w ≡ true
 
+-- what a text of a type keeps: its characters are the type's, and a length can count them
+pub record IsKept (r : Repertoire) (w : List ℕ) : Type 0 where
+  pub within : AreWithin r w
+  pub short : Fits w
+
 -- the text of octets that a length can count, or the fault
 abbrev pub text_from : Repertoire → Tag → List ℕ → Result (List ℕ) ErrorKind
 text_from r t w = if nat_lt length_max (length w) then Err kinds.Overflow else text_read r t w
 
--- the same of UTF-8, and of any octets
+-- the text of UTF-8 that a length can count, or the fault
 abbrev pub utf8_from : List ℕ → Result (List ℕ) ErrorKind
 utf8_from w = if nat_lt length_max (length w) then Err kinds.Overflow else utf8_read w
-
-abbrev pub octets_from : List ℕ → Result (List ℕ) ErrorKind
-octets_from w = if nat_lt length_max (length w) then Err kinds.Overflow else Ok w
 
 pub ascii_below : (b : ℕ) → is_within ascii b ≡ true → b < 128
 ascii_below b = ltb-true b 128

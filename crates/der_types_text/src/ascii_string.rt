@@ -9,6 +9,7 @@ ghost use Rattle.std.specs.Cmp.Lexicographic.{nat_list_cmp_total, texts_po, text
 ghost use Rattle.std.specs.Cmp.Rules.{hashing};
 ghost use Rattle.std.specs.Hash as fed;
 ghost use Rattle.std.specs.Ordering.{nat_cmp};
+ghost use Rattle.der_core_head.specs.Heads.{Fits};
 ghost use Rattle.der_core_head.specs.Leaves.{text};
 ghost use Rattle.der_core_head.specs.Reading.{Gives, GivesNow};
 ghost use Rattle.der_core_head.specs.Shapes.{leaf};
@@ -30,7 +31,7 @@ use std::fmt;
 use std::hash::{Hash, Hasher};
 use std::marker::{Model, PhantomData};
 
-/// A text of a character string type whose characters are ASCII.
+/// A text of a character string type whose characters are ASCII, fewer than 2^32.
 ///
 /// Contracts see the list of its octets.
 #[derive(Drop)]
@@ -41,13 +42,13 @@ pub struct AsciiString<T: AsciiType> {
 
 impl<T: AsciiType> Model for AsciiString<T> {
     ghost use Rattle.std.specs.Prelude.{List, ℕ, string_bytes};
-    ghost use Rattle.der_types_text.specs.Texts.{AreWithin};
+    ghost use Rattle.der_types_text.specs.Texts.{IsKept};
 
     ghost Value = { List ℕ };
 
     ghost view = { λ a. string_bytes a.text };
 
-    ghost invariant = { λ a. AreWithin T.repertoire (string_bytes a.text) };
+    ghost invariant = { λ a. IsKept T.repertoire (string_bytes a.text) };
 }
 
 impl<T: AsciiType> AsciiString<T> {
@@ -93,6 +94,7 @@ impl<T: AsciiType> AsciiString<T> {
     pub fn as_str(&self) -> &str
         ensures text { result.now ≡ self.now }
         ensures valid { IsText T.repertoire result.now }
+        ensures short { Fits result.now }
     {
         self.owned_to_ref().as_str()
     }
@@ -125,7 +127,7 @@ impl<T: AsciiType> AsciiString<T> {
         self.text
     }
 
-    /// The same text, borrowed.
+    /// The text, borrowed.
     pub fn owned_to_ref(&self) -> AsciiStringRef<'_, T>
         ensures { result.text.now ≡ self.now }
     {
@@ -136,11 +138,12 @@ impl<T: AsciiType> AsciiString<T> {
     }
 }
 
-/// The same text, where its octets are characters of the type and a length can count them.
+/// The text, where its octets are characters of the type and a length can count them.
 impl<T: AsciiType> TryFrom<String> for AsciiString<T> {
     type Error = Error;
 
-    ghost try_from_gives = { λ s r. GivesNow (λ t. t) r (text_from T.repertoire T.string_tag (string_bytes s)) };
+    ghost try_from_gives = { λ s r. GivesNow (λ t. t) r
+        (text_from T.repertoire T.string_tag (string_bytes s)) };
 
     fn try_from(text: String) -> Result<AsciiString<T>, Error> {
         let _ = AsciiStringRef::<T>::new(text.as_bytes())?;

@@ -1,7 +1,8 @@
 //! Borrowed texts of ASCII characters.
 
-ghost use Rattle.std.specs.Prelude.{◌≡◌, ◌↔◌, length, IsTrue, IfOk, [], Some, ⊤};
+ghost use Rattle.std.specs.Prelude.{◌≡◌, ◌↔◌, length, IsTrue, IfOk, [], Some, ⊤, false};
 ghost use Rattle.std.specs.List.{list_all};
+ghost use Rattle.der_core_head.specs.Heads.{Fits};
 ghost use Rattle.der_core_head.specs.Leaves.{text};
 ghost use Rattle.der_core_head.specs.Reading.{GivesNow};
 ghost use Rattle.der_core_head.specs.Shapes.{leaf};
@@ -29,7 +30,7 @@ fn are_characters<T: AsciiType>(octets: &[u8]) -> bool
     octets.iter().all(|octet| T::has_character(*octet))
 }
 
-/// A borrowed text of a character string type whose characters are ASCII.
+/// A borrowed text of a character string type whose characters are ASCII, fewer than 2^32.
 ///
 /// Texts are equal where their octets are, and in the order of these.
 #[derive_where(PartialEq, Eq, PartialOrd, Ord, Hash)]
@@ -38,6 +39,7 @@ pub struct AsciiStringRef<'a, T: AsciiType> {
     pub text: &'a str,
     pub(crate) kind: PhantomData<T>,
     ghost within: { AreWithin T.repertoire text.now },
+    ghost short: { Fits text.now },
 }
 
 impl<'a, T: AsciiType> Clone for AsciiStringRef<'a, T> {
@@ -59,6 +61,7 @@ impl<'a, T: AsciiType> AsciiStringRef<'a, T> {
     /// `Value` with the tag where an octet is no character of the type.
     #[tactic(auto, unfolding(der_core_head::specs::Texts::text_read))]
     pub(crate) fn spelled_by(tag: Tag, octets: &'a [u8]) -> Result<AsciiStringRef<'a, T>, Error>
+        requires { Fits octets.now }
         ensures ok { IfOk result (λ t. t.text.now ≡ octets.now) }
         ensures exact { GivesNow (λ t. t.text.now) result (text_read T.repertoire tag octets.now) }
     {
@@ -78,7 +81,8 @@ impl<'a, T: AsciiType> AsciiStringRef<'a, T> {
     /// `Overflow` for 2^32 octets or more, `Value` where an octet is no character of the type.
     pub fn new(input: &'a [u8]) -> Result<AsciiStringRef<'a, T>, Error>
         ensures ok { IfOk result (λ t. t.text.now ≡ input.now) }
-        ensures exact { GivesNow (λ t. t.text.now) result (text_from T.repertoire T.string_tag input.now) }
+        ensures exact { GivesNow (λ t. t.text.now) result
+            (text_from T.repertoire T.string_tag input.now) }
     {
         slice_len(input)?;
         let text = AsciiStringRef::spelled_by(T::tag(), input)?;
@@ -89,6 +93,7 @@ impl<'a, T: AsciiType> AsciiStringRef<'a, T> {
     pub fn as_str(&self) -> &'a str
         ensures text { result.now ≡ self.now.text.now }
         ensures valid { IsText T.repertoire result.now }
+        ensures short { Fits result.now }
     {
         self.text
     }
@@ -114,7 +119,7 @@ impl<'a, T: AsciiType> AsciiStringRef<'a, T> {
         self.text.is_empty()
     }
 
-    /// The same text, owned.
+    /// A copy of the text that owns its octets.
     ///
     /// # Errors
     /// Want of memory.
@@ -180,6 +185,8 @@ impl<'a, T: AsciiType> Leaf<'a> for AsciiStringRef<'a, T> {
     ghost kind = { text T.repertoire };
 
     ghost leaf_plain = { λ t. t.text.now };
+
+    ghost takes_memory = { false };
 
     fn from_content(
         _alloc: Global,

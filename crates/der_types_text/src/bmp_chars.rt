@@ -23,7 +23,7 @@ impl<'a> Model for BmpCodepoints<'a> {
 }
 
 impl<'a> BmpCodepoints<'a> {
-    /// Those of pairs of octets, the higher first.
+    /// The code units of pairs of octets, the higher first.
     pub(crate) fn of(octets: &'a [u8]) -> BmpCodepoints<'a>
         ensures { result ≡ units octets.now }
     {
@@ -74,7 +74,7 @@ fn char_of(unit: u16) -> char
 }
 
 impl<'a> BmpChars<'a> {
-    /// Those of pairs of octets, the higher first.
+    /// The code units of pairs of octets, the higher first.
     pub(crate) fn of(octets: &'a [u8]) -> BmpChars<'a>
         requires { IsBmp (units octets.now) }
         ensures { result ≡ units octets.now }

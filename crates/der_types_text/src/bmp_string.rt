@@ -315,7 +315,8 @@ impl Ord for BmpString {
 impl Hash for BmpString {
     ghost hash_input = { λ s. fed.slice fed.u8 (bmp_octets s) };
 
-    ghost respects_eq = { λ a b e. ap (λ s. fed.slice fed.u8 (bmp_octets s)) ((bytes_decides a b).0 e) };
+    ghost respects_eq = { λ a b e. ap (λ s. fed.slice fed.u8 (bmp_octets s))
+        ((bytes_decides a b).0 e) };
 
     fn hash<H: Hasher>(&self, state: &mut H) {
         self.as_bytes().hash(state);

@@ -1,13 +1,14 @@
 //! GeneralString.
 
-ghost use Rattle.std.specs.Prelude.{◌≡◌, ◌↔◌, length, IsTrue, IfOk, []};
+ghost use Rattle.std.specs.Prelude.{◌≡◌, ◌↔◌, length, IsTrue, IfOk, [], false};
 ghost use Rattle.der_core_head.specs.declared.tag.Tag.TheVariants.{GeneralString};
+ghost use Rattle.der_core_head.specs.Heads.{Fits};
 ghost use Rattle.der_core_head.specs.Leaves.{text};
 ghost use Rattle.der_core_head.specs.Reading.{GivesNow};
 ghost use Rattle.der_core_head.specs.Shapes.{leaf};
 ghost use Rattle.der_core_head.specs.Texts.{any_octet};
 ghost use Rattle.der_core.specs.OrdLaws.{octets_order};
-ghost use Rattle.der_types_text.specs.Texts.{octets_from};
+ghost use Rattle.der_core_head.specs.Lengths.{counted};
 
 use der_core::making::{decode_leaf, slice_len};
 use der_core::{
@@ -18,12 +19,13 @@ use std::alloc::Global;
 use std::cmp::Ordering;
 use std::convert::AsSlice;
 
-/// A borrowed GeneralString (X.680 41, X.690 8.23.5): any octets, whose character sets are left to
-/// the reader.
+/// A borrowed GeneralString (X.680 41, X.690 8.23.5): any octets, fewer than 2^32, whose character
+/// sets are left to the reader.
 #[derive(Clone, Copy, Debug, PartialEq, Eq, PartialOrd, Ord, Hash)]
 pub struct GeneralStringRef<'a> {
     /// The octets.
     pub bytes: &'a [u8],
+    ghost short: { Fits bytes.now },
 }
 
 impl<'a> GeneralStringRef<'a> {
@@ -33,7 +35,7 @@ impl<'a> GeneralStringRef<'a> {
     /// `Overflow` for 2^32 octets or more.
     pub fn new(bytes: &'a [u8]) -> Result<GeneralStringRef<'a>, Error>
         ensures ok { IfOk result (λ s. s.bytes.now ≡ bytes.now) }
-        ensures exact { GivesNow (λ s. s.bytes.now) result (octets_from bytes.now) }
+        ensures exact { GivesNow (λ s. s.bytes.now) result (counted bytes.now) }
     {
         slice_len(bytes)?;
         Ok(GeneralStringRef { bytes })
@@ -92,6 +94,8 @@ impl<'a> Leaf<'a> for GeneralStringRef<'a> {
     ghost kind = { text any_octet };
 
     ghost leaf_plain = { λ s. s.bytes.now };
+
+    ghost takes_memory = { false };
 
     #[tactic(auto, using(crate::proofs::AnyTexts::any_read))]
     fn from_content(

@@ -1,13 +1,15 @@
 //! UTF8String.
 
-ghost use Rattle.std.specs.Prelude.{◌≡◌, ◌↔◌, length, IsTrue, IfOk, [], Some, string_bytes};
+ghost use Rattle.std.specs.Prelude.{◌≡◌, ◌↔◌, length, IsTrue, IfOk, [], Some, string_bytes, false};
 ghost use Rattle.der_core_head.specs.declared.tag.Tag.TheVariants.{Utf8String};
+ghost use Rattle.der_core_head.specs.Heads.{Fits};
 ghost use Rattle.der_core_head.specs.Leaves.{utf8};
 ghost use Rattle.der_core_head.specs.Reading.{GivesNow};
 ghost use Rattle.der_core_head.specs.Shapes.{leaf};
 ghost use Rattle.der_core_head.specs.Texts.{utf8_read};
 ghost use Rattle.der_core.specs.OrdLaws.{octets_order};
-ghost use Rattle.der_types_text.specs.Texts.{octets_from, utf8_from};
+ghost use Rattle.der_core_head.specs.Lengths.{counted};
+ghost use Rattle.der_types_text.specs.Texts.{utf8_from};
 
 use der_core::making::{decode_leaf, slice_len};
 use der_core::{
@@ -19,13 +21,15 @@ use std::cmp::Ordering;
 use std::convert::{AsSlice, AsStr};
 use std::fmt;
 
-/// A borrowed UTF8String (X.680 41, X.690 8.23.10): any characters, in UTF-8.
+/// A borrowed UTF8String (X.680 41, X.690 8.23.10): any characters, in UTF-8, of fewer than 2^32
+/// octets.
 ///
 /// Its owned form is `String`. Texts are equal where their octets are, and in the order of these.
 #[derive(Clone, Copy, PartialEq, Eq, PartialOrd, Ord, Hash)]
 pub struct Utf8StringRef<'a> {
     /// The characters.
     pub text: &'a str,
+    ghost short: { Fits text.now },
 }
 
 /// The text whose UTF-8 the octets are.
@@ -84,7 +88,7 @@ impl<'a> Utf8StringRef<'a> {
         self.text.is_empty()
     }
 
-    /// The same text, owned.
+    /// A copy of the text that owns its octets.
     ///
     /// # Errors
     /// Want of memory.
@@ -95,11 +99,11 @@ impl<'a> Utf8StringRef<'a> {
     }
 }
 
-/// The same text, where a length can count its octets.
+/// The text, where a length can count its octets.
 impl<'a> TryFrom<&'a str> for Utf8StringRef<'a> {
     type Error = Error;
 
-    ghost try_from_gives = { λ s r. GivesNow (λ t. t.text.now) r (octets_from s.now) };
+    ghost try_from_gives = { λ s r. GivesNow (λ t. t.text.now) r (counted s.now) };
 
     fn try_from(text: &'a str) -> Result<Utf8StringRef<'a>, Error> {
         slice_len(text.as_bytes())?;
@@ -107,11 +111,11 @@ impl<'a> TryFrom<&'a str> for Utf8StringRef<'a> {
     }
 }
 
-/// The same text, where a length can count its octets.
+/// The text, where a length can count its octets.
 impl<'a> TryFrom<&'a String> for Utf8StringRef<'a> {
     type Error = Error;
 
-    ghost try_from_gives = { λ s r. GivesNow (λ t. t.text.now) r (octets_from (string_bytes s.now)) };
+    ghost try_from_gives = { λ s r. GivesNow (λ t. t.text.now) r (counted (string_bytes s.now)) };
 
     fn try_from(text: &'a String) -> Result<Utf8StringRef<'a>, Error> {
         slice_len(text.as_bytes())?;
@@ -160,6 +164,8 @@ impl<'a> Leaf<'a> for Utf8StringRef<'a> {
     ghost kind = { utf8 };
 
     ghost leaf_plain = { λ t. t.text.now };
+
+    ghost takes_memory = { false };
 
     fn from_content(
         _alloc: Global,

@@ -101,8 +101,26 @@ impl DateTime {
         minutes: u8,
         seconds: u8,
     ) -> Result<DateTime, Error>
-        ensures dates { IsOk result ↔ (is_civil (record { year = year; month = month; day = day; hour = hour; minute = minutes; second = seconds }) ≡ true) }
-        ensures ok { IfOk result (λ d. d ≡ record { year = year; month = month; day = day; hour = hour; minute = minutes; second = seconds }) }
+        ensures dates { IsOk result
+            ↔
+            (is_civil
+            (record {
+              year = year;
+              month = month;
+              day = day;
+              hour = hour;
+              minute = minutes;
+              second = seconds;
+            }) ≡ true) }
+        ensures ok { IfOk result
+            (λ d. d ≡ record {
+              year = year;
+              month = month;
+              day = day;
+              hour = hour;
+              minute = minutes;
+              second = seconds;
+            }) }
         ensures err { IfErr result (λ e. e.kind ≡ ErrorKind.DateTime) }
     {
         let in_range = (1970..=9999).contains(&year) && (1..=12).contains(&month);

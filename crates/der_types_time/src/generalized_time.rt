@@ -1,6 +1,6 @@
 //! GeneralizedTime.
 
-ghost use Rattle.std.specs.Prelude.{◌≡◌, ◌*◌, ◌/◌, ◌<◌, ◌↔◌, IsOk, IfOk, IfErr};
+ghost use Rattle.std.specs.Prelude.{◌≡◌, ◌*◌, ◌/◌, ◌<◌, ◌↔◌, IsOk, IfOk, IfErr, false};
 ghost use Rattle.std.specs.Duration.{as_nanos};
 ghost use Rattle.der_core_head.specs.Dates.{generalized_octets};
 ghost use Rattle.der_core_head.specs.declared.tag.Tag.TheVariants.{GeneralizedTime as GeneralizedTimeTag};
@@ -135,6 +135,8 @@ impl<'a> Leaf<'a> for GeneralizedTime {
 
     ghost leaf_plain = { λ x. x };
 
+    ghost takes_memory = { false };
+
     fn from_content(_alloc: Global, tag: Tag, octets: &'a [u8]) -> Result<GeneralizedTime, Error> {
         let time = GeneralizedTime::of_content(tag, octets)?;
         Ok(time)
@@ -238,6 +240,8 @@ impl<'a> Leaf<'a> for DateTime {
     ghost kind = { generalized_time };
 
     ghost leaf_plain = { λ x. x };
+
+    ghost takes_memory = { false };
 
     fn from_content(alloc: Global, tag: Tag, octets: &'a [u8]) -> Result<DateTime, Error> {
         let time = GeneralizedTime::from_content(alloc, tag, octets)?;

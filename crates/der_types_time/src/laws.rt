@@ -9,12 +9,18 @@ ghost use Rattle.der_types_time.specs.DateTexts.{date_text};
 ghost use Rattle.der_types_time.specs.Seconds.{unix_seconds};
 
 use crate::date_time::DateTime;
+use crate::generalized_time::GeneralizedTime;
+use crate::utc_time::UtcTime;
 use std::cmp::Ord;
 
-/// Dates are in the order of their seconds, by `cmp`.
+/// Dates are in the order of their seconds, by `cmp`, and so are the times of either type.
 pub fn order_is_that_of_seconds()
-    ensures { (c d : Civil) → is_civil c ≡ true → is_civil d ≡ true → ⟦<DateTime as Ord>⟧.cmp c d
-        ≡ nat_cmp (unix_seconds c) (unix_seconds d) }
+    ensures dates { (c d : Civil) → is_civil c ≡ true → is_civil d ≡ true
+        → ⟦<DateTime as Ord>⟧.cmp c d ≡ nat_cmp (unix_seconds c) (unix_seconds d) }
+    ensures utc_times { (c d : Civil) → is_civil c ≡ true → is_civil d ≡ true
+        → ⟦<UtcTime as Ord>⟧.cmp c d ≡ nat_cmp (unix_seconds c) (unix_seconds d) }
+    ensures generalized_times { (c d : Civil) → is_civil c ≡ true → is_civil d ≡ true
+        → ⟦<GeneralizedTime as Ord>⟧.cmp c d ≡ nat_cmp (unix_seconds c) (unix_seconds d) }
 {}
 
 /// Of one number of seconds there is one date.

@@ -1,6 +1,7 @@
 //! UTCTime.
 
 ghost use Rattle.std.specs.Prelude.{◌≡◌, ◌*◌, ◌/◌, ◌<◌, ◌≤◌, ◌↔◌, Ok, IsOk, IfOk, IfErr, OnErr};
+ghost use Rattle.std.specs.Prelude.{false};
 ghost use Rattle.std.specs.Duration.{as_nanos};
 ghost use Rattle.der_core_head.specs.Dates.{IsUtc, utc_octets};
 ghost use Rattle.der_core_head.specs.declared.tag.Tag.TheVariants.{UtcTime as UtcTimeTag};
@@ -147,6 +148,8 @@ impl<'a> Leaf<'a> for UtcTime {
     ghost kind = { utc_time };
 
     ghost leaf_plain = { λ x. x };
+
+    ghost takes_memory = { false };
 
     fn from_content(_alloc: Global, tag: Tag, octets: &'a [u8]) -> Result<UtcTime, Error> {
         let time = UtcTime::of_content(tag, octets)?;

@@ -12,14 +12,10 @@ use Rattle.std.proofs.Math.Seq.{drop-cons}
 use Rattle.std.proofs.lemmas.List.{take_more_set, take_all, append_assoc}
 use Rattle.der_core_head.specs.declared.error.ErrorKind.TheVariants as kinds
 use Rattle.der_core_head.specs.declared.tag.Tag.{Tag}
-use Rattle.der_core_head.specs.NamedBits.{set_octets, set_of, unused_bits, named_octets, ends_in_one, named_read}
+use Rattle.der_core_head.specs.NamedBits.{set_octets, spelled_set, unused_bits, named_octets, ends_in_one, named_read}
 use Rattle.der_core_head.proofs.Bytes.{IsBytes}
-use Rattle.der_core_head.proofs.NamedLaws.{set_octets-step, named_sound}
+use Rattle.der_core_head.proofs.NamedLaws.{set_octets-zero, set_octets-step, named_sound}
 use Rattle.der_types_values.proofs.LastOctet.{last_octet-get_or}
-
-set_octets-zero : set_octets 0 ≡ []
-unfolding set_octets
-set_octets-zero = refl
 
 none_of : (n : ℕ) → n ≡ 0 → length (set_octets n) ≡ 0
 none_of n e = ap (λ m. length (set_octets m)) e ∙ ap (λ (w : List ℕ). length w) set_octets-zero
@@ -42,13 +38,13 @@ ends_some u [] h = absurd (omega arith)
 ends_some u (b ∷ w) h = ap (λ o. not (o == 0) && (u == trailing_zeros w8 o)) (last_octet-get_or (b ∷ w))
 
 -- the octet before those that were read
-pub set_of-before : (w : List ℕ) (i : ℕ) → i < length w → set_of (drop i w) ≡ set_of (drop (i + 1) w) * 256 + reverse_bits w8 (get_or w i 0)
-unfolding set_of
-set_of-before w i h =
+pub spelled_set-before : (w : List ℕ) (i : ℕ) → i < length w → spelled_set (drop i w) ≡ spelled_set (drop (i + 1) w) * 256 + reverse_bits w8 (get_or w i 0)
+unfolding spelled_set
+spelled_set-before w i h =
     let next : suc i ≡ i + 1 = omega arith in
-    ap set_of (drop-cons w i 0 h ∙ ap (λ j. get_or w i 0 ∷ drop j w) next)
+    ap spelled_set (drop-cons w i 0 h ∙ ap (λ j. get_or w i 0 ∷ drop j w) next)
 
-step : (names : ℕ) (t : Tag) (u : ℕ) (w : List ℕ) → ends_in_one u w ≡ true → nat_lt (set_of w) (2 ^ names) ≡ true → named_read names t (u ∷ w) ≡ Ok (set_of w)
+step : (names : ℕ) (t : Tag) (u : ℕ) (w : List ℕ) → ends_in_one u w ≡ true → nat_lt (spelled_set w) (2 ^ names) ≡ true → named_read names t (u ∷ w) ≡ Ok (spelled_set w)
 unfolding named_read
 step names t u w ends small = rw (ends, small) refl
 
@@ -59,15 +55,15 @@ contents u w n e = cc
 -- more octets than the names have
 pub named_long : (names : ℕ) (t : Tag) (u : ℕ) (w : List ℕ) → names ≤ 64 → IsBytes (u ∷ w) → 8 < length w → ends_in_one u w ≡ true → named_read names t (u ∷ w) ≡ Err (kinds.Value t)
 unfolding named_read
-named_long names t u w few bytes long ends = by (nat_lt (set_of w) (2 ^ names)) refl
+named_long names t u w few bytes long ends = by (nat_lt (spelled_set w) (2 ^ names)) refl
   where
-    by : (b : Bool) → nat_lt (set_of w) (2 ^ names) ≡ b → named_read names t (u ∷ w) ≡ Err (kinds.Value t)
+    by : (b : Bool) → nat_lt (spelled_set w) (2 ^ names) ≡ b → named_read names t (u ∷ w) ≡ Err (kinds.Value t)
     by false e = rw (ends, e) refl
     by true e =
-        let same = contents u w (set_of w) (named_sound names t (u ∷ w) (set_of w) bytes (step names t u w ends e)).1 in
-        let small = ltb-true (set_of w) (2 ^ names) e in
+        let same = contents u w (spelled_set w) (named_sound names t (u ∷ w) (spelled_set w) bytes (step names t u w ends e)).1 in
+        let small = ltb-true (spelled_set w) (2 ^ names) e in
         let most : 2 ^ names ≤ 2 ^ 64 = pow_mono {i = names} {j = 64} few in
-        let short = set_octets-short 8 (set_of w) (omega arith) in
+        let short = set_octets-short 8 (spelled_set w) (omega arith) in
         absurd (omega (arith, ap (λ (x : List ℕ). length x) same))
 
 -- the same of a content
@@ -78,10 +74,10 @@ content_long names t (u ∷ w) some few bytes long ends =
     let same : take (length (u ∷ w) - 1) w ≡ w = take_all (length (u ∷ w) - 1) w (omega arith) in
     named_long names t u w few bytes (rw same at long) (rw same at ends)
 
-pub set_of-none : (w : List ℕ) → w ≡ [] → 0 ≡ set_of w
-unfolding set_of
-set_of-none [] e = refl
-set_of-none (b ∷ w) e = absurd cc
+pub spelled_set-none : (w : List ℕ) → w ≡ [] → 0 ≡ spelled_set w
+unfolding spelled_set
+spelled_set-none [] e = refl
+spelled_set-none (b ∷ w) e = absurd cc
 
 pub room_more : (n count : ℕ) → n < 256 ^ count → count < 8 → n * 256 + 255 < 2 ^ 64
 room_more n count h few =

@@ -3,4 +3,3 @@ pub mod Sequences
 pub mod Bits
 pub mod BitStrings
 pub mod BitOrders
-pub mod Answers

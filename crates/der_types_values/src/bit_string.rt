@@ -60,7 +60,8 @@ impl BitString {
     /// `Value` for more than seven unused bits, for unused bits of no octet, and where an unused
     /// bit isn't zero; then `Overflow` for 2^32 octets or more.
     pub fn new(unused_bits: u8, bytes: Vec<u8>) -> Result<BitString, Error>
-        ensures bits { IsOk result ↔ ((are_bits unused_bits bytes.items ≡ true) × (vec_len bytes < 2 ^ 32)) }
+        ensures bits { IsOk result
+            ↔ ((are_bits unused_bits bytes.items ≡ true) × (vec_len bytes < 2 ^ 32)) }
         ensures ok { IfOk result (λ b. b ≡ record { unused = unused_bits; octets = bytes.items }) }
         ensures value { are_bits unused_bits bytes.items ≡ false
             → IfErr result (λ e. e.kind ≡ ErrorKind.Value Tag.BitString) }
@@ -77,7 +78,8 @@ impl BitString {
     /// `Overflow` for 2^32 octets or more.
     #[tactic(auto, using(crate::proofs::AllBits::all_bits))]
     pub fn from_bytes(bytes: Vec<u8>) -> Result<BitString, Error>
-        ensures ok { IfOk result (λ b. (vec_len bytes < 2 ^ 32) × (b ≡ record { unused = 0; octets = bytes.items })) }
+        ensures ok { IfOk result (λ b. (vec_len bytes < 2 ^ 32)
+            × (b ≡ record { unused = 0; octets = bytes.items })) }
         ensures err { IfErr result (λ e. (2 ^ 32 ≤ vec_len bytes) × (e.kind ≡ ErrorKind.Overflow)) }
     {
         if bytes.len() > 0xffff_ffff {
@@ -172,7 +174,7 @@ impl BitString {
         self.owned_to_ref().get(index)
     }
 
-    /// The same bits, lent.
+    /// The bits, lent.
     pub fn owned_to_ref(&self) -> BitStringRef<'_>
         ensures { bits_lent result ≡ self.now }
     {

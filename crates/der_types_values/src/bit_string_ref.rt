@@ -43,7 +43,8 @@ impl<'a> BitStringRef<'a> {
     /// bit isn't zero; then `Overflow` for 2^32 octets or more.
     pub fn new(unused_bits: u8, bytes: &'a [u8]) -> Result<BitStringRef<'a>, Error>
         ensures bits { IsOk result ↔ ((are_bits unused_bits bytes.now ≡ true) × (Fits bytes.now)) }
-        ensures ok { IfOk result (λ b. bits_lent b ≡ record { unused = unused_bits; octets = bytes.now }) }
+        ensures ok { IfOk result
+            (λ b. bits_lent b ≡ record { unused = unused_bits; octets = bytes.now }) }
         ensures value { are_bits unused_bits bytes.now ≡ false
             → IfErr result (λ e. e.kind ≡ ErrorKind.Value Tag.BitString) }
         ensures long { are_bits unused_bits bytes.now ≡ true
@@ -59,8 +60,10 @@ impl<'a> BitStringRef<'a> {
     /// `Overflow` for 2^32 octets or more.
     #[tactic(auto, using(crate::proofs::AllBits::all_bits))]
     pub fn from_bytes(bytes: &'a [u8]) -> Result<BitStringRef<'a>, Error>
-        ensures ok { IfOk result (λ b. Fits bytes.now × (bits_lent b ≡ record { unused = 0; octets = bytes.now })) }
-        ensures err { IfErr result (λ e. (2 ^ 32 ≤ length bytes.now) × (e.kind ≡ ErrorKind.Overflow)) }
+        ensures ok { IfOk result
+            (λ b. Fits bytes.now × (bits_lent b ≡ record { unused = 0; octets = bytes.now })) }
+        ensures err { IfErr result (λ e. (2 ^ 32 ≤ length bytes.now)
+            × (e.kind ≡ ErrorKind.Overflow)) }
     {
         if bytes.len() > 0xffff_ffff {
             return Err(Error::from(ErrorKind::Overflow));
@@ -151,7 +154,7 @@ impl<'a> BitStringRef<'a> {
         }
     }
 
-    /// The same bits, owned.
+    /// A copy of the bits that owns its octets.
     ///
     /// # Errors
     /// Want of memory.
@@ -198,7 +201,9 @@ impl<'a> TryFrom<&'a [u8]> for BitStringRef<'a> {
 
     type Error = Error;
 
-    ghost try_from_gives = { λ bytes r. MatchResult r (λ b. bits_lent b ≡ record { unused = 0; octets = bytes.now }) (λ e. (2 ^ 32 ≤ length bytes.now) × (e.kind ≡ kinds.Overflow)) };
+    ghost try_from_gives = { λ bytes r. MatchResult r
+        (λ b. bits_lent b ≡ record { unused = 0; octets = bytes.now })
+        (λ e. (2 ^ 32 ≤ length bytes.now) × (e.kind ≡ kinds.Overflow)) };
 
     fn try_from(bytes: &'a [u8]) -> Result<BitStringRef<'a>, Error> {
         BitStringRef::from_bytes(bytes)
@@ -222,6 +227,8 @@ impl<'a> Leaf<'a> for BitStringRef<'a> {
     ghost kind = { bits };
 
     ghost leaf_plain = { bits_lent };
+
+    ghost takes_memory = { false };
 
     fn from_content(_alloc: Global, tag: Tag, octets: &'a [u8]) -> Result<BitStringRef<'a>, Error> {
         let value = BitStringRef::of_content(tag, octets)?;

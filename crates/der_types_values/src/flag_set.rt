@@ -1,14 +1,14 @@
 //! Named bits.
 
 ghost use Rattle.std.specs.Prelude.{⊤, nat_eq, ◌≡◌, ◌==◌, ◌<◌, ◌≤◌, ◌-◌, ◌^◌, ℕ, length, take};
-ghost use Rattle.std.specs.Prelude.{nat_lt, IfOk};
+ghost use Rattle.std.specs.Prelude.{nat_lt, IfOk, false};
 ghost use Rattle.std.specs.Cmp.{on_per, on_equiv, nat_eq_equiv, partial_equiv_from_equiv};
 ghost use Rattle.std.specs.Int.RustNames.{bit_and, bit_or};
 ghost use Rattle.bitflags.specs.Sets.{known_bits};
 ghost use Rattle.der_core_head.specs.declared.tag.Tag.TheVariants.{BitString};
 ghost use Rattle.der_core_head.specs.Shapes.{leaf};
 ghost use Rattle.der_core_head.specs.Leaves.{named};
-ghost use Rattle.der_core_head.specs.NamedBits.{ends_in_one, set_of as set_of_octets, named_octets};
+ghost use Rattle.der_core_head.specs.NamedBits.{ends_in_one, spelled_set, named_octets};
 ghost use Rattle.der_core_head.specs.NamedBits.{named_read};
 ghost use Rattle.der_core_head.specs.Reading.{GivesNow};
 
@@ -64,11 +64,12 @@ impl<F: NamedBits> Clone for FlagSet<F> {
 
 impl<F: NamedBits> Copy for FlagSet<F> {}
 
-/// The same names.
+/// Sets of the same names are equal.
 impl<F: NamedBits> PartialEq for FlagSet<F> {
     ghost eq = { λ x y. nat_eq (F.set_of x.flags) (F.set_of y.flags) };
 
-    ghost laws = { on_per (λ x. F.set_of x.flags) {E = nat_eq} (partial_equiv_from_equiv nat_eq_equiv) };
+    ghost laws = { on_per (λ x. F.set_of x.flags) {E = nat_eq}
+        (partial_equiv_from_equiv nat_eq_equiv) };
 
     fn eq(&self, other: &FlagSet<F>) -> bool {
         self.flags.to_number() == other.flags.to_number()
@@ -101,7 +102,7 @@ fn ends_in_one(unused: u8, octets: &[u8]) -> bool
 /// The set of which octets tell, the first name in the highest bit of the first octet.
 fn number_of(octets: &[u8]) -> u64
     requires { length octets.now ≤ 8 }
-    ensures { result ≡ set_of_octets octets.now }
+    ensures { result ≡ spelled_set octets.now }
 {
     let mut number = 0u64;
     for count in 0..octets.len() {
@@ -209,6 +210,8 @@ impl<'a, F: NamedBits> Leaf<'a> for FlagSet<F> {
     ghost kind = { named F.names };
 
     ghost leaf_plain = { λ s. F.set_of s.flags };
+
+    ghost takes_memory = { false };
 
     fn from_content(_alloc: Global, tag: Tag, octets: &'a [u8]) -> Result<FlagSet<F>, Error> {
         let number = read_named(tag, octets, F::names())?;

@@ -1,31 +1,22 @@
 //! Laws of octet strings and of bit strings: a borrowed value and its owned form agree.
+//!
+//! What the calls that both have answer is said at each in the same words.
 
 ghost use Rattle.std.specs.Prelude.{◌≡◌};
 ghost use Rattle.der_core_head.specs.Shapes.{contents};
-ghost use Rattle.der_types_values.specs.Answers.{Answers};
 ghost use Rattle.der_types_values.specs.OctetStrings.{octets_lent};
 
-pub use crate::bit_laws::{BitAnswers, bit_forms_agree, bits_answer_alike};
+pub use crate::bit_laws::bit_forms_agree;
 use crate::octet_string::OctetString;
 use crate::octet_string_ref::OctetStringRef;
-use der_core::{Length, ShapedValue};
+use der_core::ShapedValue;
 use std::hash::Hash;
-
-/// What an octet string answers.
-#[derive(Clone, Copy, Debug)]
-pub struct OctetAnswers<'a> {
-    /// The octets that it lends.
-    pub octets: &'a [u8],
-    /// How many they are.
-    pub len: Length,
-    /// Whether there are none.
-    pub is_empty: bool,
-}
 
 /// A borrowed octet string and its owned form have the same content, are equal to the same octet
 /// strings, stand in the same order and are hashed alike. Nothing is done.
 pub fn octet_forms_agree()
-    ensures contents { (o : OctetStringRef) → contents ⟦<OctetStringRef<'static> as ShapedValue>⟧.content
+    ensures contents { (o : OctetStringRef)
+        → contents ⟦<OctetStringRef<'static> as ShapedValue>⟧.content
         (⟦<OctetStringRef<'static> as ShapedValue>⟧.value_plain o)
         ≡ contents ⟦<OctetString as ShapedValue>⟧.content
         (⟦<OctetString as ShapedValue>⟧.value_plain (octets_lent o)) }
@@ -36,26 +27,3 @@ pub fn octet_forms_agree()
     ensures hash { (o : OctetStringRef) → ⟦<OctetStringRef<'static> as Hash>⟧.hash_input o
         ≡ ⟦<OctetString as Hash>⟧.hash_input (octets_lent o) }
 {}
-
-/// A borrowed octet string and an owned one of the same octets answer alike: what the first
-/// answers, and what the second.
-pub fn octets_answer_alike<'a>(
-    lent: &OctetStringRef<'a>,
-    owned: &'a OctetString,
-) -> (OctetAnswers<'a>, OctetAnswers<'a>)
-    requires { octets_lent lent.now ≡ owned.now }
-    ensures lent { Answers owned.now result.0 }
-    ensures owned { Answers owned.now result.1 }
-{
-    let of_lent = OctetAnswers {
-        octets: lent.as_bytes(),
-        len: lent.len(),
-        is_empty: lent.is_empty(),
-    };
-    let of_owned = OctetAnswers {
-        octets: owned.as_bytes(),
-        len: owned.len(),
-        is_empty: owned.is_empty(),
-    };
-    (of_lent, of_owned)
-}

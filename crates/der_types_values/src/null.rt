@@ -1,6 +1,6 @@
 //! NULL.
 
-ghost use Rattle.std.specs.Prelude.{◌≡◌};
+ghost use Rattle.std.specs.Prelude.{◌≡◌, false};
 ghost use Rattle.der_core_head.specs.declared.tag.Tag.TheVariants.{Null as NullTag};
 ghost use Rattle.der_core_head.specs.Leaves.{null};
 ghost use Rattle.der_core_head.specs.Shapes.{leaf};
@@ -29,6 +29,8 @@ impl<'a> Leaf<'a> for Null {
     ghost kind = { null };
 
     ghost leaf_plain = { λ _. tt };
+
+    ghost takes_memory = { false };
 
     fn from_content(alloc: Global, tag: Tag, octets: &'a [u8]) -> Result<Null, Error> {
         <()>::from_content(alloc, tag, octets)?;

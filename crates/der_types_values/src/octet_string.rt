@@ -22,6 +22,7 @@ use der_core::{
 };
 use std::alloc::{AllocError, Global};
 use std::cmp::Ordering;
+use std::convert::AsSlice;
 use std::hash::{Hash, Hasher};
 use std::marker::Model;
 
@@ -113,11 +114,20 @@ impl OctetString {
         self.bytes.is_empty()
     }
 
-    /// The same octets, lent.
+    /// The octets, lent.
     pub fn owned_to_ref(&self) -> OctetStringRef<'_>
         ensures { octets_lent result ≡ self.now }
     {
         OctetStringRef::of_content(self.bytes.as_slice())
+    }
+}
+
+/// The octets.
+impl AsSlice<u8> for OctetString {
+    ghost items = { λ o. o };
+
+    fn as_slice(&self) -> &[u8] {
+        self.as_bytes()
     }
 }
 

@@ -1,6 +1,7 @@
 //! OCTET STRING, borrowed.
 
 ghost use Rattle.std.specs.Prelude.{◌≡◌, ◌<◌, ◌≤◌, ◌^◌, ◌↔◌, [], length, true, Ok, IsTrue, IfOk};
+ghost use Rattle.std.specs.Prelude.{false};
 ghost use Rattle.std.specs.Prelude.{IfErr, MatchResult};
 ghost use Rattle.der_core_head.specs.Limits.{levels_max};
 ghost use Rattle.der_core_head.specs.Heads.{Fits};
@@ -8,7 +9,7 @@ ghost use Rattle.der_core_head.specs.declared.tag.Tag.TheVariants.{OctetString a
 ghost use Rattle.der_core_head.specs.Leaves.{octets};
 ghost use Rattle.der_core_head.specs.Shapes.{leaf, Value, Spells};
 ghost use Rattle.der_core_head.specs.Spelling.{is_apart, are_enough};
-ghost use Rattle.der_core_head.specs.Grammar.{whole_at};
+ghost use Rattle.der_core_head.specs.Grammar.{read_whole};
 ghost use Rattle.der_core_head.specs.Reading.{Gives};
 
 use crate::octet_string::OctetString;
@@ -18,6 +19,7 @@ use der_core::{
     ShapedValue, SliceReader, Tag, Writer, from_der,
 };
 use std::alloc::{AllocError, Global};
+use std::convert::AsSlice;
 
 /// OCTET STRING (X.690 8.7): any octets, fewer than 2^32, lent.
 #[derive(Clone, Copy, Debug, PartialEq, Eq, PartialOrd, Ord, Hash)]
@@ -35,7 +37,8 @@ impl<'a> OctetStringRef<'a> {
     /// `Overflow` for 2^32 octets or more.
     pub fn new(bytes: &'a [u8]) -> Result<OctetStringRef<'a>, Error>
         ensures ok { IfOk result (λ o. Fits bytes.now × (octets_lent o ≡ bytes.now)) }
-        ensures err { IfErr result (λ e. (2 ^ 32 ≤ length bytes.now) × (e.kind ≡ ErrorKind.Overflow)) }
+        ensures err { IfErr result (λ e. (2 ^ 32 ≤ length bytes.now)
+            × (e.kind ≡ ErrorKind.Overflow)) }
     {
         if bytes.len() > 0xffff_ffff {
             return Err(Error::from(ErrorKind::Overflow));
@@ -89,12 +92,13 @@ impl<'a> OctetStringRef<'a> {
             ≡ true
             → Spells T.shape v (octets_lent self.now) → Gives T.plain result (Ok v) }
         // Which fault it is.
-        ensures exact { Gives (λ v. (T.plain v, [])) result (whole_at T.shape (octets_lent self.now)) }
+        ensures exact { Gives (λ v. (T.plain v, [])) result
+            (read_whole T.shape (octets_lent self.now)) }
     {
         from_der(alloc, self.bytes)
     }
 
-    /// The same octets, owned.
+    /// A copy of the octets that owns its octets.
     ///
     /// # Errors
     /// Want of memory.
@@ -102,6 +106,17 @@ impl<'a> OctetStringRef<'a> {
         ensures { IfOk result (λ o. o ≡ octets_lent self.now) }
     {
         OctetString::copy_of(alloc, self)
+    }
+}
+
+/// The octets.
+impl<'a> AsSlice<u8> for OctetStringRef<'a> {
+    ghost use Rattle.der_types_values.specs.OctetStrings.{octets_lent};
+
+    ghost items = { octets_lent };
+
+    fn as_slice(&self) -> &[u8] {
+        self.bytes
     }
 }
 
@@ -136,6 +151,8 @@ impl<'a> Leaf<'a> for OctetStringRef<'a> {
     ghost kind = { octets };
 
     ghost leaf_plain = { λ o. o.bytes.now };
+
+    ghost takes_memory = { false };
 
     fn from_content(
         _alloc: Global,

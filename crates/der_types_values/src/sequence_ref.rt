@@ -1,6 +1,6 @@
 //! SEQUENCE, as it stands, borrowed.
 
-ghost use Rattle.std.specs.Prelude.{◌≡◌, ◌<◌, ◌≤◌, ◌^◌, length, IfOk, IfErr};
+ghost use Rattle.std.specs.Prelude.{◌≡◌, ◌<◌, ◌≤◌, ◌^◌, length, IfOk, IfErr, false};
 ghost use Rattle.der_core_head.specs.Heads.{Fits};
 ghost use Rattle.der_core_head.specs.declared.tag.Tag.TheVariants.{Sequence as SequenceTag};
 ghost use Rattle.der_core_head.specs.Leaves.{octets};
@@ -12,6 +12,7 @@ use der_core::{
     ShapedValue, Tag, Writer,
 };
 use std::alloc::Global;
+use std::convert::AsSlice;
 
 /// A type of SEQUENCEs (X.690 8.9, 8.10).
 pub trait Sequence: FixedTag {
@@ -35,7 +36,8 @@ impl<'a> SequenceRef<'a> {
     /// `Overflow` for 2^32 octets or more.
     pub fn new(bytes: &'a [u8]) -> Result<SequenceRef<'a>, Error>
         ensures ok { IfOk result (λ s. Fits bytes.now × (fields_lent s ≡ bytes.now)) }
-        ensures err { IfErr result (λ e. (2 ^ 32 ≤ length bytes.now) × (e.kind ≡ ErrorKind.Overflow)) }
+        ensures err { IfErr result (λ e. (2 ^ 32 ≤ length bytes.now)
+            × (e.kind ≡ ErrorKind.Overflow)) }
     {
         if bytes.len() > 0xffff_ffff {
             return Err(Error::from(ErrorKind::Overflow));
@@ -56,6 +58,17 @@ impl<'a> SequenceRef<'a> {
         ensures octets { result.now ≡ fields_lent self.now }
         ensures short { Fits result.now }
     {
+        self.bytes
+    }
+}
+
+/// The content octets.
+impl<'a> AsSlice<u8> for SequenceRef<'a> {
+    ghost use Rattle.der_types_values.specs.Sequences.{fields_lent};
+
+    ghost items = { fields_lent };
+
+    fn as_slice(&self) -> &[u8] {
         self.bytes
     }
 }
@@ -83,6 +96,8 @@ impl<'a> Leaf<'a> for SequenceRef<'a> {
     ghost kind = { octets };
 
     ghost leaf_plain = { fields_lent };
+
+    ghost takes_memory = { false };
 
     fn from_content(_alloc: Global, _tag: Tag, octets: &'a [u8]) -> Result<SequenceRef<'a>, Error> {
         Ok(SequenceRef { bytes: octets })

@@ -1,9 +1,9 @@
 use Rattle.std.proofs.Common.{◌≡◌, ◌-◌, ◌<◌, ◌^◌, length, drop}
-use Rattle.der_core_head.specs.NamedBits.{set_of}
+use Rattle.der_core_head.specs.NamedBits.{spelled_set}
 use Rattle.der_types_values.proofs.flag_set.number_of.Given as goal
 
 abbrev pub invariant-loop-count : goal.invariant-loop-count
 invariant-loop-count l = record {
-  value : l.number ≡ set_of (drop (length l.octets - l.count) l.octets);
+  value : l.number ≡ spelled_set (drop (length l.octets - l.count) l.octets);
   small : l.number < 256 ^ l.count;
 }

@@ -6,7 +6,7 @@ use Rattle.der_core_head.specs.declared.error.ErrorKind.TheVariants as kinds
 use Rattle.der_core_head.specs.Grammar.{read_many}
 use Rattle.der_core_head.specs.Reading.{State, read_at}
 use Rattle.der_core_octets.proofs.Nested.{broken_kept}
-use Rattle.der_core_octets.proofs.Steps.{frame_then, kept_then, rest_then}
+use Rattle.der_core_octets.proofs.GoingOn.{frame_then, kept_then, rest_then}
 use Rattle.der_core_values.proofs.Lists.{goes_on, stops, is_done, is_over}
 use Rattle.der_types_sets.proofs.sequence_of.SequenceOfDecodeFields.decode_fields.Goals as goal
 use Rattle.der_types_sets.proofs.sequence_of.SequenceOfDecodeFields.decode_fields.Goals.{else-loop-test, then-loop-test+then-is_finished}

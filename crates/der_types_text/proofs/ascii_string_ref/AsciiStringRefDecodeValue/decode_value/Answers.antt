@@ -16,7 +16,7 @@ pub returns-in-Err : goal.returns-in-Err
 returns-in-Err g c =
     let takes = c.in_ok-octets.ensures.takes in
     leaf_refuses (text g.T.AsciiType.repertoire) c.args.header.tag (λ (t : List ℕ). t) (g.R.Reader.state c.args.reader.now) (g.R.Reader.state c.read_content.new.reader) c.in_ok-octets.octets.now c.args.header.length.value
-    takes.0 takes.1 takes.2 takes.3 (g.R.Reader.state c.fail.new.self) c.in-Err.error c.fail.ensures c.in-Err.ensures
+    takes.0 takes.1 takes.2 takes.3 (g.R.Reader.state c.fail.new.self) c.in-Err.error c.fail.ensures (λ _. c.in-Err.ensures)
 
 pub returns-in_err-octets : goal.returns-in_err-octets
 returns-in_err-octets g c =
