@@ -6,7 +6,7 @@ use Rattle.der_core_head.specs.declared.error.ErrorKind.{ErrorKind}
 use Rattle.der_core_head.specs.Octets.{IsOctets}
 use Rattle.der_core_head.specs.Heads.{Fits}
 use Rattle.der_core_head.specs.Shapes.{IsValid, Spells, octets_of}
-use Rattle.der_core_head.specs.Grammar.{read, whole_at}
+use Rattle.der_core_head.specs.Grammar.{read, read_whole}
 use Rattle.der_core_head.specs.Bounds.{IsValidUnder, identifiers_of, AreBelow, HoldsLarge}
 use Rattle.x509_cert_certificates.specs.Bounds.{certificate_identifiers, SpellsEach, OneHoldsLarge}
 use Rattle.x509_cert_certificates.specs.Certificates.{PlainCertificate, certificate}
@@ -54,11 +54,11 @@ unfolding certificate_identifiers identifiers_of
 certificates_new small large limit c w h n = new_spelled (certificate 0 limit) (λ b. certificate b limit) (certificates limit) small large c w h n
 
 pub whole_certificates_wider : (small large : ℕ) (limit : Option ℕ) (c : PlainCertificate) (w : List ℕ) → small ≤ large → IsOctets w
-    → whole_at (certificate small limit) w ≡ Ok (c, []) → whole_at (certificate large limit) w ≡ Ok (c, [])
+    → read_whole (certificate small limit) w ≡ Ok (c, []) → read_whole (certificate large limit) w ≡ Ok (c, [])
 whole_certificates_wider small large limit c w le o e = whole_wider (certificate 0 limit) (λ b. certificate b limit) (certificates limit) small large c w le o e
 
 pub whole_certificates_new : (small large : ℕ) (limit : Option ℕ) (c : PlainCertificate) (w : List ℕ) (e : ErrorKind) → IsOctets w
-    → whole_at (certificate large limit) w ≡ Ok (c, []) → whole_at (certificate small limit) w ≡ Err e → HoldsLarge small (certificate_identifiers c)
+    → read_whole (certificate large limit) w ≡ Ok (c, []) → read_whole (certificate small limit) w ≡ Err e → HoldsLarge small (certificate_identifiers c)
 unfolding certificate_identifiers identifiers_of
 whole_certificates_new small large limit c w e o read refused = whole_new (certificate 0 limit) (λ b. certificate b limit) (certificates limit) small large c w e o read refused
 

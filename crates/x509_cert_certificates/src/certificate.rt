@@ -1,23 +1,25 @@
 //! Certificates.
 
-ghost use Rattle.std.specs.Prelude.{◌≡◌, ◌≢◌, [], refl, IfOk, IfErr};
+ghost use Rattle.std.specs.Prelude.{◌≡◌, ◌≢◌, [], false, None, refl, IfOk, IfErr};
 ghost use Rattle.const_oid.specs.Bound.{Bound};
 ghost use Rattle.der_core_head.specs.declared.error.ErrorKind.TheVariants.{OutOfMemory};
 ghost use Rattle.der_core_head.specs.declared.tag.Tag.TheVariants.{Sequence};
-ghost use Rattle.der_core_head.specs.Grammar.{whole_at};
-ghost use Rattle.der_core_head.specs.Reading.{Gives};
-ghost use Rattle.der_core_head.specs.Shapes.{nested, Spells};
+ghost use Rattle.der_core_head.specs.Grammar.{read_whole};
+ghost use Rattle.der_core_head.specs.Reading.{Fails, Gives};
+ghost use Rattle.der_core_head.specs.Shapes.{nested, octets_of, IsValid, Spells};
+ghost use Rattle.der_core_head.specs.Writing.{write};
 ghost use Rattle.x509_cert_parts.specs.Views.{algorithm_plain};
 ghost use Rattle.x509_cert_certificates.specs.Certificates.{PlainCertificate, certificate};
 ghost use Rattle.x509_cert_certificates.specs.Certificates.{certificate_fields, certificate_by};
 ghost use Rattle.x509_cert_certificates.specs.Certificates.{tbs, outer_algorithm, signature_bits};
 ghost use Rattle.x509_cert_certificates.specs.Views.{certificate_plain, tbs_plain};
 
+use crate::cert_digest::CertDigest;
 use crate::tbs_certificate::TbsCertificateInner;
 use der_core::making::read_fields;
 use der_core::{
     ApartValue, DecodeFields, DecodeValue, EncodeFields, EncodeRef, EncodeValue, Error, Fields,
-    FixedTag, Header, Length, Reader, ShapedValue, Tag, Writer, from_der,
+    FixedTag, Header, Length, Reader, ShapedValue, Tag, Writer, from_der, to_der,
 };
 use std::alloc::Global;
 use x509_cert_parts::{AlgorithmIdentifier, BitString, Profile, Rfc5280};
@@ -48,6 +50,30 @@ type Row<P> = (
     TbsCertificateInner<P>,
     (AlgorithmIdentifier, (BitString, ())),
 );
+
+type RowRef<'a, P> = (
+    EncodeRef<'a, TbsCertificateInner<P>>,
+    (
+        EncodeRef<'a, AlgorithmIdentifier>,
+        (EncodeRef<'a, BitString>, ()),
+    ),
+);
+
+impl<P: Profile> CertificateInner<P> {
+    /// The fields in their order, lent.
+    fn row<'a>(&'a self) -> RowRef<'a, P>
+        ensures { ⟦<RowRef<'a, P> as Fields>⟧.fields_written result
+            ≡ certificate_by P.respells (certificate_plain self.now) }
+    {
+        (
+            EncodeRef(&self.tbs_certificate),
+            (
+                EncodeRef(&self.signature_algorithm),
+                (EncodeRef(&self.signature), ()),
+            ),
+        )
+    }
+}
 
 impl<P> FixedTag for CertificateInner<P> {
     ghost fixed_tag = { Sequence };
@@ -98,25 +124,11 @@ impl<'a, R: Reader<'a>, P: Profile> DecodeValue<'a, R> for CertificateInner<P> {
 
 impl<P: Profile> EncodeValue for CertificateInner<P> {
     fn value_len(&self) -> Result<Length, Error> {
-        let row = (
-            EncodeRef(&self.tbs_certificate),
-            (
-                EncodeRef(&self.signature_algorithm),
-                (EncodeRef(&self.signature), ()),
-            ),
-        );
-        row.fields_len()
+        self.row().fields_len()
     }
 
     fn encode_value<W: Writer>(&self, writer: &mut W) -> Result<(), Error> {
-        let row = (
-            EncodeRef(&self.tbs_certificate),
-            (
-                EncodeRef(&self.signature_algorithm),
-                (EncodeRef(&self.signature), ()),
-            ),
-        );
-        row.encode_fields(writer)
+        self.row().encode_fields(writer)
     }
 }
 
@@ -139,9 +151,31 @@ impl<P: Profile> CertificateInner<P> {
             → Spells (certificate Bound P.serial_limit) c bytes.now → ⊥) }
         // Which fault it is.
         ensures exact { Gives (λ c. (certificate_plain c, [])) result
-            (whole_at (certificate Bound P.serial_limit) bytes.now) }
+            (read_whole (certificate Bound P.serial_limit) bytes.now) }
     {
         from_der(alloc, bytes)
+    }
+
+    /// The digest of the certificate's encoding, as its profile has it written.
+    ///
+    /// # Errors
+    /// Those of `to_der`. A certificate that was read is refused for want of memory alone.
+    pub fn hash<D: CertDigest>(&self, alloc: Global) -> Result<Vec<u8>, Error>
+        ensures ok { IfOk result (λ d. d.items ≡ D.digest_of (octets_of
+            (certificate Bound P.serial_limit)
+            (certificate_by P.respells (certificate_plain self.now)))) }
+        // A certificate that has an encoding is refused for want of memory alone.
+        ensures valid { IsValid (certificate Bound P.serial_limit)
+            (certificate_by P.respells (certificate_plain self.now))
+            → IfErr result (λ e. e.kind ≡ OutOfMemory) }
+        // Any other is refused for the fault with which its writing ends, too.
+        ensures fault { IfErr result (λ e. Fails e.kind (write (certificate Bound P.serial_limit)
+            (certificate_by P.respells (certificate_plain self.now))
+            (record { written = []; room = None; failed = false }))) }
+    {
+        let octets = to_der(alloc, self)?;
+        let digest = D::digest(alloc, octets.as_slice())?;
+        Ok(digest)
     }
 }
 

@@ -9,7 +9,7 @@ ghost use Rattle.std.specs.Prelude.{true, false, Ok, Err, take, drop};
 ghost use Rattle.der_core_head.specs.declared.error.ErrorKind.{ErrorKind};
 ghost use Rattle.der_core_head.specs.Octets.{IsOctets};
 ghost use Rattle.der_core_head.specs.Heads.{Fits};
-ghost use Rattle.der_core_head.specs.Grammar.{read, whole_at};
+ghost use Rattle.der_core_head.specs.Grammar.{read, read_whole};
 ghost use Rattle.der_core_head.specs.Bounds.{AreBelow, HoldsLarge};
 ghost use Rattle.der_core_head.specs.Shapes.{IsValid, Spells, octets_of};
 ghost use Rattle.der_core_head.specs.Spelling.{is_apart, are_enough};
@@ -79,8 +79,8 @@ pub fn wider_bounds_keep_certificates()
 pub fn wider_bounds_read_certificates_alike()
     ensures whole { (small large : ℕ) (limit : Option ℕ) (c : PlainCertificate) (w : List ℕ)
         → small ≤ large → IsOctets w
-        → whole_at (certificate small limit) w ≡ Ok (c, []) → whole_at (certificate large limit) w
-        ≡ Ok (c, []) }
+        → read_whole (certificate small limit) w ≡ Ok (c, [])
+        → read_whole (certificate large limit) w ≡ Ok (c, []) }
     ensures front { (small large : ℕ) (limit : Option ℕ) (c : PlainCertificate) (w r : List ℕ)
         → small ≤ large → IsOctets w → Fits w
         → read (certificate small limit) 64 w ≡ Ok (c, r) → read (certificate large limit) 64 w
@@ -103,8 +103,8 @@ pub fn newly_read_certificates_hold_a_large_arc()
         → (Spells (certificate small limit) c w → ⊥) → HoldsLarge small (certificate_identifiers c) }
     ensures whole { (small large : ℕ) (limit : Option ℕ) (c : PlainCertificate) (w : List ℕ)
         (e : ErrorKind) → IsOctets w
-        → whole_at (certificate large limit) w ≡ Ok (c, []) → whole_at (certificate small limit) w
-        ≡ Err e → HoldsLarge small (certificate_identifiers c) }
+        → read_whole (certificate large limit) w ≡ Ok (c, [])
+        → read_whole (certificate small limit) w ≡ Err e → HoldsLarge small (certificate_identifiers c) }
     ensures front { (small large : ℕ) (limit : Option ℕ) (c : PlainCertificate) (w r : List ℕ)
         (e : ErrorKind) → IsOctets w → Fits w
         → read (certificate large limit) 64 w ≡ Ok (c, r) → read (certificate small limit) 64 w

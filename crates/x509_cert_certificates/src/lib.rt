@@ -1,11 +1,13 @@
 //! Certificates (RFC 5280 4.1).
 #![tactic(auto)]
 
+mod cert_digest;
 mod certificate;
 pub mod laws;
 pub mod making;
 mod tbs_certificate;
 
+pub use cert_digest::CertDigest;
 pub use certificate::{Certificate, CertificateInner};
 pub use tbs_certificate::{TbsCertificate, TbsCertificateInner};
 pub use x509_cert_parts::{
@@ -13,7 +15,7 @@ pub use x509_cert_parts::{
     AttributeTypeAndValue, AttributeValue, Attributes, BitString, DateTime, DirectoryString,
     DistinguishedName, Extension, Extensions, ExtensionsOf, FlagSet, FromAny, GeneralizedTime,
     Ia5String, Name, NameIter, NamedBits, OctetString, Profile, Raw, RdnSequence, RdnSequenceIter,
-    RelativeDistinguishedName, RelativeNameIter, Rfc5280, SerialNumber, SetOfVec,
-    SubjectPublicKeyInfo, SubjectPublicKeyInfoRef, Time, Uint, UtcTime, Validity, Version,
-    filter_extensions, get_extension,
+    RelativeDistinguishedName, Rfc5280, SerialNumber, SetOfIter, SetOfVec, SubjectPublicKeyInfo,
+    SubjectPublicKeyInfoRef, Time, Uint, UtcTime, Validity, Version, filter_extensions,
+    get_extension,
 };

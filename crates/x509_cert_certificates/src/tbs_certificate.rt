@@ -18,7 +18,7 @@ ghost use Rattle.x509_cert_certificates.specs.Certificates.{tbs_subject_unique_i
 ghost use Rattle.x509_cert_certificates.specs.Views.{tbs_plain};
 
 use const_oid::AssociatedOid;
-use der_core::making::{implicit_ref, read_fields};
+use der_core::making::{explicit_of, implicit_of, implicit_ref, read_fields};
 use der_core::{
     ApartValue, Decode, DecodeFields, DecodeValue, EncodeFields, EncodeRef, EncodeValue, Error,
     Explicit, Fields, FixedTag, Header, Implicit, Length, Reader, ShapedValue, SliceReader, Tag,
@@ -127,30 +127,10 @@ impl<'a, R: Reader<'a>, P: Profile> DecodeFields<'a, R> for TbsCertificateInner<
             validity,
             subject,
             subject_public_key_info,
-            issuer_unique_id: bits_of(issuer_unique_id),
-            subject_unique_id: bits_of(subject_unique_id),
-            extensions: extensions_of(extensions),
+            issuer_unique_id: implicit_of(issuer_unique_id),
+            subject_unique_id: implicit_of(subject_unique_id),
+            extensions: explicit_of(extensions),
         })
-    }
-}
-
-/// The bits behind a tag.
-fn bits_of<const N: u32>(field: Option<Implicit<BitString, N>>) -> Option<BitString>
-    ensures { result ≡ plain_option (λ f. f.value) field.entry }
-{
-    match field {
-        Some(field) => Some(field.value),
-        None => None,
-    }
-}
-
-/// The extensions behind a tag.
-fn extensions_of(field: Option<Explicit<Extensions, 3>>) -> Option<Extensions>
-    ensures { result ≡ plain_option (λ f. f.value) field }
-{
-    match field {
-        Some(field) => Some(field.value),
-        None => None,
     }
 }
 

@@ -1,7 +1,10 @@
 pub mod Distinct
 pub mod Lists
 pub mod Printed
+pub mod Rows
 pub mod NameBounds
+pub mod OneReading
+pub mod OneName
 mod KeyBounds
 mod TextBounds
 mod InTurn

@@ -1,6 +1,7 @@
 -- Lists of lists, seen by their elements.
 use Rattle.std.proofs.Common.{◌≡◌, List, [], ◌∷◌, ◌++◌, refl, ap, ◌∙◌}
 use Rattle.std.specs.Prelude.{flat_map}
+use Rattle.std.specs.List.{AllByRecursion}
 use Rattle.der_core_head.specs.Grammar.{plain_list}
 
 pub plain_append : {A B : Type 0} (f : A → B) (xs ys : List A) → plain_list f (xs ++ ys) ≡ plain_list f xs ++ plain_list f ys
@@ -10,3 +11,7 @@ plain_append f (x ∷ xs) ys = ap (λ zs. f x ∷ zs) (plain_append f xs ys)
 pub plain_all : {A B : Type 0} (f : A → B) (xs : List (List A)) → plain_list f (flat_map (λ r. r) xs) ≡ flat_map (λ r. r) (plain_list (plain_list f) xs)
 plain_all f [] = refl
 plain_all f (x ∷ xs) = plain_append f x (flat_map (λ r. r) xs) ∙ ap (λ zs. plain_list f x ++ zs) (plain_all f xs)
+
+pub all_more : {A : Type 0} (P : A → Type 0) (xs : List A) (y : A) → AllByRecursion P xs → P y → AllByRecursion P (xs ++ y ∷ [])
+all_more P [] y h p = (p, tt)
+all_more P (x ∷ xs) y h p = (h.0, all_more P xs y h.1 p)

@@ -3,7 +3,7 @@ use Rattle.std.proofs.Common.{◌≡◌, ℕ, ◌≤◌, List, [], ◌∷◌, �
 use Rattle.std.specs.Prelude.{◌↔◌, flat_map, map}
 use Rattle.std.proofs.lemmas.List.{map-append}
 use Rattle.der_core_head.specs.Bounds.{IsValidUnder, identifiers_of, AreBelow}
-use Rattle.der_core_head.specs.Grammar.{whole_at}
+use Rattle.der_core_head.specs.Grammar.{read_whole}
 use Rattle.der_core_head.specs.Octets.{IsOctets}
 use Rattle.der_core_head.specs.Shapes.{IsValid, Spells, octets_of}
 use Rattle.der_core_head.proofs.Families.{Family, valid_wider, valid_narrow, spelled_exactly, whole_wider}
@@ -65,5 +65,5 @@ names_exactly small large n w root le =
     let e = spelled_exactly (name 0) name names small large n w root le in
     (λ h. let p = e.0 h in (p.0, subst (IsLow small) (of_name n) p.1), λ p. e.1 (p.0, subst (IsLow small) (sym (of_name n)) p.1))
 
-pub whole_names_wider : (small large : ℕ) (n : PlainName) (w : List ℕ) → small ≤ large → IsOctets w → whole_at (name small) w ≡ Ok (n, []) → whole_at (name large) w ≡ Ok (n, [])
+pub whole_names_wider : (small large : ℕ) (n : PlainName) (w : List ℕ) → small ≤ large → IsOctets w → read_whole (name small) w ≡ Ok (n, []) → read_whole (name large) w ≡ Ok (n, [])
 whole_names_wider small large n w le o e = whole_wider (name 0) name names small large n w le o e

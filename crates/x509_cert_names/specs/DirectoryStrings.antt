@@ -1,5 +1,5 @@
 -- What contracts see of a DirectoryString.
-use Rattle.std.specs.Prelude.{ℕ, List, [], string_bytes, Result, Ok, Err}
+use Rattle.std.specs.Prelude.{ℕ, List, [], string_bytes, encode_utf8_all, Result, Ok, Err}
 use Rattle.std.proofs.Common.{inl, inr}
 use Rattle.der_core_head.specs.declared.error.ErrorKind.{ErrorKind}
 use Rattle.der_core_head.specs.declared.error.ErrorKind.TheVariants as kinds
@@ -26,6 +26,13 @@ directory_text (strings.PrintableString t) = t
 directory_text (strings.TeletexString t) = t
 directory_text (strings.Utf8String t) = string_bytes t
 directory_text (strings.BmpString t) = []
+
+-- its text in UTF-8
+abbrev pub directory_utf8 : DirectoryString → List ℕ
+directory_utf8 (strings.PrintableString t) = t
+directory_utf8 (strings.TeletexString t) = t
+directory_utf8 (strings.Utf8String t) = string_bytes t
+directory_utf8 (strings.BmpString t) = encode_utf8_all t
 
 -- what any value reads as, by its tag
 abbrev pub directory_as : Tag → AnyValue → Result (Value directory_string) ErrorKind

@@ -8,6 +8,7 @@ pub mod ValueTexts
 pub mod NameTexts
 pub mod PlainTexts
 pub mod Values
+pub mod Rows
 pub use Rattle.der_types_any.specs.NumberTypes
 pub use Rattle.der_types_any.specs.ValueTypes
 pub use Rattle.der_types_any.specs.TimeTypes

@@ -10,7 +10,7 @@ use Rattle.der_core_head.specs.declared.error.ErrorKind.{ErrorKind}
 use Rattle.der_core_head.specs.declared.error.ErrorKind.TheVariants as kinds
 use Rattle.der_core_head.specs.declared.tag.Tag.{Tag}
 use Rattle.der_core_head.specs.declared.tag.Tag.TheVariants as tags
-use Rattle.der_core_head.specs.Grammar.{whole_at}
+use Rattle.der_core_head.specs.Grammar.{read_whole}
 use Rattle.der_core_head.specs.Heads.{tlv}
 use Rattle.der_core_head.specs.Leaves.{text, utf8}
 use Rattle.der_core_head.specs.Octets.{◌>>=◌}
@@ -33,7 +33,7 @@ tag_for arcs =
 
 -- the value whose encoding these hex digits are
 unfoldable pub encoded_value : List ℕ → Result AnyValue ErrorKind
-encoded_value digits = hex_octets digits >>= whole_at any >>= λ v. Ok v.0
+encoded_value digits = hex_octets digits >>= read_whole any >>= λ v. Ok v.0
 
 -- a value, if a length can count its octets
 abbrev pub of_content : Tag → List ℕ → Result AnyValue ErrorKind

@@ -8,13 +8,14 @@ ghost use Rattle.x509_cert_names.specs.Names.{attribute_fields};
 ghost use Rattle.x509_cert_names.specs.Views.{attribute_plain};
 
 use crate::attribute_type_and_value::{AttributeType, AttributeValue};
+use crate::members::copy_of;
 use der_core::making::read_fields;
 use der_core::{
     ApartValue, AsReadValue, DecodeFields, DecodeValue, EncodeFields, EncodeRef, EncodeValue,
     Error, Fields, FieldsOrd, FixedTag, Header, InRangeValue, Length, Reader, ShapedValue,
     StrictSetOf, Tag, ValueOrd, Writer,
 };
-use std::alloc::Global;
+use std::alloc::{AllocError, Global};
 use std::cmp::Ordering;
 
 /// An attribute with any number of values (RFC 5280 appendix A.1), none of which stands twice.
@@ -36,6 +37,34 @@ pub struct Attribute {
 pub type Attributes = StrictSetOf<Attribute>;
 
 type Row = (AttributeType, (StrictSetOf<AttributeValue>, ()));
+
+type RowRef<'a> = (
+    EncodeRef<'a, AttributeType>,
+    (EncodeRef<'a, StrictSetOf<AttributeValue>>, ()),
+);
+
+impl Attribute {
+    /// A copy.
+    ///
+    /// # Errors
+    /// Want of memory.
+    pub fn clone(&self, alloc: Global) -> Result<Attribute, AllocError>
+        ensures { IfOk result (λ a. attribute_plain a ≡ attribute_plain self.now) }
+    {
+        let values = copy_of(alloc, self.values.values.as_slice())?;
+        Ok(Attribute {
+            oid: self.oid,
+            values: StrictSetOf { values },
+        })
+    }
+
+    /// The fields in their order, lent.
+    fn row<'a>(&'a self) -> RowRef<'a>
+        ensures { ⟦<RowRef<'a> as Fields>⟧.fields_written result ≡ attribute_plain self.now }
+    {
+        (EncodeRef(&self.oid), (EncodeRef(&self.values), ()))
+    }
+}
 
 impl FixedTag for Attribute {
     ghost fixed_tag = { Sequence };
@@ -76,11 +105,11 @@ impl<'a, R: Reader<'a>> DecodeValue<'a, R> for Attribute {
 
 impl EncodeValue for Attribute {
     fn value_len(&self) -> Result<Length, Error> {
-        (EncodeRef(&self.oid), (EncodeRef(&self.values), ())).fields_len()
+        self.row().fields_len()
     }
 
     fn encode_value<W: Writer>(&self, writer: &mut W) -> Result<(), Error> {
-        (EncodeRef(&self.oid), (EncodeRef(&self.values), ())).encode_fields(writer)
+        self.row().encode_fields(writer)
     }
 }
 
@@ -103,7 +132,6 @@ impl InRangeValue for Attribute {
 impl ValueOrd for Attribute {
     #[tactic(auto, unfolding(der_core_head::specs::Shapes::contents, der_core_head::specs::Shapes::IsContent))]
     fn value_cmp(&self, other: &Self) -> Result<Ordering, Error> {
-        let row = (EncodeRef(&self.oid), (EncodeRef(&self.values), ()));
-        row.fields_cmp(&(EncodeRef(&other.oid), (EncodeRef(&other.values), ())))
+        self.row().fields_cmp(&other.row())
     }
 }

@@ -58,6 +58,20 @@ pub struct AttributeTypeAndValue {
 
 type Row = (AttributeType, (AttributeValue, ()));
 
+type RowRef<'a> = (
+    EncodeRef<'a, AttributeType>,
+    (EncodeRef<'a, AttributeValue>, ()),
+);
+
+impl AttributeTypeAndValue {
+    /// The fields in their order, lent.
+    fn row<'a>(&'a self) -> RowRef<'a>
+        ensures { ⟦<RowRef<'a> as Fields>⟧.fields_written result ≡ pair_plain self.now }
+    {
+        (EncodeRef(&self.oid), (EncodeRef(&self.value), ()))
+    }
+}
+
 impl FixedTag for AttributeTypeAndValue {
     ghost fixed_tag = { Sequence };
 
@@ -101,11 +115,11 @@ impl<'a, R: Reader<'a>> DecodeValue<'a, R> for AttributeTypeAndValue {
 
 impl EncodeValue for AttributeTypeAndValue {
     fn value_len(&self) -> Result<Length, Error> {
-        (EncodeRef(&self.oid), (EncodeRef(&self.value), ())).fields_len()
+        self.row().fields_len()
     }
 
     fn encode_value<W: Writer>(&self, writer: &mut W) -> Result<(), Error> {
-        (EncodeRef(&self.oid), (EncodeRef(&self.value), ())).encode_fields(writer)
+        self.row().encode_fields(writer)
     }
 }
 
@@ -155,8 +169,7 @@ impl Hash for AttributeTypeAndValue {
 impl ValueOrd for AttributeTypeAndValue {
     #[tactic(auto, unfolding(der_core_head::specs::Shapes::contents, der_core_head::specs::Shapes::IsContent))]
     fn value_cmp(&self, other: &Self) -> Result<Ordering, Error> {
-        let row = (EncodeRef(&self.oid), (EncodeRef(&self.value), ()));
-        row.fields_cmp(&(EncodeRef(&other.oid), (EncodeRef(&other.value), ())))
+        self.row().fields_cmp(&other.row())
     }
 }
 

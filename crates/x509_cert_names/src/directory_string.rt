@@ -1,10 +1,11 @@
 //! DirectoryString.
 
-ghost use Rattle.std.specs.Prelude.{◌≡◌, [], refl};
+ghost use Rattle.std.specs.Prelude.{◌≡◌, [], refl, IfOk, string_bytes};
+ghost use Rattle.std.specs.Cow.{cow_str_bytes};
 ghost use Rattle.der_core_head.specs.Shapes.{begins};
 ghost use Rattle.x509_cert_names.specs.Names.{directory_string};
 ghost use Rattle.x509_cert_names.specs.DirectoryStrings.{directory_plain, directory_text};
-ghost use Rattle.x509_cert_names.specs.DirectoryStrings.{directory_from};
+ghost use Rattle.x509_cert_names.specs.DirectoryStrings.{directory_from, directory_utf8};
 ghost use Rattle.der_core_head.specs.Reading.{Gives};
 ghost use Rattle.der_core_head.specs.declared.tag.Tag.TheVariants as tags;
 
@@ -15,7 +16,8 @@ use der_core::{
 };
 use der_types_any::Any;
 use der_types_any::text_types::{BmpString, PrintableString, TeletexString};
-use std::alloc::Global;
+use std::alloc::{AllocError, Global};
+use std::borrow::CowStr;
 use std::cmp::Ordering;
 
 /// A text of a name (RFC 5280 4.1.2.4, appendix A.1). UniversalString isn't read.
@@ -130,6 +132,69 @@ impl DirectoryString {
             DirectoryString::TeletexString(text) => text.as_str(),
             DirectoryString::Utf8String(text) => text.as_str(),
             DirectoryString::BmpString(_) => "",
+        }
+    }
+
+    /// The text, lent, or made of the characters of a BMPString.
+    ///
+    /// # Errors
+    /// Want of memory, for a BMPString.
+    pub fn value(&self, alloc: Global) -> Result<CowStr<'_>, AllocError>
+        ensures { IfOk result (λ t. cow_str_bytes t ≡ directory_utf8 self.now) }
+    {
+        match self {
+            DirectoryString::PrintableString(text) => Ok(CowStr::Borrowed(text.as_str())),
+            DirectoryString::TeletexString(text) => Ok(CowStr::Borrowed(text.as_str())),
+            DirectoryString::Utf8String(text) => Ok(CowStr::Borrowed(text.as_str())),
+            DirectoryString::BmpString(text) => {
+                let owned = text.to_string(alloc)?;
+                Ok(CowStr::Owned(owned))
+            }
+        }
+    }
+
+    /// The text itself, or made of the characters of a BMPString.
+    ///
+    /// # Errors
+    /// Want of memory, for a BMPString.
+    pub fn into_string(self, alloc: Global) -> Result<String, AllocError>
+        ensures { IfOk result (λ s. string_bytes s ≡ directory_utf8 self) }
+    {
+        match self {
+            DirectoryString::PrintableString(text) => Ok(text.into_string()),
+            DirectoryString::TeletexString(text) => Ok(text.into_string()),
+            DirectoryString::Utf8String(text) => Ok(text),
+            DirectoryString::BmpString(text) => {
+                let owned = text.to_string(alloc)?;
+                Ok(owned)
+            }
+        }
+    }
+
+    /// A copy.
+    ///
+    /// # Errors
+    /// Want of memory.
+    pub fn clone(&self, alloc: Global) -> Result<DirectoryString, AllocError>
+        ensures { IfOk result (λ d. directory_plain d ≡ directory_plain self.now) }
+    {
+        match self {
+            DirectoryString::PrintableString(text) => {
+                let copy = text.clone(alloc)?;
+                Ok(DirectoryString::PrintableString(copy))
+            }
+            DirectoryString::TeletexString(text) => {
+                let copy = text.clone(alloc)?;
+                Ok(DirectoryString::TeletexString(copy))
+            }
+            DirectoryString::Utf8String(text) => {
+                let copy = String::from_str(alloc, text.as_str())?;
+                Ok(DirectoryString::Utf8String(copy))
+            }
+            DirectoryString::BmpString(text) => {
+                let copy = text.clone(alloc)?;
+                Ok(DirectoryString::BmpString(copy))
+            }
         }
     }
 }

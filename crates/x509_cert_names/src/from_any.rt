@@ -1,12 +1,7 @@
 //! Types that any value can be read as.
 
-ghost use Rattle.der_core_head.specs.Leaves.{text};
-ghost use Rattle.der_core_head.specs.Reading.{GivesNow};
-ghost use Rattle.der_types_any.specs.Contents.{leaf_as};
-
 use der_core::Error;
 use der_types_any::Any;
-use der_types_any::text_types::{AsciiStringRef, AsciiType};
 use std::alloc::Global;
 
 /// A type that the value of an attribute can be read as.
@@ -25,15 +20,4 @@ pub trait FromAny<'a>: Sized {
     /// `OutOfMemory`.
     fn from_any(alloc: Global, any: &'a Any) -> Result<Self, Error>
         ensures { any_gives any.now result };
-}
-
-/// A text, which is lent.
-impl<'a, T: AsciiType> FromAny<'a> for AsciiStringRef<'a, T> {
-    ghost any_gives = { λ a r. GivesNow (λ t. t.text.now) r
-        (leaf_as T.string_tag (text T.repertoire) a) };
-
-    fn from_any(_alloc: Global, any: &'a Any) -> Result<AsciiStringRef<'a, T>, Error> {
-        let value = AsciiStringRef::try_from(any)?;
-        Ok(value)
-    }
 }

@@ -4,7 +4,7 @@
 
 ghost use Rattle.std.specs.Prelude.{◌≡◌, ◌≤◌, ◌<◌, ◌↔◌, ℕ, List, [], Ok, map};
 ghost use Rattle.der_core_head.specs.Bounds.{AreBelow, HoldsLarge};
-ghost use Rattle.der_core_head.specs.Grammar.{whole_at};
+ghost use Rattle.der_core_head.specs.Grammar.{read_whole};
 ghost use Rattle.der_core_head.specs.Octets.{IsOctets};
 ghost use Rattle.der_core_head.specs.Shapes.{IsValid, Spells};
 ghost use Rattle.x509_cert_names.specs.Names.{PlainName, all_of, name, type_of};
@@ -17,7 +17,7 @@ pub fn wider_bounds_keep_names()
         → Spells (name small) n w
         ↔ (Spells (name large) n w × AreBelow small (map type_of (all_of n))) }
     ensures whole { (small large : ℕ) (n : PlainName) (w : List ℕ) → small ≤ large → IsOctets w
-        → whole_at (name small) w ≡ Ok (n, []) → whole_at (name large) w ≡ Ok (n, []) }
+        → read_whole (name small) w ≡ Ok (n, []) → read_whole (name large) w ≡ Ok (n, []) }
 {}
 
 /// A text that is read as a name under one bound of arcs is read as the same name under a wider

@@ -49,11 +49,10 @@ pub(crate) fn arrange<T: DerOrd + Member + Drop>(members: Vec<T>) -> Result<Vec<
 ///
 /// # Errors
 /// Want of memory.
-#[tactic(auto, using(der_types_sets::proofs::SetSteps::same_copies))]
-pub(crate) fn copy_of<T: Clone + Drop>(members: &Vec<T>) -> Result<Vec<T>, AllocError>
+pub(crate) fn copy_of<T: Clone + Drop>(alloc: Global, members: &[T]) -> Result<Vec<T>, AllocError>
     requires { (x y : T) → T.is_clone x y → y ≡ x }
-    ensures { IfOk result (λ v. v.items ≡ members.now.items) }
+    ensures { IfOk result (λ v. v.items ≡ members.now) }
 {
-    let members = members.clone()?;
+    let members = Vec::from_clones(alloc, members)?;
     Ok(members)
 }

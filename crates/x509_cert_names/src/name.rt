@@ -1,6 +1,7 @@
 //! Name.
 
 ghost use Rattle.std.specs.Prelude.{◌≡◌, ◌==◌, [], length, refl, IfOk, IfErr};
+ghost use Rattle.std.specs.Option.{option_copied};
 ghost use Rattle.const_oid.specs.Bound.{Bound};
 ghost use Rattle.der_core_head.specs.declared.tag.Tag.TheVariants.{Sequence};
 ghost use Rattle.der_core_head.specs.Shapes.{nested, many};
@@ -19,6 +20,7 @@ ghost use Rattle.x509_cert_names.specs.Names.{relative_name, all_of};
 ghost use Rattle.x509_cert_names.specs.Pairs.{pair_plain, relative_plain};
 ghost use Rattle.x509_cert_names.specs.Views.{attributes_left, name_plain, sequence_plain};
 
+use crate::attribute_type_and_value::AttributeValue;
 use crate::attribute_types as types;
 use crate::directory_string::DirectoryString;
 use crate::from_any::FromAny;
@@ -29,7 +31,7 @@ use der_core::{
     ApartValue, AsReadValue, DecodeValue, EncodeValue, Error, FixedTag, Header, InRangeValue,
     Length, Reader, ShapedValue, Tag, ValueOrd, Writer,
 };
-use der_types_any::text_types::{Ia5StringRef, PrintableStringRef};
+use der_types_any::text_types::{AsciiStringRef, AsciiType, Ia5StringRef, PrintableStringRef};
 use std::alloc::{AllocError, Global};
 use std::cmp::Ordering;
 use std::fmt;
@@ -133,15 +135,46 @@ impl Name {
     ) -> Result<Option<T>, Error>
         ensures { FirstGives T.any_gives (first_value oid (all_of (name_plain self.now))) result }
     {
+        match self.first_value(&oid) {
+            Some(value) => match T::from_any(alloc, value) {
+                Ok(value) => Ok(Some(value)),
+                Err(error) => Err(error),
+            },
+            None => Ok(None),
+        }
+    }
+
+    /// The value of the first attribute of a type, in the order of the name, or none.
+    fn first_value(&self, oid: &ObjectIdentifier<39>) -> Option<&AttributeValue>
+        ensures { option_copied result ≡ first_value oid.now (all_of (name_plain self.now)) }
+    {
         for attribute in self.iter() {
-            if attribute.oid == oid {
-                return match T::from_any(alloc, &attribute.value) {
-                    Ok(value) => Ok(Some(value)),
-                    Err(error) => Err(error),
-                };
+            if attribute.oid == *oid {
+                return Some(&attribute.value);
             }
         }
-        Ok(None)
+        None
+    }
+
+    /// The first value of a type as a text, which is lent, or none.
+    ///
+    /// # Errors
+    /// `TagUnexpected` where it is of another type, or the first fault of its content.
+    fn first_text<T: AsciiType>(
+        &self,
+        oid: &ObjectIdentifier<39>,
+    ) -> Result<Option<AsciiStringRef<'_, T>>, Error>
+        ensures { FirstGives
+            (λ a r. GivesNow (λ t. t.text.now) r (leaf_as T.string_tag (text T.repertoire) a))
+            (first_value oid.now (all_of (name_plain self.now))) result }
+    {
+        match self.first_value(oid) {
+            Some(value) => match AsciiStringRef::try_from(value) {
+                Ok(text) => Ok(Some(text)),
+                Err(error) => Err(error),
+            },
+            None => Ok(None),
+        }
     }
 
     /// The first common name (2.5.4.3), or none.
@@ -160,12 +193,12 @@ impl Name {
     ///
     /// # Errors
     /// `TagUnexpected` where it is no PrintableString, or the first fault of its content.
-    pub fn country(&self, alloc: Global) -> Result<Option<PrintableStringRef<'_>>, Error>
+    pub fn country(&self) -> Result<Option<PrintableStringRef<'_>>, Error>
         ensures { FirstGives
             (λ a r. GivesNow (λ t. t.text.now) r (leaf_as PrintableString (text printable) a))
             (first_value (x520 6) (all_of (name_plain self.now))) result }
     {
-        self.by_oid(alloc, types::country())
+        self.first_text(&types::country())
     }
 
     /// The first state or province (2.5.4.8), or none.
@@ -220,12 +253,12 @@ impl Name {
     ///
     /// # Errors
     /// `TagUnexpected` where it is no IA5String, or the first fault of its content.
-    pub fn email_address(&self, alloc: Global) -> Result<Option<Ia5StringRef<'_>>, Error>
+    pub fn email_address(&self) -> Result<Option<Ia5StringRef<'_>>, Error>
         ensures { FirstGives
             (λ a r. GivesNow (λ t. t.text.now) r (leaf_as Ia5String (text ascii) a))
             (first_value email_address (all_of (name_plain self.now))) result }
     {
-        self.by_oid(alloc, types::email_address())
+        self.first_text(&types::email_address())
     }
 }
 

@@ -9,12 +9,6 @@ pub struct RdnSequenceIter<'a> {
     pub(crate) left: &'a [RelativeDistinguishedName],
 }
 
-/// The attributes of a relative name, in ascending order of their encodings.
-#[derive(Debug, Drop)]
-pub struct RelativeNameIter<'a> {
-    pub(crate) left: &'a [AttributeTypeAndValue],
-}
-
 /// The attributes of a name, those of the widest relative name first.
 #[derive(Debug, Drop)]
 pub struct NameIter<'a> {
@@ -47,36 +41,6 @@ impl<'a> Iterator for RdnSequenceIter<'a> {
 
 impl<'a> ExactSizeIterator for RdnSequenceIter<'a> {
     /// The number of relative names that are yet to come.
-    fn len(&self) -> usize {
-        self.left.len()
-    }
-}
-
-impl<'a> Iterator for RelativeNameIter<'a> {
-    ghost use Rattle.std.specs.Iterator.{YieldsFirstRef, item_count};
-
-    type Item = &'a AttributeTypeAndValue;
-
-    ghost next_gives = { YieldsFirstRef (λ it. it.left.now) };
-
-    ghost remaining = { item_count (λ it. it.left.now) };
-
-    fn next(&mut self) -> Option<&'a AttributeTypeAndValue> {
-        let [first, left @ ..] = self.left else {
-            return None;
-        };
-        self.left = left;
-        Some(first)
-    }
-
-    fn size_hint(&self) -> (usize, Option<usize>) {
-        let len = self.len();
-        (len, Some(len))
-    }
-}
-
-impl<'a> ExactSizeIterator for RelativeNameIter<'a> {
-    /// The number of attributes that are yet to come.
     fn len(&self) -> usize {
         self.left.len()
     }

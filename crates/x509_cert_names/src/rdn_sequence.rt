@@ -82,10 +82,10 @@ impl RdnSequence {
     ///
     /// # Errors
     /// Want of memory.
-    pub fn clone(&self, _alloc: Global) -> Result<RdnSequence, AllocError>
+    pub fn clone(&self, alloc: Global) -> Result<RdnSequence, AllocError>
         ensures { IfOk result (λ s. sequence_plain s ≡ sequence_plain self.now) }
     {
-        let relative_names = copy_of(&self.relative_names)?;
+        let relative_names = copy_of(alloc, self.relative_names.as_slice())?;
         Ok(RdnSequence { relative_names })
     }
 
@@ -258,7 +258,8 @@ impl Clone for RdnSequence {
     ghost is_clone = { λ x y. y.relative_names.items ≡ x.relative_names.items };
 
     fn clone(&self) -> Result<RdnSequence, AllocError> {
-        let relative_names = copy_of(&self.relative_names)?;
+        let alloc = *self.relative_names.allocator();
+        let relative_names = copy_of(alloc, self.relative_names.as_slice())?;
         Ok(RdnSequence { relative_names })
     }
 }
@@ -278,6 +279,22 @@ impl AsRef<Vec<RelativeDistinguishedName>> for RdnSequence {
         ensures { result.now ≡ self.now.relative_names }
     {
         &self.relative_names
+    }
+}
+
+/// The list of relative names.
+impl AsMut<Vec<RelativeDistinguishedName>> for RdnSequence {
+    ghost use Rattle.std.specs.Borrow.{sem, Lends};
+    ghost use Rattle.x509_cert_names.specs.Rows.{list_row};
+    ghost use Rattle.x509_cert_names.specs.contracts.relative_distinguished_name.RelativeDistinguishedName.{the_row as member_row};
+    ghost use Rattle.x509_cert_names.specs.contracts.rdn_sequence.RdnSequence.{the_row};
+
+    fn as_mut(&mut self) -> &mut Vec<RelativeDistinguishedName>
+        ensures* writes_back { sem 𝓛 (Lends the_row (list_row member_row) self.entry result
+            (λ w. record { relative_names = w })) }
+        ensures value { result.now ≡ self.old.relative_names }
+    {
+        &mut self.relative_names
     }
 }
 

@@ -23,22 +23,22 @@ ghost use Rattle.x509_cert_names.specs.Pairs.{relative_plain};
 
 use crate::attribute_type_and_value::AttributeTypeAndValue;
 use crate::members::{arrange, copy_of, decode_members};
-use crate::name_iter::RelativeNameIter;
 use der_core::{
     ApartValue, AsReadValue, DecodeValue, Encode, EncodeValue, Error, ErrorKind, FixedTag, Header,
     InRange, InRangeValue, Length, Reader, ShapedValue, StrictSetOf, Tag, ValueOrd, Writer,
 };
+use der_types_sets::SetOfIter;
 use der_types_sets::making::place_of;
 use std::alloc::{AllocError, Global};
 use std::cmp::Ordering;
+use std::convert::AsSlice;
 use std::fmt;
 use std::hash::{Hash, Hasher};
 use std::marker::Model;
 use x509_cert_name_texts::{FromText, read_pieces};
 
 /// A relative name (RFC 5280 4.1.2.4): a set of attributes, in the order of their encodings, none
-/// of
-/// which stands twice. It may be empty.
+/// of which stands twice. It may be empty.
 ///
 /// Contracts see the list of the attributes.
 ///
@@ -114,10 +114,10 @@ impl RelativeDistinguishedName {
     ///
     /// # Errors
     /// Want of memory.
-    pub fn clone(&self, _alloc: Global) -> Result<RelativeDistinguishedName, AllocError>
+    pub fn clone(&self, alloc: Global) -> Result<RelativeDistinguishedName, AllocError>
         ensures { IfOk result (λ r. r ≡ self.now) }
     {
-        let values = copy_of(&self.attributes.values)?;
+        let values = copy_of(alloc, self.as_slice())?;
         Ok(RelativeDistinguishedName {
             attributes: StrictSetOf { values },
         })
@@ -193,12 +193,10 @@ impl RelativeDistinguishedName {
     }
 
     /// The attributes, in ascending order of their encodings.
-    pub fn iter(&self) -> RelativeNameIter<'_>
+    pub fn iter(&self) -> SetOfIter<'_, AttributeTypeAndValue>
         ensures { result.left.now ≡ self.now }
     {
-        RelativeNameIter {
-            left: self.as_slice(),
-        }
+        SetOfIter::of_members(self.as_slice())
     }
 
     /// The attributes, in ascending order of their encodings.
@@ -268,6 +266,15 @@ impl InRangeValue for RelativeDistinguishedName {
 impl ValueOrd for RelativeDistinguishedName {
     fn value_cmp(&self, other: &Self) -> Result<Ordering, Error> {
         self.attributes.value_cmp(&other.attributes)
+    }
+}
+
+/// The attributes, in ascending order of their encodings.
+impl AsSlice<AttributeTypeAndValue> for RelativeDistinguishedName {
+    ghost items = { λ r. r };
+
+    fn as_slice(&self) -> &[AttributeTypeAndValue] {
+        self.attributes.values.as_slice()
     }
 }
 
@@ -347,7 +354,7 @@ impl Clone for RelativeDistinguishedName {
     ghost is_clone = { λ x y. y ≡ x };
 
     fn clone(&self) -> Result<RelativeDistinguishedName, AllocError> {
-        let values = copy_of(&self.attributes.values)?;
+        let values = copy_of(*self.attributes.values.allocator(), self.as_slice())?;
         Ok(RelativeDistinguishedName {
             attributes: StrictSetOf { values },
         })

@@ -3,4 +3,5 @@ pub mod Respelled
 mod Fills
 mod OctetNumbers
 mod SameOctets
+pub mod OneKey
 pub use Rattle.x509_cert_names.proofs as Names

@@ -5,7 +5,7 @@ use Rattle.const_oid.specs.Comparing.{owned_eq}
 use Rattle.der_core_head.specs.declared.error.Error.{Error}
 use Rattle.der_core_head.specs.declared.error.ErrorKind.{ErrorKind}
 use Rattle.der_core_head.specs.declared.error.ErrorKind.TheVariants as kinds
-use Rattle.der_core_head.specs.Grammar.{whole_at}
+use Rattle.der_core_head.specs.Grammar.{read_whole}
 use Rattle.der_core_head.specs.Octets.{◌>>=◌}
 use Rattle.der_core_head.specs.Reading.{Gives}
 use Rattle.der_core_head.specs.Shapes.{Shape, Value}
@@ -26,7 +26,8 @@ only_one (e ∷ f ∷ left) = Err kinds.Failed
 
 -- whether it is critical, and the value that its octets spell
 abbrev pub value_in : (s : Shape) → PlainExtension → Result (Bool × Value s) ErrorKind
-value_in s e = whole_at s (extension_octets e) >>= λ (v : Value s × List ℕ). Ok (is_critical e, v.0)
+value_in s e =
+    read_whole s (extension_octets e) >>= λ (v : Value s × List ℕ). Ok (is_critical e, v.0)
 
 abbrev pub value_if : (s : Shape) → Option PlainExtension
     → Result (Option (Bool × Value s)) ErrorKind

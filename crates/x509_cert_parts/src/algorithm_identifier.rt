@@ -35,6 +35,20 @@ pub struct AlgorithmIdentifier {
 
 type Row = (ObjectIdentifier<39>, (Option<Any>, ()));
 
+type RowRef<'a> = (
+    EncodeRef<'a, ObjectIdentifier<39>>,
+    (EncodeRef<'a, Option<Any>>, ()),
+);
+
+impl AlgorithmIdentifier {
+    /// The fields in their order, lent.
+    fn row<'a>(&'a self) -> RowRef<'a>
+        ensures { ⟦<RowRef<'a> as Fields>⟧.fields_written result ≡ algorithm_plain self.now }
+    {
+        (EncodeRef(&self.oid), (EncodeRef(&self.parameters), ()))
+    }
+}
+
 impl AlgorithmIdentifier {
     /// A copy.
     ///
@@ -132,13 +146,11 @@ impl<'a, R: Reader<'a>> DecodeValue<'a, R> for AlgorithmIdentifier {
 
 impl EncodeValue for AlgorithmIdentifier {
     fn value_len(&self) -> Result<Length, Error> {
-        let row = (EncodeRef(&self.oid), (EncodeRef(&self.parameters), ()));
-        row.fields_len()
+        self.row().fields_len()
     }
 
     fn encode_value<W: Writer>(&self, writer: &mut W) -> Result<(), Error> {
-        let row = (EncodeRef(&self.oid), (EncodeRef(&self.parameters), ()));
-        row.encode_fields(writer)
+        self.row().encode_fields(writer)
     }
 }
 
@@ -154,8 +166,6 @@ impl AsReadValue for AlgorithmIdentifier {
 impl ValueOrd for AlgorithmIdentifier {
     #[tactic(auto, unfolding(der_core_head::specs::Shapes::contents, der_core_head::specs::Shapes::IsContent))]
     fn value_cmp(&self, other: &Self) -> Result<Ordering, Error> {
-        let row = (EncodeRef(&self.oid), (EncodeRef(&self.parameters), ()));
-        let other_row = (EncodeRef(&other.oid), (EncodeRef(&other.parameters), ()));
-        row.fields_cmp(&other_row)
+        self.row().fields_cmp(&other.row())
     }
 }

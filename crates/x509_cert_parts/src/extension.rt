@@ -47,6 +47,28 @@ pub type Extensions = Vec<Extension>;
 
 type Row = (ObjectIdentifier<39>, (WithDefault<bool>, (OctetString, ())));
 
+type RowRef<'a> = (
+    EncodeRef<'a, ObjectIdentifier<39>>,
+    (WithDefault<bool>, (EncodeRef<'a, OctetString>, ())),
+);
+
+impl Extension {
+    /// The fields in their order, lent.
+    fn row<'a>(&'a self) -> RowRef<'a>
+        ensures { ⟦<RowRef<'a> as Fields>⟧.fields_written result ≡ extension_plain self.now }
+    {
+        (
+            EncodeRef(&self.extn_id),
+            (
+                WithDefault {
+                    value: self.critical,
+                },
+                (EncodeRef(&self.extn_value), ()),
+            ),
+        )
+    }
+}
+
 impl Extension {
     /// A copy.
     ///
@@ -108,29 +130,11 @@ impl<'a, R: Reader<'a>> DecodeValue<'a, R> for Extension {
 
 impl EncodeValue for Extension {
     fn value_len(&self) -> Result<Length, Error> {
-        let row = (
-            EncodeRef(&self.extn_id),
-            (
-                WithDefault {
-                    value: self.critical,
-                },
-                (EncodeRef(&self.extn_value), ()),
-            ),
-        );
-        row.fields_len()
+        self.row().fields_len()
     }
 
     fn encode_value<W: Writer>(&self, writer: &mut W) -> Result<(), Error> {
-        let row = (
-            EncodeRef(&self.extn_id),
-            (
-                WithDefault {
-                    value: self.critical,
-                },
-                (EncodeRef(&self.extn_value), ()),
-            ),
-        );
-        row.encode_fields(writer)
+        self.row().encode_fields(writer)
     }
 }
 
@@ -146,24 +150,6 @@ impl AsReadValue for Extension {
 impl ValueOrd for Extension {
     #[tactic(auto, unfolding(der_core_head::specs::Shapes::contents, der_core_head::specs::Shapes::IsContent))]
     fn value_cmp(&self, other: &Self) -> Result<Ordering, Error> {
-        let row = (
-            EncodeRef(&self.extn_id),
-            (
-                WithDefault {
-                    value: self.critical,
-                },
-                (EncodeRef(&self.extn_value), ()),
-            ),
-        );
-        let other_row = (
-            EncodeRef(&other.extn_id),
-            (
-                WithDefault {
-                    value: other.critical,
-                },
-                (EncodeRef(&other.extn_value), ()),
-            ),
-        );
-        row.fields_cmp(&other_row)
+        self.row().fields_cmp(&other.row())
     }
 }

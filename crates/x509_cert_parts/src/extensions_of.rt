@@ -20,7 +20,7 @@ pub struct ExtensionsOf<'a, T> {
     value: PhantomData<T>,
 }
 
-/// Those of the identifier of `T`.
+/// The extensions of the identifier of `T`.
 pub fn filter_extensions<'a, T: AssociatedOid>(
     alloc: Global,
     extensions: &'a [Extension],

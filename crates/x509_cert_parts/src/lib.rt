@@ -38,5 +38,5 @@ pub use x509_cert_names::value_types::{BitString, FlagSet, NamedBits, OctetStrin
 pub use x509_cert_names::{
     Any, AnyRef, Attribute, AttributeType, AttributeTypeAndValue, AttributeValue, Attributes,
     DirectoryString, DistinguishedName, FromAny, Ia5String, Name, NameIter, RdnSequence,
-    RdnSequenceIter, RelativeDistinguishedName, RelativeNameIter, SetOfVec,
+    RdnSequenceIter, RelativeDistinguishedName, SetOfIter, SetOfVec,
 };

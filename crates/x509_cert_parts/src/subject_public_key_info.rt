@@ -35,6 +35,23 @@ pub struct SubjectPublicKeyInfo {
 
 type Row = (AlgorithmIdentifier, (BitString, ()));
 
+type RowRef<'a> = (
+    EncodeRef<'a, AlgorithmIdentifier>,
+    (EncodeRef<'a, BitString>, ()),
+);
+
+impl SubjectPublicKeyInfo {
+    /// The fields in their order, lent.
+    fn row<'a>(&'a self) -> RowRef<'a>
+        ensures { ⟦<RowRef<'a> as Fields>⟧.fields_written result ≡ key_plain self.now }
+    {
+        (
+            EncodeRef(&self.algorithm),
+            (EncodeRef(&self.subject_public_key), ()),
+        )
+    }
+}
+
 impl SubjectPublicKeyInfo {
     /// A copy.
     ///
@@ -106,19 +123,11 @@ impl<'a, R: Reader<'a>> DecodeValue<'a, R> for SubjectPublicKeyInfo {
 
 impl EncodeValue for SubjectPublicKeyInfo {
     fn value_len(&self) -> Result<Length, Error> {
-        let row = (
-            EncodeRef(&self.algorithm),
-            (EncodeRef(&self.subject_public_key), ()),
-        );
-        row.fields_len()
+        self.row().fields_len()
     }
 
     fn encode_value<W: Writer>(&self, writer: &mut W) -> Result<(), Error> {
-        let row = (
-            EncodeRef(&self.algorithm),
-            (EncodeRef(&self.subject_public_key), ()),
-        );
-        row.encode_fields(writer)
+        self.row().encode_fields(writer)
     }
 }
 
@@ -134,14 +143,6 @@ impl AsReadValue for SubjectPublicKeyInfo {
 impl ValueOrd for SubjectPublicKeyInfo {
     #[tactic(auto, unfolding(der_core_head::specs::Shapes::contents, der_core_head::specs::Shapes::IsContent))]
     fn value_cmp(&self, other: &Self) -> Result<Ordering, Error> {
-        let row = (
-            EncodeRef(&self.algorithm),
-            (EncodeRef(&self.subject_public_key), ()),
-        );
-        let other_row = (
-            EncodeRef(&other.algorithm),
-            (EncodeRef(&other.subject_public_key), ()),
-        );
-        row.fields_cmp(&other_row)
+        self.row().fields_cmp(&other.row())
     }
 }

@@ -1,6 +1,7 @@
 pub mod NumberOctets
 pub mod Fields
-pub mod Lengths
+pub mod Fronts
+pub mod TimestampLengths
 pub mod Members
 pub mod Readings
 pub mod ListReadings

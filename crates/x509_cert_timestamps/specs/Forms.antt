@@ -1,6 +1,7 @@
 -- The presentation language of TLS (RFC 5246 4.3 to 4.6): the form of a type, its plain values, and
 -- the octets that spell them.
-use Rattle.std.specs.Prelude.{◌≡◌, ◌≢◌, ◌<◌, ◌^◌, ◌==◌, ◌⊎◌, ℕ, List, [], ◌∷◌, ◌++◌, length, IsTrue}
+use Rattle.std.specs.Prelude.{◌≡◌, ◌≢◌, ◌<◌, ◌^◌, ◌==◌, ◌⊎◌, ℕ, List, [], ◌∷◌, ◌++◌, length, take}
+use Rattle.std.specs.Prelude.{IsTrue}
 use Rattle.std.specs.List.{AllByRecursion, list_any}
 use Rattle.std.specs.Int.{to_be_bytes, w16, w64}
 use Rattle.x509_cert_timestamps.specs.declared.tls_error.TlsError.{TlsError}
@@ -87,6 +88,10 @@ RefusesWhole f input e = Refuses f input e
 pub record Appends (f : Form) (v : Plain f) (old new : List ℕ) : Type 0 where
   pub value : IsValue f v
   pub octets_behind : new ≡ old ++ octets f v
+
+-- what was there still stands in front of what came
+abbrev pub StillBegins : List ℕ → List ℕ → Type 0
+StillBegins old new = take (length old) new ≡ old
 
 -- only want of memory, or a vector that is too long, keeps a value from being written
 abbrev pub CannotWrite : (f : Form) → Plain f → TlsError → Type 0

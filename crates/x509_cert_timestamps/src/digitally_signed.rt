@@ -42,6 +42,7 @@ impl TlsValue for DigitallySigned {
         ))
     }
 
+    #[tactic(auto, using(crate::proofs::Fronts::fronts))]
     fn append_to(&self, output: &mut Vec<u8>) -> Result<(), TlsError> {
         self.algorithm.append_to(output)?;
         append_vector(&self.signature, output)?;

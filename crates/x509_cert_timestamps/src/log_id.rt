@@ -30,6 +30,7 @@ impl TlsValue for LogId {
         Ok((LogId { key_id: *key_id }, rest))
     }
 
+    #[tactic(auto, using(crate::proofs::Fronts::fronts))]
     fn append_to(&self, output: &mut Vec<u8>) -> Result<(), TlsError> {
         output.extend_from_slice(&self.key_id)?;
         Ok(())

@@ -1,7 +1,8 @@
 //! Enumerations of one octet (RFC 5246 4.5).
 
-ghost use Rattle.std.specs.Prelude.{IfOk, IfErr, OnOk, ◌∷◌, []};
+ghost use Rattle.std.specs.Prelude.{IfOk, IfErr, OnOk, OnErr, ◌∷◌, []};
 ghost use Rattle.x509_cert_timestamps.specs.Forms.{named, Spells, FailsOn, Appends, CannotWrite};
+ghost use Rattle.x509_cert_timestamps.specs.Forms.{StillBegins};
 
 use crate::tls_error::TlsError;
 
@@ -43,10 +44,12 @@ pub(crate) fn read_named<T: Numbered>(input: &[u8]) -> Result<(T, &[u8]), TlsErr
 }
 
 /// Puts a member's octet behind others.
+#[tactic(auto, using(crate::proofs::Fronts::fronts))]
 pub(crate) fn append_named<T: Numbered>(member: &T, output: &mut Vec<u8>) -> Result<(), TlsError>
     ensures ok { OnOk result
         (Appends (named T.numbers) (T.number member.now) output.old.items output.new.items) }
     ensures err { IfErr result (λ e. CannotWrite (named T.numbers) (T.number member.now) e) }
+    ensures kept { OnErr result (StillBegins output.old.items output.new.items) }
 {
     output.push(member.to_number())?;
     Ok(())

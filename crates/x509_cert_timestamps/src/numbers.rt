@@ -1,8 +1,9 @@
 //! Numbers of more than one octet, the highest octet first (RFC 5246 4.4).
 
 ghost use Rattle.std.specs.Prelude.{◌≡◌, ◌<◌, ◌++◌, length, IsNone, IfSome, ◌↔◌, IfOk, IfErr, OnOk};
+ghost use Rattle.std.specs.Prelude.{OnErr};
 ghost use Rattle.x509_cert_timestamps.specs.Forms.{short_octets, long_octets, long, Spells};
-ghost use Rattle.x509_cert_timestamps.specs.Forms.{FailsOn, Appends, CannotWrite};
+ghost use Rattle.x509_cert_timestamps.specs.Forms.{FailsOn, Appends, CannotWrite, StillBegins};
 
 use crate::tls_error::TlsError;
 
@@ -48,10 +49,11 @@ pub(crate) fn read_long(input: &[u8]) -> Result<(u64, &[u8]), TlsError>
 }
 
 /// Puts a number of eight octets behind other octets.
-#[tactic(auto, unfolding(crate::specs::Forms::long_octets))]
+#[tactic(auto, unfolding(crate::specs::Forms::long_octets), using(crate::proofs::Fronts::fronts))]
 pub(crate) fn append_long(number: u64, output: &mut Vec<u8>) -> Result<(), TlsError>
     ensures ok { OnOk result (Appends long number output.old.items output.new.items) }
     ensures err { IfErr result (λ e. CannotWrite long number e) }
+    ensures kept { OnErr result (StillBegins output.old.items output.new.items) }
 {
     output.extend_from_slice(&number.to_be_bytes())?;
     Ok(())

@@ -36,6 +36,7 @@ impl TlsValue for SignatureAndHashAlgorithm {
         Ok((SignatureAndHashAlgorithm { hash, signature }, rest))
     }
 
+    #[tactic(auto, using(crate::proofs::Fronts::fronts))]
     fn append_to(&self, output: &mut Vec<u8>) -> Result<(), TlsError> {
         self.hash.append_to(output)?;
         self.signature.append_to(output)?;

@@ -76,6 +76,7 @@ impl TlsValue for SignedCertificateTimestamp {
         Ok((value, rest))
     }
 
+    #[tactic(auto, using(crate::proofs::Fronts::fronts))]
     fn append_to(&self, output: &mut Vec<u8>) -> Result<(), TlsError> {
         self.version.append_to(output)?;
         self.log_id.append_to(output)?;

@@ -175,3 +175,17 @@ impl AsRef<OctetString> for SignedCertificateTimestampList {
         &self.0
     }
 }
+
+impl AsMut<OctetString> for SignedCertificateTimestampList {
+    ghost use Rattle.std.specs.Borrow.{sem, Lends};
+    ghost use Rattle.der_types_values.specs.contracts.octet_string.OctetString.{the_row as inner_row};
+    ghost use Rattle.x509_cert_timestamps.specs.contracts.signed_certificate_timestamp_list.SignedCertificateTimestampList.{the_row};
+
+    fn as_mut(&mut self) -> &mut OctetString
+        ensures* writes_back { sem 𝓛 (Lends the_row inner_row self.entry result
+            (λ w. record { 0 = w })) }
+        ensures value { result.now ≡ self.old.0 }
+    {
+        &mut self.0
+    }
+}

@@ -6,9 +6,9 @@ use std::alloc::Global;
 /// A type of the presentation language of TLS (RFC 5246 4): each value has one spelling in octets,
 /// or none where a vector in it is too long.
 pub trait TlsValue: Drop {
-    ghost use Rattle.std.specs.Prelude.{◌≡◌, ◌-◌, ◌^◌, min, length, IfOk, IfErr, OnOk};
+    ghost use Rattle.std.specs.Prelude.{◌≡◌, ◌-◌, ◌^◌, min, length, IfOk, IfErr, OnOk, OnErr};
     ghost use Rattle.x509_cert_timestamps.specs.Forms.{Form, Plain, Spells, FailsOn, Appends};
-    ghost use Rattle.x509_cert_timestamps.specs.Forms.{CannotWrite, IsValue, octets};
+    ghost use Rattle.x509_cert_timestamps.specs.Forms.{CannotWrite, IsValue, StillBegins, octets};
 
     // The form of the type's octets.
     ghost form: { Form };
@@ -28,10 +28,12 @@ pub trait TlsValue: Drop {
     /// Puts the value's octets behind others.
     ///
     /// # Errors
-    /// `InvalidVectorLength` for a vector of more than 65535 octets; `OutOfMemory`.
+    /// `InvalidVectorLength` for a vector of more than 65535 octets; `OutOfMemory`. What was there
+    /// stays then, and a part of the value's octets may stand behind it.
     fn append_to(&self, output: &mut Vec<u8>) -> Result<(), TlsError>
         ensures ok { OnOk result (Appends form (plain self.now) output.old.items output.new.items) }
-        ensures err { IfErr result (λ e. CannotWrite form (plain self.now) e) };
+        ensures err { IfErr result (λ e. CannotWrite form (plain self.now) e) }
+        ensures kept { OnErr result (StillBegins output.old.items output.new.items) };
 
     /// How many octets spell the value, or `usize::MAX` if there are more.
     fn tls_serialized_len(&self) -> usize

@@ -1,8 +1,8 @@
 //! Vectors of octets with a length of two octets (RFC 5246 4.3).
 
-ghost use Rattle.std.specs.Prelude.{◌≡◌, ◌-◌, ◌^◌, min, length, IfOk, IfErr, OnOk};
+ghost use Rattle.std.specs.Prelude.{◌≡◌, ◌-◌, ◌^◌, min, length, IfOk, IfErr, OnOk, OnErr};
 ghost use Rattle.x509_cert_timestamps.specs.Forms.{vector, Spells, Refuses, FailsOn, Appends};
-ghost use Rattle.x509_cert_timestamps.specs.Forms.{CannotWrite, octets};
+ghost use Rattle.x509_cert_timestamps.specs.Forms.{CannotWrite, StillBegins, octets};
 
 use crate::numbers::split_short;
 use crate::tls_error::TlsError;
@@ -34,10 +34,11 @@ pub(crate) fn read_vector(alloc: Global, input: &[u8]) -> Result<(Vec<u8>, &[u8]
 }
 
 /// Puts a vector behind other octets.
-#[tactic(auto, unfolding(crate::specs::Forms::short_octets))]
+#[tactic(auto, unfolding(crate::specs::Forms::short_octets), using(crate::proofs::Fronts::fronts))]
 pub(crate) fn append_vector(items: &[u8], output: &mut Vec<u8>) -> Result<(), TlsError>
     ensures ok { OnOk result (Appends vector items.now output.old.items output.new.items) }
     ensures err { IfErr result (λ e. CannotWrite vector items.now e) }
+    ensures kept { OnErr result (StillBegins output.old.items output.new.items) }
 {
     if items.len() > 0xffff {
         return Err(TlsError::InvalidVectorLength);

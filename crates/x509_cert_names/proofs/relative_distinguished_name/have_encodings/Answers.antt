@@ -1,4 +1,4 @@
-use Rattle.std.proofs.Common.{◌≡◌, ◌+◌, ◌<◌, List, ◌∷◌, length, drop, Ok, Err, Result, subst, sym, arith}
+use Rattle.std.proofs.Common.{◌+◌, ◌<◌, List, ◌∷◌, length, drop, Result, subst, sym, arith}
 use Rattle.std.proofs.lemmas.List.{drop_more}
 use Rattle.std.proofs.lemmas.Result.{err_from_is_err_and}
 use Rattle.const_oid.specs.Bound.{Bound}

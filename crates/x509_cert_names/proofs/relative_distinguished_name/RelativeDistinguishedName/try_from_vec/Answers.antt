@@ -1,5 +1,4 @@
 use Rattle.std.proofs.Common.{◌≡◌, List, true, inl, sym, subst}
-use Rattle.std.specs.List.{IsDistinct}
 use Rattle.std.proofs.lemmas.Map.Keys.{IsDistinct-IsPermutation}
 use Rattle.const_oid.specs.Bound.{Bound}
 use Rattle.der_types_sets.specs.Sets.{AllValid, Ascends}

@@ -1,7 +1,7 @@
 use Rattle.std.proofs.Common.{ℕ, length, ◌≡◌, ◌+◌, min, arith, ap, sym, ◌∙◌}
 use Rattle.x509_cert_timestamps.specs.Forms.{octets, vector}
 use Rattle.x509_cert_timestamps.specs.Timestamps.{signed_form, signed_plain}
-use Rattle.x509_cert_timestamps.proofs.Lengths.{timestamp_length, saturated}
+use Rattle.x509_cert_timestamps.proofs.TimestampLengths.{timestamp_length, saturated}
 use Rattle.x509_cert_timestamps.proofs.signed_certificate_timestamp.SignedCertificateTimestampTlsValue.tls_serialized_len.Goals as goal
 
 pub returns : goal.returns

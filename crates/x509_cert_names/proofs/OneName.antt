@@ -1,0 +1,172 @@
+-- A text spells one name, where it has an encoding, and isn't refused then; each relative name has an attribute.
+use Rattle.std.proofs.Common.{◌≡◌, ℕ, ◌<◌, List, [], ◌∷◌, ◌++◌, length, reverse, Result, Ok, Err, refl, sym, ap, ◌∙◌, subst, arith, inl, inr}
+use Rattle.std.specs.Prelude.{IfOk}
+use Rattle.std.specs.List.{AllByRecursion, IsDistinct}
+use Rattle.std.specs.List.Sorted.{IsPermutation}
+use Rattle.std.proofs.lemmas.List.{reverse-append}
+use Rattle.std.proofs.lemmas.List.Sorted.{IsPermutation-reverse, IsPermutation-sym, IsPermutation-trans, length_permutation}
+use Rattle.std.proofs.lemmas.Map.Keys.{IsDistinct-IsPermutation}
+use Rattle.const_oid.specs.Bound.{Bound}
+use Rattle.der_core_head.specs.declared.error.ErrorKind.{ErrorKind}
+use Rattle.der_core_head.specs.declared.tag.Tag.TheVariants as tags
+use Rattle.der_core_head.specs.Grammar.{plain_list}
+use Rattle.der_core_head.specs.Shapes.{IsBody, IsContent, IsValid}
+use Rattle.der_types_sets.specs.Sets.{AllValid}
+use Rattle.der_types_sets.proofs.Arranged.{valid_moved}
+use Rattle.der_types_sets.proofs.LooseSteps.{ascends-plain, one_set, permutation-plain}
+use Rattle.x509_cert_name_texts.specs.Pieces.{ReadsPieces}
+use Rattle.x509_cert_names.specs.declared.attribute_type_and_value.AttributeTypeAndValue.{AttributeTypeAndValue}
+use Rattle.x509_cert_names.specs.Names.{PlainName, name, relative_name, type_and_value}
+use Rattle.x509_cert_names.specs.NameTexts.{ReadsAttribute, ReadsName, ReadsRelative}
+use Rattle.x509_cert_names.specs.Pairs.{pair_plain, relative_plain, same_pair, same_pair_equiv}
+use Rattle.x509_cert_names.specs.PlainTexts.{SpellsName}
+use Rattle.x509_cert_names.proofs.Lists.{all_more, plain_append}
+use Rattle.x509_cert_names.proofs.OneReading.{AllSame, AnyOdd, agree}
+
+-- attributes are read by a function
+same_attribute : (w : List ℕ) (a b : AttributeTypeAndValue) → ReadsAttribute Bound w (Ok a) → ReadsAttribute Bound w (Ok b) → a ≡ b
+same_attribute w a b h k = cc
+
+not_both : (w : List ℕ) (a : AttributeTypeAndValue) (e : ErrorKind) → ReadsAttribute Bound w (Ok a) → ReadsAttribute Bound w (Err e) → ⊥
+not_both w a e h k = cc
+
+all_equal : (xs ys : List AttributeTypeAndValue) → AllSame 43 (ReadsAttribute Bound) (λ a b. a ≡ b) (λ a. ⊥) xs ys → xs ≡ ys
+all_equal [] [] h = refl
+all_equal [] (y ∷ ys) h = absurd h
+all_equal (x ∷ xs) [] h = absurd h
+all_equal (x ∷ xs) (y ∷ ys) h = let more = all_equal xs ys h.1 in rw (h.0, more) refl
+
+none_odd : (xs : List AttributeTypeAndValue) → AnyOdd 43 (ReadsAttribute Bound) (λ a b. a ≡ b) (λ a. ⊥) xs → ⊥
+none_odd [] h = h
+none_odd (x ∷ xs) (inl h) = h
+none_odd (x ∷ xs) (inr h) = none_odd xs h
+
+one_members : (w : List ℕ) (xs ys : List AttributeTypeAndValue) → ReadsPieces 43 (ReadsAttribute Bound) w (Ok xs) → ReadsPieces 43 (ReadsAttribute Bound) w (Ok ys) → xs ≡ ys
+one_members w xs ys h k = all_equal xs ys (agree 43 (ReadsAttribute Bound) (λ a b. a ≡ b) (λ a. ⊥) same_attribute not_both h k)
+
+no_fault : (w : List ℕ) (xs : List AttributeTypeAndValue) (e : ErrorKind) → ReadsPieces 43 (ReadsAttribute Bound) w (Ok xs) → ReadsPieces 43 (ReadsAttribute Bound) w (Err e) → ⊥
+no_fault w xs e h k = none_odd xs (agree 43 (ReadsAttribute Bound) (λ a b. a ≡ b) (λ a. ⊥) same_attribute not_both h k)
+
+-- what each plain value has, each value has
+all_behind : {A B : Type 0} (f : A → B) (P : B → Type 0) (xs : List A) → AllByRecursion P (plain_list f xs) → AllByRecursion (λ a. P (f a)) xs
+all_behind f P [] h = tt
+all_behind f P (x ∷ xs) h = (h.0, all_behind f P xs h.1)
+
+members_valid : (r : List AttributeTypeAndValue) → IsValid (relative_name Bound) (relative_plain r) → AllByRecursion (λ a. IsValid (type_and_value Bound) a) (relative_plain r)
+unfolding IsValid IsContent IsBody
+members_valid r v = v.0.0
+
+relatives_valid : (n : List (List AttributeTypeAndValue)) → IsValid (name Bound) (plain_list relative_plain n) → AllByRecursion (λ r. IsValid (relative_name Bound) r) (plain_list relative_plain n)
+unfolding IsValid IsContent IsBody
+relatives_valid n v = v.0
+
+-- a relative name that has an encoding is the only one that the text spells, and the text isn't refused
+abbrev IsOnly : List AttributeTypeAndValue → List AttributeTypeAndValue → Type 0
+IsOnly r s = IsValid (relative_name Bound) (relative_plain r) → relative_plain r ≡ relative_plain s
+
+abbrev HasNone : List AttributeTypeAndValue → Type 0
+HasNone r = IsValid (relative_name Bound) (relative_plain r) → ⊥
+
+one_relative : (w : List ℕ) (r s : List AttributeTypeAndValue) → ReadsRelative Bound w (Ok r) → ReadsRelative Bound w (Ok s) → IsOnly r s
+one_relative w r s (ReadsRelative.set xs r1 h p a d) (ReadsRelative.set ys s1 k q b e) = λ v.
+    let back = IsPermutation-sym xs r p in
+    let there = subst (λ (zs : List AttributeTypeAndValue). IsPermutation zs s) (sym (one_members w xs ys h k)) q in
+    let moved = IsPermutation-trans r xs s back there in
+    one_set (type_and_value Bound) tags.Set 63 (relative_plain r) (relative_plain s) refl refl refl (members_valid r v)
+    (ascends-plain (type_and_value Bound) pair_plain r a) (ascends-plain (type_and_value Bound) pair_plain s b) (permutation-plain pair_plain r s moved)
+
+not_refused : (w : List ℕ) (r : List AttributeTypeAndValue) (e : ErrorKind) → ReadsRelative Bound w (Ok r) → ReadsRelative Bound w (Err e) → HasNone r
+not_refused w r e (ReadsRelative.set xs r1 h p a d) (ReadsRelative.refused e1 k) = absurd (no_fault w xs e h k)
+not_refused w r e (ReadsRelative.set xs r1 h p a d) (ReadsRelative.twice ys k none) =
+    let same = one_members w xs ys h k in
+    let distinct = IsDistinct-IsPermutation same_pair same_pair_equiv.symm r xs (IsPermutation-sym xs r p) d in
+    absurd (none (subst (λ (zs : List AttributeTypeAndValue). IsDistinct same_pair zs) same distinct))
+not_refused w r e (ReadsRelative.set xs r1 h p a d) (ReadsRelative.too_long ys k none) = λ v.
+    let same = one_members w xs ys h k in
+    let all = all_behind pair_plain (λ a. IsValid (type_and_value Bound) a) r (members_valid r v) in
+    let there = valid_moved (type_and_value Bound) pair_plain r xs (IsPermutation-sym xs r p) all in
+    none (subst (λ (zs : List AttributeTypeAndValue). AllValid (type_and_value Bound) pair_plain zs) same there)
+
+abbrev AllRight : List (List AttributeTypeAndValue) → Type 0
+AllRight n = AllByRecursion (λ r. IsValid (relative_name Bound) (relative_plain r)) n
+
+all_only : (n m : List (List AttributeTypeAndValue)) → AllSame 44 (ReadsRelative Bound) IsOnly HasNone n m → AllRight n → plain_list relative_plain n ≡ plain_list relative_plain m
+all_only [] [] h v = refl
+all_only [] (s ∷ m) h v = absurd h
+all_only (r ∷ n) [] h v = absurd h
+all_only (r ∷ n) (s ∷ m) h v =
+    let first = h.0 v.0 in
+    let more = all_only n m h.1 v.1 in
+    rw (first, more) refl
+
+none_has : (n : List (List AttributeTypeAndValue)) → AnyOdd 44 (ReadsRelative Bound) IsOnly HasNone n → AllRight n → ⊥
+none_has [] h v = h
+none_has (r ∷ n) (inl h) v = h v.0
+none_has (r ∷ n) (inr h) v = none_has n h v.1
+
+-- in turn, and the last one first
+turned : {A B : Type 0} (f : A → B) (xs : List A) → plain_list f (reverse xs) ≡ reverse (plain_list f xs)
+turned f [] = refl
+turned f (x ∷ xs) =
+    ap (plain_list f) (reverse-append (x ∷ []) xs) ∙ plain_append f (reverse xs) (x ∷ []) ∙ ap (λ zs. zs ++ f x ∷ []) (turned f xs)
+    ∙ sym (reverse-append (f x ∷ []) (plain_list f xs))
+
+right_turned : (n : List (List AttributeTypeAndValue)) → IsValid (name Bound) (plain_list relative_plain (reverse n)) → AllRight n
+right_turned n v =
+    let all = all_behind relative_plain (λ r. IsValid (relative_name Bound) r) (reverse n) (relatives_valid (reverse n) v) in
+    valid_moved (relative_name Bound) relative_plain (reverse n) n (IsPermutation-sym n (reverse n) (IsPermutation-reverse n)) all
+
+one_name : (text : List ℕ) (n m : List (List AttributeTypeAndValue)) → ReadsName Bound text (Ok n) → ReadsName Bound text (Ok m) → IsValid (name Bound) (plain_list relative_plain n)
+    → plain_list relative_plain n ≡ plain_list relative_plain m
+one_name text n m (ReadsName.empty e) (ReadsName.empty f) v = refl
+one_name text n m (ReadsName.empty e) (ReadsName.pieces s some k) v = absurd (some e)
+one_name text n m (ReadsName.pieces r some h) (ReadsName.empty e) v = absurd (some e)
+one_name text n m (ReadsName.pieces r some h) (ReadsName.pieces s other k) v =
+    let same = all_only r s (agree 44 (ReadsRelative Bound) IsOnly HasNone one_relative not_refused h k) (right_turned r v) in
+    turned relative_plain r ∙ ap (λ zs. reverse zs) same ∙ sym (turned relative_plain s)
+
+name_stands : (text : List ℕ) (n : List (List AttributeTypeAndValue)) (e : ErrorKind) → ReadsName Bound text (Ok n) → ReadsName Bound text (Err e) → IsValid (name Bound) (plain_list relative_plain n) → ⊥
+name_stands text n e (ReadsName.empty f) (ReadsName.refused d some k) v = some f
+name_stands text n e (ReadsName.pieces r some h) (ReadsName.refused d other k) v =
+    none_has r (agree 44 (ReadsRelative Bound) IsOnly HasNone one_relative not_refused h k) (right_turned r v)
+
+pub one_spelled : (text : List ℕ) (n m : PlainName) → SpellsName Bound text n → SpellsName Bound text m → IsValid (name Bound) n → n ≡ m
+one_spelled text n m h k v =
+    let P : PlainName → Type 0 = λ x. IsValid (name Bound) x in
+    h.2 ∙ one_name text h.0 k.0 h.1 k.1 (subst P h.2 v) ∙ sym k.2
+
+pub spelled_stands : (text : List ℕ) (n : PlainName) (e : ErrorKind) → SpellsName Bound text n → ReadsName Bound text (Err e) → IsValid (name Bound) n → ⊥
+spelled_stands text n e h k v =
+    let P : PlainName → Type 0 = λ x. IsValid (name Bound) x in
+    name_stands text h.0 e h.1 k (subst P h.2 v)
+
+-- a name that a text spells has an attribute in each relative name
+abbrev pub HasSome : List AttributeTypeAndValue → Type 0
+HasSome r = 0 < length r
+
+some_turned : (n : List (List AttributeTypeAndValue)) → AllByRecursion HasSome n → AllByRecursion HasSome (reverse n)
+some_turned [] h = tt
+some_turned (r ∷ n) h =
+    let more = all_more HasSome (reverse n) r (some_turned n h.1) h.0 in
+    subst (λ (m : List (List AttributeTypeAndValue)). AllByRecursion HasSome m) (sym (reverse-append (r ∷ []) n)) more
+
+some_members : (w : List ℕ) (r : Result (List AttributeTypeAndValue) ErrorKind) → ReadsPieces 43 (ReadsAttribute Bound) w r → IfOk r HasSome
+some_members w r (ReadsPieces.last t p a f h) = omega arith
+some_members w r (ReadsPieces.more t p rest a (Ok xs) f h more) = omega arith
+some_members w r (ReadsPieces.more t p rest a (Err e) f h more) = tt
+some_members w r (ReadsPieces.refused t p left e f h) = tt
+
+some_attributes : (w : List ℕ) (r : List AttributeTypeAndValue) → ReadsRelative Bound w (Ok r) → HasSome r
+some_attributes w r (ReadsRelative.set members attributes h p a d) =
+    let some = some_members w (Ok members) h in
+    omega (arith, some, length_permutation members r p)
+
+all_some : (w : List ℕ) (r : Result (List (List AttributeTypeAndValue)) ErrorKind) → ReadsPieces 44 (ReadsRelative Bound) w r → IfOk r (λ n. AllByRecursion HasSome n)
+all_some w r (ReadsPieces.last t p a f h) = (some_attributes p a h, tt)
+all_some w r (ReadsPieces.more t p rest a (Ok xs) f h more) = (some_attributes p a h, all_some rest (Ok xs) more)
+all_some w r (ReadsPieces.more t p rest a (Err e) f h more) = tt
+all_some w r (ReadsPieces.refused t p left e f h) = tt
+
+pub read_some : (w : List ℕ) (n : List (List AttributeTypeAndValue)) → ReadsName Bound w (Ok n) → AllByRecursion HasSome n
+read_some w n (ReadsName.empty e) = tt
+read_some w n (ReadsName.pieces m some h) = some_turned m (all_some w (Ok m) h)

@@ -1,0 +1,8 @@
+-- A list as the logic holds it, for clauses on what a `&mut` to one lends.
+use Rattle.std.specs.Borrow.{RattleType}
+use Rattle.std.specs.contracts.alloc.Global as global
+use Rattle.std.specs.contracts.vec.Vec as vec
+use Rattle.std.specs.contracts.impls.GlobalAllocator.TheImpl.{ghosts}
+
+abbrev pub list_row : RattleType → RattleType
+list_row member = vec.the_row member global.the_row ghosts

@@ -1,0 +1,181 @@
+//! Values that any value can be read as, and that take no memory: most of them are lent.
+
+ghost use Rattle.std.specs.Prelude.{Ok, pos};
+ghost use Rattle.const_oid.specs.Bound.{Bound};
+ghost use Rattle.der_core_head.specs.declared.tag.Tag.TheVariants as tags;
+ghost use Rattle.der_core_head.specs.Integers.{every, natural};
+ghost use Rattle.der_core_head.specs.Leaves.{bits, boolean, identifier, integer, octets, text, utf8};
+ghost use Rattle.der_core_head.specs.Leaves.{generalized_time, utc_time};
+ghost use Rattle.der_core_head.specs.Reading.{GivesNow};
+ghost use Rattle.der_core_head.specs.Texts.{any_octet};
+ghost use Rattle.der_types_any.specs.Anys.{any_lent};
+ghost use Rattle.der_types_any.specs.Contents.{leaf_as};
+ghost use Rattle.der_types_any.specs.NumberTypes.Ints.{integer_lent, natural_lent};
+ghost use Rattle.der_types_any.specs.ValueTypes.BitStrings.{bits_lent};
+ghost use Rattle.der_types_any.specs.ValueTypes.OctetStrings.{octets_lent};
+ghost use Rattle.der_types_any.specs.ValueTypes.Sequences.{fields_lent};
+
+use crate::from_any::FromAny;
+use const_oid::ObjectIdentifier;
+use der_core::Error;
+use der_types_any::number_types::{IntRef, UintRef};
+use der_types_any::text_types::{AsciiStringRef, AsciiType, GeneralStringRef, Utf8StringRef};
+use der_types_any::time_types::{DateTime, GeneralizedTime, UtcTime};
+use der_types_any::value_types::{BitStringRef, OctetStringRef, SequenceRef};
+use der_types_any::{Any, AnyRef};
+use std::alloc::Global;
+
+/// A text of a character string type whose characters are ASCII.
+impl<'a, T: AsciiType> FromAny<'a> for AsciiStringRef<'a, T> {
+    ghost any_gives = { λ a r. GivesNow (λ t. t.text.now) r
+        (leaf_as T.string_tag (text T.repertoire) a) };
+
+    fn from_any(_alloc: Global, any: &'a Any) -> Result<AsciiStringRef<'a, T>, Error> {
+        let value = AsciiStringRef::try_from(any)?;
+        Ok(value)
+    }
+}
+
+/// The value itself, lent.
+impl<'a> FromAny<'a> for AnyRef<'a> {
+    ghost any_gives = { λ a r. GivesNow any_lent r (Ok a) };
+
+    fn from_any(_alloc: Global, any: &'a Any) -> Result<AnyRef<'a>, Error> {
+        Ok(any.to_ref())
+    }
+}
+
+/// The text of a UTF8String.
+impl<'a> FromAny<'a> for &'a str {
+    ghost any_gives = { λ a r. GivesNow (λ s. s.now) r (leaf_as tags.Utf8String utf8 a) };
+
+    fn from_any(_alloc: Global, any: &'a Any) -> Result<&'a str, Error> {
+        let value = <&'a str>::try_from(any)?;
+        Ok(value)
+    }
+}
+
+/// The text of a UTF8String.
+impl<'a> FromAny<'a> for Utf8StringRef<'a> {
+    ghost any_gives = { λ a r. GivesNow (λ t. t.text.now) r (leaf_as tags.Utf8String utf8 a) };
+
+    fn from_any(_alloc: Global, any: &'a Any) -> Result<Utf8StringRef<'a>, Error> {
+        let value = Utf8StringRef::try_from(any)?;
+        Ok(value)
+    }
+}
+
+/// The octets of a GeneralString.
+impl<'a> FromAny<'a> for GeneralStringRef<'a> {
+    ghost any_gives = { λ a r. GivesNow (λ s. s.bytes.now) r
+        (leaf_as tags.GeneralString (text any_octet) a) };
+
+    fn from_any(_alloc: Global, any: &'a Any) -> Result<GeneralStringRef<'a>, Error> {
+        let value = GeneralStringRef::try_from(any)?;
+        Ok(value)
+    }
+}
+
+/// The bits of a BIT STRING.
+impl<'a> FromAny<'a> for BitStringRef<'a> {
+    ghost any_gives = { λ a r. GivesNow bits_lent r (leaf_as tags.BitString bits a) };
+
+    fn from_any(_alloc: Global, any: &'a Any) -> Result<BitStringRef<'a>, Error> {
+        let value = BitStringRef::try_from(any)?;
+        Ok(value)
+    }
+}
+
+/// The octets of an OCTET STRING.
+impl<'a> FromAny<'a> for OctetStringRef<'a> {
+    ghost any_gives = { λ a r. GivesNow octets_lent r (leaf_as tags.OctetString octets a) };
+
+    fn from_any(_alloc: Global, any: &'a Any) -> Result<OctetStringRef<'a>, Error> {
+        let value = OctetStringRef::try_from(any)?;
+        Ok(value)
+    }
+}
+
+/// The content of a SEQUENCE.
+impl<'a> FromAny<'a> for SequenceRef<'a> {
+    ghost any_gives = { λ a r. GivesNow fields_lent r (leaf_as tags.Sequence octets a) };
+
+    fn from_any(_alloc: Global, any: &'a Any) -> Result<SequenceRef<'a>, Error> {
+        let value = SequenceRef::try_from(any)?;
+        Ok(value)
+    }
+}
+
+/// The number of an INTEGER.
+impl<'a> FromAny<'a> for IntRef<'a> {
+    ghost any_gives = { λ a r. GivesNow integer_lent r (leaf_as tags.Integer (integer every) a) };
+
+    fn from_any(_alloc: Global, any: &'a Any) -> Result<IntRef<'a>, Error> {
+        let value = IntRef::try_from(any)?;
+        Ok(value)
+    }
+}
+
+/// The number of an INTEGER that isn't negative.
+impl<'a> FromAny<'a> for UintRef<'a> {
+    ghost any_gives = { λ a r. GivesNow (λ n. pos (natural_lent n)) r
+        (leaf_as tags.Integer (integer natural) a) };
+
+    fn from_any(_alloc: Global, any: &'a Any) -> Result<UintRef<'a>, Error> {
+        let value = UintRef::try_from(any)?;
+        Ok(value)
+    }
+}
+
+/// The truth value of a BOOLEAN.
+impl<'a> FromAny<'a> for bool {
+    ghost any_gives = { λ a r. GivesNow (λ b. b) r (leaf_as tags.Boolean boolean a) };
+
+    fn from_any(_alloc: Global, any: &'a Any) -> Result<bool, Error> {
+        let value = bool::try_from(any)?;
+        Ok(value)
+    }
+}
+
+/// The identifier of an OBJECT IDENTIFIER.
+impl<'a> FromAny<'a> for ObjectIdentifier<39> {
+    ghost any_gives = { λ a r. GivesNow (λ x. x) r
+        (leaf_as tags.ObjectIdentifier (identifier Bound 39) a) };
+
+    fn from_any(_alloc: Global, any: &'a Any) -> Result<ObjectIdentifier<39>, Error> {
+        let value = ObjectIdentifier::<39>::try_from(any)?;
+        Ok(value)
+    }
+}
+
+/// The time of a UTCTime.
+impl<'a> FromAny<'a> for UtcTime {
+    ghost any_gives = { λ a r. GivesNow (λ t. t) r (leaf_as tags.UtcTime utc_time a) };
+
+    fn from_any(_alloc: Global, any: &'a Any) -> Result<UtcTime, Error> {
+        let value = UtcTime::try_from(any)?;
+        Ok(value)
+    }
+}
+
+/// The time of a GeneralizedTime.
+impl<'a> FromAny<'a> for GeneralizedTime {
+    ghost any_gives = { λ a r. GivesNow (λ t. t) r
+        (leaf_as tags.GeneralizedTime generalized_time a) };
+
+    fn from_any(_alloc: Global, any: &'a Any) -> Result<GeneralizedTime, Error> {
+        let value = GeneralizedTime::try_from(any)?;
+        Ok(value)
+    }
+}
+
+/// The date of a GeneralizedTime.
+impl<'a> FromAny<'a> for DateTime {
+    ghost any_gives = { λ a r. GivesNow (λ d. d) r
+        (leaf_as tags.GeneralizedTime generalized_time a) };
+
+    fn from_any(_alloc: Global, any: &'a Any) -> Result<DateTime, Error> {
+        let value = DateTime::try_from(any)?;
+        Ok(value)
+    }
+}
