@@ -12,9 +12,9 @@ pub struct CertPolicies(u8);
 
 bitflag_items! {
     impl CertPolicies: u8 {
-        const INHIBIT_POLICY_MAPPING = 1;
-        const REQUIRE_EXPLICIT_POLICY = 2;
-        const INHIBIT_ANY_POLICY = 4;
+        const InhibitPolicyMapping = 1;
+        const RequireExplicitPolicy = 2;
+        const InhibitAnyPolicy = 4;
     }
 }
 
@@ -23,8 +23,8 @@ impl Flags for CertPolicies {
 
     ghost exact = { ⊤ };
 
-    ghost table = { (codes "INHIBIT_POLICY_MAPPING", 1) ∷ (codes "REQUIRE_EXPLICIT_POLICY", 2)
-        ∷ (codes "INHIBIT_ANY_POLICY", 4) ∷ [] };
+    ghost table = { (codes "InhibitPolicyMapping", 1) ∷ (codes "RequireExplicitPolicy", 2)
+        ∷ (codes "InhibitAnyPolicy", 4) ∷ [] };
 
     ghost set_of = { λ x. x.0 };
 

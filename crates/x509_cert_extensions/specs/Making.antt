@@ -1,8 +1,18 @@
 -- The extensions that are made of values.
-use Rattle.std.specs.Prelude.{ℕ, List, Bool}
-use Rattle.der_core_head.specs.Shapes.{Shape, Value, octets_of}
+use Rattle.std.specs.Prelude.{◌≡◌, ℕ, List, [], Bool, false, None}
+use Rattle.der_core_head.specs.declared.error.ErrorKind.{ErrorKind}
+use Rattle.der_core_head.specs.declared.error.ErrorKind.TheVariants.{OutOfMemory}
+use Rattle.der_core_head.specs.Reading.{Fails}
+use Rattle.der_core_head.specs.Shapes.{Shape, Value, IsValid, octets_of}
+use Rattle.der_core_head.specs.Writing.{write}
 use Rattle.x509_cert_policies.specs.Parts.{PlainExtension}
 
 -- the extension of an identifier whose content is the encoding of a value
 abbrev pub extension_of : List ℕ → Bool → (s : Shape) → Value s → PlainExtension
 extension_of arcs critical s v = (arcs, (critical, (octets_of s v, tt)))
+
+-- why none is made of a value: for want of memory, or for the fault with which its writing ends;
+-- of one that has an encoding, for want of memory alone
+pub record IsNotMade (s : Shape) (v : Value s) (k : ErrorKind) : Type 0 where
+  pub valid : IsValid s v → k ≡ OutOfMemory
+  pub fault : Fails k (write s v (record { written = []; room = None; failed = false }))

@@ -92,3 +92,17 @@ impl AsRef<Uint> for BaseCrlNumber {
         &self.0
     }
 }
+
+impl AsMut<Uint> for BaseCrlNumber {
+    ghost use Rattle.std.specs.Borrow.{sem, Lends};
+    ghost use Rattle.x509_cert_policies.specs.Names.NumberTypes.contracts.uint.Uint.{the_row as inner_row};
+    ghost use Rattle.x509_cert_extensions.specs.contracts.base_crl_number.BaseCrlNumber.{the_row};
+
+    fn as_mut(&mut self) -> &mut Uint
+        ensures* writes_back { sem 𝓛 (Lends the_row inner_row self.entry result
+            (λ w. record { 0 = w })) }
+        ensures value { result.now ≡ self.old.0 }
+    {
+        &mut self.0
+    }
+}

@@ -1,6 +1,6 @@
 //! Criticality.
 
-ghost use Rattle.std.specs.Prelude.{true, false, length, ◌==◌};
+ghost use Rattle.x509_cert_extensions.specs.Markings.{is_marked};
 
 use crate::authority_info_access::AuthorityInfoAccessSyntax;
 use crate::base_crl_number::BaseCrlNumber;
@@ -15,6 +15,7 @@ use crate::subject_alt_name::SubjectAltName;
 use crate::subject_directory_attributes::SubjectDirectoryAttributes;
 use crate::subject_info_access::SubjectInfoAccessSyntax;
 use crate::subject_key_identifier::SubjectKeyIdentifier;
+use const_oid::AssociatedOid;
 use x509_cert_policies::certificates::{Extension, Name};
 use x509_cert_policies::general_names::{
     AuthorityKeyIdentifier, IssuingDistributionPoint, NameConstraints,
@@ -43,7 +44,8 @@ pub trait Criticality {
 
 /// Critical where the subject has no name (RFC 5280 4.2.1.6).
 impl Criticality for SubjectAltName {
-    ghost is_critical = { λ _ subject _. length subject == 0 };
+    ghost is_critical = { λ _ subject _.
+        is_marked ⟦<SubjectAltName as AssociatedOid>⟧.oid_arcs subject };
 
     fn criticality(&self, subject: &Name, _extensions: &[Extension]) -> bool {
         subject.is_empty()
@@ -51,7 +53,8 @@ impl Criticality for SubjectAltName {
 }
 
 impl Criticality for AuthorityInfoAccessSyntax {
-    ghost is_critical = { λ _ _ _. false };
+    ghost is_critical = { λ _ subject _.
+        is_marked ⟦<AuthorityInfoAccessSyntax as AssociatedOid>⟧.oid_arcs subject };
 
     fn criticality(&self, _subject: &Name, _extensions: &[Extension]) -> bool {
         false
@@ -59,7 +62,8 @@ impl Criticality for AuthorityInfoAccessSyntax {
 }
 
 impl Criticality for AuthorityKeyIdentifier {
-    ghost is_critical = { λ _ _ _. false };
+    ghost is_critical = { λ _ subject _.
+        is_marked ⟦<AuthorityKeyIdentifier as AssociatedOid>⟧.oid_arcs subject };
 
     fn criticality(&self, _subject: &Name, _extensions: &[Extension]) -> bool {
         false
@@ -67,7 +71,8 @@ impl Criticality for AuthorityKeyIdentifier {
 }
 
 impl Criticality for BaseCrlNumber {
-    ghost is_critical = { λ _ _ _. true };
+    ghost is_critical = { λ _ subject _.
+        is_marked ⟦<BaseCrlNumber as AssociatedOid>⟧.oid_arcs subject };
 
     fn criticality(&self, _subject: &Name, _extensions: &[Extension]) -> bool {
         true
@@ -75,7 +80,8 @@ impl Criticality for BaseCrlNumber {
 }
 
 impl Criticality for BasicConstraints {
-    ghost is_critical = { λ _ _ _. true };
+    ghost is_critical = { λ _ subject _.
+        is_marked ⟦<BasicConstraints as AssociatedOid>⟧.oid_arcs subject };
 
     fn criticality(&self, _subject: &Name, _extensions: &[Extension]) -> bool {
         true
@@ -83,7 +89,8 @@ impl Criticality for BasicConstraints {
 }
 
 impl Criticality for CertificatePolicies {
-    ghost is_critical = { λ _ _ _. false };
+    ghost is_critical = { λ _ subject _.
+        is_marked ⟦<CertificatePolicies as AssociatedOid>⟧.oid_arcs subject };
 
     fn criticality(&self, _subject: &Name, _extensions: &[Extension]) -> bool {
         false
@@ -91,7 +98,8 @@ impl Criticality for CertificatePolicies {
 }
 
 impl Criticality for CrlDistributionPoints {
-    ghost is_critical = { λ _ _ _. false };
+    ghost is_critical = { λ _ subject _.
+        is_marked ⟦<CrlDistributionPoints as AssociatedOid>⟧.oid_arcs subject };
 
     fn criticality(&self, _subject: &Name, _extensions: &[Extension]) -> bool {
         false
@@ -99,7 +107,8 @@ impl Criticality for CrlDistributionPoints {
 }
 
 impl Criticality for CrlNumber {
-    ghost is_critical = { λ _ _ _. false };
+    ghost is_critical = { λ _ subject _.
+        is_marked ⟦<CrlNumber as AssociatedOid>⟧.oid_arcs subject };
 
     fn criticality(&self, _subject: &Name, _extensions: &[Extension]) -> bool {
         false
@@ -107,7 +116,8 @@ impl Criticality for CrlNumber {
 }
 
 impl Criticality for ExtendedKeyUsage {
-    ghost is_critical = { λ _ _ _. false };
+    ghost is_critical = { λ _ subject _.
+        is_marked ⟦<ExtendedKeyUsage as AssociatedOid>⟧.oid_arcs subject };
 
     fn criticality(&self, _subject: &Name, _extensions: &[Extension]) -> bool {
         false
@@ -115,7 +125,8 @@ impl Criticality for ExtendedKeyUsage {
 }
 
 impl Criticality for FreshestCrl {
-    ghost is_critical = { λ _ _ _. false };
+    ghost is_critical = { λ _ subject _.
+        is_marked ⟦<FreshestCrl as AssociatedOid>⟧.oid_arcs subject };
 
     fn criticality(&self, _subject: &Name, _extensions: &[Extension]) -> bool {
         false
@@ -123,7 +134,8 @@ impl Criticality for FreshestCrl {
 }
 
 impl Criticality for InhibitAnyPolicy {
-    ghost is_critical = { λ _ _ _. true };
+    ghost is_critical = { λ _ subject _.
+        is_marked ⟦<InhibitAnyPolicy as AssociatedOid>⟧.oid_arcs subject };
 
     fn criticality(&self, _subject: &Name, _extensions: &[Extension]) -> bool {
         true
@@ -131,7 +143,8 @@ impl Criticality for InhibitAnyPolicy {
 }
 
 impl Criticality for IssuerAltName {
-    ghost is_critical = { λ _ _ _. false };
+    ghost is_critical = { λ _ subject _.
+        is_marked ⟦<IssuerAltName as AssociatedOid>⟧.oid_arcs subject };
 
     fn criticality(&self, _subject: &Name, _extensions: &[Extension]) -> bool {
         false
@@ -139,7 +152,8 @@ impl Criticality for IssuerAltName {
 }
 
 impl Criticality for IssuingDistributionPoint {
-    ghost is_critical = { λ _ _ _. true };
+    ghost is_critical = { λ _ subject _.
+        is_marked ⟦<IssuingDistributionPoint as AssociatedOid>⟧.oid_arcs subject };
 
     fn criticality(&self, _subject: &Name, _extensions: &[Extension]) -> bool {
         true
@@ -147,7 +161,8 @@ impl Criticality for IssuingDistributionPoint {
 }
 
 impl Criticality for KeyUsage {
-    ghost is_critical = { λ _ _ _. true };
+    ghost is_critical = { λ _ subject _.
+        is_marked ⟦<KeyUsage as AssociatedOid>⟧.oid_arcs subject };
 
     fn criticality(&self, _subject: &Name, _extensions: &[Extension]) -> bool {
         true
@@ -155,7 +170,8 @@ impl Criticality for KeyUsage {
 }
 
 impl Criticality for NameConstraints {
-    ghost is_critical = { λ _ _ _. true };
+    ghost is_critical = { λ _ subject _.
+        is_marked ⟦<NameConstraints as AssociatedOid>⟧.oid_arcs subject };
 
     fn criticality(&self, _subject: &Name, _extensions: &[Extension]) -> bool {
         true
@@ -163,7 +179,8 @@ impl Criticality for NameConstraints {
 }
 
 impl Criticality for PolicyConstraints {
-    ghost is_critical = { λ _ _ _. true };
+    ghost is_critical = { λ _ subject _.
+        is_marked ⟦<PolicyConstraints as AssociatedOid>⟧.oid_arcs subject };
 
     fn criticality(&self, _subject: &Name, _extensions: &[Extension]) -> bool {
         true
@@ -171,7 +188,8 @@ impl Criticality for PolicyConstraints {
 }
 
 impl Criticality for PolicyMappings {
-    ghost is_critical = { λ _ _ _. true };
+    ghost is_critical = { λ _ subject _.
+        is_marked ⟦<PolicyMappings as AssociatedOid>⟧.oid_arcs subject };
 
     fn criticality(&self, _subject: &Name, _extensions: &[Extension]) -> bool {
         true
@@ -179,7 +197,8 @@ impl Criticality for PolicyMappings {
 }
 
 impl Criticality for PrivateKeyUsagePeriod {
-    ghost is_critical = { λ _ _ _. false };
+    ghost is_critical = { λ _ subject _.
+        is_marked ⟦<PrivateKeyUsagePeriod as AssociatedOid>⟧.oid_arcs subject };
 
     fn criticality(&self, _subject: &Name, _extensions: &[Extension]) -> bool {
         false
@@ -187,7 +206,8 @@ impl Criticality for PrivateKeyUsagePeriod {
 }
 
 impl Criticality for SubjectInfoAccessSyntax {
-    ghost is_critical = { λ _ _ _. false };
+    ghost is_critical = { λ _ subject _.
+        is_marked ⟦<SubjectInfoAccessSyntax as AssociatedOid>⟧.oid_arcs subject };
 
     fn criticality(&self, _subject: &Name, _extensions: &[Extension]) -> bool {
         false
@@ -195,7 +215,8 @@ impl Criticality for SubjectInfoAccessSyntax {
 }
 
 impl Criticality for SubjectKeyIdentifier {
-    ghost is_critical = { λ _ _ _. false };
+    ghost is_critical = { λ _ subject _.
+        is_marked ⟦<SubjectKeyIdentifier as AssociatedOid>⟧.oid_arcs subject };
 
     fn criticality(&self, _subject: &Name, _extensions: &[Extension]) -> bool {
         false
@@ -203,7 +224,8 @@ impl Criticality for SubjectKeyIdentifier {
 }
 
 impl Criticality for CrlReason {
-    ghost is_critical = { λ _ _ _. false };
+    ghost is_critical = { λ _ subject _.
+        is_marked ⟦<CrlReason as AssociatedOid>⟧.oid_arcs subject };
 
     fn criticality(&self, _subject: &Name, _extensions: &[Extension]) -> bool {
         false
@@ -212,7 +234,8 @@ impl Criticality for CrlReason {
 
 /// A non-critical extension (RFC 6962 3.3).
 impl Criticality for SignedCertificateTimestampList {
-    ghost is_critical = { λ _ _ _. false };
+    ghost is_critical = { λ _ subject _.
+        is_marked ⟦<SignedCertificateTimestampList as AssociatedOid>⟧.oid_arcs subject };
 
     fn criticality(&self, _subject: &Name, _extensions: &[Extension]) -> bool {
         false
@@ -220,7 +243,8 @@ impl Criticality for SignedCertificateTimestampList {
 }
 
 impl Criticality for SubjectDirectoryAttributes {
-    ghost is_critical = { λ _ _ _. false };
+    ghost is_critical = { λ _ subject _.
+        is_marked ⟦<SubjectDirectoryAttributes as AssociatedOid>⟧.oid_arcs subject };
 
     fn criticality(&self, _subject: &Name, _extensions: &[Extension]) -> bool {
         false

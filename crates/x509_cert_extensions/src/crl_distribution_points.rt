@@ -107,3 +107,18 @@ impl AsRef<Vec<DistributionPoint>> for CrlDistributionPoints {
         &self.0
     }
 }
+
+impl AsMut<Vec<DistributionPoint>> for CrlDistributionPoints {
+    ghost use Rattle.std.specs.Borrow.{sem, Lends};
+    ghost use Rattle.x509_cert_policies.specs.Names.Rows.{list_row};
+    ghost use Rattle.x509_cert_policies.specs.GeneralNameTypes.contracts.distribution_point.DistributionPoint.{the_row as member_row};
+    ghost use Rattle.x509_cert_extensions.specs.contracts.crl_distribution_points.CrlDistributionPoints.{the_row};
+
+    fn as_mut(&mut self) -> &mut Vec<DistributionPoint>
+        ensures* writes_back { sem 𝓛 (Lends the_row (list_row member_row) self.entry result
+            (λ w. record { 0 = w })) }
+        ensures value { result.now ≡ self.old.0 }
+    {
+        &mut self.0
+    }
+}

@@ -28,9 +28,9 @@ use x509_cert_policies::general_names::making::number_among;
 pub enum CrlReason {
     /// Nothing is said.
     Unspecified,
-    /// Another may know the key.
+    /// Someone else may know the key.
     KeyCompromise,
-    /// Another may know an authority's key.
+    /// Someone else may know an authority's key.
     CaCompromise,
     /// The subject's name or another fact of it changed.
     AffiliationChanged,
@@ -44,7 +44,7 @@ pub enum CrlReason {
     RemoveFromCRL,
     /// A privilege that it gives was withdrawn.
     PrivilegeWithdrawn,
-    /// Another may know the key of an authority of attributes.
+    /// Someone else may know the key of an authority of attributes.
     AaCompromise,
 }
 

@@ -99,3 +99,19 @@ impl AsRef<Vec<ObjectIdentifier<39>>> for ExtendedKeyUsage {
         &self.0
     }
 }
+
+impl AsMut<Vec<ObjectIdentifier<39>>> for ExtendedKeyUsage {
+    ghost use denote.Param.{number};
+    ghost use Rattle.std.specs.Borrow.{sem, Lends};
+    ghost use Rattle.const_oid.specs.contracts.object_identifier.ObjectIdentifier.{the_row as member_row};
+    ghost use Rattle.x509_cert_policies.specs.Names.Rows.{list_row};
+    ghost use Rattle.x509_cert_extensions.specs.contracts.extended_key_usage.ExtendedKeyUsage.{the_row};
+
+    fn as_mut(&mut self) -> &mut Vec<ObjectIdentifier<39>>
+        ensures* writes_back { sem 𝓛 (Lends the_row (list_row (member_row (number 39))) self.entry
+            result (λ w. record { 0 = w })) }
+        ensures value { result.now ≡ self.old.0 }
+    {
+        &mut self.0
+    }
+}

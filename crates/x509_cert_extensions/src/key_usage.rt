@@ -22,15 +22,15 @@ pub struct KeyUsages(u16);
 
 bitflag_items! {
     impl KeyUsages: u16 {
-        const DIGITAL_SIGNATURE = 1;
-        const NON_REPUDIATION = 2;
-        const KEY_ENCIPHERMENT = 4;
-        const DATA_ENCIPHERMENT = 8;
-        const KEY_AGREEMENT = 16;
-        const KEY_CERT_SIGN = 32;
-        const CRL_SIGN = 64;
-        const ENCIPHER_ONLY = 128;
-        const DECIPHER_ONLY = 256;
+        const DigitalSignature = 1;
+        const NonRepudiation = 2;
+        const KeyEncipherment = 4;
+        const DataEncipherment = 8;
+        const KeyAgreement = 16;
+        const KeyCertSign = 32;
+        const CRLSign = 64;
+        const EncipherOnly = 128;
+        const DecipherOnly = 256;
     }
 }
 
@@ -39,10 +39,10 @@ impl Flags for KeyUsages {
 
     ghost exact = { ⊤ };
 
-    ghost table = { (codes "DIGITAL_SIGNATURE", 1) ∷ (codes "NON_REPUDIATION", 2)
-        ∷ (codes "KEY_ENCIPHERMENT", 4) ∷ (codes "DATA_ENCIPHERMENT", 8)
-        ∷ (codes "KEY_AGREEMENT", 16) ∷ (codes "KEY_CERT_SIGN", 32) ∷ (codes "CRL_SIGN", 64)
-        ∷ (codes "ENCIPHER_ONLY", 128) ∷ (codes "DECIPHER_ONLY", 256) ∷ [] };
+    ghost table = { (codes "DigitalSignature", 1) ∷ (codes "NonRepudiation", 2)
+        ∷ (codes "KeyEncipherment", 4) ∷ (codes "DataEncipherment", 8)
+        ∷ (codes "KeyAgreement", 16) ∷ (codes "KeyCertSign", 32) ∷ (codes "CRLSign", 64)
+        ∷ (codes "EncipherOnly", 128) ∷ (codes "DecipherOnly", 256) ∷ [] };
 
     ghost set_of = { λ x. x.0 };
 
@@ -95,63 +95,63 @@ impl KeyUsage {
     pub fn digital_signature(&self) -> bool
         ensures { result ≡ has_bit 0 self.now.0.flags.0 }
     {
-        self.0.contains(KeyUsages::DIGITAL_SIGNATURE)
+        self.0.contains(KeyUsages::DigitalSignature)
     }
 
     /// Whether signatures with the key bind their signer.
     pub fn non_repudiation(&self) -> bool
         ensures { result ≡ has_bit 1 self.now.0.flags.0 }
     {
-        self.0.contains(KeyUsages::NON_REPUDIATION)
+        self.0.contains(KeyUsages::NonRepudiation)
     }
 
     /// Whether keys are enciphered with it.
     pub fn key_encipherment(&self) -> bool
         ensures { result ≡ has_bit 2 self.now.0.flags.0 }
     {
-        self.0.contains(KeyUsages::KEY_ENCIPHERMENT)
+        self.0.contains(KeyUsages::KeyEncipherment)
     }
 
     /// Whether data are enciphered with it.
     pub fn data_encipherment(&self) -> bool
         ensures { result ≡ has_bit 3 self.now.0.flags.0 }
     {
-        self.0.contains(KeyUsages::DATA_ENCIPHERMENT)
+        self.0.contains(KeyUsages::DataEncipherment)
     }
 
     /// Whether keys are agreed upon with it.
     pub fn key_agreement(&self) -> bool
         ensures { result ≡ has_bit 4 self.now.0.flags.0 }
     {
-        self.0.contains(KeyUsages::KEY_AGREEMENT)
+        self.0.contains(KeyUsages::KeyAgreement)
     }
 
     /// Whether certificates are signed with it.
     pub fn key_cert_sign(&self) -> bool
         ensures { result ≡ has_bit 5 self.now.0.flags.0 }
     {
-        self.0.contains(KeyUsages::KEY_CERT_SIGN)
+        self.0.contains(KeyUsages::KeyCertSign)
     }
 
     /// Whether lists of revoked certificates are signed with it.
     pub fn crl_sign(&self) -> bool
         ensures { result ≡ has_bit 6 self.now.0.flags.0 }
     {
-        self.0.contains(KeyUsages::CRL_SIGN)
+        self.0.contains(KeyUsages::CRLSign)
     }
 
     /// Whether a key that is agreed upon only enciphers.
     pub fn encipher_only(&self) -> bool
         ensures { result ≡ has_bit 7 self.now.0.flags.0 }
     {
-        self.0.contains(KeyUsages::ENCIPHER_ONLY)
+        self.0.contains(KeyUsages::EncipherOnly)
     }
 
     /// Whether a key that is agreed upon only deciphers.
     pub fn decipher_only(&self) -> bool
         ensures { result ≡ has_bit 8 self.now.0.flags.0 }
     {
-        self.0.contains(KeyUsages::DECIPHER_ONLY)
+        self.0.contains(KeyUsages::DecipherOnly)
     }
 }
 

@@ -3,7 +3,6 @@
 
 mod authority_info_access;
 mod base_crl_number;
-mod cert_digest;
 mod criticality;
 mod crl_distribution_points;
 mod crl_number;
@@ -23,7 +22,6 @@ mod to_extension;
 
 pub use authority_info_access::AuthorityInfoAccessSyntax;
 pub use base_crl_number::BaseCrlNumber;
-pub use cert_digest::{CertDigest, hash};
 pub use criticality::Criticality;
 pub use crl_distribution_points::CrlDistributionPoints;
 pub use crl_number::CrlNumber;

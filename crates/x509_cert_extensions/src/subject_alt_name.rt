@@ -107,3 +107,18 @@ impl AsRef<GeneralNames> for SubjectAltName {
         &self.0
     }
 }
+
+impl AsMut<GeneralNames> for SubjectAltName {
+    ghost use Rattle.std.specs.Borrow.{sem, Lends};
+    ghost use Rattle.x509_cert_policies.specs.Names.Rows.{list_row};
+    ghost use Rattle.x509_cert_policies.specs.GeneralNameTypes.contracts.general_name.GeneralName.{the_row as member_row};
+    ghost use Rattle.x509_cert_extensions.specs.contracts.subject_alt_name.SubjectAltName.{the_row};
+
+    fn as_mut(&mut self) -> &mut GeneralNames
+        ensures* writes_back { sem 𝓛 (Lends the_row (list_row member_row) self.entry result
+            (λ w. record { 0 = w })) }
+        ensures value { result.now ≡ self.old.0 }
+    {
+        &mut self.0
+    }
+}

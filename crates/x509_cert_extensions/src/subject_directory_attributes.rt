@@ -106,3 +106,18 @@ impl AsRef<Vec<Attribute>> for SubjectDirectoryAttributes {
         &self.0
     }
 }
+
+impl AsMut<Vec<Attribute>> for SubjectDirectoryAttributes {
+    ghost use Rattle.std.specs.Borrow.{sem, Lends};
+    ghost use Rattle.x509_cert_policies.specs.Names.Rows.{list_row};
+    ghost use Rattle.x509_cert_policies.specs.Names.contracts.attribute.Attribute.{the_row as member_row};
+    ghost use Rattle.x509_cert_extensions.specs.contracts.subject_directory_attributes.SubjectDirectoryAttributes.{the_row};
+
+    fn as_mut(&mut self) -> &mut Vec<Attribute>
+        ensures* writes_back { sem 𝓛 (Lends the_row (list_row member_row) self.entry result
+            (λ w. record { 0 = w })) }
+        ensures value { result.now ≡ self.old.0 }
+    {
+        &mut self.0
+    }
+}

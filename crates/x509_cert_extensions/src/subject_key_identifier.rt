@@ -95,3 +95,17 @@ impl AsRef<OctetString> for SubjectKeyIdentifier {
         &self.0
     }
 }
+
+impl AsMut<OctetString> for SubjectKeyIdentifier {
+    ghost use Rattle.std.specs.Borrow.{sem, Lends};
+    ghost use Rattle.x509_cert_policies.specs.Names.ValueTypes.contracts.octet_string.OctetString.{the_row as inner_row};
+    ghost use Rattle.x509_cert_extensions.specs.contracts.subject_key_identifier.SubjectKeyIdentifier.{the_row};
+
+    fn as_mut(&mut self) -> &mut OctetString
+        ensures* writes_back { sem 𝓛 (Lends the_row inner_row self.entry result
+            (λ w. record { 0 = w })) }
+        ensures value { result.now ≡ self.old.0 }
+    {
+        &mut self.0
+    }
+}

@@ -1,10 +1,8 @@
 //! ToExtension.
 
 ghost use Rattle.std.specs.Prelude.{◌≡◌, IfOk, IfErr};
-ghost use Rattle.der_core_head.specs.declared.error.ErrorKind.TheVariants.{OutOfMemory};
-ghost use Rattle.der_core_head.specs.Shapes.{IsValid};
 ghost use Rattle.x509_cert_policies.specs.Parts.{extension_plain};
-ghost use Rattle.x509_cert_extensions.specs.Making.{extension_of};
+ghost use Rattle.x509_cert_extensions.specs.Making.{extension_of, IsNotMade};
 
 use crate::criticality::Criticality;
 use const_oid::{AssociatedOid, ObjectIdentifier};
@@ -49,8 +47,7 @@ fn extension_of<T: Encode>(
 ) -> Result<Extension, Error>
     ensures made { IfOk result
         (λ e. extension_plain e ≡ extension_of identifier critical T.shape (T.written value.now)) }
-    ensures refused { IsValid T.shape (T.written value.now)
-        → IfErr result (λ e. e.kind ≡ OutOfMemory) }
+    ensures refused { IfErr result (λ e. IsNotMade T.shape (T.written value.now) e.kind) }
 {
     let content = to_der(alloc, value)?;
     let extn_value = OctetString::new(content)?;
@@ -69,8 +66,7 @@ impl<'a, T: Encode + AssociatedOid + Criticality> ToExtension for &'a T {
         (T.is_critical x.now subject extensions)
         T.shape (T.written x.now) };
 
-    // A value that has an encoding is refused for want of memory alone.
-    ghost refused = { λ x e. IsValid T.shape (T.written x.now) → e.kind ≡ OutOfMemory };
+    ghost refused = { λ x e. IsNotMade T.shape (T.written x.now) e.kind };
 
     fn to_extension(
         self,
@@ -109,7 +105,7 @@ impl<'a, T: Encode + Criticality> ToExtension for (ObjectIdentifier<39>, &'a T) 
         (T.is_critical x.1.now subject extensions)
         T.shape (T.written x.1.now) };
 
-    ghost refused = { λ x e. IsValid T.shape (T.written x.1.now) → e.kind ≡ OutOfMemory };
+    ghost refused = { λ x e. IsNotMade T.shape (T.written x.1.now) e.kind };
 
     fn to_extension(
         self,
@@ -129,7 +125,7 @@ impl<'a, T: Encode + AssociatedOid> ToExtension for (bool, &'a T) {
 
     ghost made = { λ x _ _. extension_of T.oid_arcs x.0 T.shape (T.written x.1.now) };
 
-    ghost refused = { λ x e. IsValid T.shape (T.written x.1.now) → e.kind ≡ OutOfMemory };
+    ghost refused = { λ x e. IsNotMade T.shape (T.written x.1.now) e.kind };
 
     fn to_extension(
         self,
@@ -148,7 +144,7 @@ impl<'a, T: Encode> ToExtension for (ObjectIdentifier<39>, bool, &'a T) {
 
     ghost made = { λ x _ _. extension_of x.0 x.1 T.shape (T.written x.2.now) };
 
-    ghost refused = { λ x e. IsValid T.shape (T.written x.2.now) → e.kind ≡ OutOfMemory };
+    ghost refused = { λ x e. IsNotMade T.shape (T.written x.2.now) e.kind };
 
     fn to_extension(
         self,

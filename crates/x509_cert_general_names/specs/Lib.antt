@@ -7,3 +7,4 @@ pub use Rattle.x509_cert_certificates.specs.Certificates
 pub use Rattle.x509_cert_certificates.specs.Views as CertificateViews
 pub use Rattle.x509_cert_certificates.specs.Texts
 pub use Rattle.x509_cert_certificates.specs.Names
+pub use Rattle.x509_cert_certificates.specs.PartTypes

@@ -56,7 +56,7 @@ impl HardwareModuleName {
     ) -> Result<Option<HardwareModuleName>, Error>
         // A name of another kind holds none.
         ensures other { is_of_module (other_name_plain other_name.now) ≡ false → result ≡ Ok None }
-        // One of this kind holds a module, or is refused.
+        // A name of a module holds a module, or is refused.
         ensures held { is_of_module (other_name_plain other_name.now) ≡ true → IfOk result IsSome }
         // The module that is answered is spelled by the value.
         ensures spelled { HasEncoding (other_name_plain other_name.now)

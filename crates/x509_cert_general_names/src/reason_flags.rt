@@ -12,15 +12,15 @@ pub struct Reasons(u16);
 
 bitflag_items! {
     impl Reasons: u16 {
-        const UNUSED = 1;
-        const KEY_COMPROMISE = 2;
-        const CA_COMPROMISE = 4;
-        const AFFILIATION_CHANGED = 8;
-        const SUPERSEDED = 16;
-        const CESSATION_OF_OPERATION = 32;
-        const CERTIFICATE_HOLD = 64;
-        const PRIVILEGE_WITHDRAWN = 128;
-        const AA_COMPROMISE = 256;
+        const Unused = 1;
+        const KeyCompromise = 2;
+        const CaCompromise = 4;
+        const AffiliationChanged = 8;
+        const Superseded = 16;
+        const CessationOfOperation = 32;
+        const CertificateHold = 64;
+        const PrivilegeWithdrawn = 128;
+        const AaCompromise = 256;
     }
 }
 
@@ -29,10 +29,10 @@ impl Flags for Reasons {
 
     ghost exact = { ⊤ };
 
-    ghost table = { (codes "UNUSED", 1) ∷ (codes "KEY_COMPROMISE", 2) ∷ (codes "CA_COMPROMISE", 4)
-        ∷ (codes "AFFILIATION_CHANGED", 8) ∷ (codes "SUPERSEDED", 16)
-        ∷ (codes "CESSATION_OF_OPERATION", 32) ∷ (codes "CERTIFICATE_HOLD", 64)
-        ∷ (codes "PRIVILEGE_WITHDRAWN", 128) ∷ (codes "AA_COMPROMISE", 256) ∷ [] };
+    ghost table = { (codes "Unused", 1) ∷ (codes "KeyCompromise", 2) ∷ (codes "CaCompromise", 4)
+        ∷ (codes "AffiliationChanged", 8) ∷ (codes "Superseded", 16)
+        ∷ (codes "CessationOfOperation", 32) ∷ (codes "CertificateHold", 64)
+        ∷ (codes "PrivilegeWithdrawn", 128) ∷ (codes "AaCompromise", 256) ∷ [] };
 
     ghost set_of = { λ x. x.0 };
 

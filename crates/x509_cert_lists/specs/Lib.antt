@@ -5,3 +5,4 @@ pub use Rattle.x509_cert_general_names.specs.Parts
 pub use Rattle.x509_cert_general_names.specs.Certificates
 pub use Rattle.x509_cert_general_names.specs.CertificateViews
 pub use Rattle.x509_cert_general_names.specs.Texts
+pub use Rattle.x509_cert_general_names.specs.Names

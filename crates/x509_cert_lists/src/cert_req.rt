@@ -4,7 +4,7 @@ ghost use Rattle.std.specs.Prelude.{◌≡◌, ◌≢◌, [], IfOk, IfErr, refl}
 ghost use Rattle.const_oid.specs.Bound.{Bound};
 ghost use Rattle.der_core_head.specs.declared.error.ErrorKind.TheVariants.{OutOfMemory};
 ghost use Rattle.der_core_head.specs.declared.tag.Tag.TheVariants.{Sequence};
-ghost use Rattle.der_core_head.specs.Grammar.{whole_at};
+ghost use Rattle.der_core_head.specs.Grammar.{read_whole};
 ghost use Rattle.der_core_head.specs.Reading.{Gives};
 ghost use Rattle.der_core_head.specs.Shapes.{nested, Spells, Value};
 ghost use Rattle.x509_cert_lists.specs.Grammar.{cert_req, cert_req_fields};
@@ -131,7 +131,7 @@ impl CertReq {
             → Spells (cert_req Bound) r bytes.now → ⊥) }
         // Which fault it is.
         ensures exact { Gives (λ r. (cert_req_plain r, [])) result
-            (whole_at (cert_req Bound) bytes.now) }
+            (read_whole (cert_req Bound) bytes.now) }
     {
         from_der(alloc, bytes)
     }

@@ -11,9 +11,10 @@ use crate::tbs_cert_list::TbsCertList;
 use der_core::making::read_fields;
 use der_core::{
     ApartValue, AsReadValue, DecodeFields, DecodeValue, EncodeFields, EncodeRef, EncodeValue,
-    Error, Fields, FixedTag, Header, Length, Reader, ShapedValue, Tag, Writer,
+    Error, Fields, FieldsOrd, FixedTag, Header, Length, Reader, ShapedValue, Tag, ValueOrd, Writer,
 };
 use std::alloc::Global;
+use std::cmp::Ordering;
 use x509_cert_general_names::certificates::{AlgorithmIdentifier, BitString, Profile, Rfc5280};
 
 /// A list of revoked certificates (RFC 5280 5.1).
@@ -124,4 +125,12 @@ impl<P: Profile> ApartValue for CertificateList<P> {
 
 impl<P: Profile> AsReadValue for CertificateList<P> {
     ghost as_read_value = { λ _. refl };
+}
+
+/// Field after field.
+impl<P: Profile> ValueOrd for CertificateList<P> {
+    #[tactic(auto, unfolding(der_core_head::specs::Shapes::contents, der_core_head::specs::Shapes::IsContent))]
+    fn value_cmp(&self, other: &Self) -> Result<Ordering, Error> {
+        self.row().fields_cmp(&other.row())
+    }
 }

@@ -116,6 +116,21 @@ impl AsRef<Vec<Extension>> for ExtensionReq {
     }
 }
 
+impl AsMut<Vec<Extension>> for ExtensionReq {
+    ghost use Rattle.std.specs.Borrow.{sem, Lends};
+    ghost use Rattle.x509_cert_general_names.specs.Names.Rows.{list_row};
+    ghost use Rattle.x509_cert_general_names.specs.PartTypes.contracts.extension.Extension.{the_row as member_row};
+    ghost use Rattle.x509_cert_lists.specs.contracts.extension_req.ExtensionReq.{the_row};
+
+    fn as_mut(&mut self) -> &mut Vec<Extension>
+        ensures* writes_back { sem 𝓛 (Lends the_row (list_row member_row) self.entry result
+            (λ w. record { 0 = w })) }
+        ensures value { result.now ≡ self.old.0 }
+    {
+        &mut self.0
+    }
+}
+
 /// What a request for extensions is made into.
 pub trait TryFromExtensionReq: Sized {
     /// What stands for the request.

@@ -10,9 +10,10 @@ ghost use Rattle.x509_cert_lists.specs.Views.{revoked_cert_plain};
 use der_core::making::read_fields;
 use der_core::{
     ApartValue, AsReadValue, DecodeFields, DecodeValue, EncodeFields, EncodeRef, EncodeValue,
-    Error, Fields, FixedTag, Header, Length, Reader, ShapedValue, Tag, Writer,
+    Error, Fields, FieldsOrd, FixedTag, Header, Length, Reader, ShapedValue, Tag, ValueOrd, Writer,
 };
 use std::alloc::Global;
+use std::cmp::Ordering;
 use x509_cert_general_names::certificates::{Extensions, Profile, Rfc5280, SerialNumber, Time};
 
 /// A certificate that was revoked (RFC 5280 5.1.2.6). A list of no extensions is read.
@@ -119,4 +120,12 @@ impl<P: Profile> ApartValue for RevokedCert<P> {
 
 impl<P: Profile> AsReadValue for RevokedCert<P> {
     ghost as_read_value = { λ _. refl };
+}
+
+/// Field after field.
+impl<P: Profile> ValueOrd for RevokedCert<P> {
+    #[tactic(auto, unfolding(der_core_head::specs::Shapes::contents, der_core_head::specs::Shapes::IsContent))]
+    fn value_cmp(&self, other: &Self) -> Result<Ordering, Error> {
+        self.row().fields_cmp(&other.row())
+    }
 }

@@ -11,9 +11,11 @@ use crate::revoked_cert::RevokedCert;
 use der_core::making::{explicit_of, explicit_ref, read_fields};
 use der_core::{
     ApartValue, AsReadValue, DecodeFields, DecodeValue, EncodeFields, EncodeRef, EncodeValue,
-    Error, Explicit, Fields, FixedTag, Header, Length, Reader, ShapedValue, Tag, Writer,
+    Error, Explicit, Fields, FieldsOrd, FixedTag, Header, Length, Reader, ShapedValue, Tag,
+    ValueOrd, Writer,
 };
 use std::alloc::Global;
+use std::cmp::Ordering;
 use x509_cert_general_names::certificates::{
     AlgorithmIdentifier, Extensions, Name, Profile, Rfc5280, Time, Version,
 };
@@ -194,4 +196,12 @@ impl<P: Profile> ApartValue for TbsCertList<P> {
 
 impl<P: Profile> AsReadValue for TbsCertList<P> {
     ghost as_read_value = { λ _. refl };
+}
+
+/// Field after field.
+impl<P: Profile> ValueOrd for TbsCertList<P> {
+    #[tactic(auto, unfolding(der_core_head::specs::Shapes::contents, der_core_head::specs::Shapes::IsContent))]
+    fn value_cmp(&self, other: &Self) -> Result<Ordering, Error> {
+        self.row().fields_cmp(&other.row())
+    }
 }

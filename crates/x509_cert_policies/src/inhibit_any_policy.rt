@@ -97,3 +97,16 @@ impl AsRef<u32> for InhibitAnyPolicy {
         &self.0
     }
 }
+
+impl AsMut<u32> for InhibitAnyPolicy {
+    ghost use Rattle.std.specs.Borrow.{sem, Lends, u32};
+    ghost use Rattle.x509_cert_policies.specs.contracts.inhibit_any_policy.InhibitAnyPolicy.{the_row};
+
+    fn as_mut(&mut self) -> &mut u32
+        ensures* writes_back { sem 𝓛 (Lends the_row u32 self.entry result
+            (λ w. record { 0 = w })) }
+        ensures value { result.now ≡ self.old.0 }
+    {
+        &mut self.0
+    }
+}

@@ -98,3 +98,18 @@ impl AsRef<Vec<PolicyMapping>> for PolicyMappings {
         &self.0
     }
 }
+
+impl AsMut<Vec<PolicyMapping>> for PolicyMappings {
+    ghost use Rattle.std.specs.Borrow.{sem, Lends};
+    ghost use Rattle.x509_cert_general_names.specs.Names.Rows.{list_row};
+    ghost use Rattle.x509_cert_policies.specs.contracts.policy_mapping.PolicyMapping.{the_row as member_row};
+    ghost use Rattle.x509_cert_policies.specs.contracts.policy_mappings.PolicyMappings.{the_row};
+
+    fn as_mut(&mut self) -> &mut Vec<PolicyMapping>
+        ensures* writes_back { sem 𝓛 (Lends the_row (list_row member_row) self.entry result
+            (λ w. record { 0 = w })) }
+        ensures value { result.now ≡ self.old.0 }
+    {
+        &mut self.0
+    }
+}
