@@ -5,7 +5,7 @@ use Rattle.der_core_head.specs.Bounds.{IsValidUnder, identifiers_of, AreBelow}
 use Rattle.der_core_head.specs.Shapes.{BodyValue, Value, IsValid, Spells, octets_of, sequence}
 use Rattle.der_core_head.proofs.Families.{Family, spelled_exactly}
 use Rattle.x509_cert_anchors.specs.Grammar.{trust_anchor_choice}
-use Rattle.x509_cert_lists.specs.Grammar.{certificate_list_fields, cert_req}
+use Rattle.x509_cert_list_builders.specs.ListGrammar.{certificate_list_fields, cert_req}
 
 -- Lists
 

@@ -1,8 +1,8 @@
 //! Certificates and their profiles (RFC 5280 4.1).
 
 pub use x509_cert_list_builders::types::certificates::{
-    Certificate, CertificateInner, Profile, Raw, Rfc5280, TbsCertificate, TbsCertificateInner,
-    Version,
+    CertDigest, Certificate, CertificateInner, Profile, Raw, Rfc5280, TbsCertificate,
+    TbsCertificateInner, Version,
 };
 
 /// Certificates, each of which signs the next one (X.509 7.7, RFC 6066 10.1). Nothing says so of a

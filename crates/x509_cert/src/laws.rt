@@ -7,7 +7,7 @@ ghost use Rattle.std.specs.Prelude.{◌≤◌, ◌↔◌, ℕ, List, Option, Non
 ghost use Rattle.der_core_head.specs.Bounds.{identifiers_of, AreBelow};
 ghost use Rattle.der_core_head.specs.Shapes.{BodyValue, Value, Spells, sequence};
 ghost use Rattle.x509_cert_anchors.specs.Grammar.{trust_anchor_choice};
-ghost use Rattle.x509_cert_lists.specs.Grammar.{certificate_list_fields, cert_req};
+ghost use Rattle.x509_cert_list_builders.specs.ListGrammar.{certificate_list_fields, cert_req};
 
 pub use x509_cert_anchors::laws::{
     certificates_are_apart, dates_by_profile, identifiers_stand_in_turn,

@@ -19,12 +19,13 @@ pub use certificate::PkiPath;
 // Certificates.
 pub use x509_cert_list_builders::types::certificates::{
     AlgorithmIdentifier, AlgorithmIdentifierRef, Any, AnyRef, Attribute, AttributeType,
-    AttributeTypeAndValue, AttributeValue, Attributes, BitString, Certificate, CertificateInner,
-    DateTime, DirectoryString, DistinguishedName, Extension, Extensions, ExtensionsOf, FlagSet,
-    FromAny, GeneralizedTime, Ia5String, Name, NameIter, NamedBits, OctetString, Profile, Raw,
-    RdnSequence, RdnSequenceIter, RelativeDistinguishedName, RelativeNameIter, Rfc5280,
-    SerialNumber, SetOfVec, SubjectPublicKeyInfo, SubjectPublicKeyInfoRef, TbsCertificate,
-    TbsCertificateInner, Time, Uint, UtcTime, Validity, Version, filter_extensions, get_extension,
+    AttributeTypeAndValue, AttributeValue, Attributes, BitString, CertDigest, Certificate,
+    CertificateInner, DateTime, DirectoryString, DistinguishedName, Extension, Extensions,
+    ExtensionsOf, FlagSet, FromAny, GeneralizedTime, Ia5String, Name, NameIter, NamedBits,
+    OctetString, Profile, Raw, RdnSequence, RdnSequenceIter, RelativeDistinguishedName, Rfc5280,
+    SerialNumber, SetOfIter, SetOfVec, SubjectPublicKeyInfo, SubjectPublicKeyInfoRef,
+    TbsCertificate, TbsCertificateInner, Time, Uint, UtcTime, Validity, Version, filter_extensions,
+    get_extension,
 };
 
 // Contents of extensions.
@@ -39,10 +40,10 @@ pub use x509_cert_list_builders::types::policies::{
     PrivateKeyUsagePeriod, UserNotice,
 };
 pub use x509_cert_list_builders::types::{
-    AuthorityInfoAccessSyntax, BaseCrlNumber, CertDigest, Criticality, CrlDistributionPoints,
-    CrlNumber, CrlReason, ExtendedKeyUsage, FreshestCrl, IssuerAltName, KeyUsage, KeyUsages,
-    SubjectAltName, SubjectDirectoryAttributes, SubjectInfoAccessSyntax, SubjectKeyIdentifier,
-    ToExtension, TryFromKey, hash, timestamps,
+    AuthorityInfoAccessSyntax, BaseCrlNumber, Criticality, CrlDistributionPoints, CrlNumber,
+    CrlReason, ExtendedKeyUsage, FreshestCrl, IssuerAltName, KeyUsage, KeyUsages, SubjectAltName,
+    SubjectDirectoryAttributes, SubjectInfoAccessSyntax, SubjectKeyIdentifier, ToExtension,
+    TryFromKey, timestamps,
 };
 
 // Lists, requests and anchors.

@@ -1,6 +1,6 @@
-mod Encodable
+pub mod Encodable
 pub mod Faults
-mod Lists
+pub mod Lists
 mod Modules
 mod NamingSteps
 mod ShortArcs

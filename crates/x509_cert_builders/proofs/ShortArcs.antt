@@ -5,7 +5,6 @@ use Rattle.const_oid.specs.Bound.{Bound}
 use Rattle.const_oid.specs.IdentifierOctets.{arc_octets, read_arcs, read_identifier, with_arc}
 use Rattle.const_oid.proofs.EncodingLaws.{arc_octets-one}
 use Rattle.const_oid.proofs.IdentifierLaws.{read_arcs-arcs}
-use Rattle.x509_cert_builders.specs.Profiles.{id_kp}
 
 abbrev AreShort : List ℕ → Type 0
 AreShort arcs = AllByRecursion (λ n. n < 128) arcs
@@ -22,9 +21,5 @@ within (a ∷ arcs) h = (omega (arith, h.0), within arcs h.1)
 short_arcs : (arcs : List ℕ) → AreShort arcs → read_arcs Bound 0 arcs ≡ Ok arcs
 short_arcs arcs h = ap (λ w. read_arcs Bound 0 w) (sym (short_octets arcs h)) ∙ read_arcs-arcs Bound arcs (within arcs h)
 
-pub read_standard : (n : ℕ) → n < 128 → read_identifier Bound 39 (85 ∷ 29 ∷ n ∷ []) ≡ Ok (2 ∷ 5 ∷ 29 ∷ n ∷ [])
-read_standard n h = ap (λ r. with_arc 2 (with_arc 5 r)) (short_arcs (29 ∷ n ∷ []) (omega arith, (h, tt)))
-
-pub read_purpose : (n : ℕ) → n < 128 → read_identifier Bound 39 (43 ∷ 6 ∷ 1 ∷ 5 ∷ 5 ∷ 7 ∷ 3 ∷ n ∷ []) ≡ Ok (id_kp n)
-read_purpose n h =
-    ap (λ r. with_arc 1 (with_arc 3 r)) (short_arcs (6 ∷ 1 ∷ 5 ∷ 5 ∷ 7 ∷ 3 ∷ n ∷ []) (omega arith, (omega arith, (omega arith, (omega arith, (omega arith, (omega arith, (h, tt))))))))
+pub read_x500 : (m n : ℕ) → m < 128 → n < 128 → read_identifier Bound 39 (85 ∷ m ∷ n ∷ []) ≡ Ok (2 ∷ 5 ∷ m ∷ n ∷ [])
+read_x500 m n g h = ap (λ r. with_arc 2 (with_arc 5 r)) (short_arcs (m ∷ n ∷ []) (g, (h, tt)))

@@ -1,6 +1,6 @@
 -- Signed parts: whether they have an encoding, and the octets at their place.
-use Rattle.std.proofs.Common.{◌≡◌, List, [], ◌∷◌, ℕ, Bool, true, false, Option, Some, None, take, drop, refl, ap, ◌∙◌, subst, arith, inl, inr, lit<, lit≤}
-use Rattle.std.specs.Prelude.{pos, nat_lt, if◌then◌else◌}
+use Rattle.std.proofs.Common.{◌≡◌, List, [], ◌∷◌, ℕ, Bool, true, false, Option, Some, None, take, drop, refl, ap, subst, arith, inl, inr, lit<}
+use Rattle.std.specs.Prelude.{nat_lt, if◌then◌else◌}
 use Rattle.std.proofs.lemmas.Bool.{ltb-false}
 use Rattle.const_oid.specs.Bound.{Bound}
 use Rattle.const_oid.specs.Digits.{digits, digits_within}
@@ -9,7 +9,7 @@ use Rattle.der_core_head.specs.Grammar.{plain_option}
 use Rattle.der_core_head.specs.Heads.{tlv, head_octets, length_octets}
 use Rattle.der_core_head.specs.Integers.{integer_octets}
 use Rattle.der_core_head.specs.Ranges.{IsInRange}
-use Rattle.der_core_head.specs.Shapes.{IsBody, IsContent, IsValid, Shape, Value, body_octets, contents, explicit, octets_of, defaulted}
+use Rattle.der_core_head.specs.Shapes.{IsBody, IsContent, IsValid, body_octets, contents, explicit, octets_of, defaulted}
 use Rattle.der_core_head.specs.Tags.{tag_octets}
 use Rattle.x509_cert_extensions.specs.Certificates.{PlainCertificate, Tbs, certificate_octets, raw_tbs_certificate, signed_length, signed_start, tbs, tbs_certificate, tbs_validity}
 use Rattle.x509_cert_extensions.specs.Parts.{Algorithm, PlainExtension, PlainTime, algorithm_plain, extensions_plain, false_by_default, time, version}

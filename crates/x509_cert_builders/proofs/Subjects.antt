@@ -1,24 +1,19 @@
 -- Subjects of subscribers, relative name by relative name.
-use Rattle.std.proofs.Common.{◌≡◌, ℕ, List, [], ◌∷◌, ◌++◌, length, map, Bool, true, false, refl, sym, ap, ◌∙◌, subst, append_assoc, arith}
-use Rattle.std.specs.Prelude.{⊤, if◌then◌else◌, ◌&&◌, ◌==◌}
-use Rattle.std.specs.List.{list_all}
+use Rattle.std.proofs.Common.{◌≡◌, List, [], ◌∷◌, ◌++◌, length, map, Bool, true, false, refl, sym, ap, ◌∙◌, subst, append_assoc, arith}
+use Rattle.std.specs.Prelude.{if◌then◌else◌, ◌&&◌, ◌==◌}
+use Rattle.std.specs.List.{AllByRecursion, IsDistinct, list_all}
 use Rattle.std.specs.List.Sorted.{IsPermutation}
-use Rattle.std.proofs.lemmas.Bool.{eqb-true}
+use Rattle.std.proofs.lemmas.Bool.{and_parts, eqb-true}
 use Rattle.std.proofs.lemmas.List.{append-nil}
 use Rattle.std.proofs.lemmas.List.Sorted.{IsPermutation-map, IsPermutation-refl, length_permutation}
 use Rattle.der_core_head.specs.Grammar.{plain_list}
 use Rattle.x509_cert_extensions.specs.Parts.{PlainName}
 use Rattle.x509_cert_builders.specs.Naming.{TypeAndValue}
-use Rattle.x509_cert_builders.specs.Subscribers.{SameAttributes, all_stays, before, domain_subject, left_of, may_stay, stays}
+use Rattle.x509_cert_builders.specs.Subscribers.{KeepsDistinct, SameAttributes, all_stays, before, domain_subject, left_of, may_stay, stays}
 
 plain_map : {A B : Type 0} (f : A → B) (xs : List A) → map f xs ≡ plain_list f xs
 plain_map f [] = refl
 plain_map f (x ∷ xs) = ap (λ ys. f x ∷ ys) (plain_map f xs)
-
-both : (b c : Bool) → (b && c) ≡ true → (b ≡ true) × (c ≡ true)
-both true true e = (refl, refl)
-both true false e = absurd cc
-both false c e = absurd cc
 
 -- members in another order have their values in another order
 pub plain_permutation : {A B : Type 0} (f : A → B) (xs ys : List A) → IsPermutation xs ys → IsPermutation (plain_list f xs) (plain_list f ys)
@@ -35,11 +30,29 @@ pub left_same : (kept : List TypeAndValue) (a : TypeAndValue) (more whole : List
     → kept ++ left_of (a ∷ more) ≡ whole → may_stay a ≡ false → kept ++ left_of more ≡ whole
 left_same kept a more whole e h = ap (λ (b : Bool). kept ++ (if b then a ∷ left_of more else left_of more)) (sym h) ∙ e
 
+-- no two of the attributes that were kept and of those that are left are the same
+all_without : {A : Type 0} (V : A → Type 0) (xs : List A) (a : A) (ys : List A) → AllByRecursion V (xs ++ a ∷ ys) → AllByRecursion V (xs ++ ys)
+all_without V [] a ys h = h.1
+all_without V (x ∷ xs) a ys h = (h.0, all_without V xs a ys h.1)
+
+distinct_without : {A : Type 0} (same : A → A → Bool) (xs : List A) (a : A) (ys : List A) → IsDistinct same (xs ++ a ∷ ys) → IsDistinct same (xs ++ ys)
+unfolding IsDistinct
+distinct_without same [] a ys d = d.1
+distinct_without same (x ∷ xs) a ys d = (all_without (λ y. same x y ≡ false) xs a ys d.0, distinct_without same xs a ys d.1)
+
+pub distinct_more : {A : Type 0} (whole kept : List A) (a : A) (more : List A)
+    → KeepsDistinct whole (kept ++ a ∷ more) → KeepsDistinct whole ((kept ++ a ∷ []) ++ more)
+distinct_more whole kept a more h = λ same d. subst (IsDistinct same) (sym (append_assoc kept (a ∷ []) more)) (h same d)
+
+pub distinct_same : {A : Type 0} (whole kept : List A) (a : A) (more : List A)
+    → KeepsDistinct whole (kept ++ a ∷ more) → KeepsDistinct whole (kept ++ more)
+distinct_same whole kept a more h = λ same d. distinct_without same kept a more (h same d)
+
 -- a relative name all of which stays is left as it is
 left_whole_same : (r : List TypeAndValue) → list_all may_stay r ≡ true → left_of r ≡ r
 left_whole_same [] e = refl
 left_whole_same (a ∷ r) e =
-    let first = both (may_stay a) (list_all may_stay r) e in
+    let first = and_parts (may_stay a) (list_all may_stay r) e in
     ap (λ (b : Bool). if b then a ∷ left_of r else left_of r) first.0 ∙ ap (λ w. a ∷ w) (left_whole_same r first.1)
 
 pub left_whole : (r s : List TypeAndValue) → list_all may_stay r ≡ true → s ≡ r → IsPermutation (left_of r) s
@@ -61,9 +74,9 @@ same_joined (x ∷ xs) [] r s h p = absurd h
 same_joined (x ∷ xs) (y ∷ ys) r s h p = (h.0, same_joined xs ys r s h.1 p)
 
 stays_joined : (m : PlainName) (r : List TypeAndValue) → all_stays (m ++ r ∷ []) ≡ true → (all_stays m ≡ true) × (stays r ≡ true)
-stays_joined [] r e = (refl, (both (stays r) true e).0)
+stays_joined [] r e = (refl, (and_parts (stays r) true e).0)
 stays_joined (x ∷ xs) r e =
-    let first = both (stays x) (all_stays (xs ++ r ∷ [])) e in
+    let first = and_parts (stays x) (all_stays (xs ++ r ∷ [])) e in
     let rest = stays_joined xs r first.1 in
     (ap (λ b. b && all_stays xs) first.0 ∙ rest.0, rest.1)
 
@@ -103,8 +116,8 @@ pub left_none : (n : PlainName) → IsLeft n [] n
 left_none n = record { seen = []; whole = refl; same = tt; stay = λ e. refl }
 
 last_stays : (m : PlainName) (r : List TypeAndValue) (more : PlainName) → all_stays (m ++ r ∷ more) ≡ true → stays r ≡ true
-last_stays [] r more e = (both (stays r) (all_stays more) e).0
-last_stays (x ∷ xs) r more e = last_stays xs r more (both (stays x) (all_stays (xs ++ r ∷ more)) e).1
+last_stays [] r more e = (and_parts (stays r) (all_stays more) e).0
+last_stays (x ∷ xs) r more e = last_stays xs r more (and_parts (stays x) (all_stays (xs ++ r ∷ more)) e).1
 
 -- where all of the name stays, all of the next relative name does
 pub next_stays : (n kept more : PlainName) (r : List TypeAndValue) → IsLeft n kept (r ∷ more) → all_stays n ≡ true → list_all may_stay r ≡ true

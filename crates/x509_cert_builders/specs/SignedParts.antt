@@ -1,5 +1,5 @@
 -- What a builder of certificates signs (RFC 5280 4.1.2).
-use Rattle.std.specs.Prelude.{ℕ, ℤ, pos, List, [], ◌∷◌, Bool, true, false, Option, Some, None}
+use Rattle.std.specs.Prelude.{ℤ, pos, List, [], ◌∷◌, Bool, true, false, Option, Some, None}
 use Rattle.std.specs.Prelude.{if◌then◌else◌}
 use Rattle.const_oid.specs.Bound.{Bound}
 use Rattle.der_core_head.specs.Ranges.{IsInRange}

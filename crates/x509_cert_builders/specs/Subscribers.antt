@@ -1,6 +1,6 @@
 -- Subscribers (CA/Browser Forum, Baseline Requirements 7.1.2.7).
-use Rattle.std.specs.Prelude.{⊤, List, [], ◌∷◌, Bool, true, false, Result, Ok, Err, if◌then◌else◌}
-use Rattle.std.specs.List.{list_all}
+use Rattle.std.specs.Prelude.{⊤, List, [], ◌∷◌, Bool, false, Result, Ok, Err, if◌then◌else◌}
+use Rattle.std.specs.List.{IsDistinct, list_all}
 use Rattle.std.specs.List.Sorted.{IsPermutation}
 use Rattle.x509_cert_extensions.specs.Parts.{PlainName, name_plain}
 use Rattle.x509_cert_builders.specs.Naming.{TypeAndValue, common_name, country, is_among}
@@ -15,6 +15,11 @@ type_subject (types.DomainValidated v) = Ok (name_plain v.subject)
 type_subject types.IndividualValidated = Err errors.Unsupported
 type_subject types.OrganizationValidated = Err errors.Unsupported
 type_subject types.ExtendedValidation = Err errors.Unsupported
+
+-- whatever makes two values the same: where no two of the whole are, no two of these are
+abbrev pub KeepsDistinct : {A : Type 0} → List A → List A → Type 0
+KeepsDistinct {A} whole these =
+    (same : A → A → Bool) → IsDistinct same whole → IsDistinct same these
 
 -- whether the subject of a subscriber whose domains were validated may have an attribute: it is a
 -- country or a common name (7.1.2.7.2)

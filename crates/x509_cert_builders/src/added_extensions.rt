@@ -12,7 +12,7 @@ ghost use Rattle.x509_cert_builders.specs.Profiles.{usage_extension};
 ghost use Rattle.x509_cert_builders.specs.Refusals.{IsWantOfMemory};
 
 use crate::error::Error;
-use crate::identifiers::standard;
+use crate::identifiers::x500;
 use crate::uses::purposes_of;
 use der_core::{Encode, Fields};
 use std::alloc::Global;
@@ -38,7 +38,7 @@ pub(crate) fn add<T: Encode + Criticality>(
         (extensions_plain extensions.old.items)) T.shape (T.written value.now) ∷ []) }
     ensures refused { IsValid T.shape (T.written value.now) → IfErr result IsWantOfMemory }
 {
-    let named = (standard(number), value);
+    let named = (x500(29, number), value);
     let extension = named.to_extension(alloc, subject, extensions.as_slice())?;
     extensions.push(extension)?;
     Ok(())

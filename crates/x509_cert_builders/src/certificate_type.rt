@@ -1,13 +1,15 @@
 //! Kinds of subscribers.
 
-ghost use Rattle.std.specs.Prelude.{◌≡◌, ◌∷◌, [], true, Ok, IsOk, IfOk, IfErr};
+ghost use Rattle.std.specs.Prelude.{◌≡◌, ◌⊎◌, ◌∷◌, [], true, Ok, IsOk, IfOk, IfErr};
 ghost use Rattle.std.specs.List.{list_all};
 ghost use Rattle.std.specs.List.Sorted.{IsPermutation};
 ghost use Rattle.x509_cert_extensions.specs.Parts.{name_plain, relative_plain};
 ghost use Rattle.x509_cert_builders.specs.Naming.{common_name, country, is_among};
-ghost use Rattle.x509_cert_builders.specs.Refusals.{IsWantOfMemory};
-ghost use Rattle.x509_cert_builders.specs.Subscribers.{SameAttributes, all_stays, domain_subject};
-ghost use Rattle.x509_cert_builders.specs.Subscribers.{left_of, may_stay, type_subject};
+ghost use Rattle.der_core_head.specs.declared.error.ErrorKind.TheVariants.{Overflow};
+ghost use Rattle.x509_cert_builders.specs.Refusals.{IsOfKind, IsWantOfMemory};
+ghost use Rattle.x509_cert_builders.specs.Subscribers.{KeepsDistinct, SameAttributes, all_stays};
+ghost use Rattle.x509_cert_builders.specs.Subscribers.{domain_subject, left_of, may_stay};
+ghost use Rattle.x509_cert_builders.specs.Subscribers.{type_subject};
 
 use crate::attribute_types as types;
 use crate::domain_validated::DomainValidated;
@@ -40,11 +42,11 @@ fn may_stay(oid: &ObjectIdentifier<39>) -> bool
     *oid == types::country() || *oid == types::common_name()
 }
 
-/// Whether all of a relative name stays.
-fn all_stay(relative: &RelativeDistinguishedName) -> bool
-    ensures { result ≡ list_all may_stay (relative_plain relative.now) }
+/// Whether all of these attributes stay.
+fn all_stay(attributes: &[AttributeTypeAndValue]) -> bool
+    ensures { result ≡ list_all may_stay (relative_plain attributes.now) }
 {
-    for attribute in relative.iter() {
+    for attribute in attributes {
         if !may_stay(&attribute.oid) {
             return false;
         }
@@ -53,20 +55,22 @@ fn all_stay(relative: &RelativeDistinguishedName) -> bool
 }
 
 /// The attributes of a relative name that stay.
-#[tactic(auto, using(crate::proofs::Lists::plain_pushed, crate::proofs::Subjects::left_more, crate::proofs::Subjects::left_same))]
+#[tactic(auto, using(crate::proofs::Lists::plain_pushed, crate::proofs::Subjects::left_more, crate::proofs::Subjects::left_same, crate::proofs::Subjects::distinct_more, crate::proofs::Subjects::distinct_same))]
 fn attributes_left(
     alloc: Global,
     relative: &RelativeDistinguishedName,
 ) -> Result<Vec<AttributeTypeAndValue>, Error>
-    ensures { IfOk result (λ v. relative_plain v.items ≡ left_of (relative_plain relative.now)) }
+    ensures left { IfOk result (λ v. relative_plain v.items ≡ left_of (relative_plain relative.now)) }
+    ensures distinct { IfOk result (λ v. KeepsDistinct relative.now v.items) }
+    ensures refused { IfErr result IsWantOfMemory }
 {
-    let mut attributes = Vec::new(alloc);
+    let mut left = Vec::new(alloc);
     for attribute in relative.iter() {
         if may_stay(&attribute.oid) {
-            attributes.push(attribute.clone(alloc)?)?;
+            left.push(attribute.clone(alloc)?)?;
         }
     }
-    Ok(attributes)
+    Ok(left)
 }
 
 /// What is left of a relative name.
@@ -81,8 +85,9 @@ fn left_of(
         → IfOk result (λ r. relative_plain r ≡ relative_plain relative.now) }
     ensures refused { list_all may_stay (relative_plain relative.now) ≡ true
         → IfErr result IsWantOfMemory }
+    ensures long { IfErr result (λ e. IsWantOfMemory e ⊎ IsOfKind Overflow e) }
 {
-    if all_stay(relative) {
+    if all_stay(relative.as_slice()) {
         let whole = relative.clone(alloc)?;
         return Ok(whole);
     }
@@ -99,6 +104,7 @@ fn name_left(alloc: Global, name: &Name) -> Result<Name, Error>
     ensures same { all_stays (name_plain name.now) ≡ true
         → IfOk result (λ n. name_plain n ≡ name_plain name.now) }
     ensures refused { all_stays (name_plain name.now) ≡ true → IfErr result IsWantOfMemory }
+    ensures long { IfErr result (λ e. IsWantOfMemory e ⊎ IsOfKind Overflow e) }
 {
     let mut kept = RdnSequence::default(alloc);
     for relative in name.iter_rdn() {
@@ -128,6 +134,7 @@ impl CertificateType {
         ensures same { all_stays (name_plain subject) ≡ true
             → IfOk result (λ t. type_subject t ≡ Ok (name_plain subject)) }
         ensures refused { all_stays (name_plain subject) ≡ true → IfErr result IsWantOfMemory }
+        ensures long { IfErr result (λ e. IsWantOfMemory e ⊎ IsOfKind Overflow e) }
     {
         let subject = name_left(alloc, &subject)?;
         Ok(CertificateType::DomainValidated(DomainValidated { subject, names }))

@@ -14,26 +14,31 @@ pub(crate) fn no_algorithm() -> AlgorithmIdentifier {
     }
 }
 
-/// The identifier of this number below `id-ce` (RFC 5280 4.2).
-pub(crate) fn standard(number: u8) -> ObjectIdentifier<39>
-    requires { number < 128 }
-    ensures { result ≡ 2 ∷ 5 ∷ 29 ∷ number ∷ [] }
+/// The identifier of these two numbers below 2.5 (X.500).
+#[tactic(auto, using(crate::proofs::ShortArcs::read_x500))]
+pub(crate) fn x500(arc: u8, number: u8) -> ObjectIdentifier<39>
+    requires arc { arc < 128 }
+    requires number { number < 128 }
+    ensures { result ≡ 2 ∷ 5 ∷ arc ∷ number ∷ [] }
 {
-    match ObjectIdentifier::from_bytes(&[0x55, 0x1d, number]) {
+    match ObjectIdentifier::from_bytes(&[0x55, arc, number]) {
         Ok(oid) => oid,
         Err(_) => unreachable!(),
     }
 }
 
-/// The identifier of this number below `id-kp` (4.2.1.12).
-pub(crate) fn purpose(number: u8) -> ObjectIdentifier<39>
-    requires { number < 128 }
-    ensures { result ≡ id_kp number }
+/// `id-kp-serverAuth` (RFC 5280 4.2.1.12).
+pub(crate) fn server_auth() -> ObjectIdentifier<39>
+    ensures { result ≡ id_kp 1 }
 {
-    match ObjectIdentifier::from_bytes(&[0x2b, 6, 1, 5, 5, 7, 3, number]) {
-        Ok(oid) => oid,
-        Err(_) => unreachable!(),
-    }
+    ObjectIdentifier::from_bytes_unwrap(&[0x2b, 6, 1, 5, 5, 7, 3, 1])
+}
+
+/// `id-kp-clientAuth`.
+pub(crate) fn client_auth() -> ObjectIdentifier<39>
+    ensures { result ≡ id_kp 2 }
+{
+    ObjectIdentifier::from_bytes_unwrap(&[0x2b, 6, 1, 5, 5, 7, 3, 2])
 }
 
 /// `rsaEncryption` (RFC 3279 2.3.1).

@@ -34,7 +34,7 @@ pub struct Subscriber {
     pub enable_data_encipherment: bool,
 }
 
-/// These uses, and this one where it stands.
+/// The uses, and one more where it stands.
 fn with_use(uses: FlagSet<KeyUsages>, more: KeyUsages, stands: bool) -> FlagSet<KeyUsages>
     requires { more.0 < 2 ^ 9 }
     ensures { result.flags.0 ≡ (if stands then bit_or uses.flags.0 more.0 else uses.flags.0) }
@@ -57,13 +57,13 @@ impl Subscriber {
         let is_rsa = key.algorithm.oid == rsa_encryption();
         let is_elliptic = key.algorithm.oid == elliptic_curve_key();
         let options = &self.tls12_options;
-        let uses = FlagSet::from_flag(KeyUsages::DIGITAL_SIGNATURE);
+        let uses = FlagSet::from_flag(KeyUsages::DigitalSignature);
         let data = self.enable_data_encipherment && is_rsa;
-        let uses = with_use(uses, KeyUsages::DATA_ENCIPHERMENT, data);
+        let uses = with_use(uses, KeyUsages::DataEncipherment, data);
         let keys = options.enable_key_encipherment && is_rsa;
-        let uses = with_use(uses, KeyUsages::KEY_ENCIPHERMENT, keys);
+        let uses = with_use(uses, KeyUsages::KeyEncipherment, keys);
         let agreement = options.enable_key_agreement && is_elliptic;
-        let uses = with_use(uses, KeyUsages::KEY_AGREEMENT, agreement);
+        let uses = with_use(uses, KeyUsages::KeyAgreement, agreement);
         KeyUsage(uses)
     }
 }

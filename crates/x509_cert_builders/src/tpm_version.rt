@@ -13,7 +13,7 @@ pub enum TpmVersion {
     Tpm12,
     /// 2.0.
     Tpm20,
-    /// Another, by its identifier.
+    /// Another version, by its identifier.
     Other(ObjectIdentifier<39>),
 }
 

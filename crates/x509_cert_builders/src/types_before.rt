@@ -114,7 +114,7 @@ impl TypesBefore {
         Ok(oid)
     }
 
-    /// These types, and behind them another.
+    /// The types before, and one more behind them.
     ///
     /// # Errors
     /// Want of memory.

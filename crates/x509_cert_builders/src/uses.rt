@@ -6,25 +6,20 @@ ghost use Rattle.x509_cert_builders.specs.Profiles.{authority_uses, digital_sign
 ghost use Rattle.x509_cert_builders.specs.Refusals.{IsWantOfMemory};
 
 use crate::error::Error;
-use crate::identifiers::purpose;
+use crate::identifiers::{client_auth, server_auth};
 use std::alloc::Global;
 use x509_cert_extensions::certificates::FlagSet;
 use x509_cert_extensions::{ExtendedKeyUsage, KeyUsage, KeyUsages};
-
-/// `id-kp-serverAuth` and `id-kp-clientAuth`, as numbers below `id-kp` (RFC 5280 4.2.1.12).
-const SERVER_AUTH: u8 = 1;
-
-const CLIENT_AUTH: u8 = 2;
 
 /// What an authority's key is for: it signs certificates and lists, and maybe answers about the
 /// state of certificates.
 pub(crate) fn authority_usage(emits_ocsp_response: bool) -> KeyUsage
     ensures { result.0.flags.0 ≡ authority_uses emits_ocsp_response }
 {
-    let certificates = FlagSet::from_flag(KeyUsages::KEY_CERT_SIGN);
-    let uses = certificates.union(FlagSet::from_flag(KeyUsages::CRL_SIGN));
+    let certificates = FlagSet::from_flag(KeyUsages::KeyCertSign);
+    let uses = certificates.union(FlagSet::from_flag(KeyUsages::CRLSign));
     if emits_ocsp_response {
-        return KeyUsage(uses.union(FlagSet::from_flag(KeyUsages::DIGITAL_SIGNATURE)));
+        return KeyUsage(uses.union(FlagSet::from_flag(KeyUsages::DigitalSignature)));
     }
     KeyUsage(uses)
 }
@@ -33,7 +28,7 @@ pub(crate) fn authority_usage(emits_ocsp_response: bool) -> KeyUsage
 pub(crate) fn signing_usage() -> KeyUsage
     ensures { result.0.flags.0 ≡ digital_signature }
 {
-    KeyUsage(FlagSet::from_flag(KeyUsages::DIGITAL_SIGNATURE))
+    KeyUsage(FlagSet::from_flag(KeyUsages::DigitalSignature))
 }
 
 /// The purposes of who proves to be a server, and maybe a client, or stands above such.
@@ -42,9 +37,9 @@ pub(crate) fn purposes_of(alloc: Global, clients: bool) -> Result<ExtendedKeyUsa
     ensures refused { IfErr result IsWantOfMemory }
 {
     let mut purposes = Vec::new(alloc);
-    purposes.push(purpose(SERVER_AUTH))?;
+    purposes.push(server_auth())?;
     if clients {
-        purposes.push(purpose(CLIENT_AUTH))?;
+        purposes.push(client_auth())?;
     }
     Ok(ExtendedKeyUsage(purposes))
 }

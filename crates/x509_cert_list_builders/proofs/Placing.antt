@@ -1,14 +1,10 @@
 -- One more in a list, by a loop that looks for its place.
 use Rattle.std.proofs.Common.{◌≡◌, ℕ, ◌+◌, ◌<◌, List, [], ◌∷◌, ◌++◌, length, get_or, take, drop, Bool, true, false, refl, sym, ap, ◌∙◌, arith}
-use Rattle.std.specs.Prelude.{if◌then◌else◌}
 use Rattle.std.specs.List.{insert}
-use Rattle.std.proofs.lemmas.List.{append_assoc, drop_more, take_more, drop_all, take_all, take-append-drop}
+use Rattle.std.proofs.lemmas.List.{append_assoc, drop_more, take_more, drop_all}
 use Rattle.der_core_head.specs.Grammar.{plain_list}
+use Rattle.x509_cert_builders.proofs.Lists.{plain_joined}
 use Rattle.x509_cert_list_builders.specs.Requests.{put}
-
-pub plain_joined : {A B : Type 0} (f : A → B) → (xs ys : List A) → plain_list f (xs ++ ys) ≡ plain_list f xs ++ plain_list f ys
-plain_joined f [] ys = refl
-plain_joined f (x ∷ xs) ys = ap (λ zs. f x ∷ zs) (plain_joined f xs ys)
 
 passes : {P : Type 0} (g : P → P → Bool) (x y : P) (left : List P) → g x y ≡ false → put g x (y ∷ left) ≡ y ∷ put g x left
 passes g x y left h = rw h refl

@@ -1,11 +1,12 @@
 -- Members that have an encoding.
-use Rattle.std.proofs.Common.{◌≡◌, ◌⊎◌, ℕ, zero, suc, ◌+◌, ◌<◌, List, [], ◌∷◌, ◌++◌, length, get_or, take, drop, Bool, true, false, Result, Ok, Err, refl, sym, ap, ◌∙◌, subst, arith, inl, inr}
+use Rattle.std.proofs.Common.{◌≡◌, ◌⊎◌, ℕ, zero, suc, ◌+◌, ◌<◌, List, [], ◌∷◌, ◌++◌, length, get_or, take, drop, Bool, true, false, Ok, Err, refl, sym, subst, arith, inl, inr}
 use Rattle.std.specs.Prelude.{◌≢◌, if◌then◌else◌}
 use Rattle.std.specs.List.{AllByRecursion, insert}
 use Rattle.std.proofs.lemmas.List.{take-append-drop}
 use Rattle.der_core_head.specs.declared.error.ErrorKind.{ErrorKind}
 use Rattle.der_core_head.specs.declared.error.ErrorKind.TheVariants as kinds
 use Rattle.der_core_head.specs.Grammar.{plain_list}
+use Rattle.der_core_head.proofs.Results.{only_memory}
 use Rattle.x509_cert_list_builders.specs.Requests.{put}
 
 pub all_at : {A : Type 0} (V : A → Type 0) (xs : List A) (i : ℕ) (y : A) → i < length xs → y ≡ get_or xs i y → AllByRecursion V xs → V y
@@ -49,15 +50,6 @@ pub or_memory : {X : Type 0} (k : ErrorKind) → (k ≢ kinds.OutOfMemory → X)
 or_memory kinds.OutOfMemory h = inl refl
 or_memory _ h = inr (h (λ q. absurd cc))
 
--- a fault where there is an answer is want of memory
-pub only_memory : {A : Type 0} (k : ErrorKind) (x : A) (r : Result A ErrorKind) → r ≡ Ok x → (k ≢ kinds.OutOfMemory → r ≡ Err k) → k ≡ kinds.OutOfMemory
-only_memory kinds.OutOfMemory x r e h = refl
-only_memory _ x r e h = absurd (cc (e, h (λ q. absurd cc)))
-
--- why a value is refused that may have no encoding, where one that has is refused for want of memory alone
-pub memory_or_none : {Y V : Type 0} (k : ErrorKind) (x : Y) → (V → k ≢ kinds.OutOfMemory → Ok x ≡ Err k) → (k ≡ kinds.OutOfMemory) ⊎ (V → ⊥)
-memory_or_none k x h = or_memory k (λ enough v. enough (only_memory k x (Ok x) refl (h v)))
-
--- the same under a premise
+-- why a value is refused that may have no encoding, under a premise, where one that has is refused for want of memory alone
 pub memory_under : {Y A V : Type 0} (k : ErrorKind) (x : Y) → (V → k ≢ kinds.OutOfMemory → Ok x ≡ Err k) → (k ≡ kinds.OutOfMemory) ⊎ (A → V → ⊥)
 memory_under k x h = or_memory k (λ enough a v. enough (only_memory k x (Ok x) refl (h v)))

@@ -14,3 +14,4 @@ pub use Rattle.x509_cert_builders.specs.Naming
 pub use Rattle.x509_cert_builders.specs.Profiles
 pub use Rattle.x509_cert_builders.specs.Refusals
 pub use Rattle.x509_cert_builders.specs.Subscribers
+pub use Rattle.x509_cert_lists.specs.Grammar as ListGrammar

@@ -1,6 +1,6 @@
 -- What a builder of revocation lists signs (RFC 5280 5.1.2).
-use Rattle.std.specs.Prelude.{◌≡◌, ℕ, List, [], ◌∷◌, ◌++◌, Bool, false, pos, Option, Some, None}
-use Rattle.std.specs.Prelude.{Result, Ok}
+use Rattle.std.specs.Prelude.{◌≡◌, ℕ, List, [], ◌∷◌, Bool, false, pos, Option, Some, None, Result}
+use Rattle.std.specs.Prelude.{Ok}
 use Rattle.const_oid.specs.Bound.{Bound}
 use Rattle.der_core_head.specs.declared.error.ErrorKind.{ErrorKind}
 use Rattle.der_core_head.specs.declared.tag.Tag.TheVariants as tags
@@ -12,8 +12,8 @@ use Rattle.der_core_head.specs.Shapes.{octets_of}
 use Rattle.sha1.specs.Sha1.{sha1}
 use Rattle.x509_cert_builders.specs.Certificates.{Tbs, tbs_public_key}
 use Rattle.x509_cert_lists.specs.Grammar.{revoked_cert_fields, tbs_cert_list_fields}
-use Rattle.x509_cert_builders.specs.Parts.{Algorithm, PlainExtension, PlainName, PublicKey}
-use Rattle.x509_cert_builders.specs.Parts.{key_bits, time, only_value, listed}
+use Rattle.x509_cert_builders.specs.Parts.{PlainExtension, PublicKey, key_bits, time, only_value}
+use Rattle.x509_cert_builders.specs.Parts.{listed}
 use Rattle.x509_cert_builders.specs.GeneralNames.{authority_key_identifier_fields}
 
 -- a date and its spelling

@@ -1,4 +1,4 @@
-use Rattle.std.proofs.Common.{◌≡◌, List, ◌∷◌, sym, ap, ◌∙◌, subst, rules}
+use Rattle.std.proofs.Common.{◌≡◌, ◌∷◌, sym, ap, ◌∙◌, subst, rules}
 use Rattle.der_core_head.specs.Grammar.{plain_list}
 use Rattle.x509_cert_extensions.specs.Parts.{PlainName, name_plain, relative_plain}
 use Rattle.x509_cert_builders.proofs.Lists.{plain_pushed}

@@ -16,17 +16,10 @@ returns-in-Err-clause-rules c =
     let why : type_behind c.args.multiple_allowed found relative ≡ Err c.in-Err.error = sym c.type_behind.ensures ∙ c.in-Err.is in
     checked_fault c.args.multiple_allowed n found relative left c.in-Err.error checked why
 
-pub returns-clause-rules : goal.returns-clause-rules
-returns-clause-rules c =
+pub returns : goal.returns
+returns c =
     let n = name_plain c.args.name.now in
     let found = c.loop-relative.found in
     let none : plain_list relative_plain c.loop-relative.relative-iterator.left.now ≡ [] = ap (plain_list relative_plain) c.in-None.ensures.steps.0 in
-    (checked_all c.args.multiple_allowed n found (subst (IsChecked c.args.multiple_allowed n found) none c.loop-relative.invariant)).0
-
-pub returns-clause-types : goal.returns-clause-types
-returns-clause-types c =
-    let n = name_plain c.args.name.now in
-    let found = c.loop-relative.found in
-    let none : plain_list relative_plain c.loop-relative.relative-iterator.left.now ≡ [] = ap (plain_list relative_plain) c.in-None.ensures.steps.0 in
-    c.into_types.ensures
-    ∙ (checked_all c.args.multiple_allowed n found (subst (IsChecked c.args.multiple_allowed n found) none c.loop-relative.invariant)).1
+    let all = checked_all c.args.multiple_allowed n found (subst (IsChecked c.args.multiple_allowed n found) none c.loop-relative.invariant) in
+    record { rules = all.0; types = c.into_types.ensures ∙ all.1 }

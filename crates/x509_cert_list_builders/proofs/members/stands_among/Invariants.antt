@@ -1,9 +1,8 @@
-use Rattle.std.proofs.Common.{◌≡◌, take, false}
+use Rattle.std.proofs.Common.{◌≡◌, drop}
 use Rattle.std.specs.List.{AllByRecursion}
 use Rattle.der_core_head.specs.Grammar.{plain_list}
 use Rattle.der_core_head.specs.Shapes.{IsValid}
 use Rattle.x509_cert_list_builders.specs.Requests.{stands_among}
-use Rattle.std.proofs.Common.{drop}
 use Rattle.x509_cert_list_builders.proofs.members.stands_among.Given as goal
 
 abbrev pub invariant-loop-place : goal.invariant-loop-place

@@ -1,4 +1,3 @@
-use Rattle.std.proofs.Common.{◌≡◌}
 use Rattle.x509_cert_extensions.specs.CertificateViews.{tbs_plain}
 use Rattle.x509_cert_extensions.specs.Parts.{algorithm_plain}
 use Rattle.x509_cert_builders.specs.SignedParts.{fields_of}

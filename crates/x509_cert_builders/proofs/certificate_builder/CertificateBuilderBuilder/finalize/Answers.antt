@@ -1,4 +1,4 @@
-use Rattle.std.proofs.Common.{◌≡◌, ◌++◌, List, ap, ◌∙◌}
+use Rattle.std.proofs.Common.{◌++◌, List, ap, ◌∙◌}
 use Rattle.x509_cert_extensions.specs.CertificateViews.{tbs_plain}
 use Rattle.x509_cert_extensions.specs.Parts.{PlainExtension, extensions_plain}
 use Rattle.x509_cert_builders.specs.SignedParts.{bare_part, fields_of, signed_part}

@@ -1,8 +1,7 @@
-use Rattle.std.proofs.Common.{◌≡◌, ap, ◌∙◌, subst}
+use Rattle.std.proofs.Common.{ap, ◌∙◌}
 use Rattle.std.proofs.lemmas.Result.{err_from_is_err_and}
 use Rattle.x509_cert_builders.proofs.Faults.{or_unwritten}
-use Rattle.x509_cert_builders.specs.Refusals.{IsUnwritten, IsWantOfMemory}
-use Rattle.x509_cert_list_builders.specs.Lists.{PlainList, list_part}
+use Rattle.x509_cert_list_builders.specs.Lists.{list_part}
 use Rattle.x509_cert_list_builders.specs.States.{list_of}
 use Rattle.x509_cert_list_builders.proofs.crl_builder.CrlBuilderBuilder.finalize.Goals as goal
 

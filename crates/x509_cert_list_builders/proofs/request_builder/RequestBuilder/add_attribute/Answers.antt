@@ -1,4 +1,4 @@
-use Rattle.std.proofs.Common.{◌≡◌, List, sym, ap, inr, refl, Ok}
+use Rattle.std.proofs.Common.{List, ap, inr}
 use Rattle.std.proofs.lemmas.Result.{err_from_is_err_and}
 use Rattle.x509_cert_builders.specs.Parts.{PlainAttribute, attribute_plain}
 use Rattle.x509_cert_list_builders.specs.States.{RequestState, request_state}
