@@ -17,6 +17,8 @@ pub mod OneVerdict
 pub mod AnchorSteps
 pub mod Counts
 pub mod ExtensionLaws
+pub mod ConstraintLaws
+pub mod MemoryLaws
 pub mod Encodings
 pub mod Folds
 pub mod FoundLaws

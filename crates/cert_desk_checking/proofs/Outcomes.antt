@@ -6,6 +6,8 @@ use Rattle.cert_desk_checking.specs.declared.rule.Rule.{Rule}
 use Rattle.cert_desk_checking.specs.declared.rule.Rule.TheVariants as rules
 use Rattle.cert_desk_checking.specs.Chains.{Chain, joined}
 use Rattle.cert_desk_checking.specs.Judging.{Terms, keeps_at, keeps_all, may_ask, number}
+use Rattle.cert_desk_checking.specs.Paths.{extensions_at}
+use Rattle.cert_desk_checking.specs.Weighing.{may_take_memory}
 use Rattle.cert_desk_checking.specs.Verdicts.{Trusted, Refused, StopsAsking, all_kept_below, asked, asked_below, asked_signature, raised}
 use Rattle.cert_desk_checking.specs.Places.{IsFirstUnsigned}
 use Rattle.cert_desk_checking.proofs.PlaceLaws.{may_ask-false, may_ask-kept, may_ask-true, all_kept}
@@ -72,12 +74,13 @@ OnErr-by (Err e) P p = p
 
 -- where memory ran out
 pub stops_at : (t : Terms) (limit : ℕ) (cs : List PlainCertificate) (place : ℕ) (stream : List ℕ) (old new : ℕ) → Chain t.bound limit cs stream
-    → place < length cs → all_kept_below t cs (joined t.bound cs) place ≡ true → new ≡ raised old (asked_below t cs (joined t.bound cs) place) → StopsAsking t limit stream old new
-stops_at t limit cs place stream old new chain within kept rose = record {
+    → place < length cs → may_take_memory (extensions_at cs place) ≡ true → all_kept_below t cs (joined t.bound cs) place ≡ true → new ≡ raised old (asked_below t cs (joined t.bound cs) place) → StopsAsking t limit stream old new
+stops_at t limit cs place stream old new chain within takes kept rose = record {
   certificates = cs;
   chain = chain;
   place = place;
   within = within;
+  takes = takes;
   kept = subst (λ s. all_kept_below t cs s place ≡ true) (sym chain.joins) kept;
   questions = subst (λ s. new ≡ raised old (asked_below t cs s place)) (sym chain.joins) rose;
 }

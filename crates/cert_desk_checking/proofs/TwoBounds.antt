@@ -7,7 +7,7 @@ use Rattle.const_oid.specs.Comparing.{owned_eq}
 use Rattle.der_core_head.specs.declared.error.ErrorKind.{ErrorKind}
 use Rattle.der_core_head.specs.declared.error.ErrorKind.TheVariants as kinds
 use Rattle.der_core_head.specs.Bounds.{IsValidUnder, HoldsLarge}
-use Rattle.der_core_head.specs.Grammar.{read, whole, whole_at}
+use Rattle.der_core_head.specs.Grammar.{read, whole, read_whole}
 use Rattle.der_core_head.specs.Limits.{length_max, levels_max}
 use Rattle.der_core_head.specs.Octets.{IsOctets, ◌>>=◌}
 use Rattle.der_core_head.specs.declared.tag.Tag.TheVariants as tags
@@ -166,8 +166,8 @@ usages = record {
 }
 
 -- what is read of all octets leaves none
-pub leaves_none : (s : Shape) (w : List ℕ) (v : Value s) (r : List ℕ) → whole_at s w ≡ Ok (v, r) → whole_at s w ≡ Ok (v, [])
-unfolding whole_at
+pub leaves_none : (s : Shape) (w : List ℕ) (v : Value s) (r : List ℕ) → read_whole s w ≡ Ok (v, r) → read_whole s w ≡ Ok (v, [])
+unfolding read_whole
 leaves_none s w v r e =
     let h = unless_ok (ltb length_max (length w)) kinds.Overflow (read s levels_max w >>= whole) (v, r) e in
     let x = bind_ok (read s levels_max w) whole (v, r) h.1 in
@@ -191,13 +191,13 @@ weighed_by says fine small (Err d) (Ok p) keeps new = inr (refl, fine p.0, new p
 module _ (small large : ℕ) (le : small ≤ large) where
   names_weighed : (w : List ℕ) → IsOctets w → Weighed small (meaning_by (subject_alt_name small) other_names w) (meaning_by (subject_alt_name large) other_names w)
   names_weighed w o =
-      weighed_by other_names (λ v. refl) small (whole_at (subject_alt_name small) w) (whole_at (subject_alt_name large) w)
+      weighed_by other_names (λ v. refl) small (read_whole (subject_alt_name small) w) (read_whole (subject_alt_name large) w)
       (λ v x e. whole_wider (subject_alt_name 0) (λ b. subject_alt_name b) names small large v w le o (leaves_none (subject_alt_name small) w v x e))
       (λ v x d e r. whole_new (subject_alt_name 0) (λ b. subject_alt_name b) names small large v w d o (leaves_none (subject_alt_name large) w v x e) r)
 
   usages_weighed : (w : List ℕ) → IsOctets w → Weighed small (meaning_by (extended_key_usage small) purposes w) (meaning_by (extended_key_usage large) purposes w)
   usages_weighed w o =
-      weighed_by purposes (λ v. refl) small (whole_at (extended_key_usage small) w) (whole_at (extended_key_usage large) w)
+      weighed_by purposes (λ v. refl) small (read_whole (extended_key_usage small) w) (read_whole (extended_key_usage large) w)
       (λ v x e. whole_wider (extended_key_usage 0) (λ b. extended_key_usage b) usages small large v w le o (leaves_none (extended_key_usage small) w v x e))
       (λ v x d e r. whole_new (extended_key_usage 0) (λ b. extended_key_usage b) usages small large v w d o (leaves_none (extended_key_usage large) w v x e) r)
 

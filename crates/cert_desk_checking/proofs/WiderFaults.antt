@@ -4,7 +4,7 @@ use Rattle.std.proofs.lemmas.Bool.{cases_lt}
 use Rattle.der_core_head.specs.declared.error.ErrorKind.{ErrorKind}
 use Rattle.der_core_head.specs.declared.tag.Tag.TheVariants as tags
 use Rattle.der_core_head.specs.Bounds.{HoldsLarge}
-use Rattle.der_core_head.specs.Grammar.{whole_at}
+use Rattle.der_core_head.specs.Grammar.{read_whole}
 use Rattle.der_core_head.specs.Heads.{head_octets, tlv}
 use Rattle.der_core_head.specs.Octets.{IsOctets}
 use Rattle.der_core_head.specs.Shapes.{IsValid, Spells, body_octets, contents, octets_of}
@@ -36,11 +36,11 @@ spelled_or_not : (bound : ℕ) (w : List ℕ)
     → ((c : PlainCertificate) × Spells (raw_certificate bound) c w) ⊎ ((c : PlainCertificate) → IsValid (raw_certificate bound) c → octets_of (raw_certificate bound) c ≡ w → ⊥)
 spelled_or_not bound w =
     elim (octets_or_not w) [
-      | inl all ↦ by all (whole_at (raw_certificate bound) w) refl
+      | inl all ↦ by all (read_whole (raw_certificate bound) w) refl
       | inr none ↦ inr (λ c valid e. none (subst IsOctets e (octets_below (raw_certificate bound) c valid)))
     ]
   where
-    by : IsOctets w → (r : Result (PlainCertificate × List ℕ) ErrorKind) → whole_at (raw_certificate bound) w ≡ r
+    by : IsOctets w → (r : Result (PlainCertificate × List ℕ) ErrorKind) → read_whole (raw_certificate bound) w ≡ r
         → ((c : PlainCertificate) × Spells (raw_certificate bound) c w) ⊎ ((c : PlainCertificate) → IsValid (raw_certificate bound) c → octets_of (raw_certificate bound) c ≡ w → ⊥)
     by all (Ok p) e =
         inl (p.0, is_spelled (raw_certificate bound) (λ c. c) w (Ok p.0) refl (bytes_are w all) (leaves_none (raw_certificate bound) w p.0 p.1 e))

@@ -15,7 +15,7 @@ use Rattle.cert_desk_checking.specs.Judging.{PlainAnchor}
 abbrev pub StandsAt : List ℕ → ℕ → ℕ → PlainChoice → Type 0
 StandsAt octets start end c = files.StandsAt raw_choice octets start end c
 
--- One stands there that gives this anchor.
+-- A trust anchor stands there that gives this anchor.
 abbrev pub GivesAt : List ℕ → ℕ → ℕ → PlainAnchor → Type 0
 GivesAt octets start end anchor = files.GivesAt raw_choice given_by octets start end anchor
 

@@ -5,7 +5,7 @@ use Rattle.std.specs.List.{AllByRecursion}
 use Rattle.der_core_head.specs.Shapes.{Shape, Value, octets_of, IsValid}
 use Rattle.cert_desk_checking.specs.Series.{encodings, BeginsWith}
 
--- Each of them has an encoding, and this is what they give.
+-- Each of the values has an encoding, and they give the items.
 pub record GiveAll (s : Shape) {A E : Type 0} (gives : Value s → Result A E) (vs : List (Value s))
     (xs : List A) : Type 0 where
   pub each : AllByRecursion (IsValid s) vs

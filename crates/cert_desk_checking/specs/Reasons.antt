@@ -1,5 +1,5 @@
 -- Why a certificate breaks a rule, where the rule alone leaves it open.
-use Rattle.std.specs.Prelude.{◌≡◌, ℕ, ◌<◌, List, Bool, true, false, not, slice_get}
+use Rattle.std.specs.Prelude.{◌≡◌, ℕ, ◌<◌, ◌≤◌, List, Bool, true, false, not, slice_get}
 use Rattle.std.specs.List.{list_any}
 use Rattle.std.specs.Option.{option_map_or}
 use Rattle.const_oid.specs.Comparing.{owned_eq}
@@ -11,7 +11,7 @@ use Rattle.cert_desk_checking.specs.declared.rule.Rule.{Rule}
 use Rattle.cert_desk_checking.specs.declared.rule.Rule.TheVariants as rules
 use Rattle.cert_desk_checking.specs.Paths.{extensions_at, keeps_length}
 use Rattle.cert_desk_checking.specs.Weighing.{is_authority, is_malformed, is_unweighed_critical}
-use Rattle.cert_desk_checking.specs.Weighing.{may_certify, serves, weigh}
+use Rattle.cert_desk_checking.specs.Weighing.{may_certify, may_take_memory, serves, weigh}
 
 -- an extension breaks a rule by itself
 abbrev pub is_against : ℕ → List ℕ → Rule → PlainExtension → Bool
@@ -81,3 +81,8 @@ is_explained rules.AgainstPurpose = true
 is_explained rules.NotAuthority = true
 is_explained rules.PathTooLong = true
 is_explained rules.WrongSignature = false
+
+-- judging the extensions of a place, no later than this one, may take memory
+abbrev pub SomeMayTakeMemory : List PlainCertificate → ℕ → Type 0
+SomeMayTakeMemory cs place = (other : ℕ) × (other ≤ place)
+    × (may_take_memory (extensions_at cs other) ≡ true)

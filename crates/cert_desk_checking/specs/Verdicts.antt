@@ -13,6 +13,8 @@ use Rattle.cert_desk_checking.specs.Chains.{Chain, joined}
 use Rattle.cert_desk_checking.specs.Faults.{StreamFault}
 use Rattle.cert_desk_checking.specs.Judging.{Answers, Terms, PlainAnchor, keeps_at, number, may_ask}
 use Rattle.cert_desk_checking.specs.Judging.{keeps_all, is_named, signed_part}
+use Rattle.cert_desk_checking.specs.Paths.{extensions_at}
+use Rattle.cert_desk_checking.specs.Weighing.{may_take_memory}
 
 -- Some certificates make up the stream, and at each place every rule is kept.
 pub record Trusted (t : Terms) (limit : ℕ) (stream : List ℕ) : Type 0 where
@@ -125,13 +127,14 @@ pub record IsCounted (t : Terms) (limit : ℕ) (stream : List ℕ) (checked : Ch
   pub calls : checked.calls ≡ capped number_asked
   pub questions : new_questions ≡ raised old_questions number_asked
 
--- Memory ran out at a place of the stream's certificates: those before keep every rule, and the
--- judge was asked about these alone.
+-- Memory ran out at a place of the stream's certificates, whose extensions may take it: those
+-- before keep every rule, and the judge was asked about these alone.
 pub record StopsAsking (t : Terms) (limit : ℕ) (stream : List ℕ)
     (old_questions new_questions : ℕ) : Type 0 where
   pub certificates : List PlainCertificate
   pub chain : Chain t.bound limit certificates stream
   pub place : ℕ
   pub within : place < length certificates
+  pub takes : may_take_memory (extensions_at certificates place) ≡ true
   pub kept : all_kept_below t certificates stream place ≡ true
   pub questions : new_questions ≡ raised old_questions (asked_below t certificates stream place)

@@ -1,13 +1,13 @@
 -- What the extensions say by which a chain is judged (RFC 5280 4.2.1.3, 4.2.1.6, 4.2.1.9,
 -- 4.2.1.12).
 use Rattle.std.specs.Prelude.{ℕ, List, [], ◌∷◌, Bool, true, false, Option, None, Result, Ok, Err}
-use Rattle.std.specs.Prelude.{if◌then◌else◌, ◌&&◌, ◌||◌, ◌==◌, ◌^◌}
+use Rattle.std.specs.Prelude.{if◌then◌else◌, ◌&&◌, ◌||◌, ◌==◌, ◌^◌, length, nat_lt}
 use Rattle.std.specs.Int.RustNames.{bit_and, unsigned_abs}
 use Rattle.std.specs.List.{list_any}
 use Rattle.const_oid.specs.Comparing.{owned_eq}
 use Rattle.der_core_head.specs.declared.error.ErrorKind.{ErrorKind}
 use Rattle.der_core_head.specs.declared.tag.Tag.TheVariants as tags
-use Rattle.der_core_head.specs.Grammar.{plain_option, whole_at}
+use Rattle.der_core_head.specs.Grammar.{plain_option, read_whole}
 use Rattle.der_core_head.specs.Leaves.{named}
 use Rattle.der_core_head.specs.Shapes.{Shape, BodyValue, Value, leaf, sequence, sequence_of, tagged}
 use Rattle.x509_cert.specs.Certificates.{PlainExtension, extension_arcs, extension_octets}
@@ -33,6 +33,11 @@ subject_alt_name bound = general_names bound
 abbrev pub basic_constraints : Shape
 basic_constraints = sequence basic_constraints_fields
 
+-- cA as it is spelled: FALSE is the default (X.690 11.5)
+abbrev pub ca_octets : Bool → List ℕ
+ca_octets true = 1 ∷ 1 ∷ 255 ∷ []
+ca_octets false = []
+
 -- ExtKeyUsageSyntax ::= SEQUENCE OF KeyPurposeId (4.2.1.12)
 abbrev pub extended_key_usage : ℕ → Shape
 extended_key_usage bound = sequence_of (object_identifier bound)
@@ -56,7 +61,7 @@ meaning_of says (Ok read) = says read.0
 meaning_of says (Err fault) = malformed
 
 abbrev pub meaning_by : (s : Shape) → (Value s → Meaning) → List ℕ → Meaning
-meaning_by s says octets = meaning_of says (whole_at s octets)
+meaning_by s says octets = meaning_of says (read_whole s octets)
 
 -- the kind is known by the identifier, wherever the extension stands, critical or not
 abbrev pub weigh_octets : ℕ → List ℕ → List ℕ → Meaning
@@ -72,6 +77,16 @@ weigh_octets bound arcs octets =
 
 abbrev pub weigh : ℕ → PlainExtension → Meaning
 weigh bound e = weigh_octets bound (extension_arcs e) (extension_octets e)
+
+-- the value of the extension is a list: other names of the subject, or purposes
+abbrev pub has_list : PlainExtension → Bool
+has_list e = owned_eq (extension_arcs e) (certificate_extension 17)
+    || owned_eq (extension_arcs e) (certificate_extension 37)
+
+-- Judging these extensions may take memory: for a list, or to compare more than 16 by a set of
+-- their identifiers.
+abbrev pub may_take_memory : List PlainExtension → Bool
+may_take_memory es = list_any has_list es || nat_lt 16 (length es)
 
 -- an extension of a weighed kind that isn't one value of it
 abbrev pub is_malformed : Meaning → Bool

@@ -1,14 +1,14 @@
 //! Streams are judged.
 ghost use Rattle.std.specs.Prelude.{◌≡◌, ◌≢◌, ℕ, ◌+◌, ◌↔◌, ◌⊎◌, List, length, map, IfOk, OnErr};
-ghost use Rattle.std.specs.Prelude.{nat_le, not, ◌&&◌};
+ghost use Rattle.std.specs.Prelude.{nat_le, not, true, ◌&&◌};
 ghost use Rattle.std.specs.List.{list_any};
 ghost use Rattle.std.specs.Option.{is_some};
 ghost use Rattle.const_oid.specs.Bound.{Bound};
 ghost use Rattle.der_core_head.specs.Shapes.{IsValid};
 ghost use Rattle.x509_cert.specs.Names.TimeTypes.Seconds.{unix_seconds};
 ghost use Rattle.x509_cert.specs.Views.{certificate_plain, key_plain, name_plain};
-ghost use Rattle.x509_cert.specs.Certificates.{PlainCertificate, issuer, not_before, not_after};
-ghost use Rattle.x509_cert.specs.Certificates.{raw_certificate};
+ghost use Rattle.x509_cert.specs.Certificates.{PlainCertificate, extensions_of, issuer, not_before};
+ghost use Rattle.x509_cert.specs.Certificates.{not_after, raw_certificate};
 ghost use Rattle.cert_desk_checking.specs.declared.fault_kind.FaultKind.{FaultKind};
 ghost use Rattle.cert_desk_checking.specs.Anchors.{anchor_plain, terms_of};
 ghost use Rattle.cert_desk_checking.specs.Chains.{Chain, joined};
@@ -20,6 +20,7 @@ ghost use Rattle.cert_desk_checking.specs.Verdicts.{IsVerdict, Trusted, IsCounte
 ghost use Rattle.cert_desk_checking.specs.Verdicts.{accepted, asked, asked_until};
 ghost use Rattle.cert_desk_checking.specs.Places.{IsFirstUnsigned, Rises, StandsAt, asked_of};
 ghost use Rattle.cert_desk_checking.specs.Places.{asked_once, linked_to, signed_by, signs};
+ghost use Rattle.cert_desk_checking.specs.Weighing.{may_take_memory};
 
 use crate::anchor::Anchor;
 use crate::bundle::Bundle;
@@ -48,9 +49,8 @@ use x509_cert::{CertificateInner, Name, Raw, SubjectPublicKeyInfo};
 /// # Errors
 ///
 /// `Device` where a device had failed the bundle; `OutOfMemory` where want of memory had, or where
-/// there was none for the contents of an extension, or to compare more than 16: then the judge was
-/// asked about the certificates before, which keep every rule. Of a stream that isn't whole the
-/// judge isn't asked.
+/// a certificate's extensions found none, which may take it: then the judge was asked about the
+/// certificates before, which keep every rule. Of a stream that isn't whole the judge isn't asked.
 pub fn check<J: SignatureJudge>(
     alloc: Global,
     bundle: &Bundle,
@@ -313,6 +313,8 @@ fn first_unsigned(
         (λ broken. (cs : List PlainCertificate) (anchors : List Anchor) (place : ℕ)
         → StandsAt cs anchors place (certificate_plain certificate.now) is_last issuer.now room.old
         → broken ≡ None → IsRoom Bound cs (place + 1) room.new) }
+    ensures memory { OnErr result
+        (may_take_memory (extensions_of (certificate_plain certificate.now)) ≡ true) }
 {
     let extensions = extensions_of(certificate);
     let findings = findings_of(alloc, extensions, purpose)?;

@@ -1,13 +1,13 @@
 //! The extensions of a certificate, and their identifiers (RFC 5280 4.2).
 
 ghost use Rattle.std.specs.Prelude.{◌≡◌, ◌<◌, ℕ, length, true, false, not, nat_eq};
-ghost use Rattle.std.specs.Prelude.{IfOk, IfSome};
+ghost use Rattle.std.specs.Prelude.{IfOk, IfSome, OnErr};
 ghost use Rattle.std.specs.Option.{is_some, option_map_or};
 ghost use Rattle.const_oid.specs.Comparing.{owned_eq};
 ghost use Rattle.x509_cert.specs.Certificates.{extensions_of};
 ghost use Rattle.x509_cert.specs.Views.{certificate_plain, extension_plain, extensions_plain};
 ghost use Rattle.cert_desk_checking.specs.Judging.{are_distinct, has_twin, is_alone};
-ghost use Rattle.cert_desk_checking.specs.Weighing.{certificate_extension};
+ghost use Rattle.cert_desk_checking.specs.Weighing.{certificate_extension, may_take_memory};
 
 use const_oid::ObjectIdentifier;
 use std::alloc::{AllocError, Global};
@@ -23,7 +23,7 @@ pub(crate) const BASIC_CONSTRAINTS: u8 = 19;
 
 pub(crate) const EXT_KEY_USAGE: u8 = 37;
 
-// So many extensions are compared each with each.
+// Up to so many extensions each is compared with each.
 const FEW: usize = 16;
 
 // The extensions, in their order. Where the field is absent there are none.
@@ -44,6 +44,7 @@ pub fn first_twin(alloc: Global, extensions: &[Extension]) -> Result<Option<usiz
     ensures within { IfOk result (λ twin. IfSome twin (λ place. place < length extensions.now)) }
     ensures twin { IfOk result (λ twin. IfSome twin (λ place.
         has_twin (extensions_plain extensions.now) place ≡ true)) }
+    ensures memory { OnErr result (may_take_memory (extensions_plain extensions.now) ≡ true) }
 {
     if extensions.len() <= FEW {
         return Ok(first_twin_of_few(extensions));

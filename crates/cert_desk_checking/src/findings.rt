@@ -7,15 +7,15 @@ use crate::weight::Weight;
 /// What is found in a certificate's extensions.
 #[derive(Clone, Copy)]
 pub(crate) struct Findings {
-    /// One of a kind that is weighed isn't one value of it.
+    /// An extension of a kind that is weighed isn't one value of it.
     pub(crate) malformed: bool,
-    /// A critical one is of another kind.
+    /// A critical extension is of another kind.
     pub(crate) unweighed_critical: bool,
-    /// None lists purposes without the one that is asked for.
+    /// No extension lists purposes without the one that is asked for.
     pub(crate) serves: bool,
-    /// One makes the subject an authority.
+    /// An extension makes the subject an authority.
     pub(crate) ca: bool,
-    /// None lists uses of the key without the signing of certificates.
+    /// No extension lists uses of the key without the signing of certificates.
     pub(crate) certifies: bool,
     /// The least path length.
     pub(crate) path_len: Option<u8>,

@@ -10,6 +10,7 @@ mod bundle;
 mod bundle_error;
 mod checked;
 mod checking;
+mod constraints;
 mod digest_judge;
 mod entry;
 mod extensions;
@@ -66,7 +67,7 @@ pub use const_oid::ObjectIdentifier;
 pub use der_core::{Error, ErrorKind};
 pub use x509_cert::{
     AlgorithmIdentifier, BitString, CertDigest, Certificate, CertificateInner, Name, Raw,
-    SubjectPublicKeyInfo, Time, TrustAnchorChoice, hash,
+    SubjectPublicKeyInfo, Time, TrustAnchorChoice,
 };
 
 // What all of these are made of.

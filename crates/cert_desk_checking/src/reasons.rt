@@ -1,14 +1,17 @@
 //! Reasons of breaches, found on demand.
 ghost use Rattle.std.specs.Prelude.{◌≡◌, ◌<◌, ◌≤◌, ◌+◌, ◌-◌, List, ℕ, true, false, ◌⊎◌, length};
-ghost use Rattle.std.specs.Prelude.{IfSome, IfNone, IfOk, IsSome};
+ghost use Rattle.std.specs.Prelude.{IfSome, IfNone, IfOk, IsSome, OnErr};
 ghost use Rattle.std.specs.List.{list_any};
 ghost use Rattle.const_oid.specs.Bound.{Bound};
 ghost use Rattle.x509_cert.specs.Views.{extension_plain, extensions_plain};
 ghost use Rattle.cert_desk_checking.specs.Judging.{Terms, are_distinct, is_alone, keeps_at};
-ghost use Rattle.cert_desk_checking.specs.Paths.{counted, counts, keep_lengths, keeps_length};
-ghost use Rattle.cert_desk_checking.specs.Reasons.{Explains, are_twins, goes_against};
-ghost use Rattle.cert_desk_checking.specs.Reasons.{has_no_authority, have_one_identifier};
+ghost use Rattle.cert_desk_checking.specs.Paths.{counted, counts, extensions_at, keep_lengths};
+ghost use Rattle.cert_desk_checking.specs.Paths.{keeps_length};
+ghost use Rattle.cert_desk_checking.specs.Reasons.{Explains, SomeMayTakeMemory, are_twins};
+ghost use Rattle.cert_desk_checking.specs.Reasons.{goes_against, has_no_authority};
+ghost use Rattle.cert_desk_checking.specs.Reasons.{have_one_identifier};
 ghost use Rattle.cert_desk_checking.specs.Reasons.{is_against, is_at, is_explained};
+ghost use Rattle.cert_desk_checking.specs.Weighing.{may_take_memory};
 
 use crate::bundle::Bundle;
 use crate::checking::is_self_issued;
@@ -27,7 +30,7 @@ use x509_cert::Extension;
 ///
 /// # Errors
 ///
-/// Where a growth was refused.
+/// Where a growth was refused: the extensions up to the place may take memory.
 pub fn reason_of(
     alloc: Global,
     bundle: &Bundle,
@@ -43,6 +46,7 @@ pub fn reason_of(
         ≡ purpose.now
         → is_explained rule ≡ true → keeps_at rule t bundle.now.certificates stream place ≡ false
         → IsSome told) }
+    ensures memory { OnErr result (SomeMayTakeMemory bundle.now.certificates place) }
 {
     let Some(entry) = bundle.get(place) else {
         return Ok(None);
@@ -69,6 +73,7 @@ fn extension_against(
         ≡ true))) }
     ensures none { IfOk result (λ told. IfNone told
         (list_any (is_against Bound purpose.now rule) (extensions_plain extensions.now) ≡ false)) }
+    ensures memory { OnErr result (may_take_memory (extensions_plain extensions.now) ≡ true) }
 {
     for number in 0..extensions.len() {
         let findings = findings_of(alloc, slice::from_ref(&extensions[number]), purpose)?;
@@ -99,6 +104,7 @@ fn twins_in(alloc: Global, extensions: &[Extension]) -> Result<Option<Reason>, A
         × (are_twins (extensions_plain extensions.now) first second ≡ true))) }
     ensures none { IfOk result (λ told. IfNone told
         (are_distinct (extensions_plain extensions.now) ≡ true)) }
+    ensures memory { OnErr result (may_take_memory (extensions_plain extensions.now) ≡ true) }
 {
     let Some(first) = first_twin(alloc, extensions)? else {
         return Ok(None);
@@ -143,6 +149,7 @@ fn lack_of_authority(
         (λ told. IfNone told ((has_no_authority Bound (extensions_plain extensions.now) ≡ false)
         × (list_any (is_against Bound purpose.now Rule.NotAuthority)
         (extensions_plain extensions.now) ≡ false))) }
+    ensures memory { OnErr result (may_take_memory (extensions_plain extensions.now) ≡ true) }
 {
     let findings = findings_of(alloc, extensions, purpose)?;
     if !findings.ca {
@@ -165,6 +172,7 @@ fn exceeded_length(
         × (before < place) × (keeps_length Bound bundle.now.certificates before place ≡ false))) }
     ensures none { IfOk result (λ told. IfNone told
         (keep_lengths Bound bundle.now.certificates place place ≡ true)) }
+    ensures memory { OnErr result (SomeMayTakeMemory bundle.now.certificates place) }
 {
     let mut left = counted_behind(bundle, 0, place);
     for before in 0..place {
@@ -188,9 +196,11 @@ fn keeps_length(
     purpose: &ObjectIdentifier<39>,
 ) -> Result<bool, AllocError>
     requires within { before < length bundle.now.certificates }
-    ensures { IfOk result (λ kept. (place : ℕ)
+    ensures kept { IfOk result (λ kept. (place : ℕ)
         → count ≡ counted Bound bundle.now.certificates (before + 1) (place - before)
         → kept ≡ keeps_length Bound bundle.now.certificates before place) }
+    ensures memory { OnErr result
+        (may_take_memory (extensions_at bundle.now.certificates before) ≡ true) }
 {
     let certificate = bundle.get(before).unwrap().certificate;
     let findings = findings_of(alloc, extensions_of(certificate), purpose)?;

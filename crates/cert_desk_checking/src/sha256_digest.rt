@@ -5,8 +5,8 @@ use sha2::{Digest, Sha256};
 use std::alloc::{AllocError, Global};
 use x509_cert::CertDigest;
 
-/// SHA-256 (FIPS 180-4) as a digest of certificates: `hash::<Sha256Digest, P>` answers that of a
-/// certificate's encoding.
+/// SHA-256 (FIPS 180-4) as a digest of certificates: `certificate.hash::<Sha256Digest>(alloc)`
+/// answers that of the certificate's encoding.
 #[derive(Clone, Copy, Debug)]
 pub struct Sha256Digest;
 

@@ -1,25 +1,27 @@
 //! The extensions by which a chain is judged, read (RFC 5280 4.2.1.3, 4.2.1.6, 4.2.1.9, 4.2.1.12).
-ghost use Rattle.std.specs.Prelude.{◌≡◌, ◌≢◌, ℕ, List, IfOk};
+ghost use Rattle.std.specs.Prelude.{◌≡◌, ◌≢◌, ℕ, List, true, IfOk, OnErr};
 ghost use Rattle.const_oid.specs.Bound.{Bound};
 ghost use Rattle.const_oid.specs.Comparing.{owned_eq};
 ghost use Rattle.der_core_head.specs.declared.error.ErrorKind.{ErrorKind};
 ghost use Rattle.x509_cert.specs.Views.{extension_plain, extensions_plain};
 ghost use Rattle.cert_desk_checking.specs.Findings.{found, weight_of};
-ghost use Rattle.cert_desk_checking.specs.Weighing.{any_purpose, basic_constraints, constraints_of};
-ghost use Rattle.cert_desk_checking.specs.Weighing.{extended_key_usage, key_usage, meaning_by};
+ghost use Rattle.cert_desk_checking.specs.Weighing.{any_purpose, extended_key_usage, has_list};
+ghost use Rattle.cert_desk_checking.specs.Weighing.{key_usage, may_take_memory, meaning_by};
 ghost use Rattle.cert_desk_checking.specs.Weighing.{other_names, purposes, serves};
 ghost use Rattle.cert_desk_checking.specs.Weighing.{subject_alt_name, uses, weigh};
 
+use crate::constraints::weigh_constraints;
 use crate::extensions::{BASIC_CONSTRAINTS, EXT_KEY_USAGE, KEY_USAGE, SUBJECT_ALT_NAME, number_of};
 use crate::findings::Findings;
 use crate::weight::Weight;
 use const_oid::ObjectIdentifier;
+use der_core::making::leaf_from_der;
 use der_core::{Error, ErrorKind, Explicit, Implicit, OneOf8, from_der};
 use der_types_text::Ia5StringRef;
 use der_types_values::OctetStringRef;
 use std::alloc::{AllocError, Global};
 use x509_cert::{
-    BasicConstraints, EdiPartyName, ExtendedKeyUsage, Extension, KeyUsage, Name, OtherName,
+    EdiPartyName, ExtendedKeyUsage, Extension, FlagSet, KeyUsage, KeyUsages, Name, OtherName,
 };
 
 // A name that the octets lend where it is a text or octets.
@@ -43,8 +45,9 @@ pub(crate) fn findings_of(
     extensions: &[Extension],
     purpose: &ObjectIdentifier<39>,
 ) -> Result<Findings, AllocError>
-    ensures { IfOk result
+    ensures found { IfOk result
         (λ findings. findings ≡ found Bound purpose.now (extensions_plain extensions.now)) }
+    ensures memory { OnErr result (may_take_memory (extensions_plain extensions.now) ≡ true) }
 {
     let mut findings = Findings::none();
     for extension in extensions {
@@ -60,21 +63,22 @@ fn weigh(
     extension: &Extension,
     purpose: &ObjectIdentifier<39>,
 ) -> Result<Weight, AllocError>
-    ensures { IfOk result
+    ensures weight { IfOk result
         (λ weight. weight ≡ weight_of purpose.now (weigh Bound (extension_plain extension.now))) }
+    ensures memory { OnErr result (has_list (extension_plain extension.now) ≡ true) }
 {
     let octets = extension.extn_value.as_bytes();
     let Some(number) = number_of(&extension.extn_id) else {
         return Ok(Weight::Unweighed);
     };
     if number == KEY_USAGE {
-        return weigh_key_usage(alloc, octets);
+        return Ok(weigh_key_usage(alloc, octets));
     }
     if number == SUBJECT_ALT_NAME {
         return weigh_names(alloc, octets);
     }
     if number == BASIC_CONSTRAINTS {
-        return weigh_constraints(alloc, octets);
+        return Ok(weigh_constraints(alloc, octets));
     }
     if number == EXT_KEY_USAGE {
         return weigh_purposes(alloc, octets, purpose);
@@ -82,16 +86,16 @@ fn weigh(
     Ok(Weight::Unweighed)
 }
 
-// What a key usage weighs.
-fn weigh_key_usage(alloc: Global, octets: &[u8]) -> Result<Weight, AllocError>
-    ensures { IfOk result (λ weight. (purpose : List ℕ)
-        → weight ≡ weight_of purpose (meaning_by key_usage uses octets.now)) }
+// What a key usage weighs. It takes no memory.
+fn weigh_key_usage(alloc: Global, octets: &[u8]) -> Weight
+    ensures { (purpose : List ℕ)
+        → result ≡ weight_of purpose (meaning_by key_usage uses octets.now) }
 {
-    match from_der::<KeyUsage>(alloc, octets) {
-        Ok(usage) => Ok(Weight::KeyUsage {
-            certifies: usage.key_cert_sign(),
-        }),
-        Err(error) => malformed(error),
+    match leaf_from_der::<FlagSet<KeyUsages>>(alloc, octets) {
+        Ok(usages) => Weight::KeyUsage {
+            certifies: KeyUsage(usages).key_cert_sign(),
+        },
+        Err(_) => Weight::Malformed,
     }
 }
 
@@ -102,20 +106,6 @@ fn weigh_names(alloc: Global, octets: &[u8]) -> Result<Weight, AllocError>
 {
     match from_der::<Vec<NameLent<'_>>>(alloc, octets) {
         Ok(_) => Ok(Weight::AlternativeNames),
-        Err(error) => malformed(error),
-    }
-}
-
-// What basic constraints weigh.
-fn weigh_constraints(alloc: Global, octets: &[u8]) -> Result<Weight, AllocError>
-    ensures { IfOk result (λ weight. (purpose : List ℕ)
-        → weight ≡ weight_of purpose (meaning_by basic_constraints constraints_of octets.now)) }
-{
-    match from_der::<BasicConstraints>(alloc, octets) {
-        Ok(constraints) => Ok(Weight::Constraints {
-            ca: constraints.ca,
-            path_len: constraints.path_len_constraint,
-        }),
         Err(error) => malformed(error),
     }
 }

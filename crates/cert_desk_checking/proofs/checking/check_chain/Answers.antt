@@ -1,4 +1,4 @@
-use Rattle.std.proofs.Common.{◌≡◌, ℕ, suc, ◌+◌, ◌<◌, length, true, sym, ap, ◌∙◌, subst, arith}
+use Rattle.std.proofs.Common.{◌≡◌, ℕ, suc, ◌+◌, ◌<◌, length, true, refl, sym, ap, ◌∙◌, subst, arith}
 use Rattle.const_oid.specs.Bound.{Bound}
 use Rattle.x509_cert.specs.Views.{certificate_plain}
 use Rattle.cert_desk_checking.specs.declared.issuer.Issuer.TheVariants as issuers
@@ -10,6 +10,7 @@ use Rattle.cert_desk_checking.specs.Places.{IsFirstUnsigned, IsIssuer, asked_of}
 use Rattle.cert_desk_checking.specs.Verdicts.{all_kept_below, asked_below, asked_signature}
 use Rattle.cert_desk_checking.proofs.Counts.{Rises-by, Rises-more}
 use Rattle.cert_desk_checking.proofs.Encodings.{signed_part-is}
+use Rattle.cert_desk_checking.proofs.MemoryLaws.{takes_at}
 use Rattle.cert_desk_checking.proofs.Outcomes.{asked-is, asked_signed, asked_unsigned, asks_signature, OnErr-by, kept_below-more, refused_at, stops_at, trusted_by}
 use Rattle.cert_desk_checking.proofs.PlaceLaws.{asked_at, entry_at, stands, told_at}
 use Rattle.cert_desk_checking.proofs.checking.check_chain.Goals as goal
@@ -146,4 +147,6 @@ returns-in_err-broken-clause-stopped g c =
     let cs = c.args.bundle.now.certificates in
     let inv = c.loop-place.invariant in
     let within : c.loop-place.place < length cs = omega arith in
-    OnErr-by c.from_residual.result _ (λ stream chain. stops_at t c.args.bundle.now.limit cs c.loop-place.place stream _ _ chain within inv.judged inv.counted.questions)
+    let entry = entry_at _ _ _ _ _ c.get.ensures.entry c.unwrap-entry.ensures in
+    let takes = takes_at cs c.loop-place.place _ _ entry.certificate refl c.in_err-broken.ensures.memory in
+    OnErr-by c.from_residual.result _ (λ stream chain. stops_at t c.args.bundle.now.limit cs c.loop-place.place stream _ _ chain within takes inv.judged inv.counted.questions)

@@ -9,8 +9,10 @@ use Rattle.cert_desk_checking.specs.Findings.{IsRoom, add_place, found}
 use Rattle.cert_desk_checking.specs.Judging.{are_distinct}
 use Rattle.cert_desk_checking.specs.KeptRules.{IsFirstOf}
 use Rattle.cert_desk_checking.specs.Paths.{counts, is_self_issued, is_within}
+use Rattle.cert_desk_checking.specs.Weighing.{may_take_memory}
 use Rattle.cert_desk_checking.proofs.Folds.{not_twice}
 use Rattle.cert_desk_checking.proofs.KeptLaws.{counts-is, first_unsigned_by, keeps_issuing, keeps_known, keeps_serving, keeps_well_formed, keeps_within, tests_say}
+use Rattle.cert_desk_checking.proofs.Outcomes.{OnErr-by}
 use Rattle.cert_desk_checking.proofs.PathLaws.{IsRoom-more, add_place_any, admits_any}
 use Rattle.cert_desk_checking.proofs.PlaceLaws.{keeps_at-is, linked_at}
 use Rattle.cert_desk_checking.proofs.checking.first_unsigned.Goals as goal
@@ -19,7 +21,7 @@ pub returns-clause-judged : goal.returns-clause-judged
 returns-clause-judged c = λ cs anchors place answers stream at.
     let t = terms_of anchors c.args.moment c.args.purpose.now answers in
     let this = certificate_plain c.args.certificate.now in
-    let gathered = c.in_ok-findings.ensures ∙ ap (λ (es : List PlainExtension). found Bound c.args.purpose.now es) c.extensions_of-extensions.ensures in
+    let gathered = c.in_ok-findings.ensures.found ∙ ap (λ (es : List PlainExtension). found Bound c.args.purpose.now es) c.extensions_of-extensions.ensures in
     let left = c.args.room.now.left in
     let known = ap (λ b. not b && not (is_self_issued Bound this)) at.last_is ∙ sym (counts-is Bound cs place this at.certificate) in
     let takes = c.takes_room-counts.ensures ∙ ap (λ b. is_some left && b) known in
@@ -41,7 +43,7 @@ returns-clause-judged c = λ cs anchors place answers stream at.
 pub returns-clause-room : goal.returns-clause-room
 returns-clause-room c = λ cs anchors place at none.
     let this = certificate_plain c.args.certificate.now in
-    let gathered = c.in_ok-findings.ensures ∙ ap (λ (es : List PlainExtension). found Bound c.args.purpose.now es) c.extensions_of-extensions.ensures in
+    let gathered = c.in_ok-findings.ensures.found ∙ ap (λ (es : List PlainExtension). found Bound c.args.purpose.now es) c.extensions_of-extensions.ensures in
     let left = c.args.room.now.left in
     let known = ap (λ b. not b && not (is_self_issued Bound this)) at.last_is ∙ sym (counts-is Bound cs place this at.certificate) in
     let takes = c.takes_room-counts.ensures ∙ ap (λ b. is_some left && b) known in
@@ -50,3 +52,9 @@ returns-clause-room c = λ cs anchors place at none.
     let behind = c.add.ensures ∙ ap (λ b. add_place c.args.room.now b c.in_ok-findings.findings.path_len) takes ∙ add_place_any c.args.room.now (counts Bound cs place) c.in_ok-findings.findings.path_len in
     subst (λ r. IsRoom Bound cs (place + 1) r) (sym behind)
     (IsRoom-more Bound c.args.purpose.now cs place this c.args.room.now (counts Bound cs place) c.in_ok-findings.findings.path_len at.certificate refl at.room enough (ap (λ f. f.path_len) gathered))
+
+pub returns-in_err-findings-clause-memory : goal.returns-in_err-findings-clause-memory
+returns-in_err-findings-clause-memory c = OnErr-by _ _ (ap may_take_memory (sym c.extensions_of-extensions.ensures) ∙ c.in_err-findings.ensures.memory)
+
+pub returns-in_err-twin-clause-memory : goal.returns-in_err-twin-clause-memory
+returns-in_err-twin-clause-memory c = OnErr-by _ _ (ap may_take_memory (sym c.extensions_of-extensions.ensures) ∙ c.in_err-twin.ensures.memory)

@@ -1,6 +1,8 @@
 use Rattle.std.proofs.Common.{◌≡◌, ℕ, Bool, ◌+◌, ◌-◌, suc, true, cond, ◌&&◌, sym, ap, ◌∙◌, arith}
 use Rattle.const_oid.specs.Bound.{Bound}
 use Rattle.cert_desk_checking.specs.Paths.{counted, counts, keep_lengths, keeps_length}
+use Rattle.cert_desk_checking.specs.Reasons.{SomeMayTakeMemory}
+use Rattle.cert_desk_checking.proofs.Outcomes.{OnErr-by}
 use Rattle.cert_desk_checking.proofs.ReasonLaws.{counted_less}
 use Rattle.cert_desk_checking.proofs.reasons.exceeded_length.Goals as goal
 use Rattle.cert_desk_checking.proofs.reasons.exceeded_length.Goals.{then-counts, else-counts}
@@ -19,7 +21,7 @@ loop-before-preserved c =
     let place = c.args.place in
     let less = counted_less Bound cs before place c.loop-before.left c.loop-before-test.true c.loop-before.invariant.left in
     let next : before + 1 ≡ suc before = omega arith in
-    let here : keeps_length Bound cs before place ≡ true = sym (c.in_ok-keeps_length.ensures place c.loop-before.invariant.left) ∙ c.if-not-branch.false in
+    let here : keeps_length Bound cs before place ≡ true = sym (c.in_ok-keeps_length.ensures.kept place c.loop-before.invariant.left) ∙ c.if-not-branch.false in
     record {
       kept = ap (λ (n : ℕ). keep_lengths Bound cs n place) next ∙ ap (λ (b : Bool). b && keeps_length Bound cs before place) c.loop-before.invariant.kept ∙ here;
       left = elim c.if-counts.branch [
@@ -31,3 +33,7 @@ loop-before-preserved c =
             omega (arith, less, none, w.left-is)
       ];
     }
+
+pub returns-in_err-keeps_length-clause-memory : goal.returns-in_err-keeps_length-clause-memory
+returns-in_err-keeps_length-clause-memory c =
+    OnErr-by _ (SomeMayTakeMemory c.args.bundle.now.certificates c.args.place) (c.loop-before.before, omega (arith, c.loop-before-test.true), c.in_err-keeps_length.ensures.memory)

@@ -7,6 +7,7 @@ use Rattle.x509_cert.specs.Views.{certificate_plain, extensions_plain}
 use Rattle.cert_desk_checking.specs.declared.rule.Rule.TheVariants as rules
 use Rattle.cert_desk_checking.specs.Judging.{keeps_at}
 use Rattle.cert_desk_checking.specs.Reasons.{has_no_authority, is_against}
+use Rattle.cert_desk_checking.proofs.MemoryLaws.{wanted_at}
 use Rattle.cert_desk_checking.proofs.ReasonLaws.{authority-lacks, breaks-by, explained, told-if, told-where}
 use Rattle.cert_desk_checking.proofs.reasons.reason_of.Goals as goal
 
@@ -37,4 +38,13 @@ returns-in_default-rule c =
           other.not-DuplicateExtension other.not-NotAuthority other.not-PathTooLong kind broken
           (subst (λ (xs : List PlainExtension). list_any (is_against Bound t.purpose c.args.rule) xs ≡ false) es
           (subst (λ (p : List _). list_any (is_against Bound p c.args.rule) (extensions_plain c.extensions_of-extensions.result.now) ≡ false) (sym purpose) no_one))));
+      memory = wanted_at _ _ c.args.place _ _ at es c.extension_against.ensures.memory;
     }
+
+pub returns-in-DuplicateExtension-clause-memory : goal.returns-in-DuplicateExtension-clause-memory
+returns-in-DuplicateExtension-clause-memory c =
+    wanted_at _ _ c.args.place _ _ c.in-Some.ensures.entry.certificate c.extensions_of-extensions.ensures c.twins_in.ensures.memory
+
+pub returns-in-NotAuthority-clause-memory : goal.returns-in-NotAuthority-clause-memory
+returns-in-NotAuthority-clause-memory c =
+    wanted_at _ _ c.args.place _ _ c.in-Some.ensures.entry.certificate c.extensions_of-extensions.ensures c.lack_of_authority.ensures.memory
