@@ -12,7 +12,7 @@ pub use cert_desk_issuing::{
     IssueError, Issued, MemoryInput, MemoryOutput, Name, ObjectIdentifier, Order, OrdersError,
     Outcome, Output, Raw, ReadAllError, ReadError, Reason, Rule, Sha256Digest, SignError,
     SignatureJudge, Signer, Standing, SubjectPublicKeyInfo, Time, ToWrite, TrustAnchorChoice,
-    USAGE, Verdict, anchors_line, check, complain, first_fault, hash, issue, orders_in, read_all,
+    USAGE, Verdict, anchors_line, check, complain, first_fault, issue, orders_in, read_all,
     read_anchors, read_stream, reason_of, run_check, run_issue, run_orders, status_of, tell_device,
     tell_memory, verdict_line, write_all,
 };

@@ -1,10 +1,8 @@
 -- A stream that was issued is judged under its own root.
-use Rattle.std.proofs.Common.{◌≡◌, ◌≢◌, ◌⊎◌, inl, inr, ℕ, ◌-◌, ◌^◌, ◌<◌, List, [], ◌∷◌, ◌++◌, length, map, Some, Result, Ok, Err, OnErr, slice_get, refl, sym, ap, ◌∙◌, subst, arith}
+use Rattle.std.proofs.Common.{◌≡◌, ◌≢◌, ◌⊎◌, inl, inr, ℕ, ◌-◌, ◌<◌, List, [], ◌∷◌, length, Some, Result, Ok, Err, OnErr, slice_get, refl, sym, ap, ◌∙◌, subst, arith}
 use Rattle.const_oid.specs.Bound.{Bound}
 use Rattle.der_core_head.specs.Limits.{length_max}
 use Rattle.cert_desk_checking.specs.Certificates.{PlainCertificate, PlainName, PublicKey, public_key}
-use Rattle.cert_desk_checking.specs.declared.bundle_error.BundleError.{BundleError}
-use Rattle.cert_desk_checking.specs.declared.bundle_error.BundleError.TheVariants as refusals
 use Rattle.cert_desk_checking.specs.declared.checked.CheckError.{CheckError}
 use Rattle.cert_desk_checking.specs.declared.checked.CheckError.TheVariants as errors
 use Rattle.cert_desk_checking.specs.declared.checked.Verdict.{Verdict}
@@ -13,54 +11,15 @@ use Rattle.cert_desk_checking.specs.declared.standing.Standing.{Standing}
 use Rattle.cert_desk_checking.specs.declared.standing.Standing.TheVariants as standings
 use Rattle.cert_desk_checking.specs.Chains.{Chain}
 use Rattle.cert_desk_checking.specs.Judging.{Answers, PlainAnchor, Terms}
-use Rattle.cert_desk_checking.specs.Steps.{HasFailed, RefusesEnd, RefusesPiece}
-use Rattle.cert_desk_checking.specs.Streams.{Kept, Reads}
 use Rattle.cert_desk_checking.specs.Verdicts.{IsVerdict, Trusted}
 use Rattle.cert_desk_checking.proofs.ChainLaws.{only_trusted}
 use Rattle.cert_desk_checking.proofs.OneChain.{one_chain}
-use Rattle.cert_desk_issuing.specs.Auditing.{root_anchor, root_anchors}
+use Rattle.cert_desk_checking.specs.Issuers.{as_anchor}
+use Rattle.cert_desk_issuing.specs.Laws.{root_anchors, Permits, anchor_of, terms_for}
 use Rattle.cert_desk_issuing.specs.Chains.{HoldsOrders}
-use Rattle.cert_desk_issuing.specs.Laws.{Permits, anchor_of, terms_for}
 use Rattle.cert_desk_issuing.specs.PlainOrders.{PlainOrder}
-use Rattle.cert_desk_issuing.proofs.Held.{key_is, subject_is}
-use Rattle.cert_desk_issuing.proofs.Places.{some_same}
-use Rattle.cert_desk_issuing.proofs.TrustLaws.{held_is_trusted, trusted_is_permitted}
-
--- What is known of a bundle that takes no more pieces.
-pub record IsClosed (b : Kept) (stream : List ℕ) : Type 0 where
-  pub closed : b.standing ≢ standings.Open
-  pub sound : b.standing ≢ standings.NoDevice
-  pub reads : b.standing ≢ standings.NoMemory → Reads Bound b stream
-
--- a piece that is refused, and an end
-pub refused_piece : (old new : Kept) (piece : List ℕ) (e : BundleError) → old.standing ≡ standings.Open → Reads Bound old [] → RefusesPiece Bound old new piece e → IsClosed new piece
-refused_piece old new piece (refusals.Fault place offset kind) is_open read h = record {
-  closed = λ e. (let is = h.found.standing in absurd cc);
-  sound = λ e. (let is = h.found.standing in absurd cc);
-  reads = λ _. h.reads [] read;
-}
-refused_piece old new piece refusals.OutOfMemory is_open read h = record {
-  closed = λ e. (let is = h.standing in absurd cc);
-  sound = λ e. (let is = h.standing in absurd cc);
-  reads = λ n. absurd (n h.standing);
-}
-refused_piece old new piece refusals.Failed is_open read h = absurd (h.was_shut is_open)
-
-pub refused_end : (old new : Kept) (stream : List ℕ) (e : BundleError) → old.standing ≡ standings.Open → Reads Bound old stream → RefusesEnd Bound old new e → IsClosed new stream
-refused_end old new stream (refusals.Fault place offset kind) is_open read h = record {
-  closed = λ e. (let is = h.found.standing in absurd cc);
-  sound = λ e. (let is = h.found.standing in absurd cc);
-  reads = λ _. h.reads stream read;
-}
-refused_end old new stream refusals.OutOfMemory is_open read h = absurd h
-refused_end old new stream refusals.Failed is_open read h = absurd (subst HasFailed is_open h.failed)
-
-pub is_ended : (b : Kept) (stream : List ℕ) → b.standing ≡ standings.Ended → Reads Bound b stream → IsClosed b stream
-is_ended b stream is read = record {
-  closed = λ e. absurd cc;
-  sound = λ e. absurd cc;
-  reads = λ _. read;
-}
+use Rattle.std.proofs.lemmas.Option.{same_Some}
+use Rattle.cert_desk_issuing.proofs.Trusting.{held_at, held_is_trusted, key_is, subject_is, trusted_is_permitted}
 
 -- one anchor
 abbrev anchor_alone : PlainName → PublicKey → List PlainAnchor
@@ -68,15 +27,15 @@ anchor_alone name key = record { name = name; key = key } ∷ []
 
 -- the anchor is that of the root's order
 module _ (root : PlainOrder) (below : List PlainOrder) (cs own : List PlainCertificate) (stream : List ℕ) (h : HoldsOrders (root ∷ below) cs stream) (chain : Chain Bound length_max own stream) where
-  first_anchor : (ds : List PlainCertificate) → (c : PlainCertificate) → slice_get ds 0 ≡ Some c → root_anchors ds ≡ root_anchor c ∷ []
+  first_anchor : (ds : List PlainCertificate) → (c : PlainCertificate) → slice_get ds 0 ≡ Some c → root_anchors ds ≡ as_anchor c ∷ []
   first_anchor [] c e = absurd cc
-  first_anchor (d ∷ ds) c e = ap (λ x. root_anchor x ∷ []) (some_same d c e)
+  first_anchor (d ∷ ds) c e = ap (λ x. as_anchor x ∷ []) (same_Some d c e)
 
   pub anchors_are : root_anchors own ≡ anchor_of root ∷ []
   anchors_are =
       let some : 0 < length cs = omega (arith, h.count) in
-      let here = h.held 0 some in
-      let first : here.order ≡ root = some_same here.order root (sym here.order_is) in
+      let here = held_at (root ∷ below) cs h.held 0 some in
+      let first : here.order ≡ root = same_Some here.order root (sym here.order_is) in
       let named = subject_is (root ∷ below) cs 0 here ∙ ap (λ (p : PlainOrder). p.subject) first in
       let keyed = key_is (root ∷ below) cs 0 here ∙ ap (λ (p : PlainOrder). p.key) first in
       ap root_anchors (one_chain Bound length_max own cs stream chain h.chain)
@@ -98,11 +57,8 @@ on_error (Err e) p = p
 
 -- one thing where a bundle's stream isn't whole, and another one where it is
 pub asked_or_not : {A B : Type 0} (s : Standing) → ((s ≢ standings.Ended) → A) → (s ≡ standings.Ended → B) → A ⊎ B
-asked_or_not standings.Open other ended = inl (other (λ e. absurd cc))
 asked_or_not standings.Ended other ended = inr (ended refl)
-asked_or_not (standings.Faulted kind) other ended = inl (other (λ e. absurd cc))
-asked_or_not standings.NoMemory other ended = inl (other (λ e. absurd cc))
-asked_or_not standings.NoDevice other ended = inl (other (λ e. absurd cc))
+asked_or_not _ other ended = inl (other (λ e. absurd cc))
 
 -- trusted exactly where it is permitted
 pub exactly : (root : PlainOrder) (below : List PlainOrder) (cs : List PlainCertificate) (stream : List ℕ) (limit moment : ℕ) (purpose : List ℕ) (answers : Answers) (v : Verdict)

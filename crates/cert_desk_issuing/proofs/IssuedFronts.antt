@@ -1,8 +1,6 @@
 -- Certificates are issued in turn, up to the first that isn't.
-use Rattle.std.proofs.Common.{◌≡◌, ℕ, zero, suc, Bool, true, false, ◌+◌, ◌-◌, ◌<◌, ◌≤◌, ◌^◌, List, [], ◌∷◌, ◌++◌, length, map, Some, Result, Ok, Err, refl, sym, ap, ◌∙◌, subst, arith, inl, inr, get_or, slice_get, length-append}
+use Rattle.std.proofs.Common.{◌≡◌, ℕ, zero, suc, Bool, true, false, ◌+◌, ◌-◌, ◌<◌, ◌^◌, List, [], ◌∷◌, ◌++◌, length, map, Some, Result, Ok, Err, refl, sym, ap, ◌∙◌, subst, arith, get_or, slice_get, length-append}
 use Rattle.std.specs.Prelude.{◌==◌, if◌then◌else◌}
-use Rattle.std.specs.List.{flat_map}
-use Rattle.std.proofs.lemmas.Bool.{cases_lt}
 use Rattle.std.proofs.lemmas.Grind.{flat_map-append}
 use Rattle.std.proofs.lemmas.List.{append-nil}
 use Rattle.std.proofs.lemmas.Option.{same_Some, slice_get_read}
@@ -13,8 +11,8 @@ use Rattle.der_core_head.specs.BitStrings.{Bits}
 use Rattle.der_core_head.specs.Grammar.{plain_list}
 use Rattle.der_core_head.specs.Heads.{Fits}
 use Rattle.der_core_head.specs.Shapes.{IsValid}
-use Rattle.cert_desk_checking.specs.Certificates.{Algorithm, PlainCertificate, PublicKey, Tbs, certificate_octets, outer_algorithm, raw_certificate, signature_bits, tbs}
-use Rattle.cert_desk_checking.specs.Chains.{Chain, Stands, joined}
+use Rattle.cert_desk_checking.specs.Certificates.{Algorithm, PlainCertificate, PublicKey, Tbs, certificate_octets, raw_certificate, signature_bits}
+use Rattle.cert_desk_checking.specs.Chains.{Stands, joined}
 use Rattle.cert_desk_orders.specs.declared.order.Order.{Order}
 use Rattle.cert_desk_issuing.specs.declared.accepted.Accepted.{Accepted}
 use Rattle.cert_desk_issuing.specs.declared.making.Made.{Made}
@@ -23,14 +21,15 @@ use Rattle.cert_desk_issuing.specs.declared.role.Role.TheVariants as roles
 use Rattle.cert_desk_issuing.specs.declared.stop.Stop.{Stop}
 use Rattle.cert_desk_issuing.specs.declared.stop.Stop.TheVariants as stops
 use Rattle.cert_desk_issuing.specs.Acceptance.{AcceptedOrders}
-use Rattle.cert_desk_issuing.specs.Chains.{AreMade, HoldsOrders, IsHeldAt, IsMadeAt, IsOrderedAt, IsSignedAt, IsSignedBy}
-use Rattle.cert_desk_issuing.specs.Making.{IsMadeOf, Makes, MakesAt, made_plain}
+use Rattle.cert_desk_issuing.specs.Chains.{AreMade, HoldsOrders, IsMadeAt, IsOrderedAt, IsSignedBy}
+use Rattle.cert_desk_issuing.specs.Making.{Makes, MakesAt, made_plain}
 use Rattle.cert_desk_issuing.specs.Ordered.{ordered_part, part_octets}
 use Rattle.cert_desk_issuing.specs.PlainOrders.{AreKeys, AreReady, IsReady, PlainOrder, accepted_plain, orders_plain}
 use Rattle.cert_desk_issuing.specs.Refusals.{IsStoppedAt, Refuses, Stops, stop_at}
 use Rattle.cert_desk_issuing.specs.Roles.{place_above, role_at}
-use Rattle.cert_desk_issuing.proofs.AcceptedFronts.{before_or_last, front_at, key_there, last_at, plain_at, plain_length, plain_pushed}
-use Rattle.cert_desk_issuing.proofs.ReadNames.{all_more}
+use Rattle.cert_desk_issuing.proofs.AcceptedFronts.{each_more, key_there, plain_at}
+use Rattle.cert_desk_checking.proofs.Names.SetTypes.FewSteps.{length_plain_list}
+use Rattle.cert_desk_checking.proofs.Names.Lists.{all_more, plain_append}
 
 -- so many certificates, from the first on, hold the orders and are signed, and the stream joins them
 pub record IsFront {S : Type 0} (algorithm : S → Algorithm) (signs : S → List ℕ → Bits → Type 0) (ps : List PlainOrder) (signers : List S) (cs : List PlainCertificate) (stream : List ℕ) : Type 0 where
@@ -38,68 +37,15 @@ pub record IsFront {S : Type 0} (algorithm : S → Algorithm) (signs : S → Lis
   pub joins : stream ≡ joined Bound cs
 
 pub issued_none : {S : Type 0} (algorithm : S → Algorithm) (signs : S → List ℕ → Bits → Type 0) (ps : List PlainOrder) (signers : List S) → IsFront algorithm signs ps signers [] []
-issued_none algorithm signs ps signers = record {
-  made = record { held = λ place lt. absurd (omega (arith, lt)); signed = λ place lt. absurd (omega (arith, lt)); each = tt };
-  joins = refl;
-}
-
-held_there : (ps : List PlainOrder) (cs : List PlainCertificate) (c : PlainCertificate) (place : ℕ) → IsHeldAt ps cs place → IsHeldAt ps (cs ++ c ∷ []) place
-held_there ps cs c place h = record {
-  order = h.order;
-  above = h.above;
-  certificate = h.certificate;
-  order_is = h.order_is;
-  right = h.right;
-  above_is = h.above_is;
-  certificate_is = front_at cs c place h.certificate h.certificate_is;
-  part = h.part;
-}
-
-held_last : (ps : List PlainOrder) (cs : List PlainCertificate) (c : PlainCertificate) → IsOrderedAt ps (length cs) c → IsHeldAt ps (cs ++ c ∷ []) (length cs)
-held_last ps cs c h = record {
-  order = h.order;
-  above = h.above;
-  certificate = c;
-  order_is = h.order_is;
-  right = h.right;
-  above_is = h.above_is;
-  certificate_is = last_at cs c;
-  part = h.part;
-}
+issued_none algorithm signs ps signers = record { made = record { held = λ place c e. absurd cc; signed = λ place c e. absurd cc; each = tt }; joins = refl }
 
 module _ {S : Type 0} (algorithm : S → Algorithm) (signs : S → List ℕ → Bits → Type 0) (ps : List PlainOrder) (signers : List S) (cs : List PlainCertificate) (c : PlainCertificate) where
-  signed_there : (place : ℕ) → IsSignedAt algorithm signs signers cs place → IsSignedAt algorithm signs signers (cs ++ c ∷ []) place
-  signed_there place h = record {
-    signer = h.signer;
-    certificate = h.certificate;
-    signer_is = h.signer_is;
-    certificate_is = front_at cs c place h.certificate h.certificate_is;
-    algorithm_is = h.algorithm_is;
-    signed = h.signed;
-  }
-
-  signed_last : IsSignedBy algorithm signs signers (length cs) c → IsSignedAt algorithm signs signers (cs ++ c ∷ []) (length cs)
-  signed_last h = record {
-    signer = h.signer;
-    certificate = c;
-    signer_is = h.signer_is;
-    certificate_is = last_at cs c;
-    algorithm_is = h.algorithm_is;
-    signed = h.signed;
-  }
-
   pub issued_more : (stream octets : List ℕ) → IsFront algorithm signs ps signers cs stream → IsMadeAt algorithm signs ps signers (length cs) c octets
       → IsFront algorithm signs ps signers (cs ++ c ∷ []) (stream ++ octets)
   issued_more stream octets front here = record {
     made = record {
-      held = λ place lt. elim (cases_lt place (length cs)) [
-        | inl low ↦ held_there ps cs c place (front.made.held place low)
-        | inr high ↦ subst (λ n. IsHeldAt ps (cs ++ c ∷ []) n) (before_or_last cs c place lt high) (held_last ps cs c here.ordered)
-      ];
-      signed = λ place lt. elim (cases_lt place (length cs)) [
-        | inl low ↦ signed_there place (front.made.signed place low)
-        | inr high ↦ subst (λ n. IsSignedAt algorithm signs signers (cs ++ c ∷ []) n) (before_or_last cs c place lt high) (signed_last here.signed)
-      ];
+      held = each_more (λ n d. IsOrderedAt ps n d) cs c front.made.held here.ordered;
+      signed = each_more (λ n d. IsSignedBy algorithm signs signers n d) cs c front.made.signed here.signed;
       each = all_more (Stands Bound length_max) cs c front.made.each here.stands;
     };
     joins = ap (λ w. w ++ octets) front.joins
@@ -114,11 +60,11 @@ pub made_more : {S : Type 0} (algorithm : S → Algorithm) (signs : S → List �
     → (length ys ≡ place + 1) × IsFront algorithm signs ps signers (plain_list plain ys) longer
 made_more algorithm signs ps signers plain xs ys x place stream longer octets e f n front made =
     let count : length (xs ++ x ∷ []) ≡ place + 1 = omega (arith, n, length-append xs (x ∷ [])) in
-    let here = sym (plain_length plain xs ∙ n) in
+    let here = sym (length_plain_list plain xs ∙ n) in
     let more = issued_more algorithm signs ps signers (plain_list plain xs) (plain x) stream octets front (subst (λ m. IsMadeAt algorithm signs ps signers m (plain x) octets) here made) in (
       ap length e ∙ count,
       subst (λ w. IsFront algorithm signs ps signers (plain_list plain ys) w) (sym f)
-          (subst (λ cs. IsFront algorithm signs ps signers cs (stream ++ octets)) (sym (ap (plain_list plain) e ∙ plain_pushed plain xs x)) more),
+          (subst (λ cs. IsFront algorithm signs ps signers cs (stream ++ octets)) (sym (ap (plain_list plain) e ∙ plain_append plain xs (x ∷ []))) more),
     )
 
 -- what is read of a list at the place above
@@ -143,7 +89,7 @@ within_all c v =
 -- What is made at a place, of what code has of orders.
 module _ (xs : List Accepted) (place : ℕ) (role : Role) (x y : Accepted) (x_is : slice_get xs place ≡ Some x) (y_is : slice_get xs (place_above place) ≡ Some y) (e : role ≡ role_at (length xs) place) where
   role_is : role ≡ role_at (length (orders_plain xs)) place
-  role_is = e ∙ ap (λ n. role_at n place) (sym (plain_length accepted_plain xs))
+  role_is = e ∙ ap (λ n. role_at n place) (sym (length_plain_list accepted_plain xs))
 
   pub ready_at : AreReady (orders_plain xs) → IsReady role (accepted_plain x)
   ready_at ready = subst (λ (r : Role). IsReady r (accepted_plain x)) (sym role_is) (ready place (accepted_plain x) (plain_at accepted_plain xs place x x_is))
@@ -199,7 +145,7 @@ module _ (xs : List Accepted) (place : ℕ) (role : Role) (x y : Accepted) (x_is
 pub all_held : {S : Type 0} (algorithm : S → Algorithm) (signs : S → List ℕ → Bits → Type 0) (xs : List Accepted) (signers : List S) {C : Type 0} (plain : C → PlainCertificate) (certificates : List C) (stream : List ℕ) → length stream < 2 ^ 64
     → length certificates ≡ length xs → IsFront algorithm signs (orders_plain xs) signers (plain_list plain certificates) stream → HoldsOrders (orders_plain xs) (plain_list plain certificates) stream
 all_held algorithm signs xs signers plain certificates stream fits n front = record {
-  count = plain_length plain certificates ∙ n ∙ sym (plain_length accepted_plain xs);
+  count = length_plain_list plain certificates ∙ n ∙ sym (length_plain_list accepted_plain xs);
   chain = record { each = front.made.each; joins = front.joins; fits = fits };
   held = front.made.held;
 }
@@ -208,6 +154,5 @@ all_held algorithm signs xs signers plain certificates stream fits n front = rec
 module _ {S : Type 0} (key : S → PublicKey) (algorithm : S → Algorithm) (signs : S → List ℕ → Bits → Type 0) (may_refuse : S → List ℕ → Type 0) (orders : List Order) (signers : List S) (ps : List PlainOrder) (cs : List PlainCertificate) (place : ℕ)
     (a : AcceptedOrders orders (map key signers) ps) (n : length cs ≡ place) (made : AreMade algorithm signs ps signers cs) where
   pub stopped : (s : Stop) → IsStoppedAt algorithm signs may_refuse ps signers place s → Refuses key algorithm signs may_refuse orders signers (stop_at place s)
-  stopped stops.Refused h = record { asked = ps; accepted = a; before = cs; here = n; made = made; stopped = h }
-  stopped stops.TooLong h = record { asked = ps; accepted = a; before = cs; here = n; made = made; stopped = h }
   stopped stops.OutOfMemory h = tt
+  stopped _ h = record { asked = ps; accepted = a; before = cs; here = n; made = made; stopped = h }

@@ -1,33 +1,140 @@
--- Orders of which nothing stands in the way are refused for want of memory alone.
-use Rattle.std.proofs.Common.{◌≡◌, ℕ, ◌<◌, List, [], length, map, Option, Some, refl, sym, ap, ◌∙◌, subst, arith, inl, inr, slice_get}
-use Rattle.std.specs.Prelude.{◌≢◌, ◌⊎◌}
+-- Orders that are accepted ask for one thing, and where nothing stands in the way they are refused for want of memory alone.
+use Rattle.std.proofs.Common.{◌≡◌, ℕ, ◌<◌, List, length, true, false, Option, Some, None, refl, sym, ap, ◌∙◌, subst, arith, inl, inr, slice_get, string_bytes, map, Ok, Err}
 use Rattle.std.proofs.lemmas.List.{length-map}
 use Rattle.std.proofs.lemmas.Option.{same_Some, slice_get_within}
+use Rattle.const_oid.specs.Bound.{Bound}
 use Rattle.der_core_head.specs.BitStrings.{Bits}
-use Rattle.cert_desk_checking.specs.Certificates.{Algorithm, PublicKey, Tbs, name}
+use Rattle.der_core_head.specs.Dates.{Civil}
+use Rattle.der_core_head.specs.Shapes.{IsBody, IsContent, IsValid}
+use Rattle.cert_desk_checking.specs.Builders.{IsWantOfMemory, NamesAuthority}
+use Rattle.cert_desk_checking.specs.Certificates.{Algorithm, PlainName, PublicKey, name, Tbs}
+use Rattle.cert_desk_checking.specs.Names.TimeTypes.Seconds.{unix_seconds}
+use Rattle.cert_desk_checking.specs.Parts.{civil_of, tbs_certificate, time_of}
+use Rattle.cert_desk_checking.specs.Texts.{SpellsName}
+use Rattle.cert_desk_checking.specs.Views.{key_plain}
+use Rattle.cert_desk_orders.specs.Grammar.{PlainValidity, not_after, not_before}
 use Rattle.cert_desk_orders.specs.declared.order.Order.{Order}
+use Rattle.x509_cert_builders.specs.declared.error.Error.{Error}
+use Rattle.cert_desk_checking.proofs.Names.OneName.{one_spelled, spelled_stands}
+use Rattle.cert_desk_checking.proofs.Names.TimeTypes.SecondsOrders.{one_by_text}
+use Rattle.cert_desk_issuing.specs.Acceptance.{IsAccepted, IsAcceptedAt, IsKeyOf, IsNamedFor, IsTextOf, SpellDates, names_subscriber}
+use Rattle.cert_desk_issuing.specs.Issuable.{AreIssuable, IsShort}
+use Rattle.cert_desk_issuing.specs.Ordered.{ordered_part, part_octets}
+use Rattle.cert_desk_issuing.specs.PlainOrders.{HasNamesFor, PlainOrder}
+use Rattle.cert_desk_issuing.specs.Refusals.{HasFaultyDates, IsOtherKey, IsRefusedAt, RefusesName, RefusesOrder, Faults, Refuses, Stops, StopsAt}
+use Rattle.cert_desk_issuing.specs.Roles.{role_at, place_above}
 use Rattle.cert_desk_issuing.specs.declared.fault.Fault.{Fault}
-use Rattle.cert_desk_issuing.specs.declared.fault.Fault.TheVariants as faults
 use Rattle.cert_desk_issuing.specs.declared.issue_error.IssueError.{IssueError}
-use Rattle.cert_desk_issuing.specs.declared.issue_error.IssueError.TheVariants as errors
 use Rattle.cert_desk_issuing.specs.declared.role.Role.{Role}
 use Rattle.cert_desk_issuing.specs.declared.stop.Stop.{Stop}
+use Rattle.cert_desk_issuing.specs.declared.fault.Fault.TheVariants as faults
+use Rattle.cert_desk_issuing.specs.declared.issue_error.IssueError.TheVariants as errors
 use Rattle.cert_desk_issuing.specs.declared.stop.Stop.TheVariants as stops
-use Rattle.cert_desk_issuing.specs.Acceptance.{AcceptedOrders, IsAcceptedAt}
-use Rattle.cert_desk_issuing.specs.Issuable.{AreIssuable, IsIssuableAt, IsShort}
-use Rattle.cert_desk_issuing.specs.Ordered.{ordered_part, part_octets}
-use Rattle.cert_desk_issuing.specs.PlainOrders.{PlainOrder}
-use Rattle.cert_desk_issuing.specs.Refusals.{Faults, IsStoppedAt, Refuses, Stops, StopsAt}
-use Rattle.cert_desk_issuing.specs.Roles.{place_above, role_at, signers_for}
-use Rattle.cert_desk_issuing.proofs.AcceptedFronts.{above_within}
-use Rattle.cert_desk_issuing.proofs.OneAsked.{issuer_valid, one_at, stands_at, subject_valid}
 
--- the order at a place is accepted
-accepted_there : (orders : List Order) (keys : List PublicKey) (ps : List PlainOrder) (place : ℕ) (p : PlainOrder) → AcceptedOrders orders keys ps → slice_get ps place ≡ Some p → IsAcceptedAt orders keys place p
-accepted_there orders keys ps place p a is =
-    let at = a.front.each place (slice_get_within ps place p is) in
-    let same : at.0 ≡ p = same_Some at.0 p (sym at.1 ∙ is) in
-    subst (λ (q : PlainOrder). IsAcceptedAt orders keys place q) same at.2
+-- a name that was found right is refused for want of memory alone
+named_again : (n : PlainName) (e : Error) → NamesAuthority {X = Unit {0}} n (Ok tt) → NamesAuthority {X = Unit {0}} n (Err e) → IsWantOfMemory e
+named_again n e right (inl first) =
+    let good = right.0 first.0 first.1 in
+    let bad = rw first.3 at good in
+    cc bad
+named_again n e right (inr (inl (named, inl foreign))) =
+    let clash = sym right.1 ∙ foreign.1 in
+    absurd (cc clash)
+named_again n e right (inr (inl (named, inr lacking))) =
+    let clash : true ≡ false = sym right.2 ∙ lacking.1 in
+    absurd (cc clash)
+named_again n e right (inr (inr want)) = want
+
+-- what has an encoding where a signed part has one
+subject_valid : (role : Role) (p above : PlainOrder) (a : Algorithm) → IsValid (tbs_certificate Bound None) (ordered_part role p above a) → IsValid (name Bound) p.subject
+unfolding IsValid IsContent IsBody
+subject_valid role p above a v = v.0.1.1.1.1.1.0
+
+issuer_valid : (role : Role) (p above : PlainOrder) (a : Algorithm) → IsValid (tbs_certificate Bound None) (ordered_part role p above a) → IsValid (name Bound) above.subject
+unfolding IsValid IsContent IsBody
+issuer_valid role p above a v = v.0.1.1.1.0
+
+-- a text is that of one date
+one_date : (text : List ℕ) (c d : Civil) → IsTextOf text c → IsTextOf text d → c ≡ d
+one_date text c d h k = one_by_text c d h.0 k.0 (sym h.1 ∙ k.1)
+
+abbrev validity_of : Civil → Civil → PlainValidity
+validity_of before after = (time_of before, (time_of after, tt))
+
+one_validity : (before after : List ℕ) (v w : PlainValidity) → SpellDates before after v → SpellDates before after w → v ≡ w
+one_validity before after v w h k =
+    let first = one_date before (civil_of (not_before v)) (civil_of (not_before w)) h.first k.first in
+    let last = one_date after (civil_of (not_after v)) (civil_of (not_after w)) h.last k.last in
+    h.spelled ∙ ap (λ c. validity_of c (civil_of (not_after v))) first ∙ ap (λ c. validity_of (civil_of (not_before w)) c) last ∙ sym k.spelled
+
+dates_stand : (o : Order) (v : PlainValidity) → SpellDates (string_bytes o.not_before) (string_bytes o.not_after) v → HasFaultyDates o → ⊥
+dates_stand o v h (inl none) = none (civil_of (not_before v)) h.first.0 h.first.1
+dates_stand o v h (inr (inl none)) = none (civil_of (not_after v)) h.last.0 h.last.1
+dates_stand o v h (inr (inr late)) =
+    let first = ap unix_seconds (one_date (string_bytes o.not_before) (civil_of (not_before v)) late.0 h.first late.2) in
+    let last = ap unix_seconds (one_date (string_bytes o.not_after) (civil_of (not_after v)) late.1 h.last late.3) in
+    let lt = late.4 in
+    let le = h.in_order in
+    omega (arith, first, last, lt, le)
+
+key_stands : (key : Option PublicKey) (k : PublicKey) → IsKeyOf key k → IsOtherKey key k → ⊥
+key_stands (Some s) k h other = other h
+key_stands None k h other = other
+
+-- a name that may stand there isn't refused
+name_stands : (role : Role) (n : PlainName) (f : Fault) → IsNamedFor role n → RefusesName role n f → f ≡ faults.OutOfMemory
+name_stands role n (faults.RootName e) h r = absurd (r.2 (named_again n e (subst (λ x. IsNamedFor x n) r.0 h) r.1))
+name_stands role n faults.SubscriberName h (subscriber, fault) =
+    let right : names_subscriber n ≡ true = subst (λ x. IsNamedFor x n) subscriber h in
+    let clash : true ≡ false = sym right ∙ fault in
+    cc clash
+name_stands role n faults.OutOfMemory h r = refl
+name_stands role n _ h r = absurd r
+
+module _ (role : Role) (key : Option PublicKey) (o : Order) (p : PlainOrder) (a : IsAccepted role key o p) (valid : IsValid (name Bound) p.subject) where
+  -- what an order asks for
+  one_order : (q : PlainOrder) → IsAccepted role key o q → p ≡ q
+  one_order q b =
+      let subject = one_spelled (string_bytes o.name) p.subject q.subject a.name b.name valid in
+      let serial : p.serial ≡ q.serial = cc (a.serial, b.serial) in
+      let validity = one_validity (string_bytes o.not_before) (string_bytes o.not_after) p.validity q.validity a.dates b.dates in
+      let same_key = a.key_is ∙ sym b.key_is in
+      let path = a.path_is ∙ sym b.path_is in
+      let dns = a.dns_is ∙ sym b.dns_is in
+      let clients = a.clients_is ∙ sym b.clients_is in
+      let answers = a.answers_is ∙ sym b.answers_is in
+      λ i. record { subject = subject i; serial = serial i; validity = validity i; key = same_key i; path = path i; dns = dns i; clients = clients i; answers = answers i }
+
+  named : (n : PlainName) → SpellsName Bound (string_bytes o.name) n → IsNamedFor role n
+  named n s = subst (λ x. IsNamedFor role x) (one_spelled (string_bytes o.name) p.subject n a.name s valid) a.naming
+
+  -- and that it isn't refused
+  order_stands : (f : Fault) → RefusesOrder role key o f → f ≡ faults.OutOfMemory
+  order_stands faults.Name r = absurd (spelled_stands (string_bytes o.name) p.subject r.0 a.name r.1 valid)
+  order_stands (faults.RootName e) r =
+      name_stands role r.0 (faults.RootName e) (named r.0 r.1) r.2
+  order_stands faults.SubscriberName r = name_stands role r.0 faults.SubscriberName (named r.0 r.1) r.2
+  order_stands faults.Serial r = absurd (cc (a.serial, r.1.1))
+  order_stands faults.Dates r = absurd (dates_stand o p.validity a.dates r.2)
+  order_stands faults.DnsName r = absurd (r.3 (subst (λ names. HasNamesFor role names) a.dns_is a.right.names))
+  order_stands faults.KeyMismatch r = absurd (key_stands key (key_plain o.key) (subst (λ k. IsKeyOf key k) a.key_is a.key) r.4)
+  order_stands faults.OutOfMemory r = refl
+
+-- the same at a place
+module _ (orders : List Order) (keys : List PublicKey) (place : ℕ) (p : PlainOrder) (a : IsAcceptedAt orders keys place p) (valid : IsValid (name Bound) p.subject) where
+  one_at : (q : PlainOrder) → IsAcceptedAt orders keys place q → p ≡ q
+  one_at q b =
+      let role = role_at (length orders) place in
+      let key = slice_get keys place in
+      let same : b.order ≡ a.order = same_Some b.order a.order (sym b.stands ∙ a.stands) in
+      one_order role key a.order p a.accepted valid q (subst (λ (o : Order). IsAccepted role key o q) same b.accepted)
+
+  stands_at : (f : Fault) → IsRefusedAt orders keys place f → f ≡ faults.OutOfMemory
+  stands_at f r =
+      let role = role_at (length orders) place in
+      let key = slice_get keys place in
+      let same : r.order ≡ a.order = same_Some r.order a.order (sym r.stands ∙ a.stands) in
+      order_stands role key a.order p a.accepted valid f (subst (λ (o : Order). RefusesOrder role key o f) same r.refused)
 
 -- what may be signed, and is short enough, isn't stopped
 not_stopped : (may_refuse : List ℕ → Type 0) (signs : List ℕ → Bits → Type 0) (a : Algorithm) (role : Role) (dns : List (List ℕ)) (t : Tbs) → (may_refuse (part_octets t) → ⊥) → IsShort signs a role dns t
@@ -39,12 +146,12 @@ not_stopped may_refuse signs a role dns t signable short stops.OutOfMemory h = r
 
 module _ {S : Type 0} (key : S → PublicKey) (algorithm : S → Algorithm) (signs : S → List ℕ → Bits → Type 0) (may_refuse : S → List ℕ → Type 0) (orders : List Order) (signers : List S) (h : AreIssuable key algorithm signs may_refuse orders signers) where
   -- no order is refused
-  no_fault : (place : ℕ) (f : Fault) → Faults key orders signers place f → f ≡ faults.OutOfMemory
+  no_fault : (place : ℕ) (f : Fault) → Faults key algorithm signs may_refuse orders signers place f → f ≡ faults.OutOfMemory
   no_fault place f (n, r) =
       let within : place < length h.asked = subst (λ m. place < m) (sym h.accepted.all) (slice_get_within orders place r.refused.order r.refused.stands) in
       let here = h.each place within in
       let role = role_at (length h.asked) place in
-      stands_at orders (map key signers) place here.order (accepted_there orders (map key signers) h.asked place here.order h.accepted here.order_is)
+      stands_at orders (map key signers) place here.order (h.accepted.front.each place here.order here.order_is)
       (subject_valid role here.order here.above (algorithm here.signer) here.short.part) f r.refused
 
   -- and no certificate is stopped
@@ -56,10 +163,10 @@ module _ {S : Type 0} (key : S → PublicKey) (algorithm : S → Algorithm) (sig
       let within : place < length h.asked = subst (λ m. place < m) many (slice_get_within r.asked place k.order k.order_is) in
       let here = h.each place within in
       let role = role_at (length h.asked) place in
-      let order : here.order ≡ k.order = one_at orders keys place here.order (accepted_there orders keys h.asked place here.order h.accepted here.order_is)
-      (subject_valid role here.order here.above (algorithm here.signer) here.short.part) k.order (accepted_there orders keys r.asked place k.order r.accepted k.order_is) in
-      let above : here.above ≡ k.above = one_at orders keys (place_above place) here.above (accepted_there orders keys h.asked (place_above place) here.above h.accepted here.above_is)
-      (issuer_valid role here.order here.above (algorithm here.signer) here.short.part) k.above (accepted_there orders keys r.asked (place_above place) k.above r.accepted k.above_is) in
+      let order : here.order ≡ k.order = one_at orders keys place here.order (h.accepted.front.each place here.order here.order_is)
+      (subject_valid role here.order here.above (algorithm here.signer) here.short.part) k.order (r.accepted.front.each place k.order k.order_is) in
+      let above : here.above ≡ k.above = one_at orders keys (place_above place) here.above (h.accepted.front.each (place_above place) here.above here.above_is)
+      (issuer_valid role here.order here.above (algorithm here.signer) here.short.part) k.above (r.accepted.front.each (place_above place) k.above k.above_is) in
       let signer : k.signer ≡ here.signer = same_Some k.signer here.signer (sym k.signer_is ∙ here.signer_is) in
       let P : ℕ → PlainOrder → PlainOrder → S → Type 0 =
       λ n p b s. Stops (may_refuse s) (signs s) (algorithm s) (role_at n place) p.dns (ordered_part (role_at n place) p b (algorithm s)) stop in

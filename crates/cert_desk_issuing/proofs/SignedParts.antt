@@ -1,7 +1,6 @@
 -- Certificates that a builder makes: the part that is ordered, that they have an encoding, and why there is none.
-use Rattle.std.proofs.Common.{◌≡◌, ◌≢◌, ◌⊎◌, ℕ, ◌≤◌, List, [], ◌∷◌, ◌++◌, length, Bool, true, false, Option, Result, Ok, Err, Some, None, refl, sym, ap, ◌∙◌, subst, arith, inl, inr}
-use Rattle.std.specs.Prelude.{IfOk, IfErr, pos, nat_lt, if◌then◌else◌}
-use Rattle.std.specs.List.{AllByRecursion}
+use Rattle.std.proofs.Common.{◌≡◌, ◌≢◌, ◌⊎◌, ℕ, ◌≤◌, List, ◌++◌, length, Bool, true, false, Result, Ok, Err, Some, None, refl, sym, ap, ◌∙◌, subst, arith, inl, inr}
+use Rattle.std.specs.Prelude.{pos, nat_lt, if◌then◌else◌}
 use Rattle.const_oid.specs.Bound.{Bound}
 use Rattle.der_core_head.specs.declared.error.ErrorKind.{ErrorKind}
 use Rattle.der_core_head.specs.declared.error.ErrorKind.TheVariants as kinds
@@ -14,13 +13,12 @@ use Rattle.der_core_head.proofs.WrittenValid.{valid_in_range}
 use Rattle.cert_desk_checking.specs.Builders.{IsWantOfMemory, is_refused}
 use Rattle.x509_cert_builders.specs.declared.error.Error.{Error as BuilderError}
 use Rattle.x509_cert_builders.specs.declared.error.Error.TheVariants as builders
-use Rattle.x509_cert_builders.specs.declared.sign_error.SignError.TheVariants as signers
 use Rattle.x509_cert_builders.specs.Refusals.{HasNoEncoding, IsUnwritten}
 use Rattle.x509_cert_builders.specs.SignedParts.{bare_part, part_shape, signed_part, written_part}
 use Rattle.x509_cert_builders.specs.States.{CertificateState, part_for}
 use Rattle.cert_desk_checking.specs.Certificates.{Algorithm, PlainCertificate, PlainExtension, PlainName, PublicKey, Tbs, algorithm_identifier, bit_string, certificate_octets, outer_algorithm, raw_certificate, signature_bits, tbs}
 use Rattle.cert_desk_checking.specs.Parts.{certificate, tbs_certificate, time_of}
-use Rattle.cert_desk_orders.specs.Grammar.{PlainTime, PlainValidity}
+use Rattle.cert_desk_orders.specs.Grammar.{PlainValidity}
 use Rattle.cert_desk_orders.specs.Respelling.{respelled, validity_by}
 use Rattle.cert_desk_issuing.specs.declared.role.Role.{Role}
 use Rattle.cert_desk_issuing.specs.declared.role.Role.TheVariants as roles
@@ -30,11 +28,6 @@ use Rattle.cert_desk_issuing.specs.Making.{IsMadeOf, IsProfile, fields_below}
 use Rattle.cert_desk_issuing.specs.Ordered.{CanName, extensions_for, names_for, ordered_part, part_octets}
 use Rattle.cert_desk_issuing.specs.PlainOrders.{IsReady, PlainOrder, begins, ends}
 use Rattle.cert_desk_issuing.specs.Refusals.{HasPart, Stops, stop_of, stop_of_kind}
-
--- a fault where there is an answer is want of memory
-pub only_memory : {A : Type 0} (k : ErrorKind) (x : A) (r : Result A ErrorKind) → r ≡ Ok x → (k ≢ kinds.OutOfMemory → r ≡ Err k) → k ≡ kinds.OutOfMemory
-only_memory kinds.OutOfMemory x r e h = refl
-only_memory _ x r e h = absurd (cc (e, h (λ q. absurd cc)))
 
 -- Dates that are spelled as RFC 5280 has them are so written.
 respelled_if : (c : Civil) (b : Bool) → nat_lt 2049 c.year ≡ b → respelled (if b then inr c else inl c) ≡ (if b then inr c else inl c)
@@ -55,8 +48,7 @@ dates_again v b e h =
 listed_part : (role : Role) (p above : PlainOrder) (a : Algorithm) (issuer : PlainName) → signed_part (fields_below issuer p) a (extensions_for role p above.key)
     ≡ (pos 2, (p.serial, (a, (issuer, (p.validity, (p.subject, (p.key, (None, (None, (Some (extensions_for role p above.key), tt))))))))))
 listed_part roles.Root p above a issuer = refl
-listed_part roles.Subordinate p above a issuer = refl
-listed_part roles.Subscriber p above a issuer = refl
+listed_part _ p above a issuer = refl
 
 pub ordered_written : (role : Role) (p above : PlainOrder) (a : Algorithm) (issuer : PlainName) (es : List PlainExtension) → IsReady role p → issuer ≡ above.subject → es ≡ extensions_for role p above.key
     → written_part (signed_part (fields_below issuer p) a es) ≡ ordered_part role p above a
@@ -148,11 +140,6 @@ module _ (may_refuse : List ℕ → Type 0) (signs : List ℕ → Bits → Type 
   not_built e R never (inr (inl (inr none))) = unwritten_by e none
   not_built e R never (inr (inr refused)) = subst (λ (x : BuilderError). Stops may_refuse signs a role dns t (stop_of x)) (sym refused.0) refused.1
 
--- names that aren't added
-pub unnamed : (k : ErrorKind) (V : Type 0) → (V → k ≡ kinds.OutOfMemory) → (stop_of_kind k ≡ stops.OutOfMemory) ⊎ ((stop_of_kind k ≡ stops.TooLong) × (V → ⊥))
-unnamed kinds.OutOfMemory V h = inl refl
-unnamed _ V h = inr (refl, λ v. (let e = h v in absurd cc))
-
 -- Why nothing is made: memory, or names that have no encoding.
 module _ (may_refuse : List ℕ → Type 0) (signs : List ℕ → Bits → Type 0) (a : Algorithm) (role : Role) (dns : List (List ℕ)) (t : Tbs) where
   pub no_memory : (s : Stop) → s ≡ stops.OutOfMemory → Stops may_refuse signs a role dns t s
@@ -161,9 +148,3 @@ module _ (may_refuse : List ℕ → Type 0) (signs : List ℕ → Bits → Type 
   pub not_named : (s : Stop) → (s ≡ stops.OutOfMemory) ⊎ ((s ≡ stops.TooLong) × (CanName role dns → ⊥)) → Stops may_refuse signs a role dns t s
   not_named s (inl e) = no_memory s e
   not_named s (inr h) = subst (λ (x : Stop). Stops may_refuse signs a role dns t x) (sym h.0) (inl (λ (part : HasPart role dns t). h.1 part.0))
-
--- a profile that refuses nothing, and has this subject, gives no builder for want of memory alone
-pub only_unmade : (e : BuilderError) (R : Type 0) (r : Result PlainName BuilderError) (n : PlainName) → (R → ⊥) → r ≡ Ok n → IsWantOfMemory e ⊎ R ⊎ (r ≡ Err e) → stop_of e ≡ stops.OutOfMemory
-only_unmade e R r n never named (inl memory) = memory_stops e memory
-only_unmade e R r n never named (inr (inl refuses)) = absurd (never refuses)
-only_unmade e R r n never named (inr (inr none)) = let clash = sym named ∙ none in absurd (cc clash)

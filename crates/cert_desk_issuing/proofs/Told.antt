@@ -1,27 +1,106 @@
 -- What all extensions of an ordered certificate say, and what the rules find in it.
-use Rattle.std.proofs.Common.{◌≡◌, ◌≢◌, ℕ, ◌<◌, ◌^◌, List, [], ◌∷◌, map, length, Bool, true, false, not, ◌&&◌, ◌||◌, Option, Some, None, refl, sym, ap, ◌∙◌, arith, ◌==◌}
-use Rattle.std.specs.List.{list_all, list_any}
+use Rattle.std.proofs.Common.{◌≡◌, ◌≢◌, ℕ, List, [], ◌∷◌, map, length, Bool, true, false, ◌&&◌, ◌||◌, None, refl, sym, ap, ◌∙◌, ◌==◌, ◌<◌, ◌^◌, ◌++◌, Option, Some, arith, lit<, lit≤}
+use Rattle.std.proofs.lemmas.Bool.{and_parts, ltb-true}
+use Rattle.std.specs.List.{list_all, list_any, AllByRecursion}
+use Rattle.std.specs.Prelude.{IfSome, pos, flat_map, nat_lt}
 use Rattle.const_oid.specs.Bound.{Bound}
 use Rattle.const_oid.specs.Comparing.{owned_eq}
 use Rattle.const_oid.specs.Digits.{digits, digits_within, marked}
 use Rattle.const_oid.specs.IdentifierOctets.{identifier_octets, arc_octets}
-use Rattle.der_core_head.specs.Heads.{Fits}
-use Rattle.der_core_head.specs.Shapes.{octets_of}
-use Rattle.cert_desk_checking.specs.Builders.{authority_key_extension, authority_uses, constraints_extension, digital_signature, purposes_extension, subject_key_extension, usage_extension}
-use Rattle.cert_desk_checking.specs.Builders as profiles
-use Rattle.cert_desk_checking.specs.Certificates.{PlainExtension, PublicKey, is_critical}
-use Rattle.cert_desk_checking.specs.Extensions.{general_names}
+use Rattle.der_core_head.proofs.AllOctets.{whole_again}
+use Rattle.der_core_head.proofs.Fits.{fits_front, fits_rest, fits_contents}
+use Rattle.der_core_head.specs.Grammar.{plain_option}
+use Rattle.der_core_head.specs.Heads.{Fits, tlv}
+use Rattle.der_core_head.specs.Limits.{levels_max}
+use Rattle.der_core_head.specs.Octets.{IsOctets}
+use Rattle.der_core_head.specs.Shapes.{octets_of, Shape, Value, IsValid, IsContent, IsBody, contents, body_octets}
+use Rattle.der_core_head.specs.Spelling.{is_apart, are_enough}
+use Rattle.der_core_head.specs.Tags.{context}
+use Rattle.cert_desk_checking.specs.Builders.{authority_uses, authority_key_extension, constraints_extension, digital_signature, purposes_extension, subject_key_extension, usage_extension}
+use Rattle.cert_desk_checking.specs.Certificates.{PlainExtension, PublicKey, PlainName}
+use Rattle.cert_desk_checking.specs.Extensions.{general_names, general_name}
 use Rattle.cert_desk_checking.specs.Judging.{are_distinct}
 use Rattle.cert_desk_checking.specs.Paths.{is_within}
-use Rattle.cert_desk_checking.specs.Weighing.{Meaning, uses, constraints, other_names, purposes, unweighed, any_purpose, is_authority, is_malformed, is_unweighed, is_unweighed_critical, may_certify, path_length, serves, weigh}
-use Rattle.cert_desk_issuing.specs.declared.role.Role.{Role}
-use Rattle.cert_desk_issuing.specs.declared.role.Role.TheVariants as roles
-use Rattle.cert_desk_checking.proofs.Folds.{and_yes, or_no}
+use Rattle.cert_desk_checking.specs.Weighing.{Meaning, uses, purposes, is_authority, is_malformed, is_unweighed, is_unweighed_critical, may_certify, path_length, serves, weigh, constraints, other_names, unweighed, basic_constraints, constraints_of, key_usage, extended_key_usage, meaning_by, meaning_of}
+use Rattle.cert_desk_checking.proofs.Folds.{and_yes}
+use Rattle.x509_cert_builders.proofs.Encodable.{constraints_valid, purposes_valid, use_valid}
 use Rattle.cert_desk_issuing.specs.Allowances.{allows_one, path_in}
 use Rattle.cert_desk_issuing.specs.Ordered.{dns_names, extensions_for, names_extension}
 use Rattle.cert_desk_issuing.specs.PlainOrders.{IsRight, PlainOrder}
-use Rattle.cert_desk_issuing.specs.Weighed.{Told, told, told_for}
-use Rattle.cert_desk_issuing.proofs.Meanings.{authority_key_says, authority_says, constraints_say, names_say, purposes_say, signature_says, subject_key_says}
+use Rattle.cert_desk_issuing.specs.Laws.{Told, told, told_for}
+use Rattle.cert_desk_issuing.specs.declared.role.Role.{Role}
+use Rattle.cert_desk_checking.specs.Builders as profiles
+use Rattle.cert_desk_issuing.specs.declared.role.Role.TheVariants as roles
+use Rattle.der_core_head.specs.declared.tag.Tag.TheVariants as tags
+
+-- an encoding is one value of its kind
+said : (s : Shape) (says : Value s → Meaning) (v : Value s) → is_apart s ≡ true → are_enough s levels_max ≡ true → IsValid s v → meaning_by s says (octets_of s v) ≡ says v
+said s says v apart enough valid = ap (meaning_of says) (whole_again s v (octets_of s v) apart enough (record { valid = valid; octets = refl }))
+
+-- KeyUsage
+
+usage_says : (n : ℕ) → n < 2 ^ 9 → weigh Bound (usage_extension n) ≡ uses n
+unfolding identifier_octets arc_octets digits digits_within marked
+usage_says n h = said key_usage uses n refl refl (use_valid n h)
+
+authority_says : (answers : Bool) → weigh Bound (usage_extension (authority_uses answers)) ≡ uses (authority_uses answers)
+authority_says true = usage_says (authority_uses true) (lit< tt)
+authority_says false = usage_says (authority_uses false) (lit< tt)
+
+signature_says : weigh Bound (usage_extension digital_signature) ≡ uses digital_signature
+signature_says = usage_says digital_signature (lit< tt)
+
+-- the identifiers of keys aren't weighed
+authority_key_says : (k : PublicKey) → weigh Bound (authority_key_extension k) ≡ unweighed
+unfolding identifier_octets arc_octets digits digits_within marked
+authority_key_says k = refl
+
+subject_key_says : (k : PublicKey) → weigh Bound (subject_key_extension k) ≡ unweighed
+unfolding identifier_octets arc_octets digits digits_within marked
+subject_key_says k = refl
+
+-- BasicConstraints
+
+constraints_say : (ca : Bool) (p : Option ℕ) → IfSome p (λ n. n < 2 ^ 8) → weigh Bound (constraints_extension ca (plain_option (λ n. pos n) p)) ≡ constraints ca p
+unfolding identifier_octets arc_octets digits digits_within marked
+constraints_say ca None h = said basic_constraints constraints_of (ca, (None, tt)) refl refl (constraints_valid ca None tt)
+constraints_say ca (Some n) h = said basic_constraints constraints_of (ca, (Some (pos n), tt)) refl refl (constraints_valid ca (Some n) h)
+
+-- ExtendedKeyUsage
+
+purposes_say : (clients : Bool) → weigh Bound (purposes_extension clients) ≡ purposes (profiles.purposes clients)
+unfolding identifier_octets arc_octets digits digits_within marked
+purposes_say clients = said (extended_key_usage Bound) purposes (profiles.purposes clients) refl refl (purposes_valid clients)
+
+-- SubjectAltName
+
+text_octets : (text : List ℕ) → list_all (λ o. nat_lt o 128) text ≡ true → IsOctets text
+text_octets [] h = tt
+text_octets (o ∷ more) h =
+    let both = and_parts (nat_lt o 128) (list_all (λ b. nat_lt b 128) more) h in
+    let low : o < 128 = ltb-true o 128 both.0 in
+    (omega (arith, low), text_octets more both.1)
+
+names_fit : (dns : List (List ℕ)) → Fits (flat_map (λ n. octets_of (general_name Bound) n) (dns_names dns)) → list_all (λ text. list_all (λ o. nat_lt o 128) text) dns ≡ true
+    → AllByRecursion (λ n. IsValid (general_name Bound) n) (dns_names dns)
+unfolding IsValid IsContent octets_of contents
+names_fit [] fits ascii = tt
+names_fit (text ∷ more) fits ascii =
+    let both = and_parts (list_all (λ o. nat_lt o 128) text) (list_all (λ t. list_all (λ o. nat_lt o 128) t) more) ascii in
+    let first = tlv (context false 2) text in
+    let rest = flat_map (λ n. octets_of (general_name Bound) n) (dns_names more) in
+    ((record { within = both.0; octets = text_octets text both.0 }, lit≤ tt, fits_front first rest (first ++ rest) refl fits), names_fit more (fits_rest first rest (first ++ rest) refl fits) both.1)
+
+names_valid : (dns : List (List ℕ)) → Fits (octets_of (general_names Bound) (dns_names dns)) → list_all (λ text. list_all (λ o. nat_lt o 128) text) dns ≡ true
+    → IsValid (general_names Bound) (dns_names dns)
+unfolding IsValid IsContent IsBody octets_of contents body_octets
+names_valid dns fits ascii =
+    (names_fit dns (fits_contents tags.Sequence (flat_map (λ n. octets_of (general_name Bound) n) (dns_names dns)) fits) ascii, lit≤ tt, fits)
+
+names_say : (subject : PlainName) (dns : List (List ℕ)) → Fits (octets_of (general_names Bound) (dns_names dns)) → list_all (λ text. list_all (λ o. nat_lt o 128) text) dns ≡ true
+    → weigh Bound (names_extension subject dns) ≡ other_names (dns_names dns)
+unfolding identifier_octets arc_octets digits digits_within marked
+names_say subject dns fits ascii = said (general_names Bound) other_names (dns_names dns) refl refl (names_valid dns fits ascii)
 
 -- where the names have an encoding
 abbrev pub FitsFor : Role → PlainOrder → Type 0
@@ -81,8 +160,7 @@ module _ (role : Role) (p : PlainOrder) (k : PublicKey) (right : IsRight role p)
 
   none_malformed : (r : Role) → list_any (λ (t : Told). is_malformed t.1) (told_for r p) ≡ false
   none_malformed roles.Root = refl
-  none_malformed roles.Subordinate = refl
-  none_malformed roles.Subscriber = refl
+  none_malformed _ = refl
 
   pub well_formed : list_any (λ e. is_malformed (weigh Bound e)) (extensions_for role p k) ≡ false
   well_formed = any_is (λ t. is_malformed t.1) ∙ none_malformed role
@@ -137,8 +215,7 @@ module _ (role : Role) (p : PlainOrder) (k : PublicKey) (right : IsRight role p)
   distinct_by : (r : Role) → are_distinct (extensions_for r p k) ≡ true
   unfolding identifier_octets arc_octets digits digits_within marked
   distinct_by roles.Root = refl
-  distinct_by roles.Subordinate = refl
-  distinct_by roles.Subscriber = refl
+  distinct_by _ = refl
 
   pub distinct : are_distinct (extensions_for role p k) ≡ true
   distinct = distinct_by role

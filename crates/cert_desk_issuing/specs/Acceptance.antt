@@ -8,15 +8,12 @@ use Rattle.der_core_head.specs.Dates.{Civil, is_civil}
 use Rattle.der_core_head.specs.Grammar.{plain_list}
 use Rattle.cert_desk_checking.specs.Names.TimeTypes.DateTexts.{date_text}
 use Rattle.cert_desk_checking.specs.Names.TimeTypes.Seconds.{unix_seconds}
-use Rattle.cert_desk_checking.specs.Builders.{NamesAuthority}
-use Rattle.cert_desk_checking.specs.Builders.{may_stay}
+use Rattle.cert_desk_checking.specs.Builders.{NamesAuthority, may_stay}
 use Rattle.cert_desk_checking.specs.Certificates.{PlainName, PublicKey}
 use Rattle.cert_desk_checking.specs.Views.{key_plain}
 use Rattle.cert_desk_checking.specs.Texts.{SpellsName}
-use Rattle.cert_desk_checking.specs.Parts.{relative_plain}
+use Rattle.cert_desk_checking.specs.Parts.{civil_of, time_of}
 use Rattle.cert_desk_orders.specs.Grammar.{PlainValidity, not_after, not_before}
-use Rattle.cert_desk_checking.specs.Parts.{civil_of}
-use Rattle.cert_desk_checking.specs.Parts.{time_of}
 use Rattle.cert_desk_orders.specs.SerialNumbers.{new_serial}
 use Rattle.cert_desk_orders.specs.declared.order.Order.{Order}
 use Rattle.cert_desk_issuing.specs.declared.role.Role.{Role}
@@ -75,11 +72,11 @@ pub record IsAcceptedAt (orders : List Order) (keys : List PublicKey) (place : �
   pub stands : slice_get orders place ≡ Some order
   pub accepted : IsAccepted (role_at (length orders) place) (slice_get keys place) order p
 
--- so many orders, from the first on, are accepted, and ask for these
+-- the orders from the first on, as many as these, are accepted, and ask for these
 pub record AcceptsFront (orders : List Order) (keys : List PublicKey) (ps : List PlainOrder) : Type
     0 where
-  pub each : (place : ℕ) → place < length ps → (p : PlainOrder) × (slice_get ps place ≡ Some p)
-      × IsAcceptedAt orders keys place p
+  pub each : (place : ℕ) (p : PlainOrder) → slice_get ps place ≡ Some p
+      → IsAcceptedAt orders keys place p
 
 -- All orders are accepted, with signers of these keys, and ask for these.
 pub record AcceptedOrders (orders : List Order) (keys : List PublicKey)

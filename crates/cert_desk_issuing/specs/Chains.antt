@@ -1,12 +1,11 @@
 -- Chains that were issued.
-use Rattle.std.specs.Prelude.{◌≡◌, ℕ, ◌-◌, ◌^◌, ◌<◌, List, length, map, Some, slice_get}
+use Rattle.std.specs.Prelude.{◌≡◌, ℕ, ◌-◌, List, length, map, Some, slice_get}
 use Rattle.std.specs.List.{AllByRecursion}
 use Rattle.const_oid.specs.Bound.{Bound}
 use Rattle.der_core_head.specs.Limits.{length_max}
 use Rattle.der_core_head.specs.BitStrings.{Bits}
 use Rattle.cert_desk_checking.specs.Certificates.{PlainCertificate, outer_algorithm, signature_bits}
-use Rattle.cert_desk_checking.specs.Certificates.{certificate_octets, tbs}
-use Rattle.cert_desk_checking.specs.Certificates.{Algorithm, PublicKey}
+use Rattle.cert_desk_checking.specs.Certificates.{certificate_octets, tbs, Algorithm, PublicKey}
 use Rattle.cert_desk_checking.specs.Chains.{Chain, Stands}
 use Rattle.cert_desk_orders.specs.declared.order.Order.{Order}
 use Rattle.cert_desk_issuing.specs.Acceptance.{AcceptedOrders}
@@ -14,19 +13,7 @@ use Rattle.cert_desk_issuing.specs.Ordered.{ordered_part, part_octets}
 use Rattle.cert_desk_issuing.specs.PlainOrders.{IsRight, PlainOrder}
 use Rattle.cert_desk_issuing.specs.Roles.{place_above, role_at}
 
--- the certificate at a place is the one that is ordered there, by some algorithm
-pub record IsHeldAt (ps : List PlainOrder) (cs : List PlainCertificate) (place : ℕ) : Type 0 where
-  pub order : PlainOrder
-  pub above : PlainOrder
-  pub certificate : PlainCertificate
-  pub order_is : slice_get ps place ≡ Some order
-  pub right : IsRight (role_at (length ps) place) order
-  pub above_is : slice_get ps (place_above place) ≡ Some above
-  pub certificate_is : slice_get cs place ≡ Some certificate
-  pub part : tbs certificate ≡ ordered_part (role_at (length ps) place) order above
-      (outer_algorithm certificate)
-
--- a certificate is the one that is ordered at a place, wherever it stands itself
+-- a certificate is the one that is ordered at a place, by some algorithm
 pub record IsOrderedAt (ps : List PlainOrder) (place : ℕ) (c : PlainCertificate) : Type 0 where
   pub order : PlainOrder
   pub above : PlainOrder
@@ -35,50 +22,39 @@ pub record IsOrderedAt (ps : List PlainOrder) (place : ℕ) (c : PlainCertificat
   pub above_is : slice_get ps (place_above place) ≡ Some above
   pub part : tbs c ≡ ordered_part (role_at (length ps) place) order above (outer_algorithm c)
 
--- so many certificates, from the first on, are those that are ordered
+-- each certificate is the one that is ordered at its place
 abbrev pub HoldFront : List PlainOrder → List PlainCertificate → Type 0
-HoldFront ps cs = (place : ℕ) → place < length cs → IsHeldAt ps cs place
+HoldFront ps cs = (place : ℕ) (c : PlainCertificate) → slice_get cs place ≡ Some c
+    → IsOrderedAt ps place c
 
--- Both algorithms of a certificate are those of its signer, whose bits are in that signer's
--- relation with its own signed part.
-pub record IsSignedAt {S : Type 0} (algorithm : S → Algorithm) (signs : S → List ℕ → Bits → Type 0)
-    (signers : List S) (cs : List PlainCertificate) (place : ℕ) : Type 0 where
-  pub signer : S
-  pub certificate : PlainCertificate
-  pub signer_is : slice_get signers (place_above place) ≡ Some signer
-  pub certificate_is : slice_get cs place ≡ Some certificate
-  pub algorithm_is : outer_algorithm certificate ≡ algorithm signer
-  pub signed : signs signer (part_octets (tbs certificate)) (signature_bits certificate)
+module _ {S : Type 0} (algorithm : S → Algorithm) (signs : S → List ℕ → Bits → Type 0) where
+  -- Both algorithms of a certificate at a place are those of its signer, whose bits are in that
+  -- signer's relation with its own signed part.
+  pub record IsSignedBy (signers : List S) (place : ℕ) (c : PlainCertificate) : Type 0 where
+    pub signer : S
+    pub signer_is : slice_get signers (place_above place) ≡ Some signer
+    pub algorithm_is : outer_algorithm c ≡ algorithm signer
+    pub signed : signs signer (part_octets (tbs c)) (signature_bits c)
 
--- the same of a certificate, wherever it stands itself
-pub record IsSignedBy {S : Type 0} (algorithm : S → Algorithm) (signs : S → List ℕ → Bits → Type 0)
-    (signers : List S) (place : ℕ) (c : PlainCertificate) : Type 0 where
-  pub signer : S
-  pub signer_is : slice_get signers (place_above place) ≡ Some signer
-  pub algorithm_is : outer_algorithm c ≡ algorithm signer
-  pub signed : signs signer (part_octets (tbs c)) (signature_bits c)
+  abbrev pub AreSigned : List S → List PlainCertificate → Type 0
+  AreSigned signers cs = (place : ℕ) (c : PlainCertificate) → slice_get cs place ≡ Some c
+      → IsSignedBy signers place c
 
-abbrev pub AreSigned : {S : Type 0} → (S → Algorithm) → (S → List ℕ → Bits → Type 0) → List S
-    → List PlainCertificate → Type 0
-AreSigned algorithm signs signers cs = (place : ℕ) → place < length cs
-    → IsSignedAt algorithm signs signers cs place
+  -- So many certificates, from the first on, are those that are ordered, each signed by its
+  -- signer; and each has an encoding.
+  pub record AreMade (ps : List PlainOrder) (signers : List S) (cs : List PlainCertificate) : Type 0
+    where
+      pub held : HoldFront ps cs
+      pub signed : AreSigned signers cs
+      pub each : AllByRecursion (Stands Bound length_max) cs
 
--- So many certificates, from the first on, are those that are ordered, each signed by its signer;
--- and each has an encoding.
-pub record AreMade {S : Type 0} (algorithm : S → Algorithm) (signs : S → List ℕ → Bits → Type 0)
-    (ps : List PlainOrder) (signers : List S) (cs : List PlainCertificate) : Type 0 where
-  pub held : HoldFront ps cs
-  pub signed : AreSigned algorithm signs signers cs
-  pub each : AllByRecursion (Stands Bound length_max) cs
-
--- a certificate is the one that is ordered at a place, and signed; and these are its octets
-pub record IsMadeAt {S : Type 0} (algorithm : S → Algorithm) (signs : S → List ℕ → Bits → Type 0)
-    (ps : List PlainOrder) (signers : List S) (place : ℕ) (c : PlainCertificate)
-    (octets : List ℕ) : Type 0 where
-  pub ordered : IsOrderedAt ps place c
-  pub signed : IsSignedBy algorithm signs signers place c
-  pub stands : Stands Bound length_max c
-  pub octets_are : octets ≡ certificate_octets Bound c
+  -- a certificate is the one that is ordered at a place, and signed; and these are its octets
+  pub record IsMadeAt (ps : List PlainOrder) (signers : List S) (place : ℕ) (c : PlainCertificate)
+      (octets : List ℕ) : Type 0 where
+    pub ordered : IsOrderedAt ps place c
+    pub signed : IsSignedBy signers place c
+    pub stands : Stands Bound length_max c
+    pub octets_are : octets ≡ certificate_octets Bound c
 
 -- One certificate for each of these orders, in turn, which holds it; and the stream joins them.
 pub record HoldsOrders (ps : List PlainOrder) (cs : List PlainCertificate) (stream : List ℕ) : Type

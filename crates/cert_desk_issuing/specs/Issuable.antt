@@ -24,35 +24,34 @@ pub record IsShort (signs : List ℕ → Bits → Type 0) (a : Algorithm) (role 
   pub whole : (bits : Bits) → signs (part_octets t) bits
       → IsValid (certificate Bound None) (t, (a, (bits, tt)))
 
--- the signer at a place may not refuse what is ordered there, and no length passes
-pub record IsIssuableAt {S : Type 0} (algorithm : S → Algorithm) (signs : S → List ℕ → Bits
-    → Type 0) (may_refuse : S → List ℕ → Type 0) (asked : List PlainOrder) (signers : List S)
-    (place : ℕ) : Type 0 where
-  pub order : PlainOrder
-  pub above : PlainOrder
-  pub signer : S
-  pub order_is : slice_get asked place ≡ Some order
-  pub above_is : slice_get asked (place_above place) ≡ Some above
-  pub signer_is : slice_get signers (place_above place) ≡ Some signer
-  pub signable : may_refuse signer
-      (part_octets (ordered_part (role_at (length asked) place) order above (algorithm signer))) → ⊥
-  pub short : IsShort (signs signer) (algorithm signer) (role_at (length asked) place) order.dns
-      (ordered_part (role_at (length asked) place) order above (algorithm signer))
+module _ {S : Type 0} (algorithm : S → Algorithm) (signs : S → List ℕ → Bits → Type 0)
+    (may_refuse : S → List ℕ → Type 0) where
+  -- the signer at a place may not refuse what is ordered there, and no length passes
+  pub record IsIssuableAt (asked : List PlainOrder) (signers : List S) (place : ℕ) : Type 0 where
+    pub order : PlainOrder
+    pub above : PlainOrder
+    pub signer : S
+    pub order_is : slice_get asked place ≡ Some order
+    pub above_is : slice_get asked (place_above place) ≡ Some above
+    pub signer_is : slice_get signers (place_above place) ≡ Some signer
+    pub signable : may_refuse signer
+        (part_octets (ordered_part (role_at (length asked) place) order above (algorithm signer)))
+        → ⊥
+    pub short : IsShort (signs signer) (algorithm signer) (role_at (length asked) place) order.dns
+        (ordered_part (role_at (length asked) place) order above (algorithm signer))
 
--- All orders are accepted, no signer may refuse what is ordered at its place, and no length passes
--- 2^32 - 1.
-pub record AreIssuable {S : Type 0} (key : S → PublicKey) (algorithm : S → Algorithm)
-    (signs : S → List ℕ → Bits → Type 0) (may_refuse : S → List ℕ → Type 0) (orders : List Order)
-    (signers : List S) : Type 0 where
-  pub asked : List PlainOrder
-  pub accepted : AcceptedOrders orders (map key signers) asked
-  pub each : (place : ℕ) → place < length asked
-      → IsIssuableAt algorithm signs may_refuse asked signers place
+module _ {S : Type 0} (key : S → PublicKey) (algorithm : S → Algorithm)
+    (signs : S → List ℕ → Bits → Type 0) (may_refuse : S → List ℕ → Type 0) where
+  -- All orders are accepted, no signer may refuse what is ordered at its place, and no length
+  -- passes 2^32 - 1.
+  pub record AreIssuable (orders : List Order) (signers : List S) : Type 0 where
+    pub asked : List PlainOrder
+    pub accepted : AcceptedOrders orders (map key signers) asked
+    pub each : (place : ℕ) → place < length asked
+        → IsIssuableAt algorithm signs may_refuse asked signers place
 
--- For such orders none of the reasons holds, but want of memory.
-abbrev pub IssuableIsIssued : {S : Type 0} → (S → PublicKey) → (S → Algorithm)
-    → (S → List ℕ → Bits → Type 0) → (S → List ℕ → Type 0) → Type 0
-IssuableIsIssued {S = S} key algorithm signs may_refuse =
-    (orders : List Order) (signers : List S) (e : IssueError)
-    → AreIssuable key algorithm signs may_refuse orders signers
-    → Refuses key algorithm signs may_refuse orders signers e → e ≡ errors.OutOfMemory
+  -- For such orders none of the reasons holds, but want of memory.
+  abbrev pub IssuableIsIssued : Type 0
+  IssuableIsIssued = (orders : List Order) (signers : List S) (e : IssueError)
+      → AreIssuable orders signers → Refuses key algorithm signs may_refuse orders signers e
+      → e ≡ errors.OutOfMemory

@@ -1,13 +1,13 @@
 -- What holds of every chain that was issued.
 use Rattle.std.specs.Prelude.{◌≡◌, ℕ, ◌+◌, ◌-◌, ◌≤◌, ◌<◌, List, [], ◌∷◌, length, map, true, false}
-use Rattle.std.specs.Prelude.{Some, slice_get}
+use Rattle.std.specs.Prelude.{Some, slice_get, Bool, None, ◌==◌}
 use Rattle.const_oid.specs.Bound.{Bound}
 use Rattle.der_core_head.specs.BitStrings.{Bits}
 use Rattle.cert_desk_checking.specs.Names.TimeTypes.Seconds.{unix_seconds}
 use Rattle.cert_desk_checking.specs.Certificates.{PlainCertificate, certificate_octets}
 use Rattle.cert_desk_checking.specs.Certificates.{extensions_of, outer_algorithm, signature_bits}
-use Rattle.cert_desk_checking.specs.Certificates.{tbs}
-use Rattle.cert_desk_checking.specs.Certificates.{Algorithm, PublicKey}
+use Rattle.cert_desk_checking.specs.Certificates.{tbs, Algorithm, PublicKey, PlainExtension}
+use Rattle.cert_desk_checking.specs.Certificates.{is_critical}
 use Rattle.cert_desk_checking.specs.declared.rule.Rule.{Rule}
 use Rattle.cert_desk_checking.specs.declared.rule.Rule.TheVariants as rules
 use Rattle.cert_desk_checking.specs.Judging.{Answers, PlainAnchor, Terms, signed_part}
@@ -17,10 +17,16 @@ use Rattle.cert_desk_orders.specs.declared.order.Order.{Order}
 use Rattle.cert_desk_issuing.specs.Allowances.{AreLasting, Suffices, allows, allows_one}
 use Rattle.cert_desk_issuing.specs.Allowances.{counted_orders, counts_order, path_in}
 use Rattle.cert_desk_issuing.specs.Chains.{HoldsOrders, IssuedChain}
-use Rattle.cert_desk_issuing.specs.Ordered.{part_octets}
+use Rattle.cert_desk_issuing.specs.Ordered.{part_octets, dns_names}
 use Rattle.cert_desk_issuing.specs.PlainOrders.{PlainOrder, begins, ends}
 use Rattle.cert_desk_issuing.specs.Roles.{place_above, role_at}
-use Rattle.cert_desk_issuing.specs.Weighed.{told, told_for}
+use Rattle.cert_desk_checking.specs.Builders.{authority_uses, digital_signature}
+use Rattle.cert_desk_checking.specs.Builders as profiles
+use Rattle.cert_desk_checking.specs.Weighing.{Meaning, constraints, other_names, purposes}
+use Rattle.cert_desk_checking.specs.Weighing.{unweighed, uses, weigh}
+use Rattle.cert_desk_issuing.specs.declared.role.Role.{Role}
+use Rattle.cert_desk_issuing.specs.declared.role.Role.TheVariants as roles
+use Rattle.cert_desk_checking.specs.Issuers.{as_anchor}
 
 -- the judge says yes to the signature at a place, under the key of the order whose signer gave it
 abbrev pub AreAnswered : Answers → List PlainOrder → List PlainCertificate → Type 0
@@ -37,6 +43,11 @@ AreWithin limit cs = (place : ℕ) (c : PlainCertificate) → slice_get cs place
 -- the anchor of a root's order
 abbrev pub anchor_of : PlainOrder → PlainAnchor
 anchor_of root = record { name = root.subject; key = root.key }
+
+-- the first of these certificates alone, as an anchor
+abbrev pub root_anchors : List PlainCertificate → List PlainAnchor
+root_anchors [] = []
+root_anchors (c ∷ cs) = as_anchor c ∷ []
 
 -- under that anchor alone
 abbrev pub terms_for : PlainOrder → ℕ → List ℕ → Answers → Terms
@@ -68,7 +79,7 @@ HeldIsTrusted =
     → HoldsOrders (root ∷ below) cs stream → Permits limit moment purpose answers (root ∷ below) cs
     → Trusted (terms_for root moment purpose answers) limit stream
 
--- And it is trusted nowhere else.
+-- A chain that holds orders is trusted nowhere else.
 abbrev pub TrustedIsPermitted : Type 0
 TrustedIsPermitted =
     (root : PlainOrder) (below : List PlainOrder) (cs : List PlainCertificate) (stream : List ℕ)
@@ -108,22 +119,22 @@ pub record IsTooFar (ps : List PlainOrder) (place : ℕ) : Type 0 where
   pub exceeded : is_within (counted_orders ps (before + 1) (place - before))
       (path_in (role_at (length ps) before) order) ≡ false
 
--- Why a chain that holds orders breaks a rule at the place of an order: the moment, the purpose, a
--- path length, or the answer on its certificate; no other rule is broken.
-abbrev pub BreaksFor : Rule → ℕ → List ℕ → Answers → List PlainOrder → List PlainCertificate → ℕ
-    → Type 0
-BreaksFor rules.NotYetValid moment purpose answers ps cs place = (p : PlainOrder)
-    × (slice_get ps place ≡ Some p) × (moment < unix_seconds (begins p))
-BreaksFor rules.Expired moment purpose answers ps cs place = (p : PlainOrder)
-    × (slice_get ps place ≡ Some p) × (unix_seconds (ends p) < moment)
-BreaksFor rules.AgainstPurpose moment purpose answers ps cs place = (p : PlainOrder)
-    × (slice_get ps place ≡ Some p) × (0 < place) × (allows_one purpose p ≡ false)
-BreaksFor rules.PathTooLong moment purpose answers ps cs place = IsTooFar ps place
-BreaksFor rules.WrongSignature moment purpose answers ps cs place =
-    (above : PlainOrder) × (c : PlainCertificate) × (slice_get ps (place_above place) ≡ Some above)
-    × (slice_get cs place ≡ Some c)
-    × (answers above.key (outer_algorithm c) (part_octets (tbs c)) (signature_bits c) ≡ false)
-BreaksFor _ moment purpose answers ps cs place = ⊥
+module _ (moment : ℕ) (purpose : List ℕ) (answers : Answers) (ps : List PlainOrder)
+    (cs : List PlainCertificate) (place : ℕ) where
+  -- Why a chain that holds orders breaks a rule at the place of an order: the moment, the purpose,
+  -- a path length, or the answer on its certificate; no other rule is broken.
+  abbrev pub BreaksFor : Rule → Type 0
+  BreaksFor rules.NotYetValid = (p : PlainOrder) × (slice_get ps place ≡ Some p)
+      × (moment < unix_seconds (begins p))
+  BreaksFor rules.Expired = (p : PlainOrder) × (slice_get ps place ≡ Some p)
+      × (unix_seconds (ends p) < moment)
+  BreaksFor rules.AgainstPurpose = (p : PlainOrder) × (slice_get ps place ≡ Some p) × (0 < place)
+      × (allows_one purpose p ≡ false)
+  BreaksFor rules.PathTooLong = IsTooFar ps place
+  BreaksFor rules.WrongSignature = (above : PlainOrder) × (c : PlainCertificate)
+      × (slice_get ps (place_above place) ≡ Some above) × (slice_get cs place ≡ Some c)
+      × (answers above.key (outer_algorithm c) (part_octets (tbs c)) (signature_bits c) ≡ false)
+  BreaksFor _ = ⊥
 
 abbrev pub HeldIsRefusedFor : Type 0
 HeldIsRefusedFor =
@@ -131,7 +142,7 @@ HeldIsRefusedFor =
     (limit moment : ℕ) (purpose : List ℕ) (answers : Answers) (place : ℕ) (rule : Rule)
     → HoldsOrders (root ∷ below) cs stream → Refused (terms_for root moment purpose answers) limit
     stream place rule
-    → BreaksFor rule moment purpose answers (root ∷ below) cs place
+    → BreaksFor moment purpose answers (root ∷ below) cs place rule
 
 -- What the judge is handed of the stream at a place is what was handed to its signer.
 abbrev pub SignedIsSliced : Type 0
@@ -140,6 +151,25 @@ SignedIsSliced =
     (c : PlainCertificate)
     → HoldsOrders ps cs stream → slice_get cs place ≡ Some c → signed_part Bound cs stream place c
     ≡ part_octets (tbs c)
+
+-- what an extension says, and whether it is critical
+abbrev pub Told : Type 0
+Told = Bool × Meaning
+
+abbrev pub told : PlainExtension → Told
+told e = (is_critical e, weigh Bound e)
+
+-- what is ordered in a role, one extension after the other
+abbrev pub told_for : Role → PlainOrder → List Told
+told_for roles.Root p = (false, unweighed) ∷ (true, constraints true None)
+    ∷ (true, uses (authority_uses p.answers)) ∷ (false, unweighed) ∷ []
+told_for roles.Subordinate p =
+    (false, unweighed) ∷ (true, constraints true p.path) ∷ (true, uses (authority_uses p.answers))
+    ∷ (false, unweighed) ∷ (false, purposes (profiles.purposes p.clients)) ∷ []
+told_for roles.Subscriber p =
+    (length p.subject == 0, other_names (dns_names p.dns)) ∷ (false, unweighed)
+    ∷ (false, purposes (profiles.purposes p.clients)) ∷ (true, constraints false None)
+    ∷ (true, uses digital_signature) ∷ []
 
 -- The extensions of a certificate say what was ordered.
 abbrev pub SaysAsOrdered : Type 0

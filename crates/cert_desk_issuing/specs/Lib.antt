@@ -1,6 +1,5 @@
 pub mod Acceptance
 pub mod Allowances
-pub mod Auditing
 pub mod Chains
 pub mod DigestSigners
 pub mod Issuable
@@ -12,5 +11,4 @@ pub mod PlainOrders
 pub mod Refusals
 pub mod Roles
 pub mod Runs
-pub mod Weighed
 pub mod Arguments

@@ -6,7 +6,8 @@ use Rattle.cert_desk_issuing.specs.declared.issue_error.IssueError.TheVariants a
 
 -- the order of a place, and what it is refused for
 abbrev pub order_line : ℕ → List ℕ → List ℕ
-order_line place reason = codes "order " ++ decimal place ++ codes " " ++ reason ++ codes "\n"
+order_line place reason =
+    (codes "order " ++ decimal place) ++ (codes " " ++ (reason ++ codes "\n"))
 
 -- all orders, and what they are refused for
 abbrev pub orders_line : List ℕ → List ℕ

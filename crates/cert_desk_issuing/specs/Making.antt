@@ -1,17 +1,17 @@
 -- What contracts see of certificates that are made, and of chains that are issued.
-use Rattle.std.specs.Prelude.{◌≡◌, ◌++◌, ℕ, ◌-◌, ◌^◌, List, Result, Ok, Err}
+use Rattle.std.specs.Prelude.{◌≡◌, ◌++◌, ℕ, ◌-◌, List, Result, Ok, Err}
 use Rattle.const_oid.specs.Bound.{Bound}
 use Rattle.der_core_head.specs.BitStrings.{Bits}
 use Rattle.der_core_head.specs.Limits.{length_max}
 use Rattle.der_core_head.specs.Grammar.{plain_list}
 use Rattle.der_core_head.specs.Shapes.{IsValid}
 use Rattle.x509_cert_builders.specs.SignedParts.{PlainFields}
-use Rattle.x509_cert_builders.specs.States as states
+use Rattle.x509_cert_builders.specs.States.{as_written}
 use Rattle.x509_cert_builders.specs.declared.error.Error.{Error}
 use Rattle.cert_desk_checking.specs.Certificates.{Algorithm, PlainCertificate, PlainExtension}
-use Rattle.cert_desk_checking.specs.Certificates.{PlainName, PublicKey, Tbs}
-use Rattle.cert_desk_checking.specs.Certificates.{certificate_octets, outer_algorithm}
-use Rattle.cert_desk_checking.specs.Certificates.{raw_certificate, signature_bits, tbs}
+use Rattle.cert_desk_checking.specs.Certificates.{PlainName, PublicKey, Tbs, certificate_octets}
+use Rattle.cert_desk_checking.specs.Certificates.{outer_algorithm, raw_certificate, signature_bits}
+use Rattle.cert_desk_checking.specs.Certificates.{tbs}
 use Rattle.cert_desk_checking.specs.Views.{certificate_plain}
 use Rattle.cert_desk_checking.specs.Chains.{Chain}
 use Rattle.cert_desk_issuing.specs.declared.issued.Issued.TheInside.{Inside}
@@ -23,10 +23,7 @@ use Rattle.cert_desk_issuing.specs.Ordered.{extensions_for, names_for, part_octe
 use Rattle.cert_desk_issuing.specs.PlainOrders.{PlainOrder}
 use Rattle.cert_desk_issuing.specs.Refusals.{IsStoppedAt, Stops}
 
--- a certificate as it is written
-abbrev pub as_written : PlainCertificate → PlainCertificate
-as_written c = states.as_written c
-
+-- what was made, as it is written
 abbrev pub made_plain : Made → PlainCertificate
 made_plain m = as_written (certificate_plain m.certificate)
 
@@ -69,13 +66,12 @@ abbrev pub Makes : (List ℕ → Type 0) → (List ℕ → Bits → Type 0) → 
 Makes may_refuse signs a role dns t (Ok m) = IsMadeOf t a signs (made_plain m) m.octets.items
 Makes may_refuse signs a role dns t (Err s) = Stops may_refuse signs a role dns t s
 
--- so it is of the certificate at a place
-abbrev pub MakesAt : {S : Type 0} → (S → Algorithm) → (S → List ℕ → Bits → Type 0)
-    → (S → List ℕ → Type 0) → List PlainOrder → List S → ℕ → Result Made Stop → Type 0
-MakesAt algorithm signs may_refuse ps signers place (Ok m) =
-    IsMadeAt algorithm signs ps signers place (made_plain m) m.octets.items
-MakesAt algorithm signs may_refuse ps signers place (Err s) =
-    IsStoppedAt algorithm signs may_refuse ps signers place s
+module _ {S : Type 0} (algorithm : S → Algorithm) (signs : S → List ℕ → Bits → Type 0)
+    (may_refuse : S → List ℕ → Type 0) (ps : List PlainOrder) (signers : List S) (place : ℕ) where
+  -- so it is of the certificate at a place
+  abbrev pub MakesAt : Result Made Stop → Type 0
+  MakesAt (Ok m) = IsMadeAt algorithm signs ps signers place (made_plain m) m.octets.items
+  MakesAt (Err s) = IsStoppedAt algorithm signs may_refuse ps signers place s
 
 -- the certificates of a chain, and their stream
 pub record PlainIssued : Type 0 where

@@ -1,6 +1,6 @@
 -- Which certificate is ordered at each place (RFC 5280 4.1.2; CA/Browser Forum, Baseline
 -- Requirements 7.1.2).
-use Rattle.std.specs.Prelude.{ℕ, pos, List, [], ◌∷◌, length, Option, Some, None, ◌==◌}
+use Rattle.std.specs.Prelude.{ℕ, pos, List, [], ◌∷◌, length, Some, None, ◌==◌}
 use Rattle.std.proofs.Common.{inl, inr}
 use Rattle.std.specs.Bool.{⊤}
 use Rattle.const_oid.specs.Bound.{Bound}
@@ -9,9 +9,9 @@ use Rattle.der_core_head.specs.Shapes.{IsValid, Value, octets_of}
 use Rattle.cert_desk_checking.specs.Builders.{digital_signature, root_extensions}
 use Rattle.cert_desk_checking.specs.Builders.{standard_extension, subordinate_extensions}
 use Rattle.cert_desk_checking.specs.Builders.{subscriber_extensions}
-use Rattle.cert_desk_checking.specs.Certificates.{Tbs}
+use Rattle.cert_desk_checking.specs.Certificates.{Tbs, Algorithm, PlainExtension, PlainName}
+use Rattle.cert_desk_checking.specs.Certificates.{PublicKey}
 use Rattle.cert_desk_checking.specs.Parts.{tbs_certificate}
-use Rattle.cert_desk_checking.specs.Certificates.{Algorithm, PlainExtension, PlainName, PublicKey}
 use Rattle.cert_desk_checking.specs.Extensions.{general_name, general_names}
 use Rattle.cert_desk_issuing.specs.declared.role.Role.{Role}
 use Rattle.cert_desk_issuing.specs.declared.role.Role.TheVariants as roles

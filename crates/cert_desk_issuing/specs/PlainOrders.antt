@@ -10,9 +10,8 @@ use Rattle.x509_cert_builders.specs.Subscribers.{all_stays}
 use Rattle.cert_desk_checking.specs.Builders.{NamesAuthority}
 use Rattle.cert_desk_checking.specs.Certificates.{PlainName, PublicKey}
 use Rattle.cert_desk_checking.specs.Views.{key_plain, name_plain, validity_plain}
-use Rattle.cert_desk_checking.specs.Parts.{time_of}
+use Rattle.cert_desk_checking.specs.Parts.{time_of, civil_of}
 use Rattle.cert_desk_orders.specs.Grammar.{PlainValidity, not_after, not_before}
-use Rattle.cert_desk_checking.specs.Parts.{civil_of}
 use Rattle.cert_desk_issuing.specs.declared.accepted.Accepted.{Accepted}
 use Rattle.cert_desk_issuing.specs.declared.role.Role.{Role}
 use Rattle.cert_desk_issuing.specs.declared.role.Role.TheVariants as roles
@@ -55,8 +54,8 @@ CanBear roles.Root n = NamesAuthority {X = Unit {0}} n (Ok tt)
 CanBear roles.Subordinate n = ⊤
 CanBear roles.Subscriber n = all_stays n ≡ true
 
--- And what a signed part can have: such a name, a serial number that is read, and dates as RFC 5280
--- spells them.
+-- What a signed part can have, beside: such a name, a serial number that is read, and
+-- dates as RFC 5280 spells them.
 pub record IsReady (role : Role) (p : PlainOrder) : Type 0 where
   pub right : IsRight role p
   pub named : CanBear role p.subject

@@ -12,15 +12,14 @@ use Rattle.der_core_head.specs.declared.error.ErrorKind.TheVariants as kinds
 use Rattle.der_core_head.specs.Shapes.{IsValid}
 use Rattle.cert_desk_checking.specs.Names.TimeTypes.DateTexts.{date_text}
 use Rattle.cert_desk_checking.specs.Names.TimeTypes.Seconds.{unix_seconds}
-use Rattle.cert_desk_checking.specs.Builders.{NamesAuthority}
-use Rattle.cert_desk_checking.specs.Builders.{IsWantOfMemory}
+use Rattle.cert_desk_checking.specs.Builders.{NamesAuthority, IsWantOfMemory}
 use Rattle.x509_cert_builders.specs.declared.error.Error.{Error as BuilderError}
 use Rattle.x509_cert_builders.specs.declared.error.Error.TheVariants as builders
 use Rattle.x509_cert_builders.specs.declared.sign_error.SignError.TheVariants
     as signers
-use Rattle.cert_desk_checking.specs.Certificates.{PlainCertificate, Tbs}
+use Rattle.cert_desk_checking.specs.Certificates.{PlainCertificate, Tbs, Algorithm, PlainName}
+use Rattle.cert_desk_checking.specs.Certificates.{PublicKey}
 use Rattle.cert_desk_checking.specs.Parts.{certificate, tbs_certificate}
-use Rattle.cert_desk_checking.specs.Certificates.{Algorithm, PlainName, PublicKey}
 use Rattle.cert_desk_checking.specs.Views.{key_plain}
 use Rattle.cert_desk_checking.specs.Texts.{ReadsName, SpellsName}
 use Rattle.cert_desk_orders.specs.Grammar.{PlainValidity}
@@ -80,22 +79,21 @@ RefusesName role n faults.SubscriberName = (role ≡ roles.Subscriber) × (names
 RefusesName role n faults.OutOfMemory = ⊤
 RefusesName role n _ = ⊥
 
--- Why an order is refused in a role, beside a signer of this key: what is asked before is right.
-abbrev pub RefusesOrder : Role → Option PublicKey → Order → Fault → Type 0
-RefusesOrder role key o faults.Name = (e : ErrorKind)
-    × ReadsName Bound (string_bytes o.name) (Err e)
-RefusesOrder role key o (faults.RootName e) = (n : PlainName)
-    × SpellsName Bound (string_bytes o.name) n × RefusesName role n (faults.RootName e)
-RefusesOrder role key o faults.SubscriberName = (n : PlainName)
-    × SpellsName Bound (string_bytes o.name) n × RefusesName role n faults.SubscriberName
-RefusesOrder role key o faults.Serial = HasName role o
-    × ((e : ErrorKind) × (new_serial o.serial.items ≡ Err e))
-RefusesOrder role key o faults.Dates = HasName role o × HasSerial o × HasFaultyDates o
-RefusesOrder role key o faults.DnsName = HasName role o × HasSerial o × HasDates o
-    × (HasNames role o → ⊥)
-RefusesOrder role key o faults.KeyMismatch = HasName role o × HasSerial o × HasDates o
-    × HasNames role o × IsOtherKey key (key_plain o.key)
-RefusesOrder role key o faults.OutOfMemory = ⊤
+module _ (role : Role) (key : Option PublicKey) (o : Order) where
+  -- Why an order is refused in a role, beside a signer of this key: what is asked before is right.
+  abbrev pub RefusesOrder : Fault → Type 0
+  RefusesOrder faults.Name = (e : ErrorKind) × ReadsName Bound (string_bytes o.name) (Err e)
+  RefusesOrder (faults.RootName e) = (n : PlainName) × SpellsName Bound (string_bytes o.name) n
+      × RefusesName role n (faults.RootName e)
+  RefusesOrder faults.SubscriberName = (n : PlainName) × SpellsName Bound (string_bytes o.name) n
+      × RefusesName role n faults.SubscriberName
+  RefusesOrder faults.Serial = HasName role o
+      × ((e : ErrorKind) × (new_serial o.serial.items ≡ Err e))
+  RefusesOrder faults.Dates = HasName role o × HasSerial o × HasFaultyDates o
+  RefusesOrder faults.DnsName = HasName role o × HasSerial o × HasDates o × (HasNames role o → ⊥)
+  RefusesOrder faults.KeyMismatch = HasName role o × HasSerial o × HasDates o × HasNames role o
+      × IsOtherKey key (key_plain o.key)
+  RefusesOrder faults.OutOfMemory = ⊤
 
 -- the order at a place is refused
 pub record IsRefusedAt (orders : List Order) (keys : List PublicKey) (place : ℕ) (f : Fault) : Type
@@ -156,19 +154,7 @@ pub record IsStoppedAt {S : Type 0} (algorithm : S → Algorithm) (signs : S →
       (role_at (length asked) place) order.dns
       (ordered_part (role_at (length asked) place) order above (algorithm signer)) stop
 
--- all orders are accepted, the certificates of the places before are made and signed, and at this
--- place none is
-pub record StopsAt {S : Type 0} (key : S → PublicKey) (algorithm : S → Algorithm)
-    (signs : S → List ℕ → Bits → Type 0) (may_refuse : S → List ℕ → Type 0) (orders : List Order)
-    (signers : List S) (place : ℕ) (stop : Stop) : Type 0 where
-  pub asked : List PlainOrder
-  pub accepted : AcceptedOrders orders (map key signers) asked
-  pub before : List PlainCertificate
-  pub here : length before ≡ place
-  pub made : AreMade algorithm signs asked signers before
-  pub stopped : IsStoppedAt algorithm signs may_refuse asked signers place stop
-
--- the same of an order at a place
+-- how a fault of the order at a place is told, and a stop there
 abbrev pub fault_at : ℕ → Fault → IssueError
 fault_at place faults.Name = errors.Name place
 fault_at place (faults.RootName e) = errors.RootName place e
@@ -184,33 +170,35 @@ stop_at place stops.Refused = errors.Signer place
 stop_at place stops.TooLong = errors.TooLong place
 stop_at place stops.OutOfMemory = errors.OutOfMemory
 
--- so many signers as the orders need, and one of them is refused
-abbrev pub Faults : {S : Type 0} → (S → PublicKey) → List Order → List S → ℕ → Fault → Type 0
-Faults key orders signers place f = (length signers ≡ signers_for (length orders))
-    × RefusesAt orders (map key signers) place f
+module _ {S : Type 0} (key : S → PublicKey) (algorithm : S → Algorithm)
+    (signs : S → List ℕ → Bits → Type 0) (may_refuse : S → List ℕ → Type 0) (orders : List Order)
+    (signers : List S) where
+  -- so many signers as the orders need, and one of the orders is refused
+  abbrev pub Faults : ℕ → Fault → Type 0
+  Faults place f = (length signers ≡ signers_for (length orders))
+      × RefusesAt orders (map key signers) place f
 
--- Why no chain is issued.
-abbrev pub Refuses : {S : Type 0} → (S → PublicKey) → (S → Algorithm) → (S → List ℕ → Bits → Type 0)
-    → (S → List ℕ → Type 0) → List Order → List S → IssueError → Type 0
-Refuses key algorithm signs may_refuse orders signers errors.NoOrders = orders ≡ []
-Refuses key algorithm signs may_refuse orders signers errors.SignerCount = (0 < length orders)
-    × (length signers ≢ signers_for (length orders))
-Refuses key algorithm signs may_refuse orders signers (errors.Name place) =
-    Faults key orders signers place faults.Name
-Refuses key algorithm signs may_refuse orders signers (errors.RootName place e) =
-    Faults key orders signers place (faults.RootName e)
-Refuses key algorithm signs may_refuse orders signers (errors.SubscriberName place) =
-    Faults key orders signers place faults.SubscriberName
-Refuses key algorithm signs may_refuse orders signers (errors.Serial place) =
-    Faults key orders signers place faults.Serial
-Refuses key algorithm signs may_refuse orders signers (errors.Dates place) =
-    Faults key orders signers place faults.Dates
-Refuses key algorithm signs may_refuse orders signers (errors.DnsName place) =
-    Faults key orders signers place faults.DnsName
-Refuses key algorithm signs may_refuse orders signers (errors.KeyMismatch place) =
-    Faults key orders signers place faults.KeyMismatch
-Refuses key algorithm signs may_refuse orders signers (errors.Signer place) =
-    StopsAt key algorithm signs may_refuse orders signers place stops.Refused
-Refuses key algorithm signs may_refuse orders signers (errors.TooLong place) =
-    StopsAt key algorithm signs may_refuse orders signers place stops.TooLong
-Refuses key algorithm signs may_refuse orders signers errors.OutOfMemory = ⊤
+  -- all orders are accepted, the certificates of the places before are made and signed, and at this
+  -- place none is
+  pub record StopsAt (place : ℕ) (stop : Stop) : Type 0 where
+    pub asked : List PlainOrder
+    pub accepted : AcceptedOrders orders (map key signers) asked
+    pub before : List PlainCertificate
+    pub here : length before ≡ place
+    pub made : AreMade algorithm signs asked signers before
+    pub stopped : IsStoppedAt algorithm signs may_refuse asked signers place stop
+
+  -- Why no chain is issued.
+  abbrev pub Refuses : IssueError → Type 0
+  Refuses errors.NoOrders = orders ≡ []
+  Refuses errors.SignerCount = (0 < length orders) × (length signers ≢ signers_for (length orders))
+  Refuses (errors.Name place) = Faults place faults.Name
+  Refuses (errors.RootName place e) = Faults place (faults.RootName e)
+  Refuses (errors.SubscriberName place) = Faults place faults.SubscriberName
+  Refuses (errors.Serial place) = Faults place faults.Serial
+  Refuses (errors.Dates place) = Faults place faults.Dates
+  Refuses (errors.DnsName place) = Faults place faults.DnsName
+  Refuses (errors.KeyMismatch place) = Faults place faults.KeyMismatch
+  Refuses (errors.Signer place) = StopsAt place stops.Refused
+  Refuses (errors.TooLong place) = StopsAt place stops.TooLong
+  Refuses errors.OutOfMemory = ⊤

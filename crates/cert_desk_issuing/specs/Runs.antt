@@ -35,13 +35,15 @@ signing_keys orders = map key_of (take (signers_for (length orders)) orders)
 -- refused.
 abbrev pub OrdersBecome : List Order → Outcome → Type 0
 OrdersBecome orders (outcomes.Issued issued) =
-    IssuedChain (λ k. k) (λ k. digest_algorithm) IsDigestOf orders (signing_keys orders)
+    (signers : List DigestSigner) × (map signer_key signers ≡ signing_keys orders)
+    × IssuedChain signer_key (λ s. digest_algorithm) (λ s. IsDigestOf (signer_key s)) orders signers
     issued.stream
 OrdersBecome orders (outcomes.Refused error) =
-    Refuses (λ k. k) (λ k. digest_algorithm) IsDigestOf (λ k octets. ⊥) orders (signing_keys orders)
-    error
-    × (AreIssuable (λ k. k) (λ k. digest_algorithm) IsDigestOf (λ k octets. ⊥) orders
-    (signing_keys orders) → ⊥)
+    (signers : List DigestSigner) × (map signer_key signers ≡ signing_keys orders)
+    × Refuses signer_key (λ s. digest_algorithm) (λ s. IsDigestOf (signer_key s)) (λ s octets. ⊥)
+    orders signers error
+    × (AreIssuable signer_key (λ s. digest_algorithm) (λ s. IsDigestOf (signer_key s))
+    (λ s octets. ⊥) orders signers → ⊥)
 OrdersBecome orders (outcomes.BadLine line) = ⊥
 OrdersBecome orders outcomes.Device = ⊥
 OrdersBecome orders outcomes.OutOfMemory = Unit {0}

@@ -20,7 +20,6 @@ ghost use Rattle.cert_desk_issuing.specs.Refusals.{HasFaultyDates, HasName, IsNo
 ghost use Rattle.cert_desk_issuing.specs.Refusals.{RefusesName, RefusesOrder};
 
 use crate::accepted::Accepted;
-use crate::attribute_types as types;
 use crate::fault::Fault;
 use crate::in_range::{key_in_range, time_in_range};
 use crate::role::Role;
@@ -68,11 +67,27 @@ fn is_want_of_memory(error: &Error) -> bool
     }
 }
 
+/// `countryName`.
+fn country() -> ObjectIdentifier<39>
+    ensures { result ≡ country }
+{
+    // 2.5.4.6.
+    ObjectIdentifier::from_bytes_unwrap(&[0x55, 4, 6])
+}
+
+/// `commonName`.
+fn common_name() -> ObjectIdentifier<39>
+    ensures { result ≡ common_name }
+{
+    // 2.5.4.3.
+    ObjectIdentifier::from_bytes_unwrap(&[0x55, 4, 3])
+}
+
 /// Whether the name of a subscriber may have an attribute of this type.
 fn may_stay(oid: &ObjectIdentifier<39>) -> bool
     ensures { result ≡ is_among (country ∷ common_name ∷ []) oid.now }
 {
-    types::country() == *oid || types::common_name() == *oid
+    country() == *oid || common_name() == *oid
 }
 
 /// Whether it may have a relative name.

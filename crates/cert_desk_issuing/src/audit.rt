@@ -11,10 +11,10 @@ ghost use Rattle.cert_desk_checking.specs.declared.standing.Standing.TheVariants
 ghost use Rattle.cert_desk_checking.specs.Anchors.{anchor_plain};
 ghost use Rattle.cert_desk_checking.specs.Streams.{Reads};
 ghost use Rattle.cert_desk_checking.specs.Verdicts.{IsCounted, IsVerdict, StopsAsking};
-ghost use Rattle.cert_desk_issuing.specs.Auditing.{root_anchor, root_anchors};
+ghost use Rattle.cert_desk_checking.specs.Issuers.{as_anchor};
 ghost use Rattle.cert_desk_issuing.specs.Chains.{HoldsOrders};
-ghost use Rattle.cert_desk_issuing.specs.Laws.{Permits, terms_for};
-ghost use Rattle.cert_desk_issuing.specs.Making.{as_written};
+ghost use Rattle.cert_desk_issuing.specs.Laws.{Permits, root_anchors, terms_for};
+ghost use Rattle.x509_cert_builders.specs.States.{as_written};
 ghost use Rattle.cert_desk_issuing.specs.PlainOrders.{PlainOrder};
 
 use crate::issued::Issued;
@@ -75,7 +75,7 @@ impl Issued {
 /// A certificate, as an anchor.
 fn anchor_of(alloc: Global, root: &Certificate) -> Result<Anchor, CheckError>
     ensures copied { IfOk result
-        (λ a. anchor_plain a ≡ root_anchor (as_written (certificate_plain root.now))) }
+        (λ a. anchor_plain a ≡ as_anchor (as_written (certificate_plain root.now))) }
     ensures refused { IfErr result (λ e. e ≡ errors.OutOfMemory) }
 {
     let signed = root.tbs_certificate();

@@ -6,7 +6,7 @@ ghost use Rattle.der_core_head.specs.Limits.{length_max};
 ghost use Rattle.der_core_head.specs.Grammar.{plain_list};
 ghost use Rattle.cert_desk_checking.specs.Views.{certificate_plain};
 ghost use Rattle.cert_desk_checking.specs.Chains.{Chain};
-ghost use Rattle.cert_desk_issuing.specs.Making.{as_written};
+ghost use Rattle.x509_cert_builders.specs.States.{as_written};
 
 use cert_desk_checking::types::Certificate;
 use std::marker::Model;

@@ -13,6 +13,7 @@ use cert_desk_checking::types::builder::Signer;
 
 /// Of orders that are accepted, of which no signer may refuse a part, and whose lengths fit, none
 /// of the reasons to refuse them holds: only memory can be wanting.
+#[tactic(auto, using(crate::proofs::OnlyMemory::issuable_is_issued))]
 pub fn issuable_is_issued<S: Signer>()
     ensures { IssuableIsIssued S.public_key S.signs_by S.signs S.may_refuse }
 {}
@@ -20,6 +21,7 @@ pub fn issuable_is_issued<S: Signer>()
 /// A chain that holds orders is trusted under its own root, at each moment within all dates, for
 /// each purpose that the orders allow, where their path lengths are enough, each certificate is
 /// within the limit, and the judge says yes to each signature under the ordered key.
+#[tactic(auto, using(crate::proofs::Trusting::held_is_trusted))]
 pub fn held_is_trusted()
     ensures { HeldIsTrusted }
 {}
@@ -41,12 +43,14 @@ pub fn issued_is_trusted<S: Signer>()
 {}
 
 /// What a judge is handed of the stream, at any place, is octet for octet what was signed there.
+#[tactic(auto, using(crate::proofs::Trusting::signed_is_sliced))]
 pub fn signed_is_sliced()
     ensures { SignedIsSliced }
 {}
 
 /// Each extension says what was ordered: the key's uses, the names, whether it is an authority's
 /// and with which path length, the purposes; and it is critical where the standard says so.
+#[tactic(auto, using(crate::proofs::Trusting::says_as_ordered))]
 pub fn says_as_ordered()
     ensures { SaysAsOrdered }
 {}

@@ -3,7 +3,6 @@
 
 mod accepted;
 mod accepting;
-mod attribute_types;
 mod audit;
 mod digest_signer;
 mod fault;
@@ -35,7 +34,7 @@ pub use cert_desk_checking::{
     DigestJudge, Entry, Error, ErrorKind, ExitStatus, FaultKind, FromRead, Input, MemoryInput,
     MemoryOutput, Name, ObjectIdentifier, Outcome, Output, Raw, ReadAllError, ReadError, Reason,
     Rule, Sha256Digest, SignatureJudge, Standing, SubjectPublicKeyInfo, Time, ToWrite,
-    TrustAnchorChoice, USAGE, Verdict, anchors_line, check, complain, first_fault, hash, read_all,
+    TrustAnchorChoice, USAGE, Verdict, anchors_line, check, complain, first_fault, read_all,
     read_anchors, read_stream, reason_of, run_check, status_of, tell_device, tell_memory,
     verdict_line, write_all,
 };

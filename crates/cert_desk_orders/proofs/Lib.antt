@@ -1,0 +1,1 @@
+pub use Rattle.x509_cert_parts.proofs.OneKey

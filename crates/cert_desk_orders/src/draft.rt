@@ -114,25 +114,15 @@ impl Draft {
 
     // The order, all of whose lines were read.
     pub(crate) fn finish(self) -> Result<Order, OrdersError> {
-        let line = self.faulty_line();
+        let missing = OrdersError::Line(self.faulty_line());
         if self.fault.is_some() {
-            return Err(OrdersError::Line(line));
+            return Err(missing);
         }
-        let Some(name) = self.name.value() else {
-            return Err(OrdersError::Line(line));
-        };
-        let Some(not_before) = self.not_before.value() else {
-            return Err(OrdersError::Line(line));
-        };
-        let Some(not_after) = self.not_after.value() else {
-            return Err(OrdersError::Line(line));
-        };
-        let Some(serial) = self.serial.value() else {
-            return Err(OrdersError::Line(line));
-        };
-        let Some(key) = self.key.value() else {
-            return Err(OrdersError::Line(line));
-        };
+        let name = self.name.value().ok_or(missing)?;
+        let not_before = self.not_before.value().ok_or(missing)?;
+        let not_after = self.not_after.value().ok_or(missing)?;
+        let serial = self.serial.value().ok_or(missing)?;
+        let key = self.key.value().ok_or(missing)?;
         Ok(Order {
             name,
             serial,

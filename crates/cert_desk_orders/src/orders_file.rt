@@ -25,7 +25,7 @@ fn split_line(line: &[u8]) -> Option<(Word, Option<&str>)> {
 // The orders of a file, as far as its lines were read.
 #[derive(Drop)]
 struct Reading {
-    // Those whose lines were all read.
+    // The orders whose lines were all read.
     orders: Vec<Order>,
     // The one that the next line belongs to.
     draft: Option<Draft>,

@@ -7,18 +7,14 @@ use x509_cert_parts::SubjectPublicKeyInfo;
 
 // A text: whatever stands behind the blank.
 pub(crate) fn text_of(alloc: Global, value: Option<&str>) -> Result<String, ValueFault> {
-    let Some(value) = value else {
-        return Err(ValueFault::Faulty);
-    };
+    let value = value.ok_or(ValueFault::Faulty)?;
     let text = String::from_str(alloc, value)?;
     Ok(text)
 }
 
 // Octets, in base 16.
 pub(crate) fn octets_of(alloc: Global, value: Option<&str>) -> Result<Vec<u8>, ValueFault> {
-    let Some(value) = value else {
-        return Err(ValueFault::Faulty);
-    };
+    let value = value.ok_or(ValueFault::Faulty)?;
     let octets = hex::decode(alloc, value)?;
     Ok(octets)
 }
@@ -35,9 +31,7 @@ pub(crate) fn key_of(
 
 // A path length: one or more decimal digits, up to 255. Leading zeros are read, and no sign.
 pub(crate) fn length_of(value: Option<&str>) -> Result<u8, ValueFault> {
-    let Some(value) = value else {
-        return Err(ValueFault::Faulty);
-    };
+    let value = value.ok_or(ValueFault::Faulty)?;
     if value.as_bytes().first() == Some(&b'+') {
         return Err(ValueFault::Faulty);
     }

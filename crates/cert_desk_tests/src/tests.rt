@@ -1,10 +1,6 @@
-//! Readers and writers that fail, as devices; and bundles that have no verdict.
+//! Readers and writers that fail, as devices.
 
-use cert_desk::{
-    Bundle, BundleError, CheckError, DeviceError, DigestJudge, FromRead, Input, MemoryInput,
-    ReadError, Standing, ToWrite, check, write_all,
-};
-use const_oid::ObjectIdentifier;
+use cert_desk_io::{DeviceError, FromRead, Input, ToWrite, write_all};
 use std::io;
 use std::io::{Cursor, ErrorKind, Read, Write};
 use std::test::Fail;
@@ -84,52 +80,5 @@ fn counts_the_errors_of_a_writer(rt: HostRuntime) -> Result<(), Fail> {
     let writer = output.into_inner();
     assert_eq!(rt; writer.inner.as_slice(), b"certificate".as_slice());
     assert_eq!(rt; writer.calls, 5);
-    Ok(())
-}
-
-/// The certificate with which the rows of `cert_rows` begin.
-const CERTIFICATE: &[u8] = b"\x30\x42\x30\x37\x02\x01\x01\x30\x03\x06\x01\x2a\x30\x00\x30\x1e\
-\x17\x0d020101120100Z\x17\x0d301231083000Z\x30\x00\x30\x09\x30\x03\x06\x01\x2a\x03\x02\x00\x00\
-\x30\x03\x06\x01\x2a\x03\x02\x00\x00";
-
-/// A bundle that a device failed, behind a certificate.
-#[test]
-fn failed_device(rt: HostRuntime) -> Result<(), Fail> {
-    let mut bundle = Bundle::new(rt.alloc(), 100);
-    let mut input = MemoryInput::new(CERTIFICATE, &[], Some(2));
-    assert_eq!(rt; bundle.read_from(&mut input), Err(ReadError::Device));
-    assert_eq!(rt; bundle.len(), 1);
-    assert!(rt; bundle.is_ended());
-    let purpose = ObjectIdentifier::<39>::new("1.2")?;
-    let checked = check(
-        rt.alloc(),
-        &bundle,
-        &[],
-        0,
-        &purpose,
-        &mut DigestJudge::new(),
-    );
-    assert_eq!(rt; checked, Err(CheckError::Device));
-    Ok(())
-}
-
-/// A bundle of two certificates, or one that found no memory and keeps what it had read: with
-/// `rt try --test --fail-alloc N` the Nth request for memory is refused.
-#[test]
-fn refused_memory(rt: HostRuntime) -> Result<(), Fail> {
-    let mut bundle = Bundle::new(rt.alloc(), 100);
-    for place in [0, 1] {
-        assert_eq!(rt; bundle.len(), place);
-        if let Err(error) = bundle.feed(CERTIFICATE) {
-            assert_eq!(rt; error, BundleError::OutOfMemory);
-            assert_eq!(rt; bundle.standing(), Standing::NoMemory);
-            assert_eq!(rt; bundle.len(), place);
-            assert_eq!(rt; bundle.feed(b""), Err(BundleError::Failed));
-            assert_eq!(rt; bundle.finish(), Err(BundleError::Failed));
-            return Ok(());
-        }
-    }
-    assert_eq!(rt; bundle.len(), 2);
-    bundle.finish()?;
     Ok(())
 }

@@ -2,7 +2,8 @@ use Rattle.std.proofs.Common.{map, sym, ◌∙◌, subst}
 use Rattle.cert_desk_issuing.specs.declared.issue_error.IssueError.{IssueError}
 use Rattle.cert_desk_issuing.specs.PlainOrders.{accepted_plain, orders_plain}
 use Rattle.cert_desk_issuing.specs.Refusals.{Refuses}
-use Rattle.cert_desk_issuing.proofs.AcceptedFronts.{accepted_more, plain_length, told}
+use Rattle.cert_desk_checking.proofs.Names.SetTypes.FewSteps.{length_plain_list}
+use Rattle.cert_desk_issuing.proofs.AcceptedFronts.{accepted_more, told}
 use Rattle.cert_desk_issuing.proofs.issuing.accept_all.Goals as goal
 
 pub returns-in-Err-clause-refused : goal.returns-in-Err-clause-refused
@@ -15,7 +16,7 @@ returns-in-Err-clause-refused g c =
     (told s.public_key s.signs_by s.signs s.may_refuse orders signers c.loop-place.place c.in-Err.fault c.requires (record {
       asked = orders_plain so_far;
       before = c.loop-place.invariant.front;
-      here = plain_length accepted_plain so_far ∙ c.loop-place.invariant.count;
+      here = length_plain_list accepted_plain so_far ∙ c.loop-place.invariant.count;
       refused = c.in-Err.ensures.refused;
     }))
 

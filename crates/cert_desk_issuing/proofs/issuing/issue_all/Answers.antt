@@ -2,10 +2,10 @@ use Rattle.std.proofs.Common.{sym, ◌∙◌, subst}
 use Rattle.der_core_head.specs.Grammar.{plain_list}
 use Rattle.cert_desk_issuing.specs.declared.issue_error.IssueError.{IssueError}
 use Rattle.cert_desk_checking.specs.Views.{certificate_plain}
-use Rattle.cert_desk_issuing.specs.Making.{as_written}
+use Rattle.x509_cert_builders.specs.States.{as_written}
 use Rattle.cert_desk_issuing.specs.PlainOrders.{orders_plain}
 use Rattle.cert_desk_issuing.specs.Refusals.{Refuses}
-use Rattle.cert_desk_issuing.proofs.AcceptedFronts.{plain_length}
+use Rattle.cert_desk_checking.proofs.Names.SetTypes.FewSteps.{length_plain_list}
 use Rattle.cert_desk_issuing.proofs.IssuedFronts.{made_more, stopped}
 use Rattle.cert_desk_issuing.proofs.issuing.issue_all.Goals as goal
 
@@ -15,7 +15,7 @@ returns-in-Err-clause-stopped g c = λ orders accepted.
     let signers = c.args.signers.now in
     subst (λ (e : IssueError). Refuses s.public_key s.signs_by s.signs s.may_refuse orders signers e) (sym c.at.ensures)
     (stopped s.public_key s.signs_by s.signs s.may_refuse orders signers (orders_plain c.args.accepted.now) (plain_list (λ c. as_written (certificate_plain c)) c.loop-place.certificates.items) c.loop-place.place accepted
-    (plain_length (λ c. as_written (certificate_plain c)) c.loop-place.certificates.items ∙ c.loop-place.invariant.count) c.loop-place.invariant.front.made c.in-Err.stop c.in-Err.ensures)
+    (length_plain_list (λ c. as_written (certificate_plain c)) c.loop-place.certificates.items ∙ c.loop-place.invariant.count) c.loop-place.invariant.front.made c.in-Err.stop c.in-Err.ensures)
 
 pub loop-place-preserved : goal.loop-place-preserved
 loop-place-preserved g c =

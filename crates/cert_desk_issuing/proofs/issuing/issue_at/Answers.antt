@@ -1,4 +1,4 @@
-use Rattle.std.proofs.Common.{◌≡◌, ◌<◌, Some, length, refl, sym, slice_get, subst}
+use Rattle.std.proofs.Common.{◌<◌, length, refl, sym, subst}
 use Rattle.std.proofs.lemmas.Option.{slice_get_read}
 use Rattle.cert_desk_issuing.specs.Roles.{place_above}
 use Rattle.cert_desk_issuing.proofs.AcceptedFronts.{above_within, signer_within}

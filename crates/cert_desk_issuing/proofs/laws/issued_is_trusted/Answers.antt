@@ -1,4 +1,4 @@
-use Rattle.cert_desk_issuing.proofs.IssuedTrusted.{issued_is_trusted}
+use Rattle.cert_desk_issuing.proofs.Trusting.{issued_is_trusted}
 use Rattle.cert_desk_issuing.proofs.laws.issued_is_trusted.Goals as goal
 
 pub returns : goal.returns

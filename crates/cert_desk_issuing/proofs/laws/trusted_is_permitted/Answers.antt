@@ -1,4 +1,4 @@
-use Rattle.cert_desk_issuing.proofs.TrustLaws.{trusted_is_permitted}
+use Rattle.cert_desk_issuing.proofs.Trusting.{trusted_is_permitted}
 use Rattle.cert_desk_issuing.proofs.laws.trusted_is_permitted.Goals as goal
 
 pub returns : goal.returns

@@ -1,4 +1,4 @@
-use Rattle.std.proofs.Common.{◌≡◌, ◌≤◌, ℕ, List, length, sym, ◌∙◌, subst}
+use Rattle.std.proofs.Common.{◌≤◌, ℕ, List, length, sym, ◌∙◌, subst}
 use Rattle.std.proofs.lemmas.Result.{err_from_is_err_and}
 use Rattle.const_oid.specs.Bound.{Bound}
 use Rattle.std.specs.Prelude.{Some}
@@ -6,12 +6,11 @@ use Rattle.der_core_head.specs.Integers.{integer_octets}
 use Rattle.der_core_head.specs.Shapes.{IsValid}
 use Rattle.der_core_head.proofs.WrittenValid.{written_valid}
 use Rattle.x509_cert_builders.specs.SignedParts.{part_shape}
-use Rattle.x509_cert_builders.specs.States.{part_for}
+use Rattle.x509_cert_builders.specs.States.{part_for, as_written}
 use Rattle.cert_desk_checking.specs.Certificates.{Tbs, signature_bits}
 use Rattle.cert_desk_checking.specs.Parts.{certificate}
 use Rattle.cert_desk_checking.specs.Views.{certificate_plain}
 use Rattle.cert_desk_issuing.specs.declared.stop.Stop.{Stop}
-use Rattle.cert_desk_issuing.specs.Making.{as_written}
 use Rattle.cert_desk_issuing.specs.Refusals.{Stops}
 use Rattle.cert_desk_issuing.proofs.SignedParts.{made_of, not_built, unwritten}
 use Rattle.cert_desk_issuing.proofs.making.made_by.Goals as goal

@@ -1,5 +1,4 @@
-use Rattle.std.proofs.Common.{ap, ◌∙◌, string_bytes}
-use Rattle.der_core_head.specs.Grammar.{plain_list}
+use Rattle.std.proofs.Common.{ap, ◌∙◌}
 use Rattle.x509_cert_builders.specs.States.{CertificateState}
 use Rattle.cert_desk_issuing.specs.Ordered.{names_for, ordered_part}
 use Rattle.cert_desk_issuing.specs.PlainOrders.{accepted_plain}

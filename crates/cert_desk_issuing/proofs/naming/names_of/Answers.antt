@@ -1,13 +1,48 @@
-use Rattle.std.proofs.Common.{◌≡◌, length, string_bytes, refl, sym, ap, ◌∙◌, subst, Ok, Some, slice_get}
-use Rattle.std.proofs.lemmas.Option.{slice_get_read}
+use Rattle.std.proofs.Common.{◌≡◌, ℕ, zero, suc, List, [], ◌∷◌, length, false, Result, Some, Ok, Err, refl, arith, slice_get, string_bytes, sym, ap, ◌∙◌, subst}
+use Rattle.std.proofs.lemmas.Bool.{le-ltb}
+use Rattle.std.proofs.lemmas.Option.{same_Some, slice_get_read}
 use Rattle.std.proofs.lemmas.Result.{err_from_is_err_and}
-use Rattle.der_core_head.specs.declared.error.Error.{Error}
-use Rattle.der_core_head.specs.declared.error.ErrorKind.TheVariants.{OutOfMemory}
+use Rattle.std.specs.List.{AllByRecursion}
+use Rattle.std.specs.Prelude.{nat_lt, if◌then◌else◌}
+use Rattle.const_oid.specs.Bound.{Bound}
+use Rattle.der_core_head.proofs.Fits.{fits_contents}
 use Rattle.der_core_head.specs.Grammar.{plain_list}
+use Rattle.der_core_head.specs.Heads.{Fits}
+use Rattle.der_core_head.specs.Limits.{length_max}
+use Rattle.der_core_head.specs.Shapes.{IsBody, IsContent, IsValid, contents}
+use Rattle.der_core_head.specs.Tags.{context}
+use Rattle.der_core_head.specs.Texts.{ascii, text_read}
+use Rattle.der_core_head.specs.declared.error.Error.{Error}
+use Rattle.der_core_head.specs.declared.error.ErrorKind.{ErrorKind}
+use Rattle.der_core_head.specs.declared.error.ErrorKind.TheVariants.{OutOfMemory}
+use Rattle.cert_desk_checking.specs.Extensions.{general_name, general_names}
+use Rattle.cert_desk_issuing.specs.Ordered.{dns_name, dns_names}
 use Rattle.cert_desk_issuing.proofs.AcceptedFronts.{plain_at}
-use Rattle.cert_desk_issuing.proofs.DnsNames.{name_read, read_within}
-use Rattle.cert_desk_issuing.proofs.SignedParts.{only_memory}
+use Rattle.der_core_head.proofs.Results.{only_memory}
+use Rattle.der_core_head.specs.declared.error.ErrorKind.TheVariants as kinds
+use Rattle.der_core_head.specs.declared.tag.Tag.TheVariants as tags
 use Rattle.cert_desk_issuing.proofs.naming.names_of.Goals as goal
+
+-- DNS names that have an encoding are read as names.
+
+-- what is read of octets as text in ASCII, where a length can count them
+abbrev read_within : List ℕ → Result (List ℕ) ErrorKind
+read_within w = if nat_lt length_max (length w) then Err kinds.Overflow else text_read ascii tags.Ia5String w
+
+text_valid : (text : List ℕ) → IsValid (general_name Bound) (dns_name text) → read_within text ≡ Ok text
+unfolding IsValid IsContent contents text_read
+text_valid text v =
+    let fits : Fits text = fits_contents (context false 2) text v.2 in
+    rw (le-ltb length_max (length text) (omega (arith, fits)), v.0.within) refl
+
+valid_at : (texts : List (List ℕ)) (i : ℕ) (text : List ℕ) → slice_get texts i ≡ Some text → AllByRecursion (λ n. IsValid (general_name Bound) n) (dns_names texts) → IsValid (general_name Bound) (dns_name text)
+valid_at [] i text e h = absurd cc
+valid_at (t ∷ more) zero text e h = rw (← same_Some t text e) h.0
+valid_at (t ∷ more) (suc i) text e h = valid_at more i text e h.1
+
+name_read : (texts : List (List ℕ)) (i : ℕ) (text : List ℕ) → slice_get texts i ≡ Some text → IsValid (general_names Bound) (dns_names texts) → read_within text ≡ Ok text
+unfolding IsValid IsContent IsBody
+name_read texts i text e v = text_valid text (valid_at texts i text e v.0)
 
 pub returns-in_err-name-clause-refused : goal.returns-in_err-name-clause-refused
 returns-in_err-name-clause-refused c = λ valid.

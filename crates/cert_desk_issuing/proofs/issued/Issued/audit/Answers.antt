@@ -3,7 +3,7 @@ use Rattle.cert_desk_checking.specs.Anchors.{anchor_plain}
 use Rattle.cert_desk_checking.specs.Judging.{Terms}
 use Rattle.cert_desk_checking.specs.Streams.{Reads}
 use Rattle.cert_desk_checking.specs.Verdicts.{IsCounted, IsVerdict, StopsAsking}
-use Rattle.cert_desk_issuing.specs.Auditing.{root_anchors}
+use Rattle.cert_desk_issuing.specs.Laws.{root_anchors}
 use Rattle.cert_desk_issuing.proofs.Auditing.{asked_or_not, exactly, on_error, under_root}
 use Rattle.cert_desk_issuing.proofs.issued.Issued.audit.Goals as goal
 use Rattle.const_oid.specs.Bound.{Bound}
@@ -21,15 +21,8 @@ returns-clause-verdict g c = λ root below cs h.
 
 pub returns-clause-trusted : goal.returns-clause-trusted
 returns-clause-trusted g c = λ root below cs h.
-    let own = c.args.self.now.certificates in
-    let stream = c.args.self.now.stream in
     let answers = g.J.SignatureJudge.answers c.args.judge.now in
-    let reads = subst (λ (w : List ℕ). Reads Bound c.read-bundle.result w) c.stream.ensures.octets
-    (c.read-bundle.ensures.reads (λ e. (let none = sym c.in_ok-checked.was ∙ c.check.ensures.no_memory e in absurd cc))) in
-    let given = ap (map anchor_plain) c.as_slice.ensures.value ∙ c.in_ok-anchors.ensures.copied ∙ ap root_anchors c.certificates.ensures in
-    exactly root below cs stream c.args.limit c.args.moment c.args.purpose.now answers c.in_ok-checked.checked.verdict h
-    (under_root root below cs own stream h c.stream.ensures.chain (map anchor_plain c.as_slice.result.now) c.args.moment c.args.purpose.now answers c.read-bundle.result.limit c.args.limit
-    (λ (t : Terms) (n : ℕ). IsVerdict t n stream c.in_ok-checked.checked.verdict) given c.read-bundle.ensures.limit (c.in_ok-checked.ensures.verdict stream reads))
+    exactly root below cs c.args.self.now.stream c.args.limit c.args.moment c.args.purpose.now answers c.in_ok-checked.checked.verdict h (returns-clause-verdict g c root below cs h)
 
 pub returns-clause-counted : goal.returns-clause-counted
 returns-clause-counted g c = λ root below cs h.
