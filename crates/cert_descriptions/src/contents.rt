@@ -3,8 +3,9 @@
 use crate::describe::Describe;
 use crate::identifiers::Named;
 use crate::printing::Colons;
+use crate::reads::readable;
 use const_oid::Database;
-use der_core::{Decode, ErrorKind, SliceReader, from_der};
+use der_core::{Decode, SliceReader, from_der};
 use std::alloc::{AllocError, Global};
 use x509_cert::timestamps::SignedCertificateTimestampList;
 use x509_cert::{
@@ -21,12 +22,9 @@ fn add_content<'a, T: Decode<'a, SliceReader<'a>> + Describe + Drop>(
     octets: &'a [u8],
     names: Database<'_>,
 ) -> Result<(), AllocError> {
-    match from_der::<T>(alloc, octets) {
-        Ok(value) => value.describe(alloc, text, names),
-        Err(error) => match error.kind {
-            ErrorKind::OutOfMemory => Err(AllocError),
-            _ => text.push_str("  malformed\n"),
-        },
+    match readable(from_der::<T>(alloc, octets))? {
+        Some(value) => value.describe(alloc, text, names),
+        None => text.push_str("  malformed\n"),
     }
 }
 

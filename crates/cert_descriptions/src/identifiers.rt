@@ -13,7 +13,7 @@ pub struct Identifiers {
 }
 
 impl Identifiers {
-    /// Those that are known here.
+    /// The identifiers that are known here.
     ///
     /// # Errors
     ///

@@ -2,6 +2,7 @@
 
 use crate::identifiers::Named;
 use crate::printing::{Colons, Number};
+use crate::reads::readable;
 use const_oid::{Database, ObjectIdentifier};
 use der_core::{from_der, to_der};
 use sha1::Sha1;
@@ -49,9 +50,9 @@ fn add_numbers(text: &mut String, numbers: &[Uint]) -> Result<(), AllocError> {
 
 // Adds the lines of an RSA key.
 fn add_rsa(alloc: Global, text: &mut String, octets: &[u8]) -> Result<(), AllocError> {
-    match from_der::<Vec<Uint>>(alloc, octets) {
-        Ok(numbers) => add_numbers(text, numbers.as_slice()),
-        Err(_) => text.push_str("  malformed\n"),
+    match readable(from_der::<Vec<Uint>>(alloc, octets))? {
+        Some(numbers) => add_numbers(text, numbers.as_slice()),
+        None => text.push_str("  malformed\n"),
     }
 }
 

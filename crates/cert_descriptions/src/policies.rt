@@ -3,6 +3,7 @@
 use crate::describe::Describe;
 use crate::identifiers::Named;
 use crate::printing::{Colons, Plain};
+use crate::reads::readable;
 use const_oid::Database;
 use std::alloc::{AllocError, Global};
 use x509_cert::{
@@ -12,9 +13,9 @@ use x509_cert::{
 
 // Adds the text of a qualifier: where the statement of practices stands, or the octets.
 fn add_value(alloc: Global, text: &mut String, value: &Any) -> Result<(), AllocError> {
-    match value.decode_as::<Ia5String>(alloc) {
-        Ok(place) => writeln!(text, " {}", Plain(place.as_str()))?,
-        Err(_) => writeln!(text, " {}", Colons(value.value()))?,
+    match readable(value.decode_as::<Ia5String>(alloc))? {
+        Some(place) => writeln!(text, " {}", Plain(place.as_str()))?,
+        None => writeln!(text, " {}", Colons(value.value()))?,
     }
     Ok(())
 }

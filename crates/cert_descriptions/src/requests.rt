@@ -5,6 +5,7 @@ use crate::description::add_named;
 use crate::identifiers::Named;
 use crate::keys::{add_algorithm, add_digests, add_key, add_key_digests};
 use crate::printing::Colons;
+use crate::reads::readable;
 use const_oid::{AssociatedOid, Database};
 use std::alloc::{AllocError, Global};
 use x509_cert::{Any, Attribute, CertReq, ExtensionReq};
@@ -18,7 +19,7 @@ fn add_value(
     names: Database<'_>,
 ) -> Result<(), AllocError> {
     if is_wanted {
-        if let Ok(wanted) = value.decode_as::<ExtensionReq>(alloc) {
+        if let Some(wanted) = readable(value.decode_as::<ExtensionReq>(alloc))? {
             return add_extensions(alloc, text, wanted.0.as_slice(), names);
         }
     }

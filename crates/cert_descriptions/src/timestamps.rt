@@ -5,7 +5,7 @@ use crate::printing::Colons;
 use const_oid::Database;
 use std::alloc::{AllocError, Global};
 use x509_cert::timestamps::{
-    SerializedSct, SignedCertificateTimestamp, SignedCertificateTimestampList,
+    Error, SerializedSct, SignedCertificateTimestamp, SignedCertificateTimestampList, TlsError,
 };
 
 // Adds the lines of a timestamp.
@@ -30,6 +30,7 @@ fn add_written(
     for written in listed {
         match written.parse_timestamp(alloc) {
             Ok(timestamp) => add_timestamp(text, &timestamp)?,
+            Err(Error::Tls(TlsError::OutOfMemory)) => return Err(AllocError),
             Err(_) => text.push_str("  malformed\n")?,
         }
     }
@@ -45,6 +46,7 @@ impl Describe for SignedCertificateTimestampList {
     ) -> Result<(), AllocError> {
         match self.parse_timestamps(alloc) {
             Ok(listed) => add_written(alloc, text, listed.as_slice()),
+            Err(Error::Tls(TlsError::OutOfMemory)) => Err(AllocError),
             Err(_) => text.push_str("  malformed\n"),
         }
     }

@@ -1,7 +1,7 @@
 //! What no rule of a chain forbids, and who issued it may not have meant.
 
 use crate::chain_place::ChainPlace;
-use cert_descriptions::{add_general_name, serial_remark};
+use cert_descriptions::{add_general_name, readable, serial_remark};
 use cert_desk_checking::types::{Extension, GeneralName, SubjectAltName};
 use const_oid::Database;
 use der_core::from_der;
@@ -79,7 +79,8 @@ fn add_host_remarks(
     names: Database<'_>,
 ) -> Result<(), AllocError> {
     if let [0x55, 0x1d, 17] = extension.extn_id.as_bytes() {
-        if let Ok(listed) = from_der::<SubjectAltName>(alloc, extension.extn_value.as_bytes()) {
+        let octets = extension.extn_value.as_bytes();
+        if let Some(listed) = readable(from_der::<SubjectAltName>(alloc, octets))? {
             for name in &listed.0 {
                 if is_no_host(name) {
                     text.push_str("  remark: this is no DNS name: ")?;

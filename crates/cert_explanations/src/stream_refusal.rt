@@ -12,7 +12,8 @@ pub(crate) const PEM_STREAM: &str =
 
 // What is said of certificates that stand as TLS sends them.
 pub(crate) const LEAF_FIRST: &str =
-    "the certificates stand as TLS sends them, the leaf first: `cert_tool reverse` turns them round\n";
+    "the certificates stand as TLS sends them, the leaf first: `cert_tool reverse` turns them \
+     round\n";
 
 // What a fault of a stream means.
 fn meaning(kind: FaultKind) -> &'static str {

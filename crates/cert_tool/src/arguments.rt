@@ -92,7 +92,8 @@ fn purpose_of<E: Output>(text: &str, err: &mut E) -> Result<ObjectIdentifier<39>
             err,
             "PURPOSE",
             text,
-            "serverAuth, clientAuth, codeSigning, emailProtection, timeStamping, OCSPSigning, anyExtendedKeyUsage, or dotted arcs",
+            "serverAuth, clientAuth, codeSigning, emailProtection, timeStamping, OCSPSigning, \
+            anyExtendedKeyUsage, or dotted arcs",
         )),
     }
 }

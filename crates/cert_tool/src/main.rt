@@ -22,8 +22,12 @@ fn main(rt: HostRuntime) -> ExitCode {
 // Does what the arguments ask for.
 fn run(rt: &HostRuntime) -> ExitStatus {
     let mut err = ToWrite::new(rt.stderr());
-    let Ok(words) = env::args(rt) else {
-        return tell_words(&mut err);
+    let words = match env::args(rt) {
+        Ok(words) => words,
+        Err(error) => match error.kind() {
+            io::ErrorKind::OutOfMemory => return tell_memory(&mut err),
+            _ => return tell_words(&mut err),
+        },
     };
     let Ok(words) = words.collect::<Vec<String>>(rt.alloc()) else {
         return tell_memory(&mut err);

@@ -4,7 +4,7 @@ use Rattle.std.specs.Prelude.{bytes_eq, codes, if◌then◌else◌, Option, Some
 use Rattle.std.specs.List.{list_all, slice_split}
 use Rattle.der_core_head.specs.declared.error.ErrorKind.{ErrorKind}
 use Rattle.der_core_head.specs.BitStrings.{Bits}
-use Rattle.der_core_head.specs.Grammar.{whole_at}
+use Rattle.der_core_head.specs.Grammar.{read_whole}
 use Rattle.der_core_head.specs.Shapes.{Shape, Value}
 use Rattle.hex.specs.Hex.{decode_of}
 use Rattle.hex.specs.declared.error.FromHexError.{FromHexError}
@@ -28,7 +28,7 @@ octets_in text = octets_read (decode_of text)
 
 -- the value of a shape whose encoding it writes
 abbrev pub value_of : (s : Shape) → Option (List ℕ) → Option (Value s)
-value_of s (Some octets) = value_read (whole_at s octets)
+value_of s (Some octets) = value_read (read_whole s octets)
 value_of s None = None
 
 abbrev pub value_in : (s : Shape) → List ℕ → Option (Value s)

@@ -1,7 +1,7 @@
 //! Files of answers.
 ghost use Rattle.std.specs.Prelude.{◌≡◌, map, IfOk, IfErr, OnOk, Some, Ok};
 ghost use Rattle.std.specs.List.{list_all};
-ghost use Rattle.der_core_head.specs.Grammar.{plain_option, whole_at};
+ghost use Rattle.der_core_head.specs.Grammar.{plain_option, read_whole};
 ghost use Rattle.const_oid.specs.Bound.{Bound};
 ghost use Rattle.cert_desk_checking.specs.Certificates.{algorithm_identifier, bit_string};
 ghost use Rattle.cert_desk_checking.specs.Certificates.{public_key_info};
@@ -45,7 +45,7 @@ fn value_of<'a, T: Decode<'a, SliceReader<'a>>>(
     octets: &'a [u8],
 ) -> Result<Option<T>, AllocError>
     ensures { IfOk result (λ read. plain_option T.plain read
-        ≡ value_read (whole_at T.shape octets.now)) }
+        ≡ value_read (read_whole T.shape octets.now)) }
 {
     match from_der::<T>(alloc, octets) {
         Ok(value) => Ok(Some(value)),
