@@ -6,7 +6,7 @@
  * Where it has EACH=FILE, the program is forked at each request: in the fork that request fails,
  * and the program goes on once the fork has ended. FILE gets a line for each, `NUMBER STATUS
  * OCTETS`, and behind it what that fork wrote to its standard output, of so many octets. The
- * standard input and output have to be files, and no other file may be read. */
+ * standard input and output have to be files; other files that are open are read, not written. */
 #define _GNU_SOURCE
 #include <dlfcn.h>
 #include <fcntl.h>
@@ -29,16 +29,27 @@ __attribute__((constructor)) static void begin(void) {
     made = 0;
 }
 
+/* A file that is read stays where it was read to, for the fork alone: whether there is one. */
+static int part_file(int number) {
+    char path[32];
+    off_t read_so_far = lseek(number, 0, SEEK_CUR);
+    if (read_so_far < 0) return 0;
+    snprintf(path, sizeof path, "/proc/self/fd/%d", number);
+    int file = open(path, O_RDONLY);
+    if (file < 0) return 0;
+    lseek(file, read_so_far, SEEK_SET);
+    dup2(file, number);
+    close(file);
+    return 1;
+}
+
 /* What was read and written before is where it was, for the fork alone. */
 static void part(int out) {
-    off_t read_so_far = lseek(0, 0, SEEK_CUR);
-    int in = open("/proc/self/fd/0", O_RDONLY);
     char octets[4096];
     ssize_t count;
-    if (in < 0 || read_so_far < 0) _exit(99);
-    lseek(in, read_so_far, SEEK_SET);
-    dup2(in, 0);
-    close(in);
+    if (!part_file(0)) _exit(99);
+    for (int number = 3; number < 32; number++)
+        if (number != out) part_file(number);
     int before = open("/proc/self/fd/1", O_RDONLY);
     while (before >= 0 && (count = read(before, octets, sizeof octets)) > 0)
         if (write(out, octets, count) != count) _exit(99);

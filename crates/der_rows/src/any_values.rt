@@ -7,7 +7,7 @@ use crate::shown::{named, octets_of, written_in};
 use crate::small::Small;
 use const_oid::ObjectIdentifier;
 use der_core::{
-    Decode, DecodeValue, Encode, EncodeValue, EncodingRules, Error, FixedTag, SliceReader, from_der,
+    DecodeValue, Encode, EncodeValue, EncodingRules, Error, FixedTag, SliceReader, from_der,
 };
 use der_types_any::{Any, AnyRef};
 use der_types_numbers::{IntRef, UintRef};
@@ -16,7 +16,7 @@ use der_types_text::{
     GeneralStringRef, Ia5StringRef, PrintableStringRef, TeletexStringRef, Utf8StringRef,
     VideotexStringRef,
 };
-use der_types_time::{GeneralizedTime, UtcTime};
+use der_types_time::{DateTime, GeneralizedTime, UtcTime};
 use der_types_values::{BitStringRef, Null, OctetStringRef, SequenceRef};
 use std::alloc::Global;
 
@@ -72,6 +72,7 @@ fn read_as(alloc: Global, kind: &str, any: &Any, rules: EncodingRules) -> Result
         "i16" => decoded::<i16>(alloc, any, rules),
         "Null" => decoded::<Null>(alloc, any, rules),
         "OctetStringRef" => decoded::<OctetStringRef>(alloc, any, rules),
+        "Vec<OctetStringRef>" => decoded::<Vec<OctetStringRef>>(alloc, any, rules),
         "Entry" => decoded::<Entry>(alloc, any, rules),
         "SequenceOf<Small,2>" => decoded::<SequenceOf<Small, 2>>(alloc, any, rules),
         "SetOfRef<Small>" => decoded::<SetOfRef<Small>>(alloc, any, rules),
@@ -122,6 +123,7 @@ fn value_from(alloc: Global, kind: &str, word: &str, any: &Any) -> Result<String
         "SequenceRef" => converted::<SequenceRef>(alloc, word, any),
         "UtcTime" => converted::<UtcTime>(alloc, word, any),
         "GeneralizedTime" => converted::<GeneralizedTime>(alloc, word, any),
+        "DateTime" => converted::<DateTime>(alloc, word, any),
         _ => text_from(alloc, kind, word, any),
     }
 }
@@ -174,16 +176,16 @@ fn lent_from(alloc: Global, kind: &str, octets: &[u8]) -> Result<String, Refusal
         "Null" => lent_from_value::<Null>(alloc, octets),
         "OctetStringRef" => lent_from_value::<OctetStringRef>(alloc, octets),
         "SequenceRef" => lent_from_value::<SequenceRef>(alloc, octets),
-        "PrintableStringRef" => lent_from_text::<PrintableStringRef>(alloc, octets),
-        "GeneralStringRef" => lent_from_text::<GeneralStringRef>(alloc, octets),
-        "Utf8StringRef" => lent_from_text::<Utf8StringRef>(alloc, octets),
-        "str" => lent_from_text::<&str>(alloc, octets),
+        "PrintableStringRef" => lent_from_value::<PrintableStringRef>(alloc, octets),
+        "GeneralStringRef" => lent_from_value::<GeneralStringRef>(alloc, octets),
+        "Utf8StringRef" => lent_from_value::<Utf8StringRef>(alloc, octets),
+        "str" => lent_from_text(alloc, octets),
         _ => Err(Refusal::Unread),
     }
 }
 
 /// What is written of any value that is made of a value.
-fn lent_from_value<'a, T: Decode<'a, SliceReader<'a>> + Into<AnyRef<'a>>>(
+fn lent_from_value<'a, T: DecodeValue<'a, SliceReader<'a>> + FixedTag + Into<AnyRef<'a>>>(
     alloc: Global,
     octets: &'a [u8],
 ) -> Result<String, Refusal> {
@@ -193,10 +195,7 @@ fn lent_from_value<'a, T: Decode<'a, SliceReader<'a>> + Into<AnyRef<'a>>>(
 }
 
 /// What is written of any value that is made of a text.
-fn lent_from_text<'a, T: Decode<'a, SliceReader<'a>> + TryInto<AnyRef<'a>, Error = Error>>(
-    alloc: Global,
-    octets: &'a [u8],
-) -> Result<String, Refusal> {
-    let value: T = from_der(alloc, octets)?;
-    written_in(alloc, value.try_into())
+fn lent_from_text(alloc: Global, octets: &[u8]) -> Result<String, Refusal> {
+    let text: &str = from_der(alloc, octets)?;
+    written_in(alloc, AnyRef::try_from(text))
 }

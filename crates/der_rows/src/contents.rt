@@ -4,9 +4,9 @@ use crate::refusals::Refusal;
 use crate::shown::{hex_of, name_of, octets_of};
 use const_oid::ObjectIdentifier;
 use der_core::{
-    BytesOwned, BytesRef, Decode, DecodeValue, EncodeValue, EncodeValueRef, FixedTag, Header,
-    Length, OrdIsValueOrd, SliceReader, StringOwned, StringRef, Tag, ValueOrd, der_cmp_by_ord,
-    from_der, value_cmp_by_ord, value_cmp_is_ord,
+    BytesOwned, BytesRef, DecodeValue, EncodeValue, EncodeValueRef, FixedTag, Header, Length,
+    OrdIsValueOrd, SliceReader, StringOwned, StringRef, Tag, ValueOrd, der_cmp_by_ord, from_der,
+    value_cmp_by_ord, value_cmp_is_ord,
 };
 use std::alloc::{AllocError, Global};
 
@@ -27,7 +27,7 @@ pub fn answer(alloc: Global, rest: &str) -> Result<String, Refusal> {
 }
 
 /// What is written of two contents, and their order.
-fn answer_as<'a, T: DecodeValue<'a, SliceReader<'a>> + EncodeValue + ValueOrd + Drop>(
+fn answer_as<'a, T: DecodeValue<'a, SliceReader<'a>> + EncodeValue + ValueOrd>(
     alloc: Global,
     first: &'a [u8],
     second: &'a [u8],
@@ -114,7 +114,7 @@ pub fn answer_by_ord(alloc: Global, rest: &str) -> Result<String, Refusal> {
 /// The orders by `Ord` of two values that octets spell by DER.
 fn orders_by_ord<
     'a,
-    T: Decode<'a, SliceReader<'a>> + EncodeValue + FixedTag + OrdIsValueOrd + ValueOrd + Drop,
+    T: DecodeValue<'a, SliceReader<'a>> + EncodeValue + FixedTag + OrdIsValueOrd + ValueOrd,
 >(alloc: Global, first: &'a [u8], second: &'a [u8]) -> Result<String, Refusal> {
     let first: T = from_der(alloc, first)?;
     let second: T = from_der(alloc, second)?;

@@ -209,7 +209,7 @@ fn copies_of_set(alloc: Global, octets: &[u8]) -> Result<String, Refusal> {
 /// What is written of a copy of a set of bounded room.
 fn copies_of_few(alloc: Global, octets: &[u8]) -> Result<String, Refusal> {
     let set = SetOf::<Small, 2>::from_der(alloc, octets)?;
-    copy_written(alloc, set.clone(alloc))
+    copy_written(alloc, set.clone())
 }
 
 /// What is written of a copy of a set that is lent, and of the set of its members.

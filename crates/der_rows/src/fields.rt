@@ -2,13 +2,13 @@
 
 ghost use Rattle.std.specs.Prelude.{◌≡◌, IfOk, IfSome};
 ghost use Rattle.der_core_head.specs.declared.tag_mode.TagMode.TheVariants as modes;
+ghost use Rattle.der_types_tagged.specs.Fields.{IsClass};
 
-use crate::any_values;
 use crate::entry::Entry;
 use crate::questions::{Asked, Question, answer_of_value};
-use crate::record::Record;
 use crate::refusals::Refusal;
 use crate::shown::{front_of, hex_in, name_of, named, octets_of};
+use crate::{any_values, record};
 use der_core::{
     CLASS_APPLICATION as APPLICATION, CLASS_CONTEXT_SPECIFIC as CONTEXT, CLASS_PRIVATE as PRIVATE,
     Decode, DecodeValue, EncodeValue, Error, Explicit, FixedTag, Implicit, Reader, SliceReader,
@@ -37,7 +37,7 @@ type EachKind<'a> = (
 /// The answer of a type that this page names, or one behind it.
 pub fn answer(alloc: Global, kind: &str, question: &Question<'_>) -> Result<String, Refusal> {
     match kind {
-        "EachKind" => answer_of_value::<Record<EachKind>>(alloc, question),
+        "EachKind" => record::answer::<EachKind>(alloc, question),
         "Entry" => answer_of_value::<Entry>(alloc, question),
         "ContextSpecific<u8>" => answer_of_class::<CONTEXT>(alloc, question),
         "Application<u8>" => answer_of_class::<APPLICATION>(alloc, question),
@@ -50,7 +50,9 @@ pub fn answer(alloc: Global, kind: &str, question: &Question<'_>) -> Result<Stri
 fn answer_of_class<const CLASS: u8>(
     alloc: Global,
     question: &Question<'_>,
-) -> Result<String, Refusal> {
+) -> Result<String, Refusal>
+    requires { IsClass CLASS }
+{
     match question.asked {
         Asked::Der => {
             let field = of_any_number::<CLASS>(alloc, question.first)?;
@@ -70,6 +72,7 @@ fn of_any_number<const CLASS: u8>(
     alloc: Global,
     octets: &[u8],
 ) -> Result<ClassField<u8, CLASS>, Error>
+    requires { IsClass CLASS }
     ensures { IfOk result (λ f. f.tag_mode ≡ modes.Explicit) }
 {
     let mut reader = SliceReader::new(octets)?;
@@ -138,6 +141,7 @@ fn read_field<'a, T: DecodeValue<'a, SliceReader<'a>> + FixedTag + Drop, const C
     alloc: Global,
     field: &Numbered<'a>,
 ) -> Result<Front<T, CLASS>, Error>
+    requires { IsClass CLASS }
     ensures { IfOk result (λ x. IfSome x.0 (λ f. f.tag_mode ≡ field.now.mode)) }
 {
     let mut reader = SliceReader::new(field.octets)?;
@@ -161,7 +165,9 @@ fn owned<T: EncodeValue + FixedTag + Drop, const CLASS: u8>(
 }
 
 /// The field of a number, lent, as it is shown.
-fn lent<const CLASS: u8>(alloc: Global, field: &Numbered<'_>) -> Result<String, Refusal> {
+fn lent<const CLASS: u8>(alloc: Global, field: &Numbered<'_>) -> Result<String, Refusal>
+    requires { IsClass CLASS }
+{
     let (field, left) = read_field::<u8, CLASS>(alloc, field)?;
     match field {
         Some(field) => found(alloc, field.owned_to_ref().to_der(alloc), left),

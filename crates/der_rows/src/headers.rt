@@ -5,7 +5,7 @@ use crate::refusals::Refusal;
 use crate::shown::{front_of, hex_of, name_of, octets_of, printed, shown};
 use der_core::{
     Class, EncodingRules, Error, Header, Length, Reader, SliceReader, Tag, TagMode, TagNumber,
-    encode_length, encode_tag, header_cmp, header_of, length_cmp, lone_length_of, tag_cmp, tag_of,
+    encode_length, encode_tag, header_cmp, length_cmp, lone_length_of, tag_cmp, tag_of,
 };
 use std::alloc::Global;
 
@@ -19,6 +19,7 @@ pub fn answer(alloc: Global, word: &str, rest: &str) -> Result<String, Refusal> 
         "scan" => of_fronts(alloc, first),
         "lone-length" => of_lone_length(alloc, first),
         "lone-tag" => of_lone_tag(alloc, first),
+        "private-4" => matches_private_4(alloc, first),
         "length-written" => length_written(alloc, length_in(first)?),
         "tags" => of_number(alloc, TagNumber::from(first.parse::<u32>()?)),
         "class" => of_class(alloc, first),
@@ -125,6 +126,16 @@ fn of_lone_tag(alloc: Global, digits: &str) -> Result<String, Refusal> {
     Ok(format!(in alloc; "{count} {written} {tag}")?)
 }
 
+/// Whether the private tag of the number 4 stands at the front of octets.
+fn matches_private_4(alloc: Global, digits: &str) -> Result<String, Refusal> {
+    let octets = octets_of(alloc, digits)?;
+    let number = TagNumber::new(4);
+    printed(
+        alloc,
+        Tag::peek_matches(octets.as_slice(), Class::Private, number),
+    )
+}
+
 /// The order of two headers.
 fn order_of_headers(alloc: Global, first: &str, second: &str) -> Result<String, Refusal> {
     let order = header_cmp(header_in(alloc, first)?, header_in(alloc, second)?);
@@ -134,15 +145,13 @@ fn order_of_headers(alloc: Global, first: &str, second: &str) -> Result<String, 
 /// The header at the front of octets.
 fn header_in(alloc: Global, digits: &str) -> Result<Header, Refusal> {
     let octets = octets_of(alloc, digits)?;
-    let (header, _) = header_of(octets.as_slice())?;
-    Ok(header)
+    Ok(Header::peek(octets.as_slice())?)
 }
 
 /// The tag at the front of octets.
 fn tag_in(alloc: Global, digits: &str) -> Result<Tag, Refusal> {
     let octets = octets_of(alloc, digits)?;
-    let (tag, _) = tag_of(octets.as_slice())?;
-    Ok(tag)
+    Ok(Tag::peek(octets.as_slice())?)
 }
 
 /// The length that a text counts.

@@ -5,27 +5,72 @@ ghost use Rattle.bitflags.specs.Sets.{known_from};
 
 use crate::questions::{Asked, Question, answer_with_contents};
 use crate::refusals::Refusal;
-use bitflags::{Flag, Flags, bitflag_items};
+use bitflags::{Flag, Flags};
 use der_core::from_der;
 use der_types_values::{FlagSet, NamedBits};
 use std::alloc::{AllocError, Global};
 
 /// Key usages, the first in the lowest bit.
-#[derive(Clone, Copy, Debug, PartialEq, Eq)]
+#[derive(Clone, Copy)]
 pub struct KeyUsages(u16);
 
-bitflag_items! {
-    impl KeyUsages: u16 {
-        const DIGITAL_SIGNATURE = 1;
-        const NON_REPUDIATION = 2;
-        const KEY_ENCIPHERMENT = 4;
-        const DATA_ENCIPHERMENT = 8;
-        const KEY_AGREEMENT = 16;
-        const KEY_CERT_SIGN = 32;
-        const CRL_SIGN = 64;
-        const ENCIPHER_ONLY = 128;
-        const DECIPHER_ONLY = 256;
-    }
+impl KeyUsages {
+    const DIGITAL_SIGNATURE: KeyUsages = KeyUsages(1);
+
+    const NON_REPUDIATION: KeyUsages = KeyUsages(2);
+
+    const KEY_ENCIPHERMENT: KeyUsages = KeyUsages(4);
+
+    const DATA_ENCIPHERMENT: KeyUsages = KeyUsages(8);
+
+    const KEY_AGREEMENT: KeyUsages = KeyUsages(16);
+
+    const KEY_CERT_SIGN: KeyUsages = KeyUsages(32);
+
+    const CRL_SIGN: KeyUsages = KeyUsages(64);
+
+    const ENCIPHER_ONLY: KeyUsages = KeyUsages(128);
+
+    const DECIPHER_ONLY: KeyUsages = KeyUsages(256);
+
+    const FLAGS: &'static [Flag<KeyUsages>] = &[
+        Flag {
+            name: "DIGITAL_SIGNATURE",
+            value: KeyUsages::DIGITAL_SIGNATURE,
+        },
+        Flag {
+            name: "NON_REPUDIATION",
+            value: KeyUsages::NON_REPUDIATION,
+        },
+        Flag {
+            name: "KEY_ENCIPHERMENT",
+            value: KeyUsages::KEY_ENCIPHERMENT,
+        },
+        Flag {
+            name: "DATA_ENCIPHERMENT",
+            value: KeyUsages::DATA_ENCIPHERMENT,
+        },
+        Flag {
+            name: "KEY_AGREEMENT",
+            value: KeyUsages::KEY_AGREEMENT,
+        },
+        Flag {
+            name: "KEY_CERT_SIGN",
+            value: KeyUsages::KEY_CERT_SIGN,
+        },
+        Flag {
+            name: "CRL_SIGN",
+            value: KeyUsages::CRL_SIGN,
+        },
+        Flag {
+            name: "ENCIPHER_ONLY",
+            value: KeyUsages::ENCIPHER_ONLY,
+        },
+        Flag {
+            name: "DECIPHER_ONLY",
+            value: KeyUsages::DECIPHER_ONLY,
+        },
+    ];
 }
 
 impl Flags for KeyUsages {

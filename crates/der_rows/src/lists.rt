@@ -1,15 +1,15 @@
 //! Lists and sets.
 
-use crate::fields;
 use crate::key_usages::KeyUsages;
 use crate::questions::{Asked, Question, answer_of_value, answer_with_contents, compared};
-use crate::record::Record;
 use crate::refusals::Refusal;
 use crate::shown::{named, octets_of, written, written_in};
 use crate::small::Small;
+use crate::{fields, record};
 use der_core::{
-    AsRead, Decode, DerOrd, Encode, EncodeValue, EncodingRules, Error, FixedTag, Header, InRange,
-    Member, Reader, SliceReader, Tag, ValueOrd, from_ber, from_der,
+    ApartValue, AsRead, AsReadValue, Decode, DecodeValue, DerOrd, Encode, EncodeValue,
+    EncodingRules, Error, FixedTag, Header, InRange, Member, Reader, SliceReader, Tag, ValueOrd,
+    from_ber, from_der,
 };
 use der_types_sets::{SequenceOf, SetOf, SetOfRef, SetOfVec};
 use der_types_values::{FlagSet, OctetStringRef};
@@ -40,11 +40,11 @@ pub fn answer(alloc: Global, kind: &str, question: &Question<'_>) -> Result<Stri
         "SequenceOf<SequenceOf<Small,1>,2>" => answer_of_value::<
             SequenceOf<SequenceOf<Small, 1>, 2>,
         >(alloc, question),
-        "FewFields" => answer_of_value::<Record<FewFields>>(alloc, question),
+        "FewFields" => record::answer::<FewFields>(alloc, question),
         "SetOfRef<Small>" => answer_of_lent(alloc, question),
         "Vec<SetOfRef<Small>>" => answer_of_value::<Vec<SetOfRef<Small>>>(alloc, question),
         "SetOfRef<SetOfRef<Small>>" => answer_of_lent_members::<SetOfRef<Small>>(alloc, question),
-        "LentFields" => answer_of_value::<Record<LentFields>>(alloc, question),
+        "LentFields" => record::answer::<LentFields>(alloc, question),
         _ => fields::answer(alloc, kind, question),
     }
 }
@@ -216,12 +216,16 @@ pub fn answer_of_members(alloc: Global, word: &str, rest: &str) -> Result<String
     }
 }
 
-/// What is written of the set, or of the list that it is converted to.
-fn written_set<'a, T: AsRead + Decode<'a, SliceReader<'a>> + DerOrd + Encode + Member + Drop>(
-    alloc: Global,
-    word: &str,
-    octets: &'a [u8],
-) -> Result<String, Refusal> {
+/// What is written of the set of members with one tag, or of the list that it is converted to.
+fn written_set<
+    'a,
+    T: DecodeValue<'a, SliceReader<'a>>
+        + ApartValue
+        + AsReadValue
+        + EncodeValue
+        + FixedTag
+        + ValueOrd,
+>(alloc: Global, word: &str, octets: &'a [u8]) -> Result<String, Refusal> {
     match word {
         "set-into" => listed(alloc, SetOfVec::<T>::from_der(alloc, octets)),
         "set-loose" => written_in(alloc, loose::<T>(alloc, octets, EncodingRules::Der)),

@@ -1,19 +1,21 @@
 //! Lists, arrays, sets, options, tags and fields of the coding core.
 
 use crate::questions::{
-    Question, answer_as_with_debug, answer_of, answer_of_plain, answer_of_value,
-    answer_with_contents, answer_with_debug,
+    Question, answer_as_with_debug, answer_of, answer_of_value, answer_with_contents,
+    answer_with_debug,
 };
-use crate::record::Record;
 use crate::refusals::Refusal;
-use crate::{lists, ten_fields};
+use crate::{lists, record, ten_fields};
 use const_oid::ObjectIdentifier;
-use der_core::{Explicit, Implicit, StrictSetOf, WithDefault};
+use der_core::{
+    ApartValue, DecodeValue, EncodeValue, Explicit, FixedTag, Implicit, InRangeValue, SliceReader,
+    StrictSetOf, ValueOrd, WithDefault,
+};
 use std::alloc::Global;
 use std::marker::PhantomData;
 
-/// A SEQUENCE of a number, of a flag that may be absent, and of a text.
-type Flagged<'a> = Record<(u8, (Option<bool>, (&'a str, ())))>;
+/// A row of a number, of a flag that may be absent, and of a text.
+type Flagged<'a> = (u8, (Option<bool>, (&'a str, ())));
 
 /// The answer of a type that this page names, or one behind it.
 pub fn answer(alloc: Global, kind: &str, question: &Question<'_>) -> Result<String, Refusal> {
@@ -24,7 +26,7 @@ pub fn answer(alloc: Global, kind: &str, question: &Question<'_>) -> Result<Stri
         "Explicit<bool,3>" => answer_of_value::<Explicit<bool, 3>>(alloc, question),
         "Explicit<u8,0>" => answer_with_contents::<Explicit<u8, 0>>(alloc, question),
         "Implicit<u8,0>" => answer_with_contents::<Implicit<u8, 0>>(alloc, question),
-        "Flagged" => answer_of_plain::<Flagged>(alloc, question),
+        "Flagged" => record::answer_and_order::<Flagged>(alloc, question),
         "NumberOrText" => ten_fields::answer_of_choice(alloc, question),
         "TenFields" => ten_fields::answer(alloc, question),
         _ => answer_of_lists(alloc, kind, question),
@@ -43,27 +45,36 @@ fn answer_of_lists(alloc: Global, kind: &str, question: &Question<'_>) -> Result
     }
 }
 
-/// The answer of a set whose members stand in order.
+/// The answer of a set whose members stand in order, by the name of its members.
 fn answer_of_sets(alloc: Global, kind: &str, question: &Question<'_>) -> Result<String, Refusal> {
     match kind {
-        "StrictSetOf<()>" => answer_of_value::<StrictSetOf<()>>(alloc, question),
-        "StrictSetOf<bool>" => answer_with_contents::<StrictSetOf<bool>>(alloc, question),
-        "StrictSetOf<u8>" => answer_of_value::<StrictSetOf<u8>>(alloc, question),
-        "StrictSetOf<i128>" => answer_of_value::<StrictSetOf<i128>>(alloc, question),
-        "StrictSetOf<Box<u64>>" => answer_of_value::<StrictSetOf<Box<u64>>>(alloc, question),
-        "StrictSetOf<str>" => answer_of_value::<StrictSetOf<&str>>(alloc, question),
-        "StrictSetOf<String>" => answer_of_value::<StrictSetOf<String>>(alloc, question),
-        "StrictSetOf<ObjectIdentifier>" => answer_of_value::<StrictSetOf<ObjectIdentifier<39>>>(
-            alloc, question,
-        ),
-        "StrictSetOf<Vec<bool>>" => answer_of_value::<StrictSetOf<Vec<bool>>>(alloc, question),
-        "StrictSetOf<[u8;1]>" => answer_of_value::<StrictSetOf<[u8; 1]>>(alloc, question),
-        "StrictSetOf<Implicit<bool,0>>" => answer_of_value::<StrictSetOf<Implicit<bool, 0>>>(
-            alloc, question,
-        ),
+        "StrictSetOf<()>" => answer_of_set::<()>(alloc, question),
+        "StrictSetOf<bool>" => answer_of_set::<bool>(alloc, question),
+        "StrictSetOf<u8>" => answer_of_set::<u8>(alloc, question),
+        "StrictSetOf<i128>" => answer_of_set::<i128>(alloc, question),
+        "StrictSetOf<Box<u64>>" => answer_of_set::<Box<u64>>(alloc, question),
+        "StrictSetOf<str>" => answer_of_set::<&str>(alloc, question),
+        "StrictSetOf<String>" => answer_of_set::<String>(alloc, question),
+        "StrictSetOf<ObjectIdentifier>" => answer_of_set::<ObjectIdentifier<39>>(alloc, question),
+        "StrictSetOf<Vec<bool>>" => answer_of_set::<Vec<bool>>(alloc, question),
+        "StrictSetOf<[u8;1]>" => answer_of_set::<[u8; 1]>(alloc, question),
+        "StrictSetOf<Implicit<bool,0>>" => answer_of_set::<Implicit<bool, 0>>(alloc, question),
         "StrictSetOf<Explicit<StrictSetOf<u8>,2>>" => {
-            answer_of_value::<StrictSetOf<Explicit<StrictSetOf<u8>, 2>>>(alloc, question)
+            answer_of_set::<Explicit<StrictSetOf<u8>, 2>>(alloc, question)
         }
         _ => lists::answer(alloc, kind, question),
     }
+}
+
+/// The answer of a set of members of a type with one tag, which stand in order.
+fn answer_of_set<
+    'a,
+    T: DecodeValue<'a, SliceReader<'a>>
+        + ApartValue
+        + EncodeValue
+        + FixedTag
+        + InRangeValue
+        + ValueOrd,
+>(alloc: Global, question: &Question<'a>) -> Result<String, Refusal> {
+    answer_with_contents::<StrictSetOf<T>>(alloc, question)
 }

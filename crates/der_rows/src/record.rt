@@ -3,13 +3,16 @@
 ghost use Rattle.der_core_head.specs.declared.tag.Tag.TheVariants.{Sequence};
 ghost use Rattle.der_core_head.specs.Shapes.{nested};
 
+use crate::questions::{Question, answer_of_plain, answer_of_value, answer_with_debug};
+use crate::refusals::Refusal;
 use der_core::making::read_fields;
 use der_core::{
     DecodeFields, DecodeValue, EncodeFields, EncodeValue, Error, Fields, FieldsOrd, FixedTag,
-    Header, Length, Reader, ShapedValue, Tag, ValueOrd, Writer,
+    Header, Length, Reader, ShapedValue, SliceReader, Tag, ValueOrd, Writer,
 };
 use std::alloc::Global;
 use std::cmp::Ordering;
+use std::fmt::Debug;
 
 /// A SEQUENCE of the fields of a row, as `(A, (B, ()))`.
 #[derive(Debug, Drop)]
@@ -55,4 +58,29 @@ impl<F: FieldsOrd> ValueOrd for Record<F> {
     fn value_cmp(&self, other: &Record<F>) -> Result<Ordering, Error> {
         self.fields.fields_cmp(&other.fields)
     }
+}
+
+/// The answer of a record. Of a row the traits of its fields are asked for, since each that is asked
+/// of a record costs the check of every row that is named.
+pub fn answer<'a, F: DecodeFields<'a, SliceReader<'a>> + EncodeFields + Drop>(
+    alloc: Global,
+    question: &Question<'a>,
+) -> Result<String, Refusal> {
+    answer_of_value::<Record<F>>(alloc, question)
+}
+
+/// The answer of a record that prints for debugging, too.
+pub fn answer_and_debug<'a, F: DecodeFields<'a, SliceReader<'a>> + EncodeFields + Debug + Drop>(
+    alloc: Global,
+    question: &Question<'a>,
+) -> Result<String, Refusal> {
+    answer_with_debug::<Record<F>>(alloc, question)
+}
+
+/// The answer of a record that is compared, and prints for debugging.
+pub fn answer_and_order<
+    'a,
+    F: DecodeFields<'a, SliceReader<'a>> + EncodeFields + FieldsOrd + Debug + Drop,
+>(alloc: Global, question: &Question<'a>) -> Result<String, Refusal> {
+    answer_of_plain::<Record<F>>(alloc, question)
 }

@@ -3,8 +3,8 @@
 ghost use Rattle.der_core_values.specs.declared.one_of_two.OneOf2.TheVariants as cases;
 ghost use Rattle.der_rows.specs.declared.ten_fields.NumberOrText.TheVariants as choices;
 
-use crate::questions::{Asked, Question, answer_with_debug};
-use crate::record::Record;
+use crate::questions::{Asked, Question};
+use crate::record;
 use crate::refusals::Refusal;
 use crate::shown::named;
 use const_oid::ObjectIdentifier;
@@ -77,12 +77,10 @@ impl Encode for NumberOrText {
 ///     choice      NumberOrText,
 ///     members     SET OF INTEGER (0..255) OPTIONAL }
 /// ```
-type TenFields = Record<
-    (
-        u8,
-        (String, (ObjectIdentifier<39>, (WithDefault<bool>, Behind))),
-    ),
->;
+type TenFields = (
+    u8,
+    (String, (ObjectIdentifier<39>, (WithDefault<bool>, Behind))),
+);
 
 /// The fields from the fifth on.
 type Behind = (Option<u32>, (Vec<u16>, (Option<Implicit<(), 0>>, Last)));
@@ -95,7 +93,7 @@ type Last = (
 
 /// The answer of the record, which isn't compared.
 pub fn answer(alloc: Global, question: &Question<'_>) -> Result<String, Refusal> {
-    answer_with_debug::<TenFields>(alloc, question)
+    record::answer_and_debug::<TenFields>(alloc, question)
 }
 
 /// A choice as one that is compared.

@@ -1,15 +1,17 @@
 //! Questions and their answers.
 
 use crate::drawn::{drawn, generated};
-use crate::extensions;
 use crate::lists::copied_of;
 use crate::made::{default_of, digest_of, made_of};
 use crate::names::names_of;
-use crate::questions::{Asked, Question, answer_of, answer_with_order, asked_by};
+use crate::questions::{
+    Asked, Question, answer_of_ordered, answer_of_value, answer_with_order, asked_by,
+};
 use crate::refusals::Refusal;
-use crate::shown::{octets_of, printed};
+use crate::shown::octets_of;
+use crate::tls_values::rewritten;
 use crate::whole_extensions::{got_of, usages_of};
-use der_core::from_der;
+use crate::{distinguished_names, extensions, name_texts, timestamps};
 use std::alloc::Global;
 use std::io;
 use std::io::Write;
@@ -25,6 +27,7 @@ pub fn answer<W: Write>(alloc: Global, line: &str, out: &mut W) -> io::Result<()
         return writeln!(out, "{line}");
     }
     match answer_to(alloc, line) {
+        Ok(text) if text.is_empty() => out.write_all(b"ok\n"),
         Ok(text) => writeln!(out, "ok {text}"),
         Err(refusal) => writeln!(out, "{refusal}"),
     }
@@ -32,12 +35,22 @@ pub fn answer<W: Write>(alloc: Global, line: &str, out: &mut W) -> io::Result<()
 
 /// What is answered behind `ok`.
 fn answer_to(alloc: Global, line: &str) -> Result<String, Refusal> {
-    let (word, rest) = line.split_once(' ').ok_or(Refusal::Unread)?;
+    let (word, rest) = line.split_once(' ').unwrap_or((line, ""));
     match word {
         "usages" => usages_of(alloc, rest),
         "default" => default_of(alloc, rest),
+        "attributes"
+        | "relative"
+        | "relative-of"
+        | "relative-members"
+        | "turned"
+        | "again"
+        | "name" => { distinguished_names::answer(alloc, word, rest) }
+        "members" | "list" | "list-read" | "long" | "long-list" | "stamp" | "date" => {
+            timestamps::answer(alloc, word, rest)
+        }
         _ => {
-            let (kind, values) = rest.split_once(' ').ok_or(Refusal::Unread)?;
+            let (kind, values) = rest.split_once(' ').unwrap_or((rest, ""));
             answer_about(alloc, word, kind, values)
         }
     }
@@ -46,7 +59,10 @@ fn answer_to(alloc: Global, line: &str) -> Result<String, Refusal> {
 /// What is answered to a question about a type.
 fn answer_about(alloc: Global, word: &str, kind: &str, values: &str) -> Result<String, Refusal> {
     match word {
-        "text" => text_of(alloc, kind, values),
+        "text" => name_texts::printed(alloc, kind, values),
+        "first" => distinguished_names::first(alloc, kind, values),
+        "by-oid" => distinguished_names::by_oid(alloc, kind, values),
+        "tls" => rewritten(alloc, kind, values),
         "from" => made_of(alloc, kind, values),
         "names" => names_of(alloc, kind, values),
         "copy" => copied_of(alloc, kind, values),
@@ -82,35 +98,24 @@ fn answer_of_values(
 /// The answer of a part of a certificate, or of one.
 fn answer_of_parts(alloc: Global, kind: &str, question: &Question<'_>) -> Result<String, Refusal> {
     match kind {
-        "AlgorithmIdentifier" => answer_with_order::<AlgorithmIdentifier>(alloc, question),
-        "AlgorithmIdentifierRef" => answer_of::<AlgorithmIdentifierRef>(alloc, question),
-        "SubjectPublicKeyInfo" => answer_with_order::<SubjectPublicKeyInfo>(alloc, question),
-        "SubjectPublicKeyInfoRef" => answer_of::<SubjectPublicKeyInfoRef>(alloc, question),
-        "Version" => answer_with_order::<Version>(alloc, question),
-        "Extension" => answer_with_order::<Extension>(alloc, question),
-        "Extensions" => answer_of::<Extensions>(alloc, question),
+        "AlgorithmIdentifier" => answer_of_ordered::<AlgorithmIdentifier>(alloc, question),
+        "AlgorithmIdentifierRef" => answer_of_value::<AlgorithmIdentifierRef>(alloc, question),
+        "SubjectPublicKeyInfo" => answer_of_ordered::<SubjectPublicKeyInfo>(alloc, question),
+        "SubjectPublicKeyInfoRef" => answer_of_value::<SubjectPublicKeyInfoRef>(alloc, question),
+        "Version" => answer_of_ordered::<Version>(alloc, question),
+        "Extension" => answer_of_ordered::<Extension>(alloc, question),
+        "Extensions" => answer_of_value::<Extensions>(alloc, question),
         "Time" => answer_with_order::<Time>(alloc, question),
-        "SerialNumber" => answer_with_order::<SerialNumber<Raw>>(alloc, question),
-        "SerialNumber/Rfc5280" => answer_of::<SerialNumber<Rfc5280>>(alloc, question),
-        "Validity" => answer_with_order::<Validity<Raw>>(alloc, question),
-        "Validity/Rfc5280" => answer_with_order::<Validity<Rfc5280>>(alloc, question),
-        "TbsCertificate" => answer_of::<TbsCertificateInner<Raw>>(alloc, question),
-        "TbsCertificate/Rfc5280" => answer_of::<TbsCertificateInner<Rfc5280>>(alloc, question),
-        "Certificate" => answer_of::<CertificateInner<Raw>>(alloc, question),
-        "Certificate/Rfc5280" => answer_of::<CertificateInner<Rfc5280>>(alloc, question),
-        _ => extensions::answer(alloc, kind, question),
-    }
-}
-
-/// What the value prints that octets spell.
-fn text_of(alloc: Global, kind: &str, octets: &str) -> Result<String, Refusal> {
-    let octets = octets_of(alloc, octets)?;
-    match kind {
-        "Time" => printed(alloc, from_der::<Time>(alloc, octets.as_slice())),
-        "SerialNumber" => printed(
-            alloc,
-            from_der::<SerialNumber<Raw>>(alloc, octets.as_slice()),
+        "SerialNumber" => answer_of_ordered::<SerialNumber<Raw>>(alloc, question),
+        "SerialNumber/Rfc5280" => answer_of_value::<SerialNumber<Rfc5280>>(alloc, question),
+        "Validity" => answer_of_ordered::<Validity<Raw>>(alloc, question),
+        "Validity/Rfc5280" => answer_of_ordered::<Validity<Rfc5280>>(alloc, question),
+        "TbsCertificate" => answer_of_value::<TbsCertificateInner<Raw>>(alloc, question),
+        "TbsCertificate/Rfc5280" => answer_of_value::<TbsCertificateInner<Rfc5280>>(
+            alloc, question,
         ),
-        _ => Err(Refusal::Unread),
+        "Certificate" => answer_of_value::<CertificateInner<Raw>>(alloc, question),
+        "Certificate/Rfc5280" => answer_of_value::<CertificateInner<Rfc5280>>(alloc, question),
+        _ => extensions::answer(alloc, kind, question),
     }
 }

@@ -2,7 +2,8 @@
 
 use crate::lists;
 use crate::questions::{
-    Question, answer_of, answer_of_content, answer_with_both, answer_with_debug, answer_with_order,
+    Question, answer_of_content, answer_of_ordered, answer_of_value, answer_with_both,
+    answer_with_debug, answer_with_order,
 };
 use crate::refusals::Refusal;
 use std::alloc::Global;
@@ -71,21 +72,21 @@ fn answer_of_constraints(
 fn answer_of_parts(alloc: Global, kind: &str, question: &Question<'_>) -> Result<String, Refusal> {
     match kind {
         "GeneralName" => answer_with_order::<GeneralName>(alloc, question),
-        "OtherName" => answer_of::<OtherName>(alloc, question),
-        "HardwareModuleName" => answer_of::<HardwareModuleName>(alloc, question),
-        "EdiPartyName" => answer_of::<EdiPartyName>(alloc, question),
+        "OtherName" => answer_of_value::<OtherName>(alloc, question),
+        "HardwareModuleName" => answer_of_value::<HardwareModuleName>(alloc, question),
+        "EdiPartyName" => answer_of_value::<EdiPartyName>(alloc, question),
         "DirectoryString" => answer_with_order::<DirectoryString>(alloc, question),
-        "GeneralSubtree" => answer_with_order::<GeneralSubtree>(alloc, question),
-        "DistributionPoint" => answer_of::<DistributionPoint>(alloc, question),
+        "GeneralSubtree" => answer_of_ordered::<GeneralSubtree>(alloc, question),
+        "DistributionPoint" => answer_of_value::<DistributionPoint>(alloc, question),
         "DistributionPointName" => answer_with_order::<DistributionPointName>(alloc, question),
-        "ReasonFlags" => answer_with_order::<ReasonFlags>(alloc, question),
-        "AccessDescription" => answer_of::<AccessDescription>(alloc, question),
-        "PolicyInformation" => answer_of::<PolicyInformation>(alloc, question),
-        "PolicyQualifierInfo" => answer_of::<PolicyQualifierInfo>(alloc, question),
-        "PolicyMapping" => answer_of::<PolicyMapping>(alloc, question),
-        "CpsUri" => answer_of::<CpsUri>(alloc, question),
-        "UserNotice" => answer_of::<UserNotice>(alloc, question),
-        "NoticeReference" => answer_of::<NoticeReference>(alloc, question),
+        "ReasonFlags" => answer_of_ordered::<ReasonFlags>(alloc, question),
+        "AccessDescription" => answer_of_value::<AccessDescription>(alloc, question),
+        "PolicyInformation" => answer_of_value::<PolicyInformation>(alloc, question),
+        "PolicyQualifierInfo" => answer_of_value::<PolicyQualifierInfo>(alloc, question),
+        "PolicyMapping" => answer_of_value::<PolicyMapping>(alloc, question),
+        "CpsUri" => answer_of_value::<CpsUri>(alloc, question),
+        "UserNotice" => answer_of_value::<UserNotice>(alloc, question),
+        "NoticeReference" => answer_of_value::<NoticeReference>(alloc, question),
         "DisplayText" => answer_with_order::<DisplayText>(alloc, question),
         _ => lists::answer(alloc, kind, question),
     }

@@ -1,11 +1,13 @@
-//! Questions about revocation lists, certification requests and trust anchors.
+//! Questions about revocation lists, certification requests, trust anchors and names.
 
-use crate::questions::{Question, answer_of, copied};
+use crate::questions::{Question, answer_of, answer_of_value, copied};
 use crate::refusals::Refusal;
-use crate::shown::octets_of;
+use crate::shown::{octets_of, written};
+use der_core::from_der;
 use std::alloc::Global;
 use x509_cert::{
-    Attribute, CertPathControls, CertReq, CertReqInfo, CertificateList, ExtensionReq, PkiPath, Raw,
+    Attribute, AttributeTypeAndValue, CertPathControls, CertReq, CertReqInfo, CertificateList,
+    DirectoryString, ExtensionReq, Name, PkiPath, Raw, RdnSequence, RelativeDistinguishedName,
     RevokedCert, Rfc5280, SubjectDirectoryAttributes, TbsCertList, TrustAnchorChoice,
     TrustAnchorInfo,
 };
@@ -13,22 +15,36 @@ use x509_cert::{
 /// The answer of a type that this page names.
 pub fn answer(alloc: Global, kind: &str, question: &Question<'_>) -> Result<String, Refusal> {
     match kind {
-        "CertificateList" => answer_of::<CertificateList<Raw>>(alloc, question),
-        "CertificateList/Rfc5280" => answer_of::<CertificateList<Rfc5280>>(alloc, question),
-        "TbsCertList" => answer_of::<TbsCertList<Raw>>(alloc, question),
-        "TbsCertList/Rfc5280" => answer_of::<TbsCertList<Rfc5280>>(alloc, question),
-        "RevokedCert" => answer_of::<RevokedCert<Raw>>(alloc, question),
-        "RevokedCert/Rfc5280" => answer_of::<RevokedCert<Rfc5280>>(alloc, question),
-        "CertReq" => answer_of::<CertReq>(alloc, question),
-        "CertReqInfo" => answer_of::<CertReqInfo>(alloc, question),
-        "PkiPath" => answer_of::<PkiPath>(alloc, question),
-        "ExtensionReq" => answer_of::<ExtensionReq>(alloc, question),
+        "CertificateList" => answer_of_value::<CertificateList<Raw>>(alloc, question),
+        "CertificateList/Rfc5280" => answer_of_value::<CertificateList<Rfc5280>>(alloc, question),
+        "TbsCertList" => answer_of_value::<TbsCertList<Raw>>(alloc, question),
+        "TbsCertList/Rfc5280" => answer_of_value::<TbsCertList<Rfc5280>>(alloc, question),
+        "RevokedCert" => answer_of_value::<RevokedCert<Raw>>(alloc, question),
+        "RevokedCert/Rfc5280" => answer_of_value::<RevokedCert<Rfc5280>>(alloc, question),
+        "CertReq" => answer_of_value::<CertReq>(alloc, question),
+        "CertReqInfo" => answer_of_value::<CertReqInfo>(alloc, question),
+        "PkiPath" => answer_of_value::<PkiPath>(alloc, question),
+        "ExtensionReq" => answer_of_value::<ExtensionReq>(alloc, question),
         "TrustAnchorChoice" => answer_of::<TrustAnchorChoice<Raw>>(alloc, question),
         "TrustAnchorChoice/Rfc5280" => answer_of::<TrustAnchorChoice<Rfc5280>>(alloc, question),
-        "TrustAnchorInfo" => answer_of::<TrustAnchorInfo<Raw>>(alloc, question),
-        "TrustAnchorInfo/Rfc5280" => answer_of::<TrustAnchorInfo<Rfc5280>>(alloc, question),
-        "CertPathControls" => answer_of::<CertPathControls<Raw>>(alloc, question),
-        "CertPathControls/Rfc5280" => answer_of::<CertPathControls<Rfc5280>>(alloc, question),
+        "TrustAnchorInfo" => answer_of_value::<TrustAnchorInfo<Raw>>(alloc, question),
+        "TrustAnchorInfo/Rfc5280" => answer_of_value::<TrustAnchorInfo<Rfc5280>>(alloc, question),
+        "CertPathControls" => answer_of_value::<CertPathControls<Raw>>(alloc, question),
+        "CertPathControls/Rfc5280" => answer_of_value::<CertPathControls<Rfc5280>>(alloc, question),
+        _ => answer_of_names(alloc, kind, question),
+    }
+}
+
+/// The answer of a name or a part of one.
+fn answer_of_names(alloc: Global, kind: &str, question: &Question<'_>) -> Result<String, Refusal> {
+    match kind {
+        "Name" => answer_of_value::<Name>(alloc, question),
+        "RdnSequence" => answer_of_value::<RdnSequence>(alloc, question),
+        "RelativeDistinguishedName" => answer_of_value::<RelativeDistinguishedName>(
+            alloc, question,
+        ),
+        "AttributeTypeAndValue" => answer_of_value::<AttributeTypeAndValue>(alloc, question),
+        "Attribute" => answer_of_value::<Attribute>(alloc, question),
         _ => Err(Refusal::Unread),
     }
 }
@@ -39,9 +55,16 @@ pub fn copied_of(alloc: Global, kind: &str, octets: &str) -> Result<String, Refu
     let octets = octets.as_slice();
     match kind {
         "Attribute" => copied::<Attribute>(alloc, octets),
+        "DirectoryString" => copied_string(alloc, octets),
         "CertReq" => copied::<CertReq>(alloc, octets),
         "CertReqInfo" => copied::<CertReqInfo>(alloc, octets),
         "SubjectDirectoryAttributes" => copied::<SubjectDirectoryAttributes>(alloc, octets),
         _ => Err(Refusal::Unread),
     }
+}
+
+/// What is written of a copy of the DirectoryString that octets spell.
+fn copied_string(alloc: Global, octets: &[u8]) -> Result<String, Refusal> {
+    let text: DirectoryString = from_der(alloc, octets)?;
+    written(alloc, &text.clone(alloc)?)
 }

@@ -1,5 +1,6 @@
 //! Questions about values that are made of other values.
 
+use crate::name_texts::spelled;
 use crate::refusals::Refusal;
 use crate::shown::{octets_of, shown, written, written_in};
 use der_core::{Encode, from_der};
@@ -12,7 +13,7 @@ use x509_cert::{
     ExtensionReq, FreshestCrl, GeneralName, HardwareModuleName, InhibitAnyPolicy, IssuerAltName,
     OtherName, Profile, Raw, Rfc5280, SerialNumber, SubjectAltName, SubjectDirectoryAttributes,
     SubjectInfoAccessSyntax, SubjectKeyIdentifier, SubjectPublicKeyInfo, SubjectPublicKeyInfoRef,
-    Time, TryFromExtensionReq, TryFromKey, hash,
+    Time, TryFromExtensionReq, TryFromKey,
 };
 
 /// What is written of the value that a type makes of a text, or of octets.
@@ -22,6 +23,9 @@ pub fn made_of(alloc: Global, kind: &str, text: &str) -> Result<String, Refusal>
         "GeneralName" => address_of(alloc, text),
         "CrlNumber" => number_of(alloc, text),
         "SerialNumber/u64" => serial_of(alloc, text),
+        "Name" | "RdnSequence" | "RelativeDistinguishedName" | "AttributeTypeAndValue" => {
+            spelled(alloc, kind, text)
+        }
         _ => {
             let octets = octets_of(alloc, text)?;
             made_of_octets(alloc, kind, octets.as_slice())
@@ -147,6 +151,6 @@ fn digested<P: Profile>(
     alloc: Global,
     certificate: &CertificateInner<P>,
 ) -> Result<String, Refusal> {
-    let digest = hash::<Sha1, P>(alloc, certificate)?;
+    let digest = certificate.hash::<Sha1>(alloc)?;
     Ok(hex::encode(alloc, digest)?)
 }

@@ -3,7 +3,10 @@
 use crate::refusals::Refusal;
 use crate::shown::{hex_of, or_refusal, written, written_in};
 use const_oid::AssociatedOid;
-use der_core::{Decode, DerOrd, Encode, Error, SliceReader, from_der, from_der_partial};
+use der_core::{
+    Decode, DecodeValue, DerOrd, Encode, EncodeValue, Error, FixedTag, SliceReader, ValueOrd,
+    from_ber, from_der, from_der_partial,
+};
 use std::alloc::Global;
 use std::cmp::Ordering;
 use std::fmt::Debug;
@@ -12,8 +15,10 @@ use x509_cert::{Criticality, Name, ToExtension};
 /// What is asked of values.
 #[derive(Clone, Copy)]
 pub enum Asked {
-    /// What is written of the value that octets spell.
+    /// What is written of the value that octets spell by DER.
     Der,
+    /// What is written of the value that octets spell by BER.
+    Ber,
     /// What is written of the value that octets begin with, and the octets behind it.
     Front,
     /// What a reader of the octets answers to a first call, and to a second one.
@@ -40,6 +45,7 @@ pub struct Question<'a> {
 pub fn asked_by(word: &str) -> Result<Asked, Refusal> {
     match word {
         "der" => Ok(Asked::Der),
+        "ber" => Ok(Asked::Ber),
         "front" => Ok(Asked::Front),
         "twice" => Ok(Asked::Twice),
         "order" => Ok(Asked::Order),
@@ -50,12 +56,13 @@ pub fn asked_by(word: &str) -> Result<Asked, Refusal> {
 }
 
 /// The answer of a type that is read and written.
-pub fn answer_of<'a, T: Decode<'a, SliceReader<'a>> + Encode + Drop>(
+pub fn answer_of<'a, T: Decode<'a, SliceReader<'a>> + Encode>(
     alloc: Global,
     question: &Question<'a>,
 ) -> Result<String, Refusal> {
     match question.asked {
         Asked::Der => written_in(alloc, from_der::<T>(alloc, question.first)),
+        Asked::Ber => written_in(alloc, from_ber::<T>(alloc, question.first)),
         Asked::Front => front_written(alloc, from_der_partial::<T>(alloc, question.first)),
         Asked::Twice => read_twice::<T>(alloc, question.first),
         _ => Err(Refusal::Unread),
@@ -85,7 +92,7 @@ fn read_twice<'a, T: Decode<'a, SliceReader<'a>> + Encode + Drop>(
 }
 
 /// The answer of a type that is compared, too.
-pub fn answer_with_order<'a, T: Decode<'a, SliceReader<'a>> + DerOrd + Encode + Drop>(
+pub fn answer_with_order<'a, T: Decode<'a, SliceReader<'a>> + DerOrd + Encode>(
     alloc: Global,
     question: &Question<'a>,
 ) -> Result<String, Refusal> {
@@ -95,10 +102,27 @@ pub fn answer_with_order<'a, T: Decode<'a, SliceReader<'a>> + DerOrd + Encode + 
     }
 }
 
+/// The answer of a type with one tag. Of such a type the traits of its contents are asked for,
+/// since each that is asked for costs the check of every type that is named.
+pub fn answer_of_value<'a, T: DecodeValue<'a, SliceReader<'a>> + EncodeValue + FixedTag>(
+    alloc: Global,
+    question: &Question<'a>,
+) -> Result<String, Refusal> {
+    answer_of::<T>(alloc, question)
+}
+
+/// The answer of a type with one tag that is compared, too.
+pub fn answer_of_ordered<
+    'a,
+    T: DecodeValue<'a, SliceReader<'a>> + EncodeValue + FixedTag + ValueOrd,
+>(alloc: Global, question: &Question<'a>) -> Result<String, Refusal> {
+    answer_with_order::<T>(alloc, question)
+}
+
 /// The answer of a type that is the content of an extension.
 pub fn answer_of_content<
     'a,
-    T: Decode<'a, SliceReader<'a>> + Encode + AssociatedOid + Criticality + Drop,
+    T: DecodeValue<'a, SliceReader<'a>> + EncodeValue + FixedTag + AssociatedOid + Criticality,
 >(alloc: Global, question: &Question<'a>) -> Result<String, Refusal> {
     match question.asked {
         Asked::Extension => {
@@ -112,7 +136,12 @@ pub fn answer_of_content<
 /// The answer of such a type that prints for debugging, too.
 pub fn answer_with_debug<
     'a,
-    T: Decode<'a, SliceReader<'a>> + Encode + AssociatedOid + Criticality + Debug + Drop,
+    T: DecodeValue<'a, SliceReader<'a>>
+        + EncodeValue
+        + FixedTag
+        + AssociatedOid
+        + Criticality
+        + Debug,
 >(alloc: Global, question: &Question<'a>) -> Result<String, Refusal> {
     match question.asked {
         Asked::Debug => {
@@ -126,7 +155,13 @@ pub fn answer_with_debug<
 /// The answer of such a type that is compared, too.
 pub fn answer_with_both<
     'a,
-    T: Decode<'a, SliceReader<'a>> + DerOrd + Encode + AssociatedOid + Criticality + Debug + Drop,
+    T: DecodeValue<'a, SliceReader<'a>>
+        + EncodeValue
+        + FixedTag
+        + ValueOrd
+        + AssociatedOid
+        + Criticality
+        + Debug,
 >(alloc: Global, question: &Question<'a>) -> Result<String, Refusal> {
     match question.asked {
         Asked::Order => order_of::<T>(alloc, question),

@@ -5,7 +5,7 @@
 
 use crate::refusals::Refusal;
 use der_core::{Encode, Error, to_der};
-use std::alloc::Global;
+use std::alloc::{AllocError, Global};
 use std::fmt::Display;
 
 /// What a value prints.
@@ -26,10 +26,14 @@ pub fn hex_of(alloc: Global, octets: &[u8]) -> Result<String, Refusal> {
     Ok(hex::encode(alloc, octets)?)
 }
 
+/// The octets of an outcome, in hex.
+pub fn hex_in(alloc: Global, outcome: Result<Vec<u8>, Error>) -> Result<String, Refusal> {
+    hex_of(alloc, outcome?.as_slice())
+}
+
 /// The octets of a value, in hex.
 pub fn written<T: Encode>(alloc: Global, value: &T) -> Result<String, Refusal> {
-    let octets = to_der(alloc, value)?;
-    hex_of(alloc, octets.as_slice())
+    hex_in(alloc, to_der(alloc, value))
 }
 
 /// The octets of the value of an outcome, in hex.
@@ -51,4 +55,21 @@ pub fn or_refusal(alloc: Global, answer: Result<String, Refusal>) -> Result<Stri
 /// The octets that hexadecimal digits spell.
 pub fn octets_of(alloc: Global, digits: &str) -> Result<Vec<u8>, Refusal> {
     Ok(hex::decode(alloc, digits.as_bytes())?)
+}
+
+/// The octets of a text: two hexadecimal digits for each, or a dash for none.
+pub fn dashed_octets_of(alloc: Global, text: &str) -> Result<Vec<u8>, Refusal> {
+    match text {
+        "" => Err(Refusal::Unread),
+        "-" => Ok(Vec::new(alloc)),
+        _ => octets_of(alloc, text),
+    }
+}
+
+/// The text of octets.
+pub fn dashed_hex_of(alloc: Global, octets: &[u8]) -> Result<String, AllocError> {
+    if octets.is_empty() {
+        return "-".to_string(alloc);
+    }
+    hex::encode(alloc, octets)
 }

@@ -1,0 +1,120 @@
+//! Questions about what a name has.
+
+use crate::refusals::Refusal;
+use crate::shown::{octets_of, written};
+use crate::{name_texts, relative_names};
+use const_oid::ObjectIdentifier;
+use der_core::{Encode, Error, from_der};
+use std::alloc::Global;
+use x509_cert::{AnyRef, DateTime, DirectoryString, FromAny, GeneralizedTime, Name, UtcTime};
+use x509_cert_names::number_types::{IntRef, UintRef};
+use x509_cert_names::text_types::{
+    GeneralStringRef, Ia5StringRef, PrintableStringRef, Utf8StringRef,
+};
+use x509_cert_names::value_types::{BitStringRef, OctetStringRef, SequenceRef};
+
+/// The answer to a question about names and relative names.
+pub fn answer(alloc: Global, word: &str, rest: &str) -> Result<String, Refusal> {
+    match word {
+        "attributes" => attributes(alloc, rest),
+        "relative" => relative_names::inserted(alloc, rest),
+        "relative-of" => relative_names::made(alloc, rest),
+        "relative-members" => relative_names::members(alloc, rest),
+        "turned" => relative_names::turned(alloc, rest),
+        "name" => name_texts::again(alloc, rest),
+        _ => relative_names::again(alloc, rest),
+    }
+}
+
+/// The name that hex octets spell.
+fn name_of(alloc: Global, octets: &str) -> Result<Name, Refusal> {
+    let octets = octets_of(alloc, octets)?;
+    Ok(from_der(alloc, octets.as_slice())?)
+}
+
+/// The types and the values of a name's attributes.
+fn attributes(alloc: Global, octets: &str) -> Result<String, Refusal> {
+    let name = name_of(alloc, octets)?;
+    let mut text = String::new(alloc);
+    for attribute in name.iter() {
+        if !text.is_empty() {
+            text.push_str(" ")?;
+        }
+        let value = written(alloc, &attribute.value)?;
+        text.push_str(format!(in alloc; "{} {value}", attribute.oid)?.as_str())?;
+    }
+    Ok(text)
+}
+
+/// What a name has first of a type.
+pub fn first(alloc: Global, which: &str, octets: &str) -> Result<String, Refusal> {
+    let name = name_of(alloc, octets)?;
+    match which {
+        "common-name" => text_of(alloc, name.common_name(alloc)),
+        "state" => text_of(alloc, name.state_or_province(alloc)),
+        "locality" => text_of(alloc, name.locality(alloc)),
+        "organization" => text_of(alloc, name.organization(alloc)),
+        "unit" => text_of(alloc, name.organization_unit(alloc)),
+        "country" => {
+            let country = name.country()?;
+            or_none(alloc, country.map(|text| text.as_str()))
+        }
+        "email" => {
+            let email = name.email_address()?;
+            or_none(alloc, email.map(|text| text.as_str()))
+        }
+        _ => Err(Refusal::Unread),
+    }
+}
+
+/// The text of a DirectoryString, if there is one.
+fn text_of(alloc: Global, text: Result<Option<DirectoryString>, Error>) -> Result<String, Refusal> {
+    match text? {
+        Some(text) => Ok(text.into_string(alloc)?),
+        None => or_none(alloc, None),
+    }
+}
+
+/// What the first attribute of a type is read as.
+pub fn by_oid(alloc: Global, kind: &str, rest: &str) -> Result<String, Refusal> {
+    let (oid, octets) = rest.split_once(' ').ok_or(Refusal::Unread)?;
+    let name = name_of(alloc, octets)?;
+    let oid: ObjectIdentifier<39> = oid.parse().ok().ok_or(Refusal::Unread)?;
+    match kind {
+        "AnyRef" => written_of::<AnyRef>(alloc, &name, oid),
+        "BitStringRef" => written_of::<BitStringRef>(alloc, &name, oid),
+        "DateTime" => written_of::<DateTime>(alloc, &name, oid),
+        "DirectoryString" => written_of::<DirectoryString>(alloc, &name, oid),
+        "GeneralStringRef" => written_of::<GeneralStringRef>(alloc, &name, oid),
+        "GeneralizedTime" => written_of::<GeneralizedTime>(alloc, &name, oid),
+        "Ia5StringRef" => written_of::<Ia5StringRef>(alloc, &name, oid),
+        "IntRef" => written_of::<IntRef>(alloc, &name, oid),
+        "ObjectIdentifier" => written_of::<ObjectIdentifier<39>>(alloc, &name, oid),
+        "OctetStringRef" => written_of::<OctetStringRef>(alloc, &name, oid),
+        "PrintableStringRef" => written_of::<PrintableStringRef>(alloc, &name, oid),
+        "SequenceRef" => written_of::<SequenceRef>(alloc, &name, oid),
+        "UintRef" => written_of::<UintRef>(alloc, &name, oid),
+        "UtcTime" => written_of::<UtcTime>(alloc, &name, oid),
+        "Utf8StringRef" => written_of::<Utf8StringRef>(alloc, &name, oid),
+        "bool" => written_of::<bool>(alloc, &name, oid),
+        "str" => written_of::<&str>(alloc, &name, oid),
+        _ => Err(Refusal::Unread),
+    }
+}
+
+/// What is written of the first attribute of a type, read as a type of values.
+fn written_of<'a, T: FromAny<'a> + Encode + Drop>(
+    alloc: Global,
+    name: &'a Name,
+    oid: ObjectIdentifier<39>,
+) -> Result<String, Refusal> {
+    match name.by_oid::<T>(alloc, oid)? {
+        Some(value) => written(alloc, &value),
+        None => or_none(alloc, None),
+    }
+}
+
+/// A text, or the word for none.
+fn or_none(alloc: Global, text: Option<&str>) -> Result<String, Refusal> {
+    Ok(text.unwrap_or("none").to_string(alloc)?)
+}

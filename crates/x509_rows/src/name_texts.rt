@@ -1,0 +1,65 @@
+//! Questions about texts: of names (RFC 4514), of dates and of serial numbers.
+
+use crate::refusals::Refusal;
+use crate::shown::{hex_in, octets_of, printed as printed_in, written_in};
+use der_core::{Decode, SliceReader, from_der};
+use std::alloc::Global;
+use std::fmt::Display;
+use x509_cert::{
+    AttributeTypeAndValue, DirectoryString, Name, Raw, RdnSequence, RelativeDistinguishedName,
+    SerialNumber, Time,
+};
+
+/// The encoding of the name, or the part of one, that a text spells.
+pub fn spelled(alloc: Global, kind: &str, text: &str) -> Result<String, Refusal> {
+    match kind {
+        "Name" => written_in(alloc, Name::from_str(alloc, text)),
+        "RdnSequence" => hex_in(alloc, RdnSequence::encode_from_string(alloc, text)),
+        "RelativeDistinguishedName" => {
+            written_in(alloc, RelativeDistinguishedName::from_str(alloc, text))
+        }
+        "AttributeTypeAndValue" => {
+            hex_in(
+                alloc,
+                AttributeTypeAndValue::encode_from_string(alloc, text),
+            )
+        }
+        _ => Err(Refusal::Unread),
+    }
+}
+
+/// What the value prints that octets spell.
+pub fn printed(alloc: Global, kind: &str, octets: &str) -> Result<String, Refusal> {
+    let octets = octets_of(alloc, octets)?;
+    let octets = octets.as_slice();
+    match kind {
+        "Time" => text_of::<Time>(alloc, octets),
+        "SerialNumber" => text_of::<SerialNumber<Raw>>(alloc, octets),
+        "Name" => text_of::<Name>(alloc, octets),
+        "RdnSequence" => text_of::<RdnSequence>(alloc, octets),
+        "RelativeDistinguishedName" => text_of::<RelativeDistinguishedName>(alloc, octets),
+        "AttributeTypeAndValue" => text_of::<AttributeTypeAndValue>(alloc, octets),
+        "DirectoryString" => value_of(alloc, octets),
+        _ => Err(Refusal::Unread),
+    }
+}
+
+/// The text of the value that octets spell.
+fn text_of<'a, T: Decode<'a, SliceReader<'a>> + Display + Drop>(
+    alloc: Global,
+    octets: &'a [u8],
+) -> Result<String, Refusal> {
+    printed_in(alloc, from_der::<T>(alloc, octets))
+}
+
+/// The text of the DirectoryString that octets spell.
+fn value_of(alloc: Global, octets: &[u8]) -> Result<String, Refusal> {
+    let text: DirectoryString = from_der(alloc, octets)?;
+    let value = text.value(alloc)?;
+    Ok(value.into_owned(alloc)?)
+}
+
+/// What is printed of the name that a text spells.
+pub fn again(alloc: Global, text: &str) -> Result<String, Refusal> {
+    printed_in(alloc, Name::from_str(alloc, text))
+}

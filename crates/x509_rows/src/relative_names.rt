@@ -1,0 +1,125 @@
+//! Relative names that are made of attributes.
+
+use crate::refusals::Refusal;
+use crate::shown::{octets_of, written, written_in};
+use der_core::{from_der, to_der};
+use std::alloc::{AllocError, Global};
+use x509_cert::{AttributeTypeAndValue, RdnSequence, RelativeDistinguishedName};
+
+/// What is answered where calls that find no memory are made again: insertions, or pushes.
+pub fn again(alloc: Global, rest: &str) -> Result<String, Refusal> {
+    match rest.split_once(' ') {
+        Some(("push", names)) => pushed_again(alloc, names),
+        _ => inserted_again(alloc, rest),
+    }
+}
+
+/// The attribute that hex octets spell.
+fn attribute_of(alloc: Global, word: &str) -> Result<AttributeTypeAndValue, Refusal> {
+    let octets = octets_of(alloc, word)?;
+    Ok(from_der(alloc, octets.as_slice())?)
+}
+
+/// The attributes that hex octets spell, separated by blanks.
+fn attributes_of(alloc: Global, words: &str) -> Result<Vec<AttributeTypeAndValue>, Refusal> {
+    let mut attributes = Vec::new(alloc);
+    for word in words.split(' ') {
+        attributes.push(attribute_of(alloc, word)?)?;
+    }
+    Ok(attributes)
+}
+
+/// The relative name into which attributes are inserted one by one.
+pub fn inserted(alloc: Global, words: &str) -> Result<String, Refusal> {
+    let mut name = RelativeDistinguishedName::default(alloc);
+    for attribute in attributes_of(alloc, words)? {
+        name.insert(attribute)?;
+    }
+    written(alloc, &name)
+}
+
+/// As `inserted`, where an insertion that finds no memory has to leave the name, and is made again.
+fn inserted_again(alloc: Global, words: &str) -> Result<String, Refusal> {
+    let mut name = RelativeDistinguishedName::default(alloc);
+    for word in words.split(' ') {
+        insert_again(alloc, &mut name, word)?;
+    }
+    written(alloc, &name)
+}
+
+/// Inserts an attribute, at the second call where the first finds no memory.
+fn insert_again(
+    alloc: Global,
+    name: &mut RelativeDistinguishedName,
+    word: &str,
+) -> Result<(), Refusal> {
+    let before = to_der(alloc, name)?;
+    let Err(error) = name.insert(attribute_of(alloc, word)?) else {
+        return Ok(());
+    };
+    let Refusal::Memory = Refusal::from(error) else {
+        return Err(Refusal::Der(error));
+    };
+    if to_der(alloc, name)?.as_slice() != before.as_slice() {
+        return Err(Refusal::Changed);
+    }
+    name.insert(attribute_of(alloc, word)?)?;
+    Ok(())
+}
+
+/// The relative name of all attributes at once.
+pub fn made(alloc: Global, words: &str) -> Result<String, Refusal> {
+    written_in(
+        alloc,
+        RelativeDistinguishedName::try_from_vec(attributes_of(alloc, words)?),
+    )
+}
+
+/// The relative name that hex octets spell.
+fn relative_name_of(alloc: Global, word: &str) -> Result<RelativeDistinguishedName, Refusal> {
+    let octets = octets_of(alloc, word)?;
+    Ok(from_der(alloc, octets.as_slice())?)
+}
+
+/// The sequence to which relative names are pushed, where a push that finds no memory has to leave
+/// it, and is made again.
+fn pushed_again(alloc: Global, words: &str) -> Result<String, Refusal> {
+    let mut names = RdnSequence::default(alloc);
+    for word in words.split(' ') {
+        push_again(alloc, &mut names, word)?;
+    }
+    written(alloc, &names)
+}
+
+/// Pushes a relative name, at the second call where the first finds no memory.
+fn push_again(alloc: Global, names: &mut RdnSequence, word: &str) -> Result<(), Refusal> {
+    let before = to_der(alloc, names)?;
+    let Err(AllocError) = names.push(relative_name_of(alloc, word)?) else {
+        return Ok(());
+    };
+    if to_der(alloc, names)?.as_slice() != before.as_slice() {
+        return Err(Refusal::Changed);
+    }
+    names.push(relative_name_of(alloc, word)?)?;
+    Ok(())
+}
+
+/// What is written of a sequence whose relative names are turned round in the list that it lends.
+pub fn turned(alloc: Global, octets: &str) -> Result<String, Refusal> {
+    let octets = octets_of(alloc, octets)?;
+    let mut sequence: RdnSequence = from_der(alloc, octets.as_slice())?;
+    sequence.as_mut().reverse();
+    written(alloc, &sequence)
+}
+
+/// How many attributes a relative name has, and what is written of each.
+pub fn members(alloc: Global, octets: &str) -> Result<String, Refusal> {
+    let name = relative_name_of(alloc, octets)?;
+    let members = name.iter();
+    let mut text = format!(in alloc; "{}", members.len())?;
+    for attribute in members {
+        let written = written(alloc, attribute)?;
+        text.push_str(format!(in alloc; " {written}")?.as_str())?;
+    }
+    Ok(text)
+}

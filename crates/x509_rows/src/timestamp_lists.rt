@@ -1,0 +1,51 @@
+//! Lists of timestamps.
+
+use crate::refusals::Refusal;
+use crate::shown::{dashed_hex_of, dashed_octets_of, written};
+use der_core::from_der;
+use std::alloc::Global;
+use x509_cert::timestamps::{SerializedSct, SignedCertificateTimestampList};
+
+/// The octets of each timestamp of the list that octets spell.
+pub fn members_of(alloc: Global, octets: &str) -> Result<String, Refusal> {
+    let octets = dashed_octets_of(alloc, octets)?;
+    let list: SignedCertificateTimestampList = from_der(alloc, octets.as_slice())?;
+    let members = list.parse_timestamps(alloc)?;
+    members_in(alloc, members.as_slice())
+}
+
+/// The octets of each of these timestamps.
+fn members_in(alloc: Global, members: &[SerializedSct]) -> Result<String, Refusal> {
+    let mut text = String::new(alloc);
+    for member in members {
+        if !text.is_empty() {
+            text.push(' ')?;
+        }
+        text.push_str(dashed_hex_of(alloc, member.data.as_slice())?.as_str())?;
+    }
+    Ok(text)
+}
+
+/// What is written of the list of the timestamps that these octets spell, each read and written
+/// again.
+pub fn list_read(alloc: Global, members: &str) -> Result<String, Refusal> {
+    let mut timestamps = Vec::new(alloc);
+    for octets in members.split_whitespace() {
+        let data = dashed_octets_of(alloc, octets)?;
+        let timestamp = SerializedSct { data }.parse_timestamp(alloc)?;
+        timestamps.push(SerializedSct::new(alloc, timestamp)?)?;
+    }
+    let list = SignedCertificateTimestampList::new(alloc, timestamps.as_slice())?;
+    written(alloc, &list)
+}
+
+/// What is written of the list of timestamps of these octets.
+pub fn list_of(alloc: Global, members: &str) -> Result<String, Refusal> {
+    let mut timestamps = Vec::new(alloc);
+    for octets in members.split_whitespace() {
+        let data = dashed_octets_of(alloc, octets)?;
+        timestamps.push(SerializedSct { data })?;
+    }
+    let list = SignedCertificateTimestampList::new(alloc, timestamps.as_slice())?;
+    written(alloc, &list)
+}

@@ -1,0 +1,64 @@
+//! Timestamps and their dates.
+
+use crate::refusals::Refusal;
+use crate::shown::{dashed_hex_of, dashed_octets_of, shown};
+use crate::timestamp_lists::{list_of, list_read, members_of};
+use crate::tls_values::{length_of, length_of_list};
+use std::alloc::Global;
+use x509_cert::timestamps::{
+    DigitallySigned, HashAlgorithm, LogId, SerializedSct, SignatureAlgorithm,
+    SignatureAndHashAlgorithm, SignedCertificateTimestamp, Version,
+};
+
+/// The answer to a question about timestamps.
+pub fn answer(alloc: Global, word: &str, rest: &str) -> Result<String, Refusal> {
+    match word {
+        "members" => members_of(alloc, rest),
+        "list" => list_of(alloc, rest),
+        "list-read" => list_read(alloc, rest),
+        "long" => length_of(alloc, rest),
+        "long-list" => length_of_list(alloc, rest),
+        "stamp" => parts_of(alloc, rest),
+        _ => date_of(alloc, rest),
+    }
+}
+
+/// The parts of the timestamp that octets spell.
+fn parts_of(alloc: Global, octets: &str) -> Result<String, Refusal> {
+    let data = dashed_octets_of(alloc, octets)?;
+    let timestamp = SerializedSct { data }.parse_timestamp(alloc)?;
+    parts_in(alloc, &timestamp)
+}
+
+/// The parts of a timestamp.
+fn parts_in(alloc: Global, timestamp: &SignedCertificateTimestamp) -> Result<String, Refusal> {
+    let date = timestamp.timestamp()?;
+    let version = &timestamp.version;
+    let log = dashed_hex_of(alloc, timestamp.log_id.key_id.as_slice())?;
+    let milliseconds = timestamp.timestamp;
+    let extensions = dashed_hex_of(alloc, timestamp.extensions.as_slice())?;
+    let algorithm = &timestamp.signature.algorithm;
+    let (hash, signature) = (&algorithm.hash, &algorithm.signature);
+    let octets = dashed_hex_of(alloc, timestamp.signature.signature.as_slice())?;
+    Ok(format!(in alloc;
+        "{version:?} {log} {milliseconds} {date} {extensions} {hash:?} {signature:?} {octets}"
+    )?)
+}
+
+/// The date of a timestamp of so many milliseconds, which has nothing else in it.
+fn date_of(alloc: Global, milliseconds: &str) -> Result<String, Refusal> {
+    let timestamp = SignedCertificateTimestamp {
+        version: Version::V1,
+        log_id: LogId { key_id: [0; 32] },
+        timestamp: milliseconds.parse()?,
+        extensions: Vec::new(alloc),
+        signature: DigitallySigned {
+            algorithm: SignatureAndHashAlgorithm {
+                hash: HashAlgorithm::None,
+                signature: SignatureAlgorithm::Anonymous,
+            },
+            signature: Vec::new(alloc),
+        },
+    };
+    shown(alloc, timestamp.timestamp()?)
+}

@@ -1,0 +1,58 @@
+//! Values in the presentation language of TLS.
+
+use crate::refusals::Refusal;
+use crate::shown::{dashed_hex_of, dashed_octets_of, shown};
+use der_core::to_der;
+use std::alloc::Global;
+use x509_cert::timestamps::{
+    DigitallySigned, HashAlgorithm, LogId, SerializedSct, SignatureAlgorithm,
+    SignatureAndHashAlgorithm, SignedCertificateTimestamp, SignedCertificateTimestampList,
+    TlsValue, Version,
+};
+
+/// What is written of the value of a type that octets begin with, and the octets behind it.
+pub fn rewritten(alloc: Global, kind: &str, octets: &str) -> Result<String, Refusal> {
+    let octets = dashed_octets_of(alloc, octets)?;
+    let octets = octets.as_slice();
+    match kind {
+        "HashAlgorithm" => written::<HashAlgorithm>(alloc, octets),
+        "SignatureAlgorithm" => written::<SignatureAlgorithm>(alloc, octets),
+        "Version" => written::<Version>(alloc, octets),
+        "LogId" => written::<LogId>(alloc, octets),
+        "SignatureAndHashAlgorithm" => written::<SignatureAndHashAlgorithm>(alloc, octets),
+        "DigitallySigned" => written::<DigitallySigned>(alloc, octets),
+        "SignedCertificateTimestamp" => written::<SignedCertificateTimestamp>(alloc, octets),
+        "SerializedSct" => written::<SerializedSct>(alloc, octets),
+        _ => Err(Refusal::Unread),
+    }
+}
+
+/// What is written of the value that octets begin with, and the octets behind it.
+fn written<T: TlsValue>(alloc: Global, octets: &[u8]) -> Result<String, Refusal> {
+    let (value, rest) = T::tls_deserialize_bytes(alloc, octets)?;
+    let output = value.tls_serialize(alloc)?;
+    if value.tls_serialized_len() != output.len() {
+        return Err(Refusal::Length);
+    }
+    let output = dashed_hex_of(alloc, output.as_slice())?;
+    let rest = dashed_hex_of(alloc, rest)?;
+    Ok(format!(in alloc; "{output} {rest}")?)
+}
+
+/// How many octets spell the timestamp of so many octets.
+pub fn length_of(alloc: Global, count: &str) -> Result<String, Refusal> {
+    let octets = timestamp_of(alloc, count)?.tls_serialize(alloc)?;
+    shown(alloc, octets.len())
+}
+
+/// How many octets spell the list of one timestamp of so many octets.
+pub fn length_of_list(alloc: Global, count: &str) -> Result<String, Refusal> {
+    let list = SignedCertificateTimestampList::new(alloc, &[timestamp_of(alloc, count)?])?;
+    shown(alloc, to_der(alloc, &list)?.len())
+}
+
+/// A timestamp of so many octets, all zero.
+fn timestamp_of(alloc: Global, count: &str) -> Result<SerializedSct, Refusal> {
+    let data = vec![in alloc; 0u8; count.parse()?]?;
+    Ok(SerializedSct { data })
+}
