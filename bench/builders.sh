@@ -6,11 +6,17 @@
 build builders certificate_builds 'x509_cert_builders der_core const_oid'
 
 # costs MODE PROFILE: what a round costs
-costs() { echo $((($(instructions "$program" "$1" "$2" 101) - $(instructions "$program" "$1" "$2" 1)) / 100)); }
+costs() {
+    local many few
+    many=$(instructions "$program" "$1" "$2" 101)
+    few=$(instructions "$program" "$1" "$2" 1)
+    echo $(((many - few) / 100))
+}
 digest=$(costs digest root)
 for profile in root:2 subordinate:2 subscriber:1 device:1; do
     written=$(costs write "${profile%:*}")
     finalized=$(costs finalize "${profile%:*}")
-    awk -v p="${profile%:*}" -v w="$written" -v f="$finalized" -v d="$digest" -v n="${profile#*:}" \
-        'BEGIN { printf "%s: written %d, finalized %d, without %d digests of %d: %d (%.2f)\n", p, w, f, n, d, f - n * d, (f - n * d) / w }'
+    rest=$((finalized - ${profile#*:} * digest))
+    echo "${profile%:*}: written $written, finalized $finalized, without ${profile#*:} digests of" \
+        "$digest: $rest ($(awk -v r="$rest" -v w="$written" 'BEGIN { printf "%.2f", r / w }'))"
 done

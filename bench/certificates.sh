@@ -1,13 +1,14 @@
 #!/usr/bin/env bash
-# Counts the instructions that reading the example certificate costs, allocation left out, and what of them falls
-# on one of its 17 headers; then the same by function (bench/README.md).
+# Counts the instructions that reading the example certificate costs, allocation left out, and what
+# of them falls on one of its 17 headers; then the same by function (bench/README.md).
 . "$(dirname "$0")/program.sh"
 build certificates certificate_reads x509_cert
 
 file=$top/examples/trusted.der
 "$program" "$file" 1
 for rounds in 1 1001; do
-    valgrind --tool=callgrind --callgrind-out-file="$work/out" "$program" "$file" $rounds &>"$work/log"
+    valgrind --tool=callgrind --callgrind-out-file="$work/out" "$program" "$file" $rounds \
+        &>"$work/log"
     callgrind_annotate --threshold=100 "$work/out" >"$work/$rounds"
 done
 python3 - "$work/1" "$work/1001" <<'COUNT'

@@ -3,10 +3,10 @@
 
     bench/functions.py CRATE [MOST]
 
-checks the crate from nothing at one job, in a copy beside the libraries that are built (`rt lib` in its folder builds
-them), and prints the functions that cost most (twenty) in processor seconds. The seconds of a function are those from
-the checker's line before its own to its line: what a function is the first to need, as the statements of what it calls,
-counts for it."""
+checks the crate from nothing at one job, in a copy beside the libraries that are built (`rt lib` in
+its folder builds them), and prints the functions that cost most (twenty) in processor seconds. The
+seconds of a function are those from the checker's line before its own to its line: what a function
+is the first to need, as the statements of what it calls, counts for it."""
 import os
 import re
 import shutil
@@ -32,22 +32,46 @@ def checker_in(folder):
 
 
 def seconds_of(pid):
-    try:
-        with open(f"/proc/{pid}/stat") as it:
-            return sum(map(int, it.read().rsplit(")", 1)[1].split()[11:15])) / TICKS
-    except OSError:
+    """The processor seconds of a process and of all below it: a check works in copies of itself."""
+    below, seconds = {}, {}
+    for other in filter(str.isdigit, os.listdir("/proc")):
+        try:
+            with open(f"/proc/{other}/stat") as it:
+                numbers = it.read().rsplit(")", 1)[1].split()
+        except OSError:
+            continue
+        below.setdefault(numbers[1], []).append(other)
+        seconds[other] = sum(map(int, numbers[11:15])) / TICKS
+    if pid not in seconds:
         return None
+    found, left = 0, [pid]
+    while left:
+        last = left.pop()
+        found += seconds[last]
+        left += below.get(last, [])
+    return found
 
 
 def main():
     crate, most = sys.argv[1], int(sys.argv[2]) if len(sys.argv) > 2 else 20
     with tempfile.TemporaryDirectory(prefix="functions-", dir=ROOT + "/.git") as room:
         room = os.path.realpath(room)
-        shutil.copytree(f"{ROOT}/crates", f"{room}/crates", copy_function=os.link, ignore=shutil.ignore_patterns("incremental"))
+        shutil.copytree(
+            f"{ROOT}/crates",
+            f"{room}/crates",
+            copy_function=os.link,
+            ignore=shutil.ignore_patterns("incremental"),
+        )
         shutil.copy(f"{ROOT}/crates.txt", room)
         folder = f"{room}/crates/{crate}"
         shutil.rmtree(f"{folder}/out", ignore_errors=True)
-        said = subprocess.Popen(["rt", "check", "--jobs", "1"], cwd=folder, stdout=subprocess.PIPE, stderr=subprocess.STDOUT, text=True)
+        said = subprocess.Popen(
+            ["rt", "check", "--jobs", "1"],
+            cwd=folder,
+            stdout=subprocess.PIPE,
+            stderr=subprocess.STDOUT,
+            text=True,
+        )
         pid, before, rows, last = None, None, [], ""
         for line in said.stdout:
             last = line.rstrip() or last

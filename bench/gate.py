@@ -1,10 +1,11 @@
 #!/usr/bin/env python3
 """Runs `rt ci` and tells what it spent: see gate.sh.
 
-The total is what the system counts for the gate and all that it started. The table is from samples of the running
-checks, two seconds apart, each told by its words: a proof, the proof of a crate's tests, the check of an edit, a
-program (its proof, and what two compilers make of it). What is left of the total is start: `rt` itself, the programs
-and tests as they run, and what ended between two samples."""
+The total is what the system counts for the gate and all that it started. The table is from samples
+of the running checks, two seconds apart, each told by its words: a proof, the proof of a crate's
+tests, the check of an edit, a program (its proof, and what two compilers make of it). What is left
+of the total is start: `rt` itself, the programs and tests as they run, and what ended between two
+samples."""
 import collections
 import os
 import resource
@@ -18,7 +19,9 @@ KINDS = ("proof", "tests", "edits", "programs")
 
 
 def processes():
-    """Every process: its parent, when it began, its words, where it works, and its processor seconds with those of ended children."""
+    """Every process: its parent, its beginning, its words, its folder, and its processor seconds.
+
+    The seconds have those of children that ended."""
     found = {}
     for pid in filter(str.isdigit, os.listdir("/proc")):
         try:
@@ -40,9 +43,16 @@ def is_below(found, pid, gate):
     return pid == gate
 
 
+def is_check(words):
+    """Whether these are the words of a check."""
+    return os.path.basename(words[0]) == "rattle" and "--crate-name" in words
+
+
 def checks(found, gate):
-    """Each check of the gate that runs: its process, crate and kind, and the seconds of it and of the copies of it that run."""
-    own = {pid for pid, (_, _, words, _, _) in found.items() if os.path.basename(words[0]) == "rattle" and "--crate-name" in words}
+    """Each check of the gate that runs: its process, crate and kind, and its seconds.
+
+    The seconds have those of the copies of it that run."""
+    own = {pid for pid, process in found.items() if is_check(process[2])}
     own = {pid for pid in own if is_below(found, pid, gate)}
     seconds = collections.Counter()
     first = {}
@@ -66,9 +76,11 @@ def checks(found, gate):
 
 
 def run(log):
-    """Runs the gate, and returns its status, the minutes that it took, and the seconds of each check."""
+    """Runs the gate; its status, the minutes that it took, and the seconds of each check."""
     seen, began = {}, time.time()
-    gate = subprocess.Popen(["rt", "ci"], stdin=subprocess.DEVNULL, stdout=log, stderr=subprocess.STDOUT)
+    gate = subprocess.Popen(
+        ["rt", "ci"], stdin=subprocess.DEVNULL, stdout=log, stderr=subprocess.STDOUT
+    )
     while gate.poll() is None:
         for key, crate, kind, seconds in checks(processes(), str(gate.pid)):
             seen[key] = (crate, kind, max(seconds, seen.get(key, ("", "", 0))[2]))
@@ -91,7 +103,8 @@ def main():
     print(f"{minutes:.0f} minutes, {total:.1f} processor minutes; the log is {path}")
     print(f"{'crate':24}" + "".join(f"{kind:>10}" for kind in KINDS))
     for crate, row in sorted(table.items(), key=lambda it: -sum(it[1].values())):
-        print(f"{crate:24}" + "".join(f"{row[kind]:10.1f}" if row[kind] else f"{'':10}" for kind in KINDS))
+        cells = (f"{row[kind]:10.1f}" if row[kind] else f"{'':10}" for kind in KINDS)
+        print(f"{crate:24}" + "".join(cells))
     sums = {kind: sum(row[kind] for row in table.values()) for kind in KINDS}
     print(f"{'all':24}" + "".join(f"{sums[kind]:10.1f}" for kind in KINDS))
     print(f"{'start, and between':24}{total - sum(sums.values()):10.1f}")

@@ -1,7 +1,8 @@
 #!/usr/bin/env bash
-# Walks all headers of a file of joined certificates with SliceReader and with a plain C loop that does
-# the same checks, and prints instructions a header and the least processor time a header of both (bench/README.md).
-# Usage: bench/headers.sh [FILE]; without FILE the example certificate 50 times.
+# Walks all headers of a file of joined certificates with SliceReader and with a plain C loop that
+# does the same checks, and prints instructions a header and the least processor time a header of
+# both (bench/README.md).
+# usage: bench/headers.sh [FILE]; without FILE the example certificate 50 times.
 . "$(dirname "$0")/program.sh"
 build headers header_walk 'der_core der_core_octets der_core_head const_oid'
 
@@ -28,7 +29,8 @@ report() {
     local per least
     per=$((($(instructions "$2" "$file" 11) - $(instructions "$2" "$file" 1)) / headers))
     least=$(($(sort -n "$3" | head -1) * 100000000 / (rounds * headers)))
-    printf '%s: %d.%d instructions, %d.%02d ns a header\n' "$1" $((per / 10)) $((per % 10)) $((least / 100)) $((least % 100))
+    printf '%s: %d.%d instructions, %d.%02d ns a header\n' "$1" \
+        $((per / 10)) $((per % 10)) $((least / 100)) $((least % 100))
 }
 report SliceReader "$ours" "$work/ours.times"
 report C "$work/walk" "$work/walk.times"

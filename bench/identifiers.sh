@@ -217,7 +217,9 @@ int main(int argc, char **argv) {
         } else {
             for (size_t i = 1; i < count; i++) {
                 if (identifier_compare(&oids[i - 1], &oids[i]) < 0) sum++;
-                if (!identifier_compare(&oids[i - 1], &oids[i]) || identifier_begins(&oids[i - 1], &oids[i])) sum += 1000;
+                if (!identifier_compare(&oids[i - 1], &oids[i]) ||
+                    identifier_begins(&oids[i - 1], &oids[i]))
+                    sum += 1000;
             }
         }
     }
@@ -226,17 +228,25 @@ int main(int argc, char **argv) {
 }
 C
 gcc -O2 -o "$work/plain" "$work/identifiers.c"
-(cd "$work/crates/identifiers" && rt run --jobs 1 >"$work/log" 2>&1) || { tail -n 20 "$work/log"; exit 1; }
+(cd "$work/crates/identifiers" && rt run --jobs 1 >"$work/log" 2>&1) || {
+    tail -n 20 "$work/log"
+    exit 1
+}
 here=$work/crates/identifiers/out/identifiers
 
 cd "$work"
 count() {
-    valgrind --tool=callgrind --callgrind-out-file="$work/out" "$@" 2>&1 >/dev/null | sed -n 's/.*Collected : //p'
+    valgrind --tool=callgrind --callgrind-out-file="$work/out" "$@" 2>&1 >/dev/null |
+        sed -n 's/.*Collected : //p'
 }
 printf '%-8s %8s %8s %6s\n' what here C ratio
 for what in read print compare; do
-    [ "$("$here" "$what" 3)" = "$("$work/plain" "$what" 3)" ] || { echo "$what: the answers differ"; exit 1; }
+    if [ "$("$here" "$what" 3)" != "$("$work/plain" "$what" 3)" ]; then
+        echo "$what: the answers differ"
+        exit 1
+    fi
     mine=$((($(count "$here" "$what" 101) - $(count "$here" "$what" 1)) / 50000))
     plain=$((($(count "$work/plain" "$what" 101) - $(count "$work/plain" "$what" 1)) / 50000))
-    printf '%-8s %8d %8d %6s\n' "$what" "$mine" "$plain" "$(python3 -c "print(f'{$mine / $plain:.2f}')")"
+    ratio=$(python3 -c "print(f'{$mine / $plain:.2f}')")
+    printf '%-8s %8d %8d %6s\n' "$what" "$mine" "$plain" "$ratio"
 done

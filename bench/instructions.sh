@@ -8,8 +8,9 @@ trap 'rm -rf "$work"' EXIT
 
 count() {
     # the program's status is its verdict, which doesn't matter here
-    { valgrind --tool=callgrind --callgrind-out-file="$work/out" "$program" check \
-        "$top/examples/anchors.der" "$1" 1009886460 1.3.6.1.5.5.7.3.1 1000 || true; } 2>&1 >/dev/null |
+    local words=("$top/examples/anchors.der" "$1" 1009886460 1.3.6.1.5.5.7.3.1 1000)
+    { valgrind --tool=callgrind --callgrind-out-file="$work/out" "$program" check "${words[@]}" ||
+        true; } 2>&1 >/dev/null |
         sed -n 's/.*Collected : //p'
 }
 

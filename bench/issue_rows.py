@@ -1,9 +1,11 @@
 #!/usr/bin/env python3
-"""issue_rows.py FOLDER: writes the rows of cert_rows about orders and what is issued, with which its stdin and stdout end, as
-FOLDER/stdin and FOLDER/stdout.
+"""issue_rows.py FOLDER: writes the rows of cert_rows about orders and what is issued.
 
-The certificates in the answers are put together here, with nothing but Python's own library, from RFC 5280 and X.690; the lines and
-statuses are written out by hand. Nothing comes from the program."""
+They go to FOLDER/stdin and FOLDER/stdout, and stand at the end of those of cert_rows.
+
+The certificates in the answers are put together here, with nothing but Python's own library, from
+RFC 5280 and X.690; the lines and statuses are written out by hand. Nothing comes from the
+program."""
 
 import hashlib
 import pathlib
@@ -68,8 +70,9 @@ TYPES = {
 
 
 def name(text):
-    """A name without escapes, one attribute in each relative name, the last one first (RFC 4514). The value of a type that is spelled
-    in numbers is the hex of its encoding."""
+    """A name without escapes, one attribute in each relative name, the last one first (RFC 4514).
+
+    The value of a type that is spelled in numbers is the hex of its encoding."""
     relatives = []
     for piece in reversed(text.split(",")) if text else []:
         key, value = piece.split("=")
@@ -132,7 +135,13 @@ def extensions(order, role, issuer):
         return [authority(own), extension(19, sequence(yes), True), signing(order), subject_id]
     if role == "subordinate":
         length = tlv(0x02, number(bytes([int(order["path"])]))[2:]) if "path" in order else b""
-        return [authority(above), extension(19, sequence(yes, length), True), signing(order), subject_id, uses(order)]
+        return [
+            authority(above),
+            extension(19, sequence(yes, length), True),
+            signing(order),
+            subject_id,
+            uses(order),
+        ]
     names = sequence(*(tlv(0x82, dns.encode()) for dns in order["dns"]))
     return [
         extension(17, names, not order["name"]),
@@ -150,7 +159,9 @@ def role_at(place, count):
 
 
 def chain(orders):
-    """The certificates of these orders, each signed by the digest of the key above it and the signed part (RFC 5280 4.1)."""
+    """The certificates of these orders (RFC 5280 4.1).
+
+    Each is signed by the digest of the key above it and the signed part."""
     certificates = []
     for place, order in enumerate(orders):
         issuer = orders[max(place - 1, 0)]
@@ -235,7 +246,9 @@ def refuses(orders, place, reason):
 
 
 def names_line(told, line):
-    ask(f"run {told if isinstance(told, str) else '|'.join(told)}", f'4 "" "orders: line {line}\\n"')
+    ask(
+        f"run {told if isinstance(told, str) else '|'.join(told)}", f'4 "" "orders: line {line}\\n"'
+    )
 
 
 def told_hex(text):
@@ -253,16 +266,24 @@ BY_HAND = bytes.fromhex(
     + "300E0603551D0F0101FF040403020106301D0603551D0E04160414" + ID
 )
 SIGNATURE = hashlib.sha256(b"abc" + BY_HAND).digest()
-WHOLE = bytes.fromhex("30820128") + BY_HAND + bytes.fromhex("300B06092B0601040181FD5902032100") + SIGNATURE
+WHOLE = bytes.fromhex("30820128") + BY_HAND + bytes.fromhex(
+    "300B06092B0601040181FD5902032100"
+) + SIGNATURE
 assert len(BY_HAND) == 248 and len(WHOLE) == 300 and chain([ROOT]) == [WHOLE]
 issues([ROOT])
-say("SHA-256 of 616263 (FIPS 180-4): a key of the octet 61, over 6263; a key whose bit string has four unused bits, over nothing more.")
+say(
+    "SHA-256 of 616263 (FIPS 180-4): a key of the octet 61, over 6263; a key whose bit string has "
+    "four unused bits, over nothing more."
+)
 ask("digest 3009300306012A03020061 6263", hashlib.sha256(b"abc").hexdigest())
 ask("digest 300B300306012A030404616260 -", hashlib.sha256(b"ab`").hexdigest())
 say("No orders: an empty file, and one of empty lines.")
 ask("run ", '1 "" "orders NoOrders\\n"')
 ask("run ||", '1 "" "orders NoOrders\\n"')
-say("A root without a country; a subscriber with an organization; a root and a subscriber; without a DNS name.")
+say(
+    "A root without a country; a subscriber with an organization; a root and a subscriber; without "
+    "a DNS name."
+)
 refuses([order("CN=r,O=o", "01")], 0, "RootName")
 refuses([ROOT, order("CN=s,O=o", "02", dns=["a.example"])], 1, "SubscriberName")
 issues([ROOT, LEAF])
@@ -280,8 +301,12 @@ issues([ROOT, MIDDLE, LEAF])
 issues([ROOT, order("CN=m,O=o,C=US", "03", dns=["ü"]), LEAF])
 issues([ROOT, order("CN=m,O=o,C=US", "03", path="0"), LEAF])
 issues([ROOT, order("OU=m", "03", path="255", client=None, ocsp=None, dns=["ä"]), LEAF])
-issues([ROOT, order("", "03", path="007"), order("CN=n", "04", path="128"), order("CN=o,DC=example", "05"), LEAF])
-say("A type with the greatest arc, 2^128 - 1, which a subordinate authority's name may have, and a root's may not; no type has the next one, 2^128.")
+below = [order("", "03", path="007"), order("CN=n", "04", path="128")]
+issues([ROOT, *below, order("CN=o,DC=example", "05"), LEAF])
+say(
+    "A type with the greatest arc, 2^128 - 1, which a subordinate authority's name may have, and a "
+    "root's may not; no type has the next one, 2^128."
+)
 GREATEST, PAST = (f"1.2.{2**128 + more}=#0500" for more in (-1, 0))
 issues([ROOT, order(f"{GREATEST},C=US", "03"), LEAF])
 refuses([ROOT, order(f"{PAST},C=US", "03"), LEAF], 1, "Name")
@@ -293,13 +318,22 @@ issues([
     order("CN=m", "02", key=key(b"middle")),
     order("CN=s", "03", key=key(b"leaf"), dns=["a.example"]),
 ])
-say("Serial numbers: a first octet from 80 on has a 00 before it; zeros in front go; 20 octets of content, of which the first is 7F, or 00.")
-for serial in ["80", "00", "0000017F", "7F" + 19 * "00", "00" + "80" + 18 * "FF", 3 * "00" + 20 * "7F", "aBcD"]:
+say(
+    "Serial numbers: a first octet from 80 on has a 00 before it; zeros in front go; 20 octets of "
+    "content, of which the first is 7F, or 00."
+)
+for serial in [
+    "80", "00", "0000017F", "7F" + 19 * "00", "00" + "80" + 18 * "FF", 3 * "00" + 20 * "7F", "aBcD"
+]:
     issues([order("CN=r,O=o,C=US", serial)])
-say("Dates: the last second of 2049, and the next one, which is a GeneralizedTime; the first and the last second of all; one moment.")
+say(
+    "Dates: the last second of 2049, and the next one, which is a GeneralizedTime; the first and "
+    "the last second of all; one moment."
+)
 issues([order("CN=r,O=o,C=US", "01", until="2049-12-31T23:59:59Z")])
 issues([order("CN=r,O=o,C=US", "01", until="2050-01-01T00:00:00Z")])
-issues([order("CN=r,O=o,C=US", "01", **{"from": "1970-01-01T00:00:00Z", "until": "9999-12-31T23:59:59Z"})])
+dates = {"from": "1970-01-01T00:00:00Z", "until": "9999-12-31T23:59:59Z"}
+issues([order("CN=r,O=o,C=US", "01", **dates)])
 issues([order("CN=r,O=o,C=US", "01", **{"from": UNTIL})])
 say()
 say("Why orders are refused: in the first one, between, and in the last.")
@@ -319,7 +353,15 @@ for place in (0, 1, 2):
     refuses(at(until="1969-12-31T23:59:59Z"), place, "Dates")
     refuses(at(until="2002-01-01T12:00:59Z"), place, "Dates")
 say("Names of roots, and of subscribers, at the end of two and of three.")
-for text in ["", "CN=r,C=US", "O=o,C=US", "CN=r,OU=u,O=o,C=US", "C=US,O=o,CN=r", "CN=r,CN=q,O=o,C=US", "CN=r+O=o,C=US"]:
+for text in [
+    "",
+    "CN=r,C=US",
+    "O=o,C=US",
+    "CN=r,OU=u,O=o,C=US",
+    "C=US,O=o,CN=r",
+    "CN=r,CN=q,O=o,C=US",
+    "CN=r+O=o,C=US",
+]:
     refuses([order(text, "01"), LEAF], 0, "RootName")
 for text in ["O=o", "CN=s,ST=t", "CN=s+OU=u"]:
     refuses([ROOT, order(text, "02", dns=["a.example"])], 1, "SubscriberName")
@@ -339,7 +381,10 @@ say()
 
 # Faulty lines.
 root, leaf = lines(ROOT), lines(LEAF)
-say("A word that must stand, missing in the first order and in the second: the line of the order is named.")
+say(
+    "A word that must stand, missing in the first order and in the second: the line of the order "
+    "is named."
+)
 for word in ["name", "from", "until", "serial", "key"]:
     names_line([line for line in root if not line.startswith(word)] + leaf, 1)
     names_line(root + [line for line in leaf if not line.startswith(word)], 7)
@@ -363,7 +408,10 @@ for line in ["path", "dns", "path ", "client ", "ocsp ", "order "]:
 say("`order` with a value: an empty one, and a word.")
 names_line(["order "] + root[1:] + leaf, 1)
 names_line(root + ["order x"] + leaf[1:], 7)
-say("An empty value is one where it is a text, or no octets: then the order is refused, or not at all.")
+say(
+    "An empty value is one where it is a text, or no octets: then the order is refused, or not at "
+    "all."
+)
 refuses([order("", "01")], 0, "RootName")
 refuses([order("CN=r,O=o,C=US", "01", **{"from": ""})], 0, "Dates")
 refuses([order("CN=r,O=o,C=US", "01", until="")], 0, "Dates")
@@ -373,7 +421,19 @@ say("A value that isn't one of its word.")
 for value in ["0", "0g", "01 ", " 01", "0x01", "zz"]:
     names_line(root[:4] + [f"serial {value}"] + root[5:] + leaf, 5)
     names_line(root + leaf[:4] + [f"serial {value}"] + leaf[5:], 11)
-for value in ["zz", "3", "30", "3000", Q + "00", Q[:-2], "0500", "3009300306012A03020001", "300B300306012A030408616263", " " + Q, "300D300306012A03040061626300"]:
+for value in [
+    "zz",
+    "3",
+    "30",
+    "3000",
+    Q + "00",
+    Q[:-2],
+    "0500",
+    "3009300306012A03020001",
+    "300B300306012A030408616263",
+    " " + Q,
+    "300D300306012A03040061626300",
+]:
     if value == "3009300306012A03020001":
         continue
     names_line(root[:5] + [f"key {value}"] + leaf, 6)
@@ -382,19 +442,41 @@ for value in ["256", "-1", "+1", "x", "1x", " 1", "1 ", "0x1", "9999999999999999
     names_line(root + [f"path {value}"] + leaf, 7)
     names_line(root + leaf + [f"path {value}"], 14)
 say("Path lengths are read so in every role, with zeros in front.")
-issues([order("CN=r,O=o,C=US", "01", path="0"), order("CN=s", "02", path="000000000000000000000255", dns=["a.example"])])
-say("A value that isn't one stands for all that: its own line is named, also where the word follows once more.")
+last = order("CN=s", "02", path="000000000000000000000255", dns=["a.example"])
+issues([order("CN=r,O=o,C=US", "01", path="0"), last])
+say(
+    "A value that isn't one stands for all that: its own line is named, also where the word "
+    "follows once more."
+)
 names_line(root[:5] + ["key zz"], 6)
 names_line(root[:5] + ["key zz", root[5]], 6)
 names_line(["order", "serial 0", root[1], root[2], root[3], root[5], root[4]], 2)
-say("Where a word is missing besides, the line of the order is named, which stands before; then only what is behind is not looked at.")
+say(
+    "Where a word is missing besides, the line of the order is named, which stands before; then "
+    "only what is behind is not looked at."
+)
 names_line(["order", "bogus"], 1)
 names_line(["order", "key zz", "serial 0"], 1)
 names_line(root[:5] + ["bogus", "bogus"] + ["order"], 1)
 names_line(root + ["bogus", "order"], 7)
 names_line(root + ["path 256", "client ", "key zz"] + leaf, 7)
-say("Words that aren't any: other words, capitals, a blank in front, a blank alone, a tab, a carriage return.")
-for line in ["bogus", "bogus x", "Name x", "NAME x", " path 1", " ", "\tpath 1", "path\t1", "dns=a", "orders", "orde"]:
+say(
+    "Words that aren't any: other words, capitals, a blank in front, a blank alone, a tab, a "
+    "carriage return."
+)
+for line in [
+    "bogus",
+    "bogus x",
+    "Name x",
+    "NAME x",
+    " path 1",
+    " ",
+    "\tpath 1",
+    "path\t1",
+    "dns=a",
+    "orders",
+    "orde",
+]:
     names_line(root + [line] + leaf, 7)
     names_line(root + leaf + [line], 14)
 names_line(told_hex("\r\n".join(root) + "\r\n"), 1)
@@ -403,7 +485,10 @@ say("Before the first order stands nothing.")
 for line in root[1:] + ["path 1", "client", "ocsp", "dns a", "bogus", " "]:
     names_line([line] + root, 1)
 names_line(["", "", "name x"] + root, 3)
-say("A line that isn't UTF-8 has no word: where a word is missing then, the line of the order is named.")
+say(
+    "A line that isn't UTF-8 has no word: where a word is missing then, the line of the order is "
+    "named."
+)
 names_line(told_hex(b"\n".join(line.encode() for line in root) + b"\nname \xff"), 7)
 names_line(told_hex(b"\n".join(line.encode() for line in root) + b"\n\xff"), 7)
 names_line(told_hex("\n".join(root[:5]).encode() + b"\nkey " + Q.encode() + b"\xff"), 1)
@@ -423,14 +508,21 @@ names_line(lines(order("x", "01")) + leaf + ["path 256"], 14)
 say()
 
 # What is read.
-say("What is read: texts as they stand, octets, the bits of the key, the path length, DNS names, and the two words.")
+say(
+    "What is read: texts as they stand, octets, the bits of the key, the path length, DNS names, "
+    "and the two words."
+)
 ask("read ", "ok 0")
 ask(
-    "read " + joined([ROOT, order("CN=s", "00ff", path="7", client=None, ocsp=None, dns=["a", " b ", ""])]),
+    "read " + joined(
+        [ROOT, order("CN=s", "00ff", path="7", client=None, ocsp=None, dns=["a", " b ", ""])]
+    ),
     f'ok 2; "CN=r,O=o,C=US" "{FROM}" "{UNTIL}" 01 616263 None [] false false'
     + f'; "CN=s" "{FROM}" "{UNTIL}" 00ff 616263 Some(7) ["a", " b ", ""] true true',
 )
-ask("read order|name |from x|until |serial |key " + Q, 'ok 1; "" "x" ""  616263 None [] false false')
+ask(
+    "read order|name |from x|until |serial |key " + Q, 'ok 1; "" "x" ""  616263 None [] false false'
+)
 ask("read order", "line 1 is faulty")
 say()
 
@@ -441,22 +533,46 @@ def audits(orders, answer, signers="digest", limit=1000, moment=MOMENT, purpose=
     ask(f"audit {signers} {limit} {moment} {purpose} {joined(orders)}", answer)
 
 
-say("Audits: for servers, for clients, where the orders allow them or not, for any other use, and without a use in the root alone.")
+say(
+    "Audits: for servers, for clients, where the orders allow them or not, for any other use, and "
+    "without a use in the root alone."
+)
 audits([ROOT, LEAF], "2: Trusted calls=2")
 audits([ROOT, LEAF], "2: refused 1 AgainstPurpose calls=1", purpose=CLIENT)
-audits([ROOT, order("CN=s", "02", client=None, dns=["a.example"])], "2: Trusted calls=2", purpose=CLIENT)
-audits([ROOT, order("CN=m", "03", client=None), LEAF], "3: refused 2 AgainstPurpose calls=2", purpose=CLIENT)
-audits([ROOT, MIDDLE, order("CN=s", "02", client=None, dns=["a.example"])], "3: refused 1 AgainstPurpose calls=1", purpose=CLIENT)
+audits(
+    [ROOT, order("CN=s", "02", client=None, dns=["a.example"])],
+    "2: Trusted calls=2",
+    purpose=CLIENT,
+)
+audits(
+    [ROOT, order("CN=m", "03", client=None), LEAF],
+    "3: refused 2 AgainstPurpose calls=2",
+    purpose=CLIENT,
+)
+audits(
+    [ROOT, MIDDLE, order("CN=s", "02", client=None, dns=["a.example"])],
+    "3: refused 1 AgainstPurpose calls=1",
+    purpose=CLIENT,
+)
 audits([ROOT, LEAF], "2: refused 1 AgainstPurpose calls=1", purpose="1.3.6.1.5.5.7.3.9")
 audits([ROOT], "1: Trusted calls=1", purpose="1.3.6.1.5.5.7.3.9")
-say("Path lengths: none below the first, and two; the last certificate doesn't count; one that names itself doesn't either.")
+say(
+    "Path lengths: none below the first, and two; the last certificate doesn't count; one that "
+    "names itself doesn't either."
+)
 NONE_BELOW = order("CN=m,O=o,C=US", "03", path="0")
 audits([ROOT, NONE_BELOW, order("CN=n", "04"), LEAF], "4: refused 2 PathTooLong calls=2")
 audits([ROOT, NONE_BELOW, LEAF], "3: Trusted calls=3")
 audits([ROOT, order("CN=m", "03", path="1"), order("CN=n", "04"), LEAF], "4: Trusted calls=4")
-audits([ROOT, order("CN=m", "03", path="1"), order("CN=n", "04"), order("CN=o", "05"), LEAF], "5: refused 3 PathTooLong calls=3")
+audits(
+    [ROOT, order("CN=m", "03", path="1"), order("CN=n", "04"), order("CN=o", "05"), LEAF],
+    "5: refused 3 PathTooLong calls=3",
+)
 audits([ROOT, NONE_BELOW, order("CN=m,O=o,C=US", "04"), LEAF], "4: Trusted calls=4")
-say("Dates: the second before the first, the first, the last, the second after it; of an order below.")
+say(
+    "Dates: the second before the first, the first, the last, the second after it; of an order "
+    "below."
+)
 for moment, answer in [
     (MOMENT - 1, "1: refused 0 NotYetValid calls=0"),
     (MOMENT, "1: Trusted calls=1"),
@@ -464,12 +580,19 @@ for moment, answer in [
     (1924936201, "1: refused 0 Expired calls=0"),
 ]:
     audits([ROOT], answer, moment=moment)
-audits([ROOT, order("CN=s", "02", dns=["a"], **{"from": "2002-01-01T12:01:01Z"})], "2: refused 1 NotYetValid calls=1")
+audits(
+    [ROOT, order("CN=s", "02", dns=["a"], **{"from": "2002-01-01T12:01:01Z"})],
+    "2: refused 1 NotYetValid calls=1",
+)
 say("The limit: octets of the greatest certificate, one less, and the least limit.")
 LONGEST = max(len(certificate) for certificate in chain([ROOT, LEAF]))
 assert len(chain([ROOT, LEAF])[1]) < 300 == LONGEST
 audits([ROOT, LEAF], "2: Trusted calls=2", limit=LONGEST)
-audits([ROOT, LEAF], "2: StreamFault { place: 0, offset: 0, kind: TooLarge } calls=0", limit=LONGEST - 1)
+audits(
+    [ROOT, LEAF],
+    "2: StreamFault { place: 0, offset: 0, kind: TooLarge } calls=0",
+    limit=LONGEST - 1,
+)
 audits([ROOT, LEAF], "2: StreamFault { place: 0, offset: 0, kind: TooLarge } calls=0", limit=6)
 say("Why builders refuse the name of a root.")
 for text, error in [
@@ -478,13 +601,19 @@ for text, error in [
     ("CN=q,CN=r,O=o,C=US", "NonUniqueATV"),
 ]:
     audits([order(text, "01")], f"RootName {{ place: 0, error: {error} }}")
-say("Signers: one that refuses the certificate of a serial number, the first and a later one; one without memory for it.")
+say(
+    "Signers: one that refuses the certificate of a serial number, the first and a later one; one "
+    "without memory for it."
+)
 for place in (0, 1, 2):
     serial = "A003020102020" + str([1, 3, 2][place])
     serial = "A00302010202010" + str([1, 3, 2][place])
     audits([ROOT, MIDDLE, LEAF], f"Signer {{ place: {place} }}", signers=f"refuses:{serial}")
     audits([ROOT, MIDDLE, LEAF], "memory", signers=f"memory:{serial}")
-say("Signers of other keys, at the first place and at a later one; that of the last order signs nothing.")
+say(
+    "Signers of other keys, at the first place and at a later one; that of the last order signs "
+    "nothing."
+)
 audits([ROOT], "KeyMismatch { place: 0 }", signers="stranger:0")
 audits([ROOT, MIDDLE, LEAF], "KeyMismatch { place: 0 }", signers="stranger:0")
 audits([ROOT, MIDDLE, LEAF], "KeyMismatch { place: 1 }", signers="stranger:1")
@@ -492,7 +621,10 @@ audits([ROOT, MIDDLE, LEAF], "3: Trusted calls=3", signers="stranger:2")
 say("Signers whose bits are none are taken; the judge says no.")
 audits([ROOT], "1: refused 0 WrongSignature calls=1", signers="empty")
 audits([ROOT, LEAF], "2: refused 0 WrongSignature calls=1", signers="empty")
-say("Too few signers, too many; none is as wrong as two for a root alone; without orders that is told.")
+say(
+    "Too few signers, too many; none is as wrong as two for a root alone; without orders that is "
+    "told."
+)
 for orders, counts in [([ROOT], "02"), ([ROOT, LEAF], "02"), ([ROOT, MIDDLE, LEAF], "13")]:
     for count in counts:
         audits(orders, "SignerCount", signers=f"count:{count}")
@@ -508,20 +640,40 @@ say()
 # Other runs over what was written.
 say("What a run of `check` and a run of `show` say of the chain that a run of `issue` wrote.")
 ask(f"check 1000 {MOMENT} {SERVER} {joined([ROOT, LEAF])}", '0 "trusted calls=2\\n" ""')
-ask(f"check 1000 {MOMENT} {CLIENT} {joined([ROOT, LEAF])}", '1 "refused 1 AgainstPurpose calls=1\\n" ""')
-ask(f"check 1000 {MOMENT} {SERVER} {joined([ROOT, NONE_BELOW, order('CN=n', '04'), LEAF])}", '1 "refused 2 PathTooLong calls=2\\n" ""')
+ask(
+    f"check 1000 {MOMENT} {CLIENT} {joined([ROOT, LEAF])}",
+    '1 "refused 1 AgainstPurpose calls=1\\n" ""',
+)
+ask(
+    f"check 1000 {MOMENT} {SERVER} {joined([ROOT, NONE_BELOW, order('CN=n', '04'), LEAF])}",
+    '1 "refused 2 PathTooLong calls=2\\n" ""',
+)
 HEAD = "not-before 2002-01-01T12:01:00Z\\nnot-after 2030-12-31T08:30:00Z\\n"
-AUTHORITY = "extension 2.5.29.35\\nextension 2.5.29.19 critical\\nextension 2.5.29.15 critical\\nextension 2.5.29.14\\n"
-SUBSCRIBER = "extension 2.5.29.17\\nextension 2.5.29.35\\nextension 2.5.29.37\\nextension 2.5.29.19 critical\\nextension 2.5.29.15 critical\\n"
+
+
+def listed(*extensions):
+    return "".join(f"extension 2.5.29.{it}\\n" for it in extensions)
+
+
+AUTHORITY = listed("35", "19 critical", "15 critical", "14")
+SUBSCRIBER = listed("17", "35", "37", "19 critical", "15 critical")
 three = joined([ROOT, MIDDLE, order("CN=s", "80", dns=["a.example"])])
 root_name = "CN=r,O=o,C=US"
-ask(f"show 0 {three}", f'0 "certificate\\nserial 01\\nissuer {root_name}\\n{HEAD}subject {root_name}\\n{AUTHORITY}" ""')
-ask(f"show 1 {three}", f'0 "certificate\\nserial 03\\nissuer {root_name}\\n{HEAD}subject CN=m,O=o,C=US\\n{AUTHORITY}extension 2.5.29.37\\n" ""')
-ask(f"show 2 {three}", f'0 "certificate\\nserial 00:80\\nissuer CN=m,O=o,C=US\\n{HEAD}subject CN=s\\n{SUBSCRIBER}" ""')
+middle_name = "CN=m,O=o,C=US"
+for place, serial, issuer, subject, shown in [
+    (0, "01", root_name, root_name, AUTHORITY),
+    (1, "03", root_name, middle_name, AUTHORITY + listed("37")),
+    (2, "00:80", middle_name, "CN=s", SUBSCRIBER),
+]:
+    head = f"certificate\\nserial {serial}\\nissuer {issuer}\\n"
+    ask(f"show {place} {three}", f'0 "{head}{HEAD}subject {subject}\\n{shown}" ""')
 say()
 
 # The page of orders, docs/ORDERS.md.
-say("The page of orders (docs/ORDERS.md): the root alone, and with a server's certificate; faulty lines; refused orders.")
+say(
+    "The page of orders (docs/ORDERS.md): the root alone, and with a server's certificate; faulty "
+    "lines; refused orders."
+)
 issues([ROOT])
 issues([ROOT, LEAF])
 for word in ["key", "name", "from", "until", "serial"]:
@@ -563,7 +715,10 @@ refuses([order("CN=r,O=o,C=US", 20 * "80")], 0, "Serial")
 refuses([order("CN=r,O=o,C=US", "01", until="2002")], 0, "Dates")
 refuses([order("CN=r,O=o,C=US", "01", until="2002-01-01T12:00:59Z")], 0, "Dates")
 refuses([ROOT, order("CN=s", "02")], 1, "DnsName")
-say("The file of examples/orders.txt, whose keys OpenSSL made; `openssl x509 -text` reads the same fields of what is written, examples/issued.der.")
+say(
+    "The file of examples/orders.txt, whose keys OpenSSL made; `openssl x509 -text` reads the same "
+    "fields of what is written, examples/issued.der."
+)
 EXAMPLES = pathlib.Path(__file__).parent.parent / "examples"
 EXAMPLE = EXAMPLES.joinpath("orders.txt").read_text()
 ask(f"run {told_hex(EXAMPLE)}", f'0 "{b"".join(chain(orders_in(EXAMPLE))).hex()}" ""')

@@ -1,7 +1,8 @@
 #!/usr/bin/env bash
-# Counts the instructions that one header costs with next to nothing behind it: a NULL in a row of them, a SEQUENCE of one NULL in a row (two
-# headers), a level of explicit tags, and one of SEQUENCEs, each by the difference of two values that differ by such headers alone. Beside it
-# the same with the call of mbedTLS for a header (libmbedtls-dev, bench/README.md).
+# Counts the instructions that one header costs with next to nothing behind it: a NULL in a row of
+# them, a SEQUENCE of one NULL in a row (two headers), a level of explicit tags, and one of
+# SEQUENCEs, each by the difference of two values that differ by such headers alone. Beside it the
+# same with the call of mbedTLS for a header (libmbedtls-dev, bench/README.md).
 . "$(dirname "$0")/program.sh"
 build levels header_levels 'der_core der_core_head'
 gcc -O2 -o "$work/mbedtls" "$top/bench/levels/mbedtls.c" -lmbedcrypto
@@ -17,7 +18,12 @@ printf '\060\002\005\000' >sequences.1
 printf '\060\010\060\006\060\004\060\002\005\000' >sequences.4
 
 # value COMMAND KIND HEADERS: what one value costs, in thousandths
-value() { echo $(($(instructions "$1" "$2" "$3" "$2.$3" 1001) - $(instructions "$1" "$2" "$3" "$2.$3" 1))); }
+value() {
+    local many few
+    many=$(instructions "$1" "$2" "$3" "$2.$3" 1001)
+    few=$(instructions "$1" "$2" "$3" "$2.$3" 1)
+    echo $((many - few))
+}
 # each KIND FEW MANY: what one of its headers costs; of its members each
 each() {
     local command per
@@ -25,7 +31,8 @@ each() {
         "$command" "$1" "$3" "$1.$3" 1 >"$1.read"
         grep -q '^1 values' "$1.read"
         per=$((($(value "$command" "$1" "$3") - $(value "$command" "$1" "$2")) / (100 * ($3 - $2))))
-        printf '%s, %s: %d.%d instructions\n' "$1" "$(basename "$command")" $((per / 10)) $((per % 10))
+        printf '%s, %s: %d.%d instructions\n' \
+            "$1" "$(basename "$command")" $((per / 10)) $((per % 10))
     done
 }
 each row 3 9

@@ -1,21 +1,26 @@
-# What the scripts share that measure a program of their own: a copy of the crates, in which that program is proved and
-# built. To be sourced.
+# What the scripts share that measure a program of their own: a copy of the crates, in which that
+# program is proved and built. To be sourced.
 set -euo pipefail
 top=$(cd "$(dirname "$0")/.." && pwd)
 work=$(mktemp -d)
 trap 'rm -rf "$work"' EXIT
 
-# build FOLDER NAME LIBRARIES: bench/FOLDER as the crate NAME, which stands on these; $program is what is run then. A script may build more than one.
+# build FOLDER NAME LIBRARIES: bench/FOLDER as the crate NAME, which stands on these; $program is
+# what is run then. A script may build more than one.
 build() {
     local crate=$work/crates/$2
     # without what was built of them, which rt finds by itself
-    [ -d "$work/crates" ] || tar -C "$top" -c --exclude='crates/*/out' crates.txt crates | tar -C "$work" -x
+    if [ ! -d "$work/crates" ]; then
+        tar -C "$top" -c --exclude='crates/*/out' crates.txt crates | tar -C "$work" -x
+    fi
     mkdir -p "$crate"/{src,specs}
     touch "$crate/specs/Lib.antt"
     cp "$top/bench/$1/main.rt.txt" "$crate/src/main.rt"
     if [ -d "$top/bench/$1/proofs" ]; then
         cp -r "$top/bench/$1/proofs" "$crate/"
-        for proof in "$crate"/proofs/*.txt "$crate"/proofs/*/*.txt; do mv "$proof" "${proof%.txt}"; done
+        for proof in "$crate"/proofs/*.txt "$crate"/proofs/*/*.txt; do
+            mv "$proof" "${proof%.txt}"
+        done
     fi
     echo "$2: $3" >>"$work/crates.txt"
     git -C "$work" init -q
@@ -25,10 +30,12 @@ build() {
 
 # instructions COMMAND..: how many it runs
 instructions() {
-    valgrind --tool=callgrind --callgrind-out-file=/dev/null "$@" 2>&1 >/dev/null | sed -n 's/.*Collected : //p'
+    valgrind --tool=callgrind --callgrind-out-file=/dev/null "$@" 2>&1 >/dev/null |
+        sed -n 's/.*Collected : //p'
 }
 
-# each NAME COMMAND..: what one of the $count that COMMAND goes over costs, by the difference of 11 rounds and one
+# each NAME COMMAND..: what one of the $count that COMMAND goes over costs, by the difference of 11
+# rounds and one
 each() {
     local name=$1 few many
     shift

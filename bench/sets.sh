@@ -1,6 +1,6 @@
 #!/usr/bin/env bash
-# Counts the instructions that one member costs of a set that is filled with 1,000 and with 10,000 numbers: each below
-# the one before it, or scattered (bench/README.md).
+# Counts the instructions that one member costs of a set that is filled with 1,000 and with 10,000
+# numbers: each below the one before it, or scattered (bench/README.md).
 . "$(dirname "$0")/program.sh"
 build sets filled_sets 'der_types_sets der_core der_core_head'
 
@@ -9,7 +9,8 @@ for order in falling scattered; do
         for members in 1000 10000; do
             once=$(instructions "$program" $call $order $members 1)
             twice=$(instructions "$program" $call $order $members 2)
-            printf '%s, %s, %d members: %d instructions a member\n' $call $order $members $(((twice - once) / members))
+            printf '%s, %s, %d members: %d instructions a member\n' \
+                $call $order $members $(((twice - once) / members))
         done
     done
 done

@@ -1,10 +1,13 @@
 #!/usr/bin/env bash
-# Shows the roots of Debian's ca-certificates with cert_desk_listing and with OpenSSL (libssl-dev), which prints the same parts:
-# instructions, the mean of a certificate, with the reading of it, and without (bench/README.md).
+# Shows the roots of Debian's ca-certificates with cert_desk_listing and with OpenSSL (libssl-dev),
+# which prints the same parts: instructions, the mean of a certificate, with the reading of it, and
+# without (bench/README.md).
 . "$(dirname "$0")/program.sh"
 build show root_listings 'cert_desk_listing x509_cert_lists cert_desk_io der_core'
 
-for root in /usr/share/ca-certificates/mozilla/*.crt; do openssl x509 -in "$root" -outform DER; done >"$work/roots.der"
+for root in /usr/share/ca-certificates/mozilla/*.crt; do
+    openssl x509 -in "$root" -outform DER
+done >"$work/roots.der"
 gcc -O2 -o "$work/openssl" "$top/bench/show/openssl.c" -lcrypto
 count=$("$work/openssl" "$work/roots.der" count)
 

@@ -1,7 +1,8 @@
 #!/usr/bin/env bash
-# What cert_tool costs beside cert_desk, in instructions of whole runs: `describe` and `show` of the roots of ca-certificates, `verify`
-# and `check` of the chain that the examples issue. Both programs have to be built (`out/`).
-# usage: bench/tool.sh
+# What cert_tool costs beside cert_desk, in instructions of whole runs: `describe` and `show` of the
+# roots of ca-certificates, `verify` and `check` of a chain of four that `issue` makes of the orders
+# of examples/ and of one authority more. Both programs have to be built.
+# usage: bench/tool.sh [FOLDER], where FOLDER has both programs; without it they are those of `out/`
 set -euo pipefail
 top=$(cd "$(dirname "$0")/.." && pwd)
 work=$(mktemp -d)
@@ -13,8 +14,11 @@ instructions() {
         sed -n 's/.*Collected : //p'
 }
 
-desk=$top/crates/cert_desk_program/out/cert_desk_program
-tool=$top/crates/cert_tool/out/cert_tool
+# ratio MANY FEW: how many times the first is the second
+ratio() { awk -v many="$1" -v few="$2" 'BEGIN { printf "%.2f", many / few }'; }
+
+desk=${1-$top/crates/cert_desk_program/out}/cert_desk_program
+tool=${1-$top/crates/cert_tool/out}/cert_tool
 described=0 shown=0 count=0
 for file in /usr/share/ca-certificates/mozilla/*.crt; do
     openssl x509 -in "$file" -outform DER -out "$work/root.der"
@@ -22,9 +26,25 @@ for file in /usr/share/ca-certificates/mozilla/*.crt; do
     shown=$((shown + $(instructions "$desk" show certificate "$work/root.der")))
     count=$((count + 1))
 done
-echo "describe: $((described / count)) instructions a root; show: $((shown / count)); $count roots"
-anchors=$top/examples/issued_root.der stream=$top/examples/issued.der
-"$tool" questions "$anchors" "$stream" 4096 >"$work/answers"
-verified=$(instructions "$tool" verify "$anchors" "$stream" 1790000000 serverAuth 4096 "$work/answers")
-checked=$(instructions "$desk" check "$anchors" "$stream" 1790000000 1.3.6.1.5.5.7.3.1 4096)
-echo "verify: $verified instructions; check: $checked"
+echo "describe: $((described / count)) instructions a root, show: $((shown / count));" \
+    "$count roots: $(ratio $described $shown)"
+
+# the second order once more, without its path length
+awk 'BEGIN { RS = ""; ORS = "\n\n" }
+    NR == 2 {
+        more = $0
+        sub(/\npath 0/, "", more)
+        sub(/Intermediate/, "Authority", more)
+        sub(/serial 02/, "serial 03", more)
+        print more
+    }
+    { print }' "$top/examples/orders.txt" >"$work/orders"
+"$desk" issue "$work/orders" >"$work/stream"
+openssl x509 -inform DER -in "$work/stream" -outform DER -out "$work/anchor"
+"$tool" questions "$work/anchor" "$work/stream" 4096 >"$work/answers"
+words=("$work/anchor" "$work/stream" 1790000000)
+"$tool" verify "${words[@]}" serverAuth 4096 "$work/answers"
+"$desk" check "${words[@]}" 1.3.6.1.5.5.7.3.1 4096
+verified=$(instructions "$tool" verify "${words[@]}" serverAuth 4096 "$work/answers")
+checked=$(instructions "$desk" check "${words[@]}" 1.3.6.1.5.5.7.3.1 4096)
+echo "verify: $verified instructions, check: $checked: $(ratio "$verified" "$checked")"

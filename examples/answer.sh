@@ -1,6 +1,7 @@
 #!/usr/bin/env bash
-# Reads the lines of `cert_tool questions` from standard input, asks OpenSSL 3 about each, and writes those whose signature is right:
-# the answers of `cert_tool verify`. RSA (PKCS #1 and PSS), ECDSA, Ed25519 and Ed448.
+# Reads the lines of `cert_tool questions` from standard input, asks OpenSSL 3 about each, and
+# writes those whose signature is right: the answers of `cert_tool verify`. RSA (PKCS #1 and PSS),
+# ECDSA, Ed25519 and Ed448.
 set -euo pipefail
 work=$(mktemp -d)
 trap 'rm -rf "$work"' EXIT
@@ -39,7 +40,8 @@ pss_salt() {
     esac
 }
 
-# is_of KEY IDENTIFIER: whether the key, a SubjectPublicKeyInfo, is of this algorithm; its identifier stands behind two headers
+# is_of KEY IDENTIFIER: whether the key, a SubjectPublicKeyInfo, is of this algorithm; its
+# identifier stands behind two headers
 is_of() {
     case ${1:0:40} in
         *"$2"*) ;;
@@ -67,14 +69,17 @@ is_right() {
         81) algorithm=${2:6} ;;
         82) algorithm=${2:8} ;;
     esac
-    local verify=(openssl pkeyutl -verify -pubin -keyform DER -inkey "$work/key" -sigfile "$work/signature" -rawin -in "$work/signed")
+    local verify=(openssl pkeyutl -verify -pubin -keyform DER -inkey "$work/key" -rawin
+        -sigfile "$work/signature" -in "$work/signed")
     local digest
     case $algorithm in
         06032b6570 | 06032b6571) is_of "$1" "$algorithm" && "${verify[@]}" ;;
         06092a864886f70d01010a*)
             is_of "$1" 06092a864886f70d0101 || return 1
             digest=$(pss_digest "$algorithm")
-            "${verify[@]}" -digest "$digest" -pkeyopt rsa_padding_mode:pss -pkeyopt "rsa_mgf1_md:$digest" -pkeyopt "rsa_pss_saltlen:$(pss_salt "$algorithm")"
+            "${verify[@]}" -digest "$digest" -pkeyopt rsa_padding_mode:pss \
+                -pkeyopt "rsa_mgf1_md:$digest" \
+                -pkeyopt "rsa_pss_saltlen:$(pss_salt "$algorithm")"
             ;;
         *)
             digest=$(digest_of "$algorithm") || return 1

@@ -1,6 +1,7 @@
 #!/usr/bin/env bash
-# Makes a chain of three certificates in the folder FOLDER with OpenSSL 3: an RSA root, an intermediate with a key on P-256, and a
-# server's certificate with two DNS names. Each run makes other keys; the files beside this script are those of one run.
+# Makes a chain of three certificates in the folder FOLDER with OpenSSL 3: an RSA root, an
+# intermediate with a key on P-256, and a server's certificate with two DNS names. Each run makes
+# other keys; the files beside this script are those of one run.
 set -euo pipefail
 folder=${1:?usage: make_chain.sh FOLDER}
 mkdir -p "$folder"
@@ -55,7 +56,8 @@ certify() {
     if [ "$1" = "$3" ]; then
         by=(-selfsign -keyfile "$work/$3.key")
     fi
-    openssl ca -batch -notext -config "$work/ca.cnf" -extensions "$1" "${dates[@]}" "${by[@]}" -in "$work/$1.csr" -out "$work/$1.pem"
+    openssl ca -batch -notext -config "$work/ca.cnf" -extensions "$1" "${dates[@]}" "${by[@]}" \
+        -in "$work/$1.csr" -out "$work/$1.pem"
     openssl x509 -in "$work/$1.pem" -outform DER -out "$1.der"
 }
 

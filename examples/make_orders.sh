@@ -1,11 +1,13 @@
 #!/bin/sh
-# Makes the orders file beside this script: a root, an authority below it and a server, with keys on P-256 that OpenSSL made. The private
-# keys are thrown away: `cert_desk issue` signs with a stand-in, which needs none.
+# Makes the orders file beside this script: a root, an authority below it and a server, with keys on
+# P-256 that OpenSSL made. The private keys are thrown away: `cert_desk issue` signs with a
+# stand-in, which needs none.
 set -eu
 cd "$(dirname "$0")"
 
 key() {
-    openssl ecparam -name prime256v1 -genkey -noout | openssl pkey -pubout -outform DER | od -An -v -tx1 | tr -d ' \n'
+    openssl ecparam -name prime256v1 -genkey -noout | openssl pkey -pubout -outform DER |
+        od -An -v -tx1 | tr -d ' \n'
 }
 
 {

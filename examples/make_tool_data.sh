@@ -1,6 +1,6 @@
 #!/usr/bin/env bash
-# Makes the files of crates/tool_rows/data with OpenSSL 3 and the octets of the examples. Each run makes other keys; the files there are
-# those of one run.
+# Makes the files of crates/tool_rows/data with OpenSSL 3 and the octets of the examples. Each run
+# makes other keys; the files there are those of one run.
 # usage: make_tool_data.sh CERT_TOOL FOLDER, where CERT_TOOL is the program
 set -euo pipefail
 tool=$(realpath "${1:?usage: make_tool_data.sh CERT_TOOL FOLDER}")
@@ -15,7 +15,8 @@ python3 - "$here/../docs/REFUSALS.md" <<'PY'
 import re, sys
 page = open(sys.argv[1]).read()
 streams = re.findall(r"\*\*`(\w+)`\*\*.*?```text\n(.*?)```", page, re.S)
-streams += [(name, octets) for octets, name in re.findall(r"^\| `([0-9a-f]+)` \|.*?`fault 0 0 (\w+)` \|", page, re.M)]
+row = re.compile(r"^\| `([0-9a-f]+)` \|.*?`fault 0 0 (\w+)` \|", re.M)
+streams += [(name, octets) for octets, name in row.findall(page)]
 for name, octets in streams:
     open(f"{name}.der", "wb").write(bytes.fromhex("".join(octets.split())))
 PY
@@ -48,13 +49,15 @@ open("leaf_first.der", "wb").write(octets[698:] + octets[:698])
 open("pem.txt", "wb").write(b"-----BEGIN CERTIFICATE-----\n")
 # the second word of the second line is no number
 lines = open("answers.txt").read().split("\n")
-open("bad_answers.txt", "w").write("# two\n\n" + lines[0] + "\n" + lines[1].replace(" - ", " x ", 1) + "\n")
+bad = lines[1].replace(" - ", " x ", 1)
+open("bad_answers.txt", "w").write(f"# two\n\n{lines[0]}\n{bad}\n")
 open("none.txt", "w").write("")
 # the same answers otherwise written
 open("spelled.txt", "w").write("# place 1, place 0\n\n" + lines[1].upper() + "\n00" + lines[0])
 # the root's answer under the key of the intermediate
 words = lines[0].split(" ")
-open("other_key.txt", "w").write(" ".join(words[:2] + lines[1].split(" ")[2:3] + words[3:]) + "\n" + lines[1] + "\n")
+other = " ".join(words[:2] + lines[1].split(" ")[2:3] + words[3:])
+open("other_key.txt", "w").write(f"{other}\n{lines[1]}\n")
 PY
 
 cat > "$work/extensions.cnf" <<'CNF'
@@ -86,12 +89,15 @@ subjectAltName = DNS:unwise.example, DNS:https://unwise.example/
 basicConstraints = critical, CA:false
 keyUsage = critical, digitalSignature, keyEncipherment
 extendedKeyUsage = serverAuth, clientAuth, 1.3.6.1.4.1.32473.9
-subjectAltName = DNS:full.example, email:a@full.example, URI:https://full.example/, IP:192.0.2.1, IP:2001:db8::1, dirName:named, otherName:1.3.6.1.4.1.32473.3;UTF8:other, RID:1.3.6.1.4.1.32473.4
+subjectAltName = DNS:full.example, email:a@full.example, URI:https://full.example/, \
+    IP:192.0.2.1, IP:2001:db8::1, dirName:named, otherName:1.3.6.1.4.1.32473.3;UTF8:other, \
+    RID:1.3.6.1.4.1.32473.4
 subjectKeyIdentifier = hash
 authorityKeyIdentifier = keyid:always, issuer:always
 certificatePolicies = 1.3.6.1.4.1.32473.5, @policy
 crlDistributionPoints = URI:http://full.example/list.crl
-authorityInfoAccess = OCSP;URI:http://full.example/ocsp, caIssuers;URI:http://full.example/issuer.cer
+authorityInfoAccess = OCSP;URI:http://full.example/ocsp, \
+    caIssuers;URI:http://full.example/issuer.cer
 nsComment = "an extension that is not known here"
 [policy]
 policyIdentifier = 1.3.6.1.4.1.32473.6
@@ -101,16 +107,18 @@ C = US
 O = Desk Example
 CNF
 
-# certify NAME ISSUER EXTENSIONS [COMMON]: a certificate of a new key on P-256, whose common name is NAME or COMMON. `days` and `serial`
-# say how long it is valid, and its serial number.
+# certify NAME ISSUER EXTENSIONS [COMMON]: a certificate of a new key on P-256, whose common name is
+# NAME or COMMON. `days` and `serial` say how long it is valid, and its serial number.
 certify() {
     openssl genpkey -algorithm EC -pkeyopt ec_paramgen_curve:P-256 -out "$work/$1.key" 2> /dev/null
-    openssl req -new -key "$work/$1.key" -subj "/O=Desk Example/CN=${4:-$1}" -out "$work/$1.csr" 2> /dev/null
+    openssl req -new -key "$work/$1.key" -subj "/O=Desk Example/CN=${4:-$1}" \
+        -out "$work/$1.csr" 2> /dev/null
     local by=(-CA "$work/$2.pem" -CAkey "$work/$2.key")
     if [ "$1" = "$2" ]; then
         by=(-signkey "$work/$1.key")
     fi
-    openssl x509 -req -in "$work/$1.csr" "${by[@]}" -set_serial "${serial:-0x1F}" -days "${days:-3650}" -sha256 \
+    openssl x509 -req -in "$work/$1.csr" "${by[@]}" -sha256 \
+        -set_serial "${serial:-0x1F}" -days "${days:-3650}" \
         -extfile "$work/extensions.cnf" -extensions "$3" -out "$work/$1.pem" 2> /dev/null
     openssl x509 -in "$work/$1.pem" -outform DER -out "$work/$1.der"
 }
@@ -135,14 +143,16 @@ cp "$work"/{anchor,full,long_serial,zero,negative}.der .
 cat "$work/short.der" "$work/middle.der" "$work/leaf.der" > long.der
 cat "$work/plain.der" "$work/below.der" > plain.der
 cat "$work/constrained.der" "$work/inside.der" > constrained.der
-# OpenSSL makes no certificate with two extensions of one kind: the issuer's names become others of the subject, signed anew
+# OpenSSL makes no certificate with two extensions of one kind: the issuer's names become others of
+# the subject, signed anew
 python3 - "$work" <<'PY'
 import subprocess, sys
 work = sys.argv[1]
 def value(tag, content):
     size = len(content)
     octets = b"" if size < 0x80 else size.to_bytes((size.bit_length() + 7) // 8, "big")
-    return bytes([tag, 0x80 + len(octets)]) + octets + content if octets else bytes([tag, size]) + content
+    header = bytes([tag, 0x80 + len(octets)]) + octets if octets else bytes([tag, size])
+    return header + content
 def end(octets, start):
     size, head = octets[start + 1], 2
     if size >= 0x80:
@@ -154,7 +164,8 @@ start, _ = end(octets, 0)
 _, signed_end = end(octets, start)
 _, algorithm_end = end(octets, signed_end)
 signed = octets[start:signed_end].replace(bytes.fromhex("0603551d12"), bytes.fromhex("0603551d11"))
-signature = subprocess.run(["openssl", "dgst", "-sha256", "-sign", f"{work}/first.key"], input=signed, capture_output=True, check=True).stdout
+command = ["openssl", "dgst", "-sha256", "-sign", f"{work}/first.key"]
+signature = subprocess.run(command, input=signed, capture_output=True, check=True).stdout
 twice = value(0x30, signed + octets[signed_end:algorithm_end] + value(0x03, b"\0" + signature))
 open(f"{work}/twice.der", "wb").write(twice)
 PY
@@ -180,9 +191,11 @@ crl_extensions = list
 authorityKeyIdentifier = keyid:always
 CNF
 printf 'R\t360101000000Z\t260201000000Z,keyCompromise\t2A\tunknown\t/CN=gone\n' > "$work/index.txt"
-openssl ca -gencrl -config "$work/list.cnf" -cert "$work/anchor.pem" -keyfile "$work/anchor.key" -out "$work/list.pem" 2> /dev/null
+openssl ca -gencrl -config "$work/list.cnf" -cert "$work/anchor.pem" -keyfile "$work/anchor.key" \
+    -out "$work/list.pem" 2> /dev/null
 openssl crl -in "$work/list.pem" -outform DER -out list.der
-openssl req -new -key "$work/full.key" -subj "/CN=wanted" -addext "subjectAltName = DNS:wanted.example" -outform DER -out request.der 2> /dev/null
+openssl req -new -key "$work/full.key" -subj "/CN=wanted" -outform DER -out request.der \
+    -addext "subjectAltName = DNS:wanted.example" 2> /dev/null
 
 # the answers of OpenSSL on each of the other chains
 for name in long plain constrained twice unwise; do

@@ -1,6 +1,7 @@
 #!/usr/bin/env bash
-# Has OpenSSL 3 read what crates/build_certificates and crates/builder_rows build, and compares the fields with those that were asked
-# for: run `rt run` in the first, and `rt run < stdin` in the second, before. It is no part of the gate.
+# Has OpenSSL 3 read what crates/build_certificates and crates/builder_rows build, and compares the
+# fields with those that were asked for: run `rt run` in the first, and `rt run < stdin` in the
+# second, before. It is no part of the gate.
 set -euo pipefail
 top=$(cd "$(dirname "$0")/.." && pwd)
 faults=0
@@ -20,29 +21,38 @@ asked() {
 }
 
 mapfile -t lines < <("$top/crates/build_certificates/out/build_certificates")
-asked root "$(text "${lines[0]}")" 'Version: 3' 'Serial Number: 1 ' 'Issuer: CN=Example Root,O=Example,C=US' \
-    'Subject: CN=Example Root,O=Example,C=US' 'Not Before: Jan  1 00:00:00 2026 GMT' 'Not After : Jan  1 00:00:00 2036 GMT' \
-    'CA:TRUE' 'Certificate Sign, CRL Sign' 'Authority Key Identifier' 'Subject Key Identifier' 'NIST CURVE: P-256'
-asked authority "$(text "${lines[1]}")" 'Serial Number: 2 ' 'Issuer: CN=Example Root,O=Example,C=US' \
-    'Subject: CN=Example Authority,O=Example,C=US' 'CA:TRUE, pathlen:0' 'Certificate Sign, CRL Sign' \
+asked root "$(text "${lines[0]}")" 'Version: 3' 'Serial Number: 1 ' \
+    'Issuer: CN=Example Root,O=Example,C=US' 'Subject: CN=Example Root,O=Example,C=US' \
+    'Not Before: Jan  1 00:00:00 2026 GMT' 'Not After : Jan  1 00:00:00 2036 GMT' 'CA:TRUE' \
+    'Certificate Sign, CRL Sign' 'Authority Key Identifier' 'Subject Key Identifier' \
+    'NIST CURVE: P-256'
+asked authority "$(text "${lines[1]}")" 'Serial Number: 2 ' \
+    'Issuer: CN=Example Root,O=Example,C=US' 'Subject: CN=Example Authority,O=Example,C=US' \
+    'CA:TRUE, pathlen:0' 'Certificate Sign, CRL Sign' \
     'TLS Web Server Authentication, TLS Web Client Authentication'
-asked server "$(text "${lines[2]}")" 'Serial Number: 3 ' 'Issuer: CN=Example Authority,O=Example,C=US' 'Subject: CN=server.example' \
+asked server "$(text "${lines[2]}")" 'Serial Number: 3 ' \
+    'Issuer: CN=Example Authority,O=Example,C=US' 'Subject: CN=server.example' \
     'DNS:server.example' 'CA:FALSE' 'Digital Signature' 'TLS Web Server Authentication'
-asked list "$(text_of crl "${lines[3]}")" 'Version 2' 'Issuer: CN=Example Authority,O=Example,C=US' 'Last Update: Feb  1 00:00:00 2026 GMT' \
-    'Next Update: Mar  1 00:00:00 2026 GMT' 'X509v3 CRL Number' 'X509v3 Authority Key Identifier' 'Serial Number: 03' \
+asked list "$(text_of crl "${lines[3]}")" 'Version 2' \
+    'Issuer: CN=Example Authority,O=Example,C=US' 'Last Update: Feb  1 00:00:00 2026 GMT' \
+    'Next Update: Mar  1 00:00:00 2026 GMT' 'X509v3 CRL Number' \
+    'X509v3 Authority Key Identifier' 'Serial Number: 03' \
     'Revocation Date: Jan 15 12:00:00 2026 GMT'
-asked request "$(text_of req "${lines[4]}")" 'Version: 1 (0x0)' 'Subject: CN=server.example' 'NIST CURVE: P-256' 'Requested Extensions' \
-    'DNS:server.example'
-asked answer "$(text "${lines[5]}")" 'Serial Number: 4 ' 'Issuer: CN=Example Authority,O=Example,C=US' \
-    'Subject: CN=server.example' 'DNS:server.example' 'CA:FALSE' 'Digital Signature' 'NIST CURVE: P-256'
+asked request "$(text_of req "${lines[4]}")" 'Version: 1 (0x0)' 'Subject: CN=server.example' \
+    'NIST CURVE: P-256' 'Requested Extensions' 'DNS:server.example'
+asked answer "$(text "${lines[5]}")" 'Serial Number: 4 ' \
+    'Issuer: CN=Example Authority,O=Example,C=US' 'Subject: CN=server.example' \
+    'DNS:server.example' 'CA:FALSE' 'Digital Signature' 'NIST CURVE: P-256'
 
 # built WORDS: the certificate that builder_rows builds of the first question that begins so
 built() {
     local rows=$top/crates/builder_rows
     grep -m 1 "^whole $1" "$rows/stdin" | "$rows/out/builder_rows" | sed -n 's/^ok //p'
 }
-asked 'module' "$(text "$(built 'module - 2.0')")" 'Issuer: CN=m' 'serialNumber=7' 'Digital Signature' 'X509v3 Subject Alternative Name' 'othername'
-asked 'subordinate' "$(text "$(built 'subordinate o 1')")" 'CA:TRUE, pathlen:1' 'Digital Signature, Certificate Sign, CRL Sign'
+asked 'module' "$(text "$(built 'module - 2.0')")" 'Issuer: CN=m' 'serialNumber=7' \
+    'Digital Signature' 'X509v3 Subject Alternative Name' 'othername'
+asked 'subordinate' "$(text "$(built 'subordinate o 1')")" 'CA:TRUE, pathlen:1' \
+    'Digital Signature, Certificate Sign, CRL Sign'
 asked 'subscriber' "$(text "$(built 'subscriber - domain')")" 'CA:FALSE' 'DNS:s.example'
 
 # whole WORD PLACE: what it builds of the question of this place that begins so
@@ -50,6 +60,8 @@ whole() {
     local rows=$top/crates/builder_rows
     grep "^$1 whole" "$rows/stdin" | sed -n "$2p" | "$rows/out/builder_rows" | sed -n 's/^ok //p'
 }
-asked 'list of two' "$(text_of crl "$(whole list 2)")" 'Issuer: CN=r,O=o,C=US' 'Serial Number: 05' 'Serial Number: 01' 'X509v3 CRL Reason Code'
-asked 'request with passwords' "$(text_of req "$(whole request 3)")" 'Subject: C=US' 'challengePassword' 'CA:TRUE'
+asked 'list of two' "$(text_of crl "$(whole list 2)")" 'Issuer: CN=r,O=o,C=US' \
+    'Serial Number: 05' 'Serial Number: 01' 'X509v3 CRL Reason Code'
+asked 'request with passwords' "$(text_of req "$(whole request 3)")" 'Subject: C=US' \
+    'challengePassword' 'CA:TRUE'
 exit "$((faults > 0))"

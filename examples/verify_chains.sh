@@ -1,7 +1,8 @@
 #!/usr/bin/env bash
-# Makes ten chains of four with OpenSSL 3, judges each by the answers of OpenSSL, and again with one octet of a signature changed.
-# usage: verify_chains.sh CERT_TOOL, where CERT_TOOL is the program. Prints a line for each; the status is 0 where all are as they
-# should be.
+# Makes ten chains of four with OpenSSL 3, judges each by the answers of OpenSSL, and again with one
+# octet of a signature changed.
+# usage: verify_chains.sh CERT_TOOL, where CERT_TOOL is the program
+# It prints a line for each; the status is 0 where all are as they should be.
 set -euo pipefail
 tool=$(realpath "${1:?usage: verify_chains.sh CERT_TOOL}")
 here=$(dirname "$(realpath "$0")")
@@ -51,7 +52,8 @@ chain() {
     for place in 0 1 2 3; do
         eval "kind=\${$((place + 1))}"
         new_key "$kind" "$place.key"
-        openssl req -new -key "$place.key" -subj "/CN=${names[place]} $number" -out "$place.csr" 2> /dev/null
+        openssl req -new -key "$place.key" -subj "/CN=${names[place]} $number" \
+            -out "$place.csr" 2> /dev/null
         local extensions=authority by=(-CA "$before.pem" -CAkey "$before.key")
         [ $place = 3 ] && extensions=server
         if [ $place = 0 ]; then
@@ -59,7 +61,8 @@ chain() {
             issuer_kind=$kind
         fi
         # shellcheck disable=SC2046
-        openssl x509 -req -in "$place.csr" "${by[@]}" -set_serial "0x10$place" -days 365 -extfile extensions.cnf -extensions $extensions \
+        openssl x509 -req -in "$place.csr" "${by[@]}" -set_serial "0x10$place" -days 365 \
+            -extfile extensions.cnf -extensions $extensions \
             $(signs "$issuer_kind") -out "$place.pem" 2> /dev/null
         openssl x509 -in "$place.pem" -outform DER -out "$place.der"
         [ $place != 0 ] && cat "$place.der" >> "stream$number.der"
@@ -98,7 +101,8 @@ octets = bytearray(open(sys.argv[1], "rb").read())
 octets[-1] ^= 1
 open(sys.argv[2], "wb").write(octets)
 PY
-    expect "$kinds, forged" "$(judge "anchors$number.der" forged.der)" "refused 2 WrongSignature calls=3"
+    expect "$kinds, forged" "$(judge "anchors$number.der" forged.der)" \
+        "refused 2 WrongSignature calls=3"
 done <<'KINDS'
 rsa rsa rsa rsa
 rsa p256 p256 p256

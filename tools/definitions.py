@@ -3,7 +3,7 @@
 
     tools/definitions.py            writes docs/DEFINITIONS.md from the sources
     tools/definitions.py --check    writes nothing; its status is 1 where that page is out of date
-    tools/definitions.py CALL..     what the contract of a call rests on: each definition with its place
+    tools/definitions.py CALL..     each definition that the contract of a call rests on
 
 A CALL is a function (`check`), or one of a type (`Issued::audit`).
 """
@@ -42,6 +42,8 @@ HEAD = """\
 
 Written by `tools/definitions.py` from the sources; change those, and run it again.
 
+CONTENTS
+
 A proof says that a function meets its contract. What the contract means is said by the definitions
 that it cites, so these have to be read and judged, and nothing else of a proof. They stand in
 `crates/CRATE/specs/`. For one call, the script prints each definition that its contract rests on,
@@ -56,7 +58,8 @@ plain value, which stand in the `impl` of the type and cite the grammar of its c
 
 Lines are those of the file. *Cited by* are calls whose contracts name a definition of the file, and
 types that state something by it (`ghost` members of an `impl`); *through* are files of definitions
-that rest on it, where no public contract names it. *Standard* is what the comments of the file name.
+that rest on it, where no public contract names it. *Standard* is what the comments of the file
+name.
 """
 
 
@@ -100,14 +103,23 @@ def page():
             for key in call.cites:
                 cited[key[:2]].append(call)
     for (crate, _), calls in cited.items():
-        calls.sort(key=lambda c: (c.path == "laws.rt", c.crate != crate, c.name.startswith("ghost ")))
+        calls.sort(
+            key=lambda c: (c.path == "laws.rt", c.crate != crate, c.name.startswith("ghost "))
+        )
     named = set(cited)
     for file in files.values():
         for definition in file.definitions.values():
             for key in definition.cites:
                 if key[:2] != (file.crate, file.name):
                     behind[key[:2]].add((file.crate, file.name))
-    lines = [HEAD, "## What to read for which claim", ""]
+    by_crate = {file.crate for file in files.values()}
+    order = [crate for crate in sources.closure(sources.dependencies()) if crate in by_crate]
+    links = [f"[`{crate}`](#{crate})" for crate in order]
+    contents = ["- [What to read for which claim](#what-to-read-for-which-claim)"]
+    contents += [f"- By crate: {', '.join(links)}"]
+    heading = "Proofs that stand among the definitions"
+    contents += [f"- [{heading}](#{heading.lower().replace(' ', '-')})"]
+    lines = [HEAD.replace("CONTENTS", "\n".join(contents)), "## What to read for which claim", ""]
     lines += ["| Claim | Call | Definitions | Lines | Files |", "|---|---|---|---|---|"]
     for words, crate, name in CLAIMS:
         keys = set()
@@ -121,8 +133,10 @@ def page():
             places.setdefault(definition.crate, set()).add(definition.file)
         where = "; ".join(f"{c}: {len(f)}" for c, f in places.items())
         size = sum(d.lines for d in kept)
-        lines.append(f"| {words} | `{name.split()[0]}` (`{crate}`) | {len(kept)} | {size} | {where} |")
-    lines += ["", "Files are counted by crate. Those of one crate stand on those of the crates below it.", ""]
+        call = f"`{name.split()[0]}` (`{crate}`)"
+        lines.append(f"| {words} | {call} | {len(kept)} | {size} | {where} |")
+    counted = "Files are counted by crate; those of one crate stand on those of crates below it."
+    lines += ["", counted, ""]
     for crate in sources.closure(sources.dependencies()):
         own = [file for file in files.values() if file.crate == crate]
         here = [f for f in own if any(d.sort != "proof" for d in f.definitions.values())]
@@ -139,7 +153,9 @@ def page():
             kept = [d for d in file.definitions.values() if d.sort != "proof"]
             by = shown(label(c, crate) for c in cited[(crate, file.name)])
             if not by:
-                through = sorted(behind[(crate, file.name)], key=lambda f: (f not in named, f[0] != crate, f))
+                through = sorted(
+                    behind[(crate, file.name)], key=lambda f: (f not in named, f[0] != crate, f)
+                )
                 names = (n if c == crate else f"{c}: {n}" for c, n in through)
                 by = f"through {shown(names)}" if through else "proofs alone, or private calls"
             link = f"[`{file.name}`](../crates/{crate}/specs/{file.name}.antt)"
@@ -152,11 +168,24 @@ def page():
             lines += ["", f"Passed on from the crates below: {names}."]
         lines.append("")
     proofs = [d for f in files.values() for d in f.definitions.values() if d.sort == "proof"]
-    lines += ["## Proofs that stand among the definitions", ""]
-    lines += [f"{len(proofs)} of them. Nothing has to be read of these; they belong in `proofs/`.", ""]
+    lines += [f"## {heading}", ""]
+    ghosts = [call for call in calls_of(code) if call.name.startswith("ghost ")]
+    direct = set().union(*(call.cites for call in ghosts))
+    behind_them = sources.reached(files, direct)
+    counted = sum(proof.key in direct for proof in proofs)
+    serving = sum(proof.key in behind_them for proof in proofs) - counted
+    told = (
+        f"{len(proofs)} of them. Nothing has to be read of these. An `impl` names {counted} in "
+        "its ghost members, as that an order is total, and such a member can't import from "
+        f"`proofs/` of its own crate; {serving} serve these; each other one is marked `*`, and "
+        "belongs there."
+    )
+    lines += [told, ""]
     places = collections.OrderedDict()
     for proof in proofs:
-        places.setdefault((proof.crate, proof.file), []).append(f"`{proof.name}` ({proof.line})")
+        mark = "" if proof.key in behind_them else "*"
+        name = f"`{proof.name}`{mark} ({proof.line})"
+        places.setdefault((proof.crate, proof.file), []).append(name)
     for (crate, name), names in places.items():
         lines.append(f"- `{crate}/specs/{name}`: " + ", ".join(names) + ".")
     return wrap.wrapped("\n".join(lines).rstrip() + "\n")

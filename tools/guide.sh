@@ -1,5 +1,6 @@
 #!/usr/bin/env bash
-# Runs the programs of the guide that stand in tools/guide/, each as a crate of its own, before any proof.
+# Runs the programs of the guide that stand in tools/guide/, each as a crate of its own, before any
+# proof.
 #   tools/guide.sh [NAME..]     NAME: parts, lists, judge (all three)
 # It prints what differs from what the guide says, and its status is 1 then.
 set -euo pipefail
@@ -18,7 +19,8 @@ answers() {
     local name=$1 crates=$2 input=$3
     mkdir -p "$work/top/crates/guide_$name/src"
     cp "$top/tools/guide/$name.rt.txt" "$work/top/crates/guide_$name/src/main.rt"
-    grep -q "^guide_$name:" "$work/top/crates.txt" || echo "guide_$name: $crates" >>"$work/top/crates.txt"
+    grep -q "^guide_$name:" "$work/top/crates.txt" ||
+        echo "guide_$name: $crates" >>"$work/top/crates.txt"
     (cd "$work/top/crates/guide_$name" && rt try <"$input" 2>"$work/errors")
 }
 
@@ -26,11 +28,9 @@ for name; do
     case $name in
         parts) crates='x509_cert der_core' input=$top/examples/server.der ;;
         lists) crates='x509_cert der_core const_oid' input=$work/request.der
-            openssl req -new -newkey rsa:2048 -nodes -keyout /dev/null -subj /CN=r -addext subjectAltName=DNS:a.example \
-                -outform DER -out "$input" 2>"$work/log" ;;
-        judge) crates='cert_desk x509_cert der_core const_oid' input=$work/anchor.der
-            printf '30403036020101300306012a3000301e170d3032303130313132303130305a170d3330313233313038333030305a30003008300306012a030100300306012a030100' |
-                python3 -c 'import sys; sys.stdout.buffer.write(bytes.fromhex(sys.stdin.read()))' >"$input" ;;
+            openssl req -new -newkey rsa:2048 -nodes -keyout /dev/null -subj /CN=r \
+                -addext subjectAltName=DNS:a.example -outform DER -out "$input" 2>"$work/log" ;;
+        judge) crates='cert_desk x509_cert der_core const_oid' input=$top/tools/guide/judge.der ;;
         *) echo "no program $name" >&2; exit 2 ;;
     esac
     answers "$name" "$crates" "$input" >"$work/got" || true

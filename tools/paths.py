@@ -1,5 +1,6 @@
 #!/usr/bin/env python3
-"""How many paths of crates.txt lead to a crate, itself included: `rt` reads its sources once for each.
+"""How many paths of crates.txt lead to a crate, itself included: `rt` reads its sources once for
+each.
 
     tools/paths.py [CRATE..]        of these crates; with no name of all, the most first
 """

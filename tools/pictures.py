@@ -56,7 +56,7 @@ def line(x, y, to_x, to_y, style='stroke="#999"'):
 
 
 def crates():
-    """A box a crate, each above all that it stands on; a line to those that no other one stands for.
+    """A box a crate, above all that it stands on; a line to those that no other one stands for.
 
     Programs of rows and crates of tests are left out.
     """
@@ -68,12 +68,12 @@ def crates():
         level[name] = 1 + max((level[d] for d in below[name]), default=-1)
     reach = {}
     for name in sources.closure(named, named):
-        reach[name] = set(below[name]).union(*(reach[d] for d in below[name])) if below[name] else set()
+        reach[name] = set(below[name]).union(*(reach[d] for d in below[name]))
     direct = {
         name: [d for d in libs if not any(d in reach[other] for other in libs)]
         for name, libs in below.items()
     }
-    # What nothing stands on is drawn just above what it stands on, and what stands on nothing just below.
+    # What stands on nothing is drawn just below what stands on it.
     for name in named:
         above = [other for other in named if name in direct[other]]
         if not below[name] and above:
@@ -159,7 +159,8 @@ def main(words):
         path = FOLDER / name
         if words == ["--check"]:
             if not path.exists() or path.read_text() != text:
-                print(f"docs/pictures/{name} is out of date: run tools/pictures.py", file=sys.stderr)
+                told = f"docs/pictures/{name} is out of date: run tools/pictures.py"
+                print(told, file=sys.stderr)
                 status = 1
         else:
             path.write_text(text)

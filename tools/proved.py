@@ -2,8 +2,8 @@
 """Compares the tables of docs/PROVED.md with the sources.
 
     tools/proved.py         each call of a row has to be a public function of the file that the row
-                            names, and each clause one of these functions; laws that are named have to
-                            be there. It prints what isn't, and its status is 1 then.
+                            names, and each clause one of these functions; laws that are named
+                            have to be there. It prints what isn't, and its status is 1 then.
     tools/proved.py --rest  the public calls with named clauses that no row names, by crate
 """
 

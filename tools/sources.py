@@ -17,7 +17,8 @@ SIGNATURE = re.compile(
 )
 USE = re.compile(r"use Rattle\.([a-z0-9_]+)\.specs\.([A-Za-z0-9_.]+)")
 STANDARD = r"X\.\d{3}|RFC \d{4}|IEEE 802\.1AR|CA/Browser Forum, Baseline Requirements"
-SECTION = re.compile(rf"({STANDARD})((?:,? (?:and |to )?\d+(?:\.\d+)*(?: \([a-z]+\)(?: \(\d\))?)?)*)")
+PART = r"\d+(?:\.\d+)*(?: \([a-z]+\)(?: \(\d\))?)?"
+SECTION = re.compile(rf"({STANDARD})((?:,? (?:and |to )?{PART})*)")
 BARE = re.compile(r"\((\d+(?:\.\d+)+(?:, \d+(?:\.\d+)+)*)\)")
 
 
@@ -275,12 +276,13 @@ class Source:
         above = at - 1
         while above >= 0 and self.lines[above].strip().startswith(("///", "#[")):
             above -= 1
-        docs = [l.strip()[3:].strip() for l in self.lines[above + 1 : at] if l.strip().startswith("///")]
+        before = [line.strip() for line in self.lines[above + 1 : at]]
+        docs = [line[3:].strip() for line in before if line.startswith("///")]
         call.doc = docs[0] if docs else ""
         depth = 0
         while at < len(self.lines):
             line = self.lines[at]
-            clause = re.match(r"^\s+(requires|ensures)\b ?(\w*)", line)
+            clause = re.match(r"^\s+(requires|ensures)\b\*? ?(\w*)", line)
             if line in (indent + "{", indent + "{}"):
                 break
             call.text += line + "\n"
@@ -305,7 +307,7 @@ def specs():
 
 
 def sources():
-    """All files of code; a call is public where the root file of its crate passes on it, or its type."""
+    """All files of code; a call is public where the root of its crate passes on it, or its type."""
     found = [Source(path) for path in sorted(CRATES.glob("*/src/**/*.rt"))]
     roots = {}
     for source in found:
@@ -315,7 +317,8 @@ def sources():
             text = root.read_text()
             modules = set(re.findall(r"^pub mod (\w+);", text, re.M))
             for path in (folder / f"{module}.rt" for module in modules):
-                text += "".join(re.findall(r"^pub use .*?;", path.read_text(), re.S | re.M)) if path.exists() else ""
+                if path.exists():
+                    text += "".join(re.findall(r"^pub use .*?;", path.read_text(), re.S | re.M))
             roots[source.crate] = (set(re.findall(r"\w+", text)), modules)
         words, modules = roots[source.crate]
         for call in source.calls:

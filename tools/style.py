@@ -1,12 +1,15 @@
 #!/usr/bin/env python3
 """Lines with more than 100 columns, and comments that don't stand alone, by crate and kind.
 
-    tools/style.py                      how many, by crate: clauses, other code, definitions, proofs, comments
+    tools/style.py                      how many, by crate: clauses, other code, definitions,
+                                        proofs, comments
     tools/style.py --lines [CRATE..]    where the long lines stand
-    tools/style.py --comments [CRATE..] where a comment begins with a word that needs another one (`The same`, `It`)
+    tools/style.py --comments [CRATE..] where a comment begins with a word that needs another one
+                                        (`The same`, `It`)
 
-Lines that import names (`use`) are laid out by `rt fmt`, and aren't counted. Such a word behind another
-sentence of one comment is fine, and isn't counted.
+Imports (`use`) and attributes (`#[tactic(..)]`) are put on one line by `rt fmt`, rows of tables
+can't be broken, and none of these is counted. Such a word behind another sentence of one comment is
+fine, and isn't counted.
 """
 
 import re
@@ -18,6 +21,7 @@ WIDTH = 100
 KINDS = ("clauses", "code", "definitions", "proofs", "comments")
 LEANING = re.compile(r"^\s*(///|//|--) (The same|It|Its|They|Likewise|As above|So does)\b")
 COMMENT = re.compile(r"^\s*(///|//|--)")
+KEPT = re.compile(r"\s*((ghost |pub |unfoldable |abbrev )*use |#!?\[|//[/!]? \|)")
 
 
 def kind_of(path, line, in_clause):
@@ -42,7 +46,7 @@ def long_lines(crate):
             if in_clause:
                 depth += line.count("{") - line.count("}")
                 in_clause = depth > 0
-            if len(line) > WIDTH and not re.match(r"\s*(ghost |pub |unfoldable |abbrev )*use ", line):
+            if len(line) > WIDTH and not KEPT.match(line):
                 yield path, number, kind_of(path, line, inside)
 
 
@@ -57,7 +61,8 @@ def leaning(crate):
 
 def main(words):
     flags = {word for word in words if word.startswith("--")}
-    crates = [word for word in words if word not in flags] or sources.closure(sources.dependencies())
+    crates = [word for word in words if word not in flags]
+    crates = crates or sources.closure(sources.dependencies())
     if flags:
         for crate in crates:
             for path, number, kind in long_lines(crate) if "--lines" in flags else leaning(crate):

@@ -2,12 +2,12 @@
 """Copies crates of this repository, with all that they stand on, into another one.
 
     tools/take.py CRATE.. FOLDER            copies them into FOLDER/crates, and adds their lines to
-                                            FOLDER/crates.txt; a crate that is there is left as it is
+                                            FOLDER/crates.txt; a crate that is there is left
     tools/take.py --again CRATE.. FOLDER    exchanges those that are there, too
     tools/take.py --list CRATE..            prints the lines of crates.txt alone
 
-Of a crate it takes src/, specs/ and proofs/; with --edits must-fail/ too, which `rt ci` tries there. It
-writes into FOLDER/TAKEN.md which version was taken. It needs nothing but Python.
+Of a crate it takes src/, specs/ and proofs/; with --edits must-fail/ too, which `rt ci` tries
+there. It writes into FOLDER/TAKEN.md which version was taken. It needs nothing but Python.
 """
 
 import pathlib
@@ -40,7 +40,8 @@ def take(names, folder, again, edits):
     (folder / "crates").mkdir(parents=True, exist_ok=True)
     listing = folder / "crates.txt"
     text = listing.read_text() if listing.exists() else ""
-    there = {line.split(":")[0].split()[0] for line in text.splitlines() if ":" in line.split("#")[0]}
+    listed = [line for line in text.splitlines() if ":" in line.split("#")[0]]
+    there = {line.split(":")[0].split()[0] for line in listed}
     taken = []
     for name, line in lines_of(names).items():
         target = folder / "crates" / name
@@ -60,7 +61,8 @@ def take(names, folder, again, edits):
     listing.write_text(text)
     number, commit = version()
     note = [f"Taken from Wurstdrape {number}, commit {commit}, under Apache-2.0 or MIT:", ""]
-    (folder / "TAKEN.md").write_text("\n".join(note + [f"- `{name}`" for name in lines_of(names)]) + "\n")
+    note += [f"- `{name}`" for name in lines_of(names)]
+    (folder / "TAKEN.md").write_text("\n".join(note) + "\n")
     libraries = sources.kit_libraries(names)
     print(f"taken: {' '.join(taken) or 'nothing'}")
     print(f"libraries of the kit: {' '.join(libraries) or 'none'}")
@@ -73,7 +75,8 @@ def main(words):
     folder = None if "--list" in flags else (names.pop() if names else None)
     unknown = [name for name in names if name not in crates]
     if not names or unknown or flags - {"--again", "--edits", "--list"}:
-        print(f"no crate of this repository: {' '.join(unknown)}" if unknown else __doc__, file=sys.stderr)
+        told = f"no crate of this repository: {' '.join(unknown)}" if unknown else __doc__
+        print(told, file=sys.stderr)
         return 2
     if "--list" in flags:
         print("\n".join(lines_of(names).values()))

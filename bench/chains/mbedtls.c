@@ -1,20 +1,24 @@
-// Judges a chain with mbedTLS, so many times. The digest and the signature are taken out: both calls answer at once that all is well.
+// Judges a chain with mbedTLS, so many times. The digest and the signature are taken out: both
+// calls answer at once that all is well.
 #include <mbedtls/md.h>
 #include <mbedtls/pk.h>
 #include <mbedtls/x509_crt.h>
 #include <stdio.h>
 #include <stdlib.h>
 
-int mbedtls_md(const mbedtls_md_info_t *info, const unsigned char *octets, size_t length, unsigned char *digest)
+int mbedtls_md(const mbedtls_md_info_t *info, const unsigned char *octets, size_t length,
+               unsigned char *digest)
 {
     (void)info, (void)octets, (void)length, (void)digest;
     return 0;
 }
 
-int mbedtls_pk_verify_ext(mbedtls_pk_type_t type, const void *options, mbedtls_pk_context *key, mbedtls_md_type_t algorithm,
-                          const unsigned char *digest, size_t digest_length, const unsigned char *bits, size_t length)
+int mbedtls_pk_verify_ext(mbedtls_pk_type_t type, const void *options, mbedtls_pk_context *key,
+                          mbedtls_md_type_t algorithm, const unsigned char *digest,
+                          size_t digest_length, const unsigned char *bits, size_t length)
 {
-    (void)type, (void)options, (void)key, (void)algorithm, (void)digest, (void)digest_length, (void)bits, (void)length;
+    (void)type, (void)options, (void)key, (void)algorithm;
+    (void)digest, (void)digest_length, (void)bits, (void)length;
     return 0;
 }
 

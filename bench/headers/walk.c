@@ -1,20 +1,24 @@
-// Walks all headers of a file of joined certificates, so many times, with the checks of DER: tags and
-// lengths in their shortest form, no indefinite length, no octet past the end. A refusal names its kind.
+// Walks all headers of a file of joined certificates, so many times, with the checks of DER: tags
+// and lengths in their shortest form, no indefinite length, no octet past the end. A refusal names
+// its kind.
 #include <stddef.h>
 #include <stdint.h>
 #include <stdio.h>
 #include <stdlib.h>
 
-enum fault { NONE, INCOMPLETE, TAG_UNKNOWN, TAG_NUMBER_INVALID, INDEFINITE_LENGTH, OVERLENGTH, LENGTH };
+enum fault {
+    NONE, INCOMPLETE, TAG_UNKNOWN, TAG_NUMBER_INVALID, INDEFINITE_LENGTH, OVERLENGTH, LENGTH
+};
 
 struct reader { const uint8_t *bytes; size_t position, end; };
 struct header { uint8_t first; uint32_t number; uint32_t length; };
 
 // the universal tags that are read, a bit for the octet of each
 static const uint64_t universal_read =
-    1ull << 1 | 1ull << 2 | 1ull << 3 | 1ull << 4 | 1ull << 5 | 1ull << 6 | 1ull << 9 | 1ull << 10 | 1ull << 12 |
-    1ull << 13 | 1ull << 18 | 1ull << 19 | 1ull << 20 | 1ull << 21 | 1ull << 22 | 1ull << 23 | 1ull << 24 |
-    1ull << 26 | 1ull << 27 | 1ull << 30 | 1ull << 48 | 1ull << 49;
+    1ull << 1 | 1ull << 2 | 1ull << 3 | 1ull << 4 | 1ull << 5 | 1ull << 6 | 1ull << 9 |
+    1ull << 10 | 1ull << 12 | 1ull << 13 | 1ull << 18 | 1ull << 19 | 1ull << 20 | 1ull << 21 |
+    1ull << 22 | 1ull << 23 | 1ull << 24 | 1ull << 26 | 1ull << 27 | 1ull << 30 | 1ull << 48 |
+    1ull << 49;
 
 static enum fault read_header(struct reader *r, struct header *h) {
     const uint8_t *at = r->bytes + r->position, *end = r->bytes + r->end;
@@ -65,7 +69,8 @@ static enum fault read_slice(struct reader *r, uint32_t n, const uint8_t **conte
 
 struct counts { uint64_t headers, contents; };
 
-__attribute__((noinline)) static enum fault walk(const uint8_t *bytes, size_t len, struct counts *total) {
+__attribute__((noinline)) static enum fault walk(const uint8_t *bytes, size_t len,
+                                                 struct counts *total) {
     struct reader r = {bytes, 0, len};
     struct counts counts = *total;
     while (r.position != r.end) {
@@ -93,5 +98,6 @@ int main(int argc, char **argv) {
     struct counts total = {0, 0};
     for (int rounds = atoi(argv[2]); rounds > 0; rounds--)
         if (walk(bytes, len, &total)) return 1;
-    printf("%llu headers, %llu octets of content\n", (unsigned long long)total.headers, (unsigned long long)total.contents);
+    printf("%llu headers, %llu octets of content\n", (unsigned long long)total.headers,
+           (unsigned long long)total.contents);
 }

@@ -1,5 +1,6 @@
-/* Reads each certificate of a file of joined certificates with OpenSSL, so many times, and prints what `openssl x509 -noout -serial
-   -issuer -dates -subject -nameopt RFC2253` prints, with the identifiers of its extensions. `count` prints how many there are. */
+/* Reads each certificate of a file of joined certificates with OpenSSL, so many times, and prints
+   what `openssl x509 -noout -serial -issuer -dates -subject -nameopt RFC2253` prints, with the
+   identifiers of its extensions. `count` prints how many there are. */
 #include <openssl/bio.h>
 #include <openssl/x509.h>
 #include <openssl/x509v3.h>
@@ -28,7 +29,8 @@ static void show(BIO *out, X509 *c) {
         char text[128];
         X509_EXTENSION *e = X509_get_ext(c, i);
         OBJ_obj2txt(text, sizeof text, X509_EXTENSION_get_object(e), 1);
-        BIO_printf(out, "extension %s%s\n", text, X509_EXTENSION_get_critical(e) ? " critical" : "");
+        BIO_printf(out, "extension %s%s\n", text,
+                   X509_EXTENSION_get_critical(e) ? " critical" : "");
     }
 }
 
