@@ -91,11 +91,6 @@ spells_from_read bound capacity w bytes ok =
     let sound = identifier_sound bound capacity w (arcs_of w) bytes ok in
     record { identifier = sound.0; spelled = sound.2; fits = sound.1 }
 
-pub read_from_spells : (bound capacity : ℕ) (w : List ℕ) → SpellsIdentifier bound capacity w → read_identifier bound capacity w ≡ Ok (arcs_of w)
-read_from_spells bound capacity w s =
-    ap (read_identifier bound capacity) s.spelled
-    ∙ identifier_again bound capacity (arcs_of w) s.identifier (subst (λ t. length t ≤ capacity) s.spelled s.fits)
-
 pub spells_octets : (bound capacity : ℕ) (arcs : List ℕ) → IsIdentifier bound arcs → length (identifier_octets arcs) ≤ capacity → SpellsIdentifier bound capacity (identifier_octets arcs)
 spells_octets bound capacity arcs id fits =
     let e = arcs_of-identifier_octets bound arcs id in

@@ -23,7 +23,7 @@ below_wider : (small large : ℕ) → small ≤ large → (xs : List ℕ) → Al
 below_wider small large le [] h = tt
 below_wider small large le (x ∷ xs) h = (omega (arith, le, h.0), below_wider small large le xs h.1)
 
-widen : (small large : ℕ) → small ≤ large → (arcs : List ℕ) → IsIdentifier small arcs → IsIdentifier large arcs
+pub widen : (small large : ℕ) → small ≤ large → (arcs : List ℕ) → IsIdentifier small arcs → IsIdentifier large arcs
 unfolding IsIdentifier
 widen small large le [] id = absurd id
 widen small large le (a ∷ []) id = absurd id

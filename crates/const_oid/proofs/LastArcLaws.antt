@@ -117,34 +117,43 @@ last_found bound r w (a ∷ b ∷ later) id e = by (unsnoc later)
         ∙ n
         ∙ sym (ap (λ t. place_of_last (a ∷ b ∷ t)) p.2 ∙ place-push (a ∷ b ∷ p.0) p.1)
 
--- what the octets so far give of the whole: its number of arcs, and the place of the last one
-pub record SoFar (whole rest : List ℕ) (value count last begun here : ℕ) : Type 0 where
-  pub counted : count + length (later_arcs value rest) ≡ 2 + length (later_arcs 0 whole)
-  pub placed : last_from last begun here rest ≡ last_from 0 1 1 whole
+-- marks leave the later arcs as many
+later_arcs-marked : (value : ℕ) (ds w : List ℕ) → (v : ℕ) × (later_arcs value (map (λ d. 128 + d) ds ++ w) ≡ later_arcs v w)
+later_arcs-marked value [] w = (value, refl)
+later_arcs-marked value (d ∷ ds) w =
+    let rest = later_arcs-marked (value * 128 + (128 + d) % 128) ds w in
+    (rest.0, later_arcs-more value (128 + d) (map (λ d. 128 + d) ds ++ w) (omega arith) ∙ rest.1)
 
-pub so_far_none : (whole : List ℕ) → SoFar whole whole 0 2 0 1 1
-so_far_none whole = record { counted = refl; placed = refl }
+later_arcs-arc : (a : ℕ) (w : List ℕ) → length (later_arcs 0 (arc_octets a ++ w)) ≡ suc (length (later_arcs 0 w))
+later_arcs-arc a w = by (cases_lt a 128)
+  where
+    by : (a < 128) ⊎ (128 ≤ a) → length (later_arcs 0 (arc_octets a ++ w)) ≡ suc (length (later_arcs 0 w))
+    by (inl l) = ap (λ t. length (later_arcs 0 (t ++ w))) (arc_octets-one a l) ∙ ap length (later_arcs-last 0 a w l)
+    by (inr l) =
+        let marks = map (λ d. 128 + d) (digits 128 (a / 128)) in
+        let before = later_arcs-marked 0 (digits 128 (a / 128)) (a % 128 ∷ w) in
+        ap (λ t. length (later_arcs 0 (t ++ w))) (arc_octets-more a l)
+        ∙ ap (λ t. length (later_arcs 0 t)) (append_assoc marks (a % 128 ∷ []) w)
+        ∙ ap length (before.1 ∙ later_arcs-last before.0 (a % 128) w (omega arith))
 
--- an octet without a mark ends an arc
-pub so_far_ends : (whole w rest : List ℕ) (value count last begun here o : ℕ) → SoFar whole w value count last begun here → w ≡ o ∷ rest → o < 128
-    → SoFar whole rest 0 (count + 1) begun (here + 1) (here + 1)
-so_far_ends whole w rest value count last begun here o s e l = record {
-  counted = omega (arith, s.counted, ap (λ t. length (later_arcs value t)) e, ap length (later_arcs-last value o rest l));
-  placed = sym (ap (last_from last begun here) e ∙ last_from-ends last begun here o rest l) ∙ s.placed;
+-- what the arcs so far give of the whole: its number of arcs, and the place of the last one
+pub record SoFar (whole rest : List ℕ) (count last here : ℕ) : Type 0 where
+  pub counted : count + length (later_arcs 0 rest) ≡ 2 + length (later_arcs 0 whole)
+  pub placed : last_from last here here rest ≡ last_from 0 1 1 whole
+
+-- one arc more
+pub so_far_arc : (whole w rest : List ℕ) (count last here a : ℕ) → SoFar whole w count last here → w ≡ arc_octets a ++ rest
+    → SoFar whole rest (count + 1) here (here + length (arc_octets a))
+so_far_arc whole w rest count last here a s e = record {
+  counted = omega (arith, s.counted, ap (λ t. length (later_arcs 0 t)) e, later_arcs-arc a rest);
+  placed = sym (ap (last_from last here here) e ∙ last_from-arc last here here a rest) ∙ s.placed;
 }
 
-pub so_far_goes : (whole w rest : List ℕ) (value count last begun here o : ℕ) → SoFar whole w value count last begun here → w ≡ o ∷ rest → 128 ≤ o
-    → SoFar whole rest (value * 128 + o % 128) count last begun (here + 1)
-so_far_goes whole w rest value count last begun here o s e l = record {
-  counted = omega (arith, s.counted, ap (λ t. length (later_arcs value t)) e, ap length (later_arcs-more value o rest l));
-  placed = sym (ap (last_from last begun here) e ∙ last_from-goes last begun here o rest l) ∙ s.placed;
-}
-
-pub so_far_all : (whole rest : List ℕ) (value count last begun here : ℕ) → SoFar whole rest value count last begun here → rest ≡ []
+pub so_far_all : (whole rest : List ℕ) (count last here : ℕ) → SoFar whole rest count last here → rest ≡ []
     → (count ≡ 2 + length (later_arcs 0 whole)) × (last ≡ last_from 0 1 1 whole)
-so_far_all whole rest value count last begun here s e = (
-  omega (arith, s.counted, ap (λ t. length (later_arcs value t)) e, ap length (later_arcs-nil value [] refl)),
-  sym (last_from-end last begun here rest e) ∙ s.placed,
+so_far_all whole rest count last here s e = (
+  omega (arith, s.counted, ap (λ t. length (later_arcs 0 t)) e, ap length (later_arcs-nil 0 [] refl)),
+  sym (last_from-end last here here rest e) ∙ s.placed,
 )
 
 -- the root, and what is found behind it

@@ -4,6 +4,7 @@ pub mod ArcsLaws
 pub mod BoundLaws
 pub mod BufferLaws
 pub mod ReadingLaws
+pub mod LongArcLaws
 pub mod EncodingLaws
 pub mod TextLaws
 pub mod DottedLaws
@@ -19,5 +20,5 @@ pub mod PackedLaws
 pub mod LastArcLaws
 mod NamesLaws
 mod PrintLengthLaws
-mod OrderLaws
-mod BoundedLaws
+pub mod OrderLaws
+pub mod BoundedLaws

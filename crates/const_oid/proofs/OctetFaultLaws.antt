@@ -6,7 +6,7 @@ use Rattle.const_oid.specs.declared.error.Error.{Error}
 use Rattle.const_oid.specs.declared.error.Error.TheVariants as errors
 use Rattle.const_oid.specs.IdentifierOctets.{arc_octets, identifier_octets, IsIdentifier, with_arc, read_arcs, read_identifier}
 use Rattle.const_oid.specs.OctetFaults.{begun, IsOpen, IsArcFault, leading_zero, too_big, unfinished, IsOctetsFault, no_octet, too_long, root_invalid, arc}
-use Rattle.const_oid.proofs.IdentifierLaws.{Step, step, IsBegun, at_border, inside, arc_octets-finish, begun-push, read_arcs-end, read_arcs-cut, read_arcs-leading, read_arcs-too_big, read_arcs-last, read_arcs-more, read_arcs-begun, read_arcs-arc, identifier_sound, identifier_again}
+use Rattle.const_oid.proofs.IdentifierLaws.{Step, step, IsBegun, at_border, inside, arc_octets-finish, begun-push, read_arcs-end, read_arcs-cut, read_arcs-leading, read_arcs-too_big, read_arcs-last, read_arcs-more, read_arcs-begun, read_arcs-arc, identifier_sound}
 use Rattle.const_oid.proofs.IdentifierLaws as steps
 use Rattle.const_oid.proofs.ArcsLaws.{read_identifier-long}
 use Rattle.const_oid.proofs.EncodingLaws.{identifier_octets-push, IsIdentifier-push}

@@ -13,7 +13,7 @@ use Rattle.const_oid.specs.IdentifierOctets.{arc_octets, identifier_octets, IsId
 use Rattle.const_oid.specs.DottedText.{dotted}
 use Rattle.const_oid.specs.Orders.{owned_cmp, owned_cmp_total, owned_cmp_ties}
 use Rattle.const_oid.specs.Comparing.{owned_eq, borrowed_cmp, IsAtMost}
-use Rattle.const_oid.proofs.EncodingLaws.{arc_octets-one, arc_octets-more, marked_digits-one, marked_digits-more, length-digits-one, length-digits-more, length-digits-pos, length-arc_octets, length-marked_digits, identifier_octets-push}
+use Rattle.const_oid.proofs.EncodingLaws.{arc_octets-one, arc_octets-more, marked_digits-one, marked_digits-more, length-digits-one, length-digits-more, length-digits-pos, length-arc_octets, length-marked_digits, identifier_octets-push, fewer_digits}
 use Rattle.const_oid.proofs.ArcsLaws.{arcs_of-identifier_octets, is_ok-octets, length-arcs_of}
 use Rattle.const_oid.proofs.PrefixLaws.{same_octets, octets_prefix, prefix_octets}
 use Rattle.const_oid.proofs.TextRoundLaws.{same_text}
@@ -57,14 +57,14 @@ arcs_counted bound arcs id =
 
 -- Numbers
 
-below : (m n : ℕ) → m < n → nat_cmp m n ≡ Less
-below m n l = sym (nat_cmp_is m n Less l)
+pub nat_cmp-less : (m n : ℕ) → m < n → nat_cmp m n ≡ Less
+nat_cmp-less m n l = sym (nat_cmp_is m n Less l)
 
-above : (m n : ℕ) → n < m → nat_cmp m n ≡ Greater
-above m n l = sym (nat_cmp_is m n Greater l)
+pub nat_cmp-greater : (m n : ℕ) → n < m → nat_cmp m n ≡ Greater
+nat_cmp-greater m n l = sym (nat_cmp_is m n Greater l)
 
-tied : (m n : ℕ) → m ≡ n → nat_cmp m n ≡ Equal
-tied m n e = sym (nat_cmp_is m n Equal e)
+pub nat_cmp-same : (m n : ℕ) → m ≡ n → nat_cmp m n ≡ Equal
+nat_cmp-same m n e = sym (nat_cmp_is m n Equal e)
 
 -- Lists
 
@@ -75,16 +75,16 @@ between (o ∷ q) x [] z l m = absurd (l refl)
 between (o ∷ q) x (c ∷ y) z l m = by (cases_lt o c) (cases_lt c o) (between q x y z)
   where
     by : (o < c) ⊎ (c ≤ o) → (c < o) ⊎ (o ≤ c) → (slice_cmp nat_cmp (q ++ x) y ≢ Greater → slice_cmp nat_cmp y (q ++ z) ≢ Greater → (t : List ℕ) × (y ≡ q ++ t)) → (t : List ℕ) × (c ∷ y ≡ (o ∷ q) ++ t)
-    by (inl p) _ ih = absurd (m (ap (λ r. ordering_then r (slice_cmp nat_cmp y (q ++ z))) (above c o p)))
-    by (inr p) (inl s) ih = absurd (l (ap (λ r. ordering_then r (slice_cmp nat_cmp (q ++ x) y)) (above o c s)))
+    by (inl p) _ ih = absurd (m (ap (λ r. ordering_then r (slice_cmp nat_cmp y (q ++ z))) (nat_cmp-greater c o p)))
+    by (inr p) (inl s) ih = absurd (l (ap (λ r. ordering_then r (slice_cmp nat_cmp (q ++ x) y)) (nat_cmp-greater o c s)))
     by (inr p) (inr s) ih =
         let same : c ≡ o = omega arith in
-        let rest = ih (λ g. l (ap (λ r. ordering_then r (slice_cmp nat_cmp (q ++ x) y)) (tied o c (sym same)) ∙ g)) (λ g. m (ap (λ r. ordering_then r (slice_cmp nat_cmp y (q ++ z))) (tied c o same) ∙ g)) in
+        let rest = ih (λ g. l (ap (λ r. ordering_then r (slice_cmp nat_cmp (q ++ x) y)) (nat_cmp-same o c (sym same)) ∙ g)) (λ g. m (ap (λ r. ordering_then r (slice_cmp nat_cmp y (q ++ z))) (nat_cmp-same c o same) ∙ g)) in
         (rest.0, ap (λ k. k ∷ y) same ∙ ap (λ t. o ∷ t) rest.1)
 
 same_front : (q x y : List ℕ) → slice_cmp nat_cmp (q ++ x) (q ++ y) ≡ slice_cmp nat_cmp x y
 same_front [] x y = refl
-same_front (o ∷ q) x y = ap (λ r. ordering_then r (slice_cmp nat_cmp (q ++ x) (q ++ y))) (tied o o refl) ∙ same_front q x y
+same_front (o ∷ q) x y = ap (λ r. ordering_then r (slice_cmp nat_cmp (q ++ x) (q ++ y))) (nat_cmp-same o o refl) ∙ same_front q x y
 
 -- the first octet that differs decides
 less_front : (xs ys r s : List ℕ) → length xs ≡ length ys → slice_cmp nat_cmp xs ys ≡ Less → slice_cmp nat_cmp (xs ++ r) (ys ++ s) ≡ Less
@@ -113,18 +113,9 @@ ancestor_first bound arcs a rest id =
     let octets = prefix_octets bound arcs (a ∷ rest) id in
     let longer : length (identifier_octets arcs) < length (identifier_octets (arcs ++ (a ∷ rest))) =
     omega (arith, ap length octets, length-append (identifier_octets arcs) (arc_octets a ++ flat_map arc_octets rest), length-append (arc_octets a) (flat_map arc_octets rest), length-arc_octets a, length-digits-pos a) in
-    ap (λ o. ordering_then o (slice_cmp nat_cmp (identifier_octets arcs) (identifier_octets (arcs ++ (a ∷ rest))))) (below _ _ longer)
+    ap (λ o. ordering_then o (slice_cmp nat_cmp (identifier_octets arcs) (identifier_octets (arcs ++ (a ∷ rest))))) (nat_cmp-less _ _ longer)
 
 -- Arcs
-
-within_rises : (room m n : ℕ) → n ≤ room → m ≤ n → length (digits 128 m) ≤ length (digits 128 n)
-within_rises zero m n small l = omega (arith, length-digits-one m (omega arith), length-digits-one n (omega arith))
-within_rises (suc room) m n small l = by (cases_lt m 128) (cases_lt n 128) (λ k. within_rises room (m / 128) (n / 128) (omega arith) (omega arith))
-  where
-    by : (m < 128) ⊎ (128 ≤ m) → (n < 128) ⊎ (128 ≤ n) → (128 ≤ n → length (digits 128 (m / 128)) ≤ length (digits 128 (n / 128))) → length (digits 128 m) ≤ length (digits 128 n)
-    by (inl p) _ ih = omega (arith, length-digits-one m p, length-digits-pos n)
-    by (inr p) (inl q) ih = absurd (omega arith)
-    by (inr p) (inr q) ih = omega (arith, length-digits-more m p, length-digits-more n q, ih q)
 
 -- marked digits of the same number stand as their numbers
 marked_less : (room m n : ℕ) → n ≤ room → m < n → length (digits 128 m) ≡ length (digits 128 n) → slice_cmp nat_cmp (map (λ d. 128 + d) (digits 128 m)) (map (λ d. 128 + d) (digits 128 n)) ≡ Less
@@ -137,7 +128,7 @@ marked_less (suc room) m n small l e = by (cases_lt m 128) (cases_lt n 128) (cas
     by (inl p) (inl q) _ ih =
         ap (λ t. slice_cmp nat_cmp t (map (λ d. 128 + d) (digits 128 n))) (marked_digits-one m p)
         ∙ ap (λ t. slice_cmp nat_cmp ((128 + m) ∷ []) t) (marked_digits-one n q)
-        ∙ ap (λ o. ordering_then o Equal) (below (128 + m) (128 + n) (omega arith))
+        ∙ ap (λ o. ordering_then o Equal) (nat_cmp-less (128 + m) (128 + n) (omega arith))
     by (inl p) (inr q) _ ih = absurd (omega (arith, length-digits-one m p, length-digits-more n q, length-digits-pos (n / 128)))
     by (inr p) (inl q) _ ih = absurd (omega arith)
     by (inr p) (inr q) s ih =
@@ -155,7 +146,7 @@ marked_less (suc room) m n small l e = by (cases_lt m 128) (cases_lt n 128) (cas
             let same : m / 128 ≡ n / 128 = omega arith in
             ap (λ k. slice_cmp nat_cmp (map (λ d. 128 + d) (digits 128 k) ++ ((128 + m % 128) ∷ [])) (map (λ d. 128 + d) (digits 128 (n / 128)) ++ ((128 + n % 128) ∷ []))) same
             ∙ same_front (map (λ d. 128 + d) (digits 128 (n / 128))) ((128 + m % 128) ∷ []) ((128 + n % 128) ∷ [])
-            ∙ ap (λ o. ordering_then o Equal) (below (128 + m % 128) (128 + n % 128) (omega arith))
+            ∙ ap (λ o. ordering_then o Equal) (nat_cmp-less (128 + m % 128) (128 + n % 128) (omega arith))
 
 -- arcs of the same number of octets stand by their octets
 arc_less : (m n : ℕ) → m < n → length (arc_octets m) ≡ length (arc_octets n) → slice_cmp nat_cmp (arc_octets m) (arc_octets n) ≡ Less
@@ -168,7 +159,7 @@ arc_less m n l e = by (cases_lt m 128) (cases_lt n 128)
     by (inl p) (inl q) =
         ap (λ t. slice_cmp nat_cmp t (arc_octets n)) (arc_octets-one m p)
         ∙ ap (λ t. slice_cmp nat_cmp (m ∷ []) t) (arc_octets-one n q)
-        ∙ ap (λ o. ordering_then o Equal) (below m n l)
+        ∙ ap (λ o. ordering_then o Equal) (nat_cmp-less m n l)
     by (inl p) (inr q) = absurd (omega (arith, size, length-digits-one m p, length-digits-more n q, length-digits-pos (n / 128)))
     by (inr p) (inl q) = absurd (omega arith)
     by (inr p) (inr q) =
@@ -186,7 +177,7 @@ arc_less m n l e = by (cases_lt m 128) (cases_lt n 128)
             let same : m / 128 ≡ n / 128 = omega arith in
             ap (λ k. slice_cmp nat_cmp (map (λ d. 128 + d) (digits 128 k) ++ (m % 128 ∷ [])) (map (λ d. 128 + d) (digits 128 (n / 128)) ++ (n % 128 ∷ []))) same
             ∙ same_front (map (λ d. 128 + d) (digits 128 (n / 128))) (m % 128 ∷ []) (n % 128 ∷ [])
-            ∙ ap (λ o. ordering_then o Equal) (below (m % 128) (n % 128) (omega arith))
+            ∙ ap (λ o. ordering_then o Equal) (nat_cmp-less (m % 128) (n % 128) (omega arith))
 
 child_less : (bound : ℕ) (front : List ℕ) (m n : ℕ) → IsIdentifier bound front → m < n → owned_cmp (front ++ (m ∷ [])) (front ++ (n ∷ [])) ≡ Less
 child_less bound front m n id l =
@@ -201,11 +192,11 @@ child_less bound front m n id l =
         → ordering_then (nat_cmp (length (f ++ arc_octets m)) (length (f ++ arc_octets n))) (slice_cmp nat_cmp (f ++ arc_octets m) (f ++ arc_octets n)) ≡ Less
     by (inl shorter) =
         let less : length (f ++ arc_octets m) < length (f ++ arc_octets n) = omega (arith, length-append f (arc_octets m), length-append f (arc_octets n)) in
-        ap (λ o. ordering_then o (slice_cmp nat_cmp (f ++ arc_octets m) (f ++ arc_octets n))) (below _ _ less)
+        ap (λ o. ordering_then o (slice_cmp nat_cmp (f ++ arc_octets m) (f ++ arc_octets n))) (nat_cmp-less _ _ less)
     by (inr longer) =
-        let size : length (arc_octets m) ≡ length (arc_octets n) = omega (arith, longer, length-arc_octets m, length-arc_octets n, within_rises n m n (omega arith) (omega arith)) in
+        let size : length (arc_octets m) ≡ length (arc_octets n) = omega (arith, longer, length-arc_octets m, length-arc_octets n, fewer_digits m n (omega arith)) in
         let same : length (f ++ arc_octets m) ≡ length (f ++ arc_octets n) = omega (arith, size, length-append f (arc_octets m), length-append f (arc_octets n)) in
-        ap (λ o. ordering_then o (slice_cmp nat_cmp (f ++ arc_octets m) (f ++ arc_octets n))) (tied _ _ same)
+        ap (λ o. ordering_then o (slice_cmp nat_cmp (f ++ arc_octets m) (f ++ arc_octets n))) (nat_cmp-same _ _ same)
         ∙ same_front f (arc_octets m) (arc_octets n)
         ∙ arc_less m n l size
 
@@ -214,9 +205,9 @@ pub children_by_arc : (bound : ℕ) (front : List ℕ) (m n : ℕ) → IsIdentif
 children_by_arc bound front m n id = by (cases_lt m n) (cases_lt n m)
   where
     by : (m < n) ⊎ (n ≤ m) → (n < m) ⊎ (m ≤ n) → owned_cmp (front ++ (m ∷ [])) (front ++ (n ∷ [])) ≡ nat_cmp m n
-    by (inl l) _ = child_less bound front m n id l ∙ sym (below m n l)
+    by (inl l) _ = child_less bound front m n id l ∙ sym (nat_cmp-less m n l)
     by (inr l) (inl k) =
-        owned_cmp_total.antisymm (front ++ (m ∷ [])) (front ++ (n ∷ [])) ∙ ap ordering_reverse (child_less bound front n m id k) ∙ sym (above m n k)
+        owned_cmp_total.antisymm (front ++ (m ∷ [])) (front ++ (n ∷ [])) ∙ ap ordering_reverse (child_less bound front n m id k) ∙ sym (nat_cmp-greater m n k)
     by (inr l) (inr k) =
         let same : m ≡ n = omega arith in
-        ap (λ a. owned_cmp (front ++ (a ∷ [])) (front ++ (n ∷ []))) same ∙ tied_itself owned_cmp_total (front ++ (n ∷ [])) ∙ sym (tied m n same)
+        ap (λ a. owned_cmp (front ++ (a ∷ [])) (front ++ (n ∷ []))) same ∙ tied_itself owned_cmp_total (front ++ (n ∷ [])) ∙ sym (nat_cmp-same m n same)

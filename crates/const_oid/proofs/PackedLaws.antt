@@ -1,7 +1,7 @@
 -- The octets that an array holds, by those without a mark.
 use Rattle.std.proofs.Common.{◌≡◌, ℕ, zero, suc, ◌+◌, ◌-◌, ◌<◌, ◌≤◌, List, [], ◌∷◌, ◌++◌, length, get_or, take, drop, replicate, sym, refl, ap, ◌∙◌, arith, append_assoc, length-append, min}
 use Rattle.std.proofs.lemmas.Bool.{lt-ltb, le-ltb}
-use Rattle.std.proofs.lemmas.List.{length-replicate, drop-replicate, take_more}
+use Rattle.std.proofs.lemmas.List.{drop-replicate, take_more}
 use Rattle.std.proofs.Math.Seq.{take-append_seam, drop-append-add}
 use Rattle.const_oid.specs.Arcs.{SpellsIdentifier, arcs_of}
 use Rattle.const_oid.specs.IdentifierOctets.{identifier_octets, IsIdentifier, arc_octets}
@@ -90,20 +90,10 @@ packed_copy size count octets fits whole counted =
 
 -- The octets that an array holds
 
-pub packed_length : (size count : ℕ) (bytes : List ℕ) → IsPacked size bytes count → length bytes ≡ size
-packed_length size count bytes p =
-    let w = unmarked_front bytes in
-    omega (arith, ap length p.padded, length-append w (replicate (size - length w) 128), length-replicate {A = ℕ} (size - length w) 128, p.fits)
-
 pub packed_take : (size count : ℕ) (bytes : List ℕ) → IsPacked size bytes count → take (length (unmarked_front bytes)) bytes ≡ unmarked_front bytes
 packed_take size count bytes p =
     let w = unmarked_front bytes in
     ap (take (length w)) p.padded ∙ take-append_seam w (replicate (size - length w) 128)
-
-pub packed_front : (size count : ℕ) (bytes : List ℕ) → IsPacked size bytes count → unmarked_front (unmarked_front bytes) ≡ unmarked_front bytes
-packed_front size count bytes p =
-    let w = unmarked_front bytes in
-    sym (ap unmarked_front p.padded ∙ front-padded w (size - length w))
 
 -- the octets of an arc, written behind them
 pub packed_push : (size count end counts arc : ℕ) (bytes new : List ℕ) → IsPacked size bytes count

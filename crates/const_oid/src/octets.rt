@@ -1,10 +1,9 @@
 //! Reading of identifier octets (X.690 8.19), in one pass and with the first fault.
 
-ghost use Rattle.std.specs.Prelude.{◌≡◌, ℕ, ◌+◌, ◌*◌, ◌%◌, ◌<◌, ◌≤◌, Option, Some, None, Result};
-ghost use Rattle.std.specs.Prelude.{Ok, Err, MatchResult, length, nat_lt, if◌then◌else◌};
+ghost use Rattle.std.specs.Prelude.{◌≡◌, ℕ, ◌+◌, ◌<◌, ◌≤◌, Ok, Err, MatchResult, length, take};
 ghost use Rattle.const_oid.specs.Bound.{Bound};
-ghost use Rattle.const_oid.specs.IdentifierOctets.{read_arcs, read_identifier};
-ghost use Rattle.const_oid.specs.Outcome.{after_octet, outcome};
+ghost use Rattle.const_oid.specs.IdentifierOctets.{arc_octets, read_arcs, read_identifier};
+ghost use Rattle.const_oid.specs.Outcome.{outcome};
 ghost use Rattle.const_oid.specs.Arcs.{later_arcs, arcs_of};
 ghost use Rattle.const_oid.specs.LastArcs.{KnowsLast, last_from};
 
@@ -17,20 +16,6 @@ pub(crate) struct Found {
     pub(crate) arc_count: usize,
     /// Where the octets of the last arc begin, or 0 where there are two arcs.
     pub(crate) last_start: usize,
-}
-
-/// What the octets of an arc give with one octet more, or `None` where that passes the bound of
-/// arcs.
-#[inline]
-pub(crate) fn with_octet(value: Arc, octet: u8) -> Option<Arc>
-    ensures { result
-        ≡ (if nat_lt (value * 128 + octet % 128) Bound
-        then Some (value * 128 + octet % 128) else None) }
-{
-    let Some(high) = value.checked_mul(128) else {
-        return None;
-    };
-    high.checked_add(Arc::from(octet % 128))
 }
 
 /// Finds the first fault of identifier octets of any number.
@@ -60,19 +45,33 @@ pub(crate) fn find(octets: &[u8]) -> Result<Found>
     find_arcs(later)
 }
 
-/// What the octets of an unfinished arc have given, after one octet more; 0 where that octet ends
-/// the arc.
+/// How many octets the arc has that these begin with, or its fault.
 #[inline]
-fn after_octet(value: Arc, octet: u8) -> Result<Arc>
-    ensures { result ≡ after_octet Bound value octet }
+fn first_arc_len(octets: &[u8]) -> Result<usize>
+    requires { 0 < length octets.now }
+    ensures { MatchResult result
+        (λ len. (len ≤ length octets.now)
+        × ((arc : ℕ) × (arc < Bound) × (take len octets.now ≡ arc_octets arc)))
+        (λ e. read_arcs Bound 0 octets.now ≡ Err e) }
 {
-    if value == 0 && octet == 0x80 {
+    let first = octets[0];
+    if first < 0x80 {
+        return Ok(1);
+    }
+    if first == 0x80 {
         return Err(Error::Base128);
     }
-    let Some(next) = with_octet(value, octet) else {
-        return Err(Error::ArcTooBig);
-    };
-    if octet < 0x80 { Ok(0) } else { Ok(next) }
+    // 18 octets give 126 bits, and 19 of them 128 where the first gives at most two.
+    let most = if first > 0x83 { 18 } else { 19 };
+    for i in 1..octets.len() {
+        if i >= most {
+            return Err(Error::ArcTooBig);
+        }
+        if octets[i] < 0x80 {
+            return Ok(i + 1);
+        }
+    }
+    Err(Error::Base128)
 }
 
 /// How many arcs there are with those of the octets after the root, and where the last one begins,
@@ -84,27 +83,17 @@ fn find_arcs(octets: &[u8]) -> Result<Found>
         × (found.last_start ≡ last_from 0 1 1 octets.now))
         (λ e. outcome (read_arcs Bound 0 octets.now) ≡ Err e) }
 {
-    let mut value: Arc = 0;
     let mut arc_count = 2;
     let mut last_start = 0;
-    let mut begun = 1;
-    for (i, octet) in octets.iter().enumerate() {
-        // An arc of one octet leaves nothing unfinished.
-        if value != 0 || *octet >= 0x80 {
-            value = after_octet(value, *octet)?;
-        }
-        if *octet < 0x80 {
-            arc_count += 1;
-            last_start = begun;
-            begun = i + 2;
-        }
+    let mut begun = 0;
+    while begun < octets.len() {
+        let len = first_arc_len(&octets[begun..])?;
+        arc_count += 1;
+        last_start = begun + 1;
+        begun += len;
     }
-    if value == 0 {
-        Ok(Found {
-            arc_count,
-            last_start,
-        })
-    } else {
-        Err(Error::Base128)
-    }
+    Ok(Found {
+        arc_count,
+        last_start,
+    })
 }

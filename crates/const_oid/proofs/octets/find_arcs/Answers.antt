@@ -1,57 +1,57 @@
-use Rattle.std.proofs.Common.{◌≡◌, ◌+◌, Ok, ◌∷◌, get_or, drop, ap, sym, subst, ◌∙◌, add-one, arith, rules}
-use Rattle.std.proofs.Math.Seq.{drop-cons}
+use Rattle.std.proofs.Common.{◌≡◌, ◌+◌, ◌<◌, ◌≤◌, ◌-◌, ◌++◌, ℕ, List, length, take, drop, ap, subst, sym, ◌∙◌, take-append-drop, length-take-le, length-drop, arith}
+use Rattle.std.proofs.lemmas.List.{drop-drop, take_all}
 use Rattle.const_oid.specs.Bound.{Bound}
-use Rattle.const_oid.specs.Outcome.{after_octet}
+use Rattle.const_oid.specs.IdentifierOctets.{arc_octets, read_arcs}
+use Rattle.const_oid.specs.Outcome.{outcome}
 use Rattle.const_oid.proofs.ArcsLaws.{drop_past}
-use Rattle.const_oid.proofs.ReadingLaws.{on_step, one_octet, after-ends, after-goes, outcome-step, outcome-end_whole, outcome-end_cut}
-use Rattle.const_oid.proofs.LastArcLaws.{SoFar, so_far_ends, so_far_goes, so_far_all}
-use Rattle.const_oid.proofs.octets.find_arcs.Goals.{then-value-ne0+in_ok-value, else-value-ne0+else-octet-ge128, then-octet-lt128, else-octet-lt128}
+use Rattle.const_oid.proofs.EncodingLaws.{length-arc_octets, length-digits-pos}
+use Rattle.const_oid.proofs.IdentifierLaws.{read_arcs-arc}
+use Rattle.const_oid.proofs.ReadingLaws.{outcome-with_arc}
+use Rattle.const_oid.proofs.LastArcLaws.{SoFar, so_far_arc, so_far_all}
 use Rattle.const_oid.proofs.octets.find_arcs.Goals as goal
 
-pub loop-i-preserved : goal.loop-i-preserved
-loop-i-preserved c =
-    let w = c.args.octets.now in
-    let i = c.loop-i.i in
-    let octet = get_or w i 0 in
-    let next = c.if-value-ne0.value in
-    let held = c.loop-i.invariant in
-    let rest : drop i w ≡ octet ∷ drop (i + 1) w = drop-cons w i 0 c.loop-i-test.true ∙ ap (λ n. octet ∷ drop n w) (sym (add-one i)) in
-    let after : after_octet Bound c.loop-i.value octet ≡ Ok next =
-    elim c.if-value-ne0.branch [
-      | then-value-ne0+in_ok-value b ↦ rw b.value-is (sym b.after_octet.ensures ∙ b.in_ok-value.was)
-      | else-value-ne0+else-octet-ge128 b ↦ rw b.value-is (one_octet c.loop-i.value octet (omega arith) (omega arith))
-    ] in
-    let read = held.0 ∙ outcome-step Bound c.loop-i.value i w c.loop-i-test.true ∙ ap (on_step Bound (drop (i + 1) w)) after in
-    elim c.if-octet-lt128.branch [
-      | then-octet-lt128 b ↦
-          let none : 0 ≡ next = sym (after-ends Bound c.loop-i.value octet next after b.if-octet-lt128.true) in
-          let two : i + 1 + 1 ≡ i + 2 = omega arith in
-          let ended = so_far_ends w (drop i w) (drop (i + 1) w) c.loop-i.value c.loop-i.arc_count c.loop-i.last_start c.loop-i.begun (i + 1) octet held.1 rest b.if-octet-lt128.true in
-          rw (b.arc_count-is, b.last_start-is, b.begun-is)
-          (read, subst (λ n. SoFar w (drop (i + 1) w) n (c.loop-i.arc_count + 1) c.loop-i.begun (i + 2) (i + 1 + 1)) none (subst (λ n. SoFar w (drop (i + 1) w) 0 (c.loop-i.arc_count + 1) c.loop-i.begun n (i + 1 + 1)) two ended), omega (arith, held.2))
-      | else-octet-lt128 b ↦
-          let more = sym (after-goes Bound c.loop-i.value octet next after b.if-octet-lt128.false) in
-          let goes = so_far_goes w (drop i w) (drop (i + 1) w) c.loop-i.value c.loop-i.arc_count c.loop-i.last_start c.loop-i.begun (i + 1) octet held.1 rest b.if-octet-lt128.false in
-          rw (b.arc_count-is, b.last_start-is, b.begun-is)
-          (read, subst (λ n. SoFar w (drop (i + 1) w) n c.loop-i.arc_count c.loop-i.last_start c.loop-i.begun (i + 1 + 1)) more goes, omega (arith, held.2))
-    ]
+-- the arc stands before what is left, and has an octet
+arc_first : (w : List ℕ) (begun len a : ℕ) → begun ≤ length w → len ≤ length (take (length w - begun) (drop begun w)) → take len (take (length w - begun) (drop begun w)) ≡ arc_octets a
+    → (begun + len ≤ length w) × (drop begun w ≡ arc_octets a ++ drop (begun + len) w) × (len ≡ length (arc_octets a)) × (0 < len)
+arc_first w begun len a within fits first =
+    let rest = drop begun w in
+    let whole : take (length w - begun) rest ≡ rest = take_all (length w - begun) rest (omega (arith, length-drop begun w)) in
+    let most : len ≤ length rest = subst (λ t. len ≤ length t) whole fits in
+    let front : take len rest ≡ arc_octets a = ap (take len) (sym whole) ∙ first in
+    let size : len ≡ length (arc_octets a) = sym (length-take-le len rest most) ∙ ap length front in (
+      omega (arith, most, length-drop begun w),
+      sym (take-append-drop len rest) ∙ ap (λ t. t ++ drop len rest) front ∙ ap (λ t. arc_octets a ++ t) (drop-drop len begun w),
+      size,
+      omega (arith, size, length-arc_octets a, length-digits-pos a),
+    )
 
-pub returns-in_err-value : goal.returns-in_err-value
-returns-in_err-value c =
+pub loop-begun-smaller : goal.loop-begun-smaller
+loop-begun-smaller c =
     let w = c.args.octets.now in
-    let i = c.loop-i.i in
-    let step = outcome-step Bound c.loop-i.value i w c.loop-i-test.true in
-    let found = c.loop-i.invariant.0 ∙ step ∙ ap (on_step Bound (drop (i + 1) w)) (sym c.after_octet.ensures ∙ c.in_err-value.was) in
-    rw found (search rules)
+    let found = c.in_ok-len.ensures in
+    let arc = arc_first w c.loop-begun.begun c.in_ok-len.len found.1.0 c.loop-begun.invariant.0 found.0 found.1.2 in
+    omega (arith, arc.3, c.loop-begun-test.true)
 
-pub returns-then-value-eq0 : goal.returns-then-value-eq0
-returns-then-value-eq0 c =
+pub loop-begun-preserved : goal.loop-begun-preserved
+loop-begun-preserved c =
     let w = c.args.octets.now in
-    let i = c.loop-i.i in
-    let held = c.loop-i.invariant in
-    let all = so_far_all w (drop i w) c.loop-i.value c.loop-i.arc_count c.loop-i.last_start c.loop-i.begun (i + 1) held.1 (drop_past i w c.loop-i-test.false) in
-    (held.0 ∙ outcome-end_whole Bound c.loop-i.value i w c.loop-i-test.false c.if-value-eq0.true, all.0, all.1)
+    let begun = c.loop-begun.begun in
+    let len = c.in_ok-len.len in
+    let found = c.in_ok-len.ensures in
+    let a = found.1.0 in
+    let held = c.loop-begun.invariant in
+    let rest = drop (begun + len) w in
+    let arc = arc_first w begun len a held.0 found.0 found.1.2 in
+    let read = held.2 ∙ ap (λ t. outcome (read_arcs Bound 0 t)) arc.1 ∙ ap outcome (read_arcs-arc Bound a rest found.1.1) ∙ outcome-with_arc a (read_arcs Bound 0 rest) in
+    let place : begun + 1 + length (arc_octets a) ≡ begun + len + 1 = omega (arith, arc.2) in
+    let more = so_far_arc w (drop begun w) rest c.loop-begun.arc_count c.loop-begun.last_start (begun + 1) a held.3 arc.1 in
+    (arc.0, omega (arith, held.1, arc.3), read, subst (SoFar w rest (c.loop-begun.arc_count + 1) (begun + 1)) place more)
 
-pub returns-else-value-eq0 : goal.returns-else-value-eq0
-returns-else-value-eq0 c =
-    c.loop-i.invariant.0 ∙ outcome-end_cut Bound c.loop-i.value c.loop-i.i c.args.octets.now c.loop-i-test.false c.if-value-eq0.false
+pub returns : goal.returns
+returns c =
+    let w = c.args.octets.now in
+    let begun = c.loop-begun.begun in
+    let held = c.loop-begun.invariant in
+    let none = drop_past begun w c.loop-begun-test.false in
+    let all = so_far_all w (drop begun w) c.loop-begun.arc_count c.loop-begun.last_start (begun + 1) held.3 none in
+    (held.2 ∙ ap (λ t. outcome (read_arcs Bound 0 t)) none, all.0, all.1)

@@ -1,13 +1,17 @@
-use Rattle.std.proofs.Common.{◌≡◌, ◌+◌, ◌≤◌, drop}
+use Rattle.std.proofs.Common.{◌≡◌, ◌+◌, ◌-◌, ◌≤◌, length, drop}
 use Rattle.const_oid.specs.Bound.{Bound}
 use Rattle.const_oid.specs.IdentifierOctets.{read_arcs}
 use Rattle.const_oid.specs.Outcome.{outcome}
 use Rattle.const_oid.proofs.LastArcLaws.{SoFar}
 use Rattle.const_oid.proofs.octets.find_arcs.Given as goal
 
--- what is found from here on is what is found from the start
-abbrev pub invariant-loop-i : goal.invariant-loop-i
-invariant-loop-i l =
-    (outcome (read_arcs Bound 0 l.octets) ≡ outcome (read_arcs Bound l.value (drop l.i l.octets)))
-    × SoFar l.octets (drop l.i l.octets) l.value l.arc_count l.last_start l.begun (l.i + 1)
-    × (l.arc_count ≤ l.i + 2)
+-- what is found from the next arc on is what is found from the start
+abbrev pub invariant-loop-begun : goal.invariant-loop-begun
+invariant-loop-begun l =
+    (l.begun ≤ length l.octets)
+    × (l.arc_count ≤ l.begun + 2)
+    × (outcome (read_arcs Bound 0 l.octets) ≡ outcome (read_arcs Bound 0 (drop l.begun l.octets)))
+    × SoFar l.octets (drop l.begun l.octets) l.arc_count l.last_start (l.begun + 1)
+
+abbrev pub decreases-loop-begun : goal.decreases-loop-begun
+decreases-loop-begun l = length l.octets - l.begun
