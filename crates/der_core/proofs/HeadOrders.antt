@@ -1,14 +1,15 @@
 -- The order of tags, lengths, headers and whole encodings.
 use Rattle.std.proofs.Common.{◌≡◌, ℕ, zero, suc, ◌+◌, ◌*◌, ◌/◌, ◌%◌, ◌<◌, ◌≤◌, List, [], ◌∷◌, ◌++◌, length, refl, sym, ap, ◌∙◌, arith, inl, inr}
-use Rattle.std.proofs.lemmas.Bool.{cases_lt, lt-ltb, le-ltb, ne_eqb}
+use Rattle.std.proofs.lemmas.Bool.{cases_lt}
 use Rattle.std.proofs.lemmas.List.{length-append}
 use Rattle.std.proofs.Math.Nat.{mul-le-mul_right, mod-lt}
 use Rattle.std.proofs.lemmas.Nat.{div-add-mod'}
 use Rattle.std.specs.Ordering.{nat_cmp, ordering_then}
-use Rattle.std.specs.declared.cmp.Ordering.TheVariants.{Less, Equal, Greater}
+use Rattle.std.specs.declared.cmp.Ordering.TheVariants.{Equal}
 use Rattle.std.specs.Int.Digits.{number_from_digits, number_from_digits_after, AllBelowBase}
 use Rattle.const_oid.specs.Digits.{digits}
 use Rattle.const_oid.proofs.DigitLaws.{digits-Digits, digits-one, digits-more, halved}
+pub use Rattle.const_oid.proofs.OrderLaws.{nat_cmp-less, nat_cmp-greater, nat_cmp-same}
 use Rattle.der_core_head.specs.Limits.{IsLength}
 use Rattle.der_core_head.specs.declared.tag.Tag.{Tag}
 use Rattle.der_core_head.specs.Tags.{IsTag, tag_octets, tag_at}
@@ -18,18 +19,7 @@ use Rattle.der_core_head.proofs.TagLaws.{tag_again}
 use Rattle.der_core_head.proofs.LengthForms.{length-short, length-long}
 use Rattle.der_core_head.proofs.HeadLaws.{length_again, split-tlv}
 use Rattle.der_core.specs.Orders.{octets_cmp}
-use Rattle.der_core.proofs.OrderLaws.{then_assoc, then_equal, nat_cmp-self, octets_cmp-self, octets_cmp-equal, Splits, octets_cmp-append, splits_append, splits_free}
-
--- Numbers
-
-pub nat_cmp-less : (m n : ℕ) → m < n → nat_cmp m n ≡ Less
-nat_cmp-less m n l = rw (lt-ltb m n l) refl
-
-pub nat_cmp-greater : (m n : ℕ) → n < m → nat_cmp m n ≡ Greater
-nat_cmp-greater m n l = rw (le-ltb m n (omega arith), ne_eqb m n (λ e. omega arith)) refl
-
-pub nat_cmp-same : (m n : ℕ) → m ≡ n → nat_cmp m n ≡ Equal
-nat_cmp-same m n e = ap (nat_cmp m) (sym e) ∙ nat_cmp-self m
+use Rattle.der_core.proofs.OrderLaws.{then_assoc, then_equal, octets_cmp-self, octets_cmp-equal, Splits, octets_cmp-append, splits_append, splits_free}
 
 -- one digit more
 push_cmp : (base m n d e : ℕ) → d < base → e < base → nat_cmp (m * base + d) (n * base + e) ≡ ordering_then (nat_cmp m n) (nat_cmp d e)

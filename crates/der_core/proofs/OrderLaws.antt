@@ -6,7 +6,7 @@ use Rattle.std.specs.Ordering.{nat_cmp, ordering_then, is_eq, MatchOrdering}
 use Rattle.std.specs.declared.cmp.Ordering.{Ordering}
 use Rattle.std.specs.declared.cmp.Ordering.TheVariants.{Less, Equal, Greater}
 use Rattle.std.specs.Cmp.Lexicographic.{same_text, texts_ties, nat_list_cmp_total}
-use Rattle.std.proofs.lemmas.Cmp.{ranked, tied_itself, nat_cmp_total}
+use Rattle.std.proofs.lemmas.Cmp.{ranked, tied_itself}
 use Rattle.std.proofs.lemmas.List.{append-nil}
 use Rattle.der_core.specs.Orders.{octets_cmp}
 
@@ -34,9 +34,6 @@ then_first Equal b h = absurd (h refl)
 then_first Greater b h = refl
 
 -- Numbers
-
-pub nat_cmp-self : (n : ℕ) → nat_cmp n n ≡ Equal
-nat_cmp-self n = tied_itself nat_cmp_total n
 
 pub nat_cmp-equal : (m n : ℕ) → nat_cmp m n ≡ Equal → m ≡ n
 nat_cmp-equal m n e = subst (λ o. MatchOrdering o (m < n) (m ≡ n) (n < m)) e (ranked m n (nat_cmp m n) refl)

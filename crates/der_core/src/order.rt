@@ -53,7 +53,8 @@ pub trait FirstTag: Shaped {
     /// The tag with which the encoding begins, or none where the value is written as nothing.
     fn first_tag(&self) -> Option<Tag>
         ensures { IsValid Self.shape (Self.written self.now)
-            → StartsWith (begins Self.shape) result (octets_of Self.shape (Self.written self.now)) };
+            → StartsWith (begins Self.shape) result
+            (octets_of Self.shape (Self.written self.now)) };
 }
 
 /// The header, whose tag is that of the type, then the contents.

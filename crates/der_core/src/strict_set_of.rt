@@ -1,7 +1,9 @@
 //! SET OF, whose members rise (X.690 8.12, 11.6).
 
-ghost use Rattle.std.specs.Prelude.{◌≡◌, None, IfSome};
+ghost use Rattle.std.specs.Prelude.{◌≡◌, ◌==◌, None, IfSome, length, slice_get};
 ghost use Rattle.std.specs.List.{AllByRecursion};
+ghost use Rattle.std.specs.Option.{option_copied};
+ghost use Rattle.std.specs.Slice.Iter.{iter_rest};
 ghost use Rattle.der_core_head.specs.declared.tag.Tag.TheVariants.{Set};
 ghost use Rattle.der_core_head.specs.Shapes.{above, nested, rising, octets_of, IsValid};
 ghost use Rattle.der_core_head.specs.Grammar.{plain_list, plain_option, follows_last};
@@ -19,6 +21,7 @@ use der_core_coding::values::{
 use der_core_head::{Error, ErrorKind, Length, Tag};
 use std::alloc::Global;
 use std::cmp::Ordering;
+use std::slice::Iter;
 
 /// Whether a value may follow the one before it in a set.
 ///
@@ -63,6 +66,43 @@ fn check_rising<T: DerOrd + Member>(values: &[T]) -> Result<(), Error>
 #[derive(Clone, Debug, Drop, PartialEq, Eq)]
 pub struct StrictSetOf<T> {
     pub values: Vec<T>,
+}
+
+impl<T> StrictSetOf<T> {
+    /// The members in their order.
+    pub fn as_slice(&self) -> &[T]
+        ensures { result.now ≡ self.now.values.items }
+    {
+        self.values.as_slice()
+    }
+
+    /// The member at an index, if there is one.
+    pub fn get(&self, index: usize) -> Option<&T>
+        ensures { option_copied result ≡ slice_get self.now.values.items index }
+    {
+        self.values.as_slice().get(index)
+    }
+
+    /// The members, lent one after another.
+    pub fn iter(&self) -> Iter<'_, T>
+        ensures { iter_rest result ≡ self.now.values.items }
+    {
+        self.values.as_slice().iter()
+    }
+
+    /// Whether there is no member.
+    pub fn is_empty(&self) -> bool
+        ensures { result ≡ (length self.now.values.items == 0) }
+    {
+        self.values.is_empty()
+    }
+
+    /// The number of members.
+    pub fn len(&self) -> usize
+        ensures { result ≡ length self.now.values.items }
+    {
+        self.values.len()
+    }
 }
 
 impl<T> FixedTag for StrictSetOf<T> {

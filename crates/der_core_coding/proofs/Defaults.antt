@@ -5,7 +5,6 @@ use Rattle.std.proofs.lemmas.Bool.{cases_lt, ltb-true}
 use Rattle.std.proofs.lemmas.Bool.Decides.{same_from_decides, Decides-eqb, Decides-like}
 use Rattle.std.proofs.lemmas.List.{append_assoc, append_cancel_left, append-nil}
 use Rattle.std.proofs.lemmas.Slice.Eq.{bytes_eq-Decides}
-use Rattle.der_core_head.proofs.AllOctets.{read_front}
 use Rattle.der_core_head.proofs.Bytes.{IsBytes}
 use Rattle.der_core_head.proofs.IntegerLaws.{integer_of-octets, integer_octets-of}
 use Rattle.der_core_head.proofs.LengthForms.{length-short, length-long, number-1}
@@ -18,6 +17,7 @@ use Rattle.der_core_head.specs.Leaves.{integer}
 use Rattle.der_core_head.specs.Shapes.{Content, ContentValue, leaf, nested, only, tagged, explicit, octets_of, contents, body_octets, IsValid, IsContent, IsBody}
 use Rattle.der_core_head.specs.Spelling.{is_content_apart, are_content_enough}
 use Rattle.der_core_head.specs.Tags.{context, tag_octets, number_octets, number_of, IsTag}
+use Rattle.der_core_head.proofs.Complete.{complete_element}
 use Rattle.der_core_octets.specs.Numbers.{signed_number}
 use Rattle.der_core_coding.specs.Defaults.{short_tlv}
 
@@ -100,7 +100,7 @@ is_read : (t : Tag) (c : Content) (v : ContentValue c) (d : List ℕ) → IsTag 
     → is_content_apart c ≡ true → are_content_enough c 64 ≡ true → IsValid (tagged t c) v → read (tagged t c) 64 (short_tlv t d) ≡ Ok (v, [])
 is_read t c v d tag h e apart enough is =
     let front : octets_of (tagged t c) v ++ [] ≡ short_tlv t d = append-nil (octets_of (tagged t c) v) ∙ spelled t c v d h e in
-    ap (λ w. read (tagged t c) 64 w) (sym front) ∙ read_front (tagged t c) 64 v [] refl apart enough is
+    ap (λ w. read (tagged t c) 64 w) (sym front) ∙ complete_element (tagged t c) 64 v [] refl apart enough is
 
 -- Behind one tag, for a content of fewer than 100 octets
 

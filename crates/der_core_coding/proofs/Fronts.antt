@@ -1,5 +1,5 @@
 -- A value at the front of octets, as its spelling.
-use Rattle.std.proofs.Common.{◌≡◌, ◌<◌, ℕ, true, ltb, List, ◌++◌, length, Result, Ok, Err, sym, ap, ◌∙◌, arith}
+use Rattle.std.proofs.Common.{◌≡◌, ℕ, true, ltb, List, ◌++◌, length, Result, Ok, Err, sym, ap, ◌∙◌, arith}
 use Rattle.std.proofs.lemmas.Bool.{le-ltb, ltb-false}
 use Rattle.std.specs.Prelude.{IfOk}
 use Rattle.der_core_head.specs.Limits.{length_max, levels_max}
@@ -14,7 +14,7 @@ use Rattle.der_core_head.specs.Spelling.{is_apart, are_enough, is_element}
 use Rattle.der_core_head.proofs.Results.{unless_ok}
 use Rattle.der_core_head.proofs.Bytes.{IsBytes}
 use Rattle.der_core_head.proofs.Sound.{sound}
-use Rattle.der_core_head.proofs.AllOctets.{read_front as front_read}
+use Rattle.der_core_head.proofs.Complete.{complete_element}
 use Rattle.der_core_octets.specs.Fronts.{read_front}
 
 pub front_spelled : {X : Type 0} (s : Shape) (view : X → Value s × List ℕ) (w : List ℕ) (r : Result X Error) → is_apart s ≡ true → IsBytes w → Gives view r (read_front s w)
@@ -27,7 +27,7 @@ front_spelled s view w (Err e) apart bytes h = tt
 
 pub front_again : (s : Shape) (v : Value s) (r w : List ℕ) → is_element s ≡ true → is_apart s ≡ true → are_enough s levels_max ≡ true → IsValid s v → w ≡ octets_of s v ++ r → Fits w → read_front s w ≡ Ok (v, r)
 front_again s v r w element apart enough valid e short =
-    rw (le-ltb length_max (length w) (omega (arith, short))) (ap (read s levels_max) e ∙ front_read s 64 v r element apart enough valid)
+    rw (le-ltb length_max (length w) (omega (arith, short))) (ap (read s levels_max) e ∙ complete_element s 64 v r element apart enough valid)
 
 -- what reading gives is what was answered
 pub gives_so : {X P : Type 0} (view : X → P) (r : Result X Error) (f x : Result P ErrorKind) → f ≡ x → Gives view r f → Gives view r x

@@ -1,5 +1,5 @@
 -- What is written to a slice, and that a valid value is written where there is room for it.
-use Rattle.std.proofs.Common.{◌≡◌, ℕ, ◌+◌, ◌-◌, ◌<◌, ◌≤◌, Bool, true, false, List, [], ◌∷◌, ◌++◌, length, Some, None, Result, Ok, Err, refl, sym, ap, ◌∙◌, append_assoc, arith, inl, inr}
+use Rattle.std.proofs.Common.{◌≡◌, ℕ, ◌+◌, ◌-◌, ◌≤◌, Bool, true, false, List, [], ◌∷◌, ◌++◌, length, Some, None, Result, Ok, Err, refl, sym, ap, ◌∙◌, append_assoc, arith, inl, inr}
 use Rattle.std.proofs.lemmas.Bool.{le-ltb}
 use Rattle.std.proofs.lemmas.List.{append-nil, length-append}
 use Rattle.std.specs.List.{flat_map, AllByRecursion}
@@ -13,21 +13,18 @@ use Rattle.der_core_head.specs.Heads.{Fits, head_octets, length_octets, tlv}
 use Rattle.der_core_head.specs.Leaves.{leaf_contents}
 use Rattle.der_core_head.specs.Shapes.{Shape, Content, Body, tagged, any, either, optional, defaulted, nothing, leaf, nested, done, field, only, many, exactly, few, in_order, Value, ContentValue, BodyValue, octets_of, contents, body_octets, unless, IsValid, IsContent, IsBody}
 use Rattle.der_core_head.specs.Reading.{GivesNow}
-use Rattle.der_core_head.specs.Writing.{Out, put, put_head, sum_len, fit_len, size_content, write_tlv, write_many, default_write, write, write_content, write_body}
+use Rattle.der_core_head.specs.Writing.{Out, put, put_head, fit_len, size_content, write_tlv, write_many, default_write, write, write_content, write_body}
 use Rattle.std.specs.Prelude.{IfOk, IsOkAnd}
-use Rattle.der_core_head.specs.Limits.{IsLength, length_max}
+use Rattle.der_core_head.specs.Limits.{IsLength}
 use Rattle.der_core_head.proofs.Fits.{fits_contents}
 use Rattle.der_core_head.proofs.Results.{ok_is, bind_ok, unless_ok}
 use Rattle.der_core_head.proofs.OkOctets.{writes_octets, writes_contents, writes_fitting}
-use Rattle.der_core_head.proofs.Written.{sized_content, ordered_written}
+use Rattle.der_core_head.proofs.Written.{sized_content, ordered_written, fit_size, sum_ok}
 use Rattle.der_core_octets.specs.Outputs.{blank, finished, filled}
 
 -- octets in so much room
 abbrev within : List ℕ → ℕ → Out
 within a r = record { written = a; room = Some (r - length a); failed = false }
-
-fit_size : (n : ℕ) → IsLength n → fit_len n ≡ Ok n
-fit_size n h = rw (le-ltb length_max (n + 0) (omega arith)) (ap (λ k. Ok k) (omega arith))
 
 put_within : (b a : List ℕ) (r : ℕ) → length a + length b ≤ r → put b (within a r) ≡ Ok (within (a ++ b) r)
 unfolding put
@@ -35,15 +32,12 @@ put_within b a r l =
     let left : r - length a - length b ≡ r - length (a ++ b) = omega (arith, length-append a b) in
     rw (le-ltb (r - length a) (length b) (omega arith)) (ap (λ n. Ok (record { written = a ++ b; room = Some n; failed = false })) left)
 
-sum_fits : (m n : ℕ) → IsLength (m + n) → sum_len m n ≡ Ok (m + n)
-sum_fits m n h = rw (le-ltb length_max (m + n) (omega arith)) refl
-
 head_within : (t : Tag) (n : ℕ) (a : List ℕ) (r : ℕ) → IsLength (length (head_octets t n) + n) → length a + length (head_octets t n) ≤ r → put_head t n (within a r) ≡ Ok (within (a ++ head_octets t n) r)
 unfolding put_head head_octets
 head_within t n a r h l =
     let sum = length-append (tag_octets t) (length_octets n) in
     let front = length-append a (tag_octets t) in
-    rw (sum_fits (length (head_octets t n)) n h, put_within (tag_octets t) a r (omega (arith, sum, l)))
+    rw (sum_ok (length (head_octets t n)) n h, put_within (tag_octets t) a r (omega (arith, sum, l)))
     (put_within (length_octets n) (a ++ tag_octets t) r (omega (arith, sum, front, l)) ∙ ap (λ w. Ok (within w r)) (append_assoc a (tag_octets t) (length_octets n)))
 
 tlv_within : (t : Tag) (c a : List ℕ) (r : ℕ) (n : Result ℕ ErrorKind) (f : Out → Result Out ErrorKind) → Fits (tlv t c) → n ≡ Ok (length c)

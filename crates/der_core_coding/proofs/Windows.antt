@@ -1,9 +1,7 @@
 -- What the reader of a slice sees when its end or its place moves.
-use Rattle.std.proofs.Common.{◌≡◌, ℕ, Ok, ◌+◌, ◌-◌, ◌<◌, ◌≤◌, Bool, List, ◌++◌, length, take, drop, refl, sym, ap, ◌∙◌, arith}
+use Rattle.std.proofs.Common.{◌≡◌, ℕ, ◌+◌, ◌-◌, ◌<◌, ◌≤◌, Bool, List, ◌++◌, length, take, drop, refl, sym, ap, ◌∙◌, arith}
 use Rattle.std.proofs.lemmas.List.{take-append-drop, take-take, drop-take, drop-drop, length-take, length-drop}
 use Rattle.der_core_head.specs.Reading.{Source, State, entered, restored, past}
-use Rattle.der_core_head.specs.Grammar.{slice_at}
-use Rattle.der_core_octets.proofs.ReadCases.{slice_ok}
 use Rattle.der_core_coding.specs.declared.slice_reader.SliceReader.TheInside.{Inside}
 use Rattle.der_core_coding.specs.Slices.{view_of, IsReader}
 
@@ -54,11 +52,6 @@ closed a k f ok h d =
     let b : drop (e + k) xs ≡ drop k (drop e xs) = sym (drop-drop k e xs) in
     let m : 64 - (a.depth - 1) ≡ (64 - a.depth) + 1 = omega (arith, ok.depth) in
     same _ _ _ _ _ _ _ _ _ r b m refl
-
-pub sliced : (p e n : ℕ) (xs : List ℕ) → p + n ≤ e → e ≤ length xs → slice_at n (take (e - p) (drop p xs)) ≡ Ok (take ((p + n) - p) (drop p xs), take (e - (p + n)) (drop (p + n) xs))
-sliced p e n xs h ok =
-    let mid : (p + n) - p ≡ n = omega arith in
-    slice_ok n (take (e - p) (drop p xs)) (omega (arith, window_length p e xs (omega arith) ok)) ∙ rw (mid, window_take p e n xs h, window_drop p e n xs h) refl
 
 -- the place moves
 pub passed : (a : Inside) (n : ℕ) → n ≤ a.end - a.position → a.position ≤ a.end → view_of (record a { position = a.position + n }) ≡ past n (view_of a)

@@ -1,5 +1,5 @@
 -- What the reader of a slice holds, and the writer to one.
-use Rattle.std.specs.Prelude.{◌-◌, ◌≤◌, ◌<◌, ◌^◌, ℕ, List, [], Some, false, take, drop, length}
+use Rattle.std.specs.Prelude.{◌-◌, ◌≤◌, ℕ, List, [], Some, false, take, drop, length}
 use Rattle.der_core_head.specs.Limits.{levels_max}
 use Rattle.der_core_head.specs.Heads.{Fits}
 use Rattle.der_core_head.specs.declared.encoding_rules.EncodingRules.TheVariants as encodings

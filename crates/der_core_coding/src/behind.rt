@@ -8,7 +8,7 @@ ghost use Rattle.der_core_octets.specs.Outputs.{Continues};
 use der_core_head::{Error, Length};
 use der_core_octets::{Writer, sum_len};
 
-/// So many octets and one more.
+/// A number of octets and one more.
 ///
 /// # Errors
 /// `Overflow` from 2^32 on.

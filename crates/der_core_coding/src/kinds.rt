@@ -43,15 +43,15 @@ use std::alloc::Global;
 pub trait DefaultValue: Shaped + AsRead {
     ghost default_octets: { List ℕ };
 
-    /// That value.
+    /// The default.
     fn default_value() -> Self
         ensures { read Self.shape levels_max default_octets ≡ Ok (Self.plain result, []) };
 
-    /// Whether a value is that one.
+    /// Whether a value is the default.
     fn is_default(&self) -> bool
         ensures value { result
             ≡ bytes_eq (octets_of Self.shape (Self.plain self.now)) default_octets }
-        // That value has an encoding.
+        // A value that is the default has an encoding.
         ensures valid { result ≡ true → IsValid Self.shape (Self.plain self.now) };
 }
 
@@ -62,12 +62,12 @@ pub trait DefaultValue: Shaped + AsRead {
 pub trait DefaultContent: ShapedValue + ApartValue + AsReadValue {
     ghost content_octets: { List ℕ };
 
-    /// The value with that content.
+    /// The default: the value with the content that the type states.
     fn default_content() -> Self
         ensures octets { contents Self.content (Self.value_plain result) ≡ content_octets }
         ensures valid { IsContent Self.content (Self.value_plain result) };
 
-    /// Whether a value is that one.
+    /// Whether a value is the default.
     fn is_default_content(&self) -> bool
         ensures value { result
             ≡ bytes_eq (contents Self.content (Self.value_plain self.now)) content_octets }

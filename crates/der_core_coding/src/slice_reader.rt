@@ -1,8 +1,8 @@
 //! The reader of a slice.
 
-ghost use Rattle.std.specs.Prelude.{◌≡◌, ◌≤◌, ◌<◌, ◌^◌, length, [], false, IfOk, IfErr, IsSomeAnd};
+ghost use Rattle.std.specs.Prelude.{◌≡◌, ◌≤◌, ◌<◌, length, [], false, IfOk, IfErr, IsSomeAnd};
 ghost use Rattle.std.specs.Prelude.{⊤};
-ghost use Rattle.der_core_head.specs.Limits.{levels_max};
+ghost use Rattle.der_core_head.specs.Limits.{length_max, levels_max};
 ghost use Rattle.der_core_head.specs.Heads.{Fits};
 ghost use Rattle.der_core_head.specs.declared.encoding_rules.EncodingRules.TheVariants.{Der};
 ghost use Rattle.der_core_head.specs.Reading.{State, unread, broken};
@@ -44,7 +44,7 @@ impl<'a> SliceReader<'a> {
     /// `Overflow` for 2^32 octets or more.
     pub fn new(bytes: &'a [u8]) -> Result<SliceReader<'a>, Error>
         ensures ok { IfOk result (λ r. Fits bytes.now × (r ≡ unread Der bytes.now)) }
-        ensures err { IfErr result (λ e. (2 ^ 32 ≤ length bytes.now)
+        ensures err { IfErr result (λ e. (length_max < length bytes.now)
             × (e.kind ≡ ErrorKind.Overflow)) }
     {
         let reader = SliceReader::new_with_encoding_rules(bytes, EncodingRules::Der)?;
@@ -60,7 +60,7 @@ impl<'a> SliceReader<'a> {
         encoding_rules: EncodingRules,
     ) -> Result<SliceReader<'a>, Error>
         ensures ok { IfOk result (λ r. Fits bytes.now × (r ≡ unread encoding_rules bytes.now)) }
-        ensures err { IfErr result (λ e. (2 ^ 32 ≤ length bytes.now)
+        ensures err { IfErr result (λ e. (length_max < length bytes.now)
             × (e.kind ≡ ErrorKind.Overflow)) }
     {
         if bytes.len() > 0xffff_ffff {
@@ -83,7 +83,7 @@ impl<'a> SliceReader<'a> {
     pub fn new_with_levels(bytes: &'a [u8], levels: usize) -> Result<SliceReader<'a>, Error>
         requires { levels ≤ levels_max }
         ensures ok { IfOk result (λ r. Fits bytes.now × (r ≡ unread_within levels bytes.now)) }
-        ensures err { IfErr result (λ e. (2 ^ 32 ≤ length bytes.now)
+        ensures err { IfErr result (λ e. (length_max < length bytes.now)
             × (e.kind ≡ ErrorKind.Overflow)) }
     {
         let mut reader = SliceReader::new(bytes)?;

@@ -1,7 +1,8 @@
 //! The writer to a slice.
 
-ghost use Rattle.std.specs.Prelude.{◌≡◌, ◌≤◌, ◌<◌, ◌^◌, length, [], Some, IfOk, IfErr, IsSomeAnd};
+ghost use Rattle.std.specs.Prelude.{◌≡◌, ◌≤◌, ◌<◌, length, [], Some, IfOk, IfErr, IsSomeAnd};
 ghost use Rattle.std.specs.Prelude.{IsNone, IsErrAnd, OnOk, OnErr, true, false};
+ghost use Rattle.der_core_head.specs.Limits.{IsLength, length_max};
 ghost use Rattle.der_core_head.specs.declared.tag_mode.TagMode.TheVariants as modes;
 ghost use Rattle.der_core_head.specs.Tags.{implicit_tag};
 ghost use Rattle.der_core_head.specs.Shapes.{explicit, tagged};
@@ -75,9 +76,9 @@ impl<'a> SliceWriter<'a> {
     /// Always that error.
     pub fn error<T>(&mut self, kind: ErrorKind) -> Result<T, Error>
         ensures kind { IsErrAnd result (λ e. e.kind ≡ kind) }
-        ensures place { length (output self.old).written < 2 ^ 32 → IfErr result (λ e.
+        ensures place { IsLength (length (output self.old).written) → IfErr result (λ e.
             IsSomeAnd e.position (λ p. p.value ≡ length (output self.old).written)) }
-        ensures far { 2 ^ 32 ≤ length (output self.old).written
+        ensures far { length_max < length (output self.old).written
             → IfErr result (λ e. IsNone e.position) }
         ensures failed { output self.new ≡ failing (output self.old) }
     {

@@ -1,5 +1,5 @@
 -- All octets, as their spelling.
-use Rattle.std.proofs.Common.{◌≡◌, ℕ, true, ltb, List, [], ◌++◌, length, Result, Ok, Err, refl, sym, ap, ◌∙◌, arith}
+use Rattle.std.proofs.Common.{◌≡◌, ℕ, true, ltb, List, [], length, Result, Ok, Err, refl, sym, ap, ◌∙◌, arith}
 use Rattle.std.proofs.lemmas.Bool.{le-ltb, ltb-false}
 use Rattle.std.proofs.lemmas.List.{append-nil}
 use Rattle.std.specs.Prelude.{IfOk}
@@ -7,23 +7,24 @@ use Rattle.der_core_head.specs.declared.error.Error.{Error}
 use Rattle.der_core_head.specs.declared.error.ErrorKind.TheVariants as kinds
 use Rattle.der_core_head.specs.Octets.{◌>>=◌}
 use Rattle.der_core_head.specs.Heads.{Fits}
-use Rattle.der_core_head.specs.Shapes.{Shape, Value, Spells, IsValid, octets_of}
+use Rattle.der_core_head.specs.Shapes.{Shape, Value, Spells, octets_of}
 use Rattle.der_core_head.specs.Grammar.{whole, read, read_whole}
 use Rattle.der_core_head.specs.Reading.{Gives}
-use Rattle.der_core_head.specs.Spelling.{is_apart, are_enough, is_element}
+use Rattle.der_core_head.specs.Spelling.{is_apart, are_enough}
 use Rattle.der_core_head.proofs.Results.{ok_is, bind_ok, unless_ok, whole_ok}
 use Rattle.der_core_head.proofs.Bytes.{IsBytes}
 use Rattle.der_core_head.proofs.Fits.{valid_fits}
 use Rattle.der_core_head.proofs.Sound.{sound}
-use Rattle.der_core_head.proofs.Complete.{complete, complete_element, stops_end}
+use Rattle.der_core_head.proofs.Complete.{complete, stops_end}
+use Rattle.der_core_head.specs.Limits.{length_max}
 
 pub is_spelled : {T : Type 0} (s : Shape) (plain : T → Value s) (w : List ℕ) (r : Result T Error) → is_apart s ≡ true → IsBytes w → Gives (λ v. (plain v, [])) r (read_whole s w) → IfOk r (λ v. Spells s (plain v) w)
 unfolding read_whole
 is_spelled s plain w (Ok v) a bytes e =
-    let h = unless_ok (ltb 4294967295 (length w)) kinds.Overflow (read s 64 w >>= whole) (plain v, []) e in
+    let h = unless_ok (ltb length_max (length w)) kinds.Overflow (read s 64 w >>= whole) (plain v, []) e in
     let x = bind_ok (read s 64 w) whole (plain v, []) h.1 in
     let o = whole_ok x.0 (plain v, []) x.2 in
-    let fits : Fits w = omega (arith, ltb-false 4294967295 (length w) h.0) in
+    let fits : Fits w = omega (arith, ltb-false length_max (length w) h.0) in
     let b = sound s 64 w (plain v) [] a bytes fits (x.1 ∙ ap (λ (q : Value s × List ℕ). Ok q) o.0) in
     record { valid = b.0; octets = b.1 ∙ append-nil (octets_of s (plain v)) }
 is_spelled s plain w (Err e) a bytes h = tt
@@ -33,14 +34,10 @@ unfolding read_whole
 whole_again s v w a n h =
     let fits = valid_fits s v h.valid in
     let e = ap (read s 64) (h.octets ∙ sym (append-nil (octets_of s v))) ∙ complete s 64 v [] a n h.valid (stops_end s) in
-    rw (le-ltb 4294967295 (length w) (omega (arith, ap length h.octets, fits)), e) refl
+    rw (le-ltb length_max (length w) (omega (arith, ap length h.octets, fits)), e) refl
 
 pub is_read : {T : Type 0} (s : Shape) (plain : T → Value s) (v : Value s) (w : List ℕ) (r : Result T Error) → is_apart s ≡ true → are_enough s 64 ≡ true → Spells s v w → Gives (λ v. (plain v, [])) r (read_whole s w) → Gives plain r (Ok v)
 is_read s plain p w (Ok v) a n h e =
     let same : (p, []) ≡ (plain v, []) = ok_is (p, []) (plain v, []) (sym (whole_again s p w a n h) ∙ e) in
     ap (λ (q : Value s × List ℕ). Ok q.0) same
 is_read s plain p w (Err d) a n h e = λ memory. absurd (cc (whole_again s p w a n h, e memory))
-
--- a value is read from the front of octets, whatever follows
-pub read_front : (s : Shape) (room : ℕ) (v : Value s) (r : List ℕ) → is_element s ≡ true → is_apart s ≡ true → are_enough s room ≡ true → IsValid s v → read s room (octets_of s v ++ r) ≡ Ok (v, r)
-read_front = complete_element

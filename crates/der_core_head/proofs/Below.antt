@@ -1,5 +1,5 @@
 -- The octets of a valid value are octets.
-use Rattle.std.proofs.Common.{ℕ, zero, suc, Bool, true, false, List, [], ◌∷◌, ◌++◌, length, Some, None, arith, inl, inr}
+use Rattle.std.proofs.Common.{ℕ, zero, suc, Bool, true, false, List, [], ◌∷◌, length, Some, None, arith, inl, inr}
 use Rattle.std.specs.List.{flat_map, AllByRecursion}
 use Rattle.std.specs.Str.{bytes_eq}
 use Rattle.der_core_head.specs.declared.tag.Tag.{Tag}
@@ -8,7 +8,7 @@ use Rattle.der_core_head.specs.Tags.{IsTag}
 use Rattle.der_core_head.specs.Heads.{Fits, head_octets, tlv}
 use Rattle.der_core_head.specs.Shapes.{Shape, Content, Body, tagged, any, either, optional, defaulted, nothing, leaf, nested, done, field, only, many, exactly, few, in_order, Value, ContentValue, BodyValue, octets_of, contents, body_octets, unless, IsValid, IsContent, IsBody}
 use Rattle.der_core_head.proofs.Bytes.{IsBytes}
-use Rattle.der_core_head.proofs.HeadLaws.{head_octets-below}
+use Rattle.der_core_head.proofs.HeadLaws.{head_octets-below, below-append}
 use Rattle.der_core_head.proofs.LeafLaws.{leaf_below}
 use Rattle.der_core_head.proofs.Fits.{fits_contents}
 
@@ -17,10 +17,6 @@ pub bytes_are : (w : List ℕ) → IsOctets w → IsBytes w
 bytes_are [] h i = omega arith
 bytes_are (b ∷ w) h zero = h.0
 bytes_are (b ∷ w) h (suc i) = bytes_are w h.1 i
-
-pub below-append : (u w : List ℕ) → IsOctets u → IsOctets w → IsOctets (u ++ w)
-below-append [] w h k = k
-below-append (b ∷ u) w h k = (h.0, below-append u w h.1 k)
 
 below-flat_map : {P : Type 0} (V : P → Type 0) (o : P → List ℕ) → ((x : P) → V x → IsOctets (o x)) → (xs : List P) → AllByRecursion V xs → IsOctets (flat_map o xs)
 below-flat_map V o each [] h = tt

@@ -17,6 +17,7 @@ use Rattle.der_core_head.proofs.Bytes.{IsBytes, bytes_rest}
 use Rattle.der_core_head.proofs.TagLaws.{tag_again, tag_sound}
 use Rattle.der_core_head.proofs.LengthForms.{length_at-none, length_at-indefinite}
 use Rattle.der_core_head.proofs.HeadLaws.{length_again, length_sound}
+use Rattle.der_core_head.specs.Limits.{IsLength, length_max}
 
 -- Tags
 
@@ -73,7 +74,7 @@ tag-some t o (inr h) = rw h.1 (omega arith)
 -- the octets that tell a length, or that it is indefinite
 abbrev Tells : Bool → Option ℕ → List ℕ → Type 0
 Tells constructed None l = (constructed ≡ true) × (l ≡ 0x80 ∷ [])
-Tells constructed (Some n) l = (n < 4294967296) × (l ≡ length_octets n)
+Tells constructed (Some n) l = IsLength n × (l ≡ length_octets n)
 
 length_ber_more : (c : Bool) (t : Tag) (w : List ℕ) (n : ℕ) (r : List ℕ) → length_at t w ≡ Ok (n, r) → length_ber_at c t w ≡ Ok (Some n, r)
 length_ber_more c t [] n r e = absurd (cc (length_at-none t))
@@ -367,21 +368,21 @@ body_len_again b r body fits =
     let w = b ++ r in
     let read = (body_read 64 b body).1 0 (length w) r (omega arith) in
     let count : length w - length r ≡ length b = omega (arith, length-append b r) in
-    rw (read.same, count, le-ltb 4294967295 (length b) (omega arith)) refl
+    rw (read.same, count, le-ltb length_max (length b) (omega arith)) refl
 
 pub body_len_sound : (w : List ℕ) (n : ℕ) → IsBytes w → body_len_at w ≡ Ok n
     → (b r : List ℕ) × IsIndefiniteBody 64 b × Fits b × (n ≡ length b) × (w ≡ b ++ r)
 unfolding body_len_at
 body_len_sound w n bytes e =
-    let r = bind_ok (closed_at (length w) 1 63 w) (λ r. cond (ltb 4294967295 (length w - length r)) (Err kinds.Overflow) (Ok (length w - length r))) n e in
-    let k = unless_ok (ltb 4294967295 (length w - length r.0)) kinds.Overflow (Ok (length w - length r.0)) n r.2 in
+    let r = bind_ok (closed_at (length w) 1 63 w) (λ r. cond (ltb length_max (length w - length r)) (Err kinds.Overflow) (Ok (length w - length r))) n e in
+    let k = unless_ok (ltb length_max (length w - length r.0)) kinds.Overflow (Ok (length w - length r.0)) n r.2 in
     let s = closed_sound (length w) 1 63 w r.0 bytes r.1 in
     let c = s.1.0 in
     let none : s.0 ≡ c = s.1.4 ∙ ap (λ (u : List ℕ). c ++ u) s.1.3 ∙ append-nil c in
     let parts : w ≡ c ++ r.0 = s.2 ∙ ap (λ (u : List ℕ). u ++ r.0) none in
     let count : length w - length r.0 ≡ length c = omega (arith, ap length parts, length-append c r.0) in
     let number : n ≡ length c = sym (ok_is (length w - length r.0) n k.1) ∙ count in
-    let fits : Fits c = omega (arith, ltb-false 4294967295 (length w - length r.0) k.0) in
+    let fits : Fits c = omega (arith, ltb-false length_max (length w - length r.0) k.0) in
     (c, r.0, s.1.2, fits, number, parts)
 
 -- a body has the octets that end it

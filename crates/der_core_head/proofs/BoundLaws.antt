@@ -4,24 +4,19 @@ use Rattle.std.specs.Prelude.{◌↔◌, flat_map, Contains}
 use Rattle.std.specs.List.{AllByRecursion}
 use Rattle.std.proofs.lemmas.Bool.{cases_lt}
 use Rattle.const_oid.specs.IdentifierOctets.{identifier_octets, IsIdentifier}
+use Rattle.const_oid.proofs.BoundedLaws.{widen}
 use Rattle.der_core_head.specs.Leaves.{Leaf, LeafValue, IsLeafValue, boolean, null, integer, bits, octets, identifier, utc_time, generalized_time, text, utf8, bmp, named}
 use Rattle.der_core_head.specs.Shapes.{Shape, Content, Body, tagged, any, either, optional, defaulted, nothing, leaf, nested, done, field, only, many, exactly, few, in_order, Value, ContentValue, BodyValue, IsValid, IsContent, IsBody}
 use Rattle.der_core_head.specs.Bounds.{IsLeafOf, IsOf, IsContentOf, IsBodyOf, IsLeafUnder, IsValidUnder, IsContentUnder, IsBodyUnder, leaf_identifiers, identifiers_of, content_identifiers, body_identifiers, AreBelow, HoldsLarge}
 
-each_alike : {P : Type 0} (F G : P → Type 0) → ((x : P) → F x → G x) → (xs : List P) → AllByRecursion F xs → AllByRecursion G xs
+pub each_alike : {P : Type 0} (F G : P → Type 0) → ((x : P) → F x → G x) → (xs : List P) → AllByRecursion F xs → AllByRecursion G xs
 each_alike F G each [] h = tt
 each_alike F G each (x ∷ xs) h = (each x h.0, each_alike F G each xs h.1)
 
 -- Under a wider bound
 
-arcs_wider : (small large : ℕ) → small ≤ large → (arcs : List ℕ) → IsIdentifier small arcs → IsIdentifier large arcs
-unfolding IsIdentifier
-arcs_wider small large le [] h = absurd h
-arcs_wider small large le (a ∷ []) h = absurd h
-arcs_wider small large le (a ∷ b ∷ arcs) h = (h.0, h.1, each_alike (λ n. n < small) (λ n. n < large) (λ n l. omega (arith, le, l)) arcs h.2)
-
 leaf_wider : (small large : ℕ) → small ≤ large → (l : Leaf) (v : LeafValue l) → IsLeafUnder small l v → IsLeafUnder large l v
-leaf_wider small large le (identifier own capacity) v h = (arcs_wider small large le v h.0, h.1)
+leaf_wider small large le (identifier own capacity) v h = (widen small large le v h.0, h.1)
 leaf_wider small large le boolean v h = h
 leaf_wider small large le null v h = h
 leaf_wider small large le (integer r) v h = h
@@ -65,11 +60,11 @@ mutual
 abbrev IsBelow : ℕ → List ℕ → Type 0
 IsBelow bound arcs = AllByRecursion (λ n. n < bound) arcs
 
-front_all : {P : Type 0} (F : P → Type 0) (a b : List P) → AllByRecursion F (a ++ b) → AllByRecursion F a
+pub front_all : {P : Type 0} (F : P → Type 0) (a b : List P) → AllByRecursion F (a ++ b) → AllByRecursion F a
 front_all F [] b h = tt
 front_all F (x ∷ a) b h = (h.0, front_all F a b h.1)
 
-back_all : {P : Type 0} (F : P → Type 0) (a b : List P) → AllByRecursion F (a ++ b) → AllByRecursion F b
+pub back_all : {P : Type 0} (F : P → Type 0) (a b : List P) → AllByRecursion F (a ++ b) → AllByRecursion F b
 back_all F [] b h = h
 back_all F (x ∷ a) b h = back_all F a b h.1
 
@@ -211,7 +206,7 @@ mutual
 
 -- What is valid under a bound has no arc that isn't below it, where the bound lets each second arc pass
 
-both_all : {P : Type 0} (F : P → Type 0) (a b : List P) → AllByRecursion F a → AllByRecursion F b → AllByRecursion F (a ++ b)
+pub both_all : {P : Type 0} (F : P → Type 0) (a b : List P) → AllByRecursion F a → AllByRecursion F b → AllByRecursion F (a ++ b)
 both_all F [] b h k = k
 both_all F (x ∷ a) b h k = (h.0, both_all F a b h.1 k)
 

@@ -10,8 +10,9 @@ use Rattle.der_core_head.specs.Grammar.{read, read_whole}
 use Rattle.der_core_head.specs.Bounds.{IsValidUnder, identifiers_of, AreBelow, HoldsLarge}
 use Rattle.der_core_head.proofs.Below.{bytes_are}
 use Rattle.der_core_head.proofs.Sound.{sound}
-use Rattle.der_core_head.proofs.AllOctets.{is_spelled, whole_again, read_front}
+use Rattle.der_core_head.proofs.AllOctets.{is_spelled, whole_again}
 use Rattle.der_core_head.proofs.BoundLaws.{wider, narrow, below, new_holds_large}
+use Rattle.der_core_head.proofs.Complete.{complete_element}
 
 -- one shape for each bound, whose values and octets are those of a base; at concrete shapes `at` changes nothing
 pub record Family (base : Shape) (S : ℕ → Shape) : Type 0 where
@@ -73,7 +74,7 @@ pub front_wider : (base : Shape) (S : ℕ → Shape) (f : Family base S) (small 
 front_wider base S f small large v w r le o fits e =
     let s = sound (S small) 64 w (f.at small v) r (f.apart small) (bytes_are w o) fits e in
     ap (read (S large) 64) (s.1 ∙ ap (λ (b : List ℕ). b ++ r) (same_octets base S f small large v))
-    ∙ read_front (S large) 64 (f.at large v) r (f.element large) (f.apart large) (f.enough large) (valid_wider base S f small large v le s.0)
+    ∙ complete_element (S large) 64 (f.at large v) r (f.element large) (f.apart large) (f.enough large) (valid_wider base S f small large v le s.0)
 
 pub front_new : (base : Shape) (S : ℕ → Shape) (f : Family base S) (small large : ℕ) (v : Value base) (w r : List ℕ) (e : ErrorKind) → IsOctets w → Fits w
     → read (S large) 64 w ≡ Ok (f.at large v, r) → read (S small) 64 w ≡ Err e → HoldsLarge small (identifiers_of base v)
@@ -82,6 +83,6 @@ front_new base S f small large v w r e o fits read_large refused =
     new_valid base S f small large v s.0
     (λ h. absurd (cc (
       ap (read (S small) 64) (s.1 ∙ ap (λ (b : List ℕ). b ++ r) (same_octets base S f large small v))
-          ∙ read_front (S small) 64 (f.at small v) r (f.element small) (f.apart small) (f.enough small) h,
+          ∙ complete_element (S small) 64 (f.at small v) r (f.element small) (f.apart small) (f.enough small) h,
       refused,
     )))

@@ -14,16 +14,17 @@ use Rattle.der_core_head.specs.declared.error.ErrorKind.TheVariants as kinds
 use Rattle.der_core_head.specs.declared.tag.Tag.{Tag}
 use Rattle.der_core_head.specs.Octets.{◌>>=◌, IsOctets}
 use Rattle.der_core_head.specs.Tags.{IsTag, tag_octets, tag_at}
-use Rattle.der_core_head.specs.Heads.{Head, length_octets, head_octets, tlv, shortest, length_at, head_at}
+use Rattle.der_core_head.specs.Heads.{Head, length_octets, head_octets, tlv, shortest, length_at, head_at, Fits}
 use Rattle.der_core_head.proofs.Results.{ok_is, bind_ok, if_ok, unless_ok, either_ok}
 use Rattle.der_core_head.proofs.Bytes.{IsBytes, bytes_rest, bytes_tail, bytes_take, octets_are}
 use Rattle.der_core_head.proofs.TagLaws.{tag_again, tag_sound, tag_octets-below}
 use Rattle.der_core_head.proofs.LengthForms.{length-short, length-long, length-digits-le, length_at-digits, shortest-ok}
+use Rattle.der_core_head.specs.Limits.{IsLength}
 
 -- Lengths
 
 -- the octets of a length, and what follows, are read as that length
-pub length_again : (t : Tag) (n : ℕ) (r : List ℕ) → n < 4294967296 → length_at t (length_octets n ++ r) ≡ Ok (n, r)
+pub length_again : (t : Tag) (n : ℕ) (r : List ℕ) → IsLength n → length_at t (length_octets n ++ r) ≡ Ok (n, r)
 unfolding length_at
 length_again t n r h = elim (cases_lt n 128) [ inl l ↦ rw (length-short n l, lt-ltb n 128 l) refl | inr l ↦ long l ]
   where
@@ -38,23 +39,23 @@ length_again t n r h = elim (cases_lt n 128) [ inl l ↦ rw (length-short n l, l
         ∙ ap (λ k. Ok (k, r)) is.number)
 
 -- what four digits or fewer spell
-from_digits-lt : (ds : List ℕ) → IsOctets ds → length ds ≤ 4 → number_from_digits 256 ds < 4294967296
+from_digits-lt : (ds : List ℕ) → IsOctets ds → length ds ≤ 4 → IsLength (number_from_digits 256 ds)
 from_digits-lt ds all l =
     let most : 256 ^ length ds ≤ 256 ^ 4 = pow-le-pow_right {n = 256} (omega arith) l in
     omega (arith, number_lt 256 ds all)
 
 -- digits that were read are in the one form of their number
 shortest_sound : (t : Tag) (first : ℕ) (ds w : List ℕ) (n : ℕ) (r : List ℕ) → IsOctets ds → length ds ≤ 4 → shortest t first ds w ≡ Ok (n, r)
-    → (first ∷ (ds ++ w) ≡ length_octets n ++ r) × (n < 4294967296)
+    → (first ∷ (ds ++ w) ≡ length_octets n ++ r) × IsLength n
 shortest_sound t first ds w n r all l e =
     let number = number_from_digits 256 ds in
     let h = if_ok (bytes_eq (length_octets number) (first ∷ ds)) (kinds.Length t) (Ok (number, w)) (n, r) e in
     let form : length_octets number ≡ first ∷ ds = (bytes_eq-Decides (length_octets number) (first ∷ ds)).0 h.0 in
-    subst (λ (q : ℕ × List ℕ). (first ∷ (ds ++ w) ≡ length_octets q.0 ++ q.1) × (q.0 < 4294967296)) (ok_is (number, w) (n, r) h.1)
+    subst (λ (q : ℕ × List ℕ). (first ∷ (ds ++ w) ≡ length_octets q.0 ++ q.1) × IsLength q.0) (ok_is (number, w) (n, r) h.1)
     (ap (λ (o : List ℕ). o ++ w) (sym form), from_digits-lt ds all l)
 
 -- what is read as a length is its octets and what follows
-pub length_sound : (t : Tag) (w : List ℕ) (n : ℕ) (r : List ℕ) → IsBytes w → length_at t w ≡ Ok (n, r) → (w ≡ length_octets n ++ r) × (n < 4294967296)
+pub length_sound : (t : Tag) (w : List ℕ) (n : ℕ) (r : List ℕ) → IsBytes w → length_at t w ≡ Ok (n, r) → (w ≡ length_octets n ++ r) × IsLength n
 unfolding length_at
 length_sound t [] n r bytes e = absurd cc
 length_sound t (m ∷ w) n r bytes e =
@@ -65,7 +66,7 @@ length_sound t (m ∷ w) n r bytes e =
     elim (either_ok (ltb m 128) (Ok (m, w)) long (Ok (n, r)) e) [
       | inl h ↦
           let small : m < 128 = ltb-true m 128 h.0 in
-          subst (λ (q : ℕ × List ℕ). (m ∷ w ≡ length_octets q.0 ++ q.1) × (q.0 < 4294967296)) (ok_is (m, w) (n, r) h.1)
+          subst (λ (q : ℕ × List ℕ). (m ∷ w ≡ length_octets q.0 ++ q.1) × IsLength q.0) (ok_is (m, w) (n, r) h.1)
           (ap (λ (o : List ℕ). o ++ w) (sym (length-short m small)), omega arith)
       | inr h ↦
           let a = unless_ok (eqb m 128) kinds.IndefiniteLength (cond (ltb 132 m) (Err kinds.Overlength) enough) (n, r) h.1 in
@@ -80,13 +81,13 @@ length_sound t (m ∷ w) n r bytes e =
 -- Headers
 
 -- the octets of a header, and what follows, are read as that header
-pub head_again : (t : Tag) (n : ℕ) (r : List ℕ) → IsTag t → n < 4294967296 → head_at (head_octets t n ++ r) ≡ Ok (record { tag = t; len = n }, r)
+pub head_again : (t : Tag) (n : ℕ) (r : List ℕ) → IsTag t → IsLength n → head_at (head_octets t n ++ r) ≡ Ok (record { tag = t; len = n }, r)
 unfolding head_at head_octets
 head_again t n r tag fits = rw (append_assoc (tag_octets t) (length_octets n) r, tag_again t (length_octets n ++ r) tag, length_again t n r fits) refl
 
 -- what is read as a header is its octets and what follows
 pub head_sound : (w : List ℕ) (h : Head) (r : List ℕ) → IsBytes w → head_at w ≡ Ok (h, r)
-    → (w ≡ head_octets h.tag h.len ++ r) × IsTag h.tag × (h.len < 4294967296)
+    → (w ≡ head_octets h.tag h.len ++ r) × IsTag h.tag × IsLength h.len
 unfolding head_at head_octets
 head_sound w h r bytes e =
     let t = bind_ok (tag_at w) (λ t. length_at t.0 t.1 >>= λ n. Ok (record { tag = t.0; len = n.0 }, n.1)) (h, r) e in
@@ -96,29 +97,29 @@ head_sound w h r bytes e =
     let b = length_sound t.0.0 t.0.1 n.0.0 n.0.1 (bytes_rest (tag_octets t.0.0) t.0.1 w a.0 bytes) n.1 in
     let octets : w ≡ (tag_octets t.0.0 ++ length_octets n.0.0) ++ n.0.1 =
     a.0 ∙ ap (λ (o : List ℕ). tag_octets t.0.0 ++ o) b.0 ∙ sym (append_assoc (tag_octets t.0.0) (length_octets n.0.0) n.0.1) in
-    subst (λ (q : Head × List ℕ). (w ≡ (tag_octets q.0.tag ++ length_octets q.0.len) ++ q.1) × IsTag q.0.tag × (q.0.len < 4294967296))
+    subst (λ (q : Head × List ℕ). (w ≡ (tag_octets q.0.tag ++ length_octets q.0.len) ++ q.1) × IsTag q.0.tag × IsLength q.0.len)
     (ok_is made (h, r) n.2) (octets, a.1, b.1)
 
 -- Octets are below 256
 
-below-append : (a b : List ℕ) → IsOctets a → IsOctets b → IsOctets (a ++ b)
+pub below-append : (a b : List ℕ) → IsOctets a → IsOctets b → IsOctets (a ++ b)
 below-append [] b p q = q
 below-append (x ∷ a) b p q = (p.0, below-append a b p.1 q)
 
-length_octets-below : (n : ℕ) → n < 4294967296 → IsOctets (length_octets n)
+length_octets-below : (n : ℕ) → IsLength n → IsOctets (length_octets n)
 length_octets-below n h = elim (cases_lt n 128) [ inl l ↦ rw (length-short n l) (omega arith, tt) | inr l ↦ long l ]
   where
     long : 128 ≤ n → IsOctets (length_octets n)
     long l = rw (length-long n _ l refl) (omega (arith, length-digits-le n h), (digits-Digits 256 n (omega arith)).below)
 
-pub head_octets-below : (t : Tag) (n : ℕ) → IsTag t → n < 4294967296 → IsOctets (head_octets t n)
+pub head_octets-below : (t : Tag) (n : ℕ) → IsTag t → IsLength n → IsOctets (head_octets t n)
 unfolding head_octets
 head_octets-below t n tag fits = below-append (tag_octets t) (length_octets n) (tag_octets-below t tag) (length_octets-below n fits)
 
 -- Encodings
 
 -- two encodings with what follows them are equal only where tags, contents and what follows are
-pub split-tlv : (a b : Tag) (c d r s : List ℕ) → IsTag a → IsTag b → length c < 4294967296 → length d < 4294967296
+pub split-tlv : (a b : Tag) (c d r s : List ℕ) → IsTag a → IsTag b → Fits c → Fits d
     → tlv a c ++ r ≡ tlv b d ++ s → (a ≡ b) × (c ≡ d) × (r ≡ s)
 unfolding tlv
 split-tlv a b c d r s p q i j e =

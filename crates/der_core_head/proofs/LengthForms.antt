@@ -202,16 +202,3 @@ pub length_at-4 : (t : Tag) (a b c d : ℕ) (w : List ℕ) → a < 256 → b < 2
     → length_at t (132 ∷ a ∷ b ∷ c ∷ d ∷ w) ≡ cond (eqb a 0) (Err (kinds.Length t)) (Ok (a * 16777216 + b * 65536 + c * 256 + d, w))
 length_at-4 t a b c d w p q r s =
     length_at-more t a (b ∷ c ∷ d ∷ []) w _ (p, (q, (r, (s, tt)))) (omega arith) (omega arith) (number-4 a b c d)
-
--- what is read at each first octet
-pub ruleset length_readings = (
-  length_at-none,
-  length_at-short,
-  length_at-indefinite,
-  length_at-large,
-  length_at-cut,
-  length_at-1,
-  length_at-2,
-  length_at-3,
-  length_at-4,
-)

@@ -8,7 +8,7 @@ use Rattle.der_core_head.specs.declared.tag.Tag.{Tag}
 use Rattle.der_core_head.specs.Octets.{◌>>=◌, Readings}
 use Rattle.der_core_head.specs.Tags.{same_tag, tag_at}
 use Rattle.der_core_head.specs.Heads.{head_at}
-use Rattle.der_core_head.specs.Shapes.{Step, Shape, Content, Body, tagged, any, either, optional, defaulted, nothing, leaf, nested, done, field, only, many, exactly, few, in_order, Value, ContentValue, BodyValue, octets_of, begins}
+use Rattle.der_core_head.specs.Shapes.{Step, Shape, Content, Body, tagged, any, either, optional, defaulted, nothing, leaf, nested, done, field, only, many, exactly, few, in_order, octets_of, begins}
 use Rattle.der_core_head.specs.Grammar.{whole, read, read_content, read_body, read_many, read_exactly, read_in_order, follows_last, tlv_at, peek_at, chosen, opt_after, opt_at, default_after, default_at, either_at, value_at}
 use Rattle.der_core_head.proofs.Results.{bind_ok}
 

@@ -1,13 +1,13 @@
 -- The contents of a set of named bits are of one set, and are read as it.
-use Rattle.std.proofs.Common.{◌≡◌, ℕ, zero, suc, ◌+◌, ◌-◌, ◌*◌, ◌/◌, ◌%◌, ◌<◌, ◌≤◌, ◌^◌, true, List, [], ◌∷◌, ◌++◌, get_or, map, reverse, Ok, Err, refl, ap, subst, sym, ◌∙◌, arith, div-add-mod', ◌⊎◌, inl, inr}
+use Rattle.std.proofs.Common.{◌≡◌, ℕ, zero, suc, ◌+◌, ◌-◌, ◌*◌, ◌/◌, ◌%◌, ◌<◌, ◌≤◌, ◌^◌, true, List, [], ◌∷◌, get_or, map, reverse, Ok, Err, refl, ap, subst, sym, ◌∙◌, arith, ◌⊎◌, inl, inr}
 use mathlib.Core.List.{reverse_aux}
 use Rattle.std.specs.Prelude.{nat_lt, ◌==◌, ◌&&◌, not}
-use Rattle.std.specs.Int.{w8, reverse_bits, reverse_bits_onto, bit_at}
+use Rattle.std.specs.Int.{w8, reverse_bits, reverse_bits_onto}
 use Rattle.std.specs.Int.Digits.{number_from_digits}
 use Rattle.std.proofs.lemmas.Int.Digits.{number_push}
-use Rattle.std.proofs.lemmas.Bool.{agree_below, agree_below_at, ltb-true, lt-ltb, eqb-true, eqb-false, eq-eqb, ne_eqb, and_parts, and_from, not-true, not_from_false, cases_eq, cases_lt, cond-true, cond-false}
+use Rattle.std.proofs.lemmas.Bool.{agree_below_at, ltb-true, lt-ltb, eqb-true, eqb-false, eq-eqb, ne_eqb, and_parts, and_from, not-true, not_from_false, cases_eq, cases_lt, cond-true, cond-false}
 use Rattle.std.proofs.lemmas.List.{reverse-reverse, reverse-append}
-use Rattle.std.proofs.lemmas.Nat.Bits.{bit_at-trailing_zeros, bit_at-zero, bit_at_cat_low, bit_at_cat_high}
+use Rattle.std.proofs.lemmas.Nat.Bits.{bit_at-trailing_zeros}
 use Rattle.const_oid.specs.Digits.{digits}
 use Rattle.const_oid.proofs.DigitLaws.{digits-Digits, digits-one, digits-more, quotient_pos, first_of_digits-pos, digits-number_from_digits}
 use Rattle.der_core_head.specs.declared.error.ErrorKind.TheVariants as kinds
@@ -227,81 +227,3 @@ named_below n = (by (cases_eq n 0), set_octets-below n)
     by (inr some) =
         let small = unused_bits-below (set_octets n) (set_octets-below n) (last-set_octets n (omega arith)) in
         omega arith
-
--- Where each name stands
-
-last-push : (w : List ℕ) (o : ℕ) → last_octet (w ++ (o ∷ [])) ≡ o
-last-push [] o = refl
-last-push (x ∷ []) o = refl
-last-push (x ∷ y ∷ w) o = last-push (y ∷ w) o
-
-lowest_octet : (n : ℕ) → get_or (reverse (digits 256 n)) 0 0 ≡ n % 256
-lowest_octet n = first-reverse (digits 256 n) ∙ by (cases_lt n 256)
-  where
-    by : (n < 256) ⊎ (256 ≤ n) → last_octet (digits 256 n) ≡ n % 256
-    by (inl l) =
-        let same : n ≡ n % 256 = omega arith in
-        ap last_octet (digits-one 256 n l) ∙ same
-    by (inr l) = ap last_octet (digits-more 256 n (omega arith) l) ∙ last-push (digits 256 (n / 256)) (n % 256)
-
-next_octet : (n j : ℕ) → get_or (reverse (digits 256 n)) (suc j) 0 ≡ get_or (reverse (digits 256 (n / 256))) j 0
-next_octet n j = by (cases_lt n 256)
-  where
-    zeros : (j : ℕ) → get_or {A = ℕ} (0 ∷ []) j 0 ≡ 0
-    zeros zero = refl
-    zeros (suc j) = refl
-
-    by : (n < 256) ⊎ (256 ≤ n) → get_or (reverse (digits 256 n)) (suc j) 0 ≡ get_or (reverse (digits 256 (n / 256))) j 0
-    by (inl l) =
-        let none : n / 256 ≡ 0 = omega arith in
-        ap (λ w. get_or (reverse w) (suc j) 0) (digits-one 256 n l)
-        ∙ sym (ap (λ m. get_or (reverse (digits 256 m)) j 0) none ∙ ap (λ w. get_or (reverse w) j 0) (digits-one 256 0 (omega arith)) ∙ zeros j)
-    by (inr l) = ap (λ w. get_or w (suc j) 0) (ap reverse (digits-more 256 n (omega arith) l) ∙ reverse-append (digits 256 (n / 256)) (n % 256 ∷ []))
-
-bit_at-octets : (n j k : ℕ) → k < 8 → bit_at (get_or (reverse (digits 256 n)) j 0) k ≡ bit_at n (8 * j + k)
-bit_at-octets n zero k l =
-    let place : 8 * 0 + k ≡ k = omega arith in
-    ap (λ o. bit_at o k) (lowest_octet n)
-    ∙ sym (ap (bit_at n) place ∙ ap (λ m. bit_at m k) (sym (div-add-mod' n 256)) ∙ bit_at_cat_low (n / 256) 8 (n % 256) k l)
-bit_at-octets n (suc j) k l =
-    let place : 8 * suc j + k - 8 ≡ 8 * j + k = omega arith in
-    ap (λ o. bit_at o k) (next_octet n j)
-    ∙ bit_at-octets (n / 256) j k l
-    ∙ sym (ap (λ m. bit_at m (8 * suc j + k)) (sym (div-add-mod' n 256)) ∙ bit_at_cat_high (n / 256) 8 (n % 256) (8 * suc j + k) (omega arith) (omega arith) ∙ ap (bit_at (n / 256)) place)
-
-octet_at : (w : List ℕ) (j : ℕ) → IsOctets w → get_or w j 0 < 256
-octet_at [] j h = omega arith
-octet_at (o ∷ w) zero h = h.0
-octet_at (o ∷ w) (suc j) h = octet_at w j h.1
-
-turned-at : (w : List ℕ) (j : ℕ) → get_or (turned w) j 0 ≡ reverse_bits w8 (get_or w j 0)
-unfolding reverse_bits_onto
-turned-at [] j = refl
-turned-at (o ∷ w) zero = refl
-turned-at (o ∷ w) (suc j) = turned-at w j
-
-bit_at-turned : (o k : ℕ) → o < 256 → k < 8 → bit_at (reverse_bits w8 o) (7 - k) ≡ bit_at o k
-unfolding reverse_bits_onto
-bit_at-turned o k l m =
-    let each = agree_below_at (λ o. agree_below (λ k. bit_at (reverse_bits w8 o) (7 - k) == bit_at o k) (λ _. true) 8) (λ _. true) 256 o refl l in
-    eqb-true (bit_at (reverse_bits w8 o) (7 - k)) (bit_at o k) (agree_below_at (λ k. bit_at (reverse_bits w8 o) (7 - k) == bit_at o k) (λ _. true) 8 k each m)
-
--- name i stands in octet i / 8, at the bit i % 8 from the highest
-pub bit_at-set_octets : (n i : ℕ) → bit_at (get_or (set_octets n) (i / 8) 0) (7 - i % 8) ≡ bit_at n i
-bit_at-set_octets n i = by (cases_eq n 0)
-  where
-    nothing : (j k : ℕ) → bit_at (get_or {A = ℕ} [] j 0) k ≡ 0
-    nothing j k = bit_at-zero k
-
-    by : (n ≡ 0) ⊎ (n ≡ 0 → ⊥) → bit_at (get_or (set_octets n) (i / 8) 0) (7 - i % 8) ≡ bit_at n i
-    by (inl e) =
-        ap (λ w. bit_at (get_or w (i / 8) 0) (7 - i % 8)) (ap set_octets e ∙ set_octets-zero)
-        ∙ nothing (i / 8) (7 - i % 8) ∙ sym (ap (λ m. bit_at m i) e ∙ bit_at-zero i)
-    by (inr some) =
-        let w = reverse (digits 256 n) in
-        let place : 8 * (i / 8) + i % 8 ≡ i = omega arith in
-        ap (λ w. bit_at (get_or w (i / 8) 0) (7 - i % 8)) (set_octets-pos n (omega arith))
-        ∙ ap (λ o. bit_at o (7 - i % 8)) (turned-at w (i / 8))
-        ∙ bit_at-turned (get_or w (i / 8) 0) (i % 8) (octet_at w (i / 8) (digits-octets n)) (omega arith)
-        ∙ bit_at-octets n (i / 8) (i % 8) (omega arith)
-        ∙ ap (bit_at n) place

@@ -17,16 +17,17 @@ use Rattle.der_core_head.specs.Shapes.{Step, Shape, Content, Body, tagged, any, 
 use Rattle.der_core_head.specs.Reading.{Gives}
 use Rattle.der_core_head.specs.Writing.{Out, lacks, less, put, put_head, head_len, sum_len, fit_len, tlv_len, both_len, many_len, default_len, size, size_content, size_body, write_tlv, write_many, all_follow, write_in_order, default_write, write, write_content, write_body}
 use Rattle.der_core_head.proofs.Results.{ok_is, bind_ok, unless_ok}
+use Rattle.der_core_head.specs.Limits.{IsLength, length_max}
 
 -- an Ok is the number of these octets, and a length can count them
 abbrev ReadsFront : Result ℕ ErrorKind → List ℕ → Type 0
 ReadsFront r w = (n : ℕ) → r ≡ Ok n → (n ≡ length w) × Fits w
 
-sum_is : (m n k : ℕ) → sum_len m n ≡ Ok k → (m + n ≡ k) × (k < 4294967296)
+sum_is : (m n k : ℕ) → sum_len m n ≡ Ok k → (m + n ≡ k) × IsLength k
 sum_is m n k e =
-    let h = unless_ok (nat_lt 4294967295 (m + n)) kinds.Overflow (Ok (m + n)) k e in
+    let h = unless_ok (nat_lt length_max (m + n)) kinds.Overflow (Ok (m + n)) k e in
     let same = ok_is (m + n) k h.1 in
-    (same, omega (arith, same, ltb-false 4294967295 (m + n) h.0))
+    (same, omega (arith, same, ltb-false length_max (m + n) h.0))
 
 none_counted : ReadsFront (Ok 0) []
 none_counted n e = (sym (ok_is 0 n e), omega arith)
@@ -53,8 +54,8 @@ both_counted a b (Ok m) (Ok l) f g n e =
     let sum = length-append a b in
     (omega (arith, h.0, (f m refl).0, (g l refl).0, sum), omega (arith, h.0, h.1, (f m refl).0, (g l refl).0, sum))
 
-many_from : {P : Type 0} (f : P → Result ℕ ErrorKind) (o : P → List ℕ) → ((x : P) → ReadsFront (f x) (o x)) → (xs : List P) (m n : ℕ) → m < 4294967296 → many_len f xs m ≡ Ok n
-    → (n ≡ m + length (flat_map o xs)) × (n < 4294967296)
+many_from : {P : Type 0} (f : P → Result ℕ ErrorKind) (o : P → List ℕ) → ((x : P) → ReadsFront (f x) (o x)) → (xs : List P) (m n : ℕ) → IsLength m → many_len f xs m ≡ Ok n
+    → (n ≡ m + length (flat_map o xs)) × IsLength n
 many_from f o each [] m n l e = let same = ok_is m n e in (omega (arith, same), omega (arith, same, l))
 many_from f o each (x ∷ xs) m n l e =
     let h = bind_ok (f x) (λ k. sum_len m k >>= many_len f xs) n e in

@@ -1,8 +1,11 @@
 -- What results that are passed on tell of their parts.
 use Rattle.std.proofs.Common.{◌≡◌, ◌≢◌, ℕ, Bool, true, false, cond, List, [], ◌∷◌, Result, Ok, Err, refl, ◌⊎◌, inl, inr}
+use Rattle.std.specs.Prelude.{IfErr}
+use Rattle.der_core_head.specs.declared.error.Error.{Error}
 use Rattle.der_core_head.specs.declared.error.ErrorKind.{ErrorKind}
 use Rattle.der_core_head.specs.declared.error.ErrorKind.TheVariants as kinds
 use Rattle.der_core_head.specs.Octets.{◌>>=◌}
+use Rattle.der_core_head.specs.Reading.{Gives}
 use Rattle.der_core_head.specs.Grammar.{whole}
 
 abbrev pub fine : {A : Type 0} → A → Result A ErrorKind
@@ -36,3 +39,9 @@ whole_ok (p, b ∷ w) y e = absurd cc
 pub only_memory : {A : Type 0} (k : ErrorKind) (x : A) (r : Result A ErrorKind) → r ≡ Ok x → (k ≢ kinds.OutOfMemory → r ≡ Err k) → k ≡ kinds.OutOfMemory
 only_memory kinds.OutOfMemory x r e h = refl
 only_memory _ x r e h = absurd (cc (e, h (λ q. absurd cc)))
+
+-- what would give a value is refused for want of memory alone
+pub memory_alone : {X P : Type 0} (view : X → P) (given : P → Type 0) (r : Result X Error) → ((v : P) → given v → Gives view r (Ok v))
+    → IfErr r (λ e. e.kind ≢ kinds.OutOfMemory → (v : P) → given v → ⊥)
+memory_alone view given (Ok x) h = tt
+memory_alone view given (Err e) h = λ n v s. let wrong = h v s n in absurd cc

@@ -7,10 +7,6 @@ use Rattle.std.specs.List.{flat_map, AllByRecursion}
 use Rattle.std.specs.Str.{bytes_eq}
 use Rattle.std.specs.Bool.{⊤}
 use Rattle.std.proofs.lemmas.Slice.Eq.{bytes_eq-Decides}
-use Rattle.std.specs.Ordering.{nat_cmp}
-use Rattle.std.specs.declared.cmp.Ordering.{Ordering}
-use Rattle.std.specs.declared.cmp.Ordering.TheVariants.{Less, Equal, Greater}
-use Rattle.std.specs.Cmp.Lexicographic.{slice_cmp}
 use Rattle.der_core_head.specs.declared.encoding_rules.EncodingRules.TheVariants as encodings
 use Rattle.der_core_head.specs.declared.error.ErrorKind.{ErrorKind}
 use Rattle.der_core_head.specs.declared.error.ErrorKind.TheVariants as kinds
@@ -29,6 +25,7 @@ use Rattle.der_core_head.proofs.TagLaws.{same_tag-eq}
 use Rattle.der_core_head.proofs.HeadLaws.{head_sound}
 use Rattle.der_core_head.proofs.LeafLaws.{leaf_sound}
 use Rattle.der_core_head.proofs.InOrder.{ok_follows}
+use Rattle.der_core_head.specs.Limits.{length_max}
 
 -- a part in front, and what the rest is
 joined : (a b c rest w : List ℕ) → w ≡ a ++ rest → rest ≡ b ++ c → w ≡ (a ++ b) ++ c
@@ -258,12 +255,12 @@ mutual
       ]
   sound nothing room w v r a bytes fits e = (tt, ap (λ (q : Unit {0} × List ℕ). q.1) (ok_is (tt, w) (v, r) e))
   sound (defaulted s d) room w v r a bytes fits e =
-      let q = and_parts _ (are_octets d && ltb (length d) 4294967296) a in
-      let k = and_parts (are_octets d) (ltb (length d) 4294967296) q.1 in
+      let q = and_parts _ (are_octets d && ltb (length d) (suc length_max)) a in
+      let k = and_parts (are_octets d) (ltb (length d) (suc length_max)) q.1 in
       let p = (and_parts _ (is_apart s) q.0).1 in
       elim (default_sound (begins s) (read s 64 d) (λ v. bytes_eq (octets_of s v) d) (read s room) w v r e) [
         | inl h ↦
-            let i = sound s 64 d v [] p (octets_bytes d k.0) (ltb-true (length d) 4294967296 k.1) h.1 in
+            let i = sound s 64 d v [] p (octets_bytes d k.0) (ltb-true (length d) (suc length_max) k.1) h.1 in
             let same : bytes_eq (octets_of s v) d ≡ true = (bytes_eq-Decides (octets_of s v) d).1 (sym (i.1 ∙ append-nil (octets_of s v))) in
             (i.0, h.0 ∙ ap (λ b. unless b (octets_of s v) ++ r) (sym same))
         | inr h ↦

@@ -8,7 +8,7 @@ use Rattle.std.specs.Str.{is_utf8, IsAscii}
 use Rattle.std.proofs.lemmas.Bool.{cond-true, and_parts, or_cases, false≢true, leb-true, ltb-true, eqb-true}
 use Rattle.der_core_head.specs.declared.error.ErrorKind.TheVariants as kinds
 use Rattle.der_core_head.specs.declared.tag.Tag.{Tag}
-use Rattle.der_core_head.specs.Texts.{Repertoire, printable, ascii, printable_signs, is_within, IsText, text_read, IsUtf8Text, utf8_read}
+use Rattle.der_core_head.specs.Texts.{Repertoire, printable, printable_signs, is_within, IsText, text_read, IsUtf8Text, utf8_read}
 use Rattle.der_core_head.proofs.Results.{fine, ok_is, if_ok}
 use Rattle.der_core_head.proofs.Bytes.{IsBytes, octets_are}
 
@@ -65,9 +65,3 @@ pub all_ascii : (p : ℕ → Bool) (w : List ℕ) → ((b : ℕ) → p b ≡ tru
 all_ascii p [] below e i = omega arith
 all_ascii p (b ∷ w) below e zero = below b (and_parts (p b) (list_all p w) e).0
 all_ascii p (b ∷ w) below e (suc i) = all_ascii p w below (and_parts (p b) (list_all p w) e).1 i
-
-pub printable_is_ascii : (w : List ℕ) → IsText printable w → IsAscii w
-printable_is_ascii w h = all_ascii (is_within printable) w printable_below h.within
-
-pub ascii_is_ascii : (w : List ℕ) → IsText ascii w → IsAscii w
-ascii_is_ascii w h = all_ascii (is_within ascii) w (λ b. ltb-true b 128) h.within

@@ -1,6 +1,6 @@
 -- What is written is what spells the value.
-use Rattle.std.proofs.Common.{◌≡◌, ℕ, ◌+◌, ◌<◌, Bool, true, false, List, [], ◌∷◌, ◌++◌, length, Some, None, Result, Ok, Err, refl, sym, ap, ◌∙◌, append_assoc, arith, inl, inr}
-use Rattle.std.proofs.lemmas.Bool.{le-ltb}
+use Rattle.std.proofs.Common.{◌≡◌, ℕ, ◌+◌, ◌<◌, Bool, true, false, List, [], ◌∷◌, ◌++◌, length, Some, None, Result, Ok, Err, refl, sym, ap, ◌∙◌, append_assoc, arith, inl, inr, ◌-◌, Option}
+use Rattle.std.proofs.lemmas.Bool.{le-ltb, cases_lt, lt-ltb}
 use Rattle.std.proofs.lemmas.List.{append-nil, length-append}
 use Rattle.std.specs.List.{flat_map, AllByRecursion}
 use Rattle.std.specs.Str.{bytes_eq}
@@ -17,11 +17,12 @@ use Rattle.der_core_head.specs.Writing.{Out, put, put_head, head_len, sum_len, f
 use Rattle.der_core_head.proofs.Results.{ok_is}
 use Rattle.der_core_head.proofs.Fits.{fits_contents}
 use Rattle.der_core_head.proofs.InOrder.{follows_ok}
+use Rattle.der_core_head.specs.Limits.{IsLength, length_max}
 
-sum_ok : (m n : ℕ) → m + n < 4294967296 → sum_len m n ≡ Ok (m + n)
-sum_ok m n h = rw (le-ltb 4294967295 (m + n) (omega arith)) refl
+pub sum_ok : (m n : ℕ) → IsLength (m + n) → sum_len m n ≡ Ok (m + n)
+sum_ok m n h = rw (le-ltb length_max (m + n) (omega arith)) refl
 
-fit_size : (n : ℕ) → n < 4294967296 → fit_len n ≡ Ok n
+pub fit_size : (n : ℕ) → IsLength n → fit_len n ≡ Ok n
 fit_size n h = sum_ok n 0 (omega arith) ∙ ap (λ k. Ok k) (omega arith)
 
 -- a header and its content are as long as both
@@ -32,7 +33,7 @@ tlv_size t c n h e =
     rw (e, sum_ok (length (head_octets t (length c))) (length c) (omega (arith, sum, h))) (ap (λ k. Ok k) (sym sum))
 
 many_size : {P : Type 0} (f : P → Result ℕ ErrorKind) (V : P → Type 0) (o : P → List ℕ) → ((x : P) → V x → Fits (o x) → f x ≡ Ok (length (o x)))
-    → (xs : List P) (n : ℕ) → AllByRecursion V xs → n + length (flat_map o xs) < 4294967296 → many_len f xs n ≡ Ok (n + length (flat_map o xs))
+    → (xs : List P) (n : ℕ) → AllByRecursion V xs → IsLength (n + length (flat_map o xs)) → many_len f xs n ≡ Ok (n + length (flat_map o xs))
 many_size f V o each [] n h l = ap (λ k. Ok k) (omega arith)
 many_size f V o each (x ∷ xs) n h l =
     let sum = length-append (o x) (flat_map o xs) in
@@ -80,11 +81,32 @@ mutual
 abbrev pub out : List ℕ → Out
 out a = record { written = a; room = None; failed = false }
 
-put_is : (b a : List ℕ) → put b (out a) ≡ Ok (out (a ++ b))
+pub put_is : (b a : List ℕ) → put b (out a) ≡ Ok (out (a ++ b))
 unfolding put
 put_is b a = refl
 
-head_put : (t : Tag) (n : ℕ) (a : List ℕ) → length (head_octets t n) + n < 4294967296 → put_head t n (out a) ≡ Ok (out (a ++ head_octets t n))
+-- octets one after the other, or at once
+in_two : (a b w : List ℕ) (r : Option ℕ) (f : Bool) → (put a (record { written = w; room = r; failed = f }) >>= put b) ≡ put (a ++ b) (record { written = w; room = r; failed = f })
+unfolding put
+in_two a b w r true = refl
+in_two a b w None false = ap (λ (u : List ℕ). Ok (record { written = u; room = None; failed = false })) (append_assoc w a b)
+in_two a b w (Some r) false =
+    elim (cases_lt r (length a)) [
+      | inl short ↦ rw (lt-ltb r (length a) short, lt-ltb r (length (a ++ b)) (omega (arith, length-append a b))) refl
+      | inr first ↦
+          elim (cases_lt (r - length a) (length b)) [
+            | inl short ↦ rw (le-ltb r (length a) first, lt-ltb (r - length a) (length b) short, lt-ltb r (length (a ++ b)) (omega (arith, length-append a b))) refl
+            | inr both ↦
+                let left : r - length a - length b ≡ r - length (a ++ b) = omega (arith, length-append a b) in
+                rw (le-ltb r (length a) first, le-ltb (r - length a) (length b) both, le-ltb r (length (a ++ b)) (omega (arith, length-append a b)), left)
+                (ap (λ (u : List ℕ). Ok (record { written = u; room = Some (r - length (a ++ b)); failed = false })) (append_assoc w a b))
+          ]
+    ]
+
+pub put-append : (a b : List ℕ) (o : Out) → (put a o >>= put b) ≡ put (a ++ b) o
+put-append a b o = in_two a b o.written o.room o.failed
+
+head_put : (t : Tag) (n : ℕ) (a : List ℕ) → IsLength (length (head_octets t n) + n) → put_head t n (out a) ≡ Ok (out (a ++ head_octets t n))
 unfolding put_head head_octets
 head_put t n a h = rw (sum_ok (length (head_octets t n)) n h, put_is (tag_octets t) a) (put_is (length_octets n) (a ++ tag_octets t) ∙ ap (λ w. Ok (out w)) (append_assoc a (tag_octets t) (length_octets n)))
 

@@ -1,10 +1,6 @@
 -- What was written is valid, where its parts are in their ranges.
 use Rattle.std.proofs.Common.{◌≡◌, ℕ, Bool, true, false, List, [], ◌∷◌, Some, None, Result, Ok, refl, inl, inr}
 use Rattle.std.specs.List.{AllByRecursion}
-use Rattle.std.specs.Ordering.{nat_cmp}
-use Rattle.std.specs.declared.cmp.Ordering.{Ordering}
-use Rattle.std.specs.declared.cmp.Ordering.TheVariants.{Less, Equal, Greater}
-use Rattle.std.specs.Cmp.Lexicographic.{slice_cmp}
 use Rattle.std.specs.Str.{bytes_eq}
 use Rattle.der_core_head.specs.declared.error.ErrorKind.{ErrorKind}
 use Rattle.der_core_head.specs.declared.tag.Tag.{Tag}
@@ -16,6 +12,7 @@ use Rattle.der_core_head.specs.Writing.{Out, put_head, size_content, write_tlv, 
 use Rattle.der_core_head.proofs.Results.{bind_ok}
 use Rattle.der_core_head.proofs.OkOctets.{writes_fitting}
 use Rattle.der_core_head.proofs.InOrder.{ok_follows}
+use Rattle.der_core_head.proofs.BoundLaws.{each_alike}
 
 -- behind a header the content was written
 content_written : (t : Tag) (n : Result ℕ ErrorKind) (f : Out → Result Out ErrorKind) (o z : Out) → write_tlv t n f o ≡ Ok z → (y : Out) × (f y ≡ Ok z)
@@ -90,11 +87,6 @@ mutual
 pub list_valid : (s : Shape) (v : List (Value s)) (o z : Out) → write_many (write s) v o ≡ Ok z → AllByRecursion (λ x. IsInRange s x) v → AllByRecursion (λ x. IsValid s x) v
 list_valid s v o z e h = members_written (write s) (λ x. IsInRange s x) (λ x. IsValid s x) (λ x o z. written_valid s x o z) v o z e h
 
--- and what is valid has its parts in their ranges
-each_in_range : {P : Type 0} (V R : P → Type 0) → ((x : P) → V x → R x) → (xs : List P) → AllByRecursion V xs → AllByRecursion R xs
-each_in_range V R each [] h = tt
-each_in_range V R each (x ∷ xs) h = (each x h.0, each_in_range V R each xs h.1)
-
 mutual
   unfolding IsValid
 
@@ -116,10 +108,10 @@ mutual
   body_in_range done v h = tt
   body_in_range (field s b) v h = (valid_in_range s v.0 h.0, body_in_range b v.1 h.1)
   body_in_range (only s) v h = valid_in_range s v h
-  body_in_range (many s) v h = each_in_range (λ x. IsValid s x) (λ x. IsInRange s x) (λ x k. valid_in_range s x k) v h
-  body_in_range (exactly n s) v h = (each_in_range (λ x. IsValid s x) (λ x. IsInRange s x) (λ x k. valid_in_range s x k) v h.0, h.1)
-  body_in_range (few n s) v h = (each_in_range (λ x. IsValid s x) (λ x. IsInRange s x) (λ x k. valid_in_range s x k) v h.0, h.1)
-  body_in_range (in_order how s) v h = each_in_range (λ x. IsValid s x) (λ x. IsInRange s x) (λ x k. valid_in_range s x k) v h.0
+  body_in_range (many s) v h = each_alike (λ x. IsValid s x) (λ x. IsInRange s x) (λ x k. valid_in_range s x k) v h
+  body_in_range (exactly n s) v h = (each_alike (λ x. IsValid s x) (λ x. IsInRange s x) (λ x k. valid_in_range s x k) v h.0, h.1)
+  body_in_range (few n s) v h = (each_alike (λ x. IsValid s x) (λ x. IsInRange s x) (λ x k. valid_in_range s x k) v h.0, h.1)
+  body_in_range (in_order how s) v h = each_alike (λ x. IsValid s x) (λ x. IsInRange s x) (λ x k. valid_in_range s x k) v h.0
 
 pub list_in_range : (s : Shape) (v : List (Value s)) → AllByRecursion (λ x. IsValid s x) v → AllByRecursion (λ x. IsInRange s x) v
-list_in_range s v h = each_in_range (λ x. IsValid s x) (λ x. IsInRange s x) (λ x k. valid_in_range s x k) v h
+list_in_range s v h = each_alike (λ x. IsValid s x) (λ x. IsInRange s x) (λ x k. valid_in_range s x k) v h

@@ -1,7 +1,7 @@
 -- Reading from left to right, with the first fault and the levels that may still be opened. Rules
 -- tell which headers are read; contents are read alike by both. Sets in order are those of DER
 -- (X.690 11.6), and so are headers within them, whatever the rules.
-use Rattle.std.specs.Prelude.{ℕ, zero, suc, ◌-◌, List, [], ◌∷◌, length, take, drop, Bool, Option}
+use Rattle.std.specs.Prelude.{ℕ, zero, suc, List, [], ◌∷◌, length, take, drop, Bool, Option}
 use Rattle.std.specs.Prelude.{Some, None, Result, Ok, Err, nat_lt, bytes_eq, ◌⊎◌, if◌then◌else◌}
 use Rattle.std.proofs.Common.{inl, inr}
 use Rattle.std.specs.Ordering.{nat_cmp}

@@ -1,5 +1,5 @@
 -- Lengths, headers and whole encodings (X.690 8.1.3, 10.1).
-use Rattle.std.specs.Prelude.{ℕ, ◌+◌, ◌-◌, ◌<◌, List, [], ◌∷◌, ◌++◌, length, take, drop, Result, Ok}
+use Rattle.std.specs.Prelude.{ℕ, ◌+◌, ◌-◌, List, [], ◌∷◌, ◌++◌, length, take, drop, Result, Ok}
 use Rattle.std.specs.Prelude.{Err, nat_lt, bytes_eq, ◌==◌, if◌then◌else◌}
 use Rattle.std.specs.Int.Digits.{number_from_digits}
 use Rattle.const_oid.specs.Digits.{digits}

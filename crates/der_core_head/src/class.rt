@@ -9,13 +9,13 @@ use std::fmt;
 /// The bits of the universal class in the first octet of a tag (X.690 8.1.2.2, table 1).
 pub const CLASS_UNIVERSAL: u8 = 0x00;
 
-/// Those of the application class.
+/// The class bits of tags of the application class.
 pub const CLASS_APPLICATION: u8 = 0x40;
 
-/// Those of the context-specific class.
+/// The class bits of tags of the context-specific class.
 pub const CLASS_CONTEXT_SPECIFIC: u8 = 0x80;
 
-/// Those of the private class.
+/// The class bits of tags of the private class.
 pub const CLASS_PRIVATE: u8 = 0xc0;
 
 /// The class of a tag: the two highest bits of its first octet (X.690 8.1.2.2).

@@ -186,7 +186,7 @@ pub fn header_ber_of(octets: &[u8]) -> Result<(Header, usize), Error>
     // What is spelled so is read.
     ensures only { (h : Head) (r : List ℕ) → SpellsHead h r octets.now
         → ReadsFront head_of octets.now result (λ w. Ok (h, r)) }
-    // The same is read whatever stands behind the octets that are counted.
+    // A header is read alike whatever stands behind the octets that are counted.
     ensures alone { IfOk result (λ x. (more : List ℕ)
         → head_ber_at (take x.1 octets.now ++ (take x.0.length.value (drop x.1 octets.now) ++ more))
         ≡ Ok (head_of x.0, take x.0.length.value (drop x.1 octets.now) ++ more)) }

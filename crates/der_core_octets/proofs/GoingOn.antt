@@ -42,10 +42,6 @@ reads_after view old mid new (Err d) f g m ready passed e h = (
   h.3,
 )
 
-pub tlv_is : {P : Type 0} (rules : EncodingRules) (tag : Tag) (f : Readings P) (w : List ℕ) (h : Head) (r : List ℕ) → head_by rules w ≡ Ok (h, r) → same_tag h.tag tag ≡ true → tlv_at rules tag f w ≡ value_at f h.len r
-unfolding tlv_at
-tlv_is rules tag f w h r e same = rw (e, same) refl
-
 -- a value behind a header of its tag
 behind_tag : {P : Type 0} (b : Bool) (h : Head × List ℕ) (f : Readings P)
     → (if b then value_at f h.0.len h.1 else Err kinds.TagUnexpected) ≡ ((if b then Ok h else Err kinds.TagUnexpected) >>= λ x. value_at f x.0.len x.1)
@@ -74,14 +70,6 @@ kept_then a b d m passed k = record {
   source = k.source ∙ ap (λ (s : State). s.source) m;
   failed = λ o. k.failed (ap (λ (s : State). s.failed) m ∙ o);
 }
-
-pub tlv_none : {P : Type 0} (rules : EncodingRules) (tag : Tag) (f : Readings P) (w : List ℕ) (k : ErrorKind) → head_by rules w ≡ Err k → tlv_at rules tag f w ≡ Err k
-unfolding tlv_at
-tlv_none rules tag f w k e = rw e refl
-
-pub tlv_other : {P : Type 0} (rules : EncodingRules) (tag : Tag) (f : Readings P) (w : List ℕ) (h : Head) (r : List ℕ) → head_by rules w ≡ Ok (h, r) → same_tag h.tag tag ≡ false → tlv_at rules tag f w ≡ Err kinds.TagUnexpected
-unfolding tlv_at
-tlv_other rules tag f w h r e other = rw (e, other) refl
 
 -- what stands under one of the first tags is read
 pub opt_stops : {P : Type 0} (rules : EncodingRules) (first : Tag → Bool) (f : Readings P) (w : List ℕ) (t : Tag) (k : ErrorKind) → peek_at rules w ≡ Ok (Some t) → first t ≡ true → f w ≡ Err k → opt_at rules first f w ≡ Err k

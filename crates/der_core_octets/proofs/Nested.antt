@@ -86,7 +86,3 @@ trails t s view n taken old outer new (Ok v) e h r f reads closes =
     let k = moved_kept (entered n old) outer reads.1 reads.3 in
     (λ o m. rw (nested_is old.source.encoding t s n old.room old.rest (omega arith) r, reads.0, left_over (view v) outer.rest closes.1, closes.2) refl, is_kept n taken true old outer new h r k closes.3 f, λ o. absurd (cc (o, f)), ap (λ (s : State). s.failed) closes.3)
 trails t s view n taken old outer new (Err d) e h r f reads closes = absurd cc
-
-pub reads_kept : {T P : Type 0} (view : T → P) (old new : State) (r : Result T Error) (f : List ℕ → Result (P × List ℕ) ErrorKind) → Reads view old new r f → Kept old new
-reads_kept view old new (Ok v) f h = moved_kept old new h.1 h.3
-reads_kept view old new (Err e) f h = h.1

@@ -7,7 +7,6 @@ use Rattle.der_core_head.specs.declared.error.ErrorKind.TheVariants as kinds
 use Rattle.der_core_head.specs.Grammar.{slice_at}
 use Rattle.der_core_head.proofs.Results.{ok_is}
 pub use Rattle.der_core_head.proofs.SliceCases.{slice_short, slice_ok, value_short, value_enough}
-use Rattle.der_core_head.specs.Reading.{State, broken}
 
 -- no more octets than that
 pub slice_few : (n : ℕ) (w x r : List ℕ) → slice_at n w ≡ Ok (x, r) → length x ≤ n
@@ -27,7 +26,3 @@ or_true false = refl
 pub or_false : (b : Bool) → b || false ≡ b
 or_false true = refl
 or_false false = refl
-
--- a reader that failed is the same when it fails again
-pub failed_again : (s : State) → s.failed ≡ true → s ≡ broken s
-failed_again s h = ap (λ b. record s { failed = b }) h

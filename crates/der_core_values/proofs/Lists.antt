@@ -42,12 +42,6 @@ pub stops : {A P : Type 0} (z : ErrorKind) (f : A → P) (F : Readings P) (n i :
 stops z f F n i w xs k total lt some e so_far =
     sym so_far ∙ ap (with_front f xs) (step z F n i w lt some ∙ ap (λ r. r >>= λ x. read_many z F (n - (i + 1)) x.1 >>= λ y. Ok (x.0 ∷ y.0, y.1)) e)
 
-pub none_left : {A P : Type 0} (z : ErrorKind) (f : A → P) (F : Readings P) (n m : ℕ) (w : List ℕ) (xs : List A) (total : Result (List P × List ℕ) ErrorKind)
-    → w ≡ [] → with_front f xs (read_many z F n w) ≡ total → with_front f xs (read_many z F m w) ≡ total
-unfolding read_many
-none_left z f F n m [] xs total e so_far = so_far
-none_left z f F n m (b ∷ w) xs total e so_far = absurd cc
-
 pub is_done : {A P : Type 0} (z : ErrorKind) (f : A → P) (F : Readings P) (n : ℕ) (w : List ℕ) (xs : List A) (total : Result (List P × List ℕ) ErrorKind)
     → w ≡ [] → with_front f xs (read_many z F n w) ≡ total → total ≡ Ok (plain_list f xs, w)
 unfolding read_many
@@ -117,12 +111,6 @@ pub set_refuses : {A P : Type 0} (how : Step) (f : A → P) (o : P → List ℕ)
     → i < n → w ≢ [] → F w ≡ Ok (x, after) → follows_last how last (o x) ≡ Err k → with_front f xs (read_in_order how o F last (n - i) w) ≡ total → total ≡ Err k
 set_refuses how f o F last n i w after xs x k total lt some e bad so_far =
     sym so_far ∙ set_bad how f o F last n i w after xs x k lt some e bad
-
-pub set_none_left : {A P : Type 0} (how : Step) (f : A → P) (o : P → List ℕ) (F : Readings P) (last : Option (List ℕ)) (n m : ℕ) (w : List ℕ) (xs : List A) (total : Result (List P × List ℕ) ErrorKind)
-    → w ≡ [] → with_front f xs (read_in_order how o F last n w) ≡ total → with_front f xs (read_in_order how o F last m w) ≡ total
-unfolding read_in_order
-set_none_left how f o F last n m [] xs total e so_far = so_far
-set_none_left how f o F last n m (b ∷ w) xs total e so_far = absurd cc
 
 pub set_done : {A P : Type 0} (how : Step) (f : A → P) (o : P → List ℕ) (F : Readings P) (last : Option (List ℕ)) (n : ℕ) (w : List ℕ) (xs : List A) (total : Result (List P × List ℕ) ErrorKind)
     → w ≡ [] → with_front f xs (read_in_order how o F last n w) ≡ total → total ≡ Ok (plain_list f xs, w)

@@ -16,7 +16,7 @@ use std::alloc::Global;
 pub trait FixedTag {
     ghost fixed_tag: { Tag };
 
-    /// That tag.
+    /// The tag of the type's values.
     fn tag() -> Tag
         ensures { result ≡ fixed_tag };
 }

@@ -1,6 +1,6 @@
 //! Values whose content is no list of values.
 
-ghost use Rattle.std.specs.Prelude.{◌≡◌, ◌<◌, ◌^◌, length, Bool, true, false, IfOk, IfErr, Err};
+ghost use Rattle.std.specs.Prelude.{◌≡◌, Bool, true, false, IfOk, IfErr, Err};
 ghost use Rattle.der_core_head.specs.Heads.{Fits};
 ghost use Rattle.der_core_head.specs.declared.tag.Tag.TheVariants.{Boolean, Null};
 ghost use Rattle.der_core_head.specs.Shapes.{leaf};
@@ -42,7 +42,7 @@ pub trait Leaf<'a>: Drop {
 pub fn read_content<'a, R: Reader<'a>>(reader: &mut R, header: Header) -> Result<&'a [u8], Error>
     ensures takes { TakesContent (R.state reader.old) (R.state reader.new) result
         header.length.value }
-    ensures short { IfOk result (λ octets. length octets.now < 2 ^ 32) }
+    ensures short { IfOk result (λ octets. Fits octets.now) }
 {
     reader.read_slice(header.length)
 }

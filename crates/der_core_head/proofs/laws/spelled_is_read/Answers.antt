@@ -1,5 +1,5 @@
-use Rattle.der_core_head.proofs.AllOctets.{read_front}
 use Rattle.der_core_head.proofs.laws.spelled_is_read.Goals as goal
+use Rattle.der_core_head.proofs.Complete.{complete_element}
 
 pub returns : goal.returns
-returns c = read_front
+returns c = complete_element

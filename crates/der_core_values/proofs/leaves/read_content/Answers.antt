@@ -1,7 +1,8 @@
-use Rattle.std.proofs.Common.{◌<◌, Ok, Err, Result, List, ℕ, length, arith}
+use Rattle.std.proofs.Common.{Ok, Err, Result, List, ℕ, arith}
 use Rattle.std.specs.Prelude.{IfOk}
 use Rattle.std.specs.Borrow.{Bor}
 use Rattle.der_core_head.specs.Limits.{IsLength}
+use Rattle.der_core_head.specs.Heads.{Fits}
 use Rattle.der_core_head.specs.declared.error.Error.{Error}
 use Rattle.der_core_head.specs.Reading.{State, ReadsNow, TakesContent}
 use Rattle.der_core_head.specs.Grammar.{slice_at}
@@ -16,7 +17,7 @@ takes n old new (Err e) h = (λ l t room ready. content_err old.source.encoding 
 pub returns-clause-takes : goal.returns-clause-takes
 returns-clause-takes g c = takes _ _ _ _ c.read_slice.ensures
 
-few : (n : ℕ) (old new : State) (r : Result (Bor (List ℕ)) Error) → IsLength n → ReadsNow (λ (s : Bor (List ℕ)). s.now) old new r (slice_at n) → IfOk r (λ s. length s.now < 4294967296)
+few : (n : ℕ) (old new : State) (r : Result (Bor (List ℕ)) Error) → IsLength n → ReadsNow (λ (s : Bor (List ℕ)). s.now) old new r (slice_at n) → IfOk r (λ s. Fits s.now)
 few n old new (Ok x) l h = let short = slice_few n _ _ _ h.0 in omega arith
 few n old new (Err e) l h = tt
 
