@@ -1,8 +1,7 @@
 -- A content that is read as a value of a type.
-use Rattle.std.proofs.Common.{◌≡◌, ℕ, ◌≤◌, List, [], length, take, drop, true, false, Result, Ok, Err, refl, sym, ap, ◌∙◌, arith}
+use Rattle.std.proofs.Common.{◌≡◌, ℕ, List, [], length, true, false, Result, Ok, Err, refl, sym, ap, ◌∙◌, arith}
 use Rattle.std.proofs.lemmas.Bool.{le-ltb}
-use Rattle.std.proofs.lemmas.List.{length-take, take_all, drop_all}
-use Rattle.std.specs.Prelude.{nat_lt}
+use Rattle.std.proofs.lemmas.List.{take_all, drop_all}
 use Rattle.der_core_head.specs.declared.error.ErrorKind.{ErrorKind}
 use Rattle.der_core_head.specs.declared.error.ErrorKind.TheVariants as kinds
 use Rattle.der_core_head.specs.declared.encoding_rules.EncodingRules.{EncodingRules}
@@ -10,18 +9,10 @@ use Rattle.der_core_head.specs.declared.tag.Tag.{Tag}
 use Rattle.der_core_head.specs.Octets.{◌>>=◌, Readings}
 use Rattle.der_core_head.specs.Tags.{same_tag}
 use Rattle.der_core_head.specs.Shapes.{AnyValue, Content, ContentValue}
-use Rattle.der_core_head.specs.Grammar.{read_content_by, whole, value_at, slice_at}
+use Rattle.der_core_head.specs.Grammar.{read_content_by, whole, value_at}
 use Rattle.der_core_head.specs.Reading.{Fails}
 use Rattle.der_core_head.specs.Fronts.{alone}
-use Rattle.der_core_head.proofs.Results.{ok_is, unless_ok}
 use Rattle.der_types_any.specs.Contents.{content_by}
-
-pub slice_few : (n : ℕ) (w x r : List ℕ) → slice_at n w ≡ Ok (x, r) → length x ≤ n
-unfolding slice_at
-slice_few n w x r e =
-    let p = unless_ok (nat_lt (length w) n) kinds.Incomplete (Ok (take n w, drop n w)) (x, r) e in
-    let q : take n w ≡ x = ap (λ (y : List ℕ × List ℕ). y.0) (ok_is (take n w, drop n w) (x, r) p.1) in
-    omega (arith, length-take n w, ap length q)
 
 pub value_whole : {P : Type 0} (f : Readings P) (w : List ℕ) → value_at f (length w) w ≡ (f w >>= whole >>= λ x. Ok (x.0, []))
 unfolding value_at

@@ -1,5 +1,5 @@
 -- What contracts see of any value: its tag and its content.
-use Rattle.std.specs.Prelude.{ℕ, ◌<◌, ◌^◌, List, length}
+use Rattle.std.specs.Prelude.{ℕ, List}
 use Rattle.der_core_head.specs.Heads.{Fits}
 use Rattle.der_core_head.specs.Shapes.{AnyValue}
 use Rattle.der_types_any.specs.AnyOrders.{any_key}

@@ -1,11 +1,11 @@
 //! Any value.
 
-ghost use Rattle.std.specs.Prelude.{◌≡◌, ◌<◌, ◌≤◌, ◌^◌, ◌↔◌, [], length, vec_len, nat_eq, true};
+ghost use Rattle.std.specs.Prelude.{◌≡◌, ◌<◌, ◌↔◌, [], length, vec_len, nat_eq, true};
 ghost use Rattle.std.specs.Prelude.{false, Some, None, Ok, IsTrue, IfOk, IfErr, IsErrAnd};
 ghost use Rattle.std.proofs.Common.{refl};
 ghost use Rattle.std.specs.Cmp.{po, partial_equiv_from_equiv, on_equiv, on_per};
 ghost use Rattle.std.specs.Cmp.Lexicographic.{pointwise, nat_list_eq_equiv};
-ghost use Rattle.der_core_head.specs.Limits.{levels_max};
+ghost use Rattle.der_core_head.specs.Limits.{IsLength, length_max, levels_max};
 ghost use Rattle.der_core_head.specs.declared.encoding_rules.EncodingRules.TheVariants.{Der};
 ghost use Rattle.der_core_head.specs.declared.tag.Tag.TheVariants.{Null, Sequence};
 ghost use Rattle.der_core_head.specs.Shapes.{any, tagged, nested, Body, BodyValue, ContentValue};
@@ -70,9 +70,10 @@ impl Any {
     /// # Errors
     /// `Overflow` for 2^32 octets or more.
     pub fn new(tag: Tag, bytes: Vec<u8>) -> Result<Any, Error>
-        ensures ok { IfOk result (λ a. (vec_len bytes < 2 ^ 32)
+        ensures ok { IfOk result (λ a. IsLength (vec_len bytes)
             × (a ≡ record { tag = tag; contents = bytes.items })) }
-        ensures err { IfErr result (λ e. (2 ^ 32 ≤ vec_len bytes) × (e.kind ≡ ErrorKind.Overflow)) }
+        ensures err { IfErr result (λ e. (length_max < vec_len bytes)
+            × (e.kind ≡ ErrorKind.Overflow)) }
     {
         if bytes.len() > 0xffff_ffff {
             return Err(Error::from(ErrorKind::Overflow));

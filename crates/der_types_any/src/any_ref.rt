@@ -1,11 +1,11 @@
 //! Any value, borrowed.
 
-ghost use Rattle.std.specs.Prelude.{◌≡◌, ◌<◌, ◌≤◌, ◌^◌, ◌↔◌, [], length, nat_eq, true, false, Some};
+ghost use Rattle.std.specs.Prelude.{◌≡◌, ◌<◌, ◌↔◌, [], length, nat_eq, true, false, Some};
 ghost use Rattle.std.specs.Prelude.{Ok, IsTrue, IfOk, IfErr, IsErrAnd};
 ghost use Rattle.std.proofs.Common.{refl};
 ghost use Rattle.std.specs.Cmp.{po, partial_equiv_from_equiv, on_equiv, on_per, on_total};
 ghost use Rattle.std.specs.Cmp.Lexicographic.{pointwise, nat_list_eq_equiv};
-ghost use Rattle.der_core_head.specs.Limits.{levels_max};
+ghost use Rattle.der_core_head.specs.Limits.{length_max, levels_max};
 ghost use Rattle.der_core_head.specs.Heads.{Fits};
 ghost use Rattle.der_core_head.specs.declared.encoding_rules.EncodingRules.TheVariants.{Der};
 ghost use Rattle.der_core_head.specs.declared.tag.Tag.TheVariants.{Null, Sequence};
@@ -57,7 +57,7 @@ impl<'a> AnyRef<'a> {
     pub fn new(tag: Tag, bytes: &'a [u8]) -> Result<AnyRef<'a>, Error>
         ensures ok { IfOk result
             (λ a. Fits bytes.now × (any_lent a ≡ record { tag = tag; contents = bytes.now })) }
-        ensures err { IfErr result (λ e. (2 ^ 32 ≤ length bytes.now)
+        ensures err { IfErr result (λ e. (length_max < length bytes.now)
             × (e.kind ≡ ErrorKind.Overflow)) }
     {
         if bytes.len() > 0xffff_ffff {
@@ -311,6 +311,8 @@ impl<'a> Choice for AnyRef<'a> {
 }
 
 impl<'a, R: Reader<'a>> Decode<'a, R> for AnyRef<'a> {
+    // Inlined, so that what is answered isn't moved.
+    #[inline(always)]
     #[tactic(auto, unfolding(der_core_head::specs::Grammar::any_at))]
     fn decode(_alloc: Global, reader: &mut R) -> Result<AnyRef<'a>, Error> {
         let header = reader.read_header()?;

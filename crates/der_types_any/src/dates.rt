@@ -17,7 +17,8 @@ use der_types_time::{DateTime, GeneralizedTime, UtcTime};
 impl<'a> TryFrom<AnyRef<'a>> for UtcTime {
     type Error = Error;
 
-    ghost try_from_gives = { λ a r. GivesNow (λ t. t) r (leaf_as tags.UtcTime utc_time (any_lent a)) };
+    ghost try_from_gives = { λ a r. GivesNow (λ t. t) r
+        (leaf_as tags.UtcTime utc_time (any_lent a)) };
 
     #[tactic(auto, unfolding(crate::specs::Contents::leaf_as))]
     fn try_from(any: AnyRef<'a>) -> Result<UtcTime, Error> {

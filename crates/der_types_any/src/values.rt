@@ -23,7 +23,8 @@ use der_types_values::{BitStringRef, Null, OctetStringRef, SequenceRef};
 impl<'a> TryFrom<AnyRef<'a>> for bool {
     type Error = Error;
 
-    ghost try_from_gives = { λ a r. GivesNow (λ b. b) r (leaf_as tags.Boolean boolean (any_lent a)) };
+    ghost try_from_gives = { λ a r. GivesNow (λ b. b) r
+        (leaf_as tags.Boolean boolean (any_lent a)) };
 
     #[tactic(auto, unfolding(crate::specs::Contents::leaf_as))]
     fn try_from(any: AnyRef<'a>) -> Result<bool, Error> {
@@ -145,7 +146,8 @@ impl<'a, const MAX_SIZE: usize> TryFrom<&'a Any> for ObjectIdentifier<MAX_SIZE> 
 impl<'a> TryFrom<AnyRef<'a>> for BitStringRef<'a> {
     type Error = Error;
 
-    ghost try_from_gives = { λ a r. GivesNow bits_lent r (leaf_as tags.BitString bits (any_lent a)) };
+    ghost try_from_gives = { λ a r. GivesNow bits_lent r
+        (leaf_as tags.BitString bits (any_lent a)) };
 
     #[tactic(auto, unfolding(crate::specs::Contents::leaf_as))]
     fn try_from(any: AnyRef<'a>) -> Result<BitStringRef<'a>, Error> {
@@ -185,7 +187,8 @@ impl<'a> TryFrom<AnyRef<'a>> for OctetStringRef<'a> {
 impl<'a> TryFrom<&'a Any> for OctetStringRef<'a> {
     type Error = Error;
 
-    ghost try_from_gives = { λ a r. GivesNow octets_lent r (leaf_as tags.OctetString octets a.now) };
+    ghost try_from_gives = { λ a r. GivesNow octets_lent r
+        (leaf_as tags.OctetString octets a.now) };
 
     fn try_from(any: &'a Any) -> Result<OctetStringRef<'a>, Error> {
         let value = OctetStringRef::try_from(any.to_ref())?;

@@ -1,5 +1,5 @@
 -- What contracts see of whole numbers of any size: the number.
-use Rattle.std.specs.Prelude.{◌≡◌, ◌<◌, ◌^◌, ℕ, ℤ, pos, List, false, length}
+use Rattle.std.specs.Prelude.{◌≡◌, ◌<◌, ℕ, ℤ, pos, List, false, length}
 use Rattle.std.specs.Int.Digits.{number_from_digits}
 use Rattle.const_oid.specs.Digits.{digits}
 use Rattle.der_core_head.specs.Heads.{Fits}

@@ -1,10 +1,11 @@
 //! INTEGER of any size.
 
-ghost use Rattle.std.specs.Prelude.{◌≡◌, ◌<◌, ◌^◌, pos, false, length, vec_len, nat_eq, Some, IfOk};
+ghost use Rattle.std.specs.Prelude.{◌≡◌, ◌<◌, pos, false, length, vec_len, nat_eq, Some, IfOk};
 ghost use Rattle.std.proofs.Common.{refl, ap};
 ghost use Rattle.std.specs.Cmp.{po, partial_equiv_from_equiv, on_equiv, on_per};
 ghost use Rattle.std.specs.Cmp.Lexicographic.{pointwise, bytes_decides, nat_list_eq_equiv};
 ghost use Rattle.std.specs.Hash as fed;
+ghost use Rattle.der_core_head.specs.Limits.{IsLength};
 ghost use Rattle.der_core_head.specs.Integers.{every, integer_of, integer_octets, is_redundant};
 ghost use Rattle.der_core_head.specs.declared.tag.Tag.TheVariants.{Integer};
 ghost use Rattle.der_core_head.specs.Leaves.{integer};
@@ -113,7 +114,7 @@ impl Int {
         requires content { bytes.items ≡ integer_octets (integer_of bytes.items) }
         requires some { 0 < vec_len bytes }
         requires shortest { is_redundant bytes.items ≡ false }
-        requires short { vec_len bytes < 2 ^ 32 }
+        requires short { IsLength (vec_len bytes) }
         ensures { result ≡ integer_of bytes.items }
     {
         Int { bytes }

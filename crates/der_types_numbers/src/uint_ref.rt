@@ -1,6 +1,6 @@
 //! INTEGER of any size that isn't negative, borrowed.
 
-ghost use Rattle.std.specs.Prelude.{◌≡◌, ◌<◌, ◌^◌, ◌+◌, ℕ, pos, length, nat_eq, true, false, Some};
+ghost use Rattle.std.specs.Prelude.{◌≡◌, ◌<◌, ◌+◌, ℕ, pos, length, nat_eq, true, false, Some};
 ghost use Rattle.std.specs.Prelude.{IfOk};
 ghost use Rattle.std.proofs.Common.{refl, ap};
 ghost use Rattle.std.specs.Cmp.{po, partial_equiv_from_equiv, on_equiv, on_per, on_total};
@@ -42,7 +42,7 @@ pub struct UintRef<'a> {
     ghost digits: { bytes.now ≡ digits 256 (number_from_digits 256 bytes.now) },
     ghost some: { 0 < length bytes.now },
     ghost few: { Fits bytes.now },
-    ghost short: { length (integer_octets (pos (number_from_digits 256 bytes.now))) < 2 ^ 32 },
+    ghost short: { Fits (integer_octets (pos (number_from_digits 256 bytes.now))) },
 }
 
 impl<'a> UintRef<'a> {
@@ -72,7 +72,7 @@ impl<'a> UintRef<'a> {
         ensures digits { result.now ≡ digits 256 (natural_lent self.now) }
         ensures number { number_from_digits 256 result.now ≡ natural_lent self.now }
         ensures some { 0 < length result.now }
-        ensures short { length (integer_octets (pos (natural_lent self.now))) < 2 ^ 32 }
+        ensures short { Fits (integer_octets (pos (natural_lent self.now))) }
     {
         self.bytes
     }
@@ -129,7 +129,7 @@ impl<'a> UintRef<'a> {
     pub(crate) fn trusted(bytes: &'a [u8]) -> UintRef<'a>
         requires some { 0 < length bytes.now }
         requires digits { bytes.now ≡ digits 256 (number_from_digits 256 bytes.now) }
-        requires short { length (integer_octets (pos (number_from_digits 256 bytes.now))) < 2 ^ 32 }
+        requires short { Fits (integer_octets (pos (number_from_digits 256 bytes.now))) }
         ensures { natural_lent result ≡ number_from_digits 256 bytes.now }
     {
         UintRef { bytes }

@@ -9,21 +9,17 @@ use Rattle.std.specs.Cmp.Lexicographic.{nat_list_cmp_total}
 use Rattle.std.proofs.lemmas.Cmp.{tied_itself}
 use Rattle.std.proofs.lemmas.List.Sums.{sum_by-cons}
 use Rattle.std.proofs.lemmas.List.Sorted.{sum_by-IsPermutation}
-use Rattle.std.proofs.lemmas.Map.Text.{is_eq-slice_cmp}
-use Rattle.std.proofs.lemmas.Slice.Eq.{bytes_eq-Decides}
 use Rattle.der_core_head.specs.Shapes.{Shape, Value, octets_of}
 use Rattle.der_core.specs.Orders.{octets_cmp}
+use Rattle.der_core.proofs.OrderLaws.{octets_cmp-equal}
 use Rattle.der_types_sets.specs.Sets.{Ascends, AllValid}
-
-pub same_octets : (a b : List ℕ) → octets_cmp a b ≡ Equal → a ≡ b
-same_octets a b e = (bytes_eq-Decides a b).0 (sym (is_eq-slice_cmp a b) ∙ ap is_eq e)
 
 pub turned : (a b : List ℕ) (r : Ordering) → octets_cmp a b ≡ r → octets_cmp b a ≡ ordering_reverse r
 turned a b r e = nat_list_cmp_total.antisymm b a ∙ ap ordering_reverse e
 
 pub less_on : (a b c : List ℕ) (r : Ordering) → octets_cmp a b ≡ Less → octets_cmp b c ≡ r → r ≢ Greater → octets_cmp a c ≡ Less
 less_on a b c Less e f not = nat_list_cmp_total.trans a b c e f
-less_on a b c Equal e f not = ap (octets_cmp a) (sym (same_octets b c f)) ∙ e
+less_on a b c Equal e f not = ap (octets_cmp a) (sym (octets_cmp-equal b c f)) ∙ e
 less_on a b c Greater e f not = absurd (not refl)
 
 abbrev Rises : {A : Type 0} → (A → List ℕ) → List A → Type 0
@@ -59,7 +55,7 @@ step : {A : Type 0} (o : A → List ℕ) (x : A) (xs : List A) (y : A) (ys : Lis
 step o x xs y ys s t h Less e next = absurd (omega (arith, none o (o x) y ys e t, h (o x), itself (o x)))
 step o x xs y ys s t h Greater e next = absurd (omega (arith, none o (o y) x xs (turned (o x) (o y) Greater e) s, h (o y), itself (o y)))
 step o x xs y ys s t h Equal e next =
-    let same = same_octets (o x) (o y) e in
+    let same = octets_cmp-equal (o x) (o y) e in
     ap (λ (u : List ℕ). u ++ flat_map o xs) same ∙ ap (λ (u : List ℕ). o y ++ u) (next same)
 
 arranged : {A : Type 0} (o : A → List ℕ) (xs ys : List A) → Rises o xs → Rises o ys → ((a : List ℕ) → tally o a xs ≡ tally o a ys) → flat_map o xs ≡ flat_map o ys
@@ -82,5 +78,3 @@ one_arrangement s xs ys all same_all asc same_asc moved =
     let o = octets_of s in
     arranged o xs ys (rises s xs all asc) (rises s ys same_all same_asc) (λ a.
     tally-sum o a xs ∙ sym (sum_by-IsPermutation (λ x. one_if (octets_cmp a (o x))) xs ys moved) ∙ sym (tally-sum o a ys))
-
-pub ruleset arrangements = (one_arrangement)

@@ -8,7 +8,7 @@ use Rattle.std.specs.declared.cmp.Ordering.TheVariants.{Less, Equal, Greater}
 use Rattle.std.specs.Borrow.{Bor}
 use Rattle.std.specs.Cmp.Lexicographic.{pointwise}
 use Rattle.std.proofs.lemmas.Bool.Decides.{Decides-eqb}
-use Rattle.std.proofs.lemmas.List.{append-nil, drop_all}
+use Rattle.std.proofs.lemmas.List.{append-nil, drop_all, nil_from_length}
 use Rattle.std.proofs.lemmas.Slice.Eq.{strip_prefix_is}
 use Rattle.der_core_head.specs.Limits.{levels_max}
 use Rattle.der_core_head.specs.declared.error.Error.{Error}
@@ -24,11 +24,12 @@ use Rattle.der_core_head.proofs.Results.{fine, ok_is}
 use Rattle.der_core_head.specs.declared.tag.Tag.{Tag}
 use Rattle.der_core.proofs.TagOrders.{long_inside}
 use Rattle.der_core.specs.Orders.{octets_cmp, contents_cmp, bodies_cmp, Overflows}
+use Rattle.der_core.proofs.OrderLaws.{nat_cmp-equal}
 use Rattle.der_types_sets.specs.Ascending.{values_at}
 use Rattle.der_types_sets.specs.Lent.{Lent, IsLent, HasFalling, IsUnwritten, IsUncompared, members_spelled, members_lent}
-use Rattle.der_types_sets.proofs.Arrangements.{same_octets, turned}
+use Rattle.der_types_sets.proofs.Arrangements.{turned}
 use Rattle.der_types_sets.proofs.FewSteps.{length_plain_list}
-use Rattle.der_types_sets.proofs.LentWrites.{nothing_in, lent, size_values, spelled_octets}
+use Rattle.der_types_sets.proofs.LentWrites.{lent, size_values, spelled_octets}
 
 -- Lists of octets
 
@@ -39,11 +40,8 @@ cmp-behind (x ∷ a) r t = ap (λ o. ordering_then o (octets_cmp (a ++ r) (a ++ 
     same : (n : ℕ) → nat_cmp n n ≡ Equal
     same n = grind arith
 
-one_is : (x y : ℕ) → nat_cmp x y ≡ Equal → x ≡ y
-one_is x y e = let one : x ∷ [] ≡ y ∷ [] = same_octets (x ∷ []) (y ∷ []) (ap (λ o. ordering_then o Equal) e) in cc
-
 head_decides : (x y : ℕ) (a c b : List ℕ) → (x ≡ y → octets_cmp a b ≡ octets_cmp c b) → octets_cmp (x ∷ a) (y ∷ b) ≡ octets_cmp (x ∷ c) (y ∷ b)
-head_decides x y a c b rest = go (nat_cmp x y) (one_is x y)
+head_decides x y a c b rest = go (nat_cmp x y) (nat_cmp-equal x y)
   where
     go : (o : Ordering) → (o ≡ Equal → x ≡ y) → ordering_then o (octets_cmp a b) ≡ ordering_then o (octets_cmp c b)
     go Less e = refl
@@ -136,15 +134,15 @@ content_values : {A : Type 0} (s : Shape) (f : A → Value s) (v : List A) (w : 
     → flat_map (octets_of s) (members_lent s f (lent v w n)) ≡ flat_map (octets_of s) (plain_list f v)
 content_values s f v w zero h e = ap (flat_map (octets_of s)) (append-nil (plain_list f v))
 content_values {A} s f v w (suc n) h e =
-    let none : v ≡ [] = nothing_in v (h.has.one (omega arith)) in
-    let spelled : flat_map (octets_of s) (values_at (read s levels_max) (suc n) w) ≡ [] = spelled_octets s f v w (suc n) h ∙ nothing_in w e in
+    let none : v ≡ [] = nil_from_length v (h.has.one (omega arith)) in
+    let spelled : flat_map (octets_of s) (values_at (read s levels_max) (suc n) w) ≡ [] = spelled_octets s f v w (suc n) h ∙ nil_from_length w e in
     let P : List A → Type 0 = λ u. flat_map (octets_of s) (plain_list f u ++ values_at (read s levels_max) (suc n) w) ≡ flat_map (octets_of s) (plain_list f u) in
     subst P (sym none) spelled
 
 content_octets : {A : Type 0} (s : Shape) (f : A → Value s) (v : List A) (w : List ℕ) (n : ℕ) → IsLent s f (lent v w n) → 0 < length w → flat_map (octets_of s) (members_lent s f (lent v w n)) ≡ w
 content_octets s f v w zero h some = absurd (omega (arith, ap (λ (u : List ℕ). length u) h.joined.octets_are))
 content_octets {A} s f v w (suc n) h some =
-    let none : v ≡ [] = nothing_in v (h.has.one (omega arith)) in
+    let none : v ≡ [] = nil_from_length v (h.has.one (omega arith)) in
     let P : List A → Type 0 = λ u. flat_map (octets_of s) (plain_list f u ++ values_at (read s levels_max) (suc n) w) ≡ w in
     subst P (sym none) (spelled_octets s f v w (suc n) h)
 
@@ -152,7 +150,7 @@ valid_values : {A : Type 0} (s : Shape) (f : A → Value s) (v : List A) (w : Li
 valid_values s f v w zero h valid = subst (AllByRecursion (IsValid s)) (append-nil (plain_list f v)) valid
 valid_values {A} s f v w (suc n) h valid =
     let P : List A → Type 0 = λ u. AllByRecursion (IsValid s) (plain_list f u) in
-    subst P (sym (nothing_in v (h.has.one (omega arith)))) tt
+    subst P (sym (nil_from_length v (h.has.one (omega arith)))) tt
 
 -- the answer of a comparison, unless memory ran out
 abbrev pub Answers : Result Ordering Error → Ordering → Type 0

@@ -1,6 +1,6 @@
 -- The members of a lent set, in a list of their own.
 use Rattle.std.proofs.Common.{◌≡◌, ℕ, zero, suc, List, [], ◌∷◌, ◌++◌, refl, sym, ap, subst, ◌∙◌, append_assoc, arith}
-use Rattle.std.proofs.lemmas.List.{append-nil}
+use Rattle.std.proofs.lemmas.List.{append-nil, nil_from_length}
 use Rattle.der_core_head.specs.Limits.{levels_max}
 use Rattle.der_core_head.specs.Shapes.{Shape, Value, octets_of, AllAscending}
 use Rattle.der_core_head.specs.Grammar.{read, plain_list}
@@ -8,9 +8,9 @@ use Rattle.der_types_sets.specs.Sets.{Ascends}
 use Rattle.der_types_sets.specs.Ascending.{values_at}
 use Rattle.der_types_sets.specs.Lent.{Lent, IsLent, members_lent}
 use Rattle.der_types_sets.proofs.LooseSteps.{ascends-plain}
-use Rattle.der_types_sets.proofs.LentWrites.{nothing_in, lent}
+use Rattle.der_types_sets.proofs.LentWrites.{lent}
 
-plain-append : {A P : Type 0} (f : A → P) (xs ys : List A) → plain_list f (xs ++ ys) ≡ plain_list f xs ++ plain_list f ys
+pub plain-append : {A P : Type 0} (f : A → P) (xs ys : List A) → plain_list f (xs ++ ys) ≡ plain_list f xs ++ plain_list f ys
 plain-append f [] ys = refl
 plain-append f (x ∷ xs) ys = ap (λ (u : List _). f x ∷ u) (plain-append f xs ys)
 
@@ -28,7 +28,7 @@ lent-ascends : {A : Type 0} (s : Shape) (f : A → Value s) (v : List A) (w : Li
 lent-ascends s f v w zero h = subst (Ascends s (λ x. x)) (sym (append-nil (plain_list f v))) (ascends-plain s f v h.ascend)
 lent-ascends {A} s f v w (suc n) h =
     let P : List A → Type 0 = λ u. Ascends s (λ x. x) (plain_list f u ++ values_at (read s levels_max) (suc n) w) in
-    subst P (sym (nothing_in v (h.has.one (omega arith)))) (joined-ascends s (values_at (read s levels_max) (suc n) w) h.joined.ascend)
+    subst P (sym (nil_from_length v (h.has.one (omega arith)))) (joined-ascends s (values_at (read s levels_max) (suc n) w) h.joined.ascend)
 
 -- a copy of each member, so far
 pub taken_on : {A P : Type 0} (f : A → P) (xs : List A) (x : A) (left more all : List P) → plain_list f xs ++ left ≡ all → left ≡ f x ∷ more → plain_list f (xs ++ x ∷ []) ++ more ≡ all

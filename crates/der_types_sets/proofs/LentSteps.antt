@@ -3,7 +3,7 @@ use Rattle.std.proofs.Common.{◌≡◌, ℕ, zero, suc, ◌-◌, ◌<◌, ◌�
 use Rattle.std.specs.Prelude.{◌≢◌, slice_get, Some, None, ◌+◌}
 use Rattle.std.proofs.lemmas.Option.{slice_get_past}
 use Rattle.std.proofs.lemmas.Bool.{le-ltb}
-use Rattle.std.proofs.lemmas.List.{length-drop}
+use Rattle.std.proofs.lemmas.List.{length-drop, nil_from_length}
 use Rattle.der_core_head.specs.Limits.{length_max, levels_max}
 use Rattle.der_core_head.specs.declared.error.Error.{Error}
 use Rattle.der_core_head.specs.declared.error.ErrorKind.{ErrorKind}
@@ -52,13 +52,9 @@ spelled_wants s (suc n) w k some spelled h =
     let front : read_front s w ≡ Ok x.0 = rw (le-ltb length_max (length w) (omega (arith, spelled.short))) x.1 in
     only_memory k x.0 (read_front s w) front h
 
-none_of : {A : Type 0} (xs : List A) → length xs ≡ 0 → xs ≡ []
-none_of [] h = refl
-none_of (x ∷ xs) h = absurd (omega arith)
-
 pub front_lent : {A : Type 0} (s : Shape) (f : A → Value s) (values : List A) (n : ℕ) (w : List ℕ) (v : Value s) (r : List ℕ) → length values ≡ 0 → values_at (read s levels_max) n w ≡ v ∷ values_at (read s levels_max) (n - 1) r
     → plain_list f values ++ values_at (read s levels_max) n w ≡ v ∷ (plain_list f values ++ values_at (read s levels_max) (n - 1) r)
-front_lent s f values n w v r none all = rw (none_of values none) all
+front_lent s f values n w v r none all = rw (nil_from_length values none) all
 
 -- A member at an index
 

@@ -2,7 +2,7 @@
 use Rattle.std.proofs.Common.{◌≡◌, ℕ, zero, suc, ◌<◌, eqb, Bool, false, List, [], ◌∷◌, ◌++◌, length, None, Result, Ok, Err, refl, sym, ap, subst, ◌∙◌, arith}
 use Rattle.std.specs.Prelude.{flat_map}
 use Rattle.std.specs.List.{AllByRecursion}
-use Rattle.std.proofs.lemmas.List.{append-nil}
+use Rattle.std.proofs.lemmas.List.{append-nil, nil_from_length}
 use Rattle.der_core_head.specs.Limits.{levels_max}
 use Rattle.der_core_head.specs.declared.error.Error.{Error}
 use Rattle.der_core_head.specs.declared.error.ErrorKind.{ErrorKind}
@@ -19,10 +19,6 @@ use Rattle.der_types_sets.specs.Sets.{Ascends}
 use Rattle.der_types_sets.specs.Ascending.{values_at}
 use Rattle.der_types_sets.specs.Lent.{Lent, IsLent, members_lent}
 use Rattle.der_types_sets.proofs.PutSteps.{put_some, members_put}
-
-pub nothing_in : {A : Type 0} (xs : List A) → length xs ≡ 0 → xs ≡ []
-nothing_in [] e = refl
-nothing_in (x ∷ xs) e = absurd (omega arith)
 
 pub some_at : (n : ℕ) → eqb n 0 ≡ false → 0 < n
 some_at zero e = absurd cc
@@ -44,27 +40,27 @@ spelled_fits s f v w n h = subst Fits (sym (spelled_octets s f v w n h)) h.has.s
 
 some_size : {A : Type 0} (s : Shape) (f : A → Value s) (v : List A) (w : List ℕ) (n : ℕ) → IsLent s f (lent v w (suc n)) → many_len (size s) (members_lent s f (lent v w (suc n))) 0 ≡ Ok (length w)
 some_size s f v w n h =
-    rw (nothing_in v (h.has.one (omega arith)))
+    rw (nil_from_length v (h.has.one (omega arith)))
     (members_size s (values_at (read s levels_max) (suc n) w) h.joined.valid (spelled_fits s f v w (suc n) h) ∙ ap (λ (u : List ℕ). Ok (length u)) (spelled_octets s f v w (suc n) h))
 
 some_put : {A : Type 0} (s : Shape) (f : A → Value s) (v : List A) (w : List ℕ) (n : ℕ) (o : Out) → IsLent s f (lent v w (suc n)) → write_many (write s) (members_lent s f (lent v w (suc n))) o ≡ put_some w o
 some_put s f v w n o h =
-    rw (nothing_in v (h.has.one (omega arith)))
+    rw (nil_from_length v (h.has.one (omega arith)))
     (members_put s (values_at (read s levels_max) (suc n) w) o h.joined.valid ∙ ap (λ (u : List ℕ). put_some u o) (spelled_octets s f v w (suc n) h))
 
 pub size_values : {A : Type 0} (s : Shape) (f : A → Value s) (v : List A) (w : List ℕ) (n : ℕ) → IsLent s f (lent v w n) → length w ≡ 0
     → many_len (size s) (plain_list f v) 0 ≡ many_len (size s) (members_lent s f (lent v w n)) 0
 size_values s f v w zero h e = ap (λ (u : List (Value s)). many_len (size s) u 0) (sym (append-nil (plain_list f v)))
 size_values {A} s f v w (suc n) h e =
-    let none : v ≡ [] = nothing_in v (h.has.one (omega arith)) in
+    let none : v ≡ [] = nil_from_length v (h.has.one (omega arith)) in
     ap (λ (u : List A). many_len (size s) (plain_list f u) 0) none ∙ sym (some_size s f v w n h ∙ ap (λ k. Ok k) e)
 
 write_values : {A : Type 0} (s : Shape) (f : A → Value s) (v : List A) (w : List ℕ) (n : ℕ) (o : Out) → IsLent s f (lent v w n) → length w ≡ 0
     → write_many (write s) (plain_list f v) o ≡ write_many (write s) (members_lent s f (lent v w n)) o
 write_values s f v w zero o h e = ap (λ (u : List (Value s)). write_many (write s) u o) (sym (append-nil (plain_list f v)))
 write_values {A} s f v w (suc n) o h e =
-    let none : v ≡ [] = nothing_in v (h.has.one (omega arith)) in
-    ap (λ (u : List A). write_many (write s) (plain_list f u) o) none ∙ sym (some_put s f v w n o h ∙ ap (λ (u : List ℕ). put_some u o) (nothing_in w e))
+    let none : v ≡ [] = nil_from_length v (h.has.one (omega arith)) in
+    ap (λ (u : List A). write_many (write s) (plain_list f u) o) none ∙ sym (some_put s f v w n o h ∙ ap (λ (u : List ℕ). put_some u o) (nil_from_length w e))
 
 pub size_octets : {A : Type 0} (s : Shape) (f : A → Value s) (v : List A) (w : List ℕ) (n : ℕ) → IsLent s f (lent v w n) → 0 < length w
     → many_len (size s) (members_lent s f (lent v w n)) 0 ≡ Ok (length w)
@@ -90,7 +86,7 @@ values_ordered s f (x ∷ y ∷ v) valid h = (h.0 valid.0 valid.1.0, values_orde
 spelled_ordered : {A : Type 0} (s : Shape) (f : A → Value s) (v : List A) (w : List ℕ) (n : ℕ) → IsLent s f (lent v w (suc n)) → AllAscending (octets_of s) (members_lent s f (lent v w (suc n)))
 spelled_ordered {A} s f v w n h =
     let P : List A → Type 0 = λ u. AllAscending (octets_of s) (plain_list f u ++ values_at (read s levels_max) (suc n) w) in
-    subst P (sym (nothing_in v (h.has.one (omega arith)))) h.joined.ascend
+    subst P (sym (nil_from_length v (h.has.one (omega arith)))) h.joined.ascend
 
 lent_ordered : {A : Type 0} (s : Shape) (f : A → Value s) (v : List A) (w : List ℕ) (n : ℕ) → IsLent s f (lent v w n) → AllByRecursion (IsValid s) (plain_list f v) → AllAscending (octets_of s) (members_lent s f (lent v w n))
 lent_ordered s f v w zero h valid = subst (AllAscending (octets_of s)) (sym (append-nil (plain_list f v))) (values_ordered s f v valid h.ascend)

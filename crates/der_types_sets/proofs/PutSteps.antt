@@ -1,5 +1,5 @@
 -- What is written of a valid value are its octets, whatever room the writer has, and whether it failed or not.
-use Rattle.std.proofs.Common.{◌≡◌, ℕ, ◌+◌, ◌-◌, Bool, true, false, List, [], ◌∷◌, ◌++◌, length, Option, Some, None, Result, Ok, Err, refl, sym, ap, ◌∙◌, append_assoc, arith, inl, inr}
+use Rattle.std.proofs.Common.{◌≡◌, ℕ, ◌+◌, ◌-◌, Bool, true, false, List, [], ◌∷◌, ◌++◌, length, Option, Some, None, Result, Ok, Err, refl, sym, ap, ◌∙◌, arith, inl, inr}
 use Rattle.std.proofs.lemmas.Bool.{le-ltb, lt-ltb, cases_lt}
 use Rattle.std.proofs.lemmas.List.{append-nil, length-append}
 use Rattle.std.specs.List.{flat_map, AllByRecursion}
@@ -15,27 +15,7 @@ use Rattle.der_core_head.specs.Writing.{Out, put, put_head, fit_len, size_conten
 use Rattle.der_core_head.proofs.Results.{fine, ok_is}
 use Rattle.der_core_head.proofs.Fits.{fits_contents}
 use Rattle.der_core_head.proofs.TagLaws.{tag_octets-some}
-use Rattle.der_core_head.proofs.Written.{sized_content, ordered_written}
-
--- octets one after the other, or at once
-joined : (a b w : List ℕ) (room : Option ℕ) (failed : Bool) → (put a (record { written = w; room = room; failed = failed }) >>= put b) ≡ put (a ++ b) (record { written = w; room = room; failed = failed })
-unfolding put
-joined a b w room true = refl
-joined a b w None false = ap (λ (x : List ℕ). Ok (record { written = x; room = None; failed = false })) (append_assoc w a b)
-joined a b w (Some n) false =
-    let sum = length-append a b in
-    elim (cases_lt n (length a)) [
-      | inl lt ↦ rw (lt-ltb n (length a) lt, lt-ltb n (length (a ++ b)) (omega (arith, sum))) refl
-      | inr le ↦ rw (le-ltb n (length a) le) (elim (cases_lt (n - length a) (length b)) [
-        | inl lt ↦ rw (lt-ltb (n - length a) (length b) lt, lt-ltb n (length (a ++ b)) (omega (arith, sum))) refl
-        | inr fits ↦
-            let rest : (n - length a) - length b ≡ n - length (a ++ b) = omega (arith, sum) in
-            rw (le-ltb (n - length a) (length b) fits, le-ltb n (length (a ++ b)) (omega (arith, sum)), rest, append_assoc w a b) refl
-      ])
-    ]
-
-put-append : (a b : List ℕ) (o : Out) → (put a o >>= put b) ≡ put (a ++ b) o
-put-append a b o = joined a b o.written o.room o.failed
+use Rattle.der_core_head.proofs.Written.{sized_content, ordered_written, put-append}
 
 written_is : (x y : Out) → fine x ≡ fine y → x ≡ y
 written_is x y e = ok_is x y e

@@ -7,10 +7,10 @@ use Rattle.std.specs.declared.cmp.Ordering.{Ordering}
 use Rattle.std.specs.declared.cmp.Ordering.TheVariants.{Greater}
 use Rattle.std.specs.Cmp.Lexicographic.{nat_list_cmp_total}
 use Rattle.std.specs.List.Sorted.{IsPermutation}
-use Rattle.std.proofs.lemmas.List.{get_or_default, get_or-take, take_more, take-append-drop, take_at, length-take, take_all, drop_all, append_assoc}
+use Rattle.std.proofs.lemmas.List.{get_or_default, get_or-take, take_more, take-append-drop, take_at, length-take, take_all, drop_all}
 use Rattle.std.proofs.lemmas.List.Edits.{length-insert}
 use Rattle.std.proofs.lemmas.List.Elements.{All-take, All-from_recursion, recursion_from_All}
-use Rattle.std.proofs.lemmas.List.Sorted.{All-permutation, IsPermutation-trans, IsPermutation-to_front, IsPermutation-insert, IsPermutation-append_left, IsPermutation-middle, IsPermutation-cons}
+use Rattle.std.proofs.lemmas.List.Sorted.{All-permutation, IsPermutation-trans, IsPermutation-to_front, IsPermutation-insert, IsPermutation-append_left}
 use Rattle.der_core_head.specs.declared.encoding_rules.EncodingRules.{EncodingRules}
 use Rattle.der_core_head.specs.declared.encoding_rules.EncodingRules.TheVariants as encodings
 use Rattle.der_core_head.specs.declared.error.Error.{Error}
@@ -44,13 +44,6 @@ ascends-insert s f (y ∷ z ∷ zs) (suc (suc i)) x asc le p q =
 
 pub placed : {A : Type 0} (s : Shape) (f : A → Value s) (xs : List A) (i : ℕ) (x : A) → Ascends s f xs → IsPlace s f xs x i → Ascends s f (insert xs i x)
 placed s f xs i x asc p = ascends-insert s f xs i x asc p.within p.behind p.before
-
-pub behind_here : {A : Type 0} (s : Shape) (f : A → Value s) (xs : List A) (x y : A) (m : ℕ) → m < length xs → y ≡ get_or xs m y → NotAbove s f y x → Behind s f xs x (m + 1)
-behind_here {A} s f xs x y m lt here ok = λ w k e h.
-    let same : k ≡ m = omega arith in
-    let z : y ≡ w = here ∙ get_or_default xs m y w lt ∙ ap (λ j. get_or xs j w) (sym same) ∙ sym h in
-    let P : A → Type 0 = λ v. NotAbove s f v x in
-    subst P z ok
 
 pub before_here : {A : Type 0} (s : Shape) (f : A → Value s) (xs : List A) (x y : A) (m : ℕ) → y ≡ get_or xs m y → IsBelow s f x y → Before s f xs x m
 before_here {A} s f xs x y m here ok = λ w lt h.
@@ -107,11 +100,6 @@ too_long_part {A} s f old xs end y e same lt here t =
           t.some (valid_at s f xs end y lt here now, recursion_from_All V (take end xs) (All-take V end xs (All-from_recursion V xs now)));
     }
 
-pub too_long_moved : {A : Type 0} (s : Shape) (f : A → Value s) (old xs : List A) (e : Error) → IsPermutation old xs → TooLong s f xs e → TooLong s f old e
-too_long_moved {A} s f old xs e same t =
-    let V : A → Type 0 = λ x. IsValid s (f x) in
-    record { kind = t.kind; some = λ all. t.some (recursion_from_All V xs (All-permutation V old xs same (All-from_recursion V old all))) }
-
 -- Members of which one is below the one before it
 
 ascends-at : {A : Type 0} (s : Shape) (f : A → Value s) (xs : List A) (k : ℕ) (x y : A) → suc k < length xs → x ≡ get_or xs k x → y ≡ get_or xs (suc k) y → Ascends s f xs → NotAbove s f x y
@@ -142,13 +130,6 @@ pub ascends-last : {A : Type 0} (s : Shape) (f : A → Value s) (xs : List A) (x
 ascends-last {A} s f xs x asc p =
     let same : insert xs (length xs) x ≡ xs ++ x ∷ [] = ap (λ (u : List A). u ++ x ∷ drop (length xs) xs) (take_all (length xs) xs (omega arith)) ∙ ap (λ (u : List A). xs ++ x ∷ u) (drop_all (length xs) xs (omega arith)) in
     subst (Ascends s f) same (placed s f xs (length xs) x asc p)
-
-pub gain_one : {A : Type 0} (old items : List A) (x : A) (now new : List A) → IsPermutation (items ++ old) now → IsPermutation (x ∷ now) new → IsPermutation ((items ++ x ∷ []) ++ old) new
-gain_one {A} old items x now new before one =
-    let to_front : IsPermutation (items ++ x ∷ old) (x ∷ (items ++ old)) = IsPermutation-middle items x old in
-    let all = IsPermutation-trans (items ++ x ∷ old) (x ∷ (items ++ old)) new to_front (IsPermutation-trans (x ∷ (items ++ old)) (x ∷ now) new (IsPermutation-cons x (items ++ old) now before) one) in
-    let P : List A → Type 0 = λ u. IsPermutation u new in
-    subst P (sym (append_assoc items (x ∷ []) old)) all
 
 -- What was read
 

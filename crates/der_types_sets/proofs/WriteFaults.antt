@@ -15,7 +15,7 @@ use Rattle.der_core_head.specs.Heads.{head_octets, length_octets}
 use Rattle.der_core_head.specs.Leaves.{leaf_contents}
 use Rattle.der_core_head.specs.Shapes.{Step, above, not_below, Shape, Content, Body, tagged, any, either, optional, defaulted, nothing, leaf, nested, done, field, only, many, exactly, few, in_order, Value, ContentValue, BodyValue, octets_of}
 use Rattle.der_core_head.specs.Writing.{Out, put, put_head, head_len, sum_len, fit_len, tlv_len, both_len, many_len, default_len, size, size_content, size_body, write_tlv, write_many, all_follow, default_write, write, write_content, write_body}
-use Rattle.der_core_head.proofs.Written.{out}
+use Rattle.der_core_head.proofs.Written.{out, put_is}
 use Rattle.der_types_sets.specs.Lent.{IsMisplaced}
 use Rattle.der_core.proofs.Sizes.{OnlyOverflows, sum_only, size_only, content_only, tlv_over, first_over, second_over, over_or}
 
@@ -23,10 +23,6 @@ use Rattle.der_core.proofs.Sizes.{OnlyOverflows, sum_only, size_only, content_on
 abbrev pub IsOver : Result Out ErrorKind → Result ℕ ErrorKind → Type 0
 IsOver (Ok x) n = (w : List ℕ) × (x ≡ out w)
 IsOver (Err k) n = IsMisplaced k ⊎ ((k ≡ kinds.Overflow) × (n ≡ Err kinds.Overflow))
-
-put_out : (b w : List ℕ) → put b (out w) ≡ Ok (out (w ++ b))
-unfolding put
-put_out b w = refl
 
 never_over : (r : Result Out ErrorKind) (n : ℕ) (m : Result ℕ ErrorKind) → IsOver r (Ok n) → IsOver r m
 never_over (Ok x) n m h = h
@@ -42,7 +38,7 @@ head_is_over : (t : Tag) (n : ℕ) (f : Out → Result Out ErrorKind) (w : List 
     → IsOver ((r >>= λ _. put (tag_octets t) (out w) >>= put (length_octets n)) >>= f) r
 head_is_over t n f w (Ok m) long writes =
     let x = (w ++ tag_octets t) ++ length_octets n in
-    rw (put_out (tag_octets t) w, put_out (length_octets n) (w ++ tag_octets t)) (never_over (f (out x)) n (Ok m) (writes x))
+    rw (put_is (tag_octets t) w, put_is (length_octets n) (w ++ tag_octets t)) (never_over (f (out x)) n (Ok m) (writes x))
 head_is_over t n f w (Err k) long writes = inr (long k refl, ap (λ e. Err e) (long k refl))
 
 tlv_is_over : (t : Tag) (n : Result ℕ ErrorKind) (f : Out → Result Out ErrorKind) (w : List ℕ) → OnlyOverflows n → ((x : List ℕ) → IsOver (f (out x)) n) → IsOver (write_tlv t n f (out w)) (tlv_len t n)
@@ -110,7 +106,7 @@ default_over true f n w h = (w, refl)
 default_over false f n w h = h
 
 put_is_over : (b w : List ℕ) (n : Result ℕ ErrorKind) → IsOver (put b (out w)) n
-put_is_over b w n = rw (put_out b w) (w ++ b, refl)
+put_is_over b w n = rw (put_is b w) (w ++ b, refl)
 
 mutual
   write_over : (s : Shape) (v : Value s) (w : List ℕ) → IsOver (write s v (out w)) (size s v)

@@ -23,8 +23,8 @@ pub(crate) fn joined_cmp<T: Encode>(
 ) -> Result<Ordering, Error>
     // An answer comes wherever the values have encodings, unless memory runs out.
     ensures order { IsBody (many T.shape) (plain_list T.written values.now)
-        → Gives (λ o. o) result
-        (Ok (octets_cmp (body_octets (many T.shape) (plain_list T.written values.now)) octets.now)) }
+        → Gives (λ o. o) result (Ok (octets_cmp
+        (body_octets (many T.shape) (plain_list T.written values.now)) octets.now)) }
     ensures refused { IfErr result (IsUnwritten T.shape (plain_list T.written values.now)) }
 {
     let mut left = octets;

@@ -410,7 +410,8 @@ impl<'a, T: DerOrd + Encode> SetOfRef<'a, T> {
             (members_lent T.shape T.written other.now) e
             ⊎ Overflows e
             (size (tagged Set (nested (many T.shape))) (members_lent T.shape T.written self.now))
-            (size (tagged Set (nested (many T.shape))) (members_lent T.shape T.written other.now))) }
+            (size (tagged Set (nested (many T.shape)))
+            (members_lent T.shape T.written other.now))) }
     {
         let len = self.content_len()?;
         let other_len = other.content_len()?;

@@ -23,10 +23,6 @@ first_over a b c v w e h = record { kind = content_only c v e.kind h; length = i
 pub second_over : (a b : Tag) (c : Content) (v w : ContentValue c) (e : Error) → size_content c w ≡ Err e.kind → Overflows e (size (tagged a c) v) (size (tagged b c) w)
 second_over a b c v w e h = record { kind = content_only c w e.kind h; length = inr (tlv_over b (size_content c w) (content_over c w e.kind h)) }
 
--- what is too long inside is too long with its header
-pub inside_over : (a b : Tag) (c : Content) (v w : ContentValue c) (e : Error) → Overflows e (size_content c v) (size_content c w) → Overflows e (size (tagged a c) v) (size (tagged b c) w)
-inside_over a b c v w e h = record { kind = h.kind; length = elim h.length [ inl f ↦ inl (tlv_over a (size_content c v) f) | inr f ↦ inr (tlv_over b (size_content c w) f) ] }
-
 by_headers : (a b : Tag) (c : Content) (v w : ContentValue c) (m n : ℕ) → IsValid (tagged a c) v → IsValid (tagged b c) w → size_content c v ≡ Ok m → size_content c w ≡ Ok n
     → octets_cmp (octets_of (tagged a c) v) (octets_of (tagged b c) w)
     ≡ ordering_then (ordering_then (octets_cmp (tag_octets a) (tag_octets b)) (octets_cmp (length_octets m) (length_octets n))) (contents_cmp c v w)

@@ -98,7 +98,8 @@ pub fn len_of_field<T: EncodeValue + FixedTag>(
         (T.value_written value.now)) }
     ensures implicit { mode ≡ Implicit
         → GivesNow (λ l. l.value) result
-        (size (implicit_field class number.value T.fixed_tag T.content) (T.value_written value.now)) }
+        (size (implicit_field class number.value T.fixed_tag T.content)
+        (T.value_written value.now)) }
 {
     let tag = tag_of_field(class, mode, number, T::tag());
     match mode {

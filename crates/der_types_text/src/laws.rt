@@ -84,7 +84,7 @@ pub fn utf8_forms_read_alike()
     ensures { ⟦<Utf8StringRef<'static> as Shaped>⟧.shape ≡ ⟦<String as Shaped>⟧.shape }
 {}
 
-/// Both have the same contents and the same encoding.
+/// A `Utf8StringRef` and its `String` have the same contents and the same encoding.
 pub fn utf8_forms_encode_alike(borrowed: &Utf8StringRef<'_>, owned: &String)
     requires { borrowed.now.text.now ≡ string_bytes owned.now }
     ensures contents { contents ⟦<Utf8StringRef<'static> as ShapedValue>⟧.content
@@ -96,7 +96,7 @@ pub fn utf8_forms_encode_alike(borrowed: &Utf8StringRef<'_>, owned: &String)
         ≡ octets_of ⟦<String as Shaped>⟧.shape (⟦<String as Shaped>⟧.plain owned.now) }
 {}
 
-/// Two of them are equal, hash, and stand in each order as their `String`s do.
+/// Two `Utf8StringRef`s are equal, hash, and stand in each order as their `String`s do.
 pub fn utf8_forms_compare_alike(
     a: &Utf8StringRef<'_>,
     b: &Utf8StringRef<'_>,
@@ -126,7 +126,7 @@ pub fn utf8_forms_compare_alike(
         (⟦<String as Shaped>⟧.plain owned_b.now) }
 {}
 
-/// Both print alike, and lend the same text.
+/// A `Utf8StringRef` and its `String` print alike, and lend the same text.
 pub fn utf8_forms_answer_alike(borrowed: &Utf8StringRef<'_>, owned: &String)
     requires { borrowed.now.text.now ≡ string_bytes owned.now }
     ensures printed { ⟦<Utf8StringRef<'static> as Display>⟧.output borrowed.now

@@ -1,6 +1,6 @@
 -- What contracts see of bit strings: the number of unused bits and the octets; and the bits
 -- themselves.
-use Rattle.std.specs.Prelude.{◌≡◌, ◌^◌, ◌<◌, Bool, true, List, length, map}
+use Rattle.std.specs.Prelude.{◌≡◌, Bool, true, List, map}
 use Rattle.std.specs.List.{range_with_len}
 use Rattle.der_core_head.specs.Heads.{Fits}
 use Rattle.der_core_head.specs.BitStrings.{Bits, are_bits}

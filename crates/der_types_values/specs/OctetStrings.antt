@@ -1,5 +1,5 @@
 -- What contracts see of an `OctetString` and of an `OctetStringRef`: the octets.
-use Rattle.std.specs.Prelude.{ℕ, ◌<◌, ◌^◌, List, length}
+use Rattle.std.specs.Prelude.{ℕ, List}
 use Rattle.der_core_head.specs.Heads.{Fits}
 use Rattle.der_types_values.specs.declared.octet_string.OctetString.TheInside.{Inside}
 use Rattle.der_types_values.specs.declared.octet_string_ref.OctetStringRef.{OctetStringRef}

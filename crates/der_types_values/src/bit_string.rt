@@ -1,11 +1,12 @@
 //! BIT STRING.
 
-ghost use Rattle.std.specs.Prelude.{◌≡◌, ◌≢◌, ◌<◌, ◌≤◌, ◌^◌, ◌↔◌, ◌&&◌, [], length, vec_len, true};
+ghost use Rattle.std.specs.Prelude.{◌≡◌, ◌≢◌, ◌<◌, ◌≤◌, ◌↔◌, ◌&&◌, [], length, vec_len, true};
 ghost use Rattle.std.specs.Prelude.{false, Some, None, nat_eq, ◌==◌, IsTrue, IsOk, IfOk, IfErr};
 ghost use Rattle.std.specs.Prelude.{IfSome, IfNone};
 ghost use Rattle.std.proofs.Common.{refl};
 ghost use Rattle.std.specs.Cmp.{po, partial_equiv_from_equiv, on_equiv, on_per};
 ghost use Rattle.std.specs.Cmp.Lexicographic.{pointwise, nat_list_eq_equiv};
+ghost use Rattle.der_core_head.specs.Limits.{IsLength, length_max};
 ghost use Rattle.der_core_head.specs.BitStrings.{are_bits, bit_contents};
 ghost use Rattle.der_core_head.specs.declared.tag.Tag.TheVariants.{BitString as BitStringTag};
 ghost use Rattle.der_core_head.specs.Leaves.{bits};
@@ -61,7 +62,7 @@ impl BitString {
     /// bit isn't zero; then `Overflow` for 2^32 octets or more.
     pub fn new(unused_bits: u8, bytes: Vec<u8>) -> Result<BitString, Error>
         ensures bits { IsOk result
-            ↔ ((are_bits unused_bits bytes.items ≡ true) × (vec_len bytes < 2 ^ 32)) }
+            ↔ ((are_bits unused_bits bytes.items ≡ true) × IsLength (vec_len bytes)) }
         ensures ok { IfOk result (λ b. b ≡ record { unused = unused_bits; octets = bytes.items }) }
         ensures value { are_bits unused_bits bytes.items ≡ false
             → IfErr result (λ e. e.kind ≡ ErrorKind.Value Tag.BitString) }
@@ -78,9 +79,10 @@ impl BitString {
     /// `Overflow` for 2^32 octets or more.
     #[tactic(auto, using(crate::proofs::AllBits::all_bits))]
     pub fn from_bytes(bytes: Vec<u8>) -> Result<BitString, Error>
-        ensures ok { IfOk result (λ b. (vec_len bytes < 2 ^ 32)
+        ensures ok { IfOk result (λ b. IsLength (vec_len bytes)
             × (b ≡ record { unused = 0; octets = bytes.items })) }
-        ensures err { IfErr result (λ e. (2 ^ 32 ≤ vec_len bytes) × (e.kind ≡ ErrorKind.Overflow)) }
+        ensures err { IfErr result (λ e. (length_max < vec_len bytes)
+            × (e.kind ≡ ErrorKind.Overflow)) }
     {
         if bytes.len() > 0xffff_ffff {
             return Err(Error::from(ErrorKind::Overflow));

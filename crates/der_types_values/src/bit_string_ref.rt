@@ -1,7 +1,8 @@
 //! BIT STRING, borrowed.
 
-ghost use Rattle.std.specs.Prelude.{◌≡◌, ◌≢◌, ◌<◌, ◌≤◌, ◌^◌, ◌↔◌, [], length, true, false, Some};
+ghost use Rattle.std.specs.Prelude.{◌≡◌, ◌≢◌, ◌<◌, ◌≤◌, ◌↔◌, [], length, true, false, Some};
 ghost use Rattle.std.specs.Prelude.{None, IsTrue, IsOk, IfOk, IfErr, IfSome, IfNone, MatchResult};
+ghost use Rattle.der_core_head.specs.Limits.{length_max};
 ghost use Rattle.der_core_head.specs.Heads.{Fits};
 ghost use Rattle.der_core_head.specs.declared.tag.Tag.TheVariants.{BitString as BitStringTag};
 ghost use Rattle.der_core_head.specs.BitStrings.{Bits, are_bits};
@@ -62,7 +63,7 @@ impl<'a> BitStringRef<'a> {
     pub fn from_bytes(bytes: &'a [u8]) -> Result<BitStringRef<'a>, Error>
         ensures ok { IfOk result
             (λ b. Fits bytes.now × (bits_lent b ≡ record { unused = 0; octets = bytes.now })) }
-        ensures err { IfErr result (λ e. (2 ^ 32 ≤ length bytes.now)
+        ensures err { IfErr result (λ e. (length_max < length bytes.now)
             × (e.kind ≡ ErrorKind.Overflow)) }
     {
         if bytes.len() > 0xffff_ffff {
@@ -195,7 +196,8 @@ impl<'a> BitStringRef<'a> {
 
 /// All bits of a slice of fewer than 2^32 octets.
 impl<'a> TryFrom<&'a [u8]> for BitStringRef<'a> {
-    ghost use Rattle.std.specs.Prelude.{◌≡◌, ◌<◌, ◌≤◌, ◌^◌, length, MatchResult};
+    ghost use Rattle.std.specs.Prelude.{◌≡◌, ◌<◌, length, MatchResult};
+    ghost use Rattle.der_core_head.specs.Limits.{length_max};
     ghost use Rattle.der_core_head.specs.declared.error.ErrorKind.TheVariants as kinds;
     ghost use Rattle.der_types_values.specs.BitStrings.{bits_lent};
 
@@ -203,7 +205,7 @@ impl<'a> TryFrom<&'a [u8]> for BitStringRef<'a> {
 
     ghost try_from_gives = { λ bytes r. MatchResult r
         (λ b. bits_lent b ≡ record { unused = 0; octets = bytes.now })
-        (λ e. (2 ^ 32 ≤ length bytes.now) × (e.kind ≡ kinds.Overflow)) };
+        (λ e. (length_max < length bytes.now) × (e.kind ≡ kinds.Overflow)) };
 
     fn try_from(bytes: &'a [u8]) -> Result<BitStringRef<'a>, Error> {
         BitStringRef::from_bytes(bytes)

@@ -1,6 +1,7 @@
 //! Octets as bits, the most significant one of each first (X.690 8.6.2).
 
-ghost use Rattle.std.specs.Prelude.{◌≡◌, ◌<◌, ◌≤◌, ◌^◌, ◌*◌, ◌↔◌, length, true, false, IsOk, IfErr};
+ghost use Rattle.std.specs.Prelude.{◌≡◌, ◌<◌, ◌*◌, ◌↔◌, length, true, false, IsOk, IfErr};
+ghost use Rattle.der_core_head.specs.Limits.{length_max};
 ghost use Rattle.der_core_head.specs.Heads.{Fits};
 ghost use Rattle.der_core_head.specs.BitStrings.{are_bits, last_octet};
 ghost use Rattle.der_types_values.specs.Bits.{bit_at};
@@ -38,7 +39,7 @@ pub fn check_bits(unused_bits: u8, octets: &[u8]) -> Result<(), Error>
     ensures value { are_bits unused_bits octets.now ≡ false
         → IfErr result (λ e. e.kind ≡ ErrorKind.Value Tag.BitString) }
     ensures long { are_bits unused_bits octets.now ≡ true
-        → IfErr result (λ e. (2 ^ 32 ≤ length octets.now) × (e.kind ≡ ErrorKind.Overflow)) }
+        → IfErr result (λ e. (length_max < length octets.now) × (e.kind ≡ ErrorKind.Overflow)) }
 {
     if !may_be_unused(unused_bits, octets) {
         return Err(Error::from(ErrorKind::Value {

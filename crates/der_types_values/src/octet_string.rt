@@ -1,6 +1,6 @@
 //! OCTET STRING.
 
-ghost use Rattle.std.specs.Prelude.{◌≡◌, ◌<◌, ◌≤◌, ◌^◌, ◌↔◌, [], length, vec_len, nat_eq, Some};
+ghost use Rattle.std.specs.Prelude.{◌≡◌, ◌<◌, ◌↔◌, [], length, vec_len, nat_eq, Some};
 ghost use Rattle.std.specs.Prelude.{IsTrue, IfOk, IfErr};
 ghost use Rattle.std.proofs.Common.{refl, ap};
 ghost use Rattle.std.specs.Cmp.{partial_equiv_from_equiv};
@@ -9,6 +9,7 @@ ghost use Rattle.std.specs.Cmp.Lexicographic.{nat_list_eq_equiv, nat_list_cmp_to
 ghost use Rattle.std.specs.Cmp.Lexicographic.{texts_ties};
 ghost use Rattle.std.specs.Hash as fed;
 ghost use Rattle.std.specs.Ordering.{nat_cmp};
+ghost use Rattle.der_core_head.specs.Limits.{IsLength, length_max};
 ghost use Rattle.der_core_head.specs.declared.tag.Tag.TheVariants.{OctetString as OctetStringTag};
 ghost use Rattle.der_core_head.specs.Leaves.{octets};
 ghost use Rattle.der_core_head.specs.Shapes.{leaf};
@@ -52,8 +53,9 @@ impl OctetString {
     /// # Errors
     /// `Overflow` for 2^32 octets or more.
     pub fn new(bytes: Vec<u8>) -> Result<OctetString, Error>
-        ensures ok { IfOk result (λ o. (vec_len bytes < 2 ^ 32) × (o ≡ bytes.items)) }
-        ensures err { IfErr result (λ e. (2 ^ 32 ≤ vec_len bytes) × (e.kind ≡ ErrorKind.Overflow)) }
+        ensures ok { IfOk result (λ o. IsLength (vec_len bytes) × (o ≡ bytes.items)) }
+        ensures err { IfErr result (λ e. (length_max < vec_len bytes)
+            × (e.kind ≡ ErrorKind.Overflow)) }
     {
         if bytes.len() > 0xffff_ffff {
             return Err(Error::from(ErrorKind::Overflow));

@@ -1,9 +1,9 @@
 //! OCTET STRING, borrowed.
 
-ghost use Rattle.std.specs.Prelude.{◌≡◌, ◌<◌, ◌≤◌, ◌^◌, ◌↔◌, [], length, true, Ok, IsTrue, IfOk};
+ghost use Rattle.std.specs.Prelude.{◌≡◌, ◌<◌, ◌↔◌, [], length, true, Ok, IsTrue, IfOk};
 ghost use Rattle.std.specs.Prelude.{false};
 ghost use Rattle.std.specs.Prelude.{IfErr, MatchResult};
-ghost use Rattle.der_core_head.specs.Limits.{levels_max};
+ghost use Rattle.der_core_head.specs.Limits.{length_max, levels_max};
 ghost use Rattle.der_core_head.specs.Heads.{Fits};
 ghost use Rattle.der_core_head.specs.declared.tag.Tag.TheVariants.{OctetString as OctetStringTag};
 ghost use Rattle.der_core_head.specs.Leaves.{octets};
@@ -37,7 +37,7 @@ impl<'a> OctetStringRef<'a> {
     /// `Overflow` for 2^32 octets or more.
     pub fn new(bytes: &'a [u8]) -> Result<OctetStringRef<'a>, Error>
         ensures ok { IfOk result (λ o. Fits bytes.now × (octets_lent o ≡ bytes.now)) }
-        ensures err { IfErr result (λ e. (2 ^ 32 ≤ length bytes.now)
+        ensures err { IfErr result (λ e. (length_max < length bytes.now)
             × (e.kind ≡ ErrorKind.Overflow)) }
     {
         if bytes.len() > 0xffff_ffff {
@@ -122,14 +122,15 @@ impl<'a> AsSlice<u8> for OctetStringRef<'a> {
 
 /// The octets of a slice, fewer than 2^32.
 impl<'a> TryFrom<&'a [u8]> for OctetStringRef<'a> {
-    ghost use Rattle.std.specs.Prelude.{◌≡◌, ◌<◌, ◌≤◌, ◌^◌, length, MatchResult};
+    ghost use Rattle.std.specs.Prelude.{◌≡◌, ◌<◌, length, MatchResult};
+    ghost use Rattle.der_core_head.specs.Limits.{length_max};
     ghost use Rattle.der_core_head.specs.declared.error.ErrorKind.TheVariants as kinds;
     ghost use Rattle.der_types_values.specs.OctetStrings.{octets_lent};
 
     type Error = Error;
 
     ghost try_from_gives = { λ bytes r. MatchResult r (λ o. octets_lent o ≡ bytes.now)
-        (λ e. (2 ^ 32 ≤ length bytes.now) × (e.kind ≡ kinds.Overflow)) };
+        (λ e. (length_max < length bytes.now) × (e.kind ≡ kinds.Overflow)) };
 
     fn try_from(bytes: &'a [u8]) -> Result<OctetStringRef<'a>, Error> {
         OctetStringRef::new(bytes)

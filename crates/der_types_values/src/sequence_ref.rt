@@ -1,6 +1,7 @@
 //! SEQUENCE, as it stands, borrowed.
 
-ghost use Rattle.std.specs.Prelude.{◌≡◌, ◌<◌, ◌≤◌, ◌^◌, length, IfOk, IfErr, false};
+ghost use Rattle.std.specs.Prelude.{◌≡◌, ◌<◌, length, IfOk, IfErr, false};
+ghost use Rattle.der_core_head.specs.Limits.{length_max};
 ghost use Rattle.der_core_head.specs.Heads.{Fits};
 ghost use Rattle.der_core_head.specs.declared.tag.Tag.TheVariants.{Sequence as SequenceTag};
 ghost use Rattle.der_core_head.specs.Leaves.{octets};
@@ -36,7 +37,7 @@ impl<'a> SequenceRef<'a> {
     /// `Overflow` for 2^32 octets or more.
     pub fn new(bytes: &'a [u8]) -> Result<SequenceRef<'a>, Error>
         ensures ok { IfOk result (λ s. Fits bytes.now × (fields_lent s ≡ bytes.now)) }
-        ensures err { IfErr result (λ e. (2 ^ 32 ≤ length bytes.now)
+        ensures err { IfErr result (λ e. (length_max < length bytes.now)
             × (e.kind ≡ ErrorKind.Overflow)) }
     {
         if bytes.len() > 0xffff_ffff {

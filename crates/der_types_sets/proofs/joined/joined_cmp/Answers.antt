@@ -1,12 +1,13 @@
 use Rattle.std.proofs.Common.{Ok, ap, sym, ◌∙◌, inl, inr}
 use Rattle.std.proofs.lemmas.Result.{err_from_is_err_and}
 use Rattle.std.proofs.lemmas.Bool.{eqb-true}
+use Rattle.std.proofs.lemmas.List.{nil_from_length}
 use Rattle.der_core_head.specs.Shapes.{IsBody, body_octets}
 use Rattle.der_core_head.specs.Grammar.{plain_list}
 use Rattle.der_core_head.specs.Writing.{size}
 use Rattle.der_core.proofs.Sizes.{size_only, many_over}
 use Rattle.der_types_sets.proofs.WriteFaults.{write_faults}
-use Rattle.der_types_sets.proofs.LentWrites.{nothing_in, some_at}
+use Rattle.der_types_sets.proofs.LentWrites.{some_at}
 use Rattle.der_types_sets.proofs.LentOrders.{remains_here, remains_end, remains_on, remains_unlike, remains_fault, remains_none, remains_some, plain-at, or_unwritten, starts_with, starts_otherwise}
 use Rattle.der_types_sets.proofs.joined.joined_cmp.Goals as goal
 
@@ -74,7 +75,7 @@ returns-then-is_empty-clause-order g c =
     let s = g.T.Shaped.shape in
     let f = g.T.Shaped.written in
     let v = c.args.values.now in
-    let none = nothing_in c.loop-value.left.now (eqb-true _ 0 (sym c.is_empty.ensures ∙ c.if-is_empty.true)) in
+    let none = nil_from_length c.loop-value.left.now (eqb-true _ 0 (sym c.is_empty.ensures ∙ c.if-is_empty.true)) in
     λ valid. ap (λ o. Ok o)
     (remains_none s (plain_list f v) c.args.octets.now c.loop-value.left.now (remains_end s f v c.loop-value.value-index c.args.octets.now c.loop-value.left.now c.loop-value-test.false c.loop-value.invariant) none valid)
 

@@ -1,4 +1,4 @@
-use Rattle.std.proofs.Common.{◌≡◌, ◌∙◌, true, false, ap, rules}
+use Rattle.std.proofs.Common.{◌≡◌, true, false, ap, rules}
 use Rattle.std.proofs.lemmas.Result.{err_from_is_err_and}
 use Rattle.der_core_head.specs.Tags.{same_tag}
 use Rattle.der_core_head.specs.Reading.{State}
