@@ -4,19 +4,17 @@ use Rattle.std.specs.Prelude.{◌↔◌}
 use Rattle.der_core_head.specs.declared.tag.Tag.TheVariants as tags
 use Rattle.der_core_head.specs.Shapes.{Body, IsValid, IsContent, IsBody, field, done, octets_of, contents, body_octets}
 use Rattle.der_core_head.proofs.OneEncoding.{one_value}
+use Rattle.der_core_head.proofs.Fits.{fits_contents}
 use Rattle.x509_cert_parts.specs.NameParts.{name}
 use Rattle.x509_cert_parts.specs.Grammar.{PlainValidity, bit_string, algorithm_identifier, public_key_info, version_field, serial_number, validity, not_before, not_after}
 use Rattle.x509_cert_parts.specs.Respelling.{validity_by, is_early_generalized}
 use Rattle.x509_cert_parts.proofs.Respelled.{validity_valid, validity_shorter, validity_same}
-use Rattle.x509_cert_parts.proofs.Shorter.{tlv_shorter, tlv_fits, content_fits, behind_same, before_same}
-use Rattle.x509_cert_certificates.specs.Certificates.{Tbs, PlainCertificate, tbs_fields, tbs_certificate, certificate_fields, certificate, optional_fields, tbs, tbs_validity, tbs_by, certificate_by}
+use Rattle.x509_cert_parts.proofs.Shorter.{tlv_shorter, tlv_fits, behind_same, before_same}
+use Rattle.x509_cert_certificates.specs.Certificates.{Tbs, PlainCertificate, tbs_fields, tbs_certificate, certificate_fields, certificate, optional_fields, from_validity, tbs, tbs_validity, tbs_by, certificate_by}
 
 -- the fields from one on
 abbrev from_subject : ℕ → Body
 from_subject bound = field (name bound) (field (public_key_info bound) (optional_fields bound))
-
-abbrev from_validity : ℕ → Body
-from_validity bound = field validity (from_subject bound)
 
 abbrev from_issuer : ℕ → Body
 from_issuer bound = field (name bound) (from_validity bound)
@@ -44,7 +42,7 @@ module _ (bound : ℕ) (limit : Option ℕ) (r : Bool) where
   unfolding IsValid octets_of contents
   tbs_shorter t h =
       let old = body_octets (tbs_fields bound limit) t in
-      tlv_shorter tags.Sequence (body_octets (tbs_fields bound limit) (tbs_by r t)) old (fields_shorter t) (content_fits tags.Sequence old h.2)
+      tlv_shorter tags.Sequence (body_octets (tbs_fields bound limit) (tbs_by r t)) old (fields_shorter t) (fits_contents tags.Sequence old h.2)
 
   pub tbs_valid : (t : Tbs) → IsValid (tbs_certificate bound limit) t → IsValid (tbs_certificate bound limit) (tbs_by r t)
   unfolding IsValid IsContent IsBody contents

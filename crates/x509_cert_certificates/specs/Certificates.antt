@@ -7,8 +7,8 @@ use Rattle.der_core_head.specs.BitStrings.{Bits}
 use Rattle.der_core_head.specs.Dates.{Civil}
 use Rattle.der_core_head.specs.Heads.{head_octets}
 use Rattle.der_core_head.specs.Leaves.{bits}
-use Rattle.der_core_head.specs.Shapes.{Shape, Body, Value, tagged, leaf, optional, field, done}
-use Rattle.der_core_head.specs.Shapes.{sequence, explicit, octets_of, body_octets}
+use Rattle.der_core_head.specs.Shapes.{Shape, Body, Value, BodyValue, tagged, leaf, optional}
+use Rattle.der_core_head.specs.Shapes.{field, done, sequence, explicit, octets_of, body_octets}
 use Rattle.der_core_head.specs.Tags.{context}
 use Rattle.x509_cert_parts.specs.NameParts.{PlainName, name}
 use Rattle.x509_cert_parts.specs.Grammar.{Algorithm, PublicKey, PlainValidity, PlainExtension}
@@ -27,21 +27,21 @@ unique_identifier n = tagged (context false n) (leaf bits)
 --     subjectPublicKeyInfo, issuerUniqueID [1] IMPLICIT OPTIONAL, subjectUniqueID [2] IMPLICIT
 --     OPTIONAL,
 --     extensions [3] EXPLICIT Extensions OPTIONAL }
-abbrev pub identity_fields : ℕ → Body → Body
-identity_fields bound behind =
-    field (name bound) (field validity (field (name bound) (field (public_key_info bound) behind)))
-
 abbrev pub optional_fields : ℕ → Body
 optional_fields bound =
     field (optional (unique_identifier 1))
     (field (optional (unique_identifier 2))
     (field (optional (explicit 3 (extensions bound))) done))
 
+abbrev pub from_validity : ℕ → Body
+from_validity bound =
+    field validity (field (name bound) (field (public_key_info bound) (optional_fields bound)))
+
 abbrev pub tbs_fields : ℕ → Option ℕ → Body
 tbs_fields bound limit =
     field version_field
     (field (serial_number limit)
-    (field (algorithm_identifier bound) (identity_fields bound (optional_fields bound))))
+    (field (algorithm_identifier bound) (field (name bound) (from_validity bound))))
 
 abbrev pub tbs_certificate : ℕ → Option ℕ → Shape
 tbs_certificate bound limit = sequence (tbs_fields bound limit)
@@ -90,6 +90,9 @@ tbs_issuer t = t.1.1.1.0
 
 abbrev pub tbs_validity : Tbs → PlainValidity
 tbs_validity t = t.1.1.1.1.0
+
+abbrev pub tbs_from_validity : Tbs → BodyValue (from_validity 0)
+tbs_from_validity t = t.1.1.1.1
 
 abbrev pub tbs_subject : Tbs → PlainName
 tbs_subject t = t.1.1.1.1.1.0

@@ -19,9 +19,11 @@ use crate::tbs_certificate::TbsCertificateInner;
 use der_core::making::read_fields;
 use der_core::{
     ApartValue, DecodeFields, DecodeValue, EncodeFields, EncodeRef, EncodeValue, Error, Fields,
-    FixedTag, Header, Length, Reader, ShapedValue, Tag, Writer, from_der, to_der,
+    FieldsOrd, FixedTag, Header, Length, Reader, ShapedValue, Tag, ValueOrd, Writer, from_der,
+    to_der,
 };
 use std::alloc::Global;
+use std::cmp::Ordering;
 use x509_cert_parts::{AlgorithmIdentifier, BitString, Profile, Rfc5280};
 
 /// A certificate (RFC 5280 4.1).
@@ -129,6 +131,14 @@ impl<P: Profile> EncodeValue for CertificateInner<P> {
 
     fn encode_value<W: Writer>(&self, writer: &mut W) -> Result<(), Error> {
         self.row().encode_fields(writer)
+    }
+}
+
+/// Field after field, as they are written.
+impl<P: Profile> ValueOrd for CertificateInner<P> {
+    #[tactic(auto, unfolding(der_core_head::specs::Shapes::contents, der_core_head::specs::Shapes::IsContent))]
+    fn value_cmp(&self, other: &Self) -> Result<Ordering, Error> {
+        self.row().fields_cmp(&other.row())
     }
 }
 

@@ -99,12 +99,13 @@ pub fn newly_read_certificates_hold_a_large_arc()
         → Spells (certificate small limit) c w
         ↔ (Spells (certificate large limit) c w × AreBelow small (certificate_identifiers c)) }
     ensures new { (small large : ℕ) (limit : Option ℕ) (c : PlainCertificate) (w : List ℕ)
-        → Spells (certificate large limit) c w
-        → (Spells (certificate small limit) c w → ⊥) → HoldsLarge small (certificate_identifiers c) }
+        → Spells (certificate large limit) c w → (Spells (certificate small limit) c w → ⊥)
+        → HoldsLarge small (certificate_identifiers c) }
     ensures whole { (small large : ℕ) (limit : Option ℕ) (c : PlainCertificate) (w : List ℕ)
         (e : ErrorKind) → IsOctets w
         → read_whole (certificate large limit) w ≡ Ok (c, [])
-        → read_whole (certificate small limit) w ≡ Err e → HoldsLarge small (certificate_identifiers c) }
+        → read_whole (certificate small limit) w ≡ Err e
+        → HoldsLarge small (certificate_identifiers c) }
     ensures front { (small large : ℕ) (limit : Option ℕ) (c : PlainCertificate) (w r : List ℕ)
         (e : ErrorKind) → IsOctets w → Fits w
         → read (certificate large limit) 64 w ≡ Ok (c, r) → read (certificate small limit) 64 w

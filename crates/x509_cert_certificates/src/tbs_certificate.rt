@@ -10,7 +10,8 @@ ghost use Rattle.x509_cert_parts.specs.Views.{version_number, validity_plain, al
 ghost use Rattle.x509_cert_parts.specs.Views.{key_plain, extensions_plain};
 ghost use Rattle.der_core_head.specs.Reading.{Gives};
 ghost use Rattle.x509_cert_parts.specs.ExtensionSearch.{only_value, listed};
-ghost use Rattle.x509_cert_certificates.specs.Certificates.{tbs_fields, tbs_by, tbs_version};
+ghost use Rattle.x509_cert_certificates.specs.Certificates.{tbs_fields, from_validity, tbs_by};
+ghost use Rattle.x509_cert_certificates.specs.Certificates.{tbs_version, tbs_from_validity};
 ghost use Rattle.x509_cert_certificates.specs.Certificates.{tbs_serial, tbs_inner_algorithm};
 ghost use Rattle.x509_cert_certificates.specs.Certificates.{tbs_issuer, tbs_validity, tbs_subject};
 ghost use Rattle.x509_cert_certificates.specs.Certificates.{tbs_public_key, tbs_issuer_unique_id};
@@ -18,13 +19,14 @@ ghost use Rattle.x509_cert_certificates.specs.Certificates.{tbs_subject_unique_i
 ghost use Rattle.x509_cert_certificates.specs.Views.{tbs_plain};
 
 use const_oid::AssociatedOid;
-use der_core::making::{explicit_of, implicit_of, implicit_ref, read_fields};
+use der_core::making::{explicit_of, explicit_ref, implicit_of, implicit_ref, read_fields};
 use der_core::{
     ApartValue, Decode, DecodeFields, DecodeValue, EncodeFields, EncodeRef, EncodeValue, Error,
-    Explicit, Fields, FixedTag, Header, Implicit, Length, Reader, ShapedValue, SliceReader, Tag,
-    WithDefault, Writer,
+    Explicit, Fields, FieldsOrd, FixedTag, Header, Implicit, ImplicitRef, Length, Reader,
+    ShapedValue, SliceReader, Tag, ValueOrd, WithDefault, Writer,
 };
 use std::alloc::Global;
+use std::cmp::Ordering;
 use x509_cert_parts::{
     AlgorithmIdentifier, BitString, Extensions, ExtensionsOf, Name, Profile, Rfc5280, SerialNumber,
     SubjectPublicKeyInfo, Validity, Version, filter_extensions, get_extension,
@@ -94,6 +96,111 @@ type Last = (
     ),
 );
 
+type RowRef<'a, P> = (
+    Numbered,
+    (
+        EncodeRef<'a, SerialNumber<P>>,
+        (
+            EncodeRef<'a, AlgorithmIdentifier>,
+            (EncodeRef<'a, Name>, BehindRef<'a, P>),
+        ),
+    ),
+);
+
+type BehindRow<'a, P> = (
+    EncodeRef<'a, Validity<P>>,
+    (
+        EncodeRef<'a, Name>,
+        (EncodeRef<'a, SubjectPublicKeyInfo>, LastRef<'a>),
+    ),
+);
+
+type LastRef<'a> = (
+    Option<ImplicitRef<'a, BitString, 1>>,
+    (
+        Option<ImplicitRef<'a, BitString, 2>>,
+        (Option<Explicit<EncodeRef<'a, Extensions>, 3>>, ()),
+    ),
+);
+
+/// The fields from the validity on, lent. They are a type of their own, since no clause can say
+/// what a row of ten fields is.
+#[derive(Drop)]
+struct BehindRef<'a, P>(&'a TbsCertificateInner<P>);
+
+impl<P: Profile> TbsCertificateInner<P> {
+    /// The fields in their order, lent.
+    fn row<'a>(&'a self) -> RowRef<'a, P>
+        ensures { ⟦<RowRef<'a, P> as Fields>⟧.fields_written result
+            ≡ tbs_by P.respells (tbs_plain self.now) }
+    {
+        let version = WithDefault {
+            value: Explicit {
+                value: self.version,
+            },
+        };
+        (
+            version,
+            (
+                EncodeRef(&self.serial_number),
+                (
+                    EncodeRef(&self.signature),
+                    (EncodeRef(&self.issuer), BehindRef(self)),
+                ),
+            ),
+        )
+    }
+
+    /// The fields from the validity on in their order, lent.
+    fn behind<'a>(&'a self) -> BehindRow<'a, P>
+        ensures { ⟦<BehindRow<'a, P> as Fields>⟧.fields_written result
+            ≡ tbs_from_validity (tbs_by P.respells (tbs_plain self.now)) }
+    {
+        let last = (
+            implicit_ref(&self.issuer_unique_id),
+            (
+                implicit_ref(&self.subject_unique_id),
+                (explicit_ref(&self.extensions), ()),
+            ),
+        );
+        (
+            EncodeRef(&self.validity),
+            (
+                EncodeRef(&self.subject),
+                (EncodeRef(&self.subject_public_key_info), last),
+            ),
+        )
+    }
+}
+
+impl<'a, P: Profile> Fields for BehindRef<'a, P> {
+    ghost fields = { from_validity Bound };
+
+    ghost fields_plain = { λ b. tbs_from_validity (tbs_plain b.0.now) };
+
+    ghost fields_written = { λ b. tbs_from_validity (tbs_by P.respells (tbs_plain b.0.now)) };
+}
+
+impl<'a, P: Profile> EncodeFields for BehindRef<'a, P> {
+    fn fields_len(&self) -> Result<Length, Error> {
+        self.0.behind().fields_len()
+    }
+
+    fn encode_fields<W: Writer>(&self, writer: &mut W) -> Result<(), Error> {
+        self.0.behind().encode_fields(writer)
+    }
+}
+
+impl<'a, P: Profile> FieldsOrd for BehindRef<'a, P> {
+    fn fields_cmp(&self, other: &Self) -> Result<Ordering, Error> {
+        self.0.behind().fields_cmp(&other.0.behind())
+    }
+
+    fn fields_tag(&self) -> Option<Tag> {
+        self.0.behind().fields_tag()
+    }
+}
+
 impl<P> FixedTag for TbsCertificateInner<P> {
     ghost fixed_tag = { Sequence };
 
@@ -152,76 +259,21 @@ impl<'a, R: Reader<'a>, P: Profile> DecodeValue<'a, R> for TbsCertificateInner<P
     }
 }
 
-/// The extensions, behind a tag.
-fn lent_extensions<'a>(
-    extensions: &'a Option<Extensions>,
-) -> Option<Explicit<EncodeRef<'a, Extensions>, 3>>
-    ensures { plain_option (λ f. extensions_plain f.value.0.now.items) result
-        ≡ plain_option (λ e. extensions_plain e.items) extensions.now }
-{
-    match extensions {
-        Some(extensions) => Some(Explicit {
-            value: EncodeRef(extensions),
-        }),
-        None => None,
-    }
-}
-
 impl<P: Profile> EncodeValue for TbsCertificateInner<P> {
     fn value_len(&self) -> Result<Length, Error> {
-        let version: Numbered = WithDefault {
-            value: Explicit {
-                value: self.version,
-            },
-        };
-        let last = (
-            implicit_ref::<BitString, 1>(&self.issuer_unique_id),
-            (
-                implicit_ref::<BitString, 2>(&self.subject_unique_id),
-                (lent_extensions(&self.extensions), ()),
-            ),
-        );
-        let behind = (
-            EncodeRef(&self.validity),
-            (
-                EncodeRef(&self.subject),
-                (EncodeRef(&self.subject_public_key_info), last),
-            ),
-        );
-        let first = (
-            EncodeRef(&self.signature),
-            (EncodeRef(&self.issuer), behind),
-        );
-        let row = (version, (EncodeRef(&self.serial_number), first));
-        row.fields_len()
+        self.row().fields_len()
     }
 
     fn encode_value<W: Writer>(&self, writer: &mut W) -> Result<(), Error> {
-        let version: Numbered = WithDefault {
-            value: Explicit {
-                value: self.version,
-            },
-        };
-        let last = (
-            implicit_ref::<BitString, 1>(&self.issuer_unique_id),
-            (
-                implicit_ref::<BitString, 2>(&self.subject_unique_id),
-                (lent_extensions(&self.extensions), ()),
-            ),
-        );
-        let behind = (
-            EncodeRef(&self.validity),
-            (
-                EncodeRef(&self.subject),
-                (EncodeRef(&self.subject_public_key_info), last),
-            ),
-        );
-        let first = (
-            EncodeRef(&self.signature),
-            (EncodeRef(&self.issuer), behind),
-        );
-        let row = (version, (EncodeRef(&self.serial_number), first));
-        row.encode_fields(writer)
+        self.row().encode_fields(writer)
+    }
+}
+
+/// Field after field, as they are written.
+impl<P: Profile> ValueOrd for TbsCertificateInner<P> {
+    #[tactic(auto, unfolding(der_core_head::specs::Shapes::contents, der_core_head::specs::Shapes::IsContent))]
+    fn value_cmp(&self, other: &Self) -> Result<Ordering, Error> {
+        self.row().fields_cmp(&other.row())
     }
 }
 

@@ -1,5 +1,5 @@
 -- Separators that count, octet by octet, and pieces in turn.
-use Rattle.std.proofs.Common.{◌≡◌, ℕ, zero, suc, ◌+◌, ◌%◌, ◌<◌, ◌≤◌, ◌==◌, List, [], ◌∷◌, ◌++◌, length, take, drop, get_or, add-one, reverse, Bool, true, false, refl, sym, subst, ap, ◌∙◌, append_assoc, length-append, eq-eqb, ne_eqb, arith}
+use Rattle.std.proofs.Common.{◌≡◌, ℕ, zero, suc, ◌+◌, ◌%◌, ◌<◌, ◌≤◌, ◌==◌, List, [], ◌∷◌, ◌++◌, length, take, drop, get_or, add-one, reverse, Bool, true, false, refl, sym, subst, ap, ◌∙◌, append_assoc, length-append, eq-eqb, arith}
 use Rattle.std.specs.Prelude.{Result, Ok, Err, Option, Some, None, not, ◌&&◌, if◌then◌else◌, slice_index}
 use Rattle.std.proofs.lemmas.Bool.Decides.{nat_tests}
 use Rattle.std.proofs.lemmas.List.{reverse-append, get_or-take, length-take-le}
@@ -78,10 +78,6 @@ pub continues_more : {A E : Type 0} (separator : ℕ) (reads : List ℕ → Resu
 continues_more {A} {E} separator reads text left piece rest values a so_far first read r h =
     let P = λ (x : Result (List A) E). ReadsPieces separator reads text x in
     subst P (all_before-push values a r) (so_far (before a r) (ReadsPieces.more left piece rest a r first read h))
-
--- the rest behind a separator is shorter
-pub shorter : (separator : ℕ) (left piece rest : List ℕ) → IsFirstPiece separator left piece (Some rest) → length rest < length left
-shorter separator left piece rest first = omega (arith, ap length first.0, length-append piece (separator ∷ rest))
 
 -- what a test that was met tells
 found : (p q : Bool) → (p && not q) ≡ true → (p ≡ true) × (q ≡ false)

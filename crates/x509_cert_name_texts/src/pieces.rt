@@ -61,7 +61,8 @@ fn first_separator(text: &[u8], separator: u8) -> Option<usize>
 /// text ends it. A separator counts where the run of backslashes before it is even.
 pub fn first_piece(text: &str, separator: u8) -> (&str, Option<&str>)
     requires { separator < 128 }
-    ensures { IsFirstPiece separator text.now result.0.now (option_map (λ rest. rest.now) result.1) }
+    ensures { IsFirstPiece separator text.now result.0.now
+        (option_map (λ rest. rest.now) result.1) }
 {
     match first_separator(text.as_bytes(), separator) {
         None => (text, None),

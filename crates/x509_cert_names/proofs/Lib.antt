@@ -1,5 +1,6 @@
 pub mod Distinct
 pub mod Lists
+pub mod PlainTexts
 pub mod Printed
 pub mod Rows
 pub mod NameBounds

@@ -3,14 +3,11 @@ use Rattle.std.proofs.Common.{◌≡◌, List, [], ◌∷◌, ◌++◌, refl, ap
 use Rattle.std.specs.Prelude.{flat_map}
 use Rattle.std.specs.List.{AllByRecursion}
 use Rattle.der_core_head.specs.Grammar.{plain_list}
-
-pub plain_append : {A B : Type 0} (f : A → B) (xs ys : List A) → plain_list f (xs ++ ys) ≡ plain_list f xs ++ plain_list f ys
-plain_append f [] ys = refl
-plain_append f (x ∷ xs) ys = ap (λ zs. f x ∷ zs) (plain_append f xs ys)
+use Rattle.der_types_sets.proofs.LentOwned.{plain-append}
 
 pub plain_all : {A B : Type 0} (f : A → B) (xs : List (List A)) → plain_list f (flat_map (λ r. r) xs) ≡ flat_map (λ r. r) (plain_list (plain_list f) xs)
 plain_all f [] = refl
-plain_all f (x ∷ xs) = plain_append f x (flat_map (λ r. r) xs) ∙ ap (λ zs. plain_list f x ++ zs) (plain_all f xs)
+plain_all f (x ∷ xs) = plain-append f x (flat_map (λ r. r) xs) ∙ ap (λ zs. plain_list f x ++ zs) (plain_all f xs)
 
 pub all_more : {A : Type 0} (P : A → Type 0) (xs : List A) (y : A) → AllByRecursion P xs → P y → AllByRecursion P (xs ++ y ∷ [])
 all_more P [] y h p = (p, tt)

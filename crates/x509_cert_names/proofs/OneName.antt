@@ -13,6 +13,7 @@ use Rattle.der_core_head.specs.Grammar.{plain_list}
 use Rattle.der_core_head.specs.Shapes.{IsBody, IsContent, IsValid}
 use Rattle.der_types_sets.specs.Sets.{AllValid}
 use Rattle.der_types_sets.proofs.Arranged.{valid_moved}
+use Rattle.der_types_sets.proofs.LentOwned.{plain-append}
 use Rattle.der_types_sets.proofs.LooseSteps.{ascends-plain, one_set, permutation-plain}
 use Rattle.x509_cert_name_texts.specs.Pieces.{ReadsPieces}
 use Rattle.x509_cert_names.specs.declared.attribute_type_and_value.AttributeTypeAndValue.{AttributeTypeAndValue}
@@ -20,7 +21,7 @@ use Rattle.x509_cert_names.specs.Names.{PlainName, name, relative_name, type_and
 use Rattle.x509_cert_names.specs.NameTexts.{ReadsAttribute, ReadsName, ReadsRelative}
 use Rattle.x509_cert_names.specs.Pairs.{pair_plain, relative_plain, same_pair, same_pair_equiv}
 use Rattle.x509_cert_names.specs.PlainTexts.{SpellsName}
-use Rattle.x509_cert_names.proofs.Lists.{all_more, plain_append}
+use Rattle.x509_cert_names.proofs.Lists.{all_more}
 use Rattle.x509_cert_names.proofs.OneReading.{AllSame, AnyOdd, agree}
 
 -- attributes are read by a function
@@ -108,7 +109,7 @@ none_has (r ∷ n) (inr h) v = none_has n h v.1
 turned : {A B : Type 0} (f : A → B) (xs : List A) → plain_list f (reverse xs) ≡ reverse (plain_list f xs)
 turned f [] = refl
 turned f (x ∷ xs) =
-    ap (plain_list f) (reverse-append (x ∷ []) xs) ∙ plain_append f (reverse xs) (x ∷ []) ∙ ap (λ zs. zs ++ f x ∷ []) (turned f xs)
+    ap (plain_list f) (reverse-append (x ∷ []) xs) ∙ plain-append f (reverse xs) (x ∷ []) ∙ ap (λ zs. zs ++ f x ∷ []) (turned f xs)
     ∙ sym (reverse-append (f x ∷ []) (plain_list f xs))
 
 right_turned : (n : List (List AttributeTypeAndValue)) → IsValid (name Bound) (plain_list relative_plain (reverse n)) → AllRight n

@@ -2,6 +2,7 @@
 use Rattle.std.proofs.Common.{◌≡◌, ℕ, ◌<◌, ◌≤◌, List, [], ◌∷◌, ◌++◌, length, take, get_or, Result, Ok, Err, Option, Some, None, refl, sym, ap, ◌∙◌, subst, arith, inl, inr, ◌⊎◌, length-append, append-nil}
 use Rattle.std.specs.Prelude.{⊤}
 use Rattle.std.proofs.lemmas.Bool.{cases_lt}
+use Rattle.const_oid.proofs.DigitLaws.{split-same_length}
 use Rattle.x509_cert_name_texts.specs.Pieces.{Counts, HasNone, IsFirstPiece, before, ReadsPieces}
 
 inside : (p r q w : List ℕ) (separator : ℕ) → p ++ (separator ∷ r) ≡ q ++ w → length p < length q → (get_or q (length p) 0 ≡ separator) × (take (length p) q ≡ p)
@@ -24,22 +25,12 @@ no_longer p r q w separator e counts none = elim (cases_lt (length p) (length q)
         let P : List ℕ → Type 0 = Counts in
         absurd (none (length p) lt i.0 (subst P (sym i.1) counts))
 
-parts : (p q u v : List ℕ) → length p ≡ length q → p ++ u ≡ q ++ v → (p ≡ q) × (u ≡ v)
-parts [] [] u v n e = (refl, e)
-parts [] (c ∷ q) u v n e = absurd (omega (arith, n))
-parts (a ∷ p) [] u v n e = absurd (omega (arith, n))
-parts (a ∷ p) (c ∷ q) u v n e =
-    let rest : p ++ u ≡ q ++ v = cc in
-    let first : a ≡ c = cc in
-    let i = parts p q u v (omega (arith, n)) rest in
-    (rw (first, i.0) refl, i.1)
-
 same_both : (separator : ℕ) (text p q r t : List ℕ) → IsFirstPiece separator text p (Some r) → IsFirstPiece separator text q (Some t) → (p ≡ q) × (r ≡ t)
 same_both separator text p q r t f g =
     let e : p ++ (separator ∷ r) ≡ q ++ (separator ∷ t) = sym f.0 ∙ g.0 in
     let one = no_longer p r q (separator ∷ t) separator e f.2 g.1 in
     let other = no_longer q t p (separator ∷ r) separator (sym e) g.2 f.1 in
-    let i = parts p q (separator ∷ r) (separator ∷ t) (omega (arith, one, other)) e in
+    let i = split-same_length p q (separator ∷ r) (separator ∷ t) (omega (arith, one, other)) e in
     let rest : r ≡ t = cc i.1 in
     (i.0, rest)
 

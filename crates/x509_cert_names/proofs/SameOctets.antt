@@ -18,12 +18,12 @@ use Rattle.der_core_head.proofs.OkOctets.{counts_octets}
 use Rattle.der_core_head.proofs.Written.{sized}
 use Rattle.der_types_sets.proofs.SetSteps.{valid_at}
 use Rattle.der_core_head.specs.Grammar.{plain_list}
-use Rattle.der_core_head.specs.Heads.{tlv, head_octets, Fits}
+use Rattle.der_core_head.specs.Heads.{tlv, Fits}
 use Rattle.der_core_head.specs.Ranges.{IsInRange}
 use Rattle.der_core_head.specs.Shapes.{AllRising, octets_of, contents, body_octets, IsValid, IsContent, IsBody}
-use Rattle.der_core_head.specs.declared.tag.Tag.{Tag}
 use Rattle.der_core_head.specs.declared.tag.Tag.TheVariants as tags
 use Rattle.der_core_head.proofs.OneEncoding.{one_value}
+use Rattle.der_core_head.proofs.Fits.{fits_contents}
 use Rattle.der_types_any.specs.AnyOrders.{any_key}
 use Rattle.der_types_sets.specs.Sets.{AllValid, Ascends, TooLong}
 use Rattle.x509_cert_names.specs.Names.{TypeAndValue, PlainName, type_and_value, relative_name, name, name_octets, type_of, value_of}
@@ -103,10 +103,6 @@ sets_alike (r ∷ m) (q ∷ n) e =
 
 -- What is in range and in order has an encoding where its octets have a length
 
-content_shorter : (t : Tag) (c : List ℕ) → Fits (tlv t c) → Fits c
-unfolding tlv
-content_shorter t c h = omega (arith, h, length-append (head_octets t (length c)) c)
-
 first_shorter : (a b : List ℕ) → Fits (a ++ b) → Fits a
 first_shorter a b h = omega (arith, h, length-append a b)
 
@@ -116,7 +112,7 @@ second_shorter a b h = omega (arith, h, length-append a b)
 pair_valid : (x : TypeAndValue) → IsInRange (type_and_value Bound) x → Fits (octets_of (type_and_value Bound) x) → IsValid (type_and_value Bound) x
 unfolding IsValid IsContent IsBody octets_of contents body_octets
 pair_valid x h f =
-    let inside = content_shorter _ _ f in
+    let inside = fits_contents _ _ f in
     let kind = first_shorter _ _ inside in
     let value = first_shorter _ _ (second_shorter _ _ inside) in
     (((h.0.0.0, h.0.0.1, kind), ((h.0.1.0.0, h.0.1.0.1, value), tt)), h.1, f)
@@ -170,7 +166,7 @@ differ_distinct r v s d = rising_distinct r (all_rise r d s (each_valid r v))
 set_valid : (r : Pairs) → IsInRange (relative_name Bound) (relative_plain r) → IsOrdered Bound r → Fits (set_encoded r) → IsValid (relative_name Bound) (relative_plain r)
 unfolding IsValid IsContent IsBody octets_of contents body_octets
 set_valid r h o f =
-    let each = all_valid r h.0 (content_shorter tags.Set (all_encoded r) f) in
+    let each = all_valid r h.0 (fits_contents tags.Set (all_encoded r) f) in
     ((each, all_rise r (distinct_differ r o.0) o.1 each), h.1, f)
 
 sets_valid : (n : List Pairs) → AllByRecursion (λ x. IsInRange (relative_name Bound) x) (plain_list relative_plain n) → AllByRecursion (IsOrdered Bound) n → Fits (sets_encoded n)
@@ -182,7 +178,7 @@ sets_valid (r ∷ n) h o f =
 pub name_valid : (n : List Pairs) → IsInRange (name Bound) (plain_list relative_plain n) → AllByRecursion (IsOrdered Bound) n → Fits (name_octets Bound (plain_list relative_plain n))
     → IsValid (name Bound) (plain_list relative_plain n)
 unfolding IsValid IsContent IsBody octets_of contents body_octets
-name_valid n h o f = (sets_valid n h.0 o (content_shorter tags.Sequence (sets_encoded n) f), h.1, f)
+name_valid n h o f = (sets_valid n h.0 o (fits_contents tags.Sequence (sets_encoded n) f), h.1, f)
 
 fits_of : (x : PlainName) → IsValid (name Bound) x → Fits (name_octets Bound x)
 unfolding IsValid octets_of

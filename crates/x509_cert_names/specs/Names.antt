@@ -19,10 +19,6 @@ attribute_fields bound = field (attribute_type bound) (field (set_of any) done)
 abbrev pub attribute : ℕ → Shape
 attribute bound = sequence (attribute_fields bound)
 
--- Attributes ::= SET OF Attribute
-abbrev pub attributes : ℕ → Shape
-attributes bound = set_of (attribute bound)
-
 -- AttributeTypeAndValue ::= SEQUENCE { type AttributeType, value AttributeValue }
 abbrev pub type_and_value_fields : ℕ → Body
 type_and_value_fields bound = field (attribute_type bound) (field any done)

@@ -1,6 +1,5 @@
 -- The text of a name by its plain value.
-use Rattle.std.specs.Prelude.{◌≡◌, ℕ, List, [], ◌∷◌, map, Ok}
-use Rattle.std.proofs.Common.{refl, ap, ◌∙◌}
+use Rattle.std.specs.Prelude.{◌≡◌, ℕ, List, map, Ok}
 use Rattle.der_core_head.specs.Grammar.{plain_list}
 use Rattle.x509_cert_names.specs.Names.{PlainName, TypeAndValue, type_of, value_of}
 use Rattle.x509_cert_names.specs.Pairs.{relative_plain}
@@ -21,19 +20,3 @@ abbrev pub SpellsName : ℕ → List ℕ → PlainName → Type 0
 SpellsName bound text n =
     (relative_names : List (List AttributeTypeAndValue)) × ReadsName bound text (Ok relative_names)
     × (n ≡ plain_list relative_plain relative_names)
-
-attributes_back : (r : List AttributeTypeAndValue) → map attribute_of (relative_plain r) ≡ r
-attributes_back [] = refl
-attributes_back (a ∷ r) = ap (λ x. a ∷ x) (attributes_back r)
-
-names_back : (n : List (List AttributeTypeAndValue))
-    → map (map attribute_of) (plain_list relative_plain n) ≡ n
-names_back [] = refl
-names_back (r ∷ n) = ap (λ x. x ∷ map (map attribute_of) (plain_list relative_plain n))
-    (attributes_back r) ∙ ap (λ x. r ∷ x) (names_back n)
-
--- what is printed of a name is the text of its plain value
-pub name_text_is : (n : List (List AttributeTypeAndValue)) → name_text (plain_list relative_plain n)
-    ≡ name_printed n
-unfolding name_text
-name_text_is n = ap name_printed (names_back n)

@@ -51,7 +51,7 @@ impl Attribute {
     pub fn clone(&self, alloc: Global) -> Result<Attribute, AllocError>
         ensures { IfOk result (λ a. attribute_plain a ≡ attribute_plain self.now) }
     {
-        let values = copy_of(alloc, self.values.values.as_slice())?;
+        let values = copy_of(alloc, self.values.as_slice())?;
         Ok(Attribute {
             oid: self.oid,
             values: StrictSetOf { values },

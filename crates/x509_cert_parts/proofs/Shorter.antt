@@ -6,6 +6,7 @@ use Rattle.der_core_head.specs.Heads.{Fits, tlv, head_octets, length_octets}
 use Rattle.der_core_head.specs.Shapes.{Shape, Body, Value, BodyValue, field, octets_of, body_octets}
 use Rattle.der_core_head.specs.Tags.{tag_octets}
 use Rattle.der_core_head.proofs.LengthForms.{length-short, length-1, length-2, length-3, length-4}
+use Rattle.der_core_head.proofs.Fits.{fits_contents}
 
 -- at most so many octets, by the size of the length
 upper-1 : (n : ℕ) → n < 128 → length (length_octets n) ≤ 1
@@ -39,11 +40,6 @@ length_shorter m n le h =
       ]
     ]
 
--- a content that fits behind its header has a length that can be written
-pub content_fits : (t : Tag) (w : List ℕ) → Fits (tlv t w) → Fits w
-unfolding tlv
-content_fits t w h = omega (arith, h, length-append (head_octets t (length w)) w)
-
 pub tlv_shorter : (t : Tag) (v w : List ℕ) → length v ≤ length w → Fits w → length (tlv t v) ≤ length (tlv t w)
 unfolding tlv head_octets
 tlv_shorter t v w le h =
@@ -58,7 +54,7 @@ tlv_shorter t v w le h =
     )
 
 pub tlv_fits : (t : Tag) (v w : List ℕ) → length v ≤ length w → Fits (tlv t w) → Fits (tlv t v)
-tlv_fits t v w le h = omega (arith, h, tlv_shorter t v w le (content_fits t w h))
+tlv_fits t v w le h = omega (arith, h, tlv_shorter t v w le (fits_contents t w h))
 
 -- a field that stays as it is, in front of others and behind them
 pub behind_same : (s : Shape) (b : Body) (x : Value s) (v w : BodyValue b) → length (body_octets b v) ≤ length (body_octets b w)

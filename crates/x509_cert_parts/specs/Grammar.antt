@@ -76,10 +76,6 @@ validity_fields = field time (field time done)
 abbrev pub validity : Shape
 validity = sequence validity_fields
 
--- UniqueIdentifier ::= BIT STRING (4.1.2.8)
-abbrev pub unique_identifier : Shape
-unique_identifier = bit_string
-
 -- BOOLEAN DEFAULT FALSE
 abbrev pub false_by_default : Shape
 false_by_default = defaulted (tagged tags.Boolean (leaf boolean)) (1 ∷ 1 ∷ 0 ∷ [])

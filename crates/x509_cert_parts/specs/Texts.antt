@@ -1,15 +1,12 @@
 -- The texts of names, serial numbers and dates by their plain values.
-use Rattle.std.specs.Prelude.{◌≡◌, ℕ, ℤ, List}
-use Rattle.std.proofs.Common.{inl, inr, refl}
+use Rattle.std.specs.Prelude.{ℕ, ℤ, List}
+use Rattle.std.proofs.Common.{inl, inr}
 use Rattle.der_core_head.specs.Integers.{integer_octets}
 use Rattle.x509_cert_parts.specs.Grammar.{PlainTime}
 use Rattle.x509_cert_parts.specs.SerialNumbers.{colon_pairs}
-use Rattle.x509_cert_parts.specs.Views.{time_value, time_date}
-use Rattle.x509_cert_parts.specs.declared.time.Time.{Time}
-use Rattle.x509_cert_parts.specs.declared.time.Time.TheVariants as times
 pub use Rattle.x509_cert_names.specs.TimeTypes.DateTexts.{date_text}
 pub use Rattle.x509_cert_names.specs.PlainTexts.{GivesBy, ReadsName, SpellsName, name_printed}
-pub use Rattle.x509_cert_names.specs.PlainTexts.{name_text, name_text_is}
+pub use Rattle.x509_cert_names.specs.PlainTexts.{name_text}
 
 -- the content octets of a serial number, as pairs of digits in base 16 with colons between them
 abbrev pub serial_text : ℤ → List ℕ
@@ -19,9 +16,3 @@ serial_text n = colon_pairs (integer_octets n)
 unfoldable pub time_text : PlainTime → List ℕ
 time_text (inl date) = date_text date
 time_text (inr date) = date_text date
-
--- what is printed of a time is the text of its plain value
-pub time_text_is : (t : Time) → time_text (time_value t) ≡ date_text (time_date t)
-unfolding time_text
-time_text_is (times.UtcTime date) = refl
-time_text_is (times.GeneralTime date) = refl

@@ -44,7 +44,8 @@ impl<'a, T: AssociatedOid + Decode<'a, SliceReader<'a>>> Iterator for Extensions
     ghost next_gives = { YieldsFirstValue T.shape (λ x. (x.0, T.plain x.1))
         (λ it. of_identifier T.oid_arcs (extensions_plain it.left.now)) };
 
-    ghost remaining = { item_count (λ it. of_identifier T.oid_arcs (extensions_plain it.left.now)) };
+    ghost remaining = { item_count
+        (λ it. of_identifier T.oid_arcs (extensions_plain it.left.now)) };
 
     fn next(&mut self) -> Option<Result<(bool, T), Error>> {
         let Some((extension, left)) = next_of(T::associated_oid(), self.left) else {

@@ -8,6 +8,7 @@ mod drawing;
 mod extension;
 mod extension_search;
 mod extensions_of;
+mod in_range;
 pub mod laws;
 pub mod making;
 mod octet_numbers;

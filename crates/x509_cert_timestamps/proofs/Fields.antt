@@ -2,7 +2,7 @@
 use Rattle.std.proofs.Common.{◌≡◌, ℕ, ◌+◌, List, ◌++◌, length, min, sym, ap, ◌∙◌, append_assoc, arith, inl, inr, take, drop}
 use Rattle.std.proofs.lemmas.List.{length-take, take-append-drop}
 use Rattle.x509_cert_timestamps.specs.declared.tls_error.TlsError.{TlsError}
-use Rattle.x509_cert_timestamps.specs.Forms.{Form, Plain, pair, exactly, octets, Spells, FailsOn, Appends, CannotWrite}
+use Rattle.x509_cert_timestamps.specs.Forms.{Form, Plain, pair, exactly, octets, Spells, FailsOn}
 
 pub first_fails : (f g : Form) (input : List ℕ) (e : TlsError) → FailsOn f input e → FailsOn (pair f g) input e
 first_fails f g input e (inl memory) = inl memory
@@ -16,20 +16,6 @@ pub both_spelled : (f g : Form) (a : Plain f) (b : Plain g) (input mid rest : Li
 both_spelled f g a b input mid rest p q = record {
   value = (p.value, q.value);
   split = p.split ∙ ap (λ (t : List ℕ). octets f a ++ t) q.split ∙ sym (append_assoc (octets f a) (octets g b) rest);
-}
-
-pub first_unwritten : (f g : Form) (a : Plain f) (b : Plain g) (e : TlsError) → CannotWrite f a e → CannotWrite (pair f g) (a, b) e
-first_unwritten f g a b e (inl memory) = inl memory
-first_unwritten f g a b e (inr long) = inr (long.0, λ both. long.1 both.0)
-
-pub second_unwritten : (f g : Form) (a : Plain f) (b : Plain g) (e : TlsError) → CannotWrite g b e → CannotWrite (pair f g) (a, b) e
-second_unwritten f g a b e (inl memory) = inl memory
-second_unwritten f g a b e (inr long) = inr (long.0, λ both. long.1 both.1)
-
-pub both_written : (f g : Form) (a : Plain f) (b : Plain g) (old mid new : List ℕ) → Appends f a old mid → Appends g b mid new → Appends (pair f g) (a, b) old new
-both_written f g a b old mid new p q = record {
-  value = (p.value, q.value);
-  octets_behind = q.octets_behind ∙ ap (λ (t : List ℕ). t ++ octets g b) p.octets_behind ∙ append_assoc old (octets f a) (octets g b);
 }
 
 -- the first so many octets

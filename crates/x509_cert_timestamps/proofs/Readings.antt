@@ -6,21 +6,11 @@ use Rattle.std.specs.Int.{w16, w64, from_be_bytes}
 use Rattle.std.proofs.lemmas.Bool.Decides.{Decides-eqb}
 use Rattle.std.proofs.lemmas.Nat.{from_be_bytes-to_be_bytes_2, from_be_bytes-to_be_bytes_8}
 use Rattle.std.proofs.lemmas.List.{length-append}
+use Rattle.const_oid.proofs.DigitLaws.{split-same_length}
 use Rattle.x509_cert_timestamps.specs.declared.tls_error.TlsError.{TlsError}
 use Rattle.x509_cert_timestamps.specs.declared.tls_error.TlsError.TheVariants.{UnknownValue}
 use Rattle.x509_cert_timestamps.specs.Forms.{Form, Plain, named, long, exactly, vector, pair, octets, Spells, Refuses, RefusesWhole, short_octets, long_octets}
 use Rattle.x509_cert_timestamps.proofs.NumberOctets.{length-short, length-long}
-
-same_split : (a b r s : List ℕ) → length a ≡ length b → a ++ r ≡ b ++ s → (a ≡ b) × (r ≡ s)
-same_split [] [] r s len e = (refl, e)
-same_split [] (y ∷ b) r s len e = absurd (omega arith)
-same_split (x ∷ a) [] r s len e = absurd (omega arith)
-same_split (x ∷ a) (y ∷ b) r s len e =
-    let tails : a ++ r ≡ b ++ s = cc in
-    let rest = same_split a b r s (omega arith) tails in
-    let heads : x ≡ y = cc in
-    let tail : a ≡ b = rest.0 in
-    (cc, rest.1)
 
 same_short : (n m : ℕ) → n < 2 ^ 16 → m < 2 ^ 16 → short_octets n ≡ short_octets m → n ≡ m
 unfolding short_octets
@@ -32,7 +22,7 @@ same_long n m h k e = sym (from_be_bytes-to_be_bytes_8 n h) ∙ ap (λ (w : List
 
 short_once : (n m : ℕ) (r s : List ℕ) → n < 2 ^ 16 → m < 2 ^ 16 → short_octets n ++ r ≡ short_octets m ++ s → (n ≡ m) × (r ≡ s)
 short_once n m r s h k e =
-    let parts = same_split (short_octets n) (short_octets m) r s (length-short n ∙ sym (length-short m)) e in
+    let parts = split-same_length (short_octets n) (short_octets m) r s (length-short n ∙ sym (length-short m)) e in
     (same_short n m h k parts.0, parts.1)
 
 pub spelled_once : (f : Form) (v w : Plain f) (input r s : List ℕ) → Spells f v input r → Spells f w input s → (v ≡ w) × (r ≡ s)
@@ -40,13 +30,13 @@ spelled_once (named numbers) v w input r s p q =
     let e : v ∷ r ≡ w ∷ s = sym p.split ∙ q.split in
     (cc, cc)
 spelled_once long v w input r s p q =
-    let parts = same_split (long_octets v) (long_octets w) r s (length-long v ∙ sym (length-long w)) (sym p.split ∙ q.split) in
+    let parts = split-same_length (long_octets v) (long_octets w) r s (length-long v ∙ sym (length-long w)) (sym p.split ∙ q.split) in
     (same_long v w p.value q.value parts.0, parts.1)
-spelled_once (exactly n) v w input r s p q = same_split v w r s (p.value ∙ sym q.value) (sym p.split ∙ q.split)
+spelled_once (exactly n) v w input r s p q = split-same_length v w r s (p.value ∙ sym q.value) (sym p.split ∙ q.split)
 spelled_once vector v w input r s p q =
     let e = sym (append_assoc (short_octets (length v)) v r) ∙ sym p.split ∙ q.split ∙ append_assoc (short_octets (length w)) w s in
     let parts = short_once (length v) (length w) (v ++ r) (w ++ s) p.value q.value e in
-    same_split v w r s parts.0 parts.1
+    split-same_length v w r s parts.0 parts.1
 spelled_once (pair f g) v w input r s p q =
     let first = spelled_once f v.0 w.0 input (octets g v.1 ++ r) (octets g w.1 ++ s)
     (record { value = p.value.0; split = p.split ∙ append_assoc (octets f v.0) (octets g v.1) r })

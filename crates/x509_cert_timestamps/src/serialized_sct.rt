@@ -34,7 +34,8 @@ impl SerializedSct {
         alloc: Global,
         timestamp: SignedCertificateTimestamp,
     ) -> Result<SerializedSct, TlsError>
-        ensures ok { IfOk result (λ s. s.data.items ≡ octets timestamp_form (timestamp_plain timestamp)) }
+        ensures ok { IfOk result
+            (λ s. s.data.items ≡ octets timestamp_form (timestamp_plain timestamp)) }
         ensures value { IfOk result (λ _. IsValue timestamp_form (timestamp_plain timestamp)) }
         ensures err { IfErr result (λ e. CannotWrite timestamp_form (timestamp_plain timestamp) e) }
     {
@@ -48,7 +49,8 @@ impl SerializedSct {
     /// What the first fault is: `EndOfStream`, `UnknownValue`, or `TrailingData` for octets behind
     /// the timestamp; `OutOfMemory`.
     pub fn parse_timestamp(&self, alloc: Global) -> Result<SignedCertificateTimestamp, Error>
-        ensures ok { IfOk result (λ t. Spells timestamp_form (timestamp_plain t) self.now.data.items []) }
+        ensures ok { IfOk result
+            (λ t. Spells timestamp_form (timestamp_plain t) self.now.data.items []) }
         ensures err { IfErr result (λ e. ReadsNoTimestamp self.now.data.items e) }
     {
         let (timestamp, rest) = SignedCertificateTimestamp::tls_deserialize_bytes(

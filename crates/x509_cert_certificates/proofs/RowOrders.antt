@@ -1,0 +1,23 @@
+-- The order and the first tag of the fields that a record lends are those of its own.
+use Rattle.std.proofs.Common.{◌≡◌, Option, Result, Ok, subst}
+use Rattle.std.specs.Prelude.{IfErr}
+use Rattle.std.specs.declared.cmp.Ordering.{Ordering}
+use Rattle.der_core_head.specs.declared.error.Error.{Error}
+use Rattle.der_core_head.specs.declared.tag.Tag.{Tag}
+use Rattle.der_core_head.specs.Shapes.{Body, BodyValue, IsBody, body_octets}
+use Rattle.der_core_head.specs.Spelling.{body_begins}
+use Rattle.der_core_head.specs.Writing.{size_body}
+use Rattle.der_core.specs.Orders.{Overflows, StartsWith, bodies_cmp}
+
+pub compared : (b : Body) (v w x y : BodyValue b) (r : Result Ordering Error) → v ≡ x → w ≡ y
+    → (IsBody b v → IsBody b w → r ≡ Ok (bodies_cmp b v w)) → IsBody b x → IsBody b y → r ≡ Ok (bodies_cmp b x y)
+compared b v w x y r d e h =
+    subst (λ (a : BodyValue b). IsBody b a → IsBody b y → r ≡ Ok (bodies_cmp b a y)) d (subst (λ (a : BodyValue b). IsBody b v → IsBody b a → r ≡ Ok (bodies_cmp b v a)) e h)
+
+pub overflowing : (b : Body) (v w x y : BodyValue b) (r : Result Ordering Error) → v ≡ x → w ≡ y
+    → IfErr r (λ e. Overflows e (size_body b v) (size_body b w)) → IfErr r (λ e. Overflows e (size_body b x) (size_body b y))
+overflowing b v w x y r d e h =
+    subst (λ (a : BodyValue b). IfErr r (λ f. Overflows f (size_body b a) (size_body b y))) d (subst (λ (a : BodyValue b). IfErr r (λ f. Overflows f (size_body b v) (size_body b a))) e h)
+
+pub started : (b : Body) (v w : BodyValue b) (t : Option Tag) → v ≡ w → (IsBody b v → StartsWith (body_begins b) t (body_octets b v)) → IsBody b w → StartsWith (body_begins b) t (body_octets b w)
+started b v w t e h = subst (λ (a : BodyValue b). IsBody b a → StartsWith (body_begins b) t (body_octets b a)) e h
