@@ -1,5 +1,5 @@
 pub mod Options
-pub mod Rows
+pub use Rattle.x509_cert_policies.proofs.Names.Rows
 pub mod VersionOctets
 mod Respelled
 pub use Rattle.x509_cert_policies.proofs.Names

@@ -6,7 +6,8 @@ use Rattle.der_core_head.specs.Grammar.{plain_option}
 use Rattle.der_core_head.specs.Leaves.{utf8}
 use Rattle.der_core_head.specs.Shapes.{Shape, Body, Value, BodyValue, tagged, optional, defaulted, field, done, only, nested, sequence, explicit, octets_of, contents, body_octets, IsValid, IsContent, IsBody}
 use Rattle.der_core_head.specs.Tags.{context}
-use Rattle.x509_cert_policies.proofs.Passed.{tlv_shorter, tlv_fits, content_fits, behind_same, before_same, tbs_shorter, tbs_valid, certificate_fields_shorter, certificate_valid}
+use Rattle.der_core_head.proofs.Fits.{fits_contents}
+use Rattle.x509_cert_policies.proofs.Passed.{tlv_shorter, tlv_fits, behind_same, before_same, tbs_shorter, tbs_valid, certificate_fields_shorter, certificate_valid}
 use Rattle.x509_cert_policies.specs.Certificates.{PlainCertificate, Tbs, certificate_fields, certificate, tbs_certificate, tbs, tbs_by, certificate_by}
 use Rattle.x509_cert_policies.specs.GeneralNames.{behind, inside}
 use Rattle.x509_cert_policies.specs.Parts.{name, public_key_info, octet_string, extensions}
@@ -16,7 +17,7 @@ use Rattle.x509_cert_anchors.specs.Grammar.{constraint_fields, cert_path_control
 module _ (t : Tag) (b : Body) (new old : BodyValue b) (le : length (body_octets b new) ≤ length (body_octets b old)) where
   nested_shorter : IsValid (tagged t (nested b)) old → length (octets_of (tagged t (nested b)) new) ≤ length (octets_of (tagged t (nested b)) old)
   unfolding IsValid octets_of contents
-  nested_shorter h = tlv_shorter t (body_octets b new) (body_octets b old) le (content_fits t (body_octets b old) h.2)
+  nested_shorter h = tlv_shorter t (body_octets b new) (body_octets b old) le (fits_contents t (body_octets b old) h.2)
 
   nested_valid : IsBody b new → IsValid (tagged t (nested b)) old → IsValid (tagged t (nested b)) new
   unfolding IsValid IsContent contents

@@ -11,8 +11,8 @@ use crate::request::Version;
 use der_core::making::read_fields;
 use der_core::{
     ApartValue, AsReadValue, DecodeFields, DecodeValue, EncodeFields, EncodeRef, EncodeValue,
-    Error, Fields, FixedTag, Header, Implicit, ImplicitRef, Length, Reader, ShapedValue, Tag,
-    Writer,
+    Error, Fields, FixedTag, Header, Implicit, ImplicitRef, InRange, InRangeValue, Length, Reader,
+    ShapedValue, Tag, Writer,
 };
 use std::alloc::Global;
 use x509_cert_general_names::certificates::{Attributes, Name, SubjectPublicKeyInfo};
@@ -137,4 +137,13 @@ impl ApartValue for CertReqInfo {
 
 impl AsReadValue for CertReqInfo {
     ghost as_read_value = { λ _. refl };
+}
+
+impl InRangeValue for CertReqInfo {
+    fn value_in_range(&self) {
+        self.version.in_range();
+        self.subject.in_range();
+        self.public_key.in_range();
+        self.attributes.value_in_range();
+    }
 }
