@@ -12,7 +12,7 @@ use Rattle.der_core_head.specs.Ranges.{IsInRange}
 use Rattle.der_core_head.specs.Shapes.{IsBody, IsContent, IsValid, body_octets, contents, explicit, octets_of, defaulted}
 use Rattle.der_core_head.specs.Tags.{tag_octets}
 use Rattle.x509_cert_extensions.specs.Certificates.{PlainCertificate, Tbs, certificate_octets, raw_tbs_certificate, signed_length, signed_start, tbs, tbs_certificate, tbs_validity}
-use Rattle.x509_cert_extensions.specs.Parts.{Algorithm, PlainExtension, PlainTime, algorithm_plain, extensions_plain, false_by_default, time, version}
+use Rattle.x509_cert_extensions.specs.Parts.{Algorithm, PlainExtension, PlainTime, algorithm_plain, extensions_plain, time, version}
 use Rattle.x509_cert_builders.specs.SignedParts.{IsPartInRange, PlainFields, has_any, part_shape, signed_part, validity, version_of, written_part}
 use Rattle.x509_cert_builders.specs.States.{as_written, finalized_plain, octets_in_place}
 use Rattle.x509_cert_builders.specs.declared.certificate_builder.Finalized.{Finalized}
@@ -40,12 +40,7 @@ put_back (Some l) f t e =
     let whole : signed_part f (algorithm_plain l.algorithm) (extensions_plain l.extensions.items) ≡ t = cc in
     ap (λ (u : Tbs). Some (written_part u)) whole
 
--- a flag, and a version
-pub flag_in_range : (critical : Bool) → IsInRange false_by_default critical
-unfolding IsValid IsContent contents tlv head_octets length_octets tag_octets
-flag_in_range true = ((tt, omega arith), λ _. (tt, omega arith, lit< tt))
-flag_in_range false = ((tt, omega arith), λ _. (tt, omega arith, lit< tt))
-
+-- a version
 version_in_range : (third : Bool) → IsInRange (defaulted (explicit 0 version) (160 ∷ 3 ∷ 2 ∷ 1 ∷ 0 ∷ [])) (version_of third)
 unfolding IsValid IsContent IsBody octets_of contents body_octets tlv head_octets length_octets tag_octets integer_octets digits digits_within
 version_in_range true = ((((2, lit< tt, refl), omega arith), omega arith), λ _. (((2, lit< tt, refl), omega arith, lit< tt), omega arith, lit< tt))

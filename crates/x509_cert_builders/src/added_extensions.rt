@@ -49,8 +49,8 @@ fn identifier_of<'a>(
     alloc: Global,
     key: &SubjectPublicKeyInfoRef<'a>,
 ) -> Result<SubjectKeyIdentifier, Error>
-    ensures identifier { IfOk result
-        (λ i. i.0 ≡ key_identifier (⟦<SubjectPublicKeyInfoRef<'a> as Fields>⟧.fields_plain key.now)) }
+    ensures identifier { IfOk result (λ i. i.0 ≡ key_identifier
+        (⟦<SubjectPublicKeyInfoRef<'a> as Fields>⟧.fields_plain key.now)) }
     ensures refused { IfErr result IsWantOfMemory }
 {
     let identifier = SubjectKeyIdentifier::try_from_key(alloc, key)?;

@@ -214,7 +214,8 @@ impl<P: BuilderProfile + Drop> Builder for CertificateBuilder<P> {
 
     ghost to_sign = { part_for P.extensions };
 
-    ghost is_valid = { λ b key algorithm. IsValid part_shape (part_for P.extensions b key algorithm) };
+    ghost is_valid = { λ b key algorithm. IsValid part_shape
+        (part_for P.extensions b key algorithm) };
 
     // The profile refuses, or a length passes what can be counted.
     ghost faults = { λ b key algorithm e. P.refuses b.profile e

@@ -60,7 +60,8 @@ fn attributes_left(
     alloc: Global,
     relative: &RelativeDistinguishedName,
 ) -> Result<Vec<AttributeTypeAndValue>, Error>
-    ensures left { IfOk result (λ v. relative_plain v.items ≡ left_of (relative_plain relative.now)) }
+    ensures left { IfOk result
+        (λ v. relative_plain v.items ≡ left_of (relative_plain relative.now)) }
     ensures distinct { IfOk result (λ v. KeepsDistinct relative.now v.items) }
     ensures refused { IfErr result IsWantOfMemory }
 {

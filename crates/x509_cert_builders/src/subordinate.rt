@@ -38,8 +38,8 @@ impl BuilderProfile for Subordinate {
     ghost subject_name = { λ profile. Ok (name_plain profile.subject) };
 
     ghost extensions = { λ profile key issuer_key _. subordinate_extensions
-        profile.emits_ocsp_response
-        profile.client_auth (plain_option (λ n. pos n) profile.path_len_constraint) key issuer_key };
+        profile.emits_ocsp_response profile.client_auth
+        (plain_option (λ n. pos n) profile.path_len_constraint) key issuer_key };
 
     ghost refuses = { λ _ _. ⊥ };
 

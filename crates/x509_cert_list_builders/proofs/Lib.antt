@@ -1,4 +1,5 @@
 mod Entries
+mod ListParts
 mod Places
 mod Placing
 mod RequestParts

@@ -1,6 +1,6 @@
 -- The part of a request, and its attributes.
-use Rattle.std.proofs.Common.{◌≡◌, ◌⊎◌, ℕ, Bool, List, Result, Ok, Err, refl, sym, ap, ◌∙◌, subst, inl, inr, true, false}
-use Rattle.std.specs.Prelude.{IfErr, pos}
+use Rattle.std.proofs.Common.{◌≡◌, ◌⊎◌, ℕ, Bool, List, [], ◌∷◌, Result, Ok, Err, refl, sym, ap, ◌∙◌, subst, inr, true, false}
+use Rattle.std.specs.Prelude.{pos}
 use Rattle.std.specs.List.{AllByRecursion, insert}
 use Rattle.const_oid.specs.Bound.{Bound}
 use Rattle.der_core_head.specs.declared.error.Error.{Error as DerError}
@@ -8,13 +8,14 @@ use Rattle.der_core_head.specs.declared.error.ErrorKind.{ErrorKind}
 use Rattle.der_core_head.specs.declared.error.ErrorKind.TheVariants as kinds
 use Rattle.der_core_head.specs.Grammar.{plain_list}
 use Rattle.der_core_head.specs.Reading.{Fails}
-use Rattle.der_core_head.specs.Shapes.{IsValid, IsContent, IsBody}
+use Rattle.der_core_head.specs.Shapes.{IsValid}
 use Rattle.x509_cert_lists.specs.Grammar.{extension_req_attribute}
 use Rattle.x509_cert_builders.specs.Parts.{PlainAttribute, PlainExtension, PlainName, PublicKey, attribute}
-use Rattle.x509_cert_list_builders.specs.Requests.{HasNoOctets, IsNotAdded, PlainInfo, is_below, placed, request_of, request_part, stands_among, with_request}
-use Rattle.x509_cert_builders.specs.Refusals.{HasNoEncoding, IsWantOfMemory}
+use Rattle.x509_cert_list_builders.specs.Requests.{HasNoAttribute, IsNotAdded, PlainInfo, placed, request_of, stands_among, with_request}
+use Rattle.x509_cert_builders.specs.Refusals.{IsWantOfMemory}
+use Rattle.x509_cert_builders.specs.declared.error.Error.{Error}
 use Rattle.x509_cert_builders.specs.declared.error.Error.TheVariants as errors
-use Rattle.x509_cert_list_builders.proofs.Valid.{all_inserted, all_plain, inserted_all, or_memory, put_all}
+use Rattle.x509_cert_list_builders.proofs.Valid.{all_inserted, all_plain, or_memory}
 
 -- an attribute that has an encoding, and such attributes
 abbrev pub IsValidAttribute : PlainAttribute → Type 0
@@ -27,14 +28,6 @@ AllAttributes f xs = AllByRecursion (λ x. IsValidAttribute (f x)) xs
 abbrev pub part : PlainName → PublicKey → List PlainAttribute → PlainInfo
 part n k xs = (pos 0, (n, (k, (xs, tt))))
 
-attributes_valid : (i : PlainInfo) → IsValid request_part i → AllByRecursion IsValidAttribute i.1.1.1.0
-unfolding IsValid IsContent IsBody
-attributes_valid i v = v.0.1.1.1.0.0.0
-
-pub if_err : {A E : Type 0} (r : Result A E) (Q : E → Type 0) → ((e : E) → Q e) → IfErr r Q
-if_err (Ok x) Q h = tt
-if_err (Err e) Q h = h e
-
 same_parts : {n m : PlainName} {k l : PublicKey} {xs ys : List PlainAttribute} → n ≡ m → k ≡ l → xs ≡ ys → part n k xs ≡ part m l ys
 same_parts e d h = λ i. part (e i) (d i) (h i)
 
@@ -42,19 +35,13 @@ same_parts e d h = λ i. part (e i) (d i) (h i)
 with_this : (r : Result PlainAttribute ErrorKind) (a : PlainAttribute) (others : List PlainAttribute) → r ≡ Ok a → with_request r others ≡ placed (attribute Bound) a others
 with_this r a others e = ap (λ (q : Result PlainAttribute ErrorKind). with_request q others) e
 
-pub asked_valid : {A : Type 0} (f : A → PlainAttribute) (n : PlainName) (es : List PlainExtension) (k : PublicKey) (others : List A) (attributes : List PlainAttribute) (request : A)
-    → plain_list f others ≡ attributes → extension_req_attribute Bound es ≡ Ok (f request) → IsValid request_part (request_of n es attributes k) → IsValidAttribute (f request) × AllAttributes f others
-asked_valid f n es k others attributes request same e v =
-    let all : AllByRecursion IsValidAttribute (placed (attribute Bound) (f request) attributes) =
-    subst (AllByRecursion IsValidAttribute) (with_this (extension_req_attribute Bound es) (f request) attributes e) (attributes_valid (request_of n es attributes k) v) in
-    let both = put_all IsValidAttribute (is_below (attribute Bound)) (f request) attributes all in
-    (both.0, all_plain f IsValidAttribute others (subst (AllByRecursion IsValidAttribute) (sym same) both.1))
+plain_all : {A P : Type 0} (f : A → P) (V : P → Type 0) (xs : List A) → AllByRecursion (λ x. V (f x)) xs → AllByRecursion V (plain_list f xs)
+plain_all f V [] h = tt
+plain_all f V (x ∷ xs) h = (h.0, plain_all f V xs h.1)
 
-made_valid : {A : Type 0} (f : A → PlainAttribute) (n : PlainName) (k : PublicKey) (others : List A) (i : ℕ) (request : A) → IsValid request_part (part n k (plain_list f (insert others i request)))
-    → IsValidAttribute (f request) × AllAttributes f others
-made_valid f n k others i request v =
-    inserted_all (λ x. IsValidAttribute (f x)) others i request
-    (all_plain f IsValidAttribute (insert others i request) (attributes_valid (part n k (plain_list f (insert others i request))) v))
+-- copies of attributes that have encodings have them too
+pub same_valid : {A : Type 0} (f : A → PlainAttribute) (xs ys : List A) → plain_list f xs ≡ plain_list f ys → AllAttributes f ys → AllAttributes f xs
+same_valid f xs ys same all = all_plain f IsValidAttribute xs (subst (AllByRecursion IsValidAttribute) (sym same) (plain_all f IsValidAttribute ys all))
 
 -- what a place is says the same of an equal list
 pub placed_same : {A : Type 0} (f : A → PlainAttribute) (xs ys : List A) (i : ℕ) (x : A) → xs ≡ ys
@@ -63,29 +50,18 @@ pub placed_same : {A : Type 0} (f : A → PlainAttribute) (xs ys : List A) (i : 
 placed_same {A} f xs ys i x same h =
     subst (λ (zs : List A). AllAttributes f zs → IsValidAttribute (f x) → plain_list f (insert zs i x) ≡ placed (attribute Bound) (f x) (plain_list f zs)) same h
 
--- the part that was made is the one that was to be made, where one of the two has an encoding
+-- the part that was made is the one that was to be made
 pub one_part : {A : Type 0} (f : A → PlainAttribute) (n m : PlainName) (es : List PlainExtension) (k l : PublicKey) (others new : List A) (attributes : List PlainAttribute) (i : ℕ) (request : A)
     → n ≡ m → k ≡ l → plain_list f others ≡ attributes → new ≡ insert others i request → extension_req_attribute Bound es ≡ Ok (f request)
-    → (AllAttributes f others → IsValidAttribute (f request) → plain_list f (insert others i request) ≡ placed (attribute Bound) (f request) (plain_list f others))
-    → IsValid request_part (part n k (plain_list f new)) ⊎ IsValid request_part (request_of m es attributes l) → part n k (plain_list f new) ≡ request_of m es attributes l
-one_part {A} f n m es k l others new attributes i request names keys same placing asked place valid =
-    let both : IsValidAttribute (f request) × AllAttributes f others = elim valid [
-      | inl v ↦ made_valid f n k others i request (subst (λ (xs : List A). IsValid request_part (part n k (plain_list f xs))) placing v)
-      | inr v ↦ asked_valid f m es l others attributes request same asked v
-    ] in
+    → plain_list f (insert others i request) ≡ placed (attribute Bound) (f request) (plain_list f others)
+    → part n k (plain_list f new) ≡ request_of m es attributes l
+one_part f n m es k l others new attributes i request names keys same placing asked place =
     same_parts names keys
-    (ap (plain_list f) placing ∙ place both.1 both.0 ∙ ap (placed (attribute Bound) (f request)) same ∙ sym (with_this (extension_req_attribute Bound es) (f request) attributes asked))
+    (ap (plain_list f) placing ∙ place ∙ ap (placed (attribute Bound) (f request)) same ∙ sym (with_this (extension_req_attribute Bound es) (f request) attributes asked))
 
 -- a place that is not answered is none of these
 pub answered_same : {A : Type 0} (f : A → PlainAttribute) (xs ys : List A) (x : A) → xs ≡ ys → (AllAttributes f xs → IsValidAttribute (f x) → false ≡ true) → AllAttributes f ys → IsValidAttribute (f x) → ⊥
 answered_same f xs ys x same h all valid = absurd (cc (h (subst (AllAttributes f) (sym same) all) valid))
-
--- where no place is answered, the part has no encoding
-pub no_place : {A : Type 0} (f : A → PlainAttribute) (n : PlainName) (es : List PlainExtension) (k : PublicKey) (others : List A) (attributes : List PlainAttribute) (request : A)
-    → plain_list f others ≡ attributes → extension_req_attribute Bound es ≡ Ok (f request) → (AllAttributes f others → IsValidAttribute (f request) → ⊥) → HasNoOctets es (request_of n es attributes k)
-no_place f n es k others attributes request same e never ok valid =
-    let both = asked_valid f n es k others attributes request same e valid in
-    never both.1 both.0
 
 abbrev held : Result PlainAttribute ErrorKind → PlainAttribute → PlainAttribute
 held (Ok a) b = a
@@ -111,15 +87,13 @@ added_attributes f xs ys new i x same put place all valid = ap (plain_list f) pu
 pub added_valid : {A : Type 0} (f : A → PlainAttribute) (ys new : List A) (i : ℕ) (x : A) → new ≡ insert ys i x → AllAttributes f ys → IsValidAttribute (f x) → AllAttributes f new
 added_valid f ys new i x put all valid = subst (AllAttributes f) (sym put) (all_inserted (λ z. IsValidAttribute (f z)) ys i x valid all)
 
--- why an attribute isn't added
-pub not_made : (r : Result PlainAttribute ErrorKind) (others : List PlainAttribute) (e : DerError) → Fails e.kind r → IsWantOfMemory (errors.Asn1 e) ⊎ IsNotAdded r others (errors.Asn1 e)
-not_made r others e h = or_memory e.kind (λ enough. subst (λ (q : Result PlainAttribute ErrorKind). IsNotAdded q others (errors.Asn1 e)) (sym (h enough)) refl)
-
-pub not_written : (r : Result PlainAttribute ErrorKind) (a : PlainAttribute) (others : List PlainAttribute) (e : DerError) → r ≡ Ok a → (e.kind ≡ kinds.OutOfMemory) ⊎ HasNoEncoding (attribute Bound) a e.kind
-    → IsWantOfMemory (errors.Asn1 e) ⊎ IsNotAdded r others (errors.Asn1 e)
-not_written r a others e made (inl memory) = inl memory
-not_written r a others e made (inr none) = inr (subst (λ (q : Result PlainAttribute ErrorKind). IsNotAdded q others (errors.Asn1 e)) (sym made) (inl none))
-
 pub not_twice : (r : Result PlainAttribute ErrorKind) (a : PlainAttribute) (others : List PlainAttribute) (e : DerError) → r ≡ Ok a → e.kind ≡ kinds.SetDuplicate
     → stands_among (attribute Bound) a others ≡ true → IsNotAdded r others (errors.Asn1 e)
 not_twice r a others e made kind stands = subst (λ (q : Result PlainAttribute ErrorKind). IsNotAdded q others (errors.Asn1 e)) (sym made) (inr (kind, stands))
+
+-- why there is no attribute that asks for extensions
+pub not_asked : (r : Result PlainAttribute ErrorKind) (e : DerError) → Fails e.kind r → IsWantOfMemory (errors.Asn1 e) ⊎ HasNoAttribute r (errors.Asn1 e)
+not_asked r e h = or_memory e.kind (λ enough. subst (λ (q : Result PlainAttribute ErrorKind). HasNoAttribute q (errors.Asn1 e)) (sym (h enough)) refl)
+
+pub same_reason : (r q : Result PlainAttribute ErrorKind) (e : Error) → r ≡ q → IsWantOfMemory e ⊎ HasNoAttribute r e → IsWantOfMemory e ⊎ HasNoAttribute q e
+same_reason r q e same h = subst (λ (s : Result PlainAttribute ErrorKind). IsWantOfMemory e ⊎ HasNoAttribute s e) same h

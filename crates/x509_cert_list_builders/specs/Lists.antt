@@ -7,13 +7,13 @@ use Rattle.der_core_head.specs.declared.tag.Tag.TheVariants as tags
 use Rattle.der_core_head.specs.Integers.{natural}
 use Rattle.der_core_head.specs.Leaves.{integer}
 use Rattle.der_core_head.specs.Octets.{◌>>=◌}
-use Rattle.der_core_head.specs.Shapes.{Shape, Value, BodyValue, IsValid, tagged, leaf, sequence}
-use Rattle.der_core_head.specs.Shapes.{octets_of}
+use Rattle.der_core_head.specs.Shapes.{Shape, Value, BodyValue, IsValid, tagged, leaf, optional}
+use Rattle.der_core_head.specs.Shapes.{sequence, sequence_of, explicit, octets_of}
 use Rattle.sha1.specs.Sha1.{sha1}
 use Rattle.x509_cert_builders.specs.Certificates.{Tbs, tbs_public_key}
 use Rattle.x509_cert_lists.specs.Grammar.{revoked_cert_fields, tbs_cert_list_fields}
 use Rattle.x509_cert_builders.specs.Parts.{PlainExtension, PublicKey, key_bits, time, only_value}
-use Rattle.x509_cert_builders.specs.Parts.{listed}
+use Rattle.x509_cert_builders.specs.Parts.{extensions, listed}
 use Rattle.x509_cert_builders.specs.GeneralNames.{authority_key_identifier_fields}
 
 -- a date and its spelling
@@ -31,6 +31,17 @@ PlainList = BodyValue (tbs_cert_list_fields 0 None)
 -- TBSCertList, whose serial numbers have at most so many content octets, if there is such a number
 abbrev pub list_part : Option ℕ → Shape
 list_part limit = sequence (tbs_cert_list_fields Bound limit)
+
+-- an entry, whatever serial numbers are read, and the field of entries
+abbrev pub raw_entry : Shape
+raw_entry = sequence (revoked_cert_fields Bound None)
+
+abbrev pub entries_field : Shape
+entries_field = optional (sequence_of raw_entry)
+
+-- the field of extensions
+abbrev pub extensions_field : Shape
+extensions_field = optional (explicit 0 (extensions Bound))
 
 -- AuthorityKeyIdentifier (4.2.1.1)
 abbrev pub PlainAuthority : Type 0

@@ -1,6 +1,6 @@
 -- What a builder of certification requests signs (RFC 2986 4.1).
 use Rattle.std.specs.Prelude.{◌≡◌, ◌⊎◌, List, [], ◌∷◌, pos, Bool, true, false, Result, Ok, Err}
-use Rattle.std.specs.Prelude.{IsOk, if◌then◌else◌}
+use Rattle.std.specs.Prelude.{if◌then◌else◌}
 use Rattle.std.specs.List.{list_any}
 use Rattle.std.specs.declared.cmp.Ordering.{Ordering}
 use Rattle.std.specs.declared.cmp.Ordering.TheVariants.{Less, Equal, Greater}
@@ -8,7 +8,7 @@ use Rattle.const_oid.specs.Bound.{Bound}
 use Rattle.der_core.specs.Orders.{encodings_cmp}
 use Rattle.der_core_head.specs.declared.error.ErrorKind.{ErrorKind}
 use Rattle.der_core_head.specs.declared.error.ErrorKind.TheVariants as kinds
-use Rattle.der_core_head.specs.Shapes.{Shape, Value, BodyValue, IsValid, sequence}
+use Rattle.der_core_head.specs.Shapes.{Shape, Value, BodyValue, sequence}
 use Rattle.x509_cert_lists.specs.Grammar.{cert_req_info_fields, extension_req_attribute}
 use Rattle.x509_cert_builders.specs.Refusals.{IsOfKind, IsUnwritten}
 use Rattle.x509_cert_builders.specs.declared.error.Error.{Error}
@@ -78,7 +78,7 @@ request_of subject extensions attributes key = (
   (subject, (key, (with_request (extension_req_attribute Bound extensions) attributes, tt))),
 )
 
--- there is no request for these extensions, or the part has no encoding, as where a length passes
--- 2^32 - 1 or an attribute stands twice
-abbrev pub HasNoOctets : List PlainExtension → PlainInfo → Type 0
-HasNoOctets es i = IsOk (extension_req_attribute Bound es) → IsValid request_part i → ⊥
+-- there is no such attribute, or it has no encoding, as where it has 2^32 octets or more
+abbrev pub HasNoAttribute : Result PlainAttribute ErrorKind → Error → Type 0
+HasNoAttribute (Err kind) e = IsOfKind kind e
+HasNoAttribute (Ok a) e = IsUnwritten (attribute Bound) a e

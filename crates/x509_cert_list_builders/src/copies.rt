@@ -6,7 +6,6 @@ ghost use Rattle.x509_cert_builders.specs.Refusals.{IsWantOfMemory};
 ghost use Rattle.x509_cert_builders.specs.Parts.{attribute_plain, extensions_plain};
 ghost use Rattle.x509_cert_lists.specs.Views.{revoked_cert_plain};
 
-use der_core::StrictSetOf;
 use std::alloc::Global;
 use x509_cert_builders::Error;
 use x509_cert_builders::types::certificates::{Attribute, Extension, Extensions, Profile};
@@ -62,23 +61,6 @@ pub(crate) fn copies_of_entries<P: Profile>(
     Ok(copies)
 }
 
-/// A copy of an attribute.
-fn copy_of_attribute(alloc: Global, attribute: &Attribute) -> Result<Attribute, Error>
-    ensures same { IfOk result (λ a. attribute_plain a ≡ attribute_plain attribute.now) }
-    ensures refused { IfErr result IsWantOfMemory }
-{
-    let from = attribute.values.values.as_slice();
-    let mut values = Vec::with_capacity(alloc, from.len())?;
-    for place in 0..from.len() {
-        let copy = from[place].clone(alloc)?;
-        values.push(copy)?;
-    }
-    Ok(Attribute {
-        oid: attribute.oid,
-        values: StrictSetOf { values },
-    })
-}
-
 /// Copies of attributes.
 pub(crate) fn copies_of_attributes(
     alloc: Global,
@@ -90,7 +72,7 @@ pub(crate) fn copies_of_attributes(
 {
     let mut copies = Vec::with_capacity(alloc, attributes.len())?;
     for place in 0..attributes.len() {
-        let copy = copy_of_attribute(alloc, &attributes[place])?;
+        let copy = attributes[place].clone(alloc)?;
         copies.push(copy)?;
     }
     Ok(copies)

@@ -1,12 +1,13 @@
 //! Builders of revocation lists.
 
-ghost use Rattle.std.specs.Prelude.{◌≡◌, ◌⊎◌, ⊤, ◌++◌, ◌∷◌, [], Ok, Err, Some, None, IfOk, IfErr};
+ghost use Rattle.std.specs.Prelude.{◌≡◌, ◌⊎◌, ◌++◌, ◌∷◌, [], Ok, Err, Some, None, IfOk, IfErr};
 ghost use Rattle.std.specs.Prelude.{OnOk, OnErr};
 ghost use Rattle.std.specs.Iterator.{IsFinite};
 ghost use Rattle.std.specs.Iterator.Runs.{WholeRun};
 ghost use Rattle.der_core_head.specs.declared.error.ErrorKind.TheVariants.{OutOfMemory};
 ghost use Rattle.der_core_head.specs.Grammar.{plain_list, plain_option};
 ghost use Rattle.der_core_head.specs.Reading.{Gives};
+ghost use Rattle.der_core_head.specs.Shapes.{IsValid};
 ghost use Rattle.x509_cert_builders.specs.CertificateViews.{tbs_plain};
 ghost use Rattle.x509_cert_builders.specs.Certificates.{tbs_subject};
 ghost use Rattle.x509_cert_builders.specs.Parts.{algorithm_plain, extensions_plain, key_plain};
@@ -23,7 +24,8 @@ ghost use Rattle.x509_cert_list_builders.specs.States.{algorithm_of_last, list_o
 
 use crate::copies::{copies_of_entries, copies_of_extensions};
 use crate::laws::signed_part_stands_in_place;
-use der_core::{ErrorKind, to_der};
+use crate::writing::list_written;
+use der_core::ErrorKind;
 use std::alloc::Global;
 use std::marker::Model;
 use x509_cert_builders::types::certificates::{
@@ -251,8 +253,8 @@ impl<P: Profile> Builder for CrlBuilder<P> {
 
     ghost to_sign = { λ b _ algorithm. list_of b algorithm };
 
-    // Whether a list that is made has an encoding isn't said.
-    ghost is_valid = { λ _ _ _. ⊤ };
+    // The part has an encoding, whatever serial numbers are read.
+    ghost is_valid = { λ b _ algorithm. IsValid (list_part None) (list_of b algorithm) };
 
     // The part has no encoding.
     ghost faults = { λ b _ algorithm e. IsUnwritten (list_part P.serial_limit) (list_of b algorithm)
@@ -274,7 +276,7 @@ impl<P: Profile> Builder for CrlBuilder<P> {
 
     fn finalize<S: Signer>(&mut self, alloc: Global, signer: &S) -> Result<Vec<u8>, Error> {
         let part = self.part_for(alloc, signer.algorithm())?;
-        let octets = to_der(alloc, &part)?;
+        let octets = list_written(alloc, &part)?;
         self.finalized = Some(part);
         Ok(octets)
     }

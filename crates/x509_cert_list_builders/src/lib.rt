@@ -3,9 +3,11 @@
 
 mod copies;
 mod crl_builder;
+mod in_range;
 pub mod laws;
 mod members;
 mod request_builder;
+mod writing;
 
 pub use crl_builder::CrlBuilder;
 pub use request_builder::RequestBuilder;

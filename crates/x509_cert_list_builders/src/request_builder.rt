@@ -4,26 +4,29 @@ ghost use Rattle.std.specs.Prelude.{◌≡◌, ◌⊎◌, ◌++◌, ◌∷◌, [
 ghost use Rattle.std.specs.Prelude.{OnOk, OnErr, IsOk};
 ghost use Rattle.const_oid.specs.Bound.{Bound};
 ghost use Rattle.der_core_head.specs.Grammar.{plain_option};
-ghost use Rattle.der_core_head.specs.Ranges.{IsBodyInRange};
 ghost use Rattle.der_core_head.specs.Shapes.{IsValid};
 ghost use Rattle.x509_cert_lists.specs.Attributes.{any_of, attribute_of};
-ghost use Rattle.x509_cert_lists.specs.Grammar.{cert_req_info_fields};
+ghost use Rattle.x509_cert_lists.specs.Grammar.{extension_req_attribute};
 ghost use Rattle.x509_cert_builders.specs.Parts.{PlainAttribute, algorithm_plain, attribute};
-ghost use Rattle.x509_cert_builders.specs.Parts.{key_plain, name_plain};
+ghost use Rattle.x509_cert_builders.specs.Parts.{attribute_plain, extensions_plain, key_plain};
+ghost use Rattle.x509_cert_builders.specs.Parts.{name_plain};
 ghost use Rattle.x509_cert_lists.specs.Views.{cert_req_info_plain, cert_req_plain};
-ghost use Rattle.x509_cert_builders.specs.Refusals.{IsWantOfMemory, IsWantOfMemoryAs};
-ghost use Rattle.x509_cert_list_builders.specs.Requests.{HasNoOctets, IsNotAdded, placed};
+ghost use Rattle.x509_cert_builders.specs.Refusals.{IsUnwritten, IsWantOfMemory, IsWantOfMemoryAs};
+ghost use Rattle.x509_cert_list_builders.specs.Requests.{HasNoAttribute, IsNotAdded, placed};
 ghost use Rattle.x509_cert_list_builders.specs.Requests.{request_of, request_part, stands_among};
 ghost use Rattle.x509_cert_list_builders.specs.Signed.{octets_in_place};
 
 use crate::copies::{copies_of_attributes, copies_of_extensions};
 use crate::laws::signed_part_stands_in_place;
 use crate::members::{place_of, stands_among};
-use der_core::{ErrorKind, InRange, InRangeValue, StrictSetOf, to_der};
+use crate::writing::written;
+use der_core::{ErrorKind, InRange, StrictSetOf, to_der};
 use std::alloc::Global;
 use std::marker::Model;
 use x509_cert_builders::types::ToExtension;
-use x509_cert_builders::types::certificates::{Attribute, BitString, Name, SubjectPublicKeyInfo};
+use x509_cert_builders::types::certificates::{
+    Attribute, BitString, Extensions, Name, SubjectPublicKeyInfo,
+};
 use x509_cert_builders::{Builder, Error, Signer};
 use x509_cert_lists::request::Version;
 use x509_cert_lists::{AsAttribute, CertReq, CertReqInfo, ExtensionReq, TryFromExtensionReq};
@@ -56,15 +59,18 @@ impl Model for RequestBuilder {
         b.attributes.items };
 }
 
-/// The parts of what is signed are in their ranges.
-fn parts_in_range(info: &CertReqInfo)
-    ensures { IsBodyInRange (cert_req_info_fields Bound) (cert_req_info_plain info.now) }
+/// The attribute that asks for these extensions (RFC 2985 5.4.2), which has an encoding.
+fn attribute_for(alloc: Global, extensions: Extensions) -> Result<Attribute, Error>
+    ensures made { IfOk result
+        (λ a. extension_req_attribute Bound (extensions_plain extensions.items)
+        ≡ Ok (attribute_plain a)) }
+    ensures valid { IfOk result (λ a. IsValid (attribute Bound) (attribute_plain a)) }
+    ensures refused { IfErr result (λ e. IsWantOfMemory e
+        ⊎ HasNoAttribute (extension_req_attribute Bound (extensions_plain extensions.items)) e) }
 {
-    info.subject.in_range();
-    info.public_key.algorithm.oid.in_range();
-    info.public_key.algorithm.parameters.in_range();
-    info.public_key.subject_public_key.in_range();
-    info.attributes.value_in_range();
+    let request = Attribute::try_from_extension_req(alloc, ExtensionReq(extensions))?;
+    let _octets = written(alloc, &request)?;
+    Ok(request)
 }
 
 impl RequestBuilder {
@@ -144,20 +150,14 @@ impl RequestBuilder {
 
     /// The part that a signer of this key signs.
     fn part_for(&self, alloc: Global, key: &SubjectPublicKeyInfo) -> Result<CertReqInfo, Error>
-        // Where one of the two has an encoding, both are the same.
-        ensures made { IfOk result (λ i. IsValid request_part (cert_req_info_plain i)
-            ⊎ IsValid request_part
-            (request_of self.now.subject self.now.extensions self.now.attributes
-            (key_plain key.now))
-            → cert_req_info_plain i ≡ request_of self.now.subject self.now.extensions
-            self.now.attributes (key_plain key.now)) }
+        ensures made { IfOk result (λ i. cert_req_info_plain i
+            ≡ request_of self.now.subject self.now.extensions self.now.attributes
+            (key_plain key.now)) }
         ensures refused { IfErr result (λ e. IsWantOfMemory e
-            ⊎ HasNoOctets self.now.extensions
-            (request_of self.now.subject self.now.extensions self.now.attributes
-            (key_plain key.now))) }
+            ⊎ HasNoAttribute (extension_req_attribute Bound self.now.extensions) e) }
     {
         let extensions = copies_of_extensions(alloc, self.extensions.0.as_slice())?;
-        let request = Attribute::try_from_extension_req(alloc, ExtensionReq(extensions))?;
+        let request = attribute_for(alloc, extensions)?;
         let mut values = copies_of_attributes(alloc, self.attributes.as_slice())?;
         let place = place_of(values.as_slice(), &request)?;
         values.insert(place, request)?;
@@ -182,9 +182,9 @@ impl Builder for RequestBuilder {
     ghost is_valid = { λ b key _. IsValid request_part
         (request_of b.subject b.extensions b.attributes key) };
 
-    // The extensions that are asked for, or the part, have no encoding.
-    ghost faults = { λ b key _ _. HasNoOctets b.extensions
-        (request_of b.subject b.extensions b.attributes key) };
+    // The attribute that asks for the extensions has no encoding, or the part has none.
+    ghost faults = { λ b key _ e. HasNoAttribute (extension_req_attribute Bound b.extensions) e
+        ⊎ IsUnwritten request_part (request_of b.subject b.extensions b.attributes key) e };
 
     ghost finalized = { λ b. b.finalized };
 
@@ -202,8 +202,7 @@ impl Builder for RequestBuilder {
 
     fn finalize<S: Signer>(&mut self, alloc: Global, signer: &S) -> Result<Vec<u8>, Error> {
         let part = self.part_for(alloc, signer.key_info())?;
-        let octets = to_der(alloc, &part)?;
-        parts_in_range(&part);
+        let octets = written(alloc, &part)?;
         self.finalized = Some(part);
         Ok(octets)
     }

@@ -1,33 +1,33 @@
-use Rattle.std.proofs.Common.{sym, ap, ◌∙◌, inr}
+use Rattle.std.proofs.Common.{sym, ap, ◌∙◌}
 use Rattle.std.proofs.lemmas.Result.{err_from_is_err_and}
 use Rattle.const_oid.specs.Bound.{Bound}
 use Rattle.der_core_head.specs.Grammar.{plain_list}
 use Rattle.x509_cert_lists.specs.Grammar.{extension_req_attribute}
 use Rattle.x509_cert_builders.specs.Parts.{attribute_plain, extensions_plain, key_plain, name_plain}
-use Rattle.x509_cert_list_builders.proofs.RequestParts.{answered_same, no_place, one_part, placed_same}
+use Rattle.x509_cert_list_builders.proofs.RequestParts.{answered_same, one_part, placed_same, same_reason, same_valid}
 use Rattle.x509_cert_list_builders.proofs.request_builder.RequestBuilder.part_for.Goals as goal
+
+pub returns-in_err-request-clause-refused : goal.returns-in_err-request-clause-refused
+returns-in_err-request-clause-refused c =
+    let p = err_from_is_err_and c.from_residual-in_err-request.result c.from_residual-in_err-request.ensures.1 in
+    rw (p.1, p.2, ← c.self.view_is)
+    (same_reason _ _ c.in_err-request.field-0.0 (ap (extension_req_attribute Bound) (c.in_ok-extensions.ensures.same ∙ ap extensions_plain c.as_slice.ensures.value)) c.in_err-request.ensures.refused)
+
+pub returns-in_err-place-clause-refused : goal.returns-in_err-place-clause-refused
+returns-in_err-place-clause-refused c =
+    let same = c.in_ok-values.ensures.same ∙ ap (plain_list attribute_plain) c.as_slice-2.ensures.value in
+    absurd (answered_same attribute_plain _ _ c.in_ok-request.request c.as_slice-3.ensures.value c.in_err-place.ensures.answered
+    (same_valid attribute_plain c.in_ok-values.values.items c.self.inside.attributes.items same c.self.invariant) c.in_ok-request.ensures.valid)
 
 pub returns-clause-made : goal.returns-clause-made
 returns-clause-made c =
     let inside = c.self.inside in
     let request = c.in_ok-request.request in
+    let same = c.in_ok-values.ensures.same ∙ ap (plain_list attribute_plain) c.as_slice-2.ensures.value in
     rw (← c.self.view_is)
     (one_part attribute_plain (name_plain c.in_ok-subject.subject) (name_plain inside.subject) (extensions_plain inside.extensions.0.items) (key_plain c.in_ok-public_key.public_key) (key_plain c.args.key.now)
     c.in_ok-values.values.items c.insert.new.self.items (plain_list attribute_plain inside.attributes.items) c.in_ok-place.place request
-    c.in_ok-subject.ensures c.in_ok-public_key.ensures
-    (c.in_ok-values.ensures.same ∙ ap (plain_list attribute_plain) c.as_slice-2.ensures.value)
-    c.in_ok-insert.ensures.items
-    (ap (extension_req_attribute Bound) (sym (c.in_ok-extensions.ensures.same ∙ ap extensions_plain c.as_slice.ensures.value)) ∙ c.in_ok-request.ensures)
-    (placed_same attribute_plain _ _ c.in_ok-place.place request c.as_slice-3.ensures.value c.in_ok-place.ensures.place))
-
-pub returns-in_err-place-clause-refused : goal.returns-in_err-place-clause-refused
-returns-in_err-place-clause-refused c =
-    let inside = c.self.inside in
-    let request = c.in_ok-request.request in
-    let p = err_from_is_err_and c.from_residual-in_err-place.result c.from_residual-in_err-place.ensures.1 in
-    rw (p.1, p.2, ← c.self.view_is)
-    (inr (no_place attribute_plain (name_plain inside.subject) (extensions_plain inside.extensions.0.items) (key_plain c.args.key.now) c.in_ok-values.values.items
-    (plain_list attribute_plain inside.attributes.items) request
-    (c.in_ok-values.ensures.same ∙ ap (plain_list attribute_plain) c.as_slice-2.ensures.value)
-    (ap (extension_req_attribute Bound) (sym (c.in_ok-extensions.ensures.same ∙ ap extensions_plain c.as_slice.ensures.value)) ∙ c.in_ok-request.ensures)
-    (answered_same attribute_plain _ _ request c.as_slice-3.ensures.value c.in_err-place.ensures.answered)))
+    c.in_ok-subject.ensures c.in_ok-public_key.ensures same c.in_ok-insert.ensures.items
+    (ap (extension_req_attribute Bound) (sym (c.in_ok-extensions.ensures.same ∙ ap extensions_plain c.as_slice.ensures.value)) ∙ c.in_ok-request.ensures.made)
+    (placed_same attribute_plain _ _ c.in_ok-place.place request c.as_slice-3.ensures.value c.in_ok-place.ensures.place
+    (same_valid attribute_plain c.in_ok-values.values.items inside.attributes.items same c.self.invariant) c.in_ok-request.ensures.valid))
