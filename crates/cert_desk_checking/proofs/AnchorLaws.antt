@@ -9,11 +9,11 @@ use Rattle.cert_desk_checking.specs.declared.anchor_fault.AnchorFault.TheVariant
 use Rattle.cert_desk_checking.specs.declared.outcome.Outcome.{Outcome}
 use Rattle.cert_desk_checking.specs.declared.outcome.Outcome.TheVariants as outcomes
 use Rattle.cert_desk_checking.specs.Anchors.{anchor_plain, given_by}
-use Rattle.cert_desk_checking.specs.AnchorFiles.{raw_choice, IsFaulty, HasFirstFault}
-use Rattle.cert_desk_checking.specs.AnchorReading.{StandsAt, GivesAt, UngivenFor, IsUngiven, GivesNone, IsNoAnchorFile}
+use Rattle.cert_desk_checking.specs.AnchorFiles.{raw_choice, IsFaulty}
+use Rattle.cert_desk_checking.specs.AnchorReading.{StandsAt, GivesAt, UngivenFor, IsUngiven, GivesNone}
 use Rattle.cert_desk_checking.specs.Judging.{PlainAnchor}
 use Rattle.cert_desk_checking.specs.Series.{IsUnambiguous, BeginsWith}
-use Rattle.cert_desk_checking.proofs.FileReading.{SoFar, begins_with, so_far-wrong}
+use Rattle.cert_desk_checking.proofs.FileReading.{SoFar, begins_with}
 
 pub choices_told : IsUnambiguous raw_choice
 choices_told = record { room = levels_max; element = refl; apart = refl; enough = refl }
@@ -41,11 +41,3 @@ given_there octets start end c (Err outcome) s given ends ungiven = (tt, gives_n
 -- the anchors so far are those of the trust anchors up to the start
 abbrev pub AnchorsSoFar : List ℕ → List PlainAnchor → ℕ → Type 0
 AnchorsSoFar octets anchors start = SoFar raw_choice given_by octets anchors start
-
--- no anchor is given at the start
-pub so_far-none : (octets : List ℕ) (anchors : List PlainAnchor) (start : ℕ) (outcome : Outcome) → AnchorsSoFar octets anchors start → GivesNone octets start outcome → IsNoAnchorFile octets outcome
-so_far-none octets anchors start (outcomes.Checked checked) s h = absurd h
-so_far-none octets anchors start (outcomes.BadAnchors offset fault) s h =
-    subst (λ (n : ℕ). HasFirstFault octets n fault) (sym h.0) (so_far-wrong raw_choice given_by octets anchors start s (IsFaulty fault) h.1)
-so_far-none octets anchors start outcomes.Device s h = absurd h
-so_far-none octets anchors start outcomes.OutOfMemory s h = tt

@@ -1,5 +1,5 @@
 -- What a verdict says of a stream of one chain, and of one with a fault.
-use Rattle.std.proofs.Common.{◌≡◌, ℕ, ◌+◌, ◌-◌, ◌<◌, ◌^◌, min, max, List, [], ◌∷◌, ◌++◌, length, true, refl, sym, ap, ◌∙◌, subst, arith, lit<}
+use Rattle.std.proofs.Common.{◌≡◌, ℕ, ◌+◌, ◌-◌, ◌<◌, ◌^◌, min, max, List, [], ◌∷◌, ◌++◌, length, true, refl, sym, ap, ◌∙◌, subst, arith}
 use Rattle.std.proofs.lemmas.Bool.{both_ways}
 use Rattle.x509_cert.specs.Certificates.{PlainCertificate, certificate_octets}
 use Rattle.cert_desk_checking.specs.declared.checked.Checked.{Checked}
@@ -8,7 +8,7 @@ use Rattle.cert_desk_checking.specs.declared.checked.Verdict.{Verdict}
 use Rattle.cert_desk_checking.specs.declared.checked.Verdict.TheVariants as verdicts
 use Rattle.cert_desk_checking.specs.declared.fault_kind.FaultKind.{FaultKind}
 use Rattle.cert_desk_checking.specs.Chains.{Chain, joined}
-use Rattle.cert_desk_checking.specs.Faults.{Split, StreamFault}
+use Rattle.cert_desk_checking.specs.Faults.{StreamFault}
 use Rattle.cert_desk_checking.specs.Judging.{Terms, keeps_at}
 use Rattle.cert_desk_checking.specs.Verdicts.{IsVerdict, Trusted, Asks, IsCounted, asked}
 use Rattle.cert_desk_checking.specs.Streams.{Kept, Reads, ReadsAs}
@@ -48,14 +48,6 @@ pub Asks-fault : (t : Terms) (limit : ℕ) (cs : List PlainCertificate) (stream 
 Asks-fault t limit cs stream kind h = record {
   chain = λ ds k. absurd (fault_no_chain t.bound limit cs ds kind stream h k);
   fault = λ _. refl;
-}
-
--- no octets are split into no certificates and no rest
-pub Split-none : (bound limit : ℕ) → Split bound limit [] [] []
-Split-none bound limit = record {
-  front = record { each = tt; joins = refl; fits = lit< tt };
-  whole = refl;
-  longest = λ c more chain e. encoding_is_some bound c more e;
 }
 
 -- what an ended bundle and a faulted one have read

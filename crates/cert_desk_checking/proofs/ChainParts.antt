@@ -1,7 +1,8 @@
 -- Fronts and rests of trusted chains are trusted.
 use Rattle.std.proofs.Common.{◌≡◌, ℕ, zero, suc, ◌+◌, ◌<◌, ◌^◌, List, [], ◌∷◌, ◌++◌, length, true, false, ◌&&◌, ◌||◌, Some, slice_get, refl, sym, ap, ◌∙◌, subst, arith, length-append}
-use Rattle.std.specs.List.{AllByRecursion, list_any}
+use Rattle.std.specs.List.{list_any}
 use Rattle.std.specs.Option.{option_map_or}
+use Rattle.der_core_head.proofs.BoundLaws.{back_all, front_all}
 use Rattle.x509_cert.specs.Certificates.{PlainCertificate, certificate_octets, issuer, outer_algorithm, public_key, raw_certificate, signature_bits, subject}
 use Rattle.cert_desk_checking.specs.declared.rule.Rule.{Rule}
 use Rattle.cert_desk_checking.specs.declared.rule.Rule.TheVariants as rules
@@ -10,12 +11,8 @@ use Rattle.cert_desk_checking.specs.Issuers.{among, as_anchor}
 use Rattle.cert_desk_checking.specs.Judging.{Terms, is_named, keeps, keeps_at, same_name, says_yes, signed_part}
 use Rattle.cert_desk_checking.specs.Verdicts.{Trusted}
 use Rattle.cert_desk_checking.proofs.OneChain.{one_chain}
-use Rattle.cert_desk_checking.proofs.SeriesLaws.{each-front, encodings-append}
+use Rattle.cert_desk_checking.proofs.SeriesLaws.{encodings-append}
 use Rattle.cert_desk_checking.proofs.Windows.{Window, same_signed, trusted_window}
-
-each-back : {A : Type 0} (P : A → Type 0) (xs ys : List A) → AllByRecursion P (xs ++ ys) → AllByRecursion P ys
-each-back P [] ys all = all
-each-back P (x ∷ xs) ys all = each-back P xs ys all.1
 
 slice_get-front : {A : Type 0} (xs ys : List A) (n : ℕ) → n < length xs → slice_get xs n ≡ slice_get (xs ++ ys) n
 slice_get-front [] ys n h = absurd (omega arith)
@@ -44,7 +41,7 @@ trusted_front t limit stream cs more chain some trusted =
     let ds = cs ++ more in
     let w : Window ds cs 0 = record { at = λ p lt. let same : p ≡ 0 + p = omega arith in slice_get-front cs more p lt ∙ ap (slice_get ds) same; long = omega (arith, length-append cs more) } in
     let whole : length (joined t.bound ds) < 2 ^ 64 = subst (λ (s : List ℕ). length s < 2 ^ 64) chain.joins chain.fits in
-    trusted_window t t.anchors ds cs 0 w limit (each-front (Stands t.bound limit) cs more chain.each) (omega (arith, whole, joined-length t.bound cs more)) some
+    trusted_window t t.anchors ds cs 0 w limit (front_all (Stands t.bound limit) cs more chain.each) (omega (arith, whole, joined-length t.bound cs more)) some
     (kept_of t limit stream ds chain trusted)
     (λ c is kept. (
       kept rules.WrongIssuer,
@@ -62,7 +59,7 @@ trusted_rest t limit stream before cs b chain some trusted =
     let whole : length (joined t.bound ds) < 2 ^ 64 = subst (λ (s : List ℕ). length s < 2 ^ 64) chain.joins chain.fits in
     let issuing : slice_get ds n ≡ Some b = sym (slice_get-back before (b ∷ cs) 0 n (omega arith)) in
     let last : suc n + 0 ≡ suc n = omega arith in
-    trusted_window t (as_anchor b ∷ []) ds cs (suc n) w limit (each-back (Stands t.bound limit) before (b ∷ cs) chain.each).1
+    trusted_window t (as_anchor b ∷ []) ds cs (suc n) w limit (back_all (Stands t.bound limit) before (b ∷ cs) chain.each).1
     (omega (arith, whole, joined-length t.bound before (b ∷ cs), length-append (certificate_octets t.bound b) (joined t.bound cs))) some
     (kept_of t limit stream ds chain trusted)
     (λ c is kept.

@@ -1,5 +1,5 @@
 -- When the digest judge says yes.
-use Rattle.std.proofs.Common.{◌≡◌, ℕ, List, ◌++◌, Bool, true, false, Some, None, ◌&&◌, ◌==◌, IsTrue, ◌↔◌, bytes_eq, refl, sym, ap, ◌∙◌}
+use Rattle.std.proofs.Common.{◌≡◌, ℕ, List, ◌++◌, Bool, true, false, Some, None, ◌&&◌, ◌==◌, IsTrue, ◌↔◌, bytes_eq, sym, ap, ◌∙◌}
 use Rattle.std.specs.Option.{option_map_or}
 use Rattle.std.proofs.lemmas.Bool.{and_left, and_right, ne_eqb, eq-eqb}
 use Rattle.std.proofs.lemmas.Bool.Decides.{same_from_decides}
@@ -9,15 +9,12 @@ use Rattle.der_core_head.specs.Shapes.{AnyValue}
 use Rattle.sha2.specs.Sha256.{sha256}
 use Rattle.x509_cert.specs.Certificates.{Algorithm, PublicKey, algorithm_arcs, algorithm_parameters, key_bits}
 use Rattle.cert_desk_checking.specs.Digests.{digest_arcs, is_digest, digest_answers}
+use Rattle.cert_desk_checking.proofs.Folds.{and_yes}
 
 -- an algorithm with parameters isn't it
 pub no_parameters : (a : Algorithm) (p : AnyValue) → algorithm_parameters a ≡ Some p → false ≡ is_digest a
 no_parameters a p e =
     sym (and_right (bytes_eq (algorithm_arcs a) digest_arcs) (option_map_or (λ _. false) (algorithm_parameters a) true) (ap (λ o. option_map_or (λ _. false) o true) e))
-
-and_yes : (b : Bool) → b ≡ (b && true)
-and_yes true = refl
-and_yes false = refl
 
 -- one without is known by its arcs
 pub digest_by : (r : Bool) (a : Algorithm) → algorithm_parameters a ≡ None → IsTrue r ↔ (algorithm_arcs a ≡ digest_arcs) → r ≡ is_digest a

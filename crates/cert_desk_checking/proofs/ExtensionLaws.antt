@@ -6,10 +6,10 @@ use Rattle.std.specs.List.{list_any}
 use Rattle.std.specs.Prelude.{nat_eq, bytes_eq, IfOk}
 use Rattle.const_oid.specs.Comparing.{owned_eq}
 use Rattle.std.proofs.lemmas.List.{at_drop_more, at_drop_all, take_rest}
-use Rattle.const_oid.specs.Digits.{marked}
+use Rattle.std.proofs.lemmas.Bool.{false_from_ne_true}
 use Rattle.const_oid.specs.IdentifierOctets.{arc_octets, identifier_octets}
 use Rattle.const_oid.specs.Orders.{owned_cmp, owned_cmp_ties}
-use Rattle.const_oid.proofs.DigitLaws.{digits-one}
+use Rattle.const_oid.proofs.EncodingLaws.{arc_octets-one}
 use Rattle.der_core_head.specs.Grammar.{plain_list}
 use Rattle.x509_cert.specs.Certificates.{PlainExtension, extension_arcs}
 use Rattle.cert_desk_checking.specs.declared.weight.Weight.{Weight}
@@ -19,17 +19,12 @@ use Rattle.cert_desk_checking.specs.Judging.{are_distinct, has_twin, is_alone}
 use Rattle.cert_desk_checking.specs.Weighing.{Meaning, any_purpose, certificate_extension, malformed}
 use Rattle.cert_desk_checking.proofs.Folds.{and_yes}
 
--- an arc of less than 128 is one octet
-arc_octets-small : (n : ℕ) → n < 128 → arc_octets n ≡ n ∷ []
-unfolding arc_octets marked
-arc_octets-small n h = ap marked (digits-one 128 n h)
-
 -- a number of less than 128 below 2.5.29
 pub numbered_octets : (n : ℕ) → n < 128 → identifier_octets (certificate_extension n) ≡ 0x55 ∷ 0x1d ∷ n ∷ []
 unfolding identifier_octets
 numbered_octets n h =
-    ap (λ (w : List ℕ). 0x55 ∷ (w ++ (arc_octets n ++ []))) (arc_octets-small 29 (omega arith))
-    ∙ ap (λ (w : List ℕ). 0x55 ∷ 0x1d ∷ (w ++ [])) (arc_octets-small n h)
+    ap (λ (w : List ℕ). 0x55 ∷ (w ++ (arc_octets n ++ []))) (arc_octets-one 29 (omega arith))
+    ∙ ap (λ (w : List ℕ). 0x55 ∷ 0x1d ∷ (w ++ [])) (arc_octets-one n h)
 
 -- an identifier, known by its octets
 by_octets : (arcs w : List ℕ) (n : ℕ) → w ≡ identifier_octets arcs → n < 128 → owned_eq arcs (certificate_extension n) ≡ bytes_eq w (0x55 ∷ 0x1d ∷ n ∷ [])
@@ -48,13 +43,9 @@ pub numbered_by : (arcs w : List ℕ) (n : ℕ) → w ≡ identifier_octets arcs
     → owned_eq arcs (certificate_extension n) ≡ nat_eq (slice_index_or w 2 0) n
 numbered_by arcs w n is h l a b = by_octets arcs w n is h ∙ third w n l a b
 
-not_so : (b : Bool) → (b ≡ true → ⊥) → b ≡ false
-not_so true h = absurd (h refl)
-not_so false h = refl
-
 -- it is none
 pub not_numbered : (arcs w : List ℕ) (n : ℕ) → w ≡ identifier_octets arcs → n < 128 → (w ≡ 0x55 ∷ 0x1d ∷ n ∷ [] → ⊥) → owned_eq arcs (certificate_extension n) ≡ false
-not_numbered arcs w n is h other = by_octets arcs w n is h ∙ not_so (bytes_eq w (0x55 ∷ 0x1d ∷ n ∷ [])) (λ e. other ((bytes_decides w (0x55 ∷ 0x1d ∷ n ∷ [])).0 e))
+not_numbered arcs w n is h other = by_octets arcs w n is h ∙ false_from_ne_true (bytes_eq w (0x55 ∷ 0x1d ∷ n ∷ [])) (λ e. other ((bytes_decides w (0x55 ∷ 0x1d ∷ n ∷ [])).0 e))
 
 -- the weight of what was refused
 pub malformed_as : {E P : Type 0} (r : Result Weight E) (m : Meaning) → IfOk r (λ weight. (weight ≡ weights.Malformed) × P) → (P → m ≡ malformed)
@@ -66,9 +57,9 @@ malformed_as (Err fault) m h k = h
 pub any_octets : identifier_octets any_purpose ≡ 0x55 ∷ 0x1d ∷ 0x25 ∷ 0x00 ∷ []
 unfolding identifier_octets
 any_octets =
-    ap (λ (w : List ℕ). 0x55 ∷ (w ++ (arc_octets 37 ++ (arc_octets 0 ++ [])))) (arc_octets-small 29 (omega arith))
-    ∙ ap (λ (w : List ℕ). 0x55 ∷ 0x1d ∷ (w ++ (arc_octets 0 ++ []))) (arc_octets-small 37 (omega arith))
-    ∙ ap (λ (w : List ℕ). 0x55 ∷ 0x1d ∷ 0x25 ∷ (w ++ [])) (arc_octets-small 0 (omega arith))
+    ap (λ (w : List ℕ). 0x55 ∷ (w ++ (arc_octets 37 ++ (arc_octets 0 ++ [])))) (arc_octets-one 29 (omega arith))
+    ∙ ap (λ (w : List ℕ). 0x55 ∷ 0x1d ∷ (w ++ (arc_octets 0 ++ []))) (arc_octets-one 37 (omega arith))
+    ∙ ap (λ (w : List ℕ). 0x55 ∷ 0x1d ∷ 0x25 ∷ (w ++ [])) (arc_octets-one 0 (omega arith))
 
 -- One of a list, seen by its plain values.
 pub any_of_list : {A B : Type 0} (plain : A → B) (test : B → Bool) (xs : List A) → list_any (λ x. test (plain x)) xs ≡ list_any test (plain_list plain xs)

@@ -2,9 +2,10 @@
 use Rattle.std.proofs.Common.{◌≡◌, ℕ, List, [], ◌∷◌, ◌++◌, length, map, Result, Ok, Err, refl, sym, ap, subst, ◌∙◌, append-nil}
 use Rattle.std.specs.List.{AllByRecursion}
 use Rattle.der_core_head.specs.Shapes.{Shape, Value, octets_of, IsValid}
+use Rattle.der_core_head.proofs.BoundLaws.{front_all}
 use Rattle.cert_desk_checking.specs.Series.{IsUnambiguous, encodings}
 use Rattle.cert_desk_checking.specs.Files.{GiveAll, IsFileOf, BeginsNone, BeginsRefused, HasFirstWrong}
-use Rattle.cert_desk_checking.proofs.SeriesLaws.{each-last, each-front, each-so, value_some, one_first, one_front}
+use Rattle.cert_desk_checking.proofs.SeriesLaws.{each-last, each-so, value_some, one_first, one_front}
 
 module _ (s : Shape) (u : IsUnambiguous s) {A E : Type 0} (gives : Value s → Result A E) where
   -- no value that gives something begins these octets
@@ -63,7 +64,7 @@ module _ (s : Shape) (u : IsUnambiguous s) {A E : Type 0} (gives : Value s → R
   -- Two lists of values that give, up to where no further one comes, are one.
   same_values : (vs ws : List (Value s)) (xs ys : List A) (r t : List ℕ) → GiveAll s gives vs xs → GiveAll s gives ws ys → Ends r → Ends t → encodings s vs ++ r ≡ encodings s ws ++ t → (vs ≡ ws) × (r ≡ t)
   same_values vs ws xs ys r t p q ends other e =
-      one_front s u (λ (zs : List (Value s)). AllByRecursion IsGiving zs) (λ zs more. each-front IsGiving zs more) (λ zs all. each-so IsGiving (IsValid s) zs (λ v g. g.valid) all)
+      one_front s u (λ (zs : List (Value s)). AllByRecursion IsGiving zs) (λ zs more. front_all IsGiving zs more) (λ zs all. each-so IsGiving (IsValid s) zs (λ v g. g.valid) all)
       vs ws r t (each_gives vs xs p) (each_gives ws ys q)
       (λ v more all b. let g = each-last IsGiving vs v all in ends v more g.x g.valid g.given b)
       (λ v more all b. let g = each-last IsGiving ws v all in other v more g.x g.valid g.given b) e

@@ -2,16 +2,13 @@
 use Rattle.std.proofs.Common.{◌≡◌, ℕ, ◌<◌, List, [], ◌∷◌, Bool, true, false, ◌||◌, Some, Result, Ok, Err, OnErr, length, get_or, slice_get, refl, sym, ap, ◌∙◌, arith}
 use Rattle.std.proofs.lemmas.List.Folds.{list_any_at}
 use Rattle.std.specs.Option.{option_map_or}
+use Rattle.std.proofs.lemmas.Bool.{or_left}
 use Rattle.der_core_head.specs.Grammar.{plain_list}
 use Rattle.x509_cert.specs.Certificates.{PlainCertificate, PlainExtension, extensions_of}
 use Rattle.cert_desk_checking.specs.Paths.{extensions_at}
 use Rattle.cert_desk_checking.specs.Reasons.{SomeMayTakeMemory}
 use Rattle.cert_desk_checking.specs.Weighing.{has_list, may_take_memory}
 use Rattle.cert_desk_checking.proofs.ExtensionLaws.{any_of_list}
-
-or_left : (b c : Bool) → b ≡ true → (b || c) ≡ true
-or_left true c h = refl
-or_left false c h = absurd cc
 
 first_of : (b : Bool) → ((b || false) || false) ≡ true → b ≡ true
 first_of true h = refl

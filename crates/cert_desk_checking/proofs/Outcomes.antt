@@ -1,5 +1,5 @@
 -- From what was found at each place to what is said of the stream.
-use Rattle.std.proofs.Common.{◌≡◌, ℕ, zero, suc, ◌+◌, ◌<◌, List, length, true, false, cond, ◌&&◌, Some, None, Result, Ok, Err, OnErr, inl, inr, refl, sym, subst, arith}
+use Rattle.std.proofs.Common.{◌≡◌, ℕ, zero, suc, ◌+◌, ◌<◌, List, length, true, false, cond, ◌&&◌, Some, None, inl, inr, refl, sym, subst, arith}
 use Rattle.std.proofs.lemmas.Bool.{and_parts, and_from, and_left, and_right, both_ways, false_from_ne_true, cond-true, cond-false, cases_order}
 use Rattle.x509_cert.specs.Certificates.{PlainCertificate}
 use Rattle.cert_desk_checking.specs.declared.rule.Rule.{Rule}
@@ -11,6 +11,7 @@ use Rattle.cert_desk_checking.specs.Weighing.{may_take_memory}
 use Rattle.cert_desk_checking.specs.Verdicts.{Trusted, Refused, StopsAsking, all_kept_below, asked, asked_below, asked_signature, raised}
 use Rattle.cert_desk_checking.specs.Places.{IsFirstUnsigned}
 use Rattle.cert_desk_checking.proofs.PlaceLaws.{may_ask-false, may_ask-kept, may_ask-true, all_kept}
+pub use Rattle.cert_desk_io.proofs.Given.{OnErr-by}
 
 -- all rules at one place
 pub keeps_all-kept : (t : Terms) (cs : List PlainCertificate) (stream : List ℕ) (place : ℕ) → keeps_all t cs stream place ≡ true
@@ -66,11 +67,6 @@ trusted_by t limit cs stream chain some kept = record {
   kept = λ place rule within.
       subst (λ s. keeps_at rule t cs s place ≡ true) (sym chain.joins) (kept_below-at t cs (joined t.bound cs) (length cs) place kept within rule);
 }
-
--- what holds in any case holds of a refusal
-pub OnErr-by : {T E : Type 0} (r : Result T E) (P : Type 0) → P → OnErr r P
-OnErr-by (Ok x) P p = tt
-OnErr-by (Err e) P p = p
 
 -- where memory ran out
 pub stops_at : (t : Terms) (limit : ℕ) (cs : List PlainCertificate) (place : ℕ) (stream : List ℕ) (old new : ℕ) → Chain t.bound limit cs stream

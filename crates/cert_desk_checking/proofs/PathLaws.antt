@@ -5,7 +5,7 @@ use Rattle.std.specs.Option.{is_some, option_map_or}
 use Rattle.std.proofs.lemmas.Bool.{leb-true}
 use Rattle.x509_cert.specs.Certificates.{PlainCertificate, extensions_of}
 use Rattle.cert_desk_checking.specs.declared.path_room.PathRoom.{PathRoom}
-use Rattle.cert_desk_checking.specs.Findings.{IsRoom, add_place, allow, found, left_by, no_places, shorter}
+use Rattle.cert_desk_checking.specs.Findings.{IsRoom, add_place, allow, found, left_by, shorter}
 use Rattle.cert_desk_checking.specs.Paths.{counted, counts, extensions_at, is_within, is_within_lengths, keep_lengths, keeps_length}
 use Rattle.cert_desk_checking.specs.Weighing.{path_length, weigh}
 use Rattle.cert_desk_checking.proofs.Folds.{le_same, or_yes}
@@ -48,10 +48,6 @@ within_room bound cs place room true e h =
     ∙ keep_lengths-is bound cs place place (omega arith)
     ∙ ap (allow bound cs place) one
     ∙ h 1
-
--- no places
-pub IsRoom-none : (bound : ℕ) (cs : List PlainCertificate) → IsRoom bound cs 0 no_places
-IsRoom-none bound cs = λ n. refl
 
 -- a place more, for which there is room
 within_left : (left : Option ℕ) (b : Bool) (n : ℕ) → (not b || is_within 1 left) ≡ true → is_within (cond b 1 0 + n) left ≡ is_within n (left_by left b)

@@ -192,7 +192,3 @@ module _ (bound : ℕ) (old now new : Kept) (piece left : List ℕ) (f : Feeding
 
   pub feeding-refused : (e : BundleError) → RefusesPiece bound now new left e → RefusesPiece bound old new piece e
   feeding-refused e r = rw f.whole (advances-refused bound old now new f.front left e f.was_open f.advances r)
-
-pub feeding-whole : (bound : ℕ) (old now : Kept) (piece left : List ℕ) → Feeding bound old piece left now → length left ≡ 0 → Advances bound old now piece
-feeding-whole bound old now piece [] f none = rw (f.whole ∙ append-nil f.front) f.advances
-feeding-whole bound old now piece (b ∷ left) f none = absurd (omega arith)

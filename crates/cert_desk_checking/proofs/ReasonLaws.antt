@@ -1,5 +1,5 @@
 -- Reasons of breaches.
-use Rattle.std.proofs.Common.{◌≡◌, ℕ, zero, suc, ◌+◌, ◌-◌, ◌≤◌, ◌<◌, List, [], ◌∷◌, Bool, true, false, cond, not, ◌&&◌, ◌||◌, Option, Some, None, IfNone, IfOk, IfSome, Result, Ok, Err, IsSome, length, drop, get_or, slice_get, sym, ap, ◌∙◌, refl, subst, arith}
+use Rattle.std.proofs.Common.{◌≡◌, ℕ, zero, suc, ◌+◌, ◌-◌, ◌<◌, List, [], ◌∷◌, Bool, true, false, cond, not, ◌&&◌, ◌||◌, Option, Some, None, IfNone, IfOk, IfSome, Result, Ok, Err, IsSome, length, drop, get_or, slice_get, sym, ap, ◌∙◌, refl, subst, arith}
 use Rattle.std.proofs.lemmas.List.{at_drop_more}
 use Rattle.std.proofs.lemmas.Bool.{both_ways}
 use Rattle.std.specs.List.{list_all, list_any}
@@ -70,20 +70,6 @@ against_alone bound purpose rules.AgainstPurpose e = ap not (found_serves bound 
 against_alone bound purpose rules.NotAuthority e = ap not (found_certifies bound purpose (e ∷ []) ∙ sym (and_yes _))
 against_alone bound purpose rules.PathTooLong e = refl
 against_alone bound purpose rules.WrongSignature e = refl
-
--- no place lies between a place and itself
-pub counted-none : (bound : ℕ) (cs : List PlainCertificate) (from n : ℕ) → counted bound cs from (n - n) ≡ 0
-counted-none bound cs from n = let none : n - n ≡ 0 = omega arith in ap (λ m. counted bound cs from m) none
-
--- with one place more
-pub counted-more : (bound : ℕ) (cs : List PlainCertificate) (before step count : ℕ) (b : Bool) → before ≤ step
-    → count ≡ counted bound cs (before + 1) (step - before) → b ≡ counts bound cs (step + 1)
-    → count + cond b 1 0 ≡ counted bound cs (before + 1) (step + 1 - before)
-counted-more bound cs before step count b le e is =
-    let at : (before + 1) + (step - before) ≡ step + 1 = omega arith in
-    let more : step + 1 - before ≡ suc (step - before) = omega arith in
-    let here : cond b 1 0 ≡ cond (counts bound cs ((before + 1) + (step - before))) 1 0 = ap (λ (x : Bool). cond x 1 0) (is ∙ ap (λ n. counts bound cs n) (sym at)) in
-    ap (λ n. n + cond b 1 0) e ∙ ap (λ n. counted bound cs (before + 1) (step - before) + n) here ∙ ap (λ n. counted bound cs (before + 1) n) (sym more)
 
 -- with one place less, behind the first
 pub counted_less : (bound : ℕ) (cs : List PlainCertificate) (before place left : ℕ) → before < place

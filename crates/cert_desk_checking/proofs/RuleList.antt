@@ -32,13 +32,6 @@ one_rule rule other e = sym (at_number rule) ∙ e ∙ at_number other
 pub one_number : (rule other : Rule) → number rule ≡ number other → rule ≡ other
 one_number rule other e = one_rule rule other (ap rule_at e)
 
--- no rule comes before the first
-pub none_before_first : (P : Rule → Type 0) (rule : Rule) → number rule < 1 → P rule
-none_before_first P rule h =
-    let first : 0 ≡ number rule - 1 = omega (arith, h) in
-    let same : rules.AlgorithmsDiffer ≡ rule = one_rule rules.AlgorithmsDiffer rule (ap (λ n. get_or before_signature n rules.WrongSignature) first) in
-    absurd (omega (arith, h, ap number same))
-
 -- a test that all of a list pass
 all_at : {A : Type 0} (test : A → Bool) (xs : List A) (d : A) (i : ℕ) → list_all test xs ≡ true → i < length xs → test (get_or xs i d) ≡ true
 all_at test [] d i h lt = absurd (omega arith)

@@ -9,7 +9,7 @@ use Rattle.der_core_head.specs.declared.error.ErrorKind.TheVariants as errors
 use Rattle.der_core_head.specs.declared.tag.Tag.TheVariants as tags
 use Rattle.der_core_head.specs.Octets.{◌>>=◌}
 use Rattle.der_core_head.specs.Tags.{universal_tag, tag_octets, tag_at}
-use Rattle.der_core_head.specs.Heads.{Head, length_octets, head_octets, tlv, Fits, shortest, length_at, head_at}
+use Rattle.der_core_head.specs.Heads.{Head, length_octets, head_octets, tlv, Fits, length_at, head_at}
 use Rattle.der_core_head.specs.Shapes.{Shape, Body, Value, sequence, IsValid, octets_of, body_octets, contents}
 use Rattle.der_core_head.proofs.Bytes.{IsBytes}
 use Rattle.der_core_head.proofs.HeadLaws.{head_again, head_sound}
@@ -430,10 +430,6 @@ first_is (a ∷ v) l e = ap (λ (x : ℕ). x ∷ v) e
 pub wanted_none : (limit offset : ℕ) → 6 ≤ limit → offset < 2 ^ 64 → (rest : List ℕ) → length rest < 1 → IsWanted limit offset rest 1
 wanted_none limit offset room below [] l = record { whole = λ h. absurd (omega arith); awaits = λ h. awaits_nothing limit offset room below }
 wanted_none limit offset room below (b ∷ rest) l = absurd (omega arith)
-
-pub early_first : (limit offset : ℕ) (rest : List ℕ) → 1 ≤ length rest → get_or rest 0 0 ≢ 0x30 → IsEarlyFault limit offset rest kinds.NoCertificate
-early_first limit offset [] l ne = absurd (omega arith)
-early_first limit offset (b ∷ rest) l ne = record { not_malformed = λ e. cc; not_truncated = λ e. cc; fault = λ fields. fault_first fields limit offset b rest ne }
 
 early : (v : List ℕ) (k : ErrorKind) → Cause v k → k ≢ errors.Incomplete → (fault_of k ≢ kinds.Malformed) × (fault_of k ≢ kinds.Truncated)
 early v k (cut is few) other = absurd (other is)

@@ -6,6 +6,7 @@ use Rattle.std.specs.List.{AllByRecursion}
 use Rattle.der_core_head.specs.Shapes.{Shape, Value, octets_of, IsValid}
 use Rattle.der_core_head.proofs.OneEncoding.{one_value}
 use Rattle.der_core_head.proofs.Complete.{element_some}
+use Rattle.der_core_head.proofs.BoundLaws.{front_all}
 use Rattle.cert_desk_checking.specs.declared.fault_kind.FaultKind.{FaultKind}
 use Rattle.cert_desk_checking.specs.declared.fault_kind.FaultKind.TheVariants as kinds
 use Rattle.cert_desk_checking.specs.Series.{IsUnambiguous, MayStand, Series, SeriesSplit, encodings}
@@ -21,10 +22,6 @@ each-more P (y ∷ xs) x all p = (all.0, each-more P xs x all.1 p)
 pub each-last : {A : Type 0} (P : A → Type 0) (xs : List A) (x : A) → AllByRecursion P (xs ++ x ∷ []) → P x
 each-last P [] x all = all.0
 each-last P (y ∷ xs) x all = each-last P xs x all.1
-
-pub each-front : {A : Type 0} (P : A → Type 0) (xs ys : List A) → AllByRecursion P (xs ++ ys) → AllByRecursion P xs
-each-front P [] ys all = tt
-each-front P (x ∷ xs) ys all = (all.0, each-front P xs ys all.1)
 
 pub each-so : {A : Type 0} (P Q : A → Type 0) (xs : List A) → ((x : A) → P x → Q x) → AllByRecursion P xs → AllByRecursion Q xs
 each-so P Q [] so all = tt
@@ -100,7 +97,7 @@ module _ (s : Shape) (limit : ℕ) where
 
   Series-front : (vs ws : List (Value s)) → Series s limit (vs ++ ws) (encodings s (vs ++ ws)) → Series s limit vs (encodings s vs)
   Series-front vs ws h = record {
-    each = each-front (MayStand s limit) vs ws h.each;
+    each = front_all (MayStand s limit) vs ws h.each;
     joins = refl;
     fits = omega (arith, h.fits, ap length (encodings-append s vs ws), length-append (encodings s vs) (encodings s ws));
   }

@@ -44,7 +44,8 @@ pub fn read_stream<I: Input>(alloc: Global, limit: u32, input: &mut I) -> Bundle
 /// told; `Device` and `OutOfMemory`.
 pub fn read_anchors<A: Input>(alloc: Global, input: &mut A) -> Result<Vec<Anchor>, Outcome>
     ensures read { IfOk result (λ anchors. HasAnchors
-        (source A.takes A.is_ended A.failures input.old input.new) (map anchor_plain anchors.items)) }
+        (source A.takes A.is_ended A.failures input.old input.new)
+        (map anchor_plain anchors.items)) }
     ensures stopped { IfErr result
         (HasNoAnchors (source A.takes A.is_ended A.failures input.old input.new)) }
 {

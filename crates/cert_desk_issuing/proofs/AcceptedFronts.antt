@@ -19,12 +19,12 @@ use Rattle.cert_desk_checking.specs.Texts.{SpellsName}
 use Rattle.cert_desk_orders.specs.SerialNumbers.{new_serial}
 use Rattle.cert_desk_orders.specs.declared.order.Order.{Order}
 use Rattle.x509_cert_builders.specs.Subscribers.{all_stays, stays}
-use Rattle.cert_desk_checking.proofs.Names.Lists.{plain_append}
+use Rattle.cert_desk_checking.proofs.Names.SetTypes.LentOwned.{plain-append}
 use Rattle.cert_desk_checking.proofs.Names.OneName.{HasSome, read_some}
 use Rattle.cert_desk_checking.proofs.Names.SetTypes.FewSteps.{length_plain_list}
 use Rattle.cert_desk_issuing.specs.Acceptance.{AcceptedOrders, AcceptsFront, IsAccepted, IsAcceptedAt, IsKeyOf, IsNamedFor, names_subscriber}
 use Rattle.cert_desk_issuing.specs.PlainOrders.{AreKeys, AreReady, IsReady, PlainOrder, accepted_plain, orders_plain, CanBear}
-use Rattle.cert_desk_issuing.specs.Refusals.{IsRefusedAt, Refuses, RefusesAt, RefusesName, RefusesOrder, fault_at}
+use Rattle.cert_desk_issuing.specs.Refusals.{IsRefusedAt, Refuses, RefusesAt, RefusesOrder, fault_at}
 use Rattle.cert_desk_issuing.specs.Roles.{place_above, role_at, signers_for}
 use Rattle.cert_desk_issuing.specs.declared.accepted.Accepted.{Accepted}
 use Rattle.cert_desk_issuing.specs.declared.fault.Fault.{Fault}
@@ -84,10 +84,6 @@ not_empty : {A : Type 0} (xs : List A) → xs ≢ [] → 0 < length xs
 not_empty [] h = absurd (h refl)
 not_empty (x ∷ xs) h = omega arith
 
--- none is accepted so far, and one more
-pub front_none : (orders : List Order) (keys : List PublicKey) → AcceptsFront orders keys []
-front_none orders keys = record { each = λ place p e. absurd cc }
-
 pub front_more : (orders : List Order) (keys : List PublicKey) (ps : List PlainOrder) (p : PlainOrder) → AcceptsFront orders keys ps → IsAcceptedAt orders keys (length ps) p → AcceptsFront orders keys (ps ++ p ∷ [])
 front_more orders keys ps p front here = record { each = each_more (λ n q. IsAcceptedAt orders keys n q) ps p front.each here }
 
@@ -98,7 +94,7 @@ accepted_more orders keys xs ys a place e n front here =
     let longer : length (xs ++ a ∷ []) ≡ place + 1 = omega (arith, n, length-append xs (a ∷ [])) in
     let last = subst (λ m. IsAcceptedAt orders keys m (accepted_plain a)) (sym (length_plain_list accepted_plain xs ∙ n)) here in (
       ap length e ∙ longer,
-      subst (λ ps. AcceptsFront orders keys ps) (sym (ap orders_plain e ∙ plain_append accepted_plain xs (a ∷ []))) (front_more orders keys (orders_plain xs) (accepted_plain a) front last),
+      subst (λ ps. AcceptsFront orders keys ps) (sym (ap orders_plain e ∙ plain-append accepted_plain xs (a ∷ []))) (front_more orders keys (orders_plain xs) (accepted_plain a) front last),
     )
 
 module _ (orders : List Order) (keys : List PublicKey) (place : ℕ) (role : Role) (key : Option PublicKey) (o : Order) (stands : slice_get orders place ≡ Some o) (e : role ≡ role_at (length orders) place) (f : key ≡ slice_get keys place) where
@@ -158,13 +154,6 @@ are_ready orders keys ps a place p e =
 -- the keys of signers are those of accepted orders
 pub are_keys : (orders : List Order) (keys : List PublicKey) (ps : List PlainOrder) → AcceptedOrders orders keys ps → AreKeys keys ps
 are_keys orders keys ps a place key p k e = subst (λ (o : Option PublicKey). IsKeyOf o p.key) k (a.front.each place p e).accepted.key
-
--- why a name is refused is why its order is
-pub refused_name : (role : Role) (key : Option PublicKey) (o : Order) (n : PlainName) (f : Fault) → SpellsName Bound (string_bytes o.name) n → RefusesName role n f → RefusesOrder role key o f
-refused_name role key o n (faults.RootName e) s r = (n, s, r)
-refused_name role key o n faults.SubscriberName s r = (n, s, r)
-refused_name role key o n faults.OutOfMemory s r = tt
-refused_name role key o n _ s r = absurd r
 
 -- and what is told
 pub told : {S : Type 0} (key : S → PublicKey) (algorithm : S → Algorithm) (signs : S → List ℕ → Bits → Type 0) (may_refuse : S → List ℕ → Type 0) (orders : List Order) (signers : List S) (place : ℕ) (f : Fault)

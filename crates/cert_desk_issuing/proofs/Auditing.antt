@@ -1,9 +1,8 @@
 -- A stream that was issued is judged under its own root.
-use Rattle.std.proofs.Common.{◌≡◌, ◌≢◌, ◌⊎◌, inl, inr, ℕ, ◌-◌, ◌<◌, List, [], ◌∷◌, length, Some, Result, Ok, Err, OnErr, slice_get, refl, sym, ap, ◌∙◌, subst, arith}
+use Rattle.std.proofs.Common.{◌≡◌, ◌≢◌, ◌⊎◌, inl, inr, ℕ, ◌<◌, List, [], ◌∷◌, length, Some, Result, Ok, Err, OnErr, slice_get, refl, sym, ap, ◌∙◌, subst, arith}
 use Rattle.const_oid.specs.Bound.{Bound}
 use Rattle.der_core_head.specs.Limits.{length_max}
 use Rattle.cert_desk_checking.specs.Certificates.{PlainCertificate, PlainName, PublicKey, public_key}
-use Rattle.cert_desk_checking.specs.declared.checked.CheckError.{CheckError}
 use Rattle.cert_desk_checking.specs.declared.checked.CheckError.TheVariants as errors
 use Rattle.cert_desk_checking.specs.declared.checked.Verdict.{Verdict}
 use Rattle.cert_desk_checking.specs.declared.checked.Verdict.TheVariants as verdicts
@@ -68,8 +67,3 @@ exactly root below cs stream limit moment purpose answers v h is = (
   λ e. trusted_is_permitted root below cs stream limit moment purpose answers h (subst (λ w. IsVerdict (terms_for root moment purpose answers) limit stream w) e is),
   λ p. only_trusted (terms_for root moment purpose answers) limit stream v is (held_is_trusted root below cs stream limit moment purpose answers h p),
 )
-
--- an error that isn't a device's
-pub only_memory : (e : CheckError) → (e ≡ errors.Device → ⊥) → e ≡ errors.OutOfMemory
-only_memory errors.OutOfMemory no_device = refl
-only_memory errors.Device no_device = absurd (no_device refl)

@@ -1,5 +1,5 @@
 -- Certificates are issued in turn, up to the first that isn't.
-use Rattle.std.proofs.Common.{◌≡◌, ℕ, zero, suc, Bool, true, false, ◌+◌, ◌-◌, ◌<◌, ◌^◌, List, [], ◌∷◌, ◌++◌, length, map, Some, Result, Ok, Err, refl, sym, ap, ◌∙◌, subst, arith, get_or, slice_get, length-append}
+use Rattle.std.proofs.Common.{◌≡◌, ℕ, zero, suc, Bool, true, false, ◌+◌, ◌-◌, ◌<◌, List, [], ◌∷◌, ◌++◌, length, map, Some, Result, Ok, Err, refl, sym, ap, ◌∙◌, subst, arith, get_or, slice_get, length-append}
 use Rattle.std.specs.Prelude.{◌==◌, if◌then◌else◌}
 use Rattle.std.proofs.lemmas.Grind.{flat_map-append}
 use Rattle.std.proofs.lemmas.List.{append-nil}
@@ -21,7 +21,7 @@ use Rattle.cert_desk_issuing.specs.declared.role.Role.TheVariants as roles
 use Rattle.cert_desk_issuing.specs.declared.stop.Stop.{Stop}
 use Rattle.cert_desk_issuing.specs.declared.stop.Stop.TheVariants as stops
 use Rattle.cert_desk_issuing.specs.Acceptance.{AcceptedOrders}
-use Rattle.cert_desk_issuing.specs.Chains.{AreMade, HoldsOrders, IsMadeAt, IsOrderedAt, IsSignedBy}
+use Rattle.cert_desk_issuing.specs.Chains.{AreMade, IsMadeAt, IsOrderedAt, IsSignedBy}
 use Rattle.cert_desk_issuing.specs.Making.{Makes, MakesAt, made_plain}
 use Rattle.cert_desk_issuing.specs.Ordered.{ordered_part, part_octets}
 use Rattle.cert_desk_issuing.specs.PlainOrders.{AreKeys, AreReady, IsReady, PlainOrder, accepted_plain, orders_plain}
@@ -29,15 +29,13 @@ use Rattle.cert_desk_issuing.specs.Refusals.{IsStoppedAt, Refuses, Stops, stop_a
 use Rattle.cert_desk_issuing.specs.Roles.{place_above, role_at}
 use Rattle.cert_desk_issuing.proofs.AcceptedFronts.{each_more, key_there, plain_at}
 use Rattle.cert_desk_checking.proofs.Names.SetTypes.FewSteps.{length_plain_list}
-use Rattle.cert_desk_checking.proofs.Names.Lists.{all_more, plain_append}
+use Rattle.cert_desk_checking.proofs.Names.Lists.{all_more}
+use Rattle.cert_desk_checking.proofs.Names.SetTypes.LentOwned.{plain-append}
 
 -- so many certificates, from the first on, hold the orders and are signed, and the stream joins them
 pub record IsFront {S : Type 0} (algorithm : S → Algorithm) (signs : S → List ℕ → Bits → Type 0) (ps : List PlainOrder) (signers : List S) (cs : List PlainCertificate) (stream : List ℕ) : Type 0 where
   pub made : AreMade algorithm signs ps signers cs
   pub joins : stream ≡ joined Bound cs
-
-pub issued_none : {S : Type 0} (algorithm : S → Algorithm) (signs : S → List ℕ → Bits → Type 0) (ps : List PlainOrder) (signers : List S) → IsFront algorithm signs ps signers [] []
-issued_none algorithm signs ps signers = record { made = record { held = λ place c e. absurd cc; signed = λ place c e. absurd cc; each = tt }; joins = refl }
 
 module _ {S : Type 0} (algorithm : S → Algorithm) (signs : S → List ℕ → Bits → Type 0) (ps : List PlainOrder) (signers : List S) (cs : List PlainCertificate) (c : PlainCertificate) where
   pub issued_more : (stream octets : List ℕ) → IsFront algorithm signs ps signers cs stream → IsMadeAt algorithm signs ps signers (length cs) c octets
@@ -64,7 +62,7 @@ made_more algorithm signs ps signers plain xs ys x place stream longer octets e 
     let more = issued_more algorithm signs ps signers (plain_list plain xs) (plain x) stream octets front (subst (λ m. IsMadeAt algorithm signs ps signers m (plain x) octets) here made) in (
       ap length e ∙ count,
       subst (λ w. IsFront algorithm signs ps signers (plain_list plain ys) w) (sym f)
-          (subst (λ cs. IsFront algorithm signs ps signers cs (stream ++ octets)) (sym (ap (plain_list plain) e ∙ plain_append plain xs (x ∷ []))) more),
+          (subst (λ cs. IsFront algorithm signs ps signers cs (stream ++ octets)) (sym (ap (plain_list plain) e ∙ plain-append plain xs (x ∷ []))) more),
     )
 
 -- what is read of a list at the place above
@@ -140,15 +138,6 @@ module _ (xs : List Accepted) (place : ℕ) (role : Role) (x y : Accepted) (x_is
     signer_is = s_is;
     stops = subst (λ (r : Role). Stops (may_refuse s) (signs s) (algorithm s) r (accepted_plain x).dns (ordered_part r (accepted_plain x) (accepted_plain y) (algorithm s)) t) role_is h;
   }
-
--- all are issued
-pub all_held : {S : Type 0} (algorithm : S → Algorithm) (signs : S → List ℕ → Bits → Type 0) (xs : List Accepted) (signers : List S) {C : Type 0} (plain : C → PlainCertificate) (certificates : List C) (stream : List ℕ) → length stream < 2 ^ 64
-    → length certificates ≡ length xs → IsFront algorithm signs (orders_plain xs) signers (plain_list plain certificates) stream → HoldsOrders (orders_plain xs) (plain_list plain certificates) stream
-all_held algorithm signs xs signers plain certificates stream fits n front = record {
-  count = length_plain_list plain certificates ∙ n ∙ sym (length_plain_list accepted_plain xs);
-  chain = record { each = front.made.each; joins = front.joins; fits = fits };
-  held = front.made.held;
-}
 
 -- what is told where no certificate is made, behind those that are
 module _ {S : Type 0} (key : S → PublicKey) (algorithm : S → Algorithm) (signs : S → List ℕ → Bits → Type 0) (may_refuse : S → List ℕ → Type 0) (orders : List Order) (signers : List S) (ps : List PlainOrder) (cs : List PlainCertificate) (place : ℕ)

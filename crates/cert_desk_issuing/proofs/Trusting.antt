@@ -1,6 +1,6 @@
 -- A chain that holds orders is trusted exactly where a run of the check permits it, and breaks no other rule; what it hands to a judge, and what its extensions say.
-use Rattle.std.proofs.Common.{◌≡◌, ℕ, zero, suc, ◌+◌, ◌<◌, List, [], ◌∷◌, length, Bool, true, false, not, ◌&&◌, ◌||◌, Option, Some, refl, sym, ap, inl, inr, ◌∙◌, subst, arith, ◌==◌, ◌-◌, ◌≤◌, cond, None, slice_get, ◌≢◌, ◌⊎◌, nat_le, bytes_eq, if◌then◌else◌, map}
-use Rattle.std.proofs.lemmas.Bool.{and_from, and_parts, cases_lt, le-leb, leb-true, both_ways, leb-false}
+use Rattle.std.proofs.Common.{◌≡◌, ℕ, zero, suc, ◌+◌, ◌<◌, List, [], ◌∷◌, length, Bool, true, false, not, ◌&&◌, ◌||◌, Option, Some, refl, sym, ap, inl, inr, ◌∙◌, subst, arith, ◌==◌, ◌-◌, ◌≤◌, cond, None, slice_get, ◌≢◌, nat_le, bytes_eq, if◌then◌else◌, map}
+use Rattle.std.proofs.lemmas.Bool.{and_from, and_parts, cases_lt, le-leb, leb-true, both_ways, leb-false, or_left, or_right, and_cases}
 use Rattle.std.proofs.lemmas.Bool.Decides.{Decides-eqb}
 use Rattle.std.proofs.lemmas.Option.{same_Some, slice_get_within}
 use Rattle.std.proofs.lemmas.Slice.Eq.{bytes_eq-Decides}
@@ -237,14 +237,6 @@ yes_and true true e = refl
 yes_and true false e = refl
 yes_and false c e = absurd cc
 
-yes_or : (b c : Bool) → b ≡ true → (b || c) ≡ true
-yes_or true c e = refl
-yes_or false c e = absurd cc
-
-either_yes : (b c : Bool) → c ≡ true → (b || c) ≡ true
-either_yes true c e = refl
-either_yes false c e = e
-
 -- what the judge answers on the certificate at a place, under the key of the order above
 abbrev pub answer_at : Answers → (ps : List PlainOrder) (cs : List PlainCertificate) (place : ℕ) → IsHeldAt ps cs place → Bool
 answer_at answers ps cs place h = answers h.above.key (outer_algorithm h.certificate) (part_octets (tbs h.certificate)) (signature_bits h.certificate)
@@ -292,14 +284,10 @@ neither true false e = (refl, refl)
 neither true true e = absurd cc
 neither false kept e = absurd cc
 
-one_fails : (a b : Bool) → (a && b) ≡ false → (a ≡ false) ⊎ (b ≡ false)
-one_fails false b e = inl refl
-one_fails true b e = inr e
-
 broken_length : (cs : List PlainCertificate) (n other : ℕ) → keep_lengths Bound cs n other ≡ false → (place : ℕ) × (place < n) × (keeps_length Bound cs place other ≡ false)
 broken_length cs zero other e = absurd cc
 broken_length cs (suc n) other e =
-    elim (one_fails (keep_lengths Bound cs n other) (keeps_length Bound cs n other) e) [
+    elim (and_cases (keep_lengths Bound cs n other) (keeps_length Bound cs n other) e) [
       | inl before ↦ let found = broken_length cs n other before in let lt = found.1 in (found.0, omega (arith, lt), found.2)
       | inr here ↦ (n, omega arith, here)
     ]
@@ -375,8 +363,8 @@ module _ (root : PlainOrder) (below : List PlainOrder) (cs : List PlainCertifica
     authority_in : (role : Role) (place : ℕ) → (lt : place < length cs) → role_at (length (root ∷ below)) place ≡ role
         → (is_last cs place || has_authority Bound (here place lt).certificate) ≡ true
     authority_in roles.Subscriber place lt e =
-        yes_or (is_last cs place) (has_authority Bound (here place lt).certificate) (ap (λ n. (place + 1) == n) h.count ∙ subscriber_last (length (root ∷ below)) place e)
-    authority_in _ place lt e = either_yes (is_last cs place) (has_authority Bound (here place lt).certificate) (authority_there place lt (λ f. (let clash = sym e ∙ f in absurd cc)))
+        or_left (is_last cs place) (has_authority Bound (here place lt).certificate) (ap (λ n. (place + 1) == n) h.count ∙ subscriber_last (length (root ∷ below)) place e)
+    authority_in _ place lt e = or_right (is_last cs place) (has_authority Bound (here place lt).certificate) (authority_there place lt (λ f. (let clash = sym e ∙ f in absurd cc)))
 
     pub authorities : (place : ℕ) → (lt : place < length cs) → keeps_at rules.NotAuthority (terms_for root moment purpose answers) cs stream place ≡ true
     authorities place lt = at_place rules.NotAuthority place lt ∙ authority_in (role_at (length (root ∷ below)) place) place lt refl

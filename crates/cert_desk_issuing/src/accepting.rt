@@ -5,10 +5,12 @@ ghost use Rattle.std.specs.Prelude.{Option, None, Ok, IsTrue, IfOk, IfErr, IfSom
 ghost use Rattle.std.specs.List.{list_all};
 ghost use Rattle.const_oid.specs.Bound.{Bound};
 ghost use Rattle.der_core_head.specs.Grammar.{plain_list, plain_option};
+ghost use Rattle.der_core_head.specs.Ranges.{IsInRange};
 ghost use Rattle.cert_desk_checking.specs.Builders.{IsWantOfMemory, common_name, country, is_among};
 ghost use Rattle.cert_desk_checking.specs.Builders.{may_stay};
 ghost use Rattle.cert_desk_checking.specs.Certificates.{PublicKey};
 ghost use Rattle.cert_desk_checking.specs.Parts.{relative_plain, time_of};
+ghost use Rattle.cert_desk_orders.specs.Grammar.{time};
 ghost use Rattle.cert_desk_orders.specs.SerialNumbers.{new_serial};
 ghost use Rattle.cert_desk_checking.specs.Texts.{SpellsName};
 ghost use Rattle.cert_desk_checking.specs.Views.{key_plain, name_plain, time_date, time_value};
@@ -21,7 +23,6 @@ ghost use Rattle.cert_desk_issuing.specs.Refusals.{RefusesName, RefusesOrder};
 
 use crate::accepted::Accepted;
 use crate::fault::Fault;
-use crate::in_range::{key_in_range, time_in_range};
 use crate::role::Role;
 use cert_desk_checking::types::builder::{Error, SignError, ca_certificate_naming};
 use cert_desk_checking::types::{
@@ -29,7 +30,7 @@ use cert_desk_checking::types::{
 };
 use cert_desk_orders::Order;
 use const_oid::ObjectIdentifier;
-use der_core::ErrorKind;
+use der_core::{ErrorKind, InRange};
 use std::alloc::Global;
 use std::str::FromStr;
 
@@ -174,6 +175,13 @@ fn serial_of(alloc: Global, order: &Order) -> Result<SerialNumber, Fault>
     }
 }
 
+/// A date is one of the calendar, to 2049 in its short spelling.
+fn time_in_range(spelled: &Time)
+    ensures { IsInRange time (time_value spelled.now) }
+{
+    spelled.in_range();
+}
+
 /// The date that a text spells.
 fn date_of(text: &str) -> Option<Time>
     ensures date { IfSome result (λ t. IsTextOf text.now (time_date t)) }
@@ -181,9 +189,9 @@ fn date_of(text: &str) -> Option<Time>
     ensures none { result ≡ None → IsNoDate text.now }
 {
     match Time::from_str(text) {
-        Ok(time) => {
-            time_in_range(&time);
-            Some(time)
+        Ok(date) => {
+            time_in_range(&date);
+            Some(date)
         }
         Err(_) => None,
     }
@@ -253,8 +261,8 @@ fn path_in_range(path: Option<u8>)
 fn is_same_key(one: &SubjectPublicKeyInfo, other: &SubjectPublicKeyInfo) -> bool
     ensures { IsTrue result ↔ (key_plain one.now ≡ key_plain other.now) }
 {
-    key_in_range(one);
-    key_in_range(other);
+    one.in_range();
+    other.in_range();
     one == other
 }
 
@@ -283,7 +291,8 @@ pub(crate) fn accept_one<'a>(
         (λ a. IsAccepted role (plain_option (λ k. key_plain k.now) signer_key.entry)
         order.now (accepted_plain a)) }
     ensures refused { IfErr result
-        (λ f. RefusesOrder role (plain_option (λ k. key_plain k.now) signer_key.entry) order.now f) }
+        (λ f. RefusesOrder role (plain_option (λ k. key_plain k.now) signer_key.entry)
+        order.now f) }
 {
     let subject = match subject_of(alloc, role, order) {
         Ok(subject) => subject,

@@ -6,7 +6,6 @@ mod accepting;
 mod audit;
 mod digest_signer;
 mod fault;
-mod in_range;
 mod issue_error;
 mod issued;
 mod issuing;

@@ -13,7 +13,6 @@ ghost use Rattle.cert_desk_issuing.specs.Ordered.{ordered_part};
 ghost use Rattle.cert_desk_issuing.specs.PlainOrders.{IsReady, accepted_plain};
 
 use crate::accepted::Accepted;
-use crate::in_range::algorithm_in_range;
 use crate::naming::add_names;
 use crate::role::Role;
 use crate::stop::Stop;
@@ -132,7 +131,7 @@ fn made_by<P: BuilderProfile + Drop, S: Signer>(
         result }
 {
     let certificate = builder.build(alloc, signer)?;
-    algorithm_in_range(&certificate.signature_algorithm);
+    certificate.signature_algorithm.in_range();
     certificate.signature.in_range();
     let octets = to_der(alloc, &certificate)?;
     Ok(Made {

@@ -42,8 +42,8 @@ pub(crate) fn add_names<P: BuilderProfile + Drop>(
 ) -> Result<(), Stop>
     requires first { builder.old.added ≡ [] }
     requires subject { builder.old.fields.subject ≡ name_plain accepted.now.subject }
-    ensures added { OnOk result
-        (builder.new ≡ record builder.old { added = names_for role (accepted_plain accepted.now) }) }
+    ensures added { OnOk result (builder.new
+        ≡ record builder.old { added = names_for role (accepted_plain accepted.now) }) }
     // Want of memory, or a length passes.
     ensures stops { IfErr result (λ s. (s ≡ Stop.OutOfMemory) ⊎ ((s ≡ Stop.TooLong)
         × (CanName role (plain_list string_bytes accepted.now.order.now.dns.items) → ⊥))) }

@@ -4,7 +4,7 @@ ghost use Rattle.std.specs.Prelude.{◌≡◌, ◌<◌};
 ghost use Rattle.cert_desk_issuing.specs.Roles.{place_above, role_at};
 
 /// What a certificate of a chain is for.
-#[derive(Clone, Copy, Debug, PartialEq, Eq)]
+#[derive(Clone, Copy)]
 pub(crate) enum Role {
     /// An authority that signs its own certificate.
     Root,

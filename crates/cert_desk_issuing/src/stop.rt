@@ -10,7 +10,7 @@ use der_core::{Error, ErrorKind};
 use std::alloc::{AllocError, AllocFailed};
 
 /// Why a certificate isn't made, wherever in a chain it would stand.
-#[derive(Clone, Copy, Debug, PartialEq, Eq)]
+#[derive(Clone, Copy)]
 pub(crate) enum Stop {
     /// The signer refuses.
     Refused,

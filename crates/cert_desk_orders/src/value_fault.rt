@@ -6,7 +6,7 @@ use hex::FromHexError;
 use std::alloc::AllocError;
 
 // Why a line gives no value.
-#[derive(Clone, Copy, Debug)]
+#[derive(Clone, Copy)]
 pub(crate) enum ValueFault {
     // What stands behind the word isn't a value of it, or the word stands twice.
     Faulty,

@@ -1,7 +1,7 @@
 //! The words of orders files.
 
 // What a line is about.
-#[derive(Clone, Copy, Debug, PartialEq, Eq)]
+#[derive(Clone, Copy)]
 pub(crate) enum Word {
     // An order begins.
     Order,

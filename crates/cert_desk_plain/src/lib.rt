@@ -61,7 +61,8 @@ pub fn split(
 ) -> Result<(Vec<CertificateInner<Raw>>, usize), AllocError>
     ensures within { IfOk result (λ p. p.1 ≤ length stream.now) }
     ensures split { IfOk result
-        (λ p. Split Bound limit stream.now (map certificate_plain p.0.items) (drop p.1 stream.now)) }
+        (λ p. Split Bound limit stream.now (map certificate_plain p.0.items)
+        (drop p.1 stream.now)) }
 {
     let mut certificates = Vec::new(alloc);
     let mut start = 0;

@@ -1,6 +1,9 @@
-//! Readers and writers that fail, as devices.
+//! Readers and writers that fail, as devices; and inputs that are read whole.
 
-use cert_desk_io::{DeviceError, FromRead, Input, ToWrite, write_all};
+use cert_desk_io::{
+    DeviceError, FromRead, Input, MemoryInput, ReadAllError, ToWrite, read_all, write_all,
+};
+use std::alloc::Global;
 use std::io;
 use std::io::{Cursor, ErrorKind, Read, Write};
 use std::test::Fail;
@@ -81,4 +84,29 @@ fn counts_the_errors_of_a_writer(rt: HostRuntime) -> Result<(), Fail> {
     assert_eq!(rt; writer.inner.as_slice(), b"certificate".as_slice());
     assert_eq!(rt; writer.calls, 5);
     Ok(())
+}
+
+/// Why an input isn't read to its end.
+fn refusal_of(alloc: Global, input: &mut MemoryInput<'_>, most: u32) -> Option<ReadAllError> {
+    match read_all(alloc, input, most) {
+        Ok(_) => None,
+        Err(error) => Some(error),
+    }
+}
+
+/// An input that fails is read no further, and one that gives more than the most is refused.
+#[test]
+fn inputs_that_are_not_read_to_their_end(rt: HostRuntime) {
+    let alloc = rt.alloc();
+    let mut failing = MemoryInput::new(b"serial", &[], Some(1));
+    assert_eq!(rt;
+        refusal_of(alloc, &mut failing, 6),
+        Some(ReadAllError::Device)
+    );
+    assert_eq!(rt; failing.left(), b"serial".as_slice());
+    let mut longer = MemoryInput::new(b"serial", &[], None);
+    assert_eq!(rt;
+        refusal_of(alloc, &mut longer, 5),
+        Some(ReadAllError::TooMuch)
+    );
 }

@@ -1,7 +1,6 @@
 -- What the header says, behind the octet of a SEQUENCE.
-use Rattle.std.proofs.Common.{◌+◌, ◌<◌, ◌≤◌, ◌^◌, ◌⊎◌, inl, inr, subst, arith}
-use Rattle.der_core_headers.specs.Fronts.{Scans}
-use Rattle.cert_desk_checking.proofs.Scans.{wanted_none, early_first, wanted_cut, early_head, early_large, wanted_by}
+use Rattle.std.proofs.Common.{◌+◌, ◌<◌, ◌≤◌, ◌^◌, ◌⊎◌, inl, inr, arith}
+use Rattle.cert_desk_checking.proofs.Scans.{wanted_none, wanted_cut, early_head, early_large, wanted_by}
 use Rattle.cert_desk_checking.proofs.scan.wanted_len.Goals as goal
 use Rattle.cert_desk_checking.proofs.scan.wanted_len.Goals.{then-len-from-via-then-len-from, then-len-from-via-else-len-from+then-len-offset}
 

@@ -7,6 +7,6 @@ returns c =
     let one = c.args.one.now in
     let other = c.args.other.now in (
       λ e. one_key one.algorithm.oid other.algorithm.oid one.algorithm.parameters other.algorithm.parameters one.subject_public_key other.subject_public_key
-          c.key_in_range.ensures.0.0.0.0.0.0 c.key_in_range-2.ensures.0.0.0.0.0.0 (sym c.eq.ensures ∙ e),
+          c.in_range.ensures.0.0.0.0.0.0 c.in_range-2.ensures.0.0.0.0.0.0 (sym c.eq.ensures ∙ e),
       λ e. c.eq.ensures ∙ key_again one.algorithm.oid other.algorithm.oid one.algorithm.parameters other.algorithm.parameters one.subject_public_key other.subject_public_key e,
     )

@@ -51,5 +51,5 @@ returns g c = λ role dns t same.
     let given = subst (λ (w : List ℕ). signs w (signature_bits made)) x.ensures.octets x.ensures.signed in
     let short = subst (λ (u : Tbs). length (integer_octets u.1.0) ≤ 20) same c.requires.serial in
     let valid = subst (λ (u : Tbs). IsValid part_shape u) same x.ensures.valid in
-    made_of a signs made t (x.ensures.part ∙ same) short c.in_ok-octets.octets.items x.ensures.algorithm given valid c.algorithm_in_range.ensures c.in_range.ensures c.in_ok-octets.ensures.octets.0
+    made_of a signs made t (x.ensures.part ∙ same) short c.in_ok-octets.octets.items x.ensures.algorithm given valid c.in_range.ensures c.in_range-2.ensures c.in_ok-octets.ensures.octets.0
     (λ h. written_valid (certificate Bound (Some 21)) made _ _ c.in_ok-octets.ensures.exact h)

@@ -1,11 +1,11 @@
 -- Each front that is taken leaves less; where none is, the piece is refused.
-use Rattle.std.proofs.Common.{◌≡◌, ap, subst, ◌∙◌, arith}
+use Rattle.std.proofs.Common.{◌≡◌, ap, subst, ◌∙◌}
 use Rattle.std.proofs.lemmas.List.{take_rest}
 use Rattle.const_oid.specs.Bound.{Bound}
 use Rattle.cert_desk_checking.specs.Steps.{error_of}
 use Rattle.cert_desk_checking.specs.Streams.{Kept}
 use Rattle.cert_desk_checking.proofs.BundleSteps.{feeding-start}
-use Rattle.cert_desk_checking.proofs.Readings.{Feeding, feeding-more, feeding-refused, feeding-whole, stops-refused, error_stopped}
+use Rattle.cert_desk_checking.proofs.Readings.{Feeding, feeding-more, feeding-refused, stops-refused, error_stopped}
 use Rattle.cert_desk_checking.proofs.bundle.Bundle.take_all.Goals as goal
 
 pub loop-left-init : goal.loop-left-init
