@@ -1,22 +1,26 @@
-//! Judges real chains by answers from outside, and takes streams of certificates apart.
-//! `cert_tool --help` says how it is called.
+//! Judges real chains by answers from outside, explains refusals, describes certificates, and takes
+//! streams of certificates apart. `cert_tool --help` says how it is called.
 #![tactic(auto)]
 
-mod arguments;
-mod explanations;
-mod files;
-mod help;
-mod telling;
-mod words;
-
-use cert_desk_io::{ExitStatus, Output, ToWrite, tell_memory};
-use help::{ARGUMENTS, DESCRIBE, EXPLAIN, QUESTIONS, REVERSE, SPLIT, USAGE, VERIFY};
+use cert_desk_io::{ExitStatus, ToWrite, tell_memory};
+use cert_tool_runs::{obey, tell_words};
+use std::alloc::{AllocError, Global};
 use std::process::ExitCode;
 use std::{env, io};
-use telling::{tell, tell_words};
 
 fn main(rt: HostRuntime) -> ExitCode {
     ExitCode::from(run(&rt) as u8)
+}
+
+// The texts of arguments, without the program's name.
+fn texts_of(alloc: Global, words: &[String]) -> Result<Vec<&str>, AllocError> {
+    let mut texts = Vec::new(alloc);
+    if let [_, words @ ..] = words {
+        for word in words {
+            texts.push(word.as_str())?;
+        }
+    }
+    Ok(texts)
 }
 
 // Does what the arguments ask for.
@@ -32,62 +36,9 @@ fn run(rt: &HostRuntime) -> ExitStatus {
     let Ok(words) = words.collect::<Vec<String>>(rt.alloc()) else {
         return tell_memory(&mut err);
     };
-    match words.as_slice() {
-        [_, word] if is_help(word.as_str()) => {
-            let mut out = ToWrite::new(io::writer(rt));
-            tell(&mut out, &[USAGE, ARGUMENTS], ExitStatus::Done)
-        }
-        [_, word, first, ..] if is_help(first.as_str()) => {
-            let mut out = ToWrite::new(io::writer(rt));
-            tell(
-                &mut out,
-                &[usage_of(word.as_str()), ARGUMENTS],
-                ExitStatus::Done,
-            )
-        }
-        [_, word, arguments @ ..] => obey(rt, word.as_str(), arguments, &mut err),
-        _ => tell_words(&mut err),
-    }
-}
-
-// Whether a word asks for help.
-fn is_help(word: &str) -> bool {
-    word == "--help" || word == "-h" || word == "help"
-}
-
-// How a word is called.
-fn usage_of(word: &str) -> &'static str {
-    match word {
-        "questions" => QUESTIONS,
-        "verify" => VERIFY,
-        "split" => SPLIT,
-        "reverse" => REVERSE,
-        "describe" => DESCRIBE,
-        "explain" => EXPLAIN,
-        _ => USAGE,
-    }
-}
-
-// Does what a word says.
-fn obey<E: Output>(rt: &HostRuntime, word: &str, arguments: &[String], err: &mut E) -> ExitStatus {
-    let done = match word {
-        "questions" => words::questions(rt, arguments, err),
-        "verify" => words::verify(rt, arguments, err),
-        "split" => words::split(rt, arguments, err),
-        "reverse" => words::reverse(rt, arguments, err),
-        "describe" => words::describe(rt, arguments, err),
-        "explain" => explanations::explain(rt, arguments, err),
-        _ => {
-            let _ = tell(
-                err,
-                &["there is no word \"", word, "\"\n"],
-                ExitStatus::Arguments,
-            );
-            return tell_words(err);
-        }
+    let Ok(texts) = texts_of(rt.alloc(), words.as_slice()) else {
+        return tell_memory(&mut err);
     };
-    match done {
-        Ok(status) => status,
-        Err(status) => status,
-    }
+    let mut out = ToWrite::new(io::writer(rt));
+    obey(rt.alloc(), rt, texts.as_slice(), &mut out, &mut err)
 }

@@ -1,4 +1,3 @@
 pub mod AnswerFile
 pub mod WordsOfLine
-pub mod QuestionLaws
 pub mod SplitLaws

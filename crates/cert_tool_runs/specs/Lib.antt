@@ -1,9 +1,5 @@
-pub mod Answers
-pub mod Judges
 pub mod AnswerLines
 pub mod AnswerReading
-pub mod QuestionLines
-pub mod Questioning
 pub mod Stops
 pub mod Asking
 pub mod Verifying

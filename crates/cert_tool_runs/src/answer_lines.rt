@@ -6,15 +6,15 @@ ghost use Rattle.const_oid.specs.Bound.{Bound};
 ghost use Rattle.cert_desk_checking.specs.Certificates.{algorithm_identifier, bit_string};
 ghost use Rattle.cert_desk_checking.specs.Certificates.{public_key_info};
 ghost use Rattle.cert_desk_checking.specs.Views.{algorithm_plain, key_plain};
-ghost use Rattle.cert_tool_runs.specs.Answers.{answer_plain};
+ghost use Rattle.cert_tool_answers.specs.Answers.{answer_plain};
 ghost use Rattle.cert_tool_runs.specs.AnswerLines.{file_says, is_anchor, is_digit, is_number};
 ghost use Rattle.cert_tool_runs.specs.AnswerLines.{is_skipped, line_says, octets_in, parts};
 ghost use Rattle.cert_tool_runs.specs.AnswerLines.{question_in, value_in, value_read, words_say};
 ghost use Rattle.cert_tool_runs.specs.AnswerReading.{IsNoFile, IsNoLine, added_by, said_plain};
 
-use crate::answer::Answer;
 use crate::no_answers::NoAnswers;
 use cert_desk_checking::{AlgorithmIdentifier, BitString, SubjectPublicKeyInfo};
+use cert_tool_answers::Answer;
 use der_core::{Decode, ErrorKind, SliceReader, from_der};
 use hex::FromHexError;
 use std::alloc::{AllocError, Global};

@@ -5,11 +5,11 @@ ghost use Rattle.cert_desk_io.specs.Devices.{sink, source};
 ghost use Rattle.cert_desk_checking.specs.declared.outcome.Outcome.{Outcome};
 ghost use Rattle.cert_tool_runs.specs.Asking.{IsAsked, IsAskedTold};
 
-use crate::question_lines::question_lines;
 use crate::stopping::tell_stop;
 use crate::stream_fault::stop_of;
 use cert_desk_checking::{Outcome, read_anchors, read_stream};
 use cert_desk_io::{ExitStatus, Input, Output, answer};
+use cert_tool_answers::chain_lines;
 use std::alloc::Global;
 
 // The questions of a stream under anchors.
@@ -37,7 +37,7 @@ fn find_questions<A: Input, S: Input>(
     if let Some(outcome) = stop_of(&bundle) {
         return Err(outcome);
     }
-    match question_lines(alloc, anchors.as_slice(), &bundle) {
+    match chain_lines(alloc, anchors.as_slice(), &bundle) {
         Ok(text) => Ok(text),
         Err(_) => Err(Outcome::OutOfMemory),
     }

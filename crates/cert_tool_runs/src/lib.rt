@@ -1,22 +1,60 @@
 //! Runs of `cert_tool`, over any inputs and outputs: what the signatures of a chain ask, chains
-//! judged by answers from outside, and streams taken apart.
+//! judged by answers from outside, and streams taken apart; what certificates, revocation lists and
+//! requests say, for who reads them; why octets are none, and which rules the certificates of a
+//! chain break. And what the words of the program ask for.
 #![tactic(auto)]
 
-mod answer;
+mod anchor_refusal;
 mod answer_lines;
-mod answers_judge;
+mod arguments;
 mod asking;
+mod breaches;
+mod chain_place;
+mod chains;
+mod content_fault;
+mod contents;
+mod describe;
+mod describing;
+mod description;
+mod explaining;
+mod fields;
+mod files;
+mod general_names;
+mod help;
+mod identifiers;
+mod keys;
+mod kind;
+mod known_names;
+mod lists;
 mod no_answers;
-mod question_lines;
+mod points;
+mod policies;
+mod printing;
+mod reading;
+mod reads;
+mod reasons;
+mod refusal;
+mod remarks;
+mod requests;
 mod splitting;
 mod stopping;
 mod stream_fault;
+mod stream_refusal;
+mod telling;
+mod timestamps;
+mod uses;
 mod verifying;
+mod way_down;
+mod words;
 
-pub use answer::Answer;
 pub use answer_lines::answers_in;
-pub use answers_judge::AnswersJudge;
 pub use asking::run_questions;
+pub use cert_tool_answers::{Answer, AnswersJudge};
+pub use describing::{run_describe, run_explain};
+pub use explaining::{run_explain_anchors, run_explain_chain, run_explain_stream};
+pub use kind::Kind;
 pub use no_answers::NoAnswers;
 pub use splitting::{run_list, run_reverse, run_take};
+pub use telling::tell_words;
 pub use verifying::{read_answers, run_verify, tell_none};
+pub use words::obey;

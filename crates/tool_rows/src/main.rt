@@ -1,31 +1,35 @@
-//! Answers questions about files with the runs of `cert_tool`: a line of standard input each.
-//! Behind the line stand what the run writes to its output, then what it writes to its error
-//! output, and the status behind `=`.
+//! Answers lines of standard input as `cert_tool` answers its arguments: words with one blank
+//! between them. Behind the line stand what goes to the output, in base 16 where it is no text,
+//! then what goes to the error output, and the status behind `=`. Lines that are empty or begin
+//! with `#` ask nothing.
 //!
-//! | Question | Run |
-//! |---|---|
-//! | `questions ANCHORS STREAM LIMIT` | what a verifier has to answer |
-//! | `verify ANCHORS STREAM MOMENT PURPOSE LIMIT ANSWERS` | a chain is judged by answers |
-//! | `split STREAM LIMIT`, `take STREAM LIMIT PLACE`, `reverse STREAM LIMIT` | a stream is taken apart; octets are written in base 16 |
-//! | `describe KIND FILE` | what a certificate, list or request says |
-//! | `explain KIND FILE`, `explain anchors FILE`, `explain stream STREAM LIMIT` | why octets are refused |
-//! | `explain chain ANCHORS STREAM MOMENT PURPOSE LIMIT ANSWERS` | what each certificate breaks |
-//! | an empty line, or one that begins with `#` | none |
-//! | any other | `?` |
-//!
-//! Files are those of data/, which `examples/make_tool_data.sh` made with OpenSSL. A moment is in
-//! seconds, a purpose in dotted arcs.
+//! Files are those of data/, which `make_tool_data.sh` made with OpenSSL.
 #![tactic(auto)]
 
-mod answers;
-mod files;
-mod questions;
-mod refusals;
-mod tellings;
-
-use answers::answer;
-use std::io;
+use cert_desk_io::ToWrite;
+use cert_tool_runs::obey;
+use std::alloc::Global;
 use std::io::{BufWriter, Write};
+use std::{io, str};
+
+// Writes octets as they are if they are a text, and else in base 16, as a line.
+fn write_shown<W: Write>(alloc: Global, octets: &[u8], to: &mut W) -> io::Result<()> {
+    if str::from_utf8(octets).is_ok() {
+        return to.write_all(octets);
+    }
+    writeln!(to, "{}", hex::encode(alloc, octets)?)
+}
+
+// Writes the answer to a line.
+fn answer<W: Write>(rt: &HostRuntime, line: &str, to: &mut W) -> io::Result<()> {
+    let words: Vec<&str> = line.split(' ').collect(rt.alloc())?;
+    let mut out: ToWrite<Vec<u8>> = ToWrite::new(Vec::new(rt.alloc()));
+    let mut err: ToWrite<Vec<u8>> = ToWrite::new(Vec::new(rt.alloc()));
+    let status = obey(rt.alloc(), rt, words.as_slice(), &mut out, &mut err);
+    write_shown(rt.alloc(), out.into_inner().as_slice(), to)?;
+    to.write_all(err.into_inner().as_slice())?;
+    writeln!(to, "= {}", status as u8)
+}
 
 fn main(rt: HostRuntime) -> io::Result<()> {
     let mut out = BufWriter::new(rt.alloc(), io::writer(&rt))?;

@@ -1,0 +1,16 @@
+use Rattle.std.proofs.Common.{◌++◌, string_bytes, ap, ◌∙◌}
+use Rattle.const_oid.specs.Bound.{Bound}
+use Rattle.cert_desk_checking.specs.Certificates.{algorithm_identifier, bit_string}
+use Rattle.cert_desk_checking.specs.Views.{key_plain}
+use Rattle.cert_tool_answers.specs.QuestionLines.{written}
+use Rattle.cert_tool_answers.specs.Questioning.{entry_question}
+use Rattle.cert_tool_answers.proofs.QuestionLaws.{line_is}
+use Rattle.cert_tool_answers.proofs.question_lines.add_line.Goals as goal
+
+pub returns : goal.returns
+returns c =
+    c.in_ok-writeln.ensures.bytes
+    ∙ ap (λ w. string_bytes c.args.text.now ++ w)
+    (line_is c.args.place c.args.anchor.now (entry_question c.args.entry.now (key_plain c.args.key.now)) _ _ _ _ c.in_ok-key.ensures
+    (c.in_ok-algorithm.ensures ∙ ap (written (algorithm_identifier Bound)) c.signature_algorithm.ensures) c.in_ok-signed.ensures
+    (c.in_ok-bits.ensures ∙ ap (written bit_string) c.signature.ensures))

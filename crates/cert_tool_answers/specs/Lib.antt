@@ -1,0 +1,4 @@
+pub mod Answers
+pub mod Judges
+pub mod QuestionLines
+pub mod Questioning

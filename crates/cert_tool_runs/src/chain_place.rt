@@ -1,0 +1,70 @@
+//! A place of a chain.
+
+use cert_desk_checking::types::{Extension, Name, TbsCertificateInner};
+use cert_desk_checking::{Bundle, CertificateInner, Raw};
+
+// A place of a chain.
+#[derive(Clone, Copy)]
+pub(crate) struct ChainPlace<'a> {
+    pub(crate) bundle: &'a Bundle,
+    // Counted from 0.
+    pub(crate) number: usize,
+    pub(crate) certificate: &'a CertificateInner<Raw>,
+    // The octets of its signed part.
+    pub(crate) signed: &'a [u8],
+}
+
+impl<'a> ChainPlace<'a> {
+    // The place of this number, if a certificate stands there.
+    pub(crate) fn at(bundle: &'a Bundle, number: usize) -> Option<ChainPlace<'a>> {
+        let Some(entry) = bundle.get(number) else {
+            return None;
+        };
+        Some(ChainPlace {
+            bundle,
+            number,
+            certificate: entry.certificate,
+            signed: entry.signed,
+        })
+    }
+
+    // The issuer.
+    pub(crate) fn issuer(&self) -> &'a Name {
+        self.certificate.tbs_certificate().issuer()
+    }
+
+    // The extensions, in their order.
+    pub(crate) fn extensions(&self) -> &'a [Extension] {
+        match self.certificate.tbs_certificate().extensions() {
+            Some(extensions) => extensions.as_slice(),
+            None => &[],
+        }
+    }
+
+    // The place so many before, if there is one.
+    pub(crate) fn earlier(&self, distance: usize) -> Option<ChainPlace<'a>> {
+        if self.number < distance {
+            return None;
+        }
+        ChainPlace::at(self.bundle, self.number - distance)
+    }
+
+    // The signed part of the certificate before, if there is one.
+    pub(crate) fn before(&self) -> Option<&'a TbsCertificateInner<Raw>> {
+        match self.earlier(1) {
+            Some(earlier) => Some(earlier.certificate.tbs_certificate()),
+            None => None,
+        }
+    }
+
+    // Whether no certificate stands behind it.
+    pub(crate) fn is_last(&self) -> bool {
+        self.bundle.len().saturating_sub(self.number) <= 1
+    }
+
+    // Whether its issuer is its subject.
+    pub(crate) fn is_self_issued(&self) -> bool {
+        let signed = self.certificate.tbs_certificate();
+        signed.issuer().has_octets_of(signed.subject())
+    }
+}

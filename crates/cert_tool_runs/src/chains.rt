@@ -1,0 +1,110 @@
+//! What words do with a chain under anchors.
+
+ghost use Rattle.std.specs.Prelude.{◌≤◌};
+
+use crate::arguments::{limit_of, terms_of};
+use crate::asking::run_questions;
+use crate::explaining::run_explain_chain;
+use crate::files::{open, tell_failure};
+use crate::help::{CHAIN, EXPLAIN, QUESTIONS, VERIFY};
+use crate::telling::{tell_more, tell_usage};
+use crate::verifying::run_verify;
+use cert_desk_io::{ExitStatus, Output};
+use std::alloc::Global;
+use std::rt::{Clock, Files};
+
+// `questions ANCHORS STREAM LIMIT`.
+pub(crate) fn questions<R: Files, O: Output, E: Output>(
+    alloc: Global,
+    rt: &R,
+    words: &[&str],
+    out: &mut O,
+    err: &mut E,
+) -> Result<ExitStatus, ExitStatus> {
+    let [anchors, stream, limit] = words else {
+        let names = ["ANCHORS", "STREAM", "LIMIT"];
+        return Err(tell_usage(err, &names, words, QUESTIONS));
+    };
+    let most = limit_of(limit, err)?;
+    let mut anchors = open(rt, anchors, err)?;
+    let mut stream = open(rt, stream, err)?;
+    let status = run_questions(alloc, &mut anchors.input, &mut stream.input, out, err, most);
+    tell_failure(&anchors, err);
+    tell_failure(&stream, err);
+    Ok(tell_more(err, status, anchors.name, stream.name, limit))
+}
+
+// What answers are wanted for.
+#[derive(Clone, Copy)]
+pub(crate) enum Judging {
+    Verify,
+    Explain,
+}
+
+// How the word is called.
+fn usage_of(judging: Judging) -> &'static str {
+    match judging {
+        Judging::Verify => VERIFY,
+        Judging::Explain => EXPLAIN,
+    }
+}
+
+// Says what tells more of a chain that verify refuses, and answers the status.
+fn tell_judged<E: Output>(
+    err: &mut E,
+    judging: Judging,
+    status: ExitStatus,
+    words: [&str; 3],
+) -> ExitStatus {
+    let [anchors, stream, limit] = words;
+    match judging {
+        Judging::Verify => tell_more(err, status, anchors, stream, limit),
+        Judging::Explain => status,
+    }
+}
+
+// `verify ANCHORS STREAM MOMENT PURPOSE LIMIT ANSWERS`, `explain chain ..`.
+pub(crate) fn judge<R: Files + Clock, O: Output, E: Output>(
+    alloc: Global,
+    rt: &R,
+    judging: Judging,
+    words: &[&str],
+    out: &mut O,
+    err: &mut E,
+) -> Result<ExitStatus, ExitStatus> {
+    let [anchors, stream, moment, purpose, limit, answers] = words else {
+        return Err(tell_usage(err, &CHAIN, words, usage_of(judging)));
+    };
+    let terms = terms_of(rt, [*moment, *purpose, *limit], err)?;
+    let mut anchors = open(rt, anchors, err)?;
+    let mut stream = open(rt, stream, err)?;
+    let mut answers = open(rt, answers, err)?;
+    let status = match judging {
+        Judging::Verify => run_verify(
+            alloc,
+            &mut answers.input,
+            &mut anchors.input,
+            &mut stream.input,
+            out,
+            err,
+            terms.moment,
+            &terms.purpose,
+            terms.limit,
+        ),
+        Judging::Explain => run_explain_chain(
+            alloc,
+            &mut answers.input,
+            &mut anchors.input,
+            &mut stream.input,
+            out,
+            err,
+            terms.moment,
+            &terms.purpose,
+            terms.limit,
+        ),
+    };
+    tell_failure(&answers, err);
+    tell_failure(&anchors, err);
+    tell_failure(&stream, err);
+    Ok(tell_judged(err, judging, status, [anchors.name, stream.name, *limit]))
+}
