@@ -28,6 +28,7 @@ fn answer_of(alloc: Global, line: &str) -> Result<String, Refusal> {
     let (word, rest) = line.split_once(' ').ok_or(Refusal::Unread)?;
     match word {
         "certificate" => certificates::answer(alloc, rest),
+        "sha256" => digests::answer_of_certificate(alloc, rest),
         "pieces" => {
             let (schedules, line) = rest.split_once(' ').ok_or(Refusal::Unread)?;
             checks::answer(alloc, schedules, line)

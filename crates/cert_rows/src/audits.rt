@@ -118,11 +118,20 @@ fn chain_of(
     signers: &str,
     file: &str,
 ) -> Result<Result<Issued, IssueError>, Refusal> {
+    let signers = Signers::parse(alloc, signers)?;
     let file = file_of(alloc, file)?;
     let orders = orders_in(alloc, file.as_slice())?;
-    let signers = Signers::parse(alloc, signers)?;
-    let signers = signers.for_orders(alloc, orders.as_slice())?;
-    Ok(issue(alloc, orders.as_slice(), signers.as_slice()))
+    chain_by(alloc, &signers, orders.as_slice())
+}
+
+/// The chain of these orders by these signers.
+fn chain_by(
+    alloc: Global,
+    signers: &Signers,
+    orders: &[Order],
+) -> Result<Result<Issued, IssueError>, Refusal> {
+    let signers = signers.for_orders(alloc, orders)?;
+    Ok(issue(alloc, orders, signers.as_slice()))
 }
 
 /// What an audit says, by the judge of digests.

@@ -30,16 +30,33 @@ pub fn answer(alloc: Global, rest: &str) -> Result<String, Refusal> {
     let limit = limit_of(limit)?;
     let schedule = Schedule::parse(alloc, schedule)?;
     let octets = octets_of(alloc, octets)?;
-    let mut input = schedule.input(octets.as_slice());
+    answers_of(alloc, limit, &mut schedule.input(octets.as_slice()), calls)
+}
+
+/// The answers to calls of a bundle over this input, and how both stand then.
+fn answers_of(
+    alloc: Global,
+    limit: u32,
+    input: &mut MemoryInput<'_>,
+    calls: &str,
+) -> Result<String, Refusal>
+    requires { 6 ≤ limit }
+{
     let mut bundle = Bundle::new(alloc, limit);
     let mut text = String::new(alloc);
     for call in calls.split(' ') {
-        write_call(alloc, &mut text, &mut bundle, &mut input, call)?;
+        write_call(alloc, &mut text, &mut bundle, input, call)?;
     }
-    write_standing(&mut text, &bundle)?;
+    write_end(&mut text, &bundle, input)?;
+    Ok(text)
+}
+
+/// Writes how a bundle and its input stand.
+fn write_end(text: &mut String, bundle: &Bundle, input: &MemoryInput<'_>) -> Result<(), Refusal> {
+    write_standing(text, bundle)?;
     let (left, failures) = (input.left().len(), input.failures());
     write!(text, "left={left} failures={failures}")?;
-    Ok(text)
+    Ok(())
 }
 
 /// Writes what the bundle answers to a call.

@@ -114,8 +114,8 @@ pub fn judged(alloc: Global, how: How<'_>, name: &str, asked: &Asked<'_>) -> Res
                 answer: judge == "yes",
                 questions: 0,
             };
-            let text = told_of(alloc, how, asked, &mut judge)?;
-            Ok(format!(in alloc; "{text} asked={}", judge.questions)?)
+            let text = told_of(alloc, how, asked, &mut judge);
+            counted(alloc, text, judge.questions)
         }
         "octets" => {
             let list = list_of(alloc, octets)?;
@@ -123,8 +123,8 @@ pub fn judged(alloc: Global, how: How<'_>, name: &str, asked: &Asked<'_>) -> Res
                 list: list.as_slice(),
                 questions: 0,
             };
-            let text = told_of(alloc, how, asked, &mut judge)?;
-            Ok(format!(in alloc; "{text} asked={}", judge.questions)?)
+            let text = told_of(alloc, how, asked, &mut judge);
+            counted(alloc, text, judge.questions)
         }
         "key" => {
             let octets = octets_of(alloc, octets)?;
@@ -132,9 +132,19 @@ pub fn judged(alloc: Global, how: How<'_>, name: &str, asked: &Asked<'_>) -> Res
                 octets: octets.as_slice(),
                 questions: 0,
             };
-            let text = told_of(alloc, how, asked, &mut judge)?;
-            Ok(format!(in alloc; "{text} asked={}", judge.questions)?)
+            let text = told_of(alloc, how, asked, &mut judge);
+            counted(alloc, text, judge.questions)
         }
         _ => Err(Refusal::Unread),
     }
+}
+
+/// What is told, and how often a judge was asked for it.
+fn counted(
+    alloc: Global,
+    text: Result<String, Refusal>,
+    questions: u64,
+) -> Result<String, Refusal> {
+    let text = text?;
+    Ok(format!(in alloc; "{text} asked={questions}")?)
 }

@@ -51,13 +51,29 @@ pub fn told<J: SignatureJudge>(
     let whole = in_pieces(alloc, asked, len, 1);
     let verdict = verdict_on(alloc, &whole, judge)?;
     for place in 0..len {
-        let size = if place == 0 { 1 } else { len };
-        let cut = in_pieces(alloc, asked, place, size);
-        if verdict_on(alloc, &cut, judge)? != verdict || !are_alike(&cut, &whole) {
+        if !is_same_cut(alloc, asked, judge, &whole, verdict.as_str(), place)? {
             return Ok(format!(in alloc; "{verdict}, not cut at {place}")?);
         }
     }
     Ok(format!(in alloc; "{verdict} cuts={len}")?)
+}
+
+/// Whether a stream that is cut in two at a place, at the first one octet by octet, gives the same
+/// certificates and the same verdict.
+fn is_same_cut<J: SignatureJudge>(
+    alloc: Global,
+    asked: &Asked<'_>,
+    judge: &mut J,
+    whole: &Bundle,
+    verdict: &str,
+    place: usize,
+) -> Result<bool, Refusal>
+    requires limit { 6 ≤ asked.now.limit }
+    requires place { place < length asked.now.stream.now }
+{
+    let size = if place == 0 { 1 } else { asked.stream.len() };
+    let cut = in_pieces(alloc, asked, place, size);
+    Ok(verdict_on(alloc, &cut, judge)?.as_str() == verdict && are_alike(&cut, whole))
 }
 
 /// The bundle of a stream of which so many octets come first, and the others in pieces of a size.
@@ -99,25 +115,37 @@ pub fn answer_again(alloc: Global, rest: &str) -> Result<String, Refusal> {
     let (limit, octets) = rest.split_once(' ').ok_or(Refusal::Unread)?;
     let limit = limit_of(limit)?;
     let stream = octets_of(alloc, octets)?;
+    let bundle = fed_again(alloc, limit, stream.as_slice())?;
+    let mut text = String::new(alloc);
+    write_standing(&mut text, &bundle)?;
+    text.push_str(verdict_again(alloc, &bundle)?.as_str())?;
+    Ok(text)
+}
+
+/// The bundle of a stream that has ended: another one where the first finds no memory.
+fn fed_again(alloc: Global, limit: u32, stream: &[u8]) -> Result<Bundle, Refusal>
+    requires { 6 ≤ limit }
+{
     let mut bundle = Bundle::new(alloc, limit);
-    if let Err(BundleError::OutOfMemory) = bundle.feed(stream.as_slice()) {
+    if let Err(BundleError::OutOfMemory) = bundle.feed(stream) {
         let mut failed = bundle;
         bundle = Bundle::new(alloc, limit);
-        let _ = bundle.feed(stream.as_slice());
+        let _ = bundle.feed(stream);
         if !is_kept(alloc, &mut failed, &bundle) {
             return Err(Refusal::Changed);
         }
     }
     let _ = bundle.finish();
-    let mut text = String::new(alloc);
-    write_standing(&mut text, &bundle)?;
+    Ok(bundle)
+}
+
+/// The verdict on a bundle, asked for again where it finds no memory.
+fn verdict_again(alloc: Global, bundle: &Bundle) -> Result<String, Refusal> {
     let judge = &mut DigestJudge::new();
-    let verdict = match verdict_on(alloc, &bundle, judge) {
-        Err(Refusal::Memory) => verdict_on(alloc, &bundle, judge)?,
-        verdict => verdict?,
-    };
-    text.push_str(verdict.as_str())?;
-    Ok(text)
+    match verdict_on(alloc, bundle, judge) {
+        Err(Refusal::Memory) => verdict_on(alloc, bundle, judge),
+        verdict => verdict,
+    }
 }
 
 /// Whether a bundle that found no memory keeps the certificates that it had read, and takes and

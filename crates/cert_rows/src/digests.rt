@@ -1,8 +1,9 @@
-//! Bits of signers of digests.
+//! Bits of signers of digests, and digests of certificates.
 
 use crate::refusals::Refusal;
 use crate::words::{key_of, octets_of};
-use cert_desk::{DigestSigner, Signer};
+use cert_desk::{CertificateInner, DigestSigner, Raw, Sha256Digest, Signer};
+use der_core::Error;
 use rand_chacha::ChaCha20Rng;
 use rand_core::SeedableRng;
 use std::alloc::Global;
@@ -19,4 +20,16 @@ pub fn answer(alloc: Global, rest: &str) -> Result<String, Refusal> {
         return Err(Refusal::Changed);
     }
     Ok(hex::encode(alloc, bits.raw_bytes())?)
+}
+
+/// The digest by which the certificate is named that these octets spell.
+pub fn answer_of_certificate(alloc: Global, word: &str) -> Result<String, Refusal> {
+    let octets = octets_of(alloc, word)?;
+    let certificate = CertificateInner::<Raw>::from_der(alloc, octets.as_slice())?;
+    hex_in(alloc, certificate.hash::<Sha256Digest>(alloc))
+}
+
+/// The octets of an outcome, in base 16.
+fn hex_in(alloc: Global, outcome: Result<Vec<u8>, Error>) -> Result<String, Refusal> {
+    Ok(hex::encode(alloc, outcome?.as_slice())?)
 }

@@ -3,7 +3,7 @@
 use crate::files::file_of;
 use crate::refusals::Refusal;
 use crate::schedules::{Devices, Schedule};
-use cert_desk::{orders_in, run_issue, run_orders};
+use cert_desk::{Order, orders_in, run_issue, run_orders};
 use std::alloc::Global;
 use std::str;
 
@@ -41,21 +41,34 @@ pub fn answer_of_call(alloc: Global, schedules: &str, file: &str) -> Result<Stri
     let errors = Schedule::parse(alloc, errors)?;
     let file = file_of(alloc, file)?;
     let orders = orders_in(alloc, file.as_slice())?;
+    issued(alloc, orders.as_slice(), &output, &errors)
+}
+
+/// What the call for these orders tells.
+fn issued(
+    alloc: Global,
+    orders: &[Order],
+    output: &Schedule,
+    errors: &Schedule,
+) -> Result<String, Refusal> {
     let mut out_room = [0; 4096];
     let mut err_room = [0; 64];
     let mut out = output.output(&mut out_room);
     let mut err = errors.output(&mut err_room);
-    let status = run_issue(alloc, orders.as_slice(), &mut out, &mut err) as u8;
-    let issued = hex::encode(alloc, out.written())?;
-    let complained = str::from_utf8(err.written())?;
+    let status = run_issue(alloc, orders, &mut out, &mut err) as u8;
+    outputs_told(alloc, status, out.written(), err.written())
+}
+
+/// The status, the output in base 16, and the text on the error output.
+fn outputs_told(alloc: Global, status: u8, out: &[u8], err: &[u8]) -> Result<String, Refusal> {
+    let issued = hex::encode(alloc, out)?;
+    let complained = str::from_utf8(err)?;
     Ok(format!(in alloc; "{status} {issued:?} {complained:?}")?)
 }
 
 /// What a run tells, its output in base 16.
 pub fn answer(alloc: Global, schedules: &str, file: &str) -> Result<String, Refusal> {
     let file = file_of(alloc, file)?;
-    let told = run(alloc, schedules, file.as_slice())?;
-    let issued = hex::encode(alloc, told.out.as_slice())?;
-    let complained = str::from_utf8(told.err.as_slice())?;
-    Ok(format!(in alloc; "{} {issued:?} {complained:?}", told.status)?)
+    let Told { status, out, err } = run(alloc, schedules, file.as_slice())?;
+    outputs_told(alloc, status, out.as_slice(), err.as_slice())
 }

@@ -4,6 +4,7 @@
 //! | Question | Answer |
 //! |---|---|
 //! | `certificate HEX` | `ok` and the parts of the certificate that these octets spell |
+//! | `sha256 HEX` | the digest of the certificate that these octets spell, in base 16 |
 //! | `JUDGE check ANCHORS STREAM MOMENT PURPOSE LIMIT` | `STATUS OUTPUT ERRORS`, what the program answers to these arguments, where octets stand for the files |
 //! | `pieces SCHEDULE/SCHEDULE/SCHEDULE/SCHEDULE JUDGE check ..` | the same, where anchors, stream, output and error output move octets so |
 //! | `bundle LIMIT SCHEDULE HEX CALL ..` | what a bundle answers to each call in turn, and how it and its input stand then: `HEX` takes a piece, `end` ends the stream, `read` takes the input, `check` judges it by the program's judge, `unfinished` tells how many octets are kept of a certificate that isn't whole |

@@ -1,23 +1,29 @@
 //! Calls that are made again where they find no memory. What they were to change has to stay then.
 
 use crate::refusals::Refusal;
-use crate::shown::{octets_of, written};
+use crate::shown::written;
 use crate::small::Small;
 use der_core::{Error, ErrorKind, from_der};
 use der_types_sets::SetOfVec;
 use std::alloc::Global;
 
 /// What is written of the set that these members fill, as the word asks.
-pub fn answer(alloc: Global, rest: &str) -> Result<String, Refusal> {
-    let (word, octets) = rest.split_once(' ').ok_or(Refusal::Unread)?;
-    let octets = octets_of(alloc, octets)?;
-    let members: Vec<Small> = from_der(alloc, octets.as_slice())?;
-    let set = match word {
-        "insert" | "append" => placed(alloc, word, members.as_slice())?,
-        "extend" => extended(alloc, members.as_slice())?,
-        _ => return Err(Refusal::Unread),
-    };
-    written(alloc, &set)
+pub fn answer(alloc: Global, word: &str, octets: &[u8]) -> Result<String, Refusal> {
+    let members: Vec<Small> = from_der(alloc, octets)?;
+    let members = members.as_slice();
+    match word {
+        "insert" | "append" => set_written(alloc, placed(alloc, word, members)),
+        "extend" => set_written(alloc, extended(alloc, members)),
+        _ => Err(Refusal::Unread),
+    }
+}
+
+/// What is written of the set that was filled.
+fn set_written(
+    alloc: Global,
+    outcome: Result<SetOfVec<Small>, Refusal>,
+) -> Result<String, Refusal> {
+    written(alloc, &outcome?)
 }
 
 /// Whether a call found no memory.
@@ -44,15 +50,26 @@ fn place(set: &mut SetOfVec<Small>, word: &str, member: Small) -> Result<(), Err
 fn placed(alloc: Global, word: &str, members: &[Small]) -> Result<SetOfVec<Small>, Refusal> {
     let mut set = SetOfVec::new(alloc);
     for member in members {
-        let before = set.as_slice().to_vec(alloc)?;
-        if found_no_memory(place(&mut set, word, *member))? {
-            if set.as_slice() != before.as_slice() {
-                return Err(Refusal::Changed);
-            }
-            place(&mut set, word, *member)?;
-        }
+        place_again(alloc, &mut set, word, *member)?;
     }
     Ok(set)
+}
+
+/// Places a member, at the second call where the first finds no memory.
+fn place_again(
+    alloc: Global,
+    set: &mut SetOfVec<Small>,
+    word: &str,
+    member: Small,
+) -> Result<(), Refusal> {
+    let before = set.as_slice().to_vec(alloc)?;
+    if !found_no_memory(place(set, word, member))? {
+        return Ok(());
+    }
+    if set.as_slice() != before.as_slice() {
+        return Err(Refusal::Changed);
+    }
+    Ok(place(set, word, member)?)
 }
 
 /// The set that is extended by the members: where there is no memory, by those behind the ones that
@@ -61,11 +78,16 @@ fn extended(alloc: Global, members: &[Small]) -> Result<SetOfVec<Small>, Refusal
     let mut set = SetOfVec::new(alloc);
     if found_no_memory(set.extend(members.iter().copied()))? {
         let placed = set.len().min(members.len());
-        let front = SetOfVec::from_vec(members[..placed].to_vec(alloc)?)?;
-        if set.as_slice() != front.as_slice() {
+        if !is_of(alloc, &set, &members[..placed])? {
             return Err(Refusal::Changed);
         }
         set.extend(members[placed..].iter().copied())?;
     }
     Ok(set)
+}
+
+/// Whether a set has these members and no others.
+fn is_of(alloc: Global, set: &SetOfVec<Small>, members: &[Small]) -> Result<bool, Refusal> {
+    let same = SetOfVec::from_vec(members.to_vec(alloc)?)?;
+    Ok(set.as_slice() == same.as_slice())
 }

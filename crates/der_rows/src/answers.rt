@@ -2,10 +2,7 @@
 
 use crate::refusals::Refusal;
 use crate::shown::front_of;
-use crate::{
-    again, any_values, contents, copies, fields, headers, identifiers, kinds, leaves, lists, made,
-    readers, times, writers,
-};
+use crate::{contents, fields, headers, identifiers, kinds, made, readers, times, writers};
 use std::alloc::Global;
 use std::io;
 use std::io::Write;
@@ -44,25 +41,32 @@ fn refusal_of(alloc: Global, question: &str) -> Result<Refusal, Refusal> {
 fn answer_of_words(alloc: Global, line: &str) -> Result<String, Refusal> {
     let (word, rest) = front_of(line);
     match word {
-        "der" | "ber" | "order" | "contents" | "compare" | "text" | "front" | "twice" =>
-            kinds::answer(alloc, word, rest),
+        "der"
+        | "ber"
+        | "order"
+        | "contents"
+        | "compare"
+        | "text"
+        | "front"
+        | "twice"
+        | "content"
+        | "by-ord"
+        | "copy"
+        | "member"
+        | "leaf"
+        | "again" => kinds::answer(alloc, word, rest),
         "date" | "seconds" => times::answer_of_dates(alloc, word, rest),
         "new" => made::of_octets(alloc, rest),
         "from" => made::of_text(alloc, rest),
         "explicit" | "implicit" => fields::answer_of_number(alloc, word, rest),
-        "content" => contents::answer(alloc, rest),
-        "by-ord" => contents::answer_by_ord(alloc, rest),
         "prefix" => contents::answer_of_prefixes(alloc, rest),
-        "copy" => copies::answer(alloc, rest),
-        "member" => copies::answer_of_member(alloc, rest),
-        "leaf" => leaves::answer_of_leaves(alloc, rest),
-        "again" => again::answer(alloc, rest),
         "reader" => readers::answer(alloc, rest),
         "writer" => writers::answer(alloc, rest),
         "slice" | "slice-value" => writers::answer_of_slices(alloc, word, rest),
         "vector" => writers::answer_of_vectors(alloc, rest),
-        _ if word.starts_with("any-") => any_values::answer_of_conversions(alloc, word, rest),
-        _ if word.starts_with("set-") => lists::answer_of_members(alloc, word, rest),
+        _ if word.starts_with("any-") || word.starts_with("set-") => {
+            kinds::answer(alloc, word, rest)
+        }
         _ if word.starts_with("oid") => identifiers::answer(alloc, word, rest),
         _ => headers::answer(alloc, word, rest),
     }

@@ -3,7 +3,7 @@
 use crate::entry::Entry;
 use crate::questions::{Asked, Question, answer_as};
 use crate::refusals::Refusal;
-use crate::shown::{named, octets_of, written_in};
+use crate::shown::{named, written_in};
 use crate::small::Small;
 use const_oid::ObjectIdentifier;
 use der_core::{
@@ -42,13 +42,16 @@ fn answer_of_any(alloc: Global, question: &Question<'_>) -> Result<String, Refus
 }
 
 /// The answer to a question about what any value is read as, or is made of.
-pub fn answer_of_conversions(alloc: Global, word: &str, rest: &str) -> Result<String, Refusal> {
-    let (kind, octets) = rest.split_once(' ').ok_or(Refusal::Unread)?;
-    let octets = octets_of(alloc, octets)?;
+pub fn answer_of_conversions(
+    alloc: Global,
+    word: &str,
+    kind: &str,
+    octets: &[u8],
+) -> Result<String, Refusal> {
     if word == "any-ref-from" {
-        return lent_from(alloc, kind, octets.as_slice());
+        return lent_from(alloc, kind, octets);
     }
-    answer_of_conversion(alloc, word, kind, &from_der(alloc, octets.as_slice())?)
+    answer_of_conversion(alloc, word, kind, &from_der(alloc, octets)?)
 }
 
 /// The answer to a question about what any value is read as, or is converted to.
@@ -81,7 +84,7 @@ fn read_as(alloc: Global, kind: &str, any: &Any, rules: EncodingRules) -> Result
 }
 
 /// What is written of the value of the type.
-fn decoded<'a, T: DecodeValue<'a, SliceReader<'a>> + EncodeValue + FixedTag + Drop>(
+fn decoded<'a, T: DecodeValue<'a, SliceReader<'a>> + EncodeValue + FixedTag>(
     alloc: Global,
     any: &'a Any,
     rules: EncodingRules,

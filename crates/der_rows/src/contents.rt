@@ -1,7 +1,7 @@
 //! Contents without a tag, and orders by `Ord`.
 
 use crate::refusals::Refusal;
-use crate::shown::{hex_of, name_of, octets_of};
+use crate::shown::{hex_of, joined, name_of, named, octets_of, shown};
 use const_oid::ObjectIdentifier;
 use der_core::{
     BytesOwned, BytesRef, DecodeValue, EncodeValue, EncodeValueRef, FixedTag, Header, Length,
@@ -11,12 +11,7 @@ use der_core::{
 use std::alloc::{AllocError, Global};
 
 /// The answer to a question about the contents of a type without a tag of its own.
-pub fn answer(alloc: Global, rest: &str) -> Result<String, Refusal> {
-    let (kind, rest) = rest.split_once(' ').ok_or(Refusal::Unread)?;
-    let (first, second) = rest.split_once(' ').unwrap_or((rest, ""));
-    let first = octets_of(alloc, first)?;
-    let second = octets_of(alloc, second)?;
-    let (first, second) = (first.as_slice(), second.as_slice());
+pub fn answer(alloc: Global, kind: &str, first: &[u8], second: &[u8]) -> Result<String, Refusal> {
     match kind {
         "BytesRef" => answer_as::<BytesRef>(alloc, first, second),
         "BytesOwned" => answer_as::<BytesOwned>(alloc, first, second),
@@ -43,10 +38,12 @@ fn both_written<T: EncodeValue + ValueOrd>(
     first: &T,
     second: &T,
 ) -> Result<String, Refusal> {
-    let order = name_of(EncodeValueRef(first).value_cmp(&EncodeValueRef(second))?);
-    let first = content_of(alloc, first)?;
-    let second = content_of(alloc, second)?;
-    Ok(format!(in alloc; "{first} {order} {second}")?)
+    let order = named(
+        alloc,
+        EncodeValueRef(first).value_cmp(&EncodeValueRef(second)),
+    );
+    let orders = joined(content_of(alloc, first), " ", order);
+    joined(orders, " ", content_of(alloc, second))
 }
 
 /// The value of a content that is all of the octets.
@@ -96,12 +93,12 @@ pub fn answer_of_prefixes(alloc: Global, rest: &str) -> Result<String, Refusal> 
 }
 
 /// The orders by `Ord` of the contents and of the encodings of two values.
-pub fn answer_by_ord(alloc: Global, rest: &str) -> Result<String, Refusal> {
-    let (kind, rest) = rest.split_once(' ').ok_or(Refusal::Unread)?;
-    let (first, second) = rest.split_once(' ').ok_or(Refusal::Unread)?;
-    let first = octets_of(alloc, first)?;
-    let second = octets_of(alloc, second)?;
-    let (first, second) = (first.as_slice(), second.as_slice());
+pub fn answer_by_ord(
+    alloc: Global,
+    kind: &str,
+    first: &[u8],
+    second: &[u8],
+) -> Result<String, Refusal> {
     match kind {
         "bool" => orders_by_ord::<bool>(alloc, first, second),
         "str" => orders_by_ord::<&str>(alloc, first, second),
@@ -127,8 +124,8 @@ fn orders_of<T: EncodeValue + FixedTag + OrdIsValueOrd + ValueOrd>(
     first: &T,
     second: &T,
 ) -> Result<String, Refusal> {
-    let contents = name_of(value_cmp_by_ord(first, second));
-    let same_contents = name_of(value_cmp_is_ord(first, second)?);
-    let encodings = name_of(der_cmp_by_ord(first, second)?);
-    Ok(format!(in alloc; "{contents} {same_contents} {encodings}")?)
+    let contents = shown(alloc, name_of(value_cmp_by_ord(first, second)));
+    let same_contents = named(alloc, value_cmp_is_ord(first, second));
+    let both = joined(contents, " ", same_contents);
+    joined(both, " ", named(alloc, der_cmp_by_ord(first, second)))
 }

@@ -2,10 +2,10 @@
 
 use crate::key_usages::KeyUsages;
 use crate::refusals::Refusal;
-use crate::shown::{front_of, octets_of, shown, written, written_in};
+use crate::shown::{joined, shown, written, written_in};
 use crate::small::Small;
 use crate::{contents, fields};
-use der_core::{Decode, Encode, SliceReader, from_der};
+use der_core::{Decode, DecodeValue, Encode, EncodeValue, FixedTag, SliceReader, from_der};
 use der_types_any::{Any, AnyRef};
 use der_types_numbers::{Int, IntRef, Uint, UintRef};
 use der_types_sets::{SequenceOf, SetOf, SetOfRef, SetOfVec};
@@ -125,44 +125,40 @@ impl Copied<SequenceOf<Small, 2>> for SequenceOf<Small, 2> {
 }
 
 /// What is written of the copies of the value that octets spell by DER.
-pub fn answer(alloc: Global, rest: &str) -> Result<String, Refusal> {
-    let (kind, octets) = front_of(rest);
-    let octets = octets_of(alloc, octets)?;
-    answer_of_values(alloc, kind, octets.as_slice())
-}
-
-/// The copies of any value, of a number, or of a string of bits or octets.
-fn answer_of_values(alloc: Global, kind: &str, octets: &[u8]) -> Result<String, Refusal> {
+pub fn answer(alloc: Global, kind: &str, octets: &[u8]) -> Result<String, Refusal> {
     match kind {
         "Any" => copies::<Any, Any>(alloc, octets),
         "AnyRef" => copies::<AnyRef, Any>(alloc, octets),
-        "Int" => copies::<Int, Int>(alloc, octets),
-        "IntRef" => copies::<IntRef, Int>(alloc, octets),
-        "Uint" => copies::<Uint, Uint>(alloc, octets),
-        "UintRef" => copies::<UintRef, Uint>(alloc, octets),
-        "BitString" => copies::<BitString, BitString>(alloc, octets),
-        "BitStringRef" => copies::<BitStringRef, BitString>(alloc, octets),
-        "KeyUsages" => copies::<FlagSet<KeyUsages>, FlagSet<KeyUsages>>(alloc, octets),
-        "OctetString" => copies::<OctetString, OctetString>(alloc, octets),
-        "OctetStringRef" => copies::<OctetStringRef, OctetString>(alloc, octets),
+        "Int" => copies_of_value::<Int, Int>(alloc, octets),
+        "IntRef" => copies_of_value::<IntRef, Int>(alloc, octets),
+        "Uint" => copies_of_value::<Uint, Uint>(alloc, octets),
+        "UintRef" => copies_of_value::<UintRef, Uint>(alloc, octets),
+        "BitString" => copies_of_value::<BitString, BitString>(alloc, octets),
+        "BitStringRef" => copies_of_value::<BitStringRef, BitString>(alloc, octets),
+        "KeyUsages" => copies_of_value::<FlagSet<KeyUsages>, FlagSet<KeyUsages>>(alloc, octets),
+        "OctetString" => copies_of_value::<OctetString, OctetString>(alloc, octets),
+        "OctetStringRef" => copies_of_value::<OctetStringRef, OctetString>(alloc, octets),
         _ => answer_of_texts(alloc, kind, octets),
     }
 }
 
-/// The copies of a text, of a list, or of a set.
+/// The copies of a text, of a list, of a set, or of a field.
 fn answer_of_texts(alloc: Global, kind: &str, octets: &[u8]) -> Result<String, Refusal> {
     match kind {
-        "PrintableString" => copies::<PrintableString, PrintableString>(alloc, octets),
-        "PrintableStringRef" => copies::<PrintableStringRef, PrintableString>(alloc, octets),
-        "TeletexStringRef" => copies::<TeletexStringRef, TeletexString>(alloc, octets),
-        "Utf8StringRef" => copies::<Utf8StringRef, String>(alloc, octets),
-        "BmpString" => copies::<BmpString, BmpString>(alloc, octets),
-        "SequenceOf<Small,2>" => copies::<SequenceOf<Small, 2>, SequenceOf<Small, 2>>(
+        "PrintableString" => copies_of_value::<PrintableString, PrintableString>(alloc, octets),
+        "PrintableStringRef" => copies_of_value::<PrintableStringRef, PrintableString>(
+            alloc, octets,
+        ),
+        "TeletexStringRef" => copies_of_value::<TeletexStringRef, TeletexString>(alloc, octets),
+        "Utf8StringRef" => copies_of_value::<Utf8StringRef, String>(alloc, octets),
+        "BmpString" => copies_of_value::<BmpString, BmpString>(alloc, octets),
+        "SequenceOf<Small,2>" => copies_of_value::<SequenceOf<Small, 2>, SequenceOf<Small, 2>>(
             alloc, octets,
         ),
         "SetOfVec<Small>" => copies_of_set(alloc, octets),
         "SetOf<Small,2>" => copies_of_few(alloc, octets),
         "SetOfRef<Small>" => copies_of_lent(alloc, octets),
+        "ContextSpecific<BitString>" => fields::copies_of(alloc, octets),
         "ContextSpecificRef<u8>" => fields::copy_of(alloc, octets),
         "BytesOwned" => contents::copy_of_octets(alloc, octets),
         "StringOwned" => contents::copy_of_text(alloc, octets),
@@ -170,8 +166,17 @@ fn answer_of_texts(alloc: Global, kind: &str, octets: &[u8]) -> Result<String, R
     }
 }
 
+/// What is written of the copy of a value of a type with one tag, and of the copy of that copy.
+fn copies_of_value<
+    'a,
+    T: DecodeValue<'a, SliceReader<'a>> + FixedTag + Copied<O>,
+    O: Clone + EncodeValue + FixedTag + Drop,
+>(alloc: Global, octets: &'a [u8]) -> Result<String, Refusal> {
+    copies::<T, O>(alloc, octets)
+}
+
 /// What is written of the copy of a value, and of the copy of that copy.
-fn copies<'a, T: Decode<'a, SliceReader<'a>> + Copied<O> + Drop, O: Clone + Encode + Drop>(
+fn copies<'a, T: Decode<'a, SliceReader<'a>> + Copied<O>, O: Clone + Encode + Drop>(
     alloc: Global,
     octets: &'a [u8],
 ) -> Result<String, Refusal> {
@@ -185,9 +190,11 @@ fn both_written<O: Clone + Encode + Drop>(
     copy: Result<O, AllocError>,
 ) -> Result<String, Refusal> {
     let copy = copy?;
-    let first = written(alloc, &copy)?;
-    let second = copy_written(alloc, copy.clone())?;
-    Ok(format!(in alloc; "{first} {second}")?)
+    joined(
+        written(alloc, &copy),
+        " ",
+        copy_written(alloc, copy.clone()),
+    )
 }
 
 /// What is written of a copy.
@@ -201,9 +208,12 @@ fn copy_written<T: Encode + Drop>(
 /// What is written of a copy of a set, and of the set of its members.
 fn copies_of_set(alloc: Global, octets: &[u8]) -> Result<String, Refusal> {
     let set = SetOfVec::<Small>::from_der(alloc, octets)?;
-    let first = copy_written(alloc, set.clone(alloc))?;
-    let second = written_in(alloc, SetOfVec::from_iter(alloc, set.into_vec()))?;
-    Ok(format!(in alloc; "{first} {second}")?)
+    let first = copy_written(alloc, set.clone(alloc));
+    joined(
+        first,
+        " ",
+        written_in(alloc, SetOfVec::from_iter(alloc, set.into_vec())),
+    )
 }
 
 /// What is written of a copy of a set of bounded room.
@@ -215,17 +225,14 @@ fn copies_of_few(alloc: Global, octets: &[u8]) -> Result<String, Refusal> {
 /// What is written of a copy of a set that is lent, and of the set of its members.
 fn copies_of_lent(alloc: Global, octets: &[u8]) -> Result<String, Refusal> {
     let set: SetOfRef<Small> = from_der(alloc, octets)?;
-    let first = copy_written(alloc, set.clone())?;
-    let second = written_in(alloc, set.ref_to_owned(alloc))?;
-    Ok(format!(in alloc; "{first} {second}")?)
+    let first = copy_written(alloc, set.clone());
+    joined(first, " ", written_in(alloc, set.ref_to_owned(alloc)))
 }
 
 /// The member at a place of a set that is lent.
-pub fn answer_of_member(alloc: Global, rest: &str) -> Result<String, Refusal> {
-    let (place, octets) = front_of(rest);
+pub fn answer_of_member(alloc: Global, place: &str, octets: &[u8]) -> Result<String, Refusal> {
     let place = usize::from(place.parse::<u8>()?);
-    let octets = octets_of(alloc, octets)?;
-    let set: SetOfRef<Small> = from_der(alloc, octets.as_slice())?;
+    let set: SetOfRef<Small> = from_der(alloc, octets)?;
     match set.get(alloc, place)? {
         Some(member) => written(alloc, &member),
         None => shown(alloc, "none"),

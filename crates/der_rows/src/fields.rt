@@ -7,7 +7,7 @@ ghost use Rattle.der_types_tagged.specs.Fields.{IsClass};
 use crate::entry::Entry;
 use crate::questions::{Asked, Question, answer_of_value};
 use crate::refusals::Refusal;
-use crate::shown::{front_of, hex_in, name_of, named, octets_of};
+use crate::shown::{front_of, hex_in, joined, name_of, named, octets_of};
 use crate::{any_values, record};
 use der_core::{
     CLASS_APPLICATION as APPLICATION, CLASS_CONTEXT_SPECIFIC as CONTEXT, CLASS_PRIVATE as PRIVATE,
@@ -15,9 +15,9 @@ use der_core::{
     TagMode, TagNumber, WithDefault,
 };
 use der_types_any::AnyRef;
-use der_types_tagged::ClassField;
+use der_types_tagged::{ClassField, ContextSpecific, ContextSpecificRef};
 use der_types_values::{BitString, OctetStringRef};
-use std::alloc::Global;
+use std::alloc::{AllocError, Global};
 
 /// A field of each kind.
 type EachKind<'a> = (
@@ -55,12 +55,12 @@ fn answer_of_class<const CLASS: u8>(
 {
     match question.asked {
         Asked::Der => {
-            let field = of_any_number::<CLASS>(alloc, question.first)?;
+            let field = of_any_number::<u8, CLASS>(alloc, question.first)?;
             hex_in(alloc, field.to_der(alloc))
         }
         Asked::Order => {
-            let first = of_any_number::<CLASS>(alloc, question.first)?;
-            let second = of_any_number::<CLASS>(alloc, question.second)?;
+            let first = of_any_number::<u8, CLASS>(alloc, question.first)?;
+            let second = of_any_number::<u8, CLASS>(alloc, question.second)?;
             named(alloc, first.der_cmp(&second))
         }
         _ => Err(Refusal::Unread),
@@ -68,10 +68,10 @@ fn answer_of_class<const CLASS: u8>(
 }
 
 /// The field of any number that octets spell, all of them.
-fn of_any_number<const CLASS: u8>(
+fn of_any_number<'a, T: DecodeValue<'a, SliceReader<'a>> + FixedTag + Drop, const CLASS: u8>(
     alloc: Global,
-    octets: &[u8],
-) -> Result<ClassField<u8, CLASS>, Error>
+    octets: &'a [u8],
+) -> Result<ClassField<T, CLASS>, Error>
     requires { IsClass CLASS }
     ensures { IfOk result (λ f. f.tag_mode ≡ modes.Explicit) }
 {
@@ -177,9 +177,36 @@ fn lent<const CLASS: u8>(alloc: Global, field: &Numbered<'_>) -> Result<String, 
 
 /// What is written of the field of any number, copied from where it was lent.
 pub fn copy_of(alloc: Global, octets: &[u8]) -> Result<String, Refusal> {
-    let field = of_any_number::<CONTEXT>(alloc, octets)?;
+    let field = of_any_number::<u8, CONTEXT>(alloc, octets)?;
     let copy = field.owned_to_ref().ref_to_owned()?;
     hex_in(alloc, copy.to_der(alloc))
+}
+
+/// What is written of a copy of the field of any number, and of a copy of what it lends.
+pub fn copies_of(alloc: Global, octets: &[u8]) -> Result<String, Refusal> {
+    let field = of_any_number::<BitString, CONTEXT>(alloc, octets)?;
+    let copy = copy_written(alloc, field.clone());
+    joined(copy, " ", lent_copy_written(alloc, &field.owned_to_ref()))
+}
+
+/// What is written of a field that was copied.
+fn copy_written(
+    alloc: Global,
+    copy: Result<ContextSpecific<BitString>, AllocError>,
+) -> Result<String, Refusal> {
+    let copy = copy?;
+    hex_in(alloc, copy.to_der(alloc))
+}
+
+/// What is written of the field that a copy of a lent one is turned to.
+fn lent_copy_written(
+    alloc: Global,
+    lent: &ContextSpecificRef<'_, BitString>,
+) -> Result<String, Refusal> {
+    match lent.clone() {
+        Ok(copy) => copy_written(alloc, copy.ref_to_owned()),
+        Err(error) => Err(Refusal::from(error)),
+    }
 }
 
 /// The answer of a field that was read, with so many octets left.

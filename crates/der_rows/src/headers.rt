@@ -20,28 +20,41 @@ pub fn answer(alloc: Global, word: &str, rest: &str) -> Result<String, Refusal> 
         "lone-length" => of_lone_length(alloc, first),
         "lone-tag" => of_lone_tag(alloc, first),
         "private-4" => matches_private_4(alloc, first),
-        "length-written" => length_written(alloc, length_in(first)?),
-        "tags" => of_number(alloc, TagNumber::from(first.parse::<u32>()?)),
+        "length-written" => of_length(alloc, first),
+        "tags" => of_number(alloc, first),
         "class" => of_class(alloc, first),
         "mode" => of_mode(alloc, first),
         "rules" => of_rules(alloc, first),
         "tag" | "tag-order" | "tag-expected" | "tag-errors" | "tlv" => {
-            answer_of_tag(alloc, word, tag_in(alloc, first)?, second)
+            answer_of_tag(alloc, word, first, second)
         }
-        _ => of_lengths(alloc, word, length_in(first)?, second),
+        _ => of_lengths(alloc, word, first, second),
     }
 }
 
-/// The answer to a question about a tag.
-fn answer_of_tag(alloc: Global, word: &str, tag: Tag, second: &str) -> Result<String, Refusal> {
+/// The answer to a question about the tag at the front of octets, and another tag or a length.
+fn answer_of_tag(alloc: Global, word: &str, first: &str, second: &str) -> Result<String, Refusal> {
+    let tag = tag_in(alloc, first)?;
     match word {
         "tag" => of_tag(alloc, tag),
-        "tag-order" => shown(alloc, name_of(tag_cmp(tag, tag_in(alloc, second)?))),
-        "tag-expected" => printed(alloc, tag.assert_eq(tag_in(alloc, second)?)),
         "tag-errors" => of_errors(alloc, tag),
-        "tlv" => printed(alloc, length_in(second)?.for_tlv(tag)),
-        _ => Err(Refusal::Unread),
+        "tlv" => of_encoding(alloc, tag, second),
+        _ => of_tags(alloc, word, tag, second),
     }
+}
+
+/// The order of two tags, or whether one is expected where the other stands.
+fn of_tags(alloc: Global, word: &str, tag: Tag, second: &str) -> Result<String, Refusal> {
+    let other = tag_in(alloc, second)?;
+    match word {
+        "tag-order" => shown(alloc, name_of(tag_cmp(tag, other))),
+        _ => printed(alloc, tag.assert_eq(other)),
+    }
+}
+
+/// The length of an encoding with a tag, and so many octets of content.
+fn of_encoding(alloc: Global, tag: Tag, text: &str) -> Result<String, Refusal> {
+    printed(alloc, length_in(text)?.for_tlv(tag))
 }
 
 /// What a header says that is read by those rules, and what is written for it.
@@ -78,8 +91,8 @@ fn of_fronts(alloc: Global, digits: &str) -> Result<String, Refusal> {
     let octets = octets_of(alloc, digits)?;
     let mut answers = String::new(alloc);
     for count in 0..octets.len() + 1 {
-        let answer = scanned(alloc, Header::scan(&octets.as_slice()[..count]))?;
-        add(&mut answers, answer.as_str())?;
+        let scan = Header::scan(&octets.as_slice()[..count]);
+        add(&mut answers, scanned(alloc, scan))?;
     }
     Ok(answers)
 }
@@ -106,6 +119,11 @@ fn of_lone_length(alloc: Global, digits: &str) -> Result<String, Refusal> {
     let (length, count) = lone_length_of(octets.as_slice())?;
     let written = length_written(alloc, length)?;
     Ok(format!(in alloc; "{count} {length} {written}")?)
+}
+
+/// What is written for a length, without a tag before it.
+fn of_length(alloc: Global, text: &str) -> Result<String, Refusal> {
+    length_written(alloc, length_in(text)?)
 }
 
 /// What is written for a length.
@@ -184,18 +202,19 @@ fn of_errors(alloc: Global, tag: Tag) -> Result<String, Refusal> {
 
 /// The tags of a number in the classes that have all numbers, each with whether it is of that
 /// class.
-fn of_number(alloc: Global, number: TagNumber) -> Result<String, Refusal> {
+fn of_number(alloc: Global, text: &str) -> Result<String, Refusal> {
+    let number = TagNumber::from(text.parse::<u32>()?);
     let tags = [
         number.application(true),
         number.context_specific(true),
         number.private(false),
     ];
-    let [application, context_specific, private] = tags;
+    let [application, context, private] = tags;
     let is_application = application.is_application();
-    let is_context_specific = context_specific.is_context_specific();
+    let is_context = context.is_context_specific();
     let is_private = private.is_private();
     Ok(format!(in alloc;
-        "{application} {is_application}; {context_specific} {is_context_specific}; {private} {is_private}"
+        "{application} {is_application}; {context} {is_context}; {private} {is_private}"
     )?)
 }
 
@@ -225,15 +244,29 @@ fn of_rules(alloc: Global, text: &str) -> Result<String, Refusal> {
 }
 
 /// The answer to a question about two lengths.
-fn of_lengths(alloc: Global, word: &str, first: Length, second: &str) -> Result<String, Refusal> {
-    let number = second.parse::<usize>()?;
+fn of_lengths(alloc: Global, word: &str, first: &str, second: &str) -> Result<String, Refusal> {
+    let first = length_in(first)?;
     match word {
-        "length-order" => shown(alloc, name_of(length_cmp(first, Length::try_from(number)?))),
-        "sum" => printed(alloc, sum(first, number)),
-        "difference" => printed(alloc, difference(first, number)),
-        "saturating-sum" => shown(alloc, first.saturating_add(Length::try_from(number)?)),
-        "saturating-difference" => shown(alloc, first.saturating_sub(Length::try_from(number)?)),
+        "sum" => printed(alloc, sum(first, second.parse()?)),
+        "difference" => printed(alloc, difference(first, second.parse()?)),
+        "length-order" | "saturating-sum" | "saturating-difference" => {
+            of_both_lengths(alloc, word, first, length_in(second)?)
+        }
         _ => Err(Refusal::Unread),
+    }
+}
+
+/// The order of two lengths, or the length nearest to their sum or difference.
+fn of_both_lengths(
+    alloc: Global,
+    word: &str,
+    first: Length,
+    second: Length,
+) -> Result<String, Refusal> {
+    match word {
+        "length-order" => shown(alloc, name_of(length_cmp(first, second))),
+        "saturating-sum" => shown(alloc, first.saturating_add(second)),
+        _ => shown(alloc, first.saturating_sub(second)),
     }
 }
 

@@ -5,6 +5,7 @@ use crate::shown::{debugged, hex_of, name_of, octets_of, shown};
 use const_oid::{Arc, Database, ObjectIdentifier, ObjectIdentifierRef};
 use std::alloc::Global;
 use std::fmt::Display;
+use std::num::ParseIntError;
 
 type Identifier = ObjectIdentifier<39>;
 
@@ -52,19 +53,60 @@ fn of_text(alloc: Global, word: &str, rest: &str) -> Result<String, Refusal> {
     let (text, other) = rest.split_once(' ').unwrap_or((rest, ""));
     let identifier = Identifier::new(text)?;
     match word {
-        "oid-arc" => or_none(alloc, identifier.arc(other.parse()?)),
-        "oid-child" => shown(alloc, identifier.push_arc(other.parse()?)?),
-        "oid-counted" => counted(alloc, &identifier, other.parse()?),
+        "oid-arc" => arc_of(alloc, &identifier, other.parse()),
+        "oid-child" => child_of(alloc, &identifier, other.parse()),
+        "oid-counted" => counted(alloc, &identifier, other.parse()),
         "oid-len" => shown(alloc, identifier.len()),
-        "oid-order" => shown(alloc, name_of(identifier.cmp(&Identifier::new(other)?))),
+        "oid-order" => order_with(alloc, &identifier, Identifier::new(other)),
         "oid-parent" => or_none(alloc, identifier.parent()),
-        "oid-starts" => shown(alloc, identifier.starts_with(Identifier::new(other)?)),
+        "oid-starts" => starts_with(alloc, &identifier, Identifier::new(other)),
         _ => Err(Refusal::Unread),
     }
 }
 
+/// The arc at a place.
+fn arc_of(
+    alloc: Global,
+    identifier: &Identifier,
+    place: Result<usize, ParseIntError>,
+) -> Result<String, Refusal> {
+    or_none(alloc, identifier.arc(place?))
+}
+
+/// The identifier of one arc more.
+fn child_of(
+    alloc: Global,
+    identifier: &Identifier,
+    arc: Result<Arc, ParseIntError>,
+) -> Result<String, Refusal> {
+    shown(alloc, identifier.push_arc(arc?)?)
+}
+
+/// The order of two identifiers.
+fn order_with(
+    alloc: Global,
+    identifier: &Identifier,
+    other: const_oid::Result<Identifier>,
+) -> Result<String, Refusal> {
+    shown(alloc, name_of(identifier.cmp(&other?)))
+}
+
+/// Whether an identifier starts with another.
+fn starts_with(
+    alloc: Global,
+    identifier: &Identifier,
+    other: const_oid::Result<Identifier>,
+) -> Result<String, Refusal> {
+    shown(alloc, identifier.starts_with(other?))
+}
+
 /// The parent and how many arcs it has, and whether no more than so many octets were tested for it.
-fn counted(alloc: Global, identifier: &Identifier, most: u32) -> Result<String, Refusal> {
+fn counted(
+    alloc: Global,
+    identifier: &Identifier,
+    most: Result<u32, ParseIntError>,
+) -> Result<String, Refusal> {
+    let most = most?;
     let (Some(parent), tests) = identifier.parent_counted() else {
         return shown(alloc, "none");
     };

@@ -1,10 +1,11 @@
 //! Values without others inside.
 
 use crate::questions::{
-    Asked, Question, answer_of_plain, answer_of_value, answer_with_contents, answer_with_order,
+    Asked, Question, answer_of_plain, answer_of_value, answer_with_contents, answer_with_debug,
+    answer_with_order,
 };
 use crate::refusals::Refusal;
-use crate::shown::{front_of, octets_of, written_in};
+use crate::shown::written_in;
 use crate::{key_usages, texts};
 use const_oid::ObjectIdentifier;
 use der_core::making::leaf_from_der;
@@ -35,14 +36,14 @@ fn answer_of_integers(
 ) -> Result<String, Refusal> {
     match kind {
         "u16" => answer_of_plain::<u16>(alloc, question),
-        "u32" => answer_of_plain::<u32>(alloc, question),
-        "u64" => answer_of_plain::<u64>(alloc, question),
+        "u32" => answer_with_debug::<u32>(alloc, question),
+        "u64" => answer_with_debug::<u64>(alloc, question),
         "u128" => answer_of_plain::<u128>(alloc, question),
         "i8" => answer_of_plain::<i8>(alloc, question),
-        "i16" => answer_of_plain::<i16>(alloc, question),
+        "i16" => answer_with_debug::<i16>(alloc, question),
         "i32" => answer_of_plain::<i32>(alloc, question),
-        "i64" => answer_of_plain::<i64>(alloc, question),
-        "i128" => answer_of_plain::<i128>(alloc, question),
+        "i64" => answer_with_debug::<i64>(alloc, question),
+        "i128" => answer_with_debug::<i128>(alloc, question),
         "Box<u8>" => answer_with_contents::<Box<u8>>(alloc, question),
         _ => answer_of_numbers(alloc, kind, question),
     }
@@ -102,10 +103,7 @@ fn bits_of(alloc: Global, octets: &[u8]) -> Result<String, Refusal> {
 }
 
 /// The answer of a value that is read as one without others inside.
-pub fn answer_of_leaves(alloc: Global, rest: &str) -> Result<String, Refusal> {
-    let (kind, octets) = front_of(rest);
-    let octets = octets_of(alloc, octets)?;
-    let octets = octets.as_slice();
+pub fn answer_of_leaves(alloc: Global, kind: &str, octets: &[u8]) -> Result<String, Refusal> {
     match kind {
         "bool" => leaf_written::<bool>(alloc, octets),
         "ObjectIdentifier" => leaf_written::<ObjectIdentifier<39>>(alloc, octets),

@@ -3,7 +3,7 @@
 use crate::key_usages::KeyUsages;
 use crate::questions::{Asked, Question, answer_of_value, answer_with_contents, compared};
 use crate::refusals::Refusal;
-use crate::shown::{named, octets_of, written, written_in};
+use crate::shown::{named, written, written_in};
 use crate::small::Small;
 use crate::{fields, record};
 use der_core::{
@@ -203,10 +203,12 @@ fn lent<'a>(
 }
 
 /// The answer to a question about members of a set that are read or placed.
-pub fn answer_of_members(alloc: Global, word: &str, rest: &str) -> Result<String, Refusal> {
-    let (kind, octets) = rest.split_once(' ').ok_or(Refusal::Unread)?;
-    let octets = octets_of(alloc, octets)?;
-    let octets = octets.as_slice();
+pub fn answer_of_members(
+    alloc: Global,
+    word: &str,
+    kind: &str,
+    octets: &[u8],
+) -> Result<String, Refusal> {
     match kind {
         "Small" => written_set::<Small>(alloc, word, octets),
         "u16" => written_set::<u16>(alloc, word, octets),

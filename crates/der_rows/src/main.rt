@@ -18,7 +18,7 @@
 //! | `set-loose TYPE HEX`, `set-strict TYPE HEX` | what is written of the SET OF whose members stand in any order, or rise; by BER `set-strict-ber` |
 //! | `set-insert TYPE HEX`, `set-append TYPE HEX`, `set-from TYPE HEX` | the same of the set of the members of a SEQUENCE OF: inserted one by one, appended one by one, or all at once |
 //! | `again insert HEX`, `again append HEX`, `again extend HEX` | what is written of the set of these numbers: each is inserted, or appended, or all at once. Where a call finds no memory the set has to be as before it, extended by as many as it tells, and the call is made again; else `changed` |
-//! | `copy TYPE HEX` | `ok HEX..`, what is written of the copies of the value that these spell by DER, one for each call that copies it: its type's own, and that of `Clone`; of a set also that of its members; `BytesOwned` and `StringOwned` are spelled without a tag |
+//! | `copy TYPE HEX` | `ok HEX..`, what is written of the copies of the value that these spell by DER, one for each call that copies it: its type's own, and that of `Clone`; of a set also that of its members, of a field that of what it lends; `BytesOwned` and `StringOwned` are spelled without a tag |
 //! | `member NUMBER HEX` | `ok HEX`, what is written of the number at this place, from 0 on, of a set of numbers that is lent; `ok none` where there is none |
 //! | `leaf TYPE HEX` | `ok HEX`, what is written of the value that these spell by DER, read as one that has no others inside |
 //! | `set-into TYPE HEX` | what is written of the list that a set was converted to |

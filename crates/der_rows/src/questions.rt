@@ -1,7 +1,9 @@
 //! What is asked of the values of a type.
 
 use crate::refusals::Refusal;
-use crate::shown::{debugged, hex_of, name_of, named, or_refusal, printed, written, written_in};
+use crate::shown::{
+    debugged, hex_of, joined, name_of, named, or_refusal, printed, written, written_in,
+};
 use der_core::{
     Decode, DecodeValue, DerOrd, Encode, EncodeValue, Error, FixedTag, SliceReader, ValueOrd,
     from_ber, from_der, from_der_partial,
@@ -66,7 +68,7 @@ fn values_of<'a, T: Decode<'a, SliceReader<'a>> + Drop>(
 }
 
 /// The answer of a type that is read and written.
-pub fn answer_of<'a, T: Decode<'a, SliceReader<'a>> + Encode + Drop>(
+pub fn answer_of<'a, T: Decode<'a, SliceReader<'a>> + Encode>(
     alloc: Global,
     question: &Question<'a>,
 ) -> Result<String, Refusal> {
@@ -85,9 +87,7 @@ fn front_written<T: Encode + Drop>(
     front: Result<(T, &[u8]), Error>,
 ) -> Result<String, Refusal> {
     let (value, behind) = front?;
-    let value = written(alloc, &value)?;
-    let behind = hex_of(alloc, behind)?;
-    Ok(format!(in alloc; "{value} {behind}")?)
+    joined(written(alloc, &value), " ", hex_of(alloc, behind))
 }
 
 /// What is written of the two values that one reader of the octets reads, or why it reads none.
@@ -96,13 +96,13 @@ fn read_twice<'a, T: Decode<'a, SliceReader<'a>> + Encode + Drop>(
     octets: &'a [u8],
 ) -> Result<String, Refusal> {
     let mut reader = SliceReader::new(octets)?;
-    let first = or_refusal(alloc, written_in(alloc, T::decode(alloc, &mut reader)))?;
-    let second = or_refusal(alloc, written_in(alloc, T::decode(alloc, &mut reader)))?;
-    Ok(format!(in alloc; "{first}; {second}")?)
+    let first = or_refusal(alloc, written_in(alloc, T::decode(alloc, &mut reader)));
+    let second = or_refusal(alloc, written_in(alloc, T::decode(alloc, &mut reader)));
+    joined(first, "; ", second)
 }
 
 /// The answer of a type that is compared, too.
-pub fn answer_as<'a, T: Decode<'a, SliceReader<'a>> + DerOrd + Encode + Drop>(
+pub fn answer_as<'a, T: Decode<'a, SliceReader<'a>> + DerOrd + Encode>(
     alloc: Global,
     question: &Question<'a>,
 ) -> Result<String, Refusal> {
@@ -116,7 +116,7 @@ pub fn answer_as<'a, T: Decode<'a, SliceReader<'a>> + DerOrd + Encode + Drop>(
 }
 
 /// The answer of a type that is compared, and prints for debugging.
-pub fn answer_as_with_debug<'a, T: Decode<'a, SliceReader<'a>> + DerOrd + Encode + Debug + Drop>(
+pub fn answer_as_with_debug<'a, T: Decode<'a, SliceReader<'a>> + DerOrd + Encode + Debug>(
     alloc: Global,
     question: &Question<'a>,
 ) -> Result<String, Refusal> {
@@ -128,7 +128,7 @@ pub fn answer_as_with_debug<'a, T: Decode<'a, SliceReader<'a>> + DerOrd + Encode
 
 /// The answer of a type with one tag. Of such a type the traits of its contents are asked for,
 /// since each that is asked for costs the check of every type that is named.
-pub fn answer_of_value<'a, T: DecodeValue<'a, SliceReader<'a>> + EncodeValue + FixedTag + Drop>(
+pub fn answer_of_value<'a, T: DecodeValue<'a, SliceReader<'a>> + EncodeValue + FixedTag>(
     alloc: Global,
     question: &Question<'a>,
 ) -> Result<String, Refusal> {
@@ -136,10 +136,10 @@ pub fn answer_of_value<'a, T: DecodeValue<'a, SliceReader<'a>> + EncodeValue + F
 }
 
 /// The answer of a type with one tag that prints for debugging, too.
-pub fn answer_with_debug<
-    'a,
-    T: DecodeValue<'a, SliceReader<'a>> + EncodeValue + FixedTag + Debug + Drop,
->(alloc: Global, question: &Question<'a>) -> Result<String, Refusal> {
+pub fn answer_with_debug<'a, T: DecodeValue<'a, SliceReader<'a>> + EncodeValue + FixedTag + Debug>(
+    alloc: Global,
+    question: &Question<'a>,
+) -> Result<String, Refusal> {
     match question.asked {
         Asked::Text => debugged(alloc, from_der::<T>(alloc, question.first)),
         _ => answer_of::<T>(alloc, question),
@@ -149,7 +149,7 @@ pub fn answer_with_debug<
 /// The answer of a type with one tag whose contents are compared too.
 pub fn answer_with_contents<
     'a,
-    T: DecodeValue<'a, SliceReader<'a>> + EncodeValue + FixedTag + ValueOrd + Drop,
+    T: DecodeValue<'a, SliceReader<'a>> + EncodeValue + FixedTag + ValueOrd,
 >(alloc: Global, question: &Question<'a>) -> Result<String, Refusal> {
     match question.asked {
         Asked::Contents => {
@@ -163,7 +163,7 @@ pub fn answer_with_contents<
 /// The answer of a type with one tag that is compared, and prints for debugging.
 pub fn answer_of_plain<
     'a,
-    T: DecodeValue<'a, SliceReader<'a>> + EncodeValue + FixedTag + ValueOrd + Debug + Drop,
+    T: DecodeValue<'a, SliceReader<'a>> + EncodeValue + FixedTag + ValueOrd + Debug,
 >(alloc: Global, question: &Question<'a>) -> Result<String, Refusal> {
     match question.asked {
         Asked::Text => debugged(alloc, from_der::<T>(alloc, question.first)),
@@ -174,7 +174,7 @@ pub fn answer_of_plain<
 /// The answer of a type with one tag that has an order of its own, too.
 pub fn answer_with_order<
     'a,
-    T: DecodeValue<'a, SliceReader<'a>> + EncodeValue + FixedTag + Hash + Ord + ValueOrd + Drop,
+    T: DecodeValue<'a, SliceReader<'a>> + EncodeValue + FixedTag + Hash + Ord + ValueOrd,
 >(alloc: Global, question: &Question<'a>) -> Result<String, Refusal> {
     match question.asked {
         Asked::Compare => {
@@ -188,14 +188,7 @@ pub fn answer_with_order<
 /// The answer of a type with one tag that has an order of its own, and prints.
 pub fn answer_with_text<
     'a,
-    T: DecodeValue<'a, SliceReader<'a>>
-        + EncodeValue
-        + FixedTag
-        + Hash
-        + Ord
-        + ValueOrd
-        + Display
-        + Drop,
+    T: DecodeValue<'a, SliceReader<'a>> + EncodeValue + FixedTag + Hash + Ord + ValueOrd + Display,
 >(alloc: Global, question: &Question<'a>) -> Result<String, Refusal> {
     match question.asked {
         Asked::Text => printed(alloc, from_der::<T>(alloc, question.first)),

@@ -23,18 +23,19 @@ fn answers_of(alloc: Global, octets: &[u8], steps: &str) -> Result<String, Refus
     let mut reader = SliceReader::new(octets)?;
     let mut answers = String::new(alloc);
     for step in steps.split_whitespace() {
-        let answer = or_refusal(alloc, answer_of_step(alloc, &mut reader, step))?;
-        add(&mut answers, answer.as_str())?;
+        let answer = answer_of_step(alloc, &mut reader, step);
+        add(&mut answers, or_refusal(alloc, answer))?;
     }
     Ok(answers)
 }
 
 /// Adds an answer behind those before it.
-pub fn add(answers: &mut String, answer: &str) -> Result<(), Refusal> {
+pub fn add(answers: &mut String, answer: Result<String, Refusal>) -> Result<(), Refusal> {
+    let answer = answer?;
     if !answers.is_empty() {
         answers.push_str("; ")?;
     }
-    Ok(answers.push_str(answer)?)
+    Ok(answers.push_str(answer.as_str())?)
 }
 
 /// What a step answers: a name, and behind a colon how many octets it is about.

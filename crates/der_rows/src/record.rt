@@ -60,8 +60,8 @@ impl<F: FieldsOrd> ValueOrd for Record<F> {
     }
 }
 
-/// The answer of a record. Of a row the traits of its fields are asked for, since each that is asked
-/// of a record costs the check of every row that is named.
+/// The answer of a record. Of a row the traits of its fields are asked for, since each that is
+/// asked of a record costs the check of every row that is named.
 pub fn answer<'a, F: DecodeFields<'a, SliceReader<'a>> + EncodeFields + Drop>(
     alloc: Global,
     question: &Question<'a>,

@@ -62,6 +62,19 @@ pub fn or_refusal(alloc: Global, answer: Result<String, Refusal>) -> Result<Stri
     }
 }
 
+/// Two answers, and what stands between them. Each is held here alone, and the first refusal is
+/// told.
+pub fn joined(
+    first: Result<String, Refusal>,
+    between: &str,
+    second: Result<String, Refusal>,
+) -> Result<String, Refusal> {
+    let mut text = first?;
+    text.push_str(between)?;
+    text.push_str(second?.as_str())?;
+    Ok(text)
+}
+
 /// What is answered of an outcome that gives nothing.
 pub fn done(alloc: Global, outcome: Result<(), Error>) -> Result<String, Refusal> {
     outcome?;

@@ -4,40 +4,41 @@ use crate::nested;
 use crate::questions::{Asked, Question, answer_with_order};
 use crate::refusals::Refusal;
 use crate::shown::{printed, shown};
-use der_core::{DecodeValue, EncodeValue, FixedTag, SliceReader, ValueOrd, from_der};
+use der_core::{Error, from_der};
 use der_types_time::{DateTime, GeneralizedTime, UtcTime};
 use std::alloc::Global;
-use std::hash::Hash;
 
 /// The answer of a type that this page names, or one behind it.
 pub fn answer(alloc: Global, kind: &str, question: &Question<'_>) -> Result<String, Refusal> {
     match kind {
-        "UtcTime" => answer_of_time::<UtcTime>(alloc, question),
-        "GeneralizedTime" => answer_of_time::<GeneralizedTime>(alloc, question),
-        "DateTime" => answer_of_time::<DateTime>(alloc, question),
+        "UtcTime" | "GeneralizedTime" | "DateTime" => answer_of_time(alloc, kind, question),
         _ => nested::answer(alloc, kind, question),
     }
 }
 
 /// The answer of a time, whose text is that of its date.
-fn answer_of_time<
-    'a,
-    T: DecodeValue<'a, SliceReader<'a>>
-        + EncodeValue
-        + FixedTag
-        + Hash
-        + Into<DateTime>
-        + Ord
-        + ValueOrd
-        + Drop,
->(alloc: Global, question: &Question<'a>) -> Result<String, Refusal> {
+fn answer_of_time(alloc: Global, kind: &str, question: &Question<'_>) -> Result<String, Refusal> {
     match question.asked {
-        Asked::Text => {
-            let time: T = from_der(alloc, question.first)?;
-            let date: DateTime = time.into();
-            shown(alloc, date)
-        }
-        _ => answer_with_order::<T>(alloc, question),
+        Asked::Text => printed(alloc, date_of(alloc, kind, question.first)),
+        _ => answer_of_type(alloc, kind, question),
+    }
+}
+
+/// The answer of a type of times to a question about anything else.
+fn answer_of_type(alloc: Global, kind: &str, question: &Question<'_>) -> Result<String, Refusal> {
+    match kind {
+        "UtcTime" => answer_with_order::<UtcTime>(alloc, question),
+        "GeneralizedTime" => answer_with_order::<GeneralizedTime>(alloc, question),
+        _ => answer_with_order::<DateTime>(alloc, question),
+    }
+}
+
+/// The date of the time that octets spell.
+fn date_of(alloc: Global, kind: &str, octets: &[u8]) -> Result<DateTime, Error> {
+    match kind {
+        "UtcTime" => Ok(DateTime::from(from_der::<UtcTime>(alloc, octets)?)),
+        "GeneralizedTime" => Ok(DateTime::from(from_der::<GeneralizedTime>(alloc, octets)?)),
+        _ => from_der(alloc, octets),
     }
 }
 

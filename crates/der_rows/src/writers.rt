@@ -1,7 +1,8 @@
 //! Writers that take steps, and values that are written to slices.
 
+use crate::readers::add;
 use crate::refusals::Refusal;
-use crate::shown::{hex_of, octets_of, shown};
+use crate::shown::{hex_of, joined, octets_of, shown};
 use der_core::{
     Encode, EncodeValueRef, Error, ErrorKind, Length, SliceWriter, TagMode, TagNumber, Writer,
     encode_to_slice, encode_to_vec, encode_value_to_slice, from_der, value_header,
@@ -13,14 +14,8 @@ use std::alloc::Global;
 pub fn answer(alloc: Global, rest: &str) -> Result<String, Refusal> {
     let (room, steps) = rest.split_once(' ').ok_or(Refusal::Unread)?;
     let mut octets = vec![in alloc; 0u8; room.parse::<usize>()?]?;
-    let answers = answers_of(alloc, octets.as_mut_slice(), steps)?;
-    beside(alloc, answers.as_str(), "; ", octets.as_slice())
-}
-
-/// A text, and octets behind it.
-fn beside(alloc: Global, text: &str, between: &str, octets: &[u8]) -> Result<String, Refusal> {
-    let octets = hex_of(alloc, octets)?;
-    Ok(format!(in alloc; "{text}{between}{octets}")?)
+    let answers = answers_of(alloc, octets.as_mut_slice(), steps);
+    joined(answers, "; ", hex_of(alloc, octets.as_slice()))
 }
 
 /// What the steps answer, one behind another, and then what was written.
@@ -28,12 +23,9 @@ fn answers_of(alloc: Global, octets: &mut [u8], steps: &str) -> Result<String, R
     let mut writer = SliceWriter::new(octets);
     let mut answers = String::new(alloc);
     for step in steps.split_whitespace() {
-        let answer = answer_or_refusal(alloc, &mut writer, step)?;
-        answers.push_str(answer.as_str())?;
-        answers.push_str("; ")?;
+        add(&mut answers, answer_or_refusal(alloc, &mut writer, step))?;
     }
-    let written = octets_written(alloc, writer.finish())?;
-    answers.push_str(written.as_str())?;
+    add(&mut answers, octets_written(alloc, writer.finish()))?;
     Ok(answers)
 }
 
@@ -139,8 +131,13 @@ pub fn answer_of_slices(alloc: Global, word: &str, rest: &str) -> Result<String,
     let (room, octets) = rest.split_once(' ').ok_or(Refusal::Unread)?;
     let number = number_of(alloc, octets)?;
     let mut room = vec![in alloc; 9u8; room.parse::<usize>()?]?;
-    let written = hex_of(alloc, written_to(word, number, room.as_mut_slice())?)?;
-    beside(alloc, written.as_str(), " ", room.as_slice())
+    let written = written_hex(alloc, word, number, room.as_mut_slice());
+    joined(written, " ", hex_of(alloc, room.as_slice()))
+}
+
+/// What is written of a number to the front of a slice, in hex.
+fn written_hex(alloc: Global, word: &str, number: u8, room: &mut [u8]) -> Result<String, Refusal> {
+    hex_of(alloc, written_to(word, number, room)?)
 }
 
 /// The number that octets spell.
@@ -163,9 +160,18 @@ fn written_to<'a>(word: &str, number: u8, room: &'a mut [u8]) -> Result<&'a [u8]
 pub fn answer_of_vectors(alloc: Global, rest: &str) -> Result<String, Refusal> {
     let (octets, number) = rest.split_once(' ').ok_or(Refusal::Unread)?;
     let number = number_of(alloc, number)?;
-    let header = value_header(&EncodeValueRef(&number))?;
     let mut octets = octets_of(alloc, octets)?;
-    let len = encode_to_vec(&number, &mut octets)?;
-    let octets = hex_of(alloc, octets.as_slice())?;
-    Ok(format!(in alloc; "{octets} {len} {} {}", header.tag(), header.length())?)
+    let len = encode_to_vec(&number, &mut octets);
+    joined(
+        hex_of(alloc, octets.as_slice()),
+        " ",
+        lengths_of(alloc, len, number),
+    )
+}
+
+/// How many octets were written of a number, and the tag and the length of its header.
+fn lengths_of(alloc: Global, len: Result<Length, Error>, number: u8) -> Result<String, Refusal> {
+    let len = len?;
+    let header = value_header(&EncodeValueRef(&number))?;
+    Ok(format!(in alloc; "{len} {} {}", header.tag(), header.length())?)
 }

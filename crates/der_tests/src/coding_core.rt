@@ -1,7 +1,6 @@
-//! Tests of identifiers and of the coding core: capacities, types that have an identifier, orders of
-//! iterators and of choices.
+//! Tests of identifiers and of the coding core: capacities, types that have an identifier, orders
+//! of iterators.
 
-mod choices;
 mod coding;
 mod constants;
 mod held;

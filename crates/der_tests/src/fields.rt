@@ -2,13 +2,9 @@
 
 ghost use Rattle.der_types_tagged.specs.Fields.{IsClass};
 
-use der_core::{
-    Encode, EncodeValue, EncodingRules, Error, ErrorKind, FirstTag, FixedTag, Reader, SliceWriter,
-    Tag, TagMode, TagNumber, Tagged,
-};
+use der_core::{Error, ErrorKind, FirstTag, Reader, Tag, TagMode, TagNumber, Tagged};
 use der_types::{
-    Any, AnyRef, Application, ApplicationRef, ClassField, ClassFieldRef, ContextSpecific,
-    ContextSpecificRef, OctetStringRef, Private, PrivateRef,
+    Any, AnyRef, Application, ApplicationRef, ClassField, ContextSpecific, Private, PrivateRef,
 };
 use std::alloc::Global;
 use std::test::Fail;
@@ -42,55 +38,6 @@ fn tags_of_fields(rt: HostRuntime) {
     assert!(rt; !Private::<u8>::can_decode(context.tag()));
 }
 
-/// `A0 03 02 01 02` and `C3 01 02`, and their contents alone.
-const WRITTEN: [u8; 12] = [0xa0, 3, 2, 1, 2, 2, 1, 2, 0xc3, 1, 2, 2];
-
-/// Whether a field and its content have so many octets.
-fn has_lens<T: EncodeValue + FixedTag, const CLASS: u8>(
-    field: &ClassFieldRef<'_, T, CLASS>,
-    len: u32,
-    value_len: u32,
-) -> Result<bool, Error> {
-    Ok(field.encoded_len()?.value == len && field.value_len()?.value == value_len)
-}
-
-#[test]
-fn written_fields(rt: HostRuntime) -> Result<(), Fail> {
-    let front: ContextSpecific<u8> = field(TagMode::Explicit, 0, 2);
-    let place: Private<u8> = field(TagMode::Implicit, 3, 2);
-    assert!(rt; front.encoded_len()?.value == 5 && front.value_len()?.value == 3);
-    assert!(rt; place.encoded_len()?.value == 3 && place.value_len()?.value == 1);
-    let mut octets = [0; 12];
-    let mut writer = SliceWriter::new(&mut octets);
-    front.encode(&mut writer)?;
-    front.encode_value(&mut writer)?;
-    place.encode(&mut writer)?;
-    place.encode_value(&mut writer)?;
-    assert!(rt; writer.finish()? == WRITTEN.as_slice());
-    Ok(())
-}
-
-/// Fields that are lent are written alike.
-#[test]
-fn lent_fields(rt: HostRuntime) -> Result<(), Fail> {
-    let front: ContextSpecificRef<u8> = ClassFieldRef {
-        tag_number: TagNumber { value: 0 },
-        tag_mode: TagMode::Explicit,
-        value: &2,
-    };
-    let owned: Private<u8> = field(TagMode::Implicit, 3, 2);
-    let place: PrivateRef<u8> = owned.owned_to_ref();
-    assert!(rt; has_lens(&front, 5, 3)? && has_lens(&place, 3, 1)?);
-    let mut octets = [0; 12];
-    let mut writer = SliceWriter::new(&mut octets);
-    front.encode(&mut writer)?;
-    front.encode_value(&mut writer)?;
-    place.encode(&mut writer)?;
-    place.encode_value(&mut writer)?;
-    assert!(rt; writer.finish()? == WRITTEN.as_slice());
-    Ok(())
-}
-
 /// The tags of fields that are lent, and copies.
 #[test]
 fn tags_of_lent_fields(rt: HostRuntime) -> Result<(), Fail> {
@@ -121,14 +68,6 @@ fn any_values(rt: HostRuntime) -> Result<(), Fail> {
     assert!(rt; are_alike(alloc, &number, lent)?);
     assert!(rt; Any::null(alloc).is_null() && AnyRef::NULL.is_null() && !lent.is_null());
     assert!(rt; Any::null(alloc).owned_to_ref() == AnyRef::NULL);
-    Ok(())
-}
-
-#[test]
-fn any_values_by_rules(rt: HostRuntime) -> Result<(), Fail> {
-    let octets = AnyRef::new(Tag::OctetString, &[9])?;
-    let string = octets.decode_as_encoding::<OctetStringRef>(rt.alloc(), EncodingRules::Ber)?;
-    assert!(rt; string.as_bytes() == [9].as_slice());
     Ok(())
 }
 

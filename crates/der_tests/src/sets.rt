@@ -81,7 +81,8 @@ fn lists(rt: HostRuntime) -> Result<(), Fail> {
 /// content, and stands behind 5.
 fn is_extended(set: &mut SetOfVec<u8>) -> Result<bool, Error> {
     let was_empty = set.is_empty();
-    set.extend([5, 200, 5, 1])?;
+    set.extend([5, 200])?;
+    set.extend([5, 1])?;
     let refused = is_refused(set.insert_ordered(5), ErrorKind::SetOrdering);
     let members = set.as_slice() == [1, 5, 5, 200].as_slice();
     set.insert_ordered(201)?;

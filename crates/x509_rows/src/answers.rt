@@ -1,11 +1,12 @@
 //! Questions and their answers.
 
 use crate::drawn::{drawn, generated};
-use crate::lists::copied_of;
+use crate::lists::{copied_of, values_of};
 use crate::made::{default_of, digest_of, made_of};
 use crate::names::names_of;
 use crate::questions::{
-    Asked, Question, answer_of_ordered, answer_of_value, answer_with_order, asked_by,
+    Asked, Question, answer_of_ordered, answer_of_value, answer_with_order, answer_with_readers,
+    asked_by,
 };
 use crate::refusals::Refusal;
 use crate::shown::octets_of;
@@ -66,6 +67,7 @@ fn answer_about(alloc: Global, word: &str, kind: &str, values: &str) -> Result<S
         "from" => made_of(alloc, kind, values),
         "names" => names_of(alloc, kind, values),
         "copy" => copied_of(alloc, kind, values),
+        "values" => values_of(alloc, kind, values),
         "get" => got_of(alloc, kind, values),
         "sha1" => digest_of(alloc, kind, values),
         "generate" => generated(alloc, kind, values),
@@ -100,22 +102,22 @@ fn answer_of_parts(alloc: Global, kind: &str, question: &Question<'_>) -> Result
     match kind {
         "AlgorithmIdentifier" => answer_of_ordered::<AlgorithmIdentifier>(alloc, question),
         "AlgorithmIdentifierRef" => answer_of_value::<AlgorithmIdentifierRef>(alloc, question),
-        "SubjectPublicKeyInfo" => answer_of_ordered::<SubjectPublicKeyInfo>(alloc, question),
+        "SubjectPublicKeyInfo" => answer_of_value::<SubjectPublicKeyInfo>(alloc, question),
         "SubjectPublicKeyInfoRef" => answer_of_value::<SubjectPublicKeyInfoRef>(alloc, question),
         "Version" => answer_of_ordered::<Version>(alloc, question),
         "Extension" => answer_of_ordered::<Extension>(alloc, question),
         "Extensions" => answer_of_value::<Extensions>(alloc, question),
         "Time" => answer_with_order::<Time>(alloc, question),
-        "SerialNumber" => answer_of_ordered::<SerialNumber<Raw>>(alloc, question),
+        "SerialNumber" => answer_of_value::<SerialNumber<Raw>>(alloc, question),
         "SerialNumber/Rfc5280" => answer_of_value::<SerialNumber<Rfc5280>>(alloc, question),
-        "Validity" => answer_of_ordered::<Validity<Raw>>(alloc, question),
-        "Validity/Rfc5280" => answer_of_ordered::<Validity<Rfc5280>>(alloc, question),
-        "TbsCertificate" => answer_of_value::<TbsCertificateInner<Raw>>(alloc, question),
-        "TbsCertificate/Rfc5280" => answer_of_value::<TbsCertificateInner<Rfc5280>>(
+        "Validity" => answer_of_value::<Validity<Raw>>(alloc, question),
+        "Validity/Rfc5280" => answer_of_value::<Validity<Rfc5280>>(alloc, question),
+        "TbsCertificate" => answer_of_ordered::<TbsCertificateInner<Raw>>(alloc, question),
+        "TbsCertificate/Rfc5280" => answer_of_ordered::<TbsCertificateInner<Rfc5280>>(
             alloc, question,
         ),
-        "Certificate" => answer_of_value::<CertificateInner<Raw>>(alloc, question),
-        "Certificate/Rfc5280" => answer_of_value::<CertificateInner<Rfc5280>>(alloc, question),
+        "Certificate" => answer_with_readers::<CertificateInner<Raw>>(alloc, question),
+        "Certificate/Rfc5280" => answer_of_ordered::<CertificateInner<Rfc5280>>(alloc, question),
         _ => extensions::answer(alloc, kind, question),
     }
 }

@@ -6,7 +6,11 @@ use crate::{name_texts, relative_names};
 use const_oid::ObjectIdentifier;
 use der_core::{Encode, Error, from_der};
 use std::alloc::Global;
-use x509_cert::{AnyRef, DateTime, DirectoryString, FromAny, GeneralizedTime, Name, UtcTime};
+use std::convert::AsStr;
+use x509_cert::{
+    AnyRef, AttributeTypeAndValue, DateTime, DirectoryString, FromAny, GeneralizedTime, Name,
+    UtcTime,
+};
 use x509_cert_names::number_types::{IntRef, UintRef};
 use x509_cert_names::text_types::{
     GeneralStringRef, Ia5StringRef, PrintableStringRef, Utf8StringRef,
@@ -35,34 +39,49 @@ fn name_of(alloc: Global, octets: &str) -> Result<Name, Refusal> {
 /// The types and the values of a name's attributes.
 fn attributes(alloc: Global, octets: &str) -> Result<String, Refusal> {
     let name = name_of(alloc, octets)?;
+    attributes_in(alloc, &name)
+}
+
+/// The types and the values of these attributes.
+fn attributes_in(alloc: Global, name: &Name) -> Result<String, Refusal> {
     let mut text = String::new(alloc);
     for attribute in name.iter() {
         if !text.is_empty() {
-            text.push_str(" ")?;
+            text.push(' ')?;
         }
-        let value = written(alloc, &attribute.value)?;
-        text.push_str(format!(in alloc; "{} {value}", attribute.oid)?.as_str())?;
+        add_attribute(alloc, &mut text, attribute)?;
     }
     Ok(text)
+}
+
+/// Adds the type and the value of an attribute.
+fn add_attribute(
+    alloc: Global,
+    text: &mut String,
+    attribute: &AttributeTypeAndValue,
+) -> Result<(), Refusal> {
+    text.push_str(attribute.oid.to_string(alloc)?.as_str())?;
+    text.push(' ')?;
+    text.push_str(written(alloc, &attribute.value)?.as_str())?;
+    Ok(())
 }
 
 /// What a name has first of a type.
 pub fn first(alloc: Global, which: &str, octets: &str) -> Result<String, Refusal> {
     let name = name_of(alloc, octets)?;
+    first_in(alloc, which, &name)
+}
+
+/// What this name has first of a type.
+fn first_in(alloc: Global, which: &str, name: &Name) -> Result<String, Refusal> {
     match which {
         "common-name" => text_of(alloc, name.common_name(alloc)),
         "state" => text_of(alloc, name.state_or_province(alloc)),
         "locality" => text_of(alloc, name.locality(alloc)),
         "organization" => text_of(alloc, name.organization(alloc)),
         "unit" => text_of(alloc, name.organization_unit(alloc)),
-        "country" => {
-            let country = name.country()?;
-            or_none(alloc, country.map(|text| text.as_str()))
-        }
-        "email" => {
-            let email = name.email_address()?;
-            or_none(alloc, email.map(|text| text.as_str()))
-        }
+        "country" => lent_text(alloc, name.country()),
+        "email" => lent_text(alloc, name.email_address()),
         _ => Err(Refusal::Unread),
     }
 }
@@ -75,29 +94,50 @@ fn text_of(alloc: Global, text: Result<Option<DirectoryString>, Error>) -> Resul
     }
 }
 
+/// The text that a name lends, if there is one.
+fn lent_text<T: AsStr + Drop>(
+    alloc: Global,
+    text: Result<Option<T>, Error>,
+) -> Result<String, Refusal> {
+    match text? {
+        Some(text) => or_none(alloc, Some(text.as_str())),
+        None => or_none(alloc, None),
+    }
+}
+
 /// What the first attribute of a type is read as.
 pub fn by_oid(alloc: Global, kind: &str, rest: &str) -> Result<String, Refusal> {
     let (oid, octets) = rest.split_once(' ').ok_or(Refusal::Unread)?;
-    let name = name_of(alloc, octets)?;
     let oid: ObjectIdentifier<39> = oid.parse().ok().ok_or(Refusal::Unread)?;
+    let name = name_of(alloc, octets)?;
+    by_oid_in(alloc, kind, &name, oid)
+}
+
+/// What the first attribute of a type of this name is read as.
+fn by_oid_in(
+    alloc: Global,
+    kind: &str,
+    name: &Name,
+    oid: ObjectIdentifier<39>,
+) -> Result<String, Refusal> {
     match kind {
-        "AnyRef" => written_of::<AnyRef>(alloc, &name, oid),
-        "BitStringRef" => written_of::<BitStringRef>(alloc, &name, oid),
-        "DateTime" => written_of::<DateTime>(alloc, &name, oid),
-        "DirectoryString" => written_of::<DirectoryString>(alloc, &name, oid),
-        "GeneralStringRef" => written_of::<GeneralStringRef>(alloc, &name, oid),
-        "GeneralizedTime" => written_of::<GeneralizedTime>(alloc, &name, oid),
-        "Ia5StringRef" => written_of::<Ia5StringRef>(alloc, &name, oid),
-        "IntRef" => written_of::<IntRef>(alloc, &name, oid),
-        "ObjectIdentifier" => written_of::<ObjectIdentifier<39>>(alloc, &name, oid),
-        "OctetStringRef" => written_of::<OctetStringRef>(alloc, &name, oid),
-        "PrintableStringRef" => written_of::<PrintableStringRef>(alloc, &name, oid),
-        "SequenceRef" => written_of::<SequenceRef>(alloc, &name, oid),
-        "UintRef" => written_of::<UintRef>(alloc, &name, oid),
-        "UtcTime" => written_of::<UtcTime>(alloc, &name, oid),
-        "Utf8StringRef" => written_of::<Utf8StringRef>(alloc, &name, oid),
-        "bool" => written_of::<bool>(alloc, &name, oid),
-        "str" => written_of::<&str>(alloc, &name, oid),
+        "AnyRef" => written_of::<AnyRef>(alloc, name, oid),
+        "BitStringRef" => written_of::<BitStringRef>(alloc, name, oid),
+        "DateTime" => written_of::<DateTime>(alloc, name, oid),
+        "DirectoryString" => written_of::<DirectoryString>(alloc, name, oid),
+        "GeneralStringRef" => written_of::<GeneralStringRef>(alloc, name, oid),
+        "GeneralizedTime" => written_of::<GeneralizedTime>(alloc, name, oid),
+        "Ia5StringRef" => written_of::<Ia5StringRef>(alloc, name, oid),
+        "IntRef" => written_of::<IntRef>(alloc, name, oid),
+        "ObjectIdentifier" => written_of::<ObjectIdentifier<39>>(alloc, name, oid),
+        "OctetStringRef" => written_of::<OctetStringRef>(alloc, name, oid),
+        "PrintableStringRef" => written_of::<PrintableStringRef>(alloc, name, oid),
+        "SequenceRef" => written_of::<SequenceRef>(alloc, name, oid),
+        "UintRef" => written_of::<UintRef>(alloc, name, oid),
+        "UtcTime" => written_of::<UtcTime>(alloc, name, oid),
+        "Utf8StringRef" => written_of::<Utf8StringRef>(alloc, name, oid),
+        "bool" => written_of::<bool>(alloc, name, oid),
+        "str" => written_of::<&str>(alloc, name, oid),
         _ => Err(Refusal::Unread),
     }
 }

@@ -1,30 +1,30 @@
 //! Questions about revocation lists, certification requests, trust anchors and names.
 
-use crate::questions::{Question, answer_of, answer_of_value, copied};
+use crate::questions::{Question, answer_of, answer_of_ordered, answer_of_value, copied};
 use crate::refusals::Refusal;
-use crate::shown::{octets_of, written};
-use der_core::from_der;
+use crate::shown::{joined, octets_of, shown, written};
+use der_core::{StrictSetOf, from_der};
 use std::alloc::Global;
 use x509_cert::{
-    Attribute, AttributeTypeAndValue, CertPathControls, CertReq, CertReqInfo, CertificateList,
-    DirectoryString, ExtensionReq, Name, PkiPath, Raw, RdnSequence, RelativeDistinguishedName,
-    RevokedCert, Rfc5280, SubjectDirectoryAttributes, TbsCertList, TrustAnchorChoice,
-    TrustAnchorInfo,
+    Attribute, AttributeTypeAndValue, AttributeValue, CertPathControls, CertReq, CertReqInfo,
+    CertificateList, DirectoryString, ExtensionReq, Name, PkiPath, Raw, RdnSequence,
+    RelativeDistinguishedName, RevokedCert, Rfc5280, SubjectDirectoryAttributes, TbsCertList,
+    TrustAnchorChoice, TrustAnchorInfo,
 };
 
 /// The answer of a type that this page names.
 pub fn answer(alloc: Global, kind: &str, question: &Question<'_>) -> Result<String, Refusal> {
     match kind {
-        "CertificateList" => answer_of_value::<CertificateList<Raw>>(alloc, question),
+        "CertificateList" => answer_of_ordered::<CertificateList<Raw>>(alloc, question),
         "CertificateList/Rfc5280" => answer_of_value::<CertificateList<Rfc5280>>(alloc, question),
-        "TbsCertList" => answer_of_value::<TbsCertList<Raw>>(alloc, question),
+        "TbsCertList" => answer_of_ordered::<TbsCertList<Raw>>(alloc, question),
         "TbsCertList/Rfc5280" => answer_of_value::<TbsCertList<Rfc5280>>(alloc, question),
-        "RevokedCert" => answer_of_value::<RevokedCert<Raw>>(alloc, question),
+        "RevokedCert" => answer_of_ordered::<RevokedCert<Raw>>(alloc, question),
         "RevokedCert/Rfc5280" => answer_of_value::<RevokedCert<Rfc5280>>(alloc, question),
         "CertReq" => answer_of_value::<CertReq>(alloc, question),
         "CertReqInfo" => answer_of_value::<CertReqInfo>(alloc, question),
         "PkiPath" => answer_of_value::<PkiPath>(alloc, question),
-        "ExtensionReq" => answer_of_value::<ExtensionReq>(alloc, question),
+        "ExtensionReq" => answer_of_ordered::<ExtensionReq>(alloc, question),
         "TrustAnchorChoice" => answer_of::<TrustAnchorChoice<Raw>>(alloc, question),
         "TrustAnchorChoice/Rfc5280" => answer_of::<TrustAnchorChoice<Rfc5280>>(alloc, question),
         "TrustAnchorInfo" => answer_of_value::<TrustAnchorInfo<Raw>>(alloc, question),
@@ -67,4 +67,38 @@ pub fn copied_of(alloc: Global, kind: &str, octets: &str) -> Result<String, Refu
 fn copied_string(alloc: Global, octets: &[u8]) -> Result<String, Refusal> {
     let text: DirectoryString = from_der(alloc, octets)?;
     written(alloc, &text.clone(alloc)?)
+}
+
+/// The values of an attribute: how many they are, each in turn, and the one at an index.
+pub fn values_of(alloc: Global, index: &str, octets: &str) -> Result<String, Refusal> {
+    let index = index.parse::<usize>()?;
+    let octets = octets_of(alloc, octets)?;
+    let attribute: Attribute = from_der(alloc, octets.as_slice())?;
+    let values = &attribute.values;
+    joined(listed(alloc, values), "; ", value_at(alloc, values, index))
+}
+
+/// How many values there are, and what is written of each.
+fn listed(alloc: Global, values: &StrictSetOf<AttributeValue>) -> Result<String, Refusal> {
+    if values.is_empty() {
+        return shown(alloc, "0");
+    }
+    let mut text = values.len().to_string(alloc)?;
+    for value in values.iter() {
+        text.push(' ')?;
+        text.push_str(written(alloc, value)?.as_str())?;
+    }
+    Ok(text)
+}
+
+/// What is written of the value at an index, if there is one.
+fn value_at(
+    alloc: Global,
+    values: &StrictSetOf<AttributeValue>,
+    index: usize,
+) -> Result<String, Refusal> {
+    match values.get(index) {
+        Some(value) => written(alloc, value),
+        None => shown(alloc, "none"),
+    }
 }

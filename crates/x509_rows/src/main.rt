@@ -1,11 +1,11 @@
-//! Answers questions about certificates, names, timestamps and their parts: a line of standard input
-//! each, a line of standard output for each.
+//! Answers questions about certificates, names, timestamps and their parts: a line of standard
+//! input each, a line of standard output for each.
 //!
 //! | Question | Answer |
 //! |---|---|
-//! | `der TYPE HEX`, `ber TYPE HEX` | `ok HEX`, the octets that the value writes that these spell by DER or BER |
-//! | `front TYPE HEX` | `ok HEX HEX`, what is written of the value at the front, and the octets behind it |
-//! | `twice TYPE HEX` | `ok ANSWER; ANSWER`, what is written of the values that a reader reads by two calls, or why there is none |
+//! | `der TYPE HEX` | `ok HEX`, the octets that the value writes that these spell |
+//! | `front Certificate HEX` | `ok HEX HEX`, what is written of the certificate at the front, and the octets behind it |
+//! | `twice Certificate HEX` | `ok ANSWER; ANSWER`, what is written of the certificates that a reader reads by two calls, or why there is none |
 //! | `order TYPE HEX HEX` | `ok Less`, `ok Equal` or `ok Greater`, the order of two encodings |
 //! | `text TYPE HEX` | `ok TEXT`, what the value prints |
 //! | `from TYPE TEXT` | `ok HEX`, the octets that the value writes that the type makes of a text, or of the octets of a number or of another value; or `none` |
@@ -14,6 +14,7 @@
 //! | `names TYPE HEX` | `ok` and the usages of a `KeyUsage`, or the names of a `SubjectAltName` |
 //! | `debug TYPE HEX` | `ok TEXT`, the value as `{:?}` prints it |
 //! | `copy TYPE HEX` | `ok HEX`, the octets that a copy of the value writes that these spell, if it is equal to the value; of a lent one that of the value of its own that it gives |
+//! | `values INDEX HEX` | `ok N HEX ..; HEX`: how many values an attribute has, what is written of each, and of the one at the index; `none` where there is none there |
 //! | `extension TYPE HEX HEX` | `ok HEX`, the extension that a value gives the certificate of a subject: the subject's name, and the value |
 //! | `get TYPE HEX` | `ok HEX`, the content of a certificate's one extension of the type, `critical ` in front of that of a critical one, or `none` |
 //! | `sha1 TYPE HEX` | `ok HEX`, the digest of a certificate |

@@ -1,11 +1,11 @@
 //! What is asked of the values of a type.
 
 use crate::refusals::Refusal;
-use crate::shown::{hex_of, or_refusal, written, written_in};
+use crate::shown::{hex_of, joined, or_refusal, written, written_in};
 use const_oid::AssociatedOid;
 use der_core::{
     Decode, DecodeValue, DerOrd, Encode, EncodeValue, Error, FixedTag, SliceReader, ValueOrd,
-    from_ber, from_der, from_der_partial,
+    from_der, from_der_partial,
 };
 use std::alloc::Global;
 use std::cmp::Ordering;
@@ -17,8 +17,6 @@ use x509_cert::{Criticality, Name, ToExtension};
 pub enum Asked {
     /// What is written of the value that octets spell by DER.
     Der,
-    /// What is written of the value that octets spell by BER.
-    Ber,
     /// What is written of the value that octets begin with, and the octets behind it.
     Front,
     /// What a reader of the octets answers to a first call, and to a second one.
@@ -45,7 +43,6 @@ pub struct Question<'a> {
 pub fn asked_by(word: &str) -> Result<Asked, Refusal> {
     match word {
         "der" => Ok(Asked::Der),
-        "ber" => Ok(Asked::Ber),
         "front" => Ok(Asked::Front),
         "twice" => Ok(Asked::Twice),
         "order" => Ok(Asked::Order),
@@ -62,9 +59,6 @@ pub fn answer_of<'a, T: Decode<'a, SliceReader<'a>> + Encode>(
 ) -> Result<String, Refusal> {
     match question.asked {
         Asked::Der => written_in(alloc, from_der::<T>(alloc, question.first)),
-        Asked::Ber => written_in(alloc, from_ber::<T>(alloc, question.first)),
-        Asked::Front => front_written(alloc, from_der_partial::<T>(alloc, question.first)),
-        Asked::Twice => read_twice::<T>(alloc, question.first),
         _ => Err(Refusal::Unread),
     }
 }
@@ -75,9 +69,7 @@ fn front_written<T: Encode + Drop>(
     front: Result<(T, &[u8]), Error>,
 ) -> Result<String, Refusal> {
     let (value, behind) = front?;
-    let value = written(alloc, &value)?;
-    let behind = hex_of(alloc, behind)?;
-    Ok(format!(in alloc; "{value} {behind}")?)
+    joined(written(alloc, &value), " ", hex_of(alloc, behind))
 }
 
 /// What is written of the two values that one reader of the octets reads, or why it reads none.
@@ -86,9 +78,9 @@ fn read_twice<'a, T: Decode<'a, SliceReader<'a>> + Encode + Drop>(
     octets: &'a [u8],
 ) -> Result<String, Refusal> {
     let mut reader = SliceReader::new(octets)?;
-    let first = or_refusal(alloc, written_in(alloc, T::decode(alloc, &mut reader)))?;
-    let second = or_refusal(alloc, written_in(alloc, T::decode(alloc, &mut reader)))?;
-    Ok(format!(in alloc; "{first}; {second}")?)
+    let first = or_refusal(alloc, written_in(alloc, T::decode(alloc, &mut reader)));
+    let second = or_refusal(alloc, written_in(alloc, T::decode(alloc, &mut reader)));
+    joined(first, "; ", second)
 }
 
 /// The answer of a type that is compared, too.
@@ -117,6 +109,19 @@ pub fn answer_of_ordered<
     T: DecodeValue<'a, SliceReader<'a>> + EncodeValue + FixedTag + ValueOrd,
 >(alloc: Global, question: &Question<'a>) -> Result<String, Refusal> {
     answer_with_order::<T>(alloc, question)
+}
+
+/// The answer of a type with one tag that is compared, and read at the front of octets and by a
+/// reader, too.
+pub fn answer_with_readers<
+    'a,
+    T: DecodeValue<'a, SliceReader<'a>> + EncodeValue + FixedTag + ValueOrd,
+>(alloc: Global, question: &Question<'a>) -> Result<String, Refusal> {
+    match question.asked {
+        Asked::Front => front_written(alloc, from_der_partial::<T>(alloc, question.first)),
+        Asked::Twice => read_twice::<T>(alloc, question.first),
+        _ => answer_with_order::<T>(alloc, question),
+    }
 }
 
 /// The answer of a type that is the content of an extension.

@@ -115,11 +115,16 @@ pub fn turned(alloc: Global, octets: &str) -> Result<String, Refusal> {
 /// How many attributes a relative name has, and what is written of each.
 pub fn members(alloc: Global, octets: &str) -> Result<String, Refusal> {
     let name = relative_name_of(alloc, octets)?;
+    members_in(alloc, &name)
+}
+
+/// How many attributes this relative name has, and what is written of each.
+fn members_in(alloc: Global, name: &RelativeDistinguishedName) -> Result<String, Refusal> {
     let members = name.iter();
-    let mut text = format!(in alloc; "{}", members.len())?;
+    let mut text = members.len().to_string(alloc)?;
     for attribute in members {
-        let written = written(alloc, attribute)?;
-        text.push_str(format!(in alloc; " {written}")?.as_str())?;
+        text.push(' ')?;
+        text.push_str(written(alloc, attribute)?.as_str())?;
     }
     Ok(text)
 }

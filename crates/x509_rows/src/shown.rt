@@ -5,7 +5,8 @@
 
 use crate::refusals::Refusal;
 use der_core::{Encode, Error, to_der};
-use std::alloc::{AllocError, Global};
+use std::alloc::Global;
+use std::fmt;
 use std::fmt::Display;
 
 /// What a value prints.
@@ -52,6 +53,19 @@ pub fn or_refusal(alloc: Global, answer: Result<String, Refusal>) -> Result<Stri
     }
 }
 
+/// Two answers, and what stands between them. Each is held here alone, and the first refusal is
+/// told.
+pub fn joined(
+    first: Result<String, Refusal>,
+    between: &str,
+    second: Result<String, Refusal>,
+) -> Result<String, Refusal> {
+    let mut text = first?;
+    text.push_str(between)?;
+    text.push_str(second?.as_str())?;
+    Ok(text)
+}
+
 /// The octets that hexadecimal digits spell.
 pub fn octets_of(alloc: Global, digits: &str) -> Result<Vec<u8>, Refusal> {
     Ok(hex::decode(alloc, digits.as_bytes())?)
@@ -66,10 +80,18 @@ pub fn dashed_octets_of(alloc: Global, text: &str) -> Result<Vec<u8>, Refusal> {
     }
 }
 
-/// The text of octets.
-pub fn dashed_hex_of(alloc: Global, octets: &[u8]) -> Result<String, AllocError> {
-    if octets.is_empty() {
-        return "-".to_string(alloc);
+/// Octets, in hex; a dash for none.
+#[derive(Clone, Copy)]
+pub struct Dashed<'a>(pub &'a [u8]);
+
+impl fmt::Display for Dashed<'_> {
+    fn fmt<W: fmt::Write>(&self, f: &mut fmt::Formatter<W>) -> fmt::Result {
+        if self.0.is_empty() {
+            return f.write_str("-");
+        }
+        for octet in self.0 {
+            write!(f, "{octet:02x}")?;
+        }
+        Ok(())
     }
-    hex::encode(alloc, octets)
 }

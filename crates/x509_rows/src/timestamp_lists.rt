@@ -1,9 +1,10 @@
 //! Lists of timestamps.
 
 use crate::refusals::Refusal;
-use crate::shown::{dashed_hex_of, dashed_octets_of, written};
+use crate::shown::{Dashed, dashed_octets_of, written};
 use der_core::from_der;
 use std::alloc::Global;
+use std::fmt::Write;
 use x509_cert::timestamps::{SerializedSct, SignedCertificateTimestampList};
 
 /// The octets of each timestamp of the list that octets spell.
@@ -21,7 +22,7 @@ fn members_in(alloc: Global, members: &[SerializedSct]) -> Result<String, Refusa
         if !text.is_empty() {
             text.push(' ')?;
         }
-        text.push_str(dashed_hex_of(alloc, member.data.as_slice())?.as_str())?;
+        write!(text, "{}", Dashed(member.data.as_slice()))?;
     }
     Ok(text)
 }
@@ -31,12 +32,16 @@ fn members_in(alloc: Global, members: &[SerializedSct]) -> Result<String, Refusa
 pub fn list_read(alloc: Global, members: &str) -> Result<String, Refusal> {
     let mut timestamps = Vec::new(alloc);
     for octets in members.split_whitespace() {
-        let data = dashed_octets_of(alloc, octets)?;
-        let timestamp = SerializedSct { data }.parse_timestamp(alloc)?;
-        timestamps.push(SerializedSct::new(alloc, timestamp)?)?;
+        timestamps.push(read_again(alloc, octets)?)?;
     }
-    let list = SignedCertificateTimestampList::new(alloc, timestamps.as_slice())?;
-    written(alloc, &list)
+    list_written(alloc, timestamps.as_slice())
+}
+
+/// The timestamp that octets spell, read and written again.
+fn read_again(alloc: Global, octets: &str) -> Result<SerializedSct, Refusal> {
+    let data = dashed_octets_of(alloc, octets)?;
+    let timestamp = SerializedSct { data }.parse_timestamp(alloc)?;
+    Ok(SerializedSct::new(alloc, timestamp)?)
 }
 
 /// What is written of the list of timestamps of these octets.
@@ -46,6 +51,11 @@ pub fn list_of(alloc: Global, members: &str) -> Result<String, Refusal> {
         let data = dashed_octets_of(alloc, octets)?;
         timestamps.push(SerializedSct { data })?;
     }
-    let list = SignedCertificateTimestampList::new(alloc, timestamps.as_slice())?;
+    list_written(alloc, timestamps.as_slice())
+}
+
+/// What is written of the list of these timestamps.
+fn list_written(alloc: Global, timestamps: &[SerializedSct]) -> Result<String, Refusal> {
+    let list = SignedCertificateTimestampList::new(alloc, timestamps)?;
     written(alloc, &list)
 }

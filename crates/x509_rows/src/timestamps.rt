@@ -1,7 +1,7 @@
 //! Timestamps and their dates.
 
 use crate::refusals::Refusal;
-use crate::shown::{dashed_hex_of, dashed_octets_of, shown};
+use crate::shown::{Dashed, dashed_octets_of, shown};
 use crate::timestamp_lists::{list_of, list_read, members_of};
 use crate::tls_values::{length_of, length_of_list};
 use std::alloc::Global;
@@ -34,12 +34,12 @@ fn parts_of(alloc: Global, octets: &str) -> Result<String, Refusal> {
 fn parts_in(alloc: Global, timestamp: &SignedCertificateTimestamp) -> Result<String, Refusal> {
     let date = timestamp.timestamp()?;
     let version = &timestamp.version;
-    let log = dashed_hex_of(alloc, timestamp.log_id.key_id.as_slice())?;
+    let log = Dashed(timestamp.log_id.key_id.as_slice());
     let milliseconds = timestamp.timestamp;
-    let extensions = dashed_hex_of(alloc, timestamp.extensions.as_slice())?;
+    let extensions = Dashed(timestamp.extensions.as_slice());
     let algorithm = &timestamp.signature.algorithm;
     let (hash, signature) = (&algorithm.hash, &algorithm.signature);
-    let octets = dashed_hex_of(alloc, timestamp.signature.signature.as_slice())?;
+    let octets = Dashed(timestamp.signature.signature.as_slice());
     Ok(format!(in alloc;
         "{version:?} {log} {milliseconds} {date} {extensions} {hash:?} {signature:?} {octets}"
     )?)

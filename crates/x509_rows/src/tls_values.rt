@@ -1,7 +1,7 @@
 //! Values in the presentation language of TLS.
 
 use crate::refusals::Refusal;
-use crate::shown::{dashed_hex_of, dashed_octets_of, shown};
+use crate::shown::{Dashed, dashed_octets_of, shown};
 use der_core::to_der;
 use std::alloc::Global;
 use x509_cert::timestamps::{
@@ -34,9 +34,7 @@ fn written<T: TlsValue>(alloc: Global, octets: &[u8]) -> Result<String, Refusal>
     if value.tls_serialized_len() != output.len() {
         return Err(Refusal::Length);
     }
-    let output = dashed_hex_of(alloc, output.as_slice())?;
-    let rest = dashed_hex_of(alloc, rest)?;
-    Ok(format!(in alloc; "{output} {rest}")?)
+    Ok(format!(in alloc; "{} {}", Dashed(output.as_slice()), Dashed(rest))?)
 }
 
 /// How many octets spell the timestamp of so many octets.

@@ -1,9 +1,9 @@
-//! Orders of iterators and of choices, and calls that no row makes.
+//! Orders of iterators, and calls that no row makes.
 
 use der_core::making::value_cmp_behind;
 use der_core::{
-    BytesRef, Class, DerOrd, Error, ErrorKind, Explicit, FirstTag, Header, Implicit, IsConstructed,
-    Length, OneOf2, Tag, TagNumber, iter_cmp, iter_cmp_owned,
+    BytesRef, Class, Error, ErrorKind, Header, IsConstructed, Length, Tag, TagNumber, iter_cmp,
+    iter_cmp_owned,
 };
 use std::alloc::Global;
 use std::cmp::Ordering;
@@ -33,25 +33,6 @@ fn orders_of_iterators(rt: HostRuntime) -> Result<(), Fail> {
         assert!(rt; order_of_owned(alloc, these, others)? == order);
     }
     assert!(rt; iter_cmp_owned(Some(5u8).into_iter(), None.into_iter())? == Greater);
-    Ok(())
-}
-
-/// `01 01 FF`, `02 01 05`, `0C 01 61`; `A0 03 02 01 05` and `81 01 05`.
-#[test]
-fn orders_of_choices(rt: HostRuntime) -> Result<(), Fail> {
-    let flag: OneOf2<bool, OneOf2<u8, &str>> = OneOf2::First(true);
-    let number = OneOf2::Second(OneOf2::First(5));
-    let text = OneOf2::Second(OneOf2::Second("a"));
-    assert!(rt; flag.der_cmp(&number)? == Less);
-    assert!(rt; text.der_cmp(&flag)? == Greater);
-    assert!(rt; text.der_cmp(&number)? == Greater);
-    assert!(rt; flag.der_cmp(&OneOf2::First(false))? == Greater);
-    assert!(rt; number.first_tag() == Some(Tag::Integer));
-    assert!(rt; flag.first_tag() == Some(Tag::Boolean));
-    let explicit: OneOf2<Explicit<u8, 0>, Implicit<u8, 1>> = OneOf2::First(Explicit { value: 5 });
-    let implicit = OneOf2::Second(Implicit { value: 5 });
-    assert!(rt; explicit.der_cmp(&implicit)? == Greater);
-    assert!(rt; implicit.der_cmp(&explicit)? == Less);
     Ok(())
 }
 

@@ -1,7 +1,9 @@
 //! Octets and texts that are held.
 
 use der_core::{BytesOwned, BytesRef, Error, StringOwned, StringRef};
+use std::alloc::{AllocError, Global};
 use std::cmp::Ordering::Less;
+use std::fmt::Debug;
 use std::hash::{DefaultHasher, Hash, Hasher};
 use std::test::Fail;
 
@@ -12,48 +14,46 @@ fn hash_of<T: Hash>(value: &T) -> u64 {
     state.finish()
 }
 
-/// Whether octets are the same, or less than longer ones.
-fn are_octets(octets: &BytesOwned, copy: &BytesOwned, longer: &BytesOwned) -> bool {
-    copy == octets && longer != octets && octets.cmp(longer) == Less
+/// Whether a value prints this for debugging.
+fn is_shown<T: Debug>(alloc: Global, value: &T, text: &str) -> Result<bool, AllocError> {
+    Ok(format!(in alloc; "{value:?}")?.as_str() == text)
 }
 
-/// Whether lent octets hash as those that are held.
-fn octets_hash(octets: &BytesOwned) -> Result<bool, Error> {
-    Ok(hash_of(octets) == hash_of(&BytesRef::new(octets.as_slice())?))
+/// Whether a value is another one than a greater one.
+fn is_less<T: Ord>(value: &T, greater: &T) -> bool {
+    *value != *greater && value.cmp(greater) == Less
+}
+
+/// Whether octets equal a copy, and lent ones hash as they do.
+fn are_octets(alloc: Global, octets: &BytesOwned) -> Result<bool, Error> {
+    let same = octets.clone(alloc)? == *octets;
+    Ok(same && hash_of(octets) == hash_of(&BytesRef::new(octets.as_slice())?))
 }
 
 #[test]
 fn held_octets(rt: HostRuntime) -> Result<(), Fail> {
     let alloc = rt.alloc();
     let octets = BytesOwned::new([1, 2].to_vec(alloc)?)?;
-    let longer = BytesOwned::new([1, 2, 0].to_vec(alloc)?)?;
-    let copy = octets.clone(alloc)?;
-    assert!(rt; are_octets(&octets, &copy, &longer) && octets_hash(&copy)?);
-    let shown = format!(in alloc; "{octets:?}")?;
-    assert!(rt; shown.as_str() == "BytesOwned { bytes: [1, 2] }");
-    assert!(rt; copy.into_vec().as_slice() == [1, 2].as_slice());
+    assert!(rt; are_octets(alloc, &octets)?);
+    assert!(rt; is_less(&octets, &BytesOwned::new([1, 2, 0].to_vec(alloc)?)?));
+    assert!(rt; is_shown(alloc, &octets, "BytesOwned { bytes: [1, 2] }")?);
+    assert!(rt; octets.into_vec().as_slice() == [1, 2].as_slice());
     Ok(())
 }
 
-/// Whether texts are the same, or less than longer ones.
-fn are_texts(text: &StringOwned, copy: &StringOwned, longer: &StringOwned) -> bool {
-    copy == text && longer != text && text.cmp(longer) == Less
-}
-
-/// Whether a lent text hashes as one that is held.
-fn texts_hash(text: &StringOwned) -> Result<bool, Error> {
-    Ok(hash_of(text) == hash_of(&StringRef::new(text.as_str())?))
+/// Whether a text equals a copy, and a lent one hashes as it does.
+fn is_text(alloc: Global, text: &StringOwned) -> Result<bool, Error> {
+    let same = text.clone(alloc)? == *text;
+    Ok(same && hash_of(text) == hash_of(&StringRef::new(text.as_str())?))
 }
 
 #[test]
 fn held_texts(rt: HostRuntime) -> Result<(), Fail> {
     let alloc = rt.alloc();
     let text = StringOwned::from_bytes(alloc, b"ab")?;
-    let longer = StringOwned::from_bytes(alloc, b"abc")?;
-    let copy = text.clone(alloc)?;
-    assert!(rt; are_texts(&text, &copy, &longer) && texts_hash(&copy)?);
-    let shown = format!(in alloc; "{text:?}")?;
-    assert!(rt; shown.as_str() == "StringOwned { text: \"ab\" }");
-    assert!(rt; copy.into_string().as_str() == "ab");
+    assert!(rt; is_text(alloc, &text)?);
+    assert!(rt; is_less(&text, &StringOwned::from_bytes(alloc, b"abc")?));
+    assert!(rt; is_shown(alloc, &text, "StringOwned { text: \"ab\" }")?);
+    assert!(rt; text.into_string().as_str() == "ab");
     Ok(())
 }
