@@ -23,6 +23,8 @@ PY
 
 cp "$here"/{root,chain,server,nameless,limited}.der .
 "$tool" questions root.der chain.der 4000 | "$here/answer.sh" > answers.txt
+cat root.der chain.der > whole.der
+"$tool" questions root.der whole.der 4000 | "$here/answer.sh" > whole.txt
 
 # the last octet of the intermediate's signature, and of the server's
 python3 - <<'PY'
@@ -33,6 +35,7 @@ def changed(place):
     return bytes(other)
 open("forged.der", "wb").write(changed(len(octets) - 1))
 open("forged_first.der", "wb").write(changed(697))
+open("forged_last.der", "wb").write(open("root.der", "rb").read() + changed(len(octets) - 1))
 # parts of the server's certificate, each faulty in one way
 server = bytearray(open("server.der", "rb").read())
 def faulty(name, place, *replaced):

@@ -55,10 +55,12 @@ asked 'subordinate' "$(text "$(built 'subordinate o 1')")" 'CA:TRUE, pathlen:1' 
     'Digital Signature, Certificate Sign, CRL Sign'
 asked 'subscriber' "$(text "$(built 'subscriber - domain')")" 'CA:FALSE' 'DNS:s.example'
 
-# whole WORD PLACE: what it builds of the question of this place that begins so
+# whole WORD PLACE: what it builds of the question of this place that begins so, and whose signer
+# doesn't refuse
 whole() {
     local rows=$top/crates/builder_rows
-    grep "^$1 whole" "$rows/stdin" | sed -n "$2p" | "$rows/out/builder_rows" | sed -n 's/^ok //p'
+    grep "^$1 whole [0-9a-f]" "$rows/stdin" | sed -n "$2p" | "$rows/out/builder_rows" |
+        sed -n 's/^ok //p'
 }
 asked 'list of two' "$(text_of crl "$(whole list 2)")" 'Issuer: CN=r,O=o,C=US' \
     'Serial Number: 05' 'Serial Number: 01' 'X509v3 CRL Reason Code'

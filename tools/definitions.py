@@ -177,9 +177,10 @@ def page():
     told = (
         f"{len(proofs)} of them. Nothing has to be read of these. An `impl` names {counted} in "
         "its ghost members, as that an order is total, and such a member can't import from "
-        f"`proofs/` of its own crate; {serving} serve these; each other one is marked `*`, and "
-        "belongs there."
+        f"`proofs/` of its own crate; {serving} serve these"
     )
+    more = len(proofs) - counted - serving
+    told += "; each other one is marked `*`, and belongs there." if more else "."
     lines += [told, ""]
     places = collections.OrderedDict()
     for proof in proofs:

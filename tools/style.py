@@ -6,6 +6,7 @@
     tools/style.py --lines [CRATE..]    where the long lines stand
     tools/style.py --comments [CRATE..] where a comment begins with a word that needs another one
                                         (`The same`, `It`)
+    tools/style.py --check              both, but for proofs; the status is 1 where there is one
 
 Imports (`use`) and attributes (`#[tactic(..)]`) are put on one line by `rt fmt`, rows of tables
 can't be broken, and none of these is counted. Such a word behind another sentence of one comment is
@@ -63,6 +64,12 @@ def main(words):
     flags = {word for word in words if word.startswith("--")}
     crates = [word for word in words if word not in flags]
     crates = crates or sources.closure(sources.dependencies())
+    if "--check" in flags:
+        found = [it for crate in crates for it in [*long_lines(crate), *leaning(crate)]]
+        found = [it for it in found if it[2] != "proofs"]
+        for path, number, kind in found:
+            print(f"{path.relative_to(sources.TOP)}:{number}: {kind}")
+        return bool(found)
     if flags:
         for crate in crates:
             for path, number, kind in long_lines(crate) if "--lines" in flags else leaning(crate):

@@ -7,7 +7,7 @@
     tools/take.py --list CRATE..            prints the lines of crates.txt alone
 
 Of a crate it takes src/, specs/ and proofs/; with --edits must-fail/ too, which `rt ci` tries
-there. It writes into FOLDER/TAKEN.md which version was taken. It needs nothing but Python.
+there. It writes into FOLDER/TAKEN.md of which version each crate is. It needs nothing but Python.
 """
 
 import pathlib
@@ -35,6 +35,24 @@ def lines_of(names):
     return {name: f"{name}: {' '.join(crates[name])}".rstrip() for name in sources.closure(names)}
 
 
+def note(path, taken):
+    """Writes of which version each crate is: those that were taken now of this one."""
+    number, commit = version()
+    head, versions = "", {}
+    for line in path.read_text().splitlines() if path.exists() else []:
+        if line.startswith("- "):
+            versions[line[3:-1]] = head
+        elif line:
+            head = line
+    now = f"Taken from Wurstdrape {number}, commit {commit}, under Apache-2.0 or MIT:"
+    versions.update(dict.fromkeys(taken, now))
+    parts = []
+    for head in dict.fromkeys(versions.values()):
+        names = [f"- `{name}`" for name in versions if versions[name] == head]
+        parts.append("\n".join([head, "", *names]))
+    path.write_text("\n\n".join(parts) + "\n")
+
+
 def take(names, folder, again, edits):
     folder = pathlib.Path(folder)
     (folder / "crates").mkdir(parents=True, exist_ok=True)
@@ -59,10 +77,7 @@ def take(names, folder, again, edits):
             text += ("" if not text or text.endswith("\n") else "\n") + line + "\n"
         taken.append(name)
     listing.write_text(text)
-    number, commit = version()
-    note = [f"Taken from Wurstdrape {number}, commit {commit}, under Apache-2.0 or MIT:", ""]
-    note += [f"- `{name}`" for name in lines_of(names)]
-    (folder / "TAKEN.md").write_text("\n".join(note) + "\n")
+    note(folder / "TAKEN.md", taken)
     libraries = sources.kit_libraries(names)
     print(f"taken: {' '.join(taken) or 'nothing'}")
     print(f"libraries of the kit: {' '.join(libraries) or 'none'}")
