@@ -1,5 +1,6 @@
 //! Why octets give no anchors.
 
+use crate::lines::Lines;
 use crate::refusal::is_pem;
 use crate::stream_refusal::{PEM_STREAM, add_malformed};
 use cert_desk_checking::{AnchorFault, Outcome, read_anchors};
@@ -16,20 +17,16 @@ fn meaning(fault: AnchorFault) -> &'static str {
 }
 
 // Adds the fault of the anchor that begins at an offset.
-fn add_anchor_fault(
-    alloc: Global,
-    text: &mut String,
-    octets: &[u8],
-    offset: u64,
-    fault: AnchorFault,
-) -> Result<(), AllocError> {
-    writeln!(text, "anchor at octet {offset}: {}", meaning(fault))?;
+fn add_anchor_fault(lines: &mut Lines<'_>, octets: &[u8], offset: u64, fault: AnchorFault) {
+    lines.count("anchor at octet ", offset, ": ");
+    lines.push(meaning(fault));
+    lines.push("\n");
     let start = offset as usize;
     match fault {
         AnchorFault::Malformed if start <= octets.len() => {
-            add_malformed(alloc, text, &octets[start..], offset)
+            add_malformed(lines, &octets[start..], offset);
         }
-        _ => Ok(()),
+        _ => {}
     }
 }
 
@@ -43,17 +40,17 @@ fn count_anchors(alloc: Global, octets: &[u8]) -> Result<usize, Outcome> {
 
 // Why octets aren't trust anchors, as `run_explain_anchors` says it.
 pub(crate) fn explain_anchors(alloc: Global, octets: &[u8]) -> Result<String, AllocError> {
-    let mut text = String::new(alloc);
+    let mut lines = Lines::without_names(alloc);
     if is_pem(octets) {
-        text.push_str(PEM_STREAM)?;
-        return Ok(text);
+        lines.push(PEM_STREAM);
+        return lines.finish();
     }
     match count_anchors(alloc, octets) {
-        Ok(count) => writeln!(text, "anchors: {count}, each with a name and a key")?,
+        Ok(count) => lines.count("anchors: ", count as u64, ", each with a name and a key\n"),
         Err(Outcome::BadAnchors { offset, fault }) => {
-            add_anchor_fault(alloc, &mut text, octets, offset, fault)?;
+            add_anchor_fault(&mut lines, octets, offset, fault);
         }
-        Err(_) => return Err(AllocError),
+        Err(_) => lines.fail(),
     }
-    Ok(text)
+    lines.finish()
 }

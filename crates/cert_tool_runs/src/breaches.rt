@@ -1,25 +1,21 @@
 //! Which rules the certificates of a chain break, and why.
 
 use crate::chain_place::ChainPlace;
-use crate::description::add_named;
-use crate::general_names::add_name;
+use crate::lines::Lines;
 use crate::reasons::add_breach;
 use crate::remarks::add_remarks;
 use crate::stream_refusal::{LEAF_FIRST, is_leaf_first};
 use cert_desk_checking::{Anchor, Bundle, Rule, SignatureJudge, SubjectPublicKeyInfo};
-use const_oid::{Database, ObjectIdentifier};
-use std::alloc::{AllocError, Global};
+use const_oid::ObjectIdentifier;
 
 // What a chain is judged under.
 #[derive(Clone, Copy)]
-pub(crate) struct Question<'a, 'n> {
+pub(crate) struct Question<'a> {
     pub(crate) anchors: &'a [Anchor],
     // Seconds since 1970-01-01T00:00:00Z.
     pub(crate) moment: u64,
     // What the chain is wanted for.
     pub(crate) purpose: ObjectIdentifier<39>,
-    // Names of identifiers.
-    pub(crate) names: Database<'n>,
 }
 
 // Whether an anchor has the issuer's name.
@@ -33,51 +29,37 @@ fn is_anchored(place: &ChainPlace<'_>, anchors: &[Anchor]) -> bool {
 }
 
 // Adds that the issuer isn't the one before, or no anchor (RFC 5280 6.1.3 (a) (4)).
-fn add_issuer_breach(
-    alloc: Global,
-    text: &mut String,
-    place: &ChainPlace<'_>,
-    anchors: &[Anchor],
-) -> Result<(), AllocError> {
+fn add_issuer_breach(lines: &mut Lines<'_>, place: &ChainPlace<'_>, anchors: &[Anchor]) {
+    let issuer = place.issuer();
     match place.before() {
         None => {
             if !is_anchored(place, anchors) {
-                add_named(
-                    alloc,
-                    text,
-                    "  WrongIssuer: no anchor has the issuer's name",
-                    place.issuer(),
-                )?;
+                let before = "  WrongIssuer: no anchor has the issuer's name ";
+                lines.name(before, issuer, "\n");
             }
         }
         Some(before) => {
-            if !place.issuer().has_octets_of(before.subject()) {
-                add_named(alloc, text, "  WrongIssuer: the issuer is", place.issuer())?;
-                add_named(alloc, text, "    and the subject before", before.subject())?;
+            if !issuer.has_octets_of(before.subject()) {
+                lines.name("  WrongIssuer: the issuer is ", issuer, "\n");
+                lines.name("    and the subject before ", before.subject(), "\n");
             }
         }
     }
-    Ok(())
 }
 
 // Adds that the moment isn't between the dates (RFC 5280 6.1.3 (a) (2)).
-fn add_date_breaches(
-    text: &mut String,
-    place: &ChainPlace<'_>,
-    moment: u64,
-) -> Result<(), AllocError> {
+fn add_date_breaches(lines: &mut Lines<'_>, place: &ChainPlace<'_>, moment: u64) {
     let validity = place.certificate.tbs_certificate().validity();
     if moment < validity.not_before.to_date_time().unix_seconds() {
-        writeln!(
-            text,
-            "  NotYetValid: it is valid from {} on",
-            validity.not_before
-        )?;
+        lines.date(
+            "  NotYetValid: it is valid from ",
+            &validity.not_before,
+            " on\n",
+        );
     }
     if validity.not_after.to_date_time().unix_seconds() < moment {
-        writeln!(text, "  Expired: it was valid until {}", validity.not_after)?;
+        lines.date("  Expired: it was valid until ", &validity.not_after, "\n");
     }
-    Ok(())
 }
 
 // Whether the judge says yes under a key.
@@ -111,109 +93,101 @@ fn is_accepted_by_anchor<J: SignatureJudge>(
 
 // Adds that the judge says no (RFC 5280 6.1.3 (a) (1)).
 fn add_signature_breach<J: SignatureJudge>(
-    text: &mut String,
+    lines: &mut Lines<'_>,
     place: &ChainPlace<'_>,
     anchors: &[Anchor],
     judge: &mut J,
-) -> Result<(), AllocError> {
+) {
     match place.before() {
         None => {
             if !is_accepted_by_anchor(place, anchors, judge) {
-                text.push_str(
+                lines.push(
                     "  WrongSignature: no answer says that it is right under an anchor's key\n",
-                )?;
+                );
             }
         }
         Some(before) => {
             if !is_accepted(place, before.subject_public_key_info(), judge) {
-                text.push_str(
+                lines.push(
                     "  WrongSignature: no answer says that it is right under the key before\n",
-                )?;
+                );
             }
         }
     }
-    Ok(())
 }
 
 // Adds that the algorithm outside isn't the one that is signed (RFC 5280 4.1.1.2).
-fn add_algorithm_breach(text: &mut String, place: &ChainPlace<'_>) -> Result<(), AllocError> {
+fn add_algorithm_breach(lines: &mut Lines<'_>, place: &ChainPlace<'_>) {
     let certificate = place.certificate;
     let signed = certificate.tbs_certificate().signature();
-    if signed.has_octets_of(certificate.signature_algorithm()) {
-        return Ok(());
+    if !signed.has_octets_of(certificate.signature_algorithm()) {
+        lines.push("  AlgorithmsDiffer: another algorithm is signed (RFC 5280 4.1.1.2)\n");
     }
-    text.push_str("  AlgorithmsDiffer: another algorithm is signed (RFC 5280 4.1.1.2)\n")
 }
 
 // Adds why a certificate that stands before others may not issue them.
 fn add_issuing_breaches(
-    alloc: Global,
-    text: &mut String,
+    lines: &mut Lines<'_>,
     place: &ChainPlace<'_>,
-    question: &Question<'_, '_>,
-) -> Result<(), AllocError> {
-    if place.is_last() {
-        return Ok(());
+    purpose: &ObjectIdentifier<39>,
+) {
+    if !place.is_last() {
+        add_breach(lines, place, Rule::NotAuthority, purpose);
+        if !place.is_self_issued() {
+            add_breach(lines, place, Rule::PathTooLong, purpose);
+        }
     }
-    add_breach(alloc, text, place, Rule::NotAuthority, question)?;
-    if place.is_self_issued() {
-        return Ok(());
-    }
-    add_breach(alloc, text, place, Rule::PathTooLong, question)
 }
 
 // Adds what the certificate at a place breaks, in the order in which a check judges the rules.
 fn add_breaches<J: SignatureJudge>(
-    alloc: Global,
-    text: &mut String,
+    lines: &mut Lines<'_>,
     place: &ChainPlace<'_>,
-    question: &Question<'_, '_>,
+    question: &Question<'_>,
     judge: &mut J,
-) -> Result<(), AllocError> {
-    add_algorithm_breach(text, place)?;
-    add_breach(alloc, text, place, Rule::DuplicateExtension, question)?;
-    add_breach(alloc, text, place, Rule::MalformedExtension, question)?;
-    add_breach(alloc, text, place, Rule::UnweighedCritical, question)?;
-    add_issuer_breach(alloc, text, place, question.anchors)?;
-    add_date_breaches(text, place, question.moment)?;
-    add_breach(alloc, text, place, Rule::AgainstPurpose, question)?;
-    add_issuing_breaches(alloc, text, place, question)?;
-    add_signature_breach(text, place, question.anchors, judge)
+) {
+    let purpose = &question.purpose;
+    add_algorithm_breach(lines, place);
+    add_breach(lines, place, Rule::DuplicateExtension, purpose);
+    add_breach(lines, place, Rule::MalformedExtension, purpose);
+    add_breach(lines, place, Rule::UnweighedCritical, purpose);
+    add_issuer_breach(lines, place, question.anchors);
+    add_date_breaches(lines, place, question.moment);
+    add_breach(lines, place, Rule::AgainstPurpose, purpose);
+    add_issuing_breaches(lines, place, purpose);
+    add_signature_breach(lines, place, question.anchors, judge);
 }
 
 // Adds what is to be said of the certificate at a place.
 fn add_place<J: SignatureJudge>(
-    alloc: Global,
-    text: &mut String,
+    lines: &mut Lines<'_>,
     place: &ChainPlace<'_>,
-    question: &Question<'_, '_>,
+    question: &Question<'_>,
     judge: &mut J,
-) -> Result<(), AllocError> {
-    write!(text, "certificate {}, ", place.number)?;
-    add_name(alloc, text, place.certificate.tbs_certificate().subject())?;
-    let start = text.len();
-    add_breaches(alloc, text, place, question, judge)?;
-    if text.len() == start {
-        text.push_str("  every rule is kept\n")?;
+) {
+    lines.count("certificate ", place.number as u64, ", ");
+    lines.name("", place.certificate.tbs_certificate().subject(), "\n");
+    let start = lines.len();
+    add_breaches(lines, place, question, judge);
+    if lines.len() == start {
+        lines.push("  every rule is kept\n");
     }
-    add_remarks(alloc, text, place, question.names)
+    add_remarks(lines, place);
 }
 
-// What each certificate of a chain breaks, as `run_explain_chain` says it.
-pub(crate) fn explain_chain<J: SignatureJudge>(
-    alloc: Global,
+// Adds what each certificate of a chain breaks, as `run_explain_chain` says it.
+pub(crate) fn add_chain<J: SignatureJudge>(
+    lines: &mut Lines<'_>,
     bundle: &Bundle,
-    question: &Question<'_, '_>,
+    question: &Question<'_>,
     judge: &mut J,
-) -> Result<String, AllocError> {
-    let mut text = String::new(alloc);
+) {
     if is_leaf_first(bundle) {
-        text.push_str(LEAF_FIRST)?;
+        lines.push(LEAF_FIRST);
     }
     for number in 0..bundle.len() {
         if let Some(place) = ChainPlace::at(bundle, number) {
-            add_place(alloc, &mut text, &place, question, judge)?;
+            add_place(lines, &place, question, judge);
         }
     }
-    Ok(text)
 }

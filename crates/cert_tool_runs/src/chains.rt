@@ -2,16 +2,41 @@
 
 ghost use Rattle.std.specs.Prelude.{◌≤◌};
 
-use crate::arguments::{limit_of, terms_of};
+use crate::arguments::{Terms, limit_of, terms_of};
 use crate::asking::run_questions;
 use crate::explaining::run_explain_chain;
-use crate::files::{open, tell_failure};
+use crate::files::{Opened, open, tell_failure};
 use crate::help::{CHAIN, EXPLAIN, QUESTIONS, VERIFY};
 use crate::telling::{tell_more, tell_usage};
 use crate::verifying::run_verify;
 use cert_desk_io::{ExitStatus, Output};
 use std::alloc::Global;
+use std::io::Read;
 use std::rt::{Clock, Files};
+
+// Writes what the signatures of a chain ask, of opened files.
+fn ask<F: Read, O: Output, E: Output>(
+    alloc: Global,
+    anchors: &mut Opened<'_, F>,
+    stream: &mut Opened<'_, F>,
+    limit: u32,
+    out: &mut O,
+    err: &mut E,
+) -> ExitStatus
+    requires { 6 ≤ limit }
+{
+    let status = run_questions(
+        alloc,
+        &mut anchors.input,
+        &mut stream.input,
+        out,
+        err,
+        limit,
+    );
+    tell_failure(anchors, err);
+    tell_failure(stream, err);
+    status
+}
 
 // `questions ANCHORS STREAM LIMIT`.
 pub(crate) fn questions<R: Files, O: Output, E: Output>(
@@ -28,9 +53,7 @@ pub(crate) fn questions<R: Files, O: Output, E: Output>(
     let most = limit_of(limit, err)?;
     let mut anchors = open(rt, anchors, err)?;
     let mut stream = open(rt, stream, err)?;
-    let status = run_questions(alloc, &mut anchors.input, &mut stream.input, out, err, most);
-    tell_failure(&anchors, err);
-    tell_failure(&stream, err);
+    let status = ask(alloc, &mut anchors, &mut stream, most, out, err);
     Ok(tell_more(err, status, anchors.name, stream.name, limit))
 }
 
@@ -63,22 +86,19 @@ fn tell_judged<E: Output>(
     }
 }
 
-// `verify ANCHORS STREAM MOMENT PURPOSE LIMIT ANSWERS`, `explain chain ..`.
-pub(crate) fn judge<R: Files + Clock, O: Output, E: Output>(
+// Judges a chain, of opened files.
+fn judge_files<F: Read, O: Output, E: Output>(
     alloc: Global,
-    rt: &R,
     judging: Judging,
-    words: &[&str],
+    answers: &mut Opened<'_, F>,
+    anchors: &mut Opened<'_, F>,
+    stream: &mut Opened<'_, F>,
+    terms: Terms,
     out: &mut O,
     err: &mut E,
-) -> Result<ExitStatus, ExitStatus> {
-    let [anchors, stream, moment, purpose, limit, answers] = words else {
-        return Err(tell_usage(err, &CHAIN, words, usage_of(judging)));
-    };
-    let terms = terms_of(rt, [*moment, *purpose, *limit], err)?;
-    let mut anchors = open(rt, anchors, err)?;
-    let mut stream = open(rt, stream, err)?;
-    let mut answers = open(rt, answers, err)?;
+) -> ExitStatus
+    requires { 6 ≤ terms.limit }
+{
     let status = match judging {
         Judging::Verify => run_verify(
             alloc,
@@ -103,8 +123,37 @@ pub(crate) fn judge<R: Files + Clock, O: Output, E: Output>(
             terms.limit,
         ),
     };
-    tell_failure(&answers, err);
-    tell_failure(&anchors, err);
-    tell_failure(&stream, err);
+    tell_failure(answers, err);
+    tell_failure(anchors, err);
+    tell_failure(stream, err);
+    status
+}
+
+// `verify ANCHORS STREAM MOMENT PURPOSE LIMIT ANSWERS`, `explain chain ..`.
+pub(crate) fn judge<R: Files + Clock, O: Output, E: Output>(
+    alloc: Global,
+    rt: &R,
+    judging: Judging,
+    words: &[&str],
+    out: &mut O,
+    err: &mut E,
+) -> Result<ExitStatus, ExitStatus> {
+    let [anchors, stream, moment, purpose, limit, answers] = words else {
+        return Err(tell_usage(err, &CHAIN, words, usage_of(judging)));
+    };
+    let terms = terms_of(rt, [*moment, *purpose, *limit], err)?;
+    let mut anchors = open(rt, anchors, err)?;
+    let mut stream = open(rt, stream, err)?;
+    let mut answers = open(rt, answers, err)?;
+    let status = judge_files(
+        alloc,
+        judging,
+        &mut answers,
+        &mut anchors,
+        &mut stream,
+        terms,
+        out,
+        err,
+    );
     Ok(tell_judged(err, judging, status, [anchors.name, stream.name, *limit]))
 }

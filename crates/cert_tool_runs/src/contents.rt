@@ -1,9 +1,7 @@
 //! The contents of extensions, each by its identifier.
 
 use crate::describe::Describe;
-use crate::identifiers::Named;
-use crate::printing::Colons;
-use crate::reads::readable;
+use crate::lines::Lines;
 use cert_desk_checking::types::timestamps::SignedCertificateTimestampList;
 use cert_desk_checking::types::{
     AuthorityInfoAccessSyntax, AuthorityKeyIdentifier, BasicConstraints, CertificatePolicies,
@@ -11,98 +9,95 @@ use cert_desk_checking::types::{
     IssuingDistributionPoint, KeyUsage, NameConstraints, PolicyConstraints, PolicyMappings,
     SubjectAltName, SubjectKeyIdentifier,
 };
-use const_oid::Database;
-use der_core::{Decode, SliceReader, from_der};
-use std::alloc::{AllocError, Global};
+use der_core::{DecodeValue, ErrorKind, FixedTag, SliceReader, from_der};
 
-// Adds the lines of a content, or that it isn't one value of its kind.
-fn add_content<'a, T: Decode<'a, SliceReader<'a>> + Describe + Drop>(
-    alloc: Global,
-    text: &mut String,
+// Adds the lines of a content, or that it isn't one value of its kind; answers why it isn't.
+pub(crate) fn add_content<'a, T: DecodeValue<'a, SliceReader<'a>> + FixedTag + Describe>(
+    lines: &mut Lines<'_>,
     octets: &'a [u8],
-    names: Database<'_>,
-) -> Result<(), AllocError> {
-    match readable(from_der::<T>(alloc, octets))? {
-        Some(value) => value.describe(alloc, text, names),
-        None => text.push_str("  malformed\n"),
+) -> Option<ErrorKind> {
+    match from_der::<T>(lines.alloc, octets) {
+        Ok(value) => {
+            value.describe(lines);
+            None
+        }
+        Err(error) => {
+            lines.note(error.kind);
+            lines.push("  malformed\n");
+            Some(error.kind)
+        }
     }
 }
 
 // Adds the octets of a content whose kind isn't known here.
-fn add_octets(text: &mut String, octets: &[u8]) -> Result<(), AllocError> {
-    writeln!(text, "  octets {}", Colons(octets))?;
-    Ok(())
+fn add_octets(lines: &mut Lines<'_>, octets: &[u8]) -> Option<ErrorKind> {
+    lines.octets("  octets ", octets, "\n");
+    None
 }
 
 // Adds the lines of a content, by the last arc of its identifier below 2.5.29 (RFC 5280 4.2.1, 5.2,
 // 5.3).
-fn add_standard(
-    alloc: Global,
-    text: &mut String,
-    number: u8,
-    octets: &[u8],
-    names: Database<'_>,
-) -> Result<(), AllocError> {
+fn add_standard(lines: &mut Lines<'_>, number: u8, octets: &[u8]) -> Option<ErrorKind> {
     match number {
-        14 => add_content::<SubjectKeyIdentifier>(alloc, text, octets, names),
-        15 => add_content::<KeyUsage>(alloc, text, octets, names),
+        14 => add_content::<SubjectKeyIdentifier>(lines, octets),
+        15 => add_content::<KeyUsage>(lines, octets),
         // of the subject, of the issuer, of who issued the certificate that an entry names
-        17 | 18 | 29 => add_content::<SubjectAltName>(alloc, text, octets, names),
-        19 => add_content::<BasicConstraints>(alloc, text, octets, names),
+        17 | 18 | 29 => add_content::<SubjectAltName>(lines, octets),
+        19 => add_content::<BasicConstraints>(lines, octets),
         // of a list, of the list that it adds to
-        20 | 27 => add_content::<CrlNumber>(alloc, text, octets, names),
-        21 => add_content::<CrlReason>(alloc, text, octets, names),
-        28 => add_content::<IssuingDistributionPoint>(alloc, text, octets, names),
-        30 => add_content::<NameConstraints>(alloc, text, octets, names),
+        20 | 27 => add_content::<CrlNumber>(lines, octets),
+        21 => add_content::<CrlReason>(lines, octets),
+        28 => add_content::<IssuingDistributionPoint>(lines, octets),
+        30 => add_content::<NameConstraints>(lines, octets),
         // of lists, of lists of what is new
-        31 | 46 => add_content::<CrlDistributionPoints>(alloc, text, octets, names),
-        32 => add_content::<CertificatePolicies>(alloc, text, octets, names),
-        33 => add_content::<PolicyMappings>(alloc, text, octets, names),
-        35 => add_content::<AuthorityKeyIdentifier>(alloc, text, octets, names),
-        36 => add_content::<PolicyConstraints>(alloc, text, octets, names),
-        37 => add_content::<ExtendedKeyUsage>(alloc, text, octets, names),
-        54 => add_content::<InhibitAnyPolicy>(alloc, text, octets, names),
-        _ => add_octets(text, octets),
+        31 | 46 => add_content::<CrlDistributionPoints>(lines, octets),
+        32 => add_content::<CertificatePolicies>(lines, octets),
+        33 => add_content::<PolicyMappings>(lines, octets),
+        35 => add_content::<AuthorityKeyIdentifier>(lines, octets),
+        36 => add_content::<PolicyConstraints>(lines, octets),
+        37 => add_content::<ExtendedKeyUsage>(lines, octets),
+        54 => add_content::<InhibitAnyPolicy>(lines, octets),
+        _ => add_octets(lines, octets),
     }
 }
 
-// Adds the lines of an extension.
-fn add_extension(
-    alloc: Global,
-    text: &mut String,
-    extension: &Extension,
-    names: Database<'_>,
-) -> Result<(), AllocError> {
-    let identifier = Named {
-        identifier: extension.extn_id,
-        names,
-    };
-    let critical = if extension.critical { " critical" } else { "" };
-    writeln!(text, "extension {identifier}{critical}")?;
+// Adds the lines of the content of an extension; answers why it isn't one value of its kind, if it
+// isn't.
+fn add_content_of(lines: &mut Lines<'_>, extension: &Extension) -> Option<ErrorKind> {
     let octets = extension.extn_value.as_bytes();
     match extension.extn_id.as_bytes() {
-        [0x55, 0x1d, number] => add_standard(alloc, text, *number, octets, names),
+        [0x55, 0x1d, number] => add_standard(lines, *number, octets),
         // authorityInfoAccess, subjectInfoAccess
         [0x2b, 6, 1, 5, 5, 7, 1, 1 | 11] => {
-            add_content::<AuthorityInfoAccessSyntax>(alloc, text, octets, names)
+            add_content::<AuthorityInfoAccessSyntax>(lines, octets)
         }
         // timestamps of logs
         [0x2b, 6, 1, 4, 1, 0xd6, 0x79, 2, 4, 2] => {
-            add_content::<SignedCertificateTimestampList>(alloc, text, octets, names)
+            add_content::<SignedCertificateTimestampList>(lines, octets)
         }
-        _ => add_octets(text, octets),
+        _ => add_octets(lines, octets),
     }
 }
 
-// Adds the lines of extensions, in their order.
-pub(crate) fn add_extensions(
-    alloc: Global,
-    text: &mut String,
-    extensions: &[Extension],
-    names: Database<'_>,
-) -> Result<(), AllocError> {
-    for extension in extensions {
-        add_extension(alloc, text, extension, names)?;
+// Why the content of an extension isn't one value of its kind, if it isn't. Its lines are left out.
+pub(crate) fn content_fault(lines: &mut Lines<'_>, extension: &Extension) -> Option<ErrorKind> {
+    let mut left_out = Lines::without_names(lines.alloc);
+    let fault = add_content_of(&mut left_out, extension);
+    if let Some(kind) = fault {
+        lines.note(kind);
     }
-    Ok(())
+    fault
+}
+
+// Adds the lines of extensions, in their order.
+pub(crate) fn add_extensions(lines: &mut Lines<'_>, extensions: &[Extension]) {
+    for extension in extensions {
+        let behind = if extension.critical {
+            " critical\n"
+        } else {
+            "\n"
+        };
+        lines.identifier("extension ", &extension.extn_id, behind);
+        add_content_of(lines, extension);
+    }
 }

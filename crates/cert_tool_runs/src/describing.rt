@@ -1,51 +1,52 @@
 //! Runs that describe a file, or explain why it can't be described.
 
-use crate::describe::Document;
-use crate::identifiers::Identifiers;
+use crate::description::add_certificate;
+use crate::identifiers::{entries_of, known_identifiers};
 use crate::kind::Kind;
+use crate::lines::Lines;
+use crate::lists::{add_list, list_of};
 use crate::reading::{read_file, tell};
-use crate::reads::readable;
 use crate::refusal::explain_octets;
-use cert_desk_checking::types::{CertReq, CertificateInner, CertificateList, Raw};
+use crate::requests::add_request;
+use cert_desk_checking::types::{CertReq, CertificateInner, Raw};
 use cert_desk_io::{ExitStatus, Input, Output, answer, complain, tell_memory};
 use const_oid::Database;
-use der_core::{Error, from_der};
+use der_core::ErrorKind;
 use std::alloc::{AllocError, Global};
 
-// The description of what these octets spell, if a value of this type was read of them.
-fn described_as<T: Document + Drop>(
-    alloc: Global,
-    read: Result<T, Error>,
-    octets: &[u8],
-    names: Database<'_>,
-) -> Result<Option<String>, AllocError> {
-    match readable(read)? {
-        Some(value) => {
-            let text = value.description(alloc, octets, names)?;
-            Ok(Some(text))
-        }
-        None => Ok(None),
+// Adds the lines of what these octets spell; answers why they spell no value of the kind, if they
+// don't.
+fn add_described(lines: &mut Lines<'_>, kind: Kind, octets: &[u8]) -> Option<ErrorKind> {
+    match kind {
+        Kind::Certificate => match CertificateInner::<Raw>::from_der(lines.alloc, octets) {
+            Ok(certificate) => add_certificate(lines, &certificate, octets),
+            Err(error) => return Some(error.kind),
+        },
+        Kind::List => match list_of::<Raw>(lines.alloc, octets) {
+            Ok(list) => add_list(lines, &list, octets),
+            Err(error) => return Some(error.kind),
+        },
+        Kind::Request => match CertReq::try_from_bytes(lines.alloc, octets) {
+            Ok(request) => add_request(lines, &request, octets),
+            Err(error) => return Some(error.kind),
+        },
     }
+    None
 }
 
-// Of what these octets spell, with the names of what is well known.
+// The description of what these octets spell, with the names of what is well known, if they spell a
+// value of the kind.
 fn described(alloc: Global, kind: Kind, octets: &[u8]) -> Result<Option<String>, AllocError> {
-    let identifiers = Identifiers::new(alloc)?;
-    let entries = identifiers.entries(alloc)?;
-    let names = Database::new(entries.as_slice());
-    match kind {
-        Kind::Certificate => {
-            let read = CertificateInner::<Raw>::from_der(alloc, octets);
-            described_as(alloc, read, octets, names)
+    let identifiers = known_identifiers(alloc)?;
+    let entries = entries_of(alloc, identifiers.as_slice())?;
+    let mut lines = Lines::new(alloc, Database::new(entries.as_slice()));
+    match add_described(&mut lines, kind, octets) {
+        None => {
+            let text = lines.finish()?;
+            Ok(Some(text))
         }
-        Kind::List => {
-            let read = from_der::<CertificateList<Raw>>(alloc, octets);
-            described_as(alloc, read, octets, names)
-        }
-        Kind::Request => {
-            let read = CertReq::try_from_bytes(alloc, octets);
-            described_as(alloc, read, octets, names)
-        }
+        Some(ErrorKind::OutOfMemory) => Err(AllocError),
+        Some(_) => Ok(None),
     }
 }
 

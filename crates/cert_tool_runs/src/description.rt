@@ -1,89 +1,58 @@
 //! Descriptions of certificates.
 
 use crate::contents::add_extensions;
-use crate::describe::Document;
-use crate::general_names::add_name;
-use crate::keys::{add_algorithm, add_digests, add_key, add_key_digests};
-use crate::printing::{Colons, Number};
-use cert_desk_checking::types::{
-    BitString, CertificateInner, Name, Profile, Raw, TbsCertificateInner, Version,
-};
-use const_oid::Database;
-use std::alloc::{AllocError, Global};
+use crate::keys::{add_digests, add_key, add_key_digests};
+use crate::lines::Lines;
+use cert_desk_checking::types::{BitString, CertificateInner, Raw, TbsCertificateInner, Version};
 
-// Adds a line of a label and a name.
-pub(crate) fn add_named(
-    alloc: Global,
-    text: &mut String,
-    label: &str,
-    name: &Name,
-) -> Result<(), AllocError> {
-    write!(text, "{label} ")?;
-    add_name(alloc, text, name)
-}
-
-// The number of a version as documents print it.
-fn version_number(version: Version) -> u8 {
+// The line of a version.
+fn version_line(version: Version) -> &'static str {
     match version {
-        Version::V1 => 1,
-        Version::V2 => 2,
-        Version::V3 => 3,
+        Version::V1 => "version 1\n",
+        Version::V2 => "version 2\n",
+        Version::V3 => "version 3\n",
     }
 }
 
-// Adds a label and an identifier of issuer or subject, if it stands there.
-fn add_unique(text: &mut String, label: &str, id: Option<&BitString>) -> Result<(), AllocError> {
+// Adds an identifier of issuer or subject, if it stands there.
+fn add_unique(lines: &mut Lines<'_>, before: &str, id: Option<&BitString>) {
     if let Some(id) = id {
-        writeln!(text, "{label} {}", Colons(id.raw_bytes()))?;
+        lines.octets(before, id.raw_bytes(), "\n");
     }
-    Ok(())
 }
 
 // Adds the lines of who signs whom, and from when until when.
-fn add_parties<P: Profile>(
-    alloc: Global,
-    text: &mut String,
-    signed: &TbsCertificateInner<P>,
-) -> Result<(), AllocError> {
-    writeln!(text, "version {}", version_number(signed.version()))?;
-    writeln!(text, "serial {}", Number(signed.serial_number().as_bytes()))?;
-    add_named(alloc, text, "issuer", signed.issuer())?;
+fn add_parties(lines: &mut Lines<'_>, signed: &TbsCertificateInner<Raw>) {
+    lines.push(version_line(signed.version()));
+    lines.number("serial ", signed.serial_number().as_bytes(), "\n");
+    lines.name("issuer ", signed.issuer(), "\n");
     let validity = signed.validity();
-    writeln!(text, "not-before {}", validity.not_before)?;
-    writeln!(text, "not-after {}", validity.not_after)?;
-    add_named(alloc, text, "subject", signed.subject())
+    lines.date("not-before ", &validity.not_before, "\n");
+    lines.date("not-after ", &validity.not_after, "\n");
+    lines.name("subject ", signed.subject(), "\n");
 }
 
 // Adds the lines of the signed part.
-fn add_signed<P: Profile>(
-    alloc: Global,
-    text: &mut String,
-    signed: &TbsCertificateInner<P>,
-    names: Database<'_>,
-) -> Result<(), AllocError> {
-    add_parties(alloc, text, signed)?;
-    add_key(alloc, text, signed.subject_public_key_info(), names)?;
-    add_unique(text, "issuer-id", signed.issuer_unique_id())?;
-    add_unique(text, "subject-id", signed.subject_unique_id())?;
-    match signed.extensions() {
-        Some(extensions) => add_extensions(alloc, text, extensions.as_slice(), names),
-        None => Ok(()),
+fn add_signed(lines: &mut Lines<'_>, signed: &TbsCertificateInner<Raw>) {
+    add_parties(lines, signed);
+    add_key(lines, signed.subject_public_key_info());
+    add_unique(lines, "issuer-id ", signed.issuer_unique_id());
+    add_unique(lines, "subject-id ", signed.subject_unique_id());
+    if let Some(extensions) = signed.extensions() {
+        add_extensions(lines, extensions.as_slice());
     }
 }
 
-impl Document for CertificateInner<Raw> {
-    fn description(
-        &self,
-        alloc: Global,
-        octets: &[u8],
-        names: Database<'_>,
-    ) -> Result<String, AllocError> {
-        let mut text = String::from_str(alloc, "certificate\n")?;
-        let signed = self.tbs_certificate();
-        add_signed(alloc, &mut text, signed, names)?;
-        add_algorithm(&mut text, "signature", self.signature_algorithm(), names)?;
-        add_digests(&mut text, "certificate", octets)?;
-        add_key_digests(alloc, &mut text, signed.subject_public_key_info())?;
-        Ok(text)
-    }
+// Adds what a certificate says, and digests of its octets and of its key.
+pub(crate) fn add_certificate(
+    lines: &mut Lines<'_>,
+    certificate: &CertificateInner<Raw>,
+    octets: &[u8],
+) {
+    let signed = certificate.tbs_certificate();
+    lines.push("certificate\n");
+    add_signed(lines, signed);
+    lines.identifier("signature ", &certificate.signature_algorithm().oid, "\n");
+    add_digests(lines, "certificate", octets);
+    add_key_digests(lines, signed.subject_public_key_info());
 }

@@ -3,8 +3,9 @@
 ghost use Rattle.std.specs.Prelude.{◌≤◌};
 
 use crate::anchor_refusal::explain_anchors;
-use crate::breaches::{Question, explain_chain};
-use crate::identifiers::Identifiers;
+use crate::breaches::{Question, add_chain};
+use crate::identifiers::{entries_of, known_identifiers};
+use crate::lines::Lines;
 use crate::reading::{read_file, tell};
 use crate::stream_refusal::explain_stream;
 use crate::verifying::{read_answers, tell_none};
@@ -50,25 +51,18 @@ pub fn run_explain_stream<I: Input, O: Output, E: Output>(
     }
 }
 
-// What each certificate breaks, under names of identifiers.
+// What each certificate of a chain breaks.
 fn explained<J: SignatureJudge>(
     alloc: Global,
     bundle: &Bundle,
-    anchors: &[Anchor],
-    moment: u64,
-    purpose: &ObjectIdentifier<39>,
+    question: &Question<'_>,
     judge: &mut J,
 ) -> Result<String, AllocError> {
-    let identifiers = Identifiers::new(alloc)?;
-    let entries = identifiers.entries(alloc)?;
-    let names = Database::new(entries.as_slice());
-    let question = Question {
-        anchors,
-        moment,
-        purpose: *purpose,
-        names,
-    };
-    explain_chain(alloc, bundle, &question, judge)
+    let identifiers = known_identifiers(alloc)?;
+    let entries = entries_of(alloc, identifiers.as_slice())?;
+    let mut lines = Lines::new(alloc, Database::new(entries.as_slice()));
+    add_chain(&mut lines, bundle, question, judge);
+    lines.finish()
 }
 
 // The anchors that an input gives. Where there are none, that is told, and the status is the error.
@@ -169,6 +163,10 @@ fn explain_under<A: Input, S: Input, O: Output, E: Output, J: SignatureJudge>(
         Ok(bundle) => bundle,
         Err(status) => return status,
     };
-    let text = explained(alloc, &bundle, anchors.as_slice(), moment, purpose, judge);
-    tell(text, out, err)
+    let question = Question {
+        anchors: anchors.as_slice(),
+        moment,
+        purpose: *purpose,
+    };
+    tell(explained(alloc, &bundle, &question, judge), out, err)
 }

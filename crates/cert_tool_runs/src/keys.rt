@@ -1,29 +1,13 @@
-//! Keys and algorithms.
+//! Keys, and digests.
 
-use crate::identifiers::Named;
-use crate::printing::{Colons, Number};
-use crate::reads::readable;
-use cert_desk_checking::types::{AlgorithmIdentifier, SubjectPublicKeyInfo, Uint};
-use const_oid::{Database, ObjectIdentifier};
-use der_core::{from_der, to_der};
+use crate::contents::add_content;
+use crate::describe::Describe;
+use crate::lines::Lines;
+use cert_desk_checking::types::{SubjectPublicKeyInfo, Uint};
+use const_oid::ObjectIdentifier;
+use der_core::to_der;
 use sha1::Sha1;
 use sha2::{Digest, Sha256};
-use std::alloc::{AllocError, Global};
-
-// Adds a line for an algorithm.
-pub(crate) fn add_algorithm(
-    text: &mut String,
-    label: &str,
-    algorithm: &AlgorithmIdentifier,
-    names: Database<'_>,
-) -> Result<(), AllocError> {
-    let identifier = Named {
-        identifier: algorithm.oid,
-        names,
-    };
-    writeln!(text, "{label} {identifier}")?;
-    Ok(())
-}
 
 // How many bits a number has, of its octets with the most significant first.
 fn bit_len(octets: &[u8]) -> usize {
@@ -36,23 +20,21 @@ fn bit_len(octets: &[u8]) -> usize {
     }
 }
 
-// Adds the lines of the numbers of an RSA key (RFC 3279 2.3.1): a SEQUENCE of modulus and exponent.
-fn add_numbers(text: &mut String, numbers: &[Uint]) -> Result<(), AllocError> {
-    match numbers {
-        [modulus, exponent] => {
-            writeln!(text, "  {} bits", bit_len(modulus.as_bytes()))?;
-            writeln!(text, "  exponent {}", Number(exponent.as_bytes()))?;
-            Ok(())
-        }
-        _ => text.push_str("  malformed\n"),
-    }
+// Adds a line for a number of bits.
+fn add_bits(lines: &mut Lines<'_>, bits: usize) {
+    lines.count("  ", bits as u64, " bits\n");
 }
 
-// Adds the lines of an RSA key.
-fn add_rsa(alloc: Global, text: &mut String, octets: &[u8]) -> Result<(), AllocError> {
-    match readable(from_der::<Vec<Uint>>(alloc, octets))? {
-        Some(numbers) => add_numbers(text, numbers.as_slice()),
-        None => text.push_str("  malformed\n"),
+// An RSA key is the SEQUENCE of its modulus and its exponent (RFC 3279 2.3.1).
+impl Describe for Vec<Uint> {
+    fn describe(&self, lines: &mut Lines<'_>) {
+        match self.as_slice() {
+            [modulus, exponent] => {
+                add_bits(lines, bit_len(modulus.as_bytes()));
+                lines.number("  exponent ", exponent.as_bytes(), "\n");
+            }
+            _ => lines.push("  malformed\n"),
+        }
     }
 }
 
@@ -71,75 +53,44 @@ fn coordinate_bits(octets: &[u8]) -> usize {
 }
 
 // Adds the lines of a key on a curve.
-fn add_point(
-    alloc: Global,
-    text: &mut String,
-    key: &SubjectPublicKeyInfo,
-    names: Database<'_>,
-) -> Result<(), AllocError> {
-    let bits = coordinate_bits(key.subject_public_key.raw_bytes());
-    writeln!(text, "  {bits} bits")?;
+fn add_point(lines: &mut Lines<'_>, key: &SubjectPublicKeyInfo) {
+    add_bits(lines, coordinate_bits(key.subject_public_key.raw_bytes()));
     if let Some(parameters) = &key.algorithm.parameters {
-        if let Ok(curve) = parameters.decode_as::<ObjectIdentifier<39>>(alloc) {
-            let curve = Named {
-                identifier: curve,
-                names,
-            };
-            writeln!(text, "  curve {curve}")?;
+        if let Ok(curve) = parameters.decode_as::<ObjectIdentifier<39>>(lines.alloc) {
+            lines.identifier("  curve ", &curve, "\n");
         }
     }
-    Ok(())
 }
 
 // Adds the lines of a key.
-pub(crate) fn add_key(
-    alloc: Global,
-    text: &mut String,
-    key: &SubjectPublicKeyInfo,
-    names: Database<'_>,
-) -> Result<(), AllocError> {
-    add_algorithm(text, "key", &key.algorithm, names)?;
+pub(crate) fn add_key(lines: &mut Lines<'_>, key: &SubjectPublicKeyInfo) {
+    lines.identifier("key ", &key.algorithm.oid, "\n");
     match key.algorithm.oid.as_bytes() {
         // rsaEncryption, id-RSASSA-PSS
         [0x2a, 0x86, 0x48, 0x86, 0xf7, 0x0d, 0x01, 0x01, 0x01 | 0x0a] => {
-            add_rsa(alloc, text, key.subject_public_key.raw_bytes())
+            add_content::<Vec<Uint>>(lines, key.subject_public_key.raw_bytes());
         }
         // id-ecPublicKey
-        [0x2a, 0x86, 0x48, 0xce, 0x3d, 0x02, 0x01] => add_point(alloc, text, key, names),
-        _ => {
-            writeln!(text, "  {} bits", key.subject_public_key.bit_len())?;
-            Ok(())
-        }
+        [0x2a, 0x86, 0x48, 0xce, 0x3d, 0x02, 0x01] => add_point(lines, key),
+        _ => add_bits(lines, key.subject_public_key.bit_len()),
     }
 }
 
 // Adds the lines of the digests of octets.
-pub(crate) fn add_digests(text: &mut String, label: &str, octets: &[u8]) -> Result<(), AllocError> {
-    writeln!(
-        text,
-        "{label}-sha1 {}",
-        Colons(Sha1::digest(octets).as_slice())
-    )?;
-    writeln!(
-        text,
-        "{label}-sha256 {}",
-        Colons(Sha256::digest(octets).as_slice())
-    )?;
-    Ok(())
+pub(crate) fn add_digests(lines: &mut Lines<'_>, label: &str, octets: &[u8]) {
+    lines.push(label);
+    lines.octets("-sha1 ", Sha1::digest(octets).as_slice(), "\n");
+    lines.push(label);
+    lines.octets("-sha256 ", Sha256::digest(octets).as_slice(), "\n");
 }
 
 // Adds the lines of the digests of a key: of its encoding, and of its bits, as most identifiers of
 // keys are made (RFC 5280 4.2.1.2).
-pub(crate) fn add_key_digests(
-    alloc: Global,
-    text: &mut String,
-    key: &SubjectPublicKeyInfo,
-) -> Result<(), AllocError> {
-    let Ok(octets) = to_der(alloc, key) else {
-        return Err(AllocError);
-    };
-    add_digests(text, "key", octets.as_slice())?;
+pub(crate) fn add_key_digests(lines: &mut Lines<'_>, key: &SubjectPublicKeyInfo) {
+    match to_der(lines.alloc, key) {
+        Ok(octets) => add_digests(lines, "key", octets.as_slice()),
+        Err(_) => lines.fail(),
+    }
     let bits = Sha1::digest(key.subject_public_key.raw_bytes());
-    writeln!(text, "key-bits-sha1 {}", Colons(bits.as_slice()))?;
-    Ok(())
+    lines.octets("key-bits-sha1 ", bits.as_slice(), "\n");
 }

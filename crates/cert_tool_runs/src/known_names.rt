@@ -1,8 +1,8 @@
 //! Identifiers that are well known, and their names.
 
-/// Identifiers by their octets (X.690 8.19), in which an arc below 128 is an octet, and the names
-/// that their documents give them.
-pub(crate) const KNOWN_NAMES: [(&[u8], &str); 62] = [
+// Identifiers by their octets (X.690 8.19), in which an arc below 128 is an octet, and the names
+// that their documents give them.
+const KNOWN_NAMES: [(&[u8], &str); 62] = [
     // Algorithms of keys and signatures (RFC 3279, RFC 4055, RFC 5480, RFC 5758, RFC 8410).
     (
         &[0x2a, 0x86, 0x48, 0x86, 0xf7, 0x0d, 1, 1, 1],
@@ -109,3 +109,8 @@ pub(crate) const KNOWN_NAMES: [(&[u8], &str); 62] = [
     (&[0x2b, 6, 1, 5, 5, 7, 48, 2], "caIssuers"),
     (&[0x2b, 6, 1, 5, 5, 7, 2, 1], "cps"),
 ];
+
+// The table, of which a function that goes over it isn't checked row by row.
+pub(crate) fn known_names() -> &'static [(&'static [u8], &'static str)] {
+    &KNOWN_NAMES
+}

@@ -1,105 +1,81 @@
-//! Descriptions of revocation lists (RFC 5280 5).
+//! Revocation lists (RFC 5280 5): their descriptions.
 
 use crate::contents::add_extensions;
-use crate::describe::{Describe, Document};
-use crate::description::add_named;
-use crate::keys::{add_algorithm, add_digests};
-use crate::printing::Number;
+use crate::describe::Describe;
+use crate::keys::add_digests;
+use crate::lines::Lines;
 use cert_desk_checking::types::{
-    CertificateList, CrlNumber, CrlReason, Raw, RevokedCert, TbsCertList,
+    CertificateList, CrlNumber, CrlReason, Profile, Raw, RevokedCert, TbsCertList,
 };
-use const_oid::Database;
-use std::alloc::{AllocError, Global};
+use der_core::{Error, from_der};
+use std::alloc::Global;
 
 impl Describe for CrlNumber {
-    fn describe(
-        &self,
-        _alloc: Global,
-        text: &mut String,
-        _names: Database<'_>,
-    ) -> Result<(), AllocError> {
-        writeln!(text, "  number {}", Number(self.0.as_bytes()))?;
-        Ok(())
+    fn describe(&self, lines: &mut Lines<'_>) {
+        lines.number("  number ", self.0.as_bytes(), "\n");
     }
 }
 
-// The name of a reason (RFC 5280 5.3.1).
-fn reason_name(reason: CrlReason) -> &'static str {
+// The line of a reason (RFC 5280 5.3.1).
+fn reason_line(reason: CrlReason) -> &'static str {
     match reason {
-        CrlReason::Unspecified => "unspecified",
-        CrlReason::KeyCompromise => "keyCompromise",
-        CrlReason::CaCompromise => "cACompromise",
-        CrlReason::AffiliationChanged => "affiliationChanged",
-        CrlReason::Superseded => "superseded",
-        CrlReason::CessationOfOperation => "cessationOfOperation",
-        CrlReason::CertificateHold => "certificateHold",
-        CrlReason::RemoveFromCRL => "removeFromCRL",
-        CrlReason::PrivilegeWithdrawn => "privilegeWithdrawn",
-        CrlReason::AaCompromise => "aACompromise",
+        CrlReason::Unspecified => "  unspecified\n",
+        CrlReason::KeyCompromise => "  keyCompromise\n",
+        CrlReason::CaCompromise => "  cACompromise\n",
+        CrlReason::AffiliationChanged => "  affiliationChanged\n",
+        CrlReason::Superseded => "  superseded\n",
+        CrlReason::CessationOfOperation => "  cessationOfOperation\n",
+        CrlReason::CertificateHold => "  certificateHold\n",
+        CrlReason::RemoveFromCRL => "  removeFromCRL\n",
+        CrlReason::PrivilegeWithdrawn => "  privilegeWithdrawn\n",
+        CrlReason::AaCompromise => "  aACompromise\n",
     }
 }
 
 impl Describe for CrlReason {
-    fn describe(
-        &self,
-        _alloc: Global,
-        text: &mut String,
-        _names: Database<'_>,
-    ) -> Result<(), AllocError> {
-        writeln!(text, "  {}", reason_name(*self))?;
-        Ok(())
+    fn describe(&self, lines: &mut Lines<'_>) {
+        lines.push(reason_line(*self));
     }
 }
 
 // Adds the lines of an entry.
-fn add_entry<P>(
-    alloc: Global,
-    text: &mut String,
-    entry: &RevokedCert<P>,
-    names: Database<'_>,
-) -> Result<(), AllocError> {
-    let serial = Number(entry.serial_number.as_bytes());
-    writeln!(text, "revoked {serial} {}", entry.revocation_date)?;
-    match &entry.crl_entry_extensions {
-        Some(extensions) => add_extensions(alloc, text, extensions.as_slice(), names),
-        None => Ok(()),
+fn add_entry(lines: &mut Lines<'_>, entry: &RevokedCert<Raw>) {
+    lines.number("revoked ", entry.serial_number.as_bytes(), " ");
+    lines.date("", &entry.revocation_date, "\n");
+    if let Some(extensions) = &entry.crl_entry_extensions {
+        add_extensions(lines, extensions.as_slice());
     }
 }
 
 // Adds the lines of the signed part.
-fn add_signed<P>(
-    alloc: Global,
-    text: &mut String,
-    signed: &TbsCertList<P>,
-    names: Database<'_>,
-) -> Result<(), AllocError> {
-    add_named(alloc, text, "issuer", &signed.issuer)?;
-    writeln!(text, "this-update {}", signed.this_update)?;
+fn add_signed(lines: &mut Lines<'_>, signed: &TbsCertList<Raw>) {
+    lines.name("issuer ", &signed.issuer, "\n");
+    lines.date("this-update ", &signed.this_update, "\n");
     if let Some(date) = &signed.next_update {
-        writeln!(text, "next-update {date}")?;
+        lines.date("next-update ", date, "\n");
     }
     if let Some(extensions) = &signed.crl_extensions {
-        add_extensions(alloc, text, extensions.as_slice(), names)?;
+        add_extensions(lines, extensions.as_slice());
     }
     if let Some(entries) = &signed.revoked_certificates {
         for entry in entries {
-            add_entry(alloc, text, entry, names)?;
+            add_entry(lines, entry);
         }
     }
-    Ok(())
 }
 
-impl Document for CertificateList<Raw> {
-    fn description(
-        &self,
-        alloc: Global,
-        octets: &[u8],
-        names: Database<'_>,
-    ) -> Result<String, AllocError> {
-        let mut text = String::from_str(alloc, "list\n")?;
-        add_signed(alloc, &mut text, &self.tbs_cert_list, names)?;
-        add_algorithm(&mut text, "signature", &self.signature_algorithm, names)?;
-        add_digests(&mut text, "list", octets)?;
-        Ok(text)
-    }
+// The list that octets spell.
+pub(crate) fn list_of<P: Profile>(
+    alloc: Global,
+    octets: &[u8],
+) -> Result<CertificateList<P>, Error> {
+    from_der(alloc, octets)
+}
+
+// Adds what a list says, and digests of its octets.
+pub(crate) fn add_list(lines: &mut Lines<'_>, list: &CertificateList<Raw>, octets: &[u8]) {
+    lines.push("list\n");
+    add_signed(lines, &list.tbs_cert_list);
+    lines.identifier("signature ", &list.signature_algorithm.oid, "\n");
+    add_digests(lines, "list", octets);
 }

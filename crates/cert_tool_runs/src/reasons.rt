@@ -1,103 +1,91 @@
 //! Why a certificate breaks a rule of its extensions, or of path lengths.
 
-use crate::breaches::Question;
 use crate::chain_place::ChainPlace;
-use crate::content_fault::content_fault;
-use crate::identifiers::Named;
+use crate::contents::content_fault;
+use crate::lines::Lines;
 use cert_desk_checking::types::Extension;
 use cert_desk_checking::{Reason, Rule, reason_of};
-use std::alloc::{AllocError, Global};
+use const_oid::ObjectIdentifier;
 
 // Adds how an extension breaks a rule by itself.
 fn add_against(
-    alloc: Global,
-    text: &mut String,
+    lines: &mut Lines<'_>,
     rule: Rule,
     extension: &Extension,
-    question: &Question<'_, '_>,
-) -> Result<(), AllocError> {
-    let names = question.names;
-    let kind = Named {
-        identifier: extension.extn_id,
-        names,
-    };
+    purpose: &ObjectIdentifier<39>,
+) {
+    let kind = &extension.extn_id;
     match rule {
         Rule::MalformedExtension => {
-            write!(text, "{kind} isn't one value of its kind")?;
-            if let Some(fault) = content_fault(alloc, extension)? {
-                write!(text, ": {fault}")?;
+            lines.identifier("", kind, " isn't one value of its kind");
+            if let Some(fault) = content_fault(lines, extension) {
+                lines.show(": ", fault, "");
             }
         }
         Rule::UnweighedCritical => {
-            write!(
-                text,
-                "{kind} is critical, and isn't weighed here (RFC 5280 4.2)"
-            )?;
+            lines.identifier(
+                "",
+                kind,
+                " is critical, and isn't weighed here (RFC 5280 4.2)",
+            );
         }
         Rule::AgainstPurpose => {
-            let purpose = Named {
-                identifier: question.purpose,
-                names,
-            };
-            write!(text, "{kind} lacks {purpose} (RFC 5280 4.2.1.12)")?;
+            lines.identifier("", kind, " lacks ");
+            lines.identifier("", purpose, " (RFC 5280 4.2.1.12)");
         }
-        _ => write!(text, "{kind} lacks keyCertSign (RFC 5280 6.1.4 (n))")?,
+        _ => lines.identifier("", kind, " lacks keyCertSign (RFC 5280 6.1.4 (n))"),
     }
-    Ok(())
 }
 
 // Adds a reason, behind the rule that is broken.
 fn add_reason(
-    alloc: Global,
-    text: &mut String,
+    lines: &mut Lines<'_>,
     place: &ChainPlace<'_>,
     rule: Rule,
     reason: Reason,
-    question: &Question<'_, '_>,
-) -> Result<(), AllocError> {
-    write!(text, "  {rule}: ")?;
+    purpose: &ObjectIdentifier<39>,
+) {
     match reason {
         Reason::Extension(number) => {
             if let Some(extension) = place.extensions().get(number) {
-                add_against(alloc, text, rule, extension, question)?;
+                add_against(lines, rule, extension, purpose);
             }
         }
         Reason::Twins { first, second } => {
             if let Some(extension) = place.extensions().get(first) {
-                let kind = Named {
-                    identifier: extension.extn_id,
-                    names: question.names,
-                };
-                write!(
-                    text,
-                    "extensions {first} and {second} are both {kind} (RFC 5280 4.2)"
-                )?;
+                lines.count("extensions ", first as u64, " and ");
+                lines.count("", second as u64, " are both ");
+                lines.identifier("", &extension.extn_id, " (RFC 5280 4.2)");
             }
         }
         Reason::NoConstraints => {
-            text.push_str("no basicConstraints make it an authority (RFC 5280 6.1.4 (k))")?;
+            lines.push("no basicConstraints make it an authority (RFC 5280 6.1.4 (k))");
         }
         Reason::PathLength { place } => {
-            write!(
-                text,
-                "more authorities follow than certificate {place} allows (RFC 5280 4.2.1.9)"
-            )?;
+            lines.count(
+                "more authorities follow than certificate ",
+                place as u64,
+                " allows",
+            );
+            lines.push(" (RFC 5280 4.2.1.9)");
         }
     }
-    text.push('\n')
 }
 
 // Adds why the certificate at a place breaks a rule, if it does.
 pub(crate) fn add_breach(
-    alloc: Global,
-    text: &mut String,
+    lines: &mut Lines<'_>,
     place: &ChainPlace<'_>,
     rule: Rule,
-    question: &Question<'_, '_>,
-) -> Result<(), AllocError> {
-    let reason = reason_of(alloc, place.bundle, place.number, rule, &question.purpose)?;
-    match reason {
-        Some(reason) => add_reason(alloc, text, place, rule, reason, question),
-        None => Ok(()),
+    purpose: &ObjectIdentifier<39>,
+) {
+    match reason_of(lines.alloc, place.bundle, place.number, rule, purpose) {
+        Ok(Some(reason)) => {
+            lines.show("  ", rule, ": ");
+            add_reason(lines, place, rule, reason, purpose);
+            lines.push("\n");
+        }
+        Ok(None) => {}
+        Err(_) => lines.fail(),
     }
 }

@@ -2,10 +2,11 @@
 
 use crate::fields::Node;
 use crate::kind::Kind;
-use crate::printing::Offset;
+use crate::lines::Lines;
+use crate::lists::list_of;
 use crate::way_down::add_way;
-use cert_desk_checking::types::{CertReq, CertificateInner, CertificateList, Raw, Rfc5280};
-use der_core::{Error, ErrorKind, from_der};
+use cert_desk_checking::types::{CertReq, CertificateInner, Raw, Rfc5280};
+use der_core::{Error, ErrorKind};
 use std::alloc::{AllocError, Global};
 
 // Whether octets are PEM (RFC 7468), of which nothing is read here.
@@ -14,35 +15,30 @@ pub(crate) fn is_pem(octets: &[u8]) -> bool {
 }
 
 // Adds what is wrong with a value that begins at an offset of a file, and the way down to it.
-fn add_fault(
-    text: &mut String,
-    octets: &[u8],
-    offset: u64,
-    root: Node,
-    error: &Error,
-) -> Result<(), AllocError> {
-    let kind = error.kind;
+fn add_fault(lines: &mut Lines<'_>, octets: &[u8], offset: u64, root: Node, error: &Error) {
+    lines.note(error.kind);
     let place = match error.position {
         Some(position) => position.value,
         None => 0,
     };
-    writeln!(text, "{}: {kind}", Offset(offset, u64::from(place)))?;
-    add_way(text, octets, offset, root, place as usize)
+    lines.place("", offset, u64::from(place), ": ");
+    lines.show("", error.kind, "\n");
+    add_way(lines, octets, offset, root, place as usize);
 }
 
 // Adds what is wrong with a certificate that begins at an offset of a file, and the way down to it.
 // Of octets that begin with another tag there is no way.
 pub(crate) fn add_certificate_fault(
-    text: &mut String,
+    lines: &mut Lines<'_>,
     octets: &[u8],
     offset: u64,
     error: &Error,
-) -> Result<(), AllocError> {
+) {
     let root = match octets {
         [0x30, ..] => Node::Certificate,
         _ => Node::Other,
     };
-    add_fault(text, octets, offset, root, error)
+    add_fault(lines, octets, offset, root, error);
 }
 
 // What is said of octets that are of their kind.
@@ -50,32 +46,6 @@ const WELL: &str = "the octets are what they should be\n";
 
 // What is said in front of what RFC 5280 asks for beyond that.
 const BEYOND: &str = "RFC 5280 asks for more than is asked here: ";
-
-// Adds one text where these octets could be read, and else another and why not; answers whether
-// they could.
-fn add_read<T: Drop>(
-    text: &mut String,
-    octets: &[u8],
-    root: Node,
-    read: Result<T, Error>,
-    well: &str,
-    ill: &str,
-) -> Result<bool, AllocError> {
-    match read {
-        Ok(_) => {
-            text.push_str(well)?;
-            Ok(true)
-        }
-        Err(error) => match error.kind {
-            ErrorKind::OutOfMemory => Err(AllocError),
-            _ => {
-                text.push_str(ill)?;
-                add_fault(text, octets, 0, root, &error)?;
-                Ok(false)
-            }
-        },
-    }
-}
 
 // What RFC 5280 4.1.2.2 forbids of a serial number that is read all the same, as a line; nothing
 // where it is above zero and of at most 20 octets (and one for the sign).
@@ -94,40 +64,46 @@ pub(crate) fn serial_remark(serial: &[u8]) -> &'static str {
     }
 }
 
-// What is said besides of octets that should be a certificate.
-fn remark_of(read: &Result<CertificateInner<Raw>, Error>) -> &'static str {
-    match read {
-        Ok(certificate) => serial_remark(certificate.tbs_certificate().serial_number().as_bytes()),
-        Err(error) => match error.kind {
-            ErrorKind::TrailingData => "  (of several certificates `cert_tool split` gives each)\n",
-            _ => "",
-        },
+// Adds what is to be said of a certificate that was read of these octets.
+fn add_read(lines: &mut Lines<'_>, octets: &[u8], certificate: &CertificateInner<Raw>) {
+    lines.push(WELL);
+    if let Err(error) = CertificateInner::<Rfc5280>::from_der(lines.alloc, octets) {
+        lines.push(BEYOND);
+        add_fault(lines, octets, 0, Node::Certificate, &error);
+    }
+    let serial = certificate.tbs_certificate().serial_number();
+    lines.push(serial_remark(serial.as_bytes()));
+}
+
+fn add_certificate(lines: &mut Lines<'_>, octets: &[u8]) {
+    match CertificateInner::<Raw>::from_der(lines.alloc, octets) {
+        Ok(certificate) => add_read(lines, octets, &certificate),
+        Err(error) => {
+            add_fault(lines, octets, 0, Node::Certificate, &error);
+            if error.kind == ErrorKind::TrailingData {
+                lines.push("  (of several certificates `cert_tool split` gives each)\n");
+            }
+        }
     }
 }
 
-fn add_certificate(alloc: Global, text: &mut String, octets: &[u8]) -> Result<(), AllocError> {
-    let read = CertificateInner::<Raw>::from_der(alloc, octets);
-    let remark = remark_of(&read);
-    if add_read(text, octets, Node::Certificate, read, WELL, "")? {
-        let read = CertificateInner::<Rfc5280>::from_der(alloc, octets);
-        add_read(text, octets, Node::Certificate, read, "", BEYOND)?;
+fn add_list(lines: &mut Lines<'_>, octets: &[u8]) {
+    if let Err(error) = list_of::<Raw>(lines.alloc, octets) {
+        add_fault(lines, octets, 0, Node::List, &error);
+        return;
     }
-    text.push_str(remark)
+    lines.push(WELL);
+    if let Err(error) = list_of::<Rfc5280>(lines.alloc, octets) {
+        lines.push(BEYOND);
+        add_fault(lines, octets, 0, Node::List, &error);
+    }
 }
 
-fn add_list(alloc: Global, text: &mut String, octets: &[u8]) -> Result<(), AllocError> {
-    let read = from_der::<CertificateList<Raw>>(alloc, octets);
-    if add_read(text, octets, Node::List, read, WELL, "")? {
-        let read = from_der::<CertificateList<Rfc5280>>(alloc, octets);
-        add_read(text, octets, Node::List, read, "", BEYOND)?;
+fn add_request(lines: &mut Lines<'_>, octets: &[u8]) {
+    match CertReq::try_from_bytes(lines.alloc, octets) {
+        Ok(_) => lines.push(WELL),
+        Err(error) => add_fault(lines, octets, 0, Node::Request, &error),
     }
-    Ok(())
-}
-
-fn add_request(alloc: Global, text: &mut String, octets: &[u8]) -> Result<(), AllocError> {
-    let read = CertReq::try_from_bytes(alloc, octets);
-    add_read(text, octets, Node::Request, read, WELL, "")?;
-    Ok(())
 }
 
 // How OpenSSL makes DER of PEM.
@@ -147,15 +123,15 @@ pub(crate) fn explain_octets(
     octets: &[u8],
     kind: Kind,
 ) -> Result<String, AllocError> {
-    let mut text = String::new(alloc);
+    let mut lines = Lines::without_names(alloc);
     if is_pem(octets) {
-        text.push_str(pem_hint(kind))?;
-        return Ok(text);
+        lines.push(pem_hint(kind));
+        return lines.finish();
     }
     match kind {
-        Kind::Certificate => add_certificate(alloc, &mut text, octets)?,
-        Kind::List => add_list(alloc, &mut text, octets)?,
-        Kind::Request => add_request(alloc, &mut text, octets)?,
+        Kind::Certificate => add_certificate(&mut lines, octets),
+        Kind::List => add_list(&mut lines, octets),
+        Kind::Request => add_request(&mut lines, octets),
     }
-    Ok(text)
+    lines.finish()
 }

@@ -2,56 +2,55 @@
 
 use crate::chain_place::ChainPlace;
 use crate::general_names::add_general_name;
-use crate::reads::readable;
+use crate::lines::Lines;
 use crate::refusal::serial_remark;
 use cert_desk_checking::types::{Extension, GeneralName, SubjectAltName};
-use const_oid::Database;
 use der_core::from_der;
-use std::alloc::{AllocError, Global};
 
 // Adds that a certificate is valid after the one before isn't any more.
-fn add_date_remark(text: &mut String, place: &ChainPlace<'_>) -> Result<(), AllocError> {
+fn add_date_remark(lines: &mut Lines<'_>, place: &ChainPlace<'_>) {
     let Some(before) = place.before() else {
-        return Ok(());
+        return;
     };
-    let this = place.certificate.tbs_certificate().validity().not_after;
-    let earlier = before.validity().not_after;
+    let this = &place.certificate.tbs_certificate().validity().not_after;
+    let earlier = &before.validity().not_after;
     if this.to_date_time().unix_seconds() > earlier.to_date_time().unix_seconds() {
-        writeln!(
-            text,
-            "  remark: it is valid until {this}, and its issuer until {earlier}"
-        )?;
+        lines.date(
+            "  remark: it is valid until ",
+            this,
+            ", and its issuer until ",
+        );
+        lines.date("", earlier, "\n");
     }
-    Ok(())
 }
 
 // Adds what RFC 5280 4.1.2.2 forbids of the serial number by itself.
-fn add_serial_remark(text: &mut String, place: &ChainPlace<'_>) -> Result<(), AllocError> {
+fn add_serial_remark(lines: &mut Lines<'_>, place: &ChainPlace<'_>) {
     let serial = place.certificate.tbs_certificate().serial_number();
     let remark = serial_remark(serial.as_bytes());
     if !remark.is_empty() {
-        write!(text, "  {remark}")?;
+        lines.push("  ");
+        lines.push(remark);
     }
-    Ok(())
 }
 
 // Adds which earlier certificate has the same issuer and serial number (RFC 5280 4.1.2.2).
-fn add_twin_remark(text: &mut String, place: &ChainPlace<'_>) -> Result<(), AllocError> {
+fn add_twin_remark(lines: &mut Lines<'_>, place: &ChainPlace<'_>) {
     let serial = place.certificate.tbs_certificate().serial_number();
     for distance in 1..=place.number {
         let Some(earlier) = place.earlier(distance) else {
-            return Ok(());
+            return;
         };
         let other = earlier.certificate.tbs_certificate().serial_number();
         if serial == other && place.issuer().has_octets_of(earlier.issuer()) {
-            writeln!(
-                text,
-                "  remark: certificate {} of the same issuer has its serial number",
-                earlier.number
-            )?;
+            lines.count(
+                "  remark: certificate ",
+                earlier.number as u64,
+                " of the same issuer",
+            );
+            lines.push(" has its serial number\n");
         }
     }
-    Ok(())
 }
 
 // Whether a character may stand in a DNS name of a certificate (RFC 5280 4.2.1.6, RFC 6125 6.4.3).
@@ -78,49 +77,30 @@ fn is_misnamed(name: &GeneralName) -> bool {
 }
 
 // Adds which of these names are called DNS names and aren't.
-fn add_host_remarks(
-    alloc: Global,
-    text: &mut String,
-    listed: &[GeneralName],
-    names: Database<'_>,
-) -> Result<(), AllocError> {
+fn add_host_remarks(lines: &mut Lines<'_>, listed: &[GeneralName]) {
     for name in listed {
         if is_misnamed(name) {
-            text.push_str("  remark: this is no DNS name: ")?;
-            add_general_name(alloc, text, name, names)?;
+            add_general_name(lines, "  remark: this is no DNS name: ", name);
         }
     }
-    Ok(())
 }
 
 // Of the names of an extension, if it lists other names of the subject.
-fn add_extension_remarks(
-    alloc: Global,
-    text: &mut String,
-    extension: &Extension,
-    names: Database<'_>,
-) -> Result<(), AllocError> {
+fn add_extension_remarks(lines: &mut Lines<'_>, extension: &Extension) {
     if let [0x55, 0x1d, 17] = extension.extn_id.as_bytes() {
-        let octets = extension.extn_value.as_bytes();
-        if let Some(listed) = readable(from_der::<SubjectAltName>(alloc, octets))? {
-            return add_host_remarks(alloc, text, listed.0.as_slice(), names);
+        match from_der::<SubjectAltName>(lines.alloc, extension.extn_value.as_bytes()) {
+            Ok(listed) => add_host_remarks(lines, listed.0.as_slice()),
+            Err(error) => lines.note(error.kind),
         }
     }
-    Ok(())
 }
 
 // Adds what is unwise at a place, though no rule forbids it.
-pub(crate) fn add_remarks(
-    alloc: Global,
-    text: &mut String,
-    place: &ChainPlace<'_>,
-    names: Database<'_>,
-) -> Result<(), AllocError> {
-    add_date_remark(text, place)?;
-    add_serial_remark(text, place)?;
-    add_twin_remark(text, place)?;
+pub(crate) fn add_remarks(lines: &mut Lines<'_>, place: &ChainPlace<'_>) {
+    add_date_remark(lines, place);
+    add_serial_remark(lines, place);
+    add_twin_remark(lines, place);
     for extension in place.extensions() {
-        add_extension_remarks(alloc, text, extension, names)?;
+        add_extension_remarks(lines, extension);
     }
-    Ok(())
 }

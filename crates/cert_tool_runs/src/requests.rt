@@ -1,68 +1,43 @@
 //! Descriptions of certification requests (RFC 2986).
 
 use crate::contents::add_extensions;
-use crate::describe::Document;
-use crate::description::add_named;
-use crate::identifiers::Named;
-use crate::keys::{add_algorithm, add_digests, add_key, add_key_digests};
-use crate::printing::Colons;
-use crate::reads::readable;
+use crate::keys::{add_digests, add_key, add_key_digests};
+use crate::lines::Lines;
 use cert_desk_checking::types::{Any, Attribute, CertReq, ExtensionReq};
-use const_oid::{AssociatedOid, Database};
-use std::alloc::{AllocError, Global};
+use const_oid::AssociatedOid;
 
 // Adds the lines of a value of an attribute.
-fn add_value(
-    alloc: Global,
-    text: &mut String,
-    is_wanted: bool,
-    value: &Any,
-    names: Database<'_>,
-) -> Result<(), AllocError> {
+fn add_value(lines: &mut Lines<'_>, is_wanted: bool, value: &Any) {
     if is_wanted {
-        if let Some(wanted) = readable(value.decode_as::<ExtensionReq>(alloc))? {
-            return add_extensions(alloc, text, wanted.0.as_slice(), names);
+        match value.decode_as::<ExtensionReq>(lines.alloc) {
+            Ok(wanted) => {
+                add_extensions(lines, wanted.0.as_slice());
+                return;
+            }
+            Err(error) => lines.note(error.kind),
         }
     }
-    writeln!(text, "  octets {}", Colons(value.value()))?;
-    Ok(())
+    lines.octets("  octets ", value.value(), "\n");
 }
 
 // Adds the lines of an attribute.
-fn add_attribute(
-    alloc: Global,
-    text: &mut String,
-    attribute: &Attribute,
-    names: Database<'_>,
-) -> Result<(), AllocError> {
-    let identifier = Named {
-        identifier: attribute.oid,
-        names,
-    };
-    writeln!(text, "attribute {identifier}")?;
+fn add_attribute(lines: &mut Lines<'_>, attribute: &Attribute) {
+    lines.identifier("attribute ", &attribute.oid, "\n");
     let is_wanted = attribute.oid == ExtensionReq::associated_oid();
     for value in attribute.values.values.as_slice() {
-        add_value(alloc, text, is_wanted, value, names)?;
+        add_value(lines, is_wanted, value);
     }
-    Ok(())
 }
 
-impl Document for CertReq {
-    fn description(
-        &self,
-        alloc: Global,
-        octets: &[u8],
-        names: Database<'_>,
-    ) -> Result<String, AllocError> {
-        let mut text = String::from_str(alloc, "request\n")?;
-        add_named(alloc, &mut text, "subject", &self.info.subject)?;
-        add_key(alloc, &mut text, &self.info.public_key, names)?;
-        for attribute in self.info.attributes.values.as_slice() {
-            add_attribute(alloc, &mut text, attribute, names)?;
-        }
-        add_algorithm(&mut text, "signature", &self.algorithm, names)?;
-        add_digests(&mut text, "request", octets)?;
-        add_key_digests(alloc, &mut text, &self.info.public_key)?;
-        Ok(text)
+// Adds what a request says, and digests of its octets and of its key.
+pub(crate) fn add_request(lines: &mut Lines<'_>, request: &CertReq, octets: &[u8]) {
+    lines.push("request\n");
+    lines.name("subject ", &request.info.subject, "\n");
+    add_key(lines, &request.info.public_key);
+    for attribute in request.info.attributes.values.as_slice() {
+        add_attribute(lines, attribute);
     }
+    lines.identifier("signature ", &request.algorithm.oid, "\n");
+    add_digests(lines, "request", octets);
+    add_key_digests(lines, &request.info.public_key);
 }

@@ -2,6 +2,7 @@
 
 ghost use Rattle.std.specs.Prelude.{◌≤◌};
 
+use crate::lines::Lines;
 use crate::refusal::{add_certificate_fault, is_pem};
 use cert_desk_checking::{Bundle, BundleError, FaultKind, first_fault};
 use std::alloc::{AllocError, Global};
@@ -30,43 +31,33 @@ fn meaning(kind: FaultKind) -> &'static str {
 }
 
 // Adds why the octets at an offset are no certificate.
-pub(crate) fn add_malformed(
-    alloc: Global,
-    text: &mut String,
-    rest: &[u8],
-    offset: u64,
-) -> Result<(), AllocError> {
-    match first_fault(alloc, rest)? {
-        Some(error) => add_certificate_fault(text, rest, offset, &error),
-        None => Ok(()),
+pub(crate) fn add_malformed(lines: &mut Lines<'_>, rest: &[u8], offset: u64) {
+    match first_fault(lines.alloc, rest) {
+        Ok(Some(error)) => add_certificate_fault(lines, rest, offset, &error),
+        Ok(None) => {}
+        Err(_) => lines.fail(),
     }
 }
 
 // Adds the fault of a stream.
-fn add_stream_fault(
-    alloc: Global,
-    text: &mut String,
-    octets: &[u8],
-    error: BundleError,
-) -> Result<(), AllocError> {
+fn add_stream_fault(lines: &mut Lines<'_>, octets: &[u8], error: BundleError) {
     let BundleError::Fault {
         place,
         offset,
         kind,
     } = error
     else {
-        return Err(AllocError);
+        lines.fail();
+        return;
     };
-    writeln!(
-        text,
-        "certificate {place}, octet {offset}: {}",
-        meaning(kind)
-    )?;
+    lines.count("certificate ", place as u64, ", ");
+    lines.count("octet ", offset, ": ");
+    lines.push(meaning(kind));
+    lines.push("\n");
     let start = offset as usize;
     if kind == FaultKind::Malformed && start <= octets.len() {
-        return add_malformed(alloc, text, &octets[start..], offset);
+        add_malformed(lines, &octets[start..], offset);
     }
-    Ok(())
 }
 
 // Whether each certificate's issuer is the subject of the next, and none's the subject of the one
@@ -85,48 +76,43 @@ pub(crate) fn is_leaf_first(bundle: &Bundle) -> bool {
     bundle.len() > 1
 }
 
-// Adds what is to be said of a stream that a bundle was fed.
-fn add_read(
-    alloc: Global,
-    text: &mut String,
-    octets: &[u8],
-    bundle: &mut Bundle,
-    read: Result<(), BundleError>,
-) -> Result<(), AllocError> {
-    if let Err(error) = read {
-        return add_stream_fault(alloc, text, octets, error);
-    }
-    if let Err(error) = bundle.finish() {
-        return add_stream_fault(alloc, text, octets, error);
-    }
+// Adds what is to be said of a whole stream.
+fn add_whole(lines: &mut Lines<'_>, bundle: &Bundle) {
     if bundle.is_empty() {
-        return text.push_str("the stream is empty\n");
+        lines.push("the stream is empty\n");
+    } else if is_leaf_first(bundle) {
+        lines.push(LEAF_FIRST);
+    } else {
+        lines.count("certificates: ", bundle.len() as u64, ", each whole\n");
     }
-    if is_leaf_first(bundle) {
-        return text.push_str(LEAF_FIRST);
-    }
-    writeln!(text, "certificates: {}, each whole", bundle.len())?;
-    Ok(())
+}
+
+// Feeds a stream to a bundle, to its end.
+fn feed_all(bundle: &mut Bundle, octets: &[u8]) -> Result<(), BundleError> {
+    bundle.feed(octets)?;
+    bundle.finish()
 }
 
 // Adds what is to be said of a stream.
-fn add_stream(alloc: Global, text: &mut String, octets: &[u8], limit: u32) -> Result<(), AllocError>
+fn add_stream(lines: &mut Lines<'_>, octets: &[u8], limit: u32)
     requires { 6 ≤ limit }
 {
-    let mut bundle = Bundle::new(alloc, limit);
-    let read = bundle.feed(octets);
-    add_read(alloc, text, octets, &mut bundle, read)
+    let mut bundle = Bundle::new(lines.alloc, limit);
+    match feed_all(&mut bundle, octets) {
+        Ok(()) => add_whole(lines, &bundle),
+        Err(error) => add_stream_fault(lines, octets, error),
+    }
 }
 
 // Why octets aren't certificates, one behind the other, as `run_explain_stream` says it.
 pub(crate) fn explain_stream(alloc: Global, octets: &[u8], limit: u32) -> Result<String, AllocError>
     requires { 6 ≤ limit }
 {
-    let mut text = String::new(alloc);
+    let mut lines = Lines::without_names(alloc);
     if is_pem(octets) {
-        text.push_str(PEM_STREAM)?;
-        return Ok(text);
+        lines.push(PEM_STREAM);
+    } else {
+        add_stream(&mut lines, octets, limit);
     }
-    add_stream(alloc, &mut text, octets, limit)?;
-    Ok(text)
+    lines.finish()
 }

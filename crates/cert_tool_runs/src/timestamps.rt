@@ -1,53 +1,45 @@
 //! Timestamps of logs (RFC 6962 3.3).
 
 use crate::describe::Describe;
-use crate::printing::Colons;
+use crate::lines::Lines;
 use cert_desk_checking::types::timestamps::{
     Error, SerializedSct, SignedCertificateTimestamp, SignedCertificateTimestampList, TlsError,
 };
-use const_oid::Database;
-use std::alloc::{AllocError, Global};
 
 // Adds the lines of a timestamp.
-fn add_timestamp(
-    text: &mut String,
-    timestamp: &SignedCertificateTimestamp,
-) -> Result<(), AllocError> {
-    writeln!(text, "  log {}", Colons(timestamp.log_id.key_id.as_slice()))?;
+fn add_timestamp(lines: &mut Lines<'_>, timestamp: &SignedCertificateTimestamp) {
+    lines.octets("  log ", timestamp.log_id.key_id.as_slice(), "\n");
     match timestamp.timestamp() {
-        Ok(date) => writeln!(text, "    {date}")?,
-        Err(_) => writeln!(text, "    {} milliseconds", timestamp.timestamp)?,
+        Ok(date) => lines.show("    ", date, "\n"),
+        Err(_) => lines.count("    ", timestamp.timestamp, " milliseconds\n"),
     }
-    Ok(())
 }
 
-// Adds the lines of timestamps as they are written.
-fn add_written(
-    alloc: Global,
-    text: &mut String,
-    listed: &[SerializedSct],
-) -> Result<(), AllocError> {
-    for written in listed {
-        match written.parse_timestamp(alloc) {
-            Ok(timestamp) => add_timestamp(text, &timestamp)?,
-            Err(Error::Tls(TlsError::OutOfMemory)) => return Err(AllocError),
-            Err(_) => text.push_str("  malformed\n")?,
-        }
+// Adds that timestamps aren't what they should be.
+fn add_fault(lines: &mut Lines<'_>, error: Error) {
+    if let Error::Tls(TlsError::OutOfMemory) = error {
+        lines.fail();
     }
-    Ok(())
+    lines.push("  malformed\n");
+}
+
+// Adds the lines of a timestamp as it is written.
+fn add_written(lines: &mut Lines<'_>, written: &SerializedSct) {
+    match written.parse_timestamp(lines.alloc) {
+        Ok(timestamp) => add_timestamp(lines, &timestamp),
+        Err(error) => add_fault(lines, error),
+    }
 }
 
 impl Describe for SignedCertificateTimestampList {
-    fn describe(
-        &self,
-        alloc: Global,
-        text: &mut String,
-        _names: Database<'_>,
-    ) -> Result<(), AllocError> {
-        match self.parse_timestamps(alloc) {
-            Ok(listed) => add_written(alloc, text, listed.as_slice()),
-            Err(Error::Tls(TlsError::OutOfMemory)) => Err(AllocError),
-            Err(_) => text.push_str("  malformed\n"),
+    fn describe(&self, lines: &mut Lines<'_>) {
+        match self.parse_timestamps(lines.alloc) {
+            Ok(listed) => {
+                for written in &listed {
+                    add_written(lines, written);
+                }
+            }
+            Err(error) => add_fault(lines, error),
         }
     }
 }

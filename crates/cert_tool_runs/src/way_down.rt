@@ -1,9 +1,8 @@
 //! The way from a value down to an octet of it.
 
 use crate::fields::{Node, field};
-use crate::printing::Offset;
+use crate::lines::Lines;
 use der_core::{Tag, header_of};
-use std::alloc::AllocError;
 
 // A value among others that stand one behind the other.
 #[derive(Clone, Copy)]
@@ -60,15 +59,9 @@ fn part_around(octets: &[u8], start: usize, place: usize) -> Option<(Part, usize
 
 // Adds the values in which an octet of these stands, from the outermost on. They begin at an offset
 // of a file.
-pub(crate) fn add_way(
-    text: &mut String,
-    octets: &[u8],
-    offset: u64,
-    root: Node,
-    place: usize,
-) -> Result<(), AllocError> {
+pub(crate) fn add_way(lines: &mut Lines<'_>, octets: &[u8], offset: u64, root: Node, place: usize) {
     let Some((whole, _)) = part_around(octets, 0, place) else {
-        return Ok(());
+        return;
     };
     let mut node = root;
     let mut around = whole;
@@ -84,11 +77,12 @@ pub(crate) fn add_way(
         };
         let (name, inner) = field(node, part.first, number);
         if !name.is_empty() {
-            let start = Offset(offset, part.start as u64);
-            writeln!(text, "  in {name} ({}, {start})", part.tag)?;
+            lines.push("  in ");
+            lines.push(name);
+            lines.show(" (", part.tag, ", ");
+            lines.place("", offset, part.start as u64, ")\n");
         }
         node = inner;
         around = part;
     }
-    Ok(())
 }

@@ -206,6 +206,15 @@ fn usage_of(word: &str) -> &'static str {
     }
 }
 
+// What is told where words ask for help: of all words, or of one.
+fn help_of(words: &[&str]) -> Option<&'static str> {
+    match words {
+        [word, ..] if is_help(word) => Some(USAGE),
+        [word, asks, ..] if is_help(asks) => Some(usage_of(word)),
+        _ => None,
+    }
+}
+
 // Does what a word says, but for help.
 fn do_word<R: Files + Clock, O: Output, E: Output>(
     alloc: Global,
@@ -238,18 +247,13 @@ pub fn obey<R: Files + Clock, O: Output, E: Output>(
     out: &mut O,
     err: &mut E,
 ) -> ExitStatus {
-    let [word, words @ ..] = words else {
+    let [word, arguments @ ..] = words else {
         return tell_words(err);
     };
-    if is_help(word) {
-        return tell(out, &[USAGE, ARGUMENTS], ExitStatus::Done);
+    if let Some(help) = help_of(words) {
+        return tell(out, &[help, ARGUMENTS], ExitStatus::Done);
     }
-    if let [first, ..] = words {
-        if is_help(first) {
-            return tell(out, &[usage_of(word), ARGUMENTS], ExitStatus::Done);
-        }
-    }
-    match do_word(alloc, rt, word, words, out, err) {
+    match do_word(alloc, rt, word, arguments, out, err) {
         Ok(status) => status,
         Err(status) => status,
     }
