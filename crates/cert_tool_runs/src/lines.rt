@@ -193,15 +193,21 @@ impl<'a> Lines<'a> {
         self.push(behind);
     }
 
-    // Adds the amount of a number below zero: each octet's complement, and one more than that.
+    // Adds the amount of a number below zero: each octet's complement, and one more than that,
+    // which is carried over the zeros at the end.
     fn opposite(&mut self, octets: &[u8]) {
+        let mut last = 0;
+        for place in 0..octets.len() {
+            if octets[place] != 0 {
+                last = place;
+            }
+        }
         for place in 0..octets.len() {
             let complement = 255 - octets[place];
-            let carries = octets[place + 1..].iter().all(|octet| *octet == 0);
-            if carries {
-                self.pair(complement.wrapping_add(1));
-            } else {
+            if place < last {
                 self.pair(complement);
+            } else {
+                self.pair(complement.wrapping_add(1));
             }
         }
     }
