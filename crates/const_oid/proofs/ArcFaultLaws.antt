@@ -1,7 +1,8 @@
 -- Gathering answers an identifier, or the fault of the shortest faulty front of the arcs.
-use Rattle.std.proofs.Common.{◌≡◌, ◌≢◌, ℕ, ◌<◌, ◌≤◌, ◌⊎◌, inl, inr, false, List, [], ◌∷◌, ◌++◌, length, Result, Ok, Err, IfOk, IfErr, MatchResult, sym, refl, ap, subst, ◌∙◌, append_assoc, append-nil, length-append, arith, Bool, cond, ltb, true}
+use Rattle.std.proofs.Common.{◌≡◌, ◌≢◌, ℕ, ◌<◌, ◌≤◌, ◌⊎◌, inl, inr, false, List, [], ◌∷◌, ◌++◌, length, Result, Ok, Err, IfOk, IfErr, MatchResult, sym, refl, ap, subst, ◌∙◌, append_assoc, append-nil, length-append, arith}
 use Rattle.std.specs.List.{AllByRecursion, flat_map}
 use Rattle.std.proofs.lemmas.Bool.{lt-ltb, le-ltb, cases_lt}
+use Rattle.std.proofs.lemmas.Bool.Decides.{nat_tests}
 use Rattle.std.proofs.lemmas.List.{same_from_push}
 use Rattle.std.proofs.lemmas.Grind.{flat_map-append}
 use Rattle.const_oid.specs.declared.error.Error.{Error}
@@ -85,12 +86,7 @@ next-not_overflow capacity front a e (past_capacity placed long) h = cc
 -- an arc more is never too few
 pub add_arc-not_empty : (capacity : ℕ) (front : List ℕ) (a : ℕ) → add_arc capacity front a ≢ Err errors.Empty
 unfolding add_arc
-add_arc-not_empty capacity front a h = by (is_misplaced front a) (ltb capacity (length (identifier_octets (front ++ (a ∷ []))))) h
-  where
-    by : (b d : Bool) → cond b (Err (errors.ArcInvalid a)) (cond d (Err errors.Length) (Ok (front ++ (a ∷ [])))) ≢ Err errors.Empty
-    by true d e = cc
-    by false true e = cc
-    by false false e = cc
+add_arc-not_empty capacity front a h = grind (arith, nat_tests)
 
 -- What gathering answers
 
@@ -149,6 +145,17 @@ gather-front capacity front (a ∷ more) rest f =
     gather-ok capacity front (front ++ (a ∷ [])) a (more ++ rest) (add_arc-faultless capacity front a (faultless_front capacity (front ++ (a ∷ [])) more g))
     ∙ gather-front capacity (front ++ (a ∷ [])) more rest g
     ∙ ap (λ t. gather capacity t rest) whole
+
+-- the arcs of an identifier are gathered whole
+identifier_placed : (bound : ℕ) (arcs : List ℕ) → IsIdentifier bound arcs → ArePlaced arcs × (2 ≤ length arcs)
+unfolding IsIdentifier
+identifier_placed bound (x ∷ y ∷ arcs) id = ((id.0, omega (arith, id.1)), omega arith)
+identifier_placed bound _ id = absurd id
+
+pub identifier_gathered : (bound capacity : ℕ) (arcs : List ℕ) → IsIdentifier bound arcs → length (identifier_octets arcs) ≤ capacity → gather capacity [] arcs ≡ Ok arcs
+identifier_gathered bound capacity arcs id fits =
+    let p = identifier_placed bound arcs id in
+    ap (gather capacity []) (sym (append-nil arcs)) ∙ gather-front capacity [] arcs [] (record { placed = p.0; fits = fits }) ∙ gather-end capacity arcs ∙ whole-many arcs p.1
 
 -- arcs of that fault are refused with it
 pub arc_fault_answered : (capacity : ℕ) (arcs : List ℕ) (e : Error) → IsArcsFault capacity arcs e → gather capacity [] arcs ≡ Err e

@@ -1,7 +1,8 @@
 -- What is read of octets is the arcs that they spell.
-use Rattle.std.proofs.Common.{◌≡◌, ℕ, zero, suc, ◌+◌, ◌*◌, ◌/◌, ◌%◌, ◌<◌, ◌≤◌, Bool, true, false, ltb, List, [], ◌∷◌, length, get_or, drop, Result, Ok, Err, is_ok, Option, None, Some, MatchOption, cond, count_by, slice_get, sym, refl, ap, subst, ◌∙◌, ◌⊎◌, inl, inr, add-one, arith}
-use Rattle.std.proofs.lemmas.Bool.{lt-ltb, le-ltb, cases_lt, cases_eq}
-use Rattle.std.proofs.Math.Seq.{drop-cons}
+use Rattle.std.proofs.Common.{◌≡◌, ℕ, zero, suc, ◌+◌, ◌*◌, ◌/◌, ◌%◌, ◌<◌, ◌≤◌, true, ltb, List, [], ◌∷◌, length, get_or, drop, Result, Ok, Err, is_ok, Option, None, Some, MatchOption, cond, count_by, slice_get, sym, refl, ap, subst, ◌∙◌, inl, inr, arith}
+use Rattle.std.proofs.lemmas.Bool.{lt-ltb, le-ltb, cases_lt}
+use Rattle.std.proofs.lemmas.Bool.Decides.{nat_tests}
+use Rattle.std.proofs.lemmas.List.{drop_more}
 use Rattle.std.proofs.lemmas.List.Sums.{sum_by-cons}
 use Rattle.std.specs.List.{AllByRecursion, flat_map}
 use Rattle.const_oid.specs.declared.error.Error.{Error}
@@ -9,7 +10,7 @@ use Rattle.const_oid.specs.declared.error.Error.TheVariants as errors
 use Rattle.const_oid.specs.IdentifierOctets.{arc_octets, identifier_octets, IsIdentifier, with_arc, read_arcs, read_identifier}
 use Rattle.const_oid.specs.Arcs.{later_arcs, arcs_of, SpellsIdentifier}
 use Rattle.const_oid.specs.Outcome.{outcome}
-use Rattle.const_oid.proofs.IdentifierLaws.{Step, leading, too_big, last, more, step, read_arcs-end, read_arcs-cut, read_arcs-leading, read_arcs-too_big, read_arcs-last, read_arcs-more, with_arc-ok, identifier_sound, identifier_again, arcs_below}
+use Rattle.const_oid.proofs.IdentifierLaws.{Step, leading, too_big, last, more, step, read_arcs-end, read_arcs-cut, read_arcs-leading, read_arcs-too_big, read_arcs-last, read_arcs-more, with_arc-ok, root_ok, identifier_sound, identifier_again, arcs_below}
 
 pub later_arcs-last : (value o : ℕ) (w : List ℕ) → o < 128 → later_arcs value (o ∷ w) ≡ (value * 128 + o % 128) ∷ later_arcs 0 w
 unfolding later_arcs
@@ -52,18 +53,9 @@ read_identifier-long bound capacity (r ∷ w) l = rw (lt-ltb capacity (length (r
 pub arcs_of-read : (bound capacity : ℕ) (w arcs : List ℕ) → read_identifier bound capacity w ≡ Ok arcs → arcs_of w ≡ arcs
 unfolding arcs_of
 arcs_of-read bound capacity [] arcs ok = cc
-arcs_of-read bound capacity (r ∷ w) arcs ok = by (ltb capacity (length (r ∷ w))) (ltb r 120) ok
-  where
-    by : (long small : Bool)
-        → ◌≡◌ {A = Result (List ℕ) Error} (elim long [ true ↦ Err errors.Length | false ↦ elim small [ false ↦ Err (errors.ArcInvalid (r / 40)) | true ↦ with_arc (r / 40) (with_arc (r % 40) (read_arcs bound 0 w)) ] ]) (Ok arcs)
-        → r / 40 ∷ r % 40 ∷ later_arcs 0 w ≡ arcs
-    by true small e = cc
-    by false false e = cc
-    by false true e =
-        let first = with_arc-ok (r / 40) (with_arc (r % 40) (read_arcs bound 0 w)) arcs e in
-        let second = with_arc-ok (r % 40) (read_arcs bound 0 w) first.0 first.1 in
-        ap (λ t. r / 40 ∷ r % 40 ∷ t) (later_arcs-read bound 0 w second.0 second.1)
-        ∙ sym (first.2 ∙ ap (λ t. r / 40 ∷ t) second.2)
+arcs_of-read bound capacity (r ∷ w) arcs ok =
+    let read = root_ok bound capacity r w arcs ok in
+    ap (λ t. r / 40 ∷ r % 40 ∷ t) (later_arcs-read bound 0 w read.0 read.2) ∙ sym read.3
 
 pub arcs_of-identifier_octets : (bound : ℕ) (arcs : List ℕ) → IsIdentifier bound arcs → arcs_of (identifier_octets arcs) ≡ arcs
 arcs_of-identifier_octets bound arcs id =
@@ -120,6 +112,9 @@ pub record Octet (bound value o : ℕ) (w : List ℕ) : Type 0 where
   pub ends : o < 128 → (later_arcs value (o ∷ w) ≡ (value * 128 + o % 128) ∷ later_arcs 0 w) × (is_ok (read_arcs bound 0 w) ≡ true)
   pub goes : 128 ≤ o → (later_arcs value (o ∷ w) ≡ later_arcs (value * 128 + o % 128) w) × (is_ok (read_arcs bound (value * 128 + o % 128) w) ≡ true) × (0 < value * 128 + o % 128)
 
+grows : (value o : ℕ) → ((value ≡ 0) × (o ≡ 128) → ⊥) → 128 ≤ o → o < 256 → 0 < value * 128 + o % 128
+grows value o free l byte = grind (arith, nat_tests)
+
 pub octet : (bound value o : ℕ) (w : List ℕ) → o < 256 → is_ok (read_arcs bound value (o ∷ w)) ≡ true → Octet bound value o w
 octet bound value o w byte ok = by (step bound value o)
   where
@@ -134,21 +129,13 @@ octet bound value o w byte ok = by (step bound value o)
     by (more free fits l) = record {
       fits = fits;
       ends = λ k. absurd (omega arith);
-      goes = λ _. (later_arcs-more value o w l, sym (ap is_ok (read_arcs-more bound value o w free fits l)) ∙ ok, grows free l);
+      goes = λ _. (later_arcs-more value o w l, sym (ap is_ok (read_arcs-more bound value o w free fits l)) ∙ ok, grows value o free l byte);
     }
-      where
-        grows : ((value ≡ 0) × (o ≡ 128) → ⊥) → 128 ≤ o → 0 < value * 128 + o % 128
-        grows free l = pos (cases_eq value 0) (cases_eq o 128)
-          where
-            pos : (value ≡ 0) ⊎ (value ≡ 0 → ⊥) → (o ≡ 128) ⊎ (o ≡ 128 → ⊥) → 0 < value * 128 + o % 128
-            pos (inl v) (inl e) = absurd (free (v, e))
-            pos (inl v) (inr e) = omega arith
-            pos (inr v) _ = omega arith
 
 pub octet_at : (bound value i : ℕ) (w : List ℕ) → ((i : ℕ) → get_or w i 0 < 256) → i < length w → is_ok (read_arcs bound value (drop i w)) ≡ true
     → (drop i w ≡ get_or w i 0 ∷ drop (i + 1) w) × Octet bound value (get_or w i 0) (drop (i + 1) w)
 octet_at bound value i w bytes l ok =
-    let e : drop i w ≡ get_or w i 0 ∷ drop (i + 1) w = drop-cons w i 0 l ∙ ap (λ n. get_or w i 0 ∷ drop n w) (sym (add-one i)) in
+    let e = drop_more w i 0 l in
     (e, octet bound value (get_or w i 0) (drop (i + 1) w) (bytes i) (sym (ap (λ t. is_ok (read_arcs bound value t)) e) ∙ ok))
 
 pub whole_end : (bound value : ℕ) → is_ok (read_arcs bound value []) ≡ true → value ≡ 0
@@ -157,14 +144,15 @@ whole_end bound (suc value) ok = let read = ap is_ok (read_arcs-cut bound (suc v
 
 -- the octets after the root are whole arcs
 pub later_whole : (bound capacity r : ℕ) (w : List ℕ) → is_ok (read_identifier bound capacity (r ∷ w)) ≡ true → is_ok (read_arcs bound 0 w) ≡ true
-later_whole bound capacity r w ok = by (ltb capacity (length (r ∷ w))) (ltb r 120) ok
-  where
-    by : (long small : Bool)
-        → is_ok (elim long as (λ x. Result (List ℕ) Error) [ true ↦ Err errors.Length | false ↦ elim small [ false ↦ Err (errors.ArcInvalid (r / 40)) | true ↦ with_arc (r / 40) (with_arc (r % 40) (read_arcs bound 0 w)) ] ]) ≡ true
-        → is_ok (read_arcs bound 0 w) ≡ true
-    by true small e = cc
-    by false false e = cc
-    by false true e = sym (is_ok-with_arc (r / 40) (with_arc (r % 40) (read_arcs bound 0 w)) ∙ is_ok-with_arc (r % 40) (read_arcs bound 0 w)) ∙ e
+later_whole bound capacity r w ok =
+    let read = is_ok-ok (read_identifier bound capacity (r ∷ w)) ok in
+    ap is_ok (root_ok bound capacity r w read.0 read.1).2
+
+-- the root is below 120
+root_small : (bound capacity r : ℕ) (w : List ℕ) → is_ok (read_identifier bound capacity (r ∷ w)) ≡ true → r < 120
+root_small bound capacity r w ok =
+    let read = is_ok-ok (read_identifier bound capacity (r ∷ w)) ok in
+    (root_ok bound capacity r w read.0 read.1).1
 
 pub arcs_of-cons : (r : ℕ) (w : List ℕ) → arcs_of (r ∷ w) ≡ r / 40 ∷ r % 40 ∷ later_arcs 0 w
 unfolding arcs_of
@@ -184,12 +172,6 @@ pub none_whole : (bound : ℕ) (w : List ℕ) → length w ≡ 0 → is_ok (read
 none_whole bound [] e = ap is_ok (read_arcs-end bound)
 none_whole bound (x ∷ w) e = absurd (omega arith)
 
-pub drop_past : (i : ℕ) (w : List ℕ) → length w ≤ i → drop i w ≡ []
-drop_past zero [] l = refl
-drop_past (suc i) [] l = refl
-drop_past zero (x ∷ w) l = absurd (omega arith)
-drop_past (suc i) (x ∷ w) l = drop_past i w (omega arith)
-
 -- the octets of an identifier are read
 pub is_ok-octets : (bound : ℕ) (w arcs : List ℕ) → IsIdentifier bound arcs → w ≡ identifier_octets arcs → is_ok (read_identifier bound (length w) w) ≡ true
 is_ok-octets bound w arcs id e =
@@ -208,32 +190,38 @@ ends-cons o w = sum_by-cons (λ x. cond (ltb x 128) 1 0) o w
 
 length-later_arcs : (value : ℕ) (w : List ℕ) → length (later_arcs value w) ≡ ends w
 length-later_arcs value [] = ap length (later_arcs-nil value [] refl)
-length-later_arcs value (o ∷ w) = by (cases_lt o 128) (length-later_arcs 0 w) (length-later_arcs (value * 128 + o % 128) w)
-  where
-    by : (o < 128) ⊎ (128 ≤ o) → length (later_arcs 0 w) ≡ ends w → length (later_arcs (value * 128 + o % 128) w) ≡ ends w → length (later_arcs value (o ∷ w)) ≡ ends (o ∷ w)
-    by (inl l) p q = ap length (later_arcs-last value o w l) ∙ ap suc p ∙ sym (ends-cons o w ∙ ap (λ b. cond b 1 0 + ends w) (lt-ltb o 128 l) ∙ one_plus (ends w))
-      where
-        one_plus : (n : ℕ) → 1 + n ≡ suc n
-        one_plus n = omega arith
-    by (inr l) p q = ap length (later_arcs-more value o w l) ∙ q ∙ sym (ends-cons o w ∙ ap (λ b. cond b 1 0 + ends w) (le-ltb o 128 l) ∙ none_plus (ends w))
-      where
-        none_plus : (n : ℕ) → 0 + n ≡ n
-        none_plus n = omega arith
+length-later_arcs value (o ∷ w) =
+    elim (cases_lt o 128) [
+      | inl l ↦
+          let e : ends (o ∷ w) ≡ 1 + ends w = ends-cons o w ∙ ap (λ b. cond b 1 0 + ends w) (lt-ltb o 128 l) in
+          omega (arith, e, ap length (later_arcs-last value o w l), length-later_arcs 0 w)
+      | inr l ↦
+          let e : ends (o ∷ w) ≡ 0 + ends w = ends-cons o w ∙ ap (λ b. cond b 1 0 + ends w) (le-ltb o 128 l) in
+          omega (arith, e, ap length (later_arcs-more value o w l), length-later_arcs (value * 128 + o % 128) w)
+    ]
 
 pub length-arcs_of : (bound : ℕ) (w : List ℕ) → is_ok (read_identifier bound (length w) w) ≡ true → count_by (λ o. ltb o 128) w + 1 ≡ length (arcs_of w)
 length-arcs_of bound [] ok = cc
-length-arcs_of bound (r ∷ w) ok = by (cases_lt r 120)
-  where
-    by : (r < 120) ⊎ (120 ≤ r) → ends (r ∷ w) + 1 ≡ length (arcs_of (r ∷ w))
-    by (inl small) =
-        let one : ends (r ∷ w) ≡ 1 + ends w = ends-cons r w ∙ ap (λ b. cond b 1 0 + ends w) (lt-ltb r 128 (omega arith)) in
-        let n : length (arcs_of (r ∷ w)) ≡ suc (suc (length (later_arcs 0 w))) = ap length (arcs_of-cons r w) in
-        omega (arith, one, n, length-later_arcs 0 w)
-    by (inr large) =
-        let read : read_identifier bound (length (r ∷ w)) (r ∷ w) ≡ Err (errors.ArcInvalid (r / 40)) =
-        rw (le-ltb (length (r ∷ w)) (length (r ∷ w)) (omega arith), le-ltb r 120 large, read_identifier) refl in
-        let bad = ap is_ok read in
-        cc
+length-arcs_of bound (r ∷ w) ok =
+    let small = root_small bound (length (r ∷ w)) r w ok in
+    let one : ends (r ∷ w) ≡ 1 + ends w = ends-cons r w ∙ ap (λ b. cond b 1 0 + ends w) (lt-ltb r 128 (omega arith)) in
+    omega (arith, one, ap length (arcs_of-cons r w), length-later_arcs 0 w)
+
+-- Whether octets are read: the root, and the arcs after it
+
+pub outcome-with_arc : (a : ℕ) (r : Result (List ℕ) Error) → outcome (with_arc a r) ≡ outcome r
+outcome-with_arc a (Ok arcs) = refl
+outcome-with_arc a (Err e) = refl
+
+pub outcome-root : (bound r : ℕ) (w : List ℕ) → r < 120 → outcome (read_identifier bound (length (r ∷ w)) (r ∷ w)) ≡ outcome (read_arcs bound 0 w)
+outcome-root bound r w l = grind (arith, nat_tests, outcome-with_arc (r / 40) (with_arc (r % 40) (read_arcs bound 0 w)), outcome-with_arc (r % 40) (read_arcs bound 0 w))
+
+pub outcome-root_invalid : (bound r : ℕ) (w : List ℕ) → 120 ≤ r → outcome (read_identifier bound (length (r ∷ w)) (r ∷ w)) ≡ Err (errors.ArcInvalid (r / 40))
+outcome-root_invalid bound r w l = grind (arith, nat_tests)
+
+pub outcome-empty : (bound capacity : ℕ) (w : List ℕ) → length w ≡ 0 → outcome (read_identifier bound capacity w) ≡ Err errors.Empty
+outcome-empty bound capacity [] e = refl
+outcome-empty bound capacity (x ∷ w) e = absurd (omega arith)
 
 -- The arc at a place
 
@@ -244,8 +232,6 @@ none_left (x ∷ xs) (suc i) zero e l = absurd (omega arith)
 none_left (x ∷ xs) (suc i) (suc index) e l = none_left xs i index e (omega arith)
 
 pub next_left : (xs : List ℕ) (i x : ℕ) (rest : List ℕ) → drop i xs ≡ x ∷ rest → (Some x ≡ slice_get xs i) × (rest ≡ drop (i + 1) xs)
-next_left [] zero x rest e = cc
-next_left [] (suc i) x rest e = cc
 next_left (y ∷ xs) zero x rest e =
     let h : y ≡ x = cc in
     let t : xs ≡ rest = cc in
@@ -254,6 +240,8 @@ next_left (y ∷ xs) (suc i) x rest e =
     let more = next_left xs i x rest e in
     let n : suc i + 1 ≡ suc (i + 1) = omega arith in
     (more.0, more.1 ∙ sym (ap (λ k. drop k (y ∷ xs)) n))
+next_left [] zero x rest e = cc
+next_left [] (suc i) x rest e = cc
 
 pub at_next : (r : Option ℕ) (s t xs : List ℕ) (i index : ℕ) → MatchOption r ((s ≡ []) × (t ≡ [])) (λ x. s ≡ x ∷ t) → s ≡ drop i xs → i ≤ index → index ≤ i → r ≡ slice_get xs index
 at_next None s t xs i index m e l k = none_left xs i index (sym e ∙ m.0) l
@@ -273,15 +261,7 @@ later_below arcs i = at (flat_map arc_octets arcs) i (arcs_below arcs)
 pub bytes_of_spelled : (bound : ℕ) (w : List ℕ) → is_ok (read_identifier bound (length w) w) ≡ true → w ≡ identifier_octets (arcs_of w) → (i : ℕ) → get_or w i 0 < 256
 unfolding arcs_of identifier_octets
 bytes_of_spelled bound [] ok e i = omega arith
-bytes_of_spelled bound (r ∷ w) ok e zero = by (cases_lt r 120)
-  where
-    by : (r < 120) ⊎ (120 ≤ r) → r < 256
-    by (inl small) = omega arith
-    by (inr large) =
-        let read : read_identifier bound (length (r ∷ w)) (r ∷ w) ≡ Err (errors.ArcInvalid (r / 40)) =
-        rw (le-ltb (length (r ∷ w)) (length (r ∷ w)) (omega arith), le-ltb r 120 large, read_identifier) refl in
-        let bad = ap is_ok read in
-        cc
+bytes_of_spelled bound (r ∷ w) ok e zero = omega (arith, root_small bound (length (r ∷ w)) r w ok)
 bytes_of_spelled bound (r ∷ w) ok e (suc i) =
     let rest : w ≡ flat_map arc_octets (later_arcs 0 w) = cc in
     subst (λ (t : List ℕ). get_or t i 0 < 256) (sym rest) (later_below (later_arcs 0 w) i)

@@ -4,7 +4,7 @@ use Rattle.std.specs.Option.{SomeIff}
 use Rattle.std.proofs.lemmas.Bool.{lt-ltb, le-ltb}
 use Rattle.const_oid.specs.Bound.{Bound}
 use Rattle.const_oid.specs.Digits.{digits}
-use Rattle.const_oid.proofs.EncodingLaws.{fewer_digits, few_digits}
+use Rattle.const_oid.proofs.DigitLaws.{few_digits}
 
 pub Bound-is : Bound ≡ 2 ^ 128
 unfolding Bound
@@ -27,7 +27,7 @@ below_bound n l = omega (arith, Bound-is)
 
 -- so many digits the greatest arc has at most
 pub few_octets : length (digits 128 (Bound - 1)) ≤ 19
-few_octets = few_digits 18 (Bound - 1) (omega (arith, Bound-is))
+few_octets = few_digits 128 19 (Bound - 1) (omega arith) (omega arith) (omega (arith, Bound-is))
 
 pub arc_fits : (n : ℕ) → n < 2 ^ 128 → length (digits 128 n) ≤ 19
-arc_fits n l = omega (arith, few_octets, fewer_digits n (Bound - 1) (omega (arith, Bound-is)))
+arc_fits n l = few_digits 128 19 n (omega arith) (omega arith) (omega arith)

@@ -5,7 +5,6 @@ use Rattle.std.proofs.lemmas.Bool.{cases_lt}
 use Rattle.const_oid.specs.declared.error.Error.{Error}
 use Rattle.const_oid.specs.IdentifierOctets.{identifier_octets, IsIdentifier, read_identifier}
 use Rattle.const_oid.specs.TextReading.{read_text}
-use Rattle.const_oid.specs.TextFaults.{IsText}
 use Rattle.const_oid.proofs.TextFaultLaws.{text_sound, text_read}
 use Rattle.const_oid.specs.Bound.{Bound}
 use Rattle.const_oid.proofs.ArcsLaws.{is_ok-ok}
@@ -25,9 +24,8 @@ below_wider small large le (x ∷ xs) h = (omega (arith, le, h.0), below_wider s
 
 pub widen : (small large : ℕ) → small ≤ large → (arcs : List ℕ) → IsIdentifier small arcs → IsIdentifier large arcs
 unfolding IsIdentifier
-widen small large le [] id = absurd id
-widen small large le (a ∷ []) id = absurd id
 widen small large le (a ∷ b ∷ arcs) id = (id.0, id.1, below_wider small large le arcs id.2)
+widen small large le _ id = absurd id
 
 -- a wider bound reads the same arcs
 pub wider_read : (small large capacity : ℕ) (w arcs : List ℕ) → small ≤ large → ((i : ℕ) → get_or w i 0 < 256) → read_identifier small capacity w ≡ Ok arcs → read_identifier large capacity w ≡ Ok arcs
@@ -53,38 +51,28 @@ constant_refused small capacity w e le bytes ok refused =
 -- all numbers are below a bound, or one is not
 all_or_one : (bound : ℕ) (xs : List ℕ) → AllByRecursion (λ n. n < bound) xs ⊎ ((i : ℕ) × (i < length xs) × (bound ≤ get_or xs i 0))
 all_or_one bound [] = inl tt
-all_or_one bound (x ∷ xs) = by (cases_lt x bound) (all_or_one bound xs)
-  where
-    by : (x < bound) ⊎ (bound ≤ x) → AllByRecursion (λ n. n < bound) xs ⊎ ((i : ℕ) × (i < length xs) × (bound ≤ get_or xs i 0))
-        → AllByRecursion (λ n. n < bound) (x ∷ xs) ⊎ ((i : ℕ) × (i < length (x ∷ xs)) × (bound ≤ get_or (x ∷ xs) i 0))
-    by (inr l) _ = inr (0, omega arith, l)
-    by (inl l) (inl all) = inl (l, all)
-    by (inl l) (inr p) = inr (suc p.0, omega (arith, p.1), p.2)
+all_or_one bound (x ∷ xs) =
+    elim (cases_lt x bound) [
+      | inr l ↦ inr (0, omega arith, l)
+      | inl l ↦ elim (all_or_one bound xs) [ inl all ↦ inl (l, all) | inr p ↦ inr (suc p.0, omega (arith, p.1), p.2) ]
+    ]
 
--- an identifier under a wide bound is one under a narrow one, or has a large arc
-narrow : (small large : ℕ) (arcs : List ℕ) → IsIdentifier large arcs → IsIdentifier small arcs ⊎ ((i : ℕ) × (i < length arcs) × (small ≤ get_or arcs i 0))
+-- an identifier under a wide bound that is none under a narrow one has a large arc
+large_arc : (small large : ℕ) (arcs : List ℕ) → IsIdentifier large arcs → (IsIdentifier small arcs → ⊥) → (i : ℕ) × (i < length arcs) × (small ≤ get_or arcs i 0)
 unfolding IsIdentifier
-narrow small large [] id = absurd id
-narrow small large (a ∷ []) id = absurd id
-narrow small large (a ∷ b ∷ arcs) id = by (all_or_one small arcs)
-  where
-    by : AllByRecursion (λ n. n < small) arcs ⊎ ((i : ℕ) × (i < length arcs) × (small ≤ get_or arcs i 0)) → IsIdentifier small (a ∷ b ∷ arcs) ⊎ ((i : ℕ) × (i < length (a ∷ b ∷ arcs)) × (small ≤ get_or (a ∷ b ∷ arcs) i 0))
-    by (inl all) = inl (id.0, id.1, all)
-    by (inr p) = inr (suc (suc p.0), omega (arith, p.1), p.2)
+large_arc small large (a ∷ b ∷ arcs) id none =
+    elim (all_or_one small arcs) [
+      | inl all ↦ absurd (none (id.0, id.1, all))
+      | inr p ↦ (suc (suc p.0), omega (arith, p.1), p.2)
+    ]
+large_arc small large _ id none = absurd id
 
 pub newly_read : (small large capacity : ℕ) (w arcs : List ℕ) (e : Error) → ((i : ℕ) → get_or w i 0 < 256) → read_identifier large capacity w ≡ Ok arcs → read_identifier small capacity w ≡ Err e
     → (i : ℕ) × (i < length arcs) × (small ≤ get_or arcs i 0)
-newly_read small large capacity w arcs e bytes read refused = by (narrow small large arcs sound.0)
-  where
-    sound : IsIdentifier large arcs × (length w ≤ capacity) × (w ≡ identifier_octets arcs)
-    sound = identifier_sound large capacity w arcs bytes read
-
-    by : IsIdentifier small arcs ⊎ ((i : ℕ) × (i < length arcs) × (small ≤ get_or arcs i 0)) → (i : ℕ) × (i < length arcs) × (small ≤ get_or arcs i 0)
-    by (inr p) = p
-    by (inl id) =
-        let again = identifier_again small capacity arcs id (subst (λ t. length t ≤ capacity) sound.2 sound.1) in
-        let ok : read_identifier small capacity w ≡ Ok arcs = ap (read_identifier small capacity) sound.2 ∙ again in
-        absurd (cc)
+newly_read small large capacity w arcs e bytes read refused =
+    let sound = identifier_sound large capacity w arcs bytes read in
+    let fits : length (identifier_octets arcs) ≤ capacity = omega (arith, ap length sound.2, sound.1) in
+    large_arc small large arcs sound.0 (λ id. cc (ap (read_identifier small capacity) sound.2, identifier_again small capacity arcs id fits))
 
 -- Texts under two bounds
 
@@ -95,13 +83,6 @@ wider_text small large capacity w arcs root le e =
 
 pub newly_read_text : (small large capacity : ℕ) (w arcs : List ℕ) (e : Error) → 40 ≤ small → read_text large capacity w ≡ Ok arcs → read_text small capacity w ≡ Err e
     → (i : ℕ) × (i < length arcs) × (small ≤ get_or arcs i 0)
-newly_read_text small large capacity w arcs e root read refused = by (narrow small large arcs sound.1)
-  where
-    sound : IsText arcs w × IsIdentifier large arcs × (length (identifier_octets arcs) ≤ capacity)
-    sound = text_sound large capacity w arcs read
-
-    by : IsIdentifier small arcs ⊎ ((i : ℕ) × (i < length arcs) × (small ≤ get_or arcs i 0)) → (i : ℕ) × (i < length arcs) × (small ≤ get_or arcs i 0)
-    by (inr p) = p
-    by (inl id) =
-        let again = text_read small capacity w arcs root sound.0 id sound.2 in
-        absurd (cc)
+newly_read_text small large capacity w arcs e root read refused =
+    let sound = text_sound large capacity w arcs read in
+    large_arc small large arcs sound.1 (λ id. cc (text_read small capacity w arcs root sound.0 id sound.2))

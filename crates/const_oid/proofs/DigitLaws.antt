@@ -1,11 +1,13 @@
 -- The digits of a number are below the base, begin with no zero, and have its value; marked digits tell where they
 -- end.
-use Rattle.std.proofs.Common.{◌≡◌, ℕ, zero, suc, ◌+◌, ◌*◌, ◌/◌, ◌%◌, ◌<◌, ◌≤◌, ◌⊎◌, inl, inr, Bool, true, false, ltb, List, [], ◌∷◌, ◌++◌, length, get_or, map, sym, refl, ap, ◌∙◌, arith, div-add-mod', mod-lt, mul-le-mul_left, length-append, append_assoc}
+use Rattle.std.proofs.Common.{◌≡◌, ℕ, zero, suc, ◌+◌, ◌*◌, ◌/◌, ◌%◌, ◌^◌, ◌<◌, ◌≤◌, ◌⊎◌, inl, inr, List, [], ◌∷◌, ◌++◌, length, get_or, map, sym, refl, ap, subst, ◌∙◌, arith, div-add-mod', mod-lt, mul-le-mul_left, length-append, append_assoc, append-nil}
 use Rattle.std.specs.List.{AllByRecursion}
 use Rattle.std.specs.Int.Digits.{number_from_digits, number_from_digits_after, AllBelowBase}
-use Rattle.std.proofs.lemmas.Int.Digits.{number_push}
-use Rattle.std.proofs.lemmas.Bool.{ltb-true, ltb-false, cases_lt, lt-ltb, le-ltb}
-use Rattle.std.proofs.lemmas.Nat.{div-mul-add, mod-mul-add}
+use Rattle.std.proofs.lemmas.Int.Digits.{number_push, number_lt}
+use Rattle.std.proofs.Math.Nat.{pow-suc, pow-zero}
+use Rattle.std.proofs.lemmas.List.{get_or_append_left}
+use Rattle.std.proofs.lemmas.Bool.{cases_lt, lt-ltb, le-ltb}
+use Rattle.std.proofs.lemmas.Nat.{div-mul-add, mod-mul-add, div_below}
 use Rattle.const_oid.specs.Digits.{digits_within, digits, marked}
 
 -- The digits have the number's value
@@ -45,29 +47,6 @@ more_digits base n ds two d = record {
   some = omega (arith, length-append ds (n % base ∷ []));
 }
 
-digits_within-Digits : (base room n : ℕ) → 2 ≤ base → n ≤ room → Digits base n (digits_within base room n)
-unfolding digits_within
-digits_within-Digits base zero n two small = one_digit base n (omega arith)
-digits_within-Digits base (suc room) n two small =
-    go (ltb n base) refl (λ l. digits_within-Digits base room (n / base) two (halved base room n two l small))
-  where
-    go : (b : Bool) → ltb n base ≡ b → (base ≤ n → Digits base (n / base) (digits_within base room (n / base)))
-        → Digits base n (elim b [ true ↦ n ∷ [] | false ↦ digits_within base room (n / base) ++ (n % base ∷ []) ])
-    go true e ih = one_digit base n (ltb-true n base e)
-    go false e ih = more_digits base n _ two (ih (ltb-false n base e))
-
-pub digits-Digits : (base n : ℕ) → 2 ≤ base → Digits base n (digits base n)
-unfolding digits
-digits-Digits base n two = digits_within-Digits base n n two (omega arith)
-
-pub number_from_digits-digits : (base n : ℕ) → 2 ≤ base → number_from_digits base (digits base n) ≡ n
-number_from_digits-digits base n two = (digits-Digits base n two).number
-
--- equal digits are of one number
-pub same_from_digits : (base m n : ℕ) → 2 ≤ base → digits base m ≡ digits base n → m ≡ n
-same_from_digits base m n two e =
-    sym (number_from_digits-digits base m two) ∙ ap (number_from_digits base) e ∙ number_from_digits-digits base n two
-
 -- One digit, and more
 
 within-one : (base room n : ℕ) → n < base → digits_within base room n ≡ n ∷ []
@@ -102,6 +81,55 @@ digits-more base (suc n) two l =
     within-more base n (suc n) l
     ∙ ap (λ ds. ds ++ (suc n % base ∷ [])) (same_room base n (suc n / base) (suc n / base) two (halved base n (suc n) two l (omega arith)) (omega arith))
 
+-- what holds of each digit, and of a number where it holds of all its digits but the last, holds of each number
+pub by_digits : (base : ℕ) (P : ℕ → Type 0) → 2 ≤ base → ((n : ℕ) → n < base → P n) → ((n : ℕ) → base ≤ n → P (n / base) → P n) → (n : ℕ) → P n
+by_digits base P two one more n = within n n (omega arith)
+  where
+    within : (room n : ℕ) → n ≤ room → P n
+    within zero n small = one n (omega arith)
+    within (suc room) n small = go (cases_lt n base) (λ l. within room (n / base) (halved base room n two l small))
+      where
+        go : (n < base) ⊎ (base ≤ n) → (base ≤ n → P (n / base)) → P n
+        go (inl l) ih = one n l
+        go (inr l) ih = more n l (ih l)
+
+pub digits-Digits : (base n : ℕ) → 2 ≤ base → Digits base n (digits base n)
+digits-Digits base n two =
+    by_digits base (λ k. Digits base k (digits base k)) two (λ k l. rw (digits-one base k l) (one_digit base k l))
+    (λ k l d. rw (digits-more base k two l) (more_digits base k (digits base (k / base)) two d)) n
+
+pub number_from_digits-digits : (base n : ℕ) → 2 ≤ base → number_from_digits base (digits base n) ≡ n
+number_from_digits-digits base n two = (digits-Digits base n two).number
+
+-- equal digits are of one number
+pub same_from_digits : (base m n : ℕ) → 2 ≤ base → digits base m ≡ digits base n → m ≡ n
+same_from_digits base m n two e =
+    sym (number_from_digits-digits base m two) ∙ ap (number_from_digits base) e ∙ number_from_digits-digits base n two
+
+-- How many digits there are
+
+-- a number below a power of the base has no more digits than the power says
+pub few_digits : (base k n : ℕ) → 2 ≤ base → 0 < k → n < base ^ k → length (digits base n) ≤ k
+few_digits base zero n two some l = absurd (omega arith)
+few_digits base (suc zero) n two some l =
+    let base_is : 1 * base ≡ base = omega arith in
+    omega (arith, ap length (digits-one base n (subst (λ x. n < x) (pow-suc base 0 ∙ ap (λ x. x * base) (pow-zero base) ∙ base_is) l)))
+few_digits base (suc (suc k)) n two some l =
+    by (cases_lt n base) (few_digits base (suc k) (n / base) two (omega arith) (div_below n base (base ^ suc k) (omega arith) (subst (λ x. n < x) (pow-suc base (suc k)) l)))
+  where
+    by : (n < base) ⊎ (base ≤ n) → length (digits base (n / base)) ≤ suc k → length (digits base n) ≤ suc (suc k)
+    by (inl m) ih = omega (arith, ap length (digits-one base n m))
+    by (inr m) ih = omega (arith, ap length (digits-more base n two m), length-append (digits base (n / base)) (n % base ∷ []), ih)
+
+pub below_power : (base n : ℕ) → 2 ≤ base → n < base ^ length (digits base n)
+below_power base n two =
+    let d = digits-Digits base n two in
+    subst (λ x. x < base ^ length (digits base n)) d.number (number_lt base (digits base n) d.below)
+
+-- a smaller number has no more digits
+pub fewer_digits : (base m n : ℕ) → 2 ≤ base → m ≤ n → length (digits base m) ≤ length (digits base n)
+fewer_digits base m n two l = few_digits base (length (digits base n)) m two (digits-Digits base n two).some (omega (arith, below_power base n two))
+
 -- a digit after those of a number above 0
 pub digits-push : (base n d : ℕ) → 2 ≤ base → 0 < n → d < base → digits base (n * base + d) ≡ digits base n ++ (d ∷ [])
 digits-push base n d two some small =
@@ -116,30 +144,16 @@ digits-push base n d two some small =
 
 -- no zero begins the digits of a number above 0
 
-first_of_push : (ds : List ℕ) (d : ℕ) → 0 < length ds → get_or (ds ++ (d ∷ [])) 0 0 ≡ get_or ds 0 0
-first_of_push [] d l = absurd (omega arith)
-first_of_push (x ∷ ds) d l = refl
-
-first_within : (base room n : ℕ) → 2 ≤ base → n ≤ room → 0 < n → 0 < get_or (digits base n) 0 0
-first_within base zero n two small l = absurd (omega arith)
-first_within base (suc room) n two small l =
-    go (cases_lt n base) (λ m. first_within base room (n / base) two (halved base room n two m small) (quotient_pos base n two m))
-  where
-    go : (n < base) ⊎ (base ≤ n) → (base ≤ n → 0 < get_or (digits base (n / base)) 0 0) → 0 < get_or (digits base n) 0 0
-    go (inl m) ih = rw (digits-one base n m) l
-    go (inr m) ih =
-        rw (digits-more base n two m, first_of_push (digits base (n / base)) (n % base) (digits-Digits base (n / base) two).some) (ih m)
-
 pub first_of_digits-pos : (base n : ℕ) → 2 ≤ base → 0 < n → 0 < get_or (digits base n) 0 0
-first_of_digits-pos base n two l = first_within base n n two (omega arith) l
+first_of_digits-pos base n two l = by_digits base (λ k. 0 < k → 0 < get_or (digits base k) 0 0) two (λ k m l. rw (digits-one base k m) l) more n l
+  where
+    more : (k : ℕ) → base ≤ k → (0 < k / base → 0 < get_or (digits base (k / base)) 0 0) → 0 < k → 0 < get_or (digits base k) 0 0
+    more k m ih l =
+        rw (digits-more base k two m, get_or_append_left (digits base (k / base)) (k % base ∷ []) 0 0 (digits-Digits base (k / base) two).some) (ih (quotient_pos base k two m))
 
 -- the digits after those of a number above 0
 digits-after : (base n : ℕ) (ds : List ℕ) → 2 ≤ base → 0 < n → AllBelowBase base ds → digits base (number_from_digits_after base n ds) ≡ digits base n ++ ds
-digits-after base n [] two l all = sym (append_nil (digits base n))
-  where
-    append_nil : (ds : List ℕ) → ds ++ [] ≡ ds
-    append_nil [] = refl
-    append_nil (x ∷ xs) = ap (λ t. x ∷ t) (append_nil xs)
+digits-after base n [] two l all = sym (append-nil (digits base n))
 digits-after base n (d ∷ ds) two l all =
     let next : 0 < n * base + d = grows n base l (omega arith) in
     digits-after base (n * base + d) ds two next all.1
@@ -153,37 +167,34 @@ digits-after base n (d ∷ ds) two l all =
 -- digits that no zero begins, or one digit, are the digits of their number
 pub digits-number_from_digits : (base : ℕ) (ds : List ℕ) → 2 ≤ base → AllBelowBase base ds → (length ds ≡ 1) ⊎ (0 < get_or ds 0 0)
     → digits base (number_from_digits base ds) ≡ ds
-digits-number_from_digits base [] two all (inl e) = absurd (omega arith)
-digits-number_from_digits base [] two all (inr l) = absurd (omega arith)
 digits-number_from_digits base (d ∷ []) two all h =
     let e : 0 * base + d ≡ d = omega arith in
     ap (digits base) e ∙ digits-one base d all.0
-digits-number_from_digits base (d ∷ c ∷ ds) two all (inl e) = absurd (omega arith)
 digits-number_from_digits base (d ∷ c ∷ ds) two all (inr l) =
     let e : 0 * base + d ≡ d = omega arith in
     ap (λ n. digits base (number_from_digits_after base n (c ∷ ds))) e
     ∙ digits-after base d (c ∷ ds) two l all.1
     ∙ ap (λ t. t ++ (c ∷ ds)) (digits-one base d all.0)
+digits-number_from_digits base (d ∷ c ∷ ds) two all (inl e) = absurd (omega arith)
+digits-number_from_digits base [] two all (inl e) = absurd (omega arith)
+digits-number_from_digits base [] two all (inr l) = absurd (omega arith)
 
 -- Marked digits
 
 -- lists that begin a common list, and are of one length, are one
 pub split-same_length : (a b r s : List ℕ) → length a ≡ length b → a ++ r ≡ b ++ s → (a ≡ b) × (r ≡ s)
 split-same_length [] [] r s l e = (refl, e)
-split-same_length [] (y ∷ b) r s l e = absurd (omega arith)
-split-same_length (x ∷ a) [] r s l e = absurd (omega arith)
 split-same_length (x ∷ a) (y ∷ b) r s l e =
     let h : x ≡ y = cc in
     let t : a ++ r ≡ b ++ s = cc in
     let more : (a ≡ b) × (r ≡ s) = split-same_length a b r s (omega arith) t in
     (cc (more.0), more.1)
+split-same_length _ _ r s l e = absurd (omega arith)
 
 -- marked digits end where a digit has no mark
 pub split-marked : (ds es r s : List ℕ) → AllBelowBase 128 ds → AllBelowBase 128 es → 0 < length ds → 0 < length es
     → marked ds ++ r ≡ marked es ++ s → (ds ≡ es) × (r ≡ s)
 unfolding marked
-split-marked [] es r s p q i j e = absurd (omega arith)
-split-marked (d ∷ ds) [] r s p q i j e = absurd (omega arith)
 split-marked (d ∷ []) (f ∷ []) r s p q i j e =
     let h : d ≡ f = cc in
     (cc, cc)
@@ -199,6 +210,7 @@ split-marked (d ∷ c ∷ ds) (f ∷ g ∷ es) r s p q i j e =
     let t : marked (c ∷ ds) ++ r ≡ marked (g ∷ es) ++ s = cc in
     let more : (c ∷ ds ≡ g ∷ es) × (r ≡ s) = split-marked (c ∷ ds) (g ∷ es) r s p.1 q.1 (omega arith) (omega arith) t in
     (cc (h', more.0), more.1)
+split-marked _ _ r s p q i j e = absurd (omega arith)
 
 -- all digits before the last are marked
 pub marked-push : (ds : List ℕ) (d : ℕ) → marked (ds ++ (d ∷ [])) ≡ map (λ x. 128 + x) ds ++ (d ∷ [])

@@ -12,6 +12,8 @@ pub decimal-one : (n : ℕ) → n < 10 → decimal n ≡ (48 + n) ∷ []
 unfolding decimal
 decimal-one n l = ap (map (λ d. 48 + d)) (digits-one 10 n l)
 
+pub ruleset one_digit = (decimal-one)
+
 pub decimal-more : (n : ℕ) → 10 ≤ n → decimal n ≡ decimal (n / 10) ++ ((48 + n % 10) ∷ [])
 unfolding decimal
 decimal-more n l = ap (map (λ d. 48 + d)) (digits-more 10 n (omega arith) l) ∙ map-append (λ d. 48 + d) (digits 10 (n / 10)) (n % 10 ∷ [])

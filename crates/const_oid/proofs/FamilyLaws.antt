@@ -1,10 +1,10 @@
 -- A child's parent is the identifier itself, and the last arc behind the parent gives the child back.
 use Rattle.std.proofs.Common.{◌≡◌, ℕ, ◌-◌, ◌<◌, ◌≤◌, ◌⊎◌, inl, inr, List, [], ◌∷◌, ◌++◌, length, take, Ok, None, Some, sym, refl, ap, subst, ◌∙◌, length-append, arith}
 use Rattle.std.proofs.Math.Seq.{take-append_seam}
-use Rattle.std.proofs.lemmas.Bool.{lt-ltb, le-ltb, cases_lt}
+use Rattle.std.proofs.lemmas.Bool.{lt-ltb, le-ltb}
 use Rattle.const_oid.specs.IdentifierOctets.{identifier_octets, IsIdentifier}
 use Rattle.const_oid.specs.Family.{child_of, parent_of}
-use Rattle.const_oid.proofs.EncodingLaws.{identifier-many}
+use Rattle.const_oid.proofs.EncodingLaws.{identifier-many, child-was}
 use Rattle.const_oid.proofs.ParentLaws.{unsnoc}
 
 -- all but the last
@@ -24,13 +24,6 @@ parent-push front a many =
 child-ok : (capacity : ℕ) (arcs : List ℕ) (a : ℕ) → length (identifier_octets (arcs ++ (a ∷ []))) ≤ capacity → child_of capacity arcs a ≡ Ok (arcs ++ (a ∷ []))
 child-ok capacity arcs a l = rw (le-ltb capacity (length (identifier_octets (arcs ++ (a ∷ [])))) l) refl
 
-child-was : (capacity : ℕ) (arcs child : List ℕ) (a : ℕ) → child_of capacity arcs a ≡ Ok child → child ≡ arcs ++ (a ∷ [])
-child-was capacity arcs child a e = by (cases_lt capacity (length (identifier_octets (arcs ++ (a ∷ [])))))
-  where
-    by : (capacity < length (identifier_octets (arcs ++ (a ∷ [])))) ⊎ (length (identifier_octets (arcs ++ (a ∷ []))) ≤ capacity) → child ≡ arcs ++ (a ∷ [])
-    by (inl long) = let h = rw (lt-ltb capacity (length (identifier_octets (arcs ++ (a ∷ [])))) long) at e in cc
-    by (inr fits) = let h = child-ok capacity arcs a fits in cc
-
 pub parent_of_child : (bound capacity : ℕ) (arcs child : List ℕ) (a : ℕ) → IsIdentifier bound arcs → child_of capacity arcs a ≡ Ok child → parent_of child ≡ Some arcs
 parent_of_child bound capacity arcs child a id e =
     ap parent_of (child-was capacity arcs child a e) ∙ parent-push arcs a (identifier-many bound arcs id)
@@ -39,16 +32,15 @@ pub child_of_parent : (capacity : ℕ) (arcs front : List ℕ) → length (ident
     → (last : ℕ) × (arcs ≡ front ++ (last ∷ [])) × (child_of capacity front last ≡ Ok arcs)
 child_of_parent capacity arcs front fits e = by (unsnoc arcs)
   where
+    many : 2 < length arcs
+    many = grind (arith, parent-few arcs)
+
     by : (arcs ≡ []) ⊎ ((before : List ℕ) × (last : ℕ) × (arcs ≡ before ++ (last ∷ []))) → (last : ℕ) × (arcs ≡ front ++ (last ∷ [])) × (child_of capacity front last ≡ Ok arcs)
-    by (inl none) = let h = parent-few arcs (omega (arith, ap length none)) in absurd (cc)
-    by (inr p) = on (cases_lt 2 (length arcs))
-      where
-        on : (2 < length arcs) ⊎ (length arcs ≤ 2) → (last : ℕ) × (arcs ≡ front ++ (last ∷ [])) × (child_of capacity front last ≡ Ok arcs)
-        on (inr few) = let h = parent-few arcs few in absurd (cc)
-        on (inl many) =
-            let two : 2 ≤ length p.0 = omega (arith, many, ap length p.2, length-append p.0 (p.1 ∷ [])) in
-            let found = ap parent_of p.2 ∙ parent-push p.0 p.1 two in
-            let both : Some front ≡ Some p.0 = sym e ∙ found in
-            let same : front ≡ p.0 = cc in
-            let whole : arcs ≡ front ++ (p.1 ∷ []) = p.2 ∙ ap (λ t. t ++ (p.1 ∷ [])) (sym same) in
-            (p.1, whole, child-ok capacity front p.1 (subst (λ t. length (identifier_octets t) ≤ capacity) whole fits) ∙ ap (λ t. Ok t) (sym whole))
+    by (inl none) = absurd (omega (arith, many, ap length none))
+    by (inr p) =
+        let two : 2 ≤ length p.0 = omega (arith, many, ap length p.2, length-append p.0 (p.1 ∷ [])) in
+        let found = ap parent_of p.2 ∙ parent-push p.0 p.1 two in
+        let both : Some front ≡ Some p.0 = sym e ∙ found in
+        let same : front ≡ p.0 = cc in
+        let whole : arcs ≡ front ++ (p.1 ∷ []) = p.2 ∙ ap (λ t. t ++ (p.1 ∷ [])) (sym same) in
+        (p.1, whole, child-ok capacity front p.1 (subst (λ t. length (identifier_octets t) ≤ capacity) whole fits) ∙ ap (λ t. Ok t) (sym whole))

@@ -1,9 +1,10 @@
 -- The last arc: where its octets begin, and how many octets show it.
-use Rattle.std.proofs.Common.{◌≡◌, ℕ, suc, ◌+◌, ◌-◌, ◌*◌, ◌/◌, ◌%◌, ◌<◌, ◌≤◌, ◌⊎◌, inl, inr, List, [], ◌∷◌, ◌++◌, length, get_or, take, map, Result, Ok, Err, sym, refl, ap, subst, ◌∙◌, append_assoc, length-append, length-take-le, arith}
+use Rattle.std.proofs.Common.{◌≡◌, ℕ, suc, ◌+◌, ◌-◌, ◌*◌, ◌%◌, ◌<◌, ◌≤◌, ◌⊎◌, inl, inr, List, [], ◌∷◌, ◌++◌, length, get_or, take, map, Result, Ok, Err, sym, refl, ap, subst, ◌∙◌, append_assoc, length-append, length-take-le, arith}
 use Rattle.std.specs.List.{AllByRecursion, flat_map}
 use Rattle.std.specs.Result.{MatchResult}
 use Rattle.std.proofs.Math.Seq.{take-append_seam}
-use Rattle.std.proofs.lemmas.Bool.{lt-ltb, le-ltb, cases_lt}
+use Rattle.std.proofs.lemmas.Bool.{lt-ltb, le-ltb}
+use Rattle.std.proofs.lemmas.List.{length-map}
 use Rattle.const_oid.specs.declared.error.Error.{Error}
 use Rattle.const_oid.specs.declared.octets.Found.{Found}
 use Rattle.const_oid.specs.Digits.{digits}
@@ -12,30 +13,38 @@ use Rattle.const_oid.specs.Arcs.{later_arcs, arcs_of, SpellsIdentifier}
 use Rattle.const_oid.specs.Outcome.{outcome}
 use Rattle.const_oid.specs.LastArcs.{place_of_last, KnowsLast, last_from}
 use Rattle.const_oid.proofs.ArcsLaws.{later_arcs-last, later_arcs-more, later_arcs-nil, arcs_of-cons, arcs_of-identifier_octets, read_identifier-ok, spells_from_read, spells_octets}
-use Rattle.const_oid.proofs.EncodingLaws.{arc_octets-one, arc_octets-more, length-arc_octets, length-digits-pos, length-marked_digits, fewer_digits, identifier-many}
+use Rattle.const_oid.proofs.DigitLaws.{fewer_digits}
+use Rattle.const_oid.proofs.EncodingLaws.{length-arc_octets, length-digits-pos, identifier-many, some_octets}
 use Rattle.const_oid.proofs.FamilyLaws.{front-push}
-use Rattle.const_oid.proofs.ParentLaws.{get-left, unsnoc, Last, root, more, last_of, last_unmarked, IsLastStart, start_is, Parent, none, some}
+use Rattle.const_oid.specs.PackedOctets.{unmarked_front}
+use Rattle.const_oid.proofs.ParentLaws.{unsnoc, Last, root, more, last_of, arc_parts}
+use Rattle.const_oid.proofs.PackedLaws.{front-marks, front-none, front-identifier, front-within}
 
 -- Where the last arc begins
 
 pub place-two : (arcs : List ℕ) → length arcs ≡ 2 → place_of_last arcs ≡ 0
 unfolding place_of_last identifier_octets
-place-two [] two = absurd (omega arith)
-place-two (a ∷ []) two = absurd (omega arith)
 place-two (a ∷ b ∷ []) two = refl
-place-two (a ∷ b ∷ c ∷ arcs) two = absurd (omega arith)
+place-two _ two = absurd (omega arith)
 
 pub place-push : (front : List ℕ) (a : ℕ) → place_of_last (front ++ (a ∷ [])) ≡ length (identifier_octets front)
 unfolding place_of_last
 place-push front a = ap (λ t. length (identifier_octets t)) (front-push front a)
 
--- the octets from there on have marks, but for the last one
-pub start_placed : (bound start : ℕ) (arcs w : List ℕ) → IsIdentifier bound arcs → w ≡ identifier_octets arcs → IsLastStart w start → start ≡ place_of_last arcs
-start_placed bound start arcs w id e s = by (last_of bound arcs id)
+-- up to the last octet but one, those up to the last one without a mark stand before the last arc
+pub before_last : (bound : ℕ) (arcs w : List ℕ) → IsIdentifier bound arcs → w ≡ identifier_octets arcs → length (unmarked_front (take (length w - 1) w)) ≡ place_of_last arcs
+before_last bound arcs w id e = by (last_of bound arcs id)
   where
-    by : Last bound arcs → start ≡ place_of_last arcs
-    by (root r small octets two) = omega (arith, s.within, ap length e, ap length octets, place-two arcs two)
-    by (more front a fid whole octets n) = start_is bound front a start w fid (e ∙ octets) s ∙ sym (ap place_of_last whole ∙ place-push front a)
+    by : Last bound arcs → length (unmarked_front (take (length w - 1) w)) ≡ place_of_last arcs
+    by (root r small octets two) = ap (λ (t : List ℕ). length (unmarked_front (take (length t - 1) t))) (e ∙ octets) ∙ ap length front-none ∙ sym (place-two arcs two)
+    by (more front a fid whole octets n) =
+        let parts = arc_parts a in
+        let f = identifier_octets front in
+        let marks = map (λ d. 128 + d) parts.front in
+        ap (λ (t : List ℕ). length (unmarked_front (take (length t - 1) t))) (e ∙ octets ∙ ap (λ t. f ++ t) parts.whole ∙ sym (append_assoc f marks (parts.last ∷ [])))
+        ∙ ap (λ t. length (unmarked_front t)) (front-push (f ++ marks) parts.last)
+        ∙ ap length (front-marks f parts.front ∙ front-identifier bound front fid)
+        ∙ sym (ap place_of_last whole ∙ place-push front a)
 
 -- In one pass, from the first octet to the last
 
@@ -63,24 +72,16 @@ last_from-marked last begun here (d ∷ ds) w =
 
 -- an arc
 last_from-arc : (last begun here a : ℕ) (w : List ℕ) → last_from last begun here (arc_octets a ++ w) ≡ last_from begun (here + length (arc_octets a)) (here + length (arc_octets a)) w
-last_from-arc last begun here a w = by (cases_lt a 128)
-  where
-    by : (a < 128) ⊎ (128 ≤ a) → last_from last begun here (arc_octets a ++ w) ≡ last_from begun (here + length (arc_octets a)) (here + length (arc_octets a)) w
-    by (inl l) =
-        let n : here + 1 ≡ here + length (arc_octets a) = omega (arith, ap length (arc_octets-one a l)) in
-        ap (λ t. last_from last begun here (t ++ w)) (arc_octets-one a l)
-        ∙ last_from-ends last begun here a w l
-        ∙ ap (λ k. last_from begun k k w) n
-    by (inr l) =
-        let ds = digits 128 (a / 128) in
-        let marks = map (λ d. 128 + d) ds in
-        let n : here + length ds + 1 ≡ here + length (arc_octets a) =
-        omega (arith, ap length (arc_octets-more a l), length-append marks (a % 128 ∷ []), length-marked_digits (a / 128)) in
-        ap (λ t. last_from last begun here (t ++ w)) (arc_octets-more a l)
-        ∙ ap (last_from last begun here) (append_assoc marks (a % 128 ∷ []) w)
-        ∙ last_from-marked last begun here ds (a % 128 ∷ w)
-        ∙ last_from-ends last begun (here + length ds) (a % 128) w (omega arith)
-        ∙ ap (λ k. last_from begun k k w) n
+last_from-arc last begun here a w =
+    let parts = arc_parts a in
+    let marks = map (λ d. 128 + d) parts.front in
+    let n : here + length parts.front + 1 ≡ here + length (arc_octets a) =
+    omega (arith, ap length parts.whole, length-append marks (parts.last ∷ []), length-map parts.front (λ d. 128 + d)) in
+    ap (λ t. last_from last begun here (t ++ w)) parts.whole
+    ∙ ap (last_from last begun here) (append_assoc marks (parts.last ∷ []) w)
+    ∙ last_from-marked last begun here parts.front (parts.last ∷ w)
+    ∙ last_from-ends last begun (here + length parts.front) parts.last w parts.unmarked
+    ∙ ap (λ k. last_from begun k k w) n
 
 -- arcs, and a last one
 last_from-arcs : (last here : ℕ) (front : List ℕ) (a : ℕ) → last_from last here here (flat_map arc_octets (front ++ (a ∷ []))) ≡ here + length (flat_map arc_octets front)
@@ -99,8 +100,6 @@ last_from-arcs last here (x ∷ front) a =
 -- the octets after the root
 pub last_found : (bound r : ℕ) (w arcs : List ℕ) → IsIdentifier bound arcs → r ∷ w ≡ identifier_octets arcs → last_from 0 1 1 w ≡ place_of_last arcs
 unfolding IsIdentifier identifier_octets
-last_found bound r w [] id e = absurd id
-last_found bound r w (a ∷ []) id e = absurd id
 last_found bound r w (a ∷ b ∷ later) id e = by (unsnoc later)
   where
     rest : w ≡ flat_map arc_octets later
@@ -116,6 +115,7 @@ last_found bound r w (a ∷ b ∷ later) id e = by (unsnoc later)
         ∙ last_from-arcs 0 1 p.0 p.1
         ∙ n
         ∙ sym (ap (λ t. place_of_last (a ∷ b ∷ t)) p.2 ∙ place-push (a ∷ b ∷ p.0) p.1)
+last_found bound r w _ id e = absurd id
 
 -- marks leave the later arcs as many
 later_arcs-marked : (value : ℕ) (ds w : List ℕ) → (v : ℕ) × (later_arcs value (map (λ d. 128 + d) ds ++ w) ≡ later_arcs v w)
@@ -125,16 +125,12 @@ later_arcs-marked value (d ∷ ds) w =
     (rest.0, later_arcs-more value (128 + d) (map (λ d. 128 + d) ds ++ w) (omega arith) ∙ rest.1)
 
 later_arcs-arc : (a : ℕ) (w : List ℕ) → length (later_arcs 0 (arc_octets a ++ w)) ≡ suc (length (later_arcs 0 w))
-later_arcs-arc a w = by (cases_lt a 128)
-  where
-    by : (a < 128) ⊎ (128 ≤ a) → length (later_arcs 0 (arc_octets a ++ w)) ≡ suc (length (later_arcs 0 w))
-    by (inl l) = ap (λ t. length (later_arcs 0 (t ++ w))) (arc_octets-one a l) ∙ ap length (later_arcs-last 0 a w l)
-    by (inr l) =
-        let marks = map (λ d. 128 + d) (digits 128 (a / 128)) in
-        let before = later_arcs-marked 0 (digits 128 (a / 128)) (a % 128 ∷ w) in
-        ap (λ t. length (later_arcs 0 (t ++ w))) (arc_octets-more a l)
-        ∙ ap (λ t. length (later_arcs 0 t)) (append_assoc marks (a % 128 ∷ []) w)
-        ∙ ap length (before.1 ∙ later_arcs-last before.0 (a % 128) w (omega arith))
+later_arcs-arc a w =
+    let parts = arc_parts a in
+    let before = later_arcs-marked 0 parts.front (parts.last ∷ w) in
+    ap (λ t. length (later_arcs 0 (t ++ w))) parts.whole
+    ∙ ap (λ t. length (later_arcs 0 t)) (append_assoc (map (λ d. 128 + d) parts.front) (parts.last ∷ []) w)
+    ∙ ap length (before.1 ∙ later_arcs-last before.0 parts.last w parts.unmarked)
 
 -- what the arcs so far give of the whole: its number of arcs, and the place of the last one
 pub record SoFar (whole rest : List ℕ) (count last here : ℕ) : Type 0 where
@@ -179,18 +175,6 @@ found_whole bound r rest w (Err x) e bytes read m = read ∙ m
 
 -- The arcs before the last one
 
--- the place of the last arc tells the identifier before it, or that there is none
-pub parent_placed : (bound start : ℕ) (arcs w : List ℕ) → IsIdentifier bound arcs → w ≡ identifier_octets arcs → start ≡ place_of_last arcs → Parent bound arcs w start
-parent_placed bound start arcs w id e placed = by (last_of bound arcs id)
-  where
-    by : Last bound arcs → Parent bound arcs w start
-    by (root r small octets two) = none (placed ∙ place-two arcs two) two
-    by (more front a fid whole octets n) =
-        let at : start ≡ length (identifier_octets front) = placed ∙ ap place_of_last whole ∙ place-push front a in
-        let z = last_unmarked bound front fid in
-        some (omega (arith, at, z.1)) (λ two. omega (arith, n, identifier-many bound front fid)) front a fid whole
-        (ap (take start) (e ∙ octets) ∙ ap (λ k. take k (identifier_octets front ++ arc_octets a)) at ∙ take-append_seam (identifier_octets front) (arc_octets a))
-
 -- no more octets stand before the last arc than there are
 pub placed_within : (bound : ℕ) (arcs : List ℕ) → IsIdentifier bound arcs → place_of_last arcs < length (identifier_octets arcs)
 placed_within bound arcs id = by (last_of bound arcs id)
@@ -202,11 +186,11 @@ placed_within bound arcs id = by (last_of bound arcs id)
 
 -- with no octet before the last arc there are two arcs
 pub none_before : (bound capacity count start : ℕ) (w : List ℕ) → SpellsIdentifier bound capacity w → KnowsLast (arcs_of w) count start → start ≡ 0 → length (arcs_of w) ≡ 2
-none_before bound capacity count start w s k e = by (parent_placed bound start (arcs_of w) w s.identifier s.spelled k.placed)
+none_before bound capacity count start w s k e = by (last_of bound (arcs_of w) s.identifier)
   where
-    by : Parent bound (arcs_of w) w start → length (arcs_of w) ≡ 2
-    by (none z two) = two
-    by (some l longer front last fid whole t) = absurd (omega (arith, l))
+    by : Last bound (arcs_of w) → length (arcs_of w) ≡ 2
+    by (root r small octets two) = two
+    by (more front a fid whole octets n) = absurd (omega (arith, k.placed, ap place_of_last whole, place-push front a, some_octets bound front fid))
 
 -- octets of an identifier before those of the last arc
 pub record Front (bound capacity : ℕ) (w octets : List ℕ) : Type 0 where
@@ -218,11 +202,14 @@ pub record Front (bound capacity : ℕ) (w octets : List ℕ) : Type 0 where
 
 pub front_of : (bound capacity count start : ℕ) (w octets : List ℕ) → SpellsIdentifier bound capacity w → KnowsLast (arcs_of w) count start → (start ≡ 0 → ⊥)
     → octets ≡ take start w → Front bound capacity w octets
-front_of bound capacity count start w octets s k ne e = by (parent_placed bound start (arcs_of w) w s.identifier s.spelled k.placed)
+front_of bound capacity count start w octets s k ne e = by (last_of bound (arcs_of w) s.identifier)
   where
-    by : Parent bound (arcs_of w) w start → Front bound capacity w octets
-    by (none z two) = absurd (ne z)
-    by (some l longer front last fid whole t) =
+    by : Last bound (arcs_of w) → Front bound capacity w octets
+    by (root r small one two) = absurd (ne (k.placed ∙ place-two (arcs_of w) two))
+    by (more front last fid whole split n) =
+        let at : start ≡ length (identifier_octets front) = k.placed ∙ ap place_of_last whole ∙ place-push front last in
+        let t : take start w ≡ identifier_octets front =
+        ap (take start) (s.spelled ∙ split) ∙ ap (λ k. take k (identifier_octets front ++ arc_octets last)) at ∙ take-append_seam (identifier_octets front) (arc_octets last) in
         let same : octets ≡ identifier_octets front = e ∙ t in
         let back : arcs_of octets ≡ front = ap arcs_of same ∙ arcs_of-identifier_octets bound front fid in
         let within = placed_within bound (arcs_of w) s.identifier in
@@ -248,51 +235,34 @@ knows_push bound capacity count start a w new s counted pushed at = record {
 -- the last arc is below the bound
 last_below : (bound : ℕ) (front : List ℕ) (a : ℕ) → IsIdentifier bound front → IsIdentifier bound (front ++ (a ∷ [])) → a < bound
 unfolding IsIdentifier
-last_below bound [] a fid id = absurd fid
-last_below bound (x ∷ []) a fid id = absurd fid
 last_below bound (x ∷ y ∷ front) a fid id = at front id.2
   where
     at : (front : List ℕ) → AllByRecursion (λ n. n < bound) (front ++ (a ∷ [])) → a < bound
     at [] all = all.0
     at (z ∷ front) all = at front all.1
+last_below bound _ a fid id = absurd fid
 
--- marked octets before the last one are of one arc
-pub few_marked : (bound start : ℕ) (arcs w : List ℕ) → IsIdentifier bound arcs → w ≡ identifier_octets arcs
-    → ((k : ℕ) → start ≤ k → k + 1 < length w → 128 ≤ get_or w k 0) → length w ≤ start + length (digits 128 (bound - 1))
-few_marked bound start arcs w id e marked = by (last_of bound arcs id)
+-- the last arc has no more octets than the greatest one
+few_behind : (bound : ℕ) (arcs : List ℕ) → IsIdentifier bound arcs → length (identifier_octets arcs) ≤ place_of_last arcs + length (digits 128 (bound - 1))
+few_behind bound arcs id = by (last_of bound arcs id)
   where
-    by : Last bound arcs → length w ≤ start + length (digits 128 (bound - 1))
-    by (root r small octets two) = omega (arith, ap length e, ap length octets, length-digits-pos (bound - 1))
+    by : Last bound arcs → length (identifier_octets arcs) ≤ place_of_last arcs + length (digits 128 (bound - 1))
+    by (root r small octets two) = omega (arith, ap length octets, length-digits-pos (bound - 1))
     by (more front a fid whole octets n) =
-        let f = identifier_octets front in
-        let split : w ≡ f ++ arc_octets a = e ∙ octets in
-        let size : length w ≡ length f + length (arc_octets a) = ap length split ∙ length-append f (arc_octets a) in
         let below : a < bound = last_below bound front a fid (subst (IsIdentifier bound) whole id) in
-        let few : length (arc_octets a) ≤ length (digits 128 (bound - 1)) = omega (arith, length-arc_octets a, fewer_digits a (bound - 1) (omega arith)) in
-        let some : 0 < length (arc_octets a) = omega (arith, length-arc_octets a, length-digits-pos a) in
-        let z = last_unmarked bound front fid in
-        let low : get_or w z.0 0 < 128 = subst (λ k. k < 128) (sym (ap (λ t. get_or t z.0 0) split ∙ get-left f (arc_octets a) z.0 (omega (arith, z.1)))) z.2 in
-        elim (cases_lt z.0 start) [
-          | inl l ↦ omega (arith, z.1)
-          | inr l ↦ absurd (omega (arith, marked z.0 l (omega (arith, z.1)), low))
-        ]
+        omega (arith, ap place_of_last whole, place-push front a, ap length octets, length-append (identifier_octets front) (arc_octets a), length-arc_octets a, fewer_digits 128 a (bound - 1) (omega arith) (omega arith))
 
--- where an octet without a mark comes before them, they are where the last arc begins
-pub placed_marked : (bound start : ℕ) (arcs w : List ℕ) → IsIdentifier bound arcs → w ≡ identifier_octets arcs → start < length w
-    → ((k : ℕ) → start ≤ k → k + 1 < length w → 128 ≤ get_or w k 0) → (0 < start → get_or w (start - 1) 0 < 128) → start ≡ place_of_last arcs
-placed_marked bound start arcs w id e within marked ends =
-    start_placed bound start arcs w id e (record { within = within; marked = marked; ends = λ k p. low k p (ends (omega arith)) })
-  where
-    low : (k : ℕ) → k + 1 ≡ start → get_or w (start - 1) 0 < 128 → get_or w k 0 < 128
-    low k p l = let same : start - 1 ≡ k = omega arith in subst (λ n. get_or w n 0 < 128) same l
+pub few_tested : (bound start : ℕ) (arcs w : List ℕ) → IsIdentifier bound arcs → w ≡ identifier_octets arcs → start < length w
+    → unmarked_front (take start w) ≡ unmarked_front (take (length w - 1) w) → length w ≤ start + length (digits 128 (bound - 1))
+few_tested bound start arcs w id e l held =
+    omega (arith, ap length e, few_behind bound arcs id, before_last bound arcs w id e, ap length held, front-within (take start w), length-take-le start w (omega arith))
 
 -- there is an octet for each arc but one
 pub few_arcs : (bound : ℕ) (arcs : List ℕ) → IsIdentifier bound arcs → length arcs ≤ length (identifier_octets arcs) + 1
 unfolding IsIdentifier identifier_octets
-few_arcs bound [] id = absurd id
-few_arcs bound (a ∷ []) id = absurd id
 few_arcs bound (a ∷ b ∷ later) id = omega (arith, each later)
   where
     each : (arcs : List ℕ) → length arcs ≤ length (flat_map arc_octets arcs)
     each [] = omega arith
     each (x ∷ arcs) = omega (arith, each arcs, length-append (arc_octets x) (flat_map arc_octets arcs), length-arc_octets x, length-digits-pos x)
+few_arcs bound _ id = absurd id

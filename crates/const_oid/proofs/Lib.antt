@@ -3,7 +3,6 @@ pub mod IdentifierLaws
 pub mod ArcsLaws
 pub mod BoundLaws
 pub mod BufferLaws
-pub mod ReadingLaws
 pub mod LongArcLaws
 pub mod EncodingLaws
 pub mod TextLaws

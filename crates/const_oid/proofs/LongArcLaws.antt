@@ -1,12 +1,12 @@
 -- How many octets the arcs below the bound have, by their first octet.
-use Rattle.std.proofs.Common.{◌≡◌, ◌≢◌, ℕ, zero, suc, ◌+◌, ◌-◌, ◌*◌, ◌%◌, ◌<◌, ◌≤◌, ◌⊎◌, inl, inr, List, [], ◌∷◌, length, get_or, take, drop, Err, sym, ap, subst, ◌∙◌, add-one, refl, arith}
-use Rattle.std.proofs.Math.Seq.{drop-cons}
-use Rattle.std.proofs.lemmas.List.{take_more}
+use Rattle.std.proofs.Common.{◌≡◌, ◌≢◌, ℕ, zero, suc, ◌+◌, ◌-◌, ◌*◌, ◌%◌, ◌<◌, ◌≤◌, ◌⊎◌, inl, inr, List, [], ◌∷◌, ◌++◌, length, get_or, take, drop, Err, sym, ap, subst, ◌∙◌, arith}
+use Rattle.std.proofs.lemmas.List.{drop_more, take_more}
 use Rattle.const_oid.specs.declared.error.Error.TheVariants as errors
 use Rattle.const_oid.specs.Bound.{Bound}
 use Rattle.const_oid.specs.IdentifierOctets.{arc_octets, read_arcs}
+use Rattle.const_oid.specs.OctetFaults.{begun}
 use Rattle.const_oid.proofs.BoundLaws.{Bound-is}
-use Rattle.const_oid.proofs.IdentifierLaws.{IsBegun, at_border, arc_octets-finish, begun-push, read_arcs-too_big, read_arcs-more}
+use Rattle.const_oid.proofs.IdentifierLaws.{arc_octets-finish, begun-push, read_arcs-too_big, read_arcs-more}
 
 -- a digit in base 128, and so many digits 0 behind it
 abbrev scaled : (digit more : ℕ) → ℕ
@@ -46,9 +46,6 @@ begins_more first more value o b = record {
   below = omega (arith, b.below);
 }
 
-begins_some : (first more value : ℕ) → Begins first more value → 0 < value
-begins_some first more value b = omega (arith, b.marked, b.above, scaled-le 1 (first - 128) more (omega (arith, b.marked)), scaled-more 1 0 more (omega arith))
-
 -- the greatest number of octets that an arc with this first octet has
 abbrev pub IsMost : (first most : ℕ) → Type 0
 IsMost first most = ((131 < first) × (most ≡ 18)) ⊎ ((first ≤ 131) × (most ≡ 19))
@@ -68,16 +65,16 @@ begins_past first most more value b (inr m) l =
 -- the octets before the place are those of an arc that isn't finished
 pub record IsInside (w : List ℕ) (here value : ℕ) : Type 0 where
   pub read : read_arcs Bound 0 w ≡ read_arcs Bound value (drop here w)
-  pub octets : IsBegun value (take here w)
+  pub some : 0 < value
+  pub octets : take here w ≡ begun value
   pub begins : Begins (get_or w 0 0) (here - 1) value
 
-next_octet : (w : List ℕ) (i : ℕ) → i < length w → drop i w ≡ get_or w i 0 ∷ drop (i + 1) w
-next_octet w i l = drop-cons w i 0 l ∙ ap (λ n. get_or w i 0 ∷ drop n w) (sym (add-one i))
-
 pub inside_first : (w : List ℕ) → 0 < length w → 128 ≤ get_or w 0 0 → (get_or w 0 0 ≡ 128 → ⊥) → get_or w 0 0 < 256 → IsInside w 1 (0 * 128 + get_or w 0 0 % 128)
+unfolding begun
 inside_first w l mark some octet = record {
-  read = ap (read_arcs Bound 0) (next_octet w 0 l) ∙ read_arcs-more Bound 0 (get_or w 0 0) (drop 1 w) (λ p. some p.1) (omega (arith, Bound-is)) mark;
-  octets = subst (IsBegun (0 * 128 + get_or w 0 0 % 128)) (sym (take_more w 0 0 l)) (begun-push 0 (get_or w 0 0) [] (at_border refl refl) (λ p. some p.1) mark octet);
+  read = ap (read_arcs Bound 0) (drop_more w 0 0 l) ∙ read_arcs-more Bound 0 (get_or w 0 0) (drop 1 w) (λ p. some p.1) (omega (arith, Bound-is)) mark;
+  some = (let ne : get_or w 0 0 ≢ 128 = some in omega (arith, mark, ne));
+  octets = take_more w 0 0 l ∙ sym (begun-push 0 (get_or w 0 0) (λ p. some p.1) mark octet);
   begins = begins_first (get_or w 0 0) (let ne : get_or w 0 0 ≢ 128 = some in omega (arith, mark, ne)) octet;
 }
 
@@ -92,24 +89,25 @@ pub inside_ends : (w : List ℕ) (i value most : ℕ) → IsInside w i value →
 inside_ends w i value most s some l m few low = (
   value * 128 + get_or w i 0 % 128,
   begins_within (get_or w 0 0) most i (value * 128 + get_or w i 0 % 128) (one_more w i value s some) m few,
-  take_more w i 0 l ∙ sym (arc_octets-finish value (get_or w i 0) (take i w) s.octets low),
+  take_more w i 0 l ∙ ap (λ t. t ++ (get_or w i 0 ∷ [])) s.octets ∙ sym (arc_octets-finish value (get_or w i 0) low),
 )
 
 pub inside_goes : (w : List ℕ) (i value most : ℕ) → IsInside w i value → 0 < i → i < length w → IsMost (get_or w 0 0) most → i < most → 128 ≤ get_or w i 0 → get_or w i 0 < 256
     → IsInside w (i + 1) (value * 128 + get_or w i 0 % 128)
 inside_goes w i value most s some l m few mark octet =
     let more = one_more w i value s some in
-    let free : (value ≡ 0) × (get_or w i 0 ≡ 128) → ⊥ = λ p. omega (arith, p.0, begins_some (get_or w 0 0) (i - 1) value s.begins) in
+    let free : (value ≡ 0) × (get_or w i 0 ≡ 128) → ⊥ = λ p. omega (arith, p.0, s.some) in
     let place : i ≡ i + 1 - 1 = omega arith in
     record {
-      read = s.read ∙ ap (read_arcs Bound value) (next_octet w i l)
+      read = s.read ∙ ap (read_arcs Bound value) (drop_more w i 0 l)
           ∙ read_arcs-more Bound value (get_or w i 0) (drop (i + 1) w) free (begins_within (get_or w 0 0) most i (value * 128 + get_or w i 0 % 128) more m few) mark;
-      octets = subst (IsBegun (value * 128 + get_or w i 0 % 128)) (sym (take_more w i 0 l)) (begun-push value (get_or w i 0) (take i w) s.octets free mark octet);
+      some = omega (arith, s.some);
+      octets = take_more w i 0 l ∙ ap (λ t. t ++ (get_or w i 0 ∷ [])) s.octets ∙ sym (begun-push value (get_or w i 0) free mark octet);
       begins = subst (λ n. Begins (get_or w 0 0) n (value * 128 + get_or w i 0 % 128)) place more;
     }
 
 pub inside_past : (w : List ℕ) (i value most : ℕ) → IsInside w i value → 0 < i → i < length w → IsMost (get_or w 0 0) most → most ≤ i → read_arcs Bound 0 w ≡ Err errors.ArcTooBig
 inside_past w i value most s some l m many =
-    let free : (value ≡ 0) × (get_or w i 0 ≡ 128) → ⊥ = λ p. omega (arith, p.0, begins_some (get_or w 0 0) (i - 1) value s.begins) in
-    s.read ∙ ap (read_arcs Bound value) (next_octet w i l)
+    let free : (value ≡ 0) × (get_or w i 0 ≡ 128) → ⊥ = λ p. omega (arith, p.0, s.some) in
+    s.read ∙ ap (read_arcs Bound value) (drop_more w i 0 l)
     ∙ read_arcs-too_big Bound value (get_or w i 0) (drop (i + 1) w) free (begins_past (get_or w 0 0) most i (value * 128 + get_or w i 0 % 128) (one_more w i value s some) m many)

@@ -1,8 +1,9 @@
 -- The names of an identifier, entry by entry.
-use Rattle.std.proofs.Common.{◌≡◌, ℕ, zero, suc, ◌+◌, ◌<◌, Bool, true, false, cond, List, [], ◌∷◌, length, get_or, drop, map, Some, sym, refl, ap, ◌∙◌, add-one, arith}
+use Rattle.std.proofs.Common.{◌≡◌, ℕ, zero, suc, ◌+◌, ◌<◌, Bool, true, false, cond, List, [], ◌∷◌, length, get_or, drop, map, Some, refl, ap, ◌∙◌, arith}
 use Rattle.std.specs.Cmp.Lexicographic.{pointwise, bytes_decides}
 use Rattle.std.specs.Prelude.{nat_eq}
-use Rattle.std.proofs.Math.Seq.{drop-cons}
+use Rattle.std.proofs.lemmas.List.{at_drop_more}
+use Rattle.std.proofs.lemmas.Bool.Decides.{nat_tests}
 use Rattle.const_oid.specs.IdentifierOctets.{identifier_octets}
 use Rattle.const_oid.specs.Names.{Entry, names_of, by_name}
 use Rattle.std.specs.Char.{to_ascii_lowercase}
@@ -16,7 +17,7 @@ at_entry : (arcs : List ℕ) (entries : List Entry) (i : ℕ) (d : Entry) (b : B
     → pointwise nat_eq (identifier_octets (get_or entries i d).0.now) (identifier_octets arcs) ≡ b
     → names_of arcs (drop i entries) ≡ cond b ((get_or entries i d).1.now ∷ names_of arcs (drop (i + 1) entries)) (names_of arcs (drop (i + 1) entries))
 at_entry arcs entries i d b l same =
-    ap (names_of arcs) (drop-cons entries i d l ∙ ap (λ n. get_or entries i d ∷ drop n entries) (sym (add-one i)))
+    at_drop_more (names_of arcs) entries i d l
     ∙ ap (λ b. cond b ((get_or entries i d).1.now ∷ names_of arcs (drop (i + 1) entries)) (names_of arcs (drop (i + 1) entries))) same
 
 pub names-match : (arcs : List ℕ) (entries : List Entry) (i : ℕ) (d e : Entry) → i < length entries
@@ -34,7 +35,7 @@ by_name_at : (name : List ℕ) (entries : List Entry) (i : ℕ) (d : Entry) (b :
     → pointwise nat_eq (map to_ascii_lowercase (get_or entries i d).1.now) (map to_ascii_lowercase name) ≡ b
     → by_name name (drop i entries) ≡ cond b (Some (get_or entries i d).0.now) (by_name name (drop (i + 1) entries))
 by_name_at name entries i d b l same =
-    ap (by_name name) (drop-cons entries i d l ∙ ap (λ n. get_or entries i d ∷ drop n entries) (sym (add-one i)))
+    at_drop_more (by_name name) entries i d l
     ∙ ap (λ b. cond b (Some (get_or entries i d).0.now) (by_name name (drop (i + 1) entries))) same
 
 pub by_name-match : (name : List ℕ) (entries : List Entry) (i : ℕ) (d e : Entry) → i < length entries
@@ -45,8 +46,5 @@ by_name-match name entries i d e l same =
 
 pub by_name-pass : (name : List ℕ) (entries : List Entry) (i : ℕ) (d : Entry) → i < length entries
     → (map to_ascii_lowercase (get_or entries i d).1.now ≡ map to_ascii_lowercase name → ⊥) → by_name name (drop i entries) ≡ by_name name (drop (i + 1) entries)
-by_name-pass name entries i d l other = by_name_at name entries i d false l (no_test (pointwise nat_eq (map to_ascii_lowercase (get_or entries i d).1.now) (map to_ascii_lowercase name)) refl)
-  where
-    no_test : (b : Bool) → pointwise nat_eq (map to_ascii_lowercase (get_or entries i d).1.now) (map to_ascii_lowercase name) ≡ b → pointwise nat_eq (map to_ascii_lowercase (get_or entries i d).1.now) (map to_ascii_lowercase name) ≡ false
-    no_test true e = absurd (other ((bytes_decides (map to_ascii_lowercase (get_or entries i d).1.now) (map to_ascii_lowercase name)).0 e))
-    no_test false e = e
+by_name-pass name entries i d l other =
+    by_name_at name entries i d false l (grind (arith, nat_tests, bytes_decides (map to_ascii_lowercase (get_or entries i d).1.now) (map to_ascii_lowercase name)))

@@ -1,5 +1,5 @@
 -- When identifiers are equal, and how the two orders place them.
-use Rattle.std.proofs.Common.{◌≡◌, ◌≢◌, ℕ, zero, suc, ◌+◌, ◌/◌, ◌%◌, ◌<◌, ◌≤◌, ◌⊎◌, inl, inr, true, ltb, count_by, List, [], ◌∷◌, ◌++◌, length, map, sym, refl, ap, ◌∙◌, length-append, arith}
+use Rattle.std.proofs.Common.{◌≡◌, ◌≢◌, ℕ, ◌+◌, ◌/◌, ◌%◌, ◌<◌, ◌≤◌, ◌⊎◌, inl, inr, true, ltb, count_by, List, [], ◌∷◌, ◌++◌, length, suc, zero, sym, refl, ap, ◌∙◌, length-append, arith}
 use Rattle.std.specs.Hash as fed
 use Rattle.std.specs.declared.cmp.Ordering.{Ordering}
 use Rattle.std.specs.declared.cmp.Ordering.TheVariants.{Less, Equal, Greater}
@@ -8,15 +8,17 @@ use Rattle.std.specs.Cmp.{nat_cmp_is, tied_itself}
 use Rattle.std.specs.Cmp.Lexicographic.{slice_cmp, bytes_decides, texts_ties}
 use Rattle.std.specs.List.{flat_map}
 use Rattle.std.proofs.lemmas.Bool.{cases_lt}
-use Rattle.const_oid.specs.Digits.{digits}
+use Rattle.const_oid.specs.OctetFaults.{begun}
 use Rattle.const_oid.specs.IdentifierOctets.{arc_octets, identifier_octets, IsIdentifier}
 use Rattle.const_oid.specs.DottedText.{dotted}
 use Rattle.const_oid.specs.Orders.{owned_cmp, owned_cmp_total, owned_cmp_ties}
 use Rattle.const_oid.specs.Comparing.{owned_eq, borrowed_cmp, IsAtMost}
-use Rattle.const_oid.proofs.EncodingLaws.{arc_octets-one, arc_octets-more, marked_digits-one, marked_digits-more, length-digits-one, length-digits-more, length-digits-pos, length-arc_octets, length-marked_digits, identifier_octets-push, fewer_digits}
+use Rattle.const_oid.proofs.DigitLaws.{fewer_digits}
+use Rattle.const_oid.proofs.EncodingLaws.{length-digits-pos, length-arc_octets}
+use Rattle.const_oid.proofs.IdentifierLaws.{identifier_octets-push, begun-split, arc_octets-split}
 use Rattle.const_oid.proofs.ArcsLaws.{arcs_of-identifier_octets, is_ok-octets, length-arcs_of}
 use Rattle.const_oid.proofs.PrefixLaws.{same_octets, octets_prefix, prefix_octets}
-use Rattle.const_oid.proofs.TextRoundLaws.{same_text}
+use Rattle.const_oid.proofs.TextFaultLaws.{same_text}
 
 -- Equality
 
@@ -31,9 +33,8 @@ equal_texts bound a b large p q =
     (λ t. ap dotted ((equal_arcs bound a b p q).0 t), λ e. (equal_arcs bound a b p q).1 (same_text bound a b large p q e))
 
 was_equal : (o : Ordering) → is_eq o ≡ true → o ≡ Equal
-was_equal Less e = cc
 was_equal Equal e = refl
-was_equal Greater e = cc
+was_equal _ e = cc
 
 -- Both orders are Equal exactly where the identifiers are
 
@@ -89,14 +90,13 @@ same_front (o ∷ q) x y = ap (λ r. ordering_then r (slice_cmp nat_cmp (q ++ x)
 -- the first octet that differs decides
 less_front : (xs ys r s : List ℕ) → length xs ≡ length ys → slice_cmp nat_cmp xs ys ≡ Less → slice_cmp nat_cmp (xs ++ r) (ys ++ s) ≡ Less
 less_front [] [] r s n e = cc
-less_front [] (y ∷ ys) r s n e = absurd (omega arith)
-less_front (x ∷ xs) [] r s n e = absurd (omega arith)
 less_front (x ∷ xs) (y ∷ ys) r s n e = by (less_front xs ys r s (omega arith)) (nat_cmp x y) refl e
   where
     by : (slice_cmp nat_cmp xs ys ≡ Less → slice_cmp nat_cmp (xs ++ r) (ys ++ s) ≡ Less) → (o : Ordering) → nat_cmp x y ≡ o → ordering_then (nat_cmp x y) (slice_cmp nat_cmp xs ys) ≡ Less → ordering_then (nat_cmp x y) (slice_cmp nat_cmp (xs ++ r) (ys ++ s)) ≡ Less
     by rest Less c h = ap (λ k. ordering_then k (slice_cmp nat_cmp (xs ++ r) (ys ++ s))) c
     by rest Equal c h = ap (λ k. ordering_then k (slice_cmp nat_cmp (xs ++ r) (ys ++ s))) c ∙ rest (sym (ap (λ k. ordering_then k (slice_cmp nat_cmp xs ys)) c) ∙ h)
     by rest Greater c h = let g : Greater ≡ Less = sym (ap (λ k. ordering_then k (slice_cmp nat_cmp xs ys)) c) ∙ h in cc
+less_front _ _ r s n e = absurd (omega arith)
 
 -- a subtree of the borrowed order is unbroken
 pub unbroken : (bound : ℕ) (front a b c : List ℕ) → IsIdentifier bound front → IsIdentifier bound b → IsAtMost borrowed_cmp (front ++ a) b → IsAtMost borrowed_cmp b (front ++ c)
@@ -117,67 +117,40 @@ ancestor_first bound arcs a rest id =
 
 -- Arcs
 
--- marked digits of the same number stand as their numbers
-marked_less : (room m n : ℕ) → n ≤ room → m < n → length (digits 128 m) ≡ length (digits 128 n) → slice_cmp nat_cmp (map (λ d. 128 + d) (digits 128 m)) (map (λ d. 128 + d) (digits 128 n)) ≡ Less
-marked_less zero m n small l e = absurd (omega arith)
-marked_less (suc room) m n small l e = by (cases_lt m 128) (cases_lt n 128) (cases_lt (m / 128) (n / 128)) (λ k s. marked_less room (m / 128) (n / 128) (omega arith) k s)
+-- arcs of as many octets stand by their octets, whatever mark the last one has
+last_less : (m n x y : ℕ) → m < n → (m / 128 ≡ n / 128 → x < y) → length (begun (m / 128) ++ (x ∷ [])) ≡ length (begun (n / 128) ++ (y ∷ []))
+    → (m / 128 < n / 128 → length (begun (m / 128)) ≡ length (begun (n / 128)) → slice_cmp nat_cmp (begun (m / 128)) (begun (n / 128)) ≡ Less)
+    → slice_cmp nat_cmp (begun (m / 128) ++ (x ∷ [])) (begun (n / 128) ++ (y ∷ [])) ≡ Less
+last_less m n x y l last e stands = by (cases_lt (m / 128) (n / 128))
   where
-    by : (m < 128) ⊎ (128 ≤ m) → (n < 128) ⊎ (128 ≤ n) → (m / 128 < n / 128) ⊎ (n / 128 ≤ m / 128)
-        → (m / 128 < n / 128 → length (digits 128 (m / 128)) ≡ length (digits 128 (n / 128)) → slice_cmp nat_cmp (map (λ d. 128 + d) (digits 128 (m / 128))) (map (λ d. 128 + d) (digits 128 (n / 128))) ≡ Less)
-        → slice_cmp nat_cmp (map (λ d. 128 + d) (digits 128 m)) (map (λ d. 128 + d) (digits 128 n)) ≡ Less
-    by (inl p) (inl q) _ ih =
-        ap (λ t. slice_cmp nat_cmp t (map (λ d. 128 + d) (digits 128 n))) (marked_digits-one m p)
-        ∙ ap (λ t. slice_cmp nat_cmp ((128 + m) ∷ []) t) (marked_digits-one n q)
-        ∙ ap (λ o. ordering_then o Equal) (nat_cmp-less (128 + m) (128 + n) (omega arith))
-    by (inl p) (inr q) _ ih = absurd (omega (arith, length-digits-one m p, length-digits-more n q, length-digits-pos (n / 128)))
-    by (inr p) (inl q) _ ih = absurd (omega arith)
-    by (inr p) (inr q) s ih =
-        ap (λ t. slice_cmp nat_cmp t (map (λ d. 128 + d) (digits 128 n))) (marked_digits-more m p)
-        ∙ ap (λ t. slice_cmp nat_cmp (map (λ d. 128 + d) (digits 128 (m / 128)) ++ ((128 + m % 128) ∷ [])) t) (marked_digits-more n q)
-        ∙ on s
-      where
-        on : (m / 128 < n / 128) ⊎ (n / 128 ≤ m / 128)
-            → slice_cmp nat_cmp (map (λ d. 128 + d) (digits 128 (m / 128)) ++ ((128 + m % 128) ∷ [])) (map (λ d. 128 + d) (digits 128 (n / 128)) ++ ((128 + n % 128) ∷ [])) ≡ Less
-        on (inl high) =
-            let size : length (digits 128 (m / 128)) ≡ length (digits 128 (n / 128)) = omega (arith, length-digits-more m p, length-digits-more n q) in
-            less_front (map (λ d. 128 + d) (digits 128 (m / 128))) (map (λ d. 128 + d) (digits 128 (n / 128))) ((128 + m % 128) ∷ []) ((128 + n % 128) ∷ [])
-            (length-marked_digits (m / 128) ∙ size ∙ sym (length-marked_digits (n / 128))) (ih high size)
-        on (inr high) =
-            let same : m / 128 ≡ n / 128 = omega arith in
-            ap (λ k. slice_cmp nat_cmp (map (λ d. 128 + d) (digits 128 k) ++ ((128 + m % 128) ∷ [])) (map (λ d. 128 + d) (digits 128 (n / 128)) ++ ((128 + n % 128) ∷ []))) same
-            ∙ same_front (map (λ d. 128 + d) (digits 128 (n / 128))) ((128 + m % 128) ∷ []) ((128 + n % 128) ∷ [])
-            ∙ ap (λ o. ordering_then o Equal) (nat_cmp-less (128 + m % 128) (128 + n % 128) (omega arith))
+    size : length (begun (m / 128)) ≡ length (begun (n / 128))
+    size = omega (arith, e, length-append (begun (m / 128)) (x ∷ []), length-append (begun (n / 128)) (y ∷ []))
 
--- arcs of the same number of octets stand by their octets
+    by : (m / 128 < n / 128) ⊎ (n / 128 ≤ m / 128) → slice_cmp nat_cmp (begun (m / 128) ++ (x ∷ [])) (begun (n / 128) ++ (y ∷ [])) ≡ Less
+    by (inl high) = less_front (begun (m / 128)) (begun (n / 128)) (x ∷ []) (y ∷ []) size (stands high size)
+    by (inr high) =
+        let same : m / 128 ≡ n / 128 = omega arith in
+        ap (λ q. slice_cmp nat_cmp (begun q ++ (x ∷ [])) (begun (n / 128) ++ (y ∷ []))) same
+        ∙ same_front (begun (n / 128)) (x ∷ []) (y ∷ [])
+        ∙ ap (λ o. ordering_then o Equal) (nat_cmp-less x y (last same))
+
+begun_less : (room m n : ℕ) → n ≤ room → m < n → length (begun m) ≡ length (begun n) → slice_cmp nat_cmp (begun m) (begun n) ≡ Less
+unfolding begun
+begun_less zero m n small l e = absurd (omega arith)
+begun_less (suc room) zero n small l e = absurd (omega (arith, e, ap length (begun-split n l), length-append (begun (n / 128)) ((128 + n % 128) ∷ [])))
+begun_less (suc room) (suc k) n small l e =
+    let m = suc k in
+    let p = begun-split m (omega arith) in
+    let q = begun-split n (omega arith) in
+    ap (λ t. slice_cmp nat_cmp t (begun n)) p ∙ ap (slice_cmp nat_cmp (begun (m / 128) ++ ((128 + m % 128) ∷ []))) q
+    ∙ last_less m n (128 + m % 128) (128 + n % 128) l (λ h. omega (arith, h)) (sym (ap length p) ∙ e ∙ ap length q) (begun_less room (m / 128) (n / 128) (omega arith))
+
 arc_less : (m n : ℕ) → m < n → length (arc_octets m) ≡ length (arc_octets n) → slice_cmp nat_cmp (arc_octets m) (arc_octets n) ≡ Less
-arc_less m n l e = by (cases_lt m 128) (cases_lt n 128)
-  where
-    size : length (digits 128 m) ≡ length (digits 128 n)
-    size = sym (length-arc_octets m) ∙ e ∙ length-arc_octets n
-
-    by : (m < 128) ⊎ (128 ≤ m) → (n < 128) ⊎ (128 ≤ n) → slice_cmp nat_cmp (arc_octets m) (arc_octets n) ≡ Less
-    by (inl p) (inl q) =
-        ap (λ t. slice_cmp nat_cmp t (arc_octets n)) (arc_octets-one m p)
-        ∙ ap (λ t. slice_cmp nat_cmp (m ∷ []) t) (arc_octets-one n q)
-        ∙ ap (λ o. ordering_then o Equal) (nat_cmp-less m n l)
-    by (inl p) (inr q) = absurd (omega (arith, size, length-digits-one m p, length-digits-more n q, length-digits-pos (n / 128)))
-    by (inr p) (inl q) = absurd (omega arith)
-    by (inr p) (inr q) =
-        ap (λ t. slice_cmp nat_cmp t (arc_octets n)) (arc_octets-more m p)
-        ∙ ap (λ t. slice_cmp nat_cmp (map (λ d. 128 + d) (digits 128 (m / 128)) ++ (m % 128 ∷ [])) t) (arc_octets-more n q)
-        ∙ on (cases_lt (m / 128) (n / 128))
-      where
-        on : (m / 128 < n / 128) ⊎ (n / 128 ≤ m / 128)
-            → slice_cmp nat_cmp (map (λ d. 128 + d) (digits 128 (m / 128)) ++ (m % 128 ∷ [])) (map (λ d. 128 + d) (digits 128 (n / 128)) ++ (n % 128 ∷ [])) ≡ Less
-        on (inl high) =
-            let count : length (digits 128 (m / 128)) ≡ length (digits 128 (n / 128)) = omega (arith, size, length-digits-more m p, length-digits-more n q) in
-            less_front (map (λ d. 128 + d) (digits 128 (m / 128))) (map (λ d. 128 + d) (digits 128 (n / 128))) (m % 128 ∷ []) (n % 128 ∷ [])
-            (length-marked_digits (m / 128) ∙ count ∙ sym (length-marked_digits (n / 128))) (marked_less (n / 128) (m / 128) (n / 128) (omega arith) high count)
-        on (inr high) =
-            let same : m / 128 ≡ n / 128 = omega arith in
-            ap (λ k. slice_cmp nat_cmp (map (λ d. 128 + d) (digits 128 k) ++ (m % 128 ∷ [])) (map (λ d. 128 + d) (digits 128 (n / 128)) ++ (n % 128 ∷ []))) same
-            ∙ same_front (map (λ d. 128 + d) (digits 128 (n / 128))) (m % 128 ∷ []) (n % 128 ∷ [])
-            ∙ ap (λ o. ordering_then o Equal) (nat_cmp-less (m % 128) (n % 128) (omega arith))
+arc_less m n l e =
+    let p = arc_octets-split m in
+    let q = arc_octets-split n in
+    ap (λ t. slice_cmp nat_cmp t (arc_octets n)) p ∙ ap (slice_cmp nat_cmp (begun (m / 128) ++ (m % 128 ∷ []))) q
+    ∙ last_less m n (m % 128) (n % 128) l (λ h. omega (arith, h)) (sym (ap length p) ∙ e ∙ ap length q) (begun_less (n / 128) (m / 128) (n / 128) (omega arith))
 
 child_less : (bound : ℕ) (front : List ℕ) (m n : ℕ) → IsIdentifier bound front → m < n → owned_cmp (front ++ (m ∷ [])) (front ++ (n ∷ [])) ≡ Less
 child_less bound front m n id l =
@@ -194,7 +167,7 @@ child_less bound front m n id l =
         let less : length (f ++ arc_octets m) < length (f ++ arc_octets n) = omega (arith, length-append f (arc_octets m), length-append f (arc_octets n)) in
         ap (λ o. ordering_then o (slice_cmp nat_cmp (f ++ arc_octets m) (f ++ arc_octets n))) (nat_cmp-less _ _ less)
     by (inr longer) =
-        let size : length (arc_octets m) ≡ length (arc_octets n) = omega (arith, longer, length-arc_octets m, length-arc_octets n, fewer_digits m n (omega arith)) in
+        let size : length (arc_octets m) ≡ length (arc_octets n) = omega (arith, longer, length-arc_octets m, length-arc_octets n, fewer_digits 128 m n (omega arith) (omega arith)) in
         let same : length (f ++ arc_octets m) ≡ length (f ++ arc_octets n) = omega (arith, size, length-append f (arc_octets m), length-append f (arc_octets n)) in
         ap (λ o. ordering_then o (slice_cmp nat_cmp (f ++ arc_octets m) (f ++ arc_octets n))) (nat_cmp-same _ _ same)
         ∙ same_front f (arc_octets m) (arc_octets n)

@@ -1,6 +1,7 @@
 -- The octets that an array holds, by those without a mark.
-use Rattle.std.proofs.Common.{◌≡◌, ℕ, zero, suc, ◌+◌, ◌-◌, ◌<◌, ◌≤◌, List, [], ◌∷◌, ◌++◌, length, get_or, take, drop, replicate, sym, refl, ap, ◌∙◌, arith, append_assoc, length-append, min}
-use Rattle.std.proofs.lemmas.Bool.{lt-ltb, le-ltb}
+use Rattle.std.proofs.Common.{◌≡◌, ℕ, zero, suc, ◌+◌, ◌-◌, ◌<◌, ◌≤◌, List, [], ◌∷◌, ◌++◌, length, get_or, take, drop, replicate, map, ◌⊎◌, inl, inr, length-take-le, sym, refl, ap, ◌∙◌, arith, append_assoc, length-append, min}
+use Rattle.std.proofs.lemmas.Bool.{lt-ltb, le-ltb, cases_lt}
+use Rattle.std.proofs.lemmas.Bool.Decides.{nat_tests}
 use Rattle.std.proofs.lemmas.List.{drop-replicate, take_more}
 use Rattle.std.proofs.Math.Seq.{take-append_seam, drop-append-add}
 use Rattle.const_oid.specs.Arcs.{SpellsIdentifier, arcs_of}
@@ -21,32 +22,38 @@ unfolding unmarked_front
 front-marked [] o l = rw (le-ltb o 128 l, before) refl
 front-marked (x ∷ w) o l = ap (before x) (front-marked w o l)
 
-front-marks : (k : ℕ) → unmarked_front (replicate k 128) ≡ []
-unfolding unmarked_front
-front-marks zero = refl
-front-marks (suc k) = ap (before 128) (front-marks k)
-
 -- marks at the end
-pub front-padded : (w : List ℕ) (k : ℕ) → unmarked_front (w ++ replicate k 128) ≡ unmarked_front w
+pub front-marks : (w ds : List ℕ) → unmarked_front (w ++ map (λ d. 128 + d) ds) ≡ unmarked_front w
 unfolding unmarked_front
-front-padded [] k = front-marks k
-front-padded (x ∷ w) k = ap (before x) (front-padded w k)
+front-marks [] [] = refl
+front-marks [] (d ∷ ds) = ap (before (128 + d)) (front-marks [] ds) ∙ rw (le-ltb (128 + d) 128 (omega arith), before) refl
+front-marks (x ∷ w) ds = ap (before x) (front-marks w ds)
+
+front-padded : (w : List ℕ) (k : ℕ) → unmarked_front (w ++ replicate k 128) ≡ unmarked_front w
+front-padded w k = ap (λ t. unmarked_front (w ++ t)) (marks k) ∙ front-marks w (replicate k 0)
+  where
+    marks : (k : ℕ) → replicate k 128 ≡ map (λ d. 128 + d) (replicate k 0)
+    marks zero = refl
+    marks (suc k) = ap (λ t. 128 ∷ t) (marks k)
 
 pub front-none : unmarked_front [] ≡ []
 unfolding unmarked_front
 front-none = refl
 
--- the octets of an identifier
+-- the octets of an arc behind others, and those of an identifier
+front-arc : (w : List ℕ) (a : ℕ) → unmarked_front (w ++ arc_octets a) ≡ w ++ arc_octets a
+front-arc w a =
+    let parts = arc_parts a in
+    let marks = map (λ d. 128 + d) parts.front in
+    let split : w ++ arc_octets a ≡ (w ++ marks) ++ (parts.last ∷ []) = ap (λ t. w ++ t) parts.whole ∙ sym (append_assoc w marks (parts.last ∷ [])) in
+    ap unmarked_front split ∙ front-low (w ++ marks) parts.last parts.unmarked ∙ sym split
+
 pub front-identifier : (bound : ℕ) (arcs : List ℕ) → IsIdentifier bound arcs → unmarked_front (identifier_octets arcs) ≡ identifier_octets arcs
 front-identifier bound arcs id = by (last_of bound arcs id)
   where
     by : Last bound arcs → unmarked_front (identifier_octets arcs) ≡ identifier_octets arcs
     by (root r small e two) = ap unmarked_front e ∙ front-low [] r small ∙ sym e
-    by (more front a fid whole e n) =
-        let parts = arc_parts a in
-        let f = identifier_octets front in
-        let octets : identifier_octets arcs ≡ (f ++ parts.front) ++ (parts.last ∷ []) = e ∙ ap (λ t. f ++ t) parts.whole ∙ sym (append_assoc f parts.front (parts.last ∷ [])) in
-        ap unmarked_front octets ∙ front-low (f ++ parts.front) parts.last parts.unmarked ∙ sym octets
+    by (more front a fid whole e n) = ap unmarked_front e ∙ front-arc (identifier_octets front) a ∙ sym e
 
 pub front-spelled : (bound capacity : ℕ) (w : List ℕ) → SpellsIdentifier bound capacity w → unmarked_front w ≡ w
 front-spelled bound capacity w s = ap unmarked_front s.spelled ∙ front-identifier bound (arcs_of w) s.identifier ∙ sym s.spelled
@@ -63,11 +70,26 @@ pub front-step : (bytes : List ℕ) (end : ℕ) → 0 < end → end ≤ length b
 front-step bytes end some within marked =
     sym (ap unmarked_front (take_before bytes end some within) ∙ front-marked (take (end - 1) bytes) (get_or bytes (end - 1) 0) marked)
 
-pub front-stop : (bytes : List ℕ) (end : ℕ) → 0 < end → end ≤ length bytes → get_or bytes (end - 1) 0 < 128
-    → unmarked_front (take end bytes) ≡ take end bytes
-front-stop bytes end some within low =
-    let split = take_before bytes end some within in
-    ap unmarked_front split ∙ front-low (take (end - 1) bytes) (get_or bytes (end - 1) 0) low ∙ sym split
+-- where an octet without a mark, or none, comes before
+pub front-found : (bytes rest : List ℕ) (end : ℕ) → end ≤ length bytes → (0 < end → get_or bytes (end - 1) 0 < 128) → unmarked_front (take end bytes) ≡ rest → end ≡ length rest
+front-found bytes rest end within low held = by (cases_lt 0 end)
+  where
+    by : (0 < end) ⊎ (end ≤ 0) → end ≡ length rest
+    by (inl some) =
+        let split = take_before bytes end some within in
+        sym (length-take-le end bytes within) ∙ ap length (split ∙ sym (front-low (take (end - 1) bytes) (get_or bytes (end - 1) 0) (low some)) ∙ sym (ap unmarked_front split) ∙ held)
+    by (inr l) =
+        let none : end ≡ 0 = omega arith in
+        none ∙ ap length (sym front-none ∙ ap (λ n. unmarked_front (take n bytes)) (sym none) ∙ held)
+
+pub front-within : (w : List ℕ) → length (unmarked_front w) ≤ length w
+unfolding unmarked_front
+front-within [] = omega arith
+front-within (o ∷ w) = by (unmarked_front w) (front-within w)
+  where
+    by : (v : List ℕ) → length v ≤ length w → length (before o v) ≤ suc (length w)
+    by [] l = grind (arith, nat_tests)
+    by (x ∷ v) l = omega arith
 
 -- Octets written over the front of an array of marks
 
@@ -103,7 +125,6 @@ pub packed_push : (size count end counts arc : ℕ) (bytes new : List ℕ) → I
 packed_push size count end counts arc bytes new p at within counted written =
     let w = unmarked_front bytes in
     let a = arc_octets arc in
-    let parts = arc_parts arc in
     let start : end - length a ≡ length w = omega arith in
     let front : take (end - length a) bytes ≡ w = ap (λ n. take n bytes) start ∙ packed_take size count bytes p in
     let rest : drop end bytes ≡ replicate (size - end) 128 =
@@ -111,9 +132,7 @@ packed_push size count end counts arc bytes new p at within counted written =
     ∙ drop-replicate (length a) (size - length w) 128 ∙ ap (λ n. replicate {A = ℕ} n 128) (omega arith) in
     let whole : new ≡ (w ++ a) ++ replicate (size - end) 128 =
     written ∙ ap (λ t. t ++ (a ++ drop end bytes)) front ∙ ap (λ t. w ++ (a ++ t)) rest ∙ sym (append_assoc w a (replicate (size - end) 128)) in
-    let split : w ++ a ≡ (w ++ parts.front) ++ (parts.last ∷ []) = ap (λ t. w ++ t) parts.whole ∙ sym (append_assoc w parts.front (parts.last ∷ [])) in
-    let low : unmarked_front (w ++ a) ≡ w ++ a = ap unmarked_front split ∙ front-low (w ++ parts.front) parts.last parts.unmarked ∙ sym split in
-    let held : unmarked_front new ≡ w ++ a = ap unmarked_front whole ∙ front-padded (w ++ a) (size - end) ∙ low in
+    let held : unmarked_front new ≡ w ++ a = ap unmarked_front whole ∙ front-padded (w ++ a) (size - end) ∙ front-arc w arc in
     let long : length (w ++ a) ≡ end = length-append w a ∙ sym at in (
       record {
         fits = omega (arith, ap length held, long);

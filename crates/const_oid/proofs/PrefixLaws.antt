@@ -1,6 +1,7 @@
 -- Octets begin with those of an identifier exactly where the arcs begin with its arcs.
 use Rattle.std.proofs.Common.{◌≡◌, ℕ, ◌+◌, ◌*◌, List, [], ◌∷◌, ◌++◌, length, sym, refl, ap, ◌∙◌, append_assoc, length-append, arith}
 use Rattle.std.specs.List.{flat_map}
+use Rattle.std.proofs.lemmas.Grind.{flat_map-append}
 use Rattle.const_oid.specs.Digits.{digits}
 use Rattle.const_oid.specs.IdentifierOctets.{arc_octets, identifier_octets, IsIdentifier}
 use Rattle.const_oid.proofs.DigitLaws.{digits-Digits, split-marked, same_from_digits}
@@ -28,8 +29,6 @@ later_prefix (x ∷ a) (y ∷ b) r e =
 
 pub octets_prefix : (bound : ℕ) (a b r : List ℕ) → IsIdentifier bound a → IsIdentifier bound b → identifier_octets a ≡ identifier_octets b ++ r → (rest : List ℕ) × (a ≡ b ++ rest)
 unfolding identifier_octets IsIdentifier
-octets_prefix bound [] b r p q e = absurd p
-octets_prefix bound (x ∷ []) b r p q e = absurd p
 octets_prefix bound (x ∷ y ∷ a) [] r p q e = absurd q
 octets_prefix bound (x ∷ y ∷ a) (u ∷ []) r p q e = absurd q
 octets_prefix bound (x ∷ y ∷ a) (u ∷ v ∷ b) r p q e =
@@ -39,16 +38,12 @@ octets_prefix bound (x ∷ y ∷ a) (u ∷ v ∷ b) r p q e =
     let second : y ≡ v = omega (arith, root, p.1, q.1) in
     let rest = later_prefix a b r later in
     (rest.0, ap (λ t. x ∷ y ∷ t) rest.1 ∙ ap (λ z. z ∷ y ∷ (b ++ rest.0)) first ∙ ap (λ z. u ∷ z ∷ (b ++ rest.0)) second)
-
-flat_map-append : (a b : List ℕ) → flat_map arc_octets (a ++ b) ≡ flat_map arc_octets a ++ flat_map arc_octets b
-flat_map-append [] b = refl
-flat_map-append (x ∷ a) b = ap (λ t. arc_octets x ++ t) (flat_map-append a b) ∙ sym (append_assoc (arc_octets x) (flat_map arc_octets a) (flat_map arc_octets b))
+octets_prefix bound _ b r p q e = absurd p
 
 pub prefix_octets : (bound : ℕ) (b rest : List ℕ) → IsIdentifier bound b → identifier_octets (b ++ rest) ≡ identifier_octets b ++ flat_map arc_octets rest
 unfolding identifier_octets IsIdentifier
-prefix_octets bound [] rest q = absurd q
-prefix_octets bound (u ∷ []) rest q = absurd q
-prefix_octets bound (u ∷ v ∷ b) rest q = ap (λ t. (40 * u + v) ∷ t) (flat_map-append b rest)
+prefix_octets bound (u ∷ v ∷ b) rest q = ap (λ t. (40 * u + v) ∷ t) (flat_map-append arc_octets b rest)
+prefix_octets bound _ rest q = absurd q
 
 pub same_octets : (bound : ℕ) (a b : List ℕ) → IsIdentifier bound a → IsIdentifier bound b → identifier_octets a ≡ identifier_octets b → a ≡ b
 same_octets bound a b p q e = sym (arcs_of-identifier_octets bound a p) ∙ ap arcs_of e ∙ arcs_of-identifier_octets bound b q

@@ -1,8 +1,9 @@
 -- Reading of texts answers the arcs that they spell, or the fault of the shortest faulty front.
-use Rattle.std.proofs.Common.{◌≡◌, ◌≢◌, ℕ, zero, suc, ◌+◌, ◌*◌, ◌/◌, ◌%◌, ◌<◌, ◌≤◌, ◌⊎◌, inl, inr, List, [], ◌∷◌, ◌++◌, length, map, replicate, Result, Ok, Err, IfOk, IfErr, MatchResult, Option, None, Some, unwrap_or, sym, refl, ap, subst, ◌∙◌, append_assoc, append-nil, length-append, arith}
+use Rattle.std.proofs.Common.{add-one, ◌≡◌, ◌≢◌, ℕ, zero, suc, ◌+◌, ◌*◌, ◌/◌, ◌%◌, ◌<◌, ◌≤◌, ◌⊎◌, inl, inr, List, [], ◌∷◌, ◌++◌, length, map, replicate, Result, Ok, Err, IfOk, IfErr, MatchResult, Option, None, Some, unwrap_or, sym, refl, ap, subst, ◌∙◌, append_assoc, append-nil, length-append, arith}
 use Rattle.std.specs.List.{AllByRecursion, flat_map, join_with_byte}
 use Rattle.std.proofs.lemmas.Bool.{cases_lt, cases_eq}
 use Rattle.std.proofs.lemmas.Grind.{flat_map-append}
+use Rattle.std.proofs.lemmas.List.{replicate_more}
 use Rattle.const_oid.specs.declared.error.Error.{Error}
 use Rattle.const_oid.specs.declared.error.Error.TheVariants as errors
 use Rattle.const_oid.specs.Digits.{digits}
@@ -15,15 +16,15 @@ use Rattle.const_oid.specs.TextFaults.{IsDecimal, AreDecimals, IsText, with_dots
 use Rattle.const_oid.proofs.DigitLaws.{digits-Digits}
 use Rattle.const_oid.proofs.DottedLaws.{decimal-one, decimal-more}
 use Rattle.const_oid.proofs.TextLaws.{digit_read, no_digit_read, past_read, Digit, no, past, within, digit, text-digit, text-early, text-trailing, text-dot, text-none, text-last}
-use Rattle.const_oid.proofs.EncodingLaws.{all-push, whole-few, whole-many, gather-end}
-use Rattle.const_oid.proofs.TextRoundLaws.{decimal_within, length-decimal-pos, gather-cons, alike, identifier_gathered, all_below}
-use Rattle.const_oid.proofs.ArcFaultLaws.{faultless_front, faultless_none, faultless_one, faultless_identifier, add_arc-faultless, Next, faulty, fine, next, next_answered, next-not_overflow}
+use Rattle.const_oid.proofs.IdentifierLaws.{all-push}
+use Rattle.const_oid.proofs.EncodingLaws.{whole-few, whole-many, gather-end, identifier-many}
+use Rattle.const_oid.proofs.TextRoundLaws.{decimal_within, length-decimal-pos, gather-cons, alike, all_below}
+use Rattle.const_oid.proofs.ArcFaultLaws.{faultless_front, faultless_none, faultless_one, faultless_identifier, identifier_gathered, add_arc-faultless, Next, faulty, fine, next, next_answered, next-not_overflow}
 
 -- Decimals, digit by digit
 
 replicate-end : (k : ℕ) → replicate {A = ℕ} (suc k) 48 ≡ replicate k 48 ++ (48 ∷ [])
-replicate-end zero = refl
-replicate-end (suc k) = ap (λ t. 48 ∷ t) (replicate-end k)
+replicate-end k = ap (λ n. replicate {A = ℕ} n 48) (sym (add-one k)) ∙ sym (replicate_more k 48)
 
 decimal-push : (n d : ℕ) → 0 < n → d ≤ 9 → decimal (n * 10 + d) ≡ decimal n ++ ((48 + d) ∷ [])
 decimal-push n d some l =
@@ -62,9 +63,8 @@ length-piece-pos n piece p = omega (arith, ap length p.spelled, length-append (r
 
 AreDecimals-push : (arcs : List ℕ) (pieces : List (List ℕ)) (a : ℕ) (piece : List ℕ) → AreDecimals arcs pieces → IsDecimal a piece → AreDecimals (arcs ++ (a ∷ [])) (pieces ++ (piece ∷ []))
 AreDecimals-push [] [] a piece all p = (p, tt)
-AreDecimals-push [] (x ∷ pieces) a piece all p = absurd all
-AreDecimals-push (b ∷ arcs) [] a piece all p = absurd all
 AreDecimals-push (b ∷ arcs) (x ∷ pieces) a piece all p = (all.0, AreDecimals-push arcs pieces a piece all.1 p)
+AreDecimals-push _ _ a piece all p = absurd all
 
 with_dots-push : (pieces : List (List ℕ)) (piece : List ℕ) → with_dots (pieces ++ (piece ∷ [])) ≡ with_dots pieces ++ (piece ++ (46 ∷ []))
 with_dots-push pieces piece =
@@ -261,8 +261,6 @@ dotted_piece_read bound capacity arcs w a piece p l some =
 pieces_read : (bound capacity : ℕ) (before arcs : List ℕ) (pieces : List (List ℕ)) (w : List ℕ) → AreDecimals arcs pieces → AllByRecursion (λ n. n < bound) arcs → IsFaultless capacity (before ++ arcs) → 0 < length w
     → text_arcs bound capacity before None (with_dots pieces ++ w) ≡ text_arcs bound capacity (before ++ arcs) None w
 pieces_read bound capacity before [] [] w d all f some = ap (λ t. text_arcs bound capacity t None w) (sym (append-nil before))
-pieces_read bound capacity before [] (x ∷ pieces) w d all f some = absurd d
-pieces_read bound capacity before (a ∷ arcs) [] w d all f some = absurd d
 pieces_read bound capacity before (a ∷ arcs) (x ∷ pieces) w d all f some =
     let rest = with_dots pieces ++ w in
     let whole : (before ++ (a ∷ [])) ++ arcs ≡ before ++ (a ∷ arcs) = append_assoc before (a ∷ []) arcs in
@@ -273,6 +271,7 @@ pieces_read bound capacity before (a ∷ arcs) (x ∷ pieces) w d all f some =
     ∙ ap (λ r. and_then r (λ more. text_arcs bound capacity more None rest)) added
     ∙ pieces_read bound capacity (before ++ (a ∷ [])) arcs pieces w d.1 all.1 g some
     ∙ ap (λ t. text_arcs bound capacity t None w) whole
+pieces_read bound capacity before _ _ w d all f some = absurd d
 
 -- whether something is left of an arc that has begun and the text behind it
 some_left : (bound : ℕ) (begun : Option ℕ) (piece w : List ℕ) → IsBegun bound begun piece → (begun ≡ None → 0 < length w) → 0 < length (piece ++ w)
@@ -330,10 +329,9 @@ text_fault_answered bound capacity w e (one_arc a o small) =
 
 join-pos : (arcs : List ℕ) (pieces : List (List ℕ)) → AreDecimals arcs pieces → 0 < length arcs → 0 < length (join_with_byte 46 pieces)
 join-pos [] [] d some = absurd (omega arith)
-join-pos [] (x ∷ pieces) d some = absurd d
-join-pos (a ∷ arcs) [] d some = absurd d
 join-pos (a ∷ arcs) (x ∷ []) d some = length-piece-pos a x d.0
 join-pos (a ∷ arcs) (x ∷ y ∷ pieces) d some = omega (arith, length-append x (46 ∷ join_with_byte 46 (y ∷ pieces)))
+join-pos _ _ d some = absurd d
 
 joined_gathered : (bound capacity : ℕ) (before arcs : List ℕ) (pieces : List (List ℕ)) → AreDecimals arcs pieces → AllByRecursion (λ n. n < bound) arcs → 0 < length arcs
     → text_arcs bound capacity before None (join_with_byte 46 pieces) ≡ gather capacity before arcs
@@ -345,38 +343,32 @@ joined_gathered bound capacity before (a ∷ []) (x ∷ []) d all some =
     ∙ text-last bound capacity before (Some a) a refl
     ∙ alike (add_arc capacity before a) whole_arcs (λ more. gather capacity more []) (λ more. sym (gather-end capacity more))
     ∙ sym (gather-cons capacity before a [])
-joined_gathered bound capacity before (a ∷ []) (x ∷ y ∷ pieces) d all some = absurd d.1
-joined_gathered bound capacity before (a ∷ b ∷ arcs) (x ∷ []) d all some = absurd d.1
 joined_gathered bound capacity before (a ∷ b ∷ arcs) (x ∷ y ∷ pieces) d all some =
     let rest = join_with_byte 46 (y ∷ pieces) in
     dotted_piece_read bound capacity before rest a x d.0 all.0 (join-pos (b ∷ arcs) (y ∷ pieces) d.1 (omega arith))
     ∙ alike (add_arc capacity before a) (λ more. text_arcs bound capacity more None rest) (λ more. gather capacity more (b ∷ arcs))
     (λ more. joined_gathered bound capacity more (b ∷ arcs) (y ∷ pieces) d.1 all.1 (omega arith))
     ∙ sym (gather-cons capacity before a (b ∷ arcs))
+joined_gathered bound capacity before _ _ d all some = absurd d.1
 
 pub text_gathered : (bound capacity : ℕ) (w arcs : List ℕ) → IsText arcs w → AllByRecursion (λ n. n < bound) arcs → 0 < length arcs → read_text bound capacity w ≡ gather capacity [] arcs
 text_gathered bound capacity w arcs t all some = ap (read_text bound capacity) t.joined ∙ joined_gathered bound capacity [] arcs t.pieces t.decimals all some
 
-identifier-some : (bound : ℕ) (arcs : List ℕ) → IsIdentifier bound arcs → 0 < length arcs
-unfolding IsIdentifier
-identifier-some bound [] id = absurd id
-identifier-some bound (x ∷ arcs) id = omega arith
-
 -- a text that spells an identifier within the capacity is read as it
 pub text_read : (bound capacity : ℕ) (w arcs : List ℕ) → 40 ≤ bound → IsText arcs w → IsIdentifier bound arcs → length (identifier_octets arcs) ≤ capacity → read_text bound capacity w ≡ Ok arcs
 text_read bound capacity w arcs large t id fits =
-    text_gathered bound capacity w arcs t (all_below bound arcs large id) (identifier-some bound arcs id) ∙ identifier_gathered bound capacity arcs id fits
+    text_gathered bound capacity w arcs t (all_below bound arcs large id) (omega (arith, identifier-many bound arcs id)) ∙ identifier_gathered bound capacity arcs id fits
 
 -- What an answer says of the text
 
 pub text_fault-not_overflow : (bound capacity : ℕ) (w : List ℕ) (e : Error) → IsTextFault bound capacity w e → e ≢ errors.Overflow
+text_fault-not_overflow bound capacity w e (arc front arcs a x ends o fault) h = next-not_overflow capacity arcs a x fault h
 text_fault-not_overflow bound capacity w e (no_text none) h = cc
 text_fault-not_overflow bound capacity w e (first_dot rest whole) h = cc
 text_fault-not_overflow bound capacity w e (no_digit front rest arcs begun c whole o ne n) h = cc
 text_fault-not_overflow bound capacity w e (repeated_dot front rest arcs whole o some) h = cc
 text_fault-not_overflow bound capacity w e (trailing_dot front arcs a whole o) h = cc
 text_fault-not_overflow bound capacity w e (too_big front rest arcs begun d whole o l large) h = cc
-text_fault-not_overflow bound capacity w e (arc front arcs a x ends o fault) h = next-not_overflow capacity arcs a x fault h
 text_fault-not_overflow bound capacity w e (one_arc a o small) h = cc
 
 pub answer_ok : (bound capacity : ℕ) (w : List ℕ) (r : Result (List ℕ) Error) → r ≡ read_text bound capacity w
@@ -403,3 +395,20 @@ pub dotted_text : (arcs : List ℕ) → IsText arcs (dotted arcs)
 unfolding dotted
 dotted_text [] = record { pieces = []; decimals = tt; joined = refl }
 dotted_text (a ∷ arcs) = record { pieces = map decimal (a ∷ arcs); decimals = decimals-are (a ∷ arcs); joined = joined-decimals a arcs }
+
+-- the dotted text of arcs is read as from_arcs takes them
+pub dotted_gathered : (bound capacity : ℕ) (arcs : List ℕ) → AllByRecursion (λ n. n < bound) arcs → 0 < length arcs → read_text bound capacity (dotted arcs) ≡ gather capacity [] arcs
+dotted_gathered bound capacity arcs all some = text_gathered bound capacity (dotted arcs) arcs (dotted_text arcs) all some
+
+-- the dotted text of an identifier is read as it
+pub dotted_read : (bound capacity : ℕ) (arcs : List ℕ) → 40 ≤ bound → IsIdentifier bound arcs → length (identifier_octets arcs) ≤ capacity → read_text bound capacity (dotted arcs) ≡ Ok arcs
+dotted_read bound capacity arcs large id fits = text_read bound capacity (dotted arcs) arcs large (dotted_text arcs) id fits
+
+-- identifiers of one text are one
+pub same_text : (bound : ℕ) (a b : List ℕ) → 40 ≤ bound → IsIdentifier bound a → IsIdentifier bound b → dotted a ≡ dotted b → a ≡ b
+same_text bound a b large p q e =
+    let capacity = length (identifier_octets a) + length (identifier_octets b) in
+    let first = dotted_read bound capacity a large p (omega arith) in
+    let second = dotted_read bound capacity b large q (omega arith) in
+    let both : Ok a ≡ Ok b = sym first ∙ ap (read_text bound capacity) e ∙ second in
+    cc

@@ -1,8 +1,8 @@
 //! Writing of the octets of one arc (X.690 8.19.2).
 
-ghost use Rattle.std.specs.Prelude.{◌≡◌, ℕ, ◌+◌, ◌-◌, ◌<◌, ◌≤◌, ◌++◌, map, length, take, drop};
-ghost use Rattle.const_oid.specs.Digits.{digits};
+ghost use Rattle.std.specs.Prelude.{◌≡◌, ◌-◌, ◌<◌, ◌≤◌, ◌++◌, length, take, drop};
 ghost use Rattle.const_oid.specs.IdentifierOctets.{arc_octets};
+ghost use Rattle.const_oid.specs.OctetFaults.{begun};
 
 use crate::error::Arc;
 
@@ -26,19 +26,19 @@ pub(crate) fn octet_count(arc: Arc) -> usize
     count
 }
 
-/// Writes the digits of `high` in base 128, each with its mark, so that they end at `end`.
+/// Writes the octets that an arc has begun with, each with its mark, so that they end at `end`.
 fn write_marked(bytes: &mut [u8], end: usize, high: Arc)
-    requires room { length (digits 128 high) ≤ end }
+    requires room { length (begun high) ≤ end }
     requires within { end ≤ length bytes.old }
     ensures { bytes.new
-        ≡ take (end - length (digits 128 high)) bytes.old
-        ++ (map (λ d. 128 + d) (digits 128 high) ++ drop end bytes.old) }
+        ≡ take (end - length (begun high)) bytes.old ++ (begun high ++ drop end bytes.old) }
 {
+    if high == 0 {
+        return;
+    }
     let last = end - 1;
     bytes[last] = 0x80 + (high % 128) as u8;
-    if high >= 128 {
-        write_marked(bytes, last, high / 128);
-    }
+    write_marked(bytes, last, high / 128);
 }
 
 /// Writes the octets of an arc, so that they end at `end`.
@@ -50,7 +50,5 @@ pub(crate) fn write_arc(bytes: &mut [u8], end: usize, arc: Arc)
 {
     let last = end - 1;
     bytes[last] = (arc % 128) as u8;
-    if arc >= 128 {
-        write_marked(bytes, last, arc / 128);
-    }
+    write_marked(bytes, last, arc / 128);
 }

@@ -40,6 +40,7 @@ fn write_later<W: fmt::Write>(mut arcs: Arcs<'_>, f: &mut fmt::Formatter<W>) -> 
 }
 
 /// The text of a first arc, which is one digit.
+#[tactic(auto, using(crate::proofs::DottedLaws::one_digit))]
 fn first_text(first: Arc) -> &'static str
     requires { first ≤ 2 }
     ensures { result.now ≡ decimal first }

@@ -69,6 +69,7 @@ impl<const MAX_SIZE: usize> Encoder<MAX_SIZE> {
     }
 
     /// The identifier, if it has two arcs.
+    #[tactic(auto, using(crate::proofs::EncodingLaws::finished))]
     pub(crate) fn finish(self) -> Result<ObjectIdentifier<MAX_SIZE>>
         ensures { result ≡ whole_arcs self.entry }
     {

@@ -35,6 +35,7 @@ pub fn read_octets_are_spelled()
 {}
 
 /// The octets of an identifier are read as it, where they are within the capacity.
+#[tactic(auto, using(crate::proofs::IdentifierLaws::identifier_again))]
 pub fn spelled_octets_are_read()
     ensures { (bound capacity : ℕ) (arcs : List ℕ) → IsIdentifier bound arcs
         → length (identifier_octets arcs) ≤ capacity
@@ -42,6 +43,7 @@ pub fn spelled_octets_are_read()
 {}
 
 /// Octets that are refused have the fault that is answered.
+#[tactic(auto, using(crate::proofs::IdentifierLaws::fault_found))]
 pub fn answered_faults_are_there()
     ensures { (bound capacity : ℕ) (w : List ℕ) (e : Error) → ((i : ℕ) → slice_index w i < 256)
         → read_identifier bound capacity w ≡ Err e
@@ -49,18 +51,21 @@ pub fn answered_faults_are_there()
 {}
 
 /// Octets that have a fault are refused, and answered is that fault.
+#[tactic(auto, using(crate::proofs::OctetFaultLaws::fault_answered))]
 pub fn faults_are_answered()
     ensures { (bound capacity : ℕ) (w : List ℕ) (e : Error) → IsOctetsFault bound capacity w e
         → read_identifier bound capacity w ≡ Err e }
 {}
 
 /// Identifiers of the same octets have the same arcs.
+#[tactic(auto, using(crate::proofs::PrefixLaws::same_octets))]
 pub fn octets_identify()
     ensures { (bound : ℕ) (a b : List ℕ) → IsIdentifier bound a → IsIdentifier bound b
         → identifier_octets a ≡ identifier_octets b → a ≡ b }
 {}
 
 /// Octets that begin with those of an identifier are of arcs that begin with its arcs.
+#[tactic(auto, using(crate::proofs::PrefixLaws::octets_prefix))]
 pub fn octets_tell_prefixes()
     ensures { (bound : ℕ) (a b r : List ℕ) → IsIdentifier bound a → IsIdentifier bound b
         → identifier_octets a ≡ identifier_octets b ++ r
@@ -68,11 +73,13 @@ pub fn octets_tell_prefixes()
 {}
 
 /// Every second arc is below the bound of arcs, as the laws about texts ask.
+#[tactic(auto, unfolding(crate::specs::Bound::Bound))]
 pub fn second_arcs_are_below_the_bound()
     ensures { 40 ≤ Bound }
 {}
 
 /// The dotted text of an identifier is read as it, where its octets are within the capacity.
+#[tactic(auto, using(crate::proofs::TextFaultLaws::dotted_read))]
 pub fn printed_texts_are_read()
     ensures { (bound capacity : ℕ) (arcs : List ℕ) → 40 ≤ bound → IsIdentifier bound arcs
         → length (identifier_octets arcs) ≤ capacity
@@ -80,6 +87,7 @@ pub fn printed_texts_are_read()
 {}
 
 /// The dotted text of some arcs is read as the arcs are gathered one after another.
+#[tactic(auto, using(crate::proofs::TextFaultLaws::dotted_gathered))]
 pub fn texts_are_judged_as_arcs()
     ensures { (bound capacity : ℕ) (arcs : List ℕ) → AllByRecursion (λ n. n < bound) arcs
         → 0 < length arcs
@@ -87,12 +95,14 @@ pub fn texts_are_judged_as_arcs()
 {}
 
 /// Identifiers of the same dotted text have the same arcs.
+#[tactic(auto, using(crate::proofs::TextFaultLaws::same_text))]
 pub fn texts_identify()
     ensures { (bound : ℕ) (a b : List ℕ) → 40 ≤ bound → IsIdentifier bound a → IsIdentifier bound b
         → dotted a ≡ dotted b → a ≡ b }
 {}
 
 /// Octets that are read under one bound of arcs are read as the same arcs under a wider one.
+#[tactic(auto, using(crate::proofs::BoundedLaws::wider_read))]
 pub fn wider_bounds_read_the_same()
     ensures { (small large capacity : ℕ) (w arcs : List ℕ) → small ≤ large
         → ((i : ℕ) → slice_index w i < 256) → read_identifier small capacity w ≡ Ok arcs
@@ -100,18 +110,21 @@ pub fn wider_bounds_read_the_same()
 {}
 
 /// The dotted text of an identifier has at most four octets for each octet of its encoding.
+#[tactic(auto, using(crate::proofs::PrintLengthLaws::dotted_short))]
 pub fn identifiers_print_in_few_octets()
     ensures { (bound : ℕ) (arcs : List ℕ) → IsIdentifier bound arcs
         → length (dotted arcs) ≤ 4 * length (identifier_octets arcs) }
 {}
 
 /// The parent of an identifier with one arc more is the identifier.
+#[tactic(auto, using(crate::proofs::FamilyLaws::parent_of_child))]
 pub fn parents_undo_children()
     ensures { (bound capacity : ℕ) (arcs child : List ℕ) (a : ℕ) → IsIdentifier bound arcs
         → child_of capacity arcs a ≡ Ok child → parent_of child ≡ Some arcs }
 {}
 
 /// The last arc behind the parent of an identifier gives the identifier back.
+#[tactic(auto, using(crate::proofs::FamilyLaws::child_of_parent))]
 pub fn children_undo_parents()
     ensures { (capacity : ℕ) (arcs front : List ℕ) → length (identifier_octets arcs) ≤ capacity
         → parent_of arcs ≡ Some front
@@ -119,33 +132,39 @@ pub fn children_undo_parents()
 {}
 
 /// Identifiers are equal exactly where their octets are.
+#[tactic(auto, using(crate::proofs::OrderLaws::equal_octets))]
 pub fn equal_where_octets_are()
     ensures { (a b : List ℕ) → IsTrue (owned_eq a b) ↔ (identifier_octets a ≡ identifier_octets b) }
 {}
 
 /// Identifiers are equal exactly where their arcs are.
+#[tactic(auto, using(crate::proofs::OrderLaws::equal_arcs))]
 pub fn equal_where_arcs_are()
     ensures { (bound : ℕ) (a b : List ℕ) → IsIdentifier bound a → IsIdentifier bound b
         → (IsTrue (owned_eq a b) ↔ (a ≡ b)) }
 {}
 
 /// Identifiers are equal exactly where their dotted texts are.
+#[tactic(auto, using(crate::proofs::OrderLaws::equal_texts))]
 pub fn equal_where_texts_are()
     ensures { (bound : ℕ) (a b : List ℕ) → 40 ≤ bound → IsIdentifier bound a → IsIdentifier bound b
         → (IsTrue (owned_eq a b) ↔ (dotted a ≡ dotted b)) }
 {}
 
 /// The owned order is `Equal` exactly where the identifiers are equal.
+#[tactic(auto, using(crate::proofs::OrderLaws::owned_ties))]
 pub fn owned_order_ties_equals()
     ensures { (a b : List ℕ) → (owned_cmp a b ≡ Equal) ↔ IsTrue (owned_eq a b) }
 {}
 
 /// The borrowed order is `Equal` exactly where the identifiers are equal.
+#[tactic(auto, using(crate::proofs::OrderLaws::borrowed_ties))]
 pub fn borrowed_order_ties_equals()
     ensures { (a b : List ℕ) → (borrowed_cmp a b ≡ Equal) ↔ IsTrue (owned_eq a b) }
 {}
 
 /// Equal identifiers feed a hasher the same.
+#[tactic(auto, using(crate::proofs::OrderLaws::equal_hashes))]
 pub fn equal_identifiers_hash_equally()
     ensures { (a b : List ℕ) → IsTrue (owned_eq a b)
         → fed.slice fed.u8 (identifier_octets a) ≡ fed.slice fed.u8 (identifier_octets b) }
@@ -153,6 +172,7 @@ pub fn equal_identifiers_hash_equally()
 
 /// Whatever stands in the borrowed order between two identifiers that begin with the same arcs
 /// begins with them too.
+#[tactic(auto, using(crate::proofs::OrderLaws::unbroken))]
 pub fn subtrees_are_unbroken()
     ensures { (bound : ℕ) (front a b c : List ℕ) → IsIdentifier bound front → IsIdentifier bound b
         → IsAtMost borrowed_cmp (front ++ a) b → IsAtMost borrowed_cmp b (front ++ c)
@@ -160,18 +180,21 @@ pub fn subtrees_are_unbroken()
 {}
 
 /// In the owned order an identifier stands before each other one that begins with its arcs.
+#[tactic(auto, using(crate::proofs::OrderLaws::ancestor_first))]
 pub fn ancestors_stand_first()
     ensures { (bound : ℕ) (arcs : List ℕ) (a : ℕ) (rest : List ℕ) → IsIdentifier bound arcs
         → owned_cmp arcs (arcs ++ a ∷ rest) ≡ Less }
 {}
 
 /// In the owned order the children of one identifier stand by their last arc.
+#[tactic(auto, using(crate::proofs::OrderLaws::children_by_arc))]
 pub fn siblings_stand_by_their_last_arc()
     ensures { (bound : ℕ) (front : List ℕ) (m n : ℕ) → IsIdentifier bound front
         → owned_cmp (front ++ m ∷ []) (front ++ n ∷ []) ≡ nat_cmp m n }
 {}
 
 /// There is one arc more than octets below `80`.
+#[tactic(auto, using(crate::proofs::OrderLaws::arcs_counted))]
 pub fn octets_without_a_mark_count_arcs()
     ensures { (bound : ℕ) (arcs : List ℕ) → IsIdentifier bound arcs
         → length arcs ≡ count_by (λ o. nat_lt o 128) (identifier_octets arcs) + 1 }
@@ -179,6 +202,7 @@ pub fn octets_without_a_mark_count_arcs()
 
 /// An identifier begins with its own arcs; one that begins with another's arcs begins with all that
 /// the other begins with.
+#[tactic(auto, using(crate::proofs::BoundedLaws::begins_itself, crate::proofs::BoundedLaws::begins_chained))]
 pub fn beginnings_chain()
     ensures itself { (a : List ℕ) → (rest : List ℕ) × (a ≡ a ++ rest) }
     ensures chained { (a b c : List ℕ) → (rest : List ℕ) × (a ≡ b ++ rest)
@@ -187,6 +211,7 @@ pub fn beginnings_chain()
 
 /// Octets that are read under a wide bound of arcs alone hold an arc that isn't below the narrow
 /// one.
+#[tactic(auto, using(crate::proofs::BoundedLaws::newly_read))]
 pub fn newly_read_octets_hold_a_large_arc()
     ensures { (small large capacity : ℕ) (w arcs : List ℕ) (e : Error)
         → ((i : ℕ) → slice_index w i < 256) → read_identifier large capacity w ≡ Ok arcs
@@ -197,6 +222,7 @@ pub fn newly_read_octets_hold_a_large_arc()
 /// A text that is read under one bound of arcs is read as the same arcs under a wider one; and one
 /// that is read under a wide bound alone has an arc that isn't below the narrow one. The bounds let
 /// each second arc pass.
+#[tactic(auto, using(crate::proofs::BoundedLaws::wider_text, crate::proofs::BoundedLaws::newly_read_text))]
 pub fn wider_bounds_read_texts_alike()
     ensures same { (small large capacity : ℕ) (w arcs : List ℕ) → 40 ≤ large → small ≤ large
         → read_text small capacity w ≡ Ok arcs
@@ -237,11 +263,13 @@ pub fn spelled_texts_are_read()
 {}
 
 /// The dotted text of some arcs spells them.
+#[tactic(auto, using(crate::proofs::TextFaultLaws::dotted_text))]
 pub fn printed_texts_spell_their_arcs()
     ensures { (arcs : List ℕ) → IsText arcs (dotted arcs) }
 {}
 
 /// A text that spells arcs below the bound is read as these arcs are gathered one after another.
+#[tactic(auto, using(crate::proofs::TextFaultLaws::text_gathered))]
 pub fn spelled_texts_are_judged_as_arcs()
     ensures { (bound capacity : ℕ) (w arcs : List ℕ) → IsText arcs w
         → AllByRecursion (λ n. n < bound) arcs → 0 < length arcs
@@ -249,12 +277,14 @@ pub fn spelled_texts_are_judged_as_arcs()
 {}
 
 /// A text that is refused has the fault that is answered.
+#[tactic(auto, using(crate::proofs::TextFaultLaws::text_fault_found))]
 pub fn answered_text_faults_are_there()
     ensures { (bound capacity : ℕ) (w : List ℕ) (e : Error) → read_text bound capacity w ≡ Err e
         → IsTextFault bound capacity w e }
 {}
 
 /// A text that has a fault is refused, and answered is that fault.
+#[tactic(auto, using(crate::proofs::TextFaultLaws::text_fault_answered))]
 pub fn text_faults_are_answered()
     ensures { (bound capacity : ℕ) (w : List ℕ) (e : Error) → IsTextFault bound capacity w e
         → read_text bound capacity w ≡ Err e }
@@ -269,24 +299,28 @@ pub fn gathered_arcs_are_identifiers()
 {}
 
 /// The arcs of an identifier are gathered as it, where its octets are within the capacity.
+#[tactic(auto, using(crate::proofs::ArcFaultLaws::identifier_gathered))]
 pub fn identifiers_are_gathered()
     ensures { (bound capacity : ℕ) (arcs : List ℕ) → IsIdentifier bound arcs
         → length (identifier_octets arcs) ≤ capacity → gather capacity [] arcs ≡ Ok arcs }
 {}
 
 /// Arcs that are refused have the fault that is answered.
+#[tactic(auto, using(crate::proofs::ArcFaultLaws::arc_fault_found))]
 pub fn answered_arc_faults_are_there()
     ensures { (capacity : ℕ) (arcs : List ℕ) (e : Error) → gather capacity [] arcs ≡ Err e
         → IsArcsFault capacity arcs e }
 {}
 
 /// Arcs that have a fault are refused, and answered is that fault.
+#[tactic(auto, using(crate::proofs::ArcFaultLaws::arc_fault_answered))]
 pub fn arc_faults_are_answered()
     ensures { (capacity : ℕ) (arcs : List ℕ) (e : Error) → IsArcsFault capacity arcs e
         → gather capacity [] arcs ≡ Err e }
 {}
 
 /// `Overflow` is never answered.
+#[tactic(auto, using(crate::proofs::OverflowLaws::octets_not_overflow, crate::proofs::OverflowLaws::text_not_overflow, crate::proofs::OverflowLaws::arcs_not_overflow))]
 pub fn overflow_is_never_answered()
     ensures octets { (bound capacity : ℕ) (w : List ℕ)
         → read_identifier bound capacity w ≢ Err errors.Overflow }

@@ -4,7 +4,8 @@ use Rattle.const_oid.specs.Bound.{Bound}
 use Rattle.const_oid.specs.IdentifierOctets.{read_arcs}
 use Rattle.const_oid.specs.Arcs.{later_arcs}
 use Rattle.const_oid.proofs.BoundLaws.{fits_type}
-use Rattle.const_oid.proofs.ArcsLaws.{octet_at, whole_end, drop_past}
+use Rattle.std.proofs.lemmas.List.{drop_all}
+use Rattle.const_oid.proofs.ArcsLaws.{octet_at, whole_end}
 use Rattle.const_oid.proofs.arcs.first_arc.Goals as goal
 
 pub overflow_mul-value : goal.overflow_mul-value
@@ -38,7 +39,7 @@ loop-i-preserved c =
 pub returns : goal.returns
 returns c =
     let w = c.args.octets.now in
-    let past = drop_past c.loop-i.i w c.loop-i-test.false in
+    let past = drop_all c.loop-i.i w c.loop-i-test.false in
     let none : c.loop-i.value ≡ 0 = whole_end Bound c.loop-i.value (sym (ap (λ t. is_ok (read_arcs Bound c.loop-i.value t)) past) ∙ c.loop-i.invariant.1) in
     let first : c.loop-i.i ≡ 0 = at_start c.loop-i.i c.loop-i.value none c.loop-i.invariant.2 in
     ap (λ i. drop i w) (sym first) ∙ past

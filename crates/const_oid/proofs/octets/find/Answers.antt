@@ -3,7 +3,7 @@ use Rattle.const_oid.specs.declared.error.Error.TheVariants as errors
 use Rattle.const_oid.specs.Bound.{Bound}
 use Rattle.const_oid.specs.IdentifierOctets.{read_identifier}
 use Rattle.const_oid.specs.Outcome.{outcome}
-use Rattle.const_oid.proofs.ReadingLaws.{outcome-root, outcome-root_invalid, outcome-empty}
+use Rattle.const_oid.proofs.ArcsLaws.{outcome-root, outcome-root_invalid, outcome-empty}
 use Rattle.const_oid.proofs.LastArcLaws.{found_whole}
 use Rattle.const_oid.proofs.octets.find.Goals as goal
 

@@ -1,12 +1,11 @@
 use Rattle.std.proofs.Common.{◌≡◌, ◌+◌, ◌<◌, ◌≤◌, ◌-◌, ◌++◌, ℕ, List, length, take, drop, ap, subst, sym, ◌∙◌, take-append-drop, length-take-le, length-drop, arith}
-use Rattle.std.proofs.lemmas.List.{drop-drop, take_all}
+use Rattle.std.proofs.lemmas.List.{drop-drop, drop_all, take_all}
 use Rattle.const_oid.specs.Bound.{Bound}
 use Rattle.const_oid.specs.IdentifierOctets.{arc_octets, read_arcs}
 use Rattle.const_oid.specs.Outcome.{outcome}
-use Rattle.const_oid.proofs.ArcsLaws.{drop_past}
+use Rattle.const_oid.proofs.ArcsLaws.{outcome-with_arc}
 use Rattle.const_oid.proofs.EncodingLaws.{length-arc_octets, length-digits-pos}
 use Rattle.const_oid.proofs.IdentifierLaws.{read_arcs-arc}
-use Rattle.const_oid.proofs.ReadingLaws.{outcome-with_arc}
 use Rattle.const_oid.proofs.LastArcLaws.{SoFar, so_far_arc, so_far_all}
 use Rattle.const_oid.proofs.octets.find_arcs.Goals as goal
 
@@ -52,6 +51,6 @@ returns c =
     let w = c.args.octets.now in
     let begun = c.loop-begun.begun in
     let held = c.loop-begun.invariant in
-    let none = drop_past begun w c.loop-begun-test.false in
+    let none = drop_all begun w c.loop-begun-test.false in
     let all = so_far_all w (drop begun w) c.loop-begun.arc_count c.loop-begun.last_start (begun + 1) held.3 none in
     (held.2 ∙ ap (λ t. outcome (read_arcs Bound 0 t)) none, all.0, all.1)

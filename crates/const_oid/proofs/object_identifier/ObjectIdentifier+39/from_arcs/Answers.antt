@@ -3,9 +3,10 @@ use Rattle.std.proofs.lemmas.Result.{err_from_is_err_and, IfOk-from_err}
 use Rattle.const_oid.specs.Bound.{Bound}
 use Rattle.const_oid.specs.ArcLists.{gather, add_arc, whole_arcs}
 use Rattle.const_oid.proofs.BoundLaws.{below_bound}
-use Rattle.const_oid.proofs.EncodingLaws.{all-push, gather-err, gather-end}
+use Rattle.const_oid.proofs.IdentifierLaws.{all-push}
+use Rattle.const_oid.proofs.EncodingLaws.{gather-err, gather-end}
 use Rattle.const_oid.proofs.ArcFaultLaws.{add_arc-not_empty, arc_fault_found, answer_ok, answer_fault, gather-faultless, added-faultless, faultless_none, ends_at_next, ends_at_none}
-use Rattle.const_oid.proofs.OverflowLaws.{arcs-not_overflow}
+use Rattle.const_oid.proofs.OverflowLaws.{arcs_not_overflow}
 use Rattle.std.specs.Result.{IsOk}
 use Rattle.std.proofs.iter.Next.{Yields-more}
 use Rattle.const_oid.proofs.object_identifier.ObjectIdentifier+39.from_arcs.Goals as goal
@@ -52,7 +53,7 @@ returns-in_err-add g c =
         arc_fault_found 39 items _ found,
         ends_at_next 39 c.loop-arc.yielded c.in-Some.arc old.4,
       );
-      never_overflow = λ h. arcs-not_overflow 39 items (sym read ∙ h);
+      never_overflow = λ h. arcs_not_overflow 39 items (sym read ∙ h);
     }
 
 pub returns : goal.returns
@@ -68,5 +69,5 @@ returns g c =
           (λ id fits. (it, c.into_iter-rest.ensures.into_iter_gives, (c.loop-arc.rest, c.loop-arc.yielded_by, λ _. (c.next.new.self, c.in_default.ensures.steps)), id, fits));
       fault = answer_fault 39 _ items c.finish.result read
           (λ e fault. (it, items, c.into_iter-rest.ensures.into_iter_gives, (c.loop-arc.rest, c.loop-arc.yielded_by, λ _. (c.next.new.self, c.in_default.ensures.steps)), fault, ends_at_none 39 items old.4));
-      never_overflow = λ h. arcs-not_overflow 39 items (sym read ∙ h);
+      never_overflow = λ h. arcs_not_overflow 39 items (sym read ∙ h);
     }

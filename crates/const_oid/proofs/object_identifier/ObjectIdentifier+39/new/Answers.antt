@@ -3,7 +3,7 @@ use Rattle.const_oid.specs.Bound.{Bound}
 use Rattle.const_oid.specs.TextReading.{read_text}
 use Rattle.const_oid.proofs.BoundLaws.{Bound-is}
 use Rattle.const_oid.proofs.TextFaultLaws.{answer_ok, answer_fault, text_read}
-use Rattle.const_oid.proofs.OverflowLaws.{text-not_overflow}
+use Rattle.const_oid.proofs.OverflowLaws.{text_not_overflow}
 use Rattle.const_oid.proofs.object_identifier.ObjectIdentifier+39.new.Goals as goal
 
 pub returns-clause-ok : goal.returns-clause-ok
@@ -17,4 +17,4 @@ pub returns-clause-fault : goal.returns-clause-fault
 returns-clause-fault c = answer_fault Bound 39 c.args.s.now c.read.result (c.read.ensures ∙ ap (read_text Bound 39) c.as_bytes.ensures.value)
 
 pub returns-clause-never_overflow : goal.returns-clause-never_overflow
-returns-clause-never_overflow c h = text-not_overflow Bound 39 c.as_bytes.result.now (sym c.read.ensures ∙ h)
+returns-clause-never_overflow c h = text_not_overflow Bound 39 c.as_bytes.result.now (sym c.read.ensures ∙ h)

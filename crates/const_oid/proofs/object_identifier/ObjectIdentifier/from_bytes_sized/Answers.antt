@@ -2,7 +2,7 @@ use Rattle.std.proofs.Common.{List, ℕ, length, ◌≤◌, ap, sym, subst, ◌�
 use Rattle.const_oid.specs.Bound.{Bound}
 use Rattle.const_oid.specs.IdentifierOctets.{read_identifier}
 use Rattle.const_oid.proofs.IdentifierLaws.{identifier_again}
-use Rattle.const_oid.proofs.OverflowLaws.{octets-not_overflow}
+use Rattle.const_oid.proofs.OverflowLaws.{octets_not_overflow}
 use Rattle.const_oid.proofs.OctetFaultLaws.{answer_ok, answer_fault}
 use Rattle.const_oid.proofs.object_identifier.ObjectIdentifier.from_bytes_sized.Goals as goal
 
@@ -19,4 +19,4 @@ returns-clause-spelled g c arcs octets id fits =
     ∙ identifier_again Bound g.row.MAX_SIZE arcs id (subst (λ (w : List ℕ). length w ≤ g.row.MAX_SIZE) octets fits)
 
 pub returns-clause-never_overflow : goal.returns-clause-never_overflow
-returns-clause-never_overflow g c h = octets-not_overflow Bound g.row.MAX_SIZE c.args.ber_bytes.now (sym c.read_octets.ensures.read ∙ h)
+returns-clause-never_overflow g c h = octets_not_overflow Bound g.row.MAX_SIZE c.args.ber_bytes.now (sym c.read_octets.ensures.read ∙ h)
