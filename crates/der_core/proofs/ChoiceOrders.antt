@@ -1,10 +1,11 @@
 -- The order of values of a choice, and the tags with which they begin.
-use Rattle.std.proofs.Common.{◌≡◌, ℕ, Bool, true, List, [], Option, Some, None, Result, Ok, sym, ap, subst, ◌∙◌, inl, inr, ◌⊎◌}
-use Rattle.std.specs.Prelude.{◌≢◌, ◌&&◌}
+use Rattle.std.proofs.Common.{◌≡◌, ℕ, Bool, true, List, [], Option, Some, None, Result, Ok, sym, ap, subst, ◌∙◌, arith, inl, inr, ◌⊎◌}
+use Rattle.std.specs.Prelude.{◌≢◌}
 use Rattle.std.specs.Ordering.{ordering_reverse}
 use Rattle.std.specs.declared.cmp.Ordering.{Ordering}
 use Rattle.std.specs.Cmp.Lexicographic.{nat_list_cmp_total}
-use Rattle.std.proofs.lemmas.Bool.{and_parts, or_left, or_right, false≢true}
+use Rattle.std.proofs.lemmas.Bool.{or_left, or_right, false≢true}
+use Rattle.std.proofs.lemmas.Bool.Decides.{nat_tests}
 use Rattle.der_core_head.specs.declared.error.Error.{Error}
 use Rattle.der_core_head.specs.declared.tag.Tag.{Tag}
 use Rattle.der_core_head.specs.Tags.{tag_octets}
@@ -16,35 +17,19 @@ use Rattle.der_core.proofs.OrderLaws.{then_first, octets_cmp-append}
 use Rattle.der_core.proofs.HeadOrders.{tag_splits, tag_cmp-equal}
 use Rattle.der_core.proofs.RowOrders.{TagIs}
 
--- both are apart and begin otherwise
-pub record Kept (a b : Shape) : Type 0 where
-  pub first_element : is_element a ≡ true
-  pub second_element : is_element b ≡ true
-  pub other_tags : none_of a (begins b) ≡ true
-  pub first : is_apart a ≡ true
-  pub second : is_apart b ≡ true
-
-pub kept : (a b : Shape) → is_apart (either a b) ≡ true → Kept a b
-kept a b h =
-    let parts = and_parts (is_element a && is_element b) (none_of a (begins b) && (is_apart a && is_apart b)) h in
-    let elements = and_parts (is_element a) (is_element b) parts.0 in
-    let others = and_parts (none_of a (begins b)) (is_apart a && is_apart b) parts.1 in
-    let aparts = and_parts (is_apart a) (is_apart b) others.1 in
-    record { first_element = elements.0; second_element = elements.1; other_tags = others.0; first = aparts.0; second = aparts.1 }
-
 -- Values of one alternative
 
 pub both_first : (a b : Shape) (x y : Value a ⊎ Value b) (v w : Value a) (r : Result Ordering Error) → x ≡ inl v → y ≡ inl w
     → (is_apart a ≡ true → IsValid a v → IsValid a w → r ≡ Ok (encodings_cmp a v w))
     → is_apart (either a b) ≡ true → IsValid (either a b) x → IsValid (either a b) y → r ≡ Ok (encodings_cmp (either a b) x y)
 unfolding octets_of IsValid
-both_first a b x y v w r i j h = rw (i, j) (λ apart p q. h (kept a b apart).first p q)
+both_first a b x y v w r i j h = rw (i, j) (λ apart p q. h (grind (arith, nat_tests)) p q)
 
 pub both_second : (a b : Shape) (x y : Value a ⊎ Value b) (v w : Value b) (r : Result Ordering Error) → x ≡ inr v → y ≡ inr w
     → (is_apart b ≡ true → IsValid b v → IsValid b w → r ≡ Ok (encodings_cmp b v w))
     → is_apart (either a b) ≡ true → IsValid (either a b) x → IsValid (either a b) y → r ≡ Ok (encodings_cmp (either a b) x y)
 unfolding octets_of IsValid
-both_second a b x y v w r i j h = rw (i, j) (λ apart p q. h (kept a b apart).second p q)
+both_second a b x y v w r i j h = rw (i, j) (λ apart p q. h (grind (arith, nat_tests)) p q)
 
 -- Values of two alternatives
 
@@ -60,16 +45,16 @@ absent s v e h nothing = let some = element_some s v e h in let there = some.2 i
 
 pub first_below : (a b : Shape) (v : Value a) (w : Value b) (n : Option Tag) (u : Tag) → TagIs a v n → TagIs b w (Some u)
     → is_apart (either a b) ≡ true → IsValid a v → IsValid b w → next_cmp n u ≡ octets_cmp (octets_of a v) (octets_of b w)
-first_below a b v w None u i j apart p q = absurd (absent a v (kept a b apart).first_element p (i p))
+first_below a b v w None u i j apart p q = absurd (absent a v (grind (arith, nat_tests)) p (i p))
 first_below a b v w (Some t) u i j apart p q =
-    let k = kept a b apart in
+    let others : none_of a (begins b) ≡ true = grind (arith, nat_tests) in
     let first = i p in
     let second = j q in
-    let other : t ≢ u = λ same. false≢true (sym (not_begins a (begins b) t k.other_tags (subst (λ z. begins b z ≡ true) (sym same) second.3)) ∙ first.3) in
+    let other : t ≢ u = λ same. false≢true (sym (not_begins a (begins b) t others (subst (λ z. begins b z ≡ true) (sym same) second.3)) ∙ first.3) in
     sym (tags_decide t u (begins a) (begins b) (octets_of a v) (octets_of b w) other first second)
 
 pub never_absent : (a b : Shape) (v : Value a) (w : Value b) → TagIs b w None → is_apart (either a b) ≡ true → IsValid b w → ⊥
-never_absent a b v w j apart q = absent b w (kept a b apart).second_element q (j q)
+never_absent a b v w j apart q = absent b w (grind (arith, nat_tests)) q (j q)
 
 pub mixed : (a b : Shape) (x y : Value a ⊎ Value b) (v : Value a) (w : Value b) (o : Ordering) → x ≡ inl v → y ≡ inr w
     → (is_apart (either a b) ≡ true → IsValid a v → IsValid b w → o ≡ octets_cmp (octets_of a v) (octets_of b w))

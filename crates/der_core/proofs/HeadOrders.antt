@@ -1,6 +1,7 @@
 -- The order of tags, lengths, headers and whole encodings.
 use Rattle.std.proofs.Common.{◌≡◌, ℕ, zero, suc, ◌+◌, ◌*◌, ◌/◌, ◌%◌, ◌<◌, ◌≤◌, List, [], ◌∷◌, ◌++◌, length, refl, sym, ap, ◌∙◌, arith, inl, inr}
 use Rattle.std.proofs.lemmas.Bool.{cases_lt}
+use Rattle.std.proofs.lemmas.Bool.Decides.{nat_tests}
 use Rattle.std.proofs.lemmas.List.{length-append}
 use Rattle.std.proofs.Math.Nat.{mul-le-mul_right, mod-lt}
 use Rattle.std.proofs.lemmas.Nat.{div-add-mod'}
@@ -23,30 +24,15 @@ use Rattle.der_core.proofs.OrderLaws.{then_assoc, then_equal, octets_cmp-self, o
 
 -- one digit more
 push_cmp : (base m n d e : ℕ) → d < base → e < base → nat_cmp (m * base + d) (n * base + e) ≡ ordering_then (nat_cmp m n) (nat_cmp d e)
-push_cmp base m n d e p q =
-    elim (cases_lt m n) [
-      | inl l ↦ rw (nat_cmp-less m n l, nat_cmp-less (m * base + d) (n * base + e) (higher m n d e p l)) refl
-      | inr l ↦ elim (cases_lt n m) [
-        | inl k ↦ rw (nat_cmp-greater m n k, nat_cmp-greater (m * base + d) (n * base + e) (higher n m e d q k)) refl
-        | inr k ↦ rw (nat_cmp-same m n (omega arith)) (digit (omega arith))
-      ]
-    ]
+push_cmp base m n d e p q = grind (arith, nat_tests, higher m n d e p, higher n m e d q, equal)
   where
     higher : (m n d e : ℕ) → d < base → m < n → m * base + d < n * base + e
     higher m n d e p l =
         let more : suc m * base ≤ n * base = mul-le-mul_right base (omega arith) in
         omega (arith, more)
 
-    digit : m ≡ n → nat_cmp (m * base + d) (n * base + e) ≡ nat_cmp d e
-    digit same =
-        let equal : m * base ≡ n * base = ap (λ k. k * base) same in
-        elim (cases_lt d e) [
-          | inl l ↦ nat_cmp-less (m * base + d) (n * base + e) (omega (arith, equal)) ∙ sym (nat_cmp-less d e l)
-          | inr l ↦ elim (cases_lt e d) [
-            | inl k ↦ nat_cmp-greater (m * base + d) (n * base + e) (omega (arith, equal)) ∙ sym (nat_cmp-greater d e k)
-            | inr k ↦ nat_cmp-same (m * base + d) (n * base + e) (omega (arith, equal)) ∙ sym (nat_cmp-same d e (omega arith))
-          ]
-        ]
+    equal : m ≡ n → m * base ≡ n * base
+    equal same = ap (λ k. k * base) same
 
 -- a number is in the order of what it has before its last digit, and then of that digit
 pub split_cmp : (base m n : ℕ) → 0 < base → ordering_then (nat_cmp (m / base) (n / base)) (nat_cmp (m % base) (n % base)) ≡ nat_cmp m n
@@ -55,19 +41,14 @@ split_cmp base m n some =
     ∙ (λ i. nat_cmp (div-add-mod' m base i) (div-add-mod' n base i))
 
 -- as many digits are in the order of their numbers
-after_cmp : (m n : ℕ) (ds es : List ℕ) → AllBelowBase 256 ds → AllBelowBase 256 es → length ds ≡ length es
+pub after_cmp : (m n : ℕ) (ds es : List ℕ) → AllBelowBase 256 ds → AllBelowBase 256 es → length ds ≡ length es
     → ordering_then (nat_cmp m n) (octets_cmp ds es) ≡ nat_cmp (number_from_digits_after 256 m ds) (number_from_digits_after 256 n es)
 after_cmp m n [] [] p q l = then_equal (nat_cmp m n)
-after_cmp m n [] (e ∷ es) p q l = absurd (omega arith)
-after_cmp m n (d ∷ ds) [] p q l = absurd (omega arith)
 after_cmp m n (d ∷ ds) (e ∷ es) p q l =
     sym (then_assoc (nat_cmp m n) (nat_cmp d e) (octets_cmp ds es))
     ∙ ap (λ o. ordering_then o (octets_cmp ds es)) (sym (push_cmp 256 m n d e p.0 q.0))
     ∙ after_cmp (m * 256 + d) (n * 256 + e) ds es p.1 q.1 (omega arith)
-
-digits_cmp : (ds es : List ℕ) → AllBelowBase 256 ds → AllBelowBase 256 es → length ds ≡ length es
-    → octets_cmp ds es ≡ nat_cmp (number_from_digits 256 ds) (number_from_digits 256 es)
-digits_cmp ds es p q l = after_cmp 0 0 ds es p q l
+after_cmp m n ds es p q l = absurd (omega arith)
 
 -- a greater number has no fewer digits
 one_digit : (m n : ℕ) → n < 256 → length (digits 256 n) ≤ length (digits 256 m)
@@ -91,16 +72,9 @@ long_cmp m n l k =
     let es = digits 256 n in
     let a = digits-Digits 256 m (omega arith) in
     let b = digits-Digits 256 n (omega arith) in
-    rw (length-long m ds l refl, length-long n es k refl)
-    (elim (cases_lt (length ds) (length es)) [
-      | inl lt ↦ rw (nat_cmp-less (128 + length ds) (128 + length es) (omega arith)) (sym (nat_cmp-less m n (fewer m n lt)))
-      | inr le ↦ elim (cases_lt (length es) (length ds)) [
-        | inl lt ↦ rw (nat_cmp-greater (128 + length ds) (128 + length es) (omega arith)) (sym (nat_cmp-greater m n (fewer n m lt)))
-        | inr ge ↦
-            rw (nat_cmp-same (128 + length ds) (128 + length es) (omega arith))
-            (digits_cmp ds es a.below b.below (omega arith) ∙ ap (λ x. nat_cmp x (number_from_digits 256 es)) a.number ∙ ap (nat_cmp m) b.number)
-      ]
-    ])
+    let same : length ds ≡ length es → octets_cmp ds es ≡ nat_cmp m n = λ e.
+    after_cmp 0 0 ds es a.below b.below e ∙ ap (λ x. nat_cmp x (number_from_digits 256 es)) a.number ∙ ap (nat_cmp m) b.number in
+    rw (length-long m ds l refl, length-long n es k refl) (grind (arith, nat_tests, same, fewer m n, fewer n m))
   where
     fewer : (m n : ℕ) → length (digits 256 m) < length (digits 256 n) → m < n
     fewer m n lt = elim (cases_lt m n) [ inl less ↦ less | inr le ↦ absurd (omega (arith, digits-monotone n m n (omega arith) le)) ]
@@ -111,10 +85,10 @@ length_octets_cmp m n =
     elim (cases_lt m 128) [
       | inl l ↦ elim (cases_lt n 128) [
         | inl k ↦ rw (length-short m l, length-short n k) (then_equal (nat_cmp m n))
-        | inr k ↦ rw (length-short m l, length-long n (digits 256 n) k refl, nat_cmp-less m (128 + length (digits 256 n)) (omega arith)) (sym (nat_cmp-less m n (omega arith)))
+        | inr k ↦ grind (arith, nat_tests, length-short m l, length-long n (digits 256 n) k refl)
       ]
       | inr l ↦ elim (cases_lt n 128) [
-        | inl k ↦ rw (length-long m (digits 256 m) l refl, length-short n k, nat_cmp-greater (128 + length (digits 256 m)) n (omega arith)) (sym (nat_cmp-greater m n (omega arith)))
+        | inl k ↦ grind (arith, nat_tests, length-long m (digits 256 m) l refl, length-short n k)
         | inr k ↦ long_cmp m n l k
       ]
     ]
@@ -165,11 +139,9 @@ pub tlv_cmp : (a b : Tag) (c d : List ℕ) → IsTag a → IsTag b → Fits c �
 unfolding tlv
 tlv_cmp a b c d p q i j =
     octets_cmp-append (head_octets a (length c)) (head_octets b (length d)) c d (head_splits a b (length c) (length d) p q i j)
-    ∙ ap (λ o. ordering_then o (octets_cmp c d)) (head_cmp a b (length c) (length d) p q ∙ ap (ordering_then (octets_cmp (tag_octets a) (tag_octets b))) (length_octets_cmp (length c) (length d)))
-    ∙ then_assoc (octets_cmp (tag_octets a) (tag_octets b)) (nat_cmp (length c) (length d)) (octets_cmp c d)
+    ∙ rw (head_cmp a b (length c) (length d) p q, length_octets_cmp (length c) (length d)) (then_assoc (octets_cmp (tag_octets a) (tag_octets b)) (nat_cmp (length c) (length d)) (octets_cmp c d))
 
 -- of one tag
 pub tlv_cmp-tag : (t : Tag) (c d : List ℕ) → IsTag t → Fits c → Fits d
     → octets_cmp (tlv t c) (tlv t d) ≡ ordering_then (nat_cmp (length c) (length d)) (octets_cmp c d)
-tlv_cmp-tag t c d p i j =
-    tlv_cmp t t c d p p i j ∙ ap (λ o. ordering_then o (ordering_then (nat_cmp (length c) (length d)) (octets_cmp c d))) (octets_cmp-self (tag_octets t))
+tlv_cmp-tag t c d p i j = rw (tlv_cmp t t c d p p i j, octets_cmp-self (tag_octets t)) refl

@@ -1,33 +1,35 @@
 -- The order of the values that two iterators give.
-use Rattle.std.proofs.Common.{◌≡◌, ℕ, zero, suc, true, false, List, [], ◌∷◌, drop, Option, Some, None, Ok, Err, refl, sym, ap, subst, ◌∙◌, inl, inr}
+use Rattle.std.proofs.Common.{◌≡◌, ℕ, zero, suc, true, false, List, [], ◌∷◌, drop, Option, Some, None, Result, Ok, Err, refl, sym, ap, subst, ◌∙◌, arith}
 use Rattle.std.specs.Prelude.{slice_get}
 use Rattle.std.specs.Iterator.{AlwaysYields}
-use Rattle.std.specs.Ordering.{is_ne}
+use Rattle.std.specs.Ordering.{ordering_then, is_ne}
 use Rattle.std.specs.declared.cmp.Ordering.{Ordering}
 use Rattle.std.specs.declared.cmp.Ordering.TheVariants.{Less, Equal, Greater}
 use Rattle.std.specs.Slice.Iter.{iter_rest}
 use Rattle.std.proofs.iter.Yields.{fronts}
-use Rattle.std.proofs.lemmas.Bool.{and_parts}
-use Rattle.std.proofs.lemmas.Iterator.{YieldsList-from_slice}
+use Rattle.std.proofs.lemmas.Bool.Decides.{nat_tests}
+use Rattle.std.specs.Fn.{Mut, Called}
+use Rattle.std.specs.Iterator.Adapters.{map_steps, map_source, map_callee}
+use Rattle.std.proofs.lemmas.List.{map-id}
+use Rattle.std.proofs.lemmas.Iterator.{YieldsList, YieldsList-from_slice, YieldsList-from_map_by}
 use Rattle.der_core_head.specs.declared.error.Error.{Error}
+use Rattle.der_core_head.specs.declared.error.ErrorKind.TheVariants as kinds
+use Rattle.der_core_head.specs.Octets.{◌>>=◌}
 use Rattle.der_core_head.specs.Shapes.{Shape, many, Value, body_octets, IsValid, IsBody}
 use Rattle.der_core_head.specs.Grammar.{plain_list}
 use Rattle.der_core_head.specs.Spelling.{is_apart, is_body_apart, is_element}
-use Rattle.der_core_head.specs.Writing.{size, size_body}
+use Rattle.der_core_head.specs.Writing.{size, size_body, sum_len, many_len}
 use Rattle.der_core.specs.Orders.{encodings_cmp, bodies_cmp, Overflows}
-use Rattle.der_core.proofs.Sizes.{size_only, many_over}
+use Rattle.der_core.proofs.OrderLaws.{first_decides, others_decide}
+use Rattle.der_core.proofs.Sizes.{size_only, sum_only, over_or, longer}
 use Rattle.der_core.proofs.ShapeOrders.{elements_cmp}
-use Rattle.der_core.proofs.ListOrders.{fine, Decides, all_decide, goes_on, decided, not_refused}
 
 -- What is left at a place
 
 pub next_left : {A : Type 0} (xs : List A) (n : ℕ) (x : A) (rest : List A) → drop n xs ≡ x ∷ rest → (slice_get xs n ≡ Some x) × (rest ≡ drop (suc n) xs)
 next_left [] zero x rest e = absurd cc
 next_left [] (suc n) x rest e = absurd cc
-next_left (y ∷ xs) zero x rest e =
-    let a : y ≡ x = cc in
-    let b : xs ≡ rest = cc in
-    (ap (λ z. Some z) a, sym b)
+next_left (y ∷ xs) zero x rest e = (cc, cc)
 next_left (y ∷ xs) (suc n) x rest e = next_left xs n x rest e
 
 module _ {S A : Type 0} (steps : S → Option A → S → Type 0) (s : Shape) (f : A → Value s) where
@@ -45,87 +47,142 @@ module _ {S A : Type 0} (steps : S → Option A → S → Type 0) (s : Shape) (f
   none_given a [] t h e = refl
   none_given a (z ∷ zs) t h e = absurd (h.0 t e)
 
-  -- so many values were compared, and what is left decides
-  pub record At (xs ys : List (Value s)) (n : ℕ) (a b : S) : Type 0 where
-    pub first : AlwaysYields steps f a (drop n xs)
-    pub second : AlwaysYields steps f b (drop n ys)
-    pub decides : Decides s xs ys (drop n xs) (drop n ys)
+  -- what is left of two lists decides their order
+  pub record Left (xs ys more others : List (Value s)) : Type 0 where
+    pub order : bodies_cmp (many s) xs ys ≡ bodies_cmp (many s) more others
+    pub first : IsBody (many s) more
+    pub second : IsBody (many s) others
 
-  pub at_start : (xs ys : List (Value s)) (a b : S) → AlwaysYields steps f a xs → AlwaysYields steps f b ys → At xs ys 0 a b
-  at_start xs ys a b h k = record { first = h; second = k; decides = all_decide s xs ys }
+  abbrev pub Decides : (xs ys more others : List (Value s)) → Type 0
+  Decides xs ys more others = is_body_apart (many s) ≡ true → IsBody (many s) xs → IsBody (many s) ys → Left xs ys more others
+
+  -- values that are too long for any number of octets before them
+  abbrev pub TooLong : List (Value s) → Type 0
+  TooLong xs = (n : ℕ) → many_len (size s) xs n ≡ Err kinds.Overflow
+
+  more_long : (x : Value s) (xs : List (Value s)) → TooLong xs → TooLong (x ∷ xs)
+  more_long x xs h n = over_or (size s x) (λ m. sum_len n m >>= many_len (size s) xs) (size_only s x) (λ m. over_or (sum_len n m) (many_len (size s) xs) (sum_only n m) h)
+
+  -- the iterators give what is left of the two lists
+  pub record At (xs ys : List (Value s)) (a b : S) : Type 0 where
+    pub more : List (Value s)
+    pub others : List (Value s)
+    pub first : AlwaysYields steps f a more
+    pub second : AlwaysYields steps f b others
+    pub decides : Decides xs ys more others
+    pub long : TooLong more → TooLong xs
+    pub other_long : TooLong others → TooLong ys
+
+  pub at_start : (xs ys : List (Value s)) (a b : S) → AlwaysYields steps f a xs → AlwaysYields steps f b ys → At xs ys a b
+  at_start xs ys a b h k = record {
+    more = xs;
+    others = ys;
+    first = h;
+    second = k;
+    decides = λ apart p q. record { order = refl; first = p; second = q };
+    long = λ l. l;
+    other_long = λ l. l;
+  }
+
+  first_cmp : (x y : Value s) (xs ys : List (Value s)) → is_body_apart (many s) ≡ true → IsBody (many s) (x ∷ xs) → IsBody (many s) (y ∷ ys)
+      → bodies_cmp (many s) (x ∷ xs) (y ∷ ys) ≡ ordering_then (encodings_cmp s x y) (bodies_cmp (many s) xs ys)
+  unfolding body_octets IsBody
+  first_cmp x y xs ys apart p q =
+      let e : is_element s ≡ true = grind (arith, nat_tests) in
+      elements_cmp s (x ∷ xs) (y ∷ ys) e p q ∙ ap (ordering_then (encodings_cmp s x y)) (sym (elements_cmp s xs ys e p.1 q.1))
 
   -- both gave a value
-  here : (xs ys more others : List (Value s)) (n : ℕ) (a b : S) (x y : A) → At xs ys n a b → drop n xs ≡ f x ∷ more → drop n ys ≡ f y ∷ others → Decides s xs ys (f x ∷ more) (f y ∷ others)
-  here xs ys more others n a b x y at d e = subst (λ l. Decides s xs ys l (f y ∷ others)) d (subst (λ l. Decides s xs ys (drop n xs) l) e at.decides)
+  record Both (xs ys : List (Value s)) (c d : S) (x y : A) : Type 0 where
+    pub more : List (Value s)
+    pub others : List (Value s)
+    pub first : AlwaysYields steps f c more
+    pub second : AlwaysYields steps f d others
+    pub decides : Decides xs ys (f x ∷ more) (f y ∷ others)
+    pub long : TooLong (f x ∷ more) → TooLong xs
+    pub other_long : TooLong (f y ∷ others) → TooLong ys
 
-  pub at_next : (xs ys : List (Value s)) (n m : ℕ) (a b c d : S) (x y : A) (o : Ordering) → At xs ys n a b → steps a (Some x) c → steps b (Some y) d
-      → (is_apart s ≡ true → IsValid s (f x) → IsValid s (f y) → fine o ≡ Ok (encodings_cmp s (f x) (f y))) → is_ne o ≡ false → m ≡ suc n → At xs ys m c d
-  at_next xs ys n m a b c d x y o at i j is same e =
-      let p = next_given a (drop n xs) x c at.first i in
-      let q = next_given b (drop n ys) y d at.second j in
-      let u = (next_left xs n (f x) p.rest p.is).1 in
-      let v = (next_left ys n (f y) q.rest q.is).1 in
-      let on = goes_on s xs ys (f x) (f y) p.rest q.rest o (here xs ys p.rest q.rest n a b x y at p.is q.is) is same in
-      subst (λ k. At xs ys k c d) (sym e) (record {
-        first = subst (AlwaysYields steps f c) u p.more;
-        second = subst (AlwaysYields steps f d) v q.more;
-        decides = subst (λ l. Decides s xs ys l (drop (suc n) ys)) u (subst (λ l. Decides s xs ys p.rest l) v on);
-      })
-
-  pub at_decided : (xs ys : List (Value s)) (n : ℕ) (a b c d : S) (x y : A) (o : Ordering) → At xs ys n a b → steps a (Some x) c → steps b (Some y) d
-      → (is_apart s ≡ true → IsValid s (f x) → IsValid s (f y) → fine o ≡ Ok (encodings_cmp s (f x) (f y))) → is_ne o ≡ true
-      → is_body_apart (many s) ≡ true → IsBody (many s) xs → IsBody (many s) ys → o ≡ bodies_cmp (many s) xs ys
-  at_decided xs ys n a b c d x y o at i j is differ =
-      let p = next_given a (drop n xs) x c at.first i in
-      let q = next_given b (drop n ys) y d at.second j in
-      decided s xs ys (f x) (f y) p.rest q.rest o (here xs ys p.rest q.rest n a b x y at p.is q.is) is differ
-
-  pub at_not_refused : (xs ys : List (Value s)) (n : ℕ) (a b c d : S) (x y : A) (e : Error) → At xs ys n a b → steps a (Some x) c → steps b (Some y) d
-      → (is_apart s ≡ true → IsValid s (f x) → IsValid s (f y) → Err e ≡ Ok (encodings_cmp s (f x) (f y)))
-      → is_body_apart (many s) ≡ true → IsBody (many s) xs → IsBody (many s) ys → ⊥
-  at_not_refused xs ys n a b c d x y e at i j is =
-      let p = next_given a (drop n xs) x c at.first i in
-      let q = next_given b (drop n ys) y d at.second j in
-      not_refused s xs ys (f x) (f y) p.rest q.rest e (here xs ys p.rest q.rest n a b x y at p.is q.is) is
-
-  pub at_long : (xs ys : List (Value s)) (n : ℕ) (a b c d : S) (x y : A) (e : Error) → At xs ys n a b → steps a (Some x) c → steps b (Some y) d
-      → Overflows e (size s (f x)) (size s (f y)) → Overflows e (size_body (many s) xs) (size_body (many s) ys)
-  at_long xs ys n a b c d x y e at i j h =
-      let p = next_given a (drop n xs) x c at.first i in
-      let q = next_given b (drop n ys) y d at.second j in
+  both : (xs ys : List (Value s)) (a b c d : S) (x y : A) → At xs ys a b → steps a (Some x) c → steps b (Some y) d → Both xs ys c d x y
+  both xs ys a b c d x y k i j =
+      let p = next_given a k.more x c k.first i in
+      let q = next_given b k.others y d k.second j in
       record {
-        kind = h.kind;
-        length = elim h.length [
-          | inl o ↦ inl (many_over (size s) (size_only s) xs 0 n (f x) (next_left xs n (f x) p.rest p.is).0 o)
-          | inr o ↦ inr (many_over (size s) (size_only s) ys 0 n (f y) (next_left ys n (f y) q.rest q.is).0 o)
-        ];
+        more = p.rest;
+        others = q.rest;
+        first = p.more;
+        second = q.more;
+        decides = rw (p.is, q.is) at k.decides;
+        long = rw p.is at k.long;
+        other_long = rw q.is at k.other_long;
       }
 
-  pub at_second_ended : (xs ys : List (Value s)) (n : ℕ) (a b c d : S) (x : A) → At xs ys n a b → steps a (Some x) c → steps b None d
+  -- the order of the two is told of valid ones
+  abbrev pub IsOrder : A → A → Result Ordering Error → Type 0
+  IsOrder x y r = is_apart s ≡ true → IsValid s (f x) → IsValid s (f y) → r ≡ Ok (encodings_cmp s (f x) (f y))
+
+  pub at_next : (xs ys : List (Value s)) (a b c d : S) (x y : A) (o : Ordering) → At xs ys a b → steps a (Some x) c → steps b (Some y) d → IsOrder x y (Ok o) → is_ne o ≡ false → At xs ys c d
+  unfolding IsBody
+  at_next xs ys a b c d x y o k i j is same =
+      let n = both xs ys a b c d x y k i j in
+      record {
+        more = n.more;
+        others = n.others;
+        first = n.first;
+        second = n.second;
+        decides = λ apart p q.
+            let l = n.decides apart p q in
+            let e : o ≡ encodings_cmp s (f x) (f y) = cc (is (grind (arith, nat_tests)) l.first.0 l.second.0) in
+            record {
+              order = l.order ∙ first_cmp (f x) (f y) n.more n.others apart l.first l.second ∙ rw (← e) (sym (others_decide o (bodies_cmp (many s) n.more n.others) same));
+              first = l.first.1;
+              second = l.second.1;
+            };
+        long = λ h. n.long (more_long (f x) n.more h);
+        other_long = λ h. n.other_long (more_long (f y) n.others h);
+      }
+
+  pub at_decided : (xs ys : List (Value s)) (a b c d : S) (x y : A) (o : Ordering) → At xs ys a b → steps a (Some x) c → steps b (Some y) d → IsOrder x y (Ok o) → is_ne o ≡ true
+      → is_body_apart (many s) ≡ true → IsBody (many s) xs → IsBody (many s) ys → o ≡ bodies_cmp (many s) xs ys
+  unfolding IsBody
+  at_decided xs ys a b c d x y o k i j is differ apart p q =
+      let n = both xs ys a b c d x y k i j in
+      let l = n.decides apart p q in
+      let e : o ≡ encodings_cmp s (f x) (f y) = cc (is (grind (arith, nat_tests)) l.first.0 l.second.0) in
+      sym (l.order ∙ first_cmp (f x) (f y) n.more n.others apart l.first l.second ∙ rw (← e) (sym (first_decides o (bodies_cmp (many s) n.more n.others) differ)))
+
+  -- a comparison that is refused contradicts what is valid
+  pub at_not_refused : (xs ys : List (Value s)) (a b c d : S) (x y : A) (e : Error) → At xs ys a b → steps a (Some x) c → steps b (Some y) d → IsOrder x y (Err e)
+      → is_body_apart (many s) ≡ true → IsBody (many s) xs → IsBody (many s) ys → ⊥
+  unfolding IsBody
+  at_not_refused xs ys a b c d x y e k i j is apart p q =
+      let l = (both xs ys a b c d x y k i j).decides apart p q in
+      let told = is (grind (arith, nat_tests)) l.first.0 l.second.0 in
+      absurd cc
+
+  pub at_long : (xs ys : List (Value s)) (a b c d : S) (x y : A) (e : Error) → At xs ys a b → steps a (Some x) c → steps b (Some y) d
+      → Overflows e (size s (f x)) (size s (f y)) → Overflows e (size_body (many s) xs) (size_body (many s) ys)
+  at_long xs ys a b c d x y e k i j = let n = both xs ys a b c d x y k i j in longer e (λ o. n.long (λ m. rw o refl) 0) (λ o. n.other_long (λ m. rw o refl) 0)
+
+  pub at_second_ended : (xs ys : List (Value s)) (a b c d : S) (x : A) → At xs ys a b → steps a (Some x) c → steps b None d
       → is_body_apart (many s) ≡ true → IsBody (many s) xs → IsBody (many s) ys → Greater ≡ bodies_cmp (many s) xs ys
   unfolding body_octets IsBody
-  at_second_ended xs ys n a b c d x at i j apart v w =
-      let p = next_given a (drop n xs) x c at.first i in
-      let q = none_given b (drop n ys) d at.second j in
-      let left = subst (λ l. Decides s xs ys l []) p.is (subst (λ l. Decides s xs ys (drop n xs) l) q at.decides) apart v w in
-      sym (left.order ∙ elements_cmp s (f x ∷ p.rest) [] (and_parts (is_element s) (is_apart s) apart).0 left.first tt)
+  at_second_ended xs ys a b c d x k i j apart v w =
+      let p = next_given a k.more x c k.first i in
+      let left = rw (p.is, none_given b k.others d k.second j) at (k.decides apart v w) in
+      sym (left.order ∙ elements_cmp s (f x ∷ p.rest) [] (grind (arith, nat_tests)) left.first tt)
 
-  pub at_first_ended : (xs ys : List (Value s)) (n : ℕ) (a b c d : S) (y : A) → At xs ys n a b → steps a None c → steps b (Some y) d
+  pub at_first_ended : (xs ys : List (Value s)) (a b c d : S) (y : A) → At xs ys a b → steps a None c → steps b (Some y) d
       → is_body_apart (many s) ≡ true → IsBody (many s) xs → IsBody (many s) ys → Less ≡ bodies_cmp (many s) xs ys
   unfolding body_octets IsBody
-  at_first_ended xs ys n a b c d y at i j apart v w =
-      let p = none_given a (drop n xs) c at.first i in
-      let q = next_given b (drop n ys) y d at.second j in
-      let left = subst (λ l. Decides s xs ys l (f y ∷ q.rest)) p (subst (λ l. Decides s xs ys (drop n xs) l) q.is at.decides) apart v w in
-      sym (left.order ∙ elements_cmp s [] (f y ∷ q.rest) (and_parts (is_element s) (is_apart s) apart).0 tt left.second)
+  at_first_ended xs ys a b c d y k i j apart v w =
+      let q = next_given b k.others y d k.second j in
+      let left = rw (none_given a k.more c k.first i, q.is) at (k.decides apart v w) in
+      sym (left.order ∙ elements_cmp s [] (f y ∷ q.rest) (grind (arith, nat_tests)) tt left.second)
 
-  pub at_both_ended : (xs ys : List (Value s)) (n : ℕ) (a b c d : S) → At xs ys n a b → steps a None c → steps b None d
+  pub at_both_ended : (xs ys : List (Value s)) (a b c d : S) → At xs ys a b → steps a None c → steps b None d
       → is_body_apart (many s) ≡ true → IsBody (many s) xs → IsBody (many s) ys → Equal ≡ bodies_cmp (many s) xs ys
   unfolding body_octets
-  at_both_ended xs ys n a b c d at i j apart v w =
-      let p = none_given a (drop n xs) c at.first i in
-      let q = none_given b (drop n ys) d at.second j in
-      let left = subst (λ l. Decides s xs ys l []) p (subst (λ l. Decides s xs ys (drop n xs) l) q at.decides) apart v w in
+  at_both_ended xs ys a b c d k i j apart v w =
+      let left = rw (none_given a k.more c k.first i, none_given b k.others d k.second j) at (k.decides apart v w) in
       sym left.order
 
 -- What is seen of the items, seen further
@@ -137,3 +194,8 @@ seen_further steps v f s (y ∷ ys) h = (h.0, λ x t e. let k = h.1 x t e in (ap
 -- the elements of a slice
 pub slice_lends : {A B : Type 0} (f : A → B) (s : _) (xs : List A) → iter_rest s ≡ xs → AlwaysYields fronts (λ r. f r.now) s (plain_list f xs)
 slice_lends f s xs e = seen_further fronts (λ r. r.now) f s xs (YieldsList-from_slice {s = s} xs e).runs
+
+-- the items, mapped one by one to what is seen alike
+pub lent_further : {S A R B F : Type 0} {steps : S → Option A → S → Type 0} {v : A → B} {xs : List B} (g : Mut F (A × Unit {0}) R) (w : R → B) {f : F} {s : _} → YieldsList steps v (map_source s) xs → map_callee s ≡ f
+    → ((x : A) (r : R) (q : F) → Called g f (x, tt) r q → (q ≡ f) × (w r ≡ v x)) → AlwaysYields (map_steps steps g) w s xs
+lent_further {steps = steps} {xs = xs} g w {s = s} items callee step = subst (AlwaysYields (map_steps steps g) w s) (map-id xs) (YieldsList-from_map_by g w (λ b. b) items callee step).runs

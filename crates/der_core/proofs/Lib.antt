@@ -7,8 +7,10 @@ pub mod FirstTags
 pub mod TagOrders
 pub mod RowOrders
 pub mod LeafOrders
-pub mod ListOrders
 pub mod IterOrders
 pub mod ChoiceOrders
 pub mod AnyOrders
 pub mod DefaultOrders
+pub mod Rows
+mod Past
+pub mod ValueEquality

@@ -1,6 +1,5 @@
 -- The order of the encodings of a shape, by its parts.
-use Rattle.std.proofs.Common.{◌≡◌, ℕ, Bool, true, false, List, [], ◌∷◌, ◌++◌, length, Option, Some, None, refl, sym, ap, subst, ◌∙◌, append_assoc, inl, inr, ◌⊎◌}
-use mathlib.Core.Bool.{◌&&◌}
+use Rattle.std.proofs.Common.{◌≡◌, ℕ, Bool, true, false, List, [], ◌∷◌, ◌++◌, length, Option, Some, None, refl, sym, ap, subst, ◌∙◌, append_assoc, arith, inl, inr}
 use Rattle.std.specs.Prelude.{◌≢◌}
 use Rattle.std.specs.List.{flat_map, AllByRecursion}
 use Rattle.std.specs.Str.{bytes_eq}
@@ -8,6 +7,7 @@ use Rattle.std.specs.Ordering.{nat_cmp, ordering_then}
 use Rattle.std.specs.declared.cmp.Ordering.TheVariants.{Less, Equal}
 use Rattle.std.specs.Cmp.Lexicographic.{slice_cmp}
 use Rattle.std.proofs.lemmas.Bool.{and_parts, or_cases, false≢true}
+use Rattle.std.proofs.lemmas.Bool.Decides.{nat_tests}
 use Rattle.der_core_head.specs.declared.tag.Tag.{Tag}
 use Rattle.der_core_head.specs.Tags.{IsTag, tag_octets}
 use Rattle.der_core_head.specs.Heads.{Fits, tlv}
@@ -47,29 +47,25 @@ element_whole : (s : Shape) (v : Value s) → is_element s ≡ true → IsValid 
 unfolding octets_of IsValid
 element_whole (tagged t c) v e h = tlv_whole t (contents c v) h.1 h.2
 element_whole any v e h = tlv_whole v.tag v.contents h.1 h.2
-element_whole (either a b) (inl v) e h = element_whole a v (and_parts (is_element a) (is_element b) e).0 h
-element_whole (either a b) (inr v) e h = element_whole b v (and_parts (is_element a) (is_element b) e).1 h
-element_whole (optional s) v e h = absurd (false≢true e)
-element_whole (defaulted s d) v e h = absurd (false≢true e)
-element_whole nothing v e h = absurd (false≢true e)
+element_whole (either a b) (inl v) e h = element_whole a v (grind (arith, nat_tests)) h
+element_whole (either a b) (inr v) e h = element_whole b v (grind (arith, nat_tests)) h
+element_whole s v e h = absurd (false≢true e)
 
 pub element_splits : (s : Shape) (v w : Value s) → is_element s ≡ true → IsValid s v → IsValid s w → Splits (octets_of s v) (octets_of s w)
 element_splits s v w e p q = whole_splits (octets_of s v) (octets_of s w) (element_whole s v e p) (element_whole s w e q)
 
--- a field is a whole encoding, or absent
-field_whole : (s : Shape) (v : Value s) → is_apart s ≡ true → IsValid s v → (octets_of s v ≡ []) ⊎ IsWhole (octets_of s v)
+-- a field that stands is a whole encoding
+field_whole : (s : Shape) (v : Value s) → is_apart s ≡ true → IsValid s v → octets_of s v ≢ [] → IsWhole (octets_of s v)
 unfolding octets_of IsValid unless
-field_whole (tagged t c) v a h = inr (element_whole (tagged t c) v refl h)
-field_whole any v a h = inr (element_whole any v refl h)
-field_whole (either x y) v a h = inr (element_whole (either x y) v (and_parts (is_element x && is_element y) _ a).0 h)
-field_whole (optional s) None a h = inl refl
-field_whole (optional s) (Some v) a h = inr (element_whole s v (and_parts (is_element s) (is_apart s) a).0 h)
-field_whole nothing v a h = inl refl
-field_whole (defaulted s d) v a h = go (bytes_eq (octets_of s v) d)
+field_whole (optional s) None a h some = absurd (some refl)
+field_whole (optional s) (Some v) a h some = element_whole s v (grind (arith, nat_tests)) h
+field_whole nothing v a h some = absurd (some refl)
+field_whole (defaulted s d) v a h some = go (bytes_eq (octets_of s v) d) some
   where
-    go : (b : Bool) → (unless b (octets_of s v) ≡ []) ⊎ IsWhole (unless b (octets_of s v))
-    go true = inl refl
-    go false = inr (element_whole s v (and_parts (is_element s) (is_apart s) (and_parts (is_element s && is_apart s) _ a).0).0 h)
+    go : (b : Bool) → unless b (octets_of s v) ≢ [] → IsWhole (unless b (octets_of s v))
+    go true k = absurd (k refl)
+    go false k = element_whole s v (grind (arith, nat_tests)) h
+field_whole s v a h some = element_whole s v (grind (arith, nat_tests)) h
 
 -- what begins with a tag is not nothing
 pub not_nothing : (first : Tag → Bool) (t : Tag) (b : List ℕ) → StartsWith first (Some t) b → b ≢ []
@@ -81,16 +77,7 @@ not_nothing first t b h e =
 pub present_splits : (s : Shape) (v w : Value s) (t u : Tag) → is_apart s ≡ true → IsValid s v → IsValid s w
     → StartsWith (begins s) (Some t) (octets_of s v) → StartsWith (begins s) (Some u) (octets_of s w) → Splits (octets_of s v) (octets_of s w)
 present_splits s v w t u a p q i j =
-    elim (field_whole s v a p) [
-      | inl e ↦ absurd (not_nothing (begins s) t (octets_of s v) i e)
-      | inr f ↦ elim (field_whole s w a q) [
-        | inl e ↦ absurd (not_nothing (begins s) u (octets_of s w) j e)
-        | inr g ↦ whole_splits (octets_of s v) (octets_of s w) f g
-      ]
-    ]
-
-pub absent_splits : (a b : List ℕ) → a ≡ [] → b ≡ [] → Splits a b
-absent_splits a b e f = rw (e, f) tt
+    whole_splits (octets_of s v) (octets_of s w) (field_whole s v a p (not_nothing (begins s) t (octets_of s v) i)) (field_whole s w a q (not_nothing (begins s) u (octets_of s w) j))
 
 -- Fields in a row
 

@@ -1,8 +1,9 @@
 -- A length is refused only where it passes what a length can count.
-use Rattle.std.proofs.Common.{◌≡◌, ℕ, zero, suc, Bool, true, false, cond, List, [], ◌∷◌, length, Some, None, Result, Ok, Err, refl, inl, inr}
-use Rattle.std.specs.Prelude.{nat_lt, ◌+◌, slice_get}
+use Rattle.std.proofs.Common.{◌≡◌, ℕ, zero, suc, Bool, List, [], ◌∷◌, length, Some, None, Result, Ok, Err, refl, arith, inl, inr}
+use Rattle.std.specs.Prelude.{slice_get}
 use Rattle.std.specs.Str.{bytes_eq}
-use Rattle.der_core_head.specs.Limits.{length_max}
+use Rattle.std.proofs.lemmas.Bool.Decides.{nat_tests}
+use Rattle.der_core_head.specs.declared.error.Error.{Error}
 use Rattle.der_core_head.specs.declared.error.ErrorKind.{ErrorKind}
 use Rattle.der_core_head.specs.declared.error.ErrorKind.TheVariants as kinds
 use Rattle.der_core_head.specs.declared.tag.Tag.{Tag}
@@ -10,6 +11,7 @@ use Rattle.der_core_head.specs.Octets.{◌>>=◌}
 use Rattle.der_core_head.specs.Leaves.{leaf_contents}
 use Rattle.der_core_head.specs.Shapes.{Shape, Content, Body, tagged, any, either, optional, defaulted, nothing, leaf, nested, done, field, only, many, exactly, few, in_order, Value, ContentValue, BodyValue, octets_of}
 use Rattle.der_core_head.specs.Writing.{head_len, sum_len, fit_len, tlv_len, both_len, many_len, default_len, size, size_content, size_body}
+use Rattle.der_core.specs.Orders.{Overflows}
 
 abbrev pub OnlyOverflows : Result ℕ ErrorKind → Type 0
 OnlyOverflows r = (k : ErrorKind) → r ≡ Err k → k ≡ kinds.Overflow
@@ -22,11 +24,7 @@ bind_only (Ok n) f p q = q n
 bind_only (Err e) f p q = p
 
 pub sum_only : (m n : ℕ) → OnlyOverflows (sum_len m n)
-sum_only m n = go (nat_lt length_max (m + n))
-  where
-    go : (b : Bool) → OnlyOverflows (cond b (Err kinds.Overflow) (Ok (m + n)))
-    go true k e = cc
-    go false k e = absurd cc
+sum_only m n k e = grind (arith, nat_tests)
 
 tlv_only : (t : Tag) (n : Result ℕ ErrorKind) → OnlyOverflows n → OnlyOverflows (tlv_len t n)
 unfolding tlv_len head_len
@@ -37,13 +35,12 @@ unfolding both_len
 both_only m n p q = bind_only m _ p (λ m. bind_only n _ q (λ n. sum_only m n))
 
 many_only : {P : Type 0} (f : P → Result ℕ ErrorKind) → ((x : P) → OnlyOverflows (f x)) → (xs : List P) (n : ℕ) → OnlyOverflows (many_len f xs n)
-many_only f each [] n = ok_only n
-many_only f each (x ∷ xs) n = bind_only (f x) (λ m. sum_len n m >>= many_len f xs) (each x) (λ m. bind_only (sum_len n m) (many_len f xs) (sum_only n m) (many_only f each xs))
+many_only f each [] n k e = absurd cc
+many_only f each (x ∷ xs) n k e = grind (arith, nat_tests, each x, many_only f each xs)
 
 default_only : (b : Bool) (n : Result ℕ ErrorKind) → OnlyOverflows n → OnlyOverflows (default_len b n)
 unfolding default_len
-default_only true n p = ok_only 0
-default_only false n p = p
+default_only b n p k e = grind (arith, nat_tests, p k)
 
 mutual
   pub size_only : (s : Shape) (v : Value s) → OnlyOverflows (size s v)
@@ -81,8 +78,7 @@ first_over m n e = rw e refl
 
 pub second_over : (m n : Result ℕ ErrorKind) → OnlyOverflows m → n ≡ Err kinds.Overflow → both_len m n ≡ Err kinds.Overflow
 unfolding both_len
-second_over (Ok m) n p e = rw e refl
-second_over (Err k) n p e = rw (p k refl) refl
+second_over m n p e = grind (arith, nat_tests, p)
 
 pub over_or : (r : Result ℕ ErrorKind) (f : ℕ → Result ℕ ErrorKind) → OnlyOverflows r → ((n : ℕ) → f n ≡ Err kinds.Overflow) → (r >>= f) ≡ Err kinds.Overflow
 over_or (Ok n) f p q = q n
@@ -95,3 +91,6 @@ many_over f each (y ∷ xs) n zero x g e =
     rw (same, e) refl
 many_over f each (y ∷ xs) n (suc i) x g e =
     over_or (f y) (λ m. sum_len n m >>= many_len f xs) (each y) (λ m. over_or (sum_len n m) (many_len f xs) (sum_only n m) (λ k. many_over f each xs k i x g e))
+
+pub longer : (e : Error) {m n p q : Result ℕ ErrorKind} → (m ≡ Err kinds.Overflow → p ≡ Err kinds.Overflow) → (n ≡ Err kinds.Overflow → q ≡ Err kinds.Overflow) → Overflows e m n → Overflows e p q
+longer e f g h = record { kind = h.kind; length = elim h.length [ inl o ↦ inl (f o) | inr o ↦ inr (g o) ] }

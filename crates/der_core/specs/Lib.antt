@@ -1,2 +1,4 @@
+pub mod Equality
 pub mod Orders
 pub mod OrdLaws
+pub mod Placed

@@ -1,6 +1,7 @@
 -- The order of a type's values is that of their contents of equal length.
-use Rattle.std.specs.Prelude.{◌≡◌, ℕ, List, length, Bool, true, false}
-use Rattle.std.proofs.Common.{refl, sym, ap, ◌∙◌}
+use Rattle.std.specs.Prelude.{◌≡◌, ℕ, List, length, Bool}
+use Rattle.std.proofs.Common.{refl, sym, ap, ◌∙◌, arith}
+use Rattle.std.proofs.lemmas.Bool.Decides.{nat_tests}
 use Rattle.std.specs.Ordering.{nat_cmp, bool_cmp, ordering_then}
 use Rattle.std.specs.Cmp.{nat_cmp_total, tied_itself}
 use Rattle.std.specs.declared.cmp.Ordering.TheVariants.{Equal}
@@ -22,10 +23,7 @@ pub bool_order : (v w : Bool) → IsContent (leaf boolean) v → IsContent (leaf
     → length (contents (leaf boolean) v) ≡ length (contents (leaf boolean) w) → bool_cmp v w
     ≡ contents_cmp (leaf boolean) v w
 unfolding contents
-bool_order true true p q e = refl
-bool_order true false p q e = refl
-bool_order false true p q e = refl
-bool_order false false p q e = refl
+bool_order v w p q e = grind (arith, nat_tests)
 
 pub null_order : (v w : Unit {0}) → IsContent (leaf null) v → IsContent (leaf null) w
     → length (contents (leaf null) v) ≡ length (contents (leaf null) w)

@@ -9,12 +9,12 @@ ghost use Rattle.der_core.specs.Orders.{encodings_cmp, bodies_cmp, next_cmp, Ove
 
 use crate::headers::tag_cmp;
 use crate::order::{DerOrd, FirstTag};
-use der_core_coding::values::Fields;
+use der_core_coding::values::FieldRow;
 use der_core_head::{Error, Tag};
 use std::cmp::Ordering;
 
 /// Fields that are compared one after the other.
-pub trait FieldsOrd: Fields {
+pub trait FieldsOrd: FieldRow {
     /// The order of the joined encodings of two rows of fields, as lists of octets.
     ///
     /// # Errors

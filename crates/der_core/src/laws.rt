@@ -12,6 +12,7 @@ ghost use Rattle.der_core_head.specs.Grammar.{read};
 ghost use Rattle.der_core_head.specs.Shapes.{Shape, Value, IsValid, octets_of};
 ghost use Rattle.der_core_head.specs.Spelling.{is_apart, is_element, are_enough};
 ghost use Rattle.der_core_head.specs.Writing.{Out, write};
+ghost use Rattle.der_core.specs.Equality.{IsOfValues};
 ghost use Rattle.der_core.specs.Orders.{octets_cmp, encodings_cmp};
 
 pub use der_core_coding::octets::headers::laws::scanned_in_one_way;
@@ -69,4 +70,12 @@ pub fn first_encoding_decides()
 pub fn equal_values_alone()
     ensures { (s : Shape) (v w : Value s) → is_element s ≡ true → is_apart s ≡ true
         → IsValid s v → IsValid s w → (encodings_cmp s v w ≡ Equal) ↔ (v ≡ w) }
+{}
+
+/// Where `==` of a type is of plain values, two values that have encodings are equal by it exactly
+/// where their plain values are one.
+pub fn equality_of_values<T: Element + Member + PartialEq>()
+    ensures { IsOfValues T.eq T.plain (octets_of T.shape)
+        → (x y : T) → IsValid T.shape (T.plain x) → IsValid T.shape (T.plain y)
+        → (T.eq x y ≡ true) ↔ (T.plain x ≡ T.plain y) }
 {}

@@ -4,10 +4,11 @@ ghost use Rattle.std.specs.Prelude.{◌≡◌};
 ghost use Rattle.der_core_head.specs.Integers.{integer_octets};
 ghost use Rattle.der_core.specs.Orders.{octets_cmp};
 
-use crate::order::ValueOrd;
+use crate::order::{OrderWay, Ordered, ValueOrd};
 use const_oid::ObjectIdentifier;
 use der_core_coding::octets::{BytesOwned, BytesRef, StringOwned, StringRef, integer_octets_of};
 use der_core_coding::values::Integer;
+use der_core_coding::values::describing::{AsInteger, AsOctets, Octets};
 use der_core_head::Error;
 use std::cmp::Ordering;
 
@@ -40,128 +41,51 @@ fn integer_cmp<T: Integer>(a: &T, b: &T) -> Ordering
     octets[start..].cmp(&other_octets[other_start..])
 }
 
-impl ValueOrd for u8 {
+impl<T: Integer> OrderWay<T> for AsInteger {
     #[tactic(auto, using(crate::proofs::LeafOrders::leaf_contents))]
-    fn value_cmp(&self, other: &Self) -> Result<Ordering, Error> {
-        Ok(integer_cmp(self, other))
+    fn cmp_by(value: &T, other: &T) -> Result<Ordering, Error> {
+        Ok(integer_cmp(value, other))
     }
 }
 
-impl ValueOrd for u16 {
+/// The octets themselves.
+impl<T: Octets> OrderWay<T> for AsOctets {
     #[tactic(auto, using(crate::proofs::LeafOrders::leaf_contents))]
-    fn value_cmp(&self, other: &Self) -> Result<Ordering, Error> {
-        Ok(integer_cmp(self, other))
+    fn cmp_by(value: &T, other: &T) -> Result<Ordering, Error> {
+        Ok(value.content().cmp(other.content()))
     }
 }
 
-impl ValueOrd for u32 {
-    #[tactic(auto, using(crate::proofs::LeafOrders::leaf_contents))]
-    fn value_cmp(&self, other: &Self) -> Result<Ordering, Error> {
-        Ok(integer_cmp(self, other))
-    }
-}
+impl Ordered for u8 {}
 
-impl ValueOrd for u64 {
-    #[tactic(auto, using(crate::proofs::LeafOrders::leaf_contents))]
-    fn value_cmp(&self, other: &Self) -> Result<Ordering, Error> {
-        Ok(integer_cmp(self, other))
-    }
-}
+impl Ordered for u16 {}
 
-impl ValueOrd for u128 {
-    #[tactic(auto, using(crate::proofs::LeafOrders::leaf_contents))]
-    fn value_cmp(&self, other: &Self) -> Result<Ordering, Error> {
-        Ok(integer_cmp(self, other))
-    }
-}
+impl Ordered for u32 {}
 
-impl ValueOrd for i8 {
-    #[tactic(auto, using(crate::proofs::LeafOrders::leaf_contents))]
-    fn value_cmp(&self, other: &Self) -> Result<Ordering, Error> {
-        Ok(integer_cmp(self, other))
-    }
-}
+impl Ordered for u64 {}
 
-impl ValueOrd for i16 {
-    #[tactic(auto, using(crate::proofs::LeafOrders::leaf_contents))]
-    fn value_cmp(&self, other: &Self) -> Result<Ordering, Error> {
-        Ok(integer_cmp(self, other))
-    }
-}
+impl Ordered for u128 {}
 
-impl ValueOrd for i32 {
-    #[tactic(auto, using(crate::proofs::LeafOrders::leaf_contents))]
-    fn value_cmp(&self, other: &Self) -> Result<Ordering, Error> {
-        Ok(integer_cmp(self, other))
-    }
-}
+impl Ordered for i8 {}
 
-impl ValueOrd for i64 {
-    #[tactic(auto, using(crate::proofs::LeafOrders::leaf_contents))]
-    fn value_cmp(&self, other: &Self) -> Result<Ordering, Error> {
-        Ok(integer_cmp(self, other))
-    }
-}
+impl Ordered for i16 {}
 
-impl ValueOrd for i128 {
-    #[tactic(auto, using(crate::proofs::LeafOrders::leaf_contents))]
-    fn value_cmp(&self, other: &Self) -> Result<Ordering, Error> {
-        Ok(integer_cmp(self, other))
-    }
-}
+impl Ordered for i32 {}
 
-/// The octets of the arcs (X.690 8.19).
-impl<const MAX_SIZE: usize> ValueOrd for ObjectIdentifier<MAX_SIZE> {
-    #[tactic(auto, using(crate::proofs::LeafOrders::leaf_contents))]
-    fn value_cmp(&self, other: &Self) -> Result<Ordering, Error> {
-        Ok(self.as_bytes().cmp(other.as_bytes()))
-    }
-}
+impl Ordered for i64 {}
 
-/// The octets of the text (X.690 8.23.5).
-impl<'a> ValueOrd for &'a str {
-    #[tactic(auto, using(crate::proofs::LeafOrders::leaf_contents))]
-    fn value_cmp(&self, other: &Self) -> Result<Ordering, Error> {
-        Ok(self.as_bytes().cmp(other.as_bytes()))
-    }
-}
+impl Ordered for i128 {}
 
-/// The octets of the text (X.690 8.23.5).
-impl ValueOrd for String {
-    #[tactic(auto, using(crate::proofs::LeafOrders::leaf_contents))]
-    fn value_cmp(&self, other: &Self) -> Result<Ordering, Error> {
-        Ok(self.as_bytes().cmp(other.as_bytes()))
-    }
-}
+impl<const MAX_SIZE: usize> Ordered for ObjectIdentifier<MAX_SIZE> {}
 
-/// The octets themselves (X.690 8.7).
-impl<'a> ValueOrd for BytesRef<'a> {
-    #[tactic(auto, using(crate::proofs::LeafOrders::leaf_contents))]
-    fn value_cmp(&self, other: &Self) -> Result<Ordering, Error> {
-        Ok(self.as_slice().cmp(other.as_slice()))
-    }
-}
+impl<'a> Ordered for &'a str {}
 
-/// The octets themselves (X.690 8.7).
-impl ValueOrd for BytesOwned {
-    #[tactic(auto, using(crate::proofs::LeafOrders::leaf_contents))]
-    fn value_cmp(&self, other: &Self) -> Result<Ordering, Error> {
-        Ok(self.as_slice().cmp(other.as_slice()))
-    }
-}
+impl Ordered for String {}
 
-/// The octets of the text (X.690 8.23.5).
-impl<'a> ValueOrd for StringRef<'a> {
-    #[tactic(auto, using(crate::proofs::LeafOrders::leaf_contents))]
-    fn value_cmp(&self, other: &Self) -> Result<Ordering, Error> {
-        Ok(self.as_bytes().cmp(other.as_bytes()))
-    }
-}
+impl<'a> Ordered for BytesRef<'a> {}
 
-/// The octets of the text (X.690 8.23.5).
-impl ValueOrd for StringOwned {
-    #[tactic(auto, using(crate::proofs::LeafOrders::leaf_contents))]
-    fn value_cmp(&self, other: &Self) -> Result<Ordering, Error> {
-        Ok(self.as_bytes().cmp(other.as_bytes()))
-    }
-}
+impl Ordered for BytesOwned {}
+
+impl<'a> Ordered for StringRef<'a> {}
+
+impl Ordered for StringOwned {}

@@ -6,6 +6,8 @@ mod arrays;
 mod by_ord;
 mod choices;
 mod contents;
+mod copies;
+pub mod describing;
 mod fields;
 mod headers;
 mod iterators;
@@ -14,7 +16,8 @@ mod leaves;
 mod lists;
 pub mod making;
 mod order;
-mod owned_iterators;
+mod placing;
+mod records;
 mod strict_set_of;
 mod wrappers;
 
@@ -44,7 +47,6 @@ pub use der_core_head::{
 };
 pub use fields::FieldsOrd;
 pub use headers::{header_cmp, length_cmp, tag_cmp};
-pub use iterators::iter_cmp;
+pub use iterators::{iter_cmp, iter_cmp_owned};
 pub use order::{DerOrd, FirstTag, ValueOrd};
-pub use owned_iterators::iter_cmp_owned;
 pub use strict_set_of::StrictSetOf;

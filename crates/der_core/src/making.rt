@@ -2,7 +2,9 @@
 //! behind tags, and orders of contents, for types that the traits alone don't serve.
 
 pub use crate::contents::{value_cmp_behind, value_cmp_by_contents};
+pub use crate::copies::{copies_of, copies_of_option, copy_of_option};
 pub use crate::lists::elements_cmp;
+pub use crate::placing::{place_of, stands_among};
 pub use der_core_coding::octets::{
     encode_header, integer_octets_of, signed_of, slice_len, sum_len, unsigned_of,
 };

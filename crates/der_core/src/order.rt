@@ -7,6 +7,7 @@ ghost use Rattle.der_core_head.specs.Writing.{size, size_content};
 ghost use Rattle.der_core.specs.Orders.{encodings_cmp, contents_cmp, Overflows, StartsWith};
 
 use crate::headers::length_cmp;
+use der_core_coding::values::describing::{Described, Way};
 use der_core_coding::values::{EncodeValue, FixedTag, Shaped, ShapedValue};
 use der_core_head::{Error, Tag};
 use std::cmp::Ordering;
@@ -29,6 +30,37 @@ pub trait ValueOrd: ShapedValue {
         ensures refused { IfErr result
             (λ e. Overflows e (size_content Self.content (Self.value_written self.now))
             (size_content Self.content (Self.value_written other.now))) };
+}
+
+/// How contents are compared, as lists of octets (X.690 11.6).
+pub trait OrderWay<T>: Way<T> {
+    /// What `ValueOrd::value_cmp` answers.
+    ///
+    /// # Errors
+    /// Those of `ValueOrd::value_cmp`.
+    fn cmp_by(value: &T, other: &T) -> Result<Ordering, Error>
+        ensures order { is_content_apart Self.content_by ≡ true
+            → IsContent Self.content_by (Self.written_by value.now)
+            → IsContent Self.content_by (Self.written_by other.now)
+            → result
+            ≡ Ok
+            (contents_cmp Self.content_by (Self.written_by value.now)
+            (Self.written_by other.now)) }
+        ensures refused { IfErr result
+            (λ e. Overflows e (size_content Self.content_by (Self.written_by value.now))
+            (size_content Self.content_by (Self.written_by other.now))) };
+}
+
+/// A type whose contents are compared by the way in which it is coded, so that it has `ValueOrd`.
+pub trait Ordered: Described {}
+
+impl<T: Ordered> ValueOrd for T
+where
+    T::By: OrderWay<T>,
+{
+    fn value_cmp(&self, other: &Self) -> Result<Ordering, Error> {
+        <T::By as OrderWay<T>>::cmp_by(self, other)
+    }
 }
 
 /// A type whose values are compared by their whole encodings (X.690 11.6).

@@ -1,16 +1,19 @@
 //! SET OF, whose members rise (X.690 8.12, 11.6).
 
-ghost use Rattle.std.specs.Prelude.{◌≡◌, ◌==◌, None, IfSome, length, slice_get};
+ghost use Rattle.std.specs.Prelude.{◌≡◌, ◌==◌, None, IfSome, IfErr, OnOk, OnErr, false, length};
+ghost use Rattle.std.specs.Prelude.{slice_get};
 ghost use Rattle.std.specs.List.{AllByRecursion};
 ghost use Rattle.std.specs.Option.{option_copied};
 ghost use Rattle.std.specs.Slice.Iter.{iter_rest};
 ghost use Rattle.der_core_head.specs.declared.tag.Tag.TheVariants.{Set};
-ghost use Rattle.der_core_head.specs.Shapes.{above, nested, rising, octets_of, IsValid};
+ghost use Rattle.der_core_head.specs.Shapes.{above, nested, rising, octets_of, AllRising, IsValid};
 ghost use Rattle.der_core_head.specs.Grammar.{plain_list, plain_option, follows_last};
 ghost use Rattle.der_core_head.specs.Reading.{GivesNow};
 ghost use Rattle.der_core_head.specs.Writing.{all_follow};
+ghost use Rattle.der_core.specs.Placed.{AllValid, IsNotPlaced, placed, stands_among};
 
 use crate::order::DerOrd;
+use crate::placing::{place_of, stands_among};
 use der_core_coding::octets::headers::Header;
 use der_core_coding::octets::{Reader, Writer};
 use der_core_coding::read_rising;
@@ -102,6 +105,41 @@ impl<T> StrictSetOf<T> {
         ensures { result ≡ length self.now.values.items }
     {
         self.values.len()
+    }
+}
+
+impl<T: DerOrd + Member + Drop> StrictSetOf<T> {
+    /// Places a member in front of the first whose encoding is above its own.
+    ///
+    /// # Errors
+    /// `SetDuplicate` where its encoding stands there, `Overflow` where an encoding has 2^32 octets
+    /// or more, or `OutOfMemory`. The set stays then.
+    pub fn insert(&mut self, item: T) -> Result<(), Error>
+        // Where all have an encoding.
+        ensures placed { AllValid T.shape T.written self.old.values.items
+            → IsValid T.shape (T.written item)
+            → OnOk result (plain_list T.written self.new.values.items
+            ≡ placed T.shape (T.written item) (plain_list T.written self.old.values.items)) }
+        ensures once { AllValid T.shape T.written self.old.values.items
+            → IsValid T.shape (T.written item)
+            → OnOk result (stands_among T.shape (T.written item)
+            (plain_list T.written self.old.values.items) ≡ false) }
+        // So a set that rises still does.
+        ensures rises { AllValid T.shape T.written self.old.values.items
+            → IsValid T.shape (T.written item)
+            → AllRising (octets_of T.shape) (plain_list T.written self.old.values.items)
+            → OnOk result (AllRising (octets_of T.shape)
+            (plain_list T.written self.new.values.items)) }
+        ensures kept { OnErr result (self.new.values.items ≡ self.old.values.items) }
+        ensures refused { IfErr result
+            (IsNotPlaced T.shape T.written item self.old.values.items) }
+    {
+        if stands_among(self.values.as_slice(), &item)? {
+            return Err(Error::from(ErrorKind::SetDuplicate));
+        }
+        let place = place_of(self.values.as_slice(), &item)?;
+        self.values.insert(place, item)?;
+        Ok(())
     }
 }
 

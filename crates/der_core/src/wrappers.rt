@@ -1,11 +1,20 @@
 //! Comparison of boxed values, of tags around a value, and of defaults.
 
-use crate::order::{DerOrd, FirstTag, ValueOrd};
+use crate::order::{DerOrd, FirstTag, OrderWay, ValueOrd};
+use der_core_coding::values::describing::{AsField, Wraps};
+use der_core_coding::values::{ApartValue, EncodeValue};
 use der_core_coding::{
     DefaultValue, EncodeRef, EncodeValueRef, Explicit, Implicit, ImplicitRef, WithDefault,
 };
 use der_core_head::{Error, Tag};
 use std::cmp::Ordering;
+
+/// The content of the field.
+impl<F: EncodeValue + ApartValue + ValueOrd, T: Wraps<F>> OrderWay<T> for AsField<F> {
+    fn cmp_by(value: &T, other: &T) -> Result<Ordering, Error> {
+        value.inner().value_cmp(other.inner())
+    }
+}
 
 impl<T: ValueOrd> ValueOrd for Box<T> {
     fn value_cmp(&self, other: &Self) -> Result<Ordering, Error> {

@@ -2,7 +2,7 @@
 use Rattle.std.proofs.Common.{◌≡◌, ℕ, zero, suc, Bool, true, false, not, nat_eq, ◌<◌, ◌≤◌, List, [], ◌∷◌, ◌++◌, Ok, bytes_eq, nat_lt, length, drop, refl, sym, ap, ◌∙◌, subst, arith, inl, inr, length-append}
 use Rattle.std.specs.Prelude.{ℤ, pos}
 use Rattle.std.proofs.lemmas.Bool.{cases_lt, ltb-true}
-use Rattle.std.proofs.lemmas.Bool.Decides.{same_from_decides, Decides-eqb, Decides-like}
+use Rattle.std.proofs.lemmas.Bool.Decides.{same_from_decides, Decides-eqb, Decides-like, nat_tests}
 use Rattle.std.proofs.lemmas.List.{append_assoc, append_cancel_left, append-nil}
 use Rattle.std.proofs.lemmas.Slice.Eq.{bytes_eq-Decides}
 use Rattle.der_core_head.proofs.Bytes.{IsBytes}
@@ -24,22 +24,7 @@ use Rattle.der_core_coding.specs.Defaults.{short_tlv}
 -- Lengths
 
 tag_few : (t : Tag) → IsTag t → length (tag_octets t) ≤ 6
-tag_few t h = elim (cases_lt (number_of t) 31) [
-  | inl a ↦ omega (arith, ap length (tag-0 t a))
-  | inr a ↦ elim (cases_lt (number_of t) 128) [
-    | inl b ↦ omega (arith, ap length (tag-1 t a b))
-    | inr b ↦ elim (cases_lt (number_of t) 16384) [
-      | inl c ↦ omega (arith, ap length (tag-2 t b c))
-      | inr c ↦ elim (cases_lt (number_of t) 2097152) [
-        | inl d ↦ omega (arith, ap length (tag-3 t c d))
-        | inr d ↦ elim (cases_lt (number_of t) 268435456) [
-          | inl e ↦ omega (arith, ap length (tag-4 t d e))
-          | inr e ↦ omega (arith, ap length (tag-5 t e h))
-        ]
-      ]
-    ]
-  ]
-]
+tag_few t h = grind (arith, nat_tests, tag-0 t, tag-1 t, tag-2 t, tag-3 t, tag-4 t, tag-5 t)
 
 tlv_short : (t : Tag) (c : List ℕ) → length c < 128 → tlv t c ≡ short_tlv t c
 unfolding tlv head_octets tag_octets
@@ -53,10 +38,7 @@ short_few t c h few =
 -- No other content has those octets.
 
 length_some : (n : ℕ) → 0 < length (length_octets n)
-length_some n = elim (cases_lt n 128) [
-  | inl h ↦ omega (arith, ap length (length-short n h))
-  | inr h ↦ omega (arith, ap length (length-long n _ h refl))
-]
+length_some n = grind (arith, nat_tests, length-short n, (λ (h : 128 ≤ n). length-long n _ h refl))
 
 counted_short : (c d : List ℕ) → length d < 128 → length_octets (length c) ++ c ≡ length d ∷ d → c ≡ d
 counted_short c d h e = elim (cases_lt (length c) 128) [
@@ -69,15 +51,13 @@ unfolding tlv head_octets tag_octets
 tlv_alone t c d h e =
     counted_short c d h (append_cancel_left (tag_octets t) _ _ (sym (append_assoc (tag_octets t) (length_octets (length c)) c) ∙ e))
 
-tlv_same : (t : Tag) (c d : List ℕ) → length d < 128 → bytes_eq c d ≡ bytes_eq (tlv t c) (short_tlv t d)
-tlv_same t c d h =
-    same_from_decides (bytes_eq c d) (bytes_eq (tlv t c) (short_tlv t d)) (bytes_eq-Decides c d)
-    (Decides-like (bytes_eq (tlv t c) (short_tlv t d)) (λ e. tlv_alone t c d h e) (λ e. subst (λ w. tlv t w ≡ short_tlv t d) (sym e) (tlv_short t d h)) (bytes_eq-Decides (tlv t c) (short_tlv t d)))
-
 same : (t : Tag) (c : Content) (v : ContentValue c) (d : List ℕ) → length d < 128
     → bytes_eq (contents c v) d ≡ bytes_eq (octets_of (tagged t c) v) (short_tlv t d)
 unfolding octets_of
-same t c v d h = tlv_same t (contents c v) d h
+same t c v d h =
+    let w = contents c v in
+    same_from_decides (bytes_eq w d) (bytes_eq (tlv t w) (short_tlv t d)) (bytes_eq-Decides w d)
+    (Decides-like (bytes_eq (tlv t w) (short_tlv t d)) (λ e. tlv_alone t w d h e) (λ e. ap (tlv t) e ∙ tlv_short t d h) (bytes_eq-Decides (tlv t w) (short_tlv t d)))
 
 -- The value has an encoding, and is read.
 
@@ -92,9 +72,6 @@ wide t c v d tag h e is =
     let few : length (short_tlv t d) < 136 = omega (arith, h, tag_few t tag, length-append (number_octets (number_of t)) (length d ∷ d)) in
     let fits : length (tlv t (contents c v)) < 136 = subst (λ w. length (tlv t w) < 136) (sym e) (subst (λ w. length w < 136) (sym (tlv_short t d h)) few) in
     (is, tag, omega (arith, fits))
-
-valid : (t : Tag) (c : Content) (v : ContentValue c) (d : List ℕ) → IsTag t → length d < 100 → contents c v ≡ d → IsContent c v → IsValid (tagged t c) v
-valid t c v d tag h e is = wide t c v d tag (omega (arith, h)) e is
 
 is_read : (t : Tag) (c : Content) (v : ContentValue c) (d : List ℕ) → IsTag t → length d < 128 → contents c v ≡ d
     → is_content_apart c ≡ true → are_content_enough c 64 ≡ true → IsValid (tagged t c) v → read (tagged t c) 64 (short_tlv t d) ≡ Ok (v, [])
@@ -111,7 +88,7 @@ pub tagged_read : (t : Tag) (c : Content) (v : ContentValue c) (d : List ℕ) �
     → ((room : ℕ) → are_content_enough c room ≡ true) → contents c v ≡ d → IsContent c v → read (tagged t c) 64 (short_tlv t d) ≡ Ok (v, [])
 tagged_read t c v d tag few apart enough e is =
     let h = below d few in
-    is_read t c v d tag (omega (arith, h)) e apart (enough 64) (valid t c v d tag h e is)
+    is_read t c v d tag (omega (arith, h)) e apart (enough 64) (wide t c v d tag (omega (arith, h)) e is)
 
 pub tagged_same : (t : Tag) (c : Content) (v : ContentValue c) (d : List ℕ) (r : Bool) → nat_lt (length d) 100 ≡ true
     → r ≡ bytes_eq (contents c v) d → r ≡ bytes_eq (octets_of (tagged t c) v) (short_tlv t d)
@@ -119,7 +96,7 @@ tagged_same t c v d r few e = e ∙ same t c v d (omega (arith, below d few))
 
 pub tagged_valid : (t : Tag) (c : Content) (v : ContentValue c) (d : List ℕ) (r : Bool) → IsTag t → nat_lt (length d) 100 ≡ true
     → r ≡ bytes_eq (contents c v) d → (r ≡ true → IsContent c v) → r ≡ true → IsValid (tagged t c) v
-tagged_valid t c v d r tag few e is h = valid t c v d tag (below d few) ((bytes_eq-Decides (contents c v) d).0 (sym e ∙ h)) (is h)
+tagged_valid t c v d r tag few e is h = wide t c v d tag (omega (arith, below d few)) ((bytes_eq-Decides (contents c v) d).0 (sym e ∙ h)) (is h)
 
 -- And behind an explicit one before it
 
@@ -131,7 +108,7 @@ explicit_read n t c v d outer tag few apart enough e is =
     let h = below d few in
     let inner : octets_of (tagged t c) v ≡ short_tlv t d = spelled t c v d (omega (arith, h)) e in
     let i = short_few t d tag h in
-    let within : IsValid (tagged t c) v = valid t c v d tag h e is in
+    let within : IsValid (tagged t c) v = wide t c v d tag (omega (arith, h)) e is in
     is_read (context true n) (nested (only (tagged t c))) v (short_tlv t d) outer (omega (arith, i)) inner apart (enough 63)
     (wide (context true n) (nested (only (tagged t c))) v (short_tlv t d) outer (omega (arith, i)) inner within)
 
@@ -148,7 +125,7 @@ unfolding contents body_octets IsContent IsBody
 explicit_valid n t c v d r outer tag few e is h =
     let w : contents c v ≡ d = (bytes_eq-Decides (contents c v) d).0 (sym e ∙ h) in
     let b = below d few in
-    wide (context true n) (nested (only (tagged t c))) v (short_tlv t d) outer (omega (arith, short_few t d tag b)) (spelled t c v d (omega (arith, b)) w) (valid t c v d tag b w (is h))
+    wide (context true n) (nested (only (tagged t c))) v (short_tlv t d) outer (omega (arith, short_few t d tag b)) (spelled t c v d (omega (arith, b)) w) (wide t c v d tag (omega (arith, b)) w (is h))
 
 -- Whole numbers
 
@@ -180,8 +157,7 @@ positive_same r n =
 
 pub positive_zero : (r : Numbers) (z : ℤ) (negative : Bool) (n : ℕ) → z ≡ signed_number negative n → negative ≡ false
     → nat_eq n 0 ≡ bytes_eq (contents (leaf (integer r)) z) (0 ∷ [])
-positive_zero r z false n e h = subst (λ (y : ℤ). nat_eq n 0 ≡ bytes_eq (contents (leaf (integer r)) y) (0 ∷ [])) (sym e) (positive_same r n)
-positive_zero r z true n e h = absurd (cc h)
+positive_zero r z negative n e h = rw (e, h) (positive_same r n)
 
 pub negative_zero : (r : Numbers) (z : ℤ) (negative : Bool) (n : ℕ) → z ≡ signed_number negative n → negative ≡ true
     → not negative ≡ bytes_eq (contents (leaf (integer r)) z) (0 ∷ [])

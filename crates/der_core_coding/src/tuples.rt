@@ -7,10 +7,10 @@ ghost use Rattle.der_core_octets.specs.Outputs.{Continues};
 
 use der_core_head::{Error, Length};
 use der_core_octets::{Writer, sum_len};
-use der_core_values::{AsRead, Element, Encode, Fields, InRange, Member, Shaped};
+use der_core_values::{AsRead, Element, Encode, FieldRow, InRange, Member, Shaped};
 
 /// What is written as fields, one after the other.
-pub trait EncodeFields: Fields {
+pub trait EncodeFields: FieldRow {
     /// The number of octets of the fields.
     ///
     /// # Errors

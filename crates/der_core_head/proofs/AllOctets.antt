@@ -1,17 +1,16 @@
 -- All octets, as their spelling.
-use Rattle.std.proofs.Common.{◌≡◌, ℕ, true, ltb, List, [], length, Result, Ok, Err, refl, sym, ap, ◌∙◌, arith}
-use Rattle.std.proofs.lemmas.Bool.{le-ltb, ltb-false}
+use Rattle.std.proofs.Common.{◌≡◌, ℕ, true, List, [], length, Result, Ok, Err, refl, sym, ap, ◌∙◌, arith}
+use Rattle.std.proofs.lemmas.Bool.{le-ltb}
+use Rattle.std.proofs.lemmas.Bool.Decides.{nat_tests}
 use Rattle.std.proofs.lemmas.List.{append-nil}
 use Rattle.std.specs.Prelude.{IfOk}
 use Rattle.der_core_head.specs.declared.error.Error.{Error}
-use Rattle.der_core_head.specs.declared.error.ErrorKind.TheVariants as kinds
-use Rattle.der_core_head.specs.Octets.{◌>>=◌}
 use Rattle.der_core_head.specs.Heads.{Fits}
 use Rattle.der_core_head.specs.Shapes.{Shape, Value, Spells, octets_of}
-use Rattle.der_core_head.specs.Grammar.{whole, read, read_whole}
+use Rattle.der_core_head.specs.Grammar.{read, read_whole}
 use Rattle.der_core_head.specs.Reading.{Gives}
 use Rattle.der_core_head.specs.Spelling.{is_apart, are_enough}
-use Rattle.der_core_head.proofs.Results.{ok_is, bind_ok, unless_ok, whole_ok}
+use Rattle.der_core_head.proofs.Results.{ok_is}
 use Rattle.der_core_head.proofs.Bytes.{IsBytes}
 use Rattle.der_core_head.proofs.Fits.{valid_fits}
 use Rattle.der_core_head.proofs.Sound.{sound}
@@ -21,11 +20,8 @@ use Rattle.der_core_head.specs.Limits.{length_max}
 pub is_spelled : {T : Type 0} (s : Shape) (plain : T → Value s) (w : List ℕ) (r : Result T Error) → is_apart s ≡ true → IsBytes w → Gives (λ v. (plain v, [])) r (read_whole s w) → IfOk r (λ v. Spells s (plain v) w)
 unfolding read_whole
 is_spelled s plain w (Ok v) a bytes e =
-    let h = unless_ok (ltb length_max (length w)) kinds.Overflow (read s 64 w >>= whole) (plain v, []) e in
-    let x = bind_ok (read s 64 w) whole (plain v, []) h.1 in
-    let o = whole_ok x.0 (plain v, []) x.2 in
-    let fits : Fits w = omega (arith, ltb-false length_max (length w) h.0) in
-    let b = sound s 64 w (plain v) [] a bytes fits (x.1 ∙ ap (λ (q : Value s × List ℕ). Ok q) o.0) in
+    let fits : Fits w = grind (arith, nat_tests) in
+    let b = sound s 64 w (plain v) [] a bytes fits (grind (arith, nat_tests)) in
     record { valid = b.0; octets = b.1 ∙ append-nil (octets_of s (plain v)) }
 is_spelled s plain w (Err e) a bytes h = tt
 

@@ -1,8 +1,9 @@
 -- The contents of a BMPString are of one value, and are read as it.
-use Rattle.std.proofs.Common.{◌≡◌, ℕ, ◌+◌, ◌*◌, ◌/◌, ◌%◌, ◌<◌, true, List, [], ◌∷◌, Ok, Err, refl, ap, subst, sym, ◌∙◌, arith, ⊎_elim}
-use Rattle.std.specs.Prelude.{nat_lt, nat_le, ◌&&◌}
+use Rattle.std.proofs.lemmas.Bool.Decides.{nat_tests}
+use Rattle.std.proofs.Common.{◌≡◌, ℕ, ◌+◌, ◌*◌, ◌/◌, ◌%◌, ◌<◌, true, List, [], ◌∷◌, Ok, refl, ap, subst, sym, ◌∙◌, arith}
+use Rattle.std.specs.Prelude.{◌&&◌}
 use Rattle.std.specs.List.{list_all}
-use Rattle.std.proofs.lemmas.Bool.{and_parts, and_from, or_cases, ltb-true, cond-true}
+use Rattle.std.proofs.lemmas.Bool.{and_parts}
 use Rattle.der_core_head.specs.declared.error.ErrorKind.TheVariants as kinds
 use Rattle.der_core_head.specs.declared.tag.Tag.{Tag}
 use Rattle.der_core_head.specs.Octets.{IsOctets}
@@ -11,11 +12,7 @@ use Rattle.der_core_head.proofs.Results.{fine, ok_is, if_ok}
 use Rattle.der_core_head.proofs.Bytes.{IsBytes, octets_are}
 
 unit_below : (u : ℕ) → is_unit u ≡ true → u < 65536
-unit_below u e =
-    ⊎_elim
-    (λ h. let low = ltb-true u 0xD800 h in omega arith)
-    (λ h. ltb-true u 0x10000 (and_parts (nat_le 0xE000 u) (nat_lt u 0x10000) h).1)
-    (or_cases (nat_lt u 0xD800) (nat_le 0xE000 u && nat_lt u 0x10000) e)
+unit_below u e = grind (arith, nat_tests)
 
 -- pairs of octets are those of their characters
 pub bmp_octets-units : (w : List ℕ) → IsOctets w → are_pairs w ≡ true → bmp_octets (units w) ≡ w
@@ -57,7 +54,4 @@ bmp_sound t w us h e =
 
 pub bmp_again : (t : Tag) (us : List ℕ) → IsBmp us → bmp_read t (bmp_octets us) ≡ Ok us
 unfolding bmp_read
-bmp_again t us h =
-    let same = units-octets us in
-    let test = and_from (are_pairs (bmp_octets us)) (list_all is_unit (units (bmp_octets us))) (are_pairs-octets us) (subst IsBmp (sym same) h) in
-    cond-true (are_pairs (bmp_octets us) && list_all is_unit (units (bmp_octets us))) (fine (units (bmp_octets us))) (Err (kinds.Value t)) test ∙ ap (λ x. fine x) same
+bmp_again t us h = grind (arith, nat_tests, units-octets us, are_pairs-octets us)

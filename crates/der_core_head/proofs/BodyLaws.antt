@@ -1,29 +1,26 @@
 -- Headers under BER and bodies of indefinite length are read from their octets, and what is read has these octets (X.690 8.1.3.6, 8.1.5).
+use Rattle.std.proofs.lemmas.Bool.Decides.{nat_tests}
 use Rattle.std.proofs.Common.{◌≡◌, ℕ, zero, suc, ◌+◌, ◌-◌, ◌<◌, ◌≤◌, Bool, true, cond, ltb, eqb, List, [], ◌∷◌, ◌++◌, length, take, drop, length-append, Option, Some, None, Result, Ok, Err, sym, refl, ap, subst, ◌∙◌, append_assoc, arith, ◌⊎◌, inl, inr}
-use Rattle.std.proofs.lemmas.Bool.{le-ltb, ltb-false, ne_eqb, eqb-true, and_parts, cases_Bool}
+use Rattle.std.proofs.lemmas.Bool.{le-ltb, ltb-false, ne_eqb, eqb-true, and_parts, cases_eq}
 use Rattle.std.proofs.lemmas.List.{take-append-drop, append-nil, length-take, length-drop, drop_at, take_at}
 use Rattle.std.specs.Prelude.{◌&&◌}
 use Rattle.std.specs.List.{concat, AllByRecursion}
 use Rattle.der_core_head.specs.declared.error.ErrorKind.{ErrorKind}
 use Rattle.der_core_head.specs.declared.error.ErrorKind.TheVariants as kinds
 use Rattle.der_core_head.specs.declared.tag.Tag.{Tag}
-use Rattle.der_core_head.specs.declared.tag.Tag.TheVariants as tags
 use Rattle.der_core_head.specs.Octets.{◌>>=◌}
 use Rattle.der_core_head.specs.Tags.{tag_octets, universal_tag, tag_at}
 use Rattle.der_core_head.specs.Heads.{Head, Fits, length_octets, length_at, head_at}
 use Rattle.der_core_head.specs.Bodies.{SpellsTag, is_constructed_at, IsDefinite, IsIndefinite, IsIndefiniteBody, SpellsLength, SpellsHead, tag_ber_at, Mark, length_ber_at, mark_at, Piece, ending, opening, encoding, end_at, content_at, piece_at, levels_after, closed_at, body_len_at, len_at, head_ber_at}
 use Rattle.der_core_head.proofs.Results.{ok_is, bind_ok, if_ok, unless_ok, either_ok}
 use Rattle.der_core_head.proofs.Bytes.{IsBytes, bytes_rest}
+use Rattle.der_core_head.proofs.Below.{bytes_are}
 use Rattle.der_core_head.proofs.TagLaws.{tag_again, tag_sound}
 use Rattle.der_core_head.proofs.LengthForms.{length_at-none, length_at-indefinite}
 use Rattle.der_core_head.proofs.HeadLaws.{length_again, length_sound}
 use Rattle.der_core_head.specs.Limits.{IsLength, length_max}
 
 -- Tags
-
-tag_at-zero : (w : List ℕ) → tag_at (0 ∷ w) ≡ Err kinds.TagUnknown
-unfolding tag_at universal_tag
-tag_at-zero w = refl
 
 tag_at-in_parts : (w : List ℕ) → tag_at (0x24 ∷ w) ≡ Err kinds.TagUnknown
 unfolding tag_at universal_tag
@@ -33,10 +30,7 @@ tag_at-in_parts w = refl
 pub tag_ber_more : (w : List ℕ) (t : Tag) (r : List ℕ) → tag_at w ≡ Ok (t, r) → tag_ber_at w ≡ Ok (t, r)
 unfolding tag_at tag_ber_at
 tag_ber_more [] t r e = absurd cc
-tag_ber_more (b ∷ w) t r e = elim (cases_Bool (eqb b 0x24)) [
-  | inl h ↦ absurd (cc (ap (λ x. tag_at (x ∷ w)) (eqb-true b 0x24 h), tag_at-in_parts w, e))
-  | inr h ↦ rw h e
-]
+tag_ber_more (b ∷ w) t r e = grind (arith, nat_tests, tag_at-in_parts w)
 
 tag_ber_again : (t : Tag) (o r : List ℕ) → SpellsTag t o → tag_ber_at (o ++ r) ≡ Ok (t, r)
 unfolding tag_ber_at
@@ -47,15 +41,10 @@ tag_ber_sound : (w : List ℕ) (t : Tag) (r : List ℕ) → IsBytes w → tag_be
 unfolding tag_ber_at
 tag_ber_sound [] t r bytes e = absurd cc
 tag_ber_sound (b ∷ w) t r bytes e =
-    elim (either_ok (eqb b 0x24) (Ok (tags.OctetString, w)) (tag_at (b ∷ w)) (Ok (t, r)) e) [
-      | inl h ↦
-          let same = ok_is (tags.OctetString, w) (t, r) h.1 in
-          let tag : t ≡ tags.OctetString = ap (λ (q : Tag × List ℕ). q.0) (sym same) in
-          let first : b ≡ 0x24 = eqb-true b 0x24 h.0 in
-          let rest : w ≡ r = ap (λ (q : Tag × List ℕ). q.1) same in
-          (0x24 ∷ [], inr (tag, refl), (rw (first, rest) refl))
-      | inr h ↦
-          let s = tag_sound (b ∷ w) t r bytes h.1 in
+    elim (cases_eq b 0x24) [
+      | inl first ↦ (0x24 ∷ [], inr (grind (arith, nat_tests), refl), grind (arith, nat_tests))
+      | inr other ↦
+          let s = tag_sound (b ∷ w) t r bytes (grind (arith, nat_tests)) in
           (tag_octets t, inl (s.1, refl), s.0)
     ]
 
@@ -78,10 +67,7 @@ Tells constructed (Some n) l = IsLength n × (l ≡ length_octets n)
 
 length_ber_more : (c : Bool) (t : Tag) (w : List ℕ) (n : ℕ) (r : List ℕ) → length_at t w ≡ Ok (n, r) → length_ber_at c t w ≡ Ok (Some n, r)
 length_ber_more c t [] n r e = absurd (cc (length_at-none t))
-length_ber_more c t (b ∷ w) n r e = elim (cases_Bool (c && eqb b 0x80)) [
-  | inl h ↦ absurd (cc (ap (λ x. length_at t (x ∷ w)) (eqb-true b 0x80 (and_parts c (eqb b 0x80) h).1), length_at-indefinite t w, e))
-  | inr h ↦ rw (h, e) refl
-]
+length_ber_more c t (b ∷ w) n r e = grind (arith, nat_tests, length_at-indefinite t w)
 
 length_ber_again : (c : Bool) (t : Tag) (n : Option ℕ) (l r : List ℕ) → Tells c n l → length_ber_at c t (l ++ r) ≡ Ok (n, r)
 length_ber_again c t None l r h = rw (h.1, h.0) refl
@@ -113,12 +99,6 @@ mark_again m o l r tag tells =
       length_ber_again (is_constructed_at o) m.tag m.len l r tells,
     ) refl
 
-mark_parts : (w : List ℕ) (t : Tag) (n : Option ℕ) (o l v r : List ℕ) → SpellsTag t o → w ≡ o ++ v → Tells (is_constructed_at w) n l → v ≡ l ++ r
-    → Tells (is_constructed_at o) n l × (w ≡ o ++ (l ++ r))
-mark_parts w t n o l v r tag front tells behind =
-    let same : is_constructed_at w ≡ is_constructed_at o = ap is_constructed_at front ∙ constructed-append t o v tag in
-    (subst (λ c. Tells c n l) same tells, front ∙ ap (λ (x : List ℕ). o ++ x) behind)
-
 mark_sound : (w : List ℕ) (m : Mark) (r : List ℕ) → IsBytes w → mark_at w ≡ Ok (m, r)
     → (o l : List ℕ) × SpellsTag m.tag o × Tells (is_constructed_at o) m.len l × (w ≡ o ++ (l ++ r))
 unfolding mark_at
@@ -129,9 +109,9 @@ mark_sound w m r bytes e =
     let made : Mark × List ℕ = (record { tag = t.0.0; len = n.0.0 }, n.0.1) in
     let a = tag_ber_sound w t.0.0 t.0.1 bytes t.1 in
     let b = length_ber_sound c t.0.0 t.0.1 n.0.0 n.0.1 (bytes_rest a.0 t.0.1 w a.2 bytes) n.1 in
-    let parts = mark_parts w t.0.0 n.0.0 a.0 b.0 t.0.1 n.0.1 a.1 a.2 b.1 b.2 in
+    let same : c ≡ is_constructed_at a.0 = ap is_constructed_at a.2 ∙ constructed-append t.0.0 a.0 t.0.1 a.1 in
     subst (λ (q : Mark × List ℕ). (o l : List ℕ) × SpellsTag q.0.tag o × Tells (is_constructed_at o) q.0.len l × (w ≡ o ++ (l ++ q.1))) (ok_is made (m, r) n.2)
-    (a.0, b.0, a.1, parts.0, parts.1)
+    (a.0, b.0, a.1, subst (λ c. Tells c n.0.0 b.0) same b.1, a.2 ∙ ap (λ (x : List ℕ). a.0 ++ x) b.2)
 
 -- Pieces
 
@@ -142,8 +122,8 @@ Spells opening x = (t : Tag) × (o : List ℕ) × SpellsTag t o × (is_construct
 Spells encoding x = IsDefinite x
 
 mark_at-zero : (w : List ℕ) → mark_at (0 ∷ w) ≡ Err kinds.TagUnknown
-unfolding mark_at tag_ber_at
-mark_at-zero w = rw (tag_at-zero w) refl
+unfolding mark_at tag_ber_at tag_at universal_tag
+mark_at-zero w = refl
 
 mark_at-none : mark_at [] ≡ Err kinds.Incomplete
 unfolding mark_at tag_ber_at
@@ -152,10 +132,7 @@ mark_at-none = refl
 piece-mark : (w : List ℕ) (m : Mark) (r : List ℕ) → mark_at w ≡ Ok (m, r) → piece_at w ≡ content_at m.len r
 unfolding piece_at
 piece-mark [] m r e = absurd (cc mark_at-none)
-piece-mark (b ∷ w) m r e = elim (cases_Bool (eqb b 0)) [
-  | inl h ↦ absurd (cc (ap (λ x. mark_at (x ∷ w)) (eqb-true b 0 h), mark_at-zero w, e))
-  | inr h ↦ rw (h, e) refl
-]
+piece-mark (b ∷ w) m r e = grind (arith, nat_tests, mark_at-zero w)
 
 piece_again : (p : Piece) (x r : List ℕ) → Spells p x → piece_at (x ++ r) ≡ Ok (p, r)
 unfolding piece_at
@@ -375,15 +352,13 @@ pub body_len_sound : (w : List ℕ) (n : ℕ) → IsBytes w → body_len_at w �
 unfolding body_len_at
 body_len_sound w n bytes e =
     let r = bind_ok (closed_at (length w) 1 63 w) (λ r. cond (ltb length_max (length w - length r)) (Err kinds.Overflow) (Ok (length w - length r))) n e in
-    let k = unless_ok (ltb length_max (length w - length r.0)) kinds.Overflow (Ok (length w - length r.0)) n r.2 in
     let s = closed_sound (length w) 1 63 w r.0 bytes r.1 in
     let c = s.1.0 in
     let none : s.0 ≡ c = s.1.4 ∙ ap (λ (u : List ℕ). c ++ u) s.1.3 ∙ append-nil c in
     let parts : w ≡ c ++ r.0 = s.2 ∙ ap (λ (u : List ℕ). u ++ r.0) none in
     let count : length w - length r.0 ≡ length c = omega (arith, ap length parts, length-append c r.0) in
-    let number : n ≡ length c = sym (ok_is (length w - length r.0) n k.1) ∙ count in
-    let fits : Fits c = omega (arith, ltb-false length_max (length w - length r.0) k.0) in
-    (c, r.0, s.1.2, fits, number, parts)
+    let told : (n ≡ length c) × Fits c = grind (arith, nat_tests, r.2) in
+    (c, r.0, s.1.2, told.1, told.0, parts)
 
 -- a body has the octets that end it
 pub body-ge : (k : ℕ) (b : List ℕ) → IsIndefiniteBody k b → 2 ≤ length b
@@ -469,3 +444,5 @@ head_ber_alone w h n more bytes le e = go (head_ber_sound w h (drop n w) bytes e
         let count : n ≡ length (o ++ l) = omega (arith, ap length parts, length-append (o ++ l) r, length-drop n w) in
         let front : take n w ≡ o ++ l = ap (take n) parts ∙ take_at (o ++ l) r n (sym count) in
         head_ber_again h s (take n w ++ s) (o, l, tag, length-more o l r h.len more spelled, ap (λ (u : List ℕ). u ++ s) front ∙ append_assoc o l s)
+
+pub ruleset body_ends = (bytes_are, body-ge, body_len_again, head_ber_alone)

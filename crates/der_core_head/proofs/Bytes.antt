@@ -1,6 +1,6 @@
 -- Lists of octets, and their parts.
-use Rattle.std.proofs.Common.{◌≡◌, ℕ, ◌+◌, ◌<◌, List, [], ◌∷◌, ◌++◌, length, get_or, take, drop, refl, ap, subst, ◌∙◌, arith, inl, inr}
-use Rattle.std.proofs.lemmas.Bool.{cases_lt}
+use Rattle.std.proofs.lemmas.Bool.Decides.{nat_tests}
+use Rattle.std.proofs.Common.{◌≡◌, ℕ, ◌+◌, ◌<◌, List, [], ◌∷◌, ◌++◌, length, get_or, take, drop, refl, ap, subst, ◌∙◌, arith}
 use Rattle.std.proofs.lemmas.List.{drop_at, length-take, get_or-take, get_or-drop, get_or_past}
 use Rattle.der_core_head.specs.Octets.{IsOctets}
 
@@ -11,11 +11,7 @@ pub bytes_drop : (n : ℕ) (w : List ℕ) → IsBytes w → IsBytes (drop n w)
 bytes_drop n w h i = rw get_or-drop (h (n + i))
 
 pub bytes_take : (n : ℕ) (w : List ℕ) → IsBytes w → IsBytes (take n w)
-bytes_take n w h i =
-    elim (cases_lt i n) [
-      | inl lt ↦ rw (get_or-take n w i 0 lt) (h i)
-      | inr le ↦ rw (get_or_past (take n w) i 0 (omega (arith, length-take n w))) (omega arith)
-    ]
+bytes_take n w h i = grind (arith, nat_tests, get_or-take n w i 0, get_or_past (take n w) i 0, length-take n w, h i)
 
 pub bytes_rest : (u r w : List ℕ) → w ≡ u ++ r → IsBytes w → IsBytes r
 bytes_rest u r w e h = subst IsBytes (ap (drop (length u)) e ∙ drop_at u r (length u) refl) (bytes_drop (length u) w h)

@@ -1,6 +1,7 @@
 -- What is spelled so is read.
 use Rattle.std.proofs.Common.{◌≡◌, ℕ, zero, suc, ◌-◌, ◌≤◌, Bool, true, false, not, List, [], ◌∷◌, ◌++◌, length, Option, Some, None, Result, Ok, refl, sym, ap, subst, ◌∙◌, append_assoc, arith, inl, inr, ◌⊎◌}
 use mathlib.Core.Bool.{◌&&◌}
+use Rattle.std.proofs.lemmas.Bool.Decides.{nat_tests}
 use Rattle.std.proofs.lemmas.Bool.{and_parts, or_left, or_right, or_cases, false≢true, not-true}
 use Rattle.std.proofs.lemmas.List.{append-nil, take_at, drop_at, length-append}
 use Rattle.std.specs.List.{flat_map, AllByRecursion}
@@ -66,9 +67,7 @@ element_first (either a b) (inl v) e h =
 element_first (either a b) (inr v) e h =
     let f = element_first b v (and_parts (is_element a) (is_element b) e).1 h in
     (f.0, f.1, f.2, f.3, or_right (begins a f.0) (begins b f.0) f.4)
-element_first (optional s) v e h = absurd (false≢true e)
-element_first (defaulted s d) v e h = absurd (false≢true e)
-element_first nothing v e h = absurd (false≢true e)
+element_first _ v e h = absurd (false≢true e)
 
 -- an element takes an octet
 pub element_some : (s : Shape) (v : Value s) → is_element s ≡ true → IsValid s v → (b : ℕ) × (w : List ℕ) × (octets_of s v ≡ b ∷ w)
@@ -92,6 +91,10 @@ field_first (defaulted s d) v a h = go (bytes_eq (octets_of s v) d)
     go true = inl (refl, refl)
     go false = inr (element_first s v (and_parts (is_element s) (is_apart s) (and_parts (is_element s && is_apart s) _ a).0).0 h)
 
+list_first : (s : Shape) (v : List (Value s)) → (is_element s && is_apart s) ≡ true → AllByRecursion (IsValid s) v → (flat_map (octets_of s) v ≡ []) ⊎ StandsFirst (begins s) (flat_map (octets_of s) v)
+list_first s [] a h = inl refl
+list_first s (x ∷ xs) a h = inr (first_more (begins s) (octets_of s x) (flat_map (octets_of s) xs) (element_first s x (and_parts (is_element s) (is_apart s) a).0 h.0))
+
 -- so do bodies
 pub body_first : (b : Body) (v : BodyValue b) → is_body_apart b ≡ true → IsBody b v → (body_octets b v ≡ []) ⊎ StandsFirst (body_begins b) (body_octets b v)
 unfolding body_octets IsBody
@@ -109,22 +112,10 @@ body_first (field s b) v a h =
     later : (x y : Bool) → x ≡ false → y ≡ true → (not x && y) ≡ true
     later x y e f = rw (e, f) refl
 body_first (only s) v a h = inr (element_first s v (and_parts (is_element s) (is_apart s) a).0 h)
-body_first (many s) [] a h = inl refl
-body_first (many s) (x ∷ xs) a h =
-    let p = and_parts (is_element s) (is_apart s) a in
-    inr (first_more (begins s) (octets_of s x) (flat_map (octets_of s) xs) (element_first s x p.0 h.0))
-body_first (exactly n s) [] a h = inl refl
-body_first (exactly n s) (x ∷ xs) a h =
-    let p = and_parts (is_element s) (is_apart s) a in
-    inr (first_more (begins s) (octets_of s x) (flat_map (octets_of s) xs) (element_first s x p.0 h.0.0))
-body_first (few n s) [] a h = inl refl
-body_first (few n s) (x ∷ xs) a h =
-    let p = and_parts (is_element s) (is_apart s) a in
-    inr (first_more (begins s) (octets_of s x) (flat_map (octets_of s) xs) (element_first s x p.0 h.0.0))
-body_first (in_order how s) [] a h = inl refl
-body_first (in_order how s) (x ∷ xs) a h =
-    let p = and_parts (is_element s) (is_apart s) a in
-    inr (first_more (begins s) (octets_of s x) (flat_map (octets_of s) xs) (element_first s x p.0 h.0.0))
+body_first (many s) v a h = list_first s v a h
+body_first (exactly n s) v a h = list_first s v a h.0
+body_first (few n s) v a h = list_first s v a h.0
+body_first (in_order how s) v a h = list_first s v a h.0
 
 -- what the next tag is, if one stands
 pub peek_again : (t : Tag) (r : List ℕ) → IsTag t → peek_at encodings.Der (tag_octets t ++ r) ≡ Ok (Some t)
@@ -159,8 +150,7 @@ not_begins (tagged u c) f t n h = go (same_tag u t) refl
     go false e = refl
 not_begins any f t n h = absurd (false≢true n)
 not_begins (either a b) f t n h =
-    let p = and_parts (none_of a f) (none_of b f) n in
-    rw (not_begins a f t p.0 h, not_begins b f t p.1 h) refl
+    rw (not_begins a f t (grind (arith, nat_tests)) h, not_begins b f t (grind (arith, nat_tests)) h) refl
 not_begins (optional s) f t n h = not_begins s f t n h
 not_begins (defaulted s d) f t n h = not_begins s f t n h
 not_begins nothing f t n h = refl
@@ -168,12 +158,7 @@ not_begins nothing f t n h = refl
 pub end_empty : (b : Body) (v : BodyValue b) → is_end b ≡ true → body_octets b v ≡ []
 unfolding body_octets
 end_empty done v e = refl
-end_empty (field s b) v e = absurd (false≢true e)
-end_empty (only s) v e = absurd (false≢true e)
-end_empty (many s) v e = absurd (false≢true e)
-end_empty (exactly n s) v e = absurd (false≢true e)
-end_empty (few n s) v e = absurd (false≢true e)
-end_empty (in_order how s) v e = absurd (false≢true e)
+end_empty _ v e = absurd (false≢true e)
 
 -- what follows a field doesn't begin as the field would
 pub next_stops : (s : Shape) (b : Body) (v : BodyValue b) → is_clear s b ≡ true → is_body_apart b ≡ true → IsBody b v → Stops s (body_octets b v)
@@ -224,8 +209,7 @@ TakesSome {P} V o = (x : P) → V x → (b : ℕ) × (w : List ℕ) × (o x ≡ 
 many_again : {P : Type 0} (e : ErrorKind) (F : Readings P) (V : P → Type 0) (o : P → List ℕ) → ReadsAgain F V o → TakesSome V o
     → (xs : List P) (n : ℕ) → length xs ≤ n → AllByRecursion V xs → read_many e F n (flat_map o xs) ≡ Ok (xs, [])
 unfolding read_many
-many_again e F V o each some [] zero l h = refl
-many_again e F V o each some [] (suc n) l h = refl
+many_again e F V o each some [] n l h = refl
 many_again e F V o each some (x ∷ xs) zero l h = absurd (omega arith)
 many_again e F V o each some (x ∷ xs) (suc n) l h =
     let f = some x h.0 in
@@ -245,9 +229,8 @@ no_more V o some (x ∷ xs) h =
 exactly_again : {P : Type 0} (F : Readings P) (V : P → Type 0) (o : P → List ℕ) → ReadsAgain F V o → (xs : List P) (n : ℕ) → AllByRecursion V xs → length xs ≡ n → read_exactly F n (flat_map o xs) ≡ Ok (xs, [])
 unfolding read_exactly
 exactly_again F V o each [] zero h l = refl
-exactly_again F V o each [] (suc n) h l = absurd cc
-exactly_again F V o each (x ∷ xs) zero h l = absurd cc
 exactly_again F V o each (x ∷ xs) (suc n) h l = rw (each x (flat_map o xs) h.0, exactly_again F V o each xs n h.1 (omega (arith, l))) refl
+exactly_again F V o each _ _ h l = absurd cc
 
 abbrev Behind : {P : Type 0} → Step → (P → List ℕ) → Option (List ℕ) → List P → Type 0
 Behind how o last [] = ⊤
@@ -265,8 +248,7 @@ behind_last how o (Some a) x xs h = follows_ok how a (o x) h
 ordered_again : {P : Type 0} (how : Step) (F : Readings P) (V : P → Type 0) (o : P → List ℕ) → ReadsAgain F V o → TakesSome V o
     → (last : Option (List ℕ)) (xs : List P) (n : ℕ) → length (flat_map o xs) ≤ n → AllByRecursion V xs → Behind how o last xs → AllInOrder how o xs → read_in_order how o F last n (flat_map o xs) ≡ Ok (xs, [])
 unfolding read_in_order
-ordered_again how F V o each some last [] zero l h u k = refl
-ordered_again how F V o each some last [] (suc n) l h u k = refl
+ordered_again how F V o each some last [] n l h u k = refl
 ordered_again how F V o each some last (x ∷ xs) n l h u k =
     let f = some x h.0 in
     let rest = flat_map o xs in
@@ -300,29 +282,17 @@ mutual
   complete (tagged t c) room v r a n h o = tlv_again t (read_content c t room) (contents c v) r v h.1 h.2 (complete_content c t room v a n h.0)
   complete any room v r a n h o = any_again v r h.1 h.2
   complete (either x y) room (inl v) r a n h o =
-      let p = and_parts (is_element x && is_element y) _ a in
-      let e = and_parts (is_element x) (is_element y) p.0 in
-      let q = and_parts (is_apart x) (is_apart y) (and_parts (none_of x (begins y)) _ p.1).1 in
-      let m = and_parts (are_enough x room) (are_enough y room) n in
-      let f = first_more (begins x) (octets_of x v) r (element_first x v e.0 h) in
-      left_again (begins x) (begins y) (read x room) (read y room) (octets_of x v ++ r) v r f (complete x room v r q.0 m.0 h (stops_element x r e.0))
+      let f = first_more (begins x) (octets_of x v) r (element_first x v (grind (arith, nat_tests)) h) in
+      left_again (begins x) (begins y) (read x room) (read y room) (octets_of x v ++ r) v r f (complete x room v r (grind (arith, nat_tests)) (grind (arith, nat_tests)) h (stops_element x r (grind (arith, nat_tests))))
   complete (either x y) room (inr v) r a n h o =
-      let p = and_parts (is_element x && is_element y) _ a in
-      let e = and_parts (is_element x) (is_element y) p.0 in
-      let c = and_parts (none_of x (begins y)) _ p.1 in
-      let q = and_parts (is_apart x) (is_apart y) c.1 in
-      let m = and_parts (are_enough x room) (are_enough y room) n in
-      let f = first_more (begins y) (octets_of y v) r (element_first y v e.1 h) in
-      right_again (begins x) (begins y) (read x room) (read y room) (octets_of y v ++ r) v r f (not_begins x (begins y) f.0 c.0 f.4) (complete y room v r q.1 m.1 h (stops_element y r e.1))
+      let f = first_more (begins y) (octets_of y v) r (element_first y v (grind (arith, nat_tests)) h) in
+      right_again (begins x) (begins y) (read x room) (read y room) (octets_of y v ++ r) v r f (not_begins x (begins y) f.0 (grind (arith, nat_tests)) f.4) (complete y room v r (grind (arith, nat_tests)) (grind (arith, nat_tests)) h (stops_element y r (grind (arith, nat_tests))))
   complete (optional s) room None r a n h o = opt_none (begins s) (read s room) r (o refl)
   complete (optional s) room (Some v) r a n h o =
-      let p = and_parts (is_element s) (is_apart s) a in
-      opt_some (begins s) (read s room) (octets_of s v ++ r) v r (first_more (begins s) (octets_of s v) r (element_first s v p.0 h)) (complete s room v r p.1 n h (stops_element s r p.0))
+      opt_some (begins s) (read s room) (octets_of s v ++ r) v r (first_more (begins s) (octets_of s v) r (element_first s v (grind (arith, nat_tests)) h)) (complete s room v r (grind (arith, nat_tests)) n h (stops_element s r (grind (arith, nat_tests))))
   complete nothing room v r a n h o = refl
   complete (defaulted s d) room v r a n h o =
-      let p = and_parts (is_element s) (is_apart s) (and_parts (is_element s && is_apart s) _ a).0 in
-      let m = and_parts (are_enough s room) (are_enough s 64) n in
-      default_again s d room v r (bytes_eq (octets_of s v) d) refl (o refl) (element_first s v p.0 h) (complete s room v r p.1 m.0 h (stops_element s r p.0)) (complete s 64 v [] p.1 m.1 h (stops_element s [] p.0))
+      default_again s d room v r (bytes_eq (octets_of s v) d) refl (o refl) (element_first s v (grind (arith, nat_tests)) h) (complete s room v r (grind (arith, nat_tests)) (grind (arith, nat_tests)) h (stops_element s r (grind (arith, nat_tests)))) (complete s 64 v [] (grind (arith, nat_tests)) (grind (arith, nat_tests)) h (stops_element s [] (grind (arith, nat_tests))))
 
   pub complete_content : (c : Content) (t : Tag) (room : ℕ) (v : ContentValue c) → is_content_apart c ≡ true → are_content_enough c room ≡ true → IsContent c v → read_content c t room (contents c v) ≡ Ok (v, [])
   complete_content (leaf l) t room v a n h = ap leaf_at (leaf_again l t v h)
@@ -332,28 +302,20 @@ mutual
   pub complete_body : (b : Body) (room : ℕ) (v : BodyValue b) → is_body_apart b ≡ true → are_body_enough b room ≡ true → IsBody b v → read_body b room (body_octets b v) ≡ Ok (v, [])
   complete_body done room v a n h = refl
   complete_body (field s b) room v a n h =
-      let c = and_parts (is_clear s b) _ a in
-      let p = and_parts (is_apart s) (is_body_apart b) c.1 in
-      let m = and_parts (are_enough s room) (are_body_enough b room) n in
-      let x = complete s room v.0 (body_octets b v.1) p.0 m.0 h.0 (next_stops s b v.1 c.0 p.1 h.1) in
-      let y = complete_body b room v.1 p.1 m.1 h.1 in
+      let x = complete s room v.0 (body_octets b v.1) (grind (arith, nat_tests)) (grind (arith, nat_tests)) h.0 (next_stops s b v.1 (grind (arith, nat_tests)) (grind (arith, nat_tests)) h.1) in
+      let y = complete_body b room v.1 (grind (arith, nat_tests)) (grind (arith, nat_tests)) h.1 in
       rw (x, y) refl
   complete_body (only s) room v a n h =
-      let p = and_parts (is_element s) (is_apart s) a in
-      ap (read s room) (sym (append-nil (octets_of s v))) ∙ complete s room v [] p.1 n h (stops_end s)
+      ap (read s room) (sym (append-nil (octets_of s v))) ∙ complete s room v [] (grind (arith, nat_tests)) n h (stops_end s)
   complete_body (many s) room v a n h =
-      let p = and_parts (is_element s) (is_apart s) a in
-      many_again kinds.TrailingData (read s room) (IsValid s) (octets_of s) (λ x t k. complete s room x t p.1 n k (stops_element s t p.0)) (λ x k. element_some s x p.0 k) v (length (flat_map (octets_of s) v))
-      (no_more (IsValid s) (octets_of s) (λ x k. element_some s x p.0 k) v h) h
+      many_again kinds.TrailingData (read s room) (IsValid s) (octets_of s) (λ x t k. complete s room x t (grind (arith, nat_tests)) n k (stops_element s t (grind (arith, nat_tests)))) (λ x k. element_some s x (grind (arith, nat_tests)) k) v (length (flat_map (octets_of s) v))
+      (no_more (IsValid s) (octets_of s) (λ x k. element_some s x (grind (arith, nat_tests)) k) v h) h
   complete_body (exactly k s) room v a n h =
-      let p = and_parts (is_element s) (is_apart s) a in
-      exactly_again (read s room) (IsValid s) (octets_of s) (λ x t q. complete s room x t p.1 n q (stops_element s t p.0)) v k h.0 h.1
+      exactly_again (read s room) (IsValid s) (octets_of s) (λ x t q. complete s room x t (grind (arith, nat_tests)) n q (stops_element s t (grind (arith, nat_tests)))) v k h.0 h.1
   complete_body (few k s) room v a n h =
-      let p = and_parts (is_element s) (is_apart s) a in
-      many_again kinds.Overlength (read s room) (IsValid s) (octets_of s) (λ x t q. complete s room x t p.1 n q (stops_element s t p.0)) (λ x q. element_some s x p.0 q) v k h.1 h.0
+      many_again kinds.Overlength (read s room) (IsValid s) (octets_of s) (λ x t q. complete s room x t (grind (arith, nat_tests)) n q (stops_element s t (grind (arith, nat_tests)))) (λ x q. element_some s x (grind (arith, nat_tests)) q) v k h.1 h.0
   complete_body (in_order how s) room v a n h =
-      let p = and_parts (is_element s) (is_apart s) a in
-      ordered_again how (read s room) (IsValid s) (octets_of s) (λ x t k. complete s room x t p.1 n k (stops_element s t p.0)) (λ x k. element_some s x p.0 k) None v (length (flat_map (octets_of s) v)) (omega arith) h.0 (none_behind how (octets_of s) v) h.1
+      ordered_again how (read s room) (IsValid s) (octets_of s) (λ x t k. complete s room x t (grind (arith, nat_tests)) n k (stops_element s t (grind (arith, nat_tests)))) (λ x k. element_some s x (grind (arith, nat_tests)) k) None v (length (flat_map (octets_of s) v)) (omega arith) h.0 (none_behind how (octets_of s) v) h.1
 
 -- whatever follows
 pub complete_element : (s : Shape) (room : ℕ) (v : Value s) (r : List ℕ) → is_element s ≡ true → is_apart s ≡ true → are_enough s room ≡ true → IsValid s v → read s room (octets_of s v ++ r) ≡ Ok (v, r)

@@ -1,44 +1,27 @@
 -- The contents of a date are of one date, and are read as it.
-use Rattle.std.proofs.Common.{◌≡◌, ℕ, ◌+◌, ◌-◌, ◌*◌, ◌/◌, ◌%◌, ◌<◌, ◌≤◌, true, List, [], ◌∷◌, ◌++◌, Option, Some, None, Ok, refl, ap, subst, sym, ◌∙◌, arith, ◌⊎◌, inl, inr}
-use Rattle.std.specs.Prelude.{nat_le, nat_lt, ◌==◌, ◌&&◌, ◌||◌}
+use Rattle.std.proofs.lemmas.Bool.Decides.{nat_tests}
+use Rattle.std.proofs.Common.{◌≡◌, ℕ, ◌+◌, ◌*◌, ◌/◌, ◌%◌, ◌<◌, ◌≤◌, true, List, [], ◌∷◌, ◌++◌, Option, Some, None, Ok, refl, ap, subst, sym, ◌∙◌, arith}
 use Rattle.std.specs.Option.{option_and_then}
-use Rattle.std.specs.List.{AllByRecursion, flat_map}
-use Rattle.std.proofs.lemmas.Bool.{and_parts, and_from, ltb-true, leb-true, le-leb, eqb-true, cases_lt, lt-ltb, le-ltb, cond-true, cond-false, cond_both}
-use Rattle.std.proofs.lemmas.Option.{option_and_then_some, cond_some, same_Some}
+use Rattle.std.proofs.lemmas.Bool.{cond-true}
+use Rattle.std.proofs.lemmas.Option.{option_and_then_some, same_Some}
 use Rattle.der_core_head.specs.declared.tag.Tag.{Tag}
 use Rattle.der_core_head.specs.Octets.{IsOctets}
-use Rattle.der_core_head.specs.Dates.{Civil, is_leap, days_in_month, is_civil, two_digits, after_year, utc_octets, generalized_octets, full_year, digit_at, two_at, zulu, civil_at, or_value, utc_read, generalized_read, IsUtc}
+use Rattle.der_core_head.specs.Dates.{Civil, days_in_month, is_civil, two_digits, after_year, utc_octets, generalized_octets, full_year, digit_at, two_at, zulu, civil_at, or_value, utc_read, generalized_read, IsUtc}
 
 -- Two digits
 
 digit_at-again : (x : ℕ) → x < 10 → digit_at (48 + x) ≡ Some x
-digit_at-again x l =
-    let test = and_from (nat_le 48 (48 + x)) (nat_le (48 + x) 57) (le-leb 48 (48 + x) (omega arith)) (le-leb (48 + x) 57 (omega arith)) in
-    let same : 48 + x - 48 ≡ x = omega arith in
-    cond-true (nat_le 48 (48 + x) && nat_le (48 + x) 57) (Some (48 + x - 48)) None test ∙ ap (λ n. Some n) same
+digit_at-again x l = grind (arith, nat_tests)
 
 digit_at-sound : (d x : ℕ) → digit_at d ≡ Some x → (x < 10) × (d ≡ 48 + x)
-digit_at-sound d x e =
-    let parts = cond_some (nat_le 48 d && nat_le d 57) (d - 48) x e in
-    let tests = and_parts (nat_le 48 d) (nat_le d 57) parts.0 in
-    let low = leb-true 48 d tests.0 in
-    let high = leb-true d 57 tests.1 in
-    let same = parts.1 in
-    (omega arith, omega arith)
-
-and_then-some : {A B : Type 0} (f : A → Option B) (o : Option A) (x : A) → o ≡ Some x → option_and_then f o ≡ f x
-and_then-some f o x e = ap (option_and_then f) e
+digit_at-sound d x e = grind (arith, nat_tests)
 
 pub two_at-again : (n : ℕ) (w : List ℕ) → n < 100 → two_at (two_digits n ++ w) ≡ Some (n, w)
 two_at-again n w l =
     let same : 10 * (n / 10) + n % 10 ≡ n = omega arith in
-    and_then-some (λ x. option_and_then (λ y. Some (10 * x + y, w)) (digit_at (48 + n % 10))) (digit_at (48 + n / 10)) (n / 10) (digit_at-again (n / 10) (omega arith))
-    ∙ and_then-some (λ y. Some (10 * (n / 10) + y, w)) (digit_at (48 + n % 10)) (n % 10) (digit_at-again (n % 10) (omega arith))
-    ∙ ap (λ m. Some (m, w)) same
+    rw (digit_at-again (n / 10) (omega arith), digit_at-again (n % 10) (omega arith), same) refl
 
 pub two_at-sound : (w : List ℕ) (p : ℕ × List ℕ) → two_at w ≡ Some p → (p.0 < 100) × (w ≡ two_digits p.0 ++ p.1)
-two_at-sound [] p e = absurd cc
-two_at-sound (a ∷ []) p e = absurd cc
 two_at-sound (a ∷ b ∷ w) p e =
     option_and_then_some (λ x. option_and_then (λ y. Some (10 * x + y, w)) (digit_at b)) (digit_at a) p e
     (λ x is_x later. option_and_then_some (λ y. Some (10 * x + y, w)) (digit_at b) p later
@@ -49,6 +32,7 @@ two_at-sound (a ∷ b ∷ w) p e =
     let low : (10 * x + y) % 10 ≡ y = omega (arith, first.0, second.0) in
     subst (λ (q : ℕ × List ℕ). (q.0 < 100) × (a ∷ b ∷ w ≡ two_digits q.0 ++ q.1)) (same_Some (10 * x + y, w) p pair)
     (omega (arith, first.0, second.0), cc (first.1, second.1, high, low))))
+two_at-sound _ p e = absurd cc
 
 two_digits_below : (n : ℕ) (w : List ℕ) → n < 100 → IsOctets w → IsOctets (two_digits n ++ w)
 two_digits_below n w l h = (omega arith, (omega arith, h))
@@ -56,10 +40,7 @@ two_digits_below n w l h = (omega arith, (omega arith, h))
 -- What a date tells of its parts
 
 days_in_month-le : (y m : ℕ) → days_in_month y m ≤ 31
-days_in_month-le y m =
-    cond_both (m == 2) _ _ (λ n. n ≤ 31)
-    (λ _. cond_both (is_leap y) 29 28 (λ n. n ≤ 31) (λ _. omega arith) (λ _. omega arith))
-    (λ _. cond_both ((m == 4) || ((m == 6) || ((m == 9) || (m == 11)))) 30 31 (λ n. n ≤ 31) (λ _. omega arith) (λ _. omega arith))
+days_in_month-le y m = grind (arith, nat_tests)
 
 pub record Ranges (c : Civil) : Type 0 where
   pub from_year : 1970 ≤ c.year
@@ -72,36 +53,22 @@ pub record Ranges (c : Civil) : Type 0 where
 
 pub civil_ranges : (c : Civil) → is_civil c ≡ true → Ranges c
 civil_ranges c e =
-    let years = and_parts (nat_le 1970 c.year && nat_lt c.year 10000) _ e in
-    let year = and_parts (nat_le 1970 c.year) (nat_lt c.year 10000) years.0 in
-    let months = and_parts (nat_le 1 c.month && nat_le c.month 12) _ years.1 in
-    let month = and_parts (nat_le 1 c.month) (nat_le c.month 12) months.0 in
-    let days = and_parts (nat_le 1 c.day && nat_le c.day (days_in_month c.year c.month)) _ months.1 in
-    let day = and_parts (nat_le 1 c.day) (nat_le c.day (days_in_month c.year c.month)) days.0 in
-    let hours = and_parts (nat_lt c.hour 24) (nat_lt c.minute 60 && nat_lt c.second 60) days.1 in
-    let minutes = and_parts (nat_lt c.minute 60) (nat_lt c.second 60) hours.1 in
+    let days = days_in_month-le c.year c.month in
     record {
-      from_year = leb-true 1970 c.year year.0;
-      year = ltb-true c.year 10000 year.1;
-      month = leb-true c.month 12 month.1;
-      day = at_most (leb-true c.day (days_in_month c.year c.month) day.1) (days_in_month-le c.year c.month);
-      hour = ltb-true c.hour 24 hours.0;
-      minute = ltb-true c.minute 60 minutes.0;
-      second = ltb-true c.second 60 minutes.1;
+      from_year = grind (arith, nat_tests);
+      year = grind (arith, nat_tests);
+      month = grind (arith, nat_tests);
+      day = grind (arith, nat_tests);
+      hour = grind (arith, nat_tests);
+      minute = grind (arith, nat_tests);
+      second = grind (arith, nat_tests);
     }
-  where
-    at_most : {l m n : ℕ} → l ≤ m → m ≤ n → l ≤ n
-    at_most p q = omega arith
 
 -- What follows the year
 
 pub zulu-sound : (c : Civil) (w : List ℕ) (d : Civil) → zulu c w ≡ Some d → (c ≡ d) × (is_civil c ≡ true) × (w ≡ 90 ∷ [])
-zulu-sound c [] d e = absurd cc
-zulu-sound c (z ∷ []) d e =
-    let parts = cond_some ((z == 90) && is_civil c) c d e in
-    let tests = and_parts (z == 90) (is_civil c) parts.0 in
-    (parts.1, tests.1, ap (λ x. x ∷ []) (eqb-true z 90 tests.0))
-zulu-sound c (z ∷ y ∷ w) d e = absurd cc
+zulu-sound c (z ∷ []) d e = grind (arith, nat_tests)
+zulu-sound c _ d e = absurd cc
 
 pub zulu-again : (c : Civil) → is_civil c ≡ true → zulu c (90 ∷ []) ≡ Some c
 zulu-again c e = cond-true (is_civil c) (Some c) None e
@@ -133,39 +100,21 @@ civil_at-again c e =
     (rw (two_at-again c.second _ (omega (arith, ranges.second)))
     (zulu-again c e)))))
 
-pairs_below : (ns w : List ℕ) → AllByRecursion (λ n. n < 100) ns → IsOctets w → IsOctets (flat_map two_digits ns ++ w)
-pairs_below [] w small h = h
-pairs_below (n ∷ ns) w small h = two_digits_below n (flat_map two_digits ns ++ w) small.0 (pairs_below ns w small.1 h)
-
 after_year_below : (c : Civil) → is_civil c ≡ true → IsOctets (after_year c)
 after_year_below c e =
     let r = civil_ranges c e in
-    let small : AllByRecursion (λ n. n < 100) (c.month ∷ c.day ∷ c.hour ∷ c.minute ∷ c.second ∷ []) =
-    (omega (arith, r.month), (omega (arith, r.day), (omega (arith, r.hour), (omega (arith, r.minute), (omega (arith, r.second), tt))))) in
-    pairs_below (c.month ∷ c.day ∷ c.hour ∷ c.minute ∷ c.second ∷ []) (90 ∷ []) small (omega arith, tt)
+    (omega (arith, r.month), (omega (arith, r.month), (omega (arith, r.day), (omega (arith, r.day), (omega (arith, r.hour), (omega (arith, r.hour), (omega (arith, r.minute), (omega (arith, r.minute), (omega (arith, r.second), (omega (arith, r.second), (omega arith, tt)))))))))))
 
 or_value_ok : {A : Type 0} (t : Tag) (o : Option A) (x : A) → or_value t o ≡ Ok x → o ≡ Some x
-or_value_ok t (Some y) x e = cc
-or_value_ok t None x e = absurd cc
+or_value_ok t o x e = grind (arith, nat_tests)
 
 -- The year of UTCTime
 
 full_year-again : (y : ℕ) → 1970 ≤ y → y ≤ 2049 → full_year (y % 100) ≡ y
-full_year-again y low high = by (cases_lt (y % 100) 50)
-  where
-    by : (y % 100 < 50) ⊎ (50 ≤ y % 100) → full_year (y % 100) ≡ y
-    by (inl l) =
-        let same : 2000 + y % 100 ≡ y = omega arith in
-        cond-true (nat_lt (y % 100) 50) (2000 + y % 100) (1900 + y % 100) (lt-ltb (y % 100) 50 l) ∙ same
-    by (inr l) =
-        let same : 1900 + y % 100 ≡ y = omega arith in
-        cond-false (nat_lt (y % 100) 50) (2000 + y % 100) (1900 + y % 100) (le-ltb (y % 100) 50 l) ∙ same
+full_year-again y low high = grind (arith, nat_tests)
 
 full_year-sound : (n : ℕ) → n < 100 → (full_year n % 100 ≡ n) × (full_year n ≤ 2049)
-full_year-sound n l =
-    cond_both (nat_lt n 50) (2000 + n) (1900 + n) (λ y. (y % 100 ≡ n) × (y ≤ 2049))
-    (λ e. let small = ltb-true n 50 e in (omega arith, omega arith))
-    (λ _. (omega arith, omega arith))
+full_year-sound n l = grind (arith, nat_tests)
 
 -- The types
 
@@ -185,9 +134,7 @@ pub utc_again : (t : Tag) (c : Civil) → IsUtc c → utc_read t (utc_octets c) 
 unfolding utc_read utc_octets
 utc_again t c h =
     let ranges = civil_ranges c h.civil in
-    let start = and_then-some (λ y. civil_at (full_year y.0) y.1) (two_at (two_digits (c.year % 100) ++ after_year c)) (c.year % 100, after_year c) (two_at-again (c.year % 100) (after_year c) (omega arith)) in
-    let year = ap (λ n. civil_at n (after_year c)) (full_year-again c.year ranges.from_year h.year) in
-    ap (or_value t) (start ∙ year ∙ civil_at-again c h.civil)
+    rw (two_at-again (c.year % 100) (after_year c) (omega arith), full_year-again c.year ranges.from_year h.year, civil_at-again c h.civil) refl
 
 pub utc_octets-below : (c : Civil) → IsUtc c → IsOctets (utc_octets c)
 unfolding utc_octets
@@ -209,10 +156,8 @@ pub generalized_again : (t : Tag) (c : Civil) → is_civil c ≡ true → genera
 unfolding generalized_read generalized_octets
 generalized_again t c h =
     let ranges = civil_ranges c h in
-    let century = two_at-again (c.year / 100) (two_digits (c.year % 100) ++ after_year c) (omega (arith, ranges.year)) in
-    let digits = two_at-again (c.year % 100) (after_year c) (omega arith) in
     let same : 100 * (c.year / 100) + c.year % 100 ≡ c.year = omega arith in
-    ap (or_value t) (ap (option_and_then _) century ∙ ap (option_and_then _) digits ∙ ap (λ n. civil_at n (after_year c)) same ∙ civil_at-again c h)
+    rw (two_at-again (c.year / 100) (two_digits (c.year % 100) ++ after_year c) (omega (arith, ranges.year)), two_at-again (c.year % 100) (after_year c) (omega arith), same, civil_at-again c h) refl
 
 pub generalized_octets-below : (c : Civil) → is_civil c ≡ true → IsOctets (generalized_octets c)
 unfolding generalized_octets

@@ -1,7 +1,7 @@
 -- Octets that a length can count.
-use Rattle.std.proofs.Common.{◌≡◌, ℕ, Bool, true, false, List, ◌++◌, length, Some, None, refl, ap, arith, inl, inr}
+use Rattle.std.proofs.Common.{◌≡◌, ℕ, List, ◌++◌, length, Some, None, refl, ap, arith, inl, inr}
+use Rattle.std.proofs.lemmas.Bool.Decides.{nat_tests}
 use Rattle.std.proofs.lemmas.List.{length-append}
-use Rattle.std.specs.Str.{bytes_eq}
 use Rattle.der_core_head.specs.declared.tag.Tag.{Tag}
 use Rattle.der_core_head.specs.Heads.{Fits, head_octets, tlv}
 use Rattle.der_core_head.specs.Shapes.{Shape, tagged, any, either, optional, defaulted, nothing, Value, octets_of, unless, IsValid}
@@ -27,8 +27,4 @@ valid_fits (either a b) (inr v) h = valid_fits b v h
 valid_fits (optional s) None h = omega arith
 valid_fits (optional s) (Some v) h = valid_fits s v h
 valid_fits nothing v h = omega arith
-valid_fits (defaulted s d) v h = go (bytes_eq (octets_of s v) d) (valid_fits s v h)
-  where
-    go : (b : Bool) → Fits (octets_of s v) → Fits (unless b (octets_of s v))
-    go true l = omega arith
-    go false l = l
+valid_fits (defaulted s d) v h = grind (arith, nat_tests, valid_fits s v h)

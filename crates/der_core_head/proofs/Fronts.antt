@@ -8,7 +8,7 @@ use Rattle.der_core_head.specs.Octets.{Readings}
 use Rattle.der_core_head.specs.Tags.{IsTag, tag_octets, tag_at}
 use Rattle.der_core_head.specs.Fronts.{ReadsFront}
 use Rattle.der_core_head.proofs.Bytes.{IsBytes}
-use Rattle.der_core_head.proofs.TagLaws.{tag_sound}
+use Rattle.der_core_head.proofs.TagLaws.{tag_sound, tag_again}
 
 -- what reading gives there is what was counted
 pub front_so : {X P : Type 0} (view : X → P) (w : List ℕ) (r : Result (X × ℕ) Error) (f : Readings P) (x : Result (P × List ℕ) ErrorKind) → f w ≡ x → ReadsFront view w r f → ReadsFront view w r (λ _. x)
@@ -20,3 +20,5 @@ tag_spelled w (Ok x) bytes h =
     let s = tag_sound w x.0 (drop x.1 w) bytes h.0 in
     (s.1, s.0)
 tag_spelled w (Err e) bytes h = tt
+
+pub ruleset tag_fronts = (tag_spelled, tag_again, front_so)

@@ -1,7 +1,8 @@
 -- A length and a header are read from their octets, what is read has these octets, and no encoding begins another
 -- (X.690 8.1.3, 10.1).
-use Rattle.std.proofs.Common.{◌≡◌, ℕ, ◌+◌, ◌-◌, ◌^◌, ◌<◌, ◌≤◌, cond, ltb, eqb, List, [], ◌∷◌, ◌++◌, length, take, drop, Ok, Err, sym, refl, ap, subst, ◌∙◌, append_assoc, arith, inl, inr}
-use Rattle.std.proofs.lemmas.Bool.{cases_lt, lt-ltb, ltb-true, ltb-false}
+use Rattle.std.proofs.lemmas.Bool.Decides.{nat_tests}
+use Rattle.std.proofs.Common.{◌≡◌, ℕ, ◌+◌, ◌-◌, ◌^◌, ◌≤◌, List, [], ◌∷◌, ◌++◌, length, take, drop, Ok, sym, refl, ap, subst, ◌∙◌, append_assoc, arith, inl, inr}
+use Rattle.std.proofs.lemmas.Bool.{cases_lt, lt-ltb}
 use Rattle.std.proofs.lemmas.List.{take-append-drop, length-take}
 use Rattle.std.proofs.Math.Nat.{pow-le-pow_right}
 use Rattle.std.proofs.lemmas.Slice.Eq.{bytes_eq-Decides}
@@ -15,7 +16,7 @@ use Rattle.der_core_head.specs.declared.tag.Tag.{Tag}
 use Rattle.der_core_head.specs.Octets.{◌>>=◌, IsOctets}
 use Rattle.der_core_head.specs.Tags.{IsTag, tag_octets, tag_at}
 use Rattle.der_core_head.specs.Heads.{Head, length_octets, head_octets, tlv, shortest, length_at, head_at, Fits}
-use Rattle.der_core_head.proofs.Results.{ok_is, bind_ok, if_ok, unless_ok, either_ok}
+use Rattle.der_core_head.proofs.Results.{ok_is, bind_ok, if_ok}
 use Rattle.der_core_head.proofs.Bytes.{IsBytes, bytes_rest, bytes_tail, bytes_take, octets_are}
 use Rattle.der_core_head.proofs.TagLaws.{tag_again, tag_sound, tag_octets-below}
 use Rattle.der_core_head.proofs.LengthForms.{length-short, length-long, length-digits-le, length_at-digits, shortest-ok}
@@ -60,21 +61,16 @@ unfolding length_at
 length_sound t [] n r bytes e = absurd cc
 length_sound t (m ∷ w) n r bytes e =
     let k = m - 128 in
-    let read = shortest t m (take k w) (drop k w) in
-    let enough = cond (ltb (length w) k) (Err kinds.Incomplete) read in
-    let long = cond (eqb m 128) (Err kinds.IndefiniteLength) (cond (ltb 132 m) (Err kinds.Overlength) enough) in
-    elim (either_ok (ltb m 128) (Ok (m, w)) long (Ok (n, r)) e) [
-      | inl h ↦
-          let small : m < 128 = ltb-true m 128 h.0 in
-          subst (λ (q : ℕ × List ℕ). (m ∷ w ≡ length_octets q.0 ++ q.1) × IsLength q.0) (ok_is (m, w) (n, r) h.1)
+    elim (cases_lt m 128) [
+      | inl small ↦
+          let same : (m, w) ≡ (n, r) = ok_is (m, w) (n, r) (grind (arith, nat_tests)) in
+          subst (λ (q : ℕ × List ℕ). (m ∷ w ≡ length_octets q.0 ++ q.1) × IsLength q.0) same
           (ap (λ (o : List ℕ). o ++ w) (sym (length-short m small)), omega arith)
-      | inr h ↦
-          let a = unless_ok (eqb m 128) kinds.IndefiniteLength (cond (ltb 132 m) (Err kinds.Overlength) enough) (n, r) h.1 in
-          let b = unless_ok (ltb 132 m) kinds.Overlength enough (n, r) a.1 in
-          let c = unless_ok (ltb (length w) k) kinds.Incomplete read (n, r) b.1 in
-          let few : m ≤ 132 = ltb-false 132 m b.0 in
+      | inr large ↦
+          let few : m ≤ 132 = grind (arith, nat_tests) in
+          let read : shortest t m (take k w) (drop k w) ≡ Ok (n, r) = grind (arith, nat_tests) in
           let digits_fit : length (take k w) ≤ 4 = omega (arith, length-take k w) in
-          let i = shortest_sound t m (take k w) (drop k w) n r (octets_are (take k w) (bytes_take k w (bytes_tail m w bytes))) digits_fit c.1 in
+          let i = shortest_sound t m (take k w) (drop k w) n r (octets_are (take k w) (bytes_take k w (bytes_tail m w bytes))) digits_fit read in
           (ap (λ (o : List ℕ). m ∷ o) (sym (take-append-drop k w)) ∙ i.0, i.1)
     ]
 

@@ -1,9 +1,10 @@
 -- The contents of a whole number are of one number, and are read as it.
-use Rattle.std.proofs.Common.{◌≡◌, ℕ, zero, suc, ◌-◌, ◌^◌, ◌<◌, ◌≤◌, true, false, cond, List, [], ◌∷◌, length, get_or, Ok, Err, refl, ap, subst, sym, ◌∙◌, arith, ◌⊎◌, inl, inr, ⊎_elim}
-use Rattle.std.specs.Prelude.{ℤ, pos, negsuc, nat_lt, ◌==◌, ◌&&◌, not, Contains}
+use Rattle.std.proofs.lemmas.Bool.Decides.{nat_tests}
+use Rattle.std.proofs.Common.{◌≡◌, ℕ, zero, suc, ◌-◌, ◌<◌, ◌≤◌, true, false, List, [], ◌∷◌, length, get_or, Ok, Err, refl, ap, subst, sym, ◌∙◌, arith, ◌⊎◌, inl, inr, ⊎_elim}
+use Rattle.std.specs.Prelude.{ℤ, pos, negsuc, nat_lt, ◌==◌, Contains}
 use Rattle.std.specs.List.{list_any}
 use Rattle.std.specs.Int.Digits.{number_from_digits}
-use Rattle.std.proofs.lemmas.Bool.{ltb-true, lt-ltb, le-ltb, eqb-true, eq-eqb, ne_eqb, eqb-false, ltb-false, cases_lt, cases_eq, or_cases, and_left, and_right, or_from, or_left, or_right, or_parts, and_cases, not_from_true, not-false, false≢true, cond-true, cond-false}
+use Rattle.std.proofs.lemmas.Bool.{lt-ltb, le-ltb, eqb-true, eq-eqb, ltb-false, cases_lt, or_cases, or_from, or_left, or_right, or_parts, false≢true, cond-true, cond-false}
 use Rattle.std.proofs.lemmas.List.{length-map}
 use Rattle.const_oid.specs.Digits.{digits}
 use Rattle.const_oid.proofs.DigitLaws.{digits-Digits, digits-one, first_of_digits-pos, digits-number_from_digits}
@@ -11,18 +12,14 @@ use Rattle.der_core_head.specs.declared.error.ErrorKind.TheVariants as kinds
 use Rattle.der_core_head.specs.declared.tag.Tag.{Tag}
 use Rattle.der_core_head.specs.Octets.{IsOctets, ◌>>=◌}
 use Rattle.der_core_head.specs.Integers.{positive, complement, integer_octets, integer_of, Numbers, every, natural, unsigned, signed, among, within, IsNumber, is_redundant, checked, shortest_integer, integer_read}
-use Rattle.der_core_head.proofs.Results.{fine, ok_is, bind_ok, if_ok, unless_ok}
+use Rattle.der_core_head.proofs.Results.{fine, ok_is, bind_ok, if_ok}
 use Rattle.der_core_head.proofs.Bytes.{IsBytes, octets_are}
 
 -- Turned bits
 
 complement-complement : (w : List ℕ) → IsOctets w → complement (complement w) ≡ w
 complement-complement [] h = refl
-complement-complement (d ∷ ds) h =
-    let first = h.0 in
-    let turned : 255 - (255 - d) ≡ d = omega arith in
-    let more = complement-complement ds h.1 in
-    cc
+complement-complement (d ∷ ds) h = grind (arith, h.0, complement-complement ds h.1)
 
 complement-below : (w : List ℕ) → IsOctets (complement w)
 complement-below [] = tt
@@ -32,21 +29,7 @@ complement-below (d ∷ ds) = (omega arith, complement-below ds)
 is_redundant-complement : (w : List ℕ) → IsOctets w → is_redundant w ≡ false → is_redundant (complement w) ≡ false
 is_redundant-complement [] h e = refl
 is_redundant-complement (a ∷ []) h e = refl
-is_redundant-complement (a ∷ b ∷ w) h e =
-    let parts = or_parts (a == 0 && nat_lt b 128) (a == 255 && not (nat_lt b 128)) e in
-    or_from _ _ (zeros (and_cases (a == 255) (not (nat_lt b 128)) parts.1)) (ones (and_cases (a == 0) (nat_lt b 128) parts.0))
-  where
-    zeros : ((a == 255) ≡ false) ⊎ (not (nat_lt b 128) ≡ false) → ((255 - a == 0) && nat_lt (255 - b) 128) ≡ false
-    zeros (inl n) = and_left (255 - a == 0) (nat_lt (255 - b) 128) (ne_eqb (255 - a) 0 (λ m. eqb-false a 255 n (omega (arith, h.0))))
-    zeros (inr n) =
-        let small = ltb-true b 128 (not-false (nat_lt b 128) n) in
-        and_right (255 - a == 0) (nat_lt (255 - b) 128) (le-ltb (255 - b) 128 (omega arith))
-
-    ones : ((a == 0) ≡ false) ⊎ (nat_lt b 128 ≡ false) → ((255 - a == 255) && not (nat_lt (255 - b) 128)) ≡ false
-    ones (inl n) = and_left (255 - a == 255) (not (nat_lt (255 - b) 128)) (ne_eqb (255 - a) 255 (λ m. eqb-false a 0 n (omega (arith, h.0))))
-    ones (inr n) =
-        let large = ltb-false b 128 n in
-        and_right (255 - a == 255) (not (nat_lt (255 - b) 128)) (not_from_true (nat_lt (255 - b) 128) (lt-ltb (255 - b) 128 (omega (arith, h.1.0))))
+is_redundant-complement (a ∷ b ∷ w) h e = grind (arith, nat_tests)
 
 -- The contents of a number that is not negative
 
@@ -59,25 +42,20 @@ pub record IsPositive (n : ℕ) (w : List ℕ) : Type 0 where
 
 -- one digit, or no leading zero
 digits_shortest : (n : ℕ) → (length (digits 256 n) ≡ 1) ⊎ (0 < get_or (digits 256 n) 0 0)
-digits_shortest n = by (cases_eq n 0)
-  where
-    by : (n ≡ 0) ⊎ (n ≡ 0 → ⊥) → (length (digits 256 n) ≡ 1) ⊎ (0 < get_or (digits 256 n) 0 0)
-    by (inl e) = inl (ap length (digits-one 256 n (omega arith)))
-    by (inr e) = inr (first_of_digits-pos 256 n (omega arith) (omega arith))
+digits_shortest n = grind (arith, nat_tests, digits-one 256 n, first_of_digits-pos 256 n)
 
 not_redundant : (d : ℕ) (ds : List ℕ) → (length (d ∷ ds) ≡ 1) ⊎ (0 < d) → d < 128 → is_redundant (d ∷ ds) ≡ false
 not_redundant d [] h l = refl
 not_redundant d (e ∷ ds) (inl n) l = absurd (omega arith)
-not_redundant d (e ∷ ds) (inr some) l =
-    or_from _ _ (and_left (d == 0) (nat_lt e 128) (ne_eqb d 0 (λ n. omega arith))) (and_left (d == 255) (not (nat_lt e 128)) (ne_eqb d 255 (λ n. omega arith)))
+not_redundant d (e ∷ ds) (inr some) l = grind (arith, nat_tests)
 
 positive_is : (ds : List ℕ) → IsOctets ds → 0 < length ds → (length ds ≡ 1) ⊎ (0 < get_or ds 0 0) → IsPositive (number_from_digits 256 ds) (positive ds)
 positive_is [] h some short = absurd (omega arith)
-positive_is (d ∷ ds) h some short = by (cases_lt d 128)
-  where
-    by : (d < 128) ⊎ (128 ≤ d) → IsPositive (number_from_digits 256 (d ∷ ds)) (cond (nat_lt d 128) (d ∷ ds) (0 ∷ d ∷ ds))
-    by (inl l) = rw (lt-ltb d 128 l) (record { below = h; number = refl; first = l; shortest = not_redundant d ds short l })
-    by (inr l) = rw (le-ltb d 128 l) (record { below = (omega arith, h); number = refl; first = omega arith; shortest = or_from (nat_lt d 128) false (le-ltb d 128 l) refl })
+positive_is (d ∷ ds) h some short =
+    elim (cases_lt d 128) [
+      | inl l ↦ rw (lt-ltb d 128 l) (record { below = h; number = refl; first = l; shortest = not_redundant d ds short l })
+      | inr l ↦ rw (le-ltb d 128 l) (record { below = (omega arith, h); number = refl; first = omega arith; shortest = or_from (nat_lt d 128) false (le-ltb d 128 l) refl })
+    ]
 
 positive_of : (n : ℕ) → IsPositive n (positive (digits 256 n))
 positive_of n =
@@ -132,17 +110,16 @@ integer_of-octets (negsuc n) =
 pub integer_octets-of : (w : List ℕ) → IsBytes w → 0 < length w → is_redundant w ≡ false → integer_octets (integer_of w) ≡ w
 unfolding integer_octets
 integer_octets-of [] h some e = absurd (omega arith)
-integer_octets-of (d ∷ ds) h some e = by (cases_lt d 128)
-  where
-    by : (d < 128) ⊎ (128 ≤ d) → integer_octets (integer_of (d ∷ ds)) ≡ d ∷ ds
-    by (inl l) =
-        ap integer_octets (integer_of-positive (d ∷ ds) l) ∙ positive-digits (d ∷ ds) (octets_are (d ∷ ds) h) l e
-    by (inr l) =
-        let w = d ∷ ds in
-        let octets = octets_are w h in
-        ap integer_octets (integer_of-negative w l)
-        ∙ ap complement (positive-digits (complement w) (complement-below w) (omega arith) (is_redundant-complement w octets e))
-        ∙ complement-complement w octets
+integer_octets-of (d ∷ ds) h some e =
+    let w = d ∷ ds in
+    let octets = octets_are w h in
+    elim (cases_lt d 128) [
+      | inl l ↦ ap integer_octets (integer_of-positive w l) ∙ positive-digits w octets l e
+      | inr l ↦
+          ap integer_octets (integer_of-negative w l)
+          ∙ ap complement (positive-digits (complement w) (complement-below w) (omega arith) (is_redundant-complement w octets e))
+          ∙ complement-complement w octets
+    ]
 
 pub integer_octets-not_redundant : (z : ℤ) → is_redundant (integer_octets z) ≡ false
 unfolding integer_octets
@@ -184,36 +161,24 @@ test-from_Contains n (m ∷ ns) (suc k, l, e) = or_right (m == n) (list_any (λ 
 pub checked-sound : (r : Numbers) (t : Tag) (z y : ℤ) → checked r t z ≡ Ok y → (z ≡ y) × IsNumber r z
 checked-sound every t z y e = (ok_is z y e, tt)
 checked-sound natural t (pos n) y e = (ok_is (pos n) y e, tt)
-checked-sound natural t (negsuc n) y e = absurd cc
-checked-sound (unsigned k) t (pos n) y e =
-    let parts = if_ok (nat_lt n (2 ^ k)) (kinds.Length t) (fine (pos n)) y e in
-    (ok_is (pos n) y parts.1, ltb-true n (2 ^ k) parts.0)
-checked-sound (unsigned k) t (negsuc n) y e = absurd cc
-checked-sound (signed k) t (pos n) y e =
-    let parts = if_ok (nat_lt n (2 ^ (k - 1))) (kinds.Length t) (fine (pos n)) y e in
-    (ok_is (pos n) y parts.1, ltb-true n (2 ^ (k - 1)) parts.0)
-checked-sound (signed k) t (negsuc n) y e =
-    let parts = if_ok (nat_lt n (2 ^ (k - 1))) (kinds.Length t) (fine (negsuc n)) y e in
-    (ok_is (negsuc n) y parts.1, ltb-true n (2 ^ (k - 1)) parts.0)
+checked-sound (unsigned k) t (pos n) y e = grind (arith, nat_tests)
+checked-sound (signed k) t (pos n) y e = grind (arith, nat_tests)
+checked-sound (signed k) t (negsuc n) y e = grind (arith, nat_tests)
 checked-sound (among ns) t (pos n) y e =
     let parts = if_ok (list_any (λ m. m == n) ns) (kinds.Value t) (fine (pos n)) y e in
     (ok_is (pos n) y parts.1, Contains-from_test n ns parts.0)
-checked-sound (among ns) t (negsuc n) y e = absurd cc
-checked-sound (within k) t z y e =
-    let parts = unless_ok (nat_lt k (length (integer_octets z))) (kinds.Value t) (fine z) y e in
-    (ok_is z y parts.1, ltb-false k (length (integer_octets z)) parts.0)
+checked-sound (within k) t z y e = grind (arith, nat_tests)
+checked-sound _ t z y e = absurd cc
 
 pub checked-again : (r : Numbers) (t : Tag) (z : ℤ) → IsNumber r z → checked r t z ≡ Ok z
 checked-again every t z h = refl
 checked-again natural t (pos n) h = refl
-checked-again natural t (negsuc n) h = absurd h
-checked-again (unsigned k) t (pos n) h = cond-true (nat_lt n (2 ^ k)) (fine (pos n)) (Err (kinds.Length t)) (lt-ltb n (2 ^ k) h)
-checked-again (unsigned k) t (negsuc n) h = absurd h
-checked-again (signed k) t (pos n) h = cond-true (nat_lt n (2 ^ (k - 1))) (fine (pos n)) (Err (kinds.Length t)) (lt-ltb n (2 ^ (k - 1)) h)
-checked-again (signed k) t (negsuc n) h = cond-true (nat_lt n (2 ^ (k - 1))) (fine (negsuc n)) (Err (kinds.Length t)) (lt-ltb n (2 ^ (k - 1)) h)
-checked-again (among ns) t (pos n) h = cond-true (list_any (λ m. m == n) ns) (fine (pos n)) (Err (kinds.Value t)) (test-from_Contains n ns h)
-checked-again (among ns) t (negsuc n) h = absurd h
-checked-again (within k) t z h = cond-false (nat_lt k (length (integer_octets z))) (Err (kinds.Value t)) (fine z) (le-ltb k (length (integer_octets z)) h)
+checked-again (unsigned k) t (pos n) h = grind (arith, nat_tests)
+checked-again (signed k) t (pos n) h = grind (arith, nat_tests)
+checked-again (signed k) t (negsuc n) h = grind (arith, nat_tests)
+checked-again (among ns) t (pos n) h = grind (arith, nat_tests, test-from_Contains n ns h)
+checked-again (within k) t z h = grind (arith, nat_tests)
+checked-again _ t z h = absurd h
 
 -- Reading
 
@@ -221,8 +186,7 @@ shortest_integer-sound : (t : Tag) (w : List ℕ) (z : ℤ) → IsBytes w → sh
 unfolding shortest_integer
 shortest_integer-sound t [] z h e = absurd cc
 shortest_integer-sound t (d ∷ ds) z h e =
-    let parts = unless_ok (is_redundant (d ∷ ds)) (kinds.Noncanonical t) (fine (integer_of (d ∷ ds))) z e in
-    sym (integer_octets-of (d ∷ ds) h (omega arith) parts.0) ∙ ap integer_octets (ok_is (integer_of (d ∷ ds)) z parts.1)
+    sym (integer_octets-of (d ∷ ds) h (omega arith) (grind (arith, nat_tests))) ∙ ap integer_octets (grind (arith, nat_tests))
 
 shortest_integer-again : (t : Tag) (w : List ℕ) → 0 < length w → is_redundant w ≡ false → shortest_integer t w ≡ Ok (integer_of w)
 unfolding shortest_integer

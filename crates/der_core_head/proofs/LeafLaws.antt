@@ -1,15 +1,13 @@
 -- The contents of a primitive type are of one value, and are read as it.
-use Rattle.std.proofs.Common.{◌≡◌, ℕ, ◌≤◌, Bool, true, false, cond, List, [], ◌∷◌, length, Result, Ok, Err, refl, ap, subst, ◌∙◌, arith, ◌⊎◌, inl, inr}
-use Rattle.std.specs.Prelude.{◌==◌}
-use Rattle.std.proofs.lemmas.Bool.{eqb-true}
+use Rattle.std.proofs.lemmas.Bool.Decides.{nat_tests}
+use Rattle.std.proofs.Common.{◌≡◌, ℕ, ◌≤◌, Bool, true, false, List, [], ◌∷◌, length, Result, Ok, Err, refl, ap, subst, arith}
 use Rattle.const_oid.specs.IdentifierOctets.{read_identifier}
 use Rattle.const_oid.specs.declared.error.Error.{Error as OidError}
 use Rattle.const_oid.proofs.IdentifierLaws.{identifier_sound, identifier_again, identifier_below}
-use Rattle.der_core_head.specs.declared.error.ErrorKind.TheVariants as kinds
 use Rattle.der_core_head.specs.declared.tag.Tag.{Tag}
 use Rattle.der_core_head.specs.Octets.{IsOctets}
 use Rattle.der_core_head.specs.Leaves.{Leaf, boolean, null, integer, bits, octets, identifier, utc_time, generalized_time, text, utf8, bmp, named, LeafValue, bool_octets, leaf_contents, IsLeafValue, bool_read, null_read, or_malformed, leaf_read}
-use Rattle.der_core_head.proofs.Results.{fine, ok_is, if_ok, either_ok}
+use Rattle.der_core_head.proofs.Results.{ok_is}
 use Rattle.der_core_head.proofs.Bytes.{IsBytes, octets_are}
 use Rattle.der_core_head.proofs.IntegerLaws.{integer_sound, integer_again, integer_octets-below}
 use Rattle.der_core_head.proofs.BitLaws.{bits_sound, bits_again, bit_contents-below}
@@ -19,15 +17,8 @@ use Rattle.der_core_head.proofs.BmpLaws.{bmp_sound, bmp_again, bmp_below}
 use Rattle.der_core_head.proofs.NamedLaws.{named_sound, named_again, named_below}
 
 bool_sound : (t : Tag) (w : List ℕ) (v : Bool) → bool_read t w ≡ Ok v → w ≡ bool_octets v
-bool_sound t [] v e = absurd cc
-bool_sound t (b ∷ c ∷ w) v e = absurd cc
-bool_sound t (b ∷ []) v e = by (either_ok (b == 0) (fine false) (cond (b == 255) (fine true) (Err (kinds.Noncanonical t))) (fine v) e)
-  where
-    by : ((b == 0) ≡ true) × (fine false ≡ fine v) ⊎ ((b == 0) ≡ false) × (cond (b == 255) (fine true) (Err (kinds.Noncanonical t)) ≡ fine v) → b ∷ [] ≡ bool_octets v
-    by (inl (first, same)) = ap (λ x. x ∷ []) (eqb-true b 0 first) ∙ ap bool_octets (ok_is false v same)
-    by (inr (other, rest)) =
-        let parts = if_ok (b == 255) (kinds.Noncanonical t) (fine true) v rest in
-        ap (λ x. x ∷ []) (eqb-true b 255 parts.0) ∙ ap bool_octets (ok_is true v parts.1)
+bool_sound t (b ∷ []) v e = grind (arith, nat_tests)
+bool_sound t _ v e = absurd cc
 
 bool_again : (t : Tag) (v : Bool) → bool_read t (bool_octets v) ≡ Ok v
 bool_again t true = refl
@@ -42,8 +33,7 @@ null_sound t [] v e = refl
 null_sound t (b ∷ w) v e = absurd cc
 
 or_malformed_ok : {A : Type 0} (r : Result A OidError) (x : A) → or_malformed r ≡ Ok x → r ≡ Ok x
-or_malformed_ok (Ok y) x e = cc
-or_malformed_ok (Err d) x e = absurd cc
+or_malformed_ok r x e = grind (arith, nat_tests)
 
 pub leaf_sound : (l : Leaf) (t : Tag) (w : List ℕ) (v : LeafValue l) → IsBytes w → leaf_read l t w ≡ Ok v → IsLeafValue l v × (w ≡ leaf_contents l v)
 leaf_sound boolean t w v h e = (tt, bool_sound t w v e)

@@ -1,11 +1,11 @@
 -- The forms of a length, by its size (X.690 8.1.3.4, 8.1.3.5, 10.1), and what is read from octets in such a form.
-use Rattle.std.proofs.Common.{◌≡◌, ℕ, ◌+◌, ◌-◌, ◌*◌, ◌^◌, ◌/◌, ◌%◌, ◌<◌, ◌≤◌, false, cond, ltb, eqb, List, [], ◌∷◌, ◌++◌, length, get_or, length-append, Ok, Err, sym, refl, ap, ◌∙◌, arith, inl, inr}
-use Rattle.std.proofs.lemmas.Bool.{cases_lt, lt-ltb, le-ltb, eq-eqb, ne_eqb, false_from_ne_true}
+use Rattle.std.proofs.lemmas.Bool.Decides.{nat_tests}
+use Rattle.std.proofs.Common.{◌≡◌, ℕ, ◌+◌, ◌-◌, ◌*◌, ◌^◌, ◌/◌, ◌%◌, ◌<◌, ◌≤◌, cond, ltb, eqb, List, [], ◌∷◌, ◌++◌, length, get_or, length-append, Ok, Err, refl, ◌∙◌, arith, inr}
+use Rattle.std.proofs.lemmas.Bool.{lt-ltb, le-ltb, ne_eqb}
 use Rattle.std.proofs.lemmas.List.{take_at, drop_at}
 use Rattle.std.proofs.lemmas.Slice.Eq.{bytes_eq-Decides}
 use Rattle.std.proofs.lemmas.Int.Digits.{number_after_ge}
 use Rattle.std.specs.Int.Digits.{number_from_digits, AllBelowBase}
-use Rattle.std.specs.Str.{bytes_eq}
 use Rattle.const_oid.specs.Digits.{digits}
 use Rattle.const_oid.proofs.DigitLaws.{digits-one, digits-more, digits-number_from_digits, first_of_digits-pos}
 use Rattle.der_core_head.specs.declared.error.ErrorKind.TheVariants as kinds
@@ -55,31 +55,12 @@ pub ruleset length_forms = (length-short, length-1, length-2, length-3, length-4
 
 -- no length needs more than four digits
 pub length-digits-le : (n : ℕ) → n < 2 ^ 32 → length (digits 256 n) ≤ 4
-length-digits-le n h =
-    elim (cases_lt n 256) [
-      | inl l ↦ rw (digits-one 256 n l) (omega arith)
-      | inr l ↦ elim (cases_lt n (2 ^ 16)) [
-        | inl m ↦ rw (digits-2 n l m) (omega arith)
-        | inr m ↦ elim (cases_lt n (2 ^ 24)) [
-          | inl k ↦ rw (digits-3 n m k) (omega arith)
-          | inr k ↦ rw (digits-4 n k h) (omega arith)
-        ]
-      ]
-    ]
+length-digits-le n h = grind (arith, nat_tests, digits-one 256 n, digits-2 n, digits-3 n, digits-4 n)
 
 -- The numbers of digits
 
 pub number-1 : (a : ℕ) → number_from_digits 256 (a ∷ []) ≡ a
 number-1 a = omega arith
-
-pub number-2 : (a b : ℕ) → number_from_digits 256 (a ∷ b ∷ []) ≡ a * 256 + b
-number-2 a b = omega arith
-
-pub number-3 : (a b c : ℕ) → number_from_digits 256 (a ∷ b ∷ c ∷ []) ≡ a * 65536 + b * 256 + c
-number-3 a b c = omega arith
-
-pub number-4 : (a b c d : ℕ) → number_from_digits 256 (a ∷ b ∷ c ∷ d ∷ []) ≡ a * 16777216 + b * 65536 + c * 256 + d
-number-4 a b c d = omega arith
 
 -- What is read
 
@@ -91,16 +72,11 @@ shortest-ok t first ds w e = rw ((bytes_eq-Decides (length_octets (number_from_d
 -- others are not
 pub shortest-err : (t : Tag) (first : ℕ) (ds w : List ℕ) → (length_octets (number_from_digits 256 ds) ≡ first ∷ ds → ⊥)
     → shortest t first ds w ≡ Err (kinds.Length t)
-shortest-err t first ds w other =
-    let test = bytes_eq (length_octets (number_from_digits 256 ds)) (first ∷ ds) in
-    let decides = bytes_eq-Decides (length_octets (number_from_digits 256 ds)) (first ∷ ds) in
-    let e : test ≡ false = false_from_ne_true test (λ e. other (decides.0 e)) in
-    rw e refl
+shortest-err t first ds w other = grind (arith, nat_tests, bytes_eq-Decides (length_octets (number_from_digits 256 ds)) (first ∷ ds))
 
 from_digits-ge : (ds : List ℕ) → 2 ≤ length ds → 0 < get_or ds 0 0 → 256 ≤ number_from_digits 256 ds
-from_digits-ge [] l h = absurd (omega arith)
-from_digits-ge (a ∷ []) l h = absurd (omega arith)
 from_digits-ge (a ∷ b ∷ ds) l h = omega (arith, number_after_ge 256 ((0 * 256 + a) * 256 + b) ds (omega arith))
+from_digits-ge _ l h = absurd (omega arith)
 
 -- two digits or more are those of their number where no zero begins them, and only there
 length_octets-from_digits : (ds : List ℕ) → AllBelowBase 256 ds → 2 ≤ length ds → 0 < get_or ds 0 0
@@ -109,16 +85,7 @@ length_octets-from_digits ds all l h =
     length-long (number_from_digits 256 ds) ds (omega (arith, from_digits-ge ds l h)) (digits-number_from_digits 256 ds (omega arith) all (inr h))
 
 no_leading_zero : (n : ℕ) (ds : List ℕ) → 2 ≤ length ds → get_or ds 0 0 ≡ 0 → length_octets n ≡ (128 + length ds) ∷ ds → ⊥
-no_leading_zero n ds l z e = elim (cases_lt n 128) [ inl h ↦ short h | inr h ↦ long h ]
-  where
-    short : n < 128 → ⊥
-    short h = let first = ap (λ o. get_or o 0 0) (sym (length-short n h) ∙ e) in omega arith
-
-    long : 128 ≤ n → ⊥
-    long h =
-        let digit = ap (λ o. get_or o 1 0) (sym (length-long n _ h refl) ∙ e) in
-        let some = first_of_digits-pos 256 n (omega arith) (omega arith) in
-        omega arith
+no_leading_zero n ds l z e = grind (arith, length-short n, length-long n (digits 256 n), first_of_digits-pos 256 n)
 
 -- a length below 128, and the first octets that begin no length
 pub length_at-short : (t : Tag) (n : ℕ) (w : List ℕ) → n < 128 → length_at t (n ∷ w) ≡ Ok (n, w)
@@ -148,31 +115,11 @@ pub length_at-digits : (t : Tag) (ds w : List ℕ) → 0 < length ds → length 
     → length_at t ((128 + length ds) ∷ (ds ++ w)) ≡ shortest t (128 + length ds) ds w
 unfolding length_at
 length_at-digits t ds w l h =
-    let n = 128 + length ds in
-    let there : length ds ≤ length (ds ++ w) = omega (arith, length-append ds w) in
-    let count : n - 128 ≡ length ds = omega arith in
-    rw (
-      le-ltb n 128 (omega arith),
-      ne_eqb n 128 (λ e. omega arith),
-      le-ltb 132 n (omega arith),
-      count,
-      le-ltb (length (ds ++ w)) (length ds) there,
-      take_at ds w (length ds) refl,
-      drop_at ds w (length ds) refl,
-    ) refl
+    let count : 128 + length ds - 128 ≡ length ds = omega arith in
+    grind (arith, nat_tests, count, length-append ds w, take_at ds w (length ds) refl, drop_at ds w (length ds) refl)
 
 pub length_at-1 : (t : Tag) (a : ℕ) (w : List ℕ) → a < 256 → length_at t (129 ∷ a ∷ w) ≡ cond (ltb a 128) (Err (kinds.Length t)) (Ok (a, w))
-length_at-1 t a w l = length_at-digits t (a ∷ []) w (omega arith) (omega arith) ∙ elim (cases_lt a 128) [ inl h ↦ short h | inr h ↦ long h ]
-  where
-    short : a < 128 → shortest t 129 (a ∷ []) w ≡ cond (ltb a 128) (Err (kinds.Length t)) (Ok (a, w))
-    short h =
-        rw (lt-ltb a 128 h)
-        (shortest-err t 129 (a ∷ []) w (λ e. let same = ap (λ o. get_or o 0 0) (sym (length-short (number_from_digits 256 (a ∷ [])) (omega arith)) ∙ e) in omega arith))
-
-    long : 128 ≤ a → shortest t 129 (a ∷ []) w ≡ cond (ltb a 128) (Err (kinds.Length t)) (Ok (a, w))
-    long h =
-        rw (le-ltb a 128 h)
-        (shortest-ok t 129 (a ∷ []) w (ap length_octets (number-1 a) ∙ length-1 a h l) ∙ ap (λ n. Ok (n, w)) (number-1 a))
+length_at-1 t a w l = length_at-digits t (a ∷ []) w (omega arith) (omega arith) ∙ grind (arith, nat_tests, number-1 a, length-short a, length-1 a, shortest-ok t 129 (a ∷ []) w, shortest-err t 129 (a ∷ []) w)
 
 -- two digits or more are read where the first is not zero
 length_at-more : (t : Tag) (a : ℕ) (ds w : List ℕ) (n : ℕ) → AllBelowBase 256 (a ∷ ds) → 0 < length ds → length ds < 4
@@ -180,25 +127,18 @@ length_at-more : (t : Tag) (a : ℕ) (ds w : List ℕ) (n : ℕ) → AllBelowBas
     → length_at t ((129 + length ds) ∷ a ∷ (ds ++ w)) ≡ cond (eqb a 0) (Err (kinds.Length t)) (Ok (n, w))
 length_at-more t a ds w n all l m e =
     let first : 129 + length ds ≡ 128 + length (a ∷ ds) = omega arith in
-    rw first (length_at-digits t (a ∷ ds) w (omega arith) (omega arith) ∙ elim (cases_lt 0 a) [ inl h ↦ some h | inr h ↦ none h ])
-  where
-    some : 0 < a → shortest t (128 + length (a ∷ ds)) (a ∷ ds) w ≡ cond (eqb a 0) (Err (kinds.Length t)) (Ok (n, w))
-    some h =
-        rw (ne_eqb a 0 (λ z. omega arith))
-        (shortest-ok t _ (a ∷ ds) w (length_octets-from_digits (a ∷ ds) all (omega arith) h) ∙ ap (λ k. Ok (k, w)) e)
-
-    none : a ≤ 0 → shortest t (128 + length (a ∷ ds)) (a ∷ ds) w ≡ cond (eqb a 0) (Err (kinds.Length t)) (Ok (n, w))
-    none h = rw (eq-eqb a 0 (omega arith)) (shortest-err t _ (a ∷ ds) w (no_leading_zero _ (a ∷ ds) (omega arith) (omega arith)))
+    rw first (length_at-digits t (a ∷ ds) w (omega arith) (omega arith)
+    ∙ grind (arith, nat_tests, shortest-ok t (128 + length (a ∷ ds)) (a ∷ ds) w, length_octets-from_digits (a ∷ ds) all, shortest-err t (128 + length (a ∷ ds)) (a ∷ ds) w, no_leading_zero n (a ∷ ds)))
 
 pub length_at-2 : (t : Tag) (a b : ℕ) (w : List ℕ) → a < 256 → b < 256
     → length_at t (130 ∷ a ∷ b ∷ w) ≡ cond (eqb a 0) (Err (kinds.Length t)) (Ok (a * 256 + b, w))
-length_at-2 t a b w p q = length_at-more t a (b ∷ []) w _ (p, (q, tt)) (omega arith) (omega arith) (number-2 a b)
+length_at-2 t a b w p q = length_at-more t a (b ∷ []) w _ (p, (q, tt)) (omega arith) (omega arith) (omega arith)
 
 pub length_at-3 : (t : Tag) (a b c : ℕ) (w : List ℕ) → a < 256 → b < 256 → c < 256
     → length_at t (131 ∷ a ∷ b ∷ c ∷ w) ≡ cond (eqb a 0) (Err (kinds.Length t)) (Ok (a * 65536 + b * 256 + c, w))
-length_at-3 t a b c w p q r = length_at-more t a (b ∷ c ∷ []) w _ (p, (q, (r, tt))) (omega arith) (omega arith) (number-3 a b c)
+length_at-3 t a b c w p q r = length_at-more t a (b ∷ c ∷ []) w _ (p, (q, (r, tt))) (omega arith) (omega arith) (omega arith)
 
 pub length_at-4 : (t : Tag) (a b c d : ℕ) (w : List ℕ) → a < 256 → b < 256 → c < 256 → d < 256
     → length_at t (132 ∷ a ∷ b ∷ c ∷ d ∷ w) ≡ cond (eqb a 0) (Err (kinds.Length t)) (Ok (a * 16777216 + b * 65536 + c * 256 + d, w))
 length_at-4 t a b c d w p q r s =
-    length_at-more t a (b ∷ c ∷ d ∷ []) w _ (p, (q, (r, (s, tt)))) (omega arith) (omega arith) (number-4 a b c d)
+    length_at-more t a (b ∷ c ∷ d ∷ []) w _ (p, (q, (r, (s, tt)))) (omega arith) (omega arith) (omega arith)

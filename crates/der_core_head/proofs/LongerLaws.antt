@@ -89,3 +89,5 @@ read_stays h r w more e = rw e at (head_stays more w)
 
 pub fault_stays : (k : ErrorKind) (w more : List ℕ) → head_at w ≡ Err k → k ≢ kinds.Incomplete → head_at (w ++ more) ≡ Err k
 fault_stays k w more e = rw e at (head_stays more w)
+
+pub ruleset headers_stay = (read_stays, fault_stays)

@@ -1,5 +1,6 @@
 -- What is read with fewer levels is read alike with more.
-use Rattle.std.proofs.Common.{◌≡◌, ℕ, zero, suc, ◌≤◌, Bool, true, false, cond, ltb, List, [], ◌∷◌, length, take, drop, Option, Some, None, Result, Ok, Err, ap, ◌∙◌, arith, inl, inr, ◌⊎◌}
+use Rattle.std.proofs.Common.{◌≡◌, ℕ, zero, suc, ◌≤◌, Bool, true, false, cond, ltb, List, [], ◌∷◌, length, take, drop, Option, Some, None, Result, Ok, Err, ap, ◌∙◌, arith, inl, inr}
+use Rattle.std.proofs.lemmas.Bool.Decides.{nat_tests}
 use Rattle.std.specs.Str.{bytes_eq}
 use Rattle.der_core_head.specs.declared.encoding_rules.EncodingRules.TheVariants as encodings
 use Rattle.der_core_head.specs.declared.error.ErrorKind.{ErrorKind}
@@ -23,24 +24,19 @@ then_more : {A B : Type 0} (f : Result A ErrorKind) (k l : A → Result B ErrorK
 then_more f k l z h e = let x = bind_ok f k z e in ap (λ r. r >>= l) x.1 ∙ h x.0 x.2
 
 if_more : {A : Type 0} (b : Bool) (x y d : Result A ErrorKind) (z : A) → (x ≡ Ok z → y ≡ Ok z) → cond b x d ≡ Ok z → cond b y d ≡ Ok z
-if_more true x y d z h e = h e
-if_more false x y d z h e = e
+if_more b x y d z h e = grind (arith, nat_tests)
 
 unless_more : {A : Type 0} (b : Bool) (x y d : Result A ErrorKind) (z : A) → (x ≡ Ok z → y ≡ Ok z) → cond b d x ≡ Ok z → cond b d y ≡ Ok z
-unless_more true x y d z h e = e
-unless_more false x y d z h e = h e
+unless_more b x y d z h e = grind (arith, nat_tests)
 
 value_more : {P : Type 0} (F G : Readings P) (n : ℕ) → Extends F G → Extends (value_at F n) (value_at G n)
 unfolding value_at
 value_more F G n h w x e =
-    unless_more (ltb (length w) n) (F (take n w) >>= whole >>= λ x. Ok (x.0, drop n w)) (G (take n w) >>= whole >>= λ x. Ok (x.0, drop n w)) (Err kinds.Incomplete) x
-    (before_more (F (take n w) >>= whole) (G (take n w) >>= whole) (λ x. Ok (x.0, drop n w)) x (λ y. before_more (F (take n w)) (G (take n w)) whole y (h (take n w)))) e
+    unless_more (ltb (length w) n) _ _ (Err kinds.Incomplete) x (before_more _ _ (λ x. Ok (x.0, drop n w)) x (λ y. before_more (F (take n w)) (G (take n w)) whole y (h (take n w)))) e
 
 tlv_more : {P : Type 0} (t : Tag) (F G : Readings P) → Extends F G → Extends (tlv_at encodings.Der t F) (tlv_at encodings.Der t G)
 unfolding tlv_at
-tlv_more t F G h w x e =
-    then_more (head_at w) (λ h. cond (same_tag h.0.tag t) (value_at F h.0.len h.1) (Err kinds.TagUnexpected)) (λ h. cond (same_tag h.0.tag t) (value_at G h.0.len h.1) (Err kinds.TagUnexpected)) x
-    (λ y. if_more (same_tag y.0.tag t) (value_at F y.0.len y.1) (value_at G y.0.len y.1) (Err kinds.TagUnexpected) x (value_more F G y.0.len h y.1 x)) e
+tlv_more t F G h w x e = then_more (head_at w) _ _ x (λ y. if_more (same_tag y.0.tag t) _ _ (Err kinds.TagUnexpected) x (value_more F G y.0.len h y.1 x)) e
 
 opt_more : {P : Type 0} (first : Tag → Bool) (F G : Readings P) → Extends F G → Extends (opt_at encodings.Der first F) (opt_at encodings.Der first G)
 unfolding opt_at
@@ -60,11 +56,7 @@ default_more {P} first d is F G h w x e = then_more (peek_at encodings.Der w) (�
 
 either_more : {P Q : Type 0} (a b : Tag → Bool) (F H : Readings P) (G K : Readings Q) → Extends F H → Extends G K → Extends (either_at encodings.Der a b F G) (either_at encodings.Der a b H K)
 unfolding either_at
-either_more {P} {Q} a b F H G K h k w x e =
-    let left : Readings P → Result ((P ⊎ Q) × List ℕ) ErrorKind = λ F. F w >>= λ x. Ok (inl x.0, x.1) in
-    let right : Readings Q → Result ((P ⊎ Q) × List ℕ) ErrorKind = λ G. G w >>= λ x. Ok (inr x.0, x.1) in
-    then_more (tag_at w) (λ t. cond (a t.0) (left F) (cond (b t.0) (right G) (Err kinds.TagUnexpected))) (λ t. cond (a t.0) (left H) (cond (b t.0) (right K) (Err kinds.TagUnexpected))) x
-    (λ t. both (a t.0) (b t.0)) e
+either_more a b F H G K h k w x e = then_more (tag_at w) _ _ x (λ t. both (a t.0) (b t.0)) e
   where
     both : (c d : Bool) → cond c (F w >>= λ x. Ok (inl x.0, x.1)) (cond d (G w >>= λ x. Ok (inr x.0, x.1)) (Err kinds.TagUnexpected)) ≡ Ok x
         → cond c (H w >>= λ x. Ok (inl x.0, x.1)) (cond d (K w >>= λ x. Ok (inr x.0, x.1)) (Err kinds.TagUnexpected)) ≡ Ok x
@@ -80,29 +72,22 @@ front_more F G K L h k w z e =
 
 many_more : {P : Type 0} (d : ErrorKind) (F G : Readings P) → Extends F G → (n : ℕ) → Extends (read_many d F n) (read_many d G n)
 unfolding read_many
-many_more d F G h zero [] z e = e
+many_more d F G h n [] z e = e
 many_more d F G h zero (b ∷ w) z e = e
-many_more d F G h (suc n) [] z e = e
-many_more d F G h (suc n) (b ∷ w) z e =
-    front_more F G (λ x r. read_many d F n r >>= λ y. Ok (x ∷ y.0, y.1)) (λ x r. read_many d G n r >>= λ y. Ok (x ∷ y.0, y.1)) h
-    (λ x r y. before_more (read_many d F n r) (read_many d G n r) (λ y. Ok (x ∷ y.0, y.1)) y (many_more d F G h n r)) (b ∷ w) z e
+many_more d F G h (suc n) (b ∷ w) z e = front_more F G _ _ h (λ x r y. before_more _ _ (λ y. Ok (x ∷ y.0, y.1)) y (many_more d F G h n r)) (b ∷ w) z e
 
 exactly_more : {P : Type 0} (F G : Readings P) → Extends F G → (n : ℕ) → Extends (read_exactly F n) (read_exactly G n)
 unfolding read_exactly
 exactly_more F G h zero w z e = e
-exactly_more F G h (suc n) w z e =
-    front_more F G (λ x r. read_exactly F n r >>= λ y. Ok (x ∷ y.0, y.1)) (λ x r. read_exactly G n r >>= λ y. Ok (x ∷ y.0, y.1)) h
-    (λ x r y. before_more (read_exactly F n r) (read_exactly G n r) (λ y. Ok (x ∷ y.0, y.1)) y (exactly_more F G h n r)) w z e
+exactly_more F G h (suc n) w z e = front_more F G _ _ h (λ x r y. before_more _ _ (λ y. Ok (x ∷ y.0, y.1)) y (exactly_more F G h n r)) w z e
 
 ordered_more : {P : Type 0} (how : Step) (o : P → List ℕ) (F G : Readings P) → Extends F G → (last : Option (List ℕ)) (n : ℕ) → Extends (read_in_order how o F last n) (read_in_order how o G last n)
 unfolding read_in_order
-ordered_more how o F G h last zero [] z e = e
+ordered_more how o F G h last n [] z e = e
 ordered_more how o F G h last zero (b ∷ w) z e = e
-ordered_more how o F G h last (suc n) [] z e = e
 ordered_more how o F G h last (suc n) (b ∷ w) z e =
-    front_more F G (λ x r. follows_last how last (o x) >>= λ _. read_in_order how o F (Some (o x)) n r >>= λ y. Ok (x ∷ y.0, y.1)) (λ x r. follows_last how last (o x) >>= λ _. read_in_order how o G (Some (o x)) n r >>= λ y. Ok (x ∷ y.0, y.1)) h
-    (λ x r y. then_more (follows_last how last (o x)) (λ _. read_in_order how o F (Some (o x)) n r >>= λ y. Ok (x ∷ y.0, y.1)) (λ _. read_in_order how o G (Some (o x)) n r >>= λ y. Ok (x ∷ y.0, y.1)) y
-    (λ _. before_more (read_in_order how o F (Some (o x)) n r) (read_in_order how o G (Some (o x)) n r) (λ y. Ok (x ∷ y.0, y.1)) y (ordered_more how o F G h (Some (o x)) n r))) (b ∷ w) z e
+    front_more F G _ _ h
+    (λ x r y. then_more (follows_last how last (o x)) _ _ y (λ _. before_more _ _ (λ y. Ok (x ∷ y.0, y.1)) y (ordered_more how o F G h (Some (o x)) n r))) (b ∷ w) z e
 
 mutual
   pub more_read : (s : Shape) (m n : ℕ) → m ≤ n → Extends (read s m) (read s n)
@@ -121,9 +106,7 @@ mutual
 
   pub more_body : (b : Body) (m n : ℕ) → m ≤ n → Extends (read_body b m) (read_body b n)
   more_body done m n le w x e = e
-  more_body (field s b) m n le w x e =
-      front_more (read s m) (read s n) (λ x r. read_body b m r >>= λ y. Ok ((x, y.0), y.1)) (λ x r. read_body b n r >>= λ y. Ok ((x, y.0), y.1)) (more_read s m n le)
-      (λ x r y. before_more (read_body b m r) (read_body b n r) (λ y. Ok ((x, y.0), y.1)) y (more_body b m n le r)) w x e
+  more_body (field s b) m n le w x e = front_more (read s m) (read s n) _ _ (more_read s m n le) (λ x r y. before_more _ _ (λ y. Ok ((x, y.0), y.1)) y (more_body b m n le r)) w x e
   more_body (only s) m n le w x e = more_read s m n le w x e
   more_body (many s) m n le w x e = many_more kinds.TrailingData (read s m) (read s n) (more_read s m n le) (length w) w x e
   more_body (exactly k s) m n le w x e = exactly_more (read s m) (read s n) (more_read s m n le) k w x e

@@ -1,21 +1,20 @@
 -- The contents of a set of named bits are of one set, and are read as it.
-use Rattle.std.proofs.Common.{◌≡◌, ℕ, zero, suc, ◌+◌, ◌-◌, ◌*◌, ◌/◌, ◌%◌, ◌<◌, ◌≤◌, ◌^◌, true, List, [], ◌∷◌, get_or, map, reverse, Ok, Err, refl, ap, subst, sym, ◌∙◌, arith, ◌⊎◌, inl, inr}
+use Rattle.std.proofs.lemmas.Bool.Decides.{nat_tests}
+use Rattle.std.proofs.Common.{◌≡◌, ℕ, zero, suc, ◌+◌, ◌*◌, ◌/◌, ◌%◌, ◌<◌, ◌≤◌, true, List, [], ◌∷◌, get_or, map, reverse, Ok, refl, ap, subst, sym, ◌∙◌, arith, ◌⊎◌, inl, inr}
 use mathlib.Core.List.{reverse_aux}
-use Rattle.std.specs.Prelude.{nat_lt, ◌==◌, ◌&&◌, not}
+use Rattle.std.specs.Prelude.{nat_lt, ◌==◌}
 use Rattle.std.specs.Int.{w8, reverse_bits, reverse_bits_onto}
 use Rattle.std.specs.Int.Digits.{number_from_digits}
 use Rattle.std.proofs.lemmas.Int.Digits.{number_push}
-use Rattle.std.proofs.lemmas.Bool.{agree_below_at, ltb-true, lt-ltb, eqb-true, eqb-false, eq-eqb, ne_eqb, and_parts, and_from, not-true, not_from_false, cases_eq, cases_lt, cond-true, cond-false}
+use Rattle.std.proofs.lemmas.Bool.{agree_below_at, ltb-true, eqb-true, ne_eqb, cases_eq, cases_lt, cond-false}
 use Rattle.std.proofs.lemmas.List.{reverse-reverse, reverse-append}
 use Rattle.std.proofs.lemmas.Nat.Bits.{bit_at-trailing_zeros}
 use Rattle.const_oid.specs.Digits.{digits}
 use Rattle.const_oid.proofs.DigitLaws.{digits-Digits, digits-one, digits-more, quotient_pos, first_of_digits-pos, digits-number_from_digits}
-use Rattle.der_core_head.specs.declared.error.ErrorKind.TheVariants as kinds
 use Rattle.der_core_head.specs.declared.tag.Tag.{Tag}
 use Rattle.der_core_head.specs.Octets.{IsOctets}
 use Rattle.der_core_head.specs.BitStrings.{last_octet}
 use Rattle.der_core_head.specs.NamedBits.{set_octets, unused_bits, named_octets, spelled_set, IsNamed, ends_in_one, named_read}
-use Rattle.der_core_head.proofs.Results.{fine, ok_is, if_ok}
 use Rattle.der_core_head.proofs.Bytes.{IsBytes, bytes_tail, octets_are}
 
 -- Turned octets
@@ -30,13 +29,7 @@ turned-below o l = ltb-true (reverse_bits w8 o) 256 (agree_below_at (λ o. nat_l
 
 turned-pos : (o : ℕ) → o < 256 → 0 < o → 0 < reverse_bits w8 o
 unfolding reverse_bits_onto
-turned-pos o l some = by (cases_eq (reverse_bits w8 o) 0)
-  where
-    by : (reverse_bits w8 o ≡ 0) ⊎ (reverse_bits w8 o ≡ 0 → ⊥) → 0 < reverse_bits w8 o
-    by (inl e) =
-        let none : o ≡ 0 = sym (turned-turned o l) ∙ ap (reverse_bits w8) e in
-        absurd (omega arith)
-    by (inr n) = omega arith
+turned-pos o l some = grind (arith, turned-turned o l)
 
 abbrev turned : List ℕ → List ℕ
 turned w = map (reverse_bits w8) w
@@ -157,24 +150,13 @@ set_octets-of w h some =
     ∙ all-turned-turned w h
   where
     positive : (ds : List ℕ) → 0 < get_or ds 0 0 → digits 256 (number_from_digits 256 ds) ≡ ds → 0 < number_from_digits 256 ds
-    positive ds large back = by (cases_eq (number_from_digits 256 ds) 0)
-      where
-        by : (number_from_digits 256 ds ≡ 0) ⊎ (number_from_digits 256 ds ≡ 0 → ⊥) → 0 < number_from_digits 256 ds
-        by (inl e) =
-            let none : ds ≡ 0 ∷ [] = sym back ∙ ap (digits 256) e ∙ digits-one 256 0 (omega arith) in
-            let zeroth : get_or ds 0 0 ≡ 0 = ap (λ x. get_or x 0 0) none in
-            absurd (omega arith)
-        by (inr n) = omega arith
+    positive ds large back = grind (arith, digits-one 256 0)
 
 -- Contents
 
 ends_in_one-from : (w : List ℕ) → 0 < last_octet w → ends_in_one (unused_bits w) w ≡ true
 ends_in_one-from [] some = absurd (omega arith)
-ends_in_one-from (b ∷ w) some =
-    let last = last_octet (b ∷ w) in
-    and_from (not (last == 0)) (unused_bits (b ∷ w) == unused_bits (b ∷ w))
-    (not_from_false (last == 0) (ne_eqb last 0 (λ e. omega arith)))
-    (eq-eqb (unused_bits (b ∷ w)) (unused_bits (b ∷ w)) refl)
+ends_in_one-from (b ∷ w) some = grind (arith, nat_tests)
 
 unused_bits-below : (w : List ℕ) → IsOctets w → 0 < last_octet w → unused_bits w < 8
 unused_bits-below [] h some = omega arith
@@ -184,46 +166,25 @@ named_octets-of : (unused : ℕ) (w : List ℕ) → IsOctets w → ends_in_one u
 unfolding named_octets spelled_set set_octets
 named_octets-of unused [] h e = ap (λ u. u ∷ []) (eqb-true unused 0 e)
 named_octets-of unused (b ∷ w) h e =
-    let last = last_octet (b ∷ w) in
-    let tests = and_parts (not (last == 0)) (unused == unused_bits (b ∷ w)) e in
-    let some = eqb-false last 0 (not-true (last == 0) tests.0) in
-    let same = eqb-true unused (unused_bits (b ∷ w)) tests.1 in
-    let back = set_octets-of (b ∷ w) h (omega arith) in
+    let same : unused ≡ unused_bits (b ∷ w) = grind (arith, nat_tests) in
+    let back = set_octets-of (b ∷ w) h (grind (arith, nat_tests)) in
     ap (λ u. u ∷ b ∷ w) same ∙ ap (λ x. unused_bits x ∷ x) (sym back)
 
 pub named_sound : (names : ℕ) (t : Tag) (w : List ℕ) (n : ℕ) → IsBytes w → named_read names t w ≡ Ok n → IsNamed names n × (w ≡ named_octets n)
 unfolding named_read
 named_sound names t [] n h e = absurd cc
 named_sound names t (unused ∷ w) n h e =
-    let parts = if_ok (ends_in_one unused w && nat_lt (spelled_set w) (2 ^ names)) (kinds.Value t) (fine (spelled_set w)) n e in
-    let tests = and_parts (ends_in_one unused w) (nat_lt (spelled_set w) (2 ^ names)) parts.0 in
-    let same = ok_is (spelled_set w) n parts.1 in (
-      subst (IsNamed names) same (ltb-true (spelled_set w) (2 ^ names) tests.1),
-      named_octets-of unused w (octets_are w (bytes_tail unused w h)) tests.0 ∙ ap named_octets same,
-    )
+    let same : spelled_set w ≡ n = grind (arith, nat_tests) in
+    (grind (arith, nat_tests), named_octets-of unused w (octets_are w (bytes_tail unused w h)) (grind (arith, nat_tests)) ∙ ap named_octets same)
 
 pub named_again : (names : ℕ) (t : Tag) (n : ℕ) → IsNamed names n → named_read names t (named_octets n) ≡ Ok n
 unfolding named_read named_octets
 named_again names t n h =
     let w = set_octets n in
     let same : spelled_set w ≡ n = spelled_set-octets n in
-    let test : ends_in_one (unused_bits w) w ≡ true = by (cases_eq n 0) in
-    let small : nat_lt (spelled_set w) (2 ^ names) ≡ true = ap (λ m. nat_lt m (2 ^ names)) same ∙ lt-ltb n (2 ^ names) h in
-    cond-true (ends_in_one (unused_bits w) w && nat_lt (spelled_set w) (2 ^ names)) (fine (spelled_set w)) (Err (kinds.Value t)) (and_from (ends_in_one (unused_bits w) w) (nat_lt (spelled_set w) (2 ^ names)) test small)
-    ∙ ap (λ m. fine m) same
-  where
-    by : (n ≡ 0) ⊎ (n ≡ 0 → ⊥) → ends_in_one (unused_bits (set_octets n)) (set_octets n) ≡ true
-    by (inl e) = ap (λ w. ends_in_one (unused_bits w) w) (ap set_octets e ∙ set_octets-zero)
-    by (inr some) = ends_in_one-from (set_octets n) (last-set_octets n (omega arith))
+    let test : ends_in_one (unused_bits w) w ≡ true = grind (arith, ap (λ w. ends_in_one (unused_bits w) w) set_octets-zero, ends_in_one-from (set_octets n), last-set_octets n) in
+    grind (arith, nat_tests, same, test)
 
 pub named_below : (n : ℕ) → IsOctets (named_octets n)
 unfolding named_octets
-named_below n = (by (cases_eq n 0), set_octets-below n)
-  where
-    by : (n ≡ 0) ⊎ (n ≡ 0 → ⊥) → unused_bits (set_octets n) < 256
-    by (inl e) =
-        let none : unused_bits (set_octets n) ≡ 0 = ap unused_bits (ap set_octets e ∙ set_octets-zero) in
-        omega arith
-    by (inr some) =
-        let small = unused_bits-below (set_octets n) (set_octets-below n) (last-set_octets n (omega arith)) in
-        omega arith
+named_below n = (grind (arith, ap unused_bits set_octets-zero, unused_bits-below (set_octets n) (set_octets-below n), last-set_octets n), set_octets-below n)

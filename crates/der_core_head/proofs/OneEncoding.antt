@@ -1,6 +1,7 @@
 -- No encoding begins another, and no two values have one encoding, however many levels a value has.
-use Rattle.std.proofs.Common.{◌≡◌, ℕ, Bool, true, false, List, [], ◌∷◌, ◌++◌, Some, None, refl, sym, ap, subst, ◌∙◌, inl, inr}
+use Rattle.std.proofs.Common.{arith, ◌≡◌, ℕ, Bool, true, false, List, [], ◌∷◌, ◌++◌, Some, None, refl, sym, ap, subst, ◌∙◌, inl, inr}
 use mathlib.Core.Bool.{◌&&◌}
+use Rattle.std.proofs.lemmas.Bool.Decides.{nat_tests}
 use Rattle.std.proofs.lemmas.Bool.{and_parts, false≢true}
 use Rattle.std.proofs.lemmas.Slice.Eq.{bytes_eq-Decides}
 use Rattle.std.specs.List.{flat_map, AllByRecursion}
@@ -10,7 +11,7 @@ use Rattle.der_core_head.specs.declared.tag.Tag.{Tag}
 use Rattle.der_core_head.specs.declared.tag.Tag.TheVariants as tags
 use Rattle.der_core_head.specs.Tags.{tag_at}
 use Rattle.der_core_head.specs.Shapes.{Shape, Content, Body, tagged, any, either, optional, defaulted, nothing, leaf, nested, done, field, only, many, exactly, few, in_order, Value, ContentValue, BodyValue, AnyValue, octets_of, contents, body_octets, unless, IsValid, IsContent, IsBody, begins}
-use Rattle.der_core_head.specs.Spelling.{is_apart, is_content_apart, is_body_apart, is_element, is_clear, none_of}
+use Rattle.der_core_head.specs.Spelling.{is_apart, is_content_apart, is_body_apart, is_element, none_of}
 use Rattle.der_core_head.specs.Leaves.{leaf_read}
 use Rattle.der_core_head.specs.Grammar.{peek_at}
 use Rattle.der_core_head.proofs.Results.{ok_is}
@@ -38,17 +39,18 @@ abbrev AreOne : {P : Type 0} → P → P → List ℕ → List ℕ → Type 0
 AreOne v w r t = (v ≡ w) × (r ≡ t)
 
 -- each value takes an octet, so two lists end together
-one_list : (s : Shape) → is_element s ≡ true
+one_list : (s : Shape) → (is_element s && is_apart s) ≡ true
     → ((v w : Value s) (r t : List ℕ) → IsValid s v → IsValid s w → Stops s r → Stops s t → octets_of s v ++ r ≡ octets_of s w ++ t → AreOne v w r t)
     → (v w : List (Value s)) → AllByRecursion (IsValid s) v → AllByRecursion (IsValid s) w → flat_map (octets_of s) v ≡ flat_map (octets_of s) w → v ≡ w
-one_list s element one [] [] h k e = refl
-one_list s element one [] (y ∷ ys) h k e = let f = element_some s y element k.0 in absurd (cc (e, f.2))
-one_list s element one (x ∷ xs) [] h k e = let f = element_some s x element h.0 in absurd (cc (e, f.2))
-one_list s element one (x ∷ xs) (y ∷ ys) h k e =
+one_list s a one [] [] h k e = refl
+one_list s a one [] (y ∷ ys) h k e = let f = element_some s y (and_parts (is_element s) (is_apart s) a).0 k.0 in absurd (cc (e, f.2))
+one_list s a one (x ∷ xs) [] h k e = let f = element_some s x (and_parts (is_element s) (is_apart s) a).0 h.0 in absurd (cc (e, f.2))
+one_list s a one (x ∷ xs) (y ∷ ys) h k e =
+    let element = (and_parts (is_element s) (is_apart s) a).0 in
     let r = flat_map (octets_of s) xs in
     let t = flat_map (octets_of s) ys in
     let first = one x y r t h.0 k.0 (stops_element s r element) (stops_element s t element) e in
-    cc (first.0, one_list s element one xs ys h.1 k.1 first.1)
+    cc (first.0, one_list s a one xs ys h.1 k.1 first.1)
 
 one_default : (s : Shape) (d : List ℕ) (v w : Value s) (r t : List ℕ) (b c : Bool) → bytes_eq (octets_of s v) d ≡ b → bytes_eq (octets_of s w) d ≡ c
     → StandsFirst (begins s) (octets_of s v) → StandsFirst (begins s) (octets_of s w) → StopsBefore (begins s) r → StopsBefore (begins s) t
@@ -82,44 +84,30 @@ mutual
       let parts = split-tlv v.tag w.tag v.contents w.contents r t h.1 k.1 (fits_contents v.tag v.contents h.2) (fits_contents w.tag w.contents k.2) e in
       (same_any v w parts.0 parts.1, parts.2)
   one_encoding (either x y) (inl v) (inl w) r t a h k o p e =
-      let q = and_parts (is_element x && is_element y) _ a in
-      let m = and_parts (is_element x) (is_element y) q.0 in
-      let n = and_parts (is_apart x) (is_apart y) (and_parts (none_of x (begins y)) _ q.1).1 in
-      let one = one_encoding x v w r t n.0 h k (stops_element x r m.0) (stops_element x t m.0) e in
+      let one = one_encoding x v w r t (grind (arith, nat_tests)) h k (stops_element x r (grind (arith, nat_tests))) (stops_element x t (grind (arith, nat_tests))) e in
       (ap inl one.0, one.1)
   one_encoding (either x y) (inr v) (inr w) r t a h k o p e =
-      let q = and_parts (is_element x && is_element y) _ a in
-      let m = and_parts (is_element x) (is_element y) q.0 in
-      let n = and_parts (is_apart x) (is_apart y) (and_parts (none_of x (begins y)) _ q.1).1 in
-      let one = one_encoding y v w r t n.1 h k (stops_element y r m.1) (stops_element y t m.1) e in
+      let one = one_encoding y v w r t (grind (arith, nat_tests)) h k (stops_element y r (grind (arith, nat_tests))) (stops_element y t (grind (arith, nat_tests))) e in
       (ap inr one.0, one.1)
   one_encoding (either x y) (inl v) (inr w) r t a h k o p e =
-      let q = and_parts (is_element x && is_element y) _ a in
-      let m = and_parts (is_element x) (is_element y) q.0 in
-      let f = first_more (begins x) (octets_of x v) r (element_first x v m.0 h) in
-      let g = first_more (begins y) (octets_of y w) t (element_first y w m.1 k) in
-      absurd (none_both x (begins y) (octets_of x v ++ r) (and_parts (none_of x (begins y)) _ q.1).0 f (subst (StandsFirst (begins y)) (sym e) g))
+      let f = first_more (begins x) (octets_of x v) r (element_first x v (grind (arith, nat_tests)) h) in
+      let g = first_more (begins y) (octets_of y w) t (element_first y w (grind (arith, nat_tests)) k) in
+      absurd (none_both x (begins y) (octets_of x v ++ r) (grind (arith, nat_tests)) f (subst (StandsFirst (begins y)) (sym e) g))
   one_encoding (either x y) (inr v) (inl w) r t a h k o p e =
-      let q = and_parts (is_element x && is_element y) _ a in
-      let m = and_parts (is_element x) (is_element y) q.0 in
-      let f = first_more (begins x) (octets_of x w) t (element_first x w m.0 k) in
-      let g = first_more (begins y) (octets_of y v) r (element_first y v m.1 h) in
-      absurd (none_both x (begins y) (octets_of x w ++ t) (and_parts (none_of x (begins y)) _ q.1).0 f (subst (StandsFirst (begins y)) e g))
+      let f = first_more (begins x) (octets_of x w) t (element_first x w (grind (arith, nat_tests)) k) in
+      let g = first_more (begins y) (octets_of y v) r (element_first y v (grind (arith, nat_tests)) h) in
+      absurd (none_both x (begins y) (octets_of x w ++ t) (grind (arith, nat_tests)) f (subst (StandsFirst (begins y)) e g))
   one_encoding (optional s) None None r t a h k o p e = (refl, e)
   one_encoding (optional s) None (Some w) r t a h k o p e =
-      let q = and_parts (is_element s) (is_apart s) a in
-      absurd (none_stands (begins s) (octets_of s w ++ t) (first_more (begins s) (octets_of s w) t (element_first s w q.0 k)) (subst (StopsBefore (begins s)) e (o refl)))
+      absurd (none_stands (begins s) (octets_of s w ++ t) (first_more (begins s) (octets_of s w) t (element_first s w (grind (arith, nat_tests)) k)) (subst (StopsBefore (begins s)) e (o refl)))
   one_encoding (optional s) (Some v) None r t a h k o p e =
-      let q = and_parts (is_element s) (is_apart s) a in
-      absurd (none_stands (begins s) (octets_of s v ++ r) (first_more (begins s) (octets_of s v) r (element_first s v q.0 h)) (subst (StopsBefore (begins s)) (sym e) (p refl)))
+      absurd (none_stands (begins s) (octets_of s v ++ r) (first_more (begins s) (octets_of s v) r (element_first s v (grind (arith, nat_tests)) h)) (subst (StopsBefore (begins s)) (sym e) (p refl)))
   one_encoding (optional s) (Some v) (Some w) r t a h k o p e =
-      let q = and_parts (is_element s) (is_apart s) a in
-      let one = one_encoding s v w r t q.1 h k (stops_element s r q.0) (stops_element s t q.0) e in
+      let one = one_encoding s v w r t (grind (arith, nat_tests)) h k (stops_element s r (grind (arith, nat_tests))) (stops_element s t (grind (arith, nat_tests))) e in
       (ap Some one.0, one.1)
   one_encoding (defaulted s d) v w r t a h k o p e =
-      let q = and_parts (is_element s) (is_apart s) (and_parts (is_element s && is_apart s) _ a).0 in
-      one_default s d v w r t (bytes_eq (octets_of s v) d) (bytes_eq (octets_of s w) d) refl refl (element_first s v q.0 h) (element_first s w q.0 k) (o refl) (p refl)
-      (λ x y. one_encoding s v w x y q.1 h k (stops_element s x q.0) (stops_element s y q.0)) e
+      one_default s d v w r t (bytes_eq (octets_of s v) d) (bytes_eq (octets_of s w) d) refl refl (element_first s v (grind (arith, nat_tests)) h) (element_first s w (grind (arith, nat_tests)) k) (o refl) (p refl)
+      (λ x y. one_encoding s v w x y (grind (arith, nat_tests)) h k (stops_element s x (grind (arith, nat_tests))) (stops_element s y (grind (arith, nat_tests)))) e
   one_encoding nothing v w r t a h k o p e = (refl, e)
 
   pub one_content : (c : Content) (v w : ContentValue c) → is_content_apart c ≡ true → IsContent c v → IsContent c w → contents c v ≡ contents c w → v ≡ w
@@ -129,25 +117,14 @@ mutual
   pub one_body : (b : Body) (v w : BodyValue b) → is_body_apart b ≡ true → IsBody b v → IsBody b w → body_octets b v ≡ body_octets b w → v ≡ w
   one_body done v w a h k e = refl
   one_body (field s b) v w a h k e =
-      let c = and_parts (is_clear s b) _ a in
-      let q = and_parts (is_apart s) (is_body_apart b) c.1 in
-      let first = one_encoding s v.0 w.0 (body_octets b v.1) (body_octets b w.1) q.0 h.0 k.0 (next_stops s b v.1 c.0 q.1 h.1) (next_stops s b w.1 c.0 q.1 k.1) e in
-      same_pair v w first.0 (one_body b v.1 w.1 q.1 h.1 k.1 first.1)
+      let first = one_encoding s v.0 w.0 (body_octets b v.1) (body_octets b w.1) (grind (arith, nat_tests)) h.0 k.0 (next_stops s b v.1 (grind (arith, nat_tests)) (grind (arith, nat_tests)) h.1) (next_stops s b w.1 (grind (arith, nat_tests)) (grind (arith, nat_tests)) k.1) e in
+      same_pair v w first.0 (one_body b v.1 w.1 (grind (arith, nat_tests)) h.1 k.1 first.1)
   one_body (only s) v w a h k e =
-      let q = and_parts (is_element s) (is_apart s) a in
-      (one_encoding s v w [] [] q.1 h k (stops_end s) (stops_end s) (ap (λ (x : List ℕ). x ++ []) e)).0
-  one_body (many s) v w a h k e =
-      let q = and_parts (is_element s) (is_apart s) a in
-      one_list s q.0 (λ x y r t. one_encoding s x y r t q.1) v w h k e
-  one_body (exactly n s) v w a h k e =
-      let q = and_parts (is_element s) (is_apart s) a in
-      one_list s q.0 (λ x y r t. one_encoding s x y r t q.1) v w h.0 k.0 e
-  one_body (few n s) v w a h k e =
-      let q = and_parts (is_element s) (is_apart s) a in
-      one_list s q.0 (λ x y r t. one_encoding s x y r t q.1) v w h.0 k.0 e
-  one_body (in_order how s) v w a h k e =
-      let q = and_parts (is_element s) (is_apart s) a in
-      one_list s q.0 (λ x y r t. one_encoding s x y r t q.1) v w h.0 k.0 e
+      (one_encoding s v w [] [] (grind (arith, nat_tests)) h k (stops_end s) (stops_end s) (ap (λ (x : List ℕ). x ++ []) e)).0
+  one_body (many s) v w a h k e = one_list s a (λ x y r t. one_encoding s x y r t (grind (arith, nat_tests))) v w h k e
+  one_body (exactly n s) v w a h k e = one_list s a (λ x y r t. one_encoding s x y r t (grind (arith, nat_tests))) v w h.0 k.0 e
+  one_body (few n s) v w a h k e = one_list s a (λ x y r t. one_encoding s x y r t (grind (arith, nat_tests))) v w h.0 k.0 e
+  one_body (in_order how s) v w a h k e = one_list s a (λ x y r t. one_encoding s x y r t (grind (arith, nat_tests))) v w h.0 k.0 e
 
 -- whatever follows
 pub one_value : (s : Shape) (v w : Value s) (r t : List ℕ) → is_element s ≡ true → is_apart s ≡ true → IsValid s v → IsValid s w

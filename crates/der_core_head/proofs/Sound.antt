@@ -1,7 +1,7 @@
 -- What is read is spelled so.
+use Rattle.std.proofs.lemmas.Bool.Decides.{nat_tests}
 use Rattle.std.proofs.Common.{◌≡◌, ℕ, zero, suc, ◌≤◌, Bool, true, false, cond, ltb, List, [], ◌∷◌, ◌++◌, length, take, drop, take_at, Option, Some, None, Result, Ok, Err, refl, sym, ap, subst, ◌∙◌, append_assoc, arith, inl, inr, ◌⊎◌}
-use mathlib.Core.Bool.{◌&&◌}
-use Rattle.std.proofs.lemmas.Bool.{ltb-false, ltb-true, and_parts}
+use Rattle.std.proofs.lemmas.Bool.{ltb-true, and_parts}
 use Rattle.std.proofs.lemmas.List.{append-nil, take-append-drop, length-take}
 use Rattle.std.specs.List.{flat_map, AllByRecursion}
 use Rattle.std.specs.Str.{bytes_eq}
@@ -16,44 +16,27 @@ use Rattle.der_core_head.specs.Tags.{IsTag, same_tag, tag_at}
 use Rattle.der_core_head.specs.Heads.{Fits, head_at, head_octets, tlv}
 use Rattle.der_core_head.specs.Leaves.{leaf_read}
 use Rattle.der_core_head.specs.Shapes.{Step, Shape, Content, Body, tagged, any, either, optional, defaulted, nothing, leaf, nested, done, field, only, many, exactly, few, in_order, Value, ContentValue, BodyValue, AnyValue, octets_of, contents, body_octets, unless, IsValid, IsContent, IsBody, Follows, AllInOrder, begins}
-use Rattle.der_core_head.specs.Spelling.{is_apart, is_content_apart, is_body_apart, is_element, is_clear}
-use Rattle.der_core_head.specs.Grammar.{whole, read, read_content, read_body, read_many, read_exactly, read_in_order, follows_last, tlv_at, any_at, peek_at, chosen, opt_after, opt_at, default_after, default_at, either_at, value_at, slice_at, leaf_at}
-use Rattle.der_core_head.proofs.Results.{ok_is, bind_ok, if_ok, unless_ok, either_ok, whole_ok}
+use Rattle.der_core_head.specs.Spelling.{is_apart, is_content_apart, is_body_apart, is_element}
+use Rattle.der_core_head.specs.Grammar.{read, read_content, read_body, read_many, read_exactly, read_in_order, follows_last, tlv_at, any_at, peek_at, chosen, opt_after, opt_at, default_after, default_at, either_at, value_at, slice_at, leaf_at}
+use Rattle.der_core_head.proofs.Results.{ok_is, bind_ok, if_ok, either_ok}
 use Rattle.der_core_head.proofs.Bytes.{IsBytes, bytes_take, bytes_rest, octets_are}
 use Rattle.der_core_head.proofs.Fits.{fits_front, fits_rest, fits_contents}
 use Rattle.der_core_head.proofs.TagLaws.{same_tag-eq}
 use Rattle.der_core_head.proofs.HeadLaws.{head_sound}
 use Rattle.der_core_head.proofs.LeafLaws.{leaf_sound}
 use Rattle.der_core_head.proofs.InOrder.{ok_follows}
-use Rattle.der_core_head.specs.Limits.{length_max}
 
 -- a part in front, and what the rest is
 joined : (a b c rest w : List ℕ) → w ≡ a ++ rest → rest ≡ b ++ c → w ≡ (a ++ b) ++ c
 joined a b c rest w e s = e ∙ ap (λ (x : List ℕ). a ++ x) s ∙ sym (append_assoc a b c)
 
-pub pair_is : {P : Type 0} (x : P × List ℕ) (p : P) → x.0 ≡ p → x.1 ≡ [] → x ≡ (p, [])
-pair_is (q, w) p e f = cc
-
--- all of the octets were read, and what they spell is the value
-whole_is : {P : Type 0} (x y : P × List ℕ) (p : P) → whole x ≡ Ok y → y.0 ≡ p → x ≡ (p, [])
-whole_is {P} x y p e same = let o = whole_ok x y e in pair_is x p (ap (λ (q : P × List ℕ). q.0) o.0 ∙ same) o.1
-
 slice_sound : (n : ℕ) (w x r : List ℕ) → slice_at n w ≡ Ok (x, r) → (length x ≡ n) × (w ≡ x ++ r)
 unfolding slice_at
-slice_sound n w x r e =
-    let h = unless_ok (ltb (length w) n) kinds.Incomplete (Ok (take n w, drop n w)) (x, r) e in
-    let P : List ℕ × List ℕ → Type 0 = λ q. (length q.0 ≡ n) × (w ≡ q.0 ++ q.1) in
-    subst P (ok_is (take n w, drop n w) (x, r) h.1) (omega (arith, length-take n w, ltb-false (length w) n h.0), sym (take-append-drop n w))
+slice_sound n w x r e = grind (arith, nat_tests, length-take n w, take-append-drop n w)
 
-value_sound : {P : Type 0} (F : Readings P) (n : ℕ) (w : List ℕ) (p : P) (r : List ℕ) → value_at F n w ≡ Ok (p, r) → (n ≤ length w) × (F (take n w) ≡ Ok (p, [])) × (r ≡ drop n w)
+pub value_sound : {P : Type 0} (F : Readings P) (n : ℕ) (w : List ℕ) (p : P) (r : List ℕ) → value_at F n w ≡ Ok (p, r) → (n ≤ length w) × (F (take n w) ≡ Ok (p, [])) × (r ≡ drop n w)
 unfolding value_at
-value_sound {P} F n w p r e =
-    let h = unless_ok (ltb (length w) n) kinds.Incomplete (F (take n w) >>= whole >>= λ x. Ok (x.0, drop n w)) (p, r) e in
-    let y = bind_ok (F (take n w) >>= whole) (λ x. Ok (x.0, drop n w)) (p, r) h.1 in
-    let x = bind_ok (F (take n w)) whole y.0 y.1 in
-    let same = ok_is (y.0.0, drop n w) (p, r) y.2 in
-    let value = whole_is x.0 y.0 p x.2 (ap (λ (q : P × List ℕ). q.0) same) in
-    (ltb-false (length w) n h.0, x.1 ∙ ap (λ (q : P × List ℕ). Ok q) value, sym (ap (λ (q : P × List ℕ). q.1) same))
+value_sound {P} F n w p r e = (grind (arith, nat_tests), grind (arith, nat_tests), grind (arith, nat_tests))
 
 -- a header, and as many octets as it says, are an encoding
 tlv_is : (t : Tag) (n : ℕ) (c r rest w : List ℕ) → w ≡ head_octets t n ++ rest → length c ≡ n → rest ≡ c ++ r → w ≡ tlv t c ++ r
@@ -102,8 +85,7 @@ opt_sound {P} first F w p r e = let t = bind_ok (peek_at encodings.Der w) (λ t.
     after None e = let same = ok_is (None, w) (p, r) e in inl (sym (ap (λ (q : Option P × List ℕ). q.0) same), ap (λ (q : Option P × List ℕ). q.1) same)
     after (Some t) e =
         let x = bind_ok (F w) (λ x. Ok (Some x.0, x.1)) (p, r) e in
-        let same = ok_is (Some x.0.0, x.0.1) (p, r) x.2 in
-        inr (x.0.0, sym (ap (λ (q : Option P × List ℕ). q.0) same), x.1 ∙ ap (λ (q : Option P × List ℕ). Ok (x.0.0, q.1)) same)
+        inr (x.0.0, grind (arith, nat_tests), grind (arith, nat_tests))
 
 default_sound : {P : Type 0} (first : Tag → Bool) (D : Result (P × List ℕ) ErrorKind) (is : P → Bool) (F : Readings P) (w : List ℕ) (v : P) (r : List ℕ) → default_at encodings.Der first D is F w ≡ Ok (v, r)
     → ((w ≡ r) × (D ≡ Ok (v, []))) ⊎ ((is v ≡ false) × (F w ≡ Ok (v, r)))
@@ -111,16 +93,8 @@ unfolding default_at
 default_sound {P} first D is F w v r e = let t = bind_ok (peek_at encodings.Der w) (λ t. default_after D is F w (chosen first t)) (v, r) e in after (chosen first t.0) t.2
   where
     after : (o : Option Tag) → default_after D is F w o ≡ Ok (v, r) → ((w ≡ r) × (D ≡ Ok (v, []))) ⊎ ((is v ≡ false) × (F w ≡ Ok (v, r)))
-    after None e =
-        let y = bind_ok (D >>= whole) (λ x. Ok (x.0, w)) (v, r) e in
-        let x = bind_ok D whole y.0 y.1 in
-        let same = ok_is (y.0.0, w) (v, r) y.2 in
-        inl (ap (λ (q : P × List ℕ). q.1) same, x.1 ∙ ap (λ (q : P × List ℕ). Ok q) (whole_is x.0 y.0 v x.2 (ap (λ (q : P × List ℕ). q.0) same)))
-    after (Some t) e =
-        let x = bind_ok (F w) (λ x. cond (is x.0) (Err (kinds.Noncanonical t)) (Ok x)) (v, r) e in
-        let h = unless_ok (is x.0.0) (kinds.Noncanonical t) (Ok x.0) (v, r) x.2 in
-        let same = ok_is x.0 (v, r) h.1 in
-        inr (subst (λ (q : P × List ℕ). is q.0 ≡ false) same h.0, x.1 ∙ ap (λ (q : P × List ℕ). Ok q) same)
+    after None e = inl (grind (arith, nat_tests), grind (arith, nat_tests))
+    after (Some t) e = inr (grind (arith, nat_tests), grind (arith, nat_tests))
 
 either_sound : {P Q : Type 0} (a b : Tag → Bool) (F : Readings P) (G : Readings Q) (w : List ℕ) (p : P ⊎ Q) (r : List ℕ) → either_at encodings.Der a b F G w ≡ Ok (p, r)
     → ((x : P) × (inl x ≡ p) × (F w ≡ Ok (x, r))) ⊎ ((x : Q) × (inr x ≡ p) × (G w ≡ Ok (x, r)))
@@ -132,13 +106,11 @@ either_sound {P} {Q} a b F G w p r e =
     elim (either_ok (a t.0.0) left (cond (b t.0.0) right (Err kinds.TagUnexpected)) (Ok (p, r)) t.2) [
       | inl h ↦
           let x = bind_ok (F w) (λ x. Ok (inl x.0, x.1)) (p, r) h.1 in
-          let same = ok_is (inl x.0.0, x.0.1) (p, r) x.2 in
-          inl (x.0.0, ap (λ (q : (P ⊎ Q) × List ℕ). q.0) same, x.1 ∙ ap (λ (q : (P ⊎ Q) × List ℕ). Ok (x.0.0, q.1)) same)
+          inl (x.0.0, grind (arith, nat_tests), grind (arith, nat_tests))
       | inr h ↦
           let m = if_ok (b t.0.0) kinds.TagUnexpected right (p, r) h.1 in
           let x = bind_ok (G w) (λ x. Ok (inr x.0, x.1)) (p, r) m.1 in
-          let same = ok_is (inr x.0.0, x.0.1) (p, r) x.2 in
-          inr (x.0.0, ap (λ (q : (P ⊎ Q) × List ℕ). q.0) same, x.1 ∙ ap (λ (q : (P ⊎ Q) × List ℕ). Ok (x.0.0, q.1)) same)
+          inr (x.0.0, grind (arith, nat_tests), grind (arith, nat_tests))
     ]
 
 octets_bytes : (d : List ℕ) → are_octets d ≡ true → IsBytes d
@@ -154,35 +126,27 @@ leaf_at_ok (Err d) v r e = absurd cc
 abbrev pub Found : {P : Type 0} → (P → Type 0) → (P → List ℕ) → List ℕ → P → List ℕ → Type 0
 Found V o w v r = V v × (w ≡ o v ++ r)
 
-abbrev Finds : {P : Type 0} → Readings P → (P → Type 0) → (P → List ℕ) → Type 0
+abbrev pub Finds : {P : Type 0} → Readings P → (P → Type 0) → (P → List ℕ) → Type 0
 Finds {P} F V o = (w : List ℕ) (v : P) (r : List ℕ) → IsBytes w → Fits w → F w ≡ Ok (v, r) → Found V o w v r
 
-many_sound : {P : Type 0} (k : ErrorKind) (F : Readings P) (V : P → Type 0) (o : P → List ℕ) → Finds F V o
-    → (n : ℕ) (w : List ℕ) (v : List P) (r : List ℕ) → IsBytes w → Fits w → read_many k F n w ≡ Ok (v, r) → Found (AllByRecursion V) (flat_map o) w v r
+-- and no more than so many
+few_sound : {P : Type 0} (k : ErrorKind) (F : Readings P) (V : P → Type 0) (o : P → List ℕ) → Finds F V o
+    → (n : ℕ) (w : List ℕ) (v : List P) (r : List ℕ) → IsBytes w → Fits w → read_many k F n w ≡ Ok (v, r) → Found (λ v. AllByRecursion V v × (length v ≤ n)) (flat_map o) w v r
 unfolding read_many
-many_sound {P} k F V o each zero [] v r bytes fits e = let same = ok_is ([], []) (v, r) e in subst (λ (q : List P × List ℕ). Found (AllByRecursion V) (flat_map o) [] q.0 q.1) same (tt, refl)
-many_sound k F V o each zero (b ∷ w) v r bytes fits e = absurd cc
-many_sound {P} k F V o each (suc n) [] v r bytes fits e = let same = ok_is ([], []) (v, r) e in subst (λ (q : List P × List ℕ). Found (AllByRecursion V) (flat_map o) [] q.0 q.1) same (tt, refl)
-many_sound {P} k F V o each (suc n) (b ∷ w) v r bytes fits e =
+few_sound {P} k F V o each n [] v r bytes fits e = let same = ok_is ([], []) (v, r) e in subst (λ (q : List P × List ℕ). Found (λ v. AllByRecursion V v × (length v ≤ n)) (flat_map o) [] q.0 q.1) same ((tt, omega arith), refl)
+few_sound k F V o each zero (b ∷ w) v r bytes fits e = absurd cc
+few_sound {P} k F V o each (suc n) (b ∷ w) v r bytes fits e =
     let x = bind_ok (F (b ∷ w)) (λ x. read_many k F n x.1 >>= λ y. Ok (x.0 ∷ y.0, y.1)) (v, r) e in
     let y = bind_ok (read_many k F n x.0.1) (λ y. Ok (x.0.0 ∷ y.0, y.1)) (v, r) x.2 in
     let u = each (b ∷ w) x.0.0 x.0.1 bytes fits x.1 in
-    let m = many_sound k F V o each n x.0.1 y.0.0 y.0.1 (bytes_rest (o x.0.0) x.0.1 (b ∷ w) u.1 bytes) (fits_rest (o x.0.0) x.0.1 (b ∷ w) u.1 fits) y.1 in
+    let m = few_sound k F V o each n x.0.1 y.0.0 y.0.1 (bytes_rest (o x.0.0) x.0.1 (b ∷ w) u.1 bytes) (fits_rest (o x.0.0) x.0.1 (b ∷ w) u.1 fits) y.1 in
     let same = ok_is (x.0.0 ∷ y.0.0, y.0.1) (v, r) y.2 in
-    subst (λ (q : List P × List ℕ). Found (AllByRecursion V) (flat_map o) (b ∷ w) q.0 q.1) {x = (x.0.0 ∷ y.0.0, y.0.1)} same
-    ((u.0, m.0), joined (o x.0.0) (flat_map o y.0.0) y.0.1 x.0.1 (b ∷ w) u.1 m.1)
+    subst (λ (q : List P × List ℕ). Found (λ v. AllByRecursion V v × (length v ≤ suc n)) (flat_map o) (b ∷ w) q.0 q.1) {x = (x.0.0 ∷ y.0.0, y.0.1)} same
+    (((u.0, m.0.0), omega (arith, m.0.1)), joined (o x.0.0) (flat_map o y.0.0) y.0.1 x.0.1 (b ∷ w) u.1 m.1)
 
--- and no more than so many
-few_sound : {P : Type 0} (k : ErrorKind) (F : Readings P) (n : ℕ) (w : List ℕ) (v : List P) (r : List ℕ) → read_many k F n w ≡ Ok (v, r) → length v ≤ n
-unfolding read_many
-few_sound {P} k F zero [] v r e = let same = ok_is ([], []) (v, r) e in subst (λ (q : List P × List ℕ). length q.0 ≤ 0) same (omega arith)
-few_sound k F zero (b ∷ w) v r e = absurd cc
-few_sound {P} k F (suc n) [] v r e = let same = ok_is ([], []) (v, r) e in subst (λ (q : List P × List ℕ). length q.0 ≤ suc n) same (omega arith)
-few_sound {P} k F (suc n) (b ∷ w) v r e =
-    let x = bind_ok (F (b ∷ w)) (λ x. read_many k F n x.1 >>= λ y. Ok (x.0 ∷ y.0, y.1)) (v, r) e in
-    let y = bind_ok (read_many k F n x.0.1) (λ y. Ok (x.0.0 ∷ y.0, y.1)) (v, r) x.2 in
-    let same = ok_is (x.0.0 ∷ y.0.0, y.0.1) (v, r) y.2 in
-    subst (λ (q : List P × List ℕ). length q.0 ≤ suc n) {x = (x.0.0 ∷ y.0.0, y.0.1)} same (omega (arith, few_sound k F n x.0.1 y.0.0 y.0.1 y.1))
+pub many_sound : {P : Type 0} (k : ErrorKind) (F : Readings P) (V : P → Type 0) (o : P → List ℕ) → Finds F V o
+    → (n : ℕ) (w : List ℕ) (v : List P) (r : List ℕ) → IsBytes w → Fits w → read_many k F n w ≡ Ok (v, r) → Found (AllByRecursion V) (flat_map o) w v r
+many_sound k F V o each n w v r bytes fits e = let h = few_sound k F V o each n w v r bytes fits e in (h.0.0, h.1)
 
 exactly_sound : {P : Type 0} (F : Readings P) (V : P → Type 0) (o : P → List ℕ) → Finds F V o
     → (n : ℕ) (w : List ℕ) (v : List P) (r : List ℕ) → IsBytes w → Fits w → read_exactly F n w ≡ Ok (v, r) → Found (λ v. AllByRecursion V v × (length v ≡ n)) (flat_map o) w v r
@@ -214,9 +178,8 @@ order_on how o (Some a) x xs e h = (ok_follows how a (o x) tt e, ordered_behind 
 ordered_sound : {P : Type 0} (how : Step) (F : Readings P) (V : P → Type 0) (o : P → List ℕ) → Finds F V o
     → (last : Option (List ℕ)) (n : ℕ) (w : List ℕ) (v : List P) (r : List ℕ) → IsBytes w → Fits w → read_in_order how o F last n w ≡ Ok (v, r) → (AllByRecursion V v × OrderedFrom how o last v) × (w ≡ flat_map o v ++ r)
 unfolding read_in_order
-ordered_sound {P} how F V o each last zero [] v r bytes fits e = let same = ok_is ([], []) (v, r) e in subst (λ (q : List P × List ℕ). (AllByRecursion V q.0 × OrderedFrom how o last q.0) × ([] ≡ flat_map o q.0 ++ q.1)) same ((tt, tt), refl)
+ordered_sound {P} how F V o each last n [] v r bytes fits e = let same = ok_is ([], []) (v, r) e in subst (λ (q : List P × List ℕ). (AllByRecursion V q.0 × OrderedFrom how o last q.0) × ([] ≡ flat_map o q.0 ++ q.1)) same ((tt, tt), refl)
 ordered_sound how F V o each last zero (b ∷ w) v r bytes fits e = absurd cc
-ordered_sound {P} how F V o each last (suc n) [] v r bytes fits e = let same = ok_is ([], []) (v, r) e in subst (λ (q : List P × List ℕ). (AllByRecursion V q.0 × OrderedFrom how o last q.0) × ([] ≡ flat_map o q.0 ++ q.1)) same ((tt, tt), refl)
 ordered_sound {P} how F V o each last (suc n) (b ∷ w) v r bytes fits e =
     let x = bind_ok (F (b ∷ w)) (λ x. follows_last how last (o x.0) >>= λ _. read_in_order how o F (Some (o x.0)) n x.1 >>= λ y. Ok (x.0 ∷ y.0, y.1)) (v, r) e in
     let g = bind_ok (follows_last how last (o x.0.0)) (λ _. read_in_order how o F (Some (o x.0.0)) n x.0.1 >>= λ y. Ok (x.0.0 ∷ y.0, y.1)) (v, r) x.2 in
@@ -242,29 +205,24 @@ mutual
       ((i.0, h.3, subst (λ (x : List ℕ). Fits (tlv t x)) i.1 h.4), h.5 ∙ ap (λ (x : List ℕ). tlv t x ++ r) i.1)
   sound any room w v r a bytes fits e = let h = any_sound w v r bytes fits e in ((h.0, h.1, h.2), h.3)
   sound (either x y) room w v r a bytes fits e =
-      let p = and_parts (is_apart x) (is_apart y) (and_parts _ _ (and_parts _ _ a).1).1 in
       elim (either_sound (begins x) (begins y) (read x room) (read y room) w v r e) [
-        | inl h ↦ subst (λ q. IsValid (either x y) q × (w ≡ octets_of (either x y) q ++ r)) h.1 (sound x room w h.0 r p.0 bytes fits h.2)
-        | inr h ↦ subst (λ q. IsValid (either x y) q × (w ≡ octets_of (either x y) q ++ r)) h.1 (sound y room w h.0 r p.1 bytes fits h.2)
+        | inl h ↦ subst (λ q. IsValid (either x y) q × (w ≡ octets_of (either x y) q ++ r)) h.1 (sound x room w h.0 r (grind (arith, nat_tests)) bytes fits h.2)
+        | inr h ↦ subst (λ q. IsValid (either x y) q × (w ≡ octets_of (either x y) q ++ r)) h.1 (sound y room w h.0 r (grind (arith, nat_tests)) bytes fits h.2)
       ]
   sound (optional s) room w v r a bytes fits e =
-      let p = (and_parts _ (is_apart s) a).1 in
       elim (opt_sound (begins s) (read s room) w v r e) [
         | inl h ↦ subst (λ q. IsValid (optional s) q × (w ≡ octets_of (optional s) q ++ r)) (sym h.0) (tt, h.1)
-        | inr h ↦ subst (λ q. IsValid (optional s) q × (w ≡ octets_of (optional s) q ++ r)) (sym h.1) (sound s room w h.0 r p bytes fits h.2)
+        | inr h ↦ subst (λ q. IsValid (optional s) q × (w ≡ octets_of (optional s) q ++ r)) (sym h.1) (sound s room w h.0 r (grind (arith, nat_tests)) bytes fits h.2)
       ]
   sound nothing room w v r a bytes fits e = (tt, ap (λ (q : Unit {0} × List ℕ). q.1) (ok_is (tt, w) (v, r) e))
   sound (defaulted s d) room w v r a bytes fits e =
-      let q = and_parts _ (are_octets d && ltb (length d) (suc length_max)) a in
-      let k = and_parts (are_octets d) (ltb (length d) (suc length_max)) q.1 in
-      let p = (and_parts _ (is_apart s) q.0).1 in
       elim (default_sound (begins s) (read s 64 d) (λ v. bytes_eq (octets_of s v) d) (read s room) w v r e) [
         | inl h ↦
-            let i = sound s 64 d v [] p (octets_bytes d k.0) (ltb-true (length d) (suc length_max) k.1) h.1 in
+            let i = sound s 64 d v [] (grind (arith, nat_tests)) (octets_bytes d (grind (arith, nat_tests))) (grind (arith, nat_tests)) h.1 in
             let same : bytes_eq (octets_of s v) d ≡ true = (bytes_eq-Decides (octets_of s v) d).1 (sym (i.1 ∙ append-nil (octets_of s v))) in
             (i.0, h.0 ∙ ap (λ b. unless b (octets_of s v) ++ r) (sym same))
         | inr h ↦
-            let i = sound s room w v r p bytes fits h.1 in
+            let i = sound s room w v r (grind (arith, nat_tests)) bytes fits h.1 in
             (i.0, i.1 ∙ ap (λ b. unless b (octets_of s v) ++ r) (sym h.0))
       ]
 
@@ -272,20 +230,17 @@ mutual
   sound_content (leaf l) t room w v r a bytes fits e = leaf_sound l t w v bytes (leaf_at_ok (leaf_read l t w) v r e).0
   sound_content (nested b) t zero w v r a bytes fits e = absurd cc
   sound_content (nested b) t (suc room) w v r a bytes fits e =
-      let x = bind_ok (read_body b room w) whole (v, r) e in
-      let o = whole_ok x.0 (v, r) x.2 in
-      let h = sound_body b room w v r a bytes fits (x.1 ∙ ap (λ (q : BodyValue b × List ℕ). Ok q) o.0) in
-      let none : r ≡ [] = sym (ap (λ (q : BodyValue b × List ℕ). q.1) o.0) ∙ o.1 in
+      let h = sound_body b room w v r a bytes fits (grind (arith, nat_tests)) in
+      let none : r ≡ [] = grind (arith, nat_tests) in
       (h.0, h.1 ∙ ap (λ (q : List ℕ). body_octets b v ++ q) none ∙ append-nil (body_octets b v))
 
   pub sound_body : (b : Body) (room : ℕ) (w : List ℕ) (v : BodyValue b) (r : List ℕ) → is_body_apart b ≡ true → IsBytes w → Fits w → read_body b room w ≡ Ok (v, r) → IsBody b v × (w ≡ body_octets b v ++ r)
   sound_body done room w v r a bytes fits e = (tt, ap (λ (q : Unit {0} × List ℕ). q.1) (ok_is (tt, w) (v, r) e))
   sound_body (field s b) room w v r a bytes fits e =
-      let p = and_parts (is_apart s) (is_body_apart b) (and_parts (is_clear s b) _ a).1 in
       let x = bind_ok (read s room w) (λ x. read_body b room x.1 >>= λ y. Ok ((x.0, y.0), y.1)) (v, r) e in
       let y = bind_ok (read_body b room x.0.1) (λ y. Ok ((x.0.0, y.0), y.1)) (v, r) x.2 in
-      let u = sound s room w x.0.0 x.0.1 p.0 bytes fits x.1 in
-      let m = sound_body b room x.0.1 y.0.0 y.0.1 p.1 (bytes_rest (octets_of s x.0.0) x.0.1 w u.1 bytes) (fits_rest (octets_of s x.0.0) x.0.1 w u.1 fits) y.1 in
+      let u = sound s room w x.0.0 x.0.1 (grind (arith, nat_tests)) bytes fits x.1 in
+      let m = sound_body b room x.0.1 y.0.0 y.0.1 (grind (arith, nat_tests)) (bytes_rest (octets_of s x.0.0) x.0.1 w u.1 bytes) (fits_rest (octets_of s x.0.0) x.0.1 w u.1 fits) y.1 in
       let same = ok_is ((x.0.0, y.0.0), y.0.1) (v, r) y.2 in
       subst (λ (q : BodyValue (field s b) × List ℕ). IsBody (field s b) q.0 × (w ≡ body_octets (field s b) q.0 ++ q.1)) {x = ((x.0.0, y.0.0), y.0.1)} same
       ((u.0, m.0), joined (octets_of s x.0.0) (body_octets b y.0.0) y.0.1 x.0.1 w u.1 m.1)
@@ -295,8 +250,7 @@ mutual
   sound_body (exactly n s) room w v r a bytes fits e =
       exactly_sound (read s room) (IsValid s) (octets_of s) (λ w v r bytes fits e. sound s room w v r (and_parts (is_element s) _ a).1 bytes fits e) n w v r bytes fits e
   sound_body (few n s) room w v r a bytes fits e =
-      let h = many_sound kinds.Overlength (read s room) (IsValid s) (octets_of s) (λ w v r bytes fits e. sound s room w v r (and_parts (is_element s) _ a).1 bytes fits e) n w v r bytes fits e in
-      ((h.0, few_sound kinds.Overlength (read s room) n w v r e), h.1)
+      few_sound kinds.Overlength (read s room) (IsValid s) (octets_of s) (λ w v r bytes fits e. sound s room w v r (and_parts (is_element s) _ a).1 bytes fits e) n w v r bytes fits e
   sound_body (in_order how s) room w v r a bytes fits e =
       let h = ordered_sound how (read s room) (IsValid s) (octets_of s) (λ w v r bytes fits e. sound s room w v r (and_parts (is_element s) _ a).1 bytes fits e) None (length w) w v r bytes fits e in
       ((h.0.0, from_none how (octets_of s) v h.0.1), h.1)

@@ -1,5 +1,5 @@
 -- Tags with the same octets are the same tag.
-use Rattle.std.proofs.Common.{◌≡◌, true, false, subst}
+use Rattle.std.proofs.Common.{◌≡◌, true, false, arith}
 use Rattle.std.specs.Prelude.{◌≢◌}
 use Rattle.der_core_head.specs.declared.tag.Tag.{Tag}
 use Rattle.der_core_head.specs.Tags.{same_tag}
@@ -9,8 +9,6 @@ pub same : (a b : Tag) → same_tag a b ≡ true → a ≡ b
 same = same_tag-eq
 
 pub other : (a b : Tag) → same_tag a b ≡ false → a ≢ b
-other a b differ e =
-    let same : same_tag a b ≡ true = subst (λ (t : Tag). same_tag a t ≡ true) e (same_tag-refl a) in
-    absurd cc
+other a b differ e = absurd (grind (arith, same_tag-refl a))
 
 pub ruleset tag_equality = (same, other)

@@ -1,24 +1,23 @@
 -- A tag is read from its octets, and what is read has these octets (X.690 8.1.2).
-use Rattle.std.proofs.Common.{◌≡◌, ℕ, zero, suc, ◌+◌, ◌*◌, ◌/◌, ◌%◌, ◌<◌, ◌≤◌, Bool, true, false, cond, ltb, eqb, List, [], ◌∷◌, ◌++◌, length, get_or, Option, Some, None, Result, Ok, Err, sym, refl, ap, subst, ◌∙◌, arith, ◌⊎◌, inl, inr}
-use Rattle.std.proofs.lemmas.Bool.{cases_lt, lt-ltb, le-ltb, ltb-true, ltb-false, eq-eqb, ne_eqb, eqb-true, eqb-false, and_parts, and_from, cases_Bool}
+use Rattle.std.proofs.lemmas.Bool.Decides.{nat_tests}
+use Rattle.std.proofs.Common.{◌≡◌, ℕ, ◌+◌, ◌*◌, ◌/◌, ◌%◌, ◌<◌, ◌≤◌, Bool, true, false, cond, ltb, eqb, List, [], ◌∷◌, ◌++◌, length, get_or, Option, Some, None, Ok, sym, refl, ap, subst, ◌∙◌, arith, ◌⊎◌, inl, inr}
+use Rattle.std.proofs.lemmas.Bool.{cases_lt, cases_eq, lt-ltb, le-ltb, eq-eqb, ne_eqb, eqb-true, and_parts, and_from}
 use Rattle.std.specs.List.{find}
 use Rattle.std.specs.Int.Digits.{number_from_digits_after, AllBelowBase}
 use Rattle.std.proofs.lemmas.Int.Digits.{number_after_ge}
 use Rattle.const_oid.specs.Digits.{digits, marked}
 use Rattle.const_oid.proofs.DigitLaws.{Digits, digits-Digits, first_of_digits-pos, digits-number_from_digits, marked_below}
-use Rattle.der_core_head.specs.declared.error.ErrorKind.{ErrorKind}
-use Rattle.der_core_head.specs.declared.error.ErrorKind.TheVariants as kinds
 use Rattle.der_core_head.specs.declared.tag.Tag.{Tag}
 use Rattle.der_core_head.specs.declared.tag.Tag.TheVariants as tags
 use Rattle.der_core_head.specs.Octets.{◌>>=◌, IsOctets}
 use Rattle.der_core_head.specs.Tags.{leading, low_bits, leading_octet, number_of, number_octets, tag_octets, IsTag, same_tag, universal_tags, universal_tag, class_tag, known_tag, tag_at, digits_at, number_at}
-use Rattle.der_core_head.proofs.Results.{fine, ok_is, bind_ok, if_ok, unless_ok, either_ok}
+use Rattle.der_core_head.proofs.Results.{fine, ok_is, bind_ok}
 use Rattle.der_core_head.proofs.Bytes.{IsBytes, bytes_tail}
 
 -- The parts of a leading octet
 
 low-lt : (n : ℕ) → low_bits n < 32
-low-lt n = elim (cases_lt n 31) [ inl l ↦ rw (lt-ltb n 31 l) (omega arith) | inr l ↦ rw (le-ltb n 31 l) (omega arith) ]
+low-lt n = grind (arith, nat_tests)
 
 -- the class, whether it is constructed, and the low bits
 record Parts (k : ℕ) (c : Bool) (n octet : ℕ) : Type 0 where
@@ -32,26 +31,15 @@ leading-Parts class false low l = record { class = omega arith; constructed = ne
 
 -- the octet of these parts
 leading-from_parts : (octet : ℕ) → leading (octet / 64) (eqb ((octet / 32) % 2) 1) (octet % 32) ≡ octet
-leading-from_parts octet =
-    elim (cases_lt ((octet / 32) % 2) 1) [
-      | inl l ↦ rw (ne_eqb ((octet / 32) % 2) 1 (λ e. omega arith)) (omega arith)
-      | inr l ↦ rw (eq-eqb ((octet / 32) % 2) 1 (omega arith)) (omega arith)
-    ]
+leading-from_parts octet = grind (arith, nat_tests)
 
 -- The tag of a class, and its parts
 
 leading-class_tag : (class : ℕ) (c : Bool) (n : ℕ) → 0 < class → class < 4 → leading_octet (class_tag class c n) ≡ leading class c (low_bits n)
-leading-class_tag zero c n p q = absurd (omega arith)
-leading-class_tag (suc zero) c n p q = refl
-leading-class_tag (suc (suc zero)) c n p q = refl
-leading-class_tag (suc (suc (suc zero))) c n p q = refl
-leading-class_tag (suc (suc (suc (suc k)))) c n p q = absurd (omega arith)
+leading-class_tag class c n p q = grind (arith, nat_tests)
 
 number-class_tag : (class : ℕ) (c : Bool) (n : ℕ) → number_of (class_tag class c n) ≡ n
-number-class_tag class c n = elim (cases_Bool (eqb class 1)) [
-  | inl e ↦ rw e refl
-  | inr e ↦ rw e (elim (cases_Bool (eqb class 2)) [ inl f ↦ rw f refl | inr f ↦ rw f refl ])
-]
+number-class_tag class c n = grind (arith, nat_tests)
 
 -- Numbers that take octets of their own
 
@@ -95,21 +83,16 @@ digits_sound : (m : ℕ) (w : List ℕ) (n : ℕ) (r : List ℕ) → IsBytes w �
 unfolding digits_at marked
 digits_sound m [] n r bytes e = absurd cc
 digits_sound m (d ∷ w) n r bytes e =
-    let next = 128 * m + d % 128 in
-    let h = if_ok (ltb next 4294967296) kinds.TagNumberInvalid (cond (ltb d 128) (Ok (128 * m + d, w)) (digits_at next w)) (n, r) e in
-    let fits : next < 4294967296 = ltb-true next 4294967296 h.0 in
-    elim (either_ok (ltb d 128) (Ok (128 * m + d, w)) (digits_at next w) (Ok (n, r)) h.1) [
-      | inl last ↦
-          let small : d < 128 = ltb-true d 128 last.0 in
-          let same = ok_is (128 * m + d, w) (n, r) last.1 in
+    elim (cases_lt d 128) [
+      | inl small ↦
+          let fits : 128 * m + d % 128 < 4294967296 = grind (arith, nat_tests) in
+          let same = ok_is {A = ℕ × List ℕ} (128 * m + d, w) (n, r) (grind (arith, nat_tests)) in
           let number : 128 * m + d ≡ n = ap (λ (q : ℕ × List ℕ). q.0) same in
           let rest : w ≡ r = ap (λ (q : ℕ × List ℕ). q.1) same in
           (d ∷ [], record { below = (small, tt); some = omega arith; octets = ap (λ (q : List ℕ). d ∷ q) rest; number = omega arith; fits = omega arith })
-      | inr more ↦
-          let large : 128 ≤ d = ltb-false d 128 more.0 in
-          let octet : d < 256 = bytes 0 in
-          let i = digits_sound next w n r (bytes_tail d w bytes) more.1 in
-          (d % 128 ∷ i.0, one_more i.0 i.1 large octet)
+      | inr large ↦
+          let i = digits_sound (128 * m + d % 128) w n r (bytes_tail d w bytes) (grind (arith, nat_tests)) in
+          (d % 128 ∷ i.0, one_more i.0 i.1 large (bytes 0))
     ]
   where
     one_more : (ds : List ℕ) → Read (128 * m + d % 128) w n r ds → 128 ≤ d → d < 256 → Read m (d ∷ w) n r (d % 128 ∷ ds)
@@ -131,21 +114,16 @@ pub number_sound : (w : List ℕ) (n : ℕ) (r : List ℕ) → IsBytes w → num
 unfolding number_at marked
 number_sound [] n r bytes e = absurd cc
 number_sound (d ∷ w) n r bytes e =
-    let h = unless_ok (eqb d 128) kinds.TagNumberInvalid (digits_at 0 (d ∷ w) >>= λ n. cond (ltb n.0 31) (Err kinds.TagNumberInvalid) (Ok n)) (n, r) e in
-    let x = bind_ok (digits_at 0 (d ∷ w)) (λ n. cond (ltb n.0 31) (Err kinds.TagNumberInvalid) (Ok n)) (n, r) h.1 in
-    let k = unless_ok (ltb x.0.0 31) kinds.TagNumberInvalid (Ok x.0) (n, r) x.2 in
-    let same = ok_is x.0 (n, r) k.1 in
-    let i = digits_sound 0 (d ∷ w) n r bytes (x.1 ∙ ap (λ (q : ℕ × List ℕ). Ok q) same) in
-    let large : 31 ≤ n = subst (λ (q : ℕ × List ℕ). 31 ≤ q.0) same (ltb-false x.0.0 31 k.0) in
-    let ds : digits 128 n ≡ i.0 = ap (digits 128) (sym i.1.number) ∙ digits-number_from_digits 128 i.0 (omega arith) i.1.below (no_zero i.0 i.1 h.0) in
+    let i = digits_sound 0 (d ∷ w) n r bytes (grind (arith, nat_tests)) in
+    let large : 31 ≤ n = grind (arith, nat_tests) in
+    let some : eqb d 128 ≡ false = grind (arith, nat_tests) in
+    let ds : digits 128 n ≡ i.0 = ap (digits 128) (sym i.1.number) ∙ digits-number_from_digits 128 i.0 (omega arith) i.1.below (no_zero i.0 i.1 some) in
     (i.1.octets ∙ ap (λ (q : List ℕ). marked q ++ r) (sym ds), large, i.1.fits)
   where
     no_zero : (ds : List ℕ) → Read 0 (d ∷ w) n r ds → eqb d 128 ≡ false → (length ds ≡ 1) ⊎ (0 < get_or ds 0 0)
     no_zero [] i other = absurd (omega (arith, i.some))
     no_zero (a ∷ []) i other = inl refl
-    no_zero (a ∷ b ∷ ds) i other =
-        let first : d ≡ 128 + a = ap (λ (q : List ℕ). get_or q 0 0) i.octets in
-        inr (elim (cases_lt 0 a) [ inl l ↦ l | inr l ↦ absurd (eqb-false d 128 other (omega arith)) ])
+    no_zero (a ∷ b ∷ ds) i other = inr (grind (arith, nat_tests, ap (λ (q : List ℕ). get_or q 0 0) i.octets))
 
 -- Tags
 
@@ -163,8 +141,7 @@ tag_at-high octet class c n w r parts large e =
     rw (le-ltb octet 64 large, eq-eqb (octet % 32) 31 parts.low, e, parts.class, parts.constructed) refl
 
 leading-ge : (class : ℕ) (c : Bool) (low : ℕ) → 0 < class → 64 ≤ leading class c low
-leading-ge class true low l = omega arith
-leading-ge class false low l = omega arith
+leading-ge class c low l = grind (arith, nat_tests)
 
 class_again : (class : ℕ) (c : Bool) (n : ℕ) (r : List ℕ) → 0 < class → n < 4294967296
     → tag_at (leading class c (low_bits n) ∷ (number_octets n ++ r)) ≡ Ok (class_tag class c n, r)
@@ -193,11 +170,7 @@ below_universal t l = (refl, omega arith)
 -- what is found passes the test
 find_passes : {X : Type 0} (p : X → Bool) (xs : List X) (x : X) → find p xs ≡ Some x → p x ≡ true
 find_passes p [] x e = absurd cc
-find_passes p (y ∷ xs) x e =
-    elim (either_ok (p y) (Some y) (find p xs) (Some x) e) [
-      | inl h ↦ let same : y ≡ x = cc (h.1) in subst (λ z. p z ≡ true) same h.0
-      | inr h ↦ find_passes p xs x h.1
-    ]
+find_passes p (y ∷ xs) x e = grind (arith, nat_tests, find_passes p xs x)
 
 -- the tag found for an octet has that octet alone
 universal_sound : (octet : ℕ) (t : Tag) → octet < 64 → universal_tag octet ≡ Some t → (tag_octets t ≡ octet ∷ []) × IsTag t
@@ -226,13 +199,11 @@ pub tag_sound : (w : List ℕ) (t : Tag) (r : List ℕ) → IsBytes w → tag_at
 unfolding tag_at
 tag_sound [] t r bytes e = absurd cc
 tag_sound (octet ∷ w) t r bytes e =
-    let behind : Result (Tag × List ℕ) ErrorKind = number_at w >>= λ n. Ok (class n.0, n.1) in
-    let within : Result (Tag × List ℕ) ErrorKind = Ok (class (octet % 32), w) in
-    elim (either_ok (ltb octet 64) (known_tag (universal_tag octet) w) (cond (eqb (octet % 32) 31) behind within) (Ok (t, r)) e) [
-      | inl h ↦ known (universal_tag octet) refl (ltb-true octet 64 h.0) h.1
-      | inr h ↦ elim (either_ok (eqb (octet % 32) 31) behind within (Ok (t, r)) h.1) [
-        | inl k ↦ high (ltb-false octet 64 h.0) (eqb-true (octet % 32) 31 k.0) k.1
-        | inr k ↦ low (ltb-false octet 64 h.0) (eqb-false (octet % 32) 31 k.0) k.1
+    elim (cases_lt octet 64) [
+      | inl l ↦ known (universal_tag octet) refl l (grind (arith, nat_tests))
+      | inr l ↦ elim (cases_eq (octet % 32) 31) [
+        | inl full ↦ high l full (grind (arith, nat_tests))
+        | inr other ↦ low l other (grind (arith, nat_tests))
       ]
     ]
   where
@@ -303,8 +274,7 @@ unfolding tag_octets
 tag_octets-some t = (leading_octet t, number_octets (number_of t), refl)
 
 leading-lt : (class : ℕ) (c : Bool) (low : ℕ) → class < 4 → low < 32 → leading class c low < 256
-leading-lt class true low l m = omega arith
-leading-lt class false low l m = omega arith
+leading-lt class c low l m = grind (arith, nat_tests)
 
 number_octets-below : (n : ℕ) → IsOctets (number_octets n)
 number_octets-below n = elim (cases_lt n 31) [

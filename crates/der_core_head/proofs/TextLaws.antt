@@ -1,23 +1,23 @@
 -- The contents of a character string are read as it.
+use Rattle.std.proofs.lemmas.Bool.Decides.{nat_tests}
 use Rattle.std.proofs.Common.{◌≡◌, ℕ, zero, suc, ◌<◌, Bool, true, refl, List, [], ◌∷◌, Ok, Err, subst, arith, ⊎_elim}
-use Rattle.std.specs.Prelude.{◌==◌, ◌||◌, nat_lt, nat_le}
+use Rattle.std.specs.Prelude.{◌==◌, nat_lt}
 use Rattle.std.specs.List.{list_all, list_any}
 use Rattle.std.specs.Char.{is_ascii_alphanumeric}
 use Rattle.std.specs.Int.{is_in_range}
 use Rattle.std.specs.Str.{is_utf8, IsAscii}
-use Rattle.std.proofs.lemmas.Bool.{cond-true, and_parts, or_cases, false≢true, leb-true, ltb-true, eqb-true}
+use Rattle.std.proofs.lemmas.Bool.{cond-true, and_parts, or_cases, false≢true}
 use Rattle.der_core_head.specs.declared.error.ErrorKind.TheVariants as kinds
 use Rattle.der_core_head.specs.declared.tag.Tag.{Tag}
 use Rattle.der_core_head.specs.Texts.{Repertoire, printable, printable_signs, is_within, IsText, text_read, IsUtf8Text, utf8_read}
-use Rattle.der_core_head.proofs.Results.{fine, ok_is, if_ok}
+use Rattle.der_core_head.proofs.Results.{fine}
 use Rattle.der_core_head.proofs.Bytes.{IsBytes, octets_are}
 
 pub text_sound : (r : Repertoire) (t : Tag) (w v : List ℕ) → IsBytes w → text_read r t w ≡ Ok v → IsText r v × (w ≡ v)
 unfolding text_read
 text_sound r t w v h e =
-    let parts = if_ok (list_all (is_within r) w) (kinds.Value t) (fine w) v e in
-    let same = ok_is w v parts.1 in
-    (subst (IsText r) same (record { within = parts.0; octets = octets_are w h }), same)
+    let same : w ≡ v = grind (arith, nat_tests) in
+    (subst (IsText r) same (record { within = grind (arith, nat_tests); octets = octets_are w h }), same)
 
 pub text_again : (r : Repertoire) (t : Tag) (v : List ℕ) → IsText r v → text_read r t v ≡ Ok v
 unfolding text_read
@@ -26,9 +26,8 @@ text_again r t v h = cond-true (list_all (is_within r) v) (fine v) (Err (kinds.V
 pub utf8_sound : (w v : List ℕ) → IsBytes w → utf8_read w ≡ Ok v → IsUtf8Text v × (w ≡ v)
 unfolding utf8_read
 utf8_sound w v h e =
-    let parts = if_ok (is_utf8 w) kinds.Utf8 (fine w) v e in
-    let same = ok_is w v parts.1 in
-    (subst IsUtf8Text same (record { utf8 = parts.0; octets = octets_are w h }), same)
+    let same : w ≡ v = grind (arith, nat_tests) in
+    (subst IsUtf8Text same (record { utf8 = grind (arith, nat_tests); octets = octets_are w h }), same)
 
 pub utf8_again : (v : List ℕ) → IsUtf8Text v → utf8_read v ≡ Ok v
 unfolding utf8_read
@@ -38,28 +37,17 @@ utf8_again v h = cond-true (is_utf8 v) (fine v) (Err kinds.Utf8) h.utf8
 
 signs_below : (n b : ℕ) (cs : List ℕ) → list_all (λ c. nat_lt c n) cs ≡ true → list_any (λ c. c == b) cs ≡ true → b < n
 signs_below n b [] below e = absurd (false≢true e)
-signs_below n b (c ∷ cs) below e =
-    let parts = and_parts (nat_lt c n) (list_all (λ c. nat_lt c n) cs) below in
-    ⊎_elim
-    (λ h. subst (λ (x : ℕ). x < n) (eqb-true c b h) (ltb-true c n parts.0))
-    (λ h. signs_below n b cs parts.1 h)
-    (or_cases (c == b) (list_any (λ c. c == b) cs) e)
+signs_below n b (c ∷ cs) below e = grind (arith, nat_tests, signs_below n b cs)
 
 range_below : (n lo hi b : ℕ) → hi < n → is_in_range lo hi b ≡ true → b < n
-range_below n lo hi b l e =
-    let high = leb-true b hi (and_parts (nat_le lo b) (nat_le b hi) e).1 in
-    omega arith
+range_below n lo hi b l e = grind (arith, nat_tests)
 
 pub printable_below : (b : ℕ) → is_within printable b ≡ true → b < 128
 printable_below b e =
     ⊎_elim letters (signs_below 128 b printable_signs refl) (or_cases (is_ascii_alphanumeric b) (list_any (λ c. c == b) printable_signs) e)
   where
     letters : is_ascii_alphanumeric b ≡ true → b < 128
-    letters f =
-        ⊎_elim
-        (λ g. ⊎_elim (range_below 128 48 57 b (omega arith)) (range_below 128 65 90 b (omega arith)) (or_cases (is_in_range 48 57 b) (is_in_range 65 90 b) g))
-        (range_below 128 97 122 b (omega arith))
-        (or_cases (is_in_range 48 57 b || is_in_range 65 90 b) (is_in_range 97 122 b) f)
+    letters f = grind (arith, nat_tests)
 
 pub all_ascii : (p : ℕ → Bool) (w : List ℕ) → ((b : ℕ) → p b ≡ true → b < 128) → list_all p w ≡ true → IsAscii w
 all_ascii p [] below e i = omega arith

@@ -1,5 +1,5 @@
 -- What reading octets as UTF-8 gives.
-use Rattle.std.proofs.Common.{◌≡◌, ℕ, Bool, true, false, List, Ok, Err, refl}
+use Rattle.std.proofs.Common.{◌≡◌, ℕ, true, false, List, Ok, Err, refl, arith}
 use Rattle.std.specs.Str.{IsUtf8, is_utf8}
 use Rattle.std.proofs.lemmas.Str.{IsUtf8-from_is_utf8, is_utf8-from_IsUtf8}
 use Rattle.der_core_head.specs.declared.error.ErrorKind.TheVariants as kinds
@@ -9,11 +9,7 @@ pub is_text : (w : List ℕ) → IsUtf8 w → is_utf8 w ≡ true
 is_text = is_utf8-from_IsUtf8
 
 is_none : (w : List ℕ) → ¬ (IsUtf8 w) → is_utf8 w ≡ false
-is_none w h = from_test (is_utf8 w) (IsUtf8-from_is_utf8 w)
-  where
-    from_test : (b : Bool) → (b ≡ true → IsUtf8 w) → b ≡ false
-    from_test true g = absurd (h (g refl))
-    from_test false g = refl
+is_none w h = grind (arith, IsUtf8-from_is_utf8 w)
 
 pub utf8_read-ok : (w : List ℕ) → IsUtf8 w → utf8_read w ≡ Ok w
 unfolding utf8_read

@@ -1,81 +1,109 @@
 -- What is written is what spells the value.
+use Rattle.std.proofs.lemmas.Bool.Decides.{nat_tests}
 use Rattle.std.proofs.Common.{◌≡◌, ℕ, ◌+◌, ◌<◌, Bool, true, false, List, [], ◌∷◌, ◌++◌, length, Some, None, Result, Ok, Err, refl, sym, ap, ◌∙◌, append_assoc, arith, inl, inr, ◌-◌, Option}
-use Rattle.std.proofs.lemmas.Bool.{le-ltb, cases_lt, lt-ltb}
+use Rattle.std.specs.Prelude.{nat_lt, if◌then◌else◌}
+use Rattle.std.proofs.lemmas.Bool.{le-ltb, lt-ltb}
 use Rattle.std.proofs.lemmas.List.{append-nil, length-append}
 use Rattle.std.specs.List.{flat_map, AllByRecursion}
 use Rattle.std.specs.Str.{bytes_eq}
 use Rattle.der_core_head.specs.declared.error.Error.{Error}
 use Rattle.der_core_head.specs.declared.error.ErrorKind.{ErrorKind}
+use Rattle.der_core_head.specs.declared.error.ErrorKind.TheVariants as kinds
 use Rattle.der_core_head.specs.declared.tag.Tag.{Tag}
-use Rattle.der_core_head.specs.Tags.{tag_octets}
+use Rattle.der_core_head.specs.Tags.{IsTag, tag_octets}
 use Rattle.der_core_head.specs.Heads.{Fits, head_octets, length_octets, tlv}
 use Rattle.der_core_head.specs.Leaves.{leaf_contents}
 use Rattle.der_core_head.specs.Shapes.{Step, Shape, Content, Body, tagged, any, either, optional, defaulted, nothing, leaf, nested, done, field, only, many, exactly, few, in_order, Value, ContentValue, BodyValue, octets_of, contents, body_octets, unless, AllInOrder, IsValid, IsContent, IsBody}
-use Rattle.der_core_head.specs.Octets.{◌>>=◌}
+use Rattle.der_core_head.specs.Octets.{◌>>=◌, IsOctets}
+use Rattle.der_core_head.specs.Ranges.{IsInRange, IsContentInRange, IsBodyInRange}
 use Rattle.der_core_head.specs.Reading.{Gives}
 use Rattle.der_core_head.specs.Writing.{Out, put, put_head, head_len, sum_len, fit_len, tlv_len, both_len, many_len, default_len, size, size_content, size_body, write_tlv, write_many, all_follow, write_in_order, default_write, write, write_content, write_body}
 use Rattle.der_core_head.proofs.Results.{ok_is}
-use Rattle.der_core_head.proofs.Fits.{fits_contents}
+use Rattle.der_core_head.proofs.Fits.{fits_contents, valid_fits}
 use Rattle.der_core_head.proofs.InOrder.{follows_ok}
+use Rattle.der_core_head.proofs.TagLaws.{tag_octets-some}
+use Rattle.der_core_head.proofs.HeadLaws.{head_octets-below, below-append}
+use Rattle.der_core_head.proofs.LeafLaws.{leaf_below}
 use Rattle.der_core_head.specs.Limits.{IsLength, length_max}
 
-pub sum_ok : (m n : ℕ) → IsLength (m + n) → sum_len m n ≡ Ok (m + n)
-sum_ok m n h = rw (le-ltb length_max (m + n) (omega arith)) refl
+-- a number that a length may be
+abbrev pub count : ℕ → Result ℕ ErrorKind
+count n = if nat_lt length_max n then Err kinds.Overflow else Ok n
 
-pub fit_size : (n : ℕ) → IsLength n → fit_len n ≡ Ok n
-fit_size n h = sum_ok n 0 (omega arith) ∙ ap (λ k. Ok k) (omega arith)
+pub count_ok : (n : ℕ) → IsLength n → count n ≡ Ok n
+count_ok n h = rw (le-ltb length_max n (omega arith)) refl
 
--- a header and its content are as long as both
-tlv_size : (t : Tag) (c : List ℕ) (n : Result ℕ ErrorKind) → Fits (tlv t c) → n ≡ Ok (length c) → tlv_len t n ≡ Ok (length (tlv t c))
+pub count_err : (n : ℕ) → length_max < n → count n ≡ Err kinds.Overflow
+count_err n h = rw (lt-ltb length_max n h) refl
+
+pub count_is : (m n : ℕ) → count m ≡ Ok n → (m ≡ n) × IsLength n
+count_is m n e = grind (arith, nat_tests)
+
+-- what can't be counted can't be with more before it
+sum_counted : (m n : ℕ) (f : ℕ → Result ℕ ErrorKind) → (count n >>= λ n. sum_len m n >>= f) ≡ (count (m + n) >>= f)
+sum_counted m n f = grind (arith, nat_tests)
+
+tlv_counted : (t : Tag) (c : List ℕ) → tlv_len t (count (length c)) ≡ count (length (tlv t c))
 unfolding tlv_len head_len tlv
-tlv_size t c n h e =
-    let sum = length-append (head_octets t (length c)) c in
-    rw (e, sum_ok (length (head_octets t (length c))) (length c) (omega (arith, sum, h))) (ap (λ k. Ok k) (sym sum))
+tlv_counted t c = grind (arith, nat_tests, length-append (head_octets t (length c)) c)
 
-many_size : {P : Type 0} (f : P → Result ℕ ErrorKind) (V : P → Type 0) (o : P → List ℕ) → ((x : P) → V x → Fits (o x) → f x ≡ Ok (length (o x)))
-    → (xs : List P) (n : ℕ) → AllByRecursion V xs → IsLength (n + length (flat_map o xs)) → many_len f xs n ≡ Ok (n + length (flat_map o xs))
-many_size f V o each [] n h l = ap (λ k. Ok k) (omega arith)
-many_size f V o each (x ∷ xs) n h l =
+both_counted : (a b : List ℕ) → both_len (count (length a)) (count (length b)) ≡ count (length (a ++ b))
+unfolding both_len
+both_counted a b = grind (arith, nat_tests, length-append a b)
+
+many_counted : {P : Type 0} (f : P → Result ℕ ErrorKind) (o : P → List ℕ) → ((x : P) → f x ≡ count (length (o x)))
+    → (xs : List P) (n : ℕ) → IsLength n → many_len f xs n ≡ count (n + length (flat_map o xs))
+many_counted f o each [] n h = sym (ap count (omega arith) ∙ count_ok n h)
+many_counted f o each (x ∷ xs) n h =
     let sum = length-append (o x) (flat_map o xs) in
-    rw (each x h.0 (omega (arith, sum, l)), sum_ok n (length (o x)) (omega (arith, sum, l))) (many_size f V o each xs (n + length (o x)) h.1 (omega (arith, sum, l)) ∙ ap (λ k. Ok k) (omega (arith, sum)))
+    grind (arith, nat_tests, each x, sum, many_counted f o each xs (n + length (o x)))
 
-many_sized : {P : Type 0} (f : P → Result ℕ ErrorKind) (V : P → Type 0) (o : P → List ℕ) → ((x : P) → V x → Fits (o x) → f x ≡ Ok (length (o x)))
-    → (xs : List P) → AllByRecursion V xs → Fits (flat_map o xs) → many_len f xs 0 ≡ Ok (length (flat_map o xs))
-many_sized f V o each xs h l = many_size f V o each xs 0 h (omega (arith, l)) ∙ ap (λ k. Ok k) (omega arith)
+all_counted : {P : Type 0} (f : P → Result ℕ ErrorKind) (o : P → List ℕ) → ((x : P) → f x ≡ count (length (o x))) → (xs : List P) → many_len f xs 0 ≡ count (length (flat_map o xs))
+all_counted f o each xs = many_counted f o each xs 0 (omega arith) ∙ ap count (omega arith)
 
-default_size : (b : Bool) (w : List ℕ) (n : Result ℕ ErrorKind) → n ≡ Ok (length w) → default_len b n ≡ Ok (length (unless b w))
+default_counted : (b : Bool) (w : List ℕ) → default_len b (count (length w)) ≡ count (length (unless b w))
 unfolding default_len unless
-default_size true w n e = refl
-default_size false w n e = e
+default_counted b w = grind (arith, nat_tests)
 
--- the number of octets of a valid value
+pub fit_counted : (n : ℕ) → fit_len n ≡ count n
+fit_counted n = ap count (omega arith)
+
+-- the size of a value is the number of its octets, if that is a length
 mutual
-  unfolding octets_of IsValid both_len
+  unfolding octets_of
 
-  pub sized : (s : Shape) (v : Value s) → IsValid s v → size s v ≡ Ok (length (octets_of s v))
-  sized (tagged t c) v h = tlv_size t (contents c v) (size_content c v) h.2 (sized_content c v h.0 (fits_contents t (contents c v) h.2))
-  sized any v h = tlv_size v.tag v.contents (fit_len (length v.contents)) h.2 (fit_size (length v.contents) (fits_contents v.tag v.contents h.2))
-  sized (either a b) (inl v) h = sized a v h
-  sized (either a b) (inr v) h = sized b v h
-  sized (optional s) None h = refl
-  sized (optional s) (Some v) h = sized s v h
-  sized (defaulted s d) v h = default_size (bytes_eq (octets_of s v) d) (octets_of s v) (size s v) (sized s v h)
-  sized nothing v h = refl
+  pub counted : (s : Shape) (v : Value s) → size s v ≡ count (length (octets_of s v))
+  counted (tagged t c) v = ap (tlv_len t) (content_counted c v) ∙ tlv_counted t (contents c v)
+  counted any v = ap (tlv_len v.tag) (fit_counted (length v.contents)) ∙ tlv_counted v.tag v.contents
+  counted (either a b) (inl v) = counted a v
+  counted (either a b) (inr v) = counted b v
+  counted (optional s) None = refl
+  counted (optional s) (Some v) = counted s v
+  counted (defaulted s d) v = ap (default_len (bytes_eq (octets_of s v) d)) (counted s v) ∙ default_counted (bytes_eq (octets_of s v) d) (octets_of s v)
+  counted nothing v = refl
 
-  pub sized_content : (c : Content) (v : ContentValue c) → IsContent c v → Fits (contents c v) → size_content c v ≡ Ok (length (contents c v))
-  sized_content (leaf k) v h l = fit_size (length (leaf_contents k v)) l
-  sized_content (nested b) v h l = sized_body b v h l
+  pub content_counted : (c : Content) (v : ContentValue c) → size_content c v ≡ count (length (contents c v))
+  content_counted (leaf k) v = fit_counted (length (leaf_contents k v))
+  content_counted (nested b) v = body_counted b v
 
-  pub sized_body : (b : Body) (v : BodyValue b) → IsBody b v → Fits (body_octets b v) → size_body b v ≡ Ok (length (body_octets b v))
-  sized_body done v h l = refl
-  sized_body (field s b) v h l =
-      let sum = length-append (octets_of s v.0) (body_octets b v.1) in
-      rw (sized s v.0 h.0, sized_body b v.1 h.1 (omega (arith, sum, l)), sum_ok (length (octets_of s v.0)) (length (body_octets b v.1)) (omega (arith, sum, l))) (ap (λ k. Ok k) (sym sum))
-  sized_body (only s) v h l = sized s v h
-  sized_body (many s) v h l = many_sized (size s) (IsValid s) (octets_of s) (λ x k m. sized s x k) v h l
-  sized_body (exactly n s) v h l = many_sized (size s) (IsValid s) (octets_of s) (λ x k m. sized s x k) v h.0 l
-  sized_body (few n s) v h l = many_sized (size s) (IsValid s) (octets_of s) (λ x k m. sized s x k) v h.0 l
-  sized_body (in_order how s) v h l = many_sized (size s) (IsValid s) (octets_of s) (λ x k m. sized s x k) v h.0 l
+  pub body_counted : (b : Body) (v : BodyValue b) → size_body b v ≡ count (length (body_octets b v))
+  body_counted done v = refl
+  body_counted (field s b) v = rw (counted s v.0, body_counted b v.1) (both_counted (octets_of s v.0) (body_octets b v.1))
+  body_counted (only s) v = counted s v
+  body_counted (many s) v = all_counted (size s) (octets_of s) (λ x. counted s x) v
+  body_counted (exactly n s) v = all_counted (size s) (octets_of s) (λ x. counted s x) v
+  body_counted (few n s) v = all_counted (size s) (octets_of s) (λ x. counted s x) v
+  body_counted (in_order how s) v = all_counted (size s) (octets_of s) (λ x. counted s x) v
+
+-- so it is where the value is valid
+pub sized : (s : Shape) (v : Value s) → IsValid s v → size s v ≡ Ok (length (octets_of s v))
+sized s v h = counted s v ∙ count_ok (length (octets_of s v)) (valid_fits s v h)
+
+pub sized_content : (c : Content) (v : ContentValue c) → IsContent c v → Fits (contents c v) → size_content c v ≡ Ok (length (contents c v))
+sized_content c v h fits = content_counted c v ∙ count_ok (length (contents c v)) fits
+
+pub sized_body : (b : Body) (v : BodyValue b) → IsBody b v → Fits (body_octets b v) → size_body b v ≡ Ok (length (body_octets b v))
+sized_body b v h fits = body_counted b v ∙ count_ok (length (body_octets b v)) fits
 
 -- a writer without a limit
 abbrev pub out : List ℕ → Out
@@ -89,39 +117,11 @@ put_is b a = refl
 in_two : (a b w : List ℕ) (r : Option ℕ) (f : Bool) → (put a (record { written = w; room = r; failed = f }) >>= put b) ≡ put (a ++ b) (record { written = w; room = r; failed = f })
 unfolding put
 in_two a b w r true = refl
-in_two a b w None false = ap (λ (u : List ℕ). Ok (record { written = u; room = None; failed = false })) (append_assoc w a b)
-in_two a b w (Some r) false =
-    elim (cases_lt r (length a)) [
-      | inl short ↦ rw (lt-ltb r (length a) short, lt-ltb r (length (a ++ b)) (omega (arith, length-append a b))) refl
-      | inr first ↦
-          elim (cases_lt (r - length a) (length b)) [
-            | inl short ↦ rw (le-ltb r (length a) first, lt-ltb (r - length a) (length b) short, lt-ltb r (length (a ++ b)) (omega (arith, length-append a b))) refl
-            | inr both ↦
-                let left : r - length a - length b ≡ r - length (a ++ b) = omega (arith, length-append a b) in
-                rw (le-ltb r (length a) first, le-ltb (r - length a) (length b) both, le-ltb r (length (a ++ b)) (omega (arith, length-append a b)), left)
-                (ap (λ (u : List ℕ). Ok (record { written = u; room = Some (r - length (a ++ b)); failed = false })) (append_assoc w a b))
-          ]
-    ]
+in_two a b w None false = grind (arith, append_assoc w a b)
+in_two a b w (Some r) false = grind (arith, nat_tests, append_assoc w a b, length-append a b)
 
 pub put-append : (a b : List ℕ) (o : Out) → (put a o >>= put b) ≡ put (a ++ b) o
 put-append a b o = in_two a b o.written o.room o.failed
-
-head_put : (t : Tag) (n : ℕ) (a : List ℕ) → IsLength (length (head_octets t n) + n) → put_head t n (out a) ≡ Ok (out (a ++ head_octets t n))
-unfolding put_head head_octets
-head_put t n a h = rw (sum_ok (length (head_octets t n)) n h, put_is (tag_octets t) a) (put_is (length_octets n) (a ++ tag_octets t) ∙ ap (λ w. Ok (out w)) (append_assoc a (tag_octets t) (length_octets n)))
-
-tlv_put : (t : Tag) (c a : List ℕ) (n : Result ℕ ErrorKind) (f : Out → Result Out ErrorKind) → Fits (tlv t c) → n ≡ Ok (length c) → ((x : List ℕ) → f (out x) ≡ Ok (out (x ++ c)))
-    → write_tlv t n f (out a) ≡ Ok (out (a ++ tlv t c))
-unfolding write_tlv tlv
-tlv_put t c a n f h e writes =
-    let sum = length-append (head_octets t (length c)) c in
-    rw (e, head_put t (length c) a (omega (arith, sum, h)), writes (a ++ head_octets t (length c))) (ap (λ w. Ok (out w)) (append_assoc a (head_octets t (length c)) c))
-
-many_put : {P : Type 0} (f : P → Out → Result Out ErrorKind) (V : P → Type 0) (o : P → List ℕ) → ((x : P) (a : List ℕ) → V x → f x (out a) ≡ Ok (out (a ++ o x)))
-    → (xs : List P) (a : List ℕ) → AllByRecursion V xs → write_many f xs (out a) ≡ Ok (out (a ++ flat_map o xs))
-many_put f V o each [] a h = ap (λ w. Ok (out w)) (sym (append-nil a))
-many_put f V o each (x ∷ xs) a h =
-    rw (each x a h.0) (many_put f V o each xs (a ++ o x) h.1 ∙ ap (λ w. Ok (out w)) (append_assoc a (o x) (flat_map o xs)))
 
 -- members in order follow one another
 pub members_follow : {P : Type 0} (how : Step) (w : P → List ℕ) (x : P) (xs : List P) → AllInOrder how w (x ∷ xs) → all_follow how w (Some (w x)) xs ≡ Ok tt
@@ -132,46 +132,141 @@ pub order_followed : {P : Type 0} (how : Step) (w : P → List ℕ) (xs : List P
 order_followed how w [] h = refl
 order_followed how w (x ∷ xs) h = members_follow how w x xs h
 
+bind-ok : (r : Result Out ErrorKind) → (r >>= λ z. Ok z) ≡ r
+bind-ok r = grind (arith, nat_tests)
+
 -- a set in order is written as its members are
 pub ordered_written : {P : Type 0} (how : Step) (f : P → Out → Result Out ErrorKind) (w : P → List ℕ) (xs : List P) (o : Out) → AllInOrder how w xs → write_in_order how f w xs o ≡ write_many f xs o
-ordered_written how f w xs o h = rw (order_followed how w xs h) (go (write_many f xs o))
+ordered_written how f w xs o h = rw (order_followed how w xs h) (bind-ok (write_many f xs o))
+
+-- What is written of a valid value are its octets, whatever room the writer has, and whether it failed or not; and its parts are in their ranges
+
+-- a writer that has written did not fail
+has_written : (a w : List ℕ) (room : Option ℕ) (failed : Bool) (x : Out) → put a (record { written = w; room = room; failed = failed }) ≡ Ok x → x.failed ≡ false
+unfolding put
+has_written a w room failed x e = grind (arith, nat_tests)
+
+put-then : (a : List ℕ) (o : Out) (f g : Out → Result Out ErrorKind) → ((x : Out) → x.failed ≡ false → f x ≡ g x) → (put a o >>= f) ≡ (put a o >>= g)
+put-then a o f g same = go (put a o) (has_written a o.written o.room o.failed)
   where
-    go : (r : Result Out ErrorKind) → (r >>= λ z. Ok z) ≡ r
-    go (Ok z) = refl
-    go (Err k) = refl
+    go : (r : Result Out ErrorKind) → ((x : Out) → r ≡ Ok x → x.failed ≡ false) → (r >>= f) ≡ (r >>= g)
+    go (Ok x) h = same x (h x refl)
+    go (Err e) h = refl
 
-default_put : (b : Bool) (w a : List ℕ) (f : Out → Result Out ErrorKind) → f (out a) ≡ Ok (out (a ++ w)) → default_write b f (out a) ≡ Ok (out (a ++ unless b w))
+-- octets, where there are any
+abbrev pub put_some : List ℕ → Out → Result Out ErrorKind
+put_some [] o = Ok o
+put_some (b ∷ w) o = put (b ∷ w) o
+
+same_out : (w : List ℕ) (room : Option ℕ) → put [] (record { written = w; room = room; failed = false }) ≡ Ok (record { written = w; room = room; failed = false })
+unfolding put
+same_out w None = ap (λ (x : List ℕ). Ok (record { written = x; room = None; failed = false })) (append-nil w)
+same_out w (Some n) = let all : n - 0 ≡ n = omega arith in rw (le-ltb n 0 (omega arith), all, append-nil w) refl
+
+-- a writer that did not fail takes no octets, too
+pub put_some-put : (b : List ℕ) (o : Out) → o.failed ≡ false → put_some b o ≡ put b o
+put_some-put [] o e = sym (ap (λ f. put [] (record { written = o.written; room = o.room; failed = f })) e ∙ same_out o.written o.room ∙ ap (λ f. Ok (record { written = o.written; room = o.room; failed = f })) (sym e))
+put_some-put (x ∷ b) o e = refl
+
+bind-same : (r : Result Out ErrorKind) (f g : Out → Result Out ErrorKind) → ((x : Out) → f x ≡ g x) → (r >>= f) ≡ (r >>= g)
+bind-same r f g same = grind (arith, nat_tests, same)
+
+put_some-append : (a b : List ℕ) (o : Out) → (put_some a o >>= put_some b) ≡ put_some (a ++ b) o
+put_some-append [] b o = refl
+put_some-append (x ∷ a) [] o = bind-ok (put (x ∷ a) o) ∙ ap (λ (w : List ℕ). put (x ∷ w) o) (sym (append-nil a))
+put_some-append (x ∷ a) (y ∷ b) o = put-append (x ∷ a) (y ∷ b) o
+
+-- a header and a content
+tlv_put : (t : Tag) (c : List ℕ) (n : Result ℕ ErrorKind) (f : Out → Result Out ErrorKind) (o : Out) → Fits (tlv t c) → n ≡ Ok (length c) → ((x : Out) → x.failed ≡ false → f x ≡ put c x)
+    → write_tlv t n f o ≡ put_some (tlv t c) o
+unfolding write_tlv put_head tlv head_octets
+tlv_put t c n f o fits e writes =
+    let k = length c in
+    let sum = length-append (tag_octets t ++ length_octets k) c in
+    let head : (put (tag_octets t) o >>= put (length_octets k)) ≡ put (tag_octets t ++ length_octets k) o = put-append (tag_octets t) (length_octets k) o in
+    let first = tag_octets-some t in
+    rw (e, le-ltb length_max (length (tag_octets t ++ length_octets k) + k) (omega (arith, sum, fits)))
+    (ap (λ r. r >>= f) head ∙ put-then (tag_octets t ++ length_octets k) o f (put c) writes ∙ put-append (tag_octets t ++ length_octets k) c o
+    ∙ ap (λ (w : List ℕ). put ((w ++ length_octets k) ++ c) o) first.2 ∙ sym (ap (λ (w : List ℕ). put_some ((w ++ length_octets k) ++ c) o) first.2))
+
+default_put : (b : Bool) (w : List ℕ) (f : Out → Result Out ErrorKind) (o : Out) → f o ≡ put_some w o → default_write b f o ≡ put_some (unless b w) o
 unfolding default_write unless
-default_put true w a f e = ap (λ x. Ok (out x)) (sym (append-nil a))
-default_put false w a f e = e
+default_put true w f o e = refl
+default_put false w f o e = e
 
--- contents fit since the values do, so no total is asked for
+-- octets that are written, whatever wrote them, of what is in its range
+abbrev Goes : (Out → Result Out ErrorKind) → List ℕ → Type 0 → Type 0
+Goes f w R = IsOctets w × R × ((o : Out) → f o ≡ put_some w o)
+
+two_go : (f g : Out → Result Out ErrorKind) (a b : List ℕ) (R S : Type 0) → Goes f a R → Goes g b S → Goes (λ o. f o >>= g) (a ++ b) (R × S)
+two_go f g a b R S p q =
+    (below-append a b p.0 q.0, (p.1, q.1), λ o. ap (λ r. r >>= g) (p.2 o) ∙ bind-same (put_some a o) g (put_some b) q.2 ∙ put_some-append a b o)
+
+all_go : {P : Type 0} (f : P → Out → Result Out ErrorKind) (w : P → List ℕ) (V R : P → Type 0) → ((x : P) → V x → Goes (f x) (w x) (R x))
+    → (xs : List P) → AllByRecursion V xs → Goes (write_many f xs) (flat_map w xs) (AllByRecursion R xs)
+all_go f w V R each [] h = (tt, tt, λ o. refl)
+all_go f w V R each (x ∷ xs) h = two_go (f x) (write_many f xs) (w x) (flat_map w xs) (R x) (AllByRecursion R xs) (each x h.0) (all_go f w V R each xs h.1)
+
+unless_below : (b : Bool) (w : List ℕ) → IsOctets w → IsOctets (unless b w)
+unfolding unless
+unless_below true w h = tt
+unless_below false w h = h
+
+tlv_below : (t : Tag) (c : List ℕ) → IsTag t → Fits (tlv t c) → IsOctets c → IsOctets (tlv t c)
+unfolding tlv
+tlv_below t c k fits h = below-append (head_octets t (length c)) c (head_octets-below t (length c) k (fits_contents t c fits)) h
+
 mutual
   unfolding octets_of IsValid
 
-  pub written : (s : Shape) (v : Value s) (a : List ℕ) → IsValid s v → write s v (out a) ≡ Ok (out (a ++ octets_of s v))
-  written (tagged t c) v a h = tlv_put t (contents c v) a (size_content c v) (write_content c v) h.2 (sized_content c v h.0 (fits_contents t (contents c v) h.2)) (λ x. written_content c v x h.0)
-  written any v a h = tlv_put v.tag v.contents a (fit_len (length v.contents)) (put v.contents) h.2 (fit_size (length v.contents) (fits_contents v.tag v.contents h.2)) (λ x. put_is v.contents x)
-  written (either x y) (inl v) a h = written x v a h
-  written (either x y) (inr v) a h = written y v a h
-  written (optional s) None a h = ap (λ w. Ok (out w)) (sym (append-nil a))
-  written (optional s) (Some v) a h = written s v a h
-  written (defaulted s d) v a h = default_put (bytes_eq (octets_of s v) d) (octets_of s v) a (write s v) (written s v a h)
-  written nothing v a h = ap (λ w. Ok (out w)) (sym (append-nil a))
+  pub valid_goes : (s : Shape) (v : Value s) → IsValid s v → Goes (write s v) (octets_of s v) (IsInRange s v)
+  valid_goes (tagged t c) v h =
+      let p = content_goes c v h.0 in
+      let size = sized_content c v h.0 (fits_contents t (contents c v) h.2) in
+      (tlv_below t (contents c v) h.1 h.2 p.0, (p.1, h.1), λ o. tlv_put t (contents c v) (size_content c v) (write_content c v) o h.2 size p.2)
+  valid_goes any v h =
+      let size = fit_counted (length v.contents) ∙ count_ok (length v.contents) (fits_contents v.tag v.contents h.2) in
+      (tlv_below v.tag v.contents h.1 h.2 h.0, (h.0, h.1), λ o. tlv_put v.tag v.contents (fit_len (length v.contents)) (put v.contents) o h.2 size (λ x e. refl))
+  valid_goes (either x y) (inl v) h = valid_goes x v h
+  valid_goes (either x y) (inr v) h = valid_goes y v h
+  valid_goes (optional s) None h = (tt, tt, λ o. refl)
+  valid_goes (optional s) (Some v) h = valid_goes s v h
+  valid_goes (defaulted s d) v h =
+      let p = valid_goes s v h in
+      let is = bytes_eq (octets_of s v) d in
+      (unless_below is (octets_of s v) p.0, (p.1, λ _. h), λ o. default_put is (octets_of s v) (write s v) o (p.2 o))
+  valid_goes nothing v h = (tt, tt, λ o. refl)
 
-  pub written_content : (c : Content) (v : ContentValue c) (a : List ℕ) → IsContent c v → write_content c v (out a) ≡ Ok (out (a ++ contents c v))
-  written_content (leaf k) v a h = put_is (leaf_contents k v) a
-  written_content (nested b) v a h = written_body b v a h
+  pub content_goes : (c : Content) (v : ContentValue c) → IsContent c v → IsOctets (contents c v) × IsContentInRange c v × ((o : Out) → o.failed ≡ false → write_content c v o ≡ put (contents c v) o)
+  content_goes (leaf k) v h = (leaf_below k v h, h, λ o e. refl)
+  content_goes (nested b) v h = let p = body_goes b v h in (p.0, p.1, λ o e. p.2 o ∙ put_some-put (body_octets b v) o e)
 
-  pub written_body : (b : Body) (v : BodyValue b) (a : List ℕ) → IsBody b v → write_body b v (out a) ≡ Ok (out (a ++ body_octets b v))
-  written_body done v a h = ap (λ w. Ok (out w)) (sym (append-nil a))
-  written_body (field s b) v a h =
-      rw (written s v.0 a h.0) (written_body b v.1 (a ++ octets_of s v.0) h.1 ∙ ap (λ w. Ok (out w)) (append_assoc a (octets_of s v.0) (body_octets b v.1)))
-  written_body (only s) v a h = written s v a h
-  written_body (many s) v a h = many_put (write s) (IsValid s) (octets_of s) (λ x a k. written s x a k) v a h
-  written_body (exactly n s) v a h = many_put (write s) (IsValid s) (octets_of s) (λ x a k. written s x a k) v a h.0
-  written_body (few n s) v a h = many_put (write s) (IsValid s) (octets_of s) (λ x a k. written s x a k) v a h.0
-  written_body (in_order how s) v a h = ordered_written how (write s) (octets_of s) v (out a) h.1 ∙ many_put (write s) (IsValid s) (octets_of s) (λ x a k. written s x a k) v a h.0
+  pub body_goes : (b : Body) (v : BodyValue b) → IsBody b v → Goes (write_body b v) (body_octets b v) (IsBodyInRange b v)
+  body_goes done v h = (tt, tt, λ o. refl)
+  body_goes (field s b) v h = two_go (write s v.0) (write_body b v.1) (octets_of s v.0) (body_octets b v.1) (IsInRange s v.0) (IsBodyInRange b v.1) (valid_goes s v.0 h.0) (body_goes b v.1 h.1)
+  body_goes (only s) v h = valid_goes s v h
+  body_goes (many s) v h = all_go (write s) (octets_of s) (λ x. IsValid s x) (λ x. IsInRange s x) (λ x k. valid_goes s x k) v h
+  body_goes (exactly n s) v h = let p = all_go (write s) (octets_of s) (λ x. IsValid s x) (λ x. IsInRange s x) (λ x k. valid_goes s x k) v h.0 in (p.0, (p.1, h.1), p.2)
+  body_goes (few n s) v h = let p = all_go (write s) (octets_of s) (λ x. IsValid s x) (λ x. IsInRange s x) (λ x k. valid_goes s x k) v h.0 in (p.0, (p.1, h.1), p.2)
+  body_goes (in_order how s) v h =
+      let p = all_go (write s) (octets_of s) (λ x. IsValid s x) (λ x. IsInRange s x) (λ x k. valid_goes s x k) v h.0 in
+      (p.0, p.1, λ o. ordered_written how (write s) (octets_of s) v o h.1 ∙ p.2 o)
+
+pub put_written : (s : Shape) (v : Value s) (o : Out) → IsValid s v → write s v o ≡ put_some (octets_of s v) o
+put_written s v o h = (valid_goes s v h).2 o
+
+pub put_content : (c : Content) (v : ContentValue c) (o : Out) → o.failed ≡ false → IsContent c v → write_content c v o ≡ put (contents c v) o
+put_content c v o e h = (content_goes c v h).2 o e
+
+pub put_body : (b : Body) (v : BodyValue b) (o : Out) → IsBody b v → write_body b v o ≡ put_some (body_octets b v) o
+put_body b v o h = (body_goes b v h).2 o
+
+-- into a writer without a limit
+put_out : (b a : List ℕ) → put_some b (out a) ≡ Ok (out (a ++ b))
+put_out b a = put_some-put b (out a) refl ∙ put_is b a
+
+pub written : (s : Shape) (v : Value s) (a : List ℕ) → IsValid s v → write s v (out a) ≡ Ok (out (a ++ octets_of s v))
+written s v a h = put_written s v (out a) h ∙ put_out (octets_of s v) a
 
 -- What is too long to be counted isn't written, and is refused alike.
 tlv_unsized : (t : Tag) (n : Result ℕ ErrorKind) (f : Out → Result Out ErrorKind) (o : Out) (k : ErrorKind) → tlv_len t n ≡ Err k → write_tlv t n f o ≡ Err k

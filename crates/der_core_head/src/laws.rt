@@ -25,6 +25,7 @@ ghost use Rattle.der_core_head.specs.Bodies.{head_ber_at};
 ///
 /// So it is for each shape that has a header and keeps first tags apart, however many levels it
 /// has.
+#[tactic(auto, using(crate::proofs::OneEncoding::one_value))]
 pub fn apart_is_lawful()
     ensures { (s : Shape) (v w : Value s) (r t : List ℕ) → is_element s ≡ true → is_apart s ≡ true
         → IsValid s v → IsValid s w → octets_of s v ++ r ≡ octets_of s w ++ t
@@ -46,6 +47,7 @@ pub fn read_is_spelled()
 
 /// What is spelled is read: from the octets of a valid value, whatever follows them, reading gives
 /// the value and what follows.
+#[tactic(auto, using(crate::proofs::Complete::complete_element))]
 pub fn spelled_is_read()
     ensures { (s : Shape) (room : ℕ) (v : Value s) (r : List ℕ) → is_element s ≡ true
         → is_apart s ≡ true → are_enough s room ≡ true
@@ -53,6 +55,7 @@ pub fn spelled_is_read()
 {}
 
 /// What is read with so many levels is read alike with more.
+#[tactic(auto, using(crate::proofs::MoreLevels::more_read))]
 pub fn more_levels_read_alike()
     ensures { (s : Shape) (room more : ℕ) (w : List ℕ) (v : Value s) (r : List ℕ) → room ≤ more
         → read s room w ≡ Ok (v, r) → read s more w ≡ Ok (v, r) }
@@ -62,6 +65,7 @@ pub fn more_levels_read_alike()
 /// a length can count; and the value has an encoding, where its parts are in their ranges.
 ///
 /// So a value that is too long is refused, and one with a set that doesn't rise (X.690 11.6).
+#[tactic(auto, using(crate::proofs::WrittenValid::as_written))]
 pub fn written_is_spelled()
     ensures octets { (s : Shape) (v : Value s) (o z : Out) → write s v o ≡ Ok z
         → (z.written ≡ o.written ++ octets_of s v) × Fits (octets_of s v) }
@@ -70,6 +74,7 @@ pub fn written_is_spelled()
 {}
 
 /// What has an encoding is written, where there is room for any number of octets.
+#[tactic(auto, using(crate::proofs::Written::written))]
 pub fn valid_is_written()
     ensures { (s : Shape) (v : Value s) (w : List ℕ) → IsValid s v
         → write s v (record { written = w; room = None; failed = false })
@@ -78,6 +83,7 @@ pub fn valid_is_written()
 
 /// What is written is read: from octets that were written for a value whose parts are in their
 /// ranges, whatever follows them, reading gives the value and what follows.
+#[tactic(auto, using(crate::proofs::WrittenValid::as_written))]
 pub fn written_is_read()
     ensures { (s : Shape) (room : ℕ) (v : Value s) (o z : Out) (r : List ℕ) → is_element s ≡ true
         → is_apart s ≡ true → are_enough s room ≡ true
@@ -96,6 +102,7 @@ pub fn headers_are_spelled()
 
 /// Further octets change nothing: the header that stands at the front of octets stands there before
 /// any more of them, and the fault in its place stays the fault, unless it was that octets ran out.
+#[tactic(auto, using(crate::proofs::LongerLaws::headers_stay))]
 pub fn headers_stay()
     ensures read { (h : Head) (r w more : List ℕ) → head_at w ≡ Ok (h, r)
         → head_at (w ++ more) ≡ Ok (h, r ++ more) }
@@ -104,6 +111,7 @@ pub fn headers_stay()
 {}
 
 /// A value's octets, where there are any, begin with one of the first tags that its shape states.
+#[tactic(auto, using(crate::proofs::Complete::field_first))]
 pub fn values_begin_as_stated()
     ensures { (s : Shape) (v : Value s) → is_apart s ≡ true → IsValid s v
         → (octets_of s v ≡ [])
@@ -122,6 +130,7 @@ pub fn ber_headers_are_spelled()
 
 /// A body of indefinite length has at least the two octets that end it, and where it ends doesn't
 /// depend on what follows it (X.690 8.1.3.6, 8.1.5).
+#[tactic(auto, using(crate::proofs::BodyLaws::body_ends))]
 pub fn bodies_end_themselves()
     ensures least { (k : ℕ) (b : List ℕ) → IsIndefiniteBody k b → 2 ≤ length b }
     ensures body { (b more : List ℕ) → IsIndefiniteBody levels_max b → Fits b
@@ -134,6 +143,7 @@ pub fn bodies_end_themselves()
 
 /// What is valid under a bound of arcs is what is valid in a shape that states this bound and no
 /// other.
+#[tactic(auto, using(crate::proofs::BoundLaws::own))]
 pub fn bounds_are_those_of_shapes()
     ensures { (bound : ℕ) (s : Shape) (v : Value s) → IsOf bound s
         → IsValid s v ↔ IsValidUnder bound s v }
@@ -141,6 +151,7 @@ pub fn bounds_are_those_of_shapes()
 
 /// What has an encoding under one bound of arcs has one under a wider bound, which is the same,
 /// since octets don't depend on bounds.
+#[tactic(auto, using(crate::proofs::BoundLaws::wider))]
 pub fn wider_bounds_keep_encodings()
     ensures { (small large : ℕ) (s : Shape) (v : Value s) → small ≤ large → IsValidUnder small s v
         → IsValidUnder large s v }
@@ -150,6 +161,7 @@ pub fn wider_bounds_keep_encodings()
 /// identifiers is below that one; so what has none under that one holds an identifier with an arc
 /// that isn't below it. And it has one under a bound from 40 up only where each arc is below it:
 /// every second arc is below 40.
+#[tactic(auto, using(crate::proofs::BoundLaws::large_arcs))]
 pub fn new_values_hold_large_arcs()
     ensures narrow { (small large : ℕ) (s : Shape) (v : Value s) → IsValidUnder large s v
         → AreBelow small (identifiers_of s v) → IsValidUnder small s v }

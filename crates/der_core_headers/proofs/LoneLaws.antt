@@ -1,5 +1,6 @@
 -- A length alone is read as one behind a tag, but for the fault of a form that isn't the shortest.
-use Rattle.std.proofs.Common.{◌≡◌, ℕ, List, ◌++◌, drop, Result, Ok, Err, refl, ap}
+use Rattle.std.proofs.Common.{arith, ◌≡◌, ℕ, List, ◌++◌, drop, Result, Ok, Err, refl, ap}
+use Rattle.std.proofs.lemmas.Bool.Decides.{nat_tests}
 use Rattle.std.specs.Prelude.{◌≢◌, IfOk}
 use Rattle.der_core_head.specs.declared.error.Error.{Error}
 use Rattle.der_core_head.specs.declared.error.ErrorKind.{ErrorKind}
@@ -22,15 +23,10 @@ pub other_fault : (k : ErrorKind) → ((t : Tag) → k ≢ kinds.Length t) → l
 other_fault (kinds.Length t) h = absurd (h t refl)
 other_fault k h = refl
 
--- what is read alone is read behind a tag
-behind_tag : (r : Result (ℕ × List ℕ) ErrorKind) (x : ℕ × List ℕ) → lone r ≡ Ok x → r ≡ Ok x
-behind_tag (Ok y) x e = e
-behind_tag (Err k) x e = absurd cc
-
 pub lone_spelled : (w : List ℕ) (r : Result (Length × ℕ) Error) → IsBytes w → ReadsFront (λ (l : Length). l.value) w r lone_length_at
     → IfOk r (λ x. w ≡ length_octets x.0.value ++ drop x.1 w)
 unfolding lone_length_at
-lone_spelled w (Ok x) bytes h = (length_sound tags.Null w x.0.value (drop x.1 w) bytes (behind_tag (length_at tags.Null w) (x.0.value, drop x.1 w) h.0)).0
+lone_spelled w (Ok x) bytes h = (length_sound tags.Null w x.0.value (drop x.1 w) bytes (grind (arith, nat_tests))).0
 lone_spelled w (Err e) bytes h = tt
 
 pub lone_again : (n : ℕ) (r : List ℕ) → IsLength n → lone_length_at (length_octets n ++ r) ≡ Ok (n, r)

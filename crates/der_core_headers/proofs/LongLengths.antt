@@ -3,6 +3,7 @@ use Rattle.std.proofs.Common.{◌≡◌, ℕ, ◌+◌, ◌-◌, ◌*◌, ◌<◌
 use Rattle.std.specs.Prelude.{IsErr, ◌≢◌}
 use Rattle.std.proofs.lemmas.List.{take_all}
 use Rattle.der_core_head.specs.declared.error.ErrorKind.{ErrorKind}
+use Rattle.std.proofs.lemmas.Bool.Decides.{nat_tests}
 use Rattle.std.proofs.lemmas.Bool.{cases_lt, le-ltb, lt-ltb, ne_eqb, eq-eqb}
 use Rattle.der_core_head.specs.declared.error.ErrorKind.TheVariants as kinds
 use Rattle.der_core_head.specs.declared.tag.Tag.{Tag}
@@ -18,24 +19,18 @@ fewest-1 t first (d ∷ w) e l a = rw e (length_at-1 t d w a)
 
 fewest-2 : (t : Tag) (first : ℕ) (w : List ℕ) → first ≡ 130 → 2 ≤ length w → get_or w 0 0 < 256 → get_or w 1 0 < 256
     → length_at t (first ∷ w) ≡ cond (eqb (get_or w 0 0) 0) (Err (kinds.Length t)) (Ok (get_or w 0 0 * 256 + get_or w 1 0, drop 2 w))
-fewest-2 t first [] e l a b = absurd (omega arith)
-fewest-2 t first (d ∷ []) e l a b = absurd (omega arith)
 fewest-2 t first (d ∷ f ∷ w) e l a b = rw e (length_at-2 t d f w a b)
+fewest-2 t first _ e l a b = absurd (omega arith)
 
 fewest-3 : (t : Tag) (first : ℕ) (w : List ℕ) → first ≡ 131 → 3 ≤ length w → get_or w 0 0 < 256 → get_or w 1 0 < 256 → get_or w 2 0 < 256
     → length_at t (first ∷ w) ≡ cond (eqb (get_or w 0 0) 0) (Err (kinds.Length t)) (Ok (get_or w 0 0 * 65536 + get_or w 1 0 * 256 + get_or w 2 0, drop 3 w))
-fewest-3 t first [] e l a b c = absurd (omega arith)
-fewest-3 t first (d ∷ []) e l a b c = absurd (omega arith)
-fewest-3 t first (d ∷ f ∷ []) e l a b c = absurd (omega arith)
 fewest-3 t first (d ∷ f ∷ g ∷ w) e l a b c = rw e (length_at-3 t d f g w a b c)
+fewest-3 t first _ e l a b c = absurd (omega arith)
 
 fewest-4 : (t : Tag) (first : ℕ) (w : List ℕ) → first ≡ 132 → 4 ≤ length w → get_or w 0 0 < 256 → get_or w 1 0 < 256 → get_or w 2 0 < 256 → get_or w 3 0 < 256
     → length_at t (first ∷ w) ≡ cond (eqb (get_or w 0 0) 0) (Err (kinds.Length t)) (Ok (get_or w 0 0 * 16777216 + get_or w 1 0 * 65536 + get_or w 2 0 * 256 + get_or w 3 0, drop 4 w))
-fewest-4 t first [] e l a b c d = absurd (omega arith)
-fewest-4 t first (h ∷ []) e l a b c d = absurd (omega arith)
-fewest-4 t first (h ∷ i ∷ []) e l a b c d = absurd (omega arith)
-fewest-4 t first (h ∷ i ∷ j ∷ []) e l a b c d = absurd (omega arith)
 fewest-4 t first (h ∷ i ∷ j ∷ k ∷ w) e l a b c d = rw e (length_at-4 t h i j k w a b c d)
+fewest-4 t first _ e l a b c d = absurd (omega arith)
 
 pub long-1 : (t : Tag) (first : ℕ) (w : List ℕ) (v : ℕ) → first ≡ 129 → 1 ≤ length w → ((i : ℕ) → get_or w i 0 < 256) → v ≡ get_or w 0 0 → 128 ≤ v
     → length_at t (first ∷ w) ≡ Ok (v, drop 1 w)
@@ -81,11 +76,7 @@ is_fault r k e = rw e refl
 -- an octet below 128 is a length
 pub fault-first : (t : Tag) (first : ℕ) (w : List ℕ) → IsErr (length_at t (first ∷ w)) → 128 ≤ first
 unfolding length_at
-fault-first t first w e =
-    elim (cases_lt first 128) [
-      | inl low ↦ absurd (cc (rw (lt-ltb first 128 low) at e))
-      | inr high ↦ high
-    ]
+fault-first t first w e = grind (arith, nat_tests)
 
 stands : (t : Tag) (first : ℕ) (w : List ℕ) → 128 < first → first < 133 → first - 128 ≤ length w
     → length_at t (first ∷ w) ≡ shortest t first (take (first - 128) w) (drop (first - 128) w)

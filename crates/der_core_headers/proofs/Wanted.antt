@@ -1,5 +1,6 @@
 -- Headers of a wanted tag.
 use Rattle.std.proofs.Common.{◌≡◌, ℕ, ◌<◌, Bool, List, [], ◌∷◌, ◌++◌, Some, Result, Ok, Err, true, false, inl, inr, refl, sym, ap, ◌∙◌, arith, if◌then◌else◌}
+use Rattle.std.proofs.lemmas.Bool.Decides.{nat_tests}
 use Rattle.std.specs.Prelude.{◌≢◌, ◌⊎◌, ◌==◌, length}
 use Rattle.der_core_head.specs.declared.error.ErrorKind.{ErrorKind}
 use Rattle.der_core_head.specs.declared.error.ErrorKind.TheVariants as kinds
@@ -29,54 +30,31 @@ wanted_is t head w h r e is =
     rw (e, same) refl
 
 -- a header that is wanted is one, and where none is, no header stands or one of another tag
-taken_ok : (b : Bool) (x y : Head × List ℕ) → (if b then Ok x else Err kinds.TagUnexpected) ≡ Ok y → x ≡ y
-taken_ok true x y e = cc
-taken_ok false x y e = absurd cc
-
-found_ok : (t : Tag) (r : Result (Head × List ℕ) ErrorKind) (x : Head × List ℕ) → (r >>= λ h. if same_tag h.0.tag t then Ok h else Err kinds.TagUnexpected) ≡ Ok x → r ≡ Ok x
-found_ok t (Err k) x e = absurd cc
-found_ok t (Ok h) x e = ap Ok (taken_ok (same_tag h.0.tag t) h x e)
-
 pub wanted_ok : (t : Tag) (head : Readings Head) (w : List ℕ) (h : Head) (r : List ℕ) → wanted_at t head w ≡ Ok (h, r) → head w ≡ Ok (h, r)
 unfolding wanted_at
-wanted_ok t head w h r e = found_ok t (head w) (h, r) e
+wanted_ok t head w h r e = grind (arith, nat_tests)
 
 abbrev pub Misses : Tag → Result (Head × List ℕ) ErrorKind → ErrorKind → Type 0
 Misses t r k = (r ≡ Err k) ⊎ ((x : Head × List ℕ) × (r ≡ Ok x) × (same_tag x.0.tag t ≡ false) × (k ≡ kinds.TagUnexpected))
 
-taken_err : (b : Bool) (x : Head × List ℕ) (k : ErrorKind) → (if b then Ok x else Err kinds.TagUnexpected) ≡ Err k → (b ≡ false) × (k ≡ kinds.TagUnexpected)
-taken_err true x k e = absurd cc
-taken_err false x k e = (refl, cc)
-
 found_err : (t : Tag) (r : Result (Head × List ℕ) ErrorKind) (k : ErrorKind) → (r >>= λ h. if same_tag h.0.tag t then Ok h else Err kinds.TagUnexpected) ≡ Err k → Misses t r k
 found_err t (Err d) k e = inl e
-found_err t (Ok h) k e =
-    let o = taken_err (same_tag h.0.tag t) h k e in
-    inr (h, refl, o.0, o.1)
+found_err t (Ok h) k e = inr (h, refl, grind (arith, nat_tests), grind (arith, nat_tests))
 
 pub wanted_err : (t : Tag) (head : Readings Head) (w : List ℕ) (k : ErrorKind) → wanted_at t head w ≡ Err k → Misses t (head w) k
 unfolding wanted_at
 wanted_err t head w k e = found_err t (head w) k e
 
 -- a tag that stands is the one that stands if octets are left
-some_ok : (r : Result (Tag × List ℕ) ErrorKind) (t : Tag) → alone r ≡ Ok t → (r >>= λ x. Ok (Some x.0)) ≡ Ok (Some t)
-some_ok (Ok x) t e = cc
-some_ok (Err k) t e = absurd cc
-
-some_err : (r : Result (Tag × List ℕ) ErrorKind) (k : ErrorKind) → alone r ≡ Err k → (r >>= λ x. Ok (Some x.0)) ≡ Err k
-some_err (Ok x) k e = absurd cc
-some_err (Err d) k e = cc
-
 pub peek_ok : (rules : EncodingRules) (w : List ℕ) (t : Tag) → w ≢ [] → alone (tag_by rules w) ≡ Ok t → peek_at rules w ≡ Ok (Some t)
 peek_ok rules [] t left e = absurd (left refl)
-peek_ok rules (b ∷ w) t left e = some_ok (tag_by rules (b ∷ w)) t e
+peek_ok rules (b ∷ w) t left e = grind (arith, nat_tests)
 
 pub peek_err : (rules : EncodingRules) (w : List ℕ) (k : ErrorKind) → w ≢ [] → alone (tag_by rules w) ≡ Err k → peek_at rules w ≡ Err k
 peek_err rules [] k left e = absurd (left refl)
-peek_err rules (b ∷ w) k left e = some_err (tag_by rules (b ∷ w)) k e
+peek_err rules (b ∷ w) k left e = grind (arith, nat_tests)
 
 -- octets that aren't empty are left
 pub some_left : (x w : List ℕ) (b : Bool) → b ≡ (length x == 0) → b ≡ false → x ≡ w → w ≢ []
-some_left [] w true e f r = absurd cc
-some_left [] w false e f r = absurd cc
 some_left (y ∷ x) w b e f r = λ none. absurd (cc (r, none))
+some_left _ w _ e f r = absurd cc

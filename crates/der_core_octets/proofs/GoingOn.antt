@@ -1,15 +1,13 @@
 -- Reading that goes on where a call before it stopped.
-use Rattle.std.proofs.Common.{◌≡◌, ℕ, suc, zero, ◌+◌, Bool, true, false, List, [], ◌∷◌, ◌++◌, drop, Some, Result, Ok, Err, refl, ap, ◌∙◌, if◌then◌else◌}
+use Rattle.std.proofs.Common.{◌≡◌, ℕ, suc, zero, ◌+◌, Bool, true, false, List, [], ◌∷◌, ◌++◌, drop, Some, Result, Ok, Err, refl, ap, arith, ◌∙◌}
+use Rattle.std.proofs.lemmas.Bool.Decides.{nat_tests}
 use Rattle.std.proofs.lemmas.List.{drop-drop}
 use Rattle.der_core_head.specs.declared.error.Error.{Error}
 use Rattle.der_core_head.specs.declared.error.ErrorKind.{ErrorKind}
-use Rattle.der_core_head.specs.declared.error.ErrorKind.TheVariants as kinds
 use Rattle.der_core_head.specs.declared.tag.Tag.{Tag}
 use Rattle.der_core_head.specs.Octets.{Readings, ◌>>=◌}
 use Rattle.der_core_head.specs.declared.encoding_rules.EncodingRules.{EncodingRules}
-use Rattle.der_core_head.specs.Heads.{Head}
 use Rattle.der_core_head.specs.Bodies.{head_by}
-use Rattle.der_core_head.specs.Tags.{same_tag}
 use Rattle.der_core_head.specs.Grammar.{tlv_at, value_at, peek_at, opt_at}
 use Rattle.der_core_head.specs.Reading.{State, IsRest, Kept, Reads}
 use Rattle.der_core_headers.specs.Fronts.{wanted_at}
@@ -42,22 +40,10 @@ reads_after view old mid new (Err d) f g m ready passed e h = (
   h.3,
 )
 
--- a value behind a header of its tag
-behind_tag : {P : Type 0} (b : Bool) (h : Head × List ℕ) (f : Readings P)
-    → (if b then value_at f h.0.len h.1 else Err kinds.TagUnexpected) ≡ ((if b then Ok h else Err kinds.TagUnexpected) >>= λ x. value_at f x.0.len x.1)
-behind_tag true h f = refl
-behind_tag false h f = refl
-
-behind_head : {P : Type 0} (tag : Tag) (f : Readings P) (r : Result (Head × List ℕ) ErrorKind)
-    → (r >>= λ h. if same_tag h.0.tag tag then value_at f h.0.len h.1 else Err kinds.TagUnexpected)
-    ≡ (r >>= λ h. if same_tag h.0.tag tag then Ok h else Err kinds.TagUnexpected) >>= λ x. value_at f x.0.len x.1
-behind_head tag f (Err k) = refl
-behind_head tag f (Ok h) = behind_tag (same_tag h.0.tag tag) h f
-
 -- an encoding is a header of the wanted tag, and its content
 pub tlv_wanted : {P : Type 0} (rules : EncodingRules) (tag : Tag) (f : Readings P) (w : List ℕ) → tlv_at rules tag f w ≡ (wanted_at tag (head_by rules) w >>= λ h. value_at f h.0.len h.1)
 unfolding tlv_at wanted_at
-tlv_wanted rules tag f w = behind_head tag f (head_by rules w)
+tlv_wanted rules tag f w = grind (arith, nat_tests)
 
 pub frame_then : (a b d : State) → b ≡ record a { rest = b.rest } → d ≡ record b { rest = d.rest } → d ≡ record a { rest = d.rest }
 frame_then a b d m h = cc (ap (λ (s : State). s.behind) m, ap (λ (s : State). s.room) m, ap (λ (s : State). s.failed) m, ap (λ (s : State). s.source) m, h)

@@ -1,7 +1,8 @@
 -- The number of a content, octet by octet.
 use Rattle.std.proofs.Common.{◌≡◌, ℕ, ◌+◌, ◌*◌, ◌-◌, ◌^◌, ◌<◌, ◌≤◌, Bool, true, false, List, ◌∷◌, length, get_or, drop, refl, ap, subst, sym, ◌∙◌, arith}
-use Rattle.std.proofs.Common.{leb, [], Some, Ok, Err, slice_get, pos, inl, inr}
-use Rattle.std.proofs.lemmas.Bool.{cases_lt, lt-ltb, le-ltb, le-leb, lt-leb}
+use Rattle.std.proofs.Common.{leb, [], Some, Ok, Err, slice_get, pos}
+use Rattle.std.proofs.lemmas.Bool.Decides.{nat_tests}
+use Rattle.std.proofs.lemmas.Bool.{lt-ltb, le-ltb}
 use Rattle.std.proofs.Math.Pow.{pow_mono}
 use Rattle.std.proofs.Math.Nat.{pow-suc}
 use Rattle.std.specs.Int.Digits.{number_from_digits, number_from_digits_after, AllBelowBase}
@@ -13,13 +14,12 @@ use Rattle.der_core_octets.specs.Numbers.{signed_number, turn, turned}
 use Rattle.const_oid.specs.Digits.{digits}
 use Rattle.const_oid.proofs.DigitLaws.{digits-Digits, digits-one, digits-more}
 use Rattle.std.proofs.Common.{zero, suc, ◌/◌, ◌%◌, ◌++◌, append_assoc}
-use Rattle.std.proofs.lemmas.List.{map-append}
+use Rattle.std.proofs.lemmas.List.{drop_more, map-append}
 use Rattle.std.proofs.lemmas.Nat.{div_below}
-use Rattle.der_core_head.proofs.TagNumbers.{front}
 
 turned_front : (b : Bool) (i : ℕ) (w : List ℕ) → i < length w → turned b (drop i w) ≡ turn b (get_or w i 0) ∷ turned b (drop (i + 1) w)
-turned_front true i w h = rw (front w i h) refl
-turned_front false i w h = front w i h
+turned_front true i w h = rw (drop_more w i 0 h) refl
+turned_front false i w h = drop_more w i 0 h
 
 pub magnitude_more : (b : Bool) (n i : ℕ) (w : List ℕ) → i < length w
     → number_from_digits_after 256 n (turned b (drop i w)) ≡ number_from_digits_after 256 (256 * n + turn b (get_or w i 0)) (turned b (drop (i + 1) w))
@@ -36,12 +36,7 @@ pub shortest_is : (t : Tag) (w : List ℕ) (d : ℕ) → slice_get w 0 ≡ Some 
     → shortest_integer t w ≡ Ok (signed_number (leb 128 d) (number_from_digits 256 (turned (leb 128 d) w)))
 unfolding shortest_integer integer_of
 shortest_is t [] d e h = absurd cc
-shortest_is t (a ∷ w) d e h =
-    let same : a ≡ d = cc in
-    elim (cases_lt a 128) [
-      | inl low ↦ rw (h, lt-ltb a 128 low, ← same, lt-leb 128 a low) refl
-      | inr high ↦ rw (h, le-ltb a 128 high, ← same, le-leb 128 a high) refl
-    ]
+shortest_is t (a ∷ w) d e h = grind (arith, nat_tests)
 
 -- a number past the greatest of its type
 pub unsigned_large : (k : ℕ) (t : Tag) (w : List ℕ) (n : ℕ) → shortest_integer t w ≡ Ok (pos n) → k ≤ 128 → 2 ^ 128 ≤ n → integer_read (unsigned k) t w ≡ Err (kinds.Length t)

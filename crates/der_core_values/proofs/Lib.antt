@@ -1,2 +1,4 @@
 pub mod Contents
 pub mod Lists
+pub mod InTurn
+pub mod Headed

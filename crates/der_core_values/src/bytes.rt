@@ -7,19 +7,26 @@ ghost use Rattle.der_core_head.specs.Leaves.{octets};
 ghost use Rattle.der_core_head.specs.Reading.{Reads, read_content_at};
 ghost use Rattle.der_core_head.specs.Shapes.{leaf};
 
-use crate::decode::{DecodeValue, ShapedValue};
-use crate::encode::EncodeValue;
-use crate::leaves::{Leaf, decode_leaf};
-use der_core_head::{Error, Length, Tag};
+use crate::in_range::octets_in_range;
+use crate::leaf_ways::{AsOctets, Octets};
+use crate::leaves::{Leaf, Primitive};
+use crate::ways::Described;
+use der_core_head::{Error, Tag};
 use der_core_octets::headers::Header;
-use der_core_octets::{BytesOwned, BytesRef, Reader, Writer};
+use der_core_octets::{BytesOwned, BytesRef, Reader};
 use std::alloc::Global;
 
-impl<'a> Leaf<'a> for BytesRef<'a> {
+impl<'a> Described for BytesRef<'a> {
+    type By = AsOctets;
+}
+
+impl<'a> Primitive for BytesRef<'a> {
     ghost kind = { octets };
 
     ghost leaf_plain = { held_octets };
+}
 
+impl<'a> Leaf<'a> for BytesRef<'a> {
     ghost takes_memory = { false };
 
     fn from_content(_alloc: Global, _tag: Tag, octets: &'a [u8]) -> Result<BytesRef<'a>, Error> {
@@ -27,63 +34,35 @@ impl<'a> Leaf<'a> for BytesRef<'a> {
     }
 }
 
-impl<'a> ShapedValue for BytesRef<'a> {
-    ghost content = { leaf octets };
-
-    ghost value_plain = { held_octets };
-
-    ghost value_written = { held_octets };
-}
-
-impl<'a, R: Reader<'a>> DecodeValue<'a, R> for BytesRef<'a> {
-    fn decode_value(alloc: Global, reader: &mut R, header: Header) -> Result<BytesRef<'a>, Error> {
-        decode_leaf(alloc, reader, header)
+impl<'a> Octets for BytesRef<'a> {
+    fn content(&self) -> &[u8] {
+        octets_in_range(self.as_slice());
+        self.as_slice()
     }
 }
 
-impl<'a> EncodeValue for BytesRef<'a> {
-    fn value_len(&self) -> Result<Length, Error> {
-        Ok(self.len())
-    }
+impl Described for BytesOwned {
+    type By = AsOctets;
+}
 
-    fn encode_value<W: Writer>(&self, writer: &mut W) -> Result<(), Error> {
-        writer.write(self.as_slice())
-    }
+impl Primitive for BytesOwned {
+    ghost kind = { octets };
+
+    ghost leaf_plain = { λ bytes. bytes };
 }
 
 /// Copied.
 impl<'a> Leaf<'a> for BytesOwned {
-    ghost kind = { octets };
-
-    ghost leaf_plain = { λ bytes. bytes };
-
     fn from_content(alloc: Global, _tag: Tag, octets: &'a [u8]) -> Result<BytesOwned, Error> {
         let bytes = octets.to_vec(alloc)?;
         BytesOwned::new(bytes)
     }
 }
 
-impl ShapedValue for BytesOwned {
-    ghost content = { leaf octets };
-
-    ghost value_plain = { λ bytes. bytes };
-
-    ghost value_written = { λ bytes. bytes };
-}
-
-impl<'a, R: Reader<'a>> DecodeValue<'a, R> for BytesOwned {
-    fn decode_value(alloc: Global, reader: &mut R, header: Header) -> Result<BytesOwned, Error> {
-        decode_leaf(alloc, reader, header)
-    }
-}
-
-impl EncodeValue for BytesOwned {
-    fn value_len(&self) -> Result<Length, Error> {
-        Ok(self.len())
-    }
-
-    fn encode_value<W: Writer>(&self, writer: &mut W) -> Result<(), Error> {
-        writer.write(self.as_slice())
+impl Octets for BytesOwned {
+    fn content(&self) -> &[u8] {
+        octets_in_range(self.as_slice());
+        self.as_slice()
     }
 }
 

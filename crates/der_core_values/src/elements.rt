@@ -4,9 +4,6 @@ ghost use Rattle.std.specs.Prelude.{◌≡◌, true, refl};
 ghost use Rattle.der_core_head.specs.Spelling.{is_apart, is_element, is_content_apart};
 
 use crate::decode::{FixedTag, Shaped, ShapedValue};
-use crate::integers::Integer;
-use const_oid::ObjectIdentifier;
-use der_core_octets::{BytesOwned, BytesRef, StringOwned, StringRef};
 
 /// A type whose values are told apart by their first tags, so that each has one spelling.
 pub trait Member: Shaped {
@@ -66,70 +63,6 @@ impl ApartValue for () {
 }
 
 impl AsReadValue for () {
-    ghost as_read_value = { λ _. refl };
-}
-
-impl<T: Integer> ApartValue for T {
-    ghost apart_value = { refl };
-}
-
-impl<T: Integer> AsReadValue for T {
-    ghost as_read_value = { λ _. refl };
-}
-
-impl<'a> ApartValue for &'a str {
-    ghost apart_value = { refl };
-}
-
-impl<'a> AsReadValue for &'a str {
-    ghost as_read_value = { λ _. refl };
-}
-
-impl ApartValue for String {
-    ghost apart_value = { refl };
-}
-
-impl AsReadValue for String {
-    ghost as_read_value = { λ _. refl };
-}
-
-impl<'a> ApartValue for StringRef<'a> {
-    ghost apart_value = { refl };
-}
-
-impl<'a> AsReadValue for StringRef<'a> {
-    ghost as_read_value = { λ _. refl };
-}
-
-impl ApartValue for StringOwned {
-    ghost apart_value = { refl };
-}
-
-impl AsReadValue for StringOwned {
-    ghost as_read_value = { λ _. refl };
-}
-
-impl<'a> ApartValue for BytesRef<'a> {
-    ghost apart_value = { refl };
-}
-
-impl<'a> AsReadValue for BytesRef<'a> {
-    ghost as_read_value = { λ _. refl };
-}
-
-impl ApartValue for BytesOwned {
-    ghost apart_value = { refl };
-}
-
-impl AsReadValue for BytesOwned {
-    ghost as_read_value = { λ _. refl };
-}
-
-impl<const MAX_SIZE: usize> ApartValue for ObjectIdentifier<MAX_SIZE> {
-    ghost apart_value = { refl };
-}
-
-impl<const MAX_SIZE: usize> AsReadValue for ObjectIdentifier<MAX_SIZE> {
     ghost as_read_value = { λ _. refl };
 }
 

@@ -3,16 +3,14 @@
 ghost use Rattle.std.specs.Prelude.{◌≡◌, false};
 ghost use Rattle.const_oid.specs.Bound.{Bound};
 ghost use Rattle.der_core_head.specs.declared.tag.Tag.TheVariants.{ObjectIdentifier as ObjectIdentifierTag};
-ghost use Rattle.der_core_head.specs.Shapes.{leaf};
 ghost use Rattle.der_core_head.specs.Leaves.{identifier};
 
-use crate::decode::{DecodeValue, FixedTag, ShapedValue};
-use crate::encode::EncodeValue;
-use crate::leaves::{Leaf, decode_leaf};
+use crate::decode::FixedTag;
+use crate::leaf_ways::{AsOctets, Octets};
+use crate::leaves::{Leaf, Primitive};
+use crate::ways::Described;
 use const_oid::ObjectIdentifier;
-use der_core_head::{Error, ErrorKind, Length, Tag};
-use der_core_octets::headers::Header;
-use der_core_octets::{Reader, Writer, slice_len};
+use der_core_head::{Error, ErrorKind, Tag};
 use std::alloc::Global;
 
 impl<const MAX_SIZE: usize> FixedTag for ObjectIdentifier<MAX_SIZE> {
@@ -23,15 +21,21 @@ impl<const MAX_SIZE: usize> FixedTag for ObjectIdentifier<MAX_SIZE> {
     }
 }
 
-/// The octets of the arcs (X.690 8.19), no more than the capacity.
-impl<'a, const MAX_SIZE: usize> Leaf<'a> for ObjectIdentifier<MAX_SIZE> {
+impl<const MAX_SIZE: usize> Described for ObjectIdentifier<MAX_SIZE> {
+    type By = AsOctets;
+}
+
+impl<const MAX_SIZE: usize> Primitive for ObjectIdentifier<MAX_SIZE> {
     ghost kind = { identifier Bound MAX_SIZE };
 
     ghost leaf_plain = { λ oid. oid };
+}
 
+/// The octets of the arcs (X.690 8.19), no more than the capacity.
+impl<'a, const MAX_SIZE: usize> Leaf<'a> for ObjectIdentifier<MAX_SIZE> {
     ghost takes_memory = { false };
 
-    // Inlined for the same reason as `decode_value`.
+    // Inlined, so that an identifier is moved less often.
     #[inline(always)]
     fn from_content(
         _alloc: Global,
@@ -45,32 +49,8 @@ impl<'a, const MAX_SIZE: usize> Leaf<'a> for ObjectIdentifier<MAX_SIZE> {
     }
 }
 
-impl<const MAX_SIZE: usize> ShapedValue for ObjectIdentifier<MAX_SIZE> {
-    ghost content = { leaf (identifier Bound MAX_SIZE) };
-
-    ghost value_plain = { λ oid. oid };
-
-    ghost value_written = { λ oid. oid };
-}
-
-impl<'a, R: Reader<'a>, const MAX_SIZE: usize> DecodeValue<'a, R> for ObjectIdentifier<MAX_SIZE> {
-    // Inlined, so that an identifier is moved less often.
-    #[inline(always)]
-    fn decode_value(
-        alloc: Global,
-        reader: &mut R,
-        header: Header,
-    ) -> Result<ObjectIdentifier<MAX_SIZE>, Error> {
-        decode_leaf(alloc, reader, header)
-    }
-}
-
-impl<const MAX_SIZE: usize> EncodeValue for ObjectIdentifier<MAX_SIZE> {
-    fn value_len(&self) -> Result<Length, Error> {
-        slice_len(self.as_bytes())
-    }
-
-    fn encode_value<W: Writer>(&self, writer: &mut W) -> Result<(), Error> {
-        writer.write(self.as_bytes())
+impl<const MAX_SIZE: usize> Octets for ObjectIdentifier<MAX_SIZE> {
+    fn content(&self) -> &[u8] {
+        self.as_bytes()
     }
 }

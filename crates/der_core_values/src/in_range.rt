@@ -11,11 +11,8 @@ ghost use Rattle.der_core_head.specs.Texts.{IsUtf8Text};
 ghost use Rattle.der_core_head.specs.Ranges.{IsInRange, IsContentInRange, IsBodyInRange};
 
 use crate::decode::{FixedTag, Shaped, ShapedValue};
-use crate::fields::Fields;
-use crate::integers::Integer;
-use const_oid::ObjectIdentifier;
+use crate::fields::FieldRow;
 use der_core_head::number_of;
-use der_core_octets::{BytesOwned, BytesRef, StringOwned, StringRef};
 use std::marker::PhantomData;
 
 /// A type whose values are in range.
@@ -33,7 +30,7 @@ pub trait InRangeValue: ShapedValue {
 }
 
 /// A row of fields that are in range.
-pub trait InRangeFields: Fields {
+pub trait InRangeFields: FieldRow {
     /// What is written for the fields of a value is in range.
     fn fields_in_range(&self)
         ensures { IsBodyInRange Self.fields (Self.fields_written self.now) };
@@ -74,54 +71,6 @@ impl InRangeValue for bool {
 
 impl InRangeValue for () {
     fn value_in_range(&self) {}
-}
-
-impl<T: Integer> InRangeValue for T {
-    fn value_in_range(&self) {
-        let _magnitude = self.magnitude();
-    }
-}
-
-impl<'a> InRangeValue for &'a str {
-    fn value_in_range(&self) {
-        text_in_range(self);
-    }
-}
-
-impl InRangeValue for String {
-    fn value_in_range(&self) {
-        text_in_range(self.as_str());
-    }
-}
-
-impl<'a> InRangeValue for StringRef<'a> {
-    fn value_in_range(&self) {
-        text_in_range(self.as_str());
-    }
-}
-
-impl InRangeValue for StringOwned {
-    fn value_in_range(&self) {
-        text_in_range(self.as_str());
-    }
-}
-
-impl<'a> InRangeValue for BytesRef<'a> {
-    fn value_in_range(&self) {
-        octets_in_range(self.as_slice());
-    }
-}
-
-impl InRangeValue for BytesOwned {
-    fn value_in_range(&self) {
-        octets_in_range(self.as_slice());
-    }
-}
-
-impl<const MAX_SIZE: usize> InRangeValue for ObjectIdentifier<MAX_SIZE> {
-    fn value_in_range(&self) {
-        let _octets = self.as_bytes();
-    }
 }
 
 impl<T: InRangeValue> InRangeValue for Box<T> {

@@ -1,6 +1,6 @@
 //! Whole numbers: two's complement in the fewest octets (X.690 8.3).
 
-ghost use Rattle.std.specs.Prelude.{◌≡◌, ℤ, pos, false};
+ghost use Rattle.std.specs.Prelude.{◌≡◌, ℤ, pos, false, refl};
 ghost use Rattle.der_core_head.specs.declared.tag.Tag.TheVariants.{Integer as IntegerTag};
 ghost use Rattle.der_core_head.specs.Shapes.{leaf};
 ghost use Rattle.der_core_head.specs.Integers.{Numbers, IsNumber, unsigned, signed, integer_read};
@@ -8,9 +8,8 @@ ghost use Rattle.der_core_head.specs.Leaves.{integer};
 ghost use Rattle.der_core_head.specs.Reading.{GivesNow};
 ghost use Rattle.der_core_octets.specs.Numbers.{signed_number};
 
-use crate::decode::{DecodeValue, FixedTag, ShapedValue};
-use crate::encode::EncodeValue;
-use crate::leaves::{Leaf, decode_leaf};
+use crate::leaves::{Leaf, Primitive, decode_leaf};
+use crate::ways::{AsReadWay, DecodeWay, Described, RangeWay, TagWay, Way};
 use der_core_head::{Error, Length, Tag};
 use der_core_octets::headers::Header;
 use der_core_octets::{Reader, Writer, integer_octets_of, signed_of, unsigned_of};
@@ -38,19 +37,13 @@ pub trait Integer: Drop {
         ensures has { IsNumber numbers (number self.now) };
 }
 
-impl<T: Integer> FixedTag for T {
-    ghost fixed_tag = { IntegerTag };
-
-    fn tag() -> Tag {
-        Tag::Integer
-    }
-}
-
-impl<'a, T: Integer> Leaf<'a> for T {
+impl<T: Integer> Primitive for T {
     ghost kind = { integer T.numbers };
 
     ghost leaf_plain = { T.number };
+}
 
+impl<'a, T: Integer> Leaf<'a> for T {
     ghost takes_memory = { false };
 
     fn from_content(_alloc: Global, tag: Tag, octets: &'a [u8]) -> Result<T, Error> {
@@ -58,34 +51,59 @@ impl<'a, T: Integer> Leaf<'a> for T {
     }
 }
 
-impl<T: Integer> ShapedValue for T {
-    ghost content = { leaf (integer T.numbers) };
+/// As an INTEGER: two's complement in the fewest octets (X.690 8.3).
+pub struct AsInteger;
 
-    ghost value_plain = { T.number };
+impl<T: Integer> Way<T> for AsInteger {
+    ghost content_by = { leaf (integer T.numbers) };
 
-    ghost value_written = { T.number };
-}
+    ghost plain_by = { T.number };
 
-impl<'a, R: Reader<'a>, T: Integer> DecodeValue<'a, R> for T {
-    fn decode_value(alloc: Global, reader: &mut R, header: Header) -> Result<T, Error> {
-        decode_leaf(alloc, reader, header)
-    }
-}
+    ghost written_by = { T.number };
 
-impl<T: Integer> EncodeValue for T {
-    fn value_len(&self) -> Result<Length, Error> {
-        let (negative, number) = self.magnitude();
+    fn len_by(value: &T) -> Result<Length, Error> {
+        let (negative, number) = value.magnitude();
         let (_, start) = integer_octets_of(negative, number);
         Ok(Length {
             value: (17 - start) as u32,
         })
     }
 
-    fn encode_value<W: Writer>(&self, writer: &mut W) -> Result<(), Error> {
-        let (negative, number) = self.magnitude();
+    fn encode_by<W: Writer>(value: &T, writer: &mut W) -> Result<(), Error> {
+        let (negative, number) = value.magnitude();
         let (octets, start) = integer_octets_of(negative, number);
         writer.write(&octets[start..])
     }
+
+    ghost apart_by = { refl };
+}
+
+impl<T> TagWay<T> for AsInteger {
+    ghost tag_by = { IntegerTag };
+
+    fn tag_of() -> Tag {
+        Tag::Integer
+    }
+}
+
+impl<T: Integer> AsReadWay<T> for AsInteger {
+    ghost as_read_by = { λ _. refl };
+}
+
+impl<'a, R: Reader<'a>, T: Integer> DecodeWay<'a, R, T> for AsInteger {
+    fn decode_by(alloc: Global, reader: &mut R, header: Header) -> Result<T, Error> {
+        decode_leaf(alloc, reader, header)
+    }
+}
+
+impl<T: Integer> RangeWay<T> for AsInteger {
+    fn range_by(value: &T) {
+        let _magnitude = value.magnitude();
+    }
+}
+
+impl Described for u8 {
+    type By = AsInteger;
 }
 
 impl Integer for u8 {
@@ -103,6 +121,10 @@ impl Integer for u8 {
     }
 }
 
+impl Described for u16 {
+    type By = AsInteger;
+}
+
 impl Integer for u16 {
     ghost numbers = { unsigned 16 };
 
@@ -116,6 +138,10 @@ impl Integer for u16 {
     fn magnitude(&self) -> (bool, u128) {
         (false, u128::from(*self))
     }
+}
+
+impl Described for u32 {
+    type By = AsInteger;
 }
 
 impl Integer for u32 {
@@ -133,6 +159,10 @@ impl Integer for u32 {
     }
 }
 
+impl Described for u64 {
+    type By = AsInteger;
+}
+
 impl Integer for u64 {
     ghost numbers = { unsigned 64 };
 
@@ -148,6 +178,10 @@ impl Integer for u64 {
     }
 }
 
+impl Described for u128 {
+    type By = AsInteger;
+}
+
 impl Integer for u128 {
     ghost numbers = { unsigned 128 };
 
@@ -161,6 +195,10 @@ impl Integer for u128 {
     fn magnitude(&self) -> (bool, u128) {
         (false, *self)
     }
+}
+
+impl Described for i8 {
+    type By = AsInteger;
 }
 
 impl Integer for i8 {
@@ -184,6 +222,10 @@ impl Integer for i8 {
     }
 }
 
+impl Described for i16 {
+    type By = AsInteger;
+}
+
 impl Integer for i16 {
     ghost numbers = { signed 16 };
 
@@ -203,6 +245,10 @@ impl Integer for i16 {
             (false, number as u128)
         }
     }
+}
+
+impl Described for i32 {
+    type By = AsInteger;
 }
 
 impl Integer for i32 {
@@ -226,6 +272,10 @@ impl Integer for i32 {
     }
 }
 
+impl Described for i64 {
+    type By = AsInteger;
+}
+
 impl Integer for i64 {
     ghost numbers = { signed 64 };
 
@@ -245,6 +295,10 @@ impl Integer for i64 {
             (false, number as u128)
         }
     }
+}
+
+impl Described for i128 {
+    type By = AsInteger;
 }
 
 impl Integer for i128 {

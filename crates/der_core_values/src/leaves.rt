@@ -16,13 +16,16 @@ use der_core_octets::headers::Header;
 use der_core_octets::{Reader, Writer};
 use std::alloc::Global;
 
-/// A type whose values are read from the octets of their content.
-pub trait Leaf<'a>: Drop {
+/// A type whose content is no list of values.
+pub trait Primitive {
     /// Which primitive type it is.
     ghost kind: { LeafKind };
 
     ghost leaf_plain: { Self → LeafValue kind };
+}
 
+/// A type whose values are read from the octets of their content.
+pub trait Leaf<'a>: Primitive + Drop {
     /// Whether reading may be refused because memory runs out.
     ghost takes_memory: { Bool } = { true };
 
@@ -32,7 +35,8 @@ pub trait Leaf<'a>: Drop {
     /// The fault of the octets, or `OutOfMemory`.
     fn from_content(alloc: Global, tag: Tag, octets: &'a [u8]) -> Result<Self, Error>
         requires { Fits octets.now }
-        ensures { GivesTaking takes_memory leaf_plain result (leaf_read kind tag octets.now) };
+        ensures { GivesTaking takes_memory Self.leaf_plain result
+            (leaf_read Self.kind tag octets.now) };
 }
 
 /// The octets of the content behind a header.
@@ -84,12 +88,14 @@ impl FixedTag for bool {
     }
 }
 
-/// `00` is false and `FF` true (X.690 8.2, 11.1).
-impl<'a> Leaf<'a> for bool {
+impl Primitive for bool {
     ghost kind = { boolean };
 
     ghost leaf_plain = { λ b. b };
+}
 
+/// `00` is false and `FF` true (X.690 8.2, 11.1).
+impl<'a> Leaf<'a> for bool {
     ghost takes_memory = { false };
 
     fn from_content(_alloc: Global, tag: Tag, octets: &'a [u8]) -> Result<bool, Error> {
@@ -123,12 +129,14 @@ impl FixedTag for () {
     }
 }
 
-/// No octets (X.690 8.8).
-impl<'a> Leaf<'a> for () {
+impl Primitive for () {
     ghost kind = { null };
 
     ghost leaf_plain = { λ x. x };
+}
 
+/// No octets (X.690 8.8).
+impl<'a> Leaf<'a> for () {
     ghost takes_memory = { false };
 
     fn from_content(_alloc: Global, tag: Tag, octets: &'a [u8]) -> Result<(), Error> {

@@ -5,6 +5,7 @@
 mod arrays;
 mod bytes;
 mod decode;
+pub mod describing;
 mod elements;
 mod empty;
 mod encode;
@@ -12,6 +13,7 @@ mod fields;
 mod identifiers;
 mod in_range;
 mod integers;
+mod leaf_ways;
 mod leaves;
 mod nothing;
 mod now;
@@ -19,13 +21,17 @@ mod one_of_four;
 mod one_of_two;
 mod texts;
 mod tuples;
+mod ways;
 mod wrappers;
+mod wraps;
 
 pub use bytes::decode_octets;
 pub use decode::{Choice, Decode, DecodeValue, FixedTag, Shaped, ShapedValue};
 pub use elements::{ApartValue, AsRead, AsReadValue, Element, Member};
 pub use encode::{Encode, EncodeValue};
-pub use fields::{DecodeFields, Fields, read_fields};
+pub use fields::{
+    AsReadFields, DecodeFields, DecodeRow, FieldRow, Fields, FieldsView, read_fields,
+};
 pub use in_range::{
     InRange, InRangeFields, InRangeValue, list_in_range, octets_in_range, text_in_range,
 };

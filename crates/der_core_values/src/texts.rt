@@ -4,15 +4,15 @@ ghost use Rattle.std.specs.Prelude.{◌≡◌, false};
 ghost use Rattle.std.specs.String.{string_bytes};
 ghost use Rattle.der_core_head.specs.declared.tag.Tag.TheVariants.{Utf8String};
 ghost use Rattle.der_core_octets.specs.Held.{held_text};
-ghost use Rattle.der_core_head.specs.Shapes.{leaf};
 ghost use Rattle.der_core_head.specs.Leaves.{utf8};
 
-use crate::decode::{DecodeValue, FixedTag, ShapedValue};
-use crate::encode::EncodeValue;
-use crate::leaves::{Leaf, decode_leaf};
-use der_core_head::{Error, Length, Tag};
-use der_core_octets::headers::Header;
-use der_core_octets::{Reader, StringOwned, StringRef, Writer, slice_len};
+use crate::decode::FixedTag;
+use crate::in_range::text_in_range;
+use crate::leaf_ways::{AsOctets, Octets};
+use crate::leaves::{Leaf, Primitive};
+use crate::ways::Described;
+use der_core_head::{Error, Tag};
+use der_core_octets::{StringOwned, StringRef};
 use std::alloc::Global;
 use std::str;
 
@@ -26,12 +26,18 @@ impl<'a> FixedTag for &'a str {
     }
 }
 
-/// The octets of the text; others than UTF-8 are `Utf8`.
-impl<'a> Leaf<'a> for &'a str {
+impl<'a> Described for &'a str {
+    type By = AsOctets;
+}
+
+impl<'a> Primitive for &'a str {
     ghost kind = { utf8 };
 
     ghost leaf_plain = { λ text. text.now };
+}
 
+/// The octets of the text; others than UTF-8 are `Utf8`.
+impl<'a> Leaf<'a> for &'a str {
     ghost takes_memory = { false };
 
     #[tactic(auto, using(der_core_head::proofs::Utf8Reads::utf8_reads))]
@@ -41,27 +47,10 @@ impl<'a> Leaf<'a> for &'a str {
     }
 }
 
-impl<'a> ShapedValue for &'a str {
-    ghost content = { leaf utf8 };
-
-    ghost value_plain = { λ text. text.now };
-
-    ghost value_written = { λ text. text.now };
-}
-
-impl<'a, R: Reader<'a>> DecodeValue<'a, R> for &'a str {
-    fn decode_value(alloc: Global, reader: &mut R, header: Header) -> Result<&'a str, Error> {
-        decode_leaf(alloc, reader, header)
-    }
-}
-
-impl<'a> EncodeValue for &'a str {
-    fn value_len(&self) -> Result<Length, Error> {
-        slice_len(self.as_bytes())
-    }
-
-    fn encode_value<W: Writer>(&self, writer: &mut W) -> Result<(), Error> {
-        writer.write(self.as_bytes())
+impl<'a> Octets for &'a str {
+    fn content(&self) -> &[u8] {
+        text_in_range(self);
+        self.as_bytes()
     }
 }
 
@@ -73,12 +62,18 @@ impl FixedTag for String {
     }
 }
 
-/// The octets of the text, copied; others than UTF-8 are `Utf8`.
-impl<'a> Leaf<'a> for String {
+impl Described for String {
+    type By = AsOctets;
+}
+
+impl Primitive for String {
     ghost kind = { utf8 };
 
     ghost leaf_plain = { string_bytes };
+}
 
+/// The octets of the text, copied; others than UTF-8 are `Utf8`.
+impl<'a> Leaf<'a> for String {
     #[tactic(auto, using(der_core_head::proofs::Utf8Reads::utf8_reads))]
     fn from_content(alloc: Global, _tag: Tag, octets: &'a [u8]) -> Result<String, Error> {
         let text = str::from_utf8(octets)?;
@@ -87,36 +82,25 @@ impl<'a> Leaf<'a> for String {
     }
 }
 
-impl ShapedValue for String {
-    ghost content = { leaf utf8 };
-
-    ghost value_plain = { string_bytes };
-
-    ghost value_written = { string_bytes };
-}
-
-impl<'a, R: Reader<'a>> DecodeValue<'a, R> for String {
-    fn decode_value(alloc: Global, reader: &mut R, header: Header) -> Result<String, Error> {
-        decode_leaf(alloc, reader, header)
+impl Octets for String {
+    fn content(&self) -> &[u8] {
+        text_in_range(self.as_str());
+        self.as_bytes()
     }
 }
 
-impl EncodeValue for String {
-    fn value_len(&self) -> Result<Length, Error> {
-        slice_len(self.as_bytes())
-    }
+impl<'a> Described for StringRef<'a> {
+    type By = AsOctets;
+}
 
-    fn encode_value<W: Writer>(&self, writer: &mut W) -> Result<(), Error> {
-        writer.write(self.as_bytes())
-    }
+impl<'a> Primitive for StringRef<'a> {
+    ghost kind = { utf8 };
+
+    ghost leaf_plain = { held_text };
 }
 
 /// The octets of the text; others than UTF-8 are `Utf8`.
 impl<'a> Leaf<'a> for StringRef<'a> {
-    ghost kind = { utf8 };
-
-    ghost leaf_plain = { held_text };
-
     ghost takes_memory = { false };
 
     #[tactic(auto, using(der_core_head::proofs::Utf8Reads::utf8_reads))]
@@ -126,36 +110,25 @@ impl<'a> Leaf<'a> for StringRef<'a> {
     }
 }
 
-impl<'a> ShapedValue for StringRef<'a> {
-    ghost content = { leaf utf8 };
-
-    ghost value_plain = { held_text };
-
-    ghost value_written = { held_text };
-}
-
-impl<'a, R: Reader<'a>> DecodeValue<'a, R> for StringRef<'a> {
-    fn decode_value(alloc: Global, reader: &mut R, header: Header) -> Result<StringRef<'a>, Error> {
-        decode_leaf(alloc, reader, header)
+impl<'a> Octets for StringRef<'a> {
+    fn content(&self) -> &[u8] {
+        text_in_range(self.as_str());
+        self.as_bytes()
     }
 }
 
-impl<'a> EncodeValue for StringRef<'a> {
-    fn value_len(&self) -> Result<Length, Error> {
-        Ok(self.len())
-    }
+impl Described for StringOwned {
+    type By = AsOctets;
+}
 
-    fn encode_value<W: Writer>(&self, writer: &mut W) -> Result<(), Error> {
-        writer.write(self.as_bytes())
-    }
+impl Primitive for StringOwned {
+    ghost kind = { utf8 };
+
+    ghost leaf_plain = { λ text. text };
 }
 
 /// The octets of the text, copied; others than UTF-8 are `Utf8`.
 impl<'a> Leaf<'a> for StringOwned {
-    ghost kind = { utf8 };
-
-    ghost leaf_plain = { λ text. text };
-
     #[tactic(auto, using(der_core_head::proofs::Utf8Reads::utf8_reads))]
     fn from_content(alloc: Global, _tag: Tag, octets: &'a [u8]) -> Result<StringOwned, Error> {
         let text = str::from_utf8(octets)?;
@@ -164,26 +137,9 @@ impl<'a> Leaf<'a> for StringOwned {
     }
 }
 
-impl ShapedValue for StringOwned {
-    ghost content = { leaf utf8 };
-
-    ghost value_plain = { λ text. text };
-
-    ghost value_written = { λ text. text };
-}
-
-impl<'a, R: Reader<'a>> DecodeValue<'a, R> for StringOwned {
-    fn decode_value(alloc: Global, reader: &mut R, header: Header) -> Result<StringOwned, Error> {
-        decode_leaf(alloc, reader, header)
-    }
-}
-
-impl EncodeValue for StringOwned {
-    fn value_len(&self) -> Result<Length, Error> {
-        Ok(self.len())
-    }
-
-    fn encode_value<W: Writer>(&self, writer: &mut W) -> Result<(), Error> {
-        writer.write(self.as_bytes())
+impl Octets for StringOwned {
+    fn content(&self) -> &[u8] {
+        text_in_range(self.as_str());
+        self.as_bytes()
     }
 }

@@ -4,12 +4,12 @@ ghost use Rattle.std.specs.Prelude.{◌≡◌};
 ghost use Rattle.der_core_head.specs.Shapes.{field, done};
 
 use crate::decode::{Decode, Shaped};
-use crate::fields::{DecodeFields, Fields};
+use crate::fields::{DecodeRow, FieldRow};
 use der_core_head::{Error, ErrorKind};
 use der_core_octets::Reader;
 use std::alloc::Global;
 
-impl Fields for () {
+impl FieldRow for () {
     ghost fields = { done };
 
     ghost fields_plain = { λ x. x };
@@ -17,7 +17,7 @@ impl Fields for () {
     ghost fields_written = { λ x. x };
 }
 
-impl<A: Shaped, B: Fields> Fields for (A, B) {
+impl<A: Shaped, B: FieldRow> FieldRow for (A, B) {
     ghost fields = { field A.shape B.fields };
 
     ghost fields_plain = { λ x. (A.plain x.0, B.fields_plain x.1) };
@@ -25,8 +25,8 @@ impl<A: Shaped, B: Fields> Fields for (A, B) {
     ghost fields_written = { λ x. (A.written x.0, B.fields_written x.1) };
 }
 
-impl<'a, R: Reader<'a>> DecodeFields<'a, R> for () {
-    fn decode_fields(_alloc: Global, reader: &mut R) -> Result<(), Error> {
+impl<'a, R: Reader<'a>> DecodeRow<'a, R> for () {
+    fn decode_row(_alloc: Global, reader: &mut R) -> Result<(), Error> {
         if reader.is_failed() {
             return Err(Error::from(ErrorKind::Failed));
         }
@@ -34,10 +34,10 @@ impl<'a, R: Reader<'a>> DecodeFields<'a, R> for () {
     }
 }
 
-impl<'a, R: Reader<'a>, A: Decode<'a, R>, B: DecodeFields<'a, R>> DecodeFields<'a, R> for (A, B) {
-    fn decode_fields(alloc: Global, reader: &mut R) -> Result<(A, B), Error> {
+impl<'a, R: Reader<'a>, A: Decode<'a, R>, B: DecodeRow<'a, R>> DecodeRow<'a, R> for (A, B) {
+    fn decode_row(alloc: Global, reader: &mut R) -> Result<(A, B), Error> {
         let first = A::decode(alloc, reader)?;
-        let others = B::decode_fields(alloc, reader)?;
+        let others = B::decode_row(alloc, reader)?;
         Ok((first, others))
     }
 }

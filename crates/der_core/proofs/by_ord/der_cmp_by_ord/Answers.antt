@@ -1,5 +1,5 @@
 use Rattle.std.proofs.Common.{rules, Ok, ap, sym, refl, ◌∙◌}
-use Rattle.der_core.proofs.TagOrders.{tagged_content, never_long, first_long, second_long, lengths_decide, contents_decide, equal_lengths}
+use Rattle.der_core.proofs.TagOrders.{tagged_content, never_long, first_long, second_long, headers_decide, contents_decide, one_tag, equal_lengths}
 use Rattle.der_core.proofs.by_ord.der_cmp_by_ord.Goals as goal
 
 pub returns-in_err-len-clause-order : goal.returns-in_err-len-clause-order
@@ -8,7 +8,7 @@ returns-in_err-len-clause-order g c = λ p q.
 
 pub returns-in_err-len-clause-refused : goal.returns-in_err-len-clause-refused
 returns-in_err-len-clause-refused g c =
-    let long = first_long g.T.FixedTag.fixed_tag g.T.ShapedValue.content (g.T.ShapedValue.value_written c.args.a.now) (g.T.ShapedValue.value_written c.args.b.now) c.in_err-len.field-0.0 c.in_err-len.ensures in
+    let long = first_long g.T.FixedTag.fixed_tag g.T.FixedTag.fixed_tag g.T.ShapedValue.content (g.T.ShapedValue.value_written c.args.a.now) (g.T.ShapedValue.value_written c.args.b.now) c.in_err-len.field-0.0 c.in_err-len.ensures in
     search rules
 
 pub returns-in_err-other_len-clause-order : goal.returns-in_err-other_len-clause-order
@@ -17,14 +17,14 @@ returns-in_err-other_len-clause-order g c = λ p q.
 
 pub returns-in_err-other_len-clause-refused : goal.returns-in_err-other_len-clause-refused
 returns-in_err-other_len-clause-refused g c =
-    let long = second_long g.T.FixedTag.fixed_tag g.T.ShapedValue.content (g.T.ShapedValue.value_written c.args.a.now) (g.T.ShapedValue.value_written c.args.b.now) c.in_err-other_len.field-0.0 c.in_err-other_len.ensures in
+    let long = second_long g.T.FixedTag.fixed_tag g.T.FixedTag.fixed_tag g.T.ShapedValue.content (g.T.ShapedValue.value_written c.args.a.now) (g.T.ShapedValue.value_written c.args.b.now) c.in_err-other_len.field-0.0 c.in_err-other_len.ensures in
     search rules
 
 pub returns-then-is_ne-clause-order : goal.returns-then-is_ne-clause-order
 returns-then-is_ne-clause-order g c = λ p q.
     ap (λ o. Ok o)
-    (lengths_decide g.T.FixedTag.fixed_tag g.T.ShapedValue.content (g.T.ShapedValue.value_written c.args.a.now) (g.T.ShapedValue.value_written c.args.b.now) _ _ _ p q c.in_ok-len.ensures
-    c.in_ok-other_len.ensures c.length_cmp-lengths.ensures (sym c.is_ne.ensures ∙ c.if-is_ne.true))
+    (headers_decide g.T.FixedTag.fixed_tag g.T.FixedTag.fixed_tag g.T.ShapedValue.content (g.T.ShapedValue.value_written c.args.a.now) (g.T.ShapedValue.value_written c.args.b.now) _ _ _ p q c.in_ok-len.ensures
+    c.in_ok-other_len.ensures (one_tag _ _ _ _ c.length_cmp-lengths.ensures) (sym c.is_ne.ensures ∙ c.if-is_ne.true))
 
 pub returns-clause-order : goal.returns-clause-order
 returns-clause-order g c = λ p q.
@@ -35,7 +35,7 @@ returns-clause-order g c = λ p q.
     let same = sym c.is_ne.ensures ∙ c.if-is_ne.false in
     ap (λ o. Ok o)
     (c.value_cmp_by_ord.ensures.order (tagged_content t k v p) (tagged_content t k w q) (equal_lengths t k v w _ _ _ p q c.in_ok-len.ensures c.in_ok-other_len.ensures c.length_cmp-lengths.ensures same)
-    ∙ contents_decide t k v w _ _ _ p q c.in_ok-len.ensures c.in_ok-other_len.ensures c.length_cmp-lengths.ensures same)
+    ∙ contents_decide t t k v w _ _ _ p q c.in_ok-len.ensures c.in_ok-other_len.ensures (one_tag _ _ _ _ c.length_cmp-lengths.ensures) same)
 
 pub returns-then-is_ne-clause-answered : goal.returns-then-is_ne-clause-answered
 returns-then-is_ne-clause-answered g c = rw (c.in_ok-len.ensures, c.in_ok-other_len.ensures) (refl, refl)

@@ -1,45 +1,14 @@
-use Rattle.std.proofs.Common.{◌≡◌, Ok, Err, subst, ap, ◌∙◌}
 use Rattle.std.proofs.lemmas.Result.{err_from_is_err_and}
-use Rattle.der_core_head.specs.declared.tag.Tag.{Tag}
-use Rattle.der_core_head.specs.Octets.{◌>>=◌}
-use Rattle.der_core_head.specs.Bodies.{head_by}
-use Rattle.der_core_head.specs.Grammar.{value_at, tlv_at}
-use Rattle.der_core_head.specs.Reading.{State, Reads, read_content_at}
-use Rattle.der_core_octets.specs.Headers.Fronts.{head_of, wanted_at}
-use Rattle.der_core_octets.proofs.Nested.{broken_kept}
-use Rattle.der_core_octets.proofs.GoingOn.{reads_after, tlv_wanted}
+use Rattle.der_core_octets.specs.Headers.Fronts.{head_of}
+use Rattle.der_core_values.proofs.Headed.{head_refused, head_read}
 use Rattle.der_core_values.proofs.decode.decode_tagged.Goals as goal
 
 pub returns-in_err-header : goal.returns-in_err-header
 returns-in_err-header g c =
     let p = err_from_is_err_and c.from_residual.result c.from_residual.ensures.1 in
-    let old = g.R.Reader.state c.args.reader.now in
-    let fixed = g.T.FixedTag.fixed_tag in
-    let value = read_content_at old g.T.ShapedValue.content fixed in
-    let faulty = c.in_err-header.ensures.front in
-    let Q : Tag → Type 0 = λ t. wanted_at t (head_by old.source.encoding) old.rest ≡ Err c.in_err-header.field-0.0.kind in
-    rw (p.1, p.2) (
-      λ ready memory. tlv_wanted old.source.encoding fixed value old.rest ∙ ap (λ r. r >>= λ x. value_at value x.0.len x.1) (subst Q c.tag.ensures (faulty.0 ready)),
-      broken_kept _ _ faulty.1,
-      faulty.2,
-      ap (λ (s : State). s.failed) faulty.1,
-    )
+    rw (p.1, p.2) (head_refused g.T.ShapedValue.content _ g.T.FixedTag.fixed_tag c.tag.ensures _ g.T.ShapedValue.value_plain _ c.in_err-header.field-0.0 c.in_err-header.ensures.front)
 
 pub returns : goal.returns
 returns g c =
-    let state = g.R.Reader.state in
-    let old = state c.args.reader.now in
-    let mid = state c.read_header_of.new.self in
-    let new = state c.decode_value.new.reader in
-    let h = c.in_ok-header.header in
-    let content = g.T.ShapedValue.content in
-    let fixed = g.T.FixedTag.fixed_tag in
-    let front = c.in_ok-header.ensures.front in
-    let view = g.T.ShapedValue.value_plain in
-    let equal : h.tag ≡ fixed = c.in_ok-header.ensures.tag ∙ c.tag.ensures in
-    let P : Tag → State → Type 0 = λ t s. Reads view mid new c.decode_value.result (value_at (read_content_at s content t) h.length.value) in
-    let inner : P fixed (record old { rest = mid.rest }) = subst (P fixed) front.1 (subst (λ t. P t mid) equal c.decode_value.ensures) in
-    let value = read_content_at old content fixed in
-    let Q : Tag → Type 0 = λ t. wanted_at t (head_by old.source.encoding) old.rest ≡ Ok (head_of h, mid.rest) in
-    reads_after view old mid new c.decode_value.result (tlv_at old.source.encoding fixed value) (value_at value h.length.value)
-    front.1 front.2 front.3 (tlv_wanted old.source.encoding fixed value old.rest ∙ ap (λ r. r >>= λ x. value_at value x.0.len x.1) (subst Q c.tag.ensures front.0)) inner
+    head_read g.T.ShapedValue.content _ g.T.FixedTag.fixed_tag c.tag.ensures _ g.T.ShapedValue.value_plain (head_of c.in_ok-header.header) _ _ c.decode_value.result c.in_ok-header.ensures.front c.in_ok-header.ensures.tag
+    c.decode_value.ensures

@@ -1,0 +1,12 @@
+use Rattle.std.proofs.Common.{◌≡◌, drop}
+use Rattle.der_core_head.specs.Grammar.{plain_list}
+use Rattle.der_core_head.specs.Shapes.{IsValid}
+use Rattle.der_core.specs.Placed.{AllValid, stands_among}
+use Rattle.der_core.proofs.placing.stands_among.Given as goal
+
+abbrev pub invariant-loop-place : goal.invariant-loop-place
+invariant-loop-place g l =
+    let s = g.T.Shaped.shape in
+    let f = g.T.Shaped.written in
+    AllValid s f l.values → IsValid s (f l.item)
+    → stands_among s (f l.item) (plain_list f l.values) ≡ stands_among s (f l.item) (plain_list f (drop l.place l.values))

@@ -1,0 +1,54 @@
+-- One more member of a strict set, at its place (X.690 11.6).
+use Rattle.std.specs.Prelude.{◌≡◌, ◌⊎◌, List, [], ◌∷◌, Bool, true, false, if◌then◌else◌}
+use Rattle.std.specs.List.{AllByRecursion, list_any}
+use Rattle.std.specs.declared.cmp.Ordering.{Ordering}
+use Rattle.std.specs.declared.cmp.Ordering.TheVariants.{Less, Equal, Greater}
+use Rattle.der_core_head.specs.declared.error.Error.{Error}
+use Rattle.der_core_head.specs.declared.error.ErrorKind.TheVariants as kinds
+use Rattle.der_core_head.specs.Grammar.{plain_list}
+use Rattle.der_core_head.specs.Shapes.{Shape, Value, IsValid}
+use Rattle.der_core.specs.Orders.{encodings_cmp}
+
+-- whether an order is this one
+abbrev pub is_less : Ordering → Bool
+is_less Less = true
+is_less Equal = false
+is_less Greater = false
+
+abbrev pub is_equal : Ordering → Bool
+is_equal Less = false
+is_equal Equal = true
+is_equal Greater = false
+
+-- whether the encoding of a value is below that of another one, or the same
+abbrev pub is_below : (s : Shape) → Value s → Value s → Bool
+is_below s v w = is_less (encodings_cmp s v w)
+
+abbrev pub is_same : (s : Shape) → Value s → Value s → Bool
+is_same s v w = is_equal (encodings_cmp s v w)
+
+-- one more in a list, in front of the first before which it goes
+abbrev pub put : {P : Type 0} → (P → P → Bool) → P → List P → List P
+put goes_before x [] = x ∷ []
+put goes_before x (y ∷ left) = if goes_before x y then x ∷ y ∷ left else y ∷ put goes_before x left
+
+-- a value among others, in front of the first whose encoding is above its own (X.690 11.6)
+abbrev pub placed : (s : Shape) → Value s → List (Value s) → List (Value s)
+placed s v others = put (is_below s) v others
+
+-- whether one of the others has its encoding
+abbrev pub stands_among : (s : Shape) → Value s → List (Value s) → Bool
+stands_among s v others = list_any (λ w. is_same s v w) others
+
+-- each has an encoding
+abbrev pub AllValid : {A : Type 0} (s : Shape) → (A → Value s) → List A → Type 0
+AllValid s f xs = AllByRecursion (λ x. IsValid s (f x)) xs
+
+-- why a member isn't placed among others: its encoding stands there, or not all have an encoding,
+-- as where one has 2^32 octets or more; or want of memory
+abbrev pub IsNotPlaced : {A : Type 0} (s : Shape) → (A → Value s) → A → List A → Error → Type 0
+IsNotPlaced s f x others e =
+    (e.kind ≡ kinds.OutOfMemory)
+    ⊎ (((e.kind ≡ kinds.SetDuplicate)
+    × (AllValid s f others → IsValid s (f x) → stands_among s (f x) (plain_list f others) ≡ true))
+    ⊎ ((e.kind ≡ kinds.Overflow) × (AllValid s f others → IsValid s (f x) → ⊥)))

@@ -1,0 +1,70 @@
+//! Copies of lists, and of what may be absent, in memory of one allocator.
+
+ghost use Rattle.std.specs.Prelude.{◌≡◌, IfOk};
+ghost use Rattle.der_core_head.specs.Grammar.{plain_list, plain_option};
+
+use der_core_coding::values::Shaped;
+use std::alloc::{AllocError, Global};
+
+/// Copies of the members of a list, each made by `copy`.
+///
+/// # Errors
+/// Want of memory.
+pub fn copies_of<T: Shaped + Drop, F: Fn(&T, Global) -> Result<T, AllocError>>(
+    alloc: Global,
+    members: &[T],
+    copy: F,
+) -> Result<Vec<T>, AllocError>
+    requires called { F.IsAlwaysCallable copy }
+    requires same { (x : _) (r : _) → F.post copy x alloc r
+        → IfOk r (λ c. T.plain c ≡ T.plain x.now) }
+    ensures { IfOk result (λ v. plain_list T.plain v.items ≡ plain_list T.plain members.now) }
+{
+    let mut copies = Vec::with_capacity(alloc, members.len())?;
+    for member in members {
+        let one = copy(member, alloc)?;
+        copies.push(one)?;
+    }
+    Ok(copies)
+}
+
+/// A copy of what stands, made by `copy`, where something does.
+///
+/// # Errors
+/// Want of memory.
+pub fn copy_of_option<T: Shaped + Drop, F: Fn(&T, Global) -> Result<T, AllocError>>(
+    alloc: Global,
+    value: &Option<T>,
+    copy: F,
+) -> Result<Option<T>, AllocError>
+    requires called { F.IsAlwaysCallable copy }
+    requires same { (x : _) (r : _) → F.post copy x alloc r
+        → IfOk r (λ c. T.plain c ≡ T.plain x.now) }
+    ensures { IfOk result (λ v. plain_option T.plain v ≡ plain_option T.plain value.now) }
+{
+    match value {
+        Some(value) => Ok(Some(copy(value, alloc)?)),
+        None => Ok(None),
+    }
+}
+
+/// Copies of the members of a list, each made by `copy`, where there is a list.
+///
+/// # Errors
+/// Want of memory.
+pub fn copies_of_option<T: Shaped + Drop, F: Fn(&T, Global) -> Result<T, AllocError>>(
+    alloc: Global,
+    members: &Option<Vec<T>>,
+    copy: F,
+) -> Result<Option<Vec<T>>, AllocError>
+    requires called { F.IsAlwaysCallable copy }
+    requires same { (x : _) (r : _) → F.post copy x alloc r
+        → IfOk r (λ c. T.plain c ≡ T.plain x.now) }
+    ensures { IfOk result (λ v. plain_option (λ l. plain_list T.plain l.items) v
+        ≡ plain_option (λ l. plain_list T.plain l.items) members.now) }
+{
+    match members {
+        Some(members) => Ok(Some(copies_of(alloc, members.as_slice(), copy)?)),
+        None => Ok(None),
+    }
+}

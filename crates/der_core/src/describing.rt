@@ -1,0 +1,20 @@
+//! How a type says in which way its values are coded and compared: it names one (`Described`), and
+//! says what that way asks.
+//!
+//! - `AsRecord`, a SEQUENCE of fields: `FieldsView`, `DecodeFields` (which reads a row by
+//!   `DecodeRow`) and `Rows` (which lends rows).
+//! - `AsField<F>`, a type of one field: `Wraps<F>`.
+//! - `AsOctets`, a content whose octets a value holds: `FixedTag`, `Primitive`, `Leaf`, `Octets`.
+//! - `AsLeaf`, another content that is no list of values: `FixedTag`, `Primitive`, `Leaf`,
+//!   `EncodeLeaf`.
+//! - `AsInteger`, a whole number of at most 128 bits: `Integer`.
+//!
+//! A record is compared field after field; another type says `Ordered`, or has an order of its own.
+//! Where the way doesn't know that values are in range, the type says it (`InRangeValue`).
+
+pub use crate::order::{OrderWay, Ordered};
+pub use crate::records::{AsRecord, RowUser, Rows};
+pub use der_core_coding::values::describing::{
+    AsField, AsInteger, AsLeaf, AsOctets, Described, EncodeLeaf, Octets, Primitive, Wraps,
+};
+pub use der_core_coding::values::{DecodeRow, FieldRow, FieldsView};
