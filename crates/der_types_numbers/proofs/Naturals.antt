@@ -3,6 +3,7 @@ use Rattle.std.proofs.Common.{◌≡◌, ℕ, ◌<◌, ◌≤◌, Bool, true, fa
 use Rattle.std.specs.Prelude.{pos, nat_lt}
 use Rattle.std.specs.Int.Digits.{number_from_digits}
 use Rattle.std.proofs.lemmas.Bool.{not-true, not-false}
+use Rattle.std.proofs.lemmas.Bool.Decides.{nat_tests}
 use Rattle.const_oid.specs.Digits.{digits}
 use Rattle.der_core_head.specs.declared.error.ErrorKind.TheVariants as kinds
 use Rattle.der_core_head.specs.declared.tag.Tag.{Tag}
@@ -59,11 +60,7 @@ natural_content w h some e s = ap integer_octets (sym (integer_of-clear w some s
 
 -- no more digits than octets of the content
 pub natural_few : (w : List ℕ) → w ≡ digits 256 (number_from_digits 256 w) → length w ≤ length (integer_octets (pos (number_from_digits 256 w)))
-natural_few w e = by (is_first_bit_set w) refl
-  where
-    by : (b : Bool) → is_first_bit_set w ≡ b → length w ≤ length (integer_octets (pos (number_from_digits 256 w)))
-    by true s = omega (arith, ap length (content-set w e s))
-    by false s = omega (arith, ap length (content-clear w e s))
+natural_few w e = grind (arith, nat_tests, content-set w e, content-clear w e)
 
 pub ruleset natural_contents = (content-set, content-clear)
 

@@ -10,37 +10,28 @@ use Rattle.der_core_head.proofs.Bytes.{IsBytes, octets_are}
 use Rattle.der_types_numbers.specs.Numbers.{has_leading_zero}
 
 pub redundant_some : (w : List ℕ) → is_redundant w ≡ true → 1 < length w
-redundant_some [] e = absurd cc
-redundant_some (a ∷ []) e = absurd cc
 redundant_some (a ∷ b ∷ w) e = omega arith
+redundant_some w e = absurd cc
 
 pub integer_of-shorter : (w : List ℕ) → is_redundant w ≡ true → integer_of (drop 1 w) ≡ integer_of w
 unfolding integer_of
-integer_of-shorter [] e = absurd cc
-integer_of-shorter (a ∷ []) e = absurd cc
-integer_of-shorter (a ∷ b ∷ w) e = by (or_cases (a == 0 && nat_lt b 128) (a == 255 && not (nat_lt b 128)) e)
-  where
-    by : ((a == 0 && nat_lt b 128) ≡ true) ⊎ ((a == 255 && not (nat_lt b 128)) ≡ true) → integer_of (b ∷ w) ≡ integer_of (a ∷ b ∷ w)
-    by (inl h) =
-        let p = and_parts (a == 0) (nat_lt b 128) h in
-        let first : a ≡ 0 = eqb-true a 0 p.0 in
-        rw (first, p.1) refl
-    by (inr h) =
-        let p = and_parts (a == 255) (not (nat_lt b 128)) h in
-        let first : a ≡ 255 = eqb-true a 255 p.0 in
-        rw (first, not-true (nat_lt b 128) p.1) refl
+integer_of-shorter (a ∷ b ∷ w) e = elim (or_cases (a == 0 && nat_lt b 128) (a == 255 && not (nat_lt b 128)) e) [
+  | inl h ↦
+      let p = and_parts (a == 0) (nat_lt b 128) h in
+      rw (eqb-true a 0 p.0, p.1) refl
+  | inr h ↦
+      let p = and_parts (a == 255) (not (nat_lt b 128)) h in
+      rw (eqb-true a 255 p.0, not-true (nat_lt b 128) p.1) refl
+]
+integer_of-shorter w e = absurd cc
 
 pub zero_some : (w : List ℕ) → has_leading_zero w ≡ true → 1 < length w
-zero_some [] e = absurd cc
-zero_some (a ∷ []) e = absurd cc
 zero_some (a ∷ b ∷ w) e = omega arith
+zero_some w e = absurd cc
 
 pub number-shorter : (w : List ℕ) → has_leading_zero w ≡ true → number_from_digits 256 (drop 1 w) ≡ number_from_digits 256 w
-number-shorter [] e = absurd cc
-number-shorter (a ∷ []) e = absurd cc
-number-shorter (a ∷ b ∷ w) e =
-    let first : a ≡ 0 = eqb-true a 0 e in
-    rw first refl
+number-shorter (a ∷ b ∷ w) e = rw (eqb-true a 0 e) refl
+number-shorter w e = absurd cc
 
 pub digits-fewest : (w : List ℕ) → IsBytes w → 0 < length w → has_leading_zero w ≡ false → digits 256 (number_from_digits 256 w) ≡ w
 digits-fewest [] h some e = absurd (omega arith)

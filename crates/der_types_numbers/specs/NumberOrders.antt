@@ -1,13 +1,14 @@
 -- The orders of whole numbers: by the number of content octets and then by the octets; those that
 -- aren't negative are in the order of the numbers.
-use Rattle.std.specs.Prelude.{◌≡◌, ℕ, ℤ, pos, nat_lt, ◌+◌, ◌*◌, ◌/◌, ◌%◌, ◌<◌, ◌≤◌, zero, suc, List}
-use Rattle.std.specs.Prelude.{[], ◌∷◌, ◌++◌, length, Bool, nat_eq, true, false}
-use Rattle.std.proofs.Common.{cond, refl, sym, ap, ◌∙◌, arith, inl, inr}
+use Rattle.std.specs.Prelude.{◌≡◌, ℕ, ℤ, pos, ◌/◌, ◌%◌, ◌<◌, ◌≤◌, zero, suc, List}
+use Rattle.std.specs.Prelude.{[], ◌∷◌, ◌++◌, length, nat_eq}
+use Rattle.std.proofs.Common.{refl, sym, ap, ◌∙◌, arith, inl, inr}
 use Rattle.std.proofs.lemmas.Bool.{cases_lt}
+use Rattle.std.proofs.lemmas.Bool.Decides.{nat_tests}
 use Rattle.std.proofs.lemmas.List.{length-append}
 use Rattle.std.specs.Cmp.{IsTotalOrder, nat_cmp_total, on_total, tied_itself}
 use Rattle.std.specs.Cmp.Lexicographic.{pointwise, slice_cmp}
-use Rattle.std.specs.Int.Digits.{number_from_digits, number_from_digits_after, AllBelowBase}
+use Rattle.std.specs.Int.Digits.{number_from_digits}
 use Rattle.std.specs.Ordering.{nat_cmp, ordering_then, is_eq, eq_by_cmp}
 use Rattle.std.specs.declared.cmp.Ordering.{Ordering}
 use Rattle.const_oid.specs.Digits.{digits}
@@ -19,8 +20,8 @@ use Rattle.der_core_head.specs.Leaves.{integer}
 use Rattle.der_core_head.specs.Shapes.{leaf, contents, IsContent}
 use Rattle.der_core_head.proofs.IntegerLaws.{integer_octets-below}
 use Rattle.der_core.specs.Orders.{contents_cmp}
-use Rattle.der_core.proofs.HeadOrders.{nat_cmp-less, nat_cmp-greater, nat_cmp-same, split_cmp}
-use Rattle.der_core.proofs.OrderLaws.{then_assoc, then_equal, octets_cmp-append, splits_lengths}
+use Rattle.der_core.proofs.HeadOrders.{split_cmp, after_cmp}
+use Rattle.der_core.proofs.OrderLaws.{then_equal, octets_cmp-append, splits_lengths}
 
 -- The order of whole numbers of either sign: the number of content octets, and then the octets.
 abbrev pub integer_cmp : ℤ → ℤ → Ordering
@@ -48,31 +49,10 @@ integer_order v w p q e =
 sized_push : (a b : List ℕ) (x y : ℕ) → sized_cmp (a ++ x ∷ []) (b ++ y ∷ [])
     ≡ ordering_then (sized_cmp a b) (nat_cmp x y)
 sized_push a b x y =
-    elim (cases_lt (length a) (length b)) [
-      | inl l ↦ rw (
-        nat_cmp-less (length a) (length b) l,
-        nat_cmp-less (length (a ++ x ∷ []))
-            (length (b ++ y ∷ []))
-            (omega (arith, length-append a (x ∷ []), length-append b (y ∷ []))),
-      ) refl
-      | inr l ↦ elim (cases_lt (length b) (length a)) [
-        | inl k ↦ rw (
-          nat_cmp-greater (length a) (length b) k,
-          nat_cmp-greater (length (a ++ x ∷ []))
-              (length (b ++ y ∷ []))
-              (omega (arith, length-append a (x ∷ []), length-append b (y ∷ []))),
-        ) refl
-        | inr k ↦
-            rw (
-              nat_cmp-same (length a) (length b) (omega arith),
-              nat_cmp-same
-                  (length (a ++ x ∷ [])) (length (b ++ y ∷ []))
-                  (omega (arith, length-append a (x ∷ []), length-append b (y ∷ []))),
-            )
-            (octets_cmp-append a b (x ∷ []) (y ∷ []) (splits_lengths a b (omega arith))
-            ∙ ap (ordering_then (slice_cmp nat_cmp a b)) (then_equal (nat_cmp x y)))
-      ]
-    ]
+    let same = λ (e : length a ≡ length b).
+    octets_cmp-append a b (x ∷ []) (y ∷ []) (splits_lengths a b e)
+    ∙ ap (ordering_then (slice_cmp nat_cmp a b)) (then_equal (nat_cmp x y)) in
+    grind (arith, nat_tests, same, length-append a (x ∷ []), length-append b (y ∷ []))
 
 -- one digit is fewer than more
 one_or_more : (m n : ℕ) → m < 256 → 256 ≤ n → length (digits 256 m) < length (digits 256 n)
@@ -90,9 +70,7 @@ small_cmp : (m n : ℕ) → m < 256 → sized_cmp (digits 256 m) (digits 256 n) 
 small_cmp m n l =
     elim (cases_lt n 256) [
       | inl k ↦ rw (digits-one 256 m l, digits-one 256 n k) (then_equal (nat_cmp m n))
-      | inr k ↦ rw
-          (nat_cmp-less (length (digits 256 m)) (length (digits 256 n)) (one_or_more m n l k))
-          (sym (nat_cmp-less m n (omega arith)))
+      | inr k ↦ grind (arith, nat_tests, one_or_more m n l k)
     ]
 
 digits_within_cmp : (room m n : ℕ) → m ≤ room → sized_cmp (digits 256 m) (digits 256 n)
@@ -102,9 +80,7 @@ digits_within_cmp (suc room) m n small =
     elim (cases_lt m 256) [
       | inl l ↦ small_cmp m n l
       | inr l ↦ elim (cases_lt n 256) [
-        | inl k ↦ rw
-            (nat_cmp-greater (length (digits 256 m)) (length (digits 256 n)) (one_or_more n m k l))
-            (sym (nat_cmp-greater m n (omega arith)))
+        | inl k ↦ grind (arith, nat_tests, one_or_more n m k l)
         | inr k ↦
             rw (digits-more 256 m (omega arith) l, digits-more 256 n (omega arith) k)
             (sized_push (digits 256 (m / 256)) (digits 256 (n / 256)) (m % 256) (n % 256)
@@ -125,41 +101,12 @@ digits_ties m n = sized_cmp_ties (digits 256 m) (digits 256 n) ∙ ap is_eq (dig
 -- a zero in front doesn't count
 positive-number : (w : List ℕ) → number_from_digits 256 (positive w) ≡ number_from_digits 256 w
 positive-number [] = refl
-positive-number (d ∷ ds) = by (nat_lt d 128) refl
-  where
-    by : (b : Bool) → nat_lt d 128 ≡ b → number_from_digits 256 (cond b (d ∷ ds) (0 ∷ d ∷ ds))
-        ≡ number_from_digits 256 (d ∷ ds)
-    by true e = refl
-    by false e = refl
+positive-number (d ∷ ds) = grind (arith, nat_tests)
 
 -- the number of a content
 pub number-content : (n : ℕ) → number_from_digits 256 (integer_octets (pos n)) ≡ n
 unfolding integer_octets
 number-content n = positive-number (digits 256 n) ∙ number_from_digits-digits 256 n (omega arith)
-
--- one digit more of two numbers
-push_cmp : (m n d e : ℕ) → d < 256 → e < 256 → nat_cmp (m * 256 + d) (n * 256 + e)
-    ≡ ordering_then (nat_cmp m n) (nat_cmp d e)
-push_cmp m n d e p q =
-    let a : (m * 256 + d) / 256 ≡ m = omega arith in
-    let b : (n * 256 + e) / 256 ≡ n = omega arith in
-    let c : (m * 256 + d) % 256 ≡ d = omega arith in
-    let f : (n * 256 + e) % 256 ≡ e = omega arith in
-    sym (split_cmp 256 (m * 256 + d) (n * 256 + e) (omega arith))
-    ∙ (λ i. ordering_then (nat_cmp (a i) (b i)) (nat_cmp (c i) (f i)))
-
--- as many digits are in the order of their numbers
-after_cmp : (m n : ℕ) (ds es : List ℕ) → AllBelowBase 256 ds → AllBelowBase 256 es
-    → length ds ≡ length es
-    → ordering_then (nat_cmp m n) (slice_cmp nat_cmp ds es)
-    ≡ nat_cmp (number_from_digits_after 256 m ds) (number_from_digits_after 256 n es)
-after_cmp m n [] [] p q l = then_equal (nat_cmp m n)
-after_cmp m n [] (e ∷ es) p q l = absurd (omega arith)
-after_cmp m n (d ∷ ds) [] p q l = absurd (omega arith)
-after_cmp m n (d ∷ ds) (e ∷ es) p q l =
-    sym (then_assoc (nat_cmp m n) (nat_cmp d e) (slice_cmp nat_cmp ds es))
-    ∙ ap (λ o. ordering_then o (slice_cmp nat_cmp ds es)) (sym (push_cmp m n d e p.0 q.0))
-    ∙ after_cmp (m * 256 + d) (n * 256 + e) ds es p.1 q.1 (omega arith)
 
 -- contents of equal length are in the order of their numbers, where none is negative
 pub natural_order : (v w : ℕ) → IsContent (leaf (integer natural)) (pos v)

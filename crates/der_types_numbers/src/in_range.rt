@@ -3,20 +3,10 @@
 ghost use Rattle.std.specs.Prelude.{◌≡◌};
 
 use crate::int::Int;
-use crate::int_ref::IntRef;
-use crate::uint::Uint;
 use crate::uint_ref::UintRef;
 use der_core::InRangeValue;
 
 impl InRangeValue for Int {
-    fn value_in_range(&self) {}
-}
-
-impl<'a> InRangeValue for IntRef<'a> {
-    fn value_in_range(&self) {}
-}
-
-impl InRangeValue for Uint {
     fn value_in_range(&self) {}
 }
 

@@ -10,7 +10,6 @@ ghost use Rattle.der_core_head.specs.Integers.{every, integer_of, integer_octets
 ghost use Rattle.der_core_head.specs.declared.tag.Tag.TheVariants.{Integer};
 ghost use Rattle.der_core_head.specs.Leaves.{integer};
 ghost use Rattle.der_core_head.specs.Reading.{Gives};
-ghost use Rattle.der_core_head.specs.Shapes.{leaf};
 ghost use Rattle.der_types_numbers.specs.Ints.{integer_lent};
 ghost use Rattle.der_types_numbers.specs.NumberOrders.{integer_cmp, integer_cmp_total};
 ghost use Rattle.der_types_numbers.specs.NumberOrders.{integer_cmp_ties};
@@ -19,11 +18,8 @@ ghost use Rattle.der_types_numbers.specs.Numbers.{signed_number};
 use crate::fewest::sized_cmp;
 use crate::int_ref::{AsIntRef, IntRef};
 use crate::uint::Uint;
-use der_core::making::decode_leaf;
-use der_core::{
-    DecodeValue, EncodeValue, Error, FixedTag, Header, Leaf, Length, Reader, ShapedValue, Tag,
-    Writer,
-};
+use der_core::describing::{AsLeaf, Described, EncodeLeaf, Primitive};
+use der_core::{EncodeValue, Error, FixedTag, Leaf, Length, Tag, Writer};
 use std::alloc::{AllocError, Global};
 use std::cmp::Ordering;
 use std::hash::{Hash, Hasher};
@@ -208,38 +204,30 @@ impl FixedTag for Int {
     }
 }
 
-/// Two's complement in the fewest octets.
-impl<'a> Leaf<'a> for Int {
+impl Described for Int {
+    type By = AsLeaf;
+}
+
+impl Primitive for Int {
     ghost kind = { integer every };
 
     ghost leaf_plain = { λ x. x };
+}
 
+/// Two's complement in the fewest octets.
+impl<'a> Leaf<'a> for Int {
     fn from_content(alloc: Global, tag: Tag, octets: &'a [u8]) -> Result<Int, Error> {
         let lent = IntRef::from_content(alloc, tag, octets)?;
         Ok(Int::copy_of(alloc, &lent)?)
     }
 }
 
-impl ShapedValue for Int {
-    ghost content = { leaf (integer every) };
-
-    ghost value_plain = { λ x. x };
-
-    ghost value_written = { λ x. x };
-}
-
-impl<'a, R: Reader<'a>> DecodeValue<'a, R> for Int {
-    fn decode_value(alloc: Global, reader: &mut R, header: Header) -> Result<Int, Error> {
-        decode_leaf(alloc, reader, header)
-    }
-}
-
-impl EncodeValue for Int {
-    fn value_len(&self) -> Result<Length, Error> {
+impl EncodeLeaf for Int {
+    fn leaf_len(&self) -> Result<Length, Error> {
         self.owned_to_ref().value_len()
     }
 
-    fn encode_value<W: Writer>(&self, writer: &mut W) -> Result<(), Error> {
+    fn encode_leaf<W: Writer>(&self, writer: &mut W) -> Result<(), Error> {
         self.owned_to_ref().encode_value(writer)
     }
 }

@@ -11,18 +11,14 @@ ghost use Rattle.der_core_head.specs.declared.tag.Tag.TheVariants.{Integer as In
 ghost use Rattle.der_core_head.specs.Integers.{every, integer_of, integer_octets, is_redundant};
 ghost use Rattle.der_core_head.specs.Leaves.{integer, leaf_read};
 ghost use Rattle.der_core_head.specs.Reading.{GivesNow};
-ghost use Rattle.der_core_head.specs.Shapes.{leaf};
 ghost use Rattle.der_types_numbers.specs.NumberOrders.{integer_cmp, integer_cmp_total};
 ghost use Rattle.der_types_numbers.specs.NumberOrders.{integer_cmp_ties};
 ghost use Rattle.der_types_numbers.specs.Numbers.{signed_number};
 
 use crate::fewest::{fewest_signed, has_redundant_octet, sized_cmp};
 use crate::int::Int;
-use der_core::making::{decode_leaf, slice_len};
-use der_core::{
-    DecodeValue, EncodeValue, Error, ErrorKind, FixedTag, Header, Leaf, Length, Reader,
-    ShapedValue, Tag, Writer,
-};
+use der_core::describing::{AsOctets, Described, Octets, Ordered, Primitive};
+use der_core::{Error, ErrorKind, FixedTag, Leaf, Length, Tag};
 use std::alloc::{AllocError, Global};
 use std::cmp::Ordering;
 use std::hash::{Hash, Hasher};
@@ -220,14 +216,20 @@ impl<'a> FixedTag for IntRef<'a> {
     }
 }
 
-/// Two's complement in the fewest octets.
-impl<'a> Leaf<'a> for IntRef<'a> {
+impl<'a> Described for IntRef<'a> {
+    type By = AsOctets;
+}
+
+impl<'a> Primitive for IntRef<'a> {
     ghost use Rattle.der_types_numbers.specs.Ints.{integer_lent};
 
     ghost kind = { integer every };
 
     ghost leaf_plain = { integer_lent };
+}
 
+/// Two's complement in the fewest octets.
+impl<'a> Leaf<'a> for IntRef<'a> {
     ghost takes_memory = { false };
 
     fn from_content(_alloc: Global, tag: Tag, octets: &'a [u8]) -> Result<IntRef<'a>, Error> {
@@ -236,28 +238,11 @@ impl<'a> Leaf<'a> for IntRef<'a> {
     }
 }
 
-impl<'a> ShapedValue for IntRef<'a> {
-    ghost use Rattle.der_types_numbers.specs.Ints.{integer_lent};
-
-    ghost content = { leaf (integer every) };
-
-    ghost value_plain = { integer_lent };
-
-    ghost value_written = { integer_lent };
-}
-
-impl<'a, R: Reader<'a>> DecodeValue<'a, R> for IntRef<'a> {
-    fn decode_value(alloc: Global, reader: &mut R, header: Header) -> Result<IntRef<'a>, Error> {
-        decode_leaf(alloc, reader, header)
+impl<'a> Octets for IntRef<'a> {
+    fn content(&self) -> &[u8] {
+        self.as_bytes()
     }
 }
 
-impl<'a> EncodeValue for IntRef<'a> {
-    fn value_len(&self) -> Result<Length, Error> {
-        slice_len(self.as_bytes())
-    }
-
-    fn encode_value<W: Writer>(&self, writer: &mut W) -> Result<(), Error> {
-        writer.write(self.as_bytes())
-    }
-}
+/// Two's complement in the fewest octets (X.690 8.3), as octets: 128, `00 80`, is below 127, `7F`.
+impl<'a> Ordered for IntRef<'a> {}

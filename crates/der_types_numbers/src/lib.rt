@@ -1,7 +1,6 @@
 //! Whole numbers of any size.
 #![tactic(auto)]
 
-mod elements;
 mod fewest;
 mod in_range;
 mod int;

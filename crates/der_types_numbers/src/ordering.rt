@@ -11,14 +11,6 @@ use der_core::making::{value_cmp_behind, value_cmp_by_contents};
 use der_core::{Error, OrdIsValueOrd, ValueOrd};
 use std::cmp::Ordering;
 
-/// Two's complement in the fewest octets (X.690 8.3), as octets: 128, `00 80`, is below 127, `7F`.
-impl<'a> ValueOrd for IntRef<'a> {
-    #[tactic(auto, using(der_core::proofs::LeafOrders::leaf_contents))]
-    fn value_cmp(&self, other: &Self) -> Result<Ordering, Error> {
-        Ok(value_cmp_by_contents(self.as_bytes(), other.as_bytes()))
-    }
-}
-
 impl<'a> OrdIsValueOrd for IntRef<'a> {
     ghost use Rattle.der_types_numbers.specs.Ints.{integer_lent};
 
@@ -54,13 +46,6 @@ impl<'a> OrdIsValueOrd for UintRef<'a> {
     ghost use Rattle.der_types_numbers.specs.Ints.{natural_lent};
 
     ghost order = { λ v w. natural_order (natural_lent v) (natural_lent w) };
-}
-
-/// The digits, behind a zero where their first bit is one (X.690 8.3).
-impl ValueOrd for Uint {
-    fn value_cmp(&self, other: &Self) -> Result<Ordering, Error> {
-        self.owned_to_ref().value_cmp(&other.owned_to_ref())
-    }
 }
 
 impl OrdIsValueOrd for Uint {

@@ -13,18 +13,14 @@ ghost use Rattle.der_core_head.specs.Integers.{natural, integer_octets};
 ghost use Rattle.der_core_head.specs.declared.tag.Tag.TheVariants.{Integer};
 ghost use Rattle.der_core_head.specs.Leaves.{integer};
 ghost use Rattle.der_core_head.specs.Reading.{Gives};
-ghost use Rattle.der_core_head.specs.Shapes.{leaf};
 ghost use Rattle.der_types_numbers.specs.Ints.{natural_lent};
 ghost use Rattle.der_types_numbers.specs.NumberOrders.{digits_ties};
 ghost use Rattle.der_types_numbers.specs.Numbers.{unsigned_number};
 
 use crate::fewest::{content_of, fewest_unsigned, sized_cmp};
 use crate::uint_ref::{AsUintRef, UintRef};
-use der_core::making::{decode_leaf, slice_len};
-use der_core::{
-    DecodeValue, EncodeValue, Error, FixedTag, Header, Leaf, Length, Reader, ShapedValue, Tag,
-    Writer,
-};
+use der_core::describing::{AsOctets, Described, Octets, Ordered, Primitive};
+use der_core::{Error, FixedTag, Leaf, Length, Tag};
 use std::alloc::{AllocError, Global};
 use std::cmp::Ordering;
 use std::hash::{Hash, Hasher};
@@ -200,42 +196,31 @@ impl FixedTag for Uint {
     }
 }
 
-/// Two's complement in the fewest octets, of a number that isn't negative.
-impl<'a> Leaf<'a> for Uint {
+impl Described for Uint {
+    type By = AsOctets;
+}
+
+impl Primitive for Uint {
     ghost use Rattle.std.specs.Prelude.{pos};
 
     ghost kind = { integer natural };
 
     ghost leaf_plain = { λ n. pos n };
+}
 
+/// Two's complement in the fewest octets, of a number that isn't negative.
+impl<'a> Leaf<'a> for Uint {
     fn from_content(alloc: Global, tag: Tag, octets: &'a [u8]) -> Result<Uint, Error> {
         let lent = UintRef::from_content(alloc, tag, octets)?;
         Ok(Uint::copy_of(alloc, &lent)?)
     }
 }
 
-impl ShapedValue for Uint {
-    ghost use Rattle.std.specs.Prelude.{pos};
-
-    ghost content = { leaf (integer natural) };
-
-    ghost value_plain = { λ n. pos n };
-
-    ghost value_written = { λ n. pos n };
-}
-
-impl<'a, R: Reader<'a>> DecodeValue<'a, R> for Uint {
-    fn decode_value(alloc: Global, reader: &mut R, header: Header) -> Result<Uint, Error> {
-        decode_leaf(alloc, reader, header)
+impl Octets for Uint {
+    fn content(&self) -> &[u8] {
+        self.bytes.as_slice()
     }
 }
 
-impl EncodeValue for Uint {
-    fn value_len(&self) -> Result<Length, Error> {
-        slice_len(self.bytes.as_slice())
-    }
-
-    fn encode_value<W: Writer>(&self, writer: &mut W) -> Result<(), Error> {
-        writer.write(self.bytes.as_slice())
-    }
-}
+/// The digits, behind a zero where their first bit is one (X.690 8.3).
+impl Ordered for Uint {}

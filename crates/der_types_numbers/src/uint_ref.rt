@@ -15,7 +15,6 @@ ghost use Rattle.der_core_head.specs.declared.tag.Tag.TheVariants.{Integer as In
 ghost use Rattle.der_core_head.specs.Integers.{natural, integer_of, integer_octets};
 ghost use Rattle.der_core_head.specs.Leaves.{integer, leaf_read};
 ghost use Rattle.der_core_head.specs.Reading.{GivesNow};
-ghost use Rattle.der_core_head.specs.Shapes.{leaf};
 ghost use Rattle.der_types_numbers.specs.NumberOrders.{digits_ties};
 ghost use Rattle.der_types_numbers.specs.Numbers.{unsigned_number};
 
@@ -24,11 +23,8 @@ use crate::fewest::{
     sized_cmp,
 };
 use crate::uint::Uint;
-use der_core::making::decode_leaf;
-use der_core::{
-    DecodeValue, EncodeValue, Error, ErrorKind, FixedTag, Header, Leaf, Length, Reader,
-    ShapedValue, Tag, Writer,
-};
+use der_core::describing::{AsLeaf, Described, EncodeLeaf, Primitive};
+use der_core::{Error, ErrorKind, FixedTag, Leaf, Length, Tag, Writer};
 use std::alloc::{AllocError, Global};
 use std::cmp::Ordering;
 use std::hash::{Hash, Hasher};
@@ -231,15 +227,21 @@ impl<'a> FixedTag for UintRef<'a> {
     }
 }
 
-/// Two's complement in the fewest octets, of a number that isn't negative.
-impl<'a> Leaf<'a> for UintRef<'a> {
+impl<'a> Described for UintRef<'a> {
+    type By = AsLeaf;
+}
+
+impl<'a> Primitive for UintRef<'a> {
     ghost use Rattle.std.specs.Prelude.{pos};
     ghost use Rattle.der_types_numbers.specs.Ints.{natural_lent};
 
     ghost kind = { integer natural };
 
     ghost leaf_plain = { λ n. pos (natural_lent n) };
+}
 
+/// Two's complement in the fewest octets, of a number that isn't negative.
+impl<'a> Leaf<'a> for UintRef<'a> {
     ghost takes_memory = { false };
 
     fn from_content(_alloc: Global, tag: Tag, octets: &'a [u8]) -> Result<UintRef<'a>, Error> {
@@ -248,29 +250,12 @@ impl<'a> Leaf<'a> for UintRef<'a> {
     }
 }
 
-impl<'a> ShapedValue for UintRef<'a> {
-    ghost use Rattle.std.specs.Prelude.{pos};
-    ghost use Rattle.der_types_numbers.specs.Ints.{natural_lent};
-
-    ghost content = { leaf (integer natural) };
-
-    ghost value_plain = { λ n. pos (natural_lent n) };
-
-    ghost value_written = { λ n. pos (natural_lent n) };
-}
-
-impl<'a, R: Reader<'a>> DecodeValue<'a, R> for UintRef<'a> {
-    fn decode_value(alloc: Global, reader: &mut R, header: Header) -> Result<UintRef<'a>, Error> {
-        decode_leaf(alloc, reader, header)
-    }
-}
-
-impl<'a> EncodeValue for UintRef<'a> {
-    fn value_len(&self) -> Result<Length, Error> {
+impl<'a> EncodeLeaf for UintRef<'a> {
+    fn leaf_len(&self) -> Result<Length, Error> {
         fit(content_len(self.bytes))
     }
 
-    fn encode_value<W: Writer>(&self, writer: &mut W) -> Result<(), Error> {
+    fn encode_leaf<W: Writer>(&self, writer: &mut W) -> Result<(), Error> {
         encode_natural(writer, self.bytes)
     }
 }

@@ -8,9 +8,11 @@ use Rattle.std.specs.declared.cmp.Ordering.{Ordering}
 use Rattle.std.specs.declared.cmp.Ordering.TheVariants.{Less, Equal, Greater}
 use Rattle.std.specs.Cmp.Lexicographic.{nat_list_cmp_total}
 use Rattle.std.proofs.lemmas.Cmp.{tied_itself}
-use Rattle.std.proofs.lemmas.List.{append-nil, append_assoc, take-append-drop, drop_more, length-append, take_at, take_all, drop_at, drop-drop, length-take, length-map, get_or_default, get_or-map, get_or-set_other, length-set, take_more, map-append}
+use Rattle.std.proofs.lemmas.List.{append-nil, get_or-drop, get_or-append_right, length-drop, append_assoc, take-append-drop, drop_more, length-append, take_at, take_all, drop_at, drop-drop, length-take, length-map, get_or_default, get_or-map, get_or-set_other, take_more, map-append}
 use Rattle.std.proofs.lemmas.List.Edits.{length-insert, length-swap, Swapped, swapped_from_swap}
+use Rattle.std.proofs.Math.Seq.{take-append-add}
 use Rattle.std.proofs.lemmas.Bool.{cases_eq}
+use Rattle.std.proofs.lemmas.Bool.Decides.{nat_tests}
 use Rattle.std.proofs.lemmas.Nat.{mul-le}
 use Rattle.std.proofs.lemmas.List.Elements.{filter-append, filter_agree, All-take, All-from_recursion, recursion_from_All}
 use Rattle.std.proofs.lemmas.List.FromFn.{length-range_with_len, get_or-range_with_len, fill_by_all}
@@ -20,6 +22,7 @@ use Rattle.std.proofs.lemmas.Slice.Eq.{bytes_eq-Decides}
 use Rattle.der_core_head.specs.declared.error.Error.{Error}
 use Rattle.der_core_head.specs.declared.error.ErrorKind.TheVariants as kinds
 use Rattle.der_core_head.specs.Shapes.{Shape, Value, IsValid, octets_of}
+use Rattle.der_core_head.proofs.BoundLaws.{front_all, back_all}
 use Rattle.der_core.specs.Orders.{octets_cmp}
 use Rattle.der_types_sets.specs.Sets.{Ascends, NotAbove, AllValid, IsPlace, IsArranged, StopsBehind, StopsIn, TooLong, IsOutOfOrder}
 use Rattle.der_types_sets.specs.Rearranged.{member_at, members_at, AscendsAt, encoding_at, KeepsPlaces}
@@ -39,31 +42,17 @@ module _ {A : Type 0} (s : Shape) (f : A → Value s) where
   pub arranged-trans : (xs ys zs : List A) → IsArranged s f xs ys → IsArranged s f ys zs → IsArranged s f xs zs
   arranged-trans xs ys zs p q = record { same = IsPermutation-trans xs ys zs p.same q.same; equals = λ all b. q.equals (valid_moved xs ys p.same all) b ∙ p.equals all b }
 
-  valid_front : (xs ys : List A) → AllValid s f (xs ++ ys) → AllValid s f xs
-  valid_front [] ys all = tt
-  valid_front (x ∷ xs) ys all = (all.0, valid_front xs ys all.1)
-
-  valid_back : (xs ys : List A) → AllValid s f (xs ++ ys) → AllValid s f ys
-  valid_back [] ys all = all
-  valid_back (x ∷ xs) ys all = valid_back xs ys all.1
-
   pub arranged-before : (rest xs ys : List A) → IsArranged s f xs ys → IsArranged s f (xs ++ rest) (ys ++ rest)
   arranged-before rest xs ys p = record {
     same = IsPermutation-append_left rest xs ys p.same;
     equals = λ all b.
-        filter-append (is_of b) ys rest ∙ ap (λ (u : List A). u ++ filter (is_of b) rest) (p.equals (valid_front xs rest all) b) ∙ sym (filter-append (is_of b) xs rest);
+        filter-append (is_of b) ys rest ∙ ap (λ (u : List A). u ++ filter (is_of b) rest) (p.equals (front_all (λ x. IsValid s (f x)) xs rest all) b) ∙ sym (filter-append (is_of b) xs rest);
   }
 
   -- One more item, behind its equals
 
   differs : (b : List ℕ) (y z : A) → octets_of s (f y) ≡ b → octets_cmp (octets_of s (f y)) (octets_of s (f z)) ≡ Less → is_of b z ≡ false
-  differs b y z e less = go (is_of b z) refl
-    where
-      go : (r : Bool) → is_of b z ≡ r → r ≡ false
-      go false h = refl
-      go true h =
-          let same : octets_of s (f z) ≡ octets_of s (f y) = (bytes_eq-Decides (octets_of s (f z)) b).0 h ∙ sym e in
-          absurd (cc (sym less ∙ ap (octets_cmp (octets_of s (f y))) same, tied_itself nat_list_cmp_total (octets_of s (f y))))
+  differs b y z e less = grind (arith, nat_tests, (bytes_eq-Decides (octets_of s (f z)) b).0, tied_itself nat_list_cmp_total (octets_of s (f y)))
 
   none_equal : (b : List ℕ) (y z : A) (zs : List A) → octets_of s (f y) ≡ b → octets_cmp (octets_of s (f y)) (octets_of s (f z)) ≡ Less → AllValid s f (z ∷ zs) → Ascends s f (z ∷ zs) → filter (is_of b) (z ∷ zs) ≡ []
   none_equal b y z [] e less all asc = rw (differs b y z e less) refl
@@ -75,13 +64,9 @@ module _ {A : Type 0} (s : Shape) (f : A → Value s) where
   behind_it : (b : List ℕ) (y : A) (zs : List A) → IsValid s (f y) → AllValid s f zs → Ascends s f zs → ((z : A) → 0 < length zs → z ≡ get_or zs 0 z → octets_cmp (octets_of s (f y)) (octets_of s (f z)) ≡ Less)
       → filter (is_of b) (y ∷ zs) ≡ filter (is_of b) (zs ++ y ∷ [])
   behind_it b y [] v all asc less = refl
-  behind_it b y (z ∷ zs) v all asc less = go (is_of b y) refl
-    where
-      go : (r : Bool) → is_of b y ≡ r → filter (is_of b) (y ∷ z ∷ zs) ≡ filter (is_of b) ((z ∷ zs) ++ y ∷ [])
-      go false h = rw (filter-append (is_of b) (z ∷ zs) (y ∷ []), h) (sym (append-nil (filter (is_of b) (z ∷ zs))))
-      go true h =
-          let none = none_equal b y z zs ((bytes_eq-Decides (octets_of s (f y)) b).0 h) (less z (omega arith) refl) all asc in
-          rw (filter-append (is_of b) (z ∷ zs) (y ∷ []), h, none) refl
+  behind_it b y (z ∷ zs) v all asc less =
+      let none = λ (h : is_of b y ≡ true). none_equal b y z zs ((bytes_eq-Decides (octets_of s (f y)) b).0 h) (less z (omega arith) refl) all asc in
+      rw (filter-append (is_of b) (z ∷ zs) (y ∷ [])) (grind (arith, nat_tests, none, append-nil (filter (is_of b) (z ∷ zs))))
 
   drop_ascends : (i : ℕ) (xs : List A) → Ascends s f xs → Ascends s f (drop i xs)
   drop_ascends zero xs asc = asc
@@ -89,15 +74,8 @@ module _ {A : Type 0} (s : Shape) (f : A → Value s) where
   drop_ascends (suc i) (x ∷ []) asc = drop_ascends i [] tt
   drop_ascends (suc i) (x ∷ y ∷ xs) asc = drop_ascends i (y ∷ xs) asc.1
 
-  first_dropped : (i : ℕ) (xs : List A) (z : A) → get_or (drop i xs) 0 z ≡ get_or xs i z
-  first_dropped zero xs z = refl
-  first_dropped (suc i) [] z = refl
-  first_dropped (suc i) (x ∷ xs) z = first_dropped i xs z
-
-  some_dropped : (i : ℕ) (xs : List A) → 0 < length (drop i xs) → i < length xs
-  some_dropped zero xs h = h
-  some_dropped (suc i) [] h = absurd (omega arith)
-  some_dropped (suc i) (x ∷ xs) h = omega (arith, some_dropped i xs h)
+  first_of : (i : ℕ) (xs : List A) (z : A) → get_or (drop i xs) 0 z ≡ get_or xs i z
+  first_of i xs z = get_or-drop i xs 0 z ∙ ap (λ n. get_or xs n z) (omega arith)
 
   pub inserted : (front : List A) (i : ℕ) (y : A) → Ascends s f front → IsPlace s f front y i → IsArranged s f (front ++ y ∷ []) (insert front i y)
   inserted front i y asc p = record {
@@ -106,23 +84,20 @@ module _ {A : Type 0} (s : Shape) (f : A → Value s) where
         let a = take i front in
         let c = drop i front in
         let parts : a ++ c ≡ front = take-append-drop i front in
-        let valid = valid_front front (y ∷ []) all in
-        let last : IsValid s (f y) = (valid_back front (y ∷ []) all).0 in
-        let behind : AllValid s f c = valid_back a c (subst (AllValid s f) (sym parts) valid) in
+        let V : A → Type 0 = λ x. IsValid s (f x) in
+        let valid = front_all V front (y ∷ []) all in
+        let last : IsValid s (f y) = (back_all V front (y ∷ []) all).0 in
+        let behind : AllValid s f c = back_all V a c (subst (AllValid s f) (sym parts) valid) in
         let above : (z : A) → 0 < length c → z ≡ get_or c 0 z → octets_cmp (octets_of s (f y)) (octets_of s (f z)) ≡ Less = λ z some is.
-        p.before z (some_dropped i front some) (is ∙ first_dropped i front z) last (head_valid c z some is behind) in
+        p.before z (omega (arith, some, length-drop i front)) (is ∙ first_of i front z) last (valid_at s f c 0 z some is behind) in
         filter-append (is_of b) a (y ∷ c) ∙ ap (λ (u : List A). filter (is_of b) a ++ u) (behind_it b y c last behind (drop_ascends i front asc) above)
         ∙ sym (filter-append (is_of b) a (c ++ y ∷ [])) ∙ ap (filter (is_of b)) (sym (append_assoc a c (y ∷ [])) ∙ ap (λ (u : List A). u ++ y ∷ []) parts);
   }
-    where
-      head_valid : (c : List A) (z : A) → 0 < length c → z ≡ get_or c 0 z → AllValid s f c → IsValid s (f z)
-      head_valid [] z some is all = absurd (omega arith)
-      head_valid (w ∷ c) z some is all = let V : A → Type 0 = λ x. IsValid s (f x) in subst V (sym is) all.0
 
   -- The last of the first members moved to its place, as a loop moves it
 
   same_at : (old xs : List A) (end : ℕ) (y : A) → drop end xs ≡ drop end old → y ≡ get_or xs end y → y ≡ get_or old end y
-  same_at old xs end y behind here = here ∙ sym (first_dropped end xs y) ∙ ap (λ (u : List A). get_or u 0 y) behind ∙ first_dropped end old y
+  same_at old xs end y behind here = here ∙ sym (first_of end xs y) ∙ ap (λ (u : List A). get_or u 0 y) behind ∙ first_of end old y
 
   pub arranged_more : (old xs : List A) (end place : ℕ) (y : A) → IsPermutation old xs → end < length xs → y ≡ get_or xs end y → drop end xs ≡ drop end old → Ascends s f (take end xs) → IsPlace s f (take end xs) y place
       → IsArranged s f (take end old) (take end xs) → IsArranged s f (take (end + 1) old) (take (end + 1) (insert (take end xs) place y ++ drop (end + 1) xs))
@@ -170,22 +145,10 @@ module _ {A : Type 0} (s : Shape) (f : A → Value s) where
 
   -- Items that came behind members
 
-  pub first_kept : (old items : List A) → Ascends s f old → Ascends s f (take (length old) (old ++ items))
-  first_kept old items asc = subst (Ascends s f) (sym (take_at old items (length old) refl)) asc
-
   gained_front : (old items : List A) (count : ℕ) → length old ≤ count → take count (old ++ items) ≡ old ++ take (count - length old) items
-  gained_front [] items count le = ap (λ (n : ℕ). take n items) (omega arith)
-  gained_front (x ∷ old) items zero le = absurd (omega arith)
-  gained_front (x ∷ old) items (suc count) le =
-      let more : count - length old ≡ suc count - suc (length old) = omega arith in
-      ap (λ (u : List A). x ∷ u) (gained_front old items count (omega arith)) ∙ ap (λ (n : ℕ). x ∷ (old ++ take n items)) more
-
-  gained_at : (old items : List A) (count : ℕ) (d : A) → length old ≤ count → get_or (old ++ items) count d ≡ get_or items (count - length old) d
-  gained_at [] items count d le = ap (λ (n : ℕ). get_or items n d) (omega arith)
-  gained_at (x ∷ old) items zero d le = absurd (omega arith)
-  gained_at (x ∷ old) items (suc count) d le =
-      let more : count - length old ≡ suc count - suc (length old) = omega arith in
-      gained_at old items count d (omega arith) ∙ ap (λ (n : ℕ). get_or items n d) more
+  gained_front old items count le =
+      let sum : count ≡ length old + (count - length old) = omega arith in
+      ap (λ (n : ℕ). take n (old ++ items)) sum ∙ take-append-add old items (count - length old)
 
   pub stops_in : (old items new : List A) (e : Error) → (count : ℕ) × StopsBehind s f (length old) (old ++ items) new count e → StopsIn s f old items new e
   stops_in old [] new e h = absurd (omega (arith, h.1.least, h.1.within, length-append old []))
@@ -201,7 +164,7 @@ module _ {A : Type 0} (s : Shape) (f : A → Value s) where
         back = drop (k + 1) items;
         are = sym (take-append-drop k items) ∙ ap (λ (u : List A). take k items ++ u) (drop_more items k y within);
         gains = let P : List A → Type 0 = λ u. IsArranged s f u new in subst P (gained_front old items count h.1.least) h.1.arranged;
-        why = inr (h.1.why x (get_or_default items k y x within ∙ sym (gained_at old items count x h.1.least)));
+        why = inr (h.1.why x (get_or_default items k y x within ∙ sym (get_or-append_right old items (length old) count x refl h.1.least)));
       }
 
   -- for want of memory the first one is refused
@@ -225,11 +188,7 @@ module _ {A : Type 0} (s : Shape) (f : A → Value s) where
 
 kept_map : {P X : Type 0} (g : P → X) (test : X → Bool) (ps : List P) → filter test (map g ps) ≡ map g (filter (λ p. test (g p)) ps)
 kept_map g test [] = refl
-kept_map {P} {X} g test (p ∷ ps) = go (test (g p)) (kept_map g test ps)
-  where
-    go : (r : Bool) → filter test (map g ps) ≡ map g (filter (λ p. test (g p)) ps) → cond r (g p ∷ filter test (map g ps)) (filter test (map g ps)) ≡ map g (cond r (p ∷ filter (λ p. test (g p)) ps) (filter (λ p. test (g p)) ps))
-    go true e = ap (λ (u : List X). g p ∷ u) e
-    go false e = e
+kept_map g test (p ∷ ps) = grind (arith, nat_tests, kept_map g test ps)
 
 -- one that passes, or none does
 found : (test : ℕ → Bool) (ps : List ℕ) → ((p : ℕ) × (test p ≡ true)) ⊎ (filter test ps ≡ [])
@@ -241,9 +200,7 @@ found test (p ∷ ps) = go (found test ps) (test p) refl
     go rest false h = elim rest [ inl q ↦ inl q | inr none ↦ inr (rw h none) ]
 
 tie_is : (r t : Ordering) → t ≡ ordering_reverse r → is_eq r ≡ (not (is_lt t) && not (is_lt r))
-tie_is Less t e = rw e refl
-tie_is Equal t e = rw e refl
-tie_is Greater t e = rw e refl
+tie_is r t e = grind (arith, nat_tests)
 
 -- a place whose encoding is b ties with the places whose encoding is b
 tied_places : (enc : ℕ → List ℕ) (b : List ℕ) (p : ℕ) → bytes_eq (enc p) b ≡ true → (q : ℕ) → bytes_eq (enc q) b ≡ ties (λ p q. is_lt (octets_cmp (enc p) (enc q))) p q
@@ -360,9 +317,6 @@ module _ {A : Type 0} (xs : List A) (places : List ℕ) (count : ℕ) (apart : L
   pub untaken_more : (after : List (Option A)) → after ≡ set apart (get_or places count 0) None → Untaken xs places count apart → Untaken xs places (count + 1) after
   untaken_more after is left q d lt other =
       ap (λ (u : List (Option A)). get_or u q None) is ∙ get_or-set_other apart (get_or places count 0) q None None (λ e. other count (omega arith) (sym e)) ∙ left q d lt (λ j before. other j (omega arith))
-
-  pub still_long : (after : List (Option A)) (n : ℕ) → after ≡ set apart (get_or places count 0) None → length apart ≡ n → length after ≡ n
-  still_long after n is long = ap (λ (u : List (Option A)). length u) is ∙ length-set apart (get_or places count 0) None ∙ long
 
   pub taken_more : (taken : List A) (d x : A) → count < length places → x ≡ get_or xs (get_or places count 0) d → taken ≡ members_at xs d (take count places) → taken ++ x ∷ [] ≡ members_at xs d (take (count + 1) places)
   taken_more taken d x lt here so_far =

@@ -1,102 +1,84 @@
--- Members in order, read one after the other, and those that ascend.
-use Rattle.std.proofs.Common.{◌≡◌, ℕ, zero, suc, ◌-◌, ◌+◌, ◌<◌, ◌≤◌, List, [], ◌∷◌, ◌++◌, length, Result, Ok, Err, refl, sym, ap, subst, ◌∙◌, arith, true, Option, Some, None}
-use Rattle.std.specs.Prelude.{◌≢◌, flat_map}
-use Rattle.std.specs.List.{AllByRecursion}
+-- Members in order, read one after the other: those that ascend, and those that rise.
+use Rattle.std.proofs.Common.{◌≡◌, ℕ, zero, suc, ◌+◌, ◌<◌, ◌≤◌, List, [], ◌∷◌, ◌++◌, length, take, Ok, refl, sym, ap, subst, ◌∙◌, arith, true, Option, Some, None}
+use Rattle.std.specs.Prelude.{◌≢◌}
+use Rattle.std.proofs.lemmas.List.{length-append}
 use Rattle.der_core_head.specs.Limits.{levels_max}
-use Rattle.der_core_head.specs.declared.error.ErrorKind.{ErrorKind}
+use Rattle.der_core_head.specs.declared.encoding_rules.EncodingRules.{EncodingRules}
 use Rattle.der_core_head.specs.declared.error.ErrorKind.TheVariants as kinds
+use Rattle.der_core_head.specs.declared.tag.Tag.{Tag}
 use Rattle.der_core_head.specs.Octets.{Readings, ◌>>=◌}
 use Rattle.der_core_head.specs.Heads.{Fits}
-use Rattle.der_core_head.specs.Shapes.{Step, not_below, ascending, Shape, Value, IsValid, octets_of, body_octets, IsBody}
+use Rattle.der_core_head.specs.Shapes.{Step, above, not_below, nested, ascending, rising, Shape, Value, octets_of, body_octets, IsBody, AllRising}
 use Rattle.der_core_head.specs.Spelling.{is_apart, is_element, are_enough}
-use Rattle.der_core_head.specs.Grammar.{read, read_body, read_in_order, follows_last}
+use Rattle.der_core_head.specs.Grammar.{value_at, read, read_many, read_body, read_content_by, read_in_order, follows_last, plain_list}
+use Rattle.der_core_head.specs.Reading.{State, IsDer, IsRest, read_at}
 use Rattle.der_core_head.proofs.Results.{fine, ok_is, bind_ok}
-use Rattle.der_core_head.proofs.Bytes.{IsBytes, bytes_rest}
-use Rattle.der_core_head.proofs.Fits.{fits_rest}
-use Rattle.der_core_head.proofs.Sound.{sound, OrderedFrom, order_on, from_none}
+use Rattle.der_core_head.proofs.Bytes.{IsBytes}
+use Rattle.der_core_head.proofs.Sound.{OrderedFrom, order_on, from_none}
 use Rattle.der_core_head.proofs.Complete.{complete_body}
 use Rattle.der_core_head.proofs.MoreLevels.{more_body}
 use Rattle.der_core_values.specs.Both.{both_true}
-use Rattle.der_core_values.proofs.Lists.{next_in_order}
-use Rattle.der_types_sets.specs.Ascending.{JoinsAscending, counted, first_of, values_at}
+use Rattle.der_core_values.proofs.InTurn.{InTurn, all_in_turn, none_in_turn, on_in_turn, done_in_turn}
+use Rattle.der_types_sets.specs.Sets.{Ascends}
+use Rattle.der_types_sets.specs.Ascending.{JoinsAscending, IsCount, first_of, values_at}
+use Rattle.der_types_sets.proofs.FewSteps.{length_plain_list}
+use Rattle.der_types_sets.proofs.LooseSteps.{inner, joins}
 
 -- As a loop reads them
 
-one_more : {P : Type 0} (i : ℕ) (x : P) (r : Result (List P × List ℕ) ErrorKind) → counted i (r >>= λ y. Ok (x ∷ y.0, y.1)) ≡ counted (i + 1) r
-one_more i x (Ok y) = ap (λ n. Ok n) (omega arith)
-one_more i x (Err e) = refl
+-- so many values were read since a start, the last of these octets
+pub record Counted (s : Shape) (start : State) (last : Option (List ℕ)) (now : State) (count : ℕ) : Type 0 where
+  pub values : List (Value s)
+  pub long : length values ≡ count
+  pub turn : InTurn not_below s (λ v. v) start last now values count
 
-pub counted_on : {P : Type 0} (how : Step) (o : P → List ℕ) (F : Readings P) (last : Option (List ℕ)) (n i : ℕ) (w after : List ℕ) (x : P) (total : Result ℕ ErrorKind)
-    → i < n → w ≢ [] → F w ≡ Ok (x, after) → follows_last how last (o x) ≡ Ok tt → counted i (read_in_order how o F last (n - i) w) ≡ total
-    → counted (i + 1) (read_in_order how o F (Some (o x)) (n - (i + 1)) after) ≡ total
-counted_on how o F last n i w after x total lt some e ok so_far =
-    let all : read_in_order how o F last (n - i) w ≡ (read_in_order how o F (Some (o x)) (n - (i + 1)) after >>= λ y. Ok (x ∷ y.0, y.1)) = next_in_order how o F last n i w lt some ∙ rw (e, ok) refl in
-    sym (ap (counted i) all ∙ one_more i x (read_in_order how o F (Some (o x)) (n - (i + 1)) after)) ∙ so_far
+pub counted_none : (s : Shape) (start now : State) → now ≡ start → Counted s start None now 0
+counted_none s start now is = subst (λ (r : State). Counted s start None r 0) (sym is) (record { values = []; long = refl; turn = none_in_turn not_below s (λ v. v) start })
 
-pub counted_stops : {P : Type 0} (how : Step) (o : P → List ℕ) (F : Readings P) (last : Option (List ℕ)) (n i : ℕ) (w : List ℕ) (k : ErrorKind) (total : Result ℕ ErrorKind)
-    → i < n → w ≢ [] → F w ≡ Err k → counted i (read_in_order how o F last (n - i) w) ≡ total → total ≡ Err k
-counted_stops how o F last n i w k total lt some e so_far =
-    let all : read_in_order how o F last (n - i) w ≡ Err k = next_in_order how o F last n i w lt some ∙ rw e refl in
-    sym so_far ∙ ap (counted i) all
+pub counted_on : {s : Shape} {start now after : State} {last : Option (List ℕ)} {b : List ℕ} {i : ℕ} {x : Value s} → IsDer start → Counted s start last now i → i < length start.rest → now.rest ≢ []
+    → read_at now s now.rest ≡ Ok (x, after.rest) → after ≡ record now { rest = after.rest } → IsRest after.rest now.rest → (IsDer now → b ≡ octets_of s x) → follows_last not_below last b ≡ Ok tt → Counted s start (Some b) after (i + 1)
+counted_on {x = x} der h lt some e frame passed octets ok = record {
+  values = h.values ++ x ∷ [];
+  long = omega (arith, h.long, length-append h.values (x ∷ []));
+  turn = on_in_turn h.turn der lt some e frame passed octets ok;
+}
 
-pub counted_refuses : {P : Type 0} (how : Step) (o : P → List ℕ) (F : Readings P) (last : Option (List ℕ)) (n i : ℕ) (w after : List ℕ) (x : P) (k : ErrorKind) (total : Result ℕ ErrorKind)
-    → i < n → w ≢ [] → F w ≡ Ok (x, after) → follows_last how last (o x) ≡ Err k → counted i (read_in_order how o F last (n - i) w) ≡ total → total ≡ Err k
-counted_refuses how o F last n i w after x k total lt some e bad so_far =
-    let all : read_in_order how o F last (n - i) w ≡ Err k = next_in_order how o F last n i w lt some ∙ rw (e, bad) refl in
-    sym so_far ∙ ap (counted i) all
-
-pub counted_done : {P : Type 0} (how : Step) (o : P → List ℕ) (F : Readings P) (last : Option (List ℕ)) (n i : ℕ) (w : List ℕ) (total : Result ℕ ErrorKind)
-    → w ≡ [] → counted i (read_in_order how o F last n w) ≡ total → total ≡ Ok i
-unfolding read_in_order
-counted_done how o F last n i [] total e so_far = sym so_far ∙ ap (λ n. Ok n) (omega arith)
-counted_done how o F last n i (b ∷ w) total e so_far = absurd cc
-
-pub counted_over : {P : Type 0} (how : Step) (o : P → List ℕ) (F : Readings P) (last : Option (List ℕ)) (n i : ℕ) (w : List ℕ) (total : Result ℕ ErrorKind)
-    → n ≤ i → w ≢ [] → counted i (read_in_order how o F last (n - i) w) ≡ total → total ≡ Err kinds.TrailingData
-unfolding read_in_order
-counted_over how o F last n i [] total le some so_far = absurd (some refl)
-counted_over how o F last n i (b ∷ w) total le some so_far = let k : n - i ≡ 0 = omega arith in sym so_far ∙ (rw k refl)
+pub counted_done : {s : Shape} {start now : State} {last : Option (List ℕ)} {i n : ℕ} → IsDer start → Counted s start last now i → now.rest ≡ [] → i ≡ n → IsCount (all_in_turn not_below s start) n
+counted_done der h none is =
+    let values = plain_list (λ v. v) h.values in
+    (values, done_in_turn h.turn der none ∙ ap (λ (r : List ℕ). Ok (values, r)) none, length_plain_list (λ v. v) h.values ∙ h.long ∙ is)
 
 -- What was read
 
--- what was read by a loop with so much left
-record Members (s : Shape) (last : Option (List ℕ)) (w : List ℕ) (v : List (Value s)) (r : List ℕ) : Type 0 where
-  pub valid : AllByRecursion (IsValid s) v
-  pub ascend : OrderedFrom not_below (octets_of s) last v
-  pub octets : w ≡ flat_map (octets_of s) v
-  pub again : values_at (read s levels_max) (length v) w ≡ v
-  pub rest : r ≡ []
+-- in order, the same again one by one, and as members in any order
+record Ordered {P : Type 0} (how : Step) (o : P → List ℕ) (F : Readings P) (last : Option (List ℕ)) (n : ℕ) (w : List ℕ) (v : List P) (r : List ℕ) : Type 0 where
+  pub ordered : OrderedFrom how o last v
+  pub again : values_at F (length v) w ≡ v
+  pub all : read_many kinds.TrailingData F n w ≡ Ok (v, r)
 
-none_read : (s : Shape) (last : Option (List ℕ)) (v : List (Value s)) (r : List ℕ) → fine {A = List (Value s) × List ℕ} ([], []) ≡ fine (v, r) → Members s last [] v r
-none_read s last v r e =
-    let same = ok_is {A = List (Value s) × List ℕ} ([], []) (v, r) e in
-    subst (λ (q : List (Value s) × List ℕ). Members s last [] q.0 q.1) {x = ([], [])} same (record { valid = tt; ascend = tt; octets = refl; again = refl; rest = refl })
+none_ordered : {P : Type 0} (how : Step) (o : P → List ℕ) (F : Readings P) (last : Option (List ℕ)) (n : ℕ) (v : List P) (r : List ℕ) → fine {A = List P × List ℕ} ([], []) ≡ fine (v, r) → Ordered how o F last n [] v r
+unfolding read_many
+none_ordered {P} how o F last n v r e =
+    subst (λ (q : List P × List ℕ). Ordered how o F last n [] q.0 q.1) {x = ([], [])} (ok_is {A = List P × List ℕ} ([], []) (v, r) e) (record { ordered = tt; again = refl; all = refl })
 
-members_read : (s : Shape) (last : Option (List ℕ)) (n : ℕ) (w : List ℕ) (v : List (Value s)) (r : List ℕ) → is_apart s ≡ true → IsBytes w → Fits w
-    → read_in_order not_below (octets_of s) (read s levels_max) last n w ≡ Ok (v, r) → Members s last w v r
-unfolding read_in_order
-members_read s last zero [] v r apart bytes fits e = none_read s last v r e
-members_read s last zero (b ∷ w) v r apart bytes fits e = absurd cc
-members_read s last (suc n) [] v r apart bytes fits e = none_read s last v r e
-members_read s last (suc n) (b ∷ w) v r apart bytes fits e =
-    let o = octets_of s in
-    let F = read s levels_max in
-    let x = bind_ok (F (b ∷ w)) (λ x. follows_last not_below last (o x.0) >>= λ _. read_in_order not_below o F (Some (o x.0)) n x.1 >>= λ y. Ok (x.0 ∷ y.0, y.1)) (v, r) e in
-    let g = bind_ok (follows_last not_below last (o x.0.0)) (λ _. read_in_order not_below o F (Some (o x.0.0)) n x.0.1 >>= λ y. Ok (x.0.0 ∷ y.0, y.1)) (v, r) x.2 in
-    let y = bind_ok (read_in_order not_below o F (Some (o x.0.0)) n x.0.1) (λ y. Ok (x.0.0 ∷ y.0, y.1)) (v, r) g.2 in
-    let u = sound s 64 (b ∷ w) x.0.0 x.0.1 apart bytes fits x.1 in
-    let m = members_read s (Some (o x.0.0)) n x.0.1 y.0.0 y.0.1 apart (bytes_rest (o x.0.0) x.0.1 (b ∷ w) u.1 bytes) (fits_rest (o x.0.0) x.0.1 (b ∷ w) u.1 fits) y.1 in
-    let same = ok_is (x.0.0 ∷ y.0.0, y.0.1) (v, r) y.2 in
-    subst (λ (q : List (Value s) × List ℕ). Members s last (b ∷ w) q.0 q.1) {x = (x.0.0 ∷ y.0.0, y.0.1)} same
+ordered_read : {P : Type 0} (how : Step) (o : P → List ℕ) (F : Readings P) (last : Option (List ℕ)) (n : ℕ) (w : List ℕ) (v : List P) (r : List ℕ) → read_in_order how o F last n w ≡ Ok (v, r) → Ordered how o F last n w v r
+unfolding read_in_order read_many
+ordered_read how o F last zero [] v r e = none_ordered how o F last zero v r e
+ordered_read how o F last zero (b ∷ w) v r e = absurd cc
+ordered_read how o F last (suc n) [] v r e = none_ordered how o F last (suc n) v r e
+ordered_read {P} how o F last (suc n) (b ∷ w) v r e =
+    let x = bind_ok (F (b ∷ w)) (λ x. follows_last how last (o x.0) >>= λ _. read_in_order how o F (Some (o x.0)) n x.1 >>= λ y. Ok (x.0 ∷ y.0, y.1)) (v, r) e in
+    let g = bind_ok (follows_last how last (o x.0.0)) (λ _. read_in_order how o F (Some (o x.0.0)) n x.0.1 >>= λ y. Ok (x.0.0 ∷ y.0, y.1)) (v, r) x.2 in
+    let y = bind_ok (read_in_order how o F (Some (o x.0.0)) n x.0.1) (λ y. Ok (x.0.0 ∷ y.0, y.1)) (v, r) g.2 in
+    let m = ordered_read how o F (Some (o x.0.0)) n x.0.1 y.0.0 y.0.1 y.1 in
+    subst (λ (q : List P × List ℕ). Ordered how o F last (suc n) (b ∷ w) q.0 q.1) {x = (x.0.0 ∷ y.0.0, y.0.1)} (ok_is (x.0.0 ∷ y.0.0, y.0.1) (v, r) y.2)
     (record {
-      valid = (u.0, m.valid);
-      ascend = order_on not_below o last x.0.0 y.0.0 g.1 m.ascend;
-      octets = u.1 ∙ ap (λ (t : List ℕ). o x.0.0 ++ t) m.octets;
-      again = ap (λ t. first_of t (values_at F (length y.0.0))) x.1 ∙ ap (λ (t : List (Value s)). x.0.0 ∷ t) m.again;
-      rest = m.rest;
+      ordered = order_on how o last x.0.0 y.0.0 g.1 m.ordered;
+      again = ap (λ t. first_of t (values_at F (length y.0.0))) x.1 ∙ ap (λ (t : List P). x.0.0 ∷ t) m.again;
+      all = ap (λ q. q >>= λ x. read_many kinds.TrailingData F n x.1 >>= λ y. Ok (x.0 ∷ y.0, y.1)) x.1 ∙ ap (λ q. q >>= λ y. Ok (x.0.0 ∷ y.0, y.1)) m.all;
     })
 
--- What is spelled so is read
+-- Members that ascend
 
 -- a content whose members ascend is read, whole
 pub content_ascends : (s : Shape) (room : ℕ) (v : List (Value s)) (w : List ℕ) → is_element s ≡ true → is_apart s ≡ true → are_enough s room ≡ true → JoinsAscending s v w → read_body (ascending s) room w ≡ Ok (v, [])
@@ -104,33 +86,40 @@ unfolding body_octets IsBody
 content_ascends s room v w element apart enough h =
     ap (read_body (ascending s) room) h.octets_are ∙ complete_body (ascending s) room v (both_true element apart) enough (h.valid, h.ascend)
 
--- What was counted
-
 pub record Counts (s : Shape) (room : ℕ) (w : List ℕ) (n : ℕ) : Type 0 where
   pub many : length (values_at (read s levels_max) n w) ≡ n
+  pub some : 0 < n → 0 < length w
   pub spelled : JoinsAscending s (values_at (read s levels_max) n w) w
   pub all : read_body (ascending s) room w ≡ Ok (values_at (read s levels_max) n w, [])
 
-counts : (s : Shape) (room : ℕ) (w : List ℕ) (n : ℕ) (x : List (Value s) × List ℕ) → is_apart s ≡ true → room ≤ 64 → IsBytes w → Fits w → read_body (ascending s) room w ≡ Ok x → 0 + length x.0 ≡ n → Counts s room w n
-counts s room w n x apart most bytes fits e is =
-    let m = members_read s None (length w) w x.0 x.1 apart bytes fits (more_body (ascending s) room 64 most w x e) in
-    let len : length x.0 ≡ n = omega arith in
-    let same : x.0 ≡ values_at (read s levels_max) n w = sym m.again ∙ ap (λ k. values_at (read s levels_max) k w) len in
+some_counted : (s : Shape) (room n : ℕ) (w : List ℕ) → IsCount (read_body (ascending s) room w) n → 0 < n → 0 < length w
+unfolding read_in_order
+some_counted s room n [] h some =
+    let none = ok_is {A = List (Value s) × List ℕ} ([], []) (h.0, []) h.1 in
+    absurd (omega (arith, h.2, ap (λ (q : List (Value s) × List ℕ). length q.0) none))
+some_counted s room n (b ∷ w) h some = omega arith
+
+pub counts : (s : Shape) (room : ℕ) (w : List ℕ) (n : ℕ) → is_apart s ≡ true → room ≤ 64 → IsBytes w → Fits w → IsCount (read_body (ascending s) room w) n → Counts s room w n
+counts s room w n apart most bytes fits h =
+    let F = read s levels_max in
+    let m = ordered_read not_below (octets_of s) F None (length w) w h.0 [] (more_body (ascending s) room 64 most w (h.0, []) h.1) in
+    let j = joins kinds.TrailingData s levels_max (length w) w h.0 apart bytes fits m.all in
+    let same : h.0 ≡ values_at F n w = sym m.again ∙ ap (λ k. values_at F k w) h.2 in
     record {
-      many = ap (λ (t : List (Value s)). length t) (sym same) ∙ len;
-      spelled = subst (λ (t : List (Value s)). JoinsAscending s t w) same (record { valid = m.valid; octets_are = m.octets; ascend = from_none not_below (octets_of s) x.0 m.ascend });
-      all = e ∙ ap (λ (r : List ℕ). Ok (x.0, r)) m.rest ∙ ap (λ (t : List (Value s)). Ok (t, [])) same;
+      many = ap (λ (t : List (Value s)). length t) (sym same) ∙ h.2;
+      some = some_counted s room n w h;
+      spelled = subst (λ (t : List (Value s)). JoinsAscending s t w) same (record { valid = j.valid; octets_are = j.octets_are; ascend = from_none not_below (octets_of s) h.0 m.ordered });
+      all = h.1 ∙ ap (λ (t : List (Value s)). Ok (t, [])) same;
     }
 
-pub content_counts : (s : Shape) (room : ℕ) (w : List ℕ) (n : ℕ) → is_apart s ≡ true → room ≤ 64 → IsBytes w → Fits w → counted 0 (read_body (ascending s) room w) ≡ Ok n → Counts s room w n
-content_counts s room w n apart most bytes fits e =
-    let x = bind_ok (read_body (ascending s) room w) (λ x. Ok (0 + length x.0)) n e in
-    counts s room w n x.0 apart most bytes fits x.1 (ok_is (0 + length x.0.0) n x.2)
+-- Members that rise
 
--- a fault of what was counted is one of what was read
-pub uncounted : {P : Type 0} (r : Result (List P × List ℕ) ErrorKind) (k : ErrorKind) → counted 0 r ≡ Err k → r ≡ Err k
-uncounted (Ok x) k e = absurd cc
-uncounted (Err d) k e = cc e
+pub rising-ascends : {A : Type 0} (s : Shape) (f : A → Value s) (xs : List A) → AllRising (octets_of s) (plain_list f xs) → Ascends s f xs
+rising-ascends s f [] h = tt
+rising-ascends s f (x ∷ []) h = tt
+rising-ascends s f (x ∷ y ∷ xs) h = ((λ v w greater. absurd (cc (h.0, greater))), rising-ascends s f (y ∷ xs) h.1)
 
-pub content_uncounted : (s : Shape) (room : ℕ) (w : List ℕ) (k : ErrorKind) → counted 0 (read_body (ascending s) room w) ≡ Err k → read_body (ascending s) room w ≡ Err k
-content_uncounted s room w k e = uncounted (read_body (ascending s) room w) k e
+pub content_rises : (rules : EncodingRules) (s : Shape) (t : Tag) (room n : ℕ) (w : List ℕ) (v : List (Value s)) (r : List ℕ) → value_at (read_content_by rules (nested (rising s)) t room) n w ≡ Ok (v, r) → AllRising (octets_of s) v
+content_rises rules s t room n w v r e =
+    let i = inner rules (rising s) t room n w v r e in
+    from_none above (octets_of s) v (ordered_read above (octets_of s) (read s i.0) None (length (take n w)) (take n w) v [] i.1).ordered

@@ -26,29 +26,19 @@ module _ {U T A : Type 0} (s : Shape) (f : A → Value s) (becomes : U → T →
   front_of e h = begins steps it t h.front h.refused h.back (subst (λ (u : List A). Yields steps it u t) h.are gave)
 
   -- items that were gathered, of which one was refused then
-  pub stops_at : (e : Error) → StopsIn s f now came new e → StopsAt s f becomes steps items old new e
-  stops_at e k =
+  pub stopped : (e : Error) → StopsIn s f now came new e → ExtendsWithItems becomes steps (Gains s f) items old new (Err e) × StopsAt s f becomes steps items old new e
+  stopped e k =
       let h = moved (λ a b. StopsIn s f a b new e) k in
       let w = front_of e h in
-      (it, h.front, h.refused, w.rest, took, w.gave, h.gains, h.why)
-
-  pub ran_to : (e : Error) → StopsIn s f now came new e → ExtendsWithItems becomes steps (Gains s f) items old new (Err e)
-  ran_to e k =
-      let h = moved (λ a b. StopsIn s f a b new e) k in
-      let w = front_of e h in
-      (it, h.front, took, h.gains, (w.gave.0, w.gave.1))
+      ((it, h.front, took, h.gains, (w.gave.0, w.gave.1)), (it, h.front, h.refused, w.rest, took, w.gave, h.gains, h.why))
 
   -- all went in, and the next one was refused for want of memory
-  pub stops_next : (e : Error) (x : A) (rest : T) → steps t (Some x) rest → Gains s f now came new → e.kind ≡ kinds.OutOfMemory → StopsAt s f becomes steps items old new e
-  stops_next e x rest next gains none = (it, xs, x, rest, took, (t, gave, next), moved (λ a b. Gains s f a b new) gains, inl none)
+  pub stopped_next : (e : Error) (x : A) (rest : T) → steps t (Some x) rest → Gains s f now came new → e.kind ≡ kinds.OutOfMemory
+      → ExtendsWithItems becomes steps (Gains s f) items old new (Err e) × StopsAt s f becomes steps items old new e
+  stopped_next e x rest next k none = let gains = moved (λ a b. Gains s f a b new) k in ((it, xs, took, gains, (t, gave)), (it, xs, x, rest, took, (t, gave, next), gains, inl none))
 
-  pub ran_on : (e : Error) → Gains s f now came new → ExtendsWithItems becomes steps (Gains s f) items old new (Err e)
-  ran_on e gains = (it, xs, took, moved (λ a b. Gains s f a b new) gains, (t, gave))
-
-  pub ran_all : (r : Result (Unit {0}) Error) (rest : T) → steps t None rest → OnOk r (Gains s f now came new) → IfErr r (StopsIn s f now came new) → ExtendsWithItems becomes steps (Gains s f) items old new r
-  ran_all (Ok _) rest done gains stops = (it, xs, took, moved (λ a b. Gains s f a b new) gains, (rest, (t, gave, done)))
-  ran_all (Err e) rest done gains stops = ran_to e stops
-
-  pub refused_all : (r : Result (Unit {0}) Error) → IfErr r (StopsIn s f now came new) → IfErr r (StopsAt s f becomes steps items old new)
-  refused_all (Ok _) stops = tt
-  refused_all (Err e) stops = stops_at e stops
+  -- no more came
+  pub ended : (r : Result (Unit {0}) Error) (rest : T) → steps t None rest → OnOk r (Gains s f now came new) → IfErr r (StopsIn s f now came new)
+      → ExtendsWithItems becomes steps (Gains s f) items old new r × IfErr r (StopsAt s f becomes steps items old new)
+  ended (Ok _) rest done gains stops = ((it, xs, took, moved (λ a b. Gains s f a b new) gains, (rest, (t, gave, done))), tt)
+  ended (Err e) rest done gains stops = stopped e stops

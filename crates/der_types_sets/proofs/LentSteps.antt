@@ -1,6 +1,6 @@
 -- Contents whose members ascend, as a reader and an iterator go over them.
 use Rattle.std.proofs.Common.{◌≡◌, ℕ, zero, suc, ◌-◌, ◌<◌, ◌≤◌, true, List, [], ◌∷◌, ◌++◌, length, drop, Result, Ok, Err, refl, sym, ap, subst, ◌∙◌, arith}
-use Rattle.std.specs.Prelude.{◌≢◌, slice_get, Some, None, ◌+◌}
+use Rattle.std.specs.Prelude.{◌≢◌, slice_get, Some, None}
 use Rattle.std.proofs.lemmas.Option.{slice_get_past}
 use Rattle.std.proofs.lemmas.Bool.{le-ltb}
 use Rattle.std.proofs.lemmas.List.{length-drop, nil_from_length}
@@ -57,19 +57,6 @@ pub front_lent : {A : Type 0} (s : Shape) (f : A → Value s) (values : List A) 
 front_lent s f values n w v r none all = rw (nil_from_length values none) all
 
 -- A member at an index
-
-pub record IsNext {A : Type 0} (xs : List A) (i : ℕ) (x : A) (rest : List A) : Type 0 where
-  pub here : slice_get xs i ≡ Some x
-  pub behind : rest ≡ drop (i + 1) xs
-
-pub next_at : {A : Type 0} (xs : List A) (i : ℕ) (x : A) (rest : List A) → drop i xs ≡ x ∷ rest → IsNext xs i x rest
-next_at [] zero x rest e = absurd cc
-next_at [] (suc i) x rest e = absurd cc
-next_at (y ∷ ys) zero x rest e = record { here = cc e; behind = cc e }
-next_at (y ∷ ys) (suc i) x rest e =
-    let h = next_at ys i x rest e in
-    let n : suc (i + 1) ≡ suc i + 1 = omega arith in
-    record { here = h.here; behind = h.behind ∙ ap (λ m. drop m (y ∷ ys)) n }
 
 pub none_at : {A : Type 0} (xs : List A) (i n : ℕ) → drop i xs ≡ [] → i ≤ n → slice_get xs n ≡ None
 none_at xs i n e le = slice_get_past xs n (omega (arith, ap (λ (u : List _). length u) e, length-drop i xs))

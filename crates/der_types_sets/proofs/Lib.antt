@@ -4,12 +4,10 @@ pub mod LentSteps
 pub mod LooseSteps
 pub mod FewSteps
 pub mod Arrangements
-pub mod PutSteps
 pub mod LentWrites
 pub mod LentOwned
 pub mod WriteFaults
 pub mod LentOrders
 pub mod LentRanges
-pub mod ViewSteps
 pub mod ItemSteps
 pub mod Arranged

@@ -1,7 +1,7 @@
 -- Members in ascending order, one more at a time.
-use Rattle.std.proofs.Common.{◌≡◌, ℕ, zero, suc, ◌+◌, ◌-◌, ◌<◌, ◌≤◌, List, [], ◌∷◌, ◌++◌, length, get_or, take, drop, ltb, refl, ap, sym, subst, ◌∙◌, arith, Result, Ok, true, Option, Some, None}
+use Rattle.std.proofs.Common.{◌≡◌, ℕ, zero, suc, ◌+◌, ◌-◌, ◌<◌, ◌≤◌, List, [], ◌∷◌, ◌++◌, length, get_or, take, drop, refl, ap, sym, subst, ◌∙◌, arith, Result, Ok}
 use Rattle.std.specs.Prelude.{◌≢◌}
-use Rattle.std.specs.List.{AllByRecursion, AllZip, insert}
+use Rattle.std.specs.List.{AllZip, insert}
 use Rattle.std.specs.Ordering.{ordering_reverse}
 use Rattle.std.specs.declared.cmp.Ordering.{Ordering}
 use Rattle.std.specs.declared.cmp.Ordering.TheVariants.{Greater}
@@ -11,21 +11,8 @@ use Rattle.std.proofs.lemmas.List.{get_or_default, get_or-take, take_more, take-
 use Rattle.std.proofs.lemmas.List.Edits.{length-insert}
 use Rattle.std.proofs.lemmas.List.Elements.{All-take, All-from_recursion, recursion_from_All}
 use Rattle.std.proofs.lemmas.List.Sorted.{All-permutation, IsPermutation-trans, IsPermutation-to_front, IsPermutation-insert, IsPermutation-append_left}
-use Rattle.der_core_head.specs.declared.encoding_rules.EncodingRules.{EncodingRules}
-use Rattle.der_core_head.specs.declared.encoding_rules.EncodingRules.TheVariants as encodings
 use Rattle.der_core_head.specs.declared.error.Error.{Error}
-use Rattle.der_core_head.specs.declared.error.ErrorKind.{ErrorKind}
-use Rattle.der_core_head.specs.declared.error.ErrorKind.TheVariants as kinds
-use Rattle.der_core_head.specs.declared.tag.Tag.{Tag}
-use Rattle.der_core_head.specs.Octets.{Readings, ◌>>=◌}
-use Rattle.der_core_head.specs.Heads.{Fits}
-use Rattle.der_core_head.specs.Shapes.{above, Shape, Body, nested, many, few, rising, Value, BodyValue, IsValid, octets_of, AllRising}
-use Rattle.der_core_head.specs.Spelling.{is_apart}
-use Rattle.der_core_head.specs.Grammar.{whole, value_at, read, read_content, read_content_by, read_body_by, read_many, read_in_order, follows_last, plain_list}
-use Rattle.der_core_head.proofs.Results.{ok_is, bind_ok, unless_ok, whole_ok}
-use Rattle.der_core_head.proofs.Bytes.{IsBytes, bytes_take, bytes_rest}
-use Rattle.der_core_head.proofs.Fits.{fits_front, fits_rest}
-use Rattle.der_core_head.proofs.Sound.{sound, OrderedFrom, order_on, from_none}
+use Rattle.der_core_head.specs.Shapes.{Shape, Value, IsValid, octets_of}
 use Rattle.der_core.specs.Orders.{octets_cmp, encodings_cmp}
 use Rattle.der_types_sets.specs.Sets.{NotAbove, IsBelow, Ascends, AllValid, Behind, Before, IsPlace, TooLong, IsBelowLast}
 
@@ -35,12 +22,11 @@ below_not_above s f x y below v w greater = absurd (cc (below v w, greater))
 pub ascends-insert : {A : Type 0} (s : Shape) (f : A → Value s) (xs : List A) (i : ℕ) (x : A) → Ascends s f xs → i ≤ length xs → Behind s f xs x i → Before s f xs x i → Ascends s f (insert xs i x)
 ascends-insert s f [] zero x asc le p q = tt
 ascends-insert s f (y ∷ ys) zero x asc le p q = (below_not_above s f x y (q y (omega arith) refl), asc)
-ascends-insert s f [] (suc i) x asc le p q = absurd (omega arith)
 ascends-insert s f (y ∷ []) (suc zero) x asc le p q = (p y 0 refl refl, tt)
-ascends-insert s f (y ∷ []) (suc (suc i)) x asc le p q = absurd (omega arith)
 ascends-insert s f (y ∷ z ∷ zs) (suc zero) x asc le p q = (p y 0 refl refl, (below_not_above s f x z (q z (omega arith) refl), asc.1))
 ascends-insert s f (y ∷ z ∷ zs) (suc (suc i)) x asc le p q =
     (asc.0, ascends-insert s f (z ∷ zs) (suc i) x asc.1 (omega arith) (λ w k e h. p w (suc k) (ap suc e) h) (λ w lt h. q w (omega arith) h))
+ascends-insert s f xs i x asc le p q = absurd (omega arith)
 
 pub placed : {A : Type 0} (s : Shape) (f : A → Value s) (xs : List A) (i : ℕ) (x : A) → Ascends s f xs → IsPlace s f xs x i → Ascends s f (insert xs i x)
 placed s f xs i x asc p = ascends-insert s f xs i x asc p.within p.behind p.before
@@ -131,100 +117,20 @@ ascends-last {A} s f xs x asc p =
     let same : insert xs (length xs) x ≡ xs ++ x ∷ [] = ap (λ (u : List A). u ++ x ∷ drop (length xs) xs) (take_all (length xs) xs (omega arith)) ∙ ap (λ (u : List A). xs ++ x ∷ u) (drop_all (length xs) xs (omega arith)) in
     subst (Ascends s f) same (placed s f xs (length xs) x asc p)
 
--- What was read
+-- As a set takes an item
 
-many_valid : (k : ErrorKind) (s : Shape) (room n : ℕ) (w : List ℕ) (v : List (Value s)) (r : List ℕ) → is_apart s ≡ true → IsBytes w → Fits w → read_many k (read s room) n w ≡ Ok (v, r) → AllByRecursion (IsValid s) v
-unfolding read_many
-many_valid k s room zero [] v r apart bytes fits e = let same = ok_is ([], []) (v, r) e in subst (λ (q : List (Value s) × List ℕ). AllByRecursion (IsValid s) q.0) same tt
-many_valid k s room zero (b ∷ w) v r apart bytes fits e = absurd cc
-many_valid k s room (suc n) [] v r apart bytes fits e = let same = ok_is ([], []) (v, r) e in subst (λ (q : List (Value s) × List ℕ). AllByRecursion (IsValid s) q.0) same tt
-many_valid k s room (suc n) (b ∷ w) v r apart bytes fits e =
-    let x = bind_ok (read s room (b ∷ w)) (λ x. read_many k (read s room) n x.1 >>= λ y. Ok (x.0 ∷ y.0, y.1)) (v, r) e in
-    let y = bind_ok (read_many k (read s room) n x.0.1) (λ y. Ok (x.0.0 ∷ y.0, y.1)) (v, r) x.2 in
-    let u = sound s room (b ∷ w) x.0.0 x.0.1 apart bytes fits x.1 in
-    let m = many_valid k s room n x.0.1 y.0.0 y.0.1 apart (bytes_rest (octets_of s x.0.0) x.0.1 (b ∷ w) u.1 bytes) (fits_rest (octets_of s x.0.0) x.0.1 (b ∷ w) u.1 fits) y.1 in
-    let same = ok_is (x.0.0 ∷ y.0.0, y.0.1) (v, r) y.2 in
-    subst (λ (q : List (Value s) × List ℕ). AllByRecursion (IsValid s) q.0) {x = (x.0.0 ∷ y.0.0, y.0.1)} same (u.0, m)
+pub put_ascends : {A : Type 0} (s : Shape) (f : A → Value s) (xs ys : List A) (i : ℕ) (x : A) → IsPlace s f xs x i → Ascends s f xs → ys ≡ insert xs i x → Ascends s f ys
+put_ascends s f xs ys i x p asc is = subst (Ascends s f) (sym is) (placed s f xs i x asc p)
 
-valid_plain : {A : Type 0} (s : Shape) (f : A → Value s) (xs : List A) → AllByRecursion (IsValid s) (plain_list f xs) → AllValid s f xs
-valid_plain s f [] h = tt
-valid_plain s f (x ∷ xs) h = (h.0, valid_plain s f xs h.1)
+pub put_same : {A : Type 0} (xs ys : List A) (i : ℕ) (x : A) → ys ≡ insert xs i x → IsPermutation (x ∷ xs) ys
+put_same xs ys i x is = subst (IsPermutation (x ∷ xs)) (sym is) (IsPermutation-insert xs i x)
 
-rising_from : {P : Type 0} (o : P → List ℕ) (F : Readings P) (last : Option (List ℕ)) (n : ℕ) (w : List ℕ) (v : List P) (r : List ℕ) → read_in_order above o F last n w ≡ Ok (v, r) → OrderedFrom above o last v
-unfolding read_in_order
-rising_from {P} o F last zero [] v r e = let same = ok_is ([], []) (v, r) e in subst (λ (q : List P × List ℕ). OrderedFrom above o last q.0) same tt
-rising_from o F last zero (b ∷ w) v r e = absurd cc
-rising_from {P} o F last (suc n) [] v r e = let same = ok_is ([], []) (v, r) e in subst (λ (q : List P × List ℕ). OrderedFrom above o last q.0) same tt
-rising_from {P} o F last (suc n) (b ∷ w) v r e =
-    let x = bind_ok (F (b ∷ w)) (λ x. follows_last above last (o x.0) >>= λ _. read_in_order above o F (Some (o x.0)) n x.1 >>= λ y. Ok (x.0 ∷ y.0, y.1)) (v, r) e in
-    let j = bind_ok (follows_last above last (o x.0.0)) (λ _. read_in_order above o F (Some (o x.0.0)) n x.0.1 >>= λ y. Ok (x.0.0 ∷ y.0, y.1)) (v, r) x.2 in
-    let y = bind_ok (read_in_order above o F (Some (o x.0.0)) n x.0.1) (λ y. Ok (x.0.0 ∷ y.0, y.1)) (v, r) j.2 in
-    let same = ok_is (x.0.0 ∷ y.0.0, y.0.1) (v, r) y.2 in
-    subst (λ (q : List P × List ℕ). OrderedFrom above o last q.0) {x = (x.0.0 ∷ y.0.0, y.0.1)} same
-    (order_on above o last x.0.0 y.0.0 j.1 (rising_from o F (Some (o x.0.0)) n x.0.1 y.0.0 y.0.1 y.1))
-
-rising_read : {P : Type 0} (o : P → List ℕ) (F : Readings P) (n : ℕ) (w : List ℕ) (v : List P) (r : List ℕ) → read_in_order above o F None n w ≡ Ok (v, r) → AllRising o v
-rising_read o F n w v r e = from_none above o v (rising_from o F None n w v r e)
-
-pub rising-ascends : {A : Type 0} (s : Shape) (f : A → Value s) (xs : List A) → AllRising (octets_of s) (plain_list f xs) → Ascends s f xs
-rising-ascends s f [] h = tt
-rising-ascends s f (x ∷ []) h = tt
-rising-ascends s f (x ∷ y ∷ xs) h = ((λ v w greater. absurd (cc (h.0, greater))), rising-ascends s f (y ∷ xs) h.1)
-
--- What was read as a content
-
-inner : (rules : EncodingRules) (b : Body) (t : Tag) (room : ℕ) (u : List ℕ) (x : BodyValue b × List ℕ) → read_content_by rules (nested b) t room u ≡ Ok x → (m : ℕ) × (read_body_by rules b m u ≡ Ok x)
-inner rules b t zero u x e = absurd cc
-inner rules b t (suc m) u x e =
-    let q = bind_ok (read_body_by rules b m u) whole x e in
-    (m, q.1 ∙ ap (λ (p : BodyValue b × List ℕ). Ok p) (whole_ok q.0 x q.2).0)
-
-within : (rules : EncodingRules) (b : Body) (t : Tag) (room n : ℕ) (w : List ℕ) (v : BodyValue b) (r : List ℕ) → value_at (read_content_by rules (nested b) t room) n w ≡ Ok (v, r) → (m : ℕ) × (z : List ℕ) × (read_body_by rules b m (take n w) ≡ Ok (v, z))
-unfolding value_at
-within rules b t room n w v r e =
-    let F = read_content_by rules (nested b) t room in
-    let h = unless_ok (ltb (length w) n) kinds.Incomplete (F (take n w) >>= whole >>= λ x. Ok (x.0, drop n w)) (v, r) e in
-    let y = bind_ok (F (take n w) >>= whole) (λ x. Ok (x.0, drop n w)) (v, r) h.1 in
-    let x = bind_ok (F (take n w)) whole y.0 y.1 in
-    let i = inner rules b t room (take n w) x.0 x.1 in
-    let same : x.0.0 ≡ v = ap (λ (q : BodyValue b × List ℕ). q.0) (whole_ok x.0 y.0 x.2).0 ∙ ap (λ (q : BodyValue b × List ℕ). q.0) (ok_is (y.0.0, drop n w) (v, r) y.2) in
-    (i.0, x.0.1, i.1 ∙ ap (λ (q : BodyValue b). Ok (q, x.0.1)) same)
-
-pub content_valid : {A : Type 0} (s : Shape) (f : A → Value s) (t : Tag) (room n : ℕ) (w : List ℕ) (xs : List A) (r : List ℕ) → is_apart s ≡ true → IsBytes w → Fits w
-    → value_at (read_content (nested (many s)) t room) n w ≡ Ok (plain_list f xs, r) → AllValid s f xs
-content_valid s f t room n w xs r apart bytes fits e =
-    let i = within encodings.Der (many s) t room n w (plain_list f xs) r e in
-    let u = take n w in
-    valid_plain s f xs (many_valid kinds.TrailingData s i.0 (length u) u (plain_list f xs) i.1 apart (bytes_take n w bytes) (fits_front u (drop n w) w (sym (take-append-drop n w)) fits) i.2)
-
-pub few_valid : {A : Type 0} (k : ℕ) (s : Shape) (f : A → Value s) (t : Tag) (room n : ℕ) (w : List ℕ) (xs : List A) (r : List ℕ) → is_apart s ≡ true → IsBytes w → Fits w
-    → value_at (read_content (nested (few k s)) t room) n w ≡ Ok (plain_list f xs, r) → AllValid s f xs
-few_valid k s f t room n w xs r apart bytes fits e =
-    let i = within encodings.Der (few k s) t room n w (plain_list f xs) r e in
-    let u = take n w in
-    valid_plain s f xs (many_valid kinds.Overlength s i.0 k u (plain_list f xs) i.1 apart (bytes_take n w bytes) (fits_front u (drop n w) w (sym (take-append-drop n w)) fits) i.2)
-
-pub content_rises : (rules : EncodingRules) (s : Shape) (t : Tag) (room n : ℕ) (w : List ℕ) (v : List (Value s)) (r : List ℕ) → value_at (read_content_by rules (nested (rising s)) t room) n w ≡ Ok (v, r) → AllRising (octets_of s) v
-content_rises rules s t room n w v r e =
-    let i = within rules (rising s) t room n w v r e in
-    let u = take n w in
-    rising_read (octets_of s) (read s i.0) (length u) u v i.1 i.2
+pub last_ascends : {A : Type 0} (s : Shape) (f : A → Value s) (xs ys : List A) (x : A) → IsPlace s f xs x (length xs) → Ascends s f xs → ys ≡ xs ++ x ∷ [] → Ascends s f ys
+last_ascends s f xs ys x p asc is = subst (Ascends s f) (sym is) (ascends-last s f xs x asc p)
 
 -- Copies
 
 pub same_copies : {A : Type 0} (C : A → A → Type 0) (xs ys : List A) → AllZip C xs ys → ((x y : A) → C x y → y ≡ x) → ys ≡ xs
 same_copies C [] [] h same = refl
-same_copies C [] (y ∷ ys) h same = absurd h
-same_copies C (x ∷ xs) [] h same = absurd h
 same_copies {A} C (x ∷ xs) (y ∷ ys) h same = cc (same x y h.0, same_copies C xs ys h.1 same)
-
--- Rules
-
--- what holds by either rules
-pub by_either : {A : Type 0} (rules : EncodingRules) → (rules ≡ encodings.Der → A) → (rules ≡ encodings.Ber → A) → A
-by_either encodings.Der der ber = der refl
-by_either encodings.Ber der ber = ber refl
-
--- a content is read by DER where DER rules
-pub as_der : (rules : EncodingRules) (b : Body) (t : Tag) (room n : ℕ) (w : List ℕ) → rules ≡ encodings.Der → value_at (read_content (nested b) t room) n w ≡ value_at (read_content_by rules (nested b) t room) n w
-as_der rules b t room n w der = ap (λ r. value_at (read_content_by r (nested b) t room) n w) (sym der)
+same_copies C xs ys h same = absurd h

@@ -1,5 +1,5 @@
 -- Into memory a value is written, or its encoding passes what a length can count, or a strict set in it doesn't rise.
-use Rattle.std.proofs.Common.{◌≡◌, ℕ, Bool, true, false, List, [], ◌∷◌, ◌++◌, length, Some, None, Result, Ok, Err, refl, ap, subst, Option, ◌⊎◌, inl, inr}
+use Rattle.std.proofs.Common.{◌≡◌, ℕ, Bool, true, false, List, [], ◌∷◌, ◌++◌, length, Some, None, Result, Ok, Err, refl, subst, Option, ◌⊎◌, inl, inr}
 use Rattle.std.specs.Str.{bytes_eq}
 use Rattle.std.specs.Ordering.{nat_cmp}
 use Rattle.std.specs.declared.cmp.Ordering.{Ordering}
@@ -11,77 +11,55 @@ use Rattle.der_core_head.specs.declared.tag.Tag.{Tag}
 use Rattle.der_core_head.specs.Octets.{◌>>=◌}
 use Rattle.der_core_head.specs.Grammar.{ordered, follows_last}
 use Rattle.der_core_head.specs.Tags.{tag_octets}
-use Rattle.der_core_head.specs.Heads.{head_octets, length_octets}
+use Rattle.der_core_head.specs.Heads.{length_octets}
 use Rattle.der_core_head.specs.Leaves.{leaf_contents}
 use Rattle.der_core_head.specs.Shapes.{Step, above, not_below, Shape, Content, Body, tagged, any, either, optional, defaulted, nothing, leaf, nested, done, field, only, many, exactly, few, in_order, Value, ContentValue, BodyValue, octets_of}
-use Rattle.der_core_head.specs.Writing.{Out, put, put_head, head_len, sum_len, fit_len, tlv_len, both_len, many_len, default_len, size, size_content, size_body, write_tlv, write_many, all_follow, default_write, write, write_content, write_body}
-use Rattle.der_core_head.proofs.Written.{out, put_is}
+use Rattle.der_core_head.specs.Writing.{Out, put, put_head, head_len, sum_len, fit_len, tlv_len, both_len, many_len, default_len, size, size_content, size_body, write_tlv, write_many, all_follow, write_in_order, default_write, write, write_content, write_body}
+use Rattle.der_core_head.proofs.Results.{bind_ok}
+use Rattle.der_core_head.proofs.Written.{out, put_is, unsized}
 use Rattle.der_types_sets.specs.Lent.{IsMisplaced}
-use Rattle.der_core.proofs.Sizes.{OnlyOverflows, sum_only, size_only, content_only, tlv_over, first_over, second_over, over_or}
+use Rattle.der_core.proofs.Sizes.{size_only}
 
--- written, or out of order, or too long
-abbrev pub IsOver : Result Out ErrorKind → Result ℕ ErrorKind → Type 0
-IsOver (Ok x) n = (w : List ℕ) × (x ≡ out w)
-IsOver (Err k) n = IsMisplaced k ⊎ ((k ≡ kinds.Overflow) × (n ≡ Err kinds.Overflow))
+-- what was written into memory, or that something is out of order
+abbrev IsPlaced : Result Out ErrorKind → Type 0
+IsPlaced (Ok x) = (w : List ℕ) × (x ≡ out w)
+IsPlaced (Err k) = IsMisplaced k
 
-never_over : (r : Result Out ErrorKind) (n : ℕ) (m : Result ℕ ErrorKind) → IsOver r (Ok n) → IsOver r m
-never_over (Ok x) n m h = h
-never_over (Err k) n m (inl d) = inl d
-never_over (Err k) n m (inr h) = absurd (cc h.1)
+-- no other fault, where the length can be counted
+abbrev Places : Result ℕ ErrorKind → (Out → Result Out ErrorKind) → Type 0
+Places r f = (n : ℕ) → r ≡ Ok n → (w : List ℕ) → IsPlaced (f (out w))
 
-is_over : (k : ErrorKind) (n : Result ℕ ErrorKind) → k ≡ kinds.Overflow → IsOver (Err k) n → n ≡ Err kinds.Overflow
-is_over k n e (inl (inl d)) = absurd (cc (e, d))
-is_over k n e (inl (inr d)) = absurd (cc (e, d))
-is_over k n e (inr p) = p.1
+none_placed : (r : Result ℕ ErrorKind) → Places r (λ o. Ok o)
+none_placed r n e w = (w, refl)
 
-head_is_over : (t : Tag) (n : ℕ) (f : Out → Result Out ErrorKind) (w : List ℕ) (r : Result ℕ ErrorKind) → OnlyOverflows r → ((x : List ℕ) → IsOver (f (out x)) (Ok n))
-    → IsOver ((r >>= λ _. put (tag_octets t) (out w) >>= put (length_octets n)) >>= f) r
-head_is_over t n f w (Ok m) long writes =
-    let x = (w ++ tag_octets t) ++ length_octets n in
-    rw (put_is (tag_octets t) w, put_is (length_octets n) (w ++ tag_octets t)) (never_over (f (out x)) n (Ok m) (writes x))
-head_is_over t n f w (Err k) long writes = inr (long k refl, ap (λ e. Err e) (long k refl))
+put_placed : (b : List ℕ) (r : Result ℕ ErrorKind) → Places r (put b)
+put_placed b r n e w = rw (put_is b w) (w ++ b, refl)
 
-tlv_is_over : (t : Tag) (n : Result ℕ ErrorKind) (f : Out → Result Out ErrorKind) (w : List ℕ) → OnlyOverflows n → ((x : List ℕ) → IsOver (f (out x)) n) → IsOver (write_tlv t n f (out w)) (tlv_len t n)
+then_placed : (r : Result Out ErrorKind) (f : Out → Result Out ErrorKind) → IsPlaced r → ((w : List ℕ) → IsPlaced (f (out w))) → IsPlaced (r >>= f)
+then_placed (Ok x) f h rest = rw h.1 (rest h.0)
+then_placed (Err k) f h rest = h
+
+tlv_placed : (t : Tag) (r : Result ℕ ErrorKind) (f : Out → Result Out ErrorKind) → Places r f → Places (tlv_len t r) (write_tlv t r f)
 unfolding write_tlv tlv_len head_len put_head
-tlv_is_over t (Ok n) f w long writes = head_is_over t n f w (sum_len (length (head_octets t n)) n) (sum_only (length (head_octets t n)) n) writes
-tlv_is_over t (Err k) f w long writes = inr (long k refl, tlv_over t (Err k) (ap (λ e. Err e) (long k refl)))
+tlv_placed t (Ok m) f inner n e w = rw (e, put_is (tag_octets t) w, put_is (length_octets m) (w ++ tag_octets t)) (inner m refl ((w ++ tag_octets t) ++ length_octets m))
+tlv_placed t (Err k) f inner n e w = absurd cc
 
-each_over : {P : Type 0} (g : P → Result ℕ ErrorKind) (x : P) (xs : List P) (n : ℕ) (r : Result Out ErrorKind) → OnlyOverflows (g x) → ((m : ℕ) → IsOver r (many_len g xs m)) → IsOver r (many_len g (x ∷ xs) n)
-each_over g x xs n (Ok y) long h = h n
-each_over g x xs n (Err k) long h = go (h n)
-  where
-    go : IsOver (Err k) (many_len g xs n) → IsOver (Err k) (many_len g (x ∷ xs) n)
-    go (inl d) = inl d
-    go (inr p) = inr (p.0, over_or (g x) (λ m. sum_len n m >>= many_len g xs) long (λ m. over_or (sum_len n m) (many_len g xs) (sum_only n m) (λ j. is_over k (many_len g xs j) p.0 (h j))))
+both_placed : (r q : Result ℕ ErrorKind) (f g : Out → Result Out ErrorKind) → Places r f → Places q g → Places (both_len r q) (λ o. f o >>= g)
+unfolding both_len
+both_placed (Ok m) (Ok k) f g first second n e w = then_placed (f (out w)) g (first m refl w) (second k refl)
+both_placed r q f g first second n e w = absurd cc
 
-then_over : {P : Type 0} (f : P → Out → Result Out ErrorKind) (g : P → Result ℕ ErrorKind) (x : P) (xs : List P) (n : ℕ) (r : Result Out ErrorKind) → OnlyOverflows (g x) → IsOver r (g x)
-    → ((w : List ℕ) (m : ℕ) → IsOver (write_many f xs (out w)) (many_len g xs m)) → IsOver (r >>= write_many f xs) (many_len g (x ∷ xs) n)
-then_over f g x xs n (Ok y) long h rest = rw h.1 (each_over g x xs n (write_many f xs (out h.0)) long (rest h.0))
-then_over f g x xs n (Err k) long (inl d) rest = inl d
-then_over f g x xs n (Err k) long (inr h) rest = inr (h.0, rw h.1 refl)
-
-many_is_over : {P : Type 0} (f : P → Out → Result Out ErrorKind) (g : P → Result ℕ ErrorKind) → ((x : P) (w : List ℕ) → IsOver (f x (out w)) (g x)) → ((x : P) → OnlyOverflows (g x))
-    → (xs : List P) (w : List ℕ) (n : ℕ) → IsOver (write_many f xs (out w)) (many_len g xs n)
-many_is_over f g each long [] w n = (w, refl)
-many_is_over f g each long (x ∷ xs) w n = then_over f g x xs n (f x (out w)) (long x) (each x w) (λ u m. many_is_over f g each long xs u m)
-
-both_over : (r : Result Out ErrorKind) (m n : Result ℕ ErrorKind) (f : Out → Result Out ErrorKind) → OnlyOverflows m → IsOver r m → ((w : List ℕ) → IsOver (f (out w)) n) → IsOver (r >>= f) (both_len m n)
-both_over (Ok x) m n f long h rest = rw h.1 (go (f (out h.0)) (rest h.0))
-  where
-    go : (q : Result Out ErrorKind) → IsOver q n → IsOver q (both_len m n)
-    go (Ok y) k = k
-    go (Err e) (inl d) = inl d
-    go (Err e) (inr k) = inr (k.0, second_over m n long k.1)
-both_over (Err k) m n f long (inl d) rest = inl d
-both_over (Err k) m n f long (inr h) rest = inr (h.0, first_over m n h.1)
+many_placed : {P : Type 0} (f : P → Out → Result Out ErrorKind) (g : P → Result ℕ ErrorKind) → ((x : P) → Places (g x) (f x)) → (xs : List P) (i : ℕ) → Places (many_len g xs i) (write_many f xs)
+many_placed f g each [] i n e w = (w, refl)
+many_placed f g each (x ∷ xs) i n e w =
+    let p = bind_ok (g x) (λ m. sum_len i m >>= many_len g xs) n e in
+    let q = bind_ok (sum_len i p.0) (many_len g xs) n p.2 in
+    then_placed (f x (out w)) (write_many f xs) (each x p.0 p.1 w) (many_placed f g each xs q.0 n q.2)
 
 ordered_only : (how : Step) (c : Ordering) (k : ErrorKind) → ordered how c ≡ Err k → IsMisplaced k
-ordered_only above Less k e = absurd cc
 ordered_only above Equal k e = inr cc
-ordered_only above Greater k e = inl cc
-ordered_only not_below Less k e = absurd cc
-ordered_only not_below Equal k e = absurd cc
-ordered_only not_below Greater k e = inl cc
+ordered_only how Greater k e = inl cc
+ordered_only how c k e = absurd cc
 
 last_only : (how : Step) (last : Option (List ℕ)) (b : List ℕ) (k : ErrorKind) → follows_last how last b ≡ Err k → IsMisplaced k
 last_only how None b k e = absurd cc
@@ -95,44 +73,49 @@ follow_only : {P : Type 0} (how : Step) (w : P → List ℕ) (last : Option (Lis
 follow_only how w last [] k e = absurd cc
 follow_only how w last (x ∷ xs) k e = step_only (follows_last how last (w x)) (all_follow how w (Some (w x)) xs) k (last_only how last (w x) k) (follow_only how w (Some (w x)) xs k) e
 
-order_over : (r : Result Out ErrorKind) (q : Result (Unit {0}) ErrorKind) (n : Result ℕ ErrorKind) → ((k : ErrorKind) → q ≡ Err k → IsMisplaced k) → IsOver r n → IsOver (r >>= λ z. q >>= λ _. Ok z) n
-order_over (Ok y) (Ok u) n placed h = h
-order_over (Ok y) (Err k) n placed h = inl (placed k refl)
-order_over (Err k) q n placed h = h
+in_order_placed : {P : Type 0} (how : Step) (f : P → Out → Result Out ErrorKind) (o : P → List ℕ) (xs : List P) (r : Result ℕ ErrorKind) → Places r (write_many f xs) → Places r (write_in_order how f o xs)
+in_order_placed how f o xs r all n e w = then_placed (write_many f xs (out w)) (λ z. all_follow how o None xs >>= λ _. Ok z) (all n e w) (λ y. go y (all_follow how o None xs) (follow_only how o None xs))
+  where
+    go : (y : List ℕ) (q : Result (Unit {0}) ErrorKind) → ((k : ErrorKind) → q ≡ Err k → IsMisplaced k) → IsPlaced (q >>= λ _. Ok (out y))
+    go y (Ok u) falls = (y, refl)
+    go y (Err k) falls = falls k refl
 
-default_over : (b : Bool) (f : Out → Result Out ErrorKind) (n : Result ℕ ErrorKind) (w : List ℕ) → IsOver (f (out w)) n → IsOver (default_write b f (out w)) (default_len b n)
+default_placed : (b : Bool) (r : Result ℕ ErrorKind) (f : Out → Result Out ErrorKind) → Places r f → Places (default_len b r) (default_write b f)
 unfolding default_write default_len
-default_over true f n w h = (w, refl)
-default_over false f n w h = h
-
-put_is_over : (b w : List ℕ) (n : Result ℕ ErrorKind) → IsOver (put b (out w)) n
-put_is_over b w n = rw (put_is b w) (w ++ b, refl)
+default_placed true r f inner n e w = (w, refl)
+default_placed false r f inner n e w = inner n e w
 
 mutual
-  write_over : (s : Shape) (v : Value s) (w : List ℕ) → IsOver (write s v (out w)) (size s v)
-  write_over (tagged t c) v w = tlv_is_over t (size_content c v) (write_content c v) w (content_only c v) (λ x. content_over c v x)
-  write_over any v w = tlv_is_over v.tag (fit_len (length v.contents)) (put v.contents) w (sum_only (length v.contents) 0) (λ x. put_is_over v.contents x (fit_len (length v.contents)))
-  write_over (either a b) (inl v) w = write_over a v w
-  write_over (either a b) (inr v) w = write_over b v w
-  write_over (optional s) None w = (w, refl)
-  write_over (optional s) (Some v) w = write_over s v w
-  write_over (defaulted s d) v w = default_over (bytes_eq (octets_of s v) d) (write s v) (size s v) w (write_over s v w)
-  write_over nothing v w = (w, refl)
+  write_placed : (s : Shape) (v : Value s) → Places (size s v) (write s v)
+  write_placed (tagged t c) v = tlv_placed t (size_content c v) (write_content c v) (content_placed c v)
+  write_placed any v = tlv_placed v.tag (fit_len (length v.contents)) (put v.contents) (put_placed v.contents (fit_len (length v.contents)))
+  write_placed (either a b) (inl v) = write_placed a v
+  write_placed (either a b) (inr v) = write_placed b v
+  write_placed (optional s) None = none_placed (Ok 0)
+  write_placed (optional s) (Some v) = write_placed s v
+  write_placed (defaulted s d) v = default_placed (bytes_eq (octets_of s v) d) (size s v) (write s v) (write_placed s v)
+  write_placed nothing v = none_placed (Ok 0)
 
-  content_over : (c : Content) (v : ContentValue c) (w : List ℕ) → IsOver (write_content c v (out w)) (size_content c v)
-  content_over (leaf k) v w = put_is_over (leaf_contents k v) w (fit_len (length (leaf_contents k v)))
-  content_over (nested b) v w = body_over b v w
+  content_placed : (c : Content) (v : ContentValue c) → Places (size_content c v) (write_content c v)
+  content_placed (leaf k) v = put_placed (leaf_contents k v) (fit_len (length (leaf_contents k v)))
+  content_placed (nested b) v = body_placed b v
 
-  body_over : (b : Body) (v : BodyValue b) (w : List ℕ) → IsOver (write_body b v (out w)) (size_body b v)
-  body_over done v w = (w, refl)
-  body_over (field s b) v w = both_over (write s v.0 (out w)) (size s v.0) (size_body b v.1) (write_body b v.1) (size_only s v.0) (write_over s v.0 w) (λ x. body_over b v.1 x)
-  body_over (only s) v w = write_over s v w
-  body_over (many s) v w = many_is_over (write s) (size s) (write_over s) (size_only s) v w 0
-  body_over (exactly n s) v w = many_is_over (write s) (size s) (write_over s) (size_only s) v w 0
-  body_over (few n s) v w = many_is_over (write s) (size s) (write_over s) (size_only s) v w 0
-  body_over (in_order how s) v w =
-      order_over (write_many (write s) v (out w)) (all_follow how (octets_of s) None v) (many_len (size s) v 0) (follow_only how (octets_of s) None v) (many_is_over (write s) (size s) (write_over s) (size_only s) v w 0)
+  body_placed : (b : Body) (v : BodyValue b) → Places (size_body b v) (write_body b v)
+  body_placed done v = none_placed (Ok 0)
+  body_placed (field s b) v = both_placed (size s v.0) (size_body b v.1) (write s v.0) (write_body b v.1) (write_placed s v.0) (body_placed b v.1)
+  body_placed (only s) v = write_placed s v
+  body_placed (many s) v = many_placed (write s) (size s) (λ x. write_placed s x) v 0
+  body_placed (exactly n s) v = many_placed (write s) (size s) (λ x. write_placed s x) v 0
+  body_placed (few n s) v = many_placed (write s) (size s) (λ x. write_placed s x) v 0
+  body_placed (in_order how s) v = in_order_placed how (write s) (octets_of s) v (many_len (size s) v 0) (many_placed (write s) (size s) (λ x. write_placed s x) v 0)
 
 -- which fault it is, where nothing was written before
 pub write_faults : (s : Shape) (v : Value s) (k : ErrorKind) → write s v (out []) ≡ Err k → IsMisplaced k ⊎ ((k ≡ kinds.Overflow) × (size s v ≡ Err kinds.Overflow))
-write_faults s v k e = subst (λ (r : Result Out ErrorKind). IsOver r (size s v)) e (write_over s v [])
+write_faults s v k e = go (size s v) refl
+  where
+    go : (r : Result ℕ ErrorKind) → size s v ≡ r → IsMisplaced k ⊎ ((k ≡ kinds.Overflow) × (size s v ≡ Err kinds.Overflow))
+    go (Ok n) h = inl (subst IsPlaced e (write_placed s v n h []))
+    go (Err d) h =
+        let over = size_only s v d h in
+        let same = unsized s v (out []) d h in
+        inr (cc (same, e, over), cc (h, over))

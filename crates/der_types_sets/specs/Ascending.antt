@@ -1,9 +1,9 @@
 -- Sets that are kept as they stand: members that ascend, of which none is below the one before it
 -- (X.690 8.12, 11.6).
-use Rattle.std.specs.Prelude.{◌≡◌, ℕ, zero, suc, ◌+◌, List, [], ◌∷◌, length, flat_map, Result, Ok}
+use Rattle.std.specs.Prelude.{◌≡◌, ℕ, zero, suc, List, [], ◌∷◌, length, flat_map, Result, Ok}
 use Rattle.std.specs.Prelude.{Err}
 use Rattle.der_core_head.specs.declared.error.ErrorKind.{ErrorKind}
-use Rattle.der_core_head.specs.Octets.{Readings, ◌>>=◌}
+use Rattle.der_core_head.specs.Octets.{Readings}
 use Rattle.der_core_head.specs.Shapes.{Shape, Value, octets_of, AllAscending}
 use Rattle.der_types_sets.specs.Sets.{AllValid}
 
@@ -13,9 +13,9 @@ pub record JoinsAscending (s : Shape) (members : List (Value s)) (octets : List 
   pub octets_are : octets ≡ flat_map (octets_of s) members
   pub ascend : AllAscending (octets_of s) members
 
--- so many values were read, and some more
-abbrev pub counted : {P : Type 0} → ℕ → Result (List P × List ℕ) ErrorKind → Result ℕ ErrorKind
-counted n r = r >>= λ x. Ok (n + length x.0)
+-- so many values were read, up to the end
+abbrev pub IsCount : {P : Type 0} → Result (List P × List ℕ) ErrorKind → ℕ → Type 0
+IsCount {P} r n = (values : List P) × (r ≡ Ok (values, [])) × (length values ≡ n)
 
 -- the value that was read, and those behind it
 abbrev pub first_of : {P : Type 0} → Result (P × List ℕ) ErrorKind → (List ℕ → List P) → List P

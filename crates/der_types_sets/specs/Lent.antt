@@ -51,9 +51,10 @@ pub record HasMembers {A : Type 0} (s : Shape) (l : Lent A) : Type 0 where
   pub one : 0 < l.count → length l.values ≡ 0
   pub spelled : IsSpelled s l.count l.octets
 
--- The members are in order, and no more octets follow.
+-- The members are in order, and no more octets follow; no member is spelled by no octets.
 pub record IsLent {A : Type 0} (s : Shape) (f : A → Value s) (l : Lent A) : Type 0 where
   pub has : HasMembers s l
+  pub some : 0 < l.count → 0 < length l.octets
   pub ascend : Ascends s f l.values
   pub joined : JoinsAscending s (members_spelled s l) l.octets
 

@@ -1,19 +1,17 @@
 //! Members of a SET OF as they stand.
 
 ghost use Rattle.der_core_head.specs.declared.tag.Tag.TheVariants.{Set};
-ghost use Rattle.der_core_head.specs.Shapes.{nested, many};
-ghost use Rattle.der_core_head.specs.Grammar.{plain_list};
 
-use der_core::{Decode, DecodeValue, Error, FixedTag, Header, Reader, Shaped, ShapedValue, Tag};
+use der_core::{DecodeValue, Error, FixedTag, Header, Reader, ShapedValue, Tag};
 use std::alloc::Global;
 
-/// The members of a SET OF in the order in which they stand, whatever it is.
+/// The members of a SET OF, as a list of the order in which they stand, whatever it is.
 #[derive(Drop)]
-pub(crate) struct AnyOrder<T> {
-    pub(crate) values: Vec<T>,
+pub(crate) struct AnyOrder<L> {
+    pub(crate) list: L,
 }
 
-impl<T> FixedTag for AnyOrder<T> {
+impl<L> FixedTag for AnyOrder<L> {
     ghost fixed_tag = { Set };
 
     fn tag() -> Tag {
@@ -21,17 +19,17 @@ impl<T> FixedTag for AnyOrder<T> {
     }
 }
 
-impl<T: Shaped> ShapedValue for AnyOrder<T> {
-    ghost content = { nested (many T.shape) };
+impl<L: ShapedValue> ShapedValue for AnyOrder<L> {
+    ghost content = { L.content };
 
-    ghost value_plain = { λ v. plain_list T.plain v.values.items };
+    ghost value_plain = { λ v. L.value_plain v.list };
 
-    ghost value_written = { λ v. plain_list T.written v.values.items };
+    ghost value_written = { λ v. L.value_written v.list };
 }
 
-impl<'a, R: Reader<'a>, T: Decode<'a, R>> DecodeValue<'a, R> for AnyOrder<T> {
-    fn decode_value(alloc: Global, reader: &mut R, header: Header) -> Result<AnyOrder<T>, Error> {
-        let values = Vec::<T>::decode_value(alloc, reader, header)?;
-        Ok(AnyOrder { values })
+impl<'a, R: Reader<'a>, L: DecodeValue<'a, R>> DecodeValue<'a, R> for AnyOrder<L> {
+    fn decode_value(alloc: Global, reader: &mut R, header: Header) -> Result<AnyOrder<L>, Error> {
+        let list = L::decode_value(alloc, reader, header)?;
+        Ok(AnyOrder { list })
     }
 }

@@ -1,13 +1,13 @@
 //! Reading of members that ascend, equal ones among them.
 
-ghost use Rattle.std.specs.Prelude.{◌≤◌, ◌<◌, ◌^◌, length};
+ghost use Rattle.std.specs.Prelude.{◌≤◌, IfOk, IfErr};
 ghost use Rattle.der_core_head.specs.Limits.{levels_max};
 ghost use Rattle.der_core_head.specs.Heads.{Fits};
 ghost use Rattle.der_core_head.specs.Shapes.{not_below, ascending};
 ghost use Rattle.der_core_head.specs.Grammar.{follows_last, read_body};
-ghost use Rattle.der_core_head.specs.Reading.{Gives, GivesNow};
+ghost use Rattle.der_core_head.specs.Reading.{Fails, GivesNow};
 ghost use Rattle.der_core_octets.specs.Fronts.{octets_at};
-ghost use Rattle.der_types_sets.specs.Ascending.{counted};
+ghost use Rattle.der_types_sets.specs.Ascending.{IsCount};
 
 use der_core::making::decode_sliced;
 use der_core::{Decode, Error, ErrorKind, Length, Member, Reader, SliceReader};
@@ -42,7 +42,9 @@ pub(crate) fn count_ascending<'a, T: Decode<'a, SliceReader<'a>> + Member>(
 ) -> Result<usize, Error>
     requires short { Fits octets.now }
     requires levels { levels ≤ levels_max }
-    ensures { Gives (λ n. n) result (counted 0 (read_body (ascending T.shape) levels octets.now)) }
+    ensures read { IfOk result (IsCount (read_body (ascending T.shape) levels octets.now)) }
+    ensures refused { IfErr result
+        (λ e. Fails e.kind (read_body (ascending T.shape) levels octets.now)) }
 {
     let mut reader = SliceReader::new_with_levels(octets, levels)?;
     let mut last = None;

@@ -7,7 +7,7 @@ ghost use Rattle.der_core_head.specs.Reading.{Gives};
 ghost use Rattle.der_core.specs.Orders.{octets_cmp};
 ghost use Rattle.der_types_sets.specs.Lent.{IsUnwritten};
 
-use der_core::{Encode, Error};
+use der_core::{Encode, Error, to_der};
 use std::alloc::Global;
 use std::cmp::Ordering;
 
@@ -28,10 +28,8 @@ pub(crate) fn joined_cmp<T: Encode>(
     ensures refused { IfErr result (IsUnwritten T.shape (plain_list T.written values.now)) }
 {
     let mut left = octets;
-    let mut encoding = Vec::new(alloc);
     for value in values {
-        encoding.clear();
-        value.encode(&mut encoding)?;
+        let encoding = to_der(alloc, value)?;
         let Some(behind) = left.strip_prefix(encoding.as_slice()) else {
             return Ok(encoding.as_slice().cmp(left));
         };

@@ -14,6 +14,7 @@ use der_core::Shaped;
 
 /// The encoding of a set doesn't depend on the order in which its members were inserted: two lists
 /// in ascending order that have the same members join to the same octets (X.690 11.6).
+#[tactic(auto, using(crate::proofs::Arrangements::one_arrangement), unfolding(der_core_head::specs::Shapes::body_octets))]
 pub fn order_of_insertions()
     ensures { (s : Shape) (v w : List (Value s)) → AllValid s (λ x. x) v → AllValid s (λ x. x) w
         → Ascends s (λ x. x) v → Ascends s (λ x. x) w → IsPermutation v w
@@ -22,6 +23,7 @@ pub fn order_of_insertions()
 
 /// A borrowed set and an owned one that have the same members agree in contents, order and answers.
 /// These are the members that `owned_to_ref` and `ref_to_owned` keep.
+#[tactic(auto, using(crate::proofs::LentOrders::lent_content, crate::proofs::LentOrders::same_number, crate::proofs::LentOrders::same_member))]
 pub fn borrowed_and_owned_agree<T: Shaped>()
     // The octets that are lent, if any, are the content of the owned set.
     ensures contents { (lent : Lent T) (set : List T) → IsLent T.shape T.written lent

@@ -1,7 +1,6 @@
 //! Lists of bounded room, and sets.
 #![tactic(auto)]
 
-mod any_few;
 mod any_order;
 mod ascending;
 mod in_range;

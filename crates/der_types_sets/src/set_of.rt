@@ -18,7 +18,7 @@ ghost use Rattle.der_types_sets.specs.Lent.{members_lent};
 ghost use Rattle.der_types_sets.specs.Sets.{Ascends, Loose, ReadsArranged, SpellsLoosely, TooLong};
 ghost use Rattle.der_types_sets.specs.Sets.{IsBelowLast, IsPutAtPlace};
 
-use crate::any_few::AnyFew;
+use crate::any_order::AnyOrder;
 use crate::iter::SetOfIter;
 use crate::members::{encode_members, members_len};
 use crate::places::{arrange, check_last, place_of};
@@ -146,6 +146,7 @@ impl<T: DerOrd + Member + Drop, const N: usize> SetOf<T, N> {
     /// # Errors
     /// `Overlength` where there are `N` members, `Overflow` where an encoding has 2^32 octets or
     /// more. The set stays then.
+    #[tactic(auto, using(crate::proofs::SetSteps::put_ascends, crate::proofs::SetSteps::put_same))]
     pub fn insert(&mut self, item: T) -> Result<(), Error>
         ensures ok { OnOk result (IsPermutation (item ∷ self.old) self.new) }
         ensures place { OnOk result (IsPutAtPlace T.shape T.written self.old item self.new) }
@@ -168,6 +169,7 @@ impl<T: DerOrd + Member + Drop, const N: usize> SetOf<T, N> {
     /// # Errors
     /// `Overlength` where there are `N` members, `SetOrdering` for an item below the last member,
     /// `Overflow` where an encoding has 2^32 octets or more. The set stays then.
+    #[tactic(auto, using(crate::proofs::SetSteps::last_ascends))]
     pub fn insert_ordered(&mut self, item: T) -> Result<(), Error>
         ensures ok { OnOk result (self.new ≡ self.old ++ item ∷ []) }
         ensures ascend { Ascends T.shape T.written self.new }
@@ -256,9 +258,8 @@ impl<T: DerOrd + Member + Default + Drop, const N: usize> SetOf<T, N> {
             → IfErr result
             (λ e. Fails e.kind (read_whole (tagged Set (nested (few N T.shape))) bytes.now)) }
     {
-        let read = from_der::<AnyFew<T, N>>(alloc, bytes)?;
-        let AnyFew { members } = read;
-        let set = SetOf::arranged(SequenceOf { members })?;
+        let AnyOrder { list } = from_der::<AnyOrder<SequenceOf<T, N>>>(alloc, bytes)?;
+        let set = SetOf::arranged(list)?;
         Ok(set)
     }
 

@@ -419,7 +419,6 @@ impl<'a, T: DerOrd + Encode> SetOfRef<'a, T> {
         if lengths.is_ne() {
             return Ok(lengths);
         }
-        let contents = self.value_cmp(alloc, other)?;
-        Ok(contents)
+        self.value_cmp(alloc, other)
     }
 }

@@ -159,6 +159,7 @@ impl<T: DerOrd + Member + Drop> SetOfVec<T> {
     ///
     /// # Errors
     /// `Overflow` where an encoding has 2^32 octets or more, or `OutOfMemory`. The set stays then.
+    #[tactic(auto, using(crate::proofs::SetSteps::put_ascends, crate::proofs::SetSteps::put_same))]
     pub fn insert(&mut self, item: T) -> Result<(), Error>
         ensures ok { OnOk result (IsPermutation (item ∷ self.old) self.new) }
         ensures place { OnOk result (IsPutAtPlace T.shape T.written self.old item self.new) }
@@ -176,6 +177,7 @@ impl<T: DerOrd + Member + Drop> SetOfVec<T> {
     /// # Errors
     /// `SetOrdering` for an item below the last member, `Overflow` where an encoding has 2^32
     /// octets or more, or `OutOfMemory`. The set stays then.
+    #[tactic(auto, using(crate::proofs::SetSteps::last_ascends))]
     pub fn insert_ordered(&mut self, item: T) -> Result<(), Error>
         ensures ok { OnOk result (self.new ≡ self.old ++ item ∷ []) }
         ensures ascend { Ascends T.shape T.written self.new }
@@ -340,9 +342,8 @@ impl<T: DerOrd + Member + Drop> SetOfVec<T> {
             → IfErr result
             (λ e. Fails e.kind (read_whole (tagged Set (nested (many T.shape))) bytes.now)) }
     {
-        let read = from_der::<AnyOrder<T>>(alloc, bytes)?;
-        let AnyOrder { values } = read;
-        let set = SetOfVec::from_vec(values)?;
+        let AnyOrder { list } = from_der::<AnyOrder<Vec<T>>>(alloc, bytes)?;
+        let set = SetOfVec::from_vec(list)?;
         Ok(set)
     }
 

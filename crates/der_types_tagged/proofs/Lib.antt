@@ -1,3 +1,2 @@
-mod FieldOrders
 mod Numbers
 mod ReadBack

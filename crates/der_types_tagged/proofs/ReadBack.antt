@@ -1,6 +1,6 @@
 -- What fields write is read back.
-use Rattle.std.proofs.Common.{◌≡◌, ◌/◌, ℕ, Bool, true, false, List, [], ◌∷◌, ◌++◌, length, Some, None, Ok, refl, ap, sym, subst, ◌∙◌, append_assoc}
-use Rattle.std.specs.Prelude.{if◌then◌else◌, ◌==◌}
+use Rattle.std.proofs.Common.{◌≡◌, ◌/◌, ℕ, Bool, true, false, List, [], ◌∷◌, ◌++◌, length, Some, None, Ok, refl, ap, sym, subst, ◌∙◌, append_assoc, arith}
+use Rattle.std.proofs.lemmas.Bool.Decides.{nat_tests}
 use Rattle.der_core_head.specs.declared.encoding_rules.EncodingRules.TheVariants as encodings
 use Rattle.der_core_head.specs.declared.tag.Tag.{Tag}
 use Rattle.der_core_head.specs.declared.tag.Tag.TheVariants as tags
@@ -25,23 +25,13 @@ optional_again s room v r e a n h =
     rw (peeked, f.4, complete_element s room v r e a n h) refl
 
 number_of_class : (class n : ℕ) → number_of (class_tag class true n) ≡ n
-number_of_class class n = go (class == 1) (class == 2)
-  where
-    go : (a b : Bool) → number_of (if a then tags.Application true (record { value = n }) else if b then tags.ContextSpecific true (record { value = n }) else tags.Private true (record { value = n })) ≡ n
-    go true b = refl
-    go false true = refl
-    go false false = refl
-
-pub tag_and_content : (t : Tag) (c : Content) (v : ContentValue c) → IsValid (tagged t c) v → IsTag t × Fits (contents c v)
-unfolding IsValid
-tag_and_content t c v h = (h.1, fits_contents t (contents c v) h.2)
+number_of_class class n = grind (arith, nat_tests)
 
 header_again : (t : Tag) (c : Content) (v : ContentValue c) (r : List ℕ) → IsValid (tagged t c) v
     → head_at (octets_of (tagged t c) v ++ r) ≡ Ok (record { tag = t; len = length (contents c v) }, contents c v ++ r)
-unfolding octets_of tlv
+unfolding octets_of tlv IsValid
 header_again t c v r h =
-    let k = tag_and_content t c v h in
-    ap head_at (append_assoc (head_octets t (length (contents c v))) (contents c v) r) ∙ head_again t (length (contents c v)) (contents c v ++ r) k.0 k.1
+    ap head_at (append_assoc (head_octets t (length (contents c v))) (contents c v) r) ∙ head_again t (length (contents c v)) (contents c v ++ r) h.1 (fits_contents t (contents c v) h.2)
 
 -- a header of the class, and what stands behind it
 number_is : (class room : ℕ) (s : Shape) (v : Value s) (w q r : List ℕ) (h : Head) → head_at w ≡ Ok (h, q)

@@ -37,6 +37,7 @@ pub fn written_is_read_back()
 {}
 
 /// Where another tag stands, or the end, a field is absent and nothing is read.
+#[tactic(auto, using(crate::proofs::ReadBack::other_absent, crate::proofs::ReadBack::end_absent))]
 pub fn others_are_absent()
     ensures tag { (field other : Tag) (c : Content) (room : ℕ) (w rest : List ℕ)
         → tag_at w ≡ Ok (other, rest) → same_tag field other ≡ false

@@ -4,7 +4,7 @@ use Rattle.std.specs.Prelude.{◌&&◌, nat_eq}
 use Rattle.std.specs.Cmp.Lexicographic.{pointwise}
 use Rattle.std.specs.List.{list_all}
 use Rattle.std.proofs.lemmas.Bool.{and_parts, cond-true, cond-false}
-use Rattle.std.proofs.lemmas.Bool.Decides.{same_from_decides, Decides-eqb}
+use Rattle.std.proofs.lemmas.Bool.Decides.{same_from_decides, Decides-eqb, nat_tests}
 use Rattle.std.proofs.lemmas.Grind.{flat_map-append}
 use Rattle.std.proofs.lemmas.List.Folds.{list_all-append}
 use Rattle.std.proofs.lemmas.Slice.Eq.{slice_eq-Decides}
@@ -24,10 +24,6 @@ are_pairs-even (a ∷ b ∷ w) =
     let e : length (a ∷ b ∷ w) % 2 ≡ length w % 2 = omega arith in
     rw e (are_pairs-even w)
 
-and_false : (b : Bool) → (b && false) ≡ false
-and_false true = refl
-and_false false = refl
-
 -- octets that are pairs are those of their characters
 pub are_bmp-spelled : (w : List ℕ) → IsBytes w → are_bmp w ≡ true → w ≡ bmp_octets (units w)
 are_bmp-spelled w h e = sym (bmp_octets-units w (octets_are w h) (and_parts (are_pairs w) (list_all is_unit (units w)) e).0)
@@ -43,11 +39,10 @@ list_all-push p us u h e = list_all-append p us (u ∷ []) ∙ rw (h, e) refl
 -- one that is refused
 pub list_all-refused : (p : ℕ → Bool) (xs : List ℕ) (i c : ℕ) → i < length xs → c ≡ get_or xs i c → p c ≡ false → list_all p xs ≡ false
 list_all-refused p [] i c h at e = absurd (omega arith)
-list_all-refused p (x ∷ xs) zero c h at e =
-    let same : p x ≡ false = ap p (sym at) ∙ e in
-    rw same refl
+list_all-refused p (x ∷ xs) zero c h at e = rw (ap p (sym at) ∙ e) refl
 list_all-refused p (x ∷ xs) (suc i) c h at e =
-    rw (list_all-refused p xs i c (omega arith) at e) (and_false (p x))
+    let more = list_all-refused p xs i c (omega arith) at e in
+    grind (arith, nat_tests)
 
 pub map_same : (xs : List ℕ) → map (λ c. c) xs ≡ xs
 map_same [] = refl

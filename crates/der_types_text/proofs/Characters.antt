@@ -4,7 +4,8 @@ use Rattle.std.specs.Prelude.{◌&&◌, nat_lt, nat_le}
 use Rattle.std.specs.List.{list_all}
 use Rattle.std.specs.Str.{chars, IsUtf8}
 use Rattle.std.proofs.Math.Utf8.{scalar, scalars, low_scalar}
-use Rattle.std.proofs.lemmas.Bool.{and_parts, and_from, or_cases, ltb-true, lt-ltb}
+use Rattle.std.proofs.lemmas.Bool.{and_parts, and_from}
+use Rattle.std.proofs.lemmas.Bool.Decides.{nat_tests}
 use Rattle.std.proofs.lemmas.Str.{chars-encodes, encodes-chars}
 use Rattle.der_core_head.specs.declared.error.ErrorKind.TheVariants as kinds
 use Rattle.der_core_head.specs.declared.tag.Tag.TheVariants as tags
@@ -18,19 +19,8 @@ use Rattle.der_types_text.proofs.BmpTexts.{bmp_from-ok}
 pub one_string : (us vs : List ℕ) → bmp_octets us ≡ bmp_octets vs → us ≡ vs
 one_string us vs e = sym (units-octets us) ∙ ap units e ∙ units-octets vs
 
-either : (b p q : Bool) → p ≡ true → q ≡ true → cond b true (p && q) ≡ true
-either true p q h e = refl
-either false p q h e = and_from p q h e
-
 unit_scalar : (u : ℕ) → is_unit u ≡ true → scalar u ≡ true
-unit_scalar u e = ⊎_elim (λ h. low_scalar u (ltb-true u 0xD800 h)) above (or_cases (nat_lt u 0xD800) (nat_le 0xE000 u && nat_lt u 0x10000) e)
-  where
-    above : nat_le 0xE000 u && nat_lt u 0x10000 ≡ true → scalar u ≡ true
-    above h =
-        let parts = and_parts (nat_le 0xE000 u) (nat_lt u 0x10000) h in
-        let small = ltb-true u 0x10000 parts.1 in
-        let fits : nat_lt u 0x110000 ≡ true = lt-ltb u 0x110000 (omega arith) in
-        either (nat_lt u 0xD800) (nat_le 0xE000 u) (nat_lt u 0x110000) parts.0 fits
+unit_scalar u e = grind (arith, nat_tests)
 
 pub bmp_scalars : (us : List ℕ) → IsBmp us → scalars us ≡ true
 bmp_scalars [] h = refl

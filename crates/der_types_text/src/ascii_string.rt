@@ -12,18 +12,14 @@ ghost use Rattle.std.specs.Ordering.{nat_cmp};
 ghost use Rattle.der_core_head.specs.Heads.{Fits};
 ghost use Rattle.der_core_head.specs.Leaves.{text};
 ghost use Rattle.der_core_head.specs.Reading.{Gives, GivesNow};
-ghost use Rattle.der_core_head.specs.Shapes.{leaf};
 ghost use Rattle.der_core_head.specs.Texts.{IsText};
 ghost use Rattle.der_core.specs.OrdLaws.{octets_order};
 ghost use Rattle.der_types_text.specs.Texts.{text_from};
 
 use crate::ascii_string_ref::AsciiStringRef;
 use crate::ascii_type::AsciiType;
-use der_core::making::{decode_leaf, slice_len};
-use der_core::{
-    DecodeValue, EncodeValue, Error, FixedTag, Header, Leaf, Length, OrdIsValueOrd, Reader,
-    ShapedValue, Tag, ValueOrd, Writer,
-};
+use der_core::describing::{AsOctets, Described, Octets, Ordered, Primitive};
+use der_core::{Error, FixedTag, Leaf, OrdIsValueOrd, Tag};
 use std::alloc::{AllocError, Global};
 use std::cmp::Ordering;
 use std::convert::{AsSlice, AsStr};
@@ -178,12 +174,18 @@ impl<T: AsciiType> FixedTag for AsciiString<T> {
     }
 }
 
-/// The octets of the text.
-impl<'a, T: AsciiType> Leaf<'a> for AsciiString<T> {
+impl<T: AsciiType> Described for AsciiString<T> {
+    type By = AsOctets;
+}
+
+impl<T: AsciiType> Primitive for AsciiString<T> {
     ghost kind = { text T.repertoire };
 
     ghost leaf_plain = { λ t. t };
+}
 
+/// The octets of the text.
+impl<'a, T: AsciiType> Leaf<'a> for AsciiString<T> {
     fn from_content(alloc: Global, tag: Tag, octets: &'a [u8]) -> Result<AsciiString<T>, Error> {
         let text = AsciiStringRef::<T>::spelled_by(tag, octets)?;
         let owned = AsciiString::from_ref(alloc, text)?;
@@ -191,33 +193,15 @@ impl<'a, T: AsciiType> Leaf<'a> for AsciiString<T> {
     }
 }
 
-impl<T: AsciiType> ShapedValue for AsciiString<T> {
-    ghost content = { leaf (text T.repertoire) };
-
-    ghost value_plain = { λ t. t };
-
-    ghost value_written = { λ t. t };
-}
-
-impl<'a, R: Reader<'a>, T: AsciiType> DecodeValue<'a, R> for AsciiString<T> {
-    fn decode_value(
-        alloc: Global,
-        reader: &mut R,
-        header: Header,
-    ) -> Result<AsciiString<T>, Error> {
-        decode_leaf(alloc, reader, header)
+impl<T: AsciiType> Octets for AsciiString<T> {
+    fn content(&self) -> &[u8] {
+        let _text = self.as_str();
+        self.as_bytes()
     }
 }
 
-impl<T: AsciiType> EncodeValue for AsciiString<T> {
-    fn value_len(&self) -> Result<Length, Error> {
-        slice_len(self.as_bytes())
-    }
-
-    fn encode_value<W: Writer>(&self, writer: &mut W) -> Result<(), Error> {
-        writer.write(self.as_bytes())
-    }
-}
+/// The octets of the text (X.690 8.23.5).
+impl<T: AsciiType> Ordered for AsciiString<T> {}
 
 /// A copy, in memory of the same allocator.
 impl<T: AsciiType> Clone for AsciiString<T> {
@@ -275,14 +259,6 @@ impl<T: AsciiType> Hash for AsciiString<T> {
 
     fn hash<H: Hasher>(&self, state: &mut H) {
         self.text.hash(state);
-    }
-}
-
-/// The octets of the text (X.690 8.23.5).
-impl<T: AsciiType> ValueOrd for AsciiString<T> {
-    #[tactic(auto, using(der_core::proofs::LeafOrders::leaf_contents))]
-    fn value_cmp(&self, other: &Self) -> Result<Ordering, Error> {
-        Ok(self.as_bytes().cmp(other.as_bytes()))
     }
 }
 

@@ -5,20 +5,16 @@ ghost use Rattle.std.specs.List.{list_all};
 ghost use Rattle.der_core_head.specs.Heads.{Fits};
 ghost use Rattle.der_core_head.specs.Leaves.{text};
 ghost use Rattle.der_core_head.specs.Reading.{GivesNow};
-ghost use Rattle.der_core_head.specs.Shapes.{leaf};
 ghost use Rattle.der_core_head.specs.Texts.{is_within, text_read, IsText};
 ghost use Rattle.der_types_text.specs.Orders.{borrowed_order};
 ghost use Rattle.der_types_text.specs.Texts.{AreWithin, text_from};
 
 use crate::ascii_string::AsciiString;
 use crate::ascii_type::AsciiType;
-use der_core::making::{read_content, slice_len};
-use der_core::{
-    DecodeValue, EncodeValue, Error, ErrorKind, FixedTag, Header, Leaf, Length, OrdIsValueOrd,
-    Reader, ShapedValue, Tag, ValueOrd, Writer,
-};
+use der_core::describing::{AsOctets, Described, Octets, Ordered, Primitive};
+use der_core::making::slice_len;
+use der_core::{Error, ErrorKind, FixedTag, Leaf, OrdIsValueOrd, Tag};
 use std::alloc::{AllocError, Global};
-use std::cmp::Ordering;
 use std::convert::{AsSlice, AsStr};
 use std::fmt;
 use std::marker::PhantomData;
@@ -181,11 +177,17 @@ impl<'a, T: AsciiType> FixedTag for AsciiStringRef<'a, T> {
     }
 }
 
-impl<'a, T: AsciiType> Leaf<'a> for AsciiStringRef<'a, T> {
+impl<'a, T: AsciiType> Described for AsciiStringRef<'a, T> {
+    type By = AsOctets;
+}
+
+impl<'a, T: AsciiType> Primitive for AsciiStringRef<'a, T> {
     ghost kind = { text T.repertoire };
 
     ghost leaf_plain = { λ t. t.text.now };
+}
 
+impl<'a, T: AsciiType> Leaf<'a> for AsciiStringRef<'a, T> {
     ghost takes_memory = { false };
 
     fn from_content(
@@ -198,48 +200,15 @@ impl<'a, T: AsciiType> Leaf<'a> for AsciiStringRef<'a, T> {
     }
 }
 
-impl<'a, T: AsciiType> ShapedValue for AsciiStringRef<'a, T> {
-    ghost content = { leaf (text T.repertoire) };
-
-    ghost value_plain = { λ t. t.text.now };
-
-    ghost value_written = { λ t. t.text.now };
-}
-
-impl<'a, T: AsciiType, R: Reader<'a>> DecodeValue<'a, R> for AsciiStringRef<'a, T> {
-    fn decode_value(
-        alloc: Global,
-        reader: &mut R,
-        header: Header,
-    ) -> Result<AsciiStringRef<'a, T>, Error> {
-        let octets = read_content(reader, header)?;
-        match Self::from_content(alloc, header.tag, octets) {
-            Ok(value) => Ok(value),
-            Err(error) => {
-                reader.fail();
-                Err(error)
-            }
-        }
-    }
-}
-
-impl<'a, T: AsciiType> EncodeValue for AsciiStringRef<'a, T> {
-    fn value_len(&self) -> Result<Length, Error> {
-        slice_len(self.as_bytes())
-    }
-
-    fn encode_value<W: Writer>(&self, writer: &mut W) -> Result<(), Error> {
-        writer.write(self.as_bytes())
+impl<'a, T: AsciiType> Octets for AsciiStringRef<'a, T> {
+    fn content(&self) -> &[u8] {
+        let _text = self.as_str();
+        self.as_bytes()
     }
 }
 
 /// The octets of the text (X.690 8.23.5).
-impl<'a, T: AsciiType> ValueOrd for AsciiStringRef<'a, T> {
-    #[tactic(auto, using(der_core::proofs::LeafOrders::leaf_contents))]
-    fn value_cmp(&self, other: &Self) -> Result<Ordering, Error> {
-        Ok(self.as_bytes().cmp(other.as_bytes()))
-    }
-}
+impl<'a, T: AsciiType> Ordered for AsciiStringRef<'a, T> {}
 
 impl<'a, T: AsciiType> OrdIsValueOrd for AsciiStringRef<'a, T> {
     ghost order = { λ v w. borrowed_order T.repertoire v.text.now w.text.now };

@@ -16,16 +16,12 @@ ghost use Rattle.der_core_head.specs.BmpStrings.{units};
 ghost use Rattle.der_core_head.specs.declared.tag.Tag.TheVariants.{BmpString as BmpStringTag};
 ghost use Rattle.der_core_head.specs.Leaves.{bmp};
 ghost use Rattle.der_core_head.specs.Reading.{Gives, GivesNow};
-ghost use Rattle.der_core_head.specs.Shapes.{leaf};
 ghost use Rattle.der_types_text.specs.BmpStrings.{are_bmp, bmp_from, ucs2_from};
 ghost use Rattle.der_types_text.specs.BmpOrders.{bmp_order};
 
 use crate::bmp_chars::{BmpChars, BmpCodepoints};
-use der_core::making::{decode_leaf, slice_len};
-use der_core::{
-    DecodeValue, EncodeValue, Error, ErrorKind, FixedTag, Header, Leaf, Length, OrdIsValueOrd,
-    Reader, ShapedValue, Tag, ValueOrd, Writer,
-};
+use der_core::describing::{AsOctets, Described, Octets, Ordered, Primitive};
+use der_core::{Error, ErrorKind, FixedTag, Leaf, OrdIsValueOrd, Tag};
 use std::alloc::{AllocError, Global};
 use std::cmp::Ordering;
 use std::convert::AsSlice;
@@ -221,12 +217,18 @@ impl FixedTag for BmpString {
     }
 }
 
-/// The characters, two octets each.
-impl<'a> Leaf<'a> for BmpString {
+impl Described for BmpString {
+    type By = AsOctets;
+}
+
+impl Primitive for BmpString {
     ghost kind = { bmp };
 
     ghost leaf_plain = { λ s. s };
+}
 
+/// The characters, two octets each.
+impl<'a> Leaf<'a> for BmpString {
     #[tactic(auto, unfolding(der_core_head::specs::BmpStrings::bmp_read))]
     fn from_content(alloc: Global, tag: Tag, octets: &'a [u8]) -> Result<BmpString, Error> {
         if !are_characters(octets) {
@@ -237,29 +239,15 @@ impl<'a> Leaf<'a> for BmpString {
     }
 }
 
-impl ShapedValue for BmpString {
-    ghost content = { leaf bmp };
-
-    ghost value_plain = { λ s. s };
-
-    ghost value_written = { λ s. s };
-}
-
-impl<'a, R: Reader<'a>> DecodeValue<'a, R> for BmpString {
-    fn decode_value(alloc: Global, reader: &mut R, header: Header) -> Result<BmpString, Error> {
-        decode_leaf(alloc, reader, header)
+impl Octets for BmpString {
+    fn content(&self) -> &[u8] {
+        let _characters = self.chars();
+        self.as_bytes()
     }
 }
 
-impl EncodeValue for BmpString {
-    fn value_len(&self) -> Result<Length, Error> {
-        slice_len(self.as_bytes())
-    }
-
-    fn encode_value<W: Writer>(&self, writer: &mut W) -> Result<(), Error> {
-        writer.write(self.as_bytes())
-    }
-}
+/// The octets of the characters (X.690 8.23.8).
+impl Ordered for BmpString {}
 
 /// A copy, in memory of the same allocator.
 impl Clone for BmpString {
@@ -320,14 +308,6 @@ impl Hash for BmpString {
 
     fn hash<H: Hasher>(&self, state: &mut H) {
         self.as_bytes().hash(state);
-    }
-}
-
-/// The octets of the characters (X.690 8.23.8).
-impl ValueOrd for BmpString {
-    #[tactic(auto, using(der_core::proofs::LeafOrders::leaf_contents))]
-    fn value_cmp(&self, other: &Self) -> Result<Ordering, Error> {
-        Ok(self.as_bytes().cmp(other.as_bytes()))
     }
 }
 

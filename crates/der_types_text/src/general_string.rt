@@ -5,18 +5,14 @@ ghost use Rattle.der_core_head.specs.declared.tag.Tag.TheVariants.{GeneralString
 ghost use Rattle.der_core_head.specs.Heads.{Fits};
 ghost use Rattle.der_core_head.specs.Leaves.{text};
 ghost use Rattle.der_core_head.specs.Reading.{GivesNow};
-ghost use Rattle.der_core_head.specs.Shapes.{leaf};
 ghost use Rattle.der_core_head.specs.Texts.{any_octet};
 ghost use Rattle.der_core.specs.OrdLaws.{octets_order};
 ghost use Rattle.der_core_head.specs.Lengths.{counted};
 
-use der_core::making::{decode_leaf, slice_len};
-use der_core::{
-    DecodeValue, EncodeValue, Error, FixedTag, Header, Leaf, Length, OrdIsValueOrd, Reader,
-    ShapedValue, Tag, ValueOrd, Writer,
-};
+use der_core::describing::{AsOctets, Described, Octets, Ordered, Primitive};
+use der_core::making::{octets_in_range, slice_len};
+use der_core::{Error, FixedTag, Leaf, OrdIsValueOrd, Tag};
 use std::alloc::Global;
-use std::cmp::Ordering;
 use std::convert::AsSlice;
 
 /// A borrowed GeneralString (X.680 41, X.690 8.23.5): any octets, fewer than 2^32, whose character
@@ -89,12 +85,18 @@ impl<'a> FixedTag for GeneralStringRef<'a> {
     }
 }
 
-/// Any octets.
-impl<'a> Leaf<'a> for GeneralStringRef<'a> {
+impl<'a> Described for GeneralStringRef<'a> {
+    type By = AsOctets;
+}
+
+impl<'a> Primitive for GeneralStringRef<'a> {
     ghost kind = { text any_octet };
 
     ghost leaf_plain = { λ s. s.bytes.now };
+}
 
+/// Any octets.
+impl<'a> Leaf<'a> for GeneralStringRef<'a> {
     ghost takes_memory = { false };
 
     #[tactic(auto, using(crate::proofs::AnyTexts::any_read))]
@@ -107,41 +109,15 @@ impl<'a> Leaf<'a> for GeneralStringRef<'a> {
     }
 }
 
-impl<'a> ShapedValue for GeneralStringRef<'a> {
-    ghost content = { leaf (text any_octet) };
-
-    ghost value_plain = { λ s. s.bytes.now };
-
-    ghost value_written = { λ s. s.bytes.now };
-}
-
-impl<'a, R: Reader<'a>> DecodeValue<'a, R> for GeneralStringRef<'a> {
-    fn decode_value(
-        alloc: Global,
-        reader: &mut R,
-        header: Header,
-    ) -> Result<GeneralStringRef<'a>, Error> {
-        decode_leaf(alloc, reader, header)
-    }
-}
-
-impl<'a> EncodeValue for GeneralStringRef<'a> {
-    fn value_len(&self) -> Result<Length, Error> {
-        slice_len(self.bytes)
-    }
-
-    fn encode_value<W: Writer>(&self, writer: &mut W) -> Result<(), Error> {
-        writer.write(self.bytes)
+impl<'a> Octets for GeneralStringRef<'a> {
+    fn content(&self) -> &[u8] {
+        octets_in_range(self.as_bytes());
+        self.bytes
     }
 }
 
 /// The octets (X.690 8.23.5).
-impl<'a> ValueOrd for GeneralStringRef<'a> {
-    #[tactic(auto, using(der_core::proofs::LeafOrders::leaf_contents))]
-    fn value_cmp(&self, other: &Self) -> Result<Ordering, Error> {
-        Ok(self.bytes.cmp(other.bytes))
-    }
-}
+impl<'a> Ordered for GeneralStringRef<'a> {}
 
 impl<'a> OrdIsValueOrd for GeneralStringRef<'a> {
     ghost order = { λ v w. octets_order (text any_octet) v.bytes.now w.bytes.now };

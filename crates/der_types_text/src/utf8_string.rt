@@ -5,19 +5,15 @@ ghost use Rattle.der_core_head.specs.declared.tag.Tag.TheVariants.{Utf8String};
 ghost use Rattle.der_core_head.specs.Heads.{Fits};
 ghost use Rattle.der_core_head.specs.Leaves.{utf8};
 ghost use Rattle.der_core_head.specs.Reading.{GivesNow};
-ghost use Rattle.der_core_head.specs.Shapes.{leaf};
 ghost use Rattle.der_core_head.specs.Texts.{utf8_read};
 ghost use Rattle.der_core.specs.OrdLaws.{octets_order};
 ghost use Rattle.der_core_head.specs.Lengths.{counted};
 ghost use Rattle.der_types_text.specs.Texts.{utf8_from};
 
-use der_core::making::{decode_leaf, slice_len};
-use der_core::{
-    DecodeValue, EncodeValue, Error, ErrorKind, FixedTag, Header, Leaf, Length, OrdIsValueOrd,
-    Reader, ShapedValue, Tag, ValueOrd, Writer,
-};
+use der_core::describing::{AsOctets, Described, Octets, Ordered, Primitive};
+use der_core::making::{slice_len, text_in_range};
+use der_core::{Error, ErrorKind, FixedTag, Leaf, OrdIsValueOrd, Tag};
 use std::alloc::{AllocError, Global};
-use std::cmp::Ordering;
 use std::convert::{AsSlice, AsStr};
 use std::fmt;
 
@@ -159,12 +155,18 @@ impl<'a> FixedTag for Utf8StringRef<'a> {
     }
 }
 
-/// The octets of the text.
-impl<'a> Leaf<'a> for Utf8StringRef<'a> {
+impl<'a> Described for Utf8StringRef<'a> {
+    type By = AsOctets;
+}
+
+impl<'a> Primitive for Utf8StringRef<'a> {
     ghost kind = { utf8 };
 
     ghost leaf_plain = { λ t. t.text.now };
+}
 
+/// The octets of the text.
+impl<'a> Leaf<'a> for Utf8StringRef<'a> {
     ghost takes_memory = { false };
 
     fn from_content(
@@ -177,41 +179,15 @@ impl<'a> Leaf<'a> for Utf8StringRef<'a> {
     }
 }
 
-impl<'a> ShapedValue for Utf8StringRef<'a> {
-    ghost content = { leaf utf8 };
-
-    ghost value_plain = { λ t. t.text.now };
-
-    ghost value_written = { λ t. t.text.now };
-}
-
-impl<'a, R: Reader<'a>> DecodeValue<'a, R> for Utf8StringRef<'a> {
-    fn decode_value(
-        alloc: Global,
-        reader: &mut R,
-        header: Header,
-    ) -> Result<Utf8StringRef<'a>, Error> {
-        decode_leaf(alloc, reader, header)
-    }
-}
-
-impl<'a> EncodeValue for Utf8StringRef<'a> {
-    fn value_len(&self) -> Result<Length, Error> {
-        slice_len(self.as_bytes())
-    }
-
-    fn encode_value<W: Writer>(&self, writer: &mut W) -> Result<(), Error> {
-        writer.write(self.as_bytes())
+impl<'a> Octets for Utf8StringRef<'a> {
+    fn content(&self) -> &[u8] {
+        text_in_range(self.as_str());
+        self.as_bytes()
     }
 }
 
 /// The octets of the text (X.690 8.23.10).
-impl<'a> ValueOrd for Utf8StringRef<'a> {
-    #[tactic(auto, using(der_core::proofs::LeafOrders::leaf_contents))]
-    fn value_cmp(&self, other: &Self) -> Result<Ordering, Error> {
-        Ok(self.as_bytes().cmp(other.as_bytes()))
-    }
-}
+impl<'a> Ordered for Utf8StringRef<'a> {}
 
 impl<'a> OrdIsValueOrd for Utf8StringRef<'a> {
     ghost order = { λ v w. octets_order utf8 v.text.now w.text.now };

@@ -1,7 +1,8 @@
 -- The days of the calendar, as jiff counts them.
-use Rattle.std.proofs.Common.{◌≡◌, ◌<◌, ◌≤◌, ◌-◌, ℕ, zero, suc, ◌+◌, ◌*◌, ◌/◌, ◌%◌, ℤ, pos, ◌≤ℤ◌, ◌<ℤ◌, refl, ap, subst, ◌∙◌, arith, unsigned_abs, sym, Bool, true, false, int_lt, ◌⊎◌, inl, inr}
-use Rattle.std.specs.Prelude.{nat_le, nat_lt, ◌==◌, ◌&&◌, ◌||◌, if◌then◌else◌}
-use Rattle.std.proofs.lemmas.Bool.{and_parts, and_from, leb-true, le-leb, lt-ltb, cases_lt}
+use Rattle.std.proofs.Common.{◌≡◌, ◌<◌, ◌≤◌, ◌-◌, ℕ, zero, suc, ◌+◌, ◌*◌, ◌/◌, ◌%◌, ℤ, pos, ◌≤ℤ◌, ◌<ℤ◌, refl, ap, subst, ◌∙◌, arith, unsigned_abs, sym, Bool, true, false, int_lt, inl, inr}
+use Rattle.std.specs.Prelude.{◌==◌, ◌||◌, if◌then◌else◌}
+use Rattle.std.proofs.lemmas.Bool.{cases_lt}
+use Rattle.std.proofs.lemmas.Bool.Decides.{nat_tests}
 use Rattle.jiff_core.specs.Calendar.{IsCivilDate, day_count, days_from_civil, days_in_month as jiff_month, days_of_months as jiff_months}
 use Rattle.jiff_core.proofs.CalendarLemmas.{day_count-epoch, day_count-next_year, day_count-day_of_year, day_count-lt_year, days_from_civil-day_count, days_of_months-zero, days_of_months_more}
 use Rattle.jiff_core.proofs.SignedLemmas.{signed_arith}
@@ -13,11 +14,7 @@ same_month : (y m : ℕ) → jiff_month (pos y) m ≡ days_in_month y m
 same_month y m = go (m == 2) (m == 4) (m == 6) (m == 9) (m == 11) (if is_leap y then 29 else 28)
   where
     go : (a b c d e : Bool) (k : ℕ) → (if a then k else if b || c || d || e then 30 else 31) ≡ (if a then k else if b || (c || (d || e)) then 30 else 31)
-    go true b c d e k = refl
-    go false true c d e k = refl
-    go false false true d e k = refl
-    go false false false true e k = refl
-    go false false false false e k = refl
+    go a b c d e k = grind (arith, nat_tests)
 
 months_agree : (y n : ℕ) → jiff_months (pos y) n ≡ days_of_months y n
 months_agree y zero = days_of_months-zero (pos y)
@@ -69,23 +66,19 @@ year_is y m d civil day = go (int_lt y (pos 1970)) refl
 pub date_is : (c : Civil) → is_civil c ≡ true → IsCivilDate (pos c.year) c.month c.day
 date_is c h =
     let r = civil_ranges c h in
-    let months = and_parts (nat_le 1970 c.year && nat_lt c.year 10000) _ h in
-    let month = and_parts (nat_le 1 c.month && nat_le c.month 12) _ months.1 in
-    let day = and_parts (nat_le 1 c.day && nat_le c.day (days_in_month c.year c.month)) _ month.1 in
-    let days = and_parts (nat_le 1 c.day) (nat_le c.day (days_in_month c.year c.month)) day.0 in
-    let low = leb-true 1 c.month (and_parts (nat_le 1 c.month) (nat_le c.month 12) month.0).0 in
-    let early = leb-true 1 c.day days.0 in
-    let late : c.day ≤ jiff_month (pos c.year) c.month = subst (λ k. c.day ≤ k) (sym (same_month c.year c.month)) (leb-true c.day (days_in_month c.year c.month) days.1) in
+    let low : 1 ≤ c.month = grind (arith, nat_tests) in
+    let early : 1 ≤ c.day = grind (arith, nat_tests) in
+    let within : c.day ≤ days_in_month c.year c.month = grind (arith, nat_tests) in
+    let late : c.day ≤ jiff_month (pos c.year) c.month = subst (λ k. c.day ≤ k) (sym (same_month c.year c.month)) within in
     ((omega (arith, signed_arith), omega (arith, signed_arith)), (low, r.month), (early, late))
 
 pub civil_is : (c : Civil) → IsCivilDate (pos c.year) c.month c.day → 1970 ≤ c.year → c.hour < 24 → c.minute < 60 → c.second < 60 → is_civil c ≡ true
 civil_is c date year hour minute second =
     let high : c.year < 10000 = let h = date.0.1 in omega (arith, signed_arith) in
     let late : c.day ≤ days_in_month c.year c.month = subst (λ k. c.day ≤ k) (same_month c.year c.month) date.2.1 in
-    and_from (nat_le 1970 c.year && nat_lt c.year 10000) _ (and_from _ _ (le-leb 1970 c.year year) (lt-ltb c.year 10000 high))
-    (and_from (nat_le 1 c.month && nat_le c.month 12) _ (and_from _ _ (le-leb 1 c.month date.1.0) (le-leb c.month 12 date.1.1))
-    (and_from (nat_le 1 c.day && nat_le c.day (days_in_month c.year c.month)) _ (and_from _ _ (le-leb 1 c.day date.2.0) (le-leb c.day _ late))
-    (and_from (nat_lt c.hour 24) _ (lt-ltb c.hour 24 hour) (and_from (nat_lt c.minute 60) (nat_lt c.second 60) (lt-ltb c.minute 60 minute) (lt-ltb c.second 60 second)))))
+    let month = date.1 in
+    let day = date.2.0 in
+    grind (arith, nat_tests, month.0, month.1)
 
 -- the days of a civil date are its day number
 pub unix_day_number : (c : Civil) → is_civil c ≡ true → days_from_civil (pos c.year) c.month c.day ≡ pos (unix_days c)
@@ -129,12 +122,11 @@ utc_seconds c h = (early, late)
         omega (arith, r.hour, r.minute, r.second)
 
     late : unix_seconds c < 2_524_608_000 → c.year ≤ 2049
-    late small = go (cases_lt c.year 2050)
-      where
-        go : (c.year < 2050) ⊎ (2050 ≤ c.year) → c.year ≤ 2049
-        go (inl l) = omega arith
-        go (inr l) =
-            let e : days_of_years 80 ≡ 29220 = refl in
-            let same : c.year - 2050 + 80 ≡ c.year - 1970 = omega arith in
-            let more : days_of_years 80 ≤ days_of_years (c.year - 1970) = subst (λ m. days_of_years 80 ≤ days_of_years m) same (years_grow 80 (c.year - 2050)) in
-            absurd (omega (arith, small))
+    late small = elim (cases_lt c.year 2050) [
+      | inl l ↦ omega arith
+      | inr l ↦
+          let e : days_of_years 80 ≡ 29220 = refl in
+          let same : c.year - 2050 + 80 ≡ c.year - 1970 = omega arith in
+          let more : days_of_years 80 ≤ days_of_years (c.year - 1970) = subst (λ m. days_of_years 80 ≤ days_of_years m) same (years_grow 80 (c.year - 2050)) in
+          absurd (omega (arith, small))
+    ]

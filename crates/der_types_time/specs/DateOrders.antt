@@ -1,16 +1,15 @@
 -- The order of dates: that of years, then of months, days, hours, minutes and seconds.
-use Rattle.std.specs.Prelude.{◌≡◌, ℕ, ◌+◌, ◌<◌, ◌/◌, ◌%◌, List, [], ◌∷◌, ◌++◌, length}
-use Rattle.std.proofs.Common.{ap, sym, ◌∙◌, arith, inl, inr}
-use Rattle.std.proofs.lemmas.Bool.{cases_lt}
+use Rattle.std.specs.Prelude.{◌≡◌, ℕ, ◌+◌, ◌/◌, ◌%◌, List, [], ◌∷◌, ◌++◌, length}
+use Rattle.std.proofs.Common.{ap, sym, ◌∙◌, arith}
+use Rattle.std.proofs.lemmas.Bool.Decides.{nat_tests}
 use Rattle.std.specs.Cmp.Lexicographic.{slice_cmp}
 use Rattle.std.specs.Ordering.{nat_cmp, ordering_then}
 use Rattle.std.specs.declared.cmp.Ordering.{Ordering}
-use Rattle.std.specs.declared.cmp.Ordering.TheVariants.{Less, Equal, Greater}
 use Rattle.der_core_head.specs.Dates.{Civil, two_digits, after_year, generalized_octets}
 use Rattle.der_core_head.specs.Leaves.{generalized_time}
 use Rattle.der_core_head.specs.Shapes.{leaf, contents, IsContent}
 use Rattle.der_core.specs.Orders.{contents_cmp}
-use Rattle.der_core.proofs.HeadOrders.{nat_cmp-less, nat_cmp-greater, nat_cmp-same, split_cmp}
+use Rattle.der_core.proofs.HeadOrders.{split_cmp}
 use Rattle.der_core.proofs.OrderLaws.{then_assoc, then_equal}
 
 abbrev pub civil_cmp : Civil → Civil → Ordering
@@ -20,25 +19,8 @@ civil_cmp c d =
     (ordering_then (nat_cmp c.hour d.hour)
     (ordering_then (nat_cmp c.minute d.minute) (nat_cmp c.second d.second)))))
 
--- one number, and then the others
-pub first_cmp : (m n : ℕ) (o r : Ordering) → (m < n → o ≡ Less) → (n < m → o ≡ Greater)
-    → (m ≡ n → o ≡ r) → o ≡ ordering_then (nat_cmp m n) r
-first_cmp m n o r less greater same =
-    elim (cases_lt m n) [
-      | inl l ↦ rw (nat_cmp-less m n l) (less l)
-      | inr l ↦ elim (cases_lt n m) [
-        | inl k ↦ rw (nat_cmp-greater m n k) (greater k)
-        | inr k ↦ let e : m ≡ n = omega arith in rw (nat_cmp-same m n e) (same e)
-      ]
-    ]
-
 digit_cmp : (m n : ℕ) → nat_cmp (48 + m) (48 + n) ≡ nat_cmp m n
-digit_cmp m n =
-    first_cmp m n (nat_cmp (48 + m) (48 + n)) Equal
-    (λ l. nat_cmp-less (48 + m) (48 + n) (omega arith))
-    (λ l. nat_cmp-greater (48 + m) (48 + n) (omega arith))
-    (λ e. nat_cmp-same (48 + m) (48 + n) (omega arith))
-    ∙ then_equal (nat_cmp m n)
+digit_cmp m n = grind (arith, nat_tests)
 
 two_digits_cmp : (m n : ℕ) (v w : List ℕ)
     → slice_cmp nat_cmp (two_digits m ++ v) (two_digits n ++ w)

@@ -6,16 +6,14 @@ ghost use Rattle.der_core_head.specs.Dates.{generalized_octets};
 ghost use Rattle.der_core_head.specs.declared.tag.Tag.TheVariants.{GeneralizedTime as GeneralizedTimeTag};
 ghost use Rattle.der_core_head.specs.Leaves.{generalized_time, leaf_read};
 ghost use Rattle.der_core_head.specs.Reading.{GivesNow};
-ghost use Rattle.der_core_head.specs.Shapes.{leaf};
 ghost use Rattle.der_types_time.specs.DateOrders.{generalized_order};
 ghost use Rattle.der_types_time.specs.Seconds.{unix_seconds};
 
 use crate::date_text::{date_of, two, two_digits};
 use crate::date_time::DateTime;
-use der_core::making::decode_leaf;
+use der_core::describing::{AsLeaf, Described, EncodeLeaf, Primitive};
 use der_core::{
-    DecodeValue, EncodeValue, Error, ErrorKind, FixedTag, Header, Leaf, Length, OrdIsValueOrd,
-    Reader, ShapedValue, Tag, ValueOrd, Writer,
+    EncodeValue, Error, ErrorKind, FixedTag, Leaf, Length, OrdIsValueOrd, Tag, ValueOrd, Writer,
 };
 use std::alloc::Global;
 use std::cmp::Ordering;
@@ -129,12 +127,18 @@ impl FixedTag for GeneralizedTime {
     }
 }
 
-/// `YYYYMMDDHHMMSSZ`.
-impl<'a> Leaf<'a> for GeneralizedTime {
+impl Described for GeneralizedTime {
+    type By = AsLeaf;
+}
+
+impl Primitive for GeneralizedTime {
     ghost kind = { generalized_time };
 
     ghost leaf_plain = { λ x. x };
+}
 
+/// `YYYYMMDDHHMMSSZ`.
+impl<'a> Leaf<'a> for GeneralizedTime {
     ghost takes_memory = { false };
 
     fn from_content(_alloc: Global, tag: Tag, octets: &'a [u8]) -> Result<GeneralizedTime, Error> {
@@ -143,31 +147,13 @@ impl<'a> Leaf<'a> for GeneralizedTime {
     }
 }
 
-impl ShapedValue for GeneralizedTime {
-    ghost content = { leaf (generalized_time) };
-
-    ghost value_plain = { λ x. x };
-
-    ghost value_written = { λ x. x };
-}
-
-impl<'a, R: Reader<'a>> DecodeValue<'a, R> for GeneralizedTime {
-    fn decode_value(
-        alloc: Global,
-        reader: &mut R,
-        header: Header,
-    ) -> Result<GeneralizedTime, Error> {
-        decode_leaf(alloc, reader, header)
-    }
-}
-
-impl EncodeValue for GeneralizedTime {
+impl EncodeLeaf for GeneralizedTime {
     #[tactic(auto, unfolding(der_core_head::specs::Dates::generalized_octets))]
-    fn value_len(&self) -> Result<Length, Error> {
+    fn leaf_len(&self) -> Result<Length, Error> {
         Ok(Length { value: 15 })
     }
 
-    fn encode_value<W: Writer>(&self, writer: &mut W) -> Result<(), Error> {
+    fn encode_leaf<W: Writer>(&self, writer: &mut W) -> Result<(), Error> {
         writer.write(&self.to_content())
     }
 }
@@ -235,12 +221,18 @@ impl FixedTag for DateTime {
     }
 }
 
-/// `YYYYMMDDHHMMSSZ`.
-impl<'a> Leaf<'a> for DateTime {
+impl Described for DateTime {
+    type By = AsLeaf;
+}
+
+impl Primitive for DateTime {
     ghost kind = { generalized_time };
 
     ghost leaf_plain = { λ x. x };
+}
 
+/// `YYYYMMDDHHMMSSZ`.
+impl<'a> Leaf<'a> for DateTime {
     ghost takes_memory = { false };
 
     fn from_content(alloc: Global, tag: Tag, octets: &'a [u8]) -> Result<DateTime, Error> {
@@ -249,26 +241,12 @@ impl<'a> Leaf<'a> for DateTime {
     }
 }
 
-impl ShapedValue for DateTime {
-    ghost content = { leaf (generalized_time) };
-
-    ghost value_plain = { λ x. x };
-
-    ghost value_written = { λ x. x };
-}
-
-impl<'a, R: Reader<'a>> DecodeValue<'a, R> for DateTime {
-    fn decode_value(alloc: Global, reader: &mut R, header: Header) -> Result<DateTime, Error> {
-        decode_leaf(alloc, reader, header)
-    }
-}
-
-impl EncodeValue for DateTime {
-    fn value_len(&self) -> Result<Length, Error> {
+impl EncodeLeaf for DateTime {
+    fn leaf_len(&self) -> Result<Length, Error> {
         GeneralizedTime::from_date_time(*self).value_len()
     }
 
-    fn encode_value<W: Writer>(&self, writer: &mut W) -> Result<(), Error> {
+    fn encode_leaf<W: Writer>(&self, writer: &mut W) -> Result<(), Error> {
         GeneralizedTime::from_date_time(*self).encode_value(writer)
     }
 }

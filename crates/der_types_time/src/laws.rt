@@ -14,6 +14,7 @@ use crate::utc_time::UtcTime;
 use std::cmp::Ord;
 
 /// Dates are in the order of their seconds, by `cmp`, and so are the times of either type.
+#[tactic(auto, using(crate::proofs::SecondsOrders::seconds_cmp))]
 pub fn order_is_that_of_seconds()
     ensures dates { (c d : Civil) → is_civil c ≡ true → is_civil d ≡ true
         → ⟦<DateTime as Ord>⟧.cmp c d ≡ nat_cmp (unix_seconds c) (unix_seconds d) }

@@ -3,7 +3,6 @@
 
 mod date_text;
 mod date_time;
-mod elements;
 mod generalized_time;
 mod in_range;
 pub mod laws;

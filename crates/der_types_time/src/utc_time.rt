@@ -7,16 +7,12 @@ ghost use Rattle.der_core_head.specs.Dates.{IsUtc, utc_octets};
 ghost use Rattle.der_core_head.specs.declared.tag.Tag.TheVariants.{UtcTime as UtcTimeTag};
 ghost use Rattle.der_core_head.specs.Leaves.{utc_time, leaf_read};
 ghost use Rattle.der_core_head.specs.Reading.{GivesNow};
-ghost use Rattle.der_core_head.specs.Shapes.{leaf};
 ghost use Rattle.der_types_time.specs.Seconds.{unix_seconds};
 
 use crate::date_text::{date_of, two, two_digits};
 use crate::date_time::DateTime;
-use der_core::making::decode_leaf;
-use der_core::{
-    DecodeValue, EncodeValue, Error, ErrorKind, FixedTag, Header, Leaf, Length, Reader,
-    ShapedValue, Tag, ValueOrd, Writer,
-};
+use der_core::describing::{AsLeaf, Described, EncodeLeaf, Primitive};
+use der_core::{Error, ErrorKind, FixedTag, Leaf, Length, Tag, ValueOrd, Writer};
 use std::alloc::Global;
 use std::cmp::Ordering;
 use std::marker::Model;
@@ -143,12 +139,18 @@ impl FixedTag for UtcTime {
     }
 }
 
-/// `YYMMDDHHMMSSZ`.
-impl<'a> Leaf<'a> for UtcTime {
+impl Described for UtcTime {
+    type By = AsLeaf;
+}
+
+impl Primitive for UtcTime {
     ghost kind = { utc_time };
 
     ghost leaf_plain = { λ x. x };
+}
 
+/// `YYMMDDHHMMSSZ`.
+impl<'a> Leaf<'a> for UtcTime {
     ghost takes_memory = { false };
 
     fn from_content(_alloc: Global, tag: Tag, octets: &'a [u8]) -> Result<UtcTime, Error> {
@@ -157,27 +159,13 @@ impl<'a> Leaf<'a> for UtcTime {
     }
 }
 
-impl ShapedValue for UtcTime {
-    ghost content = { leaf (utc_time) };
-
-    ghost value_plain = { λ x. x };
-
-    ghost value_written = { λ x. x };
-}
-
-impl<'a, R: Reader<'a>> DecodeValue<'a, R> for UtcTime {
-    fn decode_value(alloc: Global, reader: &mut R, header: Header) -> Result<UtcTime, Error> {
-        decode_leaf(alloc, reader, header)
-    }
-}
-
-impl EncodeValue for UtcTime {
+impl EncodeLeaf for UtcTime {
     #[tactic(auto, unfolding(der_core_head::specs::Dates::utc_octets))]
-    fn value_len(&self) -> Result<Length, Error> {
+    fn leaf_len(&self) -> Result<Length, Error> {
         Ok(Length { value: 13 })
     }
 
-    fn encode_value<W: Writer>(&self, writer: &mut W) -> Result<(), Error> {
+    fn encode_leaf<W: Writer>(&self, writer: &mut W) -> Result<(), Error> {
         writer.write(&self.to_content())
     }
 }

@@ -20,16 +20,13 @@ use Rattle.der_types_values.proofs.LastOctet.{last_octet-get_or}
 none_of : (n : ℕ) → n ≡ 0 → length (set_octets n) ≡ 0
 none_of n e = ap (λ m. length (set_octets m)) e ∙ ap (λ (w : List ℕ). length w) set_octets-zero
 
-shorter : (k n : ℕ) → (n ≡ 0) ⊎ (n ≡ 0 → ⊥) → (0 < n → length (set_octets (n / 256)) ≤ k) → length (set_octets n) ≤ suc k
-shorter k n (inl none) next = omega (arith, none_of n none)
-shorter k n (inr some) next =
-    let e = ap (λ (w : List ℕ). length w) (set_octets-step n (omega arith)) in
-    omega (arith, next (omega arith))
-
 -- a number below 256 to the k has at most k octets
 pub set_octets-short : (k n : ℕ) → n < 256 ^ k → length (set_octets n) ≤ k
 set_octets-short zero n h = omega (arith, none_of n (omega arith))
-set_octets-short (suc k) n h = shorter k n (cases_eq n 0) (λ some. set_octets-short k (n / 256) (div_below n 256 (256 ^ k) (omega arith) (rw pow-suc at h)))
+set_octets-short (suc k) n h = elim (cases_eq n 0) [
+  | inl none ↦ omega (arith, none_of n none)
+  | inr some ↦ omega (arith, ap (λ (w : List ℕ). length w) (set_octets-step n (omega arith)), set_octets-short k (n / 256) (div_below n 256 (256 ^ k) (omega arith) (rw pow-suc at h)))
+]
 
 -- Reading
 
@@ -98,10 +95,8 @@ left_some left (suc k) some h = omega arith
 pub left_next : (left k : ℕ) → 0 < left → left < 256 ^ k → left / 256 < 256 ^ (k - 1)
 left_next left zero some h = absurd (omega arith)
 left_next left (suc k) some h =
-    let next : left / 256 < 256 ^ k = div_below left 256 (256 ^ k) (omega arith) (rw pow-suc at h) in
-    let place : k ≡ suc k - 1 = omega arith in
-    let P : ℕ → Type 0 = λ m. left / 256 < 256 ^ m in
-    subst P place next
+    let place : suc k - 1 ≡ k = omega arith in
+    rw place (div_below left 256 (256 ^ k) (omega arith) (rw pow-suc at h))
 
 pub set_octets-more : (octets : List ℕ) (len left : ℕ) (all : List ℕ) → len < length octets → 0 < left → take len octets ++ set_octets left ≡ all
     → take (len + 1) (slice_set octets len (reverse_bits w8 (left % 256))) ++ set_octets (left / 256) ≡ all
@@ -112,10 +107,9 @@ set_octets-more octets len left all h some e =
     ∙ e
 
 unused_take : (k : ℕ) (w : List ℕ) → k < length w → unused_bits (take (suc k) w) ≡ trailing_zeros w8 (get_or w k 0)
-unused_take k [] h = absurd (omega arith)
 unused_take zero (x ∷ w) h = refl
-unused_take (suc k) (x ∷ []) h = absurd (omega arith)
 unused_take (suc k) (x ∷ y ∷ w) h = unused_take k (y ∷ w) (omega arith)
+unused_take k w h = absurd (omega arith)
 
 done : (octets : List ℕ) (len left n : ℕ) → left ≡ 0 → take len octets ++ set_octets left ≡ 0 ∷ set_octets n → take len octets ≡ 0 ∷ set_octets n
 done octets len left n none e =
@@ -124,9 +118,6 @@ done octets len left n none e =
 pub named_some : (octets : List ℕ) (len left n : ℕ) → 1 < len → len ≤ length octets → left ≡ 0 → take len octets ++ set_octets left ≡ 0 ∷ set_octets n
     → take len (slice_set octets 0 (trailing_zeros w8 (get_or octets (len - 1) 0))) ≡ named_octets n
 unfolding named_octets
-named_some [] len left n one h none e = absurd (omega arith)
-named_some (a ∷ w) zero left n one h none e = absurd (omega arith)
-named_some (a ∷ w) (suc zero) left n one h none e = absurd (omega arith)
 named_some (a ∷ w) (suc (suc k)) left n one h none e =
     let all = done (a ∷ w) (suc (suc k)) left n none e in
     let front : take (suc k) w ≡ set_octets n = cc in
@@ -134,6 +125,7 @@ named_some (a ∷ w) (suc (suc k)) left n one h none e =
     let last : trailing_zeros w8 (get_or (a ∷ w) (suc (suc k) - 1) 0) ≡ unused_bits (set_octets n) =
     ap (λ i. trailing_zeros w8 (get_or (a ∷ w) i 0)) place ∙ sym (unused_take k w (omega arith)) ∙ ap unused_bits front in
     ap (λ t. t ∷ take (suc k) w) last ∙ ap (λ (u : List ℕ). unused_bits (set_octets n) ∷ u) front
+named_some octets len left n one h none e = absurd (omega arith)
 
 pub named_none : (octets : List ℕ) (len left n : ℕ) → len ≡ 1 → len ≤ length octets → left ≡ 0 → take len octets ++ set_octets left ≡ 0 ∷ set_octets n → take len octets ≡ named_octets n
 unfolding named_octets

@@ -10,7 +10,6 @@ ghost use Rattle.der_core_head.specs.Limits.{IsLength, length_max};
 ghost use Rattle.der_core_head.specs.BitStrings.{are_bits, bit_contents};
 ghost use Rattle.der_core_head.specs.declared.tag.Tag.TheVariants.{BitString as BitStringTag};
 ghost use Rattle.der_core_head.specs.Leaves.{bits};
-ghost use Rattle.der_core_head.specs.Shapes.{leaf};
 ghost use Rattle.der_types_values.specs.Bits.{bit_at, bit_count, bit_list};
 ghost use Rattle.der_types_values.specs.BitOrders.{bits_cmp, bits_cmp_total, bits_cmp_ties};
 ghost use Rattle.der_types_values.specs.BitOrders.{bits_fed, bits_fed_alike};
@@ -19,11 +18,8 @@ ghost use Rattle.der_types_values.specs.BitStrings.{bits_lent, bits_left};
 use crate::bit_string_iter::BitStringIter;
 use crate::bit_string_ref::{AsBitStringRef, BitStringRef};
 use crate::bits::check_bits;
-use der_core::making::decode_leaf;
-use der_core::{
-    DecodeValue, EncodeValue, Error, ErrorKind, FixedTag, Header, Leaf, Length, Reader,
-    ShapedValue, Tag, Writer,
-};
+use der_core::describing::{AsLeaf, Described, EncodeLeaf, Primitive};
+use der_core::{EncodeValue, Error, ErrorKind, FixedTag, Leaf, Length, Tag, Writer};
 use std::alloc::{AllocError, Global};
 use std::cmp::Ordering;
 use std::hash::{Hash, Hasher};
@@ -252,38 +248,30 @@ impl FixedTag for BitString {
     }
 }
 
-/// The number of unused bits, and the octets.
-impl<'a> Leaf<'a> for BitString {
+impl Described for BitString {
+    type By = AsLeaf;
+}
+
+impl Primitive for BitString {
     ghost kind = { bits };
 
     ghost leaf_plain = { λ x. x };
+}
 
+/// The number of unused bits, and the octets.
+impl<'a> Leaf<'a> for BitString {
     fn from_content(alloc: Global, tag: Tag, octets: &'a [u8]) -> Result<BitString, Error> {
         let lent = BitStringRef::from_content(alloc, tag, octets)?;
         Ok(BitString::copy_of(alloc, &lent)?)
     }
 }
 
-impl ShapedValue for BitString {
-    ghost content = { leaf bits };
-
-    ghost value_plain = { λ x. x };
-
-    ghost value_written = { λ x. x };
-}
-
-impl<'a, R: Reader<'a>> DecodeValue<'a, R> for BitString {
-    fn decode_value(alloc: Global, reader: &mut R, header: Header) -> Result<BitString, Error> {
-        decode_leaf(alloc, reader, header)
-    }
-}
-
-impl EncodeValue for BitString {
-    fn value_len(&self) -> Result<Length, Error> {
+impl EncodeLeaf for BitString {
+    fn leaf_len(&self) -> Result<Length, Error> {
         self.owned_to_ref().value_len()
     }
 
-    fn encode_value<W: Writer>(&self, writer: &mut W) -> Result<(), Error> {
+    fn encode_leaf<W: Writer>(&self, writer: &mut W) -> Result<(), Error> {
         self.owned_to_ref().encode_value(writer)
     }
 }

@@ -8,17 +8,14 @@ ghost use Rattle.der_core_head.specs.declared.tag.Tag.TheVariants.{BitString as 
 ghost use Rattle.der_core_head.specs.BitStrings.{Bits, are_bits};
 ghost use Rattle.der_core_head.specs.Leaves.{bits, leaf_read};
 ghost use Rattle.der_core_head.specs.Reading.{GivesNow};
-ghost use Rattle.der_core_head.specs.Shapes.{leaf};
 ghost use Rattle.der_types_values.specs.Bits.{bit_at, bit_count, bit_list};
 
 use crate::bit_string::BitString;
 use crate::bit_string_iter::BitStringIter;
 use crate::bits::{bit_of, check_bits, may_be_unused};
-use der_core::making::{decode_leaf, encode_behind, len_behind};
-use der_core::{
-    DecodeValue, EncodeValue, Error, ErrorKind, FixedTag, Header, Leaf, Length, Reader,
-    ShapedValue, Tag, Writer,
-};
+use der_core::describing::{AsLeaf, Described, EncodeLeaf, Primitive};
+use der_core::making::{encode_behind, len_behind};
+use der_core::{Error, ErrorKind, FixedTag, Leaf, Length, Tag, Writer};
 use std::alloc::{AllocError, Global};
 
 /// BIT STRING (X.690 8.6, 11.2): octets, fewer than 2^32, of whose last one up to seven bits are
@@ -222,14 +219,20 @@ impl<'a> FixedTag for BitStringRef<'a> {
     }
 }
 
-/// The number of unused bits, and the octets.
-impl<'a> Leaf<'a> for BitStringRef<'a> {
+impl<'a> Described for BitStringRef<'a> {
+    type By = AsLeaf;
+}
+
+impl<'a> Primitive for BitStringRef<'a> {
     ghost use Rattle.der_types_values.specs.BitStrings.{bits_lent};
 
     ghost kind = { bits };
 
     ghost leaf_plain = { bits_lent };
+}
 
+/// The number of unused bits, and the octets.
+impl<'a> Leaf<'a> for BitStringRef<'a> {
     ghost takes_memory = { false };
 
     fn from_content(_alloc: Global, tag: Tag, octets: &'a [u8]) -> Result<BitStringRef<'a>, Error> {
@@ -238,32 +241,12 @@ impl<'a> Leaf<'a> for BitStringRef<'a> {
     }
 }
 
-impl<'a> ShapedValue for BitStringRef<'a> {
-    ghost use Rattle.der_types_values.specs.BitStrings.{bits_lent};
-
-    ghost content = { leaf bits };
-
-    ghost value_plain = { bits_lent };
-
-    ghost value_written = { bits_lent };
-}
-
-impl<'a, R: Reader<'a>> DecodeValue<'a, R> for BitStringRef<'a> {
-    fn decode_value(
-        alloc: Global,
-        reader: &mut R,
-        header: Header,
-    ) -> Result<BitStringRef<'a>, Error> {
-        decode_leaf(alloc, reader, header)
-    }
-}
-
-impl<'a> EncodeValue for BitStringRef<'a> {
-    fn value_len(&self) -> Result<Length, Error> {
+impl<'a> EncodeLeaf for BitStringRef<'a> {
+    fn leaf_len(&self) -> Result<Length, Error> {
         len_behind(self.byte_len())
     }
 
-    fn encode_value<W: Writer>(&self, writer: &mut W) -> Result<(), Error> {
+    fn encode_leaf<W: Writer>(&self, writer: &mut W) -> Result<(), Error> {
         encode_behind(writer, self.unused_bits, self.bytes)
     }
 }

@@ -6,18 +6,14 @@ ghost use Rattle.std.specs.Cmp.{on_per, on_equiv, nat_eq_equiv, partial_equiv_fr
 ghost use Rattle.std.specs.Int.RustNames.{bit_and, bit_or};
 ghost use Rattle.bitflags.specs.Sets.{known_bits};
 ghost use Rattle.der_core_head.specs.declared.tag.Tag.TheVariants.{BitString};
-ghost use Rattle.der_core_head.specs.Shapes.{leaf};
 ghost use Rattle.der_core_head.specs.Leaves.{named};
 ghost use Rattle.der_core_head.specs.NamedBits.{ends_in_one, spelled_set, named_octets};
 ghost use Rattle.der_core_head.specs.NamedBits.{named_read};
 ghost use Rattle.der_core_head.specs.Reading.{GivesNow};
 
 use bitflags::Flags;
-use der_core::making::decode_leaf;
-use der_core::{
-    DecodeValue, EncodeValue, Error, ErrorKind, FixedTag, Header, Leaf, Length, Reader,
-    ShapedValue, Tag, ValueOrd, Writer,
-};
+use der_core::describing::{AsLeaf, Described, EncodeLeaf, Primitive};
+use der_core::{Error, ErrorKind, FixedTag, Leaf, Length, Tag, ValueOrd, Writer};
 use std::alloc::{AllocError, Global};
 use std::cmp::Ordering;
 
@@ -205,12 +201,18 @@ impl<F: NamedBits> FixedTag for FlagSet<F> {
     }
 }
 
-/// The bits up to the last one, and how many bits of the last octet are unused.
-impl<'a, F: NamedBits> Leaf<'a> for FlagSet<F> {
+impl<F: NamedBits> Described for FlagSet<F> {
+    type By = AsLeaf;
+}
+
+impl<F: NamedBits> Primitive for FlagSet<F> {
     ghost kind = { named F.names };
 
     ghost leaf_plain = { λ s. F.set_of s.flags };
+}
 
+/// The bits up to the last one, and how many bits of the last octet are unused.
+impl<'a, F: NamedBits> Leaf<'a> for FlagSet<F> {
     ghost takes_memory = { false };
 
     fn from_content(_alloc: Global, tag: Tag, octets: &'a [u8]) -> Result<FlagSet<F>, Error> {
@@ -221,27 +223,13 @@ impl<'a, F: NamedBits> Leaf<'a> for FlagSet<F> {
     }
 }
 
-impl<F: NamedBits> ShapedValue for FlagSet<F> {
-    ghost content = { leaf (named F.names) };
-
-    ghost value_plain = { λ s. F.set_of s.flags };
-
-    ghost value_written = { λ s. F.set_of s.flags };
-}
-
-impl<'a, R: Reader<'a>, F: NamedBits> DecodeValue<'a, R> for FlagSet<F> {
-    fn decode_value(alloc: Global, reader: &mut R, header: Header) -> Result<FlagSet<F>, Error> {
-        decode_leaf(alloc, reader, header)
-    }
-}
-
-impl<F: NamedBits> EncodeValue for FlagSet<F> {
-    fn value_len(&self) -> Result<Length, Error> {
+impl<F: NamedBits> EncodeLeaf for FlagSet<F> {
+    fn leaf_len(&self) -> Result<Length, Error> {
         let (_, len) = named_octets_of(self.flags.to_number());
         Ok(Length { value: len as u32 })
     }
 
-    fn encode_value<W: Writer>(&self, writer: &mut W) -> Result<(), Error> {
+    fn encode_leaf<W: Writer>(&self, writer: &mut W) -> Result<(), Error> {
         let (octets, len) = named_octets_of(self.flags.to_number());
         writer.write(&octets[..len])
     }

@@ -6,9 +6,6 @@ use crate::bit_string::BitString;
 use crate::bit_string_ref::{AsBitStringRef, BitStringRef};
 use crate::flag_set::{FlagSet, NamedBits};
 use crate::null::Null;
-use crate::octet_string::OctetString;
-use crate::octet_string_ref::OctetStringRef;
-use crate::sequence_ref::SequenceRef;
 use der_core::InRangeValue;
 use der_core::making::octets_in_range;
 
@@ -32,22 +29,4 @@ impl<F: NamedBits> InRangeValue for FlagSet<F> {
 
 impl InRangeValue for Null {
     fn value_in_range(&self) {}
-}
-
-impl<'a> InRangeValue for OctetStringRef<'a> {
-    fn value_in_range(&self) {
-        octets_in_range(self.as_bytes());
-    }
-}
-
-impl InRangeValue for OctetString {
-    fn value_in_range(&self) {
-        octets_in_range(self.as_bytes());
-    }
-}
-
-impl<'a> InRangeValue for SequenceRef<'a> {
-    fn value_in_range(&self) {
-        octets_in_range(self.as_bytes());
-    }
 }

@@ -8,7 +8,6 @@ mod bit_string;
 mod bit_string_iter;
 mod bit_string_ref;
 mod bits;
-mod elements;
 mod flag_set;
 mod in_range;
 pub mod laws;

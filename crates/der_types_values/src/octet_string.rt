@@ -12,15 +12,12 @@ ghost use Rattle.std.specs.Ordering.{nat_cmp};
 ghost use Rattle.der_core_head.specs.Limits.{IsLength, length_max};
 ghost use Rattle.der_core_head.specs.declared.tag.Tag.TheVariants.{OctetString as OctetStringTag};
 ghost use Rattle.der_core_head.specs.Leaves.{octets};
-ghost use Rattle.der_core_head.specs.Shapes.{leaf};
 ghost use Rattle.der_types_values.specs.OctetStrings.{octets_lent};
 
 use crate::octet_string_ref::OctetStringRef;
-use der_core::making::{decode_leaf, slice_len};
-use der_core::{
-    DecodeValue, EncodeValue, Error, ErrorKind, FixedTag, Header, Leaf, Length, Reader,
-    ShapedValue, Tag, Writer,
-};
+use der_core::describing::{AsOctets, Described, Octets, Ordered, Primitive};
+use der_core::making::octets_in_range;
+use der_core::{Error, ErrorKind, FixedTag, Leaf, Length, Tag};
 use std::alloc::{AllocError, Global};
 use std::cmp::Ordering;
 use std::convert::AsSlice;
@@ -133,6 +130,15 @@ impl AsSlice<u8> for OctetString {
     }
 }
 
+/// The octets, given back.
+impl From<OctetString> for Vec<u8> {
+    ghost from_gives = { λ string bytes. bytes.items ≡ string };
+
+    fn from(string: OctetString) -> Vec<u8> {
+        string.into_bytes()
+    }
+}
+
 /// A copy, in memory of the same allocator.
 impl Clone for OctetString {
     ghost is_clone = { λ x y. y ≡ x };
@@ -201,38 +207,30 @@ impl FixedTag for OctetString {
     }
 }
 
-/// The octets.
-impl<'a> Leaf<'a> for OctetString {
+impl Described for OctetString {
+    type By = AsOctets;
+}
+
+impl Primitive for OctetString {
     ghost kind = { octets };
 
     ghost leaf_plain = { λ x. x };
+}
 
+/// The octets.
+impl<'a> Leaf<'a> for OctetString {
     fn from_content(alloc: Global, _tag: Tag, octets: &'a [u8]) -> Result<OctetString, Error> {
         let bytes = octets.to_vec(alloc)?;
         Ok(OctetString { bytes })
     }
 }
 
-impl ShapedValue for OctetString {
-    ghost content = { leaf octets };
-
-    ghost value_plain = { λ x. x };
-
-    ghost value_written = { λ x. x };
-}
-
-impl<'a, R: Reader<'a>> DecodeValue<'a, R> for OctetString {
-    fn decode_value(alloc: Global, reader: &mut R, header: Header) -> Result<OctetString, Error> {
-        decode_leaf(alloc, reader, header)
+impl Octets for OctetString {
+    fn content(&self) -> &[u8] {
+        octets_in_range(self.as_bytes());
+        self.as_bytes()
     }
 }
 
-impl EncodeValue for OctetString {
-    fn value_len(&self) -> Result<Length, Error> {
-        slice_len(self.as_bytes())
-    }
-
-    fn encode_value<W: Writer>(&self, writer: &mut W) -> Result<(), Error> {
-        writer.write(self.as_bytes())
-    }
-}
+/// The octets themselves (X.690 8.7).
+impl Ordered for OctetString {}

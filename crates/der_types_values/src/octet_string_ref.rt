@@ -7,17 +7,15 @@ ghost use Rattle.der_core_head.specs.Limits.{length_max, levels_max};
 ghost use Rattle.der_core_head.specs.Heads.{Fits};
 ghost use Rattle.der_core_head.specs.declared.tag.Tag.TheVariants.{OctetString as OctetStringTag};
 ghost use Rattle.der_core_head.specs.Leaves.{octets};
-ghost use Rattle.der_core_head.specs.Shapes.{leaf, Value, Spells};
+ghost use Rattle.der_core_head.specs.Shapes.{Value, Spells};
 ghost use Rattle.der_core_head.specs.Spelling.{is_apart, are_enough};
 ghost use Rattle.der_core_head.specs.Grammar.{read_whole};
 ghost use Rattle.der_core_head.specs.Reading.{Gives};
 
 use crate::octet_string::OctetString;
-use der_core::making::{decode_leaf, slice_len};
-use der_core::{
-    Decode, DecodeValue, EncodeValue, Error, ErrorKind, FixedTag, Header, Leaf, Length, Reader,
-    ShapedValue, SliceReader, Tag, Writer, from_der,
-};
+use der_core::describing::{AsOctets, Described, Octets, Ordered, Primitive};
+use der_core::making::octets_in_range;
+use der_core::{Decode, Error, ErrorKind, FixedTag, Leaf, Length, SliceReader, Tag, from_der};
 use std::alloc::{AllocError, Global};
 use std::convert::AsSlice;
 
@@ -147,12 +145,20 @@ impl<'a> FixedTag for OctetStringRef<'a> {
     }
 }
 
-/// The octets.
-impl<'a> Leaf<'a> for OctetStringRef<'a> {
+impl<'a> Described for OctetStringRef<'a> {
+    type By = AsOctets;
+}
+
+impl<'a> Primitive for OctetStringRef<'a> {
+    ghost use Rattle.der_types_values.specs.OctetStrings.{octets_lent};
+
     ghost kind = { octets };
 
-    ghost leaf_plain = { λ o. o.bytes.now };
+    ghost leaf_plain = { octets_lent };
+}
 
+/// The octets.
+impl<'a> Leaf<'a> for OctetStringRef<'a> {
     ghost takes_memory = { false };
 
     fn from_content(
@@ -164,32 +170,12 @@ impl<'a> Leaf<'a> for OctetStringRef<'a> {
     }
 }
 
-impl<'a> ShapedValue for OctetStringRef<'a> {
-    ghost use Rattle.der_types_values.specs.OctetStrings.{octets_lent};
-
-    ghost content = { leaf octets };
-
-    ghost value_plain = { octets_lent };
-
-    ghost value_written = { octets_lent };
-}
-
-impl<'a, R: Reader<'a>> DecodeValue<'a, R> for OctetStringRef<'a> {
-    fn decode_value(
-        alloc: Global,
-        reader: &mut R,
-        header: Header,
-    ) -> Result<OctetStringRef<'a>, Error> {
-        decode_leaf(alloc, reader, header)
+impl<'a> Octets for OctetStringRef<'a> {
+    fn content(&self) -> &[u8] {
+        octets_in_range(self.as_bytes());
+        self.bytes
     }
 }
 
-impl<'a> EncodeValue for OctetStringRef<'a> {
-    fn value_len(&self) -> Result<Length, Error> {
-        slice_len(self.bytes)
-    }
-
-    fn encode_value<W: Writer>(&self, writer: &mut W) -> Result<(), Error> {
-        writer.write(self.bytes)
-    }
-}
+/// The octets themselves (X.690 8.7).
+impl<'a> Ordered for OctetStringRef<'a> {}

@@ -9,28 +9,11 @@ use crate::null::Null;
 use crate::octet_string::OctetString;
 use crate::octet_string_ref::OctetStringRef;
 use crate::sequence_ref::SequenceRef;
-use der_core::making::value_cmp_by_contents;
 use der_core::{Error, OrdIsValueOrd, ValueOrd};
 use std::cmp::Ordering;
 
-/// The octets themselves (X.690 8.7).
-impl<'a> ValueOrd for OctetStringRef<'a> {
-    #[tactic(auto, using(der_core::proofs::LeafOrders::leaf_contents))]
-    fn value_cmp(&self, other: &Self) -> Result<Ordering, Error> {
-        Ok(value_cmp_by_contents(self.as_bytes(), other.as_bytes()))
-    }
-}
-
 impl<'a> OrdIsValueOrd for OctetStringRef<'a> {
     ghost order = { λ v w. octets_order octets (octets_lent v) (octets_lent w) };
-}
-
-/// The octets themselves (X.690 8.7).
-impl ValueOrd for OctetString {
-    #[tactic(auto, using(der_core::proofs::LeafOrders::leaf_contents))]
-    fn value_cmp(&self, other: &Self) -> Result<Ordering, Error> {
-        Ok(value_cmp_by_contents(self.as_bytes(), other.as_bytes()))
-    }
 }
 
 impl OrdIsValueOrd for OctetString {
@@ -47,14 +30,6 @@ impl ValueOrd for Null {
 
 impl OrdIsValueOrd for Null {
     ghost order = { λ _ _. null_order tt tt };
-}
-
-/// The content, as it stands.
-impl<'a> ValueOrd for SequenceRef<'a> {
-    #[tactic(auto, using(der_core::proofs::LeafOrders::leaf_contents))]
-    fn value_cmp(&self, other: &Self) -> Result<Ordering, Error> {
-        Ok(value_cmp_by_contents(self.as_bytes(), other.as_bytes()))
-    }
 }
 
 impl<'a> OrdIsValueOrd for SequenceRef<'a> {

@@ -5,13 +5,10 @@ ghost use Rattle.der_core_head.specs.Limits.{length_max};
 ghost use Rattle.der_core_head.specs.Heads.{Fits};
 ghost use Rattle.der_core_head.specs.declared.tag.Tag.TheVariants.{Sequence as SequenceTag};
 ghost use Rattle.der_core_head.specs.Leaves.{octets};
-ghost use Rattle.der_core_head.specs.Shapes.{leaf};
 
-use der_core::making::{decode_leaf, slice_len};
-use der_core::{
-    DecodeValue, EncodeValue, Error, ErrorKind, FixedTag, Header, Leaf, Length, Reader,
-    ShapedValue, Tag, Writer,
-};
+use der_core::describing::{AsOctets, Described, Octets, Ordered, Primitive};
+use der_core::making::octets_in_range;
+use der_core::{Error, ErrorKind, FixedTag, Leaf, Tag};
 use std::alloc::Global;
 use std::convert::AsSlice;
 
@@ -90,14 +87,20 @@ impl<'a> Sequence for SequenceRef<'a> {
     ghost is_sequence = { refl };
 }
 
-/// The content, as it stands.
-impl<'a> Leaf<'a> for SequenceRef<'a> {
+impl<'a> Described for SequenceRef<'a> {
+    type By = AsOctets;
+}
+
+impl<'a> Primitive for SequenceRef<'a> {
     ghost use Rattle.der_types_values.specs.Sequences.{fields_lent};
 
     ghost kind = { octets };
 
     ghost leaf_plain = { fields_lent };
+}
 
+/// The content, as it stands.
+impl<'a> Leaf<'a> for SequenceRef<'a> {
     ghost takes_memory = { false };
 
     fn from_content(_alloc: Global, _tag: Tag, octets: &'a [u8]) -> Result<SequenceRef<'a>, Error> {
@@ -105,32 +108,12 @@ impl<'a> Leaf<'a> for SequenceRef<'a> {
     }
 }
 
-impl<'a> ShapedValue for SequenceRef<'a> {
-    ghost use Rattle.der_types_values.specs.Sequences.{fields_lent};
-
-    ghost content = { leaf octets };
-
-    ghost value_plain = { fields_lent };
-
-    ghost value_written = { fields_lent };
-}
-
-impl<'a, R: Reader<'a>> DecodeValue<'a, R> for SequenceRef<'a> {
-    fn decode_value(
-        alloc: Global,
-        reader: &mut R,
-        header: Header,
-    ) -> Result<SequenceRef<'a>, Error> {
-        decode_leaf(alloc, reader, header)
+impl<'a> Octets for SequenceRef<'a> {
+    fn content(&self) -> &[u8] {
+        octets_in_range(self.as_bytes());
+        self.bytes
     }
 }
 
-impl<'a> EncodeValue for SequenceRef<'a> {
-    fn value_len(&self) -> Result<Length, Error> {
-        slice_len(self.bytes)
-    }
-
-    fn encode_value<W: Writer>(&self, writer: &mut W) -> Result<(), Error> {
-        writer.write(self.bytes)
-    }
-}
+/// The content, as it stands.
+impl<'a> Ordered for SequenceRef<'a> {}

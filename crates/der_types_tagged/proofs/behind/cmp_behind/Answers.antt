@@ -1,7 +1,6 @@
 use Rattle.std.proofs.Common.{rules, Ok, ap, sym, ◌∙◌}
 use Rattle.der_core.proofs.OrderLaws.{then_both}
-use Rattle.der_core.proofs.TagOrders.{never_long, tagged_content}
-use Rattle.der_types_tagged.proofs.FieldOrders.{first_over, second_over, headers_decide, contents_decide}
+use Rattle.der_core.proofs.TagOrders.{never_long, tagged_content, first_long, second_long, headers_decide, contents_decide}
 use Rattle.der_types_tagged.proofs.behind.cmp_behind.Goals as goal
 
 pub returns-in_err-len-clause-order : goal.returns-in_err-len-clause-order
@@ -10,7 +9,7 @@ returns-in_err-len-clause-order g c = λ apart p q.
 
 pub returns-in_err-len-clause-refused : goal.returns-in_err-len-clause-refused
 returns-in_err-len-clause-refused g c =
-    let long = first_over c.args.tag c.args.other_tag g.T.ShapedValue.content (g.T.ShapedValue.value_written c.args.value.now) (g.T.ShapedValue.value_written c.args.other.now) c.in_err-len.field-0.0 c.in_err-len.ensures in
+    let long = first_long c.args.tag c.args.other_tag g.T.ShapedValue.content (g.T.ShapedValue.value_written c.args.value.now) (g.T.ShapedValue.value_written c.args.other.now) c.in_err-len.field-0.0 c.in_err-len.ensures in
     search rules
 
 pub returns-in_err-other_len-clause-order : goal.returns-in_err-other_len-clause-order
@@ -19,7 +18,7 @@ returns-in_err-other_len-clause-order g c = λ apart p q.
 
 pub returns-in_err-other_len-clause-refused : goal.returns-in_err-other_len-clause-refused
 returns-in_err-other_len-clause-refused g c =
-    let long = second_over c.args.tag c.args.other_tag g.T.ShapedValue.content (g.T.ShapedValue.value_written c.args.value.now) (g.T.ShapedValue.value_written c.args.other.now) c.in_err-other_len.field-0.0 c.in_err-other_len.ensures in
+    let long = second_long c.args.tag c.args.other_tag g.T.ShapedValue.content (g.T.ShapedValue.value_written c.args.value.now) (g.T.ShapedValue.value_written c.args.other.now) c.in_err-other_len.field-0.0 c.in_err-other_len.ensures in
     search rules
 
 pub returns-then-is_ne-clause-order : goal.returns-then-is_ne-clause-order

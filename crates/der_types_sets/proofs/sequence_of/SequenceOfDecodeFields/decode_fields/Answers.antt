@@ -1,4 +1,4 @@
-use Rattle.std.proofs.Common.{◌≡◌, ◌≤◌, ◌-◌, [], ◌∷◌, sym, ap, ◌∙◌, arith}
+use Rattle.std.proofs.Common.{◌≡◌, ◌≤◌, ◌-◌, [], ◌∷◌, refl, sym, ap, ◌∙◌, arith}
 use Rattle.std.specs.Prelude.{◌≢◌}
 use Rattle.std.proofs.lemmas.List.{length-append}
 use Rattle.std.proofs.lemmas.Result.{err_from_is_err_and}
@@ -6,73 +6,50 @@ use Rattle.der_core_head.specs.declared.error.ErrorKind.TheVariants as kinds
 use Rattle.der_core_head.specs.Grammar.{read_many}
 use Rattle.der_core_head.specs.Reading.{State, read_at}
 use Rattle.der_core_octets.proofs.Nested.{broken_kept}
-use Rattle.der_core_octets.proofs.GoingOn.{frame_then, kept_then, rest_then}
-use Rattle.der_core_values.proofs.Lists.{goes_on, stops, is_done, is_over}
+use Rattle.der_core_values.proofs.Lists.{reached_none, reads_alike, reached_on, reached_fault, reached_end, reached_refused, many_on, many_fault, many_end, many_over}
 use Rattle.der_types_sets.proofs.sequence_of.SequenceOfDecodeFields.decode_fields.Goals as goal
 use Rattle.der_types_sets.proofs.sequence_of.SequenceOfDecodeFields.decode_fields.Goals.{else-loop-test, then-loop-test+then-is_finished}
 
+pub loop-init : goal.loop-init
+loop-init g c =
+    let old = g.R.Reader.state c.args.reader.now in
+    let all : g.row.N - 0 ≡ g.row.N = omega arith in
+    rw c.new-members.ensures (record { count = refl; reached = reached_none g.T.Shaped.shape g.T.Shaped.plain old _ _ (ap (λ n. read_many kinds.Overlength (read_at old g.T.Shaped.shape) n old.rest) all) })
+
 pub returns-in_err-member : goal.returns-in_err-member
 returns-in_err-member g c =
-    let state = g.R.Reader.state in
-    let old = state c.args.reader.now in
-    let now = state c.loop.reader in
-    let each = read_at old g.T.Shaped.shape in
+    let inv = c.loop.invariant.reached in
+    let ready = sym c.is_failed.ensures ∙ c.if-is_failed.false in
+    let some : (g.R.Reader.state c.loop.reader).rest ≢ [] = λ e. absurd (cc (c.is_finished.ensures.1 e, c.if-is_finished.false)) in
     let p = err_from_is_err_and c.from_residual.result c.from_residual.ensures.1 in
-    let same = c.loop.invariant.same in
-    let some : now.rest ≢ [] = λ e. absurd (cc (c.is_finished.ensures.1 e, c.if-is_finished.false)) in
-    let alike = sym (ap (λ (s : State). read_at s g.T.Shaped.shape now.rest) same) in
     rw (p.1, p.2) (
-      λ ready memory. stops kinds.Overlength g.T.Shaped.plain each g.row.N c.loop.counter now.rest c.loop.members.items c.in_err-member.field-0.0.kind _ c.loop-test.true some
-          (alike ∙ c.in_err-member.ensures.0 (ap (λ (s : State). s.failed) same ∙ ready) memory) c.loop.invariant.total,
-      kept_then old now _ same c.loop.invariant.passed c.in_err-member.ensures.1,
-      λ failed. absurd (cc (failed, c.is_failed.ensures, c.if-is_failed.false)),
-      c.in_err-member.ensures.3,
+    reached_refused inv ready (λ memory. reached_fault inv (many_fault kinds.Overlength _ _ _ _ _ c.loop-test.true some (reads_alike inv ∙ c.in_err-member.ensures.0 (ap (λ (s : State). s.failed) inv.same ∙ ready) memory)))
+    c.in_err-member.ensures.1 c.in_err-member.ensures.3
     )
 
 pub loop-preserved : goal.loop-preserved
 loop-preserved g c =
-    let state = g.R.Reader.state in
-    let old = state c.args.reader.now in
-    let now = state c.loop.reader in
-    let after = state c.decode.new.reader in
-    let each = read_at old g.T.Shaped.shape in
-    let same = c.loop.invariant.same in
-    let alike = sym (ap (λ (s : State). read_at s g.T.Shaped.shape now.rest) same) in
-    let plain = g.T.Shaped.plain in
-    let some : now.rest ≢ [] = λ e. absurd (cc (c.is_finished.ensures.1 e, c.if-is_finished.false)) in
-    let frame = frame_then old now after same c.in_ok-member.ensures.1 in
-    let total = goes_on kinds.Overlength plain each g.row.N c.loop.counter now.rest after.rest c.loop.members.items c.in_ok-member.member (read_many kinds.Overlength each g.row.N old.rest) c.loop-test.true some
-    (alike ∙ c.in_ok-member.ensures.0) c.loop.invariant.total in
+    let inv = c.loop.invariant.reached in
+    let some : (g.R.Reader.state c.loop.reader).rest ≢ [] = λ e. absurd (cc (c.is_finished.ensures.1 e, c.if-is_finished.false)) in
     rw c.push.ensures.items (record {
-      same = frame;
-      passed = rest_then old.rest now.rest after.rest c.loop.invariant.passed c.in_ok-member.ensures.3;
       count = omega (arith, c.loop.invariant.count, length-append c.loop.members.items (c.in_ok-member.member ∷ []));
-      total = total;
+      reached = reached_on inv c.in_ok-member.member (many_on kinds.Overlength _ _ _ _ _ _ c.loop-test.true some (reads_alike inv ∙ c.in_ok-member.ensures.0)) c.in_ok-member.ensures.1 c.in_ok-member.ensures.3;
     })
 
 pub returns-then-is_finished-2 : goal.returns-then-is_finished-2
 returns-then-is_finished-2 g c =
-    let state = g.R.Reader.state in
-    let old = state c.args.reader.now in
-    let now = state c.loop.reader in
-    let each = read_at old g.T.Shaped.shape in
-    let none : now.rest ≡ [] = c.is_finished-2.ensures.0 c.if-is_finished-2.true in
-    (is_done kinds.Overlength g.T.Shaped.plain each (g.row.N - c.loop.counter) now.rest c.loop.members.items _ none c.loop.invariant.total, c.loop.invariant.same, sym c.is_failed.ensures ∙ c.if-is_failed.false, c.loop.invariant.passed)
+    let inv = c.loop.invariant.reached in
+    (reached_end inv (many_end kinds.Overlength _ _ _ (c.is_finished-2.ensures.0 c.if-is_finished-2.true)), inv.same, sym c.is_failed.ensures ∙ c.if-is_failed.false, inv.passed)
 
 pub returns-else-is_finished-2 : goal.returns-else-is_finished-2
 returns-else-is_finished-2 g c =
-    let state = g.R.Reader.state in
-    let old = state c.args.reader.now in
-    let now = state c.loop.reader in
-    let each = read_at old g.T.Shaped.shape in
-    let some : now.rest ≢ [] = λ e. absurd (cc (c.is_finished-2.ensures.1 e, c.if-is_finished-2.false)) in
+    let inv = c.loop.invariant.reached in
+    let some : (g.R.Reader.state c.loop.reader).rest ≢ [] = λ e. absurd (cc (c.is_finished-2.ensures.1 e, c.if-is_finished-2.false)) in
     let past : g.row.N ≤ c.loop.counter = elim c.loop-test.branch [
       | else-loop-test w ↦ w.loop-test.false
       | then-loop-test+then-is_finished w ↦ absurd (some (w.is_finished.ensures.0 w.if-is_finished.true))
     ] in
     rw c.at.ensures (
-      λ _ _. is_over kinds.Overlength g.T.Shaped.plain each g.row.N c.loop.counter now.rest c.loop.members.items _ past some c.loop.invariant.total,
-      kept_then old now _ c.loop.invariant.same c.loop.invariant.passed (broken_kept _ _ c.fail.ensures),
-      λ failed. absurd (cc (failed, c.is_failed.ensures, c.if-is_failed.false)),
-      ap (λ (s : State). s.failed) c.fail.ensures,
+    reached_refused inv (sym c.is_failed.ensures ∙ c.if-is_failed.false) (λ _. reached_fault inv (many_over kinds.Overlength _ _ _ _ past some))
+    (broken_kept _ _ c.fail.ensures) (ap (λ (s : State). s.failed) c.fail.ensures)
     )

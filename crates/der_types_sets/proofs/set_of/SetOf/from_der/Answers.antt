@@ -1,45 +1,37 @@
-use Rattle.std.proofs.Common.{List, Ok, ap}
+use Rattle.std.proofs.Common.{◌≡◌, true, List, Ok, ap}
 use Rattle.std.proofs.lemmas.Result.{err_from_is_err_and}
 use Rattle.der_core_head.specs.Shapes.{Value}
+use Rattle.der_core_head.specs.Spelling.{is_element}
 use Rattle.der_core_head.specs.Grammar.{plain_list}
 use Rattle.der_core_head.proofs.Results.{ok_is}
-use Rattle.der_types_sets.proofs.FewSteps.{apart_few, few_spelled, few_spelled_valid, few_loose, few_whole}
-use Rattle.der_types_sets.proofs.ViewSteps.{ascends_as_read, valid_as_written}
+use Rattle.der_core_values.specs.Both.{both_true}
+use Rattle.der_types_sets.proofs.FewSteps.{few_many, many_few}
+use Rattle.der_types_sets.proofs.LooseSteps.{members_valid, not_too_long, spells_loosely, only_whole}
 use Rattle.der_types_sets.proofs.set_of.SetOf.from_der.Goals as goal
 
-pub returns-in_err-set-clause-only : goal.returns-in_err-set-clause-only
-returns-in_err-set-clause-only g c =
+pub returns-in_err-set : goal.returns-in_err-set
+returns-in_err-set g c =
     let s = g.T.Shaped.shape in
+    let read = c.in_ok-list.field-0.list in
     let p = err_from_is_err_and c.from_residual-in_err-set.result c.from_residual-in_err-set.ensures.1 in
-    rw (p.1, p.2) (λ v element enough loose few memory.
-    absurd (c.in_err-set.ensures.refused.some (valid_as_written s g.T.Shaped.written g.T.Shaped.plain c.in_ok-read.read.members.items g.met.T.AsRead.as_read
-    (few_spelled_valid g.row.N s g.T.Shaped.plain c.args.bytes.now c.in_ok-read.read.members.items (c.in_ok-read.ensures.spelled (apart_few g.row.N s element g.met.T.Member.apart))))))
-
-pub returns-in_err-set-clause-refused : goal.returns-in_err-set-clause-refused
-returns-in_err-set-clause-refused g c =
-    let s = g.T.Shaped.shape in
-    let p = err_from_is_err_and c.from_residual-in_err-set.result c.from_residual-in_err-set.ensures.1 in
-    rw (p.1, p.2) (λ element memory.
-    absurd (c.in_err-set.ensures.refused.some (valid_as_written s g.T.Shaped.written g.T.Shaped.plain c.in_ok-read.read.members.items g.met.T.AsRead.as_read
-    (few_spelled_valid g.row.N s g.T.Shaped.plain c.args.bytes.now c.in_ok-read.read.members.items (c.in_ok-read.ensures.spelled (apart_few g.row.N s element g.met.T.Member.apart))))))
+    let none = λ (element : is_element s ≡ true). not_too_long s g.T.Shaped.written g.T.Shaped.plain g.met.T.AsRead.as_read read c.in_err-set.field-0.0 c.in_err-set.ensures.refused
+    (members_valid s (plain_list g.T.Shaped.plain read) c.args.bytes.now (few_many g.row.N s _ _ (c.in_ok-list.ensures.spelled (both_true element g.met.T.Member.apart)))) in
+    rw (p.1, p.2) (record { spelled = λ element. tt; only = λ v element enough loose most memory. absurd (none element); refused = λ element memory. absurd (none element) })
 
 pub returns-clause-spelled : goal.returns-clause-spelled
-returns-clause-spelled g c =
+returns-clause-spelled g c = λ element.
     let s = g.T.Shaped.shape in
-    λ element. few_loose g.row.N s g.T.Shaped.plain c.args.bytes.now c.in_ok-read.read.members.items c.in_ok-set.set (c.in_ok-read.ensures.spelled (apart_few g.row.N s element g.met.T.Member.apart)) c.in_ok-set.ensures.ok (ascends_as_read s g.T.Shaped.written g.T.Shaped.plain c.in_ok-set.set g.met.T.AsRead.as_read c.in_ok-set.ensures.ascend)
+    spells_loosely s g.T.Shaped.written g.T.Shaped.plain g.met.T.AsRead.as_read c.args.bytes.now c.in_ok-list.field-0.list c.in_ok-set.set (few_many g.row.N s _ _ (c.in_ok-list.ensures.spelled (both_true element g.met.T.Member.apart))) c.in_ok-set.ensures.ok c.in_ok-set.ensures.ascend
 
 pub returns-clause-only : goal.returns-clause-only
-returns-clause-only g c =
+returns-clause-only g c = λ v element enough loose most.
     let s = g.T.Shaped.shape in
-    let f = g.T.Shaped.plain in
-    let read = c.in_ok-read.read.members.items in
-    λ v element enough loose few.
-    let same = ok_is {A = List (Value s)} loose.spelled (plain_list f read) (c.in_ok-read.ensures.only loose.spelled (apart_few g.row.N s element g.met.T.Member.apart) enough (few_spelled g.row.N s v c.args.bytes.now few loose)) in
-    ap (λ (u : List (Value s)). Ok u) (few_whole g.row.N s f c.args.bytes.now read c.in_ok-set.set v element g.met.T.Member.apart enough loose same c.in_ok-set.ensures.ok (ascends_as_read s g.T.Shaped.written g.T.Shaped.plain c.in_ok-set.set g.met.T.AsRead.as_read c.in_ok-set.ensures.ascend))
+    let read = c.in_ok-list.field-0.list in
+    let same = ok_is {A = List (Value s)} loose.spelled (plain_list g.T.Shaped.plain read) (c.in_ok-list.ensures.only loose.spelled (both_true element g.met.T.Member.apart) enough (many_few g.row.N s v c.args.bytes.now most loose)) in
+    ap (λ (u : List (Value s)). Ok u) (only_whole s g.T.Shaped.written g.T.Shaped.plain g.met.T.AsRead.as_read c.args.bytes.now v read c.in_ok-set.set element g.met.T.Member.apart loose same c.in_ok-set.ensures.ok c.in_ok-set.ensures.ascend)
 
-pub returns-in_err-read-clause-only : goal.returns-in_err-read-clause-only
-returns-in_err-read-clause-only g c =
-    let s = g.T.Shaped.shape in
+pub returns-in_err-list-clause-only : goal.returns-in_err-list-clause-only
+returns-in_err-list-clause-only g c =
     let p = err_from_is_err_and c.from_residual.result c.from_residual.ensures.1 in
-    rw (p.1, p.2) (λ v element enough loose few memory.
-    absurd (cc (c.in_err-read.ensures.only loose.spelled (apart_few g.row.N s element g.met.T.Member.apart) enough (few_spelled g.row.N s v c.args.bytes.now few loose) memory)))
+    rw (p.1, p.2) (λ v element enough loose most memory.
+    absurd (cc (c.in_err-list.ensures.only loose.spelled (both_true element g.met.T.Member.apart) enough (many_few g.row.N g.T.Shaped.shape v c.args.bytes.now most loose) memory)))

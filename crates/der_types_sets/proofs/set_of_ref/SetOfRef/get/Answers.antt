@@ -1,6 +1,7 @@
-use Rattle.std.proofs.Common.{◌≡◌, ℕ, sym, ap, ◌∙◌, arith, drop}
+use Rattle.std.proofs.Common.{◌≡◌, ℕ, suc, ◌+◌, sym, ap, ◌∙◌, arith, drop}
+use Rattle.der_core.proofs.IterOrders.{next_left}
 use Rattle.der_types_sets.specs.Lent.{members_lent}
-use Rattle.der_types_sets.proofs.LentSteps.{next_at, none_at, yielded}
+use Rattle.der_types_sets.proofs.LentSteps.{none_at, yielded}
 use Rattle.der_types_sets.proofs.set_of_ref.SetOfRef.get.Goals as goal
 
 pub returns-in_default-next-clause-ok : goal.returns-in_default-next-clause-ok
@@ -14,7 +15,8 @@ loop-preserved g c =
     let f = g.T.Shaped.plain in
     let xs = members_lent s f c.args.self.now in
     let step = yielded s f c.loop.left c.next.new.self c.in-Some-next.member c.in_ok-_passed._passed c.in_ok-_passed.was c.in-Some-next.ensures.steps in
-    (next_at xs c.loop.counter (f c.in_ok-_passed._passed) (members_lent s f c.next.new.self) (sym c.loop.invariant ∙ step)).behind
+    let more : suc c.loop.counter ≡ c.loop.counter + 1 = omega arith in
+    (next_left xs c.loop.counter (f c.in_ok-_passed._passed) (members_lent s f c.next.new.self) (sym c.loop.invariant ∙ step)).1 ∙ ap (λ n. drop n xs) more
 
 pub returns-in_default-next-2-clause-ok : goal.returns-in_default-next-2-clause-ok
 returns-in_default-next-2-clause-ok g c =
@@ -28,4 +30,4 @@ returns-clause-ok g c =
     let xs = members_lent s f c.args.self.now in
     let last : c.loop.counter ≡ c.args.index = omega arith in
     let step = yielded s f c.loop.left c.next-2.new.self c.in-Some-next-2.member c.in_ok-member.member c.in_ok-member.was c.in-Some-next-2.ensures.steps in
-    sym (next_at xs c.args.index (f c.in_ok-member.member) (members_lent s f c.next-2.new.self) (ap (λ (i : ℕ). drop i xs) (sym last) ∙ sym c.loop.invariant ∙ step)).here
+    sym (next_left xs c.args.index (f c.in_ok-member.member) (members_lent s f c.next-2.new.self) (ap (λ (i : ℕ). drop i xs) (sym last) ∙ sym c.loop.invariant ∙ step)).0

@@ -1,8 +1,7 @@
 use Rattle.std.proofs.Common.{rules}
 use Rattle.der_types_sets.specs.Lent.{members_lent}
 use Rattle.der_types_sets.proofs.LentSteps.{yielded}
-use Rattle.der_types_sets.proofs.LentOwned.{taken_on, all_taken}
-use Rattle.der_types_sets.proofs.ViewSteps.{taken_as_written}
+use Rattle.der_types_sets.proofs.LentOwned.{taken_on, all_taken, taken_ascend}
 use Rattle.der_types_sets.proofs.set_of_ref.SetOfRef.ref_to_owned.Goals as goal
 
 pub of_members-requires : goal.of_members-requires
@@ -11,7 +10,7 @@ of_members-requires g c =
     let f = g.T.Shaped.plain in
     let same = all_taken f c.loop-member.members.items (members_lent s f c.loop-member.member-iterator) (members_lent s f c.args.self.now) c.loop-member.invariant.taken c.in-None.ensures.steps.0 in
     let inside = rw (← c.self.view_is) at same in
-    taken_as_written s g.T.Shaped.written f _ c.loop-member.members.items g.met.T.AsRead.as_read c.self.invariant inside
+    taken_ascend s g.T.Shaped.written f g.met.T.AsRead.as_read _ c.loop-member.members.items c.self.invariant inside
 
 pub loop-member-preserved : goal.loop-member-preserved
 loop-member-preserved g c =

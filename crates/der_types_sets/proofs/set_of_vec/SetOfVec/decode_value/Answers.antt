@@ -1,61 +1,54 @@
-use Rattle.std.proofs.Common.{List, Ok, subst, ap, arith, inl, inr, ◌∙◌}
+use Rattle.std.proofs.Common.{List, Ok, subst, ap, arith}
 use Rattle.std.proofs.lemmas.Result.{err_from_is_err_and}
 use Rattle.der_core_head.specs.Heads.{Fits}
+use Rattle.der_core_head.specs.Reading.{State, IsDer}
+use Rattle.der_core_head.specs.Shapes.{Value}
 use Rattle.der_core_head.proofs.Bytes.{IsBytes}
 use Rattle.der_core_octets.proofs.Nested.{broken_kept}
 use Rattle.der_core_octets.proofs.GoingOn.{kept_then}
-use Rattle.der_core_head.specs.Reading.{State}
-use Rattle.der_core_head.specs.Shapes.{Value, many}
-use Rattle.der_types_sets.proofs.SetSteps.{content_valid, by_either, as_der}
-use Rattle.der_types_sets.proofs.LooseSteps.{loose_read, loose_only, loose_again}
-use Rattle.der_types_sets.proofs.ViewSteps.{ascends_as_read, valid_as_written}
+use Rattle.der_types_sets.proofs.LooseSteps.{many_joins, many_again, by_ber, not_too_long, loose, only_loose}
 use Rattle.der_types_sets.proofs.set_of_vec.SetOfVec.decode_value.Goals as goal
-
-pub returns-in-Err-clause-reads : goal.returns-in-Err-clause-reads
-returns-in-Err-clause-reads g c =
-    let old = g.R.Reader.state c.args.reader.now in
-    let new = g.R.Reader.state c.decode_value.new.reader in
-    let bytes : IsBytes old.rest = subst IsBytes c.remaining-before.ensures.rest (λ i. omega (arith, c.remaining-before.items_fit i)) in
-    let fits : Fits old.rest = subst Fits c.remaining-before.ensures.rest c.remaining-before.ensures.short in (
-      c.in_ok-members.members.items,
-      (
-        λ ready. by_either old.source.encoding (λ der. inl (λ _. absurd (c.in-Err.ensures.refused.some (valid_as_written g.T.Shaped.shape g.T.Shaped.written g.T.Shaped.plain c.in_ok-members.members.items g.met.T.AsRead.as_read (content_valid g.T.Shaped.shape g.T.Shaped.plain c.args.header.tag old.room c.args.header.length.value old.rest c.in_ok-members.members.items new.rest g.met.T.Member.apart bytes fits (as_der old.source.encoding (many g.T.Shaped.shape) c.args.header.tag old.room c.args.header.length.value old.rest der ∙ c.in_ok-members.ensures.0)))))) (λ ber. inr (ber, c.in-Err.ensures.refused)),
-        kept_then old new _ c.in_ok-members.ensures.1 c.in_ok-members.ensures.3 (broken_kept _ _ c.fail.ensures),
-        λ failed. absurd (cc (failed, c.in_ok-members.ensures.2)),
-        ap (λ (s : State). s.failed) c.fail.ensures,
-      ),
-    )
 
 pub returns-in_err-members-clause-only : goal.returns-in_err-members-clause-only
 returns-in_err-members-clause-only g c =
-    let old = g.R.Reader.state c.args.reader.now in
     let p = err_from_is_err_and c.from_residual.result c.from_residual.ensures.1 in
     rw (p.1, p.2) (λ v element enough der ready le loose memory.
-    absurd (cc (loose_again g.T.Shaped.shape c.args.header.tag old.room c.args.header.length.value old.rest v element g.met.T.Member.apart enough le loose, as_der old.source.encoding (many g.T.Shaped.shape) c.args.header.tag old.room c.args.header.length.value old.rest der ∙ c.in_err-members.ensures.0 ready memory)))
+    absurd (cc (many_again g.T.Shaped.shape c.args.header.tag (g.R.Reader.state c.args.reader.now) c.args.header.length.value v element g.met.T.Member.apart enough der le loose, c.in_err-members.ensures.0 ready memory)))
 
-pub returns-in-Err-clause-only : goal.returns-in-Err-clause-only
-returns-in-Err-clause-only g c =
+pub returns-in-Err : goal.returns-in-Err
+returns-in-Err g c =
+    let s = g.T.Shaped.shape in
     let old = g.R.Reader.state c.args.reader.now in
-    let new = g.R.Reader.state c.decode_value.new.reader in
+    let read = c.in_ok-members.members.items in
     let bytes : IsBytes old.rest = subst IsBytes c.remaining-before.ensures.rest (λ i. omega (arith, c.remaining-before.items_fit i)) in
     let fits : Fits old.rest = subst Fits c.remaining-before.ensures.rest c.remaining-before.ensures.short in
-    λ v element enough der ready le loose memory.
-    absurd (c.in-Err.ensures.refused.some (valid_as_written g.T.Shaped.shape g.T.Shaped.written g.T.Shaped.plain c.in_ok-members.members.items g.met.T.AsRead.as_read (content_valid g.T.Shaped.shape g.T.Shaped.plain c.args.header.tag old.room c.args.header.length.value old.rest c.in_ok-members.members.items new.rest g.met.T.Member.apart bytes fits (as_der old.source.encoding (many g.T.Shaped.shape) c.args.header.tag old.room c.args.header.length.value old.rest der ∙ c.in_ok-members.ensures.0))))
+    let joins = λ (der : IsDer old). many_joins s c.args.header.tag old c.args.header.length.value _ _ g.met.T.Member.apart bytes fits der c.in_ok-members.ensures.0 in
+    record {
+      reads = (
+        read,
+        (
+          λ ready. by_ber s g.T.Shaped.written g.T.Shaped.plain g.met.T.AsRead.as_read old read c.in-Err.error _ c.in-Err.ensures.refused (λ der. (joins der).valid),
+          kept_then old _ _ c.in_ok-members.ensures.1 c.in_ok-members.ensures.3 (broken_kept _ _ c.fail.ensures),
+          λ failed. absurd (cc (failed, c.in_ok-members.ensures.2)),
+          ap (λ (s : State). s.failed) c.fail.ensures,
+        ),
+      );
+      spelled = λ element der. tt;
+      only = λ v element enough der ready le loose memory. absurd (not_too_long s g.T.Shaped.written g.T.Shaped.plain g.met.T.AsRead.as_read read c.in-Err.error c.in-Err.ensures.refused (joins der).valid);
+    }
 
 pub returns-in-Ok-clause-spelled : goal.returns-in-Ok-clause-spelled
-returns-in-Ok-clause-spelled g c =
+returns-in-Ok-clause-spelled g c = λ element der.
+    let s = g.T.Shaped.shape in
     let old = g.R.Reader.state c.args.reader.now in
-    let new = g.R.Reader.state c.decode_value.new.reader in
     let bytes : IsBytes old.rest = subst IsBytes c.remaining-before.ensures.rest (λ i. omega (arith, c.remaining-before.items_fit i)) in
     let fits : Fits old.rest = subst Fits c.remaining-before.ensures.rest c.remaining-before.ensures.short in
-    λ element der. loose_read g.T.Shaped.shape g.T.Shaped.plain c.args.header.tag old.room c.args.header.length.value old.rest c.in_ok-members.members.items c.in-Ok.set new.rest element g.met.T.Member.apart bytes fits
-    (as_der old.source.encoding (many g.T.Shaped.shape) c.args.header.tag old.room c.args.header.length.value old.rest der ∙ c.in_ok-members.ensures.0) c.in-Ok.ensures.ok (ascends_as_read g.T.Shaped.shape g.T.Shaped.written g.T.Shaped.plain c.in-Ok.set g.met.T.AsRead.as_read c.in-Ok.ensures.ascend)
+    let joins = many_joins s c.args.header.tag old c.args.header.length.value _ _ g.met.T.Member.apart bytes fits der c.in_ok-members.ensures.0 in
+    loose s g.T.Shaped.written g.T.Shaped.plain g.met.T.AsRead.as_read _ c.in_ok-members.members.items c.in-Ok.set joins c.in-Ok.ensures.ok c.in-Ok.ensures.ascend
 
 pub returns-in-Ok-clause-only : goal.returns-in-Ok-clause-only
-returns-in-Ok-clause-only g c =
-    let old = g.R.Reader.state c.args.reader.now in
-    let new = g.R.Reader.state c.decode_value.new.reader in
-    λ v element enough der ready le loose.
-    ap (λ (u : List (Value g.T.Shaped.shape)). Ok u)
-    (loose_only g.T.Shaped.shape g.T.Shaped.plain c.args.header.tag old.room c.args.header.length.value old.rest c.in_ok-members.members.items c.in-Ok.set new.rest v element g.met.T.Member.apart enough
-    (as_der old.source.encoding (many g.T.Shaped.shape) c.args.header.tag old.room c.args.header.length.value old.rest der ∙ c.in_ok-members.ensures.0) c.in-Ok.ensures.ok (ascends_as_read g.T.Shaped.shape g.T.Shaped.written g.T.Shaped.plain c.in-Ok.set g.met.T.AsRead.as_read c.in-Ok.ensures.ascend) loose)
+returns-in-Ok-clause-only g c = λ v element enough der ready le loose.
+    let s = g.T.Shaped.shape in
+    let again = many_again s c.args.header.tag (g.R.Reader.state c.args.reader.now) c.args.header.length.value v element g.met.T.Member.apart enough der le loose in
+    ap (λ (u : List (Value s)). Ok u)
+    (only_loose s g.T.Shaped.written g.T.Shaped.plain g.met.T.AsRead.as_read _ v c.in_ok-members.members.items c.in-Ok.set _ _ _ element g.met.T.Member.apart loose again c.in_ok-members.ensures.0 c.in-Ok.ensures.ok c.in-Ok.ensures.ascend)

@@ -1,38 +1,29 @@
-use Rattle.std.proofs.Common.{List, Ok, ap}
+use Rattle.std.proofs.Common.{◌≡◌, true, List, Ok, ap}
 use Rattle.std.proofs.lemmas.Result.{err_from_is_err_and}
 use Rattle.der_core_head.specs.Shapes.{Value}
+use Rattle.der_core_head.specs.Spelling.{is_element}
 use Rattle.der_core_head.specs.Grammar.{plain_list}
 use Rattle.der_core_head.proofs.Results.{ok_is}
-use Rattle.der_types_sets.proofs.LooseSteps.{apart_many, spelled_valid, whole_loose, whole_only}
-use Rattle.der_types_sets.proofs.ViewSteps.{ascends_as_read, valid_as_written}
+use Rattle.der_core_values.specs.Both.{both_true}
+use Rattle.der_types_sets.proofs.LooseSteps.{members_valid, not_too_long, spells_loosely, only_whole}
 use Rattle.der_types_sets.proofs.set_of_vec.SetOfVec.from_der.Goals as goal
 
-pub returns-in_err-set-clause-only : goal.returns-in_err-set-clause-only
-returns-in_err-set-clause-only g c =
+pub returns-in_err-set : goal.returns-in_err-set
+returns-in_err-set g c =
     let s = g.T.Shaped.shape in
+    let read = c.in_ok-list.field-0.list.items in
     let p = err_from_is_err_and c.from_residual-in_err-set.result c.from_residual-in_err-set.ensures.1 in
-    rw (p.1, p.2) (λ v element enough loose memory.
-    absurd (c.in_err-set.ensures.refused.some (valid_as_written s g.T.Shaped.written g.T.Shaped.plain c.in_ok-read.read.values.items g.met.T.AsRead.as_read
-    (spelled_valid s g.T.Shaped.plain c.args.bytes.now c.in_ok-read.read.values.items (c.in_ok-read.ensures.spelled (apart_many s element g.met.T.Member.apart))))))
-
-pub returns-in_err-set-clause-refused : goal.returns-in_err-set-clause-refused
-returns-in_err-set-clause-refused g c =
-    let s = g.T.Shaped.shape in
-    let p = err_from_is_err_and c.from_residual-in_err-set.result c.from_residual-in_err-set.ensures.1 in
-    rw (p.1, p.2) (λ element memory.
-    absurd (c.in_err-set.ensures.refused.some (valid_as_written s g.T.Shaped.written g.T.Shaped.plain c.in_ok-read.read.values.items g.met.T.AsRead.as_read
-    (spelled_valid s g.T.Shaped.plain c.args.bytes.now c.in_ok-read.read.values.items (c.in_ok-read.ensures.spelled (apart_many s element g.met.T.Member.apart))))))
+    let none = λ (element : is_element s ≡ true). not_too_long s g.T.Shaped.written g.T.Shaped.plain g.met.T.AsRead.as_read read c.in_err-set.field-0.0 c.in_err-set.ensures.refused
+    (members_valid s (plain_list g.T.Shaped.plain read) c.args.bytes.now (c.in_ok-list.ensures.spelled (both_true element g.met.T.Member.apart))) in
+    rw (p.1, p.2) (record { spelled = λ element. tt; only = λ v element enough loose memory. absurd (none element); refused = λ element memory. absurd (none element) })
 
 pub returns-clause-spelled : goal.returns-clause-spelled
-returns-clause-spelled g c =
-    let s = g.T.Shaped.shape in
-    λ element. whole_loose s g.T.Shaped.plain c.args.bytes.now c.in_ok-read.read.values.items c.in_ok-set.set (c.in_ok-read.ensures.spelled (apart_many s element g.met.T.Member.apart)) c.in_ok-set.ensures.ok (ascends_as_read s g.T.Shaped.written g.T.Shaped.plain c.in_ok-set.set g.met.T.AsRead.as_read c.in_ok-set.ensures.ascend)
+returns-clause-spelled g c = λ element.
+    spells_loosely g.T.Shaped.shape g.T.Shaped.written g.T.Shaped.plain g.met.T.AsRead.as_read c.args.bytes.now c.in_ok-list.field-0.list.items c.in_ok-set.set (c.in_ok-list.ensures.spelled (both_true element g.met.T.Member.apart)) c.in_ok-set.ensures.ok c.in_ok-set.ensures.ascend
 
 pub returns-clause-only : goal.returns-clause-only
-returns-clause-only g c =
+returns-clause-only g c = λ v element enough loose.
     let s = g.T.Shaped.shape in
-    let f = g.T.Shaped.plain in
-    let read = c.in_ok-read.read.values.items in
-    λ v element enough loose.
-    let same = ok_is {A = List (Value s)} loose.spelled (plain_list f read) (c.in_ok-read.ensures.only loose.spelled (apart_many s element g.met.T.Member.apart) enough loose.spells) in
-    ap (λ (u : List (Value s)). Ok u) (whole_only s f c.args.bytes.now read c.in_ok-set.set v element g.met.T.Member.apart enough loose same c.in_ok-set.ensures.ok (ascends_as_read s g.T.Shaped.written g.T.Shaped.plain c.in_ok-set.set g.met.T.AsRead.as_read c.in_ok-set.ensures.ascend))
+    let read = c.in_ok-list.field-0.list.items in
+    let same = ok_is {A = List (Value s)} loose.spelled (plain_list g.T.Shaped.plain read) (c.in_ok-list.ensures.only loose.spelled (both_true element g.met.T.Member.apart) enough loose.spells) in
+    ap (λ (u : List (Value s)). Ok u) (only_whole s g.T.Shaped.written g.T.Shaped.plain g.met.T.AsRead.as_read c.args.bytes.now v read c.in_ok-set.set element g.met.T.Member.apart loose same c.in_ok-set.ensures.ok c.in_ok-set.ensures.ascend)

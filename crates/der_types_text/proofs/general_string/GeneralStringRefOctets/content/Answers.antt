@@ -1,0 +1,7 @@
+use Rattle.std.proofs.Common.{subst}
+use Rattle.der_core_head.specs.Octets.{IsOctets}
+use Rattle.der_types_text.proofs.AnyTexts.{all_within}
+use Rattle.der_types_text.proofs.general_string.GeneralStringRefOctets.content.Goals as goal
+
+pub returns-clause-in_range : goal.returns-clause-in_range
+returns-clause-in_range c = record { within = all_within c.args.self.now.bytes.now; octets = subst IsOctets c.as_bytes.ensures c.octets_in_range.ensures }
