@@ -1,13 +1,18 @@
--- The order and the first tag of the fields that a record lends are those of its own.
+-- The length, the order and the first tag of the fields that a record lends are those of its own.
 use Rattle.std.proofs.Common.{◌≡◌, Option, Result, Ok, subst}
 use Rattle.std.specs.Prelude.{IfErr}
 use Rattle.std.specs.declared.cmp.Ordering.{Ordering}
 use Rattle.der_core_head.specs.declared.error.Error.{Error}
+use Rattle.der_core_head.specs.declared.length.Length.{Length}
 use Rattle.der_core_head.specs.declared.tag.Tag.{Tag}
+use Rattle.der_core_head.specs.Reading.{GivesNow}
 use Rattle.der_core_head.specs.Shapes.{Body, BodyValue, IsBody, body_octets}
 use Rattle.der_core_head.specs.Spelling.{body_begins}
 use Rattle.der_core_head.specs.Writing.{size_body}
 use Rattle.der_core.specs.Orders.{Overflows, StartsWith, bodies_cmp}
+
+pub counted : (b : Body) (v w : BodyValue b) (r : Result Length Error) → v ≡ w → GivesNow (λ l. l.value) r (size_body b v) → GivesNow (λ l. l.value) r (size_body b w)
+counted b v w r e h = subst (λ (a : BodyValue b). GivesNow (λ l. l.value) r (size_body b a)) e h
 
 pub compared : (b : Body) (v w x y : BodyValue b) (r : Result Ordering Error) → v ≡ x → w ≡ y
     → (IsBody b v → IsBody b w → r ≡ Ok (bodies_cmp b v w)) → IsBody b x → IsBody b y → r ≡ Ok (bodies_cmp b x y)

@@ -3,10 +3,9 @@
 ghost use Rattle.std.specs.Prelude.{◌≡◌, ◌≢◌, [], false, None, refl, IfOk, IfErr};
 ghost use Rattle.const_oid.specs.Bound.{Bound};
 ghost use Rattle.der_core_head.specs.declared.error.ErrorKind.TheVariants.{OutOfMemory};
-ghost use Rattle.der_core_head.specs.declared.tag.Tag.TheVariants.{Sequence};
 ghost use Rattle.der_core_head.specs.Grammar.{read_whole};
 ghost use Rattle.der_core_head.specs.Reading.{Fails, Gives};
-ghost use Rattle.der_core_head.specs.Shapes.{nested, octets_of, IsValid, Spells};
+ghost use Rattle.der_core_head.specs.Shapes.{octets_of, IsValid, Spells};
 ghost use Rattle.der_core_head.specs.Writing.{write};
 ghost use Rattle.x509_cert_parts.specs.Views.{algorithm_plain};
 ghost use Rattle.x509_cert_certificates.specs.Certificates.{PlainCertificate, certificate};
@@ -16,14 +15,9 @@ ghost use Rattle.x509_cert_certificates.specs.Views.{certificate_plain, tbs_plai
 
 use crate::cert_digest::CertDigest;
 use crate::tbs_certificate::TbsCertificateInner;
-use der_core::making::read_fields;
-use der_core::{
-    ApartValue, DecodeFields, DecodeValue, EncodeFields, EncodeRef, EncodeValue, Error, Fields,
-    FieldsOrd, FixedTag, Header, Length, Reader, ShapedValue, Tag, ValueOrd, Writer, from_der,
-    to_der,
-};
+use der_core::describing::{AsRecord, DecodeRow, Described, RowUser, Rows};
+use der_core::{DecodeFields, Error, Fields, Reader, from_der, lend, row, to_der};
 use std::alloc::Global;
-use std::cmp::Ordering;
 use x509_cert_parts::{AlgorithmIdentifier, BitString, Profile, Rfc5280};
 
 /// A certificate (RFC 5280 4.1).
@@ -35,7 +29,7 @@ use x509_cert_parts::{AlgorithmIdentifier, BitString, Profile, Rfc5280};
 ///     signatureValue      BIT STRING }
 /// ```
 #[derive(Drop)]
-#[derive_where(Clone, Debug, PartialEq, Eq)]
+#[derive_where(Debug, PartialEq, Eq)]
 pub struct CertificateInner<P = Rfc5280> {
     /// What is signed.
     pub tbs_certificate: TbsCertificateInner<P>,
@@ -48,43 +42,6 @@ pub struct CertificateInner<P = Rfc5280> {
 /// A certificate by the profile of RFC 5280.
 pub type Certificate = CertificateInner<Rfc5280>;
 
-type Row<P> = (
-    TbsCertificateInner<P>,
-    (AlgorithmIdentifier, (BitString, ())),
-);
-
-type RowRef<'a, P> = (
-    EncodeRef<'a, TbsCertificateInner<P>>,
-    (
-        EncodeRef<'a, AlgorithmIdentifier>,
-        (EncodeRef<'a, BitString>, ()),
-    ),
-);
-
-impl<P: Profile> CertificateInner<P> {
-    /// The fields in their order, lent.
-    fn row<'a>(&'a self) -> RowRef<'a, P>
-        ensures { ⟦<RowRef<'a, P> as Fields>⟧.fields_written result
-            ≡ certificate_by P.respells (certificate_plain self.now) }
-    {
-        (
-            EncodeRef(&self.tbs_certificate),
-            (
-                EncodeRef(&self.signature_algorithm),
-                (EncodeRef(&self.signature), ()),
-            ),
-        )
-    }
-}
-
-impl<P> FixedTag for CertificateInner<P> {
-    ghost fixed_tag = { Sequence };
-
-    fn tag() -> Tag {
-        Tag::Sequence
-    }
-}
-
 impl<P: Profile> Fields for CertificateInner<P> {
     ghost fields = { certificate_fields Bound P.serial_limit };
 
@@ -95,7 +52,7 @@ impl<P: Profile> Fields for CertificateInner<P> {
 
 impl<'a, R: Reader<'a>, P: Profile> DecodeFields<'a, R> for CertificateInner<P> {
     fn decode_fields(alloc: Global, reader: &mut R) -> Result<CertificateInner<P>, Error> {
-        let (tbs_certificate, (signature_algorithm, (signature, ()))) = <Row<P>>::decode_fields(
+        let row!(tbs_certificate, signature_algorithm, signature) = DecodeRow::decode_row(
             alloc, reader,
         )?;
         Ok(CertificateInner {
@@ -106,44 +63,16 @@ impl<'a, R: Reader<'a>, P: Profile> DecodeFields<'a, R> for CertificateInner<P> 
     }
 }
 
-impl<P: Profile> ShapedValue for CertificateInner<P> {
-    ghost content = { nested (certificate_fields Bound P.serial_limit) };
-
-    ghost value_plain = { certificate_plain };
-
-    ghost value_written = { λ c. certificate_by P.respells (certificate_plain c) };
+impl<P: Profile> Described for CertificateInner<P> {
+    type By = AsRecord;
 }
 
-impl<'a, R: Reader<'a>, P: Profile> DecodeValue<'a, R> for CertificateInner<P> {
-    fn decode_value(
-        alloc: Global,
-        reader: &mut R,
-        header: Header,
-    ) -> Result<CertificateInner<P>, Error> {
-        read_fields(alloc, reader, header)
-    }
-}
-
-impl<P: Profile> EncodeValue for CertificateInner<P> {
-    fn value_len(&self) -> Result<Length, Error> {
-        self.row().fields_len()
+impl<P: Profile> Rows for CertificateInner<P> {
+    fn with_rows<U: RowUser>(&self, other: &Self, user: &mut U) -> U::Answer {
+        lend!(self, other, user; tbs_certificate, signature_algorithm, signature)
     }
 
-    fn encode_value<W: Writer>(&self, writer: &mut W) -> Result<(), Error> {
-        self.row().encode_fields(writer)
-    }
-}
-
-/// Field after field, as they are written.
-impl<P: Profile> ValueOrd for CertificateInner<P> {
-    #[tactic(auto, unfolding(der_core_head::specs::Shapes::contents, der_core_head::specs::Shapes::IsContent))]
-    fn value_cmp(&self, other: &Self) -> Result<Ordering, Error> {
-        self.row().fields_cmp(&other.row())
-    }
-}
-
-impl<P: Profile> ApartValue for CertificateInner<P> {
-    ghost apart_value = { refl };
+    ghost apart = { refl };
 }
 
 impl<P: Profile> CertificateInner<P> {

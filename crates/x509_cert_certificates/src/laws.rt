@@ -6,6 +6,8 @@
 
 ghost use Rattle.std.specs.Prelude.{◌≡◌, ◌⊎◌, ◌∷◌, ◌++◌, map, ◌≤◌, ◌↔◌, ℕ, List, [], Option, Bool};
 ghost use Rattle.std.specs.Prelude.{true, false, Ok, Err, take, drop};
+ghost use Rattle.const_oid.specs.Bound.{Bound};
+ghost use Rattle.der_core.specs.Equality.{IsOfValues};
 ghost use Rattle.der_core_head.specs.declared.error.ErrorKind.{ErrorKind};
 ghost use Rattle.der_core_head.specs.Octets.{IsOctets};
 ghost use Rattle.der_core_head.specs.Heads.{Fits};
@@ -27,11 +29,15 @@ ghost use Rattle.x509_cert_certificates.specs.Certificates.{signed_length, tbs, 
 ghost use Rattle.x509_cert_certificates.specs.Certificates.{inner_algorithm, issuer, subject};
 ghost use Rattle.x509_cert_certificates.specs.Certificates.{public_key, extensions_of};
 ghost use Rattle.x509_cert_certificates.specs.Certificates.{outer_algorithm};
+ghost use Rattle.x509_cert_certificates.specs.Views.{certificate_plain, tbs_plain};
 
+use crate::certificate::CertificateInner;
+use crate::tbs_certificate::TbsCertificateInner;
+use std::cmp::PartialEq;
 pub use x509_cert_parts::laws::{
-    dates_by_profile, newly_read_name_texts_hold_a_large_arc, parts_are_apart,
-    respelled_dates_are_spelled, serial_numbers_by_profile, wider_bounds_keep_names,
-    wider_bounds_read_name_texts_alike,
+    dates_by_profile, equality_of_names_is_of_values, equality_of_parts_is_of_values,
+    newly_read_name_texts_hold_a_large_arc, parts_are_apart, respelled_dates_are_spelled,
+    serial_numbers_by_profile, wider_bounds_keep_names, wider_bounds_read_name_texts_alike,
 };
 
 /// First tags keep the fields of a certificate apart, at eight levels or more.
@@ -132,4 +138,12 @@ pub fn wider_bounds_keep_chains()
         → SpellsEach small limit cs w → SpellsEach large limit cs w }
     ensures new { (small large : ℕ) (limit : Option ℕ) (cs : List PlainCertificate) (w : List ℕ)
         → SpellsEach large limit cs w → SpellsEach small limit cs w ⊎ OneHoldsLarge small cs }
+{}
+
+/// `==` of certificates, and of their signed parts, is of their plain values, under every profile.
+pub fn equality_of_certificates_is_of_values<P>()
+    ensures signed { (limit : Option ℕ) → IsOfValues ⟦<TbsCertificateInner<P> as PartialEq>⟧.eq
+        tbs_plain (octets_of (tbs_certificate Bound limit)) }
+    ensures whole { (limit : Option ℕ) → IsOfValues ⟦<CertificateInner<P> as PartialEq>⟧.eq
+        certificate_plain (octets_of (certificate Bound limit)) }
 {}

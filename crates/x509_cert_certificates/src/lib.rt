@@ -3,6 +3,7 @@
 
 mod cert_digest;
 mod certificate;
+mod copies;
 pub mod laws;
 pub mod making;
 mod tbs_certificate;

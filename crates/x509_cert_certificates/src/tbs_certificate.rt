@@ -2,9 +2,7 @@
 
 ghost use Rattle.std.specs.Prelude.{◌≡◌, refl};
 ghost use Rattle.const_oid.specs.Bound.{Bound};
-ghost use Rattle.der_core_head.specs.declared.tag.Tag.TheVariants.{Sequence};
 ghost use Rattle.der_core_head.specs.Grammar.{plain_option};
-ghost use Rattle.der_core_head.specs.Shapes.{nested};
 ghost use Rattle.x509_cert_parts.specs.NameParts.{name_plain};
 ghost use Rattle.x509_cert_parts.specs.Views.{version_number, validity_plain, algorithm_plain};
 ghost use Rattle.x509_cert_parts.specs.Views.{key_plain, extensions_plain};
@@ -19,11 +17,11 @@ ghost use Rattle.x509_cert_certificates.specs.Certificates.{tbs_subject_unique_i
 ghost use Rattle.x509_cert_certificates.specs.Views.{tbs_plain};
 
 use const_oid::AssociatedOid;
-use der_core::making::{explicit_of, explicit_ref, implicit_of, implicit_ref, read_fields};
+use der_core::describing::{AsRecord, DecodeRow, Described, FieldRow, RowUser, Rows};
+use der_core::making::{explicit_of, explicit_ref, implicit_of, implicit_ref};
 use der_core::{
-    ApartValue, Decode, DecodeFields, DecodeValue, EncodeFields, EncodeRef, EncodeValue, Error,
-    Explicit, Fields, FieldsOrd, FixedTag, Header, Implicit, ImplicitRef, Length, Reader,
-    ShapedValue, SliceReader, Tag, ValueOrd, WithDefault, Writer,
+    Decode, DecodeFields, EncodeFields, EncodeRef, Error, Explicit, Fields, FieldsOrd, Implicit,
+    ImplicitRef, Length, Reader, SliceReader, Tag, WithDefault, Writer,
 };
 use std::alloc::Global;
 use std::cmp::Ordering;
@@ -49,7 +47,7 @@ use x509_cert_parts::{
 ///     extensions            [3] EXPLICIT Extensions OPTIONAL }
 /// ```
 #[derive(Drop)]
-#[derive_where(Clone, Debug, PartialEq, Eq)]
+#[derive_where(Debug, PartialEq, Eq)]
 pub struct TbsCertificateInner<P = Rfc5280> {
     /// The version, which says which fields it may have.
     pub version: Version,
@@ -131,7 +129,7 @@ struct BehindRef<'a, P>(&'a TbsCertificateInner<P>);
 impl<P: Profile> TbsCertificateInner<P> {
     /// The fields in their order, lent.
     fn row<'a>(&'a self) -> RowRef<'a, P>
-        ensures { ⟦<RowRef<'a, P> as Fields>⟧.fields_written result
+        ensures { ⟦<RowRef<'a, P> as FieldRow>⟧.fields_written result
             ≡ tbs_by P.respells (tbs_plain self.now) }
     {
         let version = WithDefault {
@@ -153,7 +151,7 @@ impl<P: Profile> TbsCertificateInner<P> {
 
     /// The fields from the validity on in their order, lent.
     fn behind<'a>(&'a self) -> BehindRow<'a, P>
-        ensures { ⟦<BehindRow<'a, P> as Fields>⟧.fields_written result
+        ensures { ⟦<BehindRow<'a, P> as FieldRow>⟧.fields_written result
             ≡ tbs_from_validity (tbs_by P.respells (tbs_plain self.now)) }
     {
         let last = (
@@ -173,7 +171,7 @@ impl<P: Profile> TbsCertificateInner<P> {
     }
 }
 
-impl<'a, P: Profile> Fields for BehindRef<'a, P> {
+impl<'a, P: Profile> FieldRow for BehindRef<'a, P> {
     ghost fields = { from_validity Bound };
 
     ghost fields_plain = { λ b. tbs_from_validity (tbs_plain b.0.now) };
@@ -201,14 +199,6 @@ impl<'a, P: Profile> FieldsOrd for BehindRef<'a, P> {
     }
 }
 
-impl<P> FixedTag for TbsCertificateInner<P> {
-    ghost fixed_tag = { Sequence };
-
-    fn tag() -> Tag {
-        Tag::Sequence
-    }
-}
-
 impl<P: Profile> Fields for TbsCertificateInner<P> {
     ghost fields = { tbs_fields Bound P.serial_limit };
 
@@ -221,7 +211,7 @@ impl<'a, R: Reader<'a>, P: Profile> DecodeFields<'a, R> for TbsCertificateInner<
     // Not inlined, so that its fields are moved into their places once.
     #[inline(never)]
     fn decode_fields(alloc: Global, reader: &mut R) -> Result<TbsCertificateInner<P>, Error> {
-        let (version, (serial_number, (signature, (issuer, behind)))) = <Row<P>>::decode_fields(
+        let (version, (serial_number, (signature, (issuer, behind)))) = <Row<P>>::decode_row(
             alloc, reader,
         )?;
         let (validity, (subject, (subject_public_key_info, last))) = behind;
@@ -241,44 +231,17 @@ impl<'a, R: Reader<'a>, P: Profile> DecodeFields<'a, R> for TbsCertificateInner<
     }
 }
 
-impl<P: Profile> ShapedValue for TbsCertificateInner<P> {
-    ghost content = { nested (tbs_fields Bound P.serial_limit) };
-
-    ghost value_plain = { tbs_plain };
-
-    ghost value_written = { λ t. tbs_by P.respells (tbs_plain t) };
+impl<P: Profile> Described for TbsCertificateInner<P> {
+    type By = AsRecord;
 }
 
-impl<'a, R: Reader<'a>, P: Profile> DecodeValue<'a, R> for TbsCertificateInner<P> {
-    fn decode_value(
-        alloc: Global,
-        reader: &mut R,
-        header: Header,
-    ) -> Result<TbsCertificateInner<P>, Error> {
-        read_fields(alloc, reader, header)
-    }
-}
-
-impl<P: Profile> EncodeValue for TbsCertificateInner<P> {
-    fn value_len(&self) -> Result<Length, Error> {
-        self.row().fields_len()
+impl<P: Profile> Rows for TbsCertificateInner<P> {
+    #[tactic(auto, using(der_core::proofs::Rows::lent))]
+    fn with_rows<U: RowUser>(&self, other: &Self, user: &mut U) -> U::Answer {
+        user.take(&self.row(), &other.row())
     }
 
-    fn encode_value<W: Writer>(&self, writer: &mut W) -> Result<(), Error> {
-        self.row().encode_fields(writer)
-    }
-}
-
-/// Field after field, as they are written.
-impl<P: Profile> ValueOrd for TbsCertificateInner<P> {
-    #[tactic(auto, unfolding(der_core_head::specs::Shapes::contents, der_core_head::specs::Shapes::IsContent))]
-    fn value_cmp(&self, other: &Self) -> Result<Ordering, Error> {
-        self.row().fields_cmp(&other.row())
-    }
-}
-
-impl<P: Profile> ApartValue for TbsCertificateInner<P> {
-    ghost apart_value = { refl };
+    ghost apart = { refl };
 }
 
 impl<P> TbsCertificateInner<P> {

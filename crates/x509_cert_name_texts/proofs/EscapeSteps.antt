@@ -1,5 +1,5 @@
 -- Escapes are undone octet by octet.
-use Rattle.std.proofs.Common.{◌≡◌, ℕ, ◌==◌, List, [], ◌∷◌, ◌++◌, Bool, true, false, refl, sym, ap, ◌∙◌, append_assoc, length, arith}
+use Rattle.std.proofs.Common.{◌≡◌, ℕ, List, [], ◌∷◌, ◌++◌, Bool, true, false, refl, sym, ap, append_assoc, length, arith}
 use Rattle.std.proofs.lemmas.List.{append-nil}
 use Rattle.std.specs.Prelude.{Result, Ok, Err, if◌then◌else◌}
 use Rattle.std.proofs.lemmas.Bool.Decides.{nat_tests}
@@ -12,24 +12,18 @@ use Rattle.x509_cert_name_texts.specs.Escapes.{is_sign, octet_of_digits, escape,
 abbrev pub in_front : List ℕ → Result (List ℕ) ErrorKind → Result (List ℕ) ErrorKind
 in_front v r = r >>= λ w. Ok (v ++ w)
 
-pub in_front-push : (v : List ℕ) (c : ℕ) (r : Result (List ℕ) ErrorKind) → in_front v (octet_before c r) ≡ in_front (v ++ (c ∷ [])) r
+in_front-push : (v : List ℕ) (c : ℕ) (r : Result (List ℕ) ErrorKind) → in_front v (octet_before c r) ≡ in_front (v ++ (c ∷ [])) r
 in_front-push v c (Ok w) = ap (λ u. Ok u) (sym (append_assoc v (c ∷ []) w))
 in_front-push v c (Err e) = refl
 
-is_92 : (c : ℕ) → c ≡ 92 → (c == 92) ≡ true
-is_92 c e = grind (arith, nat_tests)
-
-not_92 : (c : ℕ) → ¬ (c ≡ 92) → (c == 92) ≡ false
-not_92 c n = grind (arith, nat_tests)
-
-pub undone-plain : (c : ℕ) (w : List ℕ) → ¬ (c ≡ 92) → undone (c ∷ w) ≡ octet_before c (undone w)
+undone-plain : (c : ℕ) (w : List ℕ) → ¬ (c ≡ 92) → undone (c ∷ w) ≡ octet_before c (undone w)
 unfolding undone
-undone-plain c [] n = let e = not_92 c n in rw e refl
-undone-plain c (d ∷ []) n = let e = not_92 c n in rw e refl
-undone-plain c (d ∷ e ∷ w) n = let e = not_92 c n in rw e refl
+undone-plain c [] n = grind (arith, nat_tests)
+undone-plain c (d ∷ []) n = grind (arith, nat_tests)
+undone-plain c (d ∷ e ∷ w) n = grind (arith, nat_tests)
 
 -- what an escape gives in front of the rest
-abbrev pub escape_first : Result (ℕ × List ℕ) ErrorKind → Result (List ℕ) ErrorKind
+abbrev escape_first : Result (ℕ × List ℕ) ErrorKind → Result (List ℕ) ErrorKind
 escape_first r = r >>= λ x. octet_before x.0 (undone x.1)
 
 by_sign : (b : Bool) (c d : ℕ) (w : List ℕ) (r : Result ℕ ErrorKind) → (if b then octet_before c (undone (d ∷ w)) else (r >>= λ octet. octet_before octet (undone w)))
@@ -38,16 +32,22 @@ by_sign true c d w r = refl
 by_sign false c d w (Ok octet) = refl
 by_sign false c d w (Err e) = refl
 
-by_last_sign : (b : Bool) (c : ℕ) (e : ErrorKind) → (if b then Ok (c ∷ []) else Err e) ≡ escape_first (if b then Ok (c, []) else Err e)
+undone-escape : (c : ℕ) (w : List ℕ) → c ≡ 92 → undone (c ∷ w) ≡ escape_first (escape w)
 unfolding undone
-by_last_sign true c e = refl
-by_last_sign false c e = refl
+undone-escape c [] n = grind (arith, nat_tests)
+undone-escape c (d ∷ []) n = grind (arith, nat_tests)
+undone-escape c (d ∷ e ∷ w) n = rw n (by_sign (is_sign d) d e w (octet_of_digits (hex_digit_value d) (hex_digit_value e)))
 
-pub undone-escape : (c : ℕ) (w : List ℕ) → c ≡ 92 → undone (c ∷ w) ≡ escape_first (escape w)
-unfolding undone
-undone-escape c [] n = let e = is_92 c n in rw e refl
-undone-escape c (d ∷ []) n = let e = is_92 c n in rw e (by_last_sign (is_sign d) d _)
-undone-escape c (d ∷ e ∷ w) n = let h = is_92 c n in rw h (by_sign (is_sign d) d e w (octet_of_digits (hex_digit_value d) (hex_digit_value e)))
+-- what was undone, in front of what is left: an octet further, an escape further, or refused
+pub next_plain : (v left items behind : List ℕ) (c : ℕ) → left ≡ c ∷ behind → ¬ (c ≡ 92) → items ≡ v ++ (c ∷ []) → in_front v (undone left) ≡ in_front items (undone behind)
+next_plain v left items behind c e n f = rw (e, undone-plain c behind n, f) (in_front-push v c (undone behind))
+
+pub next_escape : (v left items behind rest : List ℕ) (c octet : ℕ) → left ≡ c ∷ behind → c ≡ 92 → escape behind ≡ Ok (octet, rest) → items ≡ v ++ (octet ∷ [])
+    → in_front v (undone left) ≡ in_front items (undone rest)
+next_escape v left items behind rest c octet e n f g = rw (e, undone-escape c behind n, f, g) (in_front-push v octet (undone rest))
+
+pub no_escape : (v left behind : List ℕ) (c : ℕ) (k : ErrorKind) → left ≡ c ∷ behind → c ≡ 92 → escape behind ≡ Err k → in_front v (undone left) ≡ Err k
+no_escape v left behind c k e n f = rw (e, undone-escape c behind n, f) refl
 
 pub in_front-nil : (v left : List ℕ) → length left ≡ 0 → in_front v (undone left) ≡ Ok v
 unfolding undone

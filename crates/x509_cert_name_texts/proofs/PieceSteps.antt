@@ -1,8 +1,8 @@
 -- Separators that count, octet by octet, and pieces in turn.
-use Rattle.std.proofs.Common.{◌≡◌, ℕ, zero, suc, ◌+◌, ◌%◌, ◌<◌, ◌≤◌, ◌==◌, List, [], ◌∷◌, ◌++◌, length, take, drop, get_or, add-one, reverse, Bool, true, false, refl, sym, subst, ap, ◌∙◌, append_assoc, length-append, eq-eqb, arith}
+use Rattle.std.proofs.Common.{◌≡◌, ℕ, suc, ◌+◌, ◌%◌, ◌<◌, ◌≤◌, ◌==◌, List, [], ◌∷◌, ◌++◌, length, take, drop, get_or, add-one, reverse, Bool, true, false, refl, sym, subst, ap, ◌∙◌, append_assoc, length-append, eq-eqb, arith}
 use Rattle.std.specs.Prelude.{Result, Ok, Err, Option, Some, None, not, ◌&&◌, if◌then◌else◌, slice_index}
 use Rattle.std.proofs.lemmas.Bool.Decides.{nat_tests}
-use Rattle.std.proofs.lemmas.List.{reverse-append, get_or-take, length-take-le}
+use Rattle.std.proofs.lemmas.List.{reverse-append, get_or-take, length-take-le, take-take}
 use Rattle.std.specs.Str.{IsUtf8}
 use Rattle.std.proofs.lemmas.Str.{IsUtf8-drop, IsCharBoundary-after_ascii}
 use borrow.Author.Count.{below_more}
@@ -28,12 +28,6 @@ counts_where_closed w e = grind (arith, nat_tests)
 pub closed_where_counts : (w : List ℕ) → Counts w → is_escaped w ≡ false
 closed_where_counts w e = grind (arith, nat_tests)
 
-pub take_of_take : (i k : ℕ) (w : List ℕ) → k ≤ i → take k (take i w) ≡ take k w
-take_of_take i zero w l = refl
-take_of_take zero (suc k) w l = absurd (omega arith)
-take_of_take (suc i) (suc k) [] l = refl
-take_of_take (suc i) (suc k) (c ∷ w) l = ap (λ v. c ∷ v) (take_of_take i k w (omega arith))
-
 -- no separator that counts stands before a place
 abbrev pub NoneBelow : ℕ → List ℕ → ℕ → Type 0
 NoneBelow separator w i = (k : ℕ) → k < i → slice_index w k ≡ separator → Counts (take k w) → ⊥
@@ -42,12 +36,10 @@ pub none_in_front : (separator : ℕ) (w : List ℕ) (i : ℕ) → i ≤ length 
 none_in_front separator w i l none k below e counts =
     let small : k < i = omega (arith, length-take-le i w l) in
     let P : List ℕ → Type 0 = Counts in
-    none k small (sym (get_or-take i w k 0 small) ∙ e) (subst P (take_of_take i k w (omega arith)) counts)
+    none k small (sym (get_or-take i w k 0 small) ∙ e) (subst P (take-take k i w (omega arith)) counts)
 
 clash : (p q : Bool) → p ≡ true → q ≡ false → (p && not q) ≡ false → ⊥
-clash true true a b t = cc
-clash true false a b t = cc
-clash false q a b t = cc
+clash p q a b t = grind (arith, nat_tests)
 
 pub none_more : (separator : ℕ) (w : List ℕ) (i : ℕ) → NoneBelow separator w i → (get_or w i 0 == separator && not (is_escaped (take i w))) ≡ false → NoneBelow separator w (i + 1)
 none_more separator w i none test =
@@ -82,23 +74,20 @@ continues_more {A} {E} separator reads text left piece rest values a so_far firs
 -- what a test that was met tells
 found : (p q : Bool) → (p && not q) ≡ true → (p ≡ true) × (q ≡ false)
 found true false e = (refl, refl)
-found true true e = cc
-found false q e = cc
+found p q e = cc
 
 pub found_is : (c separator : ℕ) (escaped : Bool) → (c == separator && not escaped) ≡ true → c ≡ separator
-found_is c separator escaped e = let h : (c == separator) ≡ true = (found (c == separator) escaped e).0 in grind (arith, nat_tests)
+found_is c separator escaped e = grind (arith, nat_tests)
 
 pub found_counts : (c separator : ℕ) (w : List ℕ) (escaped : Bool) → escaped ≡ is_escaped w → (c == separator && not escaped) ≡ true → Counts w
 found_counts c separator w escaped o e = counts_where_closed w (sym o ∙ (found (c == separator) escaped e).1)
 
 -- the first piece, by whether one follows
 pub ends_piece : (separator : ℕ) (text piece : List ℕ) (left : Option (List ℕ)) → IsFirstPiece separator text piece left → left ≡ None → IsFirstPiece separator text piece None
-ends_piece separator text piece None first e = first
-ends_piece separator text piece (Some w) first e = cc
+ends_piece separator text piece left first e = rw e at first
 
 pub more_piece : (separator : ℕ) (text piece rest : List ℕ) (left : Option (List ℕ)) → IsFirstPiece separator text piece left → left ≡ Some rest → IsFirstPiece separator text piece (Some rest)
-more_piece separator text piece rest None first e = cc
-more_piece separator text piece rest (Some w) first e = let P = λ (x : Option (List ℕ)). IsFirstPiece separator text piece x in subst P e first
+more_piece separator text piece rest left first e = rw e at first
 
 drop_behind : (piece : List ℕ) (separator : ℕ) (rest : List ℕ) → drop (suc (length piece)) (piece ++ (separator ∷ rest)) ≡ rest
 drop_behind [] separator rest = refl

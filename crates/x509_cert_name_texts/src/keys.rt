@@ -120,6 +120,7 @@ fn type_with(octets: &[u8]) -> Option<&'static Named>
 ///
 /// # Errors
 /// `OidMalformed` where it is neither.
+#[tactic(auto, using(crate::proofs::KeyLaws::key_arcs_named, crate::proofs::KeyLaws::key_arcs_dotted))]
 pub fn type_of_key(key: &str) -> Result<ObjectIdentifier<39>, Error>
     ensures { GivesNow (λ oid. oid) result (key_arcs Bound key.now) }
 {
@@ -130,6 +131,7 @@ pub fn type_of_key(key: &str) -> Result<ObjectIdentifier<39>, Error>
 }
 
 /// The shortest name of a type in capitals, or none.
+#[tactic(auto, using(crate::proofs::KeyLaws::key_of_found, crate::proofs::KeyLaws::key_of_none))]
 pub fn key_of(oid: &ObjectIdentifier<39>) -> Option<&'static str>
     ensures { key_of oid.now ≡ option_map (λ name. name.now) result }
 {

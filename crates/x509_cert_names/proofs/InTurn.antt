@@ -10,19 +10,17 @@ first_differs (a ∷ xs) = tt
 
 more : (xs : List AttributeTypeAndValue) (k : ℕ) (a b : AttributeTypeAndValue) → suc k < length xs → a ≡ get_or xs k a → b ≡ get_or xs (suc k) b
     → same_pair a b ≡ false → DifferInTurn (take (suc k) xs) → DifferInTurn (take (suc (suc k)) xs)
-more [] k a b lt e f differ h = absurd (omega arith)
-more (x ∷ []) k a b lt e f differ h = absurd (omega arith)
-more (x ∷ y ∷ xs) zero a b lt e f differ h = (ap (λ v. same_pair v y) (sym e) ∙ ap (λ v. same_pair a v) (sym f) ∙ differ, tt)
+more (x ∷ y ∷ xs) zero a b lt e f differ h = (rw (← e, ← f) differ, tt)
 more (x ∷ y ∷ xs) (suc k) a b lt e f differ h = (h.0, more (y ∷ xs) k a b (omega (arith, lt)) e f differ h.1)
+more xs k a b lt e f differ h = absurd (omega arith)
 
 equal : (xs : List AttributeTypeAndValue) (k : ℕ) (a b : AttributeTypeAndValue) → suc k < length xs → a ≡ get_or xs k a → b ≡ get_or xs (suc k) b
     → same_pair a b ≡ true → DifferInTurn xs → ⊥
-equal [] k a b lt e f same h = omega arith
-equal (x ∷ []) k a b lt e f same h = omega arith
 equal (x ∷ y ∷ xs) zero a b lt e f same h =
     let differ : same_pair a b ≡ false = ap (λ v. same_pair v b) e ∙ ap (λ v. same_pair x v) f ∙ h.0 in
     absurd (cc)
 equal (x ∷ y ∷ xs) (suc k) a b lt e f same h = equal (y ∷ xs) k a b (omega (arith, lt)) e f same h.1
+equal xs k a b lt e f same h = absurd (omega arith)
 
 pub more_differ : (xs : List AttributeTypeAndValue) (place : ℕ) (a b : AttributeTypeAndValue) → 1 ≤ place → place < length xs → a ≡ get_or xs (place - 1) a → b ≡ get_or xs place b
     → same_pair a b ≡ false → DifferInTurn (take place xs) → DifferInTurn (take (place + 1) xs)

@@ -1,8 +1,8 @@
 -- Keys of name texts under two bounds of arcs.
-use Rattle.std.proofs.Common.{◌≡◌, ℕ, ◌<◌, ◌≤◌, List, [], ◌∷◌, Bool, true, false, Option, Some, None, Result, Ok, Err, refl, sym, ap, subst, ◌∙◌, arith}
-use Rattle.std.specs.Prelude.{nat_lt, if◌then◌else◌}
+use Rattle.std.proofs.Common.{◌≡◌, ℕ, ◌<◌, ◌≤◌, List, [], ◌∷◌, Bool, true, false, Option, Some, None, Result, Ok, Err, refl, sym, ap, subst, ◌∙◌, inl, inr, arith}
+use Rattle.std.specs.Prelude.{nat_lt}
 use Rattle.std.specs.List.{AllByRecursion, find, list_all}
-use Rattle.std.proofs.lemmas.Bool.{and_parts, ltb-true}
+use Rattle.std.proofs.lemmas.Bool.{and_parts, cases_cond, ltb-true}
 use Rattle.const_oid.specs.IdentifierOctets.{IsIdentifier}
 use Rattle.const_oid.specs.TextReading.{read_text}
 use Rattle.const_oid.specs.declared.error.Error.{Error}
@@ -37,11 +37,7 @@ found : {A : Type 0} (p q : A → Bool) (xs : List A) (x : A) → find p xs ≡ 
 found p q [] x e all = absurd (cc e)
 found p q (y ∷ xs) x e all =
     let parts = and_parts (q y) (list_all q xs) all in
-    by (p y) e parts.0 (λ f. found p q xs x f parts.1)
-  where
-    by : (b : Bool) → (if b then Some y else find p xs) ≡ Some x → q y ≡ true → (find p xs ≡ Some x → q x ≡ true) → q x ≡ true
-    by true f first later = let same : y ≡ x = cc f in ap q (sym same) ∙ first
-    by false f first later = later f
+    elim (cases_cond (p y) (Some y) (find p xs) (Some x) (sym e)) [ inl f ↦ let same : x ≡ y = cc f in ap q same ∙ parts.0 | inr f ↦ found p q xs x (sym f) parts.1 ]
 
 type_below : (bound : ℕ) → 19200300 < bound → (key : List ℕ) (t : Named) → type_named key ≡ Some t → ArcsBelow bound t.arcs
 unfolding type_named
@@ -50,41 +46,33 @@ type_below bound lt key t e =
 
 -- A key that is read has arcs below the bound, where that lets the types pass that have names
 
-sound_text : (bound : ℕ) (key arcs a : List ℕ) → read_text bound 39 key ≡ Ok a → a ≡ arcs → read_text bound 39 key ≡ Ok arcs
-sound_text bound key arcs a e same = e ∙ ap (λ (x : List ℕ). Ok x) same
+-- a dotted text is read as an identifier
+dotted : (bound : ℕ) (key arcs : List ℕ) → dotted_arcs (read_text bound 39 key) ≡ Ok arcs → read_text bound 39 key ≡ Ok arcs
+dotted bound key arcs e = by (read_text bound 39 key) e
+  where
+    by : (r : Result (List ℕ) Error) → dotted_arcs r ≡ Ok arcs → r ≡ Ok arcs
+    by (Ok a) g = let same : a ≡ arcs = cc g in rw same refl
+    by (Err x) g = absurd (cc g)
 
 pub key_below : (bound : ℕ) → 19200300 < bound → (key arcs : List ℕ) → key_arcs bound key ≡ Ok arcs → ArcsBelow bound arcs
 key_below bound lt key arcs e = by (type_named key) refl e
   where
-    dotted : (r : Result (List ℕ) Error) → read_text bound 39 key ≡ r → dotted_arcs r ≡ Ok arcs → ArcsBelow bound arcs
-    dotted (Ok a) f g = let same : a ≡ arcs = cc g in all_below bound arcs (omega (arith, lt)) (text_sound bound 39 key arcs (sound_text bound key arcs a f same)).1
-    dotted (Err x) f g = absurd (cc g)
-
     by : (o : Option Named) → type_named key ≡ o → arcs_or bound o key ≡ Ok arcs → ArcsBelow bound arcs
-    by (Some t) f g =
-        let same : t.arcs ≡ arcs = cc g in
-        let P : List ℕ → Type 0 = λ x. ArcsBelow bound x in
-        subst P same (type_below bound lt key t f)
-    by None f g = dotted (read_text bound 39 key) refl g
+    by (Some t) f g = let same : t.arcs ≡ arcs = cc g in subst (ArcsBelow bound) same (type_below bound lt key t f)
+    by None f g = all_below bound arcs (omega (arith, lt)) (text_sound bound 39 key arcs (dotted bound key arcs g)).1
 
 -- and the same arcs under another bound that they are below
 
 within : (one other : ℕ) (arcs : List ℕ) → IsIdentifier one arcs → ArcsBelow other arcs → IsIdentifier other arcs
 unfolding IsIdentifier
-within one other [] id all = absurd id
-within one other (a ∷ []) id all = absurd id
 within one other (a ∷ b ∷ arcs) id all = (id.0, id.1, all.1.1)
+within one other arcs id all = absurd id
 
 pub key_again : (one other : ℕ) → 40 ≤ other → (key arcs : List ℕ) → key_arcs one key ≡ Ok arcs → ArcsBelow other arcs → key_arcs other key ≡ Ok arcs
 key_again one other root key arcs e all = by (type_named key) e
   where
-    dotted : (r : Result (List ℕ) Error) → read_text one 39 key ≡ r → dotted_arcs r ≡ Ok arcs → dotted_arcs (read_text other 39 key) ≡ Ok arcs
-    dotted (Ok a) f g =
-        let same : a ≡ arcs = cc g in
-        let sound = text_sound one 39 key arcs (sound_text one key arcs a f same) in
-        ap dotted_arcs (text_read other 39 key arcs root sound.0 (within one other arcs sound.1 all) sound.2)
-    dotted (Err x) f g = absurd (cc g)
-
     by : (o : Option Named) → arcs_or one o key ≡ Ok arcs → arcs_or other o key ≡ Ok arcs
     by (Some t) g = g
-    by None g = dotted (read_text one 39 key) refl g
+    by None g =
+        let sound = text_sound one 39 key arcs (dotted one key arcs g) in
+        ap dotted_arcs (text_read other 39 key arcs root sound.0 (within one other arcs sound.1 all) sound.2)

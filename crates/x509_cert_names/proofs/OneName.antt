@@ -33,9 +33,8 @@ not_both w a e h k = cc
 
 all_equal : (xs ys : List AttributeTypeAndValue) → AllSame 43 (ReadsAttribute Bound) (λ a b. a ≡ b) (λ a. ⊥) xs ys → xs ≡ ys
 all_equal [] [] h = refl
-all_equal [] (y ∷ ys) h = absurd h
-all_equal (x ∷ xs) [] h = absurd h
 all_equal (x ∷ xs) (y ∷ ys) h = let more = all_equal xs ys h.1 in rw (h.0, more) refl
+all_equal xs ys h = absurd h
 
 none_odd : (xs : List AttributeTypeAndValue) → AnyOdd 43 (ReadsAttribute Bound) (λ a b. a ≡ b) (λ a. ⊥) xs → ⊥
 none_odd [] h = h
@@ -73,7 +72,7 @@ one_relative w r s (ReadsRelative.set xs r1 h p a d) (ReadsRelative.set ys s1 k 
     let back = IsPermutation-sym xs r p in
     let there = subst (λ (zs : List AttributeTypeAndValue). IsPermutation zs s) (sym (one_members w xs ys h k)) q in
     let moved = IsPermutation-trans r xs s back there in
-    one_set (type_and_value Bound) tags.Set 63 (relative_plain r) (relative_plain s) refl refl refl (members_valid r v)
+    one_set (type_and_value Bound) (relative_plain r) (relative_plain s) refl refl (members_valid r v)
     (ascends-plain (type_and_value Bound) pair_plain r a) (ascends-plain (type_and_value Bound) pair_plain s b) (permutation-plain pair_plain r s moved)
 
 not_refused : (w : List ℕ) (r : List AttributeTypeAndValue) (e : ErrorKind) → ReadsRelative Bound w (Ok r) → ReadsRelative Bound w (Err e) → HasNone r
@@ -93,12 +92,8 @@ AllRight n = AllByRecursion (λ r. IsValid (relative_name Bound) (relative_plain
 
 all_only : (n m : List (List AttributeTypeAndValue)) → AllSame 44 (ReadsRelative Bound) IsOnly HasNone n m → AllRight n → plain_list relative_plain n ≡ plain_list relative_plain m
 all_only [] [] h v = refl
-all_only [] (s ∷ m) h v = absurd h
-all_only (r ∷ n) [] h v = absurd h
-all_only (r ∷ n) (s ∷ m) h v =
-    let first = h.0 v.0 in
-    let more = all_only n m h.1 v.1 in
-    rw (first, more) refl
+all_only (r ∷ n) (s ∷ m) h v = rw (h.0 v.0, all_only n m h.1 v.1) refl
+all_only n m h v = absurd h
 
 none_has : (n : List (List AttributeTypeAndValue)) → AnyOdd 44 (ReadsRelative Bound) IsOnly HasNone n → AllRight n → ⊥
 none_has [] h v = h

@@ -1,14 +1,12 @@
 -- Names are equal, attribute by attribute, exactly where they have the same octets.
-use Rattle.std.proofs.Common.{◌≡◌, ◌≢◌, ℕ, ◌<◌, get_or, Ok, Err, length, List, [], ◌∷◌, ◌++◌, Bool, true, false, refl, sym, subst, ap, ◌∙◌, arith, length-append}
-use Rattle.std.specs.Prelude.{nat_eq, ◌&&◌, flat_map}
-use Rattle.std.specs.Cmp.{first_so, second_so}
+use Rattle.std.proofs.Common.{◌≡◌, ◌≢◌, ℕ, ◌<◌, get_or, Ok, Err, length, List, [], ◌∷◌, ◌++◌, true, false, refl, sym, subst, ap, ◌∙◌, arith, length-append}
+use Rattle.std.specs.Prelude.{flat_map}
 use Rattle.std.specs.Cmp.Lexicographic.{pointwise}
 use Rattle.std.specs.List.{AllByRecursion, IsDistinct}
 use Rattle.std.specs.declared.cmp.Ordering.{Ordering}
 use Rattle.std.specs.declared.cmp.Ordering.TheVariants.{Less, Equal, Greater}
 use Rattle.std.proofs.lemmas.Map.Keys.{IsDistinct-head, IsDistinct-tail}
 use Rattle.const_oid.specs.Bound.{Bound}
-use Rattle.const_oid.specs.IdentifierOctets.{identifier_octets}
 use Rattle.der_core.specs.Orders.{octets_cmp}
 use Rattle.der_core.proofs.OrderLaws.{octets_cmp-equal}
 use Rattle.der_core.proofs.Sizes.{size_only}
@@ -18,88 +16,31 @@ use Rattle.der_core_head.proofs.OkOctets.{counts_octets}
 use Rattle.der_core_head.proofs.Written.{sized}
 use Rattle.der_types_sets.proofs.SetSteps.{valid_at}
 use Rattle.der_core_head.specs.Grammar.{plain_list}
-use Rattle.der_core_head.specs.Heads.{tlv, Fits}
+use Rattle.der_core_head.specs.Heads.{Fits}
 use Rattle.der_core_head.specs.Ranges.{IsInRange}
 use Rattle.der_core_head.specs.Shapes.{AllRising, octets_of, contents, body_octets, IsValid, IsContent, IsBody}
 use Rattle.der_core_head.specs.declared.tag.Tag.TheVariants as tags
 use Rattle.der_core_head.proofs.OneEncoding.{one_value}
 use Rattle.der_core_head.proofs.Fits.{fits_contents}
-use Rattle.der_types_any.specs.AnyOrders.{any_key}
 use Rattle.der_types_sets.specs.Sets.{AllValid, Ascends, TooLong}
-use Rattle.x509_cert_names.specs.Names.{TypeAndValue, PlainName, type_and_value, relative_name, name, name_octets, type_of, value_of}
+use Rattle.x509_cert_names.specs.Names.{TypeAndValue, PlainName, type_and_value, relative_name, name, name_octets}
 use Rattle.x509_cert_names.specs.Ordered.{DifferInTurn, IsOrdered}
-use Rattle.x509_cert_names.specs.Pairs.{pair_plain, same_pair, same_pair_equiv, relative_plain}
+use Rattle.x509_cert_names.specs.Pairs.{pair_plain, same_pair, relative_plain}
 use Rattle.x509_cert_names.specs.declared.attribute_type_and_value.AttributeTypeAndValue.{AttributeTypeAndValue}
-use Rattle.x509_cert_names.proofs.Distinct.{encoded, rising_distinct, same_octets}
+use Rattle.x509_cert_names.proofs.Distinct.{encoded, rising_distinct}
+use Rattle.x509_cert_names.proofs.ValueEquality.{lists, pairs}
 
 abbrev Pairs : Type 0
 Pairs = List AttributeTypeAndValue
 
--- What is equal has the same octets
-
 abbrev all_encoded : Pairs → List ℕ
 all_encoded r = flat_map (λ x. octets_of (type_and_value Bound) x) (relative_plain r)
-
-all_same : (r q : Pairs) → pointwise same_pair r q ≡ true → all_encoded r ≡ all_encoded q
-all_same [] [] e = refl
-all_same [] (b ∷ q) e = absurd cc
-all_same (a ∷ r) [] e = absurd cc
-all_same (a ∷ r) (b ∷ q) e =
-    rw (same_octets a b (first_so (same_pair a b) (pointwise same_pair r q) e), all_same r q (second_so (same_pair a b) (pointwise same_pair r q) e)) refl
 
 abbrev set_encoded : Pairs → List ℕ
 set_encoded r = octets_of (relative_name Bound) (relative_plain r)
 
-set_is : (r : Pairs) → set_encoded r ≡ tlv tags.Set (all_encoded r)
-unfolding octets_of contents body_octets
-set_is r = refl
-
-set_same : (r q : Pairs) → pointwise same_pair r q ≡ true → set_encoded r ≡ set_encoded q
-set_same r q e = set_is r ∙ ap (tlv tags.Set) (all_same r q e) ∙ sym (set_is q)
-
 abbrev sets_encoded : List Pairs → List ℕ
 sets_encoded n = flat_map (λ x. octets_of (relative_name Bound) x) (plain_list relative_plain n)
-
-sets_same : (m n : List Pairs) → pointwise (pointwise same_pair) m n ≡ true → sets_encoded m ≡ sets_encoded n
-sets_same [] [] e = refl
-sets_same [] (q ∷ n) e = absurd cc
-sets_same (r ∷ m) [] e = absurd cc
-sets_same (r ∷ m) (q ∷ n) e =
-    rw (set_same r q (first_so (pointwise same_pair r q) (pointwise (pointwise same_pair) m n) e), sets_same m n (second_so (pointwise same_pair r q) (pointwise (pointwise same_pair) m n) e)) refl
-
-name_is : (n : List Pairs) → name_octets Bound (plain_list relative_plain n) ≡ tlv tags.Sequence (sets_encoded n)
-unfolding octets_of contents body_octets
-name_is n = refl
-
-pub names_same : (m n : List Pairs) → pointwise (pointwise same_pair) m n ≡ true
-    → name_octets Bound (plain_list relative_plain m) ≡ name_octets Bound (plain_list relative_plain n)
-names_same m n e = name_is m ∙ ap (tlv tags.Sequence) (sets_same m n e) ∙ sym (name_is n)
-
--- One value is equal to itself
-
-abbrev same_plain : TypeAndValue → TypeAndValue → Bool
-same_plain a b = pointwise nat_eq (identifier_octets (type_of a)) (identifier_octets (type_of b)) && pointwise nat_eq (any_key (value_of a)) (any_key (value_of b))
-
-pair_alike : (a b : AttributeTypeAndValue) → pair_plain a ≡ pair_plain b → same_pair a b ≡ true
-pair_alike a b e = subst (λ x. same_plain (pair_plain a) x ≡ true) e (same_pair_equiv.refl a)
-
-pairs_alike : (r q : Pairs) → relative_plain r ≡ relative_plain q → pointwise same_pair r q ≡ true
-pairs_alike [] [] e = refl
-pairs_alike [] (b ∷ q) e = absurd cc
-pairs_alike (a ∷ r) [] e = absurd cc
-pairs_alike (a ∷ r) (b ∷ q) e =
-    let first : pair_plain a ≡ pair_plain b = cc in
-    let others : relative_plain r ≡ relative_plain q = cc in
-    rw (pair_alike a b first, pairs_alike r q others) refl
-
-sets_alike : (m n : List Pairs) → plain_list relative_plain m ≡ plain_list relative_plain n → pointwise (pointwise same_pair) m n ≡ true
-sets_alike [] [] e = refl
-sets_alike [] (q ∷ n) e = absurd cc
-sets_alike (r ∷ m) [] e = absurd cc
-sets_alike (r ∷ m) (q ∷ n) e =
-    let first : relative_plain r ≡ relative_plain q = cc in
-    let others : plain_list relative_plain m ≡ plain_list relative_plain n = cc in
-    rw (pairs_alike r q first, sets_alike m n others) refl
 
 -- What is in range and in order has an encoding where its octets have a length
 
@@ -140,7 +81,7 @@ all_rise (a ∷ b ∷ r) d s v =
     let equal : octets_cmp (encoded a) (encoded b) ≡ Equal → ⊥ = λ e.
     let one = (one_value (type_and_value Bound) (pair_plain a) (pair_plain b) [] [] refl refl v.0 v.1.0
     (ap (λ (w : List ℕ). w ++ []) (octets_cmp-equal (encoded a) (encoded b) e))).0 in
-    let same : same_pair a b ≡ true = pair_alike a b one in
+    let same : same_pair a b ≡ true = pairs.itself a b one in
     absurd cc in
     (below (octets_cmp (encoded a) (encoded b)) (s.0 v.0 v.1.0) equal, all_rise (b ∷ r) d.1 s.1 v.1)
 
@@ -191,4 +132,4 @@ pub names_apart : (m n k : List Pairs) → plain_list relative_plain k ≡ plain
 names_apart m n k s v h o e =
     let fits = subst Fits (e ∙ ap (name_octets Bound) (sym s)) (fits_of (plain_list relative_plain m) v) in
     let valid = subst (IsValid (name Bound)) s (name_valid k (subst (IsInRange (name Bound)) (sym s) h) o fits) in
-    sets_alike m n (one_value (name Bound) (plain_list relative_plain m) (plain_list relative_plain n) [] [] refl refl v valid (ap (λ (w : List ℕ). w ++ []) e)).0
+    lists.itself m n (one_value (name Bound) (plain_list relative_plain m) (plain_list relative_plain n) [] [] refl refl v valid (ap (λ (w : List ℕ). w ++ []) e)).0

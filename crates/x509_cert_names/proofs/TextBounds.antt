@@ -1,5 +1,5 @@
 -- Name texts under two bounds of arcs.
-use Rattle.std.proofs.Common.{◌≡◌, ℕ, ◌<◌, ◌≤◌, ◌⊎◌, List, [], ◌∷◌, ◌++◌, reverse, Option, Some, None, Result, Ok, Err, refl, sym, ap, ◌∙◌, subst, arith, inl, inr}
+use Rattle.std.proofs.Common.{◌≡◌, ℕ, ◌<◌, ◌≤◌, List, [], ◌∷◌, ◌++◌, reverse, Option, Some, None, Result, Ok, Err, refl, sym, ap, ◌∙◌, subst, arith, inl, inr}
 use Rattle.std.specs.Prelude.{⊤, ◌↔◌, map}
 use Rattle.std.specs.List.{AllByRecursion}
 use Rattle.std.specs.List.Sorted.{IsPermutation}
@@ -12,6 +12,7 @@ use Rattle.der_core_head.specs.Octets.{◌>>=◌}
 use Rattle.der_core_head.specs.Shapes.{AnyValue, IsValid, octets_of}
 use Rattle.der_core_head.proofs.BoundLaws.{below_or_large}
 use Rattle.der_core_head.proofs.Families.{Family, valid_narrow}
+use Rattle.der_core_head.proofs.Results.{bind_ok, ok_is}
 use Rattle.der_types_sets.specs.Sets.{Ascends, NotAbove}
 use Rattle.x509_cert_name_texts.specs.Keys.{key_arcs}
 use Rattle.x509_cert_name_texts.specs.Pieces.{IsFirstPiece, ReadsPieces, before, key_and_value}
@@ -68,14 +69,10 @@ abbrev with_value : List ℕ → Result (List ℕ) ErrorKind → Result Attribut
 with_value text key = key >>= λ arcs. value_read arcs text >>= λ value. Ok (record { oid = arcs; value = value })
 
 type_is : (text arcs : List ℕ) (a : AttributeTypeAndValue) → with_value text (Ok arcs) ≡ Ok a → arcs ≡ a.oid
-type_is text arcs a e = by (value_read arcs text) e
-  where
-    by : (r : Result AnyValue ErrorKind) → (r >>= λ value. Ok (record { oid = arcs; value = value })) ≡ Ok a → arcs ≡ a.oid
-    by (Ok value) f =
-        let made : AttributeTypeAndValue = record { oid = arcs; value = value } in
-        let same : made ≡ a = cc f in
-        ap (λ (x : AttributeTypeAndValue). x.oid) same
-    by (Err x) f = absurd (cc f)
+type_is text arcs a e =
+    let made : AnyValue → AttributeTypeAndValue = λ v. record { oid = arcs; value = v } in
+    let h = bind_ok (value_read arcs text) (λ v. Ok (made v)) a e in
+    ap (λ (x : AttributeTypeAndValue). x.oid) (ok_is (made h.0) a h.2)
 
 -- What is read has arcs below the bound, where that lets the types pass that have names
 
@@ -83,16 +80,11 @@ low_attribute : (bound : ℕ) → 19200300 < bound → (w : List ℕ) (a : Attri
 unfolding attribute_read
 low_attribute bound lt w a e = by (key_and_value w) (sym e)
   where
-    P : List ℕ → Type 0
-    P arcs = ArcsBelow bound arcs
-
-    keyed : (h : List ℕ × List ℕ) (k : Result (List ℕ) ErrorKind) → key_arcs bound h.0 ≡ k → with_value h.1 k ≡ Ok a → IsLow bound a
-    keyed h (Ok arcs) f g = subst P (type_is h.1 arcs a g) (key_below bound lt h.0 arcs f)
-    keyed h (Err x) f g = absurd (cc g)
-
     by : (o : Option (List ℕ × List ℕ)) → halves_read bound o ≡ Ok a → IsLow bound a
     by None g = absurd (cc g)
-    by (Some h) g = keyed h (key_arcs bound h.0) refl g
+    by (Some h) g =
+        let k = bind_ok (key_arcs bound h.0) (λ arcs. with_value h.1 (Ok arcs)) a g in
+        subst (ArcsBelow bound) (type_is h.1 k.0 a k.2) (key_below bound lt h.0 k.0 k.1)
 
 low_relative : (bound : ℕ) → 19200300 < bound → (w : List ℕ) (r : List AttributeTypeAndValue) → ReadsRelative bound w (Ok r) → AreLow bound r
 low_relative bound lt w r (ReadsRelative.set members r1 h moved ascend distinct) =
@@ -134,18 +126,12 @@ module _ (least one other : ℕ) (root : 40 ≤ least) (first : least ≤ one) (
   unfolding attribute_read
   attribute_again w a e low = sym (by (key_and_value w) (sym e))
     where
-      P : List ℕ → Type 0
-      P arcs = ArcsBelow other arcs
-
-      keyed : (h : List ℕ × List ℕ) (k : Result (List ℕ) ErrorKind) → key_arcs one h.0 ≡ k → with_value h.1 k ≡ Ok a → with_value h.1 (key_arcs other h.0) ≡ Ok a
-      keyed h (Ok arcs) f g =
-          let below = subst P (sym (type_is h.1 arcs a g)) (below_wider least other second a.oid low) in
-          ap (with_value h.1) (key_again one other (omega (arith, root, second)) h.0 arcs f below) ∙ g
-      keyed h (Err x) f g = absurd (cc g)
-
       by : (o : Option (List ℕ × List ℕ)) → halves_read one o ≡ Ok a → halves_read other o ≡ Ok a
       by None g = g
-      by (Some h) g = keyed h (key_arcs one h.0) refl g
+      by (Some h) g =
+          let k = bind_ok (key_arcs one h.0) (λ arcs. with_value h.1 (Ok arcs)) a g in
+          let below = subst (ArcsBelow other) (sym (type_is h.1 k.0 a k.2)) (below_wider least other second a.oid low) in
+          rw (key_again one other (omega (arith, root, second)) h.0 k.0 k.1 below) k.2
 
   pair_again : (a : AttributeTypeAndValue) → IsLow least a → IsValid (type_and_value other) (pair_plain a) → IsValid (type_and_value one) (pair_plain a)
   unfolding identifiers_of
@@ -207,11 +193,8 @@ spelled_exactly small large text n lt le =
     (λ h. (spelled_wider small large text n lt le h, spelled_below small text n lt h), λ p. spelled_again small large small (omega (arith, lt)) le (omega arith) text n p.0 p.1)
 
 pub spelled_new : (small large : ℕ) (text : List ℕ) (n : PlainName) → 40 ≤ small → small ≤ large → SpellsName large text n → (SpellsName small text n → ⊥) → HoldsLarge small (types_of n)
-spelled_new small large text n root le h none = by (below_or_large small (types_of n))
-  where
-    by : AreBelow small (types_of n) ⊎ HoldsLarge small (types_of n) → HoldsLarge small (types_of n)
-    by (inl below) = absurd (none (spelled_again small large small root le (omega arith) text n h below))
-    by (inr holds) = holds
+spelled_new small large text n root le h none =
+    elim (below_or_large small (types_of n)) [ inl below ↦ absurd (none (spelled_again small large small root le (omega arith) text n h below)) | inr holds ↦ holds ]
 
 pub spelled_valid : (small large : ℕ) (text : List ℕ) (n : PlainName) → 19200300 < small → small ≤ large → SpellsName small text n → (IsValid (name small) n ↔ IsValid (name large) n)
 spelled_valid small large text n lt le h = names_alike small large n le (spelled_below small text n lt h)

@@ -12,5 +12,6 @@ pub mod Rows
 pub use Rattle.der_types_any.specs.NumberTypes
 pub use Rattle.der_types_any.specs.ValueTypes
 pub use Rattle.der_types_any.specs.TimeTypes
+pub use Rattle.der_types_any.specs.TextTypes
 pub use Rattle.der_types_sets.specs as SetTypes
 pub use Rattle.x509_cert_name_texts.specs as Pieces

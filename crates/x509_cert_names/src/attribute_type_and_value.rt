@@ -10,23 +10,16 @@ ghost use Rattle.x509_cert_name_texts.specs.Answers.{GivesBy};
 ghost use Rattle.x509_cert_name_texts.specs.Escapes.{escaped, in_hex};
 ghost use Rattle.x509_cert_names.specs.NameTexts.{ReadsAttribute, ReadsEncoding};
 ghost use Rattle.x509_cert_names.specs.ValueTexts.{attribute_read, encoding_of};
-ghost use Rattle.der_core_head.specs.declared.tag.Tag.TheVariants.{Sequence};
-ghost use Rattle.der_core_head.specs.Shapes.{nested};
 ghost use Rattle.x509_cert_names.specs.Names.{type_and_value, type_and_value_fields};
 ghost use Rattle.x509_cert_names.specs.Pairs.{pair_plain, same_pair, same_pair_per};
 ghost use Rattle.x509_cert_names.specs.Pairs.{same_pair_equiv, pair_fed, pair_fed_alike};
 
 use crate::value_texts::{text_of, value_of, write_encoding};
 use const_oid::ObjectIdentifier;
-use der_core::making::read_fields;
-use der_core::{
-    ApartValue, AsReadValue, DecodeFields, DecodeValue, EncodeFields, EncodeRef, EncodeValue,
-    Error, ErrorKind, Fields, FieldsOrd, FixedTag, Header, InRange, InRangeValue, Length, Reader,
-    ShapedValue, Tag, ValueOrd, Writer, to_der,
-};
+use der_core::describing::{AsRecord, DecodeRow, Described, FieldsView, RowUser, Rows};
+use der_core::{DecodeFields, Error, ErrorKind, InRange, InRangeValue, Reader, lend, row, to_der};
 use der_types_any::Any;
 use std::alloc::{AllocError, Global};
-use std::cmp::Ordering;
 use std::fmt;
 use std::hash::{Hash, Hasher};
 use x509_cert_name_texts::{FromText, key_of, split_member, type_of_key, write_escaped};
@@ -56,79 +49,29 @@ pub struct AttributeTypeAndValue {
     pub value: AttributeValue,
 }
 
-type Row = (AttributeType, (AttributeValue, ()));
+impl FieldsView for AttributeTypeAndValue {
+    ghost body = { type_and_value_fields Bound };
 
-type RowRef<'a> = (
-    EncodeRef<'a, AttributeType>,
-    (EncodeRef<'a, AttributeValue>, ()),
-);
-
-impl AttributeTypeAndValue {
-    /// The fields in their order, lent.
-    fn row<'a>(&'a self) -> RowRef<'a>
-        ensures { ⟦<RowRef<'a> as Fields>⟧.fields_written result ≡ pair_plain self.now }
-    {
-        (EncodeRef(&self.oid), (EncodeRef(&self.value), ()))
-    }
-}
-
-impl FixedTag for AttributeTypeAndValue {
-    ghost fixed_tag = { Sequence };
-
-    fn tag() -> Tag {
-        Tag::Sequence
-    }
-}
-
-impl Fields for AttributeTypeAndValue {
-    ghost fields = { type_and_value_fields Bound };
-
-    ghost fields_plain = { pair_plain };
-
-    ghost fields_written = { pair_plain };
+    ghost view = { pair_plain };
 }
 
 impl<'a, R: Reader<'a>> DecodeFields<'a, R> for AttributeTypeAndValue {
     fn decode_fields(alloc: Global, reader: &mut R) -> Result<AttributeTypeAndValue, Error> {
-        let (oid, (value, ())) = Row::decode_fields(alloc, reader)?;
+        let row!(oid, value) = DecodeRow::decode_row(alloc, reader)?;
         Ok(AttributeTypeAndValue { oid, value })
     }
 }
 
-impl ShapedValue for AttributeTypeAndValue {
-    ghost content = { nested (type_and_value_fields Bound) };
-
-    ghost value_plain = { pair_plain };
-
-    ghost value_written = { pair_plain };
+impl Described for AttributeTypeAndValue {
+    type By = AsRecord;
 }
 
-impl<'a, R: Reader<'a>> DecodeValue<'a, R> for AttributeTypeAndValue {
-    fn decode_value(
-        alloc: Global,
-        reader: &mut R,
-        header: Header,
-    ) -> Result<AttributeTypeAndValue, Error> {
-        read_fields(alloc, reader, header)
-    }
-}
-
-impl EncodeValue for AttributeTypeAndValue {
-    fn value_len(&self) -> Result<Length, Error> {
-        self.row().fields_len()
+impl Rows for AttributeTypeAndValue {
+    fn with_rows<U: RowUser>(&self, other: &Self, user: &mut U) -> U::Answer {
+        lend!(self, other, user; oid, value)
     }
 
-    fn encode_value<W: Writer>(&self, writer: &mut W) -> Result<(), Error> {
-        self.row().encode_fields(writer)
-    }
-}
-
-impl ApartValue for AttributeTypeAndValue {
-    ghost apart_value = { refl };
-}
-
-impl AsReadValue for AttributeTypeAndValue {
-    ghost as_read_value = { λ _. refl };
+    ghost apart = { refl };
 }
 
 impl InRangeValue for AttributeTypeAndValue {
@@ -162,14 +105,6 @@ impl Hash for AttributeTypeAndValue {
     fn hash<H: Hasher>(&self, state: &mut H) {
         self.oid.hash(state);
         self.value.hash(state);
-    }
-}
-
-/// The order of the types' encodings, then of the values'.
-impl ValueOrd for AttributeTypeAndValue {
-    #[tactic(auto, unfolding(der_core_head::specs::Shapes::contents, der_core_head::specs::Shapes::IsContent))]
-    fn value_cmp(&self, other: &Self) -> Result<Ordering, Error> {
-        self.row().fields_cmp(&other.row())
     }
 }
 

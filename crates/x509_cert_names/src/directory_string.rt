@@ -29,7 +29,7 @@ use std::cmp::Ordering;
 ///     utf8String       UTF8String,
 ///     bmpString        BMPString }
 /// ```
-#[derive(Clone, Debug, Drop, PartialEq, Eq)]
+#[derive(Debug, Drop, PartialEq, Eq)]
 pub enum DirectoryString {
     /// Letters, digits, blanks and a few signs (X.680 41.4).
     PrintableString(PrintableString),

@@ -3,12 +3,18 @@
 //! Each is the contract of a function that does nothing.
 
 ghost use Rattle.std.specs.Prelude.{◌≡◌, ◌≤◌, ◌<◌, ◌↔◌, ℕ, List, [], Ok, map};
+ghost use Rattle.const_oid.specs.Bound.{Bound};
 ghost use Rattle.der_core_head.specs.Bounds.{AreBelow, HoldsLarge};
 ghost use Rattle.der_core_head.specs.Grammar.{read_whole};
 ghost use Rattle.der_core_head.specs.Octets.{IsOctets};
 ghost use Rattle.der_core_head.specs.Shapes.{IsValid, Spells};
-ghost use Rattle.x509_cert_names.specs.Names.{PlainName, all_of, name, type_of};
+ghost use Rattle.der_core.specs.Equality.{IsOfValues};
+ghost use Rattle.x509_cert_names.specs.Names.{PlainName, all_of, name, name_octets, type_of};
 ghost use Rattle.x509_cert_names.specs.PlainTexts.{SpellsName};
+ghost use Rattle.x509_cert_names.specs.Views.{name_plain};
+
+use crate::name::Name;
+use std::cmp::PartialEq;
 
 /// Octets that spell a name under one bound of arcs spell it under a narrower one exactly where the
 /// arcs of its attributes' types are below that, and are read as the same name under a wider one.
@@ -41,4 +47,9 @@ pub fn newly_read_name_texts_hold_a_large_arc()
     ensures new { (small large : ℕ) (text : List ℕ) (n : PlainName) → 40 ≤ small → small ≤ large
         → SpellsName large text n → (SpellsName small text n → ⊥)
         → HoldsLarge small (map type_of (all_of n)) }
+{}
+
+/// `==` of names is of their plain values.
+pub fn equality_of_names_is_of_values()
+    ensures { IsOfValues ⟦<Name as PartialEq>⟧.eq name_plain (name_octets Bound) }
 {}

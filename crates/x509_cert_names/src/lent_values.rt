@@ -1,4 +1,4 @@
-//! Values that any value can be read as, and that take no memory: most of them are lent.
+//! Values that any value can be read as: most of them are lent, and all but sets take no memory.
 
 ghost use Rattle.std.specs.Prelude.{Ok, pos};
 ghost use Rattle.const_oid.specs.Bound.{Bound};
@@ -6,23 +6,26 @@ ghost use Rattle.der_core_head.specs.declared.tag.Tag.TheVariants as tags;
 ghost use Rattle.der_core_head.specs.Integers.{every, natural};
 ghost use Rattle.der_core_head.specs.Leaves.{bits, boolean, identifier, integer, octets, text, utf8};
 ghost use Rattle.der_core_head.specs.Leaves.{generalized_time, utc_time};
-ghost use Rattle.der_core_head.specs.Reading.{GivesNow};
+ghost use Rattle.der_core_head.specs.Reading.{Gives, GivesNow};
+ghost use Rattle.der_core_head.specs.Shapes.{ascending, nested};
 ghost use Rattle.der_core_head.specs.Texts.{any_octet};
 ghost use Rattle.der_types_any.specs.Anys.{any_lent};
-ghost use Rattle.der_types_any.specs.Contents.{leaf_as};
+ghost use Rattle.der_types_any.specs.Contents.{content_as, leaf_as};
 ghost use Rattle.der_types_any.specs.NumberTypes.Ints.{integer_lent, natural_lent};
 ghost use Rattle.der_types_any.specs.ValueTypes.BitStrings.{bits_lent};
 ghost use Rattle.der_types_any.specs.ValueTypes.OctetStrings.{octets_lent};
 ghost use Rattle.der_types_any.specs.ValueTypes.Sequences.{fields_lent};
+ghost use Rattle.der_types_sets.specs.Lent.{members_lent};
 
 use crate::from_any::FromAny;
 use const_oid::ObjectIdentifier;
-use der_core::Error;
+use der_core::{Decode, Error, Member, SliceReader};
 use der_types_any::number_types::{IntRef, UintRef};
 use der_types_any::text_types::{AsciiStringRef, AsciiType, GeneralStringRef, Utf8StringRef};
 use der_types_any::time_types::{DateTime, GeneralizedTime, UtcTime};
 use der_types_any::value_types::{BitStringRef, OctetStringRef, SequenceRef};
 use der_types_any::{Any, AnyRef};
+use der_types_sets::SetOfRef;
 use std::alloc::Global;
 
 /// A text of a character string type whose characters are ASCII.
@@ -103,6 +106,17 @@ impl<'a> FromAny<'a> for SequenceRef<'a> {
     fn from_any(_alloc: Global, any: &'a Any) -> Result<SequenceRef<'a>, Error> {
         let value = SequenceRef::try_from(any)?;
         Ok(value)
+    }
+}
+
+/// The members of a SET OF, none of which is below the one before it.
+impl<'a, T: Decode<'a, SliceReader<'a>> + Member> FromAny<'a> for SetOfRef<'a, T> {
+    ghost any_gives = { λ a r. Gives (members_lent T.shape T.plain) r
+        (content_as tags.Set (nested (ascending T.shape)) a) };
+
+    fn from_any(alloc: Global, any: &'a Any) -> Result<SetOfRef<'a, T>, Error> {
+        let set = any.to_ref().decode_as(alloc)?;
+        Ok(set)
     }
 }
 

@@ -21,7 +21,7 @@ pub use attribute::{Attribute, Attributes};
 pub use attribute_type_and_value::{AttributeType, AttributeTypeAndValue, AttributeValue};
 pub use der_types_any::text_types::Ia5String;
 pub use der_types_any::{Any, AnyRef, number_types, text_types, time_types, value_types};
-pub use der_types_sets::{SetOfIter, SetOfVec};
+pub use der_types_sets::{SetOfIter, SetOfRef, SetOfVec};
 pub use directory_string::DirectoryString;
 pub use from_any::FromAny;
 pub use name::Name;

@@ -1,18 +1,16 @@
 //! RdnSequence.
 
-ghost use Rattle.std.specs.Prelude.{◌≡◌, List, ◌∷◌, ◌++◌, ◌==◌, [], length, reverse, vec_len, refl};
+ghost use Rattle.std.specs.Prelude.{◌≡◌, List, ◌∷◌, ◌++◌, ◌==◌, [], length, reverse, vec_len};
 ghost use Rattle.std.specs.Prelude.{OnOk, OnErr, IfOk, IfErr};
 ghost use Rattle.std.specs.Fmt.{WritesOnOk};
 ghost use Rattle.std.specs.List.{flat_map};
 ghost use Rattle.const_oid.specs.Bound.{Bound};
-ghost use Rattle.der_core_head.specs.declared.tag.Tag.TheVariants.{Sequence};
-ghost use Rattle.der_core_head.specs.Shapes.{nested, many};
 ghost use Rattle.der_core_head.specs.Grammar.{plain_list};
 ghost use Rattle.der_core_head.specs.Shapes.{octets_of};
 ghost use Rattle.x509_cert_name_texts.specs.Answers.{GivesBy};
 ghost use Rattle.x509_cert_names.specs.NameTexts.{ReadsName, ReadsEncoding, relative_printed};
 ghost use Rattle.x509_cert_names.specs.NameTexts.{name_printed, behind};
-ghost use Rattle.x509_cert_names.specs.Names.{relative_name, name};
+ghost use Rattle.x509_cert_names.specs.Names.{name};
 ghost use Rattle.x509_cert_names.specs.declared.attribute_type_and_value.AttributeTypeAndValue.{AttributeTypeAndValue};
 ghost use Rattle.x509_cert_names.specs.Pairs.{relative_plain};
 ghost use Rattle.x509_cert_names.specs.Views.{sequence_plain};
@@ -20,12 +18,9 @@ ghost use Rattle.x509_cert_names.specs.Views.{sequence_plain};
 use crate::members::copy_of;
 use crate::name_iter::RdnSequenceIter;
 use crate::relative_distinguished_name::RelativeDistinguishedName;
-use der_core::{
-    ApartValue, AsReadValue, DecodeValue, EncodeValue, Error, FixedTag, Header, InRangeValue,
-    Length, Reader, ShapedValue, Tag, ValueOrd, Writer, to_der,
-};
+use der_core::describing::{AsField, Described, Ordered, Wraps};
+use der_core::{Error, to_der};
 use std::alloc::{AllocError, Global};
-use std::cmp::Ordering;
 use std::fmt;
 use x509_cert_name_texts::read_pieces;
 
@@ -136,59 +131,26 @@ impl RdnSequence {
     }
 }
 
-impl FixedTag for RdnSequence {
-    ghost fixed_tag = { Sequence };
-
-    fn tag() -> Tag {
-        Tag::Sequence
-    }
+impl Described for RdnSequence {
+    type By = AsField<Vec<RelativeDistinguishedName>>;
 }
 
-impl ShapedValue for RdnSequence {
-    ghost content = { nested (many (relative_name Bound)) };
+impl Wraps<Vec<RelativeDistinguishedName>> for RdnSequence {
+    ghost inner = { λ x. x.relative_names };
 
-    ghost value_plain = { sequence_plain };
-
-    ghost value_written = { sequence_plain };
-}
-
-impl<'a, R: Reader<'a>> DecodeValue<'a, R> for RdnSequence {
-    fn decode_value(alloc: Global, reader: &mut R, header: Header) -> Result<RdnSequence, Error> {
-        let relative_names = Vec::decode_value(alloc, reader, header)?;
-        Ok(RdnSequence { relative_names })
-    }
-}
-
-impl EncodeValue for RdnSequence {
-    fn value_len(&self) -> Result<Length, Error> {
-        self.relative_names.value_len()
+    fn inner(&self) -> &Vec<RelativeDistinguishedName> {
+        &self.relative_names
     }
 
-    fn encode_value<W: Writer>(&self, writer: &mut W) -> Result<(), Error> {
-        self.relative_names.encode_value(writer)
-    }
-}
-
-impl ApartValue for RdnSequence {
-    ghost apart_value = { refl };
-}
-
-impl AsReadValue for RdnSequence {
-    ghost as_read_value = { λ _. refl };
-}
-
-impl InRangeValue for RdnSequence {
-    fn value_in_range(&self) {
-        self.relative_names.value_in_range();
+    fn wrap(field: Vec<RelativeDistinguishedName>) -> RdnSequence {
+        RdnSequence {
+            relative_names: field,
+        }
     }
 }
 
 /// The encodings of the relative names, one after the other.
-impl ValueOrd for RdnSequence {
-    fn value_cmp(&self, other: &Self) -> Result<Ordering, Error> {
-        self.relative_names.value_cmp(&other.relative_names)
-    }
-}
+impl Ordered for RdnSequence {}
 
 /// The relative names with commas between them, the last one first (RFC 4514 2.1).
 impl fmt::Display for RdnSequence {

@@ -1,7 +1,7 @@
 -- Keys that are equal part by part are one.
-use Rattle.std.proofs.Common.{◌≡◌, ℕ, List, Bool, true, Option, Some, None, refl, ap, subst}
+use Rattle.std.proofs.Common.{◌≡◌, ℕ, List, Bool, true, Option, Some, None, refl, ap}
 use Rattle.std.specs.Prelude.{nat_eq, ◌&&◌}
-use Rattle.std.specs.Cmp.Lexicographic.{pointwise, bytes_decides, nat_list_eq_equiv}
+use Rattle.std.specs.Cmp.Lexicographic.{pointwise, bytes_decides}
 use Rattle.std.specs.Option.{option_eq}
 use Rattle.std.proofs.lemmas.Bool.{and_parts}
 use Rattle.const_oid.proofs.PrefixLaws.{same_octets}
@@ -11,23 +11,20 @@ use Rattle.der_core_head.specs.BitStrings.{Bits, bit_contents}
 use Rattle.der_core_head.specs.Grammar.{plain_option}
 use Rattle.der_core_head.specs.Shapes.{AnyValue}
 use Rattle.x509_cert_parts.specs.Grammar.{PublicKey}
-use Rattle.x509_cert_names.specs.Values.{any_key}
-use Rattle.x509_cert_parts.proofs.SameOctets.{any_itself, one_any}
-
-abbrev pub any_eq : AnyValue → AnyValue → Bool
-any_eq x y = pointwise nat_eq (any_key x) (any_key y)
+use Rattle.x509_cert_names.proofs.ValueEquality.{one_any, same_any}
+use Rattle.x509_cert_parts.specs.declared.subject_public_key_info.SubjectPublicKeyInfo.{SubjectPublicKeyInfo}
+use Rattle.x509_cert_parts.proofs.ValueEquality.{keys}
 
 abbrev pub same_parts : List ℕ → List ℕ → Option AnyValue → Option AnyValue → Bits → Bits → Bool
-same_parts a b p q x y = (pointwise nat_eq (identifier_octets a) (identifier_octets b) && option_eq any_eq p q) && pointwise nat_eq (bit_contents x) (bit_contents y)
+same_parts a b p q x y = (pointwise nat_eq (identifier_octets a) (identifier_octets b) && option_eq same_any p q) && pointwise nat_eq (bit_contents x) (bit_contents y)
 
 abbrev pub key_by : List ℕ → Option AnyValue → Bits → PublicKey
 key_by a p x = ((a, (plain_option (λ v. v) p, tt)), (x, tt))
 
-one_parameters : (p q : Option AnyValue) → option_eq any_eq p q ≡ true → p ≡ q
+one_parameters : (p q : Option AnyValue) → option_eq same_any p q ≡ true → p ≡ q
 one_parameters None None e = refl
-one_parameters None (Some y) e = cc
-one_parameters (Some x) None e = cc
 one_parameters (Some x) (Some y) e = ap (λ (v : AnyValue). Some v) (one_any x y e)
+one_parameters p q e = cc
 
 one_bits : (x y : Bits) → pointwise nat_eq (bit_contents x) (bit_contents y) ≡ true → x ≡ y
 one_bits x y e =
@@ -38,28 +35,15 @@ one_bits x y e =
 
 pub one_key : (a b : List ℕ) (p q : Option AnyValue) (x y : Bits) → IsIdentifier Bound a → IsIdentifier Bound b → same_parts a b p q x y ≡ true → key_by a p x ≡ key_by b q y
 one_key a b p q x y left right e =
-    let whole = and_parts (pointwise nat_eq (identifier_octets a) (identifier_octets b) && option_eq any_eq p q) (pointwise nat_eq (bit_contents x) (bit_contents y)) e in
-    let algorithm = and_parts (pointwise nat_eq (identifier_octets a) (identifier_octets b)) (option_eq any_eq p q) whole.0 in
+    let whole = and_parts (pointwise nat_eq (identifier_octets a) (identifier_octets b) && option_eq same_any p q) (pointwise nat_eq (bit_contents x) (bit_contents y)) e in
+    let algorithm = and_parts (pointwise nat_eq (identifier_octets a) (identifier_octets b)) (option_eq same_any p q) whole.0 in
     let arcs : a ≡ b = same_octets Bound a b left right ((bytes_decides (identifier_octets a) (identifier_octets b)).0 algorithm.0) in
     let parameters : p ≡ q = one_parameters p q algorithm.1 in
     let bits : x ≡ y = one_bits x y whole.1 in
     rw (arcs, parameters, bits) refl
 
-parameters_itself : (p : Option AnyValue) → option_eq any_eq p p ≡ true
-parameters_itself None = refl
-parameters_itself (Some x) = any_itself x
-
-key_itself : (a : List ℕ) (p : Option AnyValue) (x : Bits) → same_parts a a p p x x ≡ true
-key_itself a p x i = (nat_list_eq_equiv.refl (identifier_octets a) i && parameters_itself p i) && nat_list_eq_equiv.refl (bit_contents x) i
-
-plain_itself : (p : Option AnyValue) → plain_option (λ v. v) p ≡ p
-plain_itself None = refl
-plain_itself (Some x) = refl
+abbrev key_of : List ℕ → Option AnyValue → Bits → SubjectPublicKeyInfo
+key_of a p x = record { algorithm = record { oid = a; parameters = p }; subject_public_key = x }
 
 pub key_again : (a b : List ℕ) (p q : Option AnyValue) (x y : Bits) → key_by a p x ≡ key_by b q y → same_parts a b p q x y ≡ true
-key_again a b p q x y e =
-    let arcs : a ≡ b = ap (λ (k : PublicKey). k.0.0) e in
-    let plain : plain_option (λ v. v) p ≡ plain_option (λ v. v) q = ap (λ (k : PublicKey). k.0.1.0) e in
-    let parameters : p ≡ q = cc (plain_itself p, plain_itself q, plain) in
-    let bits : x ≡ y = ap (λ (k : PublicKey). k.1.0) e in
-    subst (λ b. same_parts a b p q x y ≡ true) arcs (subst (λ q. same_parts a a p q x y ≡ true) parameters (subst (λ y. same_parts a a p p x y ≡ true) bits (key_itself a p x)))
+key_again a b p q x y e = keys.itself (key_of a p x) (key_of b q y) e

@@ -2,20 +2,13 @@
 
 ghost use Rattle.std.specs.Prelude.{◌≡◌, refl, IfOk};
 ghost use Rattle.const_oid.specs.Bound.{Bound};
-ghost use Rattle.der_core_head.specs.declared.tag.Tag.TheVariants.{Sequence};
-ghost use Rattle.der_core_head.specs.Shapes.{nested};
 ghost use Rattle.x509_cert_parts.specs.Grammar.{extension_fields};
 ghost use Rattle.x509_cert_parts.specs.Views.{extension_plain};
 
 use const_oid::ObjectIdentifier;
-use der_core::making::read_fields;
-use der_core::{
-    ApartValue, AsReadValue, DecodeFields, DecodeValue, EncodeFields, EncodeRef, EncodeValue,
-    Error, Fields, FieldsOrd, FixedTag, Header, Length, Reader, ShapedValue, Tag, ValueOrd,
-    WithDefault, Writer,
-};
+use der_core::describing::{AsRecord, DecodeRow, Described, FieldsView, RowUser, Rows};
+use der_core::{DecodeFields, EncodeRef, Error, Reader, WithDefault, lend, row};
 use std::alloc::{AllocError, Global};
-use std::cmp::Ordering;
 use x509_cert_names::value_types::OctetString;
 
 /// An extension of a certificate, whose content isn't looked into (RFC 5280 4.1, 4.2).
@@ -26,7 +19,7 @@ use x509_cert_names::value_types::OctetString;
 ///     critical   BOOLEAN DEFAULT FALSE,
 ///     extnValue  OCTET STRING }
 /// ```
-#[derive(Clone, Debug, PartialEq, Eq, Drop)]
+#[derive(Debug, PartialEq, Eq, Drop)]
 pub struct Extension {
     /// Which extension it is.
     pub extn_id: ObjectIdentifier<39>,
@@ -45,30 +38,6 @@ pub struct Extension {
 /// ```
 pub type Extensions = Vec<Extension>;
 
-type Row = (ObjectIdentifier<39>, (WithDefault<bool>, (OctetString, ())));
-
-type RowRef<'a> = (
-    EncodeRef<'a, ObjectIdentifier<39>>,
-    (WithDefault<bool>, (EncodeRef<'a, OctetString>, ())),
-);
-
-impl Extension {
-    /// The fields in their order, lent.
-    fn row<'a>(&'a self) -> RowRef<'a>
-        ensures { ⟦<RowRef<'a> as Fields>⟧.fields_written result ≡ extension_plain self.now }
-    {
-        (
-            EncodeRef(&self.extn_id),
-            (
-                WithDefault {
-                    value: self.critical,
-                },
-                (EncodeRef(&self.extn_value), ()),
-            ),
-        )
-    }
-}
-
 impl Extension {
     /// A copy.
     ///
@@ -85,71 +54,39 @@ impl Extension {
     }
 }
 
-impl FixedTag for Extension {
-    ghost fixed_tag = { Sequence };
+impl FieldsView for Extension {
+    ghost body = { extension_fields Bound };
 
-    fn tag() -> Tag {
-        Tag::Sequence
-    }
-}
-
-impl Fields for Extension {
-    ghost fields = { extension_fields Bound };
-
-    ghost fields_plain = { extension_plain };
-
-    ghost fields_written = { extension_plain };
+    ghost view = { extension_plain };
 }
 
 impl<'a, R: Reader<'a>> DecodeFields<'a, R> for Extension {
     // Not inlined, so that its fields are moved into their places once.
     #[inline(never)]
     fn decode_fields(alloc: Global, reader: &mut R) -> Result<Extension, Error> {
-        let (extn_id, (critical, (extn_value, ()))) = Row::decode_fields(alloc, reader)?;
+        let row!(extn_id, WithDefault { value: critical }, extn_value) = DecodeRow::decode_row(
+            alloc, reader,
+        )?;
         Ok(Extension {
             extn_id,
-            critical: critical.value,
+            critical,
             extn_value,
         })
     }
 }
 
-impl ShapedValue for Extension {
-    ghost content = { nested (extension_fields Bound) };
-
-    ghost value_plain = { extension_plain };
-
-    ghost value_written = { extension_plain };
+impl Described for Extension {
+    type By = AsRecord;
 }
 
-impl<'a, R: Reader<'a>> DecodeValue<'a, R> for Extension {
-    fn decode_value(alloc: Global, reader: &mut R, header: Header) -> Result<Extension, Error> {
-        read_fields(alloc, reader, header)
-    }
-}
-
-impl EncodeValue for Extension {
-    fn value_len(&self) -> Result<Length, Error> {
-        self.row().fields_len()
+impl Rows for Extension {
+    #[tactic(auto, using(der_core::proofs::Rows::lent))]
+    fn with_rows<U: RowUser>(&self, other: &Self, user: &mut U) -> U::Answer {
+        lend!(self, other, user; |extension|
+            EncodeRef(&extension.extn_id),
+            WithDefault { value: extension.critical },
+            EncodeRef(&extension.extn_value))
     }
 
-    fn encode_value<W: Writer>(&self, writer: &mut W) -> Result<(), Error> {
-        self.row().encode_fields(writer)
-    }
-}
-
-impl ApartValue for Extension {
-    ghost apart_value = { refl };
-}
-
-impl AsReadValue for Extension {
-    ghost as_read_value = { λ _. refl };
-}
-
-/// Field after field.
-impl ValueOrd for Extension {
-    #[tactic(auto, unfolding(der_core_head::specs::Shapes::contents, der_core_head::specs::Shapes::IsContent))]
-    fn value_cmp(&self, other: &Self) -> Result<Ordering, Error> {
-        self.row().fields_cmp(&other.row())
-    }
+    ghost apart = { refl };
 }

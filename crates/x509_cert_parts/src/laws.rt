@@ -5,19 +5,31 @@
 //! spelled.
 
 ghost use Rattle.std.specs.Prelude.{◌≡◌, ◌≤◌, ◌↔◌, ℕ, ℤ, Option, Bool, true, false, length};
+ghost use Rattle.const_oid.specs.Bound.{Bound};
+ghost use Rattle.der_core.specs.Equality.{IsOfValues};
 ghost use Rattle.der_core_head.specs.Integers.{integer_octets, IsNumber};
 ghost use Rattle.der_core_head.specs.Shapes.{IsValid, octets_of};
 ghost use Rattle.der_core_head.specs.Spelling.{is_apart, are_enough};
 ghost use Rattle.x509_cert_parts.specs.Grammar.{algorithm_identifier, public_key_info, version};
 ghost use Rattle.x509_cert_parts.specs.Grammar.{version_field, serial_number, numbers_within, time};
 ghost use Rattle.x509_cert_parts.specs.Grammar.{validity, extension, extensions, PlainValidity};
+ghost use Rattle.x509_cert_parts.specs.Views.{algorithm_plain, key_plain, extension_plain};
+ghost use Rattle.x509_cert_parts.specs.Views.{time_value, validity_plain, version_number};
 ghost use Rattle.x509_cert_parts.specs.Grammar.{not_before, not_after};
 ghost use Rattle.x509_cert_parts.specs.Respelling.{validity_by, is_early_generalized};
 
+use crate::algorithm_identifier::AlgorithmIdentifier;
+use crate::extension::Extension;
 use crate::profile::{Profile, Raw, Rfc5280};
+use crate::serial_number::SerialNumber;
+use crate::subject_public_key_info::SubjectPublicKeyInfo;
+use crate::time::Time;
+use crate::validity::Validity;
+use crate::version::Version;
+use std::cmp::PartialEq;
 pub use x509_cert_names::laws::{
-    newly_read_name_texts_hold_a_large_arc, wider_bounds_keep_names,
-    wider_bounds_read_name_texts_alike,
+    equality_of_names_is_of_values, newly_read_name_texts_hold_a_large_arc,
+    wider_bounds_keep_names, wider_bounds_read_name_texts_alike,
 };
 
 /// First tags keep the fields of each part apart, at four levels or more.
@@ -61,4 +73,20 @@ pub fn respelled_dates_are_spelled()
         → (octets_of validity (validity_by true v) ≡ octets_of validity v)
         ↔ ((is_early_generalized (not_before v) ≡ false)
         × (is_early_generalized (not_after v) ≡ false)) }
+{}
+
+/// `==` of parts is of their plain values.
+pub fn equality_of_parts_is_of_values<P>()
+    ensures algorithms { IsOfValues ⟦<AlgorithmIdentifier as PartialEq>⟧.eq algorithm_plain
+        (octets_of (algorithm_identifier Bound)) }
+    ensures keys { IsOfValues ⟦<SubjectPublicKeyInfo as PartialEq>⟧.eq key_plain
+        (octets_of (public_key_info Bound)) }
+    ensures extensions { IsOfValues ⟦<Extension as PartialEq>⟧.eq extension_plain
+        (octets_of (extension Bound)) }
+    ensures versions { IsOfValues ⟦<Version as PartialEq>⟧.eq version_number (octets_of version) }
+    ensures serials { (limit : Option ℕ) → IsOfValues ⟦<SerialNumber<P> as PartialEq>⟧.eq (λ n. n)
+        (octets_of (serial_number limit)) }
+    ensures times { IsOfValues ⟦<Time as PartialEq>⟧.eq time_value (octets_of time) }
+    ensures validities { IsOfValues ⟦<Validity<P> as PartialEq>⟧.eq validity_plain
+        (octets_of validity) }
 {}

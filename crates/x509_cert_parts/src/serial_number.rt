@@ -8,7 +8,6 @@ ghost use Rattle.der_core_head.specs.declared.tag.Tag.TheVariants.{Integer};
 ghost use Rattle.der_core_head.specs.Integers.{integer_of, integer_octets};
 ghost use Rattle.der_core_head.specs.Leaves.{integer};
 ghost use Rattle.der_core_head.specs.Reading.{Gives};
-ghost use Rattle.der_core_head.specs.Shapes.{leaf};
 ghost use Rattle.x509_cert_names.specs.NumberTypes.NumberOrders.{integer_cmp, integer_cmp_total};
 ghost use Rattle.x509_cert_names.specs.NumberTypes.NumberOrders.{integer_cmp_ties};
 ghost use Rattle.x509_cert_parts.specs.Drawing.{drawn_serial};
@@ -18,11 +17,9 @@ ghost use Rattle.x509_cert_parts.specs.SerialNumbers.{new_serial};
 use crate::drawing::fill_without_zero;
 use crate::profile::{Profile, Rfc5280};
 use crate::serial_text::write_octets;
-use der_core::making::{decode_leaf, integer_octets_of, value_cmp_by_contents};
-use der_core::{
-    ApartValue, AsReadValue, DecodeValue, EncodeValue, Error, ErrorKind, FixedTag, Header, Leaf,
-    Length, Reader, ShapedValue, Tag, ValueOrd, Writer,
-};
+use der_core::describing::{AsLeaf, Described, EncodeLeaf, Primitive};
+use der_core::making::{integer_octets_of, value_cmp_by_contents};
+use der_core::{EncodeValue, Error, ErrorKind, FixedTag, Leaf, Length, Tag, ValueOrd, Writer};
 use rand_core::CryptoRng;
 use std::alloc::{AllocError, Global};
 use std::cmp::Ordering;
@@ -238,12 +235,18 @@ impl<P> FixedTag for SerialNumber<P> {
     }
 }
 
-/// Two's complement in the fewest octets, no more than the profile reads.
-impl<'a, P: Profile> Leaf<'a> for SerialNumber<P> {
+impl<P: Profile> Described for SerialNumber<P> {
+    type By = AsLeaf;
+}
+
+impl<P: Profile> Primitive for SerialNumber<P> {
     ghost kind = { integer (numbers_within P.serial_limit) };
 
     ghost leaf_plain = { λ n. n };
+}
 
+/// Two's complement in the fewest octets, no more than the profile reads.
+impl<'a, P: Profile> Leaf<'a> for SerialNumber<P> {
     fn from_content(alloc: Global, tag: Tag, octets: &'a [u8]) -> Result<SerialNumber<P>, Error> {
         let serial = SerialNumber {
             inner: Int::from_content(alloc, tag, octets)?,
@@ -256,40 +259,14 @@ impl<'a, P: Profile> Leaf<'a> for SerialNumber<P> {
     }
 }
 
-impl<P: Profile> ShapedValue for SerialNumber<P> {
-    ghost content = { leaf (integer (numbers_within P.serial_limit)) };
-
-    ghost value_plain = { λ n. n };
-
-    ghost value_written = { λ n. n };
-}
-
-impl<'a, R: Reader<'a>, P: Profile> DecodeValue<'a, R> for SerialNumber<P> {
-    fn decode_value(
-        alloc: Global,
-        reader: &mut R,
-        header: Header,
-    ) -> Result<SerialNumber<P>, Error> {
-        decode_leaf(alloc, reader, header)
-    }
-}
-
-impl<P: Profile> EncodeValue for SerialNumber<P> {
-    fn value_len(&self) -> Result<Length, Error> {
+impl<P: Profile> EncodeLeaf for SerialNumber<P> {
+    fn leaf_len(&self) -> Result<Length, Error> {
         self.inner.value_len()
     }
 
-    fn encode_value<W: Writer>(&self, writer: &mut W) -> Result<(), Error> {
+    fn encode_leaf<W: Writer>(&self, writer: &mut W) -> Result<(), Error> {
         self.inner.encode_value(writer)
     }
-}
-
-impl<P: Profile> ApartValue for SerialNumber<P> {
-    ghost apart_value = { refl };
-}
-
-impl<P: Profile> AsReadValue for SerialNumber<P> {
-    ghost as_read_value = { λ _. refl };
 }
 
 /// The content octets as pairs of upper-case digits in base 16, joined by colons.

@@ -12,6 +12,7 @@ ghost use Rattle.x509_cert_parts.specs.Views.{time_value, time_date, validity_pl
 
 use crate::profile::{Profile, Rfc5280};
 use crate::time::Time;
+use der_core::describing::{DecodeRow, FieldRow};
 use der_core::making::read_fields;
 use der_core::{
     ApartValue, DecodeFields, DecodeValue, EncodeFields, EncodeValue, Error, ErrorKind, Fields,
@@ -85,7 +86,7 @@ impl<P> Validity<P> {
 impl<P: Profile> Validity<P> {
     /// The dates as the profile spells them, in a row. They are always answered.
     fn spelled(&self) -> Result<Row, Error>
-        ensures { IsOkAnd result (λ row. ⟦<Row as Fields>⟧.fields_written row
+        ensures { IsOkAnd result (λ row. ⟦<Row as FieldRow>⟧.fields_written row
             ≡ validity_by P.respells (validity_plain self.now)) }
     {
         let not_before = P::time_encoding(self.not_before)?;
@@ -112,7 +113,7 @@ impl<P: Profile> Fields for Validity<P> {
 
 impl<'a, R: Reader<'a>, P: Profile> DecodeFields<'a, R> for Validity<P> {
     fn decode_fields(alloc: Global, reader: &mut R) -> Result<Validity<P>, Error> {
-        let (not_before, (not_after, ())) = Row::decode_fields(alloc, reader)?;
+        let (not_before, (not_after, ())) = Row::decode_row(alloc, reader)?;
         Ok(Validity::new(not_before, not_after))
     }
 }

@@ -5,9 +5,9 @@ ghost use Rattle.x509_cert_parts.specs.Grammar.{version_numbers};
 ghost use Rattle.x509_cert_parts.specs.Views.{version_number};
 
 use crate::octet_numbers::number_among;
+use der_core::describing::{AsInteger, Described, Ordered};
 use der_core::making::is_zero;
-use der_core::{DefaultContent, Error, Integer, Tag, ValueOrd};
-use std::cmp::Ordering;
+use der_core::{DefaultContent, Error, Integer, Tag};
 
 /// The version of a certificate (RFC 5280 4.1.2.1).
 ///
@@ -35,6 +35,10 @@ impl Version {
     }
 }
 
+impl Described for Version {
+    type By = AsInteger;
+}
+
 /// Any other number is refused as `Value`.
 impl Integer for Version {
     ghost numbers = { version_numbers };
@@ -55,12 +59,7 @@ impl Integer for Version {
 }
 
 /// The order of the numbers.
-impl ValueOrd for Version {
-    #[tactic(auto, unfolding(der_core_head::specs::Shapes::contents, der_core_head::specs::Shapes::IsContent))]
-    fn value_cmp(&self, other: &Self) -> Result<Ordering, Error> {
-        self.number().value_cmp(&other.number())
-    }
-}
+impl Ordered for Version {}
 
 /// `V1`.
 impl DefaultContent for Version {

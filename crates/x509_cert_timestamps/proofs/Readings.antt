@@ -1,14 +1,13 @@
 -- Octets begin with the spelling of one value at most, and where they do, nothing refuses them.
-use Rattle.std.proofs.Common.{◌≡◌, ◌≢◌, ℕ, ◌^◌, ◌<◌, Bool, true, false, List, [], ◌∷◌, ◌++◌, length, refl, sym, ap, subst, ◌∙◌, append_assoc, arith, inl, inr}
-use Rattle.std.specs.Prelude.{IsTrue, ◌==◌, ◌||◌}
+use Rattle.std.proofs.Common.{◌≡◌, ◌≢◌, ℕ, ◌^◌, ◌<◌, List, [], ◌∷◌, ◌++◌, length, refl, sym, ap, subst, ◌∙◌, append_assoc, arith, inl, inr}
+use Rattle.std.specs.Prelude.{IsTrue, ◌==◌}
 use Rattle.std.specs.List.{AllByRecursion, list_any}
 use Rattle.std.specs.Int.{w16, w64, from_be_bytes}
-use Rattle.std.proofs.lemmas.Bool.Decides.{Decides-eqb}
+use Rattle.std.proofs.lemmas.Bool.Decides.{nat_tests}
 use Rattle.std.proofs.lemmas.Nat.{from_be_bytes-to_be_bytes_2, from_be_bytes-to_be_bytes_8}
 use Rattle.std.proofs.lemmas.List.{length-append}
 use Rattle.const_oid.proofs.DigitLaws.{split-same_length}
 use Rattle.x509_cert_timestamps.specs.declared.tls_error.TlsError.{TlsError}
-use Rattle.x509_cert_timestamps.specs.declared.tls_error.TlsError.TheVariants.{UnknownValue}
 use Rattle.x509_cert_timestamps.specs.Forms.{Form, Plain, named, long, exactly, vector, pair, octets, Spells, Refuses, RefusesWhole, short_octets, long_octets}
 use Rattle.x509_cert_timestamps.proofs.NumberOctets.{length-short, length-long}
 
@@ -48,16 +47,9 @@ spelled_once (pair f g) v w input r s p q =
     let b : v.1 ≡ w.1 = second.0 in
     (ap (λ (x : Plain f). (x, v.1)) a ∙ ap (λ (y : Plain g). (w.0, y)) b, second.1)
 
-known_cases : (a b : Bool) → (a || b) ≡ true → (a ≡ true → ⊥) → (b ≡ true → ⊥) → ⊥
-known_cases true b either first second = first refl
-known_cases false b either first second = second either
-
 known : (numbers : List ℕ) (v : ℕ) → IsTrue (list_any (λ n. n == v) numbers) → AllByRecursion (λ m. v ≢ m) numbers → ⊥
 known [] v listed none = absurd cc
-known (n ∷ numbers) v listed none =
-    let tail : IsTrue (list_any (λ m. m == v) numbers) → ⊥ = λ t. known numbers v t none.1 in
-    let head : v ≢ n = none.0 in
-    known_cases (n == v) (list_any (λ m. m == v) numbers) listed (λ e. head (sym ((Decides-eqb n v).0 e))) tail
+known (n ∷ numbers) v listed none = grind (arith, nat_tests, none.0, λ (e : IsTrue (list_any (λ m. m == v) numbers)). known numbers v e none.1)
 
 pub spelled_not_refused : (f : Form) (v : Plain f) (input r : List ℕ) (e : TlsError) → Spells f v input r → Refuses f input e → ⊥
 spelled_not_refused (named numbers) v input r e p (inl none) =
@@ -86,17 +78,7 @@ spelled_whole f v input e p (inr (w, rest, spelled, left, _)) =
     left (sym parts.1)
 
 pub refused_once : (f : Form) (input : List ℕ) (d e : TlsError) → Refuses f input d → Refuses f input e → d ≡ e
-refused_once (named numbers) input d e (inl p) (inl q) = p.1 ∙ sym q.1
-refused_once (named numbers) input d e (inl p) (inr (n, rest, is, unknown, q)) =
-    let never : [] ≡ n ∷ rest = sym p.0 ∙ is in
-    absurd cc
-refused_once (named numbers) input d e (inr (n, rest, is, unknown, p)) (inl q) =
-    let never : [] ≡ n ∷ rest = sym q.0 ∙ is in
-    absurd cc
-refused_once (named numbers) input d e (inr (n, rest, is, unknown, p)) (inr (m, other, is_also, unknown_also, q)) =
-    let same : n ∷ rest ≡ m ∷ other = sym is ∙ is_also in
-    let number : n ≡ m = cc in
-    p ∙ ap (λ (k : ℕ). UnknownValue k) number ∙ sym q
+refused_once (named numbers) input d e p q = grind arith
 refused_once long input d e p q = p.1 ∙ sym q.1
 refused_once (exactly n) input d e p q = p.1 ∙ sym q.1
 refused_once vector input d e p q = p.1 ∙ sym q.1

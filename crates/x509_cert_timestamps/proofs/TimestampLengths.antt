@@ -1,5 +1,5 @@
 -- How many octets spell a timestamp.
-use Rattle.std.proofs.Common.{◌≡◌, ℕ, ◌+◌, ◌++◌, length, min, arith}
+use Rattle.std.proofs.Common.{◌≡◌, ℕ, ◌+◌, ◌++◌, length, arith}
 use Rattle.std.proofs.lemmas.List.{length-append}
 use Rattle.x509_cert_timestamps.specs.declared.signed_certificate_timestamp.SignedCertificateTimestamp.{SignedCertificateTimestamp}
 use Rattle.x509_cert_timestamps.specs.Forms.{octets, vector, long_octets}
@@ -11,7 +11,3 @@ timestamp_length t =
     let e = octets vector t.extensions.items in
     let s = octets signed_form (signed_plain t.signature) in
     omega (arith, length-append t.log_id.key_id (long_octets t.timestamp ++ (e ++ s)), length-append (long_octets t.timestamp) (e ++ s), length-append e s, length-long t.timestamp)
-
--- sums that stop at the greatest number stop where one sum of all does
-pub saturated : (fixed a b e s middle sum : ℕ) → e ≡ min a 18446744073709551615 → s ≡ min b 18446744073709551615 → middle ≡ min (fixed + e) 18446744073709551615 → sum ≡ min (middle + s) 18446744073709551615 → sum ≡ min (fixed + a + b) 18446744073709551615
-saturated fixed a b e s middle sum p q r t = omega arith

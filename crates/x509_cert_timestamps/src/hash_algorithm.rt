@@ -1,12 +1,8 @@
 //! HashAlgorithm.
 
-ghost use Rattle.x509_cert_timestamps.specs.Forms.{named};
 ghost use Rattle.x509_cert_timestamps.specs.Numbers.{hash_number, hash_numbers};
 
-use crate::numbered::{Numbered, append_named, read_named};
-use crate::tls_error::TlsError;
-use crate::tls_value::TlsValue;
-use std::alloc::Global;
+use crate::numbered::Numbered;
 
 /// The hash of a signature (RFC 5246 7.4.1.4.1, RFC 8422 5.1.3).
 ///
@@ -64,26 +60,5 @@ impl Numbered for HashAlgorithm {
             HashAlgorithm::Sha512 => 6,
             HashAlgorithm::Intrinsic => 8,
         }
-    }
-}
-
-impl TlsValue for HashAlgorithm {
-    ghost form = { named hash_numbers };
-
-    ghost plain = { hash_number };
-
-    fn tls_deserialize_bytes(
-        _alloc: Global,
-        input: &[u8],
-    ) -> Result<(HashAlgorithm, &[u8]), TlsError> {
-        read_named(input)
-    }
-
-    fn append_to(&self, output: &mut Vec<u8>) -> Result<(), TlsError> {
-        append_named(self, output)
-    }
-
-    fn tls_serialized_len(&self) -> usize {
-        1
     }
 }

@@ -1,10 +1,10 @@
 //! Enumerations of one octet (RFC 5246 4.5).
 
-ghost use Rattle.std.specs.Prelude.{IfOk, IfErr, OnOk, OnErr, ◌∷◌, []};
-ghost use Rattle.x509_cert_timestamps.specs.Forms.{named, Spells, FailsOn, Appends, CannotWrite};
-ghost use Rattle.x509_cert_timestamps.specs.Forms.{StillBegins};
+ghost use Rattle.x509_cert_timestamps.specs.Forms.{named};
 
 use crate::tls_error::TlsError;
+use crate::tls_value::TlsValue;
+use std::alloc::Global;
 
 /// An enumeration whose members have numbers of one octet.
 pub trait Numbered: Drop {
@@ -29,28 +29,28 @@ pub trait Numbered: Drop {
         ensures named { IsTrue (list_any (λ n. n == result) numbers) };
 }
 
-/// The member that the octets begin with, and the octets behind it.
-pub(crate) fn read_named<T: Numbered>(input: &[u8]) -> Result<(T, &[u8]), TlsError>
-    ensures ok { IfOk result (λ p. Spells (named T.numbers) (T.number p.0) input.now p.1.now) }
-    ensures err { IfErr result (λ e. FailsOn (named T.numbers) input.now e) }
-{
-    let Some((octet, rest)) = input.split_first() else {
-        return Err(TlsError::EndOfStream);
-    };
-    let Some(member) = T::from_number(*octet) else {
-        return Err(TlsError::UnknownValue(u64::from(*octet)));
-    };
-    Ok((member, rest))
-}
+impl<T: Numbered> TlsValue for T {
+    ghost form = { named T.numbers };
 
-/// Puts a member's octet behind others.
-#[tactic(auto, using(crate::proofs::Fronts::fronts))]
-pub(crate) fn append_named<T: Numbered>(member: &T, output: &mut Vec<u8>) -> Result<(), TlsError>
-    ensures ok { OnOk result
-        (Appends (named T.numbers) (T.number member.now) output.old.items output.new.items) }
-    ensures err { IfErr result (λ e. CannotWrite (named T.numbers) (T.number member.now) e) }
-    ensures kept { OnErr result (StillBegins output.old.items output.new.items) }
-{
-    output.push(member.to_number())?;
-    Ok(())
+    ghost plain = { T.number };
+
+    fn tls_deserialize_bytes(_alloc: Global, input: &[u8]) -> Result<(T, &[u8]), TlsError> {
+        let Some((octet, rest)) = input.split_first() else {
+            return Err(TlsError::EndOfStream);
+        };
+        let Some(member) = T::from_number(*octet) else {
+            return Err(TlsError::UnknownValue(u64::from(*octet)));
+        };
+        Ok((member, rest))
+    }
+
+    #[tactic(auto, using(crate::proofs::Fronts::fronts))]
+    fn append_to(&self, output: &mut Vec<u8>) -> Result<(), TlsError> {
+        output.push(self.to_number())?;
+        Ok(())
+    }
+
+    fn tls_serialized_len(&self) -> usize {
+        1
+    }
 }

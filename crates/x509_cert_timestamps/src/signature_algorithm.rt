@@ -1,12 +1,8 @@
 //! SignatureAlgorithm.
 
-ghost use Rattle.x509_cert_timestamps.specs.Forms.{named};
 ghost use Rattle.x509_cert_timestamps.specs.Numbers.{signature_number, signature_numbers};
 
-use crate::numbered::{Numbered, append_named, read_named};
-use crate::tls_error::TlsError;
-use crate::tls_value::TlsValue;
-use std::alloc::Global;
+use crate::numbered::Numbered;
 
 /// The algorithm of a signature (RFC 5246 7.4.1.4.1, RFC 8422 5.1.3).
 ///
@@ -55,26 +51,5 @@ impl Numbered for SignatureAlgorithm {
             SignatureAlgorithm::Ed25519 => 7,
             SignatureAlgorithm::Ed448 => 8,
         }
-    }
-}
-
-impl TlsValue for SignatureAlgorithm {
-    ghost form = { named signature_numbers };
-
-    ghost plain = { signature_number };
-
-    fn tls_deserialize_bytes(
-        _alloc: Global,
-        input: &[u8],
-    ) -> Result<(SignatureAlgorithm, &[u8]), TlsError> {
-        read_named(input)
-    }
-
-    fn append_to(&self, output: &mut Vec<u8>) -> Result<(), TlsError> {
-        append_named(self, output)
-    }
-
-    fn tls_serialized_len(&self) -> usize {
-        1
     }
 }

@@ -1,9 +1,7 @@
 //! SignedCertificateTimestampList.
 
-ghost use Rattle.std.specs.Prelude.{◌≡◌, IfOk, IfErr, refl, flat_map, All};
+ghost use Rattle.std.specs.Prelude.{◌≡◌, IfOk, IfErr, flat_map, All};
 ghost use Rattle.der_core_head.specs.declared.tag.Tag.TheVariants.{OctetString};
-ghost use Rattle.der_core_head.specs.Leaves.{octets};
-ghost use Rattle.der_core_head.specs.Shapes.{leaf};
 ghost use Rattle.x509_cert_timestamps.specs.Lists.{IsMember, sct_octets, SpellsList, ReadsNoList};
 ghost use Rattle.x509_cert_timestamps.specs.Lists.{MakesNoList, ReadsNoMembers, MakesNoMembers};
 
@@ -12,13 +10,9 @@ use crate::serialized_sct::SerializedSct;
 use crate::tls_error::TlsError;
 use crate::tls_value::TlsValue;
 use crate::vectors::{append_vector, split_vector};
-use der_core::{
-    ApartValue, AsReadValue, DecodeValue, EncodeValue, FixedTag, Header, Length, Reader,
-    ShapedValue, Tag, ValueOrd, Writer,
-};
+use der_core::describing::{AsField, Described, Ordered, Wraps};
 use der_types_values::OctetString;
 use std::alloc::Global;
-use std::cmp::Ordering;
 
 /// The timestamps of a certificate, an extension of 1.3.6.1.4.1.11129.2.4.2 (RFC 6962 3.3).
 ///
@@ -69,6 +63,7 @@ impl SignedCertificateTimestampList {
     /// # Errors
     /// `InvalidVectorLength` where one of them has more than 65535 octets, or all have with their
     /// lengths; `OutOfMemory`.
+    #[tactic(auto, using(crate::proofs::Members::list_is_short))]
     pub fn new(
         alloc: Global,
         serialized_scts: &[SerializedSct],
@@ -101,56 +96,23 @@ impl SignedCertificateTimestampList {
     }
 }
 
-impl FixedTag for SignedCertificateTimestampList {
-    ghost fixed_tag = { OctetString };
+impl Described for SignedCertificateTimestampList {
+    type By = AsField<OctetString>;
+}
 
-    fn tag() -> Tag {
-        Tag::OctetString
+impl Wraps<OctetString> for SignedCertificateTimestampList {
+    ghost inner = { λ x. x.0 };
+
+    fn inner(&self) -> &OctetString {
+        &self.0
+    }
+
+    fn wrap(field: OctetString) -> SignedCertificateTimestampList {
+        SignedCertificateTimestampList(field)
     }
 }
 
-impl ShapedValue for SignedCertificateTimestampList {
-    ghost content = { leaf octets };
-
-    ghost value_plain = { λ x. x.0 };
-
-    ghost value_written = { λ x. x.0 };
-}
-
-impl<'a, R: Reader<'a>> DecodeValue<'a, R> for SignedCertificateTimestampList {
-    fn decode_value(
-        alloc: Global,
-        reader: &mut R,
-        header: Header,
-    ) -> Result<SignedCertificateTimestampList, der_core::Error> {
-        let value = <OctetString>::decode_value(alloc, reader, header)?;
-        Ok(SignedCertificateTimestampList(value))
-    }
-}
-
-impl EncodeValue for SignedCertificateTimestampList {
-    fn value_len(&self) -> Result<Length, der_core::Error> {
-        self.0.value_len()
-    }
-
-    fn encode_value<W: Writer>(&self, writer: &mut W) -> Result<(), der_core::Error> {
-        self.0.encode_value(writer)
-    }
-}
-
-impl ApartValue for SignedCertificateTimestampList {
-    ghost apart_value = { refl };
-}
-
-impl AsReadValue for SignedCertificateTimestampList {
-    ghost as_read_value = { λ _. refl };
-}
-
-impl ValueOrd for SignedCertificateTimestampList {
-    fn value_cmp(&self, other: &Self) -> Result<Ordering, der_core::Error> {
-        self.0.value_cmp(&other.0)
-    }
-}
+impl Ordered for SignedCertificateTimestampList {}
 
 impl From<OctetString> for SignedCertificateTimestampList {
     ghost from_gives = { λ v x. x.0 ≡ v };

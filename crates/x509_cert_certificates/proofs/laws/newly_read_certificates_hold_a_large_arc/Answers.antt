@@ -1,17 +1,25 @@
-use Rattle.x509_cert_certificates.proofs.Bounds.{certificates_narrow, certificates_exactly, certificates_new, whole_certificates_new, front_certificates_new}
+use Rattle.der_core_head.proofs.Families.{front_new, new_spelled, spelled_exactly, spelled_narrow, whole_new}
+use Rattle.der_core_head.specs.Bounds.{identifiers_of}
+use Rattle.x509_cert_certificates.specs.Bounds.{certificate_identifiers}
+use Rattle.x509_cert_certificates.proofs.Bounds.{certificates}
 use Rattle.x509_cert_certificates.proofs.laws.newly_read_certificates_hold_a_large_arc.Goals as goal
 
 pub returns-clause-narrow : goal.returns-clause-narrow
-returns-clause-narrow c = certificates_narrow
+unfolding certificate_identifiers identifiers_of
+returns-clause-narrow c = λ small large limit. spelled_narrow _ _ (certificates limit) small large
 
 pub returns-clause-new : goal.returns-clause-new
-returns-clause-new c = certificates_new
+unfolding certificate_identifiers identifiers_of
+returns-clause-new c = λ small large limit. new_spelled _ _ (certificates limit) small large
 
 pub returns-clause-whole : goal.returns-clause-whole
-returns-clause-whole c = whole_certificates_new
+unfolding certificate_identifiers identifiers_of
+returns-clause-whole c = λ small large limit. whole_new _ _ (certificates limit) small large
 
 pub returns-clause-front : goal.returns-clause-front
-returns-clause-front c = front_certificates_new
+unfolding certificate_identifiers identifiers_of
+returns-clause-front c = λ small large limit. front_new _ _ (certificates limit) small large
 
 pub returns-clause-exact : goal.returns-clause-exact
-returns-clause-exact c = certificates_exactly
+unfolding certificate_identifiers identifiers_of
+returns-clause-exact c = λ small large limit. spelled_exactly _ _ (certificates limit) small large

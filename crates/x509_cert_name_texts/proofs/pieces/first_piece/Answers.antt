@@ -1,4 +1,4 @@
-use Rattle.std.proofs.Common.{◌≡◌, ◌+◌, ◌<◌, refl, sym, ap, ◌∙◌, take, drop, length, get_or, rules, arith}
+use Rattle.std.proofs.Common.{◌≡◌, ◌<◌, sym, ap, ◌∙◌, get_or, arith}
 use Rattle.std.proofs.lemmas.Str.{lead_after_ascii}
 use Rattle.x509_cert_name_texts.proofs.pieces.first_piece.Goals as goal
 

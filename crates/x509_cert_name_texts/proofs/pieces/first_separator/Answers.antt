@@ -1,4 +1,4 @@
-use Rattle.std.proofs.Common.{◌≡◌, ◌+◌, ◌<◌, ◌==◌, ap, sym, refl, ◌∙◌, take, get_or, length, true, false, rules, arith}
+use Rattle.std.proofs.Common.{◌==◌, ap, sym, refl, ◌∙◌, take, get_or, arith}
 use Rattle.std.specs.Prelude.{not, ◌&&◌}
 use Rattle.std.proofs.lemmas.List.{take_more}
 use Rattle.x509_cert_name_texts.proofs.PieceSteps.{is_escaped, is_escaped-push, none_in_front, none_more, found_counts, found_is}

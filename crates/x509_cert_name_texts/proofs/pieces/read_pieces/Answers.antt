@@ -1,4 +1,4 @@
-use Rattle.std.proofs.Common.{◌≡◌, [], ◌∷◌, ◌++◌, Ok, Err, ap, sym, subst, refl, ◌∙◌, rules, arith}
+use Rattle.std.proofs.Common.{Err, ap}
 use Rattle.std.specs.Prelude.{option_map}
 use Rattle.std.proofs.lemmas.Result.{err_from_is_err_and}
 use Rattle.x509_cert_name_texts.specs.Pieces.{ReadsPieces}

@@ -1,4 +1,4 @@
-use Rattle.std.proofs.Common.{[], ◌++◌, ◌==◌, length, append_assoc, ap, sym, refl, ◌∙◌, false, rules}
+use Rattle.std.proofs.Common.{◌++◌, ◌==◌, length, append_assoc, ap, refl, ◌∙◌, false}
 use Rattle.std.proofs.Output.{has_written_append, has_written_of_eq}
 use Rattle.std.specs.Str.{chars}
 use Rattle.std.specs.Str.Iter.{chars_rest}

@@ -1,4 +1,4 @@
-use Rattle.std.proofs.Common.{[], ap, sym, refl, ◌∙◌, take, rules, arith}
+use Rattle.std.proofs.Common.{[], ap, sym, refl, ◌∙◌, take}
 use Rattle.std.proofs.Output.{has_written_append, has_written_of_eq}
 use Rattle.std.proofs.lemmas.List.{take_more, flat_map_more}
 use Rattle.x509_cert_name_texts.specs.Escapes.{hex_digits, in_hex}

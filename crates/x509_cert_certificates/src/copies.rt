@@ -1,0 +1,44 @@
+//! Copies of certificates. The largest field is copied last, so that little is
+//! dropped where memory ends.
+
+ghost use Rattle.std.specs.Prelude.{◌≡◌, IfOk};
+ghost use Rattle.x509_cert_certificates.specs.Views.{certificate_plain, tbs_plain};
+
+use crate::certificate::CertificateInner;
+use crate::tbs_certificate::TbsCertificateInner;
+use der_core::making::{copies_of_option, copy_of_option};
+use std::alloc::{AllocError, Global};
+use x509_cert_parts::{BitString, Extension, Validity};
+
+impl<P> CertificateInner<P> {
+    /// A copy. Want of memory is the only error.
+    pub fn clone(&self, alloc: Global) -> Result<CertificateInner<P>, AllocError>
+        ensures { IfOk result (λ c. certificate_plain c ≡ certificate_plain self.now) }
+    {
+        Ok(CertificateInner {
+            signature: self.signature.clone(alloc)?,
+            signature_algorithm: self.signature_algorithm.clone(alloc)?,
+            tbs_certificate: self.tbs_certificate.clone(alloc)?,
+        })
+    }
+}
+
+impl<P> TbsCertificateInner<P> {
+    /// A copy. Want of memory is the only error.
+    pub fn clone(&self, alloc: Global) -> Result<TbsCertificateInner<P>, AllocError>
+        ensures { IfOk result (λ c. tbs_plain c ≡ tbs_plain self.now) }
+    {
+        Ok(TbsCertificateInner {
+            version: self.version,
+            validity: Validity::new(self.validity.not_before, self.validity.not_after),
+            serial_number: self.serial_number.clone(alloc)?,
+            issuer: self.issuer.clone(alloc)?,
+            subject: self.subject.clone(alloc)?,
+            issuer_unique_id: copy_of_option(alloc, &self.issuer_unique_id, BitString::clone)?,
+            subject_unique_id: copy_of_option(alloc, &self.subject_unique_id, BitString::clone)?,
+            signature: self.signature.clone(alloc)?,
+            subject_public_key_info: self.subject_public_key_info.clone(alloc)?,
+            extensions: copies_of_option(alloc, &self.extensions, Extension::clone)?,
+        })
+    }
+}
