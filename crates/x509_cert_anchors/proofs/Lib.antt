@@ -1,4 +1,3 @@
-pub mod Options
 pub use Rattle.x509_cert_policies.proofs.Names.Rows
 pub mod VersionOctets
 mod Respelled

@@ -4,6 +4,7 @@ ghost use Rattle.std.specs.Prelude.{◌≡◌};
 ghost use Rattle.x509_cert_anchors.specs.Grammar.{anchor_numbers, first_version_octets};
 ghost use Rattle.x509_cert_anchors.specs.Views.{anchor_number};
 
+use der_core::describing::{AsInteger, Described, Ordered};
 use der_core::{DefaultValue, Error, Integer, Tag};
 use x509_cert_policies::general_names::making::number_among;
 
@@ -16,6 +17,10 @@ use x509_cert_policies::general_names::making::number_among;
 pub enum Version {
     #[default]
     V1,
+}
+
+impl Described for Version {
+    type By = AsInteger;
 }
 
 /// Any other number is refused as `Value`.
@@ -33,6 +38,8 @@ impl Integer for Version {
         (false, 1)
     }
 }
+
+impl Ordered for Version {}
 
 /// `V1`.
 impl DefaultValue for Version {

@@ -1,18 +1,18 @@
 //! What a path from a trust anchor must meet.
 
-ghost use Rattle.std.specs.Prelude.{◌≡◌, refl};
+ghost use Rattle.std.specs.Prelude.{pos, refl};
 ghost use Rattle.const_oid.specs.Bound.{Bound};
-ghost use Rattle.der_core_head.specs.declared.tag.Tag.TheVariants.{Sequence};
-ghost use Rattle.der_core_head.specs.Shapes.{nested};
+ghost use Rattle.der_core_head.specs.Grammar.{plain_list, plain_option};
+ghost use Rattle.x509_cert_policies.specs.GeneralNameViews.{name_constraints_plain};
+ghost use Rattle.x509_cert_policies.specs.Views.{policy_information_plain};
 ghost use Rattle.x509_cert_anchors.specs.Grammar.{cert_path_controls_fields, cert_path_controls_by};
+ghost use Rattle.x509_cert_anchors.specs.Grammar.{constraint_fields};
 ghost use Rattle.x509_cert_anchors.specs.Views.{cert_path_controls_plain};
 
 use crate::cert_policies::CertPolicyFlags;
-use der_core::making::{implicit_of, implicit_ref, read_fields};
-use der_core::{
-    ApartValue, DecodeFields, DecodeValue, EncodeFields, EncodeRef, EncodeValue, Error, Fields,
-    FixedTag, Header, Implicit, ImplicitRef, Length, Reader, ShapedValue, Tag, Writer,
-};
+use der_core::describing::{AsRecord, DecodeRow, Described, FieldRow, RowUser, Rows};
+use der_core::making::{implicit_of, implicit_ref};
+use der_core::{DecodeFields, EncodeRef, Error, Fields, Reader, lend, row};
 use std::alloc::Global;
 use x509_cert_policies::CertificatePolicies;
 use x509_cert_policies::certificates::{CertificateInner, Name, Profile, Rfc5280};
@@ -30,7 +30,7 @@ use x509_cert_policies::general_names::NameConstraints;
 ///     pathLenConstraint  [4] INTEGER (0..MAX) OPTIONAL }
 /// ```
 #[derive(Drop)]
-#[derive_where(Clone, Debug, PartialEq, Eq)]
+#[derive_where(Debug, PartialEq, Eq)]
 pub struct CertPathControls<P = Rfc5280> {
     /// The name of the anchor.
     pub ta_name: Name,
@@ -46,91 +46,6 @@ pub struct CertPathControls<P = Rfc5280> {
     pub path_len_constraint: Option<u32>,
 }
 
-type Row<P> = (
-    Name,
-    (
-        Option<Implicit<CertificateInner<P>, 0>>,
-        (
-            Option<Implicit<CertificatePolicies, 1>>,
-            (
-                Option<Implicit<CertPolicyFlags, 2>>,
-                (
-                    Option<Implicit<NameConstraints, 3>>,
-                    (Option<Implicit<u32, 4>>, ()),
-                ),
-            ),
-        ),
-    ),
-);
-
-type RowRef<'a, P> = (
-    EncodeRef<'a, Name>,
-    (
-        Option<ImplicitRef<'a, CertificateInner<P>, 0>>,
-        (
-            Option<ImplicitRef<'a, CertificatePolicies, 1>>,
-            (
-                Option<ImplicitRef<'a, CertPolicyFlags, 2>>,
-                (
-                    Option<ImplicitRef<'a, NameConstraints, 3>>,
-                    (Option<ImplicitRef<'a, u32, 4>>, ()),
-                ),
-            ),
-        ),
-    ),
-);
-
-impl<P: Profile> CertPathControls<P> {
-    /// The record of these fields.
-    fn of_row(row: Row<P>) -> CertPathControls<P>
-        ensures { cert_path_controls_plain result ≡ ⟦<Row<P> as Fields>⟧.fields_plain row }
-    {
-        let (
-            ta_name,
-            (certificate, (policy_set, (policy_flags, (name_constr, (path_len_constraint, ()))))),
-        ) = row;
-        CertPathControls {
-            ta_name,
-            certificate: implicit_of(certificate),
-            policy_set: implicit_of(policy_set),
-            policy_flags: implicit_of(policy_flags),
-            name_constr: implicit_of(name_constr),
-            path_len_constraint: implicit_of(path_len_constraint),
-        }
-    }
-
-    /// The fields in their order, lent.
-    fn row<'a>(&'a self) -> RowRef<'a, P>
-        ensures { ⟦<RowRef<'a, P> as Fields>⟧.fields_written result
-            ≡ cert_path_controls_by P.respells (cert_path_controls_plain self.now) }
-    {
-        (
-            EncodeRef(&self.ta_name),
-            (
-                implicit_ref(&self.certificate),
-                (
-                    implicit_ref(&self.policy_set),
-                    (
-                        implicit_ref(&self.policy_flags),
-                        (
-                            implicit_ref(&self.name_constr),
-                            (implicit_ref(&self.path_len_constraint), ()),
-                        ),
-                    ),
-                ),
-            ),
-        )
-    }
-}
-
-impl<P> FixedTag for CertPathControls<P> {
-    ghost fixed_tag = { Sequence };
-
-    fn tag() -> Tag {
-        Tag::Sequence
-    }
-}
-
 impl<P: Profile> Fields for CertPathControls<P> {
     ghost fields = { cert_path_controls_fields Bound P.serial_limit };
 
@@ -139,41 +54,89 @@ impl<P: Profile> Fields for CertPathControls<P> {
     ghost fields_written = { λ x. cert_path_controls_by P.respells (cert_path_controls_plain x) };
 }
 
+/// The fields behind the certificate, which are read as a row of their own: what is checked of
+/// all six at once takes more steps than a check may.
+#[derive(Drop)]
+struct Constraints {
+    policy_set: Option<CertificatePolicies>,
+    policy_flags: Option<CertPolicyFlags>,
+    name_constr: Option<NameConstraints>,
+    path_len_constraint: Option<u32>,
+}
+
+impl FieldRow for Constraints {
+    ghost fields = { constraint_fields Bound };
+
+    ghost fields_plain = { λ c. (
+      plain_option (λ ps. plain_list policy_information_plain ps.0.items) c.policy_set,
+      (
+        plain_option (λ f. f.flags.0) c.policy_flags,
+        (
+          plain_option name_constraints_plain c.name_constr,
+          (plain_option (λ n. pos n) c.path_len_constraint, tt),
+        ),
+      ),
+    ) };
+
+    ghost fields_written = { λ c. (
+      plain_option (λ ps. plain_list policy_information_plain ps.0.items) c.policy_set,
+      (
+        plain_option (λ f. f.flags.0) c.policy_flags,
+        (
+          plain_option name_constraints_plain c.name_constr,
+          (plain_option (λ n. pos n) c.path_len_constraint, tt),
+        ),
+      ),
+    ) };
+}
+
+impl<'a, R: Reader<'a>> DecodeRow<'a, R> for Constraints {
+    fn decode_row(alloc: Global, reader: &mut R) -> Result<Constraints, Error> {
+        let row!(policy_set, policy_flags, name_constr, path_len_constraint) =
+            DecodeRow::decode_row(alloc, reader)?;
+        Ok(Constraints {
+            policy_set: implicit_of::<_, 1>(policy_set),
+            policy_flags: implicit_of::<_, 2>(policy_flags),
+            name_constr: implicit_of::<_, 3>(name_constr),
+            path_len_constraint: implicit_of::<_, 4>(path_len_constraint),
+        })
+    }
+}
+
 impl<'a, R: Reader<'a>, P: Profile> DecodeFields<'a, R> for CertPathControls<P> {
     fn decode_fields(alloc: Global, reader: &mut R) -> Result<CertPathControls<P>, Error> {
-        let row = <Row<P>>::decode_fields(alloc, reader)?;
-        Ok(CertPathControls::of_row(row))
+        let (ta_name, (certificate, constraints)) = DecodeRow::decode_row(alloc, reader)?;
+        let Constraints {
+            policy_set,
+            policy_flags,
+            name_constr,
+            path_len_constraint,
+        } = constraints;
+        Ok(CertPathControls {
+            ta_name,
+            certificate: implicit_of::<_, 0>(certificate),
+            policy_set,
+            policy_flags,
+            name_constr,
+            path_len_constraint,
+        })
     }
 }
 
-impl<P: Profile> ShapedValue for CertPathControls<P> {
-    ghost content = { nested (cert_path_controls_fields Bound P.serial_limit) };
-
-    ghost value_plain = { cert_path_controls_plain };
-
-    ghost value_written = { λ x. cert_path_controls_by P.respells (cert_path_controls_plain x) };
+impl<P: Profile> Described for CertPathControls<P> {
+    type By = AsRecord;
 }
 
-impl<'a, R: Reader<'a>, P: Profile> DecodeValue<'a, R> for CertPathControls<P> {
-    fn decode_value(
-        alloc: Global,
-        reader: &mut R,
-        header: Header,
-    ) -> Result<CertPathControls<P>, Error> {
-        read_fields(alloc, reader, header)
-    }
-}
-
-impl<P: Profile> EncodeValue for CertPathControls<P> {
-    fn value_len(&self) -> Result<Length, Error> {
-        self.row().fields_len()
+impl<P: Profile> Rows for CertPathControls<P> {
+    fn with_rows<U: RowUser>(&self, other: &Self, user: &mut U) -> U::Answer {
+        lend!(self, other, user; |controls|
+            EncodeRef(&controls.ta_name),
+            implicit_ref::<_, 0>(&controls.certificate),
+            implicit_ref::<_, 1>(&controls.policy_set),
+            implicit_ref::<_, 2>(&controls.policy_flags),
+            implicit_ref::<_, 3>(&controls.name_constr),
+            implicit_ref::<_, 4>(&controls.path_len_constraint))
     }
 
-    fn encode_value<W: Writer>(&self, writer: &mut W) -> Result<(), Error> {
-        self.row().encode_fields(writer)
-    }
-}
-
-impl<P: Profile> ApartValue for CertPathControls<P> {
-    ghost apart_value = { refl };
+    ghost apart = { refl };
 }

@@ -4,6 +4,7 @@
 pub mod anchor;
 mod cert_path_controls;
 mod cert_policies;
+mod copies;
 pub mod laws;
 mod trust_anchor_choice;
 mod trust_anchor_info;

@@ -22,7 +22,7 @@ use x509_cert_policies::certificates::{CertificateInner, Profile, Rfc5280, TbsCe
 ///     taInfo       [2] EXPLICIT TrustAnchorInfo }
 /// ```
 #[derive(Drop)]
-#[derive_where(Clone, Debug, PartialEq, Eq)]
+#[derive_where(Debug, PartialEq, Eq)]
 pub enum TrustAnchorChoice<P = Rfc5280> {
     /// By a certificate.
     Certificate(CertificateInner<P>),

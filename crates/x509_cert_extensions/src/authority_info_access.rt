@@ -1,19 +1,9 @@
 //! AuthorityInfoAccessSyntax.
 
-ghost use Rattle.std.specs.Prelude.{◌≡◌, [], refl};
-ghost use Rattle.const_oid.specs.Bound.{Bound};
-ghost use Rattle.der_core_head.specs.declared.tag.Tag.TheVariants.{Sequence};
-ghost use Rattle.der_core_head.specs.Grammar.{plain_list};
-ghost use Rattle.der_core_head.specs.Shapes.{nested, many, sequence};
-ghost use Rattle.x509_cert_policies.specs.GeneralNames.{access_description_fields};
-ghost use Rattle.x509_cert_policies.specs.GeneralNameViews.{access_description_plain};
+ghost use Rattle.std.specs.Prelude.{◌≡◌, []};
 
-use der_core::{
-    ApartValue, AsReadValue, DecodeValue, EncodeValue, Error, FixedTag, Header, Length, Reader,
-    ShapedValue, Tag, ValueOrd, Writer,
-};
+use der_core::describing::{AsField, Described, Ordered, Wraps};
 use std::alloc::Global;
-use std::cmp::Ordering;
 use x509_cert_policies::general_names::AccessDescription;
 
 /// Where services of an issuer are had (RFC 5280 4.2.2.1).
@@ -21,7 +11,7 @@ use x509_cert_policies::general_names::AccessDescription;
 /// ```text
 /// AuthorityInfoAccessSyntax ::= SEQUENCE SIZE (1..MAX) OF AccessDescription
 /// ```
-#[derive(Clone, Debug, Drop, PartialEq, Eq)]
+#[derive(Debug, Drop, PartialEq, Eq)]
 pub struct AuthorityInfoAccessSyntax(pub Vec<AccessDescription>);
 
 impl AuthorityInfoAccessSyntax {
@@ -33,56 +23,23 @@ impl AuthorityInfoAccessSyntax {
     }
 }
 
-impl FixedTag for AuthorityInfoAccessSyntax {
-    ghost fixed_tag = { Sequence };
+impl Described for AuthorityInfoAccessSyntax {
+    type By = AsField<Vec<AccessDescription>>;
+}
 
-    fn tag() -> Tag {
-        Tag::Sequence
+impl Wraps<Vec<AccessDescription>> for AuthorityInfoAccessSyntax {
+    ghost inner = { λ x. x.0 };
+
+    fn inner(&self) -> &Vec<AccessDescription> {
+        &self.0
+    }
+
+    fn wrap(field: Vec<AccessDescription>) -> AuthorityInfoAccessSyntax {
+        AuthorityInfoAccessSyntax(field)
     }
 }
 
-impl ShapedValue for AuthorityInfoAccessSyntax {
-    ghost content = { nested (many (sequence (access_description_fields Bound))) };
-
-    ghost value_plain = { λ x. plain_list access_description_plain x.0.items };
-
-    ghost value_written = { λ x. plain_list access_description_plain x.0.items };
-}
-
-impl<'a, R: Reader<'a>> DecodeValue<'a, R> for AuthorityInfoAccessSyntax {
-    fn decode_value(
-        alloc: Global,
-        reader: &mut R,
-        header: Header,
-    ) -> Result<AuthorityInfoAccessSyntax, Error> {
-        let value = <Vec<AccessDescription>>::decode_value(alloc, reader, header)?;
-        Ok(AuthorityInfoAccessSyntax(value))
-    }
-}
-
-impl EncodeValue for AuthorityInfoAccessSyntax {
-    fn value_len(&self) -> Result<Length, Error> {
-        self.0.value_len()
-    }
-
-    fn encode_value<W: Writer>(&self, writer: &mut W) -> Result<(), Error> {
-        self.0.encode_value(writer)
-    }
-}
-
-impl ApartValue for AuthorityInfoAccessSyntax {
-    ghost apart_value = { refl };
-}
-
-impl AsReadValue for AuthorityInfoAccessSyntax {
-    ghost as_read_value = { λ _. refl };
-}
-
-impl ValueOrd for AuthorityInfoAccessSyntax {
-    fn value_cmp(&self, other: &Self) -> Result<Ordering, Error> {
-        self.0.value_cmp(&other.0)
-    }
-}
+impl Ordered for AuthorityInfoAccessSyntax {}
 
 impl From<Vec<AccessDescription>> for AuthorityInfoAccessSyntax {
     ghost from_gives = { λ v x. x.0 ≡ v };

@@ -1,17 +1,8 @@
 //! BaseCrlNumber.
 
-ghost use Rattle.std.specs.Prelude.{◌≡◌, pos, refl};
-ghost use Rattle.der_core_head.specs.declared.tag.Tag.TheVariants.{Integer};
-ghost use Rattle.der_core_head.specs.Leaves.{integer};
-ghost use Rattle.der_core_head.specs.Integers.{natural};
-ghost use Rattle.der_core_head.specs.Shapes.{leaf};
+ghost use Rattle.std.specs.Prelude.{◌≡◌};
 
-use der_core::{
-    ApartValue, AsReadValue, DecodeValue, EncodeValue, Error, FixedTag, Header, Length, Reader,
-    ShapedValue, Tag, ValueOrd, Writer,
-};
-use std::alloc::Global;
-use std::cmp::Ordering;
+use der_core::describing::{AsField, Described, Ordered, Wraps};
 use x509_cert_policies::certificates::Uint;
 
 /// The number of the list that a list of changes begins from (RFC 5280 5.2.4).
@@ -19,55 +10,26 @@ use x509_cert_policies::certificates::Uint;
 /// ```text
 /// BaseCRLNumber ::= CRLNumber
 /// ```
-#[derive(Clone, Debug, Drop, PartialEq, Eq)]
+#[derive(Debug, Drop, PartialEq, Eq)]
 pub struct BaseCrlNumber(pub Uint);
 
-impl FixedTag for BaseCrlNumber {
-    ghost fixed_tag = { Integer };
+impl Described for BaseCrlNumber {
+    type By = AsField<Uint>;
+}
 
-    fn tag() -> Tag {
-        Tag::Integer
+impl Wraps<Uint> for BaseCrlNumber {
+    ghost inner = { λ x. x.0 };
+
+    fn inner(&self) -> &Uint {
+        &self.0
+    }
+
+    fn wrap(field: Uint) -> BaseCrlNumber {
+        BaseCrlNumber(field)
     }
 }
 
-impl ShapedValue for BaseCrlNumber {
-    ghost content = { leaf (integer natural) };
-
-    ghost value_plain = { λ x. pos x.0 };
-
-    ghost value_written = { λ x. pos x.0 };
-}
-
-impl<'a, R: Reader<'a>> DecodeValue<'a, R> for BaseCrlNumber {
-    fn decode_value(alloc: Global, reader: &mut R, header: Header) -> Result<BaseCrlNumber, Error> {
-        let value = <Uint>::decode_value(alloc, reader, header)?;
-        Ok(BaseCrlNumber(value))
-    }
-}
-
-impl EncodeValue for BaseCrlNumber {
-    fn value_len(&self) -> Result<Length, Error> {
-        self.0.value_len()
-    }
-
-    fn encode_value<W: Writer>(&self, writer: &mut W) -> Result<(), Error> {
-        self.0.encode_value(writer)
-    }
-}
-
-impl ApartValue for BaseCrlNumber {
-    ghost apart_value = { refl };
-}
-
-impl AsReadValue for BaseCrlNumber {
-    ghost as_read_value = { λ _. refl };
-}
-
-impl ValueOrd for BaseCrlNumber {
-    fn value_cmp(&self, other: &Self) -> Result<Ordering, Error> {
-        self.0.value_cmp(&other.0)
-    }
-}
+impl Ordered for BaseCrlNumber {}
 
 impl From<Uint> for BaseCrlNumber {
     ghost from_gives = { λ v x. x.0 ≡ v };

@@ -1,19 +1,13 @@
 //! CrlNumber.
 
-ghost use Rattle.std.specs.Prelude.{◌≡◌, pos, refl, Ok};
+ghost use Rattle.std.specs.Prelude.{◌≡◌, pos, Ok};
 ghost use Rattle.der_core_head.specs.declared.tag.Tag.TheVariants.{Integer};
-ghost use Rattle.der_core_head.specs.Leaves.{integer};
-ghost use Rattle.der_core_head.specs.Integers.{natural};
 ghost use Rattle.der_core_head.specs.Reading.{Gives};
-ghost use Rattle.der_core_head.specs.Shapes.{leaf};
 
+use der_core::describing::{AsField, Described, Ordered, Wraps};
 use der_core::making::integer_octets_of;
-use der_core::{
-    ApartValue, AsReadValue, DecodeValue, EncodeValue, Error, FixedTag, Header, Leaf, Length,
-    Reader, ShapedValue, Tag, ValueOrd, Writer,
-};
+use der_core::{Error, Leaf, Tag};
 use std::alloc::Global;
-use std::cmp::Ordering;
 use x509_cert_policies::certificates::Uint;
 
 /// The number of a list of revoked certificates (RFC 5280 5.2.3).
@@ -21,7 +15,7 @@ use x509_cert_policies::certificates::Uint;
 /// ```text
 /// CRLNumber ::= INTEGER (0..MAX)
 /// ```
-#[derive(Clone, Debug, Drop, PartialEq, Eq)]
+#[derive(Debug, Drop, PartialEq, Eq)]
 pub struct CrlNumber(pub Uint);
 
 impl CrlNumber {
@@ -39,52 +33,23 @@ impl CrlNumber {
     }
 }
 
-impl FixedTag for CrlNumber {
-    ghost fixed_tag = { Integer };
+impl Described for CrlNumber {
+    type By = AsField<Uint>;
+}
 
-    fn tag() -> Tag {
-        Tag::Integer
+impl Wraps<Uint> for CrlNumber {
+    ghost inner = { λ x. x.0 };
+
+    fn inner(&self) -> &Uint {
+        &self.0
+    }
+
+    fn wrap(field: Uint) -> CrlNumber {
+        CrlNumber(field)
     }
 }
 
-impl ShapedValue for CrlNumber {
-    ghost content = { leaf (integer natural) };
-
-    ghost value_plain = { λ x. pos x.0 };
-
-    ghost value_written = { λ x. pos x.0 };
-}
-
-impl<'a, R: Reader<'a>> DecodeValue<'a, R> for CrlNumber {
-    fn decode_value(alloc: Global, reader: &mut R, header: Header) -> Result<CrlNumber, Error> {
-        let value = <Uint>::decode_value(alloc, reader, header)?;
-        Ok(CrlNumber(value))
-    }
-}
-
-impl EncodeValue for CrlNumber {
-    fn value_len(&self) -> Result<Length, Error> {
-        self.0.value_len()
-    }
-
-    fn encode_value<W: Writer>(&self, writer: &mut W) -> Result<(), Error> {
-        self.0.encode_value(writer)
-    }
-}
-
-impl ApartValue for CrlNumber {
-    ghost apart_value = { refl };
-}
-
-impl AsReadValue for CrlNumber {
-    ghost as_read_value = { λ _. refl };
-}
-
-impl ValueOrd for CrlNumber {
-    fn value_cmp(&self, other: &Self) -> Result<Ordering, Error> {
-        self.0.value_cmp(&other.0)
-    }
-}
+impl Ordered for CrlNumber {}
 
 impl From<Uint> for CrlNumber {
     ghost from_gives = { λ v x. x.0 ≡ v };

@@ -1,16 +1,12 @@
 //! CrlReason.
 
-ghost use Rattle.std.specs.Prelude.{◌≡◌, pos, refl};
+ghost use Rattle.std.specs.Prelude.{◌≡◌, pos};
 ghost use Rattle.der_core_head.specs.declared.tag.Tag.TheVariants.{Enumerated};
 ghost use Rattle.der_core_head.specs.Leaves.{integer};
-ghost use Rattle.der_core_head.specs.Shapes.{leaf};
 ghost use Rattle.x509_cert_extensions.specs.Reasons.{reason_number, reason_numbers};
 
-use der_core::making::decode_leaf;
-use der_core::{
-    ApartValue, AsReadValue, DecodeValue, EncodeValue, Error, FixedTag, Header, Leaf, Length,
-    Reader, ShapedValue, Tag, ValueOrd, Writer,
-};
+use der_core::describing::{AsLeaf, Described, EncodeLeaf, Primitive};
+use der_core::{EncodeValue, Error, FixedTag, Leaf, Length, Tag, ValueOrd, Writer};
 use std::alloc::Global;
 use std::cmp::Ordering;
 use x509_cert_policies::general_names::making::number_among;
@@ -76,12 +72,18 @@ impl FixedTag for CrlReason {
     }
 }
 
-/// Any other number is refused as `Value`.
-impl<'a> Leaf<'a> for CrlReason {
+impl Described for CrlReason {
+    type By = AsLeaf;
+}
+
+impl Primitive for CrlReason {
     ghost kind = { integer reason_numbers };
 
     ghost leaf_plain = { reason_number };
+}
 
+/// Any other number is refused as `Value`.
+impl<'a> Leaf<'a> for CrlReason {
     fn from_content(_alloc: Global, tag: Tag, octets: &'a [u8]) -> Result<CrlReason, Error> {
         match number_among(tag, octets, &[0, 1, 2, 3, 4, 5, 6, 8, 9, 10])? {
             0 => Ok(CrlReason::Unspecified),
@@ -98,36 +100,14 @@ impl<'a> Leaf<'a> for CrlReason {
     }
 }
 
-impl ShapedValue for CrlReason {
-    ghost content = { leaf (integer reason_numbers) };
-
-    ghost value_plain = { reason_number };
-
-    ghost value_written = { reason_number };
-}
-
-impl<'a, R: Reader<'a>> DecodeValue<'a, R> for CrlReason {
-    fn decode_value(alloc: Global, reader: &mut R, header: Header) -> Result<CrlReason, Error> {
-        decode_leaf(alloc, reader, header)
-    }
-}
-
-impl EncodeValue for CrlReason {
-    fn value_len(&self) -> Result<Length, Error> {
+impl EncodeLeaf for CrlReason {
+    fn leaf_len(&self) -> Result<Length, Error> {
         self.number().value_len()
     }
 
-    fn encode_value<W: Writer>(&self, writer: &mut W) -> Result<(), Error> {
+    fn encode_leaf<W: Writer>(&self, writer: &mut W) -> Result<(), Error> {
         self.number().encode_value(writer)
     }
-}
-
-impl ApartValue for CrlReason {
-    ghost apart_value = { refl };
-}
-
-impl AsReadValue for CrlReason {
-    ghost as_read_value = { λ _. refl };
 }
 
 /// The order of the numbers.

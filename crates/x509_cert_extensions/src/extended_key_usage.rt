@@ -1,19 +1,10 @@
 //! ExtendedKeyUsage.
 
-ghost use Rattle.std.specs.Prelude.{◌≡◌, refl};
-ghost use Rattle.const_oid.specs.Bound.{Bound};
-ghost use Rattle.der_core_head.specs.declared.tag.Tag.TheVariants.{Sequence};
-ghost use Rattle.der_core_head.specs.Grammar.{plain_list};
-ghost use Rattle.der_core_head.specs.Shapes.{nested, many};
+ghost use Rattle.std.specs.Prelude.{◌≡◌};
 ghost use Rattle.x509_cert_policies.specs.Parts.{object_identifier};
 
 use const_oid::ObjectIdentifier;
-use der_core::{
-    ApartValue, AsReadValue, DecodeValue, EncodeValue, Error, FixedTag, Header, Length, Reader,
-    ShapedValue, Tag, ValueOrd, Writer,
-};
-use std::alloc::Global;
-use std::cmp::Ordering;
+use der_core::describing::{AsField, Described, Ordered, Wraps};
 
 /// What a key is for, by identifiers (RFC 5280 4.2.1.12).
 ///
@@ -22,59 +13,26 @@ use std::cmp::Ordering;
 ///
 /// KeyPurposeId ::= OBJECT IDENTIFIER
 /// ```
-#[derive(Clone, Debug, Drop, PartialEq, Eq)]
+#[derive(Debug, Drop, PartialEq, Eq)]
 pub struct ExtendedKeyUsage(pub Vec<ObjectIdentifier<39>>);
 
-impl FixedTag for ExtendedKeyUsage {
-    ghost fixed_tag = { Sequence };
+impl Described for ExtendedKeyUsage {
+    type By = AsField<Vec<ObjectIdentifier<39>>>;
+}
 
-    fn tag() -> Tag {
-        Tag::Sequence
+impl Wraps<Vec<ObjectIdentifier<39>>> for ExtendedKeyUsage {
+    ghost inner = { λ x. x.0 };
+
+    fn inner(&self) -> &Vec<ObjectIdentifier<39>> {
+        &self.0
+    }
+
+    fn wrap(field: Vec<ObjectIdentifier<39>>) -> ExtendedKeyUsage {
+        ExtendedKeyUsage(field)
     }
 }
 
-impl ShapedValue for ExtendedKeyUsage {
-    ghost content = { nested (many (object_identifier Bound)) };
-
-    ghost value_plain = { λ x. plain_list (λ a. a) x.0.items };
-
-    ghost value_written = { λ x. plain_list (λ a. a) x.0.items };
-}
-
-impl<'a, R: Reader<'a>> DecodeValue<'a, R> for ExtendedKeyUsage {
-    fn decode_value(
-        alloc: Global,
-        reader: &mut R,
-        header: Header,
-    ) -> Result<ExtendedKeyUsage, Error> {
-        let value = <Vec<ObjectIdentifier<39>>>::decode_value(alloc, reader, header)?;
-        Ok(ExtendedKeyUsage(value))
-    }
-}
-
-impl EncodeValue for ExtendedKeyUsage {
-    fn value_len(&self) -> Result<Length, Error> {
-        self.0.value_len()
-    }
-
-    fn encode_value<W: Writer>(&self, writer: &mut W) -> Result<(), Error> {
-        self.0.encode_value(writer)
-    }
-}
-
-impl ApartValue for ExtendedKeyUsage {
-    ghost apart_value = { refl };
-}
-
-impl AsReadValue for ExtendedKeyUsage {
-    ghost as_read_value = { λ _. refl };
-}
-
-impl ValueOrd for ExtendedKeyUsage {
-    fn value_cmp(&self, other: &Self) -> Result<Ordering, Error> {
-        self.0.value_cmp(&other.0)
-    }
-}
+impl Ordered for ExtendedKeyUsage {}
 
 impl From<Vec<ObjectIdentifier<39>>> for ExtendedKeyUsage {
     ghost from_gives = { λ v x. x.0 ≡ v };

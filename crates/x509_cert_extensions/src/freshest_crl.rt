@@ -1,19 +1,9 @@
 //! FreshestCrl.
 
-ghost use Rattle.std.specs.Prelude.{◌≡◌, [], refl};
-ghost use Rattle.const_oid.specs.Bound.{Bound};
-ghost use Rattle.der_core_head.specs.declared.tag.Tag.TheVariants.{Sequence};
-ghost use Rattle.der_core_head.specs.Grammar.{plain_list};
-ghost use Rattle.der_core_head.specs.Shapes.{nested, many, sequence};
-ghost use Rattle.x509_cert_policies.specs.GeneralNames.{distribution_point_fields};
-ghost use Rattle.x509_cert_policies.specs.GeneralNameViews.{distribution_point_plain};
+ghost use Rattle.std.specs.Prelude.{◌≡◌, []};
 
-use der_core::{
-    ApartValue, AsReadValue, DecodeValue, EncodeValue, Error, FixedTag, Header, Length, Reader,
-    ShapedValue, Tag, ValueOrd, Writer,
-};
+use der_core::describing::{AsField, Described, Ordered, Wraps};
 use std::alloc::Global;
-use std::cmp::Ordering;
 use x509_cert_policies::general_names::DistributionPoint;
 
 /// Where lists of changes are had (RFC 5280 4.2.1.15).
@@ -21,7 +11,7 @@ use x509_cert_policies::general_names::DistributionPoint;
 /// ```text
 /// FreshestCRL ::= CRLDistributionPoints
 /// ```
-#[derive(Clone, Debug, Drop, PartialEq, Eq)]
+#[derive(Debug, Drop, PartialEq, Eq)]
 pub struct FreshestCrl(pub Vec<DistributionPoint>);
 
 impl FreshestCrl {
@@ -33,52 +23,23 @@ impl FreshestCrl {
     }
 }
 
-impl FixedTag for FreshestCrl {
-    ghost fixed_tag = { Sequence };
+impl Described for FreshestCrl {
+    type By = AsField<Vec<DistributionPoint>>;
+}
 
-    fn tag() -> Tag {
-        Tag::Sequence
+impl Wraps<Vec<DistributionPoint>> for FreshestCrl {
+    ghost inner = { λ x. x.0 };
+
+    fn inner(&self) -> &Vec<DistributionPoint> {
+        &self.0
+    }
+
+    fn wrap(field: Vec<DistributionPoint>) -> FreshestCrl {
+        FreshestCrl(field)
     }
 }
 
-impl ShapedValue for FreshestCrl {
-    ghost content = { nested (many (sequence (distribution_point_fields Bound))) };
-
-    ghost value_plain = { λ x. plain_list distribution_point_plain x.0.items };
-
-    ghost value_written = { λ x. plain_list distribution_point_plain x.0.items };
-}
-
-impl<'a, R: Reader<'a>> DecodeValue<'a, R> for FreshestCrl {
-    fn decode_value(alloc: Global, reader: &mut R, header: Header) -> Result<FreshestCrl, Error> {
-        let value = <Vec<DistributionPoint>>::decode_value(alloc, reader, header)?;
-        Ok(FreshestCrl(value))
-    }
-}
-
-impl EncodeValue for FreshestCrl {
-    fn value_len(&self) -> Result<Length, Error> {
-        self.0.value_len()
-    }
-
-    fn encode_value<W: Writer>(&self, writer: &mut W) -> Result<(), Error> {
-        self.0.encode_value(writer)
-    }
-}
-
-impl ApartValue for FreshestCrl {
-    ghost apart_value = { refl };
-}
-
-impl AsReadValue for FreshestCrl {
-    ghost as_read_value = { λ _. refl };
-}
-
-impl ValueOrd for FreshestCrl {
-    fn value_cmp(&self, other: &Self) -> Result<Ordering, Error> {
-        self.0.value_cmp(&other.0)
-    }
-}
+impl Ordered for FreshestCrl {}
 
 impl From<Vec<DistributionPoint>> for FreshestCrl {
     ghost from_gives = { λ v x. x.0 ≡ v };

@@ -2,18 +2,10 @@
 
 ghost use Rattle.std.specs.Prelude.{◌≡◌, ⊤, [], ◌∷◌, codes, refl};
 ghost use Rattle.bitflags.specs.Sets.{known_from};
-ghost use Rattle.der_core_head.specs.declared.tag.Tag.TheVariants.{BitString};
-ghost use Rattle.der_core_head.specs.Leaves.{named};
-ghost use Rattle.der_core_head.specs.Shapes.{leaf};
 ghost use Rattle.x509_cert_extensions.specs.NamedBits.{has_bit};
 
 use bitflags::{Flag, Flags, bitflag_items};
-use der_core::{
-    ApartValue, AsReadValue, DecodeValue, EncodeValue, Error, FixedTag, Header, Length, Reader,
-    ShapedValue, Tag, ValueOrd, Writer,
-};
-use std::alloc::Global;
-use std::cmp::Ordering;
+use der_core::describing::{AsField, Described, Ordered, Wraps};
 use x509_cert_policies::certificates::{FlagSet, NamedBits};
 
 /// What a key is for, the first use the lowest bit (RFC 5280 4.2.1.3).
@@ -155,52 +147,23 @@ impl KeyUsage {
     }
 }
 
-impl FixedTag for KeyUsage {
-    ghost fixed_tag = { BitString };
+impl Described for KeyUsage {
+    type By = AsField<FlagSet<KeyUsages>>;
+}
 
-    fn tag() -> Tag {
-        Tag::BitString
+impl Wraps<FlagSet<KeyUsages>> for KeyUsage {
+    ghost inner = { λ x. x.0 };
+
+    fn inner(&self) -> &FlagSet<KeyUsages> {
+        &self.0
+    }
+
+    fn wrap(field: FlagSet<KeyUsages>) -> KeyUsage {
+        KeyUsage(field)
     }
 }
 
-impl ShapedValue for KeyUsage {
-    ghost content = { leaf (named 9) };
-
-    ghost value_plain = { λ x. x.0.flags.0 };
-
-    ghost value_written = { λ x. x.0.flags.0 };
-}
-
-impl<'a, R: Reader<'a>> DecodeValue<'a, R> for KeyUsage {
-    fn decode_value(alloc: Global, reader: &mut R, header: Header) -> Result<KeyUsage, Error> {
-        let value = <FlagSet<KeyUsages>>::decode_value(alloc, reader, header)?;
-        Ok(KeyUsage(value))
-    }
-}
-
-impl EncodeValue for KeyUsage {
-    fn value_len(&self) -> Result<Length, Error> {
-        self.0.value_len()
-    }
-
-    fn encode_value<W: Writer>(&self, writer: &mut W) -> Result<(), Error> {
-        self.0.encode_value(writer)
-    }
-}
-
-impl ApartValue for KeyUsage {
-    ghost apart_value = { refl };
-}
-
-impl AsReadValue for KeyUsage {
-    ghost as_read_value = { λ _. refl };
-}
-
-impl ValueOrd for KeyUsage {
-    fn value_cmp(&self, other: &Self) -> Result<Ordering, Error> {
-        self.0.value_cmp(&other.0)
-    }
-}
+impl Ordered for KeyUsage {}
 
 impl From<FlagSet<KeyUsages>> for KeyUsage {
     ghost from_gives = { λ v x. x.0 ≡ v };
@@ -223,5 +186,29 @@ impl AsRef<FlagSet<KeyUsages>> for KeyUsage {
         ensures { result.now ≡ self.now.0 }
     {
         &self.0
+    }
+}
+
+impl AsMut<FlagSet<KeyUsages>> for KeyUsage {
+    ghost use Rattle.std.specs.Borrow.{sem, Lends, u16 as number_row};
+    ghost use Rattle.std.specs.contracts.prelude.U16BitAnd.TheImpl.{ghosts as and_of};
+    ghost use Rattle.std.specs.contracts.prelude.U16BitOr.TheImpl.{ghosts as or_of};
+    ghost use Rattle.std.specs.contracts.prelude.U16BitXor.TheImpl.{ghosts as xor_of};
+    ghost use Rattle.std.specs.contracts.prelude.U16Not.TheImpl.{ghosts as not_of};
+    ghost use Rattle.std.specs.contracts.prelude.U16PartialEq.TheImpl.{ghosts as eq_of};
+    ghost use Rattle.bitflags.specs.contracts.traits.U16Bits.TheImpl.{ghosts as bits_of};
+    ghost use Rattle.x509_cert_policies.specs.Names.ValueTypes.contracts.flag_set.FlagSet.{the_row as set_row};
+    ghost use Rattle.x509_cert_extensions.specs.contracts.key_usage.KeyUsages.{the_row as usages_row};
+    ghost use Rattle.x509_cert_extensions.specs.contracts.key_usage.KeyUsagesFlags.TheImpl.{ghosts as flags_of};
+    ghost use Rattle.x509_cert_extensions.specs.contracts.key_usage.KeyUsagesNamedBits.TheImpl.{ghosts as names_of};
+    ghost use Rattle.x509_cert_extensions.specs.contracts.key_usage.KeyUsage.{the_row};
+
+    fn as_mut(&mut self) -> &mut FlagSet<KeyUsages>
+        ensures* writes_back { sem 𝓛 (Lends the_row
+            (set_row usages_row number_row names_of flags_of bits_of eq_of and_of or_of xor_of
+            not_of) self.entry result (λ w. record { 0 = w })) }
+        ensures value { result.now ≡ self.old.0 }
+    {
+        &mut self.0
     }
 }

@@ -3,6 +3,7 @@
 
 mod authority_info_access;
 mod base_crl_number;
+mod copies;
 mod criticality;
 mod crl_distribution_points;
 mod crl_number;

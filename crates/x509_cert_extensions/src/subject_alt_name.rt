@@ -1,19 +1,10 @@
 //! SubjectAltName.
 
-ghost use Rattle.std.specs.Prelude.{◌≡◌, [], refl};
-ghost use Rattle.const_oid.specs.Bound.{Bound};
-ghost use Rattle.der_core_head.specs.declared.tag.Tag.TheVariants.{Sequence};
-ghost use Rattle.der_core_head.specs.Grammar.{plain_list};
-ghost use Rattle.der_core_head.specs.Shapes.{nested, many};
+ghost use Rattle.std.specs.Prelude.{◌≡◌, []};
 ghost use Rattle.x509_cert_policies.specs.GeneralNames.{general_name};
-ghost use Rattle.x509_cert_policies.specs.GeneralNameViews.{general_name_plain};
 
-use der_core::{
-    ApartValue, AsReadValue, DecodeValue, EncodeValue, Error, FixedTag, Header, Length, Reader,
-    ShapedValue, Tag, ValueOrd, Writer,
-};
+use der_core::describing::{AsField, Described, Ordered, Wraps};
 use std::alloc::Global;
-use std::cmp::Ordering;
 use x509_cert_policies::general_names::GeneralNames;
 
 /// Other names of a subject (RFC 5280 4.2.1.6).
@@ -21,7 +12,7 @@ use x509_cert_policies::general_names::GeneralNames;
 /// ```text
 /// SubjectAltName ::= GeneralNames
 /// ```
-#[derive(Clone, Debug, Drop, PartialEq, Eq)]
+#[derive(Debug, Drop, PartialEq, Eq)]
 pub struct SubjectAltName(pub GeneralNames);
 
 impl SubjectAltName {
@@ -33,56 +24,23 @@ impl SubjectAltName {
     }
 }
 
-impl FixedTag for SubjectAltName {
-    ghost fixed_tag = { Sequence };
+impl Described for SubjectAltName {
+    type By = AsField<GeneralNames>;
+}
 
-    fn tag() -> Tag {
-        Tag::Sequence
+impl Wraps<GeneralNames> for SubjectAltName {
+    ghost inner = { λ x. x.0 };
+
+    fn inner(&self) -> &GeneralNames {
+        &self.0
+    }
+
+    fn wrap(field: GeneralNames) -> SubjectAltName {
+        SubjectAltName(field)
     }
 }
 
-impl ShapedValue for SubjectAltName {
-    ghost content = { nested (many (general_name Bound)) };
-
-    ghost value_plain = { λ x. plain_list general_name_plain x.0.items };
-
-    ghost value_written = { λ x. plain_list general_name_plain x.0.items };
-}
-
-impl<'a, R: Reader<'a>> DecodeValue<'a, R> for SubjectAltName {
-    fn decode_value(
-        alloc: Global,
-        reader: &mut R,
-        header: Header,
-    ) -> Result<SubjectAltName, Error> {
-        let value = <GeneralNames>::decode_value(alloc, reader, header)?;
-        Ok(SubjectAltName(value))
-    }
-}
-
-impl EncodeValue for SubjectAltName {
-    fn value_len(&self) -> Result<Length, Error> {
-        self.0.value_len()
-    }
-
-    fn encode_value<W: Writer>(&self, writer: &mut W) -> Result<(), Error> {
-        self.0.encode_value(writer)
-    }
-}
-
-impl ApartValue for SubjectAltName {
-    ghost apart_value = { refl };
-}
-
-impl AsReadValue for SubjectAltName {
-    ghost as_read_value = { λ _. refl };
-}
-
-impl ValueOrd for SubjectAltName {
-    fn value_cmp(&self, other: &Self) -> Result<Ordering, Error> {
-        self.0.value_cmp(&other.0)
-    }
-}
+impl Ordered for SubjectAltName {}
 
 impl From<GeneralNames> for SubjectAltName {
     ghost from_gives = { λ v x. x.0 ≡ v };

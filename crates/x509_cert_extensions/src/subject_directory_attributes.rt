@@ -1,18 +1,10 @@
 //! SubjectDirectoryAttributes.
 
-ghost use Rattle.std.specs.Prelude.{◌≡◌, [], refl};
-ghost use Rattle.const_oid.specs.Bound.{Bound};
-ghost use Rattle.der_core_head.specs.declared.tag.Tag.TheVariants.{Sequence};
-ghost use Rattle.der_core_head.specs.Grammar.{plain_list};
-ghost use Rattle.der_core_head.specs.Shapes.{nested, many};
-ghost use Rattle.x509_cert_policies.specs.Parts.{attribute, attribute_plain};
+ghost use Rattle.std.specs.Prelude.{◌≡◌, []};
+ghost use Rattle.x509_cert_policies.specs.Parts.{attribute};
 
-use der_core::{
-    ApartValue, AsReadValue, DecodeValue, EncodeValue, Error, FixedTag, Header, Length, Reader,
-    ShapedValue, Tag, ValueOrd, Writer,
-};
+use der_core::describing::{AsField, Described, Ordered, Wraps};
 use std::alloc::Global;
-use std::cmp::Ordering;
 use x509_cert_policies::certificates::Attribute;
 
 /// Attributes of a subject (RFC 5280 4.2.1.8).
@@ -20,7 +12,7 @@ use x509_cert_policies::certificates::Attribute;
 /// ```text
 /// SubjectDirectoryAttributes ::= SEQUENCE SIZE (1..MAX) OF Attribute
 /// ```
-#[derive(Clone, Debug, Drop, PartialEq, Eq)]
+#[derive(Debug, Drop, PartialEq, Eq)]
 pub struct SubjectDirectoryAttributes(pub Vec<Attribute>);
 
 impl SubjectDirectoryAttributes {
@@ -32,56 +24,23 @@ impl SubjectDirectoryAttributes {
     }
 }
 
-impl FixedTag for SubjectDirectoryAttributes {
-    ghost fixed_tag = { Sequence };
+impl Described for SubjectDirectoryAttributes {
+    type By = AsField<Vec<Attribute>>;
+}
 
-    fn tag() -> Tag {
-        Tag::Sequence
+impl Wraps<Vec<Attribute>> for SubjectDirectoryAttributes {
+    ghost inner = { λ x. x.0 };
+
+    fn inner(&self) -> &Vec<Attribute> {
+        &self.0
+    }
+
+    fn wrap(field: Vec<Attribute>) -> SubjectDirectoryAttributes {
+        SubjectDirectoryAttributes(field)
     }
 }
 
-impl ShapedValue for SubjectDirectoryAttributes {
-    ghost content = { nested (many (attribute Bound)) };
-
-    ghost value_plain = { λ x. plain_list attribute_plain x.0.items };
-
-    ghost value_written = { λ x. plain_list attribute_plain x.0.items };
-}
-
-impl<'a, R: Reader<'a>> DecodeValue<'a, R> for SubjectDirectoryAttributes {
-    fn decode_value(
-        alloc: Global,
-        reader: &mut R,
-        header: Header,
-    ) -> Result<SubjectDirectoryAttributes, Error> {
-        let value = <Vec<Attribute>>::decode_value(alloc, reader, header)?;
-        Ok(SubjectDirectoryAttributes(value))
-    }
-}
-
-impl EncodeValue for SubjectDirectoryAttributes {
-    fn value_len(&self) -> Result<Length, Error> {
-        self.0.value_len()
-    }
-
-    fn encode_value<W: Writer>(&self, writer: &mut W) -> Result<(), Error> {
-        self.0.encode_value(writer)
-    }
-}
-
-impl ApartValue for SubjectDirectoryAttributes {
-    ghost apart_value = { refl };
-}
-
-impl AsReadValue for SubjectDirectoryAttributes {
-    ghost as_read_value = { λ _. refl };
-}
-
-impl ValueOrd for SubjectDirectoryAttributes {
-    fn value_cmp(&self, other: &Self) -> Result<Ordering, Error> {
-        self.0.value_cmp(&other.0)
-    }
-}
+impl Ordered for SubjectDirectoryAttributes {}
 
 impl From<Vec<Attribute>> for SubjectDirectoryAttributes {
     ghost from_gives = { λ v x. x.0 ≡ v };

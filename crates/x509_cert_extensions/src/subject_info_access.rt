@@ -1,19 +1,9 @@
 //! SubjectInfoAccessSyntax.
 
-ghost use Rattle.std.specs.Prelude.{◌≡◌, [], refl};
-ghost use Rattle.const_oid.specs.Bound.{Bound};
-ghost use Rattle.der_core_head.specs.declared.tag.Tag.TheVariants.{Sequence};
-ghost use Rattle.der_core_head.specs.Grammar.{plain_list};
-ghost use Rattle.der_core_head.specs.Shapes.{nested, many, sequence};
-ghost use Rattle.x509_cert_policies.specs.GeneralNames.{access_description_fields};
-ghost use Rattle.x509_cert_policies.specs.GeneralNameViews.{access_description_plain};
+ghost use Rattle.std.specs.Prelude.{◌≡◌, []};
 
-use der_core::{
-    ApartValue, AsReadValue, DecodeValue, EncodeValue, Error, FixedTag, Header, Length, Reader,
-    ShapedValue, Tag, ValueOrd, Writer,
-};
+use der_core::describing::{AsField, Described, Ordered, Wraps};
 use std::alloc::Global;
-use std::cmp::Ordering;
 use x509_cert_policies::general_names::AccessDescription;
 
 /// Where services of a subject are had (RFC 5280 4.2.2.2).
@@ -21,7 +11,7 @@ use x509_cert_policies::general_names::AccessDescription;
 /// ```text
 /// SubjectInfoAccessSyntax ::= SEQUENCE SIZE (1..MAX) OF AccessDescription
 /// ```
-#[derive(Clone, Debug, Drop, PartialEq, Eq)]
+#[derive(Debug, Drop, PartialEq, Eq)]
 pub struct SubjectInfoAccessSyntax(pub Vec<AccessDescription>);
 
 impl SubjectInfoAccessSyntax {
@@ -33,56 +23,23 @@ impl SubjectInfoAccessSyntax {
     }
 }
 
-impl FixedTag for SubjectInfoAccessSyntax {
-    ghost fixed_tag = { Sequence };
+impl Described for SubjectInfoAccessSyntax {
+    type By = AsField<Vec<AccessDescription>>;
+}
 
-    fn tag() -> Tag {
-        Tag::Sequence
+impl Wraps<Vec<AccessDescription>> for SubjectInfoAccessSyntax {
+    ghost inner = { λ x. x.0 };
+
+    fn inner(&self) -> &Vec<AccessDescription> {
+        &self.0
+    }
+
+    fn wrap(field: Vec<AccessDescription>) -> SubjectInfoAccessSyntax {
+        SubjectInfoAccessSyntax(field)
     }
 }
 
-impl ShapedValue for SubjectInfoAccessSyntax {
-    ghost content = { nested (many (sequence (access_description_fields Bound))) };
-
-    ghost value_plain = { λ x. plain_list access_description_plain x.0.items };
-
-    ghost value_written = { λ x. plain_list access_description_plain x.0.items };
-}
-
-impl<'a, R: Reader<'a>> DecodeValue<'a, R> for SubjectInfoAccessSyntax {
-    fn decode_value(
-        alloc: Global,
-        reader: &mut R,
-        header: Header,
-    ) -> Result<SubjectInfoAccessSyntax, Error> {
-        let value = <Vec<AccessDescription>>::decode_value(alloc, reader, header)?;
-        Ok(SubjectInfoAccessSyntax(value))
-    }
-}
-
-impl EncodeValue for SubjectInfoAccessSyntax {
-    fn value_len(&self) -> Result<Length, Error> {
-        self.0.value_len()
-    }
-
-    fn encode_value<W: Writer>(&self, writer: &mut W) -> Result<(), Error> {
-        self.0.encode_value(writer)
-    }
-}
-
-impl ApartValue for SubjectInfoAccessSyntax {
-    ghost apart_value = { refl };
-}
-
-impl AsReadValue for SubjectInfoAccessSyntax {
-    ghost as_read_value = { λ _. refl };
-}
-
-impl ValueOrd for SubjectInfoAccessSyntax {
-    fn value_cmp(&self, other: &Self) -> Result<Ordering, Error> {
-        self.0.value_cmp(&other.0)
-    }
-}
+impl Ordered for SubjectInfoAccessSyntax {}
 
 impl From<Vec<AccessDescription>> for SubjectInfoAccessSyntax {
     ghost from_gives = { λ v x. x.0 ≡ v };

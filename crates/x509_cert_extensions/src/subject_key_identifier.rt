@@ -1,16 +1,9 @@
 //! SubjectKeyIdentifier.
 
-ghost use Rattle.std.specs.Prelude.{◌≡◌, refl};
+ghost use Rattle.std.specs.Prelude.{◌≡◌};
 ghost use Rattle.der_core_head.specs.declared.tag.Tag.TheVariants.{OctetString};
-ghost use Rattle.der_core_head.specs.Leaves.{octets};
-ghost use Rattle.der_core_head.specs.Shapes.{leaf};
 
-use der_core::{
-    ApartValue, AsReadValue, DecodeValue, EncodeValue, Error, FixedTag, Header, Length, Reader,
-    ShapedValue, Tag, ValueOrd, Writer,
-};
-use std::alloc::Global;
-use std::cmp::Ordering;
+use der_core::describing::{AsField, Described, Ordered, Wraps};
 use x509_cert_policies::certificates::OctetString;
 
 /// The identifier of a subject's key (RFC 5280 4.2.1.2).
@@ -18,59 +11,26 @@ use x509_cert_policies::certificates::OctetString;
 /// ```text
 /// SubjectKeyIdentifier ::= KeyIdentifier
 /// ```
-#[derive(Clone, Debug, Drop, PartialEq, Eq)]
+#[derive(Debug, Drop, PartialEq, Eq)]
 pub struct SubjectKeyIdentifier(pub OctetString);
 
-impl FixedTag for SubjectKeyIdentifier {
-    ghost fixed_tag = { OctetString };
+impl Described for SubjectKeyIdentifier {
+    type By = AsField<OctetString>;
+}
 
-    fn tag() -> Tag {
-        Tag::OctetString
+impl Wraps<OctetString> for SubjectKeyIdentifier {
+    ghost inner = { λ x. x.0 };
+
+    fn inner(&self) -> &OctetString {
+        &self.0
+    }
+
+    fn wrap(field: OctetString) -> SubjectKeyIdentifier {
+        SubjectKeyIdentifier(field)
     }
 }
 
-impl ShapedValue for SubjectKeyIdentifier {
-    ghost content = { leaf octets };
-
-    ghost value_plain = { λ x. x.0 };
-
-    ghost value_written = { λ x. x.0 };
-}
-
-impl<'a, R: Reader<'a>> DecodeValue<'a, R> for SubjectKeyIdentifier {
-    fn decode_value(
-        alloc: Global,
-        reader: &mut R,
-        header: Header,
-    ) -> Result<SubjectKeyIdentifier, Error> {
-        let value = <OctetString>::decode_value(alloc, reader, header)?;
-        Ok(SubjectKeyIdentifier(value))
-    }
-}
-
-impl EncodeValue for SubjectKeyIdentifier {
-    fn value_len(&self) -> Result<Length, Error> {
-        self.0.value_len()
-    }
-
-    fn encode_value<W: Writer>(&self, writer: &mut W) -> Result<(), Error> {
-        self.0.encode_value(writer)
-    }
-}
-
-impl ApartValue for SubjectKeyIdentifier {
-    ghost apart_value = { refl };
-}
-
-impl AsReadValue for SubjectKeyIdentifier {
-    ghost as_read_value = { λ _. refl };
-}
-
-impl ValueOrd for SubjectKeyIdentifier {
-    fn value_cmp(&self, other: &Self) -> Result<Ordering, Error> {
-        self.0.value_cmp(&other.0)
-    }
-}
+impl Ordered for SubjectKeyIdentifier {}
 
 impl From<OctetString> for SubjectKeyIdentifier {
     ghost from_gives = { λ v x. x.0 ≡ v };

@@ -21,7 +21,7 @@ use x509_cert_certificates::RelativeDistinguishedName;
 ///     fullName                 [0] GeneralNames,
 ///     nameRelativeToCRLIssuer  [1] RelativeDistinguishedName }
 /// ```
-#[derive(Clone, Debug, Drop, PartialEq, Eq)]
+#[derive(Debug, Drop, PartialEq, Eq)]
 pub enum DistributionPointName {
     /// The name.
     FullName(GeneralNames),

@@ -35,7 +35,7 @@ use x509_cert_certificates::{Ia5String, Name, OctetString};
 ///     iPAddress                  [7] OCTET STRING,
 ///     registeredID               [8] OBJECT IDENTIFIER }
 /// ```
-#[derive(Clone, Debug, Drop, PartialEq, Eq)]
+#[derive(Debug, Drop, PartialEq, Eq)]
 pub enum GeneralName {
     /// Of a kind that an identifier tells.
     OtherName(OtherName),

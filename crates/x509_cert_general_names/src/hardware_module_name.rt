@@ -2,10 +2,8 @@
 
 ghost use Rattle.std.specs.Prelude.{◌≡◌, true, false, Ok, Some, None, IsSome, IfOk, IfSome, refl};
 ghost use Rattle.const_oid.specs.Bound.{Bound};
-ghost use Rattle.der_core_head.specs.declared.tag.Tag.TheVariants.{Sequence};
 ghost use Rattle.der_core_head.specs.Grammar.{plain_option};
 ghost use Rattle.der_core_head.specs.Reading.{Gives};
-ghost use Rattle.der_core_head.specs.Shapes.{nested};
 ghost use Rattle.x509_cert_general_names.specs.Grammar.{hardware_module_name_fields};
 ghost use Rattle.x509_cert_general_names.specs.Modules.{PlainModule, is_of_module, HasEncoding};
 ghost use Rattle.x509_cert_general_names.specs.Modules.{HoldsModule, module_read};
@@ -13,13 +11,9 @@ ghost use Rattle.x509_cert_general_names.specs.Views.{hardware_module_name_plain
 
 use crate::other_name::OtherName;
 use const_oid::{AssociatedOid, ObjectIdentifier};
-use der_core::making::read_fields;
-use der_core::{
-    ApartValue, AsReadValue, DecodeFields, DecodeValue, EncodeFields, EncodeRef, EncodeValue,
-    Error, Fields, FieldsOrd, FixedTag, Header, Length, Reader, ShapedValue, Tag, ValueOrd, Writer,
-};
+use der_core::describing::{AsRecord, DecodeRow, Described, FieldsView, RowUser, Rows};
+use der_core::{DecodeFields, Error, Reader, lend, row};
 use std::alloc::Global;
-use std::cmp::Ordering;
 use x509_cert_certificates::OctetString;
 
 /// The name of a module of hardware (RFC 4108 5). It is held as `OtherName`.
@@ -29,20 +23,13 @@ use x509_cert_certificates::OctetString;
 ///     hwType       OBJECT IDENTIFIER,
 ///     hwSerialNum  OCTET STRING }
 /// ```
-#[derive(Clone, Debug, Drop, PartialEq, Eq)]
+#[derive(Debug, Drop, PartialEq, Eq)]
 pub struct HardwareModuleName {
     /// The type of the module.
     pub hw_type: ObjectIdentifier<39>,
     /// The serial number.
     pub hw_serial_num: OctetString,
 }
-
-type Row = (ObjectIdentifier<39>, (OctetString, ()));
-
-type RowRef<'a> = (
-    EncodeRef<'a, ObjectIdentifier<39>>,
-    (EncodeRef<'a, OctetString>, ()),
-);
 
 impl HardwareModuleName {
     /// The module that another name holds; none where it is of another kind.
@@ -81,38 +68,17 @@ impl HardwareModuleName {
         }
         Ok(None)
     }
-
-    /// The fields in their order, lent.
-    fn row<'a>(&'a self) -> RowRef<'a>
-        ensures { ⟦<RowRef<'a> as Fields>⟧.fields_written result
-            ≡ hardware_module_name_plain self.now }
-    {
-        (
-            EncodeRef(&self.hw_type),
-            (EncodeRef(&self.hw_serial_num), ()),
-        )
-    }
 }
 
-impl FixedTag for HardwareModuleName {
-    ghost fixed_tag = { Sequence };
+impl FieldsView for HardwareModuleName {
+    ghost body = { hardware_module_name_fields Bound };
 
-    fn tag() -> Tag {
-        Tag::Sequence
-    }
-}
-
-impl Fields for HardwareModuleName {
-    ghost fields = { hardware_module_name_fields Bound };
-
-    ghost fields_plain = { hardware_module_name_plain };
-
-    ghost fields_written = { hardware_module_name_plain };
+    ghost view = { hardware_module_name_plain };
 }
 
 impl<'a, R: Reader<'a>> DecodeFields<'a, R> for HardwareModuleName {
     fn decode_fields(alloc: Global, reader: &mut R) -> Result<HardwareModuleName, Error> {
-        let (hw_type, (hw_serial_num, ())) = Row::decode_fields(alloc, reader)?;
+        let row!(hw_type, hw_serial_num) = DecodeRow::decode_row(alloc, reader)?;
         Ok(HardwareModuleName {
             hw_type,
             hw_serial_num,
@@ -120,46 +86,14 @@ impl<'a, R: Reader<'a>> DecodeFields<'a, R> for HardwareModuleName {
     }
 }
 
-impl ShapedValue for HardwareModuleName {
-    ghost content = { nested (hardware_module_name_fields Bound) };
-
-    ghost value_plain = { hardware_module_name_plain };
-
-    ghost value_written = { hardware_module_name_plain };
+impl Described for HardwareModuleName {
+    type By = AsRecord;
 }
 
-impl<'a, R: Reader<'a>> DecodeValue<'a, R> for HardwareModuleName {
-    fn decode_value(
-        alloc: Global,
-        reader: &mut R,
-        header: Header,
-    ) -> Result<HardwareModuleName, Error> {
-        read_fields(alloc, reader, header)
-    }
-}
-
-impl EncodeValue for HardwareModuleName {
-    fn value_len(&self) -> Result<Length, Error> {
-        self.row().fields_len()
+impl Rows for HardwareModuleName {
+    fn with_rows<U: RowUser>(&self, other: &Self, user: &mut U) -> U::Answer {
+        lend!(self, other, user; hw_type, hw_serial_num)
     }
 
-    fn encode_value<W: Writer>(&self, writer: &mut W) -> Result<(), Error> {
-        self.row().encode_fields(writer)
-    }
-}
-
-impl ApartValue for HardwareModuleName {
-    ghost apart_value = { refl };
-}
-
-impl AsReadValue for HardwareModuleName {
-    ghost as_read_value = { λ _. refl };
-}
-
-/// Field after field.
-impl ValueOrd for HardwareModuleName {
-    #[tactic(auto, unfolding(der_core_head::specs::Shapes::contents, der_core_head::specs::Shapes::IsContent))]
-    fn value_cmp(&self, other: &Self) -> Result<Ordering, Error> {
-        self.row().fields_cmp(&other.row())
-    }
+    ghost apart = { refl };
 }

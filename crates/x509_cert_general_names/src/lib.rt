@@ -4,6 +4,7 @@
 
 mod access_description;
 mod authority_key_identifier;
+mod copies;
 mod distribution_point;
 mod distribution_point_name;
 mod edi_party_name;

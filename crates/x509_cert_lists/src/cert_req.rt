@@ -3,19 +3,15 @@
 ghost use Rattle.std.specs.Prelude.{◌≡◌, ◌≢◌, [], IfOk, IfErr, refl};
 ghost use Rattle.const_oid.specs.Bound.{Bound};
 ghost use Rattle.der_core_head.specs.declared.error.ErrorKind.TheVariants.{OutOfMemory};
-ghost use Rattle.der_core_head.specs.declared.tag.Tag.TheVariants.{Sequence};
 ghost use Rattle.der_core_head.specs.Grammar.{read_whole};
 ghost use Rattle.der_core_head.specs.Reading.{Gives};
-ghost use Rattle.der_core_head.specs.Shapes.{nested, Spells, Value};
+ghost use Rattle.der_core_head.specs.Shapes.{Spells, Value};
 ghost use Rattle.x509_cert_lists.specs.Grammar.{cert_req, cert_req_fields};
 ghost use Rattle.x509_cert_lists.specs.Views.{cert_req_plain};
 
 use crate::cert_req_info::CertReqInfo;
-use der_core::making::read_fields;
-use der_core::{
-    ApartValue, AsReadValue, DecodeFields, DecodeValue, EncodeFields, EncodeRef, EncodeValue,
-    Error, Fields, FixedTag, Header, Length, Reader, ShapedValue, Tag, Writer, from_der,
-};
+use der_core::describing::{AsRecord, DecodeRow, Described, FieldsView, RowUser, Rows};
+use der_core::{DecodeFields, Error, Reader, from_der, lend, row};
 use std::alloc::Global;
 use x509_cert_general_names::certificates::{AlgorithmIdentifier, BitString};
 
@@ -27,7 +23,7 @@ use x509_cert_general_names::certificates::{AlgorithmIdentifier, BitString};
 ///     signatureAlgorithm        AlgorithmIdentifier,
 ///     signature                 BIT STRING }
 /// ```
-#[derive(Clone, Debug, Drop, PartialEq, Eq)]
+#[derive(Debug, Drop, PartialEq, Eq)]
 pub struct CertReq {
     /// The part that is signed.
     pub info: CertReqInfo,
@@ -37,47 +33,15 @@ pub struct CertReq {
     pub signature: BitString,
 }
 
-type Row = (CertReqInfo, (AlgorithmIdentifier, (BitString, ())));
+impl FieldsView for CertReq {
+    ghost body = { cert_req_fields Bound };
 
-type RowRef<'a> = (
-    EncodeRef<'a, CertReqInfo>,
-    (
-        EncodeRef<'a, AlgorithmIdentifier>,
-        (EncodeRef<'a, BitString>, ()),
-    ),
-);
-
-impl CertReq {
-    /// The fields in their order, lent.
-    fn row<'a>(&'a self) -> RowRef<'a>
-        ensures { ⟦<RowRef<'a> as Fields>⟧.fields_written result ≡ cert_req_plain self.now }
-    {
-        (
-            EncodeRef(&self.info),
-            (EncodeRef(&self.algorithm), (EncodeRef(&self.signature), ())),
-        )
-    }
-}
-
-impl FixedTag for CertReq {
-    ghost fixed_tag = { Sequence };
-
-    fn tag() -> Tag {
-        Tag::Sequence
-    }
-}
-
-impl Fields for CertReq {
-    ghost fields = { cert_req_fields Bound };
-
-    ghost fields_plain = { cert_req_plain };
-
-    ghost fields_written = { cert_req_plain };
+    ghost view = { cert_req_plain };
 }
 
 impl<'a, R: Reader<'a>> DecodeFields<'a, R> for CertReq {
     fn decode_fields(alloc: Global, reader: &mut R) -> Result<CertReq, Error> {
-        let (info, (algorithm, (signature, ()))) = Row::decode_fields(alloc, reader)?;
+        let row!(info, algorithm, signature) = DecodeRow::decode_row(alloc, reader)?;
         Ok(CertReq {
             info,
             algorithm,
@@ -86,36 +50,16 @@ impl<'a, R: Reader<'a>> DecodeFields<'a, R> for CertReq {
     }
 }
 
-impl ShapedValue for CertReq {
-    ghost content = { nested (cert_req_fields Bound) };
-
-    ghost value_plain = { cert_req_plain };
-
-    ghost value_written = { cert_req_plain };
+impl Described for CertReq {
+    type By = AsRecord;
 }
 
-impl<'a, R: Reader<'a>> DecodeValue<'a, R> for CertReq {
-    fn decode_value(alloc: Global, reader: &mut R, header: Header) -> Result<CertReq, Error> {
-        read_fields(alloc, reader, header)
-    }
-}
-
-impl EncodeValue for CertReq {
-    fn value_len(&self) -> Result<Length, Error> {
-        self.row().fields_len()
+impl Rows for CertReq {
+    fn with_rows<U: RowUser>(&self, other: &Self, user: &mut U) -> U::Answer {
+        lend!(self, other, user; info, algorithm, signature)
     }
 
-    fn encode_value<W: Writer>(&self, writer: &mut W) -> Result<(), Error> {
-        self.row().encode_fields(writer)
-    }
-}
-
-impl ApartValue for CertReq {
-    ghost apart_value = { refl };
-}
-
-impl AsReadValue for CertReq {
-    ghost as_read_value = { λ _. refl };
+    ghost apart = { refl };
 }
 
 impl CertReq {

@@ -2,17 +2,13 @@
 
 ghost use Rattle.std.specs.Prelude.{◌≡◌, refl};
 ghost use Rattle.const_oid.specs.Bound.{Bound};
-ghost use Rattle.der_core_head.specs.declared.tag.Tag.TheVariants.{Sequence};
-ghost use Rattle.der_core_head.specs.Shapes.{nested};
 ghost use Rattle.x509_cert_lists.specs.Grammar.{cert_req_info_fields};
 ghost use Rattle.x509_cert_lists.specs.Views.{cert_req_info_plain};
 
 use crate::request::Version;
-use der_core::making::read_fields;
+use der_core::describing::{AsRecord, DecodeRow, Described, FieldsView, RowUser, Rows};
 use der_core::{
-    ApartValue, AsReadValue, DecodeFields, DecodeValue, EncodeFields, EncodeRef, EncodeValue,
-    Error, Fields, FixedTag, Header, Implicit, ImplicitRef, InRange, InRangeValue, Length, Reader,
-    ShapedValue, Tag, Writer,
+    DecodeFields, EncodeRef, Error, Implicit, ImplicitRef, InRange, InRangeValue, Reader, lend, row,
 };
 use std::alloc::Global;
 use x509_cert_general_names::certificates::{Attributes, Name, SubjectPublicKeyInfo};
@@ -26,7 +22,7 @@ use x509_cert_general_names::certificates::{Attributes, Name, SubjectPublicKeyIn
 ///     subjectPKInfo  SubjectPublicKeyInfo,
 ///     attributes     [0] IMPLICIT Attributes }
 /// ```
-#[derive(Clone, Debug, Drop, PartialEq, Eq)]
+#[derive(Debug, Drop, PartialEq, Eq)]
 pub struct CertReqInfo {
     /// The version.
     pub version: Version,
@@ -38,105 +34,43 @@ pub struct CertReqInfo {
     pub attributes: Attributes,
 }
 
-type Row = (
-    Version,
-    (Name, (SubjectPublicKeyInfo, (Implicit<Attributes, 0>, ()))),
-);
+impl FieldsView for CertReqInfo {
+    ghost body = { cert_req_info_fields Bound };
 
-type RowRef<'a> = (
-    EncodeRef<'a, Version>,
-    (
-        EncodeRef<'a, Name>,
-        (
-            EncodeRef<'a, SubjectPublicKeyInfo>,
-            (ImplicitRef<'a, Attributes, 0>, ()),
-        ),
-    ),
-);
-
-impl CertReqInfo {
-    /// The fields in their order, lent.
-    fn row<'a>(&'a self) -> RowRef<'a>
-        ensures { ⟦<RowRef<'a> as Fields>⟧.fields_written result ≡ cert_req_info_plain self.now }
-    {
-        (
-            EncodeRef(&self.version),
-            (
-                EncodeRef(&self.subject),
-                (
-                    EncodeRef(&self.public_key),
-                    (
-                        ImplicitRef {
-                            value: &self.attributes,
-                        },
-                        (),
-                    ),
-                ),
-            ),
-        )
-    }
-}
-
-impl FixedTag for CertReqInfo {
-    ghost fixed_tag = { Sequence };
-
-    fn tag() -> Tag {
-        Tag::Sequence
-    }
-}
-
-impl Fields for CertReqInfo {
-    ghost fields = { cert_req_info_fields Bound };
-
-    ghost fields_plain = { cert_req_info_plain };
-
-    ghost fields_written = { cert_req_info_plain };
+    ghost view = { cert_req_info_plain };
 }
 
 impl<'a, R: Reader<'a>> DecodeFields<'a, R> for CertReqInfo {
     fn decode_fields(alloc: Global, reader: &mut R) -> Result<CertReqInfo, Error> {
-        let (version, (subject, (public_key, (attributes, ())))) = Row::decode_fields(
-            alloc, reader,
-        )?;
+        let row!(
+            version,
+            subject,
+            public_key,
+            Implicit::<_, 0> { value: attributes }
+        ) = DecodeRow::decode_row(alloc, reader)?;
         Ok(CertReqInfo {
             version,
             subject,
             public_key,
-            attributes: attributes.value,
+            attributes,
         })
     }
 }
 
-impl ShapedValue for CertReqInfo {
-    ghost content = { nested (cert_req_info_fields Bound) };
-
-    ghost value_plain = { cert_req_info_plain };
-
-    ghost value_written = { cert_req_info_plain };
+impl Described for CertReqInfo {
+    type By = AsRecord;
 }
 
-impl<'a, R: Reader<'a>> DecodeValue<'a, R> for CertReqInfo {
-    fn decode_value(alloc: Global, reader: &mut R, header: Header) -> Result<CertReqInfo, Error> {
-        read_fields(alloc, reader, header)
-    }
-}
-
-impl EncodeValue for CertReqInfo {
-    fn value_len(&self) -> Result<Length, Error> {
-        self.row().fields_len()
+impl Rows for CertReqInfo {
+    fn with_rows<U: RowUser>(&self, other: &Self, user: &mut U) -> U::Answer {
+        lend!(self, other, user; |info|
+            EncodeRef(&info.version),
+            EncodeRef(&info.subject),
+            EncodeRef(&info.public_key),
+            ImplicitRef::<_, 0> { value: &info.attributes })
     }
 
-    fn encode_value<W: Writer>(&self, writer: &mut W) -> Result<(), Error> {
-        self.row().encode_fields(writer)
-    }
-}
-
-impl ApartValue for CertReqInfo {
-    ghost apart_value = { refl };
-}
-
-impl AsReadValue for CertReqInfo {
-    ghost as_read_value = { λ _. refl };
+    ghost apart = { refl };
 }
 
 impl InRangeValue for CertReqInfo {

@@ -1,20 +1,16 @@
 //! Requests for extensions.
 
-ghost use Rattle.std.specs.Prelude.{◌≡◌, [], ◌∷◌, refl};
+ghost use Rattle.std.specs.Prelude.{◌≡◌, [], ◌∷◌};
 ghost use Rattle.const_oid.specs.Bound.{Bound};
-ghost use Rattle.der_core_head.specs.declared.tag.Tag.TheVariants.{Sequence};
 ghost use Rattle.der_core_head.specs.Reading.{Gives};
 ghost use Rattle.x509_cert_general_names.specs.Parts.{attribute_plain, extensions_plain};
-ghost use Rattle.x509_cert_lists.specs.Grammar.{extension_req_content, extension_req_arcs};
+ghost use Rattle.x509_cert_lists.specs.Grammar.{extension_req_arcs};
 ghost use Rattle.x509_cert_lists.specs.Grammar.{extension_req_attribute};
 
 use const_oid::{AssociatedOid, ObjectIdentifier};
-use der_core::{
-    ApartValue, AsReadValue, DecodeValue, EncodeValue, Error, FixedTag, Header, Length, Reader,
-    ShapedValue, StrictSetOf, Tag, ValueOrd, Writer,
-};
+use der_core::describing::{AsField, Described, Ordered, Wraps};
+use der_core::{Error, StrictSetOf};
 use std::alloc::Global;
-use std::cmp::Ordering;
 use x509_cert_general_names::certificates::{Any, Attribute, Extension};
 
 /// The extensions that a certification request asks for, as the value of an attribute (RFC 2985
@@ -23,7 +19,7 @@ use x509_cert_general_names::certificates::{Any, Attribute, Extension};
 /// ```text
 /// ExtensionRequest ::= Extensions
 /// ```
-#[derive(Clone, Debug, Drop, PartialEq, Eq)]
+#[derive(Debug, Drop, PartialEq, Eq)]
 pub struct ExtensionReq(pub Vec<Extension>);
 
 impl ExtensionReq {
@@ -45,52 +41,23 @@ impl AssociatedOid for ExtensionReq {
     }
 }
 
-impl FixedTag for ExtensionReq {
-    ghost fixed_tag = { Sequence };
+impl Described for ExtensionReq {
+    type By = AsField<Vec<Extension>>;
+}
 
-    fn tag() -> Tag {
-        Tag::Sequence
+impl Wraps<Vec<Extension>> for ExtensionReq {
+    ghost inner = { λ x. x.0 };
+
+    fn inner(&self) -> &Vec<Extension> {
+        &self.0
+    }
+
+    fn wrap(field: Vec<Extension>) -> ExtensionReq {
+        ExtensionReq(field)
     }
 }
 
-impl ShapedValue for ExtensionReq {
-    ghost content = { extension_req_content Bound };
-
-    ghost value_plain = { λ x. extensions_plain x.0.items };
-
-    ghost value_written = { λ x. extensions_plain x.0.items };
-}
-
-impl<'a, R: Reader<'a>> DecodeValue<'a, R> for ExtensionReq {
-    fn decode_value(alloc: Global, reader: &mut R, header: Header) -> Result<ExtensionReq, Error> {
-        let value = <Vec<Extension>>::decode_value(alloc, reader, header)?;
-        Ok(ExtensionReq(value))
-    }
-}
-
-impl EncodeValue for ExtensionReq {
-    fn value_len(&self) -> Result<Length, Error> {
-        self.0.value_len()
-    }
-
-    fn encode_value<W: Writer>(&self, writer: &mut W) -> Result<(), Error> {
-        self.0.encode_value(writer)
-    }
-}
-
-impl ApartValue for ExtensionReq {
-    ghost apart_value = { refl };
-}
-
-impl AsReadValue for ExtensionReq {
-    ghost as_read_value = { λ _. refl };
-}
-
-impl ValueOrd for ExtensionReq {
-    fn value_cmp(&self, other: &Self) -> Result<Ordering, Error> {
-        self.0.value_cmp(&other.0)
-    }
-}
+impl Ordered for ExtensionReq {}
 
 impl From<Vec<Extension>> for ExtensionReq {
     ghost from_gives = { λ v x. x.0 ≡ v };

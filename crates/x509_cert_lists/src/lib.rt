@@ -6,6 +6,7 @@ mod cert_req;
 mod cert_req_info;
 mod certificate_list;
 mod challenge_password;
+mod copies;
 mod extension_req;
 pub mod request;
 mod revoked_cert;

@@ -4,6 +4,7 @@ ghost use Rattle.std.specs.Prelude.{◌≡◌};
 ghost use Rattle.x509_cert_lists.specs.Grammar.{request_numbers};
 ghost use Rattle.x509_cert_lists.specs.Views.{request_number};
 
+use der_core::describing::{AsInteger, Described, Ordered};
 use der_core::{Error, Integer, Tag};
 use x509_cert_general_names::making::number_among;
 
@@ -16,6 +17,10 @@ use x509_cert_general_names::making::number_among;
 pub enum Version {
     #[default]
     V1,
+}
+
+impl Described for Version {
+    type By = AsInteger;
 }
 
 /// Any other number is refused as `Value`.
@@ -33,3 +38,5 @@ impl Integer for Version {
         (false, 0)
     }
 }
+
+impl Ordered for Version {}

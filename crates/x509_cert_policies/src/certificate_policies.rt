@@ -1,79 +1,35 @@
 //! CertificatePolicies.
 
-ghost use Rattle.std.specs.Prelude.{◌≡◌, refl};
-ghost use Rattle.const_oid.specs.Bound.{Bound};
-ghost use Rattle.der_core_head.specs.declared.tag.Tag.TheVariants.{Sequence};
-ghost use Rattle.der_core_head.specs.Grammar.{plain_list};
-ghost use Rattle.der_core_head.specs.Shapes.{nested, many, sequence};
-ghost use Rattle.x509_cert_policies.specs.Grammar.{policy_information_fields};
-ghost use Rattle.x509_cert_policies.specs.Views.{policy_information_plain};
+ghost use Rattle.std.specs.Prelude.{◌≡◌};
 
 use crate::policy_information::PolicyInformation;
-use der_core::{
-    ApartValue, AsReadValue, DecodeValue, EncodeValue, Error, FixedTag, Header, Length, Reader,
-    ShapedValue, Tag, ValueOrd, Writer,
-};
-use std::alloc::Global;
-use std::cmp::Ordering;
+use der_core::describing::{AsField, Described, Ordered, Wraps};
 
 /// The policies under which a certificate was issued (RFC 5280 4.2.1.4).
 ///
 /// ```text
 /// CertificatePolicies ::= SEQUENCE SIZE (1..MAX) OF PolicyInformation
 /// ```
-#[derive(Clone, Debug, Drop, PartialEq, Eq)]
+#[derive(Debug, Drop, PartialEq, Eq)]
 pub struct CertificatePolicies(pub Vec<PolicyInformation>);
 
-impl FixedTag for CertificatePolicies {
-    ghost fixed_tag = { Sequence };
+impl Described for CertificatePolicies {
+    type By = AsField<Vec<PolicyInformation>>;
+}
 
-    fn tag() -> Tag {
-        Tag::Sequence
+impl Wraps<Vec<PolicyInformation>> for CertificatePolicies {
+    ghost inner = { λ x. x.0 };
+
+    fn inner(&self) -> &Vec<PolicyInformation> {
+        &self.0
+    }
+
+    fn wrap(field: Vec<PolicyInformation>) -> CertificatePolicies {
+        CertificatePolicies(field)
     }
 }
 
-impl ShapedValue for CertificatePolicies {
-    ghost content = { nested (many (sequence (policy_information_fields Bound))) };
-
-    ghost value_plain = { λ x. plain_list policy_information_plain x.0.items };
-
-    ghost value_written = { λ x. plain_list policy_information_plain x.0.items };
-}
-
-impl<'a, R: Reader<'a>> DecodeValue<'a, R> for CertificatePolicies {
-    fn decode_value(
-        alloc: Global,
-        reader: &mut R,
-        header: Header,
-    ) -> Result<CertificatePolicies, Error> {
-        let value = <Vec<PolicyInformation>>::decode_value(alloc, reader, header)?;
-        Ok(CertificatePolicies(value))
-    }
-}
-
-impl EncodeValue for CertificatePolicies {
-    fn value_len(&self) -> Result<Length, Error> {
-        self.0.value_len()
-    }
-
-    fn encode_value<W: Writer>(&self, writer: &mut W) -> Result<(), Error> {
-        self.0.encode_value(writer)
-    }
-}
-
-impl ApartValue for CertificatePolicies {
-    ghost apart_value = { refl };
-}
-
-impl AsReadValue for CertificatePolicies {
-    ghost as_read_value = { λ _. refl };
-}
-
-impl ValueOrd for CertificatePolicies {
-    fn value_cmp(&self, other: &Self) -> Result<Ordering, Error> {
-        self.0.value_cmp(&other.0)
-    }
-}
+impl Ordered for CertificatePolicies {}
 
 impl From<Vec<PolicyInformation>> for CertificatePolicies {
     ghost from_gives = { λ v x. x.0 ≡ v };

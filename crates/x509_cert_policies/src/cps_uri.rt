@@ -1,17 +1,9 @@
 //! CpsUri.
 
-ghost use Rattle.std.specs.Prelude.{◌≡◌, refl};
+ghost use Rattle.std.specs.Prelude.{◌≡◌};
 ghost use Rattle.der_core_head.specs.declared.tag.Tag.TheVariants.{Ia5String};
-ghost use Rattle.der_core_head.specs.Leaves.{text};
-ghost use Rattle.der_core_head.specs.Texts.{ascii};
-ghost use Rattle.der_core_head.specs.Shapes.{leaf};
 
-use der_core::{
-    ApartValue, AsReadValue, DecodeValue, EncodeValue, Error, FixedTag, Header, Length, Reader,
-    ShapedValue, Tag, ValueOrd, Writer,
-};
-use std::alloc::Global;
-use std::cmp::Ordering;
+use der_core::describing::{AsField, Described, Ordered, Wraps};
 use x509_cert_general_names::certificates::Ia5String;
 
 /// Where the practice statement of an authority is had (RFC 5280 4.2.1.4).
@@ -19,55 +11,26 @@ use x509_cert_general_names::certificates::Ia5String;
 /// ```text
 /// CPSuri ::= IA5String
 /// ```
-#[derive(Clone, Debug, Drop, PartialEq, Eq)]
+#[derive(Debug, Drop, PartialEq, Eq)]
 pub struct CpsUri(pub Ia5String);
 
-impl FixedTag for CpsUri {
-    ghost fixed_tag = { Ia5String };
+impl Described for CpsUri {
+    type By = AsField<Ia5String>;
+}
 
-    fn tag() -> Tag {
-        Tag::Ia5String
+impl Wraps<Ia5String> for CpsUri {
+    ghost inner = { λ x. x.0 };
+
+    fn inner(&self) -> &Ia5String {
+        &self.0
+    }
+
+    fn wrap(field: Ia5String) -> CpsUri {
+        CpsUri(field)
     }
 }
 
-impl ShapedValue for CpsUri {
-    ghost content = { leaf (text ascii) };
-
-    ghost value_plain = { λ x. x.0 };
-
-    ghost value_written = { λ x. x.0 };
-}
-
-impl<'a, R: Reader<'a>> DecodeValue<'a, R> for CpsUri {
-    fn decode_value(alloc: Global, reader: &mut R, header: Header) -> Result<CpsUri, Error> {
-        let value = <Ia5String>::decode_value(alloc, reader, header)?;
-        Ok(CpsUri(value))
-    }
-}
-
-impl EncodeValue for CpsUri {
-    fn value_len(&self) -> Result<Length, Error> {
-        self.0.value_len()
-    }
-
-    fn encode_value<W: Writer>(&self, writer: &mut W) -> Result<(), Error> {
-        self.0.encode_value(writer)
-    }
-}
-
-impl ApartValue for CpsUri {
-    ghost apart_value = { refl };
-}
-
-impl AsReadValue for CpsUri {
-    ghost as_read_value = { λ _. refl };
-}
-
-impl ValueOrd for CpsUri {
-    fn value_cmp(&self, other: &Self) -> Result<Ordering, Error> {
-        self.0.value_cmp(&other.0)
-    }
-}
+impl Ordered for CpsUri {}
 
 impl From<Ia5String> for CpsUri {
     ghost from_gives = { λ v x. x.0 ≡ v };
@@ -90,5 +53,21 @@ impl AsRef<Ia5String> for CpsUri {
         ensures { result.now ≡ self.now.0 }
     {
         &self.0
+    }
+}
+
+impl AsMut<Ia5String> for CpsUri {
+    ghost use Rattle.std.specs.Borrow.{sem, Lends};
+    ghost use Rattle.x509_cert_general_names.specs.Names.TextTypes.contracts.ascii_string.AsciiString.{the_row as text_row};
+    ghost use Rattle.x509_cert_general_names.specs.Names.TextTypes.contracts.ia5_string.Ia5.{the_row as kind_row};
+    ghost use Rattle.x509_cert_general_names.specs.Names.TextTypes.contracts.ia5_string.Ia5AsciiType.TheImpl.{ghosts as characters};
+    ghost use Rattle.x509_cert_policies.specs.contracts.cps_uri.CpsUri.{the_row};
+
+    fn as_mut(&mut self) -> &mut Ia5String
+        ensures* writes_back { sem 𝓛 (Lends the_row (text_row kind_row characters) self.entry result
+            (λ w. record { 0 = w })) }
+        ensures value { result.now ≡ self.old.0 }
+    {
+        &mut self.0
     }
 }

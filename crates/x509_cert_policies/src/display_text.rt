@@ -19,7 +19,7 @@ use x509_cert_general_names::certificates::Ia5String;
 ///     ia5String   IA5String (SIZE (1..200)),
 ///     utf8String  UTF8String (SIZE (1..200)) }
 /// ```
-#[derive(Clone, Debug, Drop, PartialEq, Eq)]
+#[derive(Debug, Drop, PartialEq, Eq)]
 pub enum DisplayText {
     /// Of characters of ASCII.
     Ia5String(Ia5String),

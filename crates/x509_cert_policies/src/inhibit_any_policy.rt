@@ -1,17 +1,8 @@
 //! InhibitAnyPolicy.
 
-ghost use Rattle.std.specs.Prelude.{◌≡◌, pos, refl};
-ghost use Rattle.der_core_head.specs.declared.tag.Tag.TheVariants.{Integer};
-ghost use Rattle.der_core_head.specs.Leaves.{integer};
-ghost use Rattle.der_core_head.specs.Integers.{unsigned};
-ghost use Rattle.der_core_head.specs.Shapes.{leaf};
+ghost use Rattle.std.specs.Prelude.{◌≡◌};
 
-use der_core::{
-    ApartValue, AsReadValue, DecodeValue, EncodeValue, Error, FixedTag, Header, Length, Reader,
-    ShapedValue, Tag, ValueOrd, Writer,
-};
-use std::alloc::Global;
-use std::cmp::Ordering;
+use der_core::describing::{AsField, Described, Ordered, Wraps};
 
 /// From where on in a path the policy that stands for any does not (RFC 5280 4.2.1.14).
 ///
@@ -23,56 +14,23 @@ use std::cmp::Ordering;
 #[derive(Clone, Copy, Debug, Default, PartialEq, Eq)]
 pub struct InhibitAnyPolicy(pub u32);
 
-impl FixedTag for InhibitAnyPolicy {
-    ghost fixed_tag = { Integer };
+impl Described for InhibitAnyPolicy {
+    type By = AsField<u32>;
+}
 
-    fn tag() -> Tag {
-        Tag::Integer
+impl Wraps<u32> for InhibitAnyPolicy {
+    ghost inner = { λ x. x.0 };
+
+    fn inner(&self) -> &u32 {
+        &self.0
+    }
+
+    fn wrap(field: u32) -> InhibitAnyPolicy {
+        InhibitAnyPolicy(field)
     }
 }
 
-impl ShapedValue for InhibitAnyPolicy {
-    ghost content = { leaf (integer (unsigned 32)) };
-
-    ghost value_plain = { λ x. pos x.0 };
-
-    ghost value_written = { λ x. pos x.0 };
-}
-
-impl<'a, R: Reader<'a>> DecodeValue<'a, R> for InhibitAnyPolicy {
-    fn decode_value(
-        alloc: Global,
-        reader: &mut R,
-        header: Header,
-    ) -> Result<InhibitAnyPolicy, Error> {
-        let value = <u32>::decode_value(alloc, reader, header)?;
-        Ok(InhibitAnyPolicy(value))
-    }
-}
-
-impl EncodeValue for InhibitAnyPolicy {
-    fn value_len(&self) -> Result<Length, Error> {
-        self.0.value_len()
-    }
-
-    fn encode_value<W: Writer>(&self, writer: &mut W) -> Result<(), Error> {
-        self.0.encode_value(writer)
-    }
-}
-
-impl ApartValue for InhibitAnyPolicy {
-    ghost apart_value = { refl };
-}
-
-impl AsReadValue for InhibitAnyPolicy {
-    ghost as_read_value = { λ _. refl };
-}
-
-impl ValueOrd for InhibitAnyPolicy {
-    fn value_cmp(&self, other: &Self) -> Result<Ordering, Error> {
-        self.0.value_cmp(&other.0)
-    }
-}
+impl Ordered for InhibitAnyPolicy {}
 
 impl From<u32> for InhibitAnyPolicy {
     ghost from_gives = { λ v x. x.0 ≡ v };

@@ -3,6 +3,7 @@
 
 mod basic_constraints;
 mod certificate_policies;
+mod copies;
 mod cps_uri;
 mod display_text;
 mod identifiers;

@@ -2,19 +2,13 @@
 
 ghost use Rattle.std.specs.Prelude.{◌≡◌, refl};
 ghost use Rattle.const_oid.specs.Bound.{Bound};
-ghost use Rattle.der_core_head.specs.declared.tag.Tag.TheVariants.{Sequence};
-ghost use Rattle.der_core_head.specs.Shapes.{nested};
 ghost use Rattle.x509_cert_policies.specs.Grammar.{policy_mapping_fields};
 ghost use Rattle.x509_cert_policies.specs.Views.{policy_mapping_plain};
 
 use const_oid::ObjectIdentifier;
-use der_core::making::read_fields;
-use der_core::{
-    ApartValue, AsReadValue, DecodeFields, DecodeValue, EncodeFields, EncodeRef, EncodeValue,
-    Error, Fields, FieldsOrd, FixedTag, Header, Length, Reader, ShapedValue, Tag, ValueOrd, Writer,
-};
+use der_core::describing::{AsRecord, DecodeRow, Described, FieldsView, RowUser, Rows};
+use der_core::{DecodeFields, Error, Reader, lend, row};
 use std::alloc::Global;
-use std::cmp::Ordering;
 
 /// A policy of the issuer's domain that the issuer takes for one of the subject's (RFC 5280
 /// 4.2.1.5).
@@ -32,44 +26,15 @@ pub struct PolicyMapping {
     pub subject_domain_policy: ObjectIdentifier<39>,
 }
 
-type Row = (ObjectIdentifier<39>, (ObjectIdentifier<39>, ()));
+impl FieldsView for PolicyMapping {
+    ghost body = { policy_mapping_fields Bound };
 
-type RowRef<'a> = (
-    EncodeRef<'a, ObjectIdentifier<39>>,
-    (EncodeRef<'a, ObjectIdentifier<39>>, ()),
-);
-
-impl PolicyMapping {
-    /// The fields in their order, lent.
-    fn row<'a>(&'a self) -> RowRef<'a>
-        ensures { ⟦<RowRef<'a> as Fields>⟧.fields_written result ≡ policy_mapping_plain self.now }
-    {
-        (
-            EncodeRef(&self.issuer_domain_policy),
-            (EncodeRef(&self.subject_domain_policy), ()),
-        )
-    }
-}
-
-impl FixedTag for PolicyMapping {
-    ghost fixed_tag = { Sequence };
-
-    fn tag() -> Tag {
-        Tag::Sequence
-    }
-}
-
-impl Fields for PolicyMapping {
-    ghost fields = { policy_mapping_fields Bound };
-
-    ghost fields_plain = { policy_mapping_plain };
-
-    ghost fields_written = { policy_mapping_plain };
+    ghost view = { policy_mapping_plain };
 }
 
 impl<'a, R: Reader<'a>> DecodeFields<'a, R> for PolicyMapping {
     fn decode_fields(alloc: Global, reader: &mut R) -> Result<PolicyMapping, Error> {
-        let (issuer_domain_policy, (subject_domain_policy, ())) = Row::decode_fields(
+        let row!(issuer_domain_policy, subject_domain_policy) = DecodeRow::decode_row(
             alloc, reader,
         )?;
         Ok(PolicyMapping {
@@ -79,42 +44,14 @@ impl<'a, R: Reader<'a>> DecodeFields<'a, R> for PolicyMapping {
     }
 }
 
-impl ShapedValue for PolicyMapping {
-    ghost content = { nested (policy_mapping_fields Bound) };
-
-    ghost value_plain = { policy_mapping_plain };
-
-    ghost value_written = { policy_mapping_plain };
+impl Described for PolicyMapping {
+    type By = AsRecord;
 }
 
-impl<'a, R: Reader<'a>> DecodeValue<'a, R> for PolicyMapping {
-    fn decode_value(alloc: Global, reader: &mut R, header: Header) -> Result<PolicyMapping, Error> {
-        read_fields(alloc, reader, header)
-    }
-}
-
-impl EncodeValue for PolicyMapping {
-    fn value_len(&self) -> Result<Length, Error> {
-        self.row().fields_len()
+impl Rows for PolicyMapping {
+    fn with_rows<U: RowUser>(&self, other: &Self, user: &mut U) -> U::Answer {
+        lend!(self, other, user; issuer_domain_policy, subject_domain_policy)
     }
 
-    fn encode_value<W: Writer>(&self, writer: &mut W) -> Result<(), Error> {
-        self.row().encode_fields(writer)
-    }
-}
-
-impl ApartValue for PolicyMapping {
-    ghost apart_value = { refl };
-}
-
-impl AsReadValue for PolicyMapping {
-    ghost as_read_value = { λ _. refl };
-}
-
-/// Field after field.
-impl ValueOrd for PolicyMapping {
-    #[tactic(auto, unfolding(der_core_head::specs::Shapes::contents, der_core_head::specs::Shapes::IsContent))]
-    fn value_cmp(&self, other: &Self) -> Result<Ordering, Error> {
-        self.row().fields_cmp(&other.row())
-    }
+    ghost apart = { refl };
 }

@@ -1,0 +1,72 @@
+//! Copies of trust anchors. The largest field is copied last, so that little is
+//! dropped where memory ends.
+
+ghost use Rattle.std.specs.Prelude.{◌≡◌, IfOk, string_bytes};
+ghost use Rattle.x509_cert_anchors.specs.Views.{cert_path_controls_plain, trust_anchor_info_plain};
+ghost use Rattle.x509_cert_anchors.specs.Views.{trust_anchor_plain};
+
+use crate::{CertPathControls, TrustAnchorChoice, TrustAnchorInfo};
+use der_core::making::{copies_of_option, copy_of_option};
+use std::alloc::{AllocError, Global};
+use x509_cert_policies::CertificatePolicies;
+use x509_cert_policies::certificates::{CertificateInner, Extension, Profile};
+use x509_cert_policies::general_names::NameConstraints;
+
+/// A copy of a text.
+fn copy_of_text(text: &String, alloc: Global) -> Result<String, AllocError>
+    ensures { IfOk result (λ t. string_bytes t ≡ string_bytes text.now) }
+{
+    let copy = String::from_str(alloc, text.as_str())?;
+    Ok(copy)
+}
+
+impl<P: Profile> CertPathControls<P> {
+    /// A copy. Want of memory is the only error.
+    pub fn clone(&self, alloc: Global) -> Result<CertPathControls<P>, AllocError>
+        ensures { IfOk result
+            (λ c. cert_path_controls_plain c ≡ cert_path_controls_plain self.now) }
+    {
+        Ok(CertPathControls {
+            policy_flags: self.policy_flags,
+            path_len_constraint: self.path_len_constraint,
+            ta_name: self.ta_name.clone(alloc)?,
+            policy_set: copy_of_option(alloc, &self.policy_set, CertificatePolicies::clone)?,
+            name_constr: copy_of_option(alloc, &self.name_constr, NameConstraints::clone)?,
+            certificate: copy_of_option(alloc, &self.certificate, CertificateInner::clone)?,
+        })
+    }
+}
+
+impl<P: Profile> TrustAnchorInfo<P> {
+    /// A copy. Want of memory is the only error.
+    pub fn clone(&self, alloc: Global) -> Result<TrustAnchorInfo<P>, AllocError>
+        ensures { IfOk result (λ c. trust_anchor_info_plain c ≡ trust_anchor_info_plain self.now) }
+    {
+        Ok(TrustAnchorInfo {
+            version: self.version,
+            key_id: self.key_id.clone(alloc)?,
+            ta_title: copy_of_option(alloc, &self.ta_title, copy_of_text)?,
+            ta_title_lang_tag: copy_of_option(alloc, &self.ta_title_lang_tag, copy_of_text)?,
+            extensions: copies_of_option(alloc, &self.extensions, Extension::clone)?,
+            pub_key: self.pub_key.clone(alloc)?,
+            cert_path: copy_of_option(alloc, &self.cert_path, CertPathControls::clone)?,
+        })
+    }
+}
+
+impl<P: Profile> TrustAnchorChoice<P> {
+    /// A copy. Want of memory is the only error.
+    pub fn clone(&self, alloc: Global) -> Result<TrustAnchorChoice<P>, AllocError>
+        ensures { IfOk result (λ c. trust_anchor_plain c ≡ trust_anchor_plain self.now) }
+    {
+        match self {
+            TrustAnchorChoice::Certificate(value) => Ok(TrustAnchorChoice::Certificate(value.clone(
+                alloc,
+            )?)),
+            TrustAnchorChoice::TbsCertificate(value) => Ok(TrustAnchorChoice::TbsCertificate(
+                value.clone(alloc)?,
+            )),
+            TrustAnchorChoice::TaInfo(value) => Ok(TrustAnchorChoice::TaInfo(value.clone(alloc)?)),
+        }
+    }
+}

@@ -1,0 +1,141 @@
+//! Copies of the contents of extensions.
+
+ghost use Rattle.std.specs.Prelude.{◌≡◌, IfOk};
+ghost use Rattle.der_core_head.specs.Grammar.{plain_list};
+ghost use Rattle.x509_cert_policies.specs.GeneralNameViews.{access_description_plain};
+ghost use Rattle.x509_cert_policies.specs.GeneralNameViews.{distribution_point_plain};
+ghost use Rattle.x509_cert_policies.specs.GeneralNameViews.{general_name_plain};
+ghost use Rattle.x509_cert_policies.specs.Parts.{attribute_plain};
+
+use crate::authority_info_access::AuthorityInfoAccessSyntax;
+use crate::base_crl_number::BaseCrlNumber;
+use crate::crl_distribution_points::CrlDistributionPoints;
+use crate::crl_number::CrlNumber;
+use crate::extended_key_usage::ExtendedKeyUsage;
+use crate::freshest_crl::FreshestCrl;
+use crate::issuer_alt_name::IssuerAltName;
+use crate::subject_alt_name::SubjectAltName;
+use crate::subject_directory_attributes::SubjectDirectoryAttributes;
+use crate::subject_info_access::SubjectInfoAccessSyntax;
+use crate::subject_key_identifier::SubjectKeyIdentifier;
+use der_core::making::copies_of;
+use std::alloc::{AllocError, Global};
+use x509_cert_policies::certificates::Attribute;
+use x509_cert_policies::general_names::{AccessDescription, DistributionPoint, GeneralName};
+
+impl AuthorityInfoAccessSyntax {
+    /// A copy. Want of memory is the only error.
+    pub fn clone(&self, alloc: Global) -> Result<AuthorityInfoAccessSyntax, AllocError>
+        ensures { IfOk result
+            (λ c. plain_list access_description_plain c.0.items
+            ≡ plain_list access_description_plain self.now.0.items) }
+    {
+        Ok(AuthorityInfoAccessSyntax(copies_of(
+            alloc,
+            self.0.as_slice(),
+            AccessDescription::clone,
+        )?))
+    }
+}
+
+impl SubjectInfoAccessSyntax {
+    /// A copy. Want of memory is the only error.
+    pub fn clone(&self, alloc: Global) -> Result<SubjectInfoAccessSyntax, AllocError>
+        ensures { IfOk result
+            (λ c. plain_list access_description_plain c.0.items
+            ≡ plain_list access_description_plain self.now.0.items) }
+    {
+        Ok(SubjectInfoAccessSyntax(copies_of(alloc, self.0.as_slice(), AccessDescription::clone)?))
+    }
+}
+
+impl CrlDistributionPoints {
+    /// A copy. Want of memory is the only error.
+    pub fn clone(&self, alloc: Global) -> Result<CrlDistributionPoints, AllocError>
+        ensures { IfOk result
+            (λ c. plain_list distribution_point_plain c.0.items
+            ≡ plain_list distribution_point_plain self.now.0.items) }
+    {
+        Ok(CrlDistributionPoints(copies_of(alloc, self.0.as_slice(), DistributionPoint::clone)?))
+    }
+}
+
+impl FreshestCrl {
+    /// A copy. Want of memory is the only error.
+    pub fn clone(&self, alloc: Global) -> Result<FreshestCrl, AllocError>
+        ensures { IfOk result
+            (λ c. plain_list distribution_point_plain c.0.items
+            ≡ plain_list distribution_point_plain self.now.0.items) }
+    {
+        Ok(FreshestCrl(copies_of(alloc, self.0.as_slice(), DistributionPoint::clone)?))
+    }
+}
+
+impl IssuerAltName {
+    /// A copy. Want of memory is the only error.
+    pub fn clone(&self, alloc: Global) -> Result<IssuerAltName, AllocError>
+        ensures { IfOk result
+            (λ c. plain_list general_name_plain c.0.items
+            ≡ plain_list general_name_plain self.now.0.items) }
+    {
+        Ok(IssuerAltName(copies_of(alloc, self.0.as_slice(), GeneralName::clone)?))
+    }
+}
+
+impl SubjectAltName {
+    /// A copy. Want of memory is the only error.
+    pub fn clone(&self, alloc: Global) -> Result<SubjectAltName, AllocError>
+        ensures { IfOk result
+            (λ c. plain_list general_name_plain c.0.items
+            ≡ plain_list general_name_plain self.now.0.items) }
+    {
+        Ok(SubjectAltName(copies_of(alloc, self.0.as_slice(), GeneralName::clone)?))
+    }
+}
+
+impl SubjectDirectoryAttributes {
+    /// A copy. Want of memory is the only error.
+    pub fn clone(&self, alloc: Global) -> Result<SubjectDirectoryAttributes, AllocError>
+        ensures { IfOk result
+            (λ c. plain_list attribute_plain c.0.items
+            ≡ plain_list attribute_plain self.now.0.items) }
+    {
+        Ok(SubjectDirectoryAttributes(copies_of(alloc, self.0.as_slice(), Attribute::clone)?))
+    }
+}
+
+impl ExtendedKeyUsage {
+    /// A copy. Want of memory is the only error.
+    pub fn clone(&self, alloc: Global) -> Result<ExtendedKeyUsage, AllocError>
+        ensures { IfOk result (λ c. c.0.items ≡ self.now.0.items) }
+    {
+        Ok(ExtendedKeyUsage(self.0.as_slice().to_vec(alloc)?))
+    }
+}
+
+impl SubjectKeyIdentifier {
+    /// A copy. Want of memory is the only error.
+    pub fn clone(&self, alloc: Global) -> Result<SubjectKeyIdentifier, AllocError>
+        ensures { IfOk result (λ c. c.0 ≡ self.now.0) }
+    {
+        Ok(SubjectKeyIdentifier(self.0.clone(alloc)?))
+    }
+}
+
+impl CrlNumber {
+    /// A copy. Want of memory is the only error.
+    pub fn clone(&self, alloc: Global) -> Result<CrlNumber, AllocError>
+        ensures { IfOk result (λ c. c.0 ≡ self.now.0) }
+    {
+        Ok(CrlNumber(self.0.clone(alloc)?))
+    }
+}
+
+impl BaseCrlNumber {
+    /// A copy. Want of memory is the only error.
+    pub fn clone(&self, alloc: Global) -> Result<BaseCrlNumber, AllocError>
+        ensures { IfOk result (λ c. c.0 ≡ self.now.0) }
+    {
+        Ok(BaseCrlNumber(self.0.clone(alloc)?))
+    }
+}

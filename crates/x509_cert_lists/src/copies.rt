@@ -1,0 +1,109 @@
+//! Copies of revocation lists and of certification requests. The largest field is
+//! copied last, so that little is dropped where memory ends.
+
+ghost use Rattle.std.specs.Prelude.{◌≡◌, IfOk};
+ghost use Rattle.x509_cert_general_names.specs.Parts.{extensions_plain};
+ghost use Rattle.x509_cert_lists.specs.Views.{cert_req_info_plain, cert_req_plain};
+ghost use Rattle.x509_cert_lists.specs.Views.{certificate_list_plain, revoked_cert_plain};
+ghost use Rattle.x509_cert_lists.specs.Views.{tbs_cert_list_plain};
+
+use crate::cert_req::CertReq;
+use crate::cert_req_info::CertReqInfo;
+use crate::certificate_list::CertificateList;
+use crate::extension_req::ExtensionReq;
+use crate::revoked_cert::RevokedCert;
+use crate::tbs_cert_list::TbsCertList;
+use der_core::StrictSetOf;
+use der_core::making::{copies_of, copies_of_option};
+use std::alloc::{AllocError, Global};
+use x509_cert_general_names::certificates::{Attribute, Extension, Profile};
+
+impl<P> RevokedCert<P> {
+    /// A copy. Want of memory is the only error.
+    pub fn clone(&self, alloc: Global) -> Result<RevokedCert<P>, AllocError>
+        ensures { IfOk result (λ c. revoked_cert_plain c ≡ revoked_cert_plain self.now) }
+    {
+        Ok(RevokedCert {
+            serial_number: self.serial_number.clone(alloc)?,
+            revocation_date: self.revocation_date,
+            crl_entry_extensions: copies_of_option(
+                alloc,
+                &self.crl_entry_extensions,
+                Extension::clone,
+            )?,
+        })
+    }
+}
+
+impl<P: Profile> TbsCertList<P> {
+    /// A copy. Want of memory is the only error.
+    pub fn clone(&self, alloc: Global) -> Result<TbsCertList<P>, AllocError>
+        ensures { IfOk result (λ c. tbs_cert_list_plain c ≡ tbs_cert_list_plain self.now) }
+    {
+        Ok(TbsCertList {
+            version: self.version,
+            this_update: self.this_update,
+            next_update: self.next_update,
+            issuer: self.issuer.clone(alloc)?,
+            signature: self.signature.clone(alloc)?,
+            crl_extensions: copies_of_option(alloc, &self.crl_extensions, Extension::clone)?,
+            revoked_certificates: copies_of_option(
+                alloc,
+                &self.revoked_certificates,
+                RevokedCert::clone,
+            )?,
+        })
+    }
+}
+
+impl<P: Profile> CertificateList<P> {
+    /// A copy. Want of memory is the only error.
+    pub fn clone(&self, alloc: Global) -> Result<CertificateList<P>, AllocError>
+        ensures { IfOk result (λ c. certificate_list_plain c ≡ certificate_list_plain self.now) }
+    {
+        Ok(CertificateList {
+            signature: self.signature.clone(alloc)?,
+            signature_algorithm: self.signature_algorithm.clone(alloc)?,
+            tbs_cert_list: self.tbs_cert_list.clone(alloc)?,
+        })
+    }
+}
+
+impl CertReqInfo {
+    /// A copy. Want of memory is the only error.
+    pub fn clone(&self, alloc: Global) -> Result<CertReqInfo, AllocError>
+        ensures { IfOk result (λ c. cert_req_info_plain c ≡ cert_req_info_plain self.now) }
+    {
+        Ok(CertReqInfo {
+            version: self.version,
+            subject: self.subject.clone(alloc)?,
+            public_key: self.public_key.clone(alloc)?,
+            attributes: StrictSetOf {
+                values: copies_of(alloc, self.attributes.as_slice(), Attribute::clone)?,
+            },
+        })
+    }
+}
+
+impl CertReq {
+    /// A copy. Want of memory is the only error.
+    pub fn clone(&self, alloc: Global) -> Result<CertReq, AllocError>
+        ensures { IfOk result (λ c. cert_req_plain c ≡ cert_req_plain self.now) }
+    {
+        Ok(CertReq {
+            signature: self.signature.clone(alloc)?,
+            algorithm: self.algorithm.clone(alloc)?,
+            info: self.info.clone(alloc)?,
+        })
+    }
+}
+
+impl ExtensionReq {
+    /// A copy. Want of memory is the only error.
+    pub fn clone(&self, alloc: Global) -> Result<ExtensionReq, AllocError>
+        ensures { IfOk result
+            (λ c. extensions_plain c.0.items ≡ extensions_plain self.now.0.items) }
+    {
+        Ok(ExtensionReq(copies_of(alloc, self.0.as_slice(), Extension::clone)?))
+    }
+}

@@ -1,7 +1,0 @@
-use Rattle.x509_cert_policies.specs.Grammar.{user_notice_fields}
-use Rattle.x509_cert_general_names.proofs.Rows.{written}
-use Rattle.x509_cert_policies.proofs.user_notice.UserNoticeEncodeValue.encode_value.Goals as goal
-
-pub returns-clause-exact : goal.returns-clause-exact
-returns-clause-exact g c =
-    written user_notice_fields _ _ g.W.Writer.takes_memory (g.W.Writer.out c.args.writer.now) (g.W.Writer.out c.encode_fields.new.writer) c.encode_fields.result c.row.ensures c.encode_fields.ensures.exact
