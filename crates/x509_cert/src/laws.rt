@@ -10,7 +10,8 @@ ghost use Rattle.x509_cert_anchors.specs.Grammar.{trust_anchor_choice};
 ghost use Rattle.x509_cert_list_builders.specs.ListGrammar.{certificate_list_fields, cert_req};
 
 pub use x509_cert_anchors::laws::{
-    certificates_are_apart, dates_by_profile, identifiers_stand_in_turn,
+    certificates_are_apart, dates_by_profile, equality_of_certificates_is_of_values,
+    equality_of_names_is_of_values, equality_of_parts_is_of_values, identifiers_stand_in_turn,
     newly_read_certificates_hold_a_large_arc, newly_read_name_texts_hold_a_large_arc,
     parts_are_apart, respelled_anchors_are_spelled, respelled_certificates_are_spelled,
     respelled_dates_are_spelled, serial_numbers_by_profile, signed_part_stands_in_place,

@@ -1,8 +1,9 @@
 -- The contents that profiles put into extensions have encodings.
-use Rattle.std.proofs.Common.{◌≡◌, ◌+◌, ◌++◌, ℕ, suc, ◌<◌, ◌≤◌, ◌%◌, List, [], ◌∷◌, Bool, true, false, Option, Some, None, length, refl, sym, subst, arith}
-use Rattle.std.specs.Prelude.{⊤, pos, ◌==◌, nat_lt, map, reverse, if◌then◌else◌}
+use Rattle.std.proofs.Common.{◌≡◌, ◌+◌, ◌++◌, ℕ, ◌<◌, ◌≤◌, ◌%◌, List, [], ◌∷◌, Bool, true, false, Option, Some, None, length, refl, sym, subst, arith, rules}
+use Rattle.std.specs.Prelude.{⊤, pos, reverse, if◌then◌else◌}
 use Rattle.std.specs.Int.{reverse_bits, w8}
 use Rattle.std.proofs.lemmas.Bool.{lt-ltb}
+use Rattle.std.proofs.lemmas.Bool.Decides.{nat_tests}
 use Rattle.std.proofs.lemmas.List.{length-append, length-map, length-reverse}
 use Rattle.const_oid.specs.Bound.{Bound}
 use Rattle.const_oid.specs.IdentifierOctets.{IsIdentifier, identifier_octets, arc_octets}
@@ -39,21 +40,14 @@ key_fits : (w : List ℕ) → IsOctets w → length w ≡ 20 → IsValid octet_s
 unfolding IsValid IsContent tlv head_octets length_octets tag_octets contents
 key_fits w o e = (o, omega arith, rw e omega arith)
 
-none_valid : (ca : Bool) → IsValid (sequence basic_constraints_fields) (ca, (None, tt))
-unfolding IsValid IsContent IsBody tlv head_octets length_octets tag_octets contents body_octets octets_of unless
-none_valid true = (((tt, omega arith, omega arith), (tt, tt)), omega arith, omega arith)
-none_valid false = (((tt, omega arith, omega arith), (tt, tt)), omega arith, omega arith)
-
--- a short content fits behind its header
-small : (t : Tag) (c : List ℕ) → length (tag_octets t) ≤ 5 → length c < 128 → Fits (tlv t c)
-unfolding tlv head_octets length_octets
-small t c h l =
-    rw (lt-ltb (length c) 128 l) (omega (arith, h, l, length-append (tag_octets t) (length c ∷ []), length-append (tag_octets t ++ length c ∷ []) c))
-
 short_tlv : (t : Tag) (c : List ℕ) → length c < 128 → length (tlv t c) ≡ length (tag_octets t) + 1 + length c
 unfolding tlv head_octets length_octets
 short_tlv t c l =
     rw (lt-ltb (length c) 128 l) (omega (arith, length-append (tag_octets t) (length c ∷ []), length-append (tag_octets t ++ length c ∷ []) c))
+
+-- a short content fits behind its header
+small : (t : Tag) (c : List ℕ) → length (tag_octets t) ≤ 5 → length c < 128 → Fits (tlv t c)
+small t c h l = omega (arith, h, l, short_tlv t c l)
 
 authority_fits : (w : List ℕ) → IsOctets w → length w ≡ 20 → IsValid (sequence (authority_key_identifier_fields Bound)) (Some w, (None, (None, tt)))
 unfolding IsValid IsContent IsBody contents body_octets octets_of tag_octets
@@ -67,17 +61,9 @@ authority_fits w o e =
 
 few_octets : (n : ℕ) → n < 512 → length (set_octets n) ≤ 4
 unfolding set_octets
-few_octets n h = by (n == 0)
-  where
-    turned : List ℕ
-    turned = map (reverse_bits w8) (reverse (digits 256 n))
-
-    few : length turned ≤ 4
-    few = omega (arith, length-map (reverse (digits 256 n)) (reverse_bits w8), length-reverse (digits 256 n), length-digits-le n (omega (arith, h)))
-
-    by : (b : Bool) → length (if b then [] else turned) ≤ 4
-    by true = omega arith
-    by false = few
+few_octets n h =
+    let few = length-digits-le n (omega (arith, h)) in
+    grind (arith, nat_tests, length-map (reverse (digits 256 n)) (reverse_bits w8), length-reverse (digits 256 n), few)
 
 pub use_valid : (n : ℕ) → n < 512 → IsValid (tagged tags.BitString (leaf (named 9))) n
 unfolding IsValid IsContent contents named_octets tag_octets
@@ -85,11 +71,7 @@ use_valid n h = (h, omega arith, small tags.BitString (named_octets n) (omega ar
 
 short_positive : (w : List ℕ) → length (positive w) ≤ length w + 1
 short_positive [] = omega arith
-short_positive (d ∷ ds) = by (nat_lt d 128)
-  where
-    by : (b : Bool) → length (if b then d ∷ ds else 0 ∷ d ∷ ds) ≤ suc (length ds) + 1
-    by true = omega arith
-    by false = omega arith
+short_positive (d ∷ ds) = grind (arith, nat_tests)
 
 number_short : (n : ℕ) → n < 256 → length (integer_octets (pos n)) ≤ 5
 unfolding integer_octets
@@ -115,31 +97,25 @@ unfolding IsValid IsContent contents tlv head_octets length_octets tag_octets
 bool_valid true = (tt, omega arith, omega arith)
 bool_valid false = (tt, omega arith, omega arith)
 
-path_valid : (ca : Bool) (n : ℕ) → n < 256 → IsValid (sequence basic_constraints_fields) (ca, (Some (pos n), tt))
-unfolding IsValid IsContent IsBody contents body_octets octets_of
-path_valid ca n h = ((bool_valid ca, (number_valid n h, tt)), omega arith, short_fields ca (octets_of (number_of 8) (pos n)) (short_number n h))
-
 -- a path length is below 256
 abbrev IsPath : Option ℕ → Type 0
 IsPath None = ⊤
 IsPath (Some n) = n < 256
 
 pub constraints_valid : (ca : Bool) (path : Option ℕ) → IsPath path → IsValid (sequence basic_constraints_fields) (ca, (plain_option (λ n. pos n) path, tt))
-constraints_valid ca None h = none_valid ca
-constraints_valid ca (Some n) h = path_valid ca n h
+unfolding IsValid IsContent IsBody contents body_octets octets_of
+constraints_valid ca None h = ((bool_valid ca, (tt, tt)), omega arith, short_fields ca [] (omega arith))
+constraints_valid ca (Some n) h = ((bool_valid ca, (number_valid n h, tt)), omega arith, short_fields ca (octets_of (number_of 8) (pos n)) (short_number n h))
 
-first_purpose : IsValid (object_identifier Bound) (id_kp 1)
+purpose : (clients : Bool) → IsValid (object_identifier Bound) (id_kp (if clients then 2 else 1))
 unfolding IsValid IsContent tlv head_octets length_octets tag_octets contents IsIdentifier identifier_octets arc_octets digits digits_within marked Bound
-first_purpose = (((omega arith, omega arith, (omega arith, (omega arith, (omega arith, (omega arith, (omega arith, (omega arith, (omega arith, tt)))))))), omega arith), omega arith, omega arith)
-
-second_purpose : IsValid (object_identifier Bound) (id_kp 2)
-unfolding IsValid IsContent tlv head_octets length_octets tag_octets contents IsIdentifier identifier_octets arc_octets digits digits_within marked Bound
-second_purpose = (((omega arith, omega arith, (omega arith, (omega arith, (omega arith, (omega arith, (omega arith, (omega arith, (omega arith, tt)))))))), omega arith), omega arith, omega arith)
+purpose true = search rules
+purpose false = search rules
 
 pub purposes_valid : (clients : Bool) → IsValid (sequence_of (object_identifier Bound)) (purposes clients)
 unfolding IsValid IsContent IsBody tlv head_octets length_octets tag_octets contents body_octets octets_of identifier_octets arc_octets digits digits_within marked
-purposes_valid true = ((first_purpose, (second_purpose, tt)), omega arith, omega arith)
-purposes_valid false = ((first_purpose, tt), omega arith, omega arith)
+purposes_valid true = ((purpose false, (purpose true, tt)), omega arith, omega arith)
+purposes_valid false = ((purpose false, tt), omega arith, omega arith)
 
 -- octets that are a digest
 abbrev pub IsDigest : List ℕ → Type 0

@@ -6,9 +6,13 @@ use Rattle.der_core_head.specs.Shapes.{IsValid, Shape, Value}
 use Rattle.der_core_head.specs.Writing.{write}
 use Rattle.x509_cert_builders.specs.Refusals.{HasNoEncoding}
 
+-- want of memory, or what follows where there was enough
+pub or_memory : {X : Type 0} (kind : ErrorKind) → (kind ≢ kinds.OutOfMemory → X) → (kind ≡ kinds.OutOfMemory) ⊎ X
+or_memory kinds.OutOfMemory h = inl refl
+or_memory _ h = inr (h (λ q. absurd cc))
+
 pub or_unwritten : (s : Shape) (v : Value s) (w : List ℕ) (kind : ErrorKind)
     → (IsValid s v → kind ≢ kinds.OutOfMemory → Ok w ≡ Err kind)
     → (kind ≢ kinds.OutOfMemory → write s v (record { written = []; room = None; failed = false }) ≡ Err kind)
     → (kind ≡ kinds.OutOfMemory) ⊎ HasNoEncoding s v kind
-or_unwritten s v w kinds.OutOfMemory valid fault = inl refl
-or_unwritten s v w _ valid fault = inr (record { invalid = λ h. (let e = valid h (λ q. absurd cc) in absurd cc); fault = fault (λ q. absurd cc) })
+or_unwritten s v w kind valid fault = or_memory {X = HasNoEncoding s v kind} kind (λ enough. record { invalid = λ h. (let e = valid h enough in absurd cc); fault = fault enough })

@@ -1,5 +1,5 @@
 -- Signed parts: whether they have an encoding, and the octets at their place.
-use Rattle.std.proofs.Common.{◌≡◌, List, [], ◌∷◌, ℕ, Bool, true, false, Option, Some, None, take, drop, refl, ap, subst, arith, inl, inr, lit<}
+use Rattle.std.proofs.Common.{◌≡◌, List, [], ◌∷◌, Bool, true, false, Option, Some, None, refl, ap, subst, arith, inl, inr, lit<}
 use Rattle.std.specs.Prelude.{nat_lt, if◌then◌else◌}
 use Rattle.std.proofs.lemmas.Bool.{ltb-false}
 use Rattle.const_oid.specs.Bound.{Bound}
@@ -11,25 +11,16 @@ use Rattle.der_core_head.specs.Integers.{integer_octets}
 use Rattle.der_core_head.specs.Ranges.{IsInRange}
 use Rattle.der_core_head.specs.Shapes.{IsBody, IsContent, IsValid, body_octets, contents, explicit, octets_of, defaulted}
 use Rattle.der_core_head.specs.Tags.{tag_octets}
-use Rattle.x509_cert_extensions.specs.Certificates.{PlainCertificate, Tbs, certificate_octets, raw_tbs_certificate, signed_length, signed_start, tbs, tbs_certificate, tbs_validity}
-use Rattle.x509_cert_extensions.specs.Parts.{Algorithm, PlainExtension, PlainTime, algorithm_plain, extensions_plain, time, version}
-use Rattle.x509_cert_builders.specs.SignedParts.{IsPartInRange, PlainFields, has_any, part_shape, signed_part, validity, version_of, written_part}
-use Rattle.x509_cert_builders.specs.States.{as_written, finalized_plain, octets_in_place}
+use Rattle.x509_cert_extensions.specs.Certificates.{Tbs, tbs_certificate}
+use Rattle.x509_cert_extensions.specs.Parts.{Algorithm, PlainExtension, PlainTime, algorithm_plain, extensions_plain, respelled, time, version}
+use Rattle.x509_cert_builders.specs.SignedParts.{IsPartInRange, PlainFields, has_any, part_shape, signed_part, version_of, written_part}
+use Rattle.x509_cert_builders.specs.States.{finalized_plain}
 use Rattle.x509_cert_builders.specs.declared.certificate_builder.Finalized.{Finalized}
 
 -- the octets don't depend on the profile by which serial numbers are read
 pub raw_octets : (t : Tbs) → octets_of (tbs_certificate Bound (Some 21)) t ≡ octets_of part_shape t
 unfolding octets_of body_octets contents
 raw_octets t = refl
-
--- the signed part stands in its place
-abbrev pub StandsInPlace : Type 0
-StandsInPlace =
-    (bound : ℕ) (c : PlainCertificate)
-    → take (signed_length bound c) (drop (signed_start bound c) (certificate_octets bound c)) ≡ octets_of (raw_tbs_certificate bound) (tbs c)
-
-pub in_place : StandsInPlace → (c : PlainCertificate) → octets_in_place c ≡ octets_of part_shape (tbs (as_written c))
-in_place law c = law Bound (as_written c)
 
 -- the part that was made last stands in a certificate into which it was put back
 pub put_back : (o : Option Finalized) (f : PlainFields) (t : Tbs)
@@ -51,23 +42,15 @@ spelling_in_range : (c : Civil) (b : Bool) → nat_lt 2049 c.year ≡ b → is_c
 spelling_in_range c true e h = (h, omega arith)
 spelling_in_range c false e h = (record { civil = h; year = ltb-false 2049 c.year e }, omega arith)
 
-abbrev with_dates : Tbs → PlainTime → PlainTime → Tbs
-with_dates t a b = (t.0, (t.1.0, (t.1.1.0, (t.1.1.1.0, ((a, (b, tt)), t.1.1.1.1.1)))))
-
-first_in_range : (t : Tbs) (a b : PlainTime) → IsInRange time a → IsInRange time (tbs_validity (written_part (with_dates t a b))).0
-first_in_range t (inl c) b h = h
-first_in_range t (inr c) b h = spelling_in_range c (nat_lt 2049 c.year) refl h.0
-
-last_in_range : (t : Tbs) (a b : PlainTime) → IsInRange time b → IsInRange time (tbs_validity (written_part (with_dates t a b))).1.0
-last_in_range t a (inl c) h = h
-last_in_range t a (inr c) h = spelling_in_range c (nat_lt 2049 c.year) refl h.0
+respelled_in_range : (t : PlainTime) → IsInRange time t → IsInRange time (respelled t)
+respelled_in_range (inl c) h = h
+respelled_in_range (inr c) h = spelling_in_range c (nat_lt 2049 c.year) refl h.0
 
 -- a part whose parts are in their ranges is so as it is written
 written_in_range : (f : PlainFields) (a : Algorithm) (es : List PlainExtension) → IsPartInRange (signed_part f a es) → IsInRange part_shape (written_part (signed_part f a es))
 written_in_range f a es h =
-    let t = signed_part f a es in
-    let first = first_in_range t f.validity.0 f.validity.1.0 h.dates.0.0 in
-    let last = last_in_range t f.validity.0 f.validity.1.0 h.dates.0.1.0 in (
+    let first = respelled_in_range f.validity.0 h.dates.0.0 in
+    let last = respelled_in_range f.validity.1.0 h.dates.0.1.0 in (
       (
         version_in_range (has_any es),
         ((tt, omega arith), (h.algorithm, (h.issuer, (((first, (last, tt)), omega arith), (h.subject, (h.key, (tt, (tt, (h.extensions, tt))))))))),

@@ -1,10 +1,11 @@
 -- Subjects of subscribers, relative name by relative name.
 use Rattle.std.proofs.Common.{◌≡◌, List, [], ◌∷◌, ◌++◌, length, map, Bool, true, false, refl, sym, ap, ◌∙◌, subst, append_assoc, arith}
-use Rattle.std.specs.Prelude.{if◌then◌else◌, ◌&&◌, ◌==◌}
+use Rattle.std.specs.Prelude.{if◌then◌else◌, ◌==◌, not}
 use Rattle.std.specs.List.{AllByRecursion, IsDistinct, list_all}
 use Rattle.std.specs.List.Sorted.{IsPermutation}
 use Rattle.std.proofs.lemmas.Bool.{and_parts, eqb-true}
 use Rattle.std.proofs.lemmas.List.{append-nil}
+use Rattle.std.proofs.lemmas.List.Folds.{list_all-append}
 use Rattle.std.proofs.lemmas.List.Sorted.{IsPermutation-map, IsPermutation-refl, length_permutation}
 use Rattle.der_core_head.specs.Grammar.{plain_list}
 use Rattle.x509_cert_extensions.specs.Parts.{PlainName}
@@ -58,43 +59,14 @@ left_whole_same (a ∷ r) e =
 pub left_whole : (r s : List TypeAndValue) → list_all may_stay r ≡ true → s ≡ r → IsPermutation (left_of r) s
 left_whole r s e same = subst (λ w. IsPermutation w s) (same ∙ sym (left_whole_same r e)) (IsPermutation-refl s)
 
--- names joined
-before_joined : (l : List TypeAndValue) (m n k : PlainName) → k ≡ m ++ n → before l k ≡ before l m ++ n
-before_joined [] m n k e = e
-before_joined (a ∷ l) m n k e = ap (λ ys. (a ∷ l) ∷ ys) e
+-- a relative name of which nothing is left, and one of which something is
+nothing : (l : List TypeAndValue) (m : PlainName) → length l ≡ 0 → before l m ≡ m
+nothing [] m e = refl
+nothing (a ∷ l) m e = absurd cc
 
-subjects_joined : (m n : PlainName) → domain_subject (m ++ n) ≡ domain_subject m ++ domain_subject n
-subjects_joined [] n = refl
-subjects_joined (r ∷ rs) n = before_joined (left_of r) (domain_subject rs) (domain_subject n) (domain_subject (rs ++ n)) (subjects_joined rs n)
-
-same_joined : (m n : PlainName) (r s : List TypeAndValue) → SameAttributes m n → IsPermutation r s → SameAttributes (m ++ r ∷ []) (n ++ s ∷ [])
-same_joined [] [] r s h p = (p, tt)
-same_joined [] (x ∷ xs) r s h p = absurd h
-same_joined (x ∷ xs) [] r s h p = absurd h
-same_joined (x ∷ xs) (y ∷ ys) r s h p = (h.0, same_joined xs ys r s h.1 p)
-
-stays_joined : (m : PlainName) (r : List TypeAndValue) → all_stays (m ++ r ∷ []) ≡ true → (all_stays m ≡ true) × (stays r ≡ true)
-stays_joined [] r e = (refl, (and_parts (stays r) true e).0)
-stays_joined (x ∷ xs) r e =
-    let first = and_parts (stays x) (all_stays (xs ++ r ∷ [])) e in
-    let rest = stays_joined xs r first.1 in
-    (ap (λ b. b && all_stays xs) first.0 ∙ rest.0, rest.1)
-
-none_stays : (r : List TypeAndValue) → stays r ≡ true → length r ≡ 0 → ⊥
-none_stays [] e l = absurd cc
-none_stays (a ∷ r) e l = absurd cc
-
-all_of : (r : List TypeAndValue) → stays r ≡ true → list_all may_stay r ≡ true
-all_of [] e = absurd cc
-all_of (a ∷ r) e = e
-
-nothing : (l : List TypeAndValue) → length l ≡ 0 → before l [] ≡ []
-nothing [] e = refl
-nothing (a ∷ l) e = absurd cc
-
-something : (l : List TypeAndValue) → (length l ≡ 0 → ⊥) → before l [] ≡ l ∷ []
-something [] e = absurd (e refl)
-something (a ∷ l) e = refl
+something : (l s : List TypeAndValue) (m rest : PlainName) → IsPermutation l s → (length l ≡ 0 → ⊥) → SameAttributes m rest → SameAttributes (before l m) (s ∷ rest)
+something [] s m rest p e h = absurd (e refl)
+something (a ∷ l) s m rest p e h = (p, h)
 
 -- whether there are members, and values of members
 pub no_values : {A B : Type 0} (f : A → B) (xs : List A) → (length xs == 0) ≡ true → length (plain_list f xs) ≡ 0
@@ -105,57 +77,44 @@ pub some_values : {A B : Type 0} (f : A → B) (xs : List A) → (length xs == 0
 some_values f [] e l = absurd cc
 some_values f (x ∷ xs) e l = absurd cc
 
--- these relative names were looked at, and these are left
+-- these relative names of a name are left, and this was kept of those before
 pub record IsLeft (n kept more : PlainName) : Type 0 where
-  pub seen : PlainName
-  pub whole : n ≡ seen ++ more
-  pub same : SameAttributes (domain_subject seen) kept
-  pub stay : all_stays seen ≡ true → kept ≡ seen
+  pub same : (rest : PlainName) → SameAttributes (domain_subject more) rest → SameAttributes (domain_subject n) (kept ++ rest)
+  pub stay : all_stays n ≡ true → kept ++ more ≡ n
 
 pub left_none : (n : PlainName) → IsLeft n [] n
-left_none n = record { seen = []; whole = refl; same = tt; stay = λ e. refl }
+left_none n = record { same = λ rest h. h; stay = λ all. refl }
 
-last_stays : (m : PlainName) (r : List TypeAndValue) (more : PlainName) → all_stays (m ++ r ∷ more) ≡ true → stays r ≡ true
-last_stays [] r more e = (and_parts (stays r) (all_stays more) e).0
-last_stays (x ∷ xs) r more e = last_stays xs r more (and_parts (stays x) (all_stays (xs ++ r ∷ more)) e).1
+module _ (n kept ws more : PlainName) (r : List TypeAndValue) (next : ws ≡ r ∷ more) (h : IsLeft n kept ws) where
+  here : IsLeft n kept (r ∷ more)
+  here = subst (IsLeft n kept) next h
 
--- where all of the name stays, all of the next relative name does
-pub next_stays : (n kept more : PlainName) (r : List TypeAndValue) → IsLeft n kept (r ∷ more) → all_stays n ≡ true → list_all may_stay r ≡ true
-next_stays n kept more r h e = all_of r (last_stays h.seen r more (sym (ap all_stays h.whole) ∙ e))
+  -- where all of the name stays, the next relative name does
+  this_stays : all_stays n ≡ true → (not (length r == 0) ≡ true) × (list_all may_stay r ≡ true)
+  this_stays all =
+      let both = and_parts (all_stays kept) (all_stays (r ∷ more)) (sym (list_all-append stays kept (r ∷ more)) ∙ ap all_stays (here.stay all) ∙ all) in
+      and_parts (not (length r == 0)) (list_all may_stay r) (and_parts (stays r) (all_stays more) both.1).0
 
-module _ (n kept more : PlainName) (r s : List TypeAndValue) (h : IsLeft n kept (r ∷ more)) (p : IsPermutation (left_of r) s) (same : list_all may_stay r ≡ true → s ≡ r) where
-  whole : n ≡ (h.seen ++ r ∷ []) ++ more
-  whole = h.whole ∙ sym (append_assoc h.seen (r ∷ []) more)
+  pub next_stays : all_stays n ≡ true → list_all may_stay r ≡ true
+  next_stays all = (this_stays all).1
 
-  subject : domain_subject (h.seen ++ r ∷ []) ≡ domain_subject h.seen ++ before (left_of r) []
-  subject = subjects_joined h.seen (r ∷ [])
+  module _ (s : List TypeAndValue) (p : IsPermutation (left_of r) s) (same : list_all may_stay r ≡ true → s ≡ r) where
+    pub left_out : length s ≡ 0 → IsLeft n kept more
+    left_out e = record {
+      same = λ rest k. here.same rest (subst (λ l. SameAttributes l rest) (sym (nothing (left_of r) (domain_subject more) (sym (length_permutation (left_of r) s p) ∙ e))) k);
+      stay = λ all.
+          let first = rw (sym (ap length (same (next_stays all))) ∙ e) at (this_stays all).0 in
+          absurd cc;
+    }
 
-  -- nothing was left of it
-  pub left_out : length s ≡ 0 → IsLeft n kept more
-  left_out e =
-      let none : before (left_of r) [] ≡ [] = nothing (left_of r) (sym (length_permutation (left_of r) s p) ∙ e) in
-      record {
-        seen = h.seen ++ r ∷ [];
-        whole = whole;
-        same = subst (λ m. SameAttributes m kept) (sym (subject ∙ ap (λ w. domain_subject h.seen ++ w) none ∙ append-nil (domain_subject h.seen))) h.same;
-        stay = λ all. absurd (none_stays r (stays_joined h.seen r all).1 (sym (ap length (same (all_of r (stays_joined h.seen r all).1))) ∙ e));
-      }
-
-  -- something was
-  pub left_in : (length s ≡ 0 → ⊥) → IsLeft n (kept ++ s ∷ []) more
-  left_in e =
-      let some : before (left_of r) [] ≡ left_of r ∷ [] = something (left_of r) (λ z. e (length_permutation (left_of r) s p ∙ z)) in
-      record {
-        seen = h.seen ++ r ∷ [];
-        whole = whole;
-        same = subst (λ m. SameAttributes m (kept ++ s ∷ [])) (sym (subject ∙ ap (λ w. domain_subject h.seen ++ w) some)) (same_joined (domain_subject h.seen) kept (left_of r) s h.same p);
-        stay = λ all.
-            let parts = stays_joined h.seen r all in
-            ap (λ w. w ++ s ∷ []) (h.stay parts.0) ∙ ap (λ x. h.seen ++ x ∷ []) (same (all_of r parts.1));
-      }
+    pub left_in : (length s ≡ 0 → ⊥) → IsLeft n (kept ++ s ∷ []) more
+    left_in e = record {
+      same = λ rest k.
+          subst (SameAttributes (domain_subject n)) (sym (append_assoc kept (s ∷ []) rest))
+          (here.same (s ∷ rest) (something (left_of r) s (domain_subject more) rest p (λ z. e (length_permutation (left_of r) s p ∙ z)) k));
+      stay = λ all. append_assoc kept (s ∷ []) more ∙ ap (λ x. kept ++ x ∷ more) (same (next_stays all)) ∙ here.stay all;
+    }
 
 -- all were looked at
 pub left_all : (n kept : PlainName) → IsLeft n kept [] → SameAttributes (domain_subject n) kept × (all_stays n ≡ true → kept ≡ n)
-left_all n kept h =
-    let e : h.seen ≡ n = sym (h.whole ∙ append-nil h.seen) in
-    (subst (λ m. SameAttributes (domain_subject m) kept) e h.same, subst (λ m. all_stays m ≡ true → kept ≡ m) e h.stay)
+left_all n kept h = (subst (SameAttributes (domain_subject n)) (append-nil kept) (h.same [] tt), λ all. sym (append-nil kept) ∙ h.stay all)

@@ -1,5 +1,6 @@
 -- A set of the types of a name, type by type.
-use Rattle.std.proofs.Common.{◌≡◌, ℕ, List, [], ◌∷◌, ◌++◌, Bool, true, false, refl, sym, ap, ◌∙◌}
+use Rattle.std.proofs.Common.{◌≡◌, ℕ, List, [], ◌∷◌, ◌++◌, Bool, true, false, sym, ap, ◌∙◌, arith}
+use Rattle.std.proofs.lemmas.Bool.Decides.{nat_tests}
 use Rattle.std.proofs.lemmas.List.Folds.{list_any-append}
 use Rattle.std.specs.BTreeSet.{BTreeSet, Updates, contains}
 use Rattle.std.specs.Prelude.{◌||◌, cond}
@@ -9,10 +10,7 @@ use Rattle.x509_cert_builders.specs.Naming.{is_among}
 use Rattle.x509_cert_builders.specs.TypeSets.{HasTypes}
 
 either : (b c : Bool) → cond b true c ≡ (c || (b || false))
-either true true = refl
-either true false = refl
-either false true = refl
-either false false = refl
+either b c = grind (arith, nat_tests)
 
 pub one_more : (types : List (List ℕ)) (seen more : BTreeSet (List ℕ)) (t : List ℕ) → HasTypes types seen → Updates owned_cmp seen more t true → HasTypes (types ++ t ∷ []) more
 one_more types seen more t has added = λ q.

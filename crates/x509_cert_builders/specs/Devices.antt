@@ -9,10 +9,11 @@ use Rattle.der_core_head.specs.declared.error.ErrorKind.TheVariants as kinds
 use Rattle.der_core_head.specs.declared.tag.Tag.TheVariants.{Sequence}
 use Rattle.der_core_head.specs.Grammar.{plain_list, plain_option}
 use Rattle.der_core_head.specs.Octets.{◌>>=◌}
-use Rattle.der_core_head.specs.Shapes.{BodyValue, Value, nested, sequence_of, IsValid}
+use Rattle.der_core_head.specs.Shapes.{Value, nested, sequence_of, IsValid}
 use Rattle.x509_cert_extensions.specs.Parts.{PlainName, PlainExtension, PublicKey, content_as}
-use Rattle.x509_cert_extensions.specs.Parts.{written_as}
 use Rattle.x509_cert_extensions.specs.GeneralNames.{general_name, hardware_module_name_fields}
+use Rattle.x509_cert_extensions.specs.GeneralNameTypes.Modules.{PlainModule, module_arcs}
+use Rattle.x509_cert_extensions.specs.GeneralNameTypes.Modules.{module_held}
 use Rattle.x509_cert_extensions.specs.GeneralNameViews.{general_name_plain}
 use Rattle.x509_cert_builders.specs.Profiles.{authority_key_extension, digital_signature}
 use Rattle.x509_cert_builders.specs.Profiles.{standard_extension, usage_extension}
@@ -25,17 +26,10 @@ use Rattle.x509_cert_builders.specs.declared.tpm_version.TpmVersion.TheVariants 
 abbrev pub PlainGeneralName : Type 0
 PlainGeneralName = Value (general_name 0)
 
--- id-on-hardwareModuleName (RFC 4108 5)
-abbrev pub module_arcs : List ℕ
-module_arcs = 1 ∷ 3 ∷ 6 ∷ 1 ∷ 5 ∷ 5 ∷ 7 ∷ 8 ∷ 4 ∷ []
-
 -- whether a name is that of a module of hardware
 abbrev pub is_of_module : PlainGeneralName → Bool
 is_of_module (inl n) = owned_eq n.0 module_arcs
 is_of_module (inr n) = false
-
-abbrev pub PlainModule : Type 0
-PlainModule = BodyValue (hardware_module_name_fields 0)
 
 -- the module that a name of this kind holds, or its first fault; other names hold none
 abbrev pub module_of : PlainGeneralName → Result PlainModule ErrorKind
@@ -60,8 +54,7 @@ MayNotHave (Some names) e = FailsAs (first_module names) e
 
 -- the name of a module of this type and this serial number, if a length can count its octets
 abbrev pub module_name : List ℕ → List ℕ → Result PlainGeneralName ErrorKind
-module_name arcs serial = written_as Sequence (nested (hardware_module_name_fields Bound))
-    (arcs, (serial, tt)) >>= λ v. Ok (inl (module_arcs, (v, tt)))
+module_name arcs serial = module_held Bound (arcs, (serial, tt)) >>= λ n. Ok (inl n)
 
 -- the identifier of a version of the Trusted Platform Module
 abbrev pub version_arcs : TpmVersion → List ℕ

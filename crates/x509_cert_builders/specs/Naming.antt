@@ -1,8 +1,8 @@
 -- The naming rules of authorities (CA/Browser Forum, Baseline Requirements 7.1.4.1, 7.1.2.10.2).
-use Rattle.std.specs.Prelude.{◌≡◌, ◌⊎◌, ℕ, ◌<◌, List, [], ◌∷◌, ◌++◌, length, take, get_or, Bool}
+use Rattle.std.specs.Prelude.{◌≡◌, ◌⊎◌, ℕ, ◌<◌, List, [], ◌∷◌, length, map, take, get_or, Bool}
 use Rattle.std.specs.Prelude.{true, false, ◌&&◌, ◌||◌, nat_lt, not, Option, Some, None, Result, Ok}
 use Rattle.std.specs.Prelude.{Err, IsOk, if◌then◌else◌}
-use Rattle.std.specs.List.{find, list_any, list_all, position_or_len}
+use Rattle.std.specs.List.{find, flat_map, list_any, list_all, position_or_len}
 use Rattle.const_oid.specs.Comparing.{owned_eq}
 use Rattle.der_core_head.specs.Shapes.{AnyValue}
 use Rattle.x509_cert_extensions.specs.Parts.{PlainName}
@@ -16,13 +16,11 @@ TypeAndValue = List ℕ × (AnyValue × Unit {0})
 
 -- the types of attributes
 abbrev pub types_of : List TypeAndValue → List (List ℕ)
-types_of [] = []
-types_of (a ∷ more) = a.0 ∷ types_of more
+types_of r = map (λ (a : TypeAndValue). a.0) r
 
 -- the types of a name, relative name by relative name
 abbrev pub name_types : PlainName → List (List ℕ)
-name_types [] = []
-name_types (r ∷ rs) = types_of r ++ name_types rs
+name_types n = flat_map types_of n
 
 -- arcs below 2.5.4
 abbrev pub x520 : ℕ → List ℕ

@@ -6,16 +6,12 @@ use Rattle.const_oid.specs.Comparing.{owned_eq}
 use Rattle.der_core_head.specs.declared.tag.Tag.TheVariants as tags
 use Rattle.der_core_head.specs.Leaves.{named}
 use Rattle.der_core_head.specs.Shapes.{Shape, Value, tagged, leaf, sequence, sequence_of, octets_of}
-use Rattle.sha1.specs.Sha1.{sha1}
+use Rattle.x509_cert_extensions.specs.KeyIdentifiers.{key_identifier}
 use Rattle.x509_cert_extensions.specs.Parts.{PublicKey, PlainExtension, algorithm_arcs}
-use Rattle.x509_cert_extensions.specs.Parts.{key_algorithm, key_bits, object_identifier}
+use Rattle.x509_cert_extensions.specs.Parts.{key_algorithm, object_identifier}
 use Rattle.x509_cert_extensions.specs.Parts.{octet_string}
 use Rattle.x509_cert_extensions.specs.GeneralNames.{authority_key_identifier_fields}
 use Rattle.x509_cert_extensions.specs.Policies.{basic_constraints_fields}
-
--- the identifier of a key: the SHA-1 digest of its octets (4.2.1.2, method 1)
-abbrev pub key_identifier : PublicKey → List ℕ
-key_identifier k = sha1 (key_bits k).octets
 
 -- an extension of the arc id-ce, whose content is the encoding of a value
 abbrev pub standard_extension : ℕ → Bool → (s : Shape) → Value s → PlainExtension

@@ -3,26 +3,20 @@ use Rattle.std.specs.Prelude.{ℤ, pos, List, [], ◌∷◌, Bool, true, false, 
 use Rattle.std.specs.Prelude.{if◌then◌else◌}
 use Rattle.const_oid.specs.Bound.{Bound}
 use Rattle.der_core_head.specs.Ranges.{IsInRange}
-use Rattle.der_core_head.specs.Shapes.{Shape, Value, field, done, explicit, optional, sequence}
+use Rattle.der_core_head.specs.Shapes.{Shape, explicit, optional}
 use Rattle.x509_cert_extensions.specs.Certificates.{Tbs, raw_tbs_certificate, tbs_by}
 use Rattle.x509_cert_extensions.specs.Certificates.{tbs_inner_algorithm, tbs_issuer, tbs_validity}
 use Rattle.x509_cert_extensions.specs.Certificates.{tbs_subject, tbs_public_key}
 use Rattle.x509_cert_extensions.specs.Parts.{Algorithm, PublicKey, PlainExtension, PlainName}
 use Rattle.x509_cert_extensions.specs.Parts.{algorithm_identifier, extensions, name}
-use Rattle.x509_cert_extensions.specs.Parts.{public_key_info, time}
-
--- two dates, each with its spelling (4.1.2.5)
-abbrev pub validity : Shape
-validity = sequence (field time (field time done))
-
-abbrev pub PlainDates : Type 0
-PlainDates = Value validity
+use Rattle.x509_cert_extensions.specs.Parts.{listed as unlisted}
+use Rattle.x509_cert_extensions.specs.Parts.{PlainValidity, public_key_info, validity}
 
 -- what is settled of a certificate before it is signed
 pub record PlainFields : Type 0 where
   pub serial : ℤ
   pub issuer : PlainName
-  pub validity : PlainDates
+  pub validity : PlainValidity
   pub subject : PlainName
   pub key : PublicKey
 
@@ -62,10 +56,6 @@ has_any (e ∷ more) = true
 abbrev pub listed : List PlainExtension → Option (List PlainExtension)
 listed [] = None
 listed (e ∷ more) = Some (e ∷ more)
-
-abbrev pub unlisted : Option (List PlainExtension) → List PlainExtension
-unlisted None = []
-unlisted (Some es) = es
 
 -- the extensions of a part; none where the field is absent
 abbrev pub extensions_in : Tbs → List PlainExtension

@@ -1,10 +1,17 @@
 -- Subscribers (CA/Browser Forum, Baseline Requirements 7.1.2.7).
-use Rattle.std.specs.Prelude.{⊤, List, [], ◌∷◌, Bool, false, Result, Ok, Err, if◌then◌else◌}
+use Rattle.std.specs.Prelude.{⊤, ◌⊎◌, ℕ, List, [], ◌∷◌, Bool, Result, Ok, Err, if◌then◌else◌}
+use Rattle.std.specs.Prelude.{length, ◌==◌, ◌&&◌, not}
+use Rattle.std.proofs.Common.{inl, inr}
 use Rattle.std.specs.List.{IsDistinct, list_all}
 use Rattle.std.specs.List.Sorted.{IsPermutation}
+use Rattle.der_core_head.specs.Grammar.{plain_list}
+use Rattle.der_core_head.specs.Shapes.{Value}
+use Rattle.x509_cert_extensions.specs.GeneralNames.{general_name}
+use Rattle.x509_cert_extensions.specs.GeneralNameViews.{general_name_plain}
 use Rattle.x509_cert_extensions.specs.Parts.{PlainName, name_plain}
 use Rattle.x509_cert_builders.specs.Naming.{TypeAndValue, common_name, country, is_among}
 use Rattle.x509_cert_builders.specs.declared.certificate_type.CertificateType.{CertificateType}
+use Rattle.x509_cert_builders.specs.declared.domain_validated.DomainValidated.{DomainValidated}
 use Rattle.x509_cert_builders.specs.declared.error.Error.{Error}
 use Rattle.x509_cert_builders.specs.declared.error.Error.TheVariants as errors
 use Rattle.x509_cert_builders.specs.declared.certificate_type.CertificateType.TheVariants as types
@@ -15,6 +22,17 @@ type_subject (types.DomainValidated v) = Ok (name_plain v.subject)
 type_subject types.IndividualValidated = Err errors.Unsupported
 type_subject types.OrganizationValidated = Err errors.Unsupported
 type_subject types.ExtendedValidation = Err errors.Unsupported
+
+-- the subject and the domains of a subscriber whose domains were validated
+abbrev pub domains_plain : DomainValidated → PlainName × List (Value (general_name 0))
+domains_plain v = (name_plain v.subject, plain_list general_name_plain v.names.items)
+
+-- a kind of subscriber: what the first holds, and of the others which it is
+abbrev pub type_plain : CertificateType → (PlainName × List (Value (general_name 0))) ⊎ ℕ
+type_plain (types.DomainValidated v) = inl (domains_plain v)
+type_plain types.IndividualValidated = inr 1
+type_plain types.OrganizationValidated = inr 2
+type_plain types.ExtendedValidation = inr 3
 
 -- whatever makes two values the same: where no two of the whole are, no two of these are
 abbrev pub KeepsDistinct : {A : Type 0} → List A → List A → Type 0
@@ -50,8 +68,7 @@ SameAttributes (r ∷ rs) (s ∷ ss) = IsPermutation r s × SameAttributes rs ss
 
 -- whether all of a name stays
 abbrev pub stays : List TypeAndValue → Bool
-stays [] = false
-stays (a ∷ more) = list_all may_stay (a ∷ more)
+stays r = not (length r == 0) && list_all may_stay r
 
 abbrev pub all_stays : PlainName → Bool
 all_stays n = list_all stays n

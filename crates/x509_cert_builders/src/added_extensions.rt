@@ -4,9 +4,10 @@ ghost use Rattle.std.specs.Prelude.{◌≡◌, ◌<◌, ◌++◌, ◌∷◌, [],
 ghost use Rattle.std.specs.Prelude.{IfErr};
 ghost use Rattle.der_core_head.specs.Grammar.{plain_option};
 ghost use Rattle.der_core_head.specs.Shapes.{IsValid};
-ghost use Rattle.x509_cert_extensions.specs.Parts.{extensions_plain, name_plain};
+ghost use Rattle.x509_cert_extensions.specs.KeyIdentifiers.{key_identifier};
+ghost use Rattle.x509_cert_extensions.specs.Parts.{extensions_plain, key_lent, name_plain};
 ghost use Rattle.x509_cert_builders.specs.Profiles.{authority_key_extension, constraints_extension};
-ghost use Rattle.x509_cert_builders.specs.Profiles.{key_identifier, purposes_extension};
+ghost use Rattle.x509_cert_builders.specs.Profiles.{purposes_extension};
 ghost use Rattle.x509_cert_builders.specs.Profiles.{standard_extension, subject_key_extension};
 ghost use Rattle.x509_cert_builders.specs.Profiles.{usage_extension};
 ghost use Rattle.x509_cert_builders.specs.Refusals.{IsWantOfMemory};
@@ -14,7 +15,8 @@ ghost use Rattle.x509_cert_builders.specs.Refusals.{IsWantOfMemory};
 use crate::error::Error;
 use crate::identifiers::x500;
 use crate::uses::purposes_of;
-use der_core::{Encode, Fields};
+use der_core::Encode;
+use der_core::making::copies_of;
 use std::alloc::Global;
 use x509_cert_extensions::certificates::{Extension, Extensions, Name, SubjectPublicKeyInfoRef};
 use x509_cert_extensions::general_names::AuthorityKeyIdentifier;
@@ -49,12 +51,10 @@ fn identifier_of<'a>(
     alloc: Global,
     key: &SubjectPublicKeyInfoRef<'a>,
 ) -> Result<SubjectKeyIdentifier, Error>
-    ensures identifier { IfOk result (λ i. i.0 ≡ key_identifier
-        (⟦<SubjectPublicKeyInfoRef<'a> as Fields>⟧.fields_plain key.now)) }
+    ensures identifier { IfOk result (λ i. i.0 ≡ key_identifier (key_lent key.now)) }
     ensures refused { IfErr result IsWantOfMemory }
 {
-    let identifier = SubjectKeyIdentifier::try_from_key(alloc, key)?;
-    Ok(identifier)
+    Ok(SubjectKeyIdentifier::try_from_key(alloc, key)?)
 }
 
 /// Adds the identifier of the key by which a certificate is signed (4.2.1.1).
@@ -67,8 +67,7 @@ pub(crate) fn add_authority<'a>(
 ) -> Result<(), Error>
     ensures added { OnOk result (extensions_plain extensions.new.items
         ≡ extensions_plain extensions.old.items
-        ++ authority_key_extension (⟦<SubjectPublicKeyInfoRef<'a> as Fields>⟧.fields_plain key.now)
-        ∷ []) }
+        ++ authority_key_extension (key_lent key.now) ∷ []) }
     ensures refused { IfErr result IsWantOfMemory }
 {
     let identifier = identifier_of(alloc, key)?;
@@ -91,8 +90,7 @@ pub(crate) fn add_identifier<'a>(
 ) -> Result<(), Error>
     ensures added { OnOk result (extensions_plain extensions.new.items
         ≡ extensions_plain extensions.old.items
-        ++ subject_key_extension (⟦<SubjectPublicKeyInfoRef<'a> as Fields>⟧.fields_plain key.now)
-        ∷ []) }
+        ++ subject_key_extension (key_lent key.now) ∷ []) }
     ensures refused { IfErr result IsWantOfMemory }
 {
     let identifier = identifier_of(alloc, key)?;
@@ -170,11 +168,7 @@ pub(crate) fn joined(
     if added.is_empty() {
         return Ok(more);
     }
-    let mut all = Vec::with_capacity(alloc, added.len())?;
-    for place in 0..added.len() {
-        let extension = added[place].clone(alloc)?;
-        all.push(extension)?;
-    }
+    let mut all = copies_of(alloc, added, Extension::clone)?;
     all.append(&mut more)?;
     Ok(all)
 }

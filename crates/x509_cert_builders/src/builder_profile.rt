@@ -1,7 +1,6 @@
 //! Profiles of certificates.
 
 use crate::error::Error;
-use der_core::Fields;
 use std::alloc::Global;
 use x509_cert_extensions::certificates::{
     Extensions, Name, SubjectPublicKeyInfoRef, TbsCertificate,
@@ -18,7 +17,7 @@ pub trait BuilderProfile {
     ghost use Rattle.x509_cert_extensions.specs.Certificates.{Tbs};
     ghost use Rattle.x509_cert_extensions.specs.CertificateViews.{tbs_plain};
     ghost use Rattle.x509_cert_extensions.specs.Parts.{PlainExtension, PlainName, PublicKey};
-    ghost use Rattle.x509_cert_extensions.specs.Parts.{extensions_plain, name_plain};
+    ghost use Rattle.x509_cert_extensions.specs.Parts.{extensions_plain, key_lent, name_plain};
 
     // The issuer's name, of the subject's.
     ghost issuer_name: { Self → PlainName → PlainName };
@@ -63,8 +62,7 @@ pub trait BuilderProfile {
         tbs: &TbsCertificate,
     ) -> Result<Extensions, Error>
         ensures made { IfOk result (λ v. extensions_plain v.items
-            ≡ extensions self.now (⟦<SubjectPublicKeyInfoRef<'a> as Fields>⟧.fields_plain spk.now)
-            (⟦<SubjectPublicKeyInfoRef<'b> as Fields>⟧.fields_plain issuer_spk.now)
+            ≡ extensions self.now (key_lent spk.now) (key_lent issuer_spk.now)
             (tbs_plain tbs.now)) }
         ensures refused { IfErr result (λ e. IsWantOfMemory e ⊎ refuses self.now e) };
 }

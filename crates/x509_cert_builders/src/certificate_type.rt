@@ -9,20 +9,20 @@ ghost use Rattle.der_core_head.specs.declared.error.ErrorKind.TheVariants.{Overf
 ghost use Rattle.x509_cert_builders.specs.Refusals.{IsOfKind, IsWantOfMemory};
 ghost use Rattle.x509_cert_builders.specs.Subscribers.{KeepsDistinct, SameAttributes, all_stays};
 ghost use Rattle.x509_cert_builders.specs.Subscribers.{domain_subject, left_of, may_stay};
-ghost use Rattle.x509_cert_builders.specs.Subscribers.{type_subject};
+ghost use Rattle.x509_cert_builders.specs.Subscribers.{type_plain, type_subject};
 
 use crate::attribute_types as types;
 use crate::domain_validated::DomainValidated;
 use crate::error::Error;
 use const_oid::ObjectIdentifier;
-use std::alloc::Global;
+use std::alloc::{AllocError, Global};
 use x509_cert_extensions::certificates::{
     AttributeTypeAndValue, Name, RdnSequence, RelativeDistinguishedName,
 };
 use x509_cert_extensions::general_names::GeneralNames;
 
 /// How it was found out who a subscriber is (CA/Browser Forum, Baseline Requirements 7.1.2.7.1).
-#[derive(Clone, Debug, Drop, PartialEq)]
+#[derive(Debug, Drop, PartialEq)]
 pub enum CertificateType {
     /// The domains were validated.
     DomainValidated(DomainValidated),
@@ -89,12 +89,10 @@ fn left_of(
     ensures long { IfErr result (λ e. IsWantOfMemory e ⊎ IsOfKind Overflow e) }
 {
     if all_stay(relative.as_slice()) {
-        let whole = relative.clone(alloc)?;
-        return Ok(whole);
+        return Ok(relative.clone(alloc)?);
     }
     let attributes = attributes_left(alloc, relative)?;
-    let left = RelativeDistinguishedName::try_from_vec(attributes)?;
-    Ok(left)
+    Ok(RelativeDistinguishedName::try_from_vec(attributes)?)
 }
 
 /// What is left of a name: the relative names of which something is left.
@@ -139,5 +137,19 @@ impl CertificateType {
     {
         let subject = name_left(alloc, &subject)?;
         Ok(CertificateType::DomainValidated(DomainValidated { subject, names }))
+    }
+
+    /// A copy. Want of memory is the only error.
+    pub fn clone(&self, alloc: Global) -> Result<CertificateType, AllocError>
+        ensures { IfOk result (λ c. type_plain c ≡ type_plain self.now) }
+    {
+        match self {
+            CertificateType::DomainValidated(validated) => Ok(CertificateType::DomainValidated(
+                validated.clone(alloc)?,
+            )),
+            CertificateType::IndividualValidated => Ok(CertificateType::IndividualValidated),
+            CertificateType::OrganizationValidated => Ok(CertificateType::OrganizationValidated),
+            CertificateType::ExtendedValidation => Ok(CertificateType::ExtendedValidation),
+        }
     }
 }

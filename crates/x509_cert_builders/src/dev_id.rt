@@ -177,13 +177,11 @@ impl BuilderProfile for DevId {
     ghost refuses = { λ device _. IsUnnameable (device_names device) };
 
     fn get_issuer(&self, alloc: Global, _subject: &Name) -> Result<Name, Error> {
-        let issuer = self.issuer.clone(alloc)?;
-        Ok(issuer)
+        Ok(self.issuer.clone(alloc)?)
     }
 
     fn get_subject(&self, alloc: Global) -> Result<Name, Error> {
-        let subject = self.subject.clone(alloc)?;
-        Ok(subject)
+        Ok(self.subject.clone(alloc)?)
     }
 
     fn build_extensions<'a, 'b>(

@@ -1,15 +1,30 @@
 //! Subscribers whose domains were validated.
 
-ghost use Rattle.std.specs.Prelude.{◌≡◌};
+ghost use Rattle.std.specs.Prelude.{◌≡◌, IfOk};
+ghost use Rattle.x509_cert_builders.specs.Subscribers.{domains_plain};
 
+use der_core::making::copies_of;
+use std::alloc::{AllocError, Global};
 use x509_cert_extensions::certificates::Name;
-use x509_cert_extensions::general_names::GeneralNames;
+use x509_cert_extensions::general_names::{GeneralName, GeneralNames};
 
 /// The subject of a subscriber whose domains, and nothing else, were validated (CA/Browser Forum,
 /// Baseline Requirements 7.1.2.7.2): it has countries and common names alone.
-#[derive(Clone, Debug, Drop, PartialEq)]
+#[derive(Debug, Drop, PartialEq)]
 pub struct DomainValidated {
     pub(crate) subject: Name,
     /// The domains. A certificate has them where they are added to its builder as an extension.
     pub(crate) names: GeneralNames,
+}
+
+impl DomainValidated {
+    /// A copy. Want of memory is the only error.
+    pub fn clone(&self, alloc: Global) -> Result<DomainValidated, AllocError>
+        ensures { IfOk result (λ c. domains_plain c ≡ domains_plain self.now) }
+    {
+        Ok(DomainValidated {
+            subject: self.subject.clone(alloc)?,
+            names: copies_of(alloc, self.names.as_slice(), GeneralName::clone)?,
+        })
+    }
 }

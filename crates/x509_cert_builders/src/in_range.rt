@@ -6,8 +6,8 @@
 ghost use Rattle.der_core_head.specs.Grammar.{plain_option};
 ghost use Rattle.der_core_head.specs.Ranges.{IsInRange};
 ghost use Rattle.x509_cert_extensions.specs.CertificateViews.{tbs_plain};
-ghost use Rattle.x509_cert_extensions.specs.Parts.{extensions_plain, validity_plain};
-ghost use Rattle.x509_cert_builders.specs.SignedParts.{IsPartInRange, extensions_field, validity};
+ghost use Rattle.x509_cert_extensions.specs.Parts.{extensions_plain, validity, validity_plain};
+ghost use Rattle.x509_cert_builders.specs.SignedParts.{IsPartInRange, extensions_field};
 
 use der_core::InRange;
 use x509_cert_extensions::certificates::{Extensions, TbsCertificate, Validity};

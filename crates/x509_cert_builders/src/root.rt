@@ -53,13 +53,11 @@ impl BuilderProfile for Root {
     ghost refuses = { λ _ _. ⊥ };
 
     fn get_issuer(&self, alloc: Global, subject: &Name) -> Result<Name, Error> {
-        let issuer = subject.clone(alloc)?;
-        Ok(issuer)
+        Ok(subject.clone(alloc)?)
     }
 
     fn get_subject(&self, alloc: Global) -> Result<Name, Error> {
-        let subject = self.subject.clone(alloc)?;
-        Ok(subject)
+        Ok(self.subject.clone(alloc)?)
     }
 
     fn build_extensions<'a, 'b>(

@@ -44,13 +44,11 @@ impl BuilderProfile for Subordinate {
     ghost refuses = { λ _ _. ⊥ };
 
     fn get_issuer(&self, alloc: Global, _subject: &Name) -> Result<Name, Error> {
-        let issuer = self.issuer.clone(alloc)?;
-        Ok(issuer)
+        Ok(self.issuer.clone(alloc)?)
     }
 
     fn get_subject(&self, alloc: Global) -> Result<Name, Error> {
-        let subject = self.subject.clone(alloc)?;
-        Ok(subject)
+        Ok(self.subject.clone(alloc)?)
     }
 
     fn build_extensions<'a, 'b>(

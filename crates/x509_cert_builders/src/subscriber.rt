@@ -1,7 +1,7 @@
 //! Subscribers.
 
 ghost use Rattle.std.specs.Prelude.{◌≡◌, ◌<◌, ◌^◌, bit_or, if◌then◌else◌};
-ghost use Rattle.x509_cert_extensions.specs.Parts.{name_plain};
+ghost use Rattle.x509_cert_extensions.specs.Parts.{key_lent, name_plain};
 ghost use Rattle.x509_cert_builders.specs.Profiles.{subscriber_extensions, subscriber_uses};
 ghost use Rattle.x509_cert_builders.specs.Subscribers.{type_subject};
 
@@ -11,7 +11,6 @@ use crate::certificate_type::CertificateType;
 use crate::error::Error;
 use crate::identifiers::{elliptic_curve_key, rsa_encryption};
 use crate::tls12_options::Tls12Options;
-use der_core::Fields;
 use std::alloc::Global;
 use x509_cert_extensions::certificates::{
     Extensions, FlagSet, Name, SubjectPublicKeyInfoRef, TbsCertificate,
@@ -52,7 +51,7 @@ impl Subscriber {
         ensures { result.0.flags.0 ≡ subscriber_uses self.now.enable_data_encipherment
             self.now.tls12_options.enable_key_encipherment
             self.now.tls12_options.enable_key_agreement
-            (⟦<SubjectPublicKeyInfoRef<'a> as Fields>⟧.fields_plain key.now) }
+            (key_lent key.now) }
     {
         let is_rsa = key.algorithm.oid == rsa_encryption();
         let is_elliptic = key.algorithm.oid == elliptic_curve_key();
@@ -81,8 +80,7 @@ impl BuilderProfile for Subscriber {
     ghost refuses = { λ _ _. ⊥ };
 
     fn get_issuer(&self, alloc: Global, _subject: &Name) -> Result<Name, Error> {
-        let issuer = self.issuer.clone(alloc)?;
-        Ok(issuer)
+        Ok(self.issuer.clone(alloc)?)
     }
 
     /// # Errors
@@ -91,8 +89,7 @@ impl BuilderProfile for Subscriber {
         let CertificateType::DomainValidated(validated) = &self.certificate_type else {
             return Err(Error::Unsupported);
         };
-        let subject = validated.subject.clone(alloc)?;
-        Ok(subject)
+        Ok(validated.subject.clone(alloc)?)
     }
 
     fn build_extensions<'a, 'b>(

@@ -1,6 +1,4 @@
 mod Entries
 mod ListParts
 mod Places
-mod Placing
 mod RequestParts
-mod Valid

@@ -1,6 +1,6 @@
 -- The part of a request, and its attributes.
-use Rattle.std.proofs.Common.{◌≡◌, ◌⊎◌, ℕ, Bool, List, [], ◌∷◌, Result, Ok, Err, refl, sym, ap, ◌∙◌, subst, inr, true, false}
-use Rattle.std.specs.Prelude.{pos}
+use Rattle.std.proofs.Common.{◌≡◌, ◌⊎◌, ℕ, Bool, List, [], ◌∷◌, Result, Ok, Err, refl, sym, ap, ◌∙◌, subst, inl, inr, true, false}
+use Rattle.std.specs.Prelude.{pos, if◌then◌else◌}
 use Rattle.std.specs.List.{AllByRecursion, insert}
 use Rattle.const_oid.specs.Bound.{Bound}
 use Rattle.der_core_head.specs.declared.error.Error.{Error as DerError}
@@ -9,13 +9,14 @@ use Rattle.der_core_head.specs.declared.error.ErrorKind.TheVariants as kinds
 use Rattle.der_core_head.specs.Grammar.{plain_list}
 use Rattle.der_core_head.specs.Reading.{Fails}
 use Rattle.der_core_head.specs.Shapes.{IsValid}
+use Rattle.der_core.specs.Placed.{IsNotPlaced, is_below, placed, put, stands_among}
 use Rattle.x509_cert_lists.specs.Grammar.{extension_req_attribute}
 use Rattle.x509_cert_builders.specs.Parts.{PlainAttribute, PlainExtension, PlainName, PublicKey, attribute}
-use Rattle.x509_cert_list_builders.specs.Requests.{HasNoAttribute, IsNotAdded, PlainInfo, placed, request_of, stands_among, with_request}
+use Rattle.x509_cert_list_builders.specs.Requests.{HasNoAttribute, IsNotAdded, PlainInfo, request_of, with_request}
 use Rattle.x509_cert_builders.specs.Refusals.{IsWantOfMemory}
 use Rattle.x509_cert_builders.specs.declared.error.Error.{Error}
 use Rattle.x509_cert_builders.specs.declared.error.Error.TheVariants as errors
-use Rattle.x509_cert_list_builders.proofs.Valid.{all_inserted, all_plain, or_memory}
+use Rattle.x509_cert_builders.proofs.Faults.{or_memory}
 
 -- an attribute that has an encoding, and such attributes
 abbrev pub IsValidAttribute : PlainAttribute → Type 0
@@ -31,9 +32,10 @@ part n k xs = (pos 0, (n, (k, (xs, tt))))
 same_parts : {n m : PlainName} {k l : PublicKey} {xs ys : List PlainAttribute} → n ≡ m → k ≡ l → xs ≡ ys → part n k xs ≡ part m l ys
 same_parts e d h = λ i. part (e i) (d i) (h i)
 
--- the attributes of the part that is to be made, with this request among them
-with_this : (r : Result PlainAttribute ErrorKind) (a : PlainAttribute) (others : List PlainAttribute) → r ≡ Ok a → with_request r others ≡ placed (attribute Bound) a others
-with_this r a others e = ap (λ (q : Result PlainAttribute ErrorKind). with_request q others) e
+-- members that are such, and their plain values
+all_plain : {A P : Type 0} (f : A → P) (V : P → Type 0) (xs : List A) → AllByRecursion V (plain_list f xs) → AllByRecursion (λ x. V (f x)) xs
+all_plain f V [] h = tt
+all_plain f V (x ∷ xs) h = (h.0, all_plain f V xs h.1)
 
 plain_all : {A P : Type 0} (f : A → P) (V : P → Type 0) (xs : List A) → AllByRecursion (λ x. V (f x)) xs → AllByRecursion V (plain_list f xs)
 plain_all f V [] h = tt
@@ -57,7 +59,7 @@ pub one_part : {A : Type 0} (f : A → PlainAttribute) (n m : PlainName) (es : L
     → part n k (plain_list f new) ≡ request_of m es attributes l
 one_part f n m es k l others new attributes i request names keys same placing asked place =
     same_parts names keys
-    (ap (plain_list f) placing ∙ place ∙ ap (placed (attribute Bound) (f request)) same ∙ sym (with_this (extension_req_attribute Bound es) (f request) attributes asked))
+    (ap (plain_list f) placing ∙ place ∙ ap (placed (attribute Bound) (f request)) same ∙ sym (ap (λ (q : Result PlainAttribute ErrorKind). with_request q attributes) asked))
 
 -- a place that is not answered is none of these
 pub answered_same : {A : Type 0} (f : A → PlainAttribute) (xs ys : List A) (x : A) → xs ≡ ys → (AllAttributes f xs → IsValidAttribute (f x) → false ≡ true) → AllAttributes f ys → IsValidAttribute (f x) → ⊥
@@ -68,28 +70,28 @@ held (Ok a) b = a
 held (Err e) b = b
 
 -- whether the attribute that an answer holds stands among these
-pub stands_there : {A : Type 0} (f : A → PlainAttribute) (xs ys : List A) (x : A) (r : Result PlainAttribute ErrorKind) (b c : Bool) → r ≡ Ok (f x) → b ≡ c → xs ≡ ys
-    → (AllAttributes f xs → IsValidAttribute (f x) → b ≡ stands_among (attribute Bound) (f x) (plain_list f xs)) → AllAttributes f ys → IsValidAttribute (f x)
-    → (a : PlainAttribute) → r ≡ Ok a → stands_among (attribute Bound) a (plain_list f ys) ≡ c
-stands_there {A} f xs ys x r b c made is same found all valid a e =
-    let one : a ≡ f x = ap (λ (q : Result PlainAttribute ErrorKind). held q a) (sym e ∙ made) in
-    let here : b ≡ stands_among (attribute Bound) (f x) (plain_list f ys) =
-    subst (λ (zs : List A). AllAttributes f zs → IsValidAttribute (f x) → b ≡ stands_among (attribute Bound) (f x) (plain_list f zs)) same found all valid in
-    ap (λ (z : PlainAttribute). stands_among (attribute Bound) z (plain_list f ys)) one ∙ sym here ∙ is
+pub stands_for : (r : Result PlainAttribute ErrorKind) (b a : PlainAttribute) (others : List PlainAttribute) (c : Bool) → r ≡ Ok b → stands_among (attribute Bound) b others ≡ c
+    → r ≡ Ok a → stands_among (attribute Bound) a others ≡ c
+stands_for r b a others c made is e =
+    ap (λ (z : PlainAttribute). stands_among (attribute Bound) z others) (ap (λ (q : Result PlainAttribute ErrorKind). held q a) (sym e ∙ made)) ∙ is
 
--- attributes among which one was put
-pub added_attributes : {A : Type 0} (f : A → PlainAttribute) (xs ys new : List A) (i : ℕ) (x : A) → xs ≡ ys → new ≡ insert ys i x
-    → (AllAttributes f xs → IsValidAttribute (f x) → plain_list f (insert xs i x) ≡ placed (attribute Bound) (f x) (plain_list f xs)) → AllAttributes f ys → IsValidAttribute (f x)
-    → plain_list f new ≡ placed (attribute Bound) (f x) (plain_list f ys)
-added_attributes f xs ys new i x same put place all valid = ap (plain_list f) put ∙ placed_same f xs ys i x same place all valid
+-- one more among values that all have an encoding
+put_valid : {P : Type 0} (V : P → Type 0) (g : P → P → Bool) (x : P) (ys : List P) → V x → AllByRecursion V ys → AllByRecursion V (put g x ys)
+put_valid V g x [] v all = (v, all)
+put_valid V g x (y ∷ ys) v all =
+    elim (g x y) as (λ b. AllByRecursion V (if b then x ∷ y ∷ ys else y ∷ put g x ys)) [ true ↦ (v, all) | false ↦ (all.0, put_valid V g x ys v all.1) ]
 
--- they have encodings, as it has
-pub added_valid : {A : Type 0} (f : A → PlainAttribute) (ys new : List A) (i : ℕ) (x : A) → new ≡ insert ys i x → AllAttributes f ys → IsValidAttribute (f x) → AllAttributes f new
-added_valid f ys new i x put all valid = subst (AllAttributes f) (sym put) (all_inserted (λ z. IsValidAttribute (f z)) ys i x valid all)
+pub added_valid : {A : Type 0} (f : A → PlainAttribute) (xs new : List A) (x : A) → AllAttributes f xs → IsValidAttribute (f x)
+    → plain_list f new ≡ placed (attribute Bound) (f x) (plain_list f xs) → AllAttributes f new
+added_valid f xs new x all valid place =
+    all_plain f IsValidAttribute new (subst (AllByRecursion IsValidAttribute) (sym place) (put_valid IsValidAttribute (is_below (attribute Bound)) (f x) (plain_list f xs) valid (plain_all f IsValidAttribute xs all)))
 
-pub not_twice : (r : Result PlainAttribute ErrorKind) (a : PlainAttribute) (others : List PlainAttribute) (e : DerError) → r ≡ Ok a → e.kind ≡ kinds.SetDuplicate
-    → stands_among (attribute Bound) a others ≡ true → IsNotAdded r others (errors.Asn1 e)
-not_twice r a others e made kind stands = subst (λ (q : Result PlainAttribute ErrorKind). IsNotAdded q others (errors.Asn1 e)) (sym made) (inr (kind, stands))
+pub not_placed : {A : Type 0} (f : A → PlainAttribute) (r : Result PlainAttribute ErrorKind) (xs : List A) (x : A) (e : DerError) → r ≡ Ok (f x) → AllAttributes f xs → IsValidAttribute (f x)
+    → IsNotPlaced (attribute Bound) f x xs e → IsWantOfMemory (errors.Asn1 e) ⊎ IsNotAdded r (plain_list f xs) (errors.Asn1 e)
+not_placed f r xs x e made all valid (inl memory) = inl memory
+not_placed f r xs x e made all valid (inr (inl twice)) =
+    inr (subst (λ (q : Result PlainAttribute ErrorKind). IsNotAdded q (plain_list f xs) (errors.Asn1 e)) (sym made) (inr (twice.0, twice.1 all valid)))
+not_placed f r xs x e made all valid (inr (inr long)) = absurd (long.1 all valid)
 
 -- why there is no attribute that asks for extensions
 pub not_asked : (r : Result PlainAttribute ErrorKind) (e : DerError) → Fails e.kind r → IsWantOfMemory (errors.Asn1 e) ⊎ HasNoAttribute r (errors.Asn1 e)

@@ -7,18 +7,15 @@ use Rattle.der_core_head.specs.declared.tag.Tag.TheVariants as tags
 use Rattle.der_core_head.specs.Integers.{natural}
 use Rattle.der_core_head.specs.Leaves.{integer}
 use Rattle.der_core_head.specs.Octets.{◌>>=◌}
-use Rattle.der_core_head.specs.Shapes.{Shape, Value, BodyValue, IsValid, tagged, leaf, optional}
-use Rattle.der_core_head.specs.Shapes.{sequence, sequence_of, explicit, octets_of}
+use Rattle.der_core_head.specs.Shapes.{Shape, BodyValue, IsValid, tagged, leaf, optional}
+use Rattle.der_core_head.specs.Shapes.{sequence, sequence_of, explicit}
 use Rattle.sha1.specs.Sha1.{sha1}
 use Rattle.x509_cert_builders.specs.Certificates.{Tbs, tbs_public_key}
 use Rattle.x509_cert_lists.specs.Grammar.{revoked_cert_fields, tbs_cert_list_fields}
-use Rattle.x509_cert_builders.specs.Parts.{PlainExtension, PublicKey, key_bits, time, only_value}
+use Rattle.x509_cert_builders.specs.Parts.{PlainExtension, PublicKey, key_bits, only_value}
 use Rattle.x509_cert_builders.specs.Parts.{extensions, listed}
 use Rattle.x509_cert_builders.specs.GeneralNames.{authority_key_identifier_fields}
-
--- a date and its spelling
-abbrev pub PlainTime : Type 0
-PlainTime = Value time
+use Rattle.x509_cert_builders.specs.Profiles.{standard_extension}
 
 -- a certificate that was revoked (5.1.2.6)
 abbrev pub PlainEntry : Type 0
@@ -66,20 +63,16 @@ issuing_key t =
     only_value authority_key authority_key_arcs (listed t.1.1.1.1.1.1.1.1.1.0)
     >>= λ (found : Option (Bool × PlainAuthority)). Ok (given_or_made (tbs_public_key t) found)
 
--- an extension that isn't critical, whose content is the encoding of a value
-abbrev pub extension_with : List ℕ → (s : Shape) → Value s → PlainExtension
-extension_with arcs s v = (arcs, (false, (octets_of s v, tt)))
-
 -- CRLNumber ::= INTEGER (0..MAX) (5.2.3)
 abbrev pub crl_number : Shape
 crl_number = tagged tags.Integer (leaf (integer natural))
 
 abbrev pub number_extension : ℕ → PlainExtension
-number_extension n = extension_with (2 ∷ 5 ∷ 29 ∷ 20 ∷ []) crl_number (pos n)
+number_extension n = standard_extension 20 false crl_number (pos n)
 
 -- the key under which the list is signed (5.2.1)
 abbrev pub key_extension : PlainAuthority → PlainExtension
-key_extension a = extension_with authority_key_arcs authority_key a
+key_extension a = standard_extension 35 false authority_key a
 
 -- one of the two has no encoding, as where a length passes 2^32 - 1
 abbrev pub HasNoExtensions : ℕ → Result PlainAuthority ErrorKind → Type 0

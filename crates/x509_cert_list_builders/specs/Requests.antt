@@ -1,14 +1,10 @@
 -- What a builder of certification requests signs (RFC 2986 4.1).
-use Rattle.std.specs.Prelude.{◌≡◌, ◌⊎◌, List, [], ◌∷◌, pos, Bool, true, false, Result, Ok, Err}
-use Rattle.std.specs.Prelude.{if◌then◌else◌}
-use Rattle.std.specs.List.{list_any}
-use Rattle.std.specs.declared.cmp.Ordering.{Ordering}
-use Rattle.std.specs.declared.cmp.Ordering.TheVariants.{Less, Equal, Greater}
+use Rattle.std.specs.Prelude.{◌≡◌, ◌⊎◌, List, pos, true, Result, Ok, Err}
 use Rattle.const_oid.specs.Bound.{Bound}
-use Rattle.der_core.specs.Orders.{encodings_cmp}
+use Rattle.der_core.specs.Placed.{placed, stands_among}
 use Rattle.der_core_head.specs.declared.error.ErrorKind.{ErrorKind}
 use Rattle.der_core_head.specs.declared.error.ErrorKind.TheVariants as kinds
-use Rattle.der_core_head.specs.Shapes.{Shape, Value, BodyValue, sequence}
+use Rattle.der_core_head.specs.Shapes.{Shape, BodyValue, sequence}
 use Rattle.x509_cert_lists.specs.Grammar.{cert_req_info_fields, extension_req_attribute}
 use Rattle.x509_cert_builders.specs.Refusals.{IsOfKind, IsUnwritten}
 use Rattle.x509_cert_builders.specs.declared.error.Error.{Error}
@@ -22,37 +18,6 @@ PlainInfo = BodyValue (cert_req_info_fields 0)
 -- CertificationRequestInfo
 abbrev pub request_part : Shape
 request_part = sequence (cert_req_info_fields Bound)
-
--- whether an order is this one
-abbrev pub is_less : Ordering → Bool
-is_less Less = true
-is_less Equal = false
-is_less Greater = false
-
-abbrev pub is_equal : Ordering → Bool
-is_equal Less = false
-is_equal Equal = true
-is_equal Greater = false
-
--- whether the encoding of a value is below that of another one, or the same
-abbrev pub is_below : (s : Shape) → Value s → Value s → Bool
-is_below s v w = is_less (encodings_cmp s v w)
-
-abbrev pub is_same : (s : Shape) → Value s → Value s → Bool
-is_same s v w = is_equal (encodings_cmp s v w)
-
--- one more in a list, in front of the first before which it goes
-abbrev pub put : {P : Type 0} → (P → P → Bool) → P → List P → List P
-put goes_before x [] = x ∷ []
-put goes_before x (y ∷ left) = if goes_before x y then x ∷ y ∷ left else y ∷ put goes_before x left
-
--- a value among others, in front of the first whose encoding is above its own (X.690 11.6)
-abbrev pub placed : (s : Shape) → Value s → List (Value s) → List (Value s)
-placed s v others = put (is_below s) v others
-
--- whether one of the others has its encoding
-abbrev pub stands_among : (s : Shape) → Value s → List (Value s) → Bool
-stands_among s v others = list_any (λ w. is_same s v w) others
 
 -- why an attribute isn't added: there is none, it has no encoding, as where it has 2^32 octets or
 -- more, or it stands among these

@@ -3,10 +3,10 @@ use Rattle.std.specs.Prelude.{List, pos, Option, Some, None}
 use Rattle.der_core_head.specs.Grammar.{plain_list, plain_option}
 use Rattle.x509_cert_builders.specs.Parts.{Algorithm, PlainAttribute, PlainExtension, PlainName}
 use Rattle.x509_cert_builders.specs.Parts.{attribute_plain, extensions_plain, name_plain}
-use Rattle.x509_cert_builders.specs.Parts.{time_value}
+use Rattle.x509_cert_builders.specs.Parts.{PlainTime, time_value}
 use Rattle.x509_cert_lists.specs.Views.{cert_req_info_plain, revoked_cert_plain}
 use Rattle.x509_cert_lists.specs.Views.{tbs_cert_list_plain}
-use Rattle.x509_cert_list_builders.specs.Lists.{PlainEntry, PlainList, PlainTime}
+use Rattle.x509_cert_list_builders.specs.Lists.{PlainEntry, PlainList}
 use Rattle.x509_cert_list_builders.specs.Requests.{PlainInfo}
 use Rattle.x509_cert_list_builders.specs.declared.crl_builder.CrlBuilder.TheInside as lists
 use Rattle.x509_cert_list_builders.specs.declared.request_builder.RequestBuilder.TheInside
@@ -55,6 +55,6 @@ abbrev pub request_state : requests.Inside → RequestState
 request_state b = record {
   subject = name_plain b.subject;
   extensions = extensions_plain b.extensions.0.items;
-  attributes = plain_list attribute_plain b.attributes.items;
+  attributes = plain_list attribute_plain b.attributes.values.items;
   finalized = plain_option cert_req_info_plain b.finalized;
 }

@@ -22,15 +22,16 @@ ghost use Rattle.x509_cert_list_builders.specs.Lists.{list_part, number_extensio
 ghost use Rattle.x509_cert_list_builders.specs.Signed.{octets_in_place};
 ghost use Rattle.x509_cert_list_builders.specs.States.{algorithm_of_last, list_of};
 
-use crate::copies::{copies_of_entries, copies_of_extensions};
 use crate::laws::signed_part_stands_in_place;
 use crate::writing::list_written;
 use der_core::ErrorKind;
+use der_core::making::{copies_of, copies_of_option};
 use std::alloc::Global;
 use std::marker::Model;
 use x509_cert_builders::types::certificates::{
-    AlgorithmIdentifier, AlgorithmIdentifierRef, BitString, Certificate, Extensions, Name, Profile,
-    Rfc5280, SubjectPublicKeyInfo, SubjectPublicKeyInfoRef, TbsCertificate, Time, Version,
+    AlgorithmIdentifier, AlgorithmIdentifierRef, BitString, Certificate, Extension, Extensions,
+    Name, Profile, Rfc5280, SubjectPublicKeyInfo, SubjectPublicKeyInfoRef, TbsCertificate, Time,
+    Version,
 };
 use x509_cert_builders::types::general_names::AuthorityKeyIdentifier;
 use x509_cert_builders::types::{CrlNumber, ToExtension, TryFromKey};
@@ -204,22 +205,6 @@ impl<P: Profile> CrlBuilder<P> {
         Ok(())
     }
 
-    /// The certificates of the list, copied.
-    fn certificates(&self, alloc: Global) -> Result<Option<Vec<RevokedCert<P>>>, Error>
-        ensures copied { IfOk result
-            (λ v. plain_option (λ rs. plain_list revoked_cert_plain rs.items) v
-            ≡ self.now.revoked) }
-        ensures refused { IfErr result IsWantOfMemory }
-    {
-        match &self.revoked_certificates {
-            Some(certificates) => {
-                let copies = copies_of_entries(alloc, certificates.as_slice())?;
-                Ok(Some(copies))
-            }
-            None => Ok(None),
-        }
-    }
-
     /// The part that a signer of this algorithm signs.
     fn part_for(
         &self,
@@ -232,8 +217,12 @@ impl<P: Profile> CrlBuilder<P> {
     {
         let signature = algorithm.clone(alloc)?;
         let issuer = self.issuer.clone(alloc)?;
-        let revoked_certificates = self.certificates(alloc)?;
-        let crl_extensions = copies_of_extensions(alloc, self.crl_extensions.as_slice())?;
+        let revoked_certificates = copies_of_option(
+            alloc,
+            &self.revoked_certificates,
+            RevokedCert::clone,
+        )?;
+        let crl_extensions = copies_of(alloc, self.crl_extensions.as_slice(), Extension::clone)?;
         Ok(TbsCertList {
             version: Version::V2,
             signature,

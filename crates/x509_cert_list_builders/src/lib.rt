@@ -1,11 +1,9 @@
 //! Builders of revocation lists (RFC 5280 5.1) and of certification requests (RFC 2986).
 #![tactic(auto)]
 
-mod copies;
 mod crl_builder;
 mod in_range;
 pub mod laws;
-mod members;
 mod request_builder;
 mod writing;
 

@@ -3,6 +3,7 @@
 ghost use Rattle.std.specs.Prelude.{◌≡◌, ◌⊎◌, ◌++◌, ◌∷◌, [], false, Ok, Some, None, IfOk, IfErr};
 ghost use Rattle.std.specs.Prelude.{OnOk, OnErr, IsOk};
 ghost use Rattle.const_oid.specs.Bound.{Bound};
+ghost use Rattle.der_core.specs.Placed.{placed, stands_among};
 ghost use Rattle.der_core_head.specs.Grammar.{plain_option};
 ghost use Rattle.der_core_head.specs.Shapes.{IsValid};
 ghost use Rattle.x509_cert_lists.specs.Attributes.{any_of, attribute_of};
@@ -12,20 +13,19 @@ ghost use Rattle.x509_cert_builders.specs.Parts.{attribute_plain, extensions_pla
 ghost use Rattle.x509_cert_builders.specs.Parts.{name_plain};
 ghost use Rattle.x509_cert_lists.specs.Views.{cert_req_info_plain, cert_req_plain};
 ghost use Rattle.x509_cert_builders.specs.Refusals.{IsUnwritten, IsWantOfMemory, IsWantOfMemoryAs};
-ghost use Rattle.x509_cert_list_builders.specs.Requests.{HasNoAttribute, IsNotAdded, placed};
-ghost use Rattle.x509_cert_list_builders.specs.Requests.{request_of, request_part, stands_among};
+ghost use Rattle.x509_cert_list_builders.specs.Requests.{HasNoAttribute, IsNotAdded, request_of};
+ghost use Rattle.x509_cert_list_builders.specs.Requests.{request_part};
 ghost use Rattle.x509_cert_list_builders.specs.Signed.{octets_in_place};
 
-use crate::copies::{copies_of_attributes, copies_of_extensions};
 use crate::laws::signed_part_stands_in_place;
-use crate::members::{place_of, stands_among};
 use crate::writing::written;
+use der_core::making::{copies_of, place_of};
 use der_core::{ErrorKind, InRange, StrictSetOf, to_der};
 use std::alloc::Global;
 use std::marker::Model;
 use x509_cert_builders::types::ToExtension;
 use x509_cert_builders::types::certificates::{
-    Attribute, BitString, Extensions, Name, SubjectPublicKeyInfo,
+    Attribute, BitString, Extension, Extensions, Name, SubjectPublicKeyInfo,
 };
 use x509_cert_builders::{Builder, Error, Signer};
 use x509_cert_lists::request::Version;
@@ -40,14 +40,13 @@ use x509_cert_lists::{AsAttribute, CertReq, CertReqInfo, ExtensionReq, TryFromEx
 pub struct RequestBuilder {
     subject: Name,
     extensions: ExtensionReq,
-    attributes: Vec<Attribute>,
+    attributes: StrictSetOf<Attribute>,
     finalized: Option<CertReqInfo>,
 }
 
 impl Model for RequestBuilder {
-    ghost use Rattle.std.specs.List.{AllByRecursion};
     ghost use Rattle.const_oid.specs.Bound.{Bound};
-    ghost use Rattle.der_core_head.specs.Shapes.{IsValid};
+    ghost use Rattle.der_core.specs.Placed.{AllValid};
     ghost use Rattle.x509_cert_builders.specs.Parts.{attribute, attribute_plain};
     ghost use Rattle.x509_cert_list_builders.specs.States.{RequestState, request_state};
 
@@ -55,8 +54,7 @@ impl Model for RequestBuilder {
 
     ghost view = { request_state };
 
-    ghost invariant = { λ b. AllByRecursion (λ a. IsValid (attribute Bound) (attribute_plain a))
-        b.attributes.items };
+    ghost invariant = { λ b. AllValid (attribute Bound) attribute_plain b.attributes.values.items };
 }
 
 /// The attribute that asks for these extensions (RFC 2985 5.4.2), which has an encoding.
@@ -87,7 +85,9 @@ impl RequestBuilder {
         Ok(RequestBuilder {
             subject,
             extensions: ExtensionReq::default(alloc),
-            attributes: Vec::new(alloc),
+            attributes: StrictSetOf {
+                values: Vec::new(alloc),
+            },
             finalized: None,
         })
     }
@@ -140,11 +140,7 @@ impl RequestBuilder {
         let made = value.to_attribute(alloc)?;
         made.in_range();
         let _octets = to_der(alloc, &made)?;
-        if stands_among(self.attributes.as_slice(), &made)? {
-            return Err(Error::Asn1(der_core::Error::from(ErrorKind::SetDuplicate)));
-        }
-        let place = place_of(self.attributes.as_slice(), &made)?;
-        self.attributes.insert(place, made)?;
+        self.attributes.insert(made)?;
         Ok(())
     }
 
@@ -156,9 +152,9 @@ impl RequestBuilder {
         ensures refused { IfErr result (λ e. IsWantOfMemory e
             ⊎ HasNoAttribute (extension_req_attribute Bound self.now.extensions) e) }
     {
-        let extensions = copies_of_extensions(alloc, self.extensions.0.as_slice())?;
+        let extensions = copies_of(alloc, self.extensions.0.as_slice(), Extension::clone)?;
         let request = attribute_for(alloc, extensions)?;
-        let mut values = copies_of_attributes(alloc, self.attributes.as_slice())?;
+        let mut values = copies_of(alloc, self.attributes.as_slice(), Attribute::clone)?;
         let place = place_of(values.as_slice(), &request)?;
         values.insert(place, request)?;
         let subject = self.subject.clone(alloc)?;

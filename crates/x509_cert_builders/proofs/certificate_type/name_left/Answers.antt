@@ -1,4 +1,4 @@
-use Rattle.std.proofs.Common.{◌≡◌, ◌∷◌, sym, ap, ◌∙◌, subst, rules}
+use Rattle.std.proofs.Common.{sym, ap, ◌∙◌, subst, rules}
 use Rattle.der_core_head.specs.Grammar.{plain_list}
 use Rattle.x509_cert_extensions.specs.Parts.{PlainName, name_plain, relative_plain}
 use Rattle.x509_cert_builders.proofs.Lists.{plain_pushed}
@@ -8,33 +8,20 @@ use Rattle.x509_cert_builders.proofs.certificate_type.name_left.Goals as goal
 pub loop-relative-preserved-in-Continue-branch-2 : goal.loop-relative-preserved-in-Continue-branch-2
 loop-relative-preserved-in-Continue-branch-2 c =
     let n = name_plain c.args.name.now in
-    let kept = plain_list relative_plain c.loop-relative.kept.relative_names.items in
     let more = plain_list relative_plain c.next.new.self.left.now in
-    let r = relative_plain c.in-Some.relative.now in
-    let s = relative_plain c.in_ok-left.left in
-    let next : plain_list relative_plain c.loop-relative.relative-iterator.left.now ≡ r ∷ more = ap (plain_list relative_plain) c.in-Some.ensures.steps in
-    let here : IsLeft n kept (r ∷ more) = subst (IsLeft n kept) next c.loop-relative.invariant in
     let grown = ap (plain_list relative_plain) c.in_ok-push.ensures.ok ∙ plain_pushed relative_plain c.loop-relative.kept.relative_names.items c.in_ok-left.left in
-    subst (λ (k : PlainName). IsLeft n k more) (sym grown) (left_in n kept more r s here c.in_ok-left.ensures.left c.in_ok-left.ensures.same (some_values _ _ (sym c.is_empty.ensures ∙ c.if-not-is_empty.true)))
+    subst (λ (k : PlainName). IsLeft n k more) (sym grown)
+    (left_in n _ _ more (relative_plain c.in-Some.relative.now) (ap (plain_list relative_plain) c.in-Some.ensures.steps) c.loop-relative.invariant (relative_plain c.in_ok-left.left) c.in_ok-left.ensures.left
+    c.in_ok-left.ensures.same (some_values _ _ (sym c.is_empty.ensures ∙ c.if-not-is_empty.true)))
 
 pub loop-relative-preserved : goal.loop-relative-preserved
 loop-relative-preserved c =
-    let n = name_plain c.args.name.now in
-    let kept = plain_list relative_plain c.loop-relative.kept.relative_names.items in
-    let more = plain_list relative_plain c.next.new.self.left.now in
-    let r = relative_plain c.in-Some.relative.now in
-    let s = relative_plain c.in_ok-left.left in
-    let next : plain_list relative_plain c.loop-relative.relative-iterator.left.now ≡ r ∷ more = ap (plain_list relative_plain) c.in-Some.ensures.steps in
-    let here : IsLeft n kept (r ∷ more) = subst (IsLeft n kept) next c.loop-relative.invariant in
-    left_out n kept more r s here c.in_ok-left.ensures.left c.in_ok-left.ensures.same (no_values _ _ (sym c.is_empty.ensures ∙ c.if-not-is_empty.false))
+    left_out (name_plain c.args.name.now) _ _ (plain_list relative_plain c.next.new.self.left.now) (relative_plain c.in-Some.relative.now) (ap (plain_list relative_plain) c.in-Some.ensures.steps) c.loop-relative.invariant
+    (relative_plain c.in_ok-left.left) c.in_ok-left.ensures.left c.in_ok-left.ensures.same (no_values _ _ (sym c.is_empty.ensures ∙ c.if-not-is_empty.false))
 
 pub returns-in_err-left-clause-refused : goal.returns-in_err-left-clause-refused
 returns-in_err-left-clause-refused c = λ all.
-    let n = name_plain c.args.name.now in
-    let kept = plain_list relative_plain c.loop-relative.kept.relative_names.items in
-    let more = plain_list relative_plain c.next.new.self.left.now in
-    let r = relative_plain c.in-Some.relative.now in
-    let next : plain_list relative_plain c.loop-relative.relative-iterator.left.now ≡ r ∷ more = ap (plain_list relative_plain) c.in-Some.ensures.steps in
-    let here : IsLeft n kept (r ∷ more) = subst (IsLeft n kept) next c.loop-relative.invariant in
-    let why = c.in_err-left.ensures.refused (next_stays n kept more r here all) in
+    let why =
+    c.in_err-left.ensures.refused
+    (next_stays (name_plain c.args.name.now) _ _ (plain_list relative_plain c.next.new.self.left.now) (relative_plain c.in-Some.relative.now) (ap (plain_list relative_plain) c.in-Some.ensures.steps) c.loop-relative.invariant all) in
     search (rules, why)

@@ -1,7 +1,9 @@
+use Rattle.const_oid.specs.Bound.{Bound}
 use Rattle.x509_cert_extensions.specs.CertificateViews.{tbs_plain}
 use Rattle.x509_cert_extensions.specs.Parts.{algorithm_plain}
 use Rattle.x509_cert_builders.specs.SignedParts.{fields_of}
-use Rattle.x509_cert_builders.proofs.SignedOctets.{in_place, put_back}
+use Rattle.x509_cert_builders.specs.States.{as_written}
+use Rattle.x509_cert_builders.proofs.SignedOctets.{put_back}
 use Rattle.x509_cert_builders.proofs.certificate_builder.CertificateBuilderBuilder.assemble.Goals as goal
 
 pub returns-clause-part : goal.returns-clause-part
@@ -11,4 +13,4 @@ returns-clause-part g c =
 
 pub returns-clause-octets : goal.returns-clause-octets
 returns-clause-octets g c =
-    in_place c.signed_part_stands_in_place.ensures (tbs_plain c.put_back.new.part, (algorithm_plain c.in_ok-signature_algorithm.signature_algorithm, (c.args.signature, tt)))
+    c.signed_part_stands_in_place.ensures Bound (as_written (tbs_plain c.put_back.new.part, (algorithm_plain c.in_ok-signature_algorithm.signature_algorithm, (c.args.signature, tt))))

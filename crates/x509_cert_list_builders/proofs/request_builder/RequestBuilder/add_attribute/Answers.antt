@@ -1,25 +1,20 @@
-use Rattle.std.proofs.Common.{List, ap, inr}
+use Rattle.std.proofs.Common.{List, ap}
 use Rattle.std.proofs.lemmas.Result.{err_from_is_err_and}
 use Rattle.x509_cert_builders.specs.Parts.{PlainAttribute, attribute_plain}
 use Rattle.x509_cert_list_builders.specs.States.{RequestState, request_state}
-use Rattle.x509_cert_list_builders.proofs.RequestParts.{added_attributes, added_valid, answered_same, not_twice, stands_there}
+use Rattle.x509_cert_list_builders.proofs.RequestParts.{added_valid, not_placed, stands_for}
 use Rattle.x509_cert_list_builders.proofs.request_builder.RequestBuilder.add_attribute.Goals as goal
 
-pub returns-then-branch-clause-refused : goal.returns-then-branch-clause-refused
-returns-then-branch-clause-refused g c =
-    rw (← c.self.view_is)
-    (inr (not_twice _ (attribute_plain c.in_ok-made.made) _ c.from.result c.in_ok-made.ensures c.from.ensures
-    (stands_there attribute_plain _ _ c.in_ok-made.made _ _ _ c.in_ok-made.ensures c.if-branch.true c.as_slice.ensures.value c.in_ok-stands_among.ensures.found c.self.invariant
-    (c.in_ok-_octets.ensures.valid c.in_range.ensures) (attribute_plain c.in_ok-made.made) c.in_ok-made.ensures)))
-
-pub returns-in_err-place-clause-refused : goal.returns-in_err-place-clause-refused
-returns-in_err-place-clause-refused g c =
-    let p = err_from_is_err_and c.from_residual-in_err-place.result c.from_residual-in_err-place.ensures.1 in
-    rw (p.1, p.2)
-    (absurd (answered_same attribute_plain _ _ c.in_ok-made.made c.as_slice-2.ensures.value c.in_err-place.ensures.answered c.self.invariant (c.in_ok-_octets.ensures.valid c.in_range.ensures)))
+pub returns-in_err-insert-clause-refused : goal.returns-in_err-insert-clause-refused
+returns-in_err-insert-clause-refused g c =
+    let p = err_from_is_err_and c.from_residual-in_err-insert.result c.from_residual-in_err-insert.ensures.1 in
+    rw (p.1, p.2, ← c.self.view_is)
+    (not_placed attribute_plain _ _ c.in_ok-made.made c.in_err-insert.field-0.0 c.in_ok-made.ensures c.self.invariant (c.in_ok-_octets.ensures.valid c.in_range.ensures) c.in_err-insert.ensures.refused)
 
 pub invariant_of-self-2 : goal.invariant_of-self-2
-invariant_of-self-2 g c = added_valid attribute_plain _ _ c.in_ok-place.place c.in_ok-made.made c.in_ok-insert.ensures.items c.self.invariant (c.in_ok-_octets.ensures.valid c.in_range.ensures)
+invariant_of-self-2 g c =
+    let valid = c.in_ok-_octets.ensures.valid c.in_range.ensures in
+    added_valid attribute_plain _ _ c.in_ok-made.made c.self.invariant valid (c.in_ok-insert.ensures.placed c.self.invariant valid)
 
 pub returns-clause-added : goal.returns-clause-added
 returns-clause-added g c =
@@ -27,13 +22,9 @@ returns-clause-added g c =
     rw (← c.self.view_is) (
       attribute_plain c.in_ok-made.made,
       c.in_ok-made.ensures,
-      ap (λ (xs : List PlainAttribute). record view { attributes = xs })
-          (added_attributes attribute_plain _ _ _ c.in_ok-place.place c.in_ok-made.made c.as_slice-2.ensures.value c.in_ok-insert.ensures.items c.in_ok-place.ensures.place c.self.invariant
-          (c.in_ok-_octets.ensures.valid c.in_range.ensures)),
+      ap (λ (xs : List PlainAttribute). record view { attributes = xs }) (c.in_ok-insert.ensures.placed c.self.invariant (c.in_ok-_octets.ensures.valid c.in_range.ensures)),
     )
 
 pub returns-clause-once : goal.returns-clause-once
 returns-clause-once g c a made =
-    rw (← c.self.view_is)
-    (stands_there attribute_plain _ _ c.in_ok-made.made _ _ _ c.in_ok-made.ensures c.if-branch.false c.as_slice.ensures.value c.in_ok-stands_among.ensures.found c.self.invariant
-    (c.in_ok-_octets.ensures.valid c.in_range.ensures) a made)
+    rw (← c.self.view_is) (stands_for _ _ a _ _ c.in_ok-made.ensures (c.in_ok-insert.ensures.once c.self.invariant (c.in_ok-_octets.ensures.valid c.in_range.ensures)) made)
