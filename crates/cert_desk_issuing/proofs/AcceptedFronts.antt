@@ -1,10 +1,11 @@
 -- Orders are accepted in turn, up to the first that is refused.
 use Rattle.std.proofs.Common.{◌≡◌, ℕ, ℤ, zero, suc, ◌+◌, ◌-◌, ◌<◌, ◌≤◌, List, [], ◌∷◌, ◌++◌, length, map, Bool, true, false, Option, Some, Ok, Err, Result, refl, sym, ap, ◌∙◌, subst, arith, inl, inr, slice_get, length-append}
+use Rattle.std.proofs.Math.Dec.{eqb-suc-zero}
 use Rattle.std.proofs.lemmas.Bool.{cases_lt, le-ltb, lt-ltb, ltb-false, and_parts}
 use Rattle.std.proofs.lemmas.List.{length-map}
 use Rattle.std.proofs.lemmas.Option.{same_Some, slice_get-map}
 use Rattle.std.specs.List.{AllByRecursion, list_all}
-use Rattle.std.specs.Prelude.{◌≢◌, pos, nat_lt, option_map, IfOk, IfErr, string_bytes, if◌then◌else◌, ◌&&◌}
+use Rattle.std.specs.Prelude.{◌≢◌, pos, nat_lt, option_map, IfOk, IfErr, string_bytes, if◌then◌else◌, ◌&&◌, not}
 use Rattle.const_oid.specs.Bound.{Bound}
 use Rattle.der_core_head.specs.BitStrings.{Bits}
 use Rattle.der_core_head.specs.Grammar.{plain_list}
@@ -36,7 +37,7 @@ use Rattle.cert_desk_issuing.specs.declared.role.Role.TheVariants as roles
 -- so all of the name of a subscriber stays
 stays_if : (r : List AttributeTypeAndValue) → HasSome r → list_all may_stay (relative_plain r) ≡ true → stays (relative_plain r) ≡ true
 stays_if [] some e = absurd (omega (arith, some))
-stays_if (a ∷ r) some e = e
+stays_if (a ∷ r) some e = ap (λ b. not b && list_all may_stay (relative_plain (a ∷ r))) (eqb-suc-zero (length (relative_plain r))) ∙ e
 
 all_stay : (n : List (List AttributeTypeAndValue)) → AllByRecursion HasSome n → names_subscriber (plain_list relative_plain n) ≡ true → all_stays (plain_list relative_plain n) ≡ true
 all_stay [] h e = refl
