@@ -2,8 +2,9 @@
 
 use crate::chain_place::ChainPlace;
 use crate::lines::Lines;
-use crate::reasons::add_breach;
+use crate::reasons::{TooLong, add_breach};
 use crate::remarks::add_remarks;
+use crate::serial_numbers::SerialNumbers;
 use crate::stream_refusal::{LEAF_FIRST, is_leaf_first};
 use cert_desk_checking::{Anchor, Bundle, Rule, SignatureJudge, SubjectPublicKeyInfo};
 use const_oid::ObjectIdentifier;
@@ -129,12 +130,16 @@ fn add_algorithm_breach(lines: &mut Lines<'_>, place: &ChainPlace<'_>) {
 fn add_issuing_breaches(
     lines: &mut Lines<'_>,
     place: &ChainPlace<'_>,
+    too_long: Option<TooLong>,
     purpose: &ObjectIdentifier<39>,
 ) {
-    if !place.is_last() {
-        add_breach(lines, place, Rule::NotAuthority, purpose);
+    if place.is_last() {
+        return;
+    }
+    add_breach(lines, place, Rule::NotAuthority, purpose);
+    if let Some(too_long) = too_long {
         if !place.is_self_issued() {
-            add_breach(lines, place, Rule::PathTooLong, purpose);
+            too_long.add(lines, place, purpose);
         }
     }
 }
@@ -143,6 +148,7 @@ fn add_issuing_breaches(
 fn add_breaches<J: SignatureJudge>(
     lines: &mut Lines<'_>,
     place: &ChainPlace<'_>,
+    too_long: Option<TooLong>,
     question: &Question<'_>,
     judge: &mut J,
 ) {
@@ -154,7 +160,7 @@ fn add_breaches<J: SignatureJudge>(
     add_issuer_breach(lines, place, question.anchors);
     add_date_breaches(lines, place, question.moment);
     add_breach(lines, place, Rule::AgainstPurpose, purpose);
-    add_issuing_breaches(lines, place, purpose);
+    add_issuing_breaches(lines, place, too_long, purpose);
     add_signature_breach(lines, place, question.anchors, judge);
 }
 
@@ -162,17 +168,19 @@ fn add_breaches<J: SignatureJudge>(
 fn add_place<J: SignatureJudge>(
     lines: &mut Lines<'_>,
     place: &ChainPlace<'_>,
+    twin: Option<usize>,
+    too_long: Option<TooLong>,
     question: &Question<'_>,
     judge: &mut J,
 ) {
     lines.count("certificate ", place.number as u64, ", ");
     lines.name("", place.certificate.tbs_certificate().subject(), "\n");
     let start = lines.len();
-    add_breaches(lines, place, question, judge);
+    add_breaches(lines, place, too_long, question, judge);
     if lines.len() == start {
         lines.push("  every rule is kept\n");
     }
-    add_remarks(lines, place);
+    add_remarks(lines, place, twin);
 }
 
 // Adds what each certificate of a chain breaks, as `run_explain_chain` says it.
@@ -185,9 +193,15 @@ pub(crate) fn add_chain<J: SignatureJudge>(
     if is_leaf_first(bundle) {
         lines.push(LEAF_FIRST);
     }
+    let Ok(too_long) = TooLong::find(lines.alloc, bundle, &question.purpose) else {
+        lines.fail();
+        return;
+    };
+    let mut serial_numbers = SerialNumbers::new(lines.alloc);
     for number in 0..bundle.len() {
         if let Some(place) = ChainPlace::at(bundle, number) {
-            add_place(lines, &place, question, judge);
+            let twin = serial_numbers.take(lines, &place);
+            add_place(lines, &place, twin, too_long, question, judge);
         }
     }
 }

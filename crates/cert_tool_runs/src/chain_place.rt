@@ -41,18 +41,13 @@ impl<'a> ChainPlace<'a> {
         }
     }
 
-    // The place so many before, if there is one.
-    pub(crate) fn earlier(&self, distance: usize) -> Option<ChainPlace<'a>> {
-        if self.number < distance {
-            return None;
-        }
-        ChainPlace::at(self.bundle, self.number - distance)
-    }
-
     // The signed part of the certificate before, if there is one.
     pub(crate) fn before(&self) -> Option<&'a TbsCertificateInner<Raw>> {
-        match self.earlier(1) {
-            Some(earlier) => Some(earlier.certificate.tbs_certificate()),
+        if self.number == 0 {
+            return None;
+        }
+        match ChainPlace::at(self.bundle, self.number - 1) {
+            Some(before) => Some(before.certificate.tbs_certificate()),
             None => None,
         }
     }

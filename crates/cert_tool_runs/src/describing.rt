@@ -4,11 +4,10 @@ use crate::description::add_certificate;
 use crate::identifiers::{entries_of, known_identifiers};
 use crate::kind::Kind;
 use crate::lines::Lines;
-use crate::lists::{add_list, list_of};
+use crate::lists::add_list;
 use crate::reading::{read_file, tell};
 use crate::refusal::explain_octets;
 use crate::requests::add_request;
-use cert_desk_checking::types::{CertReq, CertificateInner, Raw};
 use cert_desk_io::{ExitStatus, Input, Output, answer, complain, tell_memory};
 use const_oid::Database;
 use der_core::ErrorKind;
@@ -18,20 +17,10 @@ use std::alloc::{AllocError, Global};
 // don't.
 fn add_described(lines: &mut Lines<'_>, kind: Kind, octets: &[u8]) -> Option<ErrorKind> {
     match kind {
-        Kind::Certificate => match CertificateInner::<Raw>::from_der(lines.alloc, octets) {
-            Ok(certificate) => add_certificate(lines, &certificate, octets),
-            Err(error) => return Some(error.kind),
-        },
-        Kind::List => match list_of::<Raw>(lines.alloc, octets) {
-            Ok(list) => add_list(lines, &list, octets),
-            Err(error) => return Some(error.kind),
-        },
-        Kind::Request => match CertReq::try_from_bytes(lines.alloc, octets) {
-            Ok(request) => add_request(lines, &request, octets),
-            Err(error) => return Some(error.kind),
-        },
+        Kind::Certificate => add_certificate(lines, octets),
+        Kind::List => add_list(lines, octets),
+        Kind::Request => add_request(lines, octets),
     }
-    None
 }
 
 // The description of what these octets spell, with the names of what is well known, if they spell a

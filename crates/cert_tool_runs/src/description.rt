@@ -4,6 +4,7 @@ use crate::contents::add_extensions;
 use crate::keys::{add_digests, add_key, add_key_digests};
 use crate::lines::Lines;
 use cert_desk_checking::types::{BitString, CertificateInner, Raw, TbsCertificateInner, Version};
+use der_core::ErrorKind;
 
 // The line of a version.
 fn version_line(version: Version) -> &'static str {
@@ -43,16 +44,18 @@ fn add_signed(lines: &mut Lines<'_>, signed: &TbsCertificateInner<Raw>) {
     }
 }
 
-// Adds what a certificate says, and digests of its octets and of its key.
-pub(crate) fn add_certificate(
-    lines: &mut Lines<'_>,
-    certificate: &CertificateInner<Raw>,
-    octets: &[u8],
-) {
+// Adds what a certificate says, and digests of its octets and of its key; answers why the octets
+// are none, if they aren't.
+pub(crate) fn add_certificate(lines: &mut Lines<'_>, octets: &[u8]) -> Option<ErrorKind> {
+    let certificate = match CertificateInner::<Raw>::from_der(lines.alloc, octets) {
+        Ok(certificate) => certificate,
+        Err(error) => return Some(error.kind),
+    };
     let signed = certificate.tbs_certificate();
     lines.push("certificate\n");
     add_signed(lines, signed);
     lines.identifier("signature ", &certificate.signature_algorithm().oid, "\n");
     add_digests(lines, "certificate", octets);
     add_key_digests(lines, signed.subject_public_key_info());
+    None
 }

@@ -34,6 +34,7 @@ mod reasons;
 mod refusal;
 mod remarks;
 mod requests;
+mod serial_numbers;
 mod splitting;
 mod stopping;
 mod stream_fault;

@@ -7,7 +7,7 @@ use crate::lines::Lines;
 use cert_desk_checking::types::{
     CertificateList, CrlNumber, CrlReason, Profile, Raw, RevokedCert, TbsCertList,
 };
-use der_core::{Error, from_der};
+use der_core::{Error, ErrorKind, from_der};
 use std::alloc::Global;
 
 impl Describe for CrlNumber {
@@ -72,10 +72,16 @@ pub(crate) fn list_of<P: Profile>(
     from_der(alloc, octets)
 }
 
-// Adds what a list says, and digests of its octets.
-pub(crate) fn add_list(lines: &mut Lines<'_>, list: &CertificateList<Raw>, octets: &[u8]) {
+// Adds what a list says, and digests of its octets; answers why the octets are none, if they
+// aren't.
+pub(crate) fn add_list(lines: &mut Lines<'_>, octets: &[u8]) -> Option<ErrorKind> {
+    let list = match list_of::<Raw>(lines.alloc, octets) {
+        Ok(list) => list,
+        Err(error) => return Some(error.kind),
+    };
     lines.push("list\n");
     add_signed(lines, &list.tbs_cert_list);
     lines.identifier("signature ", &list.signature_algorithm.oid, "\n");
     add_digests(lines, "list", octets);
+    None
 }

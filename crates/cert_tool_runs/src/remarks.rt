@@ -35,21 +35,14 @@ fn add_serial_remark(lines: &mut Lines<'_>, place: &ChainPlace<'_>) {
 }
 
 // Adds which earlier certificate has the same issuer and serial number (RFC 5280 4.1.2.2).
-fn add_twin_remark(lines: &mut Lines<'_>, place: &ChainPlace<'_>) {
-    let serial = place.certificate.tbs_certificate().serial_number();
-    for distance in 1..=place.number {
-        let Some(earlier) = place.earlier(distance) else {
-            return;
-        };
-        let other = earlier.certificate.tbs_certificate().serial_number();
-        if serial == other && place.issuer().has_octets_of(earlier.issuer()) {
-            lines.count(
-                "  remark: certificate ",
-                earlier.number as u64,
-                " of the same issuer",
-            );
-            lines.push(" has its serial number\n");
-        }
+fn add_twin_remark(lines: &mut Lines<'_>, twin: Option<usize>) {
+    if let Some(number) = twin {
+        lines.count(
+            "  remark: certificate ",
+            number as u64,
+            " of the same issuer",
+        );
+        lines.push(" has its serial number\n");
     }
 }
 
@@ -95,11 +88,12 @@ fn add_extension_remarks(lines: &mut Lines<'_>, extension: &Extension) {
     }
 }
 
-// Adds what is unwise at a place, though no rule forbids it.
-pub(crate) fn add_remarks(lines: &mut Lines<'_>, place: &ChainPlace<'_>) {
+// Adds what is unwise at a place, though no rule forbids it. The twin is the last place before of
+// the same issuer and serial number.
+pub(crate) fn add_remarks(lines: &mut Lines<'_>, place: &ChainPlace<'_>, twin: Option<usize>) {
     add_date_remark(lines, place);
     add_serial_remark(lines, place);
-    add_twin_remark(lines, place);
+    add_twin_remark(lines, twin);
     for extension in place.extensions() {
         add_extension_remarks(lines, extension);
     }

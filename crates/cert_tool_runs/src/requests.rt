@@ -5,6 +5,7 @@ use crate::keys::{add_digests, add_key, add_key_digests};
 use crate::lines::Lines;
 use cert_desk_checking::types::{Any, Attribute, CertReq, ExtensionReq};
 use const_oid::AssociatedOid;
+use der_core::ErrorKind;
 
 // Adds the lines of a value of an attribute.
 fn add_value(lines: &mut Lines<'_>, is_wanted: bool, value: &Any) {
@@ -29,8 +30,13 @@ fn add_attribute(lines: &mut Lines<'_>, attribute: &Attribute) {
     }
 }
 
-// Adds what a request says, and digests of its octets and of its key.
-pub(crate) fn add_request(lines: &mut Lines<'_>, request: &CertReq, octets: &[u8]) {
+// Adds what a request says, and digests of its octets and of its key; answers why the octets are
+// none, if they aren't.
+pub(crate) fn add_request(lines: &mut Lines<'_>, octets: &[u8]) -> Option<ErrorKind> {
+    let request = match CertReq::try_from_bytes(lines.alloc, octets) {
+        Ok(request) => request,
+        Err(error) => return Some(error.kind),
+    };
     lines.push("request\n");
     lines.name("subject ", &request.info.subject, "\n");
     add_key(lines, &request.info.public_key);
@@ -40,4 +46,5 @@ pub(crate) fn add_request(lines: &mut Lines<'_>, request: &CertReq, octets: &[u8
     lines.identifier("signature ", &request.algorithm.oid, "\n");
     add_digests(lines, "request", octets);
     add_key_digests(lines, &request.info.public_key);
+    None
 }
