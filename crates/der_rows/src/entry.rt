@@ -1,13 +1,10 @@
 //! The example of the guide for users: a type of one's own.
 
-ghost use Rattle.der_core_head.specs.declared.tag.Tag.TheVariants.{Sequence};
-ghost use Rattle.der_core_head.specs.Shapes.{nested};
+ghost use Rattle.std.specs.Prelude.{refl};
 
-use der_core::making::read_fields;
+use der_core::describing::{AsRecord, DecodeRow, Described, FieldRow, RowUser, Rows};
 use der_core::{
-    DecodeFields, DecodeValue, Encode, EncodeFields, EncodeRef, EncodeValue, Error, Fields,
-    FixedTag, Header, Implicit, InRange, InRangeValue, Length, Reader, ShapedValue, StrictSetOf,
-    Tag, Writer,
+    DecodeFields, Error, Fields, Implicit, InRange, InRangeValue, Reader, StrictSetOf, lend, row,
 };
 use der_types_numbers::Uint;
 use der_types_text::PrintableString;
@@ -43,27 +40,23 @@ type Row = (
     ),
 );
 
-impl FixedTag for Entry {
-    ghost fixed_tag = { Sequence };
-
-    fn tag() -> Tag {
-        Tag::Sequence
-    }
+impl Described for Entry {
+    type By = AsRecord;
 }
 
 impl Fields for Entry {
-    ghost fields = { ⟦<Row as Fields>⟧.fields };
+    ghost fields = { ⟦<Row as FieldRow>⟧.fields };
 
-    ghost fields_plain = { λ e. ⟦<Row as Fields>⟧.fields_plain
+    ghost fields_plain = { λ e. ⟦<Row as FieldRow>⟧.fields_plain
         (e.number, (e.name, (e.since, (e.uses, (e.codes, tt))))) };
 
-    ghost fields_written = { λ e. ⟦<Row as Fields>⟧.fields_written
+    ghost fields_written = { λ e. ⟦<Row as FieldRow>⟧.fields_written
         (e.number, (e.name, (e.since, (e.uses, (e.codes, tt))))) };
 }
 
 impl<'a, R: Reader<'a>> DecodeFields<'a, R> for Entry {
     fn decode_fields(alloc: Global, reader: &mut R) -> Result<Entry, Error> {
-        let (number, (name, (since, (uses, (codes, ()))))) = Row::decode_fields(alloc, reader)?;
+        let row!(number, name, since, uses, codes) = Row::decode_row(alloc, reader)?;
         Ok(Entry {
             number,
             name,
@@ -74,37 +67,12 @@ impl<'a, R: Reader<'a>> DecodeFields<'a, R> for Entry {
     }
 }
 
-impl ShapedValue for Entry {
-    ghost content = { nested ⟦<Entry as Fields>⟧.fields };
-
-    ghost value_plain = { ⟦<Entry as Fields>⟧.fields_plain };
-
-    ghost value_written = { ⟦<Entry as Fields>⟧.fields_written };
-}
-
-impl<'a, R: Reader<'a>> DecodeValue<'a, R> for Entry {
-    fn decode_value(alloc: Global, reader: &mut R, header: Header) -> Result<Entry, Error> {
-        read_fields(alloc, reader, header)
-    }
-}
-
-impl EncodeValue for Entry {
-    fn value_len(&self) -> Result<Length, Error> {
-        let last = (EncodeRef(&self.uses), (EncodeRef(&self.codes), ()));
-        let row = (
-            EncodeRef(&self.number),
-            (EncodeRef(&self.name), (EncodeRef(&self.since), last)),
-        );
-        row.fields_len()
+impl Rows for Entry {
+    fn with_rows<U: RowUser>(&self, other: &Self, user: &mut U) -> U::Answer {
+        lend!(self, other, user; number, name, since, uses, codes)
     }
 
-    fn encode_value<W: Writer>(&self, writer: &mut W) -> Result<(), Error> {
-        self.number.encode(writer)?;
-        self.name.encode(writer)?;
-        self.since.encode(writer)?;
-        self.uses.encode(writer)?;
-        self.codes.encode(writer)
-    }
+    ghost apart = { refl };
 }
 
 impl InRangeValue for Entry {

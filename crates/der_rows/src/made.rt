@@ -22,9 +22,16 @@ pub fn of_octets(alloc: Global, rest: &str) -> Result<String, Refusal> {
     match kind {
         "BitString" => written_in(alloc, BitString::from_bytes(octets)),
         "OctetString" => written_in(alloc, OctetString::new(octets)),
+        "Vec<u8>" => written_in(alloc, given_back(octets)),
         "BmpString" => written_in(alloc, BmpString::from_ucs2(octets)),
         _ => number_of(alloc, kind, octets.as_slice()),
     }
+}
+
+/// The string of the octets that a string of these gives back.
+fn given_back(octets: Vec<u8>) -> Result<OctetString, Error> {
+    let string = OctetString::new(octets)?;
+    OctetString::new(Vec::from(string))
 }
 
 /// What is written of the number that octets spell, with those that count for nothing.

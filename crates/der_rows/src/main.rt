@@ -11,7 +11,7 @@
 //! | `contents TYPE HEX HEX` | the order of two contents, whatever their lengths |
 //! | `compare TYPE HEX HEX` | the order of two values by their type, and behind it whether their hashes are the `same` or `apart` |
 //! | `text TYPE HEX` | `ok TEXT`, what the value prints; of a bit string its bits, of named bits their names, of a time its date |
-//! | `new TYPE HEX` | `ok HEX`, the octets that the value writes that the type makes of these |
+//! | `new TYPE HEX` | `ok HEX`, the octets that the value writes that the type makes of these; of `Vec<u8>` the OCTET STRING of those that one gives back |
 //! | `from TYPE TEXT` | the same of what the type makes of a text, of names, or of seconds since 1970 |
 //! | `date TEXT` | `ok SECONDS`, those from 1970 to a date |
 //! | `seconds SECONDS` | `ok TEXT`, the date so long after 1970 |

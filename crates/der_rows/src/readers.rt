@@ -3,9 +3,10 @@
 use crate::refusals::Refusal;
 use crate::shown::{debugged, done, hex_in, hex_of, octets_of, or_refusal, printed, shown};
 use crate::small::Small;
+use der_core::describing::DecodeRow;
 use der_core::{
-    BytesOwned, Class, Decode, DecodeFields, EncodingRules, Error, ErrorKind, Length, Member,
-    Reader, SliceReader, Tag, TagMode, TagNumber, decode_octets, peek_matches, reading,
+    BytesOwned, Class, Decode, EncodingRules, Error, ErrorKind, Length, Member, Reader,
+    SliceReader, Tag, TagMode, TagNumber, decode_octets, peek_matches, reading,
 };
 use der_types_sets::SetOfRef;
 use std::alloc::Global;
@@ -166,7 +167,7 @@ fn fields_of(alloc: Global, reader: &mut SliceReader<'_>) -> Result<String, Refu
     let (PhantomData, (number, PhantomData)) = <(
         PhantomData<bool>,
         (u8, PhantomData<bool>),
-    )>::decode_fields(alloc, reader)?;
+    )>::decode_row(alloc, reader)?;
     shown(alloc, number)
 }
 

@@ -5,6 +5,7 @@ ghost use Rattle.der_core_head.specs.Shapes.{nested};
 
 use crate::questions::{Question, answer_of_plain, answer_of_value, answer_with_debug};
 use crate::refusals::Refusal;
+use der_core::describing::{DecodeRow, FieldRow};
 use der_core::making::read_fields;
 use der_core::{
     DecodeFields, DecodeValue, EncodeFields, EncodeValue, Error, Fields, FieldsOrd, FixedTag,
@@ -28,7 +29,7 @@ impl<F> FixedTag for Record<F> {
     }
 }
 
-impl<F: Fields> ShapedValue for Record<F> {
+impl<F: FieldRow> ShapedValue for Record<F> {
     ghost content = { nested F.fields };
 
     ghost value_plain = { λ r. F.fields_plain r.fields };
@@ -36,10 +37,24 @@ impl<F: Fields> ShapedValue for Record<F> {
     ghost value_written = { λ r. F.fields_written r.fields };
 }
 
-impl<'a, R: Reader<'a>, F: DecodeFields<'a, R> + Drop> DecodeValue<'a, R> for Record<F> {
-    fn decode_value(alloc: Global, reader: &mut R, header: Header) -> Result<Record<F>, Error> {
-        let fields = read_fields(alloc, reader, header)?;
+impl<F: FieldRow> Fields for Record<F> {
+    ghost fields = { F.fields };
+
+    ghost fields_plain = { λ r. F.fields_plain r.fields };
+
+    ghost fields_written = { λ r. F.fields_written r.fields };
+}
+
+impl<'a, R: Reader<'a>, F: DecodeRow<'a, R>> DecodeFields<'a, R> for Record<F> {
+    fn decode_fields(alloc: Global, reader: &mut R) -> Result<Record<F>, Error> {
+        let fields = F::decode_row(alloc, reader)?;
         Ok(Record { fields })
+    }
+}
+
+impl<'a, R: Reader<'a>, F: DecodeRow<'a, R> + Drop> DecodeValue<'a, R> for Record<F> {
+    fn decode_value(alloc: Global, reader: &mut R, header: Header) -> Result<Record<F>, Error> {
+        read_fields(alloc, reader, header)
     }
 }
 
@@ -62,7 +77,7 @@ impl<F: FieldsOrd> ValueOrd for Record<F> {
 
 /// The answer of a record. Of a row the traits of its fields are asked for, since each that is
 /// asked of a record costs the check of every row that is named.
-pub fn answer<'a, F: DecodeFields<'a, SliceReader<'a>> + EncodeFields + Drop>(
+pub fn answer<'a, F: DecodeRow<'a, SliceReader<'a>> + EncodeFields + Drop>(
     alloc: Global,
     question: &Question<'a>,
 ) -> Result<String, Refusal> {
@@ -70,7 +85,7 @@ pub fn answer<'a, F: DecodeFields<'a, SliceReader<'a>> + EncodeFields + Drop>(
 }
 
 /// The answer of a record that prints for debugging, too.
-pub fn answer_and_debug<'a, F: DecodeFields<'a, SliceReader<'a>> + EncodeFields + Debug + Drop>(
+pub fn answer_and_debug<'a, F: DecodeRow<'a, SliceReader<'a>> + EncodeFields + Debug + Drop>(
     alloc: Global,
     question: &Question<'a>,
 ) -> Result<String, Refusal> {
@@ -80,7 +95,7 @@ pub fn answer_and_debug<'a, F: DecodeFields<'a, SliceReader<'a>> + EncodeFields 
 /// The answer of a record that is compared, and prints for debugging.
 pub fn answer_and_order<
     'a,
-    F: DecodeFields<'a, SliceReader<'a>> + EncodeFields + FieldsOrd + Debug + Drop,
+    F: DecodeRow<'a, SliceReader<'a>> + EncodeFields + FieldsOrd + Debug + Drop,
 >(alloc: Global, question: &Question<'a>) -> Result<String, Refusal> {
     answer_of_plain::<Record<F>>(alloc, question)
 }

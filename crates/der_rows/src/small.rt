@@ -3,13 +3,17 @@
 ghost use Rattle.std.specs.Prelude.{pos};
 ghost use Rattle.der_core_head.specs.Integers.{unsigned};
 
+use der_core::describing::{AsInteger, Described, Ordered};
 use der_core::making::unsigned_of;
-use der_core::{Error, Integer, Tag, ValueOrd};
-use std::cmp::Ordering;
+use der_core::{Error, Integer, Tag};
 
 /// A whole number from 0 to 255.
 #[derive(Clone, Copy, Default, PartialEq, Eq, PartialOrd, Ord, Hash)]
 pub struct Small(u8);
+
+impl Described for Small {
+    type By = AsInteger;
+}
 
 impl Integer for Small {
     ghost numbers = { unsigned 8 };
@@ -26,8 +30,4 @@ impl Integer for Small {
     }
 }
 
-impl ValueOrd for Small {
-    fn value_cmp(&self, other: &Small) -> Result<Ordering, Error> {
-        self.0.value_cmp(&other.0)
-    }
-}
+impl Ordered for Small {}

@@ -8,11 +8,14 @@ use crate::record;
 use crate::refusals::Refusal;
 use crate::shown::named;
 use const_oid::ObjectIdentifier;
+use der_core::describing::{DecodeRow, FieldRow};
 use der_core::{
-    Choice, Decode, DerOrd, Encode, EncodeRef, Error, Explicit, Implicit, Length, OneOf2, Reader,
-    Shaped, StrictSetOf, Tag, WithDefault, Writer, from_der,
+    Choice, Decode, DerOrd, Encode, EncodeFields, EncodeRef, Error, Explicit, Implicit, Length,
+    OneOf2, Reader, Shaped, StrictSetOf, Tag, WithDefault, Writer, from_der,
 };
 use std::alloc::Global;
+use std::fmt;
+use std::fmt::Debug;
 
 /// `NumberOrText ::= CHOICE { number INTEGER (0..255), text UTF8String }`
 #[derive(Debug, Drop)]
@@ -82,14 +85,49 @@ type TenFields = (
     (String, (ObjectIdentifier<39>, (WithDefault<bool>, Behind))),
 );
 
-/// The fields from the fifth on.
-type Behind = (Option<u32>, (Vec<u16>, (Option<Implicit<(), 0>>, Last)));
+/// The fields from the fifth on, a type of their own: what is checked of a row of ten at once
+/// takes more steps than a check may.
+#[derive(Drop)]
+struct Behind(BehindRow);
+
+type BehindRow = (Option<u32>, (Vec<u16>, (Option<Implicit<(), 0>>, Last)));
 
 /// The last three fields.
 type Last = (
     Explicit<i64, 1>,
     (NumberOrText, (Option<StrictSetOf<u8>>, ())),
 );
+
+impl FieldRow for Behind {
+    ghost fields = { ⟦<BehindRow as FieldRow>⟧.fields };
+
+    ghost fields_plain = { λ b. ⟦<BehindRow as FieldRow>⟧.fields_plain b.0 };
+
+    ghost fields_written = { λ b. ⟦<BehindRow as FieldRow>⟧.fields_written b.0 };
+}
+
+impl<'a, R: Reader<'a>> DecodeRow<'a, R> for Behind {
+    fn decode_row(alloc: Global, reader: &mut R) -> Result<Behind, Error> {
+        let row = BehindRow::decode_row(alloc, reader)?;
+        Ok(Behind(row))
+    }
+}
+
+impl EncodeFields for Behind {
+    fn fields_len(&self) -> Result<Length, Error> {
+        self.0.fields_len()
+    }
+
+    fn encode_fields<W: Writer>(&self, writer: &mut W) -> Result<(), Error> {
+        self.0.encode_fields(writer)
+    }
+}
+
+impl Debug for Behind {
+    fn fmt<W: fmt::Write>(&self, f: &mut fmt::Formatter<W>) -> fmt::Result {
+        self.0.fmt(f)
+    }
+}
 
 /// The answer of the record, which isn't compared.
 pub fn answer(alloc: Global, question: &Question<'_>) -> Result<String, Refusal> {

@@ -1,7 +1,9 @@
 //! Questions and their answers.
 
+use crate::copies::copied_of;
 use crate::drawn::{drawn, generated};
-use crate::lists::{copied_of, values_of};
+use crate::exchanged::exchanged;
+use crate::lists::{value_placed, values_of};
 use crate::made::{default_of, digest_of, made_of};
 use crate::names::names_of;
 use crate::questions::{
@@ -68,6 +70,8 @@ fn answer_about(alloc: Global, word: &str, kind: &str, values: &str) -> Result<S
         "names" => names_of(alloc, kind, values),
         "copy" => copied_of(alloc, kind, values),
         "values" => values_of(alloc, kind, values),
+        "insert" => value_placed(alloc, kind, values),
+        "exchange" => exchanged(alloc, kind, values),
         "get" => got_of(alloc, kind, values),
         "sha1" => digest_of(alloc, kind, values),
         "generate" => generated(alloc, kind, values),

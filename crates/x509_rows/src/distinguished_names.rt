@@ -11,6 +11,7 @@ use x509_cert::{
     AnyRef, AttributeTypeAndValue, DateTime, DirectoryString, FromAny, GeneralizedTime, Name,
     UtcTime,
 };
+use x509_cert_names::SetOfRef;
 use x509_cert_names::number_types::{IntRef, UintRef};
 use x509_cert_names::text_types::{
     GeneralStringRef, Ia5StringRef, PrintableStringRef, Utf8StringRef,
@@ -133,6 +134,7 @@ fn by_oid_in(
         "OctetStringRef" => written_of::<OctetStringRef>(alloc, name, oid),
         "PrintableStringRef" => written_of::<PrintableStringRef>(alloc, name, oid),
         "SequenceRef" => written_of::<SequenceRef>(alloc, name, oid),
+        "SetOfRef<u8>" => written_of::<SetOfRef<u8>>(alloc, name, oid),
         "UintRef" => written_of::<UintRef>(alloc, name, oid),
         "UtcTime" => written_of::<UtcTime>(alloc, name, oid),
         "Utf8StringRef" => written_of::<Utf8StringRef>(alloc, name, oid),

@@ -1,15 +1,14 @@
 //! Questions about revocation lists, certification requests, trust anchors and names.
 
-use crate::questions::{Question, answer_of, answer_of_ordered, answer_of_value, copied};
+use crate::questions::{Question, answer_of, answer_of_ordered, answer_of_value};
 use crate::refusals::Refusal;
 use crate::shown::{joined, octets_of, shown, written};
 use der_core::{StrictSetOf, from_der};
 use std::alloc::Global;
 use x509_cert::{
     Attribute, AttributeTypeAndValue, AttributeValue, CertPathControls, CertReq, CertReqInfo,
-    CertificateList, DirectoryString, ExtensionReq, Name, PkiPath, Raw, RdnSequence,
-    RelativeDistinguishedName, RevokedCert, Rfc5280, SubjectDirectoryAttributes, TbsCertList,
-    TrustAnchorChoice, TrustAnchorInfo,
+    CertificateList, ExtensionReq, Name, PkiPath, Raw, RdnSequence, RelativeDistinguishedName,
+    RevokedCert, Rfc5280, TbsCertList, TrustAnchorChoice, TrustAnchorInfo,
 };
 
 /// The answer of a type that this page names.
@@ -49,26 +48,6 @@ fn answer_of_names(alloc: Global, kind: &str, question: &Question<'_>) -> Result
     }
 }
 
-/// What is written of a copy of the value.
-pub fn copied_of(alloc: Global, kind: &str, octets: &str) -> Result<String, Refusal> {
-    let octets = octets_of(alloc, octets)?;
-    let octets = octets.as_slice();
-    match kind {
-        "Attribute" => copied::<Attribute>(alloc, octets),
-        "DirectoryString" => copied_string(alloc, octets),
-        "CertReq" => copied::<CertReq>(alloc, octets),
-        "CertReqInfo" => copied::<CertReqInfo>(alloc, octets),
-        "SubjectDirectoryAttributes" => copied::<SubjectDirectoryAttributes>(alloc, octets),
-        _ => Err(Refusal::Unread),
-    }
-}
-
-/// What is written of a copy of the DirectoryString that octets spell.
-fn copied_string(alloc: Global, octets: &[u8]) -> Result<String, Refusal> {
-    let text: DirectoryString = from_der(alloc, octets)?;
-    written(alloc, &text.clone(alloc)?)
-}
-
 /// The values of an attribute: how many they are, each in turn, and the one at an index.
 pub fn values_of(alloc: Global, index: &str, octets: &str) -> Result<String, Refusal> {
     let index = index.parse::<usize>()?;
@@ -76,6 +55,15 @@ pub fn values_of(alloc: Global, index: &str, octets: &str) -> Result<String, Ref
     let attribute: Attribute = from_der(alloc, octets.as_slice())?;
     let values = &attribute.values;
     joined(listed(alloc, values), "; ", value_at(alloc, values, index))
+}
+
+/// What is written of an attribute once a value was placed among its own.
+pub fn value_placed(alloc: Global, value: &str, octets: &str) -> Result<String, Refusal> {
+    let value = octets_of(alloc, value)?;
+    let octets = octets_of(alloc, octets)?;
+    let mut attribute: Attribute = from_der(alloc, octets.as_slice())?;
+    attribute.values.insert(from_der(alloc, value.as_slice())?)?;
+    written(alloc, &attribute)
 }
 
 /// How many values there are, and what is written of each.

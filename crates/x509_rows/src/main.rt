@@ -14,7 +14,9 @@
 //! | `names TYPE HEX` | `ok` and the usages of a `KeyUsage`, or the names of a `SubjectAltName` |
 //! | `debug TYPE HEX` | `ok TEXT`, the value as `{:?}` prints it |
 //! | `copy TYPE HEX` | `ok HEX`, the octets that a copy of the value writes that these spell, if it is equal to the value; of a lent one that of the value of its own that it gives |
+//! | `exchange TYPE HEX HEX` | `ok HEX HEX`, what is written of the two values that these spell, of a type of one field, once each has the other's field |
 //! | `values INDEX HEX` | `ok N HEX ..; HEX`: how many values an attribute has, what is written of each, and of the one at the index; `none` where there is none there |
+//! | `insert HEX HEX` | `ok HEX`, what is written of the attribute that the second octets spell once the value of the first was placed among its own |
 //! | `extension TYPE HEX HEX` | `ok HEX`, the extension that a value gives the certificate of a subject: the subject's name, and the value |
 //! | `get TYPE HEX` | `ok HEX`, the content of a certificate's one extension of the type, `critical ` in front of that of a critical one, or `none` |
 //! | `sha1 TYPE HEX` | `ok HEX`, the digest of a certificate |
@@ -49,8 +51,10 @@
 #![tactic(auto)]
 
 mod answers;
+mod copies;
 mod distinguished_names;
 mod drawn;
+mod exchanged;
 mod extensions;
 mod given_words;
 mod lists;

@@ -198,23 +198,3 @@ fn name_of(alloc: Global, outcome: Result<Ordering, Error>) -> Result<String, Re
     let order = outcome?;
     Ok(format!(in alloc; "{order:?}")?)
 }
-
-/// What is written of a copy of the value that octets spell, if it is equal to the value.
-pub fn copied<'a, T: Decode<'a, SliceReader<'a>> + Encode + Clone + PartialEq + Drop>(
-    alloc: Global,
-    octets: &'a [u8],
-) -> Result<String, Refusal> {
-    copy_written(alloc, &from_der::<T>(alloc, octets)?)
-}
-
-/// What is written of a copy of a value, if it is equal to the value.
-fn copy_written<T: Encode + Clone + PartialEq + Drop>(
-    alloc: Global,
-    value: &T,
-) -> Result<String, Refusal> {
-    let copy = value.clone()?;
-    if copy != *value {
-        return Err(Refusal::Unread);
-    }
-    written(alloc, &copy)
-}
