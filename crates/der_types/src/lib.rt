@@ -1,24 +1,21 @@
 //! Typed values of DER.
 #![tactic(auto)]
 
+pub mod asn1;
 pub mod laws;
 
-pub use der_types_any::{Any, AnyRef};
-pub use der_types_numbers::{AsIntRef, AsUintRef, Int, IntRef, Uint, UintRef};
-pub use der_types_sets::{
-    SequenceOf, SequenceOfIter, SetOf, SetOfIter, SetOfRef, SetOfRefIter, SetOfVec,
+pub use asn1::{
+    Any, AnyRef, Application, ApplicationRef, AsBitStringRef, AsIntRef, AsUintRef, BitString,
+    BitStringIter, BitStringRef, BmpString, ContextSpecific, ContextSpecificRef, GeneralStringRef,
+    GeneralizedTime, Ia5String, Ia5StringRef, Int, IntRef, Null, OctetString, OctetStringRef,
+    PrintableString, PrintableStringRef, Private, PrivateRef, Sequence, SequenceOf, SequenceOfIter,
+    SequenceRef, SetOf, SetOfIter, SetOfRef, SetOfRefIter, SetOfVec, TeletexString,
+    TeletexStringRef, Uint, UintRef, UtcTime, Utf8StringRef, VideotexStringRef,
 };
-pub use der_types_tagged::{
-    Application, ApplicationRef, ClassField, ClassFieldRef, ContextSpecific, ContextSpecificRef,
-    Private, PrivateRef,
-};
+pub use der_types_tagged::{ClassField, ClassFieldRef};
 pub use der_types_text::{
-    AsciiString, AsciiStringRef, AsciiType, BmpChars, BmpCodepoints, BmpString, GeneralStringRef,
-    Ia5, Ia5String, Ia5StringRef, Printable, PrintableString, PrintableStringRef, Teletex,
-    TeletexString, TeletexStringRef, Utf8StringRef, Videotex, VideotexStringRef,
+    AsciiString, AsciiStringRef, AsciiType, BmpChars, BmpCodepoints, Ia5, Printable, Teletex,
+    Videotex,
 };
-pub use der_types_time::{DateTime, GeneralizedTime, UtcTime, const_contains_u8};
-pub use der_types_values::{
-    AllowedLenBitString, AsBitStringRef, BitString, BitStringIter, BitStringRef, FlagSet,
-    NamedBits, Null, OctetString, OctetStringRef, Sequence, SequenceRef,
-};
+pub use der_types_time::{DateTime, const_contains_u8};
+pub use der_types_values::{AllowedLenBitString, FlagSet, NamedBits};
