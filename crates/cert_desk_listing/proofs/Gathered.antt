@@ -1,6 +1,6 @@
 -- The lines of a certificate, gathered one after the other.
 use Rattle.std.proofs.Common.{◌≡◌, ℕ, ℤ, List, ◌++◌, codes, ap, ◌∙◌}
-use Rattle.x509_cert_lists.specs.Certificates.{PlainCertificate, issuer, subject}
+use Rattle.x509_cert_certificates.specs.Certificates.{PlainCertificate, issuer, subject}
 use Rattle.x509_cert_lists.specs.Parts.{PlainName, PlainExtension}
 use Rattle.x509_cert_lists.specs.Texts.{name_text, serial_text, time_text}
 use Rattle.cert_desk_listing.specs.Listing.{alone, labelled, extension_lines, certificate_lines}

@@ -8,7 +8,7 @@ use Rattle.const_oid.specs.DottedText.{dotted}
 use Rattle.der_core_head.specs.declared.error.ErrorKind.{ErrorKind}
 use Rattle.der_core_head.specs.declared.tag.Tag.TheVariants as tags
 use Rattle.der_core_head.specs.Shapes.{AnyValue}
-use Rattle.x509_cert_lists.specs.Certificates.{PlainCertificate, issuer, subject}
+use Rattle.x509_cert_certificates.specs.Certificates.{PlainCertificate, issuer, subject}
 use Rattle.x509_cert_lists.specs.Grammar.{extension_req_arcs, extension_req_content}
 use Rattle.x509_cert_lists.specs.Parts.{PlainName, PlainAttribute, PlainExtension, extension_arcs}
 use Rattle.x509_cert_lists.specs.Parts.{is_critical, content_as}

@@ -1,12 +1,13 @@
 -- The parts of certificates, lists and requests of which listings tell.
 use Rattle.std.specs.Prelude.{ℕ, ℤ, List, [], Option, Some, None}
 use Rattle.der_core_head.specs.Shapes.{Shape, Value, BodyValue, AnyValue, sequence}
-use Rattle.x509_cert_lists.specs.Certificates.{PlainCertificate, tbs, tbs_validity}
+use Rattle.x509_cert_certificates.specs.Certificates.{PlainCertificate, tbs, tbs_extensions}
+use Rattle.x509_cert_certificates.specs.Certificates.{tbs_validity}
 use Rattle.x509_cert_lists.specs.Grammar.{revoked_cert_fields, certificate_list_fields}
 use Rattle.x509_cert_lists.specs.Grammar.{cert_req_fields}
 use Rattle.x509_cert_lists.specs.Parts.{PlainName, PlainAttribute, PlainExtension, time}
 
--- those of a field; where it is absent there are none
+-- the members of a field; where it is absent there are none
 abbrev pub listed : {A : Type 0} → Option (List A) → List A
 listed None = []
 listed (Some xs) = xs
@@ -26,7 +27,7 @@ abbrev pub not_after : PlainCertificate → PlainTime
 not_after c = (tbs_validity (tbs c)).1.0
 
 abbrev pub extensions_of : PlainCertificate → List PlainExtension
-extensions_of c = listed (tbs c).1.1.1.1.1.1.1.1.1.0
+extensions_of c = listed (tbs_extensions (tbs c))
 
 -- Revocation lists (RFC 5280 5.1), as they are read under `Raw`.
 abbrev pub raw_certificate_list : ℕ → Shape

@@ -8,7 +8,7 @@ use Rattle.cert_desk_io.specs.Telling.{IsAnswer, IsComplaint, IsDeviceTold, IsMe
 use Rattle.cert_desk_io.specs.Whole.{IsWhole, IsUnread, most_octets}
 use Rattle.const_oid.specs.Bound.{Bound}
 use Rattle.der_core_head.specs.Shapes.{Spells}
-use Rattle.x509_cert_lists.specs.Certificates.{PlainCertificate, raw_certificate}
+use Rattle.x509_cert_certificates.specs.Certificates.{PlainCertificate, raw_certificate}
 use Rattle.x509_cert_lists.specs.Grammar.{cert_req}
 use Rattle.cert_desk_listing.specs.declared.finding.Finding.{Finding}
 use Rattle.cert_desk_listing.specs.declared.finding.Finding.TheVariants as findings
@@ -39,7 +39,7 @@ IsListing kinds.List octets text = (l : PlainList) × Spells (raw_certificate_li
 IsListing kinds.Request octets text = (r : PlainRequest) × Spells (cert_req Bound) r octets
     × (text ≡ request_lines r)
 
--- they spell none
+-- octets spell no value of a kind
 abbrev pub HasNoListing : FileKind → List ℕ → Type 0
 HasNoListing kind octets = (text : List ℕ) → IsListing kind octets text → ⊥
 

@@ -15,9 +15,7 @@ use const_oid::AssociatedOid;
 use der_core::ErrorKind;
 use std::alloc::{AllocError, Global};
 use std::fmt;
-use x509_cert_lists::certificates::{
-    Any, Attribute, Extension, Extensions, Name, SerialNumber, Time,
-};
+use x509_cert_certificates::{Any, Attribute, Extension, Extensions, Name, SerialNumber, Time};
 use x509_cert_lists::{ExtensionReq, RevokedCert};
 
 /// Lines that were gathered, each ended by LF.

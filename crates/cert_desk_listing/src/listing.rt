@@ -1,7 +1,7 @@
 //! Listings on outputs.
 ghost use Rattle.std.specs.Prelude.{◌≡◌, IfOk, IfErr, OnOk, string_bytes};
 ghost use Rattle.cert_desk_io.specs.Devices.{IsWritten, sink};
-ghost use Rattle.x509_cert_lists.specs.CertificateViews.{certificate_plain};
+ghost use Rattle.x509_cert_certificates.specs.Views.{certificate_plain};
 ghost use Rattle.x509_cert_lists.specs.Views.{certificate_list_plain, cert_req_plain};
 ghost use Rattle.cert_desk_listing.specs.Listing.{certificate_lines, list_lines, request_lines};
 ghost use Rattle.cert_desk_listing.specs.Shown.{IsUnshown};
@@ -10,7 +10,7 @@ use crate::lines::Lines;
 use crate::show_error::ShowError;
 use cert_desk_io::{Output, write_all};
 use std::alloc::{AllocError, Global};
-use x509_cert_lists::certificates::{CertificateInner, Profile};
+use x509_cert_certificates::{CertificateInner, Profile};
 use x509_cert_lists::{CertReq, CertificateList};
 
 /// The lines of a certificate.

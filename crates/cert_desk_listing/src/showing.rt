@@ -18,7 +18,7 @@ use cert_desk_io::{
 };
 use der_core::{Error, ErrorKind, from_der};
 use std::alloc::Global;
-use x509_cert_lists::certificates::{CertificateInner, Raw};
+use x509_cert_certificates::{CertificateInner, Raw};
 use x509_cert_lists::{CertReq, CertificateList};
 
 // The certificate that these octets spell.

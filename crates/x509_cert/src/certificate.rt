@@ -1,6 +1,6 @@
 //! Certificates and their profiles (RFC 5280 4.1).
 
-pub use x509_cert_list_builders::types::certificates::{
+pub use x509_cert_list_builders::certificates::{
     CertDigest, Certificate, CertificateInner, Profile, Raw, Rfc5280, TbsCertificate,
     TbsCertificateInner, Version,
 };

@@ -1,5 +1,5 @@
 //! Laws of certificates, of their parts, of names and their texts, of revocation lists, requests
-//! and trust anchors, for every bound of arcs and every profile.
+//! and trust anchors, for every bound of arcs and every profile, and of timestamps.
 //!
 //! Each is the contract of a function that does nothing.
 
@@ -19,6 +19,10 @@ pub use x509_cert_anchors::laws::{
     wider_bounds_read_certificates_alike, wider_bounds_read_name_texts_alike,
 };
 pub use x509_cert_list_builders::laws::signed_part_stands_in_place as list_parts_stand_in_place;
+pub use x509_cert_list_builders::lists::laws::equality_of_lists_is_of_values;
+pub use x509_cert_list_builders::types::timestamps::laws::{
+    lists_are_read as timestamp_lists_are_read, spellings_are_read as timestamps_are_read,
+};
 
 /// Octets spell a revocation list, a request or a trust anchor under a narrow bound of arcs exactly
 /// where they spell it under a wider one and each arc of its identifiers is below the narrow one.

@@ -17,7 +17,7 @@ pub mod time;
 pub use certificate::PkiPath;
 
 // Certificates.
-pub use x509_cert_list_builders::types::certificates::{
+pub use x509_cert_list_builders::certificates::{
     AlgorithmIdentifier, AlgorithmIdentifierRef, Any, AnyRef, Attribute, AttributeType,
     AttributeTypeAndValue, AttributeValue, Attributes, BitString, CertDigest, Certificate,
     CertificateInner, DateTime, DirectoryString, DistinguishedName, Extension, Extensions,

@@ -8,8 +8,8 @@ use Rattle.der_core_head.specs.Integers.{Numbers, among}
 use Rattle.der_core_head.specs.Leaves.{integer, utf8, named}
 use Rattle.der_core_head.specs.Shapes.{Shape, Body, Value, BodyValue, tagged, leaf, either}
 use Rattle.der_core_head.specs.Shapes.{optional, defaulted, field, done, many, sequence, explicit}
-use Rattle.x509_cert_policies.specs.Certificates.{certificate_fields, certificate, tbs_certificate}
-use Rattle.x509_cert_policies.specs.Certificates.{certificate_by, tbs_by}
+use Rattle.x509_cert_certificates.specs.Certificates.{certificate_fields, certificate, tbs_certificate}
+use Rattle.x509_cert_certificates.specs.Certificates.{certificate_by, tbs_by}
 use Rattle.x509_cert_policies.specs.GeneralNames.{behind, inside, whole_number}
 use Rattle.x509_cert_policies.specs.GeneralNames.{name_constraints_fields}
 use Rattle.x509_cert_policies.specs.Parts.{name, octet_string, public_key_info, extensions}

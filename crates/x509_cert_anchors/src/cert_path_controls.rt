@@ -14,8 +14,8 @@ use der_core::describing::{AsRecord, DecodeRow, Described, FieldRow, RowUser, Ro
 use der_core::making::{implicit_of, implicit_ref};
 use der_core::{DecodeFields, EncodeRef, Error, Fields, Reader, lend, row};
 use std::alloc::Global;
+use x509_cert_certificates::{CertificateInner, Name, Profile, Rfc5280};
 use x509_cert_policies::CertificatePolicies;
-use x509_cert_policies::certificates::{CertificateInner, Name, Profile, Rfc5280};
 use x509_cert_policies::general_names::NameConstraints;
 
 /// The name of a trust anchor, and what a path from it must meet (RFC 5914 2.5).

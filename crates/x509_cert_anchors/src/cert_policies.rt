@@ -4,7 +4,7 @@ ghost use Rattle.std.specs.Prelude.{⊤, [], ◌∷◌, codes, refl};
 ghost use Rattle.bitflags.specs.Sets.{known_from};
 
 use bitflags::{Flag, Flags, bitflag_items};
-use x509_cert_policies::certificates::{FlagSet, NamedBits};
+use x509_cert_certificates::{FlagSet, NamedBits};
 
 /// What is wanted of policies on a path, the first bit the lowest (RFC 5914 2.5).
 #[derive(Clone, Copy, Debug, PartialEq, Eq)]

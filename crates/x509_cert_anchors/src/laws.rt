@@ -7,7 +7,7 @@ ghost use Rattle.der_core_head.specs.Shapes.{IsValid};
 ghost use Rattle.x509_cert_anchors.specs.Grammar.{PlainAnchor, trust_anchor_choice};
 ghost use Rattle.x509_cert_anchors.specs.Grammar.{trust_anchor_by};
 
-pub use x509_cert_policies::certificates::laws::{
+pub use x509_cert_certificates::laws::{
     certificates_are_apart, dates_by_profile, equality_of_certificates_is_of_values,
     equality_of_names_is_of_values, equality_of_parts_is_of_values, identifiers_stand_in_turn,
     newly_read_certificates_hold_a_large_arc, newly_read_name_texts_hold_a_large_arc,

@@ -11,7 +11,7 @@ use der_core::{
     Reader, Shaped, Tag, Writer,
 };
 use std::alloc::Global;
-use x509_cert_policies::certificates::{CertificateInner, Profile, Rfc5280, TbsCertificateInner};
+use x509_cert_certificates::{CertificateInner, Profile, Rfc5280, TbsCertificateInner};
 
 /// A trust anchor (RFC 5914 2).
 ///

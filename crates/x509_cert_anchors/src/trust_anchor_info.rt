@@ -11,9 +11,7 @@ use der_core::describing::{AsRecord, DecodeRow, Described, RowUser, Rows};
 use der_core::making::{explicit_of, explicit_ref, implicit_of, implicit_ref};
 use der_core::{DecodeFields, EncodeRef, Error, Fields, Reader, WithDefault, lend, row};
 use std::alloc::Global;
-use x509_cert_policies::certificates::{
-    Extensions, OctetString, Profile, Rfc5280, SubjectPublicKeyInfo,
-};
+use x509_cert_certificates::{Extensions, OctetString, Profile, Rfc5280, SubjectPublicKeyInfo};
 
 /// A trust anchor by its key (RFC 5914 2).
 ///

@@ -36,7 +36,7 @@ abbrev pub module_of : PlainGeneralName → Result PlainModule ErrorKind
 module_of (inl n) = content_as Sequence (nested (hardware_module_name_fields Bound)) n.1.0
 module_of (inr n) = Err kinds.Failed
 
--- the same of the first name of this kind
+-- the module that the first name of this kind holds, or its first fault
 abbrev pub first_module : List PlainGeneralName → Result PlainModule ErrorKind
 first_module [] = Err kinds.Failed
 first_module (n ∷ more) = if is_of_module n then module_of n else first_module more

@@ -7,8 +7,8 @@ pub mod States
 pub mod Subscribers
 pub mod TypeSets
 pub use Rattle.x509_cert_extensions.specs.Parts
-pub use Rattle.x509_cert_extensions.specs.Certificates
-pub use Rattle.x509_cert_extensions.specs.CertificateViews
+pub use Rattle.x509_cert_certificates.specs.Certificates
+pub use Rattle.x509_cert_certificates.specs.Views as CertificateViews
 pub use Rattle.x509_cert_extensions.specs.Texts
 pub use Rattle.x509_cert_extensions.specs.GeneralNames
 pub use Rattle.x509_cert_extensions.specs.GeneralNameViews

@@ -72,7 +72,8 @@ type_behind repeats before (a ∷ []) =
     else if list_all (may_follow a.0) before then Ok a.0 else Err (errors.InvalidAttribute a.0)
 type_behind repeats before (a ∷ b ∷ more) = Err errors.NonUniqueRdn
 
--- the same of the relative name at a place of a name, behind those before it
+-- the type of the relative name at a place of a name, behind those before it, or why it may not
+-- stand there
 abbrev pub type_at : Bool → PlainName → ℕ → Result (List ℕ) Error
 type_at repeats n i = type_behind repeats (name_types (take i n)) (get_or n i [])
 

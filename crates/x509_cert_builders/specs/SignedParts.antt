@@ -4,9 +4,9 @@ use Rattle.std.specs.Prelude.{if◌then◌else◌}
 use Rattle.const_oid.specs.Bound.{Bound}
 use Rattle.der_core_head.specs.Ranges.{IsInRange}
 use Rattle.der_core_head.specs.Shapes.{Shape, explicit, optional}
-use Rattle.x509_cert_extensions.specs.Certificates.{Tbs, raw_tbs_certificate, tbs_by}
-use Rattle.x509_cert_extensions.specs.Certificates.{tbs_inner_algorithm, tbs_issuer, tbs_validity}
-use Rattle.x509_cert_extensions.specs.Certificates.{tbs_subject, tbs_public_key}
+use Rattle.x509_cert_certificates.specs.Certificates.{Tbs, raw_tbs_certificate, tbs_by}
+use Rattle.x509_cert_certificates.specs.Certificates.{tbs_inner_algorithm, tbs_issuer, tbs_validity}
+use Rattle.x509_cert_certificates.specs.Certificates.{tbs_subject, tbs_public_key, tbs_extensions}
 use Rattle.x509_cert_extensions.specs.Parts.{Algorithm, PublicKey, PlainExtension, PlainName}
 use Rattle.x509_cert_extensions.specs.Parts.{algorithm_identifier, extensions, name}
 use Rattle.x509_cert_extensions.specs.Parts.{listed as unlisted}
@@ -59,7 +59,7 @@ listed (e ∷ more) = Some (e ∷ more)
 
 -- the extensions of a part; none where the field is absent
 abbrev pub extensions_in : Tbs → List PlainExtension
-extensions_in t = unlisted t.1.1.1.1.1.1.1.1.1.0
+extensions_in t = unlisted (tbs_extensions t)
 
 -- version 3 where there are extensions, else version 1 (4.1.2.1)
 abbrev pub signed_part : PlainFields → Algorithm → List PlainExtension → Tbs
@@ -85,4 +85,4 @@ pub record IsPartInRange (t : Tbs) : Type 0 where
   pub dates : IsInRange validity (tbs_validity t)
   pub subject : IsInRange (name Bound) (tbs_subject t)
   pub key : IsInRange (public_key_info Bound) (tbs_public_key t)
-  pub extensions : IsInRange extensions_field t.1.1.1.1.1.1.1.1.1.0
+  pub extensions : IsInRange extensions_field (tbs_extensions t)

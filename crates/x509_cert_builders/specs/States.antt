@@ -2,10 +2,10 @@
 use Rattle.std.specs.Prelude.{ℕ, List, ◌++◌, take, drop, Option, Some, None, true}
 use Rattle.const_oid.specs.Bound.{Bound}
 use Rattle.der_core_head.specs.Grammar.{plain_option}
-use Rattle.x509_cert_extensions.specs.Certificates.{PlainCertificate, Tbs, certificate_by}
-use Rattle.x509_cert_extensions.specs.Certificates.{certificate_octets, signed_start, signed_length}
-use Rattle.x509_cert_extensions.specs.Certificates.{tbs_inner_algorithm}
-use Rattle.x509_cert_extensions.specs.CertificateViews.{tbs_plain}
+use Rattle.x509_cert_certificates.specs.Certificates.{PlainCertificate, Tbs, certificate_by}
+use Rattle.x509_cert_certificates.specs.Certificates.{certificate_octets, signed_start, signed_length}
+use Rattle.x509_cert_certificates.specs.Certificates.{tbs_inner_algorithm}
+use Rattle.x509_cert_certificates.specs.Views.{tbs_plain}
 use Rattle.x509_cert_extensions.specs.Parts.{Algorithm, PlainExtension, PublicKey, algorithm_plain}
 use Rattle.x509_cert_extensions.specs.Parts.{extensions_plain}
 use Rattle.x509_cert_builders.specs.SignedParts.{PlainFields, bare_part, fields_of, signed_part}

@@ -18,7 +18,7 @@ use crate::uses::purposes_of;
 use der_core::Encode;
 use der_core::making::copies_of;
 use std::alloc::Global;
-use x509_cert_extensions::certificates::{Extension, Extensions, Name, SubjectPublicKeyInfoRef};
+use x509_cert_certificates::{Extension, Extensions, Name, SubjectPublicKeyInfoRef};
 use x509_cert_extensions::general_names::AuthorityKeyIdentifier;
 use x509_cert_extensions::policies::BasicConstraints;
 use x509_cert_extensions::{Criticality, KeyUsage, SubjectKeyIdentifier, ToExtension, TryFromKey};

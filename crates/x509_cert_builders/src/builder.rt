@@ -4,7 +4,7 @@ use crate::error::Error;
 use crate::signer::Signer;
 use rand_core::CryptoRng;
 use std::alloc::Global;
-use x509_cert_extensions::certificates::BitString;
+use x509_cert_certificates::BitString;
 
 /// What makes a signed thing: the octets that a signer is handed are those of the signed part of
 /// what comes out.

@@ -2,9 +2,7 @@
 
 use crate::error::Error;
 use std::alloc::Global;
-use x509_cert_extensions::certificates::{
-    Extensions, Name, SubjectPublicKeyInfoRef, TbsCertificate,
-};
+use x509_cert_certificates::{Extensions, Name, SubjectPublicKeyInfoRef, TbsCertificate};
 
 /// Which names and which extensions a certificate has that is made.
 ///
@@ -14,8 +12,8 @@ pub trait BuilderProfile {
     ghost use Rattle.std.specs.Prelude.{◌≡◌, ◌⊎◌, List, Result, Ok, Err, IfOk, IfErr};
     ghost use Rattle.x509_cert_builders.specs.declared.error.Error.{Error};
     ghost use Rattle.x509_cert_builders.specs.Refusals.{IsWantOfMemory};
-    ghost use Rattle.x509_cert_extensions.specs.Certificates.{Tbs};
-    ghost use Rattle.x509_cert_extensions.specs.CertificateViews.{tbs_plain};
+    ghost use Rattle.x509_cert_certificates.specs.Certificates.{Tbs};
+    ghost use Rattle.x509_cert_certificates.specs.Views.{tbs_plain};
     ghost use Rattle.x509_cert_extensions.specs.Parts.{PlainExtension, PlainName, PublicKey};
     ghost use Rattle.x509_cert_extensions.specs.Parts.{extensions_plain, key_lent, name_plain};
 

@@ -5,9 +5,9 @@ ghost use Rattle.std.specs.Prelude.{OnOk, OnErr};
 ghost use Rattle.const_oid.specs.Bound.{Bound};
 ghost use Rattle.der_core_head.specs.Grammar.{plain_option};
 ghost use Rattle.der_core_head.specs.Shapes.{IsValid};
-ghost use Rattle.x509_cert_extensions.specs.CertificateViews.{certificate_plain, tbs_plain};
-ghost use Rattle.x509_cert_extensions.specs.Certificates.{outer_algorithm, signature_bits, tbs};
-ghost use Rattle.x509_cert_extensions.specs.Certificates.{tbs_certificate, tbs_public_key};
+ghost use Rattle.x509_cert_certificates.specs.Views.{certificate_plain, tbs_plain};
+ghost use Rattle.x509_cert_certificates.specs.Certificates.{outer_algorithm, signature_bits, tbs};
+ghost use Rattle.x509_cert_certificates.specs.Certificates.{tbs_certificate, tbs_public_key};
 ghost use Rattle.x509_cert_extensions.specs.Parts.{algorithm_plain, extensions_plain, key_plain};
 ghost use Rattle.x509_cert_extensions.specs.Parts.{validity_plain};
 ghost use Rattle.x509_cert_builders.specs.SignedParts.{bare_part, fields_of, part_shape};
@@ -28,12 +28,12 @@ use crate::signer::Signer;
 use der_core::ErrorKind;
 use std::alloc::Global;
 use std::marker::Model;
-use x509_cert_extensions::ToExtension;
-use x509_cert_extensions::certificates::laws::signed_part_stands_in_place;
-use x509_cert_extensions::certificates::{
+use x509_cert_certificates::laws::signed_part_stands_in_place;
+use x509_cert_certificates::{
     AlgorithmIdentifier, BitString, Certificate, Extension, Extensions, SerialNumber,
     SubjectPublicKeyInfo, TbsCertificate, Validity, Version,
 };
+use x509_cert_extensions::ToExtension;
 
 /// A builder of certificates (RFC 5280 4.1), whose names and extensions its profile tells.
 /// Extensions that are added stand before those of the profile.

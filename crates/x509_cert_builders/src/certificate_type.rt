@@ -16,9 +16,7 @@ use crate::domain_validated::DomainValidated;
 use crate::error::Error;
 use const_oid::ObjectIdentifier;
 use std::alloc::{AllocError, Global};
-use x509_cert_extensions::certificates::{
-    AttributeTypeAndValue, Name, RdnSequence, RelativeDistinguishedName,
-};
+use x509_cert_certificates::{AttributeTypeAndValue, Name, RdnSequence, RelativeDistinguishedName};
 use x509_cert_extensions::general_names::GeneralNames;
 
 /// How it was found out who a subscriber is (CA/Browser Forum, Baseline Requirements 7.1.2.7.1).

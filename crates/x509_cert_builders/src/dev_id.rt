@@ -3,7 +3,7 @@
 ghost use Rattle.std.specs.Prelude.{◌≡◌, ◌⊎◌, ◌∷◌, ◌++◌, [], true, false, Ok, Some, IsOk, IfOk};
 ghost use Rattle.std.specs.Prelude.{IfErr, OnOk};
 ghost use Rattle.der_core_head.specs.Grammar.{plain_list, plain_option};
-ghost use Rattle.x509_cert_extensions.specs.Certificates.{tbs_subject};
+ghost use Rattle.x509_cert_certificates.specs.Certificates.{tbs_subject};
 ghost use Rattle.x509_cert_extensions.specs.Parts.{extensions_plain, name_plain};
 ghost use Rattle.x509_cert_extensions.specs.GeneralNameViews.{general_name_plain};
 ghost use Rattle.x509_cert_builders.specs.Devices.{IsUnnameable, MayHave, MayNotHave};
@@ -20,10 +20,10 @@ use crate::tpm_version::TpmVersion;
 use crate::uses::signing_usage;
 use der_core::ErrorKind;
 use std::alloc::Global;
-use x509_cert_extensions::SubjectAltName;
-use x509_cert_extensions::certificates::{
+use x509_cert_certificates::{
     Extensions, Name, OctetString, SubjectPublicKeyInfoRef, TbsCertificate,
 };
+use x509_cert_extensions::SubjectAltName;
 use x509_cert_extensions::general_names::{
     GeneralName, GeneralNames, HardwareModuleName, OtherName,
 };

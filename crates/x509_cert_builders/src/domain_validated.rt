@@ -5,7 +5,7 @@ ghost use Rattle.x509_cert_builders.specs.Subscribers.{domains_plain};
 
 use der_core::making::copies_of;
 use std::alloc::{AllocError, Global};
-use x509_cert_extensions::certificates::Name;
+use x509_cert_certificates::Name;
 use x509_cert_extensions::general_names::{GeneralName, GeneralNames};
 
 /// The subject of a subscriber whose domains, and nothing else, were validated (CA/Browser Forum,

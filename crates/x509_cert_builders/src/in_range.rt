@@ -5,12 +5,12 @@
 
 ghost use Rattle.der_core_head.specs.Grammar.{plain_option};
 ghost use Rattle.der_core_head.specs.Ranges.{IsInRange};
-ghost use Rattle.x509_cert_extensions.specs.CertificateViews.{tbs_plain};
+ghost use Rattle.x509_cert_certificates.specs.Views.{tbs_plain};
 ghost use Rattle.x509_cert_extensions.specs.Parts.{extensions_plain, validity, validity_plain};
 ghost use Rattle.x509_cert_builders.specs.SignedParts.{IsPartInRange, extensions_field};
 
 use der_core::InRange;
-use x509_cert_extensions::certificates::{Extensions, TbsCertificate, Validity};
+use x509_cert_certificates::{Extensions, TbsCertificate, Validity};
 
 fn validity_in_range(dates: &Validity)
     ensures { IsInRange validity (validity_plain dates.now) }

@@ -11,7 +11,7 @@ use crate::error::Error;
 use crate::types_before::TypesBefore;
 use const_oid::ObjectIdentifier;
 use std::alloc::Global;
-use x509_cert_extensions::certificates::Name;
+use x509_cert_certificates::Name;
 
 /// Whether a type is among these.
 fn is_among(types: &[ObjectIdentifier<39>], oid: &ObjectIdentifier<39>) -> bool

@@ -11,9 +11,7 @@ use crate::error::Error;
 use crate::naming::ca_certificate_naming;
 use crate::uses::authority_usage;
 use std::alloc::Global;
-use x509_cert_extensions::certificates::{
-    Extensions, Name, SubjectPublicKeyInfoRef, TbsCertificate,
-};
+use x509_cert_certificates::{Extensions, Name, SubjectPublicKeyInfoRef, TbsCertificate};
 
 /// The certificate of an authority that signed it itself (CA/Browser Forum, Baseline Requirements
 /// 7.1.2.1).

@@ -5,8 +5,8 @@ ghost use Rattle.const_oid.specs.Bound.{Bound};
 ghost use Rattle.der_core_head.specs.Grammar.{plain_option};
 ghost use Rattle.der_core_head.specs.Ranges.{IsInRange};
 ghost use Rattle.der_core_head.specs.Shapes.{IsValid, octets_of};
-ghost use Rattle.x509_cert_extensions.specs.Certificates.{tbs_certificate, tbs_inner_algorithm};
-ghost use Rattle.x509_cert_extensions.specs.CertificateViews.{tbs_plain};
+ghost use Rattle.x509_cert_certificates.specs.Certificates.{tbs_certificate, tbs_inner_algorithm};
+ghost use Rattle.x509_cert_certificates.specs.Views.{tbs_plain};
 ghost use Rattle.x509_cert_extensions.specs.Parts.{algorithm_plain, extensions_plain};
 ghost use Rattle.x509_cert_extensions.specs.Parts.{version_number};
 ghost use Rattle.x509_cert_builders.specs.Refusals.{IsUnwritten, IsWantOfMemory};
@@ -17,9 +17,7 @@ ghost use Rattle.x509_cert_builders.specs.SignedParts.{version_of, written_part}
 use crate::error::Error;
 use der_core::to_der;
 use std::alloc::Global;
-use x509_cert_extensions::certificates::{
-    AlgorithmIdentifier, Extensions, TbsCertificate, Version,
-};
+use x509_cert_certificates::{AlgorithmIdentifier, Extensions, TbsCertificate, Version};
 
 /// Makes the part what a profile is handed: of version 3, by this algorithm, and without
 /// extensions. Unique identifiers are never made (RFC 5280 4.1.2.8).

@@ -3,7 +3,7 @@
 use crate::sign_error::SignError;
 use rand_core::CryptoRng;
 use std::alloc::Global;
-use x509_cert_extensions::certificates::{AlgorithmIdentifier, BitString, SubjectPublicKeyInfo};
+use x509_cert_certificates::{AlgorithmIdentifier, BitString, SubjectPublicKeyInfo};
 
 /// A key that signs, wherever it is kept.
 ///

@@ -12,9 +12,7 @@ use crate::builder_profile::BuilderProfile;
 use crate::error::Error;
 use crate::uses::authority_usage;
 use std::alloc::Global;
-use x509_cert_extensions::certificates::{
-    Extensions, Name, SubjectPublicKeyInfoRef, TbsCertificate,
-};
+use x509_cert_certificates::{Extensions, Name, SubjectPublicKeyInfoRef, TbsCertificate};
 
 /// The certificate of an authority whose key signs certificates of servers (CA/Browser Forum,
 /// Baseline Requirements 7.1.2.6).

@@ -12,9 +12,7 @@ use crate::error::Error;
 use crate::identifiers::{elliptic_curve_key, rsa_encryption};
 use crate::tls12_options::Tls12Options;
 use std::alloc::Global;
-use x509_cert_extensions::certificates::{
-    Extensions, FlagSet, Name, SubjectPublicKeyInfoRef, TbsCertificate,
-};
+use x509_cert_certificates::{Extensions, FlagSet, Name, SubjectPublicKeyInfoRef, TbsCertificate};
 use x509_cert_extensions::{KeyUsage, KeyUsages};
 
 /// The certificate of a server (CA/Browser Forum, Baseline Requirements 7.1.2.7). Its domains are

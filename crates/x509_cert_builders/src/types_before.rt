@@ -15,7 +15,7 @@ use const_oid::ObjectIdentifier;
 use std::alloc::{AllocError, Global};
 use std::collections::BTreeSet;
 use std::marker::Model;
-use x509_cert_extensions::certificates::RelativeDistinguishedName;
+use x509_cert_certificates::RelativeDistinguishedName;
 
 /// How many of these types stand before a type; all of them where it is none of them.
 fn rank_among(types: &[ObjectIdentifier<39>], oid: &ObjectIdentifier<39>) -> usize

@@ -5,7 +5,6 @@ mod cert_digest;
 mod certificate;
 mod copies;
 pub mod laws;
-pub mod making;
 mod tbs_certificate;
 
 pub use cert_digest::CertDigest;

@@ -4,8 +4,6 @@ pub mod Markings
 pub mod NamedBits
 pub mod Reasons
 pub use Rattle.x509_cert_policies.specs.Parts
-pub use Rattle.x509_cert_policies.specs.Certificates
-pub use Rattle.x509_cert_policies.specs.CertificateViews
 pub use Rattle.x509_cert_policies.specs.Texts
 pub use Rattle.x509_cert_policies.specs.GeneralNames
 pub use Rattle.x509_cert_policies.specs.GeneralNameViews

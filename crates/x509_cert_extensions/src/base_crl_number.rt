@@ -3,7 +3,7 @@
 ghost use Rattle.std.specs.Prelude.{◌≡◌};
 
 use der_core::describing::{AsField, Described, Ordered, Wraps};
-use x509_cert_policies::certificates::Uint;
+use x509_cert_policies::parts::Uint;
 
 /// The number of the list that a list of changes begins from (RFC 5280 5.2.4).
 ///

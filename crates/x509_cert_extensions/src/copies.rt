@@ -7,21 +7,15 @@ ghost use Rattle.x509_cert_policies.specs.GeneralNameViews.{distribution_point_p
 ghost use Rattle.x509_cert_policies.specs.GeneralNameViews.{general_name_plain};
 ghost use Rattle.x509_cert_policies.specs.Parts.{attribute_plain};
 
-use crate::authority_info_access::AuthorityInfoAccessSyntax;
-use crate::base_crl_number::BaseCrlNumber;
-use crate::crl_distribution_points::CrlDistributionPoints;
-use crate::crl_number::CrlNumber;
-use crate::extended_key_usage::ExtendedKeyUsage;
-use crate::freshest_crl::FreshestCrl;
-use crate::issuer_alt_name::IssuerAltName;
-use crate::subject_alt_name::SubjectAltName;
-use crate::subject_directory_attributes::SubjectDirectoryAttributes;
-use crate::subject_info_access::SubjectInfoAccessSyntax;
-use crate::subject_key_identifier::SubjectKeyIdentifier;
+use crate::{
+    AuthorityInfoAccessSyntax, BaseCrlNumber, CrlDistributionPoints, CrlNumber, ExtendedKeyUsage,
+    FreshestCrl, IssuerAltName, SubjectAltName, SubjectDirectoryAttributes,
+    SubjectInfoAccessSyntax, SubjectKeyIdentifier,
+};
 use der_core::making::copies_of;
 use std::alloc::{AllocError, Global};
-use x509_cert_policies::certificates::Attribute;
 use x509_cert_policies::general_names::{AccessDescription, DistributionPoint, GeneralName};
+use x509_cert_policies::parts::Attribute;
 
 impl AuthorityInfoAccessSyntax {
     /// A copy. Want of memory is the only error.

@@ -2,24 +2,16 @@
 
 ghost use Rattle.x509_cert_extensions.specs.Markings.{is_marked};
 
-use crate::authority_info_access::AuthorityInfoAccessSyntax;
-use crate::base_crl_number::BaseCrlNumber;
-use crate::crl_distribution_points::CrlDistributionPoints;
-use crate::crl_number::CrlNumber;
-use crate::crl_reason::CrlReason;
-use crate::extended_key_usage::ExtendedKeyUsage;
-use crate::freshest_crl::FreshestCrl;
-use crate::issuer_alt_name::IssuerAltName;
-use crate::key_usage::KeyUsage;
-use crate::subject_alt_name::SubjectAltName;
-use crate::subject_directory_attributes::SubjectDirectoryAttributes;
-use crate::subject_info_access::SubjectInfoAccessSyntax;
-use crate::subject_key_identifier::SubjectKeyIdentifier;
+use crate::{
+    AuthorityInfoAccessSyntax, BaseCrlNumber, CrlDistributionPoints, CrlNumber, CrlReason,
+    ExtendedKeyUsage, FreshestCrl, IssuerAltName, KeyUsage, SubjectAltName,
+    SubjectDirectoryAttributes, SubjectInfoAccessSyntax, SubjectKeyIdentifier,
+};
 use const_oid::AssociatedOid;
-use x509_cert_policies::certificates::{Extension, Name};
 use x509_cert_policies::general_names::{
     AuthorityKeyIdentifier, IssuingDistributionPoint, NameConstraints,
 };
+use x509_cert_policies::parts::{Extension, Name};
 use x509_cert_policies::{
     BasicConstraints, CertificatePolicies, InhibitAnyPolicy, PolicyConstraints, PolicyMappings,
     PrivateKeyUsagePeriod,
@@ -42,211 +34,175 @@ pub trait Criticality {
             (extensions_plain extensions.now) };
 }
 
-/// Critical where the subject has no name (RFC 5280 4.2.1.6).
-impl Criticality for SubjectAltName {
-    ghost is_critical = { λ _ subject _.
-        is_marked ⟦<SubjectAltName as AssociatedOid>⟧.oid_arcs subject };
+/// When an extension of one kind is marked as critical.
+#[derive(Clone, Copy)]
+pub enum Marking {
+    /// Always.
+    Always,
+    /// Never.
+    Never,
+    /// Where the subject has no name.
+    WithoutSubject,
+}
+
+/// What is marked by its identifier (RFC 5280 4.2, 5.2, 5.3; RFC 6962 3.3).
+pub trait Marked: AssociatedOid {
+    ghost use Rattle.std.specs.Prelude.{◌≡◌};
+    ghost use Rattle.x509_cert_extensions.specs.Markings.{marking_of};
+
+    /// When it is critical.
+    fn marking() -> Marking
+        ensures { result ≡ marking_of Self.oid_arcs };
+}
+
+impl<T: Marked> Criticality for T {
+    ghost is_critical = { λ _ subject _. is_marked T.oid_arcs subject };
 
     fn criticality(&self, subject: &Name, _extensions: &[Extension]) -> bool {
-        subject.is_empty()
+        match T::marking() {
+            Marking::Always => true,
+            Marking::Never => false,
+            Marking::WithoutSubject => subject.is_empty(),
+        }
     }
 }
 
-impl Criticality for AuthorityInfoAccessSyntax {
-    ghost is_critical = { λ _ subject _.
-        is_marked ⟦<AuthorityInfoAccessSyntax as AssociatedOid>⟧.oid_arcs subject };
-
-    fn criticality(&self, _subject: &Name, _extensions: &[Extension]) -> bool {
-        false
+/// Critical where the subject has no name (RFC 5280 4.2.1.6).
+impl Marked for SubjectAltName {
+    fn marking() -> Marking {
+        Marking::WithoutSubject
     }
 }
 
-impl Criticality for AuthorityKeyIdentifier {
-    ghost is_critical = { λ _ subject _.
-        is_marked ⟦<AuthorityKeyIdentifier as AssociatedOid>⟧.oid_arcs subject };
-
-    fn criticality(&self, _subject: &Name, _extensions: &[Extension]) -> bool {
-        false
+impl Marked for AuthorityInfoAccessSyntax {
+    fn marking() -> Marking {
+        Marking::Never
     }
 }
 
-impl Criticality for BaseCrlNumber {
-    ghost is_critical = { λ _ subject _.
-        is_marked ⟦<BaseCrlNumber as AssociatedOid>⟧.oid_arcs subject };
-
-    fn criticality(&self, _subject: &Name, _extensions: &[Extension]) -> bool {
-        true
+impl Marked for AuthorityKeyIdentifier {
+    fn marking() -> Marking {
+        Marking::Never
     }
 }
 
-impl Criticality for BasicConstraints {
-    ghost is_critical = { λ _ subject _.
-        is_marked ⟦<BasicConstraints as AssociatedOid>⟧.oid_arcs subject };
-
-    fn criticality(&self, _subject: &Name, _extensions: &[Extension]) -> bool {
-        true
+impl Marked for BaseCrlNumber {
+    fn marking() -> Marking {
+        Marking::Always
     }
 }
 
-impl Criticality for CertificatePolicies {
-    ghost is_critical = { λ _ subject _.
-        is_marked ⟦<CertificatePolicies as AssociatedOid>⟧.oid_arcs subject };
-
-    fn criticality(&self, _subject: &Name, _extensions: &[Extension]) -> bool {
-        false
+impl Marked for BasicConstraints {
+    fn marking() -> Marking {
+        Marking::Always
     }
 }
 
-impl Criticality for CrlDistributionPoints {
-    ghost is_critical = { λ _ subject _.
-        is_marked ⟦<CrlDistributionPoints as AssociatedOid>⟧.oid_arcs subject };
-
-    fn criticality(&self, _subject: &Name, _extensions: &[Extension]) -> bool {
-        false
+impl Marked for CertificatePolicies {
+    fn marking() -> Marking {
+        Marking::Never
     }
 }
 
-impl Criticality for CrlNumber {
-    ghost is_critical = { λ _ subject _.
-        is_marked ⟦<CrlNumber as AssociatedOid>⟧.oid_arcs subject };
-
-    fn criticality(&self, _subject: &Name, _extensions: &[Extension]) -> bool {
-        false
+impl Marked for CrlDistributionPoints {
+    fn marking() -> Marking {
+        Marking::Never
     }
 }
 
-impl Criticality for ExtendedKeyUsage {
-    ghost is_critical = { λ _ subject _.
-        is_marked ⟦<ExtendedKeyUsage as AssociatedOid>⟧.oid_arcs subject };
-
-    fn criticality(&self, _subject: &Name, _extensions: &[Extension]) -> bool {
-        false
+impl Marked for CrlNumber {
+    fn marking() -> Marking {
+        Marking::Never
     }
 }
 
-impl Criticality for FreshestCrl {
-    ghost is_critical = { λ _ subject _.
-        is_marked ⟦<FreshestCrl as AssociatedOid>⟧.oid_arcs subject };
-
-    fn criticality(&self, _subject: &Name, _extensions: &[Extension]) -> bool {
-        false
+impl Marked for ExtendedKeyUsage {
+    fn marking() -> Marking {
+        Marking::Never
     }
 }
 
-impl Criticality for InhibitAnyPolicy {
-    ghost is_critical = { λ _ subject _.
-        is_marked ⟦<InhibitAnyPolicy as AssociatedOid>⟧.oid_arcs subject };
-
-    fn criticality(&self, _subject: &Name, _extensions: &[Extension]) -> bool {
-        true
+impl Marked for FreshestCrl {
+    fn marking() -> Marking {
+        Marking::Never
     }
 }
 
-impl Criticality for IssuerAltName {
-    ghost is_critical = { λ _ subject _.
-        is_marked ⟦<IssuerAltName as AssociatedOid>⟧.oid_arcs subject };
-
-    fn criticality(&self, _subject: &Name, _extensions: &[Extension]) -> bool {
-        false
+impl Marked for InhibitAnyPolicy {
+    fn marking() -> Marking {
+        Marking::Always
     }
 }
 
-impl Criticality for IssuingDistributionPoint {
-    ghost is_critical = { λ _ subject _.
-        is_marked ⟦<IssuingDistributionPoint as AssociatedOid>⟧.oid_arcs subject };
-
-    fn criticality(&self, _subject: &Name, _extensions: &[Extension]) -> bool {
-        true
+impl Marked for IssuerAltName {
+    fn marking() -> Marking {
+        Marking::Never
     }
 }
 
-impl Criticality for KeyUsage {
-    ghost is_critical = { λ _ subject _.
-        is_marked ⟦<KeyUsage as AssociatedOid>⟧.oid_arcs subject };
-
-    fn criticality(&self, _subject: &Name, _extensions: &[Extension]) -> bool {
-        true
+impl Marked for IssuingDistributionPoint {
+    fn marking() -> Marking {
+        Marking::Always
     }
 }
 
-impl Criticality for NameConstraints {
-    ghost is_critical = { λ _ subject _.
-        is_marked ⟦<NameConstraints as AssociatedOid>⟧.oid_arcs subject };
-
-    fn criticality(&self, _subject: &Name, _extensions: &[Extension]) -> bool {
-        true
+impl Marked for KeyUsage {
+    fn marking() -> Marking {
+        Marking::Always
     }
 }
 
-impl Criticality for PolicyConstraints {
-    ghost is_critical = { λ _ subject _.
-        is_marked ⟦<PolicyConstraints as AssociatedOid>⟧.oid_arcs subject };
-
-    fn criticality(&self, _subject: &Name, _extensions: &[Extension]) -> bool {
-        true
+impl Marked for NameConstraints {
+    fn marking() -> Marking {
+        Marking::Always
     }
 }
 
-impl Criticality for PolicyMappings {
-    ghost is_critical = { λ _ subject _.
-        is_marked ⟦<PolicyMappings as AssociatedOid>⟧.oid_arcs subject };
-
-    fn criticality(&self, _subject: &Name, _extensions: &[Extension]) -> bool {
-        true
+impl Marked for PolicyConstraints {
+    fn marking() -> Marking {
+        Marking::Always
     }
 }
 
-impl Criticality for PrivateKeyUsagePeriod {
-    ghost is_critical = { λ _ subject _.
-        is_marked ⟦<PrivateKeyUsagePeriod as AssociatedOid>⟧.oid_arcs subject };
-
-    fn criticality(&self, _subject: &Name, _extensions: &[Extension]) -> bool {
-        false
+impl Marked for PolicyMappings {
+    fn marking() -> Marking {
+        Marking::Always
     }
 }
 
-impl Criticality for SubjectInfoAccessSyntax {
-    ghost is_critical = { λ _ subject _.
-        is_marked ⟦<SubjectInfoAccessSyntax as AssociatedOid>⟧.oid_arcs subject };
-
-    fn criticality(&self, _subject: &Name, _extensions: &[Extension]) -> bool {
-        false
+impl Marked for PrivateKeyUsagePeriod {
+    fn marking() -> Marking {
+        Marking::Never
     }
 }
 
-impl Criticality for SubjectKeyIdentifier {
-    ghost is_critical = { λ _ subject _.
-        is_marked ⟦<SubjectKeyIdentifier as AssociatedOid>⟧.oid_arcs subject };
-
-    fn criticality(&self, _subject: &Name, _extensions: &[Extension]) -> bool {
-        false
+impl Marked for SubjectInfoAccessSyntax {
+    fn marking() -> Marking {
+        Marking::Never
     }
 }
 
-impl Criticality for CrlReason {
-    ghost is_critical = { λ _ subject _.
-        is_marked ⟦<CrlReason as AssociatedOid>⟧.oid_arcs subject };
+impl Marked for SubjectKeyIdentifier {
+    fn marking() -> Marking {
+        Marking::Never
+    }
+}
 
-    fn criticality(&self, _subject: &Name, _extensions: &[Extension]) -> bool {
-        false
+impl Marked for CrlReason {
+    fn marking() -> Marking {
+        Marking::Never
     }
 }
 
 /// A non-critical extension (RFC 6962 3.3).
-impl Criticality for SignedCertificateTimestampList {
-    ghost is_critical = { λ _ subject _.
-        is_marked ⟦<SignedCertificateTimestampList as AssociatedOid>⟧.oid_arcs subject };
-
-    fn criticality(&self, _subject: &Name, _extensions: &[Extension]) -> bool {
-        false
+impl Marked for SignedCertificateTimestampList {
+    fn marking() -> Marking {
+        Marking::Never
     }
 }
 
-impl Criticality for SubjectDirectoryAttributes {
-    ghost is_critical = { λ _ subject _.
-        is_marked ⟦<SubjectDirectoryAttributes as AssociatedOid>⟧.oid_arcs subject };
-
-    fn criticality(&self, _subject: &Name, _extensions: &[Extension]) -> bool {
-        false
+impl Marked for SubjectDirectoryAttributes {
+    fn marking() -> Marking {
+        Marking::Never
     }
 }

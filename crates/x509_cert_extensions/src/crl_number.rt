@@ -8,7 +8,7 @@ use der_core::describing::{AsField, Described, Ordered, Wraps};
 use der_core::making::integer_octets_of;
 use der_core::{Error, Leaf, Tag};
 use std::alloc::Global;
-use x509_cert_policies::certificates::Uint;
+use x509_cert_policies::parts::Uint;
 
 /// The number of a list of revoked certificates (RFC 5280 5.2.3).
 ///

@@ -2,19 +2,11 @@
 
 ghost use Rattle.std.specs.Prelude.{◌∷◌, []};
 
-use crate::authority_info_access::AuthorityInfoAccessSyntax;
-use crate::base_crl_number::BaseCrlNumber;
-use crate::crl_distribution_points::CrlDistributionPoints;
-use crate::crl_number::CrlNumber;
-use crate::crl_reason::CrlReason;
-use crate::extended_key_usage::ExtendedKeyUsage;
-use crate::freshest_crl::FreshestCrl;
-use crate::issuer_alt_name::IssuerAltName;
-use crate::key_usage::KeyUsage;
-use crate::subject_alt_name::SubjectAltName;
-use crate::subject_directory_attributes::SubjectDirectoryAttributes;
-use crate::subject_info_access::SubjectInfoAccessSyntax;
-use crate::subject_key_identifier::SubjectKeyIdentifier;
+use crate::{
+    AuthorityInfoAccessSyntax, BaseCrlNumber, CrlDistributionPoints, CrlNumber, CrlReason,
+    ExtendedKeyUsage, FreshestCrl, IssuerAltName, KeyUsage, SubjectAltName,
+    SubjectDirectoryAttributes, SubjectInfoAccessSyntax, SubjectKeyIdentifier,
+};
 use const_oid::{AssociatedOid, ObjectIdentifier};
 
 impl AssociatedOid for AuthorityInfoAccessSyntax {

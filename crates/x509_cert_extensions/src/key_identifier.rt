@@ -8,8 +8,8 @@ use crate::subject_key_identifier::SubjectKeyIdentifier;
 use der_core::{Error, Fields};
 use sha1::Sha1;
 use std::alloc::Global;
-use x509_cert_policies::certificates::{OctetString, SubjectPublicKeyInfoRef};
 use x509_cert_policies::general_names::AuthorityKeyIdentifier;
+use x509_cert_policies::parts::{OctetString, SubjectPublicKeyInfoRef};
 
 /// What identifies a key by its digest (RFC 5280 4.2.1.2, method 1).
 pub trait TryFromKey: Sized {

@@ -6,7 +6,7 @@ ghost use Rattle.x509_cert_extensions.specs.NamedBits.{has_bit};
 
 use bitflags::{Flag, Flags, bitflag_items};
 use der_core::describing::{AsField, Described, Ordered, Wraps};
-use x509_cert_policies::certificates::{FlagSet, NamedBits};
+use x509_cert_policies::parts::{FlagSet, NamedBits};
 
 /// What a key is for, the first use the lowest bit (RFC 5280 4.2.1.3).
 #[derive(Clone, Copy, Debug, PartialEq, Eq)]

@@ -38,4 +38,4 @@ pub use subject_info_access::SubjectInfoAccessSyntax;
 pub use subject_key_identifier::SubjectKeyIdentifier;
 pub use to_extension::ToExtension;
 pub use x509_cert_policies as policies;
-pub use x509_cert_policies::{certificates, general_names};
+pub use x509_cert_policies::{general_names, parts};

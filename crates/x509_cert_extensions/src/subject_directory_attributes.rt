@@ -5,7 +5,7 @@ ghost use Rattle.x509_cert_policies.specs.Parts.{attribute};
 
 use der_core::describing::{AsField, Described, Ordered, Wraps};
 use std::alloc::Global;
-use x509_cert_policies::certificates::Attribute;
+use x509_cert_policies::parts::Attribute;
 
 /// Attributes of a subject (RFC 5280 4.2.1.8).
 ///

@@ -4,7 +4,7 @@ ghost use Rattle.std.specs.Prelude.{◌≡◌};
 ghost use Rattle.der_core_head.specs.declared.tag.Tag.TheVariants.{OctetString};
 
 use der_core::describing::{AsField, Described, Ordered, Wraps};
-use x509_cert_policies::certificates::OctetString;
+use x509_cert_policies::parts::OctetString;
 
 /// The identifier of a subject's key (RFC 5280 4.2.1.2).
 ///

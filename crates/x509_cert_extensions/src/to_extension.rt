@@ -8,7 +8,7 @@ use crate::criticality::Criticality;
 use const_oid::{AssociatedOid, ObjectIdentifier};
 use der_core::{Encode, Error, to_der};
 use std::alloc::Global;
-use x509_cert_policies::certificates::{Extension, Name, OctetString};
+use x509_cert_policies::parts::{Extension, Name, OctetString};
 
 /// What is made into an extension of a certificate or of a list (RFC 5280 4.2).
 pub trait ToExtension {

@@ -1,4 +1,3 @@
-pub use Rattle.x509_cert_certificates.proofs.Names.Rows
-pub mod Passed
-pub use Rattle.x509_cert_certificates.proofs.Names
-pub use Rattle.x509_cert_certificates.proofs.Texts
+pub use Rattle.x509_cert_parts.proofs.Names.Rows
+pub use Rattle.x509_cert_parts.proofs.Names
+pub use Rattle.x509_cert_parts.proofs.Texts

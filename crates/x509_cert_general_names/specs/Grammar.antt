@@ -9,8 +9,8 @@ use Rattle.der_core_head.specs.Shapes.{field, done, many, rising, nested, sequen
 use Rattle.der_core_head.specs.Shapes.{explicit}
 use Rattle.der_core_head.specs.Tags.{context}
 use Rattle.der_core_head.specs.Texts.{ascii}
-use Rattle.x509_cert_certificates.specs.Parts.{name, type_and_value, directory_string}
-use Rattle.x509_cert_certificates.specs.Parts.{object_identifier, octet_string}
+use Rattle.x509_cert_parts.specs.Parts.{name, type_and_value, directory_string}
+use Rattle.x509_cert_parts.specs.Parts.{object_identifier, octet_string}
 
 -- An implicit tag on a leaf, and on a SEQUENCE or SET (X.690 8.14.3).
 abbrev pub behind : ℕ → Leaf → Shape

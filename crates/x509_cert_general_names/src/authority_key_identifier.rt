@@ -10,7 +10,7 @@ use der_core::describing::{AsRecord, DecodeRow, Described, FieldsView, RowUser, 
 use der_core::making::{implicit_of, implicit_ref};
 use der_core::{DecodeFields, Error, Reader, lend, row};
 use std::alloc::Global;
-use x509_cert_certificates::{OctetString, SerialNumber};
+use x509_cert_parts::{OctetString, SerialNumber};
 
 /// The key under which a certificate or a list is signed (RFC 5280 4.2.1.1).
 ///

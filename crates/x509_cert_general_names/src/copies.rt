@@ -24,7 +24,7 @@ use crate::name_constraints::NameConstraints;
 use crate::other_name::OtherName;
 use der_core::making::{copies_of, copies_of_option, copy_of_option};
 use std::alloc::{AllocError, Global};
-use x509_cert_certificates::{DirectoryString, OctetString, SerialNumber};
+use x509_cert_parts::{DirectoryString, OctetString, SerialNumber};
 
 impl OtherName {
     /// A copy. Want of memory is the only error.

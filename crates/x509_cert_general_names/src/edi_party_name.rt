@@ -8,7 +8,7 @@ use der_core::describing::{AsRecord, DecodeRow, Described, FieldsView, RowUser, 
 use der_core::making::{explicit_of, explicit_ref};
 use der_core::{DecodeFields, EncodeRef, Error, Explicit, Reader, lend, row};
 use std::alloc::Global;
-use x509_cert_certificates::DirectoryString;
+use x509_cert_parts::DirectoryString;
 
 /// The name of a party of electronic data interchange (RFC 5280 4.2.1.6).
 ///

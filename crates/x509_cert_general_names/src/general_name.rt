@@ -19,7 +19,7 @@ use der_core::{
 use std::alloc::{AllocError, Global};
 use std::cmp::Ordering;
 use std::net::IpAddr;
-use x509_cert_certificates::{Ia5String, Name, OctetString};
+use x509_cert_parts::{Ia5String, Name, OctetString};
 
 /// A name of one of the kinds that a certificate can give (RFC 5280 4.2.1.6). An address of X.400
 /// isn't read.

@@ -14,7 +14,7 @@ use const_oid::{AssociatedOid, ObjectIdentifier};
 use der_core::describing::{AsRecord, DecodeRow, Described, FieldsView, RowUser, Rows};
 use der_core::{DecodeFields, Error, Reader, lend, row};
 use std::alloc::Global;
-use x509_cert_certificates::OctetString;
+use x509_cert_parts::OctetString;
 
 /// The name of a module of hardware (RFC 4108 5). It is held as `OtherName`.
 ///

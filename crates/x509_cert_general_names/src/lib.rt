@@ -30,4 +30,4 @@ pub use issuing_distribution_point::IssuingDistributionPoint;
 pub use name_constraints::NameConstraints;
 pub use other_name::OtherName;
 pub use reason_flags::{ReasonFlags, Reasons};
-pub use x509_cert_certificates as certificates;
+pub use x509_cert_parts as parts;

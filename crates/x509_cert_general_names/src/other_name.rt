@@ -12,7 +12,7 @@ use const_oid::{AssociatedOid, ObjectIdentifier};
 use der_core::describing::{AsRecord, DecodeRow, Described, FieldsView, RowUser, Rows};
 use der_core::{DecodeFields, EncodeRef, Error, Explicit, Reader, lend, row};
 use std::alloc::Global;
-use x509_cert_certificates::Any;
+use x509_cert_parts::Any;
 
 /// A name of a kind that an identifier tells (RFC 5280 4.2.1.6).
 ///

@@ -4,7 +4,7 @@ ghost use Rattle.std.specs.Prelude.{⊤, [], ◌∷◌, codes, refl};
 ghost use Rattle.bitflags.specs.Sets.{known_from};
 
 use bitflags::{Flag, Flags, bitflag_items};
-use x509_cert_certificates::{FlagSet, NamedBits};
+use x509_cert_parts::{FlagSet, NamedBits};
 
 /// Why certificates are revoked, the first bit the lowest (RFC 5280 4.2.1.13).
 #[derive(Clone, Copy, Debug, PartialEq, Eq)]

@@ -10,7 +10,7 @@ use Rattle.der_core_head.specs.Octets.{◌>>=◌}
 use Rattle.der_core_head.specs.Shapes.{Shape, BodyValue, IsValid, tagged, leaf, optional}
 use Rattle.der_core_head.specs.Shapes.{sequence, sequence_of, explicit}
 use Rattle.sha1.specs.Sha1.{sha1}
-use Rattle.x509_cert_builders.specs.Certificates.{Tbs, tbs_public_key}
+use Rattle.x509_cert_builders.specs.Certificates.{Tbs, tbs_public_key, tbs_extensions}
 use Rattle.x509_cert_lists.specs.Grammar.{revoked_cert_fields, tbs_cert_list_fields}
 use Rattle.x509_cert_builders.specs.Parts.{PlainExtension, PublicKey, key_bits, only_value}
 use Rattle.x509_cert_builders.specs.Parts.{extensions, listed}
@@ -60,7 +60,7 @@ given_or_made k (Some found) = found.1
 -- one whose content isn't an encoding.
 abbrev pub issuing_key : Tbs → Result PlainAuthority ErrorKind
 issuing_key t =
-    only_value authority_key authority_key_arcs (listed t.1.1.1.1.1.1.1.1.1.0)
+    only_value authority_key authority_key_arcs (listed (tbs_extensions t))
     >>= λ (found : Option (Bool × PlainAuthority)). Ok (given_or_made (tbs_public_key t) found)
 
 -- CRLNumber ::= INTEGER (0..MAX) (5.2.3)

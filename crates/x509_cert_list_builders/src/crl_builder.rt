@@ -28,7 +28,7 @@ use der_core::ErrorKind;
 use der_core::making::{copies_of, copies_of_option};
 use std::alloc::Global;
 use std::marker::Model;
-use x509_cert_builders::types::certificates::{
+use x509_cert_builders::certificates::{
     AlgorithmIdentifier, AlgorithmIdentifierRef, BitString, Certificate, Extension, Extensions,
     Name, Profile, Rfc5280, SubjectPublicKeyInfo, SubjectPublicKeyInfoRef, TbsCertificate, Time,
     Version,

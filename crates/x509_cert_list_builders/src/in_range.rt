@@ -13,7 +13,7 @@ ghost use Rattle.x509_cert_list_builders.specs.Lists.{entries_field, extensions_
 ghost use Rattle.x509_cert_list_builders.specs.Lists.{raw_entry};
 
 use der_core::InRange;
-use x509_cert_builders::types::certificates::{Extensions, Profile};
+use x509_cert_builders::certificates::{Extensions, Profile};
 use x509_cert_lists::{RevokedCert, TbsCertList};
 
 fn entry_in_range<P: Profile>(entry: &RevokedCert<P>)

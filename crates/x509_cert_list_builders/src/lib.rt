@@ -18,5 +18,5 @@ pub use x509_cert_builders::{
 };
 
 // What they make, and of what.
-pub use x509_cert_builders::types;
+pub use x509_cert_builders::{certificates, types};
 pub use x509_cert_lists as lists;

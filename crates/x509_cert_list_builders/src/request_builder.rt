@@ -23,10 +23,10 @@ use der_core::making::{copies_of, place_of};
 use der_core::{ErrorKind, InRange, StrictSetOf, to_der};
 use std::alloc::Global;
 use std::marker::Model;
-use x509_cert_builders::types::ToExtension;
-use x509_cert_builders::types::certificates::{
+use x509_cert_builders::certificates::{
     Attribute, BitString, Extension, Extensions, Name, SubjectPublicKeyInfo,
 };
+use x509_cert_builders::types::ToExtension;
 use x509_cert_builders::{Builder, Error, Signer};
 use x509_cert_lists::request::Version;
 use x509_cert_lists::{AsAttribute, CertReq, CertReqInfo, ExtensionReq, TryFromExtensionReq};

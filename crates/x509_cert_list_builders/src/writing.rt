@@ -10,7 +10,7 @@ use crate::in_range::list_in_range;
 use der_core::{Encode, InRange, to_der};
 use std::alloc::Global;
 use x509_cert_builders::Error;
-use x509_cert_builders::types::certificates::Profile;
+use x509_cert_builders::certificates::Profile;
 use x509_cert_lists::TbsCertList;
 
 /// The octets of a value.

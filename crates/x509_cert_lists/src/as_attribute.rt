@@ -3,12 +3,12 @@
 use const_oid::AssociatedOid;
 use der_core::{Encode, Error, StrictSetOf};
 use std::alloc::Global;
-use x509_cert_general_names::certificates::{Any, Attribute};
+use x509_cert_parts::{Any, Attribute};
 
 /// What an attribute of a certification request holds as its one value (RFC 2986 4.1).
 pub trait AsAttribute: AssociatedOid + Encode {
     ghost use Rattle.der_core_head.specs.Reading.{Gives};
-    ghost use Rattle.x509_cert_general_names.specs.Parts.{attribute_plain};
+    ghost use Rattle.x509_cert_parts.specs.Parts.{attribute_plain};
     ghost use Rattle.x509_cert_lists.specs.Attributes.{any_of, attribute_of};
 
     /// The tag and the content of the value.

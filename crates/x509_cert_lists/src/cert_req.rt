@@ -13,7 +13,7 @@ use crate::cert_req_info::CertReqInfo;
 use der_core::describing::{AsRecord, DecodeRow, Described, FieldsView, RowUser, Rows};
 use der_core::{DecodeFields, Error, Reader, from_der, lend, row};
 use std::alloc::Global;
-use x509_cert_general_names::certificates::{AlgorithmIdentifier, BitString};
+use x509_cert_parts::{AlgorithmIdentifier, BitString};
 
 /// A request for a certificate (RFC 2986 4.2).
 ///

@@ -11,7 +11,7 @@ use der_core::{
     DecodeFields, EncodeRef, Error, Implicit, ImplicitRef, InRange, InRangeValue, Reader, lend, row,
 };
 use std::alloc::Global;
-use x509_cert_general_names::certificates::{Attributes, Name, SubjectPublicKeyInfo};
+use x509_cert_parts::{Attributes, Name, SubjectPublicKeyInfo};
 
 /// The part of a certification request that is signed (RFC 2986 4.1). No attribute stands twice.
 ///

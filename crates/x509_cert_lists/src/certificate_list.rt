@@ -9,7 +9,7 @@ use crate::tbs_cert_list::TbsCertList;
 use der_core::describing::{AsRecord, DecodeRow, Described, FieldsView, RowUser, Rows};
 use der_core::{DecodeFields, Error, Reader, lend, row};
 use std::alloc::Global;
-use x509_cert_general_names::certificates::{AlgorithmIdentifier, BitString, Profile, Rfc5280};
+use x509_cert_parts::{AlgorithmIdentifier, BitString, Profile, Rfc5280};
 
 /// A list of revoked certificates (RFC 5280 5.1).
 ///

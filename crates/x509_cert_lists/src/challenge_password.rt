@@ -6,7 +6,7 @@ use crate::as_attribute::AsAttribute;
 use const_oid::{AssociatedOid, ObjectIdentifier};
 use der_core::{Encode, Error, Length, Shaped, Writer};
 use std::alloc::Global;
-use x509_cert_general_names::certificates::{Any, DirectoryString};
+use x509_cert_parts::{Any, DirectoryString};
 
 /// A password by which an entity may ask for its certificate to be revoked, as the value of an
 /// attribute of a certification

@@ -2,7 +2,7 @@
 //! copied last, so that little is dropped where memory ends.
 
 ghost use Rattle.std.specs.Prelude.{◌≡◌, IfOk};
-ghost use Rattle.x509_cert_general_names.specs.Parts.{extensions_plain};
+ghost use Rattle.x509_cert_parts.specs.Parts.{extensions_plain};
 ghost use Rattle.x509_cert_lists.specs.Views.{cert_req_info_plain, cert_req_plain};
 ghost use Rattle.x509_cert_lists.specs.Views.{certificate_list_plain, revoked_cert_plain};
 ghost use Rattle.x509_cert_lists.specs.Views.{tbs_cert_list_plain};
@@ -16,7 +16,7 @@ use crate::tbs_cert_list::TbsCertList;
 use der_core::StrictSetOf;
 use der_core::making::{copies_of, copies_of_option};
 use std::alloc::{AllocError, Global};
-use x509_cert_general_names::certificates::{Attribute, Extension, Profile};
+use x509_cert_parts::{Attribute, Extension, Profile};
 
 impl<P> RevokedCert<P> {
     /// A copy. Want of memory is the only error.

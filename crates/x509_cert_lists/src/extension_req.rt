@@ -3,7 +3,7 @@
 ghost use Rattle.std.specs.Prelude.{◌≡◌, [], ◌∷◌};
 ghost use Rattle.const_oid.specs.Bound.{Bound};
 ghost use Rattle.der_core_head.specs.Reading.{Gives};
-ghost use Rattle.x509_cert_general_names.specs.Parts.{attribute_plain, extensions_plain};
+ghost use Rattle.x509_cert_parts.specs.Parts.{attribute_plain, extensions_plain};
 ghost use Rattle.x509_cert_lists.specs.Grammar.{extension_req_arcs};
 ghost use Rattle.x509_cert_lists.specs.Grammar.{extension_req_attribute};
 
@@ -11,7 +11,7 @@ use const_oid::{AssociatedOid, ObjectIdentifier};
 use der_core::describing::{AsField, Described, Ordered, Wraps};
 use der_core::{Error, StrictSetOf};
 use std::alloc::Global;
-use x509_cert_general_names::certificates::{Any, Attribute, Extension};
+use x509_cert_parts::{Any, Attribute, Extension};
 
 /// The extensions that a certification request asks for, as the value of an attribute (RFC 2985
 /// 5.4.2). There may be none.
@@ -85,8 +85,8 @@ impl AsRef<Vec<Extension>> for ExtensionReq {
 
 impl AsMut<Vec<Extension>> for ExtensionReq {
     ghost use Rattle.std.specs.Borrow.{sem, Lends};
-    ghost use Rattle.x509_cert_general_names.specs.Names.Rows.{list_row};
-    ghost use Rattle.x509_cert_general_names.specs.PartTypes.contracts.extension.Extension.{the_row as member_row};
+    ghost use Rattle.x509_cert_parts.specs.Names.Rows.{list_row};
+    ghost use Rattle.x509_cert_parts.specs.contracts.extension.Extension.{the_row as member_row};
     ghost use Rattle.x509_cert_lists.specs.contracts.extension_req.ExtensionReq.{the_row};
 
     fn as_mut(&mut self) -> &mut Vec<Extension>

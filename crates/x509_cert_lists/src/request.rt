@@ -6,7 +6,7 @@ ghost use Rattle.x509_cert_lists.specs.Views.{request_number};
 
 use der_core::describing::{AsInteger, Described, Ordered};
 use der_core::{Error, Integer, Tag};
-use x509_cert_general_names::making::number_among;
+use x509_cert_parts::making::number_among;
 
 /// The version of a certification request (RFC 2986 4.1).
 ///

@@ -8,7 +8,7 @@ ghost use Rattle.x509_cert_lists.specs.Views.{revoked_cert_plain};
 use der_core::describing::{AsRecord, DecodeRow, Described, FieldsView, RowUser, Rows};
 use der_core::{DecodeFields, Error, Reader, lend, row};
 use std::alloc::Global;
-use x509_cert_general_names::certificates::{Extensions, Profile, Rfc5280, SerialNumber, Time};
+use x509_cert_parts::{Extensions, Profile, Rfc5280, SerialNumber, Time};
 
 /// A certificate that was revoked (RFC 5280 5.1.2.6). A list of no extensions is read.
 ///

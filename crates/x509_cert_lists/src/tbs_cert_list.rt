@@ -10,9 +10,7 @@ use der_core::describing::{AsRecord, DecodeRow, Described, FieldsView, RowUser, 
 use der_core::making::{explicit_of, explicit_ref};
 use der_core::{DecodeFields, EncodeRef, Error, Reader, lend, row};
 use std::alloc::Global;
-use x509_cert_general_names::certificates::{
-    AlgorithmIdentifier, Extensions, Name, Profile, Rfc5280, Time, Version,
-};
+use x509_cert_parts::{AlgorithmIdentifier, Extensions, Name, Profile, Rfc5280, Time, Version};
 
 /// The part of a revocation list that is signed (RFC 5280 5.1.2). Any version is read beside any
 /// fields, an empty list of

@@ -6,5 +6,6 @@ pub mod Texts
 pub mod Times
 pub mod Views
 pub mod NameParts
+pub mod Parts
 pub mod ExtensionSearch
 pub use Rattle.x509_cert_names.specs as Names

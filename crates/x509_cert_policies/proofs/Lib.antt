@@ -1,2 +1,1 @@
-pub use Rattle.x509_cert_general_names.proofs.Passed
 pub use Rattle.x509_cert_general_names.proofs.Names

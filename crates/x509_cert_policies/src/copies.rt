@@ -16,7 +16,7 @@ use crate::policy_qualifier_info::PolicyQualifierInfo;
 use crate::user_notice::UserNotice;
 use der_core::making::{copies_of, copies_of_option, copy_of_option};
 use std::alloc::{AllocError, Global};
-use x509_cert_general_names::certificates::{Any, Uint};
+use x509_cert_general_names::parts::{Any, Uint};
 
 impl PolicyQualifierInfo {
     /// A copy. Want of memory is the only error.

@@ -4,7 +4,7 @@ ghost use Rattle.std.specs.Prelude.{◌≡◌};
 ghost use Rattle.der_core_head.specs.declared.tag.Tag.TheVariants.{Ia5String};
 
 use der_core::describing::{AsField, Described, Ordered, Wraps};
-use x509_cert_general_names::certificates::Ia5String;
+use x509_cert_general_names::parts::Ia5String;
 
 /// Where the practice statement of an authority is had (RFC 5280 4.2.1.4).
 ///

@@ -10,7 +10,7 @@ use der_core::{
 };
 use std::alloc::Global;
 use std::cmp::Ordering;
-use x509_cert_general_names::certificates::Ia5String;
+use x509_cert_general_names::parts::Ia5String;
 
 /// A text that is shown (RFC 5280 4.2.1.4). VisibleString and BMPString aren't read.
 ///

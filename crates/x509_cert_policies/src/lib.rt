@@ -31,4 +31,4 @@ pub use policy_qualifier_info::PolicyQualifierInfo;
 pub use private_key_usage_period::PrivateKeyUsagePeriod;
 pub use user_notice::UserNotice;
 pub use x509_cert_general_names as general_names;
-pub use x509_cert_general_names::certificates;
+pub use x509_cert_general_names::parts;

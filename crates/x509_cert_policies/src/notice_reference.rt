@@ -8,7 +8,7 @@ use crate::display_text::DisplayText;
 use der_core::describing::{AsRecord, DecodeRow, Described, FieldsView, RowUser, Rows};
 use der_core::{DecodeFields, Error, Reader, lend, row};
 use std::alloc::Global;
-use x509_cert_general_names::certificates::Uint;
+use x509_cert_general_names::parts::Uint;
 
 /// Where the text of a notice is found (RFC 5280 4.2.1.4).
 ///

@@ -9,7 +9,7 @@ use const_oid::ObjectIdentifier;
 use der_core::describing::{AsRecord, DecodeRow, Described, FieldsView, RowUser, Rows};
 use der_core::{DecodeFields, Error, Reader, lend, row};
 use std::alloc::Global;
-use x509_cert_general_names::certificates::Any;
+use x509_cert_general_names::parts::Any;
 
 /// A qualifier of a policy (RFC 5280 4.2.1.4).
 ///

@@ -8,7 +8,7 @@ use der_core::describing::{AsRecord, DecodeRow, Described, FieldsView, RowUser, 
 use der_core::making::{implicit_of, implicit_ref};
 use der_core::{DecodeFields, Error, Reader, lend, row};
 use std::alloc::Global;
-use x509_cert_general_names::certificates::GeneralizedTime;
+use x509_cert_general_names::parts::GeneralizedTime;
 
 /// From when until when a private key is used (RFC 3280 4.2.1.4).
 ///

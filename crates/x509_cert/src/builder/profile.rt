@@ -16,5 +16,10 @@ pub mod cabf {
 
 /// Certificates of devices (IEEE 802.1AR).
 pub mod devid {
-    pub use x509_cert_list_builders::{DevId, TpmVersion, tcg_sv_tpm_12, tcg_sv_tpm_20};
+    pub use x509_cert_list_builders::{DevId, TpmVersion};
+
+    /// Identifiers of modules of the Trusted Computing Group.
+    pub mod tcgtpm {
+        pub use x509_cert_list_builders::{tcg_sv_tpm_12, tcg_sv_tpm_20};
+    }
 }

@@ -1,13 +1,16 @@
 //! The contents of extensions (RFC 5280 4.2.1, 4.2.2, 5.2, 5.3).
 
 pub use x509_cert_list_builders::types::general_names::{
-    AccessDescription, AuthorityKeyIdentifier, NameConstraints,
+    AccessDescription, AuthorityKeyIdentifier, IssuingDistributionPoint, NameConstraints,
 };
 pub use x509_cert_list_builders::types::policies::{
     BasicConstraints, CertificatePolicies, InhibitAnyPolicy, PolicyConstraints, PolicyMapping,
     PolicyMappings, PrivateKeyUsagePeriod,
 };
-pub use x509_cert_list_builders::types::timestamps::SignedCertificateTimestampList;
+pub use x509_cert_list_builders::types::timestamps::{
+    Error, HashAlgorithm, SerializedSct, SignatureAlgorithm, SignatureAndHashAlgorithm,
+    SignedCertificateTimestamp, SignedCertificateTimestampList, Version,
+};
 pub use x509_cert_list_builders::types::{
     AuthorityInfoAccessSyntax, BaseCrlNumber, CrlDistributionPoints, CrlNumber, CrlReason,
     ExtendedKeyUsage, FreshestCrl, IssuerAltName, KeyUsage, KeyUsages, SubjectAltName,
@@ -55,7 +58,7 @@ pub mod crl {
 
 /// Names of other kinds (RFC 5280 4.2.1.6).
 pub mod name {
-    pub use x509_cert_list_builders::types::certificates::DirectoryString;
+    pub use x509_cert_list_builders::certificates::DirectoryString;
     pub use x509_cert_list_builders::types::general_names::{
         DistributionPointName, EdiPartyName, GeneralName, GeneralNames, HardwareModuleName,
         OtherName,

@@ -2,8 +2,8 @@ use Rattle.std.proofs.Common.{Some, ◌∙◌}
 use Rattle.std.proofs.lemmas.Result.{err_from_is_err_and}
 use Rattle.const_oid.specs.Bound.{Bound}
 use Rattle.der_core_head.proofs.WrittenValid.{written_valid}
-use Rattle.x509_cert_extensions.specs.Certificates.{tbs_certificate}
-use Rattle.x509_cert_extensions.specs.CertificateViews.{tbs_plain}
+use Rattle.x509_cert_certificates.specs.Certificates.{tbs_certificate}
+use Rattle.x509_cert_certificates.specs.Views.{tbs_plain}
 use Rattle.x509_cert_builders.specs.SignedParts.{part_shape, written_part}
 use Rattle.x509_cert_builders.proofs.Faults.{or_unwritten}
 use Rattle.x509_cert_builders.proofs.SignedOctets.{raw_octets}

@@ -1,5 +1,5 @@
 use Rattle.const_oid.specs.Bound.{Bound}
-use Rattle.x509_cert_extensions.specs.CertificateViews.{tbs_plain}
+use Rattle.x509_cert_certificates.specs.Views.{tbs_plain}
 use Rattle.x509_cert_extensions.specs.Parts.{algorithm_plain}
 use Rattle.x509_cert_builders.specs.SignedParts.{fields_of}
 use Rattle.x509_cert_builders.specs.States.{as_written}

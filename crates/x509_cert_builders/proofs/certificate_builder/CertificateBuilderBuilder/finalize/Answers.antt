@@ -1,5 +1,5 @@
 use Rattle.std.proofs.Common.{◌++◌, List, ap, ◌∙◌}
-use Rattle.x509_cert_extensions.specs.CertificateViews.{tbs_plain}
+use Rattle.x509_cert_certificates.specs.Views.{tbs_plain}
 use Rattle.x509_cert_extensions.specs.Parts.{PlainExtension, extensions_plain}
 use Rattle.x509_cert_builders.specs.SignedParts.{bare_part, fields_of, signed_part}
 use Rattle.x509_cert_builders.proofs.SignedOctets.{made_valid}

@@ -1,4 +1,4 @@
--- What the definitions of names and of the parts of certificates say, passed on.
+-- What is said of names and of the parts of certificates, under one name.
 pub use Rattle.x509_cert_parts.specs.NameParts.{PlainName, PlainAttribute, name, name_octets}
 pub use Rattle.x509_cert_parts.specs.NameParts.{name_plain, type_and_value, attribute}
 pub use Rattle.x509_cert_parts.specs.NameParts.{attribute_plain, directory_string, directory_plain}
@@ -18,3 +18,4 @@ pub use Rattle.x509_cert_parts.specs.Respelling.{respelled}
 pub use Rattle.x509_cert_parts.specs.ExtensionSearch.{of_identifier, only_one, value_in, value_if}
 pub use Rattle.x509_cert_parts.specs.ExtensionSearch.{only_value, listed}
 pub use Rattle.x509_cert_parts.specs.Times.{time_of}
+unfoldable pub use Rattle.x509_cert_parts.specs.SerialNumbers.{new_serial}

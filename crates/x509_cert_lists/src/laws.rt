@@ -1,0 +1,33 @@
+//! Laws of revocation lists and of requests.
+//!
+//! Each is the contract of a function that does nothing.
+
+ghost use Rattle.std.specs.Prelude.{ℕ, Option};
+ghost use Rattle.const_oid.specs.Bound.{Bound};
+ghost use Rattle.der_core.specs.Equality.{IsOfValues};
+ghost use Rattle.der_core_head.specs.Shapes.{octets_of, sequence};
+ghost use Rattle.x509_cert_lists.specs.Grammar as grammar;
+ghost use Rattle.x509_cert_lists.specs.Parts.{extensions, extensions_plain};
+ghost use Rattle.x509_cert_lists.specs.Views as views;
+
+use crate::{CertReq, CertReqInfo, CertificateList, ExtensionReq, RevokedCert, TbsCertList};
+use std::cmp::PartialEq;
+
+/// `==` of revocation lists, of requests and of their parts is of their plain values, under every
+/// profile.
+pub fn equality_of_lists_is_of_values<P>()
+    ensures entries { (limit : Option ℕ) → IsOfValues ⟦<RevokedCert<P> as PartialEq>⟧.eq
+        views.revoked_cert_plain (octets_of (sequence (grammar.revoked_cert_fields Bound limit))) }
+    ensures signed { (limit : Option ℕ) → IsOfValues ⟦<TbsCertList<P> as PartialEq>⟧.eq
+        views.tbs_cert_list_plain
+        (octets_of (sequence (grammar.tbs_cert_list_fields Bound limit))) }
+    ensures whole { (limit : Option ℕ) → IsOfValues ⟦<CertificateList<P> as PartialEq>⟧.eq
+        views.certificate_list_plain
+        (octets_of (sequence (grammar.certificate_list_fields Bound limit))) }
+    ensures asked { IsOfValues ⟦<CertReqInfo as PartialEq>⟧.eq views.cert_req_info_plain
+        (octets_of (sequence (grammar.cert_req_info_fields Bound))) }
+    ensures requests { IsOfValues ⟦<CertReq as PartialEq>⟧.eq views.cert_req_plain
+        (octets_of (grammar.cert_req Bound)) }
+    ensures asked_extensions { IsOfValues ⟦<ExtensionReq as PartialEq>⟧.eq
+        (λ x. extensions_plain x.0.items) (octets_of (extensions Bound)) }
+{}
