@@ -16,15 +16,15 @@ pub record AskIssue (words : List (List ℕ)) (orders : List ℕ) : Type 0 where
   pub name : List ℕ
   pub are : words ≡ name ∷ codes "issue" ∷ orders ∷ []
 
--- they ask for no listing
+-- the words ask for no listing
 abbrev pub AskNoListing : List (List ℕ) → Type 0
 AskNoListing words = (kind : FileKind) (file : List ℕ) → AskShow words kind file → ⊥
 
--- they ask for no chain
+-- the words ask for no chain
 abbrev pub AskNoChain : List (List ℕ) → Type 0
 AskNoChain words = (orders : List ℕ) → AskIssue words orders → ⊥
 
--- they ask for this
+-- the words ask for this command
 abbrev pub AsksFor : List (List ℕ) → Command → Type 0
 AsksFor words (commands.Check a) =
     AskCheck words a.anchors.now a.stream.now a.moment a.purpose a.limit

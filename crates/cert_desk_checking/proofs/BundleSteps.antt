@@ -3,7 +3,7 @@ use Rattle.std.proofs.Common.{◌≡◌, ◌≢◌, ℕ, ◌+◌, ◌^◌, ◌<�
 use Rattle.std.proofs.lemmas.List.{take_all, take-append-drop}
 use Rattle.std.specs.Global.{Vec}
 use Rattle.const_oid.specs.Bound.{Bound}
-use Rattle.x509_cert.specs.Certificates.{PlainCertificate, raw_certificate, raw_certificate_fields, certificate_octets}
+use Rattle.x509_cert_anchors.specs.Certificates.{PlainCertificate, raw_certificate, raw_certificate_fields, certificate_octets}
 use Rattle.cert_desk_checking.specs.declared.bundle.Bundle.TheInside.{Inside}
 use Rattle.cert_desk_checking.specs.declared.fault_kind.FaultKind.TheVariants as kinds
 use Rattle.cert_desk_checking.specs.declared.located.Located.{Located}

@@ -1,7 +1,7 @@
 -- What a verdict says of a stream of one chain, and of one with a fault.
 use Rattle.std.proofs.Common.{◌≡◌, ℕ, ◌+◌, ◌-◌, ◌<◌, ◌^◌, min, max, List, [], ◌∷◌, ◌++◌, length, true, refl, sym, ap, ◌∙◌, subst, arith}
 use Rattle.std.proofs.lemmas.Bool.{both_ways}
-use Rattle.x509_cert.specs.Certificates.{PlainCertificate, certificate_octets}
+use Rattle.x509_cert_anchors.specs.Certificates.{PlainCertificate, certificate_octets}
 use Rattle.cert_desk_checking.specs.declared.checked.Checked.{Checked}
 use Rattle.cert_desk_checking.specs.declared.standing.Standing.TheVariants as standings
 use Rattle.cert_desk_checking.specs.declared.checked.Verdict.{Verdict}

@@ -3,7 +3,7 @@ use Rattle.std.proofs.Common.{◌≡◌, ℕ, zero, suc, ◌+◌, ◌<◌, ◌^�
 use Rattle.std.specs.List.{list_any}
 use Rattle.std.specs.Option.{option_map_or}
 use Rattle.der_core_head.proofs.BoundLaws.{back_all, front_all}
-use Rattle.x509_cert.specs.Certificates.{PlainCertificate, certificate_octets, issuer, outer_algorithm, public_key, raw_certificate, signature_bits, subject}
+use Rattle.x509_cert_anchors.specs.Certificates.{PlainCertificate, certificate_octets, issuer, outer_algorithm, public_key, raw_certificate, signature_bits, subject}
 use Rattle.cert_desk_checking.specs.declared.rule.Rule.{Rule}
 use Rattle.cert_desk_checking.specs.declared.rule.Rule.TheVariants as rules
 use Rattle.cert_desk_checking.specs.Chains.{Chain, Stands, joined}

@@ -18,7 +18,7 @@ use Rattle.der_core_head.proofs.AllOctets.{is_spelled, whole_again}
 use Rattle.der_core_head.proofs.Bytes.{IsBytes}
 use Rattle.der_core_head.proofs.LengthForms.{length-short}
 use Rattle.der_core_head.proofs.Results.{bind_ok, unless_ok, whole_ok}
-use Rattle.x509_cert.specs.Extensions.{basic_constraints_fields}
+use Rattle.x509_cert_extensions.specs.Policies.{basic_constraints_fields}
 use Rattle.cert_desk_checking.specs.Weighing.{basic_constraints, ca_octets, constraints, constraints_of, malformed, meaning_by, meaning_of}
 
 -- pathLenConstraint

@@ -7,7 +7,7 @@ use Rattle.std.proofs.lemmas.Slice.Eq.{bytes_eq-Decides}
 use Rattle.der_core_head.specs.BitStrings.{Bits}
 use Rattle.der_core_head.specs.Shapes.{AnyValue}
 use Rattle.sha2.specs.Sha256.{sha256}
-use Rattle.x509_cert.specs.Certificates.{Algorithm, PublicKey, algorithm_arcs, algorithm_parameters, key_bits}
+use Rattle.x509_cert_extensions.specs.Parts.{Algorithm, PublicKey, algorithm_arcs, algorithm_parameters, key_bits}
 use Rattle.cert_desk_checking.specs.Digests.{digest_arcs, is_digest, digest_answers}
 use Rattle.cert_desk_checking.proofs.Folds.{and_yes}
 

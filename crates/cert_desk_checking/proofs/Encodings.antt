@@ -6,7 +6,8 @@ use Rattle.der_core_head.specs.declared.tag.Tag.TheVariants as tags
 use Rattle.der_core_head.specs.Tags.{tag_octets}
 use Rattle.der_core_head.specs.Heads.{tlv, head_octets, length_octets}
 use Rattle.der_core_head.specs.Shapes.{octets_of, contents, body_octets, IsValid, IsContent, IsBody}
-use Rattle.x509_cert.specs.Certificates.{PlainCertificate, raw_certificate, raw_certificate_fields, certificate_octets, raw_tbs_certificate, tbs, algorithm_identifier, inner_algorithm, outer_algorithm, issuer, name, signed_start, signed_length}
+use Rattle.x509_cert_anchors.specs.Certificates.{PlainCertificate, raw_certificate, raw_certificate_fields, certificate_octets, raw_tbs_certificate, tbs, inner_algorithm, outer_algorithm, issuer, signed_start, signed_length}
+use Rattle.x509_cert_extensions.specs.Parts.{algorithm_identifier, name}
 use Rattle.cert_desk_checking.specs.Chains.{Stands, joined, offset_at}
 use Rattle.cert_desk_checking.specs.Judging.{signed_part}
 

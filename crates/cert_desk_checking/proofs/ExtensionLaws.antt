@@ -11,7 +11,7 @@ use Rattle.const_oid.specs.IdentifierOctets.{arc_octets, identifier_octets}
 use Rattle.const_oid.specs.Orders.{owned_cmp, owned_cmp_ties}
 use Rattle.const_oid.proofs.EncodingLaws.{arc_octets-one}
 use Rattle.der_core_head.specs.Grammar.{plain_list}
-use Rattle.x509_cert.specs.Certificates.{PlainExtension, extension_arcs}
+use Rattle.x509_cert_extensions.specs.Parts.{PlainExtension, extension_arcs}
 use Rattle.cert_desk_checking.specs.declared.weight.Weight.{Weight}
 use Rattle.cert_desk_checking.specs.declared.weight.Weight.TheVariants as weights
 use Rattle.cert_desk_checking.specs.Findings.{weight_of}

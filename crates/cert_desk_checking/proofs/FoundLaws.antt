@@ -1,7 +1,7 @@
 -- What was gathered of extensions, by the definitions of what they say.
 use Rattle.std.proofs.Common.{◌≡◌, ℕ, List, Bool, ◌&&◌, ◌||◌, Option, Some, None, nat_le, refl, ap, ◌∙◌}
 use Rattle.std.specs.List.{list_all, list_any}
-use Rattle.x509_cert.specs.Certificates.{PlainExtension, is_critical}
+use Rattle.x509_cert_extensions.specs.Parts.{PlainExtension, is_critical}
 use Rattle.cert_desk_checking.specs.declared.findings.Findings.{Findings}
 use Rattle.cert_desk_checking.specs.Findings.{add, add_extension, found, no_findings, shorter, weight_of}
 use Rattle.cert_desk_checking.specs.Paths.{is_within}

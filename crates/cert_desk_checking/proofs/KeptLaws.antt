@@ -2,7 +2,7 @@
 use Rattle.std.proofs.Common.{◌≡◌, ℕ, ◌<◌, List, Bool, false, not, ◌&&◌, ◌||◌, Option, Some, None, slice_get, sym, ap, ◌∙◌, arith}
 use Rattle.std.specs.List.{list_any}
 use Rattle.std.specs.Option.{option_map_or}
-use Rattle.x509_cert.specs.Certificates.{PlainCertificate, extensions_of}
+use Rattle.x509_cert_anchors.specs.Certificates.{PlainCertificate, extensions_of}
 use Rattle.cert_desk_checking.specs.declared.findings.Findings.{Findings}
 use Rattle.cert_desk_checking.specs.declared.kept_rules.KeptRules.{KeptRules}
 use Rattle.cert_desk_checking.specs.declared.path_room.PathRoom.{PathRoom}

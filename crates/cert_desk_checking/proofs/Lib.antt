@@ -43,4 +43,6 @@ pub mod ChainParts
 pub mod TwoBounds
 pub mod WiderVerdicts
 pub mod WiderFaults
-pub use Rattle.x509_cert.proofs.Names
+pub mod QuestionLaws
+pub mod ListedQuestions
+pub use Rattle.x509_cert_anchors.proofs.Names

@@ -5,7 +5,8 @@ use Rattle.std.specs.List.{AllByRecursion}
 use Rattle.der_core_head.specs.declared.tag.Tag.TheVariants as tags
 use Rattle.der_core_head.specs.Heads.{head_octets, tlv, Fits}
 use Rattle.der_core_head.specs.Shapes.{IsValid, IsContent, IsBody, Spells, octets_of, body_octets, contents}
-use Rattle.x509_cert.specs.Certificates.{PlainCertificate, raw_certificate, raw_certificate_fields, raw_tbs_certificate, raw_tbs_fields, algorithm_identifier, bit_string, certificate_octets, tbs, signed_start, signed_length}
+use Rattle.x509_cert_anchors.specs.Certificates.{PlainCertificate, raw_certificate, raw_certificate_fields, raw_tbs_certificate, raw_tbs_fields, certificate_octets, tbs, signed_start, signed_length}
+use Rattle.x509_cert_extensions.specs.Parts.{algorithm_identifier, bit_string}
 use Rattle.const_oid.specs.Bound.{Bound}
 use Rattle.cert_desk_checking.specs.declared.located.Located.{Located}
 use Rattle.cert_desk_checking.specs.Chains.{Stands, joined, offset_at}

@@ -4,7 +4,8 @@ use Rattle.std.proofs.lemmas.List.Folds.{list_any_at}
 use Rattle.std.specs.Option.{option_map_or}
 use Rattle.std.proofs.lemmas.Bool.{or_left}
 use Rattle.der_core_head.specs.Grammar.{plain_list}
-use Rattle.x509_cert.specs.Certificates.{PlainCertificate, PlainExtension, extensions_of}
+use Rattle.x509_cert_anchors.specs.Certificates.{PlainCertificate, extensions_of}
+use Rattle.x509_cert_extensions.specs.Parts.{PlainExtension}
 use Rattle.cert_desk_checking.specs.Paths.{extensions_at}
 use Rattle.cert_desk_checking.specs.Reasons.{SomeMayTakeMemory}
 use Rattle.cert_desk_checking.specs.Weighing.{has_list, may_take_memory}

@@ -1,7 +1,7 @@
 -- A stream joins one list of certificates at most, and has one fault at most.
 use Rattle.std.proofs.Common.{◌≡◌, ℕ, List, refl}
 use Rattle.der_core_head.specs.Limits.{levels_max}
-use Rattle.x509_cert.specs.Certificates.{PlainCertificate, raw_certificate}
+use Rattle.x509_cert_anchors.specs.Certificates.{PlainCertificate, raw_certificate}
 use Rattle.cert_desk_checking.specs.declared.fault_kind.FaultKind.{FaultKind}
 use Rattle.cert_desk_checking.specs.Chains.{Chain}
 use Rattle.cert_desk_checking.specs.Faults.{StreamFault}

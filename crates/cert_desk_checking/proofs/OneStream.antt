@@ -5,7 +5,8 @@ use Rattle.std.specs.Option.{option_map}
 use Rattle.der_core_head.specs.BitStrings.{Bits}
 use Rattle.der_core_head.specs.Shapes.{octets_of, IsValid, IsContent, IsBody}
 use Rattle.der_core_head.proofs.OneEncoding.{one_value}
-use Rattle.x509_cert.specs.Certificates.{PlainCertificate, Algorithm, Tbs, raw_certificate, raw_tbs_certificate, outer_algorithm, signature_bits, tbs}
+use Rattle.x509_cert_anchors.specs.Certificates.{PlainCertificate, Tbs, raw_certificate, raw_tbs_certificate, outer_algorithm, signature_bits, tbs}
+use Rattle.x509_cert_extensions.specs.Parts.{Algorithm}
 use Rattle.cert_desk_checking.specs.Chains.{Chain, Stands, joined}
 use Rattle.cert_desk_checking.specs.Issuers.{shown_at}
 use Rattle.cert_desk_checking.specs.Judging.{signed_part}

@@ -3,7 +3,7 @@ use Rattle.std.proofs.Common.{◌≡◌, ℕ, zero, suc, ◌+◌, ◌-◌, ◌<�
 use Rattle.std.specs.List.{list_all}
 use Rattle.std.specs.Option.{is_some, option_map_or}
 use Rattle.std.proofs.lemmas.Bool.{leb-true}
-use Rattle.x509_cert.specs.Certificates.{PlainCertificate, extensions_of}
+use Rattle.x509_cert_anchors.specs.Certificates.{PlainCertificate, extensions_of}
 use Rattle.cert_desk_checking.specs.declared.path_room.PathRoom.{PathRoom}
 use Rattle.cert_desk_checking.specs.Findings.{IsRoom, add_place, allow, found, left_by, shorter}
 use Rattle.cert_desk_checking.specs.Paths.{counted, counts, extensions_at, is_within, is_within_lengths, keep_lengths, keeps_length}

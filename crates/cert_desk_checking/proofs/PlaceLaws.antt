@@ -8,8 +8,9 @@ use Rattle.std.proofs.lemmas.Bool.Decides.{same_from_decides}
 use Rattle.std.proofs.lemmas.Slice.Eq.{bytes_eq-Decides}
 use Rattle.const_oid.specs.Bound.{Bound}
 use Rattle.der_core_head.specs.Shapes.{octets_of, IsValid}
-use Rattle.x509_cert.specs.Certificates.{PlainCertificate, raw_certificate, algorithm_identifier, inner_algorithm, outer_algorithm, issuer, subject, public_key}
-use Rattle.x509_cert.specs.Views.{certificate_plain}
+use Rattle.x509_cert_anchors.specs.Certificates.{PlainCertificate, raw_certificate, inner_algorithm, outer_algorithm, issuer, subject, public_key}
+use Rattle.x509_cert_extensions.specs.Parts.{algorithm_identifier}
+use Rattle.x509_cert_anchors.specs.CertificateViews.{certificate_plain}
 use Rattle.cert_desk_checking.specs.declared.anchor.Anchor.{Anchor}
 use Rattle.cert_desk_checking.specs.declared.entry.Entry.{Entry}
 use Rattle.cert_desk_checking.specs.declared.issuer.Issuer.{Issuer}

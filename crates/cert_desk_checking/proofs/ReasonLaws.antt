@@ -6,7 +6,8 @@ use Rattle.std.specs.List.{list_all, list_any}
 use Rattle.std.specs.Option.{option_map_or}
 use Rattle.const_oid.specs.Bound.{Bound}
 use Rattle.der_core_head.specs.Grammar.{plain_list}
-use Rattle.x509_cert.specs.Certificates.{PlainCertificate, PlainExtension, extensions_of}
+use Rattle.x509_cert_anchors.specs.Certificates.{PlainCertificate, extensions_of}
+use Rattle.x509_cert_extensions.specs.Parts.{PlainExtension}
 use Rattle.cert_desk_checking.specs.declared.findings.Findings.{Findings}
 use Rattle.cert_desk_checking.specs.declared.reason.Reason.{Reason}
 use Rattle.cert_desk_checking.specs.declared.reason.Reason.TheVariants as reasons

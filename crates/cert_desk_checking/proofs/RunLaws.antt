@@ -2,7 +2,7 @@
 use Rattle.std.proofs.Common.{◌≡◌, ◌≢◌, ℕ, ◌<◌, List, [], length, Result, Ok, Err, OnOk, IfErr, ◌⊎◌, inl, inr, refl, subst, sym, ◌∙◌, arith}
 use Rattle.const_oid.specs.Bound.{Bound}
 use Rattle.cert_desk_io.specs.Devices.{Device, Moved, MetEnd, Sound, Untouched}
-use Rattle.x509_cert.specs.Certificates.{PlainCertificate, raw_certificate}
+use Rattle.x509_cert_anchors.specs.Certificates.{PlainCertificate, raw_certificate}
 use Rattle.cert_desk_checking.specs.declared.bundle_error.BundleError.TheVariants as errors
 use Rattle.cert_desk_checking.specs.declared.bundle_error.ReadError.{ReadError}
 use Rattle.cert_desk_checking.specs.declared.bundle_error.ReadError.TheVariants as read_errors
@@ -71,10 +71,12 @@ module _ (input : Device) (old new : Kept) (opened : old.standing ≡ standings.
 
   fed_refused : (e : ReadError) → RefusesInput input.moves input.is_ended input.failures input.old input.new Bound old new e → IsFed input new
   fed_refused read_errors.Device r = fed_under standings.NoDevice r.standing
-      (r.octets, r.failed, may_go_on (record new { rest = r.rest; standing = standings.Open }) limit r.octets (r.reads [] empty))
+      (let reads = r.reads [] empty in
+      (r.octets, r.failed, may_go_on (record new { rest = r.rest; standing = standings.Open }) limit r.octets reads, (r.rest, reads.0)))
   fed_refused (read_errors.Bundle (errors.Fault place offset kind)) r =
       fed_under (standings.Faulted kind) r.found.standing (r.reads.0, r.reads.1, r.reads.2 [] empty, r.ends, asks_no_more r.stops, r.sound)
-  fed_refused (read_errors.Bundle errors.OutOfMemory) r = fed_under standings.NoMemory r.standing (r.octets, r.taken, asks_no_more r.stops, r.sound)
+  fed_refused (read_errors.Bundle errors.OutOfMemory) r = fed_under standings.NoMemory r.standing
+      (r.octets, r.taken, r.begins [] empty, asks_no_more r.stops, r.sound)
   fed_refused (read_errors.Bundle errors.Failed) r = absurd (r.0.was_shut opened)
 
   pub fed_by : {T : Type 0} (r : Result T ReadError) → OnOk r (new.standing ≡ standings.Ended) → OnOk r (MetEnd input) → OnOk r (Sound input)
@@ -86,7 +88,7 @@ module _ (input : Device) (old new : Kept) (opened : old.standing ≡ standings.
 -- What a bundle was fed that ended so.
 module _ (input : Device) (b : Kept) where
   pub fed_none : IsFed input b → b.standing ≡ standings.NoDevice → ReadFailed input b.limit
-  fed_none h e = let fed : FedUnder input b standings.NoDevice = subst (λ (s : Standing). FedUnder input b s) e h in fed
+  fed_none h e = let fed : FedUnder input b standings.NoDevice = subst (λ (s : Standing). FedUnder input b s) e h in (fed.0, fed.1, fed.2)
 
   pub fed_in_vain : (judge : Judge) (t : Terms) → IsFed input b → (b.standing ≡ standings.NoMemory) ⊎ (b.standing ≡ standings.Ended)
       → (b.standing ≢ standings.Ended → IsUnasked judge)
@@ -95,7 +97,7 @@ module _ (input : Device) (b : Kept) where
       → IsReadInVain input judge t b.limit
   fed_in_vain judge t h (inl e) unasked stops =
       let fed : FedUnder input b standings.NoMemory = subst (λ (s : Standing). FedUnder input b s) e h in
-      (fed.3, inl (fed.2, unasked (λ ended. (let none : standings.NoMemory ≡ standings.Ended = sym e ∙ ended in absurd cc))))
+      (fed.4, inl (fed.3, unasked (λ ended. (let none : standings.NoMemory ≡ standings.Ended = sym e ∙ ended in absurd cc))))
   fed_in_vain judge t h (inr e) unasked stops =
       let fed : FedUnder input b standings.Ended = subst (λ (s : Standing). FedUnder input b s) e h in
       (fed.4, inr (fed.0, fed.1, fed.3, stops fed.0 e fed.2))

@@ -15,9 +15,8 @@ use Rattle.der_core_head.specs.Leaves.{octets}
 use Rattle.der_core_head.specs.Shapes.{Shape, Value, IsValid, IsContent, IsBody, done, explicit, field, leaf, octets_of, optional, sequence, sequence_of, tagged}
 use Rattle.der_core_head.proofs.BoundLaws.{below_or_large}
 use Rattle.der_core_head.proofs.Families.{Family, same_octets, valid_wider, valid_narrow, whole_wider, whole_new}
-use Rattle.x509_cert.specs.Certificates.{PlainCertificate, PlainExtension, extension_arcs, extension_octets, extensions_of, raw_certificate}
-use Rattle.x509_cert.specs.Extensions.{object_identifier}
-use Rattle.x509_cert.specs.Parts.{false_by_default}
+use Rattle.x509_cert_anchors.specs.Certificates.{PlainCertificate, extensions_of, raw_certificate}
+use Rattle.x509_cert_extensions.specs.Parts.{PlainExtension, extension_arcs, extension_octets, object_identifier, false_by_default}
 use Rattle.der_core_head.proofs.Results.{bind_ok, unless_ok, whole_ok}
 use Rattle.cert_desk_checking.specs.Bounded.{BecomesReadable, OneBecomesReadable, OneHoldsLarge, identifiers_in, identifiers_said}
 use Rattle.cert_desk_checking.specs.Chains.{Chain, Stands, joined}

@@ -11,7 +11,7 @@ use Rattle.der_core_head.specs.Shapes.{IsValid, Spells, body_octets, contents, o
 use Rattle.der_core_head.proofs.AllOctets.{is_spelled, whole_again}
 use Rattle.der_core_head.proofs.Below.{bytes_are, octets_below}
 use Rattle.der_core_head.proofs.Fits.{valid_fits}
-use Rattle.x509_cert.specs.Certificates.{PlainCertificate, raw_certificate, raw_certificate_fields}
+use Rattle.x509_cert_anchors.specs.Certificates.{PlainCertificate, raw_certificate, raw_certificate_fields}
 use Rattle.cert_desk_checking.specs.declared.fault_kind.FaultKind.{FaultKind}
 use Rattle.cert_desk_checking.specs.declared.fault_kind.FaultKind.TheVariants as kinds
 use Rattle.cert_desk_checking.specs.Bounded.{identifiers_in}

@@ -6,7 +6,8 @@ use Rattle.std.proofs.lemmas.Bool.{both_ways}
 use Rattle.std.proofs.lemmas.List.Folds.{list_any_at}
 use Rattle.std.proofs.lemmas.Option.{slice_get-get_or}
 use Rattle.der_core_head.specs.Shapes.{octets_of}
-use Rattle.x509_cert.specs.Certificates.{PlainCertificate, PlainExtension, extensions_of, is_critical, signed_start, signed_length}
+use Rattle.x509_cert_anchors.specs.Certificates.{PlainCertificate, extensions_of, signed_start, signed_length}
+use Rattle.x509_cert_extensions.specs.Parts.{PlainExtension, is_critical}
 use Rattle.cert_desk_checking.specs.declared.checked.Verdict.TheVariants as verdicts
 use Rattle.cert_desk_checking.specs.declared.rule.Rule.{Rule}
 use Rattle.cert_desk_checking.specs.declared.rule.Rule.TheVariants as rules

@@ -5,7 +5,7 @@ use Rattle.std.specs.Option.{option_map_or}
 use Rattle.std.proofs.lemmas.Bool.{and_from, and_parts, cases_lt, eq-eqb, eqb-true, or_cases}
 use Rattle.std.proofs.lemmas.Bool.Decides.{eqb_tells}
 use Rattle.std.proofs.lemmas.Option.{slice_get_cases}
-use Rattle.x509_cert.specs.Certificates.{PlainCertificate, extensions_of, issuer, outer_algorithm, public_key, signature_bits, subject}
+use Rattle.x509_cert_anchors.specs.Certificates.{PlainCertificate, extensions_of, issuer, outer_algorithm, public_key, signature_bits, subject}
 use Rattle.cert_desk_checking.specs.declared.rule.Rule.{Rule}
 use Rattle.cert_desk_checking.specs.declared.rule.Rule.TheVariants as rules
 use Rattle.cert_desk_checking.specs.Chains.{Stands, joined}

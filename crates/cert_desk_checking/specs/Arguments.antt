@@ -29,7 +29,7 @@ pub record AskCheck (words : List (List ℕ)) (anchors stream : List ℕ) (momen
   pub limit_least : 6 ≤ limit
   pub limit_fits : limit < 2 ^ 32
 
--- they ask for none
+-- the words ask for no check
 abbrev pub AskNoCheck : List (List ℕ) → Type 0
 AskNoCheck words =
     (anchors stream : List ℕ) (moment : ℕ) (purpose : List ℕ) (limit : ℕ)

@@ -1,7 +1,7 @@
 -- What holds of every chain: of its parts, of strangers among the anchors, and of the questions
 -- about it.
 use Rattle.std.specs.Prelude.{◌≡◌, ℕ, ◌+◌, ◌≤◌, ◌<◌, List, [], ◌∷◌, ◌++◌, length}
-use Rattle.x509_cert.specs.Certificates.{PlainCertificate}
+use Rattle.x509_cert_anchors.specs.Certificates.{PlainCertificate}
 use Rattle.cert_desk_checking.specs.declared.checked.Verdict.{Verdict}
 use Rattle.cert_desk_checking.specs.Chains.{Chain, joined}
 use Rattle.cert_desk_checking.specs.Issuers.{among, anchors_named, as_anchor, shown_at}

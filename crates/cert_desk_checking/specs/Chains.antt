@@ -1,6 +1,6 @@
 -- Certificates that a stream joins: a series of them.
 use Rattle.std.specs.Prelude.{ℕ, List}
-use Rattle.x509_cert.specs.Certificates.{PlainCertificate, raw_certificate}
+use Rattle.x509_cert_anchors.specs.Certificates.{PlainCertificate, raw_certificate}
 use Rattle.cert_desk_checking.specs.Series.{MayStand, Series, encodings, start_of}
 
 -- a certificate that may stand in a stream: it has an encoding, within the limit

@@ -1,9 +1,9 @@
 -- What a bundle lends of a certificate.
 use Rattle.std.specs.Prelude.{◌≡◌, ℕ, List, Some, slice_get}
 use Rattle.der_core_head.specs.Shapes.{octets_of, IsValid}
-use Rattle.x509_cert.specs.Certificates.{PlainCertificate, certificate_octets, raw_certificate}
-use Rattle.x509_cert.specs.Certificates.{raw_tbs_certificate, tbs}
-use Rattle.x509_cert.specs.Views.{certificate_plain}
+use Rattle.x509_cert_anchors.specs.Certificates.{PlainCertificate, certificate_octets}
+use Rattle.x509_cert_anchors.specs.Certificates.{raw_certificate, raw_tbs_certificate, tbs}
+use Rattle.x509_cert_anchors.specs.CertificateViews.{certificate_plain}
 use Rattle.cert_desk_checking.specs.declared.entry.Entry.{Entry}
 use Rattle.cert_desk_checking.specs.Chains.{offset_at}
 

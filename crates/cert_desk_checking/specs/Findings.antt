@@ -2,7 +2,8 @@
 use Rattle.std.specs.Prelude.{◌≡◌, ℕ, zero, suc, ◌+◌, ◌-◌, List, Bool, true, false, Option, Some}
 use Rattle.std.specs.Prelude.{None, min, if◌then◌else◌, ◌&&◌, ◌||◌}
 use Rattle.std.specs.List.{fold, list_all}
-use Rattle.x509_cert.specs.Certificates.{PlainCertificate, PlainExtension, is_critical}
+use Rattle.x509_cert_anchors.specs.Certificates.{PlainCertificate}
+use Rattle.x509_cert_extensions.specs.Parts.{PlainExtension, is_critical}
 use Rattle.cert_desk_checking.specs.declared.findings.Findings.{Findings}
 use Rattle.cert_desk_checking.specs.declared.path_room.PathRoom.{PathRoom}
 use Rattle.cert_desk_checking.specs.declared.weight.Weight.{Weight}

@@ -5,7 +5,7 @@ use Rattle.der_core_head.specs.declared.error.ErrorKind.{ErrorKind}
 use Rattle.der_core_head.specs.declared.error.ErrorKind.TheVariants as kinds
 use Rattle.der_core_head.specs.Grammar.{read}
 use Rattle.der_core_head.specs.Limits.{length_max, levels_max}
-use Rattle.x509_cert.specs.Certificates.{PlainCertificate, raw_certificate}
+use Rattle.x509_cert_anchors.specs.Certificates.{PlainCertificate, raw_certificate}
 
 -- what reading a certificate at the front of octets gives, and the octets behind it
 abbrev pub first_certificate : List ℕ → Result (PlainCertificate × List ℕ) ErrorKind

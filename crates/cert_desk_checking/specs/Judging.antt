@@ -6,12 +6,13 @@ use Rattle.std.specs.Option.{option_map_or}
 use Rattle.const_oid.specs.Comparing.{owned_eq}
 use Rattle.der_core_head.specs.BitStrings.{Bits}
 use Rattle.der_core_head.specs.Shapes.{octets_of}
-use Rattle.x509_cert.specs.Certificates.{PlainCertificate, PlainExtension, PlainName, PublicKey}
-use Rattle.x509_cert.specs.Certificates.{Algorithm, algorithm_identifier, outer_algorithm}
-use Rattle.x509_cert.specs.Certificates.{inner_algorithm, signature_bits, issuer, subject}
-use Rattle.x509_cert.specs.Certificates.{not_before, not_after, public_key, extensions_of}
-use Rattle.x509_cert.specs.Certificates.{extension_arcs, name_octets, signed_start, signed_length}
-use Rattle.x509_cert.specs.Names.TimeTypes.Seconds.{unix_seconds}
+use Rattle.x509_cert_anchors.specs.Certificates.{PlainCertificate, outer_algorithm, inner_algorithm}
+use Rattle.x509_cert_anchors.specs.Certificates.{signature_bits, issuer, subject, not_before}
+use Rattle.x509_cert_anchors.specs.Certificates.{not_after, public_key, extensions_of, signed_start}
+use Rattle.x509_cert_anchors.specs.Certificates.{signed_length}
+use Rattle.x509_cert_extensions.specs.Parts.{PlainExtension, PlainName, PublicKey, Algorithm}
+use Rattle.x509_cert_extensions.specs.Parts.{algorithm_identifier, extension_arcs, name_octets}
+use Rattle.x509_cert_extensions.specs.Names.TimeTypes.Seconds.{unix_seconds}
 use Rattle.cert_desk_checking.specs.declared.rule.Rule.{Rule}
 use Rattle.cert_desk_checking.specs.declared.rule.Rule.TheVariants as rules
 use Rattle.cert_desk_checking.specs.Chains.{offset_at}

@@ -2,10 +2,10 @@
 use Rattle.std.specs.Prelude.{◌≡◌, ◌≢◌, ℕ, ◌≤◌, List, [], length, map, ◌⊎◌, Some, slice_get}
 use Rattle.std.specs.List.{AllByRecursion}
 use Rattle.der_core_head.specs.Shapes.{Spells}
-use Rattle.x509_cert.specs.Certificates.{PlainCertificate, raw_certificate, certificate_octets}
-use Rattle.x509_cert.specs.Certificates.{signed_start, signed_length}
+use Rattle.x509_cert_anchors.specs.Certificates.{PlainCertificate, raw_certificate}
+use Rattle.x509_cert_anchors.specs.Certificates.{certificate_octets, signed_start, signed_length}
 use Rattle.const_oid.specs.Bound.{Bound}
-use Rattle.x509_cert.specs.Views.{certificate_plain}
+use Rattle.x509_cert_anchors.specs.CertificateViews.{certificate_plain}
 use Rattle.cert_desk_checking.specs.declared.bundle.Bundle.TheInside.{Inside}
 use Rattle.cert_desk_checking.specs.declared.fault_kind.FaultKind.TheVariants as kinds
 use Rattle.cert_desk_checking.specs.declared.located.Located.{Located}

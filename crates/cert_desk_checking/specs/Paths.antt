@@ -5,8 +5,8 @@ use Rattle.std.specs.Prelude.{Option, Some, None, nat_le, ◌==◌, ◌&&◌, �
 use Rattle.std.specs.Prelude.{slice_get}
 use Rattle.std.specs.List.{list_all}
 use Rattle.std.specs.Option.{option_map_or}
-use Rattle.x509_cert.specs.Certificates.{PlainCertificate, PlainExtension, extensions_of, issuer}
-use Rattle.x509_cert.specs.Certificates.{name_octets, subject}
+use Rattle.x509_cert_anchors.specs.Certificates.{PlainCertificate, extensions_of, issuer, subject}
+use Rattle.x509_cert_extensions.specs.Parts.{PlainExtension, name_octets}
 use Rattle.cert_desk_checking.specs.Weighing.{path_length, weigh}
 
 -- issuer and subject have the same octets

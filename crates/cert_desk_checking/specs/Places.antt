@@ -3,8 +3,8 @@ use Rattle.std.specs.Prelude.{◌≡◌, ℕ, zero, suc, ◌<◌, List, map, Boo
 use Rattle.std.specs.Prelude.{None, ◌&&◌, if◌then◌else◌, slice_get}
 use Rattle.std.specs.List.{list_any}
 use Rattle.const_oid.specs.Bound.{Bound}
-use Rattle.x509_cert.specs.Certificates.{PlainCertificate, issuer, public_key, subject}
-use Rattle.x509_cert.specs.Views.{certificate_plain}
+use Rattle.x509_cert_anchors.specs.Certificates.{PlainCertificate, issuer, public_key, subject}
+use Rattle.x509_cert_anchors.specs.CertificateViews.{certificate_plain}
 use Rattle.cert_desk_checking.specs.declared.anchor.Anchor.{Anchor}
 use Rattle.cert_desk_checking.specs.declared.issuer.Issuer.{Issuer}
 use Rattle.cert_desk_checking.specs.declared.issuer.Issuer.TheVariants as issuers

@@ -3,8 +3,9 @@ use Rattle.std.specs.Prelude.{◌≡◌, ℕ, zero, suc, List, [], ◌∷◌, Bo
 use Rattle.std.specs.List.{AllByRecursion}
 use Rattle.std.specs.Option.{option_map_or}
 use Rattle.der_core_head.specs.BitStrings.{Bits}
-use Rattle.x509_cert.specs.Certificates.{PlainCertificate, PublicKey, Algorithm, outer_algorithm}
-use Rattle.x509_cert.specs.Certificates.{signature_bits, public_key}
+use Rattle.x509_cert_anchors.specs.Certificates.{PlainCertificate, outer_algorithm, signature_bits}
+use Rattle.x509_cert_anchors.specs.Certificates.{public_key}
+use Rattle.x509_cert_extensions.specs.Parts.{PublicKey, Algorithm}
 use Rattle.cert_desk_checking.specs.Judging.{Answers, Terms, PlainAnchor, is_named, signed_part}
 
 -- a key, an algorithm, the octets that are signed, and the bits

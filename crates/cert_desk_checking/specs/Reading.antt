@@ -2,14 +2,14 @@
 use Rattle.std.specs.Prelude.{◌≡◌, ◌≢◌, ℕ, ◌≤◌, List, length}
 use Rattle.const_oid.specs.Bound.{Bound}
 use Rattle.cert_desk_io.specs.Devices.{Device, Moved, MetEnd, Sound, Fails}
-use Rattle.x509_cert.specs.Certificates.{PlainCertificate}
+use Rattle.x509_cert_anchors.specs.Certificates.{PlainCertificate}
 use Rattle.cert_desk_checking.specs.declared.fault_kind.FaultKind.{FaultKind}
 use Rattle.cert_desk_checking.specs.declared.fault_kind.FaultKind.TheVariants as kinds
 use Rattle.cert_desk_checking.specs.declared.standing.Standing.{Standing}
 use Rattle.cert_desk_checking.specs.declared.standing.Standing.TheVariants as standings
-use Rattle.cert_desk_checking.specs.Faults.{StreamFault}
+use Rattle.cert_desk_checking.specs.Faults.{Split, StreamFault}
 use Rattle.cert_desk_checking.specs.Steps.{most_read}
-use Rattle.cert_desk_checking.specs.Streams.{Kept, Reads}
+use Rattle.cert_desk_checking.specs.Streams.{Begins, Kept, Reads}
 
 -- octets with no fault but that they may end too early
 abbrev pub MayGoOn : ℕ → List ℕ → Type 0
@@ -32,7 +32,8 @@ abbrev pub ReadFailed : Device → ℕ → Type 0
 ReadFailed input limit = (octets : List ℕ) × Fails input octets × MayGoOn limit octets
 
 -- A new bundle was fed what an input gave: to its end, to a fault, to want of memory, or to a
--- failure. No read failed but in the last of these.
+-- failure. No read failed but in the last of these. Where memory was wanting the certificates are a
+-- front of those with which the octets begin, and where a read failed they are all of these.
 abbrev pub FedUnder : Device → Kept → Standing → Type 0
 FedUnder input b standings.Open = ⊥
 FedUnder input b standings.Ended = (octets : List ℕ) × Moved input octets × Reads Bound b octets
@@ -41,8 +42,10 @@ FedUnder input b (standings.Faulted kind) =
     (octets : List ℕ) × Moved input octets × Reads Bound b octets
     × (kind ≡ kinds.Truncated → MetEnd input) × AsksNoMore input b.limit × Sound input
 FedUnder input b standings.NoMemory = (octets : List ℕ) × Moved input octets
-    × AsksNoMore input b.limit × Sound input
-FedUnder input b standings.NoDevice = ReadFailed input b.limit
+    × Begins Bound b.limit b.certificates octets × AsksNoMore input b.limit × Sound input
+FedUnder input b standings.NoDevice =
+    (octets : List ℕ) × Fails input octets × MayGoOn b.limit octets
+    × ((rest : List ℕ) × Split Bound b.limit octets b.certificates rest)
 
 abbrev pub IsFed : Device → Kept → Type 0
 IsFed input b = FedUnder input b b.standing

@@ -3,7 +3,8 @@ use Rattle.std.specs.Prelude.{◌≡◌, ℕ, ◌<◌, ◌≤◌, List, Bool, tr
 use Rattle.std.specs.List.{list_any}
 use Rattle.std.specs.Option.{option_map_or}
 use Rattle.const_oid.specs.Comparing.{owned_eq}
-use Rattle.x509_cert.specs.Certificates.{PlainCertificate, PlainExtension, extension_arcs}
+use Rattle.x509_cert_anchors.specs.Certificates.{PlainCertificate}
+use Rattle.x509_cert_extensions.specs.Parts.{PlainExtension, extension_arcs}
 use Rattle.cert_desk_checking.specs.declared.findings.Findings.{Findings}
 use Rattle.cert_desk_checking.specs.declared.reason.Reason.{Reason}
 use Rattle.cert_desk_checking.specs.declared.reason.Reason.TheVariants as reasons
@@ -27,7 +28,7 @@ is_against bound purpose rules.NotAuthority e = not (may_certify (weigh bound e)
 is_against bound purpose rules.PathTooLong e = false
 is_against bound purpose rules.WrongSignature e = false
 
--- the same, by what was found in that extension alone
+-- whether an extension goes against a rule, by what was found in it
 abbrev pub goes_against : Findings → Rule → Bool
 goes_against f rules.AlgorithmsDiffer = false
 goes_against f rules.DuplicateExtension = false

@@ -7,7 +7,7 @@ use Rattle.cert_desk_io.specs.declared.read_all_error.ReadAllError.TheVariants a
 use Rattle.cert_desk_io.specs.Devices.{Device, Moved, MetEnd, Sound, Untouched}
 use Rattle.cert_desk_io.specs.Telling.{IsAnswer, IsComplaint, IsDeviceTold, IsMemoryTold}
 use Rattle.cert_desk_io.specs.Whole.{IsWhole, IsUnread, most_octets}
-use Rattle.x509_cert.specs.Certificates.{PlainCertificate}
+use Rattle.x509_cert_anchors.specs.Certificates.{PlainCertificate}
 use Rattle.cert_desk_checking.specs.declared.anchor_fault.AnchorFault.TheVariants as faults
 use Rattle.cert_desk_checking.specs.declared.checked.Verdict.{Verdict}
 use Rattle.cert_desk_checking.specs.declared.checked.Verdict.TheVariants as verdicts
@@ -58,7 +58,7 @@ abbrev pub judging : {State : Type 0} → (State → Answers) → (State → ℕ
 judging {State} answers questions old new =
     record { State = State; answers = answers; questions = questions; old = old; new = new }
 
--- it wasn't asked
+-- a judge wasn't asked
 abbrev pub IsUnasked : Judge → Type 0
 IsUnasked judge = judge.new ≡ judge.old
 

@@ -1,7 +1,7 @@
 -- How a bundle changes.
 use Rattle.std.specs.Prelude.{◌≡◌, ◌≢◌, ℕ, ◌+◌, ◌≤◌, ◌<◌, ◌^◌, List, [], ◌++◌, length, take}
 use Rattle.cert_desk_io.specs.Devices.{Fails, source}
-use Rattle.x509_cert.specs.Certificates.{PlainCertificate, raw_certificate}
+use Rattle.x509_cert_anchors.specs.Certificates.{PlainCertificate, raw_certificate}
 use Rattle.cert_desk_checking.specs.declared.bundle_error.BundleError.{BundleError}
 use Rattle.cert_desk_checking.specs.declared.bundle_error.BundleError.TheVariants as errors
 use Rattle.cert_desk_checking.specs.declared.bundle_error.ReadError.{ReadError}
@@ -56,7 +56,7 @@ pub record Stops (bound : ℕ) (old new : Kept) (octets : List ℕ) (standing : 
   pub certificates : new.certificates ≡ old.certificates
   pub why : StopsBy bound old octets standing
 
--- it takes no further piece, and keeps nothing of a certificate that isn't whole
+-- a bundle that takes no further piece, and keeps nothing of a certificate that isn't whole
 abbrev pub stopped : Kept → Standing → Kept
 stopped b standing = record b { rest = []; standing = standing }
 
@@ -90,7 +90,7 @@ pub record FeedsNone (bound : ℕ) (old new : Kept) (piece : List ℕ) : Type 0 
   pub begins : (stream : List ℕ) → Reads bound old stream
       → Begins bound new.limit new.certificates (stream ++ piece)
 
--- it wasn't open, and nothing changed
+-- a bundle wasn't open, and nothing changed
 pub record IsShut (old new : Kept) : Type 0 where
   pub was_shut : old.standing ≢ standings.Open
   pub same : new ≡ old
@@ -121,7 +121,7 @@ HasFailed (standings.Faulted kind) = Unit {0}
 HasFailed standings.NoMemory = Unit {0}
 HasFailed standings.NoDevice = Unit {0}
 
--- it had failed, and nothing changed
+-- a bundle had failed, and nothing changed
 pub record HadFailed (old new : Kept) : Type 0 where
   pub failed : HasFailed old.standing
   pub same : new ≡ old

@@ -1,7 +1,7 @@
 -- What a reader of a stream of values has read, and what a bundle of certificates keeps.
 use Rattle.std.specs.Prelude.{ℕ, List, length}
 use Rattle.der_core_head.specs.Shapes.{Shape, Value}
-use Rattle.x509_cert.specs.Certificates.{PlainCertificate, raw_certificate}
+use Rattle.x509_cert_anchors.specs.Certificates.{PlainCertificate, raw_certificate}
 use Rattle.cert_desk_checking.specs.declared.fault_kind.FaultKind.TheVariants as kinds
 use Rattle.cert_desk_checking.specs.declared.standing.Standing.{Standing}
 use Rattle.cert_desk_checking.specs.declared.standing.Standing.TheVariants as standings

@@ -2,8 +2,8 @@
 use Rattle.std.specs.Prelude.{◌≡◌, ℕ, zero, suc, ◌+◌, ◌-◌, ◌<◌, ◌^◌, ◌⊎◌, List, [], ◌∷◌, length}
 use Rattle.std.specs.Prelude.{Bool, true, false, min, max, ◌&&◌, if◌then◌else◌, slice_get}
 use Rattle.std.specs.Option.{option_map_or}
-use Rattle.x509_cert.specs.Certificates.{PlainCertificate, PublicKey, outer_algorithm}
-use Rattle.x509_cert.specs.Certificates.{signature_bits}
+use Rattle.x509_cert_anchors.specs.Certificates.{PlainCertificate, outer_algorithm, signature_bits}
+use Rattle.x509_cert_extensions.specs.Parts.{PublicKey}
 use Rattle.cert_desk_checking.specs.declared.checked.Checked.{Checked}
 use Rattle.cert_desk_checking.specs.declared.checked.Verdict.{Verdict}
 use Rattle.cert_desk_checking.specs.declared.checked.Verdict.TheVariants as verdicts

@@ -10,10 +10,10 @@ use Rattle.der_core_head.specs.declared.tag.Tag.TheVariants as tags
 use Rattle.der_core_head.specs.Grammar.{plain_option, read_whole}
 use Rattle.der_core_head.specs.Leaves.{named}
 use Rattle.der_core_head.specs.Shapes.{Shape, BodyValue, Value, leaf, sequence, sequence_of, tagged}
-use Rattle.x509_cert.specs.Certificates.{PlainExtension, extension_arcs, extension_octets}
-use Rattle.x509_cert.specs.Certificates.{is_critical}
-use Rattle.x509_cert.specs.Extensions.{basic_constraints_fields, general_name, general_names}
-use Rattle.x509_cert.specs.Extensions.{object_identifier}
+use Rattle.x509_cert_extensions.specs.Parts.{PlainExtension, extension_arcs, extension_octets}
+use Rattle.x509_cert_extensions.specs.Parts.{is_critical, object_identifier}
+use Rattle.x509_cert_extensions.specs.Policies.{basic_constraints_fields}
+use Rattle.x509_cert_extensions.specs.GeneralNames.{general_name, general_names}
 
 -- arcs below 2.5.29
 abbrev pub certificate_extension : ℕ → List ℕ

@@ -1,7 +1,7 @@
 -- What a wider bound of arcs changes of streams and their verdicts.
 use Rattle.std.specs.Prelude.{◌≡◌, ℕ, ◌≤◌, ◌⊎◌, List, [], ◌∷◌, ◌++◌}
 use Rattle.der_core_head.specs.Bounds.{HoldsLarge}
-use Rattle.x509_cert.specs.Certificates.{PlainCertificate}
+use Rattle.x509_cert_anchors.specs.Certificates.{PlainCertificate}
 use Rattle.cert_desk_checking.specs.declared.checked.Verdict.{Verdict}
 use Rattle.cert_desk_checking.specs.declared.fault_kind.FaultKind.{FaultKind}
 use Rattle.cert_desk_checking.specs.Bounded.{OneBecomesReadable, OneHoldsLarge, bounded}

@@ -1,7 +1,7 @@
 //! Files of anchors.
 ghost use Rattle.std.specs.Prelude.{◌≡◌, ◌<◌, ◌^◌, length, map, IfOk, IfErr};
 ghost use Rattle.der_core_head.specs.Heads.{Fits};
-ghost use Rattle.x509_cert.specs.Anchors.{trust_anchor_plain};
+ghost use Rattle.x509_cert_anchors.specs.Views.{trust_anchor_plain};
 ghost use Rattle.cert_desk_checking.specs.Anchors.{anchor_plain, given_by};
 ghost use Rattle.cert_desk_checking.specs.AnchorFiles.{IsAnchorFile};
 ghost use Rattle.cert_desk_checking.specs.AnchorReading.{StandsAt, GivesAt, IsUngiven, GivesNone};
@@ -14,7 +14,8 @@ use crate::outcome::Outcome;
 use der_core::from_der_partial;
 use der_core_head::ErrorKind;
 use std::alloc::Global;
-use x509_cert::{Raw, TrustAnchorChoice};
+use x509_cert_anchors::TrustAnchorChoice;
+use x509_cert_anchors::certificates::Raw;
 
 // That the trust anchor that begins at the start is faulty.
 fn faulty(start: usize, fault: AnchorFault) -> Outcome

@@ -5,10 +5,11 @@ ghost use Rattle.std.specs.List.{list_any};
 ghost use Rattle.std.specs.Option.{is_some};
 ghost use Rattle.const_oid.specs.Bound.{Bound};
 ghost use Rattle.der_core_head.specs.Shapes.{IsValid};
-ghost use Rattle.x509_cert.specs.Names.TimeTypes.Seconds.{unix_seconds};
-ghost use Rattle.x509_cert.specs.Views.{certificate_plain, key_plain, name_plain};
-ghost use Rattle.x509_cert.specs.Certificates.{PlainCertificate, extensions_of, issuer, not_before};
-ghost use Rattle.x509_cert.specs.Certificates.{not_after, raw_certificate};
+ghost use Rattle.x509_cert_extensions.specs.Names.TimeTypes.Seconds.{unix_seconds};
+ghost use Rattle.x509_cert_anchors.specs.CertificateViews.{certificate_plain};
+ghost use Rattle.x509_cert_extensions.specs.Parts.{key_plain, name_plain};
+ghost use Rattle.x509_cert_anchors.specs.Certificates.{PlainCertificate, extensions_of, issuer};
+ghost use Rattle.x509_cert_anchors.specs.Certificates.{not_before, not_after, raw_certificate};
 ghost use Rattle.cert_desk_checking.specs.declared.fault_kind.FaultKind.{FaultKind};
 ghost use Rattle.cert_desk_checking.specs.Anchors.{anchor_plain, terms_of};
 ghost use Rattle.cert_desk_checking.specs.Chains.{Chain, joined};
@@ -36,7 +37,7 @@ use crate::standing::Standing;
 use crate::weighing::findings_of;
 use const_oid::ObjectIdentifier;
 use std::alloc::{AllocError, Global};
-use x509_cert::{CertificateInner, Name, Raw, SubjectPublicKeyInfo};
+use x509_cert_anchors::certificates::{CertificateInner, Name, Raw, SubjectPublicKeyInfo};
 
 /// The verdict on the stream that a bundle has read, and how often the judge was asked for it.
 ///

@@ -1,11 +1,11 @@
 //! A judge of digests, which stands where an algorithm would.
 ghost use Rattle.std.specs.Prelude.{◌≡◌};
-ghost use Rattle.x509_cert.specs.Views.{algorithm_plain};
+ghost use Rattle.x509_cert_extensions.specs.Parts.{algorithm_plain};
 ghost use Rattle.cert_desk_checking.specs.Digests.{digest_answers, is_digest};
 
 use crate::signature_judge::SignatureJudge;
 use sha2::{Digest, Sha256};
-use x509_cert::{AlgorithmIdentifier, BitString, SubjectPublicKeyInfo};
+use x509_cert_anchors::certificates::{AlgorithmIdentifier, BitString, SubjectPublicKeyInfo};
 
 // The octets of 1.3.6.1.4.1.32473.2, under the arc for examples (RFC 5612).
 const DIGEST_ALGORITHM: [u8; 9] = [0x2b, 0x06, 0x01, 0x04, 0x01, 0x81, 0xfd, 0x59, 0x02];

@@ -1,6 +1,6 @@
 //! A certificate of a stream.
 
-use x509_cert::{CertificateInner, Raw};
+use x509_cert_anchors::certificates::{CertificateInner, Raw};
 
 /// A certificate of a stream, where it stands. Nothing is copied.
 #[derive(Clone, Copy, Debug)]

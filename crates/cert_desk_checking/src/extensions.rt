@@ -4,15 +4,16 @@ ghost use Rattle.std.specs.Prelude.{◌≡◌, ◌<◌, ℕ, length, true, false
 ghost use Rattle.std.specs.Prelude.{IfOk, IfSome, OnErr};
 ghost use Rattle.std.specs.Option.{is_some, option_map_or};
 ghost use Rattle.const_oid.specs.Comparing.{owned_eq};
-ghost use Rattle.x509_cert.specs.Certificates.{extensions_of};
-ghost use Rattle.x509_cert.specs.Views.{certificate_plain, extension_plain, extensions_plain};
+ghost use Rattle.x509_cert_anchors.specs.Certificates.{extensions_of};
+ghost use Rattle.x509_cert_anchors.specs.CertificateViews.{certificate_plain};
+ghost use Rattle.x509_cert_extensions.specs.Parts.{extension_plain, extensions_plain};
 ghost use Rattle.cert_desk_checking.specs.Judging.{are_distinct, has_twin, is_alone};
 ghost use Rattle.cert_desk_checking.specs.Weighing.{certificate_extension, may_take_memory};
 
 use const_oid::ObjectIdentifier;
 use std::alloc::{AllocError, Global};
 use std::collections::BTreeSet;
-use x509_cert::{CertificateInner, Extension, Raw};
+use x509_cert_anchors::certificates::{CertificateInner, Extension, Raw};
 
 // Below 2.5.29 (RFC 5280 4.2.1.3, 4.2.1.6, 4.2.1.9, 4.2.1.12).
 pub(crate) const KEY_USAGE: u8 = 15;

@@ -1,7 +1,7 @@
 //! Who may have issued a certificate.
 
 use crate::anchor::Anchor;
-use x509_cert::{CertificateInner, Raw};
+use x509_cert_anchors::certificates::{CertificateInner, Raw};
 
 /// Who may have issued a certificate of a chain.
 #[derive(Clone, Copy)]

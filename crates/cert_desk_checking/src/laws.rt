@@ -5,6 +5,7 @@ ghost use Rattle.cert_desk_checking.specs.ChainParts.{HasNothingOutside, HasOneS
 ghost use Rattle.cert_desk_checking.specs.Laws.{HasOneSeries, HasOneSeriesFault, HasOneChain};
 ghost use Rattle.cert_desk_checking.specs.Laws.{FaultHasNoChain, HasOneFault, FaultStays};
 ghost use Rattle.cert_desk_checking.specs.Laws.{HasOneVerdict, HasOneAnchorFile, IsJudgedAlike};
+ghost use Rattle.cert_desk_checking.specs.Laws.{IsJudgedByLines, QuestionsAreListed};
 ghost use Rattle.cert_desk_checking.specs.WiderBounds.{WiderKeepsChains, NewChainsHoldLarge};
 ghost use Rattle.cert_desk_checking.specs.WiderBounds.{WiderKeepsTrust, WiderKeepsVerdicts};
 ghost use Rattle.cert_desk_checking.specs.WiderBounds.{WiderKeepsFaults};
@@ -60,6 +61,14 @@ pub fn one_anchor_file()
 /// answers is the verdict under whoever gave them, whatever it says elsewhere.
 pub fn judged_alike()
     ensures { IsJudgedAlike }
+{}
+
+/// What `chain_lines` lists is what the signatures of a chain may ask: at each place the questions
+/// have a line each, in turn, and nothing else has one. So judges that answer alike to what is
+/// listed give one verdict, and are asked as often.
+pub fn questions_are_listed()
+    ensures listed { QuestionsAreListed }
+    ensures judged { IsJudgedByLines }
 {}
 
 /// The judge is asked at most once for each certificate behind the first, and for each anchor of

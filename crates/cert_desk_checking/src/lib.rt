@@ -5,6 +5,8 @@ mod anchor;
 mod anchor_error;
 mod anchor_fault;
 mod anchor_files;
+mod answer;
+mod answers_judge;
 mod arguments;
 mod bundle;
 mod bundle_error;
@@ -24,6 +26,7 @@ mod located;
 mod malformed;
 mod outcome;
 mod path_room;
+mod question_lines;
 mod reason;
 mod reasons;
 mod rest;
@@ -39,6 +42,8 @@ mod weight;
 pub use anchor::Anchor;
 pub use anchor_error::AnchorError;
 pub use anchor_fault::AnchorFault;
+pub use answer::Answer;
+pub use answers_judge::AnswersJudge;
 pub use arguments::{Arguments, USAGE};
 pub use bundle::Bundle;
 pub use bundle_error::{BundleError, ReadError};
@@ -54,6 +59,7 @@ pub use fault_kind::FaultKind;
 pub use lines::{anchors_line, verdict_line};
 pub use malformed::first_fault;
 pub use outcome::Outcome;
+pub use question_lines::chain_lines;
 pub use reason::Reason;
 pub use reasons::reason_of;
 pub use rule::Rule;
@@ -65,10 +71,12 @@ pub use standing::Standing;
 // What the calls take and answer.
 pub use const_oid::ObjectIdentifier;
 pub use der_core::{Error, ErrorKind};
-pub use x509_cert::{
+pub use x509_cert_anchors::TrustAnchorChoice;
+pub use x509_cert_anchors::certificates::{
     AlgorithmIdentifier, BitString, CertDigest, Certificate, CertificateInner, Name, Raw,
-    SubjectPublicKeyInfo, Time, TrustAnchorChoice,
+    SubjectPublicKeyInfo, Time,
 };
 
 // What all of these are made of.
-pub use x509_cert as types;
+pub use x509_cert_anchors::certificates;
+pub use x509_cert_extensions as types;

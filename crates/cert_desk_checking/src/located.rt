@@ -7,7 +7,7 @@ use crate::scan::sequence_len;
 use crate::standing::Standing;
 use der_core_head::ErrorKind;
 use std::alloc::Global;
-use x509_cert::{CertificateInner, Raw};
+use x509_cert_anchors::certificates::{CertificateInner, Raw};
 
 // A certificate, its octets, and where it stands.
 #[derive(Drop)]

@@ -1,11 +1,11 @@
 //! Why a certificate is malformed.
 ghost use Rattle.std.specs.Prelude.{◌≡◌, ℕ, List, Ok, Err, IfOk, IfSome, IfNone};
-ghost use Rattle.x509_cert.specs.Certificates.{PlainCertificate};
+ghost use Rattle.x509_cert_anchors.specs.Certificates.{PlainCertificate};
 ghost use Rattle.cert_desk_checking.specs.FirstFaults.{first_certificate};
 
 use der_core::{Error, ErrorKind, from_der_partial};
 use std::alloc::{AllocError, Global};
-use x509_cert::{CertificateInner, Raw};
+use x509_cert_anchors::certificates::{CertificateInner, Raw};
 
 /// Why no certificate begins these octets: the first fault from the left, or none where one does.
 ///

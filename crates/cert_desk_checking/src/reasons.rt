@@ -3,7 +3,7 @@ ghost use Rattle.std.specs.Prelude.{◌≡◌, ◌<◌, ◌≤◌, ◌+◌, ◌-
 ghost use Rattle.std.specs.Prelude.{IfSome, IfNone, IfOk, IsSome, OnErr};
 ghost use Rattle.std.specs.List.{list_any};
 ghost use Rattle.const_oid.specs.Bound.{Bound};
-ghost use Rattle.x509_cert.specs.Views.{extension_plain, extensions_plain};
+ghost use Rattle.x509_cert_extensions.specs.Parts.{extension_plain, extensions_plain};
 ghost use Rattle.cert_desk_checking.specs.Judging.{Terms, are_distinct, is_alone, keeps_at};
 ghost use Rattle.cert_desk_checking.specs.Paths.{counted, counts, extensions_at, keep_lengths};
 ghost use Rattle.cert_desk_checking.specs.Paths.{keeps_length};
@@ -23,7 +23,7 @@ use crate::weighing::findings_of;
 use const_oid::ObjectIdentifier;
 use std::alloc::{AllocError, Global};
 use std::slice;
-use x509_cert::Extension;
+use x509_cert_anchors::certificates::Extension;
 
 /// Why the certificate at a place of a bundle breaks a rule, for this purpose, if the rule leaves
 /// that open and it does. It is meant for the place and the rule of a verdict.

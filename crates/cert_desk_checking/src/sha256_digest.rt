@@ -3,7 +3,7 @@ ghost use Rattle.sha2.specs.Sha256.{sha256};
 
 use sha2::{Digest, Sha256};
 use std::alloc::{AllocError, Global};
-use x509_cert::CertDigest;
+use x509_cert_anchors::certificates::CertDigest;
 
 /// SHA-256 (FIPS 180-4) as a digest of certificates: `certificate.hash::<Sha256Digest>(alloc)`
 /// answers that of the certificate's encoding.

@@ -1,10 +1,10 @@
 //! Who says whether a signature is right.
 ghost use Rattle.std.specs.Prelude.{◌≡◌, ℕ};
-ghost use Rattle.x509_cert.specs.Views.{key_plain, algorithm_plain};
+ghost use Rattle.x509_cert_extensions.specs.Parts.{key_plain, algorithm_plain};
 ghost use Rattle.cert_desk_checking.specs.Judging.{Answers};
 ghost use Rattle.cert_desk_checking.specs.Verdicts.{raised};
 
-use x509_cert::{AlgorithmIdentifier, BitString, SubjectPublicKeyInfo};
+use x509_cert_anchors::certificates::{AlgorithmIdentifier, BitString, SubjectPublicKeyInfo};
 
 /// Says whether a signature is right. The answer is a function of the key, the algorithm, the
 /// octets and the bits, which no call changes. Questions take no memory.

@@ -3,7 +3,7 @@ ghost use Rattle.std.specs.Prelude.{◌≡◌, ◌≢◌, ℕ, List, true, IfOk,
 ghost use Rattle.const_oid.specs.Bound.{Bound};
 ghost use Rattle.const_oid.specs.Comparing.{owned_eq};
 ghost use Rattle.der_core_head.specs.declared.error.ErrorKind.{ErrorKind};
-ghost use Rattle.x509_cert.specs.Views.{extension_plain, extensions_plain};
+ghost use Rattle.x509_cert_extensions.specs.Parts.{extension_plain, extensions_plain};
 ghost use Rattle.cert_desk_checking.specs.Findings.{found, weight_of};
 ghost use Rattle.cert_desk_checking.specs.Weighing.{any_purpose, extended_key_usage, has_list};
 ghost use Rattle.cert_desk_checking.specs.Weighing.{key_usage, may_take_memory, meaning_by};
@@ -20,9 +20,9 @@ use der_core::{Error, ErrorKind, Explicit, Implicit, OneOf8, from_der};
 use der_types_text::Ia5StringRef;
 use der_types_values::OctetStringRef;
 use std::alloc::{AllocError, Global};
-use x509_cert::{
-    EdiPartyName, ExtendedKeyUsage, Extension, FlagSet, KeyUsage, KeyUsages, Name, OtherName,
-};
+use x509_cert_anchors::certificates::{Extension, FlagSet, Name};
+use x509_cert_extensions::general_names::{EdiPartyName, OtherName};
+use x509_cert_extensions::{ExtendedKeyUsage, KeyUsage, KeyUsages};
 
 // A name that the octets lend where it is a text or octets.
 type NameLent<'a> = OneOf8<

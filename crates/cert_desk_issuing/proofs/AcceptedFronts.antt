@@ -12,14 +12,13 @@ use Rattle.der_core_head.specs.Grammar.{plain_list}
 use Rattle.der_core_head.specs.Integers.{integer_octets}
 use Rattle.der_core_head.specs.Octets.{◌>>=◌}
 use Rattle.der_core_head.specs.declared.error.ErrorKind.{ErrorKind}
-use Rattle.cert_desk_checking.specs.Builders.{may_stay}
-use Rattle.cert_desk_checking.specs.Certificates.{Algorithm, PlainName, PublicKey}
+use Rattle.x509_cert_builders.specs.Subscribers.{may_stay, all_stays, stays}
+use Rattle.cert_desk_checking.specs.Parts.{Algorithm, PlainName, PublicKey}
 use Rattle.cert_desk_checking.specs.Names.Pairs.{relative_plain}
 use Rattle.cert_desk_checking.specs.Names.declared.attribute_type_and_value.AttributeTypeAndValue.{AttributeTypeAndValue}
 use Rattle.cert_desk_checking.specs.Texts.{SpellsName}
 use Rattle.cert_desk_orders.specs.SerialNumbers.{new_serial}
 use Rattle.cert_desk_orders.specs.declared.order.Order.{Order}
-use Rattle.x509_cert_builders.specs.Subscribers.{all_stays, stays}
 use Rattle.cert_desk_checking.proofs.Names.SetTypes.LentOwned.{plain-append}
 use Rattle.cert_desk_checking.proofs.Names.OneName.{HasSome, read_some}
 use Rattle.cert_desk_checking.proofs.Names.SetTypes.FewSteps.{length_plain_list}

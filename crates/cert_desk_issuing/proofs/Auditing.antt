@@ -2,7 +2,8 @@
 use Rattle.std.proofs.Common.{◌≡◌, ◌≢◌, ◌⊎◌, inl, inr, ℕ, ◌<◌, List, [], ◌∷◌, length, Some, Result, Ok, Err, OnErr, slice_get, refl, sym, ap, ◌∙◌, subst, arith}
 use Rattle.const_oid.specs.Bound.{Bound}
 use Rattle.der_core_head.specs.Limits.{length_max}
-use Rattle.cert_desk_checking.specs.Certificates.{PlainCertificate, PlainName, PublicKey, public_key}
+use Rattle.cert_desk_checking.specs.Certificates.{PlainCertificate, public_key}
+use Rattle.cert_desk_checking.specs.Parts.{PlainName, PublicKey}
 use Rattle.cert_desk_checking.specs.declared.checked.CheckError.TheVariants as errors
 use Rattle.cert_desk_checking.specs.declared.checked.Verdict.{Verdict}
 use Rattle.cert_desk_checking.specs.declared.checked.Verdict.TheVariants as verdicts

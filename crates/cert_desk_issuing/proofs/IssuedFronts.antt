@@ -11,7 +11,8 @@ use Rattle.der_core_head.specs.BitStrings.{Bits}
 use Rattle.der_core_head.specs.Grammar.{plain_list}
 use Rattle.der_core_head.specs.Heads.{Fits}
 use Rattle.der_core_head.specs.Shapes.{IsValid}
-use Rattle.cert_desk_checking.specs.Certificates.{Algorithm, PlainCertificate, PublicKey, Tbs, certificate_octets, raw_certificate, signature_bits}
+use Rattle.cert_desk_checking.specs.Parts.{Algorithm, PublicKey}
+use Rattle.cert_desk_checking.specs.Certificates.{PlainCertificate, Tbs, certificate_octets, raw_certificate, signature_bits}
 use Rattle.cert_desk_checking.specs.Chains.{Stands, joined}
 use Rattle.cert_desk_orders.specs.declared.order.Order.{Order}
 use Rattle.cert_desk_issuing.specs.declared.accepted.Accepted.{Accepted}

@@ -6,12 +6,12 @@ use Rattle.const_oid.specs.Bound.{Bound}
 use Rattle.der_core_head.specs.BitStrings.{Bits}
 use Rattle.der_core_head.specs.Dates.{Civil}
 use Rattle.der_core_head.specs.Shapes.{IsBody, IsContent, IsValid}
-use Rattle.cert_desk_checking.specs.Builders.{IsWantOfMemory, NamesAuthority}
-use Rattle.cert_desk_checking.specs.Certificates.{Algorithm, PlainName, PublicKey, name, Tbs}
+use Rattle.x509_cert_builders.specs.Refusals.{IsWantOfMemory}
+use Rattle.x509_cert_builders.specs.Naming.{NamesAuthority}
+use Rattle.cert_desk_checking.specs.Parts.{Algorithm, PlainName, PublicKey, name, civil_of, time_of, key_plain}
+use Rattle.cert_desk_checking.specs.Certificates.{Tbs, tbs_certificate}
 use Rattle.cert_desk_checking.specs.Names.TimeTypes.Seconds.{unix_seconds}
-use Rattle.cert_desk_checking.specs.Parts.{civil_of, tbs_certificate, time_of}
 use Rattle.cert_desk_checking.specs.Texts.{SpellsName}
-use Rattle.cert_desk_checking.specs.Views.{key_plain}
 use Rattle.cert_desk_orders.specs.Grammar.{PlainValidity, not_after, not_before}
 use Rattle.cert_desk_orders.specs.declared.order.Order.{Order}
 use Rattle.x509_cert_builders.specs.declared.error.Error.{Error}

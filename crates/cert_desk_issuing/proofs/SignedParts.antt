@@ -10,14 +10,13 @@ use Rattle.der_core_head.specs.Integers.{integer_octets}
 use Rattle.der_core_head.specs.Ranges.{IsInRange}
 use Rattle.der_core_head.specs.Shapes.{IsBody, IsContent, IsValid, body_octets, contents, octets_of}
 use Rattle.der_core_head.proofs.WrittenValid.{valid_in_range}
-use Rattle.cert_desk_checking.specs.Builders.{IsWantOfMemory, is_refused}
+use Rattle.x509_cert_builders.specs.Refusals.{IsWantOfMemory, is_refused, HasNoEncoding, IsUnwritten}
 use Rattle.x509_cert_builders.specs.declared.error.Error.{Error as BuilderError}
 use Rattle.x509_cert_builders.specs.declared.error.Error.TheVariants as builders
-use Rattle.x509_cert_builders.specs.Refusals.{HasNoEncoding, IsUnwritten}
 use Rattle.x509_cert_builders.specs.SignedParts.{bare_part, part_shape, signed_part, written_part}
 use Rattle.x509_cert_builders.specs.States.{CertificateState, part_for}
-use Rattle.cert_desk_checking.specs.Certificates.{Algorithm, PlainCertificate, PlainExtension, PlainName, PublicKey, Tbs, algorithm_identifier, bit_string, certificate_octets, outer_algorithm, raw_certificate, signature_bits, tbs}
-use Rattle.cert_desk_checking.specs.Parts.{certificate, tbs_certificate, time_of}
+use Rattle.cert_desk_checking.specs.Parts.{Algorithm, PlainExtension, PlainName, PublicKey, algorithm_identifier, bit_string, time_of}
+use Rattle.cert_desk_checking.specs.Certificates.{PlainCertificate, Tbs, certificate_octets, outer_algorithm, raw_certificate, signature_bits, tbs, certificate, tbs_certificate}
 use Rattle.cert_desk_orders.specs.Grammar.{PlainValidity}
 use Rattle.cert_desk_orders.specs.Respelling.{respelled, validity_by}
 use Rattle.cert_desk_issuing.specs.declared.role.Role.{Role}

@@ -16,9 +16,9 @@ use Rattle.der_core_head.specs.Octets.{IsOctets}
 use Rattle.der_core_head.specs.Shapes.{octets_of, Shape, Value, IsValid, IsContent, IsBody, contents, body_octets}
 use Rattle.der_core_head.specs.Spelling.{is_apart, are_enough}
 use Rattle.der_core_head.specs.Tags.{context}
-use Rattle.cert_desk_checking.specs.Builders.{authority_uses, authority_key_extension, constraints_extension, digital_signature, purposes_extension, subject_key_extension, usage_extension}
-use Rattle.cert_desk_checking.specs.Certificates.{PlainExtension, PublicKey, PlainName}
-use Rattle.cert_desk_checking.specs.Extensions.{general_names, general_name}
+use Rattle.x509_cert_builders.specs.Profiles.{authority_uses, authority_key_extension, constraints_extension, digital_signature, purposes_extension, subject_key_extension, usage_extension}
+use Rattle.cert_desk_checking.specs.Parts.{PlainExtension, PublicKey, PlainName}
+use Rattle.cert_desk_checking.specs.GeneralNames.{general_names, general_name}
 use Rattle.cert_desk_checking.specs.Judging.{are_distinct}
 use Rattle.cert_desk_checking.specs.Paths.{is_within}
 use Rattle.cert_desk_checking.specs.Weighing.{Meaning, uses, purposes, is_authority, is_malformed, is_unweighed, is_unweighed_critical, may_certify, path_length, serves, weigh, constraints, other_names, unweighed, basic_constraints, constraints_of, key_usage, extended_key_usage, meaning_by, meaning_of}
@@ -29,7 +29,7 @@ use Rattle.cert_desk_issuing.specs.Ordered.{dns_names, extensions_for, names_ext
 use Rattle.cert_desk_issuing.specs.PlainOrders.{IsRight, PlainOrder}
 use Rattle.cert_desk_issuing.specs.Laws.{Told, told, told_for}
 use Rattle.cert_desk_issuing.specs.declared.role.Role.{Role}
-use Rattle.cert_desk_checking.specs.Builders as profiles
+use Rattle.x509_cert_builders.specs.Profiles as profiles
 use Rattle.cert_desk_issuing.specs.declared.role.Role.TheVariants as roles
 use Rattle.der_core_head.specs.declared.tag.Tag.TheVariants as tags
 

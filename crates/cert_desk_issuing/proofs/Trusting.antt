@@ -12,12 +12,12 @@ use Rattle.der_core_head.specs.BitStrings.{Bits}
 use Rattle.der_core_head.specs.Heads.{Fits}
 use Rattle.der_core_head.specs.Limits.{length_max}
 use Rattle.der_core_head.specs.Shapes.{IsValid, IsContent, IsBody, octets_of}
-use Rattle.cert_desk_checking.specs.Certificates.{PlainCertificate, Tbs, extensions_of, inner_algorithm, issuer, not_after, not_before, outer_algorithm, public_key, raw_certificate, raw_tbs_certificate, subject, tbs, Algorithm, certificate_octets, signature_bits, algorithm_identifier, name_octets, PublicKey}
+use Rattle.cert_desk_checking.specs.Certificates.{PlainCertificate, Tbs, extensions_of, inner_algorithm, issuer, not_after, not_before, outer_algorithm, public_key, raw_certificate, raw_tbs_certificate, subject, tbs, certificate_octets, signature_bits}
+use Rattle.cert_desk_checking.specs.Parts.{Algorithm, algorithm_identifier, name_octets, PublicKey, civil_of}
 use Rattle.cert_desk_checking.specs.Chains.{Chain, Stands}
-use Rattle.cert_desk_checking.specs.Extensions.{general_names}
+use Rattle.cert_desk_checking.specs.GeneralNames.{general_names}
 use Rattle.cert_desk_checking.specs.Judging.{same_name, Answers, are_distinct, has_authority, keeps, keeps_at, signed_part}
 use Rattle.cert_desk_checking.specs.Names.TimeTypes.Seconds.{unix_seconds}
-use Rattle.cert_desk_checking.specs.Parts.{civil_of}
 use Rattle.cert_desk_checking.specs.Paths.{counted, counts, is_last, is_self_issued, is_within, is_within_lengths, keep_lengths, keeps_length}
 use Rattle.cert_desk_checking.specs.Verdicts.{Trusted}
 use Rattle.cert_desk_checking.specs.Weighing.{path_length, weigh, is_authority, is_malformed, is_unweighed_critical, may_certify, serves}

@@ -8,11 +8,10 @@ use Rattle.der_core_head.specs.Dates.{Civil, is_civil}
 use Rattle.der_core_head.specs.Grammar.{plain_list}
 use Rattle.cert_desk_checking.specs.Names.TimeTypes.DateTexts.{date_text}
 use Rattle.cert_desk_checking.specs.Names.TimeTypes.Seconds.{unix_seconds}
-use Rattle.cert_desk_checking.specs.Builders.{NamesAuthority, may_stay}
-use Rattle.cert_desk_checking.specs.Certificates.{PlainName, PublicKey}
-use Rattle.cert_desk_checking.specs.Views.{key_plain}
+use Rattle.x509_cert_builders.specs.Naming.{NamesAuthority}
+use Rattle.x509_cert_builders.specs.Subscribers.{may_stay}
+use Rattle.cert_desk_checking.specs.Parts.{PlainName, PublicKey, key_plain, civil_of, time_of}
 use Rattle.cert_desk_checking.specs.Texts.{SpellsName}
-use Rattle.cert_desk_checking.specs.Parts.{civil_of, time_of}
 use Rattle.cert_desk_orders.specs.Grammar.{PlainValidity, not_after, not_before}
 use Rattle.cert_desk_orders.specs.SerialNumbers.{new_serial}
 use Rattle.cert_desk_orders.specs.declared.order.Order.{Order}

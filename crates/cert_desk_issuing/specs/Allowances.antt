@@ -6,8 +6,8 @@ use Rattle.std.specs.Option.{option_map_or}
 use Rattle.const_oid.specs.Bound.{Bound}
 use Rattle.const_oid.specs.Comparing.{owned_eq}
 use Rattle.cert_desk_checking.specs.Names.TimeTypes.Seconds.{unix_seconds}
-use Rattle.cert_desk_checking.specs.Builders.{id_kp}
-use Rattle.cert_desk_checking.specs.Certificates.{PlainName}
+use Rattle.x509_cert_builders.specs.Profiles.{id_kp}
+use Rattle.cert_desk_checking.specs.Parts.{PlainName}
 use Rattle.cert_desk_checking.specs.Judging.{same_name}
 use Rattle.cert_desk_checking.specs.Paths.{is_within}
 use Rattle.cert_desk_issuing.specs.declared.role.Role.{Role}

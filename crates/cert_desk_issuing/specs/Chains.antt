@@ -5,7 +5,8 @@ use Rattle.const_oid.specs.Bound.{Bound}
 use Rattle.der_core_head.specs.Limits.{length_max}
 use Rattle.der_core_head.specs.BitStrings.{Bits}
 use Rattle.cert_desk_checking.specs.Certificates.{PlainCertificate, outer_algorithm, signature_bits}
-use Rattle.cert_desk_checking.specs.Certificates.{certificate_octets, tbs, Algorithm, PublicKey}
+use Rattle.cert_desk_checking.specs.Certificates.{certificate_octets, tbs}
+use Rattle.cert_desk_checking.specs.Parts.{Algorithm, PublicKey}
 use Rattle.cert_desk_checking.specs.Chains.{Chain, Stands}
 use Rattle.cert_desk_orders.specs.declared.order.Order.{Order}
 use Rattle.cert_desk_issuing.specs.Acceptance.{AcceptedOrders}

@@ -6,8 +6,8 @@ use Rattle.der_core_head.specs.BitStrings.{Bits}
 use Rattle.cert_desk_checking.specs.Names.TimeTypes.Seconds.{unix_seconds}
 use Rattle.cert_desk_checking.specs.Certificates.{PlainCertificate, certificate_octets}
 use Rattle.cert_desk_checking.specs.Certificates.{extensions_of, outer_algorithm, signature_bits}
-use Rattle.cert_desk_checking.specs.Certificates.{tbs, Algorithm, PublicKey, PlainExtension}
-use Rattle.cert_desk_checking.specs.Certificates.{is_critical}
+use Rattle.cert_desk_checking.specs.Certificates.{tbs}
+use Rattle.cert_desk_checking.specs.Parts.{Algorithm, PublicKey, PlainExtension, is_critical}
 use Rattle.cert_desk_checking.specs.declared.rule.Rule.{Rule}
 use Rattle.cert_desk_checking.specs.declared.rule.Rule.TheVariants as rules
 use Rattle.cert_desk_checking.specs.Judging.{Answers, PlainAnchor, Terms, signed_part}
@@ -20,8 +20,8 @@ use Rattle.cert_desk_issuing.specs.Chains.{HoldsOrders, IssuedChain}
 use Rattle.cert_desk_issuing.specs.Ordered.{part_octets, dns_names}
 use Rattle.cert_desk_issuing.specs.PlainOrders.{PlainOrder, begins, ends}
 use Rattle.cert_desk_issuing.specs.Roles.{place_above, role_at}
-use Rattle.cert_desk_checking.specs.Builders.{authority_uses, digital_signature}
-use Rattle.cert_desk_checking.specs.Builders as profiles
+use Rattle.x509_cert_builders.specs.Profiles.{authority_uses, digital_signature}
+use Rattle.x509_cert_builders.specs.Profiles as profiles
 use Rattle.cert_desk_checking.specs.Weighing.{Meaning, constraints, other_names, purposes}
 use Rattle.cert_desk_checking.specs.Weighing.{unweighed, uses, weigh}
 use Rattle.cert_desk_issuing.specs.declared.role.Role.{Role}

@@ -6,13 +6,12 @@ use Rattle.std.specs.Bool.{⊤}
 use Rattle.const_oid.specs.Bound.{Bound}
 use Rattle.der_core_head.specs.Grammar.{plain_list, plain_option}
 use Rattle.der_core_head.specs.Shapes.{IsValid, Value, octets_of}
-use Rattle.cert_desk_checking.specs.Builders.{digital_signature, root_extensions}
-use Rattle.cert_desk_checking.specs.Builders.{standard_extension, subordinate_extensions}
-use Rattle.cert_desk_checking.specs.Builders.{subscriber_extensions}
-use Rattle.cert_desk_checking.specs.Certificates.{Tbs, Algorithm, PlainExtension, PlainName}
-use Rattle.cert_desk_checking.specs.Certificates.{PublicKey}
-use Rattle.cert_desk_checking.specs.Parts.{tbs_certificate}
-use Rattle.cert_desk_checking.specs.Extensions.{general_name, general_names}
+use Rattle.x509_cert_builders.specs.Profiles.{digital_signature, root_extensions}
+use Rattle.x509_cert_builders.specs.Profiles.{standard_extension, subordinate_extensions}
+use Rattle.x509_cert_builders.specs.Profiles.{subscriber_extensions}
+use Rattle.cert_desk_checking.specs.Certificates.{Tbs, tbs_certificate}
+use Rattle.cert_desk_checking.specs.Parts.{Algorithm, PlainExtension, PlainName, PublicKey}
+use Rattle.cert_desk_checking.specs.GeneralNames.{general_name, general_names}
 use Rattle.cert_desk_issuing.specs.declared.role.Role.{Role}
 use Rattle.cert_desk_issuing.specs.declared.role.Role.TheVariants as roles
 use Rattle.cert_desk_issuing.specs.PlainOrders.{PlainOrder}
@@ -69,6 +68,6 @@ ordered_part role p above a = (
   ),
 )
 
--- its octets
+-- the octets of a signed part
 abbrev pub part_octets : Tbs → List ℕ
 part_octets t = octets_of (tbs_certificate Bound None) t

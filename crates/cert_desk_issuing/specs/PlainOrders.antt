@@ -7,10 +7,9 @@ use Rattle.der_core_head.specs.Dates.{Civil}
 use Rattle.der_core_head.specs.Grammar.{plain_list}
 use Rattle.der_core_head.specs.Integers.{integer_octets}
 use Rattle.x509_cert_builders.specs.Subscribers.{all_stays}
-use Rattle.cert_desk_checking.specs.Builders.{NamesAuthority}
-use Rattle.cert_desk_checking.specs.Certificates.{PlainName, PublicKey}
-use Rattle.cert_desk_checking.specs.Views.{key_plain, name_plain, validity_plain}
-use Rattle.cert_desk_checking.specs.Parts.{time_of, civil_of}
+use Rattle.x509_cert_builders.specs.Naming.{NamesAuthority}
+use Rattle.cert_desk_checking.specs.Parts.{PlainName, PublicKey, key_plain, name_plain}
+use Rattle.cert_desk_checking.specs.Parts.{validity_plain, time_of, civil_of}
 use Rattle.cert_desk_orders.specs.Grammar.{PlainValidity, not_after, not_before}
 use Rattle.cert_desk_issuing.specs.declared.accepted.Accepted.{Accepted}
 use Rattle.cert_desk_issuing.specs.declared.role.Role.{Role}

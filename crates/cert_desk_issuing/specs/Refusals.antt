@@ -12,15 +12,15 @@ use Rattle.der_core_head.specs.declared.error.ErrorKind.TheVariants as kinds
 use Rattle.der_core_head.specs.Shapes.{IsValid}
 use Rattle.cert_desk_checking.specs.Names.TimeTypes.DateTexts.{date_text}
 use Rattle.cert_desk_checking.specs.Names.TimeTypes.Seconds.{unix_seconds}
-use Rattle.cert_desk_checking.specs.Builders.{NamesAuthority, IsWantOfMemory}
+use Rattle.x509_cert_builders.specs.Naming.{NamesAuthority}
+use Rattle.x509_cert_builders.specs.Refusals.{IsWantOfMemory}
 use Rattle.x509_cert_builders.specs.declared.error.Error.{Error as BuilderError}
 use Rattle.x509_cert_builders.specs.declared.error.Error.TheVariants as builders
 use Rattle.x509_cert_builders.specs.declared.sign_error.SignError.TheVariants
     as signers
-use Rattle.cert_desk_checking.specs.Certificates.{PlainCertificate, Tbs, Algorithm, PlainName}
-use Rattle.cert_desk_checking.specs.Certificates.{PublicKey}
-use Rattle.cert_desk_checking.specs.Parts.{certificate, tbs_certificate}
-use Rattle.cert_desk_checking.specs.Views.{key_plain}
+use Rattle.cert_desk_checking.specs.Certificates.{PlainCertificate, Tbs, certificate}
+use Rattle.cert_desk_checking.specs.Certificates.{tbs_certificate}
+use Rattle.cert_desk_checking.specs.Parts.{Algorithm, PlainName, PublicKey, key_plain}
 use Rattle.cert_desk_checking.specs.Texts.{ReadsName, SpellsName}
 use Rattle.cert_desk_orders.specs.Grammar.{PlainValidity}
 use Rattle.cert_desk_orders.specs.SerialNumbers.{new_serial}

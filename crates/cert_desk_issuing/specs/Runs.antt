@@ -1,15 +1,15 @@
 -- What a run of `issue` finds, and what it tells.
-use Rattle.std.specs.Prelude.{◌≡◌, ℕ, ◌⊎◌, List, length, map, take}
+use Rattle.std.specs.Prelude.{◌≡◌, ◌≢◌, ℕ, ◌⊎◌, List, length, map, take}
 use Rattle.cert_desk_io.specs.declared.exit_status.ExitStatus.{ExitStatus}
 use Rattle.cert_desk_io.specs.declared.exit_status.ExitStatus.TheVariants as statuses
 use Rattle.cert_desk_io.specs.declared.read_all_error.ReadAllError.TheVariants as reasons
 use Rattle.cert_desk_io.specs.Devices.{Device, Untouched}
 use Rattle.cert_desk_io.specs.Telling.{IsAnswer, IsComplaint, IsDeviceTold, IsMemoryTold}
 use Rattle.cert_desk_io.specs.Whole.{IsWhole, IsUnread, most_octets}
-use Rattle.cert_desk_checking.specs.Certificates.{PublicKey}
-use Rattle.cert_desk_checking.specs.Views.{key_plain}
+use Rattle.cert_desk_checking.specs.Parts.{PublicKey, key_plain}
 use Rattle.cert_desk_orders.specs.declared.order.Order.{Order}
 use Rattle.cert_desk_issuing.specs.declared.digest_signer.DigestSigner.{DigestSigner}
+use Rattle.cert_desk_issuing.specs.declared.issue_error.IssueError.TheVariants as errors
 use Rattle.cert_desk_issuing.specs.declared.outcome.Outcome.{Outcome}
 use Rattle.cert_desk_issuing.specs.declared.outcome.Outcome.TheVariants as outcomes
 use Rattle.cert_desk_issuing.specs.Chains.{IssuedChain}
@@ -31,8 +31,8 @@ abbrev pub signing_keys : List Order → List PublicKey
 signing_keys orders = map key_of (take (signers_for (length orders)) orders)
 
 -- What becomes of orders whose own keys sign, each by digests: a chain that holds them, or why
--- there is none. No such signer refuses, and orders that are accepted and whose lengths fit aren't
--- refused.
+-- there is none. No such signer refuses, want of memory isn't told as a refusal, and orders that
+-- are accepted and whose lengths fit aren't refused.
 abbrev pub OrdersBecome : List Order → Outcome → Type 0
 OrdersBecome orders (outcomes.Issued issued) =
     (signers : List DigestSigner) × (map signer_key signers ≡ signing_keys orders)
@@ -42,6 +42,7 @@ OrdersBecome orders (outcomes.Refused error) =
     (signers : List DigestSigner) × (map signer_key signers ≡ signing_keys orders)
     × Refuses signer_key (λ s. digest_algorithm) (λ s. IsDigestOf (signer_key s)) (λ s octets. ⊥)
     orders signers error
+    × (error ≢ errors.OutOfMemory)
     × (AreIssuable signer_key (λ s. digest_algorithm) (λ s. IsDigestOf (signer_key s))
     (λ s octets. ⊥) orders signers → ⊥)
 OrdersBecome orders (outcomes.BadLine line) = ⊥

@@ -1,6 +1,6 @@
 //! Orders that were accepted.
 
-use cert_desk_checking::types::{Name, SerialNumber, Validity};
+use cert_desk_checking::certificates::{Name, SerialNumber, Validity};
 use cert_desk_orders::Order;
 
 /// An order that was accepted, and what its texts spell.

@@ -6,15 +6,14 @@ ghost use Rattle.std.specs.List.{list_all};
 ghost use Rattle.const_oid.specs.Bound.{Bound};
 ghost use Rattle.der_core_head.specs.Grammar.{plain_list, plain_option};
 ghost use Rattle.der_core_head.specs.Ranges.{IsInRange};
-ghost use Rattle.cert_desk_checking.specs.Builders.{IsWantOfMemory, common_name, country, is_among};
-ghost use Rattle.cert_desk_checking.specs.Builders.{may_stay};
-ghost use Rattle.cert_desk_checking.specs.Certificates.{PublicKey};
-ghost use Rattle.cert_desk_checking.specs.Parts.{relative_plain, time_of};
+ghost use Rattle.x509_cert_builders.specs.Refusals.{IsWantOfMemory};
+ghost use Rattle.x509_cert_builders.specs.Naming.{common_name, country, is_among};
+ghost use Rattle.x509_cert_builders.specs.Subscribers.{may_stay};
+ghost use Rattle.cert_desk_checking.specs.Parts.{PublicKey, relative_plain, time_of, key_plain};
+ghost use Rattle.cert_desk_checking.specs.Parts.{name_plain, time_date, time_value, validity_plain};
 ghost use Rattle.cert_desk_orders.specs.Grammar.{time};
 ghost use Rattle.cert_desk_orders.specs.SerialNumbers.{new_serial};
 ghost use Rattle.cert_desk_checking.specs.Texts.{SpellsName};
-ghost use Rattle.cert_desk_checking.specs.Views.{key_plain, name_plain, time_date, time_value};
-ghost use Rattle.cert_desk_checking.specs.Views.{validity_plain};
 ghost use Rattle.cert_desk_issuing.specs.Acceptance.{IsAccepted, IsKeyOf, IsNamedFor, IsTextOf};
 ghost use Rattle.cert_desk_issuing.specs.Acceptance.{SpellDates, names_subscriber};
 ghost use Rattle.cert_desk_issuing.specs.PlainOrders.{HasNamesFor, accepted_plain};
@@ -24,8 +23,7 @@ ghost use Rattle.cert_desk_issuing.specs.Refusals.{RefusesName, RefusesOrder};
 use crate::accepted::Accepted;
 use crate::fault::Fault;
 use crate::role::Role;
-use cert_desk_checking::types::builder::{Error, SignError, ca_certificate_naming};
-use cert_desk_checking::types::{
+use cert_desk_checking::certificates::{
     Name, RelativeDistinguishedName, SerialNumber, SubjectPublicKeyInfo, Time, Validity,
 };
 use cert_desk_orders::Order;
@@ -33,6 +31,7 @@ use const_oid::ObjectIdentifier;
 use der_core::{ErrorKind, InRange};
 use std::alloc::Global;
 use std::str::FromStr;
+use x509_cert_builders::{Error, SignError, ca_certificate_naming};
 
 /// The name that the text of an order spells.
 fn name_of(alloc: Global, order: &Order) -> Result<Name, Fault>

@@ -4,7 +4,7 @@ ghost use Rattle.std.specs.Prelude.{◌≡◌, ◌≢◌, ◌≤◌, ◌↔◌, 
 ghost use Rattle.const_oid.specs.Bound.{Bound};
 ghost use Rattle.der_core_head.specs.Grammar.{plain_list};
 ghost use Rattle.cert_desk_checking.specs.Certificates.{PlainCertificate};
-ghost use Rattle.cert_desk_checking.specs.Views.{certificate_plain};
+ghost use Rattle.cert_desk_checking.specs.CertificateViews.{certificate_plain};
 ghost use Rattle.cert_desk_checking.specs.declared.checked.CheckError.TheVariants as errors;
 ghost use Rattle.cert_desk_checking.specs.declared.checked.Verdict.TheVariants as verdicts;
 ghost use Rattle.cert_desk_checking.specs.declared.standing.Standing.TheVariants as standings;
@@ -18,7 +18,7 @@ ghost use Rattle.x509_cert_builders.specs.States.{as_written};
 ghost use Rattle.cert_desk_issuing.specs.PlainOrders.{PlainOrder};
 
 use crate::issued::Issued;
-use cert_desk_checking::types::Certificate;
+use cert_desk_checking::certificates::Certificate;
 use cert_desk_checking::{Anchor, Bundle, CheckError, Checked, SignatureJudge, check};
 use const_oid::ObjectIdentifier;
 use std::alloc::Global;

@@ -4,7 +4,7 @@ ghost use Rattle.std.specs.Prelude.{◌≡◌};
 ghost use Rattle.cert_desk_issuing.specs.Refusals.{fault_at};
 
 use crate::issue_error::IssueError;
-use cert_desk_checking::types::builder::Error;
+use x509_cert_builders::Error;
 
 /// Why an order is refused, wherever in a chain it stands.
 #[derive(Drop)]

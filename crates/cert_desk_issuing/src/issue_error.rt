@@ -1,7 +1,7 @@
 //! Why no chain is issued.
 
-use cert_desk_checking::types::builder;
 use thiserror::Error;
+use x509_cert_builders as builder;
 
 /// Why no chain is issued. A place is that of the order, counted from 0.
 #[derive(Debug, Drop, Error)]

@@ -18,13 +18,13 @@ mod role;
 mod running;
 mod stop;
 
-pub use cert_desk_checking::types::builder::{SignError, Signer};
 pub use cert_desk_orders::{Order, OrdersError, orders_in};
 pub use digest_signer::DigestSigner;
 pub use issue_error::IssueError;
 pub use issued::Issued;
 pub use issuing::issue;
 pub use running::{run_issue, run_orders};
+pub use x509_cert_builders::{SignError, Signer};
 
 // What judges a chain.
 pub use cert_desk_checking::{

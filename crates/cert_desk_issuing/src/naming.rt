@@ -5,18 +5,21 @@ ghost use Rattle.const_oid.specs.Bound.{Bound};
 ghost use Rattle.der_core_head.specs.declared.error.ErrorKind.TheVariants.{OutOfMemory};
 ghost use Rattle.der_core_head.specs.Grammar.{plain_list};
 ghost use Rattle.der_core_head.specs.Shapes.{IsValid};
-ghost use Rattle.cert_desk_checking.specs.Extensions.{general_name_plain, general_names};
-ghost use Rattle.cert_desk_checking.specs.Views.{name_plain};
+ghost use Rattle.cert_desk_checking.specs.GeneralNameViews.{general_name_plain};
+ghost use Rattle.cert_desk_checking.specs.GeneralNames.{general_names};
+ghost use Rattle.cert_desk_checking.specs.Parts.{name_plain};
 ghost use Rattle.cert_desk_issuing.specs.Ordered.{CanName, dns_names, names_for};
 ghost use Rattle.cert_desk_issuing.specs.PlainOrders.{accepted_plain};
 
 use crate::accepted::Accepted;
 use crate::role::Role;
 use crate::stop::Stop;
-use cert_desk_checking::types::builder::{BuilderProfile, CertificateBuilder};
-use cert_desk_checking::types::{GeneralName, Ia5String, SubjectAltName};
+use cert_desk_checking::certificates::Ia5String;
+use cert_desk_checking::types::SubjectAltName;
+use cert_desk_checking::types::general_names::GeneralName;
 use der_core::Error;
 use std::alloc::Global;
+use x509_cert_builders::{BuilderProfile, CertificateBuilder};
 
 /// DNS names, as a subject's other names.
 fn names_of(alloc: Global, texts: &[String]) -> Result<SubjectAltName, Error>

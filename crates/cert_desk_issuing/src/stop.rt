@@ -5,9 +5,9 @@ ghost use Rattle.cert_desk_issuing.specs.declared.stop.Stop.TheVariants.{OutOfMe
 ghost use Rattle.cert_desk_issuing.specs.Refusals.{stop_at, stop_of, stop_of_kind};
 
 use crate::issue_error::IssueError;
-use cert_desk_checking::types::builder::{Error as BuilderError, SignError};
 use der_core::{Error, ErrorKind};
 use std::alloc::{AllocError, AllocFailed};
+use x509_cert_builders::{Error as BuilderError, SignError};
 
 /// Why a certificate isn't made, wherever in a chain it would stand.
 #[derive(Clone, Copy)]

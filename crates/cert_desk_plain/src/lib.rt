@@ -6,7 +6,7 @@
 ghost use Rattle.std.specs.Prelude.{◌≤◌, map, drop, length, IfOk};
 ghost use Rattle.const_oid.specs.Bound.{Bound};
 ghost use Rattle.der_core_head.specs.Grammar.{plain_option};
-ghost use Rattle.cert_desk_checking.specs.Certificates.{certificate_plain};
+ghost use Rattle.cert_desk_checking.specs.CertificateViews.{certificate_plain};
 ghost use Rattle.cert_desk_checking.specs.Faults.{Split};
 ghost use Rattle.cert_desk_plain.specs.Fronts.{IsFirst};
 

@@ -2,7 +2,8 @@
 use Rattle.std.proofs.Common.{◌≡◌, ℕ, zero, suc, ◌+◌, ◌-◌, ◌<◌, ◌≤◌, List, [], ◌∷◌, ◌++◌, Option, Some, length, drop, slice_get, unwrap_or, arith, refl, ap, sym, ◌∙◌}
 use Rattle.cert_desk_checking.specs.declared.entry.Entry.{Entry}
 use Rattle.const_oid.specs.Bound.{Bound}
-use Rattle.cert_desk_checking.specs.Certificates.{PlainCertificate, certificate_octets, certificate_plain}
+use Rattle.cert_desk_checking.specs.Certificates.{PlainCertificate, certificate_octets}
+use Rattle.cert_desk_checking.specs.CertificateViews.{certificate_plain}
 use Rattle.cert_desk_checking.specs.Entries.{IsEntry}
 use Rattle.cert_tool_runs.specs.Splitting.{reversed}
 

@@ -9,8 +9,8 @@ use Rattle.der_core_head.specs.Shapes.{Shape, Value}
 use Rattle.hex.specs.Hex.{decode_of}
 use Rattle.hex.specs.declared.error.FromHexError.{FromHexError}
 use Rattle.const_oid.specs.Bound.{Bound}
-use Rattle.cert_desk_checking.specs.Certificates.{Algorithm, PublicKey, algorithm_identifier}
-use Rattle.cert_desk_checking.specs.Certificates.{bit_string, public_key_info}
+use Rattle.cert_desk_checking.specs.Parts.{Algorithm, PublicKey, algorithm_identifier, bit_string}
+use Rattle.cert_desk_checking.specs.Parts.{public_key_info}
 use Rattle.cert_desk_checking.specs.Questions.{Question}
 
 -- what was read, without why it wasn't
@@ -37,10 +37,10 @@ value_in s text = value_of s (octets_in text)
 -- what the words of an answer write, if each writes its value
 abbrev pub question_of : Option PublicKey → Option Algorithm → Option Bits → Option (List ℕ)
     → Option Question
-question_of None algorithm bits signed = None
-question_of (Some key) None bits signed = None
-question_of (Some key) (Some algorithm) None signed = None
-question_of (Some key) (Some algorithm) (Some bits) None = None
+question_of key algorithm bits None = None
+question_of key algorithm None (Some signed) = None
+question_of key None (Some bits) (Some signed) = None
+question_of None (Some algorithm) (Some bits) (Some signed) = None
 question_of (Some key) (Some algorithm) (Some bits) (Some signed) =
     Some (record { key = key; algorithm = algorithm; signed = signed; bits = bits })
 

@@ -5,7 +5,7 @@ use Rattle.cert_tool_runs.specs.declared.no_answers.NoAnswers.{NoAnswers}
 use Rattle.cert_tool_runs.specs.declared.no_answers.NoAnswers.TheVariants as reasons
 use Rattle.cert_tool_runs.specs.declared.answer_lines.Said.{Said}
 use Rattle.cert_tool_runs.specs.declared.answer_lines.Said.TheVariants as said
-use Rattle.cert_tool_answers.specs.Answers.{answer_plain}
+use Rattle.cert_desk_checking.specs.Answers.{answer_plain}
 use Rattle.cert_tool_runs.specs.AnswerLines.{Says, nothing, answers, wrong, file_says, line_says}
 
 abbrev pub said_plain : Said → Says

@@ -11,7 +11,7 @@ use Rattle.cert_desk_checking.specs.Chains.{joined}
 use Rattle.cert_desk_checking.specs.Judging.{PlainAnchor}
 use Rattle.cert_desk_checking.specs.Runs.{HasAnchors, HasNoAnchors}
 use Rattle.cert_desk_checking.specs.Streams.{Kept}
-use Rattle.cert_tool_answers.specs.QuestionLines.{chain_lines}
+use Rattle.cert_desk_checking.specs.QuestionLines.{chain_lines}
 use Rattle.cert_tool_runs.specs.Stops.{FedWithin, IsStopTold, stop_of}
 
 -- What is found in the inputs of anchors and of the stream: the lines of the questions of a chain

@@ -1,10 +1,11 @@
 //! Why octets give no anchors.
 
 use crate::lines::Lines;
-use crate::refusal::is_pem;
-use crate::stream_refusal::{PEM_STREAM, add_malformed};
-use cert_desk_checking::{AnchorFault, Outcome, read_anchors};
+use crate::refusal::{add_certificate_fault, is_pem};
+use crate::stream_refusal::PEM_STREAM;
+use cert_desk_checking::{AnchorFault, Outcome, Raw, TrustAnchorChoice, read_anchors};
 use cert_desk_io::FromRead;
+use der_core::from_der_partial;
 use std::alloc::{AllocError, Global};
 
 // What a fault of an anchor means.
@@ -13,6 +14,13 @@ fn meaning(fault: AnchorFault) -> &'static str {
         AnchorFault::Malformed => "no trust anchor",
         AnchorFault::NoName => "it has a key and no name",
         AnchorFault::PathControls => "a path from it must meet more than its name",
+    }
+}
+
+// Adds why no trust anchor begins these octets, which begin at an offset.
+fn add_malformed(lines: &mut Lines<'_>, rest: &[u8], offset: u64) {
+    if let Err(error) = from_der_partial::<TrustAnchorChoice<Raw>>(lines.alloc, rest) {
+        add_certificate_fault(lines, rest, offset, &error);
     }
 }
 
@@ -38,7 +46,8 @@ fn count_anchors(alloc: Global, octets: &[u8]) -> Result<usize, Outcome> {
     }
 }
 
-// Why octets aren't trust anchors, as `run_explain_anchors` says it.
+// Why octets aren't trust anchors, one behind the other, each with a name and a key: the first
+// fault, and the octet where it stands.
 pub(crate) fn explain_anchors(alloc: Global, octets: &[u8]) -> Result<String, AllocError> {
     let mut lines = Lines::without_names(alloc);
     if is_pem(octets) {

@@ -3,18 +3,16 @@ ghost use Rattle.std.specs.Prelude.{◌≡◌, map, IfOk, IfErr, OnOk, Some, Ok}
 ghost use Rattle.std.specs.List.{list_all};
 ghost use Rattle.der_core_head.specs.Grammar.{plain_option, read_whole};
 ghost use Rattle.const_oid.specs.Bound.{Bound};
-ghost use Rattle.cert_desk_checking.specs.Certificates.{algorithm_identifier, bit_string};
-ghost use Rattle.cert_desk_checking.specs.Certificates.{public_key_info};
-ghost use Rattle.cert_desk_checking.specs.Views.{algorithm_plain, key_plain};
-ghost use Rattle.cert_tool_answers.specs.Answers.{answer_plain};
+ghost use Rattle.cert_desk_checking.specs.Parts.{algorithm_identifier, bit_string, public_key_info};
+ghost use Rattle.cert_desk_checking.specs.Parts.{algorithm_plain, key_plain};
+ghost use Rattle.cert_desk_checking.specs.Answers.{answer_plain};
 ghost use Rattle.cert_tool_runs.specs.AnswerLines.{file_says, is_anchor, is_digit, is_number};
 ghost use Rattle.cert_tool_runs.specs.AnswerLines.{is_skipped, line_says, octets_in, parts};
 ghost use Rattle.cert_tool_runs.specs.AnswerLines.{question_in, value_in, value_read, words_say};
 ghost use Rattle.cert_tool_runs.specs.AnswerReading.{IsNoFile, IsNoLine, added_by, said_plain};
 
 use crate::no_answers::NoAnswers;
-use cert_desk_checking::{AlgorithmIdentifier, BitString, SubjectPublicKeyInfo};
-use cert_tool_answers::Answer;
+use cert_desk_checking::{AlgorithmIdentifier, Answer, BitString, SubjectPublicKeyInfo};
 use der_core::{Decode, ErrorKind, SliceReader, from_der};
 use hex::FromHexError;
 use std::alloc::{AllocError, Global};
@@ -130,16 +128,16 @@ fn answer_of(
     ensures { IfOk result (λ read. plain_option answer_plain read
         ≡ question_in key.now algorithm.now signed.now bits.now) }
 {
-    let Some(key) = key_of(alloc, key)? else {
-        return Ok(None);
-    };
-    let Some(algorithm) = algorithm_of(alloc, algorithm)? else {
+    let Some(signed) = octets_of(alloc, signed)? else {
         return Ok(None);
     };
     let Some(bits) = bits_of(alloc, bits)? else {
         return Ok(None);
     };
-    let Some(signed) = octets_of(alloc, signed)? else {
+    let Some(algorithm) = algorithm_of(alloc, algorithm)? else {
+        return Ok(None);
+    };
+    let Some(key) = key_of(alloc, key)? else {
         return Ok(None);
     };
     Ok(Some(Answer {
@@ -150,11 +148,12 @@ fn answer_of(
     }))
 }
 
-// The words of a line.
-fn words_of(alloc: Global, line: &[u8]) -> Result<Vec<&[u8]>, AllocError>
-    ensures { IfOk result (λ words. map (λ word. word.now) words.items ≡ parts 32 line.now) }
+// What stands between separators.
+fn parts_of(alloc: Global, octets: &[u8], separator: u8) -> Result<Vec<&[u8]>, AllocError>
+    ensures { IfOk result (λ found. map (λ part. part.now) found.items
+        ≡ parts separator octets.now) }
 {
-    line.split(|octet| *octet == b' ').collect(alloc)
+    octets.split(|octet| *octet == separator).collect(alloc)
 }
 
 // Whether a line is skipped: it is empty, or begins with `#`.
@@ -194,15 +193,8 @@ fn said_by(alloc: Global, line: &[u8]) -> Result<Said, AllocError>
     if is_skipped(line) {
         return Ok(Said::Nothing);
     }
-    let words = words_of(alloc, line)?;
+    let words = parts_of(alloc, line, b' ')?;
     said_by_words(alloc, words.as_slice())
-}
-
-// The lines of a file.
-fn lines_of(alloc: Global, octets: &[u8]) -> Result<Vec<&[u8]>, AllocError>
-    ensures { IfOk result (λ lines. map (λ line. line.now) lines.items ≡ parts 10 octets.now) }
-{
-    octets.split(|octet| *octet == b'\n').collect(alloc)
 }
 
 // Adds the answer of a line, if it says one, to those of the lines before.
@@ -245,7 +237,7 @@ pub fn answers_in(alloc: Global, octets: &[u8]) -> Result<Vec<Answer>, NoAnswers
         ≡ Ok (map answer_plain answers.items)) }
     ensures refused { IfErr result (IsNoFile octets.now) }
 {
-    let Ok(lines) = lines_of(alloc, octets) else {
+    let Ok(lines) = parts_of(alloc, octets, b'\n') else {
         return Err(NoAnswers::OutOfMemory);
     };
     let mut answers = Vec::new(alloc);

@@ -2,10 +2,10 @@
 
 ghost use Rattle.std.specs.Prelude.{◌≤◌, IfOk};
 
-use crate::kind::Kind;
+use crate::reply::Page;
 use crate::telling::{tell, tell_wrong};
-use cert_desk_checking::types::DateTime;
-use cert_desk_io::{ExitStatus, Output};
+use cert_desk_checking::certificates::DateTime;
+use cert_desk_io::ExitStatus;
 use const_oid::ObjectIdentifier;
 use std::rt::Clock;
 use std::time::{SystemTime, UNIX_EPOCH};
@@ -39,7 +39,7 @@ fn number(text: &str) -> Option<u64> {
 }
 
 // The present.
-fn now<C: Clock, E: Output>(clock: &C, err: &mut E) -> Result<u64, ExitStatus> {
+fn now<C: Clock>(clock: &C, err: &mut Page) -> Result<u64, ExitStatus> {
     if let Ok(now) = SystemTime::now(clock) {
         if let Ok(passed) = now.duration_since(UNIX_EPOCH) {
             return Ok(passed.as_secs());
@@ -49,7 +49,7 @@ fn now<C: Clock, E: Output>(clock: &C, err: &mut E) -> Result<u64, ExitStatus> {
 }
 
 // A moment: a number, a date, or `now`.
-fn moment_of<C: Clock, E: Output>(clock: &C, text: &str, err: &mut E) -> Result<u64, ExitStatus> {
+fn moment_of<C: Clock>(clock: &C, text: &str, err: &mut Page) -> Result<u64, ExitStatus> {
     if text == "now" {
         return now(clock, err);
     }
@@ -86,7 +86,7 @@ fn arcs_of(name: &str) -> &str {
 }
 
 // A purpose: a name, or an identifier in dotted arcs.
-fn purpose_of<E: Output>(text: &str, err: &mut E) -> Result<ObjectIdentifier<39>, ExitStatus> {
+fn purpose_of(text: &str, err: &mut Page) -> Result<ObjectIdentifier<39>, ExitStatus> {
     match ObjectIdentifier::<39>::new(arcs_of(text)) {
         Ok(purpose) => Ok(purpose),
         Err(_) => Err(tell_wrong(
@@ -100,7 +100,7 @@ fn purpose_of<E: Output>(text: &str, err: &mut E) -> Result<ObjectIdentifier<39>
 }
 
 // A limit: a number from 6 to 2^32 - 1.
-pub(crate) fn limit_of<E: Output>(text: &str, err: &mut E) -> Result<u32, ExitStatus>
+pub(crate) fn limit_of(text: &str, err: &mut Page) -> Result<u32, ExitStatus>
     ensures { IfOk result (λ n. 6 ≤ n) }
 {
     let limit = number(text).unwrap_or(0);
@@ -112,10 +112,10 @@ pub(crate) fn limit_of<E: Output>(text: &str, err: &mut E) -> Result<u32, ExitSt
 }
 
 // What a chain is judged under, by the words MOMENT, PURPOSE and LIMIT.
-pub(crate) fn terms_of<C: Clock, E: Output>(
+pub(crate) fn terms_of<C: Clock>(
     clock: &C,
     words: [&str; 3],
-    err: &mut E,
+    err: &mut Page,
 ) -> Result<Terms, ExitStatus>
     ensures { IfOk result (λ terms. 6 ≤ terms.limit) }
 {
@@ -130,27 +130,16 @@ pub(crate) fn terms_of<C: Clock, E: Output>(
     })
 }
 
-// A place: a number.
-pub(crate) fn place_of<E: Output>(text: &str, err: &mut E) -> Result<usize, ExitStatus> {
+// A place: a number, if one is asked for.
+pub(crate) fn place_of(text: Option<&str>, err: &mut Page) -> Result<Option<usize>, ExitStatus> {
+    let Some(text) = text else {
+        return Ok(None);
+    };
     match number(text) {
-        Some(place) => Ok(place as usize),
+        Some(place) => Ok(Some(place as usize)),
         None => {
             let wanted = "the number of a certificate, counted from 0";
             Err(tell_wrong(err, "PLACE", text, wanted))
         }
-    }
-}
-
-// What a file holds.
-pub(crate) fn kind_of<E: Output>(
-    text: &str,
-    wanted: &str,
-    err: &mut E,
-) -> Result<Kind, ExitStatus> {
-    match text {
-        "certificate" => Ok(Kind::Certificate),
-        "list" => Ok(Kind::List),
-        "request" => Ok(Kind::Request),
-        _ => Err(tell_wrong(err, "KIND", text, wanted)),
     }
 }

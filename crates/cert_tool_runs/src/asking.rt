@@ -7,9 +7,8 @@ ghost use Rattle.cert_tool_runs.specs.Asking.{IsAsked, IsAskedTold};
 
 use crate::stopping::tell_stop;
 use crate::stream_fault::stop_of;
-use cert_desk_checking::{Outcome, read_anchors, read_stream};
+use cert_desk_checking::{Outcome, chain_lines, read_anchors, read_stream};
 use cert_desk_io::{ExitStatus, Input, Output, answer};
-use cert_tool_answers::chain_lines;
 use std::alloc::Global;
 
 // The questions of a stream under anchors.

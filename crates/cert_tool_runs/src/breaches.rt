@@ -6,13 +6,15 @@ use crate::reasons::{TooLong, add_breach};
 use crate::remarks::add_remarks;
 use crate::serial_numbers::SerialNumbers;
 use crate::stream_refusal::{LEAF_FIRST, is_leaf_first};
-use cert_desk_checking::{Anchor, Bundle, Rule, SignatureJudge, SubjectPublicKeyInfo};
+use cert_desk_checking::{Anchor, Answer, Bundle, Rule, SubjectPublicKeyInfo};
 use const_oid::ObjectIdentifier;
 
 // What a chain is judged under.
 #[derive(Clone, Copy)]
 pub(crate) struct Question<'a> {
     pub(crate) anchors: &'a [Anchor],
+    // The signatures that are right.
+    pub(crate) answers: &'a [Answer],
     // Seconds since 1970-01-01T00:00:00Z.
     pub(crate) moment: u64,
     // What the chain is wanted for.
@@ -63,52 +65,42 @@ fn add_date_breaches(lines: &mut Lines<'_>, place: &ChainPlace<'_>, moment: u64)
     }
 }
 
-// Whether the judge says yes under a key.
-fn is_accepted<J: SignatureJudge>(
-    place: &ChainPlace<'_>,
-    key: &SubjectPublicKeyInfo,
-    judge: &mut J,
-) -> bool {
+// Whether an answer says that the signature is right under a key.
+fn is_right(place: &ChainPlace<'_>, key: &SubjectPublicKeyInfo, answers: &[Answer]) -> bool {
     let certificate = place.certificate;
-    judge.accepts(
-        key,
-        certificate.signature_algorithm(),
-        place.signed,
-        certificate.signature(),
-    )
-}
-
-// Whether the judge says yes under the key of an anchor of the issuer's name.
-fn is_accepted_by_anchor<J: SignatureJudge>(
-    place: &ChainPlace<'_>,
-    anchors: &[Anchor],
-    judge: &mut J,
-) -> bool {
-    for anchor in anchors {
-        if place.issuer().has_octets_of(anchor.name()) && is_accepted(place, anchor.key(), judge) {
+    let algorithm = certificate.signature_algorithm();
+    for answer in answers {
+        if answer.is_about(key, algorithm, place.signed, certificate.signature()) {
             return true;
         }
     }
     false
 }
 
-// Adds that the judge says no (RFC 5280 6.1.3 (a) (1)).
-fn add_signature_breach<J: SignatureJudge>(
-    lines: &mut Lines<'_>,
-    place: &ChainPlace<'_>,
-    anchors: &[Anchor],
-    judge: &mut J,
-) {
+// Whether one says so under the key of an anchor of the issuer's name.
+fn is_right_by_anchor(place: &ChainPlace<'_>, question: &Question<'_>) -> bool {
+    for anchor in question.anchors {
+        if place.issuer().has_octets_of(anchor.name()) {
+            if is_right(place, anchor.key(), question.answers) {
+                return true;
+            }
+        }
+    }
+    false
+}
+
+// Adds that no answer says so (RFC 5280 6.1.3 (a) (1)).
+fn add_signature_breach(lines: &mut Lines<'_>, place: &ChainPlace<'_>, question: &Question<'_>) {
     match place.before() {
         None => {
-            if !is_accepted_by_anchor(place, anchors, judge) {
+            if !is_right_by_anchor(place, question) {
                 lines.push(
                     "  WrongSignature: no answer says that it is right under an anchor's key\n",
                 );
             }
         }
         Some(before) => {
-            if !is_accepted(place, before.subject_public_key_info(), judge) {
+            if !is_right(place, before.subject_public_key_info(), question.answers) {
                 lines.push(
                     "  WrongSignature: no answer says that it is right under the key before\n",
                 );
@@ -145,12 +137,11 @@ fn add_issuing_breaches(
 }
 
 // Adds what the certificate at a place breaks, in the order in which a check judges the rules.
-fn add_breaches<J: SignatureJudge>(
+fn add_breaches(
     lines: &mut Lines<'_>,
     place: &ChainPlace<'_>,
     too_long: Option<TooLong>,
     question: &Question<'_>,
-    judge: &mut J,
 ) {
     let purpose = &question.purpose;
     add_algorithm_breach(lines, place);
@@ -161,35 +152,29 @@ fn add_breaches<J: SignatureJudge>(
     add_date_breaches(lines, place, question.moment);
     add_breach(lines, place, Rule::AgainstPurpose, purpose);
     add_issuing_breaches(lines, place, too_long, purpose);
-    add_signature_breach(lines, place, question.anchors, judge);
+    add_signature_breach(lines, place, question);
 }
 
 // Adds what is to be said of the certificate at a place.
-fn add_place<J: SignatureJudge>(
+fn add_place(
     lines: &mut Lines<'_>,
     place: &ChainPlace<'_>,
     twin: Option<usize>,
     too_long: Option<TooLong>,
     question: &Question<'_>,
-    judge: &mut J,
 ) {
     lines.count("certificate ", place.number as u64, ", ");
     lines.name("", place.certificate.tbs_certificate().subject(), "\n");
     let start = lines.len();
-    add_breaches(lines, place, too_long, question, judge);
+    add_breaches(lines, place, too_long, question);
     if lines.len() == start {
         lines.push("  every rule is kept\n");
     }
     add_remarks(lines, place, twin);
 }
 
-// Adds what each certificate of a chain breaks, as `run_explain_chain` says it.
-pub(crate) fn add_chain<J: SignatureJudge>(
-    lines: &mut Lines<'_>,
-    bundle: &Bundle,
-    question: &Question<'_>,
-    judge: &mut J,
-) {
+// Adds what each certificate of a chain breaks, with its first reason, and what is unwise.
+pub(crate) fn add_chain(lines: &mut Lines<'_>, bundle: &Bundle, question: &Question<'_>) {
     if is_leaf_first(bundle) {
         lines.push(LEAF_FIRST);
     }
@@ -201,7 +186,7 @@ pub(crate) fn add_chain<J: SignatureJudge>(
     for number in 0..bundle.len() {
         if let Some(place) = ChainPlace::at(bundle, number) {
             let twin = serial_numbers.take(lines, &place);
-            add_place(lines, &place, twin, too_long, question, judge);
+            add_place(lines, &place, twin, too_long, question);
         }
     }
 }

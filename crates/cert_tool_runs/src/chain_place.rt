@@ -1,6 +1,6 @@
 //! A place of a chain.
 
-use cert_desk_checking::types::{Extension, Name, TbsCertificateInner};
+use cert_desk_checking::certificates::{Extension, Name, TbsCertificateInner};
 use cert_desk_checking::{Bundle, CertificateInner, Raw};
 
 // A place of a chain.

@@ -2,42 +2,35 @@
 
 use crate::describe::Describe;
 use crate::lines::Lines;
+use cert_desk_checking::certificates::Extension;
+use cert_desk_checking::types::general_names::{
+    AuthorityKeyIdentifier, IssuingDistributionPoint, NameConstraints,
+};
+use cert_desk_checking::types::policies::{
+    BasicConstraints, CertificatePolicies, InhibitAnyPolicy, PolicyConstraints, PolicyMappings,
+};
 use cert_desk_checking::types::timestamps::SignedCertificateTimestampList;
 use cert_desk_checking::types::{
-    AuthorityInfoAccessSyntax, AuthorityKeyIdentifier, BasicConstraints, CertificatePolicies,
-    CrlDistributionPoints, CrlNumber, CrlReason, ExtendedKeyUsage, Extension, InhibitAnyPolicy,
-    IssuingDistributionPoint, KeyUsage, NameConstraints, PolicyConstraints, PolicyMappings,
-    SubjectAltName, SubjectKeyIdentifier,
+    AuthorityInfoAccessSyntax, CrlDistributionPoints, CrlNumber, CrlReason, ExtendedKeyUsage,
+    KeyUsage, SubjectAltName, SubjectKeyIdentifier,
 };
 use der_core::{DecodeValue, ErrorKind, FixedTag, SliceReader, from_der};
+use std::alloc::Global;
 
-// Adds the lines of a content, or that it isn't one value of its kind; answers why it isn't.
+// Adds the lines of a content, or that it isn't one value of its kind.
 pub(crate) fn add_content<'a, T: DecodeValue<'a, SliceReader<'a>> + FixedTag + Describe>(
     lines: &mut Lines<'_>,
     octets: &'a [u8],
-) -> Option<ErrorKind> {
+) {
     match from_der::<T>(lines.alloc, octets) {
-        Ok(value) => {
-            value.describe(lines);
-            None
-        }
-        Err(error) => {
-            lines.note(error.kind);
-            lines.push("  malformed\n");
-            Some(error.kind)
-        }
+        Ok(value) => value.describe(lines),
+        Err(error) => lines.malformed(error.kind),
     }
-}
-
-// Adds the octets of a content whose kind isn't known here.
-fn add_octets(lines: &mut Lines<'_>, octets: &[u8]) -> Option<ErrorKind> {
-    lines.octets("  octets ", octets, "\n");
-    None
 }
 
 // Adds the lines of a content, by the last arc of its identifier below 2.5.29 (RFC 5280 4.2.1, 5.2,
 // 5.3).
-fn add_standard(lines: &mut Lines<'_>, number: u8, octets: &[u8]) -> Option<ErrorKind> {
+fn add_standard(lines: &mut Lines<'_>, number: u8, octets: &[u8]) {
     match number {
         14 => add_content::<SubjectKeyIdentifier>(lines, octets),
         15 => add_content::<KeyUsage>(lines, octets),
@@ -57,13 +50,12 @@ fn add_standard(lines: &mut Lines<'_>, number: u8, octets: &[u8]) -> Option<Erro
         36 => add_content::<PolicyConstraints>(lines, octets),
         37 => add_content::<ExtendedKeyUsage>(lines, octets),
         54 => add_content::<InhibitAnyPolicy>(lines, octets),
-        _ => add_octets(lines, octets),
+        _ => lines.octets("  octets ", octets, "\n"),
     }
 }
 
-// Adds the lines of the content of an extension; answers why it isn't one value of its kind, if it
-// isn't.
-fn add_content_of(lines: &mut Lines<'_>, extension: &Extension) -> Option<ErrorKind> {
+// Adds the lines of the content of an extension.
+fn add_content_of(lines: &mut Lines<'_>, extension: &Extension) {
     let octets = extension.extn_value.as_bytes();
     match extension.extn_id.as_bytes() {
         [0x55, 0x1d, number] => add_standard(lines, *number, octets),
@@ -75,18 +67,15 @@ fn add_content_of(lines: &mut Lines<'_>, extension: &Extension) -> Option<ErrorK
         [0x2b, 6, 1, 4, 1, 0xd6, 0x79, 2, 4, 2] => {
             add_content::<SignedCertificateTimestampList>(lines, octets)
         }
-        _ => add_octets(lines, octets),
+        _ => lines.octets("  octets ", octets, "\n"),
     }
 }
 
-// Why the content of an extension isn't one value of its kind, if it isn't. Its lines are left out.
-pub(crate) fn content_fault(lines: &mut Lines<'_>, extension: &Extension) -> Option<ErrorKind> {
-    let mut left_out = Lines::without_names(lines.alloc);
-    let fault = add_content_of(&mut left_out, extension);
-    if let Some(kind) = fault {
-        lines.note(kind);
-    }
-    fault
+// Why the content of an extension isn't one value of its kind, if it isn't.
+pub(crate) fn content_fault(alloc: Global, extension: &Extension) -> Option<ErrorKind> {
+    let mut left_out = Lines::without_names(alloc);
+    add_content_of(&mut left_out, extension);
+    left_out.fault
 }
 
 // Adds the lines of extensions, in their order.

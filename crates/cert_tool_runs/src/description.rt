@@ -3,7 +3,9 @@
 use crate::contents::add_extensions;
 use crate::keys::{add_digests, add_key, add_key_digests};
 use crate::lines::Lines;
-use cert_desk_checking::types::{BitString, CertificateInner, Raw, TbsCertificateInner, Version};
+use cert_desk_checking::certificates::{
+    BitString, CertificateInner, Raw, TbsCertificateInner, Version,
+};
 use der_core::ErrorKind;
 
 // The line of a version.

@@ -1,7 +1,8 @@
 //! The files that words name.
 
+use crate::reply::Page;
 use crate::telling::tell;
-use cert_desk_io::{ExitStatus, FromRead, Output, tell_memory};
+use cert_desk_io::{ExitStatus, FromRead, tell_memory};
 use std::io::Read;
 use std::rt::Files;
 use std::{fs, io};
@@ -14,10 +15,10 @@ pub(crate) struct Opened<'a, F> {
 }
 
 // Opens a file. `-` is standard input. What can't be opened is told, and the status is the error.
-pub(crate) fn open<'a, R: Files, E: Output>(
+pub(crate) fn open<'a, R: Files>(
     rt: &R,
     name: &'a str,
-    err: &mut E,
+    err: &mut Page,
 ) -> Result<Opened<'a, R::File>, ExitStatus> {
     let path = if name == "-" { "/dev/stdin" } else { name };
     match fs::open(rt, path) {
@@ -33,7 +34,7 @@ pub(crate) fn open<'a, R: Files, E: Output>(
 }
 
 // Says which file failed, if this one did.
-pub(crate) fn tell_failure<F: Read, E: Output>(file: &Opened<'_, F>, err: &mut E) {
+pub(crate) fn tell_failure<F: Read>(file: &Opened<'_, F>, err: &mut Page) {
     if file.input.failures() > 0 {
         let _ = tell(err, &["cannot read ", file.name, "\n"], ExitStatus::Device);
     }

@@ -2,7 +2,8 @@
 
 use crate::describe::Describe;
 use crate::lines::Lines;
-use cert_desk_checking::types::{GeneralName, SubjectAltName};
+use cert_desk_checking::types::SubjectAltName;
+use cert_desk_checking::types::general_names::GeneralName;
 use std::net::{Ipv4Addr, Ipv6Addr};
 
 // Adds an address, and ends the line.

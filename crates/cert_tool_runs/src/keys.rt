@@ -3,7 +3,7 @@
 use crate::contents::add_content;
 use crate::describe::Describe;
 use crate::lines::Lines;
-use cert_desk_checking::types::{SubjectPublicKeyInfo, Uint};
+use cert_desk_checking::certificates::{SubjectPublicKeyInfo, Uint};
 use const_oid::ObjectIdentifier;
 use der_core::to_der;
 use sha1::Sha1;
@@ -72,7 +72,11 @@ pub(crate) fn add_key(lines: &mut Lines<'_>, key: &SubjectPublicKeyInfo) {
         }
         // id-ecPublicKey
         [0x2a, 0x86, 0x48, 0xce, 0x3d, 0x02, 0x01] => add_point(lines, key),
-        _ => add_bits(lines, key.subject_public_key.bit_len()),
+        // id-X25519, id-X448, id-Ed25519, id-Ed448
+        [0x2b, 0x65, 0x6e | 0x6f | 0x70 | 0x71] => {
+            add_bits(lines, key.subject_public_key.bit_len());
+        }
+        _ => {}
     }
 }
 

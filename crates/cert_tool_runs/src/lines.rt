@@ -1,6 +1,6 @@
 //! Texts that are written line by line.
 
-use cert_desk_checking::types::{Name, Time};
+use cert_desk_checking::certificates::{Name, Time};
 use const_oid::{Database, ObjectIdentifier};
 use der_core::ErrorKind;
 use std::alloc::{AllocError, Global};
@@ -23,6 +23,8 @@ pub(crate) struct Lines<'a> {
     text: String,
     // Whether there was no memory for something.
     has_failed: bool,
+    // Why the last of the contents that aren't what they should be isn't.
+    pub(crate) fault: Option<ErrorKind>,
 }
 
 impl<'a> Lines<'a> {
@@ -33,6 +35,7 @@ impl<'a> Lines<'a> {
             names,
             text: String::new(alloc),
             has_failed: false,
+            fault: None,
         }
     }
 
@@ -64,6 +67,13 @@ impl<'a> Lines<'a> {
         if kind == ErrorKind::OutOfMemory {
             self.has_failed = true;
         }
+    }
+
+    // Adds that a content isn't what it should be, and notes why.
+    pub(crate) fn malformed(&mut self, kind: ErrorKind) {
+        self.note(kind);
+        self.fault = Some(kind);
+        self.push("  malformed\n");
     }
 
     // Adds a text.
@@ -194,7 +204,7 @@ impl<'a> Lines<'a> {
     }
 
     // Adds the amount of a number below zero: each octet's complement, and one more than that,
-    // which is carried over the zeros at the end.
+    // which is carried over the zeros at the end; without a zero octet in front.
     fn opposite(&mut self, octets: &[u8]) {
         let mut last = 0;
         for place in 0..octets.len() {
@@ -204,10 +214,10 @@ impl<'a> Lines<'a> {
         }
         for place in 0..octets.len() {
             let complement = 255 - octets[place];
-            if place < last {
-                self.pair(complement);
-            } else {
+            if place >= last {
                 self.pair(complement.wrapping_add(1));
+            } else if place > 0 || complement > 0 {
+                self.pair(complement);
             }
         }
     }

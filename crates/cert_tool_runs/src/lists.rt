@@ -4,11 +4,11 @@ use crate::contents::add_extensions;
 use crate::describe::Describe;
 use crate::keys::add_digests;
 use crate::lines::Lines;
-use cert_desk_checking::types::{
-    CertificateList, CrlNumber, CrlReason, Profile, Raw, RevokedCert, TbsCertList,
-};
+use cert_desk_checking::certificates::{Profile, Raw};
+use cert_desk_checking::types::{CrlNumber, CrlReason};
 use der_core::{Error, ErrorKind, from_der};
 use std::alloc::Global;
+use x509_cert_lists::{CertificateList, RevokedCert, TbsCertList};
 
 impl Describe for CrlNumber {
     fn describe(&self, lines: &mut Lines<'_>) {

@@ -4,10 +4,11 @@
 use crate::describe::Describe;
 use crate::general_names::{add_general_name, add_general_names};
 use crate::lines::Lines;
-use cert_desk_checking::types::{
-    AuthorityInfoAccessSyntax, AuthorityKeyIdentifier, CrlDistributionPoints, DistributionPoint,
-    DistributionPointName, GeneralSubtree, IssuingDistributionPoint, NameConstraints,
+use cert_desk_checking::types::general_names::{
+    AuthorityKeyIdentifier, DistributionPoint, DistributionPointName, GeneralSubtree,
+    IssuingDistributionPoint, NameConstraints,
 };
+use cert_desk_checking::types::{AuthorityInfoAccessSyntax, CrlDistributionPoints};
 
 // Adds the lines of a point's name.
 fn add_point_name(lines: &mut Lines<'_>, name: &DistributionPointName) {

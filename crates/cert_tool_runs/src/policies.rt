@@ -2,9 +2,10 @@
 
 use crate::describe::Describe;
 use crate::lines::Lines;
-use cert_desk_checking::types::{
-    Any, CertificatePolicies, Ia5String, InhibitAnyPolicy, PolicyConstraints, PolicyInformation,
-    PolicyMappings, PolicyQualifierInfo,
+use cert_desk_checking::certificates::{Any, Ia5String};
+use cert_desk_checking::types::policies::{
+    CertificatePolicies, InhibitAnyPolicy, PolicyConstraints, PolicyInformation, PolicyMappings,
+    PolicyQualifierInfo,
 };
 
 // Adds the text of a qualifier: where the statement of practices stands, or the octets.

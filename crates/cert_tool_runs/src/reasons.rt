@@ -3,7 +3,7 @@
 use crate::chain_place::ChainPlace;
 use crate::contents::content_fault;
 use crate::lines::Lines;
-use cert_desk_checking::types::Extension;
+use cert_desk_checking::certificates::Extension;
 use cert_desk_checking::{Bundle, Reason, Rule, reason_of};
 use const_oid::ObjectIdentifier;
 use std::alloc::{AllocError, Global};
@@ -19,7 +19,8 @@ fn add_against(
     match rule {
         Rule::MalformedExtension => {
             lines.identifier("", kind, " isn't one value of its kind");
-            if let Some(fault) = content_fault(lines, extension) {
+            if let Some(fault) = content_fault(lines.alloc, extension) {
+                lines.note(fault);
                 lines.show(": ", fault, "");
             }
         }

@@ -5,9 +5,10 @@ use crate::kind::Kind;
 use crate::lines::Lines;
 use crate::lists::list_of;
 use crate::way_down::add_way;
-use cert_desk_checking::types::{CertReq, CertificateInner, Raw, Rfc5280};
+use cert_desk_checking::certificates::{CertificateInner, Profile, Raw, Rfc5280};
 use der_core::{Error, ErrorKind};
 use std::alloc::{AllocError, Global};
+use x509_cert_lists::CertReq;
 
 // Whether octets are PEM (RFC 7468), of which nothing is read here.
 pub(crate) fn is_pem(octets: &[u8]) -> bool {
@@ -41,12 +42,6 @@ pub(crate) fn add_certificate_fault(
     add_fault(lines, octets, offset, root, error);
 }
 
-// What is said of octets that are of their kind.
-const WELL: &str = "the octets are what they should be\n";
-
-// What is said in front of what RFC 5280 asks for beyond that.
-const BEYOND: &str = "RFC 5280 asks for more than is asked here: ";
-
 // What RFC 5280 4.1.2.2 forbids of a serial number that is read all the same, as a line; nothing
 // where it is above zero and of at most 20 octets (and one for the sign).
 pub(crate) fn serial_remark(serial: &[u8]) -> &'static str {
@@ -64,45 +59,63 @@ pub(crate) fn serial_remark(serial: &[u8]) -> &'static str {
     }
 }
 
-// Adds what is to be said of a certificate that was read of these octets.
-fn add_read(lines: &mut Lines<'_>, octets: &[u8], certificate: &CertificateInner<Raw>) {
-    lines.push(WELL);
-    if let Err(error) = CertificateInner::<Rfc5280>::from_der(lines.alloc, octets) {
-        lines.push(BEYOND);
-        add_fault(lines, octets, 0, Node::Certificate, &error);
+// Why octets aren't of a kind in a profile, if they aren't.
+fn fault_of<P: Profile>(alloc: Global, octets: &[u8], kind: Kind) -> Option<Error> {
+    match kind {
+        Kind::Certificate => match CertificateInner::<P>::from_der(alloc, octets) {
+            Ok(_) => None,
+            Err(error) => Some(error),
+        },
+        Kind::List => match list_of::<P>(alloc, octets) {
+            Ok(_) => None,
+            Err(error) => Some(error),
+        },
+        Kind::Request => match CertReq::try_from_bytes(alloc, octets) {
+            Ok(_) => None,
+            Err(error) => Some(error),
+        },
     }
-    let serial = certificate.tbs_certificate().serial_number();
-    lines.push(serial_remark(serial.as_bytes()));
 }
 
-fn add_certificate(lines: &mut Lines<'_>, octets: &[u8]) {
+// What octets of a kind are.
+fn root_of(kind: Kind) -> Node {
+    match kind {
+        Kind::Certificate => Node::Certificate,
+        Kind::List => Node::List,
+        Kind::Request => Node::Request,
+    }
+}
+
+// Adds what RFC 5280 4.1.2.2 forbids of the serial number of a certificate.
+fn add_serial_remark(lines: &mut Lines<'_>, octets: &[u8]) {
     match CertificateInner::<Raw>::from_der(lines.alloc, octets) {
-        Ok(certificate) => add_read(lines, octets, &certificate),
-        Err(error) => {
-            add_fault(lines, octets, 0, Node::Certificate, &error);
-            if error.kind == ErrorKind::TrailingData {
-                lines.push("  (of several certificates `cert_tool split` gives each)\n");
-            }
+        Ok(certificate) => {
+            let serial = certificate.tbs_certificate().serial_number();
+            lines.push(serial_remark(serial.as_bytes()));
         }
+        Err(error) => lines.note(error.kind),
     }
 }
 
-fn add_list(lines: &mut Lines<'_>, octets: &[u8]) {
-    if let Err(error) = list_of::<Raw>(lines.alloc, octets) {
-        add_fault(lines, octets, 0, Node::List, &error);
-        return;
+// Adds what is to be said of octets that are of a kind.
+fn add_read(lines: &mut Lines<'_>, octets: &[u8], kind: Kind) {
+    lines.push("the octets are what they should be\n");
+    if let Some(error) = fault_of::<Rfc5280>(lines.alloc, octets, kind) {
+        lines.push("RFC 5280 asks for more than is asked here: ");
+        add_fault(lines, octets, 0, root_of(kind), &error);
     }
-    lines.push(WELL);
-    if let Err(error) = list_of::<Rfc5280>(lines.alloc, octets) {
-        lines.push(BEYOND);
-        add_fault(lines, octets, 0, Node::List, &error);
+    if let Kind::Certificate = kind {
+        add_serial_remark(lines, octets);
     }
 }
 
-fn add_request(lines: &mut Lines<'_>, octets: &[u8]) {
-    match CertReq::try_from_bytes(lines.alloc, octets) {
-        Ok(_) => lines.push(WELL),
-        Err(error) => add_fault(lines, octets, 0, Node::Request, &error),
+// Adds why octets aren't of a kind.
+fn add_refusal(lines: &mut Lines<'_>, octets: &[u8], kind: Kind, error: &Error) {
+    add_fault(lines, octets, 0, root_of(kind), error);
+    if let Kind::Certificate = kind {
+        if error.kind == ErrorKind::TrailingData {
+            lines.push("  (of several certificates `cert_tool split` gives each)\n");
+        }
     }
 }
 
@@ -117,7 +130,9 @@ fn pem_hint(kind: Kind) -> &'static str {
     }
 }
 
-// Why these octets aren't of a kind, as `run_explain` says it.
+// Why octets aren't of a kind: the first fault, the octet where it stands, and the parts around it,
+// from the outermost on. Of octets that are of the kind it says so, and what RFC 5280 asks for
+// beyond that.
 pub(crate) fn explain_octets(
     alloc: Global,
     octets: &[u8],
@@ -128,10 +143,9 @@ pub(crate) fn explain_octets(
         lines.push(pem_hint(kind));
         return lines.finish();
     }
-    match kind {
-        Kind::Certificate => add_certificate(&mut lines, octets),
-        Kind::List => add_list(&mut lines, octets),
-        Kind::Request => add_request(&mut lines, octets),
+    match fault_of::<Raw>(alloc, octets, kind) {
+        Some(error) => add_refusal(&mut lines, octets, kind, &error),
+        None => add_read(&mut lines, octets, kind),
     }
     lines.finish()
 }

@@ -4,7 +4,9 @@ use crate::chain_place::ChainPlace;
 use crate::general_names::add_general_name;
 use crate::lines::Lines;
 use crate::refusal::serial_remark;
-use cert_desk_checking::types::{Extension, GeneralName, SubjectAltName};
+use cert_desk_checking::certificates::Extension;
+use cert_desk_checking::types::SubjectAltName;
+use cert_desk_checking::types::general_names::GeneralName;
 use der_core::from_der;
 
 // Adds that a certificate is valid after the one before isn't any more.
@@ -61,19 +63,13 @@ fn is_no_host(text: &str) -> bool {
     false
 }
 
-// Whether a name is called a DNS name and isn't one.
-fn is_misnamed(name: &GeneralName) -> bool {
-    match name {
-        GeneralName::DnsName(host) => is_no_host(host.as_str()),
-        _ => false,
-    }
-}
-
 // Adds which of these names are called DNS names and aren't.
 fn add_host_remarks(lines: &mut Lines<'_>, listed: &[GeneralName]) {
     for name in listed {
-        if is_misnamed(name) {
-            add_general_name(lines, "  remark: this is no DNS name: ", name);
+        if let GeneralName::DnsName(host) = name {
+            if is_no_host(host.as_str()) {
+                add_general_name(lines, "  remark: this is no DNS name: ", name);
+            }
         }
     }
 }

@@ -3,9 +3,10 @@
 use crate::contents::add_extensions;
 use crate::keys::{add_digests, add_key, add_key_digests};
 use crate::lines::Lines;
-use cert_desk_checking::types::{Any, Attribute, CertReq, ExtensionReq};
+use cert_desk_checking::certificates::{Any, Attribute};
 use const_oid::AssociatedOid;
 use der_core::ErrorKind;
+use x509_cert_lists::{CertReq, ExtensionReq};
 
 // Adds the lines of a value of an attribute.
 fn add_value(lines: &mut Lines<'_>, is_wanted: bool, value: &Any) {

@@ -31,7 +31,7 @@ fn meaning(kind: FaultKind) -> &'static str {
 }
 
 // Adds why the octets at an offset are no certificate.
-pub(crate) fn add_malformed(lines: &mut Lines<'_>, rest: &[u8], offset: u64) {
+fn add_malformed(lines: &mut Lines<'_>, rest: &[u8], offset: u64) {
     match first_fault(lines.alloc, rest) {
         Ok(Some(error)) => add_certificate_fault(lines, rest, offset, &error),
         Ok(None) => {}
@@ -104,7 +104,9 @@ fn add_stream(lines: &mut Lines<'_>, octets: &[u8], limit: u32)
     }
 }
 
-// Why octets aren't certificates, one behind the other, as `run_explain_stream` says it.
+// Why octets aren't certificates, one behind the other, each of at most `limit` octets: the first
+// fault, the octet where it stands, and the parts around it. Certificates in the order of TLS, the
+// leaf first, are said to be so.
 pub(crate) fn explain_stream(alloc: Global, octets: &[u8], limit: u32) -> Result<String, AllocError>
     requires { 6 ≤ limit }
 {

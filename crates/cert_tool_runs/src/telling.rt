@@ -1,26 +1,21 @@
 //! Texts that the program itself tells.
 
 use crate::help::{ARGUMENTS, USAGE};
-use cert_desk_io::{ExitStatus, Output, tell_device, write_all};
+use crate::reply::Page;
+use cert_desk_io::{ExitStatus, tell_device, write_all};
 
-// Writes the parts of a text, and answers the status. One that can't be written is a failed
-// device, whose word is tried once.
-pub(crate) fn tell<E: Output>(err: &mut E, parts: &[&str], status: ExitStatus) -> ExitStatus {
+// Writes the parts of a text, and answers the status.
+pub(crate) fn tell(page: &mut Page, parts: &[&str], status: ExitStatus) -> ExitStatus {
     for part in parts {
-        if write_all(err, part.as_bytes()).is_err() {
-            return tell_device(err);
+        if write_all(page, part.as_bytes()).is_err() {
+            return tell_device(page);
         }
     }
     status
 }
 
 // Says which argument of a word is wrong, and what it should be.
-pub(crate) fn tell_wrong<E: Output>(
-    err: &mut E,
-    name: &str,
-    given: &str,
-    wanted: &str,
-) -> ExitStatus {
+pub(crate) fn tell_wrong(err: &mut Page, name: &str, given: &str, wanted: &str) -> ExitStatus {
     tell(
         err,
         &[name, ": \"", given, "\" isn't ", wanted, "\n"],
@@ -30,8 +25,8 @@ pub(crate) fn tell_wrong<E: Output>(
 
 // Says which of these arguments of a word is missing, or which one is too many, and how the word
 // is called.
-pub(crate) fn tell_usage<E: Output>(
-    err: &mut E,
+pub(crate) fn tell_usage(
+    err: &mut Page,
     names: &[&str],
     given: &[&str],
     usage: &str,
@@ -50,14 +45,15 @@ pub(crate) fn tell_usage<E: Output>(
     }
 }
 
-/// Says which words there are.
-pub fn tell_words<E: Output>(err: &mut E) -> ExitStatus {
-    tell(err, &[USAGE], ExitStatus::Arguments)
+// Says that there is no such word.
+pub(crate) fn tell_no_word(err: &mut Page, word: &str) -> ExitStatus {
+    let parts = ["there is no word \"", word, "\"\n", USAGE];
+    tell(err, &parts, ExitStatus::Arguments)
 }
 
 // Says what tells more of a stream that isn't certificates, and answers the status.
-pub(crate) fn tell_fault<E: Output>(
-    err: &mut E,
+pub(crate) fn tell_fault(
+    err: &mut Page,
     status: ExitStatus,
     stream: &str,
     limit: &str,
@@ -72,8 +68,8 @@ pub(crate) fn tell_fault<E: Output>(
 }
 
 // Says what tells more of a chain that isn't trusted, and answers the status.
-pub(crate) fn tell_more<E: Output>(
-    err: &mut E,
+pub(crate) fn tell_more(
+    err: &mut Page,
     status: ExitStatus,
     anchors: &str,
     stream: &str,

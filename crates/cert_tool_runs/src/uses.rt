@@ -2,9 +2,8 @@
 
 use crate::describe::Describe;
 use crate::lines::Lines;
-use cert_desk_checking::types::{
-    BasicConstraints, ExtendedKeyUsage, KeyUsage, SubjectKeyIdentifier,
-};
+use cert_desk_checking::types::policies::BasicConstraints;
+use cert_desk_checking::types::{ExtendedKeyUsage, KeyUsage, SubjectKeyIdentifier};
 
 impl Describe for SubjectKeyIdentifier {
     fn describe(&self, lines: &mut Lines<'_>) {

@@ -6,19 +6,18 @@ ghost use Rattle.cert_desk_checking.specs.declared.outcome.Outcome.{Outcome};
 ghost use Rattle.cert_desk_checking.specs.Anchors.{purpose_plain};
 ghost use Rattle.cert_desk_checking.specs.Questions.{Question};
 ghost use Rattle.cert_desk_checking.specs.Runs.{IsOutcome, IsTold, judging};
-ghost use Rattle.cert_tool_answers.specs.declared.answers_judge.AnswersJudge.{AnswersJudge};
+ghost use Rattle.cert_desk_checking.specs.declared.answers_judge.AnswersJudge.{AnswersJudge};
 ghost use Rattle.cert_tool_runs.specs.declared.no_answers.NoAnswers.{NoAnswers};
-ghost use Rattle.cert_tool_answers.specs.Answers.{answer_plain, listed};
-ghost use Rattle.cert_tool_answers.specs.Judges.{judge_answers, judge_questions};
+ghost use Rattle.cert_desk_checking.specs.Answers.{answer_plain, listed};
+ghost use Rattle.cert_desk_checking.specs.Judges.{judge_answers, judge_questions};
 ghost use Rattle.cert_tool_runs.specs.Verifying.{AreAnswers, IsNoneTold, wrong_line};
 
 use crate::answer_lines::answers_in;
 use crate::no_answers::NoAnswers;
-use cert_desk_checking::run_check;
+use cert_desk_checking::{Answer, AnswersJudge, run_check};
 use cert_desk_io::{
     ExitStatus, Input, Output, ReadAllError, complain, read_all, tell_device, tell_memory,
 };
-use cert_tool_answers::{Answer, AnswersJudge};
 use const_oid::ObjectIdentifier;
 use std::alloc::{AllocError, Global};
 

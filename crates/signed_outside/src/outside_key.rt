@@ -103,7 +103,7 @@ fn plain(dotted: &str) -> Result<AlgorithmIdentifier, Error> {
 
 impl Signer for OutsideKey {
     ghost use Rattle.std.specs.Prelude.{⊤};
-    ghost use Rattle.x509_cert.specs.Views.{algorithm_plain, key_plain};
+    ghost use Rattle.x509_cert.specs.Parts.{algorithm_plain, key_plain};
 
     ghost public_key = { λ s. key_plain s.info };
 

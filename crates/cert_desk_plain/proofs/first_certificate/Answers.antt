@@ -1,6 +1,6 @@
 -- A front that spells a certificate is the first one's, and where none does, none begins the octets.
 use Rattle.std.proofs.Common.{ℕ, ◌≤◌, length, arith, below_more}
-use Rattle.cert_desk_checking.specs.Certificates.{certificate_plain}
+use Rattle.cert_desk_checking.specs.CertificateViews.{certificate_plain}
 use Rattle.cert_desk_plain.proofs.Fronts.{front_of, no_front}
 use Rattle.cert_desk_plain.proofs.first_certificate.Goals as goal
 use Rattle.cert_desk_plain.proofs.first_certificate.Goals.{then-most-limit, else-most-limit}

@@ -1,7 +1,7 @@
 -- Each certificate that is found makes the chain longer by one.
 use Rattle.std.proofs.Common.{◌≡◌, drop, map, [], ◌∷◌, ◌++◌, subst, ap, ◌∙◌, arith}
 use Rattle.std.proofs.lemmas.List.{take_rest, map-append}
-use Rattle.cert_desk_checking.specs.Certificates.{certificate_plain}
+use Rattle.cert_desk_checking.specs.CertificateViews.{certificate_plain}
 use Rattle.cert_desk_plain.specs.Fronts.{Front, NoFront}
 use Rattle.cert_desk_plain.proofs.Fronts.{so_far-start, so_far-more, split_of}
 use Rattle.cert_desk_plain.proofs.split.Goals as goal

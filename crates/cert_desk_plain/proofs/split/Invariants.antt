@@ -1,6 +1,6 @@
 -- The certificates so far begin the stream.
 use Rattle.std.proofs.Common.{◌-◌, length, map}
-use Rattle.cert_desk_checking.specs.Certificates.{certificate_plain}
+use Rattle.cert_desk_checking.specs.CertificateViews.{certificate_plain}
 use Rattle.cert_desk_plain.proofs.Fronts.{SoFar}
 use Rattle.cert_desk_plain.proofs.split.Given as goal
 use Rattle.const_oid.specs.Bound.{Bound}

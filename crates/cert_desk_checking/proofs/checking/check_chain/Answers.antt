@@ -1,6 +1,6 @@
 use Rattle.std.proofs.Common.{◌≡◌, ℕ, suc, ◌+◌, ◌<◌, length, true, refl, sym, ap, ◌∙◌, subst, arith}
 use Rattle.const_oid.specs.Bound.{Bound}
-use Rattle.x509_cert.specs.Views.{certificate_plain}
+use Rattle.x509_cert_anchors.specs.CertificateViews.{certificate_plain}
 use Rattle.cert_desk_checking.specs.declared.issuer.Issuer.TheVariants as issuers
 use Rattle.cert_desk_checking.specs.declared.rule.Rule.TheVariants as rules
 use Rattle.cert_desk_checking.specs.Anchors.{terms_of}

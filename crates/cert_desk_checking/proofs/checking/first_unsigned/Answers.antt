@@ -1,8 +1,8 @@
 use Rattle.std.proofs.Common.{◌+◌, ◌&&◌, ◌||◌, not, List, refl, subst, sym, ◌∙◌, ap}
 use Rattle.std.specs.Option.{is_some}
 use Rattle.const_oid.specs.Bound.{Bound}
-use Rattle.x509_cert.specs.Certificates.{PlainExtension}
-use Rattle.x509_cert.specs.Views.{certificate_plain}
+use Rattle.x509_cert_extensions.specs.Parts.{PlainExtension}
+use Rattle.x509_cert_anchors.specs.CertificateViews.{certificate_plain}
 use Rattle.cert_desk_checking.specs.declared.rule.Rule.TheVariants as rules
 use Rattle.cert_desk_checking.specs.Anchors.{terms_of}
 use Rattle.cert_desk_checking.specs.Findings.{IsRoom, add_place, found}

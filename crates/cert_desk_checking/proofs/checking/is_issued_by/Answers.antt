@@ -1,8 +1,9 @@
 use Rattle.std.proofs.Common.{◌≡◌, sym, ap, ◌∙◌, subst}
 use Rattle.const_oid.specs.Bound.{Bound}
 use Rattle.der_core_head.specs.Shapes.{IsValid}
-use Rattle.x509_cert.specs.Views.{certificate_plain, name_plain}
-use Rattle.x509_cert.specs.Certificates.{PlainName, issuer, name, name_octets, tbs_issuer}
+use Rattle.x509_cert_anchors.specs.CertificateViews.{certificate_plain}
+use Rattle.x509_cert_extensions.specs.Parts.{name_plain, PlainName, name, name_octets}
+use Rattle.x509_cert_anchors.specs.Certificates.{issuer, tbs_issuer}
 use Rattle.cert_desk_checking.proofs.AnchorSteps.{same_name_by}
 use Rattle.cert_desk_checking.proofs.Encodings.{valid_issuer}
 use Rattle.cert_desk_checking.proofs.checking.is_issued_by.Goals as goal

@@ -2,7 +2,7 @@
 use Rattle.std.proofs.Common.{◌≡◌, ℕ, ◌+◌, map, drop}
 use Rattle.std.specs.List.{list_any}
 use Rattle.const_oid.specs.Bound.{Bound}
-use Rattle.x509_cert.specs.Views.{certificate_plain}
+use Rattle.x509_cert_anchors.specs.CertificateViews.{certificate_plain}
 use Rattle.cert_desk_checking.specs.Anchors.{anchor_plain}
 use Rattle.cert_desk_checking.specs.Places.{signs, Rises}
 use Rattle.cert_desk_checking.specs.Verdicts.{asked_until}

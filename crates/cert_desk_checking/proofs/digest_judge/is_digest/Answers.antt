@@ -3,8 +3,7 @@ use Rattle.std.proofs.lemmas.Slice.Eq.{bytes_eq-Decides}
 use Rattle.const_oid.specs.IdentifierOctets.{identifier_octets}
 use Rattle.der_core_head.specs.Grammar.{plain_option}
 use Rattle.der_core_head.specs.Shapes.{AnyValue}
-use Rattle.x509_cert.specs.Certificates.{algorithm_parameters}
-use Rattle.x509_cert.specs.Views.{algorithm_plain}
+use Rattle.x509_cert_extensions.specs.Parts.{algorithm_parameters, algorithm_plain}
 use Rattle.cert_desk_checking.specs.Digests.{digest_arcs}
 use Rattle.cert_desk_checking.proofs.DigestLaws.{digest_by, no_parameters}
 use Rattle.cert_desk_checking.proofs.DigestOctets.{digest_octets, is_identifier, digest_octets-is, same_arcs}

@@ -1,5 +1,5 @@
 use Rattle.std.proofs.Common.{◌∙◌, not, sym, ap, arith}
-use Rattle.x509_cert.specs.Views.{extension_plain}
+use Rattle.x509_cert_extensions.specs.Parts.{extension_plain}
 use Rattle.cert_desk_checking.proofs.ExtensionLaws.{twin_at}
 use Rattle.cert_desk_checking.proofs.extensions.first_twin_of_few.Goals as goal
 

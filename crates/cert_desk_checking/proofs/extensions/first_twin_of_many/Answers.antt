@@ -1,5 +1,5 @@
 use Rattle.std.proofs.Common.{◌≡◌, ℕ, ◌+◌, ◌-◌, ◌<◌, Bool, List, not, true, false, length, arith, sym, ap, ◌∙◌}
-use Rattle.x509_cert.specs.Views.{extension_plain}
+use Rattle.x509_cert_extensions.specs.Parts.{extension_plain}
 use Rattle.cert_desk_checking.proofs.ExtensionLaws.{distinct_here, set_here, twin_is}
 use Rattle.cert_desk_checking.proofs.extensions.first_twin_of_many.Goals as goal
 

@@ -5,8 +5,7 @@ use Rattle.std.specs.List.{list_any}
 use Rattle.std.specs.Option.{is_some}
 use Rattle.const_oid.specs.Comparing.{owned_eq}
 use Rattle.const_oid.specs.Orders.{owned_cmp}
-use Rattle.x509_cert.specs.Certificates.{extension_arcs}
-use Rattle.x509_cert.specs.Views.{extensions_plain}
+use Rattle.x509_cert_extensions.specs.Parts.{extension_arcs, extensions_plain}
 use Rattle.cert_desk_checking.specs.Judging.{are_distinct, has_twin}
 use Rattle.cert_desk_checking.proofs.extensions.first_twin_of_many.Given as goal
 

@@ -3,8 +3,7 @@ use Rattle.std.specs.Prelude.{Bool, not}
 use Rattle.std.proofs.lemmas.Iterator.{YieldsList-from_slice}
 use Rattle.std.proofs.lemmas.Iterator.Search.{any_from_yields_List}
 use Rattle.const_oid.specs.Comparing.{owned_eq}
-use Rattle.x509_cert.specs.Certificates.{extension_arcs}
-use Rattle.x509_cert.specs.Views.{extension_plain}
+use Rattle.x509_cert_extensions.specs.Parts.{extension_arcs, extension_plain}
 use Rattle.cert_desk_checking.proofs.ExtensionLaws.{any_of_list}
 use Rattle.cert_desk_checking.proofs.extensions.is_alone.Goals as goal
 

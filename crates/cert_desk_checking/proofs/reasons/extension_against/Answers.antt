@@ -1,6 +1,6 @@
 use Rattle.std.proofs.Common.{List, ap, refl, sym, ◌∙◌, ◌∷◌, [], arith}
 use Rattle.const_oid.specs.Bound.{Bound}
-use Rattle.x509_cert.specs.Views.{extension_plain, extensions_plain}
+use Rattle.x509_cert_extensions.specs.Parts.{extension_plain, extensions_plain}
 use Rattle.cert_desk_checking.specs.Findings.{found}
 use Rattle.cert_desk_checking.specs.Reasons.{goes_against, is_against}
 use Rattle.cert_desk_checking.specs.Weighing.{may_take_memory}

@@ -1,6 +1,7 @@
 use Rattle.std.proofs.Common.{ap, sym, ◌∙◌}
 use Rattle.const_oid.specs.Bound.{Bound}
-use Rattle.x509_cert.specs.Views.{certificate_plain, extensions_plain}
+use Rattle.x509_cert_anchors.specs.CertificateViews.{certificate_plain}
+use Rattle.x509_cert_extensions.specs.Parts.{extensions_plain}
 use Rattle.cert_desk_checking.specs.Paths.{is_within}
 use Rattle.cert_desk_checking.proofs.MemoryLaws.{takes_at}
 use Rattle.cert_desk_checking.proofs.Outcomes.{OnErr-by}

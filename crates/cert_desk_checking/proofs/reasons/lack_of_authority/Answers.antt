@@ -1,6 +1,6 @@
 use Rattle.std.proofs.Common.{List, ap, not, inl, refl, sym, ◌∙◌}
 use Rattle.const_oid.specs.Bound.{Bound}
-use Rattle.x509_cert.specs.Views.{extensions_plain}
+use Rattle.x509_cert_extensions.specs.Parts.{extensions_plain}
 use Rattle.cert_desk_checking.proofs.FoundLaws.{found_ca}
 use Rattle.cert_desk_checking.proofs.ReasonLaws.{none-and}
 use Rattle.cert_desk_checking.proofs.reasons.lack_of_authority.Goals as goal

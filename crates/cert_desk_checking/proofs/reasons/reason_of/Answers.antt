@@ -2,8 +2,9 @@ use Rattle.std.proofs.Common.{◌≡◌, List, [], false, ap, subst, sym, ◌∙
 use Rattle.std.specs.List.{list_any}
 use Rattle.std.specs.Option.{option_map_or}
 use Rattle.const_oid.specs.Bound.{Bound}
-use Rattle.x509_cert.specs.Certificates.{PlainExtension, extensions_of}
-use Rattle.x509_cert.specs.Views.{certificate_plain, extensions_plain}
+use Rattle.x509_cert_extensions.specs.Parts.{PlainExtension, extensions_plain}
+use Rattle.x509_cert_anchors.specs.Certificates.{extensions_of}
+use Rattle.x509_cert_anchors.specs.CertificateViews.{certificate_plain}
 use Rattle.cert_desk_checking.specs.declared.rule.Rule.TheVariants as rules
 use Rattle.cert_desk_checking.specs.Judging.{keeps_at}
 use Rattle.cert_desk_checking.specs.Reasons.{has_no_authority, is_against}

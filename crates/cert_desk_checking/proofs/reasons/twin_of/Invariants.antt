@@ -1,6 +1,6 @@
 -- No extension so far has the identifier: the answer is that of those that are left.
 use Rattle.std.proofs.Common.{◌≡◌, drop}
-use Rattle.x509_cert.specs.Views.{extension_plain, extensions_plain}
+use Rattle.x509_cert_extensions.specs.Parts.{extension_plain, extensions_plain}
 use Rattle.cert_desk_checking.specs.Judging.{is_alone}
 use Rattle.cert_desk_checking.proofs.reasons.twin_of.Given as goal
 

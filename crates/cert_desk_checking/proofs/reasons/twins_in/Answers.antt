@@ -1,7 +1,7 @@
 use Rattle.std.proofs.Common.{◌≡◌, ◌<◌, ◌+◌, ◌-◌, ◌∙◌, IfSome, true, not, length, drop, take, refl, subst, sym, ap, arith}
 use Rattle.std.proofs.lemmas.Bool.{both_ways}
 use Rattle.std.proofs.lemmas.List.{take_rest}
-use Rattle.x509_cert.specs.Views.{extension_plain, extensions_plain}
+use Rattle.x509_cert_extensions.specs.Parts.{extension_plain, extensions_plain}
 use Rattle.cert_desk_checking.specs.Judging.{has_twin}
 use Rattle.cert_desk_checking.specs.Reasons.{have_one_identifier, is_at}
 use Rattle.cert_desk_checking.proofs.ExtensionLaws.{twin_at}

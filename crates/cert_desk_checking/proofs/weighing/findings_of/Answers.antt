@@ -1,5 +1,5 @@
 use Rattle.std.proofs.Common.{arith}
-use Rattle.x509_cert.specs.Views.{extension_plain}
+use Rattle.x509_cert_extensions.specs.Parts.{extension_plain}
 use Rattle.cert_desk_checking.proofs.MemoryLaws.{one_takes}
 use Rattle.cert_desk_checking.proofs.Outcomes.{OnErr-by}
 use Rattle.cert_desk_checking.proofs.weighing.findings_of.Goals as goal

@@ -2,7 +2,7 @@
 use Rattle.std.proofs.Common.{◌≡◌, drop}
 use Rattle.std.specs.List.{fold}
 use Rattle.const_oid.specs.Bound.{Bound}
-use Rattle.x509_cert.specs.Views.{extensions_plain}
+use Rattle.x509_cert_extensions.specs.Parts.{extensions_plain}
 use Rattle.cert_desk_checking.specs.Findings.{add_extension, found}
 use Rattle.cert_desk_checking.proofs.weighing.findings_of.Given as goal
 

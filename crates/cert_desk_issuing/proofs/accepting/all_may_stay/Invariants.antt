@@ -1,7 +1,7 @@
 -- All attributes so far may stay: the answer is that of those that are left.
 use Rattle.std.proofs.Common.{◌≡◌}
 use Rattle.std.specs.List.{list_all}
-use Rattle.cert_desk_checking.specs.Builders.{may_stay}
+use Rattle.x509_cert_builders.specs.Subscribers.{may_stay}
 use Rattle.cert_desk_checking.specs.Parts.{relative_plain}
 use Rattle.cert_desk_issuing.proofs.accepting.all_may_stay.Given as goal
 

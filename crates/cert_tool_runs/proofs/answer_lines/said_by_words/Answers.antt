@@ -1,6 +1,6 @@
 use Rattle.std.proofs.Common.{ap, sym, ◌∙◌}
 use Rattle.der_core_head.specs.Grammar.{plain_option}
-use Rattle.cert_tool_answers.specs.Answers.{answer_plain}
+use Rattle.cert_desk_checking.specs.Answers.{answer_plain}
 use Rattle.cert_tool_runs.proofs.WordsOfLine.{say_answer}
 use Rattle.cert_tool_runs.proofs.answer_lines.said_by_words.Goals as goal
 

@@ -3,7 +3,7 @@ use Rattle.std.proofs.Common.{◌≡◌, ℕ, ◌+◌, ◌-◌, ◌<◌, List, l
 use Rattle.std.proofs.lemmas.Option.{slice_get-get_or, slice_get-map}
 use Rattle.std.specs.Option.{option_map}
 use Rattle.const_oid.specs.Bound.{Bound}
-use Rattle.x509_cert.specs.Certificates.{PlainCertificate, certificate_octets, signed_length}
+use Rattle.x509_cert_anchors.specs.Certificates.{PlainCertificate, certificate_octets, signed_length}
 use Rattle.cert_desk_checking.specs.declared.located.Located.{Located}
 use Rattle.cert_desk_checking.specs.Chains.{offset_at}
 use Rattle.cert_desk_checking.specs.Locations.{plain_of, certificates_of, IsPlacedAt}

@@ -1,7 +1,6 @@
 use Rattle.std.proofs.Common.{◌≡◌, [], ◌++◌, bytes_eq, sym, ap, ◌∙◌}
 use Rattle.sha2.specs.Sha256.{sha256}
-use Rattle.x509_cert.specs.Certificates.{key_bits}
-use Rattle.x509_cert.specs.Views.{key_plain}
+use Rattle.x509_cert_extensions.specs.Parts.{key_bits, key_plain}
 use Rattle.cert_desk_checking.proofs.DigestLaws.{no_by_algorithm, no_by_unused, yes_by_digest}
 use Rattle.cert_desk_checking.proofs.digest_judge.DigestJudgeSignatureJudge.accepts.Goals as goal
 

@@ -1,8 +1,7 @@
 use Rattle.std.proofs.Common.{◌≡◌, ℕ, List, ◌++◌, true, refl, sym, ap, ◌∙◌, []}
 use Rattle.std.proofs.lemmas.Slice.Eq.{bytes_eq-Decides}
 use Rattle.der_core_head.specs.BitStrings.{Bits}
-use Rattle.cert_desk_checking.specs.Certificates.{PublicKey, key_bits}
-use Rattle.cert_desk_checking.specs.Views.{key_plain}
+use Rattle.cert_desk_checking.specs.Parts.{PublicKey, key_bits, key_plain}
 use Rattle.sha2.specs.Sha256.{sha256}
 use Rattle.cert_desk_checking.proofs.DigestLaws.{yes_by_digest}
 use Rattle.cert_desk_issuing.specs.DigestSigners.{digest_algorithm, IsDigestOf}

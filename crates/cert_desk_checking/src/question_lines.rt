@@ -1,0 +1,155 @@
+//! The questions of a chain, in lines.
+ghost use Rattle.std.specs.Prelude.{◌≡◌, ◌<◌, List, ◌++◌, length, map, IfOk, OnOk, string_bytes};
+ghost use Rattle.der_core_head.specs.Shapes.{IsValid, octets_of};
+ghost use Rattle.hex.specs.Hex.{encode_lower};
+ghost use Rattle.cert_desk_checking.specs.Anchors.{anchor_plain};
+ghost use Rattle.const_oid.specs.Bound.{Bound};
+ghost use Rattle.x509_cert_anchors.specs.CertificateViews.{certificate_plain};
+ghost use Rattle.x509_cert_anchors.specs.Certificates.{raw_certificate};
+ghost use Rattle.cert_desk_checking.specs.Chains.{joined};
+ghost use Rattle.cert_desk_checking.specs.Judging.{PlainAnchor};
+ghost use Rattle.x509_cert_extensions.specs.Parts.{key_plain};
+ghost use Rattle.cert_desk_checking.specs.QuestionLines.{chain_lines, lines_at, question_line};
+ghost use Rattle.cert_desk_checking.specs.Questioning.{anchor_line, entry_lines, entry_question};
+
+use crate::anchor::Anchor;
+use crate::bundle::Bundle;
+use crate::checking::is_issued_by;
+use crate::entry::Entry;
+use der_core::{Encode, to_der};
+use std::alloc::{AllocError, Global};
+use x509_cert_anchors::certificates::SubjectPublicKeyInfo;
+
+// The encoding of a value, in base 16.
+fn written<T: Encode>(alloc: Global, value: &T) -> Result<String, AllocError>
+    ensures { IfOk result (λ text. string_bytes text
+        ≡ encode_lower (octets_of T.shape (T.written value.now))) }
+{
+    let Ok(octets) = to_der(alloc, value) else {
+        return Err(AllocError);
+    };
+    hex::encode(alloc, octets.as_slice())
+}
+
+// Adds the line of a question: under this key, about the certificate at a place.
+fn add_line(
+    alloc: Global,
+    text: &mut String,
+    place: usize,
+    anchor: &str,
+    key: &SubjectPublicKeyInfo,
+    entry: &Entry<'_>,
+) -> Result<(), AllocError>
+    ensures { OnOk result (string_bytes text.new ≡ string_bytes text.old
+        ++ question_line place anchor.now (entry_question entry.now (key_plain key.now))) }
+{
+    let key = written(alloc, key)?;
+    let algorithm = written(alloc, entry.certificate.signature_algorithm())?;
+    let signed = hex::encode(alloc, entry.signed)?;
+    let bits = written(alloc, entry.certificate.signature())?;
+    writeln!(text, "{place} {anchor} {key} {algorithm} {signed} {bits}")?;
+    Ok(())
+}
+
+// Adds the line of the question about the first certificate under the key of an anchor, if the
+// anchor has the issuer's name.
+#[tactic(auto, unfolding(crate::specs::Anchors::anchor_plain))]
+fn add_anchor(
+    alloc: Global,
+    text: &mut String,
+    number: usize,
+    anchor: &Anchor,
+    entry: &Entry<'_>,
+) -> Result<(), AllocError>
+    requires { IsValid (raw_certificate Bound) (certificate_plain entry.now.certificate.now) }
+    ensures { OnOk result (string_bytes text.new ≡ string_bytes text.old
+        ++ anchor_line entry.now number (anchor_plain anchor.now)) }
+{
+    if !is_issued_by(entry.certificate, anchor.name()) {
+        return Ok(());
+    }
+    let label = format!(in alloc; "{number}")?;
+    add_line(alloc, text, 0, label.as_str(), anchor.key(), entry)
+}
+
+// Adds the lines of the questions about the first certificate: under the key of each anchor of the
+// issuer's name, in their order.
+fn add_first(
+    alloc: Global,
+    text: &mut String,
+    anchors: &[Anchor],
+    entry: &Entry<'_>,
+) -> Result<(), AllocError>
+    requires { IsValid (raw_certificate Bound) (certificate_plain entry.now.certificate.now) }
+    ensures { OnOk result (string_bytes text.new ≡ string_bytes text.old
+        ++ entry_lines entry.now 0 (map anchor_plain anchors.now)) }
+{
+    for number in 0..anchors.len() {
+        add_anchor(alloc, text, number, &anchors[number], entry)?;
+    }
+    Ok(())
+}
+
+// Adds the line of the question about the certificate at a later place: under the key of the one
+// before.
+fn add_later(
+    alloc: Global,
+    text: &mut String,
+    bundle: &Bundle,
+    place: usize,
+) -> Result<(), AllocError>
+    requires later { 0 < place }
+    requires within { place < length bundle.now.certificates }
+    ensures { (anchors : List PlainAnchor) → OnOk result (string_bytes text.new
+        ≡ string_bytes text.old ++ lines_at anchors bundle.now.certificates
+        (joined Bound bundle.now.certificates) place) }
+{
+    let before = bundle.get(place - 1).unwrap();
+    let key = before
+        .certificate
+        .tbs_certificate()
+        .subject_public_key_info();
+    add_line(alloc, text, place, "-", key, &bundle.get(place).unwrap())
+}
+
+// Adds the lines of the questions about the certificate at a place.
+fn add_place(
+    alloc: Global,
+    text: &mut String,
+    anchors: &[Anchor],
+    bundle: &Bundle,
+    place: usize,
+) -> Result<(), AllocError>
+    requires { place < length bundle.now.certificates }
+    ensures { OnOk result (string_bytes text.new ≡ string_bytes text.old
+        ++ lines_at (map anchor_plain anchors.now) bundle.now.certificates
+        (joined Bound bundle.now.certificates) place) }
+{
+    if place == 0 {
+        return add_first(alloc, text, anchors, &bundle.get(0).unwrap());
+    }
+    add_later(alloc, text, bundle, place)
+}
+
+/// What the signatures of a chain may ask, a line each: `PLACE ANCHOR KEY ALGORITHM SIGNED BITS`.
+///
+/// The place, and the anchor's number where it is the first place, `-` behind it, are in decimal
+/// and counted from 0. The others are in base 16, in small letters: the encodings of key and
+/// algorithm, the octets that are signed, and the encoding of the bits. For the first place each
+/// anchor of the issuer's name has a line, in their order; for another the key is that of the
+/// certificate before.
+///
+/// # Errors
+///
+/// Want of memory.
+pub fn chain_lines(alloc: Global, anchors: &[Anchor], bundle: &Bundle) -> Result<String, AllocError>
+    ensures { IfOk result (λ text. string_bytes text
+        ≡ chain_lines (map anchor_plain anchors.now) bundle.now.certificates
+        (joined Bound bundle.now.certificates)) }
+{
+    let mut text = String::new(alloc);
+    for place in 0..bundle.len() {
+        add_place(alloc, &mut text, anchors, bundle, place)?;
+    }
+    Ok(text)
+}

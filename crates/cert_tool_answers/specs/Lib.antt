@@ -1,4 +1,0 @@
-pub mod Answers
-pub mod Judges
-pub mod QuestionLines
-pub mod Questioning
