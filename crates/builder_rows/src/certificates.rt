@@ -7,7 +7,7 @@ use const_oid::ObjectIdentifier;
 use der_core::{from_der, to_der};
 use std::alloc::Global;
 use std::str::FromStr;
-use x509_cert_list_builders::types::certificates::{
+use x509_cert_list_builders::certificates::{
     Certificate, Name, OctetString, SerialNumber, Validity,
 };
 use x509_cert_list_builders::types::general_names::GeneralNames;

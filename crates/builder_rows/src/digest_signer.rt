@@ -5,9 +5,7 @@ use crate::words::key_of;
 use const_oid::ObjectIdentifier;
 use sha2::{Digest, Sha256};
 use std::alloc::Global;
-use x509_cert_list_builders::types::certificates::{
-    AlgorithmIdentifier, BitString, SubjectPublicKeyInfo,
-};
+use x509_cert_list_builders::certificates::{AlgorithmIdentifier, BitString, SubjectPublicKeyInfo};
 use x509_cert_list_builders::{SignError, Signer};
 
 /// A signer whose bits are the SHA-256 digest of its key's octets and the signed ones. It protects

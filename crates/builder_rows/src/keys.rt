@@ -4,7 +4,7 @@ use crate::refusals::Refusal;
 use crate::words::key_of;
 use der_core::to_der;
 use std::alloc::Global;
-use x509_cert_list_builders::types::certificates::{
+use x509_cert_list_builders::certificates::{
     AlgorithmIdentifierRef, SubjectPublicKeyInfo, SubjectPublicKeyInfoRef,
 };
 use x509_cert_list_builders::types::general_names::AuthorityKeyIdentifier;

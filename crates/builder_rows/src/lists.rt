@@ -7,9 +7,9 @@ use der_core::{from_der, to_der};
 use std::alloc::Global;
 use std::str::FromStr;
 use x509_cert_list_builders::CrlBuilder;
+use x509_cert_list_builders::certificates::{Certificate, Time};
 use x509_cert_list_builders::lists::{CertificateList, RevokedCert};
 use x509_cert_list_builders::types::CrlNumber;
-use x509_cert_list_builders::types::certificates::{Certificate, Time};
 
 /// The entry of a list that is the encoding of these octets.
 fn entry_of(alloc: Global, word: &str) -> Result<RevokedCert, Refusal> {

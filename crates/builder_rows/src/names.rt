@@ -2,7 +2,7 @@
 
 use crate::refusals::Refusal;
 use std::alloc::Global;
-use x509_cert_list_builders::types::certificates::Name;
+use x509_cert_list_builders::certificates::Name;
 use x509_cert_list_builders::{ca_certificate_naming, check_names_encoding};
 
 /// Whether a name keeps the rules of all names.

@@ -4,7 +4,7 @@ use crate::refusals::Refusal;
 use der_core::from_der;
 use std::alloc::Global;
 use std::str::FromStr;
-use x509_cert_list_builders::types::certificates::{Extension, Name, SubjectPublicKeyInfo, Time};
+use x509_cert_list_builders::certificates::{Extension, Name, SubjectPublicKeyInfo, Time};
 
 /// The words of a line, one after the other.
 #[derive(Clone, Copy)]

@@ -2,7 +2,7 @@
 
 ghost use Rattle.std.specs.Prelude.{bytes_eq};
 ghost use Rattle.std.specs.List.{list_any};
-ghost use Rattle.cert_desk_plain.specs.Certificates.{key_bits};
+ghost use Rattle.cert_desk_plain.specs.Parts.{key_bits};
 
 use cert_desk::{AlgorithmIdentifier, BitString, SignatureJudge, SubjectPublicKeyInfo};
 

@@ -6,7 +6,6 @@
 //! Files are those of data/, which `make_tool_data.sh` made with OpenSSL.
 #![tactic(auto)]
 
-use cert_desk_io::ToWrite;
 use cert_tool_runs::obey;
 use std::alloc::Global;
 use std::io::{BufWriter, Write};
@@ -23,12 +22,10 @@ fn write_shown<W: Write>(alloc: Global, octets: &[u8], to: &mut W) -> io::Result
 // Writes the answer to a line.
 fn answer<W: Write>(rt: &HostRuntime, line: &str, to: &mut W) -> io::Result<()> {
     let words: Vec<&str> = line.split(' ').collect(rt.alloc())?;
-    let mut out: ToWrite<Vec<u8>> = ToWrite::new(Vec::new(rt.alloc()));
-    let mut err: ToWrite<Vec<u8>> = ToWrite::new(Vec::new(rt.alloc()));
-    let status = obey(rt.alloc(), rt, words.as_slice(), &mut out, &mut err);
-    write_shown(rt.alloc(), out.into_inner().as_slice(), to)?;
-    to.write_all(err.into_inner().as_slice())?;
-    writeln!(to, "= {}", status as u8)
+    let reply = obey(rt.alloc(), rt, words.as_slice())?;
+    write_shown(rt.alloc(), reply.out.as_slice(), to)?;
+    to.write_all(reply.err.as_slice())?;
+    writeln!(to, "= {}", reply.status as u8)
 }
 
 fn main(rt: HostRuntime) -> io::Result<()> {

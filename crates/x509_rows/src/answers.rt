@@ -1,19 +1,17 @@
 //! Questions and their answers.
 
-use crate::copies::copied_of;
 use crate::drawn::{drawn, generated};
-use crate::exchanged::exchanged;
 use crate::lists::{value_placed, values_of};
-use crate::made::{default_of, digest_of, made_of};
+use crate::made::{digest_of, made_of};
 use crate::names::names_of;
 use crate::questions::{
-    Asked, Question, answer_of_ordered, answer_of_value, answer_with_order, answer_with_readers,
-    asked_by,
+    Asked, Question, answer_of_ordered, answer_of_value, answer_with_order,
+    answer_with_order_and_copy, asked_by,
 };
 use crate::refusals::Refusal;
 use crate::shown::octets_of;
 use crate::tls_values::rewritten;
-use crate::whole_extensions::{got_of, usages_of};
+use crate::whole_extensions::{certificate_of, usages_of};
 use crate::{distinguished_names, extensions, name_texts, timestamps};
 use std::alloc::Global;
 use std::io;
@@ -41,7 +39,6 @@ fn answer_to(alloc: Global, line: &str) -> Result<String, Refusal> {
     let (word, rest) = line.split_once(' ').unwrap_or((line, ""));
     match word {
         "usages" => usages_of(alloc, rest),
-        "default" => default_of(alloc, rest),
         "attributes"
         | "relative"
         | "relative-of"
@@ -68,10 +65,8 @@ fn answer_about(alloc: Global, word: &str, kind: &str, values: &str) -> Result<S
         "tls" => rewritten(alloc, kind, values),
         "from" => made_of(alloc, kind, values),
         "names" => names_of(alloc, kind, values),
-        "copy" => copied_of(alloc, kind, values),
         "values" => values_of(alloc, kind, values),
         "insert" => value_placed(alloc, kind, values),
-        "exchange" => exchanged(alloc, kind, values),
         "get" => got_of(alloc, kind, values),
         "sha1" => digest_of(alloc, kind, values),
         "generate" => generated(alloc, kind, values),
@@ -83,12 +78,14 @@ fn answer_about(alloc: Global, word: &str, kind: &str, values: &str) -> Result<S
 /// What is answered to a question about the values that octets spell.
 fn answer_of_values(
     alloc: Global,
-    asked: Asked,
+    asked: Asked<'_>,
     kind: &str,
     values: &str,
 ) -> Result<String, Refusal> {
     let (first, second) = match asked {
-        Asked::Order | Asked::Extension => values.split_once(' ').ok_or(Refusal::Unread)?,
+        Asked::Order | Asked::Exchange | Asked::Extension => values
+            .split_once(' ')
+            .ok_or(Refusal::Unread)?,
         _ => (values, ""),
     };
     let first = octets_of(alloc, first)?;
@@ -97,6 +94,17 @@ fn answer_of_values(
         asked,
         first: first.as_slice(),
         second: second.as_slice(),
+    };
+    answer_of_parts(alloc, kind, &question)
+}
+
+/// What a certificate has once of a type.
+fn got_of(alloc: Global, kind: &str, octets: &str) -> Result<String, Refusal> {
+    let certificate = certificate_of(alloc, octets)?;
+    let question = Question {
+        asked: Asked::Get(certificate.tbs_certificate()),
+        first: &[],
+        second: &[],
     };
     answer_of_parts(alloc, kind, &question)
 }
@@ -120,7 +128,11 @@ fn answer_of_parts(alloc: Global, kind: &str, question: &Question<'_>) -> Result
         "TbsCertificate/Rfc5280" => answer_of_ordered::<TbsCertificateInner<Rfc5280>>(
             alloc, question,
         ),
-        "Certificate" => answer_with_readers::<CertificateInner<Raw>>(alloc, question),
+        "Certificate" => answer_with_order_and_copy(
+            alloc,
+            question,
+            <CertificateInner<Raw>>::clone,
+        ),
         "Certificate/Rfc5280" => answer_of_ordered::<CertificateInner<Rfc5280>>(alloc, question),
         _ => extensions::answer(alloc, kind, question),
     }

@@ -2,69 +2,142 @@
 
 use crate::lists;
 use crate::questions::{
-    Question, answer_of_content, answer_of_ordered, answer_of_value, answer_with_both,
-    answer_with_debug, answer_with_order,
+    Asked, Question, answer_of_content, answer_of_field, answer_of_list, answer_of_ordered,
+    answer_of_value, answer_with_both, answer_with_copy, answer_with_debug,
+    answer_with_debug_and_copy, answer_with_default_and_copy, answer_with_field,
+    answer_with_field_and_copy, answer_with_order, answer_with_order_and_copy,
 };
 use crate::refusals::Refusal;
+use crate::shown::written;
+use const_oid::ObjectIdentifier;
 use std::alloc::Global;
 use x509_cert::timestamps::SignedCertificateTimestampList;
 use x509_cert::{
     AccessDescription, AuthorityInfoAccessSyntax, AuthorityKeyIdentifier, BaseCrlNumber,
     BasicConstraints, CertificatePolicies, CpsUri, CrlDistributionPoints, CrlNumber, CrlReason,
     DirectoryString, DisplayText, DistributionPoint, DistributionPointName, EdiPartyName,
-    ExtendedKeyUsage, FreshestCrl, GeneralName, GeneralSubtree, HardwareModuleName,
-    InhibitAnyPolicy, IssuerAltName, IssuingDistributionPoint, KeyUsage, NameConstraints,
-    NoticeReference, OtherName, PolicyConstraints, PolicyInformation, PolicyMapping,
-    PolicyMappings, PolicyQualifierInfo, PrivateKeyUsagePeriod, ReasonFlags, SubjectAltName,
-    SubjectDirectoryAttributes, SubjectInfoAccessSyntax, SubjectKeyIdentifier, UserNotice,
+    ExtendedKeyUsage, FlagSet, FreshestCrl, GeneralName, GeneralSubtree, HardwareModuleName,
+    Ia5String, InhibitAnyPolicy, IssuerAltName, IssuingDistributionPoint, KeyUsage, KeyUsages,
+    NameConstraints, NoticeReference, OctetString, OtherName, PolicyConstraints, PolicyInformation,
+    PolicyMapping, PolicyMappings, PolicyQualifierInfo, PrivateKeyUsagePeriod, ReasonFlags,
+    SubjectAltName, SubjectDirectoryAttributes, SubjectInfoAccessSyntax, SubjectKeyIdentifier,
+    Uint, UserNotice,
 };
 
-/// The answer of the content of an extension, or of a part.
+/// The answer of the content of an extension that is a list, of another one, or of a part.
 pub fn answer(alloc: Global, kind: &str, question: &Question<'_>) -> Result<String, Refusal> {
     match kind {
-        "SubjectDirectoryAttributes" => answer_of_content::<SubjectDirectoryAttributes>(
-            alloc, question,
+        "SubjectDirectoryAttributes" => answer_of_list(
+            alloc,
+            question,
+            SubjectDirectoryAttributes::clone,
+            SubjectDirectoryAttributes::default,
         ),
-        "SubjectKeyIdentifier" => answer_of_content::<SubjectKeyIdentifier>(alloc, question),
-        "KeyUsage" => answer_of_content::<KeyUsage>(alloc, question),
-        "PrivateKeyUsagePeriod" => answer_of_content::<PrivateKeyUsagePeriod>(alloc, question),
-        "SubjectAltName" => answer_of_content::<SubjectAltName>(alloc, question),
-        "IssuerAltName" => answer_of_content::<IssuerAltName>(alloc, question),
-        "BasicConstraints" => answer_with_both::<BasicConstraints>(alloc, question),
-        "CrlNumber" => answer_of_content::<CrlNumber>(alloc, question),
-        "CrlReason" => answer_with_both::<CrlReason>(alloc, question),
-        "BaseCrlNumber" => answer_of_content::<BaseCrlNumber>(alloc, question),
-        "IssuingDistributionPoint" => answer_with_debug::<IssuingDistributionPoint>(
-            alloc, question,
+        "SubjectAltName" => answer_of_list(
+            alloc,
+            question,
+            SubjectAltName::clone,
+            SubjectAltName::default,
         ),
-        _ => answer_of_constraints(alloc, kind, question),
+        "IssuerAltName" => answer_of_list(
+            alloc,
+            question,
+            IssuerAltName::clone,
+            IssuerAltName::default,
+        ),
+        "CrlDistributionPoints" => answer_of_list(
+            alloc,
+            question,
+            CrlDistributionPoints::clone,
+            CrlDistributionPoints::default,
+        ),
+        "FreshestCrl" => answer_of_list(alloc, question, FreshestCrl::clone, FreshestCrl::default),
+        "AuthorityInfoAccessSyntax" => answer_of_list(
+            alloc,
+            question,
+            AuthorityInfoAccessSyntax::clone,
+            AuthorityInfoAccessSyntax::default,
+        ),
+        "SubjectInfoAccessSyntax" => answer_of_list(
+            alloc,
+            question,
+            SubjectInfoAccessSyntax::clone,
+            SubjectInfoAccessSyntax::default,
+        ),
+        _ => answer_of_fields(alloc, kind, question),
     }
 }
 
-/// The answer of the content of one of the other extensions, or of a part.
-fn answer_of_constraints(
+/// The answer of the content of another extension that has one field, of one of the others, or of a
+/// part.
+fn answer_of_fields(alloc: Global, kind: &str, question: &Question<'_>) -> Result<String, Refusal> {
+    match kind {
+        "SubjectKeyIdentifier" => answer_with_field_and_copy::<_, OctetString, _>(
+            alloc,
+            question,
+            SubjectKeyIdentifier::clone,
+        ),
+        "CrlNumber" => answer_with_field_and_copy::<_, Uint, _>(alloc, question, CrlNumber::clone),
+        "BaseCrlNumber" => answer_with_field_and_copy::<_, Uint, _>(
+            alloc,
+            question,
+            BaseCrlNumber::clone,
+        ),
+        "CertificatePolicies" => answer_with_field_and_copy::<_, Vec<PolicyInformation>, _>(
+            alloc,
+            question,
+            CertificatePolicies::clone,
+        ),
+        "PolicyMappings" => answer_with_field_and_copy::<_, Vec<PolicyMapping>, _>(
+            alloc,
+            question,
+            PolicyMappings::clone,
+        ),
+        "ExtendedKeyUsage" => answer_with_field_and_copy::<_, Vec<ObjectIdentifier<39>>, _>(
+            alloc,
+            question,
+            ExtendedKeyUsage::clone,
+        ),
+        "KeyUsage" => answer_with_field::<KeyUsage, FlagSet<KeyUsages>>(alloc, question),
+        "InhibitAnyPolicy" => answer_of_inhibition(alloc, question),
+        "SignedCertificateTimestampList" => {
+            answer_with_field::<SignedCertificateTimestampList, OctetString>(alloc, question)
+        }
+        _ => answer_of_records(alloc, kind, question),
+    }
+}
+
+/// The answer of the content of an extension that is a record or a number, or of a part.
+fn answer_of_records(
     alloc: Global,
     kind: &str,
     question: &Question<'_>,
 ) -> Result<String, Refusal> {
     match kind {
-        "NameConstraints" => answer_of_content::<NameConstraints>(alloc, question),
-        "CrlDistributionPoints" => answer_of_content::<CrlDistributionPoints>(alloc, question),
-        "CertificatePolicies" => answer_of_content::<CertificatePolicies>(alloc, question),
-        "PolicyMappings" => answer_of_content::<PolicyMappings>(alloc, question),
-        "AuthorityKeyIdentifier" => answer_of_content::<AuthorityKeyIdentifier>(alloc, question),
+        "AuthorityKeyIdentifier" => answer_with_default_and_copy(
+            alloc,
+            question,
+            AuthorityKeyIdentifier::clone,
+        ),
+        "IssuingDistributionPoint" => answer_with_debug_and_copy(
+            alloc,
+            question,
+            IssuingDistributionPoint::clone,
+        ),
+        "BasicConstraints" => answer_with_both::<BasicConstraints>(alloc, question),
+        "CrlReason" => answer_with_both::<CrlReason>(alloc, question),
         "PolicyConstraints" => answer_with_debug::<PolicyConstraints>(alloc, question),
-        "ExtendedKeyUsage" => answer_of_content::<ExtendedKeyUsage>(alloc, question),
-        "FreshestCrl" => answer_of_content::<FreshestCrl>(alloc, question),
-        "InhibitAnyPolicy" => answer_of_content::<InhibitAnyPolicy>(alloc, question),
-        "AuthorityInfoAccessSyntax" => answer_of_content::<AuthorityInfoAccessSyntax>(
-            alloc, question,
-        ),
-        "SubjectInfoAccessSyntax" => answer_of_content::<SubjectInfoAccessSyntax>(alloc, question),
-        "SignedCertificateTimestampList" => answer_of_content::<SignedCertificateTimestampList>(
-            alloc, question,
-        ),
+        "PrivateKeyUsagePeriod" => answer_of_content::<PrivateKeyUsagePeriod>(alloc, question),
+        "NameConstraints" => answer_of_content::<NameConstraints>(alloc, question),
         _ => answer_of_parts(alloc, kind, question),
+    }
+}
+
+/// The answer of how many certificates may follow, which is 0 where nothing is said.
+fn answer_of_inhibition(alloc: Global, question: &Question<'_>) -> Result<String, Refusal> {
+    match question.asked {
+        Asked::Default => written(alloc, &InhibitAnyPolicy::default()),
+        _ => answer_with_field::<InhibitAnyPolicy, u32>(alloc, question),
     }
 }
 
@@ -73,9 +146,9 @@ fn answer_of_parts(alloc: Global, kind: &str, question: &Question<'_>) -> Result
     match kind {
         "GeneralName" => answer_with_order::<GeneralName>(alloc, question),
         "OtherName" => answer_of_value::<OtherName>(alloc, question),
-        "HardwareModuleName" => answer_of_value::<HardwareModuleName>(alloc, question),
+        "HardwareModuleName" => answer_with_copy(alloc, question, HardwareModuleName::clone),
         "EdiPartyName" => answer_of_value::<EdiPartyName>(alloc, question),
-        "DirectoryString" => answer_with_order::<DirectoryString>(alloc, question),
+        "DirectoryString" => answer_with_order_and_copy(alloc, question, DirectoryString::clone),
         "GeneralSubtree" => answer_of_ordered::<GeneralSubtree>(alloc, question),
         "DistributionPoint" => answer_of_value::<DistributionPoint>(alloc, question),
         "DistributionPointName" => answer_with_order::<DistributionPointName>(alloc, question),
@@ -84,8 +157,8 @@ fn answer_of_parts(alloc: Global, kind: &str, question: &Question<'_>) -> Result
         "PolicyInformation" => answer_of_value::<PolicyInformation>(alloc, question),
         "PolicyQualifierInfo" => answer_of_value::<PolicyQualifierInfo>(alloc, question),
         "PolicyMapping" => answer_of_value::<PolicyMapping>(alloc, question),
-        "CpsUri" => answer_of_value::<CpsUri>(alloc, question),
-        "UserNotice" => answer_of_value::<UserNotice>(alloc, question),
+        "CpsUri" => answer_of_field::<_, Ia5String, _>(alloc, question, CpsUri::clone),
+        "UserNotice" => answer_with_copy(alloc, question, UserNotice::clone),
         "NoticeReference" => answer_of_value::<NoticeReference>(alloc, question),
         "DisplayText" => answer_with_order::<DisplayText>(alloc, question),
         _ => lists::answer(alloc, kind, question),

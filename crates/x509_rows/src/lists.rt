@@ -1,6 +1,9 @@
 //! Questions about revocation lists, certification requests, trust anchors and names.
 
-use crate::questions::{Question, answer_of, answer_of_ordered, answer_of_value};
+use crate::questions::{
+    Question, answer_of, answer_of_ordered, answer_of_ordered_list, answer_of_value,
+    answer_with_copy, answer_with_order_and_copy,
+};
 use crate::refusals::Refusal;
 use crate::shown::{joined, octets_of, shown, written};
 use der_core::{StrictSetOf, from_der};
@@ -14,17 +17,26 @@ use x509_cert::{
 /// The answer of a type that this page names.
 pub fn answer(alloc: Global, kind: &str, question: &Question<'_>) -> Result<String, Refusal> {
     match kind {
-        "CertificateList" => answer_of_ordered::<CertificateList<Raw>>(alloc, question),
+        "CertificateList" => answer_with_order_and_copy(
+            alloc,
+            question,
+            <CertificateList<Raw>>::clone,
+        ),
         "CertificateList/Rfc5280" => answer_of_value::<CertificateList<Rfc5280>>(alloc, question),
         "TbsCertList" => answer_of_ordered::<TbsCertList<Raw>>(alloc, question),
         "TbsCertList/Rfc5280" => answer_of_value::<TbsCertList<Rfc5280>>(alloc, question),
         "RevokedCert" => answer_of_ordered::<RevokedCert<Raw>>(alloc, question),
         "RevokedCert/Rfc5280" => answer_of_value::<RevokedCert<Rfc5280>>(alloc, question),
-        "CertReq" => answer_of_value::<CertReq>(alloc, question),
-        "CertReqInfo" => answer_of_value::<CertReqInfo>(alloc, question),
+        "CertReq" => answer_with_copy(alloc, question, CertReq::clone),
+        "CertReqInfo" => answer_with_copy(alloc, question, CertReqInfo::clone),
         "PkiPath" => answer_of_value::<PkiPath>(alloc, question),
-        "ExtensionReq" => answer_of_ordered::<ExtensionReq>(alloc, question),
-        "TrustAnchorChoice" => answer_of::<TrustAnchorChoice<Raw>>(alloc, question),
+        "ExtensionReq" => answer_of_ordered_list(
+            alloc,
+            question,
+            ExtensionReq::clone,
+            ExtensionReq::default,
+        ),
+        "TrustAnchorChoice" => answer_with_copy(alloc, question, <TrustAnchorChoice<Raw>>::clone),
         "TrustAnchorChoice/Rfc5280" => answer_of::<TrustAnchorChoice<Rfc5280>>(alloc, question),
         "TrustAnchorInfo" => answer_of_value::<TrustAnchorInfo<Raw>>(alloc, question),
         "TrustAnchorInfo/Rfc5280" => answer_of_value::<TrustAnchorInfo<Rfc5280>>(alloc, question),
@@ -38,12 +50,17 @@ pub fn answer(alloc: Global, kind: &str, question: &Question<'_>) -> Result<Stri
 fn answer_of_names(alloc: Global, kind: &str, question: &Question<'_>) -> Result<String, Refusal> {
     match kind {
         "Name" => answer_of_value::<Name>(alloc, question),
-        "RdnSequence" => answer_of_value::<RdnSequence>(alloc, question),
+        "RdnSequence" => answer_of_ordered_list(
+            alloc,
+            question,
+            RdnSequence::clone,
+            RdnSequence::default,
+        ),
         "RelativeDistinguishedName" => answer_of_value::<RelativeDistinguishedName>(
             alloc, question,
         ),
         "AttributeTypeAndValue" => answer_of_value::<AttributeTypeAndValue>(alloc, question),
-        "Attribute" => answer_of_value::<Attribute>(alloc, question),
+        "Attribute" => answer_with_copy(alloc, question, Attribute::clone),
         _ => Err(Refusal::Unread),
     }
 }

@@ -3,17 +3,16 @@
 use crate::name_texts::spelled;
 use crate::refusals::Refusal;
 use crate::shown::{octets_of, shown, written, written_in};
+use crate::validities::validity_of;
 use der_core::{Encode, from_der};
 use sha1::Sha1;
 use std::alloc::Global;
 use std::net::IpAddr;
 use x509_cert::{
-    AlgorithmIdentifierRef, AsAttribute, Attribute, AuthorityInfoAccessSyntax,
-    AuthorityKeyIdentifier, CertificateInner, ChallengePassword, CrlDistributionPoints, CrlNumber,
-    ExtensionReq, FreshestCrl, GeneralName, HardwareModuleName, InhibitAnyPolicy, IssuerAltName,
-    OtherName, Profile, Raw, Rfc5280, SerialNumber, SubjectAltName, SubjectDirectoryAttributes,
-    SubjectInfoAccessSyntax, SubjectKeyIdentifier, SubjectPublicKeyInfo, SubjectPublicKeyInfoRef,
-    Time, TryFromExtensionReq, TryFromKey,
+    AlgorithmIdentifierRef, AsAttribute, Attribute, AuthorityKeyIdentifier, CertificateInner,
+    ChallengePassword, CrlNumber, ExtensionReq, GeneralName, HardwareModuleName, OtherName,
+    Profile, Raw, Rfc5280, SerialNumber, SubjectKeyIdentifier, SubjectPublicKeyInfo,
+    SubjectPublicKeyInfoRef, Time, TryFromExtensionReq, TryFromKey,
 };
 
 /// What is written of the value that a type makes of a text, or of octets.
@@ -23,6 +22,7 @@ pub fn made_of(alloc: Global, kind: &str, text: &str) -> Result<String, Refusal>
         "GeneralName" => address_of(alloc, text),
         "CrlNumber" => number_of(alloc, text),
         "SerialNumber/u64" => serial_of(alloc, text),
+        "Validity" => validity_of(alloc, text),
         "Name" | "RdnSequence" | "RelativeDistinguishedName" | "AttributeTypeAndValue" => {
             spelled(alloc, kind, text)
         }
@@ -105,29 +105,6 @@ fn password_of(alloc: Global, octets: &[u8]) -> Result<String, Refusal> {
 fn attribute_of(alloc: Global, octets: &[u8]) -> Result<String, Refusal> {
     let request: ExtensionReq = from_der(alloc, octets)?;
     written_in(alloc, Attribute::try_from_extension_req(alloc, request))
-}
-
-/// What is written of the value that a type has where nothing is said.
-pub fn default_of(alloc: Global, kind: &str) -> Result<String, Refusal> {
-    match kind {
-        "SubjectDirectoryAttributes" => written_in(
-            alloc,
-            Ok(SubjectDirectoryAttributes::default(alloc)),
-        ),
-        "SubjectAltName" => written_in(alloc, Ok(SubjectAltName::default(alloc))),
-        "IssuerAltName" => written_in(alloc, Ok(IssuerAltName::default(alloc))),
-        "CrlDistributionPoints" => written_in(alloc, Ok(CrlDistributionPoints::default(alloc))),
-        "FreshestCrl" => written_in(alloc, Ok(FreshestCrl::default(alloc))),
-        "AuthorityInfoAccessSyntax" => written_in(
-            alloc,
-            Ok(AuthorityInfoAccessSyntax::default(alloc)),
-        ),
-        "SubjectInfoAccessSyntax" => written_in(alloc, Ok(SubjectInfoAccessSyntax::default(alloc))),
-        "ExtensionReq" => written_in(alloc, Ok(ExtensionReq::default(alloc))),
-        "AuthorityKeyIdentifier" => written_in(alloc, Ok(AuthorityKeyIdentifier::default())),
-        "InhibitAnyPolicy" => written_in(alloc, Ok(InhibitAnyPolicy::default())),
-        _ => Err(Refusal::Unread),
-    }
 }
 
 /// The SHA-1 digest of a certificate.

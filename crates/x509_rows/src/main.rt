@@ -4,12 +4,13 @@
 //! | Question | Answer |
 //! |---|---|
 //! | `der TYPE HEX` | `ok HEX`, the octets that the value writes that these spell |
-//! | `front Certificate HEX` | `ok HEX HEX`, what is written of the certificate at the front, and the octets behind it |
-//! | `twice Certificate HEX` | `ok ANSWER; ANSWER`, what is written of the certificates that a reader reads by two calls, or why there is none |
+//! | `front TYPE HEX` | `ok HEX HEX`, what is written of the value at the front, and the octets behind it |
+//! | `twice TYPE HEX` | `ok ANSWER; ANSWER`, what is written of the values that a reader reads by two calls, or why there is none |
 //! | `order TYPE HEX HEX` | `ok Less`, `ok Equal` or `ok Greater`, the order of two encodings |
 //! | `text TYPE HEX` | `ok TEXT`, what the value prints |
 //! | `from TYPE TEXT` | `ok HEX`, the octets that the value writes that the type makes of a text, or of the octets of a number or of another value; or `none` |
 //! | `from SerialNumber/u64 NUMBER` | `ok HEX`, the serial number of a number below 2^64 |
+//! | `from Validity DATE NUMBER` | `ok HEX`, the validity from the date on for so many milliseconds; without a number, that without an end |
 //! | `default TYPE` | `ok HEX`, the octets that the value writes that the type has where nothing is said |
 //! | `names TYPE HEX` | `ok` and the usages of a `KeyUsage`, or the names of a `SubjectAltName` |
 //! | `debug TYPE HEX` | `ok TEXT`, the value as `{:?}` prints it |
@@ -54,7 +55,6 @@ mod answers;
 mod copies;
 mod distinguished_names;
 mod drawn;
-mod exchanged;
 mod extensions;
 mod given_words;
 mod lists;
@@ -68,6 +68,7 @@ mod shown;
 mod timestamp_lists;
 mod timestamps;
 mod tls_values;
+mod validities;
 mod whole_extensions;
 
 use answers::answer;

@@ -1,20 +1,25 @@
 //! What is asked of the values of a type.
+//!
+//! That a type is read and written costs the check more than all else that is asked of it, at each
+//! place that names the type. So one place answers all questions about it.
 
+use crate::copies::{copied, exchanged};
 use crate::refusals::Refusal;
 use crate::shown::{hex_of, joined, or_refusal, written, written_in};
+use crate::whole_extensions::got;
 use const_oid::AssociatedOid;
 use der_core::{
     Decode, DecodeValue, DerOrd, Encode, EncodeValue, Error, FixedTag, SliceReader, ValueOrd,
     from_der, from_der_partial,
 };
-use std::alloc::Global;
+use std::alloc::{AllocError, Global};
 use std::cmp::Ordering;
 use std::fmt::Debug;
-use x509_cert::{Criticality, Name, ToExtension};
+use x509_cert::{Criticality, Name, Raw, TbsCertificateInner, ToExtension};
 
 /// What is asked of values.
 #[derive(Clone, Copy)]
-pub enum Asked {
+pub enum Asked<'a> {
     /// What is written of the value that octets spell by DER.
     Der,
     /// What is written of the value that octets begin with, and the octets behind it.
@@ -25,28 +30,39 @@ pub enum Asked {
     Order,
     /// The value that octets spell, as `{:?}` prints it.
     Debug,
+    /// What is written of a copy of the value that octets spell, if it is equal to the value.
+    Copy,
+    /// What is written of the two values that octets spell, once each has the other's field.
+    Exchange,
+    /// What is written of the value that the type has where nothing is said.
+    Default,
     /// The extension that the value of the second octets gives the certificate of the subject whose
     /// name the first spell.
     Extension,
+    /// The one value of the type among the extensions of a certificate.
+    Get(&'a TbsCertificateInner<Raw>),
 }
 
 /// A question about the values that octets spell: the second are none where one value is asked
-/// about.
+/// about, and both where none is.
 #[derive(Clone, Copy)]
 pub struct Question<'a> {
-    pub asked: Asked,
+    pub asked: Asked<'a>,
     pub first: &'a [u8],
     pub second: &'a [u8],
 }
 
 /// What a word asks of values.
-pub fn asked_by(word: &str) -> Result<Asked, Refusal> {
+pub fn asked_by(word: &str) -> Result<Asked<'_>, Refusal> {
     match word {
         "der" => Ok(Asked::Der),
         "front" => Ok(Asked::Front),
         "twice" => Ok(Asked::Twice),
         "order" => Ok(Asked::Order),
         "debug" => Ok(Asked::Debug),
+        "copy" => Ok(Asked::Copy),
+        "exchange" => Ok(Asked::Exchange),
+        "default" => Ok(Asked::Default),
         "extension" => Ok(Asked::Extension),
         _ => Err(Refusal::Unread),
     }
@@ -59,6 +75,8 @@ pub fn answer_of<'a, T: Decode<'a, SliceReader<'a>> + Encode>(
 ) -> Result<String, Refusal> {
     match question.asked {
         Asked::Der => written_in(alloc, from_der::<T>(alloc, question.first)),
+        Asked::Front => front_written(alloc, from_der_partial::<T>(alloc, question.first)),
+        Asked::Twice => read_twice::<T>(alloc, question.first),
         _ => Err(Refusal::Unread),
     }
 }
@@ -94,6 +112,34 @@ pub fn answer_with_order<'a, T: Decode<'a, SliceReader<'a>> + DerOrd + Encode>(
     }
 }
 
+/// The answer of a type that is copied, too.
+pub fn answer_with_copy<
+    'a,
+    T: Decode<'a, SliceReader<'a>> + Encode + PartialEq,
+    C: Fn(&T, Global) -> Result<T, AllocError>,
+>(alloc: Global, question: &Question<'a>, copy: C) -> Result<String, Refusal>
+    requires { C.IsAlwaysCallable copy }
+{
+    match question.asked {
+        Asked::Copy => copied(alloc, from_der::<T>(alloc, question.first), copy),
+        _ => answer_of::<T>(alloc, question),
+    }
+}
+
+/// The answer of a type that is compared and copied, too.
+pub fn answer_with_order_and_copy<
+    'a,
+    T: Decode<'a, SliceReader<'a>> + DerOrd + Encode + PartialEq,
+    C: Fn(&T, Global) -> Result<T, AllocError>,
+>(alloc: Global, question: &Question<'a>, copy: C) -> Result<String, Refusal>
+    requires { C.IsAlwaysCallable copy }
+{
+    match question.asked {
+        Asked::Order => order_of::<T>(alloc, question),
+        _ => answer_with_copy(alloc, question, copy),
+    }
+}
+
 /// The answer of a type with one tag. Of such a type the traits of its contents are asked for,
 /// since each that is asked for costs the check of every type that is named.
 pub fn answer_of_value<'a, T: DecodeValue<'a, SliceReader<'a>> + EncodeValue + FixedTag>(
@@ -111,16 +157,42 @@ pub fn answer_of_ordered<
     answer_with_order::<T>(alloc, question)
 }
 
-/// The answer of a type with one tag that is compared, and read at the front of octets and by a
-/// reader, too.
-pub fn answer_with_readers<
+/// The answer of a type with one tag and one field, which is copied, too.
+pub fn answer_of_field<
     'a,
-    T: DecodeValue<'a, SliceReader<'a>> + EncodeValue + FixedTag + ValueOrd,
->(alloc: Global, question: &Question<'a>) -> Result<String, Refusal> {
+    T: DecodeValue<'a, SliceReader<'a>> + EncodeValue + FixedTag + PartialEq + AsMut<F>,
+    F,
+    C: Fn(&T, Global) -> Result<T, AllocError>,
+>(alloc: Global, question: &Question<'a>, copy: C) -> Result<String, Refusal>
+    requires { C.IsAlwaysCallable copy }
+{
     match question.asked {
-        Asked::Front => front_written(alloc, from_der_partial::<T>(alloc, question.first)),
-        Asked::Twice => read_twice::<T>(alloc, question.first),
-        _ => answer_with_order::<T>(alloc, question),
+        Asked::Exchange => exchange_of::<T, F>(alloc, question),
+        _ => answer_with_copy(alloc, question, copy),
+    }
+}
+
+/// The answer of such a type that is compared, and whose field is a list without members where
+/// nothing is said.
+pub fn answer_of_ordered_list<
+    'a,
+    T: DecodeValue<'a, SliceReader<'a>>
+        + EncodeValue
+        + FixedTag
+        + ValueOrd
+        + PartialEq
+        + AsMut<Vec<M>>,
+    M,
+    C: Fn(&T, Global) -> Result<T, AllocError>,
+    N: Fn(Global) -> T,
+>(alloc: Global, question: &Question<'a>, copy: C, none: N) -> Result<String, Refusal>
+    requires copied { C.IsAlwaysCallable copy }
+    requires made { N.IsAlwaysCallable none }
+{
+    match question.asked {
+        Asked::Default => written_of(alloc, none(alloc)),
+        Asked::Order => order_of::<T>(alloc, question),
+        _ => answer_of_field::<T, Vec<M>, C>(alloc, question, copy),
     }
 }
 
@@ -134,7 +206,69 @@ pub fn answer_of_content<
             let subject: Name = from_der(alloc, question.first)?;
             given(alloc, &subject, &from_der::<T>(alloc, question.second)?)
         }
+        Asked::Get(certificate) => got::<T>(alloc, certificate),
         _ => answer_of::<T>(alloc, question),
+    }
+}
+
+/// The answer of such a type of one field.
+pub fn answer_with_field<
+    'a,
+    T: DecodeValue<'a, SliceReader<'a>>
+        + EncodeValue
+        + FixedTag
+        + AssociatedOid
+        + Criticality
+        + AsMut<F>,
+    F,
+>(alloc: Global, question: &Question<'a>) -> Result<String, Refusal> {
+    match question.asked {
+        Asked::Exchange => exchange_of::<T, F>(alloc, question),
+        _ => answer_of_content::<T>(alloc, question),
+    }
+}
+
+/// The answer of such a type of one field that is copied, too.
+pub fn answer_with_field_and_copy<
+    'a,
+    T: DecodeValue<'a, SliceReader<'a>>
+        + EncodeValue
+        + FixedTag
+        + PartialEq
+        + AssociatedOid
+        + Criticality
+        + AsMut<F>,
+    F,
+    C: Fn(&T, Global) -> Result<T, AllocError>,
+>(alloc: Global, question: &Question<'a>, copy: C) -> Result<String, Refusal>
+    requires { C.IsAlwaysCallable copy }
+{
+    match question.asked {
+        Asked::Copy => copied(alloc, from_der::<T>(alloc, question.first), copy),
+        _ => answer_with_field::<T, F>(alloc, question),
+    }
+}
+
+/// The answer of such a type whose field is a list, and which has no members where nothing is said.
+pub fn answer_of_list<
+    'a,
+    T: DecodeValue<'a, SliceReader<'a>>
+        + EncodeValue
+        + FixedTag
+        + PartialEq
+        + AssociatedOid
+        + Criticality
+        + AsMut<Vec<M>>,
+    M,
+    C: Fn(&T, Global) -> Result<T, AllocError>,
+    N: Fn(Global) -> T,
+>(alloc: Global, question: &Question<'a>, copy: C, none: N) -> Result<String, Refusal>
+    requires copied { C.IsAlwaysCallable copy }
+    requires made { N.IsAlwaysCallable none }
+{
+    match question.asked {
+        Asked::Default => written_of(alloc, none(alloc)),
+        _ => answer_with_field_and_copy::<T, Vec<M>, C>(alloc, question, copy),
     }
 }
 
@@ -172,6 +306,61 @@ pub fn answer_with_both<
         Asked::Order => order_of::<T>(alloc, question),
         _ => answer_with_debug::<T>(alloc, question),
     }
+}
+
+/// The answer of such a type that prints for debugging and is copied, too.
+pub fn answer_with_debug_and_copy<
+    'a,
+    T: DecodeValue<'a, SliceReader<'a>>
+        + EncodeValue
+        + FixedTag
+        + PartialEq
+        + AssociatedOid
+        + Criticality
+        + Debug,
+    C: Fn(&T, Global) -> Result<T, AllocError>,
+>(alloc: Global, question: &Question<'a>, copy: C) -> Result<String, Refusal>
+    requires { C.IsAlwaysCallable copy }
+{
+    match question.asked {
+        Asked::Copy => copied(alloc, from_der::<T>(alloc, question.first), copy),
+        _ => answer_with_debug::<T>(alloc, question),
+    }
+}
+
+/// The answer of such a type that has a value where nothing is said, too.
+pub fn answer_with_default_and_copy<
+    'a,
+    T: DecodeValue<'a, SliceReader<'a>>
+        + EncodeValue
+        + FixedTag
+        + Default
+        + PartialEq
+        + AssociatedOid
+        + Criticality
+        + Debug,
+    C: Fn(&T, Global) -> Result<T, AllocError>,
+>(alloc: Global, question: &Question<'a>, copy: C) -> Result<String, Refusal>
+    requires { C.IsAlwaysCallable copy }
+{
+    match question.asked {
+        Asked::Default => written_of(alloc, T::default()),
+        _ => answer_with_debug_and_copy(alloc, question, copy),
+    }
+}
+
+/// What is written of a value.
+fn written_of<T: Encode + Drop>(alloc: Global, value: T) -> Result<String, Refusal> {
+    written(alloc, &value)
+}
+
+/// What is written of the two values that octets spell, once each has the other's field.
+fn exchange_of<'a, T: Decode<'a, SliceReader<'a>> + Encode + AsMut<F>, F>(
+    alloc: Global,
+    question: &Question<'a>,
+) -> Result<String, Refusal> {
+    let first: T = from_der(alloc, question.first)?;
+    exchanged(alloc, first, from_der(alloc, question.second)?)
 }
 
 /// The extension that a value gives.

@@ -4,7 +4,7 @@ use crate::refusals::Refusal;
 use crate::shown::{octets_of, written, written_in};
 use der_core::{from_der, to_der};
 use std::alloc::{AllocError, Global};
-use x509_cert::{AttributeTypeAndValue, RdnSequence, RelativeDistinguishedName};
+use x509_cert::{AttributeTypeAndValue, Name, RdnSequence, RelativeDistinguishedName};
 
 /// What is answered where calls that find no memory are made again: insertions, or pushes.
 pub fn again(alloc: Global, rest: &str) -> Result<String, Refusal> {
@@ -81,14 +81,14 @@ fn relative_name_of(alloc: Global, word: &str) -> Result<RelativeDistinguishedNa
     Ok(from_der(alloc, octets.as_slice())?)
 }
 
-/// The sequence to which relative names are pushed, where a push that finds no memory has to leave
-/// it, and is made again.
+/// The name of the sequence to which relative names are pushed, where a push that finds no memory
+/// has to leave it, and is made again.
 fn pushed_again(alloc: Global, words: &str) -> Result<String, Refusal> {
     let mut names = RdnSequence::default(alloc);
     for word in words.split(' ') {
         push_again(alloc, &mut names, word)?;
     }
-    written(alloc, &names)
+    written(alloc, &Name::hazmat_from_rdn_sequence(names))
 }
 
 /// Pushes a relative name, at the second call where the first finds no memory.

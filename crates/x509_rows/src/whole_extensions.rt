@@ -5,40 +5,16 @@ use crate::shown::{octets_of, shown, written};
 use const_oid::AssociatedOid;
 use der_core::{Decode, Encode, Error, SliceReader, from_der};
 use std::alloc::Global;
-use x509_cert::{
-    BasicConstraints, CertificateInner, KeyUsage, Raw, SubjectAltName, SubjectKeyIdentifier,
-    TbsCertificateInner,
-};
+use x509_cert::{CertificateInner, KeyUsage, Raw, TbsCertificateInner};
 
 /// The certificate that octets spell.
-fn certificate_of(alloc: Global, digits: &str) -> Result<CertificateInner<Raw>, Refusal> {
+pub fn certificate_of(alloc: Global, digits: &str) -> Result<CertificateInner<Raw>, Refusal> {
     let octets = octets_of(alloc, digits)?;
     Ok(from_der(alloc, octets.as_slice())?)
 }
 
-/// What a certificate has once of a type.
-pub fn got_of(alloc: Global, kind: &str, octets: &str) -> Result<String, Refusal> {
-    let certificate = certificate_of(alloc, octets)?;
-    got_by(alloc, kind, certificate.tbs_certificate())
-}
-
-/// What the signed part of a certificate has once of a type.
-fn got_by(
-    alloc: Global,
-    kind: &str,
-    certificate: &TbsCertificateInner<Raw>,
-) -> Result<String, Refusal> {
-    match kind {
-        "SubjectKeyIdentifier" => got::<SubjectKeyIdentifier>(alloc, certificate),
-        "KeyUsage" => got::<KeyUsage>(alloc, certificate),
-        "SubjectAltName" => got::<SubjectAltName>(alloc, certificate),
-        "BasicConstraints" => got::<BasicConstraints>(alloc, certificate),
-        _ => Err(Refusal::Unread),
-    }
-}
-
 /// The one value of a type that a certificate has.
-fn got<'a, T: Decode<'a, SliceReader<'a>> + Encode + AssociatedOid + Drop>(
+pub fn got<'a, T: Decode<'a, SliceReader<'a>> + Encode + AssociatedOid + Drop>(
     alloc: Global,
     certificate: &'a TbsCertificateInner<Raw>,
 ) -> Result<String, Refusal> {
