@@ -214,13 +214,21 @@ def cut(rows):
 
 
 def elsewhere(stream, verdict, calls):
-    """The verdict under the anchor of the empty name and a judge that says yes, of a stream that a
-    row judges otherwise."""
+    """The verdict under the anchor of the empty name, for the purpose of servers, and a judge that
+    says yes, of a stream that a row judges otherwise."""
+    if verdict == "Trusted" and not serves_servers(stream):
+        return "refused 0 AgainstPurpose", 0
     if issuer_of(stream) != NOBODY and verdict in ("Trusted", "refused 0 WrongIssuer"):
         return "refused 0 WrongIssuer", 0
     if verdict == "refused 0 WrongSignature":
         return "Trusted", 1
     return verdict, calls
+
+
+def serves_servers(stream):
+    """Whether a stream has no purposes, or that of servers or any among them."""
+    served = octets("06082B06010505070301"), octets("0604551D2500")
+    return octets("0603551D25") not in stream or any(it in stream for it in served)
 
 
 def issuer_of(stream):
@@ -273,10 +281,10 @@ def rows_of_cuts(rows):
     fronts(200, ROOT + INTERMEDIATE + ISSUED)
     say()
     say(
-        "The same of every stream of the rows above: what is judged there is judged so however it "
-        "is cut, by the same judge; what is judged there under other anchors, or by the judge of "
-        "digests, is judged by one who says yes. Fronts of the chains that were drawn by lot are "
-        "left out."
+        "Cuts and fronts of every stream of the rows above: what is judged there is judged so "
+        "however it is cut, by the same judge; what is judged there under other anchors, or by the "
+        "judge of digests, is judged by one who says yes. Fronts of the chains that were drawn by "
+        "lot are left out."
     )
     cut(rows)
 
@@ -484,7 +492,7 @@ def rows_of_calls(rows):
     runs = [it for it in rows if it[0].startswith("issue run ")]
     issued = [it for it in runs if it[1][0] == "0"]
     refused = [it for it in runs if it[1][0] == "1"]
-    for question, answer in issued[:4] + refused[:12]:
+    for question, answer in issued[:4] + refused[:15]:
         ask(question.replace("issue run", "issue call -/-", 1), answer)
 
 

@@ -1,6 +1,7 @@
 #!/usr/bin/env bash
 # Makes the files of crates/tool_rows/data with OpenSSL 3 and the octets of the examples. Each run
-# makes other keys; the files there are those of one run.
+# makes other keys; the files there are those of two runs, the second for what the comment `later`
+# names.
 # usage: make_tool_data.sh CERT_TOOL FOLDER, where CERT_TOOL is the program
 set -euo pipefail
 tool=$(realpath "${1:?usage: make_tool_data.sh CERT_TOOL FOLDER}")
@@ -22,6 +23,12 @@ for name, octets in streams:
 PY
 
 cp "$here"/{root,chain,server,nameless,limited}.der .
+# a trust anchor behind another, whose name is no SEQUENCE
+python3 - <<'PY'
+faulty = bytearray(open("limited.der", "rb").read())
+faulty[36] = 0x31
+open("faulty_anchor.der", "wb").write(open("root.der", "rb").read() + faulty)
+PY
 "$tool" questions root.der chain.der 4000 | "$here/answer.sh" > answers.txt
 cat root.der chain.der > whole.der
 "$tool" questions root.der whole.der 4000 | "$here/answer.sh" > whole.txt
@@ -108,7 +115,48 @@ CPS.1 = "https://full.example/cps"
 [named]
 C = US
 O = Desk Example
+[unsigning]
+basicConstraints = critical, CA:true
+keyUsage = critical, digitalSignature
+[rest]
+basicConstraints = critical, CA:true, pathlen:3
+keyUsage = critical, digitalSignature, nonRepudiation, keyEncipherment, dataEncipherment, \
+    keyAgreement, keyCertSign, cRLSign, encipherOnly, decipherOnly
+issuerAltName = DNS:issuer.example
+nameConstraints = critical, permitted;DNS:rest.example, \
+    permitted;IP:192.0.2.0/255.255.255.0, excluded;email:.rest.example
+certificatePolicies = @notice
+policyMappings = 1.3.6.1.4.1.32473.5:1.3.6.1.4.1.32473.6
+policyConstraints = requireExplicitPolicy:2, inhibitPolicyMapping:1
+inhibitAnyPolicy = 4
+crlDistributionPoints = point
+freshestCRL = URI:http://rest.example/delta.crl
+subjectInfoAccess = caRepository;URI:http://rest.example/repository
+1.3.6.1.4.1.11129.2.4.2 = DER:@timestamps@
+[notice]
+policyIdentifier = 1.3.6.1.4.1.32473.6
+userNotice.1 = @text
+[text]
+explicitText = "a notice"
+[point]
+relativename = part
+reasons = keyCompromise, CACompromise
+CRLissuer = dirName:named
+[part]
+CN = part
 CNF
+# a timestamp of a log whose identifier is 00, 01 to 1F: 1683095206506 milliseconds
+python3 - "$work/extensions.cnf" <<'PY'
+import sys
+def counted(octets):
+    return len(octets).to_bytes(2, "big") + octets
+timestamp = b"\0" + bytes(range(32)) + (1683095206506).to_bytes(8, "big") + counted(b"")
+timestamp += bytes([4, 3]) + counted(bytes([0x30, 2, 1, 0]))
+listed = counted(counted(timestamp))
+octets = bytes([4, len(listed)]) + listed
+config = open(sys.argv[1]).read().replace("@timestamps@", octets.hex(":"))
+open(sys.argv[1], "w").write(config)
+PY
 
 # certify NAME ISSUER EXTENSIONS [COMMON]: a certificate of a new key on P-256, whose common name is
 # NAME or COMMON. `days` and `serial` say how long it is valid, and its serial number.
@@ -143,6 +191,22 @@ serial=0 certify zero anchor plain
 serial=-5 certify negative anchor plain
 certify full anchor full
 cp "$work"/{anchor,full,long_serial,zero,negative}.der .
+# later
+certify unsigning anchor unsigning
+days=365 certify under unsigning server
+certify rest anchor rest
+serial=-129 certify below_zero anchor plain
+cp "$work"/{rest,below_zero}.der .
+cat "$work/unsigning.der" "$work/under.der" > unsigning.der
+openssl genpkey -algorithm ED25519 -out "$work/old.key"
+openssl req -new -key "$work/old.key" -subj "/CN=old" -out "$work/old.csr"
+openssl x509 -req -in "$work/old.csr" -CA "$work/anchor.pem" -CAkey "$work/anchor.key" \
+    -set_serial 1 -days 3650 -outform DER -out old.der 2> /dev/null
+openssl genpkey -genparam -algorithm DSA -pkeyopt dsa_paramgen_bits:1024 \
+    -out "$work/dsa.pem" 2> /dev/null
+openssl genpkey -paramfile "$work/dsa.pem" -out "$work/dsa.key"
+openssl req -x509 -new -key "$work/dsa.key" -subj "/CN=dsa" -set_serial 1 -days 3650 \
+    -config /dev/null -outform DER -out dsa.der
 cat "$work/short.der" "$work/middle.der" "$work/leaf.der" > long.der
 cat "$work/plain.der" "$work/below.der" > plain.der
 cat "$work/constrained.der" "$work/inside.der" > constrained.der
@@ -197,6 +261,19 @@ printf 'R\t360101000000Z\t260201000000Z,keyCompromise\t2A\tunknown\t/CN=gone\n' 
 openssl ca -gencrl -config "$work/list.cnf" -cert "$work/anchor.pem" -keyfile "$work/anchor.key" \
     -out "$work/list.pem" 2> /dev/null
 openssl crl -in "$work/list.pem" -outform DER -out list.der
+# later
+cat >> "$work/list.cnf" <<CNF
+[points]
+issuingDistributionPoint = critical, @point
+[point]
+fullname = URI:http://rest.example/users.crl
+onlyuser = TRUE
+onlysomereasons = keyCompromise
+indirectCRL = TRUE
+CNF
+openssl ca -gencrl -config "$work/list.cnf" -cert "$work/anchor.pem" -keyfile "$work/anchor.key" \
+    -crlexts points -out "$work/points.pem" 2> /dev/null
+openssl crl -in "$work/points.pem" -outform DER -out points.der
 openssl req -new -key "$work/full.key" -subj "/CN=wanted" -outform DER -out request.der \
     -addext "subjectAltName = DNS:wanted.example" 2> /dev/null
 
