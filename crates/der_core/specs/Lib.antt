@@ -1,3 +1,4 @@
+pub mod Copies
 pub mod Equality
 pub mod Orders
 pub mod OrdLaws

@@ -2,6 +2,7 @@
 //! dropped where memory ends.
 
 ghost use Rattle.std.specs.Prelude.{◌≡◌, IfOk, string_bytes};
+ghost use Rattle.der_core.specs.Copies.{IsCopy};
 ghost use Rattle.x509_cert_anchors.specs.Views.{cert_path_controls_plain, trust_anchor_info_plain};
 ghost use Rattle.x509_cert_anchors.specs.Views.{trust_anchor_plain};
 
@@ -23,8 +24,7 @@ fn copy_of_text(text: &String, alloc: Global) -> Result<String, AllocError>
 impl<P: Profile> CertPathControls<P> {
     /// A copy. Want of memory is the only error.
     pub fn clone(&self, alloc: Global) -> Result<CertPathControls<P>, AllocError>
-        ensures { IfOk result
-            (λ c. cert_path_controls_plain c ≡ cert_path_controls_plain self.now) }
+        ensures { IsCopy self.now result cert_path_controls_plain }
     {
         Ok(CertPathControls {
             policy_flags: self.policy_flags,
@@ -40,7 +40,7 @@ impl<P: Profile> CertPathControls<P> {
 impl<P: Profile> TrustAnchorInfo<P> {
     /// A copy. Want of memory is the only error.
     pub fn clone(&self, alloc: Global) -> Result<TrustAnchorInfo<P>, AllocError>
-        ensures { IfOk result (λ c. trust_anchor_info_plain c ≡ trust_anchor_info_plain self.now) }
+        ensures { IsCopy self.now result trust_anchor_info_plain }
     {
         Ok(TrustAnchorInfo {
             version: self.version,
@@ -57,7 +57,7 @@ impl<P: Profile> TrustAnchorInfo<P> {
 impl<P: Profile> TrustAnchorChoice<P> {
     /// A copy. Want of memory is the only error.
     pub fn clone(&self, alloc: Global) -> Result<TrustAnchorChoice<P>, AllocError>
-        ensures { IfOk result (λ c. trust_anchor_plain c ≡ trust_anchor_plain self.now) }
+        ensures { IsCopy self.now result trust_anchor_plain }
     {
         match self {
             TrustAnchorChoice::Certificate(value) => Ok(TrustAnchorChoice::Certificate(value.clone(

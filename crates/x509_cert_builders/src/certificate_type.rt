@@ -3,6 +3,7 @@
 ghost use Rattle.std.specs.Prelude.{◌≡◌, ◌⊎◌, ◌∷◌, [], true, Ok, IsOk, IfOk, IfErr};
 ghost use Rattle.std.specs.List.{list_all};
 ghost use Rattle.std.specs.List.Sorted.{IsPermutation};
+ghost use Rattle.der_core.specs.Copies.{IsCopy};
 ghost use Rattle.x509_cert_extensions.specs.Parts.{name_plain, relative_plain};
 ghost use Rattle.x509_cert_builders.specs.Naming.{common_name, country, is_among};
 ghost use Rattle.der_core_head.specs.declared.error.ErrorKind.TheVariants.{Overflow};
@@ -139,7 +140,7 @@ impl CertificateType {
 
     /// A copy. Want of memory is the only error.
     pub fn clone(&self, alloc: Global) -> Result<CertificateType, AllocError>
-        ensures { IfOk result (λ c. type_plain c ≡ type_plain self.now) }
+        ensures { IsCopy self.now result type_plain }
     {
         match self {
             CertificateType::DomainValidated(validated) => Ok(CertificateType::DomainValidated(

@@ -1,6 +1,6 @@
 //! Subscribers whose domains were validated.
 
-ghost use Rattle.std.specs.Prelude.{◌≡◌, IfOk};
+ghost use Rattle.der_core.specs.Copies.{IsCopy};
 ghost use Rattle.x509_cert_builders.specs.Subscribers.{domains_plain};
 
 use der_core::making::copies_of;
@@ -20,7 +20,7 @@ pub struct DomainValidated {
 impl DomainValidated {
     /// A copy. Want of memory is the only error.
     pub fn clone(&self, alloc: Global) -> Result<DomainValidated, AllocError>
-        ensures { IfOk result (λ c. domains_plain c ≡ domains_plain self.now) }
+        ensures { IsCopy self.now result domains_plain }
     {
         Ok(DomainValidated {
             subject: self.subject.clone(alloc)?,

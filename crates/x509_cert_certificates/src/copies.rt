@@ -1,7 +1,7 @@
 //! Copies of certificates. The largest field is copied last, so that little is
 //! dropped where memory ends.
 
-ghost use Rattle.std.specs.Prelude.{◌≡◌, IfOk};
+ghost use Rattle.der_core.specs.Copies.{IsCopy};
 ghost use Rattle.x509_cert_certificates.specs.Views.{certificate_plain, tbs_plain};
 
 use crate::certificate::CertificateInner;
@@ -13,7 +13,7 @@ use x509_cert_parts::{BitString, Extension, Validity};
 impl<P> CertificateInner<P> {
     /// A copy. Want of memory is the only error.
     pub fn clone(&self, alloc: Global) -> Result<CertificateInner<P>, AllocError>
-        ensures { IfOk result (λ c. certificate_plain c ≡ certificate_plain self.now) }
+        ensures { IsCopy self.now result certificate_plain }
     {
         Ok(CertificateInner {
             signature: self.signature.clone(alloc)?,
@@ -26,7 +26,7 @@ impl<P> CertificateInner<P> {
 impl<P> TbsCertificateInner<P> {
     /// A copy. Want of memory is the only error.
     pub fn clone(&self, alloc: Global) -> Result<TbsCertificateInner<P>, AllocError>
-        ensures { IfOk result (λ c. tbs_plain c ≡ tbs_plain self.now) }
+        ensures { IsCopy self.now result tbs_plain }
     {
         Ok(TbsCertificateInner {
             version: self.version,

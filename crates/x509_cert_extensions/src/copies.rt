@@ -1,7 +1,7 @@
 //! Copies of the contents of extensions.
 
-ghost use Rattle.std.specs.Prelude.{◌≡◌, IfOk};
 ghost use Rattle.der_core_head.specs.Grammar.{plain_list};
+ghost use Rattle.der_core.specs.Copies.{IsCopy};
 ghost use Rattle.x509_cert_policies.specs.GeneralNameViews.{access_description_plain};
 ghost use Rattle.x509_cert_policies.specs.GeneralNameViews.{distribution_point_plain};
 ghost use Rattle.x509_cert_policies.specs.GeneralNameViews.{general_name_plain};
@@ -20,9 +20,7 @@ use x509_cert_policies::parts::Attribute;
 impl AuthorityInfoAccessSyntax {
     /// A copy. Want of memory is the only error.
     pub fn clone(&self, alloc: Global) -> Result<AuthorityInfoAccessSyntax, AllocError>
-        ensures { IfOk result
-            (λ c. plain_list access_description_plain c.0.items
-            ≡ plain_list access_description_plain self.now.0.items) }
+        ensures { IsCopy self.now result (λ x. plain_list access_description_plain x.0.items) }
     {
         Ok(AuthorityInfoAccessSyntax(copies_of(
             alloc,
@@ -35,9 +33,7 @@ impl AuthorityInfoAccessSyntax {
 impl SubjectInfoAccessSyntax {
     /// A copy. Want of memory is the only error.
     pub fn clone(&self, alloc: Global) -> Result<SubjectInfoAccessSyntax, AllocError>
-        ensures { IfOk result
-            (λ c. plain_list access_description_plain c.0.items
-            ≡ plain_list access_description_plain self.now.0.items) }
+        ensures { IsCopy self.now result (λ x. plain_list access_description_plain x.0.items) }
     {
         Ok(SubjectInfoAccessSyntax(copies_of(alloc, self.0.as_slice(), AccessDescription::clone)?))
     }
@@ -46,9 +42,7 @@ impl SubjectInfoAccessSyntax {
 impl CrlDistributionPoints {
     /// A copy. Want of memory is the only error.
     pub fn clone(&self, alloc: Global) -> Result<CrlDistributionPoints, AllocError>
-        ensures { IfOk result
-            (λ c. plain_list distribution_point_plain c.0.items
-            ≡ plain_list distribution_point_plain self.now.0.items) }
+        ensures { IsCopy self.now result (λ x. plain_list distribution_point_plain x.0.items) }
     {
         Ok(CrlDistributionPoints(copies_of(alloc, self.0.as_slice(), DistributionPoint::clone)?))
     }
@@ -57,9 +51,7 @@ impl CrlDistributionPoints {
 impl FreshestCrl {
     /// A copy. Want of memory is the only error.
     pub fn clone(&self, alloc: Global) -> Result<FreshestCrl, AllocError>
-        ensures { IfOk result
-            (λ c. plain_list distribution_point_plain c.0.items
-            ≡ plain_list distribution_point_plain self.now.0.items) }
+        ensures { IsCopy self.now result (λ x. plain_list distribution_point_plain x.0.items) }
     {
         Ok(FreshestCrl(copies_of(alloc, self.0.as_slice(), DistributionPoint::clone)?))
     }
@@ -68,9 +60,7 @@ impl FreshestCrl {
 impl IssuerAltName {
     /// A copy. Want of memory is the only error.
     pub fn clone(&self, alloc: Global) -> Result<IssuerAltName, AllocError>
-        ensures { IfOk result
-            (λ c. plain_list general_name_plain c.0.items
-            ≡ plain_list general_name_plain self.now.0.items) }
+        ensures { IsCopy self.now result (λ x. plain_list general_name_plain x.0.items) }
     {
         Ok(IssuerAltName(copies_of(alloc, self.0.as_slice(), GeneralName::clone)?))
     }
@@ -79,9 +69,7 @@ impl IssuerAltName {
 impl SubjectAltName {
     /// A copy. Want of memory is the only error.
     pub fn clone(&self, alloc: Global) -> Result<SubjectAltName, AllocError>
-        ensures { IfOk result
-            (λ c. plain_list general_name_plain c.0.items
-            ≡ plain_list general_name_plain self.now.0.items) }
+        ensures { IsCopy self.now result (λ x. plain_list general_name_plain x.0.items) }
     {
         Ok(SubjectAltName(copies_of(alloc, self.0.as_slice(), GeneralName::clone)?))
     }
@@ -90,9 +78,7 @@ impl SubjectAltName {
 impl SubjectDirectoryAttributes {
     /// A copy. Want of memory is the only error.
     pub fn clone(&self, alloc: Global) -> Result<SubjectDirectoryAttributes, AllocError>
-        ensures { IfOk result
-            (λ c. plain_list attribute_plain c.0.items
-            ≡ plain_list attribute_plain self.now.0.items) }
+        ensures { IsCopy self.now result (λ x. plain_list attribute_plain x.0.items) }
     {
         Ok(SubjectDirectoryAttributes(copies_of(alloc, self.0.as_slice(), Attribute::clone)?))
     }
@@ -101,7 +87,7 @@ impl SubjectDirectoryAttributes {
 impl ExtendedKeyUsage {
     /// A copy. Want of memory is the only error.
     pub fn clone(&self, alloc: Global) -> Result<ExtendedKeyUsage, AllocError>
-        ensures { IfOk result (λ c. c.0.items ≡ self.now.0.items) }
+        ensures { IsCopy self.now result (λ x. x.0.items) }
     {
         Ok(ExtendedKeyUsage(self.0.as_slice().to_vec(alloc)?))
     }
@@ -110,7 +96,7 @@ impl ExtendedKeyUsage {
 impl SubjectKeyIdentifier {
     /// A copy. Want of memory is the only error.
     pub fn clone(&self, alloc: Global) -> Result<SubjectKeyIdentifier, AllocError>
-        ensures { IfOk result (λ c. c.0 ≡ self.now.0) }
+        ensures { IsCopy self.now result (λ x. x.0) }
     {
         Ok(SubjectKeyIdentifier(self.0.clone(alloc)?))
     }
@@ -119,7 +105,7 @@ impl SubjectKeyIdentifier {
 impl CrlNumber {
     /// A copy. Want of memory is the only error.
     pub fn clone(&self, alloc: Global) -> Result<CrlNumber, AllocError>
-        ensures { IfOk result (λ c. c.0 ≡ self.now.0) }
+        ensures { IsCopy self.now result (λ x. x.0) }
     {
         Ok(CrlNumber(self.0.clone(alloc)?))
     }
@@ -128,7 +114,7 @@ impl CrlNumber {
 impl BaseCrlNumber {
     /// A copy. Want of memory is the only error.
     pub fn clone(&self, alloc: Global) -> Result<BaseCrlNumber, AllocError>
-        ensures { IfOk result (λ c. c.0 ≡ self.now.0) }
+        ensures { IsCopy self.now result (λ x. x.0) }
     {
         Ok(BaseCrlNumber(self.0.clone(alloc)?))
     }

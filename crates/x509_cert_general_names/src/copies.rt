@@ -1,27 +1,13 @@
 //! Copies of general names, and of what holds them.
 
-ghost use Rattle.std.specs.Prelude.{◌≡◌, IfOk};
-ghost use Rattle.x509_cert_general_names.specs.Views.{access_description_plain};
-ghost use Rattle.x509_cert_general_names.specs.Views.{authority_key_identifier_plain};
-ghost use Rattle.x509_cert_general_names.specs.Views.{distribution_point_name_plain};
-ghost use Rattle.x509_cert_general_names.specs.Views.{distribution_point_plain};
-ghost use Rattle.x509_cert_general_names.specs.Views.{edi_party_name_plain, general_name_plain};
-ghost use Rattle.x509_cert_general_names.specs.Views.{general_subtree_plain};
-ghost use Rattle.x509_cert_general_names.specs.Views.{hardware_module_name_plain};
-ghost use Rattle.x509_cert_general_names.specs.Views.{issuing_distribution_point_plain};
-ghost use Rattle.x509_cert_general_names.specs.Views.{name_constraints_plain, other_name_plain};
+ghost use Rattle.der_core.specs.Copies.{IsCopy};
+ghost use Rattle.x509_cert_general_names.specs.Views as views;
 
-use crate::access_description::AccessDescription;
-use crate::authority_key_identifier::AuthorityKeyIdentifier;
-use crate::distribution_point::DistributionPoint;
-use crate::distribution_point_name::DistributionPointName;
-use crate::edi_party_name::EdiPartyName;
-use crate::general_name::GeneralName;
-use crate::general_subtree::GeneralSubtree;
-use crate::hardware_module_name::HardwareModuleName;
-use crate::issuing_distribution_point::IssuingDistributionPoint;
-use crate::name_constraints::NameConstraints;
-use crate::other_name::OtherName;
+use crate::{
+    AccessDescription, AuthorityKeyIdentifier, DistributionPoint, DistributionPointName,
+    EdiPartyName, GeneralName, GeneralSubtree, HardwareModuleName, IssuingDistributionPoint,
+    NameConstraints, OtherName,
+};
 use der_core::making::{copies_of, copies_of_option, copy_of_option};
 use std::alloc::{AllocError, Global};
 use x509_cert_parts::{DirectoryString, OctetString, SerialNumber};
@@ -29,7 +15,7 @@ use x509_cert_parts::{DirectoryString, OctetString, SerialNumber};
 impl OtherName {
     /// A copy. Want of memory is the only error.
     pub fn clone(&self, alloc: Global) -> Result<OtherName, AllocError>
-        ensures { IfOk result (λ c. other_name_plain c ≡ other_name_plain self.now) }
+        ensures { IsCopy self.now result views.other_name_plain }
     {
         Ok(OtherName {
             type_id: self.type_id,
@@ -41,7 +27,7 @@ impl OtherName {
 impl EdiPartyName {
     /// A copy. Want of memory is the only error.
     pub fn clone(&self, alloc: Global) -> Result<EdiPartyName, AllocError>
-        ensures { IfOk result (λ c. edi_party_name_plain c ≡ edi_party_name_plain self.now) }
+        ensures { IsCopy self.now result views.edi_party_name_plain }
     {
         Ok(EdiPartyName {
             name_assigner: copy_of_option(alloc, &self.name_assigner, DirectoryString::clone)?,
@@ -53,7 +39,7 @@ impl EdiPartyName {
 impl GeneralName {
     /// A copy. Want of memory is the only error.
     pub fn clone(&self, alloc: Global) -> Result<GeneralName, AllocError>
-        ensures { IfOk result (λ c. general_name_plain c ≡ general_name_plain self.now) }
+        ensures { IsCopy self.now result views.general_name_plain }
     {
         match self {
             GeneralName::OtherName(name) => Ok(GeneralName::OtherName(name.clone(alloc)?)),
@@ -73,8 +59,7 @@ impl GeneralName {
 impl DistributionPointName {
     /// A copy. Want of memory is the only error.
     pub fn clone(&self, alloc: Global) -> Result<DistributionPointName, AllocError>
-        ensures { IfOk result
-            (λ c. distribution_point_name_plain c ≡ distribution_point_name_plain self.now) }
+        ensures { IsCopy self.now result views.distribution_point_name_plain }
     {
         match self {
             DistributionPointName::FullName(names) => Ok(DistributionPointName::FullName(copies_of(
@@ -92,8 +77,7 @@ impl DistributionPointName {
 impl AuthorityKeyIdentifier {
     /// A copy. Want of memory is the only error.
     pub fn clone(&self, alloc: Global) -> Result<AuthorityKeyIdentifier, AllocError>
-        ensures { IfOk result
-            (λ c. authority_key_identifier_plain c ≡ authority_key_identifier_plain self.now) }
+        ensures { IsCopy self.now result views.authority_key_identifier_plain }
     {
         Ok(AuthorityKeyIdentifier {
             key_identifier: copy_of_option(alloc, &self.key_identifier, OctetString::clone)?,
@@ -114,8 +98,7 @@ impl AuthorityKeyIdentifier {
 impl DistributionPoint {
     /// A copy. Want of memory is the only error.
     pub fn clone(&self, alloc: Global) -> Result<DistributionPoint, AllocError>
-        ensures { IfOk result
-            (λ c. distribution_point_plain c ≡ distribution_point_plain self.now) }
+        ensures { IsCopy self.now result views.distribution_point_plain }
     {
         Ok(DistributionPoint {
             distribution_point: copy_of_option(
@@ -132,8 +115,7 @@ impl DistributionPoint {
 impl AccessDescription {
     /// A copy. Want of memory is the only error.
     pub fn clone(&self, alloc: Global) -> Result<AccessDescription, AllocError>
-        ensures { IfOk result
-            (λ c. access_description_plain c ≡ access_description_plain self.now) }
+        ensures { IsCopy self.now result views.access_description_plain }
     {
         Ok(AccessDescription {
             access_method: self.access_method,
@@ -145,7 +127,7 @@ impl AccessDescription {
 impl GeneralSubtree {
     /// A copy. Want of memory is the only error.
     pub fn clone(&self, alloc: Global) -> Result<GeneralSubtree, AllocError>
-        ensures { IfOk result (λ c. general_subtree_plain c ≡ general_subtree_plain self.now) }
+        ensures { IsCopy self.now result views.general_subtree_plain }
     {
         Ok(GeneralSubtree {
             base: self.base.clone(alloc)?,
@@ -158,7 +140,7 @@ impl GeneralSubtree {
 impl NameConstraints {
     /// A copy. Want of memory is the only error.
     pub fn clone(&self, alloc: Global) -> Result<NameConstraints, AllocError>
-        ensures { IfOk result (λ c. name_constraints_plain c ≡ name_constraints_plain self.now) }
+        ensures { IsCopy self.now result views.name_constraints_plain }
     {
         Ok(NameConstraints {
             permitted_subtrees: copies_of_option(
@@ -178,8 +160,7 @@ impl NameConstraints {
 impl IssuingDistributionPoint {
     /// A copy. Want of memory is the only error.
     pub fn clone(&self, alloc: Global) -> Result<IssuingDistributionPoint, AllocError>
-        ensures { IfOk result
-            (λ c. issuing_distribution_point_plain c ≡ issuing_distribution_point_plain self.now) }
+        ensures { IsCopy self.now result views.issuing_distribution_point_plain }
     {
         Ok(IssuingDistributionPoint {
             distribution_point: copy_of_option(
@@ -199,8 +180,7 @@ impl IssuingDistributionPoint {
 impl HardwareModuleName {
     /// A copy. Want of memory is the only error.
     pub fn clone(&self, alloc: Global) -> Result<HardwareModuleName, AllocError>
-        ensures { IfOk result
-            (λ c. hardware_module_name_plain c ≡ hardware_module_name_plain self.now) }
+        ensures { IsCopy self.now result views.hardware_module_name_plain }
     {
         Ok(HardwareModuleName {
             hw_type: self.hw_type,

@@ -3,10 +3,9 @@
 ghost use Rattle.std.specs.Prelude.{◌∷◌, []};
 ghost use Rattle.x509_cert_general_names.specs.Modules.{module_arcs};
 
-use crate::authority_key_identifier::AuthorityKeyIdentifier;
-use crate::hardware_module_name::HardwareModuleName;
-use crate::issuing_distribution_point::IssuingDistributionPoint;
-use crate::name_constraints::NameConstraints;
+use crate::{
+    AuthorityKeyIdentifier, HardwareModuleName, IssuingDistributionPoint, NameConstraints,
+};
 use const_oid::{AssociatedOid, ObjectIdentifier};
 
 impl AssociatedOid for AuthorityKeyIdentifier {

@@ -1,7 +1,7 @@
 //! Copies of revocation lists and of certification requests. The largest field is
 //! copied last, so that little is dropped where memory ends.
 
-ghost use Rattle.std.specs.Prelude.{◌≡◌, IfOk};
+ghost use Rattle.der_core.specs.Copies.{IsCopy};
 ghost use Rattle.x509_cert_parts.specs.Parts.{extensions_plain};
 ghost use Rattle.x509_cert_lists.specs.Views.{cert_req_info_plain, cert_req_plain};
 ghost use Rattle.x509_cert_lists.specs.Views.{certificate_list_plain, revoked_cert_plain};
@@ -21,7 +21,7 @@ use x509_cert_parts::{Attribute, Extension, Profile};
 impl<P> RevokedCert<P> {
     /// A copy. Want of memory is the only error.
     pub fn clone(&self, alloc: Global) -> Result<RevokedCert<P>, AllocError>
-        ensures { IfOk result (λ c. revoked_cert_plain c ≡ revoked_cert_plain self.now) }
+        ensures { IsCopy self.now result revoked_cert_plain }
     {
         Ok(RevokedCert {
             serial_number: self.serial_number.clone(alloc)?,
@@ -38,7 +38,7 @@ impl<P> RevokedCert<P> {
 impl<P: Profile> TbsCertList<P> {
     /// A copy. Want of memory is the only error.
     pub fn clone(&self, alloc: Global) -> Result<TbsCertList<P>, AllocError>
-        ensures { IfOk result (λ c. tbs_cert_list_plain c ≡ tbs_cert_list_plain self.now) }
+        ensures { IsCopy self.now result tbs_cert_list_plain }
     {
         Ok(TbsCertList {
             version: self.version,
@@ -59,7 +59,7 @@ impl<P: Profile> TbsCertList<P> {
 impl<P: Profile> CertificateList<P> {
     /// A copy. Want of memory is the only error.
     pub fn clone(&self, alloc: Global) -> Result<CertificateList<P>, AllocError>
-        ensures { IfOk result (λ c. certificate_list_plain c ≡ certificate_list_plain self.now) }
+        ensures { IsCopy self.now result certificate_list_plain }
     {
         Ok(CertificateList {
             signature: self.signature.clone(alloc)?,
@@ -72,7 +72,7 @@ impl<P: Profile> CertificateList<P> {
 impl CertReqInfo {
     /// A copy. Want of memory is the only error.
     pub fn clone(&self, alloc: Global) -> Result<CertReqInfo, AllocError>
-        ensures { IfOk result (λ c. cert_req_info_plain c ≡ cert_req_info_plain self.now) }
+        ensures { IsCopy self.now result cert_req_info_plain }
     {
         Ok(CertReqInfo {
             version: self.version,
@@ -88,7 +88,7 @@ impl CertReqInfo {
 impl CertReq {
     /// A copy. Want of memory is the only error.
     pub fn clone(&self, alloc: Global) -> Result<CertReq, AllocError>
-        ensures { IfOk result (λ c. cert_req_plain c ≡ cert_req_plain self.now) }
+        ensures { IsCopy self.now result cert_req_plain }
     {
         Ok(CertReq {
             signature: self.signature.clone(alloc)?,
@@ -101,8 +101,7 @@ impl CertReq {
 impl ExtensionReq {
     /// A copy. Want of memory is the only error.
     pub fn clone(&self, alloc: Global) -> Result<ExtensionReq, AllocError>
-        ensures { IfOk result
-            (λ c. extensions_plain c.0.items ≡ extensions_plain self.now.0.items) }
+        ensures { IsCopy self.now result (λ x. extensions_plain x.0.items) }
     {
         Ok(ExtensionReq(copies_of(alloc, self.0.as_slice(), Extension::clone)?))
     }

@@ -1,7 +1,8 @@
 //! Attribute.
 
-ghost use Rattle.std.specs.Prelude.{◌≡◌, refl, IfOk};
+ghost use Rattle.std.specs.Prelude.{refl};
 ghost use Rattle.const_oid.specs.Bound.{Bound};
+ghost use Rattle.der_core.specs.Copies.{IsCopy};
 ghost use Rattle.x509_cert_names.specs.Names.{attribute_fields};
 ghost use Rattle.x509_cert_names.specs.Views.{attribute_plain};
 
@@ -35,7 +36,7 @@ impl Attribute {
     /// # Errors
     /// Want of memory.
     pub fn clone(&self, alloc: Global) -> Result<Attribute, AllocError>
-        ensures { IfOk result (λ a. attribute_plain a ≡ attribute_plain self.now) }
+        ensures { IsCopy self.now result attribute_plain }
     {
         let values = copy_of(alloc, self.values.as_slice())?;
         Ok(Attribute {

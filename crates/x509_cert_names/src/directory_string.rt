@@ -3,6 +3,7 @@
 ghost use Rattle.std.specs.Prelude.{◌≡◌, [], refl, IfOk, string_bytes};
 ghost use Rattle.std.specs.Cow.{cow_str_bytes};
 ghost use Rattle.der_core_head.specs.Shapes.{begins};
+ghost use Rattle.der_core.specs.Copies.{IsCopy};
 ghost use Rattle.x509_cert_names.specs.Names.{directory_string};
 ghost use Rattle.x509_cert_names.specs.DirectoryStrings.{directory_plain, directory_text};
 ghost use Rattle.x509_cert_names.specs.DirectoryStrings.{directory_from, directory_utf8};
@@ -176,7 +177,7 @@ impl DirectoryString {
     /// # Errors
     /// Want of memory.
     pub fn clone(&self, alloc: Global) -> Result<DirectoryString, AllocError>
-        ensures { IfOk result (λ d. directory_plain d ≡ directory_plain self.now) }
+        ensures { IsCopy self.now result directory_plain }
     {
         match self {
             DirectoryString::PrintableString(text) => {

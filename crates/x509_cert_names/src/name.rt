@@ -1,6 +1,6 @@
 //! Name.
 
-ghost use Rattle.std.specs.Prelude.{◌≡◌, ◌==◌, [], length, refl, IfOk, IfErr};
+ghost use Rattle.std.specs.Prelude.{◌≡◌, ◌==◌, [], length, refl, IfErr};
 ghost use Rattle.std.specs.Option.{option_copied};
 ghost use Rattle.const_oid.specs.Bound.{Bound};
 ghost use Rattle.der_core_head.specs.declared.tag.Tag.TheVariants.{Sequence};
@@ -10,6 +10,7 @@ ghost use Rattle.der_core_head.specs.Grammar.{plain_list};
 ghost use Rattle.der_core_head.specs.Leaves.{text};
 ghost use Rattle.der_core_head.specs.Reading.{Gives, GivesNow};
 ghost use Rattle.der_core_head.specs.Texts.{printable, ascii};
+ghost use Rattle.der_core.specs.Copies.{IsCopy};
 ghost use Rattle.der_types_any.specs.Contents.{leaf_as};
 ghost use Rattle.x509_cert_name_texts.specs.Keys.{x520, email_address};
 ghost use Rattle.x509_cert_name_texts.specs.Answers.{GivesBy};
@@ -64,7 +65,7 @@ impl Name {
     /// # Errors
     /// Want of memory.
     pub fn clone(&self, alloc: Global) -> Result<Name, AllocError>
-        ensures { IfOk result (λ name. name_plain name ≡ name_plain self.now) }
+        ensures { IsCopy self.now result name_plain }
     {
         Ok(Name {
             rdn_sequence: self.rdn_sequence.clone(alloc)?,

@@ -1,12 +1,13 @@
 //! RdnSequence.
 
 ghost use Rattle.std.specs.Prelude.{◌≡◌, List, ◌∷◌, ◌++◌, ◌==◌, [], length, reverse, vec_len};
-ghost use Rattle.std.specs.Prelude.{OnOk, OnErr, IfOk, IfErr};
+ghost use Rattle.std.specs.Prelude.{OnOk, OnErr, IfErr};
 ghost use Rattle.std.specs.Fmt.{WritesOnOk};
 ghost use Rattle.std.specs.List.{flat_map};
 ghost use Rattle.const_oid.specs.Bound.{Bound};
 ghost use Rattle.der_core_head.specs.Grammar.{plain_list};
 ghost use Rattle.der_core_head.specs.Shapes.{octets_of};
+ghost use Rattle.der_core.specs.Copies.{IsCopy};
 ghost use Rattle.x509_cert_name_texts.specs.Answers.{GivesBy};
 ghost use Rattle.x509_cert_names.specs.NameTexts.{ReadsName, ReadsEncoding, relative_printed};
 ghost use Rattle.x509_cert_names.specs.NameTexts.{name_printed, behind};
@@ -78,7 +79,7 @@ impl RdnSequence {
     /// # Errors
     /// Want of memory.
     pub fn clone(&self, alloc: Global) -> Result<RdnSequence, AllocError>
-        ensures { IfOk result (λ s. sequence_plain s ≡ sequence_plain self.now) }
+        ensures { IsCopy self.now result sequence_plain }
     {
         let relative_names = copy_of(alloc, self.relative_names.as_slice())?;
         Ok(RdnSequence { relative_names })

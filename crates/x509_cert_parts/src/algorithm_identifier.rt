@@ -1,8 +1,9 @@
 //! AlgorithmIdentifier.
 
-ghost use Rattle.std.specs.Prelude.{◌≡◌, true, refl, IfOk, IsTrue};
+ghost use Rattle.std.specs.Prelude.{◌≡◌, true, refl, IsTrue};
 ghost use Rattle.const_oid.specs.Bound.{Bound};
 ghost use Rattle.der_core_head.specs.Shapes.{octets_of};
+ghost use Rattle.der_core.specs.Copies.{IsCopy};
 ghost use Rattle.x509_cert_parts.specs.Grammar.{algorithm_fields, algorithm_identifier};
 ghost use Rattle.x509_cert_parts.specs.Views.{algorithm_plain, algorithm_lent};
 
@@ -35,7 +36,7 @@ impl AlgorithmIdentifier {
     /// # Errors
     /// Want of memory.
     pub fn clone(&self, alloc: Global) -> Result<AlgorithmIdentifier, AllocError>
-        ensures { IfOk result (λ a. algorithm_plain a ≡ algorithm_plain self.now) }
+        ensures { IsCopy self.now result algorithm_plain }
     {
         Ok(AlgorithmIdentifier {
             oid: self.oid,

@@ -1,7 +1,8 @@
 //! Extension.
 
-ghost use Rattle.std.specs.Prelude.{◌≡◌, refl, IfOk};
+ghost use Rattle.std.specs.Prelude.{refl};
 ghost use Rattle.const_oid.specs.Bound.{Bound};
+ghost use Rattle.der_core.specs.Copies.{IsCopy};
 ghost use Rattle.x509_cert_parts.specs.Grammar.{extension_fields};
 ghost use Rattle.x509_cert_parts.specs.Views.{extension_plain};
 
@@ -44,7 +45,7 @@ impl Extension {
     /// # Errors
     /// Want of memory.
     pub fn clone(&self, alloc: Global) -> Result<Extension, AllocError>
-        ensures { IfOk result (λ e. extension_plain e ≡ extension_plain self.now) }
+        ensures { IsCopy self.now result extension_plain }
     {
         Ok(Extension {
             extn_id: self.extn_id,

@@ -1,7 +1,8 @@
 //! SubjectPublicKeyInfo.
 
-ghost use Rattle.std.specs.Prelude.{◌≡◌, refl, IfOk};
+ghost use Rattle.std.specs.Prelude.{◌≡◌, refl};
 ghost use Rattle.const_oid.specs.Bound.{Bound};
+ghost use Rattle.der_core.specs.Copies.{IsCopy};
 ghost use Rattle.x509_cert_parts.specs.Grammar.{public_key_fields};
 ghost use Rattle.x509_cert_parts.specs.Views.{key_plain, key_lent};
 
@@ -33,7 +34,7 @@ impl SubjectPublicKeyInfo {
     /// # Errors
     /// Want of memory.
     pub fn clone(&self, alloc: Global) -> Result<SubjectPublicKeyInfo, AllocError>
-        ensures { IfOk result (λ k. key_plain k ≡ key_plain self.now) }
+        ensures { IsCopy self.now result key_plain }
     {
         Ok(SubjectPublicKeyInfo {
             algorithm: self.algorithm.clone(alloc)?,

@@ -1,19 +1,13 @@
 //! Copies of policies and of notices.
 
-ghost use Rattle.std.specs.Prelude.{◌≡◌, IfOk};
 ghost use Rattle.der_core_head.specs.Grammar.{plain_list};
-ghost use Rattle.x509_cert_policies.specs.Views.{display_plain, notice_reference_plain};
-ghost use Rattle.x509_cert_policies.specs.Views.{policy_information_plain, policy_mapping_plain};
-ghost use Rattle.x509_cert_policies.specs.Views.{policy_qualifier_info_plain, user_notice_plain};
+ghost use Rattle.der_core.specs.Copies.{IsCopy};
+ghost use Rattle.x509_cert_policies.specs.Views as views;
 
-use crate::certificate_policies::CertificatePolicies;
-use crate::cps_uri::CpsUri;
-use crate::display_text::DisplayText;
-use crate::notice_reference::NoticeReference;
-use crate::policy_information::PolicyInformation;
-use crate::policy_mappings::PolicyMappings;
-use crate::policy_qualifier_info::PolicyQualifierInfo;
-use crate::user_notice::UserNotice;
+use crate::{
+    CertificatePolicies, CpsUri, DisplayText, NoticeReference, PolicyInformation, PolicyMappings,
+    PolicyQualifierInfo, UserNotice,
+};
 use der_core::making::{copies_of, copies_of_option, copy_of_option};
 use std::alloc::{AllocError, Global};
 use x509_cert_general_names::parts::{Any, Uint};
@@ -21,8 +15,7 @@ use x509_cert_general_names::parts::{Any, Uint};
 impl PolicyQualifierInfo {
     /// A copy. Want of memory is the only error.
     pub fn clone(&self, alloc: Global) -> Result<PolicyQualifierInfo, AllocError>
-        ensures { IfOk result
-            (λ c. policy_qualifier_info_plain c ≡ policy_qualifier_info_plain self.now) }
+        ensures { IsCopy self.now result views.policy_qualifier_info_plain }
     {
         Ok(PolicyQualifierInfo {
             policy_qualifier_id: self.policy_qualifier_id,
@@ -34,8 +27,7 @@ impl PolicyQualifierInfo {
 impl PolicyInformation {
     /// A copy. Want of memory is the only error.
     pub fn clone(&self, alloc: Global) -> Result<PolicyInformation, AllocError>
-        ensures { IfOk result
-            (λ c. policy_information_plain c ≡ policy_information_plain self.now) }
+        ensures { IsCopy self.now result views.policy_information_plain }
     {
         Ok(PolicyInformation {
             policy_identifier: self.policy_identifier,
@@ -51,9 +43,8 @@ impl PolicyInformation {
 impl CertificatePolicies {
     /// A copy. Want of memory is the only error.
     pub fn clone(&self, alloc: Global) -> Result<CertificatePolicies, AllocError>
-        ensures { IfOk result
-            (λ c. plain_list policy_information_plain c.0.items
-            ≡ plain_list policy_information_plain self.now.0.items) }
+        ensures { IsCopy self.now result
+            (λ x. plain_list views.policy_information_plain x.0.items) }
     {
         Ok(CertificatePolicies(copies_of(alloc, self.0.as_slice(), PolicyInformation::clone)?))
     }
@@ -62,9 +53,7 @@ impl CertificatePolicies {
 impl PolicyMappings {
     /// A copy. Want of memory is the only error.
     pub fn clone(&self, alloc: Global) -> Result<PolicyMappings, AllocError>
-        ensures { IfOk result
-            (λ c. plain_list policy_mapping_plain c.0.items
-            ≡ plain_list policy_mapping_plain self.now.0.items) }
+        ensures { IsCopy self.now result (λ x. plain_list views.policy_mapping_plain x.0.items) }
     {
         Ok(PolicyMappings(self.0.as_slice().to_vec(alloc)?))
     }
@@ -73,7 +62,7 @@ impl PolicyMappings {
 impl DisplayText {
     /// A copy. Want of memory is the only error.
     pub fn clone(&self, alloc: Global) -> Result<DisplayText, AllocError>
-        ensures { IfOk result (λ c. display_plain c ≡ display_plain self.now) }
+        ensures { IsCopy self.now result views.display_plain }
     {
         match self {
             DisplayText::Ia5String(text) => Ok(DisplayText::Ia5String(text.clone(alloc)?)),
@@ -88,7 +77,7 @@ impl DisplayText {
 impl NoticeReference {
     /// A copy. Want of memory is the only error.
     pub fn clone(&self, alloc: Global) -> Result<NoticeReference, AllocError>
-        ensures { IfOk result (λ c. notice_reference_plain c ≡ notice_reference_plain self.now) }
+        ensures { IsCopy self.now result views.notice_reference_plain }
     {
         Ok(NoticeReference {
             organization: self.organization.clone(alloc)?,
@@ -100,7 +89,7 @@ impl NoticeReference {
 impl UserNotice {
     /// A copy. Want of memory is the only error.
     pub fn clone(&self, alloc: Global) -> Result<UserNotice, AllocError>
-        ensures { IfOk result (λ c. user_notice_plain c ≡ user_notice_plain self.now) }
+        ensures { IsCopy self.now result views.user_notice_plain }
     {
         Ok(UserNotice {
             notice_ref: copy_of_option(alloc, &self.notice_ref, NoticeReference::clone)?,
@@ -112,7 +101,7 @@ impl UserNotice {
 impl CpsUri {
     /// A copy. Want of memory is the only error.
     pub fn clone(&self, alloc: Global) -> Result<CpsUri, AllocError>
-        ensures { IfOk result (λ c. c.0 ≡ self.now.0) }
+        ensures { IsCopy self.now result (λ x. x.0) }
     {
         Ok(CpsUri(self.0.clone(alloc)?))
     }

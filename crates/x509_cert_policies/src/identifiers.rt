@@ -2,12 +2,10 @@
 
 ghost use Rattle.std.specs.Prelude.{◌∷◌, []};
 
-use crate::basic_constraints::BasicConstraints;
-use crate::certificate_policies::CertificatePolicies;
-use crate::inhibit_any_policy::InhibitAnyPolicy;
-use crate::policy_constraints::PolicyConstraints;
-use crate::policy_mappings::PolicyMappings;
-use crate::private_key_usage_period::PrivateKeyUsagePeriod;
+use crate::{
+    BasicConstraints, CertificatePolicies, InhibitAnyPolicy, PolicyConstraints, PolicyMappings,
+    PrivateKeyUsagePeriod,
+};
 use const_oid::{AssociatedOid, ObjectIdentifier};
 
 impl AssociatedOid for BasicConstraints {
