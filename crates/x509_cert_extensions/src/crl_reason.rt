@@ -15,10 +15,9 @@ use x509_cert_policies::general_names::making::number_among;
 ///
 /// ```text
 /// CRLReason ::= ENUMERATED {
-///     unspecified (0), keyCompromise (1), cACompromise (2), affiliationChanged (3), superseded
-///     (4),
-///     cessationOfOperation (5), certificateHold (6), removeFromCRL (8), privilegeWithdrawn (9),
-///     aACompromise (10) }
+///     unspecified (0), keyCompromise (1), cACompromise (2), affiliationChanged (3),
+///     superseded (4), cessationOfOperation (5), certificateHold (6), removeFromCRL (8),
+///     privilegeWithdrawn (9), aACompromise (10) }
 /// ```
 #[derive(Clone, Copy, Debug, PartialEq, Eq, PartialOrd, Ord)]
 pub enum CrlReason {

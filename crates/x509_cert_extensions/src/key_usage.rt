@@ -76,8 +76,7 @@ impl NamedBits for KeyUsages {
 /// ```text
 /// KeyUsage ::= BIT STRING {
 ///     digitalSignature (0), nonRepudiation (1), keyEncipherment (2), dataEncipherment (3),
-///     keyAgreement (4),
-///     keyCertSign (5), cRLSign (6), encipherOnly (7), decipherOnly (8) }
+///     keyAgreement (4), keyCertSign (5), cRLSign (6), encipherOnly (7), decipherOnly (8) }
 /// ```
 #[derive(Clone, Copy, Debug, PartialEq, Eq)]
 pub struct KeyUsage(pub FlagSet<KeyUsages>);

@@ -15,6 +15,7 @@ use x509_cert_parts::making::number_among;
 /// ```
 #[derive(Clone, Copy, Debug, Default, PartialEq, Eq)]
 pub enum Version {
+    /// The only one.
     #[default]
     V1,
 }

@@ -13,10 +13,8 @@ use std::alloc::Global;
 use x509_cert_parts::{AlgorithmIdentifier, Extensions, Name, Profile, Rfc5280, Time, Version};
 
 /// The part of a revocation list that is signed (RFC 5280 5.1.2). Any version is read beside any
-/// fields, an empty list of
-/// certificates, and a list of no extensions. A list without a version isn't read. Its dates are
-/// written as they were read, under
-/// every profile.
+/// fields, an empty list of certificates, and a list of no extensions. A list without a version
+/// isn't read. Its dates are written as they were read, under every profile.
 ///
 /// ```text
 /// TBSCertList ::= SEQUENCE {

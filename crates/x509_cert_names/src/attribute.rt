@@ -19,7 +19,9 @@ use std::alloc::{AllocError, Global};
 /// ```
 #[derive(Debug, Drop, PartialEq, Eq)]
 pub struct Attribute {
+    /// What it is of.
     pub oid: AttributeType,
+    /// Its values.
     pub values: StrictSetOf<AttributeValue>,
 }
 

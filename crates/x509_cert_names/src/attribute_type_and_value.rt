@@ -45,7 +45,9 @@ pub type AttributeValue = Any;
 /// ```
 #[derive(Debug, Drop, PartialOrd, Ord)]
 pub struct AttributeTypeAndValue {
+    /// What it is of.
     pub oid: AttributeType,
+    /// Its value.
     pub value: AttributeValue,
 }
 

@@ -128,7 +128,8 @@ impl Name {
     /// no such attribute. `iter` has the others.
     ///
     /// # Errors
-    /// Those of `T`: `TagUnexpected` where the value is of another type, ..
+    /// Those of `T`: `TagUnexpected` where the value is of another type, the first fault of its
+    /// content, or `OutOfMemory`.
     pub fn by_oid<'a, T: FromAny<'a>>(
         &'a self,
         alloc: Global,

@@ -31,8 +31,7 @@ pub struct Extension {
 }
 
 /// The extensions of a certificate (RFC 5280 4.1.2.9), in the order in which they stand. There may
-/// be none, and two of one
-/// identifier.
+/// be none, and two of one identifier.
 ///
 /// ```text
 /// Extensions ::= SEQUENCE SIZE (1..MAX) OF Extension

@@ -28,8 +28,7 @@ use std::marker::{Model, PhantomData};
 use x509_cert_names::number_types::{Int, Uint};
 
 /// The serial number of a certificate (RFC 5280 4.1.2.2), of which the profile reads so many
-/// content octets. Numbers that are
-/// negative or zero are read too.
+/// content octets. Numbers that are negative or zero are read too.
 ///
 /// Contracts see the number.
 ///

@@ -25,15 +25,16 @@ use std::time::Duration;
 use x509_cert_names::time_types::DateTime;
 
 /// From when until when a certificate is valid, both dates included (RFC 5280 4.1.2.5). The profile
-/// says how the dates are
-/// written.
+/// says how the dates are written.
 ///
 /// ```text
 /// Validity ::= SEQUENCE { notBefore Time, notAfter Time }
 /// ```
 #[derive_where(Clone, Copy, Debug, PartialEq, Eq)]
 pub struct Validity<P = Rfc5280> {
+    /// The first moment.
     pub not_before: Time,
+    /// The last moment.
     pub not_after: Time,
     profile: PhantomData<P>,
 }

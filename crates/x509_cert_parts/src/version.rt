@@ -16,9 +16,12 @@ use der_core::{DefaultContent, Error, Integer, Tag};
 /// ```
 #[derive(Clone, Copy, Debug, Default, PartialEq, Eq)]
 pub enum Version {
+    /// Of a certificate with the basic fields alone.
     #[default]
     V1,
+    /// Of one with unique identifiers, too.
     V2,
+    /// Of one with extensions, too.
     V3,
 }
 

@@ -18,7 +18,9 @@ use std::alloc::Global;
 /// ```
 #[derive(Debug, Drop, PartialEq)]
 pub struct DigitallySigned {
+    /// Its hash and its algorithm.
     pub algorithm: SignatureAndHashAlgorithm,
+    /// The octets of the signature.
     pub signature: Vec<u8>,
 }
 

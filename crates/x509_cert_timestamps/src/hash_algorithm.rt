@@ -7,7 +7,8 @@ use crate::numbered::Numbered;
 /// The hash of a signature (RFC 5246 7.4.1.4.1, RFC 8422 5.1.3).
 ///
 /// ```text
-/// enum { none(0), md5(1), sha1(2), sha224(3), sha256(4), sha384(5), sha512(6), Intrinsic(8), (255)
+/// enum {
+///     none(0), md5(1), sha1(2), sha224(3), sha256(4), sha384(5), sha512(6), Intrinsic(8), (255)
 /// } HashAlgorithm;
 /// ```
 #[derive(Debug, Drop, PartialEq)]

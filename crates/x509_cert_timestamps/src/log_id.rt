@@ -15,6 +15,7 @@ use std::alloc::Global;
 /// ```
 #[derive(Debug, Drop, PartialEq)]
 pub struct LogId {
+    /// The digest.
     pub key_id: [u8; 32],
 }
 

@@ -21,6 +21,7 @@ use std::alloc::Global;
 /// The empty one is read and written too.
 #[derive(Debug, Drop, PartialEq)]
 pub struct SerializedSct {
+    /// The octets.
     pub data: Vec<u8>,
 }
 

@@ -18,7 +18,9 @@ use std::alloc::Global;
 /// ```
 #[derive(Debug, Drop, PartialEq)]
 pub struct SignatureAndHashAlgorithm {
+    /// The hash.
     pub hash: HashAlgorithm,
+    /// The algorithm.
     pub signature: SignatureAlgorithm,
 }
 

@@ -30,11 +30,15 @@ use std::alloc::Global;
 /// ```
 #[derive(Debug, Drop, PartialEq)]
 pub struct SignedCertificateTimestamp {
+    /// The version.
     pub version: Version,
+    /// The log that answered.
     pub log_id: LogId,
     /// Milliseconds since 1970-01-01T00:00:00Z, leap seconds left out.
     pub timestamp: u64,
+    /// What else is said, as it stands.
     pub extensions: Vec<u8>,
+    /// The log's signature.
     pub signature: DigitallySigned,
 }
 
