@@ -30,7 +30,7 @@ stands_kept limit offset old new piece count octets t l p =
     let w = s.has_whole in
     record { valid = p.spelled.valid; within = omega (arith, ap length (sym s.octets_are ∙ p.spelled.octets), w.len_is, w.within) }
 
--- and ends below 2^64
+-- a certificate that is taken ends below 2^64
 pub ends_below : (limit offset : ℕ) (old new : Rest) (piece : List ℕ) (count : ℕ) (octets : Vec ℕ) → IsTaken limit offset old new piece count (Some octets) → offset + length octets.items < 2 ^ 64
 ends_below limit offset old new piece count octets t =
     let s = t.completed in

@@ -96,7 +96,7 @@ number-few (Some (pos n)) v =
     omega (arith, few, ap length is)
 number-few (Some (negsuc n)) v = absurd (number-no n (optional-valid (negsuc n) v))
 
--- it begins with the tag of an INTEGER
+-- a path length begins with the tag of an INTEGER
 number-tag : (z : ℤ) → get_or (length_octets_of (Some z)) 0 0 ≡ 2
 unfolding octets_of tlv head_octets tag_octets
 number-tag z = refl
@@ -189,7 +189,7 @@ module _ (w fields rest : List ℕ) (ca : Bool) (is : w ≡ 48 ∷ length fields
       by false true p s f g = absurd (f refl (length_octets_of p) g)
       by false false p s f g = sym s ∙ g
 
-  -- and no length
+  -- constraints whose path length is refused are malformed
   pub bad_length : (k : ErrorKind) → IsBytes w → (ca ≡ false → (r : List ℕ) → fields ≡ 1 ∷ 1 ∷ 255 ∷ r → ⊥) → (length rest == 0) ≡ false → read_whole number rest ≡ Err k
       → meaning_by basic_constraints constraints_of w ≡ malformed
   bad_length k bytes flagged some fails = says-none w bytes (λ b o v e. by o v (rest-is b o flagged (ap (drop 2) (sym is ∙ e))))

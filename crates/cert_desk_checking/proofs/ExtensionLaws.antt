@@ -38,12 +38,12 @@ third (x ∷ y ∷ z ∷ []) n l a b =
     ap (λ m. nat_eq m 0x55 && (nat_eq y 0x1d && (nat_eq z n && true))) a ∙ ap (λ m. nat_eq m 0x1d && (nat_eq z n && true)) b ∙ sym (and_yes (nat_eq z n))
 third (x ∷ y ∷ z ∷ t ∷ w) n l a b = absurd (omega (arith, l))
 
--- it is the number of its third octet below 2.5.29
+-- an identifier of three octets below 2.5.29 is told by its third octet
 pub numbered_by : (arcs w : List ℕ) (n : ℕ) → w ≡ identifier_octets arcs → n < 128 → length w ≡ 3 → slice_index_or w 0 0 ≡ 0x55 → slice_index_or w 1 0 ≡ 0x1d
     → owned_eq arcs (certificate_extension n) ≡ nat_eq (slice_index_or w 2 0) n
 numbered_by arcs w n is h l a b = by_octets arcs w n is h ∙ third w n l a b
 
--- it is none
+-- an identifier of other octets is none below 2.5.29 of that number
 pub not_numbered : (arcs w : List ℕ) (n : ℕ) → w ≡ identifier_octets arcs → n < 128 → (w ≡ 0x55 ∷ 0x1d ∷ n ∷ [] → ⊥) → owned_eq arcs (certificate_extension n) ≡ false
 not_numbered arcs w n is h other = by_octets arcs w n is h ∙ false_from_ne_true (bytes_eq w (0x55 ∷ 0x1d ∷ n ∷ [])) (λ e. other ((bytes_decides w (0x55 ∷ 0x1d ∷ n ∷ [])).0 e))
 

@@ -85,7 +85,7 @@ module _ (s : Shape) (u : IsUnambiguous s) {A E : Type 0} (gives : Value s → R
       let same = same_values p.values q.values xs q.xs [] q.rest p.give q.give ends_nothing (ends q.rest q.is_wrong) (whole octets xs p ∙ q.whole) in
       some (subst wrong (sym same.1) q.is_wrong)
 
-  -- and one alone
+  -- a file has one first value that is wrong, at one place
   pub one_place : (octets : List ℕ) (wrong other : List ℕ → Type 0) (offset place : ℕ) → ((r : List ℕ) → wrong r → Ends r) → ((r : List ℕ) → other r → Ends r)
       → HasFirstWrong s gives wrong octets offset → HasFirstWrong s gives other octets place → (offset ≡ place) × ((r : List ℕ) × wrong r × other r)
   one_place octets wrong other offset place ends stops p q =

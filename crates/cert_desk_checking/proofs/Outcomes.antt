@@ -118,7 +118,7 @@ module _ (t : Terms) (cs : List PlainCertificate) (stream : List ℕ) where
   asked_signed place within broken =
       sym (asked_stays place (length cs) (and_right _ (keeps_all t cs stream place) (keeps_all-false t cs stream place rules.WrongSignature broken)) within).0
 
-  -- and where a rule before it is broken
+  -- how often a judge is asked where a rule before the signature is broken
   pub asked_unsigned : (place : ℕ) (rule : Rule) → place < length cs → IsFirstUnsigned t cs stream place (Some rule) → asked_below t cs stream place ≡ asked t cs stream
   unfolding asked
   asked_unsigned place rule within broken =

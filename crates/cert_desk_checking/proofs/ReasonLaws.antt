@@ -30,7 +30,7 @@ at-plain plain test [] i x lt is = absurd (omega arith)
 at-plain plain test (y ∷ ys) zero x lt is = ap (λ z. test (plain z)) (sym is)
 at-plain plain test (y ∷ ys) (suc i) x lt is = at-plain plain test ys i x (omega arith) is
 
--- and behind the first ones
+-- a test at a place behind the first ones
 pub at-drop : {A B : Type 0} (plain : A → B) (test : B → Bool) (n i : ℕ) (xs : List A)
     → is_at test (plain_list plain (drop n xs)) i ≡ is_at test (plain_list plain xs) (n + i)
 at-drop plain test zero i [] = refl

@@ -30,7 +30,7 @@ module _ (fields : Body) (limit offset : ℕ) (rest : List ℕ) (len : ℕ) (w :
         (whole_read limit offset rest len w) (λ h. (w.within, w.fits)) (λ h. absurd (omega arith));
   }
 
--- such a value alone
+-- a value that stands whole stands whole alone, too
 pub whole_alone : (limit offset : ℕ) (rest : List ℕ) (len : ℕ) → HasWhole limit offset rest len → HasWhole limit offset (take len rest) (length (take len rest))
 whole_alone limit offset rest len w =
     let front = whole-take done limit offset rest len w in

@@ -9,7 +9,7 @@ use Rattle.cert_desk_checking.specs.Weighing.{Meaning, uses, other_names, constr
 use Rattle.cert_desk_checking.specs.Weighing.{malformed, unweighed, extended_key_usage}
 use Rattle.cert_desk_checking.specs.Weighing.{is_malformed, subject_alt_name, weigh}
 
--- the same terms under another bound
+-- terms under another bound of arcs, all else alike
 abbrev pub bounded : Terms → ℕ → Terms
 bounded t wide = record t { bound = wide }
 

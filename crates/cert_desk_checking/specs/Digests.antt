@@ -10,7 +10,7 @@ use Rattle.cert_desk_checking.specs.Judging.{Answers}
 abbrev pub digest_arcs : List ℕ
 digest_arcs = 1 ∷ 3 ∷ 6 ∷ 1 ∷ 4 ∷ 1 ∷ 32473 ∷ 2 ∷ []
 
--- this algorithm, without parameters
+-- whether an algorithm is that of the stand-in, without parameters
 abbrev pub is_digest : Algorithm → Bool
 is_digest a = bytes_eq (algorithm_arcs a) digest_arcs
     && option_map_or (λ _. false) (algorithm_parameters a) true

@@ -17,7 +17,7 @@ anchors_named bound c anchors = filter (is_named bound c) anchors
 abbrev pub as_anchor : PlainCertificate → PlainAnchor
 as_anchor c = record { name = subject c; key = public_key c }
 
--- the same terms with other anchors
+-- terms with other anchors, all else alike
 abbrev pub among : Terms → List PlainAnchor → Terms
 among t others = record t { anchors = others }
 

@@ -50,12 +50,12 @@ questions_at bound anchors cs stream place =
 abbrev pub answer_on : Answers → Question → Bool
 answer_on answers q = answers q.key q.algorithm q.signed q.bits
 
--- Both judges answer alike to what the places may ask.
+-- The judge of the terms and another one answer alike to what the places may ask.
 abbrev pub AnswerAlike : Terms → Answers → List PlainCertificate → List ℕ → Type 0
 AnswerAlike t other cs stream =
     (place : ℕ) → AllByRecursion (λ q. answer_on t.answers q ≡ answer_on other q)
     (questions_at t.bound t.anchors cs stream place)
 
--- the same terms under another judge
+-- terms under another judge, all else alike
 abbrev pub under : Terms → Answers → Terms
 under t other = record t { answers = other }

@@ -110,7 +110,7 @@ asked t cs stream = asked_below t cs stream (length cs)
 abbrev pub capped : ℕ → ℕ
 capped n = min n (2 ^ 64 - 1)
 
--- such a count, after so many more
+-- a count that stays at 2^64 - 1, after so many more
 abbrev pub raised : ℕ → ℕ → ℕ
 raised old n = max old (capped (old + n))
 

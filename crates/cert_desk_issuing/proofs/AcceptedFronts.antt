@@ -87,7 +87,7 @@ not_empty (x ∷ xs) h = omega arith
 pub front_more : (orders : List Order) (keys : List PublicKey) (ps : List PlainOrder) (p : PlainOrder) → AcceptsFront orders keys ps → IsAcceptedAt orders keys (length ps) p → AcceptsFront orders keys (ps ++ p ∷ [])
 front_more orders keys ps p front here = record { each = each_more (λ n q. IsAcceptedAt orders keys n q) ps p front.each here }
 
--- the same of what code has of orders
+-- one order more is accepted, of what code has of orders
 pub accepted_more : (orders : List Order) (keys : List PublicKey) (xs ys : List Accepted) (a : Accepted) (place : ℕ) → ys ≡ xs ++ a ∷ [] → length xs ≡ place → AcceptsFront orders keys (orders_plain xs)
     → IsAcceptedAt orders keys place (accepted_plain a) → (length ys ≡ place + 1) × AcceptsFront orders keys (orders_plain ys)
 accepted_more orders keys xs ys a place e n front here =
@@ -155,7 +155,7 @@ are_ready orders keys ps a place p e =
 pub are_keys : (orders : List Order) (keys : List PublicKey) (ps : List PlainOrder) → AcceptedOrders orders keys ps → AreKeys keys ps
 are_keys orders keys ps a place key p k e = subst (λ (o : Option PublicKey). IsKeyOf o p.key) k (a.front.each place p e).accepted.key
 
--- and what is told
+-- a refusal of an order is told as the fault at its place
 pub told : {S : Type 0} (key : S → PublicKey) (algorithm : S → Algorithm) (signs : S → List ℕ → Bits → Type 0) (may_refuse : S → List ℕ → Type 0) (orders : List Order) (signers : List S) (place : ℕ) (f : Fault)
     → length signers ≡ signers_for (length orders) → RefusesAt orders (map key signers) place f → Refuses key algorithm signs may_refuse orders signers (fault_at place f)
 told key algorithm signs may_refuse orders signers place faults.OutOfMemory n r = tt

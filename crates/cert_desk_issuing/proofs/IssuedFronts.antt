@@ -52,7 +52,7 @@ module _ {S : Type 0} (algorithm : S → Algorithm) (signs : S → List ℕ → 
         ∙ sym (flat_map-append (certificate_octets Bound) cs (c ∷ []));
   }
 
--- the same of what code has of certificates
+-- one certificate more is made, of what code has of certificates
 pub made_more : {S : Type 0} (algorithm : S → Algorithm) (signs : S → List ℕ → Bits → Type 0) (ps : List PlainOrder) (signers : List S) {C : Type 0} (plain : C → PlainCertificate) (xs ys : List C) (x : C) (place : ℕ) (stream longer octets : List ℕ)
     → ys ≡ xs ++ x ∷ [] → longer ≡ stream ++ octets → length xs ≡ place → IsFront algorithm signs ps signers (plain_list plain xs) stream
     → IsMadeAt algorithm signs ps signers place (plain x) octets

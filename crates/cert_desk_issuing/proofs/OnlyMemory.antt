@@ -108,7 +108,7 @@ module _ (role : Role) (key : Option PublicKey) (o : Order) (p : PlainOrder) (a 
   named : (n : PlainName) → SpellsName Bound (string_bytes o.name) n → IsNamedFor role n
   named n s = subst (λ x. IsNamedFor role x) (one_spelled (string_bytes o.name) p.subject n a.name s valid) a.naming
 
-  -- and that it isn't refused
+  -- an order that is accepted is refused for want of memory alone
   order_stands : (f : Fault) → RefusesOrder role key o f → f ≡ faults.OutOfMemory
   order_stands faults.Name r = absurd (spelled_stands (string_bytes o.name) p.subject r.0 a.name r.1 valid)
   order_stands (faults.RootName e) r =
@@ -120,7 +120,7 @@ module _ (role : Role) (key : Option PublicKey) (o : Order) (p : PlainOrder) (a 
   order_stands faults.KeyMismatch r = absurd (key_stands key (key_plain o.key) (subst (λ k. IsKeyOf key k) a.key_is a.key) r.4)
   order_stands faults.OutOfMemory r = refl
 
--- the same at a place
+-- orders that are accepted at one place are one
 module _ (orders : List Order) (keys : List PublicKey) (place : ℕ) (p : PlainOrder) (a : IsAcceptedAt orders keys place p) (valid : IsValid (name Bound) p.subject) where
   one_at : (q : PlainOrder) → IsAcceptedAt orders keys place q → p ≡ q
   one_at q b =
@@ -154,7 +154,7 @@ module _ {S : Type 0} (key : S → PublicKey) (algorithm : S → Algorithm) (sig
       stands_at orders (map key signers) place here.order (h.accepted.front.each place here.order here.order_is)
       (subject_valid role here.order here.above (algorithm here.signer) here.short.part) f r.refused
 
-  -- and no certificate is stopped
+  -- no certificate is stopped but by want of memory
   no_stop : (place : ℕ) (stop : Stop) → StopsAt key algorithm signs may_refuse orders signers place stop → stop ≡ stops.OutOfMemory
   no_stop place stop r =
       let keys = map key signers in

@@ -107,7 +107,7 @@ module _ (a : Algorithm) (signs : List ℕ → Bits → Type 0) (c : PlainCertif
         valid = whole_raw c (valid (whole_in_range c short_there here algorithm bits));
       }
 
-  -- it isn't written for want of memory, or since a length passes
+  -- a certificate isn't written for want of memory, or since a length passes
   pub unwritten : (may_refuse : List ℕ → Type 0) (role : Role) (dns : List (List ℕ)) (w : List ℕ) (k : ErrorKind) → outer_algorithm c ≡ a → signs (part_octets (tbs c)) (signature_bits c)
       → (IsValid (certificate Bound (Some 21)) c → k ≢ kinds.OutOfMemory → Ok w ≡ Err k) → Stops may_refuse signs a role dns t (stop_of_kind k)
   unwritten may_refuse role dns w kinds.OutOfMemory by given h = tt

@@ -102,7 +102,7 @@ pub record IsRefusedAt (orders : List Order) (keys : List PublicKey) (place : �
   pub stands : slice_get orders place ≡ Some order
   pub refused : RefusesOrder (role_at (length orders) place) (slice_get keys place) order f
 
--- and the orders before it are accepted
+-- the order at a place is refused, and the orders before it are accepted
 pub record RefusesAt (orders : List Order) (keys : List PublicKey) (place : ℕ) (f : Fault) : Type 0
   where
     pub asked : List PlainOrder

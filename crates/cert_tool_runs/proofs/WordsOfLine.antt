@@ -22,7 +22,7 @@ say p a k m s b q hp ha hq =
     ∙ ap (λ x. cond x (says_question (question_in k m s b)) wrong) ha
     ∙ ap (λ x. cond x (cond (is_anchor a) (says_question (question_in k m s b)) wrong) wrong) hp
 
--- they are those of an answer
+-- words that are those of an answer say its question
 pub say_answer : (ws : List (Bor (List ℕ))) (d : Bor (List ℕ)) (q : Question) → length ws ≡ 6 → true ≡ is_number (get_or ws 0 d).now
     → true ≡ is_anchor (get_or ws 1 d).now → Some q ≡ question_in (get_or ws 2 d).now (get_or ws 3 d).now (get_or ws 4 d).now (get_or ws 5 d).now
     → answers q ≡ words_say (map (λ word. word.now) ws)

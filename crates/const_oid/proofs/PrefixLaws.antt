@@ -48,7 +48,7 @@ prefix_octets bound _ rest q = absurd q
 pub same_octets : (bound : ℕ) (a b : List ℕ) → IsIdentifier bound a → IsIdentifier bound b → identifier_octets a ≡ identifier_octets b → a ≡ b
 same_octets bound a b p q e = sym (arcs_of-identifier_octets bound a p) ∙ ap arcs_of e ∙ arcs_of-identifier_octets bound b q
 
--- and so of the octets that spell them
+-- the octets that spell a front of arcs begin the octets that spell the arcs
 pub prefix_spelled : (bound : ℕ) (arcs front rest w v : List ℕ) → IsIdentifier bound front → w ≡ identifier_octets arcs → v ≡ identifier_octets front → arcs ≡ front ++ rest
     → w ≡ v ++ flat_map arc_octets rest
 prefix_spelled bound arcs front rest w v id p q e =

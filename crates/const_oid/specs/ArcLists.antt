@@ -28,7 +28,7 @@ abbrev pub and_then : Result (List ℕ) Error → (List ℕ → Result (List ℕ
 and_then (Ok arcs) rest = rest arcs
 and_then (Err e) rest = Err e
 
--- these arcs, and then those of a list
+-- arcs that are there, and behind them those of a list
 unfoldable pub gather : (capacity : ℕ) → (arcs : List ℕ) → List ℕ → Result (List ℕ) Error
 gather capacity arcs [] = whole_arcs arcs
 gather capacity arcs (a ∷ list) =

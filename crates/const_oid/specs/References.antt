@@ -8,7 +8,7 @@ use Rattle.const_oid.specs.Arcs.{later_arcs, arcs_of}
 abbrev pub reference_octets : ObjectIdentifierRef → List ℕ
 reference_octets oid = oid.octets.now
 
--- its arcs
+-- the arcs of a borrowed identifier
 abbrev pub reference_arcs : ObjectIdentifierRef → List ℕ
 reference_arcs oid = arcs_of oid.octets.now
 

@@ -102,7 +102,7 @@ module _ {T : Type 0} {eq : T → T → Bool} where
   unfolding body_octets
   of_set how s {plain} h = record { encoding = members_encoding s plain h; itself = members_itself s plain h }
 
--- and as it stands, where the plain value is the value
+-- an option of values whose plain value is the value stands as it is
 pub itself_absent : {V : Type 0} (o : Option V) → plain_option (λ v. v) o ≡ o
 itself_absent None = refl
 itself_absent (Some v) = refl

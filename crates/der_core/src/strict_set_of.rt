@@ -68,6 +68,7 @@ fn check_rising<T: DerOrd + Member>(values: &[T]) -> Result<(), Error>
 /// Values whose encodings rise.
 #[derive(Clone, Debug, Drop, PartialEq, Eq)]
 pub struct StrictSetOf<T> {
+    /// The values, which are written only where their encodings rise.
     pub values: Vec<T>,
 }
 

@@ -98,7 +98,7 @@ pub tagged_valid : (t : Tag) (c : Content) (v : ContentValue c) (d : List ℕ) (
     → r ≡ bytes_eq (contents c v) d → (r ≡ true → IsContent c v) → r ≡ true → IsValid (tagged t c) v
 tagged_valid t c v d r tag few e is h = wide t c v d tag (omega (arith, below d few)) ((bytes_eq-Decides (contents c v) d).0 (sym e ∙ h)) (is h)
 
--- And behind an explicit one before it
+-- what is read behind an explicit tag in front of another one
 
 pub explicit_read : (n : ℕ) (t : Tag) (c : Content) (v : ContentValue c) (d : List ℕ) → IsTag (context true n) → IsTag t → nat_lt (length d) 100 ≡ true
     → is_content_apart c ≡ true → ((room : ℕ) → are_content_enough c room ≡ true) → contents c v ≡ d → IsContent c v

@@ -15,7 +15,7 @@ abbrev pub Called : {W F : Type 0} → (W → Out)
 Called out g f n old r inner outer = (put_head tags.Sequence n old ≡ Ok (out inner))
     × FnOnceReturnsAtMut g f inner r outer
 
--- the same, and a write was refused
+-- what was written, of a writer that has failed
 abbrev pub failing : Out → Out
 failing o = record o { failed = true }
 

@@ -186,6 +186,7 @@ impl DefaultContent for u32 {
 /// A value that is absent where it is the default.
 #[derive(Debug, Drop)]
 pub struct WithDefault<T> {
+    /// The value, which isn't written where it is the default.
     pub value: T,
 }
 

@@ -16,6 +16,7 @@ use std::alloc::Global;
 /// A value behind a context-specific tag of number `N`, with its own tag inside (X.690 8.14.2).
 #[derive(Debug, Drop)]
 pub struct Explicit<T, const N: u32> {
+    /// The value inside.
     pub value: T,
 }
 
@@ -66,6 +67,7 @@ impl<'a, R: Reader<'a>, T: Decode<'a, R>, const N: u32> DecodeValue<'a, R> for E
 /// A value whose own tag is replaced by a context-specific one of number `N` (X.690 8.14.3).
 #[derive(Debug, Drop)]
 pub struct Implicit<T, const N: u32> {
+    /// The value whose tag is replaced.
     pub value: T,
 }
 
@@ -152,6 +154,7 @@ impl<T: InRangeValue, const N: u32> InRangeValue for Implicit<T, N> {
 /// A value behind a reference, with a context-specific tag of number `N` in place of its own.
 #[derive(Drop)]
 pub struct ImplicitRef<'a, T, const N: u32> {
+    /// The value whose tag is replaced.
     pub value: &'a T,
 }
 

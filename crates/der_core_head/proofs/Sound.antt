@@ -129,7 +129,7 @@ Found V o w v r = V v × (w ≡ o v ++ r)
 abbrev pub Finds : {P : Type 0} → Readings P → (P → Type 0) → (P → List ℕ) → Type 0
 Finds {P} F V o = (w : List ℕ) (v : P) (r : List ℕ) → IsBytes w → Fits w → F w ≡ Ok (v, r) → Found V o w v r
 
--- and no more than so many
+-- what is read of no more than so many values is found
 few_sound : {P : Type 0} (k : ErrorKind) (F : Readings P) (V : P → Type 0) (o : P → List ℕ) → Finds F V o
     → (n : ℕ) (w : List ℕ) (v : List P) (r : List ℕ) → IsBytes w → Fits w → read_many k F n w ≡ Ok (v, r) → Found (λ v. AllByRecursion V v × (length v ≤ n)) (flat_map o) w v r
 unfolding read_many
@@ -161,7 +161,7 @@ exactly_sound {P} F V o each (suc n) w v r bytes fits e =
     subst (λ (q : List P × List ℕ). Found (λ v. AllByRecursion V v × (length v ≡ suc n)) (flat_map o) w q.0 q.1) {x = (x.0.0 ∷ y.0.0, y.0.1)} same
     (((u.0, m.0.0), ap suc m.0.1), joined (o x.0.0) (flat_map o y.0.0) y.0.1 x.0.1 w u.1 m.1)
 
--- and in order behind the octets before
+-- values are in order, the first behind the octets before
 abbrev pub OrderedFrom : {P : Type 0} → Step → (P → List ℕ) → Option (List ℕ) → List P → Type 0
 OrderedFrom how o last [] = ⊤
 OrderedFrom how o None (x ∷ xs) = AllInOrder how o (x ∷ xs)

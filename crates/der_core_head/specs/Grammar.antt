@@ -72,10 +72,11 @@ ordered not_below Less = Ok tt
 ordered not_below Equal = Ok tt
 ordered not_below Greater = Err kinds.SetOrdering
 
+-- whether octets may stand behind others, or which fault it is
 abbrev pub follows : Step → List ℕ → List ℕ → Result (Unit {0}) ErrorKind
 follows how a b = ordered how (slice_cmp nat_cmp a b)
 
--- and the octets before, if any
+-- whether octets may stand behind the last ones, if there are such
 abbrev pub follows_last : Step → Option (List ℕ) → List ℕ → Result (Unit {0}) ErrorKind
 follows_last how None b = Ok tt
 follows_last how (Some a) b = follows how a b

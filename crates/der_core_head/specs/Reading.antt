@@ -60,11 +60,11 @@ past n s = record s { rest = drop n s.rest }
 abbrev pub broken : State → State
 broken s = record s { failed = true }
 
--- with these rules from then on
+-- a reader that reads headers by these rules from then on
 abbrev pub ruled : EncodingRules → State → State
 ruled rules s = record s { source = record { encoding = rules; size = s.source.size } }
 
--- these octets are a rest of those: what is left of them behind so many
+-- octets r are a rest of octets w: what is left of w behind its first n
 abbrev pub IsRest : List ℕ → List ℕ → Type 0
 IsRest r w = (n : ℕ) × (r ≡ drop n w)
 
@@ -132,7 +132,7 @@ entered n s = record {
   source = s.source;
 }
 
--- and k octets are given back
+-- k octets that stand behind the end are given back
 abbrev pub restored : ℕ → Bool → State → State
 restored k failed s =
     record {

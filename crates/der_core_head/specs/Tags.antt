@@ -63,7 +63,7 @@ tag_octets t = leading_octet t ∷ number_octets (number_of t)
 abbrev pub IsTag : Tag → Type 0
 IsTag t = number_of t < 4294967296
 
--- the same octets
+-- whether two tags have the same octets
 abbrev pub same_tag : Tag → Tag → Bool
 same_tag a b = (leading_octet a == leading_octet b) && (number_of a == number_of b)
 

@@ -69,7 +69,9 @@ pub enum ErrorKind {
 /// An error, with the place in the input where it came up, if that is known.
 #[derive(Clone, Copy, Debug, PartialEq, Eq)]
 pub struct Error {
+    /// What is wrong.
     pub kind: ErrorKind,
+    /// The octet of the whole input at which the fault was found.
     pub position: Option<Length>,
 }
 

@@ -8,6 +8,7 @@ use std::fmt;
 /// The number of a tag, from 0 to 2^32 - 1 (X.690 8.1.2).
 #[derive(Clone, Copy, Debug, PartialEq, Eq, PartialOrd, Ord, Hash)]
 pub struct TagNumber {
+    /// The number.
     pub value: u32,
 }
 

@@ -24,7 +24,7 @@ Scans w (Ok (Some x)) = (head_at w ≡ Ok (head_of x.0, drop x.1 w)) × (x.1 ≤
 Scans w (Ok None) = head_at w ≡ Err kinds.Incomplete
 Scans w (Err e) = (head_at w ≡ Err e.kind) × (e.kind ≢ kinds.Incomplete)
 
--- the same answer, the place of an error aside
+-- two answers are alike, the place of an error aside
 abbrev pub AreAlike : {A : Type 0} → Result A Error → Result A Error → Type 0
 AreAlike (Ok x) (Ok y) = x ≡ y
 AreAlike (Err d) (Err e) = d.kind ≡ e.kind

@@ -13,7 +13,9 @@ use der_core_head::{Error, ErrorKind, Length, Tag};
 /// A tag and the number of content octets (X.690 8.1.2, 8.1.3).
 #[derive(Clone, Copy, Debug, PartialEq, Eq)]
 pub struct Header {
+    /// The tag.
     pub tag: Tag,
+    /// How many octets of content stand behind the header.
     pub length: Length,
 }
 

@@ -113,7 +113,7 @@ module _ {R T F : Type 0} (state : R → State) (g : Once F (MutBor R × Unit {0
         → ClosureReads state g f b view → Reads view old new r (value_at (read_content_at old (nested b) t) n)
     nested_reads t b view r ran closes calls = gives t b view n taken old (state outer) new r ran.enough ran.room ran.ready (reads_there b view r ran calls) closes
 
-    -- they were, and octets were left before it
+    -- octets were left before the end
 
     pub left_failed : (r : Result T Error) (e : Error) → Closes taken (is_err r) (state outer) new (Err e) → new.failed ≡ true
     left_failed r e closes = ap (λ (s : State). s.failed) closes.3

@@ -16,7 +16,7 @@ use Rattle.der_core_headers.specs.Fronts.{wanted_at}
 pub rest_then : (a b d : List ℕ) → IsRest b a → IsRest d b → IsRest d a
 rest_then a b d m n = (m.0 + n.0, n.1 ∙ ap (drop n.0) m.1 ∙ drop-drop n.0 m.0 a)
 
--- and so with the same octets behind both
+-- a rest stays one where the same octets stand behind both
 pub rest_more : (n : ℕ) (xs ys : List ℕ) → IsRest (drop n xs ++ ys) (xs ++ ys)
 rest_more zero xs ys = (0, refl)
 rest_more (suc n) [] ys = (0, refl)

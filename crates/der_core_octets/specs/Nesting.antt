@@ -59,7 +59,7 @@ RefusesNested {R} state g f n old e =
     ⊎ (((outer : R) × CalledWithin state g f n old (Err e) outer)
     ⊎ (LeavesOctets state g f n old × (e.kind ≡ kinds.TrailingData))))
 
--- such a header was passed over, and its content
+-- a header of the wanted tag was passed over, and its content
 abbrev pub IsEnclosed : Tag → State → State → Type 0
 IsEnclosed t old new = (n : ℕ) × (mid : State) × Enters t n old mid × IsNested n mid new
 

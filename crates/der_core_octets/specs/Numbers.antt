@@ -14,7 +14,7 @@ signed_number true n = negsuc n
 abbrev pub turn : Bool → ℕ → ℕ
 turn b d = if b then 255 - d else d
 
--- and octets
+-- octets, each with each bit turned, or not
 abbrev pub turned : Bool → List ℕ → List ℕ
 turned false w = w
 turned true w = complement w

@@ -50,7 +50,7 @@ module _ {X : Type 0} (l : Leaf) (t : Tag) (view : X → LeafValue l) (old mid :
   pub leaf_reads : (v : X) → leaf_read l t x ≡ Ok (view v) → Reads view old mid (Ok v) (value_at (read_content_at old (leaf l) t) n)
   leaf_reads v says = (took l t old.room ∙ ap (λ o. o >>= kept mid.rest) says, moved, ready, passed)
 
-  -- and the reader fails where they are refused
+  -- the reader fails where the octets of a leaf are refused
   pub leaf_refuses : (new : State) (e : Error) → new ≡ broken mid → Fails e.kind (leaf_read l t x) → Reads view old new (Err e) (value_at (read_content_at old (leaf l) t) n)
   leaf_refuses new e failed says = (
     λ _ memory. took l t old.room ∙ ap (λ o. o >>= kept mid.rest) (says memory),

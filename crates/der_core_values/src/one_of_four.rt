@@ -28,15 +28,19 @@ pub enum OneOf4<A, B, C, D> {
 }
 
 /// A value of one of five types: of the first three, or `Fourth` one of the others, as
-/// `Fourth(First(d))`. So are those of more types.
+/// `Fourth(First(d))`.
 pub type OneOf5<A, B, C, D, E> = OneOf4<A, B, C, OneOf2<D, E>>;
 
+/// A value of one of six types, the last as `Fourth(Second(Second(f)))`.
 pub type OneOf6<A, B, C, D, E, F> = OneOf4<A, B, C, OneOf3<D, E, F>>;
 
+/// A value of one of seven types, the last as `Fourth(Fourth(g))`.
 pub type OneOf7<A, B, C, D, E, F, G> = OneOf4<A, B, C, OneOf4<D, E, F, G>>;
 
+/// A value of one of eight types, the last as `Fourth(Fourth(Second(h)))`.
 pub type OneOf8<A, B, C, D, E, F, G, H> = OneOf4<A, B, C, OneOf5<D, E, F, G, H>>;
 
+/// A value of one of nine types, the last as `Fourth(Fourth(Second(Second(i))))`.
 pub type OneOf9<A, B, C, D, E, F, G, H, I> = OneOf4<A, B, C, OneOf6<D, E, F, G, H, I>>;
 
 impl<A: Shaped, B: Shaped, C: Shaped, D: Shaped> Shaped for OneOf4<A, B, C, D> {

@@ -39,7 +39,7 @@ pub as_err : (rules : EncodingRules) (t : Tag) (c : Content) (a : AnyValue) (k :
     → Fails k (value_at (read_content_by rules c a.tag 64) (length a.contents) a.contents) → Fails k (content_by rules t c a)
 as_err rules t c a k e h = λ memory. as_is rules t c a e ∙ ap alone (h memory)
 
--- the same of a reader that holds that content, behind its header
+-- what a reader of the content, behind its header, reads is what any value is read as
 pub read_ok : (rules : EncodingRules) (t : Tag) (c : Content) (a : AnyValue) (v : ContentValue c) (r : List ℕ) (by : EncodingRules) (tag : Tag) (n room : ℕ) (w : List ℕ)
     → by ≡ rules → tag ≡ a.tag → n ≡ length a.contents → room ≡ 64 → w ≡ a.contents
     → same_tag a.tag t ≡ true → value_at (read_content_by by c tag room) n w ≡ Ok (v, r) → content_by rules t c a ≡ Ok v

@@ -14,17 +14,18 @@ use Rattle.der_core_head.specs.Writing.{write_content}
 use Rattle.der_core_head.specs.Fronts.{alone}
 use Rattle.der_types_numbers.specs.Numbers.{counted}
 
--- the value by those rules, if the tag is that of the type, or the fault
+-- the value of a type that any value is read as by given rules, where the tag is that of the type,
+-- or the fault
 unfoldable pub content_by : EncodingRules → Tag → (c : Content) → AnyValue
     → Result (ContentValue c) ErrorKind
 content_by rules t c a = if same_tag a.tag t
     then alone (read_content_by rules c a.tag 64 a.contents >>= whole) else Err kinds.TagUnexpected
 
--- and by DER
+-- the value of a type that any value is read as by DER, or the fault
 abbrev pub content_as : Tag → (c : Content) → AnyValue → Result (ContentValue c) ErrorKind
 content_as t c a = content_by encodings.Der t c a
 
--- the same of a type whose content is no list of values
+-- the value of a type whose content is no list of values, or the fault
 unfoldable pub leaf_as : Tag → (l : Leaf) → AnyValue → Result (LeafValue l) ErrorKind
 leaf_as t l a = if same_tag a.tag t then leaf_read l a.tag a.contents else Err kinds.TagUnexpected
 

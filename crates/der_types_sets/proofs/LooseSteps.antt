@@ -96,7 +96,7 @@ many_again s t old n v element apart enough der le loose =
     sym (as_der (many s) t old n der)
     ∙ value_is F n old.rest loose.spelled le (ap F loose.octets_are ∙ complete_content (nested (many s)) t old.room loose.spelled (both_true element apart) enough loose.valid)
 
--- and has one ascending arrangement
+-- a list of values has one ascending arrangement
 pub one_set : (s : Shape) (v w : List (Value s)) → is_element s ≡ true → is_apart s ≡ true → AllValid s (λ x. x) v → Ascends s (λ x. x) v → Ascends s (λ x. x) w → IsPermutation v w → v ≡ w
 unfolding IsBody body_octets
 one_set s v w element apart valid asc other same =
@@ -113,7 +113,7 @@ module _ {A : Type 0} (s : Shape) (written plain : A → Value s) (agree : (x : 
   pub not_too_long : (read : List A) (e : Error) → TooLong s written read e → AllValid s (λ v. v) (plain_list plain read) → ⊥
   not_too_long read e long valid = long.some (subst (λ (f : A → Value s). AllValid s f read) (sym views) (valid-plain s plain read valid))
 
-  -- and so it is refused by BER alone
+  -- a set with a member that is too long is refused by BER alone
   pub by_ber : (old : State) (read : List A) (e : Error) (r : Result (List (Value s) × List ℕ) ErrorKind) → TooLong s written read e → (IsDer old → AllValid s (λ v. v) (plain_list plain read)) → Fails e.kind r ⊎ (IsBer old × TooLong s written read e)
   by_ber old read e r long valid = go old.source.encoding refl
     where
@@ -131,7 +131,7 @@ module _ {A : Type 0} (s : Shape) (written plain : A → Value s) (agree : (x : 
   pub spells_loosely : (b : List ℕ) (read set : List A) → Spells (tagged tags.Set (nested (many s))) (plain_list plain read) b → IsPermutation read set → Ascends s written set → SpellsLoosely s (plain_list plain set) b
   spells_loosely b read set h same asc = record { spelled = plain_list plain read; spells = h; same = permutation-plain plain read set same; ascend = set_ascends set asc }
 
-  -- and no other list of members is spelled so
+  -- no other list of members is spelled by the octets
   pub only_set : (spelled v : List (Value s)) (read set : List A) → is_element s ≡ true → is_apart s ≡ true → AllValid s (λ x. x) spelled → IsPermutation spelled v → Ascends s (λ x. x) v
       → spelled ≡ plain_list plain read → IsPermutation read set → Ascends s written set → v ≡ plain_list plain set
   only_set spelled v read set element apart valid moved asc is same ascend =

@@ -74,13 +74,14 @@ pub record HasFalling (s : Shape) (v : List (Value s)) (k : ErrorKind) : Type 0 
   pub here : slice_get v index ≡ Some value
   pub refused : write s value (record { written = []; room = None; failed = false }) ≡ Err k
 
--- The values were not written: for want of memory, since one of them has such a set, or since a
--- length passes what a length can count.
+-- The values were not written: for want of memory, since one of them has a strict set that doesn't
+-- rise, or since a length passes what a length can count.
 abbrev pub IsUnwritten : (s : Shape) → List (Value s) → Error → Type 0
 IsUnwritten s v e = (IsWantOfMemory e ⊎ HasFalling s v e.kind)
     ⊎ ((e.kind ≡ kinds.Overflow) × (size_body (many s) v ≡ Err kinds.Overflow))
 
--- There was no memory, or one of the values of two lists has such a set.
+-- There was no memory, or one of the values of two lists has a strict
+-- set that doesn't rise.
 abbrev pub IsUncompared : (s : Shape) → List (Value s) → List (Value s) → Error → Type 0
 IsUncompared s v w e = IsWantOfMemory e ⊎ (HasFalling s v e.kind ⊎ HasFalling s w e.kind)
 

@@ -55,7 +55,7 @@ pub record SpellsLoosely (s : Shape) (members : List (Value s)) (octets : List �
 abbrev pub Behind : {A : Type 0} (s : Shape) → (A → Value s) → List A → A → ℕ → Type 0
 Behind {A} s f xs x i = (y : A) (k : ℕ) → i ≡ suc k → y ≡ slice_index_or xs k y → NotAbove s f y x
 
--- and x is below what stands there
+-- x is below what stands at the place i
 abbrev pub Before : {A : Type 0} (s : Shape) → (A → Value s) → List A → A → ℕ → Type 0
 Before {A} s f xs x i = (y : A) → i < length xs → y ≡ slice_index_or xs i y → IsBelow s f x y
 

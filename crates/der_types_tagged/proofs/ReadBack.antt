@@ -57,7 +57,7 @@ unfolding opt_at tag_at
 other_absent t u c room [] r e other = absurd cc
 other_absent t u c room (b ∷ w) r e other = rw (e, other) refl
 
--- and where nothing stands
+-- an optional field is absent where nothing stands
 pub end_absent : (t : Tag) (c : Content) (room : ℕ) → read (optional (tagged t c)) room [] ≡ Ok (None, [])
 unfolding opt_at
 end_absent t c room = refl

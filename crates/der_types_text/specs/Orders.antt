@@ -12,7 +12,7 @@ use Rattle.der_core.specs.Orders.{contents_cmp}
 use Rattle.der_core.specs.OrdLaws.{octets_order}
 use Rattle.der_core.proofs.OrderLaws.{then_equal}
 
--- it is that of their contents, whatever their lengths
+-- the order of texts is that of their contents of one length
 pub borrowed_order : (r : Repertoire) (v w : List ℕ) → IsContent (leaf (text r)) v
     → IsContent (leaf (text r)) w
     → length (contents (leaf (text r)) v) ≡ length (contents (leaf (text r)) w)

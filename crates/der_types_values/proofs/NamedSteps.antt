@@ -63,7 +63,7 @@ named_long names t u w few bytes long ends = by (nat_lt (spelled_set w) (2 ^ nam
         let short = set_octets-short 8 (spelled_set w) (omega arith) in
         absurd (omega (arith, ap (λ (x : List ℕ). length x) same))
 
--- the same of a content
+-- a content of more than eight octets is no set of up to 64 names
 pub content_long : (names : ℕ) (t : Tag) (w : List ℕ) → 0 < length w → names ≤ 64 → IsBytes w → 8 < length (take (length w - 1) (drop 1 w))
     → ends_in_one (get_or w 0 0) (take (length w - 1) (drop 1 w)) ≡ true → named_read names t w ≡ Err (kinds.Value t)
 content_long names t [] some few bytes long ends = absurd (omega arith)

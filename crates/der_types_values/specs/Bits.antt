@@ -12,6 +12,6 @@ bit_at w i = (get_or w (i / 8) 0 / 2 ^ (7 - i % 8)) % 2 == 1
 abbrev pub bit_count : Bits → ℕ
 bit_count b = 8 * length b.octets - b.unused
 
--- those bits, in order
+-- the bits that count, in order
 abbrev pub bit_list : Bits → List Bool
 bit_list b = map (bit_at b.octets) (range_with_len 0 (bit_count b))

@@ -44,6 +44,7 @@ pub trait NamedBits: Flags + Copy {
 /// A set of named bits: a BIT STRING whose last bit is one (X.680 22.7; X.690 11.2.2).
 #[derive(Debug)]
 pub struct FlagSet<F: NamedBits> {
+    /// The bits, of which each has a name.
     pub flags: F,
     ghost named: { F.set_of flags < 2 ^ F.names },
 }

@@ -78,7 +78,7 @@ device_extensions names subject issuer_key = authority_key_extension issuer_key
 abbrev pub device_names : DevId → Option (List PlainGeneralName)
 device_names d = plain_option (λ v. plain_list general_name_plain v.0.items) d.subject_alt_name
 
--- they have no encoding, as where a length passes 2^32 - 1
+-- alternative names have no encoding, as where a length passes 2^32 - 1
 abbrev pub IsUnnameable : Option (List PlainGeneralName) → Type 0
 IsUnnameable None = ⊥
 IsUnnameable (Some names) = IsValid (sequence_of (general_name Bound)) names → ⊥

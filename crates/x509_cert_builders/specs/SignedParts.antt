@@ -33,7 +33,8 @@ fields_of t = record {
 abbrev pub version_of : Bool → ℤ
 version_of third = if third then pos 2 else pos 0
 
--- these fields, with a version, an algorithm and extensions; without unique identifiers (4.1.2.8)
+-- the signed part of some fields, with a version, an algorithm and extensions, and without unique
+-- identifiers (4.1.2.8)
 abbrev pub tbs_of : Bool → PlainFields → Algorithm → Option (List PlainExtension) → Tbs
 tbs_of third f a extensions = (
   version_of third,

@@ -50,8 +50,8 @@ authority_key = sequence (authority_key_identifier_fields Bound)
 abbrev pub authority_key_arcs : List ℕ
 authority_key_arcs = 2 ∷ 5 ∷ 29 ∷ 35 ∷ []
 
--- that of a certificate, where it has one, or else the identifier of the certified key alone: the
--- SHA-1 digest of its octets (4.2.1.2)
+-- the authority key identifier of a certificate, where it has one, or else the identifier of the
+-- certified key alone: the SHA-1 digest of its octets (4.2.1.2)
 abbrev pub given_or_made : PublicKey → Option (Bool × PlainAuthority) → PlainAuthority
 given_or_made k None = (Some (sha1 (key_bits k).octets), (None, (None, tt)))
 given_or_made k (Some found) = found.1

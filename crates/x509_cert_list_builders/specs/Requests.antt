@@ -43,7 +43,7 @@ request_of subject extensions attributes key = (
   (subject, (key, (with_request (extension_req_attribute Bound extensions) attributes, tt))),
 )
 
--- there is no such attribute, or it has no encoding, as where it has 2^32 octets or more
+-- an attribute can't be made, or has no encoding, as where it has 2^32 octets or more
 abbrev pub HasNoAttribute : Result PlainAttribute ErrorKind → Error → Type 0
 HasNoAttribute (Err kind) e = IsOfKind kind e
 HasNoAttribute (Ok a) e = IsUnwritten (attribute Bound) a e

@@ -16,14 +16,14 @@ signed_fields s = field s (field (algorithm_identifier Bound) (field bit_string 
 abbrev pub whole_octets : (s : Shape) → BodyValue (signed_fields s) → List ℕ
 whole_octets s v = octets_of (sequence (signed_fields s)) v
 
--- What is signed stands in them behind the outer header,
+-- where in the octets of the whole the signed part begins: behind the outer header
 unfoldable pub signed_start : (s : Shape) → BodyValue (signed_fields s) → ℕ
 signed_start s v = length (head_octets tags.Sequence (length (body_octets (signed_fields s) v)))
 
--- and has so many octets.
+-- how many octets the signed part has
 unfoldable pub signed_length : (s : Shape) → BodyValue (signed_fields s) → ℕ
 signed_length s v = length (octets_of s v.0)
 
--- the octets at that place
+-- the octets at the place of the signed part
 abbrev pub octets_in_place : (s : Shape) → BodyValue (signed_fields s) → List ℕ
 octets_in_place s v = take (signed_length s v) (drop (signed_start s v) (whole_octets s v))

@@ -53,7 +53,7 @@ named_types =
     ∷ once email_address (codes "emailAddress")
     ∷ []
 
--- the same letters, capital or small
+-- whether a key has the letters of a name, capital or small
 abbrev pub is_name : List ℕ → List ℕ → Bool
 is_name key name = pointwise nat_eq (map to_ascii_lowercase name) (map to_ascii_lowercase key)
 

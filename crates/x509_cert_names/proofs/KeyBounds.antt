@@ -61,7 +61,7 @@ key_below bound lt key arcs e = by (type_named key) refl e
     by (Some t) f g = let same : t.arcs ≡ arcs = cc g in subst (ArcsBelow bound) same (type_below bound lt key t f)
     by None f g = all_below bound arcs (omega (arith, lt)) (text_sound bound 39 key arcs (dotted bound key arcs g)).1
 
--- and the same arcs under another bound that they are below
+-- arcs that are below another bound are an identifier under it, too
 
 within : (one other : ℕ) (arcs : List ℕ) → IsIdentifier one arcs → ArcsBelow other arcs → IsIdentifier other arcs
 unfolding IsIdentifier

@@ -20,14 +20,14 @@ directory_plain (strings.TeletexString t) = inr (inl t)
 directory_plain (strings.Utf8String t) = inr (inr (inl (string_bytes t)))
 directory_plain (strings.BmpString t) = inr (inr (inr t))
 
--- the octets of its text, where they are those of UTF-8
+-- the octets of the text of a DirectoryString, where they are those of UTF-8
 abbrev pub directory_text : DirectoryString → List ℕ
 directory_text (strings.PrintableString t) = t
 directory_text (strings.TeletexString t) = t
 directory_text (strings.Utf8String t) = string_bytes t
 directory_text (strings.BmpString t) = []
 
--- its text in UTF-8
+-- the text of a DirectoryString, in UTF-8
 abbrev pub directory_utf8 : DirectoryString → List ℕ
 directory_utf8 (strings.PrintableString t) = t
 directory_utf8 (strings.TeletexString t) = t

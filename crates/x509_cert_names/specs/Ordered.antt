@@ -6,11 +6,11 @@ use Rattle.x509_cert_names.specs.Names.{type_and_value}
 use Rattle.x509_cert_names.specs.Pairs.{pair_plain, same_pair}
 use Rattle.x509_cert_names.specs.declared.attribute_type_and_value.AttributeTypeAndValue.{AttributeTypeAndValue}
 
--- they ascend, and none stands twice
+-- attributes ascend, and none stands twice
 abbrev pub IsOrdered : ℕ → List AttributeTypeAndValue → Type 0
 IsOrdered bound r = IsDistinct same_pair r × Ascends (type_and_value bound) pair_plain r
 
--- each differs from the next one
+-- each attribute differs from the next one
 abbrev pub DifferInTurn : List AttributeTypeAndValue → Type 0
 DifferInTurn [] = ⊤
 DifferInTurn (a ∷ []) = ⊤

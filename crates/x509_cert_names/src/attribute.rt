@@ -19,9 +19,9 @@ use std::alloc::{AllocError, Global};
 /// ```
 #[derive(Debug, Drop, PartialEq, Eq)]
 pub struct Attribute {
-    /// What it is of.
+    /// The type.
     pub oid: AttributeType,
-    /// Its values.
+    /// The values, in the order of their encodings.
     pub values: StrictSetOf<AttributeValue>,
 }
 

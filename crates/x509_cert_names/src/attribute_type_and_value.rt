@@ -45,9 +45,9 @@ pub type AttributeValue = Any;
 /// ```
 #[derive(Debug, Drop, PartialOrd, Ord)]
 pub struct AttributeTypeAndValue {
-    /// What it is of.
+    /// The type.
     pub oid: AttributeType,
-    /// Its value.
+    /// The value, as it stands.
     pub value: AttributeValue,
 }
 

@@ -44,7 +44,7 @@ abbrev pub with_first : Option (PlainExtension × List PlainExtension) → List 
 with_first None = []
 with_first (Some (e, left)) = e ∷ left
 
--- those of a field; where it is absent there are none
+-- the extensions of a field; where it is absent there are none
 abbrev pub listed : Option (List PlainExtension) → List PlainExtension
 listed None = []
 listed (Some es) = es

@@ -11,15 +11,15 @@ use Rattle.x509_cert_timestamps.specs.Forms.{vector, octets, IsValue, Spells, Re
 abbrev pub sct_data : SerializedSct → List ℕ
 sct_data s = s.data.items
 
--- one that a list can hold
+-- a timestamp that a list can hold
 abbrev pub IsMember : SerializedSct → Type 0
 IsMember s = IsValue vector s.data.items
 
--- the octets that spell one
+-- the octets that spell a timestamp of a list
 abbrev pub sct_octets : SerializedSct → List ℕ
 sct_octets s = octets vector s.data.items
 
--- those that a list can hold: each has a spelling, and all of them together fit a vector
+-- timestamps that a list can hold: each has a spelling, and all of them together fit a vector
 pub record AreListed (scts : List SerializedSct) : Type 0 where
   pub each : All IsMember scts
   pub together : IsValue vector (flat_map sct_octets scts)

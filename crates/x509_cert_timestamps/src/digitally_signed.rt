@@ -18,7 +18,7 @@ use std::alloc::Global;
 /// ```
 #[derive(Debug, Drop, PartialEq)]
 pub struct DigitallySigned {
-    /// Its hash and its algorithm.
+    /// The hash and the algorithm.
     pub algorithm: SignatureAndHashAlgorithm,
     /// The octets of the signature.
     pub signature: Vec<u8>,
