@@ -1,5 +1,6 @@
 //! Values of the types of ASN.1 (X.680, X.690).
 
+pub use const_oid::ObjectIdentifier;
 pub use der_types_any::{Any, AnyRef};
 pub use der_types_numbers::{AsIntRef, AsUintRef, Int, IntRef, Uint, UintRef};
 pub use der_types_sets::{
