@@ -21,7 +21,8 @@ import sources
 WIDTH = 100
 KINDS = ("clauses", "code", "definitions", "proofs", "comments")
 LEANING = re.compile(
-    r"^\s*(///|//|--) (the same|it|its|they|likewise|as above|so does|and|such an?)\b", re.IGNORECASE
+    r"^\s*(///|//|--) (the same|it|its|they|likewise|as above|so does|and|such an?)\b",
+    re.IGNORECASE,
 )
 COMMENT = re.compile(r"^\s*(///|//|--)")
 KEPT = re.compile(r"\s*((ghost |pub |unfoldable |abbrev )*use |#!?\[|//[/!]? \|)")
