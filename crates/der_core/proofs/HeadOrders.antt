@@ -20,7 +20,7 @@ use Rattle.der_core_head.proofs.TagLaws.{tag_again}
 use Rattle.der_core_head.proofs.LengthForms.{length-short, length-long}
 use Rattle.der_core_head.proofs.HeadLaws.{length_again, split-tlv}
 use Rattle.der_core.specs.Orders.{octets_cmp}
-use Rattle.der_core.proofs.OrderLaws.{then_assoc, then_equal, octets_cmp-self, octets_cmp-equal, Splits, octets_cmp-append, splits_append, splits_free}
+use Rattle.der_core.proofs.OrderLaws.{then_assoc, then_equal, octets_cmp-equal, Splits, octets_cmp-append, splits_append, splits_free}
 
 -- one digit more
 push_cmp : (base m n d e : ℕ) → d < base → e < base → nat_cmp (m * base + d) (n * base + e) ≡ ordering_then (nat_cmp m n) (nat_cmp d e)
@@ -140,8 +140,3 @@ unfolding tlv
 tlv_cmp a b c d p q i j =
     octets_cmp-append (head_octets a (length c)) (head_octets b (length d)) c d (head_splits a b (length c) (length d) p q i j)
     ∙ rw (head_cmp a b (length c) (length d) p q, length_octets_cmp (length c) (length d)) (then_assoc (octets_cmp (tag_octets a) (tag_octets b)) (nat_cmp (length c) (length d)) (octets_cmp c d))
-
--- of one tag
-pub tlv_cmp-tag : (t : Tag) (c d : List ℕ) → IsTag t → Fits c → Fits d
-    → octets_cmp (tlv t c) (tlv t d) ≡ ordering_then (nat_cmp (length c) (length d)) (octets_cmp c d)
-tlv_cmp-tag t c d p i j = rw (tlv_cmp t t c d p p i j, octets_cmp-self (tag_octets t)) refl

@@ -1,9 +1,9 @@
 -- The order of the encodings of a shape, by its parts.
-use Rattle.std.proofs.Common.{◌≡◌, ℕ, Bool, true, false, List, [], ◌∷◌, ◌++◌, length, Option, Some, None, refl, sym, ap, subst, ◌∙◌, append_assoc, arith, inl, inr}
+use Rattle.std.proofs.Common.{◌≡◌, ℕ, Bool, true, false, List, [], ◌∷◌, ◌++◌, Option, Some, None, refl, sym, ap, subst, ◌∙◌, append_assoc, arith, inl, inr}
 use Rattle.std.specs.Prelude.{◌≢◌}
 use Rattle.std.specs.List.{flat_map, AllByRecursion}
 use Rattle.std.specs.Str.{bytes_eq}
-use Rattle.std.specs.Ordering.{nat_cmp, ordering_then}
+use Rattle.std.specs.Ordering.{ordering_then}
 use Rattle.std.specs.declared.cmp.Ordering.TheVariants.{Less, Equal}
 use Rattle.std.specs.Cmp.Lexicographic.{slice_cmp}
 use Rattle.std.proofs.lemmas.Bool.{and_parts, or_cases, false≢true}
@@ -11,21 +11,14 @@ use Rattle.std.proofs.lemmas.Bool.Decides.{nat_tests}
 use Rattle.der_core_head.specs.declared.tag.Tag.{Tag}
 use Rattle.der_core_head.specs.Tags.{IsTag, tag_octets}
 use Rattle.der_core_head.specs.Heads.{Fits, tlv}
-use Rattle.der_core_head.specs.Shapes.{Shape, Content, Body, tagged, any, either, optional, defaulted, nothing, field, Value, ContentValue, BodyValue, octets_of, contents, body_octets, unless, IsValid, IsBody, begins}
+use Rattle.der_core_head.specs.Shapes.{Shape, Body, tagged, any, either, optional, defaulted, nothing, field, Value, BodyValue, octets_of, contents, body_octets, unless, IsValid, IsBody, begins}
 use Rattle.der_core_head.specs.Spelling.{is_apart, is_body_apart, is_element, is_clear, is_end, none_of, body_begins}
 use Rattle.der_core_head.proofs.Fits.{fits_contents}
 use Rattle.der_core_head.proofs.TagLaws.{tag_octets-some}
 use Rattle.der_core_head.proofs.Complete.{element_some, not_begins, end_empty}
-use Rattle.der_core.specs.Orders.{octets_cmp, encodings_cmp, contents_cmp, bodies_cmp, StartsWith, next_cmp}
+use Rattle.der_core.specs.Orders.{octets_cmp, encodings_cmp, bodies_cmp, StartsWith, next_cmp}
 use Rattle.der_core.proofs.OrderLaws.{then_first, octets_cmp-append, Splits}
-use Rattle.der_core.proofs.HeadOrders.{tag_splits, tag_cmp-equal, tlv_splits, tlv_cmp-tag}
-
--- One tag
-
-pub tagged_cmp : (t : Tag) (c : Content) (v w : ContentValue c) → IsValid (tagged t c) v → IsValid (tagged t c) w
-    → encodings_cmp (tagged t c) v w ≡ ordering_then (nat_cmp (length (contents c v)) (length (contents c w))) (contents_cmp c v w)
-unfolding octets_of IsValid
-tagged_cmp t c v w p q = tlv_cmp-tag t (contents c v) (contents c w) p.1 (fits_contents t (contents c v) p.2) (fits_contents t (contents c w) q.2)
+use Rattle.der_core.proofs.HeadOrders.{tag_splits, tag_cmp-equal, tlv_splits}
 
 -- No encoding begins another
 

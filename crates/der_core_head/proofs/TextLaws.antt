@@ -4,7 +4,6 @@ use Rattle.std.proofs.Common.{◌≡◌, ℕ, zero, suc, ◌<◌, Bool, true, re
 use Rattle.std.specs.Prelude.{◌==◌, nat_lt}
 use Rattle.std.specs.List.{list_all, list_any}
 use Rattle.std.specs.Char.{is_ascii_alphanumeric}
-use Rattle.std.specs.Int.{is_in_range}
 use Rattle.std.specs.Str.{is_utf8, IsAscii}
 use Rattle.std.proofs.lemmas.Bool.{cond-true, and_parts, or_cases, false≢true}
 use Rattle.der_core_head.specs.declared.error.ErrorKind.TheVariants as kinds
@@ -38,9 +37,6 @@ utf8_again v h = cond-true (is_utf8 v) (fine v) (Err kinds.Utf8) h.utf8
 signs_below : (n b : ℕ) (cs : List ℕ) → list_all (λ c. nat_lt c n) cs ≡ true → list_any (λ c. c == b) cs ≡ true → b < n
 signs_below n b [] below e = absurd (false≢true e)
 signs_below n b (c ∷ cs) below e = grind (arith, nat_tests, signs_below n b cs)
-
-range_below : (n lo hi b : ℕ) → hi < n → is_in_range lo hi b ≡ true → b < n
-range_below n lo hi b l e = grind (arith, nat_tests)
 
 pub printable_below : (b : ℕ) → is_within printable b ≡ true → b < 128
 printable_below b e =

@@ -2,7 +2,7 @@
 use Rattle.std.proofs.lemmas.Bool.Decides.{nat_tests}
 use Rattle.std.proofs.Common.{◌≡◌, ℕ, ◌+◌, ◌<◌, Bool, true, false, List, [], ◌∷◌, ◌++◌, length, Some, None, Result, Ok, Err, refl, sym, ap, ◌∙◌, append_assoc, arith, inl, inr, ◌-◌, Option}
 use Rattle.std.specs.Prelude.{nat_lt, if◌then◌else◌}
-use Rattle.std.proofs.lemmas.Bool.{le-ltb, lt-ltb}
+use Rattle.std.proofs.lemmas.Bool.{le-ltb}
 use Rattle.std.proofs.lemmas.List.{append-nil, length-append}
 use Rattle.std.specs.List.{flat_map, AllByRecursion}
 use Rattle.std.specs.Str.{bytes_eq}
@@ -17,7 +17,7 @@ use Rattle.der_core_head.specs.Shapes.{Step, Shape, Content, Body, tagged, any, 
 use Rattle.der_core_head.specs.Octets.{◌>>=◌, IsOctets}
 use Rattle.der_core_head.specs.Ranges.{IsInRange, IsContentInRange, IsBodyInRange}
 use Rattle.der_core_head.specs.Reading.{Gives}
-use Rattle.der_core_head.specs.Writing.{Out, put, put_head, head_len, sum_len, fit_len, tlv_len, both_len, many_len, default_len, size, size_content, size_body, write_tlv, write_many, all_follow, write_in_order, default_write, write, write_content, write_body}
+use Rattle.der_core_head.specs.Writing.{Out, put, put_head, head_len, fit_len, tlv_len, both_len, many_len, default_len, size, size_content, size_body, write_tlv, write_many, all_follow, write_in_order, default_write, write, write_content, write_body}
 use Rattle.der_core_head.proofs.Results.{ok_is}
 use Rattle.der_core_head.proofs.Fits.{fits_contents, valid_fits}
 use Rattle.der_core_head.proofs.InOrder.{follows_ok}
@@ -33,15 +33,8 @@ count n = if nat_lt length_max n then Err kinds.Overflow else Ok n
 pub count_ok : (n : ℕ) → IsLength n → count n ≡ Ok n
 count_ok n h = rw (le-ltb length_max n (omega arith)) refl
 
-pub count_err : (n : ℕ) → length_max < n → count n ≡ Err kinds.Overflow
-count_err n h = rw (lt-ltb length_max n h) refl
-
 pub count_is : (m n : ℕ) → count m ≡ Ok n → (m ≡ n) × IsLength n
 count_is m n e = grind (arith, nat_tests)
-
--- what can't be counted can't be with more before it
-sum_counted : (m n : ℕ) (f : ℕ → Result ℕ ErrorKind) → (count n >>= λ n. sum_len m n >>= f) ≡ (count (m + n) >>= f)
-sum_counted m n f = grind (arith, nat_tests)
 
 tlv_counted : (t : Tag) (c : List ℕ) → tlv_len t (count (length c)) ≡ count (length (tlv t c))
 unfolding tlv_len head_len tlv
