@@ -1,111 +1,114 @@
--- Equality of a record, of a list and of what may be absent is of plain values where that of their parts is.
-use Rattle.std.proofs.Common.{◌≡◌, ℕ, List, [], ◌∷◌, ◌++◌, Bool, true, Option, None, Some, refl, ap, subst}
-use Rattle.std.specs.Prelude.{nat_eq, ◌&&◌, flat_map}
+-- Two values are alike where what `==` says of them is of their plain values: of those of a record, of a list and of what may be absent it is where it is of their parts.
+use Rattle.std.proofs.Common.{◌≡◌, ℕ, pos, List, [], ◌∷◌, ◌++◌, Bool, true, false, Option, None, Some, refl, ap, subst, inl, inr, arith}
+use Rattle.std.specs.Prelude.{nat_eq, ◌&&◌}
+use Rattle.std.specs.Bool.{beq}
 use Rattle.std.specs.Cmp.{first_so, second_so}
 use Rattle.std.specs.Cmp.Lexicographic.{pointwise, bytes_decides}
 use Rattle.std.specs.Option.{option_eq}
+use Rattle.der_core.specs.Equality.{IsOfValues}
 use Rattle.der_core_head.specs.Grammar.{plain_list, plain_option}
 use Rattle.der_core_head.specs.Heads.{tlv}
-use Rattle.der_core_head.specs.Shapes.{Shape, Content, Body, Value, ContentValue, BodyValue, Step, tagged, optional, defaulted, nested, done, field, only, many, in_order, octets_of, contents, body_octets}
+use Rattle.der_core_head.specs.Integers.{Numbers}
+use Rattle.der_core_head.specs.Leaves.{Leaf, LeafValue, boolean, integer, leaf_contents, named}
+use Rattle.der_core_head.specs.Shapes.{Shape, Body, Value, BodyValue, Step, leaf, tagged, either, optional, defaulted, nested, done, field, only, many, in_order, octets_of, contents, body_octets}
 use Rattle.der_core_head.specs.declared.tag.Tag.{Tag}
-use Rattle.der_core.specs.Equality.{IsOfValues}
 
--- of values that are told by a key of theirs
-pub by_key : {T V : Type 0} (key : V → List ℕ) (plain : T → V) (octets : V → List ℕ) → ((v w : V) → key v ≡ key w → octets v ≡ octets w)
-    → IsOfValues (λ x y. pointwise nat_eq (key (plain x)) (key (plain y))) plain octets
-by_key key plain octets tells = record {
-  encoding = λ x y e. tells (plain x) (plain y) ((bytes_decides (key (plain x)) (key (plain y))).0 e);
-  itself = λ x y e. (bytes_decides (key (plain x)) (key (plain y))).1 (ap key e);
+pub record Alike (s : Shape) (e : Bool) (v w : Value s) : Type 0 where
+  pub encoding : e ≡ true → octets_of s v ≡ octets_of s w
+  pub itself : v ≡ w → e ≡ true
+
+pub record AlikeWithin (b : Body) (e : Bool) (v w : BodyValue b) : Type 0 where
+  pub encoding : e ≡ true → body_octets b v ≡ body_octets b w
+  pub itself : v ≡ w → e ≡ true
+
+-- all of a type
+pub all_alike : {s : Shape} {T : Type 0} {eq : T → T → Bool} {plain : T → Value s} → ((x y : T) → Alike s (eq x y) (plain x) (plain y)) → IsOfValues eq plain (octets_of s)
+all_alike h = record { encoding = λ x y. (h x y).encoding; itself = λ x y. (h x y).itself }
+
+pub each : {s : Shape} {T : Type 0} {eq : T → T → Bool} {plain : T → Value s} → IsOfValues eq plain (octets_of s) → (x y : T) → Alike s (eq x y) (plain x) (plain y)
+each h x y = record { encoding = h.encoding x y; itself = h.itself x y }
+
+-- what `==` tells exactly
+pub exact : {s : Shape} {e : Bool} {v w : Value s} → (e ≡ true → v ≡ w) → (v ≡ w → e ≡ true) → Alike s e v w
+exact {s} one itself = record { encoding = λ o. ap (octets_of s) (one o); itself = itself }
+
+-- leaves told by their contents, numbers, named bits, and whether something is so
+pub leaves : {t : Tag} {l : Leaf} {v w : LeafValue l} → Alike (tagged t (leaf l)) (pointwise nat_eq (leaf_contents l v) (leaf_contents l w)) v w
+unfolding octets_of contents
+leaves {t} {l} {v} {w} = record { encoding = λ e. ap (tlv t) ((bytes_decides (leaf_contents l v) (leaf_contents l w)).0 e); itself = λ e. (bytes_decides (leaf_contents l v) (leaf_contents l w)).1 (ap (leaf_contents l) e) }
+
+pub numbers : {t : Tag} {r : Numbers} {n m : ℕ} → Alike (tagged t (leaf (integer r))) (nat_eq n m) (pos n) (pos m)
+numbers = exact (λ e. ap pos (grind (arith, e))) (λ e. grind (arith, e))
+
+pub named_bits : {t : Tag} {k n m : ℕ} → Alike (tagged t (leaf (named k))) (nat_eq n m) n m
+named_bits = exact (λ e. grind (arith, e)) (λ e. grind (arith, e))
+
+pub flags : {t : Tag} (a b : Bool) → Alike (tagged t (leaf boolean)) (beq a b) a b
+flags true true = exact (λ e. refl) (λ e. refl)
+flags false false = exact (λ e. refl) (λ e. refl)
+flags a b = exact (λ e. absurd cc) (λ e. absurd cc)
+
+-- values within
+pub behind : {t : Tag} {b : Body} {e : Bool} {v w : BodyValue b} → AlikeWithin b e v w → Alike (tagged t (nested b)) e v w
+unfolding octets_of contents
+behind {t} h = record { encoding = λ o. ap (tlv t) (h.encoding o); itself = h.itself }
+
+pub alone : {s : Shape} {e : Bool} {v w : Value s} → Alike s e v w → AlikeWithin (only s) e v w
+unfolding body_octets
+alone h = record { encoding = h.encoding; itself = h.itself }
+
+pub default : {s : Shape} {d : List ℕ} {e : Bool} {v w : Value s} → Alike s e v w → Alike (defaulted s d) e v w
+unfolding octets_of
+default h = record { encoding = λ o. rw (h.encoding o) refl; itself = h.itself }
+
+pub next : {s : Shape} {b : Body} {e f : Bool} {v w : BodyValue (field s b)} → Alike s e v.0 w.0 → AlikeWithin b f v.1 w.1 → AlikeWithin (field s b) (e && f) v w
+unfolding body_octets
+next {e = e} {f = f} h k = record {
+  encoding = λ o. rw (h.encoding (first_so e f o), k.encoding (second_so e f o)) refl;
+  itself = λ o. rw (h.itself (ap (λ p. p.0) o), k.itself (ap (λ p. p.1) o)) refl;
 }
 
--- of values of which `==` says whether they are one
-pub exact : {T V : Type 0} {eq : T → T → Bool} {plain : T → V} (octets : V → List ℕ) → ((x y : T) → eq x y ≡ true → plain x ≡ plain y)
-    → ((x y : T) → plain x ≡ plain y → eq x y ≡ true) → IsOfValues eq plain octets
-exact octets one itself = record { encoding = λ x y e. ap octets (one x y e); itself = itself }
+pub last : {s : Shape} {e : Bool} {v w : BodyValue (field s done)} → Alike s e v.0 w.0 → AlikeWithin (field s done) e v w
+unfolding body_octets
+last h = record { encoding = λ o. ap (λ r. r ++ []) (h.encoding o); itself = λ o. h.itself (ap (λ p. p.0) o) }
 
--- of a part
-pub at_part : {S T V : Type 0} {eq : T → T → Bool} {plain : T → V} {octets : V → List ℕ} (part : S → T) → IsOfValues eq plain octets
-    → IsOfValues (λ x y. eq (part x) (part y)) (λ x. plain (part x)) octets
-at_part part h = record { encoding = λ x y. h.encoding (part x) (part y); itself = λ x y. h.itself (part x) (part y) }
+-- before a field that says nothing, as a marker
+pub marked : {b : Body} {e : Bool} {v w : BodyValue b} → AlikeWithin b e v w → AlikeWithin b (e && true) v w
+marked {e = e} h = record { encoding = λ o. h.encoding (first_so e true o); itself = λ o. rw (h.itself o) refl }
 
-module _ {T : Type 0} {eq : T → T → Bool} where
-  pub of_content : (t : Tag) (c : Content) {plain : T → ContentValue c} → IsOfValues eq plain (contents c) → IsOfValues eq plain (octets_of (tagged t c))
+-- one of two
+pub first : {a b : Shape} {e : Bool} {v w : Value a} → Alike a e v w → Alike (either a b) e (inl v) (inl w)
+unfolding octets_of
+first h = record { encoding = h.encoding; itself = λ o. h.itself cc }
+
+pub second : {a b : Shape} {e : Bool} {v w : Value b} → Alike b e v w → Alike (either a b) e (inr v) (inr w)
+unfolding octets_of
+second h = record { encoding = h.encoding; itself = λ o. h.itself cc }
+
+module _ {s : Shape} {T : Type 0} {eq : T → T → Bool} {plain : T → Value s} (h : (x y : T) → Alike s (eq x y) (plain x) (plain y)) where
+  pub option : (x y : Option T) → Alike (optional s) (option_eq eq x y) (plain_option plain x) (plain_option plain y)
   unfolding octets_of
-  of_content t c {plain} h = record { encoding = λ x y e. ap (tlv t) (h.encoding x y e); itself = h.itself }
+  option None None = record { encoding = λ e. refl; itself = λ e. refl }
+  option (Some x) (Some y) = record { encoding = (h x y).encoding; itself = λ e. (h x y).itself cc }
+  option x y = record { encoding = λ e. absurd cc; itself = λ e. absurd cc }
 
-  pub of_body : (b : Body) {plain : T → BodyValue b} → IsOfValues eq plain (body_octets b) → IsOfValues eq plain (contents (nested b))
-  unfolding contents
-  of_body b h = record { encoding = h.encoding; itself = h.itself }
-
-  pub of_record : (t : Tag) (b : Body) {plain : T → BodyValue b} → IsOfValues eq plain (body_octets b) → IsOfValues eq plain (octets_of (tagged t (nested b)))
-  of_record t b h = of_content t (nested b) (of_body b h)
-
-  pub of_only : (s : Shape) {plain : T → Value s} → IsOfValues eq plain (octets_of s) → IsOfValues eq plain (body_octets (only s))
+  pub list : (xs ys : List T) → AlikeWithin (many s) (pointwise eq xs ys) (plain_list plain xs) (plain_list plain ys)
   unfolding body_octets
-  of_only s h = record { encoding = h.encoding; itself = h.itself }
-
-  pub of_default : (s : Shape) (d : List ℕ) {plain : T → Value s} → IsOfValues eq plain (octets_of s) → IsOfValues eq plain (octets_of (defaulted s d))
-  unfolding octets_of
-  of_default s d h = record { encoding = λ x y e. rw (h.encoding x y e) refl; itself = h.itself }
-
-  pub last_field : (s : Shape) {plain : T → Value s} → IsOfValues eq plain (octets_of s) → IsOfValues eq (λ x. (plain x, tt)) (body_octets (field s done))
-  unfolding body_octets
-  last_field s h = record { encoding = λ x y e. ap (λ w. w ++ []) (h.encoding x y e); itself = λ x y e. h.itself x y (ap (λ v. v.0) e) }
-
-  pub next_field : (s : Shape) (b : Body) {plain : T → Value s} {eqs : T → T → Bool} {others : T → BodyValue b} → IsOfValues eq plain (octets_of s) → IsOfValues eqs others (body_octets b)
-      → IsOfValues (λ x y. eq x y && eqs x y) (λ x. (plain x, others x)) (body_octets (field s b))
-  unfolding body_octets
-  next_field s b {plain} {eqs} {others} h k = record {
-    encoding = λ x y e. rw (h.encoding x y (first_so (eq x y) (eqs x y) e), k.encoding x y (second_so (eq x y) (eqs x y) e)) refl;
-    itself = λ x y e. rw (h.itself x y (ap (λ v. v.0) e), k.itself x y (ap (λ v. v.1) e)) refl;
+  list [] [] = record { encoding = λ e. refl; itself = λ e. refl }
+  list (x ∷ xs) (y ∷ ys) = record {
+    encoding = λ e. rw ((h x y).encoding (first_so (eq x y) (pointwise eq xs ys) e), (list xs ys).encoding (second_so (eq x y) (pointwise eq xs ys) e)) refl;
+    itself = λ e. rw ((h x y).itself cc, (list xs ys).itself cc) refl;
   }
+  list xs ys = record { encoding = λ e. absurd cc; itself = λ e. absurd cc }
 
-  -- where a field says nothing, as a marker
-  pub beside_nothing : {V : Type 0} {plain : T → V} {octets : V → List ℕ} → IsOfValues eq plain octets → IsOfValues (λ x y. eq x y && true) plain octets
-  beside_nothing h = record { encoding = λ x y e. h.encoding x y (first_so (eq x y) true e); itself = λ x y e. rw (h.itself x y e) refl }
-
-  -- what may be absent
-  absent_encoding : (s : Shape) (plain : T → Value s) → IsOfValues eq plain (octets_of s) → (x y : Option T) → option_eq eq x y ≡ true
-      → octets_of (optional s) (plain_option plain x) ≡ octets_of (optional s) (plain_option plain y)
-  unfolding octets_of
-  absent_encoding s plain h None None e = refl
-  absent_encoding s plain h (Some x) (Some y) e = h.encoding x y e
-  absent_encoding s plain h x y e = absurd cc
-
-  absent_itself : (s : Shape) (plain : T → Value s) → IsOfValues eq plain (octets_of s) → (x y : Option T) → plain_option plain x ≡ plain_option plain y → option_eq eq x y ≡ true
-  absent_itself s plain h None None e = refl
-  absent_itself s plain h (Some x) (Some y) e = h.itself x y cc
-  absent_itself s plain h x y e = absurd cc
-
-  pub of_option : (s : Shape) {plain : T → Value s} → IsOfValues eq plain (octets_of s) → IsOfValues (option_eq eq) (plain_option plain) (octets_of (optional s))
-  of_option s {plain} h = record { encoding = absent_encoding s plain h; itself = absent_itself s plain h }
-
-  -- the members of a list
-  members_encoding : (s : Shape) (plain : T → Value s) → IsOfValues eq plain (octets_of s) → (xs ys : List T) → pointwise eq xs ys ≡ true
-      → flat_map (λ x. octets_of s x) (plain_list plain xs) ≡ flat_map (λ x. octets_of s x) (plain_list plain ys)
-  members_encoding s plain h [] [] e = refl
-  members_encoding s plain h (x ∷ xs) (y ∷ ys) e =
-      rw (h.encoding x y (first_so (eq x y) (pointwise eq xs ys) e), members_encoding s plain h xs ys (second_so (eq x y) (pointwise eq xs ys) e)) refl
-  members_encoding s plain h xs ys e = absurd cc
-
-  members_itself : (s : Shape) (plain : T → Value s) → IsOfValues eq plain (octets_of s) → (xs ys : List T) → plain_list plain xs ≡ plain_list plain ys → pointwise eq xs ys ≡ true
-  members_itself s plain h [] [] e = refl
-  members_itself s plain h (x ∷ xs) (y ∷ ys) e =
-      rw (h.itself x y cc, members_itself s plain h xs ys cc) refl
-  members_itself s plain h xs ys e = absurd cc
-
-  pub of_list : (s : Shape) {plain : T → Value s} → IsOfValues eq plain (octets_of s) → IsOfValues (pointwise eq) (plain_list plain) (body_octets (many s))
+  pub set : {how : Step} (xs ys : List T) → AlikeWithin (in_order how s) (pointwise eq xs ys) (plain_list plain xs) (plain_list plain ys)
   unfolding body_octets
-  of_list s {plain} h = record { encoding = members_encoding s plain h; itself = members_itself s plain h }
+  set xs ys = record { encoding = (list xs ys).encoding; itself = (list xs ys).itself }
 
-  pub of_set : (how : Step) (s : Shape) {plain : T → Value s} → IsOfValues eq plain (octets_of s) → IsOfValues (pointwise eq) (plain_list plain) (body_octets (in_order how s))
-  unfolding body_octets
-  of_set how s {plain} h = record { encoding = members_encoding s plain h; itself = members_itself s plain h }
-
--- an option of values whose plain value is the value stands as it is
+-- of what is its own plain value
 pub itself_absent : {V : Type 0} (o : Option V) → plain_option (λ v. v) o ≡ o
 itself_absent None = refl
 itself_absent (Some v) = refl
 
-pub of_plain_option : (s : Shape) {eq : Value s → Value s → Bool} → IsOfValues eq (λ v. v) (octets_of s) → IsOfValues (option_eq eq) (λ o. o) (octets_of (optional s))
-of_plain_option s {eq} h = subst (λ plain. IsOfValues (option_eq eq) plain (octets_of (optional s))) (λ i o. itself_absent o i) (of_option s h)
+pub option_itself : {s : Shape} {eq : Value s → Value s → Bool} → ((v w : Value s) → Alike s (eq v w) v w) → (x y : Option (Value s)) → Alike (optional s) (option_eq eq x y) x y
+option_itself {s} {eq} h x y = subst (λ (f : Option (Value s) → Option (Value s)). Alike (optional s) (option_eq eq x y) (f x) (f y)) (λ i o. itself_absent o i) (option {s = s} h x y)

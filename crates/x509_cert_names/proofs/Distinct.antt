@@ -23,7 +23,7 @@ encoded a = octets_of (type_and_value Bound) (pair_plain a)
 apart : (a b : AttributeTypeAndValue) → octets_cmp (encoded a) (encoded b) ≡ Less → same_pair a b ≡ false
 apart a b h =
     false_from_ne_true (same_pair a b) (λ e.
-    let equal : octets_cmp (encoded a) (encoded b) ≡ Equal = subst (λ w. octets_cmp (encoded a) w ≡ Equal) (pairs.encoding a b e) (octets_cmp-self (encoded a)) in
+    let equal : octets_cmp (encoded a) (encoded b) ≡ Equal = subst (λ w. octets_cmp (encoded a) w ≡ Equal) ((pairs a b).encoding e) (octets_cmp-self (encoded a)) in
     absurd cc)
 
 -- the second can be left out

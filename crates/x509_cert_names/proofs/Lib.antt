@@ -11,7 +11,6 @@ mod TextBounds
 mod InTurn
 mod HeadersWritten
 mod SameOctets
-pub mod Alike
 pub mod ValueEquality
 pub use Rattle.der_types_any.proofs.TimeTypes
 pub use Rattle.der_types_sets.proofs as SetTypes

@@ -28,7 +28,7 @@ use Rattle.x509_cert_names.specs.Ordered.{DifferInTurn, IsOrdered}
 use Rattle.x509_cert_names.specs.Pairs.{pair_plain, same_pair, relative_plain}
 use Rattle.x509_cert_names.specs.declared.attribute_type_and_value.AttributeTypeAndValue.{AttributeTypeAndValue}
 use Rattle.x509_cert_names.proofs.Distinct.{encoded, rising_distinct}
-use Rattle.x509_cert_names.proofs.ValueEquality.{lists, pairs}
+use Rattle.x509_cert_names.proofs.ValueEquality.{names, pairs}
 
 abbrev Pairs : Type 0
 Pairs = List AttributeTypeAndValue
@@ -81,7 +81,7 @@ all_rise (a ∷ b ∷ r) d s v =
     let equal : octets_cmp (encoded a) (encoded b) ≡ Equal → ⊥ = λ e.
     let one = (one_value (type_and_value Bound) (pair_plain a) (pair_plain b) [] [] refl refl v.0 v.1.0
     (ap (λ (w : List ℕ). w ++ []) (octets_cmp-equal (encoded a) (encoded b) e))).0 in
-    let same : same_pair a b ≡ true = pairs.itself a b one in
+    let same : same_pair a b ≡ true = (pairs a b).itself one in
     absurd cc in
     (below (octets_cmp (encoded a) (encoded b)) (s.0 v.0 v.1.0) equal, all_rise (b ∷ r) d.1 s.1 v.1)
 
@@ -132,4 +132,4 @@ pub names_apart : (m n k : List Pairs) → plain_list relative_plain k ≡ plain
 names_apart m n k s v h o e =
     let fits = subst Fits (e ∙ ap (name_octets Bound) (sym s)) (fits_of (plain_list relative_plain m) v) in
     let valid = subst (IsValid (name Bound)) s (name_valid k (subst (IsInRange (name Bound)) (sym s) h) o fits) in
-    lists.itself m n (one_value (name Bound) (plain_list relative_plain m) (plain_list relative_plain n) [] [] refl refl v valid (ap (λ (w : List ℕ). w ++ []) e)).0
+    (names m n).itself (one_value (name Bound) (plain_list relative_plain m) (plain_list relative_plain n) [] [] refl refl v valid (ap (λ (w : List ℕ). w ++ []) e)).0

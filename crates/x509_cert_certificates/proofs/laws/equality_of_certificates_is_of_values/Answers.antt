@@ -1,5 +1,5 @@
 use Rattle.const_oid.specs.Bound.{Bound}
-use Rattle.x509_cert_parts.proofs.Names.Alike.{all_alike, alone, behind, default, each, last, leaves, next, option, option_itself}
+use Rattle.der_core.proofs.ValueEquality.{all_alike, alone, behind, default, each, last, leaves, next, option, option_itself}
 use Rattle.x509_cert_parts.proofs.Names.ValueEquality.{names}
 use Rattle.x509_cert_parts.proofs.ValueEquality.{algorithms, all_extensions, each_version, keys, validities}
 use Rattle.x509_cert_certificates.specs.Certificates.{certificate, tbs_certificate}

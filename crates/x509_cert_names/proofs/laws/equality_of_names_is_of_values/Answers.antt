@@ -1,4 +1,4 @@
-use Rattle.x509_cert_names.proofs.Alike.{all_alike}
+use Rattle.der_core.proofs.ValueEquality.{all_alike}
 use Rattle.x509_cert_names.proofs.ValueEquality.{names}
 use Rattle.x509_cert_names.proofs.laws.equality_of_names_is_of_values.Goals as goal
 

@@ -1,4 +1,4 @@
-use Rattle.x509_cert_names.proofs.Alike.{all_alike, leaves}
+use Rattle.der_core.proofs.ValueEquality.{all_alike, leaves}
 use Rattle.x509_cert_parts.specs.Grammar.{serial_number}
 use Rattle.x509_cert_parts.proofs.ValueEquality.{algorithms, keys, each_extension, each_time, each_version, validities}
 use Rattle.x509_cert_parts.proofs.laws.equality_of_parts_is_of_values.Goals as goal

@@ -1,10 +1,10 @@
 use Rattle.std.proofs.Common.{sym, ◌∙◌}
 use Rattle.x509_cert_names.proofs.SameOctets.{names_apart}
-use Rattle.x509_cert_names.proofs.ValueEquality.{lists}
+use Rattle.x509_cert_names.proofs.ValueEquality.{names}
 use Rattle.x509_cert_names.proofs.name.Name.has_octets_of.Goals as goal
 
 pub returns-then-eq-clause-same : goal.returns-then-eq-clause-same
-returns-then-eq-clause-same c = λ t. lists.encoding _ _ (sym c.eq.ensures ∙ c.if-eq.true)
+returns-then-eq-clause-same c = λ t. (names _ _).encoding (sym c.eq.ensures ∙ c.if-eq.true)
 
 pub returns-clause-differ : goal.returns-clause-differ
 returns-clause-differ c = λ valid same.
