@@ -5,7 +5,7 @@ use Rattle.std.specs.Cmp.Lexicographic.{bytes_decides, nat_list_eq_equiv}
 use Rattle.std.specs.List.{list_any}
 use Rattle.std.specs.Prelude.{nat_eq, bytes_eq, IfOk}
 use Rattle.const_oid.specs.Comparing.{owned_eq}
-use Rattle.std.proofs.lemmas.List.{at_drop_more, at_drop_all, take_rest}
+use Rattle.std.proofs.lemmas.List.{at_drop_more, take_rest}
 use Rattle.std.proofs.lemmas.Bool.{false_from_ne_true}
 use Rattle.const_oid.specs.IdentifierOctets.{arc_octets, identifier_octets}
 use Rattle.const_oid.specs.Orders.{owned_cmp, owned_cmp_ties}
@@ -65,31 +65,6 @@ any_octets =
 pub any_of_list : {A B : Type 0} (plain : A → B) (test : B → Bool) (xs : List A) → list_any (λ x. test (plain x)) xs ≡ list_any test (plain_list plain xs)
 any_of_list plain test [] = refl
 any_of_list plain test (x ∷ xs) = ap (λ b. test (plain x) || b) (any_of_list plain test xs)
-
--- The extensions from a place on are distinct, or aren't.
-module _ {A : Type 0} (plain : A → PlainExtension) where
-  abbrev distinct_left : List A → Bool
-  distinct_left xs = are_distinct (plain_list plain xs)
-
-  split : (xs : List A) (i : ℕ) (d : A) → i < length xs → distinct_left (drop i xs) ≡ (is_alone (plain (get_or xs i d)) (plain_list plain (drop (i + 1) xs)) && distinct_left (drop (i + 1) xs))
-  split xs i d h = at_drop_more distinct_left xs i d h
-
-  pub distinct_no : (xs : List A) (i : ℕ) (x : A) → i < length xs → x ≡ get_or xs i x → is_alone (plain x) (plain_list plain (drop (i + 1) xs)) ≡ false
-      → distinct_left (drop i xs) ≡ false
-  distinct_no xs i x h is e =
-      split xs i x h ∙ ap (λ (y : A). is_alone (plain y) (plain_list plain (drop (i + 1) xs)) && distinct_left (drop (i + 1) xs)) (sym is)
-      ∙ ap (λ b. b && distinct_left (drop (i + 1) xs)) e
-
-  pub distinct_yes : (xs : List A) (i : ℕ) (x : A) → i < length xs → x ≡ get_or xs i x → is_alone (plain x) (plain_list plain (drop (i + 1) xs)) ≡ true
-      → distinct_left (drop (i + 1) xs) ≡ distinct_left (drop i xs)
-  distinct_yes xs i x h is e =
-      sym (
-      split xs i x h ∙ ap (λ (y : A). is_alone (plain y) (plain_list plain (drop (i + 1) xs)) && distinct_left (drop (i + 1) xs)) (sym is)
-      ∙ ap (λ b. b && distinct_left (drop (i + 1) xs)) e
-      )
-
-  pub distinct_none : (xs : List A) (i : ℕ) → length xs ≤ i → distinct_left (drop i xs) ≡ true
-  distinct_none xs i h = at_drop_all distinct_left xs i h
 
 -- The list has an extension of the identifier.
 abbrev has_arcs : List ℕ → List PlainExtension → Bool

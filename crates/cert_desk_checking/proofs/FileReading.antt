@@ -1,9 +1,9 @@
 -- A file of values is read one behind the other.
 use Rattle.std.proofs.Common.{◌≡◌, ℕ, ◌+◌, ◌-◌, ◌<◌, ◌≤◌, List, [], ◌∷◌, ◌++◌, length, map, drop, Result, Ok, refl, sym, ap, ◌∙◌, arith, append_assoc, append-nil, length-append, length-drop}
-use Rattle.std.proofs.lemmas.List.{map-append, drop_at, drop-drop, drop_all}
+use Rattle.std.proofs.lemmas.List.{map-append, drop_at, drop-drop}
 use Rattle.der_core_head.specs.Shapes.{Shape, Value, octets_of, IsValid}
 use Rattle.cert_desk_checking.specs.Series.{IsUnambiguous, BeginsWith, encodings}
-use Rattle.cert_desk_checking.specs.Files.{GiveAll, IsFileOf, HasFirstWrong, StandsAt, GivesAt}
+use Rattle.cert_desk_checking.specs.Files.{GiveAll, StandsAt, GivesAt}
 use Rattle.cert_desk_checking.proofs.SeriesLaws.{each-more, encodings-more, value_some}
 
 module _ (s : Shape) (octets : List ℕ) (start : ℕ) where
@@ -64,15 +64,3 @@ module _ (s : Shape) {A E : Type 0} (gives : Value s → Result A E) (octets : L
               ∙ sym (length-append (encodings s h.values) (octets_of s v))
               ∙ ap length (sym joined);
         }
-
-    -- no octet is left
-    pub so_far-whole : length octets ≤ start → IsFileOf s gives octets xs
-    so_far-whole end = record {
-      values = h.values;
-      give = h.give;
-      joins = h.whole ∙ ap (λ (w : List ℕ). encodings s h.values ++ w) (drop_all start octets end) ∙ append-nil (encodings s h.values);
-    }
-
-    -- something is wrong at the start
-    pub so_far-wrong : (wrong : List ℕ → Type 0) → wrong (drop start octets) → HasFirstWrong s gives wrong octets start
-    so_far-wrong wrong is = record { values = h.values; xs = xs; give = h.give; rest = drop start octets; whole = h.whole; offset_is = h.start_is; is_wrong = is }

@@ -1,9 +1,9 @@
 -- A whole value behind a SEQUENCE tag, at the front of a rest.
-use Rattle.std.proofs.Common.{◌≡◌, ℕ, ◌≤◌, List, [], ◌∷◌, ◌++◌, length, take, sym, ap, ◌∙◌, arith, append_assoc, append-nil, length-append}
+use Rattle.std.proofs.Common.{◌≡◌, ℕ, ◌≤◌, List, ◌∷◌, ◌++◌, length, take, sym, ap, ◌∙◌, arith, append_assoc, length-append}
 use Rattle.std.proofs.lemmas.List.{take_at}
 use Rattle.der_core_head.specs.declared.tag.Tag.TheVariants as tags
 use Rattle.der_core_head.specs.Heads.{length_octets, head_octets}
-use Rattle.der_core_head.specs.Shapes.{Body, Value, Spells, done, sequence}
+use Rattle.der_core_head.specs.Shapes.{Body, Value, Spells, sequence}
 use Rattle.cert_desk_checking.specs.declared.fault_kind.FaultKind.TheVariants as kinds
 use Rattle.cert_desk_checking.specs.Faults.{IsFault}
 use Rattle.cert_desk_checking.specs.Headers.{HasWhole}
@@ -19,9 +19,6 @@ module _ (fields : Body) (limit offset : ℕ) (rest : List ℕ) (len : ℕ) (w :
   pub whole-take : take len rest ≡ head_octets tags.Sequence w.number ++ w.body
   whole-take = ap (λ (x : List ℕ). take len x) w.octets ∙ take_at (head_octets tags.Sequence w.number ++ w.body) w.more len whole-length
 
-  pub whole_within : len ≤ length rest
-  whole_within = omega (arith, whole-length, ap length w.octets, length-append (head_octets tags.Sequence w.number ++ w.body) w.more)
-
   -- octets that no value has
   pub whole_malformed : ((c : Value (sequence fields)) → Spells (sequence fields) c (take len rest) → ⊥) → IsFault (sequence fields) limit offset kinds.Malformed rest
   whole_malformed none = record {
@@ -29,20 +26,3 @@ module _ (fields : Body) (limit offset : ℕ) (rest : List ℕ) (len : ℕ) (w :
     first = header_before (sequence fields) limit offset rest (length_octets w.number ++ (w.body ++ w.more)) whole_is w.number (w.body ++ w.more) kinds.Malformed
         (whole_read limit offset rest len w) (λ h. (w.within, w.fits)) (λ h. absurd (omega arith));
   }
-
--- a value that stands whole stands whole alone, too
-pub whole_alone : (limit offset : ℕ) (rest : List ℕ) (len : ℕ) → HasWhole limit offset rest len → HasWhole limit offset (take len rest) (length (take len rest))
-whole_alone limit offset rest len w =
-    let front = whole-take done limit offset rest len w in
-    let count : length (take len rest) ≡ len = ap length front ∙ whole-length done limit offset rest len w in
-    record {
-      number = w.number;
-      body = w.body;
-      more = [];
-      small = w.small;
-      octets = front ∙ sym (append-nil (head_octets tags.Sequence w.number ++ w.body));
-      content = w.content;
-      len_is = count ∙ w.len_is;
-      within = w.within;
-      fits = w.fits;
-    }

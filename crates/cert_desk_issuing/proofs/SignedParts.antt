@@ -24,7 +24,7 @@ use Rattle.cert_desk_issuing.specs.declared.role.Role.TheVariants as roles
 use Rattle.cert_desk_issuing.specs.declared.stop.Stop.{Stop}
 use Rattle.cert_desk_issuing.specs.declared.stop.Stop.TheVariants as stops
 use Rattle.cert_desk_issuing.specs.Making.{IsMadeOf, IsProfile, fields_below}
-use Rattle.cert_desk_issuing.specs.Ordered.{CanName, extensions_for, names_for, ordered_part, part_octets}
+use Rattle.cert_desk_issuing.specs.Ordered.{extensions_for, names_for, ordered_part, part_octets}
 use Rattle.cert_desk_issuing.specs.PlainOrders.{IsReady, PlainOrder, begins, ends}
 use Rattle.cert_desk_issuing.specs.Refusals.{HasPart, Stops, stop_of, stop_of_kind}
 
@@ -138,12 +138,3 @@ module _ (may_refuse : List ℕ → Type 0) (signs : List ℕ → Bits → Type 
   not_built e R never (inr (inl (inl refuses))) = absurd (never refuses)
   not_built e R never (inr (inl (inr none))) = unwritten_by e none
   not_built e R never (inr (inr refused)) = subst (λ (x : BuilderError). Stops may_refuse signs a role dns t (stop_of x)) (sym refused.0) refused.1
-
--- Why nothing is made: memory, or names that have no encoding.
-module _ (may_refuse : List ℕ → Type 0) (signs : List ℕ → Bits → Type 0) (a : Algorithm) (role : Role) (dns : List (List ℕ)) (t : Tbs) where
-  pub no_memory : (s : Stop) → s ≡ stops.OutOfMemory → Stops may_refuse signs a role dns t s
-  no_memory s e = subst (λ (x : Stop). Stops may_refuse signs a role dns t x) (sym e) tt
-
-  pub not_named : (s : Stop) → (s ≡ stops.OutOfMemory) ⊎ ((s ≡ stops.TooLong) × (CanName role dns → ⊥)) → Stops may_refuse signs a role dns t s
-  not_named s (inl e) = no_memory s e
-  not_named s (inr h) = subst (λ (x : Stop). Stops may_refuse signs a role dns t x) (sym h.0) (inl (λ (part : HasPart role dns t). h.1 part.0))

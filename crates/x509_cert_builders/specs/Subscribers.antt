@@ -23,6 +23,13 @@ type_subject types.IndividualValidated = Err errors.Unsupported
 type_subject types.OrganizationValidated = Err errors.Unsupported
 type_subject types.ExtendedValidation = Err errors.Unsupported
 
+-- the domains of a kind of subscriber; other kinds than the first have none
+abbrev pub type_domains : CertificateType → List (Value (general_name 0))
+type_domains (types.DomainValidated v) = plain_list general_name_plain v.names.items
+type_domains types.IndividualValidated = []
+type_domains types.OrganizationValidated = []
+type_domains types.ExtendedValidation = []
+
 -- the subject and the domains of a subscriber whose domains were validated
 abbrev pub domains_plain : DomainValidated → PlainName × List (Value (general_name 0))
 domains_plain v = (name_plain v.subject, plain_list general_name_plain v.names.items)

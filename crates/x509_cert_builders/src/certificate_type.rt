@@ -4,13 +4,15 @@ ghost use Rattle.std.specs.Prelude.{◌≡◌, ◌⊎◌, ◌∷◌, [], true, O
 ghost use Rattle.std.specs.List.{list_all};
 ghost use Rattle.std.specs.List.Sorted.{IsPermutation};
 ghost use Rattle.der_core.specs.Copies.{IsCopy};
+ghost use Rattle.der_core_head.specs.Grammar.{plain_list};
+ghost use Rattle.x509_cert_extensions.specs.GeneralNameViews.{general_name_plain};
 ghost use Rattle.x509_cert_extensions.specs.Parts.{name_plain, relative_plain};
 ghost use Rattle.x509_cert_builders.specs.Naming.{common_name, country, is_among};
 ghost use Rattle.der_core_head.specs.declared.error.ErrorKind.TheVariants.{Overflow};
 ghost use Rattle.x509_cert_builders.specs.Refusals.{IsOfKind, IsWantOfMemory};
 ghost use Rattle.x509_cert_builders.specs.Subscribers.{KeepsDistinct, SameAttributes, all_stays};
 ghost use Rattle.x509_cert_builders.specs.Subscribers.{domain_subject, left_of, may_stay};
-ghost use Rattle.x509_cert_builders.specs.Subscribers.{type_plain, type_subject};
+ghost use Rattle.x509_cert_builders.specs.Subscribers.{type_domains, type_plain, type_subject};
 
 use crate::attribute_types as types;
 use crate::domain_validated::DomainValidated;
@@ -129,6 +131,8 @@ impl CertificateType {
         ensures kind { IfOk result (λ t. IsOk (type_subject t)) }
         ensures subject { IfOk result
             (λ t. IfOk (type_subject t) (SameAttributes (domain_subject (name_plain subject)))) }
+        ensures domains { IfOk result
+            (λ t. type_domains t ≡ plain_list general_name_plain names.items) }
         ensures same { all_stays (name_plain subject) ≡ true
             → IfOk result (λ t. type_subject t ≡ Ok (name_plain subject)) }
         ensures refused { all_stays (name_plain subject) ≡ true → IfErr result IsWantOfMemory }
