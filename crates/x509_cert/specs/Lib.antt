@@ -1,3 +1,4 @@
+pub mod Equality
 pub use Rattle.x509_cert_list_builders.specs.Parts
 pub use Rattle.x509_cert_list_builders.specs.Certificates
 pub use Rattle.x509_cert_list_builders.specs.CertificateViews

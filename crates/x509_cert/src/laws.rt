@@ -3,12 +3,40 @@
 //!
 //! Each is the contract of a function that does nothing.
 
-ghost use Rattle.std.specs.Prelude.{◌≤◌, ◌↔◌, ℕ, List, Option, None};
+ghost use Rattle.std.specs.Prelude.{◌≤◌, ◌↔◌, ℕ, List, Option, None, pos};
+ghost use Rattle.const_oid.specs.Bound.{Bound};
 ghost use Rattle.der_core_head.specs.Bounds.{identifiers_of, AreBelow};
-ghost use Rattle.der_core_head.specs.Shapes.{BodyValue, Value, Spells, sequence};
+ghost use Rattle.der_core_head.specs.Grammar.{plain_list};
+ghost use Rattle.der_core_head.specs.Integers.{natural};
+ghost use Rattle.der_core_head.specs.Leaves.{integer, named, text};
+ghost use Rattle.der_core_head.specs.Shapes.{BodyValue, Value, Spells, leaf, sequence, sequence_of};
+ghost use Rattle.der_core_head.specs.Shapes.{tagged};
+ghost use Rattle.der_core_head.specs.Texts.{ascii};
+ghost use Rattle.der_core_head.specs.declared.tag.Tag.TheVariants as tags;
+ghost use Rattle.x509_cert.specs.Equality.{IsByValue, TellsValues};
 ghost use Rattle.x509_cert_anchors.specs.Grammar.{trust_anchor_choice};
+ghost use Rattle.x509_cert_extensions.specs.Reasons.{reason_number, reason_numbers};
+ghost use Rattle.x509_cert_general_names.specs.Grammar as names;
+ghost use Rattle.x509_cert_general_names.specs.Views as views;
 ghost use Rattle.x509_cert_list_builders.specs.ListGrammar.{certificate_list_fields, cert_req};
+ghost use Rattle.x509_cert_parts.specs.Parts.{attribute, attribute_plain, object_identifier};
+ghost use Rattle.x509_cert_parts.specs.Parts.{octet_string};
+ghost use Rattle.x509_cert_policies.specs.Grammar.{policy_information_fields};
+ghost use Rattle.x509_cert_policies.specs.Grammar.{policy_mapping_fields};
+ghost use Rattle.x509_cert_policies.specs.Views.{policy_information_plain, policy_mapping_plain};
 
+use crate::{
+    AccessDescription, AuthorityInfoAccessSyntax, AuthorityKeyIdentifier, BaseCrlNumber,
+    BasicConstraints, CertificatePolicies, CpsUri, CrlDistributionPoints, CrlNumber, CrlReason,
+    DisplayText, DistributionPoint, DistributionPointName, EdiPartyName, ExtendedKeyUsage,
+    FreshestCrl, GeneralName, GeneralSubtree, HardwareModuleName, InhibitAnyPolicy, IssuerAltName,
+    IssuingDistributionPoint, KeyUsage, NameConstraints, NoticeReference, OtherName,
+    PolicyConstraints, PolicyInformation, PolicyMapping, PolicyMappings, PolicyQualifierInfo,
+    PrivateKeyUsagePeriod, SubjectAltName, SubjectDirectoryAttributes, SubjectInfoAccessSyntax,
+    SubjectKeyIdentifier, UserNotice,
+};
+use der_core::Shaped;
+use std::cmp::PartialEq;
 pub use x509_cert_anchors::laws::{
     certificates_are_apart, dates_by_profile, equality_of_certificates_is_of_values,
     equality_of_names_is_of_values, equality_of_parts_is_of_values, identifiers_stand_in_turn,
@@ -39,4 +67,65 @@ pub fn wider_bounds_keep_types()
         (w : List ℕ) → 40 ≤ small → small ≤ large → Spells (trust_anchor_choice small limit) a w
         ↔ (Spells (trust_anchor_choice large limit) a w
         × AreBelow small (identifiers_of (trust_anchor_choice 0 None) a)) }
+{}
+
+/// `==` of what extensions hold is of its plain values.
+pub fn equality_of_extensions_is_of_values()
+    ensures general_names { IsByValue ⟦<GeneralName as PartialEq>⟧ ⟦<GeneralName as Shaped>⟧
+        × IsByValue ⟦<OtherName as PartialEq>⟧ ⟦<OtherName as Shaped>⟧
+        × IsByValue ⟦<EdiPartyName as PartialEq>⟧ ⟦<EdiPartyName as Shaped>⟧
+        × IsByValue ⟦<HardwareModuleName as PartialEq>⟧ ⟦<HardwareModuleName as Shaped>⟧
+        × IsByValue ⟦<AccessDescription as PartialEq>⟧ ⟦<AccessDescription as Shaped>⟧
+        × IsByValue ⟦<AuthorityKeyIdentifier as PartialEq>⟧ ⟦<AuthorityKeyIdentifier as Shaped>⟧
+        × IsByValue ⟦<GeneralSubtree as PartialEq>⟧ ⟦<GeneralSubtree as Shaped>⟧
+        × IsByValue ⟦<DistributionPoint as PartialEq>⟧ ⟦<DistributionPoint as Shaped>⟧
+        × IsByValue ⟦<DistributionPointName as PartialEq>⟧ ⟦<DistributionPointName as Shaped>⟧
+        × IsByValue ⟦<IssuingDistributionPoint as PartialEq>⟧
+        ⟦<IssuingDistributionPoint as Shaped>⟧ }
+    ensures constraints { IsByValue ⟦<NameConstraints as PartialEq>⟧ ⟦<NameConstraints as Shaped>⟧
+        × IsByValue ⟦<BasicConstraints as PartialEq>⟧ ⟦<BasicConstraints as Shaped>⟧
+        × IsByValue ⟦<PolicyConstraints as PartialEq>⟧ ⟦<PolicyConstraints as Shaped>⟧
+        × IsByValue ⟦<InhibitAnyPolicy as PartialEq>⟧ ⟦<InhibitAnyPolicy as Shaped>⟧
+        × IsByValue ⟦<PrivateKeyUsagePeriod as PartialEq>⟧ ⟦<PrivateKeyUsagePeriod as Shaped>⟧ }
+    ensures notices { IsByValue ⟦<DisplayText as PartialEq>⟧ ⟦<DisplayText as Shaped>⟧
+        × IsByValue ⟦<NoticeReference as PartialEq>⟧ ⟦<NoticeReference as Shaped>⟧
+        × IsByValue ⟦<PolicyQualifierInfo as PartialEq>⟧ ⟦<PolicyQualifierInfo as Shaped>⟧
+        × IsByValue ⟦<PolicyMapping as PartialEq>⟧ ⟦<PolicyMapping as Shaped>⟧ }
+    ensures policies { IsByValue ⟦<UserNotice as PartialEq>⟧ ⟦<UserNotice as Shaped>⟧
+        × IsByValue ⟦<PolicyInformation as PartialEq>⟧ ⟦<PolicyInformation as Shaped>⟧ }
+    ensures lists { TellsValues (names.general_names Bound) ⟦<SubjectAltName as PartialEq>⟧.eq
+        (λ x. plain_list views.general_name_plain x.0.items)
+        × TellsValues (names.general_names Bound) ⟦<IssuerAltName as PartialEq>⟧.eq
+        (λ x. plain_list views.general_name_plain x.0.items)
+        × TellsValues (sequence_of (sequence (names.access_description_fields Bound)))
+        ⟦<AuthorityInfoAccessSyntax as PartialEq>⟧.eq
+        (λ x. plain_list views.access_description_plain x.0.items)
+        × TellsValues (sequence_of (sequence (names.access_description_fields Bound)))
+        ⟦<SubjectInfoAccessSyntax as PartialEq>⟧.eq
+        (λ x. plain_list views.access_description_plain x.0.items)
+        × TellsValues (sequence_of (sequence (names.distribution_point_fields Bound)))
+        ⟦<CrlDistributionPoints as PartialEq>⟧.eq
+        (λ x. plain_list views.distribution_point_plain x.0.items)
+        × TellsValues (sequence_of (sequence (names.distribution_point_fields Bound)))
+        ⟦<FreshestCrl as PartialEq>⟧.eq (λ x. plain_list views.distribution_point_plain x.0.items)
+        × TellsValues (sequence_of (sequence (policy_information_fields Bound)))
+        ⟦<CertificatePolicies as PartialEq>⟧.eq
+        (λ x. plain_list policy_information_plain x.0.items)
+        × TellsValues (sequence_of (sequence (policy_mapping_fields Bound)))
+        ⟦<PolicyMappings as PartialEq>⟧.eq (λ x. plain_list policy_mapping_plain x.0.items)
+        × TellsValues (sequence_of (object_identifier Bound)) ⟦<ExtendedKeyUsage as PartialEq>⟧.eq
+        (λ x. plain_list (λ v. v) x.0.items)
+        × TellsValues (sequence_of (attribute Bound))
+        ⟦<SubjectDirectoryAttributes as PartialEq>⟧.eq (λ x. plain_list attribute_plain x.0.items) }
+    ensures leaves { TellsValues octet_string ⟦<SubjectKeyIdentifier as PartialEq>⟧.eq (λ x. x.0)
+        × TellsValues (tagged tags.Ia5String (leaf (text ascii))) ⟦<CpsUri as PartialEq>⟧.eq
+        (λ x. x.0)
+        × TellsValues (tagged tags.BitString (leaf (named 9))) ⟦<KeyUsage as PartialEq>⟧.eq
+        (λ x. x.0.flags.0)
+        × TellsValues (tagged tags.Enumerated (leaf (integer reason_numbers)))
+        ⟦<CrlReason as PartialEq>⟧.eq reason_number
+        × TellsValues (tagged tags.Integer (leaf (integer natural))) ⟦<CrlNumber as PartialEq>⟧.eq
+        (λ x. pos x.0)
+        × TellsValues (tagged tags.Integer (leaf (integer natural)))
+        ⟦<BaseCrlNumber as PartialEq>⟧.eq (λ x. pos x.0) }
 {}

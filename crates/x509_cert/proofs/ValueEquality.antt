@@ -1,0 +1,75 @@
+-- `==` of the choices in extensions is of plain values.
+use Rattle.std.proofs.Common.{◌≡◌, ℕ, Bool, pos, refl, ap, arith}
+use Rattle.std.specs.Prelude.{nat_eq}
+use Rattle.std.specs.Cmp.Lexicographic.{pointwise, bytes_decides}
+use Rattle.const_oid.specs.Bound.{Bound}
+use Rattle.const_oid.specs.Digits.{digits}
+use Rattle.const_oid.proofs.DigitLaws.{same_from_digits}
+use Rattle.der_core.proofs.ValueEquality.{Alike, all_alike, alone, behind, each, exact, first, last, leaves, list, next, option, second, set}
+use Rattle.der_core_head.specs.Integers.{Numbers}
+use Rattle.der_core_head.specs.Leaves.{integer}
+use Rattle.der_core_head.specs.Shapes.{Shape, Value, leaf, tagged}
+use Rattle.der_core_head.specs.declared.tag.Tag.{Tag}
+use Rattle.x509_cert.specs.Equality.{TellsValues}
+use Rattle.x509_cert_extensions.specs.contracts.crl_reason.CrlReasonPartialEq.TheImpl.{eq-value as same_reason}
+use Rattle.x509_cert_extensions.specs.declared.crl_reason.CrlReason.{CrlReason}
+use Rattle.x509_cert_extensions.specs.declared.crl_reason.CrlReason.TheVariants as reasons
+use Rattle.x509_cert_extensions.specs.Reasons.{reason_number, reason_numbers}
+use Rattle.x509_cert_general_names.specs.Grammar.{distribution_point_name, general_name}
+use Rattle.x509_cert_general_names.specs.Views.{distribution_point_name_plain, general_name_plain}
+use Rattle.x509_cert_general_names.specs.contracts.distribution_point_name.DistributionPointNamePartialEq.TheImpl.{eq-value as same_point}
+use Rattle.x509_cert_general_names.specs.contracts.general_name.GeneralNamePartialEq.TheImpl.{eq-value as same_name}
+use Rattle.x509_cert_general_names.specs.declared.distribution_point_name.DistributionPointName.{DistributionPointName}
+use Rattle.x509_cert_general_names.specs.declared.distribution_point_name.DistributionPointName.TheVariants as points
+use Rattle.x509_cert_general_names.specs.declared.general_name.GeneralName.{GeneralName}
+use Rattle.x509_cert_general_names.specs.declared.general_name.GeneralName.TheVariants as cases
+use Rattle.x509_cert_names.proofs.ValueEquality.{directories, names, pairs, values}
+use Rattle.x509_cert_policies.specs.Grammar.{display_text}
+use Rattle.x509_cert_policies.specs.Views.{display_plain}
+use Rattle.x509_cert_policies.specs.contracts.display_text.DisplayTextPartialEq.TheImpl.{eq-value as same_text}
+use Rattle.x509_cert_policies.specs.declared.display_text.DisplayText.{DisplayText}
+use Rattle.x509_cert_policies.specs.declared.display_text.DisplayText.TheVariants as texts
+
+pub whole : {s : Shape} {T : Type 0} {eq : T → T → Bool} {plain : T → Value s} → ((x y : T) → Alike s (eq x y) (plain x) (plain y)) → TellsValues s eq plain
+whole {s} h = record { by_value = all_alike {s = s} h }
+
+pub of : {s : Shape} {T : Type 0} {eq : T → T → Bool} {plain : T → Value s} → TellsValues s eq plain → (x y : T) → Alike s (eq x y) (plain x) (plain y)
+of {s} h = each {s = s} h.by_value
+
+pub digits_alike : {t : Tag} {r : Numbers} {n m : ℕ} → Alike (tagged t (leaf (integer r))) (pointwise nat_eq (digits 256 n) (digits 256 m)) (pos n) (pos m)
+digits_alike {n = n} {m = m} = exact (λ e. ap pos (same_from_digits 256 n m (grind arith) ((bytes_decides (digits 256 n) (digits 256 m)).0 e)))
+    (λ e. let one : n ≡ m = cc in (bytes_decides (digits 256 n) (digits 256 m)).1 (ap (digits 256) one))
+
+pub general_names : (x y : GeneralName) → Alike (general_name Bound) (same_name.it x y) (general_name_plain x) (general_name_plain y)
+general_names (cases.OtherName m) (cases.OtherName n) = first (behind (next leaves (last (behind (alone (values m.value n.value))))))
+general_names (cases.Rfc822Name m) (cases.Rfc822Name n) = second (first leaves)
+general_names (cases.DnsName m) (cases.DnsName n) = second (second (first leaves))
+general_names (cases.DirectoryName m) (cases.DirectoryName n) = second (second (second (first (behind (alone (names _ _))))))
+general_names (cases.EdiPartyName m) (cases.EdiPartyName n) = second (second (second (second (first (behind (next (option (λ v w. behind (alone (directories v w))) _ _) (last (behind (alone (directories m.party_name n.party_name))))))))))
+general_names (cases.UniformResourceIdentifier m) (cases.UniformResourceIdentifier n) = second (second (second (second (second (first leaves)))))
+general_names (cases.IpAddress m) (cases.IpAddress n) = second (second (second (second (second (second (first leaves))))))
+general_names (cases.RegisteredId m) (cases.RegisteredId n) = second (second (second (second (second (second (second leaves))))))
+general_names x y = exact (λ e. absurd cc) (λ e. absurd cc)
+
+pub point_names : (x y : DistributionPointName) → Alike (distribution_point_name Bound) (same_point.it x y) (distribution_point_name_plain x) (distribution_point_name_plain y)
+point_names (points.FullName m) (points.FullName n) = first (behind (list general_names _ _))
+point_names (points.NameRelativeToCRLIssuer m) (points.NameRelativeToCRLIssuer n) = second (behind (set pairs m n))
+point_names x y = exact (λ e. absurd cc) (λ e. absurd cc)
+
+pub display_texts : (x y : DisplayText) → Alike display_text (same_text.it x y) (display_plain x) (display_plain y)
+display_texts (texts.Ia5String m) (texts.Ia5String n) = first leaves
+display_texts (texts.Utf8String m) (texts.Utf8String n) = second leaves
+display_texts x y = exact (λ e. absurd cc) (λ e. absurd cc)
+
+pub crl_reasons : {t : Tag} (x y : CrlReason) → Alike (tagged t (leaf (integer reason_numbers))) (same_reason.it x y) (reason_number x) (reason_number y)
+crl_reasons reasons.Unspecified reasons.Unspecified = exact (λ e. refl) (λ e. refl)
+crl_reasons reasons.KeyCompromise reasons.KeyCompromise = exact (λ e. refl) (λ e. refl)
+crl_reasons reasons.CaCompromise reasons.CaCompromise = exact (λ e. refl) (λ e. refl)
+crl_reasons reasons.AffiliationChanged reasons.AffiliationChanged = exact (λ e. refl) (λ e. refl)
+crl_reasons reasons.Superseded reasons.Superseded = exact (λ e. refl) (λ e. refl)
+crl_reasons reasons.CessationOfOperation reasons.CessationOfOperation = exact (λ e. refl) (λ e. refl)
+crl_reasons reasons.CertificateHold reasons.CertificateHold = exact (λ e. refl) (λ e. refl)
+crl_reasons reasons.RemoveFromCRL reasons.RemoveFromCRL = exact (λ e. refl) (λ e. refl)
+crl_reasons reasons.PrivilegeWithdrawn reasons.PrivilegeWithdrawn = exact (λ e. refl) (λ e. refl)
+crl_reasons reasons.AaCompromise reasons.AaCompromise = exact (λ e. refl) (λ e. refl)
+crl_reasons x y = exact (λ e. absurd cc) (λ e. absurd cc)
