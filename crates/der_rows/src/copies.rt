@@ -1,11 +1,14 @@
 //! Copies of values, by each call that makes one.
 
 use crate::key_usages::KeyUsages;
+use crate::lists::read_lent;
 use crate::refusals::Refusal;
 use crate::shown::{joined, shown, written, written_in};
 use crate::small::Small;
 use crate::{contents, fields};
-use der_core::{Decode, DecodeValue, Encode, EncodeValue, FixedTag, SliceReader, from_der};
+use der_core::describing::Described;
+use der_core::{Decode, Encode, EncodingRules, FixedTag, SliceReader, from_der};
+use der_core_values::describing::DecodeWay;
 use der_types_any::{Any, AnyRef};
 use der_types_numbers::{Int, IntRef, Uint, UintRef};
 use der_types_sets::{SequenceOf, SetOf, SetOfRef, SetOfVec};
@@ -129,15 +132,15 @@ pub fn answer(alloc: Global, kind: &str, octets: &[u8]) -> Result<String, Refusa
     match kind {
         "Any" => copies::<Any, Any>(alloc, octets),
         "AnyRef" => copies::<AnyRef, Any>(alloc, octets),
-        "Int" => copies_of_value::<Int, Int>(alloc, octets),
-        "IntRef" => copies_of_value::<IntRef, Int>(alloc, octets),
-        "Uint" => copies_of_value::<Uint, Uint>(alloc, octets),
-        "UintRef" => copies_of_value::<UintRef, Uint>(alloc, octets),
-        "BitString" => copies_of_value::<BitString, BitString>(alloc, octets),
-        "BitStringRef" => copies_of_value::<BitStringRef, BitString>(alloc, octets),
-        "KeyUsages" => copies_of_value::<FlagSet<KeyUsages>, FlagSet<KeyUsages>>(alloc, octets),
-        "OctetString" => copies_of_value::<OctetString, OctetString>(alloc, octets),
-        "OctetStringRef" => copies_of_value::<OctetStringRef, OctetString>(alloc, octets),
+        "Int" => copies_of_leaf::<Int, Int>(alloc, octets),
+        "IntRef" => copies_of_leaf::<IntRef, Int>(alloc, octets),
+        "Uint" => copies_of_leaf::<Uint, Uint>(alloc, octets),
+        "UintRef" => copies_of_leaf::<UintRef, Uint>(alloc, octets),
+        "BitString" => copies_of_leaf::<BitString, BitString>(alloc, octets),
+        "BitStringRef" => copies_of_leaf::<BitStringRef, BitString>(alloc, octets),
+        "KeyUsages" => copies_of_leaf::<FlagSet<KeyUsages>, FlagSet<KeyUsages>>(alloc, octets),
+        "OctetString" => copies_of_leaf::<OctetString, OctetString>(alloc, octets),
+        "OctetStringRef" => copies_of_leaf::<OctetStringRef, OctetString>(alloc, octets),
         _ => answer_of_texts(alloc, kind, octets),
     }
 }
@@ -145,14 +148,14 @@ pub fn answer(alloc: Global, kind: &str, octets: &[u8]) -> Result<String, Refusa
 /// The copies of a text, of a list, of a set, or of a field.
 fn answer_of_texts(alloc: Global, kind: &str, octets: &[u8]) -> Result<String, Refusal> {
     match kind {
-        "PrintableString" => copies_of_value::<PrintableString, PrintableString>(alloc, octets),
-        "PrintableStringRef" => copies_of_value::<PrintableStringRef, PrintableString>(
+        "PrintableString" => copies_of_leaf::<PrintableString, PrintableString>(alloc, octets),
+        "PrintableStringRef" => copies_of_leaf::<PrintableStringRef, PrintableString>(
             alloc, octets,
         ),
-        "TeletexStringRef" => copies_of_value::<TeletexStringRef, TeletexString>(alloc, octets),
-        "Utf8StringRef" => copies_of_value::<Utf8StringRef, String>(alloc, octets),
-        "BmpString" => copies_of_value::<BmpString, BmpString>(alloc, octets),
-        "SequenceOf<Small,2>" => copies_of_value::<SequenceOf<Small, 2>, SequenceOf<Small, 2>>(
+        "TeletexStringRef" => copies_of_leaf::<TeletexStringRef, TeletexString>(alloc, octets),
+        "Utf8StringRef" => copies_of_leaf::<Utf8StringRef, String>(alloc, octets),
+        "BmpString" => copies_of_leaf::<BmpString, BmpString>(alloc, octets),
+        "SequenceOf<Small,2>" => copies::<SequenceOf<Small, 2>, SequenceOf<Small, 2>>(
             alloc, octets,
         ),
         "SetOfVec<Small>" => copies_of_set(alloc, octets),
@@ -166,12 +169,15 @@ fn answer_of_texts(alloc: Global, kind: &str, octets: &[u8]) -> Result<String, R
     }
 }
 
-/// What is written of the copy of a value of a type with one tag, and of the copy of that copy.
-fn copies_of_value<
+/// What is written of a copy of a value whose type names its way, and of a copy of that copy.
+fn copies_of_leaf<
     'a,
-    T: DecodeValue<'a, SliceReader<'a>> + FixedTag + Copied<O>,
-    O: Clone + EncodeValue + FixedTag + Drop,
->(alloc: Global, octets: &'a [u8]) -> Result<String, Refusal> {
+    T: Described + FixedTag + Copied<O> + Drop,
+    O: Clone + Described + FixedTag + Drop,
+>(alloc: Global, octets: &'a [u8]) -> Result<String, Refusal>
+where
+    T::By: DecodeWay<'a, SliceReader<'a>, T>,
+{
     copies::<T, O>(alloc, octets)
 }
 
@@ -224,7 +230,7 @@ fn copies_of_few(alloc: Global, octets: &[u8]) -> Result<String, Refusal> {
 
 /// What is written of a copy of a set that is lent, and of the set of its members.
 fn copies_of_lent(alloc: Global, octets: &[u8]) -> Result<String, Refusal> {
-    let set: SetOfRef<Small> = from_der(alloc, octets)?;
+    let set: SetOfRef<Small> = read_lent(alloc, octets, EncodingRules::Der)?;
     let first = copy_written(alloc, set.clone());
     joined(first, " ", written_in(alloc, set.ref_to_owned(alloc)))
 }
@@ -232,7 +238,7 @@ fn copies_of_lent(alloc: Global, octets: &[u8]) -> Result<String, Refusal> {
 /// The member at a place of a set that is lent.
 pub fn answer_of_member(alloc: Global, place: &str, octets: &[u8]) -> Result<String, Refusal> {
     let place = usize::from(place.parse::<u8>()?);
-    let set: SetOfRef<Small> = from_der(alloc, octets)?;
+    let set: SetOfRef<Small> = read_lent(alloc, octets, EncodingRules::Der)?;
     match set.get(alloc, place)? {
         Some(member) => written(alloc, &member),
         None => shown(alloc, "none"),

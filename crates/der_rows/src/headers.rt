@@ -13,28 +13,45 @@ use std::alloc::Global;
 pub fn answer(alloc: Global, word: &str, rest: &str) -> Result<String, Refusal> {
     let (first, second) = front_of(rest);
     match word {
-        "header" => of_header(alloc, EncodingRules::Der, first),
-        "header-ber" => of_header(alloc, EncodingRules::Ber, first),
-        "header-order" => order_of_headers(alloc, first, second),
-        "scan" => of_fronts(alloc, first),
-        "lone-length" => of_lone_length(alloc, first),
-        "lone-tag" => of_lone_tag(alloc, first),
-        "private-4" => matches_private_4(alloc, first),
         "length-written" => of_length(alloc, first),
         "tags" => of_number(alloc, first),
-        "class" => of_class(alloc, first),
         "mode" => of_mode(alloc, first),
         "rules" => of_rules(alloc, first),
-        "tag" | "tag-order" | "tag-expected" | "tag-errors" | "tlv" => {
-            answer_of_tag(alloc, word, first, second)
+        "sum" | "difference" | "length-order" | "saturating-sum" | "saturating-difference" => {
+            of_lengths(alloc, word, first, second)
         }
-        _ => of_lengths(alloc, word, first, second),
+        _ => {
+            let octets = octets_of(alloc, first)?;
+            answer_of_octets(alloc, word, octets.as_slice(), second)
+        }
     }
 }
 
-/// The answer to a question about the tag at the front of octets, and another tag or a length.
-fn answer_of_tag(alloc: Global, word: &str, first: &str, second: &str) -> Result<String, Refusal> {
-    let tag = tag_in(alloc, first)?;
+/// The answer to a question about what stands at the front of octets, and of others.
+fn answer_of_octets(
+    alloc: Global,
+    word: &str,
+    octets: &[u8],
+    second: &str,
+) -> Result<String, Refusal> {
+    match word {
+        "header" => of_header(alloc, EncodingRules::Der, octets),
+        "header-ber" => of_header(alloc, EncodingRules::Ber, octets),
+        "header-order" => order_of_headers(alloc, octets, second),
+        "scan" => of_fronts(alloc, octets),
+        "lone-length" => of_lone_length(alloc, octets),
+        "lone-tag" => of_lone_tag(alloc, octets),
+        "private-4" => matches_private_4(alloc, octets),
+        "class" => of_class(alloc, octets),
+        "tag" | "tag-order" | "tag-expected" | "tag-errors" | "tlv" => {
+            answer_of_tag(alloc, word, Tag::peek(octets)?, second)
+        }
+        _ => Err(Refusal::Unread),
+    }
+}
+
+/// The answer to a question about a tag, and another one or a length.
+fn answer_of_tag(alloc: Global, word: &str, tag: Tag, second: &str) -> Result<String, Refusal> {
     match word {
         "tag" => of_tag(alloc, tag),
         "tag-errors" => of_errors(alloc, tag),
@@ -58,9 +75,8 @@ fn of_encoding(alloc: Global, tag: Tag, text: &str) -> Result<String, Refusal> {
 }
 
 /// What a header says that is read by those rules, and what is written for it.
-fn of_header(alloc: Global, rules: EncodingRules, digits: &str) -> Result<String, Refusal> {
-    let octets = octets_of(alloc, digits)?;
-    let (header, position) = header_by(rules, octets.as_slice())?;
+fn of_header(alloc: Global, rules: EncodingRules, octets: &[u8]) -> Result<String, Refusal> {
+    let (header, position) = header_by(rules, octets)?;
     let Header { tag, length } = header;
     let written = header_written(alloc, header)?;
     Ok(format!(in alloc; "{position} {length} {written} {tag}")?)
@@ -87,12 +103,10 @@ fn header_written(alloc: Global, header: Header) -> Result<String, Refusal> {
 }
 
 /// What is scanned of each front of octets, the shortest first.
-fn of_fronts(alloc: Global, digits: &str) -> Result<String, Refusal> {
-    let octets = octets_of(alloc, digits)?;
+fn of_fronts(alloc: Global, octets: &[u8]) -> Result<String, Refusal> {
     let mut answers = String::new(alloc);
     for count in 0..octets.len() + 1 {
-        let scan = Header::scan(&octets.as_slice()[..count]);
-        add(&mut answers, scanned(alloc, scan))?;
+        add(&mut answers, scanned(alloc, Header::scan(&octets[..count])))?;
     }
     Ok(answers)
 }
@@ -114,9 +128,8 @@ fn scanned(
 
 /// The length that stands alone at the front of octets, how many octets it takes, and what is
 /// written for it.
-fn of_lone_length(alloc: Global, digits: &str) -> Result<String, Refusal> {
-    let octets = octets_of(alloc, digits)?;
-    let (length, count) = lone_length_of(octets.as_slice())?;
+fn of_lone_length(alloc: Global, octets: &[u8]) -> Result<String, Refusal> {
+    let (length, count) = lone_length_of(octets)?;
     let written = length_written(alloc, length)?;
     Ok(format!(in alloc; "{count} {length} {written}")?)
 }
@@ -135,28 +148,28 @@ fn length_written(alloc: Global, length: Length) -> Result<String, Refusal> {
 
 /// The tag that stands alone at the front of octets, how many octets it takes, and what is written
 /// for it.
-fn of_lone_tag(alloc: Global, digits: &str) -> Result<String, Refusal> {
-    let octets = octets_of(alloc, digits)?;
-    let (tag, count) = tag_of(octets.as_slice())?;
-    let mut out = Vec::new(alloc);
-    encode_tag(&mut out, tag)?;
-    let written = hex_of(alloc, out.as_slice())?;
+fn of_lone_tag(alloc: Global, octets: &[u8]) -> Result<String, Refusal> {
+    let (tag, count) = tag_of(octets)?;
+    let written = tag_written(alloc, tag)?;
     Ok(format!(in alloc; "{count} {written} {tag}")?)
 }
 
+/// What is written for a tag.
+fn tag_written(alloc: Global, tag: Tag) -> Result<String, Refusal> {
+    let mut out = Vec::new(alloc);
+    encode_tag(&mut out, tag)?;
+    hex_of(alloc, out.as_slice())
+}
+
 /// Whether the private tag of the number 4 stands at the front of octets.
-fn matches_private_4(alloc: Global, digits: &str) -> Result<String, Refusal> {
-    let octets = octets_of(alloc, digits)?;
+fn matches_private_4(alloc: Global, octets: &[u8]) -> Result<String, Refusal> {
     let number = TagNumber::new(4);
-    printed(
-        alloc,
-        Tag::peek_matches(octets.as_slice(), Class::Private, number),
-    )
+    printed(alloc, Tag::peek_matches(octets, Class::Private, number))
 }
 
 /// The order of two headers.
-fn order_of_headers(alloc: Global, first: &str, second: &str) -> Result<String, Refusal> {
-    let order = header_cmp(header_in(alloc, first)?, header_in(alloc, second)?);
+fn order_of_headers(alloc: Global, octets: &[u8], second: &str) -> Result<String, Refusal> {
+    let order = header_cmp(Header::peek(octets)?, header_in(alloc, second)?);
     shown(alloc, name_of(order))
 }
 
@@ -219,9 +232,8 @@ fn of_number(alloc: Global, text: &str) -> Result<String, Refusal> {
 }
 
 /// The class of a tag with that first octet, and its bits.
-fn of_class(alloc: Global, text: &str) -> Result<String, Refusal> {
-    let octets = octets_of(alloc, text)?;
-    let [octet] = octets.as_slice() else {
+fn of_class(alloc: Global, octets: &[u8]) -> Result<String, Refusal> {
+    let [octet] = octets else {
         return Err(Refusal::Unread);
     };
     let class = Class::from(*octet);

@@ -120,8 +120,13 @@ fn order_of_refs(alloc: Global, rest: &str) -> Result<String, Refusal> {
     let (first, second) = rest.split_once(' ').ok_or(Refusal::Unread)?;
     let first = octets_of(alloc, first)?;
     let second = octets_of(alloc, second)?;
-    let first = ObjectIdentifierRef::from_bytes(first.as_slice())?;
-    let second = ObjectIdentifierRef::from_bytes(second.as_slice())?;
+    order_of_octets(alloc, first.as_slice(), second.as_slice())
+}
+
+/// The order of the identifiers that octets lend.
+fn order_of_octets(alloc: Global, first: &[u8], second: &[u8]) -> Result<String, Refusal> {
+    let first = ObjectIdentifierRef::from_bytes(first)?;
+    let second = ObjectIdentifierRef::from_bytes(second)?;
     shown(alloc, name_of(first.cmp(&second)))
 }
 

@@ -1,8 +1,8 @@
 //! Values without others inside.
 
 use crate::questions::{
-    Asked, Question, answer_of_plain, answer_of_value, answer_with_contents, answer_with_debug,
-    answer_with_order,
+    Asked, Question, answer_of_converted, answer_of_lent, answer_of_number, answer_of_plain,
+    answer_of_value, answer_with_contents, answer_with_order,
 };
 use crate::refusals::Refusal;
 use crate::shown::written_in;
@@ -18,12 +18,12 @@ use std::alloc::Global;
 /// The answer of a type that this page names, or one behind it.
 pub fn answer(alloc: Global, kind: &str, question: &Question<'_>) -> Result<String, Refusal> {
     match kind {
-        "()" => answer_with_contents::<()>(alloc, question),
-        "bool" => answer_of_plain::<bool>(alloc, question),
-        "u8" => answer_of_plain::<u8>(alloc, question),
-        "str" => answer_of_plain::<&str>(alloc, question),
+        "()" => answer_of_converted::<()>(alloc, question),
+        "bool" => answer_of_converted::<bool>(alloc, question),
+        "u8" => answer_of_number::<u8>(alloc, question),
+        "str" => answer_of_number::<&str>(alloc, question),
         "String" => answer_of_plain::<String>(alloc, question),
-        "ObjectIdentifier" => answer_of_plain::<ObjectIdentifier<39>>(alloc, question),
+        "ObjectIdentifier" => answer_of_number::<ObjectIdentifier<39>>(alloc, question),
         _ => answer_of_integers(alloc, kind, question),
     }
 }
@@ -35,15 +35,15 @@ fn answer_of_integers(
     question: &Question<'_>,
 ) -> Result<String, Refusal> {
     match kind {
-        "u16" => answer_of_plain::<u16>(alloc, question),
-        "u32" => answer_with_debug::<u32>(alloc, question),
-        "u64" => answer_with_debug::<u64>(alloc, question),
-        "u128" => answer_of_plain::<u128>(alloc, question),
-        "i8" => answer_of_plain::<i8>(alloc, question),
-        "i16" => answer_with_debug::<i16>(alloc, question),
-        "i32" => answer_of_plain::<i32>(alloc, question),
-        "i64" => answer_with_debug::<i64>(alloc, question),
-        "i128" => answer_with_debug::<i128>(alloc, question),
+        "u16" => answer_of_number::<u16>(alloc, question),
+        "u32" => answer_of_number::<u32>(alloc, question),
+        "u64" => answer_of_number::<u64>(alloc, question),
+        "u128" => answer_of_number::<u128>(alloc, question),
+        "i8" => answer_of_number::<i8>(alloc, question),
+        "i16" => answer_of_number::<i16>(alloc, question),
+        "i32" => answer_of_number::<i32>(alloc, question),
+        "i64" => answer_of_number::<i64>(alloc, question),
+        "i128" => answer_of_number::<i128>(alloc, question),
         "Box<u8>" => answer_with_contents::<Box<u8>>(alloc, question),
         _ => answer_of_numbers(alloc, kind, question),
     }
@@ -57,9 +57,9 @@ fn answer_of_numbers(
 ) -> Result<String, Refusal> {
     match kind {
         "Int" => answer_with_order::<Int>(alloc, question),
-        "IntRef" => answer_with_order::<IntRef>(alloc, question),
+        "IntRef" => answer_of_lent::<IntRef>(alloc, question),
         "Uint" => answer_with_order::<Uint>(alloc, question),
-        "UintRef" => answer_with_order::<UintRef>(alloc, question),
+        "UintRef" => answer_of_lent::<UintRef>(alloc, question),
         "Explicit<Uint,0>" => answer_of_value::<Explicit<Uint, 0>>(alloc, question),
         _ => answer_of_strings(alloc, kind, question),
     }
@@ -73,13 +73,13 @@ fn answer_of_strings(
 ) -> Result<String, Refusal> {
     match kind {
         "BitString" => answer_of_bits(alloc, question),
-        "BitStringRef" => answer_with_order::<BitStringRef>(alloc, question),
+        "BitStringRef" => answer_of_lent::<BitStringRef>(alloc, question),
         "Implicit<BitStringRef,1>" => answer_of_value::<Implicit<BitStringRef, 1>>(alloc, question),
         "KeyUsages" => key_usages::answer(alloc, question),
         "OctetString" => answer_with_order::<OctetString>(alloc, question),
-        "OctetStringRef" => answer_with_order::<OctetStringRef>(alloc, question),
-        "Null" => answer_with_order::<Null>(alloc, question),
-        "SequenceRef" => answer_with_order::<SequenceRef>(alloc, question),
+        "OctetStringRef" => answer_of_lent::<OctetStringRef>(alloc, question),
+        "Null" => answer_of_lent::<Null>(alloc, question),
+        "SequenceRef" => answer_of_lent::<SequenceRef>(alloc, question),
         _ => texts::answer(alloc, kind, question),
     }
 }

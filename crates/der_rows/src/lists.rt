@@ -7,7 +7,7 @@ use crate::shown::{named, written, written_in};
 use crate::small::Small;
 use crate::{fields, record};
 use der_core::{
-    ApartValue, AsRead, AsReadValue, Decode, DecodeValue, DerOrd, Encode, EncodeValue,
+    ApartValue, AsRead, AsReadValue, Decode, DecodeValue, DerOrd, Element, Encode, EncodeValue,
     EncodingRules, Error, FixedTag, Header, InRange, Member, Reader, SliceReader, Tag, ValueOrd,
     from_ber, from_der,
 };
@@ -23,16 +23,12 @@ type FewFields = (
 );
 
 /// A set that is lent as a field, and as one that may be absent.
-type LentFields<'a> = (
-    SetOfRef<'a, Small>,
-    (Option<SetOfRef<'a, Small>>, (Small, ())),
-);
+type LentFields<'a, T> = (SetOfRef<'a, T>, (Option<SetOfRef<'a, T>>, (T, ())));
 
 /// The answer of a type that this page names, or one behind it.
 pub fn answer(alloc: Global, kind: &str, question: &Question<'_>) -> Result<String, Refusal> {
     match kind {
         "Small" => answer_with_contents::<Small>(alloc, question),
-        "SetOfVec<Small>" => answer_of_set::<SetOfVec<Small>>(alloc, question),
         "SetOfVec<u16>" => answer_of_members_read::<SetOfVec<u16>>(alloc, question),
         "SetOf<Small,2>" => answer_of_set::<SetOf<Small, 2>>(alloc, question),
         "SequenceOf<Small,2>" => answer_with_contents::<SequenceOf<Small, 2>>(alloc, question),
@@ -41,10 +37,32 @@ pub fn answer(alloc: Global, kind: &str, question: &Question<'_>) -> Result<Stri
             SequenceOf<SequenceOf<Small, 1>, 2>,
         >(alloc, question),
         "FewFields" => record::answer::<FewFields>(alloc, question),
-        "SetOfRef<Small>" => answer_of_lent(alloc, question),
-        "Vec<SetOfRef<Small>>" => answer_of_value::<Vec<SetOfRef<Small>>>(alloc, question),
-        "SetOfRef<SetOfRef<Small>>" => answer_of_lent_members::<SetOfRef<Small>>(alloc, question),
-        "LentFields" => record::answer::<LentFields>(alloc, question),
+        "SetOfRef<Small>" if !question.is_of_any() => answer_of_lent(alloc, question),
+        _ => answer_around::<Small>(alloc, kind, question),
+    }
+}
+
+/// The answer of a set or of sets that are lent, or of a type behind them. The members are any
+/// here: what is asked of them is checked once, at the call, and not for each set of them.
+fn answer_around<
+    'a,
+    T: AsRead
+        + Decode<'a, SliceReader<'a>>
+        + DerOrd
+        + Element
+        + Encode
+        + Hash
+        + InRange
+        + Member
+        + Ord
+        + 'a,
+>(alloc: Global, kind: &str, question: &Question<'a>) -> Result<String, Refusal> {
+    match kind {
+        "SetOfVec<Small>" => answer_of_set::<SetOfVec<T>>(alloc, question),
+        "SetOfRef<Small>" => answer_of_value::<SetOfRef<T>>(alloc, question),
+        "Vec<SetOfRef<Small>>" => answer_of_value::<Vec<SetOfRef<T>>>(alloc, question),
+        "SetOfRef<SetOfRef<Small>>" => answer_of_lent_members::<SetOfRef<T>>(alloc, question),
+        "LentFields" => record::answer::<LentFields<'a, T>>(alloc, question),
         _ => fields::answer(alloc, kind, question),
     }
 }
@@ -112,19 +130,19 @@ fn answer_of_set<'a, T: Members<'a> + EncodeValue + FixedTag + Hash + Ord + Valu
     question: &Question<'a>,
 ) -> Result<String, Refusal> {
     match question.asked {
-        Asked::Der | Asked::Ber => answer_of_members_read::<T>(alloc, question),
-        _ => {
+        Asked::Order | Asked::Contents | Asked::Compare => {
             let first = T::read(alloc, question.first, EncodingRules::Der)?;
             let second = T::read(alloc, question.second, EncodingRules::Der)?;
             order_of_sets(alloc, question.asked, &first, &second)
         }
+        _ => answer_of_members_read::<T>(alloc, question),
     }
 }
 
 /// The order of two sets.
 fn order_of_sets<T: EncodeValue + FixedTag + Hash + Ord + ValueOrd>(
     alloc: Global,
-    asked: Asked,
+    asked: Asked<'_>,
     first: &T,
     second: &T,
 ) -> Result<String, Refusal> {
@@ -166,7 +184,7 @@ fn answer_of_lent(alloc: Global, question: &Question<'_>) -> Result<String, Refu
 /// The order of two borrowed sets.
 fn order_of_lent(
     alloc: Global,
-    asked: Asked,
+    asked: Asked<'_>,
     first: &SetOfRef<'_, Small>,
     second: &SetOfRef<'_, Small>,
 ) -> Result<String, Refusal> {
@@ -196,6 +214,15 @@ fn lent<'a>(
     if octets.starts_with(b"\x30") {
         return SetOfRef::try_from(values);
     }
+    read_lent(alloc, octets, rules)
+}
+
+/// The borrowed set that octets spell by these rules.
+pub fn read_lent<'a, T: Decode<'a, SliceReader<'a>> + Member>(
+    alloc: Global,
+    octets: &'a [u8],
+    rules: EncodingRules,
+) -> Result<SetOfRef<'a, T>, Error> {
     if rules.is_der() {
         return from_der(alloc, octets);
     }

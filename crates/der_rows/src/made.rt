@@ -4,7 +4,8 @@ use crate::key_usages;
 use crate::refusals::Refusal;
 use crate::shown::{front_of, octets_of, written, written_in};
 use crate::times::seconds_of;
-use der_core::Error;
+use der_core::describing::Described;
+use der_core::{Error, FixedTag};
 use der_types_numbers::{Int, IntRef, Uint, UintRef};
 use der_types_text::{
     BmpString, GeneralStringRef, Ia5String, Ia5StringRef, PrintableString, PrintableStringRef,
@@ -20,10 +21,10 @@ pub fn of_octets(alloc: Global, rest: &str) -> Result<String, Refusal> {
     let (kind, octets) = front_of(rest);
     let octets = octets_of(alloc, octets)?;
     match kind {
-        "BitString" => written_in(alloc, BitString::from_bytes(octets)),
-        "OctetString" => written_in(alloc, OctetString::new(octets)),
-        "Vec<u8>" => written_in(alloc, given_back(octets)),
-        "BmpString" => written_in(alloc, BmpString::from_ucs2(octets)),
+        "BitString" => outcome_written(alloc, BitString::from_bytes(octets)),
+        "OctetString" => outcome_written(alloc, OctetString::new(octets)),
+        "Vec<u8>" => outcome_written(alloc, given_back(octets)),
+        "BmpString" => outcome_written(alloc, BmpString::from_ucs2(octets)),
         _ => number_of(alloc, kind, octets.as_slice()),
     }
 }
@@ -37,10 +38,10 @@ fn given_back(octets: Vec<u8>) -> Result<OctetString, Error> {
 /// What is written of the number that octets spell, with those that count for nothing.
 fn number_of(alloc: Global, kind: &str, octets: &[u8]) -> Result<String, Refusal> {
     match kind {
-        "Int" => written_in(alloc, Int::new(alloc, octets)),
-        "IntRef" => written_in(alloc, IntRef::new(octets)),
-        "Uint" => written_in(alloc, Uint::new(alloc, octets)),
-        "UintRef" => written_in(alloc, UintRef::new(octets)),
+        "Int" => outcome_written(alloc, Int::new(alloc, octets)),
+        "IntRef" => outcome_written(alloc, IntRef::new(octets)),
+        "Uint" => outcome_written(alloc, Uint::new(alloc, octets)),
+        "UintRef" => outcome_written(alloc, UintRef::new(octets)),
         _ => string_of(alloc, kind, octets),
     }
 }
@@ -48,10 +49,10 @@ fn number_of(alloc: Global, kind: &str, octets: &[u8]) -> Result<String, Refusal
 /// What is written of the string of octets, or of the number that they spell inside of one.
 fn string_of(alloc: Global, kind: &str, octets: &[u8]) -> Result<String, Refusal> {
     match kind {
-        "BitStringRef" => written_in(alloc, BitStringRef::from_bytes(octets)),
-        "OctetStringRef" => written_in(alloc, OctetStringRef::new(octets)),
-        "SequenceRef" => written_in(alloc, SequenceRef::new(octets)),
-        "u8" => written_in(alloc, number_inside(alloc, octets)),
+        "BitStringRef" => outcome_written(alloc, BitStringRef::from_bytes(octets)),
+        "OctetStringRef" => outcome_written(alloc, OctetStringRef::new(octets)),
+        "SequenceRef" => outcome_written(alloc, SequenceRef::new(octets)),
+        "u8" => outcome_written(alloc, number_inside(alloc, octets)),
         _ => text_of(alloc, kind, octets),
     }
 }
@@ -64,12 +65,12 @@ fn number_inside(alloc: Global, octets: &[u8]) -> Result<u8, Error> {
 /// What is written of the text of octets.
 fn text_of(alloc: Global, kind: &str, octets: &[u8]) -> Result<String, Refusal> {
     match kind {
-        "PrintableString" => written_in(alloc, PrintableString::new(alloc, octets)),
-        "PrintableStringRef" => written_in(alloc, PrintableStringRef::new(octets)),
-        "Ia5String" => written_in(alloc, Ia5String::new(alloc, octets)),
-        "Ia5StringRef" => written_in(alloc, Ia5StringRef::new(octets)),
-        "Utf8StringRef" => written_in(alloc, Utf8StringRef::new(octets)),
-        "GeneralStringRef" => written_in(alloc, GeneralStringRef::new(octets)),
+        "PrintableString" => outcome_written(alloc, PrintableString::new(alloc, octets)),
+        "PrintableStringRef" => outcome_written(alloc, PrintableStringRef::new(octets)),
+        "Ia5String" => outcome_written(alloc, Ia5String::new(alloc, octets)),
+        "Ia5StringRef" => outcome_written(alloc, Ia5StringRef::new(octets)),
+        "Utf8StringRef" => outcome_written(alloc, Utf8StringRef::new(octets)),
+        "GeneralStringRef" => outcome_written(alloc, GeneralStringRef::new(octets)),
         _ => Err(Refusal::Unread),
     }
 }
@@ -80,10 +81,10 @@ pub fn of_text(alloc: Global, rest: &str) -> Result<String, Refusal> {
     match kind {
         "PrintableString" => {
             let text = String::from_str(alloc, text)?;
-            written_in(alloc, PrintableString::try_from(text))
+            outcome_written(alloc, PrintableString::try_from(text))
         }
-        "Utf8StringRef" => written_in(alloc, Utf8StringRef::try_from(text)),
-        "BmpString" => written_in(alloc, BmpString::from_str(alloc, text)),
+        "Utf8StringRef" => outcome_written(alloc, Utf8StringRef::try_from(text)),
+        "BmpString" => outcome_written(alloc, BmpString::from_str(alloc, text)),
         "KeyUsages" => written(alloc, &key_usages::named(text)?),
         _ => time_of(alloc, kind, text),
     }
@@ -93,9 +94,20 @@ pub fn of_text(alloc: Global, rest: &str) -> Result<String, Refusal> {
 fn time_of(alloc: Global, kind: &str, seconds: &str) -> Result<String, Refusal> {
     let since_1970 = Duration::from_secs(seconds_of(seconds)?);
     match kind {
-        "UtcTime" => written_in(alloc, UtcTime::from_unix_duration(since_1970)),
-        "GeneralizedTime" => written_in(alloc, GeneralizedTime::from_unix_duration(since_1970)),
-        "DateTime" => written_in(alloc, DateTime::from_unix_duration(since_1970)),
+        "UtcTime" => outcome_written(alloc, UtcTime::from_unix_duration(since_1970)),
+        "GeneralizedTime" => outcome_written(
+            alloc,
+            GeneralizedTime::from_unix_duration(since_1970),
+        ),
+        "DateTime" => outcome_written(alloc, DateTime::from_unix_duration(since_1970)),
         _ => Err(Refusal::Unread),
     }
+}
+
+/// What is written of the value of an outcome, of a type that names its way.
+fn outcome_written<T: Described + FixedTag + Drop>(
+    alloc: Global,
+    outcome: Result<T, Error>,
+) -> Result<String, Refusal> {
+    written_in(alloc, outcome)
 }

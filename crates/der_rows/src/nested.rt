@@ -11,6 +11,7 @@ use der_core::{
     ApartValue, DecodeValue, EncodeValue, Explicit, FixedTag, Implicit, InRangeValue, SliceReader,
     StrictSetOf, ValueOrd, WithDefault,
 };
+use der_types_values::OctetStringRef;
 use std::alloc::Global;
 use std::marker::PhantomData;
 
@@ -38,6 +39,7 @@ fn answer_of_lists(alloc: Global, kind: &str, question: &Question<'_>) -> Result
     match kind {
         "Vec<bool>" => answer_of_value::<Vec<bool>>(alloc, question),
         "Vec<u8>" => answer_with_contents::<Vec<u8>>(alloc, question),
+        "Vec<OctetStringRef>" => answer_of_value::<Vec<OctetStringRef>>(alloc, question),
         "[bool;0]" => answer_of_value::<[bool; 0]>(alloc, question),
         "[u8;2]" => answer_with_debug::<[u8; 2]>(alloc, question),
         "[[bool;1];1]" => answer_of_value::<[[bool; 1]; 1]>(alloc, question),

@@ -1,20 +1,24 @@
 //! What is asked of the values of a type.
 
+use crate::any_values::{Conversion, converted};
 use crate::refusals::Refusal;
 use crate::shown::{
     debugged, hex_of, joined, name_of, named, or_refusal, printed, written, written_in,
 };
+use der_core::describing::{OrderWay, Ordered};
 use der_core::{
-    Decode, DecodeValue, DerOrd, Encode, EncodeValue, Error, FixedTag, SliceReader, ValueOrd,
-    from_ber, from_der, from_der_partial,
+    Decode, DecodeValue, DerOrd, Encode, EncodeValue, EncodingRules, Error, FixedTag, SliceReader,
+    ValueOrd, from_ber, from_der, from_der_partial,
 };
+use der_core_values::describing::DecodeWay;
+use der_types_any::{Any, AnyRef};
 use std::alloc::Global;
 use std::fmt::{Debug, Display};
 use std::hash::{DefaultHasher, Hash, Hasher};
 
 /// What is asked of values.
 #[derive(Clone, Copy)]
-pub enum Asked {
+pub enum Asked<'a> {
     /// What is written of the value that octets spell by DER.
     Der,
     /// What is written of the value that octets spell by BER.
@@ -31,19 +35,30 @@ pub enum Asked {
     Front,
     /// What a reader of the octets answers to a first call, and to a second one.
     Twice,
+    /// What is written of the value that has the tag and the content of any value, by these rules.
+    As(&'a Any, EncodingRules),
+    /// What is written of the value that any value is converted to, by this call.
+    Converted(&'a Any, Conversion),
 }
 
 /// A question about the values that octets spell: the second are none where one value is asked
-/// about.
+/// about, and both where it is any value.
 #[derive(Clone, Copy)]
 pub struct Question<'a> {
-    pub asked: Asked,
+    pub asked: Asked<'a>,
     pub first: &'a [u8],
     pub second: &'a [u8],
 }
 
+impl Question<'_> {
+    /// Whether what is asked about is any value, and no octets.
+    pub fn is_of_any(&self) -> bool {
+        matches!(self.asked, Asked::As(_, _) | Asked::Converted(_, _))
+    }
+}
+
 /// What a word asks of values.
-pub fn asked_by(word: &str) -> Result<Asked, Refusal> {
+pub fn asked_by(word: &str) -> Result<Asked<'_>, Refusal> {
     match word {
         "der" => Ok(Asked::Der),
         "ber" => Ok(Asked::Ber),
@@ -132,7 +147,11 @@ pub fn answer_of_value<'a, T: DecodeValue<'a, SliceReader<'a>> + EncodeValue + F
     alloc: Global,
     question: &Question<'a>,
 ) -> Result<String, Refusal> {
-    answer_of::<T>(alloc, question)
+    match question.asked {
+        Asked::As(any, EncodingRules::Der) => written_in(alloc, any.decode_as::<T>(alloc)),
+        Asked::As(any, rules) => written_in(alloc, any.decode_as_encoding::<T>(alloc, rules)),
+        _ => answer_of::<T>(alloc, question),
+    }
 }
 
 /// The answer of a type with one tag that prints for debugging, too.
@@ -142,7 +161,7 @@ pub fn answer_with_debug<'a, T: DecodeValue<'a, SliceReader<'a>> + EncodeValue +
 ) -> Result<String, Refusal> {
     match question.asked {
         Asked::Text => debugged(alloc, from_der::<T>(alloc, question.first)),
-        _ => answer_of::<T>(alloc, question),
+        _ => answer_of_value::<T>(alloc, question),
     }
 }
 
@@ -156,7 +175,8 @@ pub fn answer_with_contents<
             let (first, second) = values_of::<T>(alloc, question)?;
             named(alloc, first.value_cmp(&second))
         }
-        _ => answer_as::<T>(alloc, question),
+        Asked::Order => answer_as::<T>(alloc, question),
+        _ => answer_of_value::<T>(alloc, question),
     }
 }
 
@@ -169,6 +189,40 @@ pub fn answer_of_plain<
         Asked::Text => debugged(alloc, from_der::<T>(alloc, question.first)),
         _ => answer_with_contents::<T>(alloc, question),
     }
+}
+
+/// The answer of such a type that any value is converted to.
+pub fn answer_of_converted<
+    'a,
+    T: DecodeValue<'a, SliceReader<'a>>
+        + EncodeValue
+        + FixedTag
+        + ValueOrd
+        + Debug
+        + TryFrom<&'a Any, Error = Error>
+        + TryFrom<AnyRef<'a>, Error = Error>,
+>(alloc: Global, question: &Question<'a>) -> Result<String, Refusal> {
+    match question.asked {
+        Asked::Converted(any, conversion) => converted::<T>(alloc, any, conversion),
+        _ => answer_of_plain::<T>(alloc, question),
+    }
+}
+
+/// The answer of such a type that names the way in which its values are coded. Of these the way is
+/// asked for, since all that the way gives is then checked once, and not for each type.
+pub fn answer_of_number<
+    'a,
+    T: Ordered
+        + FixedTag
+        + Debug
+        + TryFrom<&'a Any, Error = Error>
+        + TryFrom<AnyRef<'a>, Error = Error>
+        + Drop,
+>(alloc: Global, question: &Question<'a>) -> Result<String, Refusal>
+where
+    T::By: DecodeWay<'a, SliceReader<'a>, T> + OrderWay<T>,
+{
+    answer_of_converted::<T>(alloc, question)
 }
 
 /// The answer of a type with one tag that has an order of its own, too.
@@ -185,14 +239,56 @@ pub fn answer_with_order<
     }
 }
 
-/// The answer of a type with one tag that has an order of its own, and prints.
-pub fn answer_with_text<
+/// The answer of such a type that any value is converted to.
+pub fn answer_of_lent<
     'a,
-    T: DecodeValue<'a, SliceReader<'a>> + EncodeValue + FixedTag + Hash + Ord + ValueOrd + Display,
+    T: DecodeValue<'a, SliceReader<'a>>
+        + EncodeValue
+        + FixedTag
+        + Hash
+        + Ord
+        + ValueOrd
+        + TryFrom<&'a Any, Error = Error>
+        + TryFrom<AnyRef<'a>, Error = Error>,
 >(alloc: Global, question: &Question<'a>) -> Result<String, Refusal> {
+    match question.asked {
+        Asked::Converted(any, conversion) => converted::<T>(alloc, any, conversion),
+        _ => answer_with_order::<T>(alloc, question),
+    }
+}
+
+/// The answer of such a type that prints, and names its way.
+pub fn answer_with_text<'a, T: Ordered + FixedTag + Hash + Ord + Display + Drop>(
+    alloc: Global,
+    question: &Question<'a>,
+) -> Result<String, Refusal>
+where
+    T::By: DecodeWay<'a, SliceReader<'a>, T> + OrderWay<T>,
+{
     match question.asked {
         Asked::Text => printed(alloc, from_der::<T>(alloc, question.first)),
         _ => answer_with_order::<T>(alloc, question),
+    }
+}
+
+/// The answer of such a type that any value is converted to.
+pub fn answer_of_lent_text<
+    'a,
+    T: Ordered
+        + FixedTag
+        + Hash
+        + Ord
+        + Display
+        + TryFrom<&'a Any, Error = Error>
+        + TryFrom<AnyRef<'a>, Error = Error>
+        + Drop,
+>(alloc: Global, question: &Question<'a>) -> Result<String, Refusal>
+where
+    T::By: DecodeWay<'a, SliceReader<'a>, T> + OrderWay<T>,
+{
+    match question.asked {
+        Asked::Converted(any, conversion) => converted::<T>(alloc, any, conversion),
+        _ => answer_with_text::<T>(alloc, question),
     }
 }
 

@@ -5,7 +5,7 @@ use crate::shown::{debugged, done, hex_in, hex_of, octets_of, or_refusal, printe
 use crate::small::Small;
 use der_core::describing::DecodeRow;
 use der_core::{
-    BytesOwned, Class, Decode, EncodingRules, Error, ErrorKind, Length, Member, Reader,
+    BytesOwned, Class, Decode, Element, EncodingRules, Error, ErrorKind, Length, Member, Reader,
     SliceReader, Tag, TagMode, TagNumber, decode_octets, peek_matches, reading,
 };
 use der_types_sets::SetOfRef;
@@ -130,14 +130,25 @@ fn answer_of_values<'a>(
         "bool" => printed(alloc, bool::decode(alloc, reader)),
         "u8" => printed(alloc, u8::decode(alloc, reader)),
         "option" => debugged(alloc, Option::<bool>::decode(alloc, reader)),
-        "lent" => answer_of_lent::<Small>(alloc, reader),
-        "lent-of-lent" => answer_of_lent::<SetOfRef<Small>>(alloc, reader),
+        "lent" | "lent-of-lent" => answer_of_sets::<Small>(alloc, reader, name),
         "nothing" => nothing(alloc, reader),
         "decode" => flag_of(alloc, reader),
         "fields" => fields_of(alloc, reader),
         "explicit" => answer_of_tagged(alloc, reader, TagMode::Explicit),
         "implicit" => answer_of_tagged(alloc, reader, TagMode::Implicit),
         _ => Err(Refusal::Unread),
+    }
+}
+
+/// How many members the set has that stands next, and is lent: values, or sets of them.
+fn answer_of_sets<'a, T: Decode<'a, SliceReader<'a>> + Element + Member + 'a>(
+    alloc: Global,
+    reader: &mut SliceReader<'a>,
+    name: &str,
+) -> Result<String, Refusal> {
+    match name {
+        "lent" => answer_of_lent::<T>(alloc, reader),
+        _ => answer_of_lent::<SetOfRef<T>>(alloc, reader),
     }
 }
 

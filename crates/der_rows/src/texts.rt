@@ -1,6 +1,6 @@
 //! Character strings.
 
-use crate::questions::{Question, answer_with_order, answer_with_text};
+use crate::questions::{Question, answer_of_lent, answer_of_lent_text, answer_with_text};
 use crate::refusals::Refusal;
 use crate::times;
 use der_types_text::{
@@ -13,14 +13,14 @@ use std::alloc::Global;
 pub fn answer(alloc: Global, kind: &str, question: &Question<'_>) -> Result<String, Refusal> {
     match kind {
         "PrintableString" => answer_with_text::<PrintableString>(alloc, question),
-        "PrintableStringRef" => answer_with_text::<PrintableStringRef>(alloc, question),
+        "PrintableStringRef" => answer_of_lent_text::<PrintableStringRef>(alloc, question),
         "Ia5String" => answer_with_text::<Ia5String>(alloc, question),
-        "Ia5StringRef" => answer_with_text::<Ia5StringRef>(alloc, question),
+        "Ia5StringRef" => answer_of_lent_text::<Ia5StringRef>(alloc, question),
         "TeletexString" => answer_with_text::<TeletexString>(alloc, question),
-        "TeletexStringRef" => answer_with_text::<TeletexStringRef>(alloc, question),
-        "VideotexStringRef" => answer_with_text::<VideotexStringRef>(alloc, question),
-        "Utf8StringRef" => answer_with_text::<Utf8StringRef>(alloc, question),
-        "GeneralStringRef" => answer_with_order::<GeneralStringRef>(alloc, question),
+        "TeletexStringRef" => answer_of_lent_text::<TeletexStringRef>(alloc, question),
+        "VideotexStringRef" => answer_of_lent_text::<VideotexStringRef>(alloc, question),
+        "Utf8StringRef" => answer_of_lent_text::<Utf8StringRef>(alloc, question),
+        "GeneralStringRef" => answer_of_lent::<GeneralStringRef>(alloc, question),
         "BmpString" => answer_with_text::<BmpString>(alloc, question),
         _ => times::answer(alloc, kind, question),
     }

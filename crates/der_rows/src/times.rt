@@ -1,10 +1,12 @@
 //! Dates and times.
 
 use crate::nested;
-use crate::questions::{Asked, Question, answer_with_order};
+use crate::questions::{Asked, Question, answer_of_lent};
 use crate::refusals::Refusal;
 use crate::shown::{printed, shown};
-use der_core::{Error, from_der};
+use der_core::describing::Described;
+use der_core::{Error, FixedTag, SliceReader, from_der};
+use der_core_values::describing::DecodeWay;
 use der_types_time::{DateTime, GeneralizedTime, UtcTime};
 use std::alloc::Global;
 
@@ -27,19 +29,31 @@ fn answer_of_time(alloc: Global, kind: &str, question: &Question<'_>) -> Result<
 /// The answer of a type of times to a question about anything else.
 fn answer_of_type(alloc: Global, kind: &str, question: &Question<'_>) -> Result<String, Refusal> {
     match kind {
-        "UtcTime" => answer_with_order::<UtcTime>(alloc, question),
-        "GeneralizedTime" => answer_with_order::<GeneralizedTime>(alloc, question),
-        _ => answer_with_order::<DateTime>(alloc, question),
+        "UtcTime" => answer_of_lent::<UtcTime>(alloc, question),
+        "GeneralizedTime" => answer_of_lent::<GeneralizedTime>(alloc, question),
+        _ => answer_of_lent::<DateTime>(alloc, question),
     }
 }
 
 /// The date of the time that octets spell.
 fn date_of(alloc: Global, kind: &str, octets: &[u8]) -> Result<DateTime, Error> {
     match kind {
-        "UtcTime" => Ok(DateTime::from(from_der::<UtcTime>(alloc, octets)?)),
-        "GeneralizedTime" => Ok(DateTime::from(from_der::<GeneralizedTime>(alloc, octets)?)),
+        "UtcTime" => date_in::<UtcTime>(alloc, octets),
+        "GeneralizedTime" => date_in::<GeneralizedTime>(alloc, octets),
         _ => from_der(alloc, octets),
     }
+}
+
+/// The date of the time of a type that octets spell.
+fn date_in<'a, T: Described + FixedTag + Into<DateTime> + Drop>(
+    alloc: Global,
+    octets: &'a [u8],
+) -> Result<DateTime, Error>
+where
+    T::By: DecodeWay<'a, SliceReader<'a>, T>,
+{
+    let time: T = from_der(alloc, octets)?;
+    Ok(time.into())
 }
 
 /// The answer to a question about dates: `date` asks for the seconds since 1970, `seconds` for the

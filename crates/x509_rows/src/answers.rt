@@ -5,8 +5,8 @@ use crate::lists::{value_placed, values_of};
 use crate::made::{digest_of, made_of};
 use crate::names::names_of;
 use crate::questions::{
-    Asked, Question, answer_of_ordered, answer_of_value, answer_with_order,
-    answer_with_order_and_copy, asked_by,
+    Asked, Question, answer_of_described, answer_of_ordered, answer_of_value, answer_with_order,
+    asked_by,
 };
 use crate::refusals::Refusal;
 use crate::shown::octets_of;
@@ -17,9 +17,8 @@ use std::alloc::Global;
 use std::io;
 use std::io::Write;
 use x509_cert::{
-    AlgorithmIdentifier, AlgorithmIdentifierRef, CertificateInner, Extension, Extensions, Raw,
-    Rfc5280, SerialNumber, SubjectPublicKeyInfo, SubjectPublicKeyInfoRef, TbsCertificateInner,
-    Time, Validity, Version,
+    AlgorithmIdentifier, AlgorithmIdentifierRef, Extension, Extensions, SubjectPublicKeyInfo,
+    SubjectPublicKeyInfoRef, Time, Version,
 };
 
 /// Writes the answer to a line.
@@ -109,31 +108,19 @@ fn got_of(alloc: Global, kind: &str, octets: &str) -> Result<String, Refusal> {
     answer_of_parts(alloc, kind, &question)
 }
 
-/// The answer of a part of a certificate, or of one.
+/// The answer of a part of a certificate, or of a type behind it.
 fn answer_of_parts(alloc: Global, kind: &str, question: &Question<'_>) -> Result<String, Refusal> {
     match kind {
         "AlgorithmIdentifier" => answer_of_ordered::<AlgorithmIdentifier>(alloc, question),
-        "AlgorithmIdentifierRef" => answer_of_value::<AlgorithmIdentifierRef>(alloc, question),
-        "SubjectPublicKeyInfo" => answer_of_value::<SubjectPublicKeyInfo>(alloc, question),
-        "SubjectPublicKeyInfoRef" => answer_of_value::<SubjectPublicKeyInfoRef>(alloc, question),
+        "AlgorithmIdentifierRef" => answer_of_described::<AlgorithmIdentifierRef>(alloc, question),
+        "SubjectPublicKeyInfo" => answer_of_described::<SubjectPublicKeyInfo>(alloc, question),
+        "SubjectPublicKeyInfoRef" => answer_of_described::<SubjectPublicKeyInfoRef>(
+            alloc, question,
+        ),
         "Version" => answer_of_ordered::<Version>(alloc, question),
         "Extension" => answer_of_ordered::<Extension>(alloc, question),
         "Extensions" => answer_of_value::<Extensions>(alloc, question),
         "Time" => answer_with_order::<Time>(alloc, question),
-        "SerialNumber" => answer_of_value::<SerialNumber<Raw>>(alloc, question),
-        "SerialNumber/Rfc5280" => answer_of_value::<SerialNumber<Rfc5280>>(alloc, question),
-        "Validity" => answer_of_value::<Validity<Raw>>(alloc, question),
-        "Validity/Rfc5280" => answer_of_value::<Validity<Rfc5280>>(alloc, question),
-        "TbsCertificate" => answer_of_ordered::<TbsCertificateInner<Raw>>(alloc, question),
-        "TbsCertificate/Rfc5280" => answer_of_ordered::<TbsCertificateInner<Rfc5280>>(
-            alloc, question,
-        ),
-        "Certificate" => answer_with_order_and_copy(
-            alloc,
-            question,
-            <CertificateInner<Raw>>::clone,
-        ),
-        "Certificate/Rfc5280" => answer_of_ordered::<CertificateInner<Rfc5280>>(alloc, question),
         _ => extensions::answer(alloc, kind, question),
     }
 }

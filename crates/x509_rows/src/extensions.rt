@@ -2,8 +2,8 @@
 
 use crate::lists;
 use crate::questions::{
-    Asked, Question, answer_of_content, answer_of_field, answer_of_list, answer_of_ordered,
-    answer_of_value, answer_with_both, answer_with_copy, answer_with_debug,
+    Asked, Question, answer_of_content, answer_of_copied, answer_of_described, answer_of_field,
+    answer_of_list, answer_of_ordered, answer_with_both, answer_with_debug,
     answer_with_debug_and_copy, answer_with_default_and_copy, answer_with_field,
     answer_with_field_and_copy, answer_with_order, answer_with_order_and_copy,
 };
@@ -125,11 +125,19 @@ fn answer_of_records(
             IssuingDistributionPoint::clone,
         ),
         "BasicConstraints" => answer_with_both::<BasicConstraints>(alloc, question),
-        "CrlReason" => answer_with_both::<CrlReason>(alloc, question),
+        "CrlReason" => answer_of_reason(alloc, question),
         "PolicyConstraints" => answer_with_debug::<PolicyConstraints>(alloc, question),
         "PrivateKeyUsagePeriod" => answer_of_content::<PrivateKeyUsagePeriod>(alloc, question),
         "NameConstraints" => answer_of_content::<NameConstraints>(alloc, question),
         _ => answer_of_parts(alloc, kind, question),
+    }
+}
+
+/// The answer of a reason, whose order is its own and not that of its way.
+fn answer_of_reason(alloc: Global, question: &Question<'_>) -> Result<String, Refusal> {
+    match question.asked {
+        Asked::Order => answer_with_order::<CrlReason>(alloc, question),
+        _ => answer_with_debug::<CrlReason>(alloc, question),
     }
 }
 
@@ -145,21 +153,21 @@ fn answer_of_inhibition(alloc: Global, question: &Question<'_>) -> Result<String
 fn answer_of_parts(alloc: Global, kind: &str, question: &Question<'_>) -> Result<String, Refusal> {
     match kind {
         "GeneralName" => answer_with_order::<GeneralName>(alloc, question),
-        "OtherName" => answer_of_value::<OtherName>(alloc, question),
-        "HardwareModuleName" => answer_with_copy(alloc, question, HardwareModuleName::clone),
-        "EdiPartyName" => answer_of_value::<EdiPartyName>(alloc, question),
+        "OtherName" => answer_of_described::<OtherName>(alloc, question),
+        "HardwareModuleName" => answer_of_copied(alloc, question, HardwareModuleName::clone),
+        "EdiPartyName" => answer_of_described::<EdiPartyName>(alloc, question),
         "DirectoryString" => answer_with_order_and_copy(alloc, question, DirectoryString::clone),
         "GeneralSubtree" => answer_of_ordered::<GeneralSubtree>(alloc, question),
-        "DistributionPoint" => answer_of_value::<DistributionPoint>(alloc, question),
+        "DistributionPoint" => answer_of_described::<DistributionPoint>(alloc, question),
         "DistributionPointName" => answer_with_order::<DistributionPointName>(alloc, question),
-        "ReasonFlags" => answer_of_ordered::<ReasonFlags>(alloc, question),
-        "AccessDescription" => answer_of_value::<AccessDescription>(alloc, question),
-        "PolicyInformation" => answer_of_value::<PolicyInformation>(alloc, question),
-        "PolicyQualifierInfo" => answer_of_value::<PolicyQualifierInfo>(alloc, question),
-        "PolicyMapping" => answer_of_value::<PolicyMapping>(alloc, question),
+        "ReasonFlags" => answer_with_order::<ReasonFlags>(alloc, question),
+        "AccessDescription" => answer_of_described::<AccessDescription>(alloc, question),
+        "PolicyInformation" => answer_of_described::<PolicyInformation>(alloc, question),
+        "PolicyQualifierInfo" => answer_of_described::<PolicyQualifierInfo>(alloc, question),
+        "PolicyMapping" => answer_of_described::<PolicyMapping>(alloc, question),
         "CpsUri" => answer_of_field::<_, Ia5String, _>(alloc, question, CpsUri::clone),
-        "UserNotice" => answer_with_copy(alloc, question, UserNotice::clone),
-        "NoticeReference" => answer_of_value::<NoticeReference>(alloc, question),
+        "UserNotice" => answer_of_copied(alloc, question, UserNotice::clone),
+        "NoticeReference" => answer_of_described::<NoticeReference>(alloc, question),
         "DisplayText" => answer_with_order::<DisplayText>(alloc, question),
         _ => lists::answer(alloc, kind, question),
     }

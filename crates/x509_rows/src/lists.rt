@@ -1,34 +1,23 @@
-//! Questions about revocation lists, certification requests, trust anchors and names.
+//! Questions about certification requests, paths and names.
 
+use crate::profiles;
 use crate::questions::{
-    Question, answer_of, answer_of_ordered, answer_of_ordered_list, answer_of_value,
-    answer_with_copy, answer_with_order_and_copy,
+    Question, answer_of_copied, answer_of_described, answer_of_ordered_list, answer_of_value,
 };
 use crate::refusals::Refusal;
 use crate::shown::{joined, octets_of, shown, written};
 use der_core::{StrictSetOf, from_der};
 use std::alloc::Global;
 use x509_cert::{
-    Attribute, AttributeTypeAndValue, AttributeValue, CertPathControls, CertReq, CertReqInfo,
-    CertificateList, ExtensionReq, Name, PkiPath, Raw, RdnSequence, RelativeDistinguishedName,
-    RevokedCert, Rfc5280, TbsCertList, TrustAnchorChoice, TrustAnchorInfo,
+    Attribute, AttributeTypeAndValue, AttributeValue, CertReq, CertReqInfo, ExtensionReq, Name,
+    PkiPath, RdnSequence, RelativeDistinguishedName,
 };
 
-/// The answer of a type that this page names.
+/// The answer of a type that this page names, or one behind it.
 pub fn answer(alloc: Global, kind: &str, question: &Question<'_>) -> Result<String, Refusal> {
     match kind {
-        "CertificateList" => answer_with_order_and_copy(
-            alloc,
-            question,
-            <CertificateList<Raw>>::clone,
-        ),
-        "CertificateList/Rfc5280" => answer_of_value::<CertificateList<Rfc5280>>(alloc, question),
-        "TbsCertList" => answer_of_ordered::<TbsCertList<Raw>>(alloc, question),
-        "TbsCertList/Rfc5280" => answer_of_value::<TbsCertList<Rfc5280>>(alloc, question),
-        "RevokedCert" => answer_of_ordered::<RevokedCert<Raw>>(alloc, question),
-        "RevokedCert/Rfc5280" => answer_of_value::<RevokedCert<Rfc5280>>(alloc, question),
-        "CertReq" => answer_with_copy(alloc, question, CertReq::clone),
-        "CertReqInfo" => answer_with_copy(alloc, question, CertReqInfo::clone),
+        "CertReq" => answer_of_copied(alloc, question, CertReq::clone),
+        "CertReqInfo" => answer_of_copied(alloc, question, CertReqInfo::clone),
         "PkiPath" => answer_of_value::<PkiPath>(alloc, question),
         "ExtensionReq" => answer_of_ordered_list(
             alloc,
@@ -36,17 +25,11 @@ pub fn answer(alloc: Global, kind: &str, question: &Question<'_>) -> Result<Stri
             ExtensionReq::clone,
             ExtensionReq::default,
         ),
-        "TrustAnchorChoice" => answer_with_copy(alloc, question, <TrustAnchorChoice<Raw>>::clone),
-        "TrustAnchorChoice/Rfc5280" => answer_of::<TrustAnchorChoice<Rfc5280>>(alloc, question),
-        "TrustAnchorInfo" => answer_of_value::<TrustAnchorInfo<Raw>>(alloc, question),
-        "TrustAnchorInfo/Rfc5280" => answer_of_value::<TrustAnchorInfo<Rfc5280>>(alloc, question),
-        "CertPathControls" => answer_of_value::<CertPathControls<Raw>>(alloc, question),
-        "CertPathControls/Rfc5280" => answer_of_value::<CertPathControls<Rfc5280>>(alloc, question),
         _ => answer_of_names(alloc, kind, question),
     }
 }
 
-/// The answer of a name or a part of one.
+/// The answer of a name or a part of one, or of a type behind it.
 fn answer_of_names(alloc: Global, kind: &str, question: &Question<'_>) -> Result<String, Refusal> {
     match kind {
         "Name" => answer_of_value::<Name>(alloc, question),
@@ -59,9 +42,9 @@ fn answer_of_names(alloc: Global, kind: &str, question: &Question<'_>) -> Result
         "RelativeDistinguishedName" => answer_of_value::<RelativeDistinguishedName>(
             alloc, question,
         ),
-        "AttributeTypeAndValue" => answer_of_value::<AttributeTypeAndValue>(alloc, question),
-        "Attribute" => answer_with_copy(alloc, question, Attribute::clone),
-        _ => Err(Refusal::Unread),
+        "AttributeTypeAndValue" => answer_of_described::<AttributeTypeAndValue>(alloc, question),
+        "Attribute" => answer_of_copied(alloc, question, Attribute::clone),
+        _ => profiles::answer(alloc, kind, question),
     }
 }
 

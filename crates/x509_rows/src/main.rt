@@ -61,6 +61,7 @@ mod lists;
 mod made;
 mod name_texts;
 mod names;
+mod profiles;
 mod questions;
 mod refusals;
 mod relative_names;

@@ -8,10 +8,12 @@ use crate::refusals::Refusal;
 use crate::shown::{hex_of, joined, or_refusal, written, written_in};
 use crate::whole_extensions::got;
 use const_oid::AssociatedOid;
+use der_core::describing::{Described, OrderWay, Ordered};
 use der_core::{
-    Decode, DecodeValue, DerOrd, Encode, EncodeValue, Error, FixedTag, SliceReader, ValueOrd,
-    from_der, from_der_partial,
+    Decode, DecodeValue, DerOrd, Encode, EncodeValue, Error, FixedTag, SliceReader, from_der,
+    from_der_partial,
 };
+use der_core_values::describing::{DecodeWay, TagWay};
 use std::alloc::{AllocError, Global};
 use std::cmp::Ordering;
 use std::fmt::Debug;
@@ -149,21 +151,51 @@ pub fn answer_of_value<'a, T: DecodeValue<'a, SliceReader<'a>> + EncodeValue + F
     answer_of::<T>(alloc, question)
 }
 
-/// The answer of a type with one tag that is compared, too.
-pub fn answer_of_ordered<
-    'a,
-    T: DecodeValue<'a, SliceReader<'a>> + EncodeValue + FixedTag + ValueOrd,
->(alloc: Global, question: &Question<'a>) -> Result<String, Refusal> {
+/// The answer of a type that names the way in which its values are coded. Of such a type what the
+/// way does is asked for, since that costs the check less.
+pub fn answer_of_described<'a, T: Described + Drop>(
+    alloc: Global,
+    question: &Question<'a>,
+) -> Result<String, Refusal>
+where
+    T::By: DecodeWay<'a, SliceReader<'a>, T> + TagWay<T>,
+{
+    answer_of::<T>(alloc, question)
+}
+
+/// The answer of such a type that is compared, too.
+pub fn answer_of_ordered<'a, T: Ordered + FixedTag + Drop>(
+    alloc: Global,
+    question: &Question<'a>,
+) -> Result<String, Refusal>
+where
+    T::By: DecodeWay<'a, SliceReader<'a>, T> + OrderWay<T>,
+{
     answer_with_order::<T>(alloc, question)
+}
+
+/// The answer of such a type that is copied, too.
+pub fn answer_of_copied<
+    'a,
+    T: Described + PartialEq + Drop,
+    C: Fn(&T, Global) -> Result<T, AllocError>,
+>(alloc: Global, question: &Question<'a>, copy: C) -> Result<String, Refusal>
+where
+    T::By: DecodeWay<'a, SliceReader<'a>, T> + TagWay<T>,
+    requires { C.IsAlwaysCallable copy }
+{
+    answer_with_copy(alloc, question, copy)
 }
 
 /// The answer of a type with one tag and one field, which is copied, too.
 pub fn answer_of_field<
     'a,
-    T: DecodeValue<'a, SliceReader<'a>> + EncodeValue + FixedTag + PartialEq + AsMut<F>,
+    T: Described + PartialEq + AsMut<F> + Drop,
     F,
     C: Fn(&T, Global) -> Result<T, AllocError>,
 >(alloc: Global, question: &Question<'a>, copy: C) -> Result<String, Refusal>
+where
+    T::By: DecodeWay<'a, SliceReader<'a>, T> + TagWay<T>,
     requires { C.IsAlwaysCallable copy }
 {
     match question.asked {
@@ -176,16 +208,13 @@ pub fn answer_of_field<
 /// nothing is said.
 pub fn answer_of_ordered_list<
     'a,
-    T: DecodeValue<'a, SliceReader<'a>>
-        + EncodeValue
-        + FixedTag
-        + ValueOrd
-        + PartialEq
-        + AsMut<Vec<M>>,
+    T: Ordered + PartialEq + AsMut<Vec<M>> + Drop,
     M,
     C: Fn(&T, Global) -> Result<T, AllocError>,
     N: Fn(Global) -> T,
 >(alloc: Global, question: &Question<'a>, copy: C, none: N) -> Result<String, Refusal>
+where
+    T::By: DecodeWay<'a, SliceReader<'a>, T> + OrderWay<T> + TagWay<T>,
     requires copied { C.IsAlwaysCallable copy }
     requires made { N.IsAlwaysCallable none }
 {
@@ -197,10 +226,13 @@ pub fn answer_of_ordered_list<
 }
 
 /// The answer of a type that is the content of an extension.
-pub fn answer_of_content<
-    'a,
-    T: DecodeValue<'a, SliceReader<'a>> + EncodeValue + FixedTag + AssociatedOid + Criticality,
->(alloc: Global, question: &Question<'a>) -> Result<String, Refusal> {
+pub fn answer_of_content<'a, T: Described + FixedTag + AssociatedOid + Criticality + Drop>(
+    alloc: Global,
+    question: &Question<'a>,
+) -> Result<String, Refusal>
+where
+    T::By: DecodeWay<'a, SliceReader<'a>, T>,
+{
     match question.asked {
         Asked::Extension => {
             let subject: Name = from_der(alloc, question.first)?;
@@ -212,16 +244,13 @@ pub fn answer_of_content<
 }
 
 /// The answer of such a type of one field.
-pub fn answer_with_field<
-    'a,
-    T: DecodeValue<'a, SliceReader<'a>>
-        + EncodeValue
-        + FixedTag
-        + AssociatedOid
-        + Criticality
-        + AsMut<F>,
-    F,
->(alloc: Global, question: &Question<'a>) -> Result<String, Refusal> {
+pub fn answer_with_field<'a, T: Described + AssociatedOid + Criticality + AsMut<F> + Drop, F>(
+    alloc: Global,
+    question: &Question<'a>,
+) -> Result<String, Refusal>
+where
+    T::By: DecodeWay<'a, SliceReader<'a>, T> + TagWay<T>,
+{
     match question.asked {
         Asked::Exchange => exchange_of::<T, F>(alloc, question),
         _ => answer_of_content::<T>(alloc, question),
@@ -231,16 +260,12 @@ pub fn answer_with_field<
 /// The answer of such a type of one field that is copied, too.
 pub fn answer_with_field_and_copy<
     'a,
-    T: DecodeValue<'a, SliceReader<'a>>
-        + EncodeValue
-        + FixedTag
-        + PartialEq
-        + AssociatedOid
-        + Criticality
-        + AsMut<F>,
+    T: Described + PartialEq + AssociatedOid + Criticality + AsMut<F> + Drop,
     F,
     C: Fn(&T, Global) -> Result<T, AllocError>,
 >(alloc: Global, question: &Question<'a>, copy: C) -> Result<String, Refusal>
+where
+    T::By: DecodeWay<'a, SliceReader<'a>, T> + TagWay<T>,
     requires { C.IsAlwaysCallable copy }
 {
     match question.asked {
@@ -252,17 +277,13 @@ pub fn answer_with_field_and_copy<
 /// The answer of such a type whose field is a list, and which has no members where nothing is said.
 pub fn answer_of_list<
     'a,
-    T: DecodeValue<'a, SliceReader<'a>>
-        + EncodeValue
-        + FixedTag
-        + PartialEq
-        + AssociatedOid
-        + Criticality
-        + AsMut<Vec<M>>,
+    T: Described + PartialEq + AssociatedOid + Criticality + AsMut<Vec<M>> + Drop,
     M,
     C: Fn(&T, Global) -> Result<T, AllocError>,
     N: Fn(Global) -> T,
 >(alloc: Global, question: &Question<'a>, copy: C, none: N) -> Result<String, Refusal>
+where
+    T::By: DecodeWay<'a, SliceReader<'a>, T> + TagWay<T>,
     requires copied { C.IsAlwaysCallable copy }
     requires made { N.IsAlwaysCallable none }
 {
@@ -273,15 +294,13 @@ pub fn answer_of_list<
 }
 
 /// The answer of such a type that prints for debugging, too.
-pub fn answer_with_debug<
-    'a,
-    T: DecodeValue<'a, SliceReader<'a>>
-        + EncodeValue
-        + FixedTag
-        + AssociatedOid
-        + Criticality
-        + Debug,
->(alloc: Global, question: &Question<'a>) -> Result<String, Refusal> {
+pub fn answer_with_debug<'a, T: Described + FixedTag + AssociatedOid + Criticality + Debug + Drop>(
+    alloc: Global,
+    question: &Question<'a>,
+) -> Result<String, Refusal>
+where
+    T::By: DecodeWay<'a, SliceReader<'a>, T>,
+{
     match question.asked {
         Asked::Debug => {
             let value: T = from_der(alloc, question.first)?;
@@ -292,16 +311,13 @@ pub fn answer_with_debug<
 }
 
 /// The answer of such a type that is compared, too.
-pub fn answer_with_both<
-    'a,
-    T: DecodeValue<'a, SliceReader<'a>>
-        + EncodeValue
-        + FixedTag
-        + ValueOrd
-        + AssociatedOid
-        + Criticality
-        + Debug,
->(alloc: Global, question: &Question<'a>) -> Result<String, Refusal> {
+pub fn answer_with_both<'a, T: Ordered + FixedTag + AssociatedOid + Criticality + Debug + Drop>(
+    alloc: Global,
+    question: &Question<'a>,
+) -> Result<String, Refusal>
+where
+    T::By: DecodeWay<'a, SliceReader<'a>, T> + OrderWay<T>,
+{
     match question.asked {
         Asked::Order => order_of::<T>(alloc, question),
         _ => answer_with_debug::<T>(alloc, question),
@@ -311,15 +327,11 @@ pub fn answer_with_both<
 /// The answer of such a type that prints for debugging and is copied, too.
 pub fn answer_with_debug_and_copy<
     'a,
-    T: DecodeValue<'a, SliceReader<'a>>
-        + EncodeValue
-        + FixedTag
-        + PartialEq
-        + AssociatedOid
-        + Criticality
-        + Debug,
+    T: Described + PartialEq + AssociatedOid + Criticality + Debug + Drop,
     C: Fn(&T, Global) -> Result<T, AllocError>,
 >(alloc: Global, question: &Question<'a>, copy: C) -> Result<String, Refusal>
+where
+    T::By: DecodeWay<'a, SliceReader<'a>, T> + TagWay<T>,
     requires { C.IsAlwaysCallable copy }
 {
     match question.asked {
@@ -331,16 +343,11 @@ pub fn answer_with_debug_and_copy<
 /// The answer of such a type that has a value where nothing is said, too.
 pub fn answer_with_default_and_copy<
     'a,
-    T: DecodeValue<'a, SliceReader<'a>>
-        + EncodeValue
-        + FixedTag
-        + Default
-        + PartialEq
-        + AssociatedOid
-        + Criticality
-        + Debug,
+    T: Described + Default + PartialEq + AssociatedOid + Criticality + Debug + Drop,
     C: Fn(&T, Global) -> Result<T, AllocError>,
 >(alloc: Global, question: &Question<'a>, copy: C) -> Result<String, Refusal>
+where
+    T::By: DecodeWay<'a, SliceReader<'a>, T> + TagWay<T>,
     requires { C.IsAlwaysCallable copy }
 {
     match question.asked {

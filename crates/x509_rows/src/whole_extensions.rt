@@ -34,29 +34,32 @@ fn content_of<T: Encode>(alloc: Global, is_critical: bool, value: &T) -> Result<
 /// All key usages that a certificate has.
 pub fn usages_of(alloc: Global, octets: &str) -> Result<String, Refusal> {
     let certificate = certificate_of(alloc, octets)?;
-    usages_in(alloc, certificate.tbs_certificate())
+    all_of::<KeyUsage>(alloc, certificate.tbs_certificate())
 }
 
-/// All key usages that the signed part of a certificate has.
-fn usages_in(alloc: Global, certificate: &TbsCertificateInner<Raw>) -> Result<String, Refusal> {
+/// All values of a type that the signed part of a certificate has.
+fn all_of<'a, T: Decode<'a, SliceReader<'a>> + Encode + AssociatedOid>(
+    alloc: Global,
+    certificate: &'a TbsCertificateInner<Raw>,
+) -> Result<String, Refusal> {
     let mut text = String::new(alloc);
-    for usage in certificate.filter_extensions::<KeyUsage>(alloc) {
+    for value in certificate.filter_extensions::<T>(alloc) {
         if !text.is_empty() {
             text.push_str(", ")?;
         }
-        let usage = usage_or_refusal(alloc, usage)?;
-        text.push_str(usage.as_str())?;
+        let value = value_or_refusal(alloc, value)?;
+        text.push_str(value.as_str())?;
     }
     Ok(text)
 }
 
-/// A key usage, or why it is refused.
-fn usage_or_refusal(
+/// A value of a certificate, or why it is refused.
+fn value_or_refusal<T: Encode + Drop>(
     alloc: Global,
-    usage: Result<(bool, KeyUsage), Error>,
+    value: Result<(bool, T), Error>,
 ) -> Result<String, Refusal> {
-    match usage {
-        Ok((is_critical, usage)) => content_of(alloc, is_critical, &usage),
+    match value {
+        Ok((is_critical, value)) => content_of(alloc, is_critical, &value),
         Err(error) => shown(alloc, Refusal::from(error)),
     }
 }
