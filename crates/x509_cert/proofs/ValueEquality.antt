@@ -1,5 +1,6 @@
--- `==` of the choices in extensions is of plain values.
-use Rattle.std.proofs.Common.{◌≡◌, ℕ, Bool, pos, refl, ap, arith}
+-- `==` of the choices in extensions and of trust anchors is of plain values.
+use denote.RattleType.{RattleType}
+use Rattle.std.proofs.Common.{◌≡◌, ℕ, Bool, Option, pos, refl, ap, arith}
 use Rattle.std.specs.Prelude.{nat_eq}
 use Rattle.std.specs.Cmp.Lexicographic.{pointwise, bytes_decides}
 use Rattle.const_oid.specs.Bound.{Bound}
@@ -8,9 +9,25 @@ use Rattle.const_oid.proofs.DigitLaws.{same_from_digits}
 use Rattle.der_core.proofs.ValueEquality.{Alike, all_alike, alone, behind, each, exact, first, last, leaves, list, next, option, second, set}
 use Rattle.der_core_head.specs.Integers.{Numbers}
 use Rattle.der_core_head.specs.Leaves.{integer}
-use Rattle.der_core_head.specs.Shapes.{Shape, Value, leaf, tagged}
+use Rattle.der_core_head.specs.Shapes.{Shape, Value, leaf, sequence, tagged}
 use Rattle.der_core_head.specs.declared.tag.Tag.{Tag}
 use Rattle.x509_cert.specs.Equality.{TellsValues}
+use Rattle.x509_cert_anchors.specs.Grammar.{anchor_version, trust_anchor_choice, trust_anchor_info_fields}
+use Rattle.x509_cert_anchors.specs.Views.{anchor_number, trust_anchor_info_plain, trust_anchor_plain}
+use Rattle.x509_cert_anchors.specs.contracts.anchor.VersionPartialEq.TheImpl.{eq-value as same_version}
+use Rattle.x509_cert_anchors.specs.contracts.trust_anchor_choice.TrustAnchorChoicePartialEq.TheImpl.{eq-value as same_choice}
+use Rattle.x509_cert_anchors.specs.contracts.trust_anchor_info.TrustAnchorInfoPartialEq.TheImpl.{eq-value as same_info}
+use Rattle.x509_cert_anchors.specs.declared.anchor.Version.{Version}
+use Rattle.x509_cert_anchors.specs.declared.anchor.Version.TheVariants.{V1}
+use Rattle.x509_cert_anchors.specs.declared.trust_anchor_choice.TrustAnchorChoice.{TrustAnchorChoice}
+use Rattle.x509_cert_anchors.specs.declared.trust_anchor_choice.TrustAnchorChoice.TheVariants as anchors
+use Rattle.x509_cert_anchors.specs.declared.trust_anchor_info.TrustAnchorInfo.{TrustAnchorInfo}
+use Rattle.x509_cert_certificates.specs.Certificates.{certificate, tbs_certificate}
+use Rattle.x509_cert_certificates.specs.Views.{certificate_plain, tbs_plain}
+use Rattle.x509_cert_certificates.specs.contracts.certificate.CertificateInnerPartialEq.TheImpl.{eq-value as same_certificate}
+use Rattle.x509_cert_certificates.specs.contracts.tbs_certificate.TbsCertificateInnerPartialEq.TheImpl.{eq-value as same_tbs}
+use Rattle.x509_cert_certificates.specs.declared.certificate.CertificateInner.{CertificateInner}
+use Rattle.x509_cert_certificates.specs.declared.tbs_certificate.TbsCertificateInner.{TbsCertificateInner}
 use Rattle.x509_cert_extensions.specs.contracts.crl_reason.CrlReasonPartialEq.TheImpl.{eq-value as same_reason}
 use Rattle.x509_cert_extensions.specs.declared.crl_reason.CrlReason.{CrlReason}
 use Rattle.x509_cert_extensions.specs.declared.crl_reason.CrlReason.TheVariants as reasons
@@ -73,3 +90,15 @@ crl_reasons reasons.RemoveFromCRL reasons.RemoveFromCRL = exact (λ e. refl) (λ
 crl_reasons reasons.PrivilegeWithdrawn reasons.PrivilegeWithdrawn = exact (λ e. refl) (λ e. refl)
 crl_reasons reasons.AaCompromise reasons.AaCompromise = exact (λ e. refl) (λ e. refl)
 crl_reasons x y = exact (λ e. absurd cc) (λ e. absurd cc)
+
+pub versions : (x y : Version) → Alike anchor_version (same_version.it x y) (anchor_number x) (anchor_number y)
+versions V1 V1 = exact (λ e. refl) (λ e. refl)
+
+pub choices : (P : RattleType) (limit : Option ℕ) → ((c d : CertificateInner P.Denot) → Alike (certificate Bound limit) ((same_certificate P).it c d) (certificate_plain c) (certificate_plain d))
+    → ((t u : TbsCertificateInner P.Denot) → Alike (tbs_certificate Bound limit) ((same_tbs P).it t u) (tbs_plain t) (tbs_plain u))
+    → ((i j : TrustAnchorInfo P.Denot) → Alike (sequence (trust_anchor_info_fields Bound limit)) ((same_info P).it i j) (trust_anchor_info_plain i) (trust_anchor_info_plain j))
+    → (x y : TrustAnchorChoice P.Denot) → Alike (trust_anchor_choice Bound limit) ((same_choice P).it x y) (trust_anchor_plain x) (trust_anchor_plain y)
+choices P limit certificates parts infos (anchors.Certificate c) (anchors.Certificate d) = first (certificates c d)
+choices P limit certificates parts infos (anchors.TbsCertificate t) (anchors.TbsCertificate u) = second (first (behind (alone (parts t u))))
+choices P limit certificates parts infos (anchors.TaInfo i) (anchors.TaInfo j) = second (second (behind (alone (infos i j))))
+choices P limit certificates parts infos x y = exact (λ e. absurd cc) (λ e. absurd cc)

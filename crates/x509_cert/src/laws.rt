@@ -14,7 +14,10 @@ ghost use Rattle.der_core_head.specs.Shapes.{tagged};
 ghost use Rattle.der_core_head.specs.Texts.{ascii};
 ghost use Rattle.der_core_head.specs.declared.tag.Tag.TheVariants as tags;
 ghost use Rattle.x509_cert.specs.Equality.{IsByValue, TellsValues};
+ghost use Rattle.x509_cert_anchors.specs.Grammar as grammar;
 ghost use Rattle.x509_cert_anchors.specs.Grammar.{trust_anchor_choice};
+ghost use Rattle.x509_cert_anchors.specs.Views.{anchor_number, cert_path_controls_plain};
+ghost use Rattle.x509_cert_anchors.specs.Views.{trust_anchor_info_plain, trust_anchor_plain};
 ghost use Rattle.x509_cert_extensions.specs.Reasons.{reason_number, reason_numbers};
 ghost use Rattle.x509_cert_general_names.specs.Grammar as names;
 ghost use Rattle.x509_cert_general_names.specs.Views as views;
@@ -25,15 +28,17 @@ ghost use Rattle.x509_cert_policies.specs.Grammar.{policy_information_fields};
 ghost use Rattle.x509_cert_policies.specs.Grammar.{policy_mapping_fields};
 ghost use Rattle.x509_cert_policies.specs.Views.{policy_information_plain, policy_mapping_plain};
 
+use crate::anchor::Version;
 use crate::{
     AccessDescription, AuthorityInfoAccessSyntax, AuthorityKeyIdentifier, BaseCrlNumber,
-    BasicConstraints, CertificatePolicies, CpsUri, CrlDistributionPoints, CrlNumber, CrlReason,
-    DisplayText, DistributionPoint, DistributionPointName, EdiPartyName, ExtendedKeyUsage,
-    FreshestCrl, GeneralName, GeneralSubtree, HardwareModuleName, InhibitAnyPolicy, IssuerAltName,
-    IssuingDistributionPoint, KeyUsage, NameConstraints, NoticeReference, OtherName,
-    PolicyConstraints, PolicyInformation, PolicyMapping, PolicyMappings, PolicyQualifierInfo,
-    PrivateKeyUsagePeriod, SubjectAltName, SubjectDirectoryAttributes, SubjectInfoAccessSyntax,
-    SubjectKeyIdentifier, UserNotice,
+    BasicConstraints, CertPathControls, CertificatePolicies, CpsUri, CrlDistributionPoints,
+    CrlNumber, CrlReason, DisplayText, DistributionPoint, DistributionPointName, EdiPartyName,
+    ExtendedKeyUsage, FreshestCrl, GeneralName, GeneralSubtree, HardwareModuleName,
+    InhibitAnyPolicy, IssuerAltName, IssuingDistributionPoint, KeyUsage, NameConstraints,
+    NoticeReference, OtherName, PolicyConstraints, PolicyInformation, PolicyMapping,
+    PolicyMappings, PolicyQualifierInfo, PrivateKeyUsagePeriod, SubjectAltName,
+    SubjectDirectoryAttributes, SubjectInfoAccessSyntax, SubjectKeyIdentifier, TrustAnchorChoice,
+    TrustAnchorInfo, UserNotice,
 };
 use der_core::Shaped;
 use std::cmp::PartialEq;
@@ -129,3 +134,20 @@ pub fn equality_of_extensions_is_of_values()
         × TellsValues (tagged tags.Integer (leaf (integer natural)))
         ⟦<BaseCrlNumber as PartialEq>⟧.eq (λ x. pos x.0) }
 {}
+
+/// `==` of trust anchors and of their parts is of their plain values, under every profile.
+pub fn equality_of_anchors_is_of_values<P>()
+    ensures versions { TellsValues grammar.anchor_version ⟦<Version as PartialEq>⟧.eq
+        anchor_number }
+    ensures controls { (limit : Option ℕ)
+        → TellsValues (sequence (grammar.cert_path_controls_fields Bound limit))
+        ⟦<CertPathControls<P> as PartialEq>⟧.eq cert_path_controls_plain }
+    ensures infos { (limit : Option ℕ)
+        → TellsValues (sequence (grammar.trust_anchor_info_fields Bound limit))
+        ⟦<TrustAnchorInfo<P> as PartialEq>⟧.eq trust_anchor_info_plain }
+    ensures choices { (limit : Option ℕ) → TellsValues (trust_anchor_choice Bound limit)
+        ⟦<TrustAnchorChoice<P> as PartialEq>⟧.eq trust_anchor_plain }
+{
+    equality_of_certificates_is_of_values::<P>();
+    equality_of_extensions_is_of_values();
+}
