@@ -9,37 +9,23 @@ ghost use Rattle.der_core_head.specs.Bounds.{identifiers_of, AreBelow};
 ghost use Rattle.der_core_head.specs.Grammar.{plain_list};
 ghost use Rattle.der_core_head.specs.Integers.{natural};
 ghost use Rattle.der_core_head.specs.Leaves.{integer, named, text};
-ghost use Rattle.der_core_head.specs.Shapes.{BodyValue, Value, Spells, leaf, sequence, sequence_of};
-ghost use Rattle.der_core_head.specs.Shapes.{tagged};
+ghost use Rattle.der_core_head.specs.Shapes.{BodyValue, Value, Spells, leaf, sequence, sequence_of, tagged};
 ghost use Rattle.der_core_head.specs.Texts.{ascii};
 ghost use Rattle.der_core_head.specs.declared.tag.Tag.TheVariants as tags;
 ghost use Rattle.x509_cert.specs.Equality.{IsByValue, TellsValues};
 ghost use Rattle.x509_cert_anchors.specs.Grammar as grammar;
 ghost use Rattle.x509_cert_anchors.specs.Grammar.{trust_anchor_choice};
-ghost use Rattle.x509_cert_anchors.specs.Views.{anchor_number, cert_path_controls_plain};
-ghost use Rattle.x509_cert_anchors.specs.Views.{trust_anchor_info_plain, trust_anchor_plain};
+ghost use Rattle.x509_cert_anchors.specs.Views.{anchor_number, cert_path_controls_plain, trust_anchor_info_plain, trust_anchor_plain};
 ghost use Rattle.x509_cert_extensions.specs.Reasons.{reason_number, reason_numbers};
 ghost use Rattle.x509_cert_general_names.specs.Grammar as names;
 ghost use Rattle.x509_cert_general_names.specs.Views as views;
 ghost use Rattle.x509_cert_list_builders.specs.ListGrammar.{certificate_list_fields, cert_req};
-ghost use Rattle.x509_cert_parts.specs.Parts.{attribute, attribute_plain, object_identifier};
-ghost use Rattle.x509_cert_parts.specs.Parts.{octet_string};
-ghost use Rattle.x509_cert_policies.specs.Grammar.{policy_information_fields};
-ghost use Rattle.x509_cert_policies.specs.Grammar.{policy_mapping_fields};
+ghost use Rattle.x509_cert_parts.specs.Parts.{attribute, attribute_plain, object_identifier, octet_string};
+ghost use Rattle.x509_cert_policies.specs.Grammar.{policy_information_fields, policy_mapping_fields};
 ghost use Rattle.x509_cert_policies.specs.Views.{policy_information_plain, policy_mapping_plain};
 
-use crate::anchor::Version;
-use crate::{
-    AccessDescription, AuthorityInfoAccessSyntax, AuthorityKeyIdentifier, BaseCrlNumber,
-    BasicConstraints, CertPathControls, CertificatePolicies, CpsUri, CrlDistributionPoints,
-    CrlNumber, CrlReason, DisplayText, DistributionPoint, DistributionPointName, EdiPartyName,
-    ExtendedKeyUsage, FreshestCrl, GeneralName, GeneralSubtree, HardwareModuleName,
-    InhibitAnyPolicy, IssuerAltName, IssuingDistributionPoint, KeyUsage, NameConstraints,
-    NoticeReference, OtherName, PolicyConstraints, PolicyInformation, PolicyMapping,
-    PolicyMappings, PolicyQualifierInfo, PrivateKeyUsagePeriod, SubjectAltName,
-    SubjectDirectoryAttributes, SubjectInfoAccessSyntax, SubjectKeyIdentifier, TrustAnchorChoice,
-    TrustAnchorInfo, UserNotice,
-};
+use crate::anchor::Version as AnchorVersion;
+use crate::*;
 use der_core::Shaped;
 use std::cmp::PartialEq;
 pub use x509_cert_anchors::laws::{
@@ -137,7 +123,7 @@ pub fn equality_of_extensions_is_of_values()
 
 /// `==` of trust anchors and of their parts is of their plain values, under every profile.
 pub fn equality_of_anchors_is_of_values<P>()
-    ensures versions { TellsValues grammar.anchor_version ⟦<Version as PartialEq>⟧.eq
+    ensures versions { TellsValues grammar.anchor_version ⟦<AnchorVersion as PartialEq>⟧.eq
         anchor_number }
     ensures controls { (limit : Option ℕ)
         → TellsValues (sequence (grammar.cert_path_controls_fields Bound limit))

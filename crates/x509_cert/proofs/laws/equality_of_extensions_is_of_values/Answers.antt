@@ -31,43 +31,19 @@ returns-clause-constraints c =
     )
 
 pub returns-clause-notices : goal.returns-clause-notices
-returns-clause-notices c = (
-  whole display_texts,
-  whole (λ x y. behind (next (display_texts x.organization y.organization) (last (option (λ v w. behind (list (λ n m. digits_alike) _ _)) _ _)))),
-  whole (λ x y. behind (next leaves (last (option values _ _)))),
-  whole (λ x y. behind (next leaves (last leaves))),
-)
+returns-clause-notices c = (whole display_texts, whole (λ x y. behind (next (display_texts x.organization y.organization) (last (option (λ v w. behind (list (λ n m. digits_alike) _ _)) _ _)))), whole (λ x y. behind (next leaves (last (option values _ _)))), whole (λ x y. behind (next leaves (last leaves))))
 
 pub returns-clause-policies : goal.returns-clause-policies
 returns-clause-policies c =
     let notices = of (returns-clause-notices c).1 in
-    let qualifiers = of (returns-clause-notices c).2 in (
-      whole (λ x y. behind (next (option notices _ _) (last (option display_texts _ _)))),
-      whole (λ x y. behind (next leaves (last (option (λ v w. behind (list qualifiers _ _)) _ _)))),
-    )
+    let qualifiers = of (returns-clause-notices c).2 in
+    (whole (λ x y. behind (next (option notices _ _) (last (option display_texts _ _)))), whole (λ x y. behind (next leaves (last (option (λ v w. behind (list qualifiers _ _)) _ _)))))
 
 pub returns-clause-lists : goal.returns-clause-lists
 returns-clause-lists c =
     let accesses = of (returns-clause-general_names c).4 in
-    let points = of (returns-clause-general_names c).7 in (
-      whole (λ x y. behind (list general_names _ _)),
-      whole (λ x y. behind (list general_names _ _)),
-      whole (λ x y. behind (list accesses _ _)),
-      whole (λ x y. behind (list accesses _ _)),
-      whole (λ x y. behind (list points _ _)),
-      whole (λ x y. behind (list points _ _)),
-      whole (λ x y. behind (list (of (returns-clause-policies c).1) _ _)),
-      whole (λ x y. behind (list (of (returns-clause-notices c).3) _ _)),
-      whole (λ x y. behind (list (λ v w. leaves) _ _)),
-      whole (λ x y. behind (list attributes _ _)),
-    )
+    let points = of (returns-clause-general_names c).7 in
+    (whole (λ x y. behind (list general_names _ _)), whole (λ x y. behind (list general_names _ _)), whole (λ x y. behind (list accesses _ _)), whole (λ x y. behind (list accesses _ _)), whole (λ x y. behind (list points _ _)), whole (λ x y. behind (list points _ _)), whole (λ x y. behind (list (of (returns-clause-policies c).1) _ _)), whole (λ x y. behind (list (of (returns-clause-notices c).3) _ _)), whole (λ x y. behind (list (λ v w. leaves) _ _)), whole (λ x y. behind (list attributes _ _)))
 
 pub returns-clause-leaves : goal.returns-clause-leaves
-returns-clause-leaves c = (
-  whole (λ x y. leaves),
-  whole (λ x y. leaves),
-  whole (λ x y. named_bits),
-  whole crl_reasons,
-  whole (λ x y. digits_alike),
-  whole (λ x y. digits_alike),
-)
+returns-clause-leaves c = (whole (λ x y. leaves), whole (λ x y. leaves), whole (λ x y. named_bits), whole crl_reasons, whole (λ x y. digits_alike), whole (λ x y. digits_alike))
