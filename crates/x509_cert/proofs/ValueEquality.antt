@@ -54,8 +54,7 @@ pub of : {s : Shape} {T : Type 0} {eq : T → T → Bool} {plain : T → Value s
 of {s} h = each {s = s} h.by_value
 
 pub digits_alike : {t : Tag} {r : Numbers} {n m : ℕ} → Alike (tagged t (leaf (integer r))) (pointwise nat_eq (digits 256 n) (digits 256 m)) (pos n) (pos m)
-digits_alike {n = n} {m = m} = exact (λ e. ap pos (same_from_digits 256 n m (grind arith) ((bytes_decides (digits 256 n) (digits 256 m)).0 e)))
-    (λ e. let one : n ≡ m = cc in (bytes_decides (digits 256 n) (digits 256 m)).1 (ap (digits 256) one))
+digits_alike {n = n} {m = m} = exact (λ e. ap pos (same_from_digits 256 n m (grind arith) ((bytes_decides (digits 256 n) (digits 256 m)).0 e))) (λ e. let one : n ≡ m = cc in (bytes_decides (digits 256 n) (digits 256 m)).1 (ap (digits 256) one))
 
 pub general_names : (x y : GeneralName) → Alike (general_name Bound) (same_name.it x y) (general_name_plain x) (general_name_plain y)
 general_names (cases.OtherName m) (cases.OtherName n) = first (behind (next leaves (last (behind (alone (values m.value n.value))))))
@@ -94,8 +93,7 @@ crl_reasons x y = exact (λ e. absurd cc) (λ e. absurd cc)
 pub versions : (x y : Version) → Alike anchor_version (same_version.it x y) (anchor_number x) (anchor_number y)
 versions V1 V1 = exact (λ e. refl) (λ e. refl)
 
-pub choices : (P : RattleType) (limit : Option ℕ) → ((c d : CertificateInner P.Denot) → Alike (certificate Bound limit) ((same_certificate P).it c d) (certificate_plain c) (certificate_plain d))
-    → ((t u : TbsCertificateInner P.Denot) → Alike (tbs_certificate Bound limit) ((same_tbs P).it t u) (tbs_plain t) (tbs_plain u))
+pub choices : (P : RattleType) (limit : Option ℕ) → ((c d : CertificateInner P.Denot) → Alike (certificate Bound limit) ((same_certificate P).it c d) (certificate_plain c) (certificate_plain d)) → ((t u : TbsCertificateInner P.Denot) → Alike (tbs_certificate Bound limit) ((same_tbs P).it t u) (tbs_plain t) (tbs_plain u))
     → ((i j : TrustAnchorInfo P.Denot) → Alike (sequence (trust_anchor_info_fields Bound limit)) ((same_info P).it i j) (trust_anchor_info_plain i) (trust_anchor_info_plain j))
     → (x y : TrustAnchorChoice P.Denot) → Alike (trust_anchor_choice Bound limit) ((same_choice P).it x y) (trust_anchor_plain x) (trust_anchor_plain y)
 choices P limit certificates parts infos (anchors.Certificate c) (anchors.Certificate d) = first (certificates c d)

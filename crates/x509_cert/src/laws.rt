@@ -9,19 +9,20 @@ ghost use Rattle.der_core_head.specs.Bounds.{identifiers_of, AreBelow};
 ghost use Rattle.der_core_head.specs.Grammar.{plain_list};
 ghost use Rattle.der_core_head.specs.Integers.{natural};
 ghost use Rattle.der_core_head.specs.Leaves.{integer, named, text};
-ghost use Rattle.der_core_head.specs.Shapes.{BodyValue, Value, Spells, leaf, sequence, sequence_of, tagged};
+ghost use Rattle.der_core_head.specs.Shapes.{BodyValue, Value, Spells, leaf, sequence, sequence_of};
+ghost use Rattle.der_core_head.specs.Shapes.{tagged};
 ghost use Rattle.der_core_head.specs.Texts.{ascii};
 ghost use Rattle.der_core_head.specs.declared.tag.Tag.TheVariants as tags;
 ghost use Rattle.x509_cert.specs.Equality.{IsByValue, TellsValues};
 ghost use Rattle.x509_cert_anchors.specs.Grammar as grammar;
 ghost use Rattle.x509_cert_anchors.specs.Grammar.{trust_anchor_choice};
-ghost use Rattle.x509_cert_anchors.specs.Views.{anchor_number, cert_path_controls_plain, trust_anchor_info_plain, trust_anchor_plain};
+ghost use Rattle.x509_cert_anchors.specs.Views as anchor_views;
 ghost use Rattle.x509_cert_extensions.specs.Reasons.{reason_number, reason_numbers};
 ghost use Rattle.x509_cert_general_names.specs.Grammar as names;
 ghost use Rattle.x509_cert_general_names.specs.Views as views;
 ghost use Rattle.x509_cert_list_builders.specs.ListGrammar.{certificate_list_fields, cert_req};
-ghost use Rattle.x509_cert_parts.specs.Parts.{attribute, attribute_plain, object_identifier, octet_string};
-ghost use Rattle.x509_cert_policies.specs.Grammar.{policy_information_fields, policy_mapping_fields};
+ghost use Rattle.x509_cert_parts.specs.Parts as parts;
+ghost use Rattle.x509_cert_policies.specs.Grammar as policies;
 ghost use Rattle.x509_cert_policies.specs.Views.{policy_information_plain, policy_mapping_plain};
 
 use crate::anchor::Version as AnchorVersion;
@@ -99,16 +100,18 @@ pub fn equality_of_extensions_is_of_values()
         (λ x. plain_list views.distribution_point_plain x.0.items)
         × TellsValues (sequence_of (sequence (names.distribution_point_fields Bound)))
         ⟦<FreshestCrl as PartialEq>⟧.eq (λ x. plain_list views.distribution_point_plain x.0.items)
-        × TellsValues (sequence_of (sequence (policy_information_fields Bound)))
+        × TellsValues (sequence_of (sequence (policies.policy_information_fields Bound)))
         ⟦<CertificatePolicies as PartialEq>⟧.eq
         (λ x. plain_list policy_information_plain x.0.items)
-        × TellsValues (sequence_of (sequence (policy_mapping_fields Bound)))
+        × TellsValues (sequence_of (sequence (policies.policy_mapping_fields Bound)))
         ⟦<PolicyMappings as PartialEq>⟧.eq (λ x. plain_list policy_mapping_plain x.0.items)
-        × TellsValues (sequence_of (object_identifier Bound)) ⟦<ExtendedKeyUsage as PartialEq>⟧.eq
-        (λ x. plain_list (λ v. v) x.0.items)
-        × TellsValues (sequence_of (attribute Bound))
-        ⟦<SubjectDirectoryAttributes as PartialEq>⟧.eq (λ x. plain_list attribute_plain x.0.items) }
-    ensures leaves { TellsValues octet_string ⟦<SubjectKeyIdentifier as PartialEq>⟧.eq (λ x. x.0)
+        × TellsValues (sequence_of (parts.object_identifier Bound))
+        ⟦<ExtendedKeyUsage as PartialEq>⟧.eq (λ x. plain_list (λ v. v) x.0.items)
+        × TellsValues (sequence_of (parts.attribute Bound))
+        ⟦<SubjectDirectoryAttributes as PartialEq>⟧.eq
+        (λ x. plain_list parts.attribute_plain x.0.items) }
+    ensures leaves { TellsValues parts.octet_string ⟦<SubjectKeyIdentifier as PartialEq>⟧.eq
+        (λ x. x.0)
         × TellsValues (tagged tags.Ia5String (leaf (text ascii))) ⟦<CpsUri as PartialEq>⟧.eq
         (λ x. x.0)
         × TellsValues (tagged tags.BitString (leaf (named 9))) ⟦<KeyUsage as PartialEq>⟧.eq
@@ -124,15 +127,15 @@ pub fn equality_of_extensions_is_of_values()
 /// `==` of trust anchors and of their parts is of their plain values, under every profile.
 pub fn equality_of_anchors_is_of_values<P>()
     ensures versions { TellsValues grammar.anchor_version ⟦<AnchorVersion as PartialEq>⟧.eq
-        anchor_number }
+        anchor_views.anchor_number }
     ensures controls { (limit : Option ℕ)
         → TellsValues (sequence (grammar.cert_path_controls_fields Bound limit))
-        ⟦<CertPathControls<P> as PartialEq>⟧.eq cert_path_controls_plain }
+        ⟦<CertPathControls<P> as PartialEq>⟧.eq anchor_views.cert_path_controls_plain }
     ensures infos { (limit : Option ℕ)
         → TellsValues (sequence (grammar.trust_anchor_info_fields Bound limit))
-        ⟦<TrustAnchorInfo<P> as PartialEq>⟧.eq trust_anchor_info_plain }
+        ⟦<TrustAnchorInfo<P> as PartialEq>⟧.eq anchor_views.trust_anchor_info_plain }
     ensures choices { (limit : Option ℕ) → TellsValues (trust_anchor_choice Bound limit)
-        ⟦<TrustAnchorChoice<P> as PartialEq>⟧.eq trust_anchor_plain }
+        ⟦<TrustAnchorChoice<P> as PartialEq>⟧.eq anchor_views.trust_anchor_plain }
 {
     equality_of_certificates_is_of_values::<P>();
     equality_of_extensions_is_of_values();
