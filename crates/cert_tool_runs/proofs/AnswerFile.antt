@@ -1,5 +1,5 @@
 -- A file of answers, read line by line.
-use Rattle.std.proofs.Common.{◌≡◌, ℕ, suc, ◌+◌, ◌<◌, arith, Bor, length, map, drop, get_or, List, [], ◌∷◌, ◌++◌, Option, Some, unwrap_or, Result, Ok, Err, refl, ap, sym, ◌∙◌, subst, append-nil, append_assoc}
+use Rattle.std.proofs.Common.{◌≡◌, ℕ, suc, ◌+◌, ◌<◌, arith, Bor, length, map, drop, get_or, List, [], ◌∷◌, ◌++◌, Some, unwrap_or, Result, Ok, Err, refl, ap, sym, ◌∙◌, append_assoc}
 use Rattle.std.proofs.Math.Seq.{drop-cons}
 use Rattle.cert_desk_checking.specs.Questions.{Question}
 use Rattle.cert_tool_runs.specs.AnswerLines.{Says, nothing, answers, wrong, with_line, line_says, answers_from, file_says}

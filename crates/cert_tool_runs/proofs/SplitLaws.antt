@@ -1,5 +1,5 @@
 -- Certificates, one after the other.
-use Rattle.std.proofs.Common.{◌≡◌, ℕ, zero, suc, ◌+◌, ◌-◌, ◌<◌, ◌≤◌, List, [], ◌∷◌, ◌++◌, Option, Some, length, drop, slice_get, unwrap_or, arith, refl, ap, sym, ◌∙◌}
+use Rattle.std.proofs.Common.{◌≡◌, ℕ, zero, suc, ◌+◌, ◌-◌, ◌<◌, List, [], ◌∷◌, ◌++◌, Some, drop, slice_get, unwrap_or, arith, ap, sym, ◌∙◌}
 use Rattle.cert_desk_checking.specs.declared.entry.Entry.{Entry}
 use Rattle.const_oid.specs.Bound.{Bound}
 use Rattle.cert_desk_checking.specs.Certificates.{PlainCertificate, certificate_octets}

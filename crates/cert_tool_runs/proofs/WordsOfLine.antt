@@ -1,5 +1,5 @@
 -- The six words of a line.
-use Rattle.std.proofs.Common.{◌≡◌, ℕ, List, [], ◌∷◌, true, Option, Some, length, map, get_or, Bor, cond, arith, refl, ap, sym, ◌∙◌}
+use Rattle.std.proofs.Common.{◌≡◌, ℕ, List, [], ◌∷◌, true, Some, length, map, get_or, Bor, cond, arith, refl, ap, sym, ◌∙◌}
 use Rattle.cert_desk_checking.specs.Questions.{Question}
 use Rattle.cert_tool_runs.specs.AnswerLines.{answers, wrong, words_say, says_question, question_in, is_anchor, is_number}
 

@@ -1,5 +1,5 @@
 -- What a run of `questions` finds and tells.
-use Rattle.std.specs.Prelude.{◌≡◌, ℕ, ◌⊎◌, List, Option, Some, None, Result, Ok, Err}
+use Rattle.std.specs.Prelude.{◌≡◌, ℕ, ◌⊎◌, List, Some, None, Result, Ok, Err}
 use Rattle.cert_desk_io.specs.declared.exit_status.ExitStatus.{ExitStatus}
 use Rattle.cert_desk_io.specs.declared.exit_status.ExitStatus.TheVariants as statuses
 use Rattle.cert_desk_io.specs.Devices.{Device, Untouched}

@@ -19,7 +19,8 @@ fn meaning(fault: AnchorFault) -> &'static str {
 
 // Adds why no trust anchor begins these octets, which begin at an offset.
 fn add_malformed(lines: &mut Lines<'_>, rest: &[u8], offset: u64) {
-    if let Err(error) = from_der_partial::<TrustAnchorChoice<Raw>>(lines.alloc, rest) {
+    let fault = from_der_partial::<TrustAnchorChoice<Raw>>(lines.alloc, rest).err();
+    if let Some(error) = fault {
         add_certificate_fault(lines, rest, offset, &error);
     }
 }

@@ -71,18 +71,26 @@ fn moment_of<C: Clock>(clock: &C, text: &str, err: &mut Page) -> Result<u64, Exi
     Ok(seconds)
 }
 
-// The arcs that a name stands for (RFC 5280 4.2.1.12), or the text itself.
-fn arcs_of(name: &str) -> &str {
-    match name {
-        "anyExtendedKeyUsage" => "2.5.29.37.0",
-        "serverAuth" => "1.3.6.1.5.5.7.3.1",
-        "clientAuth" => "1.3.6.1.5.5.7.3.2",
-        "codeSigning" => "1.3.6.1.5.5.7.3.3",
-        "emailProtection" => "1.3.6.1.5.5.7.3.4",
-        "timeStamping" => "1.3.6.1.5.5.7.3.8",
-        "OCSPSigning" => "1.3.6.1.5.5.7.3.9",
-        _ => name,
+// Names of purposes, and their arcs (RFC 5280 4.2.1.12).
+const PURPOSES: [(&str, &str); 7] = [
+    ("anyExtendedKeyUsage", "2.5.29.37.0"),
+    ("serverAuth", "1.3.6.1.5.5.7.3.1"),
+    ("clientAuth", "1.3.6.1.5.5.7.3.2"),
+    ("codeSigning", "1.3.6.1.5.5.7.3.3"),
+    ("emailProtection", "1.3.6.1.5.5.7.3.4"),
+    ("timeStamping", "1.3.6.1.5.5.7.3.8"),
+    ("OCSPSigning", "1.3.6.1.5.5.7.3.9"),
+];
+
+// The arcs that a name stands for, or the text itself.
+fn arcs_of(text: &str) -> &str {
+    for row in &PURPOSES {
+        let (name, arcs) = *row;
+        if name == text {
+            return arcs;
+        }
     }
+    text
 }
 
 // A purpose: a name, or an identifier in dotted arcs.

@@ -48,7 +48,7 @@ pub(crate) fn judge<R: Files + Clock>(
     let mut answers = open(rt, answers, err)?;
     let status = match judging {
         Judging::Verify => {
-            let status = run_verify(
+            let verified = run_verify(
                 alloc,
                 &mut answers.input,
                 &mut anchors.input,
@@ -59,7 +59,10 @@ pub(crate) fn judge<R: Files + Clock>(
                 &terms.purpose,
                 terms.limit,
             );
-            tell_more(err, status, anchors.name, stream.name, limit)
+            match verified {
+                Ok(status) => tell_more(err, status, anchors.name, stream.name, limit),
+                Err(status) => status,
+            }
         }
         Judging::Explain => explain_chain(
             alloc,

@@ -1,29 +1,58 @@
 //! The contents of extensions, each by its identifier.
 
 use crate::describe::Describe;
+use crate::general_names::add_names_in;
 use crate::lines::Lines;
-use cert_desk_checking::certificates::Extension;
+use cert_desk_checking::certificates::{Extension, OctetString, Uint};
 use cert_desk_checking::types::general_names::{
-    AuthorityKeyIdentifier, IssuingDistributionPoint, NameConstraints,
+    AccessDescription, AuthorityKeyIdentifier, DistributionPoint, IssuingDistributionPoint,
+    NameConstraints,
 };
+use cert_desk_checking::types::parts::FlagSet;
 use cert_desk_checking::types::policies::{
-    BasicConstraints, CertificatePolicies, InhibitAnyPolicy, PolicyConstraints, PolicyMappings,
+    BasicConstraints, CertificatePolicies, InhibitAnyPolicy, PolicyConstraints, PolicyInformation,
+    PolicyMapping, PolicyMappings,
 };
 use cert_desk_checking::types::timestamps::SignedCertificateTimestampList;
 use cert_desk_checking::types::{
     AuthorityInfoAccessSyntax, CrlDistributionPoints, CrlNumber, CrlReason, ExtendedKeyUsage,
-    KeyUsage, SubjectAltName, SubjectKeyIdentifier,
+    KeyUsage, KeyUsages, SubjectKeyIdentifier,
 };
-use der_core::{DecodeValue, ErrorKind, FixedTag, SliceReader, from_der};
+use const_oid::ObjectIdentifier;
+use der_core::making::leaf_from_der;
+use der_core::{DecodeValue, ErrorKind, FixedTag, Leaf, SliceReader, from_der};
 use std::alloc::Global;
 
-// Adds the lines of a content, or that it isn't one value of its kind.
-pub(crate) fn add_content<'a, T: DecodeValue<'a, SliceReader<'a>> + FixedTag + Describe>(
+// Adds the lines of a content that is one leaf, or that it isn't one.
+fn add_leaf<'a, T: Leaf<'a> + FixedTag, C: From<T> + Describe + Drop>(
+    lines: &mut Lines<'_>,
+    octets: &'a [u8],
+) {
+    match leaf_from_der::<T>(lines.alloc, octets) {
+        Ok(leaf) => C::from(leaf).describe(lines),
+        Err(error) => lines.malformed(error.kind),
+    }
+}
+
+// Adds the lines of a content that is a list, or that it isn't one.
+pub(crate) fn add_members<'a, T, C>(lines: &mut Lines<'_>, octets: &'a [u8])
+where
+    T: DecodeValue<'a, SliceReader<'a>> + FixedTag,
+    C: From<Vec<T>> + Describe + Drop,
+{
+    match from_der::<Vec<T>>(lines.alloc, octets) {
+        Ok(list) => C::from(list).describe(lines),
+        Err(error) => lines.malformed(error.kind),
+    }
+}
+
+// Adds the lines of a content that is a record, or that it isn't one.
+fn add_record<'a, T: DecodeValue<'a, SliceReader<'a>> + FixedTag + Describe>(
     lines: &mut Lines<'_>,
     octets: &'a [u8],
 ) {
     match from_der::<T>(lines.alloc, octets) {
-        Ok(value) => value.describe(lines),
+        Ok(record) => record.describe(lines),
         Err(error) => lines.malformed(error.kind),
     }
 }
@@ -32,24 +61,24 @@ pub(crate) fn add_content<'a, T: DecodeValue<'a, SliceReader<'a>> + FixedTag + D
 // 5.3).
 fn add_standard(lines: &mut Lines<'_>, number: u8, octets: &[u8]) {
     match number {
-        14 => add_content::<SubjectKeyIdentifier>(lines, octets),
-        15 => add_content::<KeyUsage>(lines, octets),
+        14 => add_leaf::<OctetString, SubjectKeyIdentifier>(lines, octets),
+        15 => add_leaf::<FlagSet<KeyUsages>, KeyUsage>(lines, octets),
         // of the subject, of the issuer, of who issued the certificate that an entry names
-        17 | 18 | 29 => add_content::<SubjectAltName>(lines, octets),
-        19 => add_content::<BasicConstraints>(lines, octets),
+        17 | 18 | 29 => add_names_in(lines, octets),
+        19 => add_record::<BasicConstraints>(lines, octets),
         // of a list, of the list that it adds to
-        20 | 27 => add_content::<CrlNumber>(lines, octets),
-        21 => add_content::<CrlReason>(lines, octets),
-        28 => add_content::<IssuingDistributionPoint>(lines, octets),
-        30 => add_content::<NameConstraints>(lines, octets),
+        20 | 27 => add_leaf::<Uint, CrlNumber>(lines, octets),
+        21 => add_leaf::<CrlReason, CrlReason>(lines, octets),
+        28 => add_record::<IssuingDistributionPoint>(lines, octets),
+        30 => add_record::<NameConstraints>(lines, octets),
         // of lists, of lists of what is new
-        31 | 46 => add_content::<CrlDistributionPoints>(lines, octets),
-        32 => add_content::<CertificatePolicies>(lines, octets),
-        33 => add_content::<PolicyMappings>(lines, octets),
-        35 => add_content::<AuthorityKeyIdentifier>(lines, octets),
-        36 => add_content::<PolicyConstraints>(lines, octets),
-        37 => add_content::<ExtendedKeyUsage>(lines, octets),
-        54 => add_content::<InhibitAnyPolicy>(lines, octets),
+        31 | 46 => add_members::<DistributionPoint, CrlDistributionPoints>(lines, octets),
+        32 => add_members::<PolicyInformation, CertificatePolicies>(lines, octets),
+        33 => add_members::<PolicyMapping, PolicyMappings>(lines, octets),
+        35 => add_record::<AuthorityKeyIdentifier>(lines, octets),
+        36 => add_record::<PolicyConstraints>(lines, octets),
+        37 => add_members::<ObjectIdentifier<39>, ExtendedKeyUsage>(lines, octets),
+        54 => add_leaf::<u32, InhibitAnyPolicy>(lines, octets),
         _ => lines.octets("  octets ", octets, "\n"),
     }
 }
@@ -61,11 +90,11 @@ fn add_content_of(lines: &mut Lines<'_>, extension: &Extension) {
         [0x55, 0x1d, number] => add_standard(lines, *number, octets),
         // authorityInfoAccess, subjectInfoAccess
         [0x2b, 6, 1, 5, 5, 7, 1, 1 | 11] => {
-            add_content::<AuthorityInfoAccessSyntax>(lines, octets)
+            add_members::<AccessDescription, AuthorityInfoAccessSyntax>(lines, octets)
         }
         // timestamps of logs
         [0x2b, 6, 1, 4, 1, 0xd6, 0x79, 2, 4, 2] => {
-            add_content::<SignedCertificateTimestampList>(lines, octets)
+            add_leaf::<OctetString, SignedCertificateTimestampList>(lines, octets)
         }
         _ => lines.octets("  octets ", octets, "\n"),
     }

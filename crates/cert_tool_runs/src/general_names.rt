@@ -1,9 +1,9 @@
 //! Names of the kinds that extensions have (RFC 5280 4.2.1.6).
 
-use crate::describe::Describe;
 use crate::lines::Lines;
-use cert_desk_checking::types::SubjectAltName;
 use cert_desk_checking::types::general_names::GeneralName;
+use der_core::{Error, from_der};
+use std::alloc::Global;
 use std::net::{Ipv4Addr, Ipv6Addr};
 
 // Adds an address, and ends the line.
@@ -54,8 +54,15 @@ pub(crate) fn add_general_names(lines: &mut Lines<'_>, before: &str, listed: &[G
     }
 }
 
-impl Describe for SubjectAltName {
-    fn describe(&self, lines: &mut Lines<'_>) {
-        add_general_names(lines, "  ", self.0.as_slice());
+// The names that octets list.
+pub(crate) fn names_in(alloc: Global, octets: &[u8]) -> Result<Vec<GeneralName>, Error> {
+    from_der(alloc, octets)
+}
+
+// Adds a line for each name that octets list, or that they don't list any.
+pub(crate) fn add_names_in(lines: &mut Lines<'_>, octets: &[u8]) {
+    match names_in(lines.alloc, octets) {
+        Ok(listed) => add_general_names(lines, "  ", listed.as_slice()),
+        Err(error) => lines.malformed(error.kind),
     }
 }

@@ -1,6 +1,6 @@
 //! Keys, and digests.
 
-use crate::contents::add_content;
+use crate::contents::add_members;
 use crate::describe::Describe;
 use crate::lines::Lines;
 use cert_desk_checking::certificates::{SubjectPublicKeyInfo, Uint};
@@ -68,7 +68,7 @@ pub(crate) fn add_key(lines: &mut Lines<'_>, key: &SubjectPublicKeyInfo) {
     match key.algorithm.oid.as_bytes() {
         // rsaEncryption, id-RSASSA-PSS
         [0x2a, 0x86, 0x48, 0x86, 0xf7, 0x0d, 0x01, 0x01, 0x01 | 0x0a] => {
-            add_content::<Vec<Uint>>(lines, key.subject_public_key.raw_bytes());
+            add_members::<Uint, Vec<Uint>>(lines, key.subject_public_key.raw_bytes());
         }
         // id-ecPublicKey
         [0x2a, 0x86, 0x48, 0xce, 0x3d, 0x02, 0x01] => add_point(lines, key),

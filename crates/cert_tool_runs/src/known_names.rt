@@ -2,7 +2,9 @@
 
 // Identifiers by their octets (X.690 8.19), in which an arc below 128 is an octet, and the names
 // that their documents give them.
-const KNOWN_NAMES: [(&[u8], &str); 62] = [
+type Names = &'static [(&'static [u8], &'static str)];
+
+const OF_KEYS: [(&[u8], &str); 24] = [
     // Algorithms of keys and signatures (RFC 3279, RFC 4055, RFC 5480, RFC 5758, RFC 8410).
     (
         &[0x2a, 0x86, 0x48, 0x86, 0xf7, 0x0d, 1, 1, 1],
@@ -62,7 +64,10 @@ const KNOWN_NAMES: [(&[u8], &str); 62] = [
     (&[0x2b, 0x81, 0x04, 0, 33], "secp224r1"),
     (&[0x2b, 0x81, 0x04, 0, 34], "secp384r1"),
     (&[0x2b, 0x81, 0x04, 0, 35], "secp521r1"),
-    // Extensions (RFC 5280 4.2, 5.2, 5.3, RFC 6962 3.3, RFC 7633).
+];
+
+// Of extensions (RFC 5280 4.2, 5.2, 5.3, RFC 6962 3.3, RFC 7633).
+const OF_EXTENSIONS: [(&[u8], &str); 29] = [
     (&[0x55, 29, 9], "subjectDirectoryAttributes"),
     (&[0x55, 29, 14], "subjectKeyIdentifier"),
     (&[0x55, 29, 15], "keyUsage"),
@@ -98,7 +103,10 @@ const KNOWN_NAMES: [(&[u8], &str); 62] = [
         &[0x2a, 0x86, 0x48, 0x86, 0xf7, 0x0d, 1, 9, 14],
         "extensionRequest",
     ),
-    // Purposes and ways of access (RFC 5280 4.2.1.12, 4.2.2).
+];
+
+// Of purposes and ways of access (RFC 5280 4.2.1.12, 4.2.2).
+const OF_USES: [(&[u8], &str); 9] = [
     (&[0x2b, 6, 1, 5, 5, 7, 3, 1], "serverAuth"),
     (&[0x2b, 6, 1, 5, 5, 7, 3, 2], "clientAuth"),
     (&[0x2b, 6, 1, 5, 5, 7, 3, 3], "codeSigning"),
@@ -110,7 +118,32 @@ const KNOWN_NAMES: [(&[u8], &str); 62] = [
     (&[0x2b, 6, 1, 5, 5, 7, 2, 1], "cps"),
 ];
 
-// The table, of which a function that goes over it isn't checked row by row.
-pub(crate) fn known_names() -> &'static [(&'static [u8], &'static str)] {
-    &KNOWN_NAMES
+// Each table is lent by a function of its own: where one is named its rows are checked, in a time
+// that grows with the square of their number.
+
+fn of_keys() -> Names {
+    &OF_KEYS
+}
+
+fn of_extensions() -> Names {
+    &OF_EXTENSIONS
+}
+
+fn of_uses() -> Names {
+    &OF_USES
+}
+
+// How many identifiers are well known.
+pub(crate) const KNOWN: usize = 62;
+
+// The one at a place of the tables, one behind the other.
+pub(crate) fn known_name(place: usize) -> Option<(&'static [u8], &'static str)> {
+    let mut left = place;
+    for names in &[of_keys(), of_extensions(), of_uses()] {
+        if left < names.len() {
+            return Some(names[left]);
+        }
+        left -= names.len();
+    }
+    None
 }

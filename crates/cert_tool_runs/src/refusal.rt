@@ -62,18 +62,9 @@ pub(crate) fn serial_remark(serial: &[u8]) -> &'static str {
 // Why octets aren't of a kind in a profile, if they aren't.
 fn fault_of<P: Profile>(alloc: Global, octets: &[u8], kind: Kind) -> Option<Error> {
     match kind {
-        Kind::Certificate => match CertificateInner::<P>::from_der(alloc, octets) {
-            Ok(_) => None,
-            Err(error) => Some(error),
-        },
-        Kind::List => match list_of::<P>(alloc, octets) {
-            Ok(_) => None,
-            Err(error) => Some(error),
-        },
-        Kind::Request => match CertReq::try_from_bytes(alloc, octets) {
-            Ok(_) => None,
-            Err(error) => Some(error),
-        },
+        Kind::Certificate => CertificateInner::<P>::from_der(alloc, octets).err(),
+        Kind::List => list_of::<P>(alloc, octets).err(),
+        Kind::Request => CertReq::try_from_bytes(alloc, octets).err(),
     }
 }
 

@@ -1,13 +1,11 @@
 //! What no rule of a chain forbids, and who issued it may not have meant.
 
 use crate::chain_place::ChainPlace;
-use crate::general_names::add_general_name;
+use crate::general_names::{add_general_name, names_in};
 use crate::lines::Lines;
 use crate::refusal::serial_remark;
 use cert_desk_checking::certificates::Extension;
-use cert_desk_checking::types::SubjectAltName;
 use cert_desk_checking::types::general_names::GeneralName;
-use der_core::from_der;
 
 // Adds that a certificate is valid after the one before isn't any more.
 fn add_date_remark(lines: &mut Lines<'_>, place: &ChainPlace<'_>) {
@@ -77,8 +75,8 @@ fn add_host_remarks(lines: &mut Lines<'_>, listed: &[GeneralName]) {
 // Of the names of an extension, if it lists other names of the subject.
 fn add_extension_remarks(lines: &mut Lines<'_>, extension: &Extension) {
     if let [0x55, 0x1d, 17] = extension.extn_id.as_bytes() {
-        match from_der::<SubjectAltName>(lines.alloc, extension.extn_value.as_bytes()) {
-            Ok(listed) => add_host_remarks(lines, listed.0.as_slice()),
+        match names_in(lines.alloc, extension.extn_value.as_bytes()) {
+            Ok(listed) => add_host_remarks(lines, listed.as_slice()),
             Err(error) => lines.note(error.kind),
         }
     }

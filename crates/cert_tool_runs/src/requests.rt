@@ -3,7 +3,7 @@
 use crate::contents::add_extensions;
 use crate::keys::{add_digests, add_key, add_key_digests};
 use crate::lines::Lines;
-use cert_desk_checking::certificates::{Any, Attribute};
+use cert_desk_checking::certificates::{Any, Attribute, Extensions};
 use const_oid::AssociatedOid;
 use der_core::ErrorKind;
 use x509_cert_lists::{CertReq, ExtensionReq};
@@ -11,9 +11,9 @@ use x509_cert_lists::{CertReq, ExtensionReq};
 // Adds the lines of a value of an attribute.
 fn add_value(lines: &mut Lines<'_>, is_wanted: bool, value: &Any) {
     if is_wanted {
-        match value.decode_as::<ExtensionReq>(lines.alloc) {
+        match value.decode_as::<Extensions>(lines.alloc) {
             Ok(wanted) => {
-                add_extensions(lines, wanted.0.as_slice());
+                add_extensions(lines, wanted.as_slice());
                 return;
             }
             Err(error) => lines.note(error.kind),

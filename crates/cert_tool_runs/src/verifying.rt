@@ -1,6 +1,6 @@
 //! Runs that judge a chain by answers.
 
-ghost use Rattle.std.specs.Prelude.{◌≡◌, ◌≤◌, ◌⊎◌, List, map, IfOk, IfErr, Ok, Err, string_bytes};
+ghost use Rattle.std.specs.Prelude.{◌≡◌, ◌≤◌, List, map, IfOk, IfErr, Ok, Err, string_bytes};
 ghost use Rattle.cert_desk_io.specs.Devices.{sink, source};
 ghost use Rattle.cert_desk_checking.specs.declared.outcome.Outcome.{Outcome};
 ghost use Rattle.cert_desk_checking.specs.Anchors.{purpose_plain};
@@ -71,7 +71,7 @@ pub fn tell_none<E: Output>(alloc: Global, none: NoAnswers, err: &mut E) -> Exit
 ///
 /// The answers are read first, to their end, as `answers_in` reads them; where a line is faulty
 /// `answers: line N` goes to `err`, and nothing else is read. So does `answers: line 1` where there
-/// are 2^32 octets or more.
+/// are 2^32 octets or more. The status is the error then.
 pub fn run_verify<N: Input, A: Input, S: Input, O: Output, E: Output>(
     alloc: Global,
     answers: &mut N,
@@ -82,11 +82,11 @@ pub fn run_verify<N: Input, A: Input, S: Input, O: Output, E: Output>(
     moment: u64,
     purpose: &ObjectIdentifier<39>,
     limit: u32,
-) -> ExitStatus
+) -> Result<ExitStatus, ExitStatus>
     requires { 6 ≤ limit }
-    // Either these are the answers, and the run is as `run_check` says under a judge that says yes
-    // to these alone; or there are none, which is told, and nothing else is touched.
-    ensures told { ((listing : List Question) × (old_judge : AnswersJudge)
+    // These are the answers, and the run is as `run_check` says under a judge that says yes to
+    // these alone.
+    ensures judged { IfOk result (λ status. (listing : List Question) × (old_judge : AnswersJudge)
         × (new_judge : AnswersJudge) × (outcome : Outcome)
         × AreAnswers (source N.takes N.is_ended N.failures answers.old answers.new) (Ok listing)
         × (judge_answers old_judge ≡ listed listing)
@@ -96,18 +96,20 @@ pub fn run_verify<N: Input, A: Input, S: Input, O: Output, E: Output>(
         (judging judge_answers judge_questions old_judge new_judge)
         moment (purpose_plain purpose.now) limit outcome
         × IsTold (sink O.gives O.failures out.old out.new)
-        (sink E.gives E.failures err.old err.new) outcome result)
-        ⊎ ((none : NoAnswers)
+        (sink E.gives E.failures err.old err.new) outcome status) }
+    // There are none, which is told, and nothing else is touched.
+    ensures none { IfErr result (λ status. (none : NoAnswers)
         × AreAnswers (source N.takes N.is_ended N.failures answers.old answers.new) (Err none)
         × (anchors.new ≡ anchors.old) × (stream.new ≡ stream.old) × (out.new ≡ out.old)
-        × IsNoneTold (sink E.gives E.failures err.old err.new) none result) }
+        × IsNoneTold (sink E.gives E.failures err.old err.new) none status) }
 {
     let answers = match read_answers(alloc, answers) {
         Ok(answers) => answers,
-        Err(none) => return tell_none(alloc, none, err),
+        Err(none) => return Err(tell_none(alloc, none, err)),
     };
     let mut judge = AnswersJudge::new(answers);
-    run_check(
+    let status = run_check(
         alloc, anchors, stream, out, err, moment, purpose, limit, &mut judge,
-    )
+    );
+    Ok(status)
 }

@@ -1,5 +1,4 @@
-use Rattle.std.proofs.Common.{◌≡◌, ℕ, ◌+◌, rules, ap, sym, ◌∙◌}
-use Rattle.cert_tool_runs.specs.AnswerReading.{IsNoLine}
+use Rattle.std.proofs.Common.{rules}
 use Rattle.cert_tool_runs.proofs.AnswerFile.{behind-line, no_file}
 use Rattle.cert_tool_runs.proofs.answer_lines.answers_in.Goals as goal
 
