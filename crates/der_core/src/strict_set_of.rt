@@ -1,8 +1,9 @@
 //! SET OF, whose members rise (X.690 8.12, 11.6).
 
 ghost use Rattle.std.specs.Prelude.{◌≡◌, ◌==◌, None, IfSome, IfErr, OnOk, OnErr, false, length};
-ghost use Rattle.std.specs.Prelude.{slice_get};
+ghost use Rattle.std.specs.Prelude.{◌∷◌, slice_get};
 ghost use Rattle.std.specs.List.{AllByRecursion};
+ghost use Rattle.std.specs.List.Sorted.{IsPermutation};
 ghost use Rattle.std.specs.Option.{option_copied};
 ghost use Rattle.std.specs.Slice.Iter.{iter_rest};
 ghost use Rattle.der_core_head.specs.declared.tag.Tag.TheVariants.{Set};
@@ -116,6 +117,8 @@ impl<T: DerOrd + Member + Drop> StrictSetOf<T> {
     /// `SetDuplicate` where its encoding stands there, `Overflow` where an encoding has 2^32 octets
     /// or more, or `OutOfMemory`. The set stays then.
     pub fn insert(&mut self, item: T) -> Result<(), Error>
+        ensures gained { OnOk result
+            (IsPermutation (item ∷ self.old.values.items) self.new.values.items) }
         // Where all have an encoding.
         ensures placed { AllValid T.shape T.written self.old.values.items
             → IsValid T.shape (T.written item)

@@ -1,4 +1,5 @@
 use Rattle.std.proofs.Common.{inl, inr, ap, sym, ◌∙◌}
+use Rattle.std.proofs.lemmas.List.Sorted.{IsPermutation-insert}
 use Rattle.std.proofs.lemmas.Result.{err_from_is_err_and}
 use Rattle.der_core_head.specs.Grammar.{plain_list}
 use Rattle.der_core.proofs.Past.{still_rises}
@@ -20,6 +21,9 @@ returns-in_err-place-clause-refused g c =
     let p = err_from_is_err_and c.from_residual-in_err-place.result c.from_residual-in_err-place.ensures.1 in
     let answered = rw c.as_slice-2.ensures.value at c.in_err-place.ensures.answered in
     rw (p.1, p.2) (inr (inr (c.in_err-place.ensures.refused, λ all valid. absurd (cc (answered all valid)))))
+
+pub returns-clause-gained : goal.returns-clause-gained
+returns-clause-gained g c = rw c.in_ok-insert.ensures.items (IsPermutation-insert _ _ _)
 
 pub returns-clause-placed : goal.returns-clause-placed
 returns-clause-placed g c = λ all valid.
