@@ -64,6 +64,7 @@ impl<'a, T: AsciiType> AsciiStringRef<'a, T> {
         if !are_characters::<T>(octets) {
             return Err(Error::from(ErrorKind::Value { tag }));
         }
+        // SAFETY: each octet is a character of the repertoire, which is part of ASCII.
         let text = unsafe { str::from_utf8_unchecked(octets) };
         Ok(AsciiStringRef {
             text,

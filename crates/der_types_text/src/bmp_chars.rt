@@ -70,6 +70,7 @@ fn char_of(unit: u16) -> char
     requires { is_unit unit ≡ true }
     ensures { result ≡ unit }
 {
+    // SAFETY: a unit is below 2^16 and no half of a surrogate pair, so it is a scalar value.
     unsafe { char::from_u32_unchecked(u32::from(unit)) }
 }
 
