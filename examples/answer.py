@@ -1,106 +1,285 @@
 #!/usr/bin/env python3
-"""Reads the lines of `cert_tool questions` from standard input, asks Python's `cryptography` about
-each, and writes those whose signature is right: the answers of `cert_tool verify`.
+"""Reads the lines of `cert_tool questions` from standard input, has Python's `cryptography` verify
+each signature, and writes the lines whose signature is right: the answers of `cert_tool verify`.
 
-RSA (PKCS #1 and PSS), ECDSA, Ed25519 and Ed448.
+Signatures: RSASSA-PKCS1-v1_5 and RSASSA-PSS (RFC 8017, RFC 4055), ECDSA over named curves
+(RFC 5480, RFC 5758), Ed25519 and Ed448 (RFC 8410). Algorithm, parameters and key are read whole,
+in DER, before anything is verified: what is unknown, left over or contradicts itself is no answer,
+and the error output says why, with the number of the line. So is a signature that is wrong.
+
+The status is 0 where all lines were looked at, 2 where `cryptography` is missing.
 """
 
+import dataclasses
 import sys
 
-from cryptography.exceptions import InvalidSignature, UnsupportedAlgorithm
-from cryptography.hazmat.primitives import hashes
-from cryptography.hazmat.primitives.asymmetric import ec, ed25519, ed448, padding, rsa
-from cryptography.hazmat.primitives.serialization import load_der_public_key
+try:
+    from cryptography.exceptions import InvalidSignature, UnsupportedAlgorithm
+    from cryptography.hazmat.primitives import hashes
+    from cryptography.hazmat.primitives.asymmetric import ec, padding
+    from cryptography.hazmat.primitives.serialization import load_der_public_key
+except ImportError:
+    print("answer.py: wants Python's cryptography (Debian: python3-cryptography)", file=sys.stderr)
+    sys.exit(2)
 
-# By the identifier's encoding (RFC 4055, RFC 5758, RFC 8410).
-RSA = {
-    "06092a864886f70d010105": hashes.SHA1,
-    "06092a864886f70d01010e": hashes.SHA224,
-    "06092a864886f70d01010b": hashes.SHA256,
-    "06092a864886f70d01010c": hashes.SHA384,
-    "06092a864886f70d01010d": hashes.SHA512,
+
+class NoAnswer(Exception):
+    """Why there is no answer."""
+
+
+# Tags (X.690 8.1.2).
+INTEGER, BIT_STRING, NULL, OBJECT_IDENTIFIER, SEQUENCE = 0x02, 0x03, 0x05, 0x06, 0x30
+
+RSA_ENCRYPTION = "1.2.840.113549.1.1.1"
+RSASSA_PSS = "1.2.840.113549.1.1.10"
+MGF1 = "1.2.840.113549.1.1.8"
+EC_PUBLIC_KEY = "1.2.840.10045.2.1"
+# Ed25519, Ed448 (RFC 8410 3)
+ED = ("1.3.101.112", "1.3.101.113")
+
+# RFC 8017 A.2.4, RFC 5758 2, RFC 3279 2.2.1
+PKCS1 = {
+    "1.2.840.113549.1.1.5": hashes.SHA1,
+    "1.2.840.113549.1.1.14": hashes.SHA224,
+    "1.2.840.113549.1.1.11": hashes.SHA256,
+    "1.2.840.113549.1.1.12": hashes.SHA384,
+    "1.2.840.113549.1.1.13": hashes.SHA512,
 }
+# RFC 5758 3.2, RFC 3279 2.2.3
 ECDSA = {
-    "06072a8648ce3d0401": hashes.SHA1,
-    "06082a8648ce3d040301": hashes.SHA224,
-    "06082a8648ce3d040302": hashes.SHA256,
-    "06082a8648ce3d040303": hashes.SHA384,
-    "06082a8648ce3d040304": hashes.SHA512,
+    "1.2.840.10045.4.1": hashes.SHA1,
+    "1.2.840.10045.4.3.1": hashes.SHA224,
+    "1.2.840.10045.4.3.2": hashes.SHA256,
+    "1.2.840.10045.4.3.3": hashes.SHA384,
+    "1.2.840.10045.4.3.4": hashes.SHA512,
 }
-PSS = "06092a864886f70d01010a"
-ED = {"06032b6570": ed25519.Ed25519PublicKey, "06032b6571": ed448.Ed448PublicKey}
+# RFC 4055 2.1
 DIGESTS = {
-    "2b0e03021a": hashes.SHA1,
-    "608648016503040201": hashes.SHA256,
-    "608648016503040202": hashes.SHA384,
-    "608648016503040203": hashes.SHA512,
+    "1.3.14.3.2.26": hashes.SHA1,
+    "2.16.840.1.101.3.4.2.4": hashes.SHA224,
+    "2.16.840.1.101.3.4.2.1": hashes.SHA256,
+    "2.16.840.1.101.3.4.2.2": hashes.SHA384,
+    "2.16.840.1.101.3.4.2.3": hashes.SHA512,
 }
 
 
-def values(octets):
-    """The values that stand one behind the other: tag, content (X.690 8.1)."""
-    while octets:
+class Octets:
+    """Octets that are read from the left, value by value."""
+
+    def __init__(self, octets):
+        self.left = octets
+
+    def next(self, tag):
+        """The contents octets of the next value, which has this tag (X.690 8.1, 10.1)."""
+        octets = self.left
+        if octets[:1] != bytes([tag]) or len(octets) < 2:
+            raise NoAnswer(f"tag {tag:02X} is wanted, not {octets[:1].hex().upper() or 'the end'}")
         length, start = octets[1], 2
         if length >= 0x80:
-            start = 2 + length - 0x80
-            length = int.from_bytes(octets[2:start], "big")
-        yield octets[0], octets[start : start + length]
-        octets = octets[start + length :]
+            start += length & 0x7F
+            digits = octets[2:start]
+            length = int.from_bytes(digits, "big")
+            if len(digits) != start - 2 or length < 0x80 or digits[0] == 0:
+                raise NoAnswer("a length isn't as DER has it")
+        if len(octets) < start + length:
+            raise NoAnswer("octets are wanting")
+        self.left = octets[start + length :]
+        return octets[start : start + length]
+
+    def optional(self, tag):
+        """The contents octets of the next value if it has this tag."""
+        return self.next(tag) if self.left[:1] == bytes([tag]) else None
+
+    def end(self):
+        if self.left:
+            raise NoAnswer("octets are left over")
 
 
-def content(octets):
-    return next(values(octets))[1]
+def whole(octets, tag):
+    """The contents octets of the one value that is there."""
+    reader = Octets(octets)
+    contents = reader.next(tag)
+    reader.end()
+    return contents
 
 
-def digest(identifier):
-    """The digest that an AlgorithmIdentifier's content names."""
-    return DIGESTS[next(values(identifier))[1].hex()]()
+def identifier(contents):
+    """An object identifier in dotted decimal (X.690 8.19)."""
+    if not contents or contents[-1] >= 0x80:
+        raise NoAnswer("an object identifier is cut")
+    numbers, number = [], 0
+    for octet in contents:
+        if number == 0 and octet == 0x80:
+            raise NoAnswer("an object identifier is padded")
+        number = number << 7 | octet & 0x7F
+        if octet < 0x80:
+            numbers.append(number)
+            number = 0
+    first = min(numbers[0] // 40, 2)
+    return ".".join(map(str, [first, numbers[0] - 40 * first, *numbers[1:]]))
 
 
-def pss(parameters):
-    """The padding and the digest of RSASSA-PSS-params (RFC 4055 3.1)."""
-    signed_by, masked_by, salt = hashes.SHA1(), hashes.SHA1(), 20
-    for tag, field in values(content(parameters)):
-        if tag == 0xA0:
-            signed_by = digest(content(field))
-        elif tag == 0xA1:
-            masked_by = digest(list(values(content(field)))[1][1])
-        elif tag == 0xA2:
-            salt = int.from_bytes(content(field), "big")
-    return padding.PSS(padding.MGF1(masked_by), salt), signed_by
+def whole_number(contents):
+    """A number that isn't negative (X.690 8.3)."""
+    if not contents or contents[0] >= 0x80:
+        raise NoAnswer("a number is negative or empty")
+    if len(contents) > 1 and contents[0] == 0 and contents[1] < 0x80:
+        raise NoAnswer("a number is padded")
+    return int.from_bytes(contents, "big")
 
 
-def check(key, algorithm, signed, signature):
-    """Raises unless the signature is right."""
-    fields = list(values(content(algorithm)))
-    arcs = fields[0][1]
-    name = (bytes([6, len(arcs)]) + arcs).hex()
-    parameters = content(algorithm)[2 + len(arcs) :]
-    public = load_der_public_key(key)
-    if name in RSA and isinstance(public, rsa.RSAPublicKey):
-        public.verify(signature, signed, padding.PKCS1v15(), RSA[name]())
-    elif name == PSS and isinstance(public, rsa.RSAPublicKey):
-        public.verify(signature, signed, *pss(parameters))
-    elif name in ECDSA and isinstance(public, ec.EllipticCurvePublicKey):
-        public.verify(signature, signed, ec.ECDSA(ECDSA[name]()))
-    elif name in ED and isinstance(public, ED[name]):
-        public.verify(signature, signed)
+def algorithm_of(contents):
+    """The identifier of an AlgorithmIdentifier, and the octets of its parameters (RFC 5280
+    4.1.1.2)."""
+    reader = Octets(contents)
+    name = identifier(reader.next(OBJECT_IDENTIFIER))
+    return name, reader.left
+
+
+def without_parameters(name, parameters):
+    if parameters:
+        raise NoAnswer(f"parameters of {name}")
+
+
+def null_or_absent(name, parameters):
+    if parameters not in (b"", bytes([NULL, 0])):
+        raise NoAnswer(f"parameters of {name} that aren't NULL")
+
+
+def digest_of(contents):
+    name, parameters = algorithm_of(contents)
+    if name not in DIGESTS:
+        raise NoAnswer(f"unknown digest {name}")
+    null_or_absent(name, parameters)
+    return DIGESTS[name]
+
+
+@dataclasses.dataclass(frozen=True)
+class PssParameters:
+    """RSASSA-PSS-params (RFC 4055 3.1). The trailer field can only be 1."""
+
+    digest: type = hashes.SHA1
+    mask_digest: type = hashes.SHA1
+    salt: int = 20
+
+
+def pss_parameters(octets):
+    """The parameters, read whole. A default that stands is taken for what it is."""
+    reader = Octets(whole(octets, SEQUENCE))
+    read = {}
+    if (field := reader.optional(0xA0)) is not None:
+        read["digest"] = digest_of(whole(field, SEQUENCE))
+    if (field := reader.optional(0xA1)) is not None:
+        name, parameters = algorithm_of(whole(field, SEQUENCE))
+        if name != MGF1:
+            raise NoAnswer(f"unknown mask generation {name}")
+        read["mask_digest"] = digest_of(whole(parameters, SEQUENCE))
+    if (field := reader.optional(0xA2)) is not None:
+        read["salt"] = whole_number(whole(field, INTEGER))
+    if (field := reader.optional(0xA3)) is not None:
+        if whole_number(whole(field, INTEGER)) != 1:
+            raise NoAnswer("a trailer field other than 1")
+    reader.end()
+    return PssParameters(**read)
+
+
+def signature_octets(contents):
+    """The octets of a BIT STRING without unused bits (X.690 8.6)."""
+    if contents[:1] != b"\0":
+        raise NoAnswer("a bit string has unused bits, or is empty")
+    return contents[1:]
+
+
+@dataclasses.dataclass(frozen=True)
+class Key:
+    """A SubjectPublicKeyInfo (RFC 5280 4.1.2.7): its algorithm, the RSASSA-PSS parameters that it
+    permits alone, and the key."""
+
+    algorithm: str
+    permitted: PssParameters | None
+    public: object
+
+
+def key_of(octets):
+    """The key, read whole."""
+    reader = Octets(whole(octets, SEQUENCE))
+    name, parameters = algorithm_of(reader.next(SEQUENCE))
+    bits = signature_octets(reader.next(BIT_STRING))
+    reader.end()
+    permitted = None
+    if name == RSA_ENCRYPTION:
+        null_or_absent(name, parameters)
+    elif name == RSASSA_PSS:
+        permitted = pss_parameters(parameters) if parameters else None
+    elif name == EC_PUBLIC_KEY:
+        # a named curve, and a point that isn't hybrid (RFC 5480 2.1.1, 2.2)
+        identifier(whole(parameters, OBJECT_IDENTIFIER))
+        if bits[:1] not in (b"\2", b"\3", b"\4"):
+            raise NoAnswer("a point that is neither compressed nor uncompressed")
+    elif name in ED:
+        without_parameters(name, parameters)
     else:
-        raise UnsupportedAlgorithm(name)
+        raise NoAnswer(f"a key of unknown algorithm {name}")
+    of_rsa = name in (RSA_ENCRYPTION, RSASSA_PSS)
+    return Key(name, permitted, load_der_public_key(bits if of_rsa else octets))
 
 
-def is_right(key, algorithm, signed, bits):
-    unused, signature = content(bits)[0], content(bits)[1:]
-    if unused != 0:
-        return False
+def pss_padding(permitted, parameters, longest):
+    """The padding and the digest, where the key permits them (RFC 4055 3.3)."""
+    wanted = pss_parameters(parameters)
+    if wanted.salt > longest:
+        raise NoAnswer("the salt is longer than the signature")
+    if permitted is not None:
+        if dataclasses.replace(wanted, salt=permitted.salt) != permitted:
+            raise NoAnswer("the key permits another digest or mask")
+        if wanted.salt < permitted.salt:
+            raise NoAnswer("the key permits no salt so short")
+    return padding.PSS(padding.MGF1(wanted.mask_digest()), wanted.salt), wanted.digest()
+
+
+def verify(key, algorithm, signed, bits):
+    """Raises unless the signature is right."""
+    name, parameters = algorithm_of(whole(algorithm, SEQUENCE))
+    signature = signature_octets(whole(bits, BIT_STRING))
+    key = key_of(key)
+    if name in PKCS1 and key.algorithm == RSA_ENCRYPTION:
+        null_or_absent(name, parameters)
+        key.public.verify(signature, signed, padding.PKCS1v15(), PKCS1[name]())
+    elif name == RSASSA_PSS and key.algorithm in (RSA_ENCRYPTION, RSASSA_PSS):
+        how = pss_padding(key.permitted, parameters, len(signature))
+        key.public.verify(signature, signed, *how)
+    elif name in ECDSA and key.algorithm == EC_PUBLIC_KEY:
+        without_parameters(name, parameters)
+        key.public.verify(signature, signed, ec.ECDSA(ECDSA[name]()))
+    elif name in ED and key.algorithm == name:
+        without_parameters(name, parameters)
+        key.public.verify(signature, signed)
+    else:
+        raise NoAnswer(f"signature algorithm {name} under a key of {key.algorithm}")
+
+
+def refusal(line):
+    """Why a line has no answer, or nothing where its signature is right."""
+    words = line.decode("ascii", "replace").split()
+    if len(words) != 6:
+        return "no question, which has six words"
     try:
-        check(key, algorithm, signed, signature)
-    except (InvalidSignature, UnsupportedAlgorithm, ValueError, KeyError):
-        return False
-    return True
+        verify(*map(bytes.fromhex, words[2:]))
+    except InvalidSignature:
+        return "the signature is wrong"
+    except (NoAnswer, UnsupportedAlgorithm, ValueError, TypeError, OverflowError) as why:
+        return "no answer: " + " ".join(str(why).split())
+    return None
 
 
-for line in sys.stdin:
-    words = line.split()
-    if len(words) == 6 and is_right(*map(bytes.fromhex, words[2:])):
-        sys.stdout.write(line)
+def main():
+    for number, line in enumerate(sys.stdin.buffer, 1):
+        why = refusal(line)
+        if why is None:
+            sys.stdout.buffer.write(line)
+        else:
+            print(f"answer.py: line {number}: {why}", file=sys.stderr)
+
+
+if __name__ == "__main__":
+    main()

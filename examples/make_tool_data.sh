@@ -29,9 +29,9 @@ faulty = bytearray(open("limited.der", "rb").read())
 faulty[36] = 0x31
 open("faulty_anchor.der", "wb").write(open("root.der", "rb").read() + faulty)
 PY
-"$tool" questions root.der chain.der 4000 | "$here/answer.sh" > answers.txt
+"$tool" questions root.der chain.der 4000 | "$here/answer.py" > answers.txt
 cat root.der chain.der > whole.der
-"$tool" questions root.der whole.der 4000 | "$here/answer.sh" > whole.txt
+"$tool" questions root.der whole.der 4000 | "$here/answer.py" > whole.txt
 
 # the last octet of the intermediate's signature, and of the server's
 python3 - <<'PY'
@@ -279,5 +279,5 @@ openssl req -new -key "$work/full.key" -subj "/CN=wanted" -outform DER -out requ
 
 # the answers of OpenSSL on each of the other chains
 for name in long plain constrained twice unwise; do
-    "$tool" questions anchor.der "$name.der" 4000 | "$here/answer.sh" > "$name.txt"
+    "$tool" questions anchor.der "$name.der" 4000 | "$here/answer.py" > "$name.txt"
 done

@@ -74,7 +74,7 @@ chain() {
 
 # judge ANCHORS STREAM
 judge() {
-    "$tool" questions "$1" "$2" 10000 | "$here/answer.sh" > answers || true
+    "$tool" questions "$1" "$2" 10000 | "$here/answer.py" > answers || true
     "$tool" verify "$1" "$2" now serverAuth 10000 answers || true
 }
 
