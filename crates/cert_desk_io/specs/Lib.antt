@@ -5,3 +5,4 @@ pub mod Pieces
 pub mod Memory
 pub mod Whole
 pub mod Telling
+pub mod Statuses

@@ -1,6 +1,11 @@
 // What a run comes to.
+ghost use Rattle.std.specs.Prelude.{◌≡◌};
+ghost use Rattle.std.specs.Process.{exit_status};
+ghost use Rattle.cert_desk_io.specs.Statuses.{code_of};
 
-/// The exit status of a run; `as u8` gives its number.
+use std::process::ExitCode;
+
+/// The exit status of a run.
 #[derive(Clone, Copy, Debug, PartialEq, Eq)]
 pub enum ExitStatus {
     /// What was asked for went out; a stream that was judged is trusted.
@@ -17,4 +22,22 @@ pub enum ExitStatus {
     Device = 5,
     /// There was no memory.
     Memory = 6,
+}
+
+impl ExitStatus {
+    /// The number of this status, from 0 to 6.
+    pub fn code(self) -> u8
+        ensures number { result ≡ code_of self }
+    {
+        self as u8
+    }
+}
+
+impl From<ExitStatus> for ExitCode {
+    ghost from_gives = { λ status code. exit_status code ≡ code_of status };
+
+    /// What a process ends with that comes to this status: its number.
+    fn from(status: ExitStatus) -> ExitCode {
+        ExitCode::from(status.code())
+    }
 }

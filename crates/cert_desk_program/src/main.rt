@@ -14,7 +14,7 @@ use std::process::ExitCode;
 use std::{env, io};
 
 fn main(rt: HostRuntime) -> ExitCode {
-    ExitCode::from(run(&rt) as u8)
+    ExitCode::from(run(&rt))
 }
 
 /// Judges the arguments, and does what they ask for.

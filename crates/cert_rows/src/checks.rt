@@ -61,7 +61,7 @@ pub fn run<J: SignatureJudge>(
         asked.limit,
         judge,
     );
-    told(alloc, status as u8, out.written(), err.written())
+    told(alloc, status.code(), out.written(), err.written())
 }
 
 /// The answer to the words of a line, of which the first, where the program's name would stand,
@@ -73,7 +73,7 @@ pub fn answer(alloc: Global, schedules: &str, line: &str) -> Result<String, Refu
         .map(|word| word.to_string(alloc))
         .try_collect(alloc)?;
     let Some(arguments) = Arguments::parse(words.as_slice()) else {
-        return told(alloc, ExitStatus::Arguments as u8, b"", USAGE.as_bytes());
+        return told(alloc, ExitStatus::Arguments.code(), b"", USAGE.as_bytes());
     };
     let anchors = octets_of(alloc, arguments.anchors)?;
     let stream = octets_of(alloc, arguments.stream)?;

@@ -27,7 +27,7 @@ pub fn run(alloc: Global, schedules: &str, file: &[u8]) -> Result<Told, Refusal>
     let mut out = output.output(&mut out_room);
     let mut err = errors.output(&mut err_room);
     let mut input = input.input(file);
-    let status = run_orders(alloc, &mut input, &mut out, &mut err) as u8;
+    let status = run_orders(alloc, &mut input, &mut out, &mut err).code();
     let out = out.written().to_vec(alloc)?;
     let err = err.written().to_vec(alloc)?;
     Ok(Told { status, out, err })
@@ -55,7 +55,7 @@ fn issued(
     let mut err_room = [0; 64];
     let mut out = output.output(&mut out_room);
     let mut err = errors.output(&mut err_room);
-    let status = run_issue(alloc, orders, &mut out, &mut err) as u8;
+    let status = run_issue(alloc, orders, &mut out, &mut err).code();
     outputs_told(alloc, status, out.written(), err.written())
 }
 

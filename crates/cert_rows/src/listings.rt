@@ -31,7 +31,7 @@ pub fn run(
     let mut err = errors.output(&mut err_room);
     let mut input = input.input(octets);
     let status = run_show(alloc, &mut input, &mut out, &mut err, kind);
-    told(alloc, status as u8, out.written(), err.written())
+    told(alloc, status.code(), out.written(), err.written())
 }
 
 /// What a run tells of a kind and octets.

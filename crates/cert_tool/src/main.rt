@@ -18,7 +18,7 @@ fn main(rt: HostRuntime) -> ExitCode {
         },
         Err(_) => tell_memory(&mut err),
     };
-    ExitCode::from(status as u8)
+    ExitCode::from(status)
 }
 
 // The texts of arguments, without the program's name.

@@ -25,7 +25,7 @@ fn answer<W: Write>(rt: &HostRuntime, line: &str, to: &mut W) -> io::Result<()> 
     let reply = obey(rt.alloc(), rt, words.as_slice())?;
     write_shown(rt.alloc(), reply.out.as_slice(), to)?;
     to.write_all(reply.err.as_slice())?;
-    writeln!(to, "= {}", reply.status as u8)
+    writeln!(to, "= {}", reply.status.code())
 }
 
 fn main(rt: HostRuntime) -> io::Result<()> {
