@@ -2,10 +2,12 @@
 """Which definitions a reader has to trust, and for which claim.
 
     tools/definitions.py            writes docs/DEFINITIONS.md from the sources
-    tools/definitions.py --check    writes nothing; its status is 1 where that page is out of date
+    tools/definitions.py --check    writes nothing; its status is 1 where that page is out of date,
+                                    or an import names no definition
     tools/definitions.py CALL..     each definition that the contract of a call rests on
 
-A CALL is a function (`check`), or one of a type (`Issued::audit`).
+A CALL is a function (`check`), or one of a type (`Issued::audit`). A variable that has the name of
+a definition counts as that one, so the list may be too long by such names, and never too short.
 """
 
 import collections
@@ -112,7 +114,7 @@ def page():
             for key in definition.cites:
                 if key[:2] != (file.crate, file.name):
                     behind[key[:2]].add((file.crate, file.name))
-    by_crate = {file.crate for file in files.values()}
+    by_crate = {file.crate for file in files.values() if file.name != "Lib"}
     order = [crate for crate in sources.closure(sources.dependencies()) if crate in by_crate]
     links = [f"[`{crate}`](#{crate})" for crate in order]
     contents = ["- [What to read for which claim](#what-to-read-for-which-claim)"]
@@ -138,15 +140,16 @@ def page():
     counted = "Files are counted by crate; those of one crate stand on those of crates below it."
     lines += ["", counted, ""]
     for crate in sources.closure(sources.dependencies()):
-        own = [file for file in files.values() if file.crate == crate]
+        own = [file for file in files.values() if file.crate == crate and file.name != "Lib"]
         here = [f for f in own if any(d.sort != "proof" for d in f.definitions.values())]
-        passing = [f for f in own if f.passed_on and f not in here]
+        passing = [f for f in own if f.passed_on.paths and f not in here]
         if not own:
             continue
         total = sum(len(f.lines) for f in here)
         lines += [f"## `{crate}`", ""]
         if here:
-            lines += [f"{len(here)} files, {total} lines.", ""]
+            count = "1 file" if len(here) == 1 else f"{len(here)} files"
+            lines += [f"{count}, {total} lines.", ""]
             lines += ["| File | Lines | Definitions | What it says | Standard | Cited by |"]
             lines += ["|---|---|---|---|---|---|"]
         for file in here:
@@ -215,6 +218,10 @@ def claim(names):
 
 def main(words):
     if words == ["--check"]:
+        lost = list(sources.lost(*sources.read_all()))
+        if lost:
+            print("imports that name no definition:", *lost, sep="\n", file=sys.stderr)
+            return 1
         if PAGE.read_text() != page():
             print("docs/DEFINITIONS.md is out of date: run tools/definitions.py", file=sys.stderr)
             return 1

@@ -10,12 +10,16 @@ import re
 TOP = pathlib.Path(__file__).resolve().parent.parent
 CRATES = TOP / "crates"
 
+COMMENT = re.compile(r"(?:^|(?<=\s))(?:--|//).*$", re.M)
+SIGN = re.compile(r"(?<=\s)[^\w\s(){},]+(?=\s)")
 WORD = re.compile(r"[^\W\d][\w'-]*(?:\.[^\W\d][\w'-]*)*")
 SIGNATURE = re.compile(
     r"^(?P<opened>abbrev |unfoldable )?(?P<pub>pub )?(?P<sort>data |record )?"
     r"(?P<name>[^\s:({]+)\s*(?P<rest>.*)$"
 )
-USE = re.compile(r"use Rattle\.([a-z0-9_]+)\.specs\.([A-Za-z0-9_.]+)")
+USE = re.compile(r"use Rattle\.([a-z0-9_]+\.specs(?:\.\w+)*)")
+CASE = re.compile(r"  (\w+) :")
+BLOCK = re.compile(r"(?P<opened>abbrev |unfoldable )?(?:mutual|module \S+.*)$")
 STANDARD = r"X\.\d{3}|RFC \d{4}|IEEE 802\.1AR|CA/Browser Forum, Baseline Requirements"
 PART = r"\d+(?:\.\d+)*(?: \([a-z]+\)(?: \(\d\))?)?"
 SECTION = re.compile(rf"({STANDARD})((?:,? (?:and |to )?{PART})*)")
@@ -57,33 +61,31 @@ def kit_libraries(names, crates=None):
 
 
 class Imports:
-    """Which definition a name means: those of `use` lines, of specs and of sources alike."""
+    """Which path a name stands for: those of `use` lines, of specs and of sources alike."""
 
     def __init__(self):
-        self.names = {}
-        self.modules = {}
+        self.paths = {}
 
     def read(self, line):
+        """A `use` line: names in braces stand behind its path, or its last word names the path."""
         match = USE.search(line)
         if not match:
             return
-        crate, path = match.groups()
+        path = tuple(match[1].split(".")[:1] + match[1].split(".")[2:])
         rest = line[match.end() :]
-        if path.endswith("."):
-            path = path[:-1]
-            for part in rest[rest.find("{") + 1 : rest.rfind("}")].split(","):
+        if rest.startswith(".{"):
+            for part in rest[2 : rest.rfind("}")].split(","):
                 name, _, alias = part.strip().partition(" as ")
                 if name:
-                    self.names[alias or name] = (crate, path, name)
+                    self.paths[alias or name] = (*path, name)
         else:
             alias = re.match(r" as (\w+)", rest)
-            self.modules[alias.group(1) if alias else path.split(".")[-1]] = (crate, path)
+            self.paths[alias[1] if alias else path[-1]] = path
 
     def find(self, word):
-        head, _, rest = word.partition(".")
-        if head in self.modules and rest:
-            return (*self.modules[head], rest.split(".")[0])
-        return self.names.get(head)
+        """The path of a word: its first name stands for one, which the others go on."""
+        head, *rest = word.split(".")
+        return (*self.paths[head], *rest) if head in self.paths else None
 
 
 class Definition:
@@ -91,10 +93,37 @@ class Definition:
         self.crate, self.file, self.name, self.line = crate, path, name, line
         self.sort, self.public = sort, public
         self.text, self.lines, self.comment, self.cites = "", 0, "", set()
+        self.around = ""
 
     @property
     def key(self):
         return (self.crate, self.file, self.name)
+
+
+Block = collections.namedtuple("Block", "opened parameters")
+
+
+def unnested(lines):
+    """Each line with its number, moved out of the blocks around it: `mutual`, and modules.
+
+    With it comes what the blocks say of it: the word before `mutual`, the parameters of modules.
+    """
+    blocks, at = [Block("", "")], 0
+    while at < len(lines):
+        number, line = at + 1, lines[at]
+        at += 1
+        while line.strip() and not line.startswith("  " * (len(blocks) - 1)):
+            blocks.pop()
+        line = line[2 * (len(blocks) - 1) :]
+        match = BLOCK.match(line)
+        if not match:
+            yield number, line, blocks[-1]
+            continue
+        while "module" in line and not line.endswith("where"):
+            line += " " + lines[at].strip()
+            at += 1
+        opened = (match["opened"] or "").strip() or blocks[-1].opened
+        blocks.append(Block(opened, f"{blocks[-1].parameters}{line}\n"))
 
 
 class SpecFile:
@@ -102,8 +131,8 @@ class SpecFile:
         self.path = path
         self.crate, self.name = path.parts[-3], path.stem
         self.lines = path.read_text().splitlines()
-        self.definitions, self.passed_on = {}, {}
-        self.imports = Imports()
+        self.definitions, self.cases = {}, {}
+        self.imports, self.passed_on = Imports(), Imports()
         head = []
         for line in self.lines:
             if not line.startswith("--"):
@@ -112,22 +141,17 @@ class SpecFile:
         self.head = " ".join(head)
         self.parse()
 
+    def find(self, name):
+        """The definition of this name; that of a case is its type."""
+        return self.definitions.get(name) or self.cases.get(name)
+
     def parse(self):
-        current, comment, mutual, opened_all = None, [], False, ""
-        for number, line in enumerate(self.lines, 1):
-            if line.strip() and not line[0].isspace():
-                mutual = line.split()[-1] == "mutual"
-                if mutual:
-                    opened_all = line[: -len("mutual")].strip()
-                    continue
-            elif mutual and line.startswith("  "):
-                line = line[2:]
+        current, comment = None, []
+        for number, line, block in unnested(self.lines):
             if re.match(r"^(abbrev |unfoldable )?(pub )?use ", line):
                 self.imports.read(line)
                 if "pub use" in line:
-                    one = Imports()
-                    one.read(line)
-                    self.passed_on.update(one.names)
+                    self.passed_on.read(line)
                 current, comment = None, []
                 continue
             if line.startswith("--"):
@@ -141,6 +165,9 @@ class SpecFile:
                 if current:
                     current.text += line + "\n"
                     current.lines += 1
+                    case = CASE.match(line)
+                    if case and current.sort == "data":
+                        self.cases[case[1]] = current
                 continue
             if line.startswith("unfolding "):
                 continue
@@ -148,7 +175,7 @@ class SpecFile:
             if not match:
                 continue
             opened, sort = (match["opened"] or "").strip(), (match["sort"] or "").strip()
-            opened = opened or (opened_all if mutual else "")
+            opened = opened or block.opened
             name = match["name"]
             if name in self.definitions:
                 current = self.definitions[name]
@@ -157,8 +184,9 @@ class SpecFile:
                 current = Definition(self.crate, self.name, name, number, kind, bool(match["pub"]))
                 current.comment = " ".join(comment)
                 current.lines = len(comment)
+                current.around = block.parameters
                 self.definitions[name] = current
-            else:
+            elif current is None:  # else a clause of an operator, between its arguments
                 continue
             comment = []
             current.text += line + "\n"
@@ -298,11 +326,10 @@ class Source:
 
 
 def specs():
-    """All files of definitions, by crate and name."""
+    """All files of definitions, by crate and name; `Lib` is the list of those of a crate."""
     return {
         (file.crate, file.name): file
         for file in map(SpecFile, sorted(CRATES.glob("*/specs/*.antt")))
-        if file.name != "Lib"
     }
 
 
@@ -328,32 +355,51 @@ def sources():
     return found
 
 
-def resolve(files, target):
-    """Where a definition stands that crates above pass on."""
-    seen = set()
-    while target and target not in seen:
-        seen.add(target)
-        crate, path, name = target
-        file = files.get((crate, path))
-        if file is None:
+def stands_at(files, path):
+    """The definition or the file at a path: a crate, then what it has or passes on, and so on."""
+    crate, *rest = path
+    here = files.get((crate, "Lib"))
+    for at, name in enumerate(rest, 1):
+        if here is None:
             return None
-        if name in file.definitions:
-            return target
-        target = file.passed_on.get(name)
-    return None
+        found = here.find(name)
+        if found:
+            return found
+        onward = here.passed_on.find(name)
+        if onward:
+            return stands_at(files, (*onward, *rest[at:]))
+        here = files.get((crate, name)) if here.name == "Lib" else None
+    return here
+
+
+def lost(files, code):
+    """Imports from the definitions of the repository that name none, each with its file."""
+    crates = {crate for crate, _ in files}
+    for source in (*files.values(), *code):
+        for path in source.imports.paths.values():
+            told = path[0] in crates and not {"declared", "contracts"} & set(path)
+            if told and stands_at(files, path) is None:
+                yield f"{source.path.relative_to(TOP)}: {'.'.join(path)}"
+
+
+def words_of(text):
+    """The names in a text, and of operators that stand between blanks; comments have none."""
+    text = COMMENT.sub("", text)
+    return set(WORD.findall(text)) | {f"◌{sign}◌" for sign in SIGN.findall(text)}
 
 
 def cite(files, imports, text, own=None):
     """The definitions that a text names."""
     found = set()
-    for word in WORD.findall(text):
-        head = word.split(".")[0]
-        if own and head in own.definitions:
-            found.add((own.crate, own.name, head))
+    for word in words_of(text):
+        here = own and own.find(word.split(".")[0])
+        if here:
+            found.add(here.key)
             continue
-        target = resolve(files, imports.find(word))
-        if target:
-            found.add(target)
+        path = imports.find(word)
+        target = stands_at(files, path) if path else None
+        if isinstance(target, Definition):
+            found.add(target.key)
     return found
 
 
@@ -362,7 +408,8 @@ def read_all():
     files, code = specs(), sources()
     for file in files.values():
         for definition in file.definitions.values():
-            definition.cites = cite(files, file.imports, definition.text, file) - {definition.key}
+            text = definition.around + definition.text
+            definition.cites = cite(files, file.imports, text, file) - {definition.key}
     for source in code:
         for call in source.calls:
             call.cites = cite(files, source.imports, contract_text(call))
