@@ -1,6 +1,6 @@
 //! Why octets could not be read or written.
 
-ghost use Rattle.std.specs.Prelude.{◌≡◌, Some, None};
+ghost use Rattle.std.specs.Prelude.{◌≡◌, ◌≢◌, ◌⊎◌, Some, None, IsSome};
 ghost use Rattle.der_core_head.specs.declared.error.ErrorKind.TheVariants.{Incomplete};
 ghost use Rattle.der_core_head.specs.declared.error.ErrorKind.TheVariants.{OidMalformed};
 ghost use Rattle.der_core_head.specs.declared.error.ErrorKind.TheVariants.{OutOfMemory, Overflow};
@@ -123,7 +123,10 @@ impl Error {
     /// It isn't inlined, so that a value that was read isn't moved in the pieces of an error.
     #[inline(never)]
     pub fn found_at(self, place: Length) -> Error
-        ensures { result.kind ≡ self.kind }
+        ensures kind { result.kind ≡ self.kind }
+        ensures found { self.position ≡ None → self.kind ≢ OutOfMemory
+            → result.position ≡ Some place }
+        ensures same { (IsSome self.position ⊎ (self.kind ≡ OutOfMemory)) → result ≡ self }
     {
         match (self.kind, self.position) {
             (ErrorKind::OutOfMemory, _) | (_, Some(_)) => self,

@@ -10,7 +10,7 @@ returns-in-Err g c =
     let rest = c.remaining-octets.ensures.rest in
     let rules = (g.Self.Reader.state c.args.self.now).source.encoding in
     let front = ap (λ r. head_by r c.remaining-octets.result.now) (sym c.encoding_rules.ensures) ∙ c.in-Err.ensures.front in
-    (λ ready. no_header (head_by rules) _ _ (ap (head_by rules) (sym rest) ∙ front) ∙ ap (λ (k : ErrorKind). Err k) (sym c.found_at.ensures), c.fail.ensures, λ failed. absurd cc)
+    (λ ready. no_header (head_by rules) _ _ (ap (head_by rules) (sym rest) ∙ front) ∙ ap (λ (k : ErrorKind). Err k) (sym c.found_at.ensures.kind), c.fail.ensures, λ failed. absurd cc)
 
 pub returns-then-octets-count : goal.returns-then-octets-count
 returns-then-octets-count g c =
