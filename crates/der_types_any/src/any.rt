@@ -13,7 +13,7 @@ ghost use Rattle.der_core_head.specs.Shapes.{IsValid, Spells, octets_of};
 ghost use Rattle.der_core_head.specs.Spelling.{is_apart, are_enough};
 ghost use Rattle.der_core_head.specs.Tags.{same_tag};
 ghost use Rattle.der_core_head.specs.Reading.{Gives, ClosureReads, HandsBack, unread};
-ghost use Rattle.der_core_octets.specs.Nesting.{Answered};
+ghost use Rattle.der_core_octets.specs.Nesting.{Answered, RefusesNested};
 ghost use Rattle.der_core_head.specs.Writing.{write_content};
 ghost use Rattle.der_types_any.specs.AnyOrders.{any_cmp, any_cmp_total, any_cmp_ties, any_fed};
 ghost use Rattle.der_types_any.specs.AnyOrders.{any_fed_alike};
@@ -218,6 +218,11 @@ impl Any {
             (unread Der self.now.contents) x) }
         ensures tag { same_tag self.now.tag Sequence ≡ false
             → IsErrAnd result (λ e. e.kind ≡ ErrorKind.TagUnexpected) }
+        // Why a SEQUENCE is refused: what the closure answers, or that it left octets.
+        ensures refused { same_tag self.now.tag Sequence ≡ true
+            → IfErr result
+            (RefusesNested (λ s. s) F.FnOnce f (length self.now.contents)
+            (unread Der self.now.contents)) }
         // What the closure reads of a body, this reads of the content.
         ensures reads { (b : Body) (view : T → BodyValue b)
             → ClosureReads (λ s. s) F.FnOnce f b view

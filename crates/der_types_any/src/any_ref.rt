@@ -14,7 +14,7 @@ ghost use Rattle.der_core_head.specs.Shapes.{IsValid, Spells, octets_of};
 ghost use Rattle.der_core_head.specs.Spelling.{is_apart, are_enough};
 ghost use Rattle.der_core_head.specs.Tags.{same_tag};
 ghost use Rattle.der_core_head.specs.Reading.{Gives, ClosureReads, HandsBack, unread};
-ghost use Rattle.der_core_octets.specs.Nesting.{Answered};
+ghost use Rattle.der_core_octets.specs.Nesting.{Answered, RefusesNested};
 ghost use Rattle.der_core.specs.Orders.{octets_cmp};
 ghost use Rattle.der_types_any.specs.AnyOrders.{any_cmp, any_cmp_total, any_cmp_ties, any_fed};
 ghost use Rattle.der_types_any.specs.AnyOrders.{any_fed_alike};
@@ -181,6 +181,11 @@ impl<'a> AnyRef<'a> {
             (unread Der (any_lent self.now).contents) x) }
         ensures tag { same_tag (any_lent self.now).tag Sequence ≡ false
             → IsErrAnd result (λ e. e.kind ≡ ErrorKind.TagUnexpected) }
+        // Why a SEQUENCE is refused: what the closure answers, or that it left octets.
+        ensures refused { same_tag (any_lent self.now).tag Sequence ≡ true
+            → IfErr result
+            (RefusesNested (λ s. s) F.FnOnce f (length (any_lent self.now).contents)
+            (unread Der (any_lent self.now).contents)) }
         // What the closure reads of a body, this reads of the content.
         ensures reads { (b : Body) (view : T → BodyValue b)
             → ClosureReads (λ s. s) F.FnOnce f b view

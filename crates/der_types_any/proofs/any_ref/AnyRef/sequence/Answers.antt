@@ -30,3 +30,9 @@ returns-clause-reads g c = λ b view calls.
     read_ok encodings.Der Sequence (nested b) (any_lent c.args.self.now) (view c.in_ok-value.value) c.read_value.new.self.rest c.in_ok-reader.reader.source.encoding c.header.result.tag c.header.result.length.value c.in_ok-reader.reader.room c.in_ok-reader.reader.rest
     (ap (λ (s : State). s.source.encoding) reader) c.header.ensures.tag c.header.ensures.length (ap (λ (s : State). s.room) reader) (ap (λ (s : State). s.rest) reader) same
     (c.in_ok-value.ensures.reads b view calls).0
+
+pub returns-in_err-value-clause-refused : goal.returns-in_err-value-clause-refused
+returns-in_err-value-clause-refused g c = λ same.
+    let reader = c.in_ok-reader.ensures.ok.1 in
+    let p = err_from_is_err_and c.from_residual-in_err-value.result c.from_residual-in_err-value.ensures.1 in
+    rw (p.1, p.2) (rw (reader, c.header.ensures.length) at c.in_err-value.ensures.refused)
