@@ -110,15 +110,15 @@ unwritten s f v i x e lt is refused = go (or_memory e.kind refused)
     go (inl memory) = inl (inl memory)
     go (inr k) = fault k (write_faults s (f x) e.kind k)
 
-pub first_unwritten : (s : Shape) (v w : List (Value s)) (e : Error) → IsUnwritten s v e → IsUncompared s v w e ⊎ Overflows e (size_body (many s) v) (size_body (many s) w)
-first_unwritten s v w e (inl (inl memory)) = inl (inl memory)
-first_unwritten s v w e (inl (inr falling)) = inl (inr (inl falling))
-first_unwritten s v w e (inr over) = inr (record { kind = over.0; length = inl over.1 })
+pub first_unwritten : {P : Type 0} (apart : P) (s : Shape) (v w : List (Value s)) (e : Error) → IsUnwritten s v e → (P × IsUncompared s v w e) ⊎ Overflows e (size_body (many s) v) (size_body (many s) w)
+first_unwritten apart s v w e (inl (inl memory)) = inl (apart, inl memory)
+first_unwritten apart s v w e (inl (inr falling)) = inl (apart, inr (inl falling))
+first_unwritten apart s v w e (inr over) = inr (record { kind = over.0; length = inl over.1 })
 
-pub second_unwritten : (s : Shape) (v w : List (Value s)) (e : Error) → IsUnwritten s w e → IsUncompared s v w e ⊎ Overflows e (size_body (many s) v) (size_body (many s) w)
-second_unwritten s v w e (inl (inl memory)) = inl (inl memory)
-second_unwritten s v w e (inl (inr falling)) = inl (inr (inr falling))
-second_unwritten s v w e (inr over) = inr (record { kind = over.0; length = inr over.1 })
+pub second_unwritten : {P : Type 0} (apart : P) (s : Shape) (v w : List (Value s)) (e : Error) → IsUnwritten s w e → (P × IsUncompared s v w e) ⊎ Overflows e (size_body (many s) v) (size_body (many s) w)
+second_unwritten apart s v w e (inl (inl memory)) = inl (apart, inl memory)
+second_unwritten apart s v w e (inl (inr falling)) = inl (apart, inr (inr falling))
+second_unwritten apart s v w e (inr over) = inr (record { kind = over.0; length = inr over.1 })
 
 pub inside_long : (P : Error → Type 0) (t : Tag) (c : Content) (v w : ContentValue c) (e : Error) → P e ⊎ Overflows e (size_content c v) (size_content c w) → P e ⊎ Overflows e (size (tagged t c) v) (size (tagged t c) w)
 inside_long P t c v w e (inl other) = inl other

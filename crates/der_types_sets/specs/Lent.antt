@@ -80,6 +80,11 @@ abbrev pub IsUnwritten : (s : Shape) → List (Value s) → Error → Type 0
 IsUnwritten s v e = (IsWantOfMemory e ⊎ HasFalling s v e.kind)
     ⊎ ((e.kind ≡ kinds.Overflow) × (size_body (many s) v ≡ Err kinds.Overflow))
 
+-- One of two sets lends values and the other octets, so that values are written to be compared.
+abbrev pub AreLentApart : {A : Type 0} → Lent A → Lent A → Type 0
+AreLentApart l m = ((length l.octets ≡ 0) × (0 < length m.octets))
+    ⊎ ((0 < length l.octets) × (length m.octets ≡ 0))
+
 -- There was no memory, or one of the values of two lists has a strict
 -- set that doesn't rise.
 abbrev pub IsUncompared : (s : Shape) → List (Value s) → List (Value s) → Error → Type 0

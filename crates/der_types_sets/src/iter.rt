@@ -1,6 +1,7 @@
 //! The members of a list, lent one after another.
 
-ghost use Rattle.std.specs.Prelude.{◌≡◌};
+ghost use Rattle.std.specs.Prelude.{◌≡◌, length};
+ghost use Rattle.std.specs.Iterator.SizeHint.{IsExactHint};
 
 /// The members of a `SequenceOf`, in order.
 #[derive(Debug, Drop)]
@@ -40,7 +41,9 @@ impl<'a, T> Iterator for SequenceOfIter<'a, T> {
         Some(first)
     }
 
-    fn size_hint(&self) -> (usize, Option<usize>) {
+    fn size_hint(&self) -> (usize, Option<usize>)
+        ensures { IsExactHint result (length self.now.left.now) }
+    {
         let len = self.len();
         (len, Some(len))
     }
@@ -70,7 +73,9 @@ impl<'a, T> Iterator for SetOfIter<'a, T> {
         Some(first)
     }
 
-    fn size_hint(&self) -> (usize, Option<usize>) {
+    fn size_hint(&self) -> (usize, Option<usize>)
+        ensures { IsExactHint result (length self.now.left.now) }
+    {
         let len = self.len();
         (len, Some(len))
     }

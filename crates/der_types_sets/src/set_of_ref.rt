@@ -12,7 +12,8 @@ ghost use Rattle.der_core_head.specs.Writing.{size, size_body};
 ghost use Rattle.der_core.specs.Orders.{contents_cmp, encodings_cmp, Overflows};
 ghost use Rattle.der_types_sets.specs.Sets.{Ascends, IsOutOfOrder, TooLong};
 ghost use Rattle.der_types_sets.specs.Ascending.{JoinsAscending};
-ghost use Rattle.der_types_sets.specs.Lent.{members_lent, IsWantOfMemory, IsUncompared};
+ghost use Rattle.der_types_sets.specs.Lent.{members_lent, IsWantOfMemory, AreLentApart};
+ghost use Rattle.der_types_sets.specs.Lent.{IsUncompared};
 
 use crate::ascending::count_ascending;
 use crate::joined::joined_cmp;
@@ -369,9 +370,11 @@ impl<'a, T: DerOrd + Encode> SetOfRef<'a, T> {
             → Gives (λ o. o) result
             (Ok (contents_cmp (nested (many T.shape)) (members_lent T.shape T.written self.now)
             (members_lent T.shape T.written other.now))) }
+        // Where both lend values, or both octets, nothing but a length is refused.
         ensures refused { IfErr result
-            (λ e. IsUncompared T.shape (members_lent T.shape T.written self.now)
-            (members_lent T.shape T.written other.now) e
+            (λ e. (AreLentApart self.now other.now
+            × IsUncompared T.shape (members_lent T.shape T.written self.now)
+            (members_lent T.shape T.written other.now) e)
             ⊎ Overflows e (size_body (many T.shape) (members_lent T.shape T.written self.now))
             (size_body (many T.shape) (members_lent T.shape T.written other.now))) }
     {
@@ -405,9 +408,11 @@ impl<'a, T: DerOrd + Encode> SetOfRef<'a, T> {
             (encodings_cmp (tagged Set (nested (many T.shape)))
             (members_lent T.shape T.written self.now)
             (members_lent T.shape T.written other.now))) }
+        // Where both lend values, or both octets, nothing but a length is refused.
         ensures refused { IfErr result
-            (λ e. IsUncompared T.shape (members_lent T.shape T.written self.now)
-            (members_lent T.shape T.written other.now) e
+            (λ e. (AreLentApart self.now other.now
+            × IsUncompared T.shape (members_lent T.shape T.written self.now)
+            (members_lent T.shape T.written other.now) e)
             ⊎ Overflows e
             (size (tagged Set (nested (many T.shape))) (members_lent T.shape T.written self.now))
             (size (tagged Set (nested (many T.shape)))

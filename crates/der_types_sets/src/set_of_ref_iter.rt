@@ -88,6 +88,7 @@ fn first_member<'a, T: Decode<'a, SliceReader<'a>> + Member>(
 impl<'a, T: Decode<'a, SliceReader<'a>> + Member + Clone> Iterator for SetOfRefIter<'a, T> {
     ghost use Rattle.std.specs.Prelude.{◌≡◌, length};
     ghost use Rattle.std.specs.Iterator.{at_most};
+    ghost use Rattle.std.specs.Iterator.SizeHint.{IsExactHint};
     ghost use Rattle.der_types_sets.specs.Lent.{members_lent, YieldsMember};
 
     type Item = Result<T, Error>;
@@ -126,7 +127,9 @@ impl<'a, T: Decode<'a, SliceReader<'a>> + Member + Clone> Iterator for SetOfRefI
         }
     }
 
-    fn size_hint(&self) -> (usize, Option<usize>) {
+    fn size_hint(&self) -> (usize, Option<usize>)
+        ensures { IsExactHint result (length (members_lent T.shape T.plain self.now)) }
+    {
         let len = self.len();
         (len, Some(len))
     }

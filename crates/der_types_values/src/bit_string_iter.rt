@@ -37,7 +37,9 @@ impl<'a> BitStringIter<'a> {
 }
 
 impl<'a> Iterator for BitStringIter<'a> {
+    ghost use Rattle.std.specs.Prelude.{length};
     ghost use Rattle.std.specs.Iterator.{YieldsFirst, item_count};
+    ghost use Rattle.std.specs.Iterator.SizeHint.{IsExactHint};
     ghost use Rattle.der_types_values.specs.BitStrings.{bits_left};
 
     type Item = bool;
@@ -56,7 +58,9 @@ impl<'a> Iterator for BitStringIter<'a> {
         Some(bit)
     }
 
-    fn size_hint(&self) -> (usize, Option<usize>) {
+    fn size_hint(&self) -> (usize, Option<usize>)
+        ensures { IsExactHint result (length (bits_left self.now)) }
+    {
         let len = self.len();
         (len, Some(len))
     }

@@ -1,5 +1,8 @@
 //! The attributes of a name, lent one after another.
 
+ghost use Rattle.std.specs.Prelude.{length};
+ghost use Rattle.std.specs.Iterator.SizeHint.{IsExactHint};
+
 use crate::attribute_type_and_value::AttributeTypeAndValue;
 use crate::relative_distinguished_name::RelativeDistinguishedName;
 
@@ -33,7 +36,9 @@ impl<'a> Iterator for RdnSequenceIter<'a> {
         Some(first)
     }
 
-    fn size_hint(&self) -> (usize, Option<usize>) {
+    fn size_hint(&self) -> (usize, Option<usize>)
+        ensures { IsExactHint result (length self.now.left.now) }
+    {
         let len = self.len();
         (len, Some(len))
     }

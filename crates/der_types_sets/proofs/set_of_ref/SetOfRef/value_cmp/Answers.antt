@@ -1,4 +1,4 @@
-use Rattle.std.proofs.Common.{Ok, ap, sym, ◌∙◌, inr}
+use Rattle.std.proofs.Common.{Ok, ap, sym, ◌∙◌, inl, inr}
 use Rattle.std.proofs.lemmas.Bool.{eqb-true}
 use Rattle.std.proofs.lemmas.Result.{err_from_is_err_and, IfErr-weaker}
 use Rattle.der_core_head.specs.Shapes.{many, contents, body_octets, IsContent}
@@ -26,22 +26,26 @@ unfolding contents IsContent
 returns-then-is_empty g c =
     let s = g.T.Shaped.shape in
     let f = g.T.Shaped.written in
-    let first = of_values s f _ c.self.invariant (eqb-true _ 0 (sym c.is_empty.ensures ∙ c.if-is_empty.true)) in
-    let second = of_octets s f _ c.other.invariant (some_at _ (sym c.is_empty-then-is_empty.ensures ∙ c.if-is_empty-2.false)) in
+    let none = eqb-true _ 0 (sym c.is_empty.ensures ∙ c.if-is_empty.true) in
+    let some = some_at _ (sym c.is_empty-then-is_empty.ensures ∙ c.if-is_empty-2.false) in
+    let first = of_values s f _ c.self.invariant none in
+    let second = of_octets s f _ c.other.invariant some in
     rw (← c.self.view_is, ← c.other.view_is, first, second) (record {
       order = λ apart v w. rw (spelled_contents s f _ c.other.invariant) (c.joined_cmp.ensures.order v);
-      refused = IfErr-weaker c.joined_cmp.result _ _ (first_unwritten s _ _) c.joined_cmp.ensures.refused;
+      refused = IfErr-weaker c.joined_cmp.result _ _ (first_unwritten (inl (none, some)) s _ _) c.joined_cmp.ensures.refused;
     })
 
 pub returns-in_err-order : goal.returns-in_err-order
 unfolding IsContent
 returns-in_err-order g c =
     let s = g.T.Shaped.shape in
-    let second = of_values s g.T.Shaped.written _ c.other.invariant (eqb-true _ 0 (sym c.is_empty-2.ensures ∙ c.if-is_empty-3.true)) in
+    let some = some_at _ (sym c.is_empty.ensures ∙ c.if-is_empty.false) in
+    let none = eqb-true _ 0 (sym c.is_empty-2.ensures ∙ c.if-is_empty-3.true) in
+    let second = of_values s g.T.Shaped.written _ c.other.invariant none in
     let p = err_from_is_err_and c.from_residual.result c.from_residual.ensures.1 in
     rw (p.1, p.2, ← c.self.view_is, ← c.other.view_is, second) (record {
       order = λ apart v w memory. absurd (cc (c.in_err-order.ensures.order w memory));
-      refused = second_unwritten s _ _ c.in_err-order.field-0.0 c.in_err-order.ensures.refused;
+      refused = second_unwritten (inr (some, none)) s _ _ c.in_err-order.field-0.0 c.in_err-order.ensures.refused;
     })
 
 pub returns-then-is_empty-3-clause-order : goal.returns-then-is_empty-3-clause-order
