@@ -49,7 +49,7 @@ impl Model for BitString {
 
 impl BitString {
     /// The greatest number of unused bits.
-    pub const MAX_UNUSED_BITS: u8 = 7;
+    pub const MAX_UNUSED_BITS: u8 = BitStringRef::MAX_UNUSED_BITS;
 
     /// The bits of these octets but for so many at the end.
     ///

@@ -6,6 +6,7 @@ ghost use Rattle.der_core_head.specs.Heads.{Fits};
 ghost use Rattle.der_core_head.specs.BitStrings.{are_bits, last_octet};
 ghost use Rattle.der_types_values.specs.Bits.{bit_at};
 
+use crate::bit_string_ref::BitStringRef;
 use der_core::{Error, ErrorKind, Tag};
 
 /// The last octet, or 0 where there is none.
@@ -26,7 +27,7 @@ pub fn may_be_unused(unused_bits: u8, octets: &[u8]) -> bool
     if octets.is_empty() {
         return unused_bits == 0;
     }
-    unused_bits < 8 && last_of(octets) % (1u8 << unused_bits) == 0
+    unused_bits <= BitStringRef::MAX_UNUSED_BITS && last_of(octets) % (1u8 << unused_bits) == 0
 }
 
 /// That so many bits of the octets may be unused, and that there are not too many octets.
