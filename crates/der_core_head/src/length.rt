@@ -28,7 +28,7 @@ impl Length {
     pub const ONE: Length = Length { value: 1 };
 
     /// The greatest number of octets: 2^32 - 1.
-    pub const MAX: Length = Length { value: 0xffff_ffff };
+    pub const MAX: Length = Length { value: u32::MAX };
 
     /// So many octets.
     pub fn new(value: u32) -> Length

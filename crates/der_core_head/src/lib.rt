@@ -7,6 +7,7 @@ mod encoding_rules;
 mod error;
 pub mod laws;
 mod length;
+mod limits;
 mod tag;
 mod tag_mode;
 mod tag_number;
@@ -16,6 +17,7 @@ pub use class::{CLASS_APPLICATION, CLASS_CONTEXT_SPECIFIC, CLASS_PRIVATE, CLASS_
 pub use encoding_rules::EncodingRules;
 pub use error::{Error, ErrorKind, Result};
 pub use length::{Length, header_len};
+pub use limits::MAX_LEVELS;
 pub use tag::{Tag, is_constructed, is_same_tag, leading_octet_of, number_of};
 pub use tag_mode::TagMode;
 pub use tag_number::TagNumber;

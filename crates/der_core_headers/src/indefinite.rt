@@ -12,11 +12,7 @@ ghost use Rattle.der_core_headers.specs.Pieces.{plain_mark, plain_piece};
 
 use crate::header::Header;
 use crate::parse::length_of;
-use der_core_head::{Error, ErrorKind, Length, Tag, tag_of};
-
-/// The greatest number of levels that may be open in a body of indefinite length, its own among
-/// them.
-const LEVELS: u32 = 64;
+use der_core_head::{Error, ErrorKind, Length, MAX_LEVELS, Tag, tag_of};
 
 /// The tag at the front of octets under BER, and how many octets it takes: the octet 24 too is that
 /// of an OCTET STRING, in parts (X.690 8.1.2, 8.7.1).
@@ -122,14 +118,14 @@ fn piece_of(octets: &[u8]) -> Result<(Piece, usize), Error>
 fn body_len_of(octets: &[u8]) -> Result<Length, Error>
     ensures { GivesNow (λ n. n.value) result (body_len_at octets.now) }
 {
-    let mut levels = 1u32;
+    let mut levels = 1usize;
     let mut rest = octets;
     while levels > 0 {
         let (piece, count) = piece_of(rest)?;
         match piece {
             Piece::Ending => levels -= 1,
             Piece::Opening => {
-                if levels == LEVELS {
+                if levels == MAX_LEVELS {
                     return Err(Error::from(ErrorKind::NestingDepth));
                 }
                 levels += 1;
@@ -139,7 +135,7 @@ fn body_len_of(octets: &[u8]) -> Result<Length, Error>
         rest = &rest[count..];
     }
     let len = octets.len() - rest.len();
-    if len > 0xffff_ffff {
+    if len > Length::MAX.value as usize {
         return Err(Error::from(ErrorKind::Overflow));
     }
     Ok(Length { value: len as u32 })

@@ -48,7 +48,7 @@ impl BytesOwned {
     pub fn new(bytes: Vec<u8>) -> Result<BytesOwned, Error>
         ensures { GivesNow (λ b. b) result (counted bytes.items) }
     {
-        if bytes.len() > 0xffff_ffff {
+        if bytes.len() > Length::MAX.value as usize {
             return Err(Error::from(ErrorKind::Overflow));
         }
         Ok(BytesOwned { bytes })

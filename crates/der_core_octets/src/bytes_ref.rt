@@ -28,7 +28,7 @@ impl<'a> BytesRef<'a> {
     pub fn new(bytes: &'a [u8]) -> Result<BytesRef<'a>, Error>
         ensures { GivesNow held_octets result (counted bytes.now) }
     {
-        if bytes.len() > 0xffff_ffff {
+        if bytes.len() > Length::MAX.value as usize {
             return Err(Error::from(ErrorKind::Overflow));
         }
         Ok(BytesRef { bytes })

@@ -48,7 +48,7 @@ impl StringOwned {
     pub fn new(text: String) -> Result<StringOwned, Error>
         ensures { GivesNow (λ s. s) result (counted (string_bytes text)) }
     {
-        if text.as_bytes().len() > 0xffff_ffff {
+        if text.as_bytes().len() > Length::MAX.value as usize {
             return Err(Error::from(ErrorKind::Overflow));
         }
         Ok(StringOwned { text })

@@ -27,7 +27,7 @@ impl<'a> StringRef<'a> {
     pub fn new(text: &'a str) -> Result<StringRef<'a>, Error>
         ensures { GivesNow held_text result (counted text.now) }
     {
-        if text.len() > 0xffff_ffff {
+        if text.len() > Length::MAX.value as usize {
             return Err(Error::from(ErrorKind::Overflow));
         }
         Ok(StringRef { text })
