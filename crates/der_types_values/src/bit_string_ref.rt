@@ -63,7 +63,7 @@ impl<'a> BitStringRef<'a> {
         ensures err { IfErr result (λ e. (length_max < length bytes.now)
             × (e.kind ≡ ErrorKind.Overflow)) }
     {
-        if bytes.len() > 0xffff_ffff {
+        if bytes.len() > Length::MAX.value as usize {
             return Err(Error::from(ErrorKind::Overflow));
         }
         Ok(BitStringRef {

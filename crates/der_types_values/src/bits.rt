@@ -7,7 +7,7 @@ ghost use Rattle.der_core_head.specs.BitStrings.{are_bits, last_octet};
 ghost use Rattle.der_types_values.specs.Bits.{bit_at};
 
 use crate::bit_string_ref::BitStringRef;
-use der_core::{Error, ErrorKind, Tag};
+use der_core::{Error, ErrorKind, Length, Tag};
 
 /// The last octet, or 0 where there is none.
 #[tactic(auto, using(crate::proofs::LastOctet::last_place))]
@@ -47,7 +47,7 @@ pub fn check_bits(unused_bits: u8, octets: &[u8]) -> Result<(), Error>
             tag: Tag::BitString,
         }));
     }
-    if octets.len() > 0xffff_ffff {
+    if octets.len() > Length::MAX.value as usize {
         return Err(Error::from(ErrorKind::Overflow));
     }
     Ok(())

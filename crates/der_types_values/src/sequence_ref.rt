@@ -8,7 +8,7 @@ ghost use Rattle.der_core_head.specs.Leaves.{octets};
 
 use der_core::describing::{AsOctets, Described, Octets, Ordered, Primitive};
 use der_core::making::octets_in_range;
-use der_core::{Error, ErrorKind, FixedTag, Leaf, Tag};
+use der_core::{Error, ErrorKind, FixedTag, Leaf, Length, Tag};
 use std::alloc::Global;
 use std::convert::AsSlice;
 
@@ -37,7 +37,7 @@ impl<'a> SequenceRef<'a> {
         ensures err { IfErr result (λ e. (length_max < length bytes.now)
             × (e.kind ≡ ErrorKind.Overflow)) }
     {
-        if bytes.len() > 0xffff_ffff {
+        if bytes.len() > Length::MAX.value as usize {
             return Err(Error::from(ErrorKind::Overflow));
         }
         Ok(SequenceRef { bytes })
