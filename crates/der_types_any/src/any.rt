@@ -75,7 +75,7 @@ impl Any {
         ensures err { IfErr result (λ e. (length_max < vec_len bytes)
             × (e.kind ≡ ErrorKind.Overflow)) }
     {
-        if bytes.len() > 0xffff_ffff {
+        if bytes.len() > Length::MAX.value as usize {
             return Err(Error::from(ErrorKind::Overflow));
         }
         Ok(Any { tag, bytes })

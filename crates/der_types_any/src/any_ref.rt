@@ -60,7 +60,7 @@ impl<'a> AnyRef<'a> {
         ensures err { IfErr result (λ e. (length_max < length bytes.now)
             × (e.kind ≡ ErrorKind.Overflow)) }
     {
-        if bytes.len() > 0xffff_ffff {
+        if bytes.len() > Length::MAX.value as usize {
             return Err(Error::from(ErrorKind::Overflow));
         }
         Ok(AnyRef { tag, bytes })

@@ -49,7 +49,7 @@ impl<'a> IntRef<'a> {
             return Err(Error::from(ErrorKind::Length { tag: Tag::Integer }));
         }
         let bytes = fewest_signed(bytes);
-        if bytes.len() > 0xffff_ffff {
+        if bytes.len() > Length::MAX.value as usize {
             return Err(Error::from(ErrorKind::Overflow));
         }
         Ok(IntRef { bytes })

@@ -57,7 +57,7 @@ impl<'a> UintRef<'a> {
             return Err(Error::from(ErrorKind::Length { tag: Tag::Integer }));
         }
         let digits = fewest_unsigned(bytes);
-        if content_len(digits) > 0xffff_ffff {
+        if content_len(digits) > Length::MAX.value as usize {
             return Err(Error::from(ErrorKind::Overflow));
         }
         Ok(UintRef::trusted(digits))

@@ -21,7 +21,7 @@ ghost use Rattle.der_types_text.specs.BmpOrders.{bmp_order};
 
 use crate::bmp_chars::{BmpChars, BmpCodepoints};
 use der_core::describing::{AsOctets, Described, Octets, Ordered, Primitive};
-use der_core::{Error, ErrorKind, FixedTag, Leaf, OrdIsValueOrd, Tag};
+use der_core::{Error, ErrorKind, FixedTag, Leaf, Length, OrdIsValueOrd, Tag};
 use std::alloc::{AllocError, Global};
 use std::cmp::Ordering;
 use std::convert::AsSlice;
@@ -128,7 +128,7 @@ impl BmpString {
     pub fn from_ucs2(bytes: Vec<u8>) -> Result<BmpString, Error>
         ensures { GivesNow (λ s. s) result (ucs2_from bytes.items) }
     {
-        if bytes.len() > 0xffff_ffff {
+        if bytes.len() > Length::MAX.value as usize {
             return Err(Error::from(ErrorKind::Overflow));
         }
         if are_characters(bytes.as_slice()) {
