@@ -9,7 +9,7 @@ ghost use Rattle.der_core_head.specs.Reading.{State, unread, broken};
 ghost use Rattle.der_core_coding.specs.Slices.{unread_within};
 ghost use Rattle.der_core_octets.specs.Places.{IsAt};
 
-use der_core_head::{EncodingRules, Error, ErrorKind, Length};
+use der_core_head::{EncodingRules, Error, ErrorKind, Length, MAX_LEVELS};
 use der_core_octets::Reader;
 use std::alloc::AllocError;
 use std::marker::Model;
@@ -63,7 +63,7 @@ impl<'a> SliceReader<'a> {
         ensures err { IfErr result (λ e. (length_max < length bytes.now)
             × (e.kind ≡ ErrorKind.Overflow)) }
     {
-        if bytes.len() > 0xffff_ffff {
+        if bytes.len() > Length::MAX.value as usize {
             return Err(Error::from(ErrorKind::Overflow));
         }
         Ok(SliceReader {
@@ -87,7 +87,7 @@ impl<'a> SliceReader<'a> {
             × (e.kind ≡ ErrorKind.Overflow)) }
     {
         let mut reader = SliceReader::new(bytes)?;
-        reader.depth = 64 - levels;
+        reader.depth = MAX_LEVELS - levels;
         Ok(reader)
     }
 
@@ -149,7 +149,7 @@ impl<'r> Reader<'r> for SliceReader<'r> {
     }
 
     fn levels_left(&self) -> usize {
-        64 - self.depth
+        MAX_LEVELS - self.depth
     }
 
     fn is_failed(&self) -> bool {
@@ -177,7 +177,7 @@ impl<'r> Reader<'r> for SliceReader<'r> {
         if left < len {
             return Err(self.error(ErrorKind::Incomplete));
         }
-        if self.depth == 64 {
+        if self.depth == MAX_LEVELS {
             return Err(self.error(ErrorKind::NestingDepth));
         }
         let behind = left - len;

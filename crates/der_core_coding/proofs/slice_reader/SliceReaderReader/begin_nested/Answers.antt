@@ -7,4 +7,4 @@ returns c =
     let i = c.self.inside in
     let ok = c.self.invariant in
     let len = window_length i.position i.end i.bytes.now ok.position ok.end in
-    rw (← c.self.view_is) (omega (arith, len, c.if-left-len.false, ok.position), omega (arith, ok.depth, c.if-self-eq64.false), omega arith, c.if-self.false, opened i c.args.len.value ok c.if-left-len.false (omega (arith, ok.depth, c.if-self-eq64.false)))
+    rw (← c.self.view_is) (omega (arith, len, c.if-left-len.false, ok.position), omega (arith, ok.depth, c.if-self-eq-MAX_LEVELS.false), omega arith, c.if-self.false, opened i c.args.len.value ok c.if-left-len.false (omega (arith, ok.depth, c.if-self-eq-MAX_LEVELS.false)))
