@@ -12,6 +12,10 @@ abbrev pub days_of_months : ℕ → ℕ → ℕ
 days_of_months year zero = 0
 days_of_months year (suc n) = days_of_months year n + days_in_month year (1 + n)
 
+-- the last second of the year 9999
+abbrev pub last_second : ℕ
+last_second = 253402300799
+
 unfoldable pub unix_days : Civil → ℕ
 unix_days c = days_of_years (c.year - 1970) + days_of_months c.year (c.month - 1) + (c.day - 1)
 

@@ -1,10 +1,10 @@
 //! Civil dates.
 
 ghost use Rattle.std.specs.Prelude.{◌≡◌, ◌↔◌, ◌*◌, ◌/◌, ◌≤◌, ◌<◌, true, IsTrue, IsOk, IfOk, IfErr};
-ghost use Rattle.std.specs.Prelude.{pos, ◌≤ℤ◌};
+ghost use Rattle.std.specs.Prelude.{pos, ◌+◌, ◌≤ℤ◌};
 ghost use Rattle.std.specs.Duration.{as_nanos};
 ghost use Rattle.der_core_head.specs.Dates.{Civil, is_leap, days_in_month, is_civil};
-ghost use Rattle.der_types_time.specs.Seconds.{unix_days, unix_seconds};
+ghost use Rattle.der_types_time.specs.Seconds.{unix_days, unix_seconds, last_second};
 ghost use Rattle.jiff_core.specs.Date.{epoch_day};
 
 use crate::date_text::{date_of_text, text_of_date};
@@ -14,6 +14,9 @@ use std::fmt;
 use std::marker::Model;
 use std::str::FromStr;
 use std::time::Duration;
+
+/// The last second of the year 9999, counted from 1970-01-01T00:00:00Z.
+const LAST_SECOND: u64 = 253_402_300_799;
 
 /// A date to the second in universal time, from 1970-01-01T00:00:00Z to 9999-12-31T23:59:59Z.
 ///
@@ -215,7 +218,7 @@ impl DateTime {
     #[tactic(auto, unfolding(crate::specs::Seconds::unix_seconds))]
     pub fn unix_seconds(&self) -> u64
         ensures value { result ≡ unix_seconds self.now }
-        ensures bound { result ≤ 253_402_300_799 }
+        ensures bound { result ≤ last_second }
     {
         let days = self.date().to_unix_epoch_day() as u64;
         86400 * days
@@ -236,11 +239,11 @@ impl DateTime {
     /// # Errors
     /// `DateTime` after 253402300799 seconds, which is 9999-12-31T23:59:59Z.
     pub fn from_unix_seconds(seconds: u64) -> Result<DateTime, Error>
-        ensures range { IsOk result ↔ (seconds ≤ 253_402_300_799) }
+        ensures range { IsOk result ↔ (seconds ≤ last_second) }
         ensures ok { IfOk result (λ d. unix_seconds d ≡ seconds) }
         ensures err { IfErr result (λ e. e.kind ≡ ErrorKind.DateTime) }
     {
-        if seconds > 253_402_300_799 {
+        if seconds > LAST_SECOND {
             return Err(Error::from(ErrorKind::DateTime));
         }
         let Ok(date) = Date::from_unix_epoch_day((seconds / 86400) as i64) else {
@@ -263,7 +266,7 @@ impl DateTime {
     /// # Errors
     /// `DateTime` after 9999-12-31T23:59:59Z.
     pub fn from_unix_duration(duration: Duration) -> Result<DateTime, Error>
-        ensures range { IsOk result ↔ (as_nanos duration < 253_402_300_800_000_000_000) }
+        ensures range { IsOk result ↔ (as_nanos duration < (last_second + 1) * 1_000_000_000) }
         ensures ok { IfOk result (λ d. unix_seconds d ≡ as_nanos duration / 1_000_000_000) }
         ensures err { IfErr result (λ e. e.kind ≡ ErrorKind.DateTime) }
     {

@@ -1,13 +1,13 @@
 //! GeneralizedTime.
 
-ghost use Rattle.std.specs.Prelude.{◌≡◌, ◌*◌, ◌/◌, ◌<◌, ◌↔◌, IsOk, IfOk, IfErr, false};
+ghost use Rattle.std.specs.Prelude.{◌≡◌, ◌+◌, ◌*◌, ◌/◌, ◌<◌, ◌↔◌, IsOk, IfOk, IfErr, false};
 ghost use Rattle.std.specs.Duration.{as_nanos};
 ghost use Rattle.der_core_head.specs.Dates.{generalized_octets};
 ghost use Rattle.der_core_head.specs.declared.tag.Tag.TheVariants.{GeneralizedTime as GeneralizedTimeTag};
 ghost use Rattle.der_core_head.specs.Leaves.{generalized_time, leaf_read};
 ghost use Rattle.der_core_head.specs.Reading.{GivesNow};
 ghost use Rattle.der_types_time.specs.DateOrders.{generalized_order};
-ghost use Rattle.der_types_time.specs.Seconds.{unix_seconds};
+ghost use Rattle.der_types_time.specs.Seconds.{unix_seconds, last_second};
 
 use crate::date_text::{date_of, two, two_digits};
 use crate::date_time::DateTime;
@@ -67,7 +67,7 @@ impl GeneralizedTime {
     /// # Errors
     /// `DateTime` after 9999-12-31T23:59:59Z.
     pub fn from_unix_duration(duration: Duration) -> Result<GeneralizedTime, Error>
-        ensures range { IsOk result ↔ (as_nanos duration < 253_402_300_800_000_000_000) }
+        ensures range { IsOk result ↔ (as_nanos duration < (last_second + 1) * 1_000_000_000) }
         ensures ok { IfOk result (λ t. unix_seconds t ≡ as_nanos duration / 1_000_000_000) }
         ensures err { IfErr result (λ e. e.kind ≡ ErrorKind.DateTime) }
     {

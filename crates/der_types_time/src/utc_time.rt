@@ -1,13 +1,13 @@
 //! UTCTime.
 
-ghost use Rattle.std.specs.Prelude.{◌≡◌, ◌*◌, ◌/◌, ◌<◌, ◌≤◌, ◌↔◌, Ok, IsOk, IfOk, IfErr, OnErr};
+ghost use Rattle.std.specs.Prelude.{◌≡◌, ◌+◌, ◌*◌, ◌/◌, ◌<◌, ◌≤◌, ◌↔◌, Ok, IsOk, IfOk, IfErr, OnErr};
 ghost use Rattle.std.specs.Prelude.{false};
 ghost use Rattle.std.specs.Duration.{as_nanos};
 ghost use Rattle.der_core_head.specs.Dates.{IsUtc, utc_octets};
 ghost use Rattle.der_core_head.specs.declared.tag.Tag.TheVariants.{UtcTime as UtcTimeTag};
 ghost use Rattle.der_core_head.specs.Leaves.{utc_time, leaf_read};
 ghost use Rattle.der_core_head.specs.Reading.{GivesNow};
-ghost use Rattle.der_types_time.specs.Seconds.{unix_seconds};
+ghost use Rattle.der_types_time.specs.Seconds.{unix_seconds, last_second};
 
 use crate::date_text::{date_of, two, two_digits};
 use crate::date_time::DateTime;
@@ -81,9 +81,9 @@ impl UtcTime {
     pub fn from_unix_duration(duration: Duration) -> Result<UtcTime, Error>
         ensures range { IsOk result ↔ (as_nanos duration < 2_524_608_000_000_000_000) }
         ensures ok { IfOk result (λ t. unix_seconds t ≡ as_nanos duration / 1_000_000_000) }
-        ensures late { as_nanos duration < 253_402_300_800_000_000_000
+        ensures late { as_nanos duration < (last_second + 1) * 1_000_000_000
             → IfErr result (λ e. e.kind ≡ ErrorKind.Value Tag.UtcTime) }
-        ensures no_date { 253_402_300_800_000_000_000 ≤ as_nanos duration
+        ensures no_date { (last_second + 1) * 1_000_000_000 ≤ as_nanos duration
             → IfErr result (λ e. e.kind ≡ ErrorKind.DateTime) }
     {
         let date_time = DateTime::from_unix_duration(duration)?;
