@@ -1,5 +1,5 @@
 -- Lists of timestamps (RFC 6962 3.3): a vector that holds vectors, one after another.
-use Rattle.std.specs.Prelude.{◌≡◌, ◌≢◌, ◌⊎◌, ℕ, List, [], ◌++◌, flat_map, All}
+use Rattle.std.specs.Prelude.{◌≡◌, ◌≢◌, ◌⊎◌, ℕ, List, [], ◌∷◌, ◌++◌, flat_map, All}
 use Rattle.x509_cert_timestamps.specs.declared.error.Error.{Error}
 use Rattle.x509_cert_timestamps.specs.declared.error.Error.TheVariants.{Der, Tls}
 use Rattle.x509_cert_timestamps.specs.declared.serialized_sct.SerializedSct.{SerializedSct}
@@ -7,6 +7,10 @@ use Rattle.x509_cert_timestamps.specs.declared.tls_error.TlsError.{TlsError}
 use Rattle.x509_cert_timestamps.specs.declared.tls_error.TlsError.TheVariants.{InvalidVectorLength}
 use Rattle.x509_cert_timestamps.specs.declared.tls_error.TlsError.TheVariants.{OutOfMemory}
 use Rattle.x509_cert_timestamps.specs.Forms.{vector, octets, IsValue, Spells, Refuses, RefusesWhole}
+
+-- the identifier of the extension that holds a list
+abbrev pub list_arcs : List ℕ
+list_arcs = 1 ∷ 3 ∷ 6 ∷ 1 ∷ 4 ∷ 1 ∷ 11129 ∷ 2 ∷ 4 ∷ 2 ∷ []
 
 abbrev pub sct_data : SerializedSct → List ℕ
 sct_data s = s.data.items
