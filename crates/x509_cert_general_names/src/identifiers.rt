@@ -1,6 +1,7 @@
 //! The identifiers of extensions (RFC 5280 4.2.1, 5.2).
 
-ghost use Rattle.std.specs.Prelude.{◌∷◌, []};
+ghost use Rattle.x509_cert_general_names.specs.ExtensionTypes as types;
+ghost use Rattle.x509_cert_general_names.specs.ExtensionTypes.{identifier_of};
 ghost use Rattle.x509_cert_general_names.specs.Modules.{module_arcs};
 
 use crate::{
@@ -9,7 +10,7 @@ use crate::{
 use const_oid::{AssociatedOid, ObjectIdentifier};
 
 impl AssociatedOid for AuthorityKeyIdentifier {
-    ghost oid_arcs = { 2 ∷ 5 ∷ 29 ∷ 35 ∷ [] };
+    ghost oid_arcs = { identifier_of types.authority_key_identifier };
 
     fn associated_oid() -> ObjectIdentifier<39> {
         ObjectIdentifier::from_bytes_unwrap(&[0x55, 0x1d, 0x23])
@@ -17,7 +18,7 @@ impl AssociatedOid for AuthorityKeyIdentifier {
 }
 
 impl AssociatedOid for IssuingDistributionPoint {
-    ghost oid_arcs = { 2 ∷ 5 ∷ 29 ∷ 28 ∷ [] };
+    ghost oid_arcs = { identifier_of types.issuing_distribution_point };
 
     fn associated_oid() -> ObjectIdentifier<39> {
         ObjectIdentifier::from_bytes_unwrap(&[0x55, 0x1d, 0x1c])
@@ -25,7 +26,7 @@ impl AssociatedOid for IssuingDistributionPoint {
 }
 
 impl AssociatedOid for NameConstraints {
-    ghost oid_arcs = { 2 ∷ 5 ∷ 29 ∷ 30 ∷ [] };
+    ghost oid_arcs = { identifier_of types.name_constraints };
 
     fn associated_oid() -> ObjectIdentifier<39> {
         ObjectIdentifier::from_bytes_unwrap(&[0x55, 0x1d, 0x1e])

@@ -1,7 +1,8 @@
 //! Reasons.
 
-ghost use Rattle.std.specs.Prelude.{⊤, [], ◌∷◌, codes, refl};
+ghost use Rattle.std.specs.Prelude.{⊤, refl};
 ghost use Rattle.bitflags.specs.Sets.{known_from};
+ghost use Rattle.x509_cert_general_names.specs.NamedBits.{reason_flags};
 
 use bitflags::{Flag, Flags, bitflag_items};
 use x509_cert_parts::{FlagSet, NamedBits};
@@ -29,10 +30,7 @@ impl Flags for Reasons {
 
     ghost exact = { ⊤ };
 
-    ghost table = { (codes "Unused", 1) ∷ (codes "KeyCompromise", 2) ∷ (codes "CaCompromise", 4)
-        ∷ (codes "AffiliationChanged", 8) ∷ (codes "Superseded", 16)
-        ∷ (codes "CessationOfOperation", 32) ∷ (codes "CertificateHold", 64)
-        ∷ (codes "PrivilegeWithdrawn", 128) ∷ (codes "AaCompromise", 256) ∷ [] };
+    ghost table = { reason_flags };
 
     ghost set_of = { λ x. x.0 };
 
