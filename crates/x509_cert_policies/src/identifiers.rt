@@ -1,6 +1,7 @@
 //! The identifiers of extensions (RFC 5280 4.2.1; RFC 3280 4.2.1.4).
 
-ghost use Rattle.std.specs.Prelude.{◌∷◌, []};
+ghost use Rattle.x509_cert_policies.specs.ExtensionTypes as types;
+ghost use Rattle.x509_cert_policies.specs.ExtensionTypes.{identifier_of};
 
 use crate::{
     BasicConstraints, CertificatePolicies, InhibitAnyPolicy, PolicyConstraints, PolicyMappings,
@@ -9,7 +10,7 @@ use crate::{
 use const_oid::{AssociatedOid, ObjectIdentifier};
 
 impl AssociatedOid for BasicConstraints {
-    ghost oid_arcs = { 2 ∷ 5 ∷ 29 ∷ 19 ∷ [] };
+    ghost oid_arcs = { identifier_of types.basic_constraints };
 
     fn associated_oid() -> ObjectIdentifier<39> {
         ObjectIdentifier::from_bytes_unwrap(&[0x55, 0x1d, 0x13])
@@ -17,7 +18,7 @@ impl AssociatedOid for BasicConstraints {
 }
 
 impl AssociatedOid for CertificatePolicies {
-    ghost oid_arcs = { 2 ∷ 5 ∷ 29 ∷ 32 ∷ [] };
+    ghost oid_arcs = { identifier_of types.certificate_policies };
 
     fn associated_oid() -> ObjectIdentifier<39> {
         ObjectIdentifier::from_bytes_unwrap(&[0x55, 0x1d, 0x20])
@@ -25,7 +26,7 @@ impl AssociatedOid for CertificatePolicies {
 }
 
 impl AssociatedOid for InhibitAnyPolicy {
-    ghost oid_arcs = { 2 ∷ 5 ∷ 29 ∷ 54 ∷ [] };
+    ghost oid_arcs = { identifier_of types.inhibit_any_policy };
 
     fn associated_oid() -> ObjectIdentifier<39> {
         ObjectIdentifier::from_bytes_unwrap(&[0x55, 0x1d, 0x36])
@@ -33,7 +34,7 @@ impl AssociatedOid for InhibitAnyPolicy {
 }
 
 impl AssociatedOid for PolicyConstraints {
-    ghost oid_arcs = { 2 ∷ 5 ∷ 29 ∷ 36 ∷ [] };
+    ghost oid_arcs = { identifier_of types.policy_constraints };
 
     fn associated_oid() -> ObjectIdentifier<39> {
         ObjectIdentifier::from_bytes_unwrap(&[0x55, 0x1d, 0x24])
@@ -41,7 +42,7 @@ impl AssociatedOid for PolicyConstraints {
 }
 
 impl AssociatedOid for PolicyMappings {
-    ghost oid_arcs = { 2 ∷ 5 ∷ 29 ∷ 33 ∷ [] };
+    ghost oid_arcs = { identifier_of types.policy_mappings };
 
     fn associated_oid() -> ObjectIdentifier<39> {
         ObjectIdentifier::from_bytes_unwrap(&[0x55, 0x1d, 0x21])
@@ -49,7 +50,7 @@ impl AssociatedOid for PolicyMappings {
 }
 
 impl AssociatedOid for PrivateKeyUsagePeriod {
-    ghost oid_arcs = { 2 ∷ 5 ∷ 29 ∷ 16 ∷ [] };
+    ghost oid_arcs = { identifier_of types.private_key_usage_period };
 
     fn associated_oid() -> ObjectIdentifier<39> {
         ObjectIdentifier::from_bytes_unwrap(&[0x55, 0x1d, 0x10])
