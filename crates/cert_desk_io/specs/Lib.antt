@@ -6,3 +6,4 @@ pub mod Memory
 pub mod Whole
 pub mod Telling
 pub mod Statuses
+pub mod NamedInputs

@@ -2,8 +2,9 @@
 ghost use Rattle.std.specs.Prelude.{◌≡◌};
 ghost use Rattle.cert_desk_io.specs.Devices.{sink};
 ghost use Rattle.cert_desk_io.specs.Telling.{IsDeviceTold, IsComplaint, IsAnswer, IsMemoryTold};
+ghost use Rattle.cert_desk_io.specs.NamedInputs.{IsUnopenedTold};
 
-use super::{ExitStatus, Output, write_all};
+use super::{ExitStatus, OpenError, Output, write_all};
 
 /// Tells that a device failed: the line `device` is tried once.
 pub fn tell_device<E: Output>(err: &mut E) -> ExitStatus
@@ -46,4 +47,14 @@ pub fn tell_memory<E: Output>(err: &mut E) -> ExitStatus
     ensures told { IsMemoryTold (sink E.gives E.failures err.old err.new) result }
 {
     complain(err, b"memory\n", ExitStatus::Memory)
+}
+
+/// Tells why an input wasn't opened: the line `memory`, or `device`.
+pub fn tell_unopened<E: Output>(err: &mut E, error: OpenError) -> ExitStatus
+    ensures told { IsUnopenedTold (sink E.gives E.failures err.old err.new) error result }
+{
+    match error {
+        OpenError::Device => tell_device(err),
+        OpenError::OutOfMemory => tell_memory(err),
+    }
 }
