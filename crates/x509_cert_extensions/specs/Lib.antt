@@ -1,6 +1,5 @@
 pub mod KeyIdentifiers
 pub mod Making
-pub mod Markings
 pub mod NamedBits
 pub mod Reasons
 pub use Rattle.x509_cert_policies.specs.Parts
@@ -9,5 +8,6 @@ pub use Rattle.x509_cert_policies.specs.GeneralNames
 pub use Rattle.x509_cert_policies.specs.GeneralNameViews
 pub use Rattle.x509_cert_policies.specs.GeneralNameTypes
 pub use Rattle.x509_cert_policies.specs.Names
+pub use Rattle.x509_cert_policies.specs.ExtensionTypes
 pub use Rattle.x509_cert_policies.specs.Grammar as Policies
 pub use Rattle.x509_cert_policies.specs.Views as PolicyViews

@@ -1,13 +1,13 @@
 //! Criticality.
 
-ghost use Rattle.x509_cert_extensions.specs.Markings.{is_marked};
+ghost use Rattle.x509_cert_extensions.specs.ExtensionTypes as types;
+ghost use Rattle.x509_cert_extensions.specs.ExtensionTypes.{is_marked};
 
 use crate::{
     AuthorityInfoAccessSyntax, BaseCrlNumber, CrlDistributionPoints, CrlNumber, CrlReason,
     ExtendedKeyUsage, FreshestCrl, IssuerAltName, KeyUsage, SubjectAltName,
     SubjectDirectoryAttributes, SubjectInfoAccessSyntax, SubjectKeyIdentifier,
 };
-use const_oid::AssociatedOid;
 use x509_cert_policies::general_names::{
     AuthorityKeyIdentifier, IssuingDistributionPoint, NameConstraints,
 };
@@ -34,175 +34,210 @@ pub trait Criticality {
             (extensions_plain extensions.now) };
 }
 
-/// When an extension of one kind is marked as critical.
-#[derive(Clone, Copy)]
-pub enum Marking {
-    /// Always.
-    Always,
-    /// Never.
-    Never,
-    /// Where the subject has no name.
-    WithoutSubject,
-}
-
-/// What is marked by its identifier (RFC 5280 4.2, 5.2, 5.3; RFC 6962 3.3).
-pub trait Marked: AssociatedOid {
+/// What is marked by its type (RFC 5280 4.2, 5.2, 5.3; RFC 6962 3.3).
+pub trait Marked {
     ghost use Rattle.std.specs.Prelude.{◌≡◌};
-    ghost use Rattle.x509_cert_extensions.specs.Markings.{marking_of};
+    ghost use Rattle.x509_cert_extensions.specs.ExtensionTypes.{ExtensionType, is_marked};
+    ghost use Rattle.x509_cert_extensions.specs.Parts.{name_plain};
 
-    /// When it is critical.
-    fn marking() -> Marking
-        ensures { result ≡ marking_of Self.oid_arcs };
+    // Its row of the table.
+    ghost extension_type: { ExtensionType };
+
+    /// Whether it is critical beside a subject's name.
+    fn is_critical_beside(subject: &Name) -> bool
+        ensures { result ≡ is_marked extension_type (name_plain subject.now) };
 }
 
 impl<T: Marked> Criticality for T {
-    ghost is_critical = { λ _ subject _. is_marked T.oid_arcs subject };
+    ghost is_critical = { λ _ subject _. is_marked T.extension_type subject };
 
     fn criticality(&self, subject: &Name, _extensions: &[Extension]) -> bool {
-        match T::marking() {
-            Marking::Always => true,
-            Marking::Never => false,
-            Marking::WithoutSubject => subject.is_empty(),
-        }
+        T::is_critical_beside(subject)
     }
 }
 
 /// Critical where the subject has no name (RFC 5280 4.2.1.6).
 impl Marked for SubjectAltName {
-    fn marking() -> Marking {
-        Marking::WithoutSubject
+    ghost extension_type = { types.subject_alt_name };
+
+    fn is_critical_beside(subject: &Name) -> bool {
+        subject.is_empty()
     }
 }
 
 impl Marked for AuthorityInfoAccessSyntax {
-    fn marking() -> Marking {
-        Marking::Never
+    ghost extension_type = { types.authority_info_access };
+
+    fn is_critical_beside(_subject: &Name) -> bool {
+        false
     }
 }
 
 impl Marked for AuthorityKeyIdentifier {
-    fn marking() -> Marking {
-        Marking::Never
+    ghost extension_type = { types.authority_key_identifier };
+
+    fn is_critical_beside(_subject: &Name) -> bool {
+        false
     }
 }
 
 impl Marked for BaseCrlNumber {
-    fn marking() -> Marking {
-        Marking::Always
+    ghost extension_type = { types.base_crl_number };
+
+    fn is_critical_beside(_subject: &Name) -> bool {
+        true
     }
 }
 
 impl Marked for BasicConstraints {
-    fn marking() -> Marking {
-        Marking::Always
+    ghost extension_type = { types.basic_constraints };
+
+    fn is_critical_beside(_subject: &Name) -> bool {
+        true
     }
 }
 
 impl Marked for CertificatePolicies {
-    fn marking() -> Marking {
-        Marking::Never
+    ghost extension_type = { types.certificate_policies };
+
+    fn is_critical_beside(_subject: &Name) -> bool {
+        false
     }
 }
 
 impl Marked for CrlDistributionPoints {
-    fn marking() -> Marking {
-        Marking::Never
+    ghost extension_type = { types.crl_distribution_points };
+
+    fn is_critical_beside(_subject: &Name) -> bool {
+        false
     }
 }
 
 impl Marked for CrlNumber {
-    fn marking() -> Marking {
-        Marking::Never
+    ghost extension_type = { types.crl_number };
+
+    fn is_critical_beside(_subject: &Name) -> bool {
+        false
     }
 }
 
 impl Marked for ExtendedKeyUsage {
-    fn marking() -> Marking {
-        Marking::Never
+    ghost extension_type = { types.extended_key_usage };
+
+    fn is_critical_beside(_subject: &Name) -> bool {
+        false
     }
 }
 
 impl Marked for FreshestCrl {
-    fn marking() -> Marking {
-        Marking::Never
+    ghost extension_type = { types.freshest_crl };
+
+    fn is_critical_beside(_subject: &Name) -> bool {
+        false
     }
 }
 
 impl Marked for InhibitAnyPolicy {
-    fn marking() -> Marking {
-        Marking::Always
+    ghost extension_type = { types.inhibit_any_policy };
+
+    fn is_critical_beside(_subject: &Name) -> bool {
+        true
     }
 }
 
 impl Marked for IssuerAltName {
-    fn marking() -> Marking {
-        Marking::Never
+    ghost extension_type = { types.issuer_alt_name };
+
+    fn is_critical_beside(_subject: &Name) -> bool {
+        false
     }
 }
 
 impl Marked for IssuingDistributionPoint {
-    fn marking() -> Marking {
-        Marking::Always
+    ghost extension_type = { types.issuing_distribution_point };
+
+    fn is_critical_beside(_subject: &Name) -> bool {
+        true
     }
 }
 
 impl Marked for KeyUsage {
-    fn marking() -> Marking {
-        Marking::Always
+    ghost extension_type = { types.key_usage };
+
+    fn is_critical_beside(_subject: &Name) -> bool {
+        true
     }
 }
 
 impl Marked for NameConstraints {
-    fn marking() -> Marking {
-        Marking::Always
+    ghost extension_type = { types.name_constraints };
+
+    fn is_critical_beside(_subject: &Name) -> bool {
+        true
     }
 }
 
 impl Marked for PolicyConstraints {
-    fn marking() -> Marking {
-        Marking::Always
+    ghost extension_type = { types.policy_constraints };
+
+    fn is_critical_beside(_subject: &Name) -> bool {
+        true
     }
 }
 
 impl Marked for PolicyMappings {
-    fn marking() -> Marking {
-        Marking::Always
+    ghost extension_type = { types.policy_mappings };
+
+    fn is_critical_beside(_subject: &Name) -> bool {
+        true
     }
 }
 
 impl Marked for PrivateKeyUsagePeriod {
-    fn marking() -> Marking {
-        Marking::Never
+    ghost extension_type = { types.private_key_usage_period };
+
+    fn is_critical_beside(_subject: &Name) -> bool {
+        false
     }
 }
 
 impl Marked for SubjectInfoAccessSyntax {
-    fn marking() -> Marking {
-        Marking::Never
+    ghost extension_type = { types.subject_info_access };
+
+    fn is_critical_beside(_subject: &Name) -> bool {
+        false
     }
 }
 
 impl Marked for SubjectKeyIdentifier {
-    fn marking() -> Marking {
-        Marking::Never
+    ghost extension_type = { types.subject_key_identifier };
+
+    fn is_critical_beside(_subject: &Name) -> bool {
+        false
     }
 }
 
 impl Marked for CrlReason {
-    fn marking() -> Marking {
-        Marking::Never
+    ghost extension_type = { types.crl_reason };
+
+    fn is_critical_beside(_subject: &Name) -> bool {
+        false
     }
 }
 
 /// A non-critical extension (RFC 6962 3.3).
 impl Marked for SignedCertificateTimestampList {
-    fn marking() -> Marking {
-        Marking::Never
+    ghost extension_type = { types.signed_certificate_timestamps };
+
+    fn is_critical_beside(_subject: &Name) -> bool {
+        false
     }
 }
 
 impl Marked for SubjectDirectoryAttributes {
-    fn marking() -> Marking {
-        Marking::Never
+    ghost extension_type = { types.subject_directory_attributes };
+
+    fn is_critical_beside(_subject: &Name) -> bool {
+        false
     }
 }

@@ -1,6 +1,7 @@
 //! The identifiers of extensions (RFC 5280 4.2, 5.2).
 
-ghost use Rattle.std.specs.Prelude.{◌∷◌, []};
+ghost use Rattle.x509_cert_extensions.specs.ExtensionTypes as types;
+ghost use Rattle.x509_cert_extensions.specs.ExtensionTypes.{identifier_of};
 
 use crate::{
     AuthorityInfoAccessSyntax, BaseCrlNumber, CrlDistributionPoints, CrlNumber, CrlReason,
@@ -10,7 +11,7 @@ use crate::{
 use const_oid::{AssociatedOid, ObjectIdentifier};
 
 impl AssociatedOid for AuthorityInfoAccessSyntax {
-    ghost oid_arcs = { 1 ∷ 3 ∷ 6 ∷ 1 ∷ 5 ∷ 5 ∷ 7 ∷ 1 ∷ 1 ∷ [] };
+    ghost oid_arcs = { identifier_of types.authority_info_access };
 
     fn associated_oid() -> ObjectIdentifier<39> {
         ObjectIdentifier::from_bytes_unwrap(&[0x2b, 6, 1, 5, 5, 7, 1, 1])
@@ -18,7 +19,7 @@ impl AssociatedOid for AuthorityInfoAccessSyntax {
 }
 
 impl AssociatedOid for BaseCrlNumber {
-    ghost oid_arcs = { 2 ∷ 5 ∷ 29 ∷ 27 ∷ [] };
+    ghost oid_arcs = { identifier_of types.base_crl_number };
 
     fn associated_oid() -> ObjectIdentifier<39> {
         ObjectIdentifier::from_bytes_unwrap(&[0x55, 0x1d, 0x1b])
@@ -26,7 +27,7 @@ impl AssociatedOid for BaseCrlNumber {
 }
 
 impl AssociatedOid for CrlDistributionPoints {
-    ghost oid_arcs = { 2 ∷ 5 ∷ 29 ∷ 31 ∷ [] };
+    ghost oid_arcs = { identifier_of types.crl_distribution_points };
 
     fn associated_oid() -> ObjectIdentifier<39> {
         ObjectIdentifier::from_bytes_unwrap(&[0x55, 0x1d, 0x1f])
@@ -34,7 +35,7 @@ impl AssociatedOid for CrlDistributionPoints {
 }
 
 impl AssociatedOid for CrlNumber {
-    ghost oid_arcs = { 2 ∷ 5 ∷ 29 ∷ 20 ∷ [] };
+    ghost oid_arcs = { identifier_of types.crl_number };
 
     fn associated_oid() -> ObjectIdentifier<39> {
         ObjectIdentifier::from_bytes_unwrap(&[0x55, 0x1d, 0x14])
@@ -42,7 +43,7 @@ impl AssociatedOid for CrlNumber {
 }
 
 impl AssociatedOid for ExtendedKeyUsage {
-    ghost oid_arcs = { 2 ∷ 5 ∷ 29 ∷ 37 ∷ [] };
+    ghost oid_arcs = { identifier_of types.extended_key_usage };
 
     fn associated_oid() -> ObjectIdentifier<39> {
         ObjectIdentifier::from_bytes_unwrap(&[0x55, 0x1d, 0x25])
@@ -50,7 +51,7 @@ impl AssociatedOid for ExtendedKeyUsage {
 }
 
 impl AssociatedOid for FreshestCrl {
-    ghost oid_arcs = { 2 ∷ 5 ∷ 29 ∷ 46 ∷ [] };
+    ghost oid_arcs = { identifier_of types.freshest_crl };
 
     fn associated_oid() -> ObjectIdentifier<39> {
         ObjectIdentifier::from_bytes_unwrap(&[0x55, 0x1d, 0x2e])
@@ -58,7 +59,7 @@ impl AssociatedOid for FreshestCrl {
 }
 
 impl AssociatedOid for IssuerAltName {
-    ghost oid_arcs = { 2 ∷ 5 ∷ 29 ∷ 18 ∷ [] };
+    ghost oid_arcs = { identifier_of types.issuer_alt_name };
 
     fn associated_oid() -> ObjectIdentifier<39> {
         ObjectIdentifier::from_bytes_unwrap(&[0x55, 0x1d, 0x12])
@@ -66,7 +67,7 @@ impl AssociatedOid for IssuerAltName {
 }
 
 impl AssociatedOid for KeyUsage {
-    ghost oid_arcs = { 2 ∷ 5 ∷ 29 ∷ 15 ∷ [] };
+    ghost oid_arcs = { identifier_of types.key_usage };
 
     fn associated_oid() -> ObjectIdentifier<39> {
         ObjectIdentifier::from_bytes_unwrap(&[0x55, 0x1d, 0x0f])
@@ -74,7 +75,7 @@ impl AssociatedOid for KeyUsage {
 }
 
 impl AssociatedOid for SubjectAltName {
-    ghost oid_arcs = { 2 ∷ 5 ∷ 29 ∷ 17 ∷ [] };
+    ghost oid_arcs = { identifier_of types.subject_alt_name };
 
     fn associated_oid() -> ObjectIdentifier<39> {
         ObjectIdentifier::from_bytes_unwrap(&[0x55, 0x1d, 0x11])
@@ -82,7 +83,7 @@ impl AssociatedOid for SubjectAltName {
 }
 
 impl AssociatedOid for SubjectInfoAccessSyntax {
-    ghost oid_arcs = { 1 ∷ 3 ∷ 6 ∷ 1 ∷ 5 ∷ 5 ∷ 7 ∷ 1 ∷ 11 ∷ [] };
+    ghost oid_arcs = { identifier_of types.subject_info_access };
 
     fn associated_oid() -> ObjectIdentifier<39> {
         ObjectIdentifier::from_bytes_unwrap(&[0x2b, 6, 1, 5, 5, 7, 1, 0x0b])
@@ -90,7 +91,7 @@ impl AssociatedOid for SubjectInfoAccessSyntax {
 }
 
 impl AssociatedOid for SubjectKeyIdentifier {
-    ghost oid_arcs = { 2 ∷ 5 ∷ 29 ∷ 14 ∷ [] };
+    ghost oid_arcs = { identifier_of types.subject_key_identifier };
 
     fn associated_oid() -> ObjectIdentifier<39> {
         ObjectIdentifier::from_bytes_unwrap(&[0x55, 0x1d, 0x0e])
@@ -98,7 +99,7 @@ impl AssociatedOid for SubjectKeyIdentifier {
 }
 
 impl AssociatedOid for CrlReason {
-    ghost oid_arcs = { 2 ∷ 5 ∷ 29 ∷ 21 ∷ [] };
+    ghost oid_arcs = { identifier_of types.crl_reason };
 
     fn associated_oid() -> ObjectIdentifier<39> {
         ObjectIdentifier::from_bytes_unwrap(&[0x55, 0x1d, 0x15])
@@ -106,7 +107,7 @@ impl AssociatedOid for CrlReason {
 }
 
 impl AssociatedOid for SubjectDirectoryAttributes {
-    ghost oid_arcs = { 2 ∷ 5 ∷ 29 ∷ 9 ∷ [] };
+    ghost oid_arcs = { identifier_of types.subject_directory_attributes };
 
     fn associated_oid() -> ObjectIdentifier<39> {
         ObjectIdentifier::from_bytes_unwrap(&[0x55, 0x1d, 9])

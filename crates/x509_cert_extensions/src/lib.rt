@@ -14,6 +14,7 @@ mod identifiers;
 mod issuer_alt_name;
 mod key_identifier;
 mod key_usage;
+pub mod laws;
 mod subject_alt_name;
 mod subject_directory_attributes;
 mod subject_info_access;
