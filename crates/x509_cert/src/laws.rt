@@ -39,7 +39,10 @@ pub use x509_cert_anchors::laws::{
     wider_bounds_read_certificates_alike, wider_bounds_read_name_texts_alike,
 };
 pub use x509_cert_list_builders::laws::signed_part_stands_in_place as list_parts_stand_in_place;
-pub use x509_cert_list_builders::lists::laws::equality_of_lists_is_of_values;
+pub use x509_cert_list_builders::lists::laws::{
+    attributes_are_of_their_types, equality_of_lists_is_of_values,
+};
+pub use x509_cert_list_builders::types::laws::extensions_are_of_their_types;
 pub use x509_cert_list_builders::types::timestamps::laws::{
     lists_are_read as timestamp_lists_are_read, spellings_are_read as timestamps_are_read,
 };

@@ -2,15 +2,20 @@
 //!
 //! Each is the contract of a function that does nothing.
 
-ghost use Rattle.std.specs.Prelude.{ℕ, Option};
+ghost use Rattle.std.specs.Prelude.{◌≡◌, ℕ, Option};
 ghost use Rattle.const_oid.specs.Bound.{Bound};
 ghost use Rattle.der_core.specs.Equality.{IsOfValues};
 ghost use Rattle.der_core_head.specs.Shapes.{octets_of, sequence};
+ghost use Rattle.x509_cert_lists.specs.Attributes.{challenge_password_arcs};
 ghost use Rattle.x509_cert_lists.specs.Grammar as grammar;
 ghost use Rattle.x509_cert_lists.specs.Parts.{extensions, extensions_plain};
 ghost use Rattle.x509_cert_lists.specs.Views as views;
 
-use crate::{CertReq, CertReqInfo, CertificateList, ExtensionReq, RevokedCert, TbsCertList};
+use crate::{
+    CertReq, CertReqInfo, CertificateList, ChallengePassword, ExtensionReq, RevokedCert,
+    TbsCertList,
+};
+use const_oid::AssociatedOid;
 use std::cmp::PartialEq;
 
 /// `==` of revocation lists, of requests and of their parts is of their plain values, under every
@@ -30,4 +35,12 @@ pub fn equality_of_lists_is_of_values<P>()
         (octets_of (grammar.cert_req Bound)) }
     ensures asked_extensions { IsOfValues ⟦<ExtensionReq as PartialEq>⟧.eq
         (λ x. extensions_plain x.0.items) (octets_of (extensions Bound)) }
+{}
+
+/// Attributes of requests have the identifiers that their definitions say (RFC 2985 5.4).
+pub fn attributes_are_of_their_types()
+    ensures extension_req { ⟦<ExtensionReq as AssociatedOid>⟧.oid_arcs
+        ≡ grammar.extension_req_arcs }
+    ensures challenge_password { ⟦<ChallengePassword as AssociatedOid>⟧.oid_arcs
+        ≡ challenge_password_arcs }
 {}
