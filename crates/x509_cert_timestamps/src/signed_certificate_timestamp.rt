@@ -1,7 +1,7 @@
 //! SignedCertificateTimestamp.
 
-ghost use Rattle.std.specs.Prelude.{◌≡◌, ◌↔◌, ◌<◌, ◌/◌, IsOk, IfOk, IfErr};
-ghost use Rattle.der_types_time.specs.Seconds.{unix_seconds};
+ghost use Rattle.std.specs.Prelude.{◌≡◌, ◌↔◌, ◌+◌, ◌*◌, ◌<◌, ◌/◌, IsOk, IfOk, IfErr};
+ghost use Rattle.der_types_time.specs.Seconds.{unix_seconds, last_second};
 ghost use Rattle.x509_cert_timestamps.specs.Timestamps.{timestamp_form, timestamp_plain};
 
 use crate::digitally_signed::DigitallySigned;
@@ -48,7 +48,7 @@ impl SignedCertificateTimestamp {
     /// # Errors
     /// `DateTime` after 9999-12-31T23:59:59Z.
     pub fn timestamp(&self) -> Result<DateTime, Error>
-        ensures range { IsOk result ↔ (self.now.timestamp < 253_402_300_800_000) }
+        ensures range { IsOk result ↔ (self.now.timestamp < (last_second + 1) * 1000) }
         ensures ok { IfOk result (λ d. unix_seconds d ≡ self.now.timestamp / 1000) }
         ensures err { IfErr result (λ e. e.kind ≡ ErrorKind.DateTime) }
     {
