@@ -1,6 +1,6 @@
 -- Trust anchors (RFC 5914 2). Each shape takes the bound of arcs and the greatest number of content
 -- octets of a serial number, if there is such a number.
-use Rattle.std.specs.Prelude.{ℕ, List, [], ◌∷◌, Bool, Option, None}
+use Rattle.std.specs.Prelude.{ℕ, ◌^◌, List, [], ◌∷◌, Bool, Option, None, codes}
 use Rattle.std.proofs.Common.{inl, inr}
 use Rattle.der_core_head.specs.declared.tag.Tag.TheVariants as tags
 use Rattle.der_core_head.specs.Grammar.{plain_option}
@@ -19,6 +19,13 @@ use Rattle.x509_cert_policies.specs.Grammar.{policy_information_fields}
 --     inhibitAnyPolicy (2) } (2.5)
 abbrev pub flag_count : ℕ
 flag_count = 3
+
+abbrev pub policy_flags : List (List ℕ × ℕ)
+policy_flags =
+    (codes "InhibitPolicyMapping", 2 ^ 0)
+    ∷ (codes "RequireExplicitPolicy", 2 ^ 1)
+    ∷ (codes "InhibitAnyPolicy", 2 ^ 2)
+    ∷ []
 
 -- CertPathControls ::= SEQUENCE { taName Name, certificate [0] Certificate OPTIONAL, policySet [1]
 --     CertificatePolicies OPTIONAL,

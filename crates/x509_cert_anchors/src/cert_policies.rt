@@ -1,7 +1,8 @@
 //! What a trust anchor wants of policies.
 
-ghost use Rattle.std.specs.Prelude.{⊤, [], ◌∷◌, codes, refl};
+ghost use Rattle.std.specs.Prelude.{⊤, refl};
 ghost use Rattle.bitflags.specs.Sets.{known_from};
+ghost use Rattle.x509_cert_anchors.specs.Grammar.{policy_flags};
 
 use bitflags::{Flag, Flags, bitflag_items};
 use x509_cert_certificates::{FlagSet, NamedBits};
@@ -23,8 +24,7 @@ impl Flags for CertPolicies {
 
     ghost exact = { ⊤ };
 
-    ghost table = { (codes "InhibitPolicyMapping", 1) ∷ (codes "RequireExplicitPolicy", 2)
-        ∷ (codes "InhibitAnyPolicy", 4) ∷ [] };
+    ghost table = { policy_flags };
 
     ghost set_of = { λ x. x.0 };
 
