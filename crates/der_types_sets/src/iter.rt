@@ -1,7 +1,8 @@
 //! The members of a list, lent one after another.
 
-ghost use Rattle.std.specs.Prelude.{◌≡◌, length};
-ghost use Rattle.std.specs.Iterator.SizeHint.{IsExactHint};
+ghost use Rattle.std.specs.Prelude.{◌≡◌, length, IfSome};
+ghost use Rattle.std.specs.Iterator.{at_most, UpTo};
+ghost use Rattle.std.specs.Iterator.SizeHint.{IsExactHint, IsWithinCount};
 
 /// The members of a `SequenceOf`, in order.
 #[derive(Debug, Drop)]
@@ -42,7 +43,9 @@ impl<'a, T> Iterator for SequenceOfIter<'a, T> {
     }
 
     fn size_hint(&self) -> (usize, Option<usize>)
-        ensures { IsExactHint result (length self.now.left.now) }
+        ensures lower { IsWithinCount result.0 (at_most (length self.now.left.now)) }
+        ensures upper { IfSome result.1 (UpTo (at_most (length self.now.left.now))) }
+        ensures exact { IsExactHint result (length self.now.left.now) }
     {
         let len = self.len();
         (len, Some(len))
@@ -74,7 +77,9 @@ impl<'a, T> Iterator for SetOfIter<'a, T> {
     }
 
     fn size_hint(&self) -> (usize, Option<usize>)
-        ensures { IsExactHint result (length self.now.left.now) }
+        ensures lower { IsWithinCount result.0 (at_most (length self.now.left.now)) }
+        ensures upper { IfSome result.1 (UpTo (at_most (length self.now.left.now))) }
+        ensures exact { IsExactHint result (length self.now.left.now) }
     {
         let len = self.len();
         (len, Some(len))

@@ -86,9 +86,9 @@ fn first_member<'a, T: Decode<'a, SliceReader<'a>> + Member>(
 }
 
 impl<'a, T: Decode<'a, SliceReader<'a>> + Member + Clone> Iterator for SetOfRefIter<'a, T> {
-    ghost use Rattle.std.specs.Prelude.{◌≡◌, length};
-    ghost use Rattle.std.specs.Iterator.{at_most};
-    ghost use Rattle.std.specs.Iterator.SizeHint.{IsExactHint};
+    ghost use Rattle.std.specs.Prelude.{◌≡◌, length, IfSome};
+    ghost use Rattle.std.specs.Iterator.{at_most, UpTo};
+    ghost use Rattle.std.specs.Iterator.SizeHint.{IsExactHint, IsWithinCount};
     ghost use Rattle.der_types_sets.specs.Lent.{members_lent, YieldsMember};
 
     type Item = Result<T, Error>;
@@ -128,7 +128,11 @@ impl<'a, T: Decode<'a, SliceReader<'a>> + Member + Clone> Iterator for SetOfRefI
     }
 
     fn size_hint(&self) -> (usize, Option<usize>)
-        ensures { IsExactHint result (length (members_lent T.shape T.plain self.now)) }
+        ensures lower { IsWithinCount result.0
+            (at_most (length (members_lent T.shape T.plain self.now))) }
+        ensures upper { IfSome result.1
+            (UpTo (at_most (length (members_lent T.shape T.plain self.now)))) }
+        ensures exact { IsExactHint result (length (members_lent T.shape T.plain self.now)) }
     {
         let len = self.len();
         (len, Some(len))

@@ -37,9 +37,9 @@ impl<'a> BitStringIter<'a> {
 }
 
 impl<'a> Iterator for BitStringIter<'a> {
-    ghost use Rattle.std.specs.Prelude.{length};
-    ghost use Rattle.std.specs.Iterator.{YieldsFirst, item_count};
-    ghost use Rattle.std.specs.Iterator.SizeHint.{IsExactHint};
+    ghost use Rattle.std.specs.Prelude.{length, IfSome};
+    ghost use Rattle.std.specs.Iterator.{YieldsFirst, item_count, at_most, UpTo};
+    ghost use Rattle.std.specs.Iterator.SizeHint.{IsExactHint, IsWithinCount};
     ghost use Rattle.der_types_values.specs.BitStrings.{bits_left};
 
     type Item = bool;
@@ -59,7 +59,9 @@ impl<'a> Iterator for BitStringIter<'a> {
     }
 
     fn size_hint(&self) -> (usize, Option<usize>)
-        ensures { IsExactHint result (length (bits_left self.now)) }
+        ensures lower { IsWithinCount result.0 (at_most (length (bits_left self.now))) }
+        ensures upper { IfSome result.1 (UpTo (at_most (length (bits_left self.now)))) }
+        ensures exact { IsExactHint result (length (bits_left self.now)) }
     {
         let len = self.len();
         (len, Some(len))

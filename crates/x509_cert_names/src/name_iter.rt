@@ -1,7 +1,8 @@
 //! The attributes of a name, lent one after another.
 
-ghost use Rattle.std.specs.Prelude.{length};
-ghost use Rattle.std.specs.Iterator.SizeHint.{IsExactHint};
+ghost use Rattle.std.specs.Prelude.{length, IfSome};
+ghost use Rattle.std.specs.Iterator.{at_most, UpTo};
+ghost use Rattle.std.specs.Iterator.SizeHint.{IsExactHint, IsWithinCount};
 
 use crate::attribute_type_and_value::AttributeTypeAndValue;
 use crate::relative_distinguished_name::RelativeDistinguishedName;
@@ -37,7 +38,9 @@ impl<'a> Iterator for RdnSequenceIter<'a> {
     }
 
     fn size_hint(&self) -> (usize, Option<usize>)
-        ensures { IsExactHint result (length self.now.left.now) }
+        ensures lower { IsWithinCount result.0 (at_most (length self.now.left.now)) }
+        ensures upper { IfSome result.1 (UpTo (at_most (length self.now.left.now))) }
+        ensures exact { IsExactHint result (length self.now.left.now) }
     {
         let len = self.len();
         (len, Some(len))
