@@ -1,8 +1,9 @@
 //! KeyUsage.
 
-ghost use Rattle.std.specs.Prelude.{◌≡◌, ⊤, [], ◌∷◌, codes, refl};
+ghost use Rattle.std.specs.Prelude.{◌≡◌, ⊤, refl};
 ghost use Rattle.bitflags.specs.Sets.{known_from};
-ghost use Rattle.x509_cert_extensions.specs.NamedBits.{has_bit};
+ghost use Rattle.x509_cert_extensions.specs.NamedBits as bits;
+ghost use Rattle.x509_cert_extensions.specs.NamedBits.{bit_of, has_bit, key_usage_flags};
 
 use bitflags::{Flag, Flags, bitflag_items};
 use der_core::describing::{AsField, Described, Ordered, Wraps};
@@ -31,10 +32,7 @@ impl Flags for KeyUsages {
 
     ghost exact = { ⊤ };
 
-    ghost table = { (codes "DigitalSignature", 1) ∷ (codes "NonRepudiation", 2)
-        ∷ (codes "KeyEncipherment", 4) ∷ (codes "DataEncipherment", 8)
-        ∷ (codes "KeyAgreement", 16) ∷ (codes "KeyCertSign", 32) ∷ (codes "CRLSign", 64)
-        ∷ (codes "EncipherOnly", 128) ∷ (codes "DecipherOnly", 256) ∷ [] };
+    ghost table = { key_usage_flags };
 
     ghost set_of = { λ x. x.0 };
 
@@ -84,63 +82,63 @@ pub struct KeyUsage(pub FlagSet<KeyUsages>);
 impl KeyUsage {
     /// Whether data are signed with the key, but for certificates and lists.
     pub fn digital_signature(&self) -> bool
-        ensures { result ≡ has_bit 0 self.now.0.flags.0 }
+        ensures { result ≡ has_bit (bit_of bits.digital_signature) self.now.0.flags.0 }
     {
         self.0.contains(KeyUsages::DigitalSignature)
     }
 
     /// Whether signatures with the key bind their signer.
     pub fn non_repudiation(&self) -> bool
-        ensures { result ≡ has_bit 1 self.now.0.flags.0 }
+        ensures { result ≡ has_bit (bit_of bits.non_repudiation) self.now.0.flags.0 }
     {
         self.0.contains(KeyUsages::NonRepudiation)
     }
 
     /// Whether keys are enciphered with it.
     pub fn key_encipherment(&self) -> bool
-        ensures { result ≡ has_bit 2 self.now.0.flags.0 }
+        ensures { result ≡ has_bit (bit_of bits.key_encipherment) self.now.0.flags.0 }
     {
         self.0.contains(KeyUsages::KeyEncipherment)
     }
 
     /// Whether data are enciphered with it.
     pub fn data_encipherment(&self) -> bool
-        ensures { result ≡ has_bit 3 self.now.0.flags.0 }
+        ensures { result ≡ has_bit (bit_of bits.data_encipherment) self.now.0.flags.0 }
     {
         self.0.contains(KeyUsages::DataEncipherment)
     }
 
     /// Whether keys are agreed upon with it.
     pub fn key_agreement(&self) -> bool
-        ensures { result ≡ has_bit 4 self.now.0.flags.0 }
+        ensures { result ≡ has_bit (bit_of bits.key_agreement) self.now.0.flags.0 }
     {
         self.0.contains(KeyUsages::KeyAgreement)
     }
 
     /// Whether certificates are signed with it.
     pub fn key_cert_sign(&self) -> bool
-        ensures { result ≡ has_bit 5 self.now.0.flags.0 }
+        ensures { result ≡ has_bit (bit_of bits.key_cert_sign) self.now.0.flags.0 }
     {
         self.0.contains(KeyUsages::KeyCertSign)
     }
 
     /// Whether lists of revoked certificates are signed with it.
     pub fn crl_sign(&self) -> bool
-        ensures { result ≡ has_bit 6 self.now.0.flags.0 }
+        ensures { result ≡ has_bit (bit_of bits.crl_sign) self.now.0.flags.0 }
     {
         self.0.contains(KeyUsages::CRLSign)
     }
 
     /// Whether a key that is agreed upon only enciphers.
     pub fn encipher_only(&self) -> bool
-        ensures { result ≡ has_bit 7 self.now.0.flags.0 }
+        ensures { result ≡ has_bit (bit_of bits.encipher_only) self.now.0.flags.0 }
     {
         self.0.contains(KeyUsages::EncipherOnly)
     }
 
     /// Whether a key that is agreed upon only deciphers.
     pub fn decipher_only(&self) -> bool
-        ensures { result ≡ has_bit 8 self.now.0.flags.0 }
+        ensures { result ≡ has_bit (bit_of bits.decipher_only) self.now.0.flags.0 }
     {
         self.0.contains(KeyUsages::DecipherOnly)
     }
