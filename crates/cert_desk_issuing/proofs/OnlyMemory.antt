@@ -141,7 +141,7 @@ not_stopped : (may_refuse : List ℕ → Type 0) (signs : List ℕ → Bits → 
     → (stop : Stop) → Stops may_refuse signs a role dns t stop → stop ≡ stops.OutOfMemory
 not_stopped may_refuse signs a role dns t signable short stops.Refused h = absurd (signable h)
 not_stopped may_refuse signs a role dns t signable short stops.TooLong (inl part) = absurd (part (short.names, short.part))
-not_stopped may_refuse signs a role dns t signable short stops.TooLong (inr whole) = absurd (whole.2 (short.whole whole.0 whole.1))
+not_stopped may_refuse signs a role dns t signable short stops.TooLong (inr whole) = absurd (whole.3 (short.whole whole.0 whole.1 whole.2))
 not_stopped may_refuse signs a role dns t signable short stops.OutOfMemory h = refl
 
 module _ {S : Type 0} (key : S → PublicKey) (algorithm : S → Algorithm) (signs : S → List ℕ → Bits → Type 0) (may_refuse : S → List ℕ → Type 0) (orders : List Order) (signers : List S) (h : AreIssuable key algorithm signs may_refuse orders signers) where

@@ -4,15 +4,16 @@ use Rattle.std.specs.Prelude.{pos, nat_lt, if◌then◌else◌}
 use Rattle.const_oid.specs.Bound.{Bound}
 use Rattle.der_core_head.specs.declared.error.ErrorKind.{ErrorKind}
 use Rattle.der_core_head.specs.declared.error.ErrorKind.TheVariants as kinds
-use Rattle.der_core_head.specs.BitStrings.{Bits}
+use Rattle.der_core_head.specs.BitStrings.{Bits, IsBits}
 use Rattle.der_core_head.specs.Dates.{Civil}
 use Rattle.der_core_head.specs.Integers.{integer_octets}
 use Rattle.der_core_head.specs.Ranges.{IsInRange}
 use Rattle.der_core_head.specs.Shapes.{IsBody, IsContent, IsValid, body_octets, contents, octets_of}
 use Rattle.der_core_head.proofs.WrittenValid.{valid_in_range}
-use Rattle.x509_cert_builders.specs.Refusals.{IsWantOfMemory, is_refused, HasNoEncoding, IsUnwritten}
+use Rattle.x509_cert_builders.specs.Refusals.{IsUnsigned, IsWantOfMemory, HasNoEncoding, IsUnwritten}
 use Rattle.x509_cert_builders.specs.declared.error.Error.{Error as BuilderError}
 use Rattle.x509_cert_builders.specs.declared.error.Error.TheVariants as builders
+use Rattle.x509_cert_builders.specs.declared.sign_error.SignError.TheVariants as signers
 use Rattle.x509_cert_builders.specs.SignedParts.{bare_part, part_shape, signed_part, written_part}
 use Rattle.x509_cert_builders.specs.States.{CertificateState, part_for}
 use Rattle.cert_desk_checking.specs.Parts.{Algorithm, PlainExtension, PlainName, PublicKey, algorithm_identifier, bit_string, time_of}
@@ -108,18 +109,17 @@ module _ (a : Algorithm) (signs : List ℕ → Bits → Type 0) (c : PlainCertif
       }
 
   -- a certificate isn't written for want of memory, or since a length passes
-  pub unwritten : (may_refuse : List ℕ → Type 0) (role : Role) (dns : List (List ℕ)) (w : List ℕ) (k : ErrorKind) → outer_algorithm c ≡ a → signs (part_octets (tbs c)) (signature_bits c)
+  pub unwritten : (may_refuse : List ℕ → Type 0) (role : Role) (dns : List (List ℕ)) (w : List ℕ) (k : ErrorKind) → outer_algorithm c ≡ a → signs (part_octets (tbs c)) (signature_bits c) → IsInRange bit_string (signature_bits c)
       → (IsValid (certificate Bound (Some 21)) c → k ≢ kinds.OutOfMemory → Ok w ≡ Err k) → Stops may_refuse signs a role dns t (stop_of_kind k)
-  unwritten may_refuse role dns w kinds.OutOfMemory by given h = tt
-  unwritten may_refuse role dns w _ by given h =
-      let P : Tbs → Algorithm → Type 0 = λ u b. (bits : Bits) × signs (part_octets u) bits × (IsValid (certificate Bound None) (u, (b, (bits, tt))) → ⊥) in
-      let here : P (tbs c) (outer_algorithm c) = (signature_bits c, given, λ v. (let e = h (whole_short c short_there v) (λ q. absurd cc) in absurd cc)) in
+  unwritten may_refuse role dns w kinds.OutOfMemory by given bits h = tt
+  unwritten may_refuse role dns w _ by given bits h =
+      let P : Tbs → Algorithm → Type 0 = λ u b. (bits : Bits) × IsBits bits × signs (part_octets u) bits × (IsValid (certificate Bound None) (u, (b, (bits, tt))) → ⊥) in
+      let here : P (tbs c) (outer_algorithm c) = (signature_bits c, bits.0, given, λ v. (let e = h (whole_short c short_there v) (λ q. absurd cc) in absurd cc)) in
       inr (subst (λ (b : Algorithm). P t b) by (subst (λ (u : Tbs). P u (outer_algorithm c)) part here))
 
 -- want of memory is told as such
 pub memory_stops : (e : BuilderError) → IsWantOfMemory e → stop_of e ≡ stops.OutOfMemory
 memory_stops (builders.Asn1 e) h = ap stop_of_kind h
-memory_stops (builders.Signature s) h = ap (λ x. stop_of (builders.Signature x)) h
 memory_stops _ h = absurd h
 
 -- Why a builder gives no certificate.
@@ -132,9 +132,14 @@ module _ (may_refuse : List ℕ → Type 0) (signs : List ℕ → Bits → Type 
   unwritten_by (builders.Asn1 e) h = unwritten_part e.kind h
   unwritten_by _ h = absurd h
 
-  pub not_built : (e : BuilderError) (R : Type 0) → (R → ⊥) → IsWantOfMemory e ⊎ ((R ⊎ IsUnwritten (tbs_certificate Bound (Some 21)) t e) ⊎ ((e ≡ is_refused) × may_refuse (part_octets t)))
+  unsigned_by : (e : BuilderError) → IsUnsigned (may_refuse (part_octets t)) e → Stops may_refuse signs a role dns t (stop_of e)
+  unsigned_by (builders.Signature signers.Refused) h = h refl
+  unsigned_by (builders.Signature signers.OutOfMemory) h = tt
+  unsigned_by _ h = absurd h
+
+  pub not_built : (e : BuilderError) (R : Type 0) → (R → ⊥) → IsWantOfMemory e ⊎ ((R ⊎ IsUnwritten (tbs_certificate Bound (Some 21)) t e) ⊎ IsUnsigned (may_refuse (part_octets t)) e)
       → Stops may_refuse signs a role dns t (stop_of e)
   not_built e R never (inl memory) = subst (λ (s : Stop). Stops may_refuse signs a role dns t s) (sym (memory_stops e memory)) tt
   not_built e R never (inr (inl (inl refuses))) = absurd (never refuses)
   not_built e R never (inr (inl (inr none))) = unwritten_by e none
-  not_built e R never (inr (inr refused)) = subst (λ (x : BuilderError). Stops may_refuse signs a role dns t (stop_of x)) (sym refused.0) refused.1
+  not_built e R never (inr (inr unsigned)) = unsigned_by e unsigned

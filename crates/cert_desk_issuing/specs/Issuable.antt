@@ -1,7 +1,7 @@
 -- Orders of which a chain is issued, want of memory aside.
 use Rattle.std.specs.Prelude.{◌≡◌, ℕ, ◌<◌, List, length, map, None, Some, slice_get}
 use Rattle.const_oid.specs.Bound.{Bound}
-use Rattle.der_core_head.specs.BitStrings.{Bits}
+use Rattle.der_core_head.specs.BitStrings.{Bits, IsBits}
 use Rattle.der_core_head.specs.Shapes.{IsValid}
 use Rattle.cert_desk_checking.specs.Parts.{Algorithm, PublicKey}
 use Rattle.cert_desk_checking.specs.Certificates.{Tbs, certificate, tbs_certificate}
@@ -21,7 +21,7 @@ pub record IsShort (signs : List ℕ → Bits → Type 0) (a : Algorithm) (role 
     (dns : List (List ℕ)) (t : Tbs) : Type 0 where
   pub names : CanName role dns
   pub part : IsValid (tbs_certificate Bound None) t
-  pub whole : (bits : Bits) → signs (part_octets t) bits
+  pub whole : (bits : Bits) → IsBits bits → signs (part_octets t) bits
       → IsValid (certificate Bound None) (t, (a, (bits, tt)))
 
 module _ {S : Type 0} (algorithm : S → Algorithm) (signs : S → List ℕ → Bits → Type 0)

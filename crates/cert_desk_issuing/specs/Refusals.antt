@@ -4,7 +4,7 @@ use Rattle.std.specs.Prelude.{◌≡◌, ◌≢◌, ◌⊎◌, ℕ, ℤ, ◌<◌
 use Rattle.std.specs.Prelude.{Some, None, Ok, Err, slice_get, string_bytes}
 use Rattle.std.specs.Bool.{⊤}
 use Rattle.const_oid.specs.Bound.{Bound}
-use Rattle.der_core_head.specs.BitStrings.{Bits}
+use Rattle.der_core_head.specs.BitStrings.{Bits, IsBits}
 use Rattle.der_core_head.specs.Dates.{Civil, is_civil}
 use Rattle.der_core_head.specs.Grammar.{plain_list}
 use Rattle.der_core_head.specs.declared.error.ErrorKind.{ErrorKind}
@@ -130,7 +130,7 @@ HasPart role dns t = CanName role dns × IsValid (tbs_certificate Bound None) t
 abbrev pub IsTooLong : (List ℕ → Bits → Type 0) → Algorithm → Role → List (List ℕ) → Tbs → Type 0
 IsTooLong signs a role dns t =
     (HasPart role dns t → ⊥)
-    ⊎ ((bits : Bits) × signs (part_octets t) bits
+    ⊎ ((bits : Bits) × IsBits bits × signs (part_octets t) bits
     × (IsValid (certificate Bound None) (t, (a, (bits, tt))) → ⊥))
 
 -- why the certificate of a signed part isn't made

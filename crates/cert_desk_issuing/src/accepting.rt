@@ -31,7 +31,7 @@ use const_oid::ObjectIdentifier;
 use der_core::{ErrorKind, InRange};
 use std::alloc::Global;
 use std::str::FromStr;
-use x509_cert_builders::{Error, SignError, ca_certificate_naming};
+use x509_cert_builders::{Error, ca_certificate_naming};
 
 /// The name that the text of an order spells.
 fn name_of(alloc: Global, order: &Order) -> Result<Name, Fault>
@@ -62,7 +62,6 @@ fn is_want_of_memory(error: &Error) -> bool
             }
             false
         }
-        Error::Signature(SignError::OutOfMemory) => true,
         _ => false,
     }
 }

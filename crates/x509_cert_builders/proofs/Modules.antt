@@ -19,5 +19,4 @@ module_named arcs version serial r same e = ap as_general (subst (λ (a : List �
 -- want of memory is among the reasons
 pub want_fails : {X : Type 0} (r : Result X ErrorKind) (e : Error) → IsWantOfMemory e → FailsAs r e
 want_fails r (errors.Asn1 e) h = λ other. absurd (other h)
-want_fails r (errors.Signature e) h = h
 want_fails r _ h = absurd h

@@ -1,5 +1,5 @@
 -- Subjects of subscribers, relative name by relative name.
-use Rattle.std.proofs.Common.{◌≡◌, List, [], ◌∷◌, ◌++◌, length, map, Bool, true, false, refl, sym, ap, ◌∙◌, subst, append_assoc, arith}
+use Rattle.std.proofs.Common.{◌≡◌, ◌⊎◌, List, [], ◌∷◌, ◌++◌, length, map, Bool, true, false, refl, sym, ap, ◌∙◌, subst, append_assoc, arith, inl, inr}
 use Rattle.std.specs.Prelude.{if◌then◌else◌, ◌==◌, not}
 use Rattle.std.specs.List.{AllByRecursion, IsDistinct, list_all}
 use Rattle.std.specs.List.Sorted.{IsPermutation}
@@ -7,10 +7,18 @@ use Rattle.std.proofs.lemmas.Bool.{and_parts, eqb-true}
 use Rattle.std.proofs.lemmas.List.{append-nil}
 use Rattle.std.proofs.lemmas.List.Folds.{list_all-append}
 use Rattle.std.proofs.lemmas.List.Sorted.{IsPermutation-map, IsPermutation-refl, length_permutation}
+use Rattle.const_oid.specs.Bound.{Bound}
+use Rattle.der_core_head.specs.declared.error.Error.{Error as DerError}
+use Rattle.der_core_head.specs.declared.error.ErrorKind.TheVariants as kinds
 use Rattle.der_core_head.specs.Grammar.{plain_list}
-use Rattle.x509_cert_extensions.specs.Parts.{PlainName}
+use Rattle.der_core_head.specs.Shapes.{IsValid}
+use Rattle.x509_cert_extensions.specs.Parts.{PlainName, type_and_value}
 use Rattle.x509_cert_builders.specs.Naming.{TypeAndValue}
-use Rattle.x509_cert_builders.specs.Subscribers.{KeepsDistinct, SameAttributes, all_stays, before, domain_subject, left_of, may_stay, stays}
+use Rattle.x509_cert_builders.specs.Refusals.{IsWantOfMemory}
+use Rattle.x509_cert_builders.specs.Subscribers.{AreShort, HasLongAttribute, KeepsDistinct, SameAttributes, all_stays, attributes_left, before, domain_subject, left_of, may_stay, stays}
+use Rattle.x509_cert_builders.specs.declared.error.Error.{Error}
+use Rattle.x509_cert_builders.specs.declared.error.Error.TheVariants as errors
+use Rattle.x509_cert_builders.proofs.Lists.{all_parts, all_plain}
 
 plain_map : {A B : Type 0} (f : A → B) (xs : List A) → map f xs ≡ plain_list f xs
 plain_map f [] = refl
@@ -77,13 +85,20 @@ pub some_values : {A B : Type 0} (f : A → B) (xs : List A) → (length xs == 0
 some_values f [] e l = absurd cc
 some_values f (x ∷ xs) e l = absurd cc
 
+-- attributes of which no two are the same, that don't make a relative name: one of them is too long
+pub too_long : {A : Type 0} (f : A → TypeAndValue) (xs : List A) (r : List TypeAndValue) (e : DerError) (Apart Long : Type 0) → plain_list f xs ≡ r → Apart → ((e.kind ≡ kinds.SetDuplicate) × (Apart → ⊥)) ⊎ Long
+    → (Long → (e.kind ≡ kinds.Overflow) × (AllByRecursion (λ x. IsValid (type_and_value Bound) (f x)) xs → ⊥)) → HasLongAttribute r (errors.Asn1 e)
+too_long f xs r e Apart Long same apart (inl twice) parts = absurd (twice.1 apart)
+too_long f xs r e Apart Long same apart (inr long) parts = ((parts long).0, λ all. (parts long).1 (all_plain f (IsValid (type_and_value Bound)) xs (subst AreShort (sym same) all)))
+
 -- these relative names of a name are left, and this was kept of those before
 pub record IsLeft (n kept more : PlainName) : Type 0 where
+  pub short : AreShort (attributes_left n) → AreShort (attributes_left more)
   pub same : (rest : PlainName) → SameAttributes (domain_subject more) rest → SameAttributes (domain_subject n) (kept ++ rest)
   pub stay : all_stays n ≡ true → kept ++ more ≡ n
 
 pub left_none : (n : PlainName) → IsLeft n [] n
-left_none n = record { same = λ rest h. h; stay = λ all. refl }
+left_none n = record { short = λ all. all; same = λ rest h. h; stay = λ all. refl }
 
 module _ (n kept ws more : PlainName) (r : List TypeAndValue) (next : ws ≡ r ∷ more) (h : IsLeft n kept ws) where
   here : IsLeft n kept (r ∷ more)
@@ -98,9 +113,18 @@ module _ (n kept ws more : PlainName) (r : List TypeAndValue) (next : ws ≡ r �
   pub next_stays : all_stays n ≡ true → list_all may_stay r ≡ true
   next_stays all = (this_stays all).1
 
+  -- where all attributes that are left are short, the next relative name's are, and those behind it
+  these_short : AreShort (attributes_left n) → AreShort (left_of r) × AreShort (attributes_left more)
+  these_short all = all_parts (IsValid (type_and_value Bound)) (left_of r) (attributes_left more) (here.short all)
+
+  pub long_there : (e : Error) → IsWantOfMemory e ⊎ HasLongAttribute (left_of r) e → IsWantOfMemory e ⊎ HasLongAttribute (attributes_left n) e
+  long_there e (inl memory) = inl memory
+  long_there e (inr long) = inr (long.0, λ all. long.1 (these_short all).0)
+
   module _ (s : List TypeAndValue) (p : IsPermutation (left_of r) s) (same : list_all may_stay r ≡ true → s ≡ r) where
     pub left_out : length s ≡ 0 → IsLeft n kept more
     left_out e = record {
+      short = λ all. (these_short all).1;
       same = λ rest k. here.same rest (subst (λ l. SameAttributes l rest) (sym (nothing (left_of r) (domain_subject more) (sym (length_permutation (left_of r) s p) ∙ e))) k);
       stay = λ all.
           let first = rw (sym (ap length (same (next_stays all))) ∙ e) at (this_stays all).0 in
@@ -109,6 +133,7 @@ module _ (n kept ws more : PlainName) (r : List TypeAndValue) (next : ws ≡ r �
 
     pub left_in : (length s ≡ 0 → ⊥) → IsLeft n (kept ++ s ∷ []) more
     left_in e = record {
+      short = λ all. (these_short all).1;
       same = λ rest k.
           subst (SameAttributes (domain_subject n)) (sym (append_assoc kept (s ∷ []) rest))
           (here.same (s ∷ rest) (something (left_of r) s (domain_subject more) rest p (λ z. e (length_permutation (left_of r) s p ∙ z)) k));

@@ -9,7 +9,7 @@ use Rattle.der_core_head.specs.declared.error.ErrorKind.TheVariants as kinds
 use Rattle.der_core_head.specs.declared.tag.Tag.TheVariants.{Sequence}
 use Rattle.der_core_head.specs.Grammar.{plain_list, plain_option}
 use Rattle.der_core_head.specs.Octets.{◌>>=◌}
-use Rattle.der_core_head.specs.Shapes.{Value, nested, sequence_of, IsValid}
+use Rattle.der_core_head.specs.Shapes.{Value, nested, sequence_of}
 use Rattle.x509_cert_extensions.specs.Parts.{PlainName, PlainExtension, PublicKey, content_as}
 use Rattle.x509_cert_extensions.specs.GeneralNames.{general_name, hardware_module_name_fields}
 use Rattle.x509_cert_extensions.specs.GeneralNameTypes.Modules.{PlainModule, module_arcs}
@@ -17,7 +17,7 @@ use Rattle.x509_cert_extensions.specs.GeneralNameTypes.Modules.{module_held}
 use Rattle.x509_cert_extensions.specs.GeneralNameViews.{general_name_plain}
 use Rattle.x509_cert_builders.specs.Profiles.{authority_key_extension, digital_signature}
 use Rattle.x509_cert_builders.specs.Profiles.{standard_extension, usage_extension}
-use Rattle.x509_cert_builders.specs.Refusals.{FailsAs}
+use Rattle.x509_cert_builders.specs.Refusals.{FailsAs, IsUnwritten}
 use Rattle.x509_cert_builders.specs.declared.error.Error.{Error}
 use Rattle.x509_cert_builders.specs.declared.dev_id.DevId.{DevId}
 use Rattle.x509_cert_builders.specs.declared.tpm_version.TpmVersion.{TpmVersion}
@@ -78,7 +78,8 @@ device_extensions names subject issuer_key = authority_key_extension issuer_key
 abbrev pub device_names : DevId → Option (List PlainGeneralName)
 device_names d = plain_option (λ v. plain_list general_name_plain v.0.items) d.subject_alt_name
 
--- alternative names have no encoding, as where a length passes 2^32 - 1
-abbrev pub IsUnnameable : Option (List PlainGeneralName) → Type 0
-IsUnnameable None = ⊥
-IsUnnameable (Some names) = IsValid (sequence_of (general_name Bound)) names → ⊥
+-- alternative names have no encoding, as where a length passes 2^32 - 1, and this is the first fault
+-- in writing them
+abbrev pub IsUnnameable : Option (List PlainGeneralName) → Error → Type 0
+IsUnnameable None e = ⊥
+IsUnnameable (Some names) e = IsUnwritten (sequence_of (general_name Bound)) names e

@@ -10,20 +10,18 @@ use Rattle.x509_cert_builders.specs.declared.error.Error.{Error}
 use Rattle.x509_cert_builders.specs.declared.error.Error.TheVariants as errors
 use Rattle.x509_cert_builders.specs.declared.sign_error.SignError.TheVariants as signers
 
--- want of memory, here or in the signer
-abbrev pub IsWantOfMemory : Error → Type 0
-IsWantOfMemory (errors.Asn1 e) = e.kind ≡ kinds.OutOfMemory
-IsWantOfMemory (errors.Signature e) = e ≡ signers.OutOfMemory
-IsWantOfMemory _ = ⊥
-
--- what becomes of want of memory, where this is what becomes of a fault in DER
-abbrev pub IsWantOfMemoryAs : {E : Type 0} → (DerError → E → Type 0) → E → Type 0
-IsWantOfMemoryAs becomes e = (w : DerError) × (w.kind ≡ kinds.OutOfMemory) × becomes w e
-
 -- a fault in DER of this kind
 abbrev pub IsOfKind : ErrorKind → Error → Type 0
 IsOfKind kind (errors.Asn1 e) = e.kind ≡ kind
 IsOfKind kind _ = ⊥
+
+-- want of memory; a signer's own is told as one of its answers
+abbrev pub IsWantOfMemory : Error → Type 0
+IsWantOfMemory e = IsOfKind kinds.OutOfMemory e
+
+-- what becomes of want of memory, where this is what becomes of a fault in DER
+abbrev pub IsWantOfMemoryAs : {E : Type 0} → (DerError → E → Type 0) → E → Type 0
+IsWantOfMemoryAs becomes e = (w : DerError) × (w.kind ≡ kinds.OutOfMemory) × becomes w e
 
 -- a fault that has no kind of its own
 abbrev pub IsFailed : Error → Type 0
@@ -32,7 +30,6 @@ IsFailed e = IsOfKind kinds.Failed e
 -- why this is none, or want of memory
 abbrev pub FailsAs : {X : Type 0} → Result X ErrorKind → Error → Type 0
 FailsAs r (errors.Asn1 e) = Fails e.kind r
-FailsAs r (errors.Signature e) = e ≡ signers.OutOfMemory
 FailsAs r _ = ⊥
 
 -- A value has no encoding, as where a length passes 2^32 - 1, and this is the first fault in
@@ -45,6 +42,7 @@ abbrev pub IsUnwritten : (s : Shape) → Value s → Error → Type 0
 IsUnwritten s v (errors.Asn1 e) = HasNoEncoding s v e.kind
 IsUnwritten s v _ = ⊥
 
--- the signer refuses
-abbrev pub is_refused : Error
-is_refused = errors.Signature signers.Refused
+-- why the signer gives no signature: it wants memory, or refuses, which it does only where it may
+abbrev pub IsUnsigned : Type 0 → Error → Type 0
+IsUnsigned may_refuse (errors.Signature e) = e ≡ signers.Refused → may_refuse
+IsUnsigned may_refuse _ = ⊥

@@ -2,13 +2,16 @@
 use Rattle.std.specs.Prelude.{⊤, ◌⊎◌, ℕ, List, [], ◌∷◌, Bool, Result, Ok, Err, if◌then◌else◌}
 use Rattle.std.specs.Prelude.{length, ◌==◌, ◌&&◌, not}
 use Rattle.std.proofs.Common.{inl, inr}
-use Rattle.std.specs.List.{IsDistinct, list_all}
+use Rattle.std.specs.List.{AllByRecursion, IsDistinct, flat_map, list_all}
 use Rattle.std.specs.List.Sorted.{IsPermutation}
+use Rattle.const_oid.specs.Bound.{Bound}
+use Rattle.der_core_head.specs.declared.error.ErrorKind.TheVariants as kinds
 use Rattle.der_core_head.specs.Grammar.{plain_list}
-use Rattle.der_core_head.specs.Shapes.{Value}
+use Rattle.der_core_head.specs.Shapes.{IsValid, Value}
 use Rattle.x509_cert_extensions.specs.GeneralNames.{general_name}
 use Rattle.x509_cert_extensions.specs.GeneralNameViews.{general_name_plain}
-use Rattle.x509_cert_extensions.specs.Parts.{PlainName, name_plain}
+use Rattle.x509_cert_extensions.specs.Parts.{PlainName, name_plain, type_and_value}
+use Rattle.x509_cert_builders.specs.Refusals.{IsOfKind}
 use Rattle.x509_cert_builders.specs.Naming.{TypeAndValue, common_name, country, is_among}
 use Rattle.x509_cert_builders.specs.declared.certificate_type.CertificateType.{CertificateType}
 use Rattle.x509_cert_builders.specs.declared.domain_validated.DomainValidated.{DomainValidated}
@@ -65,6 +68,18 @@ before (a ∷ r) more = (a ∷ r) ∷ more
 abbrev pub domain_subject : PlainName → PlainName
 domain_subject [] = []
 domain_subject (r ∷ more) = before (left_of r) (domain_subject more)
+
+-- the attributes that are left of a name
+abbrev pub attributes_left : PlainName → List TypeAndValue
+attributes_left n = flat_map left_of n
+
+-- each of these attributes has an encoding
+abbrev pub AreShort : List TypeAndValue → Type 0
+AreShort r = AllByRecursion (IsValid (type_and_value Bound)) r
+
+-- the fault of one that has none, as where it has 2^32 octets or more
+abbrev pub HasLongAttribute : List TypeAndValue → Error → Type 0
+HasLongAttribute r e = IsOfKind kinds.Overflow e × (AreShort r → ⊥)
 
 -- the relative names have the same attributes, each in its own order
 abbrev pub SameAttributes : PlainName → PlainName → Type 0

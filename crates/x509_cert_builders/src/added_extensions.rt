@@ -1,6 +1,6 @@
 //! Extensions, one after the other.
 
-ghost use Rattle.std.specs.Prelude.{◌≡◌, ◌<◌, ◌++◌, ◌∷◌, [], false, pos, Some, None, OnOk, IfOk};
+ghost use Rattle.std.specs.Prelude.{◌≡◌, ◌⊎◌, ◌<◌, ◌++◌, ◌∷◌, [], false, pos, Some, None, OnOk, IfOk};
 ghost use Rattle.std.specs.Prelude.{IfErr};
 ghost use Rattle.der_core_head.specs.Grammar.{plain_option};
 ghost use Rattle.der_core_head.specs.Shapes.{IsValid};
@@ -10,7 +10,7 @@ ghost use Rattle.x509_cert_builders.specs.Profiles.{authority_key_extension, con
 ghost use Rattle.x509_cert_builders.specs.Profiles.{purposes_extension};
 ghost use Rattle.x509_cert_builders.specs.Profiles.{standard_extension, subject_key_extension};
 ghost use Rattle.x509_cert_builders.specs.Profiles.{usage_extension};
-ghost use Rattle.x509_cert_builders.specs.Refusals.{IsWantOfMemory};
+ghost use Rattle.x509_cert_builders.specs.Refusals.{IsUnwritten, IsWantOfMemory};
 
 use crate::error::Error;
 use crate::identifiers::x500;
@@ -24,7 +24,7 @@ use x509_cert_extensions::policies::BasicConstraints;
 use x509_cert_extensions::{Criticality, KeyUsage, SubjectKeyIdentifier, ToExtension, TryFromKey};
 
 /// Adds the extension of a value, of this number below `id-ce`, with the criticality of its type.
-#[tactic(auto, using(crate::proofs::Lists::plain_pushed))]
+#[tactic(auto, using(crate::proofs::Lists::plain_pushed, crate::proofs::Faults::not_made))]
 pub(crate) fn add<T: Encode + Criticality>(
     alloc: Global,
     extensions: &mut Extensions,
@@ -39,6 +39,8 @@ pub(crate) fn add<T: Encode + Criticality>(
         (T.is_critical value.now (name_plain subject.now)
         (extensions_plain extensions.old.items)) T.shape (T.written value.now) ∷ []) }
     ensures refused { IsValid T.shape (T.written value.now) → IfErr result IsWantOfMemory }
+    ensures fault { IfErr result
+        (λ e. IsWantOfMemory e ⊎ IsUnwritten T.shape (T.written value.now) e) }
 {
     let named = (x500(29, number), value);
     let extension = named.to_extension(alloc, subject, extensions.as_slice())?;

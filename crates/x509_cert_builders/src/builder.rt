@@ -13,7 +13,7 @@ pub trait Builder: Sized + Drop {
     ghost use Rattle.der_core_head.specs.BitStrings.{Bits};
     ghost use Rattle.der_core_head.specs.Shapes.{Shape, Value, octets_of};
     ghost use Rattle.x509_cert_extensions.specs.Parts.{Algorithm, PublicKey};
-    ghost use Rattle.x509_cert_builders.specs.Refusals.{IsFailed, IsWantOfMemory, is_refused};
+    ghost use Rattle.x509_cert_builders.specs.Refusals.{IsFailed, IsUnsigned, IsWantOfMemory};
     ghost use Rattle.x509_cert_builders.specs.declared.error.Error.{Error};
 
     /// What is made.
@@ -107,10 +107,9 @@ pub trait Builder: Sized + Drop {
         ensures signed { IfOk result (λ x. S.signs signer.now (signed_octets x) (bits x)) }
         ensures refused { IfErr result (λ e. IsWantOfMemory e
             ⊎ faults self (S.public_key signer.now) (S.signs_by signer.now) e
-            ⊎ ((e ≡ is_refused)
-            × S.may_refuse signer.now
+            ⊎ IsUnsigned (S.may_refuse signer.now
             (octets_of part_shape
-            (to_sign self (S.public_key signer.now) (S.signs_by signer.now))))) }
+            (to_sign self (S.public_key signer.now) (S.signs_by signer.now)))) e) }
     {
         let octets = self.finalize(alloc, signer)?;
         let signature = signer.sign(alloc, octets.as_slice())?;
@@ -137,10 +136,9 @@ pub trait Builder: Sized + Drop {
         ensures signed { IfOk result (λ x. S.signs signer.now (signed_octets x) (bits x)) }
         ensures refused { IfErr result (λ e. IsWantOfMemory e
             ⊎ faults self (S.public_key signer.now) (S.signs_by signer.now) e
-            ⊎ ((e ≡ is_refused)
-            × S.may_refuse signer.now
+            ⊎ IsUnsigned (S.may_refuse signer.now
             (octets_of part_shape
-            (to_sign self (S.public_key signer.now) (S.signs_by signer.now))))) }
+            (to_sign self (S.public_key signer.now) (S.signs_by signer.now)))) e) }
     {
         let octets = self.finalize(alloc, signer)?;
         let signature = signer.sign_with_rng(alloc, rng, octets.as_slice())?;

@@ -8,9 +8,9 @@ ghost use Rattle.der_core_head.specs.Grammar.{plain_list};
 ghost use Rattle.x509_cert_extensions.specs.GeneralNameViews.{general_name_plain};
 ghost use Rattle.x509_cert_extensions.specs.Parts.{name_plain, relative_plain};
 ghost use Rattle.x509_cert_builders.specs.Naming.{common_name, country, is_among};
-ghost use Rattle.der_core_head.specs.declared.error.ErrorKind.TheVariants.{Overflow};
-ghost use Rattle.x509_cert_builders.specs.Refusals.{IsOfKind, IsWantOfMemory};
-ghost use Rattle.x509_cert_builders.specs.Subscribers.{KeepsDistinct, SameAttributes, all_stays};
+ghost use Rattle.x509_cert_builders.specs.Refusals.{IsWantOfMemory};
+ghost use Rattle.x509_cert_builders.specs.Subscribers.{HasLongAttribute, KeepsDistinct};
+ghost use Rattle.x509_cert_builders.specs.Subscribers.{SameAttributes, all_stays, attributes_left};
 ghost use Rattle.x509_cert_builders.specs.Subscribers.{domain_subject, left_of, may_stay};
 ghost use Rattle.x509_cert_builders.specs.Subscribers.{type_domains, type_plain, type_subject};
 
@@ -87,7 +87,8 @@ fn left_of(
         → IfOk result (λ r. relative_plain r ≡ relative_plain relative.now) }
     ensures refused { list_all may_stay (relative_plain relative.now) ≡ true
         → IfErr result IsWantOfMemory }
-    ensures long { IfErr result (λ e. IsWantOfMemory e ⊎ IsOfKind Overflow e) }
+    ensures long { IfErr result
+        (λ e. IsWantOfMemory e ⊎ HasLongAttribute (left_of (relative_plain relative.now)) e) }
 {
     if all_stay(relative.as_slice()) {
         return Ok(relative.clone(alloc)?);
@@ -104,7 +105,8 @@ fn name_left(alloc: Global, name: &Name) -> Result<Name, Error>
     ensures same { all_stays (name_plain name.now) ≡ true
         → IfOk result (λ n. name_plain n ≡ name_plain name.now) }
     ensures refused { all_stays (name_plain name.now) ≡ true → IfErr result IsWantOfMemory }
-    ensures long { IfErr result (λ e. IsWantOfMemory e ⊎ IsOfKind Overflow e) }
+    ensures long { IfErr result
+        (λ e. IsWantOfMemory e ⊎ HasLongAttribute (attributes_left (name_plain name.now)) e) }
 {
     let mut kept = RdnSequence::default(alloc);
     for relative in name.iter_rdn() {
@@ -136,7 +138,8 @@ impl CertificateType {
         ensures same { all_stays (name_plain subject) ≡ true
             → IfOk result (λ t. type_subject t ≡ Ok (name_plain subject)) }
         ensures refused { all_stays (name_plain subject) ≡ true → IfErr result IsWantOfMemory }
-        ensures long { IfErr result (λ e. IsWantOfMemory e ⊎ IsOfKind Overflow e) }
+        ensures long { IfErr result
+            (λ e. IsWantOfMemory e ⊎ HasLongAttribute (attributes_left (name_plain subject)) e) }
     {
         let subject = name_left(alloc, &subject)?;
         Ok(CertificateType::DomainValidated(DomainValidated { subject, names }))

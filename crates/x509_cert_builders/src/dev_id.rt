@@ -156,7 +156,7 @@ fn add_alternatives(
         (plain_option (λ v. plain_list general_name_plain v.0.items) names.now)) }
     ensures refused { IfErr result
         (λ e. IsWantOfMemory e
-        ⊎ IsUnnameable (plain_option (λ v. plain_list general_name_plain v.0.items) names.now)) }
+        ⊎ IsUnnameable (plain_option (λ v. plain_list general_name_plain v.0.items) names.now) e) }
 {
     match names {
         Some(names) => add(alloc, extensions, subject, 17, names),
@@ -174,7 +174,7 @@ impl BuilderProfile for DevId {
         issuer_key };
 
     // The alternative names have no encoding.
-    ghost refuses = { λ device _. IsUnnameable (device_names device) };
+    ghost refuses = { λ device e. IsUnnameable (device_names device) e };
 
     fn get_issuer(&self, alloc: Global, _subject: &Name) -> Result<Name, Error> {
         Ok(self.issuer.clone(alloc)?)

@@ -1,4 +1,5 @@
 mod Entries
 mod ListParts
+mod OwnExtensions
 mod Places
 mod RequestParts

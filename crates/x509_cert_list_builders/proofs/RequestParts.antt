@@ -17,6 +17,7 @@ use Rattle.x509_cert_builders.specs.Refusals.{IsWantOfMemory}
 use Rattle.x509_cert_builders.specs.declared.error.Error.{Error}
 use Rattle.x509_cert_builders.specs.declared.error.Error.TheVariants as errors
 use Rattle.x509_cert_builders.proofs.Faults.{or_memory}
+use Rattle.x509_cert_builders.proofs.Lists.{all_plain}
 
 -- an attribute that has an encoding, and such attributes
 abbrev pub IsValidAttribute : PlainAttribute → Type 0
@@ -32,11 +33,7 @@ part n k xs = (pos 0, (n, (k, (xs, tt))))
 same_parts : {n m : PlainName} {k l : PublicKey} {xs ys : List PlainAttribute} → n ≡ m → k ≡ l → xs ≡ ys → part n k xs ≡ part m l ys
 same_parts e d h = λ i. part (e i) (d i) (h i)
 
--- members that are such, and their plain values
-all_plain : {A P : Type 0} (f : A → P) (V : P → Type 0) (xs : List A) → AllByRecursion V (plain_list f xs) → AllByRecursion (λ x. V (f x)) xs
-all_plain f V [] h = tt
-all_plain f V (x ∷ xs) h = (h.0, all_plain f V xs h.1)
-
+-- members that are such have plain values that are
 plain_all : {A P : Type 0} (f : A → P) (V : P → Type 0) (xs : List A) → AllByRecursion (λ x. V (f x)) xs → AllByRecursion V (plain_list f xs)
 plain_all f V [] h = tt
 plain_all f V (x ∷ xs) h = (h.0, plain_all f V xs h.1)

@@ -1,13 +1,13 @@
 -- What a builder of revocation lists signs (RFC 5280 5.1.2).
-use Rattle.std.specs.Prelude.{◌≡◌, ℕ, List, [], ◌∷◌, Bool, false, pos, Option, Some, None, Result}
-use Rattle.std.specs.Prelude.{Ok}
+use Rattle.std.specs.Prelude.{◌≡◌, ◌⊎◌, ℕ, List, [], ◌∷◌, Bool, false, pos, Option, Some, None}
+use Rattle.std.specs.Prelude.{Result, Ok, Err}
 use Rattle.const_oid.specs.Bound.{Bound}
 use Rattle.der_core_head.specs.declared.error.ErrorKind.{ErrorKind}
 use Rattle.der_core_head.specs.declared.tag.Tag.TheVariants as tags
 use Rattle.der_core_head.specs.Integers.{natural}
 use Rattle.der_core_head.specs.Leaves.{integer}
 use Rattle.der_core_head.specs.Octets.{◌>>=◌}
-use Rattle.der_core_head.specs.Shapes.{Shape, BodyValue, IsValid, tagged, leaf, optional}
+use Rattle.der_core_head.specs.Shapes.{Shape, BodyValue, tagged, leaf, optional}
 use Rattle.der_core_head.specs.Shapes.{sequence, sequence_of, explicit}
 use Rattle.sha1.specs.Sha1.{sha1}
 use Rattle.x509_cert_builders.specs.Certificates.{Tbs, tbs_public_key, tbs_extensions}
@@ -16,6 +16,7 @@ use Rattle.x509_cert_builders.specs.Parts.{PlainExtension, PublicKey, key_bits, 
 use Rattle.x509_cert_builders.specs.Parts.{extensions, listed}
 use Rattle.x509_cert_builders.specs.GeneralNames.{authority_key_identifier_fields}
 use Rattle.x509_cert_builders.specs.Profiles.{standard_extension}
+use Rattle.x509_cert_builders.specs.Refusals.{HasNoEncoding}
 
 -- a certificate that was revoked (5.1.2.6)
 abbrev pub PlainEntry : Type 0
@@ -74,10 +75,12 @@ number_extension n = standard_extension 20 false crl_number (pos n)
 abbrev pub key_extension : PlainAuthority → PlainExtension
 key_extension a = standard_extension 35 false authority_key a
 
--- one of the two has no encoding, as where a length passes 2^32 - 1
-abbrev pub HasNoExtensions : ℕ → Result PlainAuthority ErrorKind → Type 0
-HasNoExtensions n r = (key : PlainAuthority) → r ≡ Ok key → IsValid crl_number (pos n)
-    → IsValid authority_key key → ⊥
+-- Why a list has no such extensions: its issuer has no such key, or one of the two has no encoding,
+-- as where a length passes 2^32 - 1.
+abbrev pub HasNoExtensions : ℕ → Result PlainAuthority ErrorKind → ErrorKind → Type 0
+HasNoExtensions n (Err fault) kind = kind ≡ fault
+HasNoExtensions n (Ok key) kind =
+    HasNoEncoding crl_number (pos n) kind ⊎ HasNoEncoding authority_key key kind
 
 -- the certificates of a list; where the field is absent there are none
 abbrev pub entries : Option (List PlainEntry) → List PlainEntry

@@ -1,10 +1,10 @@
 -- What a builder of certification requests signs (RFC 2986 4.1).
-use Rattle.std.specs.Prelude.{◌≡◌, ◌⊎◌, List, pos, true, Result, Ok, Err}
+use Rattle.std.specs.Prelude.{◌≡◌, ◌⊎◌, List, pos, true, Result, Ok, Err, IsOk}
 use Rattle.const_oid.specs.Bound.{Bound}
 use Rattle.der_core.specs.Placed.{placed, stands_among}
 use Rattle.der_core_head.specs.declared.error.ErrorKind.{ErrorKind}
 use Rattle.der_core_head.specs.declared.error.ErrorKind.TheVariants as kinds
-use Rattle.der_core_head.specs.Shapes.{Shape, BodyValue, sequence}
+use Rattle.der_core_head.specs.Shapes.{Shape, BodyValue, IsValid, sequence}
 use Rattle.x509_cert_lists.specs.Grammar.{cert_req_info_fields, extension_req_attribute}
 use Rattle.x509_cert_builders.specs.Refusals.{IsOfKind, IsUnwritten}
 use Rattle.x509_cert_builders.specs.declared.error.Error.{Error}
@@ -42,6 +42,11 @@ request_of subject extensions attributes key = (
   pos 0,
   (subject, (key, (with_request (extension_req_attribute Bound extensions) attributes, tt))),
 )
+
+-- the request for extensions is made, and the part with it has an encoding
+abbrev pub IsRequested : PlainName → List PlainExtension → List PlainAttribute → PublicKey → Type 0
+IsRequested subject extensions attributes key = IsOk (extension_req_attribute Bound extensions)
+    × IsValid request_part (request_of subject extensions attributes key)
 
 -- an attribute can't be made, or has no encoding, as where it has 2^32 octets or more
 abbrev pub HasNoAttribute : Result PlainAttribute ErrorKind → Error → Type 0

@@ -93,6 +93,7 @@ fn issuing_key(
 }
 
 /// The extensions of a list of an issuer: its number, and the key under which it is signed.
+#[tactic(auto, using(crate::proofs::OwnExtensions::no_key, crate::proofs::OwnExtensions::no_number, crate::proofs::OwnExtensions::no_authority))]
 fn own_extensions(
     alloc: Global,
     issuer: &TbsCertificate,
@@ -102,8 +103,7 @@ fn own_extensions(
         × (issuing_key (tbs_plain issuer.now) ≡ Ok key)
         × (extensions_plain v.items ≡ number_extension number.now.0 ∷ key_extension key ∷ [])) }
     ensures refused { IfErr result (λ e. (e.kind ≡ OutOfMemory)
-        ⊎ (issuing_key (tbs_plain issuer.now) ≡ Err e.kind)
-        ⊎ HasNoExtensions number.now.0 (issuing_key (tbs_plain issuer.now))) }
+        ⊎ HasNoExtensions number.now.0 (issuing_key (tbs_plain issuer.now)) e.kind) }
 {
     let key = issuing_key(alloc, issuer)?;
     let number = number.to_extension(alloc, &issuer.subject, &[])?;
@@ -138,8 +138,8 @@ impl<P: Profile> CrlBuilder<P> {
               finalized = None;
             })) }
         ensures refused { IfErr result (λ e. (e.kind ≡ OutOfMemory)
-            ⊎ (issuing_key (tbs_plain issuer.now.tbs_certificate) ≡ Err e.kind)
-            ⊎ HasNoExtensions crl_number.0 (issuing_key (tbs_plain issuer.now.tbs_certificate))) }
+            ⊎ HasNoExtensions crl_number.0 (issuing_key (tbs_plain issuer.now.tbs_certificate))
+            e.kind) }
     {
         let tbs = &issuer.tbs_certificate;
         let crl_extensions = own_extensions(alloc, tbs, &crl_number)?;

@@ -13,8 +13,8 @@ ghost use Rattle.x509_cert_builders.specs.Parts.{attribute_plain, extensions_pla
 ghost use Rattle.x509_cert_builders.specs.Parts.{name_plain};
 ghost use Rattle.x509_cert_lists.specs.Views.{cert_req_info_plain, cert_req_plain};
 ghost use Rattle.x509_cert_builders.specs.Refusals.{IsUnwritten, IsWantOfMemory, IsWantOfMemoryAs};
-ghost use Rattle.x509_cert_list_builders.specs.Requests.{HasNoAttribute, IsNotAdded, request_of};
-ghost use Rattle.x509_cert_list_builders.specs.Requests.{request_part};
+ghost use Rattle.x509_cert_list_builders.specs.Requests.{HasNoAttribute, IsNotAdded, IsRequested};
+ghost use Rattle.x509_cert_list_builders.specs.Requests.{request_of, request_part};
 ghost use Rattle.x509_cert_list_builders.specs.Signed.{octets_in_place};
 
 use crate::laws::signed_part_stands_in_place;
@@ -149,6 +149,8 @@ impl RequestBuilder {
         ensures made { IfOk result (λ i. cert_req_info_plain i
             ≡ request_of self.now.subject self.now.extensions self.now.attributes
             (key_plain key.now)) }
+        ensures asked { IfOk result
+            (λ _. IsOk (extension_req_attribute Bound self.now.extensions)) }
         ensures refused { IfErr result (λ e. IsWantOfMemory e
             ⊎ HasNoAttribute (extension_req_attribute Bound self.now.extensions) e) }
     {
@@ -175,8 +177,7 @@ impl Builder for RequestBuilder {
 
     ghost to_sign = { λ b key _. request_of b.subject b.extensions b.attributes key };
 
-    ghost is_valid = { λ b key _. IsValid request_part
-        (request_of b.subject b.extensions b.attributes key) };
+    ghost is_valid = { λ b key _. IsRequested b.subject b.extensions b.attributes key };
 
     // The attribute that asks for the extensions has no encoding, or the part has none.
     ghost faults = { λ b key _ e. HasNoAttribute (extension_req_attribute Bound b.extensions) e

@@ -38,7 +38,7 @@ returns-in_err-octets g c = λ role dns t same.
     let short = subst (λ (u : Tbs). length (integer_octets u.1.0) ≤ 20) same c.requires.serial in
     let p = err_from_is_err_and c.from_residual-in_err-octets.result c.from_residual-in_err-octets.ensures.1 in
     rw p.1 (subst (λ (y : Stop). Stops may_refuse signs a role dns t y) (sym p.2)
-    (unwritten a signs made t (x.ensures.part ∙ same) short may_refuse role dns _ c.in_err-octets.field-0.0.kind x.ensures.algorithm given c.in_err-octets.ensures.spelled))
+    (unwritten a signs made t (x.ensures.part ∙ same) short may_refuse role dns _ c.in_err-octets.field-0.0.kind x.ensures.algorithm given c.in_range-2.ensures c.in_err-octets.ensures.spelled))
 
 pub returns : goal.returns
 returns g c = λ role dns t same.

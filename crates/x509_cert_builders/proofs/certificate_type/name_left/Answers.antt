@@ -1,8 +1,9 @@
 use Rattle.std.proofs.Common.{sym, ap, ◌∙◌, subst, rules}
+use Rattle.std.proofs.lemmas.Result.{err_from_is_err_and}
 use Rattle.der_core_head.specs.Grammar.{plain_list}
 use Rattle.x509_cert_extensions.specs.Parts.{PlainName, name_plain, relative_plain}
 use Rattle.x509_cert_builders.proofs.Lists.{plain_pushed}
-use Rattle.x509_cert_builders.proofs.Subjects.{IsLeft, left_in, left_out, next_stays, no_values, some_values}
+use Rattle.x509_cert_builders.proofs.Subjects.{IsLeft, left_in, left_out, long_there, next_stays, no_values, some_values}
 use Rattle.x509_cert_builders.proofs.certificate_type.name_left.Goals as goal
 
 pub loop-relative-preserved-in-Continue-branch-2 : goal.loop-relative-preserved-in-Continue-branch-2
@@ -18,6 +19,12 @@ pub loop-relative-preserved : goal.loop-relative-preserved
 loop-relative-preserved c =
     left_out (name_plain c.args.name.now) _ _ (plain_list relative_plain c.next.new.self.left.now) (relative_plain c.in-Some.relative.now) (ap (plain_list relative_plain) c.in-Some.ensures.steps) c.loop-relative.invariant
     (relative_plain c.in_ok-left.left) c.in_ok-left.ensures.left c.in_ok-left.ensures.same (no_values _ _ (sym c.is_empty.ensures ∙ c.if-not-is_empty.false))
+
+pub returns-in_err-left-clause-long : goal.returns-in_err-left-clause-long
+returns-in_err-left-clause-long c =
+    let p = err_from_is_err_and c.from_residual.result c.from_residual.ensures.1 in
+    rw (p.1, p.2)
+    (long_there (name_plain c.args.name.now) _ _ (plain_list relative_plain c.next.new.self.left.now) (relative_plain c.in-Some.relative.now) (ap (plain_list relative_plain) c.in-Some.ensures.steps) c.loop-relative.invariant _ c.in_err-left.ensures.long)
 
 pub returns-in_err-left-clause-refused : goal.returns-in_err-left-clause-refused
 returns-in_err-left-clause-refused c = λ all.

@@ -1,4 +1,4 @@
-use Rattle.std.proofs.Common.{sym, ap, ◌∙◌}
+use Rattle.std.proofs.Common.{refl, sym, ap, ◌∙◌}
 use Rattle.std.proofs.lemmas.Result.{err_from_is_err_and}
 use Rattle.const_oid.specs.Bound.{Bound}
 use Rattle.der_core_head.specs.Grammar.{plain_list}
@@ -18,6 +18,10 @@ returns-in_err-place-clause-refused c =
     let same = c.in_ok-values.ensures ∙ ap (plain_list attribute_plain) c.as_slice-2.ensures in
     absurd (answered_same attribute_plain _ _ c.in_ok-request.request c.as_slice-3.ensures.value c.in_err-place.ensures.answered
     (same_valid attribute_plain c.in_ok-values.values.items c.self.inside.attributes.values.items same c.self.invariant) c.in_ok-request.ensures.valid)
+
+pub returns-clause-asked : goal.returns-clause-asked
+returns-clause-asked c =
+    rw (← c.self.view_is, ← c.as_slice.ensures.value, ← c.in_ok-extensions.ensures, c.in_ok-request.ensures.made) refl
 
 pub returns-clause-made : goal.returns-clause-made
 returns-clause-made c =
