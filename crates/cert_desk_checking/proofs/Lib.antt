@@ -45,4 +45,6 @@ pub mod WiderVerdicts
 pub mod WiderFaults
 pub mod QuestionLaws
 pub mod ListedQuestions
+pub mod AskedValues
+pub mod SameQuestions
 pub use Rattle.x509_cert_anchors.proofs.Names

@@ -1,5 +1,5 @@
 -- The lines of a certificate's questions are those of the chain.
-use Rattle.std.proofs.Common.{◌≡◌, ℕ, zero, suc, ◌+◌, ◌-◌, ◌<◌, List, [], ◌∷◌, ◌++◌, cond, codes, decimal, Option, Some, slice_get, arith, refl, ap, sym, ◌∙◌}
+use Rattle.std.proofs.Common.{◌≡◌, ℕ, zero, suc, ◌+◌, ◌-◌, ◌<◌, List, [], ◌∷◌, ◌++◌, cond, codes, decimal, Option, Some, None, Bool, true, false, slice_get, arith, refl, ap, sym, ◌∙◌, append-nil}
 use Rattle.std.specs.Option.{option_map_or}
 use Rattle.cert_desk_checking.specs.declared.entry.Entry.{Entry}
 use Rattle.hex.specs.Hex.{encode_lower}
@@ -12,18 +12,14 @@ use Rattle.cert_desk_checking.specs.Entries.{IsEntry}
 use Rattle.cert_desk_checking.specs.Judging.{PlainAnchor, is_named}
 use Rattle.cert_desk_checking.specs.Questions.{Question, question}
 use Rattle.cert_desk_checking.proofs.Encodings.{signed_part-is}
-use Rattle.cert_desk_checking.specs.QuestionLines.{anchor_lines, lines_at, lines_of, question_line, spaced, written}
-use Rattle.cert_desk_checking.specs.Questioning.{entry_lines, entry_question}
+use Rattle.cert_desk_checking.specs.QuestionLines.{QuestionLine, anchor_lines, anchor_word, line_octets, lines_at, lines_octets, lines_of, spaced, written}
+use Rattle.cert_desk_checking.specs.Questioning.{anchor_line, entry_line, entry_lines, entry_question}
 
 -- what the parts of a line write is the question
-pub line_is : (place : ℕ) (anchor : List ℕ) (q : Question) (k m s b : List ℕ)
-    → k ≡ written (public_key_info Bound) q.key → m ≡ written (algorithm_identifier Bound) q.algorithm → s ≡ encode_lower q.signed → b ≡ written bit_string q.bits
-    → spaced (decimal place) (spaced anchor (spaced k (spaced m (spaced s (b ++ codes "\n"))))) ≡ question_line place anchor q
-line_is place anchor q k m s b hk hm hs hb =
-    ap (λ x. spaced (decimal place) (spaced anchor (spaced x (spaced m (spaced s (b ++ codes "\n")))))) hk
-    ∙ ap (λ x. spaced (decimal place) (spaced anchor (spaced (written (public_key_info Bound) q.key) (spaced x (spaced s (b ++ codes "\n")))))) hm
-    ∙ ap (λ x. spaced (decimal place) (spaced anchor (spaced (written (public_key_info Bound) q.key) (spaced (written (algorithm_identifier Bound) q.algorithm) x))))
-    (ap (λ x. spaced x (b ++ codes "\n")) hs ∙ ap (λ x. spaced (encode_lower q.signed) (x ++ codes "\n")) hb)
+pub line_is : (place : ℕ) (anchor : Option ℕ) (q : Question) (a k m s b : List ℕ)
+    → a ≡ anchor_word anchor → k ≡ written (public_key_info Bound) q.key → m ≡ written (algorithm_identifier Bound) q.algorithm → s ≡ encode_lower q.signed → b ≡ written bit_string q.bits
+    → spaced (decimal place) (spaced a (spaced k (spaced m (spaced s (b ++ codes "\n"))))) ≡ line_octets (record { place = place; anchor = anchor; question = q })
+line_is place anchor q a k m s b ha hk hm hs hb = rw (ha, hk, hm, hs, hb) refl
 
 -- what is asked of a certificate that a bundle lends
 question_is : (cs : List PlainCertificate) (place : ℕ) (e : Entry) (key : PublicKey) → IsEntry Bound cs place e
@@ -33,31 +29,47 @@ question_is cs place e key is =
     ap (λ w. record { key = key; algorithm = outer_algorithm this; signed = w; bits = signature_bits this })
     (is.signed ∙ sym (signed_part-is Bound cs place this is.certificate))
 
+-- the line of what is asked, where a certificate has the name
+where_named : (b : Bool) (octets : List ℕ) (l : QuestionLine) (more : List QuestionLine) → octets ≡ line_octets l
+    → cond b octets [] ++ lines_octets more ≡ lines_octets (cond b (l ∷ more) more)
+where_named true octets l more e = ap (λ w. w ++ lines_octets more) e
+where_named false octets l more e = refl
+
+-- the line of a question about a certificate that a bundle lends
+entry_line_is : (cs : List PlainCertificate) (place : ℕ) (anchor : Option ℕ) (e : Entry) (key : PublicKey) → IsEntry Bound cs place e
+    → entry_line place anchor e key
+    ≡ line_octets (record { place = place; anchor = anchor; question = question Bound cs (joined Bound cs) place (certificate_plain e.certificate.now) key })
+entry_line_is cs place anchor e key is = ap (λ q. line_octets (record { place = place; anchor = anchor; question = q })) (question_is cs place e key is)
+
 module _ (cs : List PlainCertificate) (e : Entry) (is : IsEntry Bound cs 0 e) where
-  lines_first : (number : ℕ) (anchors : List PlainAnchor) → entry_lines e number anchors ≡ anchor_lines cs (joined Bound cs) (certificate_plain e.certificate.now) number anchors
+  abbrev this : PlainCertificate
+  this = certificate_plain e.certificate.now
+
+  lines_first : (number : ℕ) (anchors : List PlainAnchor) → entry_lines e number anchors ≡ lines_octets (anchor_lines cs (joined Bound cs) this number anchors)
   lines_first number [] = refl
   lines_first number (a ∷ more) =
-      ap (λ q. cond (is_named Bound (certificate_plain e.certificate.now) a) (question_line 0 (decimal number) q) [] ++ entry_lines e (number + 1) more)
-      (question_is cs 0 e a.key is)
-      ∙ ap (λ w. cond (is_named Bound (certificate_plain e.certificate.now) a)
-      (question_line 0 (decimal number) (question Bound cs (joined Bound cs) 0 (certificate_plain e.certificate.now) a.key)) [] ++ w)
-      (lines_first (number + 1) more)
+      ap (λ w. anchor_line e number a ++ w) (lines_first (number + 1) more)
+      ∙ where_named (is_named Bound this a) (entry_line 0 (Some number) e a.key)
+      (record { place = 0; anchor = Some number; question = question Bound cs (joined Bound cs) 0 this a.key })
+      (anchor_lines cs (joined Bound cs) this (number + 1) more) (entry_line_is cs 0 (Some number) e a.key is)
 
   -- of the first place
-  pub lines_at-first : (anchors : List PlainAnchor) → entry_lines e 0 anchors ≡ lines_at anchors cs (joined Bound cs) 0
+  pub lines_at-first : (anchors : List PlainAnchor) → entry_lines e 0 anchors ≡ lines_octets (lines_at anchors cs (joined Bound cs) 0)
   lines_at-first anchors =
-      lines_first 0 anchors ∙ sym (ap (λ o. option_map_or (lines_of anchors cs (joined Bound cs) 0) o []) is.certificate)
+      lines_first 0 anchors ∙ sym (ap (λ o. lines_octets (option_map_or (lines_of anchors cs (joined Bound cs) 0) o [])) is.certificate)
 
 -- of a later one
 pub lines_at-later : (cs : List PlainCertificate) (place : ℕ) (e before : Entry) (key : PublicKey) (anchors : List PlainAnchor) → 0 < place
     → IsEntry Bound cs place e → IsEntry Bound cs (place - 1) before → key ≡ public_key (certificate_plain before.certificate.now)
-    → question_line place (codes "-") (entry_question e key) ≡ lines_at anchors cs (joined Bound cs) place
+    → entry_line place None e key ≡ lines_octets (lines_at anchors cs (joined Bound cs) place)
 lines_at-later cs zero e before key anchors h is was k = absurd (omega arith)
 lines_at-later cs (suc n) e before key anchors h is was k =
     let this = certificate_plain e.certificate.now in
     let earlier : slice_get cs n ≡ Some (certificate_plain before.certificate.now) =
     (let m : n ≡ suc n - 1 = omega arith in ap (slice_get cs) m ∙ was.certificate) in
-    ap (λ x. question_line (suc n) (codes "-") (entry_question e x)) k
-    ∙ ap (question_line (suc n) (codes "-")) (question_is cs (suc n) e (public_key (certificate_plain before.certificate.now)) is)
-    ∙ sym (ap (λ o. option_map_or (lines_of anchors cs (joined Bound cs) (suc n)) o []) is.certificate
-    ∙ ap (λ o. option_map_or (λ b. question_line (suc n) (codes "-") (question Bound cs (joined Bound cs) (suc n) this (public_key b))) o []) earlier)
+    ap (entry_line (suc n) None e) k
+    ∙ entry_line_is cs (suc n) None e (public_key (certificate_plain before.certificate.now)) is
+    ∙ sym (append-nil _)
+    ∙ sym (ap (λ o. lines_octets (option_map_or (lines_of anchors cs (joined Bound cs) (suc n)) o [])) is.certificate
+    ∙ ap (λ o. lines_octets (option_map_or
+    (λ b. record { place = suc n; anchor = None; question = question Bound cs (joined Bound cs) (suc n) this (public_key b) } ∷ []) o [])) earlier)

@@ -1,5 +1,6 @@
 -- What holds of every stream.
 use Rattle.std.specs.Prelude.{◌≡◌, ◌≢◌, ℕ, List, ◌++◌, Result}
+use Rattle.std.specs.List.{AllByRecursion}
 use Rattle.const_oid.specs.Bound.{Bound}
 use Rattle.der_core_head.specs.Shapes.{Shape, Value}
 use Rattle.x509_cert_anchors.specs.Certificates.{PlainCertificate}
@@ -11,8 +12,8 @@ use Rattle.cert_desk_checking.specs.AnchorFiles.{SaysAsFile}
 use Rattle.cert_desk_checking.specs.Chains.{Chain}
 use Rattle.cert_desk_checking.specs.Faults.{SeriesFault, StreamFault}
 use Rattle.cert_desk_checking.specs.Judging.{PlainAnchor, Answers, Terms}
-use Rattle.cert_desk_checking.specs.QuestionLines.{AreLinesOf, HasLine, lines_at}
-use Rattle.cert_desk_checking.specs.Questions.{AnswerAlike, Question, answer_on, questions_at}
+use Rattle.cert_desk_checking.specs.QuestionLines.{chain_lines, lines_at, questions_of_lines}
+use Rattle.cert_desk_checking.specs.Questions.{AnswerAlike, answer_on, questions_at}
 use Rattle.cert_desk_checking.specs.Questions.{under}
 use Rattle.cert_desk_checking.specs.Series.{IsUnambiguous, Series}
 use Rattle.cert_desk_checking.specs.Verdicts.{IsVerdict, Asks}
@@ -75,21 +76,21 @@ IsJudgedAlike =
     → (IsVerdict t limit stream verdict → IsVerdict (under t other) limit stream verdict)
     × (Asks t limit stream n → Asks (under t other) limit stream n)
 
--- The lines of a place are those of what its signature may ask, and no others.
+-- The lines of a place are those of what its signature may ask, in turn, and no others.
 abbrev pub QuestionsAreListed : Type 0
 QuestionsAreListed =
     (anchors : List PlainAnchor) (cs : List PlainCertificate) (stream : List ℕ) (place : ℕ)
-    → AreLinesOf place (questions_at Bound anchors cs stream place)
-    (lines_at anchors cs stream place)
+    → questions_of_lines (lines_at anchors cs stream place)
+    ≡ questions_at Bound anchors cs stream place
 
--- Judges that answer alike to each question that has a line give one verdict, and are asked as
+-- Judges that answer alike to the questions of a chain's lines give one verdict, and are asked as
 -- often.
 abbrev pub IsJudgedByLines : Type 0
 IsJudgedByLines =
     (t : Terms) (other : Answers) (limit : ℕ) (stream : List ℕ) (verdict : Verdict) (n : ℕ)
     → t.bound ≡ Bound
-    → ((cs : List PlainCertificate) (place : ℕ) (q : Question) → Chain t.bound limit cs stream
-    → HasLine place q (lines_at t.anchors cs stream place)
-    → answer_on t.answers q ≡ answer_on other q)
+    → ((cs : List PlainCertificate) → Chain t.bound limit cs stream
+    → AllByRecursion (λ l. answer_on t.answers l.question ≡ answer_on other l.question)
+    (chain_lines t.anchors cs stream))
     → (IsVerdict t limit stream verdict → IsVerdict (under t other) limit stream verdict)
     × (Asks t limit stream n → Asks (under t other) limit stream n)

@@ -1,5 +1,5 @@
 -- The questions about a certificate that a bundle lends.
-use Rattle.std.specs.Prelude.{ℕ, ◌+◌, List, [], ◌∷◌, ◌++◌, decimal, if◌then◌else◌}
+use Rattle.std.specs.Prelude.{ℕ, ◌+◌, List, [], ◌∷◌, ◌++◌, Option, Some, if◌then◌else◌}
 use Rattle.cert_desk_checking.specs.declared.entry.Entry.{Entry}
 use Rattle.const_oid.specs.Bound.{Bound}
 use Rattle.x509_cert_extensions.specs.Parts.{PublicKey}
@@ -7,7 +7,7 @@ use Rattle.x509_cert_anchors.specs.CertificateViews.{certificate_plain}
 use Rattle.x509_cert_anchors.specs.Certificates.{outer_algorithm, signature_bits}
 use Rattle.cert_desk_checking.specs.Judging.{PlainAnchor, is_named}
 use Rattle.cert_desk_checking.specs.Questions.{Question}
-use Rattle.cert_desk_checking.specs.QuestionLines.{question_line}
+use Rattle.cert_desk_checking.specs.QuestionLines.{line_octets}
 
 -- under a key
 abbrev pub entry_question : Entry → PublicKey → Question
@@ -19,11 +19,16 @@ entry_question e key =
       bits = signature_bits (certificate_plain e.certificate.now);
     }
 
--- the line of the question under an anchor of this number, if it has the issuer's name
+-- the octets of its line: of the question at a place, under a key, perhaps that of an anchor
+abbrev pub entry_line : ℕ → Option ℕ → Entry → PublicKey → List ℕ
+entry_line place anchor e key =
+    line_octets (record { place = place; anchor = anchor; question = entry_question e key })
+
+-- the line under an anchor of this number, if it has the issuer's name
 abbrev pub anchor_line : Entry → ℕ → PlainAnchor → List ℕ
 anchor_line e number a =
     if is_named Bound (certificate_plain e.certificate.now) a
-    then question_line 0 (decimal number) (entry_question e a.key) else []
+    then entry_line 0 (Some number) e a.key else []
 
 -- the lines under anchors, of which the first has this number
 abbrev pub entry_lines : Entry → ℕ → List PlainAnchor → List ℕ

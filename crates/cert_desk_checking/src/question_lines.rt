@@ -9,8 +9,9 @@ ghost use Rattle.x509_cert_anchors.specs.Certificates.{raw_certificate};
 ghost use Rattle.cert_desk_checking.specs.Chains.{joined};
 ghost use Rattle.cert_desk_checking.specs.Judging.{PlainAnchor};
 ghost use Rattle.x509_cert_extensions.specs.Parts.{key_plain};
-ghost use Rattle.cert_desk_checking.specs.QuestionLines.{chain_lines, lines_at, question_line};
-ghost use Rattle.cert_desk_checking.specs.Questioning.{anchor_line, entry_lines, entry_question};
+ghost use Rattle.cert_desk_checking.specs.QuestionLines.{anchor_word, chain_lines};
+ghost use Rattle.cert_desk_checking.specs.QuestionLines.{lines_at, lines_octets};
+ghost use Rattle.cert_desk_checking.specs.Questioning.{anchor_line, entry_line, entry_lines};
 
 use crate::anchor::Anchor;
 use crate::bundle::Bundle;
@@ -31,18 +32,30 @@ fn written<T: Encode>(alloc: Global, value: &T) -> Result<String, AllocError>
     hex::encode(alloc, octets.as_slice())
 }
 
-// Adds the line of a question: under this key, about the certificate at a place.
+// The number of an anchor, or `-`.
+fn anchor_word(alloc: Global, anchor: Option<usize>) -> Result<String, AllocError>
+    ensures { IfOk result (λ text. string_bytes text ≡ anchor_word anchor) }
+{
+    match anchor {
+        Some(number) => format!(in alloc; "{number}"),
+        None => format!(in alloc; "-"),
+    }
+}
+
+// Adds the line of a question: about the certificate at a place, under this key, perhaps that of an
+// anchor.
 fn add_line(
     alloc: Global,
     text: &mut String,
     place: usize,
-    anchor: &str,
+    anchor: Option<usize>,
     key: &SubjectPublicKeyInfo,
     entry: &Entry<'_>,
 ) -> Result<(), AllocError>
     ensures { OnOk result (string_bytes text.new ≡ string_bytes text.old
-        ++ question_line place anchor.now (entry_question entry.now (key_plain key.now))) }
+        ++ entry_line place anchor entry.now (key_plain key.now)) }
 {
+    let anchor = anchor_word(alloc, anchor)?;
     let key = written(alloc, key)?;
     let algorithm = written(alloc, entry.certificate.signature_algorithm())?;
     let signed = hex::encode(alloc, entry.signed)?;
@@ -68,8 +81,7 @@ fn add_anchor(
     if !is_issued_by(entry.certificate, anchor.name()) {
         return Ok(());
     }
-    let label = format!(in alloc; "{number}")?;
-    add_line(alloc, text, 0, label.as_str(), anchor.key(), entry)
+    add_line(alloc, text, 0, Some(number), anchor.key(), entry)
 }
 
 // Adds the lines of the questions about the first certificate: under the key of each anchor of the
@@ -101,15 +113,15 @@ fn add_later(
     requires later { 0 < place }
     requires within { place < length bundle.now.certificates }
     ensures { (anchors : List PlainAnchor) → OnOk result (string_bytes text.new
-        ≡ string_bytes text.old ++ lines_at anchors bundle.now.certificates
-        (joined Bound bundle.now.certificates) place) }
+        ≡ string_bytes text.old ++ lines_octets (lines_at anchors bundle.now.certificates
+        (joined Bound bundle.now.certificates) place)) }
 {
     let before = bundle.get(place - 1).unwrap();
     let key = before
         .certificate
         .tbs_certificate()
         .subject_public_key_info();
-    add_line(alloc, text, place, "-", key, &bundle.get(place).unwrap())
+    add_line(alloc, text, place, None, key, &bundle.get(place).unwrap())
 }
 
 // Adds the lines of the questions about the certificate at a place.
@@ -122,8 +134,8 @@ fn add_place(
 ) -> Result<(), AllocError>
     requires { place < length bundle.now.certificates }
     ensures { OnOk result (string_bytes text.new ≡ string_bytes text.old
-        ++ lines_at (map anchor_plain anchors.now) bundle.now.certificates
-        (joined Bound bundle.now.certificates) place) }
+        ++ lines_octets (lines_at (map anchor_plain anchors.now) bundle.now.certificates
+        (joined Bound bundle.now.certificates) place)) }
 {
     if place == 0 {
         return add_first(alloc, text, anchors, &bundle.get(0).unwrap());
@@ -144,8 +156,8 @@ fn add_place(
 /// Want of memory.
 pub fn chain_lines(alloc: Global, anchors: &[Anchor], bundle: &Bundle) -> Result<String, AllocError>
     ensures { IfOk result (λ text. string_bytes text
-        ≡ chain_lines (map anchor_plain anchors.now) bundle.now.certificates
-        (joined Bound bundle.now.certificates)) }
+        ≡ lines_octets (chain_lines (map anchor_plain anchors.now) bundle.now.certificates
+        (joined Bound bundle.now.certificates))) }
 {
     let mut text = String::new(alloc);
     for place in 0..bundle.len() {

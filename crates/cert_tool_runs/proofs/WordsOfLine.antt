@@ -15,7 +15,8 @@ six (a ∷ b ∷ c ∷ e ∷ f ∷ []) d h = absurd cc
 six (a ∷ b ∷ c ∷ e ∷ f ∷ g ∷ []) d h = refl
 six (a ∷ b ∷ c ∷ e ∷ f ∷ g ∷ i ∷ more) d h = absurd (omega arith)
 
-say : (p a k m s b : List ℕ) (q : Question) → true ≡ is_number p → true ≡ is_anchor a → Some q ≡ question_in k m s b
+-- six words that are those of an answer
+pub say : (p a k m s b : List ℕ) (q : Question) → true ≡ is_number p → true ≡ is_anchor a → Some q ≡ question_in k m s b
     → answers q ≡ words_say (p ∷ a ∷ k ∷ m ∷ s ∷ b ∷ [])
 say p a k m s b q hp ha hq =
     ap says_question hq

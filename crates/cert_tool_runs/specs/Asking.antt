@@ -11,7 +11,7 @@ use Rattle.cert_desk_checking.specs.Chains.{joined}
 use Rattle.cert_desk_checking.specs.Judging.{PlainAnchor}
 use Rattle.cert_desk_checking.specs.Runs.{HasAnchors, HasNoAnchors}
 use Rattle.cert_desk_checking.specs.Streams.{Kept}
-use Rattle.cert_desk_checking.specs.QuestionLines.{chain_lines}
+use Rattle.cert_desk_checking.specs.QuestionLines.{chain_lines, lines_octets}
 use Rattle.cert_tool_runs.specs.Stops.{FedWithin, IsStopTold, stop_of}
 
 -- What is found in the inputs of anchors and of the stream: the lines of the questions of a chain
@@ -21,7 +21,8 @@ abbrev pub IsAsked : Device → Device → ℕ → Result (List ℕ) Outcome →
 IsAsked anchors_in stream limit (Ok text) =
     (anchors : List PlainAnchor) × (b : Kept) × HasAnchors anchors_in anchors
     × FedWithin stream limit b
-    × (stop_of b ≡ None) × (text ≡ chain_lines anchors b.certificates (joined Bound b.certificates))
+    × (stop_of b ≡ None)
+    × (text ≡ lines_octets (chain_lines anchors b.certificates (joined Bound b.certificates)))
 IsAsked anchors_in stream limit (Err outcome) =
     (HasNoAnchors anchors_in outcome × Untouched stream)
     ⊎ ((anchors : List PlainAnchor) × (b : Kept) × HasAnchors anchors_in anchors

@@ -4,3 +4,4 @@ pub mod Stops
 pub mod Asking
 pub mod Verifying
 pub mod Splitting
+pub mod Laws

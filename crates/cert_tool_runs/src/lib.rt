@@ -24,6 +24,7 @@ mod identifiers;
 mod keys;
 mod kind;
 mod known_names;
+pub mod laws;
 mod lines;
 mod lists;
 mod no_answers;

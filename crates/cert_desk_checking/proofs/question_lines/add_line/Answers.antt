@@ -10,6 +10,6 @@ pub returns : goal.returns
 returns c =
     c.in_ok-writeln.ensures.bytes
     ∙ ap (λ w. string_bytes c.args.text.now ++ w)
-    (line_is c.args.place c.args.anchor.now (entry_question c.args.entry.now (key_plain c.args.key.now)) _ _ _ _ c.in_ok-key.ensures
+    (line_is c.args.place c.args.anchor (entry_question c.args.entry.now (key_plain c.args.key.now)) _ _ _ _ _ c.in_ok-anchor.ensures c.in_ok-key.ensures
     (c.in_ok-algorithm.ensures ∙ ap (written (algorithm_identifier Bound)) c.signature_algorithm.ensures) c.in_ok-signed.ensures
     (c.in_ok-bits.ensures ∙ ap (written bit_string) c.signature.ensures))

@@ -4,7 +4,7 @@ use Rattle.cert_desk_checking.specs.Anchors.{anchor_plain}
 use Rattle.const_oid.specs.Bound.{Bound}
 use Rattle.cert_desk_checking.specs.Chains.{joined}
 use Rattle.cert_desk_checking.proofs.PlaceLaws.{entry_at}
-use Rattle.cert_desk_checking.specs.QuestionLines.{lines_at}
+use Rattle.cert_desk_checking.specs.QuestionLines.{lines_at, lines_octets}
 use Rattle.cert_desk_checking.proofs.QuestionLaws.{lines_at-first}
 use Rattle.cert_desk_checking.proofs.question_lines.add_place.Goals as goal
 
@@ -14,7 +14,7 @@ returns-then-place-eq0 c =
     let anchors = map anchor_plain c.args.anchors.now in
     let entry = entry_at _ _ _ _ _ c.get.ensures.entry c.unwrap.ensures in
     subst (λ w. OnOk c.add_first.result (string_bytes c.add_first.new.text ≡ string_bytes c.args.text.now ++ w))
-    (lines_at-first cs c.unwrap.result entry anchors ∙ ap (lines_at anchors cs (joined Bound cs)) (sym c.if-place-eq0.true))
+    (lines_at-first cs c.unwrap.result entry anchors ∙ ap (λ n. lines_octets (lines_at anchors cs (joined Bound cs) n)) (sym c.if-place-eq0.true))
     c.add_first.ensures
 
 pub returns : goal.returns

@@ -1,0 +1,41 @@
+-- What holds of every file of answers.
+use Rattle.std.specs.Prelude.{◌≡◌, ℕ, List, Contains, Ok, filter}
+use Rattle.std.specs.List.{AllByRecursion}
+use Rattle.const_oid.specs.Bound.{Bound}
+use Rattle.cert_desk_checking.specs.declared.checked.Verdict.{Verdict}
+use Rattle.cert_desk_checking.specs.AnchorFiles.{IsAnchorFile}
+use Rattle.cert_desk_checking.specs.Answers.{listed}
+use Rattle.cert_desk_checking.specs.Certificates.{PlainCertificate}
+use Rattle.cert_desk_checking.specs.Chains.{Chain}
+use Rattle.cert_desk_checking.specs.Judging.{Answers, PlainAnchor, Terms}
+use Rattle.cert_desk_checking.specs.QuestionLines.{QuestionLine, chain_lines, lines_octets}
+use Rattle.cert_desk_checking.specs.QuestionLines.{questions_of_lines}
+use Rattle.cert_desk_checking.specs.Questions.{Question, answer_on, under}
+use Rattle.cert_desk_checking.specs.Verdicts.{Asks, IsVerdict}
+use Rattle.cert_tool_runs.specs.AnswerLines.{file_says}
+
+-- Whichever lines of a chain's questions are kept, and in whatever order: a file of them is read as
+-- their questions.
+abbrev pub KeptLinesAreRead : Type 0
+KeptLinesAreRead =
+    (file : List ℕ) (anchors : List PlainAnchor) (limit : ℕ) (cs : List PlainCertificate)
+    (stream : List ℕ) (kept : List QuestionLine)
+    → IsAnchorFile file anchors → Chain Bound limit cs stream
+    → AllByRecursion (Contains (chain_lines anchors cs stream)) kept
+    → file_says (lines_octets kept) ≡ Ok (questions_of_lines kept)
+
+-- the lines whose question a verifier says yes to
+abbrev pub accepted_lines : Answers → List QuestionLine → List QuestionLine
+accepted_lines answers lines = filter (λ l. answer_on answers l.question) lines
+
+-- What is read of the lines that a verifier accepts, of those of a chain, lists answers under which
+-- the chain has the verdict that it has under the verifier, and asks as often.
+abbrev pub AcceptedLinesJudgeAlike : Type 0
+AcceptedLinesJudgeAlike =
+    (file : List ℕ) (t : Terms) (limit : ℕ) (cs : List PlainCertificate) (stream : List ℕ)
+    (answers : List Question) (verdict : Verdict) (n : ℕ)
+    → t.bound ≡ Bound → IsAnchorFile file t.anchors → Chain Bound limit cs stream
+    → file_says (lines_octets (accepted_lines t.answers (chain_lines t.anchors cs stream)))
+    ≡ Ok answers
+    → (IsVerdict t limit stream verdict → IsVerdict (under t (listed answers)) limit stream verdict)
+    × (Asks t limit stream n → Asks (under t (listed answers)) limit stream n)
