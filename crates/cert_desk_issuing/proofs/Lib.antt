@@ -1,5 +1,6 @@
 pub mod AcceptedFronts
 pub mod Auditing
+pub mod FilesBecome
 pub mod IssuedFronts
 pub mod OnlyMemory
 pub mod SignedParts

@@ -1,5 +1,5 @@
 -- What a run of `issue` finds, and what it tells.
-use Rattle.std.specs.Prelude.{◌≡◌, ◌≢◌, ℕ, ◌⊎◌, List, length, map, take}
+use Rattle.std.specs.Prelude.{◌≡◌, ◌≢◌, ℕ, ◌⊎◌, List, Some, length, map, take}
 use Rattle.cert_desk_io.specs.declared.exit_status.ExitStatus.{ExitStatus}
 use Rattle.cert_desk_io.specs.declared.exit_status.ExitStatus.TheVariants as statuses
 use Rattle.cert_desk_io.specs.declared.read_all_error.ReadAllError.TheVariants as reasons
@@ -7,6 +7,7 @@ use Rattle.cert_desk_io.specs.Devices.{Device, Untouched}
 use Rattle.cert_desk_io.specs.Telling.{IsAnswer, IsComplaint, IsDeviceTold, IsMemoryTold}
 use Rattle.cert_desk_io.specs.Whole.{IsWhole, IsUnread, most_octets}
 use Rattle.cert_desk_checking.specs.Parts.{PublicKey, key_plain}
+use Rattle.cert_desk_orders.specs.OrdersFile.{SaysOrders, faulty_line}
 use Rattle.cert_desk_orders.specs.declared.order.Order.{Order}
 use Rattle.cert_desk_issuing.specs.declared.digest_signer.DigestSigner.{DigestSigner}
 use Rattle.cert_desk_issuing.specs.declared.issue_error.IssueError.TheVariants as errors
@@ -49,17 +50,20 @@ OrdersBecome orders (outcomes.BadLine line) = ⊥
 OrdersBecome orders outcomes.Device = ⊥
 OrdersBecome orders outcomes.OutOfMemory = Unit {0}
 
--- What an orders file comes to: what becomes of orders, where all of it was read; the faulty line
--- that is told, its first one where it has too many octets; or why it wasn't read.
+-- What an orders file comes to: what becomes of the orders that it says, where all of it was read;
+-- its first faulty line, which is the first one where it has too many octets; or why it wasn't
+-- read.
 abbrev pub FileBecomes : Device → Outcome → Type 0
 FileBecomes input (outcomes.Issued issued) =
     (octets : List ℕ) × IsWhole input most_octets octets
-    × ((orders : List Order) × OrdersBecome orders (outcomes.Issued issued))
+    × ((orders : List Order) × SaysOrders octets orders
+    × OrdersBecome orders (outcomes.Issued issued))
 FileBecomes input (outcomes.Refused error) =
     (octets : List ℕ) × IsWhole input most_octets octets
-    × ((orders : List Order) × OrdersBecome orders (outcomes.Refused error))
+    × ((orders : List Order) × SaysOrders octets orders
+    × OrdersBecome orders (outcomes.Refused error))
 FileBecomes input (outcomes.BadLine line) =
-    ((octets : List ℕ) × IsWhole input most_octets octets)
+    ((octets : List ℕ) × IsWhole input most_octets octets × (faulty_line octets ≡ Some line))
     ⊎ (IsUnread input most_octets reasons.TooMuch × (line ≡ 1))
 FileBecomes input outcomes.Device = IsUnread input most_octets reasons.Device
 FileBecomes input outcomes.OutOfMemory = ((octets : List ℕ) × IsWhole input most_octets octets)

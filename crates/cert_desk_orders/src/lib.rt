@@ -1,14 +1,13 @@
 //! Orders for certificates, and files of them.
 #![tactic(auto)]
 
-mod draft;
+mod faults;
+mod line;
 mod order;
+mod ordering;
 mod orders_error;
 mod orders_file;
-mod slot;
-mod value_fault;
 mod values;
-mod word;
 
 pub use order::Order;
 pub use orders_error::OrdersError;

@@ -1,67 +1,59 @@
 //! Files of orders.
+ghost use Rattle.std.specs.Prelude.{◌≡◌, ◌<◌, ◌≤◌, length, IfErr, IfOk, None, OnOk};
+ghost use Rattle.cert_desk_orders.specs.OrderReading.{IsFaultIn, lines_plain, order_len};
+ghost use Rattle.cert_desk_orders.specs.OrdersFile.{SayOrder, SayOrders, SaysOrders, by_order};
+ghost use Rattle.cert_desk_orders.specs.OrdersFile.{faulty_line, first_fault, order_fault};
 
-use crate::draft::Draft;
+use crate::faults::order_fault;
+use crate::line::{Line, lines_of};
 use crate::order::Order;
+use crate::ordering::order_of;
 use crate::orders_error::OrdersError;
-use crate::word::Word;
 use std::alloc::Global;
-use std::str;
 
-// The word of a line, and what stands behind its first blank if there is one.
-fn split_line(line: &[u8]) -> Option<(Word, Option<&str>)> {
-    let Ok(line) = str::from_utf8(line) else {
-        return None;
-    };
-    let (word, value) = match line.split_once(' ') {
-        Some((word, value)) => (word, Some(value)),
-        None => (line, None),
-    };
-    let Some(word) = Word::named(word) else {
-        return None;
-    };
-    Some((word, value))
+// How many lines the first order has.
+fn order_len(lines: &[Line<'_>]) -> usize
+    requires { 0 < length lines.now }
+    ensures length { result ≡ order_len (lines_plain lines.now) }
+    ensures within { result ≤ length lines.now }
+{
+    match lines[1..].iter().position(|line| line.has("order")) {
+        Some(others) => others + 1,
+        None => lines.len(),
+    }
 }
 
-// The orders of a file, as far as its lines were read.
-#[derive(Drop)]
-struct Reading {
-    // The orders whose lines were all read.
-    orders: Vec<Order>,
-    // The one that the next line belongs to.
-    draft: Option<Draft>,
+// The order that lines say.
+fn read_order(alloc: Global, lines: &[Line<'_>]) -> Result<Order, OrdersError>
+    requires { 0 < length lines.now }
+    ensures sound { OnOk result (order_fault (lines_plain lines.now) ≡ None) }
+    ensures said { IfOk result (SayOrder (lines_plain lines.now)) }
+    ensures refused { IfErr result (IsFaultIn (order_fault (lines_plain lines.now))) }
+{
+    if let Some(number) = order_fault(alloc, lines)? {
+        return Err(OrdersError::Line(number));
+    }
+    let order = order_of(alloc, lines)?;
+    Ok(order)
 }
 
-impl Reading {
-    // Ends the order that was begun.
-    fn end_order(&mut self) -> Result<(), OrdersError> {
-        let Some(draft) = self.draft.take() else {
-            return Ok(());
-        };
-        let order = draft.finish()?;
-        self.orders.push(order)?;
-        Ok(())
+// The orders that lines say.
+fn read_orders(alloc: Global, lines: &[Line<'_>]) -> Result<Vec<Order>, OrdersError>
+    ensures sound { OnOk result (first_fault (by_order (lines_plain lines.now)) ≡ None) }
+    ensures said { IfOk result
+        (λ orders. SayOrders (by_order (lines_plain lines.now)) orders.items) }
+    ensures refused { IfErr result (IsFaultIn (first_fault (by_order (lines_plain lines.now)))) }
+{
+    let mut orders = Vec::new(alloc);
+    let mut start = 0;
+    'orders: while start < lines.len() {
+        let rest = &lines[start..];
+        let length = order_len(rest);
+        let order = read_order(alloc, &rest[..length])?;
+        orders.push(order)?;
+        start += length;
     }
-
-    // Takes a line.
-    fn read(&mut self, alloc: Global, number: u64, line: &[u8]) -> Result<(), OrdersError> {
-        if line.is_empty() {
-            return Ok(());
-        }
-        let split = split_line(line);
-        if let Some((Word::Order, _)) = split {
-            self.end_order()?;
-            self.draft = Some(Draft::new(alloc, number));
-        }
-        let Some(draft) = &mut self.draft else {
-            return Err(OrdersError::Line(number));
-        };
-        let Some((word, value)) = split else {
-            draft.note_fault(number);
-            return Ok(());
-        };
-        draft.read(alloc, number, word, value)?;
-        Ok(())
-    }
+    Ok(orders)
 }
 
 /// The orders of a file.
@@ -84,16 +76,11 @@ impl Reading {
 /// `Line`, the first faulty line, counted from 1: one of another word or value, one that stands
 /// once too often, one before the first order, and the line `order` of an order that lacks a word.
 /// `OutOfMemory`.
-pub fn orders_in(alloc: Global, octets: &[u8]) -> Result<Vec<Order>, OrdersError> {
-    let mut reading = Reading {
-        orders: Vec::new(alloc),
-        draft: None,
-    };
-    let mut number: u64 = 0;
-    for line in octets.split(|octet| *octet == b'\n') {
-        number = number.saturating_add(1);
-        reading.read(alloc, number, line)?;
-    }
-    reading.end_order()?;
-    Ok(reading.orders)
+pub fn orders_in(alloc: Global, octets: &[u8]) -> Result<Vec<Order>, OrdersError>
+    ensures said { IfOk result (λ orders. SaysOrders octets.now orders.items) }
+    ensures refused { IfErr result (IsFaultIn (faulty_line octets.now)) }
+{
+    let lines = lines_of(alloc, octets)?;
+    let orders = read_orders(alloc, lines.as_slice())?;
+    Ok(orders)
 }

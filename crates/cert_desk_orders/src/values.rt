@@ -1,50 +1,56 @@
 //! The values of lines.
+ghost use Rattle.std.specs.Prelude.{◌≡◌, IfOk};
+ghost use Rattle.der_core_head.specs.Grammar.{plain_option};
+ghost use Rattle.cert_desk_orders.specs.OrderValues.{octets_in, key_in, key_plain, key_read};
+ghost use Rattle.cert_desk_orders.specs.OrderValues.{length_in};
 
-use crate::value_fault::ValueFault;
-use der_core::from_der;
-use std::alloc::Global;
+use der_core::{ErrorKind, from_der};
+use hex::FromHexError;
+use std::alloc::{AllocError, Global};
 use x509_cert_parts::SubjectPublicKeyInfo;
 
-// A text: whatever stands behind the blank.
-pub(crate) fn text_of(alloc: Global, value: Option<&str>) -> Result<String, ValueFault> {
-    let value = value.ok_or(ValueFault::Faulty)?;
-    let text = String::from_str(alloc, value)?;
-    Ok(text)
-}
-
-// Octets, in base 16.
-pub(crate) fn octets_of(alloc: Global, value: Option<&str>) -> Result<Vec<u8>, ValueFault> {
-    let value = value.ok_or(ValueFault::Faulty)?;
-    let octets = hex::decode(alloc, value)?;
-    Ok(octets)
-}
-
-// A key: its encoding, in base 16.
-pub(crate) fn key_of(
-    alloc: Global,
-    value: Option<&str>,
-) -> Result<SubjectPublicKeyInfo, ValueFault> {
-    let octets = octets_of(alloc, value)?;
-    let key = from_der(alloc, octets.as_slice())?;
-    Ok(key)
-}
-
-// A path length: one or more decimal digits, up to 255. Leading zeros are read, and no sign.
-pub(crate) fn length_of(value: Option<&str>) -> Result<u8, ValueFault> {
-    let value = value.ok_or(ValueFault::Faulty)?;
-    if value.as_bytes().first() == Some(&b'+') {
-        return Err(ValueFault::Faulty);
-    }
-    match value.parse() {
-        Ok(length) => Ok(length),
-        Err(_) => Err(ValueFault::Faulty),
+// The octets that a text writes in base 16, if it does.
+pub(crate) fn octets_of(alloc: Global, text: &str) -> Result<Option<Vec<u8>>, AllocError>
+    ensures { IfOk result (λ read. plain_option (λ octets. octets.items) read
+        ≡ octets_in text.now) }
+{
+    match hex::decode(alloc, text) {
+        Ok(octets) => Ok(Some(octets)),
+        Err(FromHexError::OutOfMemory) => Err(AllocError),
+        Err(_) => Ok(None),
     }
 }
 
-// Nothing: the word stands alone.
-pub(crate) fn nothing_of(value: Option<&str>) -> Result<(), ValueFault> {
-    match value {
-        Some(_) => Err(ValueFault::Faulty),
-        None => Ok(()),
+// The key that octets encode, all of them, if they do.
+fn key_of_octets(alloc: Global, octets: &[u8]) -> Result<Option<SubjectPublicKeyInfo>, AllocError>
+    ensures { IfOk result (λ read. plain_option key_plain read ≡ key_read octets.now) }
+{
+    match from_der::<SubjectPublicKeyInfo>(alloc, octets) {
+        Ok(key) => Ok(Some(key)),
+        Err(error) => match error.kind {
+            ErrorKind::OutOfMemory => Err(AllocError),
+            _ => Ok(None),
+        },
     }
+}
+
+// The key whose encoding a text writes in base 16, if it does.
+pub(crate) fn key_of(alloc: Global, text: &str) -> Result<Option<SubjectPublicKeyInfo>, AllocError>
+    ensures { IfOk result (λ read. plain_option key_plain read ≡ key_in text.now) }
+{
+    match octets_of(alloc, text)? {
+        Some(octets) => key_of_octets(alloc, octets.as_slice()),
+        None => Ok(None),
+    }
+}
+
+// A path length: one or more decimal digits, of a number up to 255. Leading zeros are read, and no
+// sign.
+pub(crate) fn length_of(text: &str) -> Option<u8>
+    ensures { result ≡ length_in text.now }
+{
+    if text.as_bytes().first() == Some(&b'+') {
+        return None;
+    }
+    text.parse().ok()
 }

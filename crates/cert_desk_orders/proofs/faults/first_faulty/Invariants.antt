@@ -1,0 +1,8 @@
+-- what is found behind the lines so far is what is found
+use Rattle.std.proofs.Common.{◌≡◌, take, drop, []}
+use Rattle.cert_desk_orders.specs.OrderReading.{lines_plain}
+use Rattle.cert_desk_orders.specs.OrdersFile.{first_faulty}
+use Rattle.cert_desk_orders.proofs.faults.first_faulty.Given as goal
+
+abbrev pub invariant-loop-index : goal.invariant-loop-index
+invariant-loop-index l = first_faulty (lines_plain (take l.index l.lines)) (lines_plain (drop l.index l.lines)) ≡ first_faulty [] (lines_plain l.lines)

@@ -1,0 +1,90 @@
+//! Faulty lines.
+ghost use Rattle.std.specs.Prelude.{◌≡◌, ◌<◌, [], length, IfOk};
+ghost use Rattle.cert_desk_orders.specs.OrderReading.{line_plain, lines_plain};
+ghost use Rattle.cert_desk_orders.specs.OrdersFile.{fits, first_faulty, is_faulty, is_repeated};
+ghost use Rattle.cert_desk_orders.specs.OrdersFile.{is_whole, order_fault, stands_alone, takes};
+
+use crate::line::{Line, stands};
+use crate::values::{key_of, length_of, octets_of};
+use std::alloc::{AllocError, Global};
+
+// Whether a word stands alone.
+fn stands_alone(word: &str) -> bool
+    ensures { result ≡ stands_alone word.now }
+{
+    word == "order" || word == "client" || word == "ocsp"
+}
+
+// Whether a value is one of a word.
+fn takes(alloc: Global, word: &str, value: &str) -> Result<bool, AllocError>
+    ensures { IfOk result (λ taken. taken ≡ takes word.now value.now) }
+{
+    match word {
+        "name" | "from" | "until" | "dns" => Ok(true),
+        "serial" => Ok(octets_of(alloc, value)?.is_some()),
+        "key" => Ok(key_of(alloc, value)?.is_some()),
+        "path" => Ok(length_of(value).is_some()),
+        _ => Ok(false),
+    }
+}
+
+// Whether a line has a word, and of it a value or none, as the word is.
+fn fits(alloc: Global, line: &Line<'_>) -> Result<bool, AllocError>
+    ensures { IfOk result (λ right. right ≡ fits line.now.word.now (line_plain line.now).value) }
+{
+    match line.value {
+        None => Ok(stands_alone(line.word)),
+        Some(value) => takes(alloc, line.word, value),
+    }
+}
+
+// Whether the word of a line stands before, and may stand once.
+fn is_repeated(before: &[Line<'_>], line: &Line<'_>) -> bool
+    ensures { result ≡ is_repeated (lines_plain before.now) (line_plain line.now) }
+{
+    !line.has("dns") && stands(before, line.word)
+}
+
+// Whether a line is faulty behind these.
+fn is_faulty(alloc: Global, before: &[Line<'_>], line: &Line<'_>) -> Result<bool, AllocError>
+    ensures { IfOk result
+        (λ faulty. faulty ≡ is_faulty (lines_plain before.now) (line_plain line.now)) }
+{
+    let fits = fits(alloc, line)?;
+    Ok(!fits || is_repeated(before, line))
+}
+
+// The first of the lines of an order that is faulty itself.
+fn first_faulty(alloc: Global, lines: &[Line<'_>]) -> Result<Option<u64>, AllocError>
+    ensures { IfOk result (λ faulty. faulty ≡ first_faulty [] (lines_plain lines.now)) }
+{
+    for (index, line) in lines.iter().enumerate() {
+        if is_faulty(alloc, &lines[..index], line)? {
+            return Ok(Some(line.number));
+        }
+    }
+    Ok(None)
+}
+
+// Whether all words stand without which there is no order.
+fn is_whole(lines: &[Line<'_>]) -> bool
+    ensures { result ≡ is_whole (lines_plain lines.now) }
+{
+    stands(lines, "name")
+        && stands(lines, "from")
+        && stands(lines, "until")
+        && stands(lines, "serial")
+        && stands(lines, "key")
+}
+
+// The faulty line of an order.
+pub(crate) fn order_fault(alloc: Global, lines: &[Line<'_>]) -> Result<Option<u64>, AllocError>
+    requires { 0 < length lines.now }
+    ensures { IfOk result (λ faulty. faulty ≡ order_fault (lines_plain lines.now)) }
+{
+    let first = lines[0];
+    if first.has("order") && is_whole(lines) {
+        return first_faulty(alloc, lines);
+    }
+    Ok(Some(first.number))
+}

@@ -1,0 +1,105 @@
+//! The lines of orders files.
+ghost use Rattle.std.specs.Prelude.{◌≡◌, map, IfOk};
+ghost use Rattle.der_core_head.specs.Grammar.{plain_option};
+ghost use Rattle.cert_desk_orders.specs.OrderReading.{line_plain, lines_plain};
+ghost use Rattle.cert_desk_orders.specs.OrdersFile.{value_if, value_of};
+ghost use Rattle.cert_desk_orders.specs.OrdersFile.{has, line_of, lines_in, parts_in, stands};
+
+use std::alloc::{AllocError, Global};
+use std::str;
+
+// A line that isn't empty.
+#[derive(Clone, Copy)]
+pub(crate) struct Line<'a> {
+    // Counted from 1.
+    pub(crate) number: u64,
+    // What stands before the first blank: nothing where the line isn't UTF-8.
+    pub(crate) word: &'a str,
+    // What stands behind the first blank, if there is one.
+    pub(crate) value: Option<&'a str>,
+}
+
+impl<'a> Line<'a> {
+    // The line of these octets.
+    fn new(number: u64, octets: &'a [u8]) -> Line<'a>
+        ensures { line_plain result ≡ line_of number octets.now }
+    {
+        let Ok(text) = str::from_utf8(octets) else {
+            return Line {
+                number,
+                word: "",
+                value: None,
+            };
+        };
+        match text.split_once(' ') {
+            Some((word, value)) => Line {
+                number,
+                word,
+                value: Some(value),
+            },
+            None => Line {
+                number,
+                word: text,
+                value: None,
+            },
+        }
+    }
+
+    // Whether the line is one of this word.
+    pub(crate) fn has(&self, word: &str) -> bool
+        ensures { result ≡ has word.now (line_plain self.now) }
+    {
+        self.word == word
+    }
+
+    // The value, if the line is one of this word.
+    pub(crate) fn value_if(&self, word: &str) -> Option<&'a str>
+        ensures { plain_option (λ value. value.now) result
+            ≡ value_if word.now (line_plain self.now) }
+    {
+        if !self.has(word) {
+            return None;
+        }
+        self.value
+    }
+}
+
+// What stands between the ends of lines.
+fn parts_of(alloc: Global, octets: &[u8]) -> Result<Vec<&[u8]>, AllocError>
+    ensures { IfOk result (λ parts. map (λ part. part.now) parts.items ≡ parts_in octets.now) }
+{
+    octets.split(|octet| *octet == b'\n').collect(alloc)
+}
+
+// The lines of a file that aren't empty.
+pub(crate) fn lines_of(alloc: Global, octets: &[u8]) -> Result<Vec<Line<'_>>, AllocError>
+    ensures { IfOk result (λ lines. lines_plain lines.items ≡ lines_in octets.now) }
+{
+    let parts = parts_of(alloc, octets)?;
+    let mut lines = Vec::new(alloc);
+    let mut number: u64 = 0;
+    for part in parts.as_slice() {
+        number = number.saturating_add(1);
+        if !part.is_empty() {
+            lines.push(Line::new(number, part))?;
+        }
+    }
+    Ok(lines)
+}
+
+// Whether one of the lines is one of this word.
+pub(crate) fn stands(lines: &[Line<'_>], word: &str) -> bool
+    ensures { result ≡ stands word.now (lines_plain lines.now) }
+{
+    lines.iter().any(|line| line.has(word))
+}
+
+// The value of the first line of a word.
+pub(crate) fn value_of<'a>(lines: &[Line<'a>], word: &str) -> Option<&'a str>
+    ensures { plain_option (λ value. value.now) result ≡ value_of word.now (lines_plain lines.now) }
+{
+    let Some(line) = lines.iter().find(|line| line.has(word)) else {
+        return None;
+    };
+    line.value
+}
