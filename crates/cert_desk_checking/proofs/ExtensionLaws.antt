@@ -1,12 +1,12 @@
 -- Extensions that are looked for by their identifiers.
-use Rattle.std.proofs.Common.{◌≡◌, ℕ, zero, suc, ◌+◌, ◌-◌, ◌<◌, ◌≤◌, List, [], ◌∷◌, ◌++◌, Bool, true, false, cond, not, ◌&&◌, ◌||◌, Result, Ok, Err, length, get_or, slice_index_or, drop, take, refl, sym, ap, ◌∙◌, arith}
+use Rattle.std.proofs.Common.{◌≡◌, ℕ, zero, suc, ◌+◌, ◌-◌, ◌<◌, ◌≤◌, List, [], ◌∷◌, ◌++◌, Bool, true, false, cond, not, ◌&&◌, ◌||◌, Option, Some, None, IfSome, Result, Ok, Err, inl, inr, subst, length, get_or, slice_index_or, drop, take, refl, sym, ap, ◌∙◌, arith}
 use Rattle.std.specs.BTreeSet.{BTreeSet, Updates, contains}
 use Rattle.std.specs.Cmp.Lexicographic.{bytes_decides, nat_list_eq_equiv}
 use Rattle.std.specs.List.{list_any}
 use Rattle.std.specs.Prelude.{nat_eq, bytes_eq, IfOk}
 use Rattle.const_oid.specs.Comparing.{owned_eq}
 use Rattle.std.proofs.lemmas.List.{at_drop_more, take_rest}
-use Rattle.std.proofs.lemmas.Bool.{false_from_ne_true}
+use Rattle.std.proofs.lemmas.Bool.{cases_order, false_from_ne_true}
 use Rattle.const_oid.specs.IdentifierOctets.{arc_octets, identifier_octets}
 use Rattle.const_oid.specs.Orders.{owned_cmp, owned_cmp_ties}
 use Rattle.const_oid.proofs.EncodingLaws.{arc_octets-one}
@@ -117,3 +117,29 @@ twin_at plain xs i x lt is =
     twin_is plain xs i (i + 1) x refl lt
     ∙ ap (λ y. not (is_alone (plain y) (plain_list plain (drop (i + 1) xs)))) (sym is)
     ∙ ap (λ ys. not (is_alone (plain x) (plain_list plain ys))) (sym (take_rest xs (i + 1)))
+
+-- no twin stands from a place on before the first one, and none at the place before
+pub firsts-more : (o : Option ℕ) (es : List PlainExtension) (n : ℕ) → 0 < n → has_twin es (n - 1) ≡ false
+    → IfSome o (λ place. (other : ℕ) → n ≤ other → other < place → has_twin es other ≡ false)
+    → IfSome o (λ place. (other : ℕ) → n - 1 ≤ other → other < place → has_twin es other ≡ false)
+firsts-more None es n some here behind = tt
+firsts-more (Some place) es n some here behind = λ other above below.
+    elim (cases_order other (n - 1)) [
+      | inl e ↦ subst (λ m. has_twin es m ≡ false) (sym e) here
+      | inr (inl less) ↦ absurd (omega (arith, above, less))
+      | inr (inr more) ↦ behind other (omega (arith, some, more)) below
+    ]
+
+-- more is said of what is told
+pub some-by : {A : Type 0} {P Q : A → Type 0} (o : Option A) → IfSome o P → ((x : A) → P x → Q x) → IfSome o Q
+some-by None h f = tt
+some-by (Some x) h f = f x h
+
+-- none of the first ones, and not the next
+pub none-more : (test : ℕ → Bool) (i : ℕ) → ((other : ℕ) → other < i → test other ≡ false) → test i ≡ false → (other : ℕ) → other < i + 1 → test other ≡ false
+none-more test i before here other lt =
+    elim (cases_order other i) [
+      | inl e ↦ subst (λ n. test n ≡ false) (sym e) here
+      | inr (inl below) ↦ before other below
+      | inr (inr above) ↦ absurd (omega (arith, lt, above))
+    ]

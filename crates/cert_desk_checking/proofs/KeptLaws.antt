@@ -1,6 +1,7 @@
 -- The rules that a certificate keeps, by what was found in it and in the places before.
-use Rattle.std.proofs.Common.{◌≡◌, ℕ, ◌<◌, List, Bool, false, not, ◌&&◌, ◌||◌, Option, Some, None, slice_get, sym, ap, ◌∙◌, arith}
+use Rattle.std.proofs.Common.{◌≡◌, ℕ, ◌<◌, List, Bool, true, false, not, ◌&&◌, ◌||◌, Option, Some, None, slice_get, sym, ap, ◌∙◌, arith}
 use Rattle.std.specs.List.{list_any}
+use Rattle.std.proofs.lemmas.Bool.{both_ways}
 use Rattle.std.specs.Option.{option_map_or}
 use Rattle.x509_cert_anchors.specs.Certificates.{PlainCertificate, extensions_of}
 use Rattle.cert_desk_checking.specs.declared.findings.Findings.{Findings}
@@ -17,13 +18,21 @@ use Rattle.cert_desk_checking.specs.Weighing.{is_authority, weigh}
 use Rattle.cert_desk_checking.proofs.FoundLaws.{found_ca, found_certifies, found_malformed, found_serves, found_unweighed}
 use Rattle.cert_desk_checking.proofs.PathLaws.{within_room}
 use Rattle.cert_desk_checking.proofs.PlaceLaws.{keeps_at-is}
+use Rattle.cert_desk_checking.proofs.RuleList.{or_signature}
 
--- what was tested is what the rules say
+-- what was tested is what the rules say, the signature aside
 pub first_unsigned_by : (k : KeptRules) (t : Terms) (cs : List PlainCertificate) (stream : List ℕ) (place : ℕ) (broken : Option Rule)
-    → ((rule : Rule) → number rule < 11 → kept_by k rule ≡ keeps_at rule t cs stream place) → IsFirstOf k broken → IsFirstUnsigned t cs stream place broken
-first_unsigned_by k t cs stream place None says kept = λ rule before. sym (says rule before) ∙ kept rule
-first_unsigned_by k t cs stream place (Some rule) says first =
-    (first.0, sym (says rule first.0) ∙ first.1, λ other before. sym (says other (omega (arith, before, first.0))) ∙ first.2 other before)
+    → ((rule : Rule) → number rule < 11 → kept_by k rule ≡ keeps_at rule t cs stream place) → k.signed ≡ true → IsFirstOf k broken → IsFirstUnsigned t cs stream place broken
+first_unsigned_by k t cs stream place None says signed kept = λ rule before. sym (says rule before) ∙ kept rule
+first_unsigned_by k t cs stream place (Some rule) says signed first =
+    let unsigned = or_signature (λ r. kept_by k r ≡ false → number r < 11) (λ r before broken. before) (λ broken. absurd (both_ways _ broken signed)) rule first.0 in
+    (unsigned, sym (says rule unsigned) ∙ first.0, λ other before. sym (says other (omega (arith, before, unsigned))) ∙ first.1 other before)
+
+-- of the signature, too
+pub all_say : (k : KeptRules) (t : Terms) (cs : List PlainCertificate) (stream : List ℕ) (place : ℕ) (signed : Bool)
+    → ((rule : Rule) → number rule < 11 → kept_by k rule ≡ keeps_at rule t cs stream place) → k.signed ≡ signed → signed ≡ keeps_at rules.WrongSignature t cs stream place
+    → (rule : Rule) → kept_by k rule ≡ keeps_at rule t cs stream place
+all_say k t cs stream place signed says is so = or_signature (λ rule. kept_by k rule ≡ keeps_at rule t cs stream place) says (is ∙ so)
 
 pub tests_say : (k : KeptRules) (t : Terms) (cs : List PlainCertificate) (stream : List ℕ) (place : ℕ)
     → k.one_algorithm ≡ keeps_at rules.AlgorithmsDiffer t cs stream place → k.distinct ≡ keeps_at rules.DuplicateExtension t cs stream place
@@ -71,5 +80,5 @@ module _ (t : Terms) (cs : List PlainCertificate) (stream : List ℕ) (place : �
       ∙ sym (keeps_at-is rules.NotAuthority t cs stream place c is)
 
   pub keeps_within : (room : PathRoom) (b : Bool) → b ≡ counts t.bound cs place → IsRoom t.bound cs place room
-      → (not b || is_within 1 room.left) ≡ keeps_at rules.PathTooLong t cs stream place
+      → (not b || is_within 2 room.below) ≡ keeps_at rules.PathTooLong t cs stream place
   keeps_within room b same h = sym (within_room t.bound cs place room b (sym same) h) ∙ sym (keeps_at-is rules.PathTooLong t cs stream place c is)

@@ -27,6 +27,7 @@ pub mod RuleList
 pub mod PlaceLaws
 pub mod KeptLaws
 pub mod Outcomes
+pub mod EachPlace
 pub mod DigestOctets
 pub mod DigestLaws
 pub mod ArgumentLaws

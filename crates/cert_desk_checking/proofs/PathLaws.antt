@@ -1,8 +1,7 @@
 -- The room that path lengths leave, and the places that count behind each of them.
 use Rattle.std.proofs.Common.{◌≡◌, ℕ, zero, suc, ◌+◌, ◌-◌, ◌<◌, List, [], Bool, true, false, cond, not, ◌&&◌, ◌||◌, Option, Some, None, slice_get, refl, sym, ap, ◌∙◌, subst, arith}
 use Rattle.std.specs.List.{list_all}
-use Rattle.std.specs.Option.{is_some, option_map_or}
-use Rattle.std.proofs.lemmas.Bool.{leb-true}
+use Rattle.std.specs.Option.{is_some, option_map, option_map_or}
 use Rattle.x509_cert_anchors.specs.Certificates.{PlainCertificate, extensions_of}
 use Rattle.cert_desk_checking.specs.declared.path_room.PathRoom.{PathRoom}
 use Rattle.cert_desk_checking.specs.Findings.{IsRoom, add_place, allow, found, left_by, shorter}
@@ -37,7 +36,7 @@ keep_lengths-is bound cs (suc place) other h =
 
 -- a place that doesn't count is within the path lengths; one that does, where there is room
 pub within_room : (bound : ℕ) (cs : List PlainCertificate) (place : ℕ) (room : PathRoom) (b : Bool) → counts bound cs place ≡ b → IsRoom bound cs place room
-    → is_within_lengths bound cs place ≡ (not b || is_within 1 room.left)
+    → is_within_lengths bound cs place ≡ (not b || is_within 2 room.below)
 within_room bound cs place room false e h = ap (λ b. not b || keep_lengths bound cs place place) e
 within_room bound cs place room true e h =
     let few : suc place - place ≡ suc zero = omega arith in
@@ -49,39 +48,42 @@ within_room bound cs place room true e h =
     ∙ ap (allow bound cs place) one
     ∙ h 1
 
--- a place more, for which there is room
-within_left : (left : Option ℕ) (b : Bool) (n : ℕ) → (not b || is_within 1 left) ≡ true → is_within (cond b 1 0 + n) left ≡ is_within n (left_by left b)
-within_left None b n h = refl
-within_left (Some most) false n h = le_same (0 + n) most n (most - 0) (λ k. omega (arith, k)) (λ k. omega (arith, k))
-within_left (Some most) true n h =
-    let room = leb-true 1 most h in
-    le_same (1 + n) most n (most - 1) (λ k. omega (arith, k)) (λ k. omega (arith, k, room))
+-- a place more
+within_left : (below : Option ℕ) (b : Bool) (n : ℕ) → is_within (suc (cond b 1 0 + n)) below ≡ is_within (suc n) (left_by below b)
+within_left None b n = refl
+within_left (Some most) false n = le_same (suc (0 + n)) most (suc n) (most - 0) (λ k. omega (arith, k)) (λ k. omega (arith, k))
+within_left (Some most) true n = le_same (suc (1 + n)) most (suc n) (most - 1) (λ k. omega (arith, k)) (λ k. omega (arith, k))
+
+-- so many places are within a path length where one more is below the limit
+within_next : (n : ℕ) (p : Option ℕ) → is_within (suc n) (option_map suc p) ≡ is_within n p
+within_next n None = refl
+within_next n (Some most) = le_same (suc n) (suc most) n most (λ k. omega (arith, k)) (λ k. omega (arith, k))
 
 pub IsRoom-more : (bound : ℕ) (purpose : List ℕ) (cs : List PlainCertificate) (place : ℕ) (c : PlainCertificate) (room : PathRoom) (b : Bool) (p : Option ℕ) → slice_get cs place ≡ Some c
-    → b ≡ counts bound cs place → IsRoom bound cs place room → (not b || is_within 1 room.left) ≡ true → p ≡ (found bound purpose (extensions_of c)).path_len
+    → b ≡ counts bound cs place → IsRoom bound cs place room → p ≡ (found bound purpose (extensions_of c)).path_len
     → IsRoom bound cs (place + 1) (add_place room b p)
-IsRoom-more bound purpose cs place c room b p is same h enough e =
+IsRoom-more bound purpose cs place c room b p is same h e =
     let next : suc place ≡ place + 1 = omega arith in
     let here : extensions_of c ≡ extensions_at cs place = ap (λ o. option_map_or extensions_of o []) (sym is) in
     subst (λ n. IsRoom bound cs n (add_place room b p)) next (λ n.
     let lengths : Bool = list_all (λ e. is_within n (path_length (weigh bound e))) (extensions_at cs place) in
     ap (λ c. allow bound cs place (cond c 1 0 + n) && lengths) (sym same)
-    ∙ ap (λ c. c && lengths) (h (cond b 1 0 + n) ∙ within_left room.left b n enough)
-    ∙ ap (λ c. is_within n (left_by room.left b) && c) (sym (
-    ap (is_within n) e ∙ found_length bound purpose (extensions_of c) n ∙ ap (list_all (λ e. is_within n (path_length (weigh bound e)))) here))
-    ∙ sym (within_shorter n (left_by room.left b) p))
+    ∙ ap (λ c. c && lengths) (h (cond b 1 0 + n) ∙ within_left room.below b n)
+    ∙ ap (λ c. is_within (suc n) (left_by room.below b) && c) (sym (
+    within_next n p ∙ ap (is_within n) e ∙ found_length bound purpose (extensions_of c) n ∙ ap (list_all (λ e. is_within n (path_length (weigh bound e)))) here))
+    ∙ sym (within_shorter (suc n) (left_by room.below b) (option_map suc p)))
 
 -- where no path length is in force, it doesn't matter whether a place counts
-pub admits_any : (left : Option ℕ) (b : Bool) → (not (is_some left && b) || is_within 1 left) ≡ (not b || is_within 1 left)
+pub admits_any : (below : Option ℕ) (b : Bool) → (not (is_some below && b) || is_within 2 below) ≡ (not b || is_within 2 below)
 admits_any None b = or_yes (not b)
 admits_any (Some most) b = refl
 
-left_by_any : (left : Option ℕ) (b : Bool) → left_by left (is_some left && b) ≡ left_by left b
+left_by_any : (below : Option ℕ) (b : Bool) → left_by below (is_some below && b) ≡ left_by below b
 left_by_any None b = refl
 left_by_any (Some most) b = refl
 
-abbrev with_left : Option ℕ → PathRoom
-with_left left = record { left = left }
+abbrev with_below : Option ℕ → PathRoom
+with_below below = record { below = below }
 
-pub add_place_any : (room : PathRoom) (b : Bool) (p : Option ℕ) → add_place room (is_some room.left && b) p ≡ add_place room b p
-add_place_any room b p = ap (λ left. with_left (shorter left p)) (left_by_any room.left b)
+pub add_place_any : (room : PathRoom) (b : Bool) (p : Option ℕ) → add_place room (is_some room.below && b) p ≡ add_place room b p
+add_place_any room b p = ap (λ below. with_below (shorter below (option_map suc p))) (left_by_any room.below b)

@@ -1,9 +1,9 @@
 -- Reasons of breaches.
-use Rattle.std.proofs.Common.{◌≡◌, ℕ, zero, suc, ◌+◌, ◌-◌, ◌<◌, List, [], ◌∷◌, Bool, true, false, cond, not, ◌&&◌, ◌||◌, Option, Some, None, IfNone, IfOk, IfSome, Result, Ok, Err, IsSome, length, drop, get_or, slice_get, sym, ap, ◌∙◌, refl, subst, arith}
+use Rattle.std.proofs.Common.{◌≡◌, ℕ, zero, suc, ◌+◌, ◌-◌, ◌<◌, ◌⊎◌, List, [], ◌∷◌, Bool, true, false, cond, not, ◌&&◌, ◌||◌, Option, Some, None, IfOk, IfSome, Result, Ok, Err, IsSome, length, drop, get_or, slice_get, inl, inr, sym, ap, ◌∙◌, refl, subst, arith}
 use Rattle.std.proofs.lemmas.List.{at_drop_more}
-use Rattle.std.proofs.lemmas.Bool.{both_ways}
+use Rattle.std.proofs.lemmas.Bool.{and_left, and_right, both_ways, cases_order, false_from_ne_true, or_left, or_right}
 use Rattle.std.specs.List.{list_all, list_any}
-use Rattle.std.specs.Option.{option_map_or}
+use Rattle.std.specs.Option.{is_some, option_map_or}
 use Rattle.const_oid.specs.Bound.{Bound}
 use Rattle.der_core_head.specs.Grammar.{plain_list}
 use Rattle.x509_cert_anchors.specs.Certificates.{PlainCertificate, extensions_of}
@@ -14,11 +14,11 @@ use Rattle.cert_desk_checking.specs.declared.reason.Reason.TheVariants as reason
 use Rattle.cert_desk_checking.specs.declared.rule.Rule.{Rule}
 use Rattle.cert_desk_checking.specs.declared.rule.Rule.TheVariants as rules
 use Rattle.cert_desk_checking.specs.Findings.{found}
-use Rattle.cert_desk_checking.specs.Judging.{Terms, keeps_at}
-use Rattle.cert_desk_checking.specs.Paths.{counted, counts, extensions_at, is_last, is_within, keeps_length}
-use Rattle.cert_desk_checking.specs.Reasons.{Explains, goes_against, has_no_authority, is_against, is_at, is_explained}
+use Rattle.cert_desk_checking.specs.Judging.{Terms, are_distinct, has_twin, keeps_at}
+use Rattle.cert_desk_checking.specs.Paths.{counted, counts, extensions_at, is_last, is_within, is_within_lengths, keep_lengths, keeps_length}
+use Rattle.cert_desk_checking.specs.Reasons.{AreFirstTwins, Explains, ExplainsFirst, IsFirstAt, Precedes, are_twins, goes_against, has_no_authority, have_one_identifier, is_against, is_at, is_explained}
 use Rattle.cert_desk_checking.specs.Weighing.{is_authority, may_certify, path_length, serves, weigh}
-use Rattle.cert_desk_checking.proofs.Folds.{and_yes, or_no}
+use Rattle.cert_desk_checking.proofs.Folds.{and_yes, not_twice, or_no}
 use Rattle.cert_desk_checking.proofs.FoundLaws.{found_malformed, found_unweighed, found_serves, found_certifies, found_length}
 use Rattle.cert_desk_checking.proofs.PathLaws.{counted_first}
 use Rattle.cert_desk_checking.proofs.PlaceLaws.{keeps_at-is}
@@ -48,16 +48,6 @@ any-more {A} plain test xs i x lt is fails =
     ∙ ap (λ (y : A). test (plain y) || list_any test (plain_list plain (drop (i + 1) xs))) (sym is)
     ∙ ap (λ b. b || list_any test (plain_list plain (drop (i + 1) xs))) fails)
 
--- none fails a test, so all pass it
-all-none : {A : Type 0} (test : A → Bool) (xs : List A) → list_any (λ x. not (test x)) xs ≡ false → list_all test xs ≡ true
-all-none test [] h = refl
-all-none test (x ∷ xs) h = by (test x) h (λ k. all-none test xs k)
-  where
-    by : (b : Bool) → (not b || list_any (λ y. not (test y)) xs) ≡ false
-        → (list_any (λ y. not (test y)) xs ≡ false → list_all test xs ≡ true) → (b && list_all test xs) ≡ true
-    by true k more = more k
-    by false k more = absurd cc
-
 -- what is found in one extension alone is what that extension says
 pub against_alone : (bound : ℕ) (purpose : List ℕ) (rule : Rule) (e : PlainExtension) → goes_against (found bound purpose (e ∷ [])) rule ≡ is_against bound purpose rule e
 against_alone bound purpose rules.AlgorithmsDiffer e = refl
@@ -71,6 +61,29 @@ against_alone bound purpose rules.AgainstPurpose e = ap not (found_serves bound 
 against_alone bound purpose rules.NotAuthority e = ap not (found_certifies bound purpose (e ∷ []) ∙ sym (and_yes _))
 against_alone bound purpose rules.PathTooLong e = refl
 against_alone bound purpose rules.WrongSignature e = refl
+
+-- one that is so
+pub any-at : {A : Type 0} (test : A → Bool) (xs : List A) (i : ℕ) → is_at test xs i ≡ true → list_any test xs ≡ true
+any-at test [] i h = absurd cc
+any-at test (x ∷ xs) zero h = or_left (test x) (list_any test xs) h
+any-at test (x ∷ xs) (suc i) h = or_right (test x) (list_any test xs) (any-at test xs i h)
+
+-- one fails a test, so not all pass it
+not-both : (b c d : Bool) → c ≡ not d → (not b || c) ≡ not (b && d)
+not-both true c d e = e
+not-both false c d e = refl
+
+pub any-not : {A : Type 0} (test : A → Bool) (xs : List A) → list_any (λ x. not (test x)) xs ≡ not (list_all test xs)
+any-not test [] = refl
+any-not test (x ∷ xs) = not-both (test x) (list_any (λ y. not (test y)) xs) (list_all test xs) (any-not test xs)
+
+-- Of two extensions of one identifier the first has one behind it.
+pub twins-have : (es : List PlainExtension) (one other : ℕ) → one < other → are_twins es one other ≡ true → has_twin es one ≡ true
+twins-have [] one other lt h = absurd cc
+twins-have (e ∷ es) zero zero lt h = absurd (omega (arith, lt))
+twins-have (e ∷ es) zero (suc other) lt h = ap (λ b. not (not b)) (any-at (have_one_identifier e) es other h)
+twins-have (e ∷ es) (suc one) zero lt h = absurd (omega (arith, lt))
+twins-have (e ∷ es) (suc one) (suc other) lt h = twins-have es one other (omega (arith, lt)) h
 
 -- with one place less, behind the first
 pub counted_less : (bound : ℕ) (cs : List PlainCertificate) (before place left : ℕ) → before < place
@@ -93,70 +106,137 @@ length-found bound purpose cs before place n c es f at e is count =
     ∙ ap (λ (xs : List PlainExtension). list_all (λ x. is_within (counted bound cs (before + 1) (place - before)) (path_length (weigh bound x))) xs)
     (e ∙ ap (λ o. option_map_or extensions_of o []) (sym at))
 
--- one more is said where nothing is told
-pub none-and : {A : Type 0} {Q : Type 0} (P : Type 0) (o : Option A) → Q → IfNone o P → IfNone o (Q × P)
-none-and P None q p = (q, p)
-none-and P (Some x) q p = tt
+-- the first two of one identifier, by the first that has one behind it
+pub first-twins : {A : Type 0} (plain : A → PlainExtension) (xs : List A) (first number : ℕ) (x : A) → first < length xs → x ≡ get_or xs first x
+    → ((other : ℕ) → other < first → has_twin (plain_list plain xs) other ≡ false)
+    → IsFirstAt (have_one_identifier (plain x)) (plain_list plain (drop (first + 1) xs)) number → AreFirstTwins (plain_list plain xs) first (first + 1 + number)
+first-twins {A} plain xs first number x within is none here = (omega arith, at (first + 1 + number) ∙ sym (rest number) ∙ here.0, least)
+  where
+    at : (other : ℕ) → are_twins (plain_list plain xs) first other ≡ is_at (have_one_identifier (plain x)) (plain_list plain xs) other
+    at other = at-plain plain (λ e. is_at (have_one_identifier e) (plain_list plain xs) other) xs first x within is
 
--- Something is told where nothing can't be.
-pub told-if : {A : Type 0} {P : Type 0} (o : Option A) → IfNone o P → (P → ⊥) → IsSome o
-told-if None p never = absurd (never p)
-told-if (Some x) p never = refl
+    rest : (i : ℕ) → is_at (have_one_identifier (plain x)) (plain_list plain (drop (first + 1) xs)) i ≡ is_at (have_one_identifier (plain x)) (plain_list plain xs) (first + 1 + i)
+    rest i = at-drop plain (have_one_identifier (plain x)) (first + 1) i xs
 
--- what holds of an answer that says enough of nothing told
-pub told-where : {A E : Type 0} {P : Type 0} (F : Option A → Type 0) (r : Result (Option A) E) → IfOk r (λ o. IfNone o P)
-    → ((o : Option A) → IfNone o P → F o) → IfOk r F
-told-where F (Ok o) p f = f o p
-told-where F (Err e) p f = tt
+    least : (one other : ℕ) → one < other → (one < first) ⊎ ((one ≡ first) × (other < first + 1 + number)) → are_twins (plain_list plain xs) one other ≡ false
+    least one other lt before = false_from_ne_true _ (λ twins. elim before [
+      | inl less ↦ both_ways _ (none one less) (twins-have (plain_list plain xs) one other lt twins)
+      | inr (same, less) ↦
+          let whole : first + 1 + (other - (first + 1)) ≡ other = omega (arith, lt, same) in
+          both_ways _ (here.1 (other - (first + 1)) (omega (arith, less, lt, same)))
+          (rest (other - (first + 1)) ∙ ap (λ m. is_at (have_one_identifier (plain x)) (plain_list plain xs) m) whole ∙ sym (at other)
+          ∙ subst (λ m. are_twins (plain_list plain xs) m other ≡ true) same twins)
+    ])
 
--- an extension that is against a rule is a reason
-pub explained : {E : Type 0} (bound : ℕ) (purpose : List ℕ) (cs : List PlainCertificate) (place : ℕ) (rule : Rule) (es : List PlainExtension) (r : Result (Option Reason) E)
-    → IfOk r (λ told. IfSome told (λ reason. (number : ℕ) × (reason ≡ reasons.Extension number) × (is_at (is_against bound purpose rule) es number ≡ true)))
-    → es ≡ extensions_at cs place → IfOk r (λ told. IfSome told (Explains bound purpose cs place rule))
-explained bound purpose cs place rule es (Ok None) h e = tt
-explained bound purpose cs place rule es (Ok (Some reason)) h e =
-    subst (λ (x : Reason). Explains bound purpose cs place rule x) (sym h.1)
-    (subst (λ (xs : List PlainExtension). is_at (is_against bound purpose rule) xs h.0 ≡ true) e h.2)
-explained bound purpose cs place rule es (Err error) h e = tt
+-- a path length that is passed
+pub lengths-broken : (bound : ℕ) (cs : List PlainCertificate) (before n other : ℕ) → before < n → keeps_length bound cs before other ≡ false → keep_lengths bound cs n other ≡ false
+lengths-broken bound cs before zero other lt h = absurd (omega (arith, lt))
+lengths-broken bound cs before (suc n) other lt h =
+    elim (cases_order before n) [
+      | inl e ↦ and_right (keep_lengths bound cs n other) _ (subst (λ m. keeps_length bound cs m other ≡ false) e h)
+      | inr (inl below) ↦ and_left _ (keeps_length bound cs n other) (lengths-broken bound cs before n other below h)
+      | inr (inr above) ↦ absurd (omega (arith, lt, above))
+    ]
 
-module _ (t : Terms) (cs : List PlainCertificate) (stream : List ℕ) (place : ℕ) (c : PlainCertificate) (at : slice_get cs place ≡ Some c) (bound : t.bound ≡ Bound) where
-  -- an authority has constraints, and no extension against it
-  pub authority-lacks : (purpose : List ℕ) → keeps_at rules.NotAuthority t cs stream place ≡ false → has_no_authority Bound (extensions_of c) ≡ false
-      → list_any (is_against Bound purpose rules.NotAuthority) (extensions_of c) ≡ false → ⊥
-  authority-lacks purpose broken has none =
-      let es = extensions_of c in
-      let broken_is : (is_last cs place || (list_any (λ e. is_authority (weigh Bound e)) es && list_all (λ e. may_certify (weigh Bound e)) es)) ≡ false =
-      ap (λ (b : ℕ). is_last cs place || (list_any (λ e. is_authority (weigh b e)) es && list_all (λ e. may_certify (weigh b e)) es)) (sym bound)
-      ∙ sym (keeps_at-is rules.NotAuthority t cs stream place c at) ∙ broken in
-      by (is_last cs place) (list_any (λ e. is_authority (weigh Bound e)) es) (list_all (λ e. may_certify (weigh Bound e)) es)
-      broken_is has (all-none (λ e. may_certify (weigh Bound e)) es none)
+-- what follows of what is told
+pub is-some-by : {A : Type 0} (o : Option A) → is_some o ≡ true → IsSome o
+is-some-by None h = absurd cc
+is-some-by (Some x) h = refl
+
+pub told-where : {A E : Type 0} {b : Bool} (F : Option A → Type 0) (r : Result (Option A) E) → IfOk r (λ o. is_some o ≡ b) → ((o : Option A) → is_some o ≡ b → F o) → IfOk r F
+told-where F (Ok o) h f = f o h
+told-where F (Err e) h f = tt
+
+-- the first reason of each kind
+module _ (bound : ℕ) (purpose : List ℕ) (cs : List PlainCertificate) (place : ℕ) where
+  pub first-extension : (rule : Rule) (number : ℕ) → (rule ≡ rules.NotAuthority → has_no_authority bound (extensions_at cs place) ≡ false)
+      → IsFirstAt (is_against bound purpose rule) (extensions_at cs place) number → ExplainsFirst bound purpose cs place rule (reasons.Extension number)
+  first-extension rule number has first = (first.0, none)
     where
-      by : (last ca certifies : Bool) → (last || (ca && certifies)) ≡ false → not ca ≡ false → certifies ≡ true → ⊥
-      by true ca certifies h k l = absurd cc
-      by false true true h k l = absurd cc
-      by false true false h k l = absurd cc
-      by false false certifies h k l = absurd cc
+      none : (other : Reason) → Precedes other (reasons.Extension number) → Explains bound purpose cs place rule other → ⊥
+      none (reasons.Extension n) before h = both_ways _ (first.1 n before) h
+      none (reasons.Twins one other) before h = absurd before
+      none reasons.NoConstraints before h = both_ways _ (has h.0) h.1
+      none (reasons.PathLength n) before h = absurd before
 
-  -- an extension is against the other rules of this kind where they are broken
-  pub breaks-by : (rule : Rule) → (rule ≡ rules.DuplicateExtension → ⊥) → (rule ≡ rules.NotAuthority → ⊥) → (rule ≡ rules.PathTooLong → ⊥)
-      → is_explained rule ≡ true → keeps_at rule t cs stream place ≡ false
-      → list_any (is_against Bound t.purpose rule) (extensions_of c) ≡ false → ⊥
-  breaks-by rules.AlgorithmsDiffer d a p e broken none = absurd cc
-  breaks-by rules.DuplicateExtension d a p e broken none = d refl
-  breaks-by rules.MalformedExtension d a p e broken none =
-      let kept = keeps_at-is rules.MalformedExtension t cs stream place c at ∙ ap (λ (b : ℕ). not (list_any (is_against b t.purpose rules.MalformedExtension) (extensions_of c))) bound ∙ ap not none in
-      both_ways _ broken kept
-  breaks-by rules.UnweighedCritical d a p e broken none =
-      let kept = keeps_at-is rules.UnweighedCritical t cs stream place c at ∙ ap (λ (b : ℕ). not (list_any (is_against b t.purpose rules.UnweighedCritical) (extensions_of c))) bound ∙ ap not none in
-      both_ways _ broken kept
-  breaks-by rules.WrongIssuer d a p e broken none = absurd cc
-  breaks-by rules.NotYetValid d a p e broken none = absurd cc
-  breaks-by rules.Expired d a p e broken none = absurd cc
-  breaks-by rules.AgainstPurpose d a p e broken none =
-      let kept = keeps_at-is rules.AgainstPurpose t cs stream place c at
-      ∙ ap (λ (b : ℕ). list_all (λ e. serves t.purpose (weigh b e)) (extensions_of c)) bound
-      ∙ all-none (λ e. serves t.purpose (weigh Bound e)) (extensions_of c) none in
-      both_ways _ broken kept
-  breaks-by rules.NotAuthority d a p e broken none = a refl
-  breaks-by rules.PathTooLong d a p e broken none = p refl
-  breaks-by rules.WrongSignature d a p e broken none = absurd cc
+  pub first-pair : (first second : ℕ) → AreFirstTwins (extensions_at cs place) first second → ExplainsFirst bound purpose cs place rules.DuplicateExtension (reasons.Twins first second)
+  first-pair first second twins = ((refl, twins.0, twins.1), none)
+    where
+      none : (other : Reason) → Precedes other (reasons.Twins first second) → Explains bound purpose cs place rules.DuplicateExtension other → ⊥
+      none (reasons.Extension n) before h = absurd before
+      none (reasons.Twins one other) before h = both_ways _ (twins.2 one other h.1 before) h.2
+      none reasons.NoConstraints before h = absurd before
+      none (reasons.PathLength n) before h = absurd before
+
+  pub first-lack : has_no_authority bound (extensions_at cs place) ≡ true → ExplainsFirst bound purpose cs place rules.NotAuthority reasons.NoConstraints
+  first-lack lacks = ((refl, lacks), none)
+    where
+      none : (other : Reason) → Precedes other reasons.NoConstraints → Explains bound purpose cs place rules.NotAuthority other → ⊥
+      none (reasons.Extension n) before h = absurd before
+      none (reasons.Twins one other) before h = absurd before
+      none reasons.NoConstraints before h = absurd before
+      none (reasons.PathLength n) before h = absurd before
+
+  pub first-length : (before : ℕ) → before < place → keeps_length bound cs before place ≡ false → keep_lengths bound cs before place ≡ true
+      → ExplainsFirst bound purpose cs place rules.PathTooLong (reasons.PathLength before)
+  first-length before lt broken kept = ((refl, lt, broken), none)
+    where
+      none : (other : Reason) → Precedes other (reasons.PathLength before) → Explains bound purpose cs place rules.PathTooLong other → ⊥
+      none (reasons.Extension n) less h = absurd less
+      none (reasons.Twins one other) less h = absurd less
+      none reasons.NoConstraints less h = absurd less
+      none (reasons.PathLength n) less h = both_ways _ (lengths-broken bound cs n before place less h.2) kept
+
+-- the reason of a path that is too long
+pub length-explained : {E : Type 0} (bound : ℕ) (purpose : List ℕ) (cs : List PlainCertificate) (place : ℕ) (rule : Rule) (r : Result (Option Reason) E) → rule ≡ rules.PathTooLong
+    → IfOk r (λ told. IfSome told (λ reason. (before : ℕ) × (reason ≡ reasons.PathLength before) × (before < place) × (keeps_length bound cs before place ≡ false) × (keep_lengths bound cs before place ≡ true)))
+    → IfOk r (λ told. IfSome told (ExplainsFirst bound purpose cs place rule))
+length-explained bound purpose cs place rule (Ok None) is h = tt
+length-explained bound purpose cs place rule (Ok (Some reason)) is h =
+    subst (λ (x : Reason). ExplainsFirst bound purpose cs place rule x) (sym h.1)
+    (subst (λ (k : Rule). ExplainsFirst bound purpose cs place k (reasons.PathLength h.0)) (sym is) (first-length bound purpose cs place h.0 h.2 h.3 h.4))
+length-explained bound purpose cs place rule (Err error) is h = tt
+
+-- where a rule of this kind is broken
+module _ (t : Terms) (cs : List PlainCertificate) (stream : List ℕ) (place : ℕ) (c : PlainCertificate) (at : slice_get cs place ≡ Some c) (bound : t.bound ≡ Bound) where
+  pub broken-twins : not (are_distinct (extensions_of c)) ≡ not (keeps_at rules.DuplicateExtension t cs stream place)
+  broken-twins = ap not (sym (keeps_at-is rules.DuplicateExtension t cs stream place c at))
+
+  pub broken-malformed : list_any (is_against Bound t.purpose rules.MalformedExtension) (extensions_of c) ≡ not (keeps_at rules.MalformedExtension t cs stream place)
+  broken-malformed =
+      not_twice _ ∙ ap (λ (b : ℕ). not (not (list_any (is_against b t.purpose rules.MalformedExtension) (extensions_of c)))) (sym bound)
+      ∙ ap not (sym (keeps_at-is rules.MalformedExtension t cs stream place c at))
+
+  pub broken-unweighed : list_any (is_against Bound t.purpose rules.UnweighedCritical) (extensions_of c) ≡ not (keeps_at rules.UnweighedCritical t cs stream place)
+  broken-unweighed =
+      not_twice _ ∙ ap (λ (b : ℕ). not (not (list_any (is_against b t.purpose rules.UnweighedCritical) (extensions_of c)))) (sym bound)
+      ∙ ap not (sym (keeps_at-is rules.UnweighedCritical t cs stream place c at))
+
+  pub broken-purpose : list_any (is_against Bound t.purpose rules.AgainstPurpose) (extensions_of c) ≡ not (keeps_at rules.AgainstPurpose t cs stream place)
+  broken-purpose =
+      any-not (λ e. serves t.purpose (weigh Bound e)) (extensions_of c)
+      ∙ ap (λ (b : ℕ). not (list_all (λ e. serves t.purpose (weigh b e)) (extensions_of c))) (sym bound)
+      ∙ ap not (sym (keeps_at-is rules.AgainstPurpose t cs stream place c at))
+
+  pub broken-authority : (purpose : List ℕ) → is_last cs place ≡ false
+      → (has_no_authority Bound (extensions_of c) || list_any (is_against Bound purpose rules.NotAuthority) (extensions_of c)) ≡ not (keeps_at rules.NotAuthority t cs stream place)
+  broken-authority purpose before =
+      ap (λ b. has_no_authority Bound (extensions_of c) || b) (any-not (λ e. may_certify (weigh Bound e)) (extensions_of c))
+      ∙ not-both (list_any (λ e. is_authority (weigh Bound e)) (extensions_of c)) (not (list_all (λ e. may_certify (weigh Bound e)) (extensions_of c))) (list_all (λ e. may_certify (weigh Bound e)) (extensions_of c)) refl
+      ∙ ap (λ (b : ℕ). not (list_any (λ e. is_authority (weigh b e)) (extensions_of c) && list_all (λ e. may_certify (weigh b e)) (extensions_of c))) (sym bound)
+      ∙ ap (λ b. not (b || (list_any (λ e. is_authority (weigh t.bound e)) (extensions_of c) && list_all (λ e. may_certify (weigh t.bound e)) (extensions_of c)))) (sym before)
+      ∙ ap not (sym (keeps_at-is rules.NotAuthority t cs stream place c at))
+
+  pub kept-last : is_last cs place ≡ true → false ≡ not (keeps_at rules.NotAuthority t cs stream place)
+  kept-last last =
+      ap (λ b. not (b || (list_any (λ e. is_authority (weigh t.bound e)) (extensions_of c) && list_all (λ e. may_certify (weigh t.bound e)) (extensions_of c)))) (sym last)
+      ∙ ap not (sym (keeps_at-is rules.NotAuthority t cs stream place c at))
+
+  pub broken-length : not (is_within_lengths Bound cs place) ≡ not (keeps_at rules.PathTooLong t cs stream place)
+  broken-length = ap (λ (b : ℕ). not (is_within_lengths b cs place)) (sym bound) ∙ ap not (sym (keeps_at-is rules.PathTooLong t cs stream place c at))
+
+  pub broken-extension : (rule : Rule) → (rule ≡ rules.MalformedExtension) ⊎ ((rule ≡ rules.UnweighedCritical) ⊎ (rule ≡ rules.AgainstPurpose))
+      → list_any (is_against Bound t.purpose rule) (extensions_of c) ≡ (is_explained rule && not (keeps_at rule t cs stream place))
+  broken-extension rule (inl e) = subst (λ r. list_any (is_against Bound t.purpose r) (extensions_of c) ≡ (is_explained r && not (keeps_at r t cs stream place))) (sym e) broken-malformed
+  broken-extension rule (inr (inl e)) = subst (λ r. list_any (is_against Bound t.purpose r) (extensions_of c) ≡ (is_explained r && not (keeps_at r t cs stream place))) (sym e) broken-unweighed
+  broken-extension rule (inr (inr e)) = subst (λ r. list_any (is_against Bound t.purpose r) (extensions_of c) ≡ (is_explained r && not (keeps_at r t cs stream place))) (sym e) broken-purpose

@@ -2,6 +2,7 @@
 use Rattle.std.specs.Prelude.{◌≡◌, ℕ, zero, suc, ◌+◌, ◌-◌, List, Bool, true, false, Option, Some}
 use Rattle.std.specs.Prelude.{None, min, if◌then◌else◌, ◌&&◌, ◌||◌}
 use Rattle.std.specs.List.{fold, list_all}
+use Rattle.std.specs.Option.{option_map}
 use Rattle.x509_cert_anchors.specs.Certificates.{PlainCertificate}
 use Rattle.x509_cert_extensions.specs.Parts.{PlainExtension, is_critical}
 use Rattle.cert_desk_checking.specs.declared.findings.Findings.{Findings}
@@ -58,7 +59,7 @@ found bound purpose es = fold (add_extension bound purpose) no_findings es
 
 -- before the first place
 abbrev pub no_places : PathRoom
-no_places = record { left = None }
+no_places = record { below = None }
 
 -- what a place that counts, or doesn't, leaves
 abbrev pub left_by : Option ℕ → Bool → Option ℕ
@@ -67,7 +68,7 @@ left_by (Some n) counts = Some (n - (if counts then 1 else 0))
 
 -- behind one place more
 abbrev pub add_place : PathRoom → Bool → Option ℕ → PathRoom
-add_place room counts n = record { left = shorter (left_by room.left counts) n }
+add_place room counts n = record { below = shorter (left_by room.below counts) (option_map suc n) }
 
 -- whether the path lengths of the first places let so many places more count
 abbrev pub allow : ℕ → List PlainCertificate → ℕ → ℕ → Bool
@@ -76,6 +77,6 @@ allow bound cs (suc place) n =
     allow bound cs place ((if counts bound cs place then 1 else 0) + n)
     && list_all (λ e. is_within n (path_length (weigh bound e))) (extensions_at cs place)
 
--- the room that the places before this one leave
+-- the room that the places before this one leave: fewer places than that may count from it on
 abbrev pub IsRoom : ℕ → List PlainCertificate → ℕ → PathRoom → Type 0
-IsRoom bound cs place room = (n : ℕ) → allow bound cs place n ≡ is_within n room.left
+IsRoom bound cs place room = (n : ℕ) → allow bound cs place n ≡ is_within (suc n) room.below

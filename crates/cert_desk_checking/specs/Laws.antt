@@ -1,17 +1,21 @@
 -- What holds of every stream.
-use Rattle.std.specs.Prelude.{◌≡◌, ◌≢◌, ℕ, List, ◌++◌, Result}
+use Rattle.std.specs.Prelude.{◌≡◌, ◌≢◌, ◌<◌, ◌↔◌, ℕ, List, length, ◌++◌, true, Result}
 use Rattle.std.specs.List.{AllByRecursion}
 use Rattle.const_oid.specs.Bound.{Bound}
 use Rattle.der_core_head.specs.Shapes.{Shape, Value}
 use Rattle.x509_cert_anchors.specs.Certificates.{PlainCertificate}
 use Rattle.cert_desk_checking.specs.declared.checked.Verdict.{Verdict}
+use Rattle.cert_desk_checking.specs.declared.checked.Verdict.TheVariants as verdicts
 use Rattle.cert_desk_checking.specs.declared.fault_kind.FaultKind.{FaultKind}
 use Rattle.cert_desk_checking.specs.declared.fault_kind.FaultKind.TheVariants as kinds
 use Rattle.cert_desk_checking.specs.declared.anchor_fault.AnchorFault.{AnchorFault}
+use Rattle.cert_desk_checking.specs.declared.kept_rules.KeptRules.{KeptRules}
+use Rattle.cert_desk_checking.specs.declared.rule.Rule.{Rule}
 use Rattle.cert_desk_checking.specs.AnchorFiles.{SaysAsFile}
 use Rattle.cert_desk_checking.specs.Chains.{Chain}
 use Rattle.cert_desk_checking.specs.Faults.{SeriesFault, StreamFault}
 use Rattle.cert_desk_checking.specs.Judging.{PlainAnchor, Answers, Terms}
+use Rattle.cert_desk_checking.specs.KeptRules.{AreJudged, IsFirstBreach, kept_at}
 use Rattle.cert_desk_checking.specs.QuestionLines.{chain_lines, lines_at, questions_of_lines}
 use Rattle.cert_desk_checking.specs.Questions.{AnswerAlike, answer_on, questions_at}
 use Rattle.cert_desk_checking.specs.Questions.{under}
@@ -62,6 +66,26 @@ abbrev pub HasOneVerdict : Type 0
 HasOneVerdict =
     (t : Terms) (limit : ℕ) (stream : List ℕ) (verdict other : Verdict)
     → IsVerdict t limit stream verdict → IsVerdict t limit stream other → verdict ≡ other
+
+-- Where it is said of each place which rules its certificate keeps, the verdict refuses the first
+-- breach.
+abbrev pub RefusedAtFirstBreach : Type 0
+RefusedAtFirstBreach =
+    (t : Terms) (limit : ℕ) (cs : List PlainCertificate) (stream : List ℕ)
+    (judged : List KeptRules) (verdict : Verdict) (place : ℕ) (rule : Rule)
+    → Chain t.bound limit cs stream → AreJudged t cs stream judged
+    → IsVerdict t limit stream verdict
+    → (verdict ≡ verdicts.Refused place rule) ↔ IsFirstBreach judged place rule
+
+-- Where it is said of each place, and there is a place and no breach, the verdict trusts.
+abbrev pub TrustedWithoutBreach : Type 0
+TrustedWithoutBreach =
+    (t : Terms) (limit : ℕ) (cs : List PlainCertificate) (stream : List ℕ)
+    (judged : List KeptRules) (verdict : Verdict)
+    → Chain t.bound limit cs stream → AreJudged t cs stream judged
+    → IsVerdict t limit stream verdict
+    → (verdict ≡ verdicts.Trusted)
+    ↔ ((0 < length judged) × ((place : ℕ) (rule : Rule) → kept_at judged place rule ≡ true))
 
 -- No file of anchors says two things.
 abbrev pub HasOneAnchorFile : Type 0

@@ -7,8 +7,8 @@ pub mod Weighing
 pub mod Paths
 pub mod Findings
 pub mod Judging
-pub mod KeptRules
 pub mod Verdicts
+pub mod KeptRules
 pub mod Entries
 pub mod Headers
 pub mod Locations

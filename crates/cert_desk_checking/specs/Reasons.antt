@@ -1,5 +1,6 @@
 -- Why a certificate breaks a rule, where the rule alone leaves it open.
-use Rattle.std.specs.Prelude.{◌≡◌, ℕ, ◌<◌, ◌≤◌, List, Bool, true, false, not, slice_get}
+use Rattle.std.specs.Prelude.{◌≡◌, ℕ, ◌<◌, ◌≤◌, ◌⊎◌, List, Bool, true, false, not, slice_get}
+use Rattle.std.specs.Bool.{⊤}
 use Rattle.std.specs.List.{list_any}
 use Rattle.std.specs.Option.{option_map_or}
 use Rattle.const_oid.specs.Comparing.{owned_eq}
@@ -46,12 +47,23 @@ goes_against f rules.WrongSignature = false
 abbrev pub is_at : {A : Type 0} → (A → Bool) → List A → ℕ → Bool
 is_at test xs number = option_map_or test (slice_get xs number) false
 
+-- what stands at a number, counted from 0, is so, and nothing before it
+abbrev pub IsFirstAt : {A : Type 0} → (A → Bool) → List A → ℕ → Type 0
+IsFirstAt test xs number = (is_at test xs number ≡ true)
+    × ((other : ℕ) → other < number → is_at test xs other ≡ false)
+
 abbrev pub have_one_identifier : PlainExtension → PlainExtension → Bool
 have_one_identifier e other = owned_eq (extension_arcs e) (extension_arcs other)
 
 -- the extensions of these numbers have one identifier
 abbrev pub are_twins : List PlainExtension → ℕ → ℕ → Bool
 are_twins es first second = is_at (λ e. is_at (have_one_identifier e) es second) es first
+
+-- the two of one identifier of which the first stands first, and then the second
+abbrev pub AreFirstTwins : List PlainExtension → ℕ → ℕ → Type 0
+AreFirstTwins es first second = (first < second) × (are_twins es first second ≡ true)
+    × ((one other : ℕ) → one < other → (one < first) ⊎ ((one ≡ first) × (other < second))
+    → are_twins es one other ≡ false)
 
 -- No extension makes the subject an authority.
 abbrev pub has_no_authority : ℕ → List PlainExtension → Bool
@@ -68,6 +80,23 @@ Explains bound purpose cs place rule reasons.NoConstraints = (rule ≡ rules.Not
     × (has_no_authority bound (extensions_at cs place) ≡ true)
 Explains bound purpose cs place rule (reasons.PathLength before) =
     (rule ≡ rules.PathTooLong) × (before < place) × (keeps_length bound cs before place ≡ false)
+
+-- The order of the reasons for one breach: extensions and places as they stand; two extensions of
+-- one identifier by the one that stands before, and then by the other; that there are no
+-- constraints comes before what an extension says.
+abbrev pub Precedes : Reason → Reason → Type 0
+Precedes (reasons.Extension one) (reasons.Extension other) = one < other
+Precedes (reasons.Twins first second) (reasons.Twins other_first other_second) =
+    (first < other_first) ⊎ ((first ≡ other_first) × (second < other_second))
+Precedes reasons.NoConstraints (reasons.Extension number) = ⊤
+Precedes (reasons.PathLength one) (reasons.PathLength other) = one < other
+Precedes _ _ = ⊥
+
+-- The reason holds, and none before it.
+abbrev pub ExplainsFirst : ℕ → List ℕ → List PlainCertificate → ℕ → Rule → Reason → Type 0
+ExplainsFirst bound purpose cs place rule reason =
+    Explains bound purpose cs place rule reason
+    × ((other : Reason) → Precedes other reason → ¬ Explains bound purpose cs place rule other)
 
 -- the rules of whose breach a reason can be told
 abbrev pub is_explained : Rule → Bool

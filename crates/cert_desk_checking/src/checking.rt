@@ -1,6 +1,6 @@
 //! Streams are judged.
-ghost use Rattle.std.specs.Prelude.{◌≡◌, ◌≢◌, ℕ, ◌+◌, ◌↔◌, ◌⊎◌, List, length, map, IfOk, OnErr};
-ghost use Rattle.std.specs.Prelude.{nat_le, not, true, ◌&&◌};
+ghost use Rattle.std.specs.Prelude.{◌≡◌, ◌≢◌, ℕ, ◌+◌, ◌<◌, ◌↔◌, ◌⊎◌, List, length, map};
+ghost use Rattle.std.specs.Prelude.{IfOk, OnErr, nat_le, not, true, ◌&&◌};
 ghost use Rattle.std.specs.List.{list_any};
 ghost use Rattle.std.specs.Option.{is_some};
 ghost use Rattle.const_oid.specs.Bound.{Bound};
@@ -15,11 +15,13 @@ ghost use Rattle.cert_desk_checking.specs.Anchors.{anchor_plain, terms_of};
 ghost use Rattle.cert_desk_checking.specs.Chains.{Chain, joined};
 ghost use Rattle.cert_desk_checking.specs.Findings.{IsRoom};
 ghost use Rattle.cert_desk_checking.specs.Paths.{is_self_issued};
-ghost use Rattle.cert_desk_checking.specs.Judging.{Answers, has_one_algorithm, is_named, same_name};
+ghost use Rattle.cert_desk_checking.specs.KeptRules.{kept_by};
+ghost use Rattle.cert_desk_checking.specs.Judging.{Answers, has_one_algorithm, is_named, keeps_at};
+ghost use Rattle.cert_desk_checking.specs.Judging.{number, same_name};
 ghost use Rattle.cert_desk_checking.specs.Streams.{Reads};
 ghost use Rattle.cert_desk_checking.specs.Verdicts.{IsVerdict, Trusted, IsCounted, StopsAsking};
 ghost use Rattle.cert_desk_checking.specs.Verdicts.{accepted, asked, asked_until};
-ghost use Rattle.cert_desk_checking.specs.Places.{IsFirstUnsigned, Rises, StandsAt, asked_of};
+ghost use Rattle.cert_desk_checking.specs.Places.{Rises, StandsAt, asked_of};
 ghost use Rattle.cert_desk_checking.specs.Places.{asked_once, linked_to, signed_by, signs};
 ghost use Rattle.cert_desk_checking.specs.Weighing.{may_take_memory};
 
@@ -222,7 +224,7 @@ fn is_linked(certificate: &CertificateInner<Raw>, issuer: &Issuer<'_>) -> bool
 
 // Whether the judge says yes under the key of an anchor of the issuer's name, or of the certificate
 // before.
-fn is_signed<J: SignatureJudge>(
+pub(crate) fn is_signed<J: SignatureJudge>(
     entry: &Entry<'_>,
     issuer: &Issuer<'_>,
     judge: &mut J,
@@ -287,33 +289,36 @@ pub(crate) fn is_self_issued(certificate: &CertificateInner<Raw>) -> bool
 fn takes_room(certificate: &CertificateInner<Raw>, is_last: bool, room: &PathRoom) -> bool
     requires { IsValid (raw_certificate Bound) (certificate_plain certificate.now) }
     ensures { result
-        ≡ (is_some room.now.left
+        ≡ (is_some room.now.below
         && (not is_last && not (is_self_issued Bound (certificate_plain certificate.now)))) }
 {
     room.is_limited() && (!is_last && !is_self_issued(certificate))
 }
 
-// The first rule before the signature that a certificate breaks. Where it breaks none, the room
-// that path lengths leave is what is left behind it.
-fn first_unsigned(
+// Which rules a certificate keeps, that of its signature by what is said of it. The room that path
+// lengths leave becomes what is left behind it.
+pub(crate) fn rules_kept(
     alloc: Global,
     certificate: &CertificateInner<Raw>,
     is_last: bool,
     issuer: &Issuer<'_>,
     moment: u64,
     purpose: &ObjectIdentifier<39>,
+    signed: bool,
     room: &mut PathRoom,
-) -> Result<Option<Rule>, AllocError>
+) -> Result<KeptRules, AllocError>
     requires { IsValid (raw_certificate Bound) (certificate_plain certificate.now) }
     ensures judged { IfOk result
-        (λ broken. (cs : List PlainCertificate) (anchors : List Anchor) (place : ℕ)
+        (λ kept. (cs : List PlainCertificate) (anchors : List Anchor) (place : ℕ)
         (answers : Answers) (stream : List ℕ)
         → StandsAt cs anchors place (certificate_plain certificate.now) is_last issuer.now room.old
-        → IsFirstUnsigned (terms_of anchors moment purpose.now answers) cs stream place broken) }
+        → (rule : Rule) → number rule < number Rule.WrongSignature → kept_by kept rule
+        ≡ keeps_at rule (terms_of anchors moment purpose.now answers) cs stream place) }
+    ensures signed { IfOk result (λ kept. kept_by kept Rule.WrongSignature ≡ signed) }
     ensures room { IfOk result
-        (λ broken. (cs : List PlainCertificate) (anchors : List Anchor) (place : ℕ)
+        (λ kept. (cs : List PlainCertificate) (anchors : List Anchor) (place : ℕ)
         → StandsAt cs anchors place (certificate_plain certificate.now) is_last issuer.now room.old
-        → broken ≡ None → IsRoom Bound cs (place + 1) room.new) }
+        → IsRoom Bound cs (place + 1) room.new) }
     ensures memory { OnErr result
         (may_take_memory (extensions_of (certificate_plain certificate.now)) ≡ true) }
 {
@@ -332,9 +337,10 @@ fn first_unsigned(
         serving: findings.serves,
         issuing: findings.may_issue(is_last),
         within_lengths: room.admits(counts),
+        signed,
     };
     room.add(counts, findings.path_len);
-    Ok(kept.first_broken())
+    Ok(kept)
 }
 
 // What is said of a whole chain. The places are judged in turn, up to the first that breaks a rule:
@@ -370,16 +376,17 @@ fn check_chain<J: SignatureJudge>(
         let entry = bundle.get(place).unwrap();
         let certificate = entry.certificate;
         let is_last = place + 1 == len;
-        let broken = first_unsigned(
+        let kept = rules_kept(
             alloc,
             certificate,
             is_last,
             &issuer,
             moment,
             purpose,
+            true,
             &mut room,
         )?;
-        if let Some(rule) = broken {
+        if let Some(rule) = kept.first_broken() {
             let verdict = Verdict::Refused { place, rule };
             return Ok(Checked { verdict, calls });
         }

@@ -45,6 +45,8 @@ pub fn first_twin(alloc: Global, extensions: &[Extension]) -> Result<Option<usiz
     ensures within { IfOk result (λ twin. IfSome twin (λ place. place < length extensions.now)) }
     ensures twin { IfOk result (λ twin. IfSome twin (λ place.
         has_twin (extensions_plain extensions.now) place ≡ true)) }
+    ensures first { IfOk result (λ twin. IfSome twin (λ place. (other : ℕ) → other < place
+        → has_twin (extensions_plain extensions.now) other ≡ false)) }
     ensures memory { OnErr result (may_take_memory (extensions_plain extensions.now) ≡ true) }
 {
     if extensions.len() <= FEW {
@@ -61,6 +63,8 @@ fn first_twin_of_many(alloc: Global, extensions: &[Extension]) -> Result<Option<
     ensures within { IfOk result (λ twin. IfSome twin (λ place. place < length extensions.now)) }
     ensures twin { IfOk result (λ twin. IfSome twin (λ place.
         has_twin (extensions_plain extensions.now) place ≡ true)) }
+    ensures first { IfOk result (λ twin. IfSome twin (λ place. (other : ℕ) → other < place
+        → has_twin (extensions_plain extensions.now) other ≡ false)) }
 {
     let mut behind = BTreeSet::new(alloc);
     let mut twin = None;
@@ -78,6 +82,8 @@ fn first_twin_of_few(extensions: &[Extension]) -> Option<usize>
     ensures within { IfSome result (λ place. place < length extensions.now) }
     ensures twin { IfSome result (λ place. has_twin (extensions_plain extensions.now) place
         ≡ true) }
+    ensures first { IfSome result (λ place. (other : ℕ) → other < place
+        → has_twin (extensions_plain extensions.now) other ≡ false) }
 {
     for place in 0..extensions.len() {
         if !is_alone(&extensions[place], &extensions[place + 1..]) {

@@ -1,11 +1,12 @@
 //! Which rules a certificate keeps.
-ghost use Rattle.cert_desk_checking.specs.KeptRules.{IsFirstOf};
+ghost use Rattle.std.specs.Prelude.{◌≡◌};
+ghost use Rattle.cert_desk_checking.specs.KeptRules.{IsFirstOf, kept_by};
 
 use crate::rule::Rule;
 
-/// Which of the rules before the signature a certificate keeps at its place.
-#[derive(Clone, Copy)]
-pub(crate) struct KeptRules {
+/// Which rules a certificate keeps at its place.
+#[derive(Clone, Copy, Debug, PartialEq, Eq)]
+pub struct KeptRules {
     pub(crate) one_algorithm: bool,
     pub(crate) distinct: bool,
     pub(crate) well_formed: bool,
@@ -16,11 +17,31 @@ pub(crate) struct KeptRules {
     pub(crate) serving: bool,
     pub(crate) issuing: bool,
     pub(crate) within_lengths: bool,
+    pub(crate) signed: bool,
 }
 
 impl KeptRules {
-    /// The first rule that it breaks.
-    pub(crate) fn first_broken(&self) -> Option<Rule>
+    /// Whether it keeps a rule.
+    pub fn keeps(&self, rule: Rule) -> bool
+        ensures { result ≡ kept_by self.now rule }
+    {
+        match rule {
+            Rule::AlgorithmsDiffer => self.one_algorithm,
+            Rule::DuplicateExtension => self.distinct,
+            Rule::MalformedExtension => self.well_formed,
+            Rule::UnweighedCritical => self.known,
+            Rule::WrongIssuer => self.linked,
+            Rule::NotYetValid => self.begun,
+            Rule::Expired => self.lasting,
+            Rule::AgainstPurpose => self.serving,
+            Rule::NotAuthority => self.issuing,
+            Rule::PathTooLong => self.within_lengths,
+            Rule::WrongSignature => self.signed,
+        }
+    }
+
+    /// The first rule that it breaks, in the order in which they are judged.
+    pub fn first_broken(&self) -> Option<Rule>
         ensures { IsFirstOf self.now result }
     {
         if !self.one_algorithm {
@@ -52,6 +73,9 @@ impl KeptRules {
         }
         if !self.within_lengths {
             return Some(Rule::PathTooLong);
+        }
+        if !self.signed {
+            return Some(Rule::WrongSignature);
         }
         None
     }

@@ -6,6 +6,7 @@ ghost use Rattle.cert_desk_checking.specs.Laws.{HasOneSeries, HasOneSeriesFault,
 ghost use Rattle.cert_desk_checking.specs.Laws.{FaultHasNoChain, HasOneFault, FaultStays};
 ghost use Rattle.cert_desk_checking.specs.Laws.{HasOneVerdict, HasOneAnchorFile, IsJudgedAlike};
 ghost use Rattle.cert_desk_checking.specs.Laws.{IsJudgedByLines, QuestionsAreListed};
+ghost use Rattle.cert_desk_checking.specs.Laws.{RefusedAtFirstBreach, TrustedWithoutBreach};
 ghost use Rattle.cert_desk_checking.specs.WiderBounds.{WiderKeepsChains, NewChainsHoldLarge};
 ghost use Rattle.cert_desk_checking.specs.WiderBounds.{WiderKeepsTrust, WiderKeepsVerdicts};
 ghost use Rattle.cert_desk_checking.specs.WiderBounds.{WiderKeepsFaults};
@@ -47,6 +48,13 @@ pub fn fault_stays()
 /// No stream has two verdicts under the same terms.
 pub fn one_verdict()
     ensures { HasOneVerdict }
+{}
+
+/// The verdict on a chain is the first breach of what is said of each place: the first rule that is
+/// broken at the first place that breaks one. Where no place breaks any, it is trusted.
+pub fn first_breach_is_the_verdict()
+    ensures refused { RefusedAtFirstBreach }
+    ensures trusted { TrustedWithoutBreach }
 {}
 
 /// No file of anchors gives two lists of anchors, or has two first faults, or both.

@@ -14,6 +14,7 @@ mod checked;
 mod checking;
 mod constraints;
 mod digest_judge;
+mod each_place;
 mod entry;
 mod extensions;
 mod fault_kind;
@@ -54,8 +55,10 @@ pub use cert_desk_io::{
 pub use checked::{CheckError, Checked, Verdict};
 pub use checking::{check, is_issued_by};
 pub use digest_judge::DigestJudge;
+pub use each_place::judge_each;
 pub use entry::Entry;
 pub use fault_kind::FaultKind;
+pub use kept_rules::KeptRules;
 pub use lines::{anchors_line, verdict_line};
 pub use malformed::first_fault;
 pub use outcome::Outcome;

@@ -1,16 +1,15 @@
 //! How long a path may still get.
-ghost use Rattle.std.specs.Prelude.{◌≡◌, not, ◌||◌};
-ghost use Rattle.std.specs.Option.{is_some};
-ghost use Rattle.cert_desk_checking.specs.Findings.{add_place, no_places};
+ghost use Rattle.std.specs.Prelude.{◌≡◌, suc, not, ◌||◌};
+ghost use Rattle.std.specs.Option.{is_some, option_map};
+ghost use Rattle.cert_desk_checking.specs.Findings.{add_place, no_places, shorter};
 ghost use Rattle.cert_desk_checking.specs.Paths.{is_within};
 
-use crate::findings::shorter;
-
 /// How many places more may count, by the path lengths of those so far (RFC 5280 4.2.1.9, 6.1.4
-/// (l), (m)). Without one any number may.
+/// (l), (m)): fewer than so many. Without one any number may, and with 0 there are too many
+/// already.
 #[derive(Clone, Copy)]
 pub(crate) struct PathRoom {
-    left: Option<u8>,
+    below: Option<u16>,
 }
 
 impl PathRoom {
@@ -18,25 +17,25 @@ impl PathRoom {
     pub(crate) fn new() -> PathRoom
         ensures { result ≡ no_places }
     {
-        PathRoom { left: None }
+        PathRoom { below: None }
     }
 
     /// Whether a path length is in force, so that it matters which places count.
     pub(crate) fn is_limited(&self) -> bool
-        ensures { result ≡ is_some self.now.left }
+        ensures { result ≡ is_some self.now.below }
     {
-        self.left.is_some()
+        self.below.is_some()
     }
 
     /// Whether one place more may stand, which counts or doesn't.
     pub(crate) fn admits(&self, counts: bool) -> bool
-        ensures { result ≡ (not counts || is_within 1 self.now.left) }
+        ensures { result ≡ (not counts || is_within 2 self.now.below) }
     {
         if !counts {
             return true;
         }
-        match self.left {
-            Some(left) => 1 <= left,
+        match self.below {
+            Some(below) => 2 <= below,
             None => true,
         }
     }
@@ -45,10 +44,21 @@ impl PathRoom {
     pub(crate) fn add(&mut self, counts: bool, path_len: Option<u8>)
         ensures { self.new ≡ add_place self.old counts path_len }
     {
-        let left = match self.left {
-            Some(left) if counts => Some(left.saturating_sub(1)),
-            left => left,
+        let below = match self.below {
+            Some(below) if counts => Some(below.saturating_sub(1)),
+            below => below,
         };
-        self.left = shorter(left, path_len);
+        self.below = nearer(below, path_len);
+    }
+}
+
+// The nearer one of two limits: of places below it, and of a path length.
+fn nearer(below: Option<u16>, path_len: Option<u8>) -> Option<u16>
+    ensures { result ≡ shorter below (option_map suc path_len) }
+{
+    match (below, path_len) {
+        (below, None) => below,
+        (None, Some(most)) => Some(most as u16 + 1),
+        (Some(below), Some(most)) => Some(below.min(most as u16 + 1)),
     }
 }

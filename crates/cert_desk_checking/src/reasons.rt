@@ -1,16 +1,17 @@
 //! Reasons of breaches, found on demand.
-ghost use Rattle.std.specs.Prelude.{◌≡◌, ◌<◌, ◌≤◌, ◌+◌, ◌-◌, List, ℕ, true, false, ◌⊎◌, length};
-ghost use Rattle.std.specs.Prelude.{IfSome, IfNone, IfOk, IsSome, OnErr};
+ghost use Rattle.std.specs.Prelude.{◌≡◌, ◌<◌, ◌≤◌, ◌+◌, ◌-◌, List, ℕ, true, false, ◌⊎◌, length, not};
+ghost use Rattle.std.specs.Prelude.{IfSome, IfOk, OnErr, ◌&&◌, ◌||◌};
 ghost use Rattle.std.specs.List.{list_any};
+ghost use Rattle.std.specs.Option.{is_some};
 ghost use Rattle.const_oid.specs.Bound.{Bound};
 ghost use Rattle.x509_cert_extensions.specs.Parts.{extension_plain, extensions_plain};
 ghost use Rattle.cert_desk_checking.specs.Judging.{Terms, are_distinct, is_alone, keeps_at};
-ghost use Rattle.cert_desk_checking.specs.Paths.{counted, counts, extensions_at, keep_lengths};
-ghost use Rattle.cert_desk_checking.specs.Paths.{keeps_length};
-ghost use Rattle.cert_desk_checking.specs.Reasons.{Explains, SomeMayTakeMemory, are_twins};
-ghost use Rattle.cert_desk_checking.specs.Reasons.{goes_against, has_no_authority};
-ghost use Rattle.cert_desk_checking.specs.Reasons.{have_one_identifier};
-ghost use Rattle.cert_desk_checking.specs.Reasons.{is_against, is_at, is_explained};
+ghost use Rattle.cert_desk_checking.specs.Paths.{counted, counts, extensions_at, is_last};
+ghost use Rattle.cert_desk_checking.specs.Paths.{is_within_lengths, keep_lengths, keeps_length};
+ghost use Rattle.cert_desk_checking.specs.Reasons.{AreFirstTwins, ExplainsFirst, IsFirstAt};
+ghost use Rattle.cert_desk_checking.specs.Reasons.{SomeMayTakeMemory, goes_against};
+ghost use Rattle.cert_desk_checking.specs.Reasons.{has_no_authority, have_one_identifier};
+ghost use Rattle.cert_desk_checking.specs.Reasons.{is_against, is_explained};
 ghost use Rattle.cert_desk_checking.specs.Weighing.{may_take_memory};
 
 use crate::bundle::Bundle;
@@ -25,8 +26,10 @@ use std::alloc::{AllocError, Global};
 use std::slice;
 use x509_cert_anchors::certificates::Extension;
 
-/// Why the certificate at a place of a bundle breaks a rule, for this purpose, if the rule leaves
-/// that open and it does. It is meant for the place and the rule of a verdict.
+/// Why the certificate at a place of a bundle breaks a rule, for this purpose, where it does and
+/// the rule leaves that open. Of the reasons that hold it is the first: of extensions and places
+/// the one that stands first, of two extensions of one identifier that whose first stands first,
+/// and that there are no constraints before what an extension says.
 ///
 /// # Errors
 ///
@@ -38,14 +41,14 @@ pub fn reason_of(
     rule: Rule,
     purpose: &ObjectIdentifier<39>,
 ) -> Result<Option<Reason>, AllocError>
-    // What is told holds.
-    ensures holds { IfOk result (λ told. IfSome told
-        (Explains Bound purpose.now bundle.now.certificates place rule)) }
-    // A reason is told where the certificate breaks such a rule.
+    // A reason is told exactly where the certificate breaks such a rule.
     ensures told { IfOk result (λ told. (t : Terms) (stream : List ℕ) → t.bound ≡ Bound → t.purpose
         ≡ purpose.now
-        → is_explained rule ≡ true → keeps_at rule t bundle.now.certificates stream place ≡ false
-        → IsSome told) }
+        → is_some told
+        ≡ (is_explained rule && not (keeps_at rule t bundle.now.certificates stream place))) }
+    // The reason holds, and none before it.
+    ensures first { IfOk result (λ told. IfSome told
+        (ExplainsFirst Bound purpose.now bundle.now.certificates place rule)) }
     ensures memory { OnErr result (SomeMayTakeMemory bundle.now.certificates place) }
 {
     let Some(entry) = bundle.get(place) else {
@@ -54,9 +57,21 @@ pub fn reason_of(
     let extensions = extensions_of(entry.certificate);
     match rule {
         Rule::DuplicateExtension => twins_in(alloc, extensions),
-        Rule::NotAuthority => lack_of_authority(alloc, extensions, purpose),
+        Rule::MalformedExtension | Rule::UnweighedCritical | Rule::AgainstPurpose => {
+            extension_against(alloc, extensions, purpose, rule)
+        }
+        Rule::NotAuthority => {
+            if is_last(bundle, place) {
+                return Ok(None);
+            }
+            lack_of_authority(alloc, extensions, purpose)
+        }
         Rule::PathTooLong => exceeded_length(alloc, bundle, place, purpose),
-        _ => extension_against(alloc, extensions, purpose, rule),
+        Rule::AlgorithmsDiffer
+        | Rule::WrongIssuer
+        | Rule::NotYetValid
+        | Rule::Expired
+        | Rule::WrongSignature => Ok(None),
     }
 }
 
@@ -67,12 +82,12 @@ fn extension_against(
     purpose: &ObjectIdentifier<39>,
     rule: Rule,
 ) -> Result<Option<Reason>, AllocError>
-    ensures against { IfOk result
+    ensures told { IfOk result (λ told. is_some told
+        ≡ list_any (is_against Bound purpose.now rule) (extensions_plain extensions.now)) }
+    ensures first { IfOk result
         (λ told. IfSome told (λ reason. (number : ℕ) × (reason ≡ Reason.Extension number)
-        × (is_at (is_against Bound purpose.now rule) (extensions_plain extensions.now) number
-        ≡ true))) }
-    ensures none { IfOk result (λ told. IfNone told
-        (list_any (is_against Bound purpose.now rule) (extensions_plain extensions.now) ≡ false)) }
+        × IsFirstAt (is_against Bound purpose.now rule) (extensions_plain extensions.now)
+        number)) }
     ensures memory { OnErr result (may_take_memory (extensions_plain extensions.now) ≡ true) }
 {
     for number in 0..extensions.len() {
@@ -93,17 +108,23 @@ fn goes_against(findings: &Findings, rule: Rule) -> bool
         Rule::UnweighedCritical => findings.unweighed_critical,
         Rule::AgainstPurpose => !findings.serves,
         Rule::NotAuthority => !findings.certifies,
-        _ => false,
+        Rule::AlgorithmsDiffer
+        | Rule::DuplicateExtension
+        | Rule::WrongIssuer
+        | Rule::NotYetValid
+        | Rule::Expired
+        | Rule::PathTooLong
+        | Rule::WrongSignature => false,
     }
 }
 
-// The first extension whose identifier one behind it has, and that one.
+// The first extension whose identifier one behind it has, and the first that has it.
 fn twins_in(alloc: Global, extensions: &[Extension]) -> Result<Option<Reason>, AllocError>
-    ensures twins { IfOk result (λ told. IfSome told (λ reason. (first : ℕ) × (second : ℕ)
-        × (reason ≡ Reason.Twins first second) × (first < second)
-        × (are_twins (extensions_plain extensions.now) first second ≡ true))) }
-    ensures none { IfOk result (λ told. IfNone told
-        (are_distinct (extensions_plain extensions.now) ≡ true)) }
+    ensures told { IfOk result (λ told. is_some told
+        ≡ not (are_distinct (extensions_plain extensions.now))) }
+    ensures first { IfOk result (λ told. IfSome told (λ reason. (first : ℕ) × (second : ℕ)
+        × (reason ≡ Reason.Twins first second)
+        × AreFirstTwins (extensions_plain extensions.now) first second)) }
     ensures memory { OnErr result (may_take_memory (extensions_plain extensions.now) ≡ true) }
 {
     let Some(first) = first_twin(alloc, extensions)? else {
@@ -117,13 +138,12 @@ fn twins_in(alloc: Global, extensions: &[Extension]) -> Result<Option<Reason>, A
 
 // The first one of the others that has the identifier of the extension.
 fn twin_of(extension: &Extension, others: &[Extension]) -> Option<usize>
+    ensures told { is_some result
+        ≡ not (is_alone (extension_plain extension.now) (extensions_plain others.now)) }
     ensures within { IfSome result (λ number. number < length others.now) }
-    ensures twin { IfSome result
-        (λ number. is_at (have_one_identifier (extension_plain extension.now))
-        (extensions_plain others.now) number ≡ true) }
-    ensures none { IfNone result
-        (is_alone (extension_plain extension.now) (extensions_plain others.now)
-        ≡ true) }
+    ensures first { IfSome result
+        (IsFirstAt (have_one_identifier (extension_plain extension.now))
+        (extensions_plain others.now)) }
 {
     for number in 0..others.len() {
         if extension.extn_id == others[number].extn_id {
@@ -139,16 +159,17 @@ fn lack_of_authority(
     extensions: &[Extension],
     purpose: &ObjectIdentifier<39>,
 ) -> Result<Option<Reason>, AllocError>
-    ensures lacks { IfOk result (λ told. IfSome told (λ reason.
+    ensures told { IfOk result (λ told. is_some told
+        ≡ (has_no_authority Bound (extensions_plain extensions.now)
+        || list_any (is_against Bound purpose.now Rule.NotAuthority)
+        (extensions_plain extensions.now))) }
+    ensures first { IfOk result (λ told. IfSome told (λ reason.
         ((reason ≡ Reason.NoConstraints)
         × (has_no_authority Bound (extensions_plain extensions.now) ≡ true))
-        ⊎ ((number : ℕ) × (reason ≡ Reason.Extension number)
-        × (is_at (is_against Bound purpose.now Rule.NotAuthority) (extensions_plain extensions.now)
-        number ≡ true)))) }
-    ensures none { IfOk result
-        (λ told. IfNone told ((has_no_authority Bound (extensions_plain extensions.now) ≡ false)
-        × (list_any (is_against Bound purpose.now Rule.NotAuthority)
-        (extensions_plain extensions.now) ≡ false))) }
+        ⊎ ((has_no_authority Bound (extensions_plain extensions.now) ≡ false)
+        × (number : ℕ) × (reason ≡ Reason.Extension number)
+        × IsFirstAt (is_against Bound purpose.now Rule.NotAuthority)
+        (extensions_plain extensions.now) number))) }
     ensures memory { OnErr result (may_take_memory (extensions_plain extensions.now) ≡ true) }
 {
     let findings = findings_of(alloc, extensions, purpose)?;
@@ -159,7 +180,8 @@ fn lack_of_authority(
     Ok(against)
 }
 
-// The first place whose path length the places up to this one exceed. They are counted once.
+// The first place whose path length the places up to this one exceed, where this one counts. They
+// are counted once.
 fn exceeded_length(
     alloc: Global,
     bundle: &Bundle,
@@ -167,13 +189,17 @@ fn exceeded_length(
     purpose: &ObjectIdentifier<39>,
 ) -> Result<Option<Reason>, AllocError>
     requires within { place < length bundle.now.certificates }
-    ensures exceeds { IfOk result
+    ensures told { IfOk result (λ told. is_some told
+        ≡ not (is_within_lengths Bound bundle.now.certificates place)) }
+    ensures first { IfOk result
         (λ told. IfSome told (λ reason. (before : ℕ) × (reason ≡ Reason.PathLength before)
-        × (before < place) × (keeps_length Bound bundle.now.certificates before place ≡ false))) }
-    ensures none { IfOk result (λ told. IfNone told
-        (keep_lengths Bound bundle.now.certificates place place ≡ true)) }
+        × (before < place) × (keeps_length Bound bundle.now.certificates before place ≡ false)
+        × (keep_lengths Bound bundle.now.certificates before place ≡ true))) }
     ensures memory { OnErr result (SomeMayTakeMemory bundle.now.certificates place) }
 {
+    if !counts(bundle, place) {
+        return Ok(None);
+    }
     let mut left = counted_behind(bundle, 0, place);
     for before in 0..place {
         if !keeps_length(alloc, bundle, before, left, purpose)? {
@@ -231,7 +257,14 @@ fn counts(bundle: &Bundle, place: usize) -> bool
     ensures { result ≡ counts Bound bundle.now.certificates place }
 {
     let certificate = bundle.get(place).unwrap().certificate;
+    !is_last(bundle, place) && !is_self_issued(certificate)
+}
+
+// Whether no place stands behind it.
+fn is_last(bundle: &Bundle, place: usize) -> bool
+    requires within { place < length bundle.now.certificates }
+    ensures { result ≡ is_last bundle.now.certificates place }
+{
     let len = bundle.len();
-    let is_last = place + 1 == len;
-    !is_last && !is_self_issued(certificate)
+    place + 1 == len
 }

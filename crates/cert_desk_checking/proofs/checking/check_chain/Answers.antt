@@ -10,6 +10,7 @@ use Rattle.cert_desk_checking.specs.Places.{IsFirstUnsigned, IsIssuer, asked_of}
 use Rattle.cert_desk_checking.specs.Verdicts.{all_kept_below, asked_below, asked_signature}
 use Rattle.cert_desk_checking.proofs.Counts.{Rises-by, Rises-more}
 use Rattle.cert_desk_checking.proofs.Encodings.{signed_part-is}
+use Rattle.cert_desk_checking.proofs.KeptLaws.{first_unsigned_by}
 use Rattle.cert_desk_checking.proofs.MemoryLaws.{takes_at}
 use Rattle.cert_desk_checking.proofs.Outcomes.{asked-is, asked_signed, asked_unsigned, asks_signature, OnErr-by, kept_below-more, refused_at, stops_at, trusted_by}
 use Rattle.cert_desk_checking.proofs.PlaceLaws.{asked_at, entry_at, stands, told_at}
@@ -26,7 +27,7 @@ returns-in-Some-clause-judged g c = λ stream chain.
     let within : place < length cs = omega arith in
     let entry = entry_at _ _ _ _ _ c.get.ensures.entry c.unwrap-entry.ensures in
     let at = stands cs c.args.anchors.now place c.unwrap-entry.result c.len-len.result c.loop-place.issuer c.loop-place.room entry c.len-len.ensures inv.issuer inv.room in
-    let broken = subst (IsFirstUnsigned t cs s place) c.in-Some.is (c.in_ok-broken.ensures.judged cs c.args.anchors.now place answers s at) in
+    let broken = subst (IsFirstUnsigned t cs s place) c.in-Some.is (first_unsigned_by _ t cs s place _ (c.in_ok-kept.ensures.judged cs c.args.anchors.now place answers s at) c.in_ok-kept.ensures.signed c.first_broken.ensures) in
     refused_at t c.args.bundle.now.limit cs place c.in-Some.rule stream chain within inv.judged broken.1 broken.2
 
 pub returns-in-Some-clause-counted : goal.returns-in-Some-clause-counted
@@ -40,7 +41,7 @@ returns-in-Some-clause-counted g c =
     let within : place < length cs = omega arith in
     let entry = entry_at _ _ _ _ _ c.get.ensures.entry c.unwrap-entry.ensures in
     let at = stands cs c.args.anchors.now place c.unwrap-entry.result c.len-len.result c.loop-place.issuer c.loop-place.room entry c.len-len.ensures inv.issuer inv.room in
-    let broken = subst (IsFirstUnsigned t cs s place) c.in-Some.is (c.in_ok-broken.ensures.judged cs c.args.anchors.now place answers s at) in
+    let broken = subst (IsFirstUnsigned t cs s place) c.in-Some.is (first_unsigned_by _ t cs s place _ (c.in_ok-kept.ensures.judged cs c.args.anchors.now place answers s at) c.in_ok-kept.ensures.signed c.first_broken.ensures) in
     Rises-by _ _ _ _ _ _ (asked_unsigned t cs s place c.in-Some.rule within broken) inv.counted
 
 pub returns-then-not-is_signed-clause-judged : goal.returns-then-not-is_signed-clause-judged
@@ -54,7 +55,7 @@ returns-then-not-is_signed-clause-judged g c = λ stream chain.
     let within : place < length cs = omega arith in
     let entry = entry_at _ _ _ _ _ c.get.ensures.entry c.unwrap-entry.ensures in
     let at = stands cs c.args.anchors.now place c.unwrap-entry.result c.len-len.result c.loop-place.issuer c.loop-place.room entry c.len-len.ensures inv.issuer inv.room in
-    let kept = subst (IsFirstUnsigned t cs s place) c.in_default.is (c.in_ok-broken.ensures.judged cs c.args.anchors.now place answers s at) in
+    let kept = subst (IsFirstUnsigned t cs s place) c.in_default.is (first_unsigned_by _ t cs s place _ (c.in_ok-kept.ensures.judged cs c.args.anchors.now place answers s at) c.in_ok-kept.ensures.signed c.first_broken.ensures) in
     let this = certificate_plain c.unwrap-entry.result.certificate.now in
     let octets = entry.signed ∙ sym (signed_part-is Bound cs place this entry.certificate) in
     let signed = told_at c.args.anchors.now c.args.moment c.args.purpose.now answers cs s this place c.loop-place.issuer _ _ _ _ inv.issuer entry.certificate octets inv.kept c.is_signed.ensures.answered c.if-not-is_signed.true in
@@ -71,7 +72,7 @@ returns-then-not-is_signed-clause-counted g c =
     let within : place < length cs = omega arith in
     let entry = entry_at _ _ _ _ _ c.get.ensures.entry c.unwrap-entry.ensures in
     let at = stands cs c.args.anchors.now place c.unwrap-entry.result c.len-len.result c.loop-place.issuer c.loop-place.room entry c.len-len.ensures inv.issuer inv.room in
-    let kept = subst (IsFirstUnsigned t cs s place) c.in_default.is (c.in_ok-broken.ensures.judged cs c.args.anchors.now place answers s at) in
+    let kept = subst (IsFirstUnsigned t cs s place) c.in_default.is (first_unsigned_by _ t cs s place _ (c.in_ok-kept.ensures.judged cs c.args.anchors.now place answers s at) c.in_ok-kept.ensures.signed c.first_broken.ensures) in
     let this = certificate_plain c.unwrap-entry.result.certificate.now in
     let octets = entry.signed ∙ sym (signed_part-is Bound cs place this entry.certificate) in
     let signed = told_at c.args.anchors.now c.args.moment c.args.purpose.now answers cs s this place c.loop-place.issuer _ _ _ _ inv.issuer entry.certificate octets inv.kept c.is_signed.ensures.answered c.if-not-is_signed.true in
@@ -92,7 +93,7 @@ loop-place-preserved g c =
     let within : place < length cs = omega arith in
     let entry = entry_at _ _ _ _ _ c.get.ensures.entry c.unwrap-entry.ensures in
     let at = stands cs c.args.anchors.now place c.unwrap-entry.result c.len-len.result c.loop-place.issuer c.loop-place.room entry c.len-len.ensures inv.issuer inv.room in
-    let kept = subst (IsFirstUnsigned t cs s place) c.in_default.is (c.in_ok-broken.ensures.judged cs c.args.anchors.now place answers s at) in
+    let kept = subst (IsFirstUnsigned t cs s place) c.in_default.is (first_unsigned_by _ t cs s place _ (c.in_ok-kept.ensures.judged cs c.args.anchors.now place answers s at) c.in_ok-kept.ensures.signed c.first_broken.ensures) in
     let this = certificate_plain c.unwrap-entry.result.certificate.now in
     let octets = entry.signed ∙ sym (signed_part-is Bound cs place this entry.certificate) in
     let signed = told_at c.args.anchors.now c.args.moment c.args.purpose.now answers cs s this place c.loop-place.issuer _ _ _ _ inv.issuer entry.certificate octets inv.kept c.is_signed.ensures.answered c.if-not-is_signed.false in
@@ -104,7 +105,7 @@ loop-place-preserved g c =
     record {
       kept = c.is_signed.ensures.kept ∙ inv.kept;
       issuer = subst (λ (n : ℕ). IsIssuer cs c.args.anchors.now n (issuers.Before c.unwrap-entry.result.certificate)) next entry.certificate;
-      room = c.in_ok-broken.ensures.room cs c.args.anchors.now place at c.in_default.is;
+      room = c.in_ok-kept.ensures.room cs c.args.anchors.now place at;
       judged = subst (λ (n : ℕ). all_kept_below t cs s n ≡ true) next (kept_below-more t cs s place inv.judged kept signed);
       counted = Rises-by _ _ _ _ _ _ (ap (asked_below t cs s) next) counted;
     }
@@ -140,13 +141,13 @@ returns-else-len-eq0-clause-counted g c =
     let end : c.loop-place.place ≡ length cs = omega arith in
     Rises-by _ _ _ _ _ _ (ap (asked_below t cs s) end ∙ asked-is t cs s) inv.counted
 
-pub returns-in_err-broken-clause-stopped : goal.returns-in_err-broken-clause-stopped
-returns-in_err-broken-clause-stopped g c =
+pub returns-in_err-kept-clause-stopped : goal.returns-in_err-kept-clause-stopped
+returns-in_err-kept-clause-stopped g c =
     let answers = g.J.SignatureJudge.answers c.args.judge.now in
     let t = terms_of c.args.anchors.now c.args.moment c.args.purpose.now answers in
     let cs = c.args.bundle.now.certificates in
     let inv = c.loop-place.invariant in
     let within : c.loop-place.place < length cs = omega arith in
     let entry = entry_at _ _ _ _ _ c.get.ensures.entry c.unwrap-entry.ensures in
-    let takes = takes_at cs c.loop-place.place _ _ entry.certificate refl c.in_err-broken.ensures.memory in
+    let takes = takes_at cs c.loop-place.place _ _ entry.certificate refl c.in_err-kept.ensures.memory in
     OnErr-by c.from_residual.result _ (λ stream chain. stops_at t c.args.bundle.now.limit cs c.loop-place.place stream _ _ chain within takes inv.judged inv.counted.questions)

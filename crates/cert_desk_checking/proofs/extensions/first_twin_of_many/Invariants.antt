@@ -1,5 +1,5 @@
 -- The set has the identifiers of the extensions so far, and the answer is that of these.
-use Rattle.std.proofs.Common.{◌≡◌, ◌<◌, ℕ, List, length, true, not, drop, IfSome}
+use Rattle.std.proofs.Common.{◌≡◌, ◌<◌, ◌≤◌, ℕ, List, length, true, false, not, drop, IfSome}
 use Rattle.std.specs.BTreeSet.{contains}
 use Rattle.std.specs.List.{list_any}
 use Rattle.std.specs.Option.{is_some}
@@ -13,4 +13,5 @@ abbrev pub invariant-loop-place : goal.invariant-loop-place
 invariant-loop-place l = (not (is_some l.twin) ≡ are_distinct (extensions_plain (drop l.place l.extensions)))
     × IfSome l.twin (λ place. place < length l.extensions)
     × IfSome l.twin (λ place. has_twin (extensions_plain l.extensions) place ≡ true)
+    × IfSome l.twin (λ place. (other : ℕ) → l.place ≤ other → other < place → has_twin (extensions_plain l.extensions) other ≡ false)
     × ((q : List ℕ) → contains owned_cmp l.behind q ≡ list_any (λ e. owned_eq q (extension_arcs e)) (extensions_plain (drop l.place l.extensions)))

@@ -1,9 +1,9 @@
-use Rattle.std.proofs.Common.{◌≡◌, ℕ, Bool, ◌+◌, ◌-◌, suc, true, cond, ◌&&◌, sym, ap, ◌∙◌, arith}
+use Rattle.std.proofs.Common.{◌≡◌, ℕ, Bool, ◌+◌, ◌-◌, suc, true, false, cond, not, ◌&&◌, ◌||◌, sym, ap, ◌∙◌, arith}
 use Rattle.const_oid.specs.Bound.{Bound}
-use Rattle.cert_desk_checking.specs.Paths.{counted, counts, keep_lengths, keeps_length}
+use Rattle.cert_desk_checking.specs.Paths.{counts, keep_lengths, keeps_length}
 use Rattle.cert_desk_checking.specs.Reasons.{SomeMayTakeMemory}
 use Rattle.cert_desk_checking.proofs.Outcomes.{OnErr-by}
-use Rattle.cert_desk_checking.proofs.ReasonLaws.{counted_less}
+use Rattle.cert_desk_checking.proofs.ReasonLaws.{counted_less, lengths-broken}
 use Rattle.cert_desk_checking.proofs.reasons.exceeded_length.Goals as goal
 use Rattle.cert_desk_checking.proofs.reasons.exceeded_length.Goals.{then-counts, else-counts}
 
@@ -11,7 +11,7 @@ pub overflow_sub-left : goal.overflow_sub-left
 overflow_sub-left c =
     let cs = c.args.bundle.now.certificates in
     let less = counted_less Bound cs c.loop-before.before c.args.place c.loop-before.left c.loop-before-test.true c.loop-before.invariant.left in
-    let one : ◌≡◌ {A = ℕ} (cond (counts Bound cs (c.loop-before.before + 1)) 1 0) 1 = ap (λ (b : Bool). cond b 1 0) (sym c.counts.ensures ∙ c.if-counts.true) in
+    let one : ◌≡◌ {A = ℕ} (cond (counts Bound cs (c.loop-before.before + 1)) 1 0) 1 = ap (λ (b : Bool). cond b 1 0) (sym c.counts-in-loop-before.ensures ∙ c.if-counts.true) in
     omega (arith, less, one)
 
 pub loop-before-preserved : goal.loop-before-preserved
@@ -26,13 +26,21 @@ loop-before-preserved c =
       kept = ap (λ (n : ℕ). keep_lengths Bound cs n place) next ∙ ap (λ (b : Bool). b && keeps_length Bound cs before place) c.loop-before.invariant.kept ∙ here;
       left = elim c.if-counts.branch [
         | then-counts w ↦
-            let one : ◌≡◌ {A = ℕ} (cond (counts Bound cs (before + 1)) 1 0) 1 = ap (λ (b : Bool). cond b 1 0) (sym c.counts.ensures ∙ w.if-counts.true) in
+            let one : ◌≡◌ {A = ℕ} (cond (counts Bound cs (before + 1)) 1 0) 1 = ap (λ (b : Bool). cond b 1 0) (sym c.counts-in-loop-before.ensures ∙ w.if-counts.true) in
             omega (arith, less, one, w.left-is)
         | else-counts w ↦
-            let none : ◌≡◌ {A = ℕ} (cond (counts Bound cs (before + 1)) 1 0) 0 = ap (λ (b : Bool). cond b 1 0) (sym c.counts.ensures ∙ w.if-counts.false) in
+            let none : ◌≡◌ {A = ℕ} (cond (counts Bound cs (before + 1)) 1 0) 0 = ap (λ (b : Bool). cond b 1 0) (sym c.counts-in-loop-before.ensures ∙ w.if-counts.false) in
             omega (arith, less, none, w.left-is)
       ];
     }
+
+pub returns-then-not-branch-clause-told : goal.returns-then-not-branch-clause-told
+returns-then-not-branch-clause-told c =
+    let cs = c.args.bundle.now.certificates in
+    let place = c.args.place in
+    let broken : keeps_length Bound cs c.loop-before.before place ≡ false = sym (c.in_ok-keeps_length.ensures.kept place c.loop-before.invariant.left) ∙ c.if-not-branch.true in
+    ap not (sym (lengths-broken Bound cs c.loop-before.before place place (omega (arith, c.loop-before-test.true)) broken))
+    ∙ ap (λ b. not (not b || keep_lengths Bound cs place place)) c.if-not-counts.ensures
 
 pub returns-in_err-keeps_length-clause-memory : goal.returns-in_err-keeps_length-clause-memory
 returns-in_err-keeps_length-clause-memory c =

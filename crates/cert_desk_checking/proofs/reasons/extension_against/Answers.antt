@@ -1,33 +1,45 @@
-use Rattle.std.proofs.Common.{List, ap, refl, sym, ◌∙◌, ◌∷◌, [], arith}
+use Rattle.std.proofs.Common.{ap, refl, sym, ◌∙◌, arith}
 use Rattle.const_oid.specs.Bound.{Bound}
 use Rattle.x509_cert_extensions.specs.Parts.{extension_plain, extensions_plain}
 use Rattle.cert_desk_checking.specs.Findings.{found}
-use Rattle.cert_desk_checking.specs.Reasons.{goes_against, is_against}
+use Rattle.cert_desk_checking.specs.Reasons.{goes_against, is_against, is_at}
 use Rattle.cert_desk_checking.specs.Weighing.{may_take_memory}
+use Rattle.cert_desk_checking.proofs.ExtensionLaws.{none-more}
 use Rattle.cert_desk_checking.proofs.MemoryLaws.{alone_takes, one_takes}
 use Rattle.cert_desk_checking.proofs.Outcomes.{OnErr-by}
-use Rattle.cert_desk_checking.proofs.ReasonLaws.{against_alone, any-more, at-plain}
+use Rattle.cert_desk_checking.proofs.ReasonLaws.{against_alone, any-at, any-more, at-plain}
 use Rattle.cert_desk_checking.proofs.reasons.extension_against.Goals as goal
 
-pub returns-then-goes_against-clause-against : goal.returns-then-goes_against-clause-against
-returns-then-goes_against-clause-against c =
+pub returns-then-goes_against-clause-told : goal.returns-then-goes_against-clause-told
+returns-then-goes_against-clause-told c =
     let x = c.index-extensions-number.result in
     let alone = c.in_ok-findings.ensures.found ∙ ap (λ es. found Bound c.args.purpose.now (extensions_plain es)) c.from_ref.ensures.value in
-    let against = ap (λ f. goes_against f c.args.rule) (sym alone) in (
-      c.loop-number.number,
-      refl,
-      at-plain extension_plain (is_against Bound c.args.purpose.now c.args.rule) c.args.extensions.now c.loop-number.number x (omega arith) c.index-extensions-number.is
-          ∙ sym (against_alone Bound c.args.purpose.now c.args.rule (extension_plain x)) ∙ against ∙ sym c.goes_against.ensures ∙ c.if-goes_against.true,
-    )
+    let against = ap (λ f. goes_against f c.args.rule) (sym alone) in
+    let here = at-plain extension_plain (is_against Bound c.args.purpose.now c.args.rule) c.args.extensions.now c.loop-number.number x (omega arith) c.index-extensions-number.is
+    ∙ sym (against_alone Bound c.args.purpose.now c.args.rule (extension_plain x)) ∙ against ∙ sym c.goes_against.ensures ∙ c.if-goes_against.true in
+    sym (any-at (is_against Bound c.args.purpose.now c.args.rule) (extensions_plain c.args.extensions.now) c.loop-number.number here)
+
+pub returns-then-goes_against-clause-first : goal.returns-then-goes_against-clause-first
+returns-then-goes_against-clause-first c =
+    let x = c.index-extensions-number.result in
+    let alone = c.in_ok-findings.ensures.found ∙ ap (λ es. found Bound c.args.purpose.now (extensions_plain es)) c.from_ref.ensures.value in
+    let against = ap (λ f. goes_against f c.args.rule) (sym alone) in
+    let here = at-plain extension_plain (is_against Bound c.args.purpose.now c.args.rule) c.args.extensions.now c.loop-number.number x (omega arith) c.index-extensions-number.is
+    ∙ sym (against_alone Bound c.args.purpose.now c.args.rule (extension_plain x)) ∙ against ∙ sym c.goes_against.ensures ∙ c.if-goes_against.true in
+    (c.loop-number.number, refl, (here, c.loop-number.invariant.none))
 
 pub loop-number-preserved : goal.loop-number-preserved
 loop-number-preserved c =
     let x = c.index-extensions-number.result in
+    let test = is_against Bound c.args.purpose.now c.args.rule in
     let alone = c.in_ok-findings.ensures.found ∙ ap (λ es. found Bound c.args.purpose.now (extensions_plain es)) c.from_ref.ensures.value in
     let against = ap (λ f. goes_against f c.args.rule) (sym alone) in
-    any-more extension_plain (is_against Bound c.args.purpose.now c.args.rule) c.args.extensions.now c.loop-number.number x (omega arith) c.index-extensions-number.is
-    (sym (against_alone Bound c.args.purpose.now c.args.rule (extension_plain x)) ∙ against ∙ sym c.goes_against.ensures ∙ c.if-goes_against.false)
-    ∙ c.loop-number.invariant
+    let fails = sym (against_alone Bound c.args.purpose.now c.args.rule (extension_plain x)) ∙ against ∙ sym c.goes_against.ensures ∙ c.if-goes_against.false in
+    record {
+      none = none-more (is_at test (extensions_plain c.args.extensions.now)) c.loop-number.number c.loop-number.invariant.none
+          (at-plain extension_plain test c.args.extensions.now c.loop-number.number x (omega arith) c.index-extensions-number.is ∙ fails);
+      rest = any-more extension_plain test c.args.extensions.now c.loop-number.number x (omega arith) c.index-extensions-number.is fails ∙ c.loop-number.invariant.rest;
+    }
 
 pub returns-in_err-findings-clause-memory : goal.returns-in_err-findings-clause-memory
 returns-in_err-findings-clause-memory c =

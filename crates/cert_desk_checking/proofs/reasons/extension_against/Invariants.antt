@@ -1,11 +1,13 @@
 -- No extension so far breaks the rule: the answer is that of those that are left.
-use Rattle.std.proofs.Common.{◌≡◌, drop}
+use Rattle.std.proofs.Common.{◌≡◌, ◌<◌, ℕ, drop, false}
 use Rattle.std.specs.List.{list_any}
 use Rattle.const_oid.specs.Bound.{Bound}
 use Rattle.x509_cert_extensions.specs.Parts.{extensions_plain}
-use Rattle.cert_desk_checking.specs.Reasons.{is_against}
+use Rattle.cert_desk_checking.specs.Reasons.{is_against, is_at}
 use Rattle.cert_desk_checking.proofs.reasons.extension_against.Given as goal
 
 abbrev pub invariant-loop-number : goal.invariant-loop-number
-invariant-loop-number l =
-    list_any (is_against Bound l.purpose l.rule) (extensions_plain (drop l.number l.extensions)) ≡ list_any (is_against Bound l.purpose l.rule) (extensions_plain l.extensions)
+invariant-loop-number l = record {
+  none : (other : ℕ) → other < l.number → is_at (is_against Bound l.purpose l.rule) (extensions_plain l.extensions) other ≡ false;
+  rest : list_any (is_against Bound l.purpose l.rule) (extensions_plain (drop l.number l.extensions)) ≡ list_any (is_against Bound l.purpose l.rule) (extensions_plain l.extensions);
+}

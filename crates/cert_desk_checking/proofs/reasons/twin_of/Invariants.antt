@@ -1,8 +1,12 @@
 -- No extension so far has the identifier: the answer is that of those that are left.
-use Rattle.std.proofs.Common.{◌≡◌, drop}
+use Rattle.std.proofs.Common.{◌≡◌, ◌<◌, ℕ, drop, false}
 use Rattle.x509_cert_extensions.specs.Parts.{extension_plain, extensions_plain}
 use Rattle.cert_desk_checking.specs.Judging.{is_alone}
+use Rattle.cert_desk_checking.specs.Reasons.{have_one_identifier, is_at}
 use Rattle.cert_desk_checking.proofs.reasons.twin_of.Given as goal
 
 abbrev pub invariant-loop-number : goal.invariant-loop-number
-invariant-loop-number l = is_alone (extension_plain l.extension) (extensions_plain (drop l.number l.others)) ≡ is_alone (extension_plain l.extension) (extensions_plain l.others)
+invariant-loop-number l = record {
+  none : (other : ℕ) → other < l.number → is_at (have_one_identifier (extension_plain l.extension)) (extensions_plain l.others) other ≡ false;
+  rest : is_alone (extension_plain l.extension) (extensions_plain (drop l.number l.others)) ≡ is_alone (extension_plain l.extension) (extensions_plain l.others);
+}

@@ -7,26 +7,24 @@ use Rattle.cert_desk_checking.specs.declared.rule.Rule.TheVariants as rules
 use Rattle.cert_desk_checking.specs.Anchors.{terms_of}
 use Rattle.cert_desk_checking.specs.Findings.{IsRoom, add_place, found}
 use Rattle.cert_desk_checking.specs.Judging.{are_distinct}
-use Rattle.cert_desk_checking.specs.KeptRules.{IsFirstOf}
 use Rattle.cert_desk_checking.specs.Paths.{counts, is_self_issued, is_within}
 use Rattle.cert_desk_checking.specs.Weighing.{may_take_memory}
 use Rattle.cert_desk_checking.proofs.Folds.{not_twice}
-use Rattle.cert_desk_checking.proofs.KeptLaws.{counts-is, first_unsigned_by, keeps_issuing, keeps_known, keeps_serving, keeps_well_formed, keeps_within, tests_say}
+use Rattle.cert_desk_checking.proofs.KeptLaws.{counts-is, keeps_issuing, keeps_known, keeps_serving, keeps_well_formed, keeps_within, tests_say}
 use Rattle.cert_desk_checking.proofs.Outcomes.{OnErr-by}
 use Rattle.cert_desk_checking.proofs.PathLaws.{IsRoom-more, add_place_any, admits_any}
 use Rattle.cert_desk_checking.proofs.PlaceLaws.{keeps_at-is, linked_at}
-use Rattle.cert_desk_checking.proofs.checking.first_unsigned.Goals as goal
+use Rattle.cert_desk_checking.proofs.checking.rules_kept.Goals as goal
 
 pub returns-clause-judged : goal.returns-clause-judged
 returns-clause-judged c = λ cs anchors place answers stream at.
     let t = terms_of anchors c.args.moment c.args.purpose.now answers in
     let this = certificate_plain c.args.certificate.now in
     let gathered = c.in_ok-findings.ensures.found ∙ ap (λ (es : List PlainExtension). found Bound c.args.purpose.now es) c.extensions_of-extensions.ensures in
-    let left = c.args.room.now.left in
+    let below = c.args.room.now.below in
     let known = ap (λ b. not b && not (is_self_issued Bound this)) at.last_is ∙ sym (counts-is Bound cs place this at.certificate) in
-    let takes = c.takes_room-counts.ensures ∙ ap (λ b. is_some left && b) known in
-    first_unsigned_by _ t cs stream place c.first_broken.result
-    (tests_say _ t cs stream place
+    let takes = c.takes_room-counts.ensures ∙ ap (λ b. is_some below && b) known in
+    tests_say _ t cs stream place
     (c.has_one_algorithm.ensures ∙ sym (keeps_at-is rules.AlgorithmsDiffer t cs stream place this at.certificate))
     (not_twice c.is_none.result ∙ ap not (sym c.is_none.ensures) ∙ c.in_ok-twin.ensures.distinct ∙ ap are_distinct c.extensions_of-extensions.ensures ∙ sym (keeps_at-is rules.DuplicateExtension t cs stream place this at.certificate))
     (keeps_well_formed t cs stream place this at.certificate _ gathered)
@@ -36,22 +34,18 @@ returns-clause-judged c = λ cs anchors place answers stream at.
     (c.lasts.ensures ∙ sym (keeps_at-is rules.Expired t cs stream place this at.certificate))
     (keeps_serving t cs stream place this at.certificate _ gathered)
     (c.may_issue.ensures ∙ ap (λ b. b || (c.in_ok-findings.findings.ca && c.in_ok-findings.findings.certifies)) at.last_is ∙ keeps_issuing t cs stream place this at.certificate _ gathered)
-    (c.admits.ensures ∙ ap (λ b. not b || is_within 1 left) takes ∙ admits_any left (counts Bound cs place)
-    ∙ keeps_within t cs stream place this at.certificate _ gathered c.args.room.now (counts Bound cs place) refl at.room))
-    c.first_broken.ensures
+    (c.admits.ensures ∙ ap (λ b. not b || is_within 2 below) takes ∙ admits_any below (counts Bound cs place)
+    ∙ keeps_within t cs stream place this at.certificate _ gathered c.args.room.now (counts Bound cs place) refl at.room)
 
 pub returns-clause-room : goal.returns-clause-room
-returns-clause-room c = λ cs anchors place at none.
+returns-clause-room c = λ cs anchors place at.
     let this = certificate_plain c.args.certificate.now in
     let gathered = c.in_ok-findings.ensures.found ∙ ap (λ (es : List PlainExtension). found Bound c.args.purpose.now es) c.extensions_of-extensions.ensures in
-    let left = c.args.room.now.left in
     let known = ap (λ b. not b && not (is_self_issued Bound this)) at.last_is ∙ sym (counts-is Bound cs place this at.certificate) in
-    let takes = c.takes_room-counts.ensures ∙ ap (λ b. is_some left && b) known in
-    let enough = sym (admits_any left (counts Bound cs place)) ∙ ap (λ b. not b || is_within 1 left) (sym takes) ∙ sym c.admits.ensures
-    ∙ (subst (IsFirstOf _) none c.first_broken.ensures) rules.PathTooLong in
+    let takes = c.takes_room-counts.ensures ∙ ap (λ b. is_some c.args.room.now.below && b) known in
     let behind = c.add.ensures ∙ ap (λ b. add_place c.args.room.now b c.in_ok-findings.findings.path_len) takes ∙ add_place_any c.args.room.now (counts Bound cs place) c.in_ok-findings.findings.path_len in
     subst (λ r. IsRoom Bound cs (place + 1) r) (sym behind)
-    (IsRoom-more Bound c.args.purpose.now cs place this c.args.room.now (counts Bound cs place) c.in_ok-findings.findings.path_len at.certificate refl at.room enough (ap (λ f. f.path_len) gathered))
+    (IsRoom-more Bound c.args.purpose.now cs place this c.args.room.now (counts Bound cs place) c.in_ok-findings.findings.path_len at.certificate refl at.room (ap (λ f. f.path_len) gathered))
 
 pub returns-in_err-findings-clause-memory : goal.returns-in_err-findings-clause-memory
 returns-in_err-findings-clause-memory c = OnErr-by _ _ (ap may_take_memory (sym c.extensions_of-extensions.ensures) ∙ c.in_err-findings.ensures.memory)

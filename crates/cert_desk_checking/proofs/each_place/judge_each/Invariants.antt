@@ -1,0 +1,17 @@
+-- Of every place so far is said which rules it keeps, and the next one's issuer and room are known.
+use Rattle.std.proofs.Common.{◌≡◌}
+use Rattle.const_oid.specs.Bound.{Bound}
+use Rattle.cert_desk_checking.specs.Anchors.{terms_of}
+use Rattle.cert_desk_checking.specs.Chains.{joined}
+use Rattle.cert_desk_checking.specs.Findings.{IsRoom}
+use Rattle.cert_desk_checking.specs.Places.{IsIssuer}
+use Rattle.cert_desk_checking.proofs.EachPlace.{SaysBefore}
+use Rattle.cert_desk_checking.proofs.each_place.judge_each.Given as goal
+
+abbrev pub invariant-loop-place : goal.invariant-loop-place
+invariant-loop-place g l = record {
+  kept : g.J.SignatureJudge.answers l.judge ≡ g.J.SignatureJudge.answers l.fn.judge;
+  issuer : IsIssuer l.bundle.certificates l.anchors l.place l.issuer;
+  room : IsRoom Bound l.bundle.certificates l.place l.room;
+  said : SaysBefore (terms_of l.anchors l.moment l.purpose (g.J.SignatureJudge.answers l.fn.judge)) l.bundle.certificates (joined Bound l.bundle.certificates) l.judged.items l.place;
+}

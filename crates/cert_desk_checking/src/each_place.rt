@@ -1,0 +1,66 @@
+//! Each place of a chain is judged by each rule.
+ghost use Rattle.std.specs.Prelude.{◌≡◌, IfOk};
+ghost use Rattle.const_oid.specs.Bound.{Bound};
+ghost use Rattle.cert_desk_checking.specs.Anchors.{terms_of};
+ghost use Rattle.cert_desk_checking.specs.Chains.{joined};
+ghost use Rattle.cert_desk_checking.specs.KeptRules.{AreJudged};
+
+use crate::anchor::Anchor;
+use crate::bundle::Bundle;
+use crate::checking::{is_signed, rules_kept};
+use crate::issuer::Issuer;
+use crate::kept_rules::KeptRules;
+use crate::path_room::PathRoom;
+use crate::signature_judge::SignatureJudge;
+use const_oid::ObjectIdentifier;
+use std::alloc::{AllocError, Global};
+
+/// Which rules each certificate of a bundle keeps, in their order, under these anchors, at this
+/// moment (seconds since 1970-01-01T00:00:00Z), for this purpose.
+///
+/// Where [`check`](crate::check) stops at the first certificate that breaks a rule, this goes on:
+/// so the judge may be asked more. It is asked about each certificate but the first under the key
+/// of the one before, whatever else they break, and about the first up to the first yes.
+///
+/// # Errors
+///
+/// Where a growth was refused: what is said of a certificate takes a few octets, and its extensions
+/// may take memory.
+pub fn judge_each<J: SignatureJudge>(
+    alloc: Global,
+    bundle: &Bundle,
+    anchors: &[Anchor],
+    moment: u64,
+    purpose: &ObjectIdentifier<39>,
+    judge: &mut J,
+) -> Result<Vec<KeptRules>, AllocError>
+    ensures judged { IfOk result (λ judged.
+        AreJudged (terms_of anchors.now moment purpose.now (J.answers judge.old))
+        bundle.now.certificates (joined Bound bundle.now.certificates) judged.items) }
+    ensures kept { J.answers judge.new ≡ J.answers judge.old }
+{
+    let len = bundle.len();
+    let mut issuer = Issuer::Anchors(anchors);
+    let mut room = PathRoom::new();
+    let mut calls = 0;
+    let mut judged = Vec::new(alloc);
+    for place in 0..len {
+        let entry = bundle.get(place).unwrap();
+        let certificate = entry.certificate;
+        let is_last = place + 1 == len;
+        let signed = is_signed(&entry, &issuer, judge, &mut calls);
+        let kept = rules_kept(
+            alloc,
+            certificate,
+            is_last,
+            &issuer,
+            moment,
+            purpose,
+            signed,
+            &mut room,
+        )?;
+        judged.push(kept)?;
+        issuer = Issuer::Before(certificate);
+    }
+    Ok(judged)
+}
