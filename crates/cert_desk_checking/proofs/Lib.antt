@@ -48,4 +48,5 @@ pub mod QuestionLaws
 pub mod ListedQuestions
 pub mod AskedValues
 pub mod SameQuestions
+pub mod AnswerOrder
 pub use Rattle.x509_cert_anchors.proofs.Names

@@ -1,6 +1,8 @@
 -- What a list of answers says, as a judge.
-use Rattle.std.specs.Prelude.{ℕ, List, ◌∷◌, Bool, ◌&&◌, bytes_eq, nat_eq}
-use Rattle.std.specs.Cmp.Lexicographic.{pointwise}
+use Rattle.std.specs.Prelude.{ℕ, List, [], ◌∷◌, Bool, ◌&&◌, bytes_eq, nat_eq}
+use Rattle.std.specs.declared.cmp.Ordering.{Ordering}
+use Rattle.std.specs.Ordering.{nat_cmp}
+use Rattle.std.specs.Cmp.Lexicographic.{pointwise, slice_cmp}
 use Rattle.std.specs.List.{list_any}
 use Rattle.std.specs.Option.{option_eq}
 use Rattle.const_oid.specs.Comparing.{owned_eq}
@@ -46,6 +48,17 @@ unfoldable pub is_about : PublicKey → Algorithm → List ℕ → Bits → Ques
 is_about key algorithm signed bits q =
     bytes_eq q.signed signed
     && (same_bits q.bits bits && (same_algorithm q.algorithm algorithm && same_key q.key key))
+
+-- by what answers are put in order: the octets that are signed, the bits of the signature, and those
+-- of the key
+abbrev pub rank : PublicKey → List ℕ → Bits → List (List ℕ)
+rank key signed bits = signed ∷ bits.octets ∷ (key_bits key).octets ∷ []
+
+abbrev pub answer_rank : Answer → List (List ℕ)
+answer_rank a = rank (key_plain a.key) a.signed.items a.bits
+
+abbrev pub rank_cmp : List (List ℕ) → List (List ℕ) → Ordering
+rank_cmp = slice_cmp (slice_cmp nat_cmp)
 
 -- yes to what is listed, and to nothing else
 abbrev pub listed : List Question → Answers

@@ -5,7 +5,7 @@ use Rattle.cert_desk_checking.specs.declared.answers_judge.AnswersJudge.{Answers
 use Rattle.cert_desk_checking.specs.Answers.{answer_plain, listed}
 
 abbrev pub judge_answers : AnswersJudge → Answers
-judge_answers judge = listed (map answer_plain judge.answers.items)
+judge_answers judge = listed (map answer_plain judge.answers.sorted.items)
 
 abbrev pub judge_questions : AnswersJudge → ℕ
 judge_questions judge = judge.questions

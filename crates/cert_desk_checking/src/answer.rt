@@ -1,8 +1,10 @@
 //! Answers of a verifier.
 ghost use Rattle.std.specs.Prelude.{◌≡◌};
 ghost use Rattle.x509_cert_extensions.specs.Parts.{key_plain, algorithm_plain};
-ghost use Rattle.cert_desk_checking.specs.Answers.{answer_plain, is_about};
+ghost use Rattle.cert_desk_checking.specs.Answers.{answer_plain, answer_rank, is_about, rank};
+ghost use Rattle.cert_desk_checking.specs.Answers.{rank_cmp};
 
+use std::cmp::Ordering;
 use x509_cert_anchors::certificates::{AlgorithmIdentifier, BitString, SubjectPublicKeyInfo};
 
 /// A signature that is right, as a verifier says: the key, the algorithm, the octets that are
@@ -36,5 +38,23 @@ impl Answer {
             && self.bits == *bits
             && self.algorithm == *algorithm
             && self.key == *key
+    }
+
+    // How it is ordered beside a signature: by the octets that are signed, then the bits of the
+    // signature, then those of the key.
+    pub(crate) fn ordering(
+        &self,
+        key: &SubjectPublicKeyInfo,
+        signed: &[u8],
+        bits: &BitString,
+    ) -> Ordering
+        ensures { result ≡ rank_cmp (answer_rank self.now) (rank (key_plain key.now) signed.now
+            bits.now) }
+    {
+        let of_signed = self.signed.as_slice().cmp(signed);
+        let of_bits = self.bits.raw_bytes().cmp(bits.raw_bytes());
+        let key_bits = key.subject_public_key.raw_bytes();
+        let of_key = self.key.subject_public_key.raw_bytes().cmp(key_bits);
+        of_signed.then(of_bits.then(of_key))
     }
 }

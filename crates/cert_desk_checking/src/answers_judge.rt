@@ -4,13 +4,15 @@ ghost use Rattle.cert_desk_checking.specs.Answers.{answer_plain, listed};
 ghost use Rattle.cert_desk_checking.specs.Judges.{judge_answers, judge_questions};
 
 use crate::answer::Answer;
+use crate::answer_table::AnswerTable;
 use crate::signature_judge::SignatureJudge;
 use x509_cert_anchors::certificates::{AlgorithmIdentifier, BitString, SubjectPublicKeyInfo};
 
-/// A judge that says yes exactly to the signatures of a list, which a verifier outside made.
+/// A judge that says yes exactly to the signatures of a list, which a verifier outside made. It
+/// finds them by search.
 #[derive(Debug, Drop)]
 pub struct AnswersJudge {
-    answers: Vec<Answer>,
+    answers: AnswerTable,
     questions: u64,
 }
 
@@ -21,7 +23,7 @@ impl AnswersJudge {
         ensures questions { judge_questions result ≡ 0 }
     {
         AnswersJudge {
-            answers,
+            answers: AnswerTable::new(answers),
             questions: 0,
         }
     }
@@ -40,11 +42,6 @@ impl SignatureJudge for AnswersJudge {
         bits: &BitString,
     ) -> bool {
         self.questions = self.questions.saturating_add(1);
-        for answer in self.answers.as_slice() {
-            if answer.is_about(key, algorithm, signed, bits) {
-                return true;
-            }
-        }
-        false
+        self.answers.has(key, algorithm, signed, bits)
     }
 }

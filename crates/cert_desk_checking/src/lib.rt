@@ -6,6 +6,7 @@ mod anchor_error;
 mod anchor_fault;
 mod anchor_files;
 mod answer;
+mod answer_table;
 mod answers_judge;
 mod arguments;
 mod bundle;
