@@ -49,8 +49,8 @@ is_about key algorithm signed bits q =
     bytes_eq q.signed signed
     && (same_bits q.bits bits && (same_algorithm q.algorithm algorithm && same_key q.key key))
 
--- by what answers are put in order: the octets that are signed, the bits of the signature, and those
--- of the key
+-- by what answers are put in order: the octets that are signed, the bits of the signature, and
+-- those of the key
 abbrev pub rank : PublicKey → List ℕ → Bits → List (List ℕ)
 rank key signed bits = signed ∷ bits.octets ∷ (key_bits key).octets ∷ []
 

@@ -3,9 +3,9 @@
 //! An [`Input`] gives octets and an [`Output`] takes them, in pieces of any size. A contract over
 //! either speaks of the octets that moved, in turn, and of a count of failures, so that code above
 //! is proved once for every device. [`FromRead`] and [`ToWrite`] make devices of readers and
-//! writers, [`MemoryInput`] and [`MemoryOutput`] of memory, for tests; [`NamedInputs`] are opened by
-//! their names. Above them stand the texts that every run tells, and the [`ExitStatus`] that it comes
-//! to.
+//! writers, [`MemoryInput`] and [`MemoryOutput`] of memory, for tests; [`NamedInputs`] are opened
+//! by their names. Above them stand the texts that every run tells, and the [`ExitStatus`] that it
+//! comes to.
 #![tactic(auto)]
 
 pub mod device_error;

@@ -17,7 +17,7 @@ pub all_plain : {A P : Type 0} (f : A → P) (V : P → Type 0) (xs : List A) �
 all_plain f V [] h = tt
 all_plain f V (x ∷ xs) h = (h.0, all_plain f V xs h.1)
 
--- and what holds of all members of two lists joined, of those of each
+-- what holds of all members of two lists joined holds of those of each
 pub all_parts : {A : Type 0} (V : A → Type 0) (xs ys : List A) → AllByRecursion V (xs ++ ys) → AllByRecursion V xs × AllByRecursion V ys
 all_parts V [] ys h = (tt, h)
 all_parts V (x ∷ xs) ys h =

@@ -78,8 +78,8 @@ device_extensions names subject issuer_key = authority_key_extension issuer_key
 abbrev pub device_names : DevId → Option (List PlainGeneralName)
 device_names d = plain_option (λ v. plain_list general_name_plain v.0.items) d.subject_alt_name
 
--- alternative names have no encoding, as where a length passes 2^32 - 1, and this is the first fault
--- in writing them
+-- alternative names have no encoding, as where a length passes 2^32 - 1, and this is the first
+-- fault in writing them
 abbrev pub IsUnnameable : Option (List PlainGeneralName) → Error → Type 0
 IsUnnameable None e = ⊥
 IsUnnameable (Some names) e = IsUnwritten (sequence_of (general_name Bound)) names e

@@ -40,7 +40,7 @@ pub trait Marked {
     ghost use Rattle.x509_cert_extensions.specs.ExtensionTypes.{ExtensionType, is_marked};
     ghost use Rattle.x509_cert_extensions.specs.Parts.{name_plain};
 
-    // Its row of the table.
+    // The row of this type in the table.
     ghost extension_type: { ExtensionType };
 
     /// Whether it is critical beside a subject's name.
