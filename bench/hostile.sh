@@ -5,12 +5,12 @@
 #   bench/hostile.sh FOLDER [NAME..]
 # FOLDER has the programs cert_desk_program, der_rows and cert_rows, built; names choose inputs.
 # Behind each input stand how many octets it has, the times of half of it and of it, their quotient,
-# and how many octets of memory were resident for each of its octets. Not of the gate.
+# and how many octets of memory were resident at most for each of its octets, those counted that the
+# program has without any. Not of the gate.
 set -euo pipefail
 exec python3 - "$@" <<'PYTHON'
 import os
 import pathlib
-import resource
 import subprocess
 import sys
 import tempfile
@@ -38,12 +38,12 @@ BITS = bytes.fromhex("03020000")
 EMPTY = sequence()
 
 
-def certificate(issuer=EMPTY, subject=EMPTY, extensions=b"", bits=BITS):
+def certificate(issuer=EMPTY, subject=EMPTY, extensions=b"", bits=BITS, algorithm=ALGORITHM):
     version = bytes.fromhex("A003020102") if extensions else b""
     extensions = tlv(0xA3, sequence(extensions)) if extensions else b""
     serial = bytes.fromhex("020101")
-    part = sequence(version, serial, ALGORITHM, issuer, DATES, subject, KEY, extensions)
-    return sequence(part, ALGORITHM, bits)
+    part = sequence(version, serial, algorithm, issuer, DATES, subject, KEY, extensions)
+    return sequence(part, algorithm, bits)
 
 
 def identifier(number):
@@ -118,6 +118,13 @@ def authority(size):
     return certificate(extensions=AUTHORITY, bits=tlv(3, bytes(size)))
 
 
+def hashed(size):
+    """A certificate of the algorithm of digests, so that each question hashes so many octets."""
+    algorithm = sequence(tlv(0x06, bytes.fromhex("2b0601040181fd5902")))
+    content = extension(identifier(1), bytes(size))
+    return certificate(extensions=content, bits=tlv(3, bytes(33)), algorithm=algorithm)
+
+
 def distinct(count):
     return certificate(extensions=b"".join(extension(identifier(it), b"") for it in range(count)))
 
@@ -127,8 +134,18 @@ def nameless(count):
     return certificate(extensions=extension(bytes.fromhex("0603551D11"), names))
 
 
+ROOT = "CN=r,O=o,C=US"
+
+
 def chain_of_orders(count):
-    return b"".join(order("CN=s" if it else "CN=r,O=o,C=US", it) for it in range(count))
+    return b"".join(order("CN=s" if it else ROOT, it) for it in range(count))
+
+
+def chain_of(attribute, count, last=False):
+    """Orders of which the second, or the last, has a name of so many empty attributes."""
+    name = ",".join([attribute] * count)
+    names = [ROOT, name] if last else [ROOT, name, "CN=s"]
+    return b"".join(order(it, place) for place, it in enumerate(names))
 
 
 def falling(count):
@@ -153,6 +170,7 @@ INPUTS = {
     "least certificates": (500_000, lambda n: check(certificate(bits=tlv(3, b"\0")) * n), {1}),
     "large certificate": (64_000_000, lambda n: check(certificate(bits=tlv(3, bytes(n)))), {1}),
     "anchors": (20_000, lambda n: check(certificate(), certificate() * n), {0, 1}),
+    "anchors of one name": (400, lambda n: check(hashed(400_000), certificate() * n), {1}),
     "extensions": (
         100_000,
         lambda n: check(distinct(n)),
@@ -187,6 +205,8 @@ INPUTS = {
         {1},
     ),
     "text of relative names": (50_000, lambda n: issue(order(",".join(["L=x"] * n), 0)), {1}),
+    "localities of an authority": (130_000, lambda n: issue(chain_of("L=", n)), {0}),
+    "countries of a subscriber": (130_000, lambda n: issue(chain_of("C=", n, last=True)), {0}),
     "orders": (10_000, lambda n: issue(chain_of_orders(n)), {0, 1}),
     "falling members": (10_000, falling, {0}),
     "octet by octet": (1_000_000, octet_by_octet, {0}),
@@ -194,7 +214,10 @@ INPUTS = {
 
 
 def run(folder, made):
-    """The processor time and the memory of a run, and how it ended."""
+    """The processor time and the memory of a run, and how it ended.
+
+    Memory is told by a program between: a child of this process would begin with what this has.
+    """
     how, files, words = made
     for name, octets in files.items():
         pathlib.Path(folder, name).write_bytes(octets)
@@ -204,8 +227,10 @@ def run(folder, made):
     else:
         program = "cert_desk_program"
         arguments = [how, *words, *([MOMENT, PURPOSE, "4294967295"] if how == "check" else [])]
+    peak = pathlib.Path(folder, "peak")
+    told = ["/usr/bin/time", "-f", "%M", "-o", peak]
     child = subprocess.Popen(
-        [pathlib.Path(FOLDER, program).resolve(), *arguments],
+        [*told, pathlib.Path(FOLDER, program).resolve(), *arguments],
         cwd=folder,
         stdin=given,
         stdout=subprocess.DEVNULL,
@@ -213,7 +238,8 @@ def run(folder, made):
     )
     _, status, usage = os.wait4(child.pid, 0)
     spent = usage.ru_utime + usage.ru_stime
-    return spent, usage.ru_maxrss * 1024, os.waitstatus_to_exitcode(status)
+    resident = int(peak.read_text().split()[-1]) * 1024
+    return spent, resident, os.waitstatus_to_exitcode(status)
 
 
 def main():
