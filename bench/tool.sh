@@ -41,10 +41,11 @@ awk 'BEGIN { RS = ""; ORS = "\n\n" }
     { print }' "$top/examples/orders.txt" >"$work/orders"
 "$desk" issue "$work/orders" >"$work/stream"
 openssl x509 -inform DER -in "$work/stream" -outform DER -out "$work/anchor"
-"$tool" questions "$work/anchor" "$work/stream" 4096 >"$work/answers"
-words=("$work/anchor" "$work/stream" 1790000000)
-"$tool" verify "${words[@]}" serverAuth 4096 "$work/answers"
-"$desk" check "${words[@]}" 1.3.6.1.5.5.7.3.1 4096
-verified=$(instructions "$tool" verify "${words[@]}" serverAuth 4096 "$work/answers")
-checked=$(instructions "$desk" check "${words[@]}" 1.3.6.1.5.5.7.3.1 4096)
+"$tool" questions --anchors "$work/anchor" "$work/stream" >"$work/answers"
+words=(--anchors "$work/anchor" --answers "$work/answers" --at 1790000000 "$work/stream")
+checks=("$work/anchor" "$work/stream" 1790000000 1.3.6.1.5.5.7.3.1 4096)
+"$tool" verify "${words[@]}"
+"$desk" check "${checks[@]}"
+verified=$(instructions "$tool" verify "${words[@]}")
+checked=$(instructions "$desk" check "${checks[@]}")
 echo "verify: $verified instructions, check: $checked: $(ratio "$verified" "$checked")"

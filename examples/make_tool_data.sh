@@ -22,6 +22,36 @@ for name, octets in streams:
     open(f"{name}.der", "wb").write(bytes.fromhex("".join(octets.split())))
 PY
 
+# two authorities with path lengths 2 and 0, two below them, one that is self-issued, and the last
+# certificate, of parts of those streams
+python3 - <<'PY'
+def value(tag, content):
+    return bytes([tag, len(content)]) + content
+def name(text):
+    attribute = bytes.fromhex("06012a") + value(0x0C, text)
+    return value(0x30, value(0x31, value(0x30, attribute)) if text else b"")
+algorithm = bytes.fromhex("300306012a")
+dates = bytes.fromhex("301e170d3032303130313132303130305a170d3330313233313038333030305a")
+bits = bytes.fromhex("030100")
+def certificate(serial, issuer, subject, constraints):
+    version, extensions = b"", b""
+    if constraints:
+        octets = value(0x04, value(0x30, bytes.fromhex(constraints)))
+        extension = value(0x30, bytes.fromhex("0603551d13") + octets)
+        version, extensions = bytes.fromhex("a003020102"), value(0xA3, value(0x30, extension))
+    key = value(0x30, algorithm + bits)
+    fields = name(issuer) + dates + name(subject) + key + extensions
+    signed = version + value(0x02, bytes([serial])) + algorithm + fields
+    return value(0x30, value(0x30, signed) + algorithm + bits)
+with open("two_lengths.der", "wb") as stream:
+    stream.write(certificate(1, b"", b"A", "0101ff020102"))
+    stream.write(certificate(2, b"A", b"B", "0101ff020100"))
+    stream.write(certificate(3, b"B", b"C", "0101ff"))
+    stream.write(certificate(4, b"C", b"D", "0101ff"))
+    stream.write(certificate(5, b"D", b"D", "0101ff"))
+    stream.write(certificate(6, b"D", b"E", ""))
+PY
+
 cp "$here"/{root,chain,server,nameless,limited}.der .
 # a trust anchor behind another, whose name is no SEQUENCE
 python3 - <<'PY'
@@ -29,9 +59,9 @@ faulty = bytearray(open("limited.der", "rb").read())
 faulty[36] = 0x31
 open("faulty_anchor.der", "wb").write(open("root.der", "rb").read() + faulty)
 PY
-"$tool" questions root.der chain.der 4000 | "$here/answer.py" > answers.txt
+"$tool" questions --anchors root.der chain.der | "$here/answer.py" > answers.txt
 cat root.der chain.der > whole.der
-"$tool" questions root.der whole.der 4000 | "$here/answer.py" > whole.txt
+"$tool" questions --anchors root.der whole.der | "$here/answer.py" > whole.txt
 
 # the last octet of the intermediate's signature, and of the server's
 python3 - <<'PY'
@@ -279,5 +309,5 @@ openssl req -new -key "$work/full.key" -subj "/CN=wanted" -outform DER -out requ
 
 # the answers of OpenSSL on each of the other chains
 for name in long plain constrained twice unwise; do
-    "$tool" questions anchor.der "$name.der" 4000 | "$here/answer.py" > "$name.txt"
+    "$tool" questions --anchors anchor.der "$name.der" | "$here/answer.py" > "$name.txt"
 done

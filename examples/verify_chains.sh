@@ -74,8 +74,8 @@ chain() {
 
 # judge ANCHORS STREAM
 judge() {
-    "$tool" questions "$1" "$2" 10000 | "$here/answer.py" > answers || true
-    "$tool" verify "$1" "$2" now serverAuth 10000 answers || true
+    "$tool" questions --anchors "$1" "$2" | "$here/answer.py" > answers || true
+    "$tool" verify --anchors "$1" --answers answers "$2" || true
 }
 
 # expect WHAT TEXT WANTED

@@ -4,7 +4,9 @@
 
 mod command;
 pub mod laws;
+mod running;
 
+pub use cert_desk_io::{NamedInputs, OpenError};
 pub use cert_desk_issuing::{
     AlgorithmIdentifier, Anchor, AnchorError, AnchorFault, Answer, AnswersJudge, Arguments,
     BitString, Bundle, BundleError, CertDigest, Certificate, CertificateInner, CheckError, Checked,
@@ -21,3 +23,4 @@ pub use cert_desk_listing::{
     show_request,
 };
 pub use command::Command;
+pub use running::obey;

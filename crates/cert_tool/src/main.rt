@@ -2,23 +2,14 @@
 //! streams of certificates apart. `cert_tool --help` says how it is called.
 #![tactic(auto)]
 
-use cert_desk_io::{ToWrite, complain, tell_device, tell_memory, write_all};
-use cert_tool_runs::{Reply, obey};
+use cert_desk_io::{ExitStatus, ToWrite, tell_memory};
+use cert_tool_runs::{HostFiles, obey};
 use std::alloc::{AllocError, Global};
 use std::process::ExitCode;
 use std::{env, io};
 
 fn main(rt: HostRuntime) -> ExitCode {
-    let mut out = ToWrite::new(io::writer(&rt));
-    let mut err = ToWrite::new(rt.stderr());
-    let status = match reply_to(&rt) {
-        Ok(reply) => match write_all(&mut out, reply.out.as_slice()) {
-            Ok(()) => complain(&mut err, reply.err.as_slice(), reply.status),
-            Err(_) => tell_device(&mut err),
-        },
-        Err(_) => tell_memory(&mut err),
-    };
-    ExitCode::from(status)
+    ExitCode::from(run(&rt))
 }
 
 // The texts of arguments, without the program's name.
@@ -32,15 +23,32 @@ fn texts_of(alloc: Global, words: &[String]) -> Result<Vec<&str>, AllocError> {
     Ok(texts)
 }
 
-// What the arguments ask for. Of some that aren't texts it is told how the program is called.
-fn reply_to(rt: &HostRuntime) -> Result<Reply, AllocError> {
-    let words: Vec<String> = match env::args(rt) {
-        Ok(words) => words.collect(rt.alloc())?,
+// The arguments. Of some that aren't texts nothing is read.
+fn words_of(rt: &HostRuntime) -> Result<Vec<String>, AllocError> {
+    match env::args(rt) {
+        Ok(words) => words.collect(rt.alloc()),
         Err(error) => match error.kind() {
-            io::ErrorKind::OutOfMemory => return Err(AllocError),
-            _ => Vec::new(rt.alloc()),
+            io::ErrorKind::OutOfMemory => Err(AllocError),
+            _ => Ok(Vec::new(rt.alloc())),
         },
+    }
+}
+
+// Does what the arguments ask for.
+fn run(rt: &HostRuntime) -> ExitStatus {
+    let mut err = ToWrite::new(rt.stderr());
+    let Ok(words) = words_of(rt) else {
+        return tell_memory(&mut err);
     };
-    let texts = texts_of(rt.alloc(), words.as_slice())?;
-    obey(rt.alloc(), rt, texts.as_slice())
+    let Ok(texts) = texts_of(rt.alloc(), words.as_slice()) else {
+        return tell_memory(&mut err);
+    };
+    obey(
+        rt.alloc(),
+        rt,
+        &HostFiles::new(rt),
+        texts.as_slice(),
+        &mut ToWrite::new(io::writer(rt)),
+        &mut err,
+    )
 }

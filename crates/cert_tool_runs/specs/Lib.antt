@@ -1,7 +1,10 @@
+pub mod Words
+pub mod Tasks
 pub mod AnswerLines
 pub mod AnswerReading
 pub mod Stops
 pub mod Asking
 pub mod Verifying
 pub mod Splitting
+pub mod TaskRuns
 pub mod Laws

@@ -1,14 +1,15 @@
-//! The arguments of words. What is wrong with one is told, and the status is the error.
+//! The values of options.
 
-ghost use Rattle.std.specs.Prelude.{◌≤◌, IfOk};
+ghost use Rattle.std.specs.Prelude.{◌≡◌, ◌≢◌, ℕ, ◌<◌, ◌≤◌, ◌^◌, true, IfSome, IfNone};
+ghost use Rattle.const_oid.specs.Bound.{Bound};
+ghost use Rattle.const_oid.specs.TextReading.{read_text};
+ghost use Rattle.der_core_head.specs.Dates.{Civil, is_civil};
+ghost use Rattle.cert_desk_checking.specs.Names.TimeTypes.DateTexts.{date_text};
+ghost use Rattle.cert_desk_checking.specs.Arguments.{IsNumber};
+ghost use Rattle.cert_tool_runs.specs.Tasks.{IsMoment, IsNoMoment, arcs_of};
 
-use crate::reply::Page;
-use crate::telling::{tell, tell_wrong};
 use cert_desk_checking::certificates::DateTime;
-use cert_desk_io::ExitStatus;
-use const_oid::ObjectIdentifier;
-use std::rt::Clock;
-use std::time::{SystemTime, UNIX_EPOCH};
+use const_oid::{Error, ObjectIdentifier};
 
 // The least limit: a certificate has a header and some content.
 const LEAST_LIMIT: u64 = 6;
@@ -18,6 +19,15 @@ const MOST_LIMIT: u64 = 0xffff_ffff;
 
 // 9999-12-31T23:59:59Z, the last date that a certificate can name.
 const LAST_MOMENT: u64 = 253_402_300_799;
+
+/// When a chain is judged.
+#[derive(Clone, Copy)]
+pub enum Moment {
+    /// When the clock is asked.
+    Now,
+    /// Seconds since 1970-01-01T00:00:00Z.
+    Seconds(u64),
+}
 
 // What a chain is judged under, but for its anchors.
 #[derive(Clone, Copy)]
@@ -31,123 +41,89 @@ pub(crate) struct Terms {
 }
 
 // A number of one or more decimal digits, below 2^64. Leading zeros are read, and no sign.
-fn number(text: &str) -> Option<u64> {
-    if text.starts_with('+') {
+#[tactic(auto, unfolding(cert_desk_checking::specs::Arguments::IsNumber))]
+pub(crate) fn number_in(text: &str) -> Option<u64>
+    ensures read { IfSome result (λ n. IsNumber n text.now) }
+    ensures refused { IfNone result ((n : ℕ) → IsNumber n text.now → n < 2 ^ 64 → ⊥) }
+{
+    if text.as_bytes().first() == Some(&b'+') {
         return None;
     }
     text.parse().ok()
 }
 
-// The present.
-fn now<C: Clock>(clock: &C, err: &mut Page) -> Result<u64, ExitStatus> {
-    if let Ok(now) = SystemTime::now(clock) {
-        if let Ok(passed) = now.duration_since(UNIX_EPOCH) {
-            return Ok(passed.as_secs());
-        }
+// The seconds of a moment that isn't `now`: a date, or a number of seconds.
+#[tactic(auto, unfolding(cert_desk_checking::specs::Arguments::IsNumber))]
+fn seconds_in(text: &str) -> Option<u64>
+    ensures read { IfSome result (λ n. IsMoment (Moment.Seconds n) text.now) }
+    ensures refused { IfNone result (
+        ((n : ℕ) → IsNumber n text.now → n ≤ 253402300799 → ⊥)
+        × ((c : Civil) → is_civil c ≡ true → text.now ≢ date_text c)) }
+{
+    if let Ok(date) = text.parse::<DateTime>() {
+        return Some(date.unix_seconds());
     }
-    Err(tell(err, &["cannot read the clock\n"], ExitStatus::Device))
+    let Some(seconds) = number_in(text) else {
+        return None;
+    };
+    if seconds > LAST_MOMENT {
+        return None;
+    }
+    Some(seconds)
 }
 
 // A moment: a number, a date, or `now`.
-fn moment_of<C: Clock>(clock: &C, text: &str, err: &mut Page) -> Result<u64, ExitStatus> {
+pub(crate) fn moment_in(text: &str) -> Option<Moment>
+    ensures read { IfSome result (λ moment. IsMoment moment text.now) }
+    ensures refused { IfNone result (IsNoMoment text.now) }
+{
     if text == "now" {
-        return now(clock, err);
+        return Some(Moment::Now);
     }
-    let seconds = match number(text) {
-        Some(seconds) => seconds,
-        None => match text.parse::<DateTime>() {
-            Ok(date) => date.unix_seconds(),
-            Err(_) => u64::MAX,
-        },
+    let Some(seconds) = seconds_in(text) else {
+        return None;
     };
-    if seconds > LAST_MOMENT {
-        return Err(tell_wrong(
-            err,
-            "MOMENT",
-            text,
-            "now, YYYY-MM-DDTHH:MM:SSZ, or seconds (no milliseconds) from 1970 to 9999",
-        ));
-    }
-    Ok(seconds)
+    Some(Moment::Seconds(seconds))
 }
 
-// Names of purposes, and their arcs (RFC 5280 4.2.1.12).
-const PURPOSES: [(&str, &str); 7] = [
-    ("anyExtendedKeyUsage", "2.5.29.37.0"),
-    ("serverAuth", "1.3.6.1.5.5.7.3.1"),
-    ("clientAuth", "1.3.6.1.5.5.7.3.2"),
-    ("codeSigning", "1.3.6.1.5.5.7.3.3"),
-    ("emailProtection", "1.3.6.1.5.5.7.3.4"),
-    ("timeStamping", "1.3.6.1.5.5.7.3.8"),
-    ("OCSPSigning", "1.3.6.1.5.5.7.3.9"),
-];
-
-// The arcs that a name stands for, or the text itself.
-fn arcs_of(text: &str) -> &str {
-    for row in &PURPOSES {
-        let (name, arcs) = *row;
-        if name == text {
-            return arcs;
-        }
+// The arcs that a name of a purpose stands for (RFC 5280 4.2.1.12), or the text itself.
+fn arcs_of(text: &str) -> &str
+    ensures { result.now ≡ arcs_of text.now }
+{
+    match text {
+        "serverAuth" => "1.3.6.1.5.5.7.3.1",
+        "clientAuth" => "1.3.6.1.5.5.7.3.2",
+        "codeSigning" => "1.3.6.1.5.5.7.3.3",
+        "emailProtection" => "1.3.6.1.5.5.7.3.4",
+        "timeStamping" => "1.3.6.1.5.5.7.3.8",
+        "OCSPSigning" => "1.3.6.1.5.5.7.3.9",
+        "anyExtendedKeyUsage" => "2.5.29.37.0",
+        _ => text,
     }
-    text
 }
 
 // A purpose: a name, or an identifier in dotted arcs.
-fn purpose_of(text: &str, err: &mut Page) -> Result<ObjectIdentifier<39>, ExitStatus> {
-    match ObjectIdentifier::<39>::new(arcs_of(text)) {
-        Ok(purpose) => Ok(purpose),
-        Err(_) => Err(tell_wrong(
-            err,
-            "PURPOSE",
-            text,
-            "serverAuth, clientAuth, codeSigning, emailProtection, timeStamping, OCSPSigning, \
-            anyExtendedKeyUsage, or dotted arcs",
-        )),
-    }
+pub(crate) fn purpose_in(text: &str) -> Result<ObjectIdentifier<39>, Error>
+    ensures { result ≡ read_text Bound 39 (arcs_of text.now) }
+{
+    ObjectIdentifier::<39>::new(arcs_of(text))
 }
 
 // A limit: a number from 6 to 2^32 - 1.
-pub(crate) fn limit_of(text: &str, err: &mut Page) -> Result<u32, ExitStatus>
-    ensures { IfOk result (λ n. 6 ≤ n) }
+#[tactic(auto, unfolding(cert_desk_checking::specs::Arguments::IsNumber))]
+pub(crate) fn limit_in(text: &str) -> Option<u32>
+    ensures read { IfSome result (λ n. IsNumber n text.now) }
+    ensures least { IfSome result (λ n. 6 ≤ n) }
+    ensures refused { IfNone result ((n : ℕ) → IsNumber n text.now → 6 ≤ n → n < 2 ^ 32 → ⊥) }
 {
-    let limit = number(text).unwrap_or(0);
-    if limit < LEAST_LIMIT || limit > MOST_LIMIT {
-        let wanted = "a number of octets from 6 to 4294967295";
-        return Err(tell_wrong(err, "LIMIT", text, wanted));
-    }
-    Ok(limit as u32)
-}
-
-// What a chain is judged under, by the words MOMENT, PURPOSE and LIMIT.
-pub(crate) fn terms_of<C: Clock>(
-    clock: &C,
-    words: [&str; 3],
-    err: &mut Page,
-) -> Result<Terms, ExitStatus>
-    ensures { IfOk result (λ terms. 6 ≤ terms.limit) }
-{
-    let [moment, purpose, limit] = words;
-    let moment = moment_of(clock, moment, err)?;
-    let purpose = purpose_of(purpose, err)?;
-    let limit = limit_of(limit, err)?;
-    Ok(Terms {
-        moment,
-        purpose,
-        limit,
-    })
-}
-
-// A place: a number, if one is asked for.
-pub(crate) fn place_of(text: Option<&str>, err: &mut Page) -> Result<Option<usize>, ExitStatus> {
-    let Some(text) = text else {
-        return Ok(None);
+    let Some(limit) = number_in(text) else {
+        return None;
     };
-    match number(text) {
-        Some(place) => Ok(Some(place as usize)),
-        None => {
-            let wanted = "the number of a certificate, counted from 0";
-            Err(tell_wrong(err, "PLACE", text, wanted))
-        }
+    if limit < LEAST_LIMIT {
+        return None;
     }
+    if limit > MOST_LIMIT {
+        return None;
+    }
+    Some(limit as u32)
 }

@@ -10,8 +10,6 @@ pub(crate) struct ChainPlace<'a> {
     // Counted from 0.
     pub(crate) number: usize,
     pub(crate) certificate: &'a CertificateInner<Raw>,
-    // The octets of its signed part.
-    pub(crate) signed: &'a [u8],
 }
 
 impl<'a> ChainPlace<'a> {
@@ -24,7 +22,6 @@ impl<'a> ChainPlace<'a> {
             bundle,
             number,
             certificate: entry.certificate,
-            signed: entry.signed,
         })
     }
 
@@ -50,16 +47,5 @@ impl<'a> ChainPlace<'a> {
             Some(before) => Some(before.certificate.tbs_certificate()),
             None => None,
         }
-    }
-
-    // Whether no certificate stands behind it.
-    pub(crate) fn is_last(&self) -> bool {
-        self.bundle.len().saturating_sub(self.number) <= 1
-    }
-
-    // Whether its issuer is its subject.
-    pub(crate) fn is_self_issued(&self) -> bool {
-        let signed = self.certificate.tbs_certificate();
-        signed.issuer().has_octets_of(signed.subject())
     }
 }

@@ -6,9 +6,8 @@ use crate::kind::Kind;
 use crate::lines::Lines;
 use crate::lists::add_list;
 use crate::refusal::explain_octets;
-use crate::reply::Page;
 use crate::requests::add_request;
-use cert_desk_io::{ExitStatus, answer, complain, tell_memory};
+use cert_desk_io::{ExitStatus, Output, answer, complain, tell_memory};
 use const_oid::Database;
 use der_core::ErrorKind;
 use std::alloc::{AllocError, Global};
@@ -40,7 +39,7 @@ fn described(alloc: Global, kind: Kind, octets: &[u8]) -> Result<Option<String>,
 }
 
 // Tells why octets aren't of a kind.
-fn refuse(alloc: Global, kind: Kind, octets: &[u8], err: &mut Page) -> ExitStatus {
+fn refuse<E: Output>(alloc: Global, kind: Kind, octets: &[u8], err: &mut E) -> ExitStatus {
     match explain_octets(alloc, octets, kind) {
         Ok(text) => complain(err, text.as_bytes(), ExitStatus::Faulty),
         Err(_) => tell_memory(err),
@@ -49,12 +48,12 @@ fn refuse(alloc: Global, kind: Kind, octets: &[u8], err: &mut Page) -> ExitStatu
 
 // Writes the description of what these octets spell to `out`, or to `err` why they aren't of the
 // kind, and answers the exit status.
-pub(crate) fn describe(
+pub(crate) fn describe<O: Output, E: Output>(
     alloc: Global,
     kind: Kind,
     octets: &[u8],
-    out: &mut Page,
-    err: &mut Page,
+    out: &mut O,
+    err: &mut E,
 ) -> ExitStatus {
     match described(alloc, kind, octets) {
         Ok(Some(text)) => answer(out, err, text.as_bytes(), ExitStatus::Done),

@@ -3,35 +3,40 @@
 ghost use Rattle.std.specs.Prelude.{◌≤◌};
 
 use crate::arguments::Terms;
-use crate::breaches::{Question, add_chain};
+use crate::breaches::add_chain;
 use crate::identifiers::{entries_of, known_identifiers};
 use crate::lines::Lines;
 use crate::reading::tell_text;
-use crate::reply::Page;
 use crate::verifying::{read_answers, tell_none};
-use cert_desk_checking::{Anchor, Bundle, Outcome, Standing, read_anchors, read_stream};
-use cert_desk_io::{ExitStatus, Input, complain, tell_device, tell_memory};
+use cert_desk_checking::{
+    Anchor, AnswersJudge, Bundle, Outcome, Standing, judge_each, read_anchors, read_stream,
+};
+use cert_desk_io::{ExitStatus, Input, Output, complain, tell_device, tell_memory};
 use const_oid::Database;
 use std::alloc::{AllocError, Global};
 
-// What each certificate of a chain breaks.
+// What each certificate of a chain breaks, judged under these anchors by a judge.
 fn explained(
     alloc: Global,
     bundle: &Bundle,
-    question: &Question<'_>,
+    anchors: &[Anchor],
+    terms: &Terms,
+    judge: &mut AnswersJudge,
 ) -> Result<String, AllocError> {
+    let purpose = &terms.purpose;
+    let judged = judge_each(alloc, bundle, anchors, terms.moment, purpose, judge)?;
     let identifiers = known_identifiers(alloc)?;
     let entries = entries_of(alloc, identifiers.as_slice())?;
     let mut lines = Lines::new(alloc, Database::new(entries.as_slice()));
-    add_chain(&mut lines, bundle, question);
+    add_chain(&mut lines, bundle, judged.as_slice(), purpose);
     lines.finish()
 }
 
 // The anchors that an input gives. Where there are none, that is told, and the status is the error.
-fn anchors_of<I: Input>(
+fn anchors_of<I: Input, E: Output>(
     alloc: Global,
     input: &mut I,
-    err: &mut Page,
+    err: &mut E,
 ) -> Result<Vec<Anchor>, ExitStatus> {
     match read_anchors(alloc, input) {
         Ok(anchors) => Ok(anchors),
@@ -46,7 +51,7 @@ fn anchors_of<I: Input>(
 }
 
 // Tells why a stream of this standing can't be had, and answers the status.
-fn tell_unread(err: &mut Page, standing: Standing) -> ExitStatus {
+fn tell_unread<E: Output>(err: &mut E, standing: Standing) -> ExitStatus {
     match standing {
         Standing::NoDevice => tell_device(err),
         Standing::NoMemory => tell_memory(err),
@@ -59,10 +64,10 @@ fn tell_unread(err: &mut Page, standing: Standing) -> ExitStatus {
 }
 
 // The stream that an input gives, in the same way.
-fn stream_of<I: Input>(
+fn stream_of<I: Input, E: Output>(
     alloc: Global,
     input: &mut I,
-    err: &mut Page,
+    err: &mut E,
     limit: u32,
 ) -> Result<Bundle, ExitStatus>
     requires { 6 ≤ limit }
@@ -81,13 +86,13 @@ fn stream_of<I: Input>(
 // earlier one of the same issuer has, a DNS name that is none.
 //
 // The answers are read first, and told as `run_verify` tells them where there are none.
-pub(crate) fn explain_chain<I: Input>(
+pub(crate) fn explain_chain<I: Input, O: Output, E: Output>(
     alloc: Global,
     answers: &mut I,
     anchors: &mut I,
     stream: &mut I,
-    out: &mut Page,
-    err: &mut Page,
+    out: &mut O,
+    err: &mut E,
     terms: Terms,
 ) -> ExitStatus
     requires { 6 ≤ terms.limit }
@@ -104,11 +109,7 @@ pub(crate) fn explain_chain<I: Input>(
         Ok(bundle) => bundle,
         Err(status) => return status,
     };
-    let question = Question {
-        anchors: anchors.as_slice(),
-        answers: answers.as_slice(),
-        moment: terms.moment,
-        purpose: terms.purpose,
-    };
-    tell_text(explained(alloc, &bundle, &question), out, err)
+    let mut judge = AnswersJudge::new(answers);
+    let text = explained(alloc, &bundle, anchors.as_slice(), &terms, &mut judge);
+    tell_text(text, out, err)
 }

@@ -1,71 +1,89 @@
 //! What the program says of itself.
 
+// Which program it is.
+pub(crate) const VERSION: &str = "cert_tool 0.10.0\n";
+
 // How the program is called.
-pub(crate) const USAGE: &str = "usage: cert_tool WORD ARGUMENTS, where WORD is one of
-  questions ANCHORS STREAM LIMIT                              what a verifier has to answer
-  verify ANCHORS STREAM MOMENT PURPOSE LIMIT ANSWERS          judge a chain by its answers
-  split STREAM LIMIT [PLACE]                                  where certificates stand, or one
-  reverse STREAM LIMIT                                        certificates in the other order
-  describe KIND FILE                                          what a file says
-  explain KIND FILE | explain stream STREAM LIMIT             why octets are refused, and where
-  explain chain ANCHORS STREAM MOMENT PURPOSE LIMIT ANSWERS   which rules are broken, and why
-cert_tool WORD --help tells more of a word and of its arguments.
+const USAGE: &str = "usage: cert_tool COMMAND OPTIONS FILE, where COMMAND is one of
+  questions           what a verifier has to answer
+  verify              judge a chain by its answers
+  explain chain       which rules a chain breaks, and why
+  explain KIND        why octets are refused, and where
+  describe KIND       what a file says
+  split               where certificates stand, or one
+  reverse             certificates in the other order
+cert_tool COMMAND --help tells more of a command.
 ";
 
 // What is said of `questions`.
-pub(crate) const QUESTIONS: &str = "usage: cert_tool questions ANCHORS STREAM LIMIT
+const QUESTIONS: &str = "usage: cert_tool questions --anchors FILE [--limit OCTETS] STREAM
 Writes a line for each signature that judging the chain may need:
 PLACE ANCHOR KEY ALGORITHM SIGNED BITS, the last four in base 16.
-A verifier keeps the lines whose signature is right: the script answer.sh asks OpenSSL, answer.py
-Python's cryptography. The lines it keeps are the ANSWERS of `verify`.
+A verifier keeps the lines whose signature is right, as the script answer.py does. The lines it
+keeps are the answers of `verify`.
 ";
 
 // What is said of `verify`.
-pub(crate) const VERIFY: &str = "usage: cert_tool verify ANCHORS STREAM MOMENT PURPOSE LIMIT ANSWERS
-Judges the chain in STREAM, and says yes to the signatures in ANSWERS alone.
+const VERIFY: &str = "usage: cert_tool verify --anchors FILE --answers FILE
+       [--at MOMENT] [--purpose PURPOSE] [--limit OCTETS] STREAM
+Judges the chain in STREAM, and says yes to the signatures in the answers alone.
 Prints `trusted calls=N` (status 0), `refused PLACE RULE calls=N` (1), `fault PLACE OFFSET KIND` (2)
-or `empty` (3); why a chain is refused `explain chain` says, with the same arguments.
+or `empty` (3); why a chain is refused `explain chain` says, with the same options.
 ";
 
 // What is said of `split`.
-pub(crate) const SPLIT: &str = "usage: cert_tool split STREAM LIMIT [PLACE]
+const SPLIT: &str = "usage: cert_tool split [--limit OCTETS] [--place PLACE] STREAM
 Writes PLACE OFFSET LENGTH for each certificate of STREAM, or the octets of the one at PLACE,
 counted from 0.
 ";
 
 // What is said of `reverse`.
-pub(crate) const REVERSE: &str = "usage: cert_tool reverse STREAM LIMIT
+const REVERSE: &str = "usage: cert_tool reverse [--limit OCTETS] STREAM
 Writes the certificates of STREAM, the last one first. TLS sends a chain leaf first; `verify` reads
 the certificate first that an anchor signed.
 ";
 
 // What is said of `describe`.
-pub(crate) const DESCRIBE: &str = "usage: cert_tool describe KIND FILE
+const DESCRIBE: &str = "usage: cert_tool describe KIND FILE
 Writes what FILE says, a line for each part. Of a file of several certificates `split` gives each:
-cert_tool split FILE LIMIT 0 | cert_tool describe certificate -
+cert_tool split --place 0 FILE | cert_tool describe certificate -
 ";
 
 // What is said of `explain`.
-pub(crate) const EXPLAIN: &str = "usage: cert_tool explain KIND FILE
-       cert_tool explain stream STREAM LIMIT
-       cert_tool explain chain ANCHORS STREAM MOMENT PURPOSE LIMIT ANSWERS
+const EXPLAIN: &str = "usage: cert_tool explain KIND FILE
+       cert_tool explain stream [--limit OCTETS] STREAM
+       cert_tool explain chain --anchors FILE --answers FILE
+       [--at MOMENT] [--purpose PURPOSE] [--limit OCTETS] STREAM
 Writes the first fault of FILE, the octet where it stands, and the parts around it. Of a chain it
 writes which rules each certificate breaks, and why, and what is unwise; without answers, which
 /dev/null stands for, every signature counts as wrong.
 ";
 
-// The arguments of a chain that is judged.
-pub(crate) const CHAIN: [&str; 6] = ["ANCHORS", "STREAM", "MOMENT", "PURPOSE", "LIMIT", "ANSWERS"];
-
-// What is said of arguments, below a word.
+// What is said of arguments, below a command.
 pub(crate) const ARGUMENTS: &str =
-    "KIND     certificate, list (of revoked certificates) or request; to explain also anchors
-FILE     a file in DER: openssl x509, crl or req with -outform DER makes it of PEM
-ANCHORS  a file of trust anchors in DER: certificates, one behind the other
-STREAM   a file of certificates in DER, one behind the other, the one that an anchor signed first
-MOMENT   now, YYYY-MM-DDTHH:MM:SSZ, or seconds since 1970-01-01T00:00:00Z
-PURPOSE  a name as serverAuth, or an identifier in dotted arcs
-LIMIT    the most octets that a certificate may have, from 6 to 4294967295
-ANSWERS  a file of lines that `questions` wrote and a verifier kept
-A file - is standard input.
+    "KIND       certificate, list (of revoked certificates) or request; to explain also anchors
+FILE       a file in DER: openssl x509, crl or req with -outform DER makes it of PEM
+STREAM     a file of certificates in DER, one behind the other, the one that an anchor signed first
+--anchors  a file of trust anchors in DER: certificates, one behind the other
+--answers  a file of lines that `questions` wrote and a verifier kept
+--at       now (where it is left out), YYYY-MM-DDTHH:MM:SSZ, or seconds since 1970-01-01T00:00:00Z
+--purpose  a name as serverAuth (where it is left out), or an identifier in dotted arcs
+--limit    the most octets that a certificate may have, from 6 to 4294967295; 65536 if left out
+The file - is standard input.
 ";
+
+// What is said of the command that these words name, or of all.
+pub(crate) fn help_of(words: &[&str]) -> &'static str {
+    for word in words {
+        match *word {
+            "questions" => return QUESTIONS,
+            "verify" => return VERIFY,
+            "split" => return SPLIT,
+            "reverse" => return REVERSE,
+            "describe" => return DESCRIBE,
+            "explain" => return EXPLAIN,
+            _ => {}
+        }
+    }
+    USAGE
+}

@@ -1,12 +1,12 @@
 //! What files hold.
 
-// What a file holds.
+/// What a file holds.
 #[derive(Clone, Copy)]
-pub(crate) enum Kind {
-    // A certificate.
+pub enum Kind {
+    /// A certificate.
     Certificate,
-    // A revocation list.
+    /// A revocation list.
     List,
-    // A certification request.
+    /// A certification request.
     Request,
 }

@@ -4,9 +4,8 @@ use crate::chain_place::ChainPlace;
 use crate::contents::content_fault;
 use crate::lines::Lines;
 use cert_desk_checking::certificates::Extension;
-use cert_desk_checking::{Bundle, Reason, Rule, reason_of};
+use cert_desk_checking::{Bundle, KeptRules, Reason, Rule, reason_of};
 use const_oid::ObjectIdentifier;
-use std::alloc::{AllocError, Global};
 
 // Adds how an extension breaks a rule by itself.
 fn add_against(
@@ -35,7 +34,17 @@ fn add_against(
             lines.identifier("", kind, " lacks ");
             lines.identifier("", purpose, " (RFC 5280 4.2.1.12)");
         }
-        _ => lines.identifier("", kind, " lacks keyCertSign (RFC 5280 6.1.4 (n))"),
+        Rule::NotAuthority => {
+            lines.identifier("", kind, " lacks keyCertSign (RFC 5280 6.1.4 (n))");
+        }
+        // Of these no extension is the reason.
+        Rule::AlgorithmsDiffer
+        | Rule::DuplicateExtension
+        | Rule::WrongIssuer
+        | Rule::NotYetValid
+        | Rule::Expired
+        | Rule::PathTooLong
+        | Rule::WrongSignature => {}
     }
 }
 
@@ -87,63 +96,84 @@ fn add_broken(
     lines.push("\n");
 }
 
-// Adds why the certificate at a place breaks a rule, if it does.
-pub(crate) fn add_breach(
+// The first reason why the certificate at a place breaks a rule.
+fn first_reason(
+    lines: &mut Lines<'_>,
+    bundle: &Bundle,
+    number: usize,
+    rule: Rule,
+    purpose: &ObjectIdentifier<39>,
+) -> Option<Reason> {
+    match reason_of(lines.alloc, bundle, number, rule, purpose) {
+        Ok(reason) => reason,
+        Err(_) => {
+            lines.fail();
+            None
+        }
+    }
+}
+
+// Adds that the certificate at a place breaks a rule, with its first reason.
+pub(crate) fn add_reason_of(
     lines: &mut Lines<'_>,
     place: &ChainPlace<'_>,
     rule: Rule,
     purpose: &ObjectIdentifier<39>,
 ) {
-    match reason_of(lines.alloc, place.bundle, place.number, rule, purpose) {
-        Ok(Some(reason)) => add_broken(lines, place, rule, reason, purpose),
-        Ok(None) => {}
-        Err(_) => lines.fail(),
+    if let Some(reason) = first_reason(lines, place.bundle, place.number, rule, purpose) {
+        add_broken(lines, place, rule, reason, purpose);
     }
 }
 
-// From which place on a path is too long, and why.
-#[derive(Clone, Copy)]
-pub(crate) struct TooLong {
-    from: usize,
-    reason: Reason,
+// Why paths are too long. The further on a place stands, the further before stands the first one
+// whose path length it exceeds. So from the place on that has the reason of the last one, all have
+// it; and since a path length is at most 255, at most so many stand before that.
+#[derive(Drop)]
+pub(crate) struct LengthReasons {
+    last: Option<Reason>,
+    // Whether that of a place was the last one's.
+    is_settled: bool,
 }
 
-impl TooLong {
-    // The first place that is behind more authorities than one before allows, if one is. So is each
-    // place behind it; so it is looked for by halves.
-    pub(crate) fn find(
-        alloc: Global,
+impl LengthReasons {
+    // With that of the last place whose path is too long.
+    pub(crate) fn of(
+        lines: &mut Lines<'_>,
         bundle: &Bundle,
+        judged: &[KeptRules],
         purpose: &ObjectIdentifier<39>,
-    ) -> Result<Option<TooLong>, AllocError> {
-        let mut found = None;
-        let mut first = 0;
-        let mut end = bundle.len();
-        for _ in 0..64 {
-            if first >= end {
-                break;
-            }
-            let from = first + (end - first) / 2;
-            match reason_of(alloc, bundle, from, Rule::PathTooLong, purpose)? {
-                Some(reason) => {
-                    found = Some(TooLong { from, reason });
-                    end = from;
-                }
-                None => first = from + 1,
+    ) -> LengthReasons {
+        let mut last = None;
+        for (number, kept) in judged.iter().enumerate() {
+            if !kept.keeps(Rule::PathTooLong) {
+                last = Some(number);
             }
         }
-        Ok(found)
+        LengthReasons {
+            last: match last {
+                Some(number) => first_reason(lines, bundle, number, Rule::PathTooLong, purpose),
+                None => None,
+            },
+            is_settled: false,
+        }
     }
 
-    // Adds that it is, if this place stands there or further on.
+    // Adds that the path to a place is too long, with its first reason.
     pub(crate) fn add(
-        &self,
+        &mut self,
         lines: &mut Lines<'_>,
         place: &ChainPlace<'_>,
         purpose: &ObjectIdentifier<39>,
     ) {
-        if self.from <= place.number {
-            add_broken(lines, place, Rule::PathTooLong, self.reason, purpose);
+        let rule = Rule::PathTooLong;
+        let reason = if self.is_settled {
+            self.last
+        } else {
+            first_reason(lines, place.bundle, place.number, rule, purpose)
+        };
+        self.is_settled = reason == self.last;
+        if let Some(reason) = reason {
+            add_broken(lines, place, rule, reason, purpose);
         }
     }
 }

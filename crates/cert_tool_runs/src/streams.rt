@@ -1,38 +1,98 @@
-//! What words do with a stream.
+//! What is done with a stream.
 
-ghost use Rattle.std.specs.Prelude.{◌≤◌};
+ghost use Rattle.std.specs.Prelude.{◌⊎◌, ◌≤◌};
+ghost use Rattle.cert_desk_io.specs.Devices.{sink, source};
+ghost use Rattle.cert_desk_io.specs.NamedInputs.{inputs};
+ghost use Rattle.cert_desk_checking.specs.Streams.{Kept};
+ghost use Rattle.cert_tool_runs.specs.Stops.{FedWithin};
+ghost use Rattle.cert_tool_runs.specs.TaskRuns.{IsSplitAt, IsSplit, IsTurned, IsStopped};
 
-use crate::arguments::{limit_of, place_of};
 use crate::files::{open, tell_failure};
-use crate::reply::Page;
 use crate::splitting::{run_list, run_reverse, run_take};
-use crate::tasks::Taking;
+use crate::tasks::Task;
 use crate::telling::tell_fault;
-use cert_desk_io::ExitStatus;
+use cert_desk_io::{ExitStatus, Input, NamedInputs, Output};
 use std::alloc::Global;
-use std::rt::Files;
 
-// `split STREAM LIMIT [PLACE]`, `reverse STREAM LIMIT`.
-pub(crate) fn take<R: Files>(
+// Lists the certificates of an input, or writes one.
+fn split_input<I: Input, O: Output, E: Output>(
     alloc: Global,
-    rt: &R,
-    taking: Taking,
-    stream: &str,
-    limit: &str,
-    place: Option<&str>,
-    out: &mut Page,
-    err: &mut Page,
-) -> Result<ExitStatus, ExitStatus> {
-    let most = limit_of(limit, err)?;
-    let place = place_of(place, err)?;
-    let mut stream = open(rt, stream, err)?;
-    let status = match (taking, place) {
-        (Taking::Split, None) => run_list(alloc, &mut stream.input, out, err, most),
-        (Taking::Split, Some(place)) => {
-            run_take(alloc, &mut stream.input, out, err, most, place)
-        }
-        (Taking::Reverse, _) => run_reverse(alloc, &mut stream.input, out, err, most),
+    stream: &mut I,
+    task: &Task<'_>,
+    out: &mut O,
+    err: &mut E,
+) -> ExitStatus
+    requires { 6 ≤ task.now.limit }
+    ensures { (kept : Kept)
+        × FedWithin (source I.takes I.is_ended I.failures stream.old stream.new)
+        task.now.limit kept
+        × IsSplitAt task.now.place (sink O.gives O.failures out.old out.new)
+        (sink E.gives E.failures err.old err.new) kept result }
+{
+    match task.place {
+        None => run_list(alloc, stream, out, err, task.limit),
+        Some(place) => run_take(alloc, stream, out, err, task.limit, place as usize),
+    }
+}
+
+// Tells what failed and what tells more. That a read failed is told where the certificate that was
+// asked for wasn't had.
+fn tell_behind<I, F: NamedInputs<I>, E: Output>(
+    alloc: Global,
+    files: &F,
+    stream: &I,
+    task: &Task<'_>,
+    status: ExitStatus,
+    err: &mut E,
+) {
+    if status == ExitStatus::Device {
+        tell_failure(alloc, files, stream, task.file, err);
+    }
+    tell_fault(alloc, task, status, err);
+}
+
+// `split`.
+pub(crate) fn split<I: Input + Drop, F: NamedInputs<I>, O: Output, E: Output>(
+    alloc: Global,
+    files: &F,
+    task: &Task<'_>,
+    out: &mut O,
+    err: &mut E,
+) -> ExitStatus
+    requires { 6 ≤ task.now.limit }
+    ensures told { IsSplit (inputs I.takes I.is_ended I.failures (F.is_opened files.now))
+        (sink O.gives O.failures out.old out.new) (sink E.gives E.failures err.old err.new)
+        task.now result
+        ⊎ IsStopped (sink O.gives O.failures out.old out.new) result }
+{
+    let mut stream = match open(alloc, files, task.file, err) {
+        Ok(stream) => stream,
+        Err(status) => return status,
     };
-    tell_failure(&stream, err);
-    Ok(tell_fault(err, status, stream.name, limit))
+    let status = split_input(alloc, &mut stream, task, out, err);
+    tell_behind(alloc, files, &stream, task, status, err);
+    status
+}
+
+// `reverse`.
+pub(crate) fn reverse<I: Input + Drop, F: NamedInputs<I>, O: Output, E: Output>(
+    alloc: Global,
+    files: &F,
+    task: &Task<'_>,
+    out: &mut O,
+    err: &mut E,
+) -> ExitStatus
+    requires { 6 ≤ task.now.limit }
+    ensures told { IsTurned (inputs I.takes I.is_ended I.failures (F.is_opened files.now))
+        (sink O.gives O.failures out.old out.new) (sink E.gives E.failures err.old err.new)
+        task.now result
+        ⊎ IsStopped (sink O.gives O.failures out.old out.new) result }
+{
+    let mut stream = match open(alloc, files, task.file, err) {
+        Ok(stream) => stream,
+        Err(status) => return status,
+    };
+    let status = run_reverse(alloc, &mut stream, out, err, task.limit);
+    tell_behind(alloc, files, &stream, task, status, err);
+    status
 }

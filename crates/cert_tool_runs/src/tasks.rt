@@ -1,147 +1,348 @@
 //! What words ask for.
 
-use crate::help::{CHAIN, DESCRIBE, EXPLAIN, QUESTIONS, REVERSE, SPLIT, USAGE, VERIFY};
+ghost use Rattle.std.specs.Prelude.{◌≡◌, ◌≤◌, IfOk, IfErr, OnOk, map};
+ghost use Rattle.cert_tool_runs.specs.Words.{given_plain};
+ghost use Rattle.cert_tool_runs.specs.Tasks.{kind_of, of_word, of_explained, of_words};
+ghost use Rattle.cert_tool_runs.specs.Tasks.{judges, asks, reads_stream, need_of, Keeps};
+ghost use Rattle.cert_tool_runs.specs.Tasks.{KeepsAll, IsTask, IsAmiss, AsksFor, IsMisuse};
+ghost use Rattle.cert_tool_runs.specs.Tasks.{is_standard, shares_input, IsPlace, IsNoValue};
+ghost use Rattle.cert_tool_runs.specs.Tasks.{command_in, plain_command};
+
+use crate::arguments::{Moment, limit_in, moment_in, number_in, purpose_in};
+use crate::given::{Given, Key, WordFault, given_in};
 use crate::kind::Kind;
-use crate::reply::Page;
-use crate::telling::{tell_no_word, tell_usage, tell_wrong};
-use cert_desk_io::ExitStatus;
+use const_oid::ObjectIdentifier;
 
-// What a file is read for.
+/// What is done.
 #[derive(Clone, Copy)]
-pub(crate) enum Aim {
-    Describe(Kind),
-    Explain(Kind),
-    ExplainAnchors,
-}
-
-// How a stream is taken apart.
-#[derive(Clone, Copy)]
-pub(crate) enum Taking {
-    Split,
-    Reverse,
-}
-
-// What answers are wanted for.
-#[derive(Clone, Copy)]
-pub(crate) enum Judging {
+pub enum Command {
+    /// What a verifier has to answer is written.
+    Questions,
+    /// A chain is judged by answers.
     Verify,
-    Explain,
-}
-
-// What is done.
-#[derive(Clone, Copy)]
-pub(crate) enum Task {
-    Ask,
-    Judge(Judging),
-    Take(Taking),
+    /// Certificates are listed, or one is written.
+    Split,
+    /// Certificates are written in the other order.
+    Reverse,
+    /// What a file says is written.
+    Describe(Kind),
+    /// Why octets are refused is written.
+    Explain(Kind),
+    /// Why anchors are refused is written.
+    ExplainAnchors,
+    /// Why a stream is refused is written.
     ExplainStream,
-    Read(Aim),
+    /// Which rules a chain breaks is written.
+    ExplainChain,
 }
 
-// Words, the kind that some of them name, and what is done then.
-const TASKS: [(&str, &str, Task); 13] = [
-    ("questions", "", Task::Ask),
-    ("verify", "", Task::Judge(Judging::Verify)),
-    ("split", "", Task::Take(Taking::Split)),
-    ("reverse", "", Task::Take(Taking::Reverse)),
-    (
-        "describe",
-        "certificate",
-        Task::Read(Aim::Describe(Kind::Certificate)),
-    ),
-    ("describe", "list", Task::Read(Aim::Describe(Kind::List))),
-    (
-        "describe",
-        "request",
-        Task::Read(Aim::Describe(Kind::Request)),
-    ),
-    (
-        "explain",
-        "certificate",
-        Task::Read(Aim::Explain(Kind::Certificate)),
-    ),
-    ("explain", "list", Task::Read(Aim::Explain(Kind::List))),
-    (
-        "explain",
-        "request",
-        Task::Read(Aim::Explain(Kind::Request)),
-    ),
-    ("explain", "anchors", Task::Read(Aim::ExplainAnchors)),
-    ("explain", "stream", Task::ExplainStream),
-    ("explain", "chain", Task::Judge(Judging::Explain)),
-];
-
-// What is done by a word and a kind.
-fn task_of(word: &str, kind: &str) -> Option<Task> {
-    for row in &TASKS {
-        let (name, of, task) = *row;
-        if name == word && of == kind {
-            return Some(task);
-        }
-    }
-    None
-}
-
-// The kinds that a word knows, if it asks for one.
-fn kinds_of(word: &str) -> &'static str {
-    match word {
-        "describe" => "certificate, list (of revoked certificates) or request",
-        "explain" => {
-            "certificate, list (of revoked certificates), request, anchors, stream or chain"
-        }
-        _ => "",
-    }
-}
-
-// How a word is called.
-pub(crate) fn usage_of(word: &str) -> &'static str {
-    match word {
-        "questions" => QUESTIONS,
-        "verify" => VERIFY,
-        "split" => SPLIT,
-        "reverse" => REVERSE,
-        "describe" => DESCRIBE,
-        "explain" => EXPLAIN,
-        _ => USAGE,
-    }
-}
-
-// What is asked for, and the arguments that say of what.
+/// Whether a command has an option.
 #[derive(Clone, Copy)]
-pub(crate) struct Call<'a> {
-    pub(crate) task: Task,
-    pub(crate) arguments: &'a [&'a str],
+pub enum Need {
+    /// The option must be given.
+    Needed,
+    /// The option may be given.
+    Allowed,
+    /// The option may not be given.
+    Barred,
 }
 
-// What a word asks for, with these arguments.
-pub(crate) fn call_of<'a>(
-    word: &str,
-    arguments: &'a [&'a str],
-    err: &mut Page,
-) -> Result<Call<'a>, ExitStatus> {
-    if let Some(task) = task_of(word, "") {
-        return Ok(Call { task, arguments });
+/// What is wrong with words.
+#[derive(Clone, Copy)]
+pub enum Misuse<'a> {
+    /// An option or another word is wrong.
+    Words(WordFault<'a>),
+    /// Those that are neither options nor values are no command with a file behind it.
+    NoCommand,
+    /// The command needs this option.
+    Missing(Key),
+    /// The command doesn't have this option.
+    Excess(Key),
+    /// The option may not have this value.
+    Wrong(Key, &'a str),
+    /// Two files are standard input.
+    SharedInput,
+}
+
+/// What words ask for, with all that is read of them.
+#[derive(Clone, Copy)]
+pub struct Task<'a> {
+    /// What is done.
+    pub command: Command,
+    /// The file of a stream, or of the value that is described or explained.
+    pub file: &'a str,
+    /// The file of the anchors; empty where the command has none.
+    pub anchors: &'a str,
+    /// The file of the answers; empty where the command has none.
+    pub answers: &'a str,
+    /// When a chain is judged.
+    pub moment: Moment,
+    /// What a chain is wanted for.
+    pub purpose: ObjectIdentifier<39>,
+    /// The most octets that a certificate of a stream may have.
+    pub limit: u32,
+    /// The place of the certificate that is written.
+    pub place: Option<u64>,
+}
+
+// The kind that a word names.
+fn kind_of(word: &str) -> Option<Kind>
+    ensures { result ≡ kind_of word.now }
+{
+    match word {
+        "certificate" => Some(Kind::Certificate),
+        "list" => Some(Kind::List),
+        "request" => Some(Kind::Request),
+        _ => None,
     }
-    let kinds = kinds_of(word);
-    if kinds.is_empty() {
-        return Err(tell_no_word(err, word));
+}
+
+// The command of a word.
+fn of_word(word: &str) -> Option<Command>
+    ensures { result ≡ of_word word.now }
+{
+    match word {
+        "questions" => Some(Command::Questions),
+        "verify" => Some(Command::Verify),
+        "split" => Some(Command::Split),
+        "reverse" => Some(Command::Reverse),
+        _ => None,
     }
-    let [kind, arguments @ ..] = arguments else {
-        return Err(tell_usage(err, &["KIND"], arguments, usage_of(word)));
+}
+
+// The command that explains what a word names.
+fn of_explained(kind: &str) -> Option<Command>
+    ensures { result ≡ of_explained kind.now }
+{
+    match kind {
+        "chain" => Some(Command::ExplainChain),
+        "stream" => Some(Command::ExplainStream),
+        "anchors" => Some(Command::ExplainAnchors),
+        _ => match kind_of(kind) {
+            Some(kind) => Some(Command::Explain(kind)),
+            None => None,
+        },
+    }
+}
+
+// The command of a word and what it is of.
+fn of_words(word: &str, kind: &str) -> Option<Command>
+    ensures { result ≡ of_words word.now kind.now }
+{
+    match word {
+        "describe" => match kind_of(kind) {
+            Some(kind) => Some(Command::Describe(kind)),
+            None => None,
+        },
+        "explain" => of_explained(kind),
+        _ => None,
+    }
+}
+
+// The command that the words between options name, and the file that stands behind it.
+fn command_in<'a>(given: &Given<'a>) -> Option<(Command, &'a str)>
+    ensures { plain_command result ≡ command_in (given_plain given.now) }
+{
+    let Some(word) = given.first else {
+        return None;
     };
-    match task_of(word, kind) {
-        Some(task) => Ok(Call { task, arguments }),
-        None => Err(tell_wrong(err, "KIND", kind, kinds)),
+    let Some(second) = given.second else {
+        return None;
+    };
+    let Some(file) = given.third else {
+        let Some(command) = of_word(word) else {
+            return None;
+        };
+        return Some((command, second));
+    };
+    let Some(command) = of_words(word, second) else {
+        return None;
+    };
+    Some((command, file))
+}
+
+impl Command {
+    // Whether it judges a chain.
+    fn judges(self) -> bool
+        ensures { result ≡ judges self }
+    {
+        matches!(self, Command::Verify | Command::ExplainChain)
+    }
+
+    // Whether it needs anchors.
+    fn asks(self) -> bool
+        ensures { result ≡ asks self }
+    {
+        matches!(self, Command::Questions) || self.judges()
+    }
+
+    // Whether it reads certificates one behind the other.
+    fn reads_stream(self) -> bool
+        ensures { result ≡ reads_stream self }
+    {
+        matches!(
+            self,
+            Command::Split | Command::Reverse | Command::ExplainStream
+        ) || self.asks()
+    }
+
+    // Whether it has this option.
+    fn need_of(self, key: Key) -> Need
+        ensures { result ≡ need_of self key }
+    {
+        let (has, need) = match key {
+            Key::Anchors => (self.asks(), Need::Needed),
+            Key::Answers => (self.judges(), Need::Needed),
+            Key::At => (self.judges(), Need::Allowed),
+            Key::Purpose => (self.judges(), Need::Allowed),
+            Key::Limit => (self.reads_stream(), Need::Allowed),
+            Key::Place => (matches!(self, Command::Split), Need::Allowed),
+        };
+        if has { need } else { Need::Barred }
+    }
+
+    // Whether an option is given where it must be, and isn't where it may not be.
+    fn keeps<'a>(self, file: &str, given: &Given<'a>, key: Key) -> Result<(), Misuse<'a>>
+        ensures kept { OnOk result (Keeps self (given_plain given.now) key) }
+        ensures amiss { IfErr result (λ misuse.
+            IsAmiss self file.now (given_plain given.now) misuse) }
+    {
+        let is_given = given.value_of(key).is_some();
+        match self.need_of(key) {
+            Need::Needed => {
+                if !is_given {
+                    return Err(Misuse::Missing(key));
+                }
+            }
+            Need::Allowed => {}
+            Need::Barred => {
+                if is_given {
+                    return Err(Misuse::Excess(key));
+                }
+            }
+        }
+        Ok(())
+    }
+
+    // Whether that is so of all options.
+    fn keeps_all<'a>(self, file: &str, given: &Given<'a>) -> Result<(), Misuse<'a>>
+        ensures kept { OnOk result (KeepsAll self (given_plain given.now)) }
+        ensures amiss { IfErr result (λ misuse.
+            IsAmiss self file.now (given_plain given.now) misuse) }
+    {
+        self.keeps(file, given, Key::Anchors)?;
+        self.keeps(file, given, Key::Answers)?;
+        self.keeps(file, given, Key::At)?;
+        self.keeps(file, given, Key::Purpose)?;
+        self.keeps(file, given, Key::Limit)?;
+        self.keeps(file, given, Key::Place)?;
+        Ok(())
     }
 }
 
-// The arguments of a task.
-pub(crate) fn names_of(task: Task) -> &'static [&'static str] {
-    match task {
-        Task::Ask => &["ANCHORS", "STREAM", "LIMIT"],
-        Task::Judge(_) => &CHAIN,
-        Task::Take(Taking::Split) => &["STREAM", "LIMIT", "PLACE"],
-        Task::Take(Taking::Reverse) | Task::ExplainStream => &["STREAM", "LIMIT"],
-        Task::Read(_) => &["FILE"],
+// Whether a name is that of standard input.
+fn is_standard(name: &str) -> bool
+    ensures { result ≡ is_standard name.now }
+{
+    name == "-"
+}
+
+// Whether two of three files are standard input.
+fn shares_input(anchors: &str, answers: &str, file: &str) -> bool
+    ensures { result ≡ shares_input anchors.now answers.now file.now }
+{
+    let (anchors, answers, file) = (
+        is_standard(anchors),
+        is_standard(answers),
+        is_standard(file),
+    );
+    (anchors && answers) || (anchors && file) || (answers && file)
+}
+
+// The place that is asked for, if one is; the text that is none is the error.
+fn place_in<'a>(given: &Given<'a>) -> Result<Option<u64>, &'a str>
+    ensures read { IfOk result (λ place. IsPlace place (given_plain given.now).place) }
+    ensures amiss { IfErr result (λ text. IsNoValue Key.Place text.now (given_plain given.now)) }
+{
+    let Some(text) = given.place else {
+        return Ok(None);
+    };
+    let Some(place) = number_in(text) else {
+        return Err(text);
+    };
+    Ok(Some(place))
+}
+
+// What a command asks for of a file, under options that it may have.
+fn task_of<'a>(command: Command, file: &'a str, given: &Given<'a>) -> Result<Task<'a>, Misuse<'a>>
+    requires kept { KeepsAll command (given_plain given.now) }
+    ensures read { IfOk result (λ task.
+        IsTask command file.now (given_plain given.now) task) }
+    ensures limit { IfOk result (λ task. 6 ≤ task.limit) }
+    ensures amiss { IfErr result (λ misuse.
+        IsAmiss command file.now (given_plain given.now) misuse) }
+{
+    let anchors = given.anchors.unwrap_or("");
+    let answers = given.answers.unwrap_or("");
+    if shares_input(anchors, answers, file) {
+        return Err(Misuse::SharedInput);
+    }
+    let at = given.at.unwrap_or("now");
+    let Some(moment) = moment_in(at) else {
+        return Err(Misuse::Wrong(Key::At, at));
+    };
+    let wanted = given.purpose.unwrap_or("serverAuth");
+    let Ok(purpose) = purpose_in(wanted) else {
+        return Err(Misuse::Wrong(Key::Purpose, wanted));
+    };
+    let most = given.limit.unwrap_or("65536");
+    let Some(limit) = limit_in(most) else {
+        return Err(Misuse::Wrong(Key::Limit, most));
+    };
+    let place = match place_in(given) {
+        Ok(place) => place,
+        Err(text) => return Err(Misuse::Wrong(Key::Place, text)),
+    };
+    Ok(Task {
+        command,
+        file,
+        anchors,
+        answers,
+        moment,
+        purpose,
+        limit,
+        place,
+    })
+}
+
+impl<'a> Task<'a> {
+    /// What these words ask for, of those behind the program's name.
+    ///
+    /// Options stand anywhere, each with its value behind it. Where they are left out `--at` is
+    /// `now`, `--purpose` is `serverAuth`, and `--limit` is 65536.
+    ///
+    /// # Errors
+    ///
+    /// What is wrong: with options, then with the command, with options that it needs or doesn't
+    /// have, with their values.
+    pub fn parse(words: &[&'a str]) -> Result<Task<'a>, Misuse<'a>>
+        ensures read { IfOk result (AsksFor (map (λ word. word.now) words.now)) }
+        ensures limit { IfOk result (λ task. 6 ≤ task.limit) }
+        ensures refused { IfErr result (IsMisuse (map (λ word. word.now) words.now)) }
+    {
+        let given = match given_in(words) {
+            Ok(given) => given,
+            Err(fault) => return Err(Misuse::Words(fault)),
+        };
+        let Some((command, file)) = command_in(&given) else {
+            return Err(Misuse::NoCommand);
+        };
+        if let Err(misuse) = command.keeps_all(file, &given) {
+            return Err(misuse);
+        }
+        match task_of(command, file, &given) {
+            Ok(task) => Ok(task),
+            Err(misuse) => Err(misuse),
+        }
     }
 }

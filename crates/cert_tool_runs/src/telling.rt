@@ -1,89 +1,123 @@
 //! Texts that the program itself tells.
 
-use crate::help::{ARGUMENTS, USAGE};
-use crate::reply::Page;
-use cert_desk_io::{ExitStatus, tell_device, write_all};
+use crate::given::{Key, WordFault};
+use crate::help::help_of;
+use crate::tasks::{Misuse, Task};
+use cert_desk_io::{ExitStatus, Output, tell_memory, write_all};
+use std::alloc::{AllocError, Global};
 
-// Writes the parts of a text, and answers the status.
-pub(crate) fn tell(page: &mut Page, parts: &[&str], status: ExitStatus) -> ExitStatus {
-    for part in parts {
-        if write_all(page, part.as_bytes()).is_err() {
-            return tell_device(page);
+// Writes a text to the error output. What can't be written is passed over: nothing is left on which
+// to tell it.
+pub(crate) fn tell<E: Output>(err: &mut E, text: Result<String, AllocError>) {
+    match text {
+        Ok(text) => {
+            let _ = write_all(err, text.as_bytes());
+        }
+        Err(_) => {
+            let _ = tell_memory(err);
         }
     }
-    status
 }
 
-// Says which argument of a word is wrong, and what it should be.
-pub(crate) fn tell_wrong(err: &mut Page, name: &str, given: &str, wanted: &str) -> ExitStatus {
-    tell(
-        err,
-        &[name, ": \"", given, "\" isn't ", wanted, "\n"],
-        ExitStatus::Arguments,
-    )
-}
-
-// Says which of these arguments of a word is missing, or which one is too many, and how the word
-// is called.
-pub(crate) fn tell_usage(
-    err: &mut Page,
-    names: &[&str],
-    given: &[&str],
-    usage: &str,
-) -> ExitStatus {
-    let status = ExitStatus::Arguments;
-    if let Some(name) = names.get(given.len()) {
-        return tell(err, &[name, " is missing\n", usage, ARGUMENTS], status);
-    }
-    match given.get(names.len()) {
-        Some(word) => tell(
-            err,
-            &["\"", *word, "\" is one too many\n", usage, ARGUMENTS],
-            status,
-        ),
-        None => tell(err, &[usage, ARGUMENTS], status),
+// How an option is written.
+fn word_of(key: Key) -> &'static str {
+    match key {
+        Key::Anchors => "--anchors",
+        Key::Answers => "--answers",
+        Key::At => "--at",
+        Key::Purpose => "--purpose",
+        Key::Limit => "--limit",
+        Key::Place => "--place",
     }
 }
 
-// Says that there is no such word.
-pub(crate) fn tell_no_word(err: &mut Page, word: &str) -> ExitStatus {
-    let parts = ["there is no word \"", word, "\"\n", USAGE];
-    tell(err, &parts, ExitStatus::Arguments)
-}
-
-// Says what tells more of a stream that isn't certificates, and answers the status.
-pub(crate) fn tell_fault(
-    err: &mut Page,
-    status: ExitStatus,
-    stream: &str,
-    limit: &str,
-) -> ExitStatus {
-    match status {
-        ExitStatus::Faulty => {
-            let parts = ["(why: cert_tool explain stream ", stream, " ", limit, ")\n"];
-            tell(err, &parts, status)
+// What values an option may have.
+fn values_of(key: Key) -> &'static str {
+    match key {
+        Key::Anchors | Key::Answers => "a file",
+        Key::At => "now, YYYY-MM-DDTHH:MM:SSZ, or seconds (no milliseconds) from 1970 to 9999",
+        Key::Purpose => {
+            "serverAuth, clientAuth, codeSigning, emailProtection, timeStamping, OCSPSigning, \
+            anyExtendedKeyUsage, or dotted arcs"
         }
-        _ => status,
+        Key::Limit => "a number of octets from 6 to 4294967295",
+        Key::Place => "the number of a certificate, counted from 0",
     }
 }
 
-// Says what tells more of a chain that isn't trusted, and answers the status.
-pub(crate) fn tell_more(
-    err: &mut Page,
+// What is wrong with options, values and other words, in one line.
+fn fault_line(alloc: Global, fault: WordFault<'_>) -> Result<String, AllocError> {
+    match fault {
+        WordFault::Unknown(word) => format!(in alloc; "there is no option {word:?}\n"),
+        WordFault::Twice(key) => format!(in alloc; "{} is given twice\n", word_of(key)),
+        WordFault::NoValue(key) => format!(in alloc; "{} has no value\n", word_of(key)),
+        WordFault::Surplus(word) => format!(in alloc; "{word:?} is one too many\n"),
+    }
+}
+
+// What is wrong with words, in one line.
+fn misuse_line(alloc: Global, misuse: Misuse<'_>) -> Result<String, AllocError> {
+    match misuse {
+        Misuse::Words(fault) => fault_line(alloc, fault),
+        Misuse::NoCommand => format!(in alloc; "no command with a file behind it\n"),
+        Misuse::Missing(key) => format!(in alloc; "{} is missing\n", word_of(key)),
+        Misuse::Excess(key) => format!(in alloc; "this command has no {}\n", word_of(key)),
+        Misuse::Wrong(key, text) => {
+            format!(in alloc; "{}: {text:?} isn't {}\n", word_of(key), values_of(key))
+        }
+        Misuse::SharedInput => format!(in alloc; "two files are standard input\n"),
+    }
+}
+
+// Says what is wrong with words, and how the command is called or where that is told.
+pub(crate) fn tell_misuse<E: Output>(
+    alloc: Global,
+    words: &[&str],
+    misuse: Misuse<'_>,
+    err: &mut E,
+) {
+    tell(err, misuse_line(alloc, misuse));
+    let help = match misuse {
+        Misuse::NoCommand => help_of(words),
+        _ => "cert_tool COMMAND --help tells how it is called\n",
+    };
+    let _ = write_all(err, help.as_bytes());
+}
+
+// Says what tells more of a stream that isn't certificates.
+pub(crate) fn tell_fault<E: Output>(
+    alloc: Global,
+    task: &Task<'_>,
     status: ExitStatus,
-    anchors: &str,
-    stream: &str,
-    limit: &str,
-) -> ExitStatus {
+    err: &mut E,
+) {
+    if status == ExitStatus::Faulty {
+        let (limit, file) = (task.limit, task.file);
+        let text = format!(in alloc; "(why: cert_tool explain stream --limit {limit} {file:?})\n");
+        tell(err, text);
+    }
+}
+
+// Says what tells more of a chain that isn't trusted; of anchors where the answers are read.
+pub(crate) fn tell_more<E: Output>(
+    alloc: Global,
+    task: &Task<'_>,
+    are_read: bool,
+    status: ExitStatus,
+    err: &mut E,
+) {
     match status {
         ExitStatus::Refused => {
-            let part = "(why: cert_tool explain chain, with the same arguments)\n";
-            tell(err, &[part], status)
+            let part = "(why: cert_tool explain chain, with the same options and file)\n";
+            let _ = write_all(err, part.as_bytes());
         }
-        ExitStatus::Arguments => {
-            let parts = ["(of anchors: cert_tool explain anchors ", anchors, ")\n"];
-            tell(err, &parts, status)
+        ExitStatus::Arguments if are_read => {
+            let anchors = task.anchors;
+            tell(
+                err,
+                format!(in alloc; "(of anchors: cert_tool explain anchors {anchors:?})\n"),
+            );
         }
-        _ => tell_fault(err, status, stream, limit),
+        _ => tell_fault(alloc, task, status, err),
     }
 }

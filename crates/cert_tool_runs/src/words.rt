@@ -1,107 +1,113 @@
-//! What each word does.
+//! What is done for words.
 
-use crate::chains::{ask, judge};
-use crate::help::{ARGUMENTS, USAGE};
-use crate::reading::{explain_limited, read};
-use crate::reply::{Page, Reply};
-use crate::streams::take;
-use crate::tasks::{Call, Taking, Task, call_of, names_of, usage_of};
-use crate::telling::{tell, tell_usage};
-use cert_desk_io::{ExitStatus, ToWrite};
-use std::alloc::{AllocError, Global};
-use std::rt::{Clock, Files};
+ghost use Rattle.std.specs.Prelude.{◌≡◌, ◌⊎◌, ◌≤◌, map};
+ghost use Rattle.std.specs.List.{list_any};
+ghost use Rattle.cert_desk_io.specs.Devices.{sink};
+ghost use Rattle.cert_desk_io.specs.NamedInputs.{inputs};
+ghost use Rattle.cert_tool_runs.specs.TaskRuns.{asks_of_program, IsDone, IsObeyed};
 
-// Whether a word asks for help.
-fn is_help(word: &str) -> bool {
-    word == "--help" || word == "-h" || word == "help"
+use crate::chains::{ask, explain, verify};
+use crate::help::{ARGUMENTS, VERSION, help_of};
+use crate::reading::read;
+use crate::streams::{reverse, split};
+use crate::tasks::{Command, Task};
+use crate::telling::tell_misuse;
+use cert_desk_io::{ExitStatus, Input, NamedInputs, Output, tell_device, write_all};
+use std::alloc::Global;
+use std::rt::Clock;
+
+// Whether a word asks for help, or which program it is.
+fn asks_of_program(word: &str) -> bool
+    ensures { result ≡ asks_of_program word.now }
+{
+    word == "--help" || word == "-h" || word == "--version"
 }
 
-// What is told where words ask for help: of all words, or of one.
-fn help_of(words: &[&str]) -> Option<&'static str> {
-    match words {
-        [word, ..] if is_help(word) => Some(USAGE),
-        [word, asks, ..] if is_help(asks) => Some(usage_of(word)),
-        _ => None,
+// Whether one of these words does.
+fn ask_of_program(words: &[&str]) -> bool
+    ensures { result ≡ list_any (λ word. asks_of_program word.now) words.now }
+{
+    words.iter().any(|word| asks_of_program(word))
+}
+
+// Whether a word asks which program it is.
+fn is_version(word: &str) -> bool {
+    word == "--version"
+}
+
+// Says how the program is called, or which one it is.
+fn tell_of_program<O: Output, E: Output>(words: &[&str], out: &mut O, err: &mut E) -> ExitStatus
+    ensures { (result ≡ ExitStatus.Done) ⊎ (result ≡ ExitStatus.Device) }
+{
+    let (first, second) = if words.iter().any(|word| is_version(word)) {
+        (VERSION, "")
+    } else {
+        (help_of(words), ARGUMENTS)
+    };
+    if write_all(out, first.as_bytes()).is_err() {
+        let _ = tell_device(err);
+        return ExitStatus::Device;
+    }
+    if write_all(out, second.as_bytes()).is_err() {
+        let _ = tell_device(err);
+        return ExitStatus::Device;
+    }
+    ExitStatus::Done
+}
+
+// Does a task.
+fn done<C: Clock, I: Input + Drop, F: NamedInputs<I>, O: Output, E: Output>(
+    alloc: Global,
+    clock: &C,
+    files: &F,
+    task: &Task<'_>,
+    out: &mut O,
+    err: &mut E,
+) -> ExitStatus
+    requires { 6 ≤ task.now.limit }
+    ensures { IsDone (inputs I.takes I.is_ended I.failures (F.is_opened files.now))
+        (sink O.gives O.failures out.old out.new) (sink E.gives E.failures err.old err.new)
+        task.now result }
+{
+    match task.command {
+        Command::Questions => ask(alloc, files, task, out, err),
+        Command::Verify => verify(alloc, clock, files, task, out, err),
+        Command::Split => split(alloc, files, task, out, err),
+        Command::Reverse => reverse(alloc, files, task, out, err),
+        Command::ExplainChain => explain(alloc, clock, files, task, out, err),
+        Command::Describe(_) => read(alloc, files, task, out, err),
+        Command::Explain(_) => read(alloc, files, task, out, err),
+        Command::ExplainAnchors => read(alloc, files, task, out, err),
+        Command::ExplainStream => read(alloc, files, task, out, err),
     }
 }
 
-// Does a task, by its arguments.
-fn do_task<R: Files + Clock>(
+/// Does what the words of `cert_tool` ask for, of those behind the program's name: `Task::parse`
+/// reads them, and the task is done on the inputs of the names that it has.
+///
+/// Verdicts, questions, certificates and what else was asked for go to `out`; what is wrong with
+/// words, inputs and their contents goes to `err`, and behind that hints how more is told.
+pub fn obey<C: Clock, I: Input + Drop, F: NamedInputs<I>, O: Output, E: Output>(
     alloc: Global,
-    rt: &R,
-    word: &str,
-    call: Call<'_>,
-    out: &mut Page,
-    err: &mut Page,
-) -> Result<ExitStatus, ExitStatus> {
-    match (call.task, call.arguments) {
-        (Task::Ask, [anchors, stream, limit]) => {
-            ask(alloc, rt, [*anchors, *stream, *limit], out, err)
-        }
-        (Task::Judge(judging), [anchors, stream, moment, purpose, limit, answers]) => {
-            let words = [*anchors, *stream, *moment, *purpose, *limit, *answers];
-            judge(alloc, rt, judging, words, out, err)
-        }
-        (Task::Take(taking), [stream, limit]) => {
-            take(alloc, rt, taking, stream, limit, None, out, err)
-        }
-        (Task::Take(Taking::Split), [stream, limit, place]) => {
-            take(
-                alloc,
-                rt,
-                Taking::Split,
-                stream,
-                limit,
-                Some(*place),
-                out,
-                err,
-            )
-        }
-        (Task::ExplainStream, [stream, limit]) => {
-            explain_limited(alloc, rt, stream, limit, out, err)
-        }
-        (Task::Read(aim), [file]) => read(alloc, rt, aim, file, out, err),
-        (task, arguments) => Err(tell_usage(err, names_of(task), arguments, usage_of(word))),
-    }
-}
-
-// Does what words ask for.
-fn do_words<R: Files + Clock>(
-    alloc: Global,
-    rt: &R,
+    clock: &C,
+    files: &F,
     words: &[&str],
-    out: &mut Page,
-    err: &mut Page,
-) -> Result<ExitStatus, ExitStatus> {
-    let [word, arguments @ ..] = words else {
-        return Err(tell(err, &[USAGE], ExitStatus::Arguments));
-    };
-    if let Some(help) = help_of(words) {
-        return Ok(tell(out, &[help, ARGUMENTS], ExitStatus::Done));
+    out: &mut O,
+    err: &mut E,
+) -> ExitStatus
+    ensures obeyed { IsObeyed (inputs I.takes I.is_ended I.failures (F.is_opened files.now))
+        (sink O.gives O.failures out.old out.new) (sink E.gives E.failures err.old err.new)
+        (map (λ word. word.now) words.now)
+        (list_any (λ word. asks_of_program word.now) words.now) result }
+{
+    if ask_of_program(words) {
+        return tell_of_program(words, out, err);
     }
-    let call = call_of(word, arguments, err)?;
-    do_task(alloc, rt, word, call, out, err)
-}
-
-/// Does what the words of `cert_tool` say: the first, of those behind it. What is asked for is to
-/// go to the output, and what is wrong with words, files and their contents to the error output.
-///
-/// # Errors
-///
-/// Want of memory for what goes out.
-pub fn obey<R: Files + Clock>(alloc: Global, rt: &R, words: &[&str]) -> Result<Reply, AllocError> {
-    let mut out = ToWrite::new(Vec::new(alloc));
-    let mut err = ToWrite::new(Vec::new(alloc));
-    let status = match do_words(alloc, rt, words, &mut out, &mut err) {
-        Ok(status) => status,
-        Err(status) => status,
-    };
-    if out.failures() > 0 || err.failures() > 0 {
-        return Err(AllocError);
+    match Task::parse(words) {
+        Ok(task) => done(alloc, clock, files, &task, out, err),
+        Err(misuse) => {
+            tell_misuse(alloc, words, misuse, err);
+            ExitStatus::Arguments
+        }
     }
-    Ok(Reply {
-        out: out.into_inner(),
-        err: err.into_inner(),
-        status,
-    })
 }

@@ -6,7 +6,8 @@
 //! Files are those of data/, which `make_tool_data.sh` made with OpenSSL.
 #![tactic(auto)]
 
-use cert_tool_runs::obey;
+use cert_desk_io::ToWrite;
+use cert_tool_runs::{HostFiles, obey};
 use std::alloc::Global;
 use std::io::{BufWriter, Write};
 use std::{io, str};
@@ -22,10 +23,13 @@ fn write_shown<W: Write>(alloc: Global, octets: &[u8], to: &mut W) -> io::Result
 // Writes the answer to a line.
 fn answer<W: Write>(rt: &HostRuntime, line: &str, to: &mut W) -> io::Result<()> {
     let words: Vec<&str> = line.split(' ').collect(rt.alloc())?;
-    let reply = obey(rt.alloc(), rt, words.as_slice())?;
-    write_shown(rt.alloc(), reply.out.as_slice(), to)?;
-    to.write_all(reply.err.as_slice())?;
-    writeln!(to, "= {}", reply.status.code())
+    let mut out = ToWrite::new(Vec::new(rt.alloc()));
+    let mut err = ToWrite::new(Vec::new(rt.alloc()));
+    let files = HostFiles::new(rt);
+    let status = obey(rt.alloc(), rt, &files, words.as_slice(), &mut out, &mut err);
+    write_shown(rt.alloc(), out.into_inner().as_slice(), to)?;
+    to.write_all(err.into_inner().as_slice())?;
+    writeln!(to, "= {}", status.code())
 }
 
 fn main(rt: HostRuntime) -> io::Result<()> {

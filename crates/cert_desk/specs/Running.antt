@@ -1,0 +1,42 @@
+-- What becomes of the program's words.
+use Rattle.std.specs.Prelude.{◌≡◌, ℕ, ◌⊎◌, List}
+use Rattle.cert_desk_io.specs.declared.exit_status.ExitStatus.{ExitStatus}
+use Rattle.cert_desk_io.specs.declared.exit_status.ExitStatus.TheVariants as statuses
+use Rattle.cert_desk_io.specs.declared.named_inputs.OpenError.{OpenError}
+use Rattle.cert_desk_io.specs.Devices.{Device, Untouched}
+use Rattle.cert_desk_io.specs.NamedInputs.{Inputs, OfOpened, IsUnopenedTold}
+use Rattle.cert_desk_io.specs.Telling.{IsComplaint}
+use Rattle.cert_desk_checking.specs.declared.arguments.Arguments.{Arguments}
+use Rattle.cert_desk_checking.specs.declared.outcome.Outcome.{Outcome}
+use Rattle.cert_desk_checking.specs.Anchors.{purpose_plain}
+use Rattle.cert_desk_checking.specs.Arguments.{AskNoCheck}
+use Rattle.cert_desk_checking.specs.Runs.{IsOutcome, IsTold, IsUnasked, Judge}
+use Rattle.cert_desk.specs.declared.command.Command.{Command}
+use Rattle.cert_desk.specs.declared.command.Command.TheVariants as commands
+use Rattle.cert_desk.specs.Commands.{AsksFor, AskNoChain, AskNoListing}
+
+-- an input isn't opened, which is told
+abbrev pub IsUnopened : Device → Device → ExitStatus → Type 0
+IsUnopened out err answer = Untouched out × (error : OpenError) × IsUnopenedTold err error answer
+
+-- `check`: of the anchors and the stream of these names, and of nothing else
+abbrev pub IsChecked : Inputs → Judge → Device → Device → Arguments → ExitStatus → Type 0
+IsChecked i judge out err a answer =
+    OfOpened i a.anchors.now (λ anchors. OfOpened i a.stream.now (λ stream.
+    (outcome : Outcome)
+    × IsOutcome anchors stream judge a.moment (purpose_plain a.purpose) a.limit outcome
+    × IsTold out err outcome answer))
+    ⊎ (IsUnasked judge × IsUnopened out err answer)
+
+-- Of `show` and `issue` it is said here that no judge is asked.
+abbrev pub IsRun : Inputs → Judge → Device → Device → Command → ExitStatus → Type 0
+IsRun i judge out err (commands.Check a) answer = IsChecked i judge out err a answer
+IsRun i judge out err (commands.Show kind file) answer = IsUnasked judge
+IsRun i judge out err (commands.Issue orders) answer = IsUnasked judge
+
+-- The words ask for a command, and it is run; or for none, which is told.
+abbrev pub IsObeyed : Inputs → Judge → Device → Device → List (List ℕ) → ExitStatus → Type 0
+IsObeyed i judge out err words answer =
+    ((command : Command) × AsksFor words command × IsRun i judge out err command answer)
+    ⊎ (AskNoCheck words × AskNoListing words × AskNoChain words × IsUnasked judge × Untouched out
+    × (usage : List ℕ) × IsComplaint err usage statuses.Arguments answer)

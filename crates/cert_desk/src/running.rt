@@ -1,0 +1,126 @@
+//! Runs of commands, over inputs that have names.
+ghost use Rattle.std.specs.Prelude.{◌⊎◌, ◌≤◌, map, string_bytes};
+ghost use Rattle.cert_desk_io.specs.Devices.{sink};
+ghost use Rattle.cert_desk_io.specs.NamedInputs.{inputs};
+ghost use Rattle.cert_desk_checking.specs.Runs.{judging};
+ghost use Rattle.cert_desk.specs.Commands.{HasLimit};
+ghost use Rattle.cert_desk.specs.Running.{IsChecked, IsRun, IsObeyed};
+
+use crate::command::Command;
+use cert_desk_io::{NamedInputs, tell_unopened};
+use cert_desk_issuing::{
+    Arguments, ExitStatus, Input, Output, SignatureJudge, USAGE, complain, run_check, run_orders,
+};
+use cert_desk_listing::{FileKind, run_show};
+use std::alloc::Global;
+
+// Opens the inputs of a check, and runs it on them.
+fn check<I: Input + Drop, F: NamedInputs<I>, O: Output, E: Output, J: SignatureJudge>(
+    alloc: Global,
+    files: &F,
+    arguments: &Arguments<'_>,
+    out: &mut O,
+    err: &mut E,
+    judge: &mut J,
+) -> ExitStatus
+    requires { 6 ≤ arguments.now.limit }
+    ensures told { IsChecked (inputs I.takes I.is_ended I.failures (F.is_opened files.now))
+        (judging J.answers J.questions judge.old judge.new)
+        (sink O.gives O.failures out.old out.new) (sink E.gives E.failures err.old err.new)
+        arguments.now result }
+{
+    let mut anchors = match files.open(arguments.anchors) {
+        Ok(anchors) => anchors,
+        Err(error) => return tell_unopened(err, error),
+    };
+    let mut stream = match files.open(arguments.stream) {
+        Ok(stream) => stream,
+        Err(error) => return tell_unopened(err, error),
+    };
+    run_check(
+        alloc,
+        &mut anchors,
+        &mut stream,
+        out,
+        err,
+        arguments.moment,
+        &arguments.purpose,
+        arguments.limit,
+        judge,
+    )
+}
+
+// Opens an input, and shows what is in it.
+fn show<I: Input + Drop, F: NamedInputs<I>, O: Output, E: Output>(
+    alloc: Global,
+    files: &F,
+    kind: FileKind,
+    file: &str,
+    out: &mut O,
+    err: &mut E,
+) -> ExitStatus {
+    let mut file = match files.open(file) {
+        Ok(file) => file,
+        Err(error) => return tell_unopened(err, error),
+    };
+    run_show(alloc, &mut file, out, err, kind)
+}
+
+// Opens orders, and issues the chain that they ask for.
+fn issue<I: Input + Drop, F: NamedInputs<I>, O: Output, E: Output>(
+    alloc: Global,
+    files: &F,
+    orders: &str,
+    out: &mut O,
+    err: &mut E,
+) -> ExitStatus {
+    let mut orders = match files.open(orders) {
+        Ok(orders) => orders,
+        Err(error) => return tell_unopened(err, error),
+    };
+    run_orders(alloc, &mut orders, out, err)
+}
+
+// Runs a command.
+fn run<I: Input + Drop, F: NamedInputs<I>, O: Output, E: Output, J: SignatureJudge>(
+    alloc: Global,
+    files: &F,
+    command: &Command<'_>,
+    out: &mut O,
+    err: &mut E,
+    judge: &mut J,
+) -> ExitStatus
+    requires { HasLimit command.now }
+    ensures told { IsRun (inputs I.takes I.is_ended I.failures (F.is_opened files.now))
+        (judging J.answers J.questions judge.old judge.new)
+        (sink O.gives O.failures out.old out.new) (sink E.gives E.failures err.old err.new)
+        command.now result }
+{
+    match command {
+        Command::Check(arguments) => check(alloc, files, arguments, out, err, judge),
+        Command::Show { kind, file } => show(alloc, files, *kind, *file, out, err),
+        Command::Issue { orders } => issue(alloc, files, *orders, out, err),
+    }
+}
+
+/// Does what the words of `cert_desk` ask for, of which the first is the program's name:
+/// `Command::parse` reads them, and the command is run on the inputs of the names that it has. Of
+/// words that are no command `USAGE` is told.
+pub fn obey<I: Input + Drop, F: NamedInputs<I>, O: Output, E: Output, J: SignatureJudge>(
+    alloc: Global,
+    files: &F,
+    words: &[String],
+    out: &mut O,
+    err: &mut E,
+    judge: &mut J,
+) -> ExitStatus
+    ensures obeyed { IsObeyed (inputs I.takes I.is_ended I.failures (F.is_opened files.now))
+        (judging J.answers J.questions judge.old judge.new)
+        (sink O.gives O.failures out.old out.new) (sink E.gives E.failures err.old err.new)
+        (map string_bytes words.now) result }
+{
+    match Command::parse(words) {
+        Some(command) => run(alloc, files, &command, out, err, judge),
+        None => complain(err, USAGE.as_bytes(), ExitStatus::Arguments),
+    }
+}
