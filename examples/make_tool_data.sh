@@ -82,11 +82,30 @@ def faulty(name, place, *replaced):
 faulty("padded.der", server.index(b"\x02\x14") + 2, 0x00, 0x10)
 faulty("month.der", server.index(b"\x17\x0d") + 4, 0x39, 0x39)
 faulty("true.der", server.index(b"\x01\x01\xff") + 2, 0x01)
+faulty("no_zone.der", 115 + 14, 0x30)
+faulty("early.der", 115 + 2, 0x36)
+faulty("default.der", server.index(b"\x01\x01\xff") + 2, 0x00)
+faulty("not_a_date.der", 115, 0x16)
+# the second date of another kind, and NULL behind the extensions: with longer parts around them
+def longer(name, place, removed, added, *around):
+    other = bytearray(server[:place]) + added + server[place + removed :]
+    for part in around:
+        change = len(added) - removed
+        if other[part + 1] == 0x82:
+            length = int.from_bytes(other[part + 2 : part + 4], "big") + change
+            other[part + 2 : part + 4] = length.to_bytes(2, "big")
+        else:
+            other[part + 1] += change
+    open(name, "wb").write(other)
+longer("second_date.der", 130, 15, b"\x18\x0f20361301000000Z", 0, 4, 113)
+longer("inside.der", 8 + 417, 0, b"\x05\x00", 0, 4)
 open("cut.der", "wb").write(server[:-3])
 open("behind.der", "wb").write(server + b"\0")
 open("bad_stream.der", "wb").write(octets[:698] + open("month.der", "rb").read())
 open("leaf_first.der", "wb").write(octets[698:] + octets[:698])
 open("pem.txt", "wb").write(b"-----BEGIN CERTIFICATE-----\n")
+open("bag.txt", "wb").write(b"Bag Attributes\n    localKeyID: 01\n-----BEGIN CERTIFICATE-----\n")
+open("mark.txt", "wb").write(b"\xef\xbb\xbf-----BEGIN CERTIFICATE-----\n")
 # the second word of the second line is no number
 lines = open("answers.txt").read().split("\n")
 bad = lines[1].replace(" - ", " x ", 1)
@@ -311,3 +330,93 @@ openssl req -new -key "$work/full.key" -subj "/CN=wanted" -outform DER -out requ
 for name in long plain constrained twice unwise; do
     "$tool" questions --anchors anchor.der "$name.der" | "$here/answer.py" > "$name.txt"
 done
+
+# certificates and lists that are read and must be otherwise, signed by nobody
+python3 - <<'PY'
+def tlv(tag, *parts):
+    octets = b"".join(parts)
+    length = len(octets)
+    digits = length.to_bytes((length.bit_length() + 7) // 8 or 1, "big")
+    form = digits if length < 0x80 else bytes([0x80 | len(digits)]) + digits
+    return bytes([tag]) + form + octets
+def seq(*parts):
+    return tlv(0x30, *parts)
+def oid(*octets):
+    return tlv(6, bytes(octets))
+def extension(number, content, critical=False, below=(0x55, 0x1D)):
+    flag = [tlv(1, b"\xff")] if critical else []
+    return seq(oid(*below, number), *flag, tlv(4, content))
+def named(text):
+    return seq(tlv(0x31, seq(oid(0x55, 4, 3), tlv(0x0C, text))))
+def algorithm(last):
+    return seq(oid(0x2A, 0x86, 0x48, 0xCE, 0x3D, 4, 3, last))
+PE = (0x2B, 6, 1, 5, 5, 7, 1)
+BITS = tlv(3, b"\0\0")
+KEY = seq(seq(oid(0x2B, 0x65, 0x70)), tlv(3, b"\0" + bytes(32)))
+DATES = seq(tlv(0x17, b"260101000000Z"), tlv(0x17, b"360101000000Z"))
+def certificate(name, *, version=2, serial=b"\x07", issuer=named(b"above"), dates=DATES,
+                subject=named(b"below"), ids=b"", extensions=(), outside=2):
+    shown = tlv(0xA0, tlv(2, bytes([version]))) if version else b""
+    listed = tlv(0xA3, seq(*extensions)) if extensions is not None else b""
+    signed = seq(shown, tlv(2, serial), algorithm(2), issuer, dates, subject, KEY, ids, listed)
+    open(name, "wb").write(seq(signed, algorithm(outside), BITS))
+SKI = extension(14, tlv(4, b"key"))
+AKI = extension(35, seq(tlv(0x80, b"key")))
+# version 1 with extensions and unique identifiers, dates of the wrong form and order, no names, a
+# serial number of 21 octets without one for the sign, another algorithm outside
+certificate("remarked.der", version=0, serial=b"\x7f" * 21, issuer=seq(), subject=seq(),
+            dates=seq(tlv(0x18, b"20360101000000Z"), tlv(0x18, b"20260101000000Z")),
+            ids=tlv(0x81, b"\0\1") + tlv(0x82, b"\0\2"), outside=3)
+# an authority whose constraints aren't critical, without keys' identifiers and keyUsage
+certificate("remarked_authority.der", extensions=[
+    extension(19, seq(tlv(1, b"\xff"), tlv(2, b"\1")))])
+# keyCertSign, a path length and nameConstraints without cA; each criticality turned round
+certificate("remarked_subscriber.der", extensions=[
+    extension(14, tlv(4, b"key"), True), extension(35, seq(tlv(0x80, b"key"), tlv(0x82, b"\7")), True),
+    extension(15, tlv(3, b"\2\4")), extension(19, seq(tlv(2, b"\0"))),
+    extension(30, seq(tlv(0xA0, seq(tlv(0x87, b"\x0a\0\0\1"), tlv(0x80, b"\1"))))),
+    extension(36, seq(tlv(0x80, b"\0"))), extension(54, tlv(2, b"\0")),
+    extension(46, seq(seq(tlv(0x81, b"\6\x40"))), True), extension(9, seq(), True),
+    extension(1, seq(), True, PE), extension(11, seq(), True, PE),
+    extension(32, seq(seq(oid(0x2A, 3)), seq(oid(0x2A, 3)))),
+    extension(33, seq(seq(oid(0x55, 0x1D, 0x20, 0), oid(0x2A, 3))), True)])
+# empty sequences, a keyUsage without a use, a path length beside a keyUsage without keyCertSign, an
+# extension twice, a content that is none
+certificate("remarked_empty.der", extensions=[
+    AKI, SKI, extension(15, tlv(3, b"\0")), extension(19, seq(tlv(1, b"\xff"), tlv(2, b"\0")), True),
+    extension(17, seq()), extension(18, seq()), extension(30, seq(), True), extension(31, seq()),
+    extension(32, seq()), extension(33, seq()), extension(36, seq(), True), extension(37, seq()),
+    extension(37, tlv(2, b"\0"))])
+# names that aren't well formed, and some that are
+certificate("remarked_names.der", extensions=[AKI, extension(17, seq(
+    *[tlv(0x82, text) for text in (b"", b".", b"a..b", b"a b", b"-a", b"a-", b"a_b", b"a.example.",
+      b"a*.example", b"b.*.example", b"*", b"*.example", b"a-b.example", b"xn--a", b"1.example",
+      b"a" * 63 + b".example", b"a" * 64 + b".example")],
+    *[tlv(0x81, text) for text in (b"", b"a", b"@example", b"a@", b"A <a@example>", b"a@b@example",
+      b"a@[192.0.2.1]", b"a@example")],
+    *[tlv(0x86, text) for text in (b"", b"example", b"//example/", b"http:", b"1a:b", b"a b:c",
+      b"http://a b/", b"http://example/", b"urn:a:b")],
+    *[tlv(0x87, bytes(count)) for count in (0, 5, 8, 4, 16)]))])
+def revoked(serial, date=tlv(0x17, b"260101000000Z"), extensions=None):
+    return seq(tlv(2, serial), date, *([seq(*extensions)] if extensions is not None else []))
+def crl(name, *, version=1, issuer=named(b"above"), this=tlv(0x17, b"260101000000Z"),
+        following=tlv(0x17, b"260201000000Z"), entries=None, extensions=None, outside=2):
+    shown = tlv(2, bytes([version])) if version else b""
+    listed = tlv(0xA0, seq(*extensions)) if extensions is not None else b""
+    within = seq(*entries) if entries is not None else b""
+    signed = seq(shown, algorithm(2), issuer, this, following, within, listed)
+    open(name, "wb").write(seq(signed, algorithm(outside), BITS))
+# version 1 with extensions, of the list and of entries; no issuer; dates of the wrong form; another
+# algorithm outside
+crl("remarked_list.der", version=0, issuer=seq(), outside=3, this=tlv(0x18, b"20260101000000Z"),
+    following=tlv(0x18, b"20260201000000Z"), extensions=[], entries=[
+    revoked(b"\1", tlv(0x18, b"20260101000000Z")), revoked(b"\2", extensions=[]),
+    revoked(b"\3", extensions=[extension(21, tlv(10, b"\1"), True)]),
+    revoked(b"\4", extensions=[extension(24, tlv(0x18, b"20260101000000Z"), True)]),
+    revoked(b"\5", extensions=[extension(29, seq(tlv(0xA4, named(b"other"))))])])
+# no nextUpdate, no entry, each criticality turned round, a number of 21 octets
+crl("remarked_delta.der", following=b"", entries=[], extensions=[
+    extension(35, seq(), True), extension(20, tlv(2, b"\1" + bytes(20)), True),
+    extension(27, tlv(2, b"\1")), extension(28, seq()), extension(46, seq(seq(tlv(0xA0, tlv(
+    0xA0, tlv(0x86, b"http://example/"))))), True), extension(1, seq(), True, PE)])
+PY

@@ -1,10 +1,13 @@
 //! Why octets give no anchors.
 
+use crate::identifiers::{entries_of, known_identifiers};
 use crate::lines::Lines;
 use crate::refusal::{add_certificate_fault, is_pem};
 use crate::stream_refusal::PEM_STREAM;
+use crate::unjudged::add_unjudged;
 use cert_desk_checking::{AnchorFault, Outcome, Raw, TrustAnchorChoice, read_anchors};
 use cert_desk_io::FromRead;
+use const_oid::Database;
 use der_core::from_der_partial;
 use std::alloc::{AllocError, Global};
 
@@ -47,20 +50,30 @@ fn count_anchors(alloc: Global, octets: &[u8]) -> Result<usize, Outcome> {
     }
 }
 
-// Why octets aren't trust anchors, one behind the other, each with a name and a key: the first
-// fault, and the octet where it stands.
-pub(crate) fn explain_anchors(alloc: Global, octets: &[u8]) -> Result<String, AllocError> {
-    let mut lines = Lines::without_names(alloc);
+// Adds what is to be said of octets that should be anchors.
+fn add_anchors(lines: &mut Lines<'_>, octets: &[u8]) {
     if is_pem(octets) {
         lines.push(PEM_STREAM);
-        return lines.finish();
+        return;
     }
-    match count_anchors(alloc, octets) {
-        Ok(count) => lines.count("anchors: ", count as u64, ", each with a name and a key\n"),
+    match count_anchors(lines.alloc, octets) {
+        Ok(count) => {
+            lines.count("anchors: ", count as u64, ", each with a name and a key\n");
+            add_unjudged(lines, octets);
+        }
         Err(Outcome::BadAnchors { offset, fault }) => {
-            add_anchor_fault(&mut lines, octets, offset, fault);
+            add_anchor_fault(lines, octets, offset, fault);
         }
         Err(_) => lines.fail(),
     }
+}
+
+// Why octets aren't trust anchors, one behind the other, each with a name and a key: the first
+// fault, and the octet where it stands. Of octets that are, what they say that isn't judged.
+pub(crate) fn explain_anchors(alloc: Global, octets: &[u8]) -> Result<String, AllocError> {
+    let identifiers = known_identifiers(alloc)?;
+    let entries = entries_of(alloc, identifiers.as_slice())?;
+    let mut lines = Lines::new(alloc, Database::new(entries.as_slice()));
+    add_anchors(&mut lines, octets);
     lines.finish()
 }

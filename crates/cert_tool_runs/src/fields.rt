@@ -1,4 +1,7 @@
-//! The names of the parts of certificates, lists and requests (RFC 5280 4.1, 5.1, RFC 2986 4).
+//! The parts of certificates, lists and requests, in their order (RFC 5280 4.1, 5.1, RFC 2986 4).
+
+use crate::lines::Lines;
+use der_core::Tag;
 
 // What a value is, of those whose parts have names.
 #[derive(Clone, Copy)]
@@ -11,6 +14,7 @@ pub(crate) enum Node {
     Entry,
     Request,
     Info,
+    Attributes,
     Validity,
     Key,
     Algorithm,
@@ -23,116 +27,211 @@ pub(crate) enum Node {
     Other,
 }
 
-// A part: the first octet of its tag, how many parts before have the same, its name, and what it
-// is.
-type Field = (u8, usize, &'static str, Node);
+// A part: the first octet of its tag, whether it may be left out, its name, and what it is.
+type Field = (u8, bool, &'static str, Node);
 
-// However many have the same.
-const ANY: usize = usize::MAX;
+// The first octet of a time's tag: that of UTCTime, which stands for GeneralizedTime too.
+const TIME: u8 = 0x17;
 
-const CERTIFICATE: [Field; 2] = [
-    (0x30, 0, "tbsCertificate", Node::Signed),
-    (0x30, 1, "signatureAlgorithm", Node::Algorithm),
+// Of any tag.
+const ANY: u8 = 0;
+
+const CERTIFICATE: [Field; 3] = [
+    (0x30, false, "tbsCertificate", Node::Signed),
+    (0x30, false, "signatureAlgorithm", Node::Algorithm),
+    (0x03, false, "signatureValue", Node::Other),
 ];
 
 const SIGNED: [Field; 10] = [
-    (0xa0, ANY, "version", Node::Other),
-    (0x02, ANY, "serialNumber", Node::Other),
-    (0x30, 0, "signature", Node::Algorithm),
-    (0x30, 1, "issuer", Node::Name),
-    (0x30, 2, "validity", Node::Validity),
-    (0x30, 3, "subject", Node::Name),
-    (0x30, 4, "subjectPublicKeyInfo", Node::Key),
-    (0x81, ANY, "issuerUniqueID", Node::Other),
-    (0x82, ANY, "subjectUniqueID", Node::Other),
-    (0xa3, ANY, "extensions", Node::Wrapped),
+    (0xa0, true, "version", Node::Other),
+    (0x02, false, "serialNumber", Node::Other),
+    (0x30, false, "signature", Node::Algorithm),
+    (0x30, false, "issuer", Node::Name),
+    (0x30, false, "validity", Node::Validity),
+    (0x30, false, "subject", Node::Name),
+    (0x30, false, "subjectPublicKeyInfo", Node::Key),
+    (0x81, true, "issuerUniqueID", Node::Other),
+    (0x82, true, "subjectUniqueID", Node::Other),
+    (0xa3, true, "extensions", Node::Wrapped),
 ];
 
-const LIST: [Field; 2] = [
-    (0x30, 0, "tbsCertList", Node::SignedList),
-    (0x30, 1, "signatureAlgorithm", Node::Algorithm),
+const LIST: [Field; 3] = [
+    (0x30, false, "tbsCertList", Node::SignedList),
+    (0x30, false, "signatureAlgorithm", Node::Algorithm),
+    (0x03, false, "signatureValue", Node::Other),
 ];
 
-const SIGNED_LIST: [Field; 9] = [
-    (0x02, ANY, "version", Node::Other),
-    (0x30, 0, "signature", Node::Algorithm),
-    (0x30, 1, "issuer", Node::Name),
-    (0x30, 2, "revokedCertificates", Node::Revoked),
-    (0x17, 0, "thisUpdate", Node::Other),
-    (0x18, 0, "thisUpdate", Node::Other),
-    (0x17, ANY, "nextUpdate", Node::Other),
-    (0x18, ANY, "nextUpdate", Node::Other),
-    (0xa0, ANY, "crlExtensions", Node::Wrapped),
+const SIGNED_LIST: [Field; 7] = [
+    (0x02, true, "version", Node::Other),
+    (0x30, false, "signature", Node::Algorithm),
+    (0x30, false, "issuer", Node::Name),
+    (TIME, false, "thisUpdate", Node::Other),
+    (TIME, true, "nextUpdate", Node::Other),
+    (0x30, true, "revokedCertificates", Node::Revoked),
+    (0xa0, true, "crlExtensions", Node::Wrapped),
 ];
 
-const REQUEST: [Field; 2] = [
-    (0x30, 0, "certificationRequestInfo", Node::Info),
-    (0x30, 1, "signatureAlgorithm", Node::Algorithm),
+const REQUEST: [Field; 3] = [
+    (0x30, false, "certificationRequestInfo", Node::Info),
+    (0x30, false, "signatureAlgorithm", Node::Algorithm),
+    (0x03, false, "signature", Node::Other),
 ];
 
-const INFO: [Field; 3] = [
-    (0x02, ANY, "version", Node::Other),
-    (0x30, 0, "subject", Node::Name),
-    (0x30, 1, "subjectPKInfo", Node::Key),
+const INFO: [Field; 4] = [
+    (0x02, false, "version", Node::Other),
+    (0x30, false, "subject", Node::Name),
+    (0x30, false, "subjectPKInfo", Node::Key),
+    (0xa0, false, "attributes", Node::Attributes),
 ];
 
-const ENTRY: [Field; 2] = [
-    (0x02, ANY, "userCertificate", Node::Other),
-    (0x30, ANY, "crlEntryExtensions", Node::Extensions),
+const ENTRY: [Field; 3] = [
+    (0x02, false, "userCertificate", Node::Other),
+    (TIME, false, "revocationDate", Node::Other),
+    (0x30, true, "crlEntryExtensions", Node::Extensions),
 ];
 
-const KEY: [Field; 1] = [(0x30, ANY, "algorithm", Node::Algorithm)];
-
-const ALGORITHM: [Field; 1] = [(0x06, 0, "algorithm", Node::Other)];
-
-const ATTRIBUTE: [Field; 1] = [(0x06, 0, "type", Node::Other)];
-
-const EXTENSION: [Field; 2] = [
-    (0x06, ANY, "extnID", Node::Other),
-    (0x01, ANY, "critical", Node::Other),
+const VALIDITY: [Field; 2] = [
+    (TIME, false, "notBefore", Node::Other),
+    (TIME, false, "notAfter", Node::Other),
 ];
 
-// The name of a part among these, and what it is; this other name, if it is none of them.
-fn field_in(fields: &[Field], tag: u8, number: usize, other: &'static str) -> (&'static str, Node) {
-    for row in fields {
-        let (first, before, name, node) = *row;
-        if first == tag && (before == number || before == ANY) {
-            return (name, node);
+const KEY: [Field; 2] = [
+    (0x30, false, "algorithm", Node::Algorithm),
+    (0x03, false, "subjectPublicKey", Node::Other),
+];
+
+const ALGORITHM: [Field; 2] = [
+    (0x06, false, "algorithm", Node::Other),
+    (ANY, true, "parameters", Node::Other),
+];
+
+const ATTRIBUTE: [Field; 2] = [
+    (0x06, false, "type", Node::Other),
+    (ANY, false, "value", Node::Other),
+];
+
+const EXTENSION: [Field; 3] = [
+    (0x06, false, "extnID", Node::Other),
+    (0x01, true, "critical", Node::Other),
+    (0x04, false, "extnValue", Node::Other),
+];
+
+// The parts of a value, in their order; of a list that of each member; none where they have no
+// names.
+fn fields_of(node: Node) -> &'static [Field] {
+    match node {
+        Node::Certificate => &CERTIFICATE,
+        Node::Signed => &SIGNED,
+        Node::List => &LIST,
+        Node::SignedList => &SIGNED_LIST,
+        Node::Entry => &ENTRY,
+        Node::Request => &REQUEST,
+        Node::Info => &INFO,
+        Node::Validity => &VALIDITY,
+        Node::Key => &KEY,
+        Node::Algorithm => &ALGORITHM,
+        Node::Attribute => &ATTRIBUTE,
+        Node::Extension => &EXTENSION,
+        _ => members_of(node),
+    }
+}
+
+// The members of a list, or what a tag is around.
+fn members_of(node: Node) -> &'static [Field] {
+    match node {
+        Node::Revoked => &[(0x30, false, "an entry", Node::Entry)],
+        Node::Name => &[(0x31, false, "a relative name", Node::Relative)],
+        Node::Relative | Node::Attributes => &[(0x30, false, "an attribute", Node::Attribute)],
+        Node::Wrapped => &[(0x30, false, "", Node::Extensions)],
+        Node::Extensions => &[(0x30, false, "an extension", Node::Extension)],
+        _ => &[],
+    }
+}
+
+// Whether a value is a list.
+fn is_list(node: Node) -> bool {
+    match node {
+        Node::Revoked | Node::Name | Node::Relative => true,
+        Node::Attributes | Node::Extensions => true,
+        _ => false,
+    }
+}
+
+// Which parts of a value may stand at a place inside it.
+#[derive(Clone, Copy)]
+pub(crate) struct Fields {
+    node: Node,
+    // Those before this one stand further in front.
+    from: usize,
+}
+
+impl Fields {
+    // Those of a value, at its beginning.
+    pub(crate) fn of(node: Node) -> Fields {
+        Fields { node, from: 0 }
+    }
+
+    // Whether the parts of the value have names.
+    pub(crate) fn is_named(&self) -> bool {
+        !fields_of(self.node).is_empty()
+    }
+
+    // The name of the part whose tag has this first octet, what it is, and the parts that may stand
+    // behind it; none where it may not stand there.
+    pub(crate) fn take(&self, first: u8) -> Option<(&'static str, Node, Fields)> {
+        for (number, field) in fields_of(self.node).iter().enumerate() {
+            let (tag, is_optional, name, node) = *field;
+            if number >= self.from {
+                if tag == first || tag == ANY || (tag == TIME && first == 0x18) {
+                    let from = if is_list(self.node) {
+                        0
+                    } else {
+                        number.saturating_add(1)
+                    };
+                    let behind = Fields {
+                        node: self.node,
+                        from,
+                    };
+                    return Some((name, node, behind));
+                }
+                if !is_optional {
+                    return None;
+                }
+            }
+        }
+        None
+    }
+
+    // Adds which parts may stand there, as a line; nothing where none may.
+    pub(crate) fn add(&self, lines: &mut Lines<'_>) {
+        let mut before = "  there may stand ";
+        for (number, field) in fields_of(self.node).iter().enumerate() {
+            let (tag, is_optional, name, _) = *field;
+            if number >= self.from {
+                lines.push(before);
+                add_part(lines, tag, name);
+                before = ", ";
+                if !is_optional {
+                    break;
+                }
+            }
+        }
+        if before == ", " {
+            lines.push("\n");
         }
     }
-    (other, Node::Other)
 }
 
-// The name of a part, and what it is: by the first octet of its tag, and how many parts before have
-// the same.
-pub(crate) fn field(node: Node, tag: u8, number: usize) -> (&'static str, Node) {
-    let misplaced = "a part that may not stand there";
-    match node {
-        Node::Certificate => field_in(&CERTIFICATE, tag, number, "signatureValue"),
-        Node::Signed => field_in(&SIGNED, tag, number, misplaced),
-        Node::List => field_in(&LIST, tag, number, "signatureValue"),
-        Node::SignedList => field_in(&SIGNED_LIST, tag, number, misplaced),
-        Node::Request => field_in(&REQUEST, tag, number, "signature"),
-        Node::Info => field_in(&INFO, tag, number, "attributes"),
-        _ => inner_field(node, tag, number),
-    }
-}
-
-// Of what certificates, lists and requests are made of.
-fn inner_field(node: Node, tag: u8, number: usize) -> (&'static str, Node) {
-    match node {
-        Node::Revoked => ("an entry", Node::Entry),
-        Node::Entry => field_in(&ENTRY, tag, number, "revocationDate"),
-        Node::Validity if number == 0 => ("notBefore", Node::Other),
-        Node::Validity => ("notAfter", Node::Other),
-        Node::Key => field_in(&KEY, tag, number, "subjectPublicKey"),
-        Node::Algorithm => field_in(&ALGORITHM, tag, number, "parameters"),
-        Node::Name => ("a relative name", Node::Relative),
-        Node::Relative => ("an attribute", Node::Attribute),
-        Node::Attribute => field_in(&ATTRIBUTE, tag, number, "value"),
-        Node::Wrapped => ("", Node::Extensions),
-        Node::Extensions => ("an extension", Node::Extension),
-        Node::Extension => field_in(&EXTENSION, tag, number, "extnValue"),
-        _ => ("", Node::Other),
+// Adds a part, with the tag that it has.
+fn add_part(lines: &mut Lines<'_>, tag: u8, name: &str) {
+    lines.push(name);
+    match tag {
+        ANY => {}
+        TIME => lines.push(" (UTCTime or GeneralizedTime)"),
+        _ => {
+            if let Ok(tag) = Tag::peek(&[tag]) {
+                lines.show(" (", tag, ")");
+            }
+        }
     }
 }

@@ -1,62 +1,106 @@
 //! Why octets are refused.
 
+use crate::certificate_remarks::add_lone_remarks;
+use crate::fault_words::words_of;
 use crate::fields::Node;
 use crate::kind::Kind;
 use crate::lines::Lines;
+use crate::list_remarks::add_list_remarks;
 use crate::lists::list_of;
-use crate::way_down::add_way;
+use crate::way_down::{add_way, content_at, is_followed, misplaced};
 use cert_desk_checking::certificates::{CertificateInner, Profile, Raw, Rfc5280};
-use der_core::{Error, ErrorKind};
+use der_core::{Error, ErrorKind, Tag};
 use std::alloc::{AllocError, Global};
 use x509_cert_lists::CertReq;
 
-// Whether octets are PEM (RFC 7468), of which nothing is read here.
+// How many octets are looked at for the first line of PEM.
+const MOST_TEXT: usize = 65536;
+
+// What a line of PEM begins with.
+const PEM_MARK: &[u8] = b"-----BEGIN ";
+
+// Whether a text would have this octet.
+fn is_of_text(octet: u8) -> bool {
+    octet >= b' ' || octet == b'\t' || octet == b'\n' || octet == b'\r'
+}
+
+// The octets behind a byte order mark of UTF-8, if one stands in front.
+fn without_mark(octets: &[u8]) -> &[u8] {
+    match octets {
+        [0xef, 0xbb, 0xbf, rest @ ..] => rest,
+        _ => octets,
+    }
+}
+
+// Whether octets are PEM (RFC 7468), of which nothing is read here: a line of theirs begins it, and
+// what stands before is text too.
 pub(crate) fn is_pem(octets: &[u8]) -> bool {
-    octets.starts_with(b"-----BEGIN")
+    let mut rest = without_mark(octets);
+    let mut begins_line = true;
+    for _ in 0..MOST_TEXT {
+        if begins_line && rest.starts_with(PEM_MARK) {
+            return true;
+        }
+        match rest {
+            [octet, behind @ ..] if is_of_text(*octet) => {
+                begins_line = *octet == b'\n' || *octet == b'\r';
+                rest = behind;
+            }
+            _ => return false,
+        }
+    }
+    false
+}
+
+// Adds the kind of a fault, of what begins with these octets, and why it is one.
+fn add_kind(lines: &mut Lines<'_>, octets: &[u8], kind: ErrorKind) {
+    lines.note(kind);
+    lines.show("", kind, words_of(kind, octets, content_at(octets, 0)));
+    if kind == ErrorKind::TagUnexpected {
+        if let Ok(tag) = Tag::peek(octets) {
+            lines.show(" than ", tag, "");
+        }
+    }
+    lines.push("\n");
+}
+
+// Where the fault of octets stands.
+fn place_of(octets: &[u8], root: Node, error: &Error) -> usize {
+    let place = match error.position {
+        Some(position) => position.value as usize,
+        None => 0,
+    };
+    match error.kind {
+        ErrorKind::TagUnexpected => misplaced(octets, root, place),
+        _ => place,
+    }
 }
 
 // Adds what is wrong with a value that begins at an offset of a file, and the way down to it.
-fn add_fault(lines: &mut Lines<'_>, octets: &[u8], offset: u64, root: Node, error: &Error) {
-    lines.note(error.kind);
-    let place = match error.position {
-        Some(position) => position.value,
-        None => 0,
+// Of octets that begin with another tag than a record's there is no way.
+fn add_fault(lines: &mut Lines<'_>, octets: &[u8], offset: u64, kind: Node, error: &Error) {
+    let root = match octets {
+        [0x30, ..] => kind,
+        _ => Node::Other,
     };
-    lines.place("", offset, u64::from(place), ": ");
-    lines.show("", error.kind, "\n");
-    add_way(lines, octets, offset, root, place as usize);
+    let place = place_of(octets, root, error);
+    lines.place("", offset, place as u64, ": ");
+    let rest = match octets.get(place..) {
+        Some(rest) => rest,
+        None => &[],
+    };
+    add_kind(lines, rest, error.kind);
+    add_way(lines, octets, offset, root, place);
 }
 
 // Adds what is wrong with a certificate that begins at an offset of a file, and the way down to it.
-// Of octets that begin with another tag there is no way.
 pub(crate) fn add_certificate_fault(
     lines: &mut Lines<'_>,
     octets: &[u8],
     offset: u64,
     error: &Error,
 ) {
-    let root = match octets {
-        [0x30, ..] => Node::Certificate,
-        _ => Node::Other,
-    };
-    add_fault(lines, octets, offset, root, error);
-}
-
-// What RFC 5280 4.1.2.2 forbids of a serial number that is read all the same, as a line; nothing
-// where it is above zero and of at most 20 octets (and one for the sign).
-pub(crate) fn serial_remark(serial: &[u8]) -> &'static str {
-    match serial {
-        [0] => "remark: the serial number is zero (RFC 5280 4.1.2.2)\n",
-        [first, ..] if *first >= 0x80 => {
-            "remark: the serial number is below zero (RFC 5280 4.1.2.2)\n"
-        }
-        _ => {
-            if serial.len() > 21 {
-                return "remark: the serial number has more than 20 octets (RFC 5280 4.1.2.2)\n";
-            }
-            ""
-        }
-    }
+    add_fault(lines, octets, offset, Node::Certificate, error);
 }
 
 // Why octets aren't of a kind in a profile, if they aren't.
@@ -77,13 +121,18 @@ fn root_of(kind: Kind) -> Node {
     }
 }
 
-// Adds what RFC 5280 4.1.2.2 forbids of the serial number of a certificate.
-fn add_serial_remark(lines: &mut Lines<'_>, octets: &[u8]) {
+// Adds what a certificate must not be, though it is read.
+fn add_remarks_of_certificate(lines: &mut Lines<'_>, octets: &[u8]) {
     match CertificateInner::<Raw>::from_der(lines.alloc, octets) {
-        Ok(certificate) => {
-            let serial = certificate.tbs_certificate().serial_number();
-            lines.push(serial_remark(serial.as_bytes()));
-        }
+        Ok(certificate) => add_lone_remarks(lines, &certificate),
+        Err(error) => lines.note(error.kind),
+    }
+}
+
+// Adds what a list must not be, though it is read.
+fn add_remarks_of_list(lines: &mut Lines<'_>, octets: &[u8]) {
+    match list_of::<Raw>(lines.alloc, octets) {
+        Ok(list) => add_list_remarks(lines, &list),
         Err(error) => lines.note(error.kind),
     }
 }
@@ -95,8 +144,18 @@ fn add_read(lines: &mut Lines<'_>, octets: &[u8], kind: Kind) {
         lines.push("RFC 5280 asks for more than is asked here: ");
         add_fault(lines, octets, 0, root_of(kind), &error);
     }
-    if let Kind::Certificate = kind {
-        add_serial_remark(lines, octets);
+    match kind {
+        Kind::Certificate => add_remarks_of_certificate(lines, octets),
+        Kind::List => add_remarks_of_list(lines, octets),
+        Kind::Request => {}
+    }
+}
+
+// Whether what is wrong with a certificate is that another one stands behind it.
+fn is_first_of_several(octets: &[u8], error: &Error) -> bool {
+    match (error.kind, error.position) {
+        (ErrorKind::TrailingData, Some(place)) => is_followed(octets, place.value as usize),
+        _ => false,
     }
 }
 
@@ -104,7 +163,7 @@ fn add_read(lines: &mut Lines<'_>, octets: &[u8], kind: Kind) {
 fn add_refusal(lines: &mut Lines<'_>, octets: &[u8], kind: Kind, error: &Error) {
     add_fault(lines, octets, 0, root_of(kind), error);
     if let Kind::Certificate = kind {
-        if error.kind == ErrorKind::TrailingData {
+        if is_first_of_several(octets, error) {
             lines.push("  (of several certificates `cert_tool split` gives each)\n");
         }
     }

@@ -1,6 +1,6 @@
 //! The way from a value down to an octet of it.
 
-use crate::fields::{Node, field};
+use crate::fields::{Fields, Node};
 use crate::lines::Lines;
 use der_core::{Tag, header_of};
 
@@ -38,44 +38,101 @@ fn part_at(octets: &[u8], start: usize) -> Option<Part> {
     })
 }
 
-// The one of the values from a place on in which an octet stands, and how many of the same tag
-// stand before.
-fn part_around(octets: &[u8], start: usize, place: usize) -> Option<(Part, usize)> {
+// The content of the value that begins at a place; nothing where none does.
+pub(crate) fn content_at(octets: &[u8], place: usize) -> &[u8] {
+    match part_at(octets, place) {
+        Some(part) if part.content <= part.end && part.end <= octets.len() => {
+            &octets[part.content..part.end]
+        }
+        _ => &[],
+    }
+}
+
+// Whether the value that begins these octets ends at a place where a SEQUENCE begins.
+pub(crate) fn is_followed(octets: &[u8], place: usize) -> bool {
+    match (part_at(octets, 0), octets.get(place)) {
+        (Some(first), Some(0x30)) => first.end == place,
+        _ => false,
+    }
+}
+
+// A part inside a value, and which of them may stand where it stands.
+#[derive(Clone, Copy)]
+struct Step {
+    part: Part,
+    fields: Fields,
+}
+
+// The first of the values from a place on that may not stand where it stands, or in which an octet
+// stands.
+fn step_to(octets: &[u8], start: usize, node: Node, place: usize) -> Option<Step> {
     let mut at = start;
-    let mut before = [0usize; 256];
+    let mut fields = Fields::of(node);
     for _ in 0..octets.len() {
         let Some(part) = part_at(octets, at) else {
             return None;
         };
-        let same = before[usize::from(part.first)];
+        let Some((_, _, behind)) = fields.take(part.first) else {
+            return Some(Step { part, fields });
+        };
         if place < part.end {
-            return Some((part, same));
+            return Some(Step { part, fields });
         }
-        before[usize::from(part.first)] = same.saturating_add(1);
+        fields = behind;
         at = part.end;
     }
     None
 }
 
-// Adds the values in which an octet of these stands, from the outermost on. They begin at an offset
-// of a file.
+// The step inside a part, if its parts have names and it holds the octet in its content.
+fn step_in(octets: &[u8], around: Part, node: Node, place: usize) -> Option<Step> {
+    let is_open = around.content <= place && around.tag.is_constructed();
+    if !is_open || around.end > octets.len() || !Fields::of(node).is_named() {
+        return None;
+    }
+    step_to(&octets[..around.end], around.content, node, place)
+}
+
+// Where the first part stands that may not, if the value that begins at a place may: a choice
+// whose tag is none of those that may stand is found at the value around it.
+pub(crate) fn misplaced(octets: &[u8], root: Node, place: usize) -> usize {
+    let Some(mut around) = part_at(octets, 0) else {
+        return place;
+    };
+    let mut node = root;
+    let mut wanted = place;
+    for _ in 0..64 {
+        if around.start == place {
+            wanted = usize::MAX;
+        }
+        let Some(step) = step_in(octets, around, node, wanted) else {
+            return place;
+        };
+        let Some((_, inner, _)) = step.fields.take(step.part.first) else {
+            return step.part.start;
+        };
+        node = inner;
+        around = step.part;
+    }
+    place
+}
+
+// Adds the values in which an octet of these stands, from the outermost on, and what may stand
+// there, if it begins one that may not. They begin at an offset of a file.
 pub(crate) fn add_way(lines: &mut Lines<'_>, octets: &[u8], offset: u64, root: Node, place: usize) {
-    let Some((whole, _)) = part_around(octets, 0, place) else {
+    let Some(mut around) = part_at(octets, 0) else {
         return;
     };
     let mut node = root;
-    let mut around = whole;
     for _ in 0..64 {
-        if place < around.content || !around.tag.is_constructed() {
-            break;
-        }
-        if around.end > octets.len() {
-            break;
-        }
-        let Some((part, number)) = part_around(&octets[..around.end], around.content, place) else {
-            break;
+        let Some(step) = step_in(octets, around, node, place) else {
+            return;
         };
-        let (name, inner) = field(node, part.first, number);
+        let part = step.part;
+        let Some((name, inner, _)) = step.fields.take(part.first) else {
+            step.fields.add(lines);
+            return;
+        };
         if !name.is_empty() {
             lines.push("  in ");
             lines.push(name);

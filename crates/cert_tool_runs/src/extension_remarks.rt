@@ -1,0 +1,254 @@
+//! What the extensions of certificates and lists must be (RFC 5280 4.2, 5.2, 5.3): each that isn't
+//! so, as a remark.
+
+use crate::lines::Lines;
+use crate::name_remarks::add_name_remarks;
+use crate::remark_lines::{Seen, add_each};
+use cert_desk_checking::certificates::Extension;
+use cert_desk_checking::types::general_names::{
+    AuthorityKeyIdentifier, DistributionPoint, GeneralName, GeneralSubtree, NameConstraints,
+};
+use cert_desk_checking::types::policies::{PolicyConstraints, PolicyInformation, PolicyMapping};
+use const_oid::ObjectIdentifier;
+use der_core::{DecodeValue, FixedTag, SliceReader, from_der};
+
+// The number of a kind of extension: its last arc, below 2.5.29, or that and 256, below
+// 1.3.6.1.5.5.7.1; zero of any other.
+pub(crate) fn number_of(extension: &Extension) -> u16 {
+    match extension.extn_id.as_bytes() {
+        [0x55, 0x1d, number] => u16::from(*number),
+        [0x2b, 6, 1, 5, 5, 7, 1, number] => u16::from(*number) | 256,
+        _ => 0,
+    }
+}
+
+// The number of a kind, whether it is to be critical, its name, and the section.
+pub(crate) type Mark = (u16, bool, &'static str, &'static str);
+
+// Those of certificates (RFC 5280 4.2).
+pub(crate) const OF_CERTIFICATES: [Mark; 9] = [
+    (9, false, "subjectDirectoryAttributes", "4.2.1.8"),
+    (14, false, "subjectKeyIdentifier", "4.2.1.2"),
+    (30, true, "nameConstraints", "4.2.1.10"),
+    (35, false, "authorityKeyIdentifier", "4.2.1.1"),
+    (36, true, "policyConstraints", "4.2.1.11"),
+    (46, false, "freshestCRL", "4.2.1.15"),
+    (54, true, "inhibitAnyPolicy", "4.2.1.14"),
+    (257, false, "authorityInfoAccess", "4.2.2.1"),
+    (267, false, "subjectInfoAccess", "4.2.2.2"),
+];
+
+// Those of lists (RFC 5280 5.2).
+pub(crate) const OF_LISTS: [Mark; 6] = [
+    (20, false, "cRLNumber", "5.2.3"),
+    (27, true, "deltaCRLIndicator", "5.2.4"),
+    (28, true, "issuingDistributionPoint", "5.2.5"),
+    (35, false, "authorityKeyIdentifier", "4.2.1.1"),
+    (46, false, "freshestCRL", "5.2.6"),
+    (257, false, "authorityInfoAccess", "5.2.7"),
+];
+
+// The number of a kind whose content must not be an empty sequence, its name, and the section.
+type Filled = (u16, &'static str, &'static str);
+
+const FILLED: [Filled; 10] = [
+    (17, "subjectAltName", "4.2.1.6"),
+    (18, "issuerAltName", "4.2.1.7"),
+    (28, "issuingDistributionPoint", "5.2.5"),
+    (30, "nameConstraints", "4.2.1.10"),
+    (31, "cRLDistributionPoints", "4.2.1.13"),
+    (32, "certificatePolicies", "4.2.1.4"),
+    (33, "policyMappings", "4.2.1.5"),
+    (36, "policyConstraints", "4.2.1.11"),
+    (37, "extKeyUsage", "4.2.1.12"),
+    (46, "freshestCRL", "4.2.1.15"),
+];
+
+// Adds a remark of an extension, and its section.
+fn add_of(lines: &mut Lines<'_>, blanks: &str, parts: [&str; 3]) {
+    let [name, text, section] = parts;
+    lines.push(blanks);
+    lines.push("remark: ");
+    lines.push(name);
+    lines.push(text);
+    lines.push(" (RFC 5280 ");
+    lines.push(section);
+    lines.push(")\n");
+}
+
+// Adds that the content of an extension is an empty sequence, which must not be one.
+fn add_empty_remark(lines: &mut Lines<'_>, blanks: &str, extension: &Extension) {
+    let kind = number_of(extension);
+    if let [0x30, 0] = extension.extn_value.as_bytes() {
+        for row in &FILLED {
+            let (number, name, section) = *row;
+            if number == kind {
+                add_of(lines, blanks, [name, " is an empty sequence", section]);
+            }
+        }
+    }
+}
+
+// Adds whether extensions are critical that must not be, or the other way round.
+pub(crate) fn add_mark_remarks(
+    lines: &mut Lines<'_>,
+    blanks: &str,
+    extension: &Extension,
+    marks: &[Mark],
+) {
+    let kind = number_of(extension);
+    for row in marks {
+        let (number, is_critical, name, section) = *row;
+        if number == kind && is_critical != extension.critical {
+            let text = if is_critical {
+                " isn't critical"
+            } else {
+                " is critical"
+            };
+            add_of(lines, blanks, [name, text, section]);
+        }
+    }
+}
+
+// The value that a content is, if it is one.
+pub(crate) fn value_in<'a, T: DecodeValue<'a, SliceReader<'a>> + FixedTag>(
+    lines: &mut Lines<'_>,
+    octets: &'a [u8],
+) -> Option<T> {
+    match from_der::<T>(lines.alloc, octets) {
+        Ok(value) => Some(value),
+        Err(error) => {
+            lines.note(error.kind);
+            None
+        }
+    }
+}
+
+// Of other names.
+fn add_names_remarks(lines: &mut Lines<'_>, blanks: &str, octets: &[u8]) {
+    if let Some(listed) = value_in::<Vec<GeneralName>>(lines, octets) {
+        add_name_remarks(lines, blanks, listed.as_slice());
+    }
+}
+
+// Whether a base is an address without its mask, or with half of one (RFC 5280 4.2.1.10).
+fn is_no_range(name: &GeneralName) -> bool {
+    match name {
+        GeneralName::IpAddress(octets) => {
+            let len = octets.as_bytes().len();
+            len != 8 && len != 32
+        }
+        _ => false,
+    }
+}
+
+// Of subtrees.
+fn add_subtree_remarks(lines: &mut Lines<'_>, blanks: &str, subtrees: &[GeneralSubtree]) {
+    let mut has_distance = false;
+    let mut has_no_range = false;
+    for subtree in subtrees {
+        has_distance = has_distance || subtree.minimum != 0 || subtree.maximum.is_some();
+        has_no_range = has_no_range || is_no_range(&subtree.base);
+    }
+    add_each(
+        lines,
+        blanks,
+        &[
+            (
+                has_distance,
+                "nameConstraints have a minimum or a maximum (RFC 5280 4.2.1.10)",
+            ),
+            (
+                has_no_range,
+                "nameConstraints have an address without a mask of its size (RFC 5280 4.2.1.10)",
+            ),
+        ],
+    );
+}
+
+// Of constraints on names.
+fn add_constraint_remarks(lines: &mut Lines<'_>, blanks: &str, octets: &[u8]) {
+    let Some(constraints) = value_in::<NameConstraints>(lines, octets) else {
+        return;
+    };
+    for subtrees in [
+        &constraints.permitted_subtrees,
+        &constraints.excluded_subtrees,
+    ] {
+        if let Some(subtrees) = subtrees {
+            add_subtree_remarks(lines, blanks, subtrees.as_slice());
+        }
+    }
+}
+
+// Of points where lists stand.
+fn add_point_remarks(lines: &mut Lines<'_>, blanks: &str, octets: &[u8]) {
+    let Some(points) = value_in::<Vec<DistributionPoint>>(lines, octets) else {
+        return;
+    };
+    let mut is_bare = false;
+    for point in &points {
+        is_bare = is_bare || (point.distribution_point.is_none() && point.crl_issuer.is_none());
+    }
+    let text = "a distribution point has neither a name nor an issuer (RFC 5280 4.2.1.13)";
+    add_each(lines, blanks, &[(is_bare, text)]);
+}
+
+// Of policies.
+fn add_policy_remarks(lines: &mut Lines<'_>, blanks: &str, octets: &[u8]) {
+    let Some(policies) = value_in::<Vec<PolicyInformation>>(lines, octets) else {
+        return;
+    };
+    let mut seen = Seen::new(lines.alloc);
+    let mut has_twins = false;
+    for policy in &policies {
+        has_twins = seen.take(lines, policy.policy_identifier.as_bytes()) || has_twins;
+    }
+    let text = "a policy stands twice (RFC 5280 4.2.1.4)";
+    add_each(lines, blanks, &[(has_twins, text)]);
+}
+
+// Whether an identifier is anyPolicy, 2.5.29.32.0.
+fn is_any_policy(identifier: &ObjectIdentifier<39>) -> bool {
+    matches!(identifier.as_bytes(), [0x55, 0x1d, 0x20, 0])
+}
+
+// Of policies that stand for others.
+fn add_mapping_remarks(lines: &mut Lines<'_>, blanks: &str, octets: &[u8]) {
+    let Some(mappings) = value_in::<Vec<PolicyMapping>>(lines, octets) else {
+        return;
+    };
+    let mut has_any = false;
+    for mapping in &mappings {
+        has_any = has_any
+            || is_any_policy(&mapping.issuer_domain_policy)
+            || is_any_policy(&mapping.subject_domain_policy);
+    }
+    let text = "anyPolicy is mapped (RFC 5280 4.2.1.5)";
+    add_each(lines, blanks, &[(has_any, text)]);
+}
+
+// Of the key of the issuer.
+fn add_issuer_key_remarks(lines: &mut Lines<'_>, blanks: &str, octets: &[u8]) {
+    if let Some(key) = value_in::<AuthorityKeyIdentifier>(lines, octets) {
+        let has_issuer = key.authority_cert_issuer.is_some();
+        let is_half = has_issuer != key.authority_cert_serial_number.is_some();
+        let text = "authorityKeyIdentifier has one of issuer and serial number (RFC 5280 A.2)";
+        add_each(lines, blanks, &[(is_half, text)]);
+    }
+}
+
+// Adds what the content of an extension must not be, though it is one value of its kind.
+pub(crate) fn add_content_remarks(lines: &mut Lines<'_>, blanks: &str, extension: &Extension) {
+    let octets = extension.extn_value.as_bytes();
+    add_empty_remark(lines, blanks, extension);
+    match number_of(extension) {
+        17 | 18 => add_names_remarks(lines, blanks, octets),
+        30 => add_constraint_remarks(lines, blanks, octets),
+        31 | 46 => add_point_remarks(lines, blanks, octets),
+        32 => add_policy_remarks(lines, blanks, octets),
+        33 => add_mapping_remarks(lines, blanks, octets),
+        35 => add_issuer_key_remarks(lines, blanks, octets),
+        _ => {}
+    }
+}

@@ -1,0 +1,108 @@
+//! Names of each kind that aren't well formed (RFC 5280 4.2.1.6).
+
+use crate::general_names::add_general_name;
+use crate::lines::Lines;
+use cert_desk_checking::types::general_names::GeneralName;
+
+// Whether octets are a label of a host's name (RFC 1034 3.5, RFC 1123 2.1).
+fn is_label(label: &[u8]) -> bool {
+    let (Some(first), Some(last)) = (label.first(), label.last()) else {
+        return false;
+    };
+    for octet in label {
+        if !octet.is_ascii_alphanumeric() && *octet != b'-' {
+            return false;
+        }
+    }
+    *first != b'-' && *last != b'-' && label.len() <= 63
+}
+
+// Whether a text is the name of a host. Its first label may be `*` (RFC 6125 6.4.3).
+fn is_host(text: &str) -> bool {
+    let mut is_first = true;
+    for label in text.split('.') {
+        if !is_label(label.as_bytes()) && !(is_first && label == "*" && label.len() < text.len()) {
+            return false;
+        }
+        is_first = false;
+    }
+    text.len() <= 253
+}
+
+// Whether a text has a blank, or another octet that stands in no address and no resource.
+fn has_blank(text: &str) -> bool {
+    for octet in text.as_bytes() {
+        if !octet.is_ascii_graphic() || *octet == b'<' || *octet == b'>' {
+            return true;
+        }
+    }
+    false
+}
+
+// Whether a text is a mailbox: a local part, `@` and a host, or an address in brackets (RFC 5321
+// 4.1.2).
+fn is_mailbox(text: &str) -> bool {
+    let Some((local, host)) = text.rsplit_once('@') else {
+        return false;
+    };
+    let is_local = local.starts_with('"') || !(local.is_empty() || local.contains('@'));
+    is_local && !has_blank(text) && (is_host(host) || host.starts_with('['))
+}
+
+// Whether a text is the scheme of a resource (RFC 3986 3.1).
+fn is_scheme(text: &str) -> bool {
+    for octet in text.as_bytes() {
+        if !octet.is_ascii_alphanumeric() && *octet != b'+' && *octet != b'-' && *octet != b'.' {
+            return false;
+        }
+    }
+    matches!(text.as_bytes(), [first, ..] if first.is_ascii_alphabetic())
+}
+
+// Whether a text is a resource with its scheme, and something behind it.
+fn is_resource(text: &str) -> bool {
+    match text.split_once(':') {
+        Some((scheme, rest)) => is_scheme(scheme) && !rest.is_empty() && !has_blank(rest),
+        None => false,
+    }
+}
+
+// Whether a name is well formed.
+fn is_well_formed(name: &GeneralName) -> bool {
+    match name {
+        GeneralName::DnsName(host) => is_host(host.as_str()),
+        GeneralName::Rfc822Name(address) => is_mailbox(address.as_str()),
+        GeneralName::UniformResourceIdentifier(resource) => is_resource(resource.as_str()),
+        GeneralName::IpAddress(octets) => {
+            let len = octets.as_bytes().len();
+            len == 4 || len == 16
+        }
+        _ => true,
+    }
+}
+
+// Adds that a name isn't well formed.
+fn add_name_remark(lines: &mut Lines<'_>, name: &GeneralName) {
+    let before = "remark: this name isn't well formed (RFC 5280 4.2.1.6): ";
+    match name {
+        GeneralName::IpAddress(octets) => {
+            lines.push(before);
+            lines.count(
+                "IP address of ",
+                octets.as_bytes().len() as u64,
+                " octets\n",
+            );
+        }
+        _ => add_general_name(lines, before, name),
+    }
+}
+
+// Adds which of these names aren't well formed, behind blanks.
+pub(crate) fn add_name_remarks(lines: &mut Lines<'_>, blanks: &str, listed: &[GeneralName]) {
+    for name in listed {
+        if !is_well_formed(name) {
+            lines.push(blanks);
+            add_name_remark(lines, name);
+        }
+    }
+}

@@ -1,0 +1,98 @@
+//! Remarks: what must be otherwise, though it is read, and no rule of a chain forbids it.
+
+use crate::lines::Lines;
+use cert_desk_checking::certificates::{Extension, Time};
+use std::alloc::Global;
+use std::collections::BTreeMap;
+
+// A remark, and whether it is made.
+pub(crate) type Remark = (bool, &'static str);
+
+// Adds a line for each of these remarks that is made, behind blanks.
+pub(crate) fn add_each(lines: &mut Lines<'_>, blanks: &str, remarks: &[Remark]) {
+    for (is_made, text) in remarks {
+        if *is_made {
+            lines.push(blanks);
+            lines.push("remark: ");
+            lines.push(text);
+            lines.push("\n");
+        }
+    }
+}
+
+// Whether a date is a GeneralizedTime of a year that UTCTime can spell (RFC 5280 4.1.2.5).
+pub(crate) fn is_long_for_its_year(date: &Time) -> bool {
+    match date {
+        Time::UtcTime(_) => false,
+        Time::GeneralTime(date) => date.to_date_time().year() < 2050,
+    }
+}
+
+// What RFC 5280 4.1.2.2 forbids of a serial number that is read all the same: it is to be above
+// zero, and of at most 20 octets and one for the sign.
+pub(crate) fn add_serial_remarks(lines: &mut Lines<'_>, blanks: &str, serial: &[u8]) {
+    let is_below_zero = matches!(serial, [0x80..=0xff, ..]);
+    let amount = match serial {
+        [0, rest @ ..] => rest,
+        _ => serial,
+    };
+    add_each(
+        lines,
+        blanks,
+        &[
+            (
+                amount.is_empty(),
+                "the serial number is zero (RFC 5280 4.1.2.2)",
+            ),
+            (
+                is_below_zero,
+                "the serial number is below zero (RFC 5280 4.1.2.2)",
+            ),
+            (
+                amount.len() > 20,
+                "the serial number has more than 20 octets (RFC 5280 4.1.2.2)",
+            ),
+        ],
+    );
+}
+
+// Texts of octets that were seen.
+#[derive(Drop)]
+pub(crate) struct Seen {
+    texts: BTreeMap<Vec<u8>, ()>,
+}
+
+impl Seen {
+    // None yet.
+    pub(crate) fn new(alloc: Global) -> Seen {
+        Seen {
+            texts: BTreeMap::new(alloc),
+        }
+    }
+
+    // Takes one more; answers whether it was seen before.
+    pub(crate) fn take(&mut self, lines: &mut Lines<'_>, octets: &[u8]) -> bool {
+        let Ok(text) = octets.to_vec(lines.alloc) else {
+            lines.fail();
+            return false;
+        };
+        match self.texts.insert(text, ()) {
+            Ok(before) => before.is_some(),
+            Err(_) => {
+                lines.fail();
+                false
+            }
+        }
+    }
+}
+
+// Whether two of these extensions are of one kind (RFC 5280 4.2).
+pub(crate) fn has_twins(lines: &mut Lines<'_>, extensions: &[Extension]) -> bool {
+    let mut seen = Seen::new(lines.alloc);
+    for extension in extensions {
+        if seen.take(lines, extension.extn_id.as_bytes()) {
+            return true;
+        }
+    }
+    false
+}
