@@ -256,7 +256,7 @@ def certificate(serial, subject, key, signed_by, sign, authority):
 
 
 def openssl_says(folder, root, leaf):
-    """Whether OpenSSL trusts the certificate under the root, whose own signature isn't looked at."""
+    """Whether OpenSSL trusts the certificate under the root, whose own bits aren't looked at."""
     for file, octets in (("root", root), ("leaf", leaf)):
         (folder / f"{file}.der").write_bytes(octets)
         said = subprocess.run(
@@ -285,7 +285,8 @@ def compare(folder):
         # the root is trusted as it stands, so any bits serve
         root = certificate(1, "root", key, signed_by, lambda part: bytes(64), True)[0]
         leaf, part, signature = certificate(2, "leaf", key, signed_by, sign, False)
-        question = b"0 0 " + b" ".join(it.hex().encode() for it in (key, signed_by, part, signature))
+        words = (it.hex().encode() for it in (key, signed_by, part, signature))
+        question = b"0 0 " + b" ".join(words)
         lines, why = answered(question + b"\n")
         ours, theirs = lines == [question], openssl_says(folder, root, leaf)
         verdict = "yes" if ours else "no"

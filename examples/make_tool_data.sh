@@ -372,7 +372,8 @@ certificate("remarked_authority.der", extensions=[
     extension(19, seq(tlv(1, b"\xff"), tlv(2, b"\1")))])
 # keyCertSign, a path length and nameConstraints without cA; each criticality turned round
 certificate("remarked_subscriber.der", extensions=[
-    extension(14, tlv(4, b"key"), True), extension(35, seq(tlv(0x80, b"key"), tlv(0x82, b"\7")), True),
+    extension(14, tlv(4, b"key"), True),
+    extension(35, seq(tlv(0x80, b"key"), tlv(0x82, b"\7")), True),
     extension(15, tlv(3, b"\2\4")), extension(19, seq(tlv(2, b"\0"))),
     extension(30, seq(tlv(0xA0, seq(tlv(0x87, b"\x0a\0\0\1"), tlv(0x80, b"\1"))))),
     extension(36, seq(tlv(0x80, b"\0"))), extension(54, tlv(2, b"\0")),
@@ -383,7 +384,8 @@ certificate("remarked_subscriber.der", extensions=[
 # empty sequences, a keyUsage without a use, a path length beside a keyUsage without keyCertSign, an
 # extension twice, a content that is none
 certificate("remarked_empty.der", extensions=[
-    AKI, SKI, extension(15, tlv(3, b"\0")), extension(19, seq(tlv(1, b"\xff"), tlv(2, b"\0")), True),
+    AKI, SKI, extension(15, tlv(3, b"\0")),
+    extension(19, seq(tlv(1, b"\xff"), tlv(2, b"\0")), True),
     extension(17, seq()), extension(18, seq()), extension(30, seq(), True), extension(31, seq()),
     extension(32, seq()), extension(33, seq()), extension(36, seq(), True), extension(37, seq()),
     extension(37, tlv(2, b"\0"))])
@@ -401,10 +403,9 @@ def revoked(serial, date=tlv(0x17, b"260101000000Z"), extensions=None):
     return seq(tlv(2, serial), date, *([seq(*extensions)] if extensions is not None else []))
 def crl(name, *, version=1, issuer=named(b"above"), this=tlv(0x17, b"260101000000Z"),
         following=tlv(0x17, b"260201000000Z"), entries=None, extensions=None, outside=2):
-    shown = tlv(2, bytes([version])) if version else b""
     listed = tlv(0xA0, seq(*extensions)) if extensions is not None else b""
     within = seq(*entries) if entries is not None else b""
-    signed = seq(shown, algorithm(2), issuer, this, following, within, listed)
+    signed = seq(tlv(2, bytes([version])), algorithm(2), issuer, this, following, within, listed)
     open(name, "wb").write(seq(signed, algorithm(outside), BITS))
 # version 1 with extensions, of the list and of entries; no issuer; dates of the wrong form; another
 # algorithm outside

@@ -82,8 +82,8 @@ fn stream_of<I: Input, E: Output>(
 // Explains a chain under anchors, of which the answers of an input say which signatures are right:
 // writes to `out` what each certificate breaks, with its first reason, and answers the exit status.
 // The rules have the names that a check prints. What no rule forbids and is unwise is told as a
-// remark: dates behind the issuer's, a serial number that an earlier one of the same issuer has, and
-// what must be otherwise by RFC 5280.
+// remark: dates behind the issuer's, a serial number that an earlier one of the same issuer has,
+// and what must be otherwise by RFC 5280.
 //
 // The answers are read first, and told as `run_verify` tells them where there are none.
 pub(crate) fn explain_chain<I: Input, O: Output, E: Output>(

@@ -62,7 +62,7 @@ const LIST: [Field; 3] = [
 ];
 
 const SIGNED_LIST: [Field; 7] = [
-    (0x02, true, "version", Node::Other),
+    (0x02, false, "version", Node::Other),
     (0x30, false, "signature", Node::Algorithm),
     (0x30, false, "issuer", Node::Name),
     (TIME, false, "thisUpdate", Node::Other),
