@@ -331,6 +331,9 @@ for name in long plain constrained twice unwise; do
     "$tool" questions --anchors anchor.der "$name.der" | "$here/answer.py" > "$name.txt"
 done
 
+# every extension and field, under signatures that no key made
+"$here/make_described.py" .
+
 # certificates and lists that are read and must be otherwise, signed by nobody
 python3 - <<'PY'
 def tlv(tag, *parts):

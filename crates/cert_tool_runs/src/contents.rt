@@ -3,7 +3,7 @@
 use crate::describe::Describe;
 use crate::general_names::add_names_in;
 use crate::lines::Lines;
-use cert_desk_checking::certificates::{Extension, OctetString, Uint};
+use cert_desk_checking::certificates::{Extension, GeneralizedTime, OctetString, Uint};
 use cert_desk_checking::types::general_names::{
     AccessDescription, AuthorityKeyIdentifier, DistributionPoint, IssuingDistributionPoint,
     NameConstraints,
@@ -11,7 +11,7 @@ use cert_desk_checking::types::general_names::{
 use cert_desk_checking::types::parts::FlagSet;
 use cert_desk_checking::types::policies::{
     BasicConstraints, CertificatePolicies, InhibitAnyPolicy, PolicyConstraints, PolicyInformation,
-    PolicyMapping, PolicyMappings,
+    PolicyMapping, PolicyMappings, PrivateKeyUsagePeriod,
 };
 use cert_desk_checking::types::timestamps::SignedCertificateTimestampList;
 use cert_desk_checking::types::{
@@ -63,12 +63,14 @@ fn add_standard(lines: &mut Lines<'_>, number: u8, octets: &[u8]) {
     match number {
         14 => add_leaf::<OctetString, SubjectKeyIdentifier>(lines, octets),
         15 => add_leaf::<FlagSet<KeyUsages>, KeyUsage>(lines, octets),
+        16 => add_record::<PrivateKeyUsagePeriod>(lines, octets),
         // of the subject, of the issuer, of who issued the certificate that an entry names
         17 | 18 | 29 => add_names_in(lines, octets),
         19 => add_record::<BasicConstraints>(lines, octets),
         // of a list, of the list that it adds to
         20 | 27 => add_leaf::<Uint, CrlNumber>(lines, octets),
         21 => add_leaf::<CrlReason, CrlReason>(lines, octets),
+        24 => add_leaf::<GeneralizedTime, GeneralizedTime>(lines, octets),
         28 => add_record::<IssuingDistributionPoint>(lines, octets),
         30 => add_record::<NameConstraints>(lines, octets),
         // of lists, of lists of what is new
@@ -92,6 +94,8 @@ fn add_content_of(lines: &mut Lines<'_>, extension: &Extension) {
         [0x2b, 6, 1, 5, 5, 7, 1, 1 | 11] => {
             add_members::<AccessDescription, AuthorityInfoAccessSyntax>(lines, octets)
         }
+        // tlsFeature
+        [0x2b, 6, 1, 5, 5, 7, 1, 24] => add_members::<u16, Vec<u16>>(lines, octets),
         // timestamps of logs
         [0x2b, 6, 1, 4, 1, 0xd6, 0x79, 2, 4, 2] => {
             add_leaf::<OctetString, SignedCertificateTimestampList>(lines, octets)

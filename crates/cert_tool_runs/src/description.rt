@@ -1,15 +1,17 @@
 //! Descriptions of certificates.
 
+use crate::algorithms::add_algorithm;
 use crate::contents::add_extensions;
 use crate::keys::{add_digests, add_key, add_key_digests};
 use crate::lines::Lines;
+use crate::values::add_name;
 use cert_desk_checking::certificates::{
     BitString, CertificateInner, Raw, TbsCertificateInner, Version,
 };
 use der_core::ErrorKind;
 
 // The line of a version.
-fn version_line(version: Version) -> &'static str {
+pub(crate) fn version_line(version: Version) -> &'static str {
     match version {
         Version::V1 => "version 1\n",
         Version::V2 => "version 2\n",
@@ -28,11 +30,12 @@ fn add_unique(lines: &mut Lines<'_>, before: &str, id: Option<&BitString>) {
 fn add_parties(lines: &mut Lines<'_>, signed: &TbsCertificateInner<Raw>) {
     lines.push(version_line(signed.version()));
     lines.number("serial ", signed.serial_number().as_bytes(), "\n");
-    lines.name("issuer ", signed.issuer(), "\n");
+    add_algorithm(lines, "algorithm ", signed.signature());
+    add_name(lines, "issuer ", signed.issuer(), "  ");
     let validity = signed.validity();
     lines.date("not-before ", &validity.not_before, "\n");
     lines.date("not-after ", &validity.not_after, "\n");
-    lines.name("subject ", signed.subject(), "\n");
+    add_name(lines, "subject ", signed.subject(), "  ");
 }
 
 // Adds the lines of the signed part.
@@ -56,7 +59,8 @@ pub(crate) fn add_certificate(lines: &mut Lines<'_>, octets: &[u8]) -> Option<Er
     let signed = certificate.tbs_certificate();
     lines.push("certificate\n");
     add_signed(lines, signed);
-    lines.identifier("signature ", &certificate.signature_algorithm().oid, "\n");
+    add_algorithm(lines, "signature ", certificate.signature_algorithm());
+    lines.octets("  bits ", certificate.signature().raw_bytes(), "\n");
     add_digests(lines, "certificate", octets);
     add_key_digests(lines, signed.subject_public_key_info());
     None

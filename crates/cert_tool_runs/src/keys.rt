@@ -1,10 +1,13 @@
 //! Keys, and digests.
 
+use crate::algorithms::add_algorithm;
 use crate::contents::add_members;
 use crate::describe::Describe;
 use crate::lines::Lines;
-use cert_desk_checking::certificates::{SubjectPublicKeyInfo, Uint};
+use crate::values::add_value;
+use cert_desk_checking::certificates::{Any, SubjectPublicKeyInfo, Uint};
 use const_oid::ObjectIdentifier;
+use der_core::making::leaf_from_der;
 use der_core::to_der;
 use sha1::Sha1;
 use sha2::{Digest, Sha256};
@@ -31,19 +34,21 @@ impl Describe for Vec<Uint> {
         match self.as_slice() {
             [modulus, exponent] => {
                 add_bits(lines, bit_len(modulus.as_bytes()));
-                lines.number("  exponent ", exponent.as_bytes(), "\n");
+                lines.natural("  modulus ", modulus.as_bytes(), "\n");
+                lines.natural("  exponent ", exponent.as_bytes(), "\n");
             }
             _ => lines.push("  malformed\n"),
         }
     }
 }
 
-// How many bits a coordinate has of a point of so many octets (RFC 5480 2.2).
+// How many bits a coordinate has of a point: its form tells whether one stands there, compressed,
+// or two, uncompressed or hybrid (X9.62 4.3.6).
 fn coordinate_bits(octets: &[u8]) -> usize {
     let len = match octets {
-        [4, rest @ ..] => rest.len() / 2,
-        [_, rest @ ..] => rest.len(),
-        [] => 0,
+        [2 | 3, rest @ ..] => rest.len(),
+        [4 | 6 | 7, rest @ ..] => rest.len() / 2,
+        _ => 0,
     };
     if len == 66 {
         521
@@ -52,31 +57,71 @@ fn coordinate_bits(octets: &[u8]) -> usize {
     }
 }
 
+// Adds the line of a curve: its name, or the octets that lay it down.
+fn add_curve(lines: &mut Lines<'_>, parameters: &Any) {
+    match parameters.decode_as::<ObjectIdentifier<39>>(lines.alloc) {
+        Ok(curve) => lines.identifier("  curve ", &curve, "\n"),
+        Err(error) => {
+            lines.note(error.kind);
+            add_value(lines, "  curve ", parameters, "\n");
+        }
+    }
+}
+
 // Adds the lines of a key on a curve.
 fn add_point(lines: &mut Lines<'_>, key: &SubjectPublicKeyInfo) {
-    add_bits(lines, coordinate_bits(key.subject_public_key.raw_bytes()));
+    let point = key.subject_public_key.raw_bytes();
+    add_bits(lines, coordinate_bits(point));
     if let Some(parameters) = &key.algorithm.parameters {
-        if let Ok(curve) = parameters.decode_as::<ObjectIdentifier<39>>(lines.alloc) {
-            lines.identifier("  curve ", &curve, "\n");
+        add_curve(lines, parameters);
+    }
+    lines.octets("  point ", point, "\n");
+}
+
+// Adds the lines of the parameters of a DSA key: p, q and g (RFC 3279 2.3.2).
+fn add_group(lines: &mut Lines<'_>, parameters: &Any) {
+    match parameters.decode_as::<Vec<Uint>>(lines.alloc) {
+        Ok(numbers) => {
+            if let [p, q, g] = numbers.as_slice() {
+                add_bits(lines, bit_len(p.as_bytes()));
+                lines.natural("  p ", p.as_bytes(), "\n");
+                lines.natural("  q ", q.as_bytes(), "\n");
+                lines.natural("  g ", g.as_bytes(), "\n");
+            }
         }
+        Err(error) => lines.malformed(error.kind),
+    }
+}
+
+// Adds the lines of a DSA key.
+fn add_dsa(lines: &mut Lines<'_>, key: &SubjectPublicKeyInfo) {
+    if let Some(parameters) = &key.algorithm.parameters {
+        add_group(lines, parameters);
+    }
+    match leaf_from_der::<Uint>(lines.alloc, key.subject_public_key.raw_bytes()) {
+        Ok(number) => lines.natural("  public ", number.as_bytes(), "\n"),
+        Err(error) => lines.malformed(error.kind),
     }
 }
 
 // Adds the lines of a key.
 pub(crate) fn add_key(lines: &mut Lines<'_>, key: &SubjectPublicKeyInfo) {
-    lines.identifier("key ", &key.algorithm.oid, "\n");
+    add_algorithm(lines, "key ", &key.algorithm);
     match key.algorithm.oid.as_bytes() {
         // rsaEncryption, id-RSASSA-PSS
         [0x2a, 0x86, 0x48, 0x86, 0xf7, 0x0d, 0x01, 0x01, 0x01 | 0x0a] => {
             add_members::<Uint, Vec<Uint>>(lines, key.subject_public_key.raw_bytes());
         }
+        // id-dsa
+        [0x2a, 0x86, 0x48, 0xce, 0x38, 0x04, 0x01] => add_dsa(lines, key),
         // id-ecPublicKey
         [0x2a, 0x86, 0x48, 0xce, 0x3d, 0x02, 0x01] => add_point(lines, key),
         // id-X25519, id-X448, id-Ed25519, id-Ed448
         [0x2b, 0x65, 0x6e | 0x6f | 0x70 | 0x71] => {
             add_bits(lines, key.subject_public_key.bit_len());
+            lines.octets("  octets ", key.subject_public_key.raw_bytes(), "\n");
         }
-        _ => {}
+        _ => lines.octets("  octets ", key.subject_public_key.raw_bytes(), "\n"),
     }
 }
 

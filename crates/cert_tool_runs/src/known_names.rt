@@ -118,6 +118,93 @@ const OF_USES: [(&[u8], &str); 9] = [
     (&[0x2b, 6, 1, 5, 5, 7, 2, 1], "cps"),
 ];
 
+// Of attributes (X.520 5, RFC 4519 2, RFC 2985 5.4, and those of the certificates of web sites that
+// browsers agree upon).
+const OF_ATTRIBUTES: [(&[u8], &str); 29] = [
+    (&[0x55, 4, 3], "commonName"),
+    (&[0x55, 4, 4], "surname"),
+    (&[0x55, 4, 5], "serialNumber"),
+    (&[0x55, 4, 6], "countryName"),
+    (&[0x55, 4, 7], "localityName"),
+    (&[0x55, 4, 8], "stateOrProvinceName"),
+    (&[0x55, 4, 9], "streetAddress"),
+    (&[0x55, 4, 10], "organizationName"),
+    (&[0x55, 4, 11], "organizationalUnitName"),
+    (&[0x55, 4, 12], "title"),
+    (&[0x55, 4, 13], "description"),
+    (&[0x55, 4, 15], "businessCategory"),
+    (&[0x55, 4, 17], "postalCode"),
+    (&[0x55, 4, 41], "name"),
+    (&[0x55, 4, 42], "givenName"),
+    (&[0x55, 4, 43], "initials"),
+    (&[0x55, 4, 44], "generationQualifier"),
+    (&[0x55, 4, 45], "x500UniqueIdentifier"),
+    (&[0x55, 4, 46], "dnQualifier"),
+    (&[0x55, 4, 0x41], "pseudonym"),
+    (&[0x55, 4, 0x61], "organizationIdentifier"),
+    (&[9, 0x92, 38, 0x89, 0x93, 0xf2, 44, 0x64, 1, 1], "userId"),
+    (
+        &[9, 0x92, 38, 0x89, 0x93, 0xf2, 44, 0x64, 1, 25],
+        "domainComponent",
+    ),
+    (&[42, 0x86, 0x48, 0x86, 0xf7, 13, 1, 9, 1], "emailAddress"),
+    (
+        &[42, 0x86, 0x48, 0x86, 0xf7, 13, 1, 9, 2],
+        "unstructuredName",
+    ),
+    (
+        &[42, 0x86, 0x48, 0x86, 0xf7, 13, 1, 9, 7],
+        "challengePassword",
+    ),
+    (
+        &[43, 6, 1, 4, 1, 0x82, 55, 60, 2, 1, 1],
+        "jurisdictionLocality",
+    ),
+    (
+        &[43, 6, 1, 4, 1, 0x82, 55, 60, 2, 1, 2],
+        "jurisdictionStateOrProvince",
+    ),
+    (
+        &[43, 6, 1, 4, 1, 0x82, 55, 60, 2, 1, 3],
+        "jurisdictionCountry",
+    ),
+];
+
+// Of digests, signatures and curves (RFC 4055, RFC 5758, RFC 5639), and of qualifiers, ways of
+// access and other names (RFC 5280 4.2.1.4, 4.2.2, RFC 4985, RFC 6120, RFC 9598).
+const OF_REST: [(&[u8], &str); 21] = [
+    (&[43, 14, 3, 2, 26], "id-sha1"),
+    (&[0x60, 0x86, 0x48, 1, 0x65, 3, 4, 2, 1], "id-sha256"),
+    (&[0x60, 0x86, 0x48, 1, 0x65, 3, 4, 2, 2], "id-sha384"),
+    (&[0x60, 0x86, 0x48, 1, 0x65, 3, 4, 2, 3], "id-sha512"),
+    (&[0x60, 0x86, 0x48, 1, 0x65, 3, 4, 2, 4], "id-sha224"),
+    (&[0x60, 0x86, 0x48, 1, 0x65, 3, 4, 2, 6], "id-sha512-256"),
+    (
+        &[42, 0x86, 0x48, 0x86, 0xf7, 13, 1, 1, 4],
+        "md5WithRSAEncryption",
+    ),
+    (&[42, 0x86, 0x48, 0x86, 0xf7, 13, 1, 1, 8], "id-mgf1"),
+    (
+        &[0x60, 0x86, 0x48, 1, 0x65, 3, 4, 3, 1],
+        "id-dsa-with-sha224",
+    ),
+    (
+        &[0x60, 0x86, 0x48, 1, 0x65, 3, 4, 3, 2],
+        "id-dsa-with-sha256",
+    ),
+    (&[42, 0x86, 0x48, 0xce, 56, 4, 3], "id-dsa-with-sha1"),
+    (&[43, 36, 3, 3, 2, 8, 1, 1, 7], "brainpoolP256r1"),
+    (&[43, 36, 3, 3, 2, 8, 1, 1, 11], "brainpoolP384r1"),
+    (&[43, 36, 3, 3, 2, 8, 1, 1, 13], "brainpoolP512r1"),
+    (&[43, 6, 1, 5, 5, 7, 2, 2], "unotice"),
+    (&[43, 6, 1, 5, 5, 7, 48, 3], "ad-timeStamping"),
+    (&[43, 6, 1, 5, 5, 7, 48, 5], "caRepository"),
+    (&[43, 6, 1, 4, 1, 0x82, 55, 20, 2, 3], "userPrincipalName"),
+    (&[43, 6, 1, 5, 5, 7, 8, 9], "smtpUTF8Mailbox"),
+    (&[43, 6, 1, 5, 5, 7, 8, 5], "xmppAddr"),
+    (&[43, 6, 1, 5, 5, 7, 8, 7], "dnsSRV"),
+];
+
 // Each table is lent by a function of its own: where one is named its rows are checked, in a time
 // that grows with the square of their number.
 
@@ -133,13 +220,27 @@ fn of_uses() -> Names {
     &OF_USES
 }
 
+fn of_attributes() -> Names {
+    &OF_ATTRIBUTES
+}
+
+fn of_rest() -> Names {
+    &OF_REST
+}
+
 // How many identifiers are well known.
-pub(crate) const KNOWN: usize = 62;
+pub(crate) const KNOWN: usize = 112;
 
 // The one at a place of the tables, one behind the other.
 pub(crate) fn known_name(place: usize) -> Option<(&'static [u8], &'static str)> {
     let mut left = place;
-    for names in &[of_keys(), of_extensions(), of_uses()] {
+    for names in &[
+        of_keys(),
+        of_extensions(),
+        of_uses(),
+        of_attributes(),
+        of_rest(),
+    ] {
         if left < names.len() {
             return Some(names[left]);
         }

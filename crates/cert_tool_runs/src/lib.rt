@@ -4,6 +4,7 @@
 //! chain break. And what the words of the program ask for.
 #![tactic(auto)]
 
+mod algorithms;
 mod anchor_refusal;
 mod answer_lines;
 mod arguments;
@@ -53,6 +54,7 @@ mod telling;
 mod timestamps;
 mod unjudged;
 mod uses;
+mod values;
 mod verifying;
 mod way_down;
 mod words;

@@ -1,10 +1,11 @@
 //! Texts that are written line by line.
 
-use cert_desk_checking::certificates::{Name, Time};
+use cert_desk_checking::certificates::Time;
 use const_oid::{Database, ObjectIdentifier};
 use der_core::ErrorKind;
 use std::alloc::{AllocError, Global};
 use std::fmt;
+use ucd_category::GeneralCategory;
 
 // The digits in base 16, of each value of a half octet.
 const DIGITS: [&str; 16] = [
@@ -131,34 +132,54 @@ impl<'a> Lines<'a> {
         self.push(behind);
     }
 
-    // Adds the text of a name (RFC 4514).
-    pub(crate) fn name(&mut self, before: &str, name: &Name, behind: &str) {
+    // Adds the text of a name, or of a part of one (RFC 4514).
+    pub(crate) fn name<D: fmt::Display>(&mut self, before: &str, name: &D, behind: &str) {
         match name.to_string(self.alloc) {
-            Ok(printed) => self.plain(before, printed.as_str(), behind),
+            Ok(printed) => self.escaped(before, printed.as_str(), behind),
             Err(_) => self.fail(),
         }
     }
 
-    // Adds a text without control characters: each octet of one stands as `\XX`.
-    pub(crate) fn plain(&mut self, before: &str, text: &str, behind: &str) {
+    // Adds a text in which a backslash is an escape already; what isn't printable stands as `\XX`,
+    // for each octet of UTF-8.
+    pub(crate) fn escaped(&mut self, before: &str, text: &str, behind: &str) {
         self.push(before);
-        if has_control(text) {
-            for letter in text.chars() {
-                self.letter(letter);
-            }
-        } else {
-            self.push(text);
+        for letter in text.chars() {
+            self.printable(letter);
         }
         self.push(behind);
     }
 
-    // Adds a character of it.
-    fn letter(&mut self, letter: char) {
-        if let Some(octet) = control_octet(letter) {
-            self.push("\\");
-            self.pair(octet);
-        } else if self.text.push(letter).is_err() {
-            self.has_failed = true;
+    // Adds a text of a file, the backslash escaped too: no two texts are alike then.
+    pub(crate) fn plain(&mut self, before: &str, text: &str, behind: &str) {
+        self.push(before);
+        for letter in text.chars() {
+            self.letter(letter);
+        }
+        self.push(behind);
+    }
+
+    // Adds a character of such a text.
+    pub(crate) fn letter(&mut self, letter: char) {
+        if letter == '\\' {
+            self.push("\\5C");
+        } else {
+            self.printable(letter);
+        }
+    }
+
+    // Adds a character, or an escape for each octet of it in UTF-8.
+    fn printable(&mut self, letter: char) {
+        if is_printable(letter) {
+            if self.text.push(letter).is_err() {
+                self.has_failed = true;
+            }
+        } else {
+            let mut octets = [0; 4];
+            for octet in letter.encode_utf8(&mut octets).as_bytes() {
+                self.push("\\");
+                self.pair(*octet);
+            }
         }
     }
 
@@ -169,8 +190,8 @@ impl<'a> Lines<'a> {
     }
 
     // Adds octets in base 16, with this between them.
-    fn pairs(&mut self, octets: &[u8], separator: &str) {
-        let mut between = "";
+    pub(crate) fn pairs(&mut self, before: &str, octets: &[u8], separator: &str) {
+        let mut between = before;
         for octet in octets {
             self.push(between);
             self.pair(*octet);
@@ -181,26 +202,31 @@ impl<'a> Lines<'a> {
     // Adds octets in base 16, with a colon between them.
     pub(crate) fn octets(&mut self, before: &str, octets: &[u8], behind: &str) {
         self.push(before);
-        self.pairs(octets, ":");
+        self.pairs("", octets, ":");
+        self.push(behind);
+    }
+
+    // Adds a number in base 16, of its octets, behind `0x`.
+    pub(crate) fn natural(&mut self, before: &str, octets: &[u8], behind: &str) {
+        self.push(before);
+        self.push("0x");
+        self.pairs("", octets, "");
         self.push(behind);
     }
 
     // Adds a number in base 16, of the octets of an INTEGER: as OpenSSL prints it, without a zero
     // octet in front, and below zero the amount behind a sign.
     pub(crate) fn number(&mut self, before: &str, octets: &[u8], behind: &str) {
-        self.push(before);
         match octets {
-            [0, second, rest @ ..] => {
-                self.pair(*second);
-                self.pairs(rest, "");
-            }
+            [0, rest @ ..] if !rest.is_empty() => self.natural(before, rest, behind),
             [first, ..] if *first >= 0x80 => {
-                self.push("-");
+                self.push(before);
+                self.push("-0x");
                 self.opposite(octets);
+                self.push(behind);
             }
-            octets => self.pairs(octets, ""),
+            octets => self.natural(before, octets, behind),
         }
-        self.push(behind);
     }
 
     // Adds the amount of a number below zero: each octet's complement, and one more than that,
@@ -222,30 +248,33 @@ impl<'a> Lines<'a> {
         }
     }
 
-    // Adds a line for each of these that holds.
-    pub(crate) fn flags(&mut self, flags: &[(bool, &str)]) {
+    // Adds a line for each of these that holds, behind a margin.
+    pub(crate) fn flags(&mut self, margin: &str, flags: &[(bool, &str)]) {
         for (holds, name) in flags {
             if *holds {
-                self.plain("  ", name, "\n");
+                self.push(margin);
+                self.push(name);
+                self.push("\n");
             }
         }
     }
 }
 
-// The octet of a control character of ASCII.
-fn control_octet(letter: char) -> Option<u8> {
-    if letter < ' ' || letter == '\x7f' {
-        return Some(letter as u8);
+// Whether a character stands for itself in a line: Unicode calls it a letter, mark, number,
+// punctuation or symbol, or it is the blank.
+fn is_printable(letter: char) -> bool {
+    if letter.is_ascii() {
+        return letter >= ' ' && letter != '\x7f';
     }
-    None
-}
-
-// Whether a text has a control character.
-fn has_control(text: &str) -> bool {
-    for letter in text.chars() {
-        if control_octet(letter).is_some() {
-            return true;
-        }
-    }
-    false
+    !matches!(
+        GeneralCategory::for_char(letter),
+        GeneralCategory::SpaceSeparator
+            | GeneralCategory::LineSeparator
+            | GeneralCategory::ParagraphSeparator
+            | GeneralCategory::Control
+            | GeneralCategory::Format
+            | GeneralCategory::Surrogate
+            | GeneralCategory::PrivateUse
+            | GeneralCategory::Unassigned
+    )
 }

@@ -1,9 +1,12 @@
 //! Revocation lists (RFC 5280 5): their descriptions.
 
+use crate::algorithms::add_algorithm;
 use crate::contents::add_extensions;
 use crate::describe::Describe;
+use crate::description::version_line;
 use crate::keys::add_digests;
 use crate::lines::Lines;
+use crate::values::add_name;
 use cert_desk_checking::certificates::{Profile, Raw};
 use cert_desk_checking::types::{CrlNumber, CrlReason};
 use der_core::{Error, ErrorKind, from_der};
@@ -12,7 +15,7 @@ use x509_cert_lists::{CertificateList, RevokedCert, TbsCertList};
 
 impl Describe for CrlNumber {
     fn describe(&self, lines: &mut Lines<'_>) {
-        lines.number("  number ", self.0.as_bytes(), "\n");
+        lines.natural("  number ", self.0.as_bytes(), "\n");
     }
 }
 
@@ -49,7 +52,9 @@ fn add_entry(lines: &mut Lines<'_>, entry: &RevokedCert<Raw>) {
 
 // Adds the lines of the signed part.
 fn add_signed(lines: &mut Lines<'_>, signed: &TbsCertList<Raw>) {
-    lines.name("issuer ", &signed.issuer, "\n");
+    lines.push(version_line(signed.version));
+    add_algorithm(lines, "algorithm ", &signed.signature);
+    add_name(lines, "issuer ", &signed.issuer, "  ");
     lines.date("this-update ", &signed.this_update, "\n");
     if let Some(date) = &signed.next_update {
         lines.date("next-update ", date, "\n");
@@ -81,7 +86,8 @@ pub(crate) fn add_list(lines: &mut Lines<'_>, octets: &[u8]) -> Option<ErrorKind
     };
     lines.push("list\n");
     add_signed(lines, &list.tbs_cert_list);
-    lines.identifier("signature ", &list.signature_algorithm.oid, "\n");
+    add_algorithm(lines, "signature ", &list.signature_algorithm);
+    lines.octets("  bits ", list.signature.raw_bytes(), "\n");
     add_digests(lines, "list", octets);
     None
 }

@@ -2,30 +2,75 @@
 
 use crate::describe::Describe;
 use crate::lines::Lines;
-use cert_desk_checking::certificates::{Any, Ia5String};
+use crate::values::{add_value, values_in};
+use cert_desk_checking::certificates::{Any, Uint};
 use cert_desk_checking::types::policies::{
     CertificatePolicies, InhibitAnyPolicy, PolicyConstraints, PolicyInformation, PolicyMappings,
     PolicyQualifierInfo,
 };
+use der_core::Tag;
 
-// Adds the text of a qualifier: where the statement of practices stands, or the octets.
-fn add_value(lines: &mut Lines<'_>, value: &Any) {
-    match value.decode_as::<Ia5String>(lines.alloc) {
-        Ok(place) => lines.plain(" ", place.as_str(), ""),
-        Err(error) => {
-            lines.note(error.kind);
-            lines.octets(" ", value.value(), "");
+// Adds the lines of the numbers of notices.
+fn add_numbers(lines: &mut Lines<'_>, numbers: &Any) {
+    match numbers.decode_as::<Vec<Uint>>(lines.alloc) {
+        Ok(numbers) => {
+            for number in &numbers {
+                lines.natural("      number ", number.as_bytes(), "\n");
+            }
         }
+        Err(error) => lines.malformed(error.kind),
     }
 }
 
-// Adds the line of a qualifier.
+// Adds the lines of a reference to notices: whose they are, and their numbers.
+fn add_reference(lines: &mut Lines<'_>, reference: &Any) {
+    match values_in(lines.alloc, reference) {
+        Ok(parts) => {
+            for part in &parts {
+                if part.tag() == Tag::Sequence {
+                    add_numbers(lines, part);
+                } else {
+                    add_value(lines, "      of ", part, "\n");
+                }
+            }
+        }
+        Err(error) => lines.malformed(error.kind),
+    }
+}
+
+// Adds the lines of a notice: where its text is found, and that text.
+fn add_notice(lines: &mut Lines<'_>, notice: &Any) {
+    match values_in(lines.alloc, notice) {
+        Ok(parts) => {
+            for part in &parts {
+                if part.tag() == Tag::Sequence {
+                    add_reference(lines, part);
+                } else {
+                    add_value(lines, "      text ", part, "\n");
+                }
+            }
+        }
+        Err(error) => lines.malformed(error.kind),
+    }
+}
+
+// Adds the lines of the value of a qualifier: a notice, or where the statement of practices stands.
+fn add_qualifier_value(lines: &mut Lines<'_>, value: &Any) {
+    if value.tag() == Tag::Sequence {
+        lines.push("\n");
+        add_notice(lines, value);
+    } else {
+        add_value(lines, " ", value, "\n");
+    }
+}
+
+// Adds the lines of a qualifier.
 fn add_qualifier(lines: &mut Lines<'_>, qualifier: &PolicyQualifierInfo) {
     lines.identifier("    ", &qualifier.policy_qualifier_id, "");
-    if let Some(value) = &qualifier.qualifier {
-        add_value(lines, value);
+    match &qualifier.qualifier {
+        Some(value) => add_qualifier_value(lines, value),
+        None => lines.push("\n"),
     }
-    lines.push("\n");
 }
 
 // Adds the lines of a policy.
