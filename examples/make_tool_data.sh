@@ -103,6 +103,12 @@ open("cut.der", "wb").write(server[:-3])
 open("behind.der", "wb").write(server + b"\0")
 open("bad_stream.der", "wb").write(octets[:698] + open("month.der", "rb").read())
 open("leaf_first.der", "wb").write(octets[698:] + octets[:698])
+# issuers that print as the names of those who issued do, or nearly
+alike = bytearray(octets)
+alike[octets.index(b"Desk Example")] = ord("d")
+alike[octets.index(b"\x0c\x09Desk Root")] = 0x13
+alike[octets.index(b"\x0c\x11Desk Intermediate", 698)] = 0x13
+open("alike.der", "wb").write(alike)
 open("pem.txt", "wb").write(b"-----BEGIN CERTIFICATE-----\n")
 open("bag.txt", "wb").write(b"Bag Attributes\n    localKeyID: 01\n-----BEGIN CERTIFICATE-----\n")
 open("mark.txt", "wb").write(b"\xef\xbb\xbf-----BEGIN CERTIFICATE-----\n")

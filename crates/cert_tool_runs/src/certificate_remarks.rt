@@ -1,6 +1,6 @@
 //! What certificates must be beyond DER (RFC 5280 4.1, 4.2): each that isn't so, as a remark.
 
-use crate::contents::content_fault;
+use crate::content_faults::{add_content_fault, content_fault};
 use crate::extension_remarks::{
     OF_CERTIFICATES, add_content_remarks, add_mark_remarks, number_of, value_in,
 };
@@ -255,14 +255,10 @@ pub(crate) fn add_certificate_remarks(
 // Adds which of these extensions aren't what they should be.
 pub(crate) fn add_malformed_remarks(lines: &mut Lines<'_>, extensions: &[Extension]) {
     for extension in extensions {
-        if let Some(fault) = content_fault(lines.alloc, extension) {
-            lines.note(fault);
-            lines.identifier(
-                "remark: ",
-                &extension.extn_id,
-                " isn't one value of its kind: ",
-            );
-            lines.show("", fault, "\n");
+        if let Some(error) = content_fault(lines.alloc, extension) {
+            lines.push("remark: ");
+            add_content_fault(lines, extension, &error);
+            lines.push("\n");
         }
     }
 }

@@ -10,6 +10,8 @@ pub(crate) struct ChainPlace<'a> {
     // Counted from 0.
     pub(crate) number: usize,
     pub(crate) certificate: &'a CertificateInner<Raw>,
+    // The octets of its signed part.
+    pub(crate) signed: &'a [u8],
 }
 
 impl<'a> ChainPlace<'a> {
@@ -22,6 +24,7 @@ impl<'a> ChainPlace<'a> {
             bundle,
             number,
             certificate: entry.certificate,
+            signed: entry.signed,
         })
     }
 

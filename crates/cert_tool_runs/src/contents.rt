@@ -20,8 +20,7 @@ use cert_desk_checking::types::{
 };
 use const_oid::ObjectIdentifier;
 use der_core::making::leaf_from_der;
-use der_core::{DecodeValue, ErrorKind, FixedTag, Leaf, SliceReader, from_der};
-use std::alloc::Global;
+use der_core::{DecodeValue, FixedTag, Leaf, SliceReader, from_der};
 
 // Adds the lines of a content that is one leaf, or that it isn't one.
 fn add_leaf<'a, T: Leaf<'a> + FixedTag, C: From<T> + Describe + Drop>(
@@ -102,13 +101,6 @@ fn add_content_of(lines: &mut Lines<'_>, extension: &Extension) {
         }
         _ => lines.octets("  octets ", octets, "\n"),
     }
-}
-
-// Why the content of an extension isn't one value of its kind, if it isn't.
-pub(crate) fn content_fault(alloc: Global, extension: &Extension) -> Option<ErrorKind> {
-    let mut left_out = Lines::without_names(alloc);
-    add_content_of(&mut left_out, extension);
-    left_out.fault
 }
 
 // Adds the lines of extensions, in their order.

@@ -3,33 +3,47 @@
 ghost use Rattle.std.specs.Prelude.{◌≤◌};
 
 use crate::arguments::Terms;
-use crate::breaches::add_chain;
+use crate::breaches::{Judged, add_chain};
+use crate::heard::Heard;
 use crate::identifiers::{entries_of, known_identifiers};
 use crate::lines::Lines;
 use crate::reading::tell_text;
 use crate::verifying::{read_answers, tell_none};
 use cert_desk_checking::{
-    Anchor, AnswersJudge, Bundle, Outcome, Standing, judge_each, read_anchors, read_stream,
+    Anchor, Answer, AnswersJudge, Bundle, Outcome, Standing, judge_each, read_anchors, read_stream,
 };
 use cert_desk_io::{ExitStatus, Input, Output, complain, tell_device, tell_memory};
 use const_oid::Database;
 use std::alloc::{AllocError, Global};
 
-// What each certificate of a chain breaks, judged under these anchors by a judge.
+// What each certificate of a chain breaks, as it was judged.
+fn told(alloc: Global, bundle: &Bundle, judged: &Judged<'_>) -> Result<String, AllocError> {
+    let identifiers = known_identifiers(alloc)?;
+    let entries = entries_of(alloc, identifiers.as_slice())?;
+    let mut lines = Lines::new(alloc, Database::new(entries.as_slice()));
+    add_chain(&mut lines, bundle, judged);
+    lines.finish()
+}
+
+// What each certificate of a chain breaks, judged under these anchors by answers.
 fn explained(
     alloc: Global,
     bundle: &Bundle,
     anchors: &[Anchor],
     terms: &Terms,
-    judge: &mut AnswersJudge,
+    answers: Vec<Answer>,
 ) -> Result<String, AllocError> {
     let purpose = &terms.purpose;
-    let judged = judge_each(alloc, bundle, anchors, terms.moment, purpose, judge)?;
-    let identifiers = known_identifiers(alloc)?;
-    let entries = entries_of(alloc, identifiers.as_slice())?;
-    let mut lines = Lines::new(alloc, Database::new(entries.as_slice()));
-    add_chain(&mut lines, bundle, judged.as_slice(), purpose);
-    lines.finish()
+    let heard = Heard::of(alloc, answers.as_slice())?;
+    let mut judge = AnswersJudge::new(answers);
+    let kept = judge_each(alloc, bundle, anchors, terms.moment, purpose, &mut judge)?;
+    let judged = Judged {
+        kept: kept.as_slice(),
+        anchors,
+        heard: &heard,
+        purpose,
+    };
+    told(alloc, bundle, &judged)
 }
 
 // The anchors that an input gives. Where there are none, that is told, and the status is the error.
@@ -109,7 +123,6 @@ pub(crate) fn explain_chain<I: Input, O: Output, E: Output>(
         Ok(bundle) => bundle,
         Err(status) => return status,
     };
-    let mut judge = AnswersJudge::new(answers);
-    let text = explained(alloc, &bundle, anchors.as_slice(), &terms, &mut judge);
+    let text = explained(alloc, &bundle, anchors.as_slice(), &terms, answers);
     tell_text(text, out, err)
 }

@@ -5,6 +5,7 @@
 #![tactic(auto)]
 
 mod algorithms;
+mod alike_names;
 mod anchor_refusal;
 mod answer_lines;
 mod arguments;
@@ -13,6 +14,7 @@ mod breaches;
 mod certificate_remarks;
 mod chain_place;
 mod chains;
+mod content_faults;
 mod contents;
 mod describe;
 mod describing;
@@ -24,6 +26,7 @@ mod fields;
 mod files;
 mod general_names;
 mod given;
+mod heard;
 mod help;
 mod identifiers;
 mod keys;

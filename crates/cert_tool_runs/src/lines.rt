@@ -24,8 +24,6 @@ pub(crate) struct Lines<'a> {
     text: String,
     // Whether there was no memory for something.
     has_failed: bool,
-    // Why the last of the contents that aren't what they should be isn't.
-    pub(crate) fault: Option<ErrorKind>,
 }
 
 impl<'a> Lines<'a> {
@@ -36,7 +34,6 @@ impl<'a> Lines<'a> {
             names,
             text: String::new(alloc),
             has_failed: false,
-            fault: None,
         }
     }
 
@@ -70,10 +67,9 @@ impl<'a> Lines<'a> {
         }
     }
 
-    // Adds that a content isn't what it should be, and notes why.
+    // Adds that a content isn't what it should be.
     pub(crate) fn malformed(&mut self, kind: ErrorKind) {
         self.note(kind);
-        self.fault = Some(kind);
         self.push("  malformed\n");
     }
 

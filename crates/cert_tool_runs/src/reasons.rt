@@ -1,7 +1,7 @@
 //! Why a certificate breaks a rule of its extensions, or of path lengths.
 
 use crate::chain_place::ChainPlace;
-use crate::contents::content_fault;
+use crate::content_faults::{add_content_fault, content_fault};
 use crate::lines::Lines;
 use cert_desk_checking::certificates::Extension;
 use cert_desk_checking::{Bundle, KeptRules, Reason, Rule, reason_of};
@@ -17,10 +17,9 @@ fn add_against(
     let kind = &extension.extn_id;
     match rule {
         Rule::MalformedExtension => {
-            lines.identifier("", kind, " isn't one value of its kind");
-            if let Some(fault) = content_fault(lines.alloc, extension) {
-                lines.note(fault);
-                lines.show(": ", fault, "");
+            match content_fault(lines.alloc, extension) {
+                Some(error) => add_content_fault(lines, extension, &error),
+                None => lines.identifier("", kind, " isn't one value of its kind"),
             }
         }
         Rule::UnweighedCritical => {

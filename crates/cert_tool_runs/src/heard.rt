@@ -1,0 +1,66 @@
+//! What answers are about.
+
+use crate::lines::Lines;
+use cert_desk_checking::{Answer, ObjectIdentifier};
+use std::alloc::{AllocError, Global};
+use std::collections::BTreeMap;
+
+// Of which octets answers say that a signature over them is right.
+#[derive(Drop)]
+pub(crate) struct Heard {
+    signed: BTreeMap<Vec<u8>, ()>,
+    // How many answers there are.
+    count: usize,
+}
+
+impl Heard {
+    // Those of answers.
+    pub(crate) fn of(alloc: Global, answers: &[Answer]) -> Result<Heard, AllocError> {
+        let mut signed = BTreeMap::new(alloc);
+        for answer in answers {
+            let octets = answer.signed.as_slice().to_vec(alloc)?;
+            if signed.insert(octets, ()).is_err() {
+                return Err(AllocError);
+            }
+        }
+        Ok(Heard {
+            signed,
+            count: answers.len(),
+        })
+    }
+
+    // Adds whether answers are about these octets.
+    pub(crate) fn add(&self, lines: &mut Lines<'_>, octets: &[u8]) {
+        if self.count == 0 {
+            lines.push("    there are no answers\n");
+        } else if self.signed.contains_key(octets) {
+            lines.push("    an answer is about what is signed, and another key or signature\n");
+        } else {
+            lines.count(
+                "    of ",
+                self.count as u64,
+                " answers none is about what is signed\n",
+            );
+        }
+    }
+}
+
+// Whether `examples/answer.py` verifies signatures of an algorithm: RSASSA-PKCS1-v1_5 and
+// RSASSA-PSS (RFC 8017), ECDSA (RFC 5758), Ed25519 and Ed448 (RFC 8410).
+fn is_verified(algorithm: &ObjectIdentifier<39>) -> bool {
+    match algorithm.as_bytes() {
+        [0x2a, 0x86, 0x48, 0x86, 0xf7, 0x0d, 1, 1, 5 | 10..=14] => true,
+        [0x2a, 0x86, 0x48, 0xce, 0x3d, 4, 1] | [0x2a, 0x86, 0x48, 0xce, 0x3d, 4, 3, 1..=4] => true,
+        [0x2b, 0x65, 0x70 | 0x71] => true,
+        _ => false,
+    }
+}
+
+// Adds which algorithm makes a signature.
+pub(crate) fn add_algorithm(lines: &mut Lines<'_>, algorithm: &ObjectIdentifier<39>) {
+    lines.identifier("    the algorithm is ", algorithm, "");
+    if !is_verified(algorithm) {
+        lines.push(", which examples/answer.py doesn't verify");
+    }
+    lines.push("\n");
+}
