@@ -25,7 +25,8 @@ def sequence(*parts):
 
 
 def integer(number, tag=0x02):
-    return value(tag, number.to_bytes(number.bit_length() // 8 + 1, "big", signed=True))
+    size = max(number, ~number).bit_length() // 8 + 1
+    return value(tag, number.to_bytes(size, "big", signed=True))
 
 
 def identifier(dotted):
@@ -294,6 +295,9 @@ LEVELS = extension(
     ),
 )
 
+# Of the issuer and of the subject (RFC 5280 4.1.2.8).
+IDENTIFIERS = [value(0x81, b"\0\1\2"), value(0x82, b"\4\xf0")]
+
 HOSTS = extension("2.5.29.17", sequence(dns("plain.example"), dns("*.example")), True)
 
 LIST_EXTENSIONS = {
@@ -329,9 +333,9 @@ SIGNATURES = {
 BITS = bits(bytes.fromhex("3006020101020102"))
 
 
-def certificate(serial, key, subject, extensions, *, issuer=PLAIN, signature=ECDSA):
-    """A certificate of version 3, or of version 1 without extensions."""
-    version = [explicit(0, integer(2))] if extensions else []
+def certificate(serial, key, subject, extensions, *, issuer=PLAIN, signature=ECDSA, ids=()):
+    """A certificate of version 3, or of version 1 without identifiers and extensions."""
+    version = [explicit(0, integer(2))] if extensions or ids else []
     behind = [explicit(3, sequence(*extensions))] if extensions else []
     signed = sequence(
         *version,
@@ -341,6 +345,7 @@ def certificate(serial, key, subject, extensions, *, issuer=PLAIN, signature=ECD
         sequence(date("260101000000Z"), date("20510101000000Z")),
         subject,
         key,
+        *ids,
         *behind,
     )
     return sequence(signed, signature, BITS)
@@ -351,14 +356,14 @@ def revoked(serial, extensions):
     return sequence(integer(serial), date("260201000000Z"), *behind)
 
 
-def revocation_list(entries, extensions, *, issuer=PLAIN, signature=ECDSA):
-    """A list of version 2."""
+def revocation_list(entries, extensions, *, issuer=PLAIN, signature=ECDSA, is_last=False):
+    """A list of version 2, with the date of the next one or without."""
     signed = sequence(
         integer(1),
         signature,
         issuer,
         date("260101000000Z"),
-        date("270101000000Z"),
+        *([] if is_last else [date("270101000000Z")]),
         *([sequence(*entries)] if entries else []),
         *([explicit(0, sequence(*extensions))] if extensions else []),
     )
@@ -413,17 +418,25 @@ def drawn(draw, count):
         key = draw.choice(list(KEYS.values()))
         subject = draw.choice(list(NAMES.values()))
         signature = draw.choice(list(SIGNATURES.values()))
-        serial = draw.choice([0, 1, 127, 128, 255, 2**63, 2**64, 2**159 - 1, draw.getrandbits(150)])
+        below = [-1, -127, -128, -129, -256, -(2**63)]
+        above = [0, 1, 127, 128, 255, 2**63, 2**64, 2**159 - 1, draw.getrandbits(150)]
+        serial = draw.choice([*below, *above])
         some = lambda table: draw.sample(list(table.values()), draw.randint(0, len(table)))
         match number % 3:
             case 0:
                 kind = "certificate"
-                octets = certificate(serial, key, subject, some(EXTENSIONS), signature=signature)
+                ids = [each for each in IDENTIFIERS if draw.choice([False, True])]
+                extensions = some(EXTENSIONS)
+                octets = certificate(serial, key, subject, extensions, signature=signature, ids=ids)
             case 1:
                 kind = "list"
                 entries = [revoked(serial + each, some(ENTRY_EXTENSIONS)) for each in range(3)]
                 octets = revocation_list(
-                    entries, some(LIST_EXTENSIONS), issuer=subject, signature=signature
+                    entries,
+                    some(LIST_EXTENSIONS),
+                    issuer=subject,
+                    signature=signature,
+                    is_last=draw.choice([False, True]),
                 )
             case _:
                 kind = "request"
