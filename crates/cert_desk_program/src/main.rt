@@ -40,7 +40,7 @@ impl NamedInputs<FromRead<File>> for HostFiles<'_> {
 }
 
 fn main(rt: HostRuntime) -> ExitCode {
-    ExitCode::from(run(&rt))
+    ExitCode::from(run(&rt).code())
 }
 
 /// Does what the arguments ask for.
