@@ -18,8 +18,12 @@ use der_core::making::leaf_from_der;
 // What the extensions of a certificate say of its key and of its names.
 #[derive(Clone, Copy)]
 struct Facts {
+    has_key_usage: bool,
+    // What the key may do, where that is read.
     uses: Option<FlagSet<KeyUsages>>,
     constraints: Option<BasicConstraints>,
+    // Whether constraints stand there that aren't read, so that nothing is known of an authority.
+    are_constraints_unread: bool,
     are_constraints_critical: bool,
     // Whether the subject has other names, and the extension is critical.
     has_critical_names: bool,
@@ -33,8 +37,10 @@ impl Facts {
     // Those of no extension.
     fn new() -> Facts {
         Facts {
+            has_key_usage: false,
             uses: None,
             constraints: None,
+            are_constraints_unread: false,
             are_constraints_critical: false,
             has_critical_names: false,
             has_key_identifier: false,
@@ -48,17 +54,23 @@ impl Facts {
         let octets = extension.extn_value.as_bytes();
         match number_of(extension) {
             14 => self.has_key_identifier = true,
-            15 => self.uses = leaf_from_der(lines.alloc, octets).ok(),
+            15 => {
+                self.has_key_usage = true;
+                self.uses = leaf_from_der(lines.alloc, octets).ok();
+            }
             17 => self.has_critical_names = extension.critical,
             19 => {
                 self.constraints = value_in::<BasicConstraints>(lines, octets);
+                self.are_constraints_unread = self.constraints.is_none();
                 self.are_constraints_critical = extension.critical;
             }
             30 => self.constrains_names = true,
             35 => {
-                if let Some(key) = value_in::<AuthorityKeyIdentifier>(lines, octets) {
-                    self.has_issuer_key = key.key_identifier.is_some();
-                }
+                // of one that isn't read nothing is said
+                self.has_issuer_key = match value_in::<AuthorityKeyIdentifier>(lines, octets) {
+                    Some(key) => key.key_identifier.is_some(),
+                    None => true,
+                };
             }
             _ => {}
         }
@@ -70,6 +82,11 @@ impl Facts {
             Some(constraints) => constraints.ca,
             None => false,
         }
+    }
+
+    // Whether no authority is certified.
+    fn is_no_authority(&self) -> bool {
+        !self.are_constraints_unread && !self.is_authority()
     }
 
     // Whether a path length stands there.
@@ -188,6 +205,7 @@ fn add_party_remarks(
 // Of the key and what it may do.
 fn add_key_remarks(lines: &mut Lines<'_>, blanks: &str, facts: &Facts) {
     let is_authority = facts.is_authority();
+    let is_none = facts.is_no_authority();
     let has_length = facts.has_path_length();
     add_each(
         lines,
@@ -198,11 +216,11 @@ fn add_key_remarks(lines: &mut Lines<'_>, blanks: &str, facts: &Facts) {
                 "an authority has no subjectKeyIdentifier (RFC 5280 4.2.1.2)",
             ),
             (
-                is_authority && facts.uses.is_none(),
+                is_authority && !facts.has_key_usage,
                 "an authority has no keyUsage (RFC 5280 4.2.1.3)",
             ),
             (
-                facts.signs() && !is_authority,
+                facts.signs() && is_none,
                 "keyCertSign stands without cA (RFC 5280 4.2.1.3)",
             ),
             (
@@ -210,7 +228,7 @@ fn add_key_remarks(lines: &mut Lines<'_>, blanks: &str, facts: &Facts) {
                 "basicConstraints of an authority aren't critical (RFC 5280 4.2.1.9)",
             ),
             (
-                has_length && !is_authority,
+                has_length && is_none,
                 "a path length stands without cA (RFC 5280 4.2.1.9)",
             ),
             (
@@ -218,7 +236,7 @@ fn add_key_remarks(lines: &mut Lines<'_>, blanks: &str, facts: &Facts) {
                 "a path length stands without keyCertSign (RFC 5280 4.2.1.9)",
             ),
             (
-                facts.constrains_names && !is_authority,
+                facts.constrains_names && is_none,
                 "nameConstraints stand without cA (RFC 5280 4.2.1.10)",
             ),
         ],
