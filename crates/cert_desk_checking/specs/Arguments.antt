@@ -1,7 +1,7 @@
 -- What the program's arguments ask for.
 use Rattle.std.specs.Prelude.{◌≡◌, ℕ, ◌≤◌, ◌<◌, ◌^◌, List, [], ◌∷◌, length, codes}
 use Rattle.std.specs.Str.Parse.{IsNumeral, digits_value}
-use Rattle.const_oid.specs.Bound.{Bound}
+use Rattle.const_oid.specs.Bound.{Bound, max_size}
 use Rattle.const_oid.specs.IdentifierOctets.{identifier_octets, IsIdentifier}
 use Rattle.const_oid.specs.TextFaults.{IsText}
 
@@ -24,7 +24,7 @@ pub record AskCheck (words : List (List ℕ)) (anchors stream : List ℕ) (momen
   pub moment_fits : moment < 2 ^ 64
   pub purpose_is : IsText purpose purpose_text
   pub purpose_valid : IsIdentifier Bound purpose
-  pub purpose_fits : length (identifier_octets purpose) ≤ 39
+  pub purpose_fits : length (identifier_octets purpose) ≤ max_size
   pub limit_is : IsNumber limit limit_text
   pub limit_least : 6 ≤ limit
   pub limit_fits : limit < 2 ^ 32

@@ -11,9 +11,6 @@ pub const USAGE: &str =
 // The least limit: a certificate has a header and some content.
 const LEAST_LIMIT: u64 = 6;
 
-// The greatest limit.
-const MOST_LIMIT: u64 = 0xffff_ffff;
-
 /// The arguments of `check`.
 #[derive(Clone, Copy)]
 pub struct Arguments<'a> {
@@ -91,7 +88,7 @@ fn limit_of(text: &str) -> Option<u32>
     if limit < LEAST_LIMIT {
         return None;
     }
-    if limit > MOST_LIMIT {
+    if limit > u64::from(u32::MAX) {
         return None;
     }
     Some(limit as u32)

@@ -3,11 +3,11 @@ use Rattle.std.specs.Prelude.{◌≡◌, ◌≢◌, ℕ, ◌≤◌, ◌<◌, ◌
 use Rattle.std.specs.Prelude.{codes, bytes_eq, is_ok, unwrap_or, if◌then◌else◌, IsSome, IsTrue}
 use Rattle.std.specs.Prelude.{Option, Some, None, option_map, Ok, Err}
 use Rattle.std.specs.Borrow.{Bor}
-use Rattle.const_oid.specs.Bound.{Bound}
+use Rattle.const_oid.specs.Bound.{Bound, max_size}
 use Rattle.const_oid.specs.TextReading.{read_text}
 use Rattle.der_core_head.specs.Dates.{Civil, is_civil}
 use Rattle.cert_desk_checking.specs.Names.TimeTypes.DateTexts.{date_text}
-use Rattle.cert_desk_checking.specs.Names.TimeTypes.Seconds.{unix_seconds}
+use Rattle.cert_desk_checking.specs.Names.TimeTypes.Seconds.{last_second, unix_seconds}
 use Rattle.cert_desk_checking.specs.Arguments.{IsNumber}
 use Rattle.cert_tool_runs.specs.declared.given.Key.{Key}
 use Rattle.cert_tool_runs.specs.declared.given.Key.TheVariants as keys
@@ -122,18 +122,15 @@ abbrev pub limit_text : PlainGiven → List ℕ
 limit_text g = unwrap_or g.limit (codes "65536")
 
 -- A moment: `now`, seconds since 1970-01-01T00:00:00Z, or a date; until 9999-12-31T23:59:59Z.
-abbrev pub last_moment : ℕ
-last_moment = 253402300799
-
 abbrev pub IsMoment : Moment → List ℕ → Type 0
 IsMoment moments.Now text = text ≡ codes "now"
-IsMoment (moments.Seconds n) text = (n ≤ last_moment)
+IsMoment (moments.Seconds n) text = (n ≤ last_second)
     × (IsNumber n text
     ⊎ ((c : Civil) × (text ≡ date_text c) × (n ≡ unix_seconds c)))
 
 abbrev pub IsNoMoment : List ℕ → Type 0
 IsNoMoment text = (text ≢ codes "now")
-    × ((n : ℕ) → IsNumber n text → n ≤ last_moment → ⊥)
+    × ((n : ℕ) → IsNumber n text → n ≤ last_second → ⊥)
     × ((c : Civil) → is_civil c ≡ true → text ≢ date_text c)
 
 -- A purpose: a name of RFC 5280 4.2.1.12 and its arcs, or arcs.
@@ -149,7 +146,7 @@ arcs_of text =
     else text
 
 abbrev pub IsPurpose : List ℕ → List ℕ → Type 0
-IsPurpose arcs text = read_text Bound 39 (arcs_of text) ≡ Ok arcs
+IsPurpose arcs text = read_text Bound max_size (arcs_of text) ≡ Ok arcs
 
 -- a limit, from 6 to 2^32 - 1
 abbrev pub IsLimit : ℕ → List ℕ → Type 0
@@ -191,7 +188,7 @@ AsksFor words task =
 abbrev pub IsNoValue : Key → List ℕ → PlainGiven → Type 0
 IsNoValue keys.At text g = (text ≡ moment_text g) × IsNoMoment text
 IsNoValue keys.Purpose text g = (text ≡ purpose_text g)
-    × (is_ok (read_text Bound 39 (arcs_of text)) ≡ false)
+    × (is_ok (read_text Bound max_size (arcs_of text)) ≡ false)
 IsNoValue keys.Limit text g = (text ≡ limit_text g)
     × ((n : ℕ) → IsNumber n text → 6 ≤ n → n < 2 ^ 32 → ⊥)
 IsNoValue keys.Place text g = (g.place ≡ Some text)

@@ -1,10 +1,11 @@
 //! The values of options.
 
 ghost use Rattle.std.specs.Prelude.{◌≡◌, ◌≢◌, ℕ, ◌<◌, ◌≤◌, ◌^◌, true, IfSome, IfNone};
-ghost use Rattle.const_oid.specs.Bound.{Bound};
+ghost use Rattle.const_oid.specs.Bound.{Bound, max_size};
 ghost use Rattle.const_oid.specs.TextReading.{read_text};
 ghost use Rattle.der_core_head.specs.Dates.{Civil, is_civil};
 ghost use Rattle.cert_desk_checking.specs.Names.TimeTypes.DateTexts.{date_text};
+ghost use Rattle.cert_desk_checking.specs.Names.TimeTypes.Seconds.{last_second};
 ghost use Rattle.cert_desk_checking.specs.Arguments.{IsNumber};
 ghost use Rattle.cert_tool_runs.specs.Tasks.{IsMoment, IsNoMoment, arcs_of};
 
@@ -13,12 +14,6 @@ use const_oid::{Error, ObjectIdentifier};
 
 // The least limit: a certificate has a header and some content.
 const LEAST_LIMIT: u64 = 6;
-
-// The greatest limit.
-const MOST_LIMIT: u64 = 0xffff_ffff;
-
-// 9999-12-31T23:59:59Z, the last date that a certificate can name.
-const LAST_MOMENT: u64 = 253_402_300_799;
 
 /// When a chain is judged.
 #[derive(Clone, Copy)]
@@ -57,7 +52,7 @@ pub(crate) fn number_in(text: &str) -> Option<u64>
 fn seconds_in(text: &str) -> Option<u64>
     ensures read { IfSome result (λ n. IsMoment (Moment.Seconds n) text.now) }
     ensures refused { IfNone result (
-        ((n : ℕ) → IsNumber n text.now → n ≤ 253402300799 → ⊥)
+        ((n : ℕ) → IsNumber n text.now → n ≤ last_second → ⊥)
         × ((c : Civil) → is_civil c ≡ true → text.now ≢ date_text c)) }
 {
     if let Ok(date) = text.parse::<DateTime>() {
@@ -66,7 +61,7 @@ fn seconds_in(text: &str) -> Option<u64>
     let Some(seconds) = number_in(text) else {
         return None;
     };
-    if seconds > LAST_MOMENT {
+    if DateTime::from_unix_seconds(seconds).is_err() {
         return None;
     }
     Some(seconds)
@@ -104,7 +99,7 @@ fn arcs_of(text: &str) -> &str
 
 // A purpose: a name, or an identifier in dotted arcs.
 pub(crate) fn purpose_in(text: &str) -> Result<ObjectIdentifier<39>, Error>
-    ensures { result ≡ read_text Bound 39 (arcs_of text.now) }
+    ensures { result ≡ read_text Bound max_size (arcs_of text.now) }
 {
     ObjectIdentifier::<39>::new(arcs_of(text))
 }
@@ -122,7 +117,7 @@ pub(crate) fn limit_in(text: &str) -> Option<u32>
     if limit < LEAST_LIMIT {
         return None;
     }
-    if limit > MOST_LIMIT {
+    if limit > u64::from(u32::MAX) {
         return None;
     }
     Some(limit as u32)

@@ -28,7 +28,7 @@ impl<'a> Database<'a> {
     ghost use Rattle.const_oid.specs.Names.{names_of, first, by_name, resolved};
     ghost use Rattle.const_oid.specs.TextReading.{read_text};
     ghost use Rattle.const_oid.specs.TextFaults.{IsTextFault};
-    ghost use Rattle.const_oid.specs.Bound.{Bound};
+    ghost use Rattle.const_oid.specs.Bound.{Bound, max_size};
     ghost use Rattle.std.specs.Result.{result_map_both};
 
     /// A database of these entries.
@@ -78,8 +78,8 @@ impl<'a> Database<'a> {
     where
         'a: 'b,
         ensures name { result_map_both (λ name. name.now) (λ e. e) result
-            ≡ resolved oid.now (entries_of self.now) (read_text Bound 39 oid.now) }
-        ensures fault { IfErr result (λ e. IsTextFault Bound 39 oid.now e) }
+            ≡ resolved oid.now (entries_of self.now) (read_text Bound max_size oid.now) }
+        ensures fault { IfErr result (λ e. IsTextFault Bound max_size oid.now e) }
     {
         let identifier = ObjectIdentifier::<39>::new(oid)?;
         match self.by_oid(&identifier) {

@@ -12,7 +12,7 @@ ghost use Rattle.std.specs.Cmp.Rules.{hashing};
 ghost use Rattle.std.specs.Hash as fed;
 ghost use Rattle.std.proofs.Common.{rules};
 ghost use Rattle.const_oid.specs.declared.error.Error.TheVariants as errors;
-ghost use Rattle.const_oid.specs.Bound.{Bound};
+ghost use Rattle.const_oid.specs.Bound.{Bound, max_size};
 ghost use Rattle.const_oid.specs.Digits.{digits};
 ghost use Rattle.const_oid.specs.IdentifierOctets.{identifier_octets, IsIdentifier};
 ghost use Rattle.const_oid.specs.IdentifierOctets.{read_identifier};
@@ -45,7 +45,7 @@ pub struct ObjectIdentifier<const MAX_SIZE: usize> {
 impl<const MAX_SIZE: usize> Model for ObjectIdentifier<MAX_SIZE> {
     ghost use Rattle.std.specs.Prelude.{ℕ, List, length};
     ghost use Rattle.std.proofs.Common.{sym};
-    ghost use Rattle.const_oid.specs.Bound.{Bound};
+    ghost use Rattle.const_oid.specs.Bound.{Bound, max_size};
     ghost use Rattle.const_oid.specs.IdentifierOctets.{identifier_octets};
     ghost use Rattle.const_oid.specs.Arcs.{arcs_of, SpellsIdentifier};
     ghost use Rattle.const_oid.specs.LastArcs.{place_of_last, KnowsLast};
@@ -288,13 +288,13 @@ impl ObjectIdentifier<39> {
     /// The identifier that a dotted text spells, or the text's first fault from the left. Zeros in
     /// front of an arc are read.
     pub fn new(s: &str) -> Result<Self>
-        ensures read { result ≡ read_text Bound 39 s.now }
+        ensures read { result ≡ read_text Bound max_size s.now }
         ensures ok { IfOk result (λ arcs. IsText arcs s.now × IsIdentifier Bound arcs
-            × (length (identifier_octets arcs) ≤ 39)) }
+            × (length (identifier_octets arcs) ≤ max_size)) }
         ensures spelled { (arcs : List ℕ) → IsText arcs s.now → IsIdentifier Bound arcs
-            → length (identifier_octets arcs) ≤ 39
+            → length (identifier_octets arcs) ≤ max_size
             → result ≡ Ok arcs }
-        ensures fault { IfErr result (λ e. IsTextFault Bound 39 s.now e) }
+        ensures fault { IfErr result (λ e. IsTextFault Bound max_size s.now e) }
         ensures never_overflow { result ≢ Err errors.Overflow }
     {
         text::read(s.as_bytes())
@@ -302,8 +302,8 @@ impl ObjectIdentifier<39> {
 
     /// The identifier of a dotted text that is one.
     pub fn new_unwrap(s: &str) -> Self
-        requires { is_ok (read_text Bound 39 s.now) ≡ true }
-        ensures { Ok result ≡ read_text Bound 39 s.now }
+        requires { is_ok (read_text Bound max_size s.now) ≡ true }
+        ensures { Ok result ≡ read_text Bound max_size s.now }
     {
         match Self::new(s) {
             Ok(oid) => oid,
@@ -315,8 +315,8 @@ impl ObjectIdentifier<39> {
     /// 2.5.29.15. Its arcs are below 2^64: at a literal both clauses are computed, and no text is
     /// read.
     pub fn from_bytes_unwrap(ber_bytes: &[u8]) -> Self
-        requires { is_ok (read_identifier (2 ^ 64) 39 ber_bytes.now) ≡ true }
-        ensures { Ok result ≡ read_identifier (2 ^ 64) 39 ber_bytes.now }
+        requires { is_ok (read_identifier (2 ^ 64) max_size ber_bytes.now) ≡ true }
+        ensures { Ok result ≡ read_identifier (2 ^ 64) max_size ber_bytes.now }
     {
         match Self::from_bytes(ber_bytes) {
             Ok(oid) => oid,
@@ -326,14 +326,14 @@ impl ObjectIdentifier<39> {
 
     /// The identifier that these octets spell (X.690 8.19), or their first fault from the left.
     pub fn from_bytes(ber_bytes: &[u8]) -> Result<Self>
-        ensures read { result ≡ read_identifier Bound 39 ber_bytes.now }
+        ensures read { result ≡ read_identifier Bound max_size ber_bytes.now }
         ensures ok { IfOk result
-            (λ arcs. IsIdentifier Bound arcs × (length ber_bytes.now ≤ 39)
+            (λ arcs. IsIdentifier Bound arcs × (length ber_bytes.now ≤ max_size)
             × (ber_bytes.now ≡ identifier_octets arcs)) }
         ensures spelled { (arcs : List ℕ) → ber_bytes.now ≡ identifier_octets arcs
-            → IsIdentifier Bound arcs → length ber_bytes.now ≤ 39
+            → IsIdentifier Bound arcs → length ber_bytes.now ≤ max_size
             → result ≡ Ok arcs }
-        ensures fault { IfErr result (λ e. IsOctetsFault Bound 39 ber_bytes.now e) }
+        ensures fault { IfErr result (λ e. IsOctetsFault Bound max_size ber_bytes.now e) }
         ensures never_overflow { result ≢ Err errors.Overflow }
     {
         Self::from_bytes_sized(ber_bytes)
@@ -352,20 +352,20 @@ impl ObjectIdentifier<39> {
         requires { IsFiniteIterable I.into_iter_gives I.IntoIter.can_next
             I.IntoIter.remaining arcs }
         ensures gathered { (it : I.IntoIter) × (xs : List ℕ) × I.into_iter_gives arcs it
-            × DrainsIf I.IntoIter.next_gives (IsOk result) it xs × (result ≡ gather 39 [] xs) }
+            × DrainsIf I.IntoIter.next_gives (IsOk result) it xs × (result ≡ gather max_size [] xs) }
 
         // The identifier's arcs are all items.
         ensures ok { IfOk result
             (λ oid. (it : I.IntoIter) × I.into_iter_gives arcs it
             × DrainsIf I.IntoIter.next_gives ⊤ it oid
-            × IsIdentifier Bound oid × (length (identifier_octets oid) ≤ 39)) }
+            × IsIdentifier Bound oid × (length (identifier_octets oid) ≤ max_size)) }
 
         // The items that were taken have this fault, and those before the last one have none. Where
         // they are too few, they are all items.
         ensures fault { IfErr result
             (λ e. (it : I.IntoIter) × (xs : List ℕ) × I.into_iter_gives arcs it
-            × DrainsIf I.IntoIter.next_gives (e ≡ errors.Empty) it xs × IsArcsFault 39 xs e
-            × EndsAtFault 39 xs) }
+            × DrainsIf I.IntoIter.next_gives (e ≡ errors.Empty) it xs × IsArcsFault max_size xs e
+            × EndsAtFault max_size xs) }
         ensures never_overflow { result ≢ Err errors.Overflow }
     {
         let mut so_far = Encoder::<39>::new();
@@ -380,22 +380,22 @@ impl ObjectIdentifier<39> {
 /// As `new` reads a text.
 impl FromStr for ObjectIdentifier<39> {
     ghost use Rattle.std.specs.Prelude.{◌≡◌, ◌≢◌};
-    ghost use Rattle.const_oid.specs.Bound.{Bound};
+    ghost use Rattle.const_oid.specs.Bound.{Bound, max_size};
     ghost use Rattle.const_oid.specs.TextReading.{read_text};
     ghost use Rattle.const_oid.specs.TextFaults.{IsText, IsTextFault};
 
     type Err = Error;
 
-    ghost from_str_gives = { λ text r. r ≡ read_text Bound 39 text };
+    ghost from_str_gives = { λ text r. r ≡ read_text Bound max_size text };
 
     fn from_str(s: &str) -> Result<Self>
-        ensures read { result ≡ read_text Bound 39 s.now }
+        ensures read { result ≡ read_text Bound max_size s.now }
         ensures ok { IfOk result (λ arcs. IsText arcs s.now × IsIdentifier Bound arcs
-            × (length (identifier_octets arcs) ≤ 39)) }
+            × (length (identifier_octets arcs) ≤ max_size)) }
         ensures spelled { (arcs : List ℕ) → IsText arcs s.now → IsIdentifier Bound arcs
-            → length (identifier_octets arcs) ≤ 39
+            → length (identifier_octets arcs) ≤ max_size
             → result ≡ Ok arcs }
-        ensures fault { IfErr result (λ e. IsTextFault Bound 39 s.now e) }
+        ensures fault { IfErr result (λ e. IsTextFault Bound max_size s.now e) }
         ensures never_overflow { result ≢ Err errors.Overflow }
     {
         Self::new(s)
@@ -405,12 +405,12 @@ impl FromStr for ObjectIdentifier<39> {
 /// As `from_bytes` reads octets.
 impl<'a> TryFrom<&'a [u8]> for ObjectIdentifier<39> {
     ghost use Rattle.std.specs.Prelude.{◌≡◌};
-    ghost use Rattle.const_oid.specs.Bound.{Bound};
+    ghost use Rattle.const_oid.specs.Bound.{Bound, max_size};
     ghost use Rattle.const_oid.specs.IdentifierOctets.{read_identifier};
 
     type Error = Error;
 
-    ghost try_from_gives = { λ octets r. r ≡ read_identifier Bound 39 octets.now };
+    ghost try_from_gives = { λ octets r. r ≡ read_identifier Bound max_size octets.now };
 
     fn try_from(octets: &'a [u8]) -> Result<Self> {
         Self::from_bytes(octets)
@@ -420,7 +420,7 @@ impl<'a> TryFrom<&'a [u8]> for ObjectIdentifier<39> {
 /// A copy of the identifier, or `Length` where its octets pass the capacity.
 impl<'a, const MAX_SIZE: usize> TryFrom<ObjectIdentifierRef<'a>> for ObjectIdentifier<MAX_SIZE> {
     ghost use Rattle.std.specs.Prelude.{◌≡◌};
-    ghost use Rattle.const_oid.specs.Bound.{Bound};
+    ghost use Rattle.const_oid.specs.Bound.{Bound, max_size};
     ghost use Rattle.const_oid.specs.IdentifierOctets.{read_identifier};
     ghost use Rattle.const_oid.specs.References.{reference_octets};
 

@@ -2,7 +2,7 @@
 
 ghost use Rattle.std.specs.Prelude.{◌≡◌, ℕ, ◌+◌, ◌*◌, Option, Some, None, [], nat_lt};
 ghost use Rattle.std.specs.Prelude.{if◌then◌else◌, Result, Ok, Err};
-ghost use Rattle.const_oid.specs.Bound.{Bound};
+ghost use Rattle.const_oid.specs.Bound.{Bound, max_size};
 ghost use Rattle.const_oid.specs.TextReading.{early_dot, text_arcs, read_text};
 
 use crate::encoder::Encoder;
@@ -27,7 +27,7 @@ fn push_digit(value: Arc, digit: u8) -> Option<Arc>
 
 /// The identifier of a dotted text.
 pub(crate) fn read(text: &[u8]) -> Result<ObjectIdentifier<39>>
-    ensures { result ≡ read_text Bound 39 text.now }
+    ensures { result ≡ read_text Bound max_size text.now }
 {
     let mut arcs = Encoder::<39>::new();
     let mut value: Option<Arc> = None;
@@ -56,7 +56,7 @@ pub(crate) fn read(text: &[u8]) -> Result<ObjectIdentifier<39>>
 
 /// The identifier at the end of a text, with its last arc.
 fn finish(mut arcs: Encoder<39>, value: Option<Arc>) -> Result<ObjectIdentifier<39>>
-    ensures { result ≡ text_arcs Bound 39 arcs value [] }
+    ensures { result ≡ text_arcs Bound max_size arcs value [] }
 {
     let Some(last) = value else {
         return Err(Error::Empty);

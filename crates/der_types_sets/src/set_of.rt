@@ -5,6 +5,7 @@ ghost use Rattle.std.specs.Prelude.{[], ◌∷◌, ◌++◌, length, slice_get, 
 ghost use Rattle.std.specs.Option.{option_copied};
 ghost use Rattle.std.specs.List.Sorted.{IsPermutation};
 ghost use Rattle.der_core_head.specs.declared.tag.Tag.TheVariants.{Set};
+ghost use Rattle.der_core_head.specs.Limits.{levels_max};
 ghost use Rattle.der_core_head.specs.Shapes.{Value, tagged, nested, few};
 ghost use Rattle.der_core_head.specs.Spelling.{is_element, are_enough, are_content_enough};
 ghost use Rattle.der_core_head.specs.Grammar.{plain_list, value_at, read_whole};
@@ -250,7 +251,7 @@ impl<T: DerOrd + Member + Default + Drop, const N: usize> SetOf<T, N> {
             → IfOk result (λ set. SpellsLoosely T.shape (plain_list T.plain set) bytes.now) }
         // What is spelled so is read, if there is room, unless memory runs out.
         ensures only { (v : List (Value T.shape)) → is_element T.shape ≡ true
-            → are_enough (tagged Set (nested (few N T.shape))) 64 ≡ true
+            → are_enough (tagged Set (nested (few N T.shape))) levels_max ≡ true
             → SpellsLoosely T.shape v bytes.now → length v ≤ N
             → Gives (plain_list T.plain) result (Ok v) }
         // Which fault it is.

@@ -6,6 +6,7 @@ ghost use Rattle.std.specs.Prelude.{IfErr, IsErrAnd};
 ghost use Rattle.std.specs.Option.{option_copied};
 ghost use Rattle.std.specs.List.Sorted.{IsPermutation};
 ghost use Rattle.der_core_head.specs.declared.tag.Tag.TheVariants.{Set};
+ghost use Rattle.der_core_head.specs.Limits.{levels_max};
 ghost use Rattle.der_core_head.specs.Shapes.{Value, tagged, nested, many, rising, octets_of};
 ghost use Rattle.der_core_head.specs.Shapes.{AllRising};
 ghost use Rattle.der_core_head.specs.Spelling.{is_element, are_enough, are_content_enough};
@@ -335,7 +336,7 @@ impl<T: DerOrd + Member + Drop> SetOfVec<T> {
             → IfOk result (λ set. SpellsLoosely T.shape (plain_list T.plain set) bytes.now) }
         // What is spelled so is read, unless memory runs out.
         ensures only { (v : List (Value T.shape)) → is_element T.shape ≡ true
-            → are_enough (tagged Set (nested (many T.shape))) 64 ≡ true
+            → are_enough (tagged Set (nested (many T.shape))) levels_max ≡ true
             → SpellsLoosely T.shape v bytes.now → Gives (plain_list T.plain) result (Ok v) }
         // Which fault it is.
         ensures refused { is_element T.shape ≡ true

@@ -1,6 +1,7 @@
 -- General names and what holds them (RFC 5280 4.2, 5.2). A shape that holds an identifier takes the
 -- bound of arcs.
 use Rattle.std.specs.Prelude.{ℕ, ◌+◌, [], ◌∷◌, true, false}
+use Rattle.const_oid.specs.Bound.{max_size}
 use Rattle.der_core_head.specs.declared.tag.Tag.TheVariants as tags
 use Rattle.der_core_head.specs.Integers.{unsigned, within}
 use Rattle.der_core_head.specs.Leaves.{Leaf, boolean, integer, octets, identifier, text, named}
@@ -50,7 +51,7 @@ general_name bound =
     (either (behind 2 (text ascii))
     (either (explicit 4 (name bound))
     (either (inside 5 edi_party_name_fields)
-    (either (behind 6 (text ascii)) (either (behind 7 octets) (behind 8 (identifier bound 39))))))))
+    (either (behind 6 (text ascii)) (either (behind 7 octets) (behind 8 (identifier bound max_size))))))))
 
 -- GeneralNames ::= SEQUENCE OF GeneralName
 abbrev pub general_names : ℕ → Shape

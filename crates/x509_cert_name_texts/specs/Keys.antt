@@ -5,6 +5,7 @@ use Rattle.std.specs.Prelude.{length, map, nat_eq, nat_lt, if◌then◌else◌}
 use Rattle.std.specs.Char.{to_ascii_lowercase, to_ascii_uppercase}
 use Rattle.std.specs.Cmp.Lexicographic.{pointwise}
 use Rattle.std.specs.List.{find, list_any}
+use Rattle.const_oid.specs.Bound.{max_size}
 use Rattle.const_oid.specs.Comparing.{owned_eq}
 use Rattle.const_oid.specs.TextReading.{read_text}
 use Rattle.const_oid.specs.declared.error.Error.{Error}
@@ -69,7 +70,7 @@ dotted_arcs (Err e) = Err kinds.OidMalformed
 -- the arcs of a key, which is the name of a type, or a dotted text of arcs below the bound
 abbrev pub arcs_or : ℕ → Option Named → List ℕ → Result (List ℕ) ErrorKind
 arcs_or bound (Some t) key = Ok t.arcs
-arcs_or bound None key = dotted_arcs (read_text bound 39 key)
+arcs_or bound None key = dotted_arcs (read_text bound max_size key)
 
 abbrev pub key_arcs : ℕ → List ℕ → Result (List ℕ) ErrorKind
 key_arcs bound key = arcs_or bound (type_named key) key

@@ -1,6 +1,7 @@
 -- Names and attributes (RFC 5280 4.1.2.4, 4.1.2.6, appendix A.1; RFC 2986 4.1). Each shape takes
 -- the bound of arcs.
 use Rattle.std.specs.Prelude.{ℕ, List, flat_map}
+use Rattle.const_oid.specs.Bound.{max_size}
 use Rattle.der_core_head.specs.declared.tag.Tag.TheVariants as tags
 use Rattle.der_core_head.specs.Leaves.{identifier, text, utf8, bmp}
 use Rattle.der_core_head.specs.Texts.{printable, ascii}
@@ -9,7 +10,7 @@ use Rattle.der_core_head.specs.Shapes.{field, done, sequence, sequence_of, set_o
 
 -- AttributeType ::= OBJECT IDENTIFIER, of at most 39 octets
 abbrev pub attribute_type : ℕ → Shape
-attribute_type bound = tagged tags.ObjectIdentifier (leaf (identifier bound 39))
+attribute_type bound = tagged tags.ObjectIdentifier (leaf (identifier bound max_size))
 
 -- Attribute ::= SEQUENCE { type AttributeType, values SET OF AttributeValue }, where AttributeValue
 --     ::= ANY

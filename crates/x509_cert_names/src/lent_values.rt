@@ -1,7 +1,7 @@
 //! Values that any value can be read as: most of them are lent, and all but sets take no memory.
 
 ghost use Rattle.std.specs.Prelude.{Ok, pos};
-ghost use Rattle.const_oid.specs.Bound.{Bound};
+ghost use Rattle.const_oid.specs.Bound.{Bound, max_size};
 ghost use Rattle.der_core_head.specs.declared.tag.Tag.TheVariants as tags;
 ghost use Rattle.der_core_head.specs.Integers.{every, natural};
 ghost use Rattle.der_core_head.specs.Leaves.{bits, boolean, identifier, integer, octets, text, utf8};
@@ -154,7 +154,7 @@ impl<'a> FromAny<'a> for bool {
 /// The identifier of an OBJECT IDENTIFIER.
 impl<'a> FromAny<'a> for ObjectIdentifier<39> {
     ghost any_gives = { λ a r. GivesNow (λ x. x) r
-        (leaf_as tags.ObjectIdentifier (identifier Bound 39) a) };
+        (leaf_as tags.ObjectIdentifier (identifier Bound max_size) a) };
 
     fn from_any(_alloc: Global, any: &'a Any) -> Result<ObjectIdentifier<39>, Error> {
         let value = ObjectIdentifier::<39>::try_from(any)?;

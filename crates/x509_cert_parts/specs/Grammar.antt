@@ -3,6 +3,7 @@
 -- reads, if there is such a number.
 use Rattle.std.specs.Prelude.{ℕ, List, [], ◌∷◌, Bool, Option, Some, None}
 use Rattle.std.proofs.Common.{inl, inr}
+use Rattle.const_oid.specs.Bound.{max_size}
 use Rattle.der_core_head.specs.declared.tag.Tag.TheVariants as tags
 use Rattle.der_core_head.specs.BitStrings.{Bits}
 use Rattle.der_core_head.specs.Dates.{Civil}
@@ -15,7 +16,7 @@ use Rattle.der_core_head.specs.Shapes.{sequence_of, explicit}
 
 -- OBJECT IDENTIFIER, of at most 39 octets
 abbrev pub object_identifier : ℕ → Shape
-object_identifier bound = tagged tags.ObjectIdentifier (leaf (identifier bound 39))
+object_identifier bound = tagged tags.ObjectIdentifier (leaf (identifier bound max_size))
 
 abbrev pub bit_string : Shape
 bit_string = tagged tags.BitString (leaf bits)

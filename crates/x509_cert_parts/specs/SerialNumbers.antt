@@ -13,6 +13,10 @@ use Rattle.x509_cert_parts.specs.declared.serial_number.SerialNumber.TheInside.{
 abbrev pub serial_kept : {P : Type 0} → Inside P → ℤ
 serial_kept n = n.inner
 
+-- the most content octets of a serial number that is read by RFC 5280: 20, and one for the sign
+abbrev pub serial_octets_max : ℕ
+serial_octets_max = 21
+
 -- a number that isn't negative, of at most 20 content octets
 unfoldable pub new_serial : List ℕ → Result ℤ ErrorKind
 new_serial w = unsigned_number w >>= λ n. if nat_lt 20 (length (integer_octets (pos n)))

@@ -17,6 +17,7 @@ ghost use Rattle.x509_cert_parts.specs.Views.{algorithm_plain, key_plain, extens
 ghost use Rattle.x509_cert_parts.specs.Views.{time_value, validity_plain, version_number};
 ghost use Rattle.x509_cert_parts.specs.Grammar.{not_before, not_after};
 ghost use Rattle.x509_cert_parts.specs.Respelling.{validity_by, is_early_generalized};
+ghost use Rattle.x509_cert_parts.specs.SerialNumbers.{serial_octets_max};
 
 use crate::algorithm_identifier::AlgorithmIdentifier;
 use crate::extension::Extension;
@@ -51,7 +52,7 @@ pub fn parts_are_apart()
 /// Which serial numbers are read: of at most 21 content octets under RFC 5280, and all under `Raw`.
 pub fn serial_numbers_by_profile()
     ensures rfc5280 { (z : ℤ) → IsNumber (numbers_within ⟦<Rfc5280 as Profile>⟧.serial_limit) z
-        ↔ (length (integer_octets z) ≤ 21) }
+        ↔ (length (integer_octets z) ≤ serial_octets_max) }
     ensures raw { (z : ℤ) → IsNumber (numbers_within ⟦<Raw as Profile>⟧.serial_limit) z }
 {}
 

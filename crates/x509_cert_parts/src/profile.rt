@@ -6,12 +6,16 @@ ghost use Rattle.der_core_head.specs.Integers.{checked};
 ghost use Rattle.der_core_head.specs.Reading.{GivesNow};
 ghost use Rattle.x509_cert_parts.specs.Grammar.{numbers_within};
 ghost use Rattle.x509_cert_parts.specs.Respelling.{spelled_by};
+ghost use Rattle.x509_cert_parts.specs.SerialNumbers.{serial_octets_max};
 ghost use Rattle.x509_cert_parts.specs.Views.{time_value};
 
 use crate::serial_number::SerialNumber;
 use crate::time::Time;
 use der_core::{Error, ErrorKind, Tag};
 use x509_cert_names::time_types::UtcTime;
+
+// The most content octets of a serial number that is read by RFC 5280.
+const MAX_SERIAL_OCTETS: usize = 21;
 
 /// Which serial numbers of certificates are read, and how the dates of a validity are written.
 pub trait Profile {
@@ -43,12 +47,12 @@ pub trait Profile {
 pub struct Rfc5280;
 
 impl Profile for Rfc5280 {
-    ghost serial_limit = { Some 21 };
+    ghost serial_limit = { Some serial_octets_max };
 
     ghost respells = { true };
 
     fn check_serial_number(serial: &SerialNumber<Rfc5280>) -> Result<(), Error> {
-        if serial.as_bytes().len() > 21 {
+        if serial.as_bytes().len() > MAX_SERIAL_OCTETS {
             return Err(Error::from(ErrorKind::Value { tag: Tag::Integer }));
         }
         Ok(())

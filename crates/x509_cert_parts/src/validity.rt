@@ -4,7 +4,7 @@ ghost use Rattle.std.specs.Prelude.{◌≡◌, ◌+◌, ◌/◌, ◌≤◌, ◌�
 ghost use Rattle.std.specs.Duration.{as_nanos};
 ghost use Rattle.der_core_head.specs.declared.tag.Tag.TheVariants.{Sequence};
 ghost use Rattle.der_core_head.specs.Shapes.{nested};
-ghost use Rattle.x509_cert_names.specs.TimeTypes.Seconds.{unix_seconds};
+ghost use Rattle.x509_cert_names.specs.TimeTypes.Seconds.{last_second, unix_seconds};
 ghost use Rattle.x509_cert_parts.specs.Grammar.{validity_fields};
 ghost use Rattle.x509_cert_parts.specs.Respelling.{validity_by};
 ghost use Rattle.x509_cert_parts.specs.Times.{time_of, without_end};
@@ -60,7 +60,7 @@ impl<P> Validity<P> {
     /// `DateTime` where the end is after 9999-12-31T23:59:59Z.
     pub fn from_now(now: DateTime, duration: Duration) -> Result<Validity<P>, Error>
         ensures range { IsOk result
-            ↔ (unix_seconds now + as_nanos duration / 1_000_000_000 ≤ 253_402_300_799) }
+            ↔ (unix_seconds now + as_nanos duration / 1_000_000_000 ≤ last_second) }
         ensures before { IfOk result (λ v. time_value v.not_before ≡ time_of now) }
         ensures after { IfOk result
             (λ v. time_value v.not_after ≡ time_of (time_date v.not_after)) }
