@@ -11,24 +11,25 @@ use Rattle.const_oid.specs.IdentifierOctets.{arc_octets, identifier_octets}
 use Rattle.const_oid.specs.Orders.{owned_cmp, owned_cmp_ties}
 use Rattle.const_oid.proofs.EncodingLaws.{arc_octets-one}
 use Rattle.der_core_head.specs.Grammar.{plain_list}
+use Rattle.x509_cert_extensions.specs.ExtensionTypes.{id_ce}
 use Rattle.x509_cert_extensions.specs.Parts.{PlainExtension, extension_arcs}
 use Rattle.cert_desk_checking.specs.declared.weight.Weight.{Weight}
 use Rattle.cert_desk_checking.specs.declared.weight.Weight.TheVariants as weights
 use Rattle.cert_desk_checking.specs.Findings.{weight_of}
 use Rattle.cert_desk_checking.specs.Judging.{are_distinct, has_twin, is_alone}
-use Rattle.cert_desk_checking.specs.Weighing.{Meaning, any_purpose, certificate_extension, malformed}
+use Rattle.cert_desk_checking.specs.Weighing.{Meaning, any_purpose, malformed}
 use Rattle.cert_desk_checking.proofs.Folds.{and_yes}
 
 -- a number of less than 128 below 2.5.29
-pub numbered_octets : (n : ℕ) → n < 128 → identifier_octets (certificate_extension n) ≡ 0x55 ∷ 0x1d ∷ n ∷ []
+pub numbered_octets : (n : ℕ) → n < 128 → identifier_octets (id_ce n) ≡ 0x55 ∷ 0x1d ∷ n ∷ []
 unfolding identifier_octets
 numbered_octets n h =
     ap (λ (w : List ℕ). 0x55 ∷ (w ++ (arc_octets n ++ []))) (arc_octets-one 29 (omega arith))
     ∙ ap (λ (w : List ℕ). 0x55 ∷ 0x1d ∷ (w ++ [])) (arc_octets-one n h)
 
 -- an identifier, known by its octets
-by_octets : (arcs w : List ℕ) (n : ℕ) → w ≡ identifier_octets arcs → n < 128 → owned_eq arcs (certificate_extension n) ≡ bytes_eq w (0x55 ∷ 0x1d ∷ n ∷ [])
-by_octets arcs w n is h = ap (λ (v : List ℕ). bytes_eq v (identifier_octets (certificate_extension n))) (sym is) ∙ ap (bytes_eq w) (numbered_octets n h)
+by_octets : (arcs w : List ℕ) (n : ℕ) → w ≡ identifier_octets arcs → n < 128 → owned_eq arcs (id_ce n) ≡ bytes_eq w (0x55 ∷ 0x1d ∷ n ∷ [])
+by_octets arcs w n is h = ap (λ (v : List ℕ). bytes_eq v (identifier_octets (id_ce n))) (sym is) ∙ ap (bytes_eq w) (numbered_octets n h)
 
 third : (w : List ℕ) (n : ℕ) → length w ≡ 3 → slice_index_or w 0 0 ≡ 0x55 → slice_index_or w 1 0 ≡ 0x1d → bytes_eq w (0x55 ∷ 0x1d ∷ n ∷ []) ≡ nat_eq (slice_index_or w 2 0) n
 third [] n l a b = absurd (omega (arith, l))
@@ -40,11 +41,11 @@ third (x ∷ y ∷ z ∷ t ∷ w) n l a b = absurd (omega (arith, l))
 
 -- an identifier of three octets below 2.5.29 is told by its third octet
 pub numbered_by : (arcs w : List ℕ) (n : ℕ) → w ≡ identifier_octets arcs → n < 128 → length w ≡ 3 → slice_index_or w 0 0 ≡ 0x55 → slice_index_or w 1 0 ≡ 0x1d
-    → owned_eq arcs (certificate_extension n) ≡ nat_eq (slice_index_or w 2 0) n
+    → owned_eq arcs (id_ce n) ≡ nat_eq (slice_index_or w 2 0) n
 numbered_by arcs w n is h l a b = by_octets arcs w n is h ∙ third w n l a b
 
 -- an identifier of other octets is none below 2.5.29 of that number
-pub not_numbered : (arcs w : List ℕ) (n : ℕ) → w ≡ identifier_octets arcs → n < 128 → (w ≡ 0x55 ∷ 0x1d ∷ n ∷ [] → ⊥) → owned_eq arcs (certificate_extension n) ≡ false
+pub not_numbered : (arcs w : List ℕ) (n : ℕ) → w ≡ identifier_octets arcs → n < 128 → (w ≡ 0x55 ∷ 0x1d ∷ n ∷ [] → ⊥) → owned_eq arcs (id_ce n) ≡ false
 not_numbered arcs w n is h other = by_octets arcs w n is h ∙ false_from_ne_true (bytes_eq w (0x55 ∷ 0x1d ∷ n ∷ [])) (λ e. other ((bytes_decides w (0x55 ∷ 0x1d ∷ n ∷ [])).0 e))
 
 -- the weight of what was refused

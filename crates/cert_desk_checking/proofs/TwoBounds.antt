@@ -16,11 +16,13 @@ use Rattle.der_core_head.specs.Shapes.{Shape, Value, IsValid, IsContent, IsBody,
 use Rattle.der_core_head.proofs.BoundLaws.{below_or_large}
 use Rattle.der_core_head.proofs.Families.{Family, same_octets, valid_wider, valid_narrow, whole_wider, whole_new}
 use Rattle.x509_cert_anchors.specs.Certificates.{PlainCertificate, extensions_of, raw_certificate}
+use Rattle.x509_cert_extensions.specs.ExtensionTypes as types
+use Rattle.x509_cert_extensions.specs.ExtensionTypes.{identifier_of}
 use Rattle.x509_cert_extensions.specs.Parts.{PlainExtension, extension_arcs, extension_octets, object_identifier, false_by_default}
 use Rattle.der_core_head.proofs.Results.{bind_ok, unless_ok, whole_ok}
 use Rattle.cert_desk_checking.specs.Bounded.{BecomesReadable, OneBecomesReadable, OneHoldsLarge, identifiers_in, identifiers_said}
 use Rattle.cert_desk_checking.specs.Chains.{Chain, Stands, joined}
-use Rattle.cert_desk_checking.specs.Weighing.{Meaning, certificate_extension, basic_constraints, constraints_of, extended_key_usage, is_malformed, key_usage, malformed, meaning_by, meaning_of, other_names, purposes, subject_alt_name, unweighed, uses, weigh}
+use Rattle.cert_desk_checking.specs.Weighing.{Meaning, basic_constraints, constraints_of, extended_key_usage, is_malformed, key_usage, malformed, meaning_by, meaning_of, other_names, purposes, subject_alt_name, unweighed, uses, weigh}
 use Rattle.cert_desk_checking.proofs.SeriesLaws.{each-so}
 
 -- Certificates
@@ -215,8 +217,8 @@ module _ (small large : ℕ) (le : small ≤ large) where
 
   extension_weighed : (e : PlainExtension) → IsOctets (extension_octets e) → (weigh small e ≡ weigh large e) ⊎ BecomesReadable small large e
   extension_weighed e o =
-      elim (kind_weighed (owned_eq (extension_arcs e) (certificate_extension 15)) (owned_eq (extension_arcs e) (certificate_extension 17))
-      (owned_eq (extension_arcs e) (certificate_extension 19)) (owned_eq (extension_arcs e) (certificate_extension 37)) (extension_octets e) o) [
+      elim (kind_weighed (owned_eq (extension_arcs e) (identifier_of types.key_usage)) (owned_eq (extension_arcs e) (identifier_of types.subject_alt_name))
+      (owned_eq (extension_arcs e) (identifier_of types.basic_constraints)) (owned_eq (extension_arcs e) (identifier_of types.extended_key_usage)) (extension_octets e) o) [
         | inl same ↦ inl same
         | inr new ↦ inr (record { unread = new.0; readable = new.1; holds = new.2 })
       ]

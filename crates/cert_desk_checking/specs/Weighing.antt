@@ -1,8 +1,8 @@
 -- What the extensions say by which a chain is judged (RFC 5280 4.2.1.3, 4.2.1.6, 4.2.1.9,
 -- 4.2.1.12).
 use Rattle.std.specs.Prelude.{ℕ, List, [], ◌∷◌, Bool, true, false, Option, None, Result, Ok, Err}
-use Rattle.std.specs.Prelude.{if◌then◌else◌, ◌&&◌, ◌||◌, ◌==◌, ◌^◌, length, nat_lt}
-use Rattle.std.specs.Int.RustNames.{bit_and, unsigned_abs}
+use Rattle.std.specs.Prelude.{if◌then◌else◌, ◌&&◌, ◌||◌, length, nat_lt}
+use Rattle.std.specs.Int.RustNames.{unsigned_abs}
 use Rattle.std.specs.List.{list_any}
 use Rattle.const_oid.specs.Comparing.{owned_eq}
 use Rattle.der_core_head.specs.declared.error.ErrorKind.{ErrorKind}
@@ -10,14 +10,14 @@ use Rattle.der_core_head.specs.declared.tag.Tag.TheVariants as tags
 use Rattle.der_core_head.specs.Grammar.{plain_option, read_whole}
 use Rattle.der_core_head.specs.Leaves.{named}
 use Rattle.der_core_head.specs.Shapes.{Shape, BodyValue, Value, leaf, sequence, sequence_of, tagged}
+use Rattle.x509_cert_extensions.specs.ExtensionTypes as types
+use Rattle.x509_cert_extensions.specs.ExtensionTypes.{identifier_of}
+use Rattle.x509_cert_extensions.specs.NamedBits as bits
+use Rattle.x509_cert_extensions.specs.NamedBits.{bit_of, has_bit}
 use Rattle.x509_cert_extensions.specs.Parts.{PlainExtension, extension_arcs, extension_octets}
 use Rattle.x509_cert_extensions.specs.Parts.{is_critical, object_identifier}
 use Rattle.x509_cert_extensions.specs.Policies.{basic_constraints_fields}
 use Rattle.x509_cert_extensions.specs.GeneralNames.{general_name, general_names}
-
--- arcs below 2.5.29
-abbrev pub certificate_extension : ℕ → List ℕ
-certificate_extension n = 2 ∷ 5 ∷ 29 ∷ n ∷ []
 
 -- KeyUsage ::= BIT STRING { digitalSignature (0), .. keyCertSign (5), .. decipherOnly (8) }
 --     (4.2.1.3)
@@ -66,12 +66,12 @@ meaning_by s says octets = meaning_of says (read_whole s octets)
 -- the kind is known by the identifier, wherever the extension stands, critical or not
 abbrev pub weigh_octets : ℕ → List ℕ → List ℕ → Meaning
 weigh_octets bound arcs octets =
-    if owned_eq arcs (certificate_extension 15) then meaning_by key_usage uses octets
-    else if owned_eq arcs (certificate_extension 17)
+    if owned_eq arcs (identifier_of types.key_usage) then meaning_by key_usage uses octets
+    else if owned_eq arcs (identifier_of types.subject_alt_name)
     then meaning_by (subject_alt_name bound) other_names octets
-    else if owned_eq arcs (certificate_extension 19)
+    else if owned_eq arcs (identifier_of types.basic_constraints)
     then meaning_by basic_constraints constraints_of octets
-    else if owned_eq arcs (certificate_extension 37)
+    else if owned_eq arcs (identifier_of types.extended_key_usage)
     then meaning_by (extended_key_usage bound) purposes octets
     else unweighed
 
@@ -80,8 +80,8 @@ weigh bound e = weigh_octets bound (extension_arcs e) (extension_octets e)
 
 -- the value of the extension is a list: other names of the subject, or purposes
 abbrev pub has_list : PlainExtension → Bool
-has_list e = owned_eq (extension_arcs e) (certificate_extension 17)
-    || owned_eq (extension_arcs e) (certificate_extension 37)
+has_list e = owned_eq (extension_arcs e) (identifier_of types.subject_alt_name)
+    || owned_eq (extension_arcs e) (identifier_of types.extended_key_usage)
 
 -- Judging these extensions may take memory: for a list, or to compare more than 16 by a set of
 -- their identifiers.
@@ -116,13 +116,9 @@ abbrev pub is_authority : Meaning → Bool
 is_authority (constraints ca path_length) = ca
 is_authority _ = false
 
--- whether name i is in a set, the first the lowest bit (X.680 22.2)
-abbrev pub has_bit : ℕ → ℕ → Bool
-has_bit i set = bit_and set (2 ^ i) == 2 ^ i
-
--- a key's uses, if they are listed, have the signing of certificates: keyCertSign (5) (4.2.1.3)
+-- a key's uses, if they are listed, have the signing of certificates: keyCertSign (4.2.1.3)
 abbrev pub may_certify : Meaning → Bool
-may_certify (uses set) = has_bit 5 set
+may_certify (uses set) = has_bit (bit_of bits.key_cert_sign) set
 may_certify _ = true
 
 -- how many counted places may follow (4.2.1.9)

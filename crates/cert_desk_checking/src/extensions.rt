@@ -6,9 +6,10 @@ ghost use Rattle.std.specs.Option.{is_some, option_map_or};
 ghost use Rattle.const_oid.specs.Comparing.{owned_eq};
 ghost use Rattle.x509_cert_anchors.specs.Certificates.{extensions_of};
 ghost use Rattle.x509_cert_anchors.specs.CertificateViews.{certificate_plain};
+ghost use Rattle.x509_cert_extensions.specs.ExtensionTypes.{id_ce};
 ghost use Rattle.x509_cert_extensions.specs.Parts.{extension_plain, extensions_plain};
 ghost use Rattle.cert_desk_checking.specs.Judging.{are_distinct, has_twin, is_alone};
-ghost use Rattle.cert_desk_checking.specs.Weighing.{certificate_extension, may_take_memory};
+ghost use Rattle.cert_desk_checking.specs.Weighing.{may_take_memory};
 
 use const_oid::ObjectIdentifier;
 use std::alloc::{AllocError, Global};
@@ -104,7 +105,7 @@ fn is_alone(extension: &Extension, others: &[Extension]) -> bool
 
 // The number of an identifier below 2.5.29, where that is one octet.
 pub(crate) fn number_of(identifier: &ObjectIdentifier<39>) -> Option<u8>
-    ensures { (n : ℕ) → n < 128 → owned_eq identifier.now (certificate_extension n)
+    ensures { (n : ℕ) → n < 128 → owned_eq identifier.now (id_ce n)
         ≡ option_map_or (λ number. nat_eq number n) result false }
 {
     let octets = identifier.as_bytes();

@@ -352,7 +352,8 @@ impl ObjectIdentifier<39> {
         requires { IsFiniteIterable I.into_iter_gives I.IntoIter.can_next
             I.IntoIter.remaining arcs }
         ensures gathered { (it : I.IntoIter) × (xs : List ℕ) × I.into_iter_gives arcs it
-            × DrainsIf I.IntoIter.next_gives (IsOk result) it xs × (result ≡ gather max_size [] xs) }
+            × DrainsIf I.IntoIter.next_gives (IsOk result) it xs
+            × (result ≡ gather max_size [] xs) }
 
         // The identifier's arcs are all items.
         ensures ok { IfOk result

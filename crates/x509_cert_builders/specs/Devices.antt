@@ -15,6 +15,7 @@ use Rattle.x509_cert_extensions.specs.GeneralNames.{general_name, hardware_modul
 use Rattle.x509_cert_extensions.specs.GeneralNameTypes.Modules.{PlainModule, module_arcs}
 use Rattle.x509_cert_extensions.specs.GeneralNameTypes.Modules.{module_held}
 use Rattle.x509_cert_extensions.specs.GeneralNameViews.{general_name_plain}
+use Rattle.x509_cert_extensions.specs.ExtensionTypes as types
 use Rattle.x509_cert_builders.specs.Profiles.{authority_key_extension, digital_signature}
 use Rattle.x509_cert_builders.specs.Profiles.{standard_extension, usage_extension}
 use Rattle.x509_cert_builders.specs.Refusals.{FailsAs, IsUnwritten}
@@ -66,7 +67,8 @@ version_arcs (versions.Other oid) = oid
 abbrev pub alternatives : PlainName → Option (List PlainGeneralName) → List PlainExtension
 alternatives subject None = []
 alternatives subject (Some names) =
-    standard_extension 17 (length subject == 0) (sequence_of (general_name Bound)) names ∷ []
+    standard_extension types.subject_alt_name (length subject == 0)
+    (sequence_of (general_name Bound)) names ∷ []
 
 -- a device (8.10)
 abbrev pub device_extensions : Option (List PlainGeneralName) → PlainName → PublicKey

@@ -5,43 +5,52 @@ use Rattle.const_oid.specs.Bound.{Bound}
 use Rattle.const_oid.specs.Comparing.{owned_eq}
 use Rattle.der_core_head.specs.declared.tag.Tag.TheVariants as tags
 use Rattle.der_core_head.specs.Leaves.{named}
-use Rattle.der_core_head.specs.Shapes.{Shape, Value, tagged, leaf, sequence, sequence_of, octets_of}
+use Rattle.der_core_head.specs.Shapes.{Shape, Value, tagged, leaf, sequence, sequence_of}
+use Rattle.x509_cert_extensions.specs.ExtensionTypes as types
+use Rattle.x509_cert_extensions.specs.ExtensionTypes.{ExtensionType, identifier_of}
 use Rattle.x509_cert_extensions.specs.KeyIdentifiers.{key_identifier}
+use Rattle.x509_cert_extensions.specs.Making.{extension_of}
+use Rattle.x509_cert_extensions.specs.NamedBits as bits
+use Rattle.x509_cert_extensions.specs.NamedBits.{KeyUse, bit_of}
 use Rattle.x509_cert_extensions.specs.Parts.{PublicKey, PlainExtension, algorithm_arcs}
 use Rattle.x509_cert_extensions.specs.Parts.{key_algorithm, object_identifier}
 use Rattle.x509_cert_extensions.specs.Parts.{octet_string}
 use Rattle.x509_cert_extensions.specs.GeneralNames.{authority_key_identifier_fields}
 use Rattle.x509_cert_extensions.specs.Policies.{basic_constraints_fields}
 
--- an extension of the arc id-ce, whose content is the encoding of a value
-abbrev pub standard_extension : ℕ → Bool → (s : Shape) → Value s → PlainExtension
-standard_extension n critical s v = (2 ∷ 5 ∷ 29 ∷ n ∷ [], (critical, (octets_of s v, tt)))
+-- an extension of a type, whose content is the encoding of a value
+abbrev pub standard_extension : ExtensionType → Bool → (s : Shape) → Value s → PlainExtension
+standard_extension t critical s v = extension_of (identifier_of t) critical s v
 
 -- AuthorityKeyIdentifier with the issuer's key alone (4.2.1.1)
 abbrev pub authority_key_extension : PublicKey → PlainExtension
 authority_key_extension k =
-    standard_extension 35 false (sequence (authority_key_identifier_fields Bound))
+    standard_extension types.authority_key_identifier false
+    (sequence (authority_key_identifier_fields Bound))
     (Some (key_identifier k), (None, (None, tt)))
 
 -- SubjectKeyIdentifier (4.2.1.2)
 abbrev pub subject_key_extension : PublicKey → PlainExtension
-subject_key_extension k = standard_extension 14 false octet_string (key_identifier k)
+subject_key_extension k =
+    standard_extension types.subject_key_identifier false octet_string (key_identifier k)
 
 -- BasicConstraints (4.2.1.9)
 abbrev pub constraints_extension : Bool → Option ℤ → PlainExtension
-constraints_extension ca path = standard_extension 19 true (sequence basic_constraints_fields)
+constraints_extension ca path =
+    standard_extension types.basic_constraints true (sequence basic_constraints_fields)
     (ca, (path, tt))
 
 -- KeyUsage, as the number whose bits are the uses (4.2.1.3)
 abbrev pub usage_extension : ℕ → PlainExtension
-usage_extension uses = standard_extension 15 true (tagged tags.BitString (leaf (named 9))) uses
+usage_extension uses =
+    standard_extension types.key_usage true (tagged tags.BitString (leaf (named 9))) uses
 
 -- digitalSignature, keyCertSign, cRLSign
 abbrev pub digital_signature : ℕ
-digital_signature = 2 ^ 0
+digital_signature = 2 ^ bit_of bits.digital_signature
 
 abbrev pub cert_and_crl_sign : ℕ
-cert_and_crl_sign = 2 ^ 5 + 2 ^ 6
+cert_and_crl_sign = 2 ^ bit_of bits.key_cert_sign + 2 ^ bit_of bits.crl_sign
 
 -- what an authority's key is for; one that answers about the state of certificates signs its
 -- answers (7.1.2.10.7)
@@ -65,7 +74,8 @@ purposes clients = if clients then id_kp 1 ∷ id_kp 2 ∷ [] else id_kp 1 ∷ [
 
 -- ExtendedKeyUsage (4.2.1.12)
 abbrev pub purposes_extension : Bool → PlainExtension
-purposes_extension clients = standard_extension 37 false (sequence_of (object_identifier Bound))
+purposes_extension clients =
+    standard_extension types.extended_key_usage false (sequence_of (object_identifier Bound))
     (purposes clients)
 
 -- a subordinate authority (7.1.2.6.1)
@@ -91,17 +101,17 @@ abbrev pub is_of : List ℕ → PublicKey → Bool
 is_of arcs k = owned_eq (algorithm_arcs (key_algorithm k)) arcs
 
 -- a use, where it stands
-abbrev pub use_where : Bool → ℕ → ℕ
-use_where stands n = if stands then 2 ^ n else 0
+abbrev pub use_where : Bool → KeyUse → ℕ
+use_where stands u = if stands then 2 ^ bit_of u else 0
 
 -- what a subscriber's key is for (7.1.2.7.11): digitalSignature; where they are enabled,
 -- dataEncipherment and keyEncipherment of an RSA key, and keyAgreement of one on an elliptic curve
 abbrev pub subscriber_uses : Bool → Bool → Bool → PublicKey → ℕ
 subscriber_uses data_enciphered keys_enciphered agreement k =
     digital_signature
-    + use_where (data_enciphered && is_of rsa_encryption k) 3
-    + use_where (keys_enciphered && is_of rsa_encryption k) 2
-    + use_where (agreement && is_of elliptic_curve_key k) 4
+    + use_where (data_enciphered && is_of rsa_encryption k) bits.data_encipherment
+    + use_where (keys_enciphered && is_of rsa_encryption k) bits.key_encipherment
+    + use_where (agreement && is_of elliptic_curve_key k) bits.key_agreement
 
 -- a subscriber, whose key has these uses (7.1.2.7.6)
 abbrev pub subscriber_extensions : Bool → ℕ → PublicKey → List PlainExtension

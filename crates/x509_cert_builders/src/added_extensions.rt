@@ -4,11 +4,12 @@ ghost use Rattle.std.specs.Prelude.{◌≡◌, ◌⊎◌, ◌<◌, ◌++◌, ◌
 ghost use Rattle.std.specs.Prelude.{IfErr};
 ghost use Rattle.der_core_head.specs.Grammar.{plain_option};
 ghost use Rattle.der_core_head.specs.Shapes.{IsValid};
+ghost use Rattle.x509_cert_extensions.specs.ExtensionTypes.{id_ce};
 ghost use Rattle.x509_cert_extensions.specs.KeyIdentifiers.{key_identifier};
+ghost use Rattle.x509_cert_extensions.specs.Making.{extension_of};
 ghost use Rattle.x509_cert_extensions.specs.Parts.{extensions_plain, key_lent, name_plain};
 ghost use Rattle.x509_cert_builders.specs.Profiles.{authority_key_extension, constraints_extension};
-ghost use Rattle.x509_cert_builders.specs.Profiles.{purposes_extension};
-ghost use Rattle.x509_cert_builders.specs.Profiles.{standard_extension, subject_key_extension};
+ghost use Rattle.x509_cert_builders.specs.Profiles.{purposes_extension, subject_key_extension};
 ghost use Rattle.x509_cert_builders.specs.Profiles.{usage_extension};
 ghost use Rattle.x509_cert_builders.specs.Refusals.{IsUnwritten, IsWantOfMemory};
 
@@ -35,7 +36,7 @@ pub(crate) fn add<T: Encode + Criticality>(
     requires { number < 128 }
     ensures added { OnOk result (extensions_plain extensions.new.items
         ≡ extensions_plain extensions.old.items
-        ++ standard_extension number
+        ++ extension_of (id_ce number)
         (T.is_critical value.now (name_plain subject.now)
         (extensions_plain extensions.old.items)) T.shape (T.written value.now) ∷ []) }
     ensures refused { IsValid T.shape (T.written value.now) → IfErr result IsWantOfMemory }

@@ -51,7 +51,8 @@ general_name bound =
     (either (behind 2 (text ascii))
     (either (explicit 4 (name bound))
     (either (inside 5 edi_party_name_fields)
-    (either (behind 6 (text ascii)) (either (behind 7 octets) (behind 8 (identifier bound max_size))))))))
+    (either (behind 6 (text ascii))
+    (either (behind 7 octets) (behind 8 (identifier bound max_size))))))))
 
 -- GeneralNames ::= SEQUENCE OF GeneralName
 abbrev pub general_names : ℕ → Shape

@@ -12,6 +12,8 @@ use Rattle.der_core_head.specs.Shapes.{sequence, sequence_of, explicit}
 use Rattle.sha1.specs.Sha1.{sha1}
 use Rattle.x509_cert_builders.specs.Certificates.{Tbs, tbs_public_key, tbs_extensions}
 use Rattle.x509_cert_lists.specs.Grammar.{revoked_cert_fields, tbs_cert_list_fields}
+use Rattle.x509_cert_builders.specs.ExtensionTypes as types
+use Rattle.x509_cert_builders.specs.ExtensionTypes.{identifier_of}
 use Rattle.x509_cert_builders.specs.Parts.{PlainExtension, PublicKey, key_bits, only_value}
 use Rattle.x509_cert_builders.specs.Parts.{extensions, listed}
 use Rattle.x509_cert_builders.specs.GeneralNames.{authority_key_identifier_fields}
@@ -48,9 +50,6 @@ PlainAuthority = BodyValue (authority_key_identifier_fields 0)
 abbrev pub authority_key : Shape
 authority_key = sequence (authority_key_identifier_fields Bound)
 
-abbrev pub authority_key_arcs : List ℕ
-authority_key_arcs = 2 ∷ 5 ∷ 29 ∷ 35 ∷ []
-
 -- the authority key identifier of a certificate, where it has one, or else the identifier of the
 -- certified key alone: the SHA-1 digest of its octets (4.2.1.2)
 abbrev pub given_or_made : PublicKey → Option (Bool × PlainAuthority) → PlainAuthority
@@ -61,7 +60,8 @@ given_or_made k (Some found) = found.1
 -- one whose content isn't an encoding.
 abbrev pub issuing_key : Tbs → Result PlainAuthority ErrorKind
 issuing_key t =
-    only_value authority_key authority_key_arcs (listed (tbs_extensions t))
+    only_value authority_key (identifier_of types.authority_key_identifier)
+    (listed (tbs_extensions t))
     >>= λ (found : Option (Bool × PlainAuthority)). Ok (given_or_made (tbs_public_key t) found)
 
 -- CRLNumber ::= INTEGER (0..MAX) (5.2.3)
@@ -69,11 +69,11 @@ abbrev pub crl_number : Shape
 crl_number = tagged tags.Integer (leaf (integer natural))
 
 abbrev pub number_extension : ℕ → PlainExtension
-number_extension n = standard_extension 20 false crl_number (pos n)
+number_extension n = standard_extension types.crl_number false crl_number (pos n)
 
 -- the key under which the list is signed (5.2.1)
 abbrev pub key_extension : PlainAuthority → PlainExtension
-key_extension a = standard_extension 35 false authority_key a
+key_extension a = standard_extension types.authority_key_identifier false authority_key a
 
 -- Why a list has no such extensions: its issuer has no such key, or one of the two has no encoding,
 -- as where a length passes 2^32 - 1.
