@@ -7,10 +7,10 @@ use Rattle.der_types_any.specs.declared.any.Any.TheInside.{Inside}
 use Rattle.der_types_any.specs.declared.any_ref.AnyRef.{AnyRef}
 
 abbrev pub any_kept : Inside → AnyValue
-any_kept a = record { tag = a.tag; contents = a.bytes.items }
+any_kept a = record { tag = a.tag; contents = a.bytes }
 
 abbrev pub IsAny : Inside → Type 0
-IsAny a = Fits a.bytes.items
+IsAny a = Fits a.bytes
 
 abbrev pub any_lent : AnyRef → AnyValue
 any_lent a = record { tag = a.tag; contents = a.bytes.now }

@@ -22,6 +22,7 @@ ghost use Rattle.der_core.specs.Orders.{octets_cmp};
 ghost use Rattle.der_types_any.specs.Contents.{content_as, content_by, written_as};
 
 use crate::any_ref::AnyRef;
+use crate::octets::Octets;
 use der_core::{
     Choice, Decode, DecodeValue, DerOrd, Encode, EncodeValue, EncodingRules, Error, ErrorKind,
     FirstTag, FixedTag, Header, Length, Reader, Shaped, SliceReader, Tag, Writer,
@@ -38,7 +39,7 @@ use std::marker::Model;
 #[derive(Debug, Drop)]
 pub struct Any {
     tag: Tag,
-    bytes: Vec<u8>,
+    bytes: Octets,
 }
 
 impl Model for Any {
@@ -78,6 +79,7 @@ impl Any {
         if bytes.len() > Length::MAX.value as usize {
             return Err(Error::from(ErrorKind::Overflow));
         }
+        let bytes = Octets::of(bytes);
         Ok(Any { tag, bytes })
     }
 
@@ -87,7 +89,7 @@ impl Any {
     {
         Any {
             tag: Tag::Null,
-            bytes: Vec::new(alloc),
+            bytes: Octets::of(Vec::new(alloc)),
         }
     }
 
@@ -109,7 +111,7 @@ impl Any {
     pub(crate) fn copy_of(alloc: Global, lent: &AnyRef<'_>) -> Result<Any, AllocError>
         ensures { IfOk result (λ a. a ≡ any_lent lent.now) }
     {
-        let bytes = lent.value().to_vec(alloc)?;
+        let bytes = Octets::copy_of(alloc, lent.value())?;
         Ok(Any {
             tag: lent.tag(),
             bytes,

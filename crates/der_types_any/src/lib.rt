@@ -9,6 +9,7 @@ mod elements;
 mod in_range;
 pub mod laws;
 mod numbers;
+mod octets;
 mod texts;
 mod values;
 

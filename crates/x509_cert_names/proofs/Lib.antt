@@ -10,6 +10,8 @@ mod KeyBounds
 mod TextBounds
 mod InTurn
 mod HeadersWritten
+mod AloneLaws
+mod PlainSpelled
 mod SameOctets
 pub mod ValueEquality
 pub use Rattle.der_types_any.proofs.TimeTypes

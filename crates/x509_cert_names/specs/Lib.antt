@@ -9,6 +9,9 @@ pub mod NameTexts
 pub mod PlainTexts
 pub mod Values
 pub mod Rows
+pub mod Stored
+pub mod Alone
+pub mod PlainParts
 pub use Rattle.der_types_any.specs.NumberTypes
 pub use Rattle.der_types_any.specs.ValueTypes
 pub use Rattle.der_types_any.specs.TimeTypes

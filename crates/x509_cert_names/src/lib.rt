@@ -3,6 +3,7 @@
 #![tactic(auto)]
 
 mod attribute;
+mod attribute_set;
 mod attribute_type_and_value;
 mod attribute_types;
 mod directory_string;
@@ -12,12 +13,14 @@ mod lent_values;
 mod members;
 mod name;
 mod name_iter;
+mod plain_attribute;
 mod rdn_sequence;
 mod relative_distinguished_name;
 mod same_octets;
 mod value_texts;
 
 pub use attribute::{Attribute, Attributes};
+pub use attribute_set::AttributeSet;
 pub use attribute_type_and_value::{AttributeType, AttributeTypeAndValue, AttributeValue};
 pub use der_types_any::text_types::Ia5String;
 pub use der_types_any::{Any, AnyRef, number_types, text_types, time_types, value_types};

@@ -1,7 +1,7 @@
 //! RelativeDistinguishedName.
 
 ghost use Rattle.std.specs.Prelude.{◌≡◌, ◌∷◌, ◌==◌, true, [], length, IfOk, IfErr, OnOk, OnErr};
-ghost use Rattle.std.specs.Prelude.{IsTrue, ◌↔◌, ◌⊎◌, ◌≢◌, refl};
+ghost use Rattle.std.specs.Prelude.{IfSome, IsTrue, ◌↔◌, ◌⊎◌, ◌≢◌, refl};
 ghost use Rattle.std.specs.Cmp.Lexicographic.{pointwise, lists_per, lists_equiv};
 ghost use Rattle.std.specs.Fmt.{WritesOnOk};
 ghost use Rattle.std.specs.Hash as fed;
@@ -20,12 +20,15 @@ ghost use Rattle.x509_cert_names.specs.Ordered.{DifferInTurn, IsOrdered};
 ghost use Rattle.x509_cert_names.specs.Pairs.{pair_plain, same_pair, same_pair_per};
 ghost use Rattle.x509_cert_names.specs.Pairs.{same_pair_equiv, pair_fed, pair_fed_alike};
 ghost use Rattle.x509_cert_names.specs.Pairs.{relative_plain};
+ghost use Rattle.x509_cert_names.specs.Alone.{StandsAlone};
 
+use crate::attribute_set::AttributeSet;
 use crate::attribute_type_and_value::AttributeTypeAndValue;
 use crate::members::{arrange, copy_of, decode_members};
+use crate::plain_attribute::plain_attribute;
 use der_core::{
     ApartValue, AsReadValue, DecodeValue, Encode, EncodeValue, Error, ErrorKind, FixedTag, Header,
-    InRange, InRangeValue, Length, Reader, ShapedValue, StrictSetOf, Tag, ValueOrd, Writer,
+    InRange, InRangeValue, Length, Reader, ShapedValue, Tag, ValueOrd, Writer, from_der,
 };
 use der_types_sets::SetOfIter;
 use der_types_sets::making::place_of;
@@ -47,7 +50,7 @@ use x509_cert_name_texts::{FromText, read_pieces};
 /// ```
 #[derive(Debug, Drop)]
 pub struct RelativeDistinguishedName {
-    attributes: StrictSetOf<AttributeTypeAndValue>,
+    attributes: AttributeSet,
 }
 
 impl Model for RelativeDistinguishedName {
@@ -61,10 +64,10 @@ impl Model for RelativeDistinguishedName {
 
     ghost Value = { List AttributeTypeAndValue };
 
-    ghost view = { λ r. r.attributes.values.items };
+    ghost view = { λ r. r.attributes };
 
-    ghost invariant = { λ r. IsDistinct same_pair r.attributes.values.items
-        × Ascends (type_and_value Bound) pair_plain r.attributes.values.items };
+    ghost invariant = { λ r. IsDistinct same_pair r.attributes
+        × Ascends (type_and_value Bound) pair_plain r.attributes };
 }
 
 /// Each attribute has an encoding.
@@ -119,7 +122,7 @@ impl RelativeDistinguishedName {
     {
         let values = copy_of(alloc, self.as_slice())?;
         Ok(RelativeDistinguishedName {
-            attributes: StrictSetOf { values },
+            attributes: AttributeSet::of(values),
         })
     }
 
@@ -128,9 +131,7 @@ impl RelativeDistinguishedName {
         ensures { result ≡ [] }
     {
         RelativeDistinguishedName {
-            attributes: StrictSetOf {
-                values: Vec::new(alloc),
-            },
+            attributes: AttributeSet::of(Vec::new(alloc)),
         }
     }
 
@@ -154,7 +155,7 @@ impl RelativeDistinguishedName {
             return Err(Error::from(ErrorKind::SetDuplicate));
         }
         Ok(RelativeDistinguishedName {
-            attributes: StrictSetOf { values },
+            attributes: AttributeSet::of(values),
         })
     }
 
@@ -174,7 +175,7 @@ impl RelativeDistinguishedName {
             return Err(Error::from(ErrorKind::SetDuplicate));
         }
         let place = place_of(self.as_slice(), &item)?;
-        self.attributes.values.insert(place, item)?;
+        self.attributes.insert(place, item)?;
         Ok(())
     }
 
@@ -182,14 +183,14 @@ impl RelativeDistinguishedName {
     pub fn is_empty(&self) -> bool
         ensures { result ≡ (length self.now == 0) }
     {
-        self.attributes.values.is_empty()
+        self.attributes.as_slice().is_empty()
     }
 
     /// The number of attributes.
     pub fn len(&self) -> usize
         ensures { result ≡ length self.now }
     {
-        self.attributes.values.len()
+        self.attributes.as_slice().len()
     }
 
     /// The attributes, in ascending order of their encodings.
@@ -205,7 +206,30 @@ impl RelativeDistinguishedName {
         ensures ascend { Ascends (type_and_value Bound) pair_plain result.now }
         ensures distinct { IsDistinct same_pair result.now }
     {
-        self.attributes.values.as_slice()
+        self.attributes.as_slice()
+    }
+}
+
+/// The attribute that the next `len` octets of a reader spell by themselves, where the reader may
+/// open the level of a set and that of an attribute in it. That none is answered says nothing of
+/// the octets.
+fn one_attribute<'a, R: Reader<'a>>(
+    alloc: Global,
+    reader: &R,
+    len: usize,
+) -> Option<AttributeTypeAndValue>
+    ensures { IfSome result (StandsAlone Bound (R.state reader.now) len) }
+{
+    let rest = reader.remaining();
+    if reader.is_failed() || reader.levels_left() < 2 || rest.len() < len {
+        return None;
+    }
+    if let Some(one) = plain_attribute(alloc, &rest[..len]) {
+        return Some(one);
+    }
+    match from_der::<AttributeTypeAndValue>(alloc, &rest[..len]) {
+        Ok(one) => Some(one),
+        Err(_) => None,
     }
 }
 
@@ -231,9 +255,16 @@ impl<'a, R: Reader<'a>> DecodeValue<'a, R> for RelativeDistinguishedName {
         reader: &mut R,
         header: Header,
     ) -> Result<RelativeDistinguishedName, Error> {
+        let len = header.length.value as usize;
+        if let Some(one) = one_attribute(alloc, reader, len) {
+            reader.skip(len);
+            return Ok(RelativeDistinguishedName {
+                attributes: AttributeSet::one(alloc, one),
+            });
+        }
         let values = decode_members(alloc, reader, header)?;
         Ok(RelativeDistinguishedName {
-            attributes: StrictSetOf { values },
+            attributes: AttributeSet::of(values),
         })
     }
 }
@@ -274,7 +305,7 @@ impl AsSlice<AttributeTypeAndValue> for RelativeDistinguishedName {
     ghost items = { λ r. r };
 
     fn as_slice(&self) -> &[AttributeTypeAndValue] {
-        self.attributes.values.as_slice()
+        self.attributes.as_slice()
     }
 }
 
@@ -354,9 +385,9 @@ impl Clone for RelativeDistinguishedName {
     ghost is_clone = { λ x y. y ≡ x };
 
     fn clone(&self) -> Result<RelativeDistinguishedName, AllocError> {
-        let values = copy_of(*self.attributes.values.allocator(), self.as_slice())?;
+        let values = copy_of(*self.attributes.allocator(), self.as_slice())?;
         Ok(RelativeDistinguishedName {
-            attributes: StrictSetOf { values },
+            attributes: AttributeSet::of(values),
         })
     }
 }
@@ -368,7 +399,7 @@ impl PartialEq for RelativeDistinguishedName {
     ghost laws = { lists_per same_pair_per };
 
     fn eq(&self, other: &Self) -> bool {
-        self.attributes.values == other.attributes.values
+        self.attributes.as_slice() == other.attributes.as_slice()
     }
 }
 
@@ -383,15 +414,24 @@ impl Hash for RelativeDistinguishedName {
     ghost respects_eq = { (items_Alike (record { fed = pair_fed_alike })).fed };
 
     fn hash<H: Hasher>(&self, state: &mut H) {
-        self.attributes.values.hash(state);
+        self.attributes.as_slice().hash(state);
     }
 }
 
 /// The attributes, in ascending order of their encodings.
-impl From<RelativeDistinguishedName> for Vec<AttributeTypeAndValue> {
-    ghost from_gives = { λ name attributes. attributes.items ≡ name };
+impl AsRef<AttributeSet> for RelativeDistinguishedName {
+    fn as_ref(&self) -> &AttributeSet
+        ensures { result.now ≡ self.now }
+    {
+        &self.attributes
+    }
+}
 
-    fn from(name: RelativeDistinguishedName) -> Vec<AttributeTypeAndValue> {
-        name.attributes.values
+/// The attributes, in ascending order of their encodings.
+impl From<RelativeDistinguishedName> for AttributeSet {
+    ghost from_gives = { λ name attributes. attributes ≡ name };
+
+    fn from(name: RelativeDistinguishedName) -> AttributeSet {
+        name.attributes
     }
 }

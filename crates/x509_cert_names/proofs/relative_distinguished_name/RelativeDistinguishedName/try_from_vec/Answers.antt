@@ -28,10 +28,12 @@ returns-then-not-are_apart-clause-refused c =
 
 pub invariant_of-result : goal.invariant_of-result
 invariant_of-result c =
-    ordered c.in_ok-values.values.items c.as_slice.result.now c.as_slice-2.result.now c.as_slice.ensures.value c.as_slice-2.ensures.value c.in_ok-have_encodings.ensures.ok
-    c.in_ok-values.ensures.ascend (c.are_apart.ensures.0 c.if-not-are_apart.false)
+    rw c.of.ensures
+    (ordered c.in_ok-values.values.items c.as_slice.result.now c.as_slice-2.result.now c.as_slice.ensures.value c.as_slice-2.ensures.value c.in_ok-have_encodings.ensures.ok
+    c.in_ok-values.ensures.ascend (c.are_apart.ensures.0 c.if-not-are_apart.false))
 
 pub returns-clause-ordered : goal.returns-clause-ordered
 returns-clause-ordered c =
-    ordered c.in_ok-values.values.items c.as_slice.result.now c.as_slice-2.result.now c.as_slice.ensures.value c.as_slice-2.ensures.value c.in_ok-have_encodings.ensures.ok
-    c.in_ok-values.ensures.ascend (c.are_apart.ensures.0 c.if-not-are_apart.false)
+    rw c.of.ensures
+    (ordered c.in_ok-values.values.items c.as_slice.result.now c.as_slice-2.result.now c.as_slice.ensures.value c.as_slice-2.ensures.value c.in_ok-have_encodings.ensures.ok
+    c.in_ok-values.ensures.ascend (c.are_apart.ensures.0 c.if-not-are_apart.false))

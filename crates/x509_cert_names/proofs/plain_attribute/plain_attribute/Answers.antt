@@ -1,0 +1,14 @@
+use Rattle.std.proofs.Common.{sym, subst, ◌∙◌}
+use Rattle.const_oid.specs.Bound.{Bound}
+use Rattle.der_core_head.specs.Shapes.{AnyValue, Spells}
+use Rattle.x509_cert_names.specs.Names.{type_and_value}
+use Rattle.x509_cert_names.specs.Pairs.{pair}
+use Rattle.x509_cert_names.proofs.PlainSpelled.{plain_spells}
+use Rattle.x509_cert_names.proofs.plain_attribute.plain_attribute.Goals as goal
+
+pub returns-in-Ok-ref_to_owned : goal.returns-in-Ok-ref_to_owned
+returns-in-Ok-ref_to_owned c =
+    let parts = c.in_ok-parts.parts in
+    let oid = c.in-Ok.ensures.ok in
+    let P : AnyValue → Type 0 = λ v. Spells (type_and_value Bound) (pair c.in-Ok.oid v) c.args.octets.now in
+    subst P (sym (c.in-Ok-ref_to_owned.ensures ∙ c.in-Ok-new.ensures.ok.1)) (plain_spells c.in-Ok.oid parts.tag parts.identifier.now parts.value.now c.args.octets.now c.in_ok-parts.ensures oid.0 oid.1 oid.2)

@@ -1,0 +1,14 @@
+-- An attribute that stands alone at a reader.
+use Rattle.std.specs.Prelude.{◌≡◌, ◌<◌, ◌≤◌, ℕ, length, take, false}
+use Rattle.der_core_head.specs.Reading.{State}
+use Rattle.der_core_head.specs.Shapes.{Spells}
+use Rattle.x509_cert_names.specs.Names.{type_and_value}
+use Rattle.x509_cert_names.specs.Pairs.{pair_plain}
+use Rattle.x509_cert_names.specs.declared.attribute_type_and_value.AttributeTypeAndValue.{AttributeTypeAndValue}
+
+-- the next `len` octets spell it, at a reader that hasn't failed and may open two levels
+pub record StandsAlone (bound : ℕ) (s : State) (len : ℕ) (a : AttributeTypeAndValue) : Type 0 where
+  pub ready : s.failed ≡ false
+  pub levels : 1 < s.room
+  pub within : len ≤ length s.rest
+  pub spelled : Spells (type_and_value bound) (pair_plain a) (take len s.rest)

@@ -1,0 +1,16 @@
+-- An attribute whose headers have two octets each.
+use Rattle.std.specs.Prelude.{◌≡◌, ℕ, ◌+◌, ◌<◌, List, [], ◌∷◌, ◌++◌, length}
+use Rattle.der_core_head.specs.Octets.{IsOctets}
+use Rattle.der_core_head.specs.Tags.{IsTag, tag_octets}
+use Rattle.der_core_head.specs.declared.tag.Tag.{Tag}
+
+-- `octets` are a SEQUENCE (0x30) of an OBJECT IDENTIFIER (0x06), of which these are the octets,
+-- and of a value with this tag and this content, and each length takes one octet
+pub record IsPlain (identifier : List ℕ) (tag : Tag) (value octets : List ℕ) : Type 0 where
+  pub leading : ℕ
+  pub whole : octets ≡ 0x30 ∷ (length identifier + length value + 4) ∷ 0x06 ∷ length identifier
+      ∷ (identifier ++ (leading ∷ length value ∷ value))
+  pub short : length identifier + length value + 4 < 128
+  pub tagged : tag_octets tag ≡ leading ∷ []
+  pub known : IsTag tag
+  pub are : IsOctets value

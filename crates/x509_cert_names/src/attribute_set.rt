@@ -1,0 +1,174 @@
+//! The attributes of a relative name, a single one in place.
+
+ghost use Rattle.std.specs.Prelude.{◌≡◌, ◌≤◌, [], ◌∷◌, length, IfOk, OnOk, OnErr};
+ghost use Rattle.std.specs.List.{insert};
+ghost use Rattle.const_oid.specs.Bound.{Bound};
+ghost use Rattle.der_core_head.specs.Shapes.{nested, rising};
+ghost use Rattle.x509_cert_names.specs.Names.{type_and_value};
+ghost use Rattle.x509_cert_names.specs.Pairs.{relative_plain};
+
+use crate::attribute_type_and_value::AttributeTypeAndValue;
+use crate::members::copy_of;
+use der_core::making::elements_cmp;
+use der_core::{
+    Encode, EncodeValue, Error, InRange, InRangeValue, Length, ShapedValue, StrictSetOf, ValueOrd,
+    Writer,
+};
+use std::alloc::{AllocError, Global};
+use std::cmp::Ordering;
+use std::fmt;
+use std::marker::Model;
+
+/// The attributes of a relative name (RFC 5280 4.1.2.4), of which a single one needs no list. They
+/// are written only where their encodings rise (X.690 11.6).
+///
+/// Contracts see the list of the attributes.
+#[derive(Drop)]
+pub struct AttributeSet {
+    store: Store,
+    alloc: Global,
+}
+
+/// Where the attributes are kept: a single one in place, or any number in a list.
+#[derive(Drop)]
+enum Store {
+    One(AttributeTypeAndValue),
+    Many(StrictSetOf<AttributeTypeAndValue>),
+}
+
+impl Model for AttributeSet {
+    ghost use Rattle.std.specs.Prelude.{List};
+    ghost use Rattle.x509_cert_names.specs.declared.attribute_type_and_value.AttributeTypeAndValue.{AttributeTypeAndValue};
+    ghost use Rattle.x509_cert_names.specs.Stored.{stored};
+
+    ghost Value = { List AttributeTypeAndValue };
+
+    ghost view = { λ s. stored s.store };
+}
+
+impl AttributeSet {
+    /// The attributes of a list, in its memory.
+    pub(crate) fn of(values: Vec<AttributeTypeAndValue>) -> AttributeSet
+        ensures { result ≡ values.items }
+    {
+        AttributeSet {
+            alloc: *values.allocator(),
+            store: Store::Many(StrictSetOf { values }),
+        }
+    }
+
+    /// A single attribute.
+    pub(crate) fn one(alloc: Global, attribute: AttributeTypeAndValue) -> AttributeSet
+        ensures { result ≡ attribute ∷ [] }
+    {
+        AttributeSet {
+            store: Store::One(attribute),
+            alloc,
+        }
+    }
+
+    /// The attributes.
+    #[inline]
+    pub fn as_slice(&self) -> &[AttributeTypeAndValue]
+        ensures { result.now ≡ self.now }
+    {
+        match &self.store {
+            Store::One(one) => std::slice::from_ref(one),
+            Store::Many(many) => many.values.as_slice(),
+        }
+    }
+
+    /// The allocator of the memory that copies need.
+    pub(crate) fn allocator(&self) -> &Global {
+        &self.alloc
+    }
+
+    /// Places an attribute.
+    ///
+    /// # Errors
+    /// Want of memory. The attributes stay then.
+    pub(crate) fn insert(
+        &mut self,
+        place: usize,
+        item: AttributeTypeAndValue,
+    ) -> Result<(), AllocError>
+        requires { place ≤ length self.old }
+        ensures ok { OnOk result (self.new ≡ insert self.old place item) }
+        ensures err { OnErr result (self.new ≡ self.old) }
+    {
+        if let Store::Many(many) = &mut self.store {
+            many.values.insert(place, item)?;
+            return Ok(());
+        }
+        let mut values = copy_of(self.alloc, self.as_slice())?;
+        values.insert(place, item)?;
+        self.store = Store::Many(StrictSetOf { values });
+        Ok(())
+    }
+
+    /// The list of the attributes.
+    ///
+    /// # Errors
+    /// Want of memory, for a single attribute that was kept in place.
+    pub fn into_vec(self) -> Result<Vec<AttributeTypeAndValue>, AllocError>
+        ensures { IfOk result (λ v. v.items ≡ self) }
+    {
+        let AttributeSet { store, alloc } = self;
+        match store {
+            Store::One(one) => {
+                let mut values = Vec::with_capacity(alloc, 1)?;
+                values.push(one)?;
+                Ok(values)
+            }
+            Store::Many(many) => Ok(many.values),
+        }
+    }
+}
+
+impl ShapedValue for AttributeSet {
+    ghost content = { nested (rising (type_and_value Bound)) };
+
+    ghost value_plain = { relative_plain };
+
+    ghost value_written = { relative_plain };
+}
+
+impl EncodeValue for AttributeSet {
+    fn value_len(&self) -> Result<Length, Error> {
+        match &self.store {
+            Store::One(one) => one.encoded_len(),
+            Store::Many(many) => many.value_len(),
+        }
+    }
+
+    fn encode_value<W: Writer>(&self, writer: &mut W) -> Result<(), Error> {
+        match &self.store {
+            Store::One(one) => one.encode(writer),
+            Store::Many(many) => many.encode_value(writer),
+        }
+    }
+}
+
+impl InRangeValue for AttributeSet {
+    fn value_in_range(&self) {
+        match &self.store {
+            Store::One(one) => one.in_range(),
+            Store::Many(many) => many.value_in_range(),
+        }
+    }
+}
+
+/// The encodings of the attributes, one after the other.
+impl ValueOrd for AttributeSet {
+    #[tactic(auto, unfolding(der_core_head::specs::Shapes::contents, der_core_head::specs::Shapes::IsContent, der_core_head::specs::Shapes::body_octets, der_core_head::specs::Shapes::IsBody))]
+    fn value_cmp(&self, other: &Self) -> Result<Ordering, Error> {
+        elements_cmp(self.as_slice(), other.as_slice())
+    }
+}
+
+/// The attributes, as a slice of them is shown.
+impl fmt::Debug for AttributeSet {
+    fn fmt<W: fmt::Write>(&self, f: &mut fmt::Formatter<W>) -> fmt::Result {
+        fmt::Debug::fmt(self.as_slice(), f)
+    }
+}
