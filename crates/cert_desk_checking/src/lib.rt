@@ -67,7 +67,7 @@ pub use question_lines::chain_lines;
 pub use reason::Reason;
 pub use reasons::reason_of;
 pub use rule::Rule;
-pub use running::{find_outcome, read_anchors, read_stream, run_check, status_of};
+pub use running::{read_anchors, read_stream, run_check, status_of};
 pub use sha256_digest::Sha256Digest;
 pub use signature_judge::SignatureJudge;
 pub use standing::Standing;

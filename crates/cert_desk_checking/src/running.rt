@@ -66,9 +66,8 @@ pub fn read_anchors<A: Input>(alloc: Global, input: &mut A) -> Result<Vec<Anchor
     }
 }
 
-/// What is found in the inputs of anchors and of a stream, as `run_check` tells it. The stream isn't
-/// read where the anchors are faulty.
-pub fn find_outcome<A: Input, S: Input, J: SignatureJudge>(
+// What is found in the inputs. The stream isn't read where the anchors are faulty.
+fn find_outcome<A: Input, S: Input, J: SignatureJudge>(
     alloc: Global,
     anchors: &mut A,
     stream: &mut S,

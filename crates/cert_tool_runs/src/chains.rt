@@ -191,6 +191,7 @@ pub(crate) fn explain<C: Clock, I: Input + Drop, F: NamedInputs<I>, O: Output, E
         moment,
         purpose: task.purpose,
         limit: task.limit,
+        is_json: task.json,
     };
     let status = explain_chain(
         alloc,

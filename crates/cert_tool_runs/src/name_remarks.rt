@@ -2,6 +2,7 @@
 
 use crate::general_names::add_general_name;
 use crate::lines::Lines;
+use crate::remark_lines::{begin_remark, end_text};
 use cert_desk_checking::types::general_names::GeneralName;
 
 // Whether octets are a label of a host's name (RFC 1034 3.5, RFC 1123 2.1).
@@ -82,26 +83,27 @@ fn is_well_formed(name: &GeneralName) -> bool {
 }
 
 // Adds that a name isn't well formed.
-fn add_name_remark(lines: &mut Lines<'_>, name: &GeneralName) {
-    let before = "remark: this name isn't well formed (RFC 5280 4.2.1.6): ";
+fn add_name_remark(lines: &mut Lines, name: &GeneralName) {
+    begin_remark(lines);
+    lines.push("this name isn't well formed");
+    end_text(lines, "RFC 5280 4.2.1.6");
+    lines.tail(": ");
     match name {
         GeneralName::IpAddress(octets) => {
-            lines.push(before);
-            lines.count(
-                "IP address of ",
-                octets.as_bytes().len() as u64,
-                " octets\n",
-            );
+            lines.word("IP address of");
+            lines.key("len");
+            lines.count(octets.as_bytes().len() as u64);
+            lines.word("octets");
         }
-        _ => add_general_name(lines, before, name),
+        _ => add_general_name(lines, name),
     }
+    lines.close();
 }
 
-// Adds which of these names aren't well formed, behind blanks.
-pub(crate) fn add_name_remarks(lines: &mut Lines<'_>, blanks: &str, listed: &[GeneralName]) {
+// Adds which of these names aren't well formed.
+pub(crate) fn add_name_remarks(lines: &mut Lines, listed: &[GeneralName]) {
     for name in listed {
         if !is_well_formed(name) {
-            lines.push(blanks);
             add_name_remark(lines, name);
         }
     }

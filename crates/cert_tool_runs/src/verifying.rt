@@ -14,10 +14,11 @@ ghost use Rattle.cert_tool_runs.specs.Verifying.{AreAnswers, IsNoneTold, IsToldA
 ghost use Rattle.cert_tool_runs.specs.Verifying.{verdict_json, verdict_text};
 
 use crate::answer_lines::answers_in;
+use crate::finding::find_outcome;
 use crate::no_answers::NoAnswers;
 use crate::stopping::tell_stop;
 use cert_desk_checking::{
-    Answer, AnswersJudge, Checked, Outcome, Verdict, find_outcome, status_of, verdict_line,
+    Answer, AnswersJudge, Checked, Outcome, Verdict, status_of, verdict_line,
 };
 use cert_desk_io::{
     ExitStatus, Input, Output, ReadAllError, answer, complain, read_all, tell_device, tell_memory,
