@@ -88,7 +88,11 @@ fn add_number(lines: &mut Lines, word: &str, key: &str, octets: Option<&[u8]>, d
 
 // Adds the lines of the parameters, of which each has a default.
 fn add_fields(lines: &mut Lines, fields: &[Any]) {
-    add_choice(lines, ["digest", "hashAlgorithm", "SHA-1"], field(fields, 0));
+    add_choice(
+        lines,
+        ["digest", "hashAlgorithm", "SHA-1"],
+        field(fields, 0),
+    );
     let mask = ["mask", "maskGenAlgorithm", "MGF1 with SHA-1"];
     add_choice(lines, mask, field(fields, 1));
     add_number(lines, "salt", "saltLength", field(fields, 2), 20);

@@ -124,26 +124,31 @@ fn add_field_remarks(lines: &mut Lines, signed: &TbsCertificateInner<Raw>) {
     let has_ids = signed.issuer_unique_id().is_some() || signed.subject_unique_id().is_some();
     add_each(
         lines,
-                &[
+        &[
             (
                 extensions.is_some() && !is_third,
-                "extensions stand in a certificate that isn't of version 3", "RFC 5280 4.1.2.1",
+                "extensions stand in a certificate that isn't of version 3",
+                "RFC 5280 4.1.2.1",
             ),
             (
                 extensions.is_some() && extensions_of(signed).is_empty(),
-                "the list of extensions is empty", "RFC 5280 4.1.2.9",
+                "the list of extensions is empty",
+                "RFC 5280 4.1.2.9",
             ),
             (
                 has_ids && is_first,
-                "unique identifiers stand in a certificate of version 1", "RFC 5280 4.1.2.8",
+                "unique identifiers stand in a certificate of version 1",
+                "RFC 5280 4.1.2.8",
             ),
             (
                 has_ids,
-                "unique identifiers are not to be made", "RFC 5280 4.1.2.8",
+                "unique identifiers are not to be made",
+                "RFC 5280 4.1.2.8",
             ),
             (
                 signed.issuer().is_empty(),
-                "the issuer is an empty name", "RFC 5280 4.1.2.4",
+                "the issuer is an empty name",
+                "RFC 5280 4.1.2.4",
             ),
         ],
     );
@@ -156,45 +161,47 @@ fn add_date_remarks(lines: &mut Lines, signed: &TbsCertificateInner<Raw>) {
     let last = &signed.validity().not_after;
     add_each(
         lines,
-                &[
+        &[
             (
                 is_long_for_its_year(first),
-                "notBefore is a GeneralizedTime before 2050", "RFC 5280 4.1.2.5",
+                "notBefore is a GeneralizedTime before 2050",
+                "RFC 5280 4.1.2.5",
             ),
             (
                 is_long_for_its_year(last),
-                "notAfter is a GeneralizedTime before 2050", "RFC 5280 4.1.2.5",
+                "notAfter is a GeneralizedTime before 2050",
+                "RFC 5280 4.1.2.5",
             ),
             (
                 last.to_date_time().unix_seconds() < first.to_date_time().unix_seconds(),
-                "notAfter is before notBefore", "RFC 5280 4.1.2.5",
+                "notAfter is before notBefore",
+                "RFC 5280 4.1.2.5",
             ),
         ],
     );
 }
 
 // Of who is certified, and by whom.
-fn add_party_remarks(
-    lines: &mut Lines,
-        signed: &TbsCertificateInner<Raw>,
-    facts: &Facts,
-) {
+fn add_party_remarks(lines: &mut Lines, signed: &TbsCertificateInner<Raw>, facts: &Facts) {
     let is_nameless = signed.subject().is_empty();
     let is_self_issued = signed.issuer().has_octets_of(signed.subject());
     add_each(
         lines,
-                &[
+        &[
             (
                 is_nameless && facts.is_authority(),
-                "the subject of an authority is an empty name", "RFC 5280 4.1.2.6",
+                "the subject of an authority is an empty name",
+                "RFC 5280 4.1.2.6",
             ),
             (
                 is_nameless && !facts.has_critical_names,
-                "the subject is empty, and no critical subjectAltName names it", "RFC 5280 4.1.2.6",
+                "the subject is empty, and no critical subjectAltName names it",
+                "RFC 5280 4.1.2.6",
             ),
             (
                 !is_self_issued && !facts.has_issuer_key,
-                "no authorityKeyIdentifier has a key's identifier", "RFC 5280 4.2.1.1",
+                "no authorityKeyIdentifier has a key's identifier",
+                "RFC 5280 4.2.1.1",
             ),
         ],
     );
@@ -207,44 +214,48 @@ fn add_key_remarks(lines: &mut Lines, facts: &Facts) {
     let has_length = facts.has_path_length();
     add_each(
         lines,
-                &[
+        &[
             (
                 is_authority && !facts.has_key_identifier,
-                "an authority has no subjectKeyIdentifier", "RFC 5280 4.2.1.2",
+                "an authority has no subjectKeyIdentifier",
+                "RFC 5280 4.2.1.2",
             ),
             (
                 is_authority && !facts.has_key_usage,
-                "an authority has no keyUsage", "RFC 5280 4.2.1.3",
+                "an authority has no keyUsage",
+                "RFC 5280 4.2.1.3",
             ),
             (
                 facts.signs() && is_none,
-                "keyCertSign stands without cA", "RFC 5280 4.2.1.3",
+                "keyCertSign stands without cA",
+                "RFC 5280 4.2.1.3",
             ),
             (
                 is_authority && !facts.are_constraints_critical,
-                "basicConstraints of an authority aren't critical", "RFC 5280 4.2.1.9",
+                "basicConstraints of an authority aren't critical",
+                "RFC 5280 4.2.1.9",
             ),
             (
                 has_length && is_none,
-                "a path length stands without cA", "RFC 5280 4.2.1.9",
+                "a path length stands without cA",
+                "RFC 5280 4.2.1.9",
             ),
             (
                 has_length && facts.uses.is_some() && !facts.signs(),
-                "a path length stands without keyCertSign", "RFC 5280 4.2.1.9",
+                "a path length stands without keyCertSign",
+                "RFC 5280 4.2.1.9",
             ),
             (
                 facts.constrains_names && is_none,
-                "nameConstraints stand without cA", "RFC 5280 4.2.1.10",
+                "nameConstraints stand without cA",
+                "RFC 5280 4.2.1.10",
             ),
         ],
     );
 }
 
 // Adds what a certificate must not be, though it is read and no rule of a chain forbids it.
-pub(crate) fn add_certificate_remarks(
-    lines: &mut Lines,
-        signed: &TbsCertificateInner<Raw>,
-) {
+pub(crate) fn add_certificate_remarks(lines: &mut Lines, signed: &TbsCertificateInner<Raw>) {
     let mut facts = Facts::new();
     for extension in extensions_of(signed) {
         facts.take(lines, extension);
@@ -257,10 +268,7 @@ pub(crate) fn add_certificate_remarks(
         add_mark_remarks(lines, extension, &OF_CERTIFICATES);
         add_content_remarks(lines, extension);
         if let (15, [3, 1, 0]) = (number_of(extension), extension.extn_value.as_bytes()) {
-            add_each(
-                lines,
-                                &[(true, "keyUsage has no use", "RFC 5280 4.2.1.3")],
-            );
+            add_each(lines, &[(true, "keyUsage has no use", "RFC 5280 4.2.1.3")]);
         }
     }
 }
@@ -289,7 +297,8 @@ pub(crate) fn add_lone_remarks(lines: &mut Lines, certificate: &CertificateInner
         &[
             (
                 differ,
-                "another algorithm is signed than stands outside", "RFC 5280 4.1.1.2",
+                "another algorithm is signed than stands outside",
+                "RFC 5280 4.1.1.2",
             ),
             (is_twice, "an extension stands twice", "RFC 5280 4.2"),
         ],

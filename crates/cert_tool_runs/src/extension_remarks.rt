@@ -87,11 +87,7 @@ fn add_empty_remark(lines: &mut Lines, extension: &Extension) {
 }
 
 // Adds whether extensions are critical that must not be, or the other way round.
-pub(crate) fn add_mark_remarks(
-    lines: &mut Lines,
-        extension: &Extension,
-    marks: &[Mark],
-) {
+pub(crate) fn add_mark_remarks(lines: &mut Lines, extension: &Extension, marks: &[Mark]) {
     let kind = number_of(extension);
     for row in marks {
         let (number, is_critical, name, section) = *row;
@@ -148,14 +144,16 @@ fn add_subtree_remarks(lines: &mut Lines, subtrees: &[GeneralSubtree]) {
     }
     add_each(
         lines,
-                &[
+        &[
             (
                 has_distance,
-                "nameConstraints have a minimum or a maximum", "RFC 5280 4.2.1.10",
+                "nameConstraints have a minimum or a maximum",
+                "RFC 5280 4.2.1.10",
             ),
             (
                 has_no_range,
-                "nameConstraints have an address without a mask of its size", "RFC 5280 4.2.1.10",
+                "nameConstraints have an address without a mask of its size",
+                "RFC 5280 4.2.1.10",
             ),
         ],
     );
@@ -199,7 +197,10 @@ fn add_policy_remarks(lines: &mut Lines, octets: &[u8]) {
     for policy in &policies {
         has_twins = seen.take(lines, policy.policy_identifier.as_bytes()) || has_twins;
     }
-    add_each(lines, &[(has_twins, "a policy stands twice", "RFC 5280 4.2.1.4")]);
+    add_each(
+        lines,
+        &[(has_twins, "a policy stands twice", "RFC 5280 4.2.1.4")],
+    );
 }
 
 // Whether an identifier is anyPolicy, 2.5.29.32.0.
@@ -218,7 +219,10 @@ fn add_mapping_remarks(lines: &mut Lines, octets: &[u8]) {
             || is_any_policy(&mapping.issuer_domain_policy)
             || is_any_policy(&mapping.subject_domain_policy);
     }
-    add_each(lines, &[(has_any, "anyPolicy is mapped", "RFC 5280 4.2.1.5")]);
+    add_each(
+        lines,
+        &[(has_any, "anyPolicy is mapped", "RFC 5280 4.2.1.5")],
+    );
 }
 
 // Of the key of the issuer.

@@ -50,7 +50,10 @@ fn utc_words(content: &[u8]) -> Words {
     match content {
         [_, _, rest @ ..] if rest.len() == 11 => {
             if spells(content, 0, 50, 69) {
-                return (": its year is one from 1950 to 1969, and dates are read from 1970 on", "");
+                return (
+                    ": its year is one from 1950 to 1969, and dates are read from 1970 on",
+                    "",
+                );
             }
             if two(content, 0).is_none() {
                 return (": its year isn't two digits", "");
@@ -76,7 +79,10 @@ fn generalized_words(content: &[u8]) -> Words {
     match content {
         [_, _, _, _, rest @ ..] if rest.len() == 11 => {
             if is_early(content) {
-                return (": its year is one before 1970, and dates are read from 1970 on", "");
+                return (
+                    ": its year is one before 1970, and dates are read from 1970 on",
+                    "",
+                );
             }
             if two(content, 0).is_none() || two(content, 2).is_none() {
                 return (": its year isn't four digits", "");
@@ -116,7 +122,10 @@ fn bits_words(content: &[u8]) -> Words {
         [unused, .., last] if last & !(0xffu8 << (*unused & 7)) != 0 => {
             (": its unused bits aren't zero", "X.690 11.2.1")
         }
-        _ => (": it ends with a zero bit, or has a bit without a name", "X.690 11.2.2"),
+        _ => (
+            ": it ends with a zero bit, or has a bit without a name",
+            "X.690 11.2.2",
+        ),
     }
 }
 
@@ -126,7 +135,10 @@ fn value_words(tag: Tag, content: &[u8]) -> Words {
         Tag::UtcTime => utc_words(content),
         Tag::GeneralizedTime => generalized_words(content),
         Tag::BitString => bits_words(content),
-        Tag::PrintableString => (": it has a character that isn't one of its own", "X.680 41.4"),
+        Tag::PrintableString => (
+            ": it has a character that isn't one of its own",
+            "X.680 41.4",
+        ),
         Tag::Ia5String => (": it has an octet above 7F", ""),
         _ => ("", ""),
     }

@@ -118,23 +118,28 @@ fn add_entry_remarks(lines: &mut Lines, facts: &EntryFacts) {
         &[
             (
                 facts.has_long_date,
-                "the date of an entry is a GeneralizedTime before 2050", "RFC 5280 5.1.2.6",
+                "the date of an entry is a GeneralizedTime before 2050",
+                "RFC 5280 5.1.2.6",
             ),
             (
                 facts.has_empty_extensions,
-                "the list of an entry's extensions is empty", "RFC 5280 5.1",
+                "the list of an entry's extensions is empty",
+                "RFC 5280 5.1",
             ),
             (
                 facts.has_critical_reason,
-                "reasonCode of an entry is critical", "RFC 5280 5.3.1",
+                "reasonCode of an entry is critical",
+                "RFC 5280 5.3.1",
             ),
             (
                 facts.has_critical_date,
-                "invalidityDate of an entry is critical", "RFC 5280 5.3.2",
+                "invalidityDate of an entry is critical",
+                "RFC 5280 5.3.2",
             ),
             (
                 facts.has_issuer_at_will,
-                "certificateIssuer of an entry isn't critical", "RFC 5280 5.3.3",
+                "certificateIssuer of an entry isn't critical",
+                "RFC 5280 5.3.3",
             ),
         ],
     );
@@ -151,15 +156,18 @@ fn add_date_remarks(lines: &mut Lines, signed: &TbsCertList<Raw>) {
         &[
             (
                 is_long_for_its_year(&signed.this_update),
-                "thisUpdate is a GeneralizedTime before 2050", "RFC 5280 5.1.2.4",
+                "thisUpdate is a GeneralizedTime before 2050",
+                "RFC 5280 5.1.2.4",
             ),
             (
                 is_next_long,
-                "nextUpdate is a GeneralizedTime before 2050", "RFC 5280 5.1.2.5",
+                "nextUpdate is a GeneralizedTime before 2050",
+                "RFC 5280 5.1.2.5",
             ),
             (
                 signed.next_update.is_none(),
-                "there is no nextUpdate", "RFC 5280 5.1.2.5",
+                "there is no nextUpdate",
+                "RFC 5280 5.1.2.5",
             ),
         ],
     );
@@ -178,19 +186,23 @@ fn add_field_remarks(lines: &mut Lines, signed: &TbsCertList<Raw>, facts: &Entry
         &[
             (
                 (has_extensions || facts.has_extensions) && !is_second,
-                "extensions stand in a list that isn't of version 2", "RFC 5280 5.1.2.1",
+                "extensions stand in a list that isn't of version 2",
+                "RFC 5280 5.1.2.1",
             ),
             (
                 signed.issuer.is_empty(),
-                "the issuer is an empty name", "RFC 5280 5.1.2.3",
+                "the issuer is an empty name",
+                "RFC 5280 5.1.2.3",
             ),
             (
                 has_no_entry,
-                "the list of entries is empty", "RFC 5280 5.1.2.6",
+                "the list of entries is empty",
+                "RFC 5280 5.1.2.6",
             ),
             (
                 has_extensions && listed(&signed.crl_extensions).is_empty(),
-                "the list of extensions is empty", "RFC 5280 5.1.2.7",
+                "the list of extensions is empty",
+                "RFC 5280 5.1.2.7",
             ),
         ],
     );
@@ -209,16 +221,19 @@ fn add_extension_remarks(lines: &mut Lines, extensions: &[Extension]) {
             (is_twice, "an extension stands twice", "RFC 5280 4.2"),
             (
                 !facts.has_issuer_key,
-                "no authorityKeyIdentifier has a key's identifier", "RFC 5280 5.2.1",
+                "no authorityKeyIdentifier has a key's identifier",
+                "RFC 5280 5.2.1",
             ),
             (!facts.has_number, "there is no cRLNumber", "RFC 5280 5.2.3"),
             (
                 facts.has_long_number,
-                "the cRLNumber has more than 20 octets", "RFC 5280 5.2.3",
+                "the cRLNumber has more than 20 octets",
+                "RFC 5280 5.2.3",
             ),
             (
                 facts.is_delta && facts.has_freshest,
-                "freshestCRL stands in a list that adds to another", "RFC 5280 5.2.6",
+                "freshestCRL stands in a list that adds to another",
+                "RFC 5280 5.2.6",
             ),
         ],
     );

@@ -31,10 +31,7 @@ fn add_reasons(lines: &mut Lines, key: &str, reasons: &ReasonFlags) {
         key,
         &[
             (reasons.contains(Reasons::Unused), "unused"),
-            (
-                reasons.contains(Reasons::KeyCompromise),
-                "keyCompromise",
-            ),
+            (reasons.contains(Reasons::KeyCompromise), "keyCompromise"),
             (reasons.contains(Reasons::CaCompromise), "cACompromise"),
             (
                 reasons.contains(Reasons::AffiliationChanged),

@@ -145,16 +145,31 @@ impl Describe for PolicyConstraints {
     fn describe(&self, lines: &mut Lines) {
         if let Some(skipped) = self.require_explicit_policy {
             let skipped = u64::from(skipped);
-            add_count(lines, "explicit policy behind", "requireExplicitPolicy", skipped);
+            add_count(
+                lines,
+                "explicit policy behind",
+                "requireExplicitPolicy",
+                skipped,
+            );
         }
         if let Some(skipped) = self.inhibit_policy_mapping {
-            add_count(lines, "no mapping behind", "inhibitPolicyMapping", u64::from(skipped));
+            add_count(
+                lines,
+                "no mapping behind",
+                "inhibitPolicyMapping",
+                u64::from(skipped),
+            );
         }
     }
 }
 
 impl Describe for InhibitAnyPolicy {
     fn describe(&self, lines: &mut Lines) {
-        add_count(lines, "not any policy behind", "skipCerts", u64::from(self.0));
+        add_count(
+            lines,
+            "not any policy behind",
+            "skipCerts",
+            u64::from(self.0),
+        );
     }
 }

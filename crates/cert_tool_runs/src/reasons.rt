@@ -91,7 +91,11 @@ fn add_reason(
         }
         Reason::PathLength { place } => {
             let number = place as u64;
-            lines.show("more authorities follow than certificate ", number, " allows");
+            lines.show(
+                "more authorities follow than certificate ",
+                number,
+                " allows",
+            );
             "RFC 5280 4.2.1.9"
         }
     }

@@ -56,18 +56,21 @@ pub(crate) fn add_serial_remarks(lines: &mut Lines, serial: &[u8]) {
     };
     add_each(
         lines,
-                &[
+        &[
             (
                 amount.is_empty(),
-                "the serial number is zero", "RFC 5280 4.1.2.2",
+                "the serial number is zero",
+                "RFC 5280 4.1.2.2",
             ),
             (
                 is_below_zero,
-                "the serial number is below zero", "RFC 5280 4.1.2.2",
+                "the serial number is below zero",
+                "RFC 5280 4.1.2.2",
             ),
             (
                 amount.len() > 20,
-                "the serial number has more than 20 octets", "RFC 5280 4.1.2.2",
+                "the serial number has more than 20 octets",
+                "RFC 5280 4.1.2.2",
             ),
         ],
     );

@@ -24,7 +24,11 @@ fn add_date_remark(lines: &mut Lines, place: &ChainPlace<'_>) {
 fn add_twin_remark(lines: &mut Lines, twin: Option<usize>) {
     if let Some(number) = twin {
         begin_remark(lines);
-        lines.show("certificate ", number as u64, " of the same issuer has its serial number");
+        lines.show(
+            "certificate ",
+            number as u64,
+            " of the same issuer has its serial number",
+        );
         end_remark(lines, "");
     }
 }

@@ -43,7 +43,10 @@ fn json_of(alloc: Global, bundle: &Bundle) -> Result<String, AllocError>
         let entry = bundle.get(place).unwrap();
         let (offset, len) = (entry.offset, entry.octets.len());
         let comma = comma_before(place);
-        write!(text, "{comma}{{\"place\":{place},\"offset\":{offset},\"length\":{len}}}")?;
+        write!(
+            text,
+            "{comma}{{\"place\":{place},\"offset\":{offset},\"length\":{len}}}"
+        )?;
     }
     text.push_str("]\n")?;
     Ok(text)

@@ -78,19 +78,15 @@ fn verdict_json(alloc: Global, checked: Checked) -> Result<String, AllocError>
 {
     let calls = checked.calls;
     match checked.verdict {
-        Verdict::Trusted => {
-            format!(in alloc; "{{\"verdict\":\"trusted\",\"calls\":{calls}}}\n")
-        }
-        Verdict::Refused { place, rule } => format!(
-            in alloc;
+        Verdict::Trusted => { format!(in alloc; "{{\"verdict\":\"trusted\",\"calls\":{calls}}}\n") }
+        Verdict::Refused { place, rule } => format!(in alloc;
             "{{\"verdict\":\"refused\",\"place\":{place},\"rule\":\"{rule}\",\"calls\":{calls}}}\n"
         ),
         Verdict::StreamFault {
             place,
             offset,
             kind,
-        } => format!(
-            in alloc;
+        } => format!(in alloc;
             "{{\"verdict\":\"fault\",\"place\":{place},\"offset\":{offset},\"kind\":\"{kind}\"}}\n"
         ),
         Verdict::Empty => format!(in alloc; "{{\"verdict\":\"empty\"}}\n"),
