@@ -28,7 +28,7 @@ places_below cs (suc place) =
 abbrev pub place_lines : List PlainCertificate → List ℕ
 place_lines cs = places_below cs (length cs)
 
--- the same as JSON (RFC 8259): an array of objects
+-- where the certificates stand as JSON (RFC 8259): an array of objects
 abbrev pub place_json : List PlainCertificate → ℕ → PlainCertificate → List ℕ
 place_json cs place c =
     codes "{\"place\":" ++ decimal place ++ codes ",\"offset\":"

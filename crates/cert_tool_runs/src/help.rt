@@ -25,14 +25,14 @@ keeps are the answers of `verify`.
 
 // What is said of `verify`.
 const VERIFY: &str = "usage: cert_tool verify --anchors FILE --answers FILE
-       [--at MOMENT] [--purpose PURPOSE] [--limit OCTETS] STREAM
+       [--at MOMENT] [--purpose PURPOSE] [--limit OCTETS] [--json] STREAM
 Judges the chain in STREAM, and says yes to the signatures in the answers alone.
 Prints `trusted calls=N` (status 0), `refused PLACE RULE calls=N` (1), `fault PLACE OFFSET KIND` (2)
 or `empty` (3); why a chain is refused `explain chain` says, with the same options.
 ";
 
 // What is said of `split`.
-const SPLIT: &str = "usage: cert_tool split [--limit OCTETS] [--place PLACE] STREAM
+const SPLIT: &str = "usage: cert_tool split [--limit OCTETS] [--place PLACE | --json] STREAM
 Writes PLACE OFFSET LENGTH for each certificate of STREAM, or the octets of the one at PLACE,
 counted from 0.
 ";
@@ -44,16 +44,16 @@ the certificate first that an anchor signed.
 ";
 
 // What is said of `describe`.
-const DESCRIBE: &str = "usage: cert_tool describe KIND FILE
+const DESCRIBE: &str = "usage: cert_tool describe KIND [--json] FILE
 Writes what FILE says, a line for each part. Of a file of several certificates `split` gives each:
 cert_tool split --place 0 FILE | cert_tool describe certificate -
 ";
 
 // What is said of `explain`.
-const EXPLAIN: &str = "usage: cert_tool explain KIND FILE
-       cert_tool explain stream [--limit OCTETS] STREAM
+const EXPLAIN: &str = "usage: cert_tool explain KIND [--json] FILE
+       cert_tool explain stream [--limit OCTETS] [--json] STREAM
        cert_tool explain chain --anchors FILE --answers FILE
-       [--at MOMENT] [--purpose PURPOSE] [--limit OCTETS] STREAM
+       [--at MOMENT] [--purpose PURPOSE] [--limit OCTETS] [--json] STREAM
 Writes the first fault of FILE, the octet where it stands, and the parts around it. Of a chain it
 writes which rules each certificate breaks, and why, and what is unwise; without answers, which
 /dev/null stands for, every signature counts as wrong.
@@ -69,6 +69,7 @@ STREAM     a file of certificates in DER, one behind the other, the one that an 
 --at       now (where it is left out), YYYY-MM-DDTHH:MM:SSZ, or seconds since 1970-01-01T00:00:00Z
 --purpose  a name as serverAuth (where it is left out), or an identifier in dotted arcs
 --limit    the most octets that a certificate may have, from 6 to 4294967295; 65536 if left out
+--json     one document of JSON in place of lines
 The file - is standard input.
 ";
 

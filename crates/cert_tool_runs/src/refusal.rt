@@ -88,8 +88,8 @@ fn is_first_of_several(octets: &[u8], error: &Error) -> bool {
     }
 }
 
-// Adds what is wrong with a value that begins at an offset of a file, and the way down to it, behind
-// words. Of octets that begin with another tag than a record's there is no way.
+// Adds, behind words, what is wrong with a value that begins at an offset of a file, and the way
+// down to it. Of octets that begin with another tag than a record's there is no way.
 fn add_fault(
     lines: &mut Lines,
     words: &str,

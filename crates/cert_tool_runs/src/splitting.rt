@@ -33,7 +33,7 @@ fn comma_before(place: usize) -> &'static str
     if place == 0 { "" } else { "," }
 }
 
-// The same as JSON: an array of objects.
+// Where the certificates stand as JSON: an array of objects.
 fn json_of(alloc: Global, bundle: &Bundle) -> Result<String, AllocError>
     ensures { IfOk result (λ text. string_bytes text ≡ places_text true bundle.now.certificates) }
 {
@@ -76,8 +76,8 @@ fn text_of(alloc: Global, bundle: &Bundle, json: bool) -> Result<String, AllocEr
     }
 }
 
-/// Writes where each certificate of a stream stands, a line each: `PLACE OFFSET LENGTH`, in decimal;
-/// or as JSON, an array of objects with the members `place`, `offset` and `length`.
+/// Writes where each certificate of a stream stands, a line each: `PLACE OFFSET LENGTH`, in decimal.
+/// As JSON that is an array of objects, with the members `place`, `offset` and `length`.
 ///
 /// The certificates before a fault are listed too, and then the fault is told on the error output.
 pub fn run_list<S: Input, O: Output, E: Output>(
