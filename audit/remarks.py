@@ -269,6 +269,10 @@ def of_list(octets):
         (following and is_long(following),
          "nextUpdate is a GeneralizedTime before 2050 (RFC 5280 5.1.2.5)"),
         (not following, "there is no nextUpdate (RFC 5280 5.1.2.5)"),
+        (any(not 0 < int.from_bytes(entry[0][1], "big", signed=True) < 1 << 160
+             for entry in entries),
+         "a serial number of an entry isn't above zero, or has more than 20 octets"
+         " (RFC 5280 4.1.2.2)"),
         (any(is_long(entry[1]) for entry in entries),
          "the date of an entry is a GeneralizedTime before 2050 (RFC 5280 5.1.2.6)"),
         ([] in of_entries, "the list of an entry's extensions is empty (RFC 5280 5.1)"),

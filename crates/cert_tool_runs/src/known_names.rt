@@ -239,7 +239,7 @@ pub(crate) fn known_name(octets: &[u8]) -> Option<&'static str> {
     ] {
         for (known, name) in *names {
             if *known == octets {
-                return Some(name);
+                return Some(*name);
             }
         }
     }

@@ -5,7 +5,7 @@ use crate::extension_remarks::{
     OF_LISTS, add_content_remarks, add_mark_remarks, number_of, value_in,
 };
 use crate::lines::Lines;
-use crate::remark_lines::{add_each, has_twins, is_long_for_its_year};
+use crate::remark_lines::{add_each, has_twins, is_long_for_its_year, is_wrong_serial};
 use cert_desk_checking::certificates::{Extension, Extensions, Raw, Uint, Version};
 use cert_desk_checking::types::general_names::AuthorityKeyIdentifier;
 use der_core::making::leaf_from_der;
@@ -68,6 +68,7 @@ fn listed(extensions: &Option<Extensions>) -> &[Extension] {
 // What entries must not be: whether one is so.
 #[derive(Clone, Copy)]
 struct EntryFacts {
+    has_wrong_serial: bool,
     has_extensions: bool,
     has_empty_extensions: bool,
     has_long_date: bool,
@@ -80,6 +81,7 @@ impl EntryFacts {
     // Those of no entry.
     fn new() -> EntryFacts {
         EntryFacts {
+            has_wrong_serial: false,
             has_extensions: false,
             has_empty_extensions: false,
             has_long_date: false,
@@ -91,6 +93,9 @@ impl EntryFacts {
 
     // Takes one entry more.
     fn take(&mut self, entry: &RevokedCert<Raw>) {
+        if is_wrong_serial(entry.serial_number.as_bytes()) {
+            self.has_wrong_serial = true;
+        }
         if is_long_for_its_year(&entry.revocation_date) {
             self.has_long_date = true;
         }
@@ -116,6 +121,11 @@ fn add_entry_remarks(lines: &mut Lines, facts: &EntryFacts) {
     add_each(
         lines,
         &[
+            (
+                facts.has_wrong_serial,
+                "a serial number of an entry isn't above zero, or has more than 20 octets",
+                "RFC 5280 4.1.2.2",
+            ),
             (
                 facts.has_long_date,
                 "the date of an entry is a GeneralizedTime before 2050",

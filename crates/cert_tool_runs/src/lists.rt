@@ -7,7 +7,7 @@ use crate::description::add_kind;
 use crate::keys::add_digests;
 use crate::lines::Lines;
 use crate::values::add_name;
-use cert_desk_checking::certificates::{Profile, Raw};
+use cert_desk_checking::certificates::Raw;
 use cert_desk_checking::types::{CrlNumber, CrlReason};
 use der_core::{Error, ErrorKind, from_der};
 use std::alloc::Global;
@@ -80,17 +80,14 @@ fn add_signed(lines: &mut Lines, signed: &TbsCertList<Raw>) {
 }
 
 // The list that octets spell.
-pub(crate) fn list_of<P: Profile>(
-    alloc: Global,
-    octets: &[u8],
-) -> Result<CertificateList<P>, Error> {
+pub(crate) fn list_of(alloc: Global, octets: &[u8]) -> Result<CertificateList<Raw>, Error> {
     from_der(alloc, octets)
 }
 
 // Adds what a list says, and digests of its octets; answers why the octets are none, if they
 // aren't.
 pub(crate) fn add_list(lines: &mut Lines, octets: &[u8]) -> Option<ErrorKind> {
-    let list = match list_of::<Raw>(lines.alloc, octets) {
+    let list = match list_of(lines.alloc, octets) {
         Ok(list) => list,
         Err(error) => return Some(error.kind),
     };

@@ -8,7 +8,7 @@ use crate::lines::Lines;
 use crate::list_remarks::add_list_remarks;
 use crate::lists::list_of;
 use crate::way_down::{add_way, content_at, is_followed, misplaced};
-use cert_desk_checking::certificates::{CertificateInner, Profile, Raw, Rfc5280};
+use cert_desk_checking::certificates::{CertificateInner, Raw};
 use der_core::{Error, ErrorKind, Tag};
 use std::alloc::{AllocError, Global};
 use x509_cert_lists::CertReq;
@@ -88,16 +88,9 @@ fn is_first_of_several(octets: &[u8], error: &Error) -> bool {
     }
 }
 
-// Adds, behind words, what is wrong with a value that begins at an offset of a file, and the way
-// down to it. Of octets that begin with another tag than a record's there is no way.
-fn add_fault(
-    lines: &mut Lines,
-    words: &str,
-    octets: &[u8],
-    offset: u64,
-    kind: Node,
-    error: &Error,
-) {
+// Adds what is wrong with a value that begins at an offset of a file, and the way down to it.
+// Of octets that begin with another tag than a record's there is no way.
+fn add_fault(lines: &mut Lines, octets: &[u8], offset: u64, kind: Node, error: &Error) {
     let root = match octets {
         [0x30, ..] => kind,
         _ => Node::Other,
@@ -107,7 +100,7 @@ fn add_fault(
         Some(rest) => rest,
         None => &[],
     };
-    lines.entry(words);
+    lines.entry("");
     lines.place(offset, place as u64);
     lines.tail(": ");
     add_kind(lines, rest, error.kind);
@@ -121,14 +114,14 @@ fn add_fault(
 
 // Adds what is wrong with a certificate that begins at an offset of a file, and the way down to it.
 pub(crate) fn add_certificate_fault(lines: &mut Lines, octets: &[u8], offset: u64, error: &Error) {
-    add_fault(lines, "", octets, offset, Node::Certificate, error);
+    add_fault(lines, octets, offset, Node::Certificate, error);
 }
 
-// Why octets aren't of a kind in a profile, if they aren't.
-fn fault_of<P: Profile>(alloc: Global, octets: &[u8], kind: Kind) -> Option<Error> {
+// Why octets aren't of a kind, if they aren't.
+fn fault_of(alloc: Global, octets: &[u8], kind: Kind) -> Option<Error> {
     match kind {
-        Kind::Certificate => CertificateInner::<P>::from_der(alloc, octets).err(),
-        Kind::List => list_of::<P>(alloc, octets).err(),
+        Kind::Certificate => CertificateInner::<Raw>::from_der(alloc, octets).err(),
+        Kind::List => list_of(alloc, octets).err(),
         Kind::Request => CertReq::try_from_bytes(alloc, octets).err(),
     }
 }
@@ -152,7 +145,7 @@ fn add_remarks_of_certificate(lines: &mut Lines, octets: &[u8]) {
 
 // Adds what a list must not be, though it is read.
 fn add_remarks_of_list(lines: &mut Lines, octets: &[u8]) {
-    match list_of::<Raw>(lines.alloc, octets) {
+    match list_of(lines.alloc, octets) {
         Ok(list) => add_list_remarks(lines, &list),
         Err(error) => lines.note(error.kind),
     }
@@ -161,10 +154,6 @@ fn add_remarks_of_list(lines: &mut Lines, octets: &[u8]) {
 // Adds what is to be said of octets that are of a kind.
 fn add_read(lines: &mut Lines, octets: &[u8], kind: Kind) {
     lines.finding("the octets are what they should be");
-    if let Some(error) = fault_of::<Rfc5280>(lines.alloc, octets, kind) {
-        let words = "RFC 5280 asks for more than is asked here:";
-        add_fault(lines, words, octets, 0, root_of(kind), &error);
-    }
     match kind {
         Kind::Certificate => add_remarks_of_certificate(lines, octets),
         Kind::List => add_remarks_of_list(lines, octets),
@@ -185,8 +174,8 @@ fn pem_hint(kind: Kind) -> &'static str {
 
 // Adds what is to be said of octets of a kind.
 fn add_findings(lines: &mut Lines, octets: &[u8], kind: Kind) {
-    match fault_of::<Raw>(lines.alloc, octets, kind) {
-        Some(error) => add_fault(lines, "", octets, 0, root_of(kind), &error),
+    match fault_of(lines.alloc, octets, kind) {
+        Some(error) => add_fault(lines, octets, 0, root_of(kind), &error),
         None => add_read(lines, octets, kind),
     }
 }

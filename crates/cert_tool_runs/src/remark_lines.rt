@@ -46,6 +46,15 @@ pub(crate) fn is_long_for_its_year(date: &Time) -> bool {
     }
 }
 
+// Whether a serial number isn't above zero, or has more than 20 octets (RFC 5280 4.1.2.2).
+pub(crate) fn is_wrong_serial(serial: &[u8]) -> bool {
+    match serial {
+        [] | [0] | [0x80..=0xff, ..] => true,
+        [0, rest @ ..] => rest.len() > 20,
+        _ => serial.len() > 20,
+    }
+}
+
 // What RFC 5280 4.1.2.2 forbids of a serial number that is read all the same: it is to be above
 // zero, and of at most 20 octets and one for the sign.
 pub(crate) fn add_serial_remarks(lines: &mut Lines, serial: &[u8]) {

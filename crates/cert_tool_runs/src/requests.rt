@@ -11,20 +11,33 @@ use const_oid::AssociatedOid;
 use der_core::ErrorKind;
 use x509_cert_lists::{CertReq, CertReqInfo, ExtensionReq};
 
-// Adds the lines of a value of an attribute.
-fn add_wanted(lines: &mut Lines, is_wanted: bool, value: &Any) {
-    lines.item("");
-    lines.brace();
-    if is_wanted {
-        match value.decode_as::<Extensions>(lines.alloc) {
-            Ok(wanted) => add_extensions(lines, "extensions", wanted.as_slice()),
-            Err(error) => {
-                lines.note(error.kind);
-                add_value(lines, value);
-            }
+// The extensions that a value asks for, if it is the one that asks.
+fn wanted_in(lines: &mut Lines, is_wanted: bool, value: &Any) -> Option<Extensions> {
+    if !is_wanted {
+        return None;
+    }
+    match value.decode_as::<Extensions>(lines.alloc) {
+        Ok(wanted) => Some(wanted),
+        Err(error) => {
+            lines.note(error.kind);
+            None
         }
-    } else {
-        add_value(lines, value);
+    }
+}
+
+// Adds the lines of a value of an attribute.
+fn add_attribute_value(lines: &mut Lines, is_wanted: bool, value: &Any) {
+    match wanted_in(lines, is_wanted, value) {
+        Some(wanted) => {
+            lines.comma();
+            lines.brace();
+            add_extensions(lines, "extensions", wanted.as_slice());
+        }
+        None => {
+            lines.item("");
+            lines.brace();
+            add_value(lines, value);
+        }
     }
     lines.end_brace();
 }
@@ -36,7 +49,7 @@ fn add_attribute(lines: &mut Lines, attribute: &Attribute) {
     lines.list("values");
     let is_wanted = attribute.oid == ExtensionReq::associated_oid();
     for value in attribute.values.values.as_slice() {
-        add_wanted(lines, is_wanted, value);
+        add_attribute_value(lines, is_wanted, value);
     }
     lines.end_list();
     lines.close();

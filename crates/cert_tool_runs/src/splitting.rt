@@ -76,8 +76,8 @@ fn text_of(alloc: Global, bundle: &Bundle, json: bool) -> Result<String, AllocEr
     }
 }
 
-/// Writes where each certificate of a stream stands, a line each: `PLACE OFFSET LENGTH`, in decimal.
-/// As JSON that is an array of objects, with the members `place`, `offset` and `length`.
+/// Writes where each certificate of a stream stands, a line each: `PLACE OFFSET LENGTH`, in
+/// decimal. As JSON that is an array of objects, with the members `place`, `offset` and `length`.
 ///
 /// The certificates before a fault are listed too, and then the fault is told on the error output.
 pub fn run_list<S: Input, O: Output, E: Output>(
