@@ -7,7 +7,8 @@ text of RFC 5280.
                                         differ
 
 Of contents that aren't one value of their kind it says nothing, and the line that names one isn't
-compared.
+compared. Files that aren't read, or are neither certificates nor lists, are counted: of what this
+reader takes for neither the program may read none.
 """
 
 import base64
@@ -22,18 +23,31 @@ def encodings(octets):
     """The encodings that stand one behind the other: tag, contents, all octets (X.690 8.1)."""
     place = 0
     while place < len(octets):
-        length, start = octets[place + 1], place + 2
+        length, start = octets[place + 1] if place + 1 < len(octets) else 0, place + 2
         if length >= 0x80:
             start += length & 0x7F
             length = int.from_bytes(octets[place + 2 : start], "big")
         end = start + length
+        if end > len(octets):
+            raise ValueError("octets that end inside an encoding")
         yield octets[place], octets[start:end], octets[place:end]
         place = end
 
 
 def inside(octets):
-    """The encodings in the contents of the one that octets are."""
-    return list(encodings(next(encodings(octets))[1]))
+    """The encodings in the contents of the first one."""
+    for _, contents, _ in encodings(octets):
+        return list(encodings(contents))
+    raise ValueError("no octets")
+
+
+def value_in(content):
+    """The contents of the one value that a content is, if it is there and is one."""
+    try:
+        [(_, contents, _)] = encodings(content or b"")
+    except ValueError:
+        return None
+    return contents
 
 
 def extensions_in(octets):
@@ -65,19 +79,28 @@ LABEL = "[A-Za-z0-9]([A-Za-z0-9-]{0,61}[A-Za-z0-9])?"
 HOST = rf"(\*\.)?{LABEL}(\.{LABEL})*"
 GRAPHIC = "[!-;=?-~]"
 FORMS = {
-    0x81: ("email", rf"(\"{GRAPHIC}*|[!-;=?A-~]+)@({HOST}|\[{GRAPHIC}*)"),
+    0x81: ("email", rf"(\"[ -~]*\"|[!#-;=?A-~]+)@({HOST}|\[{GRAPHIC}*)"),
     0x82: ("DNS", HOST),
     0x86: ("URI", rf"[A-Za-z][A-Za-z0-9+.-]*:{GRAPHIC}+"),
 }
 
 
+def shown(octets):
+    """As the program shows texts: what isn't printable in ASCII, and a backslash, in base 16."""
+    return "".join(chr(octet) if 0x20 <= octet < 0x7F and octet != 0x5C else f"\\{octet:02X}"
+                   for octet in octets)
+
+
 def malformed_names(content):
-    for tag, name, _ in inside(content):
+    names = inside(content)
+    if not all(name.isascii() for tag, name, _ in names if tag in FORMS):
+        return
+    for tag, name, _ in names:
         text = name.decode("latin1")
         if tag in FORMS:
             kind, form = FORMS[tag]
             if not re.fullmatch(form, text) or (tag == 0x82 and len(text) > 253):
-                yield f"this name isn't well formed (RFC 5280 4.2.1.6): {kind} {text}"
+                yield f"this name isn't well formed (RFC 5280 4.2.1.6): {kind} {shown(name)}"
         elif tag == 0x87 and len(name) not in (4, 16):
             address = f"IP address of {len(name)} octets"
             yield f"this name isn't well formed (RFC 5280 4.2.1.6): {address}"
@@ -112,14 +135,23 @@ def mappings(content):
         yield "anyPolicy is mapped (RFC 5280 4.2.1.5)"
 
 
+def scope(content):
+    tags = {tag for tag, flag, _ in inside(content) if flag == b"\xff"}
+    if {0x81, 0x82} <= tags:
+        text = "a list has only certificates of subscribers, and of authorities"
+        yield f"{text} (RFC 5280 5.2.5)"
+    if 0x85 in tags:
+        yield "a list has only attribute certificates (RFC 5280 5.2.5)"
+
+
 def issuer_key(content):
     tags = {tag for tag, _, _ in inside(content)}
     if (0xA1 in tags) != (0x82 in tags):
         yield "authorityKeyIdentifier has one of issuer and serial number (RFC 5280 A.2)"
 
 
-CONTENTS = {17: malformed_names, 18: malformed_names, 30: constraints, 31: points, 46: points,
-            32: policies, 33: mappings, 35: issuer_key}
+CONTENTS = {17: malformed_names, 18: malformed_names, 28: scope, 30: constraints, 31: points,
+            32: policies, 33: mappings, 35: issuer_key, 46: points}
 CONTENTS = {standard(number): looks for number, looks in CONTENTS.items()}
 
 # Whether critical, name, section: RFC 5280 4.2, 5.2.
@@ -166,12 +198,61 @@ def of_extensions(extensions, marks):
             yield f"{name} is an empty sequence (RFC 5280 {section})"
         try:
             yield from list(CONTENTS.get(kind, lambda _: ())(content))
-        except (IndexError, StopIteration, RuntimeError):
+        except (IndexError, ValueError):
             pass
 
 
+def members_of(content):
+    """The encodings in the one value that a content is; nothing where they aren't such."""
+    try:
+        return list(encodings(value_in(content) or b""))
+    except ValueError:
+        return []
+
+
+# Characters of an attribute's text, at least and at most: RFC 5280 A.1.
+SIZES = {bytes([0x55, 4, number]): sizes for numbers, sizes in [
+    ((6,), (2, 2)), ((3, 5, 10, 11, 12), (1, 64)), ((7, 8, 65), (1, 128)),
+    ((4, 41, 42, 43, 44), (1, 32768)),
+] for number in numbers}
+SIZES[bytes.fromhex("2a864886f70d010901")] = (1, 255)
+# Of a tag, the name of the type, and how its octets are read: X.680 41.
+STRINGS = {0x0C: ("UTF8String", "utf-8"), 0x13: ("PrintableString", "ascii"),
+           0x16: ("IA5String", "ascii"), 0x1E: ("BMPString", "utf-16-be")}
+
+
+def dotted(identifier):
+    arcs = [0]
+    for octet in identifier:
+        arcs[-1] = arcs[-1] << 7 | octet & 0x7F
+        if octet < 0x80:
+            arcs.append(0)
+    first = min(arcs[0] // 40, 2)
+    return ".".join(map(str, [first, arcs[0] - 40 * first, *arcs[1:-1]]))
+
+
+def of_name(name):
+    """The remarks of the attributes of a name: their texts, and how long these are."""
+    for _, _, relative in encodings(name):
+        for _, _, attribute in inside(relative):
+            (_, kind, _), (tag, octets, _) = inside(attribute)
+            type_name, coding = STRINGS.get(tag, ("", "latin-1"))
+            try:
+                text = octets.decode(coding, "surrogatepass" if tag == 0x1E else "strict")
+                right = tag != 0x13 or re.fullmatch("[A-Za-z0-9 '()+,./:=?-]*", text)
+            except UnicodeDecodeError:
+                text, right = octets[: len(octets) // 2 if tag == 0x1E else None], False
+            if not right:
+                yield f"{dotted(kind)} isn't a text of its type, {type_name} (RFC 5280 4.1.2.4)"
+            least, most = SIZES.get(kind, (0, len(text)))
+            size = len(octets) // 2 if tag == 0x1E else len(text)
+            if not least <= size <= most:
+                sizes = most if least == most else f"{least} to {most}"
+                yield f"{dotted(kind)} isn't a text of {sizes} characters (RFC 5280 A.1)"
+
+
 def has_key(content):
-    return content is not None and any(tag == 0x80 for tag, _, _ in inside(content))
+    return any(tag == 0x80 for tag, _, _ in members_of(content))
 
 
 def of_serial(serial):
@@ -197,10 +278,10 @@ def of_certificate(octets):
     critical = {kind: flag for kind, flag, _ in extensions}
     first, last = encodings(dates[1])
     ids = 0x81 in rest or 0x82 in rest
-    limits = inside(contents[standard(19)]) if standard(19) in contents else []
+    limits = members_of(contents.get(standard(19)))
     authority = any(tag == 1 and flag == b"\xff" for tag, flag, _ in limits)
     length = any(tag == 2 for tag, _, _ in limits)
-    uses = next(encodings(contents[standard(15)]))[1] if standard(15) in contents else None
+    uses = value_in(contents.get(standard(15)))
     signs = uses is not None and len(uses) > 1 and uses[1] & 0x04 != 0
     unnamed = subject[1] == b""
     self_issued = issuer[2] == subject[2]
@@ -226,7 +307,8 @@ def of_certificate(octets):
          "no authorityKeyIdentifier has a key's identifier (RFC 5280 4.2.1.1)"),
         (authority and standard(14) not in contents,
          "an authority has no subjectKeyIdentifier (RFC 5280 4.2.1.2)"),
-        (authority and uses is None, "an authority has no keyUsage (RFC 5280 4.2.1.3)"),
+        (authority and standard(15) not in contents,
+         "an authority has no keyUsage (RFC 5280 4.2.1.3)"),
         (signs and not authority, "keyCertSign stands without cA (RFC 5280 4.2.1.3)"),
         (authority and not critical[standard(19)],
          "basicConstraints of an authority aren't critical (RFC 5280 4.2.1.9)"),
@@ -238,6 +320,8 @@ def of_certificate(octets):
         (uses == b"\0", "keyUsage has no use (RFC 5280 4.2.1.3)"),
     ] if holds)
     yield from of_serial(serial[1])
+    yield from of_name(issuer[1])
+    yield from of_name(subject[1])
     yield from of_extensions(extensions, OF_CERTIFICATES)
 
 
@@ -268,9 +352,10 @@ def of_list(octets):
         (is_long(this), "thisUpdate is a GeneralizedTime before 2050 (RFC 5280 5.1.2.4)"),
         (following and is_long(following),
          "nextUpdate is a GeneralizedTime before 2050 (RFC 5280 5.1.2.5)"),
+        (following and moment(*following[:2]) < moment(*this[:2]),
+         "nextUpdate is before thisUpdate (RFC 5280 5.1.2.5)"),
         (not following, "there is no nextUpdate (RFC 5280 5.1.2.5)"),
-        (any(not 0 < int.from_bytes(entry[0][1], "big", signed=True) < 1 << 160
-             for entry in entries),
+        (any(list(of_serial(entry[0][1])) for entry in entries),
          "a serial number of an entry isn't above zero, or has more than 20 octets"
          " (RFC 5280 4.1.2.2)"),
         (any(is_long(entry[1]) for entry in entries),
@@ -282,18 +367,29 @@ def of_list(octets):
         (not has_key(contents.get(standard(35))),
          "no authorityKeyIdentifier has a key's identifier (RFC 5280 5.2.1)"),
         (number is None, "there is no cRLNumber (RFC 5280 5.2.3)"),
-        (number is not None and len(next(encodings(number))[1].removeprefix(b"\0")) > 20,
+        (len((value_in(number) or b"").removeprefix(b"\0")) > 20,
          "the cRLNumber has more than 20 octets (RFC 5280 5.2.3)"),
         (standard(27) in contents and standard(46) in contents,
          "freshestCRL stands in a list that adds to another (RFC 5280 5.2.6)"),
     ] if holds)
+    yield from of_name(issuer[1])
     yield from of_extensions(extensions, OF_LISTS)
 
 
-def is_list(octets):
-    """Whether the third field of the signed part is no SEQUENCE behind two of them (5.1)."""
-    tags = [tag for tag, _, _ in encodings(inside(octets)[0][1])]
-    return tags[:1] == [0x30] or tags[:3] == [2, 0x30, 0x30] and tags[3] in (0x17, 0x18)
+def kind_of(octets):
+    """Of a certificate or a list its name, by the fields of the signed part (4.1, 5.1)."""
+    try:
+        [(tag, _, whole)] = encodings(octets)
+        signed, algorithm, bits = inside(whole)
+        fields = [field for field, _, _ in encodings(signed[1])]
+    except ValueError:
+        return None
+    if [tag, signed[0], algorithm[0], bits[0]] != [0x30, 0x30, 0x30, 3]:
+        return None
+    if fields[:1] == [0xA0] or fields[:5] == [2, 0x30, 0x30, 0x30, 0x30]:
+        return "certificate"
+    is_list = [field for field in fields if field != 2][2:3] in ([0x17], [0x18])
+    return "list" if is_list else None
 
 
 def ders_of(path):
@@ -304,14 +400,31 @@ def ders_of(path):
 
 
 def told(tool, kind, octets):
-    """The remarks that the program tells, but for contents that aren't of their kind."""
+    """The remarks that the program tells, but for contents that aren't of their kind; nothing where
+    it doesn't read the octets."""
     with tempfile.NamedTemporaryFile() as file:
         file.write(octets)
         file.flush()
         ran = subprocess.run([tool, "explain", kind, file.name], capture_output=True, check=True)
-    for line in ran.stdout.decode().splitlines():
-        if line.startswith("remark: ") and "isn't one value of its kind" not in line:
-            yield line.removeprefix("remark: ")
+    first, *lines = ran.stdout.decode().splitlines()
+    if first != "the octets are what they should be":
+        return None
+    # an identifier is compared, not its name
+    return [re.sub(r"^\w+ \(([\d.]+)\)", r"\1", line.removeprefix("remark: ")) for line in lines
+            if line.startswith("remark: ") and "isn't one value of its kind" not in line]
+
+
+def differences_of(tool, kind, octets):
+    """What is looked at, the remarks that the program tells, and in what the reader differs."""
+    if kind is None:
+        read = [kind for kind in ("certificate", "list") if told(tool, kind, octets) is not None]
+        return "neither", [], [f"read as a {kind}" for kind in read]
+    found = told(tool, kind, octets)
+    if found is None:
+        return f"unread {kind}", [], []
+    wanted = list(of_list(octets) if kind == "list" else of_certificate(octets))
+    differ = sorted(set(wanted) ^ set(found))
+    return kind, found, [f"{'wanting' if text in wanted else 'told'}: {text}" for text in differ]
 
 
 def main():
@@ -319,18 +432,16 @@ def main():
     looked, differences, counts = collections.Counter(), 0, collections.Counter()
     for path in paths:
         for octets in ders_of(path):
-            kind = "list" if is_list(octets) else "certificate"
-            wanted = list(of_list(octets) if kind == "list" else of_certificate(octets))
-            found = list(told(tool, kind, octets))
-            looked[kind] += 1
+            seen, found, differ = differences_of(tool, kind_of(octets), octets)
+            looked[seen] += 1
             counts.update(found)
-            for text in sorted(set(wanted) ^ set(found)):
-                differences += 1
-                print(f"{path}: {'wanting' if text in wanted else 'told'}: {text}")
+            differences += len(differ)
+            for text in differ:
+                print(f"{path}: {text}")
     for text, count in counts.most_common():
         print(f"{count} {text}")
-    seen = ", ".join(f"{count} {kind}s" for kind, count in looked.items())
-    print(f"{seen}, {sum(counts.values())} remarks, {differences} differences")
+    seen = ", ".join(f"{count} {kind}" for kind, count in looked.items())
+    print(f"looked at: {seen}; {sum(counts.values())} remarks, {differences} differences")
     sys.exit(differences > 0)
 
 

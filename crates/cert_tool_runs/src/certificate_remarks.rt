@@ -1,5 +1,6 @@
 //! What certificates must be beyond DER (RFC 5280 4.1, 4.2): each that isn't so, as a remark.
 
+use crate::attribute_remarks::add_attribute_remarks;
 use crate::content_faults::{add_content_fault, content_fault};
 use crate::extension_remarks::{
     OF_CERTIFICATES, add_content_remarks, add_mark_remarks, number_of, value_in,
@@ -185,6 +186,10 @@ fn add_date_remarks(lines: &mut Lines, signed: &TbsCertificateInner<Raw>) {
 fn add_party_remarks(lines: &mut Lines, signed: &TbsCertificateInner<Raw>, facts: &Facts) {
     let is_nameless = signed.subject().is_empty();
     let is_self_issued = signed.issuer().has_octets_of(signed.subject());
+    add_attribute_remarks(lines, signed.issuer());
+    if !is_self_issued {
+        add_attribute_remarks(lines, signed.subject());
+    }
     add_each(
         lines,
         &[
@@ -278,8 +283,10 @@ pub(crate) fn add_malformed_remarks(lines: &mut Lines, extensions: &[Extension])
     for extension in extensions {
         if let Some(error) = content_fault(lines.alloc, extension) {
             begin_remark(lines);
-            let section = add_content_fault(lines, extension, &error);
-            end_remark(lines, section);
+            match add_content_fault(lines, extension, &error) {
+                "" => end_remark(lines, "RFC 5280 4.2"),
+                section => end_remark(lines, section),
+            }
         }
     }
 }

@@ -6,7 +6,8 @@ use crate::name_remarks::add_name_remarks;
 use crate::remark_lines::{Seen, add_each, begin_remark, end_remark};
 use cert_desk_checking::certificates::Extension;
 use cert_desk_checking::types::general_names::{
-    AuthorityKeyIdentifier, DistributionPoint, GeneralName, GeneralSubtree, NameConstraints,
+    AuthorityKeyIdentifier, DistributionPoint, GeneralName, GeneralSubtree,
+    IssuingDistributionPoint, NameConstraints,
 };
 use cert_desk_checking::types::policies::{PolicyConstraints, PolicyInformation, PolicyMapping};
 use const_oid::ObjectIdentifier;
@@ -187,6 +188,28 @@ fn add_point_remarks(lines: &mut Lines, octets: &[u8]) {
     add_each(lines, &[(is_bare, text, "RFC 5280 4.2.1.13")]);
 }
 
+// Of the certificates that a list has (RFC 5280 5.2.5).
+fn add_scope_remarks(lines: &mut Lines, octets: &[u8]) {
+    let Some(point) = value_in::<IssuingDistributionPoint>(lines, octets) else {
+        return;
+    };
+    add_each(
+        lines,
+        &[
+            (
+                point.only_contains_user_certs && point.only_contains_ca_certs,
+                "a list has only certificates of subscribers, and of authorities",
+                "RFC 5280 5.2.5",
+            ),
+            (
+                point.only_contains_attribute_certs,
+                "a list has only attribute certificates",
+                "RFC 5280 5.2.5",
+            ),
+        ],
+    );
+}
+
 // Of policies.
 fn add_policy_remarks(lines: &mut Lines, octets: &[u8]) {
     let Some(policies) = value_in::<Vec<PolicyInformation>>(lines, octets) else {
@@ -241,6 +264,7 @@ pub(crate) fn add_content_remarks(lines: &mut Lines, extension: &Extension) {
     add_empty_remark(lines, extension);
     match number_of(extension) {
         17 | 18 => add_names_remarks(lines, octets),
+        28 => add_scope_remarks(lines, octets),
         30 => add_constraint_remarks(lines, octets),
         31 | 46 => add_point_remarks(lines, octets),
         32 => add_policy_remarks(lines, octets),

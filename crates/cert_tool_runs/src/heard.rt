@@ -39,7 +39,7 @@ impl Heard {
             lines.push("an answer is about what is signed, and another key or signature");
         } else {
             let count = self.count as u64;
-            lines.show("of ", count, " answers none is about what is signed");
+            lines.show("none of the answers (", count, ") is about what is signed");
         }
         lines.end();
     }

@@ -1,5 +1,6 @@
 //! What revocation lists must be beyond DER (RFC 5280 5): each that isn't so, as a remark.
 
+use crate::attribute_remarks::add_attribute_remarks;
 use crate::certificate_remarks::add_malformed_remarks;
 use crate::extension_remarks::{
     OF_LISTS, add_content_remarks, add_mark_remarks, number_of, value_in,
@@ -157,9 +158,13 @@ fn add_entry_remarks(lines: &mut Lines, facts: &EntryFacts) {
 
 // Of the dates (RFC 5280 5.1.2.4, 5.1.2.5).
 fn add_date_remarks(lines: &mut Lines, signed: &TbsCertList<Raw>) {
-    let is_next_long = match &signed.next_update {
-        Some(date) => is_long_for_its_year(date),
-        None => false,
+    let this = signed.this_update.to_date_time().unix_seconds();
+    let (is_next_long, is_next_before) = match &signed.next_update {
+        Some(date) => (
+            is_long_for_its_year(date),
+            date.to_date_time().unix_seconds() < this,
+        ),
+        None => (false, false),
     };
     add_each(
         lines,
@@ -172,6 +177,11 @@ fn add_date_remarks(lines: &mut Lines, signed: &TbsCertList<Raw>) {
             (
                 is_next_long,
                 "nextUpdate is a GeneralizedTime before 2050",
+                "RFC 5280 5.1.2.5",
+            ),
+            (
+                is_next_before,
+                "nextUpdate is before thisUpdate",
                 "RFC 5280 5.1.2.5",
             ),
             (
@@ -273,6 +283,7 @@ pub(crate) fn add_list_remarks(lines: &mut Lines, list: &CertificateList<Raw>) {
     let facts = entry_facts(signed);
     add_each(lines, &[(differ, text, "RFC 5280 5.1.1.2")]);
     add_field_remarks(lines, signed, &facts);
+    add_attribute_remarks(lines, &signed.issuer);
     add_date_remarks(lines, signed);
     add_entry_remarks(lines, &facts);
     add_extension_remarks(lines, listed(&signed.crl_extensions));

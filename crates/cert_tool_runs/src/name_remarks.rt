@@ -40,14 +40,31 @@ fn has_blank(text: &str) -> bool {
     false
 }
 
+// Whether a text stands in quotes, between which blanks may stand.
+fn is_quoted(text: &str) -> bool {
+    for octet in text.as_bytes() {
+        if !octet.is_ascii_graphic() && *octet != b' ' {
+            return false;
+        }
+    }
+    text.len() > 1 && text.starts_with('"') && text.ends_with('"')
+}
+
+// Whether a text is the local part of a mailbox, in quotes or not.
+fn is_local_part(text: &str) -> bool {
+    let is_atom = !text.is_empty() && !text.contains('@') && !text.contains('"');
+    is_quoted(text) || (is_atom && !has_blank(text))
+}
+
 // Whether a text is a mailbox: a local part, `@` and a host, or an address in brackets (RFC 5321
 // 4.1.2).
 fn is_mailbox(text: &str) -> bool {
-    let Some((local, host)) = text.rsplit_once('@') else {
-        return false;
-    };
-    let is_local = local.starts_with('"') || !(local.is_empty() || local.contains('@'));
-    is_local && !has_blank(text) && (is_host(host) || host.starts_with('['))
+    match text.rsplit_once('@') {
+        Some((local, host)) => {
+            is_local_part(local) && !has_blank(host) && (is_host(host) || host.starts_with('['))
+        }
+        None => false,
+    }
 }
 
 // Whether a text is the scheme of a resource (RFC 3986 3.1).

@@ -102,7 +102,7 @@ fn kind_of(word: &str) -> Option<Kind>
 }
 
 // The command of a word.
-fn of_word(word: &str) -> Option<Command>
+pub(crate) fn of_word(word: &str) -> Option<Command>
     ensures { result ≡ of_word word.now }
 {
     match word {
@@ -130,7 +130,7 @@ fn of_explained(kind: &str) -> Option<Command>
 }
 
 // The command of a word and what it is of.
-fn of_words(word: &str, kind: &str) -> Option<Command>
+pub(crate) fn of_words(word: &str, kind: &str) -> Option<Command>
     ensures { result ≡ of_words word.now kind.now }
 {
     match word {

@@ -2,6 +2,7 @@
 
 use crate::given::{Key, WordFault};
 use crate::help::help_of;
+use crate::no_command::no_command_line;
 use crate::tasks::{Misuse, Task};
 use cert_desk_io::{ExitStatus, Output, tell_memory, write_all};
 use std::alloc::{AllocError, Global};
@@ -61,10 +62,10 @@ fn fault_line(alloc: Global, fault: WordFault<'_>) -> Result<String, AllocError>
 }
 
 // What is wrong with words, in one line.
-fn misuse_line(alloc: Global, misuse: Misuse<'_>) -> Result<String, AllocError> {
+fn misuse_line(alloc: Global, words: &[&str], misuse: Misuse<'_>) -> Result<String, AllocError> {
     match misuse {
         Misuse::Words(fault) => fault_line(alloc, fault),
-        Misuse::NoCommand => format!(in alloc; "no command with a file behind it\n"),
+        Misuse::NoCommand => no_command_line(alloc, words),
         Misuse::Missing(key) => format!(in alloc; "{} is missing\n", word_of(key)),
         Misuse::Excess(key) => format!(in alloc; "this command has no {}\n", word_of(key)),
         Misuse::Wrong(key, text) => {
@@ -84,7 +85,7 @@ pub(crate) fn tell_misuse<E: Output>(
     misuse: Misuse<'_>,
     err: &mut E,
 ) {
-    tell(err, misuse_line(alloc, misuse));
+    tell(err, misuse_line(alloc, words, misuse));
     let help = match misuse {
         Misuse::NoCommand => help_of(words),
         _ => "cert_tool COMMAND --help tells how it is called\n",
