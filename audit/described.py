@@ -301,7 +301,8 @@ def general_name(label, of):
             ((tag, content),) = values(of.value)
             yield f"{label}other {of.type_id.dotted_string} {value_text(tag, content)}"
         case x509.DirectoryName():
-            yield from name(f"{label}name ", of.value, "    ")
+            margin = " " * (len(label) - len(label.lstrip()) + 2)
+            yield from name(f"{label}name ", of.value, margin)
 
 
 def general_names(label, listed):
@@ -520,6 +521,10 @@ def extensions(of, encoded):
         yield from content_lines(each.value, list(values(content))[-1][1])
 
 
+def deeper(lines):
+    return ("  " + line for line in lines)
+
+
 # Keys and algorithms.
 
 
@@ -660,7 +665,7 @@ def revocation_list(encoded):
     for entry, (_, content) in zip(of, values(entries[0] if entries else b""), strict=True):
         yield f"revoked {natural(entry.serial_number)} {moment(entry.revocation_date_utc)}"
         behind = list(values(content))[2:]
-        yield from extensions(entry, encoding(*behind[0]) if behind else None)
+        yield from deeper(extensions(entry, encoding(*behind[0]) if behind else None))
     yield from algorithm("signature ", outer)
     yield f"  bits {octets(of.signature)}"
     yield from digests("list", encoded)
@@ -684,7 +689,7 @@ def request(encoded):
         yield f"attribute {identifier}"
         for tag, each in values(listed):
             if identifier == "1.2.840.113549.1.9.14":
-                yield from extensions(of, encoding(tag, each))
+                yield from deeper(extensions(of, encoding(tag, each)))
             else:
                 yield f"  {value_text(tag, each)}"
     yield from algorithm("signature ", outer)

@@ -79,7 +79,7 @@ LABEL = "[A-Za-z0-9]([A-Za-z0-9-]{0,61}[A-Za-z0-9])?"
 HOST = rf"(\*\.)?{LABEL}(\.{LABEL})*"
 GRAPHIC = "[!-;=?-~]"
 FORMS = {
-    0x81: ("email", rf"(\"{GRAPHIC}*|[!-;=?A-~]+)@({HOST}|\[{GRAPHIC}*)"),
+    0x81: ("email", rf"(\"[ -~]*\"|[!#-;=?A-~]+)@({HOST}|\[{GRAPHIC}*)"),
     0x82: ("DNS", HOST),
     0x86: ("URI", rf"[A-Za-z][A-Za-z0-9+.-]*:{GRAPHIC}+"),
 }
@@ -92,7 +92,10 @@ def shown(octets):
 
 
 def malformed_names(content):
-    for tag, name, _ in inside(content):
+    names = inside(content)
+    if not all(name.isascii() for tag, name, _ in names if tag in FORMS):
+        return
+    for tag, name, _ in names:
         text = name.decode("latin1")
         if tag in FORMS:
             kind, form = FORMS[tag]
@@ -132,14 +135,23 @@ def mappings(content):
         yield "anyPolicy is mapped (RFC 5280 4.2.1.5)"
 
 
+def scope(content):
+    tags = {tag for tag, flag, _ in inside(content) if flag == b"\xff"}
+    if {0x81, 0x82} <= tags:
+        text = "a list has only certificates of subscribers, and of authorities"
+        yield f"{text} (RFC 5280 5.2.5)"
+    if 0x85 in tags:
+        yield "a list has only attribute certificates (RFC 5280 5.2.5)"
+
+
 def issuer_key(content):
     tags = {tag for tag, _, _ in inside(content)}
     if (0xA1 in tags) != (0x82 in tags):
         yield "authorityKeyIdentifier has one of issuer and serial number (RFC 5280 A.2)"
 
 
-CONTENTS = {17: malformed_names, 18: malformed_names, 30: constraints, 31: points, 46: points,
-            32: policies, 33: mappings, 35: issuer_key}
+CONTENTS = {17: malformed_names, 18: malformed_names, 28: scope, 30: constraints, 31: points,
+            32: policies, 33: mappings, 35: issuer_key, 46: points}
 CONTENTS = {standard(number): looks for number, looks in CONTENTS.items()}
 
 # Whether critical, name, section: RFC 5280 4.2, 5.2.
@@ -196,6 +208,47 @@ def members_of(content):
         return list(encodings(value_in(content) or b""))
     except ValueError:
         return []
+
+
+# Characters of an attribute's text, at least and at most: RFC 5280 A.1.
+SIZES = {bytes([0x55, 4, number]): sizes for numbers, sizes in [
+    ((6,), (2, 2)), ((3, 5, 10, 11, 12), (1, 64)), ((7, 8, 65), (1, 128)),
+    ((4, 41, 42, 43, 44), (1, 32768)),
+] for number in numbers}
+SIZES[bytes.fromhex("2a864886f70d010901")] = (1, 255)
+# Of a tag, the name of the type, and how its octets are read: X.680 41.
+STRINGS = {0x0C: ("UTF8String", "utf-8"), 0x13: ("PrintableString", "ascii"),
+           0x16: ("IA5String", "ascii"), 0x1E: ("BMPString", "utf-16-be")}
+
+
+def dotted(identifier):
+    arcs = [0]
+    for octet in identifier:
+        arcs[-1] = arcs[-1] << 7 | octet & 0x7F
+        if octet < 0x80:
+            arcs.append(0)
+    first = min(arcs[0] // 40, 2)
+    return ".".join(map(str, [first, arcs[0] - 40 * first, *arcs[1:-1]]))
+
+
+def of_name(name):
+    """The remarks of the attributes of a name: their texts, and how long these are."""
+    for _, _, relative in encodings(name):
+        for _, _, attribute in inside(relative):
+            (_, kind, _), (tag, octets, _) = inside(attribute)
+            type_name, coding = STRINGS.get(tag, ("", "latin-1"))
+            try:
+                text = octets.decode(coding, "surrogatepass" if tag == 0x1E else "strict")
+                right = tag != 0x13 or re.fullmatch("[A-Za-z0-9 '()+,./:=?-]*", text)
+            except UnicodeDecodeError:
+                text, right = octets[: len(octets) // 2 if tag == 0x1E else None], False
+            if not right:
+                yield f"{dotted(kind)} isn't a text of its type, {type_name} (RFC 5280 4.1.2.4)"
+            least, most = SIZES.get(kind, (0, len(text)))
+            size = len(octets) // 2 if tag == 0x1E else len(text)
+            if not least <= size <= most:
+                sizes = most if least == most else f"{least} to {most}"
+                yield f"{dotted(kind)} isn't a text of {sizes} characters (RFC 5280 A.1)"
 
 
 def has_key(content):
@@ -267,6 +320,8 @@ def of_certificate(octets):
         (uses == b"\0", "keyUsage has no use (RFC 5280 4.2.1.3)"),
     ] if holds)
     yield from of_serial(serial[1])
+    yield from of_name(issuer[1])
+    yield from of_name(subject[1])
     yield from of_extensions(extensions, OF_CERTIFICATES)
 
 
@@ -297,7 +352,12 @@ def of_list(octets):
         (is_long(this), "thisUpdate is a GeneralizedTime before 2050 (RFC 5280 5.1.2.4)"),
         (following and is_long(following),
          "nextUpdate is a GeneralizedTime before 2050 (RFC 5280 5.1.2.5)"),
+        (following and moment(*following[:2]) < moment(*this[:2]),
+         "nextUpdate is before thisUpdate (RFC 5280 5.1.2.5)"),
         (not following, "there is no nextUpdate (RFC 5280 5.1.2.5)"),
+        (any(list(of_serial(entry[0][1])) for entry in entries),
+         "a serial number of an entry isn't above zero, or has more than 20 octets"
+         " (RFC 5280 4.1.2.2)"),
         (any(is_long(entry[1]) for entry in entries),
          "the date of an entry is a GeneralizedTime before 2050 (RFC 5280 5.1.2.6)"),
         ([] in of_entries, "the list of an entry's extensions is empty (RFC 5280 5.1)"),
@@ -312,6 +372,7 @@ def of_list(octets):
         (standard(27) in contents and standard(46) in contents,
          "freshestCRL stands in a list that adds to another (RFC 5280 5.2.6)"),
     ] if holds)
+    yield from of_name(issuer[1])
     yield from of_extensions(extensions, OF_LISTS)
 
 
@@ -348,7 +409,8 @@ def told(tool, kind, octets):
     first, *lines = ran.stdout.decode().splitlines()
     if first != "the octets are what they should be":
         return None
-    return [line.removeprefix("remark: ") for line in lines
+    # an identifier is compared, not its name
+    return [re.sub(r"^\w+ \(([\d.]+)\)", r"\1", line.removeprefix("remark: ")) for line in lines
             if line.startswith("remark: ") and "isn't one value of its kind" not in line]
 
 

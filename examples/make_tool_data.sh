@@ -404,10 +404,21 @@ certificate("remarked_names.der", extensions=[AKI, extension(17, seq(
       b"a*.example", b"b.*.example", b"*", b"*.example", b"a-b.example", b"xn--a", b"1.example",
       b"a" * 63 + b".example", b"a" * 64 + b".example")],
     *[tlv(0x81, text) for text in (b"", b"a", b"@example", b"a@", b"A <a@example>", b"a@b@example",
-      b"a@[192.0.2.1]", b"a@example")],
+      b"\"a@example", b"a@[192.0.2.1]", b"a@example", b"\"a b@c\"@example")],
     *[tlv(0x86, text) for text in (b"", b"example", b"//example/", b"http:", b"1a:b", b"a b:c",
       b"http://a b/", b"http://example/", b"urn:a:b")],
     *[tlv(0x87, bytes(count)) for count in (0, 5, 8, 4, 16)]))])
+# texts that aren't of their type, too short or too long, and some that are right
+def texts(*attributes):
+    return seq(*[tlv(0x31, seq(oid(*kind), tlv(tag, text))) for kind, tag, text in attributes])
+X520, EMAIL = (0x55, 4), (0x2A, 0x86, 0x48, 0x86, 0xF7, 0x0D, 1, 9, 1)
+certificate("remarked_texts.der", extensions=[AKI], issuer=texts(
+    ((*X520, 6), 0x13, b"USA"), ((*X520, 10), 0x13, b"a_b"), ((*X520, 11), 0x0C, b"\xff"),
+    ((*X520, 3), 0x0C, b""), (EMAIL, 0x16, b"\xe4@example"), ((*X520, 7), 0x1E, b"\0a\0")),
+    subject=texts(
+    ((*X520, 6), 0x13, b"US"), ((*X520, 10), 0x13, b"A z0 '()+,-./:=?"),
+    ((*X520, 11), 0x0C, "ä".encode() * 64), ((*X520, 3), 0x0C, b"a" * 65),
+    (EMAIL, 0x16, b"a" * 256), ((*X520, 7), 0x1E, b"\0a" * 128), ((*X520, 8), 0x1E, b"\0a" * 129)))
 def revoked(serial, date=tlv(0x17, b"260101000000Z"), extensions=None):
     return seq(tlv(2, serial), date, *([seq(*extensions)] if extensions is not None else []))
 def crl(name, *, version=1, issuer=named(b"above"), this=tlv(0x17, b"260101000000Z"),
@@ -424,6 +435,11 @@ crl("remarked_list.der", version=0, issuer=seq(), outside=3, this=tlv(0x18, b"20
     revoked(b"\3", extensions=[extension(21, tlv(10, b"\1"), True)]),
     revoked(b"\4", extensions=[extension(24, tlv(0x18, b"20260101000000Z"), True)]),
     revoked(b"\5", extensions=[extension(29, seq(tlv(0xA4, named(b"other"))))])])
+# a nextUpdate before, scopes that are empty, an entry with a number of 21 octets
+crl("remarked_scope.der", following=tlv(0x17, b"251231235959Z"), issuer=texts(
+    ((*X520, 6), 0x13, b"U")), entries=[revoked(b"\1" + bytes(20))], extensions=[
+    AKI, extension(20, tlv(2, b"\1")), extension(28, seq(
+        *[tlv(tag, b"\xff") for tag in (0x81, 0x82, 0x85)]), True)])
 # no nextUpdate, no entry, each criticality turned round, a number of 21 octets
 crl("remarked_delta.der", following=b"", entries=[], extensions=[
     extension(35, seq(), True), extension(20, tlv(2, b"\1" + bytes(20)), True),

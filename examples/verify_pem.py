@@ -11,8 +11,8 @@ now and serverAuth, where nothing is said.
 It turns the chain round, has `cert_tool questions` say what its signatures ask, `answer.py` answer,
 and `cert_tool verify` judge; of a chain that isn't trusted it prints what `cert_tool explain chain`
 says. The status is that of `cert_tool verify`: 0 where the chain is trusted, 1 where it breaks a
-rule, others as docs/TOOL.md says; 4 also where a file holds no certificate in PEM, and 5 where a
-file or a program is missing.
+rule, others as docs/TOOL.md says; 3 where CHAIN holds roots alone, 4 also where a file holds no
+certificate in PEM, and 5 where a file or a program is missing.
 """
 
 import argparse
@@ -24,7 +24,7 @@ import tempfile
 
 HERE = pathlib.Path(__file__).resolve().parent
 TOOL = HERE.parent / "crates" / "cert_tool" / "out" / "cert_tool"
-ARGUMENTS, DEVICE = 4, 5
+EMPTY, ARGUMENTS, DEVICE = 3, 4, 5
 HEADER, FOOTER = "-----BEGIN CERTIFICATE-----", "-----END CERTIFICATE-----"
 
 
@@ -97,6 +97,8 @@ def main():
         stop(DEVICE, f"{tool} is missing: `rt run -- --help` in crates/cert_tool builds it")
     roots, chain = certificates(words.roots), certificates(words.chain)
     chain = [it for it in chain if it not in roots]
+    if not chain:
+        stop(EMPTY, f"{words.chain} holds roots alone")
     with tempfile.TemporaryDirectory() as folder:
         run = Run(tool, pathlib.Path(folder))
         run.write("anchors.der", b"".join(roots))

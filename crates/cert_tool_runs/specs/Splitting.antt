@@ -1,6 +1,6 @@
 -- What runs over the certificates of a stream write.
 use Rattle.std.specs.Prelude.{◌≡◌, ◌≢◌, ℕ, zero, suc, ◌+◌, ◌⊎◌, List, [], ◌∷◌, ◌++◌, length, codes}
-use Rattle.std.specs.Prelude.{decimal, Option, Some, None, slice_get}
+use Rattle.std.specs.Prelude.{decimal, Option, Some, None, slice_get, Bool, true, false}
 use Rattle.std.specs.Option.{option_map_or}
 use Rattle.cert_desk_io.specs.declared.exit_status.ExitStatus.{ExitStatus}
 use Rattle.cert_desk_io.specs.declared.exit_status.ExitStatus.TheVariants as statuses
@@ -28,6 +28,27 @@ places_below cs (suc place) =
 abbrev pub place_lines : List PlainCertificate → List ℕ
 place_lines cs = places_below cs (length cs)
 
+-- where the certificates stand as JSON (RFC 8259): an array of objects
+abbrev pub place_json : List PlainCertificate → ℕ → PlainCertificate → List ℕ
+place_json cs place c =
+    codes "{\"place\":" ++ decimal place ++ codes ",\"offset\":"
+    ++ decimal (offset_at Bound cs place) ++ codes ",\"length\":"
+    ++ decimal (length (certificate_octets Bound c)) ++ codes "}"
+
+abbrev pub comma_before : ℕ → List ℕ
+comma_before zero = []
+comma_before (suc place) = codes ","
+
+abbrev pub json_places_below : List PlainCertificate → ℕ → List ℕ
+json_places_below cs zero = codes "["
+json_places_below cs (suc place) = json_places_below cs place ++ comma_before place
+    ++ option_map_or (place_json cs place) (slice_get cs place) []
+
+-- where the certificates stand, as JSON or in lines
+abbrev pub places_text : Bool → List PlainCertificate → List ℕ
+places_text true cs = json_places_below cs (length cs) ++ codes "]\n"
+places_text false cs = place_lines cs
+
 -- the octets of the certificates, the last one first
 abbrev pub reversed : List PlainCertificate → List ℕ
 reversed [] = []
@@ -41,12 +62,13 @@ abbrev pub IsEndTold : Device → Option Outcome → ExitStatus → Type 0
 IsEndTold err None answer = Untouched err × (answer ≡ statuses.Done)
 IsEndTold err (Some outcome) answer = IsStopTold err outcome answer
 
--- The lines of all certificates that were read go out, and then what ended the stream is told.
-abbrev pub IsListed : Device → Device → Kept → ExitStatus → Type 0
-IsListed out err b answer =
+-- Where all certificates stand that were read goes out, and then what ended the stream is told.
+abbrev pub IsListed : Bool → Device → Device → Kept → ExitStatus → Type 0
+IsListed json out err b answer =
     (Untouched out × IsMemoryTold err answer)
     ⊎ ((between : err.State) × (first : ExitStatus)
-    × IsAnswer out (record err { new = between }) (place_lines b.certificates) statuses.Done first
+    × IsAnswer out (record err { new = between }) (places_text json b.certificates) statuses.Done
+    first
     × (((first ≢ statuses.Done) × (answer ≡ first) × Untouched (record err { old = between }))
     ⊎ ((first ≡ statuses.Done) × IsEndTold (record err { old = between }) (stop_of b) answer)))
 

@@ -11,7 +11,7 @@ use Rattle.cert_desk_checking.specs.Anchors.{purpose_plain}
 use Rattle.cert_desk_checking.specs.Answers.{listed}
 use Rattle.cert_desk_checking.specs.Judges.{judge_answers, judge_questions}
 use Rattle.cert_desk_checking.specs.Questions.{Question}
-use Rattle.cert_desk_checking.specs.Runs.{IsOutcome, IsTold, judging}
+use Rattle.cert_desk_checking.specs.Runs.{IsOutcome, judging}
 use Rattle.cert_desk_checking.specs.Streams.{Kept}
 use Rattle.cert_tool_runs.specs.declared.arguments.Moment.{Moment}
 use Rattle.cert_tool_runs.specs.declared.arguments.Moment.TheVariants as moments
@@ -24,7 +24,7 @@ use Rattle.cert_tool_runs.specs.Asking.{IsAsked, IsAskedTold}
 use Rattle.cert_tool_runs.specs.Splitting.{IsListed, IsReversed, IsTaken}
 use Rattle.cert_tool_runs.specs.Stops.{FedWithin}
 use Rattle.cert_tool_runs.specs.Tasks.{AsksFor, IsMisuse}
-use Rattle.cert_tool_runs.specs.Verifying.{AreAnswers, IsNoneTold}
+use Rattle.cert_tool_runs.specs.Verifying.{AreAnswers, IsNoneTold, IsToldAs}
 
 -- the seconds that are meant; of the present any
 abbrev pub IsMeant : Moment → ℕ → Type 0
@@ -37,15 +37,14 @@ Begins d Holds = (between : d.State) × Holds (record d { new = between })
 
 -- A chain is judged by answers, at these seconds: the answers are read, and the run is as `check`
 -- says under a judge that says yes to these alone; or there are none, which is told.
-abbrev pub IsJudged : Device → Device → Device → Device → Device → ℕ → List ℕ → ℕ → ExitStatus
-    → Type 0
-IsJudged answers anchors stream out err seconds purpose limit answer =
+abbrev pub IsJudged : Device → Device → Device → Device → Device → ℕ → Task → ExitStatus → Type 0
+IsJudged answers anchors stream out err seconds task answer =
     ((listing : List Question) × (old_judge : AnswersJudge) × (new_judge : AnswersJudge)
     × (outcome : Outcome) × AreAnswers answers (Ok listing)
     × (judge_answers old_judge ≡ listed listing) × (judge_questions old_judge ≡ 0)
     × IsOutcome anchors stream (judging judge_answers judge_questions old_judge new_judge)
-    seconds purpose limit outcome
-    × IsTold out err outcome answer)
+    seconds (purpose_plain task.purpose) task.limit outcome
+    × IsToldAs task.json out err outcome answer)
     ⊎ ((none : NoAnswers) × AreAnswers answers (Err none) × Untouched anchors × Untouched stream
     × Untouched out × IsNoneTold err none answer)
 
@@ -54,8 +53,7 @@ abbrev pub IsVerified : Inputs → Device → Device → Task → ExitStatus →
 IsVerified i out err task answer =
     OfOpened i task.answers.now (λ answers. OfOpened i task.anchors.now (λ anchors.
     OfOpened i task.file.now (λ stream. (seconds : ℕ) × IsMeant task.moment seconds
-    × Begins err (λ told. IsJudged answers anchors stream out told seconds
-    (purpose_plain task.purpose) task.limit answer))))
+    × Begins err (λ told. IsJudged answers anchors stream out told seconds task answer))))
 
 -- `questions`
 abbrev pub IsListedFor : Inputs → Device → Device → Task → ExitStatus → Type 0
@@ -65,14 +63,14 @@ IsListedFor i out err task answer =
     × Begins err (λ told. IsAskedTold out told found answer)))
 
 -- `split`
-abbrev pub IsSplitAt : Option ℕ → Device → Device → Kept → ExitStatus → Type 0
-IsSplitAt None out err kept answer = IsListed out err kept answer
-IsSplitAt (Some place) out err kept answer = IsTaken out err kept place answer
+abbrev pub IsSplitAt : Bool → Option ℕ → Device → Device → Kept → ExitStatus → Type 0
+IsSplitAt json None out err kept answer = IsListed json out err kept answer
+IsSplitAt json (Some place) out err kept answer = IsTaken out err kept place answer
 
 abbrev pub IsSplit : Inputs → Device → Device → Task → ExitStatus → Type 0
 IsSplit i out err task answer =
     OfOpened i task.file.now (λ stream. (kept : Kept) × FedWithin stream task.limit kept
-    × Begins err (λ told. IsSplitAt task.place out told kept answer))
+    × Begins err (λ told. IsSplitAt task.json task.place out told kept answer))
 
 -- `reverse`
 abbrev pub IsTurned : Inputs → Device → Device → Task → ExitStatus → Type 0

@@ -1,6 +1,7 @@
 //! What differs between names that print alike, or nearly so.
 
 use crate::lines::Lines;
+use crate::reasons::begin_detail;
 use cert_desk_checking::certificates::{AttributeTypeAndValue, Name};
 
 // These octets behind the blanks in front.
@@ -48,23 +49,23 @@ pub(crate) fn are_alike(this: &Name, other: &Name) -> bool {
 }
 
 // Adds what differs between two attributes, if anything does.
-fn add_difference(
-    lines: &mut Lines<'_>,
-    this: &AttributeTypeAndValue,
-    other: &AttributeTypeAndValue,
-) {
+fn add_difference(lines: &mut Lines, this: &AttributeTypeAndValue, other: &AttributeTypeAndValue) {
     if this.value.tag() != other.value.tag() {
-        lines.identifier("    ", &this.oid, " is a ");
+        begin_detail(lines);
+        lines.identifier("", &this.oid, " is a ");
         lines.show("", this.value.tag(), " here and a ");
-        lines.show("", other.value.tag(), " there\n");
+        lines.show("", other.value.tag(), " there");
+        lines.end();
     }
     if this.value.value() != other.value.value() {
-        lines.identifier("    ", &this.oid, " differs in case or blanks\n");
+        begin_detail(lines);
+        lines.identifier("", &this.oid, " differs in case or blanks");
+        lines.end();
     }
 }
 
 // Adds in which attributes names differ that are alike.
-pub(crate) fn add_differences(lines: &mut Lines<'_>, this: &Name, other: &Name) {
+pub(crate) fn add_differences(lines: &mut Lines, this: &Name, other: &Name) {
     let mut others = other.iter();
     for attribute in this.iter() {
         if let Some(of_other) = others.next() {

@@ -1,13 +1,11 @@
 //! Why octets give no anchors.
 
-use crate::identifiers::{entries_of, known_identifiers};
 use crate::lines::Lines;
 use crate::refusal::{add_certificate_fault, is_pem};
 use crate::stream_refusal::PEM_STREAM;
-use crate::unjudged::add_unjudged;
+use crate::unjudged::{add_unjudged, begin_anchor};
 use cert_desk_checking::{AnchorFault, Outcome, Raw, TrustAnchorChoice, read_anchors};
 use cert_desk_io::FromRead;
-use const_oid::Database;
 use der_core::from_der_partial;
 use std::alloc::{AllocError, Global};
 
@@ -21,7 +19,7 @@ fn meaning(fault: AnchorFault) -> &'static str {
 }
 
 // Adds why no trust anchor begins these octets, which begin at an offset.
-fn add_malformed(lines: &mut Lines<'_>, rest: &[u8], offset: u64) {
+fn add_malformed(lines: &mut Lines, rest: &[u8], offset: u64) {
     let fault = from_der_partial::<TrustAnchorChoice<Raw>>(lines.alloc, rest).err();
     if let Some(error) = fault {
         add_certificate_fault(lines, rest, offset, &error);
@@ -29,10 +27,12 @@ fn add_malformed(lines: &mut Lines<'_>, rest: &[u8], offset: u64) {
 }
 
 // Adds the fault of the anchor that begins at an offset.
-fn add_anchor_fault(lines: &mut Lines<'_>, octets: &[u8], offset: u64, fault: AnchorFault) {
-    lines.count("anchor at octet ", offset, ": ");
-    lines.push(meaning(fault));
-    lines.push("\n");
+fn add_anchor_fault(lines: &mut Lines, octets: &[u8], offset: u64, fault: AnchorFault) {
+    begin_anchor(lines, offset);
+    lines.tail(": ");
+    lines.key("fault");
+    lines.text(meaning(fault));
+    lines.close();
     let start = offset as usize;
     match fault {
         AnchorFault::Malformed if start <= octets.len() => {
@@ -51,14 +51,18 @@ fn count_anchors(alloc: Global, octets: &[u8]) -> Result<usize, Outcome> {
 }
 
 // Adds what is to be said of octets that should be anchors.
-fn add_anchors(lines: &mut Lines<'_>, octets: &[u8]) {
+fn add_anchors(lines: &mut Lines, octets: &[u8]) {
     if is_pem(octets) {
-        lines.push(PEM_STREAM);
+        lines.finding(PEM_STREAM);
         return;
     }
     match count_anchors(lines.alloc, octets) {
         Ok(count) => {
-            lines.count("anchors: ", count as u64, ", each with a name and a key\n");
+            lines.entry("anchors:");
+            lines.key("anchors");
+            lines.count(count as u64);
+            lines.tail(", each with a name and a key");
+            lines.close();
             add_unjudged(lines, octets);
         }
         Err(Outcome::BadAnchors { offset, fault }) => {
@@ -70,10 +74,14 @@ fn add_anchors(lines: &mut Lines<'_>, octets: &[u8]) {
 
 // Why octets aren't trust anchors, one behind the other, each with a name and a key: the first
 // fault, and the octet where it stands. Of octets that are, what they say that isn't judged.
-pub(crate) fn explain_anchors(alloc: Global, octets: &[u8]) -> Result<String, AllocError> {
-    let identifiers = known_identifiers(alloc)?;
-    let entries = entries_of(alloc, identifiers.as_slice())?;
-    let mut lines = Lines::new(alloc, Database::new(entries.as_slice()));
+pub(crate) fn explain_anchors(
+    alloc: Global,
+    octets: &[u8],
+    is_json: bool,
+) -> Result<Vec<u8>, AllocError> {
+    let mut lines = Lines::new(alloc, is_json);
+    lines.list("findings");
     add_anchors(&mut lines, octets);
+    lines.end_list();
     lines.finish()
 }

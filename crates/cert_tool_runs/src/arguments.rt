@@ -33,6 +33,8 @@ pub(crate) struct Terms {
     pub(crate) purpose: ObjectIdentifier<39>,
     // The most octets that a certificate may have.
     pub(crate) limit: u32,
+    // Whether JSON is written.
+    pub(crate) is_json: bool,
 }
 
 // A number of one or more decimal digits, below 2^64. Leading zeros are read, and no sign.

@@ -4,11 +4,12 @@ use crate::alike_names::{add_differences, are_alike};
 use crate::chain_place::ChainPlace;
 use crate::heard::{Heard, add_algorithm};
 use crate::lines::Lines;
-use crate::reasons::{LengthReasons, add_reason_of};
+use crate::reasons::{LengthReasons, add_reason_of, begin_breach, begin_detail};
+use crate::remark_lines::end_remark;
 use crate::remarks::add_remarks;
 use crate::serial_numbers::SerialNumbers;
 use crate::stream_refusal::{LEAF_FIRST, is_leaf_first};
-use cert_desk_checking::certificates::Name;
+use cert_desk_checking::certificates::{Name, Time};
 use cert_desk_checking::{Anchor, Bundle, KeptRules, Rule};
 use const_oid::ObjectIdentifier;
 
@@ -39,61 +40,93 @@ pub(crate) struct Judged<'a> {
 }
 
 // Adds in what anchors' names differ that are like this one.
-fn add_near_anchors(lines: &mut Lines<'_>, issuer: &Name, anchors: &[Anchor]) {
+fn add_near_anchors(lines: &mut Lines, issuer: &Name, anchors: &[Anchor]) {
     for anchor in anchors {
         if are_alike(issuer, anchor.name()) {
-            lines.name("    and an anchor's is ", anchor.name(), "\n");
+            begin_detail(lines);
+            lines.name("and an anchor's is ", anchor.name(), "");
+            lines.end();
             add_differences(lines, issuer, anchor.name());
         }
     }
 }
 
 // Adds that the issuer isn't the one before, or no anchor (RFC 5280 6.1.3 (a) (4)).
-fn add_wrong_issuer(lines: &mut Lines<'_>, place: &ChainPlace<'_>, anchors: &[Anchor]) {
+fn add_wrong_issuer(lines: &mut Lines, place: &ChainPlace<'_>, anchors: &[Anchor]) {
     let issuer = place.issuer();
+    begin_breach(lines, Rule::WrongIssuer);
     match place.before() {
         None => {
-            let text = "  WrongIssuer: no anchor has the issuer's name ";
-            lines.name(text, issuer, "\n");
+            lines.name("no anchor has the issuer's name ", issuer, "");
+            begin_details(lines);
             add_near_anchors(lines, issuer, anchors);
         }
         Some(before) => {
-            lines.name("  WrongIssuer: the issuer is ", issuer, "\n");
-            lines.name("    and the subject before ", before.subject(), "\n");
+            lines.name("the issuer is ", issuer, "");
+            begin_details(lines);
+            begin_detail(lines);
+            lines.name("and the subject before ", before.subject(), "");
+            lines.end();
             if are_alike(issuer, before.subject()) {
                 add_differences(lines, issuer, before.subject());
             }
         }
     }
+    end_details(lines);
+}
+
+// Ends the reason, and begins what more there is about it.
+fn begin_details(lines: &mut Lines) {
+    lines.end();
+    lines.list("details");
+}
+
+// Ends that, and the rule.
+fn end_details(lines: &mut Lines) {
+    lines.end_list();
+    lines.close();
 }
 
 // Adds which algorithms differ (RFC 5280 4.1.1.2).
-fn add_algorithms(lines: &mut Lines<'_>, place: &ChainPlace<'_>) {
+fn add_algorithms(lines: &mut Lines, place: &ChainPlace<'_>) {
     let signed = &place.certificate.tbs_certificate().signature().oid;
     let outside = &place.certificate.signature_algorithm().oid;
-    lines.identifier("  AlgorithmsDiffer: ", signed, " is signed, and ");
+    begin_breach(lines, Rule::AlgorithmsDiffer);
+    lines.identifier("", signed, " is signed, and ");
     if signed == outside {
         lines.push("with other parameters it");
     } else {
         lines.identifier("", outside, "");
     }
-    lines.push(" stands outside (RFC 5280 4.1.1.2)\n");
+    lines.push(" stands outside");
+    end_remark(lines, "RFC 5280 4.1.1.2");
 }
 
 // Adds that no answer says that the signature is right (RFC 5280 6.1.3 (a) (1)).
-fn add_wrong_signature(lines: &mut Lines<'_>, place: &ChainPlace<'_>, heard: &Heard) {
+fn add_wrong_signature(lines: &mut Lines, place: &ChainPlace<'_>, heard: &Heard) {
+    begin_breach(lines, Rule::WrongSignature);
+    lines.push("no answer says that it is right under ");
     lines.push(if place.number == 0 {
-        "  WrongSignature: no answer says that it is right under an anchor's key\n"
+        "an anchor's key"
     } else {
-        "  WrongSignature: no answer says that it is right under the key before\n"
+        "the key before"
     });
+    begin_details(lines);
     add_algorithm(lines, &place.certificate.signature_algorithm().oid);
     heard.add(lines, place.signed);
+    end_details(lines);
+}
+
+// Adds that the dates aren't those of the moment.
+fn add_date_breach(lines: &mut Lines, rule: Rule, words: &str, date: &Time, behind: &str) {
+    begin_breach(lines, rule);
+    lines.show(words, date, behind);
+    end_remark(lines, "");
 }
 
 // Adds that the certificate at a place breaks a rule, and why.
 fn add_breach(
-    lines: &mut Lines<'_>,
+    lines: &mut Lines,
     place: &ChainPlace<'_>,
     rule: Rule,
     lengths: &mut LengthReasons,
@@ -104,12 +137,13 @@ fn add_breach(
     match rule {
         Rule::AlgorithmsDiffer => add_algorithms(lines, place),
         Rule::WrongIssuer => add_wrong_issuer(lines, place, judged.anchors),
-        Rule::NotYetValid => lines.date(
-            "  NotYetValid: it is valid from ",
-            &validity.not_before,
-            " on\n",
-        ),
-        Rule::Expired => lines.date("  Expired: it was valid until ", &validity.not_after, "\n"),
+        Rule::NotYetValid => {
+            let words = "it is valid from ";
+            add_date_breach(lines, rule, words, &validity.not_before, " on");
+        }
+        Rule::Expired => {
+            add_date_breach(lines, rule, "it was valid until ", &validity.not_after, "");
+        }
         Rule::PathTooLong => lengths.add(lines, place, purpose),
         Rule::WrongSignature => add_wrong_signature(lines, place, judged.heard),
         Rule::DuplicateExtension
@@ -122,14 +156,14 @@ fn add_breach(
 
 // Adds which rules the certificate at a place breaks, in the order in which they are judged.
 fn add_breaches(
-    lines: &mut Lines<'_>,
+    lines: &mut Lines,
     place: &ChainPlace<'_>,
     kept: &KeptRules,
     lengths: &mut LengthReasons,
     judged: &Judged<'_>,
 ) {
     if kept.first_broken().is_none() {
-        lines.push("  every rule is kept\n");
+        lines.finding("every rule is kept");
     }
     for rule in RULES.as_slice() {
         if !kept.keeps(*rule) {
@@ -138,21 +172,32 @@ fn add_breaches(
     }
 }
 
+// Begins what is found at a place.
+fn begin_place(lines: &mut Lines, place: &ChainPlace<'_>) {
+    lines.entry("certificate");
+    lines.key("certificate");
+    lines.count(place.number as u64);
+    lines.tail(", ");
+    lines.key("subject");
+    lines.name_value(place.certificate.tbs_certificate().subject());
+    lines.list("findings");
+}
+
 // Adds what each certificate of a chain breaks, as it was judged, with its first reason, and what
 // is unwise.
-pub(crate) fn add_chain(lines: &mut Lines<'_>, bundle: &Bundle, judged: &Judged<'_>) {
+pub(crate) fn add_chain(lines: &mut Lines, bundle: &Bundle, judged: &Judged<'_>) {
     if is_leaf_first(bundle) {
-        lines.push(LEAF_FIRST);
+        lines.finding(LEAF_FIRST);
     }
     let mut lengths = LengthReasons::of(lines, bundle, judged.kept, judged.purpose);
     let mut serial_numbers = SerialNumbers::new(lines.alloc);
     for (number, kept) in judged.kept.iter().enumerate() {
         if let Some(place) = ChainPlace::at(bundle, number) {
             let twin = serial_numbers.take(lines, &place);
-            lines.count("certificate ", number as u64, ", ");
-            lines.name("", place.certificate.tbs_certificate().subject(), "\n");
+            begin_place(lines, &place);
             add_breaches(lines, &place, kept, &mut lengths, judged);
             add_remarks(lines, &place, twin);
+            end_details(lines);
         }
     }
 }

@@ -3,7 +3,6 @@
 ghost use Rattle.std.specs.Prelude.{◌≡◌, ◌⊎◌, ◌≤◌, IfOk, IfErr, IfSome, OnOk};
 ghost use Rattle.cert_desk_io.specs.Devices.{sink, source};
 ghost use Rattle.cert_desk_io.specs.NamedInputs.{inputs};
-ghost use Rattle.cert_desk_checking.specs.Anchors.{purpose_plain};
 ghost use Rattle.cert_tool_runs.specs.TaskRuns.{IsMeant, IsJudged, IsVerified, IsListedFor};
 ghost use Rattle.cert_tool_runs.specs.TaskRuns.{IsStopped};
 
@@ -96,7 +95,7 @@ fn judged<I: Input, O: Output, E: Output>(
         (source I.takes I.is_ended I.failures anchors.old anchors.new)
         (source I.takes I.is_ended I.failures stream.old stream.new)
         (sink O.gives O.failures out.old out.new) (sink E.gives E.failures err.old err.new)
-        seconds (purpose_plain task.now.purpose) task.now.limit result }
+        seconds task.now result }
 {
     let verified = run_verify(
         alloc,
@@ -108,6 +107,7 @@ fn judged<I: Input, O: Output, E: Output>(
         seconds,
         &task.purpose,
         task.limit,
+        task.json,
     );
     match verified {
         Ok(status) => status,
@@ -191,6 +191,7 @@ pub(crate) fn explain<C: Clock, I: Input + Drop, F: NamedInputs<I>, O: Output, E
         moment,
         purpose: task.purpose,
         limit: task.limit,
+        is_json: task.json,
     };
     let status = explain_chain(
         alloc,

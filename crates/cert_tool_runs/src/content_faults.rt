@@ -56,8 +56,13 @@ pub(crate) fn content_fault(alloc: Global, extension: &Extension) -> Option<Erro
     }
 }
 
-// Adds that the content of an extension isn't one value of its kind, and why.
-pub(crate) fn add_content_fault(lines: &mut Lines<'_>, extension: &Extension, error: &Error) {
+// Adds that the content of an extension isn't one value of its kind, and why, to a text; answers
+// the section that says so.
+pub(crate) fn add_content_fault(
+    lines: &mut Lines,
+    extension: &Extension,
+    error: &Error,
+) -> &'static str {
     lines.note(error.kind);
     let place = match error.position {
         Some(position) => position.value as usize,
@@ -68,10 +73,8 @@ pub(crate) fn add_content_fault(lines: &mut Lines<'_>, extension: &Extension, er
         None => &[],
     };
     lines.identifier("", &extension.extn_id, " isn't one value of its kind: ");
-    lines.count("octet ", place as u64, " of its content: ");
-    lines.show(
-        "",
-        error.kind,
-        words_of(error.kind, rest, content_at(rest, 0)),
-    );
+    lines.show("octet ", place as u64, " of its content: ");
+    let (words, section) = words_of(error.kind, rest, content_at(rest, 0));
+    lines.show("", error.kind, words);
+    section
 }

@@ -24,41 +24,47 @@ use der_core::{DecodeValue, FixedTag, Leaf, SliceReader, from_der};
 
 // Adds the lines of a content that is one leaf, or that it isn't one.
 fn add_leaf<'a, T: Leaf<'a> + FixedTag, C: From<T> + Describe + Drop>(
-    lines: &mut Lines<'_>,
+    lines: &mut Lines,
     octets: &'a [u8],
 ) {
     match leaf_from_der::<T>(lines.alloc, octets) {
         Ok(leaf) => C::from(leaf).describe(lines),
-        Err(error) => lines.malformed(error.kind),
+        Err(error) => lines.malformed("malformed", error.kind),
     }
 }
 
 // Adds the lines of a content that is a list, or that it isn't one.
-pub(crate) fn add_members<'a, T, C>(lines: &mut Lines<'_>, octets: &'a [u8])
+pub(crate) fn add_members<'a, T, C>(lines: &mut Lines, octets: &'a [u8])
 where
     T: DecodeValue<'a, SliceReader<'a>> + FixedTag,
     C: From<Vec<T>> + Describe + Drop,
 {
     match from_der::<Vec<T>>(lines.alloc, octets) {
         Ok(list) => C::from(list).describe(lines),
-        Err(error) => lines.malformed(error.kind),
+        Err(error) => lines.malformed("malformed", error.kind),
     }
 }
 
 // Adds the lines of a content that is a record, or that it isn't one.
 fn add_record<'a, T: DecodeValue<'a, SliceReader<'a>> + FixedTag + Describe>(
-    lines: &mut Lines<'_>,
+    lines: &mut Lines,
     octets: &'a [u8],
 ) {
     match from_der::<T>(lines.alloc, octets) {
         Ok(record) => record.describe(lines),
-        Err(error) => lines.malformed(error.kind),
+        Err(error) => lines.malformed("malformed", error.kind),
     }
+}
+
+// Adds the line of a content of no kind that is known.
+fn add_octets(lines: &mut Lines, octets: &[u8]) {
+    lines.row("octets", "octets");
+    lines.octets(octets);
 }
 
 // Adds the lines of a content, by the last arc of its identifier below 2.5.29 (RFC 5280 4.2.1, 5.2,
 // 5.3).
-fn add_standard(lines: &mut Lines<'_>, number: u8, octets: &[u8]) {
+fn add_standard(lines: &mut Lines, number: u8, octets: &[u8]) {
     match number {
         14 => add_leaf::<OctetString, SubjectKeyIdentifier>(lines, octets),
         15 => add_leaf::<FlagSet<KeyUsages>, KeyUsage>(lines, octets),
@@ -80,12 +86,12 @@ fn add_standard(lines: &mut Lines<'_>, number: u8, octets: &[u8]) {
         36 => add_record::<PolicyConstraints>(lines, octets),
         37 => add_members::<ObjectIdentifier<39>, ExtendedKeyUsage>(lines, octets),
         54 => add_leaf::<u32, InhibitAnyPolicy>(lines, octets),
-        _ => lines.octets("  octets ", octets, "\n"),
+        _ => add_octets(lines, octets),
     }
 }
 
 // Adds the lines of the content of an extension.
-fn add_content_of(lines: &mut Lines<'_>, extension: &Extension) {
+fn add_content_of(lines: &mut Lines, extension: &Extension) {
     let octets = extension.extn_value.as_bytes();
     match extension.extn_id.as_bytes() {
         [0x55, 0x1d, number] => add_standard(lines, *number, octets),
@@ -99,19 +105,24 @@ fn add_content_of(lines: &mut Lines<'_>, extension: &Extension) {
         [0x2b, 6, 1, 4, 1, 0xd6, 0x79, 2, 4, 2] => {
             add_leaf::<OctetString, SignedCertificateTimestampList>(lines, octets)
         }
-        _ => lines.octets("  octets ", octets, "\n"),
+        _ => add_octets(lines, octets),
     }
 }
 
+// Adds the lines of an extension.
+fn add_extension(lines: &mut Lines, extension: &Extension) {
+    lines.entry("extension");
+    lines.members_of(&extension.extn_id);
+    lines.mark("critical", "critical", extension.critical);
+    add_content_of(lines, extension);
+    lines.close();
+}
+
 // Adds the lines of extensions, in their order.
-pub(crate) fn add_extensions(lines: &mut Lines<'_>, extensions: &[Extension]) {
+pub(crate) fn add_extensions(lines: &mut Lines, key: &str, extensions: &[Extension]) {
+    lines.list(key);
     for extension in extensions {
-        let behind = if extension.critical {
-            " critical\n"
-        } else {
-            "\n"
-        };
-        lines.identifier("extension ", &extension.extn_id, behind);
-        add_content_of(lines, extension);
+        add_extension(lines, extension);
     }
+    lines.end_list();
 }

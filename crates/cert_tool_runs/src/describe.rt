@@ -5,5 +5,5 @@ use crate::lines::Lines;
 // The content of an extension, or a key.
 pub(crate) trait Describe {
     // Adds its lines.
-    fn describe(&self, lines: &mut Lines<'_>);
+    fn describe(&self, lines: &mut Lines);
 }

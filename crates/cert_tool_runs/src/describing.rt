@@ -1,20 +1,18 @@
 //! Descriptions of files.
 
 use crate::description::add_certificate;
-use crate::identifiers::{entries_of, known_identifiers};
 use crate::kind::Kind;
 use crate::lines::Lines;
 use crate::lists::add_list;
 use crate::refusal::explain_octets;
 use crate::requests::add_request;
 use cert_desk_io::{ExitStatus, Output, answer, complain, tell_memory};
-use const_oid::Database;
 use der_core::ErrorKind;
 use std::alloc::{AllocError, Global};
 
 // Adds the lines of what these octets spell; answers why they spell no value of the kind, if they
 // don't.
-fn add_described(lines: &mut Lines<'_>, kind: Kind, octets: &[u8]) -> Option<ErrorKind> {
+fn add_described(lines: &mut Lines, kind: Kind, octets: &[u8]) -> Option<ErrorKind> {
     match kind {
         Kind::Certificate => add_certificate(lines, octets),
         Kind::List => add_list(lines, octets),
@@ -22,12 +20,14 @@ fn add_described(lines: &mut Lines<'_>, kind: Kind, octets: &[u8]) -> Option<Err
     }
 }
 
-// The description of what these octets spell, with the names of what is well known, if they spell a
-// value of the kind.
-fn described(alloc: Global, kind: Kind, octets: &[u8]) -> Result<Option<String>, AllocError> {
-    let identifiers = known_identifiers(alloc)?;
-    let entries = entries_of(alloc, identifiers.as_slice())?;
-    let mut lines = Lines::new(alloc, Database::new(entries.as_slice()));
+// The description of what these octets spell, if they spell a value of the kind.
+fn described(
+    alloc: Global,
+    kind: Kind,
+    octets: &[u8],
+    is_json: bool,
+) -> Result<Option<Vec<u8>>, AllocError> {
+    let mut lines = Lines::new(alloc, is_json);
     match add_described(&mut lines, kind, octets) {
         None => {
             let text = lines.finish()?;
@@ -40,8 +40,8 @@ fn described(alloc: Global, kind: Kind, octets: &[u8]) -> Result<Option<String>,
 
 // Tells why octets aren't of a kind.
 fn refuse<E: Output>(alloc: Global, kind: Kind, octets: &[u8], err: &mut E) -> ExitStatus {
-    match explain_octets(alloc, octets, kind) {
-        Ok(text) => complain(err, text.as_bytes(), ExitStatus::Faulty),
+    match explain_octets(alloc, octets, kind, false) {
+        Ok(text) => complain(err, text.as_slice(), ExitStatus::Faulty),
         Err(_) => tell_memory(err),
     }
 }
@@ -52,11 +52,12 @@ pub(crate) fn describe<O: Output, E: Output>(
     alloc: Global,
     kind: Kind,
     octets: &[u8],
+    is_json: bool,
     out: &mut O,
     err: &mut E,
 ) -> ExitStatus {
-    match described(alloc, kind, octets) {
-        Ok(Some(text)) => answer(out, err, text.as_bytes(), ExitStatus::Done),
+    match described(alloc, kind, octets, is_json) {
+        Ok(Some(text)) => answer(out, err, text.as_slice(), ExitStatus::Done),
         Ok(None) => refuse(alloc, kind, octets, err),
         Err(_) => tell_memory(err),
     }

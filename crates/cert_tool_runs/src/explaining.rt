@@ -5,7 +5,6 @@ ghost use Rattle.std.specs.Prelude.{◌≤◌};
 use crate::arguments::Terms;
 use crate::breaches::{Judged, add_chain};
 use crate::heard::Heard;
-use crate::identifiers::{entries_of, known_identifiers};
 use crate::lines::Lines;
 use crate::reading::tell_text;
 use crate::verifying::{read_answers, tell_none};
@@ -13,15 +12,19 @@ use cert_desk_checking::{
     Anchor, Answer, AnswersJudge, Bundle, Outcome, Standing, judge_each, read_anchors, read_stream,
 };
 use cert_desk_io::{ExitStatus, Input, Output, complain, tell_device, tell_memory};
-use const_oid::Database;
 use std::alloc::{AllocError, Global};
 
 // What each certificate of a chain breaks, as it was judged.
-fn told(alloc: Global, bundle: &Bundle, judged: &Judged<'_>) -> Result<String, AllocError> {
-    let identifiers = known_identifiers(alloc)?;
-    let entries = entries_of(alloc, identifiers.as_slice())?;
-    let mut lines = Lines::new(alloc, Database::new(entries.as_slice()));
+fn told(
+    alloc: Global,
+    bundle: &Bundle,
+    judged: &Judged<'_>,
+    is_json: bool,
+) -> Result<Vec<u8>, AllocError> {
+    let mut lines = Lines::new(alloc, is_json);
+    lines.list("findings");
     add_chain(&mut lines, bundle, judged);
+    lines.end_list();
     lines.finish()
 }
 
@@ -32,7 +35,7 @@ fn explained(
     anchors: &[Anchor],
     terms: &Terms,
     answers: Vec<Answer>,
-) -> Result<String, AllocError> {
+) -> Result<Vec<u8>, AllocError> {
     let purpose = &terms.purpose;
     let heard = Heard::of(alloc, answers.as_slice())?;
     let mut judge = AnswersJudge::new(answers);
@@ -43,7 +46,7 @@ fn explained(
         heard: &heard,
         purpose,
     };
-    told(alloc, bundle, &judged)
+    told(alloc, bundle, &judged, terms.is_json)
 }
 
 // The anchors that an input gives. Where there are none, that is told, and the status is the error.

@@ -3,10 +3,11 @@
 
 use crate::lines::Lines;
 use crate::name_remarks::add_name_remarks;
-use crate::remark_lines::{Seen, add_each};
+use crate::remark_lines::{Seen, add_each, begin_remark, end_remark};
 use cert_desk_checking::certificates::Extension;
 use cert_desk_checking::types::general_names::{
-    AuthorityKeyIdentifier, DistributionPoint, GeneralName, GeneralSubtree, NameConstraints,
+    AuthorityKeyIdentifier, DistributionPoint, GeneralName, GeneralSubtree,
+    IssuingDistributionPoint, NameConstraints,
 };
 use cert_desk_checking::types::policies::{PolicyConstraints, PolicyInformation, PolicyMapping};
 use const_oid::ObjectIdentifier;
@@ -27,75 +28,67 @@ pub(crate) type Mark = (u16, bool, &'static str, &'static str);
 
 // Those of certificates (RFC 5280 4.2).
 pub(crate) const OF_CERTIFICATES: [Mark; 9] = [
-    (9, false, "subjectDirectoryAttributes", "4.2.1.8"),
-    (14, false, "subjectKeyIdentifier", "4.2.1.2"),
-    (30, true, "nameConstraints", "4.2.1.10"),
-    (35, false, "authorityKeyIdentifier", "4.2.1.1"),
-    (36, true, "policyConstraints", "4.2.1.11"),
-    (46, false, "freshestCRL", "4.2.1.15"),
-    (54, true, "inhibitAnyPolicy", "4.2.1.14"),
-    (257, false, "authorityInfoAccess", "4.2.2.1"),
-    (267, false, "subjectInfoAccess", "4.2.2.2"),
+    (9, false, "subjectDirectoryAttributes", "RFC 5280 4.2.1.8"),
+    (14, false, "subjectKeyIdentifier", "RFC 5280 4.2.1.2"),
+    (30, true, "nameConstraints", "RFC 5280 4.2.1.10"),
+    (35, false, "authorityKeyIdentifier", "RFC 5280 4.2.1.1"),
+    (36, true, "policyConstraints", "RFC 5280 4.2.1.11"),
+    (46, false, "freshestCRL", "RFC 5280 4.2.1.15"),
+    (54, true, "inhibitAnyPolicy", "RFC 5280 4.2.1.14"),
+    (257, false, "authorityInfoAccess", "RFC 5280 4.2.2.1"),
+    (267, false, "subjectInfoAccess", "RFC 5280 4.2.2.2"),
 ];
 
 // Those of lists (RFC 5280 5.2).
 pub(crate) const OF_LISTS: [Mark; 6] = [
-    (20, false, "cRLNumber", "5.2.3"),
-    (27, true, "deltaCRLIndicator", "5.2.4"),
-    (28, true, "issuingDistributionPoint", "5.2.5"),
-    (35, false, "authorityKeyIdentifier", "4.2.1.1"),
-    (46, false, "freshestCRL", "5.2.6"),
-    (257, false, "authorityInfoAccess", "5.2.7"),
+    (20, false, "cRLNumber", "RFC 5280 5.2.3"),
+    (27, true, "deltaCRLIndicator", "RFC 5280 5.2.4"),
+    (28, true, "issuingDistributionPoint", "RFC 5280 5.2.5"),
+    (35, false, "authorityKeyIdentifier", "RFC 5280 4.2.1.1"),
+    (46, false, "freshestCRL", "RFC 5280 5.2.6"),
+    (257, false, "authorityInfoAccess", "RFC 5280 5.2.7"),
 ];
 
 // The number of a kind whose content must not be an empty sequence, its name, and the section.
 type Filled = (u16, &'static str, &'static str);
 
 const FILLED: [Filled; 10] = [
-    (17, "subjectAltName", "4.2.1.6"),
-    (18, "issuerAltName", "4.2.1.7"),
-    (28, "issuingDistributionPoint", "5.2.5"),
-    (30, "nameConstraints", "4.2.1.10"),
-    (31, "cRLDistributionPoints", "4.2.1.13"),
-    (32, "certificatePolicies", "4.2.1.4"),
-    (33, "policyMappings", "4.2.1.5"),
-    (36, "policyConstraints", "4.2.1.11"),
-    (37, "extKeyUsage", "4.2.1.12"),
-    (46, "freshestCRL", "4.2.1.15"),
+    (17, "subjectAltName", "RFC 5280 4.2.1.6"),
+    (18, "issuerAltName", "RFC 5280 4.2.1.7"),
+    (28, "issuingDistributionPoint", "RFC 5280 5.2.5"),
+    (30, "nameConstraints", "RFC 5280 4.2.1.10"),
+    (31, "cRLDistributionPoints", "RFC 5280 4.2.1.13"),
+    (32, "certificatePolicies", "RFC 5280 4.2.1.4"),
+    (33, "policyMappings", "RFC 5280 4.2.1.5"),
+    (36, "policyConstraints", "RFC 5280 4.2.1.11"),
+    (37, "extKeyUsage", "RFC 5280 4.2.1.12"),
+    (46, "freshestCRL", "RFC 5280 4.2.1.15"),
 ];
 
 // Adds a remark of an extension, and its section.
-fn add_of(lines: &mut Lines<'_>, blanks: &str, parts: [&str; 3]) {
+fn add_of(lines: &mut Lines, parts: [&str; 3]) {
     let [name, text, section] = parts;
-    lines.push(blanks);
-    lines.push("remark: ");
+    begin_remark(lines);
     lines.push(name);
     lines.push(text);
-    lines.push(" (RFC 5280 ");
-    lines.push(section);
-    lines.push(")\n");
+    end_remark(lines, section);
 }
 
 // Adds that the content of an extension is an empty sequence, which must not be one.
-fn add_empty_remark(lines: &mut Lines<'_>, blanks: &str, extension: &Extension) {
+fn add_empty_remark(lines: &mut Lines, extension: &Extension) {
     let kind = number_of(extension);
     if let [0x30, 0] = extension.extn_value.as_bytes() {
         for row in &FILLED {
             let (number, name, section) = *row;
             if number == kind {
-                add_of(lines, blanks, [name, " is an empty sequence", section]);
+                add_of(lines, [name, " is an empty sequence", section]);
             }
         }
     }
 }
 
 // Adds whether extensions are critical that must not be, or the other way round.
-pub(crate) fn add_mark_remarks(
-    lines: &mut Lines<'_>,
-    blanks: &str,
-    extension: &Extension,
-    marks: &[Mark],
-) {
+pub(crate) fn add_mark_remarks(lines: &mut Lines, extension: &Extension, marks: &[Mark]) {
     let kind = number_of(extension);
     for row in marks {
         let (number, is_critical, name, section) = *row;
@@ -105,14 +98,14 @@ pub(crate) fn add_mark_remarks(
             } else {
                 " is critical"
             };
-            add_of(lines, blanks, [name, text, section]);
+            add_of(lines, [name, text, section]);
         }
     }
 }
 
 // The value that a content is, if it is one.
 pub(crate) fn value_in<'a, T: DecodeValue<'a, SliceReader<'a>> + FixedTag>(
-    lines: &mut Lines<'_>,
+    lines: &mut Lines,
     octets: &'a [u8],
 ) -> Option<T> {
     match from_der::<T>(lines.alloc, octets) {
@@ -125,9 +118,9 @@ pub(crate) fn value_in<'a, T: DecodeValue<'a, SliceReader<'a>> + FixedTag>(
 }
 
 // Of other names.
-fn add_names_remarks(lines: &mut Lines<'_>, blanks: &str, octets: &[u8]) {
+fn add_names_remarks(lines: &mut Lines, octets: &[u8]) {
     if let Some(listed) = value_in::<Vec<GeneralName>>(lines, octets) {
-        add_name_remarks(lines, blanks, listed.as_slice());
+        add_name_remarks(lines, listed.as_slice());
     }
 }
 
@@ -143,7 +136,7 @@ fn is_no_range(name: &GeneralName) -> bool {
 }
 
 // Of subtrees.
-fn add_subtree_remarks(lines: &mut Lines<'_>, blanks: &str, subtrees: &[GeneralSubtree]) {
+fn add_subtree_remarks(lines: &mut Lines, subtrees: &[GeneralSubtree]) {
     let mut has_distance = false;
     let mut has_no_range = false;
     for subtree in subtrees {
@@ -152,22 +145,23 @@ fn add_subtree_remarks(lines: &mut Lines<'_>, blanks: &str, subtrees: &[GeneralS
     }
     add_each(
         lines,
-        blanks,
         &[
             (
                 has_distance,
-                "nameConstraints have a minimum or a maximum (RFC 5280 4.2.1.10)",
+                "nameConstraints have a minimum or a maximum",
+                "RFC 5280 4.2.1.10",
             ),
             (
                 has_no_range,
-                "nameConstraints have an address without a mask of its size (RFC 5280 4.2.1.10)",
+                "nameConstraints have an address without a mask of its size",
+                "RFC 5280 4.2.1.10",
             ),
         ],
     );
 }
 
 // Of constraints on names.
-fn add_constraint_remarks(lines: &mut Lines<'_>, blanks: &str, octets: &[u8]) {
+fn add_constraint_remarks(lines: &mut Lines, octets: &[u8]) {
     let Some(constraints) = value_in::<NameConstraints>(lines, octets) else {
         return;
     };
@@ -176,13 +170,13 @@ fn add_constraint_remarks(lines: &mut Lines<'_>, blanks: &str, octets: &[u8]) {
         &constraints.excluded_subtrees,
     ] {
         if let Some(subtrees) = subtrees {
-            add_subtree_remarks(lines, blanks, subtrees.as_slice());
+            add_subtree_remarks(lines, subtrees.as_slice());
         }
     }
 }
 
 // Of points where lists stand.
-fn add_point_remarks(lines: &mut Lines<'_>, blanks: &str, octets: &[u8]) {
+fn add_point_remarks(lines: &mut Lines, octets: &[u8]) {
     let Some(points) = value_in::<Vec<DistributionPoint>>(lines, octets) else {
         return;
     };
@@ -190,12 +184,34 @@ fn add_point_remarks(lines: &mut Lines<'_>, blanks: &str, octets: &[u8]) {
     for point in &points {
         is_bare = is_bare || (point.distribution_point.is_none() && point.crl_issuer.is_none());
     }
-    let text = "a distribution point has neither a name nor an issuer (RFC 5280 4.2.1.13)";
-    add_each(lines, blanks, &[(is_bare, text)]);
+    let text = "a distribution point has neither a name nor an issuer";
+    add_each(lines, &[(is_bare, text, "RFC 5280 4.2.1.13")]);
+}
+
+// Of the certificates that a list has (RFC 5280 5.2.5).
+fn add_scope_remarks(lines: &mut Lines, octets: &[u8]) {
+    let Some(point) = value_in::<IssuingDistributionPoint>(lines, octets) else {
+        return;
+    };
+    add_each(
+        lines,
+        &[
+            (
+                point.only_contains_user_certs && point.only_contains_ca_certs,
+                "a list has only certificates of subscribers, and of authorities",
+                "RFC 5280 5.2.5",
+            ),
+            (
+                point.only_contains_attribute_certs,
+                "a list has only attribute certificates",
+                "RFC 5280 5.2.5",
+            ),
+        ],
+    );
 }
 
 // Of policies.
-fn add_policy_remarks(lines: &mut Lines<'_>, blanks: &str, octets: &[u8]) {
+fn add_policy_remarks(lines: &mut Lines, octets: &[u8]) {
     let Some(policies) = value_in::<Vec<PolicyInformation>>(lines, octets) else {
         return;
     };
@@ -204,8 +220,10 @@ fn add_policy_remarks(lines: &mut Lines<'_>, blanks: &str, octets: &[u8]) {
     for policy in &policies {
         has_twins = seen.take(lines, policy.policy_identifier.as_bytes()) || has_twins;
     }
-    let text = "a policy stands twice (RFC 5280 4.2.1.4)";
-    add_each(lines, blanks, &[(has_twins, text)]);
+    add_each(
+        lines,
+        &[(has_twins, "a policy stands twice", "RFC 5280 4.2.1.4")],
+    );
 }
 
 // Whether an identifier is anyPolicy, 2.5.29.32.0.
@@ -214,7 +232,7 @@ fn is_any_policy(identifier: &ObjectIdentifier<39>) -> bool {
 }
 
 // Of policies that stand for others.
-fn add_mapping_remarks(lines: &mut Lines<'_>, blanks: &str, octets: &[u8]) {
+fn add_mapping_remarks(lines: &mut Lines, octets: &[u8]) {
     let Some(mappings) = value_in::<Vec<PolicyMapping>>(lines, octets) else {
         return;
     };
@@ -224,31 +242,34 @@ fn add_mapping_remarks(lines: &mut Lines<'_>, blanks: &str, octets: &[u8]) {
             || is_any_policy(&mapping.issuer_domain_policy)
             || is_any_policy(&mapping.subject_domain_policy);
     }
-    let text = "anyPolicy is mapped (RFC 5280 4.2.1.5)";
-    add_each(lines, blanks, &[(has_any, text)]);
+    add_each(
+        lines,
+        &[(has_any, "anyPolicy is mapped", "RFC 5280 4.2.1.5")],
+    );
 }
 
 // Of the key of the issuer.
-fn add_issuer_key_remarks(lines: &mut Lines<'_>, blanks: &str, octets: &[u8]) {
+fn add_issuer_key_remarks(lines: &mut Lines, octets: &[u8]) {
     if let Some(key) = value_in::<AuthorityKeyIdentifier>(lines, octets) {
         let has_issuer = key.authority_cert_issuer.is_some();
         let is_half = has_issuer != key.authority_cert_serial_number.is_some();
-        let text = "authorityKeyIdentifier has one of issuer and serial number (RFC 5280 A.2)";
-        add_each(lines, blanks, &[(is_half, text)]);
+        let text = "authorityKeyIdentifier has one of issuer and serial number";
+        add_each(lines, &[(is_half, text, "RFC 5280 A.2")]);
     }
 }
 
 // Adds what the content of an extension must not be, though it is one value of its kind.
-pub(crate) fn add_content_remarks(lines: &mut Lines<'_>, blanks: &str, extension: &Extension) {
+pub(crate) fn add_content_remarks(lines: &mut Lines, extension: &Extension) {
     let octets = extension.extn_value.as_bytes();
-    add_empty_remark(lines, blanks, extension);
+    add_empty_remark(lines, extension);
     match number_of(extension) {
-        17 | 18 => add_names_remarks(lines, blanks, octets),
-        30 => add_constraint_remarks(lines, blanks, octets),
-        31 | 46 => add_point_remarks(lines, blanks, octets),
-        32 => add_policy_remarks(lines, blanks, octets),
-        33 => add_mapping_remarks(lines, blanks, octets),
-        35 => add_issuer_key_remarks(lines, blanks, octets),
+        17 | 18 => add_names_remarks(lines, octets),
+        28 => add_scope_remarks(lines, octets),
+        30 => add_constraint_remarks(lines, octets),
+        31 | 46 => add_point_remarks(lines, octets),
+        32 => add_policy_remarks(lines, octets),
+        33 => add_mapping_remarks(lines, octets),
+        35 => add_issuer_key_remarks(lines, octets),
         _ => {}
     }
 }

@@ -2,6 +2,9 @@
 
 use der_core::{ErrorKind, Tag};
 
+// Why something is wrong, and the section that says so, if one does.
+type Words = (&'static str, &'static str);
+
 // The number that two digits at a place spell.
 fn two(octets: &[u8], place: usize) -> Option<u8> {
     match (octets.get(place), octets.get(place.saturating_add(1))) {
@@ -22,40 +25,43 @@ fn spells(octets: &[u8], place: usize, least: u8, most: u8) -> bool {
 }
 
 // What is wrong with month, day, hour, minute and second, each two digits.
-fn clock_words(octets: &[u8]) -> &'static str {
+fn clock_words(octets: &[u8]) -> Words {
     if !spells(octets, 0, 1, 12) {
-        ": its month isn't one from 01 to 12"
+        (": its month isn't one from 01 to 12", "")
     } else if !spells(octets, 2, 1, 31) {
-        ": its day isn't one from 01 to 31"
+        (": its day isn't one from 01 to 31", "")
     } else if !spells(octets, 4, 0, 23) {
-        ": its hour isn't one from 00 to 23"
+        (": its hour isn't one from 00 to 23", "")
     } else if !spells(octets, 6, 0, 59) {
-        ": its minute isn't one from 00 to 59"
+        (": its minute isn't one from 00 to 59", "")
     } else if !spells(octets, 8, 0, 59) {
-        ": its second isn't one from 00 to 59"
+        (": its second isn't one from 00 to 59", "")
     } else {
-        ": its month has no such day"
+        (": its month has no such day", "")
     }
 }
 
 // What is wrong with a UTCTime (X.690 11.8).
-fn utc_words(content: &[u8]) -> &'static str {
+fn utc_words(content: &[u8]) -> Words {
     match content {
         [.., b'Z'] => {}
-        _ => return ": it doesn't end with Z (X.690 11.8.1)",
+        _ => return (": it doesn't end with Z", "X.690 11.8.1"),
     }
     match content {
         [_, _, rest @ ..] if rest.len() == 11 => {
             if spells(content, 0, 50, 69) {
-                return ": its year is one from 1950 to 1969, and dates are read from 1970 on";
+                return (
+                    ": its year is one from 1950 to 1969, and dates are read from 1970 on",
+                    "",
+                );
             }
             if two(content, 0).is_none() {
-                return ": its year isn't two digits";
+                return (": its year isn't two digits", "");
             }
             clock_words(rest)
         }
-        [..] if content.len() == 11 => ": it has no seconds (X.690 11.8.2)",
-        _ => ": it isn't written YYMMDDHHMMSSZ (X.690 11.8)",
+        [..] if content.len() == 11 => (": it has no seconds", "X.690 11.8.2"),
+        _ => (": it isn't written YYMMDDHHMMSSZ", "X.690 11.8"),
     }
 }
 
@@ -65,83 +71,92 @@ fn is_early(octets: &[u8]) -> bool {
 }
 
 // What is wrong with a GeneralizedTime (X.690 11.7, RFC 5280 4.1.2.5.2).
-fn generalized_words(content: &[u8]) -> &'static str {
+fn generalized_words(content: &[u8]) -> Words {
     match content {
         [.., b'Z'] => {}
-        _ => return ": it doesn't end with Z (X.690 11.7.1)",
+        _ => return (": it doesn't end with Z", "X.690 11.7.1"),
     }
     match content {
         [_, _, _, _, rest @ ..] if rest.len() == 11 => {
             if is_early(content) {
-                return ": its year is one before 1970, and dates are read from 1970 on";
+                return (
+                    ": its year is one before 1970, and dates are read from 1970 on",
+                    "",
+                );
             }
             if two(content, 0).is_none() || two(content, 2).is_none() {
-                return ": its year isn't four digits";
+                return (": its year isn't four digits", "");
             }
             clock_words(rest)
         }
         [_, _, _, _, _, _, _, _, _, _, _, _, _, _, b'.' | b',', ..] => {
-            ": it has a fraction of a second (RFC 5280 4.1.2.5.2)"
+            (": it has a fraction of a second", "RFC 5280 4.1.2.5.2")
         }
-        _ => ": it isn't written YYYYMMDDHHMMSSZ (RFC 5280 4.1.2.5.2)",
+        _ => (": it isn't written YYYYMMDDHHMMSSZ", "RFC 5280 4.1.2.5.2"),
     }
 }
 
 // What is said of a default that is written.
-const DEFAULT: &str = ": it is the default, which isn't written (X.690 11.5)";
+const DEFAULT: Words = (": it is the default, which isn't written", "X.690 11.5");
 
 // Why a value isn't in the form of DER.
-fn form_words(tag: Tag, content: &[u8]) -> &'static str {
+fn form_words(tag: Tag, content: &[u8]) -> Words {
     match (tag, content) {
         (Tag::Boolean, [0 | 0xff]) => DEFAULT,
-        (Tag::Boolean, _) => ": TRUE is FF (X.690 11.1)",
+        (Tag::Boolean, _) => (": TRUE is FF", "X.690 11.1"),
         (Tag::Integer | Tag::Enumerated, [0, 0..=0x7f, ..] | [0xff, 0x80..=0xff, ..]) => {
-            ": its first octet counts for nothing (X.690 8.3.2)"
+            (": its first octet counts for nothing", "X.690 8.3.2")
         }
-        (Tag::Null, _) => ": it has a content (X.690 8.8.2)",
+        (Tag::Null, _) => (": it has a content", "X.690 8.8.2"),
         (Tag::Integer | Tag::Enumerated, _) => DEFAULT,
         _ if tag.is_constructed() => DEFAULT,
-        _ => "",
+        _ => ("", ""),
     }
 }
 
 // What is wrong with a BIT STRING.
-fn bits_words(content: &[u8]) -> &'static str {
+fn bits_words(content: &[u8]) -> Words {
     match content {
-        [8..=0xff, ..] => ": more than 7 bits are unused (X.690 8.6.2.2)",
-        [_] => ": bits are unused where none stand (X.690 8.6.2.3)",
+        [8..=0xff, ..] => (": more than 7 bits are unused", "X.690 8.6.2.2"),
+        [_] => (": bits are unused where none stand", "X.690 8.6.2.3"),
         [unused, .., last] if last & !(0xffu8 << (*unused & 7)) != 0 => {
-            ": its unused bits aren't zero (X.690 11.2.1)"
+            (": its unused bits aren't zero", "X.690 11.2.1")
         }
-        _ => ": it ends with a zero bit, or has a bit without a name (X.690 11.2.2)",
+        _ => (
+            ": it ends with a zero bit, or has a bit without a name",
+            "X.690 11.2.2",
+        ),
     }
 }
 
 // Why a value isn't one of its type.
-fn value_words(tag: Tag, content: &[u8]) -> &'static str {
+fn value_words(tag: Tag, content: &[u8]) -> Words {
     match tag {
         Tag::UtcTime => utc_words(content),
         Tag::GeneralizedTime => generalized_words(content),
         Tag::BitString => bits_words(content),
-        Tag::PrintableString => ": it has a character that isn't one of its own (X.680 41.4)",
-        Tag::Ia5String => ": it has an octet above 7F",
-        _ => "",
+        Tag::PrintableString => (
+            ": it has a character that isn't one of its own",
+            "X.680 41.4",
+        ),
+        Tag::Ia5String => (": it has an octet above 7F", ""),
+        _ => ("", ""),
     }
 }
 
 // Why the first of these octets begin no value that is right, behind the kind of the fault, in the
 // words of the standards; nothing where the kind says all. The content is that of the value.
-pub(crate) fn words_of(kind: ErrorKind, octets: &[u8], content: &[u8]) -> &'static str {
+pub(crate) fn words_of(kind: ErrorKind, octets: &[u8], content: &[u8]) -> Words {
     match (kind, octets) {
         (ErrorKind::Noncanonical { tag }, _) => form_words(tag, content),
         (ErrorKind::Value { tag }, _) => value_words(tag, content),
         (ErrorKind::Length { .. }, [_, 0x81, 0..=0x7f, ..] | [_, 0x82..=0x84, 0, ..]) => {
-            ": it isn't spelled in the fewest octets (X.690 10.1)"
+            (": it isn't spelled in the fewest octets", "X.690 10.1")
         }
         (ErrorKind::SetOrdering | ErrorKind::SetDuplicate, _) => {
-            ": their encodings rise (X.690 11.6)"
+            (": their encodings rise", "X.690 11.6")
         }
-        (ErrorKind::IndefiniteLength, _) => " (X.690 10.1)",
-        _ => "",
+        (ErrorKind::IndefiniteLength, _) => ("", "X.690 10.1"),
+        _ => ("", ""),
     }
 }

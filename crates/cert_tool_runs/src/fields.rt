@@ -203,35 +203,51 @@ impl Fields {
     }
 
     // Adds which parts may stand there, as a line; nothing where none may.
-    pub(crate) fn add(&self, lines: &mut Lines<'_>) {
-        let mut before = "  there may stand ";
+    pub(crate) fn add(&self, lines: &mut Lines) {
+        let mut is_first = true;
+        lines.list("expected");
         for (number, field) in fields_of(self.node).iter().enumerate() {
             let (tag, is_optional, name, _) = *field;
             if number >= self.from {
-                lines.push(before);
+                if is_first {
+                    lines.line();
+                    lines.word("there may stand");
+                } else {
+                    lines.tail(", ");
+                }
                 add_part(lines, tag, name);
-                before = ", ";
+                is_first = false;
                 if !is_optional {
                     break;
                 }
             }
         }
-        if before == ", " {
-            lines.push("\n");
-        }
+        lines.end_list();
     }
 }
 
 // Adds a part, with the tag that it has.
-fn add_part(lines: &mut Lines<'_>, tag: u8, name: &str) {
-    lines.push(name);
+fn add_part(lines: &mut Lines, tag: u8, name: &str) {
+    lines.comma();
+    lines.brace();
+    lines.key("part");
+    lines.text(name);
     match tag {
         ANY => {}
-        TIME => lines.push(" (UTCTime or GeneralizedTime)"),
+        TIME => {
+            lines.tail(" (");
+            lines.key("type");
+            lines.text("UTCTime or GeneralizedTime");
+            lines.tail(")");
+        }
         _ => {
             if let Ok(tag) = Tag::peek(&[tag]) {
-                lines.show(" (", tag, ")");
+                lines.tail(" (");
+                lines.key("type");
+                lines.value(tag);
+                lines.tail(")");
             }
         }
     }
+    lines.end_brace();
 }

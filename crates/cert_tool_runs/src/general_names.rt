@@ -3,19 +3,19 @@
 ghost use Rattle.std.specs.Prelude.{◌≡◌, length};
 
 use crate::lines::Lines;
-use crate::values::{add_name, add_value};
+use crate::values::{add_name_members, add_value};
 use cert_desk_checking::types::general_names::GeneralName;
 use der_core::{Error, from_der};
 use std::alloc::Global;
 use std::net::{Ipv4Addr, Ipv6Addr};
 
-// Adds an address, or one and its mask (RFC 5280 4.2.1.10), and ends the line.
-fn add_address(lines: &mut Lines<'_>, octets: &[u8]) {
+// Adds an address, or one and its mask (RFC 5280 4.2.1.10).
+fn add_address(lines: &mut Lines, octets: &[u8]) {
     match octets {
-        [a, b, c, d] => lines.show("IP ", Ipv4Addr::new(*a, *b, *c, *d), "\n"),
+        [a, b, c, d] => lines.show("", Ipv4Addr::new(*a, *b, *c, *d), ""),
         [a, b, c, d, e, f, g, h] => {
-            lines.show("IP ", Ipv4Addr::new(*a, *b, *c, *d), "/");
-            lines.show("", Ipv4Addr::new(*e, *f, *g, *h), "\n");
+            lines.show("", Ipv4Addr::new(*a, *b, *c, *d), "/");
+            lines.show("", Ipv4Addr::new(*e, *f, *g, *h), "");
         }
         _ => add_long_address(lines, octets),
     }
@@ -31,50 +31,81 @@ fn long_address(octets: &[u8]) -> Ipv6Addr
 }
 
 // Adds an address that isn't of four octets, or one and its mask.
-fn add_long_address(lines: &mut Lines<'_>, octets: &[u8]) {
+fn add_long_address(lines: &mut Lines, octets: &[u8]) {
     if octets.len() == 16 {
-        lines.show("IP ", long_address(octets), "\n");
+        lines.show("", long_address(octets), "");
     } else if octets.len() == 32 {
-        lines.show("IP ", long_address(&octets[..16]), "/");
-        lines.show("", long_address(&octets[16..]), "\n");
+        lines.show("", long_address(&octets[..16]), "/");
+        lines.show("", long_address(&octets[16..]), "");
     } else {
-        lines.octets("IP octets ", octets, "\n");
+        lines.push("octets ");
+        lines.pairs("", octets, ":");
     }
 }
 
-// Adds a line for a name of any kind, behind a text.
-pub(crate) fn add_general_name(lines: &mut Lines<'_>, before: &str, name: &GeneralName) {
-    lines.push(before);
+// Adds a name that is a text, with a word for its kind.
+fn add_text(lines: &mut Lines, word: &str, key: &str, text: &str) {
+    lines.word(word);
+    lines.key(key);
+    lines.plain_value(text);
+}
+
+// Begins a name that has members.
+fn begin_members(lines: &mut Lines, word: &str, key: &str) {
+    lines.word(word);
+    lines.key(key);
+    lines.open();
+}
+
+// Adds a name of any kind, as the member of that kind.
+pub(crate) fn add_general_name(lines: &mut Lines, name: &GeneralName) {
     match name {
-        GeneralName::Rfc822Name(address) => lines.plain("email ", address.as_str(), "\n"),
-        GeneralName::DnsName(host) => lines.plain("DNS ", host.as_str(), "\n"),
-        GeneralName::UniformResourceIdentifier(resource) => {
-            lines.plain("URI ", resource.as_str(), "\n");
+        GeneralName::Rfc822Name(address) => {
+            add_text(lines, "email", "rfc822Name", address.as_str());
         }
-        GeneralName::IpAddress(octets) => add_address(lines, octets.as_bytes()),
-        GeneralName::DirectoryName(name) => add_name(lines, "name ", name, "    "),
-        GeneralName::RegisteredId(identifier) => lines.identifier("identifier ", identifier, "\n"),
-        GeneralName::OtherName(other) => {
-            lines.identifier("other ", &other.type_id, " ");
-            add_value(lines, "", &other.value, "\n");
+        GeneralName::DnsName(host) => add_text(lines, "DNS", "dNSName", host.as_str()),
+        GeneralName::UniformResourceIdentifier(resource) => {
+            add_text(lines, "URI", "uniformResourceIdentifier", resource.as_str());
         }
         GeneralName::EdiPartyName(party) => {
-            lines.plain("party ", party.party_name.as_str(), "\n");
+            add_text(lines, "party", "ediPartyName", party.party_name.as_str());
+        }
+        GeneralName::IpAddress(octets) => {
+            lines.word("IP");
+            lines.key("iPAddress");
+            lines.begin();
+            add_address(lines, octets.as_bytes());
+            lines.end();
+        }
+        GeneralName::DirectoryName(name) => {
+            begin_members(lines, "name", "directoryName");
+            add_name_members(lines, name);
+            lines.close();
+        }
+        GeneralName::RegisteredId(identifier) => {
+            begin_members(lines, "identifier", "registeredID");
+            lines.members_of(identifier);
+            lines.close();
+        }
+        GeneralName::OtherName(other) => {
+            begin_members(lines, "other", "otherName");
+            lines.members_of(&other.type_id);
+            add_value(lines, &other.value);
+            lines.close();
         }
     }
 }
 
-// Adds a line for each name, behind a margin and a text.
-pub(crate) fn add_general_names(
-    lines: &mut Lines<'_>,
-    margin: &str,
-    before: &str,
-    listed: &[GeneralName],
-) {
+// Adds a line for each name, which a word begins.
+pub(crate) fn add_general_names(lines: &mut Lines, word: &str, key: &str, listed: &[GeneralName]) {
+    lines.list(key);
     for name in listed {
-        lines.push(margin);
-        add_general_name(lines, before, name);
+        lines.item(word);
+        lines.brace();
+        add_general_name(lines, name);
+        lines.end_brace();
     }
+    lines.end_list();
 }
 
 // The names that octets list.
@@ -83,9 +114,9 @@ pub(crate) fn names_in(alloc: Global, octets: &[u8]) -> Result<Vec<GeneralName>,
 }
 
 // Adds a line for each name that octets list, or that they don't list any.
-pub(crate) fn add_names_in(lines: &mut Lines<'_>, octets: &[u8]) {
+pub(crate) fn add_names_in(lines: &mut Lines, octets: &[u8]) {
     match names_in(lines.alloc, octets) {
-        Ok(listed) => add_general_names(lines, "  ", "", listed.as_slice()),
-        Err(error) => lines.malformed(error.kind),
+        Ok(listed) => add_general_names(lines, "", "names", listed.as_slice()),
+        Err(error) => lines.malformed("malformed", error.kind),
     }
 }

@@ -1,6 +1,7 @@
 //! What answers are about.
 
 use crate::lines::Lines;
+use crate::reasons::begin_detail;
 use cert_desk_checking::{Answer, ObjectIdentifier};
 use std::alloc::{AllocError, Global};
 use std::collections::BTreeMap;
@@ -30,18 +31,17 @@ impl Heard {
     }
 
     // Adds whether answers are about these octets.
-    pub(crate) fn add(&self, lines: &mut Lines<'_>, octets: &[u8]) {
+    pub(crate) fn add(&self, lines: &mut Lines, octets: &[u8]) {
+        begin_detail(lines);
         if self.count == 0 {
-            lines.push("    there are no answers\n");
+            lines.push("there are no answers");
         } else if self.signed.contains_key(octets) {
-            lines.push("    an answer is about what is signed, and another key or signature\n");
+            lines.push("an answer is about what is signed, and another key or signature");
         } else {
-            lines.count(
-                "    of ",
-                self.count as u64,
-                " answers none is about what is signed\n",
-            );
+            let count = self.count as u64;
+            lines.show("none of the answers (", count, ") is about what is signed");
         }
+        lines.end();
     }
 }
 
@@ -57,10 +57,11 @@ fn is_verified(algorithm: &ObjectIdentifier<39>) -> bool {
 }
 
 // Adds which algorithm makes a signature.
-pub(crate) fn add_algorithm(lines: &mut Lines<'_>, algorithm: &ObjectIdentifier<39>) {
-    lines.identifier("    the algorithm is ", algorithm, "");
+pub(crate) fn add_algorithm(lines: &mut Lines, algorithm: &ObjectIdentifier<39>) {
+    begin_detail(lines);
+    lines.identifier("the algorithm is ", algorithm, "");
     if !is_verified(algorithm) {
         lines.push(", which examples/answer.py doesn't verify");
     }
-    lines.push("\n");
+    lines.end();
 }

@@ -8,11 +8,13 @@ const USAGE: &str = "usage: cert_tool COMMAND OPTIONS FILE, where COMMAND is one
   questions           what a verifier has to answer
   verify              judge a chain by its answers
   explain chain       which rules a chain breaks, and why
-  explain KIND        why octets are refused, and where
+  explain stream      why a file is no stream of certificates, and where
+  explain anchors     why anchors are refused, and what isn't judged of them
+  explain KIND        why octets are refused, and where, and what RFC 5280 says beyond that
   describe KIND       what a file says
   split               where certificates stand, or one
   reverse             certificates in the other order
-cert_tool COMMAND --help tells more of a command.
+cert_tool COMMAND --help tells more of a command, cert_tool --version which program this is.
 ";
 
 // What is said of `questions`.
@@ -21,18 +23,24 @@ Writes a line for each signature that judging the chain may need:
 PLACE ANCHOR KEY ALGORITHM SIGNED BITS, the last four in base 16.
 A verifier keeps the lines whose signature is right, as the script answer.py does. The lines it
 keeps are the answers of `verify`.
+--anchors  a file of trust anchors: certificates, one behind the other
 ";
 
 // What is said of `verify`.
 const VERIFY: &str = "usage: cert_tool verify --anchors FILE --answers FILE
-       [--at MOMENT] [--purpose PURPOSE] [--limit OCTETS] STREAM
+       [--at MOMENT] [--purpose PURPOSE] [--limit OCTETS] [--json] STREAM
 Judges the chain in STREAM, and says yes to the signatures in the answers alone.
 Prints `trusted calls=N` (status 0), `refused PLACE RULE calls=N` (1), `fault PLACE OFFSET KIND` (2)
 or `empty` (3); why a chain is refused `explain chain` says, with the same options.
+--anchors  a file of trust anchors: certificates, one behind the other
+--answers  a file of lines that `questions` wrote and a verifier kept
+--at       now (where it is left out), YYYY-MM-DDTHH:MM:SSZ, or seconds since 1970-01-01T00:00:00Z
+--purpose  serverAuth (where it is left out), clientAuth, codeSigning, emailProtection,
+           timeStamping, OCSPSigning, anyExtendedKeyUsage, or an identifier in dotted arcs
 ";
 
 // What is said of `split`.
-const SPLIT: &str = "usage: cert_tool split [--limit OCTETS] [--place PLACE] STREAM
+const SPLIT: &str = "usage: cert_tool split [--limit OCTETS] [--place PLACE | --json] STREAM
 Writes PLACE OFFSET LENGTH for each certificate of STREAM, or the octets of the one at PLACE,
 counted from 0.
 ";
@@ -44,32 +52,34 @@ the certificate first that an anchor signed.
 ";
 
 // What is said of `describe`.
-const DESCRIBE: &str = "usage: cert_tool describe KIND FILE
+const DESCRIBE: &str = "usage: cert_tool describe KIND [--json] FILE
 Writes what FILE says, a line for each part. Of a file of several certificates `split` gives each:
 cert_tool split --place 0 FILE | cert_tool describe certificate -
+KIND       certificate, list (of revoked certificates) or request
 ";
 
 // What is said of `explain`.
-const EXPLAIN: &str = "usage: cert_tool explain KIND FILE
-       cert_tool explain stream [--limit OCTETS] STREAM
+const EXPLAIN: &str = "usage: cert_tool explain KIND [--json] FILE
+       cert_tool explain anchors [--json] FILE
+       cert_tool explain stream [--limit OCTETS] [--json] STREAM
        cert_tool explain chain --anchors FILE --answers FILE
-       [--at MOMENT] [--purpose PURPOSE] [--limit OCTETS] STREAM
-Writes the first fault of FILE, the octet where it stands, and the parts around it. Of a chain it
-writes which rules each certificate breaks, and why, and what is unwise; without answers, which
-/dev/null stands for, every signature counts as wrong.
+       [--at MOMENT] [--purpose PURPOSE] [--limit OCTETS] [--json] STREAM
+Writes the first fault of FILE, the octet where it stands, and the parts around it; of what is read,
+what RFC 5280 says beyond that. Of a chain it writes which rules each certificate breaks, and why,
+and what is unwise; its options are those of `verify`, and without answers, which /dev/null stands
+for, every signature counts as wrong.
+KIND       certificate, list (of revoked certificates) or request
 ";
 
-// What is said of arguments, below a command.
+// What is said below a command, of files and of statuses.
 pub(crate) const ARGUMENTS: &str =
-    "KIND       certificate, list (of revoked certificates) or request; to explain also anchors
-FILE       a file in DER: openssl x509, crl or req with -outform DER makes it of PEM
+    "FILE       a file in DER: openssl x509, crl or req with -outform DER makes it of PEM
 STREAM     a file of certificates in DER, one behind the other, the one that an anchor signed first
---anchors  a file of trust anchors in DER: certificates, one behind the other
---answers  a file of lines that `questions` wrote and a verifier kept
---at       now (where it is left out), YYYY-MM-DDTHH:MM:SSZ, or seconds since 1970-01-01T00:00:00Z
---purpose  a name as serverAuth (where it is left out), or an identifier in dotted arcs
---limit    the most octets that a certificate may have, from 6 to 4294967295; 65536 if left out
-The file - is standard input.
+--limit    the most octets that a certificate of STREAM may have, from 6 to 4294967295; else 65536
+--json     one document of JSON in place of lines
+The file - is standard input. The status is 0 where what was asked for is written, of a chain where
+it is trusted, 1 where it is refused, 2 where octets are faulty, 3 where there are none, 4 where
+words, anchors or answers are, 5 where a file or device fails, 6 where memory is wanting.
 ";
 
 // What is said of the command that these words name, or of all.

@@ -1,6 +1,6 @@
 //! Keys, and digests.
 
-use crate::algorithms::add_algorithm;
+use crate::algorithms::add_members as add_algorithm;
 use crate::contents::add_members;
 use crate::describe::Describe;
 use crate::lines::Lines;
@@ -8,7 +8,7 @@ use crate::values::add_value;
 use cert_desk_checking::certificates::{Any, SubjectPublicKeyInfo, Uint};
 use const_oid::ObjectIdentifier;
 use der_core::making::leaf_from_der;
-use der_core::to_der;
+use der_core::{ErrorKind, to_der};
 use sha1::Sha1;
 use sha2::{Digest, Sha256};
 
@@ -24,20 +24,34 @@ fn bit_len(octets: &[u8]) -> usize {
 }
 
 // Adds a line for a number of bits.
-fn add_bits(lines: &mut Lines<'_>, bits: usize) {
-    lines.count("  ", bits as u64, " bits\n");
+fn add_bits(lines: &mut Lines, bits: usize) {
+    lines.row("", "bits");
+    lines.count(bits as u64);
+    lines.word("bits");
+}
+
+// Adds a line for a number of a key.
+fn add_natural(lines: &mut Lines, name: &str, octets: &[u8]) {
+    lines.row(name, name);
+    lines.natural(octets);
+}
+
+// Adds a line for octets of a key.
+fn add_octets(lines: &mut Lines, name: &str, octets: &[u8]) {
+    lines.row(name, name);
+    lines.octets(octets);
 }
 
 // An RSA key is the SEQUENCE of its modulus and its exponent (RFC 3279 2.3.1).
 impl Describe for Vec<Uint> {
-    fn describe(&self, lines: &mut Lines<'_>) {
+    fn describe(&self, lines: &mut Lines) {
         match self.as_slice() {
             [modulus, exponent] => {
                 add_bits(lines, bit_len(modulus.as_bytes()));
-                lines.natural("  modulus ", modulus.as_bytes(), "\n");
-                lines.natural("  exponent ", exponent.as_bytes(), "\n");
+                add_natural(lines, "modulus", modulus.as_bytes());
+                add_natural(lines, "exponent", exponent.as_bytes());
             }
-            _ => lines.push("  malformed\n"),
+            _ => lines.malformed("malformed", ErrorKind::Failed),
         }
     }
 }
@@ -58,55 +72,56 @@ fn coordinate_bits(octets: &[u8]) -> usize {
 }
 
 // Adds the line of a curve: its name, or the octets that lay it down.
-fn add_curve(lines: &mut Lines<'_>, parameters: &Any) {
+fn add_curve(lines: &mut Lines, parameters: &Any) {
+    lines.node("curve", "curve");
     match parameters.decode_as::<ObjectIdentifier<39>>(lines.alloc) {
-        Ok(curve) => lines.identifier("  curve ", &curve, "\n"),
+        Ok(curve) => lines.members_of(&curve),
         Err(error) => {
             lines.note(error.kind);
-            add_value(lines, "  curve ", parameters, "\n");
+            add_value(lines, parameters);
         }
     }
+    lines.close();
 }
 
 // Adds the lines of a key on a curve.
-fn add_point(lines: &mut Lines<'_>, key: &SubjectPublicKeyInfo) {
+fn add_point(lines: &mut Lines, key: &SubjectPublicKeyInfo) {
     let point = key.subject_public_key.raw_bytes();
     add_bits(lines, coordinate_bits(point));
     if let Some(parameters) = &key.algorithm.parameters {
         add_curve(lines, parameters);
     }
-    lines.octets("  point ", point, "\n");
+    add_octets(lines, "point", point);
 }
 
 // Adds the lines of the parameters of a DSA key: p, q and g (RFC 3279 2.3.2).
-fn add_group(lines: &mut Lines<'_>, parameters: &Any) {
+fn add_group(lines: &mut Lines, parameters: &Any) {
     match parameters.decode_as::<Vec<Uint>>(lines.alloc) {
         Ok(numbers) => {
             if let [p, q, g] = numbers.as_slice() {
                 add_bits(lines, bit_len(p.as_bytes()));
-                lines.natural("  p ", p.as_bytes(), "\n");
-                lines.natural("  q ", q.as_bytes(), "\n");
-                lines.natural("  g ", g.as_bytes(), "\n");
+                add_natural(lines, "p", p.as_bytes());
+                add_natural(lines, "q", q.as_bytes());
+                add_natural(lines, "g", g.as_bytes());
             }
         }
-        Err(error) => lines.malformed(error.kind),
+        Err(error) => lines.malformed("malformedParameters", error.kind),
     }
 }
 
 // Adds the lines of a DSA key.
-fn add_dsa(lines: &mut Lines<'_>, key: &SubjectPublicKeyInfo) {
+fn add_dsa(lines: &mut Lines, key: &SubjectPublicKeyInfo) {
     if let Some(parameters) = &key.algorithm.parameters {
         add_group(lines, parameters);
     }
     match leaf_from_der::<Uint>(lines.alloc, key.subject_public_key.raw_bytes()) {
-        Ok(number) => lines.natural("  public ", number.as_bytes(), "\n"),
-        Err(error) => lines.malformed(error.kind),
+        Ok(number) => add_natural(lines, "public", number.as_bytes()),
+        Err(error) => lines.malformed("malformed", error.kind),
     }
 }
 
-// Adds the lines of a key.
-pub(crate) fn add_key(lines: &mut Lines<'_>, key: &SubjectPublicKeyInfo) {
-    add_algorithm(lines, "key ", &key.algorithm);
+// Adds the lines of the bits of a key.
+fn add_key_bits(lines: &mut Lines, key: &SubjectPublicKeyInfo) {
     match key.algorithm.oid.as_bytes() {
         // rsaEncryption, id-RSASSA-PSS
         [0x2a, 0x86, 0x48, 0x86, 0xf7, 0x0d, 0x01, 0x01, 0x01 | 0x0a] => {
@@ -119,27 +134,34 @@ pub(crate) fn add_key(lines: &mut Lines<'_>, key: &SubjectPublicKeyInfo) {
         // id-X25519, id-X448, id-Ed25519, id-Ed448
         [0x2b, 0x65, 0x6e | 0x6f | 0x70 | 0x71] => {
             add_bits(lines, key.subject_public_key.bit_len());
-            lines.octets("  octets ", key.subject_public_key.raw_bytes(), "\n");
+            add_octets(lines, "octets", key.subject_public_key.raw_bytes());
         }
-        _ => lines.octets("  octets ", key.subject_public_key.raw_bytes(), "\n"),
+        _ => add_octets(lines, "octets", key.subject_public_key.raw_bytes()),
     }
 }
 
+// Adds the lines of a key.
+pub(crate) fn add_key(lines: &mut Lines, key: &SubjectPublicKeyInfo) {
+    lines.node("key", "subjectPublicKeyInfo");
+    add_algorithm(lines, &key.algorithm);
+    add_key_bits(lines, key);
+    lines.close();
+}
+
 // Adds the lines of the digests of octets.
-pub(crate) fn add_digests(lines: &mut Lines<'_>, label: &str, octets: &[u8]) {
-    lines.push(label);
-    lines.octets("-sha1 ", Sha1::digest(octets).as_slice(), "\n");
-    lines.push(label);
-    lines.octets("-sha256 ", Sha256::digest(octets).as_slice(), "\n");
+pub(crate) fn add_digests(lines: &mut Lines, names: [&str; 2], octets: &[u8]) {
+    let [first, second] = names;
+    add_octets(lines, first, Sha1::digest(octets).as_slice());
+    add_octets(lines, second, Sha256::digest(octets).as_slice());
 }
 
 // Adds the lines of the digests of a key: of its encoding, and of its bits, as most identifiers of
 // keys are made (RFC 5280 4.2.1.2).
-pub(crate) fn add_key_digests(lines: &mut Lines<'_>, key: &SubjectPublicKeyInfo) {
+pub(crate) fn add_key_digests(lines: &mut Lines, key: &SubjectPublicKeyInfo) {
     match to_der(lines.alloc, key) {
-        Ok(octets) => add_digests(lines, "key", octets.as_slice()),
+        Ok(octets) => add_digests(lines, ["key-sha1", "key-sha256"], octets.as_slice()),
         Err(_) => lines.fail(),
     }
     let bits = Sha1::digest(key.subject_public_key.raw_bytes());
-    lines.octets("key-bits-sha1 ", bits.as_slice(), "\n");
+    add_octets(lines, "key-bits-sha1", bits.as_slice());
 }

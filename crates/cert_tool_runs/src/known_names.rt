@@ -228,12 +228,8 @@ fn of_rest() -> Names {
     &OF_REST
 }
 
-// How many identifiers are well known.
-pub(crate) const KNOWN: usize = 112;
-
-// The one at a place of the tables, one behind the other.
-pub(crate) fn known_name(place: usize) -> Option<(&'static [u8], &'static str)> {
-    let mut left = place;
+// The name of an identifier of these octets, if it is well known.
+pub(crate) fn known_name(octets: &[u8]) -> Option<&'static str> {
     for names in &[
         of_keys(),
         of_extensions(),
@@ -241,10 +237,11 @@ pub(crate) fn known_name(place: usize) -> Option<(&'static [u8], &'static str)> 
         of_attributes(),
         of_rest(),
     ] {
-        if left < names.len() {
-            return Some(names[left]);
+        for (known, name) in *names {
+            if *known == octets {
+                return Some(*name);
+            }
         }
-        left -= names.len();
     }
     None
 }

@@ -1,11 +1,12 @@
 //! What revocation lists must be beyond DER (RFC 5280 5): each that isn't so, as a remark.
 
+use crate::attribute_remarks::add_attribute_remarks;
 use crate::certificate_remarks::add_malformed_remarks;
 use crate::extension_remarks::{
     OF_LISTS, add_content_remarks, add_mark_remarks, number_of, value_in,
 };
 use crate::lines::Lines;
-use crate::remark_lines::{add_each, has_twins, is_long_for_its_year};
+use crate::remark_lines::{add_each, has_twins, is_long_for_its_year, is_wrong_serial};
 use cert_desk_checking::certificates::{Extension, Extensions, Raw, Uint, Version};
 use cert_desk_checking::types::general_names::AuthorityKeyIdentifier;
 use der_core::making::leaf_from_der;
@@ -36,7 +37,7 @@ impl Facts {
     }
 
     // Takes one extension more.
-    fn take(&mut self, lines: &mut Lines<'_>, extension: &Extension) {
+    fn take(&mut self, lines: &mut Lines, extension: &Extension) {
         let octets = extension.extn_value.as_bytes();
         match number_of(extension) {
             20 => {
@@ -68,6 +69,7 @@ fn listed(extensions: &Option<Extensions>) -> &[Extension] {
 // What entries must not be: whether one is so.
 #[derive(Clone, Copy)]
 struct EntryFacts {
+    has_wrong_serial: bool,
     has_extensions: bool,
     has_empty_extensions: bool,
     has_long_date: bool,
@@ -80,6 +82,7 @@ impl EntryFacts {
     // Those of no entry.
     fn new() -> EntryFacts {
         EntryFacts {
+            has_wrong_serial: false,
             has_extensions: false,
             has_empty_extensions: false,
             has_long_date: false,
@@ -91,6 +94,9 @@ impl EntryFacts {
 
     // Takes one entry more.
     fn take(&mut self, entry: &RevokedCert<Raw>) {
+        if is_wrong_serial(entry.serial_number.as_bytes()) {
+            self.has_wrong_serial = true;
+        }
         if is_long_for_its_year(&entry.revocation_date) {
             self.has_long_date = true;
         }
@@ -112,63 +118,83 @@ impl EntryFacts {
 }
 
 // Of the entries (RFC 5280 5.1.2.6, 5.3).
-fn add_entry_remarks(lines: &mut Lines<'_>, facts: &EntryFacts) {
+fn add_entry_remarks(lines: &mut Lines, facts: &EntryFacts) {
     add_each(
         lines,
-        "",
         &[
             (
+                facts.has_wrong_serial,
+                "a serial number of an entry isn't above zero, or has more than 20 octets",
+                "RFC 5280 4.1.2.2",
+            ),
+            (
                 facts.has_long_date,
-                "the date of an entry is a GeneralizedTime before 2050 (RFC 5280 5.1.2.6)",
+                "the date of an entry is a GeneralizedTime before 2050",
+                "RFC 5280 5.1.2.6",
             ),
             (
                 facts.has_empty_extensions,
-                "the list of an entry's extensions is empty (RFC 5280 5.1)",
+                "the list of an entry's extensions is empty",
+                "RFC 5280 5.1",
             ),
             (
                 facts.has_critical_reason,
-                "reasonCode of an entry is critical (RFC 5280 5.3.1)",
+                "reasonCode of an entry is critical",
+                "RFC 5280 5.3.1",
             ),
             (
                 facts.has_critical_date,
-                "invalidityDate of an entry is critical (RFC 5280 5.3.2)",
+                "invalidityDate of an entry is critical",
+                "RFC 5280 5.3.2",
             ),
             (
                 facts.has_issuer_at_will,
-                "certificateIssuer of an entry isn't critical (RFC 5280 5.3.3)",
+                "certificateIssuer of an entry isn't critical",
+                "RFC 5280 5.3.3",
             ),
         ],
     );
 }
 
 // Of the dates (RFC 5280 5.1.2.4, 5.1.2.5).
-fn add_date_remarks(lines: &mut Lines<'_>, signed: &TbsCertList<Raw>) {
-    let is_next_long = match &signed.next_update {
-        Some(date) => is_long_for_its_year(date),
-        None => false,
+fn add_date_remarks(lines: &mut Lines, signed: &TbsCertList<Raw>) {
+    let this = signed.this_update.to_date_time().unix_seconds();
+    let (is_next_long, is_next_before) = match &signed.next_update {
+        Some(date) => (
+            is_long_for_its_year(date),
+            date.to_date_time().unix_seconds() < this,
+        ),
+        None => (false, false),
     };
     add_each(
         lines,
-        "",
         &[
             (
                 is_long_for_its_year(&signed.this_update),
-                "thisUpdate is a GeneralizedTime before 2050 (RFC 5280 5.1.2.4)",
+                "thisUpdate is a GeneralizedTime before 2050",
+                "RFC 5280 5.1.2.4",
             ),
             (
                 is_next_long,
-                "nextUpdate is a GeneralizedTime before 2050 (RFC 5280 5.1.2.5)",
+                "nextUpdate is a GeneralizedTime before 2050",
+                "RFC 5280 5.1.2.5",
+            ),
+            (
+                is_next_before,
+                "nextUpdate is before thisUpdate",
+                "RFC 5280 5.1.2.5",
             ),
             (
                 signed.next_update.is_none(),
-                "there is no nextUpdate (RFC 5280 5.1.2.5)",
+                "there is no nextUpdate",
+                "RFC 5280 5.1.2.5",
             ),
         ],
     );
 }
 
 // Of the fields, beside entries of which these are the facts (RFC 5280 5.1.2).
-fn add_field_remarks(lines: &mut Lines<'_>, signed: &TbsCertList<Raw>, facts: &EntryFacts) {
+fn add_field_remarks(lines: &mut Lines, signed: &TbsCertList<Raw>, facts: &EntryFacts) {
     let is_second = matches!(signed.version, Version::V2);
     let has_extensions = signed.crl_extensions.is_some();
     let has_no_entry = match &signed.revoked_certificates {
@@ -177,30 +203,33 @@ fn add_field_remarks(lines: &mut Lines<'_>, signed: &TbsCertList<Raw>, facts: &E
     };
     add_each(
         lines,
-        "",
         &[
             (
                 (has_extensions || facts.has_extensions) && !is_second,
-                "extensions stand in a list that isn't of version 2 (RFC 5280 5.1.2.1)",
+                "extensions stand in a list that isn't of version 2",
+                "RFC 5280 5.1.2.1",
             ),
             (
                 signed.issuer.is_empty(),
-                "the issuer is an empty name (RFC 5280 5.1.2.3)",
+                "the issuer is an empty name",
+                "RFC 5280 5.1.2.3",
             ),
             (
                 has_no_entry,
-                "the list of entries is empty (RFC 5280 5.1.2.6)",
+                "the list of entries is empty",
+                "RFC 5280 5.1.2.6",
             ),
             (
                 has_extensions && listed(&signed.crl_extensions).is_empty(),
-                "the list of extensions is empty (RFC 5280 5.1.2.7)",
+                "the list of extensions is empty",
+                "RFC 5280 5.1.2.7",
             ),
         ],
     );
 }
 
 // Of the extensions (RFC 5280 5.2).
-fn add_extension_remarks(lines: &mut Lines<'_>, extensions: &[Extension]) {
+fn add_extension_remarks(lines: &mut Lines, extensions: &[Extension]) {
     let mut facts = Facts::new();
     for extension in extensions {
         facts.take(lines, extension);
@@ -208,28 +237,30 @@ fn add_extension_remarks(lines: &mut Lines<'_>, extensions: &[Extension]) {
     let is_twice = has_twins(lines, extensions);
     add_each(
         lines,
-        "",
         &[
-            (is_twice, "an extension stands twice (RFC 5280 4.2)"),
+            (is_twice, "an extension stands twice", "RFC 5280 4.2"),
             (
                 !facts.has_issuer_key,
-                "no authorityKeyIdentifier has a key's identifier (RFC 5280 5.2.1)",
+                "no authorityKeyIdentifier has a key's identifier",
+                "RFC 5280 5.2.1",
             ),
-            (!facts.has_number, "there is no cRLNumber (RFC 5280 5.2.3)"),
+            (!facts.has_number, "there is no cRLNumber", "RFC 5280 5.2.3"),
             (
                 facts.has_long_number,
-                "the cRLNumber has more than 20 octets (RFC 5280 5.2.3)",
+                "the cRLNumber has more than 20 octets",
+                "RFC 5280 5.2.3",
             ),
             (
                 facts.is_delta && facts.has_freshest,
-                "freshestCRL stands in a list that adds to another (RFC 5280 5.2.6)",
+                "freshestCRL stands in a list that adds to another",
+                "RFC 5280 5.2.6",
             ),
         ],
     );
     add_malformed_remarks(lines, extensions);
     for extension in extensions {
-        add_mark_remarks(lines, "", extension, &OF_LISTS);
-        add_content_remarks(lines, "", extension);
+        add_mark_remarks(lines, extension, &OF_LISTS);
+        add_content_remarks(lines, extension);
     }
 }
 
@@ -245,13 +276,14 @@ fn entry_facts(signed: &TbsCertList<Raw>) -> EntryFacts {
 }
 
 // Adds what a list must not be, though it is read.
-pub(crate) fn add_list_remarks(lines: &mut Lines<'_>, list: &CertificateList<Raw>) {
+pub(crate) fn add_list_remarks(lines: &mut Lines, list: &CertificateList<Raw>) {
     let signed = &list.tbs_cert_list;
     let differ = !signed.signature.has_octets_of(&list.signature_algorithm);
-    let text = "another algorithm is signed than stands outside (RFC 5280 5.1.1.2)";
+    let text = "another algorithm is signed than stands outside";
     let facts = entry_facts(signed);
-    add_each(lines, "", &[(differ, text)]);
+    add_each(lines, &[(differ, text, "RFC 5280 5.1.1.2")]);
     add_field_remarks(lines, signed, &facts);
+    add_attribute_remarks(lines, &signed.issuer);
     add_date_remarks(lines, signed);
     add_entry_remarks(lines, &facts);
     add_extension_remarks(lines, listed(&signed.crl_extensions));

@@ -2,6 +2,7 @@
 
 use crate::general_names::add_general_name;
 use crate::lines::Lines;
+use crate::remark_lines::{begin_remark, end_text};
 use cert_desk_checking::types::general_names::GeneralName;
 
 // Whether octets are a label of a host's name (RFC 1034 3.5, RFC 1123 2.1).
@@ -39,14 +40,31 @@ fn has_blank(text: &str) -> bool {
     false
 }
 
+// Whether a text stands in quotes, between which blanks may stand.
+fn is_quoted(text: &str) -> bool {
+    for octet in text.as_bytes() {
+        if !octet.is_ascii_graphic() && *octet != b' ' {
+            return false;
+        }
+    }
+    text.len() > 1 && text.starts_with('"') && text.ends_with('"')
+}
+
+// Whether a text is the local part of a mailbox, in quotes or not.
+fn is_local_part(text: &str) -> bool {
+    let is_atom = !text.is_empty() && !text.contains('@') && !text.contains('"');
+    is_quoted(text) || (is_atom && !has_blank(text))
+}
+
 // Whether a text is a mailbox: a local part, `@` and a host, or an address in brackets (RFC 5321
 // 4.1.2).
 fn is_mailbox(text: &str) -> bool {
-    let Some((local, host)) = text.rsplit_once('@') else {
-        return false;
-    };
-    let is_local = local.starts_with('"') || !(local.is_empty() || local.contains('@'));
-    is_local && !has_blank(text) && (is_host(host) || host.starts_with('['))
+    match text.rsplit_once('@') {
+        Some((local, host)) => {
+            is_local_part(local) && !has_blank(host) && (is_host(host) || host.starts_with('['))
+        }
+        None => false,
+    }
 }
 
 // Whether a text is the scheme of a resource (RFC 3986 3.1).
@@ -82,26 +100,27 @@ fn is_well_formed(name: &GeneralName) -> bool {
 }
 
 // Adds that a name isn't well formed.
-fn add_name_remark(lines: &mut Lines<'_>, name: &GeneralName) {
-    let before = "remark: this name isn't well formed (RFC 5280 4.2.1.6): ";
+fn add_name_remark(lines: &mut Lines, name: &GeneralName) {
+    begin_remark(lines);
+    lines.push("this name isn't well formed");
+    end_text(lines, "RFC 5280 4.2.1.6");
+    lines.tail(": ");
     match name {
         GeneralName::IpAddress(octets) => {
-            lines.push(before);
-            lines.count(
-                "IP address of ",
-                octets.as_bytes().len() as u64,
-                " octets\n",
-            );
+            lines.word("IP address of");
+            lines.key("len");
+            lines.count(octets.as_bytes().len() as u64);
+            lines.word("octets");
         }
-        _ => add_general_name(lines, before, name),
+        _ => add_general_name(lines, name),
     }
+    lines.close();
 }
 
-// Adds which of these names aren't well formed, behind blanks.
-pub(crate) fn add_name_remarks(lines: &mut Lines<'_>, blanks: &str, listed: &[GeneralName]) {
+// Adds which of these names aren't well formed.
+pub(crate) fn add_name_remarks(lines: &mut Lines, listed: &[GeneralName]) {
     for name in listed {
         if !is_well_formed(name) {
-            lines.push(blanks);
             add_name_remark(lines, name);
         }
     }

@@ -2,117 +2,174 @@
 
 use crate::describe::Describe;
 use crate::lines::Lines;
+use crate::uses::add_count;
 use crate::values::{add_value, values_in};
 use cert_desk_checking::certificates::{Any, Uint};
 use cert_desk_checking::types::policies::{
     CertificatePolicies, InhibitAnyPolicy, PolicyConstraints, PolicyInformation, PolicyMappings,
     PolicyQualifierInfo,
 };
+use const_oid::ObjectIdentifier;
 use der_core::Tag;
 
 // Adds the lines of the numbers of notices.
-fn add_numbers(lines: &mut Lines<'_>, numbers: &Any) {
+fn add_numbers(lines: &mut Lines, numbers: &Any) {
     match numbers.decode_as::<Vec<Uint>>(lines.alloc) {
         Ok(numbers) => {
+            lines.list("noticeNumbers");
             for number in &numbers {
-                lines.natural("      number ", number.as_bytes(), "\n");
+                lines.item("number");
+                lines.natural(number.as_bytes());
             }
+            lines.end_list();
         }
-        Err(error) => lines.malformed(error.kind),
+        Err(error) => lines.malformed("malformed", error.kind),
     }
 }
 
-// Adds the lines of a reference to notices: whose they are, and their numbers.
-fn add_reference(lines: &mut Lines<'_>, reference: &Any) {
-    match values_in(lines.alloc, reference) {
-        Ok(parts) => {
-            for part in &parts {
-                if part.tag() == Tag::Sequence {
-                    add_numbers(lines, part);
-                } else {
-                    add_value(lines, "      of ", part, "\n");
-                }
-            }
-        }
-        Err(error) => lines.malformed(error.kind),
-    }
+// Adds a line for a text of a notice.
+fn add_notice_text(lines: &mut Lines, word: &str, key: &str, text: &Any) {
+    lines.row(word, key);
+    lines.brace();
+    add_value(lines, text);
+    lines.end_brace();
 }
 
-// Adds the lines of a notice: where its text is found, and that text.
-fn add_notice(lines: &mut Lines<'_>, notice: &Any) {
-    match values_in(lines.alloc, notice) {
-        Ok(parts) => {
-            for part in &parts {
-                if part.tag() == Tag::Sequence {
-                    add_reference(lines, part);
-                } else {
-                    add_value(lines, "      text ", part, "\n");
-                }
-            }
-        }
-        Err(error) => lines.malformed(error.kind),
-    }
-}
-
-// Adds the lines of the value of a qualifier: a notice, or where the statement of practices stands.
-fn add_qualifier_value(lines: &mut Lines<'_>, value: &Any) {
-    if value.tag() == Tag::Sequence {
-        lines.push("\n");
-        add_notice(lines, value);
+// Adds the lines of a part of a reference to notices: whose they are, or their numbers.
+fn add_reference_part(lines: &mut Lines, part: &Any) {
+    if part.tag() == Tag::Sequence {
+        add_numbers(lines, part);
     } else {
-        add_value(lines, " ", value, "\n");
+        add_notice_text(lines, "of", "organization", part);
     }
 }
 
-// Adds the lines of a qualifier.
-fn add_qualifier(lines: &mut Lines<'_>, qualifier: &PolicyQualifierInfo) {
-    lines.identifier("    ", &qualifier.policy_qualifier_id, "");
-    match &qualifier.qualifier {
-        Some(value) => add_qualifier_value(lines, value),
-        None => lines.push("\n"),
+// Adds the lines of a part of a notice: where its text is found, or that text.
+fn add_notice_part(lines: &mut Lines, part: &Any) {
+    if part.tag() == Tag::Sequence {
+        lines.list("noticeRef");
+        add_parts(lines, part, false);
+        lines.end_list();
+    } else {
+        add_notice_text(lines, "text", "explicitText", part);
     }
+}
+
+// Adds the lines of the parts of a notice, or of a reference to some.
+fn add_parts(lines: &mut Lines, whole: &Any, is_notice: bool) {
+    match values_in(lines.alloc, whole) {
+        Ok(parts) => {
+            for part in &parts {
+                lines.comma();
+                lines.brace();
+                if is_notice {
+                    add_notice_part(lines, part);
+                } else {
+                    add_reference_part(lines, part);
+                }
+                lines.end_brace();
+            }
+        }
+        Err(error) => {
+            lines.comma();
+            lines.brace();
+            lines.malformed("malformed", error.kind);
+            lines.end_brace();
+        }
+    }
+}
+
+// Adds the lines of a qualifier: a notice, or where the statement of practices stands.
+fn add_qualifier(lines: &mut Lines, qualifier: &PolicyQualifierInfo) {
+    lines.entry("");
+    lines.members_of(&qualifier.policy_qualifier_id);
+    if let Some(value) = &qualifier.qualifier {
+        if value.tag() == Tag::Sequence {
+            lines.list("notice");
+            add_parts(lines, value, true);
+            lines.end_list();
+        } else {
+            add_value(lines, value);
+        }
+    }
+    lines.close();
 }
 
 // Adds the lines of a policy.
-fn add_policy(lines: &mut Lines<'_>, policy: &PolicyInformation) {
-    lines.identifier("  ", &policy.policy_identifier, "\n");
+fn add_policy(lines: &mut Lines, policy: &PolicyInformation) {
+    lines.entry("");
+    lines.members_of(&policy.policy_identifier);
     if let Some(qualifiers) = &policy.policy_qualifiers {
+        lines.list("qualifiers");
         for qualifier in qualifiers {
             add_qualifier(lines, qualifier);
         }
+        lines.end_list();
     }
+    lines.close();
 }
 
 impl Describe for CertificatePolicies {
-    fn describe(&self, lines: &mut Lines<'_>) {
+    fn describe(&self, lines: &mut Lines) {
+        lines.list("policies");
         for policy in &self.0 {
             add_policy(lines, policy);
         }
+        lines.end_list();
     }
 }
 
+// Adds a policy of a mapping.
+fn add_mapped(lines: &mut Lines, key: &str, policy: &ObjectIdentifier<39>) {
+    lines.key(key);
+    lines.brace();
+    lines.members_of(policy);
+    lines.end_brace();
+}
+
 impl Describe for PolicyMappings {
-    fn describe(&self, lines: &mut Lines<'_>) {
+    fn describe(&self, lines: &mut Lines) {
+        lines.list("mappings");
         for mapping in &self.0 {
-            lines.identifier("  ", &mapping.issuer_domain_policy, " is ");
-            lines.identifier("", &mapping.subject_domain_policy, "\n");
+            lines.entry("");
+            add_mapped(lines, "issuerDomainPolicy", &mapping.issuer_domain_policy);
+            lines.word("is");
+            add_mapped(lines, "subjectDomainPolicy", &mapping.subject_domain_policy);
+            lines.close();
         }
+        lines.end_list();
     }
 }
 
 impl Describe for PolicyConstraints {
-    fn describe(&self, lines: &mut Lines<'_>) {
+    fn describe(&self, lines: &mut Lines) {
         if let Some(skipped) = self.require_explicit_policy {
-            lines.count("  explicit policy behind ", u64::from(skipped), "\n");
+            let skipped = u64::from(skipped);
+            add_count(
+                lines,
+                "explicit policy behind",
+                "requireExplicitPolicy",
+                skipped,
+            );
         }
         if let Some(skipped) = self.inhibit_policy_mapping {
-            lines.count("  no mapping behind ", u64::from(skipped), "\n");
+            add_count(
+                lines,
+                "no mapping behind",
+                "inhibitPolicyMapping",
+                u64::from(skipped),
+            );
         }
     }
 }
 
 impl Describe for InhibitAnyPolicy {
-    fn describe(&self, lines: &mut Lines<'_>) {
-        lines.count("  not any policy behind ", u64::from(self.0), "\n");
+    fn describe(&self, lines: &mut Lines) {
+        add_count(
+            lines,
+            "not any policy behind",
+            "skipCerts",
+            u64::from(self.0),
+        );
     }
 }

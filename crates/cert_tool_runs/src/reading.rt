@@ -50,12 +50,12 @@ fn read_file<I: Input + Drop, F: NamedInputs<I>, E: Output>(
 // Writes a text to the output, or tells that there was no memory for it, and answers the exit
 // status.
 pub(crate) fn tell_text<O: Output, E: Output>(
-    text: Result<String, AllocError>,
+    text: Result<Vec<u8>, AllocError>,
     out: &mut O,
     err: &mut E,
 ) -> ExitStatus {
     match text {
-        Ok(text) => answer(out, err, text.as_bytes(), ExitStatus::Done),
+        Ok(text) => answer(out, err, text.as_slice(), ExitStatus::Done),
         Err(_) => tell_memory(err),
     }
 }
@@ -74,11 +74,11 @@ pub(crate) fn read<I: Input + Drop, F: NamedInputs<I>, O: Output, E: Output>(
         Ok(octets) => octets,
         Err(status) => return status,
     };
-    let octets = octets.as_slice();
+    let (octets, is_json) = (octets.as_slice(), task.json);
     match task.command {
-        Command::Describe(kind) => describe(alloc, kind, octets, out, err),
-        Command::Explain(kind) => tell_text(explain_octets(alloc, octets, kind), out, err),
-        Command::ExplainAnchors => tell_text(explain_anchors(alloc, octets), out, err),
-        _ => tell_text(explain_stream(alloc, octets, task.limit), out, err),
+        Command::Describe(kind) => describe(alloc, kind, octets, is_json, out, err),
+        Command::Explain(kind) => tell_text(explain_octets(alloc, octets, kind, is_json), out, err),
+        Command::ExplainAnchors => tell_text(explain_anchors(alloc, octets, is_json), out, err),
+        _ => tell_text(explain_stream(alloc, octets, task.limit, is_json), out, err),
     }
 }

@@ -3,38 +3,55 @@
 use crate::chain_place::ChainPlace;
 use crate::content_faults::{add_content_fault, content_fault};
 use crate::lines::Lines;
+use crate::remark_lines::end_remark;
 use cert_desk_checking::certificates::Extension;
 use cert_desk_checking::{Bundle, KeptRules, Reason, Rule, reason_of};
 use const_oid::ObjectIdentifier;
 
-// Adds how an extension breaks a rule by itself.
+// Begins a rule that is broken, and the reason.
+pub(crate) fn begin_breach(lines: &mut Lines, rule: Rule) {
+    lines.entry("");
+    lines.key("rule");
+    lines.value(rule);
+    lines.tail(": ");
+    lines.key("reason");
+    lines.begin();
+}
+
+// Begins a text more about it, in an array of such.
+pub(crate) fn begin_detail(lines: &mut Lines) {
+    lines.item("");
+    lines.begin();
+}
+
+// Adds how an extension breaks a rule by itself; answers the section that says so.
 fn add_against(
-    lines: &mut Lines<'_>,
+    lines: &mut Lines,
     rule: Rule,
     extension: &Extension,
     purpose: &ObjectIdentifier<39>,
-) {
+) -> &'static str {
     let kind = &extension.extn_id;
     match rule {
-        Rule::MalformedExtension => {
-            match content_fault(lines.alloc, extension) {
-                Some(error) => add_content_fault(lines, extension, &error),
-                None => lines.identifier("", kind, " isn't one value of its kind"),
+        Rule::MalformedExtension => match content_fault(lines.alloc, extension) {
+            Some(error) => add_content_fault(lines, extension, &error),
+            None => {
+                lines.identifier("", kind, " isn't one value of its kind");
+                ""
             }
-        }
+        },
         Rule::UnweighedCritical => {
-            lines.identifier(
-                "",
-                kind,
-                " is critical, and isn't weighed here (RFC 5280 4.2)",
-            );
+            lines.identifier("", kind, " is critical, and isn't weighed here");
+            "RFC 5280 4.2"
         }
         Rule::AgainstPurpose => {
             lines.identifier("", kind, " lacks ");
-            lines.identifier("", purpose, " (RFC 5280 4.2.1.12)");
+            lines.identifier("", purpose, "");
+            "RFC 5280 4.2.1.12"
         }
         Rule::NotAuthority => {
-            lines.identifier("", kind, " lacks keyCertSign (RFC 5280 6.1.4 (n))");
+            lines.identifier("", kind, " lacks keyCertSign");
+            "RFC 5280 6.1.4 (n)"
         }
         // Of these no extension is the reason.
         Rule::AlgorithmsDiffer
@@ -43,61 +60,63 @@ fn add_against(
         | Rule::NotYetValid
         | Rule::Expired
         | Rule::PathTooLong
-        | Rule::WrongSignature => {}
+        | Rule::WrongSignature => "",
     }
 }
 
-// Adds a reason, behind the rule that is broken.
+// Adds a reason; answers the section that says so.
 fn add_reason(
-    lines: &mut Lines<'_>,
+    lines: &mut Lines,
     place: &ChainPlace<'_>,
     rule: Rule,
     reason: Reason,
     purpose: &ObjectIdentifier<39>,
-) {
+) -> &'static str {
     match reason {
-        Reason::Extension(number) => {
-            if let Some(extension) = place.extensions().get(number) {
-                add_against(lines, rule, extension, purpose);
-            }
-        }
+        Reason::Extension(number) => match place.extensions().get(number) {
+            Some(extension) => add_against(lines, rule, extension, purpose),
+            None => "",
+        },
         Reason::Twins { first, second } => {
             if let Some(extension) = place.extensions().get(first) {
-                lines.count("extensions ", first as u64, " and ");
-                lines.count("", second as u64, " are both ");
-                lines.identifier("", &extension.extn_id, " (RFC 5280 4.2)");
+                lines.show("extensions ", first as u64, " and ");
+                lines.show("", second as u64, " are both ");
+                lines.identifier("", &extension.extn_id, "");
             }
+            "RFC 5280 4.2"
         }
         Reason::NoConstraints => {
-            lines.push("no basicConstraints make it an authority (RFC 5280 6.1.4 (k))");
+            lines.push("no basicConstraints make it an authority");
+            "RFC 5280 6.1.4 (k)"
         }
         Reason::PathLength { place } => {
-            lines.count(
+            let number = place as u64;
+            lines.show(
                 "more authorities follow than certificate ",
-                place as u64,
+                number,
                 " allows",
             );
-            lines.push(" (RFC 5280 4.2.1.9)");
+            "RFC 5280 4.2.1.9"
         }
     }
 }
 
 // Adds the line of a rule that is broken.
 fn add_broken(
-    lines: &mut Lines<'_>,
+    lines: &mut Lines,
     place: &ChainPlace<'_>,
     rule: Rule,
     reason: Reason,
     purpose: &ObjectIdentifier<39>,
 ) {
-    lines.show("  ", rule, ": ");
-    add_reason(lines, place, rule, reason, purpose);
-    lines.push("\n");
+    begin_breach(lines, rule);
+    let section = add_reason(lines, place, rule, reason, purpose);
+    end_remark(lines, section);
 }
 
 // The first reason why the certificate at a place breaks a rule.
 fn first_reason(
-    lines: &mut Lines<'_>,
+    lines: &mut Lines,
     bundle: &Bundle,
     number: usize,
     rule: Rule,
@@ -114,7 +133,7 @@ fn first_reason(
 
 // Adds that the certificate at a place breaks a rule, with its first reason.
 pub(crate) fn add_reason_of(
-    lines: &mut Lines<'_>,
+    lines: &mut Lines,
     place: &ChainPlace<'_>,
     rule: Rule,
     purpose: &ObjectIdentifier<39>,
@@ -137,7 +156,7 @@ pub(crate) struct LengthReasons {
 impl LengthReasons {
     // With that of the last place whose path is too long.
     pub(crate) fn of(
-        lines: &mut Lines<'_>,
+        lines: &mut Lines,
         bundle: &Bundle,
         judged: &[KeptRules],
         purpose: &ObjectIdentifier<39>,
@@ -160,7 +179,7 @@ impl LengthReasons {
     // Adds that the path to a place is too long, with its first reason.
     pub(crate) fn add(
         &mut self,
-        lines: &mut Lines<'_>,
+        lines: &mut Lines,
         place: &ChainPlace<'_>,
         purpose: &ObjectIdentifier<39>,
     ) {

@@ -8,7 +8,7 @@ use crate::lines::Lines;
 use crate::list_remarks::add_list_remarks;
 use crate::lists::list_of;
 use crate::way_down::{add_way, content_at, is_followed, misplaced};
-use cert_desk_checking::certificates::{CertificateInner, Profile, Raw, Rfc5280};
+use cert_desk_checking::certificates::{CertificateInner, Raw};
 use der_core::{Error, ErrorKind, Tag};
 use std::alloc::{AllocError, Global};
 use x509_cert_lists::CertReq;
@@ -53,15 +53,19 @@ pub(crate) fn is_pem(octets: &[u8]) -> bool {
 }
 
 // Adds the kind of a fault, of what begins with these octets, and why it is one.
-fn add_kind(lines: &mut Lines<'_>, octets: &[u8], kind: ErrorKind) {
+fn add_kind(lines: &mut Lines, octets: &[u8], kind: ErrorKind) {
     lines.note(kind);
-    lines.show("", kind, words_of(kind, octets, content_at(octets, 0)));
+    let (words, section) = words_of(kind, octets, content_at(octets, 0));
+    lines.key("fault");
+    lines.begin();
+    lines.show("", kind, words);
     if kind == ErrorKind::TagUnexpected {
         if let Ok(tag) = Tag::peek(octets) {
             lines.show(" than ", tag, "");
         }
     }
-    lines.push("\n");
+    lines.end();
+    lines.section(section);
 }
 
 // Where the fault of octets stands.
@@ -76,38 +80,48 @@ fn place_of(octets: &[u8], root: Node, error: &Error) -> usize {
     }
 }
 
+// Whether what is wrong with a certificate is that another one stands behind it.
+fn is_first_of_several(octets: &[u8], error: &Error) -> bool {
+    match (error.kind, error.position) {
+        (ErrorKind::TrailingData, Some(place)) => is_followed(octets, place.value as usize),
+        _ => false,
+    }
+}
+
 // Adds what is wrong with a value that begins at an offset of a file, and the way down to it.
 // Of octets that begin with another tag than a record's there is no way.
-fn add_fault(lines: &mut Lines<'_>, octets: &[u8], offset: u64, kind: Node, error: &Error) {
+fn add_fault(lines: &mut Lines, octets: &[u8], offset: u64, kind: Node, error: &Error) {
     let root = match octets {
         [0x30, ..] => kind,
         _ => Node::Other,
     };
     let place = place_of(octets, root, error);
-    lines.place("", offset, place as u64, ": ");
     let rest = match octets.get(place..) {
         Some(rest) => rest,
         None => &[],
     };
+    lines.entry("");
+    lines.place(offset, place as u64);
+    lines.tail(": ");
     add_kind(lines, rest, error.kind);
     add_way(lines, octets, offset, root, place);
+    if let (Node::Certificate, true) = (root, is_first_of_several(octets, error)) {
+        lines.row("", "hint");
+        lines.text("(of several certificates `cert_tool split` gives each)");
+    }
+    lines.close();
 }
 
 // Adds what is wrong with a certificate that begins at an offset of a file, and the way down to it.
-pub(crate) fn add_certificate_fault(
-    lines: &mut Lines<'_>,
-    octets: &[u8],
-    offset: u64,
-    error: &Error,
-) {
+pub(crate) fn add_certificate_fault(lines: &mut Lines, octets: &[u8], offset: u64, error: &Error) {
     add_fault(lines, octets, offset, Node::Certificate, error);
 }
 
-// Why octets aren't of a kind in a profile, if they aren't.
-fn fault_of<P: Profile>(alloc: Global, octets: &[u8], kind: Kind) -> Option<Error> {
+// Why octets aren't of a kind, if they aren't.
+fn fault_of(alloc: Global, octets: &[u8], kind: Kind) -> Option<Error> {
     match kind {
-        Kind::Certificate => CertificateInner::<P>::from_der(alloc, octets).err(),
-        Kind::List => list_of::<P>(alloc, octets).err(),
+        Kind::Certificate => CertificateInner::<Raw>::from_der(alloc, octets).err(),
+        Kind::List => list_of(alloc, octets).err(),
         Kind::Request => CertReq::try_from_bytes(alloc, octets).err(),
     }
 }
@@ -122,7 +136,7 @@ fn root_of(kind: Kind) -> Node {
 }
 
 // Adds what a certificate must not be, though it is read.
-fn add_remarks_of_certificate(lines: &mut Lines<'_>, octets: &[u8]) {
+fn add_remarks_of_certificate(lines: &mut Lines, octets: &[u8]) {
     match CertificateInner::<Raw>::from_der(lines.alloc, octets) {
         Ok(certificate) => add_lone_remarks(lines, &certificate),
         Err(error) => lines.note(error.kind),
@@ -130,20 +144,16 @@ fn add_remarks_of_certificate(lines: &mut Lines<'_>, octets: &[u8]) {
 }
 
 // Adds what a list must not be, though it is read.
-fn add_remarks_of_list(lines: &mut Lines<'_>, octets: &[u8]) {
-    match list_of::<Raw>(lines.alloc, octets) {
+fn add_remarks_of_list(lines: &mut Lines, octets: &[u8]) {
+    match list_of(lines.alloc, octets) {
         Ok(list) => add_list_remarks(lines, &list),
         Err(error) => lines.note(error.kind),
     }
 }
 
 // Adds what is to be said of octets that are of a kind.
-fn add_read(lines: &mut Lines<'_>, octets: &[u8], kind: Kind) {
-    lines.push("the octets are what they should be\n");
-    if let Some(error) = fault_of::<Rfc5280>(lines.alloc, octets, kind) {
-        lines.push("RFC 5280 asks for more than is asked here: ");
-        add_fault(lines, octets, 0, root_of(kind), &error);
-    }
+fn add_read(lines: &mut Lines, octets: &[u8], kind: Kind) {
+    lines.finding("the octets are what they should be");
     match kind {
         Kind::Certificate => add_remarks_of_certificate(lines, octets),
         Kind::List => add_remarks_of_list(lines, octets),
@@ -151,32 +161,22 @@ fn add_read(lines: &mut Lines<'_>, octets: &[u8], kind: Kind) {
     }
 }
 
-// Whether what is wrong with a certificate is that another one stands behind it.
-fn is_first_of_several(octets: &[u8], error: &Error) -> bool {
-    match (error.kind, error.position) {
-        (ErrorKind::TrailingData, Some(place)) => is_followed(octets, place.value as usize),
-        _ => false,
-    }
-}
-
-// Adds why octets aren't of a kind.
-fn add_refusal(lines: &mut Lines<'_>, octets: &[u8], kind: Kind, error: &Error) {
-    add_fault(lines, octets, 0, root_of(kind), error);
-    if let Kind::Certificate = kind {
-        if is_first_of_several(octets, error) {
-            lines.push("  (of several certificates `cert_tool split` gives each)\n");
-        }
-    }
-}
-
 // How OpenSSL makes DER of PEM.
 fn pem_hint(kind: Kind) -> &'static str {
     match kind {
         Kind::Certificate => {
-            "the file is PEM, and DER is read: `openssl x509 -in FILE -outform DER`\n"
+            "the file is PEM, and DER is read: `openssl x509 -in FILE -outform DER`"
         }
-        Kind::List => "the file is PEM, and DER is read: `openssl crl -in FILE -outform DER`\n",
-        Kind::Request => "the file is PEM, and DER is read: `openssl req -in FILE -outform DER`\n",
+        Kind::List => "the file is PEM, and DER is read: `openssl crl -in FILE -outform DER`",
+        Kind::Request => "the file is PEM, and DER is read: `openssl req -in FILE -outform DER`",
+    }
+}
+
+// Adds what is to be said of octets of a kind.
+fn add_findings(lines: &mut Lines, octets: &[u8], kind: Kind) {
+    match fault_of(lines.alloc, octets, kind) {
+        Some(error) => add_fault(lines, octets, 0, root_of(kind), &error),
+        None => add_read(lines, octets, kind),
     }
 }
 
@@ -187,15 +187,15 @@ pub(crate) fn explain_octets(
     alloc: Global,
     octets: &[u8],
     kind: Kind,
-) -> Result<String, AllocError> {
-    let mut lines = Lines::without_names(alloc);
+    is_json: bool,
+) -> Result<Vec<u8>, AllocError> {
+    let mut lines = Lines::new(alloc, is_json);
+    lines.list("findings");
     if is_pem(octets) {
-        lines.push(pem_hint(kind));
-        return lines.finish();
+        lines.finding(pem_hint(kind));
+    } else {
+        add_findings(&mut lines, octets, kind);
     }
-    match fault_of::<Raw>(alloc, octets, kind) {
-        Some(error) => add_refusal(&mut lines, octets, kind, &error),
-        None => add_read(&mut lines, octets, kind),
-    }
+    lines.end_list();
     lines.finish()
 }

@@ -5,17 +5,35 @@ use cert_desk_checking::certificates::{Extension, Time};
 use std::alloc::Global;
 use std::collections::BTreeMap;
 
-// A remark, and whether it is made.
-pub(crate) type Remark = (bool, &'static str);
+// A remark: whether it is made, and the section that says so.
+pub(crate) type Remark = (bool, &'static str, &'static str);
 
-// Adds a line for each of these remarks that is made, behind blanks.
-pub(crate) fn add_each(lines: &mut Lines<'_>, blanks: &str, remarks: &[Remark]) {
-    for (is_made, text) in remarks {
+// Begins a remark.
+pub(crate) fn begin_remark(lines: &mut Lines) {
+    lines.entry("remark:");
+    lines.key("remark");
+    lines.begin();
+}
+
+// Ends its text, with the section that says so, if one does.
+pub(crate) fn end_text(lines: &mut Lines, section: &str) {
+    lines.end();
+    lines.section(section);
+}
+
+// Ends it.
+pub(crate) fn end_remark(lines: &mut Lines, section: &str) {
+    end_text(lines, section);
+    lines.close();
+}
+
+// Adds each of these remarks that is made.
+pub(crate) fn add_each(lines: &mut Lines, remarks: &[Remark]) {
+    for (is_made, text, section) in remarks {
         if *is_made {
-            lines.push(blanks);
-            lines.push("remark: ");
+            begin_remark(lines);
             lines.push(text);
-            lines.push("\n");
+            end_remark(lines, section);
         }
     }
 }
@@ -28,9 +46,18 @@ pub(crate) fn is_long_for_its_year(date: &Time) -> bool {
     }
 }
 
+// Whether a serial number isn't above zero, or has more than 20 octets (RFC 5280 4.1.2.2).
+pub(crate) fn is_wrong_serial(serial: &[u8]) -> bool {
+    match serial {
+        [] | [0] | [0x80..=0xff, ..] => true,
+        [0, rest @ ..] => rest.len() > 20,
+        _ => serial.len() > 20,
+    }
+}
+
 // What RFC 5280 4.1.2.2 forbids of a serial number that is read all the same: it is to be above
 // zero, and of at most 20 octets and one for the sign.
-pub(crate) fn add_serial_remarks(lines: &mut Lines<'_>, blanks: &str, serial: &[u8]) {
+pub(crate) fn add_serial_remarks(lines: &mut Lines, serial: &[u8]) {
     let is_below_zero = matches!(serial, [0x80..=0xff, ..]);
     let amount = match serial {
         [0, rest @ ..] => rest,
@@ -38,19 +65,21 @@ pub(crate) fn add_serial_remarks(lines: &mut Lines<'_>, blanks: &str, serial: &[
     };
     add_each(
         lines,
-        blanks,
         &[
             (
                 amount.is_empty(),
-                "the serial number is zero (RFC 5280 4.1.2.2)",
+                "the serial number is zero",
+                "RFC 5280 4.1.2.2",
             ),
             (
                 is_below_zero,
-                "the serial number is below zero (RFC 5280 4.1.2.2)",
+                "the serial number is below zero",
+                "RFC 5280 4.1.2.2",
             ),
             (
                 amount.len() > 20,
-                "the serial number has more than 20 octets (RFC 5280 4.1.2.2)",
+                "the serial number has more than 20 octets",
+                "RFC 5280 4.1.2.2",
             ),
         ],
     );
@@ -71,7 +100,7 @@ impl Seen {
     }
 
     // Takes one more; answers whether it was seen before.
-    pub(crate) fn take(&mut self, lines: &mut Lines<'_>, octets: &[u8]) -> bool {
+    pub(crate) fn take(&mut self, lines: &mut Lines, octets: &[u8]) -> bool {
         let Ok(text) = octets.to_vec(lines.alloc) else {
             lines.fail();
             return false;
@@ -87,7 +116,7 @@ impl Seen {
 }
 
 // Whether two of these extensions are of one kind (RFC 5280 4.2).
-pub(crate) fn has_twins(lines: &mut Lines<'_>, extensions: &[Extension]) -> bool {
+pub(crate) fn has_twins(lines: &mut Lines, extensions: &[Extension]) -> bool {
     let mut seen = Seen::new(lines.alloc);
     for extension in extensions {
         if seen.take(lines, extension.extn_id.as_bytes()) {

@@ -31,7 +31,7 @@ impl SerialNumbers {
     }
 
     // Takes one place more; answers the last one before of the same issuer and serial number.
-    pub(crate) fn take(&mut self, lines: &mut Lines<'_>, place: &ChainPlace<'_>) -> Option<usize> {
+    pub(crate) fn take(&mut self, lines: &mut Lines, place: &ChainPlace<'_>) -> Option<usize> {
         let Ok(identity) = identity_of(lines.alloc, place) else {
             lines.fail();
             return None;

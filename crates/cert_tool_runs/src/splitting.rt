@@ -1,10 +1,10 @@
 //! Runs that take streams apart.
 
-ghost use Rattle.std.specs.Prelude.{◌≡◌, ◌≤◌, IfOk, string_bytes};
+ghost use Rattle.std.specs.Prelude.{◌≡◌, ◌≤◌, IfOk, string_bytes, true};
 ghost use Rattle.cert_desk_io.specs.Devices.{sink, source};
 ghost use Rattle.cert_desk_checking.specs.Streams.{Kept};
-ghost use Rattle.cert_tool_runs.specs.Splitting.{IsListed, IsReversed, IsTaken, place_lines};
-ghost use Rattle.cert_tool_runs.specs.Splitting.{reversed};
+ghost use Rattle.cert_tool_runs.specs.Splitting.{IsListed, IsReversed, IsTaken, comma_before};
+ghost use Rattle.cert_tool_runs.specs.Splitting.{place_lines, places_text, reversed};
 ghost use Rattle.cert_tool_runs.specs.Stops.{FedWithin};
 
 use crate::stopping::tell_stop;
@@ -26,6 +26,32 @@ fn list_of(alloc: Global, bundle: &Bundle) -> Result<String, AllocError>
     Ok(text)
 }
 
+// What stands before the object of a place.
+fn comma_before(place: usize) -> &'static str
+    ensures { result.now ≡ comma_before place }
+{
+    if place == 0 { "" } else { "," }
+}
+
+// Where the certificates stand as JSON: an array of objects.
+fn json_of(alloc: Global, bundle: &Bundle) -> Result<String, AllocError>
+    ensures { IfOk result (λ text. string_bytes text ≡ places_text true bundle.now.certificates) }
+{
+    let mut text = String::new(alloc);
+    text.push_str("[")?;
+    for place in 0..bundle.len() {
+        let entry = bundle.get(place).unwrap();
+        let (offset, len) = (entry.offset, entry.octets.len());
+        let comma = comma_before(place);
+        write!(
+            text,
+            "{comma}{{\"place\":{place},\"offset\":{offset},\"length\":{len}}}"
+        )?;
+    }
+    text.push_str("]\n")?;
+    Ok(text)
+}
+
 // The octets of the certificates, the last one first.
 fn reversed(alloc: Global, bundle: &Bundle) -> Result<Vec<u8>, AllocError>
     ensures { IfOk result (λ octets. octets.items ≡ reversed bundle.now.certificates) }
@@ -39,8 +65,19 @@ fn reversed(alloc: Global, bundle: &Bundle) -> Result<Vec<u8>, AllocError>
     Ok(octets)
 }
 
+// Where the certificates stand.
+fn text_of(alloc: Global, bundle: &Bundle, json: bool) -> Result<String, AllocError>
+    ensures { IfOk result (λ text. string_bytes text ≡ places_text json bundle.now.certificates) }
+{
+    if json {
+        json_of(alloc, bundle)
+    } else {
+        list_of(alloc, bundle)
+    }
+}
+
 /// Writes where each certificate of a stream stands, a line each: `PLACE OFFSET LENGTH`, in
-/// decimal.
+/// decimal. As JSON that is an array of objects, with the members `place`, `offset` and `length`.
 ///
 /// The certificates before a fault are listed too, and then the fault is told on the error output.
 pub fn run_list<S: Input, O: Output, E: Output>(
@@ -49,15 +86,16 @@ pub fn run_list<S: Input, O: Output, E: Output>(
     out: &mut O,
     err: &mut E,
     limit: u32,
+    json: bool,
 ) -> ExitStatus
     requires { 6 ≤ limit }
     ensures told { (kept : Kept)
         × FedWithin (source S.takes S.is_ended S.failures stream.old stream.new) limit kept
-        × IsListed (sink O.gives O.failures out.old out.new)
+        × IsListed json (sink O.gives O.failures out.old out.new)
         (sink E.gives E.failures err.old err.new) kept result }
 {
     let bundle = read_stream(alloc, limit, stream);
-    let Ok(text) = list_of(alloc, &bundle) else {
+    let Ok(text) = text_of(alloc, &bundle, json) else {
         return tell_memory(err);
     };
     let status = answer(out, err, text.as_bytes(), ExitStatus::Done);

@@ -9,12 +9,12 @@ use std::alloc::{AllocError, Global};
 
 // What is said of certificates in PEM.
 pub(crate) const PEM_STREAM: &str =
-    "the file is PEM, and DER is read: `tools/pem_to_der.sh <FILE` makes DER of all of it\n";
+    "the file is PEM, and DER is read: `tools/pem_to_der.sh <FILE` makes DER of all of it";
 
 // What is said of certificates that stand as TLS sends them.
 pub(crate) const LEAF_FIRST: &str =
     "the certificates stand as TLS sends them, the leaf first: `cert_tool reverse` turns them \
-     round\n";
+     round";
 
 // What a fault of a stream means.
 fn meaning(kind: FaultKind) -> &'static str {
@@ -31,7 +31,7 @@ fn meaning(kind: FaultKind) -> &'static str {
 }
 
 // Adds why the octets at an offset are no certificate.
-fn add_malformed(lines: &mut Lines<'_>, rest: &[u8], offset: u64) {
+fn add_malformed(lines: &mut Lines, rest: &[u8], offset: u64) {
     match first_fault(lines.alloc, rest) {
         Ok(Some(error)) => add_certificate_fault(lines, rest, offset, &error),
         Ok(None) => {}
@@ -40,7 +40,7 @@ fn add_malformed(lines: &mut Lines<'_>, rest: &[u8], offset: u64) {
 }
 
 // Adds the fault of a stream.
-fn add_stream_fault(lines: &mut Lines<'_>, octets: &[u8], error: BundleError) {
+fn add_stream_fault(lines: &mut Lines, octets: &[u8], error: BundleError) {
     let BundleError::Fault {
         place,
         offset,
@@ -50,10 +50,16 @@ fn add_stream_fault(lines: &mut Lines<'_>, octets: &[u8], error: BundleError) {
         lines.fail();
         return;
     };
-    lines.count("certificate ", place as u64, ", ");
-    lines.count("octet ", offset, ": ");
-    lines.push(meaning(kind));
-    lines.push("\n");
+    lines.entry("certificate");
+    lines.key("certificate");
+    lines.count(place as u64);
+    lines.tail(", octet ");
+    lines.key("octet");
+    lines.count(offset);
+    lines.tail(": ");
+    lines.key("fault");
+    lines.text(meaning(kind));
+    lines.close();
     let start = offset as usize;
     if kind == FaultKind::Malformed && start <= octets.len() {
         add_malformed(lines, &octets[start..], offset);
@@ -77,13 +83,17 @@ pub(crate) fn is_leaf_first(bundle: &Bundle) -> bool {
 }
 
 // Adds what is to be said of a whole stream.
-fn add_whole(lines: &mut Lines<'_>, bundle: &Bundle) {
+fn add_whole(lines: &mut Lines, bundle: &Bundle) {
     if bundle.is_empty() {
-        lines.push("the stream is empty\n");
+        lines.finding("the stream is empty");
     } else if is_leaf_first(bundle) {
-        lines.push(LEAF_FIRST);
+        lines.finding(LEAF_FIRST);
     } else {
-        lines.count("certificates: ", bundle.len() as u64, ", each whole\n");
+        lines.entry("certificates:");
+        lines.key("certificates");
+        lines.count(bundle.len() as u64);
+        lines.tail(", each whole");
+        lines.close();
     }
 }
 
@@ -94,7 +104,7 @@ fn feed_all(bundle: &mut Bundle, octets: &[u8]) -> Result<(), BundleError> {
 }
 
 // Adds what is to be said of a stream.
-fn add_stream(lines: &mut Lines<'_>, octets: &[u8], limit: u32)
+fn add_stream(lines: &mut Lines, octets: &[u8], limit: u32)
     requires { 6 ≤ limit }
 {
     let mut bundle = Bundle::new(lines.alloc, limit);
@@ -107,14 +117,21 @@ fn add_stream(lines: &mut Lines<'_>, octets: &[u8], limit: u32)
 // Why octets aren't certificates, one behind the other, each of at most `limit` octets: the first
 // fault, the octet where it stands, and the parts around it. Certificates in the order of TLS, the
 // leaf first, are said to be so.
-pub(crate) fn explain_stream(alloc: Global, octets: &[u8], limit: u32) -> Result<String, AllocError>
+pub(crate) fn explain_stream(
+    alloc: Global,
+    octets: &[u8],
+    limit: u32,
+    is_json: bool,
+) -> Result<Vec<u8>, AllocError>
     requires { 6 ≤ limit }
 {
-    let mut lines = Lines::without_names(alloc);
+    let mut lines = Lines::new(alloc, is_json);
+    lines.list("findings");
     if is_pem(octets) {
-        lines.push(PEM_STREAM);
+        lines.finding(PEM_STREAM);
     } else {
         add_stream(&mut lines, octets, limit);
     }
+    lines.end_list();
     lines.finish()
 }

@@ -26,11 +26,11 @@ fn split_input<I: Input, O: Output, E: Output>(
     ensures { (kept : Kept)
         × FedWithin (source I.takes I.is_ended I.failures stream.old stream.new)
         task.now.limit kept
-        × IsSplitAt task.now.place (sink O.gives O.failures out.old out.new)
+        × IsSplitAt task.now.json task.now.place (sink O.gives O.failures out.old out.new)
         (sink E.gives E.failures err.old err.new) kept result }
 {
     match task.place {
-        None => run_list(alloc, stream, out, err, task.limit),
+        None => run_list(alloc, stream, out, err, task.limit, task.json),
         Some(place) => run_take(alloc, stream, out, err, task.limit, place as usize),
     }
 }

@@ -2,6 +2,7 @@
 
 use crate::given::{Key, WordFault};
 use crate::help::help_of;
+use crate::no_command::no_command_line;
 use crate::tasks::{Misuse, Task};
 use cert_desk_io::{ExitStatus, Output, tell_memory, write_all};
 use std::alloc::{AllocError, Global};
@@ -28,6 +29,7 @@ fn word_of(key: Key) -> &'static str {
         Key::Purpose => "--purpose",
         Key::Limit => "--limit",
         Key::Place => "--place",
+        Key::Json => "--json",
     }
 }
 
@@ -42,12 +44,16 @@ fn values_of(key: Key) -> &'static str {
         }
         Key::Limit => "a number of octets from 6 to 4294967295",
         Key::Place => "the number of a certificate, counted from 0",
+        Key::Json => "without a value",
     }
 }
 
 // What is wrong with options, values and other words, in one line.
 fn fault_line(alloc: Global, fault: WordFault<'_>) -> Result<String, AllocError> {
     match fault {
+        WordFault::Unknown(word) if word.contains('=') => {
+            format!(in alloc; "{word:?}: a value stands behind its option, as in --limit 4096\n")
+        }
         WordFault::Unknown(word) => format!(in alloc; "there is no option {word:?}\n"),
         WordFault::Twice(key) => format!(in alloc; "{} is given twice\n", word_of(key)),
         WordFault::NoValue(key) => format!(in alloc; "{} has no value\n", word_of(key)),
@@ -56,14 +62,17 @@ fn fault_line(alloc: Global, fault: WordFault<'_>) -> Result<String, AllocError>
 }
 
 // What is wrong with words, in one line.
-fn misuse_line(alloc: Global, misuse: Misuse<'_>) -> Result<String, AllocError> {
+fn misuse_line(alloc: Global, words: &[&str], misuse: Misuse<'_>) -> Result<String, AllocError> {
     match misuse {
         Misuse::Words(fault) => fault_line(alloc, fault),
-        Misuse::NoCommand => format!(in alloc; "no command with a file behind it\n"),
+        Misuse::NoCommand => no_command_line(alloc, words),
         Misuse::Missing(key) => format!(in alloc; "{} is missing\n", word_of(key)),
         Misuse::Excess(key) => format!(in alloc; "this command has no {}\n", word_of(key)),
         Misuse::Wrong(key, text) => {
             format!(in alloc; "{}: {text:?} isn't {}\n", word_of(key), values_of(key))
+        }
+        Misuse::OctetsInJson => {
+            format!(in alloc; "--place writes octets, which --json has no form for\n")
         }
         Misuse::SharedInput => format!(in alloc; "two files are standard input\n"),
     }
@@ -76,7 +85,7 @@ pub(crate) fn tell_misuse<E: Output>(
     misuse: Misuse<'_>,
     err: &mut E,
 ) {
-    tell(err, misuse_line(alloc, misuse));
+    tell(err, misuse_line(alloc, words, misuse));
     let help = match misuse {
         Misuse::NoCommand => help_of(words),
         _ => "cert_tool COMMAND --help tells how it is called\n",

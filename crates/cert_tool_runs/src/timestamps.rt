@@ -6,6 +6,7 @@ use cert_desk_checking::types::timestamps::{
     DigitallySigned, Error, HashAlgorithm, SerializedSct, SignatureAlgorithm,
     SignedCertificateTimestamp, SignedCertificateTimestampList, TlsError,
 };
+use der_core::ErrorKind;
 
 // The name of a hash (RFC 5246 7.4.1.4.1, RFC 8422 5.1.3).
 fn hash_name(hash: &HashAlgorithm) -> &'static str {
@@ -34,53 +35,74 @@ fn signature_name(signature: &SignatureAlgorithm) -> &'static str {
 }
 
 // Adds the line of a signature.
-fn add_signature(lines: &mut Lines<'_>, signed: &DigitallySigned) {
-    lines.push("    signature ");
-    lines.push(hash_name(&signed.algorithm.hash));
-    lines.push(" ");
-    lines.push(signature_name(&signed.algorithm.signature));
-    lines.octets(" ", signed.signature.as_slice(), "\n");
+fn add_signature(lines: &mut Lines, signed: &DigitallySigned) {
+    lines.row("signature", "hashAlgorithm");
+    lines.text(hash_name(&signed.algorithm.hash));
+    lines.key("signatureAlgorithm");
+    lines.text(signature_name(&signed.algorithm.signature));
+    lines.key("signature");
+    lines.octets(signed.signature.as_slice());
+}
+
+// Adds the line of a date, in milliseconds, if it is one, or of the milliseconds alone.
+fn add_date(lines: &mut Lines, timestamp: &SignedCertificateTimestamp) {
+    lines.line();
+    let mut left = timestamp.timestamp;
+    if let Ok(date) = timestamp.timestamp() {
+        lines.key("date");
+        lines.value(date);
+        lines.word("+");
+        left = timestamp.timestamp % 1000;
+    }
+    lines.key("milliseconds");
+    lines.count(left);
+    lines.word("ms");
 }
 
 // Adds the lines of a timestamp.
-fn add_timestamp(lines: &mut Lines<'_>, timestamp: &SignedCertificateTimestamp) {
-    lines.octets("  log ", timestamp.log_id.key_id.as_slice(), "\n");
-    match timestamp.timestamp() {
-        Ok(date) => {
-            lines.show("    ", date, "");
-            lines.count(" + ", timestamp.timestamp % 1000, " ms\n");
-        }
-        Err(_) => lines.count("    ", timestamp.timestamp, " ms\n"),
-    }
+fn add_timestamp(lines: &mut Lines, timestamp: &SignedCertificateTimestamp) {
+    lines.entry("log");
+    lines.key("logID");
+    lines.octets(timestamp.log_id.key_id.as_slice());
+    add_date(lines, timestamp);
     if !timestamp.extensions.is_empty() {
-        lines.octets("    extensions ", timestamp.extensions.as_slice(), "\n");
+        lines.row("extensions", "extensions");
+        lines.octets(timestamp.extensions.as_slice());
     }
     add_signature(lines, &timestamp.signature);
+    lines.close();
 }
 
 // Adds that timestamps aren't what they should be.
-fn add_fault(lines: &mut Lines<'_>, error: Error) {
+fn add_fault(lines: &mut Lines, error: Error) {
     if let Error::Tls(TlsError::OutOfMemory) = error {
         lines.fail();
     }
-    lines.push("  malformed\n");
+    lines.malformed("malformed", ErrorKind::Failed);
 }
 
 // Adds the lines of a timestamp as it is written.
-fn add_written(lines: &mut Lines<'_>, written: &SerializedSct) {
+fn add_written(lines: &mut Lines, written: &SerializedSct) {
     match written.parse_timestamp(lines.alloc) {
         Ok(timestamp) => add_timestamp(lines, &timestamp),
-        Err(error) => add_fault(lines, error),
+        Err(error) => {
+            lines.comma();
+            lines.brace();
+            add_fault(lines, error);
+            lines.end_brace();
+        }
     }
 }
 
 impl Describe for SignedCertificateTimestampList {
-    fn describe(&self, lines: &mut Lines<'_>) {
+    fn describe(&self, lines: &mut Lines) {
         match self.parse_timestamps(lines.alloc) {
             Ok(listed) => {
+                lines.list("timestamps");
                 for written in &listed {
                     add_written(lines, written);
                 }
+                lines.end_list();
             }
             Err(error) => add_fault(lines, error),
         }

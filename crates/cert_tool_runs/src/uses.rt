@@ -8,15 +8,17 @@ use cert_desk_checking::types::policies::{BasicConstraints, PrivateKeyUsagePerio
 use cert_desk_checking::types::{ExtendedKeyUsage, KeyUsage, SubjectKeyIdentifier};
 
 impl Describe for SubjectKeyIdentifier {
-    fn describe(&self, lines: &mut Lines<'_>) {
-        lines.octets("  key ", self.0.as_bytes(), "\n");
+    fn describe(&self, lines: &mut Lines) {
+        lines.row("key", "keyIdentifier");
+        lines.octets(self.0.as_bytes());
     }
 }
 
 impl Describe for KeyUsage {
-    fn describe(&self, lines: &mut Lines<'_>) {
+    fn describe(&self, lines: &mut Lines) {
         lines.flags(
-            "  ",
+            "",
+            "uses",
             &[
                 (self.digital_signature(), "digitalSignature"),
                 (self.non_repudiation(), "contentCommitment"),
@@ -33,58 +35,71 @@ impl Describe for KeyUsage {
 }
 
 impl Describe for ExtendedKeyUsage {
-    fn describe(&self, lines: &mut Lines<'_>) {
+    fn describe(&self, lines: &mut Lines) {
+        lines.list("purposes");
         for purpose in &self.0 {
-            lines.identifier("  ", purpose, "\n");
+            lines.entry("");
+            lines.members_of(purpose);
+            lines.close();
         }
+        lines.end_list();
     }
+}
+
+// Adds a line for a number.
+pub(crate) fn add_count(lines: &mut Lines, word: &str, key: &str, count: u64) {
+    lines.row(word, key);
+    lines.count(count);
 }
 
 impl Describe for BasicConstraints {
-    fn describe(&self, lines: &mut Lines<'_>) {
-        lines.push(if self.ca {
-            "  authority yes\n"
-        } else {
-            "  authority no\n"
-        });
+    fn describe(&self, lines: &mut Lines) {
+        lines.row("authority", "cA");
+        lines.truth(self.ca);
         if let Some(len) = self.path_len_constraint {
-            lines.count("  path length ", u64::from(len), "\n");
+            add_count(lines, "path length", "pathLenConstraint", u64::from(len));
         }
     }
 }
 
-// Adds a date.
-fn add_date(lines: &mut Lines<'_>, before: &str, date: &GeneralizedTime) {
-    lines.show(before, date.to_date_time(), "\n");
+// Adds a line for a date.
+fn add_date(lines: &mut Lines, word: &str, key: &str, date: &GeneralizedTime) {
+    lines.row(word, key);
+    lines.value(date.to_date_time());
 }
 
 // Since when a key may have been in other hands.
 impl Describe for GeneralizedTime {
-    fn describe(&self, lines: &mut Lines<'_>) {
-        add_date(lines, "  ", self);
+    fn describe(&self, lines: &mut Lines) {
+        add_date(lines, "", "date", self);
     }
 }
 
 impl Describe for PrivateKeyUsagePeriod {
-    fn describe(&self, lines: &mut Lines<'_>) {
+    fn describe(&self, lines: &mut Lines) {
         if let Some(date) = &self.not_before {
-            add_date(lines, "  not-before ", date);
+            add_date(lines, "not-before", "notBefore", date);
         }
         if let Some(date) = &self.not_after {
-            add_date(lines, "  not-after ", date);
+            add_date(lines, "not-after", "notAfter", date);
         }
     }
 }
 
 // The extensions of TLS that a server must answer (RFC 6066 1.1, RFC 6961 2.2).
 impl Describe for Vec<u16> {
-    fn describe(&self, lines: &mut Lines<'_>) {
+    fn describe(&self, lines: &mut Lines) {
+        lines.list("features");
         for feature in self {
-            match *feature {
-                5 => lines.push("  status_request (5)\n"),
-                17 => lines.push("  status_request_v2 (17)\n"),
-                number => lines.count("  ", u64::from(number), "\n"),
+            lines.item(match *feature {
+                5 => "status_request (5)",
+                17 => "status_request_v2 (17)",
+                _ => "",
+            });
+            if lines.is_json || (*feature != 5 && *feature != 17) {
+                lines.count(u64::from(*feature));
             }
         }
+        lines.end_list();
     }
 }

@@ -5,18 +5,23 @@ ghost use Rattle.cert_desk_io.specs.Devices.{sink, source};
 ghost use Rattle.cert_desk_checking.specs.declared.outcome.Outcome.{Outcome};
 ghost use Rattle.cert_desk_checking.specs.Anchors.{purpose_plain};
 ghost use Rattle.cert_desk_checking.specs.Questions.{Question};
-ghost use Rattle.cert_desk_checking.specs.Runs.{IsOutcome, IsTold, judging};
+ghost use Rattle.cert_desk_checking.specs.Runs.{IsOutcome, judging};
 ghost use Rattle.cert_desk_checking.specs.declared.answers_judge.AnswersJudge.{AnswersJudge};
 ghost use Rattle.cert_tool_runs.specs.declared.no_answers.NoAnswers.{NoAnswers};
 ghost use Rattle.cert_desk_checking.specs.Answers.{answer_plain, listed};
 ghost use Rattle.cert_desk_checking.specs.Judges.{judge_answers, judge_questions};
-ghost use Rattle.cert_tool_runs.specs.Verifying.{AreAnswers, IsNoneTold, wrong_line};
+ghost use Rattle.cert_tool_runs.specs.Verifying.{AreAnswers, IsNoneTold, IsToldAs, wrong_line};
+ghost use Rattle.cert_tool_runs.specs.Verifying.{verdict_json, verdict_text};
 
 use crate::answer_lines::answers_in;
+use crate::finding::find_outcome;
 use crate::no_answers::NoAnswers;
-use cert_desk_checking::{Answer, AnswersJudge, run_check};
+use crate::stopping::tell_stop;
+use cert_desk_checking::{
+    Answer, AnswersJudge, Checked, Outcome, Verdict, status_of, verdict_line,
+};
 use cert_desk_io::{
-    ExitStatus, Input, Output, ReadAllError, complain, read_all, tell_device, tell_memory,
+    ExitStatus, Input, Output, ReadAllError, answer, complain, read_all, tell_device, tell_memory,
 };
 use const_oid::ObjectIdentifier;
 use std::alloc::{AllocError, Global};
@@ -66,8 +71,64 @@ pub fn tell_none<E: Output>(alloc: Global, none: NoAnswers, err: &mut E) -> Exit
     }
 }
 
+// What is said of a verdict as JSON.
+fn verdict_json(alloc: Global, checked: Checked) -> Result<String, AllocError>
+    ensures { IfOk result (λ text. string_bytes text
+        ≡ verdict_json checked.verdict checked.calls) }
+{
+    let calls = checked.calls;
+    match checked.verdict {
+        Verdict::Trusted => { format!(in alloc; "{{\"verdict\":\"trusted\",\"calls\":{calls}}}\n") }
+        Verdict::Refused { place, rule } => format!(in alloc;
+            "{{\"verdict\":\"refused\",\"place\":{place},\"rule\":\"{rule}\",\"calls\":{calls}}}\n"
+        ),
+        Verdict::StreamFault {
+            place,
+            offset,
+            kind,
+        } => format!(in alloc;
+            "{{\"verdict\":\"fault\",\"place\":{place},\"offset\":{offset},\"kind\":\"{kind}\"}}\n"
+        ),
+        Verdict::Empty => format!(in alloc; "{{\"verdict\":\"empty\"}}\n"),
+    }
+}
+
+// What is said of a verdict, as JSON or as a line.
+fn verdict_text(alloc: Global, checked: Checked, json: bool) -> Result<String, AllocError>
+    ensures { IfOk result (λ text. string_bytes text
+        ≡ verdict_text json checked.verdict checked.calls) }
+{
+    if json {
+        verdict_json(alloc, checked)
+    } else {
+        verdict_line(alloc, checked)
+    }
+}
+
+// Tells an outcome, and answers the status.
+fn tell_outcome<O: Output, E: Output>(
+    alloc: Global,
+    outcome: Outcome,
+    json: bool,
+    out: &mut O,
+    err: &mut E,
+) -> ExitStatus
+    ensures { IsToldAs json (sink O.gives O.failures out.old out.new)
+        (sink E.gives E.failures err.old err.new) outcome result }
+{
+    let Outcome::Checked(checked) = outcome else {
+        return tell_stop(alloc, outcome, err);
+    };
+    match verdict_text(alloc, checked, json) {
+        Ok(text) => answer(out, err, text.as_bytes(), status_of(checked.verdict)),
+        Err(_) => tell_memory(err),
+    }
+}
+
 /// Judges the stream of one input under the anchors of another as `run_check` does, by a judge that
-/// says yes to the answers of a third, and no to all else.
+/// says yes to the answers of a third, and no to all else. The verdict is told in a line, or as
+/// JSON: an object with the members `verdict`, `place`, `rule`, `offset`, `kind` and `calls`, of
+/// which it has those that its line has.
 ///
 /// The answers are read first, to their end, as `answers_in` reads them; where a line is faulty
 /// `answers: line N` goes to `err`, and nothing else is read. So does `answers: line 1` where there
@@ -82,10 +143,11 @@ pub fn run_verify<N: Input, A: Input, S: Input, O: Output, E: Output>(
     moment: u64,
     purpose: &ObjectIdentifier<39>,
     limit: u32,
+    json: bool,
 ) -> Result<ExitStatus, ExitStatus>
     requires { 6 ≤ limit }
-    // These are the answers, and the run is as `run_check` says under a judge that says yes to
-    // these alone.
+    // These are the answers, and what is found and told is what `run_check` finds under a judge
+    // that says yes to these alone.
     ensures judged { IfOk result (λ status. (listing : List Question) × (old_judge : AnswersJudge)
         × (new_judge : AnswersJudge) × (outcome : Outcome)
         × AreAnswers (source N.takes N.is_ended N.failures answers.old answers.new) (Ok listing)
@@ -95,7 +157,7 @@ pub fn run_verify<N: Input, A: Input, S: Input, O: Output, E: Output>(
         (source S.takes S.is_ended S.failures stream.old stream.new)
         (judging judge_answers judge_questions old_judge new_judge)
         moment (purpose_plain purpose.now) limit outcome
-        × IsTold (sink O.gives O.failures out.old out.new)
+        × IsToldAs json (sink O.gives O.failures out.old out.new)
         (sink E.gives E.failures err.old err.new) outcome status) }
     // There are none, which is told, and nothing else is touched.
     ensures none { IfErr result (λ status. (none : NoAnswers)
@@ -108,8 +170,6 @@ pub fn run_verify<N: Input, A: Input, S: Input, O: Output, E: Output>(
         Err(none) => return Err(tell_none(alloc, none, err)),
     };
     let mut judge = AnswersJudge::new(answers);
-    let status = run_check(
-        alloc, anchors, stream, out, err, moment, purpose, limit, &mut judge,
-    );
-    Ok(status)
+    let outcome = find_outcome(alloc, anchors, stream, moment, purpose, limit, &mut judge);
+    Ok(tell_outcome(alloc, outcome, json, out, err))
 }

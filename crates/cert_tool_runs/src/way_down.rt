@@ -117,29 +117,56 @@ pub(crate) fn misplaced(octets: &[u8], root: Node, place: usize) -> usize {
     place
 }
 
-// Adds the values in which an octet of these stands, from the outermost on, and what may stand
+// Adds a value in which an octet of the others stands, that begins at a place.
+fn add_part(lines: &mut Lines, name: &str, tag: Tag, offset: u64, place: usize) {
+    lines.entry("in");
+    lines.key("part");
+    lines.text(name);
+    lines.tail(" (");
+    lines.key("type");
+    lines.value(tag);
+    lines.tail(", ");
+    lines.place(offset, place as u64);
+    lines.tail(")");
+    lines.close();
+}
+
+// Adds the values in which an octet of these stands, from the outermost on; answers which may stand
 // there, if it begins one that may not. They begin at an offset of a file.
-pub(crate) fn add_way(lines: &mut Lines<'_>, octets: &[u8], offset: u64, root: Node, place: usize) {
+fn add_parts(
+    lines: &mut Lines,
+    octets: &[u8],
+    offset: u64,
+    root: Node,
+    place: usize,
+) -> Option<Fields> {
     let Some(mut around) = part_at(octets, 0) else {
-        return;
+        return None;
     };
     let mut node = root;
     for _ in 0..64 {
         let Some(step) = step_in(octets, around, node, place) else {
-            return;
+            return None;
         };
         let part = step.part;
         let Some((name, inner, _)) = step.fields.take(part.first) else {
-            step.fields.add(lines);
-            return;
+            return Some(step.fields);
         };
         if !name.is_empty() {
-            lines.push("  in ");
-            lines.push(name);
-            lines.show(" (", part.tag, ", ");
-            lines.place("", offset, part.start as u64, ")\n");
+            add_part(lines, name, part.tag, offset, part.start);
         }
         node = inner;
         around = part;
+    }
+    None
+}
+
+// Adds the way down to an octet of these, and what may stand there, if it begins what may not.
+pub(crate) fn add_way(lines: &mut Lines, octets: &[u8], offset: u64, root: Node, place: usize) {
+    lines.list("path");
+    let expected = add_parts(lines, octets, offset, root, place);
+    lines.end_list();
+    if let Some(fields) = expected {
+        fields.add(lines);
     }
 }

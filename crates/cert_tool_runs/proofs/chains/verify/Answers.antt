@@ -1,6 +1,5 @@
 use Rattle.std.proofs.Common.{inl, subst}
 use Rattle.cert_desk_io.specs.Devices.{sink, source}
-use Rattle.cert_desk_checking.specs.Anchors.{purpose_plain}
 use Rattle.cert_tool_runs.specs.TaskRuns.{IsJudged}
 use Rattle.cert_tool_runs.proofs.chains.verify.Goals as goal
 
@@ -30,7 +29,7 @@ returns g c =
                 c.judged-status.new.err,
                 subst
                     (λ before. IsJudged answers anchors stream out (sink g.E.Output.gives g.E.Output.failures before c.judged-status.new.err) c.in-Some.seconds
-                    (purpose_plain c.args.task.now.purpose) c.args.task.now.limit c.judged-status.result)
+                    c.args.task.now c.judged-status.result)
                     c.in-Ok.ensures.untold c.judged-status.ensures,
               ),
             ),

@@ -17,7 +17,7 @@ returns g c =
           told.1,
           (
             c.split_input-status.new.err,
-            subst (λ before. IsSplitAt c.args.task.now.place out (sink g.E.Output.gives g.E.Output.failures before c.split_input-status.new.err) told.0 c.split_input-status.result) c.in-Ok.ensures.untold told.2,
+            subst (λ before. IsSplitAt c.args.task.now.json c.args.task.now.place out (sink g.E.Output.gives g.E.Output.failures before c.split_input-status.new.err) told.0 c.split_input-status.result) c.in-Ok.ensures.untold told.2,
           ),
         ),
       );

@@ -6,11 +6,11 @@ pub returns-clause-judged : goal.returns-clause-judged
 returns-clause-judged g c = (
   map answer_plain c.in-Ok.answers.items,
   c.new-judge.result,
-  c.run_check-status.new.judge,
-  c.run_check-status.ensures.told.0,
+  c.find_outcome-outcome.new.judge,
+  c.find_outcome-outcome.result,
   c.in-Ok.ensures.read,
   c.new-judge.ensures.answers,
   c.new-judge.ensures.questions,
-  c.run_check-status.ensures.told.1,
-  c.run_check-status.ensures.told.2,
+  c.find_outcome-outcome.ensures.found,
+  c.tell_outcome.ensures,
 )

@@ -1,0 +1,410 @@
+#!/usr/bin/env python3
+"""Compares what `cert_tool` writes as JSON with the lines that it writes without `--json`: Python's
+`json` reads each document, the lines are made of its members here, and have to be the same.
+
+    audit/json_lines.py TOOL FILE..     TOOL is the program; each FILE is described and explained as
+                                        certificate, list and request, explained as anchors and as
+                                        stream, and split; the last line counts what was compared,
+                                        and the status is 1 where something differs
+    audit/json_lines.py TOOL --chain ANCHORS ANSWERS STREAM..   each STREAM is judged, and explained
+                                        as a chain
+
+What isn't printable is escaped otherwise in lines, and an attribute of a name has a line only where
+the name tells it by arcs and octets; both is done here.
+"""
+
+import json
+import re
+import subprocess
+import sys
+
+
+def hidden(letter):
+    return "".join(f"\\{octet:02X}" for octet in letter.encode())
+
+
+def shown(text):
+    """A text in which a backslash is an escape already."""
+    return "".join(c if c.isprintable() else hidden(c) for c in text)
+
+
+def plain(text):
+    return "".join(c if c.isprintable() and c != "\\" else hidden(c) for c in text)
+
+
+def identifier(of):
+    return f"{of['name']} ({of['id']})" if "name" in of else of["id"]
+
+
+STRINGS = "UTF8String NumericString PrintableString TeletexString IA5String VisibleString GeneralString"
+
+
+def wide(octets):
+    units = [octets[place : place + 4] for place in range(0, len(octets), 4)]
+    return "".join(
+        f"\\u{unit.upper()}"
+        if len(unit) < 4 or 0xD800 <= int(unit, 16) < 0xE000
+        else plain(chr(int(unit, 16)))
+        for unit in units
+    )
+
+
+def value(of):
+    """A value of any type."""
+    kind = of["type"]
+    if "text" in of:
+        return f"{kind} {plain(of['text'])}"
+    if kind == "BMPString":
+        return f"{kind} {wide(of['octets'].replace(':', ''))}"
+    if kind in STRINGS.split():
+        return f"{kind} " + "".join("\\" + pair for pair in of["octets"].split(":"))
+    return f"{kind}, octets {of['octets']}"
+
+
+def attributes(margin, of):
+    # the text has them from the last one on, each behind a comma or a plus; one that is told by
+    # arcs and octets begins with a digit
+    told = [part for part in re.split(r"(?<!\\)(?:\\\\)*[,+]", of["text"])]
+    bare = [part.split("=")[0] for part in told if re.match(r"[0-9.]+=#", part)]
+    for each in of["attributes"]:
+        if each["id"] in bare:
+            bare.remove(each["id"])
+            yield f"{margin}{identifier(each)} {value(each)}"
+
+
+def name(margin, words, of):
+    yield f"{margin}{words}{shown(of['text'])}"
+    yield from attributes(margin + "  ", of)
+
+
+NAMES = {
+    "rfc822Name": "email",
+    "dNSName": "DNS",
+    "uniformResourceIdentifier": "URI",
+    "ediPartyName": "party",
+}
+
+
+def general_name(margin, words, of):
+    for key, each in of.items():
+        if key in NAMES:
+            yield f"{margin}{words}{NAMES[key]} {plain(each)}"
+        elif key == "iPAddress":
+            yield f"{margin}{words}IP {each}"
+        elif key == "directoryName":
+            yield from name(margin, f"{words}name ", each)
+        elif key == "registeredID":
+            yield f"{margin}{words}identifier {identifier(each)}"
+        elif key == "otherName":
+            yield f"{margin}{words}other {identifier(each)} {value(each)}"
+
+
+def general_names(margin, words, listed):
+    for each in listed:
+        yield from general_name(margin, words, each)
+
+
+def algorithm(margin, word, of):
+    if "default" in of:
+        yield f"{margin}{word} {of['default']} by default"
+        return
+    if "id" not in of:
+        yield f"{margin}{word}"
+    else:
+        inner = f" with {identifier(of['parameters'])}" if "parameters" in of else ""
+        yield f"{margin}{word} {identifier(of)}{inner}"
+    yield from members(margin + "  ", of)
+
+
+# Members that are a line, behind a word.
+WORDS = {
+    "kind": "",
+    "version": "version ",
+    "serialNumber": "serial ",
+    "notBefore": "not-before ",
+    "notAfter": "not-after ",
+    "thisUpdate": "this-update ",
+    "nextUpdate": "next-update ",
+    "issuerUniqueID": "issuer-id ",
+    "subjectUniqueID": "subject-id ",
+    "signatureValue": "  bits ",
+    "keyIdentifier": "key ",
+    "pathLenConstraint": "path length ",
+    "number": "number ",
+    "reason": "",
+    "date": "",
+    "octets": "octets ",
+    "requireExplicitPolicy": "explicit policy behind ",
+    "inhibitPolicyMapping": "no mapping behind ",
+    "skipCerts": "not any policy behind ",
+    "authorityCertSerialNumber": "serial ",
+} | {
+    word: f"{word} "
+    for word in "modulus exponent point p q g public key-sha1 key-sha256 key-bits-sha1".split()
+    + [f"{kind}-{digest}" for kind in ("certificate", "list", "request") for digest in ("sha1", "sha256")]
+}
+NUMBERS = {"saltLength": ("salt", 20), "trailerField": ("trailer", 1)}
+SCOPES = {
+    "onlyContainsUserCerts": "certificates of users alone",
+    "onlyContainsCACerts": "certificates of authorities alone",
+    "onlyContainsAttributeCerts": "certificates of attributes alone",
+    "indirectCRL": "certificates of other issuers too",
+    "malformed": "malformed",
+    "malformedParameters": "malformed",
+}
+FEATURES = {5: "status_request (5)", 17: "status_request_v2 (17)"}
+
+
+def members(margin, of):
+    """The lines of members of an object, behind a margin."""
+    for key, each in of.items():
+        if key in WORDS:
+            yield f"{margin}{WORDS[key]}{each}"
+        elif key in NUMBERS:
+            word, _ = NUMBERS[key]
+            yield f"{margin}{word} {each}"
+        elif key in SCOPES:
+            yield f"{margin}{SCOPES[key]}"
+        elif key == "bits":
+            yield f"{margin}{each} bits"
+        elif key in ("signature", "subjectPublicKeyInfo", "signatureAlgorithm"):
+            words = {"signature": "algorithm", "subjectPublicKeyInfo": "key"}
+            yield from algorithm(margin, words.get(key, "signature"), each)
+        elif key in ("hashAlgorithm", "maskGenAlgorithm"):
+            word = "digest" if key == "hashAlgorithm" else "mask"
+            yield from algorithm(margin, word, each)
+        elif key in ("issuer", "subject"):
+            yield from name(margin, f"{key} ", each)
+        elif key == "curve":
+            yield f"{margin}curve " + (identifier(each) if "id" in each else value(each))
+        elif key in ("extensions", "crlExtensions", "crlEntryExtensions"):
+            for extension in each:
+                critical = " critical" if extension["critical"] else ""
+                yield f"{margin}extension {identifier(extension)}{critical}"
+                yield from members(margin + "  ", extension)
+        elif key == "revokedCertificates":
+            for entry in each:
+                yield f"{margin}revoked {entry['userCertificate']} {entry['revocationDate']}"
+                yield from members(margin + "  ", entry)
+        elif key == "attributes":
+            for attribute in each:
+                yield f"{margin}attribute {identifier(attribute)}"
+                for wanted in attribute["values"]:
+                    if "extensions" in wanted:
+                        yield from members(margin + "  ", wanted)
+                    else:
+                        yield f"{margin}  {value(wanted)}"
+        elif key in ("names", "fullName"):
+            yield from general_names(margin, "", each)
+        elif key == "nameRelativeToCRLIssuer":
+            yield f"{margin}below the issuer {shown(each)}"
+        elif key in ("reasons", "onlySomeReasons"):
+            yield from (f"{margin}for {reason}" for reason in each)
+        elif key == "cRLIssuer":
+            yield from general_names(margin, "issued by ", each)
+        elif key == "authorityCertIssuer":
+            yield from general_names(margin, "issuer ", each)
+        elif key == "uses":
+            yield from (f"{margin}{use}" for use in each)
+        elif key == "purposes":
+            yield from (f"{margin}{identifier(purpose)}" for purpose in each)
+        elif key == "cA":
+            yield f"{margin}authority {'yes' if each else 'no'}"
+        elif key == "features":
+            yield from (f"{margin}{FEATURES.get(feature, feature)}" for feature in each)
+        elif key == "points":
+            for point in each:
+                yield f"{margin}point"
+                yield from members(margin + "  ", point)
+        elif key == "accesses":
+            for access in each:
+                words = f"{identifier(access)} "
+                yield from general_name(margin, words, access["accessLocation"])
+        elif key in ("permittedSubtrees", "excludedSubtrees"):
+            for tree in each:
+                yield from general_name(margin, key.removesuffix("Subtrees") + " ", tree)
+                for bound, words in (("minimum", "from"), ("maximum", "to")):
+                    if bound in tree:
+                        yield f"{margin}  {words} level {tree[bound]}"
+        elif key == "policies":
+            yield from policies(margin, each)
+        elif key == "mappings":
+            for mapping in each:
+                issuer, subject = mapping["issuerDomainPolicy"], mapping["subjectDomainPolicy"]
+                yield f"{margin}{identifier(issuer)} is {identifier(subject)}"
+        elif key == "timestamps":
+            for timestamp in each:
+                yield from timestamp_lines(margin, timestamp)
+
+
+def policies(margin, listed):
+    for policy in listed:
+        yield f"{margin}{identifier(policy)}"
+        for qualifier in policy.get("qualifiers", []):
+            text = f" {value(qualifier)}" if "type" in qualifier else ""
+            yield f"{margin}  {identifier(qualifier)}{text}"
+            yield from notice(margin + "    ", qualifier.get("notice", []))
+
+
+def notice(margin, parts):
+    for part in parts:
+        if "organization" in part:
+            yield f"{margin}of {value(part['organization'])}"
+        elif "explicitText" in part:
+            yield f"{margin}text {value(part['explicitText'])}"
+        elif "noticeRef" in part:
+            yield from notice(margin, part["noticeRef"])
+        elif "noticeNumbers" in part:
+            yield from (f"{margin}number {number}" for number in part["noticeNumbers"])
+        else:
+            yield f"{margin}malformed"
+
+
+def timestamp_lines(margin, of):
+    if "malformed" in of:
+        yield f"{margin}malformed"
+        return
+    yield f"{margin}log {of['logID']}"
+    date = f"{of['date']} + " if "date" in of else ""
+    yield f"{margin}  {date}{of['milliseconds']} ms"
+    if "extensions" in of:
+        yield f"{margin}  extensions {of['extensions']}"
+    yield f"{margin}  signature {of['hashAlgorithm']} {of['signatureAlgorithm']} {of['signature']}"
+
+
+# What is found.
+
+
+def place(of):
+    offset = f"{of['offset']} + " if of["offset"] else ""
+    return f"octet {offset}{of['octet']}"
+
+
+def section(of):
+    return f" ({of['section']})" if "section" in of else ""
+
+
+def typed(of):
+    return of["part"] + (f" ({of['type']})" if "type" in of else "")
+
+
+def finding(margin, of):
+    if "finding" in of:
+        yield margin + of["finding"]
+    elif "remark" in of:
+        words = f"remark: {shown(of['remark'])}{section(of)}"
+        name = {key: of[key] for key in of if key in GENERAL}
+        if "len" in of:
+            yield f"{margin}{words}: IP address of {of['len']} octets"
+        elif name:
+            yield from general_name(margin, f"{words}: ", name)
+        else:
+            yield margin + words
+    elif "rule" in of:
+        yield f"{margin}{of['rule']}: {shown(of['reason'])}{section(of)}"
+        yield from (f"{margin}  {shown(detail)}" for detail in of.get("details", []))
+    elif "findings" in of:
+        yield f"{margin}certificate {of['certificate']}, {shown(of['subject'])}"
+        for each in of["findings"]:
+            yield from finding(margin + "  ", each)
+    elif "path" in of:
+        yield f"{margin}{place(of)}: {of['fault']}{section(of)}"
+        for part in of["path"]:
+            yield f"{margin}  in {part['part']} ({part['type']}, {place(part)})"
+        if of.get("expected"):
+            yield f"{margin}  there may stand " + ", ".join(map(typed, of["expected"]))
+        if "hint" in of:
+            yield f"{margin}  {of['hint']}"
+    elif "certificate" in of:
+        yield f"{margin}certificate {of['certificate']}, octet {of['octet']}: {of['fault']}"
+    elif "certificates" in of:
+        yield f"{margin}certificates: {of['certificates']}, each whole"
+    elif "anchors" in of:
+        yield f"{margin}anchors: {of['anchors']}, each with a name and a key"
+    elif "fault" in of:
+        yield f"{margin}anchor at octet {of['octet']}: {of['fault']}"
+    elif "subject" in of:
+        yield f"{margin}anchor at octet {of['octet']}, {shown(of['subject'])}"
+        yield from (f"{margin}  not judged: {each}" for each in of["unjudged"])
+    else:
+        yield f"{margin}anchor at octet {of['octet']}"
+
+
+GENERAL = [*NAMES, "directoryName", "registeredID", "otherName"]
+
+
+def explained(document):
+    for each in document["findings"]:
+        yield from finding("", each)
+
+
+def verdict(of):
+    words = [of["verdict"]] + [str(of[key]) for key in ("place", "offset", "rule", "kind") if key in of]
+    calls = f" calls={of['calls']}" if "calls" in of else ""
+    yield " ".join(words) + calls
+
+
+def places(listed):
+    for each in listed:
+        yield f"{each['place']} {each['offset']} {each['length']}"
+
+
+# The runs.
+
+counts = {"documents": 0, "lines": 0, "differences": 0}
+
+
+def run(tool, words):
+    done = subprocess.run([tool, *words], capture_output=True, check=False)
+    return done.returncode, done.stdout, done.stderr
+
+
+def alike(pairs):
+    """The members of an object, each of which stands once."""
+    keys = [key for key, _ in pairs]
+    if len(set(keys)) < len(keys):
+        raise ValueError(f"twice: {keys}")
+    return dict(pairs)
+
+
+def compare(tool, words, lines_of):
+    status, text, err = run(tool, words)
+    json_status, document, json_err = run(tool, [*words, "--json"])
+    wanted = text.decode().split("\n")[:-1]
+    found = []
+    if document:
+        read = json.loads(document.decode(), object_pairs_hook=alike)
+        found = list(lines_of(read))
+        counts["documents"] += 1
+        counts["lines"] += len(found)
+    same = found == wanted and (bool(text) == bool(document) or document == b"[]\n")
+    if (status, err) != (json_status, json_err) or not same:
+        counts["differences"] += 1
+        print(*words, status, json_status, err, json_err)
+        for line, other in zip(wanted + [""] * len(found), found + [""] * len(wanted)):
+            if line != other:
+                print(f"- {line}\n+ {other}")
+
+
+def main():
+    tool, *files = sys.argv[1:]
+    if files[0] == "--chain":
+        _, anchors, answers, *streams = files
+        for stream in streams:
+            words = ["--anchors", anchors, "--answers", answers, stream]
+            compare(tool, ["verify", *words], verdict)
+            compare(tool, ["explain", "chain", *words], explained)
+    else:
+        for file in files:
+            for kind in ("certificate", "list", "request"):
+                compare(tool, ["describe", kind, file], lambda read: members("", read))
+                compare(tool, ["explain", kind, file], explained)
+            for kind in ("anchors", "stream"):
+                compare(tool, ["explain", kind, file], explained)
+            compare(tool, ["split", file], places)
+    print(", ".join(f"{count} {what}" for what, count in counts.items()))
+    return 1 if counts["differences"] else 0
+
+
+if __name__ == "__main__":
+    sys.exit(main())

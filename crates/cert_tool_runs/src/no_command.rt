@@ -1,0 +1,56 @@
+//! Why words are no command with a file behind it.
+
+use crate::given::{Given, given_in};
+use crate::tasks::{of_word, of_words};
+use std::alloc::{AllocError, Global};
+
+// What may stand behind a word that is no command by itself.
+fn kinds_of(word: &str) -> Option<&'static str> {
+    match word {
+        "describe" => Some("certificate, list or request"),
+        "explain" => Some("certificate, list, request, anchors, stream or chain"),
+        _ => None,
+    }
+}
+
+// Why these are none, behind a command of one word.
+fn line_behind(alloc: Global, given: &Given<'_>) -> Result<String, AllocError> {
+    match given.third {
+        Some(word) => format!(in alloc; "{word:?} is one too many\n"),
+        None => format!(in alloc; "a file is missing\n"),
+    }
+}
+
+// Why these are none, where the first word is of these kinds.
+fn kind_line(
+    alloc: Global,
+    word: &str,
+    kind: Option<&str>,
+    kinds: &str,
+) -> Result<String, AllocError> {
+    match kind {
+        None => format!(in alloc; "a kind is missing: {kinds}\n"),
+        Some(kind) if of_words(word, kind).is_none() => {
+            format!(in alloc; "{kind:?} isn't {kinds}\n")
+        }
+        Some(_) => format!(in alloc; "a file is missing\n"),
+    }
+}
+
+// Why words are no command with a file behind it, in one line.
+pub(crate) fn no_command_line(alloc: Global, words: &[&str]) -> Result<String, AllocError> {
+    let given = match given_in(words) {
+        Ok(given) => given,
+        Err(_) => return format!(in alloc; "no command with a file behind it\n"),
+    };
+    let Some(word) = given.first else {
+        return format!(in alloc; "a command is missing\n");
+    };
+    if let Some(kinds) = kinds_of(word) {
+        return kind_line(alloc, word, given.second, kinds);
+    }
+    if of_word(word).is_none() {
+        return format!(in alloc; "there is no command {word:?}\n");
+    }
+    line_behind(alloc, &given)
+}
