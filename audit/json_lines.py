@@ -8,15 +8,25 @@
                                         and the status is 1 where something differs
     audit/json_lines.py TOOL --chain ANCHORS ANSWERS STREAM..   each STREAM is judged, and explained
                                         as a chain
+    audit/json_lines.py TOOL --letters  a certificate that has each character is described: what
+                                        Python's `json` reads is what was written
 
 What isn't printable is escaped otherwise in lines, and an attribute of a name has a line only where
 the name tells it by arcs and octets; both is done here.
 """
 
+import datetime
 import json
+import pathlib
 import re
 import subprocess
 import sys
+import tempfile
+import unicodedata
+
+from cryptography import x509
+from cryptography.hazmat.primitives.asymmetric.ed25519 import Ed25519PrivateKey
+from cryptography.hazmat.primitives.serialization import Encoding
 
 
 def hidden(letter):
@@ -386,9 +396,42 @@ def compare(tool, words, lines_of):
                 print(f"- {line}\n+ {other}")
 
 
+def utf8_string(text):
+    """Its encoding (X.690 8.1, 8.23)."""
+    octets = text.encode()
+    digits = len(octets).to_bytes(4, "big").lstrip(b"\0")
+    return b"\x0c" + bytes([0x80 + len(digits)]) + digits + octets
+
+
+def letters(tool):
+    """Whether each character is read back from a document."""
+    every = "".join(map(chr, [*range(0xD800), *range(0xE000, 0x110000)]))
+    texts = [every[place : place + 4096] for place in range(0, len(every), 4096)]
+    names = [x509.OtherName(x509.ObjectIdentifier("1.3.6.1.4.1.32473.1"), utf8_string(text))
+             for text in texts]
+    key, date = Ed25519PrivateKey.generate(), datetime.datetime(2026, 1, 1)
+    builder = x509.CertificateBuilder().serial_number(1).public_key(key.public_key())
+    builder = builder.issuer_name(x509.Name([])).subject_name(x509.Name([]))
+    builder = builder.not_valid_before(date).not_valid_after(date)
+    builder = builder.add_extension(x509.SubjectAlternativeName(names), False)
+    with tempfile.NamedTemporaryFile() as file:
+        pathlib.Path(file.name).write_bytes(builder.sign(key, None).public_bytes(Encoding.DER))
+        _, document, _ = run(tool, ["describe", "certificate", "--json", file.name])
+    read = json.loads(document.decode())["extensions"][0]["names"]
+    found = [name["otherName"]["text"] for name in read]
+    counts["documents"] += 1
+    counts["lines"] += len(found)
+    raw = {unicodedata.category(letter) for letter in document.decode().removesuffix("\n")}
+    if found != texts or raw & {"Cc", "Cf", "Zl", "Zp", "Cs", "Co"}:
+        counts["differences"] += 1
+        print("characters differ", raw)
+
+
 def main():
     tool, *files = sys.argv[1:]
-    if files[0] == "--chain":
+    if files[0] == "--letters":
+        letters(tool)
+    elif files[0] == "--chain":
         _, anchors, answers, *streams = files
         for stream in streams:
             words = ["--anchors", anchors, "--answers", answers, stream]

@@ -1,6 +1,7 @@
 -- What runs over the certificates of a stream write.
 use Rattle.std.specs.Prelude.{◌≡◌, ◌≢◌, ℕ, zero, suc, ◌+◌, ◌⊎◌, List, [], ◌∷◌, ◌++◌, length, codes}
-use Rattle.std.specs.Prelude.{decimal, Option, Some, None, slice_get, Bool, true, false}
+use Rattle.std.specs.Prelude.{decimal, Option, Some, None, slice_get, Bool, true, false, ◌==◌}
+use Rattle.std.specs.Prelude.{if◌then◌else◌}
 use Rattle.std.specs.Option.{option_map_or}
 use Rattle.cert_desk_io.specs.declared.exit_status.ExitStatus.{ExitStatus}
 use Rattle.cert_desk_io.specs.declared.exit_status.ExitStatus.TheVariants as statuses
@@ -36,8 +37,7 @@ place_json cs place c =
     ++ decimal (length (certificate_octets Bound c)) ++ codes "}"
 
 abbrev pub comma_before : ℕ → List ℕ
-comma_before zero = []
-comma_before (suc place) = codes ","
+comma_before place = if place == 0 then [] else codes ","
 
 abbrev pub json_places_below : List PlainCertificate → ℕ → List ℕ
 json_places_below cs zero = codes "["

@@ -39,7 +39,7 @@ fn add_long_address(lines: &mut Lines, octets: &[u8]) {
         lines.show("", long_address(&octets[16..]), "");
     } else {
         lines.push("octets ");
-        lines.pairs("", octets, ":");
+        lines.pairs("", octets, Some(b':'));
     }
 }
 

@@ -311,7 +311,11 @@ impl Lines {
         } else if is_printable(letter) {
             self.add(letter.encode_utf8(&mut octets).as_bytes());
         } else {
-            self.pairs("\\", letter.encode_utf8(&mut octets).as_bytes(), "\\");
+            self.pairs(
+                "\\",
+                letter.encode_utf8(&mut octets).as_bytes(),
+                Some(b'\\'),
+            );
         }
     }
 
@@ -328,7 +332,7 @@ impl Lines {
             let mut units = [0; 2];
             for unit in letter.encode_utf16(&mut units) {
                 let [high, low] = unit.to_be_bytes();
-                self.pairs("\\u", &[high, low], "");
+                self.pairs("\\u", &[high, low], None);
             }
         }
     }
@@ -339,11 +343,14 @@ impl Lines {
         self.add_one(DIGITS[usize::from(octet & 15)]);
     }
 
-    // Adds octets in base 16, with this between them.
-    pub(crate) fn pairs(&mut self, before: &str, octets: &[u8], separator: &str) {
-        let mut between = before;
+    // Adds octets in base 16, with this between them, if anything.
+    pub(crate) fn pairs(&mut self, before: &str, octets: &[u8], separator: Option<u8>) {
+        self.push(before);
+        let mut between = None;
         for octet in octets {
-            self.push(between);
+            if let Some(separator) = between {
+                self.add_one(separator);
+            }
             self.pair(*octet);
             between = separator;
         }
@@ -446,14 +453,14 @@ impl Lines {
     // Adds octets in base 16, with a colon between them.
     pub(crate) fn octets(&mut self, octets: &[u8]) {
         self.begin();
-        self.pairs("", octets, ":");
+        self.pairs("", octets, Some(b':'));
         self.end();
     }
 
     // Adds a number in base 16, of its octets, behind `0x`.
     pub(crate) fn natural(&mut self, octets: &[u8]) {
         self.begin();
-        self.pairs("0x", octets, "");
+        self.pairs("0x", octets, None);
         self.end();
     }
 

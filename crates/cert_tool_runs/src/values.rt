@@ -28,11 +28,11 @@ fn add_wide(lines: &mut Lines, octets: &[u8]) {
         let (high, low) = (octets[2 * place], octets[2 * place + 1]);
         match wide_letter(high, low) {
             Some(letter) => lines.letter(letter),
-            None => lines.pairs("\\u", &[high, low], ""),
+            None => lines.pairs("\\u", &[high, low], None),
         }
     }
     if octets.len() % 2 == 1 {
-        lines.pairs("\\u", &octets[octets.len() - 1..], "");
+        lines.pairs("\\u", &octets[octets.len() - 1..], None);
     }
 }
 
@@ -40,7 +40,7 @@ fn add_wide(lines: &mut Lines, octets: &[u8]) {
 fn add_narrow(lines: &mut Lines, octets: &[u8]) {
     match str::from_utf8(octets) {
         Ok(text) => lines.plain(text),
-        Err(_) => lines.pairs("\\", octets, "\\"),
+        Err(_) => lines.pairs("\\", octets, Some(b'\\')),
     }
 }
 
