@@ -1,6 +1,6 @@
 //! What a run finds in its inputs.
 
-ghost use Rattle.std.specs.Prelude.{◌≤◌};
+ghost use Rattle.std.specs.Prelude.{◌≡◌, ◌≤◌};
 ghost use Rattle.cert_desk_io.specs.Devices.{source};
 ghost use Rattle.cert_desk_checking.specs.Anchors.{purpose_plain};
 ghost use Rattle.cert_desk_checking.specs.Runs.{IsOutcome, judging};
@@ -26,6 +26,7 @@ pub(crate) fn find_outcome<A: Input, S: Input, J: SignatureJudge>(
         (source S.takes S.is_ended S.failures stream.old stream.new)
         (judging J.answers J.questions judge.old judge.new) moment (purpose_plain purpose.now) limit
         result }
+    ensures kept { J.answers judge.new ≡ J.answers judge.old }
 {
     let anchors = match read_anchors(alloc, anchors) {
         Ok(anchors) => anchors,

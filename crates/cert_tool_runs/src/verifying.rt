@@ -116,12 +116,14 @@ fn tell_outcome<O: Output, E: Output>(
     ensures { IsToldAs json (sink O.gives O.failures out.old out.new)
         (sink E.gives E.failures err.old err.new) outcome result }
 {
-    let Outcome::Checked(checked) = outcome else {
-        return tell_stop(alloc, outcome, err);
-    };
-    match verdict_text(alloc, checked, json) {
-        Ok(text) => answer(out, err, text.as_bytes(), status_of(checked.verdict)),
-        Err(_) => tell_memory(err),
+    match outcome {
+        Outcome::Checked(checked) => match verdict_text(alloc, checked, json) {
+            Ok(text) => answer(out, err, text.as_bytes(), status_of(checked.verdict)),
+            Err(_) => tell_memory(err),
+        },
+        Outcome::BadAnchors { .. } => tell_stop(alloc, outcome, err),
+        Outcome::Device => tell_stop(alloc, outcome, err),
+        Outcome::OutOfMemory => tell_stop(alloc, outcome, err),
     }
 }
 
