@@ -3,3 +3,4 @@
 pub use x509_cert_list_builders::certificates::{
     DistinguishedName, Name, NameIter, RdnSequence, RdnSequenceIter, RelativeDistinguishedName,
 };
+pub use x509_cert_names::AttributeSet;

@@ -42,6 +42,7 @@ fn answer_to(alloc: Global, line: &str) -> Result<String, Refusal> {
         | "relative"
         | "relative-of"
         | "relative-members"
+        | "relative-list"
         | "turned"
         | "again"
         | "name" => { distinguished_names::answer(alloc, word, rest) }

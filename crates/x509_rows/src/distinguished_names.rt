@@ -25,6 +25,7 @@ pub fn answer(alloc: Global, word: &str, rest: &str) -> Result<String, Refusal> 
         "relative" => relative_names::inserted(alloc, rest),
         "relative-of" => relative_names::made(alloc, rest),
         "relative-members" => relative_names::members(alloc, rest),
+        "relative-list" => relative_names::listed(alloc, rest),
         "turned" => relative_names::turned(alloc, rest),
         "name" => name_texts::again(alloc, rest),
         _ => relative_names::again(alloc, rest),

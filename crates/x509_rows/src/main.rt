@@ -29,6 +29,7 @@
 //! | `first WHICH HEX` | `ok TEXT`, what the name has first of a type: `common-name`, `country`, `state`, `locality`, `organization`, `unit` or `email`; `ok none` where it has none |
 //! | `by-oid TYPE OID HEX` | `ok HEX`, what is written of the name's first value of that identifier, read as a value of the type; `ok none` where there is none |
 //! | `relative-members HEX` | `ok` and how many attributes the relative name has, and what is written of each |
+//! | `relative-list HEX` | the same of the list that the relative name becomes |
 //! | `turned HEX` | `ok HEX`, what is written of the sequence of relative names turned round |
 //! | `relative HEX HEX ..` | `ok HEX`, the relative name into which these attributes are inserted one by one |
 //! | `relative-of HEX HEX ..` | the same of the relative name that is made of all of them at once |

@@ -4,7 +4,8 @@ use crate::refusals::Refusal;
 use crate::shown::{octets_of, written, written_in};
 use der_core::{from_der, to_der};
 use std::alloc::{AllocError, Global};
-use x509_cert::{AttributeTypeAndValue, Name, RdnSequence, RelativeDistinguishedName};
+use x509_cert::name::AttributeSet;
+use x509_cert::{AttributeTypeAndValue, Name, RdnSequence, RelativeDistinguishedName, SetOfIter};
 
 /// What is answered where calls that find no memory are made again: insertions, or pushes.
 pub fn again(alloc: Global, rest: &str) -> Result<String, Refusal> {
@@ -115,12 +116,21 @@ pub fn turned(alloc: Global, octets: &str) -> Result<String, Refusal> {
 /// How many attributes a relative name has, and what is written of each.
 pub fn members(alloc: Global, octets: &str) -> Result<String, Refusal> {
     let name = relative_name_of(alloc, octets)?;
-    members_in(alloc, &name)
+    members_in(alloc, name.iter())
 }
 
-/// How many attributes this relative name has, and what is written of each.
-fn members_in(alloc: Global, name: &RelativeDistinguishedName) -> Result<String, Refusal> {
-    let members = name.iter();
+/// As `members`, of the list that the relative name becomes.
+pub fn listed(alloc: Global, octets: &str) -> Result<String, Refusal> {
+    let set = AttributeSet::from(relative_name_of(alloc, octets)?);
+    let attributes = set.into_vec()?;
+    members_in(alloc, SetOfIter::of_members(attributes.as_slice()))
+}
+
+/// How many attributes these are, and what is written of each.
+fn members_in(
+    alloc: Global,
+    members: SetOfIter<'_, AttributeTypeAndValue>,
+) -> Result<String, Refusal> {
     let mut text = members.len().to_string(alloc)?;
     for attribute in members {
         text.push(' ')?;
