@@ -262,6 +262,10 @@ openssl genpkey -genparam -algorithm DSA -pkeyopt dsa_paramgen_bits:1024 \
 openssl genpkey -paramfile "$work/dsa.pem" -out "$work/dsa.key"
 openssl req -x509 -new -key "$work/dsa.key" -subj "/CN=dsa" -set_serial 1 -days 3650 \
     -config /dev/null -outform DER -out dsa.der
+# a curve that is laid down by its equation, in place of its name
+openssl req -x509 -newkey ec -pkeyopt ec_paramgen_curve:P-256 -pkeyopt ec_param_enc:explicit -nodes \
+    -keyout /dev/null -subj "/CN=explicit" -set_serial 1 -days 3650 -config /dev/null \
+    -outform DER -out explicit.der 2> /dev/null
 cat "$work/short.der" "$work/middle.der" "$work/leaf.der" > long.der
 cat "$work/plain.der" "$work/below.der" > plain.der
 cat "$work/constrained.der" "$work/inside.der" > constrained.der
@@ -445,4 +449,50 @@ crl("remarked_delta.der", following=b"", entries=[], extensions=[
     extension(35, seq(), True), extension(20, tlv(2, b"\1" + bytes(20)), True),
     extension(27, tlv(2, b"\1")), extension(28, seq()), extension(46, seq(seq(tlv(0xA0, tlv(
     0xA0, tlv(0x86, b"http://example/"))))), True), extension(1, seq(), True, PE)])
+# each content faulty in its own way: the second, a value of another tag; then bits behind their end,
+# a date without a zone, a text that isn't ASCII, a choice that isn't one, a number below zero, a
+# default, bits again, no identifier of a qualifier, one policy alone, a number spelled too long, a
+# number below zero, an identifier that is none, no name of a point, a number without octets, no
+# location, a length of more than is there, a feature below zero, and timestamps cut short
+certificate("faulty_contents.der", extensions=[
+    extension(9, seq(seq(oid(0x2A)))), extension(14, tlv(5)), extension(15, tlv(3, b"\0\x80")),
+    extension(16, seq(tlv(0x80, b"20260101000000+"))),
+    extension(17, seq(tlv(0x82, b"a.example"), tlv(0x82, b"\xe9.example"))),
+    extension(18, seq(tlv(0x89, b"a"))), extension(19, seq(tlv(1, b"\xff"), tlv(2, b"\x80"))),
+    extension(30, seq(tlv(0xA0, seq(tlv(0x82, b"a"), tlv(0x80, b"\0"))))),
+    extension(31, seq(seq(tlv(0x81, b"\0\x80")))),
+    extension(32, seq(seq(oid(0x2A), seq(seq(tlv(5)))))), extension(33, seq(seq(oid(0x2A)))),
+    extension(35, seq(tlv(0x82, b"\0\1"))), extension(36, seq(tlv(0x80, b"\xff"))),
+    extension(37, seq(oid(0x80))), extension(46, seq(seq(tlv(0xA0, tlv(0xA5))))),
+    extension(54, tlv(2)), extension(1, seq(seq(oid(0x2A), tlv(5))), below=PE),
+    extension(11, seq(b"\x30\5"), below=PE), extension(24, seq(tlv(2, b"\xff")), below=PE),
+    extension(2, tlv(4, b"\0\5\0"), below=(0x2B, 6, 1, 4, 1, 0xD6, 0x79, 2, 4))])
+# those of a list and of an entry: below zero, a number spelled too long, TRUE that isn't FF, a
+# reason that isn't one, a date of two digits, and a name whose value isn't tagged
+crl("faulty_contents_of_list.der", extensions=[
+    extension(20, tlv(2, b"\xff")), extension(27, tlv(2, b"\0\1")),
+    extension(28, seq(tlv(0x84, b"\1")), True)], entries=[revoked(b"\1", extensions=[
+    extension(21, tlv(10, b"\7")), extension(24, tlv(0x18, b"260101000000Z")),
+    extension(29, seq(tlv(0xA0, oid(0x2A), tlv(5))), True)])])
+# a party whose name is a BMPString, and who assigned it
+certificate("party.der", extensions=[extension(17, seq(tlv(
+    0xA5, tlv(0xA0, tlv(0x0C, b"registrar")), tlv(0xA1, tlv(0x1E, "caf\u00e9".encode("utf-16-be"))))))])
+# octets that are none of their kind, each by one part: one date, a length in two octets, version 4,
+# a text that isn't read, a part that isn't known, an identifier and bits that are none
+def signed_by(name, *fields, bits=BITS):
+    open(name, "wb").write(seq(seq(*fields), algorithm(2), bits))
+FRONT = tlv(0xA0, tlv(2, b"\2")), tlv(2, b"\7"), algorithm(2), named(b"above")
+signed_by("one_date.der", *FRONT, seq(tlv(0x17, b"260101000000Z")), named(b"below"), KEY)
+signed_by("long_length.der", FRONT[0], b"\2\x81\1\7", *FRONT[2:], DATES, named(b"below"), KEY)
+signed_by("fourth_version.der", tlv(0xA0, tlv(2, b"\3")), *FRONT[1:], DATES, named(b"below"), KEY)
+signed_by("unread_text.der", *FRONT, DATES, seq(tlv(0x31, seq(oid(0x55, 4, 3), tlv(
+    0x1C, b"\0\0\0A")))), KEY)
+signed_by("unknown_part.der", *FRONT, DATES, named(b"below"), KEY, tlv(0xA4, b""))
+signed_by("no_identifier.der", *FRONT[:2], seq(oid(0x2A, 0x80, 1)), *FRONT[3:])
+signed_by("no_bits.der", *FRONT, DATES, named(b"below"), KEY, bits=tlv(3, b""))
+# a list whose second entry has no date, a request whose attribute has no values, and an anchor that
+# is told by its key, whose title stands in front of its key's identifier
+crl("no_date.der", entries=[revoked(b"\1"), revoked(b"\2", date=b"")])
+signed_by("no_values.der", tlv(2, b"\0"), named(b"wanted"), KEY, tlv(0xA0, seq(oid(0x2A))))
+open("no_key.der", "wb").write(tlv(0xA2, seq(KEY, tlv(0x0C, b"title"), tlv(4, b"key"))))
 PY

@@ -8,3 +8,4 @@ pub mod Verifying
 pub mod Splitting
 pub mod TaskRuns
 pub mod Laws
+pub mod Parts

@@ -1,7 +1,9 @@
 //! Why octets give no anchors.
 
+use crate::faults::add_fault;
 use crate::lines::Lines;
-use crate::refusal::{add_certificate_fault, is_pem};
+use crate::parts::Node;
+use crate::refusal::is_pem;
 use crate::stream_refusal::PEM_STREAM;
 use crate::unjudged::{add_unjudged, begin_anchor};
 use cert_desk_checking::{AnchorFault, Outcome, Raw, TrustAnchorChoice, read_anchors};
@@ -22,7 +24,7 @@ fn meaning(fault: AnchorFault) -> &'static str {
 fn add_malformed(lines: &mut Lines, rest: &[u8], offset: u64) {
     let fault = from_der_partial::<TrustAnchorChoice<Raw>>(lines.alloc, rest).err();
     if let Some(error) = fault {
-        add_certificate_fault(lines, rest, offset, &error);
+        add_fault(lines, rest, offset, Node::Anchor, &error);
     }
 }
 

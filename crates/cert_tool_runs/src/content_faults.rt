@@ -1,22 +1,25 @@
 //! Why contents of extensions aren't values of their kinds.
 
 use crate::extension_remarks::number_of;
-use crate::fault_words::words_of;
+use crate::faults::add_fault_of_content;
 use crate::lines::Lines;
-use crate::way_down::content_at;
-use cert_desk_checking::certificates::{Extension, OctetString, Uint};
+use crate::parts::{Node, Part};
+use cert_desk_checking::certificates::{Attribute, Extension, GeneralizedTime, OctetString, Uint};
 use cert_desk_checking::types::general_names::{
     AccessDescription, AuthorityKeyIdentifier, DistributionPoint, GeneralName,
     IssuingDistributionPoint, NameConstraints,
 };
 use cert_desk_checking::types::parts::FlagSet;
 use cert_desk_checking::types::policies::{
-    BasicConstraints, PolicyConstraints, PolicyInformation, PolicyMapping,
+    BasicConstraints, PolicyConstraints, PolicyInformation, PolicyMapping, PrivateKeyUsagePeriod,
+};
+use cert_desk_checking::types::timestamps::{
+    Error as SctError, SerializedSct, SignedCertificateTimestampList, TlsError,
 };
 use cert_desk_checking::types::{CrlReason, KeyUsages};
 use const_oid::ObjectIdentifier;
 use der_core::making::leaf_from_der;
-use der_core::{DecodeValue, Error, FixedTag, Leaf, SliceReader, from_der};
+use der_core::{DecodeValue, Error, ErrorKind, FixedTag, Leaf, SliceReader, Tag, from_der};
 use std::alloc::Global;
 
 // Why octets aren't one leaf, if they aren't.
@@ -32,16 +35,60 @@ fn value_fault<'a, T: DecodeValue<'a, SliceReader<'a>> + FixedTag>(
     from_der::<T>(alloc, octets).err()
 }
 
+// Why octets in an OCTET STRING aren't timestamps.
+fn timestamps_error(error: SctError) -> Error {
+    match error {
+        SctError::Der(error) => error,
+        SctError::Tls(TlsError::OutOfMemory) => { Error::from(ErrorKind::OutOfMemory) }
+        SctError::Tls(_) => Error::from(ErrorKind::Value {
+            tag: Tag::OctetString,
+        }),
+    }
+}
+
+// Why one of these isn't a timestamp, if one isn't.
+fn timestamp_fault(alloc: Global, listed: &[SerializedSct]) -> Option<Error> {
+    for written in listed {
+        if let Err(error) = written.parse_timestamp(alloc) {
+            return Some(timestamps_error(error));
+        }
+    }
+    None
+}
+
+// Why octets aren't a list of timestamps, if they aren't.
+fn timestamps_fault(alloc: Global, octets: &[u8]) -> Option<Error> {
+    let list = match leaf_from_der::<OctetString>(alloc, octets) {
+        Ok(list) => SignedCertificateTimestampList(list),
+        Err(error) => return Some(error),
+    };
+    match list.parse_timestamps(alloc) {
+        Ok(listed) => timestamp_fault(alloc, listed.as_slice()),
+        Err(error) => Some(timestamps_error(error)),
+    }
+}
+
+// Whether an extension is a list of timestamps (RFC 6962 3.3).
+fn has_timestamps(extension: &Extension) -> bool {
+    matches!(
+        extension.extn_id.as_bytes(),
+        [0x2b, 6, 1, 4, 1, 0xd6, 0x79, 2, 4, 2]
+    )
+}
+
 // Why the content of an extension isn't one value of its kind, if it isn't, and the kind is known.
 pub(crate) fn content_fault(alloc: Global, extension: &Extension) -> Option<Error> {
     let octets = extension.extn_value.as_bytes();
     match number_of(extension) {
+        9 => value_fault::<Vec<Attribute>>(alloc, octets),
         14 => leaf_fault::<OctetString>(alloc, octets),
         15 => leaf_fault::<FlagSet<KeyUsages>>(alloc, octets),
+        16 => value_fault::<PrivateKeyUsagePeriod>(alloc, octets),
         17 | 18 | 29 => value_fault::<Vec<GeneralName>>(alloc, octets),
         19 => value_fault::<BasicConstraints>(alloc, octets),
         20 | 27 => leaf_fault::<Uint>(alloc, octets),
         21 => leaf_fault::<CrlReason>(alloc, octets),
+        24 => leaf_fault::<GeneralizedTime>(alloc, octets),
         28 => value_fault::<IssuingDistributionPoint>(alloc, octets),
         30 => value_fault::<NameConstraints>(alloc, octets),
         31 | 46 => value_fault::<Vec<DistributionPoint>>(alloc, octets),
@@ -52,7 +99,35 @@ pub(crate) fn content_fault(alloc: Global, extension: &Extension) -> Option<Erro
         37 => value_fault::<Vec<ObjectIdentifier<39>>>(alloc, octets),
         54 => leaf_fault::<u32>(alloc, octets),
         257 | 267 => value_fault::<Vec<AccessDescription>>(alloc, octets),
+        280 => value_fault::<Vec<u16>>(alloc, octets),
+        _ if has_timestamps(extension) => timestamps_fault(alloc, octets),
         _ => None,
+    }
+}
+
+// What the content of an extension of a kind is, by its number.
+fn root_of(number: u16) -> &'static [Part] {
+    match number {
+        9 => &[(Some(0x30), false, "", Node::DirectoryAttributes)],
+        15 => &[(Some(0x03), false, "", Node::Leaf)],
+        16 => &[(Some(0x30), false, "", Node::UsagePeriod)],
+        17 | 18 | 29 => &[(Some(0x30), false, "", Node::GeneralNames)],
+        19 => &[(Some(0x30), false, "", Node::BasicConstraints)],
+        20 | 27 | 54 => &[(Some(0x02), false, "", Node::Leaf)],
+        21 => &[(Some(0x0a), false, "", Node::Leaf)],
+        24 => &[(Some(0x18), false, "", Node::Leaf)],
+        28 => &[(Some(0x30), false, "", Node::IssuingPoint)],
+        30 => &[(Some(0x30), false, "", Node::NameConstraints)],
+        31 | 46 => &[(Some(0x30), false, "", Node::Points)],
+        32 => &[(Some(0x30), false, "", Node::Policies)],
+        33 => &[(Some(0x30), false, "", Node::Mappings)],
+        35 => &[(Some(0x30), false, "", Node::AuthorityKeyIdentifier)],
+        36 => &[(Some(0x30), false, "", Node::PolicyConstraints)],
+        37 => &[(Some(0x30), false, "", Node::Purposes)],
+        257 | 267 => &[(Some(0x30), false, "", Node::Accesses)],
+        280 => &[(Some(0x30), false, "", Node::Features)],
+        // identifiers of keys, timestamps
+        _ => &[(Some(0x04), false, "", Node::Leaf)],
     }
 }
 
@@ -63,18 +138,7 @@ pub(crate) fn add_content_fault(
     extension: &Extension,
     error: &Error,
 ) -> &'static str {
-    lines.note(error.kind);
-    let place = match error.position {
-        Some(position) => position.value as usize,
-        None => 0,
-    };
-    let rest = match extension.extn_value.as_bytes().get(place..) {
-        Some(rest) => rest,
-        None => &[],
-    };
     lines.identifier("", &extension.extn_id, " isn't one value of its kind: ");
-    lines.show("octet ", place as u64, " of its content: ");
-    let (words, section) = words_of(error.kind, rest, content_at(rest, 0));
-    lines.show("", error.kind, words);
-    section
+    let octets = extension.extn_value.as_bytes();
+    add_fault_of_content(lines, octets, root_of(number_of(extension)), error)
 }

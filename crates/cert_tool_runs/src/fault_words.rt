@@ -109,7 +109,11 @@ fn form_words(tag: Tag, content: &[u8]) -> Words {
         }
         (Tag::Null, _) => (": it has a content", "X.690 8.8.2"),
         (Tag::Integer | Tag::Enumerated, _) => DEFAULT,
-        _ if tag.is_constructed() => DEFAULT,
+        (_, [0, 0..=0x7f, ..] | [0xff, 0x80..=0xff, ..]) if tag.is_context_specific() => {
+            (": its first octet counts for nothing", "X.690 8.3.2")
+        }
+        (_, [1..=0xfe]) if tag.is_context_specific() => (": TRUE is FF", "X.690 11.1"),
+        _ if tag.is_constructed() || tag.is_context_specific() => DEFAULT,
         _ => ("", ""),
     }
 }
@@ -129,34 +133,132 @@ fn bits_words(content: &[u8]) -> Words {
     }
 }
 
-// Why a value isn't one of its type.
-fn value_words(tag: Tag, content: &[u8]) -> Words {
+// What is said of a text that isn't ASCII.
+const HIGH: Words = (": it has an octet above 7F", "");
+
+// What is wrong with a whole number, in a part of this name.
+fn number_words(content: &[u8], name: &str) -> Words {
+    if name == "version" {
+        return (
+            ": versions are 0, 1 and 2, and that of a request is 0",
+            "RFC 5280 4.1.2.1, RFC 2986 4.1",
+        );
+    }
+    match content {
+        [0x80..=0xff, ..] => (": it is below zero", ""),
+        _ => (": it is none of the numbers that may stand", ""),
+    }
+}
+
+// Why a value of another tag than its type's own isn't one of it, in a part of this name.
+fn implied_words(content: &[u8], name: &str) -> Words {
+    match name {
+        "rfc822Name" | "dNSName" | "uniformResourceIdentifier" => HIGH,
+        "notBefore" | "notAfter" => generalized_words(content),
+        "reasons" | "onlySomeReasons" | "policyFlags" => bits_words(content),
+        "requireExplicitPolicy" | "inhibitPolicyMapping" | "minimum" | "maximum" => {
+            number_words(content, name)
+        }
+        _ => ("", ""),
+    }
+}
+
+// Why a value isn't one of its type, in a part of this name.
+fn value_words(tag: Tag, content: &[u8], name: &str) -> Words {
     match tag {
         Tag::UtcTime => utc_words(content),
         Tag::GeneralizedTime => generalized_words(content),
         Tag::BitString => bits_words(content),
+        Tag::Integer | Tag::Enumerated => number_words(content, name),
+        Tag::OctetString => (": it holds no list of timestamps", "RFC 6962 3.3"),
         Tag::PrintableString => (
             ": it has a character that isn't one of its own",
             "X.680 41.4",
         ),
-        Tag::Ia5String => (": it has an octet above 7F", ""),
+        Tag::Ia5String | Tag::TeletexString => HIGH,
+        Tag::BmpString => (
+            ": it has an octet too many, or two that are no character",
+            "X.690 8.23.8",
+        ),
+        _ => implied_words(content, name),
+    }
+}
+
+// What is wrong with an object identifier (X.690 8.19).
+fn identifier_words(content: &[u8]) -> Words {
+    let mut begins_arc = true;
+    for octet in content {
+        if begins_arc && *octet == 0x80 {
+            return (": an arc begins with the octet 80", "X.690 8.19.2");
+        }
+        begins_arc = *octet < 0x80;
+    }
+    if content.is_empty() {
+        (": it has no octets", "X.690 8.19.2")
+    } else if !begins_arc {
+        (": its last arc doesn't end", "X.690 8.19.2")
+    } else if content.len() > 39 {
+        (": it has more than 39 octets, the most that is read", "")
+    } else {
+        (
+            ": it has an arc of more than 128 bits, the most that is read",
+            "",
+        )
+    }
+}
+
+// Which tag of the universal class isn't read (X.680 8.6).
+fn unread_words(octets: &[u8]) -> Words {
+    match octets {
+        [0x00, ..] => (
+            ": 00 ends an indefinite length, which is BER",
+            "X.690 8.1.5",
+        ),
+        [0x07, ..] => (": 07, ObjectDescriptor, isn't read", ""),
+        [0x08 | 0x28, ..] => (": 28, EXTERNAL, isn't read", ""),
+        [0x0b | 0x2b, ..] => (": 2B, EMBEDDED PDV, isn't read", ""),
+        [0x0e, ..] => (": 0E, TIME, isn't read", ""),
+        [0x19, ..] => (": 19, GraphicString, isn't read", ""),
+        [0x1c, ..] => (": 1C, UniversalString, isn't read", ""),
+        [0x1d | 0x3d, ..] => (": 3D, CHARACTER STRING, isn't read", ""),
+        [0x10 | 0x11, ..] => (": a SEQUENCE or SET is constructed", "X.690 8.9.1, 8.11.1"),
+        [0x21..=0x27 | 0x29 | 0x2a | 0x2c..=0x2f | 0x32..=0x3f, ..] => {
+            (": a value in parts, which is BER", "X.690 10.2")
+        }
+        _ => ("", ""),
+    }
+}
+
+// Why a length isn't one of its type, or isn't spelled as DER spells it.
+fn length_words(tag: Tag, octets: &[u8]) -> Words {
+    match (tag, octets) {
+        (_, [_, 0x81, 0..=0x7f, ..] | [_, 0x82..=0x84, 0, ..]) => {
+            (": it isn't spelled in the fewest octets", "X.690 10.1")
+        }
+        (Tag::Integer | Tag::Enumerated, _) => (": it has no octet", "X.690 8.3.1"),
+        (Tag::BitString, _) => (
+            ": the octet that counts unused bits is wanting",
+            "X.690 8.6.2.1",
+        ),
         _ => ("", ""),
     }
 }
 
 // Why the first of these octets begin no value that is right, behind the kind of the fault, in the
-// words of the standards; nothing where the kind says all. The content is that of the value.
-pub(crate) fn words_of(kind: ErrorKind, octets: &[u8], content: &[u8]) -> Words {
-    match (kind, octets) {
-        (ErrorKind::Noncanonical { tag }, _) => form_words(tag, content),
-        (ErrorKind::Value { tag }, _) => value_words(tag, content),
-        (ErrorKind::Length { .. }, [_, 0x81, 0..=0x7f, ..] | [_, 0x82..=0x84, 0, ..]) => {
-            (": it isn't spelled in the fewest octets", "X.690 10.1")
-        }
-        (ErrorKind::SetOrdering | ErrorKind::SetDuplicate, _) => {
-            (": their encodings rise", "X.690 11.6")
-        }
-        (ErrorKind::IndefiniteLength, _) => ("", "X.690 10.1"),
+// words of the standards; nothing where the kind says all. The content is that of the value, which
+// stands in a part of this name.
+pub(crate) fn words_of(kind: ErrorKind, octets: &[u8], content: &[u8], name: &str) -> Words {
+    match kind {
+        ErrorKind::Noncanonical { tag } => form_words(tag, content),
+        ErrorKind::Value { tag } => value_words(tag, content, name),
+        ErrorKind::Length { tag } => length_words(tag, octets),
+        ErrorKind::OidMalformed => identifier_words(content),
+        ErrorKind::TagUnknown => unread_words(octets),
+        ErrorKind::SetOrdering | ErrorKind::SetDuplicate => (
+            ": their encodings rise",
+            "X.690 11.6",
+        ),
+        ErrorKind::IndefiniteLength => ("", "X.690 10.1"),
         _ => ("", ""),
     }
 }

@@ -4,7 +4,8 @@ ghost use Rattle.std.specs.Prelude.{◌≡◌, length};
 
 use crate::lines::Lines;
 use crate::values::{add_name_members, add_value};
-use cert_desk_checking::types::general_names::GeneralName;
+use cert_desk_checking::types::general_names::{EdiPartyName, GeneralName};
+use cert_desk_checking::types::parts::DirectoryString;
 use der_core::{Error, from_der};
 use std::alloc::Global;
 use std::net::{Ipv4Addr, Ipv6Addr};
@@ -50,6 +51,27 @@ fn add_text(lines: &mut Lines, word: &str, key: &str, text: &str) {
     lines.plain_value(text);
 }
 
+// Adds the text of a member of a name, whatever type of string it has.
+fn add_string(lines: &mut Lines, key: &str, text: &DirectoryString) {
+    lines.key(key);
+    match text {
+        DirectoryString::BmpString(wide) => match wide.to_string(lines.alloc) {
+            Ok(text) => lines.plain_value(text.as_str()),
+            Err(_) => lines.fail(),
+        },
+        _ => lines.plain_value(text.as_str()),
+    }
+}
+
+// Adds the name of a party, and who assigned it.
+fn add_party(lines: &mut Lines, party: &EdiPartyName) {
+    add_string(lines, "partyName", &party.party_name);
+    if let Some(assigner) = &party.name_assigner {
+        lines.word("assigned by");
+        add_string(lines, "nameAssigner", assigner);
+    }
+}
+
 // Begins a name that has members.
 fn begin_members(lines: &mut Lines, word: &str, key: &str) {
     lines.word(word);
@@ -68,7 +90,9 @@ pub(crate) fn add_general_name(lines: &mut Lines, name: &GeneralName) {
             add_text(lines, "URI", "uniformResourceIdentifier", resource.as_str());
         }
         GeneralName::EdiPartyName(party) => {
-            add_text(lines, "party", "ediPartyName", party.party_name.as_str());
+            begin_members(lines, "party", "ediPartyName");
+            add_party(lines, party);
+            lines.close();
         }
         GeneralName::IpAddress(octets) => {
             lines.word("IP");

@@ -4,11 +4,11 @@ use crate::algorithms::add_members as add_algorithm;
 use crate::contents::add_members;
 use crate::describe::Describe;
 use crate::lines::Lines;
-use crate::values::add_value;
+use crate::values::{add_value, values_in};
 use cert_desk_checking::certificates::{Any, SubjectPublicKeyInfo, Uint};
 use const_oid::ObjectIdentifier;
 use der_core::making::leaf_from_der;
-use der_core::{ErrorKind, to_der};
+use der_core::{ErrorKind, Tag, to_der};
 use sha1::Sha1;
 use sha2::{Digest, Sha256};
 
@@ -71,14 +71,76 @@ fn coordinate_bits(octets: &[u8]) -> usize {
     }
 }
 
-// Adds the line of a curve: its name, or the octets that lay it down.
-fn add_curve(lines: &mut Lines, parameters: &Any) {
-    lines.node("curve", "curve");
+// Adds the line of a field, which is that of a prime, or laid down otherwise.
+fn add_field(lines: &mut Lines, field: &[Any]) {
+    match field {
+        [_, prime] if prime.tag() == Tag::Integer => {
+            lines.row("prime", "prime");
+            lines.number(prime.value());
+        }
+        [_, other] => {
+            lines.node("field", "field");
+            add_value(lines, other);
+            lines.close();
+        }
+        _ => lines.malformed("malformedField", ErrorKind::Failed),
+    }
+}
+
+// Adds the lines of the two coefficients of an equation.
+fn add_coefficients(lines: &mut Lines, curve: &[Any]) {
+    match curve {
+        [a, b, ..] => {
+            add_octets(lines, "a", a.value());
+            add_octets(lines, "b", b.value());
+        }
+        _ => lines.malformed("malformedCoefficients", ErrorKind::Failed),
+    }
+}
+
+// Adds the lines of the values in a field, or of those in coefficients.
+fn add_inner(lines: &mut Lines, value: &Any, is_field: bool) {
+    match values_in(lines.alloc, value) {
+        Ok(values) if is_field => add_field(lines, values.as_slice()),
+        Ok(values) => add_coefficients(lines, values.as_slice()),
+        Err(error) => lines.malformed("malformedValue", error.kind),
+    }
+}
+
+// Adds the lines of a curve that is laid down by its equation (RFC 3279 2.3.5).
+fn add_equation(lines: &mut Lines, parameters: &[Any]) {
+    lines.word("laid down by its parameters");
+    match parameters {
+        [_, field, curve, generator, order, ..] => {
+            add_inner(lines, field, true);
+            add_inner(lines, curve, false);
+            add_octets(lines, "generator", generator.value());
+            lines.row("order", "order");
+            lines.number(order.value());
+        }
+        _ => lines.malformed("malformed", ErrorKind::Failed),
+    }
+}
+
+// Adds the name of a curve, or the type and the octets of what is none.
+fn add_curve_name(lines: &mut Lines, parameters: &Any) {
     match parameters.decode_as::<ObjectIdentifier<39>>(lines.alloc) {
         Ok(curve) => lines.members_of(&curve),
         Err(error) => {
             lines.note(error.kind);
             add_value(lines, parameters);
+        }
+    }
+}
+
+// Adds the lines of a curve.
+fn add_curve(lines: &mut Lines, parameters: &Any) {
+    lines.node("curve", "curve");
+    match values_in(lines.alloc, parameters) {
+        Ok(values) => add_equation(lines, values.as_slice()),
+        Err(error) => {
+            lines.note(error.kind);
+            add_curve_name(lines, parameters);
         }
     }
     lines.close();

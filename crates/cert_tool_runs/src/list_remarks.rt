@@ -2,11 +2,14 @@
 
 use crate::attribute_remarks::add_attribute_remarks;
 use crate::certificate_remarks::add_malformed_remarks;
+use crate::content_faults::{add_content_fault, content_fault};
 use crate::extension_remarks::{
     OF_LISTS, add_content_remarks, add_mark_remarks, number_of, value_in,
 };
 use crate::lines::Lines;
-use crate::remark_lines::{add_each, has_twins, is_long_for_its_year, is_wrong_serial};
+use crate::remark_lines::{
+    add_each, begin_remark, end_remark, has_twins, is_long_for_its_year, is_wrong_serial,
+};
 use cert_desk_checking::certificates::{Extension, Extensions, Raw, Uint, Version};
 use cert_desk_checking::types::general_names::AuthorityKeyIdentifier;
 use der_core::making::leaf_from_der;
@@ -264,6 +267,29 @@ fn add_extension_remarks(lines: &mut Lines, extensions: &[Extension]) {
     }
 }
 
+// Adds which contents of an entry's extensions aren't what they should be.
+fn add_malformed_entry(lines: &mut Lines, number: usize, entry: &RevokedCert<Raw>) {
+    for extension in listed(&entry.crl_entry_extensions) {
+        if let Some(error) = content_fault(lines.alloc, extension) {
+            begin_remark(lines);
+            lines.show("of entry ", number as u64, ", ");
+            match add_content_fault(lines, extension, &error) {
+                "" => end_remark(lines, "RFC 5280 5.3"),
+                section => end_remark(lines, section),
+            }
+        }
+    }
+}
+
+// Adds it of each entry.
+fn add_malformed_entries(lines: &mut Lines, signed: &TbsCertList<Raw>) {
+    if let Some(entries) = &signed.revoked_certificates {
+        for (number, entry) in entries.iter().enumerate() {
+            add_malformed_entry(lines, number, entry);
+        }
+    }
+}
+
 // What the entries of a list are.
 fn entry_facts(signed: &TbsCertList<Raw>) -> EntryFacts {
     let mut facts = EntryFacts::new();
@@ -286,5 +312,6 @@ pub(crate) fn add_list_remarks(lines: &mut Lines, list: &CertificateList<Raw>) {
     add_attribute_remarks(lines, &signed.issuer);
     add_date_remarks(lines, signed);
     add_entry_remarks(lines, &facts);
+    add_malformed_entries(lines, signed);
     add_extension_remarks(lines, listed(&signed.crl_extensions));
 }

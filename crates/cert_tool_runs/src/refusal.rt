@@ -1,15 +1,14 @@
 //! Why octets are refused.
 
 use crate::certificate_remarks::add_lone_remarks;
-use crate::fault_words::words_of;
-use crate::fields::Node;
+use crate::faults::add_fault;
 use crate::kind::Kind;
 use crate::lines::Lines;
 use crate::list_remarks::add_list_remarks;
 use crate::lists::list_of;
-use crate::way_down::{add_way, content_at, is_followed, misplaced};
+use crate::parts::Node;
 use cert_desk_checking::certificates::{CertificateInner, Raw};
-use der_core::{Error, ErrorKind, Tag};
+use der_core::Error;
 use std::alloc::{AllocError, Global};
 use x509_cert_lists::CertReq;
 
@@ -50,66 +49,6 @@ pub(crate) fn is_pem(octets: &[u8]) -> bool {
         }
     }
     false
-}
-
-// Adds the kind of a fault, of what begins with these octets, and why it is one.
-fn add_kind(lines: &mut Lines, octets: &[u8], kind: ErrorKind) {
-    lines.note(kind);
-    let (words, section) = words_of(kind, octets, content_at(octets, 0));
-    lines.key("fault");
-    lines.begin();
-    lines.show("", kind, words);
-    if kind == ErrorKind::TagUnexpected {
-        if let Ok(tag) = Tag::peek(octets) {
-            lines.show(" than ", tag, "");
-        }
-    }
-    lines.end();
-    lines.section(section);
-}
-
-// Where the fault of octets stands.
-fn place_of(octets: &[u8], root: Node, error: &Error) -> usize {
-    let place = match error.position {
-        Some(position) => position.value as usize,
-        None => 0,
-    };
-    match error.kind {
-        ErrorKind::TagUnexpected => misplaced(octets, root, place),
-        _ => place,
-    }
-}
-
-// Whether what is wrong with a certificate is that another one stands behind it.
-fn is_first_of_several(octets: &[u8], error: &Error) -> bool {
-    match (error.kind, error.position) {
-        (ErrorKind::TrailingData, Some(place)) => is_followed(octets, place.value as usize),
-        _ => false,
-    }
-}
-
-// Adds what is wrong with a value that begins at an offset of a file, and the way down to it.
-// Of octets that begin with another tag than a record's there is no way.
-fn add_fault(lines: &mut Lines, octets: &[u8], offset: u64, kind: Node, error: &Error) {
-    let root = match octets {
-        [0x30, ..] => kind,
-        _ => Node::Other,
-    };
-    let place = place_of(octets, root, error);
-    let rest = match octets.get(place..) {
-        Some(rest) => rest,
-        None => &[],
-    };
-    lines.entry("");
-    lines.place(offset, place as u64);
-    lines.tail(": ");
-    add_kind(lines, rest, error.kind);
-    add_way(lines, octets, offset, root, place);
-    if let (Node::Certificate, true) = (root, is_first_of_several(octets, error)) {
-        lines.row("", "hint");
-        lines.text("(of several certificates `cert_tool split` gives each)");
-    }
-    lines.close();
 }
 
 // Adds what is wrong with a certificate that begins at an offset of a file, and the way down to it.

@@ -1,23 +1,33 @@
-//! The way from a value down to an octet of it.
+//! The way from a value down to a fault in it.
 
-use crate::fields::{Fields, Node};
-use crate::lines::Lines;
-use der_core::{Tag, header_of};
+use crate::fields::{Fields, Taken};
+use crate::parts::Part;
+use der_core::{Error, ErrorKind, Tag, header_of};
+use std::alloc::{AllocError, Global};
 
 // A value among others that stand one behind the other.
 #[derive(Clone, Copy)]
-struct Part {
+pub(crate) struct Value {
     // Where it begins, and where its content begins and ends.
-    start: usize,
-    content: usize,
-    end: usize,
-    tag: Tag,
+    pub(crate) start: usize,
+    pub(crate) content: usize,
+    pub(crate) end: usize,
+    // How many octets its length counts, of which there may be fewer.
+    pub(crate) len: usize,
+    pub(crate) tag: Tag,
     // The first octet of its tag.
     first: u8,
 }
 
-// The value that begins at a place, up to the end of the octets.
-fn part_at(octets: &[u8], start: usize) -> Option<Part> {
+impl Value {
+    // Whether its content begins at a place, and lacks octets.
+    fn is_cut_at(&self, place: usize) -> bool {
+        self.content == place && self.len > self.end.saturating_sub(self.content)
+    }
+}
+
+// The value that begins at a place, up to the end of the octets, if it has a header.
+fn headed_at(octets: &[u8], start: usize) -> Option<Value> {
     if start >= octets.len() {
         return None;
     }
@@ -28,21 +38,44 @@ fn part_at(octets: &[u8], start: usize) -> Option<Part> {
     if taken == 0 || taken > rest.len() {
         return None;
     }
-    let len = (header.length.value as usize).min(rest.len() - taken);
-    Some(Part {
+    let len = header.length.value as usize;
+    Some(Value {
         start,
         content: start + taken,
-        end: start + taken + len,
+        end: start + taken + len.min(rest.len() - taken),
+        len,
         tag: header.tag,
         first: rest[0],
     })
 }
 
+// The value that begins at a place, up to the end of the octets. Behind a tag whose length can't be
+// read no content is looked at.
+fn value_at(octets: &[u8], start: usize) -> Option<Value> {
+    if let Some(value) = headed_at(octets, start) {
+        return Some(value);
+    }
+    let Some(rest) = octets.get(start..) else {
+        return None;
+    };
+    match (Tag::peek(rest), rest) {
+        (Ok(tag), [first, ..]) => Some(Value {
+            start,
+            content: octets.len(),
+            end: octets.len(),
+            len: 0,
+            tag,
+            first: *first,
+        }),
+        _ => None,
+    }
+}
+
 // The content of the value that begins at a place; nothing where none does.
 pub(crate) fn content_at(octets: &[u8], place: usize) -> &[u8] {
-    match part_at(octets, place) {
-        Some(part) if part.content <= part.end && part.end <= octets.len() => {
-            &octets[part.content..part.end]
+    match headed_at(octets, place) {
+        Some(value) if value.content <= value.end && value.end <= octets.len() => {
+            &octets[value.content..value.end]
         }
         _ => &[],
     }
@@ -50,123 +83,205 @@ pub(crate) fn content_at(octets: &[u8], place: usize) -> &[u8] {
 
 // Whether the value that begins these octets ends at a place where a SEQUENCE begins.
 pub(crate) fn is_followed(octets: &[u8], place: usize) -> bool {
-    match (part_at(octets, 0), octets.get(place)) {
+    match (headed_at(octets, 0), octets.get(place)) {
         (Some(first), Some(0x30)) => first.end == place,
         _ => false,
     }
 }
 
-// A part inside a value, and which of them may stand where it stands.
+// A value that stands where it may.
 #[derive(Clone, Copy)]
-struct Step {
-    part: Part,
-    fields: Fields,
+pub(crate) struct Step {
+    pub(crate) taken: Taken,
+    pub(crate) value: Value,
 }
 
-// The first of the values from a place on that may not stand where it stands, or in which an octet
-// stands.
-fn step_to(octets: &[u8], start: usize, node: Node, place: usize) -> Option<Step> {
-    let mut at = start;
-    let mut fields = Fields::of(node);
-    for _ in 0..octets.len() {
-        let Some(part) = part_at(octets, at) else {
+impl Step {
+    // The parts inside it, and the octets up to its end; none where they have no names.
+    fn inside<'a>(&self, octets: &'a [u8]) -> Option<(Fields, &'a [u8])> {
+        let fields = Fields::of(self.taken.node);
+        if !fields.is_named() || !self.value.tag.is_constructed() {
             return None;
+        }
+        match octets.get(..self.value.end) {
+            Some(octets) => Some((fields, octets)),
+            None => None,
+        }
+    }
+}
+
+// The last of the values from a place on that stand where they may, and the parts that may stand
+// behind it.
+fn last_from(octets: &[u8], start: usize, fields: Fields) -> (Option<Step>, Fields) {
+    let mut last = None;
+    let mut at = start;
+    let mut fields = fields;
+    for _ in 0..octets.len() {
+        let Some(value) = value_at(octets, at) else {
+            return (last, fields);
         };
-        let Some((_, _, behind)) = fields.take(part.first) else {
-            return Some(Step { part, fields });
+        let Some((taken, behind)) = fields.take(value.first) else {
+            return (last, fields);
         };
-        if place < part.end {
-            return Some(Step { part, fields });
+        last = Some(Step { taken, value });
+        fields = behind;
+        at = value.end;
+    }
+    (last, fields)
+}
+
+// Whether a part is wanting at the end of a value, or of the last of its parts, and so on.
+fn is_short(octets: &[u8], value: Step) -> bool {
+    let mut around = value;
+    for _ in 0..64 {
+        let Some((fields, inner)) = around.inside(octets) else {
+            return false;
+        };
+        let (last, behind) = last_from(inner, around.value.content, fields);
+        if behind.is_wanting() {
+            return true;
+        }
+        match last {
+            Some(step) if step.value.end == around.value.end => around = step,
+            _ => return false,
+        }
+    }
+    false
+}
+
+// What is looked for: the octet of a fault, and whether octets are wanting there.
+#[derive(Clone, Copy)]
+struct Sought {
+    place: usize,
+    is_end: bool,
+}
+
+impl Sought {
+    // Whether the fault is one of this value.
+    fn is_in(&self, octets: &[u8], step: Step) -> bool {
+        let end = step.value.end;
+        let is_wanting = self.is_end
+            && (step.value.is_cut_at(self.place) || is_short(octets, step));
+        self.place < end || (self.place == end && is_wanting)
+    }
+}
+
+// What is found among values that stand one behind the other.
+#[derive(Clone, Copy)]
+enum Found {
+    // The one in which the fault is.
+    In(Step),
+    // Where the first begins that may not stand there, or the last ends, and the parts that may
+    // stand there.
+    Between(usize, Fields),
+}
+
+// Where a fault is among the values from a place on.
+fn find(octets: &[u8], start: usize, fields: Fields, sought: Sought) -> Found {
+    let mut at = start;
+    let mut fields = fields;
+    for _ in 0..octets.len() {
+        let Some(value) = value_at(octets, at) else {
+            return Found::Between(at, fields);
+        };
+        let Some((taken, behind)) = fields.take(value.first) else {
+            return Found::Between(at, fields);
+        };
+        let step = Step { taken, value };
+        if sought.is_in(octets, step) {
+            return Found::In(step);
         }
         fields = behind;
-        at = part.end;
+        at = value.end;
     }
-    None
+    Found::Between(at, fields)
 }
 
-// The step inside a part, if its parts have names and it holds the octet in its content.
-fn step_in(octets: &[u8], around: Part, node: Node, place: usize) -> Option<Step> {
-    let is_open = around.content <= place && around.tag.is_constructed();
-    if !is_open || around.end > octets.len() || !Fields::of(node).is_named() {
-        return None;
-    }
-    step_to(&octets[..around.end], around.content, node, place)
+// The way down to a fault.
+#[derive(Drop)]
+pub(crate) struct Way {
+    // The values around it, from the outermost on.
+    pub(crate) steps: Vec<Step>,
+    // Where it stands.
+    pub(crate) place: usize,
+    // The parts of which one may stand there, if none does.
+    pub(crate) wanted: &'static [Part],
 }
 
-// Where the first part stands that may not, if the value that begins at a place may: a choice
-// whose tag is none of those that may stand is found at the value around it.
-pub(crate) fn misplaced(octets: &[u8], root: Node, place: usize) -> usize {
-    let Some(mut around) = part_at(octets, 0) else {
-        return place;
-    };
-    let mut node = root;
-    let mut wanted = place;
-    for _ in 0..64 {
-        if around.start == place {
-            wanted = usize::MAX;
+impl Way {
+    // The name of the innermost of these values that has one.
+    pub(crate) fn name(&self) -> &'static str {
+        let mut innermost = "";
+        for step in &self.steps {
+            for name in [step.taken.name, step.taken.choice] {
+                if !name.is_empty() {
+                    innermost = name;
+                }
+            }
         }
-        let Some(step) = step_in(octets, around, node, wanted) else {
-            return place;
-        };
-        let Some((_, inner, _)) = step.fields.take(step.part.first) else {
-            return step.part.start;
-        };
-        node = inner;
-        around = step.part;
+        innermost
     }
-    place
 }
 
-// Adds a value in which an octet of the others stands, that begins at a place.
-fn add_part(lines: &mut Lines, name: &str, tag: Tag, offset: u64, place: usize) {
-    lines.entry("in");
-    lines.key("part");
-    lines.text(name);
-    lines.tail(" (");
-    lines.key("type");
-    lines.value(tag);
-    lines.tail(", ");
-    lines.place(offset, place as u64);
-    lines.tail(")");
-    lines.close();
+// Whether the parts are told that may stand where such a fault is.
+fn is_of_parts(kind: ErrorKind) -> bool {
+    match kind {
+        ErrorKind::TagUnexpected | ErrorKind::TrailingData | ErrorKind::Incomplete => true,
+        _ => false,
+    }
 }
 
-// Adds the values in which an octet of these stands, from the outermost on; answers which may stand
-// there, if it begins one that may not. They begin at an offset of a file.
-fn add_parts(
-    lines: &mut Lines,
+// The way from a value that begins these octets, one of some parts, down to a fault. A choice whose
+// tag is none of those that may stand was found at the value around it.
+pub(crate) fn way_to(
+    alloc: Global,
     octets: &[u8],
-    offset: u64,
-    root: Node,
-    place: usize,
-) -> Option<Fields> {
-    let Some(mut around) = part_at(octets, 0) else {
-        return None;
+    root: &'static [Part],
+    error: &Error,
+) -> Result<Way, AllocError> {
+    let place = match error.position {
+        Some(position) => position.value as usize,
+        None => 0,
     };
-    let mut node = root;
+    let mut way = Way {
+        steps: Vec::new(alloc),
+        place,
+        wanted: &[],
+    };
+    let mut sought = Sought {
+        place,
+        is_end: error.kind == ErrorKind::Incomplete,
+    };
+    let mut fields = Fields::new(root, false);
+    let mut start = 0;
+    let mut inner = octets;
     for _ in 0..64 {
-        let Some(step) = step_in(octets, around, node, place) else {
-            return None;
-        };
-        let part = step.part;
-        let Some((name, inner, _)) = step.fields.take(part.first) else {
-            return Some(step.fields);
-        };
-        if !name.is_empty() {
-            add_part(lines, name, part.tag, offset, part.start);
+        match find(inner, start, fields, sought) {
+            Found::In(step) => {
+                way.steps.push(step)?;
+                if error.kind == ErrorKind::TagUnexpected && step.value.start == place {
+                    sought.place = usize::MAX;
+                }
+                let is_cut = sought.is_end && step.value.is_cut_at(place);
+                if is_cut || step.value.content > sought.place {
+                    return Ok(way);
+                }
+                let Some((parts, octets)) = step.inside(inner) else {
+                    return Ok(way);
+                };
+                fields = parts;
+                start = step.value.content;
+                inner = octets;
+            }
+            Found::Between(at, behind) => {
+                let is_misfit = at < inner.len() && sought.place == usize::MAX;
+                if is_of_parts(error.kind) && (at == place || is_misfit) {
+                    way.place = at;
+                    way.wanted = behind.next();
+                }
+                return Ok(way);
+            }
         }
-        node = inner;
-        around = part;
     }
-    None
-}
-
-// Adds the way down to an octet of these, and what may stand there, if it begins what may not.
-pub(crate) fn add_way(lines: &mut Lines, octets: &[u8], offset: u64, root: Node, place: usize) {
-    lines.list("path");
-    let expected = add_parts(lines, octets, offset, root, place);
-    lines.end_list();
-    if let Some(fields) = expected {
-        fields.add(lines);
-    }
+    Ok(way)
 }
